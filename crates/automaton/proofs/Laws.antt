@@ -11,7 +11,7 @@ use lib.Bits.{bitOr}
 use lib.Dec.{ltb, lit<}
 use borrow.Author.Tests.{ltb-true, ltb-false, le-ltb}
 use Rattle.masks.specs.Masks.{_∈_, union, shares}
-use Rattle.masks.proofs.Choice.{by-test}
+use Rattle.masks.proofs.Cases.{by-test}
 use Rattle.masks.proofs.Laws.{no-member, members-below, part-of, in-union, union-lt, union-or, union-empty, shares-law}
 use Rattle.automaton.specs.declared.Rule.{Rule}
 use Rattle.automaton.specs.Automaton.{Automaton, Arc, Run, stay, move, Accepts}

@@ -13,7 +13,7 @@
 --   ext                         the same members: the same mask
 use mathlib.Core.Path.{_≡_, refl, sym, ap, _∙_, subst}
 use mathlib.Core.Logic.{_↔_, _⊎_, inl, inr, ⊎-elim}
-use mathlib.Core.Bool.{Bool, true, false, not}
+use mathlib.Core.Bool.{Bool, true, false, cond, not}
 use Prim.Native.Nat.{ℕ, zero, suc, _+_, _-_, _*_, _/_, _%_, _^_, _≤_, _<_, min, max}
 use native.Mathlib.Nat.{zero-div, zero-max, mod-lt, eq-or-lt-of-le, le-of-suc-le-suc, div-eq-of-lt, le-div-iff-mul-le, lt-of-lt-of-le, mul-mod-left, one-mul, pow-suc}
 use native.Mathlib.Numerals.{add-one}
@@ -23,9 +23,8 @@ use lib.Pow.{pow-add, pow-lt, pow-mono, pow-pos, shr-shr, shl-shr}
 use lib.Dec.{eqb, ltb, lit<}
 use lib.Bits.{bitOr, bitAnd, and-mask, or-shr, or-step, or-zero-r, and-shr, and-step}
 use borrow.Author.Tests.{eq-eqb, ne-eqb, eqb-true, eqb-false, ltb-true, ltb-false, not-true}
-use Rattle.masks.specs.Choice.{pick}
 use Rattle.masks.specs.Masks.{bit, _∈_, has, single, union, shares}
-use Rattle.masks.proofs.Choice.{by-test}
+use Rattle.masks.proofs.Cases.{by-test}
 
 bit-lt : (m q : ℕ) → bit m q < 2
 bit-lt m q = mod-lt (m / 2 ^ q) (lit< tt)
@@ -179,7 +178,7 @@ pub record Part (f : ℕ → ℕ) (m n p : ℕ) : Type 0 where
   pub there : p ∈ f from
 
 module _ (f : ℕ → ℕ) (m p : ℕ) where
-  of-part : (q : ℕ) (t : Bool) → has m q ≡ t → p ∈ pick t (f q) 0 → Part f m (suc q) p
+  of-part : (q : ℕ) (t : Bool) → has m q ≡ t → p ∈ cond t (f q) 0 → Part f m (suc q) p
   of-part q true h e = record { from = q; below = omega arith; member = member-of m q h; there = e }
   of-part q false h e = absurd (no-member p e)
 
@@ -190,15 +189,15 @@ module _ (f : ℕ → ℕ) (m p : ℕ) where
       ⊎-elim
       (λ h. let r = part-of q h in record { from = r .from; below = omega arith; member = r .member; there = r .there })
       (λ h. of-part q (has m q) refl h)
-      (or-cases (union f m q) (pick (has m q) (f q) 0) p e)
+      (or-cases (union f m q) (cond (has m q) (f q) 0) p e)
 
   pub in-union : (n q : ℕ) → q < n → q ∈ m → p ∈ f q → p ∈ union f m n
   unfolding union
   in-union zero q h i a = absurd (let x = h in omega arith)
   in-union (suc n) q h i a =
       ⊎-elim
-      (λ e. or-right (union f m n) (pick (has m n) (f n) 0) p (rw (← e) (rw (has-member m q i) a)))
-      (λ l. or-left (union f m n) (pick (has m n) (f n) 0) p (in-union n q l i a))
+      (λ e. or-right (union f m n) (cond (has m n) (f n) 0) p (rw (← e) (rw (has-member m q i) a)))
+      (λ l. or-left (union f m n) (cond (has m n) (f n) 0) p (in-union n q l i a))
       (eq-or-lt-of-le (le-of-suc-le-suc h))
 
   pub union-law : (n : ℕ) → p ∈ union f m n ↔ Part f m n p

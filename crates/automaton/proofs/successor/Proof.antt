@@ -2,6 +2,7 @@
 -- `out` is the union over the members below q. It ends where no bit is left, which is so at 32 at the latest. Assumes nothing.
 use mathlib.Core.Path.{_≡_, refl, sym, ap, _∙_}
 use mathlib.Core.Logic.{⊎-elim}
+use mathlib.Core.Bool.{cond}
 use mathlib.Core.List.{List}
 use Prim.Native.Nat.{ℕ, _+_, _-_, _*_, _/_, _^_, _≤_, _<_}
 use native.Mathlib.Nat.{div-one, div-eq-of-lt, eq-or-lt-of-le}
@@ -12,7 +13,6 @@ use lib.ListN.{getD}
 use lib.Pow.{shr-shr}
 use borrow.Author.Needs.{needs}
 use borrow.Author.Tests.{lt-ltb, le-ltb}
-use Rattle.masks.specs.Choice.{pick}
 use Rattle.masks.specs.Masks.{union}
 use Rattle.masks.proofs.Laws.{low-bits, union-step, union-skip, union-all}
 use Rattle.automaton.specs.Rules.{targetMask}
