@@ -85,3 +85,19 @@ module _ (r : Rule) (good : WellFormed r) where
         let t = reached (r .initials) (u .0) w (good .initials-below) (u .1) in
         record { from = t .from; to = u .0; begins = t .member; ends = u .2; run = t .run },
   )
+
+-- ---- between automata
+-- what leads from the states, arcs and masks of one automaton to those of another leads from its runs to the other's
+module _ (a b : Automaton) (states : (q : ℕ) → q < a .n → q < b .n) (arcs : (q s r : ℕ) → Arc a q s r → Arc b q s r) where
+  pub run-map : {q p : ℕ} {w : List ℕ} → Run a q w p → Run b q w p
+  run-map (stay {q} l) = stay (states q l)
+  run-map (move {q} {s} {r} j u) = move (arcs q s r j) (run-map u)
+
+  pub accepts-map : ((q : ℕ) → a .Initial q → b .Initial q) → ((q : ℕ) → a .Final q → b .Final q) → (w : List ℕ) → Accepts a w → Accepts b w
+  accepts-map initials finals w t = record {
+    from = t .from;
+    to = t .to;
+    begins = initials (t .from) (t .begins);
+    ends = finals (t .to) (t .ends);
+    run = run-map (t .run);
+  }

@@ -3,7 +3,7 @@
 -- Proofs elsewhere use these and look at no bit. Assumes nothing.
 --
 --   no-member, some-member      0 has no member, any other mask has one
---   or-law, and-members         the members of `bitOr`, of `bitAnd`
+--   or-law, or-assoc, and-members   the members of `bitOr`, that it may be bracketed either way, the members of `bitAnd`
 --   single-law                  the members of {q}
 --   union-law, union-lt         the members of a union over a set, and its bound
 --   union-or, union-empty       it takes unions to unions, and the empty set to itself
@@ -96,6 +96,20 @@ ext a b h =
     (lt-of-lt-of-le (lt-pow-self a) (pow-mono (omega arith)))
     (lt-of-lt-of-le (lt-pow-self b) (pow-mono (omega arith)))
     (λ q. same-bit (bit a q) (bit b q) (bit-lt a q) (bit-lt b q) (h q .0) (h q .1))
+
+pub or-assoc : (a b c : ℕ) → bitOr (bitOr a b) c ≡ bitOr a (bitOr b c)
+or-assoc a b c = ext (bitOr (bitOr a b) c) (bitOr a (bitOr b c)) λ q. (
+  (λ e.
+      ⊎-elim
+      (λ l. ⊎-elim (or-left a (bitOr b c) q) (λ r. or-right a (bitOr b c) q (or-left b c q r)) (or-cases a b q l))
+      (λ r. or-right a (bitOr b c) q (or-right b c q r))
+      (or-cases (bitOr a b) c q e)),
+  λ e.
+      ⊎-elim
+      (λ l. or-left (bitOr a b) c q (or-left a b q l))
+      (λ r. ⊎-elim (λ l. or-left (bitOr a b) c q (or-right a b q l)) (or-right (bitOr a b) c q) (or-cases b c q r))
+      (or-cases a (bitOr b c) q e),
+)
 
 some-below : (k m : ℕ) → m < 2 ^ k → (m ≡ 0 → ⊥) → (q : ℕ) × q ∈ m
 some-below zero m h z = absurd (z (lt-one h))
@@ -241,3 +255,6 @@ union-all f m k n h l = ext (union f m k) (union f m n) λ p. (
   (λ e. let r = part-of f m p k e in in-union f m p n (r .from) (omega arith) (r .member) (r .there)),
   λ e. let r = part-of f m p n e in in-union f m p k (r .from) (members-below k m (r .from) h (r .member)) (r .member) (r .there),
 )
+
+pub empty-mask : (m : ℕ) → ((q : ℕ) → q ∈ m → ⊥) → m ≡ 0
+empty-mask m h = ext m 0 λ q. ((λ e. absurd (h q e)), λ e. absurd (no-member q e))

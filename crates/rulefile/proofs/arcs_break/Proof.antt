@@ -1,0 +1,148 @@
+-- `arcs_break` meets its contract. The loop's invariant: no section before q has a bad arc. Each section lies in the file, since condition 7
+-- does not hold. Assumes nothing.
+use Rattle.rulefile.proofs.Pairs.{within, section-part}
+use Rattle.rulefile.proofs.Conditions.{none-yet, none-more, any-at}
+use Rattle.rulefile.specs.Refusals.{badPairs, badSection, badArcs}
+use Rattle.rulefile.specs.Format.{stateCount, symbolCount, offsetOf, lengthOf, section}
+use Rattle.rulefile.specs.Conditions.{anyBelow}
+use lib.ListN.{length, take, drop}
+use native.Mathlib.Omega.{arith}
+use Prim.Native.Nat.{ℕ, _+_, _-_, _*_, _≤_, _<_}
+use mathlib.Core.List.{List}
+use mathlib.Core.Bool.{Bool, true, false}
+use mathlib.Core.Path.{_≡_, sym, ap, ap₂, _∙_}
+use Rattle.rulefile.proofs.arcs_break.Statement.{statement}
+use Rattle.rulefile.proofs.arcs_break.Tie as tie
+
+abbrev Inv-loop : tie.InvT-loop
+Inv-loop file n k q₀ q =
+    (n ≡ stateCount file) × (k ≡ symbolCount file) × (q ≤ n) × (n < 256) × (10 + 4 * n ≤ length file) × (badPairs file ≡ false)
+    × (anyBelow (λ p. badSection (stateCount file) (symbolCount file) (section file p)) q ≡ false)
+
+abbrev μ-loop : tie.MeasureT-loop
+μ-loop file n k q₀ q = n - q
+
+-- what the test of a part of the file says of a section
+tested : (f : List ℕ) (q n k from len : ℕ) (r : Bool) → n ≡ stateCount f → k ≡ symbolCount f → from ≡ offsetOf f q → len ≡ lengthOf f q
+    → r ≡ badSection n k (take (from + len - from) (drop from f)) → badSection (stateCount f) (symbolCount f) (section f q) ≡ r
+tested f q n k from len r en ek eo el e =
+    sym (e ∙ ap (badSection n k) (section-part f q from len eo el) ∙ ap₂ (λ (x y : ℕ). badSection x y (section f q)) en ek)
+
+arcs-at : (f : List ℕ) (q : ℕ) → q < stateCount f → badSection (stateCount f) (symbolCount f) (section f q) ≡ true → badArcs f ≡ true
+unfolding badArcs
+arcs-at f q h e = any-at (λ p. badSection (stateCount f) (symbolCount f) (section f p)) (stateCount f) q h e
+
+arcs-end : (f : List ℕ) → anyBelow (λ p. badSection (stateCount f) (symbolCount f) (section f p)) (stateCount f) ≡ false → badArcs f ≡ false
+unfolding badArcs
+arcs-end f e = e
+
+byte-requires : tie.Need-byte-requires Inv-loop μ-loop
+byte-requires c κs = omega arith
+
+byte-requires-2 : tie.Need-byte-requires-2 Inv-loop μ-loop
+byte-requires-2 c κs = omega arith
+
+loop-holds : tie.Need-loop-holds Inv-loop μ-loop
+loop-holds c =
+    let f = c .before .before .before .args .file .now in
+    let h = c .before .before .before .pre in
+    let n = c .before .byte .ensures in
+    (n .0, c .byte2 .ensures .0, omega arith, n .1, omega (arith, n .0, h .1), h .2, none-yet (λ p. badSection (stateCount f) (symbolCount f) (section f p)))
+
+mul-half : tie.Need-mul-half Inv-loop μ-loop
+mul-half c = omega arith
+
+add-half : tie.Need-add-half Inv-loop μ-loop
+add-half c = omega arith
+
+half-requires : tie.Need-half-requires Inv-loop μ-loop
+half-requires c κs = omega arith
+
+mul-half-2 : tie.Need-mul-half-2 Inv-loop μ-loop
+mul-half-2 c = omega arith
+
+add-half-2 : tie.Need-add-half-2 Inv-loop μ-loop
+add-half-2 c = omega arith
+
+half-requires-2 : tie.Need-half-requires-2 Inv-loop μ-loop
+half-requires-2 c κs = omega arith
+
+add-to : tie.Need-add-to Inv-loop μ-loop
+add-to c = omega arith
+
+sub-section-breaks : tie.Need-sub-section-breaks Inv-loop μ-loop
+sub-section-breaks c = omega arith
+
+part-section-breaks-start : tie.Need-part-section-breaks-start Inv-loop μ-loop
+part-section-breaks-start c = omega arith
+
+part-section-breaks-end : tie.Need-part-section-breaks-end Inv-loop μ-loop
+part-section-breaks-end c =
+    let x = c .before .before .before .loop in
+    omega (arith, within (c .before .before .before .before .before .before .before .args .file .now) (x .inv .5) (x .q) (omega (arith, x .inv .0)), c .before .half .ensures .0, c .half2 .ensures .0)
+
+section-breaks-requires : tie.Need-section-breaks-requires Inv-loop μ-loop
+section-breaks-requires c κs = omega arith
+
+returns : tie.Need-returns Inv-loop μ-loop
+returns c =
+    let x = c .before .before .before .before .before .before .loop in
+    let f = c .before .before .before .before .before .before .before .before .before .before .args .file .now in
+    sym
+    (arcs-at f (x .q) (omega (arith, x .inv .0))
+    (tested f (x .q) (c .before .before .before .before .before .before .before .before .byte .result) (c .before .before .before .before .before .before .before .byte2 .result) (c .before .before .before .before .half .result) (c .before .before .before .half2 .result) (c .before .section-breaks .result) (x .inv .0) (x .inv .1) (c .before .before .before .before .half .ensures .0) (c .before .before .before .half2 .ensures .0) (c .before .section-breaks .ensures)
+    ∙ c .if1 .taken))
+
+add-q : tie.Need-add-q Inv-loop μ-loop
+add-q c = omega arith
+
+loop-less : tie.Need-loop-less Inv-loop μ-loop
+loop-less c = omega arith
+
+loop-again : tie.Need-loop-again Inv-loop μ-loop
+loop-again c =
+    let x = c .before .before .before .before .before .before .loop in
+    let f = c .before .before .before .before .before .before .before .before .before .before .args .file .now in (
+      x .inv .0,
+      x .inv .1,
+      omega arith,
+      x .inv .3,
+      x .inv .4,
+      x .inv .5,
+      none-more (λ p. badSection (stateCount f) (symbolCount f) (section f p)) (x .q) (x .inv .6)
+          (tested f (x .q) (c .before .before .before .before .before .before .before .before .byte .result) (c .before .before .before .before .before .before .before .byte2 .result) (c .before .before .before .before .half .result) (c .before .before .before .half2 .result) (c .before .section-breaks .result) (x .inv .0) (x .inv .1) (c .before .before .before .before .half .ensures .0) (c .before .before .before .half2 .ensures .0) (c .before .section-breaks .ensures)
+          ∙ c .if1 .left),
+    )
+
+returns-2 : tie.Need-returns-2 Inv-loop μ-loop
+returns-2 c =
+    let x = c .before .loop in
+    let f = c .before .before .before .before .before .args .file .now in
+    let e : x .q ≡ stateCount f = omega (arith, x .inv .0) in
+    sym (arcs-end f (rw e at (x .inv .6)))
+
+pub arcs-break-spec : {M : Type 1} → statement M
+arcs-break-spec =
+    tie.close
+    (tie.spec
+    Inv-loop
+    μ-loop
+    byte-requires
+    byte-requires-2
+    loop-holds
+    mul-half
+    add-half
+    half-requires
+    mul-half-2
+    add-half-2
+    half-requires-2
+    add-to
+    sub-section-breaks
+    part-section-breaks-start
+    part-section-breaks-end
+    section-breaks-requires
+    returns
+    add-q
+    loop-less
+    loop-again
+    returns-2)

@@ -1,0 +1,130 @@
+-- `pairs_break` meets its contract. The loop's invariant: no pair before q breaks the rule, and `due` is where section q has to begin.
+-- Assumes nothing.
+use Rattle.rulefile.proofs.Pairs.{bad-offset, bad-length, good-pair, pairs-at, pairs-end}
+use Rattle.rulefile.proofs.Conditions.{none-yet, none-more}
+use Rattle.rulefile.specs.Refusals.{dueAt, badPair}
+use Rattle.rulefile.specs.Format.{stateCount}
+use Rattle.rulefile.specs.Conditions.{anyBelow}
+use lib.ListN.{length}
+use lib.Dec.{eqb}
+use native.Mathlib.Omega.{arith}
+use native.Mathlib.Numerals.{add-one}
+use Prim.Native.Nat.{ℕ, _+_, _-_, _*_, _%_, _≤_, _<_}
+use mathlib.Core.Bool.{false, not}
+use mathlib.Core.Path.{_≡_, sym, ap, ap₂, _∙_}
+use Rattle.rulefile.proofs.pairs_break.Statement.{statement}
+use Rattle.rulefile.proofs.pairs_break.Tie as tie
+
+abbrev Inv-loop : tie.InvT-loop
+Inv-loop file n due₀ q₀ due q =
+    (n ≡ stateCount file) × (q ≤ n) × (n < 256) × (10 + 4 * n ≤ length file) × (due ≡ dueAt file q) × (anyBelow (badPair file) q ≡ false)
+
+abbrev μ-loop : tie.MeasureT-loop
+μ-loop file n due₀ q₀ due q = n - q
+
+byte-requires : tie.Need-byte-requires Inv-loop μ-loop
+byte-requires c κs = omega arith
+
+mul-due : tie.Need-mul-due Inv-loop μ-loop
+mul-due c = omega arith
+
+add-due : tie.Need-add-due Inv-loop μ-loop
+add-due c = omega arith
+
+loop-holds : tie.Need-loop-holds Inv-loop μ-loop
+loop-holds c =
+    let e = c .byte .ensures in
+    let f = c .before .before .args .file .now in
+    let h = c .before .before .pre in
+    (e .0, omega arith, e .1, omega (arith, e .0, h .1), ap (λ (x : ℕ). 10 + 4 * x) (e .0), none-yet (badPair f))
+
+mul-half : tie.Need-mul-half Inv-loop μ-loop
+mul-half c = omega arith
+
+add-half : tie.Need-add-half Inv-loop μ-loop
+add-half c = omega arith
+
+half-requires : tie.Need-half-requires Inv-loop μ-loop
+half-requires c κs = omega arith
+
+mul-half-2 : tie.Need-mul-half-2 Inv-loop μ-loop
+mul-half-2 c = omega arith
+
+add-half-2 : tie.Need-add-half-2 Inv-loop μ-loop
+add-half-2 c = omega arith
+
+half-requires-2 : tie.Need-half-requires-2 Inv-loop μ-loop
+half-requires-2 c κs = omega arith
+
+returns : tie.Need-returns Inv-loop μ-loop
+returns c =
+    let x = c .before .before .before .before .loop in
+    let f = c .before .before .before .before .before .before .before .args .file .now in
+    let h = c .before .before .half in
+    sym
+    (pairs-at f (x .q) (omega (arith, x .inv .0))
+    (bad-offset f (x .q) (λ e. c .if1 .taken (h .ensures .0 ∙ e ∙ sym (x .inv .4)))))
+
+returns-2 : tie.Need-returns-2 Inv-loop μ-loop
+returns-2 c =
+    let x = c .before .before .before .before .before .loop in
+    let f = c .before .before .before .before .before .before .before .before .args .file .now in
+    let l = c .before .before .half2 in
+    sym
+    (pairs-at f (x .q) (omega (arith, x .inv .0)) (bad-length f (x .q) (λ e. c .if2 .taken (ap (λ (y : ℕ). y % 2) (l .ensures .0) ∙ e))))
+
+add-due-2 : tie.Need-add-due-2 Inv-loop μ-loop
+add-due-2 c = omega arith
+
+add-q : tie.Need-add-q Inv-loop μ-loop
+add-q c = omega arith
+
+loop-less : tie.Need-loop-less Inv-loop μ-loop
+loop-less c = omega arith
+
+loop-again : tie.Need-loop-again Inv-loop μ-loop
+loop-again c =
+    let x = c .before .before .before .before .before .loop in
+    let f = c .before .before .before .before .before .before .before .before .args .file .now in
+    let h = c .before .before .before .half in
+    let l = c .before .before .half2 in (
+      x .inv .0,
+      omega arith,
+      x .inv .2,
+      x .inv .3,
+      rw add-one (ap₂ (λ (y z : ℕ). y + z) (h .ensures .0) (l .ensures .0)),
+      none-more (badPair f) (x .q) (x .inv .5)
+          (good-pair f (x .q) (sym (h .ensures .0) ∙ c .before .if1 .left ∙ x .inv .4) (ap (λ (y : ℕ). y % 2) (sym (l .ensures .0)) ∙ c .if2 .left)),
+    )
+
+returns-3 : tie.Need-returns-3 Inv-loop μ-loop
+returns-3 c =
+    let x = c .before .loop in
+    let f = c .before .before .before .before .args .file .now in
+    let e : x .q ≡ stateCount f = omega (arith, x .inv .0) in
+    sym
+    (pairs-end f (rw e at (x .inv .5)) ∙ ap (λ (y : ℕ). not (eqb y (length f))) (sym (x .inv .4 ∙ ap (dueAt f) e)))
+
+pub pairs-break-spec : {M : Type 1} → statement M
+pairs-break-spec =
+    tie.close
+    (tie.spec
+    Inv-loop
+    μ-loop
+    byte-requires
+    mul-due
+    add-due
+    loop-holds
+    mul-half
+    add-half
+    half-requires
+    mul-half-2
+    add-half-2
+    half-requires-2
+    returns
+    returns-2
+    add-due-2
+    add-q
+    loop-less
+    loop-again
+    returns-3)

@@ -1,0 +1,51 @@
+-- `read` meets its contract. Assumes nothing.
+use mathlib.Core.Option.{Option}
+use Prim.Native.Nat.{ℕ}
+use Rattle.rulefile.specs.declared.ReadAnswer.the-variants.{Accepted, Refused}
+use Rattle.rulefile.specs.Reader.{numberOf, ruleBy}
+use mathlib.Core.Path.{_≡_, sym, ap, _∙_}
+use borrow.Author.Needs.{needs}
+use Rattle.rulefile.proofs.read.Statement.{statement}
+use Rattle.rulefile.proofs.read.Tie as tie
+
+check-requires : tie.Need-check-requires
+check-requires c κs = search needs
+
+enum-told : tie.Need-enum-told
+enum-told c = search needs
+
+build-requires : tie.Need-build-requires
+build-requires c κs = let e : c .before .before .check .result ≡ Accepted = cc in sym (c .before .before .check .ensures) ∙ ap numberOf e
+
+enum-told-2 : tie.Need-enum-told-2
+enum-told-2 c = search needs
+
+no-rule-requires : tie.Need-no-rule-requires
+no-rule-requires c κs = search needs
+
+returns : tie.Need-returns
+returns c =
+    let f = c .before .before .before .before .before .args .file .now in
+    let k = c .before .before .before .check in
+    let e : k .result ≡ Accepted = cc in
+    record { answer = k .ensures; rule = c .build .ensures ∙ ap (λ (o : Option ℕ). ruleBy o f) (sym (ap numberOf e) ∙ k .ensures) }
+
+returns-2 : tie.Need-returns-2
+returns-2 c =
+    let f = c .before .before .before .before .before .args .file .now in
+    let k = c .before .before .before .check in
+    let g = c .before .enum-told2 .given in
+    let e : k .result ≡ Refused (g .0 .0) = g .1 in
+    record { answer = k .ensures; rule = c .no-rule .ensures ∙ ap (λ (o : Option ℕ). ruleBy o f) (sym (ap numberOf e) ∙ k .ensures) }
+
+pub read-spec : {M : Type 1} → statement M
+read-spec =
+    tie.close
+    (tie.spec
+    check-requires
+    enum-told
+    build-requires
+    enum-told-2
+    no-rule-requires
+    returns
+    returns-2)

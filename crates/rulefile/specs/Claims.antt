@@ -1,0 +1,20 @@
+-- What is claimed of reading a rule file, for every list of bytes; proofs/Claims.antt proves it.
+use mathlib.Core.Path.{_≡_}
+use mathlib.Core.Logic.{_↔_}
+use mathlib.Core.List.{List}
+use mathlib.Core.Option.{none}
+use Prim.Native.Nat.{ℕ}
+use Rattle.masks.specs.Masks.{_∈_}
+use Rattle.automaton.specs.Automaton.{Equivalent}
+use Rattle.automaton.specs.Rules.{targetMask, automatonOf, WellFormed}
+use Rattle.rulefile.specs.Refusals.{refusal}
+use Rattle.rulefile.specs.Reader.{ruleOf}
+use Rattle.rulefile.specs.Language.{ArcIn, automatonIn}
+
+pub record Claims : Type 0 where
+  -- the rule of an accepted file is well formed
+  pub well-formed : (f : List ℕ) → refusal f ≡ none → WellFormed (ruleOf f)
+  -- an arc (s, t) stands in section q of the file exactly where bit t of the target mask of q and s is 1
+  pub arcs : (f : List ℕ) → refusal f ≡ none → (q s t : ℕ) → ArcIn f q s t ↔ t ∈ targetMask (ruleOf f .targets) q s
+  -- the file's automaton and the rule's accept the same texts
+  pub language : (f : List ℕ) → refusal f ≡ none → Equivalent (automatonIn f) (automatonOf (ruleOf f))
