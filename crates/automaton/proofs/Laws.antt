@@ -1,8 +1,8 @@
 -- The laws of the successor of a set by a symbol and by a text: its members are the states that arcs and runs lead to. Each goes through
 -- the members of masks alone. Assumes a well-formed rule where targets must be states, and nothing else.
-use mathlib.Core.Path.{_≡_, refl, sym, ap, _∙_, subst}
+use mathlib.Core.Path.{_≡_, refl, ap, _∙_, subst}
 use mathlib.Core.Logic.{_↔_, inl, inr}
-use mathlib.Core.Bool.{true, false}
+use mathlib.Core.Bool.{true}
 use mathlib.Core.List.{List, [], _∷_, _++_}
 use Prim.Native.Nat.{ℕ, _^_, _≤_, _<_}
 use native.Mathlib.Omega.{arith}
@@ -10,7 +10,7 @@ use lib.Arith.{lt-one}
 use lib.Bits.{bitOr}
 use lib.Dec.{ltb, lit<}
 use borrow.Author.Tests.{ltb-true, ltb-false, le-ltb}
-use Rattle.masks.specs.Masks.{_∈_, union, shares}
+use Rattle.masks.specs.Masks.{_∈_, shares}
 use Rattle.masks.proofs.Cases.{by-test}
 use Rattle.masks.proofs.Laws.{no-member, members-below, part-of, in-union, union-lt, union-or, union-empty, shares-law}
 use Rattle.automaton.specs.declared.Rule.{Rule}

@@ -8,10 +8,10 @@ use native.Mathlib.Omega.{arith}
 use lib.Dec.{ltb, leb}
 use lib.ListN.{length}
 use borrow.Author.Tests.{ltb-false, leb-false}
-use Rattle.rulefile.specs.Format.{stateCount, symbolCount, initialMask, finalMask, section, arcCount, symbolAt, targetAt}
-use Rattle.rulefile.specs.Refusals.{tooShort, tooLong, badStates, badSymbols, noRoom, badMask, badPairs, outOfOrder, badArc, badSection, badArcs, refusal}
-use Rattle.rulefile.proofs.Conditions.{or-left, or-right, or-neither, none-at, none-all}
-use Rattle.rulefile.proofs.Arcs.{arc-bounds, wider}
+use Rattle.rulefile.specs.Format.{stateCount, symbolCount, initialMask, finalMask, section}
+use Rattle.rulefile.specs.Refusals.{tooShort, tooLong, badStates, badSymbols, noRoom, badMask, badPairs, badSection, badArcs, refusal}
+use Rattle.rulefile.proofs.Conditions.{or-left, or-right, none-at}
+use Rattle.rulefile.proofs.Arcs.{wider}
 use Rattle.rulefile.proofs.Refused.{from-2, from-3, from-4, from-5, from-6, from-7, from-8, from-1}
 
 pub record Accepted (f : List ℕ) : Type 0 where

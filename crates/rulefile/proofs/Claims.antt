@@ -1,25 +1,21 @@
 -- The proof of all that specs/Claims.antt claims: a cell of the table has exactly the targets of the arcs that stand in the section. Assumes
 -- nothing.
-use mathlib.Core.Path.{_≡_, refl, sym, ap, ap₂, _∙_, subst}
-use mathlib.Core.Logic.{_↔_, _⊎_, ⊎-elim}
-use mathlib.Core.Bool.{true, false, cond}
+use mathlib.Core.Path.{_≡_, sym, ap₂, _∙_, subst}
+use mathlib.Core.Logic.{_↔_, ⊎-elim}
 use mathlib.Core.List.{List}
-use mathlib.Core.Option.{none}
-use Prim.Native.Nat.{ℕ, _+_, _*_, _/_, _%_, _^_, _≤_, _<_}
+use Prim.Native.Nat.{ℕ, _+_, _*_, _/_, _%_, _≤_, _<_}
 use native.Mathlib.Omega.{arith}
 use lib.Dec.{ltb}
-use lib.ListN.{length, getD, List·getD-eq-default}
+use lib.ListN.{getD, List·getD-eq-default}
 use borrow.Author.Tests.{lt-ltb, le-ltb, ltb-true, ltb-false}
 use Rattle.masks.specs.Masks.{_∈_}
-use Rattle.masks.specs.Lists.{listFrom}
 use Rattle.masks.proofs.Cases.{by-test}
 use Rattle.masks.proofs.Laws.{no-member, below-of, empty-mask}
 use Rattle.masks.proofs.Lists.{length-listFrom, cell-of}
-use Rattle.automaton.specs.Automaton.{Arc, Accepts, Equivalent}
+use Rattle.automaton.specs.Automaton.{Equivalent}
 use Rattle.automaton.specs.Rules.{cellOf, targetMask, automatonOf, WellFormed}
 use Rattle.automaton.proofs.Laws.{accepts-map}
-use Rattle.rulefile.specs.Format.{stateCount, symbolCount, section, arcCount, symbolAt, targetAt}
-use Rattle.rulefile.specs.Refusals.{refusal}
+use Rattle.rulefile.specs.Format.{stateCount, symbolCount, section, arcCount}
 use Rattle.rulefile.specs.Reader.{targetsBy, targetsFrom, ruleOf}
 use Rattle.rulefile.specs.Language.{ArcIn, automatonIn}
 use Rattle.rulefile.specs.Claims.{Claims}

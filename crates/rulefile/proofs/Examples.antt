@@ -1,11 +1,10 @@
 -- The definitions at work on the rules of document 01, by computation alone: A and B are accepted, A with the final mask 8 is refused with 6;
 -- the target masks of A and B; and, by the definition of an accepting run alone, A accepts 0 1. Assumes nothing.
 use mathlib.Core.Path.{_≡_, refl}
-use mathlib.Core.List.{List, [], _∷_}
+use mathlib.Core.List.{[], _∷_}
 use mathlib.Core.Option.{none, some}
-use Prim.Native.Nat.{ℕ}
 use lib.Dec.{lit<}
-use Rattle.automaton.specs.Automaton.{Arc, Accepts, Run, stay, move}
+use Rattle.automaton.specs.Automaton.{Arc, Accepts, stay, move}
 use Rattle.rulefile.specs.Conditions.{anyBelow}
 use Rattle.rulefile.specs.Refusals.{tooShort, tooLong, badStates, badSymbols, noRoom, badMask, badPairs, badSection, badArcs, refusal}
 use Rattle.rulefile.specs.Reader.{targetsUpTo, targetsFrom}

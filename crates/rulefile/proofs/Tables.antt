@@ -1,9 +1,9 @@
 -- The table of target masks: one arc more, one section more, and the members of a cell. Assumes nothing.
-use mathlib.Core.Path.{_≡_, refl, sym, ap, ap₂, _∙_, subst}
+use mathlib.Core.Path.{_≡_, refl, sym, ap, _∙_}
 use mathlib.Core.Logic.{_↔_, ⊎-elim}
 use mathlib.Core.Bool.{Bool, true, false, cond}
 use mathlib.Core.List.{List}
-use Prim.Native.Nat.{ℕ, zero, suc, _+_, _*_, _/_, _%_, _≤_, _<_}
+use Prim.Native.Nat.{ℕ, zero, suc, _+_, _*_, _/_, _%_, _<_}
 use native.Mathlib.Nat.{eq-or-lt-of-le, le-of-suc-le-suc}
 use native.Mathlib.Numerals.{add-one}
 use native.Mathlib.Omega.{arith}
@@ -15,7 +15,7 @@ use borrow.Author.Tests.{eq-eqb, ne-eqb, eqb-true, eqb-false, lt-ltb, le-ltb, lt
 use Rattle.masks.specs.Masks.{_∈_, single}
 use Rattle.masks.proofs.Cases.{by-test}
 use Rattle.masks.proofs.Laws.{no-member, or-assoc, or-cases, or-left, or-right, single-law}
-use Rattle.rulefile.specs.Format.{section, arcCount, symbolAt, targetAt}
+use Rattle.rulefile.specs.Format.{section, symbolAt, targetAt}
 use Rattle.rulefile.specs.Reader.{targetsUpTo, targetsBy}
 
 -- ---- one arc more

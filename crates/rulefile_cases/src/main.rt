@@ -1,0 +1,130 @@
+// Reads rule files from standard input, a line `NAME HEX` each, and prints what the reader answers.
+ghost use Prim.Native.Nat.{_<_, _≤_};
+ghost use lib.ListN.{length};
+ghost use Rattle.io.specs.Counts.{Counts};
+use automaton::Rule;
+use libc::STDIN_FILENO;
+use libc::STDOUT_FILENO;
+use rulefile::ReadAnswer;
+
+// The value of a hex digit; 0 for any other byte.
+fn digit(c: u8) -> u8
+    ensures { λ r. ⌜ r < 16 ⌝ }
+{
+    match c {
+        b'0'..=b'9' => c - b'0',
+        b'a'..=b'f' => c - b'a' + 10,
+        _ => 0,
+    }
+}
+
+// The index of the first such byte from `from` on, or the text's length.
+fn find(text: &[u8], from: usize, c: u8) -> usize
+    requires { ⌜ from ≤ length (now text) ⌝ }
+    ensures { λ r. ⌜ (from ≤ r) × (r ≤ length (now (text .entry))) ⌝ }
+{
+    let mut i = from;
+    while i < text.len() {
+        if text[i] == c {
+            return i;
+        }
+        i += 1;
+    }
+    i
+}
+
+// The bytes that pairs of hex digits stand for, as many as fit: how many there are.
+fn decode(hex: &[u8], out: &mut [u8]) -> usize
+    ensures { λ r. ⌜ Counts r (now (out .exit)) ⌝ }
+{
+    let count = hex.len() / 2;
+    let mut n: usize = 0;
+    while n < count {
+        if out.len() <= n {
+            return n;
+        }
+        let high = digit(hex[2 * n]);
+        let low = digit(hex[2 * n + 1]);
+        out[n] = 16 * high + low;
+        n += 1;
+    }
+    n
+}
+
+// ` STATE.SYMBOL=MASK` for a cell that is not empty.
+fn print_cell(cell: usize, mask: u32) {
+    if mask != 0 {
+        io::write_all(STDOUT_FILENO, b" ");
+        io::print_decimal(STDOUT_FILENO, (cell / 16) as u64);
+        io::write_all(STDOUT_FILENO, b".");
+        io::print_decimal(STDOUT_FILENO, (cell % 16) as u64);
+        io::write_all(STDOUT_FILENO, b"=");
+        io::print_hex(STDOUT_FILENO, mask as u64, 1);
+    }
+}
+
+fn print_cells(targets: &[u32; 512]) {
+    let mut cell: usize = 0;
+    while cell < 512 {
+        print_cell(cell, targets[cell]);
+        cell += 1;
+    }
+}
+
+fn print_head(rule: Rule) {
+    io::write_all(STDOUT_FILENO, b"accepted ");
+    io::print_decimal(STDOUT_FILENO, rule.n as u64);
+    io::write_all(STDOUT_FILENO, b" ");
+    io::print_decimal(STDOUT_FILENO, rule.k as u64);
+    io::write_all(STDOUT_FILENO, b" ");
+    io::print_hex(STDOUT_FILENO, rule.initials as u64, 1);
+    io::write_all(STDOUT_FILENO, b" ");
+    io::print_hex(STDOUT_FILENO, rule.finals as u64, 1);
+}
+
+// What the reader answers to a file.
+fn print_answer(file: &[u8]) {
+    let reading = rulefile::read(file);
+    let rule = reading.rule;
+    let answer = reading.answer;
+    match answer {
+        ReadAnswer::Accepted => {
+            print_head(rule);
+            print_cells(&rule.targets);
+        }
+        ReadAnswer::Refused(number) => {
+            io::write_all(STDOUT_FILENO, b"refused ");
+            io::print_decimal(STDOUT_FILENO, number as u64);
+        }
+    }
+}
+
+// One case.
+fn run_case(line: &[u8]) {
+    let space = find(line, 0, b' ');
+    if line.len() <= space {
+        return;
+    }
+    let hex = space + 1;
+    let mut file = [0u8; 33000];
+    let n = decode(&line[hex..], &mut file);
+    io::write_all(STDOUT_FILENO, &line[..space]);
+    io::write_all(STDOUT_FILENO, b" ");
+    print_answer(&file[..n]);
+    io::write_all(STDOUT_FILENO, b"\n");
+}
+
+fn run_cases(text: &[u8]) {
+    let mut at: usize = 0;
+    while at < text.len() {
+        let end = find(text, at, b'\n');
+        run_case(&text[at..end]);
+        at = end + 1;
+    }
+}
+
+fn main() {
+    let mut text = [0u8; 300000];
+    let n = io::read_full(STDIN_FILENO, &mut text);
+    run_cases(&text[..n]);
+}
