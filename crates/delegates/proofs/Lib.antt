@@ -1,0 +1,5 @@
+-- In the order in which they build on each other; what belongs to no one function.
+pub mod Tests
+pub mod Lists
+pub mod Numbers
+pub mod Classes

@@ -1,0 +1,22 @@
+-- Tests on truth values, and the answer of a test as what it decides. Assumes nothing.
+use mathlib.Core.Path.{_≡_, refl}
+use mathlib.Core.Logic.{_↔_}
+use mathlib.Core.Bool.{Bool, true, false, not, Bool·beq, true≢false, false≢true}
+
+pub confirmed : {P : Type 0} → P → (true ≡ true) ↔ P
+confirmed p = (λ e. p, λ x. refl)
+
+pub refuted : {P : Type 0} → (P → ⊥) → (false ≡ true) ↔ P
+refuted n = (λ e. absurd (false≢true e), λ p. absurd (n p))
+
+pub differ : (a b : Bool) → not (Bool·beq a b) ≡ true → a ≡ b → ⊥
+differ true true t e = false≢true t
+differ true false t e = true≢false e
+differ false true t e = false≢true e
+differ false false t e = false≢true t
+
+pub agree : (a b : Bool) → not (Bool·beq a b) ≡ false → a ≡ b
+agree true true t = refl
+agree true false t = absurd (true≢false t)
+agree false true t = absurd (true≢false t)
+agree false false t = refl
