@@ -1,5 +1,5 @@
 -- Tests on truth values, and the answer of a test as what it decides. Assumes nothing.
-use mathlib.Core.Path.{_≡_, refl}
+use mathlib.Core.Path.{_≡_, refl, sym, _∙_}
 use mathlib.Core.Logic.{_↔_}
 use mathlib.Core.Bool.{Bool, true, false, not, Bool·beq, true≢false, false≢true}
 
@@ -20,3 +20,6 @@ agree true true t = refl
 agree true false t = absurd (true≢false t)
 agree false true t = absurd (true≢false t)
 agree false false t = refl
+
+pub denied : {P : Type 0} (b : Bool) → (b ≡ true) ↔ P → b ≡ false → P → ⊥
+denied b law f p = true≢false (sym (law .1 p) ∙ f)
