@@ -1,34 +1,48 @@
+-- `refine` meets its contract. The loop's invariant: the classes are a partition that no text contradicts. The measure is the room below 512
+-- that the class numbers leave: a round that changes one takes some of it. Assumes nothing.
+use Rattle.delegates.proofs.Classes.{Partition, started, next-partition, falls, done}
+use Rattle.delegates.proofs.Lists.{room}
+use lib.ListN.{length, getD-replicate}
+use native.Mathlib.Omega.{arith}
+use mathlib.Core.Path.{_≡_, refl}
+use borrow.Author.Needs.{needs}
 use Rattle.delegates.proofs.refine.Statement.{statement}
 use Rattle.delegates.proofs.refine.Tie as tie
-use Rattle.delegates.proofs.refine.Reads as reads
-use Rattle.delegates.proofs.refine.Lts as lts
-use Rattle.delegates.proofs.round.Reads as round-reads
 
 abbrev Inv-loop : tie.InvT-loop
-Inv-loop sets next finals k class₀ new₀ class new = ?
+Inv-loop sets next finals k class₀ new₀ class new = Partition sets next finals k class
 
 abbrev μ-loop : tie.MeasureT-loop
-μ-loop sets next finals k class₀ new₀ class new = ?
+μ-loop sets next finals k class₀ new₀ class new = room class
 
--- src/lib.rt:164:5
 loop-holds : tie.Need-loop-holds Inv-loop μ-loop
-loop-holds c = ?
+loop-holds c =
+    let a = c .args in
+    started (a .sets .now) (a .next .now) (a .finals) (a .k) _ refl (λ s h. getD-replicate 513 s 0 0 (omega arith))
 
--- src/lib.rt:165:13
 round-requires : tie.Need-round-requires Inv-loop μ-loop
-round-requires c κs = ?
+round-requires c κs = (c .before .before .before .pre, c .before .before .loop .inv .low)
 
--- src/lib.rt:164:5
 loop-less : tie.Need-loop-less Inv-loop μ-loop
-loop-less c = ?
+loop-less c =
+    let r = c .before .round in
+    let l = c .before .before .before .before .loop in
+    let a = c .before .before .before .before .before .args in
+    falls (a .sets .now) (a .next .now) (a .finals) (a .k) (l .class) (l .inv) (r .last .1 .1 .1 .1 .1 .0) (r .result) (r .ensures) (c .if1 .taken)
 
--- src/lib.rt:164:5
 loop-again : tie.Need-loop-again Inv-loop μ-loop
-loop-again c = ?
+loop-again c =
+    let r = c .before .round in
+    let l = c .before .before .before .before .loop in
+    let a = c .before .before .before .before .before .args in
+    next-partition (a .sets .now) (a .next .now) (a .finals) (a .k) (l .class) (l .inv) (r .last .1 .1 .1 .1 .1 .0) (r .result) (r .ensures)
 
--- src/lib.rt:169:13
 returns : tie.Need-returns Inv-loop μ-loop
-returns c = ?
+returns c =
+    let r = c .before .round in
+    let l = c .before .before .before .before .loop in
+    let a = c .before .before .before .before .before .args in
+    done (a .sets .now) (a .next .now) (a .finals) (a .k) (l .class) (l .inv) (r .last .1 .1 .1 .1 .1 .0) (r .result) (r .ensures) (c .if1 .left)
 
 pub refine-spec : {M : Type 1} → statement M
 refine-spec =
