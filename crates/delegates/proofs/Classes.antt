@@ -113,12 +113,12 @@ module _ (sets next : List ℕ) (finals k : ℕ) where
     pub apart : (s t : ℕ) → s ≤ 512 → t ≤ 512 → (classOf c s ≡ classOf c t → ⊥) → Apart s t
 
   -- one class of all sets
-  pub started : (c : List ℕ) → length c ≡ 513 → ((s : ℕ) → s ≤ 512 → classOf c s ≡ 0) → Partition c
+  pub started : (c : List ℕ) → length c ≡ 513 → ((s : ℕ) → classOf c s ≡ 0) → Partition c
   started c long zeros = record {
     cells = long;
-    low = λ s h. omega (arith, zeros s h);
-    self = λ s h. ap (classOf c) (zeros s h) ∙ zeros 0 zero-le ∙ sym (zeros s h);
-    apart = λ s t hs ht ne. absurd (ne (zeros s hs ∙ sym (zeros t ht)));
+    low = λ s h. omega (arith, zeros s);
+    self = λ s h. ap (classOf c) (zeros s) ∙ zeros 0 ∙ sym (zeros s);
+    apart = λ s t hs ht ne. absurd (ne (zeros s ∙ sym (zeros t)));
   }
 
   module _ (c : List ℕ) where

@@ -3,3 +3,4 @@ pub mod Tests
 pub mod Lists
 pub mod Numbers
 pub mod Classes
+pub mod Merging

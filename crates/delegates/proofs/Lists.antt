@@ -1,12 +1,17 @@
--- Lists of numbers: the room below 512 that a list leaves, and what a store does to all the cells passed. Assumes nothing.
+-- Lists of numbers: a list of zeros, the room below 512 that a list leaves, and what a store does to all the cells passed. Assumes nothing.
 use mathlib.Core.Path.{_≡_, refl}
 use mathlib.Core.List.{List, [], _∷_}
 use Prim.Native.Nat.{ℕ, zero, suc, _+_, _-_, _≤_, _<_, suc-le-suc, zero-le}
 use native.Mathlib.Nat.{le-of-suc-le-suc}
 use native.Mathlib.Omega.{arith}
 use borrow.Author.Count.{below-more}
-use lib.ListN.{length, getD, set}
+use lib.ListN.{length, getD, set, replicate}
 use lib.Seq.{getD-set-same, getD-set-other}
+
+pub zero-cells : (n i : ℕ) → getD {A = ℕ} (replicate n 0) i 0 ≡ 0
+zero-cells zero i = refl
+zero-cells (suc n) zero = refl
+zero-cells (suc n) (suc i) = zero-cells n i
 
 -- how far the elements are below 512, in all
 unfoldable pub room : List ℕ → ℕ

@@ -8,7 +8,7 @@ use native.Mathlib.Omega.{arith}
 use lib.Dec.{eqb, ltb}
 use lib.ListN.{length, getD, take}
 use lib.Seq.{getD-take, length-take-le}
-use borrow.Author.Tests.{lt-ltb, le-ltb, eq-eqb, ne-eqb, eqb-true, eqb-false}
+use borrow.Author.Tests.{lt-ltb, le-ltb, ltb-true, eq-eqb, ne-eqb, eqb-true}
 use Rattle.masks.specs.Masks.{single}
 use Rattle.masks.proofs.Cases.{by-test}
 use Rattle.subsets.specs.Sets.{numberIn}
@@ -65,3 +65,9 @@ module _ (sets : List ℕ) (m q : ℕ) (long : m ≤ length sets) where
       let r = number-names (take m sets) (single q) i (omega (arith, all)) (cell i h ∙ e) in
       let l = rw all at (r .0) in
       rw (lt-ltb (numberIn (take m sets) (single q)) m l) (l, sym (cell (numberIn (take m sets) (single q)) l) ∙ r .1)
+
+pub number-within : (sets : List ℕ) (m q : ℕ) → m ≤ 512 → numberOf sets m q ≤ 512
+unfolding numberOf
+number-within sets m q h =
+    let i = numberIn (take m sets) (single q) in
+    by-test (ltb i m) (λ t. rw t (omega (arith, ltb-true i m t))) (λ t. rw t (omega arith))

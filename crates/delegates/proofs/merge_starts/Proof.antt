@@ -1,103 +1,117 @@
+-- `merge_starts` meets its contract. The loop's invariant is `Merging`. Assumes nothing.
+use Rattle.delegates.proofs.Merging.{Merging, begun, start, no-start}
+use Rattle.delegates.proofs.Numbers.{number-within}
+use Rattle.delegates.specs.Classes.{numberOf, Classes}
+use native.Mathlib.Omega.{arith}
+use Prim.Native.Nat.{ℕ, _-_, _≤_, min}
+use mathlib.Core.List.{List}
+use mathlib.Core.Logic.{⊎-elim}
+use mathlib.Core.Path.{_≡_, ap, _∙_}
+use borrow.Author.Needs.{needs}
 use Rattle.delegates.proofs.merge_starts.Statement.{statement}
 use Rattle.delegates.proofs.merge_starts.Tie as tie
-use Rattle.delegates.proofs.merge_starts.Reads as reads
-use Rattle.delegates.proofs.merge_starts.Lts as lts
-use Rattle.delegates.proofs.at_most.Reads as at-most-reads
-use Rattle.delegates.proofs.delegate.Reads as delegate-reads
-use Rattle.delegates.proofs.number_of.Reads as number-of-reads
-use Rattle.delegates.proofs.refine.Reads as refine-reads
 
 abbrev Inv-loop : tie.InvT-loop
 Inv-loop sets next count finals n k most states symbols class own₀ delegates₀ starts₀ q₀ own delegates starts q =
-    ?
+    (q ≤ min n 32) × Merging sets next finals (min count 512) (min k 16) class own delegates starts q
 
 abbrev μ-loop : tie.MeasureT-loop
-μ-loop sets next count finals n k most states symbols class own₀ delegates₀ starts₀ q₀ own delegates starts q =
-    ?
+μ-loop sets next count finals n k most states symbols class own₀ delegates₀ starts₀ q₀ own delegates starts q = min n 32 - q
 
--- src/lib.rt:220:9
 at-most-requires : tie.Need-at-most-requires Inv-loop μ-loop
-at-most-requires c κs = ?
+at-most-requires c κs = search needs
 
--- src/lib.rt:221:9
 at-most-requires-2 : tie.Need-at-most-requires-2 Inv-loop μ-loop
-at-most-requires-2 c κs = ?
+at-most-requires-2 c κs = search needs
 
--- src/lib.rt:222:9
 at-most-requires-3 : tie.Need-at-most-requires-3 Inv-loop μ-loop
-at-most-requires-3 c κs = ?
+at-most-requires-3 c κs = search needs
 
--- src/lib.rt:223:17
 refine-requires : tie.Need-refine-requires Inv-loop μ-loop
-refine-requires c κs = ?
+refine-requires c κs = search needs
 
--- src/lib.rt:228:5
 loop-holds : tie.Need-loop-holds Inv-loop μ-loop
-loop-holds c = ?
+loop-holds c =
+    let a = c .before .before .before .before .args in
+    let classes : Classes (a .sets .now) (a .next .now) (a .finals) (min (a .k) 16) (c .refine .result) = rw (c .before .at-most3 .ensures) at (c .refine .ensures) in
+    (omega arith, begun (a .sets .now) (a .next .now) (a .finals) (min (a .count) 512) (min (a .k) 16) (c .refine .result) (omega arith) classes)
 
--- src/lib.rt:229:53
 cast-t21 : tie.Need-cast-t21 Inv-loop μ-loop
-cast-t21 c = ?
+cast-t21 c = search needs
 
--- src/lib.rt:229:13
 number-of-requires : tie.Need-number-of-requires Inv-loop μ-loop
-number-of-requires c κs = ?
+number-of-requires c κs = search needs
 
--- src/lib.rt:230:17
 cast-x : tie.Need-cast-x Inv-loop μ-loop
-cast-x c = ?
+cast-x c = search needs
 
--- src/lib.rt:231:18
 mul-own : tie.Need-mul-own Inv-loop μ-loop
-mul-own c = ?
+mul-own c = search needs
 
--- src/lib.rt:231:18
 array-read-own : tie.Need-array-read-own Inv-loop μ-loop
-array-read-own c = ?
+array-read-own c =
+    let y = c .before in
+    let m = y .before .before .before in
+    let most = m .before .before .before .at-most in
+    let a = m .before .before .before .before .args in
+    omega (arith, y .number-of .ensures, number-within (a .sets .now) (most .result) (y .before .before .loop .q) (omega arith))
 
--- src/lib.rt:231:9
 mul-own-2 : tie.Need-mul-own-2 Inv-loop μ-loop
-mul-own-2 c = ?
+mul-own-2 c = search needs
 
--- src/lib.rt:231:9
 array-write-own : tie.Need-array-write-own Inv-loop μ-loop
-array-write-own c = ?
+array-write-own c = search needs
 
--- src/lib.rt:232:44
 cast-t21-2 : tie.Need-cast-t21-2 Inv-loop μ-loop
-cast-t21-2 c = ?
+cast-t21-2 c = search needs
 
--- src/lib.rt:232:13
 delegate-requires : tie.Need-delegate-requires Inv-loop μ-loop
-delegate-requires c κs = ?
+delegate-requires c κs = search needs
 
--- src/lib.rt:233:9
 array-write-delegates : tie.Need-array-write-delegates Inv-loop μ-loop
-array-write-delegates c = ?
+array-write-delegates c = search needs
 
--- src/lib.rt:234:12
 cast-if1 : tie.Need-cast-if1 Inv-loop μ-loop
-cast-if1 c = ?
+cast-if1 c = search needs
 
--- src/lib.rt:235:13
 add-starts : tie.Need-add-starts Inv-loop μ-loop
-add-starts c = ?
+add-starts c = search needs
 
--- src/lib.rt:237:9
 add-q : tie.Need-add-q Inv-loop μ-loop
-add-q c = ?
+add-q c = search needs
 
--- src/lib.rt:228:5
 loop-less : tie.Need-loop-less Inv-loop μ-loop
-loop-less c = ?
+loop-less c = search needs
 
--- src/lib.rt:228:5
 loop-again : tie.Need-loop-again Inv-loop μ-loop
-loop-again c = ?
+loop-again c =
+    let y = c .before .before .before .before .before in
+    let l = y .before .before .loop in
+    let m = y .before .before .before in
+    let a = m .before .before .before .before .args in
+    let number : y .number-of .result .0 ≡ numberOf (a .sets .now) (min (a .count) 512) (l .q) =
+        y .number-of .ensures ∙ ap (λ (x : ℕ). numberOf (a .sets .now) x (l .q)) (m .before .before .before .at-most .ensures) in
+    let d = c .before .before .delegate in
+    let turn = start (a .sets .now) (a .next .now) (a .finals) (min (a .count) 512) (min (a .k) 16) (m .refine .result) (l .own) (l .delegates) (l .starts) (l .q) (l .inv .1) (omega arith) (y .number-of .result .0) (d .result .0) number (d .ensures) in
+    let other = no-start (a .sets .now) (a .next .now) (a .finals) (min (a .count) 512) (min (a .k) 16) (m .refine .result) (l .own) (l .delegates) (l .starts) (l .q) (l .inv .1) (omega arith) (y .number-of .result .0) (d .result .0) number (d .ensures) in (
+      omega arith,
+      ⊎-elim
+          (λ w. rw (w .1) (turn (w .0 .taken)))
+          (λ w. rw (w .1) (other (w .0 .left)))
+          (c .if1 .came),
+    )
 
--- src/lib.rt:210:1
 returns : tie.Need-returns Inv-loop μ-loop
-returns c = ?
+returns c =
+    let l = c .before .loop in
+    let m = l .inv .1 in
+    let e : l .q ≡ min (c .before .before .before .before .before .before .args .n) 32 = omega arith in
+    record {
+      cells = m .cells;
+      delegates = λ q h. m .least q (omega arith);
+      zeros = λ q h. m .zeros q (omega arith);
+      starts = rw (← e) (m .counted);
+    }
 
 pub merge-starts-spec : {M : Type 1} → statement M
 merge-starts-spec =

@@ -1,8 +1,7 @@
 -- `refine` meets its contract. The loop's invariant: the classes are a partition that no text contradicts. The measure is the room below 512
 -- that the class numbers leave: a round that changes one takes some of it. Assumes nothing.
 use Rattle.delegates.proofs.Classes.{Partition, started, next-partition, falls, done}
-use Rattle.delegates.proofs.Lists.{room}
-use lib.ListN.{length, getD-replicate}
+use Rattle.delegates.proofs.Lists.{zero-cells, room}
 use native.Mathlib.Omega.{arith}
 use mathlib.Core.Path.{_≡_, refl}
 use borrow.Author.Needs.{needs}
@@ -18,7 +17,7 @@ abbrev μ-loop : tie.MeasureT-loop
 loop-holds : tie.Need-loop-holds Inv-loop μ-loop
 loop-holds c =
     let a = c .args in
-    started (a .sets .now) (a .next .now) (a .finals) (a .k) _ refl (λ s h. getD-replicate 513 s 0 0 (omega arith))
+    started (a .sets .now) (a .next .now) (a .finals) (a .k) _ refl (zero-cells 513)
 
 round-requires : tie.Need-round-requires Inv-loop μ-loop
 round-requires c κs = (c .before .before .before .pre, c .before .before .loop .inv .low)
