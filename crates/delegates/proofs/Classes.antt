@@ -11,17 +11,18 @@ use mathlib.Core.Logic.{_⊎_, inl, inr, ⊎-elim, _↔_}
 use mathlib.Core.Bool.{Bool, true, false, cond, Bool-discrete}
 use mathlib.Core.List.{List, [], _∷_}
 use Prim.Native.Nat.{ℕ, zero, suc, _+_, _*_, _≤_, _<_, min, zero-le}
-use native.Mathlib.Nat.{le-antisymm, lt-of-not-le}
-use native.Mathlib.Decide.{ℕ-discrete, decLe}
+use native.Mathlib.Nat.{le-antisymm}
+use native.Mathlib.Decide.{ℕ-discrete}
 use native.Mathlib.Omega.{arith}
 use borrow.Author.Count.{below-none, below-more}
-use borrow.Author.Tests.{lt-ltb, le-ltb}
+use borrow.Author.Tests.{lt-ltb, le-ltb, ltb-true, ltb-false}
 use lib.Dec.{ltb}
 use lib.ListN.{length, getD}
 use Rattle.masks.specs.Masks.{shares}
 use Rattle.masks.proofs.Cases.{by-test}
 use Rattle.delegates.specs.Alike.{Text}
 use Rattle.delegates.specs.Classes.{final, follow, Least, classOf, accepted, AlikeSets, Same, Round, Classes}
+use Rattle.delegates.proofs.Tests.{le-by}
 use Rattle.delegates.proofs.Lists.{room, room-less}
 
 -- ---- final, follow
@@ -41,21 +42,11 @@ pub follow-empty : (next : List ℕ) (s a : ℕ) → 512 ≤ s → follow next s
 unfolding follow
 follow-empty next s a h = rw (le-ltb s 512 h)
 
-le-by : (a b : ℕ) → (b < a → ⊥) → a ≤ b
-le-by a b h = go (decLe a b)
-  where
-    go : Dec (a ≤ b) → a ≤ b
-    go (yes l) = l
-    go (no n) = absurd (h (lt-of-not-le n))
-
 pub follow-within : (next : List ℕ) (s a : ℕ) → follow next s a ≤ 512
 follow-within next s a =
-    le-by (follow next s a) 512
-    (λ l. by-cases (decLe 512 s) l)
-  where
-    by-cases : Dec (512 ≤ s) → 512 < follow next s a → ⊥
-    by-cases (yes h) l = omega (arith, follow-empty next s a h)
-    by-cases (no h) l = omega (arith, follow-set next s a (lt-of-not-le h))
+    by-test (ltb s 512)
+    (λ t. omega (arith, follow-set next s a (ltb-true s 512 t)))
+    (λ t. omega (arith, follow-empty next s a (ltb-false s 512 t)))
 
 -- ---- the lowest of a class, of an equivalence that the old classes respect
 module _

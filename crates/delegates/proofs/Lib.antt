@@ -4,3 +4,6 @@ pub mod Lists
 pub mod Numbers
 pub mod Classes
 pub mod Merging
+pub mod Alike
+pub mod Acceptance
+pub mod Claims

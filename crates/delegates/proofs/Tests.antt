@@ -1,7 +1,11 @@
--- Tests on truth values, and the answer of a test as what it decides. Assumes nothing.
+-- Tests, and the answer of a test as what it decides. Assumes nothing.
 use mathlib.Core.Path.{_≡_, refl, sym, _∙_}
 use mathlib.Core.Logic.{_↔_}
 use mathlib.Core.Bool.{Bool, true, false, not, Bool·beq, true≢false, false≢true}
+use Prim.Native.Nat.{ℕ, _≤_, _<_}
+use lib.Dec.{leb}
+use borrow.Author.Tests.{leb-true, leb-false}
+use Rattle.masks.proofs.Cases.{by-test}
 
 pub confirmed : {P : Type 0} → P → (true ≡ true) ↔ P
 confirmed p = (λ e. p, λ x. refl)
@@ -23,3 +27,12 @@ agree false false t = refl
 
 pub denied : {P : Type 0} (b : Bool) → (b ≡ true) ↔ P → b ≡ false → P → ⊥
 denied b law f p = true≢false (sym (law .1 p) ∙ f)
+
+pub same-truth : (a b : Bool) → (a ≡ true) ↔ (b ≡ true) → a ≡ b
+same-truth true true law = refl
+same-truth true false law = sym (law .0 refl)
+same-truth false true law = law .1 refl
+same-truth false false law = refl
+
+pub le-by : (a b : ℕ) → (b < a → ⊥) → a ≤ b
+le-by a b h = by-test (leb a b) (leb-true a b) (λ f. absurd (h (leb-false a b f)))
