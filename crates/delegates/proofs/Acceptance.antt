@@ -6,16 +6,15 @@
 -- one cell a symbol. The members of the successor of {q} are the states that runs from q lead to. And {q}, reached by the empty text, has a number.
 use mathlib.Core.Path.{_≡_, refl, sym, ap, _∙_, subst}
 use mathlib.Core.Logic.{_↔_}
-use mathlib.Core.Bool.{Bool, true, false, not}
+use mathlib.Core.Bool.{true, false}
 use mathlib.Core.List.{List, [], _∷_}
-use Prim.Native.Nat.{ℕ, _+_, _*_, _/_, _%_, _^_, _≤_, _<_, min, zero-le}
+use Prim.Native.Nat.{ℕ, _+_, _*_, _/_, _%_, _≤_, _<_, min, zero-le}
 use native.Mathlib.Omega.{arith}
 use borrow.Author.Tests.{ltb-false, eqb-true, eqb-false}
-use lib.Dec.{eqb, ltb}
+use lib.Dec.{eqb}
 use lib.ListN.{length, getD}
 use lib.Pow.{pow-lt, pow-pos}
 use Rattle.masks.specs.Masks.{single, shares}
-use Rattle.masks.specs.Lists.{listFrom}
 use Rattle.masks.proofs.Cases.{by-test}
 use Rattle.masks.proofs.Laws.{single-law, shares-law}
 use Rattle.masks.proofs.Lists.{length-listFrom, cell-of}
@@ -24,11 +23,11 @@ use Rattle.automaton.specs.Automaton.{Run}
 use Rattle.automaton.specs.Rules.{automatonOf, WellFormed}
 use Rattle.automaton.specs.Successor.{successor, after}
 use Rattle.automaton.proofs.Laws.{after-law, after-empty}
-use Rattle.subsets.specs.Sets.{setsOf, tooMany, nextSet, setCells, nextCells}
+use Rattle.subsets.specs.Sets.{tooMany, nextSet, setCells, nextCells}
 use Rattle.subsets.specs.Claims.{Claims as SubsetsClaims, sets, next, fits}
 use Rattle.delegates.specs.declared.Starts.{Starts}
 use Rattle.delegates.specs.Alike.{AcceptsFrom, Text, Alike, Delegate, Merged}
-use Rattle.delegates.specs.Classes.{final, follow, Least, numberOf, accepted, AlikeSets, MergedSets}
+use Rattle.delegates.specs.Classes.{follow, Least, numberOf, accepted, AlikeSets}
 use Rattle.delegates.specs.Claims.{MergedRule}
 use Rattle.delegates.proofs.Tests.{same-truth, le-by}
 use Rattle.delegates.proofs.Numbers.{named}
@@ -78,15 +77,15 @@ module _ (given : SubsetsClaims) (r : Rule) (good : WellFormed r) (fit : fits r)
       let cell = given .cell r good fit i s h (x .0) in
       by-test (eqb m 0)
       (λ t.
-          let z = eqb-true m 0 t in
-          let e : follow cells i s ≡ 512 = follow-cell i s h (x .0) ∙ ap (λ (y : ℕ). min y 512) (cell .0 z) in
-          rw e (accepted-empty masks cells (r .finals) w)
-          ∙ sym (ap (λ (y : ℕ). shares (after (r .targets) y w) (r .finals)) z ∙ ap (λ (y : ℕ). shares y (r .finals)) (after-empty (r .targets) w)))
+      let z = eqb-true m 0 t in
+      let e : follow cells i s ≡ 512 = follow-cell i s h (x .0) ∙ ap (λ (y : ℕ). min y 512) (cell .0 z) in
+      rw e (accepted-empty masks cells (r .finals) w)
+      ∙ sym (ap (λ (y : ℕ). shares (after (r .targets) y w) (r .finals)) z ∙ ap (λ (y : ℕ). shares y (r .finals)) (after-empty (r .targets) w)))
       (λ t.
-          let there = cell .1 (eqb-false m 0 t) in
-          let e : follow cells i s ≡ next r i s = follow-cell i s h (x .0) ∙ omega (arith, there .0, few) in
-          rw e (accepted-law w (x .1) (next r i s) (there .0))
-          ∙ ap (λ (y : ℕ). shares (after (r .targets) y w) (r .finals)) (there .1))
+      let there = cell .1 (eqb-false m 0 t) in
+      let e : follow cells i s ≡ next r i s = follow-cell i s h (x .0) ∙ omega (arith, there .0, few) in
+      rw e (accepted-law w (x .1) (next r i s) (there .0))
+      ∙ ap (λ (y : ℕ). shares (after (r .targets) y w) (r .finals)) (there .1))
 
   -- ---- acceptance in the automaton
   from-law : (q : ℕ) → q < r .n → (w : List ℕ) → AcceptsFrom (automatonOf r) q w ↔ (shares (after (r .targets) (single q) w) (r .finals) ≡ true)
@@ -126,7 +125,7 @@ module _ (given : SubsetsClaims) (r : Rule) (good : WellFormed r) (fit : fits r)
   state-law q h w x =
       let number = names q h in
       let e : accepted masks cells (r .finals) (numbered q) w ≡ shares (after (r .targets) (single q) w) (r .finals) =
-          accepted-law w x (numbered q) (number .0) ∙ ap (λ (m : ℕ). shares (after (r .targets) m w) (r .finals)) (number .1) in
+      accepted-law w x (numbered q) (number .0) ∙ ap (λ (m : ℕ). shares (after (r .targets) m w) (r .finals)) (number .1) in
       (λ t. e ∙ from-law q h w .0 t, λ t. from-law q h w .1 (sym e ∙ t))
 
   alike-law : (p q : ℕ) → p < r .n → q < r .n → AlikeSets masks cells (r .finals) (r .k) (numbered p) (numbered q) ↔ Alike (automatonOf r) p q

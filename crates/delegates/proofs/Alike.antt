@@ -6,7 +6,7 @@ use Prim.Native.Nat.{ℕ, _≤_, _<_}
 use native.Mathlib.Nat.{le-antisymm}
 use lib.ListN.{getD}
 use Rattle.automaton.specs.Automaton.{Automaton}
-use Rattle.delegates.specs.Alike.{AcceptsFrom, Alike, Delegate, Merged}
+use Rattle.delegates.specs.Alike.{Alike, Delegate, Merged}
 
 module _ (a : Automaton) where
   pub alike-self : (q : ℕ) → Alike a q q

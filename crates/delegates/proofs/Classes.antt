@@ -7,8 +7,8 @@
 -- class agree on being final and have successors in one class, and so on every text. A round that changes something takes from the room that
 -- the class numbers leave below 512, so rounds end.
 use mathlib.Core.Path.{_≡_, refl, sym, ap, _∙_}
-use mathlib.Core.Logic.{_⊎_, inl, inr, ⊎-elim, _↔_}
-use mathlib.Core.Bool.{Bool, true, false, cond, Bool-discrete}
+use mathlib.Core.Logic.{_⊎_, inl, inr, ⊎-elim}
+use mathlib.Core.Bool.{Bool, true, false, Bool-discrete}
 use mathlib.Core.List.{List, [], _∷_}
 use Prim.Native.Nat.{ℕ, zero, suc, _+_, _*_, _≤_, _<_, min, zero-le}
 use native.Mathlib.Nat.{le-antisymm}
@@ -113,27 +113,27 @@ module _ (sets next : List ℕ) (finals k : ℕ) where
   }
 
   module _ (c : List ℕ) where
-    abbrev Alone : ℕ → ℕ → Type 0
-    Alone = Same sets next finals k c
+    abbrev Together : ℕ → ℕ → Type 0
+    Together = Same sets next finals k c
 
-    same-flip : (s t : ℕ) → Alone s t → Alone t s
+    same-flip : (s t : ℕ) → Together s t → Together t s
     same-flip s t x = record { here = sym (x .here); kind = sym (x .kind); there = λ a l. sym (x .there a l) }
 
-    same-join : (s t u : ℕ) → Alone s t → Alone t u → Alone s u
+    same-join : (s t u : ℕ) → Together s t → Together t u → Together s u
     same-join s t u x y = record { here = x .here ∙ y .here; kind = x .kind ∙ y .kind; there = λ a l. x .there a l ∙ y .there a l }
 
-    same-keeps : (s t : ℕ) → Alone s t → classOf c s ≡ classOf c t
+    same-keeps : (s t : ℕ) → Together s t → classOf c s ≡ classOf c t
     same-keeps s t x = x .here
 
-    pub same-self : (s : ℕ) → Alone s s
+    pub same-self : (s : ℕ) → Together s s
     same-self s = record { here = refl; kind = refl; there = λ a l. refl }
 
     -- ---- a round
     module _ (part : Partition c) (d : List ℕ) (changed : Bool) (round : Round sets next finals k c d changed) where
-      round-split : (s t : ℕ) → s ≤ 512 → t ≤ 512 → classOf d s ≡ classOf d t → Alone s t
-      round-split = split Alone same-flip same-join (classOf c) (classOf d) same-keeps (round .least)
+      round-split : (s t : ℕ) → s ≤ 512 → t ≤ 512 → classOf d s ≡ classOf d t → Together s t
+      round-split = split Together same-flip same-join (classOf c) (classOf d) same-keeps (round .least)
 
-      round-apart : (s t : ℕ) → s ≤ 512 → t ≤ 512 → (Alone s t → ⊥) → Apart s t
+      round-apart : (s t : ℕ) → s ≤ 512 → t ≤ 512 → (Together s t → ⊥) → Apart s t
       round-apart s t hs ht ne = go (ℕ-discrete (classOf c s) (classOf c t)) (Bool-discrete (final sets finals s) (final sets finals t))
         where
           step : ((a : ℕ) × (a < k) × (classOf c (follow next s a) ≡ classOf c (follow next t a) → ⊥)) → Apart s t
@@ -154,9 +154,9 @@ module _ (sets next : List ℕ) (finals k : ℕ) where
       next-partition = record {
         cells = round .cells;
         low = λ s h. round .least s h .most;
-        self = own Alone same-flip same-join (classOf c) (classOf d) same-keeps (round .least);
+        self = own Together same-flip same-join (classOf c) (classOf d) same-keeps (round .least);
         apart = λ s t hs ht ne.
-            round-apart s t hs ht (λ x. ne (joined Alone same-flip same-join (classOf c) (classOf d) same-keeps (round .least) s t hs ht x));
+            round-apart s t hs ht (λ x. ne (joined Together same-flip same-join (classOf c) (classOf d) same-keeps (round .least) s t hs ht x));
       }
 
       -- the room falls where a class changed

@@ -84,7 +84,7 @@ module _ (sets next : List ℕ) (finals most k : ℕ) (class : List ℕ) where
       merged : (s : ℕ) → s ≡ startCount (set delegates q d) (q + 1) → s ≤ q + 1 → Merging (set own q (classOf class x)) (set delegates q d) s (q + 1)
       merged s e f =
           let same = stored (λ b y. y ≡ classOf class (numberOf sets most b)) own q (classOf class x) (omega (arith, before .own-cells)) (before .own-class)
-              (ap (classOf class) number) in
+          (ap (classOf class) number) in
           record {
             small = before .small;
             classes = before .classes;

@@ -1,14 +1,13 @@
 -- The laws of `numberIn` and `numberOf`: a search that passes no cell with the set and then finds one, or none, gives the number; and where
 -- {q} is among the sets, its number names it. Assumes nothing.
 use mathlib.Core.Path.{_≡_, refl, sym, ap, _∙_}
-use mathlib.Core.Bool.{true, false, cond}
 use mathlib.Core.List.{List, [], _∷_}
 use Prim.Native.Nat.{ℕ, zero, suc, _≤_, _<_, suc-le-suc, zero-le}
 use native.Mathlib.Omega.{arith}
+use borrow.Author.Tests.{lt-ltb, le-ltb, ltb-true, eq-eqb, ne-eqb, eqb-true}
 use lib.Dec.{eqb, ltb}
 use lib.ListN.{length, getD, take}
 use lib.Seq.{getD-take, length-take-le}
-use borrow.Author.Tests.{lt-ltb, le-ltb, ltb-true, eq-eqb, ne-eqb, eqb-true}
 use Rattle.masks.specs.Masks.{single}
 use Rattle.masks.proofs.Cases.{by-test}
 use Rattle.subsets.specs.Sets.{numberIn}
@@ -48,15 +47,15 @@ module _ (sets : List ℕ) (m q : ℕ) (long : m ≤ length sets) where
   unfolding numberOf
   found i h e none =
       let n : numberIn (take m sets) (single q) ≡ i =
-          number-at (take m sets) (single q) i (omega (arith, all)) (cell i h ∙ e)
-          (λ b l x. none b l (sym (cell b (omega arith)) ∙ x)) in
+      number-at (take m sets) (single q) i (omega (arith, all)) (cell i h ∙ e)
+      (λ b l x. none b l (sym (cell b (omega arith)) ∙ x)) in
       rw (n, lt-ltb i m h)
 
   pub missing : ((b : ℕ) → b < m → getD sets b 0 ≡ single q → ⊥) → 512 ≡ numberOf sets m q
   unfolding numberOf
   missing none =
       let n : numberIn (take m sets) (single q) ≡ m =
-          number-out (take m sets) (single q) (λ b l x. let s = rw all at l in none b s (sym (cell b s) ∙ x)) ∙ all in
+      number-out (take m sets) (single q) (λ b l x. let s = rw all at l in none b s (sym (cell b s) ∙ x)) ∙ all in
       rw (n, le-ltb m m (omega arith))
 
   pub named : (i : ℕ) → i < m → getD sets i 0 ≡ single q → (numberOf sets m q < m) × (getD sets (numberOf sets m q) 0 ≡ single q)

@@ -1,10 +1,10 @@
 -- Tests, and the answer of a test as what it decides. Assumes nothing.
-use mathlib.Core.Path.{_≡_, refl, sym, _∙_}
+use mathlib.Core.Path.{_≡_, refl, sym}
 use mathlib.Core.Logic.{_↔_}
 use mathlib.Core.Bool.{Bool, true, false, not, Bool·beq, true≢false, false≢true}
 use Prim.Native.Nat.{ℕ, _≤_, _<_}
-use lib.Dec.{leb}
 use borrow.Author.Tests.{leb-true, leb-false}
+use lib.Dec.{leb}
 use Rattle.masks.proofs.Cases.{by-test}
 
 pub confirmed : {P : Type 0} → P → (true ≡ true) ↔ P
@@ -24,9 +24,6 @@ agree true true t = refl
 agree true false t = absurd (true≢false t)
 agree false true t = absurd (true≢false t)
 agree false false t = refl
-
-pub denied : {P : Type 0} (b : Bool) → (b ≡ true) ↔ P → b ≡ false → P → ⊥
-denied b law f p = true≢false (sym (law .1 p) ∙ f)
 
 pub same-truth : (a b : Bool) → (a ≡ true) ↔ (b ≡ true) → a ≡ b
 same-truth true true law = refl

@@ -1,10 +1,10 @@
 -- `delegate` meets its contract. The loop's invariant: no state passed is in the class of q. Assumes nothing.
-use Rattle.delegates.specs.Classes.{classOf}
-use borrow.Author.Count.{below-none, below-more}
-use native.Mathlib.Omega.{arith}
-use Prim.Native.Nat.{ℕ, _-_, _≤_, _<_, zero-le}
 use mathlib.Core.Path.{_≡_, ap}
+use Prim.Native.Nat.{ℕ, _-_, _≤_, _<_, zero-le}
+use native.Mathlib.Omega.{arith}
+use borrow.Author.Count.{below-none, below-more}
 use borrow.Author.Needs.{needs}
+use Rattle.delegates.specs.Classes.{classOf}
 use Rattle.delegates.proofs.delegate.Statement.{statement}
 use Rattle.delegates.proofs.delegate.Tie as tie
 

@@ -1,12 +1,12 @@
 -- `least` meets its contract. The loop's invariant: no set passed goes with set s. Assumes nothing.
-use Rattle.delegates.proofs.Classes.{same-self}
-use Rattle.delegates.proofs.Tests.{denied}
-use Rattle.delegates.specs.Classes.{classOf, Same}
-use borrow.Author.Count.{below-more}
-use native.Mathlib.Omega.{arith}
+use mathlib.Core.Path.{_≡_, sym, _∙_}
+use mathlib.Core.Bool.{true≢false}
 use Prim.Native.Nat.{ℕ, _-_, _≤_, _<_}
-use mathlib.Core.Path.{_≡_}
+use native.Mathlib.Omega.{arith}
+use borrow.Author.Count.{below-more}
 use borrow.Author.Needs.{needs}
+use Rattle.delegates.specs.Classes.{classOf, Same}
+use Rattle.delegates.proofs.Classes.{same-self}
 use Rattle.delegates.proofs.least.Statement.{statement}
 use Rattle.delegates.proofs.least.Tie as tie
 
@@ -47,7 +47,7 @@ loop-again : tie.Need-loop-again Inv-loop μ-loop
 loop-again c =
     let l = c .before .before .before .before .loop in
     let s = c .before .same in
-    (omega arith, omega arith, below-more _ _ (l .inv .2) (λ h x. denied (s .result) (s .ensures) (c .if2 .left) x))
+    (omega arith, omega arith, below-more _ _ (l .inv .2) (λ h x. true≢false (sym (s .ensures .1 x) ∙ c .if2 .left)))
 
 returns-2 : tie.Need-returns-2 Inv-loop μ-loop
 returns-2 c =

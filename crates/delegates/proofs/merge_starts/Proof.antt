@@ -1,13 +1,12 @@
 -- `merge_starts` meets its contract. The loop's invariant is `Merging`. Assumes nothing.
-use Rattle.delegates.proofs.Merging.{Merging, begun, start, no-start}
-use Rattle.delegates.proofs.Numbers.{number-within}
-use Rattle.delegates.specs.Classes.{numberOf, Classes}
-use native.Mathlib.Omega.{arith}
-use Prim.Native.Nat.{ℕ, _-_, _≤_, min}
-use mathlib.Core.List.{List}
-use mathlib.Core.Logic.{⊎-elim}
 use mathlib.Core.Path.{_≡_, ap, _∙_}
+use mathlib.Core.Logic.{⊎-elim}
+use Prim.Native.Nat.{ℕ, _-_, _≤_, min}
+use native.Mathlib.Omega.{arith}
 use borrow.Author.Needs.{needs}
+use Rattle.delegates.specs.Classes.{numberOf, Classes}
+use Rattle.delegates.proofs.Numbers.{number-within}
+use Rattle.delegates.proofs.Merging.{Merging, begun, start, no-start}
 use Rattle.delegates.proofs.merge_starts.Statement.{statement}
 use Rattle.delegates.proofs.merge_starts.Tie as tie
 
@@ -90,7 +89,7 @@ loop-again c =
     let m = y .before .before .before in
     let a = m .before .before .before .before .args in
     let number : y .number-of .result .0 ≡ numberOf (a .sets .now) (min (a .count) 512) (l .q) =
-        y .number-of .ensures ∙ ap (λ (x : ℕ). numberOf (a .sets .now) x (l .q)) (m .before .before .before .at-most .ensures) in
+    y .number-of .ensures ∙ ap (λ (x : ℕ). numberOf (a .sets .now) x (l .q)) (m .before .before .before .at-most .ensures) in
     let d = c .before .before .delegate in
     let turn = start (a .sets .now) (a .next .now) (a .finals) (min (a .count) 512) (min (a .k) 16) (m .refine .result) (l .own) (l .delegates) (l .starts) (l .q) (l .inv .1) (omega arith) (y .number-of .result .0) (d .result .0) number (d .ensures) in
     let other = no-start (a .sets .now) (a .next .now) (a .finals) (min (a .count) 512) (min (a .k) 16) (m .refine .result) (l .own) (l .delegates) (l .starts) (l .q) (l .inv .1) (omega arith) (y .number-of .result .0) (d .result .0) number (d .ensures) in (

@@ -1,11 +1,11 @@
 -- `number_of` meets its contract. The loop's invariant: no set passed is {q}. Assumes nothing.
-use Rattle.delegates.proofs.Numbers.{found, missing}
-use lib.ListN.{getD}
-use borrow.Author.Count.{below-none, below-more}
-use native.Mathlib.Omega.{arith}
-use Prim.Native.Nat.{ℕ, _-_, _≤_, _<_}
 use mathlib.Core.Path.{_≡_, sym, _∙_}
+use Prim.Native.Nat.{ℕ, _-_, _≤_, _<_}
+use native.Mathlib.Omega.{arith}
+use borrow.Author.Count.{below-none, below-more}
 use borrow.Author.Needs.{needs}
+use lib.ListN.{getD}
+use Rattle.delegates.proofs.Numbers.{found, missing}
 use Rattle.delegates.proofs.number_of.Statement.{statement}
 use Rattle.delegates.proofs.number_of.Tie as tie
 

@@ -1,10 +1,8 @@
 -- `refine` meets its contract. The loop's invariant: the classes are a partition that no text contradicts. The measure is the room below 512
 -- that the class numbers leave: a round that changes one takes some of it. Assumes nothing.
-use Rattle.delegates.proofs.Classes.{Partition, started, next-partition, falls, done}
+use mathlib.Core.Path.{refl}
 use Rattle.delegates.proofs.Lists.{zero-cells, room}
-use native.Mathlib.Omega.{arith}
-use mathlib.Core.Path.{_≡_, refl}
-use borrow.Author.Needs.{needs}
+use Rattle.delegates.proofs.Classes.{Partition, started, next-partition, falls, done}
 use Rattle.delegates.proofs.refine.Statement.{statement}
 use Rattle.delegates.proofs.refine.Tie as tie
 

@@ -1,17 +1,17 @@
 -- `round` meets its contract. The loop's invariant: each set passed has its new class, and `changed` tells whether one of them changed.
 -- Assumes nothing.
-use Rattle.delegates.proofs.Lists.{stored}
-use Rattle.delegates.specs.Classes.{Least, classOf, Same}
+use mathlib.Core.Path.{_≡_}
+use mathlib.Core.Logic.{⊎-elim}
+use mathlib.Core.Bool.{Bool, true, false, true≢false, false≢true}
+use mathlib.Core.List.{List}
+use Prim.Native.Nat.{ℕ, _+_, _-_, _≤_, _<_}
+use native.Mathlib.Omega.{arith}
+use borrow.Author.Count.{below-none}
+use borrow.Author.Needs.{needs}
 use lib.Seq.{getD-set-same, getD-set-other}
 use lib.ListN.{length, set, length-set}
-use borrow.Author.Count.{below-none}
-use native.Mathlib.Omega.{arith}
-use Prim.Native.Nat.{ℕ, _+_, _-_, _≤_, _<_}
-use mathlib.Core.List.{List}
-use mathlib.Core.Bool.{Bool, true, false, true≢false, false≢true}
-use mathlib.Core.Logic.{⊎-elim}
-use mathlib.Core.Path.{_≡_}
-use borrow.Author.Needs.{needs}
+use Rattle.delegates.specs.Classes.{Least, classOf, Same}
+use Rattle.delegates.proofs.Lists.{stored}
 use Rattle.delegates.proofs.round.Statement.{statement}
 use Rattle.delegates.proofs.round.Tie as tie
 

@@ -1,12 +1,12 @@
 -- `same` meets its contract. The loop's invariant: the successors by each symbol passed are in one class. Assumes nothing.
-use Rattle.delegates.proofs.Classes.{follow-within}
-use Rattle.delegates.proofs.Tests.{confirmed, refuted, differ, agree}
-use Rattle.delegates.specs.Classes.{follow, classOf}
-use borrow.Author.Count.{below-none, below-more}
-use native.Mathlib.Omega.{arith}
-use Prim.Native.Nat.{ℕ, _-_, _≤_, _<_}
 use mathlib.Core.Path.{_≡_, sym, ap, _∙_}
+use Prim.Native.Nat.{ℕ, _-_, _≤_, _<_}
+use native.Mathlib.Omega.{arith}
+use borrow.Author.Count.{below-none, below-more}
 use borrow.Author.Needs.{needs}
+use Rattle.delegates.specs.Classes.{follow, classOf}
+use Rattle.delegates.proofs.Tests.{confirmed, refuted, differ, agree}
+use Rattle.delegates.proofs.Classes.{follow-within}
 use Rattle.delegates.proofs.same.Statement.{statement}
 use Rattle.delegates.proofs.same.Tie as tie
 
@@ -95,10 +95,10 @@ returns-3 c =
     let a = y .before .before .before .before .before .before .before .before .before .before .before .before .args in
     refuted
     (λ x.
-        c .if3 .taken
-        (ap (classOf (a .class .now)) (y .before .follow .ensures)
-        ∙ x .there (l .a) (y .before .before .loop-test .taken)
-        ∙ sym (ap (classOf (a .class .now)) (y .follow2 .ensures))))
+    c .if3 .taken
+    (ap (classOf (a .class .now)) (y .before .follow .ensures)
+    ∙ x .there (l .a) (y .before .before .loop-test .taken)
+    ∙ sym (ap (classOf (a .class .now)) (y .follow2 .ensures))))
 
 add-a : tie.Need-add-a Inv-loop μ-loop
 add-a c = search needs
@@ -113,7 +113,7 @@ loop-again c =
     let a = y .before .before .before .before .before .before .before .before .before .before .before .before .args in (
       omega arith,
       below-more _ _ (l .inv .1)
-      (sym (ap (classOf (a .class .now)) (y .before .follow .ensures)) ∙ c .if3 .left ∙ ap (classOf (a .class .now)) (y .follow2 .ensures)),
+          (sym (ap (classOf (a .class .now)) (y .before .follow .ensures)) ∙ c .if3 .left ∙ ap (classOf (a .class .now)) (y .follow2 .ensures)),
     )
 
 returns-4 : tie.Need-returns-4 Inv-loop μ-loop
