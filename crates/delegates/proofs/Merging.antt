@@ -1,13 +1,12 @@
 -- The loop that merges starts: its invariant, `Merging`, and that a turn keeps it. The states below q have the class of their set in `own` and
 -- their delegate in `delegates`, which has zeros from q on, and `starts` counts those that are their own delegate. Assumes nothing.
 use mathlib.Core.Path.{_≡_, refl, sym, ap, _∙_}
-use mathlib.Core.Bool.{cond}
+use mathlib.Core.Bool.{Bool, true, false, cond}
 use mathlib.Core.List.{List}
 use Prim.Native.Nat.{ℕ, zero, suc, _+_, _≤_, _<_}
 use native.Mathlib.Numerals.{add-one}
 use native.Mathlib.Omega.{arith}
 use borrow.Author.Count.{below-none}
-use borrow.Author.Tests.{eq-eqb, ne-eqb}
 use lib.Dec.{eqb}
 use lib.ListN.{length, getD, set, replicate, length-set}
 use lib.Seq.{getD-set-same, getD-set-other}
@@ -22,6 +21,10 @@ unfolding startCount
 count-set d q v zero h = refl
 count-set d q v (suc m) h =
     rw (count-set d q v m (omega arith), getD-set-other d q m v 0 (λ e. omega arith))
+
+one-at-most : (b : Bool) → cond b 1 0 ≤ 1
+one-at-most true = omega arith
+one-at-most false = omega arith
 
 module _ (sets next : List ℕ) (finals most k : ℕ) (class : List ℕ) where
   abbrev Kin : ℕ → ℕ → Type 0
@@ -81,9 +84,12 @@ module _ (sets next : List ℕ) (finals most k : ℕ) (class : List ℕ) where
       unfolding startCount
       counts = rw (add-one, count-set delegates q d q (omega arith), getD-set-same delegates q d 0 long, before .counted)
 
-      merged : (s : ℕ) → s ≡ startCount (set delegates q d) (q + 1) → s ≤ q + 1 → Merging (set own q (classOf class x)) (set delegates q d) s (q + 1)
-      merged s e f =
-          let same = stored (λ b y. y ≡ classOf class (numberOf sets most b)) own q (classOf class x) (omega (arith, before .own-cells)) (before .own-class)
+      pub turned : (s : ℕ) → s ≡ starts + cond (eqb d q) 1 0 → Merging (set own q (classOf class x)) (set delegates q d) s (q + 1)
+      turned s e =
+          let one = one-at-most (eqb d q) in
+          let same =
+          stored (λ b y. y ≡ classOf class (numberOf sets most b)) own q (classOf class x) (omega (arith, before .own-cells))
+          (before .own-class)
           (ap (classOf class) number) in
           record {
             small = before .small;
@@ -93,12 +99,6 @@ module _ (sets next : List ℕ) (finals most k : ℕ) (class : List ℕ) where
             cells = simp length-set (before .cells);
             least = stored (λ b y. Least Kin 0 b y) delegates q d long (before .least) (delegated (set own q (classOf class x)) d same lowest);
             zeros = λ b l. getD-set-other delegates q b d 0 (λ z. omega arith) ∙ before .zeros b (omega arith);
-            counted = e;
-            few = f;
+            counted = e ∙ sym counts;
+            few = omega (arith, before .few);
           }
-
-      pub start : d ≡ q → Merging (set own q (classOf class x)) (set delegates q d) (starts + 1) (q + 1)
-      start e = merged (starts + 1) (rw (counts, eq-eqb d q e)) (omega (arith, before .few))
-
-      pub no-start : (d ≡ q → ⊥) → Merging (set own q (classOf class x)) (set delegates q d) starts (q + 1)
-      no-start n = merged starts (rw (counts, ne-eqb d q n) (omega arith)) (omega (arith, before .few))

@@ -30,6 +30,7 @@ fn cells(class: &[u16; 513]) -> usize
     s.len()
 }
 
+// x, but no more than most.
 fn at_most(x: usize, most: usize) -> usize
     ensures { λ r. ⌜ r ≡ min x most ⌝ }
 {

@@ -1,12 +1,15 @@
 -- `merge_starts` meets its contract. The loop's invariant is `Merging`. Assumes nothing.
 use mathlib.Core.Path.{_≡_, ap, _∙_}
 use mathlib.Core.Logic.{⊎-elim}
-use Prim.Native.Nat.{ℕ, _-_, _≤_, min}
+use mathlib.Core.Bool.{cond}
+use Prim.Native.Nat.{ℕ, _+_, _-_, _≤_, min}
 use native.Mathlib.Omega.{arith}
 use borrow.Author.Needs.{needs}
+use borrow.Author.Tests.{eq-eqb, ne-eqb}
+use lib.Dec.{eqb}
 use Rattle.delegates.specs.Classes.{numberOf, Classes}
 use Rattle.delegates.proofs.Numbers.{number-within}
-use Rattle.delegates.proofs.Merging.{Merging, begun, start, no-start}
+use Rattle.delegates.proofs.Merging.{Merging, begun, turned}
 use Rattle.delegates.proofs.merge_starts.Statement.{statement}
 use Rattle.delegates.proofs.merge_starts.Tie as tie
 
@@ -32,7 +35,8 @@ refine-requires c κs = search needs
 loop-holds : tie.Need-loop-holds Inv-loop μ-loop
 loop-holds c =
     let a = c .before .before .before .before .args in
-    let classes : Classes (a .sets .now) (a .next .now) (a .finals) (min (a .k) 16) (c .refine .result) = rw (c .before .at-most3 .ensures) at (c .refine .ensures) in
+    let classes : Classes (a .sets .now) (a .next .now) (a .finals) (min (a .k) 16) (c .refine .result) =
+    rw (c .before .at-most3 .ensures) at (c .refine .ensures) in
     (omega arith, begun (a .sets .now) (a .next .now) (a .finals) (min (a .count) 512) (min (a .k) 16) (c .refine .result) (omega arith) classes)
 
 cast-t21 : tie.Need-cast-t21 Inv-loop μ-loop
@@ -88,16 +92,18 @@ loop-again c =
     let l = y .before .before .loop in
     let m = y .before .before .before in
     let a = m .before .before .before .before .args in
-    let number : y .number-of .result .0 ≡ numberOf (a .sets .now) (min (a .count) 512) (l .q) =
-    y .number-of .ensures ∙ ap (λ (x : ℕ). numberOf (a .sets .now) x (l .q)) (m .before .before .before .at-most .ensures) in
+    let x : ℕ = y .number-of .result .0 in
     let d = c .before .before .delegate in
-    let turn = start (a .sets .now) (a .next .now) (a .finals) (min (a .count) 512) (min (a .k) 16) (m .refine .result) (l .own) (l .delegates) (l .starts) (l .q) (l .inv .1) (omega arith) (y .number-of .result .0) (d .result .0) number (d .ensures) in
-    let other = no-start (a .sets .now) (a .next .now) (a .finals) (min (a .count) 512) (min (a .k) 16) (m .refine .result) (l .own) (l .delegates) (l .starts) (l .q) (l .inv .1) (omega arith) (y .number-of .result .0) (d .result .0) number (d .ensures) in (
+    let number : x ≡ numberOf (a .sets .now) (min (a .count) 512) (l .q) =
+    y .number-of .ensures ∙ ap (λ (z : ℕ). numberOf (a .sets .now) z (l .q)) (m .before .before .before .at-most .ensures) in
+    let counted : c .if1 .starts ≡ l .starts + cond (eqb (d .result .0) (l .q)) 1 0 =
+    ⊎-elim
+    (λ w. w .1 ∙ rw (eq-eqb (d .result .0) (l .q) (w .0 .taken)))
+    (λ w. w .1 ∙ rw (ne-eqb (d .result .0) (l .q) (w .0 .left)) (omega arith))
+    (c .if1 .came) in (
       omega arith,
-      ⊎-elim
-          (λ w. rw (w .1) (turn (w .0 .taken)))
-          (λ w. rw (w .1) (other (w .0 .left)))
-          (c .if1 .came),
+      turned (a .sets .now) (a .next .now) (a .finals) (min (a .count) 512) (min (a .k) 16) (m .refine .result)
+          (l .own) (l .delegates) (l .starts) (l .q) (l .inv .1) (omega arith) x (d .result .0) number (d .ensures) (c .if1 .starts) counted,
     )
 
 returns : tie.Need-returns Inv-loop μ-loop

@@ -87,7 +87,9 @@ loop-again c =
     let rest = stays cl (l .new) (l .s) t (l .changed) (omega arith) (l .inv .3) in (
       omega arith,
       simp length-set (l .inv .1),
-      stored (λ b x. Least (Same (a .sets .now) (a .next .now) (a .finals) (a .k) cl) (classOf cl b) b x) (l .new) (l .s) t (omega arith) (l .inv .2) (y .least .ensures),
+      stored (λ b x. Least (Same (a .sets .now) (a .next .now) (a .finals) (a .k) cl) (classOf cl b) b x) (l .new) (l .s) t (omega arith)
+          (l .inv .2)
+          (y .least .ensures),
       ⊎-elim
           (λ w. rw (w .1) (step (w .0 .taken)))
           (λ w. rw (w .1) (rest (let h = w .0 .left in omega arith)))

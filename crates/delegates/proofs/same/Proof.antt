@@ -11,10 +11,22 @@ use Rattle.delegates.proofs.same.Statement.{statement}
 use Rattle.delegates.proofs.same.Tie as tie
 
 abbrev Inv-loop : tie.InvT-loop
-Inv-loop sets next finals k class t s i j f g a₀ a = (a ≤ k) × ((b : ℕ) → b < a → classOf class (follow next (t .0) b) ≡ classOf class (follow next (s .0) b))
+Inv-loop sets next finals k class t s i j f g a₀ a =
+    (a ≤ k) × ((b : ℕ) → b < a → classOf class (follow next (t .0) b) ≡ classOf class (follow next (s .0) b))
 
 abbrev μ-loop : tie.MeasureT-loop
 μ-loop sets next finals k class t s i j f g a₀ a = k - a
+
+-- a successor's number is an index of the classes
+x-within : (c : tie.After-follow Inv-loop μ-loop) → c .follow .result .0 ≤ 512
+x-within c =
+    let a = c .before .before .before .before .before .before .before .before .before .before .before .args in
+    omega (arith, c .follow .ensures, follow-within (a .next .now) (a .t .0) (c .before .before .loop .a))
+
+y-within : (c : tie.After-follow2 Inv-loop μ-loop) → c .follow2 .result .0 ≤ 512
+y-within c =
+    let a = c .before .before .before .before .before .before .before .before .before .before .before .before .args in
+    omega (arith, c .follow2 .ensures, follow-within (a .next .now) (a .s .0) (c .before .before .before .loop .a))
 
 cast-i : tie.Need-cast-i Inv-loop μ-loop
 cast-i c = search needs
@@ -65,28 +77,16 @@ cast-v : tie.Need-cast-v Inv-loop μ-loop
 cast-v c = search needs
 
 mul-if3 : tie.Need-mul-if3 Inv-loop μ-loop
-mul-if3 c =
-    let y = c .before .before .before in
-    let a = y .before .before .before .before .before .before .before .before .before .before .before .args in
-    omega (arith, y .follow .ensures, follow-within (a .next .now) (a .t .0) (y .before .before .loop .a))
+mul-if3 c = omega (arith, x-within (c .before .before .before))
 
 element-copy-out-if3 : tie.Need-element-copy-out-if3 Inv-loop μ-loop
-element-copy-out-if3 c =
-    let y = c .before .before .before in
-    let a = y .before .before .before .before .before .before .before .before .before .before .before .args in
-    omega (arith, y .follow .ensures, follow-within (a .next .now) (a .t .0) (y .before .before .loop .a))
+element-copy-out-if3 c = omega (arith, x-within (c .before .before .before))
 
 mul-if3-2 : tie.Need-mul-if3-2 Inv-loop μ-loop
-mul-if3-2 c =
-    let y = c .before .before .before in
-    let a = y .before .before .before .before .before .before .before .before .before .before .before .before .args in
-    omega (arith, y .follow2 .ensures, follow-within (a .next .now) (a .s .0) (y .before .before .before .loop .a))
+mul-if3-2 c = omega (arith, y-within (c .before .before .before))
 
 element-copy-out-if3-2 : tie.Need-element-copy-out-if3-2 Inv-loop μ-loop
-element-copy-out-if3-2 c =
-    let y = c .before .before .before in
-    let a = y .before .before .before .before .before .before .before .before .before .before .before .before .args in
-    omega (arith, y .follow2 .ensures, follow-within (a .next .now) (a .s .0) (y .before .before .before .loop .a))
+element-copy-out-if3-2 c = omega (arith, y-within (c .before .before .before))
 
 returns-3 : tie.Need-returns-3 Inv-loop μ-loop
 returns-3 c =
