@@ -1,0 +1,165 @@
+-- Acceptance over the table of a rule is acceptance in its automaton, so alike sets {p} and {q} are alike states, and what merge_starts
+-- ensures makes the delegates and the starts of the automaton. Assumes what crates/subsets claims of the numbered sets, a well-formed rule and
+-- at most 512 sets.
+--
+-- A text leads from set number i to the number of the successor of set i by that text, or to 512 where it is empty; by induction over the text,
+-- one cell a symbol. The members of the successor of {q} are the states that runs from q lead to. And {q}, reached by the empty text, has a number.
+use mathlib.Core.Path.{_≡_, refl, sym, ap, _∙_, subst}
+use mathlib.Core.Logic.{_↔_}
+use mathlib.Core.Bool.{true, false}
+use mathlib.Core.List.{List, [], _∷_}
+use Prim.Native.Nat.{ℕ, _+_, _*_, _/_, _%_, _≤_, _<_, min, zero-le}
+use native.Mathlib.Omega.{arith}
+use borrow.Author.Tests.{ltb-false, eqb-true, eqb-false}
+use lib.Dec.{eqb}
+use lib.ListN.{length, getD}
+use lib.Pow.{pow-lt, pow-pos}
+use Rattle.masks.specs.Masks.{single, shares}
+use Rattle.masks.proofs.Cases.{by-test}
+use Rattle.masks.proofs.Laws.{single-law, shares-law}
+use Rattle.masks.proofs.Lists.{length-listFrom, cell-of}
+use Rattle.automaton.specs.declared.Rule.{Rule}
+use Rattle.automaton.specs.Automaton.{Run}
+use Rattle.automaton.specs.Rules.{automatonOf, WellFormed}
+use Rattle.automaton.specs.Successor.{successor, after}
+use Rattle.automaton.proofs.Laws.{after-law, after-empty}
+use Rattle.subsets.specs.Sets.{tooMany, nextSet, setCells, nextCells}
+use Rattle.subsets.specs.Claims.{Claims as SubsetsClaims, sets, next, fits}
+use Rattle.delegates.specs.declared.Starts.{Starts}
+use Rattle.delegates.specs.Alike.{AcceptsFrom, Text, Alike, Delegate, Merged}
+use Rattle.delegates.specs.Classes.{follow, Least, numberOf, accepted, AlikeSets}
+use Rattle.delegates.specs.Claims.{MergedRule}
+use Rattle.delegates.proofs.Tests.{same-truth, le-by}
+use Rattle.delegates.proofs.Numbers.{named}
+use Rattle.delegates.proofs.Classes.{final-set, final-empty, follow-set, follow-empty}
+use Rattle.delegates.proofs.Alike.{alike-back}
+
+-- from the empty set nothing is accepted
+accepted-empty : (sets next : List ℕ) (finals : ℕ) (w : List ℕ) → accepted sets next finals 512 w ≡ false
+unfolding accepted
+accepted-empty sets next finals [] = final-empty sets finals 512 (omega arith)
+accepted-empty sets next finals (a ∷ w) = rw (follow-empty next 512 a (omega arith)) (accepted-empty sets next finals w)
+
+module _ (given : SubsetsClaims) (r : Rule) (good : WellFormed r) (fit : fits r) where
+  masks : List ℕ
+  masks = setCells (r .targets) (r .n) (r .k)
+
+  cells : List ℕ
+  cells = nextCells (r .targets) (r .n) (r .k)
+
+  few : length (sets r) ≤ 512
+  unfolding tooMany
+  few = ltb-false 512 (length (sets r)) fit
+
+  -- ---- the arrays
+  mask-at : (i : ℕ) → i < length (sets r) → getD masks i 0 ≡ getD (sets r) i 0
+  unfolding masks
+  mask-at i h = cell-of 512 (λ j. getD (sets r) j 0) i 0 (omega (arith, few))
+
+  cell-at : (i s : ℕ) → i < 512 → s < 16 → getD cells (i * 16 + s) 0 ≡ next r i s
+  unfolding cells
+  cell-at i s h l =
+      let d : (i * 16 + s) / 16 ≡ i = omega arith in
+      let m : (i * 16 + s) % 16 ≡ s = omega arith in
+      cell-of 8192 (λ c. nextSet (r .targets) (r .n) (r .k) (c / 16) (c % 16)) (i * 16 + s) 0 (omega arith) ∙ rw (d, m)
+
+  follow-cell : (i s : ℕ) → i < length (sets r) → s < r .k → follow cells i s ≡ min (next r i s) 512
+  follow-cell i s h l =
+      follow-set cells i s (omega (arith, few)) ∙ ap (λ (x : ℕ). min x 512) (cell-at i s (omega (arith, few)) (omega (arith, good .symbols)))
+
+  -- ---- acceptance over the table
+  accepted-law : (w : List ℕ) → Text (r .k) w → (i : ℕ) → i < length (sets r)
+      → accepted masks cells (r .finals) i w ≡ shares (after (r .targets) (getD (sets r) i 0) w) (r .finals)
+  unfolding accepted
+  accepted-law [] x i h = final-set masks (r .finals) i (omega (arith, few)) ∙ ap (λ (m : ℕ). shares m (r .finals)) (mask-at i h)
+  accepted-law (s ∷ w) x i h =
+      let m : ℕ = successor (r .targets) (getD (sets r) i 0) s in
+      let cell = given .cell r good fit i s h (x .0) in
+      by-test (eqb m 0)
+      (λ t.
+      let z = eqb-true m 0 t in
+      let e : follow cells i s ≡ 512 = follow-cell i s h (x .0) ∙ ap (λ (y : ℕ). min y 512) (cell .0 z) in
+      rw e (accepted-empty masks cells (r .finals) w)
+      ∙ sym (ap (λ (y : ℕ). shares (after (r .targets) y w) (r .finals)) z ∙ ap (λ (y : ℕ). shares y (r .finals)) (after-empty (r .targets) w)))
+      (λ t.
+      let there = cell .1 (eqb-false m 0 t) in
+      let e : follow cells i s ≡ next r i s = follow-cell i s h (x .0) ∙ omega (arith, there .0, few) in
+      rw e (accepted-law w (x .1) (next r i s) (there .0))
+      ∙ ap (λ (y : ℕ). shares (after (r .targets) y w) (r .finals)) (there .1))
+
+  -- ---- acceptance in the automaton
+  from-law : (q : ℕ) → q < r .n → (w : List ℕ) → AcceptsFrom (automatonOf r) q w ↔ (shares (after (r .targets) (single q) w) (r .finals) ≡ true)
+  from-law q h w = (
+    (λ t.
+        shares-law (after (r .targets) (single q) w) (r .finals) .1
+        (t .to, after-law r good (single q) (t .to) w (pow-lt h) .1 (record { from = q; member = single-law q q .1 refl; run = t .run }), t .ends)),
+    λ e.
+        let u = shares-law (after (r .targets) (single q) w) (r .finals) .0 e in
+        let t = after-law r good (single q) (u .0) w (pow-lt h) .0 (u .1) in
+        record { to = u .0; ends = u .2; run = subst (λ (p : ℕ). Run (automatonOf r) p w (u .0)) (single-law q (t .from) .0 (t .member)) (t .run) },
+  )
+
+  -- ---- the number of {q}
+  numbered : ℕ → ℕ
+  numbered q = numberOf masks (min (length (sets r)) 512) q
+
+  names : (q : ℕ) → q < r .n → (numbered q < length (sets r)) × (getD (sets r) (numbered q) 0 ≡ single q)
+  unfolding numbered masks
+  names q h =
+      let there = given .complete r good fit (single q) (record {
+        some-state = λ z. omega (arith, pow-pos q);
+        state = q;
+        below = h;
+        text = [];
+        leads = refl;
+      }) in
+      let len : length masks ≡ 512 = length-listFrom 0 512 (λ j. getD (sets r) j 0) in
+      let f = few in
+      let found = named masks (min (length (sets r)) 512) q (omega arith) (there .0) (omega (arith, there .1)) (mask-at (there .0) (there .1) ∙ there .2) in
+      let l : numbered q < length (sets r) = omega (arith, found .0) in
+      (l, sym (mask-at (numbered q) l) ∙ found .1)
+
+  -- ---- alike sets and alike states
+  state-law : (q : ℕ) → q < r .n → (w : List ℕ) → Text (r .k) w
+      → AcceptsFrom (automatonOf r) q w ↔ (accepted masks cells (r .finals) (numbered q) w ≡ true)
+  state-law q h w x =
+      let number = names q h in
+      let e : accepted masks cells (r .finals) (numbered q) w ≡ shares (after (r .targets) (single q) w) (r .finals) =
+      accepted-law w x (numbered q) (number .0) ∙ ap (λ (m : ℕ). shares (after (r .targets) m w) (r .finals)) (number .1) in
+      (λ t. e ∙ from-law q h w .0 t, λ t. from-law q h w .1 (sym e ∙ t))
+
+  alike-law : (p q : ℕ) → p < r .n → q < r .n → AlikeSets masks cells (r .finals) (r .k) (numbered p) (numbered q) ↔ Alike (automatonOf r) p q
+  alike-law p q hp hq = (
+    (λ h w x.
+        let a = state-law p hp w x in
+        let b = state-law q hq w x in
+        (λ t. b .1 (sym (h w x) ∙ a .0 t), λ t. a .1 (h w x ∙ b .0 t))),
+    λ h w x.
+        let a = state-law p hp w x in
+        let b = state-law q hq w x in
+        same-truth (accepted masks cells (r .finals) (numbered p) w) (accepted masks cells (r .finals) (numbered q) w)
+        (λ t. b .0 (h w x .0 (a .1 t)), λ t. a .0 (h w x .1 (b .1 t))),
+  )
+
+  -- ---- the delegates
+  delegate-of : (q d : ℕ) → q < r .n → Least (λ p u. AlikeSets masks cells (r .finals) (r .k) (numbered p) (numbered u)) 0 q d
+      → Delegate (automatonOf r) q d
+  delegate-of q d h x =
+      let below : d < r .n = omega (arith, x .most) in
+      record {
+        state = below;
+        alike = alike-back (automatonOf r) d q (alike-law d q below h .0 (x .has));
+        lowest = λ p l y. le-by d p (λ b. x .first p zero-le b (alike-law p q l h .1 (alike-back (automatonOf r) q p y)));
+      }
+
+  pub merged : (s : Starts) → MergedRule r s → Merged (automatonOf r) (s .delegates) (s .count)
+  unfolding masks cells numbered
+  merged s m =
+      let n : min (r .n) 32 ≡ r .n = omega (arith, good .states) in
+      let k : min (r .k) 16 ≡ r .k = omega (arith, good .symbols) in
+      record {
+        cells = m .cells;
+        delegates = λ q h. delegate-of q (getD (s .delegates) q 0) h (rw k at (m .delegates q (omega arith)));
+        zeros = λ q h. m .zeros q (omega arith);
+        starts = rw n at (m .starts);
+      }

@@ -1,0 +1,161 @@
+-- `same` meets its contract. The loop's invariant: the successors by each symbol passed are in one class. Assumes nothing.
+use mathlib.Core.Path.{_≡_, sym, ap, _∙_}
+use Prim.Native.Nat.{ℕ, _-_, _≤_, _<_}
+use native.Mathlib.Omega.{arith}
+use borrow.Author.Count.{below-none, below-more}
+use borrow.Author.Needs.{needs}
+use Rattle.delegates.specs.Classes.{follow, classOf}
+use Rattle.delegates.proofs.Tests.{confirmed, refuted, differ, agree}
+use Rattle.delegates.proofs.Classes.{follow-within}
+use Rattle.delegates.proofs.same.Statement.{statement}
+use Rattle.delegates.proofs.same.Tie as tie
+
+abbrev Inv-loop : tie.InvT-loop
+Inv-loop sets next finals k class t s i j f g a₀ a =
+    (a ≤ k) × ((b : ℕ) → b < a → classOf class (follow next (t .0) b) ≡ classOf class (follow next (s .0) b))
+
+abbrev μ-loop : tie.MeasureT-loop
+μ-loop sets next finals k class t s i j f g a₀ a = k - a
+
+-- a successor's number is an index of the classes
+x-within : (c : tie.After-follow Inv-loop μ-loop) → c .follow .result .0 ≤ 512
+x-within c =
+    let a = c .before .before .before .before .before .before .before .before .before .before .before .args in
+    omega (arith, c .follow .ensures, follow-within (a .next .now) (a .t .0) (c .before .before .loop .a))
+
+y-within : (c : tie.After-follow2 Inv-loop μ-loop) → c .follow2 .result .0 ≤ 512
+y-within c =
+    let a = c .before .before .before .before .before .before .before .before .before .before .before .before .args in
+    omega (arith, c .follow2 .ensures, follow-within (a .next .now) (a .s .0) (c .before .before .before .loop .a))
+
+cast-i : tie.Need-cast-i Inv-loop μ-loop
+cast-i c = search needs
+
+cast-j : tie.Need-cast-j Inv-loop μ-loop
+cast-j c = search needs
+
+mul-if1 : tie.Need-mul-if1 Inv-loop μ-loop
+mul-if1 c = search needs
+
+element-copy-out-if1 : tie.Need-element-copy-out-if1 Inv-loop μ-loop
+element-copy-out-if1 c = search needs
+
+mul-if1-2 : tie.Need-mul-if1-2 Inv-loop μ-loop
+mul-if1-2 c = search needs
+
+element-copy-out-if1-2 : tie.Need-element-copy-out-if1-2 Inv-loop μ-loop
+element-copy-out-if1-2 c = search needs
+
+returns : tie.Need-returns Inv-loop μ-loop
+returns c = refuted (λ x. c .if1 .taken (x .here))
+
+is-final-requires : tie.Need-is-final-requires Inv-loop μ-loop
+is-final-requires c κs = search needs
+
+is-final-requires-2 : tie.Need-is-final-requires-2 Inv-loop μ-loop
+is-final-requires-2 c κs = search needs
+
+returns-2 : tie.Need-returns-2 Inv-loop μ-loop
+returns-2 c =
+    let f = c .before .before .is-final in
+    let g = c .before .is-final2 in
+    refuted (λ x. differ (f .result) (g .result) (c .if2 .taken) (f .ensures ∙ x .kind ∙ sym (g .ensures)))
+
+loop-holds : tie.Need-loop-holds Inv-loop μ-loop
+loop-holds c = (omega arith, below-none _)
+
+follow-requires : tie.Need-follow-requires Inv-loop μ-loop
+follow-requires c κs = search needs
+
+follow-requires-2 : tie.Need-follow-requires-2 Inv-loop μ-loop
+follow-requires-2 c κs = search needs
+
+cast-u : tie.Need-cast-u Inv-loop μ-loop
+cast-u c = search needs
+
+cast-v : tie.Need-cast-v Inv-loop μ-loop
+cast-v c = search needs
+
+mul-if3 : tie.Need-mul-if3 Inv-loop μ-loop
+mul-if3 c = omega (arith, x-within (c .before .before .before))
+
+element-copy-out-if3 : tie.Need-element-copy-out-if3 Inv-loop μ-loop
+element-copy-out-if3 c = omega (arith, x-within (c .before .before .before))
+
+mul-if3-2 : tie.Need-mul-if3-2 Inv-loop μ-loop
+mul-if3-2 c = omega (arith, y-within (c .before .before .before))
+
+element-copy-out-if3-2 : tie.Need-element-copy-out-if3-2 Inv-loop μ-loop
+element-copy-out-if3-2 c = omega (arith, y-within (c .before .before .before))
+
+returns-3 : tie.Need-returns-3 Inv-loop μ-loop
+returns-3 c =
+    let y = c .before .before .before .before .before in
+    let l = y .before .before .before .loop in
+    let a = y .before .before .before .before .before .before .before .before .before .before .before .before .args in
+    refuted
+    (λ x.
+    c .if3 .taken
+    (ap (classOf (a .class .now)) (y .before .follow .ensures)
+    ∙ x .there (l .a) (y .before .before .loop-test .taken)
+    ∙ sym (ap (classOf (a .class .now)) (y .follow2 .ensures))))
+
+add-a : tie.Need-add-a Inv-loop μ-loop
+add-a c = search needs
+
+loop-less : tie.Need-loop-less Inv-loop μ-loop
+loop-less c = search needs
+
+loop-again : tie.Need-loop-again Inv-loop μ-loop
+loop-again c =
+    let y = c .before .before .before .before .before in
+    let l = y .before .before .before .loop in
+    let a = y .before .before .before .before .before .before .before .before .before .before .before .before .args in (
+      omega arith,
+      below-more _ _ (l .inv .1)
+          (sym (ap (classOf (a .class .now)) (y .before .follow .ensures)) ∙ c .if3 .left ∙ ap (classOf (a .class .now)) (y .follow2 .ensures)),
+    )
+
+returns-4 : tie.Need-returns-4 Inv-loop μ-loop
+returns-4 c =
+    let l = c .before .loop in
+    let y = c .before .before in
+    let f = y .before .before .is-final in
+    let g = y .before .is-final2 in
+    confirmed
+    (record {
+      here = y .before .before .before .if1 .left;
+      kind = sym (f .ensures) ∙ agree (f .result) (g .result) (y .if2 .left) ∙ g .ensures;
+      there = λ a h. l .inv .1 a (omega arith);
+    })
+
+pub same-spec : {M : Type 1} → statement M
+same-spec =
+    tie.close
+    (tie.spec
+    Inv-loop
+    μ-loop
+    cast-i
+    cast-j
+    mul-if1
+    element-copy-out-if1
+    mul-if1-2
+    element-copy-out-if1-2
+    returns
+    is-final-requires
+    is-final-requires-2
+    returns-2
+    loop-holds
+    follow-requires
+    follow-requires-2
+    cast-u
+    cast-v
+    mul-if3
+    element-copy-out-if3
+    mul-if3-2
+    element-copy-out-if3-2
+    returns-3
+    add-a
+    loop-less
+    loop-again
+    returns-4)

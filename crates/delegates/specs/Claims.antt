@@ -1,0 +1,33 @@
+-- What makes the delegates believable; proofs/Claims.antt proves it, from what crates/subsets claims of the numbered sets.
+use mathlib.Core.Path.{_≡_}
+use mathlib.Core.Logic.{_↔_}
+use mathlib.Core.List.{List}
+use Prim.Native.Nat.{ℕ, _<_}
+use lib.ListN.{length, getD}
+use Rattle.automaton.specs.declared.Rule.{Rule}
+use Rattle.automaton.specs.Automaton.{Automaton}
+use Rattle.automaton.specs.Rules.{automatonOf, WellFormed}
+use Rattle.subsets.specs.Sets.{setsOf, setCells, nextCells}
+use Rattle.subsets.specs.Claims.{fits}
+use Rattle.delegates.specs.declared.Starts.{Starts}
+use Rattle.delegates.specs.Alike.{Alike, Delegate, Merged}
+use Rattle.delegates.specs.Classes.{MergedSets}
+
+-- what merge_starts ensures of s, for the arrays of the rule r
+abbrev pub MergedRule : Rule → Starts → Type 0
+MergedRule r s =
+    MergedSets (setCells (r .targets) (r .n) (r .k)) (nextCells (r .targets) (r .n) (r .k)) (r .finals) (length (setsOf (r .targets) (r .n) (r .k))) (r .n) (r .k) s
+
+pub record Claims : Type 1 where
+  -- of a well-formed rule with at most 512 sets, merge_starts finds the delegates and the number of starts of the automaton
+  pub merged : (r : Rule) → WellFormed r → fits r → (s : Starts) → MergedRule r s → Merged (automatonOf r) (s .delegates) (s .count)
+  -- alike is an equivalence
+  pub alike-self : (a : Automaton) (q : ℕ) → Alike a q q
+  pub alike-back : (a : Automaton) (q r : ℕ) → Alike a q r → Alike a r q
+  pub alike-on : (a : Automaton) (q r s : ℕ) → Alike a q r → Alike a r s → Alike a q s
+  -- a state has one delegate at most; two states have the same one exactly where they are alike
+  pub one-delegate : (a : Automaton) (q d e : ℕ) → Delegate a q d → Delegate a q e → d ≡ e
+  pub same-delegate : (a : Automaton) (q r d e : ℕ) → Delegate a q d → Delegate a r e → Alike a q r ↔ d ≡ e
+  -- a delegate is its own delegate, so it is a start
+  pub own-delegate : (a : Automaton) (q d : ℕ) → Delegate a q d → Delegate a d d
+  pub delegates-start : (a : Automaton) (d : List ℕ) (m : ℕ) → Merged a d m → (q : ℕ) → q < a .n → getD d (getD d q 0) 0 ≡ getD d q 0

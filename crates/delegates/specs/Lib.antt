@@ -1,0 +1,4 @@
+-- In the order in which to read them.
+pub mod Alike
+pub mod Classes
+pub mod Claims
