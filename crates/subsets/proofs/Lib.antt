@@ -1,1 +1,4 @@
+-- In the order in which they build on each other.
+pub mod Numbers
+pub mod Arrays
 pub mod Examples

@@ -1,0 +1,53 @@
+use borrow.Author.Needs.{needs}
+use Rattle.subsets.proofs.add_state.Statement.{statement}
+use Rattle.subsets.proofs.add_state.Tie as tie
+use Rattle.subsets.proofs.add_state.Reads as reads
+use Rattle.subsets.proofs.add_state.Lts as lts
+use Rattle.masks.proofs.singleton.Reads as singleton-reads
+use Rattle.subsets.proofs.expand.Reads as expand-reads
+use Rattle.subsets.proofs.number.Reads as number-reads
+
+-- src/lib.rt:138:31
+singleton-requires : tie.Need-singleton-requires
+singleton-requires c κs = search needs
+
+-- src/lib.rt:138:11
+number-requires : tie.Need-number-requires
+number-requires c κs = ?
+
+-- src/lib.rt:139:25
+enum-known-after : tie.Need-enum-known-after
+enum-known-after c = search needs
+
+-- src/lib.rt:139:76
+cast-t14 : tie.Need-cast-t14
+cast-t14 c = search needs
+
+-- src/lib.rt:139:35
+expand-requires : tie.Need-expand-requires
+expand-requires c κs = ?
+
+-- src/lib.rt:140:27
+enum-told : tie.Need-enum-told
+enum-told c = search needs
+
+-- src/lib.rt:127:1
+returns : tie.Need-returns
+returns c = ?
+
+-- src/lib.rt:127:1
+returns-2 : tie.Need-returns-2
+returns-2 c = ?
+
+pub add-state-spec : {M : Type 1} → statement M
+add-state-spec =
+    tie.close
+    (tie.spec
+    singleton-requires
+    number-requires
+    enum-known-after
+    cast-t14
+    expand-requires
+    enum-told
+    returns
+    returns-2)
