@@ -109,14 +109,14 @@ found-not l m e = go (ltb (numberIn l m) (length l)) refl e
     go true t h = absurd (let z : _≡_ {A = ℕ} 0 1 = cc in omega arith)
     go false t h = ltb-false (numberIn l m) (length l) t
 
-module _ (sets : List ℕ) (count m : ℕ) (most : count ≤ 512) (are : sets ≡ cellsOf (take count sets)) where
+module _ (sets : List ℕ) (count : ℕ) (most : count ≤ 512) (are : sets ≡ cellsOf (take count sets)) where
   pub sets-long : length sets ≡ 512
   sets-long = ap length are ∙ cells-long (take count sets)
 
   pub count-is : length (take count sets) ≡ count
   count-is = length-take-le count sets (omega (arith, sets-long))
 
-  module _ (ne : m ≡ 0 → ⊥) where
+  module _ (m : ℕ) (ne : m ≡ 0 → ⊥) where
     pub entered-kept : (j : SetNumber) → foundIn (take count sets) m ≡ At j → Entered (take count sets) m (As j count) sets
     entered-kept j e =
         let l = take count sets in
@@ -190,7 +190,7 @@ module _ (ts sets next : List ℕ) (count i s m : ℕ) (most : count ≤ 512) (a
 
   pub stepped-empty : m ≡ 0 → Stepped ts before i s (Whole count) sets next next
   stepped-empty z =
-      let n : length before ≡ count = count-is sets count m most are in
+      let n : length before ≡ count = count-is sets count most are in
       let e : target ts before i s ≡ 0 = sym is-target ∙ z in
       let k : afterStep ts before i s ≡ before = numbered-empty before (target ts before i s) e in
       record {

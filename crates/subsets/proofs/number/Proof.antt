@@ -39,21 +39,21 @@ returns : tie.Need-returns
 returns c =
     let s = c .before .before .before .before .before in
     let a = s .args in
-    entered-kept (a .sets .now) (a .count) (a .set) (s .pre .0) (s .pre .1) (s .pre .2) (c .before .number .given .0 .0) (cc)
+    entered-kept (a .sets .now) (a .count) (s .pre .0) (s .pre .1) (a .set) (s .pre .2) (c .before .number .given .0 .0) (cc)
 
 -- src/lib.rt:50:1
 returns-2 : tie.Need-returns-2
 returns-2 c =
     let s = c .before .before .before .before .before in
     let a = s .args in
-    entered-taken (a .sets .now) (a .count) (a .set) (s .pre .0) (s .pre .1) (s .pre .2) (c .if1 .taken) (cc)
+    entered-taken (a .sets .now) (a .count) (s .pre .0) (s .pre .1) (a .set) (s .pre .2) (c .if1 .taken) (cc)
 
 -- src/lib.rt:50:1
 returns-3 : tie.Need-returns-3
 returns-3 c =
     let s = c .before .before .before .before .before in
     let a = s .args in
-    entered-full (a .sets .now) (a .count) (a .set) (s .pre .0) (s .pre .1) (s .pre .2) (c .if1 .left) (cc)
+    entered-full (a .sets .now) (a .count) (s .pre .0) (s .pre .1) (a .set) (s .pre .2) (c .if1 .left) (cc)
 
 pub number-spec : {M : Type 1} → statement M
 number-spec =
