@@ -8,7 +8,7 @@
 --   Holds             what the two arrays hold while sets are expanded
 use mathlib.Core.Path.{_≡_}
 use mathlib.Core.Bool.{cond, _&&_}
-use mathlib.Core.List.{List, _++_}
+use mathlib.Core.List.{List, [], _++_}
 use mathlib.Core.Option.{Option, some, none}
 use Prim.Native.Nat.{ℕ, _+_, _*_, _/_, _%_, _≤_, _<_}
 use lib.Dec.{eqb, ltb}
@@ -37,6 +37,11 @@ cellsOf l = listFrom 0 512 (λ i. getD l i 0)
 pub record Entered (l : List ℕ) (m : ℕ) (r : Numbered) (sets : List ℕ) : Type 0 where
   pub number : r ≡ cond (ltb 512 (length (numbered l m))) Full (As (record { 0 = numberIn (numbered l m) m }) (length (numbered l m)))
   pub sets-are : length (numbered l m) ≤ 512 → sets ≡ cellsOf (numbered l m)
+
+-- nothing is numbered
+pub record Cleared (sets next : List ℕ) : Type 0 where
+  pub sets-are : sets ≡ cellsOf []
+  pub next-are : next ≡ listFrom 0 8192 (λ _. 512)
 
 -- set i of the sets l was expanded by the symbol s
 module _ (ts l : List ℕ) (i s : ℕ) where

@@ -3,7 +3,7 @@ ghost use mathlib.Core.Path.{_≡_};
 ghost use Prim.Native.Nat.{_*_, _≤_, _<_, min};
 ghost use lib.ListN.{length, take};
 ghost use Rattle.subsets.specs.Answer.{Answered};
-ghost use Rattle.subsets.specs.Steps.{foundIn, cellsOf, Entered, Stepped, Holds, Grown, grownBy, closedFrom};
+ghost use Rattle.subsets.specs.Steps.{foundIn, cellsOf, Entered, Stepped, Holds, Grown, grownBy, closedFrom, Cleared};
 use masks::StateNumber;
 
 // The number of a set, which is never the number of a state.
@@ -141,6 +141,14 @@ fn add_state(
     }
 }
 
+// Every cell says that it is not in use.
+fn clear(sets: &mut [u32; 512], next: &mut [u16; 8192])
+    ensures { λ _. ⌜ Cleared (now (sets .exit)) (now (next .exit)) ⌝ }
+{
+    *sets = [0u32; 512];
+    *next = [512u16; 8192];
+}
+
 // The numbered sets and the next-set table of a rule with n states and k symbols; a value of n above 32 is taken for 32.
 // Where the 513th set turns up, what is left in the two arrays is free.
 pub fn number_sets(
@@ -152,8 +160,7 @@ pub fn number_sets(
 ) -> Numbering
     ensures { λ r. ⌜ Answered (now (targets .entry)) n k r (now (sets .exit)) (now (next .exit)) ⌝ }
 {
-    *sets = [0u32; 512];
-    *next = [512u16; 8192];
+    clear(sets, next);
     let mut count: usize = 0;
     for q in 0..states(n) {
         match add_state(targets, k, sets, next, count, StateNumber(q)) {

@@ -1,4 +1,7 @@
+use native.Mathlib.Omega.{arith}
+use lib.Pow.{pow-pos}
 use borrow.Author.Needs.{needs}
+use Rattle.subsets.proofs.Turns.{state-asked, state-grown, state-over}
 use Rattle.subsets.proofs.add_state.Statement.{statement}
 use Rattle.subsets.proofs.add_state.Tie as tie
 use Rattle.subsets.proofs.add_state.Reads as reads
@@ -13,7 +16,10 @@ singleton-requires c κs = search needs
 
 -- src/lib.rt:138:11
 number-requires : tie.Need-number-requires
-number-requires c κs = ?
+number-requires c κs =
+    let s = c .before .before in
+    let a = s .args in
+    (s .pre .1, s .pre .2 .sets-are, λ z. omega (arith, c .singleton .ensures, pow-pos (a .q .0)))
 
 -- src/lib.rt:139:25
 enum-known-after : tie.Need-enum-known-after
@@ -25,7 +31,13 @@ cast-t14 c = search needs
 
 -- src/lib.rt:139:35
 expand-requires : tie.Need-expand-requires
-expand-requires c κs = ?
+expand-requires c κs =
+    let s = c .before .before .before .before .before .before .before .before in
+    let a = s .args in
+    let w = c .before .before .before .before .before .number in
+    let one = c .before .before .before .before .before .before .singleton in
+    let v = c .before .before .before .after .given in
+    state-asked (a .targets .now) (a .k) (a .sets .now) (a .next .now) (a .count) (a .q .0) (one .result) (s .pre .1) (s .pre .2) (one .ensures) (w .result) (w .last .0) (w .ensures) (v .0 .0) (v .0 .1 .0) (v .1)
 
 -- src/lib.rt:140:27
 enum-told : tie.Need-enum-told
@@ -33,11 +45,22 @@ enum-told c = search needs
 
 -- src/lib.rt:127:1
 returns : tie.Need-returns
-returns c = ?
+returns c =
+    let s = c .before .before .before .before .before .before .before .before .before in
+    let a = s .args in
+    let w = c .before .before .before .before .before .before .number in
+    let one = c .before .before .before .before .before .before .before .singleton in
+    let v = c .before .before .before .before .after .given in
+    state-grown (a .targets .now) (a .k) (a .sets .now) (a .next .now) (a .count) (a .q .0) (one .result) (s .pre .1) (s .pre .2) (one .ensures) (w .result) (w .last .0) (w .ensures) (v .0 .0) (v .0 .1 .0) (v .1) (c .expand .result) (c .expand .last .1 .1 .0) (c .expand .last .1 .1 .1 .0) (c .expand .ensures)
 
 -- src/lib.rt:127:1
 returns-2 : tie.Need-returns-2
-returns-2 c = ?
+returns-2 c =
+    let s = c .before .before .before .before .before in
+    let a = s .args in
+    let w = c .before .before .number in
+    let one = c .before .before .before .singleton in
+    state-over (a .targets .now) (a .k) (a .sets .now) (a .next .now) (a .count) (a .q .0) (one .result) (s .pre .1) (s .pre .2) (one .ensures) (w .result) (w .last .0) (w .ensures) (a .next .now) (cc)
 
 pub add-state-spec : {M : Type 1} → statement M
 add-state-spec =
