@@ -129,13 +129,13 @@ module _ (ts : List ℕ) (k : ℕ) where
         ∙ rw (le-ltb c 0 (omega arith));
   }
 
-  module _ (q c : ℕ) (l : List ℕ) (is : l ≡ setsUpTo ts k q) (r : Numbering) (sets next : List ℕ) (g : Grown ts k (grownBy ts k q l) r sets next) where
+  module _ (q : ℕ) (l : List ℕ) (is : l ≡ setsUpTo ts k q) (r : Numbering) (sets next : List ℕ) (g : Grown ts k (grownBy ts k q l) r sets next) where
     pub grown-is : grownBy ts k q l ≡ setsUpTo ts k (q + 1)
     unfolding setsUpTo
     grown-is = rw (is, add-one)
 
-    pub states-more : r ≡ Whole c → (c ≤ 512) × (take c sets ≡ setsUpTo ts k (q + 1)) × Holds ts k (take c sets) (c * 16) sets next
-    states-more e =
+    pub states-more : (c : ℕ) → r ≡ Whole c → (c ≤ 512) × (take c sets ≡ setsUpTo ts k (q + 1)) × Holds ts k (take c sets) (c * 16) sets next
+    states-more c e =
         let f = grownBy ts k q l in
         let a = whole-of f r c (g .count) e in
         let read : take c sets ≡ f = rw (a .1, g .held (a .0) .sets-are) (take-cells f (a .0)) in
