@@ -4,4 +4,7 @@ pub mod Closure
 pub mod Arrays
 pub mod Table
 pub mod Turns
+pub mod Pigeonhole
+pub mod Reached
+pub mod Claims
 pub mod Examples
