@@ -1,31 +1,33 @@
--- What the two arrays hold at each step of the procedure: a lemma over plain lists for each way out of `find`, `number` and `step`.
--- Assumes nothing.
+-- One lemma over plain lists for each way out of `find`, `number` and `step`, and what their answers tell. Assumes nothing.
+--
+--   limited-.., whole-of, over-of   an answer and the limit of 512 sets
+--   found-..                        the search
+--   cells-..                        the sets as an array
+--   entered-..                      a set's turn
+--   stepped-..                      a set is expanded by a symbol
 use mathlib.Core.Path.{_≡_, refl, sym, ap, _∙_, subst}
-use mathlib.Core.Bool.{Bool, true, false, cond, _&&_}
+use mathlib.Core.Bool.{Bool, true, false, cond}
 use mathlib.Core.List.{List, [], _∷_, _++_}
 use mathlib.Core.Option.{some, none}
-use Prim.Native.Nat.{ℕ, zero, suc, _+_, _*_, _/_, _%_, _≤_, _<_, min}
-use native.Mathlib.Numerals.{add-one}
+use Prim.Native.Nat.{ℕ, zero, suc, _+_, _*_, _≤_, _<_}
 use native.Mathlib.Omega.{arith}
 use lib.Dec.{eqb, ltb}
 use lib.ListN.{length, getD, take, set, length-append, length-set}
 use lib.Seq.{getD-take, length-take-le, getD-append-seam, getD-set-same, getD-set-other}
 use borrow.Author.Tests.{eq-eqb, ne-eqb, lt-ltb, le-ltb, eqb-true, eqb-false, ltb-true, ltb-false}
-use Rattle.masks.specs.Lists.{listFrom}
 use Rattle.masks.proofs.Cases.{by-test}
 use Rattle.masks.proofs.Lists.{length-listFrom, cell-of, is-listFrom}
 use Rattle.automaton.specs.Successor.{successor}
 use Rattle.automaton.proofs.Laws.{successor-foreign}
 use Rattle.subsets.specs.declared.SetNumber.{SetNumber}
-use Rattle.subsets.specs.declared.Found.{Found}
 use Rattle.subsets.specs.declared.Found.the-variants.{At, Nothing}
 use Rattle.subsets.specs.declared.Numbered.{Numbered}
 use Rattle.subsets.specs.declared.Numbered.the-variants.{As, Full}
 use Rattle.subsets.specs.declared.Numbering.{Numbering}
 use Rattle.subsets.specs.declared.Numbering.the-variants.{Whole, Over}
-use Rattle.subsets.specs.Sets.{numberIn, numbered, numberOrEmpty}
+use Rattle.subsets.specs.Sets.{numberIn, numbered}
 use Rattle.subsets.specs.Answer.{countOf}
-use Rattle.subsets.specs.Steps.{foundIn, limited, cellsOf, Entered, target, afterStep, Stepped, Begins, cellTo, Holds}
+use Rattle.subsets.specs.Steps.{foundIn, limited, cellsOf, Entered, target, afterStep, Stepped}
 use Rattle.subsets.proofs.Numbers.{Has, nowhere, number-is, numbered-empty, numbered-kept, numbered-taken, number-taken}
 
 -- ---- at most 512
@@ -86,13 +88,13 @@ cells-snoc : (l : List ℕ) (m : ℕ) → length l < 512 → set (cellsOf l) (le
 cells-snoc l m h =
     is-listFrom (set (cellsOf l) (length l) m) 512 (λ i. getD (l ++ (m ∷ [])) i 0) (length-set (cellsOf l) (length l) m ∙ cells-long l)
     (λ c b.
-        by-test (eqb c (length l))
-        (λ t.
-            let e : c ≡ length l = eqb-true c (length l) t in
-            rw e (getD-set-same (cellsOf l) (length l) m 0 (rw cells-long h) ∙ sym (getD-append-seam l m [] 0)))
-        (λ t.
-            let ne : c ≡ length l → ⊥ = eqb-false c (length l) t in
-            getD-set-other (cellsOf l) (length l) c m 0 ne ∙ cells-at l c b ∙ sym (snoc-other l m c ne)))
+    by-test (eqb c (length l))
+    (λ t.
+    let e : c ≡ length l = eqb-true c (length l) t in
+    rw e (getD-set-same (cellsOf l) (length l) m 0 (rw cells-long h) ∙ sym (getD-append-seam l m [] 0)))
+    (λ t.
+    let ne : c ≡ length l → ⊥ = eqb-false c (length l) t in
+    getD-set-other (cellsOf l) (length l) c m 0 ne ∙ cells-at l c b ∙ sym (snoc-other l m c ne)))
 
 -- what the search said
 found-has : (l : List ℕ) (m : ℕ) (j : SetNumber) → foundIn l m ≡ At j → Has l m × (j ≡ record { 0 = numberIn l m })

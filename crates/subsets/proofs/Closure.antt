@@ -1,9 +1,14 @@
--- The laws of the procedure: each of its parts only appends to the list of sets, and its loops unroll by one turn. Assumes nothing.
-use mathlib.Core.Path.{_≡_, refl, sym, ap, _∙_, subst}
+-- The laws of the procedure. Assumes nothing.
+--
+--   ..-begins                  each part only appends to the list of sets
+--   symbols-.., sets-..        its loops unroll by one turn
+--   upTo-keeps                 what each turn of a set keeps holds of all the sets
+--   upTo-covers, upTo-single   with at most 512 sets every non-empty successor has a number; each {q} has one
+use mathlib.Core.Path.{_≡_, refl, sym, _∙_, subst}
 use mathlib.Core.Bool.{cond}
-use mathlib.Core.List.{List, [], _∷_, _++_}
-use mathlib.Core.Logic.{_⊎_, ⊎-elim}
-use Prim.Native.Nat.{ℕ, zero, suc, _+_, _-_, _*_, _≤_, _<_}
+use mathlib.Core.List.{List, []}
+use mathlib.Core.Logic.{⊎-elim}
+use Prim.Native.Nat.{ℕ, zero, suc, _+_, _-_, _≤_, _<_}
 use native.Mathlib.Nat.{eq-or-lt-of-le, le-of-suc-le-suc}
 use native.Mathlib.Numerals.{add-one}
 use native.Mathlib.Omega.{arith}
@@ -14,7 +19,7 @@ use borrow.Author.Tests.{lt-ltb, le-ltb, ltb-true, ltb-false}
 use Rattle.masks.specs.Masks.{single}
 use Rattle.masks.proofs.Cases.{by-test}
 use Rattle.automaton.specs.Successor.{successor}
-use Rattle.subsets.specs.Sets.{numberIn, numbered, expandFrom, closeFrom, setsUpTo, setsOf}
+use Rattle.subsets.specs.Sets.{numbered, expandFrom, closeFrom, setsUpTo}
 use Rattle.subsets.specs.Steps.{Begins}
 use Rattle.subsets.proofs.Numbers.{Has, begins-self, begins-trans, begins-length, begins-at, begins-has, numbered-begins, numbered-has}
 
@@ -116,9 +121,9 @@ module _ (ts : List ℕ) where
   expand-covers m s (suc left) l t a b =
       ⊎-elim
       (λ e.
-          subst (λ (x : ℕ). Covers (expandFrom ts m (suc s) left (numbered l (successor ts m s))) (successor ts m x)) e
-          (λ ne.
-              begins-has (expand-begins ts m (suc s) left (numbered l (successor ts m s))) (successor ts m s) (numbered-has l (successor ts m s) ne)))
+      subst (λ (x : ℕ). Covers (expandFrom ts m (suc s) left (numbered l (successor ts m s))) (successor ts m x)) e
+      (λ ne.
+      begins-has (expand-begins ts m (suc s) left (numbered l (successor ts m s))) (successor ts m s) (numbered-has l (successor ts m s) ne)))
       (λ c. expand-covers m (suc s) left (numbered l (successor ts m s)) t c (omega arith))
       (eq-or-lt-of-le a)
 
@@ -143,10 +148,10 @@ module _ (ts : List ℕ) where
         expanded ih t h j s a b c =
             ⊎-elim
             (λ x.
-                subst (λ (y : ℕ). Covers f (successor ts (getD f y 0) s)) x
-                (covers-more (close-begins ts k left (suc i) e) i s (omega (arith, begins-length (expand-begins ts (getD l i 0) 0 k l)))
-                (subst (λ (y : ℕ). Covers e (successor ts y s)) (sym (begins-at (expand-begins ts (getD l i 0) 0 k l) i t))
-                (expand-covers (getD l i 0) 0 k l s (omega arith) (omega arith)))))
+            subst (λ (y : ℕ). Covers f (successor ts (getD f y 0) s)) x
+            (covers-more (close-begins ts k left (suc i) e) i s (omega (arith, begins-length (expand-begins ts (getD l i 0) 0 k l)))
+            (subst (λ (y : ℕ). Covers e (successor ts y s)) (sym (begins-at (expand-begins ts (getD l i 0) 0 k l) i t))
+            (expand-covers (getD l i 0) 0 k l s (omega arith) (omega arith)))))
             (λ d. ih (omega arith) j s d b c)
             (eq-or-lt-of-le a)
 
@@ -169,8 +174,8 @@ module _ (ts : List ℕ) where
         go ih =
             by-test (ltb j (length l))
             (λ t.
-                let d = ltb-true j (length l) t in
-                covers-more (state-begins ts k q) j s d (ih (omega (arith, begins-length (state-begins ts k q))) j s a d c))
+            let d = ltb-true j (length l) t in
+            covers-more (state-begins ts k q) j s d (ih (omega (arith, begins-length (state-begins ts k q))) j s a d c))
             (λ t. close-covers 512 (length l) (numbered l (single q)) (omega arith) j s (ltb-false j (length l) t) b c)
 
     -- each state that was passed has its set
@@ -181,8 +186,8 @@ module _ (ts : List ℕ) where
         let l = setsUpTo ts k q in
         ⊎-elim
         (λ e.
-            rw e
-            (begins-has (close-begins ts k 512 (length l) (numbered l (single q))) (single q)
-            (numbered-has l (single q) (λ z. omega (arith, pow-pos q)))))
+        rw e
+        (begins-has (close-begins ts k 512 (length l) (numbered l (single q))) (single q)
+        (numbered-has l (single q) (λ z. omega (arith, pow-pos q)))))
         (λ b. begins-has (state-begins ts k q) (single p) (upTo-single q p b))
         (eq-or-lt-of-le (le-of-suc-le-suc h))

@@ -6,9 +6,9 @@
 --   begins-..                   what a list that begins another has in common with it
 --   numbered-..                 what a set's turn does to the list
 use mathlib.Core.Path.{_≡_, refl, sym, ap, _∙_, subst}
-use mathlib.Core.Bool.{Bool, true, false, cond, _||_}
+use mathlib.Core.Bool.{Bool, true, false, cond}
 use mathlib.Core.List.{List, [], _∷_, _++_, append-assoc}
-use Prim.Native.Nat.{ℕ, zero, suc, _+_, _≤_, _<_}
+use Prim.Native.Nat.{ℕ, zero, suc, _≤_, _<_}
 use native.Mathlib.Omega.{arith}
 use lib.Dec.{eqb, ltb}
 use lib.ListN.{length, getD, length-append, List·getD-append}
@@ -128,10 +128,10 @@ module _ (l : List ℕ) (m : ℕ) where
       by-test (eqb m 0)
       (λ e. let z : m ≡ 0 = eqb-true m 0 e in subst P (sym (numbered-empty z)) (empty z))
       (λ e.
-          let ne : m ≡ 0 → ⊥ = eqb-false m 0 e in
-          by-test (ltb (numberIn l m) (length l))
-          (λ t. let h = ltb-true (numberIn l m) (length l) t in subst P (sym (numbered-kept ne h)) (kept ne h))
-          (λ t. let h = ltb-false (numberIn l m) (length l) t in subst P (sym (numbered-taken ne h)) (taken ne h)))
+      let ne : m ≡ 0 → ⊥ = eqb-false m 0 e in
+      by-test (ltb (numberIn l m) (length l))
+      (λ t. let h = ltb-true (numberIn l m) (length l) t in subst P (sym (numbered-kept ne h)) (kept ne h))
+      (λ t. let h = ltb-false (numberIn l m) (length l) t in subst P (sym (numbered-taken ne h)) (taken ne h)))
 
   pub numbered-begins : Begins l (numbered l m)
   numbered-begins =

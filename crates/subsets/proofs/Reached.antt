@@ -8,17 +8,15 @@
 -- Assumes a well-formed rule, and nothing else.
 use mathlib.Core.Path.{_≡_, refl, sym, ap, _∙_, subst}
 use mathlib.Core.Logic.{_↔_, ⊎-elim, inr}
-use mathlib.Core.Bool.{true, false}
 use mathlib.Core.List.{List, [], _∷_, _++_}
-use Prim.Native.Nat.{ℕ, zero, suc, _+_, _≤_, _<_, min}
-use native.Mathlib.Nat.{eq-or-lt-of-le, le-of-suc-le-suc}
+use Prim.Native.Nat.{ℕ, _≤_, _<_, min}
+use native.Mathlib.Nat.{eq-or-lt-of-le}
 use native.Mathlib.Omega.{arith}
 use lib.Arith.{lt-one}
-use lib.Dec.{eqb, ltb, lit<}
+use lib.Dec.{ltb, lit<}
 use lib.ListN.{length, getD, take, length-append, List·getD-append}
-use lib.Pow.{pow-pos}
 use lib.Seq.{getD-append-seam, getD-take, length-take-le}
-use borrow.Author.Tests.{eq-eqb, ne-eqb, lt-ltb, ltb-true, ltb-false, eqb-true, eqb-false}
+use borrow.Author.Tests.{eq-eqb, ne-eqb, lt-ltb, ltb-true, ltb-false}
 use Rattle.masks.specs.Masks.{single}
 use Rattle.masks.proofs.Cases.{by-test}
 use Rattle.masks.proofs.Laws.{union-lt}
@@ -29,7 +27,6 @@ use Rattle.automaton.proofs.Laws.{after-append, after-empty}
 use Rattle.subsets.specs.Sets.{numberIn, numbered, setsUpTo, setsOf, tooMany, nextSet}
 use Rattle.subsets.specs.Claims.{Reach, Distinct, sets, next, over, fits}
 use Rattle.subsets.proofs.Numbers.{Has, number-at, stands, begins-number, number-taken, by-turn}
-use Rattle.subsets.specs.Steps.{Begins}
 use Rattle.subsets.proofs.Closure.{upTo-keeps, Covers, upTo-covers, upTo-single}
 use Rattle.subsets.proofs.Pigeonhole.{at-most}
 
@@ -51,9 +48,9 @@ own-turn : (l : List ℕ) (m : ℕ) → Own l → Own (numbered l m)
 own-turn l m h =
     by-turn l m Own (λ _. h) (λ _ _. h)
     (λ ne new.
-        snoc-all (λ i x. numberIn (l ++ (m ∷ [])) x ≡ i) l m
-        (λ i b. begins-number (record { rest = m ∷ []; is = refl }) (getD l i 0) (stands l (getD l i 0) i b refl) ∙ h i b)
-        (number-taken l m new))
+    snoc-all (λ i x. numberIn (l ++ (m ∷ [])) x ≡ i) l m
+    (λ i b. begins-number (record { rest = m ∷ []; is = refl }) (getD l i 0) (stands l (getD l i 0) i b refl) ∙ h i b)
+    (number-taken l m new))
 
 pub distinct : (ts : List ℕ) (k q : ℕ) → Distinct (setsUpTo ts k q)
 distinct ts k q i j a b e =
@@ -167,7 +164,7 @@ module _ (r : Rule) (good : WellFormed r) where
     λ w.
         by-test (tooMany (r .targets) (r .n) (r .k)) (λ t. t)
         (λ t.
-            absurd
-            (omega
-            (arith, w .1, most-sets t, at-most (w .0) (sets r) (w .2) (λ i b. reached-has t (getD (w .0) i 0) (w .3 i (omega (arith, w .1))))))),
+        absurd
+        (omega
+        (arith, w .1, most-sets t, at-most (w .0) (sets r) (w .2) (λ i b. reached-has t (getD (w .0) i 0) (w .3 i (omega (arith, w .1))))))),
   )

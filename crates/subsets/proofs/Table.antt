@@ -1,31 +1,29 @@
 -- How `Holds` goes on: over a step, to the next set, over the turn of {q}; and what it comes to at the end. Assumes nothing.
-use mathlib.Core.Path.{_≡_, refl, sym, ap, _∙_, subst}
-use mathlib.Core.Bool.{Bool, true, false, cond, _&&_}
-use mathlib.Core.List.{List, [], _∷_, _++_}
-use Prim.Native.Nat.{ℕ, zero, suc, _+_, _-_, _*_, _/_, _%_, _≤_, _<_, min}
+use mathlib.Core.Path.{_≡_, refl, sym, ap, _∙_}
+use mathlib.Core.Bool.{Bool, true, false, _&&_}
+use mathlib.Core.List.{List}
+use Prim.Native.Nat.{ℕ, _+_, _*_, _/_, _%_, _≤_, _<_, min}
 use native.Mathlib.Omega.{arith}
 use lib.Dec.{eqb, ltb}
 use lib.ListN.{length, getD, take, set, length-set}
 use lib.Seq.{getD-set-same, getD-set-other, length-take-le, getD-take, ext-getD}
 use borrow.Author.Tests.{eq-eqb, ne-eqb, lt-ltb, le-ltb, eqb-true, eqb-false, ltb-true, ltb-false}
-use Rattle.masks.specs.Lists.{listFrom}
 use Rattle.masks.proofs.Cases.{by-test}
-use Rattle.masks.proofs.Lists.{cell-of, length-listFrom, is-listFrom}
-use Rattle.automaton.specs.Successor.{successor}
+use Rattle.masks.proofs.Lists.{is-listFrom}
 use Rattle.automaton.proofs.Laws.{successor-foreign}
 use Rattle.subsets.specs.declared.Numbering.{Numbering}
-use Rattle.subsets.specs.declared.Numbering.the-variants.{Whole, Over}
-use Rattle.subsets.specs.Sets.{numberIn, numbered, numberOrEmpty, expandFrom, closeFrom, setsOf, nextSet, setCells, nextCells}
+use Rattle.subsets.specs.Sets.{numberIn, numberOrEmpty, setsOf, nextSet, nextCells}
 use Rattle.subsets.specs.Steps.{cellsOf, target, afterStep, Stepped, Begins, cellTo, Holds}
-use Rattle.subsets.proofs.Numbers.{Has, begins-self, begins-trans, begins-length, begins-at, begins-number, numbered-begins, numbered-has}
-use Rattle.subsets.proofs.Arrays.{cells-long, cells-at, whole-of}
+use Rattle.subsets.proofs.Numbers.{begins-self, begins-trans, begins-length, begins-at, begins-number, numbered-begins, numbered-has}
+use Rattle.subsets.proofs.Arrays.{cells-long, cells-at}
 
 -- the sets are read off the array again
-pub take-cells : (l : List ℕ) → length l ≤ 512 → take (length l) (cellsOf l) ≡ l
-take-cells l h =
-    let n : length (take (length l) (cellsOf l)) ≡ length l = length-take-le (length l) (cellsOf l) (rw cells-long h) in
-    ext-getD 0 (take (length l) (cellsOf l)) l n
-    (λ i b. let d : i < length l = omega arith in getD-take (length l) (cellsOf l) i 0 d ∙ cells-at l i (omega arith))
+pub read-back : (f sets : List ℕ) (c : ℕ) → length f ≤ 512 → c ≡ length f → sets ≡ cellsOf f → take c sets ≡ f
+read-back f sets c h e are =
+    rw (e, are)
+    (let n : length (take (length f) (cellsOf f)) ≡ length f = length-take-le (length f) (cellsOf f) (rw cells-long h) in
+    ext-getD 0 (take (length f) (cellsOf f)) f n
+    (λ i b. let d : i < length f = omega arith in getD-take (length f) (cellsOf f) i 0 d ∙ cells-at f i (omega arith)))
 
 and-same : (x y z : Bool) → (z ≡ true → x ≡ y) → (x && z) ≡ (y && z)
 and-same x y true h = ap (λ (b : Bool). b && true) (h refl)
@@ -88,15 +86,15 @@ module _ (ts : List ℕ) (k : ℕ) where
     step-cells next next′ f g new same old c d =
         by-test (ltb s 16)
         (λ t.
-            let b = ltb-true s 16 t in
-            by-test (eqb c (i * 16 + s))
-            (λ u. let e : c ≡ i * 16 + s = eqb-true c (i * 16 + s) u in rw e (new b ∙ sym (here f g b)))
-            (λ u.
-                let ne : c ≡ i * 16 + s → ⊥ = eqb-false c (i * 16 + s) u in
-                same c (λ _ e. ne e) ∙ old c d ∙ same-cell f (i * 16 + min s 16) (i * 16 + min (s + 1) 16) c (λ _ x. omega arith) (λ _ x. omega arith)))
+        let b = ltb-true s 16 t in
+        by-test (eqb c (i * 16 + s))
+        (λ u. let e : c ≡ i * 16 + s = eqb-true c (i * 16 + s) u in rw e (new b ∙ sym (here f g b)))
+        (λ u.
+        let ne : c ≡ i * 16 + s → ⊥ = eqb-false c (i * 16 + s) u in
+        same c (λ _ e. ne e) ∙ old c d ∙ same-cell f (i * 16 + min s 16) (i * 16 + min (s + 1) 16) c (λ _ x. omega arith) (λ _ x. omega arith)))
         (λ t.
-            let b = ltb-false s 16 t in
-            same c (λ x e. omega arith) ∙ old c d ∙ same-cell f (i * 16 + min s 16) (i * 16 + min (s + 1) 16) c (λ _ x. omega arith) (λ _ x. omega arith))
+        let b = ltb-false s 16 t in
+        same c (λ x e. omega arith) ∙ old c d ∙ same-cell f (i * 16 + min s 16) (i * 16 + min (s + 1) 16) c (λ _ x. omega arith) (λ _ x. omega arith))
 
     module _ {sets next : List ℕ} (h : Holds ts k l (i * 16 + min s 16) sets next) {r : Numbering} {sets′ next′ : List ℕ}
         (st : Stepped ts l i s r sets′ next next′) (fits : length l′ ≤ 512) where
@@ -116,9 +114,9 @@ module _ (ts : List ℕ) (k : ℕ) where
             cells = λ f g.
                 step-cells next next′ f (begins-trans (numbered-begins l m) g)
                 (λ b.
-                    ap (λ (x : List ℕ). getD x (i * 16 + s) 0) e
-                    ∙ old f g (i * 16 + s) (omega (arith, small))
-                    ∙ rw (le-ltb (i * 16 + s) (i * 16 + min s 16) (omega arith), eq-eqb m 0 z))
+                ap (λ (x : List ℕ). getD x (i * 16 + s) 0) e
+                ∙ old f g (i * 16 + s) (omega (arith, small))
+                ∙ rw (le-ltb (i * 16 + s) (i * 16 + min s 16) (omega arith), eq-eqb m 0 z))
                 (λ c _. ap (λ (x : List ℕ). getD x c 0) e)
                 (old f g);
           }
@@ -134,10 +132,10 @@ module _ (ts : List ℕ) (k : ℕ) where
             cells = λ f g.
                 step-cells next next′ f (begins-trans (numbered-begins l m) g)
                 (λ _.
-                    ap (λ (x : List ℕ). getD x at 0) e
-                    ∙ getD-set-same next at (numberIn l′ m) 0 (omega (arith, small, h .next-long))
-                    ∙ sym (begins-number g m (numbered-has l m ne))
-                    ∙ rw (ne-eqb m 0 ne))
+                ap (λ (x : List ℕ). getD x at 0) e
+                ∙ getD-set-same next at (numberIn l′ m) 0 (omega (arith, small, h .next-long))
+                ∙ sym (begins-number g m (numbered-has l m ne))
+                ∙ rw (ne-eqb m 0 ne))
                 (λ c x. ap (λ (y : List ℕ). getD y c 0) e ∙ getD-set-other next at c (numberIn l′ m) 0 (x b))
                 (old f g);
           }
@@ -152,5 +150,5 @@ next-whole ts n k sets next h =
     let l = setsOf ts n k in
     is-listFrom next 8192 (λ c. nextSet ts n k (c / 16) (c % 16)) (h .next-long)
     (λ c b.
-        h .cells l (begins-self l) c b
-        ∙ rw (same-test c (length l * 16) (c / 16) (length l) (λ x. omega arith) (λ x. omega arith)))
+    h .cells l (begins-self l) c b
+    ∙ rw (same-test c (length l * 16) (c / 16) (length l) (λ x. omega arith) (λ x. omega arith)))

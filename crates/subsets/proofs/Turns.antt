@@ -1,30 +1,32 @@
--- The turns of the expansion's two loops and the ways out of them, over plain lists. What is left to do when the sets are l and set i is at
--- symbol s, or at its first, comes to the same list after each turn. Assumes nothing.
-use mathlib.Core.Path.{_≡_, refl, sym, ap, _∙_, subst}
-use mathlib.Core.Bool.{true, false}
-use mathlib.Core.List.{List, [], _∷_, _++_}
+-- The loops of `expand` and `number_sets`, turn by turn and way out by way out, over plain lists: what is left to do comes to the same list
+-- after each turn, and the arrays hold the sets so far. Assumes nothing.
+--
+--   turn-..                   set i is expanded by the next symbol
+--   grown-whole, grown-over   the ways out of `expand`
+--   state-..                  the turn of {q}
+--   states-.., answered-..    the loop over the states, and its ways out
+use mathlib.Core.Path.{_≡_, sym, ap, _∙_, subst}
+use mathlib.Core.List.{List, []}
 use mathlib.Core.Option.{some}
-use Prim.Native.Nat.{ℕ, zero, suc, _+_, _-_, _*_, _≤_, _<_, min}
+use Prim.Native.Nat.{ℕ, _+_, _-_, _*_, _≤_, _<_, min}
 use native.Mathlib.Numerals.{add-one}
 use native.Mathlib.Omega.{arith}
-use lib.Dec.{ltb}
 use lib.ListN.{length, getD, take}
-use borrow.Author.Tests.{lt-ltb, le-ltb}
+use borrow.Author.Tests.{lt-ltb, le-ltb, ltb-false}
 use Rattle.masks.specs.Masks.{single}
-use Rattle.masks.specs.Lists.{listFrom}
 use Rattle.masks.proofs.Lists.{length-listFrom, cell-of}
 use Rattle.subsets.specs.declared.SetNumber.{SetNumber}
 use Rattle.subsets.specs.declared.Numbered.{Numbered}
 use Rattle.subsets.specs.declared.Numbered.the-variants.{As, Full}
 use Rattle.subsets.specs.declared.Numbering.{Numbering}
 use Rattle.subsets.specs.declared.Numbering.the-variants.{Whole, Over}
-use Rattle.subsets.specs.Sets.{numberIn, numbered, expandFrom, closeFrom, setsUpTo, setsOf, tooMany, setCells, nextCells}
+use Rattle.subsets.specs.Sets.{numberIn, numbered, expandFrom, setsUpTo, setsOf, tooMany}
 use Rattle.subsets.specs.Answer.{Answered}
-use Rattle.subsets.specs.Steps.{limited, cellsOf, Entered, target, afterStep, Stepped, Begins, Holds, Grown, closedFrom, grownBy, Cleared}
+use Rattle.subsets.specs.Steps.{Entered, target, afterStep, Stepped, Begins, Holds, Grown, closedFrom, grownBy, Cleared}
 use Rattle.subsets.proofs.Numbers.{begins-trans, begins-length, begins-at, numbered-begins}
 use Rattle.subsets.proofs.Closure.{expand-begins, close-begins, upTo-begins, symbols-more}
 use Rattle.subsets.proofs.Arrays.{count-is, limited-whole, limited-over, whole-of, over-of, entered-as, entered-over}
-use Rattle.subsets.proofs.Table.{take-cells, step-holds, holds-more, next-whole}
+use Rattle.subsets.proofs.Table.{read-back, step-holds, holds-more, next-whole}
 
 module _ (ts : List ℕ) (k : ℕ) where
   -- the sets l after set i is expanded from symbol s on
@@ -48,19 +50,16 @@ module _ (ts : List ℕ) (k : ℕ) where
         after = whole-of (afterStep ts l i s) r c (st .count) whole
 
         read : take c sets′ ≡ afterStep ts l i s
-        read = rw (after .1, st .sets-are (after .0)) (take-cells (afterStep ts l i s) (after .0))
+        read = read-back (afterStep ts l i s) sets′ c (after .0) (after .1) (st .sets-are (after .0))
 
-        pub turn-most : c ≤ 512
-        turn-most = omega (arith, after)
-
-        pub turn-below : i < c
-        turn-below = omega (arith, after, begins-length (numbered-begins l (target ts l i s)))
-
-        pub turn-holds : Holds ts k (take c sets′) (i * 16 + min (s + 1) 16) sets′ next′
-        turn-holds = rw read (step-holds ts k l i s below symbol h st (after .0))
-
-        pub turn-expanded : expanded i s l ≡ expanded i (s + 1) (take c sets′)
-        turn-expanded = step-expanded ∙ ap (expanded i (s + 1)) (sym read)
+        pub turn-whole : (c ≤ 512) × (i < c) × Holds ts k (take c sets′) (i * 16 + min (s + 1) 16) sets′ next′
+            × (expanded i s l ≡ expanded i (s + 1) (take c sets′))
+        turn-whole = (
+          omega (arith, after),
+          omega (arith, after, begins-length (numbered-begins l (target ts l i s))),
+          rw read (step-holds ts k l i s below symbol h st (after .0)),
+          step-expanded ∙ ap (expanded i (s + 1)) (sym read),
+        )
 
       pub turn-over : r ≡ Over → (w : List ℕ) → Begins (expanded i s l) w → 512 < length w
       turn-over over w b =
@@ -94,7 +93,7 @@ module _ (ts : List ℕ) (k : ℕ) where
       a = entered-as before m r sets′ entered j c known
 
       read-state : take c sets′ ≡ numbered before m
-      read-state = rw (a .2, entered .sets-are (a .0)) (take-cells (numbered before m) (a .0))
+      read-state = read-back (numbered before m) sets′ c (a .0) (a .2) (entered .sets-are (a .0))
 
       pub state-asked : (c ≤ 512) × (count ≤ c) × Holds ts k (take c sets′) (count * 16) sets′ next
       state-asked =
@@ -130,7 +129,7 @@ module _ (ts : List ℕ) (k : ℕ) where
   }
 
   module _ (q : ℕ) (l : List ℕ) (is : l ≡ setsUpTo ts k q) (r : Numbering) (sets next : List ℕ) (g : Grown ts k (grownBy ts k q l) r sets next) where
-    pub grown-is : grownBy ts k q l ≡ setsUpTo ts k (q + 1)
+    grown-is : grownBy ts k q l ≡ setsUpTo ts k (q + 1)
     unfolding setsUpTo
     grown-is = rw (is, add-one)
 
@@ -138,7 +137,7 @@ module _ (ts : List ℕ) (k : ℕ) where
     states-more c e =
         let f = grownBy ts k q l in
         let a = whole-of f r c (g .count) e in
-        let read : take c sets ≡ f = rw (a .1, g .held (a .0) .sets-are) (take-cells f (a .0)) in
+        let read : take c sets ≡ f = read-back f sets c (a .0) (a .1) (g .held (a .0) .sets-are) in
         (omega arith, read ∙ grown-is, rw (read, a .1) (g .held (a .0)))
 
     pub states-over : r ≡ Over → 512 < length (setsUpTo ts k (q + 1))
@@ -148,12 +147,12 @@ module _ (ts : List ℕ) (k : ℕ) where
     pub answered-over : (q : ℕ) → q < min n 32 → 512 < length (setsUpTo ts k (q + 1)) → Answered ts n k Over sets next
     unfolding tooMany setsOf
     answered-over q b o =
-        let long : 512 < length (setsUpTo ts k (min n 32)) = omega (arith, begins-length (upTo-begins ts k (q + 1) (min n 32) (omega arith))) in
-        let t : ltb 512 (length (setsUpTo ts k (min n 32))) ≡ true = lt-ltb 512 (length (setsUpTo ts k (min n 32))) long in
+        let f = setsUpTo ts k (min n 32) in
+        let long : 512 < length f = omega (arith, begins-length (upTo-begins ts k (q + 1) (min n 32) (omega arith))) in
         record {
-          count = rw t;
-          sets-are = λ f. absurd (let z : true ≡ false = sym t ∙ f in let y : _≡_ {A = ℕ} 0 1 = cc in omega arith);
-          next-are = λ f. absurd (let z : true ≡ false = sym t ∙ f in let y : _≡_ {A = ℕ} 0 1 = cc in omega arith);
+          count = rw (lt-ltb 512 (length f) long);
+          sets-are = λ e. absurd (omega (arith, ltb-false 512 (length f) e));
+          next-are = λ e. absurd (omega (arith, ltb-false 512 (length f) e));
         }
 
     pub answered-whole : (c : ℕ) → c ≤ 512 → take c sets ≡ setsUpTo ts k (min n 32) → Holds ts k (take c sets) (c * 16) sets next → Answered ts n k (Whole c) sets next

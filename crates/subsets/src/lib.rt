@@ -1,7 +1,7 @@
 // The sets of states that get a number, in the order of their numbers, and the next-set table.
 ghost use mathlib.Core.Path.{_≡_};
 ghost use Prim.Native.Nat.{_*_, _≤_, _<_, min};
-ghost use lib.ListN.{length, take};
+ghost use lib.ListN.{take};
 ghost use Rattle.subsets.specs.Answer.{Answered};
 ghost use Rattle.subsets.specs.Steps.{foundIn, cellsOf, Entered, Stepped, Holds, Grown, grownBy, closedFrom, Cleared};
 use masks::StateNumber;

@@ -1,35 +1,26 @@
+-- `add_state` meets its contract: {q} is not empty, and once it has its turn the arrays hold what `expand` asks for. Assumes nothing.
 use native.Mathlib.Omega.{arith}
 use lib.Pow.{pow-pos}
 use borrow.Author.Needs.{needs}
 use Rattle.subsets.proofs.Turns.{state-asked, state-grown, state-over}
 use Rattle.subsets.proofs.add_state.Statement.{statement}
 use Rattle.subsets.proofs.add_state.Tie as tie
-use Rattle.subsets.proofs.add_state.Reads as reads
-use Rattle.subsets.proofs.add_state.Lts as lts
-use Rattle.masks.proofs.singleton.Reads as singleton-reads
-use Rattle.subsets.proofs.expand.Reads as expand-reads
-use Rattle.subsets.proofs.number.Reads as number-reads
 
--- src/lib.rt:138:31
 singleton-requires : tie.Need-singleton-requires
 singleton-requires c κs = search needs
 
--- src/lib.rt:138:11
 number-requires : tie.Need-number-requires
 number-requires c κs =
     let s = c .before .before in
     let a = s .args in
     (s .pre .1, s .pre .2 .sets-are, λ z. omega (arith, c .singleton .ensures, pow-pos (a .q .0)))
 
--- src/lib.rt:139:25
 enum-known-after : tie.Need-enum-known-after
 enum-known-after c = search needs
 
--- src/lib.rt:139:76
 cast-t14 : tie.Need-cast-t14
 cast-t14 c = search needs
 
--- src/lib.rt:139:35
 expand-requires : tie.Need-expand-requires
 expand-requires c κs =
     let s = c .before .before .before .before .before .before .before .before in
@@ -39,11 +30,9 @@ expand-requires c κs =
     let v = c .before .before .before .after .given in
     state-asked (a .targets .now) (a .k) (a .sets .now) (a .next .now) (a .count) (a .q .0) (one .result) (s .pre .1) (s .pre .2) (one .ensures) (w .result) (w .last .0) (w .ensures) (v .0 .0) (v .0 .1 .0) (v .1)
 
--- src/lib.rt:140:27
 enum-told : tie.Need-enum-told
 enum-told c = search needs
 
--- src/lib.rt:127:1
 returns : tie.Need-returns
 returns c =
     let s = c .before .before .before .before .before .before .before .before .before in
@@ -53,7 +42,6 @@ returns c =
     let v = c .before .before .before .before .after .given in
     state-grown (a .targets .now) (a .k) (a .sets .now) (a .next .now) (a .count) (a .q .0) (one .result) (s .pre .1) (s .pre .2) (one .ensures) (w .result) (w .last .0) (w .ensures) (v .0 .0) (v .0 .1 .0) (v .1) (c .expand .result) (c .expand .last .1 .1 .0) (c .expand .last .1 .1 .1 .0) (c .expand .ensures)
 
--- src/lib.rt:127:1
 returns-2 : tie.Need-returns-2
 returns-2 c =
     let s = c .before .before .before .before .before in

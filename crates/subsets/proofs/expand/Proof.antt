@@ -2,23 +2,19 @@
 -- and expanding these sets from i on comes to the list that the contract names. Within set i the same of the symbols below the present one.
 -- The fuel of the definition is 512 at the first set and one less with each set, so it lasts while there are at most 512 sets. Where the
 -- 513th turns up, that list is longer than 512, since the procedure only appends. Assumes nothing.
-use mathlib.Core.Path.{_≡_, refl, sym, ap, _∙_}
-use mathlib.Core.List.{List}
+use mathlib.Core.Path.{_≡_, refl, ap, _∙_}
 use Prim.Native.Nat.{ℕ, _+_, _-_, _*_, _≤_, _<_, min}
 use native.Mathlib.Omega.{arith}
 use lib.ListN.{length, getD, take}
 use borrow.Author.Needs.{needs}
-use Rattle.subsets.specs.Sets.{expandFrom, closeFrom}
-use Rattle.subsets.specs.Steps.{cellsOf, Holds}
+use Rattle.subsets.specs.Sets.{closeFrom}
+use Rattle.subsets.specs.Steps.{Holds}
 use Rattle.subsets.proofs.Closure.{close-begins, symbols-end, sets-more, sets-end}
 use Rattle.subsets.proofs.Arrays.{count-is}
 use Rattle.subsets.proofs.Table.{row-begins, row-ends}
-use Rattle.subsets.proofs.Turns.{expanded, turn-most, turn-below, turn-holds, turn-expanded, turn-over, grown-whole, grown-over}
+use Rattle.subsets.proofs.Turns.{expanded, turn-whole, turn-over, grown-whole, grown-over}
 use Rattle.subsets.proofs.expand.Statement.{statement}
 use Rattle.subsets.proofs.expand.Tie as tie
-use Rattle.subsets.proofs.expand.Reads as reads
-use Rattle.subsets.proofs.expand.Lts as lts
-use Rattle.subsets.proofs.step.Reads as step-reads
 
 abbrev Inv-loop : tie.InvT-loop
 Inv-loop targets k sets₀ next₀ from count₀ i symbol₀ sets next count symbol =
@@ -81,13 +77,9 @@ loop-again c =
     let l = take (e .count) (e .sets) in
     let below : i < length l = rw (count-is (e .sets) (e .count) (e .inv .0) (e .inv .3 .sets-are)) (e .inv .1) in
     let symbol : e .symbol < a .k = omega arith in
-    let n : ℕ = c .before .after .given .0 .0 in (
-      turn-most (a .targets .now) (a .k) l i (e .symbol) below symbol (w .ensures) (e .inv .3) n (c .before .after .given .1),
-      turn-below (a .targets .now) (a .k) l i (e .symbol) below symbol (w .ensures) (e .inv .3) n (c .before .after .given .1),
-      omega arith,
-      turn-holds (a .targets .now) (a .k) l i (e .symbol) below symbol (w .ensures) (e .inv .3) n (c .before .after .given .1),
-      e .inv .4 ∙ turn-expanded (a .targets .now) (a .k) l i (e .symbol) below symbol (w .ensures) (e .inv .3) n (c .before .after .given .1),
-    )
+    let v = c .before .after .given in
+    let m = turn-whole (a .targets .now) (a .k) l i (e .symbol) below symbol (w .ensures) (e .inv .3) (v .0 .0) (v .1) in
+    (m .0, m .1, omega arith, m .2, e .inv .4 ∙ m .3)
 
 add-i : tie.Need-add-i Inv-loop μ-loop Inv-expand μ-expand
 add-i c = omega arith

@@ -1,11 +1,10 @@
 -- `find` meets its contract. The loop's invariant: the set stands at none of the places passed. So the place where it is found is the
 -- first, and where all are passed it has no number. Assumes nothing.
-use mathlib.Core.Path.{_≡_, refl, sym, ap, _∙_}
+use mathlib.Core.Path.{_≡_}
 use Prim.Native.Nat.{ℕ, _-_, _≤_, _<_}
 use native.Mathlib.Omega.{arith}
-use lib.ListN.{length, getD, take}
+use lib.ListN.{getD}
 use borrow.Author.Count.{below-more}
-use borrow.Author.Needs.{needs}
 use Rattle.subsets.proofs.Arrays.{found-at, found-none}
 use Rattle.subsets.proofs.find.Statement.{statement}
 use Rattle.subsets.proofs.find.Tie as tie

@@ -1,7 +1,7 @@
 -- `number_sets` meets its contract. The loop's invariant: the first count sets are those that the definition has after the states below q, and
 -- the arrays hold them and every cell of theirs. Assumes nothing.
-use mathlib.Core.Path.{_≡_, refl, sym, ap, _∙_}
-use Prim.Native.Nat.{ℕ, _+_, _-_, _*_, _≤_, _<_, min}
+use mathlib.Core.Path.{_≡_, refl, ap, _∙_}
+use Prim.Native.Nat.{_-_, _*_, _≤_, min}
 use native.Mathlib.Omega.{arith}
 use lib.ListN.{take}
 use borrow.Author.Needs.{needs}
@@ -10,11 +10,6 @@ use Rattle.subsets.specs.Steps.{Holds}
 use Rattle.subsets.proofs.Turns.{begin, states-more, states-over, answered-over, answered-whole}
 use Rattle.subsets.proofs.number_sets.Statement.{statement}
 use Rattle.subsets.proofs.number_sets.Tie as tie
-use Rattle.subsets.proofs.number_sets.Reads as reads
-use Rattle.subsets.proofs.number_sets.Lts as lts
-use Rattle.subsets.proofs.add_state.Reads as add-state-reads
-use Rattle.subsets.proofs.clear.Reads as clear-reads
-use Rattle.subsets.proofs.states.Reads as states-reads
 
 abbrev Inv-loop : tie.InvT-loop
 Inv-loop targets n k sets₀ next₀ count₀ q₀ q-end sets next count q =
