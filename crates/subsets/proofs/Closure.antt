@@ -43,7 +43,7 @@ module _ (ts : List ℕ) where
     unfolding setsUpTo
     state-begins q =
         let l = setsUpTo ts k q in
-        begins-trans (numbered-begins l (single q)) (close-begins 512 (length l) (numbered l (single q)))
+        begins-trans (numbered-begins l (single q)) (close-begins 512 _ (numbered l (single q)))
 
     pub upTo-begins : (q p : ℕ) → q ≤ p → Begins (setsUpTo ts k q) (setsUpTo ts k p)
     upTo-begins q zero h = let e : q ≡ 0 = omega arith in rw e (begins-self (setsUpTo ts k 0))
@@ -103,7 +103,7 @@ module _ (ts : List ℕ) (k : ℕ) (P : List ℕ → Type 0)
   upTo-keeps n none singles zero h = none
   upTo-keeps n none singles (suc q) h =
       let l = setsUpTo ts k q in
-      close-keeps 512 (length l) (numbered l (single q)) (singles l q h (upTo-keeps n none singles q (omega arith)))
+      close-keeps 512 _ (numbered l (single q)) (singles l q h (upTo-keeps n none singles q (omega arith)))
 
 -- ---- a set that is not empty has a number
 abbrev pub Covers : List ℕ → ℕ → Type 0
