@@ -1,17 +1,183 @@
 // The sets of states that get a number, in the order of their numbers, and the next-set table.
 ghost use mathlib.Core.Path.{_≡_};
-ghost use mathlib.Core.Bool.{true, false};
-ghost use mathlib.Core.Option.{Option, some, none};
-ghost use Prim.Native.Nat.{ℕ, _≤_, _<_};
-ghost use lib.ListN.{length};
-ghost use Rattle.subsets.specs.Sets.{setsOf, tooMany, setCells, nextCells};
+ghost use Prim.Native.Nat.{_*_, _≤_, _<_, min};
+ghost use lib.ListN.{take};
+ghost use Rattle.subsets.specs.Answer.{Answered};
+ghost use Rattle.subsets.specs.Steps.{foundIn, cellsOf, Entered, Stepped, Holds, Grown, grownBy, closedFrom, Cleared};
 use masks::StateNumber;
 
 // The number of a set, which is never the number of a state.
 pub struct SetNumber(pub u16);
 
-pub fn wrap(x: u16) -> SetNumber
-    ensures { λ r. ⌜ r .0 ≡ x ⌝ }
+// Where a search ends.
+pub enum Found {
+    At(SetNumber),
+    Nothing,
+}
+
+// A set's number with the number of sets there are then, or the set would be the 513th.
+pub enum Numbered {
+    As(SetNumber, usize),
+    Full,
+}
+
+// The number of sets, or the 513th turned up (9).
+pub enum Numbering {
+    Whole(usize),
+    Over,
+}
+
+// The number of a set among the first count.
+fn find(sets: &[u32; 512], count: usize, set: u32) -> Found
+    requires { ⌜ count ≤ 512 ⌝ }
+    ensures { λ r. ⌜ r ≡ foundIn (take count (now (sets .entry))) set ⌝ }
 {
-    SetNumber(x)
+    let cells: &[u32] = sets;
+    let mut i: usize = 0;
+    let found = loop {
+        if i == count {
+            return Found::Nothing;
+        }
+        if cells[i] == set {
+            break i;
+        }
+        i += 1;
+    };
+    Found::At(SetNumber(found as u16))
+}
+
+// A set that is not empty keeps the number it has among the first count, else it takes the next.
+fn number(sets: &mut [u32; 512], count: usize, set: u32) -> Numbered
+    requires { ⌜ (count ≤ 512) × (now sets ≡ cellsOf (take count (now sets))) × (set ≡ 0 → ⊥) ⌝ }
+    ensures { λ r. ⌜ Entered (take count (now (sets .entry))) set r (now (sets .exit)) ⌝ }
+{
+    match find(sets, count, set) {
+        Found::At(number) => Numbered::As(number, count),
+        Found::Nothing => {
+            if count < 512 {
+                sets[count] = set;
+                Numbered::As(SetNumber(count as u16), count + 1)
+            } else {
+                Numbered::Full
+            }
+        }
+    }
+}
+
+// Set i is expanded by one symbol. The cell of an empty successor is left as it is.
+fn step(
+    targets: &[u32; 512],
+    sets: &mut [u32; 512],
+    next: &mut [u16; 8192],
+    count: usize,
+    i: SetNumber,
+    symbol: u8,
+) -> Numbering
+    requires { ⌜ (count ≤ 512) × (now sets ≡ cellsOf (take count (now sets))) × (i .0 < count) ⌝ }
+    ensures { λ r. ⌜ Stepped (now (targets .entry)) (take count (now (sets .entry))) (i .0) symbol r (now (sets .exit)) (now (next .entry)) (now (next .exit)) ⌝ }
+{
+    let row = i.0 as usize;
+    let set = automaton::successor(targets, sets[row], symbol);
+    if set == 0 {
+        return Numbering::Whole(count);
+    }
+    match number(sets, count, set) {
+        Numbered::As(number, after) => {
+            next[row * 16 + symbol as usize] = number.0;
+            Numbering::Whole(after)
+        }
+        Numbered::Full => Numbering::Over,
+    }
+}
+
+// The sets from number first on are expanded in number order, those that turn up on the way too.
+fn expand(
+    targets: &[u32; 512],
+    k: u8,
+    sets: &mut [u32; 512],
+    next: &mut [u16; 8192],
+    first: SetNumber,
+    from: usize,
+) -> Numbering
+    requires { ⌜ (from ≤ 512) × (first .0 ≤ from) × Holds (now targets) k (take from (now sets)) (first .0 * 16) (now sets) (now next) ⌝ }
+    ensures { λ r. ⌜ Grown (now (targets .entry)) k (closedFrom (now (targets .entry)) k (first .0) (take from (now (sets .entry)))) r (now (sets .exit)) (now (next .exit)) ⌝ }
+{
+    let mut count = from;
+    let mut i = first.0 as usize;
+    let answer = 'expand: loop {
+        if i == count {
+            break 'expand Numbering::Whole(count);
+        }
+        for symbol in 0..k {
+            match step(targets, sets, next, count, SetNumber(i as u16), symbol) {
+                Numbering::Whole(after) => {
+                    count = after;
+                }
+                Numbering::Over => {
+                    break 'expand Numbering::Over;
+                }
+            }
+        }
+        i += 1;
+    };
+    answer
+}
+
+// {q} is numbered, and the sets that are not yet expanded, which are those from number count on, are.
+fn add_state(
+    targets: &[u32; 512],
+    k: u8,
+    sets: &mut [u32; 512],
+    next: &mut [u16; 8192],
+    count: usize,
+    q: StateNumber,
+) -> Numbering
+    requires { ⌜ (q .0 < 32) × (count ≤ 512) × Holds (now targets) k (take count (now sets)) (count * 16) (now sets) (now next) ⌝ }
+    ensures { λ r. ⌜ Grown (now (targets .entry)) k (grownBy (now (targets .entry)) k (q .0) (take count (now (sets .entry)))) r (now (sets .exit)) (now (next .exit)) ⌝ }
+{
+    match number(sets, count, masks::singleton(q)) {
+        Numbered::As(_, after) => expand(targets, k, sets, next, SetNumber(count as u16), after),
+        Numbered::Full => Numbering::Over,
+    }
+}
+
+// Every cell says that it is not in use.
+fn clear(sets: &mut [u32; 512], next: &mut [u16; 8192])
+    ensures { λ _. ⌜ Cleared (now (sets .exit)) (now (next .exit)) ⌝ }
+{
+    *sets = [0u32; 512];
+    *next = [512u16; 8192];
+}
+
+// The numbered sets and the next-set table of a rule with n states and k symbols; a value of n above 32 is taken for 32.
+// Where the 513th set turns up, what is left in the two arrays is free.
+pub fn number_sets(
+    targets: &[u32; 512],
+    n: u8,
+    k: u8,
+    sets: &mut [u32; 512],
+    next: &mut [u16; 8192],
+) -> Numbering
+    ensures { λ r. ⌜ Answered (now (targets .entry)) n k r (now (sets .exit)) (now (next .exit)) ⌝ }
+{
+    clear(sets, next);
+    let mut count: usize = 0;
+    for q in 0..states(n) {
+        match add_state(targets, k, sets, next, count, StateNumber(q)) {
+            Numbering::Whole(after) => {
+                count = after;
+            }
+            Numbering::Over => {
+                return Numbering::Over;
+            }
+        }
+    }
+    Numbering::Whole(count)
+}
+
+// The number of states, or 32 where n is more.
+fn states(n: u8) -> u8
+    ensures { λ r. ⌜ r ≡ min n 32 ⌝ }
+{
+    if n < 32 { n } else { 32 }
 }

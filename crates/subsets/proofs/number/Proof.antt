@@ -1,0 +1,60 @@
+-- `number` meets its contract, one way out at a time: the set has a number, it takes the next, or none is left. Assumes nothing.
+use native.Mathlib.Omega.{arith}
+use borrow.Author.Needs.{needs}
+use Rattle.subsets.proofs.Arrays.{entered-kept, entered-taken, entered-full}
+use Rattle.subsets.proofs.number.Statement.{statement}
+use Rattle.subsets.proofs.number.Tie as tie
+
+find-requires : tie.Need-find-requires
+find-requires c κs = search needs
+
+enum-known-number : tie.Need-enum-known-number
+enum-known-number c = search needs
+
+enum-told : tie.Need-enum-told
+enum-told c = search needs
+
+mul-sets : tie.Need-mul-sets
+mul-sets c = search needs
+
+element-write-sets : tie.Need-element-write-sets
+element-write-sets c = search needs
+
+cast-t13 : tie.Need-cast-t13
+cast-t13 c = search needs
+
+add-t10 : tie.Need-add-t10
+add-t10 c = search needs
+
+returns : tie.Need-returns
+returns c =
+    let s = c .before .before .before .before .before in
+    let a = s .args in
+    entered-kept (a .sets .now) (a .count) (s .pre .0) (s .pre .1) (a .set) (s .pre .2) (c .before .number .given .0 .0) (cc)
+
+returns-2 : tie.Need-returns-2
+returns-2 c =
+    let s = c .before .before .before .before .before in
+    let a = s .args in
+    entered-taken (a .sets .now) (a .count) (s .pre .0) (s .pre .1) (a .set) (s .pre .2) (omega arith) (cc)
+
+returns-3 : tie.Need-returns-3
+returns-3 c =
+    let s = c .before .before .before .before .before in
+    let a = s .args in
+    entered-full (a .sets .now) (a .count) (s .pre .0) (s .pre .1) (a .set) (s .pre .2) (omega arith) (cc)
+
+pub number-spec : {M : Type 1} → statement M
+number-spec =
+    tie.close
+    (tie.spec
+    find-requires
+    enum-known-number
+    enum-told
+    mul-sets
+    element-write-sets
+    cast-t13
+    add-t10
+    returns
+    returns-2
+    returns-3)

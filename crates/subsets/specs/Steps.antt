@@ -1,0 +1,85 @@
+-- What the functions below `number_sets` promise, each by the part of the procedure that it does. Nothing here needs to be believed:
+-- `Answered` says what they come to. The numbered sets are the first count cells of the array of sets, and the cells past them are 0.
+--
+--   foundIn l m       what the search for the set m among the sets l answers
+--   limited l         the number of the sets l, or none where there are more than 512
+--   cellsOf l         the sets l as an array
+--   Entered, Stepped, Grown   what `number`, `step`, `expand` and `add_state` promise
+--   Holds             what the two arrays hold while sets are expanded
+use mathlib.Core.Path.{_≡_}
+use mathlib.Core.Bool.{cond, _&&_}
+use mathlib.Core.List.{List, [], _++_}
+use mathlib.Core.Option.{Option, some, none}
+use Prim.Native.Nat.{ℕ, _+_, _*_, _/_, _%_, _≤_, _<_}
+use lib.Dec.{eqb, ltb}
+use lib.ListN.{length, getD, set}
+use Rattle.masks.specs.Masks.{single}
+use Rattle.masks.specs.Lists.{listFrom}
+use Rattle.automaton.specs.Successor.{successor}
+use Rattle.subsets.specs.declared.Found.{Found}
+use Rattle.subsets.specs.declared.Found.the-variants.{At, Nothing}
+use Rattle.subsets.specs.declared.Numbered.{Numbered}
+use Rattle.subsets.specs.declared.Numbered.the-variants.{As, Full}
+use Rattle.subsets.specs.declared.Numbering.{Numbering}
+use Rattle.subsets.specs.Sets.{numberIn, numbered, closeFrom, numberOrEmpty}
+use Rattle.subsets.specs.Answer.{countOf}
+
+abbrev pub foundIn : List ℕ → ℕ → Found
+foundIn l m = cond (ltb (numberIn l m) (length l)) (At (record { 0 = numberIn l m })) Nothing
+
+abbrev pub limited : List ℕ → Option ℕ
+limited l = cond (ltb 512 (length l)) none (some (length l))
+
+abbrev pub cellsOf : List ℕ → List ℕ
+cellsOf l = listFrom 0 512 (λ i. getD l i 0)
+
+-- the set m was numbered after the sets l
+pub record Entered (l : List ℕ) (m : ℕ) (r : Numbered) (sets : List ℕ) : Type 0 where
+  pub number : r ≡ cond (ltb 512 (length (numbered l m))) Full (As (record { 0 = numberIn (numbered l m) m }) (length (numbered l m)))
+  pub sets-are : length (numbered l m) ≤ 512 → sets ≡ cellsOf (numbered l m)
+
+-- nothing is numbered
+pub record Cleared (sets next : List ℕ) : Type 0 where
+  pub sets-are : sets ≡ cellsOf []
+  pub next-are : next ≡ listFrom 0 8192 (λ _. 512)
+
+-- set i of the sets l was expanded by the symbol s
+module _ (ts l : List ℕ) (i s : ℕ) where
+  abbrev pub target : ℕ
+  target = successor ts (getD l i 0) s
+
+  abbrev pub afterStep : List ℕ
+  afterStep = numbered l target
+
+  pub record Stepped (r : Numbering) (sets next₀ next : List ℕ) : Type 0 where
+    pub count : countOf r ≡ limited afterStep
+    pub sets-are : length afterStep ≤ 512 → sets ≡ cellsOf afterStep
+    pub next-are : length afterStep ≤ 512 → next ≡ cond (eqb target 0) next₀ (set next₀ (i * 16 + s) (numberIn afterStep target))
+
+-- the list l is how the list f begins
+pub record Begins (l f : List ℕ) : Type 0 where
+  pub rest : List ℕ
+  pub is : f ≡ l ++ rest
+
+-- the table's cell c, where the sets f are numbered and the cells before `upto` are filled
+abbrev pub cellTo : List ℕ → ℕ → List ℕ → ℕ → ℕ → ℕ
+cellTo ts k f upto c = cond (ltb c upto && ltb (c % 16) k) (numberOrEmpty f (successor ts (getD f (c / 16) 0) (c % 16))) 512
+
+-- The arrays hold the sets l and the table's cells before `upto`. A cell is said for every list that goes on from l, since a set keeps its number.
+pub record Holds (ts : List ℕ) (k : ℕ) (l : List ℕ) (upto : ℕ) (sets next : List ℕ) : Type 0 where
+  pub sets-are : sets ≡ cellsOf l
+  pub next-long : length next ≡ 8192
+  pub cells : (f : List ℕ) → Begins l f → (c : ℕ) → c < 8192 → getD next c 0 ≡ cellTo ts k f upto c
+
+-- the numbered sets became f, and all of them are expanded
+pub record Grown (ts : List ℕ) (k : ℕ) (f : List ℕ) (r : Numbering) (sets next : List ℕ) : Type 0 where
+  pub count : countOf r ≡ limited f
+  pub held : length f ≤ 512 → Holds ts k f (length f * 16) sets next
+
+-- the sets l, with those from number i on expanded
+abbrev pub closedFrom : List ℕ → ℕ → ℕ → List ℕ → List ℕ
+closedFrom ts k i l = closeFrom ts k 512 i l
+
+-- the sets l, with {q} numbered and the sets from there on expanded
+abbrev pub grownBy : List ℕ → ℕ → ℕ → List ℕ → List ℕ
+grownBy ts k q l = closedFrom ts k (length l) (numbered l (single q))
