@@ -119,6 +119,12 @@ module _ (given : SubsetsClaims) (r : Rule) (good : WellFormed r) (fit : fits r)
       let l : numbered q < length (sets r) = omega (arith, found .0) in
       (l, sym (mask-at (numbered q) l) ∙ found .1)
 
+  pub named-single : (q : ℕ) → q < r .n
+      → (numberOf (setCells (r .targets) (r .n) (r .k)) (length (sets r)) q < length (sets r))
+      × (getD (sets r) (numberOf (setCells (r .targets) (r .n) (r .k)) (length (sets r)) q) 0 ≡ single q)
+  unfolding numbered masks
+  named-single q h = let f = few in let e : min (length (sets r)) 512 ≡ length (sets r) = omega arith in rw e at (names q h)
+
   -- ---- alike sets and alike states
   state-law : (q : ℕ) → q < r .n → (w : List ℕ) → Text (r .k) w
       → AcceptsFrom (automatonOf r) q w ↔ (accepted masks cells (r .finals) (numbered q) w ≡ true)

@@ -1,12 +1,13 @@
--- The one proof of all that specs/Claims.antt claims. Assumes what crates/subsets claims.
-use Rattle.subsets.specs.Claims.{Claims as SubsetsClaims}
+-- The one proof of all that specs/Claims.antt claims. Assumes nothing.
+use Rattle.subsets.proofs.Claims as subsets
 use Rattle.delegates.specs.Claims.{Claims}
 use Rattle.delegates.proofs.Alike as alike
 use Rattle.delegates.proofs.Acceptance as acceptance
 
-pub claims : SubsetsClaims → Claims
-claims given = record {
-  merged = acceptance.merged given;
+pub claims : Claims
+claims = record {
+  merged = acceptance.merged subsets.claims;
+  singles = acceptance.named-single subsets.claims;
   alike-self = alike.alike-self;
   alike-back = alike.alike-back;
   alike-on = alike.alike-on;

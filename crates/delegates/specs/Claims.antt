@@ -1,9 +1,10 @@
--- What makes the delegates believable; proofs/Claims.antt proves it, from what crates/subsets claims of the numbered sets.
+-- What makes the delegates believable; proofs/Claims.antt proves it.
 use mathlib.Core.Path.{_≡_}
 use mathlib.Core.Logic.{_↔_}
 use mathlib.Core.List.{List}
 use Prim.Native.Nat.{ℕ, _<_}
 use lib.ListN.{length, getD}
+use Rattle.masks.specs.Masks.{single}
 use Rattle.automaton.specs.declared.Rule.{Rule}
 use Rattle.automaton.specs.Automaton.{Automaton}
 use Rattle.automaton.specs.Rules.{automatonOf, WellFormed}
@@ -11,7 +12,7 @@ use Rattle.subsets.specs.Sets.{setsOf, setCells, nextCells}
 use Rattle.subsets.specs.Claims.{fits}
 use Rattle.delegates.specs.declared.Starts.{Starts}
 use Rattle.delegates.specs.Alike.{Alike, Delegate, Merged}
-use Rattle.delegates.specs.Classes.{MergedSets}
+use Rattle.delegates.specs.Classes.{numberOf, MergedSets}
 
 -- what merge_starts ensures of s, for the arrays of the rule r
 abbrev pub MergedRule : Rule → Starts → Type 0
@@ -21,6 +22,10 @@ MergedRule r s =
 pub record Claims : Type 1 where
   -- of a well-formed rule with at most 512 sets, merge_starts finds the delegates and the number of starts of the automaton
   pub merged : (r : Rule) → WellFormed r → fits r → (s : Starts) → MergedRule r s → Merged (automatonOf r) (s .delegates) (s .count)
+  -- each state's singleton has a number, which names it
+  pub singles : (r : Rule) → WellFormed r → fits r → (q : ℕ) → q < r .n
+      → (numberOf (setCells (r .targets) (r .n) (r .k)) (length (setsOf (r .targets) (r .n) (r .k))) q < length (setsOf (r .targets) (r .n) (r .k)))
+      × (getD (setsOf (r .targets) (r .n) (r .k)) (numberOf (setCells (r .targets) (r .n) (r .k)) (length (setsOf (r .targets) (r .n) (r .k))) q) 0 ≡ single q)
   -- alike is an equivalence
   pub alike-self : (a : Automaton) (q : ℕ) → Alike a q q
   pub alike-back : (a : Automaton) (q r : ℕ) → Alike a q r → Alike a r q

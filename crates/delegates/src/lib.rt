@@ -173,7 +173,7 @@ fn refine(sets: &[u32; 512], next: &[u16; 8192], finals: u32, k: usize) -> [u16;
 }
 
 // The number of {q} among the first m sets.
-fn number_of(sets: &[u32; 512], m: usize, q: StateNumber) -> SetNumber
+pub fn number_of(sets: &[u32; 512], m: usize, q: StateNumber) -> SetNumber
     requires { ⌜ (m ≤ 512) × (q .0 < 32) ⌝ }
     ensures { λ r. ⌜ r .0 ≡ numberOf (now (sets .entry)) m (q .0) ⌝ }
 {

@@ -1,0 +1,101 @@
+-- What an answer of `number_sets` tells, and a rule built from what it leaves. Assumes nothing.
+use mathlib.Core.Path.{_≡_, refl, sym, ap, ap₂, _∙_, subst₃}
+use mathlib.Core.Bool.{true, false}
+use mathlib.Core.List.{List}
+use mathlib.Core.Option.{none, some}
+use Prim.Native.Nat.{ℕ, _≤_, min}
+use native.Mathlib.Omega.{arith}
+use lib.ListN.{length}
+use borrow.Author.Tests.{ltb-false}
+use Rattle.masks.specs.Lists.{listFrom}
+use Rattle.masks.proofs.Cases.{by-test}
+use Rattle.automaton.specs.declared.Rule.{Rule}
+use Rattle.subsets.specs.declared.Numbering.{Numbering}
+use Rattle.subsets.specs.declared.Numbering.the-variants.{Whole, Over}
+use Rattle.subsets.specs.Sets.{setsOf, tooMany}
+use Rattle.subsets.specs.Answer.{countOf, Answered}
+use Rattle.delegates.specs.declared.Starts.{Starts}
+use Rattle.delegates.specs.Classes.{numberOf, MergedSets}
+use Rattle.build.specs.declared.BuildAnswer.the-variants.{Accepted, Refused}
+use Rattle.build.specs.declared.Built.{Built}
+use Rattle.build.specs.Building.{noBuilt, Builds}
+
+module _ (ts : List ℕ) (n k : ℕ) (r : Numbering) (sets next : List ℕ) (answered : Answered ts n k r sets next) where
+  -- a count: there are not too many
+  pub not-over : (c : ℕ) → r ≡ Whole c → tooMany ts n k ≡ false
+  not-over c e =
+      by-test (tooMany ts n k)
+      (λ t.
+      let o : some c ≡ none = sym (ap countOf e) ∙ answered .count ∙ rw t in
+      absurd (let z : _≡_ {A = ℕ} 0 1 = cc in omega arith))
+      (λ f. f)
+
+  pub the-count : (c : ℕ) → r ≡ Whole c → c ≡ length (setsOf ts n k)
+  the-count c e =
+      let o : some c ≡ some (length (setsOf ts n k)) = sym (ap countOf e) ∙ answered .count ∙ rw (not-over c e) in
+      cc
+
+  few : tooMany ts n k ≡ false → length (setsOf ts n k) ≤ 512
+  unfolding tooMany
+  few f = ltb-false 512 (length (setsOf ts n k)) f
+
+  pub at-most-512 : (c : ℕ) → r ≡ Whole c → c ≤ 512
+  at-most-512 c e = rw (the-count c e) (few (not-over c e))
+
+  -- no count: there are too many
+  pub is-over : r ≡ Over → tooMany ts n k ≡ true
+  is-over e =
+      by-test (tooMany ts n k) (λ t. t)
+      (λ f.
+      let o : none ≡ some (length (setsOf ts n k)) = sym (ap countOf e) ∙ answered .count ∙ rw f in
+      absurd (let z : _≡_ {A = ℕ} 0 1 = cc in omega arith))
+
+-- the two arrays, the merged starts and the numbers of singletons make a built rule
+pub whole : (r : Rule) (a : Numbering) (sets next : List ℕ) → Answered (r .targets) (r .n) (r .k) a sets next → (c : ℕ) → a ≡ Whole c
+    → (s : Starts) → MergedSets sets next (r .finals) c (r .n) (r .k) s
+    → (singles : List ℕ) → singles ≡ listFrom 0 32 (numberOf sets c)
+    → (n k : ℕ) → n ≡ min (r .n) 32 → k ≡ min (r .k) 16
+    → Builds r (record {
+      answer = Accepted c (s .count);
+      built = record {
+        n = n;
+        k = k;
+        starts = s .count;
+        count = c;
+        initials = r .initials;
+        finals = r .finals;
+        delegates = s .delegates;
+        singles = singles;
+        sets = sets;
+        next = next;
+      };
+    })
+whole r a sets next answered c e s merged singles are n k n-is k-is =
+    let f = not-over (r .targets) (r .n) (r .k) a sets next answered c e in
+    let count = the-count (r .targets) (r .n) (r .k) a sets next answered c e in
+    record {
+      answer = rw (f, count);
+      built = λ _. record {
+        n-is = n-is;
+        k-is = k-is;
+        initials-are = refl;
+        finals-are = refl;
+        count-is = count;
+        sets-are = answered .sets-are f;
+        next-are = answered .next-are f;
+        singles-are = are ∙ ap₂ (λ (l : List ℕ) (m : ℕ). listFrom 0 32 (numberOf l m)) (answered .sets-are f) count;
+        merged =
+            subst₃ (λ (l : List ℕ) (t : List ℕ) (m : ℕ). MergedSets l t (r .finals) m (r .n) (r .k) s) (answered .sets-are f) (answered .next-are f) count merged;
+      };
+      nothing = λ t. let z : true ≡ false = sym t ∙ f in absurd (let y : _≡_ {A = ℕ} 0 1 = cc in omega arith);
+    }
+
+pub too-many : (r : Rule) (a : Numbering) (sets next : List ℕ) → Answered (r .targets) (r .n) (r .k) a sets next → a ≡ Over
+    → (b : Built) → b ≡ noBuilt → Builds r (record { answer = Refused 9; built = b })
+too-many r a sets next answered e b is =
+    let t = is-over (r .targets) (r .n) (r .k) a sets next answered e in
+    record {
+      answer = rw t;
+      built = λ f. let z : true ≡ false = sym t ∙ f in absurd (let y : _≡_ {A = ℕ} 0 1 = cc in omega arith);
+      nothing = λ _. is;
+    }

@@ -1,0 +1,119 @@
+// Builds a rule: its numbered sets, its next-set table, its delegates and the number of its starts.
+ghost use mathlib.Core.Path.{_≡_};
+ghost use Prim.Native.Nat.{_≤_, min};
+ghost use Rattle.masks.specs.Lists.{listFrom};
+ghost use Rattle.delegates.specs.Classes.{numberOf};
+ghost use Rattle.build.specs.Building.{noBuilt, Builds};
+use automaton::Rule;
+use masks::StateNumber;
+use subsets::Numbering;
+
+// A rule that is built. starts is M; singles has the number of {q} for each state q. Any cell of next or singles at or above 512 reads as
+// the empty set.
+#[repr(C)]
+pub struct Built {
+    pub n: u8,
+    pub k: u8,
+    pub starts: u8,
+    pub count: u16,
+    pub initials: u32,
+    pub finals: u32,
+    pub delegates: [u8; 32],
+    pub singles: [u16; 32],
+    pub sets: [u32; 512],
+    pub next: [u16; 8192],
+}
+
+// The number of sets and M, or a refusal.
+pub enum BuildAnswer {
+    Accepted(u16, u8),
+    Refused(u8),
+}
+
+// An answer with the built rule beside it, which is all zeros where the rule is refused.
+pub struct Building {
+    pub answer: BuildAnswer,
+    pub built: Built,
+}
+
+// x, but no more than most.
+fn at_most(x: u8, most: u8) -> u8
+    ensures { λ r. ⌜ r ≡ min x most ⌝ }
+{
+    if x < most { x } else { most }
+}
+
+// The number of {q} for each state q.
+fn number_singles(sets: &[u32; 512], count: usize) -> [u16; 32]
+    requires { ⌜ count ≤ 512 ⌝ }
+    ensures { λ r. ⌜ r ≡ listFrom 0 32 (numberOf (now (sets .entry)) count) ⌝ }
+{
+    let mut singles = [0u16; 32];
+    let mut q: usize = 0;
+    while q < 32 {
+        let number = delegates::number_of(sets, count, StateNumber(q as u8));
+        singles[q] = number.0;
+        q += 1;
+    }
+    singles
+}
+
+// Zeros in every field.
+fn nothing_built() -> Built
+    ensures { λ r. ⌜ r ≡ noBuilt ⌝ }
+{
+    let delegates = [0u8; 32];
+    let singles = [0u16; 32];
+    let sets = [0u32; 512];
+    let next = [0u16; 8192];
+    Built {
+        n: 0,
+        k: 0,
+        starts: 0,
+        count: 0,
+        initials: 0,
+        finals: 0,
+        delegates,
+        singles,
+        sets,
+        next,
+    }
+}
+
+// The rule built, or a refusal with 9 where it has more than 512 sets. Any value is taken, also one that no file gives.
+pub fn build_rule(rule: Rule) -> Building
+    ensures { λ r. ⌜ Builds rule r ⌝ }
+{
+    let n = rule.n;
+    let k = rule.k;
+    let finals = rule.finals;
+    let mut sets = [0u32; 512];
+    let mut next = [0u16; 8192];
+    match subsets::number_sets(&rule.targets, n, k, &mut sets, &mut next) {
+        Numbering::Whole(count) => {
+            let merged = delegates::merge_starts(&sets, &next, count, finals, n, k);
+            let singles = number_singles(&sets, count);
+            let delegates = merged.delegates;
+            let starts = merged.count;
+            let built = Built {
+                n: at_most(n, 32),
+                k: at_most(k, 16),
+                starts,
+                count: count as u16,
+                initials: rule.initials,
+                finals,
+                delegates,
+                singles,
+                sets,
+                next,
+            };
+            let answer = BuildAnswer::Accepted(count as u16, starts);
+            Building { answer, built }
+        }
+        Numbering::Over => {
+            let built = nothing_built();
+            let answer = BuildAnswer::Refused(9);
+            Building { answer, built }
+        }
+    }
+}
