@@ -1,0 +1,58 @@
+-- The board (document 01, "The board and its calls"): for each place whether it is filled, the count of its chunk and the end set of each state.
+-- Any value of any field is a board: a filled mark is a number, 0 for empty, and a number of places above 64 counts as 64.
+--
+--   placesOf b         the number of places
+--   held b p q         the end set of state q at place p
+--   isEmpty b p        place p has no chunk
+--   emptyBoard n       n places, all empty
+--   filledAt b p s     place p holds the end sets and the count s of a chunk, which may be empty
+--   clearedAt b p      place p is empty, its end sets empty and its count 0
+--   emptyPlaces b      how many places are empty
+--   summedCount b      the sum of the counts over all places
+use mathlib.Core.Bool.{Bool, cond}
+use mathlib.Core.List.{List}
+use Prim.Native.Nat.{ℕ, _+_, _*_, _/_, _%_, min}
+use lib.Dec.{eqb}
+use lib.ListN.{getD, set, replicate}
+use Rattle.masks.specs.Lists.{listFrom}
+use Rattle.chunks.specs.declared.Runs.{Runs}
+use Rattle.chunks.specs.Chunks.{total}
+use Rattle.board.specs.declared.Board.{Board}
+
+abbrev pub placesOf : Board → ℕ
+placesOf b = min (b .places) 64
+
+abbrev pub held : Board → ℕ → ℕ → ℕ
+held b p q = getD (b .ends) (p * 32 + q) 0
+
+abbrev pub isEmpty : Board → ℕ → Bool
+isEmpty b p = eqb (getD (b .filled) p 0) 0
+
+unfoldable pub emptyBoard : ℕ → Board
+emptyBoard n = record { places = n; filled = replicate 64 0; counts = replicate 64 0; ends = replicate 2048 0 }
+
+-- the 32 cells of place p have the values g, the others stay
+abbrev pub rowSet : List ℕ → ℕ → (ℕ → ℕ) → List ℕ
+rowSet ends p g = listFrom 0 2048 (λ cell. cond (eqb (cell / 32) p) (g (cell % 32)) (getD ends cell 0))
+
+unfoldable pub filledAt : Board → ℕ → Runs → Board
+filledAt b p s = record {
+  places = b .places;
+  filled = set (b .filled) p 1;
+  counts = set (b .counts) p (s .count);
+  ends = rowSet (b .ends) p (λ q. getD (s .ends) q 0);
+}
+
+unfoldable pub clearedAt : Board → ℕ → Board
+clearedAt b p = record {
+  places = b .places;
+  filled = set (b .filled) p 0;
+  counts = set (b .counts) p 0;
+  ends = rowSet (b .ends) p (λ q. 0);
+}
+
+unfoldable pub emptyPlaces : Board → ℕ
+emptyPlaces b = total (λ p. cond (isEmpty b p) 1 0) (placesOf b)
+
+unfoldable pub summedCount : Board → ℕ
+summedCount b = total (λ p. getD (b .counts) p 0) (placesOf b)

@@ -1,0 +1,4 @@
+-- In the order in which to read them.
+pub mod Boards
+pub mod Joining
+pub mod Claims

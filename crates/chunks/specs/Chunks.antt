@@ -1,0 +1,44 @@
+-- Running a chunk (document 01, "Running a chunk"), over the targets `ts` of a rule: which states a chunk is run from, the end set of each run
+-- and what the runs count.
+--
+--   counted ts m w         what a run over w counts that begins with the set m: one transition for each successor that is not empty
+--   startSet d n           the starts, as a set: the states below n that are their own delegate, where d lists each state's delegate
+--   delegateSet d n m      the delegates of the members of m
+--   runSet d n m place     the states that a chunk is run from at a place, where m is the set of initial states
+--   endSet ts run w q      the end set of state q for the chunk w; empty where q is not run
+--   chunkCount ts run w    the chunk's count: the sum of what its runs count
+use mathlib.Core.Bool.{cond}
+use mathlib.Core.List.{List, [], _∷_}
+use Prim.Native.Nat.{ℕ, zero, suc, _+_}
+use lib.Bits.{bitOr}
+use lib.Dec.{eqb}
+use lib.ListN.{getD}
+use Rattle.masks.specs.Masks.{has, single, union}
+use Rattle.automaton.specs.Successor.{successor, after}
+
+unfoldable pub counted : List ℕ → ℕ → List ℕ → ℕ
+counted ts m [] = 0
+counted ts m (s ∷ w) = cond (eqb (successor ts m s) 0) 0 1 + counted ts (successor ts m s) w
+
+unfoldable pub startSet : List ℕ → ℕ → ℕ
+startSet d zero = 0
+startSet d (suc q) = bitOr (startSet d q) (cond (eqb (getD d q 0) q) (single q) 0)
+
+abbrev pub delegateSet : List ℕ → ℕ → ℕ → ℕ
+delegateSet d n m = union (λ q. single (getD d q 0)) m n
+
+-- place 0 is run from the delegates of initial states, any other place from all starts
+abbrev pub runSet : List ℕ → ℕ → ℕ → ℕ → ℕ
+runSet d n m zero = delegateSet d n m
+runSet d n m (suc place) = startSet d n
+
+abbrev pub endSet : List ℕ → ℕ → List ℕ → ℕ → ℕ
+endSet ts run w q = cond (has run q) (after ts (single q) w) 0
+
+-- the sum of f q over the states q below n
+unfoldable pub total : (ℕ → ℕ) → ℕ → ℕ
+total f zero = 0
+total f (suc q) = total f q + f q
+
+abbrev pub chunkCount : List ℕ → ℕ → List ℕ → ℕ
+chunkCount ts run w = total (λ q. cond (has run q) (counted ts (single q) w) 0) 32

@@ -1,0 +1,30 @@
+-- What running a chunk comes to, for every well-formed rule with at most 512 sets, as it is built; proofs/Claims.antt proves it.
+use mathlib.Core.Path.{_≡_}
+use mathlib.Core.Logic.{_↔_}
+use mathlib.Core.List.{List}
+use Prim.Native.Nat.{ℕ, _*_, _^_, _<_, _≤_}
+use lib.ListN.{length, getD}
+use Rattle.masks.specs.Masks.{_∈_}
+use Rattle.masks.specs.Lists.{listFrom}
+use Rattle.automaton.specs.declared.Rule.{Rule}
+use Rattle.automaton.specs.Rules.{WellFormed}
+use Rattle.subsets.specs.Claims.{fits}
+use Rattle.delegates.specs.Alike.{Text, startCount}
+use Rattle.build.specs.declared.Built.{Built}
+use Rattle.build.specs.Building.{BuiltRule}
+use Rattle.chunks.specs.Chunks.{counted, startSet, delegateSet, endSet, chunkCount}
+use Rattle.chunks.specs.Walks.{runsOf}
+
+pub record Claims : Type 0 where
+  -- over a text of the rule's symbols, run from states of the rule: each end set is the set after the text, and the count is document 01's
+  pub ends : (r : Rule) → WellFormed r → fits r → (b : Built) → BuiltRule r b → (run : ℕ) → run < 2 ^ r .n → (w : List ℕ) → Text (r .k) w
+      → runsOf (b .sets) (b .next) (b .singles) run w .ends ≡ listFrom 0 32 (endSet (r .targets) run w)
+  pub count : (r : Rule) → WellFormed r → fits r → (b : Built) → BuiltRule r b → (run : ℕ) → run < 2 ^ r .n → (w : List ℕ) → Text (r .k) w
+      → runsOf (b .sets) (b .next) (b .singles) run w .count ≡ chunkCount (r .targets) run w
+  -- a run counts at most one transition for each byte, so a chunk that is run from starts counts at most M times its bytes
+  pub counted-most : (ts : List ℕ) (m : ℕ) (w : List ℕ) → counted ts m w ≤ length w
+  pub chunk-most : (ts d : List ℕ) (n run : ℕ) → n ≤ 32 → ((q : ℕ) → q ∈ run → q ∈ startSet d n) → (w : List ℕ)
+      → chunkCount ts run w ≤ startCount d n * length w
+  -- the members of the starts and of a place's starts, by document 01's words
+  pub start-law : (d : List ℕ) (n q : ℕ) → q ∈ startSet d n ↔ (q < n) × (getD d q 0 ≡ q)
+  pub delegate-law : (d : List ℕ) (n m p : ℕ) → p ∈ delegateSet d n m ↔ (q : ℕ) × (q < n) × (q ∈ m) × (p ≡ getD d q 0)

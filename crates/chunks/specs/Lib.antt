@@ -1,0 +1,4 @@
+-- In the order in which to read them.
+pub mod Chunks
+pub mod Walks
+pub mod Claims

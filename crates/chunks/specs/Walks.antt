@@ -1,0 +1,37 @@
+-- What the code does over the arrays of a built rule, whatever they hold: a walk over the next-set table from a set's number. Nothing here needs
+-- to be believed: specs/Claims.antt says what it comes to for a built rule. Any number from 512 on stands for the empty set.
+--
+--   stepOf next i b       the set to which the byte b leads from set i
+--   walkEnd, walkCount    the number of the set after the bytes w, and how many of the steps led to a set that is not empty
+--   maskOf sets i         the mask of set i
+--   runsOf ..             the end set of each state that is run, as an array, and the sum of the counts
+use mathlib.Core.Bool.{cond}
+use mathlib.Core.List.{List, [], _∷_}
+use Prim.Native.Nat.{ℕ, _+_, _%_}
+use lib.Dec.{ltb}
+use lib.ListN.{getD}
+use Rattle.masks.specs.Masks.{has}
+use Rattle.masks.specs.Lists.{listFrom}
+use Rattle.delegates.specs.Classes.{follow}
+use Rattle.chunks.specs.declared.Runs.{Runs}
+use Rattle.chunks.specs.Chunks.{total}
+
+abbrev pub stepOf : List ℕ → ℕ → ℕ → ℕ
+stepOf next i b = follow next i (b % 16)
+
+unfoldable pub walkEnd : List ℕ → ℕ → List ℕ → ℕ
+walkEnd next i [] = i
+walkEnd next i (b ∷ w) = walkEnd next (stepOf next i b) w
+
+unfoldable pub walkCount : List ℕ → ℕ → List ℕ → ℕ
+walkCount next i [] = 0
+walkCount next i (b ∷ w) = cond (ltb (stepOf next i b) 512) 1 0 + walkCount next (stepOf next i b) w
+
+abbrev pub maskOf : List ℕ → ℕ → ℕ
+maskOf sets i = cond (ltb i 512) (getD sets i 0) 0
+
+abbrev pub runsOf : List ℕ → List ℕ → List ℕ → ℕ → List ℕ → Runs
+runsOf sets next singles run w = record {
+  ends = listFrom 0 32 (λ q. cond (has run q) (maskOf sets (walkEnd next (getD singles q 0) w)) 0);
+  count = total (λ q. cond (has run q) (walkCount next (getD singles q 0) w) 0) 32;
+}
