@@ -1,5 +1,6 @@
 #!/usr/bin/env python3
-"""Writes the cases of the program rulefile_cases: crates/rulefile_cases/stdin and stdout.
+"""Writes the cases of the program rulefile_cases: crates/rulefile_cases/stdin and stdout. With --check it
+writes nothing and says whether they are what it would write.
 
 A case is a line `NAME HEX`. The expected answer is computed here, from the words of document 01 and
 sharing nothing with the Rattle code: `NAME refused NUMBER`, or `NAME accepted N K INITIALS FINALS`
@@ -7,6 +8,7 @@ and, for each state and symbol with a target, ` STATE.SYMBOL=MASK` (masks in hex
 """
 import os
 import struct
+import sys
 
 HERE = os.path.dirname(os.path.abspath(__file__))
 CRATE = os.path.join(HERE, "..", "crates", "rulefile_cases")
@@ -47,10 +49,10 @@ def answer(f):
     return f"accepted {n} {k} {initials:x} {finals:x}{cells}"
 
 
-def rule(n, k, initials, finals, sections, count=None):
-    """A rule file. `sections` has a list of (symbol, target) for each state."""
+def rule(n, k, initials, finals, sections):
+    """A rule file. `sections` has a list of (symbol, target) for each state; missing ones are empty."""
     sections = sections + [[]] * (n - len(sections))
-    head = bytes([n if count is None else count, k]) + struct.pack("<II", initials, finals)
+    head = bytes([n, k]) + struct.pack("<II", initials, finals)
     offset, pairs, arcs = 10 + 4 * n, b"", b""
     for section in sections:
         pairs += struct.pack("<HH", offset, 2 * len(section))
@@ -68,6 +70,7 @@ def patched(f, at, *values):
 A = bytes.fromhex("03020100000004000000160006001C0002001E000000000000010100 0102".replace(" ", ""))
 B = rule(3, 1, 1, 6, [[(0, 1), (0, 2)], [(0, 0)], [(0, 0)]])
 ONE = rule(1, 1, 1, 1, [[(0, 0)]])  # a state, a symbol, an arc: 16 bytes
+TWO = rule(2, 1, 1, 1, [])[:10]  # the head of a rule with two states; pairs and arcs to follow
 FULL = rule(32, 16, 0xFFFFFFFF, 0x80000000, [[(s, t) for s in range(16) for t in range(32)]] * 32)  # 32,906 bytes
 
 CASES = [
@@ -109,18 +112,21 @@ CASES = [
     ("final_bit_2_of_3", patched(A, 6, 4)),
     ("final_bit_3_of_3", patched(A, 6, 8)),
     ("final_bit_31_of_3", patched(A, 9, 0x80)),
+    ("mask_bytes_in_order", rule(32, 1, 0x04030201, 0x08070605, [])),
     ("mask_bit_31_of_32", rule(32, 1, 0xFFFFFFFF, 0xFFFFFFFF, [])),
     ("mask_bit_31_of_31", rule(31, 1, 0, 0x80000000, [])),
-    # 7
-    ("odd_length", patched(rule(1, 1, 1, 1, [[(0, 0)]]) + b"\0", 12, 3)),
-    ("odd_lengths_that_add_up", rule(2, 2, 1, 1, [])[:10] + struct.pack("<HHHH", 18, 1, 19, 3) + bytes(4)),
-    ("first_offset_1_less", patched(ONE, 10, 13)),
-    ("first_offset_1_more", patched(ONE, 10, 15)),
-    ("gap", patched(B, 14, 0x1B)),
-    ("gap_of_an_arc", patched(B, 14, 0x1C)),
-    ("overlap", patched(B, 14, 0x18)),
+    # 7, each case with this one fault
+    ("odd_length", ONE[:12] + struct.pack("<H", 3) + bytes(3)),
+    ("odd_length_of_the_last", TWO + struct.pack("<HHHH", 18, 2, 20, 1) + bytes(3)),
+    ("odd_lengths_that_add_up", TWO + struct.pack("<HHHH", 18, 1, 19, 3) + bytes(4)),
+    ("first_offset_1_less", patched(ONE[:15], 10, 13)),
+    ("first_offset_1_more", patched(ONE + b"\0", 10, 15)),
+    ("gap", TWO + struct.pack("<HHHH", 18, 2, 22, 2) + bytes(6)),
+    ("overlap", TWO + struct.pack("<HHHH", 18, 4, 20, 2) + bytes([0, 0, 0, 1])),
     # 18 + 65,534 is 16 modulo 65,536, where the second section says that it begins
-    ("overlap_modulo_65536", rule(2, 1, 1, 1, [])[:10] + struct.pack("<HHHH", 18, 65534, 16, 6) + bytes(4)),
+    ("overlap_modulo_65536", TWO + struct.pack("<HHHH", 18, 65534, 16, 6) + bytes(4)),
+    # 20 + 65,534 is 18 modulo 65,536, where the file ends
+    ("end_modulo_65536", TWO + struct.pack("<HHHH", 18, 2, 20, 65534)),
     ("ends_1_early", ONE + b"\0"),
     ("ends_2_early", ONE + b"\0\0"),
     ("ends_1_late", ONE[:-1]),
@@ -135,6 +141,8 @@ CASES = [
     ("equal_arcs", rule(2, 2, 1, 1, [[(0, 1), (0, 1)]])),
     ("falling_by_symbol", rule(2, 2, 1, 1, [[(1, 0), (0, 1)]])),
     ("falling_by_target", rule(2, 2, 1, 1, [[(1, 1), (1, 0)]])),
+    ("third_arc_falls", rule(2, 2, 1, 1, [[(0, 0), (1, 1), (1, 0)]])),
+    ("last_section_falls", rule(2, 2, 1, 1, [[(0, 0)], [(1, 0), (0, 0)]])),
     ("rising_by_symbol_falling_target", rule(2, 2, 1, 1, [[(0, 1), (1, 0)]])),
     ("order_starts_anew_in_each_section", rule(2, 2, 1, 1, [[(1, 1)], [(0, 0)]])),
     ("bad_arc_in_the_last_section", rule(2, 2, 1, 1, [[(0, 0)], [(0, 0), (1, 2)]])),
@@ -151,11 +159,16 @@ CASES = [
 
 
 def main():
-    with open(os.path.join(CRATE, "stdin"), "w") as cases, open(os.path.join(CRATE, "stdout"), "w") as expected:
-        for name, f in CASES:
-            got = answer(f)
-            cases.write(f"{name} {f.hex()}\n")
-            expected.write(f"{name} {got if isinstance(got, str) else f'refused {got}'}\n")
+    cases = "".join(f"{name} {f.hex()}\n" for name, f in CASES)
+    answers = [(name, answer(f)) for name, f in CASES]
+    expected = "".join(f"{name} {a if isinstance(a, str) else f'refused {a}'}\n" for name, a in answers)
+    for name, text in (("stdin", cases), ("stdout", expected)):
+        path = os.path.join(CRATE, name)
+        if sys.argv[1:] == ["--check"]:
+            if open(path).read() != text:
+                sys.exit(f"{path} is not what {__file__} writes")
+        else:
+            open(path, "w").write(text)
 
 
 main()

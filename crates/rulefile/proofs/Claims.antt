@@ -1,24 +1,29 @@
 -- The proof of all that specs/Claims.antt claims: a cell of the table has exactly the targets of the arcs that stand in the section. Assumes
 -- nothing.
-use mathlib.Core.Path.{_≡_, sym, ap₂, _∙_, subst}
+use mathlib.Core.Path.{_≡_, refl, sym, ap₂, _∙_, subst}
 use mathlib.Core.Logic.{_↔_, ⊎-elim}
-use mathlib.Core.List.{List}
+use mathlib.Core.Bool.{false}
+use mathlib.Core.List.{List, [], _∷_}
 use Prim.Native.Nat.{ℕ, _+_, _*_, _/_, _%_, _≤_, _<_}
 use native.Mathlib.Omega.{arith}
 use lib.Dec.{ltb}
 use lib.ListN.{getD, List·getD-eq-default}
 use borrow.Author.Tests.{lt-ltb, le-ltb, ltb-true, ltb-false}
-use Rattle.masks.specs.Masks.{_∈_}
+use Rattle.masks.specs.Masks.{_∈_, union}
+use Rattle.masks.specs.Lists.{listFrom}
 use Rattle.masks.proofs.Cases.{by-test}
 use Rattle.masks.proofs.Laws.{no-member, below-of, empty-mask}
 use Rattle.masks.proofs.Lists.{length-listFrom, cell-of}
-use Rattle.automaton.specs.Automaton.{Equivalent}
+use Rattle.automaton.specs.Automaton.{Accepts, Equivalent}
 use Rattle.automaton.specs.Rules.{cellOf, targetMask, automatonOf, WellFormed}
-use Rattle.automaton.proofs.Laws.{accepts-map}
+use Rattle.automaton.proofs.Laws.{accepts-law, accepts-map}
 use Rattle.rulefile.specs.Format.{stateCount, symbolCount, section, arcCount}
-use Rattle.rulefile.specs.Reader.{targetsBy, targetsFrom, ruleOf}
+use Rattle.rulefile.specs.Reader.{targetsUpTo, targetsBy, targetsFrom, ruleOf}
 use Rattle.rulefile.specs.Language.{ArcIn, automatonIn}
+use Rattle.rulefile.specs.Worked.{fileA}
 use Rattle.rulefile.specs.Claims.{Claims}
+use Rattle.rulefile.proofs.Conditions.{not-both}
+use Rattle.rulefile.proofs.Examples as examples
 use Rattle.rulefile.proofs.Arcs.{bounds}
 use Rattle.rulefile.proofs.Tables.{targets-law}
 use Rattle.rulefile.proofs.Accepted.{Accepted, accepted, good-section}
@@ -101,8 +106,21 @@ module _ (f : List ℕ) (a : Accepted f) where
         w,
   )
 
+-- by computation, rule A's set after 1 0 from its initial states has no final state
+rejects : Accepts (automatonIn fileA) (1 ∷ 0 ∷ []) → ⊥
+unfolding union targetsUpTo listFrom
+rejects t =
+    let a = accepted fileA examples.accepted-A in
+    let e = accepts-law (ruleOf fileA) (well-formed fileA a) (1 ∷ 0 ∷ []) .0 (language fileA a (1 ∷ 0 ∷ []) .0 t) in
+    not-both false e refl
+
 pub claims : Claims
 claims = record {
+  accepted-A = examples.accepted-A;
+  accepted-B = examples.accepted-B;
+  refused-P10 = examples.refused-6;
+  accepts-0-1 = examples.accepts-0-1;
+  rejects-1-0 = rejects;
   well-formed = λ f e. well-formed f (accepted f e);
   arcs = λ f e. arcs f (accepted f e);
   language = λ f e. language f (accepted f e);

@@ -6,6 +6,7 @@ use mathlib.Core.Option.{none, some}
 use lib.Dec.{lit<}
 use Rattle.automaton.specs.Automaton.{Arc, Accepts, stay, move}
 use Rattle.rulefile.specs.Conditions.{anyBelow}
+use Rattle.rulefile.specs.Format.{wordAt}
 use Rattle.rulefile.specs.Refusals.{tooShort, tooLong, badStates, badSymbols, noRoom, badMask, badPairs, badSection, badArcs, refusal}
 use Rattle.rulefile.specs.Reader.{targetsUpTo, targetsFrom}
 use Rattle.rulefile.specs.Language.{automatonIn}
@@ -52,3 +53,7 @@ accepts-0-1 = record { from = 0; to = 2; begins = refl; ends = refl; run = move 
       target = lit< tt;
       there = record { state = lit< tt; index = 0; within = lit< tt; symbol = refl; target = refl };
     }
+
+-- the order of the bytes of a number
+pub four-bytes : wordAt (1 ∷ 2 ∷ 3 ∷ 4 ∷ []) 0 ≡ 0x04030201
+four-bytes = refl

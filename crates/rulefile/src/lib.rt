@@ -108,7 +108,7 @@ fn section_breaks(section: &[u8], n: usize, k: usize) -> bool
     false
 }
 
-// Condition 8: some arc of some section does.
+// Condition 8: some section has such an arc.
 fn arcs_break(file: &[u8]) -> bool
     requires { ⌜ (10 ≤ length (now file)) × (10 + 4 * stateCount (now file) ≤ length (now file)) × (badPairs (now file) ≡ false) ⌝ }
     ensures { λ r. ⌜ r ≡ badArcs (now (file .entry)) ⌝ }

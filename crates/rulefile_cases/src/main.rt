@@ -124,7 +124,7 @@ fn run_cases(text: &[u8]) {
 }
 
 fn main() {
-    let mut text = [0u8; 300000];
+    let mut text = [0u8; 400000];
     let n = io::read_full(STDIN_FILENO, &mut text);
     run_cases(&text[..n]);
 }
