@@ -11,6 +11,8 @@ use borrow.Fn.Kinds.{In}
 use borrow.Fn.PlainCycle.{Measures, is, falls, and}
 use Rattle.text.proofs.put_hex.Reads as put-hex
 use Rattle.text.proofs.put_hex.Kinds as put-hex-kinds
+use Rattle.text.proofs.hex_digit.Reads as hex-digit-reads
+use Rattle.text.proofs.put_byte.Reads as put-byte-reads
 use Rattle.text.proofs.+put_hex.Lts-put_hex as put-hex-lts
 use Rattle.text.proofs.+put_hex.{statement}
 use Rattle.text.proofs.+put_hex.Tie.{close}
