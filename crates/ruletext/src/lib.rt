@@ -1,0 +1,139 @@
+// Prints a built rule into a lent buffer.
+ghost use mathlib.Core.Path.{_≡_};
+ghost use mathlib.Core.List.{List};
+ghost use Prim.Native.Nat.{ℕ, _+_, _*_, _≤_, _<_};
+ghost use lib.ListN.{length};
+ghost use Rattle.text.specs.Numerals.{joined};
+ghost use Rattle.text.specs.Writing.{Wrote};
+ghost use Rattle.ruletext.specs.RuleText.{field, cellText, rowText, setLine, headLine, delegatesLine, ruleText, refusedText, textOf};
+ghost use Rattle.ruletext.specs.Printing.{Prints, TextFor};
+ghost use lib.ListN.{getD};
+use build::BuildAnswer;
+use build::Building;
+use build::Built;
+use rulefile::ReadAnswer;
+
+// How many bytes the text has, or that the buffer is too short for it.
+pub enum Printed {
+    Bytes(usize),
+    Short,
+}
+
+// A number with a space before it.
+fn put_field(out: &mut [u8], at: usize, n: u8) -> usize
+    requires { ⌜ at + 4 ≤ length (now out) ⌝ }
+    ensures { λ r. ⌜ Wrote (now (out .entry)) at (field n) (now (out .exit)) r ⌝ }
+{
+    let digits = text::put_byte(out, at, b' ');
+    text::put_decimal(out, digits, n as u64)
+}
+
+// A cell of the next-set table.
+fn put_cell(out: &mut [u8], at: usize, to: u16) -> usize
+    requires { ⌜ at + 4 ≤ length (now out) ⌝ }
+    ensures { λ r. ⌜ Wrote (now (out .entry)) at (cellText to) (now (out .exit)) r ⌝ }
+{
+    let number = text::put_byte(out, at, b' ');
+    if to < 512 {
+        text::put_decimal(out, number, to as u64)
+    } else {
+        text::put_byte(out, number, b'-')
+    }
+}
+
+// The cells of set i for the k symbols.
+fn put_row(out: &mut [u8], start: usize, next: &[u16; 8192], k: usize, i: usize) -> usize
+    requires { ⌜ (k ≤ 16) × (i < 512) × (start + 4 * k ≤ length (now out)) ⌝ }
+    ensures { λ r. ⌜ Wrote (now (out .entry)) start (rowText (now (next .entry)) k i) (now (out .exit)) r ⌝ }
+{
+    let mut at = start;
+    let mut s: usize = 0;
+    while s < k {
+        at = put_cell(out, at, next[i * 16 + s]);
+        s += 1;
+    }
+    at
+}
+
+// The line of set i.
+fn put_set(
+    out: &mut [u8],
+    at: usize,
+    sets: &[u32; 512],
+    next: &[u16; 8192],
+    k: usize,
+    i: usize,
+) -> usize
+    requires { ⌜ (k ≤ 16) × (i < 512) × (at + 77 ≤ length (now out)) ⌝ }
+    ensures { λ r. ⌜ Wrote (now (out .entry)) at (setLine (now (sets .entry)) (now (next .entry)) k i) (now (out .exit)) r ⌝ }
+{
+    let a = text::put_decimal(out, at, i as u64);
+    let b = text::put_byte(out, a, b' ');
+    let c = text::put_hex(out, b, 8, sets[i] as u64);
+    let d = put_row(out, c, next, k, i);
+    text::put_byte(out, d, b'\n')
+}
+
+// The lines of the first count sets.
+fn put_sets(
+    out: &mut [u8],
+    start: usize,
+    sets: &[u32; 512],
+    next: &[u16; 8192],
+    k: usize,
+    count: usize,
+) -> usize
+    requires { ⌜ (k ≤ 16) × (count ≤ 512) × (start + 77 * count ≤ length (now out)) ⌝ }
+    ensures { λ r. ⌜ Wrote (now (out .entry)) start (joined (setLine (now (sets .entry)) (now (next .entry)) k) count) (now (out .exit)) r ⌝ }
+{
+    let mut at = start;
+    let mut i: usize = 0;
+    while i < count {
+        at = put_set(out, at, sets, next, k, i);
+        i += 1;
+    }
+    at
+}
+
+// The delegates of the first n states.
+fn put_fields(out: &mut [u8], start: usize, delegates: &[u8; 32], n: usize) -> usize
+    requires { ⌜ (n ≤ 32) × (start + 4 * n ≤ length (now out)) ⌝ }
+    ensures { λ r. ⌜ Wrote (now (out .entry)) start (joined (λ q. field (getD (now (delegates .entry)) q 0)) n) (now (out .exit)) r ⌝ }
+{
+    let mut at = start;
+    let mut q: usize = 0;
+    while q < n {
+        at = put_field(out, at, delegates[q]);
+        q += 1;
+    }
+    at
+}
+
+fn put_delegates(out: &mut [u8], at: usize, delegates: &[u8; 32], n: usize) -> usize
+    requires { ⌜ (n ≤ 32) × (at + 138 ≤ length (now out)) ⌝ }
+    ensures { λ r. ⌜ Wrote (now (out .entry)) at (delegatesLine (now (delegates .entry)) n) (now (out .exit)) r ⌝ }
+{
+    let a = text::put_bytes(out, at, b"delegates");
+    let b = put_fields(out, a, delegates, n);
+    text::put_byte(out, b, b'\n')
+}
+
+fn put_head(out: &mut [u8], at: usize, count: usize, starts: u8) -> usize
+    requires { ⌜ (count ≤ 512) × (at + 20 ≤ length (now out)) ⌝ }
+    ensures { λ r. ⌜ Wrote (now (out .entry)) at (headLine count starts) (now (out .exit)) r ⌝ }
+{
+    let a = text::put_bytes(out, at, b"sets ");
+    let b = text::put_decimal(out, a, count as u64);
+    let c = text::put_bytes(out, b, b" starts ");
+    let d = text::put_decimal(out, c, starts as u64);
+    text::put_byte(out, d, b'\n')
+}
+
+fn put_refused(out: &mut [u8], at: usize, number: u8) -> usize
+    requires { ⌜ at + 12 ≤ length (now out) ⌝ }
+    ensures { λ r. ⌜ Wrote (now (out .entry)) at (refusedText number) (now (out .exit)) r ⌝ }
+{
+    let a = text::put_bytes(out, at, b"refused ");
+    let b = text::put_decimal(out, a, number as u64);
+    text::put_byte(out, b, b'\n')
+}
