@@ -1,7 +1,7 @@
 -- The loop that runs a chunk from each state of a mask: its invariant, `Running`, and that a turn keeps it. The states below q have their end
 -- set in `ends`, which has zeros from q on, and `count` is the sum of what their runs count. Assumes nothing.
 use mathlib.Core.Path.{_≡_, refl, sym, ap, ap₂, _∙_}
-use mathlib.Core.Bool.{Bool, true, false, cond}
+use mathlib.Core.Bool.{true, false, cond}
 use mathlib.Core.List.{List}
 use Prim.Native.Nat.{ℕ, _+_, _≤_, _<_}
 use native.Mathlib.Omega.{arith}
@@ -9,14 +9,12 @@ use borrow.Author.Count.{below-none, below-more}
 use lib.ListN.{length, getD, set, replicate, length-set}
 use lib.Seq.{getD-set-other}
 use Rattle.masks.specs.Masks.{has}
-use Rattle.masks.specs.Lists.{listFrom}
 use Rattle.masks.proofs.Lists.{is-listFrom, cell-stored}
 use Rattle.delegates.proofs.Lists.{zero-cells}
-use Rattle.chunks.specs.declared.Runs.{Runs}
 use Rattle.chunks.specs.Chunks.{total}
 use Rattle.chunks.specs.Walks.{walkEnd, walkCount, maskOf, runsOf}
 use Rattle.chunks.proofs.Walks.{count-most}
-use Rattle.chunks.proofs.Totals.{total-more, total-most}
+use Rattle.chunks.proofs.Totals.{either-most, total-more, total-most}
 
 module _ (sets next singles : List ℕ) (mask : ℕ) (chunk : List ℕ) where
   -- the end set of state q, and what its run counts
@@ -36,13 +34,15 @@ module _ (sets next singles : List ℕ) (mask : ℕ) (chunk : List ℕ) where
   unfolding total
   begun = record { cells = refl; passed = below-none _; zeros = λ p h. zero-cells 32 p; counted = refl }
 
-  one-most : (b : Bool) (x : ℕ) → x ≤ length chunk → length chunk ≤ 65536 → cond b x 0 ≤ 65536
-  one-most true x h l = omega arith
-  one-most false x h l = omega arith
-
   module _ (ends : List ℕ) (count q : ℕ) (before : Running ends count q) where
     pub few : length chunk ≤ 65536 → q ≤ 32 → count ≤ 2097152
-    few h l = omega (arith, before .counted, total-most countAt 65536 q (λ p. one-most (has mask p) (walkCount next (getD singles p 0) chunk) (count-most next (getD singles p 0) chunk) h))
+    few h l =
+        omega (
+          arith,
+          before .counted,
+          total-most countAt 65536 q
+              (λ p. let m : walkCount next (getD singles p 0) chunk ≤ 65536 = omega (arith, count-most next (getD singles p 0) chunk) in either-most (has mask p) m (omega arith)),
+        )
 
     pub passed-over : has mask q ≡ false → Running ends count (q + 1)
     passed-over e = record {

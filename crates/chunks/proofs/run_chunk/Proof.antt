@@ -1,5 +1,5 @@
 -- `run_chunk` meets its contract. The loop's invariant is `Running`. Assumes nothing.
-use mathlib.Core.Path.{_≡_, sym, ap, _∙_}
+use mathlib.Core.Path.{sym, ap, _∙_}
 use mathlib.Core.Logic.{⊎-elim}
 use lib.ListN.{getD}
 use Prim.Native.Nat.{_-_, _≤_}
