@@ -23,14 +23,15 @@ pub struct Runs {
 pub fn has_foreign(chunk: &[u8], k: u8) -> bool
     ensures { λ r. ⌜ r ≡ foreign (now (chunk .entry)) k ⌝ }
 {
+    let mut found = false;
     let mut i: usize = 0;
     while i < chunk.len() {
         if k <= chunk[i] {
-            return true;
+            found = true;
         }
         i += 1;
     }
-    false
+    found
 }
 
 // Where the chunk leads from the set, and how many of its steps lead to a set that is not empty: all of them, or those before the first that
