@@ -1,20 +1,25 @@
 -- Running a chunk (document 01, "Running a chunk"), over the targets `ts` of a rule: which states a chunk is run from, the end set of each run
 -- and what the runs count.
 --
+--   foreign w k            some byte of w is no symbol below k (13)
 --   counted ts m w         what a run over w counts that begins with the set m: one transition for each successor that is not empty
 --   startSet d n           the starts, as a set: the states below n that are their own delegate, where d lists each state's delegate
 --   delegateSet d n m      the delegates of the members of m
 --   runSet d n m place     the states that a chunk is run from at a place, where m is the set of initial states
 --   endSet ts run w q      the end set of state q for the chunk w; empty where q is not run
 --   chunkCount ts run w    the chunk's count: the sum of what its runs count
-use mathlib.Core.Bool.{cond}
+use mathlib.Core.Bool.{Bool, false, cond, _||_}
 use mathlib.Core.List.{List, [], _∷_}
 use Prim.Native.Nat.{ℕ, zero, suc, _+_}
 use lib.Bits.{bitOr}
-use lib.Dec.{eqb}
+use lib.Dec.{eqb, leb}
 use lib.ListN.{getD}
 use Rattle.masks.specs.Masks.{has, single, union}
 use Rattle.automaton.specs.Successor.{successor, after}
+
+unfoldable pub foreign : List ℕ → ℕ → Bool
+foreign [] k = false
+foreign (b ∷ w) k = leb k b || foreign w k
 
 unfoldable pub counted : List ℕ → ℕ → List ℕ → ℕ
 counted ts m [] = 0

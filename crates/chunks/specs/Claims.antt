@@ -1,6 +1,7 @@
 -- What running a chunk comes to, for every well-formed rule with at most 512 sets, as it is built; proofs/Claims.antt proves it.
 use mathlib.Core.Path.{_≡_}
 use mathlib.Core.Logic.{_↔_}
+use mathlib.Core.Bool.{false}
 use mathlib.Core.List.{List}
 use Prim.Native.Nat.{ℕ, _*_, _^_, _<_, _≤_}
 use lib.ListN.{length, getD}
@@ -12,10 +13,12 @@ use Rattle.subsets.specs.Claims.{fits}
 use Rattle.delegates.specs.Alike.{Text, startCount}
 use Rattle.build.specs.declared.Built.{Built}
 use Rattle.build.specs.Building.{BuiltRule}
-use Rattle.chunks.specs.Chunks.{counted, startSet, delegateSet, endSet, chunkCount}
-use Rattle.chunks.specs.Walks.{runsOf}
+use Rattle.chunks.specs.Chunks.{foreign, counted, startSet, delegateSet, runSet, endSet, chunkCount}
+use Rattle.chunks.specs.Walks.{runsOf, delegateMask, runMask}
 
 pub record Claims : Type 0 where
+  -- no byte is foreign exactly in a text of symbols below k
+  pub text-law : (w : List ℕ) (k : ℕ) → foreign w k ≡ false ↔ Text k w
   -- over a text of the rule's symbols, run from states of the rule: each end set is the set after the text, and the count is document 01's
   pub ends : (r : Rule) → WellFormed r → fits r → (b : Built) → BuiltRule r b → (run : ℕ) → run < 2 ^ r .n → (w : List ℕ) → Text (r .k) w
       → runsOf (b .sets) (b .next) (b .singles) run w .ends ≡ listFrom 0 32 (endSet (r .targets) run w)
@@ -28,3 +31,6 @@ pub record Claims : Type 0 where
   -- the members of the starts and of a place's starts, by document 01's words
   pub start-law : (d : List ℕ) (n q : ℕ) → q ∈ startSet d n ↔ (q < n) × (getD d q 0 ≡ q)
   pub delegate-law : (d : List ℕ) (n m p : ℕ) → p ∈ delegateSet d n m ↔ (q : ℕ) × (q < n) × (q ∈ m) × (p ≡ getD d q 0)
+  -- where each delegate is a state, what the code takes them for is what they are
+  pub delegate-mask : (d : List ℕ) (n m : ℕ) → n ≤ 32 → ((q : ℕ) → q < n → getD d q 0 < 32) → delegateMask d n m ≡ delegateSet d n m
+  pub run-mask : (d : List ℕ) (n m : ℕ) → n ≤ 32 → ((q : ℕ) → q < n → getD d q 0 < 32) → (place : ℕ) → runMask d n m place ≡ runSet d n m place

@@ -5,16 +5,17 @@
 --   walkEnd, walkCount    the number of the set after the bytes w, and how many of the steps led to a set that is not empty
 --   maskOf sets i         the mask of set i
 --   runsOf ..             the end set of each state that is run, as an array, and the sum of the counts
+--   delegateMask, runMask   delegateSet and runSet for at most 32 states; a delegate of 32 or more is taken for what is left of it
 use mathlib.Core.Bool.{cond}
 use mathlib.Core.List.{List, [], _∷_}
-use Prim.Native.Nat.{ℕ, _+_, _%_}
+use Prim.Native.Nat.{ℕ, zero, suc, _+_, _%_, min}
 use lib.Dec.{ltb}
 use lib.ListN.{getD}
-use Rattle.masks.specs.Masks.{has}
+use Rattle.masks.specs.Masks.{has, single, union}
 use Rattle.masks.specs.Lists.{listFrom}
 use Rattle.delegates.specs.Classes.{follow}
 use Rattle.chunks.specs.declared.Runs.{Runs}
-use Rattle.chunks.specs.Chunks.{total}
+use Rattle.chunks.specs.Chunks.{startSet, total}
 
 abbrev pub stepOf : List ℕ → ℕ → ℕ → ℕ
 stepOf next i b = follow next i (b % 16)
@@ -35,3 +36,10 @@ runsOf sets next singles run w = record {
   ends = listFrom 0 32 (λ q. cond (has run q) (maskOf sets (walkEnd next (getD singles q 0) w)) 0);
   count = total (λ q. cond (has run q) (walkCount next (getD singles q 0) w) 0) 32;
 }
+
+abbrev pub delegateMask : List ℕ → ℕ → ℕ → ℕ
+delegateMask d n m = union (λ q. single (getD d q 0 % 32)) m (min n 32)
+
+abbrev pub runMask : List ℕ → ℕ → ℕ → ℕ → ℕ
+runMask d n m zero = delegateMask d n m
+runMask d n m (suc place) = startSet d (min n 32)

@@ -1,5 +1,9 @@
 // Runs a chunk over the next-set table of a built rule.
 ghost use mathlib.Core.Path.{_≡_};
+ghost use Prim.Native.Nat.{_≤_, min};
+ghost use lib.ListN.{length};
+ghost use Rattle.chunks.specs.Chunks.{foreign, startSet};
+ghost use Rattle.chunks.specs.Walks.{walkEnd, walkCount, maskOf, runsOf, delegateMask, runMask};
 use masks::StateNumber;
 use subsets::SetNumber;
 
@@ -13,4 +17,144 @@ pub struct Run {
 pub struct Runs {
     pub ends: [u32; 32],
     pub count: u32,
+}
+
+// Whether some byte is no symbol below k (13).
+pub fn has_foreign(chunk: &[u8], k: u8) -> bool
+    ensures { λ r. ⌜ r ≡ foreign (now (chunk .entry)) k ⌝ }
+{
+    let mut found = false;
+    let mut i: usize = 0;
+    while i < chunk.len() {
+        if k <= chunk[i] {
+            found = true;
+        }
+        i += 1;
+    }
+    found
+}
+
+// Where the chunk leads from the set, and how many of its steps lead to a set that is not empty: all of them, or those before the first that
+// does not.
+pub fn walk(next: &[u16; 8192], from: SetNumber, chunk: &[u8]) -> Run
+    requires { ⌜ length (now chunk) ≤ 65536 ⌝ }
+    ensures { λ r. ⌜ r .end .0 ≡ walkEnd (now (next .entry)) (from .0) (now (chunk .entry)) ⌝ }
+    ensures { λ r. ⌜ r .count ≡ walkCount (now (next .entry)) (from .0) (now (chunk .entry)) ⌝ }
+{
+    if chunk.len() == 0 {
+        return Run {
+            end: from,
+            count: 0,
+        };
+    }
+    let mut set = from.0;
+    if 512 <= set {
+        return Run {
+            end: SetNumber(512),
+            count: 0,
+        };
+    }
+    let mut i: usize = 0;
+    while i < chunk.len() {
+        let row = set as usize;
+        let symbol = (chunk[i] % 16) as usize;
+        let to = next[row * 16 + symbol];
+        if 512 <= to {
+            return Run {
+                end: SetNumber(512),
+                count: i as u32,
+            };
+        }
+        set = to;
+        i += 1;
+    }
+    Run {
+        end: SetNumber(set),
+        count: i as u32,
+    }
+}
+
+// The states of a rule of n states, which has at most 32.
+fn states(n: u8) -> u8
+    ensures { λ r. ⌜ r ≡ min n 32 ⌝ }
+{
+    if n < 32 { n } else { 32 }
+}
+
+// The starts, as a set: the states that are their own delegate.
+pub fn start_mask(delegates: [u8; 32], n: u8) -> u32
+    ensures { λ r. ⌜ r ≡ startSet delegates (min n 32) ⌝ }
+{
+    let most = states(n);
+    let mut starts: u32 = 0;
+    let mut q: u8 = 0;
+    while q < most {
+        let i = q as usize;
+        if delegates[i] == q {
+            starts = masks::union(starts, masks::singleton(StateNumber(q)));
+        }
+        q += 1;
+    }
+    starts
+}
+
+// The delegates of the set's members.
+pub fn delegate_mask(delegates: [u8; 32], n: u8, set: u32) -> u32
+    ensures { λ r. ⌜ r ≡ delegateMask delegates n set ⌝ }
+{
+    let most = states(n);
+    let mut out: u32 = 0;
+    let mut q: u8 = 0;
+    while q < most {
+        if masks::member(set, StateNumber(q)) {
+            let i = q as usize;
+            out = masks::union(out, masks::singleton(StateNumber(delegates[i] % 32)));
+        }
+        q += 1;
+    }
+    out
+}
+
+// The states that a chunk at the place is run from: the delegates of initial states at place 0, all starts at any other.
+pub fn run_mask(delegates: [u8; 32], n: u8, initials: u32, place: usize) -> u32
+    ensures { λ r. ⌜ r ≡ runMask delegates n initials place ⌝ }
+{
+    if place == 0 {
+        delegate_mask(delegates, n, initials)
+    } else {
+        start_mask(delegates, n)
+    }
+}
+
+// The mask of the set, which is empty from 512 on.
+fn mask_of(sets: &[u32; 512], set: SetNumber) -> u32
+    ensures { λ r. ⌜ r ≡ maskOf (now (sets .entry)) (set .0) ⌝ }
+{
+    let i = set.0 as usize;
+    if i < 512 { sets[i] } else { 0 }
+}
+
+// The chunk run from each state of the mask.
+pub fn run_chunk(
+    sets: &[u32; 512],
+    next: &[u16; 8192],
+    singles: &[u16; 32],
+    mask: u32,
+    chunk: &[u8],
+) -> Runs
+    requires { ⌜ length (now chunk) ≤ 65536 ⌝ }
+    ensures { λ r. ⌜ r ≡ runsOf (now (sets .entry)) (now (next .entry)) (now (singles .entry)) mask (now (chunk .entry)) ⌝ }
+{
+    let mut ends = [0u32; 32];
+    let mut count: u32 = 0;
+    let mut q: usize = 0;
+    while q < 32 {
+        if masks::member(mask, StateNumber(q as u8)) {
+            let run = walk(next, SetNumber(singles[q]), chunk);
+            ends[q] = mask_of(sets, run.end);
+            count += run.count;
+        }
+        q += 1;
+    }
+    Runs { ends, count }
 }

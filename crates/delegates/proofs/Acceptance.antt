@@ -52,39 +52,49 @@ module _ (given : SubsetsClaims) (r : Rule) (good : WellFormed r) (fit : fits r)
   few = ltb-false 512 (length (sets r)) fit
 
   -- ---- the arrays
-  mask-at : (i : ℕ) → i < length (sets r) → getD masks i 0 ≡ getD (sets r) i 0
-  unfolding masks
+  pub mask-at : (i : ℕ) → i < length (sets r) → getD (setCells (r .targets) (r .n) (r .k)) i 0 ≡ getD (sets r) i 0
   mask-at i h = cell-of 512 (λ j. getD (sets r) j 0) i 0 (omega (arith, few))
 
-  cell-at : (i s : ℕ) → i < 512 → s < 16 → getD cells (i * 16 + s) 0 ≡ next r i s
-  unfolding cells
+  cell-at : (i s : ℕ) → i < 512 → s < 16 → getD (nextCells (r .targets) (r .n) (r .k)) (i * 16 + s) 0 ≡ next r i s
   cell-at i s h l =
       let d : (i * 16 + s) / 16 ≡ i = omega arith in
       let m : (i * 16 + s) % 16 ≡ s = omega arith in
       cell-of 8192 (λ c. nextSet (r .targets) (r .n) (r .k) (c / 16) (c % 16)) (i * 16 + s) 0 (omega arith) ∙ rw (d, m)
 
-  follow-cell : (i s : ℕ) → i < length (sets r) → s < r .k → follow cells i s ≡ min (next r i s) 512
-  follow-cell i s h l =
-      follow-set cells i s (omega (arith, few)) ∙ ap (λ (x : ℕ). min x 512) (cell-at i s (omega (arith, few)) (omega (arith, good .symbols)))
+  -- a symbol leads from set i to the number of its successor, or to 512 exactly where that is empty
+  pub follow-law : (i s : ℕ) → i < length (sets r) → s < r .k
+      → (successor (r .targets) (getD (sets r) i 0) s ≡ 0 → follow (nextCells (r .targets) (r .n) (r .k)) i s ≡ 512)
+      × ((successor (r .targets) (getD (sets r) i 0) s ≡ 0 → ⊥)
+      → (follow (nextCells (r .targets) (r .n) (r .k)) i s < length (sets r))
+      × (getD (sets r) (follow (nextCells (r .targets) (r .n) (r .k)) i s) 0 ≡ successor (r .targets) (getD (sets r) i 0) s))
+  follow-law i s h l =
+      let cell = given .cell r good fit i s h l in
+      let read : follow (nextCells (r .targets) (r .n) (r .k)) i s ≡ min (next r i s) 512 =
+      follow-set (nextCells (r .targets) (r .n) (r .k)) i s (omega (arith, few))
+      ∙ ap (λ (x : ℕ). min x 512) (cell-at i s (omega (arith, few)) (omega (arith, good .symbols))) in (
+        (λ z. read ∙ ap (λ (x : ℕ). min x 512) (cell .0 z)),
+        λ ne.
+            let there = cell .1 ne in
+            let e : follow (nextCells (r .targets) (r .n) (r .k)) i s ≡ next r i s = read ∙ omega (arith, there .0, few) in
+            rw e there,
+      )
 
   -- ---- acceptance over the table
   accepted-law : (w : List ℕ) → Text (r .k) w → (i : ℕ) → i < length (sets r)
       → accepted masks cells (r .finals) i w ≡ shares (after (r .targets) (getD (sets r) i 0) w) (r .finals)
-  unfolding accepted
+  unfolding accepted masks cells
   accepted-law [] x i h = final-set masks (r .finals) i (omega (arith, few)) ∙ ap (λ (m : ℕ). shares m (r .finals)) (mask-at i h)
   accepted-law (s ∷ w) x i h =
       let m : ℕ = successor (r .targets) (getD (sets r) i 0) s in
-      let cell = given .cell r good fit i s h (x .0) in
+      let step = follow-law i s h (x .0) in
       by-test (eqb m 0)
       (λ t.
       let z = eqb-true m 0 t in
-      let e : follow cells i s ≡ 512 = follow-cell i s h (x .0) ∙ ap (λ (y : ℕ). min y 512) (cell .0 z) in
-      rw e (accepted-empty masks cells (r .finals) w)
+      rw (step .0 z) (accepted-empty masks cells (r .finals) w)
       ∙ sym (ap (λ (y : ℕ). shares (after (r .targets) y w) (r .finals)) z ∙ ap (λ (y : ℕ). shares y (r .finals)) (after-empty (r .targets) w)))
       (λ t.
-      let there = cell .1 (eqb-false m 0 t) in
-      let e : follow cells i s ≡ next r i s = follow-cell i s h (x .0) ∙ omega (arith, there .0, few) in
-      rw e (accepted-law w (x .1) (next r i s) (there .0))
+      let there = step .1 (eqb-false m 0 t) in
+      accepted-law w (x .1) (follow cells i s) (there .0)
       ∙ ap (λ (y : ℕ). shares (after (r .targets) y w) (r .finals)) (there .1))
 
   -- ---- acceptance in the automaton

@@ -1,0 +1,19 @@
+-- The one proof of all that specs/Claims.antt claims. Assumes nothing.
+use Rattle.chunks.specs.Claims.{Claims}
+use Rattle.chunks.proofs.Texts as texts
+use Rattle.chunks.proofs.Starts as starts
+use Rattle.chunks.proofs.Counts as counts
+use Rattle.chunks.proofs.Ends as ends
+
+pub claims : Claims
+claims = record {
+  text-law = texts.text-law;
+  ends = ends.ends;
+  count = ends.count;
+  counted-most = counts.counted-most;
+  chunk-most = counts.chunk-most;
+  start-law = starts.start-law;
+  delegate-law = starts.delegate-law;
+  delegate-mask = starts.delegate-mask;
+  run-mask = starts.run-mask;
+}

@@ -1,0 +1,128 @@
+-- Over the table of a built rule a walk from the number of a set ends at the number of the set after the text, or at 512 exactly where that is
+-- empty, and it counts a step for each transition that document 01 counts. So the runs of a chunk end in the sets, and count the transitions,
+-- of the definition. By induction over the text, one cell a symbol. Assumes a well-formed rule with at most 512 sets.
+use mathlib.Core.Path.{_≡_, refl, sym, ap, ap₂, _∙_, subst}
+use mathlib.Core.Bool.{Bool, true, false, cond}
+use mathlib.Core.List.{List, [], _∷_}
+use Prim.Native.Nat.{ℕ, _+_, _%_, _^_, _≤_, _<_}
+use native.Mathlib.Omega.{arith}
+use borrow.Author.Tests.{lt-ltb, ltb-false, eqb-true, eqb-false}
+use lib.Dec.{eqb, ltb}
+use lib.ListN.{length, getD}
+use Rattle.masks.specs.Masks.{has, single}
+use Rattle.masks.specs.Lists.{listFrom}
+use Rattle.masks.proofs.Cases.{by-test}
+use Rattle.masks.proofs.Laws.{member-of, members-below}
+use Rattle.masks.proofs.Lists.{length-listFrom, cell-of, is-listFrom}
+use Rattle.automaton.specs.declared.Rule.{Rule}
+use Rattle.automaton.specs.Rules.{WellFormed}
+use Rattle.automaton.specs.Successor.{successor, after}
+use Rattle.automaton.proofs.Laws.{after-empty}
+use Rattle.subsets.specs.Sets.{tooMany, setCells, nextCells}
+use Rattle.subsets.specs.Claims.{sets, fits}
+use Rattle.subsets.proofs.Claims as subsets
+use Rattle.delegates.specs.Alike.{Text}
+use Rattle.delegates.specs.Classes.{follow}
+use Rattle.delegates.proofs.Acceptance.{mask-at, follow-law}
+use Rattle.build.specs.declared.Built.{Built}
+use Rattle.build.specs.Building.{BuiltRule}
+use Rattle.build.proofs.Claims as build
+use Rattle.chunks.specs.Chunks.{counted, endSet, chunkCount}
+use Rattle.chunks.specs.Walks.{stepOf, walkEnd, walkCount, maskOf, runsOf}
+use Rattle.chunks.proofs.Totals.{total-same}
+use Rattle.chunks.proofs.Walks.{end-empty, count-empty}
+use Rattle.chunks.proofs.Counts.{counted-empty}
+
+same-either : (b : Bool) (x y : ℕ) → (b ≡ true → x ≡ y) → cond b x 0 ≡ cond b y 0
+same-either true x y h = h refl
+same-either false x y h = refl
+
+same-list : (len : ℕ) (f g : ℕ → ℕ) → ((q : ℕ) → q < len → f q ≡ g q) → listFrom 0 len f ≡ listFrom 0 len g
+same-list len f g same = is-listFrom (listFrom 0 len f) len g (length-listFrom 0 len f) (λ q h. cell-of len f q 0 h ∙ same q h)
+
+module _ (r : Rule) (good : WellFormed r) (fit : fits r) where
+  abbrev masks : List ℕ
+  masks = setCells (r .targets) (r .n) (r .k)
+
+  abbrev table : List ℕ
+  table = nextCells (r .targets) (r .n) (r .k)
+
+  few : length (sets r) ≤ 512
+  unfolding tooMany
+  few = ltb-false 512 (length (sets r)) fit
+
+  -- ---- a walk from the number of a set
+  record Walked (m i : ℕ) (w : List ℕ) : Type 0 where
+    end : maskOf masks (walkEnd table i w) ≡ after (r .targets) m w
+    steps : walkCount table i w ≡ counted (r .targets) m w
+
+  from-empty : (w : List ℕ) → Walked 0 512 w
+  from-empty w = record {
+    end = rw (end-empty table w) (sym (after-empty (r .targets) w));
+    steps = count-empty table 512 w (omega arith) ∙ sym (counted-empty (r .targets) w);
+  }
+
+  one-more : (m i j s : ℕ) (w : List ℕ) → stepOf table i s ≡ j
+      → _≡_ {A = ℕ} (cond (ltb j 512) 1 0) (cond (eqb (successor (r .targets) m s) 0) 0 1)
+      → Walked (successor (r .targets) m s) j w → Walked m i (s ∷ w)
+  unfolding walkEnd walkCount counted
+  one-more m i j s w to one rest = record {
+    end = ap (λ (x : ℕ). maskOf masks (walkEnd table x w)) to ∙ rest .end;
+    steps =
+        ap₂ (λ (x : ℕ) (y : ℕ). x + y)
+        (ap (λ (x : ℕ). cond (ltb x 512) 1 0) to ∙ one)
+        (ap (λ (x : ℕ). walkCount table x w) to ∙ rest .steps);
+  }
+
+  walked : (w : List ℕ) → Text (r .k) w → (i : ℕ) → i < length (sets r) → Walked (getD (sets r) i 0) i w
+  unfolding walkEnd walkCount counted
+  walked [] x i h = record { end = rw (lt-ltb i 512 (omega (arith, few))) (mask-at subsets.claims r good fit i h); steps = refl }
+  walked (s ∷ w) x i h =
+      let m : ℕ = successor (r .targets) (getD (sets r) i 0) s in
+      let step = follow-law subsets.claims r good fit i s h (x .0) in
+      let low : s % 16 ≡ s = omega (arith, x .0, good .symbols) in
+      let to : stepOf table i s ≡ follow table i s = ap (follow table i) low in
+      by-test (eqb m 0)
+      (λ t.
+      let z = eqb-true m 0 t in
+      one-more (getD (sets r) i 0) i 512 s w (to ∙ step .0 z) (rw t) (subst (λ (y : ℕ). Walked y 512 w) (sym z) (from-empty w)))
+      (λ t.
+      let j = follow table i s in
+      let there = step .1 (eqb-false m 0 t) in
+      one-more (getD (sets r) i 0) i j s w to
+      (rw (lt-ltb j 512 (omega (arith, there .0, few)), t))
+      (subst (λ (y : ℕ). Walked y j w) (there .1) (walked w (x .1) j (there .0))))
+
+-- ---- the runs of a chunk
+module _ (r : Rule) (good : WellFormed r) (fit : fits r) (b : Built) (is : BuiltRule r b) (run : ℕ) (below : run < 2 ^ r .n)
+    (w : List ℕ) (text : Text (r .k) w) where
+  from-state : (q : ℕ) → q < r .n → Walked r good fit (single q) (getD (b .singles) q 0) w
+  from-state q h =
+      let i = getD (b .singles) q 0 in
+      let s = build.claims .singles r good fit b is q h in
+      let l : i < length (sets r) = rw (is .count-is) at (s .0) in
+      let e : getD (sets r) i 0 ≡ single q =
+      sym (mask-at subsets.claims r good fit i l) ∙ sym (ap (λ (m : List ℕ). getD m i 0) (is .sets-are)) ∙ s .1 in
+      subst (λ (m : ℕ). Walked r good fit m i w) e (walked r good fit w text i l)
+
+  state-of : (q : ℕ) → has run q ≡ true → q < r .n
+  state-of q t = members-below (r .n) run q below (member-of run q t)
+
+  pub ends : runsOf (b .sets) (b .next) (b .singles) run w .ends ≡ listFrom 0 32 (endSet (r .targets) run w)
+  ends =
+      same-list 32
+      (λ q. cond (has run q) (maskOf (b .sets) (walkEnd (b .next) (getD (b .singles) q 0) w)) 0)
+      (endSet (r .targets) run w)
+      (λ q h.
+      same-either (has run q) (maskOf (b .sets) (walkEnd (b .next) (getD (b .singles) q 0) w)) (after (r .targets) (single q) w)
+      (λ t. rw (is .sets-are, is .next-are) (from-state q (state-of q t) .end)))
+
+  pub count : runsOf (b .sets) (b .next) (b .singles) run w .count ≡ chunkCount (r .targets) run w
+  count =
+      total-same
+      (λ q. cond (has run q) (walkCount (b .next) (getD (b .singles) q 0) w) 0)
+      (λ q. cond (has run q) (counted (r .targets) (single q) w) 0)
+      32
+      (λ q h.
+      same-either (has run q) (walkCount (b .next) (getD (b .singles) q 0) w) (counted (r .targets) (single q) w)
+      (λ t. rw (is .next-are) (from-state q (state-of q t) .steps)))

@@ -1,0 +1,10 @@
+-- In the order in which they build on each other.
+pub mod Texts
+pub mod Totals
+pub mod Walks
+pub mod Running
+pub mod Starts
+pub mod Counts
+pub mod Ends
+pub mod Claims
+pub mod Examples

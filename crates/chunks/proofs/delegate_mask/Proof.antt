@@ -1,0 +1,87 @@
+-- `delegate_mask` meets its contract. The loop's invariant: the set has the delegates of the members below q. Assumes nothing.
+use mathlib.Core.Path.{_≡_, refl, sym, ap, ap₂, _∙_}
+use mathlib.Core.Logic.{⊎-elim}
+use Prim.Native.Nat.{_-_, _%_, _≤_, min}
+use native.Mathlib.Omega.{arith}
+use borrow.Author.Needs.{needs}
+use lib.Bits.{bitOr}
+use lib.ListN.{getD}
+use Rattle.masks.specs.Masks.{single, union}
+use Rattle.chunks.proofs.Starts.{union-member, union-other}
+use Rattle.chunks.proofs.delegate_mask.Statement.{statement}
+use Rattle.chunks.proofs.delegate_mask.Tie as tie
+
+abbrev Inv-loop : tie.InvT-loop
+Inv-loop n set delegates most out₀ q₀ out q = (q ≤ min n 32) × (out ≡ union (λ p. single (getD delegates p 0 % 32)) set q)
+
+abbrev μ-loop : tie.MeasureT-loop
+μ-loop n set delegates most out₀ q₀ out q = min n 32 - q
+
+states-requires : tie.Need-states-requires Inv-loop μ-loop
+states-requires c κs = search needs
+
+loop-holds : tie.Need-loop-holds Inv-loop μ-loop
+unfolding union
+loop-holds c = (omega arith, refl)
+
+member-requires : tie.Need-member-requires Inv-loop μ-loop
+member-requires c κs = search needs
+
+cast-i : tie.Need-cast-i Inv-loop μ-loop
+cast-i c = search needs
+
+array-read-t15 : tie.Need-array-read-t15 Inv-loop μ-loop
+array-read-t15 c = search needs
+
+singleton-requires : tie.Need-singleton-requires Inv-loop μ-loop
+singleton-requires c κs = search needs
+
+union-requires : tie.Need-union-requires Inv-loop μ-loop
+union-requires c κs = search needs
+
+add-q : tie.Need-add-q Inv-loop μ-loop
+add-q c = search needs
+
+loop-less : tie.Need-loop-less Inv-loop μ-loop
+loop-less c = search needs
+
+loop-again : tie.Need-loop-again Inv-loop μ-loop
+loop-again c =
+    let l = c .before .before .before .loop in
+    let a = c .before .before .before .before .before .args in
+    let d = a .t1 in (
+      search needs,
+      ⊎-elim
+          (λ w.
+          w .3
+          ∙ w .2 .ensures
+          ∙ ap₂ bitOr (l .inv .1) (w .1 .ensures)
+          ∙ union-member (λ p. single (getD d p 0 % 32)) (a .set) (l .q) (sym (c .before .member .ensures) ∙ w .0 .taken))
+          (λ w. w .1 ∙ l .inv .1 ∙ union-other (λ p. single (getD d p 0 % 32)) (a .set) (l .q) (sym (c .before .member .ensures) ∙ w .0 .left))
+          (c .if1 .came),
+    )
+
+returns : tie.Need-returns Inv-loop μ-loop
+returns c =
+    let l = c .before .loop in
+    let a = c .before .before .before .args in
+    let e : l .q ≡ min (a .n) 32 = omega arith in
+    l .inv .1 ∙ ap (union (λ p. single (getD (a .t1) p 0 % 32)) (a .set)) e
+
+pub delegate-mask-spec : {M : Type 1} → statement M
+delegate-mask-spec =
+    tie.close
+    (tie.spec
+    Inv-loop
+    μ-loop
+    states-requires
+    loop-holds
+    member-requires
+    cast-i
+    array-read-t15
+    singleton-requires
+    union-requires
+    add-q
+    loop-less
+    loop-again
+    returns)
