@@ -17,6 +17,12 @@ pub total-more : (f : ℕ → ℕ) (n : ℕ) → total f (n + 1) ≡ total f n +
 unfolding total
 total-more f n = rw add-one
 
+-- the first number apart
+pub total-first : (f : ℕ → ℕ) (n : ℕ) → total f (suc n) ≡ f 0 + total (λ p. f (suc p)) n
+unfolding total
+total-first f zero = omega arith
+total-first f (suc n) = omega (arith, total-first f n)
+
 pub total-same : (f g : ℕ → ℕ) (n : ℕ) → ((p : ℕ) → p < n → f p ≡ g p) → total f n ≡ total g n
 unfolding total
 total-same f g zero h = refl
