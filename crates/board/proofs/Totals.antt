@@ -39,3 +39,13 @@ unfolding total
 term-most f zero p h = absurd (omega arith)
 term-most f (suc n) p h =
     ⊎-elim (λ e. rw e (omega arith)) (λ l. omega (arith, term-most f n p l)) (eq-or-lt-of-le (le-of-suc-le-suc h))
+
+-- two sums that differ in one term
+pub total-changed : (f g : ℕ → ℕ) (n p : ℕ) → p < n → ((i : ℕ) → (i ≡ p → ⊥) → f i ≡ g i) → total f n + g p ≡ total g n + f p
+unfolding total
+total-changed f g zero p h same = absurd (omega arith)
+total-changed f g (suc n) p h same =
+    ⊎-elim
+    (λ e. rw e (omega (arith, total-same f g n (λ i l. same i (λ z. omega arith)))))
+    (λ l. omega (arith, total-changed f g n p l same, same n (λ z. omega arith)))
+    (eq-or-lt-of-le (le-of-suc-le-suc h))
