@@ -1,0 +1,136 @@
+-- The theorem of the join: it says yes exactly where the rule's automaton accepts the chunks joined in order. Assumes what crates/chunks claims
+-- of the states that are run, a well-formed rule, its delegates, and that each place holds the end sets of its chunk.
+--
+-- The invariant, after p places: C accepts what is left of the text exactly where the initial states accept the whole. C need not be the set
+-- that the automaton reaches. A place keeps it: a member of C accepts the rest exactly where its delegate does, being alike to it; and the
+-- delegate does exactly where its end set accepts what is left after the chunk. That end set is at the place, since the delegate was run there:
+-- at place 0 C is the set of initial states, whose delegates are run; later all starts are run, and a delegate is a start.
+use mathlib.Core.Path.{_≡_, refl, sym, ap, subst}
+use mathlib.Core.Logic.{_↔_}
+use mathlib.Core.Bool.{Bool, true, false, cond}
+use mathlib.Core.List.{List, [], _∷_, _++_, flatten}
+use Prim.Native.Nat.{ℕ, zero, suc, _+_, _*_, _%_, _^_, _≤_, _<_, min}
+use native.Mathlib.Omega.{arith}
+use lib.ListN.{length, getD, drop}
+use lib.Pow.{pow-lt, pow-pos}
+use lib.Seq.{drop-cons, drop-length}
+use Rattle.masks.specs.Masks.{_∈_, has, single, shares}
+use Rattle.masks.proofs.Cases.{by-test}
+use Rattle.masks.proofs.Laws.{no-member, has-member, members-below, part-of, in-union, union-lt}
+use Rattle.automaton.specs.declared.Rule.{Rule}
+use Rattle.automaton.specs.Automaton.{Accepts}
+use Rattle.automaton.specs.Rules.{automatonOf, WellFormed}
+use Rattle.automaton.specs.Successor.{after}
+use Rattle.automaton.proofs.Laws.{after-append, after-below, accepts-law}
+use Rattle.delegates.specs.Alike.{Text, Merged}
+use Rattle.delegates.proofs.Alike.{delegates-start}
+use Rattle.chunks.specs.Chunks.{runSet, endSet}
+use Rattle.chunks.specs.Claims.{Claims as ChunksClaims}
+use Rattle.board.specs.Joining.{joinUpTo, saysYes}
+use Rattle.board.specs.Claims.{Texts, Holds}
+use Rattle.board.proofs.Acceptance.{Accepting, accepting-law, accepting-single, text-flatten, texts-drop}
+
+-- where a state is not run its end set is empty
+of-run : (t : Bool) (p m : ℕ) → p ∈ cond t m 0 → p ∈ m
+of-run true p m e = e
+of-run false p m e = absurd (no-member p e)
+
+end-below : (r : Rule) → WellFormed r → (run : ℕ) (w : List ℕ) (q : ℕ) → q < r .n → endSet (r .targets) run w q < 2 ^ r .n
+end-below r good run w q h =
+    by-test (has run q) (λ e. rw e (after-below r good (single q) w (pow-lt h))) (λ e. rw e (pow-pos (r .n)))
+
+module _ (given : ChunksClaims) (r : Rule) (good : WellFormed r) (d : List ℕ) (m : ℕ) (merged : Merged (automatonOf r) d m)
+    (ends : List ℕ) (ws : List (List ℕ)) (texts : Texts (r .k) ws) (holds : Holds r d ends ws) where
+  -- the states that are run at place p
+  run : ℕ → ℕ
+  run p = runSet d (r .n) (r .initials) p
+
+  -- C after p places
+  joined : ℕ → ℕ
+  joined p = joinUpTo ends d (r .n) (r .initials) p
+
+  -- the delegate of a member of C is run at the place
+  delegate-run : (p q : ℕ) → q < r .n → q ∈ joined p → getD d q 0 ∈ run p
+  unfolding run joined joinUpTo
+  delegate-run zero q h i = given .delegate-law d (r .n) (r .initials) (getD d q 0) .1 (q, h, i, refl)
+  delegate-run (suc p) q h i =
+      given .start-law d (r .n) (getD d q 0) .1 (merged .delegates q h .state, delegates-start (automatonOf r) d m merged q h)
+
+  -- what is looked up for a state is its delegate's end set
+  looked-up : (p : ℕ) → p < length ws → (q : ℕ) → q < r .n
+      → getD ends (p * 32 + getD d q 0 % 32) 0 ≡ endSet (r .targets) (run p) (getD ws p []) (getD d q 0)
+  unfolding run
+  looked-up p h q l =
+      let s = merged .delegates q l .state in
+      let e : getD d q 0 % 32 ≡ getD d q 0 = omega (arith, s, good .states) in
+      rw e (holds p h (getD d q 0) (omega (arith, s, good .states)))
+
+  joined-below : (p : ℕ) → p ≤ length ws → joined p < 2 ^ r .n
+  unfolding joined joinUpTo
+  joined-below zero h = good .initials-below
+  joined-below (suc p) h =
+      union-lt (λ q. getD ends (p * 32 + getD d q 0 % 32) 0) (joined p) (r .n) (min (r .n) 32) λ q l.
+      rw (looked-up p h q (omega arith)) (end-below r good (run p) (getD ws p []) (getD d q 0) (merged .delegates q (omega arith) .state))
+
+  module _ (p : ℕ) (h : p < length ws) (rest : List ℕ) (text : Text (r .k) (getD ws p [] ++ rest)) where
+    there : Accepting r (joined p) (getD ws p [] ++ rest) → Accepting r (joined (suc p)) rest
+    unfolding joined joinUpTo
+    there y =
+        let w = getD ws p [] in
+        let small = joined-below p (omega arith) in
+        let u = accepting-law r good (joined p) (w ++ rest) small .0 y in
+        let q = u .0 in
+        let l = members-below (r .n) (joined p) q small (u .1) in
+        let f = merged .delegates q l in
+        let x : ℕ = getD d q 0 in
+        let a : Accepting r (after (r .targets) (single x) w) rest =
+        subst (λ (z : ℕ). shares z (r .finals) ≡ true) (after-append (r .targets) (single x) w rest)
+        (accepting-single r good x (w ++ rest) (f .state) .1 (f .alike (w ++ rest) text .0 (u .2))) in
+        let s = accepting-law r good (after (r .targets) (single x) w) rest (after-below r good (single x) w (pow-lt (f .state))) .0 a in
+        accepting-law r good (joined (suc p)) rest (joined-below (suc p) h) .1 (
+          s .0,
+          in-union (λ z. getD ends (p * 32 + getD d z 0 % 32) 0) (joined p) (s .0) (min (r .n) 32) q (omega (arith, good .states)) (u .1)
+              (rw (looked-up p h q l, has-member (run p) x (delegate-run p q l (u .1))) (s .1)),
+          s .2,
+        )
+
+    back : Accepting r (joined (suc p)) rest → Accepting r (joined p) (getD ws p [] ++ rest)
+    unfolding joined joinUpTo
+    back y =
+        let w = getD ws p [] in
+        let s = accepting-law r good (joined (suc p)) rest (joined-below (suc p) h) .0 y in
+        let u = part-of (λ z. getD ends (p * 32 + getD d z 0 % 32) 0) (joined p) (s .0) (min (r .n) 32) (s .1) in
+        let q = u .from in
+        let l : q < r .n = omega (arith, u .below) in
+        let f = merged .delegates q l in
+        let x : ℕ = getD d q 0 in
+        let i : s .0 ∈ after (r .targets) (single x) w =
+        of-run (has (run p) x) (s .0) (after (r .targets) (single x) w) (rw (looked-up p h q l) at (u .there)) in
+        let a : Accepting r (single x) (w ++ rest) =
+        subst (λ (z : ℕ). shares z (r .finals) ≡ true) (sym (after-append (r .targets) (single x) w rest))
+        (accepting-law r good (after (r .targets) (single x) w) rest (after-below r good (single x) w (pow-lt (f .state))) .1 (s .0, i, s .2)) in
+        accepting-law r good (joined p) (w ++ rest) (joined-below p (omega arith)) .1
+        (q, u .member, f .alike (w ++ rest) text .1 (accepting-single r good x (w ++ rest) (f .state) .0 a))
+
+  -- the invariant
+  rest-law : (p : ℕ) → p ≤ length ws → Accepting r (joined p) (flatten (drop p ws)) ↔ Accepting r (r .initials) (flatten ws)
+  unfolding joined joinUpTo flatten
+  rest-law zero h = ((λ y. y), λ y. y)
+  rest-law (suc p) h =
+      let before = rest-law p (omega arith) in
+      let rest = flatten (drop (suc p) ws) in
+      let e : flatten (drop p ws) ≡ getD ws p [] ++ rest = ap flatten (drop-cons ws p [] h) in
+      let text = subst (λ (v : List ℕ). Text (r .k) v) e (text-flatten (r .k) (drop p ws) (texts-drop (r .k) ws p texts)) in (
+        (λ y. before .0 (subst (λ (v : List ℕ). Accepting r (joined p) v) (sym e) (back p h rest text y))),
+        λ y. there p h rest text (subst (λ (v : List ℕ). Accepting r (joined p) v) e (before .1 y)),
+      )
+
+  pub join-accepts : (saysYes ends d (r .n) (r .initials) (r .finals) (length ws) ≡ true) ↔ Accepts (automatonOf r) (flatten ws)
+  unfolding joined flatten
+  join-accepts =
+      let all = rest-law (length ws) (omega arith) in
+      let e : flatten (drop (length ws) ws) ≡ [] = ap flatten (drop-length ws) in
+      let law = accepts-law r good (flatten ws) in (
+        (λ y. law .1 (all .0 (subst (λ (v : List ℕ). Accepting r (joined (length ws)) v) (sym e) y))),
+        λ t. subst (λ (v : List ℕ). Accepting r (joined (length ws)) v) e (all .1 (law .0 t)),
+      )

@@ -1,0 +1,146 @@
+-- The laws of the board, place by place: a new board, a board with one place changed, which filling and clearing are, and what the empty places
+-- and the summed count come to. Assumes the lengths of the arrays (`Sized`), which a new board has and every change keeps.
+--
+--   sized-empty, empty-all, empty-held, empty-count   a new board: all places empty, no end sets, counts 0
+--   Changed                                           one place has been changed, and the others are as before
+--   filled-at, cleared-at                             filling and clearing change their place alone, and to what
+--   empty-law, summed-law                             the empty places and the summed count, from what is known of each place
+--   none-empty, empty-most                            no place is empty; at most all are
+--   empty-changed, summed-changed                     what a change adds and takes away
+use mathlib.Core.Path.{_≡_, refl, sym, ap, _∙_}
+use mathlib.Core.Logic.{_↔_}
+use mathlib.Core.Bool.{Bool, true, false, cond}
+use mathlib.Core.List.{List}
+use Prim.Native.Nat.{ℕ, _+_, _*_, _≤_, _<_, min}
+use native.Mathlib.Omega.{arith}
+use lib.Dec.{eqb, ltb}
+use lib.ListN.{length, getD, set, replicate, length-set, length-replicate, getD-replicate, List·getD-eq-default}
+use lib.Seq.{getD-set-same, getD-set-other}
+use borrow.Author.Tests.{eq-eqb, ltb-true, ltb-false}
+use Rattle.masks.proofs.Cases.{by-test}
+use Rattle.chunks.specs.declared.Runs.{Runs}
+use Rattle.chunks.specs.Chunks.{total}
+use Rattle.board.specs.declared.Board.{Board}
+use Rattle.board.specs.Boards.{placesOf, held, isEmpty, emptyBoard, rowSet, filledAt, clearedAt, emptyPlaces, summedCount}
+use Rattle.board.proofs.Totals.{one-most, total-same, total-most, term-most, total-changed}
+use Rattle.board.proofs.Rows.{row-length, row-own, row-other}
+
+pub record Sized (b : Board) : Type 0 where
+  pub filled-cells : length (b .filled) ≡ 64
+  pub counts-cells : length (b .counts) ≡ 64
+  pub ends-cells : length (b .ends) ≡ 2048
+
+-- ---- a new board
+zero-cell : (len i : ℕ) → getD (replicate {A = ℕ} len 0) i 0 ≡ 0
+zero-cell len i =
+    by-test (ltb i len) (λ t. getD-replicate len i 0 0 (ltb-true i len t))
+    (λ f. List·getD-eq-default (replicate {A = ℕ} len 0) 0 (rw length-replicate (ltb-false i len f)))
+
+module _ (n : ℕ) where
+  pub sized-empty : Sized (emptyBoard n)
+  unfolding emptyBoard
+  sized-empty = record {
+    filled-cells = length-replicate {A = ℕ} 64 0;
+    counts-cells = length-replicate {A = ℕ} 64 0;
+    ends-cells = length-replicate {A = ℕ} 2048 0;
+  }
+
+  pub places-empty : placesOf (emptyBoard n) ≡ min n 64
+  unfolding emptyBoard
+  places-empty = refl
+
+  pub empty-all : (p : ℕ) → isEmpty (emptyBoard n) p ≡ true
+  unfolding emptyBoard
+  empty-all p = eq-eqb (getD (replicate 64 0) p 0) 0 (zero-cell 64 p)
+
+  pub empty-held : (p q : ℕ) → held (emptyBoard n) p q ≡ 0
+  unfolding emptyBoard
+  empty-held p q = zero-cell 2048 (p * 32 + q)
+
+  pub empty-count : (p : ℕ) → getD (emptyBoard n .counts) p 0 ≡ 0
+  unfolding emptyBoard
+  empty-count p = zero-cell 64 p
+
+-- ---- one place changed
+-- c is b but for place p: whether that is empty, its count and its end sets are as said
+pub record Changed (b c : Board) (p : ℕ) (empty : Bool) (count : ℕ) (ends : ℕ → ℕ) : Type 0 where
+  pub sized : Sized c
+  pub places-same : c .places ≡ b .places
+  pub empty-own : isEmpty c p ≡ empty
+  pub empty-other : (i : ℕ) → (i ≡ p → ⊥) → isEmpty c i ≡ isEmpty b i
+  pub count-own : getD (c .counts) p 0 ≡ count
+  pub count-other : (i : ℕ) → (i ≡ p → ⊥) → getD (c .counts) i 0 ≡ getD (b .counts) i 0
+  pub held-own : (q : ℕ) → q < 32 → held c p q ≡ ends q
+  pub held-other : (i q : ℕ) → i < 64 → q < 32 → (i ≡ p → ⊥) → held c i q ≡ held b i q
+
+module _ (b : Board) (p : ℕ) (sized : Sized b) (h : p < 64) where
+  changed-at : (mark count : ℕ) (g : ℕ → ℕ)
+      → Changed b (record {
+        places = b .places;
+        filled = set (b .filled) p mark;
+        counts = set (b .counts) p count;
+        ends = rowSet (b .ends) p g;
+      }) p (eqb mark 0) count g
+  changed-at mark count g = record {
+    sized = record {
+      filled-cells = length-set (b .filled) p mark ∙ sized .filled-cells;
+      counts-cells = length-set (b .counts) p count ∙ sized .counts-cells;
+      ends-cells = row-length (b .ends) p g;
+    };
+    places-same = refl;
+    empty-own = ap (λ (x : ℕ). eqb x 0) (getD-set-same (b .filled) p mark 0 (omega (arith, sized .filled-cells)));
+    empty-other = λ i ne. ap (λ (x : ℕ). eqb x 0) (getD-set-other (b .filled) p i mark 0 ne);
+    count-own = getD-set-same (b .counts) p count 0 (omega (arith, sized .counts-cells));
+    count-other = λ i ne. getD-set-other (b .counts) p i count 0 ne;
+    held-own = row-own (b .ends) p g h;
+    held-other = row-other (b .ends) p g;
+  }
+
+  pub filled-at : (s : Runs) → Changed b (filledAt b p s) p false (s .count) (λ q. getD (s .ends) q 0)
+  unfolding filledAt
+  filled-at s = changed-at 1 (s .count) (λ q. getD (s .ends) q 0)
+
+  pub cleared-at : Changed b (clearedAt b p) p true 0 (λ q. 0)
+  unfolding clearedAt
+  cleared-at = changed-at 0 0 (λ q. 0)
+
+-- ---- empty places
+module _ (b : Board) where
+  pub empty-law : (f : ℕ → Bool) → ((p : ℕ) → p < placesOf b → isEmpty b p ≡ f p) → emptyPlaces b ≡ total (λ p. cond (f p) 1 0) (placesOf b)
+  unfolding emptyPlaces
+  empty-law f h = total-same (λ p. cond (isEmpty b p) 1 0) (λ p. cond (f p) 1 0) (placesOf b) (λ p l. ap (λ (t : Bool). cond t 1 0) (h p l))
+
+  pub empty-most : emptyPlaces b ≤ placesOf b
+  unfolding emptyPlaces
+  empty-most = omega (arith, total-most (λ p. cond (isEmpty b p) 1 0) 1 (placesOf b) (λ p l. one-most (isEmpty b p)))
+
+  pub none-empty : (emptyPlaces b ≡ 0) ↔ ((p : ℕ) → p < placesOf b → isEmpty b p ≡ false)
+  unfolding emptyPlaces
+  none-empty = (
+    (λ z p l. no-term (isEmpty b p) (omega (arith, term-most (λ i. cond (isEmpty b i) 1 0) (placesOf b) p l))),
+    λ h. omega (arith, total-most (λ p. cond (isEmpty b p) 1 0) 0 (placesOf b) (λ p l. rw (h p l) (omega arith))),
+  )
+    where
+      no-term : (t : Bool) → cond t 1 0 ≤ 0 → t ≡ false
+      no-term true l = absurd (omega arith)
+      no-term false l = refl
+
+  -- ---- the summed count
+  pub summed-law : (f : ℕ → ℕ) → ((p : ℕ) → p < placesOf b → getD (b .counts) p 0 ≡ f p) → summedCount b ≡ total f (placesOf b)
+  unfolding summedCount
+  summed-law f h = total-same (λ p. getD (b .counts) p 0) f (placesOf b) h
+
+-- ---- what a change adds and takes away
+module _ (b c : Board) (p : ℕ) (empty : Bool) (count : ℕ) (ends : ℕ → ℕ) (changed : Changed b c p empty count ends) (h : p < placesOf b) where
+  pub empty-changed : emptyPlaces c + cond (isEmpty b p) 1 0 ≡ emptyPlaces b + cond empty 1 0
+  unfolding emptyPlaces
+  empty-changed =
+      rw (changed .places-same, ← changed .empty-own)
+      (total-changed (λ i. cond (isEmpty c i) 1 0) (λ i. cond (isEmpty b i) 1 0) (placesOf b) p h
+      (λ i ne. ap (λ (t : Bool). cond t 1 0) (changed .empty-other i ne)))
+
+  pub summed-changed : summedCount c + getD (b .counts) p 0 ≡ summedCount b + count
+  unfolding summedCount
+  summed-changed =
+      rw (changed .places-same, ← changed .count-own)
+      (total-changed (λ i. getD (c .counts) i 0) (λ i. getD (b .counts) i 0) (placesOf b) p h (changed .count-other))

@@ -1,0 +1,26 @@
+-- `fill` meets its contract. Assumes nothing.
+use Rattle.board.specs.Boards.{filledAt}
+use borrow.Author.Needs.{needs}
+use Rattle.board.proofs.fill.Statement.{statement}
+use Rattle.board.proofs.fill.Tie as tie
+
+element-write-filled : tie.Need-element-write-filled
+element-write-filled c = search needs
+
+mul-filled : tie.Need-mul-filled
+mul-filled c = search needs
+
+element-write-filled-2 : tie.Need-element-write-filled-2
+element-write-filled-2 c = search needs
+
+set-row-requires : tie.Need-set-row-requires
+set-row-requires c κs = search needs
+
+returns : tie.Need-returns
+unfolding filledAt
+returns c = rw (c .set-row .ensures)
+
+pub fill-spec : {M : Type 1} → statement M
+fill-spec =
+    tie.close
+    (tie.spec element-write-filled mul-filled element-write-filled-2 set-row-requires returns)

@@ -1,0 +1,70 @@
+-- `sum_counts` meets its contract: the counts before p are summed, and each is below 2 ^ 32. Assumes nothing.
+use mathlib.Core.Path.{_≡_, refl, sym, ap₂, _∙_}
+use Prim.Native.Nat.{ℕ, _+_, _*_, _-_, _≤_}
+use native.Mathlib.Omega.{arith}
+use lib.ListN.{getD}
+use borrow.Author.Needs.{needs}
+use Rattle.chunks.specs.Chunks.{total}
+use Rattle.board.proofs.Totals.{total-more}
+use Rattle.board.proofs.sum_counts.Statement.{statement}
+use Rattle.board.proofs.sum_counts.Tie as tie
+
+abbrev Inv-loop : tie.InvT-loop
+Inv-loop counts n sum₀ p₀ sum p = (p ≤ n) × (sum ≤ p * 4294967296) × (sum ≡ total (λ i. getD counts i 0) p)
+
+abbrev μ-loop : tie.MeasureT-loop
+μ-loop counts n sum₀ p₀ sum p = n - p
+
+loop-holds : tie.Need-loop-holds Inv-loop μ-loop
+unfolding total
+loop-holds c = (omega arith, omega arith, refl)
+
+mul-wide : tie.Need-mul-wide Inv-loop μ-loop
+mul-wide c = omega arith
+
+element-copy-out-wide : tie.Need-element-copy-out-wide Inv-loop μ-loop
+element-copy-out-wide c = omega arith
+
+wide-requires : tie.Need-wide-requires Inv-loop μ-loop
+wide-requires c κs = search needs
+
+add-sum : tie.Need-add-sum Inv-loop μ-loop
+add-sum c = omega arith
+
+add-p : tie.Need-add-p Inv-loop μ-loop
+add-p c = omega arith
+
+loop-less : tie.Need-loop-less Inv-loop μ-loop
+loop-less c = omega arith
+
+loop-again : tie.Need-loop-again Inv-loop μ-loop
+loop-again c =
+    let x = c .before .before .before .loop in
+    let a = c .before .before .before .before .args in
+    let f : ℕ → ℕ = λ i. getD (a .counts .now) i 0 in (
+      omega arith,
+      omega arith,
+      ap₂ (λ (y z : ℕ). y + z) (x .inv .2) (c .wide .ensures .0) ∙ sym (total-more f (x .p)),
+    )
+
+returns : tie.Need-returns Inv-loop μ-loop
+returns c =
+    let x = c .before .loop in
+    let e : x .p ≡ c .before .before .args .n = omega arith in
+    rw (← e) (x .inv .2)
+
+pub sum-counts-spec : {M : Type 1} → statement M
+sum-counts-spec =
+    tie.close
+    (tie.spec
+    Inv-loop
+    μ-loop
+    loop-holds
+    mul-wide
+    element-copy-out-wide
+    wide-requires
+    add-sum
+    add-p
+    loop-less
+    loop-again
+    returns)
