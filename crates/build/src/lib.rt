@@ -59,7 +59,7 @@ fn number_singles(sets: &[u32; 512], count: usize) -> [u16; 32]
 }
 
 // Zeros in every field.
-fn nothing_built() -> Built
+pub fn nothing_built() -> Built
     ensures { λ r. ⌜ r ≡ noBuilt ⌝ }
 {
     let delegates = [0u8; 32];

@@ -1,0 +1,165 @@
+-- Lists of calls, and what such a list says by itself (document 01, "The board and its calls"). A history has the LAST call first. Nothing here
+-- looks at a state. `d` lists the delegates of the rule that is there.
+--
+--   loadNumber f             the number with which a load is refused, 1 to 9, or none where it is accepted
+--   fileOf h, ruleIn h       the file of the last accepted load, and its rule
+--   openNumber h n           the same for an opening: 20, 10
+--   placesIn h               the places of the board; 0 where no board is there
+--   standing d h p           the standing chunk at place p, or none
+--   endAt d h p q, countAt d h p   what place p holds: the end set of state q, and the count
+--   deliverNumber, withdrawNumber  21, 11, 12, 13, 22, 24 and 21, 11, 23
+--   emptiesIn d h, summedIn d h    how many places are empty, and the sum of the counts
+--   textIn d h               the standing chunks joined by place
+--   answerOf d h c           what document 01 answers to the call c after the calls h
+use mathlib.Core.Path.{_≡_}
+use mathlib.Core.Bool.{Bool, true, false, cond, _&&_}
+use mathlib.Core.List.{List, [], _∷_, _++_}
+use mathlib.Core.Option.{Option, none, some}
+use Prim.Native.Nat.{ℕ, zero, suc, _+_, _/_, _%_}
+use lib.Dec.{eqb, ltb, leb}
+use lib.ListN.{length}
+use Rattle.masks.specs.Lists.{listFrom}
+use Rattle.automaton.specs.declared.Rule.{Rule}
+use Rattle.rulefile.specs.Conditions.{on, firstOf, outside}
+use Rattle.rulefile.specs.Refusals.{refusal}
+use Rattle.rulefile.specs.Reader.{ruleOf, noRule}
+use Rattle.subsets.specs.Sets.{setsOf, tooMany}
+use Rattle.chunks.specs.Chunks.{foreign, runSet, endSet, total, chunkCount}
+use Rattle.board.specs.Joining.{saysYes}
+use Rattle.judge.specs.Replies.{Reply, accepted, loaded, waiting, keeps, breaks, refused}
+
+pub data Call : Type 0 where
+  loads : List ℕ → Call
+  opens : ℕ → Call
+  delivers : ℕ → List ℕ → Call
+  withdraws : ℕ → Call
+  asks : Call
+
+-- nothing, something
+abbrev pub isNone : {A : Type 0} → Option A → Bool
+isNone none = true
+isNone (some x) = false
+
+abbrev pub isSome : {A : Type 0} → Option A → Bool
+isSome none = false
+isSome (some x) = true
+
+abbrev pub orElse : Option ℕ → Option ℕ → Option ℕ
+orElse none y = y
+orElse (some x) y = some x
+
+-- ---- which rule is there
+unfoldable pub loadNumber : List ℕ → Option ℕ
+loadNumber f = orElse (refusal f) (firstOf (on 9 (tooMany (ruleOf f .targets) (ruleOf f .n) (ruleOf f .k)) ∷ []))
+
+unfoldable pub fileOf : List Call → Option (List ℕ)
+fileOf [] = none
+fileOf (loads f ∷ h) = cond (isNone (loadNumber f)) (some f) (fileOf h)
+fileOf (opens n ∷ h) = fileOf h
+fileOf (delivers p w ∷ h) = fileOf h
+fileOf (withdraws p ∷ h) = fileOf h
+fileOf (asks ∷ h) = fileOf h
+
+abbrev pub ruleBy : Option (List ℕ) → Rule
+ruleBy none = noRule
+ruleBy (some f) = ruleOf f
+
+abbrev pub ruleIn : List Call → Rule
+ruleIn h = ruleBy (fileOf h)
+
+-- ---- which board is there
+abbrev pub openNumber : List Call → ℕ → Option ℕ
+openNumber h n = firstOf (on 20 (isNone (fileOf h)) ∷ on 10 (outside 1 64 n) ∷ [])
+
+unfoldable pub placesIn : List Call → ℕ
+placesIn [] = 0
+placesIn (loads f ∷ h) = cond (isNone (loadNumber f)) 0 (placesIn h)
+placesIn (opens n ∷ h) = cond (isNone (openNumber h n)) n (placesIn h)
+placesIn (delivers p w ∷ h) = placesIn h
+placesIn (withdraws p ∷ h) = placesIn h
+placesIn (asks ∷ h) = placesIn h
+
+-- ---- which chunk stands where. `at` gives the standing chunk at each place
+module _ (r : Rule) (d : List ℕ) where
+  abbrev pub countOf : ℕ → Option (List ℕ) → ℕ
+  countOf p none = 0
+  countOf p (some w) = chunkCount (r .targets) (runSet d (r .n) (r .initials) p) w
+
+  abbrev pub endOf : ℕ → ℕ → Option (List ℕ) → ℕ
+  endOf p q none = 0
+  endOf p q (some w) = endSet (r .targets) (runSet d (r .n) (r .initials) p) w q
+
+  abbrev pub deliverCheck : ℕ → (ℕ → Option (List ℕ)) → ℕ → List ℕ → Option ℕ
+  deliverCheck places at p w =
+      firstOf (
+      on 21 (eqb places 0) ∷
+      on 11 (leb places p) ∷
+      on 12 (ltb 65536 (length w)) ∷
+      on 13 (foreign w (r .k)) ∷
+      on 22 (isSome (at p)) ∷
+      on 24 (ltb 4294967295 (total (λ i. countOf i (at i)) places + countOf p (some w))) ∷ [])
+
+abbrev pub withdrawCheck : ℕ → (ℕ → Option (List ℕ)) → ℕ → Option ℕ
+withdrawCheck places at p = firstOf (on 21 (eqb places 0) ∷ on 11 (leb places p) ∷ on 23 (isNone (at p)) ∷ [])
+
+unfoldable pub standing : List ℕ → List Call → ℕ → Option (List ℕ)
+standing d [] p = none
+standing d (loads f ∷ h) p = cond (isNone (loadNumber f)) none (standing d h p)
+standing d (opens n ∷ h) p = cond (isNone (openNumber h n)) none (standing d h p)
+standing d (delivers q w ∷ h) p =
+    cond (eqb q p && isNone (deliverCheck (ruleIn h) d (placesIn h) (λ i. standing d h i) q w)) (some w) (standing d h p)
+standing d (withdraws q ∷ h) p = cond (eqb q p && isNone (withdrawCheck (placesIn h) (λ i. standing d h i) q)) none (standing d h p)
+standing d (asks ∷ h) p = standing d h p
+
+module _ (d : List ℕ) (h : List Call) where
+  abbrev pub deliverNumber : ℕ → List ℕ → Option ℕ
+  deliverNumber p w = deliverCheck (ruleIn h) d (placesIn h) (standing d h) p w
+
+  abbrev pub withdrawNumber : ℕ → Option ℕ
+  withdrawNumber p = withdrawCheck (placesIn h) (standing d h) p
+
+  abbrev pub countAt : ℕ → ℕ
+  countAt p = countOf (ruleIn h) d p (standing d h p)
+
+  abbrev pub endAt : ℕ → ℕ → ℕ
+  endAt p q = endOf (ruleIn h) d p q (standing d h p)
+
+  abbrev pub emptiesIn : ℕ
+  emptiesIn = total (λ p. cond (isNone (standing d h p)) 1 0) (placesIn h)
+
+  abbrev pub summedIn : ℕ
+  summedIn = total countAt (placesIn h)
+
+  -- the yes or no is the join of the end sets, place by place
+  abbrev pub yesIn : Bool
+  yesIn = saysYes (listFrom 0 2048 (λ cell. endAt (cell / 32) (cell % 32))) d (ruleIn h .n) (ruleIn h .initials) (ruleIn h .finals) (placesIn h)
+
+  abbrev pub verdictIn : Reply
+  verdictIn =
+      cond (eqb (placesIn h) 0) (refused 21)
+      (cond (eqb emptiesIn 0) (cond yesIn (keeps summedIn) (breaks summedIn)) (waiting emptiesIn))
+
+-- the chunk itself; an empty place has none
+abbrev pub chunkOf : Option (List ℕ) → List ℕ
+chunkOf none = []
+chunkOf (some w) = w
+
+unfoldable pub joinedUpTo : (ℕ → Option (List ℕ)) → ℕ → List ℕ
+joinedUpTo at zero = []
+joinedUpTo at (suc p) = joinedUpTo at p ++ chunkOf (at p)
+
+abbrev pub textIn : List ℕ → List Call → List ℕ
+textIn d h = joinedUpTo (standing d h) (placesIn h)
+
+-- ---- the answers
+abbrev pub replyBy : Option ℕ → Reply → Reply
+replyBy none a = a
+replyBy (some number) a = refused number
+
+-- m is the number of starts of the rule that a load brings
+abbrev pub answerOf : List ℕ → ℕ → List Call → Call → Reply
+answerOf d m h (loads f) = replyBy (loadNumber f) (loaded (length (setsOf (ruleOf f .targets) (ruleOf f .n) (ruleOf f .k))) m)
+answerOf d m h (opens n) = replyBy (openNumber h n) accepted
+answerOf d m h (delivers p w) = replyBy (deliverNumber d h p w) accepted
+answerOf d m h (withdraws p) = replyBy (withdrawNumber d h p) accepted
+answerOf d m h asks = verdictIn d h

@@ -1,0 +1,5 @@
+-- In the order in which to read them.
+pub mod Replies
+pub mod History
+pub mod Calls
+pub mod Claims

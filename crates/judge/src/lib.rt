@@ -1,0 +1,250 @@
+// The judge: one rule, one board, five calls.
+ghost use mathlib.Core.Path.{_≡_};
+ghost use Prim.Native.Nat.{_≤_};
+ghost use lib.ListN.{length};
+ghost use Rattle.board.specs.Boards.{placesOf};
+ghost use Rattle.chunks.specs.Walks.{runMask, runsOf};
+ghost use Rattle.judge.specs.Calls.{fresh, withBoard, Loads, openOf, deliverOf, withdrawOf, verdictOf};
+use board::Board;
+use build::BuildAnswer;
+use build::Built;
+use chunks::Runs;
+use rulefile::ReadAnswer;
+
+// The state. A rule is there when built.n is not 0, a board when board.places is not 0; in a fresh judge every number is 0.
+#[repr(C)]
+pub struct Judge {
+    pub built: Built,
+    pub board: Board,
+}
+
+// The number of sets and M, or a refusal.
+pub enum LoadAnswer {
+    Accepted(u16, u8),
+    Refused(u8),
+}
+
+pub enum OpenAnswer {
+    Accepted,
+    Refused(u8),
+}
+
+pub enum DeliverAnswer {
+    Accepted,
+    Refused(u8),
+}
+
+pub enum WithdrawAnswer {
+    Accepted,
+    Refused(u8),
+}
+
+pub enum Verdict {
+    Waiting(u8),
+    Yes(u64),
+    No(u64),
+    Refused(u8),
+}
+
+// Each call that may change the state answers with the next state beside the answer.
+pub struct Loading {
+    pub answer: LoadAnswer,
+    pub judge: Judge,
+}
+
+pub struct Opening {
+    pub answer: OpenAnswer,
+    pub judge: Judge,
+}
+
+pub struct Delivery {
+    pub answer: DeliverAnswer,
+    pub judge: Judge,
+}
+
+pub struct Withdrawal {
+    pub answer: WithdrawAnswer,
+    pub judge: Judge,
+}
+
+// A judge with no rule and no board.
+pub fn new_judge() -> Judge
+    ensures { λ r. ⌜ r ≡ fresh ⌝ }
+{
+    let built = build::nothing_built();
+    let board = board::empty_board(0);
+    Judge { built, board }
+}
+
+// The same rule with another board.
+fn with_board(judge: Judge, board: Board) -> Judge
+    ensures { λ r. ⌜ r ≡ withBoard judge board ⌝ }
+{
+    let built = judge.built;
+    Judge { built, board }
+}
+
+// The number of places that a board can have at most; any number above 64 counts as 64.
+fn places_of(board: Board) -> usize
+    ensures { λ r. ⌜ r ≡ placesOf board ⌝ }
+{
+    let places = board.places as usize;
+    if places < 64 { places } else { 64 }
+}
+
+fn refuse_load(judge: Judge, number: u8) -> Loading
+    ensures { λ r. ⌜ r ≡ record { answer = LoadAnswer.Refused number; judge = judge } ⌝ }
+{
+    let answer = LoadAnswer::Refused(number);
+    Loading { answer, judge }
+}
+
+fn refuse_opening(judge: Judge, number: u8) -> Opening
+    ensures { λ r. ⌜ r ≡ record { answer = OpenAnswer.Refused number; judge = judge } ⌝ }
+{
+    let answer = OpenAnswer::Refused(number);
+    Opening { answer, judge }
+}
+
+fn refuse_delivery(judge: Judge, number: u8) -> Delivery
+    ensures { λ r. ⌜ r ≡ record { answer = DeliverAnswer.Refused number; judge = judge } ⌝ }
+{
+    let answer = DeliverAnswer::Refused(number);
+    Delivery { answer, judge }
+}
+
+fn refuse_withdrawal(judge: Judge, number: u8) -> Withdrawal
+    ensures { λ r. ⌜ r ≡ record { answer = WithdrawAnswer.Refused number; judge = judge } ⌝ }
+{
+    let answer = WithdrawAnswer::Refused(number);
+    Withdrawal { answer, judge }
+}
+
+// The runs of a chunk at a place.
+fn run_at(built: Built, place: usize, chunk: &[u8]) -> Runs
+    requires { ⌜ length (now chunk) ≤ 65536 ⌝ }
+    ensures { λ r. ⌜ r ≡ runsOf (built .sets) (built .next) (built .singles) (runMask (built .delegates) (built .n) (built .initials) place) (now (chunk .entry)) ⌝ }
+{
+    let delegates = built.delegates;
+    let sets = built.sets;
+    let next = built.next;
+    let singles = built.singles;
+    let mask = chunks::run_mask(delegates, built.n, built.initials, place);
+    chunks::run_chunk(&sets, &next, &singles, mask, chunk)
+}
+
+// Checks and builds a rule. Accepted, it replaces the former rule and removes the board.
+pub fn load(judge: Judge, file: &[u8]) -> Loading
+    ensures { λ r. ⌜ Loads judge (now (file .entry)) r ⌝ }
+{
+    let reading = rulefile::read(file);
+    let read = reading.answer;
+    match read {
+        ReadAnswer::Refused(number) => refuse_load(judge, number),
+        ReadAnswer::Accepted => {
+            let rule = reading.rule;
+            let building = build::build_rule(rule);
+            let answer = building.answer;
+            match answer {
+                BuildAnswer::Refused(number) => refuse_load(judge, number),
+                BuildAnswer::Accepted(sets, starts) => {
+                    let built = building.built;
+                    let board = board::empty_board(0);
+                    let answer = LoadAnswer::Accepted(sets, starts);
+                    let judge = Judge { built, board };
+                    Loading { answer, judge }
+                }
+            }
+        }
+    }
+}
+
+// A board of that many places, all empty; an earlier board is dropped.
+pub fn open(judge: Judge, places: usize) -> Opening
+    ensures { λ r. ⌜ r ≡ openOf judge places ⌝ }
+{
+    let built = judge.built;
+    if built.n == 0 {
+        return refuse_opening(judge, 20);
+    }
+    if places < 1 {
+        return refuse_opening(judge, 10);
+    }
+    if 64 < places {
+        return refuse_opening(judge, 10);
+    }
+    let answer = OpenAnswer::Accepted;
+    let judge = with_board(judge, board::empty_board(places as u8));
+    Opening { answer, judge }
+}
+
+// Runs a chunk and keeps its end sets and count at the place.
+pub fn deliver(judge: Judge, place: usize, chunk: &[u8]) -> Delivery
+    ensures { λ r. ⌜ r ≡ deliverOf judge place (now (chunk .entry)) ⌝ }
+{
+    let board = judge.board;
+    if board.places == 0 {
+        return refuse_delivery(judge, 21);
+    }
+    if places_of(board) <= place {
+        return refuse_delivery(judge, 11);
+    }
+    if 65536 < chunk.len() {
+        return refuse_delivery(judge, 12);
+    }
+    let built = judge.built;
+    if chunks::has_foreign(chunk, built.k) {
+        return refuse_delivery(judge, 13);
+    }
+    if !board::is_empty(board, place) {
+        return refuse_delivery(judge, 22);
+    }
+    let runs = run_at(built, place, chunk);
+    if 4294967295 < board::summed_count(board) + (runs.count as u64) {
+        return refuse_delivery(judge, 24);
+    }
+    let answer = DeliverAnswer::Accepted;
+    let judge = with_board(judge, board::fill(board, place, runs));
+    Delivery { answer, judge }
+}
+
+// Empties the place.
+pub fn withdraw(judge: Judge, place: usize) -> Withdrawal
+    ensures { λ r. ⌜ r ≡ withdrawOf judge place ⌝ }
+{
+    let board = judge.board;
+    if board.places == 0 {
+        return refuse_withdrawal(judge, 21);
+    }
+    if places_of(board) <= place {
+        return refuse_withdrawal(judge, 11);
+    }
+    if board::is_empty(board, place) {
+        return refuse_withdrawal(judge, 23);
+    }
+    let answer = WithdrawAnswer::Accepted;
+    let judge = with_board(judge, board::clear(board, place));
+    Withdrawal { answer, judge }
+}
+
+// Waiting with the number of empty places; or yes or no with the count.
+pub fn judged(judge: Judge) -> Verdict
+    ensures { λ r. ⌜ r ≡ verdictOf judge ⌝ }
+{
+    let board = judge.board;
+    if board.places == 0 {
+        return Verdict::Refused(21);
+    }
+    let empty = board::empty_places(board);
+    if empty != 0 {
+        return Verdict::Waiting(empty);
+    }
+    let count = board::summed_count(board);
+    let built = judge.built;
+    let delegates = built.delegates;
+    if board::says_yes(board, delegates, built.n, built.initials, built.finals) {
+        Verdict::Yes(count)
+    } else {
+        Verdict::No(count)
+    }
+}
