@@ -1,0 +1,145 @@
+-- The state agrees with a rule and with a chunk at each place, or none: `Holds`. A fresh judge agrees with nothing, a load brings a rule, an
+-- opening empties all places, a delivery changes one place and a withdrawal empties one. Assumes nothing.
+use mathlib.Core.Path.{_≡_, refl, sym, ap, ap₂, _∙_, subst}
+use mathlib.Core.Bool.{Bool, true, false, cond}
+use mathlib.Core.List.{List}
+use mathlib.Core.Option.{Option, none, some}
+use Prim.Native.Nat.{ℕ, _*_, _+_, _≤_, _<_, min}
+use native.Mathlib.Omega.{arith}
+use lib.Dec.{eqb, ltb}
+use lib.ListN.{length, getD}
+use borrow.Author.Tests.{eq-eqb, ne-eqb, eqb-true, eqb-false, ltb-true, ltb-false}
+use Rattle.masks.proofs.Cases.{by-test}
+use Rattle.automaton.specs.declared.Rule.{Rule}
+use Rattle.automaton.specs.Rules.{WellFormed}
+use Rattle.rulefile.specs.Reader.{ruleOf}
+use Rattle.subsets.specs.Claims.{fits}
+use Rattle.delegates.specs.Alike.{Text}
+use Rattle.build.specs.Building.{BuiltRule, noBuilt}
+use Rattle.board.specs.declared.Board.{Board}
+use Rattle.board.specs.Boards.{placesOf, held, isEmpty, emptyBoard, filledAt, clearedAt}
+use Rattle.board.proofs.Laws.{Sized, sized-empty, empty-all, empty-held, empty-count, Changed, filled-at, cleared-at}
+use Rattle.judge.specs.declared.Judge.{Judge}
+use Rattle.judge.specs.History.{isNone, ruleBy, countOf, endOf}
+use Rattle.judge.specs.Calls.{fresh, withBoard, runsAt}
+use Rattle.judge.specs.Claims.{BuiltBy}
+use Rattle.judge.proofs.Running.{count-same, end-same}
+
+pub record Holds (file : Option (List ℕ)) (places : ℕ) (at : ℕ → Option (List ℕ)) (j : Judge) : Type 0 where
+  pub rule : BuiltBy file j
+  pub sized : Sized (j .board)
+  pub places-are : j .board .places ≡ places
+  pub few : places ≤ 64
+  pub ruled : 0 < places → isNone file ≡ false
+  pub beyond : (p : ℕ) → places ≤ p → at p ≡ none
+  pub texts : (p : ℕ) (w : List ℕ) → at p ≡ some w → Text (ruleBy file .k) w
+  pub empty : (p : ℕ) → p < 64 → isEmpty (j .board) p ≡ isNone (at p)
+  pub ends : (p q : ℕ) → p < 64 → q < 32 → held (j .board) p q ≡ endOf (ruleBy file) (j .built .delegates) p q (at p)
+  pub counts : (p : ℕ) → p < 64 → getD (j .board .counts) p 0 ≡ countOf (ruleBy file) (j .built .delegates) p (at p)
+
+never : {A : Type 0} {w : List ℕ} → none ≡ some w → A
+never e = absurd (let z : _≡_ {A = ℕ} 0 1 = cc in omega arith)
+
+-- ---- all places empty
+nothing : ℕ → Option (List ℕ)
+nothing p = none
+
+module _ (file : Option (List ℕ)) (n : ℕ) (j : Judge) (rule : BuiltBy file j) (is : j .board ≡ emptyBoard n) (few : n ≤ 64) (ruled : 0 < n → isNone file ≡ false) where
+  pub all-empty : Holds file n (λ p. none) j
+  unfolding emptyBoard
+  all-empty = record {
+    rule = rule;
+    sized = subst Sized (sym is) (sized-empty n);
+    places-are = ap (λ b. b .places) is;
+    few = few;
+    ruled = ruled;
+    beyond = λ p h. refl;
+    texts = λ p w e. never e;
+    empty = λ p h. ap (λ b. isEmpty b p) is ∙ empty-all n p;
+    ends = λ p q hp hq. ap (λ b. held b p q) is ∙ empty-held n p q;
+    counts = λ p h. ap (λ b. getD (b .counts) p 0) is ∙ empty-count n p;
+  }
+
+pub fresh-holds : Holds none 0 (λ p. none) fresh
+unfolding fresh
+fresh-holds = all-empty none 0 (record { built = noBuilt; board = emptyBoard 0 }) refl refl (omega arith) (λ h. absurd (omega arith))
+
+-- ---- one place changed
+-- place p has the chunk `new`, or none; the others stay
+unfoldable pub placed : (ℕ → Option (List ℕ)) → ℕ → Option (List ℕ) → ℕ → Option (List ℕ)
+placed at p new i = cond (eqb p i) new (at i)
+
+module _ (at : ℕ → Option (List ℕ)) (p : ℕ) (new : Option (List ℕ)) where
+  pub placed-own : placed at p new p ≡ new
+  unfolding placed
+  placed-own = rw (eq-eqb p p refl)
+
+  pub placed-other : (i : ℕ) → (i ≡ p → ⊥) → placed at p new i ≡ at i
+  unfolding placed
+  placed-other i ne = rw (ne-eqb p i (λ e. ne (sym e)))
+
+  -- what holds at p and at every other place holds everywhere
+  each : (P : ℕ → Option (List ℕ) → Type 0) → P p new → ((i : ℕ) → (i ≡ p → ⊥) → P i (at i)) → (i : ℕ) → P i (placed at p new i)
+  each P own other i =
+      by-test (eqb i p)
+      (λ e. let z = eqb-true i p e in subst (λ (x : ℕ). P x (placed at p new x)) (sym z) (subst (P p) (sym placed-own) own))
+      (λ e. let ne = eqb-false i p e in subst (P i) (sym (placed-other i ne)) (other i ne))
+
+module _ (file : Option (List ℕ)) (places : ℕ) (at : ℕ → Option (List ℕ)) (j : Judge) (holds : Holds file places at j) (p : ℕ) (h : p < places) where
+  pub place-below : p < 64
+  place-below = omega (arith, h, holds .few)
+
+  changed-holds : (new : Option (List ℕ)) (c : Board) → ((w : List ℕ) → new ≡ some w → Text (ruleBy file .k) w)
+      → Changed (j .board) c p (isNone new) (countOf (ruleBy file) (j .built .delegates) p new) (λ q. endOf (ruleBy file) (j .built .delegates) p q new)
+      → Holds file places (placed at p new) (withBoard j c)
+  changed-holds new c text changed = record {
+    rule = kept file (holds .rule);
+    sized = changed .sized;
+    places-are = changed .places-same ∙ holds .places-are;
+    few = holds .few;
+    ruled = holds .ruled;
+    beyond = λ i b. placed-other at p new i (λ e. absurd (omega (arith, h, b, e))) ∙ holds .beyond i b;
+    texts =
+        each at p new (λ i o. (w : List ℕ) → o ≡ some w → Text (ruleBy file .k) w) text (λ i ne. holds .texts i);
+    empty =
+        each at p new (λ i o. i < 64 → isEmpty c i ≡ isNone o) (λ b. changed .empty-own) (λ i ne b. changed .empty-other i ne ∙ holds .empty i b);
+    ends = λ i q b.
+        each at p new (λ i o. i < 64 → q < 32 → held c i q ≡ endOf (ruleBy file) (j .built .delegates) i q o)
+        (λ b l. changed .held-own q l)
+        (λ i ne b l. changed .held-other i q b l ne ∙ holds .ends i q b l)
+        i
+        b;
+    counts =
+        each at p new (λ i o. i < 64 → getD (c .counts) i 0 ≡ countOf (ruleBy file) (j .built .delegates) i o)
+        (λ b. changed .count-own)
+        (λ i ne b. changed .count-other i ne ∙ holds .counts i b);
+  }
+    where
+      kept : (o : Option (List ℕ)) → BuiltBy o j → BuiltBy o (withBoard j c)
+      kept none e = e
+      kept (some f) e = e
+
+  pub cleared-holds : Holds file places (placed at p none) (withBoard j (clearedAt (j .board) p))
+  cleared-holds =
+      changed-holds none (clearedAt (j .board) p) (λ w e. never e) (cleared-at (j .board) p (holds .sized) place-below)
+
+-- ---- a chunk is run and kept
+module _ (f : List ℕ) (places : ℕ) (at : ℕ → Option (List ℕ)) (j : Judge) (holds : Holds (some f) places at j) (p : ℕ) (h : p < places) (w : List ℕ) (text : Text (ruleOf f .k) w) where
+  pub run-count : runsAt j p w .count ≡ countOf (ruleOf f) (j .built .delegates) p (some w)
+  run-count = count-same (ruleOf f) (holds .rule .1) (holds .rule .2) (j .built) (holds .rule .0) p w text
+
+  pub filled-holds : Holds (some f) places (placed at p (some w)) (withBoard j (filledAt (j .board) p (runsAt j p w)))
+  filled-holds =
+      let c = filled-at (j .board) p (holds .sized) (place-below (some f) places at j holds p h) (runsAt j p w) in
+      changed-holds (some f) places at j holds p h (some w) (filledAt (j .board) p (runsAt j p w))
+      (λ v e. let z : w ≡ v = cc in subst (Text (ruleOf f .k)) z text)
+      (record {
+        sized = c .sized;
+        places-same = c .places-same;
+        empty-own = c .empty-own;
+        empty-other = c .empty-other;
+        count-own = c .count-own ∙ run-count;
+        count-other = c .count-other;
+        held-own = λ q l. c .held-own q l ∙ end-same (ruleOf f) (holds .rule .1) (holds .rule .2) (j .built) (holds .rule .0) p w text q l;
+        held-other = c .held-other;
+      })

@@ -1,0 +1,275 @@
+-- The words of demand 3 for the verdict that a list of calls says. Assumes nothing.
+--
+-- The last one goes so: with no place empty, the standing chunks are a list of texts, the cells of the definition's join are their end sets, and
+-- the theorem of the join applies to that list.
+use mathlib.Core.Path.{_≡_, refl, sym, ap, ap₂, _∙_, subst, subst₂}
+use mathlib.Core.Logic.{_↔_}
+use mathlib.Core.Bool.{Bool, true, false, cond}
+use mathlib.Core.List.{List, [], _∷_, _++_, flatten, append-assoc, append-nil}
+use mathlib.Core.Option.{Option, none, some}
+use Prim.Native.Nat.{ℕ, zero, suc, _+_, _*_, _/_, _%_, _≤_, _<_, zero-le}
+use native.Mathlib.Numerals.{add-one}
+use native.Mathlib.Omega.{arith}
+use lib.Dec.{eqb, ltb}
+use lib.ListN.{length, getD, length-append, List·getD-append}
+use lib.Seq.{getD-at}
+use borrow.Author.Tests.{eq-eqb, ne-eqb, eqb-true, eqb-false, ltb-true, ltb-false}
+use Rattle.masks.specs.Masks.{has}
+use Rattle.masks.specs.Lists.{listFrom}
+use Rattle.masks.proofs.Cases.{by-test}
+use Rattle.masks.proofs.Lists.{cell-of}
+use Rattle.automaton.specs.declared.Rule.{Rule}
+use Rattle.automaton.specs.Automaton.{Accepts}
+use Rattle.automaton.specs.Rules.{automatonOf, WellFormed}
+use Rattle.rulefile.specs.Reader.{ruleOf}
+use Rattle.delegates.specs.Alike.{Text, Merged}
+use Rattle.chunks.specs.Chunks.{counted, runSet, endSet, total, chunkCount}
+use Rattle.chunks.proofs.Claims as chunks
+use Rattle.board.specs.Joining.{saysYes}
+use Rattle.board.specs.Claims as board-specs
+use Rattle.board.proofs.Claims as board
+use Rattle.board.proofs.Totals.{total-same, term-most}
+use Rattle.judge.specs.declared.Judge.{Judge}
+use Rattle.judge.specs.Replies.{Reply, waiting, keeps, breaks, refused}
+use Rattle.judge.specs.History.{Call, isNone, fileOf, ruleBy, ruleIn, placesIn, countOf, endOf, standing, emptiesIn, summedIn, yesIn, verdictIn, chunkOf, joinedUpTo, textIn}
+use Rattle.judge.specs.Claims.{Verdict-words}
+use Rattle.judge.proofs.Running.{merged}
+use Rattle.judge.proofs.Holding.{Holds}
+use Rattle.judge.proofs.Listed.{Good}
+
+-- ---- the verdict by its numbers
+module _ (places empties : ℕ) (yes-there : Bool) (sum : ℕ) where
+  abbrev by-numbers : Reply
+  by-numbers = cond (eqb places 0) (refused 21) (cond (eqb empties 0) (cond yes-there (keeps sum) (breaks sum)) (waiting empties))
+
+  -- which of the four it is, with what it says
+  data Which : Type 0 where
+    no-board : places ≡ 0 → by-numbers ≡ refused 21 → Which
+    waits : 0 < places → 0 < empties → by-numbers ≡ waiting empties → Which
+    says-yes : 0 < places → empties ≡ 0 → yes-there ≡ true → by-numbers ≡ keeps sum → Which
+    says-no : 0 < places → empties ≡ 0 → yes-there ≡ false → by-numbers ≡ breaks sum → Which
+
+  which : Which
+  which =
+      by-test (eqb places 0)
+      (λ p. no-board (eqb-true places 0 p) (rw p))
+      (λ p.
+          let np = eqb-false places 0 p in
+          by-test (eqb empties 0)
+          (λ e.
+              by-test yes-there
+              (λ y. says-yes (omega arith) (eqb-true empties 0 e) y (rw (p, e, y)))
+              (λ y. says-no (omega arith) (eqb-true empties 0 e) y (rw (p, e, y))))
+          (λ e. let ne = eqb-false empties 0 e in waits (omega arith) (omega arith) (rw (p, e))))
+
+absurd-reply : {A : Type 0} → _≡_ {A = ℕ} 0 1 → A
+absurd-reply z = absurd (omega arith)
+
+module _ (places empties : ℕ) (t : Bool) (sum : ℕ) where
+  refused-law : (by-numbers places empties t sum ≡ refused 21) ↔ (places ≡ 0)
+  refused-law = (
+    (λ e. to (which places empties t sum) e),
+    λ z. rw (eq-eqb places 0 z),
+  )
+    where
+      to : Which places empties t sum → by-numbers places empties t sum ≡ refused 21 → places ≡ 0
+      to (no-board p e) x = p
+      to (waits p q e) x = absurd-reply (cc)
+      to (says-yes p q y e) x = absurd-reply (cc)
+      to (says-no p q y e) x = absurd-reply (cc)
+
+  waiting-law : (e : ℕ) → (by-numbers places empties t sum ≡ waiting e) ↔ ((0 < places) × (0 < e) × (e ≡ empties))
+  waiting-law w = (
+    (λ x. to (which places empties t sum) x),
+    λ x. back (x .0) (x .1) (x .2),
+  )
+    where
+      to : Which places empties t sum → by-numbers places empties t sum ≡ waiting w → (0 < places) × (0 < w) × (w ≡ empties)
+      to (no-board p e) x = absurd-reply (cc)
+      to (waits p q e) x = let z : w ≡ empties = cc in (p, omega arith, z)
+      to (says-yes p q y e) x = absurd-reply (cc)
+      to (says-no p q y e) x = absurd-reply (cc)
+
+      back : 0 < places → 0 < w → w ≡ empties → by-numbers places empties t sum ≡ waiting w
+      back p q e = rw (ne-eqb places 0 (λ z. absurd (omega arith)), ne-eqb empties 0 (λ z. absurd (omega arith))) (ap waiting (sym e))
+
+  yes-count : (c : ℕ) → by-numbers places empties t sum ≡ keeps c → c ≡ sum
+  yes-count c x = to (which places empties t sum)
+    where
+      to : Which places empties t sum → c ≡ sum
+      to (no-board p e) = absurd-reply (cc)
+      to (waits p q e) = absurd-reply (cc)
+      to (says-yes p q y e) = cc
+      to (says-no p q y e) = absurd-reply (cc)
+
+  no-count : (c : ℕ) → by-numbers places empties t sum ≡ breaks c → c ≡ sum
+  no-count c x = to (which places empties t sum)
+    where
+      to : Which places empties t sum → c ≡ sum
+      to (no-board p e) = absurd-reply (cc)
+      to (waits p q e) = absurd-reply (cc)
+      to (says-yes p q y e) = absurd-reply (cc)
+      to (says-no p q y e) = cc
+
+  yes-law : 0 < places → empties ≡ 0 → (by-numbers places empties t sum ≡ keeps sum) ↔ (t ≡ true)
+  yes-law p e = (
+    (λ x. to (which places empties t sum) x),
+    λ y. rw (ne-eqb places 0 (λ z. absurd (omega arith)), eq-eqb empties 0 e, y),
+  )
+    where
+      to : Which places empties t sum → by-numbers places empties t sum ≡ keeps sum → t ≡ true
+      to (no-board z w) x = absurd (omega arith)
+      to (waits z w v) x = absurd (omega arith)
+      to (says-yes z w y v) x = y
+      to (says-no z w y v) x = absurd-reply (cc)
+
+-- ---- the standing chunks as a list
+chunksUpTo : (ℕ → Option (List ℕ)) → ℕ → List (List ℕ)
+chunksUpTo at zero = []
+chunksUpTo at (suc p) = chunksUpTo at p ++ (chunkOf (at p) ∷ [])
+
+flatten-more : (l : List (List ℕ)) (w : List ℕ) → flatten (l ++ (w ∷ [])) ≡ flatten l ++ w
+unfolding flatten
+flatten-more [] w = append-nil w
+flatten-more (v ∷ l) w = ap (λ (x : List ℕ). v ++ x) (flatten-more l w) ∙ sym (append-assoc v (flatten l) w)
+
+module _ (at : ℕ → Option (List ℕ)) where
+  chunks-length : (n : ℕ) → length (chunksUpTo at n) ≡ n
+  unfolding chunksUpTo
+  chunks-length zero = refl
+  chunks-length (suc n) = length-append (chunksUpTo at n) (chunkOf (at n) ∷ []) ∙ ap (λ (x : ℕ). x + 1) (chunks-length n) ∙ add-one n
+
+  chunk-at : (n p : ℕ) → p < n → getD (chunksUpTo at n) p [] ≡ chunkOf (at p)
+  unfolding chunksUpTo
+  chunk-at zero p h = absurd (let x = h in omega arith)
+  chunk-at (suc n) p h =
+      by-test (ltb p n)
+      (λ l. List·getD-append (chunksUpTo at n) (chunkOf (at n) ∷ []) [] p (rw (chunks-length n) (ltb-true p n l)) ∙ chunk-at n p (ltb-true p n l))
+      (λ l.
+          let g = ltb-false p n l in
+          let e : n ≡ p = omega arith in
+          subst (λ (x : ℕ). getD (chunksUpTo at n ++ (chunkOf (at n) ∷ [])) x [] ≡ chunkOf (at x)) e
+          (getD-at (chunksUpTo at n) (chunkOf (at n)) [] [] n (chunks-length n)))
+
+  joined-is : (n : ℕ) → joinedUpTo at n ≡ flatten (chunksUpTo at n)
+  unfolding chunksUpTo joinedUpTo flatten
+  joined-is zero = refl
+  joined-is (suc n) = ap (λ (x : List ℕ). x ++ chunkOf (at n)) (joined-is n) ∙ sym (flatten-more (chunksUpTo at n) (chunkOf (at n)))
+
+texts-more : (k : ℕ) (l : List (List ℕ)) (w : List ℕ) → board-specs.Texts k l → Text k w → board-specs.Texts k (l ++ (w ∷ []))
+texts-more k [] w t u = (u, tt)
+texts-more k (v ∷ l) w t u = (t .0, texts-more k l w (t .1) u)
+
+text-of : (k : ℕ) (o : Option (List ℕ)) → ((w : List ℕ) → o ≡ some w → Text k w) → Text k (chunkOf o)
+text-of k none h = tt
+text-of k (some w) h = h w refl
+
+chunk-texts : (k : ℕ) (at : ℕ → Option (List ℕ)) → ((p : ℕ) (w : List ℕ) → at p ≡ some w → Text k w) → (n : ℕ) → board-specs.Texts k (chunksUpTo at n)
+unfolding chunksUpTo
+chunk-texts k at h zero = tt
+chunk-texts k at h (suc n) = texts-more k (chunksUpTo at n) (chunkOf (at n)) (chunk-texts k at h n) (text-of k (at n) (h n))
+
+-- ---- an empty chunk counts nothing
+total-none : (f : ℕ → ℕ) (n : ℕ) → ((p : ℕ) → f p ≡ 0) → total f n ≡ 0
+unfolding total
+total-none f zero h = refl
+total-none f (suc n) h = rw (total-none f n h, h n)
+
+empty-count : (ts : List ℕ) (run : ℕ) → chunkCount ts run [] ≡ 0
+unfolding counted
+empty-count ts run = total-none (λ q. cond (has run q) 0 0) 32 (λ q. same (has run q))
+  where
+    same : (b : Bool) → cond {A = ℕ} b 0 0 ≡ 0
+    same true = refl
+    same false = refl
+
+-- ---- for a rule that is there
+module _ (r : Rule) (good : WellFormed r) (d : List ℕ) (m : ℕ) (merged-is : Merged (automatonOf r) d m) (places : ℕ) (at : ℕ → Option (List ℕ)) where
+  count-is : (p : ℕ) (o : Option (List ℕ)) → countOf r d p o ≡ chunkCount (r .targets) (runSet d (r .n) (r .initials) p) (chunkOf o)
+  count-is p none = sym (empty-count (r .targets) (runSet d (r .n) (r .initials) p))
+  count-is p (some w) = refl
+
+  sum-most : total (λ p. countOf r d p (at p)) places ≤ m * length (joinedUpTo at places)
+  sum-most =
+      let ws = chunksUpTo at places in
+      let e : total (λ p. countOf r d p (at p)) places ≡ board-specs.countOf r d ws =
+      total-same (λ p. countOf r d p (at p)) (λ p. chunkCount (r .targets) (runSet d (r .n) (r .initials) p) (getD ws p [])) places
+      (λ p l. count-is p (at p) ∙ ap (chunkCount (r .targets) (runSet d (r .n) (r .initials) p)) (sym (chunk-at at places p l)))
+      ∙ ap (total (λ p. chunkCount (r .targets) (runSet d (r .n) (r .initials) p) (getD ws p []))) (sym (chunks-length at places)) in
+      rw (e, joined-is at places) (board.claims chunks.claims .count-most r good d m merged-is ws)
+
+  filled : (p : ℕ) (o : Option (List ℕ)) → isNone o ≡ false → (q : ℕ) → endOf r d p q o ≡ endSet (r .targets) (runSet d (r .n) (r .initials) p) (chunkOf o) q
+  filled p none e q = absurd (let z : _≡_ {A = ℕ} 0 1 = cc in omega arith)
+  filled p (some w) e q = refl
+
+  none-empty : total (λ p. cond (isNone (at p)) 1 0) places ≡ 0 → (p : ℕ) → p < places → isNone (at p) ≡ false
+  none-empty z p l = no-term (isNone (at p)) (omega (arith, z, term-most (λ i. cond (isNone (at i)) 1 0) places p l))
+    where
+      no-term : (t : Bool) → cond t 1 0 ≤ 0 → t ≡ false
+      no-term true x = absurd (let y = x in omega arith)
+      no-term false x = refl
+
+  accepts-law : places ≤ 64 → ((p : ℕ) (w : List ℕ) → at p ≡ some w → Text (r .k) w) → total (λ p. cond (isNone (at p)) 1 0) places ≡ 0
+      → (saysYes (listFrom 0 2048 (λ cell. endOf r d (cell / 32) (cell % 32) (at (cell / 32)))) d (r .n) (r .initials) (r .finals) places ≡ true)
+      ↔ Accepts (automatonOf r) (joinedUpTo at places)
+  accepts-law few texts z =
+      let ws = chunksUpTo at places in
+      let ends = listFrom 0 2048 (λ cell. endOf r d (cell / 32) (cell % 32) (at (cell / 32))) in
+      subst₂ (λ (x : ℕ) (y : List ℕ). (saysYes ends d (r .n) (r .initials) (r .finals) x ≡ true) ↔ Accepts (automatonOf r) y)
+      (chunks-length at places)
+      (sym (joined-is at places))
+      (board.claims chunks.claims .join r good d m merged-is ends ws (chunk-texts (r .k) at texts places) holds)
+    where
+      holds : board-specs.Holds r d (listFrom 0 2048 (λ cell. endOf r d (cell / 32) (cell % 32) (at (cell / 32)))) (chunksUpTo at places)
+      holds p l q b =
+          let lp : p < places = rw (chunks-length at places) at l in
+          let row : (p * 32 + q) / 32 ≡ p = omega arith in
+          let col : (p * 32 + q) % 32 ≡ q = omega arith in
+          cell-of 2048 (λ cell. endOf r d (cell / 32) (cell % 32) (at (cell / 32))) (p * 32 + q) 0 (omega arith)
+          ∙ ap₂ (λ (x y : ℕ). endOf r d x y (at x)) row col
+          ∙ filled p (at p) (none-empty z p lp) q
+          ∙ ap (λ (w : List ℕ). endSet (r .targets) (runSet d (r .n) (r .initials) p) w q) (sym (chunk-at at places p lp))
+
+-- ---- for every list of calls
+both : {A B C : Type 0} → A ↔ B → B ↔ C → A ↔ C
+both f g = (λ x. g .0 (f .0 x), λ x. f .1 (g .1 x))
+
+module _ (places : ℕ) (at : ℕ → Option (List ℕ)) (j : Judge) where
+  most-by : (file : Option (List ℕ)) → Holds file places at j
+      → total (λ p. countOf (ruleBy file) (j .built .delegates) p (at p)) places ≤ j .built .starts * length (joinedUpTo at places)
+  unfolding total
+  most-by none holds =
+      by-test (ltb 0 places)
+      (λ l. absurd (let e : true ≡ false = holds .ruled (ltb-true 0 places l) in let z : _≡_ {A = ℕ} 0 1 = cc in omega arith))
+      (λ l. let z : places ≡ 0 = omega (arith, ltb-false 0 places l) in rw z zero-le)
+  most-by (some f) holds =
+      sum-most (ruleOf f) (holds .rule .1) (j .built .delegates) (j .built .starts)
+      (merged (ruleOf f) (holds .rule .1) (holds .rule .2) (j .built) (holds .rule .0))
+      places
+      at
+
+  accepts-by : (file : Option (List ℕ)) → Holds file places at j → 0 < places → total (λ p. cond (isNone (at p)) 1 0) places ≡ 0
+      → (saysYes (listFrom 0 2048 (λ cell. endOf (ruleBy file) (j .built .delegates) (cell / 32) (cell % 32) (at (cell / 32)))) (j .built .delegates) (ruleBy file .n) (ruleBy file .initials) (ruleBy file .finals) places ≡ true)
+      ↔ Accepts (automatonOf (ruleBy file)) (joinedUpTo at places)
+  accepts-by none holds h z = absurd (let e : true ≡ false = holds .ruled h in let y : _≡_ {A = ℕ} 0 1 = cc in omega arith)
+  accepts-by (some f) holds h z =
+      accepts-law (ruleOf f) (holds .rule .1) (j .built .delegates) (j .built .starts)
+      (merged (ruleOf f) (holds .rule .1) (holds .rule .2) (j .built) (holds .rule .0))
+      places
+      at
+      (holds .few)
+      (holds .texts)
+      z
+
+pub words : (h : List Call) (j : Judge) → Good h j → Verdict-words h (j .built .delegates) (j .built .starts)
+words h j good =
+    let d = j .built .delegates in
+    let s = standing (j .built .delegates) h in
+    record {
+      none-there = refused-law (placesIn h) (emptiesIn d h) (yesIn d h) (summedIn d h);
+      waits = waiting-law (placesIn h) (emptiesIn d h) (yesIn d h) (summedIn d h);
+      counted = yes-count (placesIn h) (emptiesIn d h) (yesIn d h) (summedIn d h);
+      counted-no = no-count (placesIn h) (emptiesIn d h) (yesIn d h) (summedIn d h);
+      most = most-by (placesIn h) s j (fileOf h) good;
+      accepts = λ p e. both (yes-law (placesIn h) (emptiesIn d h) (yesIn d h) (summedIn d h) p e) (accepts-by (placesIn h) s j (fileOf h) good p e);
+    }
