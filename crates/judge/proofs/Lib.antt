@@ -1,7 +1,9 @@
--- In the order in which they build on each other.
+-- Ways is for the proofs of the functions; the others, in the order in which they build on each other, lead to every list of calls.
+pub mod Ways
 pub mod Running
 pub mod Holding
 pub mod Numbers
 pub mod Listed
 pub mod Asked
 pub mod Words
+pub mod Tied

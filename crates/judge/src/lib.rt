@@ -1,6 +1,7 @@
 // The judge: one rule, one board, five calls.
 ghost use mathlib.Core.Path.{_≡_};
-ghost use Prim.Native.Nat.{_≤_};
+ghost use Prim.Native.Nat.{_+_, _≤_};
+ghost use lib.Dec.{ltb};
 ghost use lib.ListN.{length};
 ghost use Rattle.board.specs.Boards.{placesOf};
 ghost use Rattle.chunks.specs.Walks.{runMask, runsOf};
@@ -133,6 +134,16 @@ fn run_at(built: Built, place: usize, chunk: &[u8]) -> Runs
     chunks::run_chunk(&sets, &next, &singles, mask, chunk)
 }
 
+// The sum is more than 32 bits hold.
+fn exceeds(summed: u64, count: u32) -> bool
+    ensures { λ r. ⌜ r ≡ ltb 4294967295 (summed + count) ⌝ }
+{
+    if 4294967295 < summed {
+        return true;
+    }
+    4294967295 - summed < (count as u64)
+}
+
 // Checks and builds a rule. Accepted, it replaces the former rule and removes the board.
 pub fn load(judge: Judge, file: &[u8]) -> Loading
     ensures { λ r. ⌜ Loads judge (now (file .entry)) r ⌝ }
@@ -200,7 +211,7 @@ pub fn deliver(judge: Judge, place: usize, chunk: &[u8]) -> Delivery
         return refuse_delivery(judge, 22);
     }
     let runs = run_at(built, place, chunk);
-    if 4294967295 < board::summed_count(board) + (runs.count as u64) {
+    if exceeds(board::summed_count(board), runs.count) {
         return refuse_delivery(judge, 24);
     }
     let answer = DeliverAnswer::Accepted;

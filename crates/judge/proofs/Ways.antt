@@ -1,0 +1,224 @@
+-- Each way out of each call's definition: the facts that lead there, in the order in which the code finds them, and the answer. Assumes nothing.
+--
+--   open-20, open-few, open-many, opened                    openOf
+--   withdraw-21, withdraw-11, withdraw-23, withdrawn        withdrawOf
+--   over-by-one, over-by-both                               the test of 24, in two steps
+--   deliver-21, -11, -12, -13, -22, -24, delivered          deliverOf
+--   verdict-21, verdict-waiting, verdict-yes, verdict-no    verdictOf
+--   load-unread, load-unbuilt, loaded                       Loads
+use mathlib.Core.Path.{_≡_, sym, ap, ap₂, _∙_, subst}
+use mathlib.Core.Bool.{Bool, true, false, cond, not}
+use mathlib.Core.List.{List}
+use mathlib.Core.Option.{Option, none, some}
+use Prim.Native.Nat.{ℕ, _+_, _-_, _≤_, _<_}
+use native.Mathlib.Omega.{arith}
+use lib.Dec.{ltb}
+use lib.ListN.{length}
+use borrow.Author.Tests.{lt-ltb, le-ltb, le-leb, lt-leb, eq-eqb, ne-eqb, ltb-true, ltb-false}
+use Rattle.masks.proofs.Cases.{by-test}
+use Rattle.automaton.specs.declared.Rule.{Rule}
+use Rattle.rulefile.specs.declared.ReadAnswer.the-variants as reading
+use Rattle.rulefile.specs.declared.Reading.{Reading}
+use Rattle.rulefile.specs.Refusals.{refusal}
+use Rattle.rulefile.specs.Reader.{numberOf, ruleOf, ruleBy, Reads}
+use Rattle.subsets.specs.Sets.{tooMany}
+use Rattle.build.specs.declared.BuildAnswer.the-variants as build
+use Rattle.build.specs.declared.Building.{Building}
+use Rattle.build.specs.Building.{accepted, refused, saidOf, sets, Builds}
+use Rattle.chunks.specs.declared.Runs.{Runs}
+use Rattle.chunks.specs.Chunks.{foreign}
+use Rattle.board.specs.declared.Board.{Board}
+use Rattle.board.specs.Boards.{placesOf, isEmpty, emptyBoard, filledAt, clearedAt, emptyPlaces, summedCount}
+use Rattle.judge.specs.declared.Judge.{Judge}
+use Rattle.judge.specs.declared.LoadAnswer.the-variants as load
+use Rattle.judge.specs.declared.Loading.{Loading}
+use Rattle.judge.specs.declared.OpenAnswer.the-variants as opening
+use Rattle.judge.specs.declared.Opening.{Opening}
+use Rattle.judge.specs.declared.DeliverAnswer.the-variants as delivery
+use Rattle.judge.specs.declared.Delivery.{Delivery}
+use Rattle.judge.specs.declared.WithdrawAnswer.the-variants as withdrawal
+use Rattle.judge.specs.declared.Withdrawal.{Withdrawal}
+use Rattle.judge.specs.declared.Verdict.the-variants.{Waiting, Yes, No, Refused}
+use Rattle.judge.specs.History.{loadNumber}
+use Rattle.judge.specs.Calls.{withBoard, Loads, openOf, runsAt, deliverOf, withdrawOf, isYes, verdictOf}
+
+-- ---- open
+module _ (j : Judge) (n : ℕ) where
+  module _ (r : Opening) where
+    pub open-20 : j .built .n ≡ 0 → r ≡ record { answer = opening.Refused 20; judge = j } → r ≡ openOf j n
+    unfolding openOf
+    open-20 a e = e ∙ rw (eq-eqb _ _ a)
+
+    pub open-few : (j .built .n ≡ 0 → ⊥) → n < 1 → r ≡ record { answer = opening.Refused 10; judge = j } → r ≡ openOf j n
+    unfolding openOf
+    open-few a b e = e ∙ rw (ne-eqb _ _ a, lt-ltb _ _ b)
+
+    pub open-many : (j .built .n ≡ 0 → ⊥) → 1 ≤ n → 64 < n → r ≡ record { answer = opening.Refused 10; judge = j } → r ≡ openOf j n
+    unfolding openOf
+    open-many a b c e = e ∙ rw (ne-eqb _ _ a, le-ltb _ _ b, lt-ltb _ _ c)
+
+  pub opened : (j .built .n ≡ 0 → ⊥) → 1 ≤ n → n ≤ 64 → (b : Board) → b ≡ emptyBoard n → (s : Judge) → s ≡ withBoard j b
+      → record { answer = opening.Accepted; judge = s } ≡ openOf j n
+  unfolding openOf
+  opened a few many b is s e = rw (e, is, ne-eqb _ _ a, le-ltb _ _ few, le-ltb _ _ many)
+
+-- ---- withdraw
+module _ (j : Judge) (p : ℕ) where
+  pub withdraw-21 : j .board .places ≡ 0 → (r : Withdrawal) → r ≡ record { answer = withdrawal.Refused 21; judge = j } → r ≡ withdrawOf j p
+  unfolding withdrawOf
+  withdraw-21 a r e = e ∙ rw (eq-eqb _ _ a)
+
+  module _ (a : j .board .places ≡ 0 → ⊥) (n : ℕ) (places : n ≡ placesOf (j .board)) where
+    pub withdraw-11 : n ≤ p → (r : Withdrawal) → r ≡ record { answer = withdrawal.Refused 11; judge = j } → r ≡ withdrawOf j p
+    unfolding withdrawOf
+    withdraw-11 b r e = e ∙ rw (ne-eqb _ _ a, ← places, le-leb _ _ b)
+
+    module _ (b : p < n) (x : Bool) (empty : x ≡ isEmpty (j .board) p) where
+      pub withdraw-23 : x ≡ true → (r : Withdrawal) → r ≡ record { answer = withdrawal.Refused 23; judge = j } → r ≡ withdrawOf j p
+      unfolding withdrawOf
+      withdraw-23 c r e = e ∙ rw (ne-eqb _ _ a, ← places, lt-leb _ _ b, ← empty, c)
+
+      pub withdrawn : x ≡ false → (d : Board) → d ≡ clearedAt (j .board) p → (s : Judge) → s ≡ withBoard j d
+          → record { answer = withdrawal.Accepted; judge = s } ≡ withdrawOf j p
+      unfolding withdrawOf
+      withdrawn c d is s e = rw (e, is, ne-eqb _ _ a, ← places, lt-leb _ _ b, ← empty, c)
+
+-- ---- deliver
+-- the sum of counts is more than 32 bits hold
+pub over-by-one : (s c : ℕ) → 4294967295 < s → true ≡ ltb 4294967295 (s + c)
+over-by-one s c h = sym (lt-ltb 4294967295 (s + c) (omega arith))
+
+pub over-by-both : (s c : ℕ) → s ≤ 4294967295 → ltb (4294967295 - s) c ≡ ltb 4294967295 (s + c)
+over-by-both s c h =
+    by-test (ltb (4294967295 - s) c)
+    (λ t. t ∙ sym (lt-ltb 4294967295 (s + c) (omega (arith, ltb-true (4294967295 - s) c t))))
+    (λ f. f ∙ sym (le-ltb 4294967295 (s + c) (omega (arith, ltb-false (4294967295 - s) c f))))
+
+module _ (j : Judge) (p : ℕ) (w : List ℕ) where
+  pub deliver-21 : j .board .places ≡ 0 → (r : Delivery) → r ≡ record { answer = delivery.Refused 21; judge = j } → r ≡ deliverOf j p w
+  unfolding deliverOf
+  deliver-21 a r e = e ∙ rw (eq-eqb _ _ a)
+
+  module _ (a : j .board .places ≡ 0 → ⊥) (n : ℕ) (places : n ≡ placesOf (j .board)) where
+    pub deliver-11 : n ≤ p → (r : Delivery) → r ≡ record { answer = delivery.Refused 11; judge = j } → r ≡ deliverOf j p w
+    unfolding deliverOf
+    deliver-11 b r e = e ∙ rw (ne-eqb _ _ a, ← places, le-leb _ _ b)
+
+    module _ (b : p < n) where
+      pub deliver-12 : 65536 < length w → (r : Delivery) → r ≡ record { answer = delivery.Refused 12; judge = j } → r ≡ deliverOf j p w
+      unfolding deliverOf
+      deliver-12 c r e = e ∙ rw (ne-eqb _ _ a, ← places, lt-leb _ _ b, lt-ltb _ _ c)
+
+      module _ (c : length w ≤ 65536) (f : Bool) (has : f ≡ foreign w (j .built .k)) where
+        pub deliver-13 : f ≡ true → (r : Delivery) → r ≡ record { answer = delivery.Refused 13; judge = j } → r ≡ deliverOf j p w
+        unfolding deliverOf
+        deliver-13 d r e = e ∙ rw (ne-eqb _ _ a, ← places, lt-leb _ _ b, le-ltb _ _ c, ← has, d)
+
+        module _ (d : f ≡ false) (x : Bool) (empty : x ≡ isEmpty (j .board) p) where
+          pub deliver-22 : not x ≡ true → (r : Delivery) → r ≡ record { answer = delivery.Refused 22; judge = j } → r ≡ deliverOf j p w
+          unfolding deliverOf
+          deliver-22 g r e = e ∙ rw (ne-eqb _ _ a, ← places, lt-leb _ _ b, le-ltb _ _ c, ← has, d, ← empty, g)
+
+          module _ (g : not x ≡ false) (runs : Runs) (ran : runs ≡ runsAt j p w) (sum : ℕ) (summed : sum ≡ summedCount (j .board))
+              (over : Bool) (exceeds : over ≡ ltb 4294967295 (sum + runs .count)) where
+            weighed : ltb 4294967295 (summedCount (j .board) + runsAt j p w .count) ≡ over
+            weighed = sym (exceeds ∙ ap₂ (λ (m : ℕ) (s : Runs). ltb 4294967295 (m + s .count)) summed ran)
+
+            pub deliver-24 : over ≡ true → (r : Delivery) → r ≡ record { answer = delivery.Refused 24; judge = j } → r ≡ deliverOf j p w
+            unfolding deliverOf
+            deliver-24 h r e = e ∙ rw (ne-eqb _ _ a, ← places, lt-leb _ _ b, le-ltb _ _ c, ← has, d, ← empty, g, weighed, h)
+
+            pub delivered : over ≡ false → (l : Board) → l ≡ filledAt (j .board) p runs → (s : Judge) → s ≡ withBoard j l
+                → record { answer = delivery.Accepted; judge = s } ≡ deliverOf j p w
+            unfolding deliverOf
+            delivered h l is s e = rw (e, is, ran, ne-eqb _ _ a, ← places, lt-leb _ _ b, le-ltb _ _ c, ← has, d, ← empty, g, weighed, h)
+
+-- ---- verdict
+module _ (j : Judge) where
+  pub verdict-21 : j .board .places ≡ 0 → Refused 21 ≡ verdictOf j
+  unfolding verdictOf
+  verdict-21 a = rw (eq-eqb _ _ a)
+
+  module _ (a : j .board .places ≡ 0 → ⊥) (e : ℕ) (empty : e ≡ emptyPlaces (j .board)) where
+    pub verdict-waiting : (e ≡ 0 → ⊥) → Waiting e ≡ verdictOf j
+    unfolding verdictOf
+    verdict-waiting b = rw (ne-eqb _ _ a, ← empty, ne-eqb _ _ b)
+
+    module _ (b : e ≡ 0) (count : ℕ) (summed : count ≡ summedCount (j .board)) (x : Bool) (says : x ≡ isYes j) where
+      pub verdict-yes : x ≡ true → Yes count ≡ verdictOf j
+      unfolding verdictOf
+      verdict-yes c = rw (ne-eqb _ _ a, ← empty, eq-eqb _ _ b, ← says, c, summed)
+
+      pub verdict-no : x ≡ false → No count ≡ verdictOf j
+      unfolding verdictOf
+      verdict-no c = rw (ne-eqb _ _ a, ← empty, eq-eqb _ _ b, ← says, c, summed)
+
+-- ---- load
+not-both : {P : Type 0} (o : Option ℕ) (number : ℕ) → o ≡ some number → o ≡ none → P
+not-both o number told nothing = absurd (let z : _≡_ {A = ℕ} 0 1 = cc in omega arith)
+
+refused-with : (j : Judge) (f : List ℕ) (number : ℕ) → loadNumber f ≡ some number
+    → (r : Loading) → r ≡ record { answer = load.Refused number; judge = j } → Loads j f r
+refused-with j f number told r e =
+    record {
+      refused = λ m told′. (cc);
+      answered = not-both (loadNumber f) number told;
+      built = not-both (loadNumber f) number told;
+      removed = not-both (loadNumber f) number told;
+    }
+
+module _ (j : Judge) (f : List ℕ) (read : Reading) (reads : Reads f read) where
+  -- the file is refused
+  pub load-unread : (number : ℕ) → read .answer ≡ reading.Refused number
+      → (r : Loading) → r ≡ record { answer = load.Refused number; judge = j } → Loads j f r
+  unfolding loadNumber
+  load-unread number told =
+      let told : refusal f ≡ some number = sym (reads .answer) ∙ ap numberOf told in
+      refused-with j f number (rw told)
+
+  module _ (told : read .answer ≡ reading.Accepted) (b : Building) (builds : Builds (read .rule) b) where
+    good : refusal f ≡ none
+    good = sym (reads .answer) ∙ ap numberOf told
+
+    builds-it : Builds (ruleOf f) b
+    builds-it = subst (λ (x : Rule). Builds x b) (reads .rule ∙ ap (λ (o : Option ℕ). ruleBy o f) good) builds
+
+    abbrev over : Bool
+    over = tooMany (ruleOf f .targets) (ruleOf f .n) (ruleOf f .k)
+
+    number-is : loadNumber f ≡ cond over (some 9) none
+    unfolding loadNumber
+    number-is = rw good
+
+    said : saidOf (b .answer) ≡ cond over (refused 9) (accepted (length (sets (ruleOf f))) (b .built .starts))
+    said = builds-it .answer
+
+    -- it has too many sets
+    pub load-unbuilt : (number : ℕ) → b .answer ≡ build.Refused number
+        → (r : Loading) → r ≡ record { answer = load.Refused number; judge = j } → Loads j f r
+    load-unbuilt number answered =
+        by-test over
+        (λ t.
+        let is : refused number ≡ refused 9 = sym (ap saidOf answered) ∙ said ∙ rw t in
+        let nine : number ≡ 9 = cc in
+        refused-with j f number (number-is ∙ rw (t, nine)))
+        (λ few.
+        let is : refused number ≡ accepted (length (sets (ruleOf f))) (b .built .starts) = sym (ap saidOf answered) ∙ said ∙ rw few in
+        absurd (let z : _≡_ {A = ℕ} 0 1 = cc in omega arith))
+
+    pub loaded : (m starts : ℕ) → b .answer ≡ build.Accepted m starts → (e : Board) → e ≡ emptyBoard 0
+        → Loads j f (record { answer = load.Accepted m starts; judge = record { built = b .built; board = e } })
+    loaded m starts answered e empty =
+        by-test over
+        (λ t.
+        let is : accepted m starts ≡ refused 9 = sym (ap saidOf answered) ∙ said ∙ rw t in
+        absurd (let z : _≡_ {A = ℕ} 0 1 = cc in omega arith))
+        (λ few.
+        let is : accepted m starts ≡ accepted (length (sets (ruleOf f))) (b .built .starts) = sym (ap saidOf answered) ∙ said ∙ rw few in
+        let none-is : loadNumber f ≡ none = number-is ∙ rw few in
+        record {
+          refused = λ number told. not-both (loadNumber f) number told none-is;
+          answered = λ _. (cc);
+          built = λ _. builds-it .built few;
+          removed = λ _. empty;
+        })
