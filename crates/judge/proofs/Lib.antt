@@ -7,3 +7,4 @@ pub mod Listed
 pub mod Asked
 pub mod Words
 pub mod Tied
+pub mod Inhabited
