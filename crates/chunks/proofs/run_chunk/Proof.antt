@@ -76,7 +76,7 @@ loop-again c =
           (λ w.
           rw (w .5, w .6)
           (run-more (a .sets .now) (a .next .now) (a .singles .now) (a .mask) (a .chunk .now) (l .ends) (l .count) (l .q) (l .inv .1)
-          (c .before .before .loop-test .taken)
+          (omega arith)
           (sym (m .ensures) ∙ w .0 .taken)
           (w .3 .result)
           (w .2 .result .count)

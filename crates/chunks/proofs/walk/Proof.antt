@@ -29,8 +29,8 @@ returns c =
 returns-2 : tie.Need-returns-2 Inv-loop μ-loop
 returns-2 c =
     let a = c .before .before .args in (
-      sym (end-from-empty (a .next .now) (a .from .0) (a .chunk .now) (c .if2 .taken) (c .before .if1 .left)),
-      sym (count-empty (a .next .now) (a .from .0) (a .chunk .now) (c .if2 .taken)),
+      sym (end-from-empty (a .next .now) (a .from .0) (a .chunk .now) (omega arith) (c .before .if1 .left)),
+      sym (count-empty (a .next .now) (a .from .0) (a .chunk .now) (omega arith)),
     )
 
 loop-holds : tie.Need-loop-holds Inv-loop μ-loop
@@ -65,8 +65,8 @@ returns-3 c =
     let l = c .before .before .before .before .loop in
     let a = c .before .before .before .before .before .before .before .args in
     let h = c .before .before .before .loop-test .taken in (
-      sym (l .inv .2 ∙ end-off (a .next .now) (l .set) (l .i) (a .chunk .now) h (l .inv .1) (c .if3 .taken)),
-      omega (arith, l .inv .3, count-off (a .next .now) (l .set) (l .i) (a .chunk .now) h (l .inv .1) (c .if3 .taken)),
+      sym (l .inv .2 ∙ end-off (a .next .now) (l .set) (l .i) (a .chunk .now) h (l .inv .1) (omega arith)),
+      omega (arith, l .inv .3, count-off (a .next .now) (l .set) (l .i) (a .chunk .now) h (l .inv .1) (omega arith)),
     )
 
 add-i : tie.Need-add-i Inv-loop μ-loop
