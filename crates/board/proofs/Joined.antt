@@ -65,21 +65,20 @@ module _ (given : ChunksClaims) (r : Rule) (good : WellFormed r) (d : List ℕ) 
   delegate-run (suc p) q h i =
       given .start-law d (r .n) (getD d q 0) .1 (merged .delegates q h .state, delegates-start (automatonOf r) d m merged q h)
 
-  -- what is looked up for a state is its delegate's end set
-  looked-up : (p : ℕ) → p < length ws → (q : ℕ) → q < r .n
-      → getD ends (p * 32 + getD d q 0 % 32) 0 ≡ endSet (r .targets) (run p) (getD ws p []) (getD d q 0)
-  unfolding run
+  -- the end set at place p of the delegate of state q, which is what the join looks up
+  delegate-ends : ℕ → ℕ → ℕ
+  delegate-ends p q = endSet (r .targets) (run p) (getD ws p []) (getD d q 0)
+
+  looked-up : (p : ℕ) → p < length ws → (q : ℕ) → q < r .n → getD ends (p * 32 + getD d q 0 % 32) 0 ≡ delegate-ends p q
+  unfolding run delegate-ends
   looked-up p h q l =
       let s = merged .delegates q l .state in
       let e : getD d q 0 % 32 ≡ getD d q 0 = omega (arith, s, good .states) in
       rw e (holds p h (getD d q 0) (omega (arith, s, good .states)))
 
-  -- a place: C becomes the union of the end sets of the delegates of its members
-  delegate-ends : ℕ → ℕ → ℕ
-  delegate-ends p q = endSet (r .targets) (run p) (getD ws p []) (getD d q 0)
-
+  -- C becomes the union of the end sets of the delegates of its members
   joined-place : (p : ℕ) → p < length ws → joined (suc p) ≡ union (delegate-ends p) (joined p) (r .n)
-  unfolding joined joinUpTo delegate-ends
+  unfolding joined joinUpTo
   joined-place p h =
       rw (min-eq-left (good .states .1))
       (union-same (λ q. getD ends (p * 32 + getD d q 0 % 32) 0) (delegate-ends p) (joined p) (r .n) (looked-up p h))
