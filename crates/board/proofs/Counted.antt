@@ -1,8 +1,8 @@
 -- The bound on the count: the summed count is at most M times the bytes of all chunks, since what is run at a place is a start. Assumes what
 -- crates/chunks claims of a chunk's count, a well-formed rule and its delegates.
-use mathlib.Core.Path.{_≡_, sym, ap, _∙_, subst}
+use mathlib.Core.Path.{sym, subst}
 use mathlib.Core.List.{List, [], _∷_, flatten}
-use Prim.Native.Nat.{ℕ, zero, suc, _+_, _*_, _≤_, _<_}
+use Prim.Native.Nat.{ℕ, zero, suc, _*_, _≤_, _<_}
 use native.Mathlib.Nat.{mul-add, add-le-add}
 use native.Mathlib.Omega.{arith}
 use lib.ListN.{length, getD, length-append}

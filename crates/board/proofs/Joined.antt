@@ -5,16 +5,18 @@
 -- that the automaton reaches. A place keeps it: a member of C accepts the rest exactly where its delegate does, being alike to it; and the
 -- delegate does exactly where its end set accepts what is left after the chunk. That end set is at the place, since the delegate was run there:
 -- at place 0 C is the set of initial states, whose delegates are run; later all starts are run, and a delegate is a start.
-use mathlib.Core.Path.{_≡_, refl, sym, ap, subst}
+use mathlib.Core.Path.{_≡_, refl, sym, ap, ap₂, subst}
 use mathlib.Core.Logic.{_↔_}
 use mathlib.Core.Bool.{Bool, true, false, cond}
-use mathlib.Core.List.{List, [], _∷_, _++_, flatten}
-use Prim.Native.Nat.{ℕ, zero, suc, _+_, _*_, _%_, _^_, _≤_, _<_, min}
+use mathlib.Core.List.{List, [], _++_, flatten}
+use Prim.Native.Nat.{ℕ, zero, suc, _+_, _*_, _%_, _^_, _≤_, _<_}
+use native.Mathlib.Nat.{min-eq-left}
 use native.Mathlib.Omega.{arith}
+use lib.Bits.{bitOr}
 use lib.ListN.{length, getD, drop}
 use lib.Pow.{pow-lt, pow-pos}
 use lib.Seq.{drop-cons, drop-length}
-use Rattle.masks.specs.Masks.{_∈_, has, single, shares}
+use Rattle.masks.specs.Masks.{_∈_, has, single, union, shares}
 use Rattle.masks.proofs.Cases.{by-test}
 use Rattle.masks.proofs.Laws.{no-member, has-member, members-below, part-of, in-union, union-lt}
 use Rattle.automaton.specs.declared.Rule.{Rule}
@@ -39,6 +41,13 @@ end-below : (r : Rule) → WellFormed r → (run : ℕ) (w : List ℕ) (q : ℕ)
 end-below r good run w q h =
     by-test (has run q) (λ e. rw e (after-below r good (single q) w (pow-lt h))) (λ e. rw e (pow-pos (r .n)))
 
+-- a union of the same sets
+union-same : (f g : ℕ → ℕ) (m n : ℕ) → ((q : ℕ) → q < n → f q ≡ g q) → union f m n ≡ union g m n
+unfolding union
+union-same f g m zero h = refl
+union-same f g m (suc n) h =
+    ap₂ bitOr (union-same f g m n (λ q l. h q (omega arith))) (ap (λ (x : ℕ). cond (has m n) x 0) (h n (omega arith)))
+
 module _ (given : ChunksClaims) (r : Rule) (good : WellFormed r) (d : List ℕ) (m : ℕ) (merged : Merged (automatonOf r) d m)
     (ends : List ℕ) (ws : List (List ℕ)) (texts : Texts (r .k) ws) (holds : Holds r d ends ws) where
   -- the states that are run at place p
@@ -56,25 +65,35 @@ module _ (given : ChunksClaims) (r : Rule) (good : WellFormed r) (d : List ℕ) 
   delegate-run (suc p) q h i =
       given .start-law d (r .n) (getD d q 0) .1 (merged .delegates q h .state, delegates-start (automatonOf r) d m merged q h)
 
-  -- what is looked up for a state is its delegate's end set
-  looked-up : (p : ℕ) → p < length ws → (q : ℕ) → q < r .n
-      → getD ends (p * 32 + getD d q 0 % 32) 0 ≡ endSet (r .targets) (run p) (getD ws p []) (getD d q 0)
-  unfolding run
+  -- the end set at place p of the delegate of state q, which is what the join looks up
+  delegate-ends : ℕ → ℕ → ℕ
+  delegate-ends p q = endSet (r .targets) (run p) (getD ws p []) (getD d q 0)
+
+  looked-up : (p : ℕ) → p < length ws → (q : ℕ) → q < r .n → getD ends (p * 32 + getD d q 0 % 32) 0 ≡ delegate-ends p q
+  unfolding run delegate-ends
   looked-up p h q l =
       let s = merged .delegates q l .state in
       let e : getD d q 0 % 32 ≡ getD d q 0 = omega (arith, s, good .states) in
       rw e (holds p h (getD d q 0) (omega (arith, s, good .states)))
 
-  joined-below : (p : ℕ) → p ≤ length ws → joined p < 2 ^ r .n
+  -- C becomes the union of the end sets of the delegates of its members
+  joined-place : (p : ℕ) → p < length ws → joined (suc p) ≡ union (delegate-ends p) (joined p) (r .n)
   unfolding joined joinUpTo
+  joined-place p h =
+      rw (min-eq-left (good .states .1))
+      (union-same (λ q. getD ends (p * 32 + getD d q 0 % 32) 0) (delegate-ends p) (joined p) (r .n) (looked-up p h))
+
+  joined-below : (p : ℕ) → p ≤ length ws → joined p < 2 ^ r .n
+  unfolding joined joinUpTo delegate-ends
   joined-below zero h = good .initials-below
   joined-below (suc p) h =
-      union-lt (λ q. getD ends (p * 32 + getD d q 0 % 32) 0) (joined p) (r .n) (min (r .n) 32) λ q l.
-      rw (looked-up p h q (omega arith)) (end-below r good (run p) (getD ws p []) (getD d q 0) (merged .delegates q (omega arith) .state))
+      subst (λ (x : ℕ). x < 2 ^ r .n) (sym (joined-place p h))
+      (union-lt (delegate-ends p) (joined p) (r .n) (r .n)
+      (λ q l. end-below r good (run p) (getD ws p []) (getD d q 0) (merged .delegates q l .state)))
 
   module _ (p : ℕ) (h : p < length ws) (rest : List ℕ) (text : Text (r .k) (getD ws p [] ++ rest)) where
     there : Accepting r (joined p) (getD ws p [] ++ rest) → Accepting r (joined (suc p)) rest
-    unfolding joined joinUpTo
+    unfolding delegate-ends
     there y =
         let w = getD ws p [] in
         let small = joined-below p (omega arith) in
@@ -89,23 +108,22 @@ module _ (given : ChunksClaims) (r : Rule) (good : WellFormed r) (d : List ℕ) 
         let s = accepting-law r good (after (r .targets) (single x) w) rest (after-below r good (single x) w (pow-lt (f .state))) .0 a in
         accepting-law r good (joined (suc p)) rest (joined-below (suc p) h) .1 (
           s .0,
-          in-union (λ z. getD ends (p * 32 + getD d z 0 % 32) 0) (joined p) (s .0) (min (r .n) 32) q (omega (arith, good .states)) (u .1)
-              (rw (looked-up p h q l, has-member (run p) x (delegate-run p q l (u .1))) (s .1)),
+          subst (λ (z : ℕ). s .0 ∈ z) (sym (joined-place p h))
+              (in-union (delegate-ends p) (joined p) (s .0) (r .n) q l (u .1) (rw (has-member (run p) x (delegate-run p q l (u .1))) (s .1))),
           s .2,
         )
 
     back : Accepting r (joined (suc p)) rest → Accepting r (joined p) (getD ws p [] ++ rest)
-    unfolding joined joinUpTo
+    unfolding delegate-ends
     back y =
         let w = getD ws p [] in
         let s = accepting-law r good (joined (suc p)) rest (joined-below (suc p) h) .0 y in
-        let u = part-of (λ z. getD ends (p * 32 + getD d z 0 % 32) 0) (joined p) (s .0) (min (r .n) 32) (s .1) in
+        let u = part-of (delegate-ends p) (joined p) (s .0) (r .n) (subst (λ (z : ℕ). s .0 ∈ z) (joined-place p h) (s .1)) in
         let q = u .from in
-        let l : q < r .n = omega (arith, u .below) in
-        let f = merged .delegates q l in
+        let f = merged .delegates q (u .below) in
         let x : ℕ = getD d q 0 in
         let i : s .0 ∈ after (r .targets) (single x) w =
-        of-run (has (run p) x) (s .0) (after (r .targets) (single x) w) (rw (looked-up p h q l) at (u .there)) in
+        of-run (has (run p) x) (s .0) (after (r .targets) (single x) w) (u .there) in
         let a : Accepting r (single x) (w ++ rest) =
         subst (λ (z : ℕ). shares z (r .finals) ≡ true) (sym (after-append (r .targets) (single x) w rest))
         (accepting-law r good (after (r .targets) (single x) w) rest (after-below r good (single x) w (pow-lt (f .state))) .1 (s .0, i, s .2)) in

@@ -7,10 +7,9 @@
 --   empty-law, summed-law                             the empty places and the summed count, from what is known of each place
 --   none-empty, empty-most                            no place is empty; at most all are
 --   empty-changed, summed-changed                     what a change adds and takes away
-use mathlib.Core.Path.{_≡_, refl, sym, ap, _∙_}
+use mathlib.Core.Path.{_≡_, refl, ap, _∙_}
 use mathlib.Core.Logic.{_↔_}
 use mathlib.Core.Bool.{Bool, true, false, cond}
-use mathlib.Core.List.{List}
 use Prim.Native.Nat.{ℕ, _+_, _*_, _≤_, _<_, min}
 use native.Mathlib.Omega.{arith}
 use lib.Dec.{eqb, ltb}

@@ -1,8 +1,8 @@
--- The rows of a board's end sets, 32 cells a place: a row that is stored cell by cell, the cells after it, and rows that agree.
+-- The rows of a board's end sets, 32 cells a place: a row that is stored cell by cell, and the cells once it is stored.
 -- Assumes nothing.
-use mathlib.Core.Path.{_≡_, refl, sym, ap, _∙_}
+use mathlib.Core.Path.{_≡_, refl, ap, _∙_}
 use mathlib.Core.Logic.{_⊎_, inl, inr, ⊎-elim}
-use mathlib.Core.Bool.{Bool, true, false, cond}
+use mathlib.Core.Bool.{cond}
 use mathlib.Core.List.{List}
 use Prim.Native.Nat.{ℕ, _+_, _*_, _/_, _%_, _≤_, _<_}
 use native.Mathlib.Omega.{arith}
@@ -11,10 +11,18 @@ use lib.ListN.{length, getD, set, length-set}
 use lib.Seq.{getD-set-same, getD-set-other}
 use borrow.Author.Count.{below-none, below-more}
 use borrow.Author.Tests.{eq-eqb, ne-eqb, eqb-true, eqb-false, ltb-true, ltb-false}
-use Rattle.masks.specs.Lists.{listFrom}
 use Rattle.masks.proofs.Cases.{by-test}
 use Rattle.masks.proofs.Lists.{is-listFrom, cell-of, length-listFrom}
 use Rattle.board.specs.Boards.{rowSet}
+
+-- what a cell has once the row of place p has the values g
+abbrev cellOf : List ℕ → ℕ → (ℕ → ℕ) → ℕ → ℕ
+cellOf ends p g c = cond (eqb (c / 32) p) (g (c % 32)) (getD ends c 0)
+
+-- a cell of another place is before the row or after it
+outside : (p q c : ℕ) → q ≡ 32 → (c / 32 ≡ p → ⊥) → (c < p * 32) ⊎ (p * 32 + q ≤ c)
+outside p q c e ne =
+    by-test (ltb c (p * 32)) (λ t. inl (ltb-true c (p * 32) t)) (λ f. inr (omega (arith, ne, ltb-false c (p * 32) f)))
 
 -- the first q cells of place p have the values g, and the others are as in `from`
 pub record Stored (from : List ℕ) (p : ℕ) (g : ℕ → ℕ) (q : ℕ) (ends : List ℕ) : Type 0 where
@@ -43,29 +51,20 @@ module _ (from : List ℕ) (p : ℕ) (g : ℕ → ℕ) (q : ℕ) (ends : List �
   -- a whole row is stored
   pub row-stored : q ≡ 32 → ends ≡ rowSet from p g
   row-stored e =
-      is-listFrom ends 2048 (λ c. cond (eqb (c / 32) p) (g (c % 32)) (getD from c 0)) (s .cells)
-      λ c h.
+      is-listFrom ends 2048 (cellOf from p g) (s .cells) λ c h.
       by-test (eqb (c / 32) p)
       (λ t.
       let z : c ≡ p * 32 + c % 32 = omega (arith, eqb-true (c / 32) p t) in
       rw t (ap (λ (x : ℕ). getD ends x 0) z ∙ s .row (c % 32) (omega arith)))
-      (λ f. rw f (s .others c (by-test (ltb c (p * 32))
-      (λ t. inl (ltb-true c (p * 32) t))
-      (λ n. inr (omega (arith, eqb-false (c / 32) p f, ltb-false c (p * 32) n))))))
+      (λ f. rw f (s .others c (outside p q c e (eqb-false (c / 32) p f))))
 
--- rows with the same values
-pub row-same : (ends : List ℕ) (p : ℕ) (g h : ℕ → ℕ) → ((q : ℕ) → q < 32 → g q ≡ h q) → rowSet ends p g ≡ rowSet ends p h
-row-same ends p g h e =
-    is-listFrom (rowSet ends p g) 2048 (λ c. cond (eqb (c / 32) p) (h (c % 32)) (getD ends c 0)) (length-listFrom 0 2048 _)
-    λ c l. cell-of 2048 (λ x. cond (eqb (x / 32) p) (g (x % 32)) (getD ends x 0)) c 0 l ∙ rw (e (c % 32) (omega arith))
-
--- the cells of a row that is stored, and of any other row
+-- the cells once a row is stored: those of its place, and those of any other
 module _ (ends : List ℕ) (p : ℕ) (g : ℕ → ℕ) where
   pub row-length : length (rowSet ends p g) ≡ 2048
-  row-length = length-listFrom 0 2048 _
+  row-length = length-listFrom 0 2048 (cellOf ends p g)
 
-  row-cell : (c : ℕ) → c < 2048 → getD (rowSet ends p g) c 0 ≡ cond (eqb (c / 32) p) (g (c % 32)) (getD ends c 0)
-  row-cell c h = cell-of 2048 (λ x. cond (eqb (x / 32) p) (g (x % 32)) (getD ends x 0)) c 0 h
+  row-cell : (c : ℕ) → c < 2048 → getD (rowSet ends p g) c 0 ≡ cellOf ends p g c
+  row-cell c h = cell-of 2048 (cellOf ends p g) c 0 h
 
   pub row-own : p < 64 → (q : ℕ) → q < 32 → getD (rowSet ends p g) (p * 32 + q) 0 ≡ g q
   row-own h q l =
@@ -73,6 +72,8 @@ module _ (ends : List ℕ) (p : ℕ) (g : ℕ → ℕ) where
       row-cell (p * 32 + q) (omega arith) ∙ rw (eq-eqb ((p * 32 + q) / 32) p (omega arith), e)
 
   pub row-other : (i q : ℕ) → i < 64 → q < 32 → (i ≡ p → ⊥) → getD (rowSet ends p g) (i * 32 + q) 0 ≡ getD ends (i * 32 + q) 0
-  row-other i q h l ne =
-      row-cell (i * 32 + q) (omega arith)
-      ∙ rw (ne-eqb ((i * 32 + q) / 32) p (λ z. ne (omega arith)))
+  row-other i q h l ne = row-cell (i * 32 + q) (omega arith) ∙ rw (ne-eqb ((i * 32 + q) / 32) p (λ z. ne (omega arith)))
+
+  -- rows with the same values
+  pub row-same : (f : ℕ → ℕ) → ((q : ℕ) → q < 32 → g q ≡ f q) → rowSet ends p g ≡ rowSet ends p f
+  row-same f e = is-listFrom (rowSet ends p g) 2048 (cellOf ends p f) row-length (λ c l. row-cell c l ∙ rw (e (c % 32) (omega arith)))

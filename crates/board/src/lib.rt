@@ -177,9 +177,10 @@ fn join_place(ends: &[u32; 2048], delegates: &[u8; 32], n: usize, set: u32, plac
     let mut joined: u32 = 0;
     let mut q: usize = 0;
     while q < n {
-        if masks::member(set, StateNumber(q as u8)) {
-            let d = delegate_of(delegates, StateNumber(q as u8));
-            joined = masks::union(joined, end_set(ends, place, d));
+        let state = StateNumber(q as u8);
+        if masks::member(set, state) {
+            let delegate = delegate_of(delegates, state);
+            joined = masks::union(joined, end_set(ends, place, delegate));
         }
         q += 1;
     }

@@ -1,9 +1,9 @@
 -- `clear` meets its contract. Assumes nothing.
-use Rattle.board.specs.Boards.{rowSet, clearedAt}
 use mathlib.Core.Path.{_≡_, _∙_}
 use lib.ListN.{getD, replicate, getD-replicate}
-use Rattle.board.proofs.Rows.{row-same}
 use borrow.Author.Needs.{needs}
+use Rattle.board.specs.Boards.{rowSet, clearedAt}
+use Rattle.board.proofs.Rows.{row-same}
 use Rattle.board.proofs.clear.Statement.{statement}
 use Rattle.board.proofs.clear.Tie as tie
 

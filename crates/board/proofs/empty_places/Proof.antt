@@ -1,6 +1,6 @@
 -- `empty_places` meets its contract. Assumes nothing.
-use Rattle.board.specs.Boards.{emptyPlaces}
 use borrow.Author.Needs.{needs}
+use Rattle.board.specs.Boards.{emptyPlaces}
 use Rattle.board.proofs.empty_places.Statement.{statement}
 use Rattle.board.proofs.empty_places.Tie as tie
 

@@ -1,6 +1,6 @@
 -- `fill` meets its contract. Assumes nothing.
-use Rattle.board.specs.Boards.{filledAt}
 use borrow.Author.Needs.{needs}
+use Rattle.board.specs.Boards.{filledAt}
 use Rattle.board.proofs.fill.Statement.{statement}
 use Rattle.board.proofs.fill.Tie as tie
 

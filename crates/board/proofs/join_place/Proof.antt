@@ -38,9 +38,6 @@ cast-t11 c = omega arith
 member-requires : tie.Need-member-requires Inv-loop μ-loop
 member-requires c κs = search needs
 
-cast-t13 : tie.Need-cast-t13 Inv-loop μ-loop
-cast-t13 c = omega arith
-
 delegate-of-requires : tie.Need-delegate-of-requires Inv-loop μ-loop
 delegate-of-requires c κs = search needs
 
@@ -87,7 +84,6 @@ join-place-spec =
     loop-holds
     cast-t11
     member-requires
-    cast-t13
     delegate-of-requires
     end-set-requires
     union-requires

@@ -1,8 +1,7 @@
 -- `set_row` meets its contract: the first q cells of the place's row are stored. Assumes nothing.
-use mathlib.Core.Path.{_≡_, refl, sym, ap, _∙_}
-use Prim.Native.Nat.{ℕ, _+_, _*_, _-_, _≤_, _<_}
+use Prim.Native.Nat.{_-_, _≤_, _<_}
 use native.Mathlib.Omega.{arith}
-use lib.ListN.{length, getD, set}
+use lib.ListN.{getD}
 use borrow.Author.Needs.{needs}
 use Rattle.board.proofs.Rows.{Stored, none-stored, one-stored, row-stored}
 use Rattle.board.proofs.set_row.Statement.{statement}

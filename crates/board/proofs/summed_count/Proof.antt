@@ -1,6 +1,6 @@
 -- `summed_count` meets its contract. Assumes nothing.
-use Rattle.board.specs.Boards.{summedCount}
 use borrow.Author.Needs.{needs}
+use Rattle.board.specs.Boards.{summedCount}
 use Rattle.board.proofs.summed_count.Statement.{statement}
 use Rattle.board.proofs.summed_count.Tie as tie
 
