@@ -55,6 +55,12 @@ fn put_row(out: &mut [u8], start: usize, next: &[u16; 8192], k: usize, i: usize)
     at
 }
 
+fn wide(x: u32) -> u64
+    ensures { λ r. ⌜ r ≡ x ⌝ }
+{
+    x as u64
+}
+
 // The line of set i.
 fn put_set(
     out: &mut [u8],
@@ -69,7 +75,7 @@ fn put_set(
 {
     let a = text::put_decimal(out, at, i as u64);
     let b = text::put_byte(out, a, b' ');
-    let c = text::put_hex(out, b, 8, sets[i] as u64);
+    let c = text::put_hex(out, b, 8, wide(sets[i]));
     let d = put_row(out, c, next, k, i);
     text::put_byte(out, d, b'\n')
 }
@@ -96,8 +102,8 @@ fn put_sets(
 }
 
 // The delegates of the first n states.
-fn put_fields(out: &mut [u8], start: usize, delegates: &[u8; 32], n: usize) -> usize
-    requires { ⌜ (n ≤ 32) × (start + 4 * n ≤ length (now out)) ⌝ }
+fn put_fields(out: &mut [u8], start: usize, delegates: &[u8], n: usize) -> usize
+    requires { ⌜ (n ≤ 32) × (n ≤ length (now delegates)) × (start + 4 * n ≤ length (now out)) ⌝ }
     ensures { λ r. ⌜ Wrote (now (out .entry)) start (joined (λ q. field (getD (now (delegates .entry)) q 0)) n) (now (out .exit)) r ⌝ }
 {
     let mut at = start;
@@ -109,8 +115,8 @@ fn put_fields(out: &mut [u8], start: usize, delegates: &[u8; 32], n: usize) -> u
     at
 }
 
-fn put_delegates(out: &mut [u8], at: usize, delegates: &[u8; 32], n: usize) -> usize
-    requires { ⌜ (n ≤ 32) × (at + 138 ≤ length (now out)) ⌝ }
+fn put_delegates(out: &mut [u8], at: usize, delegates: &[u8], n: usize) -> usize
+    requires { ⌜ (n ≤ 32) × (n ≤ length (now delegates)) × (at + 138 ≤ length (now out)) ⌝ }
     ensures { λ r. ⌜ Wrote (now (out .entry)) at (delegatesLine (now (delegates .entry)) n) (now (out .exit)) r ⌝ }
 {
     let a = text::put_bytes(out, at, b"delegates");
