@@ -48,3 +48,9 @@ line-most sets next k i hk hi =
     length-append (decimal i) ((space ∷ []) ++ (hex 8 (getD sets i 0) ++ (rowText next k i ++ (lineFeed ∷ [])))),
     length-append (hex 8 (getD sets i 0)) (rowText next k i ++ (lineFeed ∷ [])),
     length-append (rowText next k i) (lineFeed ∷ []))
+
+pub fields-most : (d : List ℕ) → ((q : ℕ) → getD d q 0 < 256) → (n : ℕ) → length (joined (λ q. field (getD d q 0)) n) ≤ n * 4
+fields-most d h n = joined-length (λ q. field (getD d q 0)) n 4 (λ q l. field-most (getD d q 0) (h q))
+
+pub lines-most : (sets next : List ℕ) (k : ℕ) → k ≤ 16 → (n : ℕ) → n ≤ 512 → length (joined (setLine sets next k) n) ≤ n * 77
+lines-most sets next k hk n hn = joined-length (setLine sets next k) n 77 (λ i l. line-most sets next k i hk (omega arith))
