@@ -18,7 +18,7 @@ use Rattle.text.specs.Numerals.{decimal, hex, joined}
 use Rattle.text.proofs.Pieces.{joined-length}
 use Rattle.text.proofs.Digits.{decimal-most, hex-length}
 use Rattle.build.specs.declared.Built.{Built}
-use Rattle.ruletext.specs.RuleText.{field, cellText, rowText, setLine, headLine, delegatesLine, ruleText, refusedText, space, dash, lineFeed}
+use Rattle.ruletext.specs.RuleText.{field, cellText, rowText, setLine, headLine, delegatesLine, ruleText, refusedText, startsWord, space, lineFeed}
 
 pub byte-most : (n : ℕ) → n < 256 → length (decimal n) ≤ 3
 byte-most n h = decimal-most 2 n (omega arith)
@@ -54,3 +54,10 @@ fields-most d h n = joined-length (λ q. field (getD d q 0)) n 4 (λ q l. field-
 
 pub lines-most : (sets next : List ℕ) (k : ℕ) → k ≤ 16 → (n : ℕ) → n ≤ 512 → length (joined (setLine sets next k) n) ≤ n * 77
 lines-most sets next k hk n hn = joined-length (setLine sets next k) n 77 (λ i l. line-most sets next k i hk (omega arith))
+
+pub refused-most : (x : ℕ) → x < 256 → length (refusedText x) ≤ 12
+refused-most x h = omega (arith, byte-most x h, length-append (decimal x) (lineFeed ∷ []))
+
+pub head-most : (count starts : ℕ) → count ≤ 512 → starts < 256 → length (headLine count starts) ≤ 20
+head-most count starts hc hs =
+    omega (arith, number-most count hc, byte-most starts hs, length-append (decimal count) (startsWord ++ (decimal starts ++ (lineFeed ∷ []))), length-append (decimal starts) (lineFeed ∷ []))

@@ -103,7 +103,7 @@ fn put_sets(
 // The delegates of the first n states.
 fn put_fields(out: &mut [u8], start: usize, delegates: &[u8], n: usize) -> usize
     requires { ⌜ (n ≤ 32) × (n ≤ length (now delegates)) × (start + 4 * n ≤ length (now out)) ⌝ }
-    ensures { λ r. ⌜ Wrote (now (out .entry)) start (joined (λ q. field (getD (now (delegates .entry)) q 0)) n) (now (out .exit)) r ⌝ }
+    ensures { λ r. ⌜ (Wrote (now (out .entry)) start (joined (λ q. field (getD (now (delegates .entry)) q 0)) n) (now (out .exit)) r) × (r ≤ start + 4 * n) ⌝ }
 {
     let mut at = start;
     let mut q: usize = 0;
@@ -114,12 +114,13 @@ fn put_fields(out: &mut [u8], start: usize, delegates: &[u8], n: usize) -> usize
     at
 }
 
-fn put_delegates(out: &mut [u8], at: usize, delegates: &[u8], n: usize) -> usize
-    requires { ⌜ (n ≤ 32) × (n ≤ length (now delegates)) × (at + 138 ≤ length (now out)) ⌝ }
-    ensures { λ r. ⌜ Wrote (now (out .entry)) at (delegatesLine (now (delegates .entry)) n) (now (out .exit)) r ⌝ }
+fn put_delegates(out: &mut [u8], at: usize, delegates: &[u8; 32], n: usize) -> usize
+    requires { ⌜ (n ≤ 32) × (at + 138 ≤ length (now out)) ⌝ }
+    ensures { λ r. ⌜ (Wrote (now (out .entry)) at (delegatesLine (now (delegates .entry)) n) (now (out .exit)) r) × (r ≤ at + 138) ⌝ }
 {
     let a = text::put_bytes(out, at, b"delegates");
-    let b = put_fields(out, a, delegates, n);
+    let fields: &[u8] = delegates;
+    let b = put_fields(out, a, fields, n);
     text::put_byte(out, b, b'\n')
 }
 

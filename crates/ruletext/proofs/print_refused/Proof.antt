@@ -1,38 +1,43 @@
+-- `print_refused` meets its contract. Assumes nothing.
+use mathlib.Core.Path.{_≡_, sym}
+use native.Mathlib.Omega.{arith}
+use lib.ListN.{length, take}
+use lib.Seq.{length-take-le}
+use Rattle.ruletext.specs.RuleText.{refusedText}
+use Rattle.ruletext.proofs.Copying.{taken}
+use Rattle.ruletext.proofs.Lengths.{refused-most}
 use borrow.Author.Needs.{needs}
 use Rattle.ruletext.proofs.print_refused.Statement.{statement}
 use Rattle.ruletext.proofs.print_refused.Tie as tie
-use Rattle.ruletext.proofs.print_refused.Reads as reads
-use Rattle.ruletext.proofs.print_refused.Lts as lts
-use Rattle.ruletext.proofs.print_text.Reads as print-text-reads
-use Rattle.ruletext.proofs.put_refused.Reads as put-refused-reads
 
--- src/lib.rt:192:30
 slice-aggregate-put-refused : tie.Need-slice-aggregate-put-refused
 slice-aggregate-put-refused c = search needs
 
--- src/lib.rt:192:9
 put-refused-requires : tie.Need-put-refused-requires
 put-refused-requires c κs = search needs
 
--- src/lib.rt:193:16
 array-share-prefix-text : tie.Need-array-share-prefix-text
-array-share-prefix-text c = ?
+array-share-prefix-text c =
+    let s = c .before .before .before .before in
+    omega (arith, c .before .put-refused .ensures .ends, c .before .put-refused .kept .0, refused-most (s .args .number) (s .fits .number .fits))
 
--- src/lib.rt:193:16
 slice-aggregate-print-text : tie.Need-slice-aggregate-print-text
-slice-aggregate-print-text c = ?
+slice-aggregate-print-text c =
+    let s = c .before .before .before .before .before in
+    let w = c .before .before .put-refused in
+    sym (length-take-le (w .result) (w .last .0) (omega (arith, w .ensures .ends, w .kept .0, refused-most (s .args .number) (s .fits .number .fits))))
 
--- src/lib.rt:193:5
 print-text-requires : tie.Need-print-text-requires
 print-text-requires c κs = search needs
 
--- src/lib.rt:188:1
 same-length : tie.Need-same-length
 same-length c = search needs
 
--- src/lib.rt:188:1
 returns : tie.Need-returns
-returns c = ?
+returns c =
+    let w = c .before .before .before .before .before .before .put-refused in
+    let e : take (w .result) (w .last .0) ≡ refusedText (c .before .before .before .before .before .before .before .before .before .args .number) = taken (w .ensures) in
+    rw e at (c .before .before .print-text .ensures)
 
 pub print-refused-spec : {M : Type 1} → statement M
 print-refused-spec =

@@ -15,13 +15,13 @@ slice-aggregate-put-bytes c = search needs
 put-bytes-requires : tie.Need-put-bytes-requires
 put-bytes-requires c κs = search needs
 
--- src/lib.rt:122:9
+-- src/lib.rt:123:9
 put-fields-requires : tie.Need-put-fields-requires
 put-fields-requires c κs = search needs
 
--- src/lib.rt:123:5
+-- src/lib.rt:124:5
 put-byte-requires : tie.Need-put-byte-requires
-put-byte-requires c κs = ?
+put-byte-requires c κs = search needs
 
 -- src/lib.rt:117:1
 same-length : tie.Need-same-length

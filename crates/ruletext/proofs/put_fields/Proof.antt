@@ -58,7 +58,7 @@ returns : tie.Need-returns Inv-loop μ-loop
 returns c =
     let x = c .before .loop in
     let e : x .q ≡ c .before .before .before .before .args .n = omega (arith, x .inv, c .loop-test .left) in
-    rw e at (x .inv .4 .wrote)
+    (rw e at (x .inv .4 .wrote), omega (arith, x .inv, fields-most (c .before .before .before .before .args .delegates .now) (x .inv .3) (x .q)))
 
 pub put-fields-spec : {M : Type 1} → statement M
 put-fields-spec =
