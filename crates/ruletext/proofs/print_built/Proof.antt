@@ -1,38 +1,39 @@
+-- `print_built` meets its contract. Assumes nothing.
+use mathlib.Core.Path.{_≡_, sym}
+use native.Mathlib.Omega.{arith}
+use lib.ListN.{take}
+use lib.Seq.{length-take-le}
+use Rattle.ruletext.specs.RuleText.{ruleText}
+use Rattle.ruletext.proofs.Copying.{taken}
 use borrow.Author.Needs.{needs}
 use Rattle.ruletext.proofs.print_built.Statement.{statement}
 use Rattle.ruletext.proofs.print_built.Tie as tie
-use Rattle.ruletext.proofs.print_built.Reads as reads
-use Rattle.ruletext.proofs.print_built.Lts as lts
-use Rattle.ruletext.proofs.print_text.Reads as print-text-reads
-use Rattle.ruletext.proofs.put_rule.Reads as put-rule-reads
 
--- src/lib.rt:184:27
 slice-aggregate-put-rule : tie.Need-slice-aggregate-put-rule
 slice-aggregate-put-rule c = search needs
 
--- src/lib.rt:184:9
 put-rule-requires : tie.Need-put-rule-requires
 put-rule-requires c κs = search needs
 
--- src/lib.rt:185:16
 array-share-prefix-text : tie.Need-array-share-prefix-text
 array-share-prefix-text c = search needs
 
--- src/lib.rt:185:16
 slice-aggregate-print-text : tie.Need-slice-aggregate-print-text
-slice-aggregate-print-text c = ?
+slice-aggregate-print-text c =
+    let w = c .before .before .put-rule in
+    sym (length-take-le (w .result) (w .last .0) (omega (arith, w .ensures .1, w .kept .0)))
 
--- src/lib.rt:185:5
 print-text-requires : tie.Need-print-text-requires
 print-text-requires c κs = search needs
 
--- src/lib.rt:180:1
 same-length : tie.Need-same-length
 same-length c = search needs
 
--- src/lib.rt:180:1
 returns : tie.Need-returns
-returns c = ?
+returns c =
+    let w = c .before .before .before .before .before .before .put-rule in
+    let e : take (w .result) (w .last .0) ≡ ruleText (c .before .before .before .before .before .before .before .before .before .args .built) = taken (w .ensures .0) in
+    rw e at (c .before .before .print-text .ensures)
 
 pub print-built-spec : {M : Type 1} → statement M
 print-built-spec =
