@@ -44,10 +44,11 @@ line-most sets next k i hk hi =
     let h = hex-length 8 (getD sets i 0) in
     let d = number-most i (omega arith) in
     omega (
-    arith,
-    length-append (decimal i) ((space ∷ []) ++ (hex 8 (getD sets i 0) ++ (rowText next k i ++ (lineFeed ∷ [])))),
-    length-append (hex 8 (getD sets i 0)) (rowText next k i ++ (lineFeed ∷ [])),
-    length-append (rowText next k i) (lineFeed ∷ []))
+      arith,
+      length-append (decimal i) ((space ∷ []) ++ (hex 8 (getD sets i 0) ++ (rowText next k i ++ (lineFeed ∷ [])))),
+      length-append (hex 8 (getD sets i 0)) (rowText next k i ++ (lineFeed ∷ [])),
+      length-append (rowText next k i) (lineFeed ∷ []),
+    )
 
 pub fields-most : (d : List ℕ) → ((q : ℕ) → getD d q 0 < 256) → (n : ℕ) → length (joined (λ q. field (getD d q 0)) n) ≤ n * 4
 fields-most d h n = joined-length (λ q. field (getD d q 0)) n 4 (λ q l. field-most (getD d q 0) (h q))

@@ -19,7 +19,6 @@ pub record Put (before : List ℕ) (at : ℕ) (piece after : List ℕ) (end : �
   pub kept : length after ≡ length before
 
 infixr 20 _then_
-
 module _ {before : List ℕ} {at : ℕ} {p mid : List ℕ} {e : ℕ} where
   pub put : at + length p ≤ length before → Wrote before at p mid e → Put before at p mid e
   put fits w = record { wrote = w; fits = fits; kept = wrote-length before at p mid e fits w }
