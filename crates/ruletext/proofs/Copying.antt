@@ -3,18 +3,24 @@
 --   too-short   nothing is written
 --   copied      the text is written from the start
 --   taken       a text that was written from the start is read back
+--   within      the length that an answer tells is within the buffer
 --   whole       a rule's text is its first line, its sets' lines and its last line
 use mathlib.Core.Path.{_≡_, refl, sym, ap, _∙_}
+use mathlib.Core.Bool.{cond}
 use mathlib.Core.List.{List, _++_}
+use mathlib.Core.Option.{none, some}
 use Prim.Native.Nat.{ℕ, _+_, _≤_, _<_, min}
 use native.Mathlib.Omega.{arith}
 use native.Mathlib.Nat.{zero-add}
+use lib.Dec.{ltb}
 use lib.ListN.{length, take, drop}
 use lib.Seq.{take-at}
-use borrow.Author.Tests.{lt-ltb, le-ltb}
+use borrow.Author.Tests.{lt-ltb, le-ltb, ltb-false}
+use Rattle.masks.proofs.Cases.{by-test}
 use Rattle.text.specs.Numerals.{joined}
 use Rattle.text.specs.Writing.{Wrote}
 use Rattle.build.specs.declared.Built.{Built}
+use Rattle.ruletext.specs.declared.Printed.{Printed}
 use Rattle.ruletext.specs.declared.Printed.the-variants.{Bytes, Short}
 use Rattle.ruletext.specs.RuleText.{setLine, headLine, delegatesLine, ruleText}
 use Rattle.ruletext.specs.Printing.{Prints}
@@ -48,3 +54,10 @@ whole b count k n {out} {m₁} {m₂} {after} {lines} {last} {end} count-is k-is
     let v = put (omega arith) sets in
     let w = put (omega (arith, delegates .ends)) delegates in
     (rw (sym count-is, sym k-is, sym n-is) ((u then v then w) .wrote), omega arith)
+
+pub within : {text before after : List ℕ} {r : Printed} {n : ℕ} → Prints text before after r → r ≡ Bytes n → n ≤ length before
+within {text} {before} {after} {r} {n} p is =
+    let a : some n ≡ cond (ltb (length before) (length text)) none (some (length text)) = rw is at (p .answer) in
+    by-test (ltb (length before) (length text))
+    (λ e. let f : some n ≡ none = rw e at a in let z : _≡_ {A = ℕ} 0 1 = cc in absurd (omega arith))
+    (λ e. let f : some n ≡ some (length text) = rw e at a in let z : n ≡ length text = cc in omega (arith, ltb-false (length before) (length text) e))
