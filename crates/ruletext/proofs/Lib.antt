@@ -3,3 +3,4 @@ pub mod Pieces
 pub mod Lengths
 pub mod Copying
 pub mod ForFile
+pub mod Examples
