@@ -1,55 +1,8 @@
 // Reads rule files from standard input, a line `NAME HEX` each, and prints what the reader answers.
-ghost use Prim.Native.Nat.{_<_, _≤_};
-ghost use lib.ListN.{length};
-ghost use Rattle.io.specs.Counts.{Counts};
 use automaton::Rule;
 use libc::STDIN_FILENO;
 use libc::STDOUT_FILENO;
 use rulefile::ReadAnswer;
-
-// The value of a hex digit; 0 for any other byte.
-fn digit(c: u8) -> u8
-    ensures { λ r. ⌜ r < 16 ⌝ }
-{
-    match c {
-        b'0'..=b'9' => c - b'0',
-        b'a'..=b'f' => c - b'a' + 10,
-        _ => 0,
-    }
-}
-
-// The index of the first such byte from `from` on, or the text's length.
-fn find(text: &[u8], from: usize, c: u8) -> usize
-    requires { ⌜ from ≤ length (now text) ⌝ }
-    ensures { λ r. ⌜ (from ≤ r) × (r ≤ length (now (text .entry))) ⌝ }
-{
-    let mut i = from;
-    while i < text.len() {
-        if text[i] == c {
-            return i;
-        }
-        i += 1;
-    }
-    i
-}
-
-// The bytes that pairs of hex digits stand for, as many as fit: how many there are.
-fn decode(hex: &[u8], out: &mut [u8]) -> usize
-    ensures { λ r. ⌜ Counts r (now (out .exit)) ⌝ }
-{
-    let count = hex.len() / 2;
-    let mut n: usize = 0;
-    while n < count {
-        if out.len() <= n {
-            return n;
-        }
-        let high = digit(hex[2 * n]);
-        let low = digit(hex[2 * n + 1]);
-        out[n] = 16 * high + low;
-        n += 1;
-    }
-    n
-}
 
 // ` STATE.SYMBOL=MASK` for a cell that is not empty.
 fn print_cell(cell: usize, mask: u32) {
@@ -101,13 +54,13 @@ fn print_answer(file: &[u8]) {
 
 // One case.
 fn run_case(line: &[u8]) {
-    let space = find(line, 0, b' ');
+    let space = cases::find(line, 0, b' ');
     if line.len() <= space {
         return;
     }
     let hex = space + 1;
     let mut file = [0u8; 33000];
-    let n = decode(&line[hex..], &mut file);
+    let n = cases::decode(&line[hex..], &mut file);
     io::write_all(STDOUT_FILENO, &line[..space]);
     io::write_all(STDOUT_FILENO, b" ");
     print_answer(&file[..n]);
@@ -117,7 +70,7 @@ fn run_case(line: &[u8]) {
 fn run_cases(text: &[u8]) {
     let mut at: usize = 0;
     while at < text.len() {
-        let end = find(text, at, b'\n');
+        let end = cases::find(text, at, b'\n');
         run_case(&text[at..end]);
         at = end + 1;
     }

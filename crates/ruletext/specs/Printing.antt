@@ -4,6 +4,7 @@
 --   Prints text ..     the text stands at the start of the buffer and what lies past it is left as it was; a buffer that is too short is
 --                      refused and left unchanged
 --   TextFor f text     the text for the rule file f: refused with the first number of 1 to 9 whose condition holds, else the built rule's
+--   Shown f ..         that text is printed
 use mathlib.Core.Path.{_≡_}
 use mathlib.Core.Bool.{Bool, true, false, cond}
 use mathlib.Core.List.{List, _++_}
@@ -33,3 +34,8 @@ pub data TextFor (f : List ℕ) : List ℕ → Type 0 where
   too-many : refusal f ≡ none → tooMany (ruleOf f .targets) (ruleOf f .n) (ruleOf f .k) ≡ true → TextFor f (refusedText 9)
   built : {b : Built} → refusal f ≡ none → tooMany (ruleOf f .targets) (ruleOf f .n) (ruleOf f .k) ≡ false → BuiltRule (ruleOf f) b
       → TextFor f (ruleText b)
+
+pub record Shown (f before after : List ℕ) (r : Printed) : Type 0 where
+  pub text : List ℕ
+  pub for-file : TextFor f text
+  pub prints : Prints text before after r

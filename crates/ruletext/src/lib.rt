@@ -1,13 +1,12 @@
 // Prints a built rule into a lent buffer.
 ghost use mathlib.Core.Path.{_≡_};
 ghost use mathlib.Core.List.{List};
-ghost use Prim.Native.Nat.{ℕ, _+_, _*_, _≤_, _<_};
-ghost use lib.ListN.{length};
+ghost use Prim.Native.Nat.{ℕ, _+_, _*_, _≤_, _<_, min};
+ghost use lib.ListN.{length, getD};
 ghost use Rattle.text.specs.Numerals.{joined};
 ghost use Rattle.text.specs.Writing.{Wrote};
 ghost use Rattle.ruletext.specs.RuleText.{field, cellText, rowText, setLine, headLine, delegatesLine, ruleText, refusedText, textOf};
-ghost use Rattle.ruletext.specs.Printing.{Prints, TextFor};
-ghost use lib.ListN.{getD};
+ghost use Rattle.ruletext.specs.Printing.{Prints, Shown};
 use build::BuildAnswer;
 use build::Building;
 use build::Built;
@@ -55,6 +54,12 @@ fn put_row(out: &mut [u8], start: usize, next: &[u16; 8192], k: usize, i: usize)
     at
 }
 
+fn wide(x: u32) -> u64
+    ensures { λ r. ⌜ r ≡ x ⌝ }
+{
+    x as u64
+}
+
 // The line of set i.
 fn put_set(
     out: &mut [u8],
@@ -69,7 +74,7 @@ fn put_set(
 {
     let a = text::put_decimal(out, at, i as u64);
     let b = text::put_byte(out, a, b' ');
-    let c = text::put_hex(out, b, 8, sets[i] as u64);
+    let c = text::put_hex(out, b, 8, wide(sets[i]));
     let d = put_row(out, c, next, k, i);
     text::put_byte(out, d, b'\n')
 }
@@ -96,9 +101,9 @@ fn put_sets(
 }
 
 // The delegates of the first n states.
-fn put_fields(out: &mut [u8], start: usize, delegates: &[u8; 32], n: usize) -> usize
-    requires { ⌜ (n ≤ 32) × (start + 4 * n ≤ length (now out)) ⌝ }
-    ensures { λ r. ⌜ Wrote (now (out .entry)) start (joined (λ q. field (getD (now (delegates .entry)) q 0)) n) (now (out .exit)) r ⌝ }
+fn put_fields(out: &mut [u8], start: usize, delegates: &[u8], n: usize) -> usize
+    requires { ⌜ (n ≤ 32) × (n ≤ length (now delegates)) × (start + 4 * n ≤ length (now out)) ⌝ }
+    ensures { λ r. ⌜ (Wrote (now (out .entry)) start (joined (λ q. field (getD (now (delegates .entry)) q 0)) n) (now (out .exit)) r) × (r ≤ start + 4 * n) ⌝ }
 {
     let mut at = start;
     let mut q: usize = 0;
@@ -111,10 +116,11 @@ fn put_fields(out: &mut [u8], start: usize, delegates: &[u8; 32], n: usize) -> u
 
 fn put_delegates(out: &mut [u8], at: usize, delegates: &[u8; 32], n: usize) -> usize
     requires { ⌜ (n ≤ 32) × (at + 138 ≤ length (now out)) ⌝ }
-    ensures { λ r. ⌜ Wrote (now (out .entry)) at (delegatesLine (now (delegates .entry)) n) (now (out .exit)) r ⌝ }
+    ensures { λ r. ⌜ (Wrote (now (out .entry)) at (delegatesLine (now (delegates .entry)) n) (now (out .exit)) r) × (r ≤ at + 138) ⌝ }
 {
     let a = text::put_bytes(out, at, b"delegates");
-    let b = put_fields(out, a, delegates, n);
+    let fields: &[u8] = delegates;
+    let b = put_fields(out, a, fields, n);
     text::put_byte(out, b, b'\n')
 }
 
@@ -136,4 +142,79 @@ fn put_refused(out: &mut [u8], at: usize, number: u8) -> usize
     let a = text::put_bytes(out, at, b"refused ");
     let b = text::put_decimal(out, a, number as u64);
     text::put_byte(out, b, b'\n')
+}
+
+// x, but no more than most.
+fn at_most(x: usize, most: usize) -> usize
+    ensures { λ r. ⌜ r ≡ min x most ⌝ }
+{
+    if x < most { x } else { most }
+}
+
+// The text of a built rule, from the start.
+fn put_rule(out: &mut [u8], built: Built) -> usize
+    requires { ⌜ 39582 ≤ length (now out) ⌝ }
+    ensures { λ r. ⌜ (Wrote (now (out .entry)) 0 (ruleText built) (now (out .exit)) r) × (r ≤ 39582) ⌝ }
+{
+    let count = at_most(built.count as usize, 512);
+    let k = at_most(built.k as usize, 16);
+    let n = at_most(built.n as usize, 32);
+    let sets = built.sets;
+    let next = built.next;
+    let delegates = built.delegates;
+    let lines = put_head(out, 0, count, built.starts);
+    let last = put_sets(out, lines, &sets, &next, k, count);
+    put_delegates(out, last, &delegates, n)
+}
+
+// A text that is there already.
+fn print_text(text: &[u8], out: &mut [u8]) -> Printed
+    ensures { λ r. ⌜ Prints (now (text .entry)) (now (out .entry)) (now (out .exit)) r ⌝ }
+{
+    if out.len() < text.len() {
+        return Printed::Short;
+    }
+    let length = text::put_bytes(out, 0, text);
+    Printed::Bytes(length)
+}
+
+fn print_built(built: Built, out: &mut [u8]) -> Printed
+    ensures { λ r. ⌜ Prints (ruleText built) (now (out .entry)) (now (out .exit)) r ⌝ }
+{
+    let mut text = [0u8; 40960];
+    let length = put_rule(&mut text, built);
+    print_text(&text[..length], out)
+}
+
+fn print_refused(number: u8, out: &mut [u8]) -> Printed
+    ensures { λ r. ⌜ Prints (refusedText number) (now (out .entry)) (now (out .exit)) r ⌝ }
+{
+    let mut text = [0u8; 12];
+    let length = put_refused(&mut text, 0, number);
+    print_text(&text[..length], out)
+}
+
+// What building a rule answers, as text.
+pub fn print_building(building: Building, out: &mut [u8]) -> Printed
+    ensures { λ r. ⌜ Prints (textOf building) (now (out .entry)) (now (out .exit)) r ⌝ }
+{
+    let answer = building.answer;
+    let built = building.built;
+    match answer {
+        BuildAnswer::Accepted(_, _) => print_built(built, out),
+        BuildAnswer::Refused(number) => print_refused(number, out),
+    }
+}
+
+// The rule in a file, built, as text; or the number with which the file is refused.
+pub fn print_rule(file: &[u8], out: &mut [u8]) -> Printed
+    ensures { λ r. ⌜ Shown (now (file .entry)) (now (out .entry)) (now (out .exit)) r ⌝ }
+{
+    let reading = rulefile::read(file);
+    let answer = reading.answer;
+    let rule = reading.rule;
+    match answer {
+        ReadAnswer::Accepted => print_building(build::build_rule(rule), out),
+        ReadAnswer::Refused(number) => print_refused(number, out),
+    }
 }

@@ -2,8 +2,8 @@
 use lib.ListN.{length}
 use native.Mathlib.Omega.{arith}
 use Prim.Native.Nat.{_-_, _≤_}
-use Rattle.rulefile_cases.proofs.find.Statement.{statement}
-use Rattle.rulefile_cases.proofs.find.Tie as tie
+use Rattle.cases.proofs.find.Statement.{statement}
+use Rattle.cases.proofs.find.Tie as tie
 
 abbrev Inv-loop : tie.InvT-loop
 Inv-loop text from c i₀ i = (from ≤ i) × (i ≤ length text)

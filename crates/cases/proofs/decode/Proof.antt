@@ -5,8 +5,8 @@ use lib.ListN.{length, length-set}
 use native.Mathlib.Omega.{arith}
 use Prim.Native.Nat.{_-_, _≤_}
 use mathlib.Core.Path.{_≡_, sym}
-use Rattle.rulefile_cases.proofs.decode.Statement.{statement}
-use Rattle.rulefile_cases.proofs.decode.Tie as tie
+use Rattle.cases.proofs.decode.Statement.{statement}
+use Rattle.cases.proofs.decode.Tie as tie
 
 abbrev Inv-loop : tie.InvT-loop
 Inv-loop hex out₀ count n₀ out n = (n ≤ length out) × (length out ≡ length out₀)

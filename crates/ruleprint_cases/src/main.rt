@@ -1,0 +1,44 @@
+// Reads rule files from standard input, a line `NAME HEX` each, and prints each name and what ruleprint prints for the file.
+use libc::STDIN_FILENO;
+use libc::STDOUT_FILENO;
+use ruletext::Printed;
+
+fn print_text(file: &[u8]) {
+    let mut text = [0u8; 40960];
+    let printed = ruletext::print_rule(file, &mut text);
+    match printed {
+        Printed::Bytes(length) => {
+            io::write_all(STDOUT_FILENO, &text[..length]);
+        }
+        Printed::Short => {}
+    }
+}
+
+// One case.
+fn run_case(line: &[u8]) {
+    let space = cases::find(line, 0, b' ');
+    if line.len() <= space {
+        return;
+    }
+    let hex = space + 1;
+    let mut file = [0u8; 33000];
+    let n = cases::decode(&line[hex..], &mut file);
+    io::write_all(STDOUT_FILENO, &line[..space]);
+    io::write_all(STDOUT_FILENO, b"\n");
+    print_text(&file[..n]);
+}
+
+fn run_cases(text: &[u8]) {
+    let mut at: usize = 0;
+    while at < text.len() {
+        let end = cases::find(text, at, b'\n');
+        run_case(&text[at..end]);
+        at = end + 1;
+    }
+}
+
+fn main() {
+    let mut text = [0u8; 400000];
+    let n = io::read_full(STDIN_FILENO, &mut text);
+    run_cases(&text[..n]);
+}

@@ -1,0 +1,64 @@
+-- How long the parts of the text are at most. Assumes nothing.
+--
+--   field-most, cell-most   4
+--   row-most                4 for each symbol
+--   line-most               77
+--   head-most, last-most, refused-most   20, 138, 12
+--   rule-most               39,582
+use mathlib.Core.Path.{_≡_}
+use mathlib.Core.List.{List, [], _∷_, _++_}
+use mathlib.Core.Bool.{cond}
+use Prim.Native.Nat.{ℕ, _+_, _*_, _≤_, _<_, min}
+use native.Mathlib.Omega.{arith}
+use lib.Dec.{ltb}
+use lib.ListN.{length, getD, length-append}
+use borrow.Author.Tests.{ltb-true}
+use Rattle.masks.proofs.Cases.{by-test}
+use Rattle.text.specs.Numerals.{decimal, hex, joined}
+use Rattle.text.proofs.Pieces.{joined-length}
+use Rattle.text.proofs.Digits.{decimal-most, hex-length}
+use Rattle.build.specs.declared.Built.{Built}
+use Rattle.ruletext.specs.RuleText.{field, cellText, rowText, setLine, headLine, delegatesLine, ruleText, refusedText, startsWord, space, lineFeed}
+
+pub byte-most : (n : ℕ) → n < 256 → length (decimal n) ≤ 3
+byte-most n h = decimal-most 2 n (omega arith)
+
+pub number-most : (n : ℕ) → n ≤ 512 → length (decimal n) ≤ 3
+number-most n h = decimal-most 2 n (omega arith)
+
+pub field-most : (n : ℕ) → n < 256 → length (field n) ≤ 4
+field-most n h = omega (arith, byte-most n h)
+
+pub cell-most : (to : ℕ) → length (cellText to) ≤ 4
+cell-most to =
+    by-test (ltb to 512)
+    (λ e. rw e (omega (arith, number-most to (omega (arith, ltb-true to 512 e)))))
+    (λ e. rw e (omega arith))
+
+pub row-most : (next : List ℕ) (k i : ℕ) → length (rowText next k i) ≤ k * 4
+row-most next k i = joined-length (λ s. cellText (getD next (i * 16 + s) 0)) k 4 (λ s h. cell-most (getD next (i * 16 + s) 0))
+
+pub line-most : (sets next : List ℕ) (k i : ℕ) → k ≤ 16 → i < 512 → length (setLine sets next k i) ≤ 77
+line-most sets next k i hk hi =
+    let r = row-most next k i in
+    let h = hex-length 8 (getD sets i 0) in
+    let d = number-most i (omega arith) in
+    omega (
+      arith,
+      length-append (decimal i) ((space ∷ []) ++ (hex 8 (getD sets i 0) ++ (rowText next k i ++ (lineFeed ∷ [])))),
+      length-append (hex 8 (getD sets i 0)) (rowText next k i ++ (lineFeed ∷ [])),
+      length-append (rowText next k i) (lineFeed ∷ []),
+    )
+
+pub fields-most : (d : List ℕ) → ((q : ℕ) → getD d q 0 < 256) → (n : ℕ) → length (joined (λ q. field (getD d q 0)) n) ≤ n * 4
+fields-most d h n = joined-length (λ q. field (getD d q 0)) n 4 (λ q l. field-most (getD d q 0) (h q))
+
+pub lines-most : (sets next : List ℕ) (k : ℕ) → k ≤ 16 → (n : ℕ) → n ≤ 512 → length (joined (setLine sets next k) n) ≤ n * 77
+lines-most sets next k hk n hn = joined-length (setLine sets next k) n 77 (λ i l. line-most sets next k i hk (omega arith))
+
+pub refused-most : (x : ℕ) → x < 256 → length (refusedText x) ≤ 12
+refused-most x h = omega (arith, byte-most x h, length-append (decimal x) (lineFeed ∷ []))
+
+pub head-most : (count starts : ℕ) → count ≤ 512 → starts < 256 → length (headLine count starts) ≤ 20
+head-most count starts hc hs =
+    omega (arith, number-most count hc, byte-most starts hs, length-append (decimal count) (startsWord ++ (decimal starts ++ (lineFeed ∷ []))), length-append (decimal starts) (lineFeed ∷ []))

@@ -1,0 +1,50 @@
+-- `print_building` meets its contract. Assumes nothing.
+use mathlib.Core.Path.{_≡_, ap}
+use Rattle.build.specs.declared.BuildAnswer.{BuildAnswer}
+use Rattle.ruletext.specs.RuleText.{ruleText, refusedText, answerText, textOf}
+use borrow.Author.Needs.{needs}
+use Rattle.ruletext.proofs.print_building.Statement.{statement}
+use Rattle.ruletext.proofs.print_building.Tie as tie
+
+enum-told : tie.Need-enum-told
+enum-told c = search needs
+
+print-built-requires : tie.Need-print-built-requires
+print-built-requires c κs = search needs
+
+enum-known-answer : tie.Need-enum-known-answer
+enum-known-answer c = search needs
+
+print-refused-requires : tie.Need-print-refused-requires
+print-refused-requires c κs = search needs
+
+same-length : tie.Need-same-length
+same-length c = search needs
+
+returns : tie.Need-returns
+returns c =
+    let b = c .before .before .before .before .before .before .before .before .args .building in
+    let e : textOf b ≡ ruleText (b .built) = ap (λ (a : BuildAnswer). answerText a (b .built)) (c .before .before .before .before .enum-told .given .1) in
+    rw e (c .before .before .print-built .ensures)
+
+same-length-2 : tie.Need-same-length-2
+same-length-2 c = search needs
+
+returns-2 : tie.Need-returns-2
+returns-2 c =
+    let b = c .before .before .before .before .before .before .before .before .before .args .building in
+    let e : textOf b ≡ refusedText (c .before .before .before .before .before .answer .given .0 .0) = ap (λ (a : BuildAnswer). answerText a (b .built)) (c .before .before .before .before .before .answer .given .1) in
+    rw e (c .before .before .print-refused .ensures)
+
+pub print-building-spec : {M : Type 1} → statement M
+print-building-spec =
+    tie.close
+    (tie.spec
+    enum-told
+    print-built-requires
+    enum-known-answer
+    print-refused-requires
+    same-length
+    returns
+    same-length-2
+    returns-2)

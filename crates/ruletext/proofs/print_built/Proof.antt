@@ -1,0 +1,48 @@
+-- `print_built` meets its contract. Assumes nothing.
+use mathlib.Core.Path.{_≡_, sym}
+use native.Mathlib.Omega.{arith}
+use lib.ListN.{take}
+use lib.Seq.{length-take-le}
+use Rattle.ruletext.specs.RuleText.{ruleText}
+use Rattle.ruletext.proofs.Copying.{taken}
+use borrow.Author.Needs.{needs}
+use Rattle.ruletext.proofs.print_built.Statement.{statement}
+use Rattle.ruletext.proofs.print_built.Tie as tie
+
+slice-aggregate-put-rule : tie.Need-slice-aggregate-put-rule
+slice-aggregate-put-rule c = search needs
+
+put-rule-requires : tie.Need-put-rule-requires
+put-rule-requires c κs = search needs
+
+array-share-prefix-text : tie.Need-array-share-prefix-text
+array-share-prefix-text c = search needs
+
+slice-aggregate-print-text : tie.Need-slice-aggregate-print-text
+slice-aggregate-print-text c =
+    let w = c .before .before .put-rule in
+    sym (length-take-le (w .result) (w .last .0) (omega (arith, w .ensures .1, w .kept .0)))
+
+print-text-requires : tie.Need-print-text-requires
+print-text-requires c κs = search needs
+
+same-length : tie.Need-same-length
+same-length c = search needs
+
+returns : tie.Need-returns
+returns c =
+    let w = c .before .before .before .before .before .before .put-rule in
+    let e : take (w .result) (w .last .0) ≡ ruleText (c .before .before .before .before .before .before .before .before .before .args .built) = taken (w .ensures .0) in
+    rw e at (c .before .before .print-text .ensures)
+
+pub print-built-spec : {M : Type 1} → statement M
+print-built-spec =
+    tie.close
+    (tie.spec
+    slice-aggregate-put-rule
+    put-rule-requires
+    array-share-prefix-text
+    slice-aggregate-print-text
+    print-text-requires
+    same-length
+    returns)

@@ -1,0 +1,71 @@
+-- `print_rule` meets its contract. Assumes nothing.
+use mathlib.Core.Path.{_≡_, sym, ap, _∙_}
+use mathlib.Core.Option.{Option, none, some}
+use Prim.Native.Nat.{ℕ}
+use Rattle.rulefile.specs.declared.ReadAnswer.the-variants.{Accepted, Refused}
+use Rattle.rulefile.specs.Refusals.{refusal}
+use Rattle.rulefile.specs.Reader.{numberOf, ruleBy, ruleOf}
+use Rattle.build.specs.Building.{Builds}
+use Rattle.ruletext.specs.RuleText.{textOf, refusedText}
+use Rattle.ruletext.specs.Printing.{unread}
+use Rattle.ruletext.proofs.ForFile.{text-for}
+use borrow.Author.Needs.{needs}
+use Rattle.ruletext.proofs.print_rule.Statement.{statement}
+use Rattle.ruletext.proofs.print_rule.Tie as tie
+
+read-requires : tie.Need-read-requires
+read-requires c κs = search needs
+
+enum-told : tie.Need-enum-told
+enum-told c = search needs
+
+build-rule-requires : tie.Need-build-rule-requires
+build-rule-requires c κs = search needs
+
+print-building-requires : tie.Need-print-building-requires
+print-building-requires c κs = search needs
+
+enum-known-answer : tie.Need-enum-known-answer
+enum-known-answer c = search needs
+
+print-refused-requires : tie.Need-print-refused-requires
+print-refused-requires c κs = search needs
+
+same-length : tie.Need-same-length
+same-length c = search needs
+
+returns : tie.Need-returns
+returns c =
+    let f = c .before .before .before .before .before .before .before .before .before .before .before .args .file .now in
+    let g = c .before .before .before .before .before .before .before .before .read in
+    let a = c .before .before .before .before .build-rule in
+    let e : g .result .answer ≡ Accepted = c .before .before .before .before .before .enum-told .given .1 in
+    let n : refusal f ≡ none = sym (g .ensures .answer) ∙ ap numberOf e in
+    let r : g .result .rule ≡ ruleOf f = g .ensures .rule ∙ ap (λ (o : Option ℕ). ruleBy o f) n in
+    record { text = textOf (a .result); for-file = text-for f n (a .result) (rw r at (a .ensures)); prints = c .before .before .print-building .ensures }
+
+same-length-2 : tie.Need-same-length-2
+same-length-2 c = search needs
+
+returns-2 : tie.Need-returns-2
+returns-2 c =
+    let f = c .before .before .before .before .before .before .before .before .before .before .before .args .file .now in
+    let g = c .before .before .before .before .before .before .before .before .read in
+    let x = c .before .before .before .before .before .answer .given in
+    let e : g .result .answer ≡ Refused (x .0 .0) = x .1 in
+    record { text = refusedText (x .0 .0); for-file = unread (sym (g .ensures .answer) ∙ ap numberOf e); prints = c .before .before .print-refused .ensures }
+
+pub print-rule-spec : {M : Type 1} → statement M
+print-rule-spec =
+    tie.close
+    (tie.spec
+    read-requires
+    enum-told
+    build-rule-requires
+    print-building-requires
+    enum-known-answer
+    print-refused-requires
+    same-length
+    returns
+    same-length-2
+    returns-2)

@@ -1,0 +1,42 @@
+-- `put_delegates` meets its contract. Assumes nothing.
+use native.Mathlib.Omega.{arith}
+use Rattle.ruletext.proofs.Pieces.{put, _then_}
+use borrow.Author.Needs.{needs}
+use Rattle.ruletext.proofs.put_delegates.Statement.{statement}
+use Rattle.ruletext.proofs.put_delegates.Tie as tie
+
+slice-aggregate-put-bytes : tie.Need-slice-aggregate-put-bytes
+slice-aggregate-put-bytes c = search needs
+
+put-bytes-requires : tie.Need-put-bytes-requires
+put-bytes-requires c κs = search needs
+
+put-fields-requires : tie.Need-put-fields-requires
+put-fields-requires c κs = search needs
+
+put-byte-requires : tie.Need-put-byte-requires
+put-byte-requires c κs = search needs
+
+same-length : tie.Need-same-length
+same-length c = search needs
+
+returns : tie.Need-returns
+returns c =
+    let pre = c .before .before .before .before .before .before .before .before .before .before .before .before .before .before .before .pre in
+    let w = c .before .before .before .before .before .before .put-fields in
+    let z = c .before .before .put-byte in
+    let u = put (omega (arith, pre)) (c .before .before .before .before .before .before .before .before .before .before .before .put-bytes .ensures) in
+    let v = put (omega (arith, pre, u, w .ensures .1, w .ensures .0 .ends)) (w .ensures .0) in
+    let x = put (omega (arith, pre, u, v, w .ensures .1)) (z .ensures) in
+    ((u then v then x) .wrote, omega (arith, pre, u, w .ensures .1, z .ensures .ends))
+
+pub put-delegates-spec : {M : Type 1} → statement M
+put-delegates-spec =
+    tie.close
+    (tie.spec
+    slice-aggregate-put-bytes
+    put-bytes-requires
+    put-fields-requires
+    put-byte-requires
+    same-length
+    returns)
