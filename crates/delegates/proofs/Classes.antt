@@ -74,7 +74,7 @@ module _
         joined (new s) s (omega arith) hs (least s hs .has)
 
 -- numbers that agree below n, or the place of a difference
-first-other : (f g : ℕ → ℕ) (n : ℕ) → ((a : ℕ) → a < n → f a ≡ g a) ⊎ ((a : ℕ) × (a < n) × (f a ≡ g a → ⊥))
+pub first-other : (f g : ℕ → ℕ) (n : ℕ) → ((a : ℕ) → a < n → f a ≡ g a) ⊎ ((a : ℕ) × (a < n) × (f a ≡ g a → ⊥))
 first-other f g zero = inl (below-none _)
 first-other f g (suc n) = ⊎-elim (λ all. go all (ℕ-discrete (f n) (g n))) (λ x. inr (x .0, omega (arith, x .1), x .2)) (first-other f g n)
   where
@@ -128,27 +128,39 @@ module _ (sets next : List ℕ) (finals k : ℕ) where
     pub same-self : (s : ℕ) → Together s s
     same-self s = record { here = refl; kind = refl; there = λ a l. refl }
 
+    -- sets go together, or their classes, being final or a symbol tells them apart
+    by-same : {P : Type 0} (s t : ℕ) → (Together s t → P)
+        → ((classOf c s ≡ classOf c t → ⊥) → P)
+        → ((final sets finals s ≡ final sets finals t → ⊥) → P)
+        → ((a : ℕ) → a < k → (classOf c (follow next s a) ≡ classOf c (follow next t a) → ⊥) → P)
+        → P
+    by-same {P} s t same here kind there = go (ℕ-discrete (classOf c s) (classOf c t)) (Bool-discrete (final sets finals s) (final sets finals t))
+      where
+        go : Dec (classOf c s ≡ classOf c t) → Dec (final sets finals s ≡ final sets finals t) → P
+        go (no e) f = here e
+        go (yes e) (no f) = kind f
+        go (yes e) (yes f) =
+            ⊎-elim
+            (λ all. same (record { here = e; kind = f; there = all }))
+            (λ x. there (x .0) (x .1) (x .2))
+            (first-other (λ a. classOf c (follow next s a)) (λ a. classOf c (follow next t a)) k)
+
+    pub decide-same : (s t : ℕ) → Dec (Together s t)
+    decide-same s t = by-same s t (λ x. yes x) (λ e. no (λ x. e (x .here))) (λ e. no (λ x. e (x .kind))) (λ a l e. no (λ x. e (x .there a l)))
+
     -- ---- a round
     module _ (part : Partition c) (d : List ℕ) (changed : Bool) (round : Round sets next finals k c d changed) where
       round-split : (s t : ℕ) → s ≤ 512 → t ≤ 512 → classOf d s ≡ classOf d t → Together s t
       round-split = split Together same-flip same-join (classOf c) (classOf d) same-keeps (round .least)
 
       round-apart : (s t : ℕ) → s ≤ 512 → t ≤ 512 → (Together s t → ⊥) → Apart s t
-      round-apart s t hs ht ne = go (ℕ-discrete (classOf c s) (classOf c t)) (Bool-discrete (final sets finals s) (final sets finals t))
-        where
-          step : ((a : ℕ) × (a < k) × (classOf c (follow next s a) ≡ classOf c (follow next t a) → ⊥)) → Apart s t
-          step x =
-              apart-step s t (x .0) (x .1)
-              (part .apart (follow next s (x .0)) (follow next t (x .0)) (follow-within next s (x .0)) (follow-within next t (x .0)) (x .2))
-
-          go : Dec (classOf c s ≡ classOf c t) → Dec (final sets finals s ≡ final sets finals t) → Apart s t
-          go (no e) f = part .apart s t hs ht e
-          go (yes e) (no f) = apart-kind s t f
-          go (yes e) (yes f) =
-              ⊎-elim
-              (λ all. absurd (ne (record { here = e; kind = f; there = all })))
-              step
-              (first-other (λ a. classOf c (follow next s a)) (λ a. classOf c (follow next t a)) k)
+      round-apart s t hs ht ne =
+          by-same s t
+          (λ x. absurd (ne x))
+          (part .apart s t hs ht)
+          (apart-kind s t)
+          (λ a l e.
+          apart-step s t a l (part .apart (follow next s a) (follow next t a) (follow-within next s a) (follow-within next t a) e))
 
       pub next-partition : Partition d
       next-partition = record {

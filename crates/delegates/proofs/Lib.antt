@@ -4,6 +4,7 @@ pub mod Lists
 pub mod Numbers
 pub mod Classes
 pub mod Merging
+pub mod Exists
 pub mod Alike
 pub mod Acceptance
 pub mod Claims

@@ -26,17 +26,18 @@ one-at-most : (b : Bool) → cond b 1 0 ≤ 1
 one-at-most true = omega arith
 one-at-most false = omega arith
 
-module _ (sets next : List ℕ) (finals most k : ℕ) (class : List ℕ) where
-  abbrev Kin : ℕ → ℕ → Type 0
-  Kin p u = AlikeSets sets next finals k (numberOf sets most p) (numberOf sets most u)
+-- states with alike sets
+abbrev pub Kin : List ℕ → List ℕ → ℕ → ℕ → ℕ → ℕ → ℕ → Type 0
+Kin sets next finals most k p u = AlikeSets sets next finals k (numberOf sets most p) (numberOf sets most u)
 
+module _ (sets next : List ℕ) (finals most k : ℕ) (class : List ℕ) where
   pub record Merging (own delegates : List ℕ) (starts q : ℕ) : Type 0 where
     pub small : most ≤ 512
     pub classes : Classes sets next finals k class
     pub own-cells : length own ≡ 32
     pub own-class : (b : ℕ) → b < q → classOf own b ≡ classOf class (numberOf sets most b)
     pub cells : length delegates ≡ 32
-    pub least : (b : ℕ) → b < q → Least Kin 0 b (getD delegates b 0)
+    pub least : (b : ℕ) → b < q → Least (Kin sets next finals most k) 0 b (getD delegates b 0)
     pub zeros : (b : ℕ) → q ≤ b → getD delegates b 0 ≡ 0
     pub counted : starts ≡ startCount delegates q
     pub few : starts ≤ q
@@ -58,7 +59,7 @@ module _ (sets next : List ℕ) (finals most k : ℕ) (class : List ℕ) where
   module _ (own delegates : List ℕ) (starts q : ℕ) (before : Merging own delegates starts q) (h : q < 32) where
     -- states with sets of one class have alike sets, and the other way round
     delegated : (o : List ℕ) (d : ℕ) → ((b : ℕ) → b < q + 1 → classOf o b ≡ classOf class (numberOf sets most b))
-        → Least (λ p u. classOf o p ≡ classOf o u) 0 q d → Least Kin 0 q d
+        → Least (λ p u. classOf o p ≡ classOf o u) 0 q d → Least (Kin sets next finals most k) 0 q d
     delegated o d same x =
         let small = before .small in
         let m = x .most in
@@ -97,7 +98,8 @@ module _ (sets next : List ℕ) (finals most k : ℕ) (class : List ℕ) where
             own-cells = simp length-set (before .own-cells);
             own-class = same;
             cells = simp length-set (before .cells);
-            least = stored (λ b y. Least Kin 0 b y) delegates q d long (before .least) (delegated (set own q (classOf class x)) d same lowest);
+            least = stored (λ b y. Least (Kin sets next finals most k) 0 b y) delegates q d long (before .least)
+                (delegated (set own q (classOf class x)) d same lowest);
             zeros = λ b l. getD-set-other delegates q b d 0 (λ z. omega arith) ∙ before .zeros b (omega arith);
             counted = e ∙ sym counts;
             few = omega (arith, before .few);

@@ -26,6 +26,8 @@ pub record Claims : Type 1 where
   pub singles : (r : Rule) → WellFormed r → fits r → (q : ℕ) → q < r .n
       → (numberOf (setCells (r .targets) (r .n) (r .k)) (length (setsOf (r .targets) (r .n) (r .k))) q < length (setsOf (r .targets) (r .n) (r .k)))
       × (getD (setsOf (r .targets) (r .n) (r .k)) (numberOf (setCells (r .targets) (r .n) (r .k)) (length (setsOf (r .targets) (r .n) (r .k))) q) 0 ≡ single q)
+  -- what merge_starts ensures can be met, whatever the arrays hold
+  pub exists : (sets next : List ℕ) (finals count n k : ℕ) → (s : Starts) × MergedSets sets next finals count n k s
   -- alike is an equivalence
   pub alike-self : (a : Automaton) (q : ℕ) → Alike a q q
   pub alike-back : (a : Automaton) (q r : ℕ) → Alike a q r → Alike a r q
