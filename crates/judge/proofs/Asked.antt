@@ -92,11 +92,11 @@ verdict-says h j good =
     (cond (eqb (emptiesIn (j .built .delegates) h) 0) (cond (yesIn (j .built .delegates) h) (keeps (summedIn (j .built .delegates) h)) (breaks (summedIn (j .built .delegates) h))) (waiting (emptiesIn (j .built .delegates) h)))
     (no-board (fileOf h) (placesIn h) s j good)
     (λ b.
-        let y = by-rule (fileOf h) (placesIn h) s j good (positive b) in
-        says-cond (eqb (emptyPlaces (j .board)) 0) (cond (isYes j) (Yes (summedCount (j .board))) (No (summedCount (j .board)))) (Waiting (emptyPlaces (j .board)))
-        ∙ ap (λ (r : Reply). cond (eqb (emptyPlaces (j .board)) 0) r (waiting (emptyPlaces (j .board)))) (says-cond (isYes j) (Yes (summedCount (j .board))) (No (summedCount (j .board))))
-        ∙ ap (λ (e : ℕ). cond (eqb e 0) (cond (isYes j) (keeps (summedCount (j .board))) (breaks (summedCount (j .board)))) (waiting e)) empties
-        ∙ ap₂ (λ (t : Bool) (c : ℕ). cond (eqb (emptiesIn (j .built .delegates) h) 0) (cond t (keeps c) (breaks c)) (waiting (emptiesIn (j .built .delegates) h))) y count)
+    let y = by-rule (fileOf h) (placesIn h) s j good (positive b) in
+    says-cond (eqb (emptyPlaces (j .board)) 0) (cond (isYes j) (Yes (summedCount (j .board))) (No (summedCount (j .board)))) (Waiting (emptyPlaces (j .board)))
+    ∙ ap (λ (r : Reply). cond (eqb (emptyPlaces (j .board)) 0) r (waiting (emptyPlaces (j .board)))) (says-cond (isYes j) (Yes (summedCount (j .board))) (No (summedCount (j .board))))
+    ∙ ap (λ (e : ℕ). cond (eqb e 0) (cond (isYes j) (keeps (summedCount (j .board))) (breaks (summedCount (j .board)))) (waiting e)) empties
+    ∙ ap₂ (λ (t : Bool) (c : ℕ). cond (eqb (emptiesIn (j .built .delegates) h) 0) (cond t (keeps c) (breaks c)) (waiting (emptiesIn (j .built .delegates) h))) y count)
   where
     positive : eqb (placesIn h) 0 ≡ false → 0 < placesIn h
     positive b = let ne = eqb-false (placesIn h) 0 b in omega arith

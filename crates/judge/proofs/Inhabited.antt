@@ -11,9 +11,8 @@ use denote.Ref.{RefT, now}
 use Rattle.masks.specs.Lists.{listFrom}
 use Rattle.rulefile.specs.Reader.{ruleOf}
 use Rattle.subsets.specs.Sets.{setsOf, setCells, nextCells}
-use Rattle.delegates.specs.declared.Starts.{Starts}
-use Rattle.delegates.specs.Classes.{numberOf, MergedSets}
-use Rattle.delegates.specs.Claims.{MergedRule}
+use Rattle.delegates.specs.Classes.{numberOf}
+use Rattle.delegates.proofs.Exists.{merged-exists}
 use Rattle.build.specs.declared.Built.{Built}
 use Rattle.build.specs.Building.{BuiltRule}
 use Rattle.automaton.specs.declared.Rule.{Rule}
@@ -22,13 +21,9 @@ use Rattle.judge.specs.declared.Judge.{Judge}
 use Rattle.judge.specs.declared.Loading.{Loading}
 use Rattle.judge.specs.declared.LoadAnswer.the-variants.{Accepted, Refused}
 use Rattle.judge.specs.History.{Call, loads, opens, delivers, withdraws, asks, loadNumber}
-use Rattle.judge.specs.Calls.{fresh, openOf, deliverOf, withdrawOf, Loads}
-use Rattle.judge.proofs.Tied.{MayLoad, Ran, start, loaded, opened, delivered, withdrawn, asked}
-
---TEMP
-merged-exists : (sets next : List ℕ) (finals count n k : ℕ) → (s : Starts) × MergedSets sets next finals count n k s
-merged-exists sets next finals count n k = ?
---TEMP
+use Rattle.judge.specs.Replies.{Reply, loadSays, openSays, deliverSays, withdrawSays, verdictSays}
+use Rattle.judge.specs.Calls.{fresh, openOf, deliverOf, withdrawOf, verdictOf, Loads}
+use Rattle.judge.proofs.Tied.{Ran, start, loaded, opened, delivered, withdrawn, asked}
 
 -- a reference to a list, somewhere
 abbrev lent : List ℕ → RefT (List ℕ)
@@ -89,13 +84,25 @@ a-loading j f (some x) e = (
   },
 )
 
-pub every-list-runs : (h : List Call) → (j : Judge) × Ran h j
-every-list-runs [] = (fresh, start (tt, refl))
+pub every-list-runs : (h : List Call) → (given : List Reply) × (j : Judge) × Ran h given j
+every-list-runs [] = ([], fresh, start (tt, refl))
 every-list-runs (loads f ∷ h) =
     let q = every-list-runs h in
-    let r = a-loading (q .0) f (loadNumber f) refl in
-    (r .0 .judge, loaded (q .1) (([], tt), lent f, (q .0, (lent f, tt)), refl, r .1))
-every-list-runs (opens n ∷ h) = let q = every-list-runs h in (openOf (q .0) n .judge, opened {r = openOf (q .0) n} (q .1) ((q .0, (n, tt)), refl))
-every-list-runs (delivers p w ∷ h) = let q = every-list-runs h in (deliverOf (q .0) p w .judge, delivered {r = deliverOf (q .0) p w} (q .1) (([], tt), lent w, (q .0, (p, (lent w, tt))), refl, refl))
-every-list-runs (withdraws p ∷ h) = let q = every-list-runs h in (withdrawOf (q .0) p .judge, withdrawn {r = withdrawOf (q .0) p} (q .1) ((q .0, (p, tt)), refl))
-every-list-runs (asks ∷ h) = let q = every-list-runs h in (q .0, asked (q .1))
+    let r = a-loading (q .1) f (loadNumber f) refl in
+    (loadSays (r .0 .answer) ∷ q .0, r .0 .judge, loaded (q .2) (([], tt), lent f, (q .1, (lent f, tt)), refl, r .1))
+every-list-runs (opens n ∷ h) =
+    let q = every-list-runs h in
+    let r = openOf (q .1) n in
+    (openSays (r .answer) ∷ q .0, r .judge, opened {r = r} (q .2) ((q .1, (n, tt)), refl))
+every-list-runs (delivers p w ∷ h) =
+    let q = every-list-runs h in
+    let r = deliverOf (q .1) p w in
+    (deliverSays (r .answer) ∷ q .0, r .judge, delivered {r = r} (q .2) (([], tt), lent w, (q .1, (p, (lent w, tt))), refl, refl))
+every-list-runs (withdraws p ∷ h) =
+    let q = every-list-runs h in
+    let r = withdrawOf (q .1) p in
+    (withdrawSays (r .answer) ∷ q .0, r .judge, withdrawn {r = r} (q .2) ((q .1, (p, tt)), refl))
+every-list-runs (asks ∷ h) =
+    let q = every-list-runs h in
+    let v = verdictOf (q .1) in
+    (verdictSays v ∷ q .0, q .1, asked {v = v} (q .2) ((q .1, tt), refl))

@@ -8,3 +8,4 @@ pub mod Asked
 pub mod Words
 pub mod Tied
 pub mod Inhabited
+pub mod Refusing

@@ -163,11 +163,11 @@ module _ (h : List Call) (j : Judge) (good : Good h j) (p : ℕ) (w : List ℕ) 
       by-test (ltb 0 (placesIn h))
       (λ l. absurd (let z : true ≡ false = holds .ruled (ltb-true 0 (placesIn h) l) in let y : _≡_ {A = ℕ} 0 1 = cc in omega arith))
       (λ l.
-          absurd
-          (let z : placesIn h ≡ 0 = omega (arith, ltb-false 0 (placesIn h) l) in
-          let y : some 21 ≡ none = rw (eq-eqb (placesIn h) 0 z) at e in
-          let x : _≡_ {A = ℕ} 0 1 = cc in
-          omega arith))
+      absurd
+      (let z : placesIn h ≡ 0 = omega (arith, ltb-false 0 (placesIn h) l) in
+      let y : some 21 ≡ none = rw (eq-eqb (placesIn h) 0 z) at e in
+      let x : _≡_ {A = ℕ} 0 1 = cc in
+      omega arith))
   kept-chunk (some f) holds e =
       let s = standing (j .built .delegates) h in
       let a = passed 21 (eqb (placesIn h) 0) (list-11 (ruleOf f) (j .built .delegates) (placesIn h) s p w) e in

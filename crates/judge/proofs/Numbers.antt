@@ -71,9 +71,9 @@ module _ (file : Option (List ℕ)) (places : ℕ) (at : ℕ → Option (List �
       (firstOf (on 11 (leb places p) ∷ on 23 (isNone (at p)) ∷ []))
       no-board
       (λ b.
-          same-test 11 (leb (placesOf (j .board)) p) (leb places p) (cond (isEmpty (j .board) p) (some 23) none) (cond (isNone (at p)) (some 23) none)
-          (ap (λ (x : ℕ). leb x p) places-same)
-          (λ l. ap (λ (t : Bool). cond t (some 23) none) (holds .empty p (omega (arith, leb-false places p l, holds .few)))))
+      same-test 11 (leb (placesOf (j .board)) p) (leb places p) (cond (isEmpty (j .board) p) (some 23) none) (cond (isNone (at p)) (some 23) none)
+      (ap (λ (x : ℕ). leb x p) places-same)
+      (λ l. ap (λ (t : Bool). cond t (some 23) none) (holds .empty p (omega (arith, leb-false places p l, holds .few)))))
 
 -- ---- a delivery
 -- the number from the test with a given number on, read off the state
@@ -122,9 +122,9 @@ module _ (f : List ℕ) (places : ℕ) (at : ℕ → Option (List ℕ)) (j : Jud
       same-test 13 (foreign w (j .built .k)) (foreign w (ruleOf f .k)) (state-22 j p w) (list-22 (ruleOf f) (j .built .delegates) places at p w)
       (ap (foreign w) (k-same (ruleOf f) (holds .rule .1) (holds .rule .2) (j .built) (holds .rule .0)))
       (λ fine.
-          same-test 22 (not (isEmpty (j .board) p)) (isSome (at p)) (state-24 j p w) (list-24 (ruleOf f) (j .built .delegates) places at p w)
-          (ap not (holds .empty p (omega (arith, h, holds .few))) ∙ not-none (at p))
-          (λ _. from-24 (chunks.claims .text-law w (ruleOf f .k) .0 fine)))
+      same-test 22 (not (isEmpty (j .board) p)) (isSome (at p)) (state-24 j p w) (list-24 (ruleOf f) (j .built .delegates) places at p w)
+      (ap not (holds .empty p (omega (arith, h, holds .few))) ∙ not-none (at p))
+      (λ _. from-24 (chunks.claims .text-law w (ruleOf f .k) .0 fine)))
 
   from-12 : state-12 j p w ≡ list-12 (ruleOf f) (j .built .delegates) places at p w
   from-12 = ap (cond (ltb 65536 (length w)) (some 12)) from-13
@@ -142,6 +142,6 @@ module _ (places : ℕ) (at : ℕ → Option (List ℕ)) (j : Judge) (p : ℕ) (
       same-test 21 (noBoard j) (eqb places 0) (state-11 j p w) (list-11 (ruleBy file) (j .built .delegates) places at p w)
       (no-board file places at j holds)
       (λ _.
-          same-test 11 (leb (placesOf (j .board)) p) (leb places p) (state-12 j p w) (list-12 (ruleBy file) (j .built .delegates) places at p w)
-          (ap (λ (x : ℕ). leb x p) (places-same file places at j holds))
-          (λ l. by-rule file holds (leb-false places p l)))
+      same-test 11 (leb (placesOf (j .board)) p) (leb places p) (state-12 j p w) (list-12 (ruleBy file) (j .built .delegates) places at p w)
+      (ap (λ (x : ℕ). leb x p) (places-same file places at j holds))
+      (λ l. by-rule file holds (leb-false places p l)))

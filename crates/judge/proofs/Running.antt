@@ -35,8 +35,8 @@ module _ (r : Rule) (good : WellFormed r) (fit : fits r) (b : Built) (is : Built
   run-below zero =
       below-of (r .n) (runSet (b .delegates) (r .n) (r .initials) 0)
       (λ q e.
-          let u = chunks.claims .delegate-law (b .delegates) (r .n) (r .initials) q .0 e in
-          subst (λ (x : ℕ). x < r .n) (sym (u .3)) (delegate-below (u .0) (u .1)))
+      let u = chunks.claims .delegate-law (b .delegates) (r .n) (r .initials) q .0 e in
+      subst (λ (x : ℕ). x < r .n) (sym (u .3)) (delegate-below (u .0) (u .1)))
   run-below (suc p) =
       below-of (r .n) (runSet (b .delegates) (r .n) (r .initials) (suc p))
       (λ q e. chunks.claims .start-law (b .delegates) (r .n) q .0 e .0)

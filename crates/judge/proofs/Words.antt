@@ -13,7 +13,7 @@ use native.Mathlib.Omega.{arith}
 use lib.Dec.{eqb, ltb}
 use lib.ListN.{length, getD, length-append, List·getD-append}
 use lib.Seq.{getD-at}
-use borrow.Author.Tests.{eq-eqb, ne-eqb, eqb-true, eqb-false, ltb-true, ltb-false}
+use borrow.Author.Tests.{lt-ltb, eq-eqb, ne-eqb, eqb-true, eqb-false, ltb-true, ltb-false}
 use Rattle.masks.specs.Masks.{has}
 use Rattle.masks.specs.Lists.{listFrom}
 use Rattle.masks.proofs.Cases.{by-test}
@@ -21,7 +21,9 @@ use Rattle.masks.proofs.Lists.{cell-of}
 use Rattle.automaton.specs.declared.Rule.{Rule}
 use Rattle.automaton.specs.Automaton.{Accepts}
 use Rattle.automaton.specs.Rules.{automatonOf, WellFormed}
+use Rattle.rulefile.specs.Conditions.{outside}
 use Rattle.rulefile.specs.Reader.{ruleOf}
+use Rattle.rulefile.proofs.Conditions.{or-left}
 use Rattle.delegates.specs.Alike.{Text, Merged}
 use Rattle.chunks.specs.Chunks.{counted, runSet, endSet, total, chunkCount}
 use Rattle.chunks.proofs.Claims as chunks
@@ -31,10 +33,11 @@ use Rattle.board.proofs.Claims as board
 use Rattle.board.proofs.Totals.{total-same, term-most}
 use Rattle.judge.specs.declared.Judge.{Judge}
 use Rattle.judge.specs.Replies.{Reply, waiting, keeps, breaks, refused}
-use Rattle.judge.specs.History.{Call, isNone, fileOf, ruleBy, ruleIn, placesIn, countOf, endOf, standing, emptiesIn, summedIn, yesIn, verdictIn, chunkOf, joinedUpTo, textIn}
+use Rattle.judge.specs.History.{Call, loads, opens, delivers, withdraws, asks, isNone, loadNumber, fileOf, ruleBy, ruleIn, openNumber, boardIn, placesIn, countOf, endOf, standing, emptiesIn, summedIn, yesIn, verdictIn, chunkOf, joinedUpTo, textIn}
 use Rattle.judge.specs.Claims.{Verdict-words}
 use Rattle.judge.proofs.Running.{merged}
 use Rattle.judge.proofs.Holding.{Holds}
+use Rattle.judge.proofs.Numbers.{passed}
 use Rattle.judge.proofs.Listed.{Good}
 
 -- ---- the verdict by its numbers
@@ -54,13 +57,13 @@ module _ (places empties : ℕ) (yes-there : Bool) (sum : ℕ) where
       by-test (eqb places 0)
       (λ p. no-board (eqb-true places 0 p) (rw p))
       (λ p.
-          let np = eqb-false places 0 p in
-          by-test (eqb empties 0)
-          (λ e.
-              by-test yes-there
-              (λ y. says-yes (omega arith) (eqb-true empties 0 e) y (rw (p, e, y)))
-              (λ y. says-no (omega arith) (eqb-true empties 0 e) y (rw (p, e, y))))
-          (λ e. let ne = eqb-false empties 0 e in waits (omega arith) (omega arith) (rw (p, e))))
+      let np = eqb-false places 0 p in
+      by-test (eqb empties 0)
+      (λ e.
+      by-test yes-there
+      (λ y. says-yes (omega arith) (eqb-true empties 0 e) y (rw (p, e, y)))
+      (λ y. says-no (omega arith) (eqb-true empties 0 e) y (rw (p, e, y))))
+      (λ e. let ne = eqb-false empties 0 e in waits (omega arith) (omega arith) (rw (p, e))))
 
 absurd-reply : {A : Type 0} → _≡_ {A = ℕ} 0 1 → A
 absurd-reply z = absurd (omega arith)
@@ -111,6 +114,18 @@ module _ (places empties : ℕ) (t : Bool) (sum : ℕ) where
       to (says-yes p q y e) = absurd-reply (cc)
       to (says-no p q y e) = cc
 
+  no-law : 0 < places → empties ≡ 0 → (by-numbers places empties t sum ≡ breaks sum) ↔ (t ≡ false)
+  no-law p e = (
+    (λ x. to (which places empties t sum) x),
+    λ y. rw (ne-eqb places 0 (λ z. absurd (omega arith)), eq-eqb empties 0 e, y),
+  )
+    where
+      to : Which places empties t sum → by-numbers places empties t sum ≡ breaks sum → t ≡ false
+      to (no-board z w) x = absurd (omega arith)
+      to (waits z w v) x = absurd (omega arith)
+      to (says-yes z w y v) x = absurd-reply (cc)
+      to (says-no z w y v) x = y
+
   yes-law : 0 < places → empties ≡ 0 → (by-numbers places empties t sum ≡ keeps sum) ↔ (t ≡ true)
   yes-law p e = (
     (λ x. to (which places empties t sum) x),
@@ -146,10 +161,10 @@ module _ (at : ℕ → Option (List ℕ)) where
       by-test (ltb p n)
       (λ l. List·getD-append (chunksUpTo at n) (chunkOf (at n) ∷ []) [] p (rw (chunks-length n) (ltb-true p n l)) ∙ chunk-at n p (ltb-true p n l))
       (λ l.
-          let g = ltb-false p n l in
-          let e : n ≡ p = omega arith in
-          subst (λ (x : ℕ). getD (chunksUpTo at n ++ (chunkOf (at n) ∷ [])) x [] ≡ chunkOf (at x)) e
-          (getD-at (chunksUpTo at n) (chunkOf (at n)) [] [] n (chunks-length n)))
+      let g = ltb-false p n l in
+      let e : n ≡ p = omega arith in
+      subst (λ (x : ℕ). getD (chunksUpTo at n ++ (chunkOf (at n) ∷ [])) x [] ≡ chunkOf (at x)) e
+      (getD-at (chunksUpTo at n) (chunkOf (at n)) [] [] n (chunks-length n)))
 
   joined-is : (n : ℕ) → joinedUpTo at n ≡ flatten (chunksUpTo at n)
   unfolding chunksUpTo joinedUpTo flatten
@@ -196,7 +211,7 @@ module _ (r : Rule) (good : WellFormed r) (d : List ℕ) (m : ℕ) (merged-is : 
       total-same (λ p. countOf r d p (at p)) (λ p. chunkCount (r .targets) (runSet d (r .n) (r .initials) p) (getD ws p [])) places
       (λ p l. count-is p (at p) ∙ ap (chunkCount (r .targets) (runSet d (r .n) (r .initials) p)) (sym (chunk-at at places p l)))
       ∙ ap (total (λ p. chunkCount (r .targets) (runSet d (r .n) (r .initials) p) (getD ws p []))) (sym (chunks-length at places)) in
-      rw (e, joined-is at places) (board.claims chunks.claims .count-most r good d m merged-is ws)
+      rw (e, joined-is at places) (board.claims .count-most r good d m merged-is ws)
 
   filled : (p : ℕ) (o : Option (List ℕ)) → isNone o ≡ false → (q : ℕ) → endOf r d p q o ≡ endSet (r .targets) (runSet d (r .n) (r .initials) p) (chunkOf o) q
   filled p none e q = absurd (let z : _≡_ {A = ℕ} 0 1 = cc in omega arith)
@@ -218,7 +233,7 @@ module _ (r : Rule) (good : WellFormed r) (d : List ℕ) (m : ℕ) (merged-is : 
       subst₂ (λ (x : ℕ) (y : List ℕ). (saysYes ends d (r .n) (r .initials) (r .finals) x ≡ true) ↔ Accepts (automatonOf r) y)
       (chunks-length at places)
       (sym (joined-is at places))
-      (board.claims chunks.claims .join r good d m merged-is ends ws (chunk-texts (r .k) at texts places) holds)
+      (board.claims .join r good d m merged-is ends ws (chunk-texts (r .k) at texts places) holds)
     where
       holds : board-specs.Holds r d (listFrom 0 2048 (λ cell. endOf r d (cell / 32) (cell % 32) (at (cell / 32)))) (chunksUpTo at places)
       holds p l q b =
@@ -261,15 +276,55 @@ module _ (places : ℕ) (at : ℕ → Option (List ℕ)) (j : Judge) where
       (holds .texts)
       z
 
+-- a board is there exactly where it has places
+opened-places : (n : ℕ) → outside 1 64 n ≡ false → 0 < n
+opened-places n e = ltb-false n 1 (or-left (ltb n 1) (ltb 64 n) e)
+
+board-law : (h : List Call) → boardIn h ≡ ltb 0 (placesIn h)
+unfolding boardIn placesIn
+board-law [] = refl
+board-law (loads f ∷ h) = by-test (isNone (loadNumber f)) (λ e. rw e) (λ e. rw e (board-law h))
+board-law (opens n ∷ h) =
+    by-test (isNone (openNumber h n))
+    (λ e. rw e (sym (lt-ltb 0 n (opened-places n (accepted-opening (openNumber h n) refl e)))))
+    (λ e. rw e (board-law h))
+  where
+    accepted-opening : (o : Option ℕ) → openNumber h n ≡ o → isNone o ≡ true → outside 1 64 n ≡ false
+    accepted-opening none z t =
+        let a = passed 20 (isNone (fileOf h)) (cond (outside 1 64 n) (some 10) none) z in
+        passed 10 (outside 1 64 n) none (a .1) .0
+    accepted-opening (some x) z t = absurd (let y : _≡_ {A = ℕ} 0 1 = cc in omega arith)
+board-law (delivers p w ∷ h) = board-law h
+board-law (withdraws p ∷ h) = board-law h
+board-law (asks ∷ h) = board-law h
+
+there : (h : List Call) → boardIn h ≡ true → 0 < placesIn h
+there h e = ltb-true 0 (placesIn h) (sym (board-law h) ∙ e)
+
+not-true-false : (t : Bool) {A : Type 0} → (t ≡ true) ↔ A → (t ≡ false) ↔ (A → ⊥)
+not-true-false true law = (λ e. absurd (let y : _≡_ {A = ℕ} 0 1 = cc in omega arith), λ n. absurd (n (law .0 refl)))
+not-true-false false law = (λ e a. let z = law .1 a in let y : _≡_ {A = ℕ} 0 1 = cc in omega arith, λ n. refl)
+
 pub words : (h : List Call) (j : Judge) → Good h j → Verdict-words h (j .built .delegates) (j .built .starts)
 words h j good =
     let d = j .built .delegates in
     let s = standing (j .built .delegates) h in
     record {
-      none-there = refused-law (placesIn h) (emptiesIn d h) (yesIn d h) (summedIn d h);
-      waits = waiting-law (placesIn h) (emptiesIn d h) (yesIn d h) (summedIn d h);
+      none-there = both (refused-law (placesIn h) (emptiesIn d h) (yesIn d h) (summedIn d h)) (
+        (λ z. board-law h ∙ rw z),
+        λ e. omega (arith, ltb-false 0 (placesIn h) (sym (board-law h) ∙ e)),
+      );
+      waits = λ e. both (waiting-law (placesIn h) (emptiesIn d h) (yesIn d h) (summedIn d h) e) (
+        (λ x. (board-law h ∙ lt-ltb 0 (placesIn h) (x .0), x .1, x .2)),
+        λ x. (there h (x .0), x .1, x .2),
+      );
       counted = yes-count (placesIn h) (emptiesIn d h) (yesIn d h) (summedIn d h);
       counted-no = no-count (placesIn h) (emptiesIn d h) (yesIn d h) (summedIn d h);
       most = most-by (placesIn h) s j (fileOf h) good;
-      accepts = λ p e. both (yes-law (placesIn h) (emptiesIn d h) (yesIn d h) (summedIn d h) p e) (accepts-by (placesIn h) s j (fileOf h) good p e);
+      accepts = λ b e.
+          both (yes-law (placesIn h) (emptiesIn d h) (yesIn d h) (summedIn d h) (there h b) e) (accepts-by (placesIn h) s j (fileOf h) good (there h b) e);
+      rejects = λ b e.
+          both (no-law (placesIn h) (emptiesIn d h) (yesIn d h) (summedIn d h) (there h b) e)
+          (not-true-false (yesIn d h) (accepts-by (placesIn h) s j (fileOf h) good (there h b) e));
+      joins = λ b e. yes-law (placesIn h) (emptiesIn d h) (yesIn d h) (summedIn d h) (there h b) e;
     }

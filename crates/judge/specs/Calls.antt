@@ -1,5 +1,6 @@
--- What each call answers and what state it leaves, for any state whatever. A refusal leaves the state as it was. What a call says beyond that of
--- a state that no list of calls leaves is free, and is what is written here; specs/Claims.antt says what it comes to after a list of calls.
+-- What each call answers and what state it leaves, for any state whatever. A refusal leaves the state as it was. On a state that no list of
+-- calls leaves, document 01 leaves the answer free, and the next state where the call accepts; what stands here is what this code does.
+-- specs/Claims.antt says what it comes to after a list of calls.
 --
 --   fresh              no rule and no board: zeros
 --   Loads j f r        r is what a load of the file f may answer

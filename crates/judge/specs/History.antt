@@ -3,15 +3,16 @@
 --
 --   loadNumber f             the number with which a load is refused, 1 to 9, or none where it is accepted
 --   fileOf h, ruleIn h       the file of the last accepted load, and its rule
---   openNumber h n           the same for an opening: 20, 10
---   placesIn h               the places of the board; 0 where no board is there
+--   openNumber h n           the number with which an opening is refused: 20, 10
+--   boardIn h                a board is there: the last accepted call among loads and openings is an opening
+--   placesIn h               its places; 0 where no board is there
 --   standing d h p           the standing chunk at place p, or none
 --   endAt d h p q, countAt d h p   what place p holds: the end set of state q, and the count
 --   deliverNumber, withdrawNumber  21, 11, 12, 13, 22, 24 and 21, 11, 23
 --   emptiesIn d h, summedIn d h    how many places are empty, and the sum of the counts
+--   yesIn d h, verdictIn d h       the join of the end sets says yes; the verdict
 --   textIn d h               the standing chunks joined by place
 --   answerOf d h c           what document 01 answers to the call c after the calls h
-use mathlib.Core.Path.{_≡_}
 use mathlib.Core.Bool.{Bool, true, false, cond, _&&_}
 use mathlib.Core.List.{List, [], _∷_, _++_}
 use mathlib.Core.Option.{Option, none, some}
@@ -35,7 +36,7 @@ pub data Call : Type 0 where
   withdraws : ℕ → Call
   asks : Call
 
--- nothing, something
+-- whether there is a value
 abbrev pub isNone : {A : Type 0} → Option A → Bool
 isNone none = true
 isNone (some x) = false
@@ -70,6 +71,14 @@ ruleIn h = ruleBy (fileOf h)
 -- ---- which board is there
 abbrev pub openNumber : List Call → ℕ → Option ℕ
 openNumber h n = firstOf (on 20 (isNone (fileOf h)) ∷ on 10 (outside 1 64 n) ∷ [])
+
+unfoldable pub boardIn : List Call → Bool
+boardIn [] = false
+boardIn (loads f ∷ h) = cond (isNone (loadNumber f)) false (boardIn h)
+boardIn (opens n ∷ h) = cond (isNone (openNumber h n)) true (boardIn h)
+boardIn (delivers p w ∷ h) = boardIn h
+boardIn (withdraws p ∷ h) = boardIn h
+boardIn (asks ∷ h) = boardIn h
 
 unfoldable pub placesIn : List Call → ℕ
 placesIn [] = 0

@@ -85,7 +85,7 @@ fn with_board(judge: Judge, board: Board) -> Judge
     Judge { built, board }
 }
 
-// The number of places that a board can have at most; any number above 64 counts as 64.
+// The number of places of a board; any number above 64 counts as 64.
 fn places_of(board: Board) -> usize
     ensures { λ r. ⌜ r ≡ placesOf board ⌝ }
 {
