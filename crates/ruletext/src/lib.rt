@@ -118,10 +118,10 @@ fn put_delegates(out: &mut [u8], at: usize, delegates: &[u8; 32], n: usize) -> u
     requires { ⌜ (n ≤ 32) × (at + 138 ≤ length (now out)) ⌝ }
     ensures { λ r. ⌜ (Wrote (now (out .entry)) at (delegatesLine (now (delegates .entry)) n) (now (out .exit)) r) × (r ≤ at + 138) ⌝ }
 {
-    let a = text::put_bytes(out, at, b"delegates");
+    let first = text::put_bytes(out, at, b"delegates");
     let fields: &[u8] = delegates;
-    let b = put_fields(out, a, fields, n);
-    text::put_byte(out, b, b'\n')
+    let end = put_fields(out, first, fields, n);
+    text::put_byte(out, end, b'\n')
 }
 
 fn put_head(out: &mut [u8], at: usize, count: usize, starts: u8) -> usize
