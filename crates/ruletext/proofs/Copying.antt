@@ -5,7 +5,7 @@
 --   taken       a text that was written from the start is read back
 --   within      the length that an answer tells is within the buffer
 --   whole       a rule's text is its first line, its sets' lines and its last line
-use mathlib.Core.Path.{_≡_, refl, sym, ap, _∙_}
+use mathlib.Core.Path.{_≡_, sym, ap, _∙_}
 use mathlib.Core.Bool.{cond}
 use mathlib.Core.List.{List, _++_}
 use mathlib.Core.Option.{none, some}
@@ -25,7 +25,7 @@ use Rattle.ruletext.specs.declared.Printed.the-variants.{Bytes, Short}
 use Rattle.ruletext.specs.RuleText.{setLine, headLine, delegatesLine, ruleText}
 use Rattle.ruletext.specs.Printing.{Prints}
 use Rattle.ruletext.proofs.Pieces.{put, _then_}
-use Rattle.ruletext.proofs.Lengths.{head-most, lines-most}
+use Rattle.ruletext.proofs.Lengths.{lines-most}
 
 pub too-short : (text before : List ℕ) → length before < length text → Prints text before before Short
 too-short text before h = let e = lt-ltb (length before) (length text) h in record { answer = rw e; buffer = rw e }
@@ -41,18 +41,16 @@ taken {text} {before} {after} {end} w =
     ap (take end) (w .is) ∙ take-at text (drop (0 + length text) before) end (omega (arith, w .ends))
 
 pub whole : (b : Built) (count k n : ℕ) {out m₁ m₂ after : List ℕ} {lines last end : ℕ}
-    → count ≡ min (b .count) 512 → k ≡ min (b .k) 16 → n ≡ min (b .n) 32 → b .starts < 256 → 39582 ≤ length out
-    → Wrote out 0 (headLine count (b .starts)) m₁ lines
+    → count ≡ min (b .count) 512 → k ≡ min (b .k) 16 → n ≡ min (b .n) 32 → 39582 ≤ length out
+    → Wrote out 0 (headLine count (b .starts)) m₁ lines × (lines ≤ 20)
     → Wrote m₁ lines (joined (setLine (b .sets) (b .next) k) count) m₂ last
-    → Wrote m₂ last (delegatesLine (b .delegates) n) after end
-    → end ≤ last + 138
+    → Wrote m₂ last (delegatesLine (b .delegates) n) after end × (end ≤ last + 138)
     → Wrote out 0 (ruleText b) after end × (end ≤ 39582)
-whole b count k n {out} {m₁} {m₂} {after} {lines} {last} {end} count-is k-is n-is starts room first sets delegates short =
-    let h = head-most count (b .starts) (omega arith) starts in
+whole b count k n {out} {m₁} {m₂} {after} {lines} {last} {end} count-is k-is n-is room first sets delegates =
     let l = lines-most (b .sets) (b .next) k (omega arith) count (omega arith) in
-    let u = put (omega arith) first in
+    let u = put (omega (arith, first .0 .ends)) (first .0) in
     let v = put (omega arith) sets in
-    let w = put (omega (arith, delegates .ends)) delegates in
+    let w = put (omega (arith, delegates .0 .ends)) (delegates .0) in
     (rw (sym count-is, sym k-is, sym n-is) ((u then v then w) .wrote), omega arith)
 
 pub within : {text before after : List ℕ} {r : Printed} {n : ℕ} → Prints text before after r → r ≡ Bytes n → n ≤ length before

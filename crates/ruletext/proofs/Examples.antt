@@ -1,11 +1,11 @@
 -- Two cases of table P of document 01, for the rules as files. P1, by computation: A has the sets 1 3 5 2 4. P2: the delegates of B are
 -- 0 1 1; states 1 and 2 are final and lead to the same states, and state 0 is not final. Assumes nothing.
-use mathlib.Core.Path.{_≡_, refl, subst}
+use mathlib.Core.Path.{_≡_, refl}
 use mathlib.Core.List.{List, [], _∷_}
 use Prim.Native.Nat.{ℕ, zero, suc, _≤_, _<_}
 use native.Mathlib.Omega.{arith}
 use lib.Dec.{lit<}
-use Rattle.masks.specs.Masks.{_∈_, union}
+use Rattle.masks.specs.Masks.{union}
 use Rattle.masks.specs.Lists.{listFrom}
 use Rattle.automaton.specs.Automaton.{Automaton, Run, stay, move}
 use Rattle.automaton.specs.Rules.{targetMask, automatonOf}

@@ -1,11 +1,10 @@
 -- The text for what building the rule of a file answers is the text for the file. Assumes nothing.
-use mathlib.Core.Path.{_≡_, sym, ap, _∙_}
-use mathlib.Core.Bool.{true, false, cond}
+use mathlib.Core.Path.{_≡_}
+use mathlib.Core.Bool.{false, cond}
 use mathlib.Core.List.{List}
 use mathlib.Core.Option.{none}
 use Prim.Native.Nat.{ℕ}
 use native.Mathlib.Omega.{arith}
-use lib.ListN.{length}
 use Rattle.masks.proofs.Cases.{by-test}
 use Rattle.subsets.specs.Sets.{tooMany}
 use Rattle.rulefile.specs.Refusals.{refusal}

@@ -3,12 +3,10 @@
 --   field-most, cell-most   4
 --   row-most                4 for each symbol
 --   line-most               77
---   head-most, last-most, refused-most   20, 138, 12
---   rule-most               39,582
-use mathlib.Core.Path.{_≡_}
+--   fields-most, lines-most   4 for each state, 77 for each set
+--   refused-most            12
 use mathlib.Core.List.{List, [], _∷_, _++_}
-use mathlib.Core.Bool.{cond}
-use Prim.Native.Nat.{ℕ, _+_, _*_, _≤_, _<_, min}
+use Prim.Native.Nat.{ℕ, _+_, _*_, _≤_, _<_}
 use native.Mathlib.Omega.{arith}
 use lib.Dec.{ltb}
 use lib.ListN.{length, getD, length-append}
@@ -17,8 +15,7 @@ use Rattle.masks.proofs.Cases.{by-test}
 use Rattle.text.specs.Numerals.{decimal, hex, joined}
 use Rattle.text.proofs.Pieces.{joined-length}
 use Rattle.text.proofs.Digits.{decimal-most, hex-length}
-use Rattle.build.specs.declared.Built.{Built}
-use Rattle.ruletext.specs.RuleText.{field, cellText, rowText, setLine, headLine, delegatesLine, ruleText, refusedText, startsWord, space, lineFeed}
+use Rattle.ruletext.specs.RuleText.{field, cellText, rowText, setLine, refusedText, space, lineFeed}
 
 pub byte-most : (n : ℕ) → n < 256 → length (decimal n) ≤ 3
 byte-most n h = decimal-most 2 n (omega arith)
@@ -58,7 +55,3 @@ lines-most sets next k hk n hn = joined-length (setLine sets next k) n 77 (λ i 
 
 pub refused-most : (x : ℕ) → x < 256 → length (refusedText x) ≤ 12
 refused-most x h = omega (arith, byte-most x h, length-append (decimal x) (lineFeed ∷ []))
-
-pub head-most : (count starts : ℕ) → count ≤ 512 → starts < 256 → length (headLine count starts) ≤ 20
-head-most count starts hc hs =
-    omega (arith, number-most count hc, byte-most starts hs, length-append (decimal count) (startsWord ++ (decimal starts ++ (lineFeed ∷ []))), length-append (decimal starts) (lineFeed ∷ []))

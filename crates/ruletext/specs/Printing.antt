@@ -6,7 +6,7 @@
 --   TextFor f text     the text for the rule file f: refused with the first number of 1 to 9 whose condition holds, else the built rule's
 --   Shown f ..         that text is printed
 use mathlib.Core.Path.{_≡_}
-use mathlib.Core.Bool.{Bool, true, false, cond}
+use mathlib.Core.Bool.{true, false, cond}
 use mathlib.Core.List.{List, _++_}
 use mathlib.Core.Option.{Option, none, some}
 use Prim.Native.Nat.{ℕ}

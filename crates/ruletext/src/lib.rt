@@ -1,7 +1,6 @@
 // Prints a built rule into a lent buffer.
 ghost use mathlib.Core.Path.{_≡_};
-ghost use mathlib.Core.List.{List};
-ghost use Prim.Native.Nat.{ℕ, _+_, _*_, _≤_, _<_, min};
+ghost use Prim.Native.Nat.{_+_, _*_, _≤_, _<_, min};
 ghost use lib.ListN.{length, getD};
 ghost use Rattle.text.specs.Numerals.{joined};
 ghost use Rattle.text.specs.Writing.{Wrote};
@@ -118,15 +117,15 @@ fn put_delegates(out: &mut [u8], at: usize, delegates: &[u8; 32], n: usize) -> u
     requires { ⌜ (n ≤ 32) × (at + 138 ≤ length (now out)) ⌝ }
     ensures { λ r. ⌜ (Wrote (now (out .entry)) at (delegatesLine (now (delegates .entry)) n) (now (out .exit)) r) × (r ≤ at + 138) ⌝ }
 {
-    let a = text::put_bytes(out, at, b"delegates");
+    let first = text::put_bytes(out, at, b"delegates");
     let fields: &[u8] = delegates;
-    let b = put_fields(out, a, fields, n);
-    text::put_byte(out, b, b'\n')
+    let end = put_fields(out, first, fields, n);
+    text::put_byte(out, end, b'\n')
 }
 
 fn put_head(out: &mut [u8], at: usize, count: usize, starts: u8) -> usize
     requires { ⌜ (count ≤ 512) × (at + 20 ≤ length (now out)) ⌝ }
-    ensures { λ r. ⌜ Wrote (now (out .entry)) at (headLine count starts) (now (out .exit)) r ⌝ }
+    ensures { λ r. ⌜ (Wrote (now (out .entry)) at (headLine count starts) (now (out .exit)) r) × (r ≤ at + 20) ⌝ }
 {
     let a = text::put_bytes(out, at, b"sets ");
     let b = text::put_decimal(out, a, count as u64);

@@ -1,7 +1,7 @@
 -- `print_refused` meets its contract. Assumes nothing.
 use mathlib.Core.Path.{_≡_, sym}
 use native.Mathlib.Omega.{arith}
-use lib.ListN.{length, take}
+use lib.ListN.{take}
 use lib.Seq.{length-take-le}
 use Rattle.ruletext.specs.RuleText.{refusedText}
 use Rattle.ruletext.proofs.Copying.{taken}

@@ -59,7 +59,7 @@ returns c =
     let x = put (omega (arith, pre, n, p, q)) (c .before .before .before .before .before .before .before .before .before .before .put-bytes2 .ensures) in
     let y = put (omega (arith, pre, n, m, p, q, x)) (c .before .before .before .before .before .before .put-decimal2 .ensures) in
     let z = put (omega (arith, pre, n, m, p, q, x, y)) (c .before .before .put-byte .ensures) in
-    (p then q then x then y then z) .wrote
+    ((p then q then x then y then z) .wrote, omega (arith, pre, n, m, p, q, x, y, z))
 
 pub put-head-spec : {M : Type 1} → statement M
 put-head-spec =

@@ -1,7 +1,7 @@
 -- `put_rule` meets its contract. Assumes nothing.
 use native.Mathlib.Omega.{arith}
 use Rattle.ruletext.proofs.Copying.{whole}
-use Rattle.ruletext.proofs.Lengths.{head-most, lines-most}
+use Rattle.ruletext.proofs.Lengths.{lines-most}
 use borrow.Author.Needs.{needs}
 use Rattle.ruletext.proofs.put_rule.Statement.{statement}
 use Rattle.ruletext.proofs.put_rule.Tie as tie
@@ -31,8 +31,7 @@ put-sets-requires : tie.Need-put-sets-requires
 put-sets-requires c κs =
     let h = c .before .before .before .before .before .put-head in
     let e = c .before .before .before .before .before .before .before .before .before .before .before .before .before .before .at-most in
-    let m = head-most (e .result) (c .before .before .before .before .before .before .before .before .before .before .before .before .before .before .before .before .before .args .built .starts) (omega (arith, e .ensures)) (c .before .before .before .before .before .before .before .before .before .before .before .before .before .before .before .struct-known .given .1 .1 .0 .fits) in
-    (omega (arith, c .before .before .before .before .before .before .before .before .before .before .before .before .at-most2 .ensures), omega (arith, e .ensures), omega (arith, c .before .before .before .before .before .before .before .before .before .before .before .before .before .before .before .before .before .pre, h .ensures .ends, h .kept .0, m, e .ensures))
+    (omega (arith, c .before .before .before .before .before .before .before .before .before .before .before .before .at-most2 .ensures), omega (arith, e .ensures), omega (arith, c .before .before .before .before .before .before .before .before .before .before .before .before .before .before .before .before .before .pre, h .ensures .1, h .kept .0, e .ensures))
 
 put-delegates-requires : tie.Need-put-delegates-requires
 put-delegates-requires c κs =
@@ -41,9 +40,8 @@ put-delegates-requires c κs =
     let b = c .before .before .before .before .before .before .before .before .before .before .before .before .before .before .before .before .before .before .before .before .before .before .args .built in
     let e = c .before .before .before .before .before .before .before .before .before .before .before .before .before .before .before .before .before .before .before .at-most in
     let k = c .before .before .before .before .before .before .before .before .before .before .before .before .before .before .before .before .before .at-most2 in
-    let m = head-most (e .result) (b .starts) (omega (arith, e .ensures)) (c .before .before .before .before .before .before .before .before .before .before .before .before .before .before .before .before .before .before .before .before .struct-known .given .1 .1 .0 .fits) in
     let l = lines-most (b .sets) (b .next) (k .result) (omega (arith, k .ensures)) (e .result) (omega (arith, e .ensures)) in
-    (omega (arith, c .before .before .before .before .before .before .before .before .before .before .before .before .before .before .before .at-most3 .ensures), omega (arith, c .before .before .before .before .before .before .before .before .before .before .before .before .before .before .before .before .before .before .before .before .before .before .pre, h .ensures .ends, h .kept .0, v .ensures .ends, v .kept .0, m, l, e .ensures))
+    (omega (arith, c .before .before .before .before .before .before .before .before .before .before .before .before .before .before .before .at-most3 .ensures), omega (arith, c .before .before .before .before .before .before .before .before .before .before .before .before .before .before .before .before .before .before .before .before .before .before .pre, h .ensures .1, h .kept .0, v .ensures .ends, v .kept .0, l, e .ensures))
 
 same-length : tie.Need-same-length
 same-length c = search needs
@@ -51,15 +49,13 @@ same-length c = search needs
 returns : tie.Need-returns
 returns c =
     let s = c .before .before .before .before .before .before .before .before .before .before .before .before .before .before .before .before .before .before .before .before .before .before .before .before .before in
-    let d = c .before .before .put-delegates in
     let e = c .before .before .before .before .before .before .before .before .before .before .before .before .before .before .before .before .before .before .before .before .before .before .at-most in
     let k = c .before .before .before .before .before .before .before .before .before .before .before .before .before .before .before .before .before .before .before .before .at-most2 in
     let n = c .before .before .before .before .before .before .before .before .before .before .before .before .before .before .before .before .before .before .at-most3 in
-    whole (s .args .built) (e .result) (k .result) (n .result) (e .ensures) (k .ensures) (n .ensures) (c .before .before .before .before .before .before .before .before .before .before .before .before .before .before .before .before .before .before .before .before .before .before .before .struct-known .given .1 .1 .0 .fits) (s .pre)
+    whole (s .args .built) (e .result) (k .result) (n .result) (e .ensures) (k .ensures) (n .ensures) (s .pre)
     (c .before .before .before .before .before .before .before .before .before .before .before .before .before .put-head .ensures)
     (c .before .before .before .before .before .before .before .put-sets .ensures)
-    (d .ensures .0)
-    (d .ensures .1)
+    (c .before .before .put-delegates .ensures)
 
 pub put-rule-spec : {M : Type 1} → statement M
 put-rule-spec =

@@ -2,8 +2,6 @@
 use native.Mathlib.Omega.{arith}
 use lib.ListN.{getD}
 use mathlib.Core.Path.{_≡_}
-use Rattle.text.specs.Numerals.{hex}
-use Rattle.text.specs.Writing.{Wrote}
 use Rattle.text.proofs.Digits.{hex-length}
 use Rattle.ruletext.proofs.Pieces.{put, _then_}
 use Rattle.ruletext.proofs.Lengths.{number-most, row-most}
