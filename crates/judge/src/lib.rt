@@ -85,7 +85,7 @@ fn with_board(judge: Judge, board: Board) -> Judge
     Judge { built, board }
 }
 
-// The number of places that a board can have at most; any number above 64 counts as 64.
+// The number of places of a board; any number above 64 counts as 64.
 fn places_of(board: Board) -> usize
     ensures { λ r. ⌜ r ≡ placesOf board ⌝ }
 {
@@ -134,7 +134,7 @@ fn run_at(built: Built, place: usize, chunk: &[u8]) -> Runs
     chunks::run_chunk(&sets, &next, &singles, mask, chunk)
 }
 
-// The sum is more than 32 bits hold.
+// The sum of the two is more than 32 bits hold. It is not formed, so nothing wraps.
 fn exceeds(summed: u64, count: u32) -> bool
     ensures { λ r. ⌜ r ≡ ltb 4294967295 (summed + count) ⌝ }
 {
