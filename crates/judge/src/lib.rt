@@ -134,7 +134,7 @@ fn run_at(built: Built, place: usize, chunk: &[u8]) -> Runs
     chunks::run_chunk(&sets, &next, &singles, mask, chunk)
 }
 
-// The sum is more than 32 bits hold.
+// The sum of the two is more than 32 bits hold. It is not formed, so nothing wraps.
 fn exceeds(summed: u64, count: u32) -> bool
     ensures { λ r. ⌜ r ≡ ltb 4294967295 (summed + count) ⌝ }
 {
