@@ -1,9 +1,10 @@
 -- How long the parts of the text are at most. Assumes nothing.
 --
+--   byte-most, number-most  3
 --   field-most, cell-most   4
 --   row-most                4 for each symbol
 --   line-most               77
---   fields-most, lines-most   4 for each state, 77 for each set
+--   fields-most, lines-most 4 for each state, 77 for each set
 --   refused-most            12
 use mathlib.Core.List.{List, [], _∷_, _++_}
 use Prim.Native.Nat.{ℕ, _+_, _*_, _≤_, _<_}
