@@ -206,4 +206,5 @@ def main():
             open(path, "w").write(content)
 
 
-main()
+if __name__ == "__main__":
+    main()
