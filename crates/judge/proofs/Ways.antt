@@ -1,8 +1,10 @@
 -- Each way out of each call's definition: the facts that lead there, in the order in which the code finds them, and the answer. Assumes nothing.
 --
+--   fresh-by                                                fresh
 --   open-20, open-few, open-many, opened                    openOf
 --   withdraw-21, withdraw-11, withdraw-23, withdrawn        withdrawOf
 --   over-by-one, over-by-both                               the test of 24, in two steps
+--   runs-by                                                 the runs at a place, from their mask
 --   deliver-21, -11, -12, -13, -22, -24, delivered          deliverOf
 --   verdict-21, verdict-waiting, verdict-yes, verdict-no    verdictOf
 --   load-unread, load-unbuilt, loaded                       Loads
@@ -23,10 +25,12 @@ use Rattle.rulefile.specs.Refusals.{refusal}
 use Rattle.rulefile.specs.Reader.{numberOf, ruleOf, ruleBy, Reads}
 use Rattle.subsets.specs.Sets.{tooMany}
 use Rattle.build.specs.declared.BuildAnswer.the-variants as build
+use Rattle.build.specs.declared.Built.{Built}
 use Rattle.build.specs.declared.Building.{Building}
-use Rattle.build.specs.Building.{accepted, refused, saidOf, sets, Builds}
+use Rattle.build.specs.Building.{accepted, refused, saidOf, sets, noBuilt, Builds}
 use Rattle.chunks.specs.declared.Runs.{Runs}
 use Rattle.chunks.specs.Chunks.{foreign}
+use Rattle.chunks.specs.Walks.{runMask, runsOf}
 use Rattle.board.specs.declared.Board.{Board}
 use Rattle.board.specs.Boards.{placesOf, isEmpty, emptyBoard, filledAt, clearedAt, emptyPlaces, summedCount}
 use Rattle.judge.specs.declared.Judge.{Judge}
@@ -40,7 +44,11 @@ use Rattle.judge.specs.declared.WithdrawAnswer.the-variants as withdrawa
 use Rattle.judge.specs.declared.Withdrawal.{Withdrawal}
 use Rattle.judge.specs.declared.Verdict.the-variants.{Waiting, Yes, No, Refused}
 use Rattle.judge.specs.History.{loadNumber}
-use Rattle.judge.specs.Calls.{withBoard, Loads, openOf, runsAt, deliverOf, withdrawOf, isYes, verdictOf}
+use Rattle.judge.specs.Calls.{fresh, withBoard, Loads, openOf, runsAt, deliverOf, withdrawOf, isYes, verdictOf}
+
+pub fresh-by : (b : Built) → b ≡ noBuilt → (e : Board) → e ≡ emptyBoard 0 → record { built = b; board = e } ≡ fresh
+unfolding fresh
+fresh-by b nothing e empty = rw (nothing, empty)
 
 -- ---- open
 module _ (j : Judge) (n : ℕ) where
@@ -93,6 +101,11 @@ over-by-both s c h =
     by-test (ltb (4294967295 - s) c)
     (λ t. t ∙ sym (lt-ltb 4294967295 (s + c) (omega (arith, ltb-true (4294967295 - s) c t))))
     (λ f. f ∙ sym (le-ltb 4294967295 (s + c) (omega (arith, ltb-false (4294967295 - s) c f))))
+
+pub runs-by : (b : Built) (p : ℕ) (w : List ℕ) (mask : ℕ) → mask ≡ runMask (b .delegates) (b .n) (b .initials) p
+    → (r : Runs) → r ≡ runsOf (b .sets) (b .next) (b .singles) mask w
+    → r ≡ runsOf (b .sets) (b .next) (b .singles) (runMask (b .delegates) (b .n) (b .initials) p) w
+runs-by b p w mask is r e = rw is at e
 
 module _ (j : Judge) (p : ℕ) (w : List ℕ) where
   pub deliver-21 : j .board .places ≡ 0 → (r : Delivery) → r ≡ record { answer = delivery.Refused 21; judge = j } → r ≡ deliverOf j p w

@@ -1,5 +1,5 @@
 -- `new_judge` meets its contract. Assumes nothing.
-use Rattle.judge.specs.Calls.{fresh}
+use Rattle.judge.proofs.Ways.{fresh-by}
 use borrow.Author.Needs.{needs}
 use Rattle.judge.proofs.new_judge.Statement.{statement}
 use Rattle.judge.proofs.new_judge.Tie as tie
@@ -11,8 +11,7 @@ empty-board-requires : tie.Need-empty-board-requires
 empty-board-requires c κs = search needs
 
 returns : tie.Need-returns
-unfolding fresh
-returns c = cc
+returns c = search (needs, fresh-by)
 
 pub new-judge-spec : {M : Type 1} → statement M
 new-judge-spec = tie.close (tie.spec nothing-built-requires empty-board-requires returns)

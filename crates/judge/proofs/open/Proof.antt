@@ -1,5 +1,6 @@
 -- `open` meets its contract. Assumes nothing.
 use Rattle.judge.proofs.Ways.{open-20, open-few, open-many, opened}
+use native.Mathlib.Omega.{arith}
 use borrow.Author.Needs.{needs}
 use Rattle.judge.proofs.open.Statement.{statement}
 use Rattle.judge.proofs.open.Tie as tie
@@ -20,7 +21,9 @@ refuse-opening-requires-3 : tie.Need-refuse-opening-requires-3
 refuse-opening-requires-3 c κs = search needs
 
 returns-3 : tie.Need-returns-3
-returns-3 c = search (needs, open-many)
+returns-3 c =
+    let n = c .before .before .before .before .before .before .args .places in
+    open-many _ n _ (c .before .before .before .if1 .left) (omega arith) (omega arith) (c .refuse-opening3 .ensures)
 
 cast-empty-board : tie.Need-cast-empty-board
 cast-empty-board c = search needs

@@ -1,4 +1,5 @@
 -- `run_at` meets its contract. Assumes nothing.
+use Rattle.judge.proofs.Ways.{runs-by}
 use borrow.Author.Needs.{needs}
 use Rattle.judge.proofs.run_at.Statement.{statement}
 use Rattle.judge.proofs.run_at.Tie as tie
@@ -10,7 +11,7 @@ run-chunk-requires : tie.Need-run-chunk-requires
 run-chunk-requires c κs = search needs
 
 returns : tie.Need-returns
-returns c = cc
+returns c = search (needs, runs-by)
 
 pub run-at-spec : {M : Type 1} → statement M
 run-at-spec = tie.close (tie.spec run-mask-requires run-chunk-requires returns)
