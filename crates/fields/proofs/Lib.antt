@@ -1,0 +1,5 @@
+-- In the order in which they build on each other.
+pub mod Digits
+pub mod Pairs
+pub mod Again
+pub mod Examples

@@ -1,0 +1,4 @@
+-- In the order in which to read them.
+pub mod Numbers
+pub mod Bytes
+pub mod Claims
