@@ -4,14 +4,16 @@
 --   put             what a call says of its piece
 --   _then_          a piece and then another is both in one
 --   none-put, one-more   for a loop over `joined`
-use mathlib.Core.Path.{_≡_, refl, _∙_}
+--   taken           a piece that was written from the start is read back
+use mathlib.Core.Path.{_≡_, refl, ap, _∙_}
 use mathlib.Core.List.{List, _++_}
 use Prim.Native.Nat.{ℕ, _+_, _≤_}
 use native.Mathlib.Omega.{arith}
-use lib.ListN.{length, length-append}
+use lib.ListN.{length, take, drop, length-append}
+use lib.Seq.{take-at}
 use Rattle.text.specs.Numerals.{joined}
 use Rattle.text.specs.Writing.{Wrote}
 use Rattle.text.proofs.Pieces.{wrote-none, wrote-more, wrote-length, joined-none, joined-more}
 
 pub record Put (before : List ℕ) (at : ℕ) (piece after : List ℕ) (end : ℕ) : Type 0 where
   pub wrote : Wrote before at piece after end
@@ -36,3 +38,7 @@ none-put g before at h = rw joined-none (record { wrote = wrote-none before at; 
 pub one-more : (g : ℕ → List ℕ) (i : ℕ) {before : List ℕ} {start : ℕ} {mid : List ℕ} {at : ℕ} {after : List ℕ} {e : ℕ}
     → Put before start (joined g i) mid at → Put mid at (g i) after e → Put before start (joined g (i + 1)) after e
 one-more g i u v = rw (joined-more g i) (u then v)
+
+pub taken : {piece before after : List ℕ} {end : ℕ} → Wrote before 0 piece after end → take end after ≡ piece
+taken {piece} {before} {after} {end} w =
+    ap (take end) (w .is) ∙ take-at piece (drop (0 + length piece) before) end (omega (arith, w .ends))
