@@ -1,19 +1,20 @@
 #!/usr/bin/env python3
-"""Writes the cases of the program judge_cases: crates/judge_cases/stdin and stdout. With --check it writes
+"""Writes the cases of the program tracejudge: crates/tracejudge/stdin and stdout. With --check it writes
 nothing and says whether they are what it would write.
 
-A case is a list of calls, one a line, ended by an empty line, which starts again with a fresh judge. The
-answers are computed here by a judge written straight from the words of document 01: a text is accepted by
-following the automaton over the chunks joined, and the count is taken run by run.
+A case is a list of lines, ended by an empty line, which starts again with a fresh judge. What a line means is
+told here by patterns, and the answers are computed by a judge written straight from the words of document 01:
+a text is accepted by following the automaton over the chunks joined, and the count is taken run by run.
 """
 import os
 import random
+import re
 import sys
 
 from ruleprint_cases import Refused, many_sets, parts, random_rule, read, rule, successor
 
 HERE = os.path.dirname(os.path.abspath(__file__))
-CRATE = os.path.join(HERE, "..", "crates", "judge_cases")
+CRATE = os.path.join(HERE, "..", "crates", "tracejudge")
 
 
 class Judge:
@@ -87,7 +88,33 @@ class Judge:
         return f"{'yes' if members & finals else 'no'} {count}"
 
 
-def answer(judge, call):
+HEX, NUMBER = rb"((?:[0-9a-fA-F]{2})+|-)", rb"([0-9]{1,20})"
+FORMS = [
+    ("load", rb"load " + HEX), ("open", rb"open " + NUMBER), ("deliver", rb"deliver " + NUMBER + b" " + HEX),
+    ("withdraw", rb"withdraw " + NUMBER), ("verdict", rb"verdict"),
+]
+
+
+def meaning(line):
+    """The call that a line says, or None."""
+    for word, form in FORMS:
+        found = re.fullmatch(form, line, re.DOTALL)
+        if found:
+            fields = list(found.groups())
+            if word in ("open", "deliver", "withdraw"):
+                fields[0] = int(fields[0])
+                if fields[0] > LARGEST:
+                    return None
+            if word in ("load", "deliver"):
+                fields[-1] = b"" if fields[-1] == b"-" else bytes.fromhex(fields[-1].decode())
+            return word, *fields
+    return None
+
+
+def answer(judge, line):
+    call = meaning(line)
+    if call is None:
+        return "malformed"
     try:
         return getattr(judge, call[0])(*call[1:])
     except Refused as refused:
@@ -95,7 +122,10 @@ def answer(judge, call):
 
 
 def line(call):
-    return " ".join([call[0]] + [(x.hex() or "-") if isinstance(x, bytes) else str(x) for x in call[1:]])
+    """A call as a line; a line stays as it is."""
+    if isinstance(call, bytes):
+        return call
+    return " ".join([call[0]] + [(x.hex() or "-") if isinstance(x, bytes) else str(x) for x in call[1:]]).encode()
 
 
 A = bytes.fromhex("03020100000004000000160006001C0002001E0000000000000101000102")
@@ -130,6 +160,22 @@ def random_calls(seed):
 
 
 LONG = bytes([0, 1]) * 32768
+FULL = rule(32, 16, 1, 1, [(q, s, t) for q in range(32) for s in range(16) for t in range(32)])
+
+# lines that say no call; between them the judge keeps what it has
+MALFORMED = [
+    b"load", b"load ", b"load  00", b" load 00", b"load 0", b"load 0g", b"load 00 ", b"load 00 00", b"LOAD 00", b"load --", b"load -00",
+    b"load 00\r", b"verdict ", b"verdict\r", b"verdictx", b"Verdict", b"verdic", b"open", b"open ", b"open 1 ", b"open  1", b"open -1", b"open +1",
+    b"open 0x1", b"open 1\r", b"open 18446744073709551616", b"open 99999999999999999999", b"open 000000000000000000001", b"deliver", b"deliver 0",
+    b"deliver 0 ", b"deliver 0  00", b"deliver 0 00 ", b"deliver  0 00", b"deliver - 00", b"deliver 0 000", b"deliver 0 00\t", b"deliver 18446744073709551616 00",
+    b"withdraw", b"withdraw ", b"withdraw 0 0", b"withdraw x", b"close", b" ", b"\r", b"\0", b"\xff\xfe", b"verdict verdict",
+]
+# lines longer than any call that is accepted, whose beginnings are the same
+DIGITS = b"00" * 65552
+LONGER = [
+    b"deliver 0 " + DIGITS, b"deliver 0 " + DIGITS + b"0", b"deliver 0 " + DIGITS + b"0g", b"deliver 0 " + DIGITS + b"\r", b"deliver 9 " + DIGITS,
+    b"load " + DIGITS, b"load " + DIGITS + b" ", b"verdict" + DIGITS,
+]
 CASES = [
     # before a load, before an opening
     [("verdict",), ("open", 1), ("open", 0), ("deliver", 0, b""), ("withdraw", 0), ("load", NO_RULE), ("open", 1), ("verdict",)],
@@ -156,27 +202,40 @@ CASES = [
     judged(A, b"\0", b"\1") + [("load", NO_RULE), ("verdict",), ("open", 0), ("verdict",), ("open", 2), ("verdict",), ("deliver", 1, b"\1"), ("verdict",),
                                ("load", B), ("verdict",), ("deliver", 0, b"\0"), ("open", 1), ("deliver", 0, b"\0"), ("deliver", 0, b"\0"), ("verdict",),
                                ("withdraw", 0), ("withdraw", 0), ("verdict",), ("deliver", 0, b""), ("verdict",)],
+    # each call right after a reload, and right after a reopening
+    judged(A, b"\0") + [("load", A), ("withdraw", 0), ("deliver", 0, b""), ("verdict",), ("open", 1), ("withdraw", 0), ("verdict",), ("deliver", 0, b"\0\1"),
+                        ("open", 1), ("withdraw", 0), ("verdict",), ("deliver", 0, b"\1"), ("verdict",)],
     # 512 and 513 sets
     [("load", many_sets(4)), ("open", 1), ("load", many_sets(5)), ("deliver", 0, b"\0\1\0"), ("verdict",)],
+    # a file of 32,906 bytes, and one byte more
+    [("load", FULL), ("open", 1), ("deliver", 0, b"\x0f"), ("verdict",), ("load", FULL + b"\0"), ("verdict",)],
+    # n 33; hex digits of either case; the largest number of digits
+    [("load", b"\x21" + A[1:]), b"load " + A.hex().upper().encode(), b"open 00000000000000000001", b"deliver 0 0001", ("verdict",)],
+    # lines that are malformed, and lines that are very long
+    judged(A, b"\0", b"\1") + [x for bad in MALFORMED for x in (bad, ("verdict",))],
+    [("load", A), ("open", 1)] + LONGER + [("verdict",), ("deliver", 0, b"\0"), ("verdict",)],
 ] + [random_calls(seed) for seed in range(24)]
+# the last line is ended by the end of the input
+LAST = [("load", A), ("open", 1), ("verdict",)]
 
 
 def main():
-    calls, answers = "", ""
-    for case in CASES:
+    calls, answers = b"", ""
+    for case in CASES + [LAST]:
         judge = Judge()
         for call in case:
-            calls += line(call) + "\n"
-            answers += answer(judge, call) + "\n"
-        calls += "\n"
-        answers += "\n"
-    for name, text in (("stdin", calls), ("stdout", answers)):
+            calls += line(call) + b"\n"
+            answers += answer(judge, line(call)) + "\n"
+        if case is not LAST:
+            calls += b"\n"
+            answers += "\n"
+    for name, text in (("stdin", calls[:-1]), ("stdout", answers.encode())):
         path = os.path.join(CRATE, name)
         if sys.argv[1:] == ["--check"]:
-            if open(path).read() != text:
+            if open(path, "rb").read() != text:
                 sys.exit(f"{path} is not what {__file__} writes")
         else:
-            open(path, "w").write(text)
+            open(path, "wb").write(text)
 
 
 if __name__ == "__main__":
