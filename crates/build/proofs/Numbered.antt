@@ -2,7 +2,6 @@
 use mathlib.Core.Path.{_≡_, refl, sym, ap, ap₂, _∙_, subst₃}
 use mathlib.Core.Bool.{true, false}
 use mathlib.Core.List.{List}
-use mathlib.Core.Option.{none, some}
 use Prim.Native.Nat.{ℕ, _≤_, min}
 use native.Mathlib.Omega.{arith}
 use lib.ListN.{length}
@@ -13,7 +12,7 @@ use Rattle.automaton.specs.declared.Rule.{Rule}
 use Rattle.subsets.specs.declared.Numbering.{Numbering}
 use Rattle.subsets.specs.declared.Numbering.the-variants.{Whole, Over}
 use Rattle.subsets.specs.Sets.{setsOf, tooMany}
-use Rattle.subsets.specs.Answer.{countOf, Answered}
+use Rattle.subsets.specs.Answer.{counted, refused, toldOf, Answered}
 use Rattle.delegates.specs.declared.Starts.{Starts}
 use Rattle.delegates.specs.Classes.{numberOf, MergedSets}
 use Rattle.build.specs.declared.BuildAnswer.the-variants.{Accepted, Refused}
@@ -26,13 +25,13 @@ module _ (ts : List ℕ) (n k : ℕ) (r : Numbering) (sets next : List ℕ) (ans
   not-over c e =
       by-test (tooMany ts n k)
       (λ t.
-      let o : some c ≡ none = sym (ap countOf e) ∙ answered .count ∙ rw t in
+      let o : counted c ≡ refused 9 = sym (ap toldOf e) ∙ answered .count ∙ rw t in
       absurd (let z : _≡_ {A = ℕ} 0 1 = cc in omega arith))
       (λ f. f)
 
   pub the-count : (c : ℕ) → r ≡ Whole c → c ≡ length (setsOf ts n k)
   the-count c e =
-      let o : some c ≡ some (length (setsOf ts n k)) = sym (ap countOf e) ∙ answered .count ∙ rw (not-over c e) in
+      let o : counted c ≡ counted (length (setsOf ts n k)) = sym (ap toldOf e) ∙ answered .count ∙ rw (not-over c e) in
       cc
 
   few : tooMany ts n k ≡ false → length (setsOf ts n k) ≤ 512
@@ -47,7 +46,7 @@ module _ (ts : List ℕ) (n k : ℕ) (r : Numbering) (sets next : List ℕ) (ans
   is-over e =
       by-test (tooMany ts n k) (λ t. t)
       (λ f.
-      let o : none ≡ some (length (setsOf ts n k)) = sym (ap countOf e) ∙ answered .count ∙ rw f in
+      let o : refused 9 ≡ counted (length (setsOf ts n k)) = sym (ap toldOf e) ∙ answered .count ∙ rw f in
       absurd (let z : _≡_ {A = ℕ} 0 1 = cc in omega arith))
 
 -- the two arrays, the merged starts and the numbers of singletons make a built rule

@@ -98,7 +98,7 @@ module _ (given : SubsetsClaims) (r : Rule) (good : WellFormed r) (fit : fits r)
       ∙ ap (λ (y : ℕ). shares (after (r .targets) y w) (r .finals)) (there .1))
 
   -- ---- acceptance in the automaton
-  from-law : (q : ℕ) → q < r .n → (w : List ℕ) → AcceptsFrom (automatonOf r) q w ↔ (shares (after (r .targets) (single q) w) (r .finals) ≡ true)
+  pub from-law : (q : ℕ) → q < r .n → (w : List ℕ) → AcceptsFrom (automatonOf r) q w ↔ (shares (after (r .targets) (single q) w) (r .finals) ≡ true)
   from-law q h w = (
     (λ t.
         shares-law (after (r .targets) (single q) w) (r .finals) .1

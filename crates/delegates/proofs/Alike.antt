@@ -1,12 +1,16 @@
 -- The laws of alike states and of delegates, for every automaton. Assumes nothing.
-use mathlib.Core.Path.{_≡_, subst}
+use mathlib.Core.Path.{_≡_, sym, ap, _∙_, subst}
 use mathlib.Core.Logic.{_↔_}
 use mathlib.Core.List.{List}
 use Prim.Native.Nat.{ℕ, _≤_, _<_}
 use native.Mathlib.Nat.{le-antisymm}
+use lib.Dec.{ltb}
 use lib.ListN.{getD}
+use lib.Seq.{ext-getD}
+use borrow.Author.Tests.{ltb-true, ltb-false}
+use Rattle.masks.proofs.Cases.{by-test}
 use Rattle.automaton.specs.Automaton.{Automaton}
-use Rattle.delegates.specs.Alike.{Alike, Delegate, Merged}
+use Rattle.delegates.specs.Alike.{Alike, Delegate, startCount, Merged}
 
 module _ (a : Automaton) where
   pub alike-self : (q : ℕ) → Alike a q q
@@ -41,3 +45,16 @@ module _ (a : Automaton) where
   delegates-start d m given q h =
       let f = given .delegates q h in
       one-delegate (getD d q 0) (getD d (getD d q 0) 0) (getD d q 0) (given .delegates (getD d q 0) (f .state)) (own-delegate q (getD d q 0) f)
+
+  same-list : (d e : List ℕ) (m k : ℕ) → Merged a d m → Merged a e k → d ≡ e
+  same-list d e m k f g =
+      ext-getD 0 d e (f .cells ∙ sym (g .cells))
+      (λ q _.
+      by-test (ltb q (a .n))
+      (λ t. let h = ltb-true q (a .n) t in one-delegate q (getD d q 0) (getD e q 0) (f .delegates q h) (g .delegates q h))
+      (λ t. let h = ltb-false q (a .n) t in f .zeros q h ∙ sym (g .zeros q h)))
+
+  pub one-list : (d e : List ℕ) (m k : ℕ) → Merged a d m → Merged a e k → (d ≡ e) × (m ≡ k)
+  one-list d e m k f g =
+      let same = same-list d e m k f g in
+      (same, f .starts ∙ ap (λ (l : List ℕ). startCount l (a .n)) same ∙ sym (g .starts))

@@ -17,4 +17,5 @@ claims = record {
   same-delegate = alike.same-delegate;
   own-delegate = alike.own-delegate;
   delegates-start = alike.delegates-start;
+  one-list = alike.one-list;
 }

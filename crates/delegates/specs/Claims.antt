@@ -38,3 +38,5 @@ pub record Claims : Type 1 where
   -- a delegate is its own delegate, so it is a start
   pub own-delegate : (a : Automaton) (q d : ℕ) → Delegate a q d → Delegate a d d
   pub delegates-start : (a : Automaton) (d : List ℕ) (m : ℕ) → Merged a d m → (q : ℕ) → q < a .n → getD d (getD d q 0) 0 ≡ getD d q 0
+  -- the list of delegates and the number of starts are fixed by the automaton
+  pub one-list : (a : Automaton) (d e : List ℕ) (m k : ℕ) → Merged a d m → Merged a e k → (d ≡ e) × (m ≡ k)

@@ -1,7 +1,7 @@
 -- The laws of hex digits and their pairs. Assumes nothing.
 use mathlib.Core.Path.{_≡_, refl, sym, ap, _∙_}
 use mathlib.Core.Bool.{Bool, true, false, cond, _&&_, true≢false}
-use mathlib.Core.List.{List, [], _∷_}
+use mathlib.Core.List.{List, [], _∷_, _++_}
 use mathlib.Core.Option.{Option, none, some}
 use Prim.Native.Nat.{ℕ, zero, suc, _+_, _*_, _-_, _%_, _≤_, _<_}
 use native.Mathlib.Numerals.{add-one}
@@ -10,6 +10,7 @@ use borrow.Author.Tests.{le-leb, lt-leb, lt-ltb, le-ltb, ltb-true, ne-eqb}
 use lib.Dec.{leb, ltb, eqb}
 use lib.ListN.{length, getD, drop, take, drop-of-length-le}
 use lib.Seq.{drop-cons, take-all}
+use Rattle.masks.proofs.Cases.{by-test}
 use Rattle.text.specs.Writing.{Wrote}
 use Rattle.text.proofs.Pieces.{wrote-none}
 use Rattle.fields.specs.Bytes.{within, hexValue, allHex, pairs, bytesIn, TookOf}
@@ -38,6 +39,11 @@ module _ (w : List ℕ) (i : ℕ) where
   pub hex-end : length w ≤ i → allHex (drop i w) ≡ true
   unfolding allHex
   hex-end h = rw (drop-of-length-le w h)
+
+pub hex-append : (v w : List ℕ) → allHex (v ++ w) ≡ allHex v && allHex w
+unfolding allHex
+hex-append [] w = refl
+hex-append (x ∷ v) w = by-test (ltb (hexValue x) 16) (λ e. rw e (hex-append v w)) (λ e. rw e)
 
 -- ---- the pairs
 pub pairs-at : (w : List ℕ) (i : ℕ) → 2 * i + 1 < length w

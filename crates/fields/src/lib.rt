@@ -77,7 +77,7 @@ fn hex_value(c: u8) -> u8
 }
 
 // Whether each byte is a hex digit.
-fn all_hex(field: &[u8]) -> bool
+pub fn all_hex(field: &[u8]) -> bool
     ensures { λ r. ⌜ r ≡ allHex (now (field .entry)) ⌝ }
 {
     let mut i: usize = 0;

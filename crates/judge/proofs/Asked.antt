@@ -3,7 +3,7 @@ use mathlib.Core.Path.{_≡_, refl, sym, ap, ap₂, _∙_, fun-ext}
 use mathlib.Core.Bool.{Bool, true, false, cond}
 use mathlib.Core.List.{List}
 use mathlib.Core.Option.{Option, none, some}
-use Prim.Native.Nat.{ℕ, zero, suc, _+_, _*_, _/_, _%_, _≤_, _<_, min}
+use Prim.Native.Nat.{ℕ, zero, suc, _+_, _*_, _/_, _%_, _<_, min}
 use native.Mathlib.Nat.{mod-lt}
 use native.Mathlib.Omega.{arith}
 use lib.Dec.{eqb, lit<}
@@ -14,14 +14,12 @@ use Rattle.masks.specs.Lists.{listFrom}
 use Rattle.masks.proofs.Lists.{cell-of}
 use Rattle.rulefile.specs.Reader.{ruleOf}
 use Rattle.chunks.specs.Chunks.{total}
-use Rattle.board.specs.Boards.{placesOf, emptyPlaces, summedCount}
+use Rattle.board.specs.Boards.{emptyPlaces, summedCount}
 use Rattle.board.specs.Joining.{joinUpTo, saysYes}
 use Rattle.board.proofs.Laws.{empty-law}
 use Rattle.judge.specs.declared.Judge.{Judge}
-use Rattle.judge.specs.declared.Verdict.{Verdict}
-use Rattle.judge.specs.declared.Verdict.the-variants.{Waiting, Yes, No, Refused}
-use Rattle.judge.specs.Replies.{Reply, waiting, keeps, breaks, refused, verdictSays}
-use Rattle.judge.specs.History.{Call, isNone, fileOf, ruleBy, ruleIn, placesIn, endOf, standing, endAt, emptiesIn, summedIn, yesIn, verdictIn}
+use Rattle.judge.specs.Replies.{Reply, waiting, keeps, breaks, refused}
+use Rattle.judge.specs.History.{Call, isNone, fileOf, ruleBy, placesIn, endOf, standing, emptiesIn, summedIn, yesIn, verdictIn}
 use Rattle.judge.specs.Calls.{noBoard, isYes, verdictOf}
 use Rattle.judge.proofs.Running.{n-same}
 use Rattle.judge.proofs.Holding.{Holds}
@@ -42,10 +40,6 @@ join-same ends ends′ d n m (suc p) h =
 same-choice : (a b : Bool) (x y z : Reply) → a ≡ b → (b ≡ false → y ≡ z) → cond a x y ≡ cond b x z
 same-choice a true x y z e f = rw e
 same-choice a false x y z e f = rw e (f refl)
-
-says-cond : (t : Bool) (x y : Verdict) → verdictSays (cond t x y) ≡ cond t (verdictSays x) (verdictSays y)
-says-cond true x y = refl
-says-cond false x y = refl
 
 module _ (file : Option (List ℕ)) (places : ℕ) (at : ℕ → Option (List ℕ)) (j : Judge) (holds : Holds file places at j) where
   pub empties-same : emptyPlaces (j .board) ≡ total (λ p. cond (isNone (at p)) 1 0) places
@@ -74,29 +68,27 @@ yes-same f places at j holds =
     (join-same (j .board .ends) (listFrom 0 2048 (λ cell. endOf (ruleOf f) (j .built .delegates) (cell / 32) (cell % 32) (at (cell / 32)))) (j .built .delegates) (ruleOf f .n) (ruleOf f .initials) places
     (cells-same (some f) places at j holds)))
 
-by-rule : (file : Option (List ℕ)) (places : ℕ) (at : ℕ → Option (List ℕ)) (j : Judge) → Holds file places at j → 0 < places
+pub by-rule : (file : Option (List ℕ)) (places : ℕ) (at : ℕ → Option (List ℕ)) (j : Judge) → Holds file places at j → 0 < places
     → isYes j
     ≡ saysYes (listFrom 0 2048 (λ cell. endOf (ruleBy file) (j .built .delegates) (cell / 32) (cell % 32) (at (cell / 32)))) (j .built .delegates) (ruleBy file .n) (ruleBy file .initials) (ruleBy file .finals) places
 by-rule none places at j holds h = absurd (let e : true ≡ false = holds .ruled h in let z : _≡_ {A = ℕ} 0 1 = cc in omega arith)
 by-rule (some f) places at j holds h = yes-same f places at j holds
 
-pub verdict-says : (h : List Call) (j : Judge) → Good h j → verdictSays (verdictOf j) ≡ verdictIn (j .built .delegates) h
+pub verdict-says : (h : List Call) (j : Judge) → Good h j → verdictOf j ≡ verdictIn (j .built .delegates) h
 unfolding verdictOf
 verdict-says h j good =
+    let d = j .built .delegates in
     let s = standing (j .built .delegates) h in
     let count = summed-same (fileOf h) (placesIn h) s j good in
     let empties = empties-same (fileOf h) (placesIn h) s j good in
-    says-cond (noBoard j) (Refused 21) (cond (eqb (emptyPlaces (j .board)) 0) (cond (isYes j) (Yes (summedCount (j .board))) (No (summedCount (j .board)))) (Waiting (emptyPlaces (j .board))))
-    ∙ same-choice (noBoard j) (eqb (placesIn h) 0) (refused 21)
-    (verdictSays (cond (eqb (emptyPlaces (j .board)) 0) (cond (isYes j) (Yes (summedCount (j .board))) (No (summedCount (j .board)))) (Waiting (emptyPlaces (j .board)))))
-    (cond (eqb (emptiesIn (j .built .delegates) h) 0) (cond (yesIn (j .built .delegates) h) (keeps (summedIn (j .built .delegates) h)) (breaks (summedIn (j .built .delegates) h))) (waiting (emptiesIn (j .built .delegates) h)))
+    same-choice (noBoard j) (eqb (placesIn h) 0) (refused 21)
+    (cond (eqb (emptyPlaces (j .board)) 0) (cond (isYes j) (keeps (summedCount (j .board))) (breaks (summedCount (j .board)))) (waiting (emptyPlaces (j .board))))
+    (cond (eqb (emptiesIn d h) 0) (cond (yesIn d h) (keeps (summedIn d h)) (breaks (summedIn d h))) (waiting (emptiesIn d h)))
     (no-board (fileOf h) (placesIn h) s j good)
     (λ b.
     let y = by-rule (fileOf h) (placesIn h) s j good (positive b) in
-    says-cond (eqb (emptyPlaces (j .board)) 0) (cond (isYes j) (Yes (summedCount (j .board))) (No (summedCount (j .board)))) (Waiting (emptyPlaces (j .board)))
-    ∙ ap (λ (r : Reply). cond (eqb (emptyPlaces (j .board)) 0) r (waiting (emptyPlaces (j .board)))) (says-cond (isYes j) (Yes (summedCount (j .board))) (No (summedCount (j .board))))
-    ∙ ap (λ (e : ℕ). cond (eqb e 0) (cond (isYes j) (keeps (summedCount (j .board))) (breaks (summedCount (j .board)))) (waiting e)) empties
-    ∙ ap₂ (λ (t : Bool) (c : ℕ). cond (eqb (emptiesIn (j .built .delegates) h) 0) (cond t (keeps c) (breaks c)) (waiting (emptiesIn (j .built .delegates) h))) y count)
+    ap (λ (e : ℕ). cond (eqb e 0) (cond (isYes j) (keeps (summedCount (j .board))) (breaks (summedCount (j .board)))) (waiting e)) empties
+    ∙ ap₂ (λ (t : Bool) (c : ℕ). cond (eqb (emptiesIn d h) 0) (cond t (keeps c) (breaks c)) (waiting (emptiesIn d h))) y count)
   where
     positive : eqb (placesIn h) 0 ≡ false → 0 < placesIn h
     positive b = let ne = eqb-false (placesIn h) 0 b in omega arith

@@ -4,7 +4,7 @@ use mathlib.Core.Path.{_≡_, refl, sym, ap, _∙_, subst, subst₃, fun-ext}
 use mathlib.Core.Bool.{Bool, true, false, cond, _&&_}
 use mathlib.Core.List.{List, [], _∷_}
 use mathlib.Core.Option.{Option, none, some}
-use Prim.Native.Nat.{ℕ, _+_, _≤_, _<_}
+use Prim.Native.Nat.{ℕ}
 use native.Mathlib.Omega.{arith}
 use lib.Dec.{eqb, ltb, leb}
 use lib.ListN.{length}
@@ -13,21 +13,18 @@ use Rattle.masks.proofs.Cases.{by-test}
 use Rattle.rulefile.specs.Conditions.{on, firstOf, outside}
 use Rattle.rulefile.specs.Refusals.{refusal}
 use Rattle.rulefile.specs.Reader.{ruleOf}
-use Rattle.rulefile.proofs.Conditions.{or-left, or-right}
+use Rattle.rulefile.proofs.Conditions.{or-right}
 use Rattle.rulefile.proofs.Claims as rulefile
 use Rattle.automaton.specs.Rules.{WellFormed}
 use Rattle.subsets.specs.Sets.{setsOf, tooMany}
 use Rattle.subsets.specs.Claims.{fits}
-use Rattle.delegates.specs.Alike.{Text}
-use Rattle.chunks.specs.Chunks.{foreign, total}
+use Rattle.chunks.specs.Chunks.{foreign}
 use Rattle.chunks.proofs.Claims as chunks
 use Rattle.board.specs.Boards.{emptyBoard, clearedAt, filledAt}
 use Rattle.judge.specs.declared.Judge.{Judge}
-use Rattle.judge.specs.declared.Loading.{Loading}
-use Rattle.judge.specs.declared.LoadAnswer.{LoadAnswer}
-use Rattle.judge.specs.Replies.{Reply, accepted, loaded, refused, loadSays, openSays, deliverSays, withdrawSays}
-use Rattle.judge.specs.History.{Call, loads, opens, delivers, withdraws, asks, isNone, isSome, orElse, loadNumber, fileOf, ruleBy, ruleIn, openNumber, placesIn, countOf, deliverCheck, withdrawCheck, standing, deliverNumber, withdrawNumber, replyBy}
-use Rattle.judge.specs.Calls.{fresh, withBoard, runsAt, Loads, openingBy, openOf, deliveryBy, deliverOf, withdrawalBy, withdrawOf}
+use Rattle.judge.specs.Replies.{accepted, loaded}
+use Rattle.judge.specs.History.{Call, loads, opens, delivers, withdraws, asks, isNone, orElse, loadNumber, fileOf, ruleBy, openNumber, placesIn, deliverCheck, standing, deliverNumber, withdrawNumber, replyBy}
+use Rattle.judge.specs.Calls.{fresh, withBoard, Outcome, outcomeBy, runsAt, Loads, openOf, deliverOf, withdrawOf}
 use Rattle.judge.specs.Claims.{BuiltBy}
 use Rattle.judge.proofs.Holding.{Holds, all-empty, fresh-holds, placed, cleared-holds, filled-holds}
 use Rattle.judge.proofs.Numbers.{list-11, list-12, list-13, list-22, passed, open-number, withdraw-number, deliver-number}
@@ -57,43 +54,69 @@ no-refusal : (a b : Option ℕ) → orElse a b ≡ none → (a ≡ none) × (b �
 no-refusal none b e = (refl, e)
 no-refusal (some x) b e = absurd (let z : _≡_ {A = ℕ} 0 1 = cc in omega arith)
 
-module _ (f : List ℕ) where
-  -- an accepted file is a well-formed rule with at most 512 sets
-  pub accepted-rule : loadNumber f ≡ none → WellFormed (ruleOf f) × fits (ruleOf f)
+module _ (f : List ℕ) (e : loadNumber f ≡ none) where
+  pub no-number : (refusal f ≡ none) × (tooMany (ruleOf f .targets) (ruleOf f .n) (ruleOf f .k) ≡ false)
   unfolding loadNumber
-  accepted-rule e =
+  no-number =
       let n = no-refusal (refusal f) (firstOf (on 9 (tooMany (ruleOf f .targets) (ruleOf f .n) (ruleOf f .k)) ∷ [])) e in
-      (rulefile.claims .well-formed f (n .0), passed 9 (tooMany (ruleOf f .targets) (ruleOf f .n) (ruleOf f .k)) none (n .1) .0)
+      (n .0, passed 9 (tooMany (ruleOf f .targets) (ruleOf f .n) (ruleOf f .k)) none (n .1) .0)
+
+  -- an accepted file is a well-formed rule with at most 512 sets
+  pub accepted-rule : WellFormed (ruleOf f) × fits (ruleOf f)
+  accepted-rule = (rulefile.claims .well-formed f (no-number .0), no-number .1)
+
+-- the file whose rule is there was accepted
+pub file-accepted : (h : List Call) (f : List ℕ) → fileOf h ≡ some f → loadNumber f ≡ none
+unfolding fileOf
+file-accepted [] f e = absurd (let z : _≡_ {A = ℕ} 0 1 = cc in omega arith)
+file-accepted (loads g ∷ h) f e = by-number (loadNumber g) refl (file-accepted h f)
+  where
+    by-number : (o : Option ℕ) → loadNumber g ≡ o → (fileOf h ≡ some f → loadNumber f ≡ none) → loadNumber f ≡ none
+    by-number none z before =
+        let y : some g ≡ some f = rw z at e in
+        let same : g ≡ f = cc in
+        rw same at z
+    by-number (some x) z before = before (rw z at e)
+file-accepted (opens n ∷ h) f e = file-accepted h f e
+file-accepted (delivers p w ∷ h) f e = file-accepted h f e
+file-accepted (withdraws p ∷ h) f e = file-accepted h f e
+file-accepted (asks ∷ h) f e = file-accepted h f e
+
+by-says : (number : Option ℕ) (j next : Judge) → outcomeBy number j next .says ≡ replyBy number accepted
+by-says none j next = refl
+by-says (some x) j next = refl
 
 module _ (h : List Call) (j : Judge) (good : Good h j) where
-  loaded-good : (f : List ℕ) (r : Loading) → Loads j f r → (o : Option ℕ) → loadNumber f ≡ o → Good (loads f ∷ h) (r .judge)
-  unfolding fileOf placesIn standing
-  loaded-good f r l none e =
-      let a = accepted-rule f e in
-      transfer (r .judge) (sym (rw e)) (sym (rw e)) (λ p. sym (rw e))
-      (all-empty (some f) 0 (r .judge) (l .built e, a .0, a .1) (l .removed e) (omega arith) (λ z. absurd (omega arith)))
-  loaded-good f r l (some x) e =
-      subst (Good (loads f ∷ h)) (sym (ap (λ b. b .judge) (l .refused x e)))
-      (transfer j (sym (rw e)) (sym (rw e)) (λ p. sym (rw e)) good)
+  module _ (f : List ℕ) (o : Outcome) (l : Loads j f o) where
+    loaded-good : (number : Option ℕ) → loadNumber f ≡ number → Good (loads f ∷ h) (o .leaves)
+    unfolding fileOf placesIn standing
+    loaded-good none e =
+        let a = accepted-rule f e in
+        transfer (o .leaves) (sym (rw e)) (sym (rw e)) (λ p. sym (rw e))
+        (all-empty (some f) 0 (o .leaves) (l .built e, a .0, a .1) (l .removed e) (omega arith) (λ z. absurd (omega arith)))
+    loaded-good (some x) e =
+        subst (Good (loads f ∷ h)) (sym (ap (λ b. b .leaves) (l .refused x e)))
+        (transfer j (sym (rw e)) (sym (rw e)) (λ p. sym (rw e)) good)
 
-  pub load-good : (f : List ℕ) (r : Loading) → Loads j f r → Good (loads f ∷ h) (r .judge)
-  load-good f r l = loaded-good f r l (loadNumber f) refl
+    pub load-good : Good (loads f ∷ h) (o .leaves)
+    load-good = loaded-good (loadNumber f) refl
 
-  load-reply : (f : List ℕ) (r : Loading) → Loads j f r → (o : Option ℕ) → loadNumber f ≡ o
-      → loadSays (r .answer) ≡ replyBy o (loaded (length (setsOf (ruleOf f .targets) (ruleOf f .n) (ruleOf f .k))) (r .judge .built .starts))
-  load-reply f r l none e = ap loadSays (l .answered e)
-  load-reply f r l (some x) e = ap (λ b. loadSays (b .answer)) (l .refused x e)
+    load-reply : (number : Option ℕ) → loadNumber f ≡ number
+        → o .says ≡ replyBy number (loaded (length (setsOf (ruleOf f .targets) (ruleOf f .n) (ruleOf f .k))) (o .leaves .built .starts))
+    load-reply none e = l .answered e
+    load-reply (some x) e = ap (λ b. b .says) (l .refused x e)
 
-  pub load-says : (f : List ℕ) (r : Loading) → Loads j f r
-      → loadSays (r .answer) ≡ replyBy (loadNumber f) (loaded (length (setsOf (ruleOf f .targets) (ruleOf f .n) (ruleOf f .k))) (r .judge .built .starts))
-  load-says f r l = load-reply f r l (loadNumber f) refl
+    pub load-says : o .says ≡ replyBy (loadNumber f) (loaded (length (setsOf (ruleOf f .targets) (ruleOf f .n) (ruleOf f .k))) (o .leaves .built .starts))
+    load-says = load-reply (loadNumber f) refl
 
   -- ---- open
-  open-is : (n : ℕ) → openOf j n ≡ openingBy j n (openNumber h n)
+  open-is : (n : ℕ) → openOf j n ≡ outcomeBy (openNumber h n) j (withBoard j (emptyBoard n))
   unfolding openOf
-  open-is n = ap (openingBy j n) (open-number (fileOf h) (placesIn h) (standing (j .built .delegates) h) j good n)
+  open-is n =
+      ap (λ x. outcomeBy x j (withBoard j (emptyBoard n)))
+      (open-number (fileOf h) (placesIn h) (standing (j .built .delegates) h) j good n)
 
-  opened-good : (n : ℕ) (o : Option ℕ) → openNumber h n ≡ o → Good (opens n ∷ h) (openingBy j n o .judge)
+  opened-good : (n : ℕ) (o : Option ℕ) → openNumber h n ≡ o → Good (opens n ∷ h) (outcomeBy o j (withBoard j (emptyBoard n)) .leaves)
   unfolding fileOf placesIn standing
   opened-good n none e =
       let a = passed 20 (isNone (fileOf h)) (cond (outside 1 64 n) (some 10) none) e in
@@ -106,22 +129,21 @@ module _ (h : List Call) (j : Judge) (good : Good h j) where
       kept (some f) x = x
   opened-good n (some x) e = transfer j refl (sym (rw e)) (λ p. sym (rw e)) good
 
-  pub open-good : (n : ℕ) → Good (opens n ∷ h) (openOf j n .judge)
-  open-good n = subst (λ r. Good (opens n ∷ h) (r .judge)) (sym (open-is n)) (opened-good n (openNumber h n) refl)
+  pub open-good : (n : ℕ) → Good (opens n ∷ h) (openOf j n .leaves)
+  open-good n = subst (λ o. Good (opens n ∷ h) (o .leaves)) (sym (open-is n)) (opened-good n (openNumber h n) refl)
 
-  pub open-says : (n : ℕ) → openSays (openOf j n .answer) ≡ replyBy (openNumber h n) accepted
-  open-says n = ap (λ r. openSays (r .answer)) (open-is n) ∙ says (openNumber h n)
-    where
-      says : (o : Option ℕ) → openSays (openingBy j n o .answer) ≡ replyBy o accepted
-      says none = refl
-      says (some x) = refl
+  pub open-says : (n : ℕ) → openOf j n .says ≡ replyBy (openNumber h n) accepted
+  open-says n = ap (λ o. o .says) (open-is n) ∙ by-says (openNumber h n) j (withBoard j (emptyBoard n))
 
   -- ---- withdraw
-  withdraw-is : (p : ℕ) → withdrawOf j p ≡ withdrawalBy j p (withdrawNumber (j .built .delegates) h p)
+  withdraw-is : (p : ℕ) → withdrawOf j p ≡ outcomeBy (withdrawNumber (j .built .delegates) h p) j (withBoard j (clearedAt (j .board) p))
   unfolding withdrawOf
-  withdraw-is p = ap (withdrawalBy j p) (withdraw-number (fileOf h) (placesIn h) (standing (j .built .delegates) h) j good p)
+  withdraw-is p =
+      ap (λ x. outcomeBy x j (withBoard j (clearedAt (j .board) p)))
+      (withdraw-number (fileOf h) (placesIn h) (standing (j .built .delegates) h) j good p)
 
-  withdrawn-good : (p : ℕ) (o : Option ℕ) → withdrawNumber (j .built .delegates) h p ≡ o → Good (withdraws p ∷ h) (withdrawalBy j p o .judge)
+  withdrawn-good : (p : ℕ) (o : Option ℕ) → withdrawNumber (j .built .delegates) h p ≡ o
+      → Good (withdraws p ∷ h) (outcomeBy o j (withBoard j (clearedAt (j .board) p)) .leaves)
   unfolding fileOf placesIn standing placed
   withdrawn-good p none e =
       let a = passed 21 (eqb (placesIn h) 0) (firstOf (on 11 (leb (placesIn h) p) ∷ on 23 (isNone (standing (j .built .delegates) h p)) ∷ [])) e in
@@ -134,15 +156,12 @@ module _ (h : List Call) (j : Judge) (good : Good h j) where
       (λ i. sym (ap (λ (t : Bool). cond t none (standing (j .built .delegates) h i)) (and-false (eqb p i) (isNone (withdrawNumber (j .built .delegates) h p)) (ap isNone e))))
       good
 
-  pub withdraw-good : (p : ℕ) → Good (withdraws p ∷ h) (withdrawOf j p .judge)
-  withdraw-good p = subst (λ r. Good (withdraws p ∷ h) (r .judge)) (sym (withdraw-is p)) (withdrawn-good p (withdrawNumber (j .built .delegates) h p) refl)
+  pub withdraw-good : (p : ℕ) → Good (withdraws p ∷ h) (withdrawOf j p .leaves)
+  withdraw-good p = subst (λ o. Good (withdraws p ∷ h) (o .leaves)) (sym (withdraw-is p)) (withdrawn-good p (withdrawNumber (j .built .delegates) h p) refl)
 
-  pub withdraw-says : (p : ℕ) → withdrawSays (withdrawOf j p .answer) ≡ replyBy (withdrawNumber (j .built .delegates) h p) accepted
-  withdraw-says p = ap (λ r. withdrawSays (r .answer)) (withdraw-is p) ∙ says (withdrawNumber (j .built .delegates) h p)
-    where
-      says : (o : Option ℕ) → withdrawSays (withdrawalBy j p o .answer) ≡ replyBy o accepted
-      says none = refl
-      says (some x) = refl
+  pub withdraw-says : (p : ℕ) → withdrawOf j p .says ≡ replyBy (withdrawNumber (j .built .delegates) h p) accepted
+  withdraw-says p =
+      ap (λ o. o .says) (withdraw-is p) ∙ by-says (withdrawNumber (j .built .delegates) h p) j (withBoard j (clearedAt (j .board) p))
 
   -- ---- verdict
   pub ask-good : Good (asks ∷ h) j
@@ -151,14 +170,18 @@ module _ (h : List Call) (j : Judge) (good : Good h j) where
 
 -- ---- deliver
 module _ (h : List Call) (j : Judge) (good : Good h j) (p : ℕ) (w : List ℕ) where
-  deliver-is : deliverOf j p w ≡ deliveryBy j p w (deliverNumber (j .built .delegates) h p w)
+  abbrev kept : Judge
+  kept = withBoard j (filledAt (j .board) p (runsAt j p w))
+
+  deliver-is : deliverOf j p w ≡ outcomeBy (deliverNumber (j .built .delegates) h p w) j kept
   unfolding deliverOf
-  deliver-is = ap (deliveryBy j p w) (deliver-number (placesIn h) (standing (j .built .delegates) h) j p w (fileOf h) good)
+  deliver-is =
+      ap (λ x. outcomeBy x j kept) (deliver-number (placesIn h) (standing (j .built .delegates) h) j p w (fileOf h) good)
 
   -- a delivery that meets no condition is run and kept
   kept-chunk : (file : Option (List ℕ)) → Holds file (placesIn h) (standing (j .built .delegates) h) j
       → deliverCheck (ruleBy file) (j .built .delegates) (placesIn h) (standing (j .built .delegates) h) p w ≡ none
-      → Holds file (placesIn h) (placed (standing (j .built .delegates) h) p (some w)) (withBoard j (filledAt (j .board) p (runsAt j p w)))
+      → Holds file (placesIn h) (placed (standing (j .built .delegates) h) p (some w)) kept
   kept-chunk none holds e =
       by-test (ltb 0 (placesIn h))
       (λ l. absurd (let z : true ≡ false = holds .ruled (ltb-true 0 (placesIn h) l) in let y : _≡_ {A = ℕ} 0 1 = cc in omega arith))
@@ -176,10 +199,10 @@ module _ (h : List Call) (j : Judge) (good : Good h j) (p : ℕ) (w : List ℕ) 
       let t = passed 13 (foreign w (ruleOf f .k)) (list-22 (ruleOf f) (j .built .delegates) (placesIn h) s p w) (c .1) in
       filled-holds f (placesIn h) (standing (j .built .delegates) h) j holds p (leb-false (placesIn h) p (b .0)) w (chunks.claims .text-law w (ruleOf f .k) .0 (t .0))
 
-  delivered-good : (o : Option ℕ) → deliverNumber (j .built .delegates) h p w ≡ o → Good (delivers p w ∷ h) (deliveryBy j p w o .judge)
+  delivered-good : (o : Option ℕ) → deliverNumber (j .built .delegates) h p w ≡ o → Good (delivers p w ∷ h) (outcomeBy o j kept .leaves)
   unfolding fileOf placesIn standing placed
   delivered-good none e =
-      transfer (withBoard j (filledAt (j .board) p (runsAt j p w))) refl refl
+      transfer kept refl refl
       (λ i. sym (ap (λ (t : Bool). cond t (some w) (standing (j .built .delegates) h i)) (and-true (eqb p i) (isNone (deliverNumber (j .built .delegates) h p w)) (ap isNone e))))
       (kept-chunk (fileOf h) good e)
   delivered-good (some x) e =
@@ -187,12 +210,8 @@ module _ (h : List Call) (j : Judge) (good : Good h j) (p : ℕ) (w : List ℕ) 
       (λ i. sym (ap (λ (t : Bool). cond t (some w) (standing (j .built .delegates) h i)) (and-false (eqb p i) (isNone (deliverNumber (j .built .delegates) h p w)) (ap isNone e))))
       good
 
-  pub deliver-good : Good (delivers p w ∷ h) (deliverOf j p w .judge)
-  deliver-good = subst (λ r. Good (delivers p w ∷ h) (r .judge)) (sym deliver-is) (delivered-good (deliverNumber (j .built .delegates) h p w) refl)
+  pub deliver-good : Good (delivers p w ∷ h) (deliverOf j p w .leaves)
+  deliver-good = subst (λ o. Good (delivers p w ∷ h) (o .leaves)) (sym deliver-is) (delivered-good (deliverNumber (j .built .delegates) h p w) refl)
 
-  pub deliver-says : deliverSays (deliverOf j p w .answer) ≡ replyBy (deliverNumber (j .built .delegates) h p w) accepted
-  deliver-says = ap (λ r. deliverSays (r .answer)) deliver-is ∙ says (deliverNumber (j .built .delegates) h p w)
-    where
-      says : (o : Option ℕ) → deliverSays (deliveryBy j p w o .answer) ≡ replyBy o accepted
-      says none = refl
-      says (some x) = refl
+  pub deliver-says : deliverOf j p w .says ≡ replyBy (deliverNumber (j .built .delegates) h p w) accepted
+  deliver-says = ap (λ o. o .says) deliver-is ∙ by-says (deliverNumber (j .built .delegates) h p w) j kept

@@ -7,38 +7,34 @@ use Prim.Native.Nat.{ℕ}
 use native.Mathlib.Omega.{arith}
 use lib.Dec.{leb}
 use Rattle.rulefile.specs.Conditions.{on, firstOf, outside}
-use Rattle.board.specs.Boards.{placesOf, isEmpty}
+use Rattle.board.specs.Boards.{placesOf, isEmpty, emptyBoard, filledAt, clearedAt}
 use Rattle.judge.specs.declared.Judge.{Judge}
-use Rattle.judge.specs.declared.Loading.{Loading}
-use Rattle.judge.specs.Replies.{Reply, accepted, refused, loadSays, openSays, deliverSays, withdrawSays}
-use Rattle.judge.specs.History.{loadNumber}
-use Rattle.judge.specs.Calls.{noRule, noBoard, Loads, openingBy, openOf, deliveryBy, deliverOf, withdrawalBy, withdrawOf}
+use Rattle.judge.specs.Replies.{accepted, refused}
+use Rattle.judge.specs.History.{loads, opens, delivers, withdraws, asks, loadNumber}
+use Rattle.judge.specs.Calls.{noRule, noBoard, withBoard, runsAt, Outcome, outcomeBy, Loads, openOf, deliverOf, withdrawOf}
 use Rattle.judge.specs.Claims.{Unchanged}
 use Rattle.judge.proofs.Numbers.{state-11}
 
-load-by : (j : Judge) (f : List ℕ) (r : Loading) → Loads j f r → (x : ℕ) → loadSays (r .answer) ≡ refused x → (o : Option ℕ) → loadNumber f ≡ o → r .judge ≡ j
-load-by j f r l x e none z =
-    let a = sym (ap loadSays (l .answered z)) ∙ e in
+load-by : (j : Judge) (f : List ℕ) (o : Outcome) → Loads j f o → (x : ℕ) → o .says ≡ refused x → (number : Option ℕ) → loadNumber f ≡ number
+    → o .leaves ≡ j
+load-by j f o l x e none z =
+    let a = sym (l .answered z) ∙ e in
     absurd (let y : _≡_ {A = ℕ} 0 1 = cc in omega arith)
-load-by j f r l x e (some n) z = ap (λ (b : Loading). b .judge) (l .refused n z)
+load-by j f o l x e (some n) z = ap (λ (b : Outcome). b .leaves) (l .refused n z)
 
-open-by : (j : Judge) (n x : ℕ) (o : Option ℕ) → openSays (openingBy j n o .answer) ≡ refused x → openingBy j n o .judge ≡ j
-open-by j n x none e = absurd (let y : _≡_ {A = ℕ} 0 1 = cc in omega arith)
-open-by j n x (some m) e = refl
-
-deliver-by : (j : Judge) (p : ℕ) (w : List ℕ) (x : ℕ) (o : Option ℕ) → deliverSays (deliveryBy j p w o .answer) ≡ refused x → deliveryBy j p w o .judge ≡ j
-deliver-by j p w x none e = absurd (let y : _≡_ {A = ℕ} 0 1 = cc in omega arith)
-deliver-by j p w x (some m) e = refl
-
-withdraw-by : (j : Judge) (p x : ℕ) (o : Option ℕ) → withdrawSays (withdrawalBy j p o .answer) ≡ refused x → withdrawalBy j p o .judge ≡ j
-withdraw-by j p x none e = absurd (let y : _≡_ {A = ℕ} 0 1 = cc in omega arith)
-withdraw-by j p x (some m) e = refl
+by-number : (number : Option ℕ) (j next : Judge) (o : Outcome) → o ≡ outcomeBy number j next → (x : ℕ) → o .says ≡ refused x → o .leaves ≡ j
+by-number none j next o is x e =
+    let a : accepted ≡ refused x = sym (ap (λ (b : Outcome). b .says) is) ∙ e in
+    absurd (let y : _≡_ {A = ℕ} 0 1 = cc in omega arith)
+by-number (some m) j next o is x e = ap (λ (b : Outcome). b .leaves) is
 
 pub unchanged : Unchanged
 unfolding openOf deliverOf withdrawOf
-unchanged = record {
-  load = λ j f r l x e. load-by j f r l x e (loadNumber f) refl;
-  opening = λ j n x e. open-by j n x (firstOf (on 20 (noRule j) ∷ on 10 (outside 1 64 n) ∷ [])) e;
-  delivery = λ j p w x e. deliver-by j p w x (cond (noBoard j) (some 21) (state-11 j p w)) e;
-  withdrawal = λ j p x e. withdraw-by j p x (firstOf (on 21 (noBoard j) ∷ on 11 (leb (placesOf (j .board)) p) ∷ on 23 (isEmpty (j .board) p) ∷ [])) e;
-}
+unchanged j (loads f) o step x e = load-by j f o step x e (loadNumber f) refl
+unchanged j (opens n) o step x e =
+    by-number (firstOf (on 20 (noRule j) ∷ on 10 (outside 1 64 n) ∷ [])) j (withBoard j (emptyBoard n)) o step x e
+unchanged j (delivers p w) o step x e =
+    by-number (cond (noBoard j) (some 21) (state-11 j p w)) j (withBoard j (filledAt (j .board) p (runsAt j p w))) o step x e
+unchanged j (withdraws p) o step x e =
+    by-number (firstOf (on 21 (noBoard j) ∷ on 11 (leb (placesOf (j .board)) p) ∷ on 23 (isEmpty (j .board) p) ∷ [])) j (withBoard j (clearedAt (j .board) p)) o step x e
+unchanged j asks o step x e = ap (λ (b : Outcome). b .leaves) step

@@ -34,17 +34,9 @@ use Rattle.chunks.specs.Walks.{runMask, runsOf}
 use Rattle.board.specs.declared.Board.{Board}
 use Rattle.board.specs.Boards.{placesOf, isEmpty, emptyBoard, filledAt, clearedAt, emptyPlaces, summedCount}
 use Rattle.judge.specs.declared.Judge.{Judge}
-use Rattle.judge.specs.declared.LoadAnswer.the-variants as load
-use Rattle.judge.specs.declared.Loading.{Loading}
-use Rattle.judge.specs.declared.OpenAnswer.the-variants as opening
-use Rattle.judge.specs.declared.Opening.{Opening}
-use Rattle.judge.specs.declared.DeliverAnswer.the-variants as delivery
-use Rattle.judge.specs.declared.Delivery.{Delivery}
-use Rattle.judge.specs.declared.WithdrawAnswer.the-variants as withdrawal
-use Rattle.judge.specs.declared.Withdrawal.{Withdrawal}
-use Rattle.judge.specs.declared.Verdict.the-variants.{Waiting, Yes, No, Refused}
+use Rattle.judge.specs.Replies as reply
 use Rattle.judge.specs.History.{loadNumber}
-use Rattle.judge.specs.Calls.{fresh, withBoard, Loads, openOf, runsAt, deliverOf, withdrawOf, isYes, verdictOf}
+use Rattle.judge.specs.Calls.{fresh, withBoard, Outcome, Loads, openOf, runsAt, deliverOf, withdrawOf, isYes, verdictOf}
 
 pub fresh-by : (b : Built) → b ≡ noBuilt → (e : Board) → e ≡ emptyBoard 0 → record { built = b; board = e } ≡ fresh
 unfolding fresh
@@ -52,42 +44,42 @@ fresh-by b nothing e empty = rw (nothing, empty)
 
 -- ---- open
 module _ (j : Judge) (n : ℕ) where
-  module _ (r : Opening) where
-    pub open-20 : j .built .n ≡ 0 → r ≡ record { answer = opening.Refused 20; judge = j } → r ≡ openOf j n
+  module _ (r : Outcome) where
+    pub open-20 : j .built .n ≡ 0 → r ≡ record { says = reply.refused 20; leaves = j } → r ≡ openOf j n
     unfolding openOf
     open-20 a e = e ∙ rw (eq-eqb _ _ a)
 
-    pub open-few : (j .built .n ≡ 0 → ⊥) → n < 1 → r ≡ record { answer = opening.Refused 10; judge = j } → r ≡ openOf j n
+    pub open-few : (j .built .n ≡ 0 → ⊥) → n < 1 → r ≡ record { says = reply.refused 10; leaves = j } → r ≡ openOf j n
     unfolding openOf
     open-few a b e = e ∙ rw (ne-eqb _ _ a, lt-ltb _ _ b)
 
-    pub open-many : (j .built .n ≡ 0 → ⊥) → 1 ≤ n → 64 < n → r ≡ record { answer = opening.Refused 10; judge = j } → r ≡ openOf j n
+    pub open-many : (j .built .n ≡ 0 → ⊥) → 1 ≤ n → 64 < n → r ≡ record { says = reply.refused 10; leaves = j } → r ≡ openOf j n
     unfolding openOf
     open-many a b c e = e ∙ rw (ne-eqb _ _ a, le-ltb _ _ b, lt-ltb _ _ c)
 
   pub opened : (j .built .n ≡ 0 → ⊥) → 1 ≤ n → n ≤ 64 → (b : Board) → b ≡ emptyBoard n → (s : Judge) → s ≡ withBoard j b
-      → record { answer = opening.Accepted; judge = s } ≡ openOf j n
+      → record { says = reply.accepted; leaves = s } ≡ openOf j n
   unfolding openOf
   opened a few many b is s e = rw (e, is, ne-eqb _ _ a, le-ltb _ _ few, le-ltb _ _ many)
 
 -- ---- withdraw
 module _ (j : Judge) (p : ℕ) where
-  pub withdraw-21 : j .board .places ≡ 0 → (r : Withdrawal) → r ≡ record { answer = withdrawal.Refused 21; judge = j } → r ≡ withdrawOf j p
+  pub withdraw-21 : j .board .places ≡ 0 → (r : Outcome) → r ≡ record { says = reply.refused 21; leaves = j } → r ≡ withdrawOf j p
   unfolding withdrawOf
   withdraw-21 a r e = e ∙ rw (eq-eqb _ _ a)
 
   module _ (a : j .board .places ≡ 0 → ⊥) (n : ℕ) (places : n ≡ placesOf (j .board)) where
-    pub withdraw-11 : n ≤ p → (r : Withdrawal) → r ≡ record { answer = withdrawal.Refused 11; judge = j } → r ≡ withdrawOf j p
+    pub withdraw-11 : n ≤ p → (r : Outcome) → r ≡ record { says = reply.refused 11; leaves = j } → r ≡ withdrawOf j p
     unfolding withdrawOf
     withdraw-11 b r e = e ∙ rw (ne-eqb _ _ a, ← places, le-leb _ _ b)
 
     module _ (b : p < n) (x : Bool) (empty : x ≡ isEmpty (j .board) p) where
-      pub withdraw-23 : x ≡ true → (r : Withdrawal) → r ≡ record { answer = withdrawal.Refused 23; judge = j } → r ≡ withdrawOf j p
+      pub withdraw-23 : x ≡ true → (r : Outcome) → r ≡ record { says = reply.refused 23; leaves = j } → r ≡ withdrawOf j p
       unfolding withdrawOf
       withdraw-23 c r e = e ∙ rw (ne-eqb _ _ a, ← places, lt-leb _ _ b, ← empty, c)
 
       pub withdrawn : x ≡ false → (d : Board) → d ≡ clearedAt (j .board) p → (s : Judge) → s ≡ withBoard j d
-          → record { answer = withdrawal.Accepted; judge = s } ≡ withdrawOf j p
+          → record { says = reply.accepted; leaves = s } ≡ withdrawOf j p
       unfolding withdrawOf
       withdrawn c d is s e = rw (e, is, ne-eqb _ _ a, ← places, lt-leb _ _ b, ← empty, c)
 
@@ -108,27 +100,27 @@ pub runs-by : (b : Built) (p : ℕ) (w : List ℕ) (mask : ℕ) → mask ≡ run
 runs-by b p w mask is r e = rw is at e
 
 module _ (j : Judge) (p : ℕ) (w : List ℕ) where
-  pub deliver-21 : j .board .places ≡ 0 → (r : Delivery) → r ≡ record { answer = delivery.Refused 21; judge = j } → r ≡ deliverOf j p w
+  pub deliver-21 : j .board .places ≡ 0 → (r : Outcome) → r ≡ record { says = reply.refused 21; leaves = j } → r ≡ deliverOf j p w
   unfolding deliverOf
   deliver-21 a r e = e ∙ rw (eq-eqb _ _ a)
 
   module _ (a : j .board .places ≡ 0 → ⊥) (n : ℕ) (places : n ≡ placesOf (j .board)) where
-    pub deliver-11 : n ≤ p → (r : Delivery) → r ≡ record { answer = delivery.Refused 11; judge = j } → r ≡ deliverOf j p w
+    pub deliver-11 : n ≤ p → (r : Outcome) → r ≡ record { says = reply.refused 11; leaves = j } → r ≡ deliverOf j p w
     unfolding deliverOf
     deliver-11 b r e = e ∙ rw (ne-eqb _ _ a, ← places, le-leb _ _ b)
 
     module _ (b : p < n) where
-      pub deliver-12 : 65536 < length w → (r : Delivery) → r ≡ record { answer = delivery.Refused 12; judge = j } → r ≡ deliverOf j p w
+      pub deliver-12 : 65536 < length w → (r : Outcome) → r ≡ record { says = reply.refused 12; leaves = j } → r ≡ deliverOf j p w
       unfolding deliverOf
       deliver-12 c r e = e ∙ rw (ne-eqb _ _ a, ← places, lt-leb _ _ b, lt-ltb _ _ c)
 
       module _ (c : length w ≤ 65536) (f : Bool) (has : f ≡ foreign w (j .built .k)) where
-        pub deliver-13 : f ≡ true → (r : Delivery) → r ≡ record { answer = delivery.Refused 13; judge = j } → r ≡ deliverOf j p w
+        pub deliver-13 : f ≡ true → (r : Outcome) → r ≡ record { says = reply.refused 13; leaves = j } → r ≡ deliverOf j p w
         unfolding deliverOf
         deliver-13 d r e = e ∙ rw (ne-eqb _ _ a, ← places, lt-leb _ _ b, le-ltb _ _ c, ← has, d)
 
         module _ (d : f ≡ false) (x : Bool) (empty : x ≡ isEmpty (j .board) p) where
-          pub deliver-22 : not x ≡ true → (r : Delivery) → r ≡ record { answer = delivery.Refused 22; judge = j } → r ≡ deliverOf j p w
+          pub deliver-22 : not x ≡ true → (r : Outcome) → r ≡ record { says = reply.refused 22; leaves = j } → r ≡ deliverOf j p w
           unfolding deliverOf
           deliver-22 g r e = e ∙ rw (ne-eqb _ _ a, ← places, lt-leb _ _ b, le-ltb _ _ c, ← has, d, ← empty, g)
 
@@ -137,32 +129,32 @@ module _ (j : Judge) (p : ℕ) (w : List ℕ) where
             weighed : ltb 4294967295 (summedCount (j .board) + runsAt j p w .count) ≡ over
             weighed = sym (exceeds ∙ ap₂ (λ (m : ℕ) (s : Runs). ltb 4294967295 (m + s .count)) summed ran)
 
-            pub deliver-24 : over ≡ true → (r : Delivery) → r ≡ record { answer = delivery.Refused 24; judge = j } → r ≡ deliverOf j p w
+            pub deliver-24 : over ≡ true → (r : Outcome) → r ≡ record { says = reply.refused 24; leaves = j } → r ≡ deliverOf j p w
             unfolding deliverOf
             deliver-24 h r e = e ∙ rw (ne-eqb _ _ a, ← places, lt-leb _ _ b, le-ltb _ _ c, ← has, d, ← empty, g, weighed, h)
 
             pub delivered : over ≡ false → (l : Board) → l ≡ filledAt (j .board) p runs → (s : Judge) → s ≡ withBoard j l
-                → record { answer = delivery.Accepted; judge = s } ≡ deliverOf j p w
+                → record { says = reply.accepted; leaves = s } ≡ deliverOf j p w
             unfolding deliverOf
             delivered h l is s e = rw (e, is, ran, ne-eqb _ _ a, ← places, lt-leb _ _ b, le-ltb _ _ c, ← has, d, ← empty, g, weighed, h)
 
 -- ---- verdict
 module _ (j : Judge) where
-  pub verdict-21 : j .board .places ≡ 0 → Refused 21 ≡ verdictOf j
+  pub verdict-21 : j .board .places ≡ 0 → reply.refused 21 ≡ verdictOf j
   unfolding verdictOf
   verdict-21 a = rw (eq-eqb _ _ a)
 
   module _ (a : j .board .places ≡ 0 → ⊥) (e : ℕ) (empty : e ≡ emptyPlaces (j .board)) where
-    pub verdict-waiting : (e ≡ 0 → ⊥) → Waiting e ≡ verdictOf j
+    pub verdict-waiting : (e ≡ 0 → ⊥) → reply.waiting e ≡ verdictOf j
     unfolding verdictOf
     verdict-waiting b = rw (ne-eqb _ _ a, ← empty, ne-eqb _ _ b)
 
     module _ (b : e ≡ 0) (count : ℕ) (summed : count ≡ summedCount (j .board)) (x : Bool) (says : x ≡ isYes j) where
-      pub verdict-yes : x ≡ true → Yes count ≡ verdictOf j
+      pub verdict-yes : x ≡ true → reply.keeps count ≡ verdictOf j
       unfolding verdictOf
       verdict-yes c = rw (ne-eqb _ _ a, ← empty, eq-eqb _ _ b, ← says, c, summed)
 
-      pub verdict-no : x ≡ false → No count ≡ verdictOf j
+      pub verdict-no : x ≡ false → reply.breaks count ≡ verdictOf j
       unfolding verdictOf
       verdict-no c = rw (ne-eqb _ _ a, ← empty, eq-eqb _ _ b, ← says, c, summed)
 
@@ -171,7 +163,7 @@ not-both : {P : Type 0} (o : Option ℕ) (number : ℕ) → o ≡ some number �
 not-both o number told nothing = absurd (let z : _≡_ {A = ℕ} 0 1 = cc in omega arith)
 
 refused-with : (j : Judge) (f : List ℕ) (number : ℕ) → loadNumber f ≡ some number
-    → (r : Loading) → r ≡ record { answer = load.Refused number; judge = j } → Loads j f r
+    → (r : Outcome) → r ≡ record { says = reply.refused number; leaves = j } → Loads j f r
 refused-with j f number told r e =
     record {
       refused = λ m told′. (cc);
@@ -183,7 +175,7 @@ refused-with j f number told r e =
 module _ (j : Judge) (f : List ℕ) (read : Reading) (reads : Reads f read) where
   -- the file is refused
   pub load-unread : (number : ℕ) → read .answer ≡ reading.Refused number
-      → (r : Loading) → r ≡ record { answer = load.Refused number; judge = j } → Loads j f r
+      → (r : Outcome) → r ≡ record { says = reply.refused number; leaves = j } → Loads j f r
   unfolding loadNumber
   load-unread number told =
       let told : refusal f ≡ some number = sym (reads .answer) ∙ ap numberOf told in
@@ -208,7 +200,7 @@ module _ (j : Judge) (f : List ℕ) (read : Reading) (reads : Reads f read) wher
 
     -- it has too many sets
     pub load-unbuilt : (number : ℕ) → b .answer ≡ build.Refused number
-        → (r : Loading) → r ≡ record { answer = load.Refused number; judge = j } → Loads j f r
+        → (r : Outcome) → r ≡ record { says = reply.refused number; leaves = j } → Loads j f r
     load-unbuilt number answered =
         by-test over
         (λ t.
@@ -220,7 +212,7 @@ module _ (j : Judge) (f : List ℕ) (read : Reading) (reads : Reads f read) wher
         absurd (let z : _≡_ {A = ℕ} 0 1 = cc in omega arith))
 
     pub loaded : (m starts : ℕ) → b .answer ≡ build.Accepted m starts → (e : Board) → e ≡ emptyBoard 0
-        → Loads j f (record { answer = load.Accepted m starts; judge = record { built = b .built; board = e } })
+        → Loads j f (record { says = reply.loaded m starts; leaves = record { built = b .built; board = e } })
     loaded m starts answered e empty =
         by-test over
         (λ t.

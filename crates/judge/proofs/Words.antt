@@ -24,21 +24,21 @@ use Rattle.automaton.specs.Rules.{automatonOf, WellFormed}
 use Rattle.rulefile.specs.Conditions.{outside}
 use Rattle.rulefile.specs.Reader.{ruleOf}
 use Rattle.rulefile.proofs.Conditions.{or-left}
+use Rattle.rulefile.proofs.Claims as rulefile
 use Rattle.delegates.specs.Alike.{Text, Merged}
 use Rattle.chunks.specs.Chunks.{counted, runSet, endSet, total, chunkCount}
-use Rattle.chunks.proofs.Claims as chunks
 use Rattle.board.specs.Joining.{saysYes}
 use Rattle.board.specs.Claims as board-specs
 use Rattle.board.proofs.Claims as board
 use Rattle.board.proofs.Totals.{total-same, term-most}
 use Rattle.judge.specs.declared.Judge.{Judge}
 use Rattle.judge.specs.Replies.{Reply, waiting, keeps, breaks, refused}
-use Rattle.judge.specs.History.{Call, loads, opens, delivers, withdraws, asks, isNone, loadNumber, fileOf, ruleBy, ruleIn, openNumber, boardIn, placesIn, countOf, endOf, standing, emptiesIn, summedIn, yesIn, verdictIn, chunkOf, joinedUpTo, textIn}
-use Rattle.judge.specs.Claims.{Verdict-words}
+use Rattle.judge.specs.History.{Call, loads, opens, delivers, withdraws, asks, isNone, loadNumber, fileOf, ruleBy, openNumber, boardIn, placesIn, countOf, endOf, standing, emptiesIn, summedIn, yesIn, chunkOf, joinedUpTo}
+use Rattle.judge.specs.Claims.{automatonBy, Verdict-words}
 use Rattle.judge.proofs.Running.{merged}
 use Rattle.judge.proofs.Holding.{Holds}
 use Rattle.judge.proofs.Numbers.{passed}
-use Rattle.judge.proofs.Listed.{Good}
+use Rattle.judge.proofs.Listed.{Good, no-number, file-accepted}
 
 -- ---- the verdict by its numbers
 module _ (places empties : ℕ) (yes-there : Bool) (sum : ℕ) where
@@ -263,18 +263,23 @@ module _ (places : ℕ) (at : ℕ → Option (List ℕ)) (j : Judge) where
       places
       at
 
-  accepts-by : (file : Option (List ℕ)) → Holds file places at j → 0 < places → total (λ p. cond (isNone (at p)) 1 0) places ≡ 0
+  -- the file's automaton and the rule's accept the same texts
+  accepts-by : (file : Option (List ℕ)) → ((f : List ℕ) → file ≡ some f → loadNumber f ≡ none) → Holds file places at j → 0 < places
+      → total (λ p. cond (isNone (at p)) 1 0) places ≡ 0
       → (saysYes (listFrom 0 2048 (λ cell. endOf (ruleBy file) (j .built .delegates) (cell / 32) (cell % 32) (at (cell / 32)))) (j .built .delegates) (ruleBy file .n) (ruleBy file .initials) (ruleBy file .finals) places ≡ true)
-      ↔ Accepts (automatonOf (ruleBy file)) (joinedUpTo at places)
-  accepts-by none holds h z = absurd (let e : true ≡ false = holds .ruled h in let y : _≡_ {A = ℕ} 0 1 = cc in omega arith)
-  accepts-by (some f) holds h z =
-      accepts-law (ruleOf f) (holds .rule .1) (j .built .delegates) (j .built .starts)
+      ↔ Accepts (automatonBy file) (joinedUpTo at places)
+  accepts-by none taken holds h z = absurd (let e : true ≡ false = holds .ruled h in let y : _≡_ {A = ℕ} 0 1 = cc in omega arith)
+  accepts-by (some f) taken holds h z =
+      let same = rulefile.claims .language f (no-number f (taken f refl) .0) (joinedUpTo at places) in
+      both
+      (accepts-law (ruleOf f) (holds .rule .1) (j .built .delegates) (j .built .starts)
       (merged (ruleOf f) (holds .rule .1) (holds .rule .2) (j .built) (holds .rule .0))
       places
       at
       (holds .few)
       (holds .texts)
-      z
+      z)
+      (same .1, same .0)
 
 -- a board is there exactly where it has places
 opened-places : (n : ℕ) → outside 1 64 n ≡ false → 0 < n
@@ -298,7 +303,7 @@ board-law (delivers p w ∷ h) = board-law h
 board-law (withdraws p ∷ h) = board-law h
 board-law (asks ∷ h) = board-law h
 
-there : (h : List Call) → boardIn h ≡ true → 0 < placesIn h
+pub there : (h : List Call) → boardIn h ≡ true → 0 < placesIn h
 there h e = ltb-true 0 (placesIn h) (sym (board-law h) ∙ e)
 
 not-true-false : (t : Bool) {A : Type 0} → (t ≡ true) ↔ A → (t ≡ false) ↔ (A → ⊥)
@@ -322,9 +327,9 @@ words h j good =
       counted-no = no-count (placesIn h) (emptiesIn d h) (yesIn d h) (summedIn d h);
       most = most-by (placesIn h) s j (fileOf h) good;
       accepts = λ b e.
-          both (yes-law (placesIn h) (emptiesIn d h) (yesIn d h) (summedIn d h) (there h b) e) (accepts-by (placesIn h) s j (fileOf h) good (there h b) e);
+          both (yes-law (placesIn h) (emptiesIn d h) (yesIn d h) (summedIn d h) (there h b) e) (accepts-by (placesIn h) s j (fileOf h) (file-accepted h) good (there h b) e);
       rejects = λ b e.
           both (no-law (placesIn h) (emptiesIn d h) (yesIn d h) (summedIn d h) (there h b) e)
-          (not-true-false (yesIn d h) (accepts-by (placesIn h) s j (fileOf h) good (there h b) e));
+          (not-true-false (yesIn d h) (accepts-by (placesIn h) s j (fileOf h) (file-accepted h) good (there h b) e));
       joins = λ b e. yes-law (placesIn h) (emptiesIn d h) (yesIn d h) (summedIn d h) (there h b) e;
     }

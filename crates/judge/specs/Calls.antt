@@ -3,8 +3,12 @@
 -- specs/Claims.antt says what it comes to after a list of calls.
 --
 --   fresh              no rule and no board: zeros
---   Loads j f r        r is what a load of the file f may answer
---   openOf, deliverOf, withdrawOf, verdictOf   what the other calls answer
+--   Outcome            what a call came to: what its answer says, and the state that it leaves
+--   loadCame, openCame, deliverCame, withdrawCame   the outcome that the code's result tells
+--   Loads j f o        o is what a load of the file f may come to
+--   openOf, deliverOf, withdrawOf   what the other calls that may change the state come to
+--   verdictOf          what the verdict says
+--   Steps j c o        o is what the call c may come to on the state j
 use mathlib.Core.Path.{_≡_}
 use mathlib.Core.Bool.{Bool, cond, not}
 use mathlib.Core.List.{List, [], _∷_}
@@ -23,17 +27,12 @@ use Rattle.board.specs.declared.Board.{Board}
 use Rattle.board.specs.Boards.{placesOf, isEmpty, emptyBoard, filledAt, clearedAt, emptyPlaces, summedCount}
 use Rattle.board.specs.Joining.{saysYes}
 use Rattle.judge.specs.declared.Judge.{Judge}
-use Rattle.judge.specs.declared.LoadAnswer.the-variants as load
 use Rattle.judge.specs.declared.Loading.{Loading}
-use Rattle.judge.specs.declared.OpenAnswer.the-variants as opening
 use Rattle.judge.specs.declared.Opening.{Opening}
-use Rattle.judge.specs.declared.DeliverAnswer.the-variants as delivery
 use Rattle.judge.specs.declared.Delivery.{Delivery}
-use Rattle.judge.specs.declared.WithdrawAnswer.the-variants as withdrawal
 use Rattle.judge.specs.declared.Withdrawal.{Withdrawal}
-use Rattle.judge.specs.declared.Verdict.{Verdict}
-use Rattle.judge.specs.declared.Verdict.the-variants.{Waiting, Yes, No, Refused}
-use Rattle.judge.specs.History.{loadNumber}
+use Rattle.judge.specs.Replies.{Reply, accepted, loaded, waiting, keeps, breaks, refused, loadSays, openSays, deliverSays, withdrawSays}
+use Rattle.judge.specs.History.{Call, loads, opens, delivers, withdraws, asks, loadNumber}
 
 unfoldable pub fresh : Judge
 fresh = record { built = noBuilt; board = emptyBoard 0 }
@@ -47,22 +46,41 @@ noBoard j = eqb (j .board .places) 0
 abbrev pub withBoard : Judge → Board → Judge
 withBoard j b = record { built = j .built; board = b }
 
+-- ---- outcomes
+pub record Outcome : Type 0 where
+  pub says : Reply
+  pub leaves : Judge
+
+abbrev pub loadCame : Loading → Outcome
+loadCame r = record { says = loadSays (r .answer); leaves = r .judge }
+
+abbrev pub openCame : Opening → Outcome
+openCame r = record { says = openSays (r .answer); leaves = r .judge }
+
+abbrev pub deliverCame : Delivery → Outcome
+deliverCame r = record { says = deliverSays (r .answer); leaves = r .judge }
+
+abbrev pub withdrawCame : Withdrawal → Outcome
+withdrawCame r = record { says = withdrawSays (r .answer); leaves = r .judge }
+
+-- where no condition holds the call is accepted; a refusal leaves the state as it was
+abbrev pub outcomeBy : Option ℕ → Judge → Judge → Outcome
+outcomeBy none j next = record { says = accepted; leaves = next }
+outcomeBy (some number) j next = record { says = refused number; leaves = j }
+
 -- ---- load
--- the delegates are told by what they are, so this is no equation for them; they are fixed all the same
-pub record Loads (j : Judge) (f : List ℕ) (r : Loading) : Type 0 where
-  pub refused : (number : ℕ) → loadNumber f ≡ some number → r ≡ record { answer = load.Refused number; judge = j }
+-- the delegates are told by what they are, so this is no equation for them; they are fixed all the same (StepsFixed of specs/Claims.antt)
+pub record Loads (j : Judge) (f : List ℕ) (o : Outcome) : Type 0 where
+  pub refused : (number : ℕ) → loadNumber f ≡ some number → o ≡ record { says = refused number; leaves = j }
   pub answered : loadNumber f ≡ none
-      → r .answer ≡ load.Accepted (length (setsOf (ruleOf f .targets) (ruleOf f .n) (ruleOf f .k))) (r .judge .built .starts)
-  pub built : loadNumber f ≡ none → BuiltRule (ruleOf f) (r .judge .built)
-  pub removed : loadNumber f ≡ none → r .judge .board ≡ emptyBoard 0
+      → o .says ≡ loaded (length (setsOf (ruleOf f .targets) (ruleOf f .n) (ruleOf f .k))) (o .leaves .built .starts)
+  pub built : loadNumber f ≡ none → BuiltRule (ruleOf f) (o .leaves .built)
+  pub removed : loadNumber f ≡ none → o .leaves .board ≡ emptyBoard 0
 
 -- ---- open
-abbrev pub openingBy : Judge → ℕ → Option ℕ → Opening
-openingBy j n none = record { answer = opening.Accepted; judge = withBoard j (emptyBoard n) }
-openingBy j n (some number) = record { answer = opening.Refused number; judge = j }
-
-unfoldable pub openOf : Judge → ℕ → Opening
-openOf j n = openingBy j n (firstOf (on 20 (noRule j) ∷ on 10 (outside 1 64 n) ∷ []))
+unfoldable pub openOf : Judge → ℕ → Outcome
+openOf j n =
+    outcomeBy (firstOf (on 20 (noRule j) ∷ on 10 (outside 1 64 n) ∷ [])) j (withBoard j (emptyBoard n))
 
 -- ---- deliver
 -- the runs of a chunk at a place
@@ -70,13 +88,9 @@ abbrev pub runsAt : Judge → ℕ → List ℕ → Runs
 runsAt j p w =
     runsOf (j .built .sets) (j .built .next) (j .built .singles) (runMask (j .built .delegates) (j .built .n) (j .built .initials) p) w
 
-abbrev pub deliveryBy : Judge → ℕ → List ℕ → Option ℕ → Delivery
-deliveryBy j p w none = record { answer = delivery.Accepted; judge = withBoard j (filledAt (j .board) p (runsAt j p w)) }
-deliveryBy j p w (some number) = record { answer = delivery.Refused number; judge = j }
-
-unfoldable pub deliverOf : Judge → ℕ → List ℕ → Delivery
+unfoldable pub deliverOf : Judge → ℕ → List ℕ → Outcome
 deliverOf j p w =
-    deliveryBy j p w
+    outcomeBy
     (firstOf (
     on 21 (noBoard j) ∷
     on 11 (leb (placesOf (j .board)) p) ∷
@@ -84,24 +98,33 @@ deliverOf j p w =
     on 13 (foreign w (j .built .k)) ∷
     on 22 (not (isEmpty (j .board) p)) ∷
     on 24 (ltb 4294967295 (summedCount (j .board) + runsAt j p w .count)) ∷ []))
+    j
+    (withBoard j (filledAt (j .board) p (runsAt j p w)))
 
 -- ---- withdraw
-abbrev pub withdrawalBy : Judge → ℕ → Option ℕ → Withdrawal
-withdrawalBy j p none = record { answer = withdrawal.Accepted; judge = withBoard j (clearedAt (j .board) p) }
-withdrawalBy j p (some number) = record { answer = withdrawal.Refused number; judge = j }
-
-unfoldable pub withdrawOf : Judge → ℕ → Withdrawal
+unfoldable pub withdrawOf : Judge → ℕ → Outcome
 withdrawOf j p =
-    withdrawalBy j p (firstOf (on 21 (noBoard j) ∷ on 11 (leb (placesOf (j .board)) p) ∷ on 23 (isEmpty (j .board) p) ∷ []))
+    outcomeBy (firstOf (on 21 (noBoard j) ∷ on 11 (leb (placesOf (j .board)) p) ∷ on 23 (isEmpty (j .board) p) ∷ []))
+    j
+    (withBoard j (clearedAt (j .board) p))
 
 -- ---- verdict
 abbrev pub isYes : Judge → Bool
 isYes j =
     saysYes (j .board .ends) (j .built .delegates) (j .built .n) (j .built .initials) (j .built .finals) (placesOf (j .board))
 
-unfoldable pub verdictOf : Judge → Verdict
+unfoldable pub verdictOf : Judge → Reply
 verdictOf j =
-    cond (noBoard j) (Refused 21)
+    cond (noBoard j) (refused 21)
     (cond (eqb (emptyPlaces (j .board)) 0)
-    (cond (isYes j) (Yes (summedCount (j .board))) (No (summedCount (j .board))))
-    (Waiting (emptyPlaces (j .board))))
+    (cond (isYes j) (keeps (summedCount (j .board))) (breaks (summedCount (j .board))))
+    (waiting (emptyPlaces (j .board))))
+
+-- ---- any call
+-- what a call may come to on the state j
+abbrev pub Steps : Judge → Call → Outcome → Type 0
+Steps j (loads f) o = Loads j f o
+Steps j (opens n) o = o ≡ openOf j n
+Steps j (delivers p w) o = o ≡ deliverOf j p w
+Steps j (withdraws p) o = o ≡ withdrawOf j p
+Steps j asks o = o ≡ record { says = verdictOf j; leaves = j }

@@ -1,6 +1,9 @@
 -- Lists of calls, and what such a list says by itself (document 01, "The board and its calls"). A history has the LAST call first. Nothing here
 -- looks at a state. `d` lists the delegates of the rule that is there.
 --
+-- `d` is fixed by the list (`one-list` of crates/delegates). It enters `standing` only through condition 24, which no list meets: 64 places, 65,536
+-- bytes a chunk and 32 starts make 2^27 transitions at most.
+--
 --   loadNumber f             the number with which a load is refused, 1 to 9, or none where it is accepted
 --   fileOf h, ruleIn h       the file of the last accepted load, and its rule
 --   openNumber h n           the number with which an opening is refused: 20, 10
@@ -8,11 +11,14 @@
 --   placesIn h               its places; 0 where no board is there
 --   standing d h p           the standing chunk at place p, or none
 --   endAt d h p q, countAt d h p   what place p holds: the end set of state q, and the count
---   deliverNumber, withdrawNumber  21, 11, 12, 13, 22, 24 and 21, 11, 23
+--   countOf r d p chunk, endOf r d p q chunk   the same of a chunk at place p, by the rule r; 0 where there is none
+--   deliverCheck, withdrawCheck    the conditions of a delivery and a withdrawal in order, by the places and the chunk standing at each
+--   deliverNumber, withdrawNumber  they after the calls h: 21, 11, 12, 13, 22, 24 and 21, 11, 23
 --   emptiesIn d h, summedIn d h    how many places are empty, and the sum of the counts
 --   yesIn d h, verdictIn d h       the join of the end sets says yes; the verdict
 --   textIn d h               the standing chunks joined by place
---   answerOf d h c           what document 01 answers to the call c after the calls h
+--   replyBy number a         refused with the number, or a where there is none
+--   answerOf d m h c         what document 01 answers to the call c after the calls h; m is the M of the rule that a load brings
 use mathlib.Core.Bool.{Bool, true, false, cond, _&&_}
 use mathlib.Core.List.{List, [], _∷_, _++_}
 use mathlib.Core.Option.{Option, none, some}

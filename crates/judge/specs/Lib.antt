@@ -3,3 +3,5 @@ pub mod Replies
 pub mod History
 pub mod Calls
 pub mod Claims
+pub mod Bytes
+pub mod TableP

@@ -5,7 +5,8 @@ ghost use lib.Dec.{ltb};
 ghost use lib.ListN.{length};
 ghost use Rattle.board.specs.Boards.{placesOf};
 ghost use Rattle.chunks.specs.Walks.{runMask, runsOf};
-ghost use Rattle.judge.specs.Calls.{fresh, withBoard, Loads, openOf, deliverOf, withdrawOf, verdictOf};
+ghost use Rattle.judge.specs.Replies.{refused, verdictSays};
+ghost use Rattle.judge.specs.Calls.{fresh, withBoard, loadCame, openCame, deliverCame, withdrawCame, Loads, openOf, deliverOf, withdrawOf, verdictOf};
 use board::Board;
 use build::BuildAnswer;
 use build::Built;
@@ -94,28 +95,28 @@ fn places_of(board: Board) -> usize
 }
 
 fn refuse_load(judge: Judge, number: u8) -> Loading
-    ensures { λ r. ⌜ r ≡ record { answer = LoadAnswer.Refused number; judge = judge } ⌝ }
+    ensures { λ r. ⌜ loadCame r ≡ record { says = refused number; leaves = judge } ⌝ }
 {
     let answer = LoadAnswer::Refused(number);
     Loading { answer, judge }
 }
 
 fn refuse_opening(judge: Judge, number: u8) -> Opening
-    ensures { λ r. ⌜ r ≡ record { answer = OpenAnswer.Refused number; judge = judge } ⌝ }
+    ensures { λ r. ⌜ openCame r ≡ record { says = refused number; leaves = judge } ⌝ }
 {
     let answer = OpenAnswer::Refused(number);
     Opening { answer, judge }
 }
 
 fn refuse_delivery(judge: Judge, number: u8) -> Delivery
-    ensures { λ r. ⌜ r ≡ record { answer = DeliverAnswer.Refused number; judge = judge } ⌝ }
+    ensures { λ r. ⌜ deliverCame r ≡ record { says = refused number; leaves = judge } ⌝ }
 {
     let answer = DeliverAnswer::Refused(number);
     Delivery { answer, judge }
 }
 
 fn refuse_withdrawal(judge: Judge, number: u8) -> Withdrawal
-    ensures { λ r. ⌜ r ≡ record { answer = WithdrawAnswer.Refused number; judge = judge } ⌝ }
+    ensures { λ r. ⌜ withdrawCame r ≡ record { says = refused number; leaves = judge } ⌝ }
 {
     let answer = WithdrawAnswer::Refused(number);
     Withdrawal { answer, judge }
@@ -146,7 +147,7 @@ fn exceeds(summed: u64, count: u32) -> bool
 
 // Checks and builds a rule. Accepted, it replaces the former rule and removes the board.
 pub fn load(judge: Judge, file: &[u8]) -> Loading
-    ensures { λ r. ⌜ Loads judge (now (file .entry)) r ⌝ }
+    ensures { λ r. ⌜ Loads judge (now (file .entry)) (loadCame r) ⌝ }
 {
     let reading = rulefile::read(file);
     let read = reading.answer;
@@ -172,7 +173,7 @@ pub fn load(judge: Judge, file: &[u8]) -> Loading
 
 // A board of that many places, all empty; an earlier board is dropped.
 pub fn open(judge: Judge, places: usize) -> Opening
-    ensures { λ r. ⌜ r ≡ openOf judge places ⌝ }
+    ensures { λ r. ⌜ openCame r ≡ openOf judge places ⌝ }
 {
     let built = judge.built;
     if built.n == 0 {
@@ -191,7 +192,7 @@ pub fn open(judge: Judge, places: usize) -> Opening
 
 // Runs a chunk and keeps its end sets and count at the place.
 pub fn deliver(judge: Judge, place: usize, chunk: &[u8]) -> Delivery
-    ensures { λ r. ⌜ r ≡ deliverOf judge place (now (chunk .entry)) ⌝ }
+    ensures { λ r. ⌜ deliverCame r ≡ deliverOf judge place (now (chunk .entry)) ⌝ }
 {
     let board = judge.board;
     if board.places == 0 {
@@ -221,7 +222,7 @@ pub fn deliver(judge: Judge, place: usize, chunk: &[u8]) -> Delivery
 
 // Empties the place.
 pub fn withdraw(judge: Judge, place: usize) -> Withdrawal
-    ensures { λ r. ⌜ r ≡ withdrawOf judge place ⌝ }
+    ensures { λ r. ⌜ withdrawCame r ≡ withdrawOf judge place ⌝ }
 {
     let board = judge.board;
     if board.places == 0 {
@@ -240,7 +241,7 @@ pub fn withdraw(judge: Judge, place: usize) -> Withdrawal
 
 // Waiting with the number of empty places; or yes or no with the count.
 pub fn judged(judge: Judge) -> Verdict
-    ensures { λ r. ⌜ r ≡ verdictOf judge ⌝ }
+    ensures { λ r. ⌜ verdictSays r ≡ verdictOf judge ⌝ }
 {
     let board = judge.board;
     if board.places == 0 {

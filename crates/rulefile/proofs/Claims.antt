@@ -22,7 +22,7 @@ use Rattle.rulefile.specs.Reader.{targetsUpTo, targetsBy, targetsFrom, r
 use Rattle.rulefile.specs.Language.{ArcIn, automatonIn}
 use Rattle.rulefile.specs.Worked.{fileA}
 use Rattle.rulefile.specs.Claims.{Claims}
-use Rattle.rulefile.proofs.Conditions.{not-both}
+use Rattle.rulefile.proofs.Conditions.{not-both, none-law, first-law}
 use Rattle.rulefile.proofs.Examples as examples
 use Rattle.rulefile.proofs.Arcs.{bounds}
 use Rattle.rulefile.proofs.Tables.{targets-law}
@@ -116,6 +116,8 @@ rejects t =
 
 pub claims : Claims
 claims = record {
+  none-law = none-law;
+  first-law = first-law;
   accepted-A = examples.accepted-A;
   accepted-B = examples.accepted-B;
   refused-P10 = examples.refused-6;

@@ -1,17 +1,22 @@
 -- The laws of tests and of numbered conditions. Assumes nothing.
-use mathlib.Core.Path.{_≡_, refl, sym, _∙_}
-use mathlib.Core.Logic.{_⊎_, inl, inr, ⊎-elim}
-use mathlib.Core.Bool.{Bool, true, false, _||_}
+use mathlib.Core.Path.{_≡_, refl, sym, ap, _∙_}
+use mathlib.Core.Logic.{_↔_, _⊎_, inl, inr, ⊎-elim}
+use mathlib.Core.Bool.{Bool, true, false, cond, _||_}
+use mathlib.Core.List.{List, [], _∷_}
+use mathlib.Core.Option.{none, some}
 use Prim.Native.Nat.{ℕ, zero, suc, _+_, _<_}
 use native.Mathlib.Nat.{eq-or-lt-of-le, le-of-suc-le-suc}
 use native.Mathlib.Numerals.{add-one}
 use native.Mathlib.Omega.{arith}
 use Rattle.masks.proofs.Cases.{by-test}
-use Rattle.rulefile.specs.Conditions.{anyBelow}
+use Rattle.rulefile.specs.Conditions.{Condition, on, firstOf, NoneHolds, FirstHolds, anyBelow}
 
 -- a test is not both
 pub not-both : (b : Bool) → b ≡ true → b ≡ false → ⊥
 not-both b t f = let z : true ≡ false = sym t ∙ f in absurd (let y : _≡_ {A = ℕ} 0 1 = cc in omega arith)
+
+some-none : {x : ℕ} → some x ≡ none → ⊥
+some-none e = absurd (let z : _≡_ {A = ℕ} 0 1 = cc in omega arith)
 
 -- ---- one or the other
 pub or-either : (a b : Bool) → (a ≡ true) ⊎ (b ≡ true) → (a || b) ≡ true
@@ -53,3 +58,28 @@ module _ (p : ℕ → Bool) where
   unfolding anyBelow
   none-all zero h = refl
   none-all (suc n) h = or-neither (anyBelow p n) (p n) (none-all n (λ i l. h i (omega arith))) (h n (omega arith))
+
+-- ---- numbered conditions
+none-is : (number : ℕ) (test : Bool) (cs : List Condition) → (firstOf cs ≡ none) ↔ NoneHolds cs
+    → (cond test (some number) (firstOf cs) ≡ none) ↔ ((test ≡ false) × NoneHolds cs)
+none-is number true cs law = (λ e. absurd (some-none e), λ x. absurd (not-both true refl (x .0)))
+none-is number false cs law = (λ e. (refl, law .0 e), λ x. law .1 (x .1))
+
+pub none-law : (cs : List Condition) → (firstOf cs ≡ none) ↔ NoneHolds cs
+none-law [] = (λ e. tt, λ x. refl)
+none-law (on number test ∷ cs) = none-is number test cs (none-law cs)
+
+first-is : (x number : ℕ) (test : Bool) (cs : List Condition) → (firstOf cs ≡ some x) ↔ FirstHolds x cs
+    → (cond test (some number) (firstOf cs) ≡ some x) ↔ (((test ≡ true) × (number ≡ x)) ⊎ ((test ≡ false) × FirstHolds x cs))
+first-is x number true cs law = (
+  (λ e. let z : number ≡ x = cc in inl (refl, z)),
+  λ y. ⊎-elim (λ z. ap some (z .1)) (λ z. absurd (not-both true refl (z .0))) y,
+)
+first-is x number false cs law = (
+  (λ e. inr (refl, law .0 e)),
+  λ y. ⊎-elim (λ z. absurd (not-both false (z .0) refl)) (λ z. law .1 (z .1)) y,
+)
+
+pub first-law : (x : ℕ) (cs : List Condition) → (firstOf cs ≡ some x) ↔ FirstHolds x cs
+first-law x [] = (λ e. absurd (some-none (sym e)), λ y. absurd y)
+first-law x (on number test ∷ cs) = first-is x number test cs (first-law x cs)

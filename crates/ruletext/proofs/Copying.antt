@@ -2,7 +2,6 @@
 --
 --   too-short   nothing is written
 --   copied      the text is written from the start
---   taken       a text that was written from the start is read back
 --   within      the length that an answer tells is within the buffer
 --   whole       a rule's text is its first line, its sets' lines and its last line
 use mathlib.Core.Path.{_≡_, sym, ap, _∙_}
@@ -24,7 +23,7 @@ use Rattle.ruletext.specs.declared.Printed.{Printed}
 use Rattle.ruletext.specs.declared.Printed.the-variants.{Bytes, Short}
 use Rattle.ruletext.specs.RuleText.{setLine, headLine, delegatesLine, ruleText}
 use Rattle.ruletext.specs.Printing.{Prints}
-use Rattle.ruletext.proofs.Pieces.{put, _then_}
+use Rattle.text.proofs.Fitting.{put, _then_}
 use Rattle.ruletext.proofs.Lengths.{lines-most}
 
 pub too-short : (text before : List ℕ) → length before < length text → Prints text before before Short
@@ -35,10 +34,6 @@ copied {text} {before} {after} {end} h w =
     let e = le-ltb (length before) (length text) h in
     let l : end ≡ length text = omega (arith, w .ends) in
     record { answer = rw (e, l); buffer = rw e (w .is ∙ ap (λ (x : ℕ). text ++ drop x before) (zero-add (length text))) }
-
-pub taken : {text before after : List ℕ} {end : ℕ} → Wrote before 0 text after end → take end after ≡ text
-taken {text} {before} {after} {end} w =
-    ap (take end) (w .is) ∙ take-at text (drop (0 + length text) before) end (omega (arith, w .ends))
 
 pub whole : (b : Built) (count k n : ℕ) {out m₁ m₂ after : List ℕ} {lines last end : ℕ}
     → count ≡ min (b .count) 512 → k ≡ min (b .k) 16 → n ≡ min (b .n) 32 → 39582 ≤ length out

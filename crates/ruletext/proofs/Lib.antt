@@ -1,6 +1,4 @@
 -- In the order in which they build on each other.
-pub mod Pieces
 pub mod Lengths
 pub mod Copying
 pub mod ForFile
-pub mod Examples

@@ -167,7 +167,7 @@ fn put_rule(out: &mut [u8], built: Built) -> usize
 }
 
 // A text that is there already.
-fn print_text(text: &[u8], out: &mut [u8]) -> Printed
+pub fn print_text(text: &[u8], out: &mut [u8]) -> Printed
     ensures { λ r. ⌜ Prints (now (text .entry)) (now (out .entry)) (now (out .exit)) r ⌝ }
 {
     if out.len() < text.len() {
@@ -185,7 +185,7 @@ fn print_built(built: Built, out: &mut [u8]) -> Printed
     print_text(&text[..length], out)
 }
 
-fn print_refused(number: u8, out: &mut [u8]) -> Printed
+pub fn print_refused(number: u8, out: &mut [u8]) -> Printed
     ensures { λ r. ⌜ Prints (refusedText number) (now (out .entry)) (now (out .exit)) r ⌝ }
 {
     let mut text = [0u8; 12];

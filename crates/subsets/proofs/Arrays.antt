@@ -8,7 +8,6 @@
 use mathlib.Core.Path.{_≡_, refl, sym, ap, _∙_, subst}
 use mathlib.Core.Bool.{Bool, true, false, cond}
 use mathlib.Core.List.{List, [], _∷_, _++_}
-use mathlib.Core.Option.{some, none}
 use Prim.Native.Nat.{ℕ, zero, suc, _+_, _*_, _≤_, _<_}
 use native.Mathlib.Omega.{arith}
 use lib.Dec.{eqb, ltb}
@@ -26,29 +25,29 @@ use Rattle.subsets.specs.declared.Numbered.the-variants.{As, Full}
 use Rattle.subsets.specs.declared.Numbering.{Numbering}
 use Rattle.subsets.specs.declared.Numbering.the-variants.{Whole, Over}
 use Rattle.subsets.specs.Sets.{numberIn, numbered}
-use Rattle.subsets.specs.Answer.{countOf}
+use Rattle.subsets.specs.Answer.{counted, refused, toldOf}
 use Rattle.subsets.specs.Steps.{foundIn, limited, cellsOf, Entered, target, afterStep, Stepped}
 use Rattle.subsets.proofs.Numbers.{Has, nowhere, number-is, numbered-empty, numbered-kept, numbered-taken, number-taken}
 
 -- ---- at most 512
 module _ (f : List ℕ) where
-  pub limited-whole : length f ≤ 512 → some (length f) ≡ limited f
+  pub limited-whole : length f ≤ 512 → counted (length f) ≡ limited f
   limited-whole h = rw (le-ltb 512 (length f) h)
 
-  pub limited-over : 512 < length f → none ≡ limited f
+  pub limited-over : 512 < length f → refused 9 ≡ limited f
   limited-over h = rw (lt-ltb 512 (length f) h)
 
-  pub whole-of : (r : Numbering) (c : ℕ) → countOf r ≡ limited f → r ≡ Whole c → (length f ≤ 512) × (c ≡ length f)
+  pub whole-of : (r : Numbering) (c : ℕ) → toldOf r ≡ limited f → r ≡ Whole c → (length f ≤ 512) × (c ≡ length f)
   whole-of r c e g = go (ltb 512 (length f)) refl (rw g at e)
     where
-      go : (b : Bool) → ltb 512 (length f) ≡ b → some c ≡ cond b none (some (length f)) → (length f ≤ 512) × (c ≡ length f)
+      go : (b : Bool) → ltb 512 (length f) ≡ b → counted c ≡ cond b (refused 9) (counted (length f)) → (length f ≤ 512) × (c ≡ length f)
       go true t h = absurd (let z : _≡_ {A = ℕ} 0 1 = cc in omega arith)
       go false t h = (ltb-false 512 (length f) t, cc)
 
-  pub over-of : (r : Numbering) → countOf r ≡ limited f → r ≡ Over → 512 < length f
+  pub over-of : (r : Numbering) → toldOf r ≡ limited f → r ≡ Over → 512 < length f
   over-of r e g = go (ltb 512 (length f)) refl (rw g at e)
     where
-      go : (b : Bool) → ltb 512 (length f) ≡ b → none ≡ cond b none (some (length f)) → 512 < length f
+      go : (b : Bool) → ltb 512 (length f) ≡ b → refused 9 ≡ cond b (refused 9) (counted (length f)) → 512 < length f
       go true t h = ltb-true 512 (length f) t
       go false t h = absurd (let z : _≡_ {A = ℕ} 0 1 = cc in omega arith)
 
@@ -196,7 +195,7 @@ module _ (ts sets next : List ℕ) (count i s m : ℕ) (most : count ≤ 512) (a
       let e : target ts before i s ≡ 0 = sym is-target ∙ z in
       let k : afterStep ts before i s ≡ before = numbered-empty before (target ts before i s) e in
       record {
-        count = ap some (sym n) ∙ limited-whole before (omega arith) ∙ sym (ap limited k);
+        count = ap counted (sym n) ∙ limited-whole before (omega arith) ∙ sym (ap limited k);
         sets-are = λ _. are ∙ sym (ap cellsOf k);
         next-are = λ _. rw (eq-eqb (target ts before i s) 0 e);
       }
@@ -209,7 +208,7 @@ module _ (ts sets next : List ℕ) (count i s m : ℕ) (most : count ≤ 512) (a
     stepped-whole j c e =
         let a = entered-as before (target ts before i s) r after h j c e in
         record {
-          count = ap some (a .2) ∙ limited-whole (afterStep ts before i s) (a .0);
+          count = ap counted (a .2) ∙ limited-whole (afterStep ts before i s) (a .0);
           sets-are = h .sets-are;
           next-are = λ _. rw (ne-eqb (target ts before i s) 0 (λ z. ne (is-target ∙ z)), a .1);
         }

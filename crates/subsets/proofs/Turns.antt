@@ -7,7 +7,6 @@
 --   states-.., answered-..    the loop over the states, and its ways out
 use mathlib.Core.Path.{_≡_, sym, ap, _∙_, subst}
 use mathlib.Core.List.{List, []}
-use mathlib.Core.Option.{some}
 use Prim.Native.Nat.{ℕ, _+_, _-_, _*_, _≤_, _<_, min}
 use native.Mathlib.Numerals.{add-one}
 use native.Mathlib.Omega.{arith}
@@ -21,7 +20,7 @@ use Rattle.subsets.specs.declared.Numbered.the-variants.{As, Full}
 use Rattle.subsets.specs.declared.Numbering.{Numbering}
 use Rattle.subsets.specs.declared.Numbering.the-variants.{Whole, Over}
 use Rattle.subsets.specs.Sets.{numberIn, numbered, expandFrom, setsUpTo, setsOf, tooMany}
-use Rattle.subsets.specs.Answer.{Answered}
+use Rattle.subsets.specs.Answer.{counted, Answered}
 use Rattle.subsets.specs.Steps.{Entered, target, afterStep, Stepped, Begins, Holds, Grown, closedFrom, grownBy, Cleared}
 use Rattle.subsets.proofs.Numbers.{begins-trans, begins-length, begins-at, numbered-begins}
 use Rattle.subsets.proofs.Closure.{expand-begins, close-begins, upTo-begins, symbols-more}
@@ -72,7 +71,7 @@ module _ (ts : List ℕ) (k : ℕ) where
   grown-whole f sets next count most e h =
       let n : length f ≡ count = ap length e ∙ count-is sets count most (h .sets-are) in
       record {
-        count = ap some (sym n) ∙ limited-whole f (omega arith);
+        count = ap counted (sym n) ∙ limited-whole f (omega arith);
         held = λ _. rw (n, e) h;
       }
 

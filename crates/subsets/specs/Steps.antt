@@ -2,14 +2,13 @@
 -- `Answered` says what they come to. The numbered sets are the first count cells of the array of sets, and the cells past them are 0.
 --
 --   foundIn l m       what the search for the set m among the sets l answers
---   limited l         the number of the sets l, or none where there are more than 512
+--   limited l         what is told of the sets l: their number, or 9 where there are more than 512
 --   cellsOf l         the sets l as an array
 --   Entered, Stepped, Grown   what `number`, `step`, `expand` and `add_state` promise
 --   Holds             what the two arrays hold while sets are expanded
 use mathlib.Core.Path.{_≡_}
 use mathlib.Core.Bool.{cond, _&&_}
 use mathlib.Core.List.{List, [], _++_}
-use mathlib.Core.Option.{Option, some, none}
 use Prim.Native.Nat.{ℕ, _+_, _*_, _/_, _%_, _≤_, _<_}
 use lib.Dec.{eqb, ltb}
 use lib.ListN.{length, getD, set}
@@ -22,13 +21,13 @@ use Rattle.subsets.specs.declared.Numbered.{Numbered}
 use Rattle.subsets.specs.declared.Numbered.the-variants.{As, Full}
 use Rattle.subsets.specs.declared.Numbering.{Numbering}
 use Rattle.subsets.specs.Sets.{numberIn, numbered, closeFrom, numberOrEmpty}
-use Rattle.subsets.specs.Answer.{countOf}
+use Rattle.subsets.specs.Answer.{Told, counted, refused, toldOf}
 
 abbrev pub foundIn : List ℕ → ℕ → Found
 foundIn l m = cond (ltb (numberIn l m) (length l)) (At (record { 0 = numberIn l m })) Nothing
 
-abbrev pub limited : List ℕ → Option ℕ
-limited l = cond (ltb 512 (length l)) none (some (length l))
+abbrev pub limited : List ℕ → Told
+limited l = cond (ltb 512 (length l)) (refused 9) (counted (length l))
 
 abbrev pub cellsOf : List ℕ → List ℕ
 cellsOf l = listFrom 0 512 (λ i. getD l i 0)
@@ -52,7 +51,7 @@ module _ (ts l : List ℕ) (i s : ℕ) where
   afterStep = numbered l target
 
   pub record Stepped (r : Numbering) (sets next₀ next : List ℕ) : Type 0 where
-    pub count : countOf r ≡ limited afterStep
+    pub count : toldOf r ≡ limited afterStep
     pub sets-are : length afterStep ≤ 512 → sets ≡ cellsOf afterStep
     pub next-are : length afterStep ≤ 512 → next ≡ cond (eqb target 0) next₀ (set next₀ (i * 16 + s) (numberIn afterStep target))
 
@@ -73,7 +72,7 @@ pub record Holds (ts : List ℕ) (k : ℕ) (l : List ℕ) (upto : ℕ) (sets nex
 
 -- the numbered sets became f, and all of them are expanded
 pub record Grown (ts : List ℕ) (k : ℕ) (f : List ℕ) (r : Numbering) (sets next : List ℕ) : Type 0 where
-  pub count : countOf r ≡ limited f
+  pub count : toldOf r ≡ limited f
   pub held : length f ≤ 512 → Holds ts k f (length f * 16) sets next
 
 -- the sets l, with those from number i on expanded

@@ -4,7 +4,7 @@ use native.Mathlib.Omega.{arith}
 use lib.ListN.{take}
 use lib.Seq.{length-take-le}
 use Rattle.ruletext.specs.RuleText.{ruleText}
-use Rattle.ruletext.proofs.Copying.{taken}
+use Rattle.text.proofs.Fitting.{taken}
 use borrow.Author.Needs.{needs}
 use Rattle.ruletext.proofs.print_built.Statement.{statement}
 use Rattle.ruletext.proofs.print_built.Tie as tie

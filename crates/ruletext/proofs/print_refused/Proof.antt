@@ -4,7 +4,7 @@ use native.Mathlib.Omega.{arith}
 use lib.ListN.{take}
 use lib.Seq.{length-take-le}
 use Rattle.ruletext.specs.RuleText.{refusedText}
-use Rattle.ruletext.proofs.Copying.{taken}
+use Rattle.text.proofs.Fitting.{taken}
 use Rattle.ruletext.proofs.Lengths.{refused-most}
 use borrow.Author.Needs.{needs}
 use Rattle.ruletext.proofs.print_refused.Statement.{statement}

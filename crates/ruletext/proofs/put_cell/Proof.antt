@@ -1,7 +1,7 @@
 -- `put_cell` meets its contract. Assumes nothing.
 use native.Mathlib.Omega.{arith}
 use borrow.Author.Tests.{lt-ltb, le-ltb}
-use Rattle.ruletext.proofs.Pieces.{put, _then_}
+use Rattle.text.proofs.Fitting.{put, _then_}
 use Rattle.ruletext.proofs.Lengths.{number-most}
 use borrow.Author.Needs.{needs}
 use Rattle.ruletext.proofs.put_cell.Statement.{statement}

@@ -1,6 +1,6 @@
 -- `put_delegates` meets its contract. Assumes nothing.
 use native.Mathlib.Omega.{arith}
-use Rattle.ruletext.proofs.Pieces.{put, _then_}
+use Rattle.text.proofs.Fitting.{put, _then_}
 use borrow.Author.Needs.{needs}
 use Rattle.ruletext.proofs.put_delegates.Statement.{statement}
 use Rattle.ruletext.proofs.put_delegates.Tie as tie

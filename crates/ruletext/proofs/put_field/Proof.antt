@@ -1,6 +1,6 @@
 -- `put_field` meets its contract. Assumes nothing.
 use native.Mathlib.Omega.{arith}
-use Rattle.ruletext.proofs.Pieces.{put, _then_}
+use Rattle.text.proofs.Fitting.{put, _then_}
 use Rattle.ruletext.proofs.Lengths.{byte-most}
 use borrow.Author.Needs.{needs}
 use Rattle.ruletext.proofs.put_field.Statement.{statement}

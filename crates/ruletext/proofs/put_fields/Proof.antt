@@ -5,7 +5,7 @@ use mathlib.Core.Path.{_≡_}
 use lib.ListN.{length, getD}
 use Rattle.text.specs.Numerals.{joined}
 use Rattle.ruletext.specs.RuleText.{field}
-use Rattle.ruletext.proofs.Pieces.{Put, put, none-put, one-more}
+use Rattle.text.proofs.Fitting.{Put, put, none-put, one-more}
 use Rattle.ruletext.proofs.Lengths.{field-most, fields-most}
 use Rattle.ruletext.proofs.put_fields.Statement.{statement}
 use Rattle.ruletext.proofs.put_fields.Tie as tie

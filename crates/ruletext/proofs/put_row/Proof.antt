@@ -4,7 +4,7 @@ use Prim.Native.Nat.{_+_, _*_, _-_, _≤_, _<_}
 use mathlib.Core.Path.{_≡_}
 use lib.ListN.{length, getD}
 use Rattle.ruletext.specs.RuleText.{cellText, rowText}
-use Rattle.ruletext.proofs.Pieces.{Put, put, none-put, one-more}
+use Rattle.text.proofs.Fitting.{Put, put, none-put, one-more}
 use Rattle.ruletext.proofs.Lengths.{cell-most, row-most}
 use Rattle.ruletext.proofs.put_row.Statement.{statement}
 use Rattle.ruletext.proofs.put_row.Tie as tie

@@ -3,7 +3,7 @@ use native.Mathlib.Omega.{arith}
 use lib.ListN.{getD}
 use mathlib.Core.Path.{_≡_}
 use Rattle.text.proofs.Digits.{hex-length}
-use Rattle.ruletext.proofs.Pieces.{put, _then_}
+use Rattle.text.proofs.Fitting.{put, _then_}
 use Rattle.ruletext.proofs.Lengths.{number-most, row-most}
 use borrow.Author.Needs.{needs}
 use Rattle.ruletext.proofs.put_set.Statement.{statement}

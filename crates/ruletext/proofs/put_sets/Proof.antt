@@ -5,7 +5,7 @@ use mathlib.Core.Path.{_≡_}
 use lib.ListN.{length}
 use Rattle.text.specs.Numerals.{joined}
 use Rattle.ruletext.specs.RuleText.{setLine}
-use Rattle.ruletext.proofs.Pieces.{Put, put, none-put, one-more}
+use Rattle.text.proofs.Fitting.{Put, put, none-put, one-more}
 use Rattle.ruletext.proofs.Lengths.{line-most, lines-most}
 use Rattle.ruletext.proofs.put_sets.Statement.{statement}
 use Rattle.ruletext.proofs.put_sets.Tie as tie

@@ -1,0 +1,168 @@
+// Runs the call that a line records on a judge.
+ghost use mathlib.Core.Path.{_≡_};
+ghost use mathlib.Core.Option.{some};
+ghost use Prim.Native.Nat.{_≤_};
+ghost use lib.ListN.{length};
+ghost use Rattle.fields.specs.Bytes.{bytesIn};
+ghost use Rattle.judge.specs.Replies.{loadSays, openSays, deliverSays, withdrawSays, verdictSays};
+ghost use Rattle.judge.specs.History.{opens, withdraws, asks};
+ghost use Rattle.calltext.specs.Meaning.{again, call, malformed, loadBy, deliverBy, lineIn};
+ghost use Rattle.calltext.specs.Answers.{replied, responseOf};
+ghost use Rattle.callrun.specs.Running.{LineSteps};
+use calltext::Line;
+use calltext::LineAnswer;
+use fields::Bytes;
+use judge::DeliverAnswer;
+use judge::Judge;
+use judge::LoadAnswer;
+use judge::OpenAnswer;
+use judge::Verdict;
+use judge::WithdrawAnswer;
+
+// What a line is answered, and the judge that it leaves.
+pub struct LineRun {
+    pub answer: LineAnswer,
+    pub judge: Judge,
+}
+
+fn load_answer(answer: LoadAnswer) -> LineAnswer
+    ensures { λ r. ⌜ responseOf r ≡ replied (loadSays answer) ⌝ }
+{
+    match answer {
+        LoadAnswer::Accepted(sets, starts) => LineAnswer::Loaded(sets, starts),
+        LoadAnswer::Refused(number) => LineAnswer::Refused(number),
+    }
+}
+
+fn open_answer(answer: OpenAnswer) -> LineAnswer
+    ensures { λ r. ⌜ responseOf r ≡ replied (openSays answer) ⌝ }
+{
+    match answer {
+        OpenAnswer::Accepted => LineAnswer::Accepted,
+        OpenAnswer::Refused(number) => LineAnswer::Refused(number),
+    }
+}
+
+fn deliver_answer(answer: DeliverAnswer) -> LineAnswer
+    ensures { λ r. ⌜ responseOf r ≡ replied (deliverSays answer) ⌝ }
+{
+    match answer {
+        DeliverAnswer::Accepted => LineAnswer::Accepted,
+        DeliverAnswer::Refused(number) => LineAnswer::Refused(number),
+    }
+}
+
+fn withdraw_answer(answer: WithdrawAnswer) -> LineAnswer
+    ensures { λ r. ⌜ responseOf r ≡ replied (withdrawSays answer) ⌝ }
+{
+    match answer {
+        WithdrawAnswer::Accepted => LineAnswer::Accepted,
+        WithdrawAnswer::Refused(number) => LineAnswer::Refused(number),
+    }
+}
+
+fn verdict_answer(verdict: Verdict) -> LineAnswer
+    ensures { λ r. ⌜ responseOf r ≡ replied (verdictSays verdict) ⌝ }
+{
+    match verdict {
+        Verdict::Waiting(empty) => LineAnswer::Waiting(empty),
+        Verdict::Yes(count) => LineAnswer::Yes(count),
+        Verdict::No(count) => LineAnswer::No(count),
+        Verdict::Refused(number) => LineAnswer::Refused(number),
+    }
+}
+
+// A malformed line changes nothing.
+pub fn run_malformed(judge: Judge) -> LineRun
+    ensures { λ r. ⌜ LineSteps judge malformed (responseOf (r .answer)) (r .judge) ⌝ }
+{
+    let answer = LineAnswer::Malformed;
+    LineRun { answer, judge }
+}
+
+fn run_empty(judge: Judge) -> LineRun
+    ensures { λ r. ⌜ LineSteps judge again (responseOf (r .answer)) (r .judge) ⌝ }
+{
+    let answer = LineAnswer::Began;
+    let judge = judge::new_judge();
+    LineRun { answer, judge }
+}
+
+// The bytes go through the lent buffer. What is longer than the buffer is refused by its length alone, so what does not fit is not missed.
+fn run_load(judge: Judge, field: &[u8], buffer: &mut [u8]) -> LineRun
+    requires { ⌜ 65537 ≤ length (now buffer) ⌝ }
+    ensures { λ r. ⌜ LineSteps judge (loadBy (bytesIn (now (field .entry)))) (responseOf (r .answer)) (r .judge) ⌝ }
+{
+    let bytes = fields::read_bytes(field, buffer);
+    match bytes {
+        Bytes::Malformed => run_malformed(judge),
+        Bytes::Put(n) => {
+            let loading = judge::load(judge, &buffer[..n]);
+            let said = loading.answer;
+            let answer = load_answer(said);
+            let judge = loading.judge;
+            LineRun { answer, judge }
+        }
+    }
+}
+
+fn run_open(judge: Judge, places: u64) -> LineRun
+    ensures { λ r. ⌜ LineSteps judge (call (opens places)) (responseOf (r .answer)) (r .judge) ⌝ }
+{
+    let opening = judge::open(judge, places as usize);
+    let said = opening.answer;
+    let answer = open_answer(said);
+    let judge = opening.judge;
+    LineRun { answer, judge }
+}
+
+fn run_deliver(judge: Judge, place: u64, field: &[u8], buffer: &mut [u8]) -> LineRun
+    requires { ⌜ 65537 ≤ length (now buffer) ⌝ }
+    ensures { λ r. ⌜ LineSteps judge (deliverBy (some place) (bytesIn (now (field .entry)))) (responseOf (r .answer)) (r .judge) ⌝ }
+{
+    let bytes = fields::read_bytes(field, buffer);
+    match bytes {
+        Bytes::Malformed => run_malformed(judge),
+        Bytes::Put(n) => {
+            let delivery = judge::deliver(judge, place as usize, &buffer[..n]);
+            let said = delivery.answer;
+            let answer = deliver_answer(said);
+            let judge = delivery.judge;
+            LineRun { answer, judge }
+        }
+    }
+}
+
+fn run_withdraw(judge: Judge, place: u64) -> LineRun
+    ensures { λ r. ⌜ LineSteps judge (call (withdraws place)) (responseOf (r .answer)) (r .judge) ⌝ }
+{
+    let withdrawal = judge::withdraw(judge, place as usize);
+    let said = withdrawal.answer;
+    let answer = withdraw_answer(said);
+    let judge = withdrawal.judge;
+    LineRun { answer, judge }
+}
+
+fn run_verdict(judge: Judge) -> LineRun
+    ensures { λ r. ⌜ LineSteps judge (call asks) (responseOf (r .answer)) (r .judge) ⌝ }
+{
+    let answer = verdict_answer(judge::judged(judge));
+    LineRun { answer, judge }
+}
+
+// One line. The buffer is for the bytes that the line carries; what it holds before and after is of no matter.
+pub fn run_line(judge: Judge, line: &[u8], buffer: &mut [u8]) -> LineRun
+    requires { ⌜ 65537 ≤ length (now buffer) ⌝ }
+    ensures { λ r. ⌜ LineSteps judge (lineIn (now (line .entry))) (responseOf (r .answer)) (r .judge) ⌝ }
+{
+    let parsed = calltext::parse(line);
+    match parsed {
+        Line::Empty => run_empty(judge),
+        Line::Load => run_load(judge, &line[5..], buffer),
+        Line::Open(places) => run_open(judge, places),
+        Line::Deliver(place, from) => run_deliver(judge, place, &line[from..], buffer),
+        Line::Withdraw(place) => run_withdraw(judge, place),
+        Line::Verdict => run_verdict(judge),
+        Line::Malformed => run_malformed(judge),
+    }
+}

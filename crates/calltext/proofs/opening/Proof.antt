@@ -1,0 +1,25 @@
+-- `opening` meets its contract. Assumes nothing.
+use mathlib.Core.Path.{refl}
+use borrow.Author.Needs.{needs}
+use Rattle.calltext.proofs.Readings.{open-value, open-malformed}
+use Rattle.calltext.proofs.opening.Statement.{statement}
+use Rattle.calltext.proofs.opening.Tie as tie
+
+read-number-requires : tie.Need-read-number-requires
+read-number-requires c κs = search needs
+
+enum-known-number : tie.Need-enum-known-number
+enum-known-number c = search needs
+
+enum-told : tie.Need-enum-told
+enum-told c = search needs
+
+returns : tie.Need-returns
+returns c = (refl, λ w. search (needs, open-value))
+
+returns-2 : tie.Need-returns-2
+returns-2 c = (refl, λ w. search (needs, open-malformed))
+
+pub opening-spec : {M : Type 1} → statement M
+opening-spec =
+    tie.close (tie.spec read-number-requires enum-known-number enum-told returns returns-2)

@@ -1,0 +1,99 @@
+-- What a line that records a call means: `load HEX`, `open N`, `deliver P HEX`, `withdraw P` or `verdict`, with exactly one space between the
+-- fields. An empty line means a fresh judge; any other line is malformed.
+--
+--   Meaning            of a line
+--   lineIn w           what the line w means
+--   meant w r          what each case of the code's answer says of the line w
+--   Parsed w r         r is the right answer for the line w
+use mathlib.Core.Path.{_≡_}
+use mathlib.Core.Bool.{cond}
+use mathlib.Core.List.{List, [], _∷_}
+use mathlib.Core.Option.{Option, none, some}
+use Prim.Native.Nat.{ℕ, _≤_}
+use lib.Dec.{eqb}
+use lib.ListN.{length, drop}
+use Rattle.lines.specs.Splitting.{begins, upTo, past}
+use Rattle.fields.specs.Numbers.{numberIn}
+use Rattle.fields.specs.Bytes.{bytesIn}
+use Rattle.judge.specs.History.{Call, loads, opens, delivers, withdraws, asks}
+use Rattle.calltext.specs.declared.Line.{Line}
+use Rattle.calltext.specs.declared.Line.the-variants.{Empty, Load, Open, Deliver, Withdraw, Verdict, Malformed}
+
+pub data Meaning : Type 0 where
+  again : Meaning
+  call : Call → Meaning
+  malformed : Meaning
+
+-- ---- the words, each with the space behind it where a field follows
+abbrev pub load-word : List ℕ
+load-word = 108 ∷ 111 ∷ 97 ∷ 100 ∷ 32 ∷ []
+
+abbrev pub open-word : List ℕ
+open-word = 111 ∷ 112 ∷ 101 ∷ 110 ∷ 32 ∷ []
+
+abbrev pub deliver-word : List ℕ
+deliver-word = 100 ∷ 101 ∷ 108 ∷ 105 ∷ 118 ∷ 101 ∷ 114 ∷ 32 ∷ []
+
+abbrev pub withdraw-word : List ℕ
+withdraw-word = 119 ∷ 105 ∷ 116 ∷ 104 ∷ 100 ∷ 114 ∷ 97 ∷ 119 ∷ 32 ∷ []
+
+abbrev pub verdict-word : List ℕ
+verdict-word = 118 ∷ 101 ∷ 114 ∷ 100 ∷ 105 ∷ 99 ∷ 116 ∷ []
+
+-- ---- the call, from what its fields say
+abbrev pub loadBy : Option (List ℕ) → Meaning
+loadBy none = malformed
+loadBy (some f) = call (loads f)
+
+abbrev pub openBy : Option ℕ → Meaning
+openBy none = malformed
+openBy (some n) = call (opens n)
+
+abbrev pub withdrawBy : Option ℕ → Meaning
+withdrawBy none = malformed
+withdrawBy (some p) = call (withdraws p)
+
+abbrev pub deliverBy : Option ℕ → Option (List ℕ) → Meaning
+deliverBy none bytes = malformed
+deliverBy (some p) none = malformed
+deliverBy (some p) (some w) = call (delivers p w)
+
+-- a place, and behind one space the bytes
+abbrev pub deliverFields : List ℕ → Option (List ℕ) → Meaning
+deliverFields p none = malformed
+deliverFields p (some w) = deliverBy (numberIn p) (bytesIn w)
+
+-- the five calls
+unfoldable pub callIn : List ℕ → Meaning
+callIn w =
+    cond (begins verdict-word w) (cond (eqb (length w) 7) (call asks) malformed)
+    (cond (begins load-word w) (loadBy (bytesIn (drop 5 w)))
+    (cond (begins open-word w) (openBy (numberIn (drop 5 w)))
+    (cond (begins deliver-word w) (deliverFields (upTo 32 (drop 8 w)) (past 32 (drop 8 w)))
+    (cond (begins withdraw-word w) (withdrawBy (numberIn (drop 9 w))) malformed))))
+
+abbrev pub lineIn : List ℕ → Meaning
+lineIn w = cond (eqb (length w) 0) again (callIn w)
+
+-- ---- what the code answers. The bytes of a load and of a delivery are still to be read, from an index on
+abbrev pub meant : List ℕ → Line → Meaning
+meant w Empty = again
+meant w Load = loadBy (bytesIn (drop 5 w))
+meant w (Open n) = call (opens n)
+meant w (Deliver p from) = deliverBy (some p) (bytesIn (drop from w))
+meant w (Withdraw p) = call (withdraws p)
+meant w Verdict = call asks
+meant w Malformed = malformed
+
+abbrev pub bytesFrom : Line → ℕ
+bytesFrom Empty = 0
+bytesFrom Load = 5
+bytesFrom (Open n) = 0
+bytesFrom (Deliver p from) = from
+bytesFrom (Withdraw p) = 0
+bytesFrom Verdict = 0
+bytesFrom Malformed = 0
+
+pub record Parsed (w : List ℕ) (r : Line) : Type 0 where
+  pub means : lineIn w ≡ meant w r
+  pub inside : bytesFrom r ≤ length w

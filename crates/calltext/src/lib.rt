@@ -1,0 +1,155 @@
+// Between the text of a list of calls and the calls: what a line means, and how its answer is written.
+ghost use mathlib.Core.Path.{_≡_};
+ghost use mathlib.Core.List.{List, [], _∷_, _++_};
+ghost use Prim.Native.Nat.{ℕ, _+_, _≤_};
+ghost use lib.ListN.{length, drop};
+ghost use Rattle.text.specs.Writing.{Wrote};
+ghost use Rattle.fields.specs.Numbers.{numberIn};
+ghost use Rattle.lines.specs.Splitting.{upTo, past};
+ghost use Rattle.calltext.specs.Meaning.{openBy, withdrawBy, deliverFields, meant, bytesFrom, Parsed};
+ghost use Rattle.calltext.specs.Answers.{behind, replied, responseText, responseOf};
+ghost use Rattle.judge.specs.Replies.{loaded};
+use fields::Number;
+
+// A line. The bytes of a load begin at index 5, those of a delivery at the index beside its place.
+pub enum Line {
+    Empty,
+    Load,
+    Open(u64),
+    Deliver(u64, usize),
+    Withdraw(u64),
+    Verdict,
+    Malformed,
+}
+
+fn opening(field: &[u8]) -> Line
+    ensures { λ r. ⌜ (bytesFrom r ≡ 0) × ((w : List ℕ) → meant w r ≡ openBy (numberIn (now (field .entry)))) ⌝ }
+{
+    let number = fields::read_number(field);
+    match number {
+        Number::Value(n) => Line::Open(n),
+        Number::Malformed => Line::Malformed,
+    }
+}
+
+fn withdrawal(field: &[u8]) -> Line
+    ensures { λ r. ⌜ (bytesFrom r ≡ 0) × ((w : List ℕ) → meant w r ≡ withdrawBy (numberIn (now (field .entry)))) ⌝ }
+{
+    let number = fields::read_number(field);
+    match number {
+        Number::Value(p) => Line::Withdraw(p),
+        Number::Malformed => Line::Malformed,
+    }
+}
+
+// A place up to the next space, and bytes behind it.
+fn delivery(line: &[u8]) -> Line
+    requires { ⌜ 8 ≤ length (now line) ⌝ }
+    ensures { λ r. ⌜ (bytesFrom r ≤ length (now (line .entry))) × (meant (now (line .entry)) r ≡ deliverFields (upTo 32 (drop 8 (now (line .entry)))) (past 32 (drop 8 (now (line .entry))))) ⌝ }
+{
+    let space = lines::find(line, 8, b' ');
+    if line.len() <= space {
+        return Line::Malformed;
+    }
+    let number = fields::read_number(&line[8..space]);
+    match number {
+        Number::Value(p) => Line::Deliver(p, space + 1),
+        Number::Malformed => Line::Malformed,
+    }
+}
+
+// Takes a line apart, but for the bytes that it may carry.
+pub fn parse(line: &[u8]) -> Line
+    ensures { λ r. ⌜ Parsed (now (line .entry)) r ⌝ }
+{
+    if line.len() == 0 {
+        return Line::Empty;
+    }
+    if lines::begins_with(line, b"verdict") {
+        if line.len() == 7 {
+            return Line::Verdict;
+        }
+        return Line::Malformed;
+    }
+    if lines::begins_with(line, b"load ") {
+        return Line::Load;
+    }
+    if lines::begins_with(line, b"open ") {
+        return opening(&line[5..]);
+    }
+    if lines::begins_with(line, b"deliver ") {
+        return delivery(line);
+    }
+    if lines::begins_with(line, b"withdraw ") {
+        return withdrawal(&line[9..]);
+    }
+    Line::Malformed
+}
+
+// What a line is answered.
+pub enum LineAnswer {
+    Began,
+    Loaded(u16, u8),
+    Accepted,
+    Waiting(u8),
+    Yes(u64),
+    No(u64),
+    Refused(u8),
+    Malformed,
+}
+
+// A word on a line of its own.
+fn put_word(out: &mut [u8], word: &[u8]) -> usize
+    requires { ⌜ length (now word) + 1 ≤ length (now out) ⌝ }
+    ensures { λ r. ⌜ Wrote (now (out .entry)) 0 (now (word .entry) ++ (10 ∷ [])) (now (out .exit)) r ⌝ }
+{
+    let end = text::put_bytes(out, 0, word);
+    text::put_byte(out, end, b'\n')
+}
+
+// A number with a space before it.
+fn put_behind(out: &mut [u8], at: usize, n: u64) -> usize
+    requires { ⌜ at + 21 ≤ length (now out) ⌝ }
+    ensures { λ r. ⌜ Wrote (now (out .entry)) at (behind n) (now (out .exit)) r ⌝ }
+{
+    let digits = text::put_byte(out, at, b' ');
+    text::put_decimal(out, digits, n)
+}
+
+// A word and a number.
+fn put_numbered(out: &mut [u8], word: &[u8], n: u64) -> usize
+    requires { ⌜ length (now word) + 22 ≤ length (now out) ⌝ }
+    ensures { λ r. ⌜ Wrote (now (out .entry)) 0 ((now (word .entry) ++ behind n) ++ (10 ∷ [])) (now (out .exit)) r ⌝ }
+{
+    let first = text::put_bytes(out, 0, word);
+    let end = put_behind(out, first, n);
+    text::put_byte(out, end, b'\n')
+}
+
+// The answer to a load that was accepted.
+fn put_loaded(out: &mut [u8], sets: u64, starts: u64) -> usize
+    requires { ⌜ 51 ≤ length (now out) ⌝ }
+    ensures { λ r. ⌜ Wrote (now (out .entry)) 0 (responseText (replied (loaded sets starts))) (now (out .exit)) r ⌝ }
+{
+    let first = text::put_bytes(out, 0, b"accepted");
+    let second = put_behind(out, first, sets);
+    let end = put_behind(out, second, starts);
+    text::put_byte(out, end, b'\n')
+}
+
+// Writes an answer at the buffer's start and tells its length; 64 bytes are enough.
+pub fn put_answer(out: &mut [u8], answer: LineAnswer) -> usize
+    requires { ⌜ 64 ≤ length (now out) ⌝ }
+    ensures { λ r. ⌜ Wrote (now (out .entry)) 0 (responseText (responseOf answer)) (now (out .exit)) r ⌝ }
+{
+    match answer {
+        LineAnswer::Began => text::put_byte(out, 0, b'\n'),
+        LineAnswer::Loaded(sets, starts) => put_loaded(out, sets as u64, starts as u64),
+        LineAnswer::Accepted => put_word(out, b"accepted"),
+        LineAnswer::Waiting(empty) => put_numbered(out, b"waiting", empty as u64),
+        LineAnswer::Yes(count) => put_numbered(out, b"yes", count),
+        LineAnswer::No(count) => put_numbered(out, b"no", count),
+        LineAnswer::Refused(number) => put_numbered(out, b"refused", number as u64),
+        LineAnswer::Malformed => put_word(out, b"malformed"),
+    }
+}

@@ -1,0 +1,195 @@
+// The judge for C and Rust. Answers are numbers; the state is a value that the caller keeps, hands in and gets back.
+ghost use mathlib.Core.Path.{_≡_};
+ghost use Rattle.judge.specs.Calls.{fresh, openOf, deliverOf, withdrawOf, verdictOf};
+ghost use Rattle.replay.specs.Records.{recordIn};
+ghost use Rattle.capi.specs.Numbers.{LoadsShown, openShown, deliverShown, withdrawShown, verdictShown, ReplayShown};
+use judge::DeliverAnswer;
+use judge::Judge;
+use judge::LoadAnswer;
+use judge::OpenAnswer;
+use judge::Verdict;
+use judge::WithdrawAnswer;
+use replay::ReplayAnswer;
+
+// Accepted is 1 or 0; where it is 0, refused has the number.
+#[repr(C)]
+pub struct LoadResult {
+    pub accepted: u8,
+    pub refused: u8,
+    pub sets: u16,
+    pub starts: u8,
+    pub judge: Judge,
+}
+
+#[repr(C)]
+pub struct OpenResult {
+    pub accepted: u8,
+    pub refused: u8,
+    pub judge: Judge,
+}
+
+#[repr(C)]
+pub struct DeliverResult {
+    pub accepted: u8,
+    pub refused: u8,
+    pub judge: Judge,
+}
+
+#[repr(C)]
+pub struct WithdrawResult {
+    pub accepted: u8,
+    pub refused: u8,
+    pub judge: Judge,
+}
+
+// Kind 0 refused with the number, 1 waiting with so many empty places, 2 yes and 3 no with the count.
+#[repr(C)]
+pub struct VerdictResult {
+    pub kind: u8,
+    pub number: u64,
+}
+
+// As a verdict; kind 4: the line of that number is malformed.
+#[repr(C)]
+pub struct ReplayResult {
+    pub kind: u8,
+    pub number: u64,
+}
+
+#[no_mangle]
+pub extern "C" fn bellbadger_new() -> Judge
+    ensures { λ r. ⌜ r ≡ fresh ⌝ }
+{
+    judge::new_judge()
+}
+
+#[no_mangle]
+pub extern "C" fn bellbadger_load(judge: Judge, file: &[u8]) -> LoadResult
+    ensures { λ r. ⌜ LoadsShown judge (now (file .entry)) r ⌝ }
+{
+    let loading = judge::load(judge, file);
+    let answer = loading.answer;
+    let judge = loading.judge;
+    match answer {
+        LoadAnswer::Accepted(sets, starts) => LoadResult {
+            accepted: 1,
+            refused: 0,
+            sets,
+            starts,
+            judge,
+        },
+        LoadAnswer::Refused(refused) => LoadResult {
+            accepted: 0,
+            refused,
+            sets: 0,
+            starts: 0,
+            judge,
+        },
+    }
+}
+
+#[no_mangle]
+pub extern "C" fn bellbadger_open(judge: Judge, places: usize) -> OpenResult
+    ensures { λ r. ⌜ r ≡ openShown (openOf judge places) ⌝ }
+{
+    let opening = judge::open(judge, places);
+    let answer = opening.answer;
+    let judge = opening.judge;
+    match answer {
+        OpenAnswer::Accepted => OpenResult {
+            accepted: 1,
+            refused: 0,
+            judge,
+        },
+        OpenAnswer::Refused(refused) => OpenResult {
+            accepted: 0,
+            refused,
+            judge,
+        },
+    }
+}
+
+#[no_mangle]
+pub extern "C" fn bellbadger_deliver(judge: Judge, place: usize, chunk: &[u8]) -> DeliverResult
+    ensures { λ r. ⌜ r ≡ deliverShown (deliverOf judge place (now (chunk .entry))) ⌝ }
+{
+    let delivery = judge::deliver(judge, place, chunk);
+    let answer = delivery.answer;
+    let judge = delivery.judge;
+    match answer {
+        DeliverAnswer::Accepted => DeliverResult {
+            accepted: 1,
+            refused: 0,
+            judge,
+        },
+        DeliverAnswer::Refused(refused) => DeliverResult {
+            accepted: 0,
+            refused,
+            judge,
+        },
+    }
+}
+
+#[no_mangle]
+pub extern "C" fn bellbadger_withdraw(judge: Judge, place: usize) -> WithdrawResult
+    ensures { λ r. ⌜ r ≡ withdrawShown (withdrawOf judge place) ⌝ }
+{
+    let withdrawal = judge::withdraw(judge, place);
+    let answer = withdrawal.answer;
+    let judge = withdrawal.judge;
+    match answer {
+        WithdrawAnswer::Accepted => WithdrawResult {
+            accepted: 1,
+            refused: 0,
+            judge,
+        },
+        WithdrawAnswer::Refused(refused) => WithdrawResult {
+            accepted: 0,
+            refused,
+            judge,
+        },
+    }
+}
+
+#[no_mangle]
+pub extern "C" fn bellbadger_verdict(judge: Judge) -> VerdictResult
+    ensures { λ r. ⌜ r ≡ verdictShown (verdictOf judge) ⌝ }
+{
+    let verdict = judge::judged(judge);
+    match verdict {
+        Verdict::Refused(x) => VerdictResult {
+            kind: 0,
+            number: x as u64,
+        },
+        Verdict::Waiting(empty) => VerdictResult {
+            kind: 1,
+            number: empty as u64,
+        },
+        Verdict::Yes(number) => VerdictResult { kind: 2, number },
+        Verdict::No(number) => VerdictResult { kind: 3, number },
+    }
+}
+
+// The calls that the text records, and the verdict after them.
+#[no_mangle]
+pub extern "C" fn bellbadger_replay(text: &[u8]) -> ReplayResult
+    ensures { λ r. ⌜ ReplayShown (recordIn (now (text .entry))) r ⌝ }
+{
+    let replayed = replay::replay(text);
+    match replayed {
+        ReplayAnswer::Refused(x) => ReplayResult {
+            kind: 0,
+            number: x as u64,
+        },
+        ReplayAnswer::Waiting(empty) => ReplayResult {
+            kind: 1,
+            number: empty as u64,
+        },
+        ReplayAnswer::Yes(number) => ReplayResult { kind: 2, number },
+        ReplayAnswer::No(number) => ReplayResult { kind: 3, number },
+        ReplayAnswer::Malformed(line) => ReplayResult {
+            kind: 4,
+            number: line as u64,
+        },
+    }
+}

@@ -1,0 +1,59 @@
+-- `put_dot` meets its contract. Assumes nothing.
+use Rattle.dottext.proofs.Whole.{whole}
+use borrow.Author.Needs.{needs}
+use Rattle.dottext.proofs.put_dot.Statement.{statement}
+use Rattle.dottext.proofs.put_dot.Tie as tie
+
+at-most-requires : tie.Need-at-most-requires
+at-most-requires c κs = search needs
+
+at-most-requires-2 : tie.Need-at-most-requires-2
+at-most-requires-2 c κs = search needs
+
+put-head-requires : tie.Need-put-head-requires
+put-head-requires c κs = search needs
+
+put-states-requires : tie.Need-put-states-requires
+put-states-requires c κs = search needs
+
+put-initials-requires : tie.Need-put-initials-requires
+put-initials-requires c κs = search needs
+
+put-arcs-requires : tie.Need-put-arcs-requires
+put-arcs-requires c κs = search needs
+
+slice-aggregate-put-bytes : tie.Need-slice-aggregate-put-bytes
+slice-aggregate-put-bytes c = search needs
+
+put-bytes-requires : tie.Need-put-bytes-requires
+put-bytes-requires c κs = search needs
+
+same-length : tie.Need-same-length
+same-length c = search needs
+
+returns : tie.Need-returns
+returns c =
+    let s = c .before .before .before .before .before .before .before .before .before .before .before .before .before .before .before .before .before .before .before .before .before .before .before .before .before .before in
+    let n = c .before .before .before .before .before .before .before .before .before .before .before .before .before .before .before .before .before .before .before .before .before .before .before .before .at-most in
+    let k = c .before .before .before .before .before .before .before .before .before .before .before .before .before .before .before .before .before .before .before .before .before .before .before .at-most2 in
+    whole (s .args .rule) (n .result) (k .result) (n .ensures) (k .ensures) (s .pre)
+    (c .before .before .before .before .before .before .before .before .before .before .before .before .before .before .before .before .before .before .before .before .put-head .ensures)
+    (c .before .before .before .before .before .before .before .before .before .before .before .before .before .before .before .before .put-states .ensures)
+    (c .before .before .before .before .before .before .before .before .before .before .before .before .put-initials .ensures)
+    (c .before .before .before .before .before .before .before .put-arcs .ensures)
+    (c .before .before .put-bytes .ensures)
+
+pub put-dot-spec : {M : Type 1} → statement M
+put-dot-spec =
+    tie.close
+    (tie.spec
+    at-most-requires
+    at-most-requires-2
+    put-head-requires
+    put-states-requires
+    put-initials-requires
+    put-arcs-requires
+    slice-aggregate-put-bytes
+    put-bytes-requires
+    same-length
+    returns)

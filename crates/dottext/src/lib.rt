@@ -1,0 +1,225 @@
+// Prints the automaton of a rule as Graphviz text into a lent buffer. A number that is printed has at most three digits.
+ghost use mathlib.Core.Path.{_≡_};
+ghost use Prim.Native.Nat.{_+_, _*_, _≤_, _<_, min};
+ghost use lib.ListN.{length};
+ghost use Rattle.text.specs.Numerals.{decimal, joined};
+ghost use Rattle.text.specs.Writing.{Wrote};
+ghost use Rattle.ruletext.specs.Printing.{Prints};
+ghost use Rattle.dottext.specs.DotText.{headLines, stateLine, arrow, pointLine, entryLine, initialLines, arcLine, arcLines, arcsBy, arcsFrom, arcsText, dotText, textFor};
+ghost use Rattle.automaton.specs.Rules.{targetMask};
+use automaton::Rule;
+use masks::StateNumber;
+use rulefile::ReadAnswer;
+use ruletext::Printed;
+
+fn put_number(out: &mut [u8], at: usize, n: u8) -> usize
+    requires { ⌜ at + 3 ≤ length (now out) ⌝ }
+    ensures { λ r. ⌜ (Wrote (now (out .entry)) at (decimal n) (now (out .exit)) r) × (r ≤ at + 3) ⌝ }
+{
+    text::put_decimal(out, at, n as u64)
+}
+
+fn put_head(out: &mut [u8], at: usize) -> usize
+    requires { ⌜ at + 48 ≤ length (now out) ⌝ }
+    ensures { λ r. ⌜ (Wrote (now (out .entry)) at headLines (now (out .exit)) r) × (r ≤ at + 48) ⌝ }
+{
+    let a = text::put_bytes(out, at, b"digraph rule {\n");
+    let b = text::put_bytes(out, a, b"rankdir=LR;\n");
+    text::put_bytes(out, b, b"node [shape=circle];\n")
+}
+
+// The line of state q.
+fn put_state(out: &mut [u8], at: usize, finals: u32, q: u8) -> usize
+    requires { ⌜ (q < 32) × (at + 26 ≤ length (now out)) ⌝ }
+    ensures { λ r. ⌜ (Wrote (now (out .entry)) at (stateLine finals q) (now (out .exit)) r) × (r ≤ at + 26) ⌝ }
+{
+    let a = put_number(out, at, q);
+    if masks::member(finals, StateNumber(q)) {
+        text::put_bytes(out, a, b" [shape=doublecircle];\n")
+    } else {
+        text::put_bytes(out, a, b";\n")
+    }
+}
+
+// The lines of the first n states.
+fn put_states(out: &mut [u8], start: usize, finals: u32, n: u8) -> usize
+    requires { ⌜ (n ≤ 32) × (start + 26 * n ≤ length (now out)) ⌝ }
+    ensures { λ r. ⌜ (Wrote (now (out .entry)) start (joined (stateLine finals) n) (now (out .exit)) r) × (r ≤ start + 26 * n) ⌝ }
+{
+    let mut at = start;
+    let mut q: u8 = 0;
+    while q < n {
+        at = put_state(out, at, finals, q);
+        q += 1;
+    }
+    at
+}
+
+fn put_arrow(out: &mut [u8], at: usize, q: u8, t: u8) -> usize
+    requires { ⌜ at + 10 ≤ length (now out) ⌝ }
+    ensures { λ r. ⌜ (Wrote (now (out .entry)) at (arrow q t) (now (out .exit)) r) × (r ≤ at + 10) ⌝ }
+{
+    let a = put_number(out, at, q);
+    let b = text::put_bytes(out, a, b" -> ");
+    put_number(out, b, t)
+}
+
+fn put_point(out: &mut [u8], at: usize, q: u8) -> usize
+    requires { ⌜ at + 20 ≤ length (now out) ⌝ }
+    ensures { λ r. ⌜ (Wrote (now (out .entry)) at (pointLine q) (now (out .exit)) r) × (r ≤ at + 20) ⌝ }
+{
+    let a = text::put_byte(out, at, b'i');
+    let b = put_number(out, a, q);
+    text::put_bytes(out, b, b" [shape=point];\n")
+}
+
+fn put_entry(out: &mut [u8], at: usize, q: u8) -> usize
+    requires { ⌜ at + 13 ≤ length (now out) ⌝ }
+    ensures { λ r. ⌜ (Wrote (now (out .entry)) at (entryLine q) (now (out .exit)) r) × (r ≤ at + 13) ⌝ }
+{
+    let a = text::put_byte(out, at, b'i');
+    let b = put_arrow(out, a, q, q);
+    text::put_bytes(out, b, b";\n")
+}
+
+// The two lines of an initial state, nothing for another.
+fn put_initial(out: &mut [u8], at: usize, initials: u32, q: u8) -> usize
+    requires { ⌜ (q < 32) × (at + 33 ≤ length (now out)) ⌝ }
+    ensures { λ r. ⌜ (Wrote (now (out .entry)) at (initialLines initials q) (now (out .exit)) r) × (r ≤ at + 33) ⌝ }
+{
+    if masks::member(initials, StateNumber(q)) {
+        let a = put_point(out, at, q);
+        put_entry(out, a, q)
+    } else {
+        at
+    }
+}
+
+// The lines of the initial states below n.
+fn put_initials(out: &mut [u8], start: usize, initials: u32, n: u8) -> usize
+    requires { ⌜ (n ≤ 32) × (start + 33 * n ≤ length (now out)) ⌝ }
+    ensures { λ r. ⌜ (Wrote (now (out .entry)) start (joined (initialLines initials) n) (now (out .exit)) r) × (r ≤ start + 33 * n) ⌝ }
+{
+    let mut at = start;
+    let mut q: u8 = 0;
+    while q < n {
+        at = put_initial(out, at, initials, q);
+        q += 1;
+    }
+    at
+}
+
+fn put_arc(out: &mut [u8], at: usize, q: u8, s: u8, t: u8) -> usize
+    requires { ⌜ at + 26 ≤ length (now out) ⌝ }
+    ensures { λ r. ⌜ (Wrote (now (out .entry)) at (arcLine q s t) (now (out .exit)) r) × (r ≤ at + 26) ⌝ }
+{
+    let a = put_arrow(out, at, q, t);
+    let b = text::put_bytes(out, a, b" [label=\"");
+    let c = put_number(out, b, s);
+    text::put_bytes(out, c, b"\"];\n")
+}
+
+// The line of an arc from q by s to t, nothing where t is not among the targets.
+fn put_target(out: &mut [u8], at: usize, targets: u32, q: u8, s: u8, t: u8) -> usize
+    requires { ⌜ (t < 32) × (at + 26 ≤ length (now out)) ⌝ }
+    ensures { λ r. ⌜ (Wrote (now (out .entry)) at (arcLines targets q s t) (now (out .exit)) r) × (r ≤ at + 26) ⌝ }
+{
+    if masks::member(targets, StateNumber(t)) {
+        put_arc(out, at, q, s, t)
+    } else {
+        at
+    }
+}
+
+// The lines of the arcs from q by s to states below n.
+fn put_targets(out: &mut [u8], start: usize, targets: u32, n: u8, q: u8, s: u8) -> usize
+    requires { ⌜ (n ≤ 32) × (start + 832 ≤ length (now out)) ⌝ }
+    ensures { λ r. ⌜ (Wrote (now (out .entry)) start (joined (arcLines targets q s) n) (now (out .exit)) r) × (r ≤ start + 832) ⌝ }
+{
+    let mut at = start;
+    let mut t: u8 = 0;
+    while t < n {
+        at = put_target(out, at, targets, q, s, t);
+        t += 1;
+    }
+    at
+}
+
+// The mask of state q and symbol s.
+fn cell(targets: &[u32; 512], q: u8, s: u8) -> u32
+    requires { ⌜ (q < 32) × (s < 16) ⌝ }
+    ensures { λ r. ⌜ r ≡ targetMask (now (targets .entry)) q s ⌝ }
+{
+    targets[(q as usize) * 16 + (s as usize)]
+}
+
+// The lines of the arcs from q by the first k symbols.
+fn put_symbols(out: &mut [u8], start: usize, targets: &[u32; 512], n: u8, k: u8, q: u8) -> usize
+    requires { ⌜ (n ≤ 32) × (k ≤ 16) × (q < 32) × (start + 13312 ≤ length (now out)) ⌝ }
+    ensures { λ r. ⌜ (Wrote (now (out .entry)) start (arcsFrom (now (targets .entry)) n k q) (now (out .exit)) r) × (r ≤ start + 13312) ⌝ }
+{
+    let mut at = start;
+    let mut s: u8 = 0;
+    while s < k {
+        at = put_targets(out, at, cell(targets, q, s), n, q, s);
+        s += 1;
+    }
+    at
+}
+
+// The lines of all arcs.
+fn put_arcs(out: &mut [u8], start: usize, targets: &[u32; 512], n: u8, k: u8) -> usize
+    requires { ⌜ (n ≤ 32) × (k ≤ 16) × (start + 425984 ≤ length (now out)) ⌝ }
+    ensures { λ r. ⌜ (Wrote (now (out .entry)) start (arcsText (now (targets .entry)) n k) (now (out .exit)) r) × (r ≤ start + 425984) ⌝ }
+{
+    let mut at = start;
+    let mut q: u8 = 0;
+    while q < n {
+        at = put_symbols(out, at, targets, n, k, q);
+        q += 1;
+    }
+    at
+}
+
+// x, but no more than most.
+fn at_most(x: u8, most: u8) -> u8
+    ensures { λ r. ⌜ r ≡ min x most ⌝ }
+{
+    if x < most { x } else { most }
+}
+
+// The text of a rule, from the start.
+fn put_dot(out: &mut [u8], rule: Rule) -> usize
+    requires { ⌜ 427922 ≤ length (now out) ⌝ }
+    ensures { λ r. ⌜ (Wrote (now (out .entry)) 0 (dotText rule) (now (out .exit)) r) × (r ≤ 427922) ⌝ }
+{
+    let n = at_most(rule.n, 32);
+    let k = at_most(rule.k, 16);
+    let targets = rule.targets;
+    let a = put_head(out, 0);
+    let b = put_states(out, a, rule.finals, n);
+    let c = put_initials(out, b, rule.initials, n);
+    let d = put_arcs(out, c, &targets, n, k);
+    text::put_bytes(out, d, b"}\n")
+}
+
+fn print_automaton(rule: Rule, out: &mut [u8]) -> Printed
+    ensures { λ r. ⌜ Prints (dotText rule) (now (out .entry)) (now (out .exit)) r ⌝ }
+{
+    let mut text = [0u8; 450000];
+    let length = put_dot(&mut text, rule);
+    ruletext::print_text(&text[..length], out)
+}
+
+// The automaton of the rule in a file; or the number, 1 to 8, with which the reader refuses it.
+pub fn print_dot(file: &[u8], out: &mut [u8]) -> Printed
+    ensures { λ r. ⌜ Prints (textFor (now (file .entry))) (now (out .entry)) (now (out .exit)) r ⌝ }
+{
+    let reading = rulefile::read(file);
+    let answer = reading.answer;
+    let rule = reading.rule;
+    match answer {
+        ReadAnswer::Accepted => print_automaton(rule, out),
+        ReadAnswer::Refused(number) => ruletext::print_refused(number, out),
+    }
+}

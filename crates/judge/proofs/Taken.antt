@@ -1,0 +1,128 @@
+-- Which calls are accepted, condition by condition, as `Accepted-exactly` and `Load-numbers` of specs/Claims.antt say. Assumes nothing.
+use mathlib.Core.Path.{_≡_, refl, sym, ap, _∙_}
+use mathlib.Core.Logic.{_↔_}
+use mathlib.Core.Bool.{Bool, true, false}
+use mathlib.Core.List.{List, [], _∷_, _++_}
+use mathlib.Core.Option.{Option, none, some}
+use Prim.Native.Nat.{ℕ, _+_, _≤_, _<_}
+use native.Mathlib.Omega.{arith}
+use lib.Dec.{eqb, ltb, leb}
+use lib.ListN.{length}
+use borrow.Author.Tests.{ne-eqb, eqb-false, lt-leb, leb-false, le-ltb, ltb-false}
+use Rattle.rulefile.specs.Conditions.{Condition, on, firstOf, NoneHolds, outside}
+use Rattle.rulefile.specs.Refusals.{tooShort, tooLong, badStates, badSymbols, noRoom, badMask, badPairs, badArcs, refusal}
+use Rattle.rulefile.specs.Reader.{ruleOf}
+use Rattle.subsets.specs.Sets.{tooMany}
+use Rattle.rulefile.proofs.Conditions.{or-left, or-right, or-neither, none-law}
+use Rattle.chunks.specs.Chunks.{foreign}
+use Rattle.judge.specs.Replies.{accepted}
+use Rattle.judge.specs.History.{Call, isNone, isSome, orElse, loadNumber, fileOf, ruleIn, placesIn, countOf, standing, summedIn, replyBy}
+use Rattle.judge.specs.Claims.{Accepted-exactly, Load-numbers}
+
+-- ---- accepted where no condition holds
+reply-law : (o : Option ℕ) → (replyBy o accepted ≡ accepted) ↔ (o ≡ none)
+reply-law none = (λ e. refl, λ e. refl)
+reply-law (some x) = (
+  (λ e. absurd (let z : _≡_ {A = ℕ} 0 1 = cc in omega arith)),
+  λ e. absurd (let z : _≡_ {A = ℕ} 0 1 = cc in omega arith),
+)
+
+none-hold : (cs : List Condition) → (replyBy (firstOf cs) accepted ≡ accepted) ↔ NoneHolds cs
+none-hold cs = (
+  (λ e. none-law cs .0 (reply-law (firstOf cs) .0 e)),
+  λ x. reply-law (firstOf cs) .1 (none-law cs .1 x),
+)
+
+-- ---- the nine conditions of a load, in one list
+first-append : (cs ds : List Condition) → orElse (firstOf cs) (firstOf ds) ≡ firstOf (cs ++ ds)
+first-append [] ds = refl
+first-append (on x true ∷ cs) ds = refl
+first-append (on x false ∷ cs) ds = first-append cs ds
+
+pub load-numbers : Load-numbers
+unfolding loadNumber refusal
+load-numbers f =
+    first-append (
+    on 1 (tooShort f) ∷
+    on 2 (tooLong f) ∷
+    on 3 (badStates f) ∷
+    on 4 (badSymbols f) ∷
+    on 5 (noRoom f) ∷
+    on 6 (badMask f) ∷
+    on 7 (badPairs f) ∷
+    on 8 (badArcs f) ∷ [])
+    (on 9 (tooMany (ruleOf f .targets) (ruleOf f .n) (ruleOf f .k)) ∷ [])
+
+-- ---- one condition
+is-some : {A : Type 0} (o : Option A) → (isNone o ≡ false) ↔ (o ≡ none → ⊥)
+is-some none = (λ e z. let y : _≡_ {A = ℕ} 0 1 = cc in omega arith, λ n. absurd (n refl))
+is-some (some x) = (λ e z. let y : _≡_ {A = ℕ} 0 1 = cc in omega arith, λ n. refl)
+
+is-none : {A : Type 0} (o : Option A) → (isSome o ≡ false) ↔ (o ≡ none)
+is-none none = (λ e. refl, λ e. refl)
+is-none (some x) = (
+  (λ e. absurd (let z : _≡_ {A = ℕ} 0 1 = cc in omega arith)),
+  λ e. absurd (let z : _≡_ {A = ℕ} 0 1 = cc in omega arith),
+)
+
+some-places : (n : ℕ) → eqb n 0 ≡ false → 0 < n
+some-places n e = let x = eqb-false n 0 e in omega arith
+
+places-some : (n : ℕ) → 0 < n → eqb n 0 ≡ false
+places-some n h = ne-eqb n 0 (λ z. absurd (omega arith))
+
+inside : (lo hi x : ℕ) → (outside lo hi x ≡ false) ↔ ((lo ≤ x) × (x ≤ hi))
+inside lo hi x = (
+  (λ e. (ltb-false x lo (or-left (ltb x lo) (ltb hi x) e), ltb-false hi x (or-right (ltb x lo) (ltb hi x) e))),
+  λ b. or-neither (ltb x lo) (ltb hi x) (le-ltb x lo (b .0)) (le-ltb hi x (b .1)),
+)
+
+-- ---- the calls
+pub accepted-exactly : (d : List ℕ) (m : ℕ) (h : List Call) → Accepted-exactly d m h
+accepted-exactly d m h = record {
+  opening = λ n.
+      let law = none-hold (on 20 (isNone (fileOf h)) ∷ on 10 (outside 1 64 n) ∷ []) in (
+        (λ e. let x = law .0 e in let b = inside 1 64 n .0 (x .1 .0) in (is-some (fileOf h) .0 (x .0), b .0, b .1)),
+        λ x. law .1 (is-some (fileOf h) .1 (x .0), (inside 1 64 n .1 (x .1, x .2), tt)),
+      );
+  delivery = λ p w.
+      let law =
+      none-hold (
+      on 21 (eqb (placesIn h) 0) ∷
+      on 11 (leb (placesIn h) p) ∷
+      on 12 (ltb 65536 (length w)) ∷
+      on 13 (foreign w (ruleIn h .k)) ∷
+      on 22 (isSome (standing d h p)) ∷
+      on 24 (ltb 4294967295 (summedIn d h + countOf (ruleIn h) d p (some w))) ∷ []) in (
+        (λ e.
+            let x = law .0 e in (
+              some-places (placesIn h) (x .0),
+              leb-false (placesIn h) p (x .1 .0),
+              ltb-false 65536 (length w) (x .1 .1 .0),
+              x .1 .1 .1 .0,
+              is-none (standing d h p) .0 (x .1 .1 .1 .1 .0),
+              ltb-false 4294967295 (summedIn d h + countOf (ruleIn h) d p (some w)) (x .1 .1 .1 .1 .1 .0),
+            )),
+        λ x.
+            law .1 (
+              places-some (placesIn h) (x .0),
+              (
+                lt-leb (placesIn h) p (x .1),
+                (
+                  le-ltb 65536 (length w) (x .2),
+                  (
+                    x .3,
+                    (is-none (standing d h p) .1 (x .4), (le-ltb 4294967295 (summedIn d h + countOf (ruleIn h) d p (some w)) (x .5), tt)),
+                  ),
+                ),
+              ),
+            ),
+      );
+  withdrawal = λ p.
+      let law = none-hold (on 21 (eqb (placesIn h) 0) ∷ on 11 (leb (placesIn h) p) ∷ on 23 (isNone (standing d h p)) ∷ []) in (
+        (λ e.
+            let x = law .0 e in
+            (some-places (placesIn h) (x .0), leb-false (placesIn h) p (x .1 .0), is-some (standing d h p) .0 (x .1 .1 .0))),
+        λ x. law .1 (places-some (placesIn h) (x .0), (lt-leb (placesIn h) p (x .1), (is-some (standing d h p) .1 (x .2), tt))),
+      );
+}

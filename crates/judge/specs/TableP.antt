@@ -1,0 +1,120 @@
+-- Table P of document 01: one list of cases and one claim over it, from the bytes of the rule files, through the judge's calls.
+-- proofs/TableP.antt proves it.
+--
+--   Case          a rule file, what its load answers, and the result of the case
+--   callsOf c     the calls of the case: a load; for a verdict also an opening, a delivery for each chunk and the question. The last first
+--   repliesOf c   what is answered to them
+--   Holds         what the case says of the replies that were given and of the state that is left
+--   Case-holds    `Holds` after every run of the calls of the case, and there is such a run
+--   TableP        each case of the table holds so
+use mathlib.Core.Path.{_≡_}
+use mathlib.Core.List.{List, [], _∷_, _++_}
+use Prim.Native.Nat.{ℕ, zero, suc, _*_}
+use lib.ListN.{length, getD, replicate}
+use Rattle.masks.specs.Lists.{listFrom}
+use Rattle.rulefile.specs.Worked.{fileA, fileB, fileA-final-8}
+use Rattle.build.specs.declared.Built.{Built}
+use Rattle.judge.specs.declared.Judge.{Judge}
+use Rattle.judge.specs.Replies.{Reply, accepted, loaded, keeps, breaks, refused}
+use Rattle.judge.specs.History.{Call, loads, opens, delivers, asks}
+use Rattle.judge.specs.Claims.{Ran}
+
+-- ---- a case
+--   sets masks rows        the masks of all sets in number order, and for each set the cell of each symbol in the next-set table: the number of
+--                          the successor, or 512 for the empty set
+--   delegates ds           the delegate of each state
+--   verdict chunks reply   with the chunks at the places 0, 1, .. of a board that has a place for each, the reply to the question
+--   turned-down            there is nothing more than the refusal of the load
+pub data Result : Type 0 where
+  sets : List ℕ → List (List ℕ) → Result
+  delegates : List ℕ → Result
+  verdict : List (List ℕ) → Reply → Result
+  turned-down : Result
+
+-- the file, the reply to its load, and the result
+pub data Case : Type 0 where
+  case : List ℕ → Reply → Result → Case
+
+-- ---- its calls and their replies
+abbrev pub delivering : ℕ → List (List ℕ) → List Call → List Call
+delivering p [] h = h
+delivering p (w ∷ chunks) h = delivering (suc p) chunks (delivers p w ∷ h)
+
+abbrev pub callsFor : List ℕ → Result → List Call
+callsFor file (sets masks rows) = loads file ∷ []
+callsFor file (delegates ds) = loads file ∷ []
+callsFor file (verdict chunks reply) = asks ∷ delivering 0 chunks (opens (length chunks) ∷ loads file ∷ [])
+callsFor file turned-down = loads file ∷ []
+
+abbrev pub callsOf : Case → List Call
+callsOf (case file load result) = callsFor file result
+
+abbrev pub repliesFor : Reply → Result → List Reply
+repliesFor load (sets masks rows) = load ∷ []
+repliesFor load (delegates ds) = load ∷ []
+repliesFor load (verdict chunks reply) = reply ∷ (replicate (length chunks) accepted ++ (accepted ∷ load ∷ []))
+repliesFor load turned-down = load ∷ []
+
+abbrev pub repliesOf : Case → List Reply
+repliesOf (case file load result) = repliesFor load result
+
+-- ---- what it shows of the built rule
+-- the cells of an array from number i on
+abbrev pub cellsOf : List ℕ → ℕ → ℕ → List ℕ
+cellsOf array i count = listFrom i count (λ c. getD array c 0)
+
+-- the rows of the next-set table from set i on, each with the cells of the symbols 0 .. k − 1
+unfoldable pub rowsFrom : List ℕ → ℕ → ℕ → ℕ → List (List ℕ)
+rowsFrom next k i zero = []
+rowsFrom next k i (suc count) = cellsOf next (i * 16) k ∷ rowsFrom next k (suc i) count
+
+abbrev pub Shows : Result → Built → Type 0
+Shows (sets masks rows) b = (cellsOf (b .sets) 0 (b .count) ≡ masks) × (rowsFrom (b .next) (b .k) 0 (b .count) ≡ rows)
+Shows (delegates ds) b = cellsOf (b .delegates) 0 (b .n) ≡ ds
+Shows (verdict chunks reply) b = Unit {0}
+Shows turned-down b = Unit {0}
+
+abbrev pub ResultOf : Case → Built → Type 0
+ResultOf (case file load result) b = Shows result b
+
+abbrev pub Holds : Case → List Reply → Judge → Type 0
+Holds c given j = (given ≡ repliesOf c) × ResultOf c (j .built)
+
+-- ---- the table
+abbrev pub table : List Case
+table =
+    -- P1 A: the five sets, with the rows that are printed for them
+    case fileA (loaded 5 3)
+    (sets (1 ∷ 3 ∷ 5 ∷ 2 ∷ 4 ∷ []) ((1 ∷ 0 ∷ []) ∷ (1 ∷ 2 ∷ []) ∷ (1 ∷ 0 ∷ []) ∷ (512 ∷ 4 ∷ []) ∷ (512 ∷ 512 ∷ []) ∷ [])) ∷
+    -- P2 B: delegates 0 1 1
+    case fileB (loaded 4 2) (delegates (0 ∷ 1 ∷ 1 ∷ [])) ∷
+    -- P3 A, chunks 0 and 1: yes, 3
+    case fileA (loaded 5 3) (verdict ((0 ∷ []) ∷ (1 ∷ []) ∷ []) (keeps 3)) ∷
+    -- P4 A, chunks 1 and 0: no, 2
+    case fileA (loaded 5 3) (verdict ((1 ∷ []) ∷ (0 ∷ []) ∷ []) (breaks 2)) ∷
+    -- P5 A, one empty chunk: no, 0
+    case fileA (loaded 5 3) (verdict ([] ∷ []) (breaks 0)) ∷
+    -- P6 B, 0 then 0 0: yes, 5
+    case fileB (loaded 4 2) (verdict ((0 ∷ []) ∷ (0 ∷ 0 ∷ []) ∷ []) (keeps 5)) ∷
+    -- P7 B, 0 0 then 0: yes, 4
+    case fileB (loaded 4 2) (verdict ((0 ∷ 0 ∷ []) ∷ (0 ∷ []) ∷ []) (keeps 4)) ∷
+    -- P8 B, 0 0 0 in one place: yes, 3
+    case fileB (loaded 4 2) (verdict ((0 ∷ 0 ∷ 0 ∷ []) ∷ []) (keeps 3)) ∷
+    -- P9 B, three empty chunks: no, 0
+    case fileB (loaded 4 2) (verdict ([] ∷ [] ∷ [] ∷ []) (breaks 0)) ∷
+    -- P10 A, final mask 8: 6
+    case fileA-final-8 (refused 6) turned-down ∷ []
+
+abbrev pub Each : (Case → Type 0) → List Case → Type 0
+Each Says [] = Unit {0}
+Each Says (c ∷ cases) = Says c × Each Says cases
+
+-- whatever replies the calls of the case c were given and whatever state they left, `Holds` is true of them; and the calls do run
+abbrev pub Case-holds : Case → Type 0
+Case-holds c =
+    ((given : List Reply) (j : Judge) → Ran (callsOf c) given j → Holds c given j)
+    × ((given : List Reply) × (j : Judge) × Ran (callsOf c) given j)
+
+-- THE CLAIM
+abbrev pub TableP : Type 0
+TableP = Each Case-holds table

@@ -1,0 +1,131 @@
+-- What a buffer keeps of a line stands for the line. Assumes nothing.
+--
+--   stands-within        as much of the buffer as stands for the line is within it
+--   held-runs            where the rest is hex digits, the call of what stands is the line's
+--   held-malformed       where it is not, the line is malformed
+use mathlib.Core.Path.{_≡_, refl, sym, ap, ap₂, _∙_, subst}
+use mathlib.Core.Bool.{Bool, true, false, cond, _&&_, true≢false}
+use mathlib.Core.List.{List, [], _++_}
+use Prim.Native.Nat.{ℕ, _+_, _-_, _%_, _≤_, _<_, min}
+use native.Mathlib.Omega.{arith}
+use borrow.Author.Tests.{eqb-true, eqb-false, ltb-true, ltb-false}
+use lib.Dec.{eqb, ltb}
+use lib.ListN.{length, take, drop, length-drop, take-append-drop}
+use lib.Seq.{take-all, take-length, take-take, take-add, drop-at, drop-drop, length-take-le}
+use Rattle.masks.proofs.Cases.{by-test}
+use Rattle.fields.specs.Bytes.{allHex}
+use Rattle.judge.specs.declared.Judge.{Judge}
+use Rattle.calltext.specs.Meaning.{Meaning, malformed, lineIn}
+use Rattle.calltext.specs.Answers.{Response}
+use Rattle.callrun.specs.Running.{LineSteps}
+use Rattle.linebuffer.specs.declared.Held.{Held}
+use Rattle.linebuffer.specs.Holding.{Keeps}
+use Rattle.fields.proofs.Pairs.{hex-append}
+use Rattle.linebuffer.proofs.Kept.{nothing-left}
+use Rattle.linebuffer.proofs.Long.{stray-tail, hex-tail}
+
+and-swap : (a b : Bool) → a && b ≡ b && a
+and-swap true true = refl
+and-swap true false = refl
+and-swap false true = refl
+and-swap false false = refl
+
+less-within : (odd : Bool) (len : ℕ) → cond odd (len - 1) len ≤ len
+less-within true len = omega arith
+less-within false len = omega arith
+
+pub stands-within : (odd : Bool) (len n : ℕ) → n ≡ cond odd (len - 1) len → n ≤ len
+stands-within odd len n e = subst (λ (x : ℕ). x ≤ len) (sym e) (less-within odd len)
+
+pub stands-prefix : (buffer : List ℕ) (odd : Bool) (len n size : ℕ) → n ≡ cond odd (len - 1) len → len ≡ min size (length buffer) → n ≡ length (take n buffer)
+stands-prefix buffer odd len n size e is = sym (length-take-le n buffer (omega (arith, stands-within odd len n e, is)))
+
+-- from n up to n + k, within the first n + k
+part : (w : List ℕ) (n k : ℕ) → n ≤ length w → take k (drop n (take (n + k) w)) ≡ take k (drop n w)
+part w n k h =
+    ap (λ (v : List ℕ). take k (drop n v)) (take-add n k w)
+    ∙ ap (take k) (drop-at (take n w) (take k (drop n w)) n (length-take-le n w h))
+    ∙ take-take k k (drop n w) (omega arith)
+
+module _ (buffer : List ℕ) (held : Held) (w : List ℕ) (kept : Keeps buffer held w) (big : 131104 ≤ length buffer) (len n : ℕ)
+    (len-is : len ≡ min (held .length) (length buffer)) (n-is : n ≡ cond (held .odd) (len - 1) len)
+    (hex : Bool) (hex-is : hex ≡ held .hex && allHex (take (len - n) (drop n buffer))) where
+  -- the buffer has all of the line
+  module _ (whole : length w ≤ length buffer) where
+    not-odd : held .odd ≡ false
+    not-odd = kept .odd ∙ sym (nothing-left w (length buffer) whole .1)
+
+    n-whole : n ≡ held .length
+    n-whole = n-is ∙ ap (λ (b : Bool). cond b (len - 1) len) not-odd ∙ omega (arith, len-is, kept .size)
+
+    whole-is : take n buffer ≡ w
+    whole-is = ap (λ (k : ℕ). take k buffer) n-whole ∙ kept .head ∙ take-all (length buffer) w whole
+
+    whole-hex : hex ≡ true
+    unfolding allHex
+    whole-hex =
+        let none : len - n ≡ 0 = omega (arith, n-whole, len-is, kept .size) in
+        hex-is ∙ ap₂ (λ (b : Bool) (k : ℕ). b && allHex (take k (drop n buffer))) (kept .hex ∙ sym (nothing-left w (length buffer) whole .0)) none
+
+  -- the line is longer
+  module _ (more : length buffer < length w) where
+    full : held .length ≡ length buffer
+    full = omega (arith, kept .size, more)
+
+    buffer-is : buffer ≡ take (length buffer) w
+    buffer-is = sym (take-length buffer) ∙ ap (λ (k : ℕ). take k buffer) (sym full) ∙ kept .head
+
+    least : n ≤ length buffer
+    least = omega (arith, stands-within (held .odd) len n n-is, len-is)
+
+    n-long : 131103 ≤ n
+    n-long =
+        by-test (held .odd)
+        (λ o. let e : n ≡ len - 1 = n-is ∙ ap (λ (b : Bool). cond b (len - 1) len) o in omega (arith, e, len-is, full, big))
+        (λ o. let e : n ≡ len = n-is ∙ ap (λ (b : Bool). cond b (len - 1) len) o in omega (arith, e, len-is, full, big))
+
+    even : (length w - n) % 2 ≡ 0
+    even =
+        let rest = length-drop (length buffer) w in
+        by-test (held .odd)
+        (λ o.
+        let e : n ≡ len - 1 = n-is ∙ ap (λ (b : Bool). cond b (len - 1) len) o in
+        let z = eqb-true (length (drop (length buffer) w) % 2) 1 (sym (kept .odd) ∙ o) in
+        omega (arith, e, len-is, full, big, more, rest, z))
+        (λ o.
+        let e : n ≡ len = n-is ∙ ap (λ (b : Bool). cond b (len - 1) len) o in
+        let z = eqb-false (length (drop (length buffer) w) % 2) 1 (sym (kept .odd) ∙ o) in
+        omega (arith, e, len-is, full, more, rest, z))
+
+    head-is : take n buffer ≡ take n w
+    head-is = ap (take n) buffer-is ∙ take-take n (length buffer) w least
+
+    tail-hex : allHex (drop n w) ≡ hex
+    tail-hex =
+        let k = len - n in
+        let sum : n + k ≡ length buffer = omega (arith, full, len-is, least) in
+        let mid : take k (drop n buffer) ≡ take k (drop n w) =
+        ap (λ (v : List ℕ). take k (drop n v)) (buffer-is ∙ ap (λ (x : ℕ). take x w) (sym sum)) ∙ part w n k (omega (arith, least, more)) in
+        let back : drop k (drop n w) ≡ drop (length buffer) w = drop-drop k n w ∙ ap (λ (x : ℕ). drop x w) sum in
+        ap allHex (sym (take-append-drop k (drop n w)))
+        ∙ hex-append (take k (drop n w)) (drop k (drop n w))
+        ∙ and-swap (allHex (take k (drop n w))) (allHex (drop k (drop n w)))
+        ∙ ap₂ (λ (a b : Bool). a && b) (ap allHex back ∙ sym (kept .hex)) (ap allHex (sym mid))
+        ∙ sym hex-is
+
+  module _ (j to : Judge) (s : Response) where
+    pub held-runs : hex ≡ true → LineSteps j (lineIn (take n buffer)) s to → LineSteps j (lineIn w) s to
+    held-runs e l =
+        by-test (ltb (length buffer) (length w))
+        (λ t.
+        let more = ltb-true (length buffer) (length w) t in
+        hex-tail w n (n-long more) (omega (arith, least more, more)) (tail-hex more ∙ e) (even more) j to s (subst (λ (v : List ℕ). LineSteps j (lineIn v) s to) (head-is more) l))
+        (λ t. subst (λ (v : List ℕ). LineSteps j (lineIn v) s to) (whole-is (ltb-false (length buffer) (length w) t)) l)
+
+    pub held-malformed : hex ≡ false → LineSteps j malformed s to → LineSteps j (lineIn w) s to
+    held-malformed e l =
+        by-test (ltb (length buffer) (length w))
+        (λ t.
+        let more = ltb-true (length buffer) (length w) t in
+        subst (λ (m : Meaning). LineSteps j m s to) (sym (stray-tail w n (n-long more) (omega (arith, least more, more)) (tail-hex more ∙ e))) l)
+        (λ t. absurd (true≢false (sym (whole-hex (ltb-false (length buffer) (length w) t)) ∙ e)))

@@ -1,0 +1,62 @@
+-- `hold` meets its contract. Assumes nothing.
+use borrow.Author.Needs.{needs}
+use Rattle.linebuffer.proofs.Kept.{kept-on, fits-prefix, fits-room}
+use Rattle.linebuffer.proofs.hold.Statement.{statement}
+use Rattle.linebuffer.proofs.hold.Tie as tie
+
+least-requires : tie.Need-least-requires
+least-requires c κs = search needs
+
+sub-least : tie.Need-sub-least
+sub-least c = search needs
+
+least-requires-2 : tie.Need-least-requires-2
+least-requires-2 c κs = search needs
+
+slice-aggregate-put-bytes : tie.Need-slice-aggregate-put-bytes
+slice-aggregate-put-bytes c = fits-prefix (c .before .before .before .before .before .before .args .buffer .now) _ _ _ (c .before .before .least2 .ensures)
+
+put-bytes-requires : tie.Need-put-bytes-requires
+put-bytes-requires c κs = fits-room (c .before .before .before .before .before .before .args .buffer .now) _ _ _ (c .before .before .least2 .ensures) _ (c .before .before .before .least .ensures)
+
+sub-hex-with : tie.Need-sub-hex-with
+sub-hex-with c = search needs
+
+part-hex-with-start : tie.Need-part-hex-with-start
+part-hex-with-start c = search needs
+
+part-hex-with-end : tie.Need-part-hex-with-end
+part-hex-with-end c = search needs
+
+hex-with-requires : tie.Need-hex-with-requires
+hex-with-requires c κs = search needs
+
+sub-odd-with : tie.Need-sub-odd-with
+sub-odd-with c = search needs
+
+odd-with-requires : tie.Need-odd-with-requires
+odd-with-requires c κs = search needs
+
+same-length : tie.Need-same-length
+same-length c = search needs
+
+returns : tie.Need-returns
+returns c = λ w kept. kept-on _ _ w _ kept _ _ (c .before .before .before .before .before .before .before .before .before .least .ensures) (c .before .before .before .before .before .before .before .before .least2 .ensures) _ _ (c .before .before .before .before .before .put-bytes .ensures) _ (c .before .hex-with .ensures) _ (c .odd-with .ensures)
+
+pub hold-spec : {M : Type 1} → statement M
+hold-spec =
+    tie.close
+    (tie.spec
+    least-requires
+    sub-least
+    least-requires-2
+    slice-aggregate-put-bytes
+    put-bytes-requires
+    sub-hex-with
+    part-hex-with-start
+    part-hex-with-end
+    hex-with-requires
+    sub-odd-with
+    odd-with-requires
+    same-length
+    returns)

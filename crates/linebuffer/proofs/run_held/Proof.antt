@@ -1,0 +1,58 @@
+-- `run_held` meets its contract. Assumes nothing.
+use borrow.Author.Needs.{needs}
+use Rattle.linebuffer.proofs.Standing.{stands-within, stands-prefix, held-runs, held-malformed}
+use Rattle.linebuffer.proofs.run_held.Statement.{statement}
+use Rattle.linebuffer.proofs.run_held.Tie as tie
+
+least-requires : tie.Need-least-requires
+least-requires c κs = search needs
+
+stands-requires : tie.Need-stands-requires
+stands-requires c κs = search needs
+
+sub-hex-with : tie.Need-sub-hex-with
+sub-hex-with c = search (needs, stands-within)
+
+part-hex-with-start : tie.Need-part-hex-with-start
+part-hex-with-start c = search (needs, stands-within)
+
+part-hex-with-end : tie.Need-part-hex-with-end
+part-hex-with-end c = search needs
+
+hex-with-requires : tie.Need-hex-with-requires
+hex-with-requires c κs = search needs
+
+slice-aggregate-run-line : tie.Need-slice-aggregate-run-line
+slice-aggregate-run-line c = search (needs, stands-prefix)
+
+run-line-requires : tie.Need-run-line-requires
+run-line-requires c κs = search needs
+
+same-length : tie.Need-same-length
+same-length c = search needs
+
+returns : tie.Need-returns
+returns c = λ w kept. held-runs _ _ w kept (c .before .before .before .before .before .before .before .before .before .before .before .before .pre .0) _ _ (c .before .before .before .before .before .before .before .before .before .least .ensures) (c .before .before .before .before .before .before .before .before .stands .ensures) _ (c .before .before .before .before .before .before .hex-with .ensures) _ _ _ (c .before .before .before .before .before .if1 .taken) (c .before .before .run-line .ensures)
+
+run-malformed-requires : tie.Need-run-malformed-requires
+run-malformed-requires c κs = search needs
+
+returns-2 : tie.Need-returns-2
+returns-2 c = λ w kept. held-malformed _ _ w kept (c .before .before .before .before .before .before .before .before .pre .0) _ _ (c .before .before .before .before .before .least .ensures) (c .before .before .before .before .stands .ensures) _ (c .before .before .hex-with .ensures) _ _ _ (c .before .if1 .left) (c .run-malformed .ensures)
+
+pub run-held-spec : {M : Type 1} → statement M
+run-held-spec =
+    tie.close
+    (tie.spec
+    least-requires
+    stands-requires
+    sub-hex-with
+    part-hex-with-start
+    part-hex-with-end
+    hex-with-requires
+    slice-aggregate-run-line
+    run-line-requires
+    same-length
+    returns
+    run-malformed-requires
+    returns-2)

@@ -1,0 +1,93 @@
+// Gathers a line that comes in pieces, of any length in all, and runs its call on a judge.
+ghost use mathlib.Core.Path.{_≡_};
+ghost use mathlib.Core.Bool.{cond, not, _&&_};
+ghost use Prim.Native.Nat.{_-_, _≤_, _%_, min};
+ghost use lib.Dec.{eqb};
+ghost use lib.ListN.{length};
+ghost use Rattle.fields.specs.Bytes.{allHex};
+ghost use Rattle.linebuffer.specs.Holding.{Begins, GoesOn, RunsHeld};
+use callrun::LineRun;
+use judge::Judge;
+
+// How many bytes of a line the buffer has; whether the bytes that it does not have are hex digits; whether their number is odd.
+pub struct Held {
+    pub length: usize,
+    pub hex: bool,
+    pub odd: bool,
+}
+
+// The beginning of a line.
+pub fn nothing() -> Held
+    ensures { λ r. ⌜ Begins r ⌝ }
+{
+    Held {
+        length: 0,
+        hex: true,
+        odd: false,
+    }
+}
+
+fn least(a: usize, b: usize) -> usize
+    ensures { λ r. ⌜ r ≡ min a b ⌝ }
+{
+    if a < b { a } else { b }
+}
+
+// Whether the number of bytes is odd with so many more.
+fn odd_with(odd: bool, more: usize) -> bool
+    ensures { λ r. ⌜ r ≡ cond (eqb (more % 2) 1) (not odd) odd ⌝ }
+{
+    if more % 2 == 1 {
+        return !odd;
+    }
+    odd
+}
+
+// Whether all are hex digits with these.
+fn hex_with(hex: bool, more: &[u8]) -> bool
+    ensures { λ r. ⌜ r ≡ hex && allHex (now (more .entry)) ⌝ }
+{
+    if hex {
+        return fields::all_hex(more);
+    }
+    false
+}
+
+// The line goes on with the piece.
+pub fn hold(buffer: &mut [u8], held: Held, piece: &[u8]) -> Held
+    ensures { λ r. ⌜ GoesOn (now (buffer .entry)) held (now (piece .entry)) (now (buffer .exit)) r ⌝ }
+{
+    let at = least(held.length, buffer.len());
+    let fits = least(piece.len(), buffer.len() - at);
+    let length = text::put_bytes(buffer, at, &piece[..fits]);
+    let hex = hex_with(held.hex, &piece[fits..]);
+    let odd = odd_with(held.odd, piece.len() - fits);
+    Held { length, hex, odd }
+}
+
+// How much of what the buffer has stands for the line: all of it, or one byte less, so that the bytes left out are even in number.
+fn stands(length: usize, odd: bool) -> usize
+    ensures { λ r. ⌜ r ≡ cond odd (length - 1) length ⌝ }
+{
+    if odd {
+        if 0 < length {
+            return length - 1;
+        }
+        return 0;
+    }
+    length
+}
+
+// Runs the call of a line that has ended. Beginnings of 131,103 bytes tell all lines apart that differ in their answers: `deliver `, 20 digits, a
+// space and the digits of 65,537 bytes. One byte more makes an odd rest even.
+pub fn run_held(judge: Judge, buffer: &[u8], held: Held, scratch: &mut [u8]) -> LineRun
+    requires { ⌜ (131104 ≤ length (now buffer)) × (65537 ≤ length (now scratch)) ⌝ }
+    ensures { λ r. ⌜ RunsHeld judge (now (buffer .entry)) held r ⌝ }
+{
+    let length = least(held.length, buffer.len());
+    let n = stands(length, held.odd);
+    if hex_with(held.hex, &buffer[n..length]) {
+        return callrun::run_line(judge, &buffer[..n], scratch);
+    }
+    callrun::run_malformed(judge)
+}

@@ -1,0 +1,149 @@
+-- One line of a record. Assumes nothing.
+--
+--   stays-malformed      what follows a malformed line is of no matter
+--   malformed-line       a line that is answered `malformed` is
+--   read-on              any other line adds its call to the list, or begins a new one
+--   lines-on             the lines of a text from an index on
+use mathlib.Core.Path.{_≡_, refl, sym, ap, ap₂, _∙_, subst}
+use mathlib.Core.Bool.{true, false, true≢false}
+use mathlib.Core.List.{List, [], _∷_, _++_}
+use Prim.Native.Nat.{ℕ, suc, _+_, _-_, _≤_, _<_, min}
+use native.Mathlib.Numerals.{add-one}
+use native.Mathlib.Omega.{arith}
+use lib.ListN.{length, take, drop, length-drop, drop-of-length-le}
+use lib.Seq.{drop-drop, drop-length}
+use borrow.Author.Tests.{ltb-true, ltb-false}
+use lib.Dec.{ltb}
+use Rattle.masks.proofs.Cases.{by-test}
+use Rattle.lines.specs.Splitting.{upTo, lastLine, linesFrom, linesOf}
+use Rattle.lines.proofs.Splits.{up-most, up-take, up-whole, lines-there, lines-last}
+use Rattle.judge.specs.declared.Judge.{Judge}
+use Rattle.judge.specs.Replies.{Reply}
+use Rattle.judge.specs.History.{Call}
+use Rattle.judge.specs.Calls.{fresh, verdictOf}
+use Rattle.judge.specs.Claims.{Ran, begins, next}
+use Rattle.judge.proofs.Every.{every-list, verdict-after}
+use Rattle.calltext.specs.Meaning.{Meaning, again, call, malformed, lineIn}
+use Rattle.calltext.specs.Answers.{Response, began, replied, unread, isUnread}
+use Rattle.callrun.specs.Running.{LineSteps}
+use Rattle.replay.specs.Records.{Recorded, calls, malformedAt, readOn, readLine, readLines, recordIn, Told, verdict, malformedLine, Replayed}
+
+pub stays-malformed : (k i : ℕ) (lines : List (List ℕ)) → readLines (malformedAt k) i lines ≡ malformedAt k
+unfolding readLines
+stays-malformed k i [] = refl
+stays-malformed k i (line ∷ lines) = stays-malformed k (suc i) lines
+
+-- ---- what a line did
+pub malformed-line : (j to : Judge) (m : Meaning) (s : Response) → LineSteps j m s to → isUnread s ≡ true → m ≡ malformed
+malformed-line j to again s l e = absurd (true≢false (sym e ∙ ap isUnread (l .0)))
+malformed-line j to (call c) s l e = absurd (true≢false (sym e ∙ ap isUnread (l .1)))
+malformed-line j to malformed s l e = refl
+
+-- the calls of the record so far, and a judge that they leave
+pub record Read (so : Recorded) (j : Judge) : Type 0 where
+  pub history : List Call
+  pub given : List Reply
+  pub ran : Ran history given j
+  pub is : so ≡ calls history
+
+pub read-on : (i : ℕ) (h : List Call) (given : List Reply) (j to : Judge) (m : Meaning) (s : Response) → Ran h given j → LineSteps j m s to
+    → isUnread s ≡ false → Read (readOn i h m) to
+read-on i h given j to again s ran l e = record { history = []; given = []; ran = subst (Ran [] []) (sym (l .1)) begins; is = refl }
+read-on i h given j to (call c) s ran l e = record { history = c ∷ h; given = l .0 ∷ given; ran = next ran (l .2); is = refl }
+read-on i h given j to malformed s ran l e = absurd (true≢false (sym (ap isUnread (l .0)) ∙ e))
+
+-- ---- the lines of a text from an index on
+last-is : (v : List ℕ) → 0 < length v → lastLine v ≡ v ∷ []
+last-is [] h = absurd (omega arith)
+last-is (x ∷ v) h = refl
+
+module _ (w : List ℕ) (at end : ℕ) (here : at < length w) (found : end ≡ at + length (upTo 10 (drop at w))) where
+  rest : length (drop at w) + at ≡ length w
+  rest = omega (arith, length-drop at w)
+
+  pub end-from : at ≤ end
+  end-from = omega (arith, found)
+
+  pub end-to : end ≤ length w
+  end-to = omega (arith, found, rest, up-most 10 (drop at w))
+
+  -- the line from `at` to `end`
+  pub line-is : take (end - at) (drop at w) ≡ upTo 10 (drop at w)
+  line-is = let e : end - at ≡ length (upTo 10 (drop at w)) = omega (arith, found) in ap (λ (n : ℕ). take n (drop at w)) e ∙ sym (up-take 10 (drop at w))
+
+  next-line : end < length w → linesOf (drop at w) ≡ upTo 10 (drop at w) ∷ linesOf (drop (end + 1) w)
+  next-line l =
+      let m = length (upTo 10 (drop at w)) in
+      let e : at + suc m ≡ end + 1 = omega (arith, found) in
+      lines-there (drop at w) [] (omega (arith, rest, found))
+      ∙ ap (λ (v : List ℕ). upTo 10 (drop at w) ∷ linesOf v) (drop-drop (suc m) at w ∙ ap (λ (n : ℕ). drop n w) e)
+
+  last-line : length w ≤ end → linesOf (drop at w) ≡ upTo 10 (drop at w) ∷ linesOf (drop (length w) w)
+  unfolding linesFrom
+  last-line l =
+      let more : length (drop at w) ≤ length (upTo 10 (drop at w)) = omega (arith, rest, found) in
+      lines-last (drop at w) [] more
+      ∙ last-is (drop at w) (omega (arith, rest))
+      ∙ ap₂ (λ (v : List ℕ) (x : List (List ℕ)). v ∷ x) (sym (up-whole 10 (drop at w) more)) (sym (ap linesOf (drop-length w)))
+
+  -- the next line begins behind the line feed, or nowhere
+  pub lines-on : (to : ℕ) → to ≡ min (end + 1) (length w) → linesOf (drop at w) ≡ take (end - at) (drop at w) ∷ linesOf (drop to w)
+  lines-on to e =
+      by-test (ltb end (length w))
+      (λ t.
+      let l = ltb-true end (length w) t in
+      let is : to ≡ end + 1 = omega arith in
+      rw (line-is, is) (next-line l))
+      (λ t.
+      let l = ltb-false end (length w) t in
+      let is : to ≡ length w = omega arith in
+      rw (line-is, is) (last-line l))
+
+-- ---- the loop: the lines before `at` were read and run, and what follows is still to be read
+pub record Going (w : List ℕ) (j : Judge) (line at : ℕ) : Type 0 where
+  pub history : List Call
+  pub given : List Reply
+  pub ran : Ran history given j
+  pub is : recordIn w ≡ readLines (calls history) (suc line) (linesOf (drop at w))
+
+pub going-first : (w : List ℕ) (j : Judge) → j ≡ fresh → Going w j 0 0
+going-first w j e = record { history = []; given = []; ran = subst (Ran [] []) (sym e) begins; is = refl }
+
+module _ (w : List ℕ) (j : Judge) (line at : ℕ) (going : Going w j line at) where
+  -- the end
+  pub going-last : length w ≤ at → (t : Told) → t ≡ verdict (verdictOf j) → Replayed (recordIn w) t
+  unfolding readLines linesFrom
+  going-last l t e =
+      let is : recordIn w ≡ calls (going .history) = going .is ∙ ap (λ (v : List ℕ). readLines (calls (going .history)) (suc line) (linesOf v)) (drop-of-length-le w l) in
+      rw is (going .given, j, going .ran, every-list (going .ran), e ∙ ap verdict (verdict-after (going .ran)))
+
+  module _ (end : ℕ) (here : at < length w) (found : end ≡ at + length (upTo 10 (drop at w))) (to : Judge) (s : Response)
+      (steps : LineSteps j (lineIn (take (end - at) (drop at w))) s to) where
+    on-line : (next-at : ℕ) → next-at ≡ min (end + 1) (length w)
+        → recordIn w ≡ readLines (readOn (suc line) (going .history) (lineIn (take (end - at) (drop at w)))) (suc (suc line)) (linesOf (drop next-at w))
+    unfolding readLines
+    on-line next-at e = going .is ∙ ap (readLines (calls (going .history)) (suc line)) (lines-on w at end here found next-at e)
+
+    -- a malformed line
+    pub going-wrong : isUnread s ≡ true → (t : Told) → t ≡ malformedLine (line + 1) → Replayed (recordIn w) t
+    going-wrong bad t e =
+        let rest = linesOf (drop (min (end + 1) (length w)) w) in
+        let m = malformed-line j to (lineIn (take (end - at) (drop at w))) s steps bad in
+        let is : recordIn w ≡ malformedAt (suc line) =
+        on-line (min (end + 1) (length w)) refl
+        ∙ ap (λ (x : Meaning). readLines (readOn (suc line) (going .history) x) (suc (suc line)) rest) m
+        ∙ stays-malformed (suc line) (suc (suc line)) rest in
+        rw is (e ∙ ap malformedLine (add-one line))
+
+    -- any other line
+    pub going-on : isUnread s ≡ false → (next-at : ℕ) → next-at ≡ min (end + 1) (length w) → Going w to (line + 1) next-at
+    going-on good next-at e =
+        let r = read-on (suc line) (going .history) (going .given) j to (lineIn (take (end - at) (drop at w))) s (going .ran) steps good in
+        record {
+          history = r .history;
+          given = r .given;
+          ran = r .ran;
+          is =
+              on-line next-at e
+              ∙ ap₂ (λ (so : Recorded) (i : ℕ). readLines so (suc i) (linesOf (drop next-at w))) (r .is) (sym (add-one line));
+        }

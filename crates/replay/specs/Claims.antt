@@ -1,0 +1,21 @@
+-- Every list of calls has a record, and reading the record gives the list again; proofs/Again.antt proves it.
+--
+--   AllFit h      each call of h has numbers of 64 bits, and bytes that are bytes
+--   recordOf h    the record of the calls h, of which the last is first: a line each, in the order in which they are made
+use mathlib.Core.Path.{_≡_}
+use mathlib.Core.List.{List, [], _∷_, _++_}
+use Prim.Native.Nat.{ℕ}
+use Rattle.judge.specs.History.{Call}
+use Rattle.calltext.specs.Claims.{Fits, lineOf}
+use Rattle.replay.specs.Records.{calls, recordIn}
+
+abbrev pub AllFit : List Call → Type 0
+AllFit [] = Unit {0}
+AllFit (c ∷ h) = Fits c × AllFit h
+
+unfoldable pub recordOf : List Call → List ℕ
+recordOf [] = []
+recordOf (c ∷ h) = recordOf h ++ (lineOf c ++ (10 ∷ []))
+
+pub record Claims : Type 0 where
+  pub record-again : (h : List Call) → AllFit h → recordIn (recordOf h) ≡ calls h

@@ -1,0 +1,57 @@
+-- A recorded list of calls: a text of lines, each as crates/calltext gives its meaning.
+--
+--   Recorded       the calls of a record, the last first, as a history has them; or the number of its first malformed line, counted from 1
+--   recordIn w     what the text w records. An empty line begins a fresh judge: the calls are those after the last one
+--   Told           what replaying a record answers: a verdict, or that a line is malformed
+--   toldOf r       what each case of the code's answer says
+--   Replayed s t   t is the right answer for a record that says s
+use mathlib.Core.Path.{_≡_}
+use mathlib.Core.List.{List, [], _∷_}
+use Prim.Native.Nat.{ℕ, suc}
+use Rattle.lines.specs.Splitting.{linesOf}
+use Rattle.judge.specs.declared.Judge.{Judge}
+use Rattle.judge.specs.Replies.{Reply, waiting, keeps, breaks, refused}
+use Rattle.judge.specs.History.{Call, verdictIn}
+use Rattle.judge.specs.Claims.{Ran, EveryList}
+use Rattle.calltext.specs.Meaning.{Meaning, again, call, malformed, lineIn}
+use Rattle.replay.specs.declared.ReplayAnswer.{ReplayAnswer}
+use Rattle.replay.specs.declared.ReplayAnswer.the-variants.{Waiting, Yes, No, Refused, Malformed}
+
+pub data Recorded : Type 0 where
+  calls : List Call → Recorded
+  malformedAt : ℕ → Recorded
+
+-- line i, of which the meaning is known, after the calls h
+abbrev pub readOn : ℕ → List Call → Meaning → Recorded
+readOn i h again = calls []
+readOn i h (call c) = calls (c ∷ h)
+readOn i h malformed = malformedAt i
+
+abbrev pub readLine : Recorded → ℕ → List ℕ → Recorded
+readLine (calls h) i line = readOn i h (lineIn line)
+readLine (malformedAt k) i line = malformedAt k
+
+-- the lines from line i on
+unfoldable pub readLines : Recorded → ℕ → List (List ℕ) → Recorded
+readLines so i [] = so
+readLines so i (line ∷ lines) = readLines (readLine so i line) (suc i) lines
+
+abbrev pub recordIn : List ℕ → Recorded
+recordIn w = readLines (calls []) 1 (linesOf w)
+
+pub data Told : Type 0 where
+  verdict : Reply → Told
+  malformedLine : ℕ → Told
+
+abbrev pub toldOf : ReplayAnswer → Told
+toldOf (Waiting empty) = verdict (waiting empty)
+toldOf (Yes count) = verdict (keeps count)
+toldOf (No count) = verdict (breaks count)
+toldOf (Refused number) = verdict (refused number)
+toldOf (Malformed line) = malformedLine line
+
+-- the recorded calls were run on a fresh judge, and the verdict is that of demand 3 for them: EveryList has its words
+abbrev pub Replayed : Recorded → Told → Type 0
+Replayed (calls h) t =
+    (given : List Reply) × (j : Judge) × Ran h given j × EveryList h given j × (t ≡ verdict (verdictIn (j .built .delegates) h))
+Replayed (malformedAt i) t = t ≡ malformedLine i

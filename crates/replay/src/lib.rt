@@ -1,0 +1,81 @@
+// Replays a recorded list of calls on a fresh judge and answers the verdict after them.
+ghost use mathlib.Core.Path.{_≡_};
+ghost use Prim.Native.Nat.{_+_, _≤_, min};
+ghost use lib.ListN.{length};
+ghost use Rattle.calltext.specs.Answers.{responseOf, isUnread};
+ghost use Rattle.judge.specs.Replies.{verdictSays};
+ghost use Rattle.replay.specs.Records.{verdict, recordIn, toldOf, Replayed};
+use calltext::LineAnswer;
+use judge::Verdict;
+
+// The verdict, or the number of the first malformed line.
+pub enum ReplayAnswer {
+    Waiting(u8),
+    Yes(u64),
+    No(u64),
+    Refused(u8),
+    Malformed(usize),
+}
+
+fn by_verdict(found: Verdict) -> ReplayAnswer
+    ensures { λ r. ⌜ toldOf r ≡ verdict (verdictSays found) ⌝ }
+{
+    match found {
+        Verdict::Waiting(empty) => ReplayAnswer::Waiting(empty),
+        Verdict::Yes(count) => ReplayAnswer::Yes(count),
+        Verdict::No(count) => ReplayAnswer::No(count),
+        Verdict::Refused(number) => ReplayAnswer::Refused(number),
+    }
+}
+
+fn is_malformed(answer: LineAnswer) -> bool
+    ensures { λ r. ⌜ r ≡ isUnread (responseOf answer) ⌝ }
+{
+    match answer {
+        LineAnswer::Began => false,
+        LineAnswer::Loaded(_, _) => false,
+        LineAnswer::Accepted => false,
+        LineAnswer::Waiting(_) => false,
+        LineAnswer::Yes(_) => false,
+        LineAnswer::No(_) => false,
+        LineAnswer::Refused(_) => false,
+        LineAnswer::Malformed => true,
+    }
+}
+
+// Where the line after the one that ends there begins, within the text.
+fn past(end: usize, most: usize) -> usize
+    ensures { λ r. ⌜ r ≡ min (end + 1) most ⌝ }
+{
+    if end < most { end + 1 } else { most }
+}
+
+// The buffer is for the bytes that a line carries.
+fn replay_by(text: &[u8], buffer: &mut [u8]) -> ReplayAnswer
+    requires { ⌜ 65537 ≤ length (now buffer) ⌝ }
+    ensures { λ r. ⌜ Replayed (recordIn (now (text .entry))) (toldOf r) ⌝ }
+{
+    let mut judge = judge::new_judge();
+    let mut line: usize = 0;
+    let mut at: usize = 0;
+    while at < text.len() {
+        let end = lines::find(text, at, b'\n');
+        let run = callrun::run_line(judge, &text[at..end], buffer);
+        line += 1;
+        let answer = run.answer;
+        if is_malformed(answer) {
+            return ReplayAnswer::Malformed(line);
+        }
+        judge = run.judge;
+        at = past(end, text.len());
+    }
+    by_verdict(judge::judged(judge))
+}
+
+// Runs the calls that the text records, a line each, and answers the verdict after them.
+pub fn replay(text: &[u8]) -> ReplayAnswer
+    ensures { λ r. ⌜ Replayed (recordIn (now (text .entry))) (toldOf r) ⌝ }
+{
+    let mut buffer = [0u8; 65537];
+    replay_by(text, &mut buffer)
+}

@@ -1,0 +1,81 @@
+// Runs the calls of a text that comes in blocks, cut anywhere, and writes their answers.
+ghost use Prim.Native.Nat.{_≤_, _<_};
+ghost use lib.ListN.{length};
+ghost use Rattle.stream.specs.Feeding.{AnswersHeld, Feeds, Finishes};
+use judge::Judge;
+use linebuffer::Held;
+
+// The judge that a line leaves, and how many bytes its answer has.
+pub struct Answered {
+    pub judge: Judge,
+    pub written: usize,
+}
+
+// The same after a part of a block, with what is kept of a line that goes on, and where the next part begins.
+pub struct Fed {
+    pub judge: Judge,
+    pub held: Held,
+    pub at: usize,
+    pub written: usize,
+}
+
+fn answer(judge: Judge, line: &[u8], held: Held, bytes: &mut [u8], out: &mut [u8]) -> Answered
+    requires { ⌜ (131104 ≤ length (now line)) × (65537 ≤ length (now bytes)) × (64 ≤ length (now out)) ⌝ }
+    ensures { λ r. ⌜ AnswersHeld judge held (now (line .entry)) (now (out .entry)) (now (out .exit)) r ⌝ }
+{
+    let run = linebuffer::run_held(judge, line, held, bytes);
+    let said = run.answer;
+    let written = calltext::put_answer(out, said);
+    let judge = run.judge;
+    Answered { judge, written }
+}
+
+// A part of a block: up to the next line feed, or to the block's end. `line` keeps the line, `bytes` is for the bytes that it carries.
+pub fn feed(
+    judge: Judge,
+    held: Held,
+    line: &mut [u8],
+    bytes: &mut [u8],
+    out: &mut [u8],
+    block: &[u8],
+    at: usize,
+) -> Fed
+    requires { ⌜ (131104 ≤ length (now line)) × (65537 ≤ length (now bytes)) × (64 ≤ length (now out)) × (at < length (now block)) ⌝ }
+    ensures { λ r. ⌜ Feeds judge held (now (block .entry)) at (now (line .entry)) (now (line .exit)) (now (out .entry)) (now (out .exit)) r ⌝ }
+{
+    let end = lines::find(block, at, b'\n');
+    let held = linebuffer::hold(line, held, &block[at..end]);
+    if end < block.len() {
+        let at = end + 1;
+        let answered = answer(judge, line, held, bytes, out);
+        let judge = answered.judge;
+        let written = answered.written;
+        let held = linebuffer::nothing();
+        return Fed {
+            judge,
+            held,
+            at,
+            written,
+        };
+    }
+    let at = end;
+    let written: usize = 0;
+    Fed {
+        judge,
+        held,
+        at,
+        written,
+    }
+}
+
+// The end of the text.
+pub fn finish(judge: Judge, held: Held, line: &[u8], bytes: &mut [u8], out: &mut [u8]) -> Answered
+    requires { ⌜ (131104 ≤ length (now line)) × (65537 ≤ length (now bytes)) × (64 ≤ length (now out)) ⌝ }
+    ensures { λ r. ⌜ Finishes judge held (now (line .entry)) (now (out .entry)) (now (out .exit)) r ⌝ }
+{
+    if held.length == 0 {
+        let written: usize = 0;
+        return Answered { judge, written };
+    }
+    answer(judge, line, held, bytes, out)
+}

@@ -1,0 +1,18 @@
+-- `turns_left` meets its contract. Assumes nothing.
+use native.Mathlib.Omega.{arith}
+use borrow.Author.Needs.{needs}
+use borrow.Author.Tests.{eq-eqb, ne-eqb}
+use Rattle.tracejudge.proofs.turns_left.Statement.{statement}
+use Rattle.tracejudge.proofs.turns_left.Tie as tie
+
+returns : tie.Need-returns
+returns c = (search needs, rw (eq-eqb _ _ (c .if1 .taken)))
+
+sub-result : tie.Need-sub-result
+sub-result c = search needs
+
+returns-2 : tie.Need-returns-2
+returns-2 c = (search needs, rw (ne-eqb _ _ (c .if1 .left)))
+
+pub turns-left-spec : {M : Type 1} → statement M
+turns-left-spec = tie.close (tie.spec returns sub-result returns-2)

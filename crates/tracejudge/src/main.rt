@@ -1,0 +1,90 @@
+// Reads a list of calls from standard input, one a line, and prints an answer a line: `load HEX`, `open N`, `deliver P HEX`, `withdraw P`,
+// `verdict`. HEX is `-` for no bytes. An empty line starts again with a fresh judge. What a line means and how it is answered is proved in the
+// crates below; this program only reads and writes. What it prints is no promise, since the C library's `write` makes none: a test holds it.
+ghost use mathlib.Core.Path.{_≡_};
+ghost use mathlib.Core.Bool.{cond};
+ghost use Prim.Native.Nat.{_-_, _≤_, _<_};
+ghost use lib.Dec.{eqb};
+ghost use lib.ListN.{length};
+ghost use Rattle.io.specs.Counts.{Counts};
+ghost use Rattle.stream.specs.Texts.{FedBlock};
+use judge::Judge;
+use libc::STDIN_FILENO;
+use libc::STDOUT_FILENO;
+use linebuffer::Held;
+
+struct Reading {
+    judge: Judge,
+    held: Held,
+}
+
+fn read_block(block: &mut [u8]) -> usize
+    ensures { λ r. ⌜ Counts r (now (block .exit)) ⌝ }
+{
+    let got = libc::read(STDIN_FILENO, block);
+    io::count(got, block)
+}
+
+// The lines of a block. `line` keeps a line that goes on.
+fn run_block(
+    judge: Judge,
+    held: Held,
+    line: &mut [u8],
+    bytes: &mut [u8],
+    out: &mut [u8],
+    block: &[u8],
+) -> Reading
+    requires { ⌜ (131104 ≤ length (now line)) × (65537 ≤ length (now bytes)) × (64 ≤ length (now out)) ⌝ }
+    ensures { λ r. ⌜ FedBlock judge held (now (line .entry)) (now (block .entry)) (now (line .exit)) (r .judge) (r .held) ⌝ }
+{
+    let mut judge = judge;
+    let mut held = held;
+    let mut at: usize = 0;
+    while at < block.len() {
+        let fed = stream::feed(judge, held, line, bytes, out, block, at);
+        let written = fed.written;
+        io::write_all(STDOUT_FILENO, &out[..written]);
+        judge = fed.judge;
+        held = fed.held;
+        at = fed.at;
+    }
+    Reading { judge, held }
+}
+
+// A proved loop ends, and nothing says that the input does. So the turns are counted down, from a number that no run uses up; none is left at
+// the end of the input.
+fn turns_left(turns: u64, n: usize) -> u64
+    requires { ⌜ 0 < turns ⌝ }
+    ensures { λ r. ⌜ (r < turns) × (r ≡ cond (eqb n 0) 0 (turns - 1)) ⌝ }
+{
+    if n == 0 {
+        return 0;
+    }
+    turns - 1
+}
+
+fn run(line: &mut [u8], bytes: &mut [u8], out: &mut [u8], block: &mut [u8])
+    requires { ⌜ (131104 ≤ length (now line)) × (65537 ≤ length (now bytes)) × (64 ≤ length (now out)) ⌝ }
+{
+    let mut judge = judge::new_judge();
+    let mut held = linebuffer::nothing();
+    let mut turns = u64::MAX;
+    while turns > 0 {
+        let n = read_block(block);
+        let reading = run_block(judge, held, line, bytes, out, &block[..n]);
+        judge = reading.judge;
+        held = reading.held;
+        turns = turns_left(turns, n);
+    }
+    let last = stream::finish(judge, held, line, bytes, out);
+    let written = last.written;
+    io::write_all(STDOUT_FILENO, &out[..written]);
+}
+
+fn main() {
+    let mut line = [0u8; 131104];
+    let mut bytes = [0u8; 65537];
+    let mut out = [0u8; 64];
+    let mut block = [0u8; 65536];
+    run(&mut line, &mut bytes, &mut out, &mut block);
+}

@@ -1,0 +1,99 @@
+/* The valve trace judge. Link target/staticlib/libcapi.a (`rt staticlib capi` writes it), on x86-64.
+ *
+ * The caller keeps the judge and hands it in by value; each call that may change it hands the next one back.
+ * A refused call hands back the judge that came. Any bytes whatever may stand in a judge: every call still
+ * ends and stays within its bounds, but only a judge that began with bellbadger_new and went through the calls
+ * below has a meaning. Files, chunks and texts are only read; a pointer must lead to as many bytes as the
+ * length beside it says, and may be anything where that is 0. A judge goes by value, so a thread needs a stack
+ * of 1 MB to be at ease.
+ */
+#ifndef BELLBADGER_H
+#define BELLBADGER_H
+
+#include <stddef.h>
+#include <stdint.h>
+
+/* A rule as it was built: states, symbols, starts (M), sets; masks of initial and final states; each state's
+ * delegate and the number of its own set; the sets' masks; 16 cells of next sets for each set. n is 0 where
+ * no rule is there. */
+typedef struct {
+    uint8_t n, k, starts;
+    uint16_t count;
+    uint32_t initials, finals;
+    uint8_t delegates[32];
+    uint16_t singles[32];
+    uint32_t sets[512];
+    uint16_t next[8192];
+} bellbadger_rule;
+
+/* A board: how many places, which are filled, their counts, and 32 end sets for each. places is 0 where no
+ * board is there. */
+typedef struct {
+    uint8_t places;
+    uint8_t filled[64];
+    uint32_t counts[64];
+    uint32_t ends[2048];
+} bellbadger_board;
+
+typedef struct {
+    bellbadger_rule rule;
+    bellbadger_board board;
+} bellbadger_judge;
+
+/* accepted is 1 or 0; where it is 0, refused has the number. */
+typedef struct {
+    uint8_t accepted, refused;
+    uint16_t sets;  /* the number of sets, and */
+    uint8_t starts; /* M, of an accepted rule */
+    bellbadger_judge judge;
+} bellbadger_load_result;
+
+typedef struct {
+    uint8_t accepted, refused;
+    bellbadger_judge judge;
+} bellbadger_open_result, bellbadger_deliver_result, bellbadger_withdraw_result;
+
+enum {
+    BELLBADGER_REFUSED = 0,   /* number: why */
+    BELLBADGER_WAITING = 1,   /* number: how many places are empty */
+    BELLBADGER_YES = 2,       /* number: the count */
+    BELLBADGER_NO = 3,        /* number: the count */
+    BELLBADGER_MALFORMED = 4  /* number: which line, counted from 1; of bellbadger_replay alone */
+};
+
+typedef struct {
+    uint8_t kind;
+    uint64_t number;
+} bellbadger_verdict_result, bellbadger_replay_result;
+
+/* A judge with no rule and no board. */
+bellbadger_judge bellbadger_new(void);
+
+/* Checks and builds a rule; replaces the former one and removes the board. Refused with
+ *   1 too short for a head (10 bytes)      2 longer than any rule (32,906 bytes)
+ *   3 no number of states from 1 to 32     4 no number of symbols from 1 to 16
+ *   5 too short for the list of pairs      6 a mask names a state that there is not
+ *   7 a pair has a wrong offset or an odd length, or the sections do not end where the file does
+ *   8 an arc has a symbol or a target that there is not, or the arcs of a section do not rise
+ *   9 the rule has over 512 sets */
+bellbadger_load_result bellbadger_load(bellbadger_judge judge, const uint8_t *file, size_t length);
+
+/* A board of that many empty places; drops an earlier one. Refused with 20 no rule is loaded, 10 no number of places from 1 to 64. */
+bellbadger_open_result bellbadger_open(bellbadger_judge judge, size_t places);
+
+/* Runs a chunk and keeps its end sets and count at the place. Refused with
+ *   21 no board is open      11 the board has no such place      12 the chunk has over 65,536 bytes
+ *   13 a byte is no symbol   22 the place has a chunk already    24 the counts would sum up to 2^32 or more */
+bellbadger_deliver_result bellbadger_deliver(bellbadger_judge judge, size_t place, const uint8_t *chunk, size_t length);
+
+/* Empties a place. Refused with 21 no board is open, 11 the board has no such place, 23 it has no chunk. */
+bellbadger_withdraw_result bellbadger_withdraw(bellbadger_judge judge, size_t place);
+
+/* Changes nothing. Refused with 21 no board is open. */
+bellbadger_verdict_result bellbadger_verdict(bellbadger_judge judge);
+
+/* Runs the calls that a text records, one a line as tracejudge reads them, on a fresh judge, and answers the
+ * verdict after them. */
+bellbadger_replay_result bellbadger_replay(const uint8_t *text, size_t length);
+
+#endif

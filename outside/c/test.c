@@ -1,0 +1,185 @@
+/* The library's calls from C: the struct field by field, answers and refusals, and states that no list of calls
+ * leaves. Prints how many checks were made; stops at the first that fails. */
+#include <stdio.h>
+#include <stdlib.h>
+#include <string.h>
+
+#include "bellbadger.h"
+
+static long checks;
+
+#define CHECK(fact)                                                  \
+    do {                                                             \
+        checks++;                                                    \
+        if (!(fact)) {                                               \
+            printf("%s:%d: %s\n", __FILE__, __LINE__, #fact);        \
+            exit(1);                                                 \
+        }                                                            \
+    } while (0)
+
+static const uint8_t rule_a[] = {
+    0x03, 0x02, 0x01, 0x00, 0x00, 0x00, 0x04, 0x00, 0x00, 0x00, 0x16, 0x00, 0x06, 0x00, 0x1C,
+    0x00, 0x02, 0x00, 0x1E, 0x00, 0x00, 0x00, 0x00, 0x00, 0x00, 0x01, 0x01, 0x00, 0x01, 0x02,
+};
+
+static uint8_t big[65537];
+
+static int same(const bellbadger_judge *a, const bellbadger_judge *b) {
+    return a->rule.n == b->rule.n && a->rule.k == b->rule.k && a->rule.starts == b->rule.starts && a->rule.count == b->rule.count
+        && a->rule.initials == b->rule.initials && a->rule.finals == b->rule.finals
+        && !memcmp(a->rule.delegates, b->rule.delegates, sizeof a->rule.delegates)
+        && !memcmp(a->rule.singles, b->rule.singles, sizeof a->rule.singles)
+        && !memcmp(a->rule.sets, b->rule.sets, sizeof a->rule.sets) && !memcmp(a->rule.next, b->rule.next, sizeof a->rule.next)
+        && a->board.places == b->board.places && !memcmp(a->board.filled, b->board.filled, sizeof a->board.filled)
+        && !memcmp(a->board.counts, b->board.counts, sizeof a->board.counts) && !memcmp(a->board.ends, b->board.ends, sizeof a->board.ends);
+}
+
+static void load(bellbadger_judge *j, const uint8_t *file, size_t length, int refused) {
+    bellbadger_load_result r = bellbadger_load(*j, file, length);
+    CHECK(r.accepted == (refused == 0) && (r.accepted || r.refused == refused));
+    CHECK(r.accepted || same(&r.judge, j));
+    *j = r.judge;
+}
+
+static void open(bellbadger_judge *j, size_t places, int refused) {
+    bellbadger_open_result r = bellbadger_open(*j, places);
+    CHECK(r.accepted == (refused == 0) && (r.accepted || r.refused == refused));
+    CHECK(r.accepted || same(&r.judge, j));
+    *j = r.judge;
+}
+
+static void deliver(bellbadger_judge *j, size_t place, const uint8_t *chunk, size_t length, int refused) {
+    bellbadger_deliver_result r = bellbadger_deliver(*j, place, chunk, length);
+    CHECK(r.accepted == (refused == 0) && (r.accepted || r.refused == refused));
+    CHECK(r.accepted || same(&r.judge, j));
+    *j = r.judge;
+}
+
+static void withdraw(bellbadger_judge *j, size_t place, int refused) {
+    bellbadger_withdraw_result r = bellbadger_withdraw(*j, place);
+    CHECK(r.accepted == (refused == 0) && (r.accepted || r.refused == refused));
+    CHECK(r.accepted || same(&r.judge, j));
+    *j = r.judge;
+}
+
+static void verdict(const bellbadger_judge *j, int kind, uint64_t number) {
+    bellbadger_verdict_result r = bellbadger_verdict(*j);
+    CHECK(r.kind == kind && r.number == number);
+}
+
+static void replay(const char *text, int kind, uint64_t number) {
+    bellbadger_replay_result r = bellbadger_replay((const uint8_t *)text, strlen(text));
+    CHECK(r.kind == kind && r.number == number);
+}
+
+/* every field of rule A as it was built, so that the header's struct is the library's */
+static void layout(const bellbadger_judge *j) {
+    static const uint32_t sets[] = {1, 3, 5, 2, 4};
+    static const uint16_t next[][2] = {{1, 0}, {1, 2}, {1, 0}, {512, 4}, {512, 512}}, singles[] = {0, 3, 4};
+    const bellbadger_rule *r = &j->rule;
+    CHECK(r->n == 3 && r->k == 2 && r->starts == 3 && r->count == 5 && r->initials == 1 && r->finals == 4);
+    for (int q = 0; q < 32; q++) CHECK(r->delegates[q] == (q < 3 ? q : 0) && (q >= 3 || r->singles[q] == singles[q]));
+    for (int s = 0; s < 512; s++) CHECK(r->sets[s] == (s < 5 ? sets[s] : 0));
+    for (int s = 0; s < 5; s++) CHECK(r->next[16 * s] == next[s][0] && r->next[16 * s + 1] == next[s][1]);
+    CHECK(r->next[8191] == 512 && j->board.places == 0);
+}
+
+static void calls(void) {
+    static const uint8_t zero[] = {0}, one[] = {1}, two[] = {2};
+    bellbadger_judge j = bellbadger_new();
+    verdict(&j, BELLBADGER_REFUSED, 21);
+    open(&j, 1, 20);
+    deliver(&j, 0, zero, 1, 21);
+    withdraw(&j, 0, 21);
+    load(&j, rule_a, 9, 1);
+    load(&j, big, sizeof big, 2);
+    load(&j, rule_a, 29, 7);
+    load(&j, rule_a, sizeof rule_a, 0);
+    layout(&j);
+    open(&j, 0, 10);
+    open(&j, 65, 10);
+    open(&j, SIZE_MAX, 10);
+    open(&j, 2, 0);
+    verdict(&j, BELLBADGER_WAITING, 2);
+    deliver(&j, 2, zero, 1, 11);
+    deliver(&j, SIZE_MAX, zero, 1, 11);
+    deliver(&j, 0, big, 65537, 12);
+    deliver(&j, 0, two, 1, 13);
+    deliver(&j, 1, one, 1, 0);
+    deliver(&j, 1, one, 1, 22);
+    withdraw(&j, 0, 23);
+    deliver(&j, 0, zero, 1, 0);
+    verdict(&j, BELLBADGER_YES, 3);
+    CHECK(j.board.places == 2 && j.board.filled[0] && j.board.filled[1] && !j.board.filled[2]);
+    CHECK(j.board.counts[0] == 1 && j.board.counts[1] == 2 && j.board.counts[2] == 0);
+    CHECK(j.board.ends[0] == 3 && j.board.ends[1] == 0 && j.board.ends[32] == 1 && j.board.ends[33] == 4 && j.board.ends[34] == 0);
+    withdraw(&j, 0, 0);
+    deliver(&j, 0, NULL, 0, 0);
+    verdict(&j, BELLBADGER_NO, 2);
+    withdraw(&j, 0, 0);
+    deliver(&j, 0, big, 65536, 0);
+    verdict(&j, BELLBADGER_NO, 65538);
+    load(&j, rule_a, 9, 1);
+    verdict(&j, BELLBADGER_NO, 65538);
+    load(&j, rule_a, sizeof rule_a, 0);
+    verdict(&j, BELLBADGER_REFUSED, 21);
+}
+
+static void records(void) {
+#define LOAD_A "load 03020100000004000000160006001C0002001E0000000000000101000102\n"
+    replay("", BELLBADGER_REFUSED, 21);
+    replay(LOAD_A "open 2\n", BELLBADGER_WAITING, 2);
+    replay(LOAD_A "open 2\ndeliver 1 01\ndeliver 0 00\n", BELLBADGER_YES, 3);
+    replay(LOAD_A "open 2\ndeliver 1 00\ndeliver 0 01", BELLBADGER_NO, 2);
+    replay(LOAD_A "open 2\n\n", BELLBADGER_REFUSED, 21);
+    replay(LOAD_A "open  2\nverdict\n", BELLBADGER_MALFORMED, 2);
+    replay(LOAD_A "open 2\r\n", BELLBADGER_MALFORMED, 2);
+    replay("verdict\nverdict\nx", BELLBADGER_MALFORMED, 3);
+}
+
+/* xorshift */
+static uint64_t seed = 88172645463325252u;
+static uint64_t random_number(void) {
+    seed ^= seed << 13;
+    seed ^= seed >> 7;
+    seed ^= seed << 17;
+    return seed;
+}
+
+/* random numbers in every field; some states half sensible, so that deeper code is reached */
+static void garbage(int states) {
+    static bellbadger_judge j;
+    static uint8_t chunk[300], before[300];
+    for (int i = 0; i < states; i++) {
+        uint8_t *bytes = (uint8_t *)&j;
+        for (size_t b = 0; b < sizeof j; b++) bytes[b] = (uint8_t)(random_number() >> 32);
+        if (i % 2) j.rule.n = 1 + j.rule.n % 32, j.board.places = 1 + j.board.places % 64;
+        if (i % 4 == 1) memset(j.board.filled, 0, sizeof j.board.filled), memset(j.board.counts, 0, sizeof j.board.counts);
+        if (i % 8 == 7) memset(j.board.filled, 1, sizeof j.board.filled);
+        for (size_t b = 0; b < sizeof chunk; b++) chunk[b] = (uint8_t)(random_number() >> 32) % (i % 3 ? 2 : 255);
+        memcpy(before, chunk, sizeof chunk);
+        size_t place = i % 5 ? random_number() % 64 : (size_t)random_number();
+        bellbadger_load_result l = bellbadger_load(j, chunk, sizeof chunk);
+        CHECK(l.accepted || same(&l.judge, &j));
+        CHECK(bellbadger_load(j, rule_a, sizeof rule_a).accepted);
+        bellbadger_open_result o = bellbadger_open(j, place);
+        CHECK(o.accepted || same(&o.judge, &j));
+        bellbadger_deliver_result d = bellbadger_deliver(j, place, chunk, i % 7 ? sizeof chunk : 0);
+        CHECK(d.accepted || same(&d.judge, &j));
+        bellbadger_withdraw_result w = bellbadger_withdraw(d.judge, place);
+        CHECK(w.accepted || same(&w.judge, &d.judge));
+        CHECK(bellbadger_verdict(j).kind <= BELLBADGER_NO && bellbadger_verdict(w.judge).kind <= BELLBADGER_NO);
+        bellbadger_replay((const uint8_t *)chunk, sizeof chunk);
+        CHECK(!memcmp(before, chunk, sizeof chunk));
+    }
+}
+
+int main(int argc, char **argv) {
+    CHECK(sizeof(bellbadger_judge) == 27060);
+    for (size_t i = 0; i < sizeof big; i++) big[i] = i % 2;
+    calls();
+    records();
+    garbage(argc > 1 ? atoi(argv[1]) : 2000);
+    printf("%ld checks\n", checks);
+    return 0;
+}

@@ -1,0 +1,69 @@
+//! The library's own types and functions, as outside/c/bellbadger.h has them.
+
+#[repr(C)]
+#[derive(Clone, Copy)]
+pub struct RawRule {
+    n: u8,
+    k: u8,
+    starts: u8,
+    count: u16,
+    initials: u32,
+    finals: u32,
+    delegates: [u8; 32],
+    singles: [u16; 32],
+    sets: [u32; 512],
+    next: [u16; 8192],
+}
+
+#[repr(C)]
+#[derive(Clone, Copy)]
+pub struct RawBoard {
+    places: u8,
+    filled: [u8; 64],
+    counts: [u32; 64],
+    ends: [u32; 2048],
+}
+
+#[repr(C)]
+#[derive(Clone, Copy)]
+pub struct RawJudge {
+    rule: RawRule,
+    board: RawBoard,
+}
+
+#[repr(C)]
+pub struct RawLoad {
+    pub accepted: u8,
+    pub refused: u8,
+    pub sets: u16,
+    pub starts: u8,
+    pub judge: RawJudge,
+}
+
+/// Of an opening, a delivery and a withdrawal.
+#[repr(C)]
+pub struct RawChange {
+    pub accepted: u8,
+    pub refused: u8,
+    pub judge: RawJudge,
+}
+
+/// Of a verdict and of a recorded list.
+#[repr(C)]
+pub struct RawVerdict {
+    pub kind: u8,
+    pub number: u64,
+}
+
+/// As the C header has it; outside/c/test.c reads every field of it.
+const _: () = assert!(std::mem::size_of::<RawJudge>() == 27060);
+
+extern "C" {
+    pub fn bellbadger_new() -> RawJudge;
+    pub fn bellbadger_load(judge: RawJudge, file: *const u8, length: usize) -> RawLoad;
+    pub fn bellbadger_open(judge: RawJudge, places: usize) -> RawChange;
+    pub fn bellbadger_deliver(judge: RawJudge, place: usize, chunk: *const u8, length: usize) -> RawChange;
+    pub fn bellbadger_withdraw(judge: RawJudge, place: usize) -> RawChange;
+    pub fn bellbadger_verdict(judge: RawJudge) -> RawVerdict;
+    pub fn bellbadger_replay(text: *const u8, length: usize) -> RawVerdict;
+}

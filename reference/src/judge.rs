@@ -1,0 +1,111 @@
+//! The judge and its five calls. The board keeps the chunks themselves; counts and the verdict
+//! are worked out anew whenever they are due.
+
+use crate::rule::Rule;
+
+#[derive(Clone, Debug, PartialEq)]
+pub enum Call {
+    Load(Vec<u8>),
+    Open(u64),
+    Deliver(u64, Vec<u8>),
+    Withdraw(u64),
+    Verdict,
+}
+
+#[derive(Clone, Debug, PartialEq)]
+pub enum Answer {
+    Loaded(usize, usize),
+    Accepted,
+    Waiting(usize),
+    Yes(u64),
+    No(u64),
+    Refused(u32),
+}
+
+use Answer::{Accepted, Loaded, No, Refused, Waiting, Yes};
+
+/// A place has its standing chunk, or none.
+type Board = Vec<Option<Vec<u8>>>;
+
+#[derive(Default)]
+pub struct Judge {
+    rule: Option<Rule>,
+    board: Option<Board>,
+}
+
+/// The sum of the counts of the standing chunks.
+fn total(rule: &Rule, board: &Board) -> u64 {
+    let count = |(place, chunk): (usize, &Option<Vec<u8>>)| match chunk {
+        Some(chunk) => rule.count(place, chunk),
+        None => 0,
+    };
+    board.iter().enumerate().map(count).sum()
+}
+
+impl Judge {
+    pub fn call(&mut self, call: &Call) -> Answer {
+        match call {
+            Call::Load(file) => self.load(file),
+            Call::Open(places) => self.open(*places),
+            Call::Deliver(place, chunk) => self.deliver(*place, chunk),
+            Call::Withdraw(place) => self.withdraw(*place),
+            Call::Verdict => self.verdict(),
+        }
+    }
+
+    fn load(&mut self, file: &[u8]) -> Answer {
+        match Rule::build(file) {
+            Err(number) => Refused(number),
+            Ok(rule) => {
+                let answer = Loaded(rule.sets.len(), rule.starts().len());
+                self.rule = Some(rule);
+                self.board = None;
+                answer
+            }
+        }
+    }
+
+    fn open(&mut self, places: u64) -> Answer {
+        if self.rule.is_none() { return Refused(20); }
+        if places < 1 || places > 64 { return Refused(10); }
+        self.board = Some(vec![None; places as usize]);
+        Accepted
+    }
+
+    fn deliver(&mut self, place: u64, chunk: &[u8]) -> Answer {
+        let (Some(rule), Some(board)) = (&self.rule, &mut self.board) else { return Refused(21) };
+        if place >= board.len() as u64 { return Refused(11); }
+        if chunk.len() > 65_536 { return Refused(12); }
+        if chunk.iter().any(|&s| s as usize >= rule.automaton.k) { return Refused(13); }
+        let place = place as usize;
+        if board[place].is_some() { return Refused(22); }
+        if total(rule, board) + rule.count(place, chunk) > 4_294_967_295 { return Refused(24); }
+        board[place] = Some(chunk.to_vec());
+        Accepted
+    }
+
+    fn withdraw(&mut self, place: u64) -> Answer {
+        let Some(board) = &mut self.board else { return Refused(21) };
+        if place >= board.len() as u64 { return Refused(11); }
+        let place = place as usize;
+        if board[place].is_none() { return Refused(23); }
+        board[place] = None;
+        Accepted
+    }
+
+    /// Whether the automaton accepts the chunks joined to one text.
+    fn verdict(&self) -> Answer {
+        let (Some(rule), Some(board)) = (&self.rule, &self.board) else { return Refused(21) };
+        let empty = board.iter().filter(|chunk| chunk.is_none()).count();
+        if empty > 0 {
+            return Waiting(empty);
+        }
+        let text: Vec<u8> = board.iter().flatten().flatten().copied().collect();
+        let count = total(rule, board);
+        if rule.automaton.accepts_from(rule.automaton.initial, &text) {
+            Yes(count)
+        } else {
+            No(count)
+        }
+    }
+}

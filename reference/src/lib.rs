@@ -1,0 +1,12 @@
+//! The judge once more, written from the customer's paper alone and as plainly as it allows,
+//! to be compared with `tracejudge` on lists of calls.
+
+pub mod automata;
+pub mod compare;
+pub mod faults;
+pub mod judge;
+pub mod lines;
+pub mod lists;
+pub mod random;
+pub mod rule;
+pub mod tally;

@@ -1,0 +1,75 @@
+//! Lists of calls as text: one call a line, one answer a line.
+
+use crate::judge::{Answer, Call, Judge};
+
+/// One or more pairs of hex digits, or `-` for no bytes.
+fn bytes(field: &[u8]) -> Option<Vec<u8>> {
+    if field == b"-" {
+        return Some(Vec::new());
+    }
+    if field.is_empty() || field.len() % 2 != 0 {
+        return None;
+    }
+    let digit = |c: u8| (c as char).to_digit(16);
+    field.chunks(2).map(|pair| Some((digit(pair[0])? * 16 + digit(pair[1])?) as u8)).collect()
+}
+
+/// 1 to 20 decimal digits with a value below 2^64.
+fn number(field: &[u8]) -> Option<u64> {
+    if field.is_empty() || field.len() > 20 || !field.iter().all(u8::is_ascii_digit) {
+        return None;
+    }
+    let value = field.iter().fold(0u128, |value, &c| 10 * value + (c - b'0') as u128);
+    u64::try_from(value).ok()
+}
+
+/// The call that a line records, or none if the line is malformed.
+pub fn call(line: &[u8]) -> Option<Call> {
+    let fields: Vec<&[u8]> = line.split(|&c| c == b' ').collect();
+    match fields.as_slice() {
+        [b"load", file] => Some(Call::Load(bytes(file)?)),
+        [b"open", places] => Some(Call::Open(number(places)?)),
+        [b"deliver", place, chunk] => Some(Call::Deliver(number(place)?, bytes(chunk)?)),
+        [b"withdraw", place] => Some(Call::Withdraw(number(place)?)),
+        [b"verdict"] => Some(Call::Verdict),
+        _ => None,
+    }
+}
+
+fn answer(answer: Answer) -> String {
+    match answer {
+        Answer::Loaded(sets, starts) => format!("accepted {sets} {starts}"),
+        Answer::Accepted => "accepted".to_string(),
+        Answer::Waiting(empty) => format!("waiting {empty}"),
+        Answer::Yes(count) => format!("yes {count}"),
+        Answer::No(count) => format!("no {count}"),
+        Answer::Refused(number) => format!("refused {number}"),
+    }
+}
+
+/// The lines of a text: each is ended by a line feed, the last one, if not empty, by the text's end.
+pub fn lines(text: &[u8]) -> Vec<&[u8]> {
+    let mut lines: Vec<&[u8]> = text.split(|&c| c == b'\n').collect();
+    if lines.last().is_some_and(|last| last.is_empty()) {
+        lines.pop();
+    }
+    lines
+}
+
+/// The answers to the lines of a text.
+pub fn answers(text: &[u8]) -> String {
+    let mut judge = Judge::default();
+    let mut answers = String::new();
+    for line in lines(text) {
+        if line.is_empty() {
+            judge = Judge::default();
+        } else {
+            match call(line) {
+                Some(call) => answers += &answer(judge.call(&call)),
+                None => answers += "malformed",
+            }
+        }
+        answers += "\n";
+    }
+    answers
+}

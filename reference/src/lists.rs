@@ -1,0 +1,370 @@
+//! Random lists of calls, as lines.
+
+use crate::automata::{automaton, file};
+use crate::faults::likely_refused;
+use crate::random::Random;
+use crate::rule::Automaton;
+
+const LONGEST: usize = 65_536;
+
+/// A list of calls in the making. What it remembers only guides the choice of the next call.
+struct Maker {
+    r: Random,
+    lines: Vec<Vec<u8>>,
+    rule: Automaton,
+    places: usize,
+    /// How many more chunks may be long.
+    long: usize,
+}
+
+/// The list with a number under a seed.
+pub fn list(seed: u64, index: u64) -> Vec<Vec<u8>> {
+    let mut r = Random::new(seed, index);
+    let rule = automaton(&mut r);
+    let long = if r.one_in(50) { 3 } else { 0 };
+    let mut maker = Maker { r, lines: Vec::new(), rule, places: 1, long };
+    if maker.r.one_in(40) {
+        maker.lines.push(Vec::new());
+    }
+    if maker.r.one_in(6) {
+        maker.some_calls(4);
+    }
+    for _ in 0..maker.r.pick(&[1, 1, 1, 2, 3]) {
+        maker.round();
+    }
+    maker.lines
+}
+
+/// The text of lists, with an empty line between two.
+pub fn text(lists: &[Vec<Vec<u8>>]) -> Vec<u8> {
+    let mut text = Vec::new();
+    for (i, list) in lists.iter().enumerate() {
+        if i > 0 {
+            text.push(b'\n');
+        }
+        for line in list {
+            text.extend(line);
+            text.push(b'\n');
+        }
+    }
+    text
+}
+
+impl Maker {
+    fn line(&mut self, line: String) {
+        self.lines.push(line.into_bytes());
+    }
+
+    fn hex(&mut self, bytes: &[u8]) -> String {
+        if bytes.is_empty() {
+            return "-".to_string();
+        }
+        let way = self.r.below(3);
+        let mut hex = String::new();
+        for byte in bytes {
+            let upper = way == 0 || way == 1 && self.r.one_in(2);
+            hex += &if upper { format!("{byte:02X}") } else { format!("{byte:02x}") };
+        }
+        hex
+    }
+
+    /// A number in decimal, now and then with zeros in front.
+    fn number(&mut self, value: u64) -> String {
+        let width = if self.r.one_in(25) { self.r.range(1, 20) } else { 1 };
+        format!("{value:0width$}")
+    }
+
+    /// A number that is small again if its upper bits are lost, or just too large.
+    fn large(&mut self, low: usize) -> u64 {
+        let low = low as u64;
+        let power = 1u64 << self.r.pick(&[8, 16, 31, 32, 63]);
+        self.r.pick(&[power, power + low, power | 1, u64::MAX, u64::MAX - low, 100])
+    }
+
+    fn load(&mut self, file: &[u8]) {
+        let file = self.hex(file);
+        self.line(format!("load {file}"));
+    }
+
+    /// Loads a rule, rarely one with too many sets.
+    fn load_rule(&mut self) {
+        loop {
+            let rule = automaton(&mut self.r);
+            let large = file(&rule).len() > 2000 && !self.r.one_in(10);
+            let many = rule.sets(512).is_none();
+            if many && self.r.one_in(4) {
+                self.load(&file(&rule));
+            }
+            if !many && !large {
+                self.load(&file(&rule));
+                self.rule = rule;
+                return;
+            }
+        }
+    }
+
+    fn load_refused(&mut self) {
+        let file = likely_refused(&mut self.r);
+        self.load(&file);
+    }
+
+    fn open(&mut self, places: u64) {
+        let places = self.number(places);
+        self.line(format!("open {places}"));
+    }
+
+    fn open_board(&mut self) {
+        self.places = match self.r.below(24) {
+            0 => 64,
+            1 => self.r.range(1, 64),
+            2..=5 => 1,
+            _ => self.r.range(1, 6),
+        };
+        self.open(self.places as u64);
+    }
+
+    fn open_refused(&mut self) {
+        let large = self.large(1);
+        let places = self.r.pick(&[0, 0, 65, 65, 66, large, large]);
+        self.open(places);
+    }
+
+    fn deliver(&mut self, place: u64, chunk: &[u8]) {
+        let (place, chunk) = (self.number(place), self.hex(chunk));
+        self.line(format!("deliver {place} {chunk}"));
+    }
+
+    fn withdraw(&mut self, place: u64) {
+        let place = self.number(place);
+        self.line(format!("withdraw {place}"));
+    }
+
+    fn verdict(&mut self) {
+        self.line("verdict".to_string());
+    }
+
+    fn place(&mut self) -> u64 {
+        self.r.below(self.places) as u64
+    }
+
+    /// A place that the board does not have.
+    fn no_place(&mut self) -> u64 {
+        let low = self.r.below(self.places);
+        let large = self.large(low);
+        let places = self.places as u64;
+        self.r.pick(&[places, places, places + 1, large, large])
+    }
+
+    fn length(&mut self) -> usize {
+        if self.long > 0 && self.r.one_in(2) {
+            self.long -= 1;
+            return self.r.pick(&[LONGEST - 1, LONGEST, LONGEST, LONGEST, 256, 4095, 4096, 20_000]);
+        }
+        match self.r.below(20) {
+            0 => self.r.range(0, 300),
+            1..=4 => self.r.range(0, 40),
+            5..=7 => 0,
+            _ => self.r.range(0, 8),
+        }
+    }
+
+    /// A text: mostly of symbols that keep the set from a start, or from the initial states, alive.
+    fn walk(&mut self, from: u32, length: usize) -> Vec<u8> {
+        let (mut set, stray) = (from, self.r.pick(&[2, 10, 1000]));
+        let mut text = Vec::new();
+        for _ in 0..length {
+            let mut s = self.r.below(self.rule.k) as u8;
+            for _ in 0..self.rule.k {
+                if self.rule.successor(set, s) != 0 || self.r.one_in(stray) {
+                    break;
+                }
+                s = (s + 1) % self.rule.k as u8;
+            }
+            set = self.rule.successor(set, s);
+            text.push(s);
+        }
+        text
+    }
+
+    fn chunk(&mut self) -> Vec<u8> {
+        let from = 1 << self.r.below(self.rule.n);
+        let length = self.length();
+        self.walk(from, length)
+    }
+
+    /// A chunk with a byte at or above k: the first, the last or any.
+    fn bad_chunk(&mut self) -> Vec<u8> {
+        let mut chunk = self.chunk();
+        chunk.push(0);
+        let at = self.r.below(chunk.len());
+        let at = self.r.pick(&[0, chunk.len() - 1, at]);
+        chunk[at] = self.r.pick(&[self.rule.k as u8, self.rule.k as u8, 16, 127, 128, 255]);
+        chunk
+    }
+
+    fn too_long_chunk(&mut self) -> Vec<u8> {
+        let length = LONGEST + self.r.pick(&[1, 1, 1, 1, 2, 1000, 300_000]);
+        let mut chunk = self.walk(self.rule.initial, length);
+        if self.r.one_in(3) {
+            chunk[LONGEST] = 255;
+        }
+        chunk
+    }
+
+    /// Chunks for all places whose text is, if luck will have it, accepted or not as wished.
+    fn chunks(&mut self) -> Vec<Vec<u8>> {
+        let wish = !self.r.one_in(3);
+        let mut chunks: Vec<Vec<u8>> = Vec::new();
+        for _ in 0..if self.long > 0 { 1 } else { 8 } {
+            let lengths: Vec<usize> = (0..self.places).map(|_| self.length()).collect();
+            let text = self.walk(self.rule.initial, lengths.iter().sum());
+            let mut rest = &text[..];
+            chunks.clear();
+            for length in lengths {
+                chunks.push(rest[..length].to_vec());
+                rest = &rest[length..];
+            }
+            if self.rule.accepts_from(self.rule.initial, &text) == wish {
+                break;
+            }
+        }
+        chunks
+    }
+
+    /// A load, an opening, chunks for the places in any order, verdicts, and changes afterwards.
+    fn round(&mut self) {
+        if self.r.one_in(3) {
+            self.load_refused();
+        }
+        self.load_rule();
+        if self.r.one_in(5) {
+            self.some_calls(3);
+        }
+        for _ in 0..self.r.pick(&[1, 1, 1, 2]) {
+            self.open_board();
+            self.fill();
+            if self.r.one_in(2) {
+                self.change();
+            }
+        }
+    }
+
+    fn fill(&mut self) {
+        let chunks = self.chunks();
+        let mut order: Vec<usize> = (0..self.places).collect();
+        if !self.r.one_in(3) {
+            self.r.shuffle(&mut order);
+        }
+        if self.r.one_in(8) {
+            order.pop();
+        }
+        for place in order {
+            if self.r.one_in(8) {
+                self.some_calls(2);
+            }
+            self.deliver(place as u64, &chunks[place]);
+        }
+        self.verdict();
+    }
+
+    /// Chunks are withdrawn and others delivered.
+    fn change(&mut self) {
+        for _ in 0..self.r.range(1, 5) {
+            let place = self.place();
+            self.withdraw(place);
+            if self.r.one_in(3) {
+                self.some_calls(2);
+            }
+            let chunk = self.chunk();
+            self.deliver(place, &chunk);
+            self.verdict();
+        }
+    }
+
+    fn some_calls(&mut self, most: usize) {
+        for _ in 0..self.r.range(1, most) {
+            self.any_call();
+        }
+    }
+
+    /// Any call, most likely out of place.
+    fn any_call(&mut self) {
+        let (place, no_place) = (self.place(), self.no_place());
+        match self.r.below(20) {
+            0..=3 => self.verdict(),
+            4 | 5 => self.withdraw(place),
+            6 => self.withdraw(no_place),
+            7 | 8 => {
+                let chunk = self.chunk();
+                self.deliver(place, &chunk)
+            }
+            9 => {
+                let chunk = self.chunk();
+                self.deliver(no_place, &chunk)
+            }
+            10 | 11 => {
+                let chunk = self.bad_chunk();
+                self.deliver(place, &chunk)
+            }
+            12 => {
+                let chunk = self.bad_chunk();
+                self.deliver(no_place, &chunk)
+            }
+            13 if self.r.one_in(8) => {
+                let chunk = self.too_long_chunk();
+                let place = self.r.pick(&[place, place, place, no_place]);
+                self.deliver(place, &chunk)
+            }
+            13 | 14 => self.open_refused(),
+            15 => self.load_refused(),
+            16 if self.r.one_in(4) => self.open_board(),
+            16 if self.r.one_in(4) => self.load_rule(),
+            _ => self.malformed(),
+        }
+    }
+
+    /// A line that is most likely malformed, without a line feed.
+    fn malformed(&mut self) {
+        let fixed: &[&[u8]] = &[
+            b" ", b"load", b"load ", b"open", b"open ", b"deliver", b"deliver 0", b"deliver 0 ",
+            b"withdraw", b"withdraw ", b"verdict ", b" verdict", b"verdict\r", b"\r", b"\t", b"\0",
+            b"Verdict", b"VERDICT", b"verdicts", b"verdic", b"verdict 0", b"verdict -", b"judge",
+            b"open -", b"open -1", b"open +1", b"open 0x1", b"open 1.", b"open 1 ", b"open  1",
+            b"open 1 1", b"open\t1", b"open 1\r", b"open 18446744073709551616", b"open one",
+            b"open 99999999999999999999", b"open 000000000000000000001", b"open 36893488147419103233",
+            b"open 184467440737095516150", b"deliver 0 0", b"deliver 0 000", b"deliver 0 0g",
+            b"deliver 0 --", b"deliver 0 -00", b"deliver 0 00-", b"deliver 0 00 00", b"deliver  0 00",
+            b"deliver 0  00", b"deliver - 00", b"deliver 00", b"deliver 0 00 ", b"deliver 0 -\r",
+            b"deliver 18446744073709551616 -", b"deliver 0 0x00", b"deliver 0 0:", b"deliver 0 0@",
+            b"deliver 0 0`", b"deliver 0 0G", b"deliver 0 /0", b"withdraw 0 0", b"withdraw a",
+            b"withdraw 0/", b"withdraw 0:", b"withdraw 0\0", b"load --", b"load - ", b"load -\0",
+            b"load 0", b"load 00 00", b"load zz", b"load\xA000", b"\xFF\xFE", b"load \xC3\xA9",
+            b"withdraw \xD9\xA0", b"loa", b"loadd -", b"open1", b"deliver0 -", b"verdict\0", b"#", b"\x1A",
+        ];
+        if self.lines.is_empty() || self.r.one_in(2) {
+            let line = self.r.pick(fixed).to_vec();
+            self.lines.push(line);
+            return;
+        }
+        if self.r.one_in(20) {
+            let zeros = self.r.range(20, 5000);
+            return self.line(format!("open {:0>zeros$}1", ""));
+        }
+        let mut line = self.lines[self.r.below(self.lines.len())].clone();
+        if line.is_empty() || line.len() > 3000 && !self.r.one_in(10) {
+            return;
+        }
+        let at = self.r.below(line.len());
+        let byte = self.r.pick(b" -09afAFgG\r\t\0\x7F\x80\xFFdv");
+        match self.r.below(4) {
+            0 => line[at] = byte,
+            1 => line.insert(at, byte),
+            2 => line.push(byte),
+            _ if line.len() > 1 => {
+                line.remove(at);
+            }
+            _ => line[0] = byte,
+        }
+        self.lines.push(line);
+    }
+}

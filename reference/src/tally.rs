@@ -1,0 +1,83 @@
+//! What the compared lists reached: how often each call had each kind of answer, and the edges.
+
+use crate::automata::all_states;
+use crate::judge::Call;
+use crate::lines::call;
+use crate::rule::read;
+use std::collections::BTreeMap;
+
+#[derive(Default)]
+pub struct Tally {
+    pub calls: usize,
+    counts: BTreeMap<String, usize>,
+}
+
+impl Tally {
+    fn add(&mut self, what: &str) {
+        *self.counts.entry(what.to_string()).or_default() += 1;
+    }
+
+    /// Counts a line and its answer.
+    pub fn line(&mut self, line: &[u8], answer: &str) {
+        if line.is_empty() {
+            return;
+        }
+        self.calls += 1;
+        let Some(call) = call(line) else { return self.add(answer) };
+        let words: Vec<&str> = answer.split(' ').collect();
+        let kind = if words[0] == "refused" { answer } else { words[0] };
+        let accepted = words[0] == "accepted";
+        let verb = line.split(|&c| c == b' ').next().unwrap();
+        self.add(&format!("{} {kind}", String::from_utf8_lossy(verb)));
+        match call {
+            Call::Load(file) if accepted || answer == "refused 9" => self.rule(&file, &words),
+            Call::Load(file) if file.len() == 32_907 => self.add("edge: file of 32907 bytes"),
+            Call::Open(places) if places == 64 || places == 65 => self.add(&format!("edge: open {places}")),
+            Call::Deliver(_, chunk) => {
+                let length = chunk.len();
+                if accepted && (length == 0 || length == 65_536) || length == 65_537 {
+                    self.add(&format!("edge: chunk of {length} bytes"));
+                }
+            }
+            _ => (),
+        }
+    }
+
+    /// Counts what is noteworthy in a rule that was built or has more than 512 sets.
+    fn rule(&mut self, file: &[u8], words: &[&str]) {
+        let a = read(file).unwrap();
+        let sets = a.sets(1000).map_or(1001, |sets| sets.len());
+        if file.len() == 32_906 {
+            self.add("edge: file of 32906 bytes");
+        }
+        match sets {
+            400..=509 => self.add("sets 400 to 509"),
+            510..=514 => self.add(&format!("sets {sets}")),
+            515..=1000 => self.add("sets 515 to 1000"),
+            1001.. => self.add("sets over 1000"),
+            _ => (),
+        }
+        if words[0] != "accepted" {
+            return;
+        }
+        let checks = [
+            ("rule: fewer starts than states", words[2] != a.n.to_string()),
+            ("rule: 32 states", a.n == 32),
+            ("rule: 16 symbols", a.k == 16),
+            ("rule: no initial state", a.initial == 0),
+            ("rule: no final state", a.finals == 0),
+            ("rule: all states final", a.finals == all_states(a.n)),
+        ];
+        for (what, holds) in checks {
+            if holds {
+                self.add(what);
+            }
+        }
+    }
+
+    pub fn print(&self) {
+        for (what, count) in &self.counts {
+            println!("  {count:>8}  {what}");
+        }
+    }
+}

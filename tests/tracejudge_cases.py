@@ -1,0 +1,242 @@
+#!/usr/bin/env python3
+"""Writes the cases of the program tracejudge: crates/tracejudge/stdin and stdout. With --check it writes
+nothing and says whether they are what it would write.
+
+A case is a list of lines, ended by an empty line, which starts again with a fresh judge. What a line means is
+told here by patterns, and the answers are computed by a judge written straight from the words of document 01:
+a text is accepted by following the automaton over the chunks joined, and the count is taken run by run.
+"""
+import os
+import random
+import re
+import sys
+
+from ruleprint_cases import Refused, many_sets, parts, random_rule, read, rule, successor
+
+HERE = os.path.dirname(os.path.abspath(__file__))
+CRATE = os.path.join(HERE, "..", "crates", "tracejudge")
+
+
+class Judge:
+    def __init__(self):
+        self.rule = self.board = None
+
+    def load(self, f):
+        n, k, finals, targets = read(f)
+        sets, delegates = parts(f)
+        initials = int.from_bytes(f[2:6], "little")
+        self.rule = n, k, {q for q in range(n) if initials >> q & 1}, finals, targets, delegates
+        self.board = None
+        return f"accepted {len(sets)} {len(set(delegates))}"
+
+    def open(self, places):
+        if self.rule is None:
+            raise Refused(20)
+        if not 1 <= places <= 64:
+            raise Refused(10)
+        self.board = [None] * places
+        return "accepted"
+
+    def at(self, p):
+        if self.board is None:
+            raise Refused(21)
+        if p >= len(self.board):
+            raise Refused(11)
+
+    def count(self, p, chunk):
+        n, _, initials, _, targets, delegates = self.rule
+        starts = {delegates[q] for q in initials} if p == 0 else set(delegates)
+        total = 0
+        for d in starts:
+            members = frozenset({d})
+            for s in chunk:
+                members = successor(targets, members, s)
+                if not members:
+                    break
+                total += 1
+        return total
+
+    def deliver(self, p, chunk):
+        self.at(p)
+        if len(chunk) > 65536:
+            raise Refused(12)
+        if any(b >= self.rule[1] for b in chunk):
+            raise Refused(13)
+        if self.board[p] is not None:
+            raise Refused(22)
+        self.board[p] = chunk
+        return "accepted"
+
+    def withdraw(self, p):
+        self.at(p)
+        if self.board[p] is None:
+            raise Refused(23)
+        self.board[p] = None
+        return "accepted"
+
+    def verdict(self):
+        if self.board is None:
+            raise Refused(21)
+        empty = sum(chunk is None for chunk in self.board)
+        if empty:
+            return f"waiting {empty}"
+        _, _, initials, finals, targets, _ = self.rule
+        members = frozenset(initials)
+        for s in b"".join(self.board):
+            members = successor(targets, members, s)
+        count = sum(self.count(p, chunk) for p, chunk in enumerate(self.board))
+        return f"{'yes' if members & finals else 'no'} {count}"
+
+
+HEX, NUMBER = rb"((?:[0-9a-fA-F]{2})+|-)", rb"([0-9]{1,20})"
+FORMS = [
+    ("load", rb"load " + HEX), ("open", rb"open " + NUMBER), ("deliver", rb"deliver " + NUMBER + b" " + HEX),
+    ("withdraw", rb"withdraw " + NUMBER), ("verdict", rb"verdict"),
+]
+
+
+def meaning(line):
+    """The call that a line says, or None."""
+    for word, form in FORMS:
+        found = re.fullmatch(form, line, re.DOTALL)
+        if found:
+            fields = list(found.groups())
+            if word in ("open", "deliver", "withdraw"):
+                fields[0] = int(fields[0])
+                if fields[0] > LARGEST:
+                    return None
+            if word in ("load", "deliver"):
+                fields[-1] = b"" if fields[-1] == b"-" else bytes.fromhex(fields[-1].decode())
+            return word, *fields
+    return None
+
+
+def answer(judge, line):
+    call = meaning(line)
+    if call is None:
+        return "malformed"
+    try:
+        return getattr(judge, call[0])(*call[1:])
+    except Refused as refused:
+        return f"refused {refused}"
+
+
+def line(call):
+    """A call as a line; a line stays as it is."""
+    if isinstance(call, bytes):
+        return call
+    return " ".join([call[0]] + [(x.hex() or "-") if isinstance(x, bytes) else str(x) for x in call[1:]]).encode()
+
+
+A = bytes.fromhex("03020100000004000000160006001C0002001E0000000000000101000102")
+B = rule(3, 1, 1, 6, [(0, 0, 1), (0, 0, 2), (1, 0, 0), (2, 0, 0)])
+# figure 1 of document 004: a, b, c are 0, 1, 2
+FIGURE_1 = rule(3, 3, 1, 4, [(0, 0, 1), (0, 2, 1), (1, 0, 0), (1, 0, 1), (1, 1, 0), (1, 1, 2), (1, 2, 0), (2, 1, 1)])
+NO_RULE = A[:9]
+LARGEST = 2 ** 64 - 1
+
+
+def judged(f, *chunks):
+    """Load, open a place for each chunk, deliver the last first, and ask on the way and at the end."""
+    calls = [("load", f), ("open", len(chunks)), ("verdict",)]
+    for p in reversed(range(len(chunks))):
+        calls += [("deliver", p, chunks[p]), ("verdict",)]
+    return calls
+
+
+def random_calls(seed):
+    rng = random.Random(seed)
+    n, k = rng.randint(1, 6), rng.randint(1, 3)
+    f = random_rule(seed, n, k, rng.choice([0.15, 0.3, 0.5]))
+    calls = [("load", f), ("open", rng.randint(1, 4))]
+    for _ in range(30):
+        p = rng.randint(0, 4)
+        chunk = bytes(rng.randrange(k) for _ in range(rng.randint(0, 6)))
+        calls.append(rng.choice([
+            ("deliver", p, chunk), ("deliver", p, chunk), ("deliver", p, chunk), ("withdraw", p), ("verdict",), ("verdict",),
+            ("deliver", p, chunk + bytes([k])), rng.choice([("open", rng.randint(0, 4)), ("load", f), ("load", NO_RULE), ("verdict",)]),
+        ]))
+    return calls + [("verdict",)]
+
+
+LONG = bytes([0, 1]) * 32768
+FULL = rule(32, 16, 1, 1, [(q, s, t) for q in range(32) for s in range(16) for t in range(32)])
+
+# lines that say no call; between them the judge keeps what it has
+MALFORMED = [
+    b"load", b"load ", b"load  00", b" load 00", b"load 0", b"load 0g", b"load 00 ", b"load 00 00", b"LOAD 00", b"load --", b"load -00",
+    b"load 00\r", b"verdict ", b"verdict\r", b"verdictx", b"Verdict", b"verdic", b"open", b"open ", b"open 1 ", b"open  1", b"open -1", b"open +1",
+    b"open 0x1", b"open 1\r", b"open 18446744073709551616", b"open 99999999999999999999", b"open 000000000000000000001", b"deliver", b"deliver 0",
+    b"deliver 0 ", b"deliver 0  00", b"deliver 0 00 ", b"deliver  0 00", b"deliver - 00", b"deliver 0 000", b"deliver 0 00\t", b"deliver 18446744073709551616 00",
+    b"withdraw", b"withdraw ", b"withdraw 0 0", b"withdraw x", b"close", b" ", b"\r", b"\0", b"\xff\xfe", b"verdict verdict",
+]
+# lines longer than any call that is accepted, whose beginnings are the same
+DIGITS = b"00" * 65552
+LONGER = [
+    b"deliver 0 " + DIGITS, b"deliver 0 " + DIGITS + b"0", b"deliver 0 " + DIGITS + b"0g", b"deliver 0 " + DIGITS + b"\r", b"deliver 9 " + DIGITS,
+    b"load " + DIGITS, b"load " + DIGITS + b" ", b"verdict" + DIGITS,
+]
+CASES = [
+    # before a load, before an opening
+    [("verdict",), ("open", 1), ("open", 0), ("deliver", 0, b""), ("withdraw", 0), ("load", NO_RULE), ("open", 1), ("verdict",)],
+    [("load", A), ("verdict",), ("deliver", 0, b""), ("withdraw", 0), ("load", NO_RULE), ("verdict",), ("open", 1), ("verdict",)],
+    # table P and figure 1 of document 004
+    judged(A, b"\0", b"\1"),
+    judged(A, b"\1", b"\0"),
+    judged(A, b""),
+    judged(B, b"\0", b"\0\0"),
+    judged(B, b"\0\0", b"\0"),
+    judged(B, b"\0\0\0"),
+    judged(B, b"", b"", b""),
+    [("load", A[:6] + b"\x08" + A[7:]), ("verdict",)],
+    judged(FIGURE_1, b"\0\0\1", b"\2\0\1"),
+    judged(B, b"\0", b""),
+    # places: N 0, 1, 64, 65 and the largest; place N - 1, N and the largest
+    [("load", A)] + [("open", n) for n in (0, 65, LARGEST, 1)] + [("verdict",), ("deliver", 0, b"\0\1"), ("verdict",)],
+    [("load", A), ("open", 64), ("deliver", 63, b""), ("deliver", 64, b""), ("deliver", LARGEST, b""), ("withdraw", 64), ("withdraw", LARGEST), ("verdict",)]
+    + [("deliver", p, b"\0") for p in range(63)] + [("verdict",), ("withdraw", 63), ("verdict",), ("deliver", 63, b"\1"), ("verdict",)],
+    # chunks of 65,536 and 65,537 bytes; byte k - 1 and k, first and last; 12 before 13 before 22
+    [("load", A), ("open", 2), ("deliver", 0, LONG + b"\2"), ("deliver", 0, LONG), ("verdict",), ("deliver", 1, b"\1\2"), ("deliver", 1, b"\2\1"),
+     ("deliver", 0, b"\2"), ("deliver", 0, b"\1"), ("deliver", 1, b"\1\1"), ("verdict",)],
+    # a reload and a reopening drop the chunks; a refused load or opening keeps them; a withdrawn place is filled anew
+    judged(A, b"\0", b"\1") + [("load", NO_RULE), ("verdict",), ("open", 0), ("verdict",), ("open", 2), ("verdict",), ("deliver", 1, b"\1"), ("verdict",),
+                               ("load", B), ("verdict",), ("deliver", 0, b"\0"), ("open", 1), ("deliver", 0, b"\0"), ("deliver", 0, b"\0"), ("verdict",),
+                               ("withdraw", 0), ("withdraw", 0), ("verdict",), ("deliver", 0, b""), ("verdict",)],
+    # each call right after a reload, and right after a reopening
+    judged(A, b"\0") + [("load", A), ("withdraw", 0), ("deliver", 0, b""), ("verdict",), ("open", 1), ("withdraw", 0), ("verdict",), ("deliver", 0, b"\0\1"),
+                        ("open", 1), ("withdraw", 0), ("verdict",), ("deliver", 0, b"\1"), ("verdict",)],
+    # 512 and 513 sets
+    [("load", many_sets(4)), ("open", 1), ("load", many_sets(5)), ("deliver", 0, b"\0\1\0"), ("verdict",)],
+    # a file of 32,906 bytes, and one byte more
+    [("load", FULL), ("open", 1), ("deliver", 0, b"\x0f"), ("verdict",), ("load", FULL + b"\0"), ("verdict",)],
+    # n 33; hex digits of either case; the largest number of digits
+    [("load", b"\x21" + A[1:]), b"load " + A.hex().upper().encode(), b"open 00000000000000000001", b"deliver 0 0001", ("verdict",)],
+    # lines that are malformed, and lines that are very long
+    judged(A, b"\0", b"\1") + [x for bad in MALFORMED for x in (bad, ("verdict",))],
+    [("load", A), ("open", 1)] + LONGER + [("verdict",), ("deliver", 0, b"\0"), ("verdict",)],
+] + [random_calls(seed) for seed in range(24)]
+# the last line is ended by the end of the input
+LAST = [("load", A), ("open", 1), ("verdict",)]
+
+
+def main():
+    calls, answers = b"", ""
+    for case in CASES + [LAST]:
+        judge = Judge()
+        for call in case:
+            calls += line(call) + b"\n"
+            answers += answer(judge, line(call)) + "\n"
+        if case is not LAST:
+            calls += b"\n"
+            answers += "\n"
+    for name, text in (("stdin", calls[:-1]), ("stdout", answers.encode())):
+        path = os.path.join(CRATE, name)
+        if sys.argv[1:] == ["--check"]:
+            if open(path, "rb").read() != text:
+                sys.exit(f"{path} is not what {__file__} writes")
+        else:
+            open(path, "wb").write(text)
+
+
+if __name__ == "__main__":
+    main()
