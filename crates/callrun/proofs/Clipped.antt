@@ -14,14 +14,13 @@ use lib.Dec.{ltb, leb}
 use lib.ListN.{length, take}
 use lib.Seq.{take-all, length-take-le}
 use Rattle.masks.proofs.Cases.{by-test}
-use Rattle.rulefile.specs.Refusals.{tooShort, tooLong, refusal}
+use Rattle.rulefile.specs.Refusals.{tooShort, tooLong}
 use Rattle.board.specs.Boards.{placesOf}
 use Rattle.judge.specs.declared.Judge.{Judge}
-use Rattle.judge.specs.History.{loadNumber}
-use Rattle.judge.specs.Calls.{Outcome, Loads, outcomeBy, noBoard, deliverOf}
+use Rattle.judge.specs.Calls.{loadNumber, Outcome, Loads, outcomeBy, lacksBoard, deliverOf}
 
 pub long-load : (f : List ℕ) → 32906 < length f → loadNumber f ≡ some 2
-unfolding loadNumber refusal tooShort tooLong
+unfolding loadNumber tooShort tooLong
 long-load f h = rw (le-ltb (length f) 10 (omega arith), lt-ltb 32906 (length f) h)
 
 -- ---- load
@@ -58,7 +57,7 @@ by-12 false false j next next′ = refl
 
 pub delivers-long : (j : Judge) (p : ℕ) (v w : List ℕ) → 65536 < length v → 65536 < length w → deliverOf j p v ≡ deliverOf j p w
 unfolding deliverOf
-delivers-long j p v w hv hw = rw (lt-ltb 65536 (length v) hv, lt-ltb 65536 (length w) hw) (by-12 (noBoard j) (leb (placesOf (j .board)) p) j _ _)
+delivers-long j p v w hv hw = rw (lt-ltb 65536 (length v) hv, lt-ltb 65536 (length w) hw) (by-12 (lacksBoard j) (leb (placesOf (j .board)) p) j _ _)
 
 pub delivers-clip : (j : Judge) (p : ℕ) (w : List ℕ) (n : ℕ) → 65537 ≤ n → deliverOf j p (take n w) ≡ deliverOf j p w
 delivers-clip j p w n h =

@@ -5,7 +5,7 @@ ghost use Prim.Native.Nat.{_≤_};
 ghost use lib.ListN.{length};
 ghost use Rattle.fields.specs.Bytes.{bytesIn};
 ghost use Rattle.judge.specs.Replies.{loadSays, openSays, deliverSays, withdrawSays, verdictSays};
-ghost use Rattle.judge.specs.History.{opens, withdraws, asks};
+ghost use Rattle.judge.specs.Calls.{opens, withdraws, asks};
 ghost use Rattle.calltext.specs.Meaning.{again, call, malformed, loadBy, deliverBy, lineIn};
 ghost use Rattle.calltext.specs.Answers.{replied, responseOf};
 ghost use Rattle.callrun.specs.Running.{LineSteps};

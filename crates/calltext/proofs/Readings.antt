@@ -17,7 +17,7 @@ use Rattle.fields.specs.declared.Number.the-variants.{Value}
 use Rattle.fields.specs.declared.Number.the-variants as number
 use Rattle.fields.specs.Numbers.{numberIn, numberSaid}
 use Rattle.fields.specs.Bytes.{bytesIn}
-use Rattle.judge.specs.History.{opens, withdraws, asks}
+use Rattle.judge.specs.Calls.{opens, withdraws, asks}
 use Rattle.calltext.specs.declared.Line.{Line}
 use Rattle.calltext.specs.declared.Line.the-variants.{Empty, Load, Verdict, Malformed}
 use Rattle.calltext.specs.Meaning.{Meaning, again, call, malformed, load-word, open-word, deliver-word, withdraw-word, verdict-word, loadBy, openBy, withdrawBy, deliverBy, deliverFields, callIn, lineIn, meant, bytesFrom, Parsed}

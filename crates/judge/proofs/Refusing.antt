@@ -1,19 +1,16 @@
 -- A refusal leaves the state as it was, on any state whatever (demand 1). Assumes nothing.
 use mathlib.Core.Path.{_≡_, refl, sym, ap, _∙_}
-use mathlib.Core.Bool.{cond}
-use mathlib.Core.List.{List, [], _∷_}
+use mathlib.Core.Bool.{not}
+use mathlib.Core.List.{List}
 use mathlib.Core.Option.{Option, none, some}
-use Prim.Native.Nat.{ℕ}
+use Prim.Native.Nat.{ℕ, _+_}
 use native.Mathlib.Omega.{arith}
-use lib.Dec.{leb}
-use Rattle.rulefile.specs.Conditions.{on, firstOf, outside}
-use Rattle.board.specs.Boards.{placesOf, isEmpty, emptyBoard, filledAt, clearedAt}
+use Rattle.rulefile.specs.Conditions.{firstOf}
+use Rattle.board.specs.Boards.{placesOf, isEmpty, emptyBoard, filledAt, clearedAt, summedCount}
 use Rattle.judge.specs.declared.Judge.{Judge}
 use Rattle.judge.specs.Replies.{accepted, refused}
-use Rattle.judge.specs.History.{loads, opens, delivers, withdraws, asks, loadNumber}
-use Rattle.judge.specs.Calls.{noRule, noBoard, withBoard, runsAt, Outcome, outcomeBy, Loads, openOf, deliverOf, withdrawOf}
+use Rattle.judge.specs.Calls.{loads, opens, delivers, withdraws, asks, loadNumber, openConditions, deliverConditions, withdrawConditions, lacksRule, lacksBoard, withBoard, runsAt, Outcome, outcomeBy, Loads, openOf, deliverOf, withdrawOf}
 use Rattle.judge.specs.Claims.{Unchanged}
-use Rattle.judge.proofs.Numbers.{state-11}
 
 load-by : (j : Judge) (f : List ℕ) (o : Outcome) → Loads j f o → (x : ℕ) → o .says ≡ refused x → (number : Option ℕ) → loadNumber f ≡ number
     → o .leaves ≡ j
@@ -31,10 +28,23 @@ by-number (some m) j next o is x e = ap (λ (b : Outcome). b .leaves) is
 pub unchanged : Unchanged
 unfolding openOf deliverOf withdrawOf
 unchanged j (loads f) o step x e = load-by j f o step x e (loadNumber f) refl
-unchanged j (opens n) o step x e =
-    by-number (firstOf (on 20 (noRule j) ∷ on 10 (outside 1 64 n) ∷ [])) j (withBoard j (emptyBoard n)) o step x e
+unchanged j (opens n) o step x e = by-number (firstOf (openConditions (lacksRule j) n)) j (withBoard j (emptyBoard n)) o step x e
 unchanged j (delivers p w) o step x e =
-    by-number (cond (noBoard j) (some 21) (state-11 j p w)) j (withBoard j (filledAt (j .board) p (runsAt j p w))) o step x e
+    by-number
+    (firstOf
+    (deliverConditions (lacksBoard j) (placesOf (j .board)) p w (j .built .k) (not (isEmpty (j .board) p))
+    (summedCount (j .board) + runsAt j p w .count)))
+    j
+    (withBoard j (filledAt (j .board) p (runsAt j p w)))
+    o
+    step
+    x
+    e
 unchanged j (withdraws p) o step x e =
-    by-number (firstOf (on 21 (noBoard j) ∷ on 11 (leb (placesOf (j .board)) p) ∷ on 23 (isEmpty (j .board) p) ∷ [])) j (withBoard j (clearedAt (j .board) p)) o step x e
+    by-number (firstOf (withdrawConditions (lacksBoard j) (placesOf (j .board)) p (isEmpty (j .board) p))) j
+    (withBoard j (clearedAt (j .board) p))
+    o
+    step
+    x
+    e
 unchanged j asks o step x e = ap (λ (b : Outcome). b .leaves) step

@@ -23,7 +23,6 @@ use Rattle.rulefile.specs.declared.ReadAnswer.the-variants as reading
 use Rattle.rulefile.specs.declared.Reading.{Reading}
 use Rattle.rulefile.specs.Refusals.{refusal}
 use Rattle.rulefile.specs.Reader.{numberOf, ruleOf, ruleBy, Reads}
-use Rattle.subsets.specs.Sets.{tooMany}
 use Rattle.build.specs.declared.BuildAnswer.the-variants as build
 use Rattle.build.specs.declared.Built.{Built}
 use Rattle.build.specs.declared.Building.{Building}
@@ -35,8 +34,8 @@ use Rattle.board.specs.declared.Board.{Board}
 use Rattle.board.specs.Boards.{placesOf, isEmpty, emptyBoard, filledAt, clearedAt, emptyPlaces, summedCount}
 use Rattle.judge.specs.declared.Judge.{Judge}
 use Rattle.judge.specs.Replies as reply
-use Rattle.judge.specs.History.{loadNumber}
-use Rattle.judge.specs.Calls.{fresh, withBoard, Outcome, Loads, openOf, runsAt, deliverOf, withdrawOf, isYes, verdictOf}
+use Rattle.judge.specs.Calls.{loadNumber, fresh, withBoard, Outcome, Loads, openOf, runsAt, deliverOf, withdrawOf, isYes, verdictOf}
+use Rattle.judge.proofs.Conditions.{over, load-number}
 
 pub fresh-by : (b : Built) → b ≡ noBuilt → (e : Board) → e ≡ emptyBoard 0 → record { built = b; board = e } ≡ fresh
 unfolding fresh
@@ -176,10 +175,9 @@ module _ (j : Judge) (f : List ℕ) (read : Reading) (reads : Reads f read) wher
   -- the file is refused
   pub load-unread : (number : ℕ) → read .answer ≡ reading.Refused number
       → (r : Outcome) → r ≡ record { says = reply.refused number; leaves = j } → Loads j f r
-  unfolding loadNumber
   load-unread number told =
       let told : refusal f ≡ some number = sym (reads .answer) ∙ ap numberOf told in
-      refused-with j f number (rw told)
+      refused-with j f number (load-number f ∙ rw told)
 
   module _ (told : read .answer ≡ reading.Accepted) (b : Building) (builds : Builds (read .rule) b) where
     good : refusal f ≡ none
@@ -188,21 +186,17 @@ module _ (j : Judge) (f : List ℕ) (read : Reading) (reads : Reads f read) wher
     builds-it : Builds (ruleOf f) b
     builds-it = subst (λ (x : Rule). Builds x b) (reads .rule ∙ ap (λ (o : Option ℕ). ruleBy o f) good) builds
 
-    abbrev over : Bool
-    over = tooMany (ruleOf f .targets) (ruleOf f .n) (ruleOf f .k)
+    number-is : loadNumber f ≡ cond (over f) (some 9) none
+    number-is = load-number f ∙ rw good
 
-    number-is : loadNumber f ≡ cond over (some 9) none
-    unfolding loadNumber
-    number-is = rw good
-
-    said : saidOf (b .answer) ≡ cond over (refused 9) (accepted (length (sets (ruleOf f))) (b .built .starts))
+    said : saidOf (b .answer) ≡ cond (over f) (refused 9) (accepted (length (sets (ruleOf f))) (b .built .starts))
     said = builds-it .answer
 
     -- it has too many sets
     pub load-unbuilt : (number : ℕ) → b .answer ≡ build.Refused number
         → (r : Outcome) → r ≡ record { says = reply.refused number; leaves = j } → Loads j f r
     load-unbuilt number answered =
-        by-test over
+        by-test (over f)
         (λ t.
         let is : refused number ≡ refused 9 = sym (ap saidOf answered) ∙ said ∙ rw t in
         let nine : number ≡ 9 = cc in
@@ -214,7 +208,7 @@ module _ (j : Judge) (f : List ℕ) (read : Reading) (reads : Reads f read) wher
     pub loaded : (m starts : ℕ) → b .answer ≡ build.Accepted m starts → (e : Board) → e ≡ emptyBoard 0
         → Loads j f (record { says = reply.loaded m starts; leaves = record { built = b .built; board = e } })
     loaded m starts answered e empty =
-        by-test over
+        by-test (over f)
         (λ t.
         let is : accepted m starts ≡ refused 9 = sym (ap saidOf answered) ∙ said ∙ rw t in
         absurd (let z : _≡_ {A = ℕ} 0 1 = cc in omega arith))

@@ -19,10 +19,9 @@ use Rattle.lines.specs.Splitting.{upTo, lastLine, linesFrom, linesOf}
 use Rattle.lines.proofs.Splits.{up-most, up-take, up-whole, lines-there, lines-last}
 use Rattle.judge.specs.declared.Judge.{Judge}
 use Rattle.judge.specs.Replies.{Reply}
-use Rattle.judge.specs.History.{Call}
-use Rattle.judge.specs.Calls.{fresh, verdictOf}
-use Rattle.judge.specs.Claims.{Ran, begins, next}
-use Rattle.judge.proofs.Every.{every-list, verdict-after}
+use Rattle.judge.specs.Calls.{Call, fresh, verdictOf}
+use Rattle.histories.specs.Claims.{Ran, begins, next}
+use Rattle.histories.proofs.Every.{every-list, verdict-after}
 use Rattle.calltext.specs.Meaning.{Meaning, again, call, malformed, lineIn}
 use Rattle.calltext.specs.Answers.{Response, began, replied, unread, isUnread}
 use Rattle.callrun.specs.Running.{LineSteps}

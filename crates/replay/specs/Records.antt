@@ -11,8 +11,9 @@ use Prim.Native.Nat.{ℕ, suc}
 use Rattle.lines.specs.Splitting.{linesOf}
 use Rattle.judge.specs.declared.Judge.{Judge}
 use Rattle.judge.specs.Replies.{Reply, waiting, keeps, breaks, refused}
-use Rattle.judge.specs.History.{Call, verdictIn}
-use Rattle.judge.specs.Claims.{Ran, EveryList}
+use Rattle.histories.specs.History.{verdictIn}
+use Rattle.judge.specs.Calls.{Call}
+use Rattle.histories.specs.Claims.{Ran, EveryList}
 use Rattle.calltext.specs.Meaning.{Meaning, again, call, malformed, lineIn}
 use Rattle.replay.specs.declared.ReplayAnswer.{ReplayAnswer}
 use Rattle.replay.specs.declared.ReplayAnswer.the-variants.{Waiting, Yes, No, Refused, Malformed}

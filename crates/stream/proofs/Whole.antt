@@ -11,11 +11,10 @@ use lib.ListN.{length, drop, drop-of-length-le}
 use Rattle.lines.specs.Splitting.{linesFrom, linesOf}
 use Rattle.judge.specs.declared.Judge.{Judge}
 use Rattle.judge.specs.Replies.{Reply}
-use Rattle.judge.specs.History.{Call}
-use Rattle.judge.specs.Calls.{fresh}
-use Rattle.judge.specs.Claims as judge
-use Rattle.judge.specs.Claims.{Ran, Right}
-use Rattle.judge.proofs.Every.{every-list}
+use Rattle.judge.specs.Calls.{Call, fresh}
+use Rattle.histories.specs.Claims as judge
+use Rattle.histories.specs.Claims.{Ran, Right}
+use Rattle.histories.proofs.Every.{every-list}
 use Rattle.calltext.specs.Meaning.{Meaning, again, call, malformed, lineIn}
 use Rattle.calltext.specs.Answers.{Response, responseText}
 use Rattle.callrun.specs.Running.{LineSteps}

@@ -4,7 +4,6 @@
 -- `d` is fixed by the list (`one-list` of crates/delegates). It enters `standing` only through condition 24, which no list meets: 64 places, 65,536
 -- bytes a chunk and 32 starts make 2^27 transitions at most.
 --
---   loadNumber f             the number with which a load is refused, 1 to 9, or none where it is accepted
 --   fileOf h, ruleIn h       the file of the last accepted load, and its rule
 --   openNumber h n           the number with which an opening is refused: 20, 10
 --   boardIn h                a board is there: the last accepted call among loads and openings is an opening
@@ -23,24 +22,17 @@ use mathlib.Core.Bool.{Bool, true, false, cond, _&&_}
 use mathlib.Core.List.{List, [], _∷_, _++_}
 use mathlib.Core.Option.{Option, none, some}
 use Prim.Native.Nat.{ℕ, zero, suc, _+_, _/_, _%_}
-use lib.Dec.{eqb, ltb, leb}
+use lib.Dec.{eqb}
 use lib.ListN.{length}
 use Rattle.masks.specs.Lists.{listFrom}
 use Rattle.automaton.specs.declared.Rule.{Rule}
-use Rattle.rulefile.specs.Conditions.{on, firstOf, outside}
-use Rattle.rulefile.specs.Refusals.{refusal}
+use Rattle.rulefile.specs.Conditions.{firstOf}
 use Rattle.rulefile.specs.Reader.{ruleOf, noRule}
-use Rattle.subsets.specs.Sets.{setsOf, tooMany}
-use Rattle.chunks.specs.Chunks.{foreign, runSet, endSet, total, chunkCount}
+use Rattle.subsets.specs.Sets.{setsOf}
+use Rattle.chunks.specs.Chunks.{runSet, endSet, total, chunkCount}
 use Rattle.board.specs.Joining.{saysYes}
 use Rattle.judge.specs.Replies.{Reply, accepted, loaded, waiting, keeps, breaks, refused}
-
-pub data Call : Type 0 where
-  loads : List ℕ → Call
-  opens : ℕ → Call
-  delivers : ℕ → List ℕ → Call
-  withdraws : ℕ → Call
-  asks : Call
+use Rattle.judge.specs.Calls.{Call, loads, opens, delivers, withdraws, asks, loadNumber, openConditions, deliverConditions, withdrawConditions}
 
 -- whether there is a value
 abbrev pub isNone : {A : Type 0} → Option A → Bool
@@ -51,14 +43,7 @@ abbrev pub isSome : {A : Type 0} → Option A → Bool
 isSome none = false
 isSome (some x) = true
 
-abbrev pub orElse : Option ℕ → Option ℕ → Option ℕ
-orElse none y = y
-orElse (some x) y = some x
-
 -- ---- which rule is there
-unfoldable pub loadNumber : List ℕ → Option ℕ
-loadNumber f = orElse (refusal f) (firstOf (on 9 (tooMany (ruleOf f .targets) (ruleOf f .n) (ruleOf f .k)) ∷ []))
-
 unfoldable pub fileOf : List Call → Option (List ℕ)
 fileOf [] = none
 fileOf (loads f ∷ h) = cond (isNone (loadNumber f)) (some f) (fileOf h)
@@ -67,16 +52,16 @@ fileOf (delivers p w ∷ h) = fileOf h
 fileOf (withdraws p ∷ h) = fileOf h
 fileOf (asks ∷ h) = fileOf h
 
-abbrev pub ruleBy : Option (List ℕ) → Rule
-ruleBy none = noRule
-ruleBy (some f) = ruleOf f
+abbrev pub ruleFrom : Option (List ℕ) → Rule
+ruleFrom none = noRule
+ruleFrom (some f) = ruleOf f
 
 abbrev pub ruleIn : List Call → Rule
-ruleIn h = ruleBy (fileOf h)
+ruleIn h = ruleFrom (fileOf h)
 
 -- ---- which board is there
 abbrev pub openNumber : List Call → ℕ → Option ℕ
-openNumber h n = firstOf (on 20 (isNone (fileOf h)) ∷ on 10 (outside 1 64 n) ∷ [])
+openNumber h n = firstOf (openConditions (isNone (fileOf h)) n)
 
 unfoldable pub boardIn : List Call → Bool
 boardIn [] = false
@@ -106,16 +91,11 @@ module _ (r : Rule) (d : List ℕ) where
 
   abbrev pub deliverCheck : ℕ → (ℕ → Option (List ℕ)) → ℕ → List ℕ → Option ℕ
   deliverCheck places at p w =
-      firstOf (
-      on 21 (eqb places 0) ∷
-      on 11 (leb places p) ∷
-      on 12 (ltb 65536 (length w)) ∷
-      on 13 (foreign w (r .k)) ∷
-      on 22 (isSome (at p)) ∷
-      on 24 (ltb 4294967295 (total (λ i. countOf i (at i)) places + countOf p (some w))) ∷ [])
+      firstOf
+      (deliverConditions (eqb places 0) places p w (r .k) (isSome (at p)) (total (λ i. countOf i (at i)) places + countOf p (some w)))
 
 abbrev pub withdrawCheck : ℕ → (ℕ → Option (List ℕ)) → ℕ → Option ℕ
-withdrawCheck places at p = firstOf (on 21 (eqb places 0) ∷ on 11 (leb places p) ∷ on 23 (isNone (at p)) ∷ [])
+withdrawCheck places at p = firstOf (withdrawConditions (eqb places 0) places p (isNone (at p)))
 
 unfoldable pub standing : List ℕ → List Call → ℕ → Option (List ℕ)
 standing d [] p = none

@@ -1,7 +1,6 @@
 -- Automata that differ only in how their arcs are stated have the same delegates, so the delegates of a rule are those of the bytes of its
 -- file. Assumes nothing.
 use mathlib.Core.Path.{_≡_}
-use mathlib.Core.Logic.{_↔_}
 use mathlib.Core.List.{List}
 use mathlib.Core.Option.{none}
 use Prim.Native.Nat.{ℕ}
@@ -16,7 +15,6 @@ use Rattle.rulefile.specs.Reader.{ruleOf}
 use Rattle.rulefile.specs.Language.{ArcIn, automatonIn}
 use Rattle.rulefile.proofs.Claims as rulefile
 use Rattle.delegates.specs.Alike.{AcceptsFrom, Alike, Delegate, Merged}
-use Rattle.judge.specs.Bytes.{DelegatesOfBytes}
 
 module _ (n k : ℕ) (Initial Final : ℕ → Type 0) where
   abbrev by : (ℕ → ℕ → ℕ → Type 0) → Automaton
@@ -67,11 +65,9 @@ module _ (f : List ℕ) (e : refusal f ≡ none) where
   stands : (q s t : ℕ) → Read q s t → ArcIn f q s t
   stands q s t = rulefile.claims .arcs f e q s t .1
 
-  same-delegates : (d : List ℕ) (m : ℕ) → Merged (automatonIn f) d m ↔ Merged (automatonOf (ruleOf f)) d m
-  same-delegates d m = (
-    merged-map (stateCount f) (symbolCount f) (λ q. q ∈ initialMask f) (λ q. q ∈ finalMask f) (ArcIn f) Read is-read stands d m,
-    merged-map (stateCount f) (symbolCount f) (λ q. q ∈ initialMask f) (λ q. q ∈ finalMask f) Read (ArcIn f) stands is-read d m,
-  )
+  -- the delegates of the rule that is read are those of the bytes
+  pub of-rule : (d : List ℕ) (m : ℕ) → Merged (automatonOf (ruleOf f)) d m → Merged (automatonIn f) d m
+  of-rule = merged-map (stateCount f) (symbolCount f) (λ q. q ∈ initialMask f) (λ q. q ∈ finalMask f) Read (ArcIn f) stands is-read
 
-pub delegates-of-bytes : DelegatesOfBytes
-delegates-of-bytes = same-delegates
+  pub of-bytes : (d : List ℕ) (m : ℕ) → Merged (automatonIn f) d m → Merged (automatonOf (ruleOf f)) d m
+  of-bytes = merged-map (stateCount f) (symbolCount f) (λ q. q ∈ initialMask f) (λ q. q ∈ finalMask f) (ArcIn f) Read is-read stands

@@ -31,14 +31,16 @@ use Rattle.board.specs.Joining.{saysYes}
 use Rattle.board.specs.Claims as board-specs
 use Rattle.board.proofs.Claims as board
 use Rattle.board.proofs.Totals.{total-same, term-most}
 use Rattle.judge.specs.declared.Judge.{Judge}
 use Rattle.judge.specs.Replies.{Reply, waiting, keeps, breaks, refused}
-use Rattle.judge.specs.History.{Call, loads, opens, delivers, withdraws, asks, isNone, loadNumber, fileOf, ruleBy, openNumber, boardIn, placesIn, countOf, endOf, standing, emptiesIn, summedIn, yesIn, chunkOf, joinedUpTo}
-use Rattle.judge.specs.Claims.{automatonBy, Verdict-words}
-use Rattle.judge.proofs.Running.{merged}
-use Rattle.judge.proofs.Holding.{Holds}
-use Rattle.judge.proofs.Numbers.{passed}
-use Rattle.judge.proofs.Listed.{Good, no-number, file-accepted}
+use Rattle.judge.proofs.Conditions.{not-refused}
+use Rattle.histories.specs.History.{isNone, fileOf, ruleFrom, openNumber, boardIn, placesIn, countOf, endOf, standing, emptiesIn, summedIn, yesIn, chunkOf, joinedUpTo}
+use Rattle.judge.specs.Calls.{Call, loads, opens, delivers, withdraws, asks, loadNumber}
+use Rattle.histories.specs.Claims.{automatonBy, Verdict-words}
+use Rattle.histories.proofs.Running.{merged}
+use Rattle.histories.proofs.Holding.{Holds}
+use Rattle.histories.proofs.Numbers.{passed}
+use Rattle.histories.proofs.Listed.{Good, file-accepted}
 
 -- ---- the verdict by its numbers
 module _ (places empties : ℕ) (yes-there : Bool) (sum : ℕ) where
@@ -251,7 +253,7 @@ both f g = (λ x. g .0 (f .0 x), λ x. f .1 (g .1 x))
 
 module _ (places : ℕ) (at : ℕ → Option (List ℕ)) (j : Judge) where
   most-by : (file : Option (List ℕ)) → Holds file places at j
-      → total (λ p. countOf (ruleBy file) (j .built .delegates) p (at p)) places ≤ j .built .starts * length (joinedUpTo at places)
+      → total (λ p. countOf (ruleFrom file) (j .built .delegates) p (at p)) places ≤ j .built .starts * length (joinedUpTo at places)
   unfolding total
   most-by none holds =
       by-test (ltb 0 places)
@@ -266,11 +268,11 @@ module _ (places : ℕ) (at : ℕ → Option (List ℕ)) (j : Judge) where
   -- the file's automaton and the rule's accept the same texts
   accepts-by : (file : Option (List ℕ)) → ((f : List ℕ) → file ≡ some f → loadNumber f ≡ none) → Holds file places at j → 0 < places
       → total (λ p. cond (isNone (at p)) 1 0) places ≡ 0
-      → (saysYes (listFrom 0 2048 (λ cell. endOf (ruleBy file) (j .built .delegates) (cell / 32) (cell % 32) (at (cell / 32)))) (j .built .delegates) (ruleBy file .n) (ruleBy file .initials) (ruleBy file .finals) places ≡ true)
+      → (saysYes (listFrom 0 2048 (λ cell. endOf (ruleFrom file) (j .built .delegates) (cell / 32) (cell % 32) (at (cell / 32)))) (j .built .delegates) (ruleFrom file .n) (ruleFrom file .initials) (ruleFrom file .finals) places ≡ true)
       ↔ Accepts (automatonBy file) (joinedUpTo at places)
   accepts-by none taken holds h z = absurd (let e : true ≡ false = holds .ruled h in let y : _≡_ {A = ℕ} 0 1 = cc in omega arith)
   accepts-by (some f) taken holds h z =
-      let same = rulefile.claims .language f (no-number f (taken f refl) .0) (joinedUpTo at places) in
+      let same = rulefile.claims .language f (not-refused f (taken f refl) .0) (joinedUpTo at places) in
       both
       (accepts-law (ruleOf f) (holds .rule .1) (j .built .delegates) (j .built .starts)
       (merged (ruleOf f) (holds .rule .1) (holds .rule .2) (j .built) (holds .rule .0))

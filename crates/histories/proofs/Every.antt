@@ -1,31 +1,42 @@
 -- EVERY LIST OF CALLS, over the definitions alone: where the calls h were answered with the replies given and left the judge j, all that demand 3
 -- says holds. Assumes nothing.
-use mathlib.Core.Path.{_≡_, sym, ap, _∙_, subst}
+use mathlib.Core.Path.{_≡_, refl, sym, ap, _∙_, subst}
 use mathlib.Core.List.{List, _∷_}
 use mathlib.Core.Option.{Option, none, some}
 use Prim.Native.Nat.{ℕ}
 use Rattle.rulefile.specs.Reader.{ruleOf}
+use Rattle.rulefile.specs.Language.{automatonIn}
+use Rattle.delegates.specs.Alike.{Merged}
+use Rattle.build.specs.declared.Built.{Built}
+use Rattle.build.specs.Building.{BuiltRule}
 use Rattle.judge.specs.declared.Judge.{Judge}
 use Rattle.judge.specs.Replies.{Reply}
-use Rattle.judge.specs.History.{Call, loads, opens, delivers, withdraws, asks, fileOf, placesIn, standing, verdictIn}
-use Rattle.judge.specs.Calls.{Outcome, verdictOf, Steps}
-use Rattle.judge.specs.Claims.{Ran, begins, next, DelegatesBy, DelegatesIn, Right, AllRight, EveryList}
-use Rattle.judge.proofs.Running.{merged}
-use Rattle.judge.proofs.Holding.{Holds}
-use Rattle.judge.proofs.Numbers.{summed-same}
-use Rattle.judge.proofs.Listed.{Good, good-fresh, accepted-rule, load-good, load-says, open-good, open-says, withdraw-good, withdraw-says, ask-good, deliver-good, deliver-says}
-use Rattle.judge.proofs.Asked.{by-rule, verdict-says}
-use Rattle.judge.proofs.Words.{there, words}
+use Rattle.histories.specs.History.{fileOf, placesIn, standing, verdictIn}
+use Rattle.judge.specs.Calls.{Call, loads, opens, delivers, withdraws, asks, loadNumber, Outcome, verdictOf, Steps}
+use Rattle.histories.specs.Claims.{Ran, begins, next, BuiltBy, DelegatesBy, DelegatesIn, Right, AllRight, EveryList}
+use Rattle.judge.proofs.Conditions.{not-refused}
+use Rattle.histories.proofs.Bytes.{of-rule}
+use Rattle.histories.proofs.Running.{merged}
+use Rattle.histories.proofs.Numbers.{summed-same}
+use Rattle.histories.proofs.Listed.{Good, good-fresh, file-accepted, accepted-rule, load-good, load-says, open-good, open-says, withdraw-good, withdraw-says, ask-good, deliver-good, deliver-says}
+use Rattle.histories.proofs.Asked.{by-rule, verdict-says}
+use Rattle.histories.proofs.Words.{there, words}
 
-delegates-by : (file : Option (List ℕ)) (places : ℕ) (at : ℕ → Option (List ℕ)) (j : Judge) → Holds file places at j
+-- the delegates of an accepted rule that is built
+built-delegates : (f : List ℕ) → loadNumber f ≡ none → (b : Built) → BuiltRule (ruleOf f) b → Merged (automatonIn f) (b .delegates) (b .starts)
+built-delegates f e b is =
+    let a = accepted-rule f e in
+    of-rule f (not-refused f e .0) (b .delegates) (b .starts) (merged (ruleOf f) (a .0) (a .1) b is)
+
+delegates-by : (file : Option (List ℕ)) → ((f : List ℕ) → file ≡ some f → loadNumber f ≡ none) → (j : Judge) → BuiltBy file j
     → DelegatesBy file (j .built .delegates) (j .built .starts)
-delegates-by none places at j holds = tt
-delegates-by (some f) places at j holds = merged (ruleOf f) (holds .rule .1) (holds .rule .2) (j .built) (holds .rule .0)
+delegates-by none taken j is = tt
+delegates-by (some f) taken j is = built-delegates f (taken f refl) (j .built) (is .0)
 
 -- ---- one call
 module _ (h : List Call) (j : Judge) (g : Good h j) where
   delegates-of : DelegatesIn h (j .built .delegates) (j .built .starts)
-  delegates-of = delegates-by (fileOf h) (placesIn h) (standing (j .built .delegates) h) j g
+  delegates-of = delegates-by (fileOf h) (file-accepted h) j (g .rule)
 
   step-good : (c : Call) (o : Outcome) → Steps j c o → Good (c ∷ h) (o .leaves)
   step-good (loads f) o s = load-good h j g f o s
@@ -38,7 +49,7 @@ module _ (h : List Call) (j : Judge) (g : Good h j) where
   step-right (loads f) o s = (
     o .leaves .built .delegates,
     o .leaves .built .starts,
-    (λ e. let a = accepted-rule f e in merged (ruleOf f) (a .0) (a .1) (o .leaves .built) (s .built e)),
+    (λ e. built-delegates f e (o .leaves .built) (s .built e)),
     load-says h j g f o s,
   )
   step-right (opens n) o s = (j .built .delegates, j .built .starts, delegates-of, ap (λ (x : Outcome). x .says) s ∙ open-says h j g n)

@@ -8,29 +8,28 @@ use contract.Lifetimes.{Lfts}
 use denote.Ref.{RefT, now}
 use denote.Triple.Clauses.{AtExit}
 use borrow.Fn.Kinds.{endedOf}
 use Rattle.judge.specs.declared.Judge.{Judge}
 use Rattle.judge.specs.declared.Loading.{Loading}
 use Rattle.judge.specs.declared.Opening.{Opening}
 use Rattle.judge.specs.declared.Delivery.{Delivery}
 use Rattle.judge.specs.declared.Withdrawal.{Withdrawal}
 use Rattle.judge.specs.declared.Verdict.{Verdict}
 use Rattle.judge.specs.Replies.{Reply, loadSays, openSays, deliverSays, withdrawSays, verdictSays}
-use Rattle.judge.specs.History.{Call, loads, opens, delivers, withdraws, asks}
-use Rattle.judge.specs.Calls.{loadCame, openCame, deliverCame, withdrawCame, Loads, deliverOf}
-use Rattle.judge.specs.Claims.{Ran, begins, next, EveryList}
-use Rattle.judge.proofs.Every.{every-list}
+use Rattle.judge.specs.Calls.{Call, loads, opens, delivers, withdraws, asks, loadCame, openCame, deliverCame, withdrawCame, Loads, deliverOf}
+use Rattle.histories.specs.Claims.{Ran, begins, next, EveryList}
+use Rattle.histories.proofs.Every.{every-list}
 use Rattle.judge.proofs.new_judge.Reads as new-reads
 use Rattle.judge.proofs.new_judge.Kinds as new-kinds
 use Rattle.judge.proofs.load.Reads as load-reads
 use Rattle.judge.proofs.load.Kinds as load-kinds
 use Rattle.judge.proofs.open.Reads as open-reads
 use Rattle.judge.proofs.open.Kinds as open-kinds
 use Rattle.judge.proofs.deliver.Reads as deliver-reads
 use Rattle.judge.proofs.deliver.Kinds as deliver-kinds
 use Rattle.judge.proofs.withdraw.Reads as withdraw-reads
 use Rattle.judge.proofs.withdraw.Kinds as withdraw-kinds
 use Rattle.judge.proofs.judged.Reads as judged-reads
 use Rattle.judge.proofs.judged.Kinds as judged-kinds
 
 -- ---- what each function's contract allows
 abbrev pub Begins : Judge → Type 0

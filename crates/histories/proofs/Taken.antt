@@ -1,8 +1,8 @@
--- Which calls are accepted, condition by condition, as `Accepted-exactly` and `Load-numbers` of specs/Claims.antt say. Assumes nothing.
+-- Which calls are accepted, condition by condition, as `Accepted-exactly` of specs/Claims.antt says. Assumes nothing.
 use mathlib.Core.Path.{_≡_, refl, sym, ap, _∙_}
 use mathlib.Core.Logic.{_↔_}
 use mathlib.Core.Bool.{Bool, true, false}
-use mathlib.Core.List.{List, [], _∷_, _++_}
+use mathlib.Core.List.{List, [], _∷_}
 use mathlib.Core.Option.{Option, none, some}
 use Prim.Native.Nat.{ℕ, _+_, _≤_, _<_}
 use native.Mathlib.Omega.{arith}
@@ -10,14 +10,12 @@ use lib.Dec.{eqb, ltb, leb}
 use lib.ListN.{length}
 use borrow.Author.Tests.{ne-eqb, eqb-false, lt-leb, leb-false, le-ltb, ltb-false}
 use Rattle.rulefile.specs.Conditions.{Condition, on, firstOf, NoneHolds, outside}
-use Rattle.rulefile.specs.Refusals.{tooShort, tooLong, badStates, badSymbols, noRoom, badMask, badPairs, badArcs, refusal}
-use Rattle.rulefile.specs.Reader.{ruleOf}
-use Rattle.subsets.specs.Sets.{tooMany}
 use Rattle.rulefile.proofs.Conditions.{or-left, or-right, or-neither, none-law}
 use Rattle.chunks.specs.Chunks.{foreign}
 use Rattle.judge.specs.Replies.{accepted}
-use Rattle.judge.specs.History.{Call, isNone, isSome, orElse, loadNumber, fileOf, ruleIn, placesIn, countOf, standing, summedIn, replyBy}
-use Rattle.judge.specs.Claims.{Accepted-exactly, Load-numbers}
+use Rattle.histories.specs.History.{isNone, isSome, fileOf, ruleIn, placesIn, countOf, standing, summedIn, replyBy}
+use Rattle.judge.specs.Calls.{Call}
+use Rattle.histories.specs.Claims.{Accepted-exactly}
 
 -- ---- accepted where no condition holds
 reply-law : (o : Option ℕ) → (replyBy o accepted ≡ accepted) ↔ (o ≡ none)
@@ -32,26 +30,6 @@ none-hold cs = (
   (λ e. none-law cs .0 (reply-law (firstOf cs) .0 e)),
   λ x. reply-law (firstOf cs) .1 (none-law cs .1 x),
 )
-
--- ---- the nine conditions of a load, in one list
-first-append : (cs ds : List Condition) → orElse (firstOf cs) (firstOf ds) ≡ firstOf (cs ++ ds)
-first-append [] ds = refl
-first-append (on x true ∷ cs) ds = refl
-first-append (on x false ∷ cs) ds = first-append cs ds
-
-pub load-numbers : Load-numbers
-unfolding loadNumber refusal
-load-numbers f =
-    first-append (
-    on 1 (tooShort f) ∷
-    on 2 (tooLong f) ∷
-    on 3 (badStates f) ∷
-    on 4 (badSymbols f) ∷
-    on 5 (noRoom f) ∷
-    on 6 (badMask f) ∷
-    on 7 (badPairs f) ∷
-    on 8 (badArcs f) ∷ [])
-    (on 9 (tooMany (ruleOf f .targets) (ruleOf f .n) (ruleOf f .k)) ∷ [])
 
 -- ---- one condition
 is-some : {A : Type 0} (o : Option A) → (isNone o ≡ false) ↔ (o ≡ none → ⊥)

@@ -17,14 +17,14 @@ use Rattle.chunks.specs.Chunks.{total}
 use Rattle.board.specs.Boards.{emptyPlaces, summedCount}
 use Rattle.board.specs.Joining.{joinUpTo, saysYes}
 use Rattle.board.proofs.Laws.{empty-law}
 use Rattle.judge.specs.declared.Judge.{Judge}
 use Rattle.judge.specs.Replies.{Reply, waiting, keeps, breaks, refused}
-use Rattle.judge.specs.History.{Call, isNone, fileOf, ruleBy, placesIn, endOf, standing, emptiesIn, summedIn, yesIn, verdictIn}
-use Rattle.judge.specs.Calls.{noBoard, isYes, verdictOf}
-use Rattle.judge.proofs.Running.{n-same}
-use Rattle.judge.proofs.Holding.{Holds}
-use Rattle.judge.proofs.Numbers.{no-board, places-same, summed-same}
-use Rattle.judge.proofs.Listed.{Good}
+use Rattle.histories.specs.History.{isNone, fileOf, ruleFrom, placesIn, endOf, standing, emptiesIn, summedIn, yesIn, verdictIn}
+use Rattle.judge.specs.Calls.{Call, lacksBoard, isYes, verdictOf}
+use Rattle.histories.proofs.Running.{n-same}
+use Rattle.histories.proofs.Holding.{Holds}
+use Rattle.histories.proofs.Numbers.{no-board, places-same, summed-same}
+use Rattle.histories.proofs.Listed.{Good}
 
 -- ---- the join looks only at the cells of the places that are joined
 join-same : (ends ends′ d : List ℕ) (n m places : ℕ) → ((p q : ℕ) → p < places → q < 32 → getD ends (p * 32 + q) 0 ≡ getD ends′ (p * 32 + q) 0)
@@ -50,13 +50,13 @@ module _ (file : Option (List ℕ)) (places : ℕ) (at : ℕ → Option (List �
   -- the cells of a place, in the array and in the definition
   cells-same : (p q : ℕ) → p < places → q < 32
       → getD (j .board .ends) (p * 32 + q) 0
-      ≡ getD (listFrom 0 2048 (λ cell. endOf (ruleBy file) (j .built .delegates) (cell / 32) (cell % 32) (at (cell / 32)))) (p * 32 + q) 0
+      ≡ getD (listFrom 0 2048 (λ cell. endOf (ruleFrom file) (j .built .delegates) (cell / 32) (cell % 32) (at (cell / 32)))) (p * 32 + q) 0
   cells-same p q h l =
       let row : p ≡ (p * 32 + q) / 32 = omega arith in
       let col : q ≡ (p * 32 + q) % 32 = omega arith in
       holds .ends p q (omega (arith, h, holds .few)) l
-      ∙ ap₂ (λ (x y : ℕ). endOf (ruleBy file) (j .built .delegates) x y (at x)) row col
-      ∙ sym (cell-of 2048 (λ cell. endOf (ruleBy file) (j .built .delegates) (cell / 32) (cell % 32) (at (cell / 32))) (p * 32 + q) 0 (omega (arith, h, holds .few)))
+      ∙ ap₂ (λ (x y : ℕ). endOf (ruleFrom file) (j .built .delegates) x y (at x)) row col
+      ∙ sym (cell-of 2048 (λ cell. endOf (ruleFrom file) (j .built .delegates) (cell / 32) (cell % 32) (at (cell / 32))) (p * 32 + q) 0 (omega (arith, h, holds .few)))
 
 yes-same : (f : List ℕ) (places : ℕ) (at : ℕ → Option (List ℕ)) (j : Judge) → Holds (some f) places at j
     → isYes j
@@ -70,7 +70,7 @@ yes-same f places at j holds =
 
 pub by-rule : (file : Option (List ℕ)) (places : ℕ) (at : ℕ → Option (List ℕ)) (j : Judge) → Holds file places at j → 0 < places
     → isYes j
-    ≡ saysYes (listFrom 0 2048 (λ cell. endOf (ruleBy file) (j .built .delegates) (cell / 32) (cell % 32) (at (cell / 32)))) (j .built .delegates) (ruleBy file .n) (ruleBy file .initials) (ruleBy file .finals) places
+    ≡ saysYes (listFrom 0 2048 (λ cell. endOf (ruleFrom file) (j .built .delegates) (cell / 32) (cell % 32) (at (cell / 32)))) (j .built .delegates) (ruleFrom file .n) (ruleFrom file .initials) (ruleFrom file .finals) places
 by-rule none places at j holds h = absurd (let e : true ≡ false = holds .ruled h in let z : _≡_ {A = ℕ} 0 1 = cc in omega arith)
 by-rule (some f) places at j holds h = yes-same f places at j holds
 
@@ -81,7 +81,7 @@ verdict-says h j good =
     let s = standing (j .built .delegates) h in
     let count = summed-same (fileOf h) (placesIn h) s j good in
     let empties = empties-same (fileOf h) (placesIn h) s j good in
-    same-choice (noBoard j) (eqb (placesIn h) 0) (refused 21)
+    same-choice (lacksBoard j) (eqb (placesIn h) 0) (refused 21)
     (cond (eqb (emptyPlaces (j .board)) 0) (cond (isYes j) (keeps (summedCount (j .board))) (breaks (summedCount (j .board)))) (waiting (emptyPlaces (j .board))))
     (cond (eqb (emptiesIn d h) 0) (cond (yesIn d h) (keeps (summedIn d h)) (breaks (summedIn d h))) (waiting (emptiesIn d h)))
     (no-board (fileOf h) (placesIn h) s j good)

@@ -17,6 +17,7 @@ use Rattle.automaton.specs.Automaton.{Automaton}
 use Rattle.automaton.specs.Rules.{automatonOf, WellFormed}
 use Rattle.automaton.specs.Successor.{successor, after}
 use Rattle.rulefile.specs.Reader.{targetsUpTo, ruleOf}
+use Rattle.rulefile.specs.Language.{automatonIn}
 use Rattle.rulefile.specs.Worked.{fileA, fileB}
 use Rattle.rulefile.proofs.Claims as rulefile
 use Rattle.subsets.specs.Sets.{numberIn, numbered, expandFrom, closeFrom, setsUpTo, setsOf, tooMany}
@@ -26,7 +27,9 @@ use Rattle.delegates.specs.Alike.{Text, Alike, Delegate, startCount, Merged}
 use Rattle.delegates.proofs.Tests.{le-by}
 use Rattle.delegates.proofs.Alike.{alike-self, one-delegate}
 use Rattle.delegates.proofs.Acceptance.{from-law}
-use Rattle.judge.specs.History.{loadNumber}
+use Rattle.judge.specs.Calls.{loadNumber}
+use Rattle.judge.proofs.Conditions.{load-number}
+use Rattle.histories.proofs.Bytes.{of-bytes}
 
 -- ---- delegates
 -- the lowest state alike to q
@@ -77,7 +80,7 @@ only-listed a x y z three dx dy dz d m given =
 -- ---- the file f is accepted, and only d and m are its delegates and M
 pub record Known (f d : List ℕ) (m : ℕ) : Type 0 where
   pub taken : loadNumber f ≡ none
-  pub only : (e : List ℕ) (i : ℕ) → Merged (automatonOf (ruleOf f)) e i → (e ≡ d) × (i ≡ m)
+  pub only : (e : List ℕ) (i : ℕ) → Merged (automatonIn f) e i → (e ≡ d) × (i ≡ m)
 
 -- ---- rule A
 sets-A : setsOf (ruleOf fileA .targets) (ruleOf fileA .n) (ruleOf fileA .k) ≡ 1 ∷ 3 ∷ 5 ∷ 2 ∷ 4 ∷ []
@@ -107,10 +110,12 @@ delegates-A =
     )
 
 pub known-A : Known fileA (listed 0 1 2) 3
-unfolding loadNumber startCount
+unfolding startCount
 known-A = record {
-  taken = rw (rulefile.claims .accepted-A, fits-A);
-  only = only-listed (automatonOf (ruleOf fileA)) 0 1 2 refl (delegates-A .0) (delegates-A .1) (delegates-A .2);
+  taken = load-number fileA ∙ rw (rulefile.claims .accepted-A, fits-A);
+  only = λ e i g.
+      only-listed (automatonOf (ruleOf fileA)) 0 1 2 refl (delegates-A .0) (delegates-A .1) (delegates-A .2) e i
+      (of-bytes fileA (rulefile.claims .accepted-A) e i g);
 }
 
 -- ---- rule B
@@ -153,8 +158,10 @@ delegates-B =
     )
 
 pub known-B : Known fileB (listed 0 1 1) 2
-unfolding loadNumber startCount
+unfolding startCount
 known-B = record {
-  taken = rw (rulefile.claims .accepted-B, fits-B);
-  only = only-listed (automatonOf (ruleOf fileB)) 0 1 1 refl (delegates-B .0) (delegates-B .1) (delegates-B .2);
+  taken = load-number fileB ∙ rw (rulefile.claims .accepted-B, fits-B);
+  only = λ e i g.
+      only-listed (automatonOf (ruleOf fileB)) 0 1 1 refl (delegates-B .0) (delegates-B .1) (delegates-B .2) e i
+      (of-bytes fileB (rulefile.claims .accepted-B) e i g);
 }

@@ -21,13 +21,14 @@ use Rattle.subsets.specs.Claims.{fits}
 use Rattle.chunks.specs.Chunks.{foreign}
 use Rattle.chunks.proofs.Claims as chunks
 use Rattle.board.specs.Boards.{emptyBoard, clearedAt, filledAt}
 use Rattle.judge.specs.declared.Judge.{Judge}
 use Rattle.judge.specs.Replies.{accepted, loaded}
-use Rattle.judge.specs.History.{Call, loads, opens, delivers, withdraws, asks, isNone, orElse, loadNumber, fileOf, ruleBy, openNumber, placesIn, deliverCheck, standing, deliverNumber, withdrawNumber, replyBy}
-use Rattle.judge.specs.Calls.{fresh, withBoard, Outcome, outcomeBy, runsAt, Loads, openOf, deliverOf, withdrawOf}
-use Rattle.judge.specs.Claims.{BuiltBy}
-use Rattle.judge.proofs.Holding.{Holds, all-empty, fresh-holds, placed, cleared-holds, filled-holds}
-use Rattle.judge.proofs.Numbers.{list-11, list-12, list-13, list-22, passed, open-number, withdraw-number, deliver-number}
+use Rattle.judge.proofs.Conditions.{not-refused}
+use Rattle.histories.specs.History.{isNone, fileOf, ruleFrom, openNumber, placesIn, deliverCheck, standing, deliverNumber, withdrawNumber, replyBy}
+use Rattle.judge.specs.Calls.{Call, loads, opens, delivers, withdraws, asks, loadNumber, fresh, withBoard, Outcome, outcomeBy, runsAt, Loads, openOf, deliverOf, withdrawOf}
+use Rattle.histories.specs.Claims.{BuiltBy}
+use Rattle.histories.proofs.Holding.{Holds, all-empty, fresh-holds, placed, cleared-holds, filled-holds}
+use Rattle.histories.proofs.Numbers.{list-11, list-12, list-13, list-22, passed, open-number, withdraw-number, deliver-number}
 
 abbrev pub Good : List Call → Judge → Type 0
 Good h j = Holds (fileOf h) (placesIn h) (standing (j .built .delegates) h) j
@@ -50,20 +51,10 @@ and-true true u e = e
 and-true false u e = refl
 
 -- ---- load
-no-refusal : (a b : Option ℕ) → orElse a b ≡ none → (a ≡ none) × (b ≡ none)
-no-refusal none b e = (refl, e)
-no-refusal (some x) b e = absurd (let z : _≡_ {A = ℕ} 0 1 = cc in omega arith)
-
 module _ (f : List ℕ) (e : loadNumber f ≡ none) where
-  pub no-number : (refusal f ≡ none) × (tooMany (ruleOf f .targets) (ruleOf f .n) (ruleOf f .k) ≡ false)
-  unfolding loadNumber
-  no-number =
-      let n = no-refusal (refusal f) (firstOf (on 9 (tooMany (ruleOf f .targets) (ruleOf f .n) (ruleOf f .k)) ∷ [])) e in
-      (n .0, passed 9 (tooMany (ruleOf f .targets) (ruleOf f .n) (ruleOf f .k)) none (n .1) .0)
-
   -- an accepted file is a well-formed rule with at most 512 sets
   pub accepted-rule : WellFormed (ruleOf f) × fits (ruleOf f)
-  accepted-rule = (rulefile.claims .well-formed f (no-number .0), no-number .1)
+  accepted-rule = let n = not-refused f e in (rulefile.claims .well-formed f (n .0), n .1)
 
 -- the file whose rule is there was accepted
 pub file-accepted : (h : List Call) (f : List ℕ) → fileOf h ≡ some f → loadNumber f ≡ none
@@ -180,7 +171,7 @@ module _ (h : List Call) (j : Judge) (good : Good h j) (p : ℕ) (w : List ℕ) 
 
   -- a delivery that meets no condition is run and kept
   kept-chunk : (file : Option (List ℕ)) → Holds file (placesIn h) (standing (j .built .delegates) h) j
-      → deliverCheck (ruleBy file) (j .built .delegates) (placesIn h) (standing (j .built .delegates) h) p w ≡ none
+      → deliverCheck (ruleFrom file) (j .built .delegates) (placesIn h) (standing (j .built .delegates) h) p w ≡ none
       → Holds file (placesIn h) (placed (standing (j .built .delegates) h) p (some w)) kept
   kept-chunk none holds e =
       by-test (ltb 0 (placesIn h))

@@ -2,16 +2,16 @@
 -- about something.
 -- Assumes nothing.
 use mathlib.Core.Path.{_≡_, refl, ap}
-use mathlib.Core.Bool.{Bool, true, false, cond}
+use mathlib.Core.Bool.{Bool, true, false, cond, not}
 use mathlib.Core.List.{List, [], _∷_}
 use mathlib.Core.Option.{Option, none, some}
-use Prim.Native.Nat.{ℕ, min}
+use Prim.Native.Nat.{ℕ, _+_, min}
 use native.Mathlib.Omega.{arith}
-use lib.Dec.{eqb, leb}
+use lib.Dec.{eqb}
 use lib.ListN.{length}
 use denote.Ref.{RefT, now}
 use Rattle.masks.specs.Lists.{listFrom}
-use Rattle.rulefile.specs.Conditions.{on, firstOf, outside}
+use Rattle.rulefile.specs.Conditions.{firstOf}
 use Rattle.rulefile.specs.Reader.{ruleOf}
 use Rattle.subsets.specs.Sets.{setsOf, setCells, nextCells}
 use Rattle.delegates.specs.Classes.{numberOf}
@@ -20,24 +20,22 @@ use Rattle.build.specs.declared.Built.{Built}
 use Rattle.build.specs.Building.{BuiltRule}
 use Rattle.automaton.specs.declared.Rule.{Rule}
 use Rattle.board.specs.Boards.{placesOf, isEmpty, emptyBoard, filledAt, clearedAt, emptyPlaces, summedCount}
 use Rattle.judge.specs.declared.Judge.{Judge}
 use Rattle.judge.specs.declared.Loading.{Loading}
 use Rattle.judge.specs.declared.LoadAnswer.the-variants as load
 use Rattle.judge.specs.declared.Opening.{Opening}
 use Rattle.judge.specs.declared.OpenAnswer.the-variants as opening
 use Rattle.judge.specs.declared.Delivery.{Delivery}
 use Rattle.judge.specs.declared.DeliverAnswer.the-variants as delivery
 use Rattle.judge.specs.declared.Withdrawal.{Withdrawal}
 use Rattle.judge.specs.declared.WithdrawAnswer.the-variants as withdrawal
 use Rattle.judge.specs.declared.Verdict.{Verdict}
 use Rattle.judge.specs.declared.Verdict.the-variants as verdict
-use Rattle.judge.specs.History.{Call, loads, opens, delivers, withdraws, asks, loadNumber}
+use Rattle.judge.specs.Calls.{Call, loads, opens, delivers, withdraws, asks, loadNumber, openConditions, deliverConditions, withdrawConditions, fresh, lacksRule, lacksBoard, withBoard, loadCame, openCame, deliverCame, withdrawCame, outcomeBy, Loads, openOf, runsAt, deliverOf, withdrawOf, isYes, verdictOf}
 use Rattle.judge.specs.Replies.{Reply, loadSays, openSays, deliverSays, withdrawSays, verdictSays}
 use Rattle.judge.specs.Replies as reply
-use Rattle.judge.specs.Calls.{fresh, noRule, noBoard, withBoard, loadCame, openCame, deliverCame, withdrawCame, outcomeBy, Loads, openOf, runsAt, deliverOf, withdrawOf, isYes, verdictOf}
-use Rattle.judge.specs.Claims.{Ran}
-use Rattle.judge.proofs.Numbers.{state-11}
-use Rattle.judge.proofs.Tied.{Allowed, start, loaded, opened, delivered, withdrawn, asked, tied}
+use Rattle.histories.specs.Claims.{Ran}
+use Rattle.histories.proofs.Tied.{Allowed, start, loaded, opened, delivered, withdrawn, asked, tied}
 
 -- a reference to a list, somewhere
 abbrev lent : List ℕ → RefT (List ℕ)
@@ -122,21 +120,25 @@ a-verdict false true false empties sum = (verdict.No sum, refl)
 module _ (j : Judge) where
   opening-of : (n : ℕ) → (r : Opening) × (openCame r ≡ openOf j n)
   unfolding openOf
-  opening-of n = an-opening j (withBoard j (emptyBoard n)) (firstOf (on 20 (noRule j) ∷ on 10 (outside 1 64 n) ∷ []))
+  opening-of n = an-opening j (withBoard j (emptyBoard n)) (firstOf (openConditions (lacksRule j) n))
 
   delivery-of : (p : ℕ) (w : List ℕ) → (r : Delivery) × (deliverCame r ≡ deliverOf j p w)
   unfolding deliverOf
-  delivery-of p w = a-delivery j (withBoard j (filledAt (j .board) p (runsAt j p w))) (cond (noBoard j) (some 21) (state-11 j p w))
+  delivery-of p w =
+      a-delivery j (withBoard j (filledAt (j .board) p (runsAt j p w)))
+      (firstOf
+      (deliverConditions (lacksBoard j) (placesOf (j .board)) p w (j .built .k) (not (isEmpty (j .board) p))
+      (summedCount (j .board) + runsAt j p w .count)))
 
   withdrawal-of : (p : ℕ) → (r : Withdrawal) × (withdrawCame r ≡ withdrawOf j p)
   unfolding withdrawOf
   withdrawal-of p =
       a-withdrawal j (withBoard j (clearedAt (j .board) p))
-      (firstOf (on 21 (noBoard j) ∷ on 11 (leb (placesOf (j .board)) p) ∷ on 23 (isEmpty (j .board) p) ∷ []))
+      (firstOf (withdrawConditions (lacksBoard j) (placesOf (j .board)) p (isEmpty (j .board) p)))
 
   verdict-of : (v : Verdict) × (verdictSays v ≡ verdictOf j)
   unfolding verdictOf
-  verdict-of = a-verdict (noBoard j) (eqb (emptyPlaces (j .board)) 0) (isYes j) (emptyPlaces (j .board)) (summedCount (j .board))
+  verdict-of = a-verdict (lacksBoard j) (eqb (emptyPlaces (j .board)) 0) (isYes j) (emptyPlaces (j .board)) (summedCount (j .board))
 
 -- ---- every list
 pub every-list-runs : (h : List Call) → (given : List Reply) × (j : Judge) × Allowed h given j

@@ -14,10 +14,10 @@ use lib.ListN.{length, getD, replicate}
 use Rattle.masks.specs.Lists.{listFrom}
 use Rattle.rulefile.specs.Worked.{fileA, fileB, fileA-final-8}
 use Rattle.build.specs.declared.Built.{Built}
 use Rattle.judge.specs.declared.Judge.{Judge}
 use Rattle.judge.specs.Replies.{Reply, accepted, loaded, keeps, breaks, refused}
-use Rattle.judge.specs.History.{Call, loads, opens, delivers, asks}
-use Rattle.judge.specs.Claims.{Ran}
+use Rattle.judge.specs.Calls.{Call, loads, opens, delivers, asks}
+use Rattle.histories.specs.Claims.{Ran}
 
 -- ---- a case
 --   sets masks rows        the masks of all sets in number order, and for each set the cell of each symbol in the next-set table: the number of

@@ -18,14 +18,15 @@ use Rattle.build.specs.declared.Built.{Built}
 use Rattle.build.specs.Building.{BuiltRule}
 use Rattle.chunks.specs.Chunks.{foreign, counted, startSet, total}
 use Rattle.board.specs.Joining.{joinUpTo}
 use Rattle.judge.specs.declared.Judge.{Judge}
 use Rattle.judge.specs.Replies.{Reply, refused}
-use Rattle.judge.specs.History.{Call, loads, opens, delivers, withdraws, asks, loadNumber, fileOf, placesIn, standing, answerOf}
-use Rattle.judge.specs.Claims.{BuiltBy, DelegatesBy, DelegatesIn, Right, AllRight, EveryList}
-use Rattle.judge.specs.TableP.{Result, sets, delegates, verdict, turned-down, Case, case, delivering, callsFor, callsOf, repliesFor, rowsFrom, Shows, Holds, Each, Case-holds, table, TableP}
-use Rattle.judge.proofs.Every.{every-list}
-use Rattle.judge.proofs.Inhabited.{every-list-ran}
-use Rattle.judge.proofs.TwoRules.{listed, Known, known-A, known-B}
+use Rattle.histories.specs.History.{fileOf, placesIn, standing, answerOf}
+use Rattle.judge.specs.Calls.{Call, loads, opens, delivers, withdraws, asks, loadNumber}
+use Rattle.histories.specs.Claims.{BuiltBy, DelegatesBy, DelegatesIn, Right, AllRight, EveryList}
+use Rattle.histories.specs.TableP.{Result, sets, delegates, verdict, turned-down, Case, case, delivering, callsFor, callsOf, repliesFor, rowsFrom, Shows, Holds, Each, Case-holds, table, TableP}
+use Rattle.histories.proofs.Every.{every-list}
+use Rattle.histories.proofs.Inhabited.{every-list-ran}
+use Rattle.histories.proofs.TwoRules.{listed, Known, known-A, known-B}
 
 -- document 01's answers to a list of calls, for the delegates d and M
 answers : List ℕ → ℕ → List Call → List Reply

@@ -19,11 +19,11 @@ use Rattle.build.specs.Building.{BuiltRule, noBuilt}
 use Rattle.board.specs.declared.Board.{Board}
 use Rattle.board.specs.Boards.{placesOf, held, isEmpty, emptyBoard, filledAt, clearedAt}
 use Rattle.board.proofs.Laws.{Sized, sized-empty, empty-all, empty-held, empty-count, Changed, filled-at, cleared-at}
 use Rattle.judge.specs.declared.Judge.{Judge}
-use Rattle.judge.specs.History.{isNone, ruleBy, countOf, endOf}
+use Rattle.histories.specs.History.{isNone, ruleFrom, countOf, endOf}
 use Rattle.judge.specs.Calls.{fresh, withBoard, runsAt}
-use Rattle.judge.specs.Claims.{BuiltBy}
-use Rattle.judge.proofs.Running.{count-same, end-same}
+use Rattle.histories.specs.Claims.{BuiltBy}
+use Rattle.histories.proofs.Running.{count-same, end-same}
 
 pub record Holds (file : Option (List ℕ)) (places : ℕ) (at : ℕ → Option (List ℕ)) (j : Judge) : Type 0 where
   pub rule : BuiltBy file j
@@ -32,10 +32,10 @@ pub record Holds (file : Option (List ℕ)) (places : ℕ) (at : ℕ → Option 
   pub few : places ≤ 64
   pub ruled : 0 < places → isNone file ≡ false
   pub beyond : (p : ℕ) → places ≤ p → at p ≡ none
-  pub texts : (p : ℕ) (w : List ℕ) → at p ≡ some w → Text (ruleBy file .k) w
+  pub texts : (p : ℕ) (w : List ℕ) → at p ≡ some w → Text (ruleFrom file .k) w
   pub empty : (p : ℕ) → p < 64 → isEmpty (j .board) p ≡ isNone (at p)
-  pub ends : (p q : ℕ) → p < 64 → q < 32 → held (j .board) p q ≡ endOf (ruleBy file) (j .built .delegates) p q (at p)
-  pub counts : (p : ℕ) → p < 64 → getD (j .board .counts) p 0 ≡ countOf (ruleBy file) (j .built .delegates) p (at p)
+  pub ends : (p q : ℕ) → p < 64 → q < 32 → held (j .board) p q ≡ endOf (ruleFrom file) (j .built .delegates) p q (at p)
+  pub counts : (p : ℕ) → p < 64 → getD (j .board .counts) p 0 ≡ countOf (ruleFrom file) (j .built .delegates) p (at p)
 
 never : {A : Type 0} {w : List ℕ} → none ≡ some w → A
 never e = absurd (let z : _≡_ {A = ℕ} 0 1 = cc in omega arith)
@@ -89,8 +89,8 @@ module _ (file : Option (List ℕ)) (places : ℕ) (at : ℕ → Option (List �
   pub place-below : p < 64
   place-below = omega (arith, h, holds .few)
 
-  changed-holds : (new : Option (List ℕ)) (c : Board) → ((w : List ℕ) → new ≡ some w → Text (ruleBy file .k) w)
-      → Changed (j .board) c p (isNone new) (countOf (ruleBy file) (j .built .delegates) p new) (λ q. endOf (ruleBy file) (j .built .delegates) p q new)
+  changed-holds : (new : Option (List ℕ)) (c : Board) → ((w : List ℕ) → new ≡ some w → Text (ruleFrom file .k) w)
+      → Changed (j .board) c p (isNone new) (countOf (ruleFrom file) (j .built .delegates) p new) (λ q. endOf (ruleFrom file) (j .built .delegates) p q new)
       → Holds file places (placed at p new) (withBoard j c)
   changed-holds new c text changed = record {
     rule = kept file (holds .rule);
@@ -100,17 +100,17 @@ module _ (file : Option (List ℕ)) (places : ℕ) (at : ℕ → Option (List �
     ruled = holds .ruled;
     beyond = λ i b. placed-other at p new i (λ e. absurd (omega (arith, h, b, e))) ∙ holds .beyond i b;
     texts =
-        each at p new (λ i o. (w : List ℕ) → o ≡ some w → Text (ruleBy file .k) w) text (λ i ne. holds .texts i);
+        each at p new (λ i o. (w : List ℕ) → o ≡ some w → Text (ruleFrom file .k) w) text (λ i ne. holds .texts i);
     empty =
         each at p new (λ i o. i < 64 → isEmpty c i ≡ isNone o) (λ b. changed .empty-own) (λ i ne b. changed .empty-other i ne ∙ holds .empty i b);
     ends = λ i q b.
-        each at p new (λ i o. i < 64 → q < 32 → held c i q ≡ endOf (ruleBy file) (j .built .delegates) i q o)
+        each at p new (λ i o. i < 64 → q < 32 → held c i q ≡ endOf (ruleFrom file) (j .built .delegates) i q o)
         (λ b l. changed .held-own q l)
         (λ i ne b l. changed .held-other i q b l ne ∙ holds .ends i q b l)
         i
         b;
     counts =
-        each at p new (λ i o. i < 64 → getD (c .counts) i 0 ≡ countOf (ruleBy file) (j .built .delegates) i o)
+        each at p new (λ i o. i < 64 → getD (c .counts) i 0 ≡ countOf (ruleFrom file) (j .built .delegates) i o)
         (λ b. changed .count-own)
         (λ i ne b. changed .count-other i ne ∙ holds .counts i b);
   }

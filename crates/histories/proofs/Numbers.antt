@@ -18,12 +18,12 @@ use Rattle.chunks.specs.Chunks.{foreign, total}
 use Rattle.chunks.proofs.Claims as chunks
 use Rattle.board.specs.Boards.{placesOf, isEmpty, summedCount}
 use Rattle.board.proofs.Laws.{summed-law}
 use Rattle.judge.specs.declared.Judge.{Judge}
-use Rattle.judge.specs.History.{isNone, isSome, ruleBy, countOf, deliverCheck, withdrawCheck}
-use Rattle.judge.specs.Calls.{noRule, noBoard, runsAt}
-use Rattle.judge.specs.Claims.{BuiltBy}
-use Rattle.judge.proofs.Running.{n-same, k-same}
-use Rattle.judge.proofs.Holding.{Holds, run-count}
+use Rattle.histories.specs.History.{isNone, isSome, ruleFrom, countOf, deliverCheck, withdrawCheck}
+use Rattle.judge.specs.Calls.{openConditions, withdrawConditions, lacksRule, lacksBoard, runsAt}
+use Rattle.histories.specs.Claims.{BuiltBy}
+use Rattle.histories.proofs.Running.{n-same, k-same}
+use Rattle.histories.proofs.Holding.{Holds, run-count}
 
 -- ---- one condition
 module _ (number : ℕ) where
@@ -40,34 +40,34 @@ not-none none = refl
 not-none (some x) = refl
 
 -- ---- whether a rule is there
-rule-there : (file : Option (List ℕ)) (j : Judge) → BuiltBy file j → noRule j ≡ isNone file
+rule-there : (file : Option (List ℕ)) (j : Judge) → BuiltBy file j → lacksRule j ≡ isNone file
 rule-there none j e = ap (λ b. eqb (b .n) 0) e
 rule-there (some f) j e =
     ne-eqb (j .built .n) 0 (λ z. absurd (omega (arith, z, n-same (ruleOf f) (e .1) (e .2) (j .built) (e .0), e .1 .states)))
 
 module _ (file : Option (List ℕ)) (places : ℕ) (at : ℕ → Option (List ℕ)) (j : Judge) (holds : Holds file places at j) where
-  pub no-rule : noRule j ≡ isNone file
+  pub no-rule : lacksRule j ≡ isNone file
   no-rule = rule-there file j (holds .rule)
 
-  pub no-board : noBoard j ≡ eqb places 0
+  pub no-board : lacksBoard j ≡ eqb places 0
   no-board = ap (λ (x : ℕ). eqb x 0) (holds .places-are)
 
   pub places-same : placesOf (j .board) ≡ places
   places-same = ap (λ (x : ℕ). min x 64) (holds .places-are) ∙ omega (arith, holds .few)
 
-  pub summed-same : summedCount (j .board) ≡ total (λ i. countOf (ruleBy file) (j .built .delegates) i (at i)) places
+  pub summed-same : summedCount (j .board) ≡ total (λ i. countOf (ruleFrom file) (j .built .delegates) i (at i)) places
   summed-same =
-      summed-law (j .board) (λ i. countOf (ruleBy file) (j .built .delegates) i (at i)) (λ p l. holds .counts p (omega (arith, l)))
-      ∙ ap (total (λ i. countOf (ruleBy file) (j .built .delegates) i (at i))) places-same
+      summed-law (j .board) (λ i. countOf (ruleFrom file) (j .built .delegates) i (at i)) (λ p l. holds .counts p (omega (arith, l)))
+      ∙ ap (total (λ i. countOf (ruleFrom file) (j .built .delegates) i (at i))) places-same
 
   pub open-number : (n : ℕ)
-      → firstOf (on 20 (noRule j) ∷ on 10 (outside 1 64 n) ∷ []) ≡ firstOf (on 20 (isNone file) ∷ on 10 (outside 1 64 n) ∷ [])
-  open-number n = same-test 20 (noRule j) (isNone file) (cond (outside 1 64 n) (some 10) none) (cond (outside 1 64 n) (some 10) none) no-rule (λ _. refl)
+      → firstOf (openConditions (lacksRule j) n) ≡ firstOf (openConditions (isNone file) n)
+  open-number n = same-test 20 (lacksRule j) (isNone file) (cond (outside 1 64 n) (some 10) none) (cond (outside 1 64 n) (some 10) none) no-rule (λ _. refl)
 
   pub withdraw-number : (p : ℕ)
-      → firstOf (on 21 (noBoard j) ∷ on 11 (leb (placesOf (j .board)) p) ∷ on 23 (isEmpty (j .board) p) ∷ []) ≡ withdrawCheck places at p
+      → firstOf (withdrawConditions (lacksBoard j) (placesOf (j .board)) p (isEmpty (j .board) p)) ≡ withdrawCheck places at p
   withdraw-number p =
-      same-test 21 (noBoard j) (eqb places 0) (firstOf (on 11 (leb (placesOf (j .board)) p) ∷ on 23 (isEmpty (j .board) p) ∷ []))
+      same-test 21 (lacksBoard j) (eqb places 0) (firstOf (on 11 (leb (placesOf (j .board)) p) ∷ on 23 (isEmpty (j .board) p) ∷ []))
       (firstOf (on 11 (leb places p) ∷ on 23 (isNone (at p)) ∷ []))
       no-board
       (λ b.
@@ -132,16 +132,16 @@ module _ (f : List ℕ) (places : ℕ) (at : ℕ → Option (List ℕ)) (j : Jud
 module _ (places : ℕ) (at : ℕ → Option (List ℕ)) (j : Judge) (p : ℕ) (w : List ℕ) where
   -- a board is there only with a rule
   by-rule : (file : Option (List ℕ)) → Holds file places at j → p < places
-      → state-12 j p w ≡ list-12 (ruleBy file) (j .built .delegates) places at p w
+      → state-12 j p w ≡ list-12 (ruleFrom file) (j .built .delegates) places at p w
   by-rule none holds h = absurd (let e : true ≡ false = holds .ruled (omega (arith, h)) in let z : _≡_ {A = ℕ} 0 1 = cc in omega arith)
   by-rule (some f) holds h = from-12 f places at j holds p h w
 
   pub deliver-number : (file : Option (List ℕ)) → Holds file places at j
-      → cond (noBoard j) (some 21) (state-11 j p w) ≡ deliverCheck (ruleBy file) (j .built .delegates) places at p w
+      → cond (lacksBoard j) (some 21) (state-11 j p w) ≡ deliverCheck (ruleFrom file) (j .built .delegates) places at p w
   deliver-number file holds =
-      same-test 21 (noBoard j) (eqb places 0) (state-11 j p w) (list-11 (ruleBy file) (j .built .delegates) places at p w)
+      same-test 21 (lacksBoard j) (eqb places 0) (state-11 j p w) (list-11 (ruleFrom file) (j .built .delegates) places at p w)
       (no-board file places at j holds)
       (λ _.
-      same-test 11 (leb (placesOf (j .board)) p) (leb places p) (state-12 j p w) (list-12 (ruleBy file) (j .built .delegates) places at p w)
+      same-test 11 (leb (placesOf (j .board)) p) (leb places p) (state-12 j p w) (list-12 (ruleFrom file) (j .built .delegates) places at p w)
       (ap (λ (x : ℕ). leb x p) (places-same file places at j holds))
       (λ l. by-rule file holds (leb-false places p l)))

@@ -1,0 +1,15 @@
+-- In the order in which they build on each other: to every list of calls, to what follows from it, and to table P.
+pub mod Bytes
+pub mod Running
+pub mod Holding
+pub mod Numbers
+pub mod Listed
+pub mod Asked
+pub mod Words
+pub mod Every
+pub mod Tied
+pub mod Inhabited
+pub mod Taken
+pub mod TwoRules
+pub mod TableP
+pub mod TablePRuns
