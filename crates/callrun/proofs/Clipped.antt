@@ -18,15 +18,13 @@ use Rattle.rulefile.specs.Refusals.{tooShort, tooLong}
 use Rattle.board.specs.Boards.{placesOf}
 use Rattle.judge.specs.declared.Judge.{Judge}
 use Rattle.judge.specs.Calls.{loadNumber, Outcome, Loads, outcomeBy, lacksBoard, deliverOf}
+use Rattle.judge.proofs.Conditions.{none-some}
 
 pub long-load : (f : List ℕ) → 32906 < length f → loadNumber f ≡ some 2
 unfolding loadNumber tooShort tooLong
 long-load f h = rw (le-ltb (length f) 10 (omega arith), lt-ltb 32906 (length f) h)
 
 -- ---- load
-none-some : {A : Type 0} {x : ℕ} (o : Option ℕ) → o ≡ none → o ≡ some x → A
-none-some o e f = absurd (let z : _≡_ {A = ℕ} 0 1 = cc in omega arith)
-
 same-number : {x y : ℕ} (o : Option ℕ) → o ≡ some x → o ≡ some y → x ≡ y
 same-number o e f = cc
 

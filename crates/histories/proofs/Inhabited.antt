@@ -32,6 +32,7 @@ use Rattle.judge.specs.declared.WithdrawAnswer.the-variants as withdrawal
 use Rattle.judge.specs.declared.Verdict.{Verdict}
 use Rattle.judge.specs.declared.Verdict.the-variants as verdict
 use Rattle.judge.specs.Calls.{Call, loads, opens, delivers, withdraws, asks, loadNumber, openConditions, deliverConditions, withdrawConditions, fresh, lacksRule, lacksBoard, withBoard, loadCame, openCame, deliverCame, withdrawCame, outcomeBy, Loads, openOf, runsAt, deliverOf, withdrawOf, isYes, verdictOf}
+use Rattle.judge.proofs.Conditions.{none-some}
 use Rattle.judge.specs.Replies.{Reply, loadSays, openSays, deliverSays, withdrawSays, verdictSays}
 use Rattle.judge.specs.Replies as reply
 use Rattle.histories.specs.Claims.{Ran}
@@ -71,9 +72,6 @@ module _ (r : Rule) where
           merged = s .1;
         },
       )
-
-none-some : {A : Type 0} {x : ℕ} (o : Option ℕ) → o ≡ none → o ≡ some x → A
-none-some o e f = absurd (let z : _≡_ {A = ℕ} 0 1 = cc in omega arith)
 
 -- ---- a result of each function
 a-loading : (j : Judge) (f : List ℕ) (o : Option ℕ) → loadNumber f ≡ o → (r : Loading) × Loads j f (loadCame r)

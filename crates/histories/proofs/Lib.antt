@@ -10,6 +10,7 @@ pub mod Every
 pub mod Tied
 pub mod Inhabited
 pub mod Taken
+pub mod Never
 pub mod TwoRules
 pub mod TableP
 pub mod TablePRuns

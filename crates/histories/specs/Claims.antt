@@ -13,6 +13,7 @@
 --   Right, AllRight     the replies are document 01's
 --   Accepted-exactly    when an opening, a delivery and a withdrawal are accepted; proofs/Taken.antt
 --   EveryList           demand 3, one claim over a whole list
+--   Never-24, Standing-fixed   no list comes to 24, so which chunk stands where is fixed by the list alone; proofs/Never.antt
 use mathlib.Core.Path.{_≡_}
 use mathlib.Core.Logic.{_↔_}
 use mathlib.Core.Bool.{true, false}
@@ -123,3 +124,11 @@ pub record EveryList (h : List Call) (replies : List Reply) (j : Judge) : Type 0
   pub all-right : AllRight h replies
   pub after : After h j
   pub verdict : Verdict-words h (j .built .delegates) (j .built .starts)
+
+-- no list of calls comes to 24: 64 places, 65,536 bytes a chunk and 32 starts make 2^27 transitions at most
+abbrev pub Never-24 : Type 0
+Never-24 = (d : List ℕ) (m : ℕ) (h : List Call) (c : Call) → answerOf d m h c ≡ refused 24 → ⊥
+
+-- so the delegates, which `standing` takes for the sake of 24 alone, do not tell which chunk stands at a place
+abbrev pub Standing-fixed : Type 0
+Standing-fixed = (d e : List ℕ) (h : List Call) (p : ℕ) → standing d h p ≡ standing e h p

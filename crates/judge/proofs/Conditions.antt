@@ -11,6 +11,10 @@ use Rattle.rulefile.specs.Reader.{ruleOf}
 use Rattle.subsets.specs.Sets.{tooMany}
 use Rattle.judge.specs.Calls.{loadNumber}
 
+-- there is a number or there is none
+pub none-some : {A : Type 0} {x : ℕ} (o : Option ℕ) → o ≡ none → o ≡ some x → A
+none-some o e f = absurd (let z : _≡_ {A = ℕ} 0 1 = cc in omega arith)
+
 abbrev pub orElse : Option ℕ → Option ℕ → Option ℕ
 orElse none y = y
 orElse (some x) y = some x

@@ -35,7 +35,7 @@ use Rattle.board.specs.Boards.{placesOf, isEmpty, emptyBoard, filledAt, cleared
 use Rattle.judge.specs.declared.Judge.{Judge}
 use Rattle.judge.specs.Replies as reply
 use Rattle.judge.specs.Calls.{loadNumber, fresh, withBoard, Outcome, Loads, openOf, runsAt, deliverOf, withdrawOf, isYes, verdictOf}
-use Rattle.judge.proofs.Conditions.{over, load-number}
+use Rattle.judge.proofs.Conditions.{none-some, over, load-number}
 
 pub fresh-by : (b : Built) → b ≡ noBuilt → (e : Board) → e ≡ emptyBoard 0 → record { built = b; board = e } ≡ fresh
 unfolding fresh
@@ -158,17 +158,14 @@ module _ (j : Judge) where
       verdict-no c = rw (ne-eqb _ _ a, ← empty, eq-eqb _ _ b, ← says, c, summed)
 
 -- ---- load
-not-both : {P : Type 0} (o : Option ℕ) (number : ℕ) → o ≡ some number → o ≡ none → P
-not-both o number told nothing = absurd (let z : _≡_ {A = ℕ} 0 1 = cc in omega arith)
-
 refused-with : (j : Judge) (f : List ℕ) (number : ℕ) → loadNumber f ≡ some number
     → (r : Outcome) → r ≡ record { says = reply.refused number; leaves = j } → Loads j f r
 refused-with j f number told r e =
     record {
       refused = λ m told′. (cc);
-      answered = not-both (loadNumber f) number told;
-      built = not-both (loadNumber f) number told;
-      removed = not-both (loadNumber f) number told;
+      answered = λ e. none-some (loadNumber f) e told;
+      built = λ e. none-some (loadNumber f) e told;
+      removed = λ e. none-some (loadNumber f) e told;
     }
 
 module _ (j : Judge) (f : List ℕ) (read : Reading) (reads : Reads f read) where
@@ -216,7 +213,7 @@ module _ (j : Judge) (f : List ℕ) (read : Reading) (reads : Reads f read) wher
         let is : accepted m starts ≡ accepted (length (sets (ruleOf f))) (b .built .starts) = sym (ap saidOf answered) ∙ said ∙ rw few in
         let none-is : loadNumber f ≡ none = number-is ∙ rw few in
         record {
-          refused = λ number told. not-both (loadNumber f) number told none-is;
+          refused = λ number told. none-some (loadNumber f) none-is told;
           answered = λ _. (cc);
           built = λ _. builds-it .built few;
           removed = λ _. empty;

@@ -1,0 +1,210 @@
+-- No list of calls comes to 24, as `Never-24` of specs/Claims.antt says: a chunk counts at most 32 transitions for each of its 65,536 bytes at most,
+-- and a board has at most 64 places. So which chunk stands where does not depend on the delegates (`Standing-fixed`). Assumes nothing.
+use mathlib.Core.Path.{_≡_, refl, sym, ap, ap₂, _∙_, subst, fun-ext}
+use mathlib.Core.Bool.{Bool, true, false, cond, _&&_, _||_}
+use mathlib.Core.List.{List, [], _∷_}
+use mathlib.Core.Option.{Option, none, some}
+use Prim.Native.Nat.{ℕ, _+_, _*_, _≤_}
+use native.Mathlib.Omega.{arith}
+use lib.Dec.{eqb, ltb, leb}
+use lib.ListN.{length}
+use borrow.Author.Tests.{eqb-false, le-ltb, ltb-false}
+use Rattle.masks.specs.Masks.{single, has}
+use Rattle.masks.proofs.Cases.{by-test}
+use Rattle.automaton.specs.declared.Rule.{Rule}
+use Rattle.rulefile.specs.Conditions.{Condition, on, firstOf}
+use Rattle.rulefile.specs.Refusals.{tooShort, tooLong, badStates, badSymbols, noRoom, badMask, badPairs, badArcs}
+use Rattle.rulefile.specs.Reader.{ruleOf}
+use Rattle.rulefile.proofs.Conditions.{or-left, or-right, none-law}
+use Rattle.subsets.specs.Sets.{setsOf}
+use Rattle.chunks.specs.Chunks.{foreign, counted, runSet, total, chunkCount}
+use Rattle.chunks.proofs.Claims as chunks
+use Rattle.board.proofs.Totals.{total-most}
+use Rattle.judge.specs.Replies.{Reply, accepted, loaded, waiting, keeps, breaks, refused}
+use Rattle.judge.specs.Calls.{Call, loads, opens, delivers, withdraws, asks, loadNumber, openConditions, deliverConditions, withdrawConditions}
+use Rattle.judge.proofs.Conditions.{none-some, over}
+use Rattle.histories.specs.History.{isNone, isSome, fileOf, ruleIn, openNumber, placesIn, countOf, deliverCheck, withdrawCheck, standing, deliverNumber, withdrawNumber, emptiesIn, summedIn, yesIn, replyBy}
+use Rattle.histories.specs.Claims.{Never-24, Standing-fixed}
+
+-- ---- what a chunk counts
+chunk-most : (ts : List ℕ) (run : ℕ) (w : List ℕ) → chunkCount ts run w ≤ 32 * length w
+chunk-most ts run w =
+    total-most (λ q. cond (has run q) (counted ts (single q) w) 0) (length w) 32 (λ q _. one (has run q) q)
+  where
+    one : (t : Bool) (q : ℕ) → cond t (counted ts (single q) w) 0 ≤ length w
+    one true q = chunks.claims .counted-most ts (single q) w
+    one false q = omega arith
+
+is-none : (o : Option ℕ) → isNone o ≡ true → o ≡ none
+is-none none e = refl
+is-none (some x) e = absurd (let z : _≡_ {A = ℕ} 0 1 = cc in omega arith)
+
+and-right : (t u : Bool) → (t && u) ≡ true → u ≡ true
+and-right true u e = e
+and-right false u e = absurd (let z : _≡_ {A = ℕ} 0 1 = cc in omega arith)
+
+module _ (d : List ℕ) where
+  -- ---- a standing chunk has at most 65,536 bytes
+  kept : (t : Bool) (o : Option (List ℕ)) (w : List ℕ) → cond t none o ≡ some w → o ≡ some w
+  kept true o w e = absurd (let z : _≡_ {A = ℕ} 0 1 = cc in omega arith)
+  kept false o w e = e
+
+  delivered-short : (r : Rule) (places : ℕ) (at : ℕ → Option (List ℕ)) (q : ℕ) (v : List ℕ) → deliverCheck r d places at q v ≡ none → length v ≤ 65536
+  delivered-short r places at q v e =
+      let x =
+      none-law
+      (deliverConditions (eqb places 0) places q v (r .k) (isSome (at q)) (total (λ i. countOf r d i (at i)) places + countOf r d q (some v))) .0
+      e in
+      ltb-false 65536 (length v) (x .1 .1 .0)
+
+  pub standing-short : (h : List Call) (p : ℕ) (w : List ℕ) → standing d h p ≡ some w → length w ≤ 65536
+  unfolding standing
+  standing-short [] p w e = absurd (let z : _≡_ {A = ℕ} 0 1 = cc in omega arith)
+  standing-short (loads f ∷ h) p w e = standing-short h p w (kept (isNone (loadNumber f)) (standing d h p) w e)
+  standing-short (opens n ∷ h) p w e = standing-short h p w (kept (isNone (openNumber h n)) (standing d h p) w e)
+  standing-short (delivers q v ∷ h) p w e =
+      by-test (eqb q p && isNone (deliverCheck (ruleIn h) d (placesIn h) (standing d h) q v))
+      (λ t.
+      let same : some v ≡ some w = rw t at e in
+      let is : v ≡ w = cc in
+      rw (sym is)
+      (delivered-short (ruleIn h) (placesIn h) (standing d h) q v
+      (is-none (deliverCheck (ruleIn h) d (placesIn h) (standing d h) q v)
+      (and-right (eqb q p) (isNone (deliverCheck (ruleIn h) d (placesIn h) (standing d h) q v)) t))))
+      (λ t. standing-short h p w (rw t at e))
+  standing-short (withdraws q ∷ h) p w e =
+      standing-short h p w (kept (eqb q p && isNone (withdrawCheck (placesIn h) (standing d h) q)) (standing d h p) w e)
+  standing-short (asks ∷ h) p w e = standing-short h p w e
+
+  counted-few : (r : Rule) (p : ℕ) (o : Option (List ℕ)) → ((w : List ℕ) → o ≡ some w → length w ≤ 65536) → countOf r d p o ≤ 2097152
+  counted-few r p none short = omega arith
+  counted-few r p (some w) short =
+      omega (arith, chunk-most (r .targets) (runSet d (r .n) (r .initials) p) w, short w refl)
+
+-- ---- a board has at most 64 places
+places-few : (h : List Call) → placesIn h ≤ 64
+unfolding placesIn
+places-few [] = omega arith
+places-few (loads f ∷ h) = by-test (isNone (loadNumber f)) (λ t. rw t (omega arith)) (λ t. rw t (places-few h))
+places-few (opens n ∷ h) =
+    by-test (isNone (openNumber h n))
+    (λ t.
+    let x = none-law (openConditions (isNone (fileOf h)) n) .0 (is-none (openNumber h n) t) in
+    rw t (ltb-false 64 n (or-right (ltb n 1) (ltb 64 n) (x .1 .0))))
+    (λ t. rw t (places-few h))
+places-few (delivers p w ∷ h) = places-few h
+places-few (withdraws p ∷ h) = places-few h
+places-few (asks ∷ h) = places-few h
+
+module _ (d : List ℕ) (h : List Call) where
+  pub summed-few : summedIn d h ≤ 134217728
+  summed-few =
+      omega (
+        arith,
+        places-few h,
+        total-most (λ p. countOf (ruleIn h) d p (standing d h p)) 2097152 (placesIn h)
+            (λ p _. counted-few d (ruleIn h) p (standing d h p) (standing-short d h p)),
+      )
+
+  -- the sixth condition of a delivery fails where the third does
+  fits-32 : (p : ℕ) (w : List ℕ) → length w ≤ 65536 → ltb 4294967295 (summedIn d h + countOf (ruleIn h) d p (some w)) ≡ false
+  fits-32 p w short =
+      le-ltb 4294967295 (summedIn d h + countOf (ruleIn h) d p (some w))
+      (omega (arith, summed-few, counted-few d (ruleIn h) p (some w) (λ v e. let is : w ≡ v = cc in subst (λ (x : List ℕ). length x ≤ 65536) is short)))
+
+-- ---- numbers that no condition has
+named : ℕ → List Condition → Bool
+named x [] = false
+named x (on number test ∷ cs) = eqb number x || named x cs
+
+-- a condition with another number is passed
+past : (number x : ℕ) (test : Bool) (rest : Option ℕ) → eqb number x ≡ false → cond test (some number) rest ≡ some x → (test ≡ false) × (rest ≡ some x)
+past number x true rest other e = absurd (let same : number ≡ x = cc in eqb-false number x other same)
+past number x false rest other e = (refl, e)
+
+not-named : (x : ℕ) (cs : List Condition) → named x cs ≡ false → firstOf cs ≡ some x → ⊥
+unfolding named
+not-named x [] n e = none-some none refl e
+not-named x (on number test ∷ cs) n e =
+    not-named x cs (or-right (eqb number x) (named x cs) n)
+    (past number x test (firstOf cs) (or-left (eqb number x) (named x cs) n) e .1)
+
+-- ---- the claims
+replied : (o : Option ℕ) (a : Reply) → (a ≡ refused 24 → ⊥) → replyBy o a ≡ refused 24 → o ≡ some 24
+replied none a other e = absurd (other e)
+replied (some x) a other e = let same : x ≡ 24 = cc in ap some same
+
+never-delivered : (d : List ℕ) (h : List Call) (p : ℕ) (w : List ℕ) → deliverNumber d h p w ≡ some 24 → ⊥
+never-delivered d h p w e =
+    let sum = summedIn d h + countOf (ruleIn h) d p (some w) in
+    let a = past 21 24 (eqb (placesIn h) 0) _ refl e in
+    let b = past 11 24 (leb (placesIn h) p) _ refl (a .1) in
+    let c = past 12 24 (ltb 65536 (length w)) _ refl (b .1) in
+    let f = past 13 24 (foreign w (ruleIn h .k)) _ refl (c .1) in
+    let g = past 22 24 (isSome (standing d h p)) (cond (ltb 4294967295 sum) (some 24) none) refl (f .1) in
+    none-some (cond (ltb 4294967295 sum) (some 24) none)
+    (ap (λ (t : Bool). cond t (some 24) none) (fits-32 d h p w (ltb-false 65536 (length w) (c .0))))
+    (g .1)
+
+never-verdict : (no-board none-empty is-yes : Bool) (empties sum : ℕ)
+    → cond no-board (refused 21) (cond none-empty (cond is-yes (keeps sum) (breaks sum)) (waiting empties)) ≡ refused 24 → ⊥
+never-verdict true e y empties sum x = absurd (let z : _≡_ {A = ℕ} 0 1 = cc in omega arith)
+never-verdict false false y empties sum x = absurd (let z : _≡_ {A = ℕ} 0 1 = cc in omega arith)
+never-verdict false true true empties sum x = absurd (let z : _≡_ {A = ℕ} 0 1 = cc in omega arith)
+never-verdict false true false empties sum x = absurd (let z : _≡_ {A = ℕ} 0 1 = cc in omega arith)
+
+not-accepted : accepted ≡ refused 24 → ⊥
+not-accepted e = let z : _≡_ {A = ℕ} 0 1 = cc in omega arith
+
+not-loaded : (sets m : ℕ) → loaded sets m ≡ refused 24 → ⊥
+not-loaded sets m e = let z : _≡_ {A = ℕ} 0 1 = cc in omega arith
+
+pub never-24 : Never-24
+unfolding loadNumber named
+never-24 d m h (loads f) e =
+    not-named 24 (
+    on 1 (tooShort f) ∷
+    on 2 (tooLong f) ∷
+    on 3 (badStates f) ∷
+    on 4 (badSymbols f) ∷
+    on 5 (noRoom f) ∷
+    on 6 (badMask f) ∷
+    on 7 (badPairs f) ∷
+    on 8 (badArcs f) ∷
+    on 9 (over f) ∷ [])
+    refl
+    (replied (loadNumber f) (loaded (length (setsOf (ruleOf f .targets) (ruleOf f .n) (ruleOf f .k))) m) (not-loaded _ _) e)
+never-24 d m h (opens n) e = not-named 24 (openConditions (isNone (fileOf h)) n) refl (replied (openNumber h n) accepted not-accepted e)
+never-24 d m h (delivers p w) e = never-delivered d h p w (replied (deliverNumber d h p w) accepted not-accepted e)
+never-24 d m h (withdraws p) e =
+    not-named 24 (withdrawConditions (eqb (placesIn h) 0) (placesIn h) p (isNone (standing d h p))) refl
+    (replied (withdrawNumber d h p) accepted not-accepted e)
+never-24 d m h asks e =
+    never-verdict (eqb (placesIn h) 0) (eqb (emptiesIn d h) 0) (yesIn d h) (emptiesIn d h) (summedIn d h) e
+
+-- ---- what stands does not depend on the delegates
+module _ (d e : List ℕ) where
+  same-check : (h : List Call) → ((p : ℕ) → standing d h p ≡ standing e h p) → (q : ℕ) (w : List ℕ)
+      → isNone (deliverNumber d h q w) ≡ isNone (deliverNumber e h q w)
+  same-check h same q w =
+      by-test (ltb 65536 (length w))
+      (λ long. rw long)
+      (λ short.
+      let few = ltb-false 65536 (length w) short in
+      rw (same q, fits-32 d h q w few, fits-32 e h q w few))
+
+  standing-same : (h : List Call) (p : ℕ) → standing d h p ≡ standing e h p
+  unfolding standing
+  standing-same [] p = refl
+  standing-same (loads f ∷ h) p = ap (cond (isNone (loadNumber f)) none) (standing-same h p)
+  standing-same (opens n ∷ h) p = ap (cond (isNone (openNumber h n)) none) (standing-same h p)
+  standing-same (delivers q w ∷ h) p =
+      ap₂ (λ (t : Bool) (o : Option (List ℕ)). cond (eqb q p && t) (some w) o) (same-check h (standing-same h) q w) (standing-same h p)
+  standing-same (withdraws q ∷ h) p =
+      ap₂ (λ (at : ℕ → Option (List ℕ)) (o : Option (List ℕ)). cond (eqb q p && isNone (withdrawCheck (placesIn h) at q)) none o)
+      (fun-ext (standing-same h))
+      (standing-same h p)
+  standing-same (asks ∷ h) p = standing-same h p
+
+pub standing-fixed : Standing-fixed
+standing-fixed = standing-same
