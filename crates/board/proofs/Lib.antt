@@ -2,8 +2,3 @@
 pub mod Totals
 pub mod Rows
 pub mod Laws
-pub mod Acceptance
-pub mod Joined
-pub mod Counted
-pub mod Claims
-pub mod Examples

@@ -1,4 +1,1 @@
--- In the order in which to read them.
 pub mod Boards
-pub mod Joining
-pub mod Claims

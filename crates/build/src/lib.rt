@@ -1,6 +1,6 @@
 // Builds a rule: its numbered sets, its next-set table, its delegates and the number of its starts.
 ghost use mathlib.Core.Path.{_≡_};
-ghost use Prim.Native.Nat.{_≤_, min};
+ghost use Prim.Native.Nat.{_≤_};
 ghost use Rattle.masks.specs.Lists.{listFrom};
 ghost use Rattle.delegates.specs.Classes.{numberOf};
 ghost use Rattle.build.specs.Building.{noBuilt, Builds};
@@ -34,13 +34,6 @@ pub enum BuildAnswer {
 pub struct Building {
     pub answer: BuildAnswer,
     pub built: Built,
-}
-
-// x, but no more than most.
-fn at_most(x: u8, most: u8) -> u8
-    ensures { λ r. ⌜ r ≡ min x most ⌝ }
-{
-    if x < most { x } else { most }
 }
 
 // The number of {q} for each state q.
@@ -96,8 +89,8 @@ pub fn build_rule(rule: Rule) -> Building
             let delegates = merged.delegates;
             let starts = merged.count;
             let built = Built {
-                n: at_most(n, 32),
-                k: at_most(k, 16),
+                n: masks::at_most(n, 32),
+                k: masks::at_most(k, 16),
                 starts,
                 count: count as u16,
                 initials: rule.initials,

@@ -1,6 +1,6 @@
 // Prints the automaton of a rule as Graphviz text into a lent buffer. A number that is printed has at most three digits.
 ghost use mathlib.Core.Path.{_≡_};
-ghost use Prim.Native.Nat.{_+_, _*_, _≤_, _<_, min};
+ghost use Prim.Native.Nat.{_+_, _*_, _≤_, _<_};
 ghost use lib.ListN.{length};
 ghost use Rattle.text.specs.Numerals.{decimal, joined};
 ghost use Rattle.text.specs.Writing.{Wrote};
@@ -181,20 +181,13 @@ fn put_arcs(out: &mut [u8], start: usize, targets: &[u32; 512], n: u8, k: u8) ->
     at
 }
 
-// x, but no more than most.
-fn at_most(x: u8, most: u8) -> u8
-    ensures { λ r. ⌜ r ≡ min x most ⌝ }
-{
-    if x < most { x } else { most }
-}
-
 // The text of a rule, from the start.
 fn put_dot(out: &mut [u8], rule: Rule) -> usize
     requires { ⌜ 427922 ≤ length (now out) ⌝ }
     ensures { λ r. ⌜ (Wrote (now (out .entry)) 0 (dotText rule) (now (out .exit)) r) × (r ≤ 427922) ⌝ }
 {
-    let n = at_most(rule.n, 32);
-    let k = at_most(rule.k, 16);
+    let n = masks::at_most(rule.n, 32);
+    let k = masks::at_most(rule.k, 16);
     let targets = rule.targets;
     let a = put_head(out, 0);
     let b = put_states(out, a, rule.finals, n);

@@ -15,7 +15,7 @@ use Rattle.masks.proofs.Lists.{cell-of}
 use Rattle.rulefile.specs.Reader.{ruleOf}
 use Rattle.chunks.specs.Chunks.{total}
 use Rattle.board.specs.Boards.{emptyPlaces, summedCount}
-use Rattle.board.specs.Joining.{joinUpTo, saysYes}
+use Rattle.joins.specs.Joining.{joinUpTo, saysYes}
 use Rattle.board.proofs.Laws.{empty-law}
 use Rattle.judge.specs.declared.Judge.{Judge}
 use Rattle.judge.specs.Replies.{Reply, waiting, keeps, breaks, refused}

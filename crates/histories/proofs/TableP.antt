@@ -17,7 +17,7 @@ use Rattle.subsets.specs.Sets.{numberIn, numbered, expandFrom, closeFrom, setsU
 use Rattle.build.specs.declared.Built.{Built}
 use Rattle.build.specs.Building.{BuiltRule}
 use Rattle.chunks.specs.Chunks.{foreign, counted, startSet, total}
-use Rattle.board.specs.Joining.{joinUpTo}
+use Rattle.joins.specs.Joining.{joinUpTo}
 use Rattle.judge.specs.declared.Judge.{Judge}
 use Rattle.judge.specs.Replies.{Reply, refused}
 use Rattle.histories.specs.History.{fileOf, placesIn, standing, answerOf}

@@ -27,9 +27,9 @@ use Rattle.rulefile.proofs.Conditions.{or-left}
 use Rattle.rulefile.proofs.Claims as rulefile
 use Rattle.delegates.specs.Alike.{Text, Merged}
 use Rattle.chunks.specs.Chunks.{counted, runSet, endSet, total, chunkCount}
-use Rattle.board.specs.Joining.{saysYes}
-use Rattle.board.specs.Claims as board-specs
-use Rattle.board.proofs.Claims as board
+use Rattle.joins.specs.Joining.{saysYes}
+use Rattle.joins.specs.Claims as joins-specs
+use Rattle.joins.proofs.Claims as joins
 use Rattle.board.proofs.Totals.{total-same, term-most}
 use Rattle.judge.specs.declared.Judge.{Judge}
 use Rattle.judge.specs.Replies.{Reply, waiting, keeps, breaks, refused}
@@ -173,7 +173,7 @@ module _ (at : ℕ → Option (List ℕ)) where
   joined-is zero = refl
   joined-is (suc n) = ap (λ (x : List ℕ). x ++ chunkOf (at n)) (joined-is n) ∙ sym (flatten-more (chunksUpTo at n) (chunkOf (at n)))
 
-texts-more : (k : ℕ) (l : List (List ℕ)) (w : List ℕ) → board-specs.Texts k l → Text k w → board-specs.Texts k (l ++ (w ∷ []))
+texts-more : (k : ℕ) (l : List (List ℕ)) (w : List ℕ) → joins-specs.Texts k l → Text k w → joins-specs.Texts k (l ++ (w ∷ []))
 texts-more k [] w t u = (u, tt)
 texts-more k (v ∷ l) w t u = (t .0, texts-more k l w (t .1) u)
 
@@ -181,7 +181,7 @@ text-of : (k : ℕ) (o : Option (List ℕ)) → ((w : List ℕ) → o ≡ some w
 text-of k none h = tt
 text-of k (some w) h = h w refl
 
-chunk-texts : (k : ℕ) (at : ℕ → Option (List ℕ)) → ((p : ℕ) (w : List ℕ) → at p ≡ some w → Text k w) → (n : ℕ) → board-specs.Texts k (chunksUpTo at n)
+chunk-texts : (k : ℕ) (at : ℕ → Option (List ℕ)) → ((p : ℕ) (w : List ℕ) → at p ≡ some w → Text k w) → (n : ℕ) → joins-specs.Texts k (chunksUpTo at n)
 unfolding chunksUpTo
 chunk-texts k at h zero = tt
 chunk-texts k at h (suc n) = texts-more k (chunksUpTo at n) (chunkOf (at n)) (chunk-texts k at h n) (text-of k (at n) (h n))
@@ -209,11 +209,11 @@ module _ (r : Rule) (good : WellFormed r) (d : List ℕ) (m : ℕ) (merged-is : 
   sum-most : total (λ p. countOf r d p (at p)) places ≤ m * length (joinedUpTo at places)
   sum-most =
       let ws = chunksUpTo at places in
-      let e : total (λ p. countOf r d p (at p)) places ≡ board-specs.countOf r d ws =
+      let e : total (λ p. countOf r d p (at p)) places ≡ joins-specs.countOf r d ws =
       total-same (λ p. countOf r d p (at p)) (λ p. chunkCount (r .targets) (runSet d (r .n) (r .initials) p) (getD ws p [])) places
       (λ p l. count-is p (at p) ∙ ap (chunkCount (r .targets) (runSet d (r .n) (r .initials) p)) (sym (chunk-at at places p l)))
       ∙ ap (total (λ p. chunkCount (r .targets) (runSet d (r .n) (r .initials) p) (getD ws p []))) (sym (chunks-length at places)) in
-      rw (e, joined-is at places) (board.claims .count-most r good d m merged-is ws)
+      rw (e, joined-is at places) (joins.claims .count-most r good d m merged-is ws)
 
   filled : (p : ℕ) (o : Option (List ℕ)) → isNone o ≡ false → (q : ℕ) → endOf r d p q o ≡ endSet (r .targets) (runSet d (r .n) (r .initials) p) (chunkOf o) q
   filled p none e q = absurd (let z : _≡_ {A = ℕ} 0 1 = cc in omega arith)
@@ -235,9 +235,9 @@ module _ (r : Rule) (good : WellFormed r) (d : List ℕ) (m : ℕ) (merged-is : 
       subst₂ (λ (x : ℕ) (y : List ℕ). (saysYes ends d (r .n) (r .initials) (r .finals) x ≡ true) ↔ Accepts (automatonOf r) y)
       (chunks-length at places)
       (sym (joined-is at places))
-      (board.claims .join r good d m merged-is ends ws (chunk-texts (r .k) at texts places) holds)
+      (joins.claims .join r good d m merged-is ends ws (chunk-texts (r .k) at texts places) holds)
     where
-      holds : board-specs.Holds r d (listFrom 0 2048 (λ cell. endOf r d (cell / 32) (cell % 32) (at (cell / 32)))) (chunksUpTo at places)
+      holds : joins-specs.Holds r d (listFrom 0 2048 (λ cell. endOf r d (cell / 32) (cell % 32) (at (cell / 32)))) (chunksUpTo at places)
       holds p l q b =
           let lp : p < places = rw (chunks-length at places) at l in
           let row : (p * 32 + q) / 32 ≡ p = omega arith in

@@ -30,7 +30,7 @@ use Rattle.rulefile.specs.Conditions.{firstOf}
 use Rattle.rulefile.specs.Reader.{ruleOf, noRule}
 use Rattle.subsets.specs.Sets.{setsOf}
 use Rattle.chunks.specs.Chunks.{runSet, endSet, total, chunkCount}
-use Rattle.board.specs.Joining.{saysYes}
+use Rattle.joins.specs.Joining.{saysYes}
 use Rattle.judge.specs.Replies.{Reply, accepted, loaded, waiting, keeps, breaks, refused}
 use Rattle.judge.specs.Calls.{Call, loads, opens, delivers, withdraws, asks, loadNumber, openConditions, deliverConditions, withdrawConditions}
 

@@ -29,7 +29,7 @@ use Rattle.chunks.specs.Chunks.{foreign}
 use Rattle.chunks.specs.Walks.{runMask, runsOf}
 use Rattle.board.specs.declared.Board.{Board}
 use Rattle.board.specs.Boards.{placesOf, isEmpty, emptyBoard, filledAt, clearedAt, emptyPlaces, summedCount}
-use Rattle.board.specs.Joining.{saysYes}
+use Rattle.joins.specs.Joining.{saysYes}
 use Rattle.judge.specs.declared.Judge.{Judge}
 use Rattle.judge.specs.declared.Loading.{Loading}
 use Rattle.judge.specs.declared.Opening.{Opening}

@@ -3,7 +3,6 @@ ghost use mathlib.Core.Path.{_≡_};
 ghost use Prim.Native.Nat.{_+_, _≤_};
 ghost use lib.Dec.{ltb};
 ghost use lib.ListN.{length};
-ghost use Rattle.board.specs.Boards.{placesOf};
 ghost use Rattle.chunks.specs.Walks.{runMask, runsOf};
 ghost use Rattle.judge.specs.Replies.{refused, verdictSays};
 ghost use Rattle.judge.specs.Calls.{fresh, withBoard, loadCame, openCame, deliverCame, withdrawCame, Loads, openOf, deliverOf, withdrawOf, verdictOf};
@@ -84,14 +83,6 @@ fn with_board(judge: Judge, board: Board) -> Judge
 {
     let built = judge.built;
     Judge { built, board }
-}
-
-// The number of places of a board; any number above 64 counts as 64.
-fn places_of(board: Board) -> usize
-    ensures { λ r. ⌜ r ≡ placesOf board ⌝ }
-{
-    let places = board.places as usize;
-    if places < 64 { places } else { 64 }
 }
 
 fn refuse_load(judge: Judge, number: u8) -> Loading
@@ -198,7 +189,7 @@ pub fn deliver(judge: Judge, place: usize, chunk: &[u8]) -> Delivery
     if board.places == 0 {
         return refuse_delivery(judge, 21);
     }
-    if places_of(board) <= place {
+    if board::places_of(board) <= place {
         return refuse_delivery(judge, 11);
     }
     if 65536 < chunk.len() {
@@ -228,7 +219,7 @@ pub fn withdraw(judge: Judge, place: usize) -> Withdrawal
     if board.places == 0 {
         return refuse_withdrawal(judge, 21);
     }
-    if places_of(board) <= place {
+    if board::places_of(board) <= place {
         return refuse_withdrawal(judge, 11);
     }
     if board::is_empty(board, place) {
@@ -254,7 +245,7 @@ pub fn judged(judge: Judge) -> Verdict
     let count = board::summed_count(board);
     let built = judge.built;
     let delegates = built.delegates;
-    if board::says_yes(board, delegates, built.n, built.initials, built.finals) {
+    if joins::says_yes(board, delegates, built.n, built.initials, built.finals) {
         Verdict::Yes(count)
     } else {
         Verdict::No(count)

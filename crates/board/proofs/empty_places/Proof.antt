@@ -4,19 +4,16 @@ use Rattle.board.specs.Boards.{emptyPlaces}
 use Rattle.board.proofs.empty_places.Statement.{statement}
 use Rattle.board.proofs.empty_places.Tie as tie
 
-at-most-requires : tie.Need-at-most-requires
-at-most-requires c κs = search needs
-
-cast-count-empty : tie.Need-cast-count-empty
-cast-count-empty c = search needs
+places-of-requires : tie.Need-places-of-requires
+places-of-requires c κs = search needs
 
 count-empty-requires : tie.Need-count-empty-requires
 count-empty-requires c κs = search needs
 
 returns : tie.Need-returns
 unfolding emptyPlaces
-returns c = rw (← c .before .before .before .at-most .ensures) (c .count-empty .ensures)
+returns c = rw (← c .before .before .before .places-of .ensures) (c .count-empty .ensures)
 
 pub empty-places-spec : {M : Type 1} → statement M
 empty-places-spec =
-    tie.close (tie.spec at-most-requires cast-count-empty count-empty-requires returns)
+    tie.close (tie.spec places-of-requires count-empty-requires returns)

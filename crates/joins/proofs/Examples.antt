@@ -10,7 +10,7 @@ use Rattle.automaton.specs.declared.Rule.{Rule}
 use Rattle.automaton.specs.Successor.{after}
 use Rattle.subsets.proofs.Examples.{ruleB as targetsB}
 use Rattle.chunks.specs.Chunks.{startSet, runSet, endSet}
-use Rattle.board.specs.Joining.{joinUpTo}
+use Rattle.joins.specs.Joining.{joinUpTo}
 
 abbrev ruleB : Rule
 ruleB = record { n = 3; k = 1; initials = 1; finals = 6; targets = targetsB }

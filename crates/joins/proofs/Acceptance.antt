@@ -14,7 +14,7 @@ use Rattle.automaton.specs.Rules.{automatonOf, WellFormed}
 use Rattle.automaton.specs.Successor.{after}
 use Rattle.automaton.proofs.Laws.{after-law}
 use Rattle.delegates.specs.Alike.{AcceptsFrom, Text}
-use Rattle.board.specs.Claims.{Texts}
+use Rattle.joins.specs.Claims.{Texts}
 
 -- the set m accepts the text w
 abbrev pub Accepting : Rule → ℕ → List ℕ → Type 0

@@ -4,9 +4,9 @@ use Prim.Native.Nat.{ℕ, _-_, _≤_, min}
 use native.Mathlib.Numerals.{add-one}
 use native.Mathlib.Omega.{arith}
 use borrow.Author.Needs.{needs}
-use Rattle.board.specs.Joining.{joinUpTo}
-use Rattle.board.proofs.join_places.Statement.{statement}
-use Rattle.board.proofs.join_places.Tie as tie
+use Rattle.joins.specs.Joining.{joinUpTo}
+use Rattle.joins.proofs.join_places.Statement.{statement}
+use Rattle.joins.proofs.join_places.Tie as tie
 
 abbrev Inv-loop : tie.InvT-loop
 Inv-loop ends delegates n initials places states set₀ place₀ set place = (place ≤ places) × (set ≡ joinUpTo ends delegates n initials place)

@@ -28,9 +28,9 @@ use Rattle.delegates.specs.Alike.{Text, Merged}
 use Rattle.delegates.proofs.Alike.{delegates-start}
 use Rattle.chunks.specs.Chunks.{runSet, endSet}
 use Rattle.chunks.specs.Claims.{Claims as ChunksClaims}
-use Rattle.board.specs.Joining.{joinUpTo, saysYes}
-use Rattle.board.specs.Claims.{Texts, Holds}
-use Rattle.board.proofs.Acceptance.{Accepting, accepting-law, accepting-single, text-flatten, texts-drop}
+use Rattle.joins.specs.Joining.{joinUpTo, saysYes}
+use Rattle.joins.specs.Claims.{Texts, Holds}
+use Rattle.joins.proofs.Acceptance.{Accepting, accepting-law, accepting-single, text-flatten, texts-drop}
 
 -- where a state is not run its end set is empty
 of-run : (t : Bool) (p m : ℕ) → p ∈ cond t m 0 → p ∈ m

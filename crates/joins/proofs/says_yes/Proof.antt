@@ -1,7 +1,7 @@
 -- `says_yes` meets its contract. Assumes nothing.
 use borrow.Author.Needs.{needs}
-use Rattle.board.proofs.says_yes.Statement.{statement}
-use Rattle.board.proofs.says_yes.Tie as tie
+use Rattle.joins.proofs.says_yes.Statement.{statement}
+use Rattle.joins.proofs.says_yes.Tie as tie
 
 join-requires : tie.Need-join-requires
 join-requires c κs = search needs

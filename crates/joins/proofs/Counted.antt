@@ -13,8 +13,8 @@ use Rattle.delegates.specs.Alike.{Merged}
 use Rattle.delegates.proofs.Alike.{delegates-start}
 use Rattle.chunks.specs.Chunks.{startSet, runSet, total, chunkCount}
 use Rattle.chunks.specs.Claims.{Claims as ChunksClaims}
-use Rattle.board.specs.Claims.{countOf}
+use Rattle.joins.specs.Claims.{countOf}
 use Rattle.board.proofs.Totals.{total-first}
 
 -- a sum over chunks, each term at most most times the chunk's bytes
 flat-most : (most : ℕ) (ws : List (List ℕ)) (f : ℕ → ℕ) → ((p : ℕ) → p < length ws → f p ≤ most * length (getD ws p []))

@@ -15,7 +15,7 @@ use Rattle.automaton.specs.Automaton.{Accepts}
 use Rattle.automaton.specs.Rules.{automatonOf, WellFormed}
 use Rattle.delegates.specs.Alike.{Text, Merged}
 use Rattle.chunks.specs.Chunks.{runSet, endSet, total, chunkCount}
-use Rattle.board.specs.Joining.{saysYes}
+use Rattle.joins.specs.Joining.{saysYes}
 
 abbrev pub Texts : ℕ → List (List ℕ) → Type 0
 Texts k [] = Unit {0}

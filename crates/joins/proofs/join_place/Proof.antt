@@ -9,8 +9,8 @@ use lib.Bits.{bitOr, or-zero-r}
 use lib.ListN.{getD}
 use borrow.Author.Needs.{needs}
 use Rattle.masks.specs.Masks.{has, union}
-use Rattle.board.proofs.join_place.Statement.{statement}
-use Rattle.board.proofs.join_place.Tie as tie
+use Rattle.joins.proofs.join_place.Statement.{statement}
+use Rattle.joins.proofs.join_place.Tie as tie
 
 -- one state more, which is a member or not
 module _ (f : ℕ → ℕ) (m q : ℕ) where

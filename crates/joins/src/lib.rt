@@ -1,0 +1,75 @@
+// The join of the end sets that a board holds, place by place. Any value is taken: a number of states above 32 counts as 32.
+ghost use mathlib.Core.Path.{_≡_};
+ghost use Prim.Native.Nat.{_+_, _*_, _%_, _≤_, _<_};
+ghost use lib.ListN.{getD};
+ghost use Rattle.masks.specs.Masks.{union};
+ghost use Rattle.board.specs.Boards.{placesOf};
+ghost use Rattle.joins.specs.Joining.{joinUpTo, saysYes};
+use board::Board;
+use masks::StateNumber;
+
+// The delegate of state q.
+fn delegate_of(delegates: &[u8; 32], q: StateNumber) -> StateNumber
+    requires { ⌜ q .0 < 32 ⌝ }
+    ensures { λ r. ⌜ r .0 ≡ getD (now (delegates .entry)) (q .0) 0 ⌝ }
+{
+    let i = q.0 as usize;
+    StateNumber(delegates[i])
+}
+
+// The end set of state q at a place.
+fn end_set(ends: &[u32; 2048], place: usize, q: StateNumber) -> u32
+    requires { ⌜ place < 64 ⌝ }
+    ensures { λ r. ⌜ r ≡ getD (now (ends .entry)) (place * 32 + q .0 % 32) 0 ⌝ }
+{
+    let i = q.0 as usize;
+    ends[place * 32 + i % 32]
+}
+
+// The union of the end sets, at a place, of the delegates of the members of set; n is the number of states.
+fn join_place(ends: &[u32; 2048], delegates: &[u8; 32], n: usize, set: u32, place: usize) -> u32
+    requires { ⌜ (n ≤ 32) × (place < 64) ⌝ }
+    ensures { λ r. ⌜ r ≡ union (λ q. getD (now (ends .entry)) (place * 32 + getD (now (delegates .entry)) q 0 % 32) 0) set n ⌝ }
+{
+    let mut joined: u32 = 0;
+    let mut q: usize = 0;
+    while q < n {
+        let state = StateNumber(q as u8);
+        if masks::member(set, state) {
+            let delegate = delegate_of(delegates, state);
+            joined = masks::union(joined, end_set(ends, place, delegate));
+        }
+        q += 1;
+    }
+    joined
+}
+
+// C after the first places.
+fn join_places(ends: &[u32; 2048], delegates: &[u8; 32], n: u8, initials: u32, places: usize) -> u32
+    requires { ⌜ places ≤ 64 ⌝ }
+    ensures { λ r. ⌜ r ≡ joinUpTo (now (ends .entry)) (now (delegates .entry)) n initials places ⌝ }
+{
+    let states = masks::at_most(n, 32);
+    let mut set = initials;
+    let mut place: usize = 0;
+    while place < places {
+        set = join_place(ends, delegates, states as usize, set, place);
+        place += 1;
+    }
+    set
+}
+
+// C after all places.
+pub fn join(board: Board, delegates: [u8; 32], n: u8, initials: u32) -> u32
+    ensures { λ r. ⌜ r ≡ joinUpTo (board .ends) delegates n initials (placesOf board) ⌝ }
+{
+    let places = board::places_of(board);
+    join_places(&board.ends, &delegates, n, initials, places)
+}
+
+// Whether C has a final state after all places.
+pub fn says_yes(board: Board, delegates: [u8; 32], n: u8, initials: u32, finals: u32) -> bool
+    ensures { λ r. ⌜ r ≡ saysYes (board .ends) delegates n initials finals (placesOf board) ⌝ }
+{
+    masks::meets(join(board, delegates, n, initials), finals)
+}
