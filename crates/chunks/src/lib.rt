@@ -74,18 +74,11 @@ pub fn walk(next: &[u16; 8192], from: SetNumber, chunk: &[u8]) -> Run
     }
 }
 
-// The states of a rule of n states, which has at most 32.
-fn states(n: u8) -> u8
-    ensures { λ r. ⌜ r ≡ min n 32 ⌝ }
-{
-    if n < 32 { n } else { 32 }
-}
-
 // The starts, as a set: the states that are their own delegate.
 pub fn start_mask(delegates: [u8; 32], n: u8) -> u32
     ensures { λ r. ⌜ r ≡ startSet delegates (min n 32) ⌝ }
 {
-    let most = states(n);
+    let most = masks::at_most(n, 32);
     let mut starts: u32 = 0;
     let mut q: u8 = 0;
     while q < most {
@@ -102,7 +95,7 @@ pub fn start_mask(delegates: [u8; 32], n: u8) -> u32
 pub fn delegate_mask(delegates: [u8; 32], n: u8, set: u32) -> u32
     ensures { λ r. ⌜ r ≡ delegateMask delegates n set ⌝ }
 {
-    let most = states(n);
+    let most = masks::at_most(n, 32);
     let mut out: u32 = 0;
     let mut q: u8 = 0;
     while q < most {

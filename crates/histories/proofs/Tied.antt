@@ -32,8 +32,8 @@ use Rattle.judge.proofs.judged.Reads as judged-reads
 use Rattle.judge.proofs.judged.Kinds as judged-kinds
 
 -- ---- what each function's contract allows
-abbrev pub Begins : Judge → Type 0
-Begins j = (s : AtExit (endedOf 0 new-kinds.ps new-kinds.r) tt) × new-reads.Learnt tt tt j s
+abbrev pub MayBegin : Judge → Type 0
+MayBegin j = (s : AtExit (endedOf 0 new-kinds.ps new-kinds.r) tt) × new-reads.Learnt tt tt j s
 
 abbrev pub MayLoad : Judge → List ℕ → Loading → Type 0
 MayLoad j f r =
@@ -55,7 +55,7 @@ MayJudge j v = (s : AtExit (endedOf 0 judged-kinds.ps judged-kinds.r) tt) × jud
 
 -- ---- a list of calls, with the replies that were given, the last first
 pub data Allowed : List Call → List Reply → Judge → Type 0 where
-  start : {j : Judge} → Begins j → Allowed [] [] j
+  start : {j : Judge} → MayBegin j → Allowed [] [] j
   loaded : {h : List Call} {given : List Reply} {j : Judge} {f : List ℕ} (r : Loading) → Allowed h given j → MayLoad j f r
       → Allowed (loads f ∷ h) (loadSays (r .answer) ∷ given) (r .judge)
   opened : {h : List Call} {given : List Reply} {j : Judge} {n : ℕ} (r : Opening) → Allowed h given j → MayOpen j n r

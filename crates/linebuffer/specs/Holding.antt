@@ -3,8 +3,8 @@
 --
 --   Keeps buffer h w    the buffer and h keep the line w: as much of it as the buffer takes, and of the rest whether each byte is a hex digit and
 --                       whether there is an odd number of them
---   Begins h            h keeps the empty line, whatever a buffer holds
---   GoesOn ..           whatever line was kept before, that line and the piece behind it is kept after
+--   KeepsNothing h      h keeps the empty line, whatever a buffer holds
+--   KeepsMore ..        whatever line was kept before, that line and the piece behind it is kept after
 --   RunsHeld ..         whatever line is kept, it was run on the judge
 -- Where a buffer and a value keep no line, what the functions answer is free; they end and stay within their bounds all the same.
 use mathlib.Core.Path.{_≡_}
@@ -26,11 +26,11 @@ pub record Keeps (buffer : List ℕ) (h : Held) (w : List ℕ) : Type 0 where
   pub hex : h .hex ≡ allHex (drop (length buffer) w)
   pub odd : h .odd ≡ eqb (length (drop (length buffer) w) % 2) 1
 
-abbrev pub Begins : Held → Type 0
-Begins h = (buffer : List ℕ) → Keeps buffer h []
+abbrev pub KeepsNothing : Held → Type 0
+KeepsNothing h = (buffer : List ℕ) → Keeps buffer h []
 
-abbrev pub GoesOn : List ℕ → Held → List ℕ → List ℕ → Held → Type 0
-GoesOn before held piece after r = (w : List ℕ) → Keeps before held w → Keeps after r (w ++ piece)
+abbrev pub KeepsMore : List ℕ → Held → List ℕ → List ℕ → Held → Type 0
+KeepsMore before held piece after r = (w : List ℕ) → Keeps before held w → Keeps after r (w ++ piece)
 
 abbrev pub RunsHeld : Judge → List ℕ → Held → LineRun → Type 0
 RunsHeld j buffer held r = (w : List ℕ) → Keeps buffer held w → LineSteps j (lineIn w) (responseOf (r .answer)) (r .judge)

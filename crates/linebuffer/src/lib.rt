@@ -5,7 +5,7 @@ ghost use Prim.Native.Nat.{_-_, _≤_, _%_, min};
 ghost use lib.Dec.{eqb};
 ghost use lib.ListN.{length};
 ghost use Rattle.fields.specs.Bytes.{allHex};
-ghost use Rattle.linebuffer.specs.Holding.{Begins, GoesOn, RunsHeld};
+ghost use Rattle.linebuffer.specs.Holding.{KeepsNothing, KeepsMore, RunsHeld};
 use callrun::LineRun;
 use judge::Judge;
 
@@ -18,7 +18,7 @@ pub struct Held {
 
 // The beginning of a line.
 pub fn nothing() -> Held
-    ensures { λ r. ⌜ Begins r ⌝ }
+    ensures { λ r. ⌜ KeepsNothing r ⌝ }
 {
     Held {
         length: 0,
@@ -55,7 +55,7 @@ fn hex_with(hex: bool, more: &[u8]) -> bool
 
 // The line goes on with the piece.
 pub fn hold(buffer: &mut [u8], held: Held, piece: &[u8]) -> Held
-    ensures { λ r. ⌜ GoesOn (now (buffer .entry)) held (now (piece .entry)) (now (buffer .exit)) r ⌝ }
+    ensures { λ r. ⌜ KeepsMore (now (buffer .entry)) held (now (piece .entry)) (now (buffer .exit)) r ⌝ }
 {
     let at = least(held.length, buffer.len());
     let fits = least(piece.len(), buffer.len() - at);

@@ -10,13 +10,14 @@ use mathlib.Core.List.{List, [], _∷_, _++_}
 use Prim.Native.Nat.{ℕ, suc, _+_, _-_, _≤_, _<_, min}
 use native.Mathlib.Numerals.{add-one}
 use native.Mathlib.Omega.{arith}
-use lib.ListN.{length, take, drop, length-drop, drop-of-length-le}
+use lib.ListN.{length, take, drop, drop-of-length-le}
 use lib.Seq.{drop-drop, drop-length}
 use borrow.Author.Tests.{ltb-true, ltb-false}
 use lib.Dec.{ltb}
 use Rattle.masks.proofs.Cases.{by-test}
 use Rattle.lines.specs.Splitting.{upTo, lastLine, linesFrom, linesOf}
-use Rattle.lines.proofs.Splits.{up-most, up-take, up-whole, lines-there, lines-last}
+use Rattle.lines.proofs.Splits.{up-whole, lines-there, lines-last}
+use Rattle.lines.proofs.Parts.{part-rest, part-is}
 use Rattle.judge.specs.declared.Judge.{Judge}
 use Rattle.judge.specs.Replies.{Reply}
 use Rattle.judge.specs.Calls.{Call, fresh, verdictOf}
@@ -58,17 +59,7 @@ last-is (x ∷ v) h = refl
 
 module _ (w : List ℕ) (at end : ℕ) (here : at < length w) (found : end ≡ at + length (upTo 10 (drop at w))) where
   rest : length (drop at w) + at ≡ length w
-  rest = omega (arith, length-drop at w)
-
-  pub end-from : at ≤ end
-  end-from = omega (arith, found)
-
-  pub end-to : end ≤ length w
-  end-to = omega (arith, found, rest, up-most 10 (drop at w))
-
-  -- the line from `at` to `end`
-  pub line-is : take (end - at) (drop at w) ≡ upTo 10 (drop at w)
-  line-is = let e : end - at ≡ length (upTo 10 (drop at w)) = omega (arith, found) in ap (λ (n : ℕ). take n (drop at w)) e ∙ sym (up-take 10 (drop at w))
+  rest = part-rest w at end here found
 
   next-line : end < length w → linesOf (drop at w) ≡ upTo 10 (drop at w) ∷ linesOf (drop (end + 1) w)
   next-line l =
@@ -92,11 +83,11 @@ module _ (w : List ℕ) (at end : ℕ) (here : at < length w) (found : end ≡ a
       (λ t.
       let l = ltb-true end (length w) t in
       let is : to ≡ end + 1 = omega arith in
-      rw (line-is, is) (next-line l))
+      rw (part-is w at end here found, is) (next-line l))
       (λ t.
       let l = ltb-false end (length w) t in
       let is : to ≡ length w = omega arith in
-      rw (line-is, is) (last-line l))
+      rw (part-is w at end here found, is) (last-line l))
 
 -- ---- the loop: the lines before `at` were read and run, and what follows is still to be read
 pub record Going (w : List ℕ) (j : Judge) (line at : ℕ) : Type 0 where

@@ -1,6 +1,5 @@
 -- The parts of a block, and the end of the text. Assumes nothing.
 --
---   part-from, part-to          a part is within the block
 --   ended, goes-on              a line feed follows, or none
 --   finish-none, finish-last    the last line is empty, or not
 --   answered, fed-ended, fed-on what the functions promise, from what the layers below do
@@ -9,14 +8,15 @@ use mathlib.Core.Logic.{inl, inr}
 use mathlib.Core.List.{List, [], _∷_, _++_}
 use Prim.Native.Nat.{ℕ, suc, _+_, _-_, _≤_, _<_, min}
 use native.Mathlib.Omega.{arith}
-use lib.ListN.{length, take, drop, length-append, length-drop, drop-of-length-le}
+use lib.ListN.{length, take, drop, length-append, drop-of-length-le}
 use lib.Seq.{drop-drop, drop-append-le, length-take-le}
 use Rattle.text.specs.Writing.{Wrote}
 use Rattle.lines.specs.Splitting.{upTo, linesFrom}
-use Rattle.lines.proofs.Splits.{up-most, up-take, up-whole, up-append, lines-there, lines-over}
+use Rattle.lines.proofs.Splits.{up-whole, up-append, lines-there, lines-over}
+use Rattle.lines.proofs.Parts.{part-rest, part-from, part-to, part-is}
 use Rattle.judge.specs.declared.Judge.{Judge}
 use Rattle.linebuffer.specs.declared.Held.{Held}
-use Rattle.linebuffer.specs.Holding.{Keeps, Begins, GoesOn, RunsHeld}
+use Rattle.linebuffer.specs.Holding.{Keeps, KeepsNothing, KeepsMore, RunsHeld}
 use Rattle.calltext.specs.Answers.{responseText, responseOf}
 use Rattle.callrun.specs.declared.LineRun.{LineRun}
 use Rattle.stream.specs.declared.Answered.{Answered}
@@ -24,19 +24,10 @@ use Rattle.stream.specs.Feeding.{Answers, AnswersHeld, Feeds, FinishesBy
 
 module _ (block : List ℕ) (at end : ℕ) (here : at < length block) (found : end ≡ at + length (upTo 10 (drop at block))) where
   rest : length (drop at block) + at ≡ length block
-  rest = omega (arith, length-drop at block)
+  rest = part-rest block at end here found
 
-  pub part-from : at ≤ end
-  part-from = omega (arith, found)
-
-  pub part-to : end ≤ length block
-  part-to = omega (arith, found, rest, up-most 10 (drop at block))
-
-  -- the part from `at` to `end`
-  pub part-is : take (end - at) (drop at block) ≡ upTo 10 (drop at block)
-  part-is =
-      let e : end - at ≡ length (upTo 10 (drop at block)) = omega (arith, found) in
-      ap (λ (n : ℕ). take n (drop at block)) e ∙ sym (up-take 10 (drop at block))
+  part : take (end - at) (drop at block) ≡ upTo 10 (drop at block)
+  part = part-is block at end here found
 
   pub split-ended : end < length block → (w more : List ℕ)
       → linesFrom w (drop at block ++ more) ≡ (w ++ take (end - at) (drop at block)) ∷ linesFrom [] (drop (end + 1) block ++ more)
@@ -52,7 +43,7 @@ module _ (block : List ℕ) (at end : ℕ) (here : at < length block) (found : e
       ∙ drop-append-le (suc m) v more (omega (arith, fewer))
       ∙ ap (λ (l : List ℕ). l ++ more) (drop-drop (suc m) at block ∙ ap (λ (n : ℕ). drop n block) next) in
       lines-there (v ++ more) w longer
-      ∙ ap₂ (λ (a b : List ℕ). (w ++ a) ∷ linesFrom [] b) (same ∙ sym part-is) behind
+      ∙ ap₂ (λ (a b : List ℕ). (w ++ a) ∷ linesFrom [] b) (same ∙ sym part) behind
 
   pub split-on : length block ≤ end → (w more : List ℕ)
       → linesFrom w (drop at block ++ more) ≡ linesFrom (w ++ take (end - at) (drop at block)) (drop end block ++ more)
@@ -60,7 +51,7 @@ module _ (block : List ℕ) (at end : ℕ) (here : at < length block) (found : e
       let v = drop at block in
       let none : length v ≤ length (upTo 10 v) = omega (arith, found, rest, l) in
       lines-over v more w none
-      ∙ ap₂ (λ (a b : List ℕ). linesFrom (w ++ a) (b ++ more)) (sym (part-is ∙ up-whole 10 v none)) (sym (drop-of-length-le block l))
+      ∙ ap₂ (λ (a b : List ℕ). linesFrom (w ++ a) (b ++ more)) (sym (part ∙ up-whole 10 v none)) (sym (drop-of-length-le block l))
 
 -- ---- one line
 -- an answer is within the buffer that it was written into
@@ -77,8 +68,8 @@ answered j held line before after run written runs wrote = record {
 
 -- ---- a part of a block; `mid` keeps the line with the part behind it
 module _ (j : Judge) (held : Held) (block : List ℕ) (at : ℕ) (here : at < length block) (end : ℕ) (found : end ≡ at + length (upTo 10 (drop at block)))
-    (before line out : List ℕ) (mid : Held) (gone : GoesOn before held (take (end - at) (drop at block)) line mid) where
-  pub fed-ended : end < length block → (out′ : List ℕ) (a : Answered) → AnswersHeld j mid line out out′ a → (none : Held) → Begins none
+    (before line out : List ℕ) (mid : Held) (gone : KeepsMore before held (take (end - at) (drop at block)) line mid) where
+  pub fed-ended : end < length block → (out′ : List ℕ) (a : Answered) → AnswersHeld j mid line out out′ a → (none : Held) → KeepsNothing none
       → Feeds j held block at before line out out′ (record { judge = a .judge; held = none; at = end + 1; written = a .written })
   fed-ended l out′ a answers none empty = record {
     forward = omega (arith, part-from block at end here found);

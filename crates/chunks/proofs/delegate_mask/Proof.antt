@@ -17,8 +17,8 @@ Inv-loop n set delegates most out₀ q₀ out q = (q ≤ min n 32) × (out ≡ u
 abbrev μ-loop : tie.MeasureT-loop
 μ-loop n set delegates most out₀ q₀ out q = min n 32 - q
 
-states-requires : tie.Need-states-requires Inv-loop μ-loop
-states-requires c κs = search needs
+at-most-requires : tie.Need-at-most-requires Inv-loop μ-loop
+at-most-requires c κs = search needs
 
 loop-holds : tie.Need-loop-holds Inv-loop μ-loop
 unfolding union
@@ -74,7 +74,7 @@ delegate-mask-spec =
     (tie.spec
     Inv-loop
     μ-loop
-    states-requires
+    at-most-requires
     loop-holds
     member-requires
     cast-i

@@ -5,7 +5,8 @@ use native.Mathlib.Omega.{arith}
 use borrow.Author.Needs.{needs}
 use lib.ListN.{length}
 use Rattle.replay.specs.Records.{verdict}
-use Rattle.replay.proofs.Reading.{Going, end-from, end-to, going-first, going-last, going-wrong, going-on}
+use Rattle.lines.proofs.Parts.{part-from, part-to}
+use Rattle.replay.proofs.Reading.{Going, going-first, going-last, going-wrong, going-on}
 use Rattle.replay.proofs.replay_by.Statement.{statement}
 use Rattle.replay.proofs.replay_by.Tie as tie
 
@@ -26,13 +27,13 @@ find-requires : tie.Need-find-requires Inv-loop μ-loop
 find-requires c κs = search needs
 
 sub-run-line : tie.Need-sub-run-line Inv-loop μ-loop
-sub-run-line c = search (needs, end-from, end-to)
+sub-run-line c = search (needs, part-from, part-to)
 
 part-run-line-start : tie.Need-part-run-line-start Inv-loop μ-loop
-part-run-line-start c = search (needs, end-from, end-to)
+part-run-line-start c = search (needs, part-from, part-to)
 
 part-run-line-end : tie.Need-part-run-line-end Inv-loop μ-loop
-part-run-line-end c = search (needs, end-from, end-to)
+part-run-line-end c = search (needs, part-from, part-to)
 
 run-line-requires : tie.Need-run-line-requires Inv-loop μ-loop
 run-line-requires c κs = search needs
@@ -59,8 +60,8 @@ loop-less : tie.Need-loop-less Inv-loop μ-loop
 loop-less c =
     let l = c .before .before .before .before .before .before .before .before .before .before .before .loop in
     let here = c .before .before .before .before .before .before .before .before .before .before .loop-test .taken in
-    let from = end-from _ (l .at) _ here (c .before .before .before .before .before .before .before .before .before .find .ensures) in
-    let to = end-to _ (l .at) _ here (c .before .before .before .before .before .before .before .before .before .find .ensures) in
+    let from = part-from _ (l .at) _ here (c .before .before .before .before .before .before .before .before .before .find .ensures) in
+    let to = part-to _ (l .at) _ here (c .before .before .before .before .before .before .before .before .before .find .ensures) in
     omega (arith, c .past .ensures, here, from, to)
 
 loop-again : tie.Need-loop-again Inv-loop μ-loop
@@ -68,8 +69,8 @@ loop-again c =
     let l = c .before .before .before .before .before .before .before .before .before .before .before .loop in
     let here = c .before .before .before .before .before .before .before .before .before .before .loop-test .taken in
     let find = c .before .before .before .before .before .before .before .before .before .find .ensures in
-    let from = end-from _ (l .at) _ here find in
-    let to = end-to _ (l .at) _ here find in
+    let from = part-from _ (l .at) _ here find in
+    let to = part-to _ (l .at) _ here find in
     let r = c .before .before .before .before .before .before .run-line in (
       omega (arith, c .past .ensures, here, from, to),
       omega (arith, c .past .ensures, here, from, to, l .inv),

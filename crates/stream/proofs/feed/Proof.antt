@@ -1,6 +1,7 @@
 -- `feed` meets its contract. Assumes nothing.
 use borrow.Author.Needs.{needs}
-use Rattle.stream.proofs.Parts.{part-from, part-to, fed-ended, fed-on}
+use Rattle.lines.proofs.Parts.{part-from, part-to}
+use Rattle.stream.proofs.Parts.{fed-ended, fed-on}
 use Rattle.stream.proofs.feed.Statement.{statement}
 use Rattle.stream.proofs.feed.Tie as tie
 
