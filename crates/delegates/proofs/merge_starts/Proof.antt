@@ -1,8 +1,10 @@
 -- `merge_starts` meets its contract. The loop's invariant is `Merging`. Assumes nothing.
-use mathlib.Core.Path.{_≡_, ap, _∙_}
+use mathlib.Core.Path.{_≡_, sym, ap, _∙_}
 use mathlib.Core.Logic.{⊎-elim}
 use mathlib.Core.Bool.{cond}
-use Prim.Native.Nat.{ℕ, _+_, _-_, _≤_, min}
+use Prim.Native.Nat.{ℕ, _+_, _-_, _≤_, _<_, min, zero-le}
+use native.Mathlib.Nat.{add-zero, lt-of-lt-of-le, min-le-right}
+use native.Mathlib.Numerals.{add-one}
 use native.Mathlib.Omega.{arith}
 use borrow.Author.Needs.{needs}
 use borrow.Author.Tests.{eq-eqb, ne-eqb}
@@ -37,7 +39,7 @@ loop-holds c =
     let a = c .before .before .before .before .args in
     let classes : Classes (a .sets .now) (a .next .now) (a .finals) (min (a .k) 16) (c .refine .result) =
     rw (c .before .at-most3 .ensures) at (c .refine .ensures) in
-    (omega arith, begun (a .sets .now) (a .next .now) (a .finals) (min (a .count) 512) (min (a .k) 16) (c .refine .result) (omega arith) classes)
+    (zero-le, begun (a .sets .now) (a .next .now) (a .finals) (min (a .count) 512) (min (a .k) 16) (c .refine .result) (min-le-right (a .count) 512) classes)
 
 cast-t21 : tie.Need-cast-t21 Inv-loop μ-loop
 cast-t21 c = search needs
@@ -96,14 +98,15 @@ loop-again c =
     let d = c .before .before .delegate in
     let number : x ≡ numberOf (a .sets .now) (min (a .count) 512) (l .q) =
     y .number-of .ensures ∙ ap (λ (z : ℕ). numberOf (a .sets .now) z (l .q)) (m .before .before .before .at-most .ensures) in
+    let below : l .q < min (a .n) 32 = rw (m .before .before .at-most2 .ensures) at (y .before .loop-test .taken) in
     let counted : c .if1 .starts ≡ l .starts + cond (eqb (d .result .0) (l .q)) 1 0 =
     ⊎-elim
     (λ w. w .1 ∙ rw (eq-eqb (d .result .0) (l .q) (w .0 .taken)))
-    (λ w. w .1 ∙ rw (ne-eqb (d .result .0) (l .q) (w .0 .left)) (omega arith))
+    (λ w. w .1 ∙ rw (ne-eqb (d .result .0) (l .q) (w .0 .left)) (sym (add-zero (l .starts))))
     (c .if1 .came) in (
-      omega arith,
+      rw add-one below,
       turned (a .sets .now) (a .next .now) (a .finals) (min (a .count) 512) (min (a .k) 16) (m .refine .result)
-          (l .own) (l .delegates) (l .starts) (l .q) (l .inv .1) (omega arith) x (d .result .0) number (d .ensures) (c .if1 .starts) counted,
+          (l .own) (l .delegates) (l .starts) (l .q) (l .inv .1) (lt-of-lt-of-le below (min-le-right (a .n) 32)) x (d .result .0) number (d .ensures) (c .if1 .starts) counted,
     )
 
 returns : tie.Need-returns Inv-loop μ-loop
@@ -113,8 +116,8 @@ returns c =
     let e : l .q ≡ min (c .before .before .before .before .before .before .args .n) 32 = omega arith in
     record {
       cells = m .cells;
-      delegates = λ q h. m .least q (omega arith);
-      zeros = λ q h. m .zeros q (omega arith);
+      delegates = λ q h. m .least q (rw e h);
+      zeros = λ q h. m .zeros q (rw e h);
       starts = rw (← e) (m .counted);
     }
 

@@ -1,6 +1,8 @@
 -- `same` meets its contract. The loop's invariant: the successors by each symbol passed are in one class. Assumes nothing.
 use mathlib.Core.Path.{_≡_, sym, ap, _∙_}
 use Prim.Native.Nat.{ℕ, _-_, _≤_, _<_}
+use native.Mathlib.Nat.{lt-of-lt-of-le}
+use native.Mathlib.Numerals.{add-one}
 use native.Mathlib.Omega.{arith}
 use borrow.Author.Count.{below-none, below-more}
 use borrow.Author.Needs.{needs}
@@ -21,12 +23,12 @@ abbrev μ-loop : tie.MeasureT-loop
 x-within : (c : tie.After-follow Inv-loop μ-loop) → c .follow .result .0 ≤ 512
 x-within c =
     let a = c .before .before .before .before .before .before .before .before .before .before .before .args in
-    omega (arith, c .follow .ensures, follow-within (a .next .now) (a .t .0) (c .before .before .loop .a))
+    rw (c .follow .ensures) (follow-within (a .next .now) (a .t .0) (c .before .before .loop .a))
 
 y-within : (c : tie.After-follow2 Inv-loop μ-loop) → c .follow2 .result .0 ≤ 512
 y-within c =
     let a = c .before .before .before .before .before .before .before .before .before .before .before .before .args in
-    omega (arith, c .follow2 .ensures, follow-within (a .next .now) (a .s .0) (c .before .before .before .loop .a))
+    rw (c .follow2 .ensures) (follow-within (a .next .now) (a .s .0) (c .before .before .before .loop .a))
 
 cast-i : tie.Need-cast-i Inv-loop μ-loop
 cast-i c = search needs
@@ -111,7 +113,7 @@ loop-again c =
     let y = c .before .before .before .before .before in
     let l = y .before .before .before .loop in
     let a = y .before .before .before .before .before .before .before .before .before .before .before .before .args in (
-      omega arith,
+      rw add-one (y .before .before .loop-test .taken),
       below-more _ _ (l .inv .1)
           (sym (ap (classOf (a .class .now)) (y .before .follow .ensures)) ∙ c .if3 .left ∙ ap (classOf (a .class .now)) (y .follow2 .ensures)),
     )
@@ -126,7 +128,7 @@ returns-4 c =
     (record {
       here = y .before .before .before .if1 .left;
       kind = sym (f .ensures) ∙ agree (f .result) (g .result) (y .if2 .left) ∙ g .ensures;
-      there = λ a h. l .inv .1 a (omega arith);
+      there = λ a h. l .inv .1 a (lt-of-lt-of-le h (c .loop-test .left));
     })
 
 pub same-spec : {M : Type 1} → statement M

@@ -48,7 +48,7 @@ returns-2 c =
     let a = s .args in
     let w = c .before .before .number in
     let one = c .before .before .before .singleton in
-    state-over (a .targets .now) (a .k) (a .sets .now) (a .next .now) (a .count) (a .q .0) (one .result) (s .pre .1) (s .pre .2) (one .ensures) (w .result) (w .last .0) (w .ensures) (a .next .now) (cc)
+    state-over (a .targets .now) (a .k) (a .sets .now) (a .next .now) (a .count) (a .q .0) (one .result) (s .pre .1) (s .pre .2) (one .ensures) (w .result) (w .last .0) (w .ensures) (a .next .now) (c .enum-told .given .1)
 
 pub add-state-spec : {M : Type 1} → statement M
 add-state-spec =

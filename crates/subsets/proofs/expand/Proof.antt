@@ -133,7 +133,7 @@ returns-2 c =
     ∙ sets-more (a .targets .now) (a .k) top (x .i) l₀ (omega arith) (omega arith)
     ∙ ap (closeFrom (a .targets .now) (a .k) (top - (x .i + 1)) (x .i + 1)) (e .inv .4) in
     let long : 512 < length f =
-    turn-over (a .targets .now) (a .k) l (x .i) (e .symbol) below (omega arith) (w .ensures) (cc) f
+    turn-over (a .targets .now) (a .k) l (x .i) (e .symbol) below (omega arith) (w .ensures) (c .enum-told .given .1) f
     (close-begins (a .targets .now) (a .k) (top - (x .i + 1)) (x .i + 1) (expanded (a .targets .now) (a .k) (x .i) (e .symbol) l)) in
     rw same (grown-over (a .targets .now) (a .k) f (w .last .1 .0) (w .last .1 .1 .0) long)
 

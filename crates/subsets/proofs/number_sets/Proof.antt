@@ -49,7 +49,7 @@ returns c =
     let a = c .before .before .before .before .before .before .before .before .before .before .before .args in
     let w = c .before .before .add-state in
     answered-over (a .targets .now) (a .k) (a .n) (w .last .1 .1 .0) (w .last .1 .1 .1 .0) (x .q) (omega arith)
-    (states-over (a .targets .now) (a .k) (x .q) (take (x .count) (x .sets)) (x .inv .3) (w .result) (w .last .1 .1 .0) (w .last .1 .1 .1 .0) (w .ensures) (cc))
+    (states-over (a .targets .now) (a .k) (x .q) (take (x .count) (x .sets)) (x .inv .3) (w .result) (w .last .1 .1 .0) (w .last .1 .1 .1 .0) (w .ensures) (c .enum-told .given .1))
 
 add-q : tie.Need-add-q Inv-loop μ-loop
 add-q c = omega arith

@@ -72,7 +72,7 @@ returns-3 c =
     let a = s .args in
     let is : y .successor .result ≡ successor (a .targets .now) (getD (a .sets .now) (a .i .0) 0) (a .symbol) = y .successor .ensures in
     let w = c .before .before .number in
-    stepped-over (a .targets .now) (a .sets .now) (a .next .now) (a .count) (a .i .0) (a .symbol) (y .successor .result) (s .pre .0) (s .pre .1) (s .pre .2) is (c .before .before .before .before .if1 .left) (w .result) (w .last .0) (w .ensures) (cc)
+    stepped-over (a .targets .now) (a .sets .now) (a .next .now) (a .count) (a .i .0) (a .symbol) (y .successor .result) (s .pre .0) (s .pre .1) (s .pre .2) is (c .before .before .before .before .if1 .left) (w .result) (w .last .0) (w .ensures) (c .enum-told .given .1)
 
 pub step-spec : {M : Type 1} → statement M
 step-spec =
