@@ -10,7 +10,7 @@ use Rattle.text.specs.Writing.{Wrote}
 use Rattle.automaton.specs.declared.Rule.{Rule}
 use Rattle.dottext.specs.Words.{closing}
 use Rattle.dottext.specs.DotText.{headLines, stateLine, initialLines, arcsText, graph, dotText}
-use Rattle.dottext.proofs.Rooms.{exact, two}
+use Rattle.text.proofs.Rooms.{exact, two}
 
 pub whole : (r : Rule) (n k : ℕ) {out m₁ m₂ m₃ m₄ after : List ℕ} {a b c d e : ℕ} → n ≡ min (r .n) 32 → k ≡ min (r .k) 16 → 427922 ≤ length out
     → Wrote out 0 headLines m₁ a × (a ≤ 0 + 48)

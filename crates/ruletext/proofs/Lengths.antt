@@ -1,8 +1,9 @@
 -- How long the parts of the text are at most. Assumes nothing.
 --
 --   byte-most, number-most  3
+--   index-most, mask-most   3 and 8
 --   field-most, cell-most   4
---   row-most                4 for each symbol
+--   row-most, cells-most    4 for each symbol, 64 for a row
 --   line-most               77
 --   fields-most, lines-most 4 for each state, 77 for each set
 --   refused-most            12
@@ -24,6 +25,12 @@ byte-most n h = decimal-most 2 n (omega arith)
 pub number-most : (n : ℕ) → n ≤ 512 → length (decimal n) ≤ 3
 number-most n h = decimal-most 2 n (omega arith)
 
+pub index-most : (i : ℕ) → i < 512 → length (decimal i) ≤ 3
+index-most i h = number-most i (omega arith)
+
+pub mask-most : (n : ℕ) → length (hex 8 n) ≤ 8
+mask-most n = omega (arith, hex-length 8 n)
+
 pub field-most : (n : ℕ) → n < 256 → length (field n) ≤ 4
 field-most n h = omega (arith, byte-most n h)
 
@@ -36,11 +43,17 @@ cell-most to =
 pub row-most : (next : List ℕ) (k i : ℕ) → length (rowText next k i) ≤ k * 4
 row-most next k i = joined-length (λ s. cellText (getD next (i * 16 + s) 0)) k 4 (λ s h. cell-most (getD next (i * 16 + s) 0))
 
+pub cells-most : (next : List ℕ) (k i : ℕ) → k ≤ 16 → length (rowText next k i) ≤ 64
+cells-most next k i h = omega (arith, row-most next k i)
+
+pub cells-room : (k : ℕ) → k ≤ 16 → 4 * k ≤ 64
+cells-room k h = omega arith
+
 pub line-most : (sets next : List ℕ) (k i : ℕ) → k ≤ 16 → i < 512 → length (setLine sets next k i) ≤ 77
 line-most sets next k i hk hi =
     let r = row-most next k i in
     let h = hex-length 8 (getD sets i 0) in
-    let d = number-most i (omega arith) in
+    let d = index-most i hi in
     omega (
       arith,
       length-append (decimal i) ((space ∷ []) ++ (hex 8 (getD sets i 0) ++ (rowText next k i ++ (lineFeed ∷ [])))),

@@ -1,5 +1,5 @@
 -- `put_arrow` meets its contract. Assumes nothing.
-use Rattle.dottext.proofs.Rooms.{exact, two}
+use Rattle.text.proofs.Rooms.{exact, two}
 use borrow.Author.Needs.{needs}
 use Rattle.dottext.proofs.put_arrow.Statement.{statement}
 use Rattle.dottext.proofs.put_arrow.Tie as tie

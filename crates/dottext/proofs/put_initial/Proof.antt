@@ -3,7 +3,7 @@ use native.Mathlib.Omega.{arith}
 use mathlib.Core.Path.{_≡_, sym, _∙_}
 use mathlib.Core.Bool.{true, false}
 use Rattle.masks.specs.Masks.{has}
-use Rattle.dottext.proofs.Rooms.{two, nothing}
+use Rattle.text.proofs.Rooms.{two, nothing}
 use borrow.Author.Needs.{needs}
 use Rattle.dottext.proofs.put_initial.Statement.{statement}
 use Rattle.dottext.proofs.put_initial.Tie as tie

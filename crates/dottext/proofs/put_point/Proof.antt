@@ -1,5 +1,5 @@
 -- `put_point` meets its contract. Assumes nothing.
-use Rattle.dottext.proofs.Rooms.{exact, two}
+use Rattle.text.proofs.Rooms.{exact, two}
 use borrow.Author.Needs.{needs}
 use Rattle.dottext.proofs.put_point.Statement.{statement}
 use Rattle.dottext.proofs.put_point.Tie as tie

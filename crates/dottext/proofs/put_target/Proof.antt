@@ -3,7 +3,7 @@ use native.Mathlib.Omega.{arith}
 use mathlib.Core.Path.{_≡_, sym, _∙_}
 use mathlib.Core.Bool.{true, false}
 use Rattle.masks.specs.Masks.{has}
-use Rattle.dottext.proofs.Rooms.{nothing}
+use Rattle.text.proofs.Rooms.{nothing}
 use borrow.Author.Needs.{needs}
 use Rattle.dottext.proofs.put_target.Statement.{statement}
 use Rattle.dottext.proofs.put_target.Tie as tie

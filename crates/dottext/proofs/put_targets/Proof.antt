@@ -5,7 +5,7 @@ use mathlib.Core.Path.{_≡_}
 use lib.ListN.{length}
 use Rattle.text.specs.Numerals.{joined}
 use Rattle.text.proofs.Fitting.{Put, none-put, one-more}
-use Rattle.dottext.proofs.Rooms.{placed}
+use Rattle.text.proofs.Rooms.{placed}
 use Rattle.dottext.specs.DotText.{arcLines}
 use Rattle.dottext.proofs.put_targets.Statement.{statement}
 use Rattle.dottext.proofs.put_targets.Tie as tie

@@ -1,6 +1,8 @@
 -- `print_text` stays within its buffer. Assumes nothing.
 use mathlib.Core.Path.{sym}
 use native.Mathlib.Omega.{arith}
+use Prim.Native.Nat.{ℕ}
+use lib.ListN.{length-replicate}
 use lib.Seq.{length-take-le}
 use Rattle.ruletext.proofs.Copying.{within}
 use borrow.Author.Needs.{needs}
@@ -8,7 +10,7 @@ use Rattle.ruleprint_cases.proofs.print_text.Statement.{statement}
 use Rattle.ruleprint_cases.proofs.print_text.Tie as tie
 
 slice-aggregate-print-rule : tie.Need-slice-aggregate-print-rule
-slice-aggregate-print-rule c = search needs
+slice-aggregate-print-rule c = sym (length-replicate {A = ℕ} 40960 0)
 
 print-rule-requires : tie.Need-print-rule-requires
 print-rule-requires c κs = search needs
