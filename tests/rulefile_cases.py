@@ -2,7 +2,7 @@
 """Writes the cases of the program rulefile_cases: crates/rulefile_cases/stdin and stdout. With --check it
 writes nothing and says whether they are what it would write.
 
-A case is a line `NAME HEX`. The expected answer is computed here, from the words of document 01 and
+A case is a line `NAME HEX`, with `-` for no bytes. The expected answer is computed here, from the words of document 01 and
 sharing nothing with the Rattle code: `NAME refused NUMBER`, or `NAME accepted N K INITIALS FINALS`
 and, for each state and symbol with a target, ` STATE.SYMBOL=MASK` (masks in hex).
 """
@@ -159,9 +159,9 @@ CASES = [
 
 
 def main():
-    cases = "".join(f"{name} {f.hex()}\n" for name, f in CASES)
+    cases = "".join(f"{name} {f.hex() or '-'}\n" for name, f in CASES) + "half_a_byte 0\n"
     answers = [(name, answer(f)) for name, f in CASES]
-    expected = "".join(f"{name} {a if isinstance(a, str) else f'refused {a}'}\n" for name, a in answers)
+    expected = "".join(f"{name} {a if isinstance(a, str) else f'refused {a}'}\n" for name, a in answers) + "half_a_byte malformed\n"
     for name, text in (("stdin", cases), ("stdout", expected)):
         path = os.path.join(CRATE, name)
         if sys.argv[1:] == ["--check"]:

@@ -190,13 +190,15 @@ CASES = [
 def main():
     cases, expected = "", ""
     for name, f, first, starts in CASES:
-        cases += f"{name} {f.hex()}\n"
+        cases += f"{name} {f.hex() or '-'}\n"
         answer = text(f)
         words = answer.split()
         for word, due in ((words[1], first), (words[3] if words[0] == "sets" else None, starts)):
             if due is not None and word != str(due):
                 sys.exit(f"{name} has {word} where {due} is due")
         expected += f"{name}\n{answer}"
+    cases += "half_a_byte 0\n"
+    expected += "half_a_byte\nmalformed\n"
     for name, content in (("stdin", cases), ("stdout", expected)):
         path = os.path.join(CRATE, name)
         if sys.argv[1:] == ["--check"]:

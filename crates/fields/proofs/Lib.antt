@@ -3,3 +3,4 @@ pub mod Digits
 pub mod Pairs
 pub mod Again
 pub mod Examples
+pub mod Taking

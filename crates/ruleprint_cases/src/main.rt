@@ -1,4 +1,5 @@
-// Reads rule files from standard input, a line `NAME HEX` each, and prints each name and what ruleprint prints for the file.
+// Reads rule files from standard input, a line `NAME HEX` each with `-` for no bytes, and prints each name and what ruleprint prints for the file.
+use fields::Bytes;
 use libc::STDIN_FILENO;
 use libc::STDOUT_FILENO;
 use ruletext::Printed;
@@ -16,22 +17,29 @@ fn print_text(file: &[u8]) {
 
 // One case.
 fn run_case(line: &[u8]) {
-    let space = cases::find(line, 0, b' ');
+    let space = lines::find(line, 0, b' ');
     if line.len() <= space {
         return;
     }
     let hex = space + 1;
-    let mut file = [0u8; 33000];
-    let n = cases::decode(&line[hex..], &mut file);
     io::write_all(STDOUT_FILENO, &line[..space]);
     io::write_all(STDOUT_FILENO, b"\n");
-    print_text(&file[..n]);
+    let mut file = [0u8; 33000];
+    let bytes = fields::read_bytes(&line[hex..], &mut file);
+    match bytes {
+        Bytes::Malformed => {
+            io::write_all(STDOUT_FILENO, b"malformed\n");
+        }
+        Bytes::Put(n) => {
+            print_text(&file[..n]);
+        }
+    }
 }
 
 fn run_cases(text: &[u8]) {
     let mut at: usize = 0;
     while at < text.len() {
-        let end = cases::find(text, at, b'\n');
+        let end = lines::find(text, at, b'\n');
         run_case(&text[at..end]);
         at = end + 1;
     }

@@ -1,6 +1,6 @@
 // The sets of states that get a number, in the order of their numbers, and the next-set table.
 ghost use mathlib.Core.Path.{_≡_};
-ghost use Prim.Native.Nat.{_*_, _≤_, _<_, min};
+ghost use Prim.Native.Nat.{_*_, _≤_, _<_};
 ghost use lib.ListN.{take};
 ghost use Rattle.subsets.specs.Answer.{Answered};
 ghost use Rattle.subsets.specs.Steps.{foundIn, cellsOf, Entered, Stepped, Holds, Grown, grownBy, closedFrom, Cleared};
@@ -162,7 +162,7 @@ pub fn number_sets(
 {
     clear(sets, next);
     let mut count: usize = 0;
-    for q in 0..states(n) {
+    for q in 0..masks::at_most(n, 32) {
         match add_state(targets, k, sets, next, count, StateNumber(q)) {
             Numbering::Whole(after) => {
                 count = after;
@@ -173,11 +173,4 @@ pub fn number_sets(
         }
     }
     Numbering::Whole(count)
-}
-
-// The number of states, or 32 where n is more.
-fn states(n: u8) -> u8
-    ensures { λ r. ⌜ r ≡ min n 32 ⌝ }
-{
-    if n < 32 { n } else { 32 }
 }

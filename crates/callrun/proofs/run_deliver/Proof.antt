@@ -1,6 +1,7 @@
 -- `run_deliver` meets its contract. Assumes nothing.
 use borrow.Author.Needs.{needs}
-use Rattle.callrun.proofs.Carried.{put-within, put-prefix, deliver-malformed, deliver-put}
+use Rattle.fields.proofs.Taking.{put-within, put-prefix}
+use Rattle.callrun.proofs.Carried.{deliver-malformed, deliver-put}
 use Rattle.callrun.proofs.run_deliver.Statement.{statement}
 use Rattle.callrun.proofs.run_deliver.Tie as tie
 

@@ -1,6 +1,7 @@
 -- `run_load` meets its contract. Assumes nothing.
 use borrow.Author.Needs.{needs}
-use Rattle.callrun.proofs.Carried.{put-within, put-prefix, load-malformed, load-put}
+use Rattle.fields.proofs.Taking.{put-within, put-prefix}
+use Rattle.callrun.proofs.Carried.{load-malformed, load-put}
 use Rattle.callrun.proofs.run_load.Statement.{statement}
 use Rattle.callrun.proofs.run_load.Tie as tie
 

@@ -1,9 +1,11 @@
 -- `run_case` stays within its line and its buffer. Assumes nothing.
+use mathlib.Core.Path.{sym}
 use Prim.Native.Nat.{ℕ}
+use native.Mathlib.Omega.{arith}
 use lib.ListN.{length-replicate}
 use lib.Seq.{length-take-le}
-use mathlib.Core.Path.{sym}
 use borrow.Author.Needs.{needs}
+use Rattle.fields.proofs.Taking.{put-within, put-prefix}
 use Rattle.rulefile_cases.proofs.run_case.Statement.{statement}
 use Rattle.rulefile_cases.proofs.run_case.Tie as tie
 
@@ -16,26 +18,31 @@ returns c = search needs
 add-hex : tie.Need-add-hex
 add-hex c = search needs
 
-sub-decode : tie.Need-sub-decode
-sub-decode c = search needs
-
-part-decode-start : tie.Need-part-decode-start
-part-decode-start c = search needs
-
-part-decode-end : tie.Need-part-decode-end
-part-decode-end c = search needs
-
-slice-aggregate-decode : tie.Need-slice-aggregate-decode
-slice-aggregate-decode c = sym (length-replicate {A = ℕ} 33000 0)
-
-decode-requires : tie.Need-decode-requires
-decode-requires c κs = search needs
-
 slice-aggregate-write-all : tie.Need-slice-aggregate-write-all
-slice-aggregate-write-all c = let r = c .before .before .before .before .before .before .find in sym (length-take-le (r .result) (c .before .before .before .before .before .before .before .before .args .line .now) (r .ensures .1))
+slice-aggregate-write-all c =
+    let r = c .before .before .find in
+    sym (length-take-le (r .result) (c .before .before .before .before .args .line .now) (omega arith))
 
 write-all-requires : tie.Need-write-all-requires
 write-all-requires c κs = search needs
+
+sub-read-bytes : tie.Need-sub-read-bytes
+sub-read-bytes c = search needs
+
+part-read-bytes-start : tie.Need-part-read-bytes-start
+part-read-bytes-start c = search needs
+
+part-read-bytes-end : tie.Need-part-read-bytes-end
+part-read-bytes-end c = search needs
+
+slice-aggregate-read-bytes : tie.Need-slice-aggregate-read-bytes
+slice-aggregate-read-bytes c = sym (length-replicate {A = ℕ} 33000 0)
+
+read-bytes-requires : tie.Need-read-bytes-requires
+read-bytes-requires c κs = search needs
+
+enum-told : tie.Need-enum-told
+enum-told c = search needs
 
 slice-aggregate-write-all-2 : tie.Need-slice-aggregate-write-all-2
 slice-aggregate-write-all-2 c = search needs
@@ -43,14 +50,8 @@ slice-aggregate-write-all-2 c = search needs
 write-all-requires-2 : tie.Need-write-all-requires-2
 write-all-requires-2 c κs = search needs
 
-array-share-prefix-file : tie.Need-array-share-prefix-file
-array-share-prefix-file c = search needs
-
-slice-aggregate-print-answer : tie.Need-slice-aggregate-print-answer
-slice-aggregate-print-answer c = search needs
-
-print-answer-requires : tie.Need-print-answer-requires
-print-answer-requires c κs = search needs
+enum-known-bytes : tie.Need-enum-known-bytes
+enum-known-bytes c = search needs
 
 slice-aggregate-write-all-3 : tie.Need-slice-aggregate-write-all-3
 slice-aggregate-write-all-3 c = search needs
@@ -58,8 +59,26 @@ slice-aggregate-write-all-3 c = search needs
 write-all-requires-3 : tie.Need-write-all-requires-3
 write-all-requires-3 c κs = search needs
 
+array-share-prefix-file : tie.Need-array-share-prefix-file
+array-share-prefix-file c = search (needs, put-within)
+
+slice-aggregate-print-answer : tie.Need-slice-aggregate-print-answer
+slice-aggregate-print-answer c = search (needs, put-prefix)
+
+print-answer-requires : tie.Need-print-answer-requires
+print-answer-requires c κs = search needs
+
+slice-aggregate-write-all-4 : tie.Need-slice-aggregate-write-all-4
+slice-aggregate-write-all-4 c = search needs
+
+write-all-requires-4 : tie.Need-write-all-requires-4
+write-all-requires-4 c κs = search needs
+
 returns-2 : tie.Need-returns-2
 returns-2 c = search needs
+
+returns-3 : tie.Need-returns-3
+returns-3 c = search needs
 
 pub run-case-spec : {M : Type 1} → statement M
 run-case-spec =
@@ -68,18 +87,23 @@ run-case-spec =
     find-requires
     returns
     add-hex
-    sub-decode
-    part-decode-start
-    part-decode-end
-    slice-aggregate-decode
-    decode-requires
     slice-aggregate-write-all
     write-all-requires
+    sub-read-bytes
+    part-read-bytes-start
+    part-read-bytes-end
+    slice-aggregate-read-bytes
+    read-bytes-requires
+    enum-told
     slice-aggregate-write-all-2
     write-all-requires-2
+    enum-known-bytes
+    slice-aggregate-write-all-3
+    write-all-requires-3
     array-share-prefix-file
     slice-aggregate-print-answer
     print-answer-requires
-    slice-aggregate-write-all-3
-    write-all-requires-3
-    returns-2)
+    slice-aggregate-write-all-4
+    write-all-requires-4
+    returns-2
+    returns-3)

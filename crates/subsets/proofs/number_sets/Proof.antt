@@ -22,15 +22,15 @@ abbrev μ-loop : tie.MeasureT-loop
 clear-requires : tie.Need-clear-requires Inv-loop μ-loop
 clear-requires c κs = search needs
 
-states-requires : tie.Need-states-requires Inv-loop μ-loop
-states-requires c κs = search needs
+at-most-requires : tie.Need-at-most-requires Inv-loop μ-loop
+at-most-requires c κs = search needs
 
 loop-holds : tie.Need-loop-holds Inv-loop μ-loop
 unfolding setsUpTo
 loop-holds c =
     let a = c .before .before .before .before .args in
     let w = c .before .clear in
-    (c .states .ensures, omega arith, omega arith, refl, begin (a .targets .now) (a .k) (w .last .0) (w .last .1 .0) (w .ensures))
+    (c .at-most .ensures, omega arith, omega arith, refl, begin (a .targets .now) (a .k) (w .last .0) (w .last .1 .0) (w .ensures))
 
 add-state-requires : tie.Need-add-state-requires Inv-loop μ-loop
 add-state-requires c κs =
@@ -82,7 +82,7 @@ number-sets-spec =
     Inv-loop
     μ-loop
     clear-requires
-    states-requires
+    at-most-requires
     loop-holds
     add-state-requires
     enum-known-after
