@@ -16,7 +16,7 @@ use Rattle.judge.specs.declared.Judge.{Judge}
 use Rattle.judge.specs.declared.Loading.{Loading}
 use Rattle.judge.specs.declared.Delivery.{Delivery}
 use Rattle.judge.specs.Replies.{loadSays, deliverSays}
-use Rattle.judge.specs.Calls.{Loads, loadCame, deliverOf, deliverCame}
+use Rattle.judge.specs.Steps.{Loads, loadCame, deliverOf, deliverCame}
 use Rattle.calltext.specs.Meaning.{malformed, loadBy, deliverBy}
 use Rattle.calltext.specs.Answers.{Response, unread, replied}
 use Rattle.callrun.specs.Running.{LineSteps}

@@ -17,7 +17,8 @@ use Rattle.masks.proofs.Cases.{by-test}
 use Rattle.rulefile.specs.Refusals.{tooShort, tooLong}
 use Rattle.board.specs.Boards.{placesOf}
 use Rattle.judge.specs.declared.Judge.{Judge}
-use Rattle.judge.specs.Calls.{loadNumber, Outcome, Loads, outcomeBy, lacksBoard, deliverOf}
+use Rattle.judge.specs.Calls.{loadNumber}
+use Rattle.judge.specs.Steps.{Outcome, Loads, outcomeBy, lacksBoard, deliverOf}
 use Rattle.judge.proofs.Conditions.{none-some}
 
 pub long-load : (f : List ℕ) → 32906 < length f → loadNumber f ≡ some 2

@@ -4,7 +4,7 @@
 use mathlib.Core.Path.{_≡_}
 use Rattle.judge.specs.declared.Judge.{Judge}
 use Rattle.judge.specs.Replies.{Reply}
-use Rattle.judge.specs.Calls.{fresh, Steps}
+use Rattle.judge.specs.Steps.{fresh, Steps}
 use Rattle.calltext.specs.Meaning.{Meaning, again, call, malformed}
 use Rattle.calltext.specs.Answers.{Response, began, replied, unread}
 

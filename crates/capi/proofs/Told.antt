@@ -18,7 +18,7 @@ use Rattle.judge.specs.declared.Opening.{Opening}
 use Rattle.judge.specs.declared.Delivery.{Delivery}
 use Rattle.judge.specs.declared.Withdrawal.{Withdrawal}
 use Rattle.judge.specs.Replies.{Reply, accepted, refused, loaded, waiting, keeps, breaks, loadSays, openSays, deliverSays, withdrawSays, verdictSays}
-use Rattle.judge.specs.Calls.{Outcome, loadCame, openCame, deliverCame, withdrawCame, Loads}
+use Rattle.judge.specs.Steps.{Outcome, loadCame, openCame, deliverCame, withdrawCame, Loads}
 use Rattle.replay.specs.declared.ReplayAnswer.{ReplayAnswer}
 use Rattle.replay.specs.declared.ReplayAnswer.the-variants as replay
 use Rattle.replay.specs.Records.{Recorded, Told, toldOf, Replayed}

@@ -4,13 +4,13 @@
 --   LoadsShown j f r             r is what a load of the file f may come to on the judge j
 --   verdictShown a               a verdict: kind 0 refused, 1 waiting, 2 yes, 3 no, each with its number
 --   replayShown t                the same for a recorded list; kind 4: the line of that number is malformed. ReplayShown s r: of a record that says s
--- No other reply is given to these calls; the last line of each stands for them.
+-- No other reply is given to these calls; the lines for others are there so that every case has a value.
 use mathlib.Core.Path.{_≡_}
 use mathlib.Core.List.{List}
 use Prim.Native.Nat.{ℕ}
 use Rattle.judge.specs.declared.Judge.{Judge}
 use Rattle.judge.specs.Replies.{Reply, accepted, loaded, waiting, keeps, breaks, refused}
-use Rattle.judge.specs.Calls.{Outcome, Loads}
+use Rattle.judge.specs.Steps.{Outcome, Loads}
 use Rattle.replay.specs.Records.{Recorded, Told, verdict, malformedLine, Replayed}
 use Rattle.capi.specs.declared.LoadResult.{LoadResult}
 use Rattle.capi.specs.declared.OpenResult.{OpenResult}

@@ -1,6 +1,6 @@
 // The judge for C and Rust. Answers are numbers; the state is a value that the caller keeps, hands in and gets back.
 ghost use mathlib.Core.Path.{_≡_};
-ghost use Rattle.judge.specs.Calls.{fresh, openOf, deliverOf, withdrawOf, verdictOf};
+ghost use Rattle.judge.specs.Steps.{fresh, openOf, deliverOf, withdrawOf, verdictOf};
 ghost use Rattle.replay.specs.Records.{recordIn};
 ghost use Rattle.capi.specs.Numbers.{LoadsShown, openShown, deliverShown, withdrawShown, verdictShown, ReplayShown};
 use judge::DeliverAnswer;

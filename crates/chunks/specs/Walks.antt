@@ -5,7 +5,7 @@
 --   walkEnd, walkCount    the number of the set after the bytes w, and how many of the steps led to a set that is not empty
 --   maskOf sets i         the mask of set i
 --   runsOf ..             the end set of each state that is run, as an array, and the sum of the counts
---   delegateMask, runMask   delegateSet and runSet for at most 32 states; a delegate of 32 or more is taken for what is left of it
+--   delegateMask, runMask   delegateSet and runSet for at most 32 states; of a delegate the remainder by 32 is taken
 use mathlib.Core.Bool.{cond}
 use mathlib.Core.List.{List, [], _∷_}
 use Prim.Native.Nat.{ℕ, zero, suc, _+_, _%_, min}

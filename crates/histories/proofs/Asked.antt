@@ -20,7 +20,8 @@ use Rattle.board.proofs.Laws.{empty-law}
 use Rattle.judge.specs.declared.Judge.{Judge}
 use Rattle.judge.specs.Replies.{Reply, waiting, keeps, breaks, refused}
 use Rattle.histories.specs.History.{isNone, fileOf, ruleFrom, placesIn, endOf, standing, emptiesIn, summedIn, yesIn, verdictIn}
-use Rattle.judge.specs.Calls.{Call, lacksBoard, isYes, verdictOf}
+use Rattle.judge.specs.Calls.{Call}
+use Rattle.judge.specs.Steps.{lacksBoard, isYes, verdictOf}
 use Rattle.histories.proofs.Running.{n-same}
 use Rattle.histories.proofs.Holding.{Holds}
 use Rattle.histories.proofs.Numbers.{no-board, places-same, summed-same}

@@ -12,7 +12,8 @@ use Rattle.build.specs.Building.{BuiltRule}
 use Rattle.judge.specs.declared.Judge.{Judge}
 use Rattle.judge.specs.Replies.{Reply}
 use Rattle.histories.specs.History.{fileOf, placesIn, standing, verdictIn}
-use Rattle.judge.specs.Calls.{Call, loads, opens, delivers, withdraws, asks, loadNumber, Outcome, verdictOf, Steps}
+use Rattle.judge.specs.Calls.{Call, loads, opens, delivers, withdraws, asks, loadNumber}
+use Rattle.judge.specs.Steps.{Outcome, verdictOf, Steps}
 use Rattle.histories.specs.Claims.{Ran, begins, next, BuiltBy, DelegatesBy, DelegatesIn, Right, AllRight, EveryList}
 use Rattle.judge.proofs.Conditions.{not-refused}
 use Rattle.histories.proofs.Bytes.{of-rule}

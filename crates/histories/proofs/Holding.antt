@@ -21,7 +21,7 @@ use Rattle.board.specs.Boards.{placesOf, held, isEmpty, emptyBoard, filledAt, c
 use Rattle.board.proofs.Laws.{Sized, sized-empty, empty-all, empty-held, empty-count, Changed, filled-at, cleared-at}
 use Rattle.judge.specs.declared.Judge.{Judge}
 use Rattle.histories.specs.History.{isNone, ruleFrom, countOf, endOf}
-use Rattle.judge.specs.Calls.{fresh, withBoard, runsAt}
+use Rattle.judge.specs.Steps.{fresh, withBoard, runsAt}
 use Rattle.histories.specs.Claims.{BuiltBy}
 use Rattle.histories.proofs.Running.{count-same, end-same}
 

@@ -31,7 +31,8 @@ use Rattle.judge.specs.declared.Withdrawal.{Withdrawal}
 use Rattle.judge.specs.declared.WithdrawAnswer.the-variants as withdrawal
 use Rattle.judge.specs.declared.Verdict.{Verdict}
 use Rattle.judge.specs.declared.Verdict.the-variants as verdict
-use Rattle.judge.specs.Calls.{Call, loads, opens, delivers, withdraws, asks, loadNumber, openConditions, deliverConditions, withdrawConditions, fresh, lacksRule, lacksBoard, withBoard, loadCame, openCame, deliverCame, withdrawCame, outcomeBy, Loads, openOf, runsAt, deliverOf, withdrawOf, isYes, verdictOf}
+use Rattle.judge.specs.Calls.{Call, loads, opens, delivers, withdraws, asks, loadNumber, openConditions, deliverConditions, withdrawConditions}
+use Rattle.judge.specs.Steps.{fresh, lacksRule, lacksBoard, withBoard, loadCame, openCame, deliverCame, withdrawCame, outcomeBy, Loads, openOf, runsAt, deliverOf, withdrawOf, isYes, verdictOf}
 use Rattle.judge.proofs.Conditions.{none-some}
 use Rattle.judge.specs.Replies.{Reply, loadSays, openSays, deliverSays, withdrawSays, verdictSays}
 use Rattle.judge.specs.Replies as reply

@@ -11,6 +11,7 @@ pub mod Tied
 pub mod Inhabited
 pub mod Taken
 pub mod Never
+pub mod Once
 pub mod TwoRules
 pub mod TableP
 pub mod TablePRuns

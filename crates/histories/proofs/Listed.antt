@@ -25,7 +25,8 @@ use Rattle.judge.specs.declared.Judge.{Judge}
 use Rattle.judge.specs.Replies.{accepted, loaded}
 use Rattle.judge.proofs.Conditions.{not-refused}
 use Rattle.histories.specs.History.{isNone, fileOf, ruleFrom, openNumber, placesIn, deliverCheck, standing, deliverNumber, withdrawNumber, replyBy}
-use Rattle.judge.specs.Calls.{Call, loads, opens, delivers, withdraws, asks, loadNumber, fresh, withBoard, Outcome, outcomeBy, runsAt, Loads, openOf, deliverOf, withdrawOf}
+use Rattle.judge.specs.Calls.{Call, loads, opens, delivers, withdraws, asks, loadNumber}
+use Rattle.judge.specs.Steps.{fresh, withBoard, Outcome, outcomeBy, runsAt, Loads, openOf, deliverOf, withdrawOf}
 use Rattle.histories.specs.Claims.{BuiltBy}
 use Rattle.histories.proofs.Holding.{Holds, all-empty, fresh-holds, placed, cleared-holds, filled-holds}
 use Rattle.histories.proofs.Numbers.{list-11, list-12, list-13, list-22, passed, open-number, withdraw-number, deliver-number}

@@ -2,7 +2,7 @@
 -- and a board has at most 64 places. So which chunk stands where does not depend on the delegates (`Standing-fixed`). Assumes nothing.
 use mathlib.Core.Path.{_≡_, refl, sym, ap, ap₂, _∙_, subst, fun-ext}
 use mathlib.Core.Bool.{Bool, true, false, cond, _&&_, _||_}
-use mathlib.Core.List.{List, [], _∷_}
+use mathlib.Core.List.{List, [], _∷_, _++_}
 use mathlib.Core.Option.{Option, none, some}
 use Prim.Native.Nat.{ℕ, _+_, _*_, _≤_}
 use native.Mathlib.Omega.{arith}
@@ -13,7 +13,7 @@ use Rattle.masks.specs.Masks.{single, has}
 use Rattle.masks.proofs.Cases.{by-test}
 use Rattle.automaton.specs.declared.Rule.{Rule}
 use Rattle.rulefile.specs.Conditions.{Condition, on, firstOf}
-use Rattle.rulefile.specs.Refusals.{tooShort, tooLong, badStates, badSymbols, noRoom, badMask, badPairs, badArcs}
+use Rattle.rulefile.specs.Refusals.{fileConditions}
 use Rattle.rulefile.specs.Reader.{ruleOf}
 use Rattle.rulefile.proofs.Conditions.{or-left, or-right, none-law}
 use Rattle.subsets.specs.Sets.{setsOf}
@@ -162,16 +162,7 @@ not-loaded sets m e = let z : _≡_ {A = ℕ} 0 1 = cc in omega arith
 pub never-24 : Never-24
 unfolding loadNumber named
 never-24 d m h (loads f) e =
-    not-named 24 (
-    on 1 (tooShort f) ∷
-    on 2 (tooLong f) ∷
-    on 3 (badStates f) ∷
-    on 4 (badSymbols f) ∷
-    on 5 (noRoom f) ∷
-    on 6 (badMask f) ∷
-    on 7 (badPairs f) ∷
-    on 8 (badArcs f) ∷
-    on 9 (over f) ∷ [])
+    not-named 24 (fileConditions f ++ (on 9 (over f) ∷ []))
     refl
     (replied (loadNumber f) (loaded (length (setsOf (ruleOf f .targets) (ruleOf f .n) (ruleOf f .k))) m) (not-loaded _ _) e)
 never-24 d m h (opens n) e = not-named 24 (openConditions (isNone (fileOf h)) n) refl (replied (openNumber h n) accepted not-accepted e)

@@ -20,7 +20,8 @@ use Rattle.board.specs.Boards.{placesOf, isEmpty, summedCount}
 use Rattle.board.proofs.Laws.{summed-law}
 use Rattle.judge.specs.declared.Judge.{Judge}
 use Rattle.histories.specs.History.{isNone, isSome, ruleFrom, countOf, deliverCheck, withdrawCheck}
-use Rattle.judge.specs.Calls.{openConditions, withdrawConditions, lacksRule, lacksBoard, runsAt}
+use Rattle.judge.specs.Calls.{openConditions, withdrawConditions}
+use Rattle.judge.specs.Steps.{lacksRule, lacksBoard, runsAt}
 use Rattle.histories.specs.Claims.{BuiltBy}
 use Rattle.histories.proofs.Running.{n-same, k-same}
 use Rattle.histories.proofs.Holding.{Holds, run-count}

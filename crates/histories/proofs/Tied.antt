@@ -15,7 +15,8 @@ use Rattle.judge.specs.declared.Delivery.{Delivery}
 use Rattle.judge.specs.declared.Withdrawal.{Withdrawal}
 use Rattle.judge.specs.declared.Verdict.{Verdict}
 use Rattle.judge.specs.Replies.{Reply, loadSays, openSays, deliverSays, withdrawSays, verdictSays}
-use Rattle.judge.specs.Calls.{Call, loads, opens, delivers, withdraws, asks, loadCame, openCame, deliverCame, withdrawCame, Loads, deliverOf}
+use Rattle.judge.specs.Calls.{Call, loads, opens, delivers, withdraws, asks}
+use Rattle.judge.specs.Steps.{loadCame, openCame, deliverCame, withdrawCame, Loads, deliverOf}
 use Rattle.histories.specs.Claims.{Ran, begins, next, EveryList}
 use Rattle.histories.proofs.Every.{every-list}
 use Rattle.judge.proofs.new_judge.Reads as new-reads

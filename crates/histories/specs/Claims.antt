@@ -13,6 +13,7 @@
 --   Right, AllRight     the replies are document 01's
 --   Accepted-exactly    when an opening, a delivery and a withdrawal are accepted; proofs/Taken.antt
 --   EveryList           demand 3, one claim over a whole list
+--   Ran-fixed           a list of calls fixes its replies and the state; proofs/Once.antt
 --   Never-24, Standing-fixed   no list comes to 24, so which chunk stands where is fixed by the list alone; proofs/Never.antt
 use mathlib.Core.Path.{_≡_}
 use mathlib.Core.Logic.{_↔_}
@@ -33,7 +34,8 @@ use Rattle.board.specs.Boards.{held, isEmpty, summedCount}
 use Rattle.judge.specs.declared.Judge.{Judge}
 use Rattle.judge.specs.Replies.{Reply, accepted, waiting, keeps, breaks, refused}
 use Rattle.histories.specs.History.{isNone, fileOf, ruleIn, boardIn, placesIn, countOf, standing, endAt, countAt, emptiesIn, summedIn, yesIn, textIn, verdictIn, answerOf}
-use Rattle.judge.specs.Calls.{Call, loads, opens, delivers, withdraws, asks, loadNumber, fresh, Outcome, isYes, verdictOf, Steps}
+use Rattle.judge.specs.Calls.{Call, loads, opens, delivers, withdraws, asks, loadNumber}
+use Rattle.judge.specs.Steps.{fresh, Outcome, isYes, verdictOf, Steps}
 
 -- a list of calls was answered with the replies and left the judge j, the last first; each step is what that call may come to
 pub data Ran : List Call → List Reply → Judge → Type 0 where
@@ -124,6 +126,10 @@ pub record EveryList (h : List Call) (replies : List Reply) (j : Judge) : Type 0
   pub all-right : AllRight h replies
   pub after : After h j
   pub verdict : Verdict-words h (j .built .delegates) (j .built .starts)
+
+-- a list of calls fixes its replies and the state that is left
+abbrev pub Ran-fixed : Type 0
+Ran-fixed = (h : List Call) (given given′ : List Reply) (j j′ : Judge) → Ran h given j → Ran h given′ j′ → (given ≡ given′) × (j ≡ j′)
 
 -- no list of calls comes to 24: 64 places, 65,536 bytes a chunk and 32 starts make 2^27 transitions at most
 abbrev pub Never-24 : Type 0

@@ -1,7 +1,7 @@
 -- Lists of calls, and what such a list says by itself (document 01, "The board and its calls"). A history has the LAST call first. Nothing here
 -- looks at a state. `d` lists the delegates of the rule that is there.
 --
--- `d` is fixed by the list (`one-list` of crates/delegates). `standing` takes it for condition 24 alone, which no list meets, so it does not depend
+-- Where a rule is there `d` is fixed by the list (`one-list` of crates/delegates). `standing` takes it for condition 24 alone, which no list meets, so it does not depend
 -- on `d` (`Never-24`, `Standing-fixed` of specs/Claims.antt).
 --
 --   fileOf h, ruleIn h       the file of the last accepted load, and its rule
@@ -34,7 +34,7 @@ use Rattle.joins.specs.Joining.{saysYes}
 use Rattle.judge.specs.Replies.{Reply, accepted, loaded, waiting, keeps, breaks, refused}
 use Rattle.judge.specs.Calls.{Call, loads, opens, delivers, withdraws, asks, loadNumber, openConditions, deliverConditions, withdrawConditions}
 
--- whether there is a value
+-- there is no value, and there is one
 abbrev pub isNone : {A : Type 0} → Option A → Bool
 isNone none = true
 isNone (some x) = false

@@ -9,7 +9,7 @@ use Prim.Native.Nat.{ℕ, zero, suc, _+_, _*_, _%_, min}
 use lib.ListN.{getD}
 use Rattle.masks.specs.Masks.{union, shares}
 
--- a rule has at most 32 states, and a delegate is one of them; a number above is taken for what is left of it
+-- a rule has at most 32 states, and a delegate is one of them: n above 32 counts as 32, and of a delegate the remainder by 32 is taken
 unfoldable pub joinUpTo : List ℕ → List ℕ → ℕ → ℕ → ℕ → ℕ
 joinUpTo ends d n m zero = m
 joinUpTo ends d n m (suc p) = union (λ q. getD ends (p * 32 + getD d q 0 % 32) 0) (joinUpTo ends d n m p) (min n 32)

@@ -6,7 +6,7 @@ use mathlib.Core.Option.{Option, none, some}
 use Prim.Native.Nat.{ℕ}
 use native.Mathlib.Omega.{arith}
 use Rattle.rulefile.specs.Conditions.{Condition, on, firstOf}
-use Rattle.rulefile.specs.Refusals.{tooShort, tooLong, badStates, badSymbols, noRoom, badMask, badPairs, badArcs, refusal}
+use Rattle.rulefile.specs.Refusals.{fileConditions, refusal}
 use Rattle.rulefile.specs.Reader.{ruleOf}
 use Rattle.subsets.specs.Sets.{tooMany}
 use Rattle.judge.specs.Calls.{loadNumber}
@@ -35,18 +35,7 @@ over f = tooMany (ruleOf f .targets) (ruleOf f .n) (ruleOf f .k)
 
 pub load-number : (f : List ℕ) → loadNumber f ≡ orElse (refusal f) (cond (over f) (some 9) none)
 unfolding loadNumber refusal
-load-number f =
-    sym
-    (first-append (
-    on 1 (tooShort f) ∷
-    on 2 (tooLong f) ∷
-    on 3 (badStates f) ∷
-    on 4 (badSymbols f) ∷
-    on 5 (noRoom f) ∷
-    on 6 (badMask f) ∷
-    on 7 (badPairs f) ∷
-    on 8 (badArcs f) ∷ [])
-    (on 9 (over f) ∷ []))
+load-number f = sym (first-append (fileConditions f) (on 9 (over f) ∷ []))
 
 -- a file that no condition holds of
 pub not-refused : (f : List ℕ) → loadNumber f ≡ none → (refusal f ≡ none) × (over f ≡ false)

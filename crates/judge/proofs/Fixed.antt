@@ -21,7 +21,8 @@ use Rattle.build.specs.Building.{BuiltRule}
 use Rattle.board.specs.declared.Board.{Board}
 use Rattle.judge.specs.declared.Judge.{Judge}
 use Rattle.judge.specs.Replies.{Reply, loaded}
-use Rattle.judge.specs.Calls.{loads, opens, delivers, withdraws, asks, loadNumber, Outcome, Loads}
+use Rattle.judge.specs.Calls.{loads, opens, delivers, withdraws, asks, loadNumber}
+use Rattle.judge.specs.Steps.{Outcome, Loads}
 use Rattle.judge.specs.Claims.{StepsFixed}
 
 -- ---- the delegates

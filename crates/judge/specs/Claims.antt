@@ -6,7 +6,8 @@ use mathlib.Core.Path.{_≡_}
 use Prim.Native.Nat.{ℕ}
 use Rattle.judge.specs.declared.Judge.{Judge}
 use Rattle.judge.specs.Replies.{refused}
-use Rattle.judge.specs.Calls.{Call, Outcome, Steps}
+use Rattle.judge.specs.Calls.{Call}
+use Rattle.judge.specs.Steps.{Outcome, Steps}
 
 -- a refusal leaves the state as it was. (File and chunk are lent as `&[u8]`, which no function can write.)
 abbrev pub Unchanged : Type 0

@@ -5,7 +5,7 @@ ghost use lib.Dec.{ltb};
 ghost use lib.ListN.{length};
 ghost use Rattle.chunks.specs.Walks.{runMask, runsOf};
 ghost use Rattle.judge.specs.Replies.{refused, verdictSays};
-ghost use Rattle.judge.specs.Calls.{fresh, withBoard, loadCame, openCame, deliverCame, withdrawCame, Loads, openOf, deliverOf, withdrawOf, verdictOf};
+ghost use Rattle.judge.specs.Steps.{fresh, withBoard, loadCame, openCame, deliverCame, withdrawCame, Loads, openOf, deliverOf, withdrawOf, verdictOf};
 use board::Board;
 use build::BuildAnswer;
 use build::Built;

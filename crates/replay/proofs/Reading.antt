@@ -20,7 +20,8 @@ use Rattle.lines.proofs.Splits.{up-whole, lines-there, lines-last}
 use Rattle.lines.proofs.Parts.{part-rest, part-is}
 use Rattle.judge.specs.declared.Judge.{Judge}
 use Rattle.judge.specs.Replies.{Reply}
-use Rattle.judge.specs.Calls.{Call, fresh, verdictOf}
+use Rattle.judge.specs.Calls.{Call}
+use Rattle.judge.specs.Steps.{fresh, verdictOf}
 use Rattle.histories.specs.Claims.{Ran, begins, next}
 use Rattle.histories.proofs.Every.{every-list, verdict-after}
 use Rattle.calltext.specs.Meaning.{Meaning, again, call, malformed, lineIn}

@@ -5,7 +5,7 @@ use mathlib.Core.Option.{Option}
 use Prim.Native.Nat.{ℕ, zero, suc, _+_, _*_, _%_, _^_}
 use lib.ListN.{length}
 use lib.Dec.{ltb, leb, eqb}
-use Rattle.rulefile.specs.Conditions.{on, firstOf, outside, anyBelow}
+use Rattle.rulefile.specs.Conditions.{Condition, on, firstOf, outside, anyBelow}
 use Rattle.rulefile.specs.Format.{stateCount, symbolCount, initialMask, finalMask, offsetOf, lengthOf, section, arcCount, symbolAt, targetAt}
 
 -- 1: fewer than 10 bytes
@@ -63,10 +63,9 @@ badSection n k bytes = anyBelow (badArc n k bytes) (arcCount bytes)
 unfoldable pub badArcs : List ℕ → Bool
 badArcs f = anyBelow (λ q. badSection (stateCount f) (symbolCount f) (section f q)) (stateCount f)
 
--- the number with which the file is refused, none where it is accepted
-unfoldable pub refusal : List ℕ → Option ℕ
-refusal f =
-    firstOf (
+-- the conditions of a file, in document 01's order
+abbrev pub fileConditions : List ℕ → List Condition
+fileConditions f =
     on 1 (tooShort f) ∷
     on 2 (tooLong f) ∷
     on 3 (badStates f) ∷
@@ -74,4 +73,8 @@ refusal f =
     on 5 (noRoom f) ∷
     on 6 (badMask f) ∷
     on 7 (badPairs f) ∷
-    on 8 (badArcs f) ∷ [])
+    on 8 (badArcs f) ∷ []
+
+-- the number with which the file is refused, none where it is accepted
+unfoldable pub refusal : List ℕ → Option ℕ
+refusal f = firstOf (fileConditions f)

@@ -11,7 +11,8 @@ use lib.ListN.{length, drop, drop-of-length-le}
 use Rattle.lines.specs.Splitting.{linesFrom, linesOf}
 use Rattle.judge.specs.declared.Judge.{Judge}
 use Rattle.judge.specs.Replies.{Reply}
-use Rattle.judge.specs.Calls.{Call, fresh}
+use Rattle.judge.specs.Calls.{Call}
+use Rattle.judge.specs.Steps.{fresh}
 use Rattle.histories.specs.Claims as judge
 use Rattle.histories.specs.Claims.{Ran, Right}
 use Rattle.histories.proofs.Every.{every-list}

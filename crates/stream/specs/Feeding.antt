@@ -5,7 +5,8 @@
 --   GoesOn ..     none ended: the line goes on beyond the block, and nothing was answered
 --   Feeds ..      one of the two
 --   Finishes ..   the text has ended: the last line was answered, if it is not empty
--- Where the two buffers keep no line, what is answered is free; it is within its buffer all the same (`room`).
+-- Where the buffer and the value keep no line, what is answered is free; it is within its buffer all the same (`room`). What is left in the buffer
+-- for the bytes of a line is free.
 use mathlib.Core.Path.{_≡_}
 use mathlib.Core.Logic.{_⊎_}
 use mathlib.Core.List.{List, [], _∷_, _++_}

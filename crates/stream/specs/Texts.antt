@@ -12,7 +12,8 @@ use Prim.Native.Nat.{ℕ}
 use Rattle.lines.specs.Splitting.{linesFrom, linesOf}
 use Rattle.judge.specs.declared.Judge.{Judge}
 use Rattle.judge.specs.Replies.{Reply}
-use Rattle.judge.specs.Calls.{Call, fresh}
+use Rattle.judge.specs.Calls.{Call}
+use Rattle.judge.specs.Steps.{fresh}
 use Rattle.histories.specs.Claims.{Right}
 use Rattle.calltext.specs.Meaning.{Meaning, again, call, malformed, lineIn}
 use Rattle.calltext.specs.Answers.{Response, began, replied, unread, responseText}
