@@ -4,13 +4,13 @@ use mathlib.Core.Path.{_≡_, sym}
 use mathlib.Core.List.{List}
 use Prim.Native.Nat.{ℕ, _+_, _*_, _≤_, min}
 use native.Mathlib.Omega.{arith}
-use lib.ListN.{length, replicate, length-replicate}
+use lib.ListN.{length, replicate}
 use Rattle.text.specs.Numerals.{joined}
 use Rattle.text.specs.Writing.{Wrote}
 use Rattle.automaton.specs.declared.Rule.{Rule}
 use Rattle.dottext.specs.Words.{closing}
 use Rattle.dottext.specs.DotText.{headLines, stateLine, initialLines, arcsText, graph, dotText}
-use Rattle.text.proofs.Rooms.{exact, two}
+use Rattle.text.proofs.Rooms.{exact, two, made}
 
 pub whole : (r : Rule) (n k : ℕ) {out m₁ m₂ m₃ m₄ after : List ℕ} {a b c d e : ℕ} → n ≡ min (r .n) 32 → k ≡ min (r .k) 16 → 427922 ≤ length out
     → Wrote out 0 headLines m₁ a × (a ≤ 0 + 48)
@@ -27,15 +27,9 @@ whole r n k {out} {m₁} {m₂} {m₃} {m₄} {after} {a} {b} {c} {d} {e} n-is k
     (λ h₃. two 425984 2 h₃ arcs (λ h₄. exact end)))) in
     (rw (sym n-is, sym k-is) (w .0), omega (arith, w .1))
 
--- The buffer for it, whose length is given by a lemma and not by counting it out.
+-- The buffer for it.
 pub made-length : length (replicate {A = ℕ} 450000 0) ≡ 450000
-made-length = length-replicate {A = ℕ} 450000 0
-
-pub has-room : {x : ℕ} → x ≡ 450000 → 427922 ≤ x
-has-room made = omega arith
-
-pub within : {x y end : ℕ} → x ≡ 450000 → y ≡ x → end ≤ 427922 → end ≤ y
-within made kept most = omega arith
+made-length = made 450000
 
 pub still-within : {x y end : ℕ} → end ≤ x → y ≡ x → end ≤ y
 still-within most kept = omega arith

@@ -8,10 +8,15 @@
 --   more     a byte does
 --   two      a piece and then another is both in one, and takes the room of both
 --   nothing  no piece takes no room
+--
+--   made      the length of a new buffer, given by a law and not by counting it out
+--   has-room  what is to be written has room in it
+--   within    so where it ends lies in the buffer
+use mathlib.Core.Path.{_≡_}
 use mathlib.Core.List.{List, [], _++_}
 use Prim.Native.Nat.{ℕ, _+_, _≤_, _<_}
 use native.Mathlib.Omega.{arith}
-use lib.ListN.{length}
+use lib.ListN.{length, replicate, length-replicate}
 use Rattle.text.specs.Writing.{Wrote}
 use Rattle.text.proofs.Fitting.{Put, put, _then_}
 use Rattle.text.proofs.Pieces.{wrote-none}
@@ -46,3 +51,12 @@ module _ {before : List ℕ} {at : ℕ} {p mid : List ℕ} {e : ℕ} where
 
 pub nothing : (before : List ℕ) (at room : ℕ) → Wrote before at [] before at × (at ≤ at + room)
 nothing before at room = (wrote-none before at, omega arith)
+
+pub made : (n : ℕ) → length (replicate {A = ℕ} n 0) ≡ n
+made n = length-replicate {A = ℕ} n 0
+
+pub has-room : (room spare : ℕ) {x : ℕ} → x ≡ room + spare → room ≤ x
+has-room room spare is = omega arith
+
+pub within : (room spare : ℕ) {x y end : ℕ} → x ≡ room + spare → y ≡ x → end ≤ room → end ≤ y
+within room spare is kept most = omega arith

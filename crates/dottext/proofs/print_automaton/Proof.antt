@@ -3,24 +3,24 @@ use mathlib.Core.Path.{_≡_, sym}
 use lib.ListN.{take}
 use lib.Seq.{length-take-le}
 use Rattle.text.proofs.Fitting.{taken}
+use Rattle.text.proofs.Rooms.{made, has-room, within}
 use Rattle.dottext.specs.DotText.{dotText}
-use Rattle.dottext.proofs.Whole.{made-length, has-room, within}
 use Rattle.dottext.proofs.print_automaton.Statement.{statement}
 use Rattle.dottext.proofs.print_automaton.Tie as tie
 
 slice-aggregate-put-dot : tie.Need-slice-aggregate-put-dot
-slice-aggregate-put-dot c = sym made-length
+slice-aggregate-put-dot c = sym (made 450000)
 
 put-dot-requires : tie.Need-put-dot-requires
-put-dot-requires c κs = has-room made-length
+put-dot-requires c κs = has-room 427922 22078 (made 450000)
 
 array-share-prefix-text : tie.Need-array-share-prefix-text
-array-share-prefix-text c = let w = c .before .put-dot in within made-length (w .kept .0) (w .ensures .1)
+array-share-prefix-text c = let w = c .before .put-dot in within 427922 22078 (made 450000) (w .kept .0) (w .ensures .1)
 
 slice-aggregate-print-text : tie.Need-slice-aggregate-print-text
 slice-aggregate-print-text c =
     let w = c .before .before .put-dot in
-    sym (length-take-le (w .result) (w .last .0) (within made-length (w .kept .0) (w .ensures .1)))
+    sym (length-take-le (w .result) (w .last .0) (within 427922 22078 (made 450000) (w .kept .0) (w .ensures .1)))
 
 print-text-requires : tie.Need-print-text-requires
 print-text-requires c κs = tt

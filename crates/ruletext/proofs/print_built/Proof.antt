@@ -1,27 +1,27 @@
 -- `print_built` meets its contract. Assumes nothing.
 use mathlib.Core.Path.{_≡_, sym}
-use native.Mathlib.Omega.{arith}
 use lib.ListN.{take}
 use lib.Seq.{length-take-le}
 use Rattle.ruletext.specs.RuleText.{ruleText}
 use Rattle.text.proofs.Fitting.{taken}
+use Rattle.text.proofs.Rooms.{made, has-room, within}
 use borrow.Author.Needs.{needs}
 use Rattle.ruletext.proofs.print_built.Statement.{statement}
 use Rattle.ruletext.proofs.print_built.Tie as tie
 
 slice-aggregate-put-rule : tie.Need-slice-aggregate-put-rule
-slice-aggregate-put-rule c = search needs
+slice-aggregate-put-rule c = sym (made 40960)
 
 put-rule-requires : tie.Need-put-rule-requires
-put-rule-requires c κs = search needs
+put-rule-requires c κs = has-room 39582 1378 (made 40960)
 
 array-share-prefix-text : tie.Need-array-share-prefix-text
-array-share-prefix-text c = search needs
+array-share-prefix-text c = let w = c .before .put-rule in within 39582 1378 (made 40960) (w .kept .0) (w .ensures .1)
 
 slice-aggregate-print-text : tie.Need-slice-aggregate-print-text
 slice-aggregate-print-text c =
     let w = c .before .before .put-rule in
-    sym (length-take-le (w .result) (w .last .0) (omega (arith, w .ensures .1, w .kept .0)))
+    sym (length-take-le (w .result) (w .last .0) (within 39582 1378 (made 40960) (w .kept .0) (w .ensures .1)))
 
 print-text-requires : tie.Need-print-text-requires
 print-text-requires c κs = search needs

@@ -1,6 +1,5 @@
 -- `put_refused` meets its contract. Assumes nothing.
-use native.Mathlib.Omega.{arith}
-use Rattle.text.proofs.Fitting.{put, _then_}
+use Rattle.text.proofs.Rooms.{exact, most, left, fits, more, two}
 use Rattle.ruletext.proofs.Lengths.{byte-most}
 use borrow.Author.Needs.{needs}
 use Rattle.ruletext.proofs.put_refused.Statement.{statement}
@@ -15,15 +14,13 @@ put-bytes-requires c κs = search needs
 put-decimal-requires : tie.Need-put-decimal-requires
 put-decimal-requires c κs =
     let s = c .before .before .before .before .before .before .before in
-    let w = c .before .before .before .put-bytes in
-    omega (arith, s .pre, w .ensures .ends, w .kept .0, byte-most (s .args .number) (s .fits .number .fits))
+    fits 8 3 1 (s .pre) (exact (c .before .before .before .put-bytes .ensures)) (byte-most (s .args .number) (s .fits .number .fits))
 
 put-byte-requires : tie.Need-put-byte-requires
 put-byte-requires c κs =
     let s = c .before .before .before .before .before .before .before .before .before .before .before in
-    let w = c .before .before .before .before .before .before .before .put-bytes in
-    let v = c .before .before .before .put-decimal in
-    omega (arith, s .pre, w .ensures .ends, w .kept .0, v .ensures .ends, v .kept .0, byte-most (s .args .number) (s .fits .number .fits))
+    let h = left 8 4 (s .pre) (exact (c .before .before .before .before .before .before .before .put-bytes .ensures)) in
+    more 3 0 h (most 3 (byte-most (s .args .number) (s .fits .number .fits)) (c .before .before .before .put-decimal .ensures))
 
 same-length : tie.Need-same-length
 same-length c = search needs
@@ -31,11 +28,9 @@ same-length c = search needs
 returns : tie.Need-returns
 returns c =
     let s = c .before .before .before .before .before .before .before .before .before .before .before .before .before .before in
-    let d = byte-most (s .args .number) (s .fits .number .fits) in
-    let u = put (omega (arith, s .pre)) (c .before .before .before .before .before .before .before .before .before .before .put-bytes .ensures) in
-    let v = put (omega (arith, s .pre, d, u)) (c .before .before .before .before .before .before .put-decimal .ensures) in
-    let w = put (omega (arith, s .pre, d, u, v)) (c .before .before .put-byte .ensures) in
-    (u then v then w) .wrote
+    two 8 4 (s .pre) (exact (c .before .before .before .before .before .before .before .before .before .before .put-bytes .ensures))
+    (λ h0. two 3 1 h0 (most 3 (byte-most (s .args .number) (s .fits .number .fits)) (c .before .before .before .before .before .before .put-decimal .ensures))
+    (λ h1. exact (c .before .before .put-byte .ensures))) .0
 
 pub put-refused-spec : {M : Type 1} → statement M
 put-refused-spec =
