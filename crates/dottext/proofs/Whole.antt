@@ -4,13 +4,13 @@ use mathlib.Core.Path.{_≡_, sym}
 use mathlib.Core.List.{List}
 use Prim.Native.Nat.{ℕ, _+_, _*_, _≤_, min}
 use native.Mathlib.Omega.{arith}
-use lib.ListN.{length, replicate}
+use lib.ListN.{length}
 use Rattle.text.specs.Numerals.{joined}
 use Rattle.text.specs.Writing.{Wrote}
 use Rattle.automaton.specs.declared.Rule.{Rule}
 use Rattle.dottext.specs.Words.{closing}
 use Rattle.dottext.specs.DotText.{headLines, stateLine, initialLines, arcsText, graph, dotText}
-use Rattle.text.proofs.Rooms.{exact, two, made}
+use Rattle.text.proofs.Rooms.{exact, two}
 
 pub whole : (r : Rule) (n k : ℕ) {out m₁ m₂ m₃ m₄ after : List ℕ} {a b c d e : ℕ} → n ≡ min (r .n) 32 → k ≡ min (r .k) 16 → 427922 ≤ length out
     → Wrote out 0 headLines m₁ a × (a ≤ 0 + 48)
@@ -26,10 +26,3 @@ whole r n k {out} {m₁} {m₂} {m₃} {m₄} {after} {a} {b} {c} {d} {e} n-is k
     (λ h₂. two (33 * n) 425986 h₂ initials
     (λ h₃. two 425984 2 h₃ arcs (λ h₄. exact end)))) in
     (rw (sym n-is, sym k-is) (w .0), omega (arith, w .1))
-
--- The buffer for it.
-pub made-length : length (replicate {A = ℕ} 450000 0) ≡ 450000
-made-length = made 450000
-
-pub still-within : {x y end : ℕ} → end ≤ x → y ≡ x → end ≤ y
-still-within most kept = omega arith

@@ -12,6 +12,7 @@
 --   made      the length of a new buffer, given by a law and not by counting it out
 --   has-room  what is to be written has room in it
 --   within    so where it ends lies in the buffer
+--   still-within   and in one of the same length
 use mathlib.Core.Path.{_≡_}
 use mathlib.Core.List.{List, [], _++_}
 use Prim.Native.Nat.{ℕ, _+_, _≤_, _<_}
@@ -60,3 +61,6 @@ has-room room spare is = omega arith
 
 pub within : (room spare : ℕ) {x y end : ℕ} → x ≡ room + spare → y ≡ x → end ≤ room → end ≤ y
 within room spare is kept most = omega arith
+
+pub still-within : {x y end : ℕ} → end ≤ x → y ≡ x → end ≤ y
+still-within most kept = omega arith

@@ -2,13 +2,13 @@
 use mathlib.Core.Path.{sym}
 use lib.Seq.{length-take-le}
 use Rattle.ruletext.proofs.Copying.{within}
-use Rattle.dottext.proofs.Whole.{made-length, still-within}
+use Rattle.text.proofs.Rooms.{made, still-within}
 use borrow.Author.Needs.{needs}
 use Rattle.ruledot.proofs.main.Statement.{statement}
 use Rattle.ruledot.proofs.main.Tie as tie
 
 slice-aggregate-read-full : tie.Need-slice-aggregate-read-full
-slice-aggregate-read-full c = search needs
+slice-aggregate-read-full c = sym (made 33000)
 
 read-full-requires : tie.Need-read-full-requires
 read-full-requires c κs = search needs
@@ -20,7 +20,7 @@ slice-aggregate-print-dot : tie.Need-slice-aggregate-print-dot
 slice-aggregate-print-dot c = search needs
 
 slice-aggregate-print-dot-2 : tie.Need-slice-aggregate-print-dot-2
-slice-aggregate-print-dot-2 c = sym made-length
+slice-aggregate-print-dot-2 c = sym (made 450000)
 
 print-dot-requires : tie.Need-print-dot-requires
 print-dot-requires c κs = tt

@@ -1,11 +1,10 @@
 -- `run_case` stays within its line and its buffer. Assumes nothing.
 use mathlib.Core.Path.{sym}
-use Prim.Native.Nat.{ℕ}
 use native.Mathlib.Omega.{arith}
-use lib.ListN.{length-replicate}
 use lib.Seq.{length-take-le}
 use borrow.Author.Needs.{needs}
 use Rattle.fields.proofs.Taking.{put-within, put-prefix}
+use Rattle.text.proofs.Rooms.{made}
 use Rattle.rulefile_cases.proofs.run_case.Statement.{statement}
 use Rattle.rulefile_cases.proofs.run_case.Tie as tie
 
@@ -36,7 +35,7 @@ part-read-bytes-end : tie.Need-part-read-bytes-end
 part-read-bytes-end c = search needs
 
 slice-aggregate-read-bytes : tie.Need-slice-aggregate-read-bytes
-slice-aggregate-read-bytes c = sym (length-replicate {A = ℕ} 33000 0)
+slice-aggregate-read-bytes c = sym (made 33000)
 
 read-bytes-requires : tie.Need-read-bytes-requires
 read-bytes-requires c κs = search needs

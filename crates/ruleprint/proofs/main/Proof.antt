@@ -1,14 +1,14 @@
 -- `main` stays within its buffers. Assumes nothing.
 use mathlib.Core.Path.{sym}
-use native.Mathlib.Omega.{arith}
 use lib.Seq.{length-take-le}
+use Rattle.text.proofs.Rooms.{made, still-within}
 use Rattle.ruletext.proofs.Copying.{within}
 use borrow.Author.Needs.{needs}
 use Rattle.ruleprint.proofs.main.Statement.{statement}
 use Rattle.ruleprint.proofs.main.Tie as tie
 
 slice-aggregate-read-full : tie.Need-slice-aggregate-read-full
-slice-aggregate-read-full c = search needs
+slice-aggregate-read-full c = sym (made 33000)
 
 read-full-requires : tie.Need-read-full-requires
 read-full-requires c κs = search needs
@@ -20,7 +20,7 @@ slice-aggregate-print-rule : tie.Need-slice-aggregate-print-rule
 slice-aggregate-print-rule c = search needs
 
 slice-aggregate-print-rule-2 : tie.Need-slice-aggregate-print-rule-2
-slice-aggregate-print-rule-2 c = search needs
+slice-aggregate-print-rule-2 c = sym (made 40960)
 
 print-rule-requires : tie.Need-print-rule-requires
 print-rule-requires c κs = search needs
@@ -31,14 +31,12 @@ enum-known-printed c = search needs
 array-share-prefix-text : tie.Need-array-share-prefix-text
 array-share-prefix-text c =
     let w = c .before .before .before .before .print-rule in
-    let l = within (w .ensures .prints) (c .before .printed .given .1) in
-    omega (arith, w .kept .1 .0)
+    still-within (within (w .ensures .prints) (c .before .printed .given .1)) (w .kept .1 .0)
 
 slice-aggregate-write-all : tie.Need-slice-aggregate-write-all
 slice-aggregate-write-all c =
     let w = c .before .before .before .before .before .print-rule in
-    let l = within (w .ensures .prints) (c .before .before .printed .given .1) in
-    sym (length-take-le _ (w .last .1 .0) (omega (arith, w .kept .1 .0)))
+    sym (length-take-le _ (w .last .1 .0) (still-within (within (w .ensures .prints) (c .before .before .printed .given .1)) (w .kept .1 .0)))
 
 write-all-requires : tie.Need-write-all-requires
 write-all-requires c κs = search needs

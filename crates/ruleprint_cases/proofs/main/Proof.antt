@@ -1,12 +1,11 @@
 -- `main` stays within its buffer. Assumes nothing.
 use mathlib.Core.Path.{sym}
-use Prim.Native.Nat.{ℕ}
-use lib.ListN.{length-replicate}
+use Rattle.text.proofs.Rooms.{made}
 use Rattle.ruleprint_cases.proofs.main.Statement.{statement}
 use Rattle.ruleprint_cases.proofs.main.Tie as tie
 
 slice-aggregate-read-full : tie.Need-slice-aggregate-read-full
-slice-aggregate-read-full c = sym (length-replicate {A = ℕ} 400000 0)
+slice-aggregate-read-full c = sym (made 400000)
 
 read-full-requires : tie.Need-read-full-requires
 read-full-requires c κs = tt

@@ -1,16 +1,14 @@
 -- `print_text` stays within its buffer. Assumes nothing.
 use mathlib.Core.Path.{sym}
-use native.Mathlib.Omega.{arith}
-use Prim.Native.Nat.{ℕ}
-use lib.ListN.{length-replicate}
 use lib.Seq.{length-take-le}
 use Rattle.ruletext.proofs.Copying.{within}
 use borrow.Author.Needs.{needs}
+use Rattle.text.proofs.Rooms.{made, still-within}
 use Rattle.ruleprint_cases.proofs.print_text.Statement.{statement}
 use Rattle.ruleprint_cases.proofs.print_text.Tie as tie
 
 slice-aggregate-print-rule : tie.Need-slice-aggregate-print-rule
-slice-aggregate-print-rule c = sym (length-replicate {A = ℕ} 40960 0)
+slice-aggregate-print-rule c = sym (made 40960)
 
 print-rule-requires : tie.Need-print-rule-requires
 print-rule-requires c κs = search needs
@@ -21,14 +19,12 @@ enum-known-printed c = search needs
 array-share-prefix-text : tie.Need-array-share-prefix-text
 array-share-prefix-text c =
     let w = c .before .before .before .before .print-rule in
-    let l = within (w .ensures .prints) (c .before .printed .given .1) in
-    omega (arith, w .kept .1 .0)
+    still-within (within (w .ensures .prints) (c .before .printed .given .1)) (w .kept .1 .0)
 
 slice-aggregate-write-all : tie.Need-slice-aggregate-write-all
 slice-aggregate-write-all c =
     let w = c .before .before .before .before .before .print-rule in
-    let l = within (w .ensures .prints) (c .before .before .printed .given .1) in
-    sym (length-take-le _ (w .last .1 .0) (omega (arith, w .kept .1 .0)))
+    sym (length-take-le _ (w .last .1 .0) (still-within (within (w .ensures .prints) (c .before .before .printed .given .1)) (w .kept .1 .0)))
 
 write-all-requires : tie.Need-write-all-requires
 write-all-requires c κs = search needs
