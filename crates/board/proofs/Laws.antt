@@ -21,7 +21,8 @@ use Rattle.chunks.specs.declared.Runs.{Runs}
 use Rattle.chunks.specs.Chunks.{total}
 use Rattle.board.specs.declared.Board.{Board}
 use Rattle.board.specs.Boards.{placesOf, held, isEmpty, emptyBoard, rowSet, filledAt, clearedAt, emptyPlaces, summedCount}
-use Rattle.board.proofs.Totals.{one-most, total-same, total-most, term-most, total-changed}
+use Rattle.chunks.proofs.Totals.{total-same, total-most}
+use Rattle.board.proofs.Totals.{one-most, term-most, total-changed}
 use Rattle.board.proofs.Rows.{row-length, row-own, row-other}
 
 pub record Sized (b : Board) : Type 0 where

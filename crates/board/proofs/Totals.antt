@@ -1,37 +1,22 @@
--- The laws of sums over the numbers below a bound. Assumes nothing.
-use mathlib.Core.Path.{_≡_, refl, ap₂}
+-- More laws of `total`, the sum over the numbers below a bound. Assumes nothing.
+use mathlib.Core.Path.{_≡_}
 use mathlib.Core.Logic.{⊎-elim}
 use mathlib.Core.Bool.{Bool, true, false, cond}
-use Prim.Native.Nat.{ℕ, zero, suc, _+_, _*_, _≤_, _<_}
-use native.Mathlib.Nat.{suc-mul, eq-or-lt-of-le, le-of-suc-le-suc}
-use native.Mathlib.Numerals.{add-one}
+use Prim.Native.Nat.{ℕ, zero, suc, _+_, _≤_, _<_}
+use native.Mathlib.Nat.{eq-or-lt-of-le, le-of-suc-le-suc}
 use native.Mathlib.Omega.{arith}
 use Rattle.chunks.specs.Chunks.{total}
+use Rattle.chunks.proofs.Totals.{total-same}
 
 pub one-most : (t : Bool) → cond t 1 0 ≤ 1
 one-most true = omega arith
 one-most false = omega arith
-
--- one number more
-pub total-more : (f : ℕ → ℕ) (n : ℕ) → total f (n + 1) ≡ total f n + f n
-unfolding total
-total-more f n = rw add-one
 
 -- the first number apart
 pub total-first : (f : ℕ → ℕ) (n : ℕ) → total f (suc n) ≡ f 0 + total (λ p. f (suc p)) n
 unfolding total
 total-first f zero = omega arith
 total-first f (suc n) = omega (arith, total-first f n)
-
-pub total-same : (f g : ℕ → ℕ) (n : ℕ) → ((p : ℕ) → p < n → f p ≡ g p) → total f n ≡ total g n
-unfolding total
-total-same f g zero h = refl
-total-same f g (suc n) h = ap₂ (λ (x y : ℕ). x + y) (total-same f g n (λ p l. h p (omega arith))) (h n (omega arith))
-
-pub total-most : (f : ℕ → ℕ) (most n : ℕ) → ((p : ℕ) → p < n → f p ≤ most) → total f n ≤ n * most
-unfolding total
-total-most f most zero h = omega arith
-total-most f most (suc n) h = rw suc-mul (omega (arith, total-most f most n (λ p l. h p (omega arith)), h n (omega arith)))
 
 -- a term is at most the sum
 pub term-most : (f : ℕ → ℕ) (n p : ℕ) → p < n → f p ≤ total f n

@@ -12,13 +12,13 @@ use Rattle.fields.specs.declared.Bytes.{Bytes}
 use Rattle.fields.specs.declared.Bytes.the-variants.{Put, Malformed}
 use Rattle.fields.specs.Bytes.{bytesIn, Took}
 use Rattle.fields.proofs.Taking.{carries, not-bytes}
-use Rattle.judge.specs.declared.Judge.{Judge}
-use Rattle.judge.specs.declared.Loading.{Loading}
-use Rattle.judge.specs.declared.Delivery.{Delivery}
-use Rattle.judge.specs.Replies.{loadSays, deliverSays}
-use Rattle.judge.specs.Steps.{Loads, loadCame, deliverOf, deliverCame}
+use Rattle.calls.specs.declared.Judge.{Judge}
+use Rattle.calls.specs.declared.Loading.{Loading}
+use Rattle.calls.specs.declared.Delivery.{Delivery}
+use Rattle.calls.specs.Replies.{loadSays, deliverSays}
+use Rattle.calls.specs.Steps.{Loads, loadCame, deliverOf, deliverCame}
 use Rattle.calltext.specs.Meaning.{malformed, loadBy, deliverBy}
-use Rattle.calltext.specs.Answers.{Response, unread, replied}
+use Rattle.calltext.specs.Answers.{Response, replied}
 use Rattle.callrun.specs.Running.{LineSteps}
 use Rattle.callrun.proofs.Clipped.{loads-clip, delivers-clip}
 

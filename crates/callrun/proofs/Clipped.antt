@@ -6,7 +6,7 @@
 use mathlib.Core.Path.{_≡_, refl, sym, ap, _∙_, subst}
 use mathlib.Core.Bool.{Bool, true, false, cond}
 use mathlib.Core.List.{List}
-use mathlib.Core.Option.{Option, none, some}
+use mathlib.Core.Option.{Option, some}
 use Prim.Native.Nat.{ℕ, _≤_, _<_}
 use native.Mathlib.Omega.{arith}
 use borrow.Author.Tests.{lt-ltb, le-ltb, ltb-true, ltb-false}
@@ -16,10 +16,10 @@ use lib.Seq.{take-all, length-take-le}
 use Rattle.masks.proofs.Cases.{by-test}
 use Rattle.rulefile.specs.Refusals.{tooShort, tooLong}
 use Rattle.board.specs.Boards.{placesOf}
-use Rattle.judge.specs.declared.Judge.{Judge}
-use Rattle.judge.specs.Calls.{loadNumber}
-use Rattle.judge.specs.Steps.{Outcome, Loads, outcomeBy, lacksBoard, deliverOf}
-use Rattle.judge.proofs.Conditions.{none-some}
+use Rattle.calls.specs.declared.Judge.{Judge}
+use Rattle.calls.specs.Calls.{loadNumber}
+use Rattle.calls.specs.Steps.{Outcome, Loads, outcomeBy, lacksBoard, deliverOf}
+use Rattle.calls.proofs.Conditions.{none-some}
 
 pub long-load : (f : List ℕ) → 32906 < length f → loadNumber f ≡ some 2
 unfolding loadNumber tooShort tooLong

@@ -5,8 +5,8 @@ use mathlib.Core.Option.{some}
 use Prim.Native.Nat.{ℕ, _-_, _≤_}
 use lib.ListN.{length, take, drop}
 use Rattle.fields.specs.Bytes.{bytesIn}
-use Rattle.judge.specs.declared.Judge.{Judge}
-use Rattle.judge.specs.Calls.{opens, withdraws, asks}
+use Rattle.calls.specs.declared.Judge.{Judge}
+use Rattle.calls.specs.Calls.{opens, withdraws, asks}
 use Rattle.calltext.specs.declared.Line.{Line}
 use Rattle.calltext.specs.declared.Line.the-variants.{Empty, Load, Open, Deliver, Withdraw, Verdict, Malformed}
 use Rattle.calltext.specs.Meaning.{Meaning, again, call, malformed, loadBy, deliverBy, lineIn, meant, bytesFrom, Parsed}

@@ -2,9 +2,9 @@
 --
 --   LineSteps j m s next   on the judge j a line of the meaning m is answered s and leaves the judge next
 use mathlib.Core.Path.{_≡_}
-use Rattle.judge.specs.declared.Judge.{Judge}
-use Rattle.judge.specs.Replies.{Reply}
-use Rattle.judge.specs.Steps.{fresh, Steps}
+use Rattle.calls.specs.declared.Judge.{Judge}
+use Rattle.calls.specs.Replies.{Reply}
+use Rattle.calls.specs.Steps.{fresh, Steps}
 use Rattle.calltext.specs.Meaning.{Meaning, again, call, malformed}
 use Rattle.calltext.specs.Answers.{Response, began, replied, unread}
 

@@ -4,20 +4,20 @@ ghost use mathlib.Core.Option.{some};
 ghost use Prim.Native.Nat.{_≤_};
 ghost use lib.ListN.{length};
 ghost use Rattle.fields.specs.Bytes.{bytesIn};
-ghost use Rattle.judge.specs.Replies.{loadSays, openSays, deliverSays, withdrawSays, verdictSays};
-ghost use Rattle.judge.specs.Calls.{opens, withdraws, asks};
+ghost use Rattle.calls.specs.Replies.{loadSays, openSays, deliverSays, withdrawSays, verdictSays};
+ghost use Rattle.calls.specs.Calls.{opens, withdraws, asks};
 ghost use Rattle.calltext.specs.Meaning.{again, call, malformed, loadBy, deliverBy, lineIn};
 ghost use Rattle.calltext.specs.Answers.{replied, responseOf};
 ghost use Rattle.callrun.specs.Running.{LineSteps};
+use calls::DeliverAnswer;
+use calls::Judge;
+use calls::LoadAnswer;
+use calls::OpenAnswer;
+use calls::Verdict;
+use calls::WithdrawAnswer;
 use calltext::Line;
 use calltext::LineAnswer;
 use fields::Bytes;
-use judge::DeliverAnswer;
-use judge::Judge;
-use judge::LoadAnswer;
-use judge::OpenAnswer;
-use judge::Verdict;
-use judge::WithdrawAnswer;
 
 // What a line is answered, and the judge that it leaves.
 pub struct LineRun {

@@ -13,7 +13,7 @@ use Rattle.lines.specs.Splitting.{begins}
 use Rattle.lines.proofs.Over.{Over, over-append, over-less, over-up, over-past}
 use Rattle.fields.specs.Claims.{digitsOf, fieldOf}
 use Rattle.fields.proofs.Again as fields
-use Rattle.judge.specs.Calls.{Call, loads, opens, delivers, withdraws, asks}
+use Rattle.calls.specs.Calls.{Call, loads, opens, delivers, withdraws, asks}
 use Rattle.calltext.specs.Meaning.{call, load-word, open-word, deliver-word, withdraw-word, loadBy, openBy, withdrawBy, callIn, lineIn}
 use Rattle.calltext.specs.Claims.{Fits, lineOf, Claims}
 

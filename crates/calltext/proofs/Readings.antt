@@ -1,26 +1,26 @@
 -- What the ways through `parse` come to. Assumes nothing.
-use mathlib.Core.Path.{_≡_, refl, sym, ap, _∙_}
-use mathlib.Core.Bool.{Bool, true, false, cond, true≢false}
-use mathlib.Core.List.{List, [], _∷_}
-use mathlib.Core.Option.{Option, none, some}
+use mathlib.Core.Path.{_≡_, sym, ap, _∙_}
+use mathlib.Core.Bool.{Bool, true, false, true≢false}
+use mathlib.Core.List.{List}
+use mathlib.Core.Option.{Option, some}
 use Prim.Native.Nat.{ℕ, suc, _+_, _-_, _≤_, _<_}
 use native.Mathlib.Omega.{arith}
 use borrow.Author.Tests.{eq-eqb, ne-eqb, ltb-true, ltb-false}
-use lib.Dec.{eqb, ltb}
+use lib.Dec.{ltb}
 use lib.ListN.{length, take, drop, length-drop}
 use lib.Seq.{take-all, drop-drop}
 use Rattle.masks.proofs.Cases.{by-test}
 use Rattle.lines.specs.Splitting.{begins, upTo, past}
-use Rattle.lines.proofs.Splits.{begins-short, up-most, up-take, past-there, past-none}
+use Rattle.lines.proofs.Splits.{begins-short, up-take, past-there, past-none}
 use Rattle.fields.specs.declared.Number.{Number}
 use Rattle.fields.specs.declared.Number.the-variants.{Value}
 use Rattle.fields.specs.declared.Number.the-variants as number
 use Rattle.fields.specs.Numbers.{numberIn, numberSaid}
 use Rattle.fields.specs.Bytes.{bytesIn}
-use Rattle.judge.specs.Calls.{opens, withdraws, asks}
+use Rattle.calls.specs.Calls.{opens, withdraws}
 use Rattle.calltext.specs.declared.Line.{Line}
 use Rattle.calltext.specs.declared.Line.the-variants.{Empty, Load, Verdict, Malformed}
-use Rattle.calltext.specs.Meaning.{Meaning, again, call, malformed, load-word, open-word, deliver-word, withdraw-word, verdict-word, loadBy, openBy, withdrawBy, deliverBy, deliverFields, callIn, lineIn, meant, bytesFrom, Parsed}
+use Rattle.calltext.specs.Meaning.{call, malformed, load-word, open-word, deliver-word, withdraw-word, verdict-word, openBy, withdrawBy, deliverBy, deliverFields, callIn, lineIn, meant, bytesFrom, Parsed}
 
 -- ---- the number of an opening, a withdrawal and a delivery
 module _ (field : List ℕ) (x : Number) (said : numberSaid x ≡ numberIn field) where

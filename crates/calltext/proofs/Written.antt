@@ -1,12 +1,12 @@
 -- What the ways through `put_answer` come to, and how long a number is. Assumes nothing.
-use mathlib.Core.Path.{_≡_, sym, ap, subst}
+use mathlib.Core.Path.{_≡_, sym, subst}
 use mathlib.Core.List.{List, [], _∷_, _++_}
 use Prim.Native.Nat.{ℕ, _^_, _≤_, _<_}
 use native.Mathlib.Omega.{arith}
 use lib.ListN.{length}
 use Rattle.text.specs.Writing.{Wrote}
 use Rattle.text.proofs.Digits.{decimal-most}
-use Rattle.judge.specs.Replies.{loaded}
+use Rattle.calls.specs.Replies.{loaded}
 use Rattle.calltext.specs.declared.LineAnswer.{LineAnswer}
 use Rattle.calltext.specs.declared.LineAnswer.the-variants.{Began, Loaded, Accepted, Waiting, Yes, No, Refused, Malformed}
 use Rattle.calltext.specs.Answers.{accepted-word, waiting-word, yes-word, no-word, refused-word, malformed-word, behind, replied, responseText, responseOf}

@@ -9,7 +9,7 @@ use mathlib.Core.Bool.{Bool, true, false}
 use mathlib.Core.List.{List, [], _∷_, _++_}
 use Prim.Native.Nat.{ℕ}
 use Rattle.text.specs.Numerals.{decimal}
-use Rattle.judge.specs.Replies.{Reply, accepted, loaded, waiting, keeps, breaks, refused}
+use Rattle.calls.specs.Replies.{Reply, accepted, loaded, waiting, keeps, breaks, refused}
 use Rattle.calltext.specs.declared.LineAnswer.{LineAnswer}
 use Rattle.calltext.specs.declared.LineAnswer.the-variants.{Began, Loaded, Accepted, Waiting, Yes, No, Refused, Malformed}
 

@@ -7,7 +7,7 @@ use mathlib.Core.List.{List, _∷_, _++_}
 use Prim.Native.Nat.{ℕ, _≤_}
 use Rattle.text.specs.Numerals.{decimal}
 use Rattle.fields.specs.Claims.{AllBytes, fieldOf}
-use Rattle.judge.specs.Calls.{Call, loads, opens, delivers, withdraws, asks}
+use Rattle.calls.specs.Calls.{Call, loads, opens, delivers, withdraws, asks}
 use Rattle.calltext.specs.Meaning.{call, load-word, open-word, deliver-word, withdraw-word, verdict-word, lineIn}
 
 abbrev pub Fits : Call → Type 0

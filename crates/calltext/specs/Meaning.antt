@@ -15,7 +15,7 @@ use lib.ListN.{length, drop}
 use Rattle.lines.specs.Splitting.{begins, upTo, past}
 use Rattle.fields.specs.Numbers.{numberIn}
 use Rattle.fields.specs.Bytes.{bytesIn}
-use Rattle.judge.specs.Calls.{Call, loads, opens, delivers, withdraws, asks}
+use Rattle.calls.specs.Calls.{Call, loads, opens, delivers, withdraws, asks}
 use Rattle.calltext.specs.declared.Line.{Line}
 use Rattle.calltext.specs.declared.Line.the-variants.{Empty, Load, Open, Deliver, Withdraw, Verdict, Malformed}
 

@@ -8,7 +8,7 @@ ghost use Rattle.fields.specs.Numbers.{numberIn};
 ghost use Rattle.lines.specs.Splitting.{upTo, past};
 ghost use Rattle.calltext.specs.Meaning.{openBy, withdrawBy, deliverFields, meant, bytesFrom, Parsed};
 ghost use Rattle.calltext.specs.Answers.{behind, replied, responseText, responseOf};
-ghost use Rattle.judge.specs.Replies.{loaded};
+ghost use Rattle.calls.specs.Replies.{loaded};
 use fields::Number;
 
 // A line. The bytes of a load begin at index 5, those of a delivery at the index beside its place.

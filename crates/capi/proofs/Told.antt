@@ -2,26 +2,26 @@
 use mathlib.Core.Path.{_≡_, refl, sym, ap, _∙_, subst}
 use mathlib.Core.List.{List}
 use Prim.Native.Nat.{ℕ}
-use Rattle.judge.specs.declared.LoadAnswer.{LoadAnswer}
-use Rattle.judge.specs.declared.LoadAnswer.the-variants as load
-use Rattle.judge.specs.declared.OpenAnswer.{OpenAnswer}
-use Rattle.judge.specs.declared.OpenAnswer.the-variants as opening
-use Rattle.judge.specs.declared.DeliverAnswer.{DeliverAnswer}
-use Rattle.judge.specs.declared.DeliverAnswer.the-variants as delivery
-use Rattle.judge.specs.declared.WithdrawAnswer.{WithdrawAnswer}
-use Rattle.judge.specs.declared.WithdrawAnswer.the-variants as withdrawal
-use Rattle.judge.specs.declared.Verdict.{Verdict}
-use Rattle.judge.specs.declared.Verdict.the-variants as verdict
-use Rattle.judge.specs.declared.Judge.{Judge}
-use Rattle.judge.specs.declared.Loading.{Loading}
-use Rattle.judge.specs.declared.Opening.{Opening}
-use Rattle.judge.specs.declared.Delivery.{Delivery}
-use Rattle.judge.specs.declared.Withdrawal.{Withdrawal}
-use Rattle.judge.specs.Replies.{Reply, accepted, refused, loaded, waiting, keeps, breaks, loadSays, openSays, deliverSays, withdrawSays, verdictSays}
-use Rattle.judge.specs.Steps.{Outcome, loadCame, openCame, deliverCame, withdrawCame, Loads}
+use Rattle.calls.specs.declared.LoadAnswer.{LoadAnswer}
+use Rattle.calls.specs.declared.LoadAnswer.the-variants as load
+use Rattle.calls.specs.declared.OpenAnswer.{OpenAnswer}
+use Rattle.calls.specs.declared.OpenAnswer.the-variants as opening
+use Rattle.calls.specs.declared.DeliverAnswer.{DeliverAnswer}
+use Rattle.calls.specs.declared.DeliverAnswer.the-variants as delivery
+use Rattle.calls.specs.declared.WithdrawAnswer.{WithdrawAnswer}
+use Rattle.calls.specs.declared.WithdrawAnswer.the-variants as withdrawal
+use Rattle.calls.specs.declared.Verdict.{Verdict}
+use Rattle.calls.specs.declared.Verdict.the-variants as verdict
+use Rattle.calls.specs.declared.Judge.{Judge}
+use Rattle.calls.specs.declared.Loading.{Loading}
+use Rattle.calls.specs.declared.Opening.{Opening}
+use Rattle.calls.specs.declared.Delivery.{Delivery}
+use Rattle.calls.specs.declared.Withdrawal.{Withdrawal}
+use Rattle.calls.specs.Replies.{Reply, accepted, refused, loaded, waiting, keeps, breaks, loadSays, openSays, deliverSays, withdrawSays, verdictSays}
+use Rattle.calls.specs.Steps.{Outcome, loadCame, openCame, deliverCame, withdrawCame, Loads}
 use Rattle.replay.specs.declared.ReplayAnswer.{ReplayAnswer}
 use Rattle.replay.specs.declared.ReplayAnswer.the-variants as replay
-use Rattle.replay.specs.Records.{Recorded, Told, toldOf, Replayed}
+use Rattle.replay.specs.Records.{Recorded, toldOf, Replayed}
 use Rattle.replay.specs.Records as records
 use Rattle.capi.specs.Numbers.{LoadsShown, openShown, deliverShown, withdrawShown, verdictShown, ReplayShown}
 

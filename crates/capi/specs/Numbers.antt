@@ -8,9 +8,9 @@
 use mathlib.Core.Path.{_≡_}
 use mathlib.Core.List.{List}
 use Prim.Native.Nat.{ℕ}
-use Rattle.judge.specs.declared.Judge.{Judge}
-use Rattle.judge.specs.Replies.{Reply, accepted, loaded, waiting, keeps, breaks, refused}
-use Rattle.judge.specs.Steps.{Outcome, Loads}
+use Rattle.calls.specs.declared.Judge.{Judge}
+use Rattle.calls.specs.Replies.{Reply, accepted, loaded, waiting, keeps, breaks, refused}
+use Rattle.calls.specs.Steps.{Outcome, Loads}
 use Rattle.replay.specs.Records.{Recorded, Told, verdict, malformedLine, Replayed}
 use Rattle.capi.specs.declared.LoadResult.{LoadResult}
 use Rattle.capi.specs.declared.OpenResult.{OpenResult}

@@ -1,14 +1,14 @@
 // The judge for C and Rust. Answers are numbers; the state is a value that the caller keeps, hands in and gets back.
 ghost use mathlib.Core.Path.{_≡_};
-ghost use Rattle.judge.specs.Steps.{fresh, openOf, deliverOf, withdrawOf, verdictOf};
+ghost use Rattle.calls.specs.Steps.{fresh, openOf, deliverOf, withdrawOf, verdictOf};
 ghost use Rattle.replay.specs.Records.{recordIn};
 ghost use Rattle.capi.specs.Numbers.{LoadsShown, openShown, deliverShown, withdrawShown, verdictShown, ReplayShown};
-use judge::DeliverAnswer;
-use judge::Judge;
-use judge::LoadAnswer;
-use judge::OpenAnswer;
-use judge::Verdict;
-use judge::WithdrawAnswer;
+use calls::DeliverAnswer;
+use calls::Judge;
+use calls::LoadAnswer;
+use calls::OpenAnswer;
+use calls::Verdict;
+use calls::WithdrawAnswer;
 use replay::ReplayAnswer;
 
 // Accepted is 1 or 0; where it is 0, refused has the number.

@@ -41,7 +41,7 @@ module _ (sets next singles : List ℕ) (mask : ℕ) (chunk : List ℕ) where
           arith,
           before .counted,
           total-most countAt 65536 q
-              (λ p. let m : walkCount next (getD singles p 0) chunk ≤ 65536 = omega (arith, count-most next (getD singles p 0) chunk) in either-most (has mask p) m (omega arith)),
+              (λ p _. let m : walkCount next (getD singles p 0) chunk ≤ 65536 = omega (arith, count-most next (getD singles p 0) chunk) in either-most (has mask p) m (omega arith)),
         )
 
     pub passed-over : has mask q ≡ false → Running ends count (q + 1)

@@ -7,7 +7,7 @@ use native.Mathlib.Numerals.{add-one}
 use native.Mathlib.Omega.{arith}
 use lib.Dec.{eqb}
 use lib.ListN.{getD}
-use native.Mathlib.Nat.{add-mul}
+use native.Mathlib.Nat.{add-mul, suc-mul}
 use Rattle.delegates.specs.Alike.{startCount}
 use Rattle.chunks.specs.Chunks.{total}
 
@@ -24,10 +24,10 @@ unfolding total
 total-same f g zero same = refl
 total-same f g (suc n) same = rw (total-same f g n (λ q h. same q (omega arith)), same n (omega arith))
 
-pub total-most : (f : ℕ → ℕ) (most n : ℕ) → ((q : ℕ) → f q ≤ most) → total f n ≤ n * most
+pub total-most : (f : ℕ → ℕ) (most n : ℕ) → ((q : ℕ) → q < n → f q ≤ most) → total f n ≤ n * most
 unfolding total
 total-most f most zero h = omega arith
-total-most f most (suc n) h = omega (arith, total-most f most n h, h n)
+total-most f most (suc n) h = rw suc-mul (omega (arith, total-most f most n (λ q l. h q (omega arith)), h n (omega arith)))
 
 -- states from n on that add nothing
 pub total-rest : (f : ℕ → ℕ) (k n : ℕ) → ((q : ℕ) → n ≤ q → f q ≡ 0) → total f (k + n) ≡ total f n

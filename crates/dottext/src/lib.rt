@@ -5,7 +5,7 @@ ghost use lib.ListN.{length};
 ghost use Rattle.text.specs.Numerals.{decimal, joined};
 ghost use Rattle.text.specs.Writing.{Wrote};
 ghost use Rattle.ruletext.specs.Printing.{Prints};
-ghost use Rattle.dottext.specs.DotText.{headLines, stateLine, arrow, pointLine, entryLine, initialLines, arcLine, arcLines, arcsBy, arcsFrom, arcsText, dotText, textFor};
+ghost use Rattle.dottext.specs.DotText.{headLines, stateLine, arrow, pointLine, entryLine, initialLines, arcLine, arcLines, arcsFrom, arcsText, dotText, textFor};
 ghost use Rattle.automaton.specs.Rules.{targetMask};
 use automaton::Rule;
 use masks::StateNumber;

@@ -17,11 +17,11 @@ use Rattle.chunks.specs.Chunks.{total}
 use Rattle.board.specs.Boards.{emptyPlaces, summedCount}
 use Rattle.joins.specs.Joining.{joinUpTo, saysYes}
 use Rattle.board.proofs.Laws.{empty-law}
-use Rattle.judge.specs.declared.Judge.{Judge}
-use Rattle.judge.specs.Replies.{Reply, waiting, keeps, breaks, refused}
+use Rattle.calls.specs.declared.Judge.{Judge}
+use Rattle.calls.specs.Replies.{Reply, waiting, keeps, breaks, refused}
 use Rattle.histories.specs.History.{isNone, fileOf, ruleFrom, placesIn, endOf, standing, emptiesIn, summedIn, yesIn, verdictIn}
-use Rattle.judge.specs.Calls.{Call}
-use Rattle.judge.specs.Steps.{lacksBoard, isYes, verdictOf}
+use Rattle.calls.specs.Calls.{Call}
+use Rattle.calls.specs.Steps.{lacksBoard, isYes, verdictOf}
 use Rattle.histories.proofs.Running.{n-same}
 use Rattle.histories.proofs.Holding.{Holds}
 use Rattle.histories.proofs.Numbers.{no-board, places-same, summed-same}

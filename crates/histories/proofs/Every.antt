@@ -9,13 +9,13 @@ use Rattle.rulefile.specs.Language.{automatonIn}
 use Rattle.delegates.specs.Alike.{Merged}
 use Rattle.build.specs.declared.Built.{Built}
 use Rattle.build.specs.Building.{BuiltRule}
-use Rattle.judge.specs.declared.Judge.{Judge}
-use Rattle.judge.specs.Replies.{Reply}
+use Rattle.calls.specs.declared.Judge.{Judge}
+use Rattle.calls.specs.Replies.{Reply}
 use Rattle.histories.specs.History.{fileOf, placesIn, standing, verdictIn}
-use Rattle.judge.specs.Calls.{Call, loads, opens, delivers, withdraws, asks, loadNumber}
-use Rattle.judge.specs.Steps.{Outcome, verdictOf, Steps}
+use Rattle.calls.specs.Calls.{Call, loads, opens, delivers, withdraws, asks, loadNumber}
+use Rattle.calls.specs.Steps.{Outcome, verdictOf, Steps}
 use Rattle.histories.specs.Claims.{Ran, begins, next, BuiltBy, DelegatesBy, DelegatesIn, Right, AllRight, EveryList}
-use Rattle.judge.proofs.Conditions.{not-refused}
+use Rattle.calls.proofs.Conditions.{not-refused}
 use Rattle.histories.proofs.Bytes.{of-rule}
 use Rattle.histories.proofs.Running.{merged}
 use Rattle.histories.proofs.Numbers.{summed-same}

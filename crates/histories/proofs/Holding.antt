@@ -1,27 +1,24 @@
 -- The state agrees with a rule and with a chunk at each place, or none: `Holds`. A fresh judge agrees with nothing, a load brings a rule, an
 -- opening empties all places, a delivery changes one place and a withdrawal empties one. Assumes nothing.
-use mathlib.Core.Path.{_≡_, refl, sym, ap, ap₂, _∙_, subst}
-use mathlib.Core.Bool.{Bool, true, false, cond}
+use mathlib.Core.Path.{_≡_, refl, sym, ap, _∙_, subst}
+use mathlib.Core.Bool.{false, cond}
 use mathlib.Core.List.{List}
 use mathlib.Core.Option.{Option, none, some}
-use Prim.Native.Nat.{ℕ, _*_, _+_, _≤_, _<_, min}
+use Prim.Native.Nat.{ℕ, _≤_, _<_}
 use native.Mathlib.Omega.{arith}
-use lib.Dec.{eqb, ltb}
-use lib.ListN.{length, getD}
-use borrow.Author.Tests.{eq-eqb, ne-eqb, eqb-true, eqb-false, ltb-true, ltb-false}
+use lib.Dec.{eqb}
+use lib.ListN.{getD}
+use borrow.Author.Tests.{eq-eqb, ne-eqb, eqb-true, eqb-false}
 use Rattle.masks.proofs.Cases.{by-test}
-use Rattle.automaton.specs.declared.Rule.{Rule}
-use Rattle.automaton.specs.Rules.{WellFormed}
 use Rattle.rulefile.specs.Reader.{ruleOf}
-use Rattle.subsets.specs.Claims.{fits}
 use Rattle.delegates.specs.Alike.{Text}
-use Rattle.build.specs.Building.{BuiltRule, noBuilt}
+use Rattle.build.specs.Building.{noBuilt}
 use Rattle.board.specs.declared.Board.{Board}
-use Rattle.board.specs.Boards.{placesOf, held, isEmpty, emptyBoard, filledAt, clearedAt}
+use Rattle.board.specs.Boards.{held, isEmpty, emptyBoard, filledAt, clearedAt}
 use Rattle.board.proofs.Laws.{Sized, sized-empty, empty-all, empty-held, empty-count, Changed, filled-at, cleared-at}
-use Rattle.judge.specs.declared.Judge.{Judge}
+use Rattle.calls.specs.declared.Judge.{Judge}
 use Rattle.histories.specs.History.{isNone, ruleFrom, countOf, endOf}
-use Rattle.judge.specs.Steps.{fresh, withBoard, runsAt}
+use Rattle.calls.specs.Steps.{fresh, withBoard, runsAt}
 use Rattle.histories.specs.Claims.{BuiltBy}
 use Rattle.histories.proofs.Running.{count-same, end-same}
 

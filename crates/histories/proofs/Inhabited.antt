@@ -6,7 +6,6 @@ use mathlib.Core.Bool.{Bool, true, false, cond, not}
 use mathlib.Core.List.{List, [], _∷_}
 use mathlib.Core.Option.{Option, none, some}
 use Prim.Native.Nat.{ℕ, _+_, min}
-use native.Mathlib.Omega.{arith}
 use lib.Dec.{eqb}
 use lib.ListN.{length}
 use denote.Ref.{RefT, now}
@@ -20,22 +19,22 @@ use Rattle.build.specs.declared.Built.{Built}
 use Rattle.build.specs.Building.{BuiltRule}
 use Rattle.automaton.specs.declared.Rule.{Rule}
 use Rattle.board.specs.Boards.{placesOf, isEmpty, emptyBoard, filledAt, clearedAt, emptyPlaces, summedCount}
-use Rattle.judge.specs.declared.Judge.{Judge}
-use Rattle.judge.specs.declared.Loading.{Loading}
-use Rattle.judge.specs.declared.LoadAnswer.the-variants as load
-use Rattle.judge.specs.declared.Opening.{Opening}
-use Rattle.judge.specs.declared.OpenAnswer.the-variants as opening
-use Rattle.judge.specs.declared.Delivery.{Delivery}
-use Rattle.judge.specs.declared.DeliverAnswer.the-variants as delivery
-use Rattle.judge.specs.declared.Withdrawal.{Withdrawal}
-use Rattle.judge.specs.declared.WithdrawAnswer.the-variants as withdrawal
-use Rattle.judge.specs.declared.Verdict.{Verdict}
-use Rattle.judge.specs.declared.Verdict.the-variants as verdict
-use Rattle.judge.specs.Calls.{Call, loads, opens, delivers, withdraws, asks, loadNumber, openConditions, deliverConditions, withdrawConditions}
-use Rattle.judge.specs.Steps.{fresh, lacksRule, lacksBoard, withBoard, loadCame, openCame, deliverCame, withdrawCame, outcomeBy, Loads, openOf, runsAt, deliverOf, withdrawOf, isYes, verdictOf}
-use Rattle.judge.proofs.Conditions.{none-some}
-use Rattle.judge.specs.Replies.{Reply, loadSays, openSays, deliverSays, withdrawSays, verdictSays}
-use Rattle.judge.specs.Replies as reply
+use Rattle.calls.specs.declared.Judge.{Judge}
+use Rattle.calls.specs.declared.Loading.{Loading}
+use Rattle.calls.specs.declared.LoadAnswer.the-variants as load
+use Rattle.calls.specs.declared.Opening.{Opening}
+use Rattle.calls.specs.declared.OpenAnswer.the-variants as opening
+use Rattle.calls.specs.declared.Delivery.{Delivery}
+use Rattle.calls.specs.declared.DeliverAnswer.the-variants as delivery
+use Rattle.calls.specs.declared.Withdrawal.{Withdrawal}
+use Rattle.calls.specs.declared.WithdrawAnswer.the-variants as withdrawal
+use Rattle.calls.specs.declared.Verdict.{Verdict}
+use Rattle.calls.specs.declared.Verdict.the-variants as verdict
+use Rattle.calls.specs.Calls.{Call, loads, opens, delivers, withdraws, asks, loadNumber, openConditions, deliverConditions, withdrawConditions}
+use Rattle.calls.specs.Steps.{fresh, lacksRule, lacksBoard, withBoard, loadCame, openCame, deliverCame, withdrawCame, outcomeBy, Loads, openOf, runsAt, deliverOf, withdrawOf, isYes, verdictOf}
+use Rattle.calls.proofs.Conditions.{none-some}
+use Rattle.calls.specs.Replies.{Reply, loadSays, openSays, deliverSays, withdrawSays, verdictSays}
+use Rattle.calls.specs.Replies as reply
 use Rattle.histories.specs.Claims.{Ran}
 use Rattle.histories.proofs.Tied.{Allowed, start, loaded, opened, delivered, withdrawn, asked, tied}
 

@@ -11,22 +11,21 @@ use lib.ListN.{length}
 use borrow.Author.Tests.{eq-eqb, ltb-true, ltb-false, leb-false}
 use Rattle.masks.proofs.Cases.{by-test}
 use Rattle.rulefile.specs.Conditions.{on, firstOf, outside}
-use Rattle.rulefile.specs.Refusals.{refusal}
 use Rattle.rulefile.specs.Reader.{ruleOf}
 use Rattle.rulefile.proofs.Conditions.{or-right}
 use Rattle.rulefile.proofs.Claims as rulefile
 use Rattle.automaton.specs.Rules.{WellFormed}
-use Rattle.subsets.specs.Sets.{setsOf, tooMany}
+use Rattle.subsets.specs.Sets.{setsOf}
 use Rattle.subsets.specs.Claims.{fits}
 use Rattle.chunks.specs.Chunks.{foreign}
 use Rattle.chunks.proofs.Claims as chunks
 use Rattle.board.specs.Boards.{emptyBoard, clearedAt, filledAt}
-use Rattle.judge.specs.declared.Judge.{Judge}
-use Rattle.judge.specs.Replies.{accepted, loaded}
-use Rattle.judge.proofs.Conditions.{not-refused}
+use Rattle.calls.specs.declared.Judge.{Judge}
+use Rattle.calls.specs.Replies.{accepted, loaded}
+use Rattle.calls.proofs.Conditions.{not-refused}
 use Rattle.histories.specs.History.{isNone, fileOf, ruleFrom, openNumber, placesIn, deliverCheck, standing, deliverNumber, withdrawNumber, replyBy}
-use Rattle.judge.specs.Calls.{Call, loads, opens, delivers, withdraws, asks, loadNumber}
-use Rattle.judge.specs.Steps.{fresh, withBoard, Outcome, outcomeBy, runsAt, Loads, openOf, deliverOf, withdrawOf}
+use Rattle.calls.specs.Calls.{Call, loads, opens, delivers, withdraws, asks, loadNumber}
+use Rattle.calls.specs.Steps.{fresh, withBoard, Outcome, outcomeBy, runsAt, Loads, openOf, deliverOf, withdrawOf}
 use Rattle.histories.specs.Claims.{BuiltBy}
 use Rattle.histories.proofs.Holding.{Holds, all-empty, fresh-holds, placed, cleared-holds, filled-holds}
 use Rattle.histories.proofs.Numbers.{list-11, list-12, list-13, list-22, passed, open-number, withdraw-number, deliver-number}

@@ -1,6 +1,6 @@
 -- No list of calls comes to 24, as `Never-24` of specs/Claims.antt says: a chunk counts at most 32 transitions for each of its 65,536 bytes at most,
 -- and a board has at most 64 places. So which chunk stands where does not depend on the delegates (`Standing-fixed`). Assumes nothing.
-use mathlib.Core.Path.{_≡_, refl, sym, ap, ap₂, _∙_, subst, fun-ext}
+use mathlib.Core.Path.{_≡_, refl, sym, ap, ap₂, subst, fun-ext}
 use mathlib.Core.Bool.{Bool, true, false, cond, _&&_, _||_}
 use mathlib.Core.List.{List, [], _∷_, _++_}
 use mathlib.Core.Option.{Option, none, some}
@@ -19,10 +19,10 @@ use Rattle.rulefile.proofs.Conditions.{or-left, or-right, none-law}
 use Rattle.subsets.specs.Sets.{setsOf}
 use Rattle.chunks.specs.Chunks.{foreign, counted, runSet, total, chunkCount}
 use Rattle.chunks.proofs.Claims as chunks
-use Rattle.board.proofs.Totals.{total-most}
-use Rattle.judge.specs.Replies.{Reply, accepted, loaded, waiting, keeps, breaks, refused}
-use Rattle.judge.specs.Calls.{Call, loads, opens, delivers, withdraws, asks, loadNumber, openConditions, deliverConditions, withdrawConditions}
-use Rattle.judge.proofs.Conditions.{none-some, over}
+use Rattle.chunks.proofs.Totals.{total-most}
+use Rattle.calls.specs.Replies.{Reply, accepted, loaded, waiting, keeps, breaks, refused}
+use Rattle.calls.specs.Calls.{Call, loads, opens, delivers, withdraws, asks, loadNumber, openConditions, deliverConditions, withdrawConditions}
+use Rattle.calls.proofs.Conditions.{none-some, over}
 use Rattle.histories.specs.History.{isNone, isSome, fileOf, ruleIn, openNumber, placesIn, countOf, deliverCheck, withdrawCheck, standing, deliverNumber, withdrawNumber, emptiesIn, summedIn, yesIn, replyBy}
 use Rattle.histories.specs.Claims.{Never-24, Standing-fixed}
 

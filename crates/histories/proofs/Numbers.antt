@@ -1,27 +1,26 @@
 -- The number that a call is refused with, read off the state, is the one that the list of calls says: each test of the state is the test of the
 -- list, as far as the earlier ones fail. Assumes nothing.
-use mathlib.Core.Path.{_≡_, refl, sym, ap, ap₂, _∙_, subst}
+use mathlib.Core.Path.{_≡_, refl, ap, ap₂, _∙_}
 use mathlib.Core.Bool.{Bool, true, false, cond, not}
 use mathlib.Core.List.{List, [], _∷_}
 use mathlib.Core.Option.{Option, none, some}
-use Prim.Native.Nat.{ℕ, _+_, _≤_, _<_, min}
+use Prim.Native.Nat.{ℕ, _+_, _<_, min}
 use native.Mathlib.Omega.{arith}
 use lib.Dec.{eqb, ltb, leb}
-use lib.ListN.{length, getD}
-use borrow.Author.Tests.{eq-eqb, ne-eqb, eqb-false, leb-false}
+use lib.ListN.{length}
+use borrow.Author.Tests.{ne-eqb, leb-false}
 use Rattle.rulefile.specs.Conditions.{on, firstOf, outside}
 use Rattle.automaton.specs.declared.Rule.{Rule}
 use Rattle.rulefile.specs.Reader.{ruleOf}
 use Rattle.delegates.specs.Alike.{Text}
-use Rattle.build.specs.Building.{noBuilt}
 use Rattle.chunks.specs.Chunks.{foreign, total}
 use Rattle.chunks.proofs.Claims as chunks
 use Rattle.board.specs.Boards.{placesOf, isEmpty, summedCount}
 use Rattle.board.proofs.Laws.{summed-law}
-use Rattle.judge.specs.declared.Judge.{Judge}
+use Rattle.calls.specs.declared.Judge.{Judge}
 use Rattle.histories.specs.History.{isNone, isSome, ruleFrom, countOf, deliverCheck, withdrawCheck}
-use Rattle.judge.specs.Calls.{openConditions, withdrawConditions}
-use Rattle.judge.specs.Steps.{lacksRule, lacksBoard, runsAt}
+use Rattle.calls.specs.Calls.{openConditions, withdrawConditions}
+use Rattle.calls.specs.Steps.{lacksRule, lacksBoard, runsAt}
 use Rattle.histories.specs.Claims.{BuiltBy}
 use Rattle.histories.proofs.Running.{n-same, k-same}
 use Rattle.histories.proofs.Holding.{Holds, run-count}

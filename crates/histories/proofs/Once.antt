@@ -1,11 +1,11 @@
 -- A list of calls fixes its replies and the state that is left, as `Ran-fixed` of specs/Claims.antt says. Assumes nothing.
 use mathlib.Core.Path.{_≡_, refl, sym, ap, ap₂, subst}
 use mathlib.Core.List.{List, _∷_}
-use Rattle.judge.specs.declared.Judge.{Judge}
-use Rattle.judge.specs.Replies.{Reply}
-use Rattle.judge.specs.Calls.{Call}
-use Rattle.judge.specs.Steps.{Outcome, Steps}
-use Rattle.judge.proofs.Fixed.{steps-fixed}
+use Rattle.calls.specs.declared.Judge.{Judge}
+use Rattle.calls.specs.Replies.{Reply}
+use Rattle.calls.specs.Calls.{Call}
+use Rattle.calls.specs.Steps.{Outcome, Steps}
+use Rattle.calls.proofs.Fixed.{steps-fixed}
 use Rattle.histories.specs.Claims.{Ran, begins, next, Ran-fixed}
 
 same : {h : List Call} {given given′ : List Reply} {j j′ : Judge} → Ran h given j → Ran h given′ j′ → (given ≡ given′) × (j ≡ j′)

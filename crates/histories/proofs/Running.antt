@@ -1,10 +1,9 @@
 -- What running a chunk gives, for a rule that is built: the end sets and the count that document 01 gives to it at its place. Assumes nothing.
 use mathlib.Core.Path.{_≡_, sym, ap, _∙_, subst}
 use mathlib.Core.List.{List}
-use Prim.Native.Nat.{ℕ, zero, suc, _^_, _≤_, _<_, min}
+use Prim.Native.Nat.{ℕ, zero, suc, _^_, _<_}
 use native.Mathlib.Omega.{arith}
 use lib.ListN.{getD}
-use Rattle.masks.specs.Masks.{_∈_}
 use Rattle.masks.proofs.Laws.{below-of}
 use Rattle.masks.proofs.Lists.{cell-of}
 use Rattle.automaton.specs.declared.Rule.{Rule}

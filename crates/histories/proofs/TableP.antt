@@ -18,10 +18,10 @@ use Rattle.build.specs.declared.Built.{Built}
 use Rattle.build.specs.Building.{BuiltRule}
 use Rattle.chunks.specs.Chunks.{foreign, counted, startSet, total}
 use Rattle.joins.specs.Joining.{joinUpTo}
-use Rattle.judge.specs.declared.Judge.{Judge}
-use Rattle.judge.specs.Replies.{Reply, refused}
+use Rattle.calls.specs.declared.Judge.{Judge}
+use Rattle.calls.specs.Replies.{Reply, refused}
 use Rattle.histories.specs.History.{fileOf, placesIn, standing, answerOf}
-use Rattle.judge.specs.Calls.{Call, loads, opens, delivers, withdraws, asks, loadNumber}
+use Rattle.calls.specs.Calls.{Call, loads, opens, delivers, withdraws, asks, loadNumber}
 use Rattle.histories.specs.Claims.{BuiltBy, DelegatesBy, DelegatesIn, Right, AllRight, EveryList}
 use Rattle.histories.specs.TableP.{Result, sets, delegates, verdict, turned-down, Case, case, delivering, callsFor, callsOf, repliesFor, rowsFrom, Shows, Holds, Each, Case-holds, table, TableP}
 use Rattle.histories.proofs.Every.{every-list}

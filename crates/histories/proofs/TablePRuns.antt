@@ -1,8 +1,8 @@
 -- Table P about the code that runs: the replies and the state are any that the functions' own contracts allow for the calls of a case, as
 -- Tied.antt has them. Inhabited.antt shows that every list of calls runs so. Assumes nothing.
 use mathlib.Core.List.{List}
-use Rattle.judge.specs.declared.Judge.{Judge}
-use Rattle.judge.specs.Replies.{Reply}
+use Rattle.calls.specs.declared.Judge.{Judge}
+use Rattle.calls.specs.Replies.{Reply}
 use Rattle.histories.specs.TableP.{Case, callsOf, Holds, Each, Case-holds, table}
 use Rattle.histories.proofs.Tied.{Allowed, tied}
 use Rattle.histories.proofs.TableP.{each, table-P}

@@ -1,7 +1,7 @@
 -- Which calls are accepted, condition by condition, as `Accepted-exactly` of specs/Claims.antt says. Assumes nothing.
-use mathlib.Core.Path.{_≡_, refl, sym, ap, _∙_}
+use mathlib.Core.Path.{_≡_, refl}
 use mathlib.Core.Logic.{_↔_}
-use mathlib.Core.Bool.{Bool, true, false}
+use mathlib.Core.Bool.{false}
 use mathlib.Core.List.{List, [], _∷_}
 use mathlib.Core.Option.{Option, none, some}
 use Prim.Native.Nat.{ℕ, _+_, _≤_, _<_}
@@ -12,9 +12,9 @@ use borrow.Author.Tests.{ne-eqb, eqb-false, lt-leb, leb-false, le-ltb, ltb-false
 use Rattle.rulefile.specs.Conditions.{Condition, on, firstOf, NoneHolds, outside}
 use Rattle.rulefile.proofs.Conditions.{or-left, or-right, or-neither, none-law}
 use Rattle.chunks.specs.Chunks.{foreign}
-use Rattle.judge.specs.Replies.{accepted}
+use Rattle.calls.specs.Replies.{accepted}
 use Rattle.histories.specs.History.{isNone, isSome, fileOf, ruleIn, placesIn, countOf, standing, summedIn, replyBy}
-use Rattle.judge.specs.Calls.{Call}
+use Rattle.calls.specs.Calls.{Call}
 use Rattle.histories.specs.Claims.{Accepted-exactly}
 
 -- ---- accepted where no condition holds

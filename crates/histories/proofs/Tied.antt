@@ -8,15 +8,15 @@ use contract.Lifetimes.{Lfts}
 use denote.Ref.{RefT, now}
 use denote.Triple.Clauses.{AtExit}
 use borrow.Fn.Kinds.{endedOf}
-use Rattle.judge.specs.declared.Judge.{Judge}
-use Rattle.judge.specs.declared.Loading.{Loading}
-use Rattle.judge.specs.declared.Opening.{Opening}
-use Rattle.judge.specs.declared.Delivery.{Delivery}
-use Rattle.judge.specs.declared.Withdrawal.{Withdrawal}
-use Rattle.judge.specs.declared.Verdict.{Verdict}
-use Rattle.judge.specs.Replies.{Reply, loadSays, openSays, deliverSays, withdrawSays, verdictSays}
-use Rattle.judge.specs.Calls.{Call, loads, opens, delivers, withdraws, asks}
-use Rattle.judge.specs.Steps.{loadCame, openCame, deliverCame, withdrawCame, Loads, deliverOf}
+use Rattle.calls.specs.declared.Judge.{Judge}
+use Rattle.calls.specs.declared.Loading.{Loading}
+use Rattle.calls.specs.declared.Opening.{Opening}
+use Rattle.calls.specs.declared.Delivery.{Delivery}
+use Rattle.calls.specs.declared.Withdrawal.{Withdrawal}
+use Rattle.calls.specs.declared.Verdict.{Verdict}
+use Rattle.calls.specs.Replies.{Reply, loadSays, openSays, deliverSays, withdrawSays, verdictSays}
+use Rattle.calls.specs.Calls.{Call, loads, opens, delivers, withdraws, asks}
+use Rattle.calls.specs.Steps.{loadCame, openCame, deliverCame, withdrawCame, Loads, deliverOf}
 use Rattle.histories.specs.Claims.{Ran, begins, next, EveryList}
 use Rattle.histories.proofs.Every.{every-list}
 use Rattle.judge.proofs.new_judge.Reads as new-reads

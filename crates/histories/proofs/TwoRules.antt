@@ -27,8 +27,8 @@ use Rattle.delegates.specs.Alike.{Text, Alike, Delegate, startCount, Merged}
 use Rattle.delegates.proofs.Tests.{le-by}
 use Rattle.delegates.proofs.Alike.{alike-self, one-delegate}
 use Rattle.delegates.proofs.Acceptance.{from-law}
-use Rattle.judge.specs.Calls.{loadNumber}
-use Rattle.judge.proofs.Conditions.{load-number}
+use Rattle.calls.specs.Calls.{loadNumber}
+use Rattle.calls.proofs.Conditions.{load-number}
 use Rattle.histories.proofs.Bytes.{of-bytes}
 
 -- ---- delegates

@@ -30,12 +30,13 @@ use Rattle.chunks.specs.Chunks.{counted, runSet, endSet, total, chunkCount}
 use Rattle.joins.specs.Joining.{saysYes}
 use Rattle.joins.specs.Claims as joins-specs
 use Rattle.joins.proofs.Claims as joins
-use Rattle.board.proofs.Totals.{total-same, term-most}
-use Rattle.judge.specs.declared.Judge.{Judge}
-use Rattle.judge.specs.Replies.{Reply, waiting, keeps, breaks, refused}
-use Rattle.judge.proofs.Conditions.{not-refused}
+use Rattle.chunks.proofs.Totals.{total-same}
+use Rattle.board.proofs.Totals.{term-most}
+use Rattle.calls.specs.declared.Judge.{Judge}
+use Rattle.calls.specs.Replies.{Reply, waiting, keeps, breaks, refused}
+use Rattle.calls.proofs.Conditions.{not-refused}
 use Rattle.histories.specs.History.{isNone, fileOf, ruleFrom, openNumber, boardIn, placesIn, countOf, endOf, standing, emptiesIn, summedIn, yesIn, chunkOf, joinedUpTo}
-use Rattle.judge.specs.Calls.{Call, loads, opens, delivers, withdraws, asks, loadNumber}
+use Rattle.calls.specs.Calls.{Call, loads, opens, delivers, withdraws, asks, loadNumber}
 use Rattle.histories.specs.Claims.{automatonBy, Verdict-words}
 use Rattle.histories.proofs.Running.{merged}
 use Rattle.histories.proofs.Holding.{Holds}

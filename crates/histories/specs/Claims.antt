@@ -31,11 +31,11 @@ use Rattle.delegates.specs.Alike.{Merged}
 use Rattle.build.specs.Building.{BuiltRule, noBuilt}
 use Rattle.chunks.specs.Chunks.{foreign}
 use Rattle.board.specs.Boards.{held, isEmpty, summedCount}
-use Rattle.judge.specs.declared.Judge.{Judge}
-use Rattle.judge.specs.Replies.{Reply, accepted, waiting, keeps, breaks, refused}
+use Rattle.calls.specs.declared.Judge.{Judge}
+use Rattle.calls.specs.Replies.{Reply, accepted, waiting, keeps, breaks, refused}
 use Rattle.histories.specs.History.{isNone, fileOf, ruleIn, boardIn, placesIn, countOf, standing, endAt, countAt, emptiesIn, summedIn, yesIn, textIn, verdictIn, answerOf}
-use Rattle.judge.specs.Calls.{Call, loads, opens, delivers, withdraws, asks, loadNumber}
-use Rattle.judge.specs.Steps.{fresh, Outcome, isYes, verdictOf, Steps}
+use Rattle.calls.specs.Calls.{Call, loads, opens, delivers, withdraws, asks, loadNumber}
+use Rattle.calls.specs.Steps.{fresh, Outcome, isYes, verdictOf, Steps}
 
 -- a list of calls was answered with the replies and left the judge j, the last first; each step is what that call may come to
 pub data Ran : List Call → List Reply → Judge → Type 0 where

@@ -31,8 +31,8 @@ use Rattle.rulefile.specs.Reader.{ruleOf, noRule}
 use Rattle.subsets.specs.Sets.{setsOf}
 use Rattle.chunks.specs.Chunks.{runSet, endSet, total, chunkCount}
 use Rattle.joins.specs.Joining.{saysYes}
-use Rattle.judge.specs.Replies.{Reply, accepted, loaded, waiting, keeps, breaks, refused}
-use Rattle.judge.specs.Calls.{Call, loads, opens, delivers, withdraws, asks, loadNumber, openConditions, deliverConditions, withdrawConditions}
+use Rattle.calls.specs.Replies.{Reply, accepted, loaded, waiting, keeps, breaks, refused}
+use Rattle.calls.specs.Calls.{Call, loads, opens, delivers, withdraws, asks, loadNumber, openConditions, deliverConditions, withdrawConditions}
 
 -- there is no value, and there is one
 abbrev pub isNone : {A : Type 0} → Option A → Bool

@@ -14,9 +14,9 @@ use lib.ListN.{length, getD, replicate}
 use Rattle.masks.specs.Lists.{listFrom}
 use Rattle.rulefile.specs.Worked.{fileA, fileB, fileA-final-8}
 use Rattle.build.specs.declared.Built.{Built}
-use Rattle.judge.specs.declared.Judge.{Judge}
-use Rattle.judge.specs.Replies.{Reply, accepted, loaded, keeps, breaks, refused}
-use Rattle.judge.specs.Calls.{Call, loads, opens, delivers, asks}
+use Rattle.calls.specs.declared.Judge.{Judge}
+use Rattle.calls.specs.Replies.{Reply, accepted, loaded, keeps, breaks, refused}
+use Rattle.calls.specs.Calls.{Call, loads, opens, delivers, asks}
 use Rattle.histories.specs.Claims.{Ran}
 
 -- ---- a case

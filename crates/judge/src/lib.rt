@@ -1,72 +1,26 @@
-// The judge: one rule, one board, five calls.
+// The judge: five calls over one state.
 ghost use mathlib.Core.Path.{_≡_};
 ghost use Prim.Native.Nat.{_+_, _≤_};
 ghost use lib.Dec.{ltb};
 ghost use lib.ListN.{length};
 ghost use Rattle.chunks.specs.Walks.{runMask, runsOf};
-ghost use Rattle.judge.specs.Replies.{refused, verdictSays};
-ghost use Rattle.judge.specs.Steps.{fresh, withBoard, loadCame, openCame, deliverCame, withdrawCame, Loads, openOf, deliverOf, withdrawOf, verdictOf};
+ghost use Rattle.calls.specs.Replies.{refused, verdictSays};
+ghost use Rattle.calls.specs.Steps.{fresh, withBoard, loadCame, openCame, deliverCame, withdrawCame, Loads, openOf, deliverOf, withdrawOf, verdictOf};
 use board::Board;
 use build::BuildAnswer;
 use build::Built;
+use calls::DeliverAnswer;
+use calls::Delivery;
+use calls::Judge;
+use calls::LoadAnswer;
+use calls::Loading;
+use calls::OpenAnswer;
+use calls::Opening;
+use calls::Verdict;
+use calls::WithdrawAnswer;
+use calls::Withdrawal;
 use chunks::Runs;
 use rulefile::ReadAnswer;
-
-// The state. A rule is there when built.n is not 0, a board when board.places is not 0; in a fresh judge every number is 0.
-#[repr(C)]
-pub struct Judge {
-    pub built: Built,
-    pub board: Board,
-}
-
-// The number of sets and M, or a refusal.
-pub enum LoadAnswer {
-    Accepted(u16, u8),
-    Refused(u8),
-}
-
-pub enum OpenAnswer {
-    Accepted,
-    Refused(u8),
-}
-
-pub enum DeliverAnswer {
-    Accepted,
-    Refused(u8),
-}
-
-pub enum WithdrawAnswer {
-    Accepted,
-    Refused(u8),
-}
-
-pub enum Verdict {
-    Waiting(u8),
-    Yes(u64),
-    No(u64),
-    Refused(u8),
-}
-
-// Each call that may change the state answers with the next state beside the answer.
-pub struct Loading {
-    pub answer: LoadAnswer,
-    pub judge: Judge,
-}
-
-pub struct Opening {
-    pub answer: OpenAnswer,
-    pub judge: Judge,
-}
-
-pub struct Delivery {
-    pub answer: DeliverAnswer,
-    pub judge: Judge,
-}
-
-pub struct Withdrawal {
-    pub answer: WithdrawAnswer,
-    pub judge: Judge,
-}
 
 // A judge with no rule and no board.
 pub fn new_judge() -> Judge

@@ -22,8 +22,8 @@ use Rattle.fields.specs.Numbers.{numberIn}
 use Rattle.fields.specs.Bytes.{allHex, pairs, bytesIn}
 use Rattle.fields.proofs.Digits.{and-false, said-long}
 use Rattle.fields.proofs.Pairs.{hex-append, pairs-length}
-use Rattle.judge.specs.declared.Judge.{Judge}
-use Rattle.judge.specs.Calls.{loads, delivers, asks}
+use Rattle.calls.specs.declared.Judge.{Judge}
+use Rattle.calls.specs.Calls.{loads, delivers, asks}
 use Rattle.calltext.specs.Meaning.{Meaning, call, malformed, load-word, open-word, deliver-word, withdraw-word, verdict-word, loadBy, openBy, withdrawBy, deliverBy, deliverFields, callIn, lineIn}
 use Rattle.calltext.specs.Answers.{Response}
 use Rattle.callrun.specs.Running.{LineSteps}

@@ -5,16 +5,16 @@
 --   held-malformed       where it is not, the line is malformed
 use mathlib.Core.Path.{_≡_, refl, sym, ap, ap₂, _∙_, subst}
 use mathlib.Core.Bool.{Bool, true, false, cond, _&&_, true≢false}
-use mathlib.Core.List.{List, [], _++_}
+use mathlib.Core.List.{List}
 use Prim.Native.Nat.{ℕ, _+_, _-_, _%_, _≤_, _<_, min}
 use native.Mathlib.Omega.{arith}
 use borrow.Author.Tests.{eqb-true, eqb-false, ltb-true, ltb-false}
-use lib.Dec.{eqb, ltb}
+use lib.Dec.{ltb}
 use lib.ListN.{length, take, drop, length-drop, take-append-drop}
 use lib.Seq.{take-all, take-length, take-take, take-add, drop-at, drop-drop, length-take-le}
 use Rattle.masks.proofs.Cases.{by-test}
 use Rattle.fields.specs.Bytes.{allHex}
-use Rattle.judge.specs.declared.Judge.{Judge}
+use Rattle.calls.specs.declared.Judge.{Judge}
 use Rattle.calltext.specs.Meaning.{Meaning, malformed, lineIn}
 use Rattle.calltext.specs.Answers.{Response}
 use Rattle.callrun.specs.Running.{LineSteps}

@@ -13,7 +13,7 @@ use Prim.Native.Nat.{ℕ, _%_, min}
 use lib.Dec.{eqb}
 use lib.ListN.{length, take, drop}
 use Rattle.fields.specs.Bytes.{allHex}
-use Rattle.judge.specs.declared.Judge.{Judge}
+use Rattle.calls.specs.declared.Judge.{Judge}
 use Rattle.calltext.specs.Meaning.{lineIn}
 use Rattle.calltext.specs.Answers.{responseOf}
 use Rattle.callrun.specs.declared.LineRun.{LineRun}

@@ -7,7 +7,7 @@ ghost use lib.ListN.{length};
 ghost use Rattle.fields.specs.Bytes.{allHex};
 ghost use Rattle.linebuffer.specs.Holding.{KeepsNothing, KeepsMore, RunsHeld};
 use callrun::LineRun;
-use judge::Judge;
+use calls::Judge;
 
 // How many bytes of a line the buffer has; whether the bytes that it does not have are hex digits; whether their number is odd.
 pub struct Held {

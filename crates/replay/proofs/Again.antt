@@ -5,7 +5,7 @@ use Prim.Native.Nat.{ℕ, suc}
 use lib.ListN.{length}
 use Rattle.lines.specs.Splitting.{linesFrom}
 use Rattle.lines.proofs.Over.{over-line}
-use Rattle.judge.specs.Calls.{Call}
+use Rattle.calls.specs.Calls.{Call}
 use Rattle.calltext.specs.Meaning.{Meaning}
 use Rattle.calltext.specs.Claims.{lineOf}
 use Rattle.calltext.proofs.Again.{over-call}

@@ -6,7 +6,7 @@
 --   lines-on             the lines of a text from an index on
 use mathlib.Core.Path.{_≡_, refl, sym, ap, ap₂, _∙_, subst}
 use mathlib.Core.Bool.{true, false, true≢false}
-use mathlib.Core.List.{List, [], _∷_, _++_}
+use mathlib.Core.List.{List, [], _∷_}
 use Prim.Native.Nat.{ℕ, suc, _+_, _-_, _≤_, _<_, min}
 use native.Mathlib.Numerals.{add-one}
 use native.Mathlib.Omega.{arith}
@@ -18,16 +18,16 @@ use Rattle.masks.proofs.Cases.{by-test}
 use Rattle.lines.specs.Splitting.{upTo, lastLine, linesFrom, linesOf}
 use Rattle.lines.proofs.Splits.{up-whole, lines-there, lines-last}
 use Rattle.lines.proofs.Parts.{part-rest, part-is}
-use Rattle.judge.specs.declared.Judge.{Judge}
-use Rattle.judge.specs.Replies.{Reply}
-use Rattle.judge.specs.Calls.{Call}
-use Rattle.judge.specs.Steps.{fresh, verdictOf}
+use Rattle.calls.specs.declared.Judge.{Judge}
+use Rattle.calls.specs.Replies.{Reply}
+use Rattle.calls.specs.Calls.{Call}
+use Rattle.calls.specs.Steps.{fresh, verdictOf}
 use Rattle.histories.specs.Claims.{Ran, begins, next}
 use Rattle.histories.proofs.Every.{every-list, verdict-after}
 use Rattle.calltext.specs.Meaning.{Meaning, again, call, malformed, lineIn}
-use Rattle.calltext.specs.Answers.{Response, began, replied, unread, isUnread}
+use Rattle.calltext.specs.Answers.{Response, isUnread}
 use Rattle.callrun.specs.Running.{LineSteps}
-use Rattle.replay.specs.Records.{Recorded, calls, malformedAt, readOn, readLine, readLines, recordIn, Told, verdict, malformedLine, Replayed}
+use Rattle.replay.specs.Records.{Recorded, calls, malformedAt, readOn, readLines, recordIn, Told, verdict, malformedLine, Replayed}
 
 pub stays-malformed : (k i : ℕ) (lines : List (List ℕ)) → readLines (malformedAt k) i lines ≡ malformedAt k
 unfolding readLines

@@ -5,7 +5,7 @@
 use mathlib.Core.Path.{_≡_}
 use mathlib.Core.List.{List, [], _∷_, _++_}
 use Prim.Native.Nat.{ℕ}
-use Rattle.judge.specs.Calls.{Call}
+use Rattle.calls.specs.Calls.{Call}
 use Rattle.calltext.specs.Claims.{Fits, lineOf}
 use Rattle.replay.specs.Records.{calls, recordIn}
 

@@ -9,10 +9,10 @@ use mathlib.Core.Path.{_≡_}
 use mathlib.Core.List.{List, [], _∷_}
 use Prim.Native.Nat.{ℕ, suc}
 use Rattle.lines.specs.Splitting.{linesOf}
-use Rattle.judge.specs.declared.Judge.{Judge}
-use Rattle.judge.specs.Replies.{Reply, waiting, keeps, breaks, refused}
+use Rattle.calls.specs.declared.Judge.{Judge}
+use Rattle.calls.specs.Replies.{Reply, waiting, keeps, breaks, refused}
 use Rattle.histories.specs.History.{verdictIn}
-use Rattle.judge.specs.Calls.{Call}
+use Rattle.calls.specs.Calls.{Call}
 use Rattle.histories.specs.Claims.{Ran, EveryList}
 use Rattle.calltext.specs.Meaning.{Meaning, again, call, malformed, lineIn}
 use Rattle.replay.specs.declared.ReplayAnswer.{ReplayAnswer}

@@ -3,10 +3,10 @@ ghost use mathlib.Core.Path.{_≡_};
 ghost use Prim.Native.Nat.{_+_, _≤_, min};
 ghost use lib.ListN.{length};
 ghost use Rattle.calltext.specs.Answers.{responseOf, isUnread};
-ghost use Rattle.judge.specs.Replies.{verdictSays};
+ghost use Rattle.calls.specs.Replies.{verdictSays};
 ghost use Rattle.replay.specs.Records.{verdict, recordIn, toldOf, Replayed};
+use calls::Verdict;
 use calltext::LineAnswer;
-use judge::Verdict;
 
 // The verdict, or the number of the first malformed line.
 pub enum ReplayAnswer {

@@ -3,10 +3,10 @@
 --   ended, goes-on              a line feed follows, or none
 --   finish-none, finish-last    the last line is empty, or not
 --   answered, fed-ended, fed-on what the functions promise, from what the layers below do
-use mathlib.Core.Path.{_≡_, refl, sym, ap, ap₂, _∙_, subst}
+use mathlib.Core.Path.{_≡_, refl, sym, ap, ap₂, _∙_}
 use mathlib.Core.Logic.{inl, inr}
 use mathlib.Core.List.{List, [], _∷_, _++_}
-use Prim.Native.Nat.{ℕ, suc, _+_, _-_, _≤_, _<_, min}
+use Prim.Native.Nat.{ℕ, suc, _+_, _-_, _≤_, _<_}
 use native.Mathlib.Omega.{arith}
 use lib.ListN.{length, take, drop, length-append, drop-of-length-le}
 use lib.Seq.{drop-drop, drop-append-le, length-take-le}
@@ -14,7 +14,7 @@ use Rattle.text.specs.Writing.{Wrote}
 use Rattle.lines.specs.Splitting.{upTo, linesFrom}
 use Rattle.lines.proofs.Splits.{up-whole, up-append, lines-there, lines-over}
 use Rattle.lines.proofs.Parts.{part-rest, part-from, part-to, part-is}
-use Rattle.judge.specs.declared.Judge.{Judge}
+use Rattle.calls.specs.declared.Judge.{Judge}
 use Rattle.linebuffer.specs.declared.Held.{Held}
 use Rattle.linebuffer.specs.Holding.{Keeps, KeepsNothing, KeepsMore, RunsHeld}
 use Rattle.calltext.specs.Answers.{responseText, responseOf}

@@ -3,18 +3,16 @@
 --   ran-append        lines and then others
 --   claims            the whole text
 --   going-first, going-on, going-last   for a loop over the parts of a block
-use mathlib.Core.Path.{_≡_, refl, sym, ap, ap₂, _∙_, subst}
-use mathlib.Core.List.{List, [], _∷_, _++_, append-nil, append-assoc, flatten}
+use mathlib.Core.Path.{_≡_, refl, sym, ap, _∙_, subst}
+use mathlib.Core.List.{List, [], _∷_, _++_, append-assoc, flatten}
 use mathlib.Core.Logic.{⊎-elim}
 use Prim.Native.Nat.{ℕ, _≤_}
 use lib.ListN.{length, drop, drop-of-length-le}
-use Rattle.lines.specs.Splitting.{linesFrom, linesOf}
-use Rattle.judge.specs.declared.Judge.{Judge}
-use Rattle.judge.specs.Replies.{Reply}
-use Rattle.judge.specs.Calls.{Call}
-use Rattle.judge.specs.Steps.{fresh}
-use Rattle.histories.specs.Claims as judge
-use Rattle.histories.specs.Claims.{Ran, Right}
+use Rattle.lines.specs.Splitting.{linesFrom}
+use Rattle.calls.specs.declared.Judge.{Judge}
+use Rattle.calls.specs.Replies.{Reply}
+use Rattle.calls.specs.Calls.{Call}
+use Rattle.histories.specs.Claims.{Ran, begins, next}
 use Rattle.histories.proofs.Every.{every-list}
 use Rattle.calltext.specs.Meaning.{Meaning, again, call, malformed, lineIn}
 use Rattle.calltext.specs.Answers.{Response, responseText}
@@ -23,20 +21,19 @@ use Rattle.linebuffer.specs.declared.Held.{Held}
 use Rattle.linebuffer.specs.Holding.{Keeps}
 use Rattle.stream.specs.declared.Fed.{Fed}
 use Rattle.stream.specs.Feeding.{Feeds}
-use Rattle.stream.specs.Texts.{LinesRan, BlockRan, FedBlock, BlocksRan, historyAfter, ResponseRight, LinesRight, Claims}
-use Rattle.stream.specs.Texts as texts
+use Rattle.stream.specs.Texts.{LinesRan, no-lines, line-then, FedBlock, BlocksRan, no-blocks, block-then, historyAfter, ResponseRight, LinesRight, Claims}
 
 pub ran-append : {j to last : Judge} {ls : List (List ℕ)} {text : List ℕ} {ks : List (List ℕ)} {rest : List ℕ} → LinesRan j ls text to
     → LinesRan to ks rest last → LinesRan j (ls ++ ks) (text ++ rest) last
-ran-append texts.none r = r
-ran-append {j} {to} {last} {ks = ks} {rest = rest} (texts.next mid l {ls} s text step q) r =
-    subst (λ (t : List ℕ). LinesRan j (l ∷ (ls ++ ks)) t last) (sym (append-assoc (responseText s) text rest)) (texts.next mid l s (text ++ rest) step (ran-append q r))
+ran-append no-lines r = r
+ran-append {j} {to} {last} {ks = ks} {rest = rest} (line-then mid l {ls} s text step q) r =
+    subst (λ (t : List ℕ). LinesRan j (l ∷ (ls ++ ks)) t last) (sym (append-assoc (responseText s) text rest)) (line-then mid l s (text ++ rest) step (ran-append q r))
 
 whole-by : {j last : Judge} {w end text : List ℕ} {blocks : List (List ℕ)} {to : Judge} {rest : List ℕ} → BlocksRan j w blocks to end text
     → LinesRan to (linesFrom end []) rest last → LinesRan j (linesFrom w (flatten blocks)) (text ++ rest) last
 unfolding flatten
-whole-by texts.none r = r
-whole-by {j} {last} {w} {rest = rest} (texts.next mid begun block text more blocks b q) r =
+whole-by no-blocks r = r
+whole-by {j} {last} {w} {rest = rest} (block-then mid begun block text more blocks b q) r =
     let x = ran-append (b .ran) (whole-by q r) in
     subst (λ (t : List ℕ). LinesRan j (linesFrom w (block ++ flatten blocks)) t last) (sym (append-assoc text more rest))
     (subst (λ (ls : List (List ℕ)). LinesRan j ls (text ++ (more ++ rest)) last) (sym (b .split (flatten blocks))) x)
@@ -45,24 +42,24 @@ whole-by {j} {last} {w} {rest = rest} (texts.next mid begun block text more bloc
 module _ {h : List Call} {given : List Reply} {j : Judge} (ran : Ran h given j) (to : Judge) where
   response-right : (m : Meaning) (s : Response) → LineSteps j m s to → ResponseRight h m s
   response-right again s l = l .0
-  response-right (call c) s l = (l .0, l .1, every-list {j = to} (judge.next {c = c} ran (l .2)) .all-right .0)
+  response-right (call c) s l = (l .0, l .1, every-list {j = to} (next {c = c} ran (l .2)) .all-right .0)
   response-right malformed s l = l .0
 
   ran-after : (m : Meaning) (s : Response) → LineSteps j m s to → (more : List Reply) × Ran (historyAfter h m) more to
-  ran-after again s l = ([], subst (Ran [] []) (sym (l .1)) judge.begins)
-  ran-after (call c) s l = (l .0 ∷ given, judge.next {c = c} ran (l .2))
+  ran-after again s l = ([], subst (Ran [] []) (sym (l .1)) begins)
+  ran-after (call c) s l = (l .0 ∷ given, next {c = c} ran (l .2))
   ran-after malformed s l = (given, subst (Ran h given) (sym (l .1)) ran)
 
 right-by : {h : List Call} {given : List Reply} {j last : Judge} {ls : List (List ℕ)} {text : List ℕ} → Ran h given j → LinesRan j ls text last → LinesRight h ls text
-right-by ran texts.none = refl
-right-by ran (texts.next mid l s text step q) =
+right-by ran no-lines = refl
+right-by ran (line-then mid l s text step q) =
     let after = ran-after ran mid (lineIn l) s step in
     (s, text, refl, response-right ran mid (lineIn l) s step, right-by (after .1) q)
 
 pub claims : Claims
 claims = record {
   whole = λ blocks j last w text rest b r. whole-by b r;
-  right = λ ls text last q. right-by judge.begins q;
+  right = λ ls text last q. right-by begins q;
 }
 
 -- ---- the parts of a block, up to an index
@@ -79,7 +76,7 @@ abbrev pub GoingAny : Judge → Held → List ℕ → List ℕ → ℕ → Judge
 GoingAny j held₀ before block at to line held = (w : List ℕ) → Keeps before held₀ w → Going j w block at to line held
 
 pub going-first : (j : Judge) (held : Held) (before block : List ℕ) → GoingAny j held before block 0 j before held
-going-first j held before block = λ w k. record { begun = w; lines = []; text = []; split = λ more. refl; ran = texts.none; keeps = k }
+going-first j held before block = λ w k. record { begun = w; lines = []; text = []; split = λ more. refl; ran = no-lines; keeps = k }
 
 module _ (j : Judge) (held₀ : Held) (before block : List ℕ) (at : ℕ) (to : Judge) (line : List ℕ) (held : Held)
     (going : GoingAny j held₀ before block at to line held) where
@@ -109,7 +106,7 @@ module _ (j : Judge) (held₀ : Held) (before block : List ℕ) (at : ℕ) (to :
               g .split more
               ∙ ap (λ (ls : List (List ℕ)). g .lines ++ ls) (e .split more)
               ∙ sym (append-assoc (g .lines) (e .ended ∷ []) (linesFrom [] (drop (r .at) block ++ more)));
-          ran = ran-append (g .ran) (texts.next (r .judge) (e .ended) (e .answers .says) [] (e .answers .ran) texts.none);
+          ran = ran-append (g .ran) (line-then (r .judge) (e .ended) (e .answers .says) [] (e .answers .ran) no-lines);
           keeps = e .keeps;
         })
         (λ o. record {

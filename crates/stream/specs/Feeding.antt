@@ -14,7 +14,7 @@ use Prim.Native.Nat.{ℕ, _≤_, _<_}
 use lib.ListN.{length, drop}
 use Rattle.text.specs.Writing.{Wrote}
 use Rattle.lines.specs.Splitting.{linesFrom}
-use Rattle.judge.specs.declared.Judge.{Judge}
+use Rattle.calls.specs.declared.Judge.{Judge}
 use Rattle.calltext.specs.Meaning.{lineIn}
 use Rattle.calltext.specs.Answers.{Response, responseText}
 use Rattle.callrun.specs.Running.{LineSteps}

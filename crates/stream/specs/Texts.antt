@@ -10,10 +10,10 @@ use mathlib.Core.Path.{_≡_}
 use mathlib.Core.List.{List, [], _∷_, _++_, flatten}
 use Prim.Native.Nat.{ℕ}
 use Rattle.lines.specs.Splitting.{linesFrom, linesOf}
-use Rattle.judge.specs.declared.Judge.{Judge}
-use Rattle.judge.specs.Replies.{Reply}
-use Rattle.judge.specs.Calls.{Call}
-use Rattle.judge.specs.Steps.{fresh}
+use Rattle.calls.specs.declared.Judge.{Judge}
+use Rattle.calls.specs.Replies.{Reply}
+use Rattle.calls.specs.Calls.{Call}
+use Rattle.calls.specs.Steps.{fresh}
 use Rattle.histories.specs.Claims.{Right}
 use Rattle.calltext.specs.Meaning.{Meaning, again, call, malformed, lineIn}
 use Rattle.calltext.specs.Answers.{Response, began, replied, unread, responseText}
@@ -22,8 +22,8 @@ use Rattle.linebuffer.specs.declared.Held.{Held}
 use Rattle.linebuffer.specs.Holding.{Keeps}
 
 pub data LinesRan : Judge → List (List ℕ) → List ℕ → Judge → Type 0 where
-  none : {j : Judge} → LinesRan j [] [] j
-  next : {j last : Judge} (to : Judge) (l : List ℕ) {ls : List (List ℕ)} (s : Response) (text : List ℕ) → LineSteps j (lineIn l) s to → LinesRan to ls text last
+  no-lines : {j : Judge} → LinesRan j [] [] j
+  line-then : {j last : Judge} (to : Judge) (l : List ℕ) {ls : List (List ℕ)} (s : Response) (text : List ℕ) → LineSteps j (lineIn l) s to → LinesRan to ls text last
       → LinesRan j (l ∷ ls) (responseText s ++ text) last
 
 -- ---- blocks. `w` is the beginning of a line that earlier blocks brought, `more` is what later ones bring
@@ -37,8 +37,8 @@ FedBlock j held before block after to kept =
     (w : List ℕ) → Keeps before held w → (begun : List ℕ) × (text : List ℕ) × BlockRan j w block to begun text × Keeps after kept begun
 
 pub data BlocksRan : Judge → List ℕ → List (List ℕ) → Judge → List ℕ → List ℕ → Type 0 where
-  none : {j : Judge} {w : List ℕ} → BlocksRan j w [] j w []
-  next : {j last : Judge} {w end : List ℕ} (to : Judge) (begun block text rest : List ℕ) (blocks : List (List ℕ)) → BlockRan j w block to begun text
+  no-blocks : {j : Judge} {w : List ℕ} → BlocksRan j w [] j w []
+  block-then : {j last : Judge} {w end : List ℕ} (to : Judge) (begun block text rest : List ℕ) (blocks : List (List ℕ)) → BlockRan j w block to begun text
       → BlocksRan to begun blocks last end rest → BlocksRan j w (block ∷ blocks) last end (text ++ rest)
 
 -- ---- the right answers, by the calls alone

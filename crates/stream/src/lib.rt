@@ -2,7 +2,7 @@
 ghost use Prim.Native.Nat.{_≤_, _<_};
 ghost use lib.ListN.{length};
 ghost use Rattle.stream.specs.Feeding.{AnswersHeld, Feeds, Finishes};
-use judge::Judge;
+use calls::Judge;
 use linebuffer::Held;
 
 // The judge that a line leaves, and how many bytes its answer has.

@@ -3,7 +3,7 @@ use mathlib.Core.Path.{_≡_, refl}
 use mathlib.Core.List.{List, [], _∷_}
 use Prim.Native.Nat.{ℕ}
 use Rattle.masks.specs.Masks.{union}
-use Rattle.subsets.specs.Sets.{numberIn, numbered, expandFrom, closeFrom, setsUpTo, setsOf, nextSet}
+use Rattle.subsets.specs.Sets.{numberIn, numbered, expandFrom, closeFrom, setsUpTo, setsOf}
 
 abbrev pub ruleA : List ℕ
 ruleA = 3 ∷ 1 ∷ 0 ∷ 0 ∷ 0 ∷ 0 ∷ 0 ∷ 0 ∷ 0 ∷ 0 ∷ 0 ∷ 0 ∷ 0 ∷ 0 ∷ 0 ∷ 0 ∷ 0 ∷ 4 ∷ []

@@ -8,7 +8,7 @@ ghost use lib.Dec.{eqb};
 ghost use lib.ListN.{length};
 ghost use Rattle.io.specs.Counts.{Counts};
 ghost use Rattle.stream.specs.Texts.{FedBlock};
-use judge::Judge;
+use calls::Judge;
 use libc::STDIN_FILENO;
 use libc::STDOUT_FILENO;
 use linebuffer::Held;

@@ -8,7 +8,8 @@ use lib.Dec.{eqb}
 use lib.ListN.{getD}
 use borrow.Author.Tests.{eq-eqb, ne-eqb}
 use Rattle.chunks.specs.Chunks.{total}
-use Rattle.board.proofs.Totals.{total-more, one-most}
+use Rattle.chunks.proofs.Totals.{total-more}
+use Rattle.board.proofs.Totals.{one-most}
 use Rattle.board.proofs.count_empty.Statement.{statement}
 use Rattle.board.proofs.count_empty.Tie as tie
 

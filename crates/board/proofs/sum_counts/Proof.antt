@@ -5,7 +5,7 @@ use native.Mathlib.Omega.{arith}
 use lib.ListN.{getD}
 use borrow.Author.Needs.{needs}
 use Rattle.chunks.specs.Chunks.{total}
-use Rattle.board.proofs.Totals.{total-more}
+use Rattle.chunks.proofs.Totals.{total-more}
 use Rattle.board.proofs.sum_counts.Statement.{statement}
 use Rattle.board.proofs.sum_counts.Tie as tie
 

@@ -1,7 +1,7 @@
 -- `deliver_answer` meets its contract. Assumes nothing.
 use mathlib.Core.Path.{sym, ap}
-use Rattle.judge.specs.declared.DeliverAnswer.{DeliverAnswer}
-use Rattle.judge.specs.Replies.{deliverSays}
+use Rattle.calls.specs.declared.DeliverAnswer.{DeliverAnswer}
+use Rattle.calls.specs.Replies.{deliverSays}
 use Rattle.calltext.specs.Answers.{replied}
 use borrow.Author.Needs.{needs}
 use Rattle.callrun.proofs.deliver_answer.Statement.{statement}

@@ -1,7 +1,7 @@
 -- `load_answer` meets its contract. Assumes nothing.
 use mathlib.Core.Path.{sym, ap}
-use Rattle.judge.specs.declared.LoadAnswer.{LoadAnswer}
-use Rattle.judge.specs.Replies.{loadSays}
+use Rattle.calls.specs.declared.LoadAnswer.{LoadAnswer}
+use Rattle.calls.specs.Replies.{loadSays}
 use Rattle.calltext.specs.Answers.{replied}
 use borrow.Author.Needs.{needs}
 use Rattle.callrun.proofs.load_answer.Statement.{statement}

@@ -1,7 +1,7 @@
 -- `open_answer` meets its contract. Assumes nothing.
 use mathlib.Core.Path.{sym, ap}
-use Rattle.judge.specs.declared.OpenAnswer.{OpenAnswer}
-use Rattle.judge.specs.Replies.{openSays}
+use Rattle.calls.specs.declared.OpenAnswer.{OpenAnswer}
+use Rattle.calls.specs.Replies.{openSays}
 use Rattle.calltext.specs.Answers.{replied}
 use borrow.Author.Needs.{needs}
 use Rattle.callrun.proofs.open_answer.Statement.{statement}

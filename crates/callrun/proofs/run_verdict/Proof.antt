@@ -1,6 +1,6 @@
 -- `run_verdict` meets its contract. Assumes nothing.
 use mathlib.Core.Path.{ap}
-use Rattle.judge.specs.Replies.{Reply}
+use Rattle.calls.specs.Replies.{Reply}
 use borrow.Author.Needs.{needs}
 use Rattle.callrun.proofs.run_verdict.Statement.{statement}
 use Rattle.callrun.proofs.run_verdict.Tie as tie

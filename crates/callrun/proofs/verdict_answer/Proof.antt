@@ -1,7 +1,7 @@
 -- `verdict_answer` meets its contract. Assumes nothing.
 use mathlib.Core.Path.{sym, ap}
-use Rattle.judge.specs.declared.Verdict.{Verdict}
-use Rattle.judge.specs.Replies.{verdictSays}
+use Rattle.calls.specs.declared.Verdict.{Verdict}
+use Rattle.calls.specs.Replies.{verdictSays}
 use Rattle.calltext.specs.Answers.{replied}
 use borrow.Author.Needs.{needs}
 use Rattle.callrun.proofs.verdict_answer.Statement.{statement}

@@ -1,7 +1,7 @@
 -- `withdraw_answer` meets its contract. Assumes nothing.
 use mathlib.Core.Path.{sym, ap}
-use Rattle.judge.specs.declared.WithdrawAnswer.{WithdrawAnswer}
-use Rattle.judge.specs.Replies.{withdrawSays}
+use Rattle.calls.specs.declared.WithdrawAnswer.{WithdrawAnswer}
+use Rattle.calls.specs.Replies.{withdrawSays}
 use Rattle.calltext.specs.Answers.{replied}
 use borrow.Author.Needs.{needs}
 use Rattle.callrun.proofs.withdraw_answer.Statement.{statement}

@@ -1,5 +1,4 @@
 -- `cell` meets its contract. Assumes nothing.
-use native.Mathlib.Omega.{arith}
 use borrow.Author.Tests.{lt-ltb}
 use borrow.Author.Needs.{needs}
 use Rattle.dottext.proofs.cell.Statement.{statement}

@@ -1,5 +1,4 @@
 -- `put_initial` meets its contract. Assumes nothing.
-use native.Mathlib.Omega.{arith}
 use mathlib.Core.Path.{_≡_, sym, _∙_}
 use mathlib.Core.Bool.{true, false}
 use Rattle.masks.specs.Masks.{has}

@@ -7,10 +7,10 @@ use native.Mathlib.Numerals.{add-one}
 use native.Mathlib.Omega.{arith}
 use borrow.Author.Needs.{needs}
 use lib.ListN.{length, getD, take, set, length-set}
-use lib.Seq.{take-suc, take-all, length-take-le}
+use lib.Seq.{take-suc, length-take-le}
 use Rattle.text.specs.Writing.{Wrote}
 use Rattle.text.proofs.Pieces.{wrote-none, wrote-byte, wrote-more}
-use Rattle.fields.specs.Bytes.{hexValue, allHex, pairs}
+use Rattle.fields.specs.Bytes.{allHex, pairs}
 use Rattle.fields.proofs.Pairs.{pairs-at, pairs-length, pairs-all, hex-at}
 use Rattle.fields.proofs.put_pairs.Statement.{statement}
 use Rattle.fields.proofs.put_pairs.Tie as tie

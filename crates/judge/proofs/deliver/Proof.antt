@@ -1,5 +1,5 @@
 -- `deliver` meets its contract. Assumes nothing.
-use Rattle.judge.proofs.Ways.{deliver-21, deliver-11, deliver-12, deliver-13, deliver-22, deliver-24, delivered}
+use Rattle.calls.proofs.Ways.{deliver-21, deliver-11, deliver-12, deliver-13, deliver-22, deliver-24, delivered}
 use borrow.Author.Needs.{needs}
 use Rattle.judge.proofs.deliver.Statement.{statement}
 use Rattle.judge.proofs.deliver.Tie as tie

@@ -1,5 +1,5 @@
 -- `exceeds` meets its contract. Assumes nothing.
-use Rattle.judge.proofs.Ways.{over-by-one, over-by-both}
+use Rattle.calls.proofs.Ways.{over-by-one, over-by-both}
 use borrow.Author.Needs.{needs}
 use Rattle.judge.proofs.exceeds.Statement.{statement}
 use Rattle.judge.proofs.exceeds.Tie as tie

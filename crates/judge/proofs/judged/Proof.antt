@@ -1,5 +1,5 @@
 -- `judged` meets its contract. Assumes nothing.
-use Rattle.judge.proofs.Ways.{verdict-21, verdict-waiting, verdict-yes, verdict-no}
+use Rattle.calls.proofs.Ways.{verdict-21, verdict-waiting, verdict-yes, verdict-no}
 use borrow.Author.Needs.{needs}
 use Rattle.judge.proofs.judged.Statement.{statement}
 use Rattle.judge.proofs.judged.Tie as tie

@@ -1,5 +1,5 @@
 -- `load` meets its contract. Assumes nothing.
-use Rattle.judge.proofs.Ways.{load-unread, load-unbuilt, loaded}
+use Rattle.calls.proofs.Ways.{load-unread, load-unbuilt, loaded}
 use borrow.Author.Needs.{needs}
 use Rattle.judge.proofs.load.Statement.{statement}
 use Rattle.judge.proofs.load.Tie as tie

@@ -1,5 +1,5 @@
 -- `new_judge` meets its contract. Assumes nothing.
-use Rattle.judge.proofs.Ways.{fresh-by}
+use Rattle.calls.proofs.Ways.{fresh-by}
 use borrow.Author.Needs.{needs}
 use Rattle.judge.proofs.new_judge.Statement.{statement}
 use Rattle.judge.proofs.new_judge.Tie as tie

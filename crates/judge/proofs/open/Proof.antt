@@ -1,5 +1,5 @@
 -- `open` meets its contract. Assumes nothing.
-use Rattle.judge.proofs.Ways.{open-20, open-few, open-many, opened}
+use Rattle.calls.proofs.Ways.{open-20, open-few, open-many, opened}
 use native.Mathlib.Omega.{arith}
 use borrow.Author.Needs.{needs}
 use Rattle.judge.proofs.open.Statement.{statement}

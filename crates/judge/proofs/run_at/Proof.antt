@@ -1,5 +1,5 @@
 -- `run_at` meets its contract. Assumes nothing.
-use Rattle.judge.proofs.Ways.{runs-by}
+use Rattle.calls.proofs.Ways.{runs-by}
 use borrow.Author.Needs.{needs}
 use Rattle.judge.proofs.run_at.Statement.{statement}
 use Rattle.judge.proofs.run_at.Tie as tie

@@ -1,5 +1,5 @@
 -- `withdraw` meets its contract. Assumes nothing.
-use Rattle.judge.proofs.Ways.{withdraw-21, withdraw-11, withdraw-23, withdrawn}
+use Rattle.calls.proofs.Ways.{withdraw-21, withdraw-11, withdraw-23, withdrawn}
 use borrow.Author.Needs.{needs}
 use Rattle.judge.proofs.withdraw.Statement.{statement}
 use Rattle.judge.proofs.withdraw.Tie as tie

@@ -1,5 +1,4 @@
 -- `nothing` meets its contract. Assumes nothing.
-use borrow.Author.Needs.{needs}
 use Rattle.linebuffer.proofs.Kept.{kept-none}
 use Rattle.linebuffer.proofs.nothing.Statement.{statement}
 use Rattle.linebuffer.proofs.nothing.Tie as tie

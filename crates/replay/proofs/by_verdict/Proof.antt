@@ -1,7 +1,7 @@
 -- `by_verdict` meets its contract. Assumes nothing.
 use mathlib.Core.Path.{sym, ap}
-use Rattle.judge.specs.declared.Verdict.{Verdict}
-use Rattle.judge.specs.Replies.{verdictSays}
+use Rattle.calls.specs.declared.Verdict.{Verdict}
+use Rattle.calls.specs.Replies.{verdictSays}
 use Rattle.replay.specs.Records.{verdict}
 use borrow.Author.Needs.{needs}
 use Rattle.replay.proofs.by_verdict.Statement.{statement}

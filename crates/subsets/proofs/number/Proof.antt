@@ -1,6 +1,5 @@
 -- `number` meets its contract, one way out at a time: the set has a number, it takes the next, or none is left. Assumes nothing.
 use mathlib.Core.Path.{sym, _∙_}
-use native.Mathlib.Omega.{arith}
 use borrow.Author.Needs.{needs}
 use Rattle.subsets.proofs.Arrays.{entered-kept, entered-taken, entered-full}
 use Rattle.subsets.proofs.number.Statement.{statement}

@@ -1,5 +1,4 @@
 -- `turns_left` meets its contract. Assumes nothing.
-use native.Mathlib.Omega.{arith}
 use borrow.Author.Needs.{needs}
 use borrow.Author.Tests.{eq-eqb, ne-eqb}
 use Rattle.tracejudge.proofs.turns_left.Statement.{statement}

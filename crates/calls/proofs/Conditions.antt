@@ -9,7 +9,7 @@ use Rattle.rulefile.specs.Conditions.{Condition, on, firstOf}
 use Rattle.rulefile.specs.Refusals.{fileConditions, refusal}
 use Rattle.rulefile.specs.Reader.{ruleOf}
 use Rattle.subsets.specs.Sets.{tooMany}
-use Rattle.judge.specs.Calls.{loadNumber}
+use Rattle.calls.specs.Calls.{loadNumber}
 
 -- there is a number or there is none
 pub none-some : {A : Type 0} {x : ℕ} (o : Option ℕ) → o ≡ none → o ≡ some x → A

@@ -7,11 +7,11 @@ use Prim.Native.Nat.{ℕ, _+_}
 use native.Mathlib.Omega.{arith}
 use Rattle.rulefile.specs.Conditions.{firstOf}
 use Rattle.board.specs.Boards.{placesOf, isEmpty, emptyBoard, filledAt, clearedAt, summedCount}
-use Rattle.judge.specs.declared.Judge.{Judge}
-use Rattle.judge.specs.Replies.{accepted, refused}
-use Rattle.judge.specs.Calls.{loads, opens, delivers, withdraws, asks, loadNumber, openConditions, deliverConditions, withdrawConditions}
-use Rattle.judge.specs.Steps.{lacksRule, lacksBoard, withBoard, runsAt, Outcome, outcomeBy, Loads, openOf, deliverOf, withdrawOf}
-use Rattle.judge.specs.Claims.{Unchanged}
+use Rattle.calls.specs.declared.Judge.{Judge}
+use Rattle.calls.specs.Replies.{accepted, refused}
+use Rattle.calls.specs.Calls.{loads, opens, delivers, withdraws, asks, loadNumber, openConditions, deliverConditions, withdrawConditions}
+use Rattle.calls.specs.Steps.{lacksRule, lacksBoard, withBoard, runsAt, Outcome, outcomeBy, Loads, openOf, deliverOf, withdrawOf}
+use Rattle.calls.specs.Claims.{Unchanged}
 
 load-by : (j : Judge) (f : List ℕ) (o : Outcome) → Loads j f o → (x : ℕ) → o .says ≡ refused x → (number : Option ℕ) → loadNumber f ≡ number
     → o .leaves ≡ j

@@ -6,16 +6,16 @@
 --   keeps c, breaks c  yes, no, with the count
 --   refused x          the call was refused with the number x
 use Prim.Native.Nat.{ℕ}
-use Rattle.judge.specs.declared.LoadAnswer.{LoadAnswer}
-use Rattle.judge.specs.declared.LoadAnswer.the-variants as load
-use Rattle.judge.specs.declared.OpenAnswer.{OpenAnswer}
-use Rattle.judge.specs.declared.OpenAnswer.the-variants as opening
-use Rattle.judge.specs.declared.DeliverAnswer.{DeliverAnswer}
-use Rattle.judge.specs.declared.DeliverAnswer.the-variants as delivery
-use Rattle.judge.specs.declared.WithdrawAnswer.{WithdrawAnswer}
-use Rattle.judge.specs.declared.WithdrawAnswer.the-variants as withdrawal
-use Rattle.judge.specs.declared.Verdict.{Verdict}
-use Rattle.judge.specs.declared.Verdict.the-variants.{Waiting, Yes, No, Refused}
+use Rattle.calls.specs.declared.LoadAnswer.{LoadAnswer}
+use Rattle.calls.specs.declared.LoadAnswer.the-variants as load
+use Rattle.calls.specs.declared.OpenAnswer.{OpenAnswer}
+use Rattle.calls.specs.declared.OpenAnswer.the-variants as opening
+use Rattle.calls.specs.declared.DeliverAnswer.{DeliverAnswer}
+use Rattle.calls.specs.declared.DeliverAnswer.the-variants as delivery
+use Rattle.calls.specs.declared.WithdrawAnswer.{WithdrawAnswer}
+use Rattle.calls.specs.declared.WithdrawAnswer.the-variants as withdrawal
+use Rattle.calls.specs.declared.Verdict.{Verdict}
+use Rattle.calls.specs.declared.Verdict.the-variants.{Waiting, Yes, No, Refused}
 
 pub data Reply : Type 0 where
   accepted : Reply

@@ -32,11 +32,11 @@ use Rattle.chunks.specs.Chunks.{foreign}
 use Rattle.chunks.specs.Walks.{runMask, runsOf}
 use Rattle.board.specs.declared.Board.{Board}
 use Rattle.board.specs.Boards.{placesOf, isEmpty, emptyBoard, filledAt, clearedAt, emptyPlaces, summedCount}
-use Rattle.judge.specs.declared.Judge.{Judge}
-use Rattle.judge.specs.Replies as reply
-use Rattle.judge.specs.Calls.{loadNumber}
-use Rattle.judge.specs.Steps.{fresh, withBoard, Outcome, Loads, openOf, runsAt, deliverOf, withdrawOf, isYes, verdictOf}
-use Rattle.judge.proofs.Conditions.{none-some, over, load-number}
+use Rattle.calls.specs.declared.Judge.{Judge}
+use Rattle.calls.specs.Replies as reply
+use Rattle.calls.specs.Calls.{loadNumber}
+use Rattle.calls.specs.Steps.{fresh, withBoard, Outcome, Loads, openOf, runsAt, deliverOf, withdrawOf, isYes, verdictOf}
+use Rattle.calls.proofs.Conditions.{none-some, over, load-number}
 
 pub fresh-by : (b : Built) → b ≡ noBuilt → (e : Board) → e ≡ emptyBoard 0 → record { built = b; board = e } ≡ fresh
 unfolding fresh

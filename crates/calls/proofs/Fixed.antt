@@ -19,11 +19,11 @@ use Rattle.delegates.specs.Classes.{Least, MergedSets}
 use Rattle.build.specs.declared.Built.{Built}
 use Rattle.build.specs.Building.{BuiltRule}
 use Rattle.board.specs.declared.Board.{Board}
-use Rattle.judge.specs.declared.Judge.{Judge}
-use Rattle.judge.specs.Replies.{Reply, loaded}
-use Rattle.judge.specs.Calls.{loads, opens, delivers, withdraws, asks, loadNumber}
-use Rattle.judge.specs.Steps.{Outcome, Loads}
-use Rattle.judge.specs.Claims.{StepsFixed}
+use Rattle.calls.specs.declared.Judge.{Judge}
+use Rattle.calls.specs.Replies.{Reply, loaded}
+use Rattle.calls.specs.Calls.{loads, opens, delivers, withdraws, asks, loadNumber}
+use Rattle.calls.specs.Steps.{Outcome, Loads}
+use Rattle.calls.specs.Claims.{StepsFixed}
 
 -- ---- the delegates
 least-fixed : (R : ℕ → ℕ → Type 0) (s u v : ℕ) → Least R 0 s u → Least R 0 s v → u ≡ v

@@ -4,10 +4,10 @@
 --   StepsFixed    what a call comes to is fixed by the state and the call; proofs/Fixed.antt
 use mathlib.Core.Path.{_≡_}
 use Prim.Native.Nat.{ℕ}
-use Rattle.judge.specs.declared.Judge.{Judge}
-use Rattle.judge.specs.Replies.{refused}
-use Rattle.judge.specs.Calls.{Call}
-use Rattle.judge.specs.Steps.{Outcome, Steps}
+use Rattle.calls.specs.declared.Judge.{Judge}
+use Rattle.calls.specs.Replies.{refused}
+use Rattle.calls.specs.Calls.{Call}
+use Rattle.calls.specs.Steps.{Outcome, Steps}
 
 -- a refusal leaves the state as it was. (File and chunk are lent as `&[u8]`, which no function can write.)
 abbrev pub Unchanged : Type 0

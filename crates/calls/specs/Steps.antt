@@ -25,13 +25,13 @@ use Rattle.chunks.specs.Walks.{runMask, runsOf}
 use Rattle.board.specs.declared.Board.{Board}
 use Rattle.board.specs.Boards.{placesOf, isEmpty, emptyBoard, filledAt, clearedAt, emptyPlaces, summedCount}
 use Rattle.joins.specs.Joining.{saysYes}
-use Rattle.judge.specs.declared.Judge.{Judge}
-use Rattle.judge.specs.declared.Loading.{Loading}
-use Rattle.judge.specs.declared.Opening.{Opening}
-use Rattle.judge.specs.declared.Delivery.{Delivery}
-use Rattle.judge.specs.declared.Withdrawal.{Withdrawal}
-use Rattle.judge.specs.Replies.{Reply, accepted, loaded, waiting, keeps, breaks, refused, loadSays, openSays, deliverSays, withdrawSays}
-use Rattle.judge.specs.Calls.{Call, loads, opens, delivers, withdraws, asks, loadNumber, openConditions, deliverConditions, withdrawConditions}
+use Rattle.calls.specs.declared.Judge.{Judge}
+use Rattle.calls.specs.declared.Loading.{Loading}
+use Rattle.calls.specs.declared.Opening.{Opening}
+use Rattle.calls.specs.declared.Delivery.{Delivery}
+use Rattle.calls.specs.declared.Withdrawal.{Withdrawal}
+use Rattle.calls.specs.Replies.{Reply, accepted, loaded, waiting, keeps, breaks, refused, loadSays, openSays, deliverSays, withdrawSays}
+use Rattle.calls.specs.Calls.{Call, loads, opens, delivers, withdraws, asks, loadNumber, openConditions, deliverConditions, withdrawConditions}
 
 unfoldable pub fresh : Judge
 fresh = record { built = noBuilt; board = emptyBoard 0 }

@@ -1,0 +1,59 @@
+// The state of the judge and the answers of its calls. What each call comes to is in specs/; crates/judge has the calls.
+use board::Board;
+use build::Built;
+
+// The state. A rule is there when built.n is not 0, a board when board.places is not 0; in a fresh judge every number is 0.
+#[repr(C)]
+pub struct Judge {
+    pub built: Built,
+    pub board: Board,
+}
+
+// The number of sets and M, or a refusal.
+pub enum LoadAnswer {
+    Accepted(u16, u8),
+    Refused(u8),
+}
+
+pub enum OpenAnswer {
+    Accepted,
+    Refused(u8),
+}
+
+pub enum DeliverAnswer {
+    Accepted,
+    Refused(u8),
+}
+
+pub enum WithdrawAnswer {
+    Accepted,
+    Refused(u8),
+}
+
+pub enum Verdict {
+    Waiting(u8),
+    Yes(u64),
+    No(u64),
+    Refused(u8),
+}
+
+// Each call that may change the state answers with the next state beside the answer.
+pub struct Loading {
+    pub answer: LoadAnswer,
+    pub judge: Judge,
+}
+
+pub struct Opening {
+    pub answer: OpenAnswer,
+    pub judge: Judge,
+}
+
+pub struct Delivery {
+    pub answer: DeliverAnswer,
+    pub judge: Judge,
+}
+
+pub struct Withdrawal {
+    pub answer: WithdrawAnswer,
+    pub judge: Judge,
+}
