@@ -14,7 +14,7 @@ use lib.Dec.{ltb, leb}
 use lib.ListN.{length, take}
 use lib.Seq.{take-all, length-take-le}
 use Rattle.masks.proofs.Cases.{by-test}
-use Rattle.rulefile.specs.Refusals.{tooShort, tooLong}
+use Rattle.ruleformat.specs.Refusals.{tooShort, tooLong}
 use Rattle.board.specs.Boards.{placesOf}
 use Rattle.calls.specs.declared.Judge.{Judge}
 use Rattle.calls.specs.Calls.{loadNumber}

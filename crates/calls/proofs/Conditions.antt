@@ -5,9 +5,9 @@ use mathlib.Core.List.{List, [], _∷_, _++_}
 use mathlib.Core.Option.{Option, none, some}
 use Prim.Native.Nat.{ℕ}
 use native.Mathlib.Omega.{arith}
-use Rattle.rulefile.specs.Conditions.{Condition, on, firstOf}
-use Rattle.rulefile.specs.Refusals.{fileConditions, refusal}
-use Rattle.rulefile.specs.Reader.{ruleOf}
+use Rattle.ruleformat.specs.Conditions.{Condition, on, firstOf}
+use Rattle.ruleformat.specs.Refusals.{fileConditions, refusal}
+use Rattle.ruleformat.specs.Reader.{ruleOf}
 use Rattle.subsets.specs.Sets.{tooMany}
 use Rattle.calls.specs.Calls.{loadNumber}
 

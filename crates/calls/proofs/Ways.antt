@@ -19,10 +19,10 @@ use lib.ListN.{length}
 use borrow.Author.Tests.{lt-ltb, le-ltb, le-leb, lt-leb, eq-eqb, ne-eqb, ltb-true, ltb-false}
 use Rattle.masks.proofs.Cases.{by-test}
 use Rattle.automaton.specs.declared.Rule.{Rule}
-use Rattle.rulefile.specs.declared.ReadAnswer.the-variants as reading
-use Rattle.rulefile.specs.declared.Reading.{Reading}
-use Rattle.rulefile.specs.Refusals.{refusal}
-use Rattle.rulefile.specs.Reader.{numberOf, ruleOf, ruleBy, Reads}
+use Rattle.ruleformat.specs.declared.ReadAnswer.the-variants as reading
+use Rattle.ruleformat.specs.declared.Reading.{Reading}
+use Rattle.ruleformat.specs.Refusals.{refusal}
+use Rattle.ruleformat.specs.Reader.{numberOf, ruleOf, ruleBy, Reads}
 use Rattle.build.specs.declared.BuildAnswer.the-variants as build
 use Rattle.build.specs.declared.Built.{Built}
 use Rattle.build.specs.declared.Building.{Building}

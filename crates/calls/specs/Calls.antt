@@ -10,9 +10,9 @@ use mathlib.Core.Option.{Option}
 use Prim.Native.Nat.{ℕ}
 use lib.Dec.{ltb, leb}
 use lib.ListN.{length}
-use Rattle.rulefile.specs.Conditions.{Condition, on, firstOf, outside}
-use Rattle.rulefile.specs.Refusals.{fileConditions}
-use Rattle.rulefile.specs.Reader.{ruleOf}
+use Rattle.ruleformat.specs.Conditions.{Condition, on, firstOf, outside}
+use Rattle.ruleformat.specs.Refusals.{fileConditions}
+use Rattle.ruleformat.specs.Reader.{ruleOf}
 use Rattle.subsets.specs.Sets.{tooMany}
 use Rattle.chunks.specs.Chunks.{foreign}
 

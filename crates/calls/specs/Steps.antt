@@ -16,8 +16,8 @@ use mathlib.Core.Option.{Option, none, some}
 use Prim.Native.Nat.{ℕ, _+_}
 use lib.Dec.{eqb}
 use lib.ListN.{length}
-use Rattle.rulefile.specs.Conditions.{firstOf}
-use Rattle.rulefile.specs.Reader.{ruleOf}
+use Rattle.ruleformat.specs.Conditions.{firstOf}
+use Rattle.ruleformat.specs.Reader.{ruleOf}
 use Rattle.subsets.specs.Sets.{setsOf}
 use Rattle.build.specs.Building.{BuiltRule, noBuilt}
 use Rattle.chunks.specs.declared.Runs.{Runs}

@@ -13,8 +13,8 @@ use Rattle.text.specs.Numerals.{decimal, joined}
 use Rattle.masks.specs.Masks.{has}
 use Rattle.automaton.specs.declared.Rule.{Rule}
 use Rattle.automaton.specs.Rules.{targetMask}
-use Rattle.rulefile.specs.Refusals.{refusal}
-use Rattle.rulefile.specs.Reader.{ruleOf}
+use Rattle.ruleformat.specs.Refusals.{refusal}
+use Rattle.ruleformat.specs.Reader.{ruleOf}
 use Rattle.ruletext.specs.RuleText.{refusedText}
 use Rattle.dottext.specs.Words.{
   digraphLine,

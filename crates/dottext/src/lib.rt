@@ -9,7 +9,7 @@ ghost use Rattle.dottext.specs.DotText.{headLines, stateLine, arrow, poi
 ghost use Rattle.automaton.specs.Rules.{targetMask};
 use automaton::Rule;
 use masks::StateNumber;
-use rulefile::ReadAnswer;
+use ruleformat::ReadAnswer;
 use ruletext::Printed;
 
 fn put_number(out: &mut [u8], at: usize, n: u8) -> usize

@@ -12,7 +12,7 @@ use borrow.Author.Tests.{eqb-false}
 use Rattle.masks.specs.Masks.{union, shares}
 use Rattle.masks.specs.Lists.{listFrom}
 use Rattle.masks.proofs.Lists.{cell-of}
-use Rattle.rulefile.specs.Reader.{ruleOf}
+use Rattle.ruleformat.specs.Reader.{ruleOf}
 use Rattle.chunks.specs.Chunks.{total}
 use Rattle.board.specs.Boards.{emptyPlaces, summedCount}
 use Rattle.joins.specs.Joining.{joinUpTo, saysYes}

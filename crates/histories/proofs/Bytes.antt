@@ -9,11 +9,11 @@ use Rattle.masks.specs.Masks.{_∈_}
 use Rattle.automaton.specs.Automaton.{Automaton}
 use Rattle.automaton.specs.Rules.{targetMask, automatonOf}
 use Rattle.automaton.proofs.Laws.{run-map}
-use Rattle.rulefile.specs.Format.{stateCount, symbolCount, initialMask, finalMask}
-use Rattle.rulefile.specs.Refusals.{refusal}
-use Rattle.rulefile.specs.Reader.{ruleOf}
-use Rattle.rulefile.specs.Language.{ArcIn, automatonIn}
-use Rattle.rulefile.proofs.Claims as rulefile
+use Rattle.ruleformat.specs.Format.{stateCount, symbolCount, initialMask, finalMask}
+use Rattle.ruleformat.specs.Refusals.{refusal}
+use Rattle.ruleformat.specs.Reader.{ruleOf}
+use Rattle.ruleformat.specs.Language.{ArcIn, automatonIn}
+use Rattle.ruleformat.proofs.Claims as rulefile
 use Rattle.delegates.specs.Alike.{AcceptsFrom, Alike, Delegate, Merged}
 
 module _ (n k : ℕ) (Initial Final : ℕ → Type 0) where

@@ -4,8 +4,8 @@ use mathlib.Core.Path.{_≡_, refl, sym, ap, _∙_, subst}
 use mathlib.Core.List.{List, _∷_}
 use mathlib.Core.Option.{Option, none, some}
 use Prim.Native.Nat.{ℕ}
-use Rattle.rulefile.specs.Reader.{ruleOf}
-use Rattle.rulefile.specs.Language.{automatonIn}
+use Rattle.ruleformat.specs.Reader.{ruleOf}
+use Rattle.ruleformat.specs.Language.{automatonIn}
 use Rattle.delegates.specs.Alike.{Merged}
 use Rattle.build.specs.declared.Built.{Built}
 use Rattle.build.specs.Building.{BuiltRule}

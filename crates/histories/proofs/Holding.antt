@@ -10,7 +10,7 @@ use lib.Dec.{eqb}
 use lib.ListN.{getD}
 use borrow.Author.Tests.{eq-eqb, ne-eqb, eqb-true, eqb-false}
 use Rattle.masks.proofs.Cases.{by-test}
-use Rattle.rulefile.specs.Reader.{ruleOf}
+use Rattle.ruleformat.specs.Reader.{ruleOf}
 use Rattle.delegates.specs.Alike.{Text}
 use Rattle.build.specs.Building.{noBuilt}
 use Rattle.board.specs.declared.Board.{Board}

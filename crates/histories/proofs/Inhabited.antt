@@ -10,8 +10,8 @@ use lib.Dec.{eqb}
 use lib.ListN.{length}
 use denote.Ref.{RefT, now}
 use Rattle.masks.specs.Lists.{listFrom}
-use Rattle.rulefile.specs.Conditions.{firstOf}
-use Rattle.rulefile.specs.Reader.{ruleOf}
+use Rattle.ruleformat.specs.Conditions.{firstOf}
+use Rattle.ruleformat.specs.Reader.{ruleOf}
 use Rattle.subsets.specs.Sets.{setsOf, setCells, nextCells}
 use Rattle.delegates.specs.Classes.{numberOf}
 use Rattle.delegates.proofs.Exists.{merged-exists}

@@ -10,10 +10,10 @@ use lib.Dec.{eqb, ltb, leb}
 use lib.ListN.{length}
 use borrow.Author.Tests.{eq-eqb, ltb-true, ltb-false, leb-false}
 use Rattle.masks.proofs.Cases.{by-test}
-use Rattle.rulefile.specs.Conditions.{on, firstOf, outside}
-use Rattle.rulefile.specs.Reader.{ruleOf}
-use Rattle.rulefile.proofs.Conditions.{or-right}
-use Rattle.rulefile.proofs.Claims as rulefile
+use Rattle.ruleformat.specs.Conditions.{on, firstOf, outside}
+use Rattle.ruleformat.specs.Reader.{ruleOf}
+use Rattle.ruleformat.proofs.Conditions.{or-right}
+use Rattle.ruleformat.proofs.Claims as rulefile
 use Rattle.automaton.specs.Rules.{WellFormed}
 use Rattle.subsets.specs.Sets.{setsOf}
 use Rattle.subsets.specs.Claims.{fits}

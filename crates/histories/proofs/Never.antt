@@ -12,10 +12,10 @@ use borrow.Author.Tests.{eqb-false, le-ltb, ltb-false}
 use Rattle.masks.specs.Masks.{single, has}
 use Rattle.masks.proofs.Cases.{by-test}
 use Rattle.automaton.specs.declared.Rule.{Rule}
-use Rattle.rulefile.specs.Conditions.{Condition, on, firstOf}
-use Rattle.rulefile.specs.Refusals.{fileConditions}
-use Rattle.rulefile.specs.Reader.{ruleOf}
-use Rattle.rulefile.proofs.Conditions.{or-left, or-right, none-law}
+use Rattle.ruleformat.specs.Conditions.{Condition, on, firstOf}
+use Rattle.ruleformat.specs.Refusals.{fileConditions}
+use Rattle.ruleformat.specs.Reader.{ruleOf}
+use Rattle.ruleformat.proofs.Conditions.{or-left, or-right, none-law}
 use Rattle.subsets.specs.Sets.{setsOf}
 use Rattle.chunks.specs.Chunks.{foreign, counted, runSet, total, chunkCount}
 use Rattle.chunks.proofs.Claims as chunks

@@ -9,9 +9,9 @@ use native.Mathlib.Omega.{arith}
 use lib.Dec.{eqb, ltb, leb}
 use lib.ListN.{length}
 use borrow.Author.Tests.{ne-eqb, leb-false}
-use Rattle.rulefile.specs.Conditions.{on, firstOf, outside}
+use Rattle.ruleformat.specs.Conditions.{on, firstOf, outside}
 use Rattle.automaton.specs.declared.Rule.{Rule}
-use Rattle.rulefile.specs.Reader.{ruleOf}
+use Rattle.ruleformat.specs.Reader.{ruleOf}
 use Rattle.delegates.specs.Alike.{Text}
 use Rattle.chunks.specs.Chunks.{foreign, total}
 use Rattle.chunks.proofs.Claims as chunks

@@ -10,9 +10,9 @@ use Prim.Native.Nat.{ℕ, suc}
 use lib.ListN.{length}
 use Rattle.masks.specs.Masks.{union}
 use Rattle.masks.specs.Lists.{listFrom}
-use Rattle.rulefile.specs.Conditions.{anyBelow}
-use Rattle.rulefile.specs.Refusals.{tooShort, tooLong, badStates, badSymbols, noRoom, badMask, badPairs, badSection, badArcs, refusal}
-use Rattle.rulefile.specs.Reader.{targetsUpTo, ruleOf}
+use Rattle.ruleformat.specs.Conditions.{anyBelow}
+use Rattle.ruleformat.specs.Refusals.{tooShort, tooLong, badStates, badSymbols, noRoom, badMask, badPairs, badSection, badArcs, refusal}
+use Rattle.ruleformat.specs.Reader.{targetsUpTo, ruleOf}
 use Rattle.subsets.specs.Sets.{numberIn, numbered, expandFrom, closeFrom, setsUpTo, setsOf, tooMany, nextSet}
 use Rattle.build.specs.declared.Built.{Built}
 use Rattle.build.specs.Building.{BuiltRule}

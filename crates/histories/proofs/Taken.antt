@@ -9,8 +9,8 @@ use native.Mathlib.Omega.{arith}
 use lib.Dec.{eqb, ltb, leb}
 use lib.ListN.{length}
 use borrow.Author.Tests.{ne-eqb, eqb-false, lt-leb, leb-false, le-ltb, ltb-false}
-use Rattle.rulefile.specs.Conditions.{Condition, on, firstOf, NoneHolds, outside}
-use Rattle.rulefile.proofs.Conditions.{or-left, or-right, or-neither, none-law}
+use Rattle.ruleformat.specs.Conditions.{Condition, on, firstOf, NoneHolds, outside}
+use Rattle.ruleformat.proofs.Conditions.{or-left, or-right, or-neither, none-law}
 use Rattle.chunks.specs.Chunks.{foreign}
 use Rattle.calls.specs.Replies.{accepted}
 use Rattle.histories.specs.History.{isNone, isSome, fileOf, ruleIn, placesIn, countOf, standing, summedIn, replyBy}

@@ -16,10 +16,10 @@ use Rattle.automaton.specs.declared.Rule.{Rule}
 use Rattle.automaton.specs.Automaton.{Automaton}
 use Rattle.automaton.specs.Rules.{automatonOf, WellFormed}
 use Rattle.automaton.specs.Successor.{successor, after}
-use Rattle.rulefile.specs.Reader.{targetsUpTo, ruleOf}
-use Rattle.rulefile.specs.Language.{automatonIn}
-use Rattle.rulefile.specs.Worked.{fileA, fileB}
-use Rattle.rulefile.proofs.Claims as rulefile
+use Rattle.ruleformat.specs.Reader.{targetsUpTo, ruleOf}
+use Rattle.ruleformat.specs.Language.{automatonIn}
+use Rattle.ruleformat.specs.Worked.{fileA, fileB}
+use Rattle.ruleformat.proofs.Claims as rulefile
 use Rattle.subsets.specs.Sets.{numberIn, numbered, expandFrom, closeFrom, setsUpTo, setsOf, tooMany}
 use Rattle.subsets.specs.Claims.{fits}
 use Rattle.subsets.proofs.Claims as subsets

@@ -21,10 +21,10 @@ use Rattle.masks.proofs.Lists.{cell-of}
 use Rattle.automaton.specs.declared.Rule.{Rule}
 use Rattle.automaton.specs.Automaton.{Accepts}
 use Rattle.automaton.specs.Rules.{automatonOf, WellFormed}
-use Rattle.rulefile.specs.Conditions.{outside}
-use Rattle.rulefile.specs.Reader.{ruleOf}
-use Rattle.rulefile.proofs.Conditions.{or-left}
-use Rattle.rulefile.proofs.Claims as rulefile
+use Rattle.ruleformat.specs.Conditions.{outside}
+use Rattle.ruleformat.specs.Reader.{ruleOf}
+use Rattle.ruleformat.proofs.Conditions.{or-left}
+use Rattle.ruleformat.proofs.Claims as rulefile
 use Rattle.delegates.specs.Alike.{Text, Merged}
 use Rattle.chunks.specs.Chunks.{counted, runSet, endSet, total, chunkCount}
 use Rattle.joins.specs.Joining.{saysYes}

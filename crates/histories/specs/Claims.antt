@@ -24,8 +24,8 @@ use Prim.Native.Nat.{ℕ, _+_, _*_, _≤_, _<_}
 use lib.ListN.{length, getD}
 use Rattle.automaton.specs.Automaton.{Automaton, Accepts}
 use Rattle.automaton.specs.Rules.{automatonOf, WellFormed}
-use Rattle.rulefile.specs.Reader.{ruleOf, noRule}
-use Rattle.rulefile.specs.Language.{automatonIn}
+use Rattle.ruleformat.specs.Reader.{ruleOf, noRule}
+use Rattle.ruleformat.specs.Language.{automatonIn}
 use Rattle.subsets.specs.Claims.{fits}
 use Rattle.delegates.specs.Alike.{Merged}
 use Rattle.build.specs.Building.{BuiltRule, noBuilt}

@@ -26,8 +26,8 @@ use lib.Dec.{eqb}
 use lib.ListN.{length}
 use Rattle.masks.specs.Lists.{listFrom}
 use Rattle.automaton.specs.declared.Rule.{Rule}
-use Rattle.rulefile.specs.Conditions.{firstOf}
-use Rattle.rulefile.specs.Reader.{ruleOf, noRule}
+use Rattle.ruleformat.specs.Conditions.{firstOf}
+use Rattle.ruleformat.specs.Reader.{ruleOf, noRule}
 use Rattle.subsets.specs.Sets.{setsOf}
 use Rattle.chunks.specs.Chunks.{runSet, endSet, total, chunkCount}
 use Rattle.joins.specs.Joining.{saysYes}

@@ -20,7 +20,7 @@ use calls::Verdict;
 use calls::WithdrawAnswer;
 use calls::Withdrawal;
 use chunks::Runs;
-use rulefile::ReadAnswer;
+use ruleformat::ReadAnswer;
 
 // A judge with no rule and no board.
 pub fn new_judge() -> Judge

@@ -6,22 +6,13 @@ ghost use Prim.Native.Nat.{ℕ, _+_, _*_, _/_, _%_, _^_, _≤_, _<_};
 ghost use lib.Bits.{bitOr};
 ghost use lib.Dec.{eqb, leb};
 ghost use lib.ListN.{length, getD};
-ghost use Rattle.rulefile.specs.Format.{byteAt, halfAt, wordAt, stateCount};
-ghost use Rattle.rulefile.specs.Refusals.{badPairs, badSection, badArcs, refusal};
-ghost use Rattle.rulefile.specs.Reader.{numberOf, targetsBy, ruleOf, noRule, Reads};
+ghost use Rattle.ruleformat.specs.Format.{byteAt, halfAt, wordAt, stateCount};
+ghost use Rattle.ruleformat.specs.Refusals.{badPairs, badSection, badArcs, refusal};
+ghost use Rattle.ruleformat.specs.Reader.{numberOf, targetsBy, ruleOf, noRule, Reads};
 use automaton::Rule;
 use masks::StateNumber;
-
-pub enum ReadAnswer {
-    Accepted,
-    Refused(u8),
-}
-
-// An answer with the rule beside it, which is all zeros where the file is refused.
-pub struct Reading {
-    pub answer: ReadAnswer,
-    pub rule: Rule,
-}
+use ruleformat::ReadAnswer;
+use ruleformat::Reading;
 
 // The byte at an index.
 fn byte(file: &[u8], at: usize) -> usize

@@ -3,7 +3,7 @@ use automaton::Rule;
 use fields::Bytes;
 use libc::STDIN_FILENO;
 use libc::STDOUT_FILENO;
-use rulefile::ReadAnswer;
+use ruleformat::ReadAnswer;
 
 // ` STATE.SYMBOL=MASK` for a cell that is not empty.
 fn print_cell(cell: usize, mask: u32) {

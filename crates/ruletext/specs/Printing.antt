@@ -13,8 +13,8 @@ use Prim.Native.Nat.{ℕ}
 use lib.Dec.{ltb}
 use lib.ListN.{length, drop}
 use Rattle.subsets.specs.Sets.{tooMany}
-use Rattle.rulefile.specs.Refusals.{refusal}
-use Rattle.rulefile.specs.Reader.{ruleOf}
+use Rattle.ruleformat.specs.Refusals.{refusal}
+use Rattle.ruleformat.specs.Reader.{ruleOf}
 use Rattle.build.specs.declared.Built.{Built}
 use Rattle.build.specs.Building.{BuiltRule}
 use Rattle.ruletext.specs.declared.Printed.{Printed}

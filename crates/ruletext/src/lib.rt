@@ -9,7 +9,7 @@ ghost use Rattle.ruletext.specs.Printing.{Prints, Shown};
 use build::BuildAnswer;
 use build::Building;
 use build::Built;
-use rulefile::ReadAnswer;
+use ruleformat::ReadAnswer;
 
 // How many bytes the text has, or that the buffer is too short for it.
 pub enum Printed {

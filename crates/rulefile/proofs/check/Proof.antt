@@ -1,7 +1,7 @@
 -- `check` meets its contract: after each test the number is that of the first condition from there on. Assumes nothing.
-use Rattle.rulefile.proofs.Refused.{short, not-short, long, not-long, few-states, many-states, good-states, few-symbols, many-symbols, good-symbols, no-room, room, initials-out, finals-out, good-masks, from-1, from-2, from-3, from-4, from-5, from-6, from-7, from-8, holds, skips}
-use Rattle.rulefile.specs.Refusals.{tooShort, tooLong, badStates, badSymbols, noRoom, badMask, badPairs, badArcs, refusal}
-use Rattle.rulefile.specs.Format.{stateCount, initialMask, finalMask}
+use Rattle.ruleformat.proofs.Refused.{short, not-short, long, not-long, few-states, many-states, good-states, few-symbols, many-symbols, good-symbols, no-room, room, initials-out, finals-out, good-masks, from-1, from-2, from-3, from-4, from-5, from-6, from-7, from-8, holds, skips}
+use Rattle.ruleformat.specs.Refusals.{tooShort, tooLong, badStates, badSymbols, noRoom, badMask, badPairs, badArcs, refusal}
+use Rattle.ruleformat.specs.Format.{stateCount, initialMask, finalMask}
 use lib.Dec.{leb}
 use native.Mathlib.Omega.{arith}
 use Prim.Native.Nat.{ℕ, _^_}

@@ -1,8 +1,8 @@
 -- `read` meets its contract. Assumes nothing.
 use mathlib.Core.Option.{Option}
 use Prim.Native.Nat.{ℕ}
-use Rattle.rulefile.specs.declared.ReadAnswer.the-variants.{Accepted, Refused}
-use Rattle.rulefile.specs.Reader.{numberOf, ruleBy}
+use Rattle.ruleformat.specs.declared.ReadAnswer.the-variants.{Accepted, Refused}
+use Rattle.ruleformat.specs.Reader.{numberOf, ruleBy}
 use mathlib.Core.Path.{_≡_, sym, ap, _∙_}
 use borrow.Author.Needs.{needs}
 use Rattle.rulefile.proofs.read.Statement.{statement}

@@ -1,9 +1,9 @@
 -- `store_arcs` meets its contract. The loop's invariant: each cell is what it was, with, in the row of state q, the targets of the first i
 -- arcs. Assumes nothing.
-use Rattle.rulefile.proofs.Tables.{cellAfter, none-stored, arc-stored}
-use Rattle.rulefile.proofs.Arcs.{bounds}
-use Rattle.rulefile.specs.Refusals.{badSection}
-use Rattle.rulefile.specs.Format.{arcCount, symbolAt, targetAt}
+use Rattle.ruleformat.proofs.Tables.{cellAfter, none-stored, arc-stored}
+use Rattle.ruleformat.proofs.Arcs.{bounds}
+use Rattle.ruleformat.specs.Refusals.{badSection}
+use Rattle.ruleformat.specs.Format.{arcCount, symbolAt, targetAt}
 use Rattle.masks.specs.Masks.{single}
 use lib.ListN.{length, getD, set, length-set}
 use lib.Bits.{bitOr}

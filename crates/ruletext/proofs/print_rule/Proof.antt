@@ -2,9 +2,9 @@
 use mathlib.Core.Path.{_≡_, sym, ap, _∙_}
 use mathlib.Core.Option.{Option, none}
 use Prim.Native.Nat.{ℕ}
-use Rattle.rulefile.specs.declared.ReadAnswer.the-variants.{Accepted, Refused}
-use Rattle.rulefile.specs.Refusals.{refusal}
-use Rattle.rulefile.specs.Reader.{numberOf, ruleBy, ruleOf}
+use Rattle.ruleformat.specs.declared.ReadAnswer.the-variants.{Accepted, Refused}
+use Rattle.ruleformat.specs.Refusals.{refusal}
+use Rattle.ruleformat.specs.Reader.{numberOf, ruleBy, ruleOf}
 use Rattle.ruletext.specs.RuleText.{textOf, refusedText}
 use Rattle.ruletext.specs.Printing.{unread}
 use Rattle.ruletext.proofs.ForFile.{text-for}
