@@ -1,8 +1,8 @@
 -- Lists of calls, and what such a list says by itself (document 01, "The board and its calls"). A history has the LAST call first. Nothing here
 -- looks at a state. `d` lists the delegates of the rule that is there.
 --
--- Where a rule is there `d` is fixed by the list (`one-list` of crates/delegates). `standing` takes it for condition 24 alone, which no list meets, so it does not depend
--- on `d` (`Never-24`, `Standing-fixed` of specs/Claims.antt).
+-- Where a rule is there `d` is fixed by the list (`one-list` of crates/delegates). `standing` takes it for condition 24 alone, which no list meets,
+-- so it does not depend on `d` (`Never-24`, `Standing-fixed` of specs/Claims.antt).
 --
 --   fileOf h, ruleIn h       the file of the last accepted load, and its rule
 --   openNumber h n           the number with which an opening is refused: 20, 10
