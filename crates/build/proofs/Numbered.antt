@@ -1,5 +1,5 @@
 -- What an answer of `number_sets` tells, and a rule built from what it leaves. Assumes nothing.
-use mathlib.Core.Path.{_≡_, refl, sym, ap, ap₂, _∙_, subst₃}
+use mathlib.Core.Path.{_≡_, sym, ap, _∙_}
 use mathlib.Core.Bool.{true, false}
 use mathlib.Core.List.{List}
 use Prim.Native.Nat.{ℕ, _≤_, min}
@@ -14,10 +14,11 @@ use Rattle.subsets.specs.declared.Numbering.the-variants.{Whole, Over}
 use Rattle.subsets.specs.Sets.{setsOf, tooMany}
 use Rattle.subsets.specs.Answer.{counted, refused, toldOf, Answered}
 use Rattle.delegates.specs.declared.Starts.{Starts}
-use Rattle.delegates.specs.Classes.{numberOf, MergedSets}
+use Rattle.delegates.specs.Classes.{numberOf, startsOf}
+use Rattle.delegates.specs.Claims.{startsIn}
 use Rattle.build.specs.declared.BuildAnswer.the-variants.{Accepted, Refused}
 use Rattle.build.specs.declared.Built.{Built}
-use Rattle.build.specs.Building.{noBuilt, Builds}
+use Rattle.build.specs.Building.{noBuilt, buildCame, buildOf}
 
 module _ (ts : List ℕ) (n k : ℕ) (r : Numbering) (sets next : List ℕ) (answered : Answered ts n k r sets next) where
   -- a count: there are not too many
@@ -49,12 +50,12 @@ module _ (ts : List ℕ) (n k : ℕ) (r : Numbering) (sets next : List ℕ) (ans
       let o : refused 9 ≡ counted (length (setsOf ts n k)) = sym (ap toldOf e) ∙ answered .count ∙ rw f in
       absurd (let z : _≡_ {A = ℕ} 0 1 = cc in omega arith))
 
--- the two arrays, the merged starts and the numbers of singletons make a built rule
+-- the two arrays, the merged starts and the numbers of singletons make the built rule
 pub whole : (r : Rule) (a : Numbering) (sets next : List ℕ) → Answered (r .targets) (r .n) (r .k) a sets next → (c : ℕ) → a ≡ Whole c
-    → (s : Starts) → MergedSets sets next (r .finals) c (r .n) (r .k) s
+    → (s : Starts) → s ≡ startsOf sets next (r .finals) c (r .n) (r .k)
     → (singles : List ℕ) → singles ≡ listFrom 0 32 (numberOf sets c)
     → (n k : ℕ) → n ≡ min (r .n) 32 → k ≡ min (r .k) 16
-    → Builds r (record {
+    → buildCame (record {
       answer = Accepted c (s .count);
       built = record {
         n = n;
@@ -69,32 +70,16 @@ pub whole : (r : Rule) (a : Numbering) (sets next : List ℕ) → Answered (r .t
         next = next;
       };
     })
+    ≡ buildOf r
+unfolding buildOf startsIn
 whole r a sets next answered c e s merged singles are n k n-is k-is =
     let f = not-over (r .targets) (r .n) (r .k) a sets next answered c e in
     let count = the-count (r .targets) (r .n) (r .k) a sets next answered c e in
-    record {
-      answer = rw (f, count);
-      built = λ _. record {
-        n-is = n-is;
-        k-is = k-is;
-        initials-are = refl;
-        finals-are = refl;
-        count-is = count;
-        sets-are = answered .sets-are f;
-        next-are = answered .next-are f;
-        singles-are = are ∙ ap₂ (λ (l : List ℕ) (m : ℕ). listFrom 0 32 (numberOf l m)) (answered .sets-are f) count;
-        merged =
-            subst₃ (λ (l : List ℕ) (t : List ℕ) (m : ℕ). MergedSets l t (r .finals) m (r .n) (r .k) s) (answered .sets-are f) (answered .next-are f) count merged;
-      };
-      nothing = λ t. let z : true ≡ false = sym t ∙ f in absurd (let y : _≡_ {A = ℕ} 0 1 = cc in omega arith);
-    }
+    let masks = answered .sets-are f in
+    let cells = answered .next-are f in
+    rw (merged, are, n-is, k-is, f, masks, cells, count)
 
 pub too-many : (r : Rule) (a : Numbering) (sets next : List ℕ) → Answered (r .targets) (r .n) (r .k) a sets next → a ≡ Over
-    → (b : Built) → b ≡ noBuilt → Builds r (record { answer = Refused 9; built = b })
-too-many r a sets next answered e b is =
-    let t = is-over (r .targets) (r .n) (r .k) a sets next answered e in
-    record {
-      answer = rw t;
-      built = λ f. let z : true ≡ false = sym t ∙ f in absurd (let y : _≡_ {A = ℕ} 0 1 = cc in omega arith);
-      nothing = λ _. is;
-    }
+    → (b : Built) → b ≡ noBuilt → buildCame (record { answer = Refused 9; built = b }) ≡ buildOf r
+unfolding buildOf
+too-many r a sets next answered e b is = rw (is, is-over (r .targets) (r .n) (r .k) a sets next answered e)

@@ -2,11 +2,11 @@
 --
 --   Said, saidOf   document 01's answer: accepted with the number of sets and M, or refused with a number; and what each case of the
 --                  code's answer says
---   BuiltRule r b  b holds the sets, the next-set table, the delegates and M of the rule r, and what running needs
+--   builtOf r      the rule r built: its sets, its next-set table, its delegates and M, and what running needs
 --   noBuilt        zeros, which a refusal carries
---   Builds r b     b is the right answer for the rule r
-use mathlib.Core.Path.{_≡_}
-use mathlib.Core.Bool.{true, false, cond}
+--   Outcome, buildCame   what building came to: what the answer says, and the built rule; and the outcome that the code's result tells
+--   buildOf r      what building the rule r comes to
+use mathlib.Core.Bool.{cond}
 use mathlib.Core.List.{List}
 use Prim.Native.Nat.{ℕ, min}
 use lib.ListN.{length, replicate}
@@ -14,7 +14,7 @@ use Rattle.masks.specs.Lists.{listFrom}
 use Rattle.automaton.specs.declared.Rule.{Rule}
 use Rattle.subsets.specs.Sets.{setsOf, tooMany, setCells, nextCells}
 use Rattle.delegates.specs.Classes.{numberOf}
-use Rattle.delegates.specs.Claims.{MergedRule}
+use Rattle.delegates.specs.Claims.{startsIn}
 use Rattle.build.specs.declared.BuildAnswer.{BuildAnswer}
 use Rattle.build.specs.declared.BuildAnswer.the-variants.{Accepted, Refused}
 use Rattle.build.specs.declared.Built.{Built}
@@ -33,16 +33,19 @@ module _ (r : Rule) where
   sets = setsOf (r .targets) (r .n) (r .k)
 
   -- singles has the number of {q} for each state q
-  pub record BuiltRule (b : Built) : Type 0 where
-    pub n-is : b .n ≡ min (r .n) 32
-    pub k-is : b .k ≡ min (r .k) 16
-    pub initials-are : b .initials ≡ r .initials
-    pub finals-are : b .finals ≡ r .finals
-    pub count-is : b .count ≡ length sets
-    pub sets-are : b .sets ≡ setCells (r .targets) (r .n) (r .k)
-    pub next-are : b .next ≡ nextCells (r .targets) (r .n) (r .k)
-    pub singles-are : b .singles ≡ listFrom 0 32 (numberOf (setCells (r .targets) (r .n) (r .k)) (length sets))
-    pub merged : MergedRule r (record { delegates = b .delegates; count = b .starts })
+  abbrev pub builtOf : Built
+  builtOf = record {
+    n = min (r .n) 32;
+    k = min (r .k) 16;
+    starts = startsIn r .count;
+    count = length sets;
+    initials = r .initials;
+    finals = r .finals;
+    delegates = startsIn r .delegates;
+    singles = listFrom 0 32 (numberOf (setCells (r .targets) (r .n) (r .k)) (length sets));
+    sets = setCells (r .targets) (r .n) (r .k);
+    next = nextCells (r .targets) (r .n) (r .k);
+  }
 
 abbrev pub noBuilt : Built
 noBuilt = record {
@@ -58,8 +61,15 @@ noBuilt = record {
   next = replicate 8192 0;
 }
 
-pub record Builds (r : Rule) (b : Building) : Type 0 where
-  pub answer :
-      saidOf (b .answer) ≡ cond (tooMany (r .targets) (r .n) (r .k)) (refused 9) (accepted (length (sets r)) (b .built .starts))
-  pub built : tooMany (r .targets) (r .n) (r .k) ≡ false → BuiltRule r (b .built)
-  pub nothing : tooMany (r .targets) (r .n) (r .k) ≡ true → b .built ≡ noBuilt
+pub record Outcome : Type 0 where
+  pub says : Said
+  pub leaves : Built
+
+abbrev pub buildCame : Building → Outcome
+buildCame b = record { says = saidOf (b .answer); leaves = b .built }
+
+unfoldable pub buildOf : Rule → Outcome
+buildOf r =
+    cond (tooMany (r .targets) (r .n) (r .k))
+    (record { says = refused 9; leaves = noBuilt })
+    (record { says = accepted (length (sets r)) (startsIn r .count); leaves = builtOf r })

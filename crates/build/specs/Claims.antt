@@ -8,12 +8,11 @@ use Rattle.automaton.specs.declared.Rule.{Rule}
 use Rattle.automaton.specs.Rules.{automatonOf, WellFormed}
 use Rattle.subsets.specs.Claims.{fits}
 use Rattle.delegates.specs.Alike.{Merged}
-use Rattle.build.specs.declared.Built.{Built}
-use Rattle.build.specs.Building.{BuiltRule}
+use Rattle.build.specs.Building.{builtOf}
 
 pub record Claims : Type 0 where
   -- its delegates are, for each state, the lowest alike one, and its number of starts is M
-  pub delegates : (r : Rule) → WellFormed r → fits r → (b : Built) → BuiltRule r b → Merged (automatonOf r) (b .delegates) (b .starts)
+  pub delegates : (r : Rule) → WellFormed r → fits r → Merged (automatonOf r) (builtOf r .delegates) (builtOf r .starts)
   -- the number of {q} names the mask of {q}
-  pub singles : (r : Rule) → WellFormed r → fits r → (b : Built) → BuiltRule r b → (q : ℕ) → q < r .n
-      → (getD (b .singles) q 0 < b .count) × (getD (b .sets) (getD (b .singles) q 0) 0 ≡ single q)
+  pub singles : (r : Rule) → WellFormed r → fits r → (q : ℕ) → q < r .n
+      → (getD (builtOf r .singles) q 0 < builtOf r .count) × (getD (builtOf r .sets) (getD (builtOf r .singles) q 0) 0 ≡ single q)

@@ -3,7 +3,7 @@ ghost use mathlib.Core.Path.{_≡_};
 ghost use Prim.Native.Nat.{_≤_};
 ghost use Rattle.masks.specs.Lists.{listFrom};
 ghost use Rattle.delegates.specs.Classes.{numberOf};
-ghost use Rattle.build.specs.Building.{noBuilt, Builds};
+ghost use Rattle.build.specs.Building.{noBuilt, buildCame, buildOf};
 use automaton::Rule;
 use masks::StateNumber;
 use subsets::Numbering;
@@ -75,7 +75,7 @@ pub fn nothing_built() -> Built
 
 // The rule built, or a refusal with 9 where it has more than 512 sets. Any value is taken, also one that no file gives.
 pub fn build_rule(rule: Rule) -> Building
-    ensures { λ r. ⌜ Builds rule r ⌝ }
+    ensures { λ r. ⌜ buildCame r ≡ buildOf rule ⌝ }
 {
     let n = rule.n;
     let k = rule.k;

@@ -2,7 +2,7 @@
 --
 --   load-malformed, load-put        the ways through a load
 --   deliver-malformed, deliver-put  the ways through a delivery
-use mathlib.Core.Path.{_≡_, ap, _∙_, subst}
+use mathlib.Core.Path.{_≡_, ap, _∙_}
 use mathlib.Core.List.{List}
 use mathlib.Core.Option.{some}
 use Prim.Native.Nat.{ℕ, _≤_}
@@ -16,7 +16,7 @@ use Rattle.calls.specs.declared.Judge.{Judge}
 use Rattle.calls.specs.declared.Loading.{Loading}
 use Rattle.calls.specs.declared.Delivery.{Delivery}
 use Rattle.calls.specs.Replies.{loadSays, deliverSays}
-use Rattle.calls.specs.Steps.{Loads, loadCame, deliverOf, deliverCame}
+use Rattle.calls.specs.Steps.{loadOf, loadCame, deliverOf, deliverCame}
 use Rattle.calltext.specs.Meaning.{malformed, loadBy, deliverBy}
 use Rattle.calltext.specs.Answers.{Response, replied}
 use Rattle.callrun.specs.Running.{LineSteps}
@@ -32,11 +32,11 @@ module _ (field before after : List ℕ) (x : Bytes) (took : Took field before x
     deliver-malformed p e s next l = rw (not-bytes field before after x took e) l
 
     module _ (room : 65537 ≤ length before) (n : ℕ) (put : x ≡ Put n) (s : Response) where
-      pub load-put : (r : Loading) → Loads j (take n after) (loadCame r) → s ≡ replied (loadSays (r .answer))
+      pub load-put : (r : Loading) → loadCame r ≡ loadOf j (take n after) → s ≡ replied (loadSays (r .answer))
           → LineSteps j (loadBy (bytesIn field)) s (r .judge)
       load-put r l e =
           let k = carries field before after x took n put in
-          let whole = loads-clip j (k .bytes) (loadCame r) (length before) (omega arith) (subst (λ (f : List ℕ). Loads j f (loadCame r)) (k .is) l) in
+          let whole = l ∙ ap (loadOf j) (k .is) ∙ loads-clip j (k .bytes) (length before) (omega arith) in
           rw (k .said) (loadSays (r .answer), e, whole)
 
       pub deliver-put : (p : ℕ) (r : Delivery) → deliverCame r ≡ deliverOf j p (take n after) → s ≡ replied (deliverSays (r .answer))

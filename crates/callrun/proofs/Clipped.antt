@@ -3,10 +3,10 @@
 --   long-load                    the number is 2
 --   loads-long, delivers-long    one that is too long comes to what any other comes to
 --   loads-clip, delivers-clip    the first bytes, one more than the limit at least, come to what all of them come to
-use mathlib.Core.Path.{_≡_, refl, sym, ap, _∙_, subst}
+use mathlib.Core.Path.{_≡_, refl, ap}
 use mathlib.Core.Bool.{Bool, true, false, cond}
 use mathlib.Core.List.{List}
-use mathlib.Core.Option.{Option, some}
+use mathlib.Core.Option.{some}
 use Prim.Native.Nat.{ℕ, _≤_, _<_}
 use native.Mathlib.Omega.{arith}
 use borrow.Author.Tests.{lt-ltb, le-ltb, ltb-true, ltb-false}
@@ -17,39 +17,30 @@ use Rattle.masks.proofs.Cases.{by-test}
 use Rattle.ruleformat.specs.Refusals.{tooShort, tooLong}
 use Rattle.board.specs.Boards.{placesOf}
 use Rattle.calls.specs.declared.Judge.{Judge}
+use Rattle.calls.specs.Replies.{accepted}
 use Rattle.calls.specs.Calls.{loadNumber}
-use Rattle.calls.specs.Steps.{Outcome, Loads, outcomeBy, lacksBoard, deliverOf}
-use Rattle.calls.proofs.Conditions.{none-some}
+use Rattle.calls.specs.Steps.{outcomeBy, lacksBoard, loadOf, deliverOf}
 
 pub long-load : (f : List ℕ) → 32906 < length f → loadNumber f ≡ some 2
 unfolding loadNumber tooShort tooLong
 long-load f h = rw (le-ltb (length f) 10 (omega arith), lt-ltb 32906 (length f) h)
 
 -- ---- load
-same-number : {x y : ℕ} (o : Option ℕ) → o ≡ some x → o ≡ some y → x ≡ y
-same-number o e f = cc
+pub loads-long : (j : Judge) (f g : List ℕ) → 32906 < length f → 32906 < length g → loadOf j f ≡ loadOf j g
+unfolding loadOf
+loads-long j f g hf hg = rw (long-load f hf, long-load g hg)
 
-pub loads-long : (j : Judge) (f g : List ℕ) (o : Outcome) → 32906 < length f → 32906 < length g → Loads j f o → Loads j g o
-loads-long j f g o hf hg l =
-    let n = long-load g hg in
-    record {
-      refused = λ x e. l .refused x (long-load f hf ∙ sym n ∙ e);
-      answered = λ e. none-some (loadNumber g) e n;
-      built = λ e. none-some (loadNumber g) e n;
-      removed = λ e. none-some (loadNumber g) e n;
-    }
-
-pub loads-clip : (j : Judge) (f : List ℕ) (o : Outcome) (n : ℕ) → 32907 ≤ n → Loads j (take n f) o → Loads j f o
-loads-clip j f o n h l =
+pub loads-clip : (j : Judge) (f : List ℕ) (n : ℕ) → 32907 ≤ n → loadOf j (take n f) ≡ loadOf j f
+loads-clip j f n h =
     by-test (ltb n (length f))
     (λ t.
     let more = ltb-true n (length f) t in
-    loads-long j (take n f) f o (omega (arith, length-take-le n f (omega (arith, more)))) (omega (arith, more)) l)
-    (λ t. subst (λ (x : List ℕ). Loads j x o) (take-all n f (ltb-false n (length f) t)) l)
+    loads-long j (take n f) f (omega (arith, length-take-le n f (omega (arith, more)))) (omega (arith, more)))
+    (λ t. ap (loadOf j) (take-all n f (ltb-false n (length f) t)))
 
 -- ---- deliver
 by-12 : (a b : Bool) (j next next′ : Judge)
-    → outcomeBy (cond a (some 21) (cond b (some 11) (some 12))) j next ≡ outcomeBy (cond a (some 21) (cond b (some 11) (some 12))) j next′
+    → outcomeBy (cond a (some 21) (cond b (some 11) (some 12))) accepted j next ≡ outcomeBy (cond a (some 21) (cond b (some 11) (some 12))) accepted j next′
 by-12 true b j next next′ = refl
 by-12 false true j next next′ = refl
 by-12 false false j next next′ = refl

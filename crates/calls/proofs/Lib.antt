@@ -1,5 +1,4 @@
--- Conditions and Ways are for the proofs of the functions; Refusing and Fixed prove the claims.
+-- Conditions and Ways are for the proofs of the functions; Refusing proves the claim.
 pub mod Conditions
 pub mod Ways
 pub mod Refusing
-pub mod Fixed

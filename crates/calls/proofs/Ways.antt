@@ -7,8 +7,8 @@
 --   runs-by                                                 the runs at a place, from their mask
 --   deliver-21, -11, -12, -13, -22, -24, delivered          deliverOf
 --   verdict-21, verdict-waiting, verdict-yes, verdict-no    verdictOf
---   load-unread, load-unbuilt, loaded                       Loads
-use mathlib.Core.Path.{_≡_, sym, ap, ap₂, _∙_, subst}
+--   load-unread, load-unbuilt, loaded                       loadOf
+use mathlib.Core.Path.{_≡_, sym, ap, ap₂, _∙_}
 use mathlib.Core.Bool.{Bool, true, false, cond, not}
 use mathlib.Core.List.{List}
 use mathlib.Core.Option.{Option, none, some}
@@ -18,7 +18,6 @@ use lib.Dec.{ltb}
 use lib.ListN.{length}
 use borrow.Author.Tests.{lt-ltb, le-ltb, le-leb, lt-leb, eq-eqb, ne-eqb, ltb-true, ltb-false}
 use Rattle.masks.proofs.Cases.{by-test}
-use Rattle.automaton.specs.declared.Rule.{Rule}
 use Rattle.ruleformat.specs.declared.ReadAnswer.the-variants as reading
 use Rattle.ruleformat.specs.declared.Reading.{Reading}
 use Rattle.ruleformat.specs.Refusals.{refusal}
@@ -26,7 +25,7 @@ use Rattle.ruleformat.specs.Reader.{numberOf, ruleOf, ruleBy, Reads}
 use Rattle.build.specs.declared.BuildAnswer.the-variants as build
 use Rattle.build.specs.declared.Built.{Built}
 use Rattle.build.specs.declared.Building.{Building}
-use Rattle.build.specs.Building.{accepted, refused, saidOf, sets, noBuilt, Builds}
+use Rattle.build.specs.Building.{accepted, refused, saidOf, sets, builtOf, noBuilt, Outcome as Built-outcome, buildCame, buildOf}
 use Rattle.chunks.specs.declared.Runs.{Runs}
 use Rattle.chunks.specs.Chunks.{foreign}
 use Rattle.chunks.specs.Walks.{runMask, runsOf}
@@ -35,8 +34,8 @@ use Rattle.board.specs.Boards.{placesOf, isEmpty, emptyBoard, filledAt, cleared
 use Rattle.calls.specs.declared.Judge.{Judge}
 use Rattle.calls.specs.Replies as reply
 use Rattle.calls.specs.Calls.{loadNumber}
-use Rattle.calls.specs.Steps.{fresh, withBoard, Outcome, Loads, openOf, runsAt, deliverOf, withdrawOf, isYes, verdictOf}
-use Rattle.calls.proofs.Conditions.{none-some, over, load-number}
+use Rattle.calls.specs.Steps.{fresh, withBoard, Outcome, loadOf, openOf, runsAt, deliverOf, withdrawOf, isYes, verdictOf}
+use Rattle.calls.proofs.Conditions.{over, load-number}
 
 pub fresh-by : (b : Built) → b ≡ noBuilt → (e : Board) → e ≡ emptyBoard 0 → record { built = b; board = e } ≡ fresh
 unfolding fresh
@@ -160,62 +159,56 @@ module _ (j : Judge) where
 
 -- ---- load
 refused-with : (j : Judge) (f : List ℕ) (number : ℕ) → loadNumber f ≡ some number
-    → (r : Outcome) → r ≡ record { says = reply.refused number; leaves = j } → Loads j f r
-refused-with j f number told r e =
-    record {
-      refused = λ m told′. (cc);
-      answered = λ e. none-some (loadNumber f) e told;
-      built = λ e. none-some (loadNumber f) e told;
-      removed = λ e. none-some (loadNumber f) e told;
-    }
+    → (r : Outcome) → r ≡ record { says = reply.refused number; leaves = j } → r ≡ loadOf j f
+unfolding loadOf
+refused-with j f number told r e = e ∙ rw told
 
 module _ (j : Judge) (f : List ℕ) (read : Reading) (reads : Reads f read) where
   -- the file is refused
   pub load-unread : (number : ℕ) → read .answer ≡ reading.Refused number
-      → (r : Outcome) → r ≡ record { says = reply.refused number; leaves = j } → Loads j f r
+      → (r : Outcome) → r ≡ record { says = reply.refused number; leaves = j } → r ≡ loadOf j f
   load-unread number told =
       let told : refusal f ≡ some number = sym (reads .answer) ∙ ap numberOf told in
       refused-with j f number (load-number f ∙ rw told)
 
-  module _ (told : read .answer ≡ reading.Accepted) (b : Building) (builds : Builds (read .rule) b) where
+  module _ (told : read .answer ≡ reading.Accepted) (b : Building) (builds : buildCame b ≡ buildOf (read .rule)) where
     good : refusal f ≡ none
     good = sym (reads .answer) ∙ ap numberOf told
 
-    builds-it : Builds (ruleOf f) b
-    builds-it = subst (λ (x : Rule). Builds x b) (reads .rule ∙ ap (λ (o : Option ℕ). ruleBy o f) good) builds
+    came : buildCame b ≡ buildOf (ruleOf f)
+    came = builds ∙ ap buildOf (reads .rule ∙ ap (λ (o : Option ℕ). ruleBy o f) good)
 
     number-is : loadNumber f ≡ cond (over f) (some 9) none
     number-is = load-number f ∙ rw good
 
-    said : saidOf (b .answer) ≡ cond (over f) (refused 9) (accepted (length (sets (ruleOf f))) (b .built .starts))
-    said = builds-it .answer
-
     -- it has too many sets
     pub load-unbuilt : (number : ℕ) → b .answer ≡ build.Refused number
-        → (r : Outcome) → r ≡ record { says = reply.refused number; leaves = j } → Loads j f r
+        → (r : Outcome) → r ≡ record { says = reply.refused number; leaves = j } → r ≡ loadOf j f
+    unfolding buildOf
     load-unbuilt number answered =
         by-test (over f)
         (λ t.
-        let is : refused number ≡ refused 9 = sym (ap saidOf answered) ∙ said ∙ rw t in
+        let is : refused number ≡ refused 9 = sym (ap saidOf answered) ∙ ap (λ (o : Built-outcome). o .says) came ∙ rw t in
         let nine : number ≡ 9 = cc in
         refused-with j f number (number-is ∙ rw (t, nine)))
         (λ few.
-        let is : refused number ≡ accepted (length (sets (ruleOf f))) (b .built .starts) = sym (ap saidOf answered) ∙ said ∙ rw few in
+        let is : refused number ≡ accepted (length (sets (ruleOf f))) (builtOf (ruleOf f) .starts) =
+        sym (ap saidOf answered) ∙ ap (λ (o : Built-outcome). o .says) came ∙ rw few in
         absurd (let z : _≡_ {A = ℕ} 0 1 = cc in omega arith))
 
     pub loaded : (m starts : ℕ) → b .answer ≡ build.Accepted m starts → (e : Board) → e ≡ emptyBoard 0
-        → Loads j f (record { says = reply.loaded m starts; leaves = record { built = b .built; board = e } })
+        → record { says = reply.loaded m starts; leaves = record { built = b .built; board = e } } ≡ loadOf j f
+    unfolding buildOf loadOf
     loaded m starts answered e empty =
         by-test (over f)
         (λ t.
-        let is : accepted m starts ≡ refused 9 = sym (ap saidOf answered) ∙ said ∙ rw t in
+        let is : accepted m starts ≡ refused 9 = sym (ap saidOf answered) ∙ ap (λ (o : Built-outcome). o .says) came ∙ rw t in
         absurd (let z : _≡_ {A = ℕ} 0 1 = cc in omega arith))
         (λ few.
-        let is : accepted m starts ≡ accepted (length (sets (ruleOf f))) (b .built .starts) = sym (ap saidOf answered) ∙ said ∙ rw few in
+        let is : accepted m starts ≡ accepted (length (sets (ruleOf f))) (builtOf (ruleOf f) .starts) =
+        sym (ap saidOf answered) ∙ ap (λ (o : Built-outcome). o .says) came ∙ rw few in
+        let built : b .built ≡ builtOf (ruleOf f) = ap (λ (o : Built-outcome). o .leaves) came ∙ rw few in
+        let same-m : m ≡ length (sets (ruleOf f)) = cc in
+        let same-starts : starts ≡ builtOf (ruleOf f) .starts = cc in
         let none-is : loadNumber f ≡ none = number-is ∙ rw few in
-        record {
-          refused = λ number told. none-some (loadNumber f) none-is told;
-          answered = λ _. (cc);
-          built = λ _. builds-it .built few;
-          removed = λ _. empty;
-        })
+        rw (same-m, same-starts, built, empty, none-is))

@@ -5,21 +5,17 @@
 --   fresh              no rule and no board: zeros
 --   Outcome            what a call came to: what its answer says, and the state that it leaves
 --   loadCame, openCame, deliverCame, withdrawCame   the outcome that the code's result tells
---   Loads j f o        o is what a load of the file f may come to
---   openOf, deliverOf, withdrawOf   what the other calls that may change the state come to
+--   loadOf, openOf, deliverOf, withdrawOf   what the calls that may change the state come to
 --   verdictOf          what the verdict says
---   Steps j c o        o is what the call c may come to on the state j
-use mathlib.Core.Path.{_≡_}
+--   stepOf j c         what the call c comes to on the state j
 use mathlib.Core.Bool.{Bool, cond, not}
 use mathlib.Core.List.{List}
 use mathlib.Core.Option.{Option, none, some}
 use Prim.Native.Nat.{ℕ, _+_}
 use lib.Dec.{eqb}
-use lib.ListN.{length}
 use Rattle.ruleformat.specs.Conditions.{firstOf}
 use Rattle.ruleformat.specs.Reader.{ruleOf}
-use Rattle.subsets.specs.Sets.{setsOf}
-use Rattle.build.specs.Building.{BuiltRule, noBuilt}
+use Rattle.build.specs.Building.{builtOf, noBuilt}
 use Rattle.chunks.specs.declared.Runs.{Runs}
 use Rattle.chunks.specs.Walks.{runMask, runsOf}
 use Rattle.board.specs.declared.Board.{Board}
@@ -63,23 +59,19 @@ abbrev pub withdrawCame : Withdrawal → Outcome
 withdrawCame r = record { says = withdrawSays (r .answer); leaves = r .judge }
 
 -- where no condition holds the call is accepted; a refusal leaves the state as it was
-abbrev pub outcomeBy : Option ℕ → Judge → Judge → Outcome
-outcomeBy none j next = record { says = accepted; leaves = next }
-outcomeBy (some number) j next = record { says = refused number; leaves = j }
+abbrev pub outcomeBy : Option ℕ → Reply → Judge → Judge → Outcome
+outcomeBy none a j next = record { says = a; leaves = next }
+outcomeBy (some number) a j next = record { says = refused number; leaves = j }
 
 -- ---- load
--- the delegates are told by what they are, so this is no equation for them; they are fixed all the same (StepsFixed of specs/Claims.antt)
-pub record Loads (j : Judge) (f : List ℕ) (o : Outcome) : Type 0 where
-  pub refused : (number : ℕ) → loadNumber f ≡ some number → o ≡ record { says = refused number; leaves = j }
-  pub answered : loadNumber f ≡ none
-      → o .says ≡ loaded (length (setsOf (ruleOf f .targets) (ruleOf f .n) (ruleOf f .k))) (o .leaves .built .starts)
-  pub built : loadNumber f ≡ none → BuiltRule (ruleOf f) (o .leaves .built)
-  pub removed : loadNumber f ≡ none → o .leaves .board ≡ emptyBoard 0
+unfoldable pub loadOf : Judge → List ℕ → Outcome
+loadOf j f =
+    let b = builtOf (ruleOf f) in outcomeBy (loadNumber f) (loaded (b .count) (b .starts)) j (record { built = b; board = emptyBoard 0 })
 
 -- ---- open
 unfoldable pub openOf : Judge → ℕ → Outcome
 openOf j n =
-    outcomeBy (firstOf (openConditions (lacksRule j) n)) j (withBoard j (emptyBoard n))
+    outcomeBy (firstOf (openConditions (lacksRule j) n)) accepted j (withBoard j (emptyBoard n))
 
 -- ---- deliver
 -- the runs of a chunk at a place
@@ -93,6 +85,7 @@ deliverOf j p w =
     (firstOf
     (deliverConditions (lacksBoard j) (placesOf (j .board)) p w (j .built .k) (not (isEmpty (j .board) p))
     (summedCount (j .board) + runsAt j p w .count)))
+    accepted
     j
     (withBoard j (filledAt (j .board) p (runsAt j p w)))
 
@@ -100,6 +93,7 @@ deliverOf j p w =
 unfoldable pub withdrawOf : Judge → ℕ → Outcome
 withdrawOf j p =
     outcomeBy (firstOf (withdrawConditions (lacksBoard j) (placesOf (j .board)) p (isEmpty (j .board) p)))
+    accepted
     j
     (withBoard j (clearedAt (j .board) p))
 
@@ -116,10 +110,9 @@ verdictOf j =
     (waiting (emptyPlaces (j .board))))
 
 -- ---- any call
--- what a call may come to on the state j
-abbrev pub Steps : Judge → Call → Outcome → Type 0
-Steps j (loads f) o = Loads j f o
-Steps j (opens n) o = o ≡ openOf j n
-Steps j (delivers p w) o = o ≡ deliverOf j p w
-Steps j (withdraws p) o = o ≡ withdrawOf j p
-Steps j asks o = o ≡ record { says = verdictOf j; leaves = j }
+abbrev pub stepOf : Judge → Call → Outcome
+stepOf j (loads f) = loadOf j f
+stepOf j (opens n) = openOf j n
+stepOf j (delivers p w) = deliverOf j p w
+stepOf j (withdraws p) = withdrawOf j p
+stepOf j asks = record { says = verdictOf j; leaves = j }

@@ -1,17 +1,14 @@
 -- The numbers that C is given for what a call came to. Every field is fixed: what a result has no use for is 0.
 --
 --   loadShown .. withdrawShown   an outcome as a result: accepted is 1, or it is 0 and refused has the number
---   LoadsShown j f r             r is what a load of the file f may come to on the judge j
 --   verdictShown a               a verdict: kind 0 refused, 1 waiting, 2 yes, 3 no, each with its number
---   replayShown t                the same for a recorded list; kind 4: the line of that number is malformed. ReplayShown s r: of a record that says s
+--   replayShown t                the same for a recorded list; kind 4: the line of that number is malformed
 -- No other reply is given to these calls; the lines for others are there so that every case has a value.
-use mathlib.Core.Path.{_≡_}
-use mathlib.Core.List.{List}
 use Prim.Native.Nat.{ℕ}
 use Rattle.calls.specs.declared.Judge.{Judge}
 use Rattle.calls.specs.Replies.{Reply, accepted, loaded, waiting, keeps, breaks, refused}
-use Rattle.calls.specs.Steps.{Outcome, Loads}
-use Rattle.replay.specs.Records.{Recorded, Told, verdict, malformedLine, Replayed}
+use Rattle.calls.specs.Steps.{Outcome}
+use Rattle.replay.specs.Records.{Told, verdict, malformedLine}
 use Rattle.capi.specs.declared.LoadResult.{LoadResult}
 use Rattle.capi.specs.declared.OpenResult.{OpenResult}
 use Rattle.capi.specs.declared.DeliverResult.{DeliverResult}
@@ -47,11 +44,6 @@ loadBy (refused number) j = record { accepted = 0; refused = number; sets = 0; s
 abbrev pub loadShown : Outcome → LoadResult
 loadShown o = loadBy (o .says) (o .leaves)
 
-pub record LoadsShown (j : Judge) (f : List ℕ) (r : LoadResult) : Type 0 where
-  pub outcome : Outcome
-  pub loads : Loads j f outcome
-  pub shown : r ≡ loadShown outcome
-
 abbrev pub openShown : Outcome → OpenResult
 openShown o = record { accepted = flagOf (o .says); refused = refusedOf (o .says); judge = o .leaves }
 
@@ -83,8 +75,3 @@ verdictShown a = record { kind = kindOf a; number = valueOf a }
 abbrev pub replayShown : Told → ReplayResult
 replayShown (verdict a) = record { kind = kindOf a; number = valueOf a }
 replayShown (malformedLine i) = record { kind = 4; number = i }
-
-pub record ReplayShown (s : Recorded) (r : ReplayResult) : Type 0 where
-  pub told : Told
-  pub replayed : Replayed s told
-  pub shown : r ≡ replayShown told

@@ -1,8 +1,8 @@
 // The judge for C and Rust. Answers are numbers; the state is a value that the caller keeps, hands in and gets back.
 ghost use mathlib.Core.Path.{_≡_};
-ghost use Rattle.calls.specs.Steps.{fresh, openOf, deliverOf, withdrawOf, verdictOf};
-ghost use Rattle.replay.specs.Records.{recordIn};
-ghost use Rattle.capi.specs.Numbers.{LoadsShown, openShown, deliverShown, withdrawShown, verdictShown, ReplayShown};
+ghost use Rattle.calls.specs.Steps.{fresh, loadOf, openOf, deliverOf, withdrawOf, verdictOf};
+ghost use Rattle.replay.specs.Records.{recordIn, replayOf};
+ghost use Rattle.capi.specs.Numbers.{loadShown, openShown, deliverShown, withdrawShown, verdictShown, replayShown};
 use calls::DeliverAnswer;
 use calls::Judge;
 use calls::LoadAnswer;
@@ -65,7 +65,7 @@ pub extern "C" fn bellbadger_new() -> Judge
 
 #[no_mangle]
 pub extern "C" fn bellbadger_load(judge: Judge, file: &[u8]) -> LoadResult
-    ensures { λ r. ⌜ LoadsShown judge (now (file .entry)) r ⌝ }
+    ensures { λ r. ⌜ r ≡ loadShown (loadOf judge (now (file .entry))) ⌝ }
 {
     let loading = judge::load(judge, file);
     let answer = loading.answer;
@@ -173,7 +173,7 @@ pub extern "C" fn bellbadger_verdict(judge: Judge) -> VerdictResult
 // The calls that the text records, and the verdict after them.
 #[no_mangle]
 pub extern "C" fn bellbadger_replay(text: &[u8]) -> ReplayResult
-    ensures { λ r. ⌜ ReplayShown (recordIn (now (text .entry))) r ⌝ }
+    ensures { λ r. ⌜ r ≡ replayShown (replayOf (recordIn (now (text .entry)))) ⌝ }
 {
     let replayed = replay::replay(text);
     match replayed {

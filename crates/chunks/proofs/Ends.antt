@@ -24,8 +24,7 @@ use Rattle.subsets.proofs.Claims as subsets
 use Rattle.delegates.specs.Alike.{Text}
 use Rattle.delegates.specs.Classes.{follow}
 use Rattle.delegates.proofs.Acceptance.{mask-at, follow-law}
-use Rattle.build.specs.declared.Built.{Built}
-use Rattle.build.specs.Building.{BuiltRule}
+use Rattle.build.specs.Building.{builtOf}
 use Rattle.build.proofs.Claims as build
 use Rattle.chunks.specs.Chunks.{counted, endSet, chunkCount}
 use Rattle.chunks.specs.Walks.{stepOf, walkEnd, walkCount, maskOf, runsOf}
@@ -94,35 +93,34 @@ module _ (r : Rule) (good : WellFormed r) (fit : fits r) where
       (subst (λ (y : ℕ). Walked y j w) (there .1) (walked w (x .1) j (there .0))))
 
 -- ---- the runs of a chunk
-module _ (r : Rule) (good : WellFormed r) (fit : fits r) (b : Built) (is : BuiltRule r b) (run : ℕ) (below : run < 2 ^ r .n)
-    (w : List ℕ) (text : Text (r .k) w) where
-  from-state : (q : ℕ) → q < r .n → Walked r good fit (single q) (getD (b .singles) q 0) w
+module _ (r : Rule) (good : WellFormed r) (fit : fits r) (run : ℕ) (below : run < 2 ^ r .n) (w : List ℕ) (text : Text (r .k) w) where
+  abbrev single-at : ℕ → ℕ
+  single-at q = getD (builtOf r .singles) q 0
+
+  from-state : (q : ℕ) → q < r .n → Walked r good fit (single q) (single-at q) w
   from-state q h =
-      let i = getD (b .singles) q 0 in
-      let s = build.claims .singles r good fit b is q h in
-      let l : i < length (sets r) = rw (is .count-is) at (s .0) in
-      let e : getD (sets r) i 0 ≡ single q =
-      sym (mask-at subsets.claims r good fit i l) ∙ sym (ap (λ (m : List ℕ). getD m i 0) (is .sets-are)) ∙ s .1 in
-      subst (λ (m : ℕ). Walked r good fit m i w) e (walked r good fit w text i l)
+      let s = build.claims .singles r good fit q h in
+      subst (λ (m : ℕ). Walked r good fit m (single-at q) w) (sym (mask-at subsets.claims r good fit (single-at q) (s .0)) ∙ s .1)
+      (walked r good fit w text (single-at q) (s .0))
 
   state-of : (q : ℕ) → has run q ≡ true → q < r .n
   state-of q t = members-below (r .n) run q below (member-of run q t)
 
-  pub ends : runsOf (b .sets) (b .next) (b .singles) run w .ends ≡ listFrom 0 32 (endSet (r .targets) run w)
+  pub ends : runsOf (builtOf r .sets) (builtOf r .next) (builtOf r .singles) run w .ends ≡ listFrom 0 32 (endSet (r .targets) run w)
   ends =
       same-list 32
-      (λ q. cond (has run q) (maskOf (b .sets) (walkEnd (b .next) (getD (b .singles) q 0) w)) 0)
+      (λ q. cond (has run q) (maskOf (masks r good fit) (walkEnd (table r good fit) (single-at q) w)) 0)
       (endSet (r .targets) run w)
       (λ q h.
-      same-either (has run q) (maskOf (b .sets) (walkEnd (b .next) (getD (b .singles) q 0) w)) (after (r .targets) (single q) w)
-      (λ t. rw (is .sets-are, is .next-are) (from-state q (state-of q t) .end)))
+      same-either (has run q) (maskOf (masks r good fit) (walkEnd (table r good fit) (single-at q) w)) (after (r .targets) (single q) w)
+      (λ t. from-state q (state-of q t) .end))
 
-  pub count : runsOf (b .sets) (b .next) (b .singles) run w .count ≡ chunkCount (r .targets) run w
+  pub count : runsOf (builtOf r .sets) (builtOf r .next) (builtOf r .singles) run w .count ≡ chunkCount (r .targets) run w
   count =
       total-same
-      (λ q. cond (has run q) (walkCount (b .next) (getD (b .singles) q 0) w) 0)
+      (λ q. cond (has run q) (walkCount (table r good fit) (single-at q) w) 0)
       (λ q. cond (has run q) (counted (r .targets) (single q) w) 0)
       32
       (λ q h.
-      same-either (has run q) (walkCount (b .next) (getD (b .singles) q 0) w) (counted (r .targets) (single q) w)
-      (λ t. rw (is .next-are) (from-state q (state-of q t) .steps)))
+      same-either (has run q) (walkCount (table r good fit) (single-at q) w) (counted (r .targets) (single q) w)
+      (λ t. from-state q (state-of q t) .steps))

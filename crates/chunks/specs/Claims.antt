@@ -11,8 +11,7 @@ use Rattle.automaton.specs.declared.Rule.{Rule}
 use Rattle.automaton.specs.Rules.{WellFormed}
 use Rattle.subsets.specs.Claims.{fits}
 use Rattle.delegates.specs.Alike.{Text, startCount}
-use Rattle.build.specs.declared.Built.{Built}
-use Rattle.build.specs.Building.{BuiltRule}
+use Rattle.build.specs.Building.{builtOf}
 use Rattle.chunks.specs.Chunks.{foreign, counted, startSet, delegateSet, runSet, endSet, chunkCount}
 use Rattle.chunks.specs.Walks.{runsOf, delegateMask, runMask}
 
@@ -20,10 +19,10 @@ pub record Claims : Type 0 where
   -- no byte is foreign exactly in a text of symbols below k
   pub text-law : (w : List ℕ) (k : ℕ) → foreign w k ≡ false ↔ Text k w
   -- over a text of the rule's symbols, run from states of the rule: each end set is the set after the text, and the count is document 01's
-  pub ends : (r : Rule) → WellFormed r → fits r → (b : Built) → BuiltRule r b → (run : ℕ) → run < 2 ^ r .n → (w : List ℕ) → Text (r .k) w
-      → runsOf (b .sets) (b .next) (b .singles) run w .ends ≡ listFrom 0 32 (endSet (r .targets) run w)
-  pub count : (r : Rule) → WellFormed r → fits r → (b : Built) → BuiltRule r b → (run : ℕ) → run < 2 ^ r .n → (w : List ℕ) → Text (r .k) w
-      → runsOf (b .sets) (b .next) (b .singles) run w .count ≡ chunkCount (r .targets) run w
+  pub ends : (r : Rule) → WellFormed r → fits r → (run : ℕ) → run < 2 ^ r .n → (w : List ℕ) → Text (r .k) w
+      → runsOf (builtOf r .sets) (builtOf r .next) (builtOf r .singles) run w .ends ≡ listFrom 0 32 (endSet (r .targets) run w)
+  pub count : (r : Rule) → WellFormed r → fits r → (run : ℕ) → run < 2 ^ r .n → (w : List ℕ) → Text (r .k) w
+      → runsOf (builtOf r .sets) (builtOf r .next) (builtOf r .singles) run w .count ≡ chunkCount (r .targets) run w
   -- a run counts at most one transition for each byte, so a chunk that is run from starts counts at most M times its bytes
   pub counted-most : (ts : List ℕ) (m : ℕ) (w : List ℕ) → counted ts m w ≤ length w
   pub chunk-most : (ts d : List ℕ) (n run : ℕ) → n ≤ 32 → ((q : ℕ) → q ∈ run → q ∈ startSet d n) → (w : List ℕ)

@@ -1,5 +1,5 @@
--- Acceptance over the table of a rule is acceptance in its automaton, so alike sets {p} and {q} are alike states, and what merge_starts
--- ensures makes the delegates and the starts of the automaton. Assumes what crates/subsets claims of the numbered sets, a well-formed rule and
+-- Acceptance over the table of a rule is acceptance in its automaton, so alike sets {p} and {q} are alike states, and `startsOf`
+-- has the delegates and the starts of the automaton. Assumes what crates/subsets claims of the numbered sets, a well-formed rule and
 -- at most 512 sets.
 --
 -- A text leads from set number i to the number of the successor of set i by that text, or to 512 where it is empty; by induction over the text,
@@ -25,13 +25,13 @@ use Rattle.automaton.specs.Successor.{successor, after}
 use Rattle.automaton.proofs.Laws.{after-law, after-empty}
 use Rattle.subsets.specs.Sets.{tooMany, nextSet, setCells, nextCells}
 use Rattle.subsets.specs.Claims.{Claims as SubsetsClaims, sets, next, fits}
-use Rattle.delegates.specs.declared.Starts.{Starts}
 use Rattle.delegates.specs.Alike.{AcceptsFrom, Text, Alike, Delegate, Merged}
 use Rattle.delegates.specs.Classes.{follow, Least, numberOf, accepted, AlikeSets}
-use Rattle.delegates.specs.Claims.{MergedRule}
+use Rattle.delegates.specs.Claims.{startsIn}
 use Rattle.delegates.proofs.Tests.{same-truth, le-by}
 use Rattle.delegates.proofs.Numbers.{named}
 use Rattle.delegates.proofs.Classes.{final-set, final-empty, follow-set, follow-empty}
+use Rattle.delegates.proofs.Merged.{starts-meet}
 use Rattle.delegates.proofs.Alike.{alike-back}
 
 -- from the empty set nothing is accepted
@@ -168,14 +168,15 @@ module _ (given : SubsetsClaims) (r : Rule) (good : WellFormed r) (fit : fits r)
         lowest = λ p l y. le-by d p (λ b. x .first p zero-le b (alike-law p q l h .1 (alike-back (automatonOf r) q p y)));
       }
 
-  pub merged : (s : Starts) → MergedRule r s → Merged (automatonOf r) (s .delegates) (s .count)
-  unfolding masks cells numbered
-  merged s m =
+  pub merged : Merged (automatonOf r) (startsIn r .delegates) (startsIn r .count)
+  unfolding masks cells numbered startsIn
+  merged =
       let n : min (r .n) 32 ≡ r .n = omega (arith, good .states) in
       let k : min (r .k) 16 ≡ r .k = omega (arith, good .symbols) in
+      let m = starts-meet masks cells (r .finals) (length (sets r)) (r .n) (r .k) in
       record {
         cells = m .cells;
-        delegates = λ q h. delegate-of q (getD (s .delegates) q 0) h (rw k at (m .delegates q (omega arith)));
+        delegates = λ q h. delegate-of q (getD (startsIn r .delegates) q 0) h (rw k at (m .delegates q (omega arith)));
         zeros = λ q h. m .zeros q (omega arith);
         starts = rw n at (m .starts);
       }

@@ -3,13 +3,13 @@ use Rattle.subsets.proofs.Claims as subsets
 use Rattle.delegates.specs.Claims.{Claims}
 use Rattle.delegates.proofs.Alike as alike
 use Rattle.delegates.proofs.Acceptance as acceptance
-use Rattle.delegates.proofs.Exists.{merged-exists}
+use Rattle.delegates.proofs.Classes.{near-alike}
 
 pub claims : Claims
 claims = record {
   merged = acceptance.merged subsets.claims;
+  alike-at = near-alike;
   singles = acceptance.named-single subsets.claims;
-  exists = merged-exists;
   alike-self = alike.alike-self;
   alike-back = alike.alike-back;
   alike-on = alike.alike-on;

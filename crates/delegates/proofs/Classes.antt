@@ -1,14 +1,13 @@
--- The mathematics of the refinement: the laws of `final` and `follow`, a round keeps a partition, and a round that changes nothing has found
--- the classes. Assumes nothing.
+-- The mathematics of the refinement: the laws of `final` and `follow`, a round takes the classes by texts shorter than f to those by texts shorter
+-- than f + 1, and a round that changes nothing has found the classes. Assumes nothing.
 --
--- The invariant of the rounds, `Partition`: each class number is the lowest set of its class, and a text tells sets of two classes apart. It
--- says nothing of rounds or lengths of texts. It holds of one class of all sets. A round splits a class only where two sets are told apart by
--- being final or by classes of successors, so a text for each split is made of one that was there. Where a round changes nothing, sets of one
--- class agree on being final and have successors in one class, and so on every text. A round that changes something takes from the room that
--- the class numbers leave below 512, so rounds end.
+-- Sets that no text shorter than f tells apart are near at f (`alikeTo`). Being near is an equivalence, for each f. A round looks at two sets of one
+-- class, at their being final and at the classes of their successors: that is to be near at f + 1. Where a round changes nothing, sets near at f are
+-- near at f + 1, so their successors are near at f, and so on over every text. A round that changes something makes one more set the lowest of its
+-- class, and there are 513; so rounds end, and what texts shorter than 513 do not tell apart no text does.
 use mathlib.Core.Path.{_≡_, refl, sym, ap, _∙_}
-use mathlib.Core.Logic.{_⊎_, inl, inr, ⊎-elim}
-use mathlib.Core.Bool.{Bool, true, false, Bool-discrete}
+use mathlib.Core.Logic.{_⊎_, inl, inr, ⊎-elim, _↔_}
+use mathlib.Core.Bool.{Bool, true, false, Bool·beq}
 use mathlib.Core.List.{List, [], _∷_}
 use Prim.Native.Nat.{ℕ, zero, suc, _+_, _*_, _≤_, _<_, min, zero-le}
 use native.Mathlib.Nat.{le-antisymm}
@@ -21,9 +20,9 @@ use lib.ListN.{length, getD}
 use Rattle.masks.specs.Masks.{shares}
 use Rattle.masks.proofs.Cases.{by-test}
 use Rattle.delegates.specs.Alike.{Text}
-use Rattle.delegates.specs.Classes.{final, follow, Least, classOf, accepted, AlikeSets, Same, Round, Classes}
-use Rattle.delegates.proofs.Tests.{le-by}
-use Rattle.delegates.proofs.Lists.{room, room-less}
+use Rattle.delegates.specs.Classes.{final, follow, Least, classOf, accepted, AlikeSets, Same, Round, Classes, every, firstFrom, alikeTo}
+use Rattle.delegates.proofs.Tests.{le-by, both, equal, every-law, found, least-by}
+use Rattle.delegates.proofs.Lists.{kept, kept-most, kept-less}
 
 -- ---- final, follow
 pub final-set : (sets : List ℕ) (finals s : ℕ) → s < 512 → final sets finals s ≡ shares (getD sets s 0) finals
@@ -48,30 +47,27 @@ follow-within next s a =
     (λ t. omega (arith, follow-set next s a (ltb-true s 512 t)))
     (λ t. omega (arith, follow-empty next s a (ltb-false s 512 t)))
 
--- ---- the lowest of a class, of an equivalence that the old classes respect
+-- ---- the lowest of a class, of an equivalence
 module _
     (R : ℕ → ℕ → Type 0) (flip : (s t : ℕ) → R s t → R t s) (join : (s t u : ℕ) → R s t → R t u → R s u)
-    (old new : ℕ → ℕ) (keeps : (s t : ℕ) → R s t → old s ≡ old t)
-    (least : (s : ℕ) → s ≤ 512 → Least R (old s) s (new s))
+    (class : ℕ → ℕ) (least : (s : ℕ) → s ≤ 512 → Least R 0 s (class s))
   where
-    joined-le : (s t : ℕ) → s ≤ 512 → t ≤ 512 → R s t → new s ≤ new t
+    joined-le : (s t : ℕ) → s ≤ 512 → t ≤ 512 → R s t → class s ≤ class t
     joined-le s t hs ht r =
-        let e = keeps s t r in
-        let b = least t ht .from in
-        le-by (new s) (new t) (λ l. least s hs .first (new t) (omega arith) l (join (new t) t s (least t ht .has) (flip s t r)))
+        le-by (class s) (class t) (λ l. least s hs .first (class t) zero-le l (join (class t) t s (least t ht .has) (flip s t r)))
 
-    pub joined : (s t : ℕ) → s ≤ 512 → t ≤ 512 → R s t → new s ≡ new t
+    pub joined : (s t : ℕ) → s ≤ 512 → t ≤ 512 → R s t → class s ≡ class t
     joined s t hs ht r = le-antisymm (joined-le s t hs ht r) (joined-le t s ht hs (flip s t r))
 
-    pub split : (s t : ℕ) → s ≤ 512 → t ≤ 512 → new s ≡ new t → R s t
+    pub split : (s t : ℕ) → s ≤ 512 → t ≤ 512 → class s ≡ class t → R s t
     split s t hs ht e =
-        let x : R (new t) s = rw e at (least s hs .has) in
-        join s (new t) t (flip (new t) s x) (least t ht .has)
+        let x : R (class t) s = rw e at (least s hs .has) in
+        join s (class t) t (flip (class t) s x) (least t ht .has)
 
-    pub own : (s : ℕ) → s ≤ 512 → new (new s) ≡ new s
+    pub own : (s : ℕ) → s ≤ 512 → class (class s) ≡ class s
     own s hs =
         let m = least s hs .most in
-        joined (new s) s (omega arith) hs (least s hs .has)
+        joined (class s) s (omega arith) hs (least s hs .has)
 
 -- numbers that agree below n, or the place of a difference
 pub first-other : (f g : ℕ → ℕ) (n : ℕ) → ((a : ℕ) → a < n → f a ≡ g a) ⊎ ((a : ℕ) × (a < n) × (f a ≡ g a → ⊥))
@@ -83,137 +79,171 @@ first-other f g (suc n) = ⊎-elim (λ all. go all (ℕ-discrete (f n) (g n))) (
     go all (no d) = inr (n, omega arith, d)
 
 module _ (sets next : List ℕ) (finals k : ℕ) where
-  -- a text tells sets s and t apart
-  pub record Apart (s t : ℕ) : Type 0 where
-    pub text : List ℕ
-    pub symbols : Text k text
-    pub differ : accepted sets next finals s text ≡ accepted sets next finals t text → ⊥
+  -- ---- sets that no text shorter than f tells apart
+  abbrev pub Near : ℕ → ℕ → ℕ → Type 0
+  Near f s t = alikeTo sets next finals k f s t ≡ true
 
-  apart-kind : (s t : ℕ) → (final sets finals s ≡ final sets finals t → ⊥) → Apart s t
+  -- both final or neither, and with successors that are near
+  near-law : (f s t : ℕ)
+      → Near (suc f) s t ↔ ((final sets finals s ≡ final sets finals t) × ((a : ℕ) → a < k → Near f (follow next s a) (follow next t a)))
+  unfolding alikeTo
+  near-law f s t =
+      let kind = Bool·beq (final sets finals s) (final sets finals t) in
+      let law = both kind (every k (λ a. alikeTo sets next finals k f (follow next s a) (follow next t a))) in
+      let one = equal (final sets finals s) (final sets finals t) in
+      let all = every-law k (λ a. alikeTo sets next finals k f (follow next s a) (follow next t a)) in
+      (λ h. let x = law .0 h in (one .0 (x .0), all .0 (x .1)), λ x. law .1 (one .1 (x .0), all .1 (x .1)))
+
+  near-first : (s t : ℕ) → Near 0 s t
+  unfolding alikeTo
+  near-first s t = refl
+
+  near-same : (f s t : ℕ) → Near f s t → (w : List ℕ) → Text k w → length w < f → accepted sets next finals s w ≡ accepted sets next finals t w
   unfolding accepted
-  apart-kind s t ne = record { text = []; symbols = tt; differ = ne }
+  near-same zero s t h w x l = absurd (omega arith)
+  near-same (suc f) s t h [] x l = near-law f s t .0 h .0
+  near-same (suc f) s t h (a ∷ w) x l =
+      near-same f (follow next s a) (follow next t a) (near-law f s t .0 h .1 a (x .0)) w (x .1) (omega arith)
 
-  apart-step : (s t a : ℕ) → a < k → Apart (follow next s a) (follow next t a) → Apart s t
+  same-near : (f s t : ℕ) → ((w : List ℕ) → Text k w → length w < f → accepted sets next finals s w ≡ accepted sets next finals t w) → Near f s t
   unfolding accepted
-  apart-step s t a l x = record { text = a ∷ x .text; symbols = (l, x .symbols); differ = x .differ }
+  same-near zero s t h = near-first s t
+  same-near (suc f) s t h =
+      near-law f s t .1
+      (h [] tt (omega arith), λ a l. same-near f (follow next s a) (follow next t a) (λ w x m. h (a ∷ w) (l, x) (omega arith)))
 
-  pub record Partition (c : List ℕ) : Type 0 where
-    pub cells : length c ≡ 513
-    pub low : (s : ℕ) → s ≤ 512 → classOf c s ≤ s
-    pub self : (s : ℕ) → s ≤ 512 → classOf c (classOf c s) ≡ classOf c s
-    pub apart : (s t : ℕ) → s ≤ 512 → t ≤ 512 → (classOf c s ≡ classOf c t → ⊥) → Apart s t
+  near-back : (f s t : ℕ) → Near f s t → Near f t s
+  near-back f s t h = same-near f t s (λ w x l. sym (near-same f s t h w x l))
+
+  near-on : (f s t u : ℕ) → Near f s t → Near f t u → Near f s u
+  near-on f s t u h i = same-near f s u (λ w x l. near-same f s t h w x l ∙ near-same f t u i w x l)
+
+  near-less : (e f s t : ℕ) → e ≤ f → Near f s t → Near e s t
+  near-less e f s t h i = same-near e s t (λ w x l. near-same f s t i w x (omega arith))
+
+  pub alike-near : (f s t : ℕ) → AlikeSets sets next finals k s t → Near f s t
+  alike-near f s t h = same-near f s t (λ w x l. h w x)
+
+  -- ---- the classes at f, and at f + 1
+  abbrev pub ClassesTo : ℕ → (ℕ → ℕ) → Type 0
+  ClassesTo f c = (s : ℕ) → s ≤ 512 → Least (Near f) 0 s (c s)
+
+  module _ (f : ℕ) (c d : ℕ → ℕ) (at : ClassesTo f c) (after : ClassesTo (suc f) d) where
+    class-up : (s : ℕ) → s ≤ 512 → c s ≤ d s
+    class-up s h =
+        le-by (c s) (d s) (λ l. at s h .first (d s) zero-le l (near-less f (suc f) (d s) s (omega arith) (after s h .has)))
+
+    -- a class that changes makes one more set the lowest of its class
+    pub more : (s : ℕ) → s ≤ 512 → (d s ≡ c s → ⊥) → kept c 513 < kept d 513
+    more s h ne =
+        let m = after s h .most in
+        let up = class-up s h in
+        let same = joined (Near f) (near-back f) (near-on f) c at (d s) s (omega arith) h (near-less f (suc f) (d s) s (omega arith) (after s h .has)) in
+        kept-less c d 513
+        (λ b l e. omega (arith, class-up b (omega arith), after b (omega arith) .most))
+        (d s)
+        (omega arith)
+        (λ e. ne (sym e ∙ same))
+        (own (Near (suc f)) (near-back (suc f)) (near-on (suc f)) d after s h)
+
+    -- where none changes, near sets are alike
+    module _ (still : (s : ℕ) → s ≤ 512 → d s ≡ c s) where
+      on : (s t : ℕ) → s ≤ 512 → t ≤ 512 → Near f s t → Near (suc f) s t
+      on s t hs ht h =
+          split (Near (suc f)) (near-back (suc f)) (near-on (suc f)) d after s t hs ht
+          (still s hs ∙ joined (Near f) (near-back f) (near-on f) c at s t hs ht h ∙ sym (still t ht))
+
+      pub settled : (s t : ℕ) → s ≤ 512 → t ≤ 512 → Near f s t → AlikeSets sets next finals k s t
+      unfolding accepted
+      settled s t hs ht h [] x = near-law f s t .0 (on s t hs ht h) .0
+      settled s t hs ht h (a ∷ w) x =
+          settled (follow next s a) (follow next t a) (follow-within next s a) (follow-within next t a)
+          (near-law f s t .0 (on s t hs ht h) .1 a (x .0))
+          w
+          (x .1)
+
+  -- ---- texts shorter than 513 are enough
+  lowestTo : ℕ → ℕ → ℕ
+  lowestTo f s = firstFrom (λ t. alikeTo sets next finals k f t s) 0 s
+
+  lowest-to : (f : ℕ) → ClassesTo f (lowestTo f)
+  unfolding lowestTo
+  lowest-to f s h =
+      least-by (λ t _. Near f t s) (Near f) 0 s (lowestTo f s) (λ t l. (λ x. x, λ x. x))
+      (found (λ t. alikeTo sets next finals k f t s) 0 s s (omega arith) (same-near f s s (λ w x l. refl)))
+
+  Settled : ℕ → Type 0
+  Settled most = (f : ℕ) × (f ≤ most) × ((s t : ℕ) → s ≤ 512 → t ≤ 512 → Near f s t → AlikeSets sets next finals k s t)
+
+  turn : (most f : ℕ) → f ≤ most → (kept (lowestTo f) 513 < kept (lowestTo (suc f)) 513 → Settled most) → Settled most
+  unfolding Settled
+  turn most f h later =
+      ⊎-elim
+      (λ all. (f, h, settled f (lowestTo f) (lowestTo (suc f)) (lowest-to f) (lowest-to (suc f)) (λ s l. all s (omega arith))))
+      (λ x. later (more f (lowestTo f) (lowestTo (suc f)) (lowest-to f) (lowest-to (suc f)) (x .0) (omega (arith, x .1)) (x .2)))
+      (first-other (lowestTo (suc f)) (lowestTo f) 513)
+
+  settles : (most g f : ℕ) → f + g ≡ most → 513 ≤ kept (lowestTo f) 513 + g → Settled most
+  settles most zero f e h = turn most f (omega arith) (λ l. absurd (omega (arith, kept-most (lowestTo (suc f)) 513)))
+  settles most (suc g) f e h = turn most f (omega arith) (λ l. settles most g (suc f) (omega arith) (omega arith))
+
+  pub near-alike : (s t : ℕ) → s ≤ 512 → t ≤ 512 → Near 513 s t ↔ AlikeSets sets next finals k s t
+  unfolding Settled
+  near-alike s t hs ht =
+      let x = settles 513 513 0 (omega arith) (omega arith) in
+      (λ h. x .2 s t hs ht (near-less (x .0) 513 s t (omega (arith, x .1)) h), alike-near 513 s t)
+
+  -- ---- a round
+  pub same-self : (c : List ℕ) (s : ℕ) → Same sets next finals k c s s
+  same-self c s = record { here = refl; kind = refl; there = λ a l. refl }
 
   -- one class of all sets
-  pub started : (c : List ℕ) → length c ≡ 513 → ((s : ℕ) → classOf c s ≡ 0) → Partition c
-  started c long zeros = record {
-    cells = long;
-    low = λ s h. omega (arith, zeros s);
-    self = λ s h. ap (classOf c) (zeros s) ∙ zeros 0 ∙ sym (zeros s);
-    apart = λ s t hs ht ne. absurd (ne (zeros s ∙ sym (zeros t)));
-  }
+  pub started : (c : List ℕ) → ((s : ℕ) → classOf c s ≡ 0) → ClassesTo 0 (classOf c)
+  started c zeros s h = rw (zeros s) (record { from = zero-le; most = zero-le; has = near-first 0 s; first = λ v a b y. omega arith })
 
-  module _ (c : List ℕ) where
-    abbrev Together : ℕ → ℕ → Type 0
-    Together = Same sets next finals k c
+  module _ (f : ℕ) (c : List ℕ) (at : ClassesTo f (classOf c)) (d : List ℕ) (changed : Bool) (round : Round sets next finals k c d changed) where
+    together : (s t : ℕ) → s ≤ 512 → t ≤ 512 → Same sets next finals k c t s ↔ Near (suc f) t s
+    together s t hs ht = (
+      (λ x.
+          near-law f t s .1
+          (x .kind, λ a l. split (Near f) (near-back f) (near-on f) (classOf c) at (follow next t a) (follow next s a) (follow-within next t a) (follow-within next s a) (x .there a l))),
+      λ h.
+          let x = near-law f t s .0 h in
+          record {
+            here = joined (Near f) (near-back f) (near-on f) (classOf c) at t s ht hs (near-less f (suc f) t s (omega arith) h);
+            kind = x .0;
+            there = λ a l. joined (Near f) (near-back f) (near-on f) (classOf c) at (follow next t a) (follow next s a) (follow-within next t a) (follow-within next s a) (x .1 a l);
+          },
+    )
 
-    same-flip : (s t : ℕ) → Together s t → Together t s
-    same-flip s t x = record { here = sym (x .here); kind = sym (x .kind); there = λ a l. sym (x .there a l) }
+    pub after-round : ClassesTo (suc f) (classOf d)
+    after-round s h =
+        let x = round .least s h in
+        let m = x .most in
+        record {
+          from = zero-le;
+          most = m;
+          has = together s (classOf d s) h (omega arith) .0 (x .has);
+          first = λ v z l y.
+              by-test (ltb v (classOf c s))
+              (λ t. at s h .first v zero-le (ltb-true v (classOf c s) t) (near-less f (suc f) v s (omega arith) y))
+              (λ t. x .first v (ltb-false v (classOf c s) t) l (together s v h (omega arith) .1 y));
+        }
 
-    same-join : (s t u : ℕ) → Together s t → Together t u → Together s u
-    same-join s t u x y = record { here = x .here ∙ y .here; kind = x .kind ∙ y .kind; there = λ a l. x .there a l ∙ y .there a l }
+    -- more sets are the lowest of their class where a class changed
+    pub rises : changed ≡ true → kept (classOf c) 513 < kept (classOf d) 513
+    rises e = let m = round .moved e in more f (classOf c) (classOf d) at after-round (m .0) (m .1) (λ z. omega (arith, m .2))
 
-    same-keeps : (s t : ℕ) → Together s t → classOf c s ≡ classOf c t
-    same-keeps s t x = x .here
-
-    pub same-self : (s : ℕ) → Together s s
-    same-self s = record { here = refl; kind = refl; there = λ a l. refl }
-
-    -- sets go together, or their classes, being final or a symbol tells them apart
-    by-same : {P : Type 0} (s t : ℕ) → (Together s t → P)
-        → ((classOf c s ≡ classOf c t → ⊥) → P)
-        → ((final sets finals s ≡ final sets finals t → ⊥) → P)
-        → ((a : ℕ) → a < k → (classOf c (follow next s a) ≡ classOf c (follow next t a) → ⊥) → P)
-        → P
-    by-same {P} s t same here kind there = go (ℕ-discrete (classOf c s) (classOf c t)) (Bool-discrete (final sets finals s) (final sets finals t))
-      where
-        go : Dec (classOf c s ≡ classOf c t) → Dec (final sets finals s ≡ final sets finals t) → P
-        go (no e) f = here e
-        go (yes e) (no f) = kind f
-        go (yes e) (yes f) =
-            ⊎-elim
-            (λ all. same (record { here = e; kind = f; there = all }))
-            (λ x. there (x .0) (x .1) (x .2))
-            (first-other (λ a. classOf c (follow next s a)) (λ a. classOf c (follow next t a)) k)
-
-    pub decide-same : (s t : ℕ) → Dec (Together s t)
-    decide-same s t = by-same s t (λ x. yes x) (λ e. no (λ x. e (x .here))) (λ e. no (λ x. e (x .kind))) (λ a l e. no (λ x. e (x .there a l)))
-
-    -- ---- a round
-    module _ (part : Partition c) (d : List ℕ) (changed : Bool) (round : Round sets next finals k c d changed) where
-      round-split : (s t : ℕ) → s ≤ 512 → t ≤ 512 → classOf d s ≡ classOf d t → Together s t
-      round-split = split Together same-flip same-join (classOf c) (classOf d) same-keeps (round .least)
-
-      round-apart : (s t : ℕ) → s ≤ 512 → t ≤ 512 → (Together s t → ⊥) → Apart s t
-      round-apart s t hs ht ne =
-          by-same s t
-          (λ x. absurd (ne x))
-          (part .apart s t hs ht)
-          (apart-kind s t)
-          (λ a l e.
-          apart-step s t a l (part .apart (follow next s a) (follow next t a) (follow-within next s a) (follow-within next t a) e))
-
-      pub next-partition : Partition d
-      next-partition = record {
-        cells = round .cells;
-        low = λ s h. round .least s h .most;
-        self = own Together same-flip same-join (classOf c) (classOf d) same-keeps (round .least);
-        apart = λ s t hs ht ne.
-            round-apart s t hs ht (λ x. ne (joined Together same-flip same-join (classOf c) (classOf d) same-keeps (round .least) s t hs ht x));
-      }
-
-      -- the room falls where a class changed
-      pub falls : changed ≡ true → room d < room c
-      falls e =
-          let m = round .moved e in
-          let b = round .least (m .0) (m .1) .most in
-          room-less c d (part .cells ∙ sym (round .cells)) (λ i l. round .least i (omega (arith, part .cells)) .from)
-          (m .0)
-          (omega (arith, m .1, part .cells))
-          (m .2)
-          (omega (arith, m .1))
-
-      -- where none changed, sets of one class are alike
-      module _ (none : changed ≡ false) where
-        one-class : (w : List ℕ) → Text k w → (s t : ℕ) → s ≤ 512 → t ≤ 512 → classOf c s ≡ classOf c t
-            → accepted sets next finals s w ≡ accepted sets next finals t w
-        unfolding accepted
-        one-class [] x s t hs ht e = round-split s t hs ht (round .still none s hs ∙ e ∙ sym (round .still none t ht)) .kind
-        one-class (a ∷ w) x s t hs ht e =
-            let same = round-split s t hs ht (round .still none s hs ∙ e ∙ sym (round .still none t ht)) in
-            one-class w (x .1) (follow next s a) (follow next t a) (follow-within next s a) (follow-within next t a) (same .there a (x .0))
-
-        pub done : Classes sets next finals k c
-        done s h =
-            let b = part .low s h in
-            record {
-              from = zero-le;
-              most = b;
-              has = λ w x. one-class w x (classOf c s) s (omega arith) h (part .self s h);
-              first = λ v z l x.
-                  let m = part .low v (omega arith) in
-                  let apart = part .apart v s (omega arith) h (λ e. omega arith) in
-                  apart .differ (x (apart .text) (apart .symbols));
-            }
+    pub done : changed ≡ false → Classes sets next finals k c
+    done e s h =
+        least-by (Near f) (AlikeSets sets next finals k) 0 s (classOf c s)
+        (λ t l. (settled f (classOf c) (classOf d) at after-round (round .still e) t s (omega arith) h, alike-near f t s))
+        (at s h)
 
   -- ---- what the classes say of any two sets
-  abbrev Like : ℕ → ℕ → Type 0
-  Like = AlikeSets sets next finals k
-
   module _ (c : List ℕ) (classes : Classes sets next finals k c) (s t : ℕ) (hs : s ≤ 512) (ht : t ≤ 512) where
-    pub alike-class : Like s t → classOf c s ≡ classOf c t
-    alike-class =
-        joined Like (λ s t x w y. sym (x w y)) (λ s t u x z w y. x w y ∙ z w y) (λ _. 0) (classOf c) (λ s t x. refl) classes s t hs ht
+    pub alike-class : AlikeSets sets next finals k s t → classOf c s ≡ classOf c t
+    alike-class = joined (AlikeSets sets next finals k) (λ s t x w y. sym (x w y)) (λ s t u x z w y. x w y ∙ z w y) (classOf c) classes s t hs ht
 
-    pub class-alike : classOf c s ≡ classOf c t → Like s t
-    class-alike =
-        split Like (λ s t x w y. sym (x w y)) (λ s t u x z w y. x w y ∙ z w y) (λ _. 0) (classOf c) (λ s t x. refl) classes s t hs ht
+    pub class-alike : classOf c s ≡ classOf c t → AlikeSets sets next finals k s t
+    class-alike = split (AlikeSets sets next finals k) (λ s t x w y. sym (x w y)) (λ s t u x z w y. x w y ∙ z w y) (classOf c) classes s t hs ht

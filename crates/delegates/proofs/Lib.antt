@@ -4,7 +4,7 @@ pub mod Lists
 pub mod Numbers
 pub mod Classes
 pub mod Merging
-pub mod Exists
+pub mod Merged
 pub mod Alike
 pub mod Acceptance
 pub mod Claims

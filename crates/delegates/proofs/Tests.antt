@@ -1,11 +1,15 @@
 -- Tests, and the answer of a test as what it decides. Assumes nothing.
-use mathlib.Core.Path.{_≡_, refl, sym}
-use mathlib.Core.Logic.{_↔_}
-use mathlib.Core.Bool.{Bool, true, false, not, Bool·beq, true≢false, false≢true}
-use Prim.Native.Nat.{ℕ, _≤_, _<_}
+use mathlib.Core.Path.{_≡_, refl, sym, ap, _∙_}
+use mathlib.Core.Logic.{_↔_, ⊎-elim}
+use mathlib.Core.Bool.{Bool, true, false, not, _&&_, Bool·beq, true≢false, false≢true}
+use Prim.Native.Nat.{ℕ, zero, suc, _+_, _≤_, _<_}
+use native.Mathlib.Nat.{le-antisymm, eq-or-lt-of-le}
+use native.Mathlib.Omega.{arith}
+use borrow.Author.Count.{below-none, below-more}
 use borrow.Author.Tests.{leb-true, leb-false}
 use lib.Dec.{leb}
 use Rattle.masks.proofs.Cases.{by-test}
+use Rattle.delegates.specs.Classes.{Least, every, firstFrom}
 
 pub confirmed : {P : Type 0} → P → (true ≡ true) ↔ P
 confirmed p = (λ e. p, λ x. refl)
@@ -33,3 +37,50 @@ same-truth false false law = refl
 
 pub le-by : (a b : ℕ) → (b < a → ⊥) → a ≤ b
 le-by a b h = by-test (leb a b) (leb-true a b) (λ f. absurd (h (leb-false a b f)))
+
+pub both : (a b : Bool) → (a && b ≡ true) ↔ ((a ≡ true) × (b ≡ true))
+both true b = (λ e. (refl, e), λ x. x .1)
+both false b = (λ e. absurd (false≢true e), λ x. x .0)
+
+pub equal : (a b : Bool) → (Bool·beq a b ≡ true) ↔ (a ≡ b)
+equal true true = (λ e. refl, λ e. refl)
+equal true false = (λ e. absurd (false≢true e), λ e. absurd (true≢false e))
+equal false true = (λ e. absurd (false≢true e), λ e. absurd (false≢true e))
+equal false false = (λ e. refl, λ e. refl)
+
+pub every-law : (n : ℕ) (t : ℕ → Bool) → (every n t ≡ true) ↔ ((a : ℕ) → a < n → t a ≡ true)
+unfolding every
+every-law zero t = (λ e. below-none _, λ h. refl)
+every-law (suc n) t = (
+  (λ e a l. let x = both (every n t) (t n) .0 e in below-more (λ b. t b ≡ true) n (every-law n t .0 (x .0)) (x .1) a (omega arith)),
+  λ h. both (every n t) (t n) .1 (every-law n t .1 (λ a l. h a (omega arith)), h n (omega arith)),
+)
+
+-- a search finds the lowest number that passes
+pub found : (t : ℕ → Bool) (lo f s : ℕ) → lo + f ≡ s → t s ≡ true → Least (λ p _. t p ≡ true) lo s (firstFrom t lo f)
+unfolding firstFrom
+found t lo zero s e h =
+    let l : s ≡ lo = omega arith in
+    record { from = omega arith; most = omega arith; has = rw (← l) h; first = λ v a b y. omega arith }
+found t lo (suc f) s e h = go (found t (suc lo) f s (omega arith) h)
+  where
+    go : Least (λ p _. t p ≡ true) (suc lo) s (firstFrom t (suc lo) f) → Least (λ p _. t p ≡ true) lo s (firstFrom t lo (suc f))
+    go r =
+        by-test (t lo)
+        (λ x. rw x (record { from = omega arith; most = omega arith; has = x; first = λ v a b y. omega arith }))
+        (λ x.
+        rw x (record {
+          from = omega (arith, r .from);
+          most = r .most;
+          has = r .has;
+          first = λ v a b y. ⊎-elim (λ z. false≢true (sym x ∙ ap t z ∙ y)) (λ m. r .first v m b y) (eq-or-lt-of-le a);
+        }))
+
+-- two relations that agree have the same lowest numbers, and there is one
+pub least-by : (R S : ℕ → ℕ → Type 0) (lo s u : ℕ) → ((t : ℕ) → t ≤ s → R t s ↔ S t s) → Least R lo s u → Least S lo s u
+least-by R S lo s u same x =
+    let m = x .most in
+    record { from = x .from; most = m; has = same u m .0 (x .has); first = λ v a b y. x .first v a b (same v (omega arith) .1 y) }
+
+pub one-least : (R : ℕ → ℕ → Type 0) (lo s u v : ℕ) → Least R lo s u → Least R lo s v → u ≡ v
+one-least R lo s u v a b = le-antisymm (le-by u v (λ l. a .first v (b .from) l (b .has))) (le-by v u (λ l. b .first u (a .from) l (a .has)))

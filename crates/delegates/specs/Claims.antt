@@ -1,8 +1,9 @@
 -- What makes the delegates believable; proofs/Claims.antt proves it.
 use mathlib.Core.Path.{_≡_}
 use mathlib.Core.Logic.{_↔_}
+use mathlib.Core.Bool.{true}
 use mathlib.Core.List.{List}
-use Prim.Native.Nat.{ℕ, _<_}
+use Prim.Native.Nat.{ℕ, _≤_, _<_}
 use lib.ListN.{length, getD}
 use Rattle.masks.specs.Masks.{single}
 use Rattle.automaton.specs.declared.Rule.{Rule}
@@ -12,22 +13,23 @@ use Rattle.subsets.specs.Sets.{setsOf, setCells, nextCells}
 use Rattle.subsets.specs.Claims.{fits}
 use Rattle.delegates.specs.declared.Starts.{Starts}
 use Rattle.delegates.specs.Alike.{Alike, Delegate, Merged}
-use Rattle.delegates.specs.Classes.{numberOf, MergedSets}
+use Rattle.delegates.specs.Classes.{numberOf, AlikeSets, alikeTo, startsOf}
 
--- what merge_starts ensures of s, for the arrays of the rule r
-abbrev pub MergedRule : Rule → Starts → Type 0
-MergedRule r s =
-    MergedSets (setCells (r .targets) (r .n) (r .k)) (nextCells (r .targets) (r .n) (r .k)) (r .finals) (length (setsOf (r .targets) (r .n) (r .k))) (r .n) (r .k) s
+-- the delegates and the number of starts of a rule, by the arrays of its numbered sets
+unfoldable pub startsIn : Rule → Starts
+startsIn r =
+    startsOf (setCells (r .targets) (r .n) (r .k)) (nextCells (r .targets) (r .n) (r .k)) (r .finals) (length (setsOf (r .targets) (r .n) (r .k))) (r .n) (r .k)
 
 pub record Claims : Type 1 where
-  -- of a well-formed rule with at most 512 sets, merge_starts finds the delegates and the number of starts of the automaton
-  pub merged : (r : Rule) → WellFormed r → fits r → (s : Starts) → MergedRule r s → Merged (automatonOf r) (s .delegates) (s .count)
+  -- of a well-formed rule with at most 512 sets, they are the delegates and the number of starts of the automaton
+  pub merged : (r : Rule) → WellFormed r → fits r → Merged (automatonOf r) (startsIn r .delegates) (startsIn r .count)
+  -- a text that tells two sets apart has 512 symbols or fewer, or there is one that has
+  pub alike-at : (sets next : List ℕ) (finals k s t : ℕ) → s ≤ 512 → t ≤ 512
+      → (alikeTo sets next finals k 513 s t ≡ true) ↔ AlikeSets sets next finals k s t
   -- each state's singleton has a number, which names it
   pub singles : (r : Rule) → WellFormed r → fits r → (q : ℕ) → q < r .n
       → (numberOf (setCells (r .targets) (r .n) (r .k)) (length (setsOf (r .targets) (r .n) (r .k))) q < length (setsOf (r .targets) (r .n) (r .k)))
       × (getD (setsOf (r .targets) (r .n) (r .k)) (numberOf (setCells (r .targets) (r .n) (r .k)) (length (setsOf (r .targets) (r .n) (r .k))) q) 0 ≡ single q)
-  -- what merge_starts ensures can be met, whatever the arrays hold
-  pub exists : (sets next : List ℕ) (finals count n k : ℕ) → (s : Starts) × MergedSets sets next finals count n k s
   -- alike is an equivalence
   pub alike-self : (a : Automaton) (q : ℕ) → Alike a q q
   pub alike-back : (a : Automaton) (q r : ℕ) → Alike a q r → Alike a r q

@@ -10,14 +10,19 @@
 --   Round .. k c d changed    d has the classes one round of refinement (Moore) after c
 --   Classes .. k c            c has the class of each set and of the empty set: the lowest set alike to it
 --   numberOf sets m q         the number of {q} among the first m sets; 512 where it has none
---   MergedSets ..             the delegate of a state by the classes: the lowest state with a set alike to its own; and how many states are
---                             their own. 32 states, 16 symbols and 512 sets are the most: a number above counts as that
+--   every n t                 all numbers below n pass the test t
+--   alikeTo .. k f s t        each text of fewer than f symbols below k is accepted from both sets or from neither
+--   firstFrom t lo f          the first number from lo on that passes the test t, lo + f where none below does
+--   startsOf ..               the delegate of each state, zeros after them, and how many states are their own: the lowest state whose set no text
+--                             of 512 symbols or fewer tells from its own; a longer text is not needed (`alike-at` of specs/Claims.antt).
+--                             32 states, 16 symbols and 512 sets are the most: a number above counts as that
 use mathlib.Core.Path.{_≡_}
-use mathlib.Core.Bool.{Bool, true, false, cond}
+use mathlib.Core.Bool.{Bool, true, false, cond, _&&_, Bool·beq}
 use mathlib.Core.List.{List, [], _∷_}
-use Prim.Native.Nat.{ℕ, _+_, _*_, _≤_, _<_, min}
+use Prim.Native.Nat.{ℕ, zero, suc, _+_, _*_, _≤_, _<_, min}
 use lib.Dec.{ltb}
 use lib.ListN.{length, getD, take}
+use Rattle.masks.specs.Lists.{listFrom}
 use Rattle.masks.specs.Masks.{single, shares}
 use Rattle.subsets.specs.Sets.{numberIn}
 use Rattle.delegates.specs.declared.Starts.{Starts}
@@ -42,6 +47,14 @@ classOf c s = getD c s 0
 unfoldable pub numberOf : List ℕ → ℕ → ℕ → ℕ
 numberOf sets m q = let i = numberIn (take m sets) (single q) in cond (ltb i m) i 512
 
+unfoldable pub every : ℕ → (ℕ → Bool) → Bool
+every zero t = true
+every (suc n) t = every n t && t n
+
+unfoldable pub firstFrom : (ℕ → Bool) → ℕ → ℕ → ℕ
+firstFrom t lo zero = lo
+firstFrom t lo (suc f) = cond (t lo) lo (firstFrom t (suc lo) f)
+
 module _ (sets next : List ℕ) (finals : ℕ) where
   unfoldable pub accepted : ℕ → List ℕ → Bool
   accepted s [] = final sets finals s
@@ -64,9 +77,16 @@ module _ (sets next : List ℕ) (finals : ℕ) where
   abbrev pub Classes : ℕ → List ℕ → Type 0
   Classes k c = (s : ℕ) → s ≤ 512 → Least (AlikeSets k) 0 s (classOf c s)
 
-  pub record MergedSets (count n k : ℕ) (r : Starts) : Type 0 where
-    pub cells : length (r .delegates) ≡ 32
-    pub delegates : (q : ℕ) → q < min n 32
-        → Least (λ p u. AlikeSets (min k 16) (numberOf sets (min count 512) p) (numberOf sets (min count 512) u)) 0 q (getD (r .delegates) q 0)
-    pub zeros : (q : ℕ) → min n 32 ≤ q → getD (r .delegates) q 0 ≡ 0
-    pub starts : r .count ≡ startCount (r .delegates) (min n 32)
+  -- ---- the delegates, as a function
+  unfoldable pub alikeTo : ℕ → ℕ → ℕ → ℕ → Bool
+  alikeTo k zero s t = true
+  alikeTo k (suc f) s t =
+      Bool·beq (final sets finals s) (final sets finals t) && every k (λ a. alikeTo k f (follow next s a) (follow next t a))
+
+  unfoldable pub delegateOf : ℕ → ℕ → ℕ → ℕ
+  delegateOf most k q = firstFrom (λ p. alikeTo k 513 (numberOf sets most p) (numberOf sets most q)) 0 q
+
+  unfoldable pub startsOf : ℕ → ℕ → ℕ → Starts
+  startsOf count n k =
+      let d = listFrom 0 32 (λ q. cond (ltb q (min n 32)) (delegateOf (min count 512) (min k 16) q) 0) in
+      record { delegates = d; count = startCount d (min n 32) }

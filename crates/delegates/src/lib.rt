@@ -5,7 +5,7 @@ ghost use mathlib.Core.Logic.{_↔_};
 ghost use mathlib.Core.Bool.{true};
 ghost use Prim.Native.Nat.{ℕ, _≤_, _<_, min};
 ghost use lib.ListN.{length};
-ghost use Rattle.delegates.specs.Classes.{final, follow as followOf, Least, classOf, numberOf, Same, Round, Classes, MergedSets};
+ghost use Rattle.delegates.specs.Classes.{final, follow as followOf, Least, classOf, numberOf, Same, Round, Classes, startsOf};
 use masks::StateNumber;
 use subsets::SetNumber;
 
@@ -216,7 +216,7 @@ pub fn merge_starts(
     n: u8,
     k: u8,
 ) -> Starts
-    ensures { λ r. ⌜ MergedSets (now (sets .entry)) (now (next .entry)) finals count n k r ⌝ }
+    ensures { λ r. ⌜ r ≡ startsOf (now (sets .entry)) (now (next .entry)) finals count n k ⌝ }
 {
     let most = at_most(count, 512);
     let states = at_most(n as usize, 32);

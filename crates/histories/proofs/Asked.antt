@@ -13,6 +13,7 @@ use Rattle.masks.specs.Masks.{union, shares}
 use Rattle.masks.specs.Lists.{listFrom}
 use Rattle.masks.proofs.Lists.{cell-of}
 use Rattle.ruleformat.specs.Reader.{ruleOf}
+use Rattle.delegates.specs.Claims.{startsIn}
 use Rattle.chunks.specs.Chunks.{total}
 use Rattle.board.specs.Boards.{emptyPlaces, summedCount}
 use Rattle.joins.specs.Joining.{joinUpTo, saysYes}
@@ -51,45 +52,43 @@ module _ (file : Option (List ℕ)) (places : ℕ) (at : ℕ → Option (List �
   -- the cells of a place, in the array and in the definition
   cells-same : (p q : ℕ) → p < places → q < 32
       → getD (j .board .ends) (p * 32 + q) 0
-      ≡ getD (listFrom 0 2048 (λ cell. endOf (ruleFrom file) (j .built .delegates) (cell / 32) (cell % 32) (at (cell / 32)))) (p * 32 + q) 0
+      ≡ getD (listFrom 0 2048 (λ cell. endOf (ruleFrom file) (cell / 32) (cell % 32) (at (cell / 32)))) (p * 32 + q) 0
   cells-same p q h l =
       let row : p ≡ (p * 32 + q) / 32 = omega arith in
       let col : q ≡ (p * 32 + q) % 32 = omega arith in
       holds .ends p q (omega (arith, h, holds .few)) l
-      ∙ ap₂ (λ (x y : ℕ). endOf (ruleFrom file) (j .built .delegates) x y (at x)) row col
-      ∙ sym (cell-of 2048 (λ cell. endOf (ruleFrom file) (j .built .delegates) (cell / 32) (cell % 32) (at (cell / 32))) (p * 32 + q) 0 (omega (arith, h, holds .few)))
+      ∙ ap₂ (λ (x y : ℕ). endOf (ruleFrom file) x y (at x)) row col
+      ∙ sym (cell-of 2048 (λ cell. endOf (ruleFrom file) (cell / 32) (cell % 32) (at (cell / 32))) (p * 32 + q) 0 (omega (arith, h, holds .few)))
 
 yes-same : (f : List ℕ) (places : ℕ) (at : ℕ → Option (List ℕ)) (j : Judge) → Holds (some f) places at j
     → isYes j
-    ≡ saysYes (listFrom 0 2048 (λ cell. endOf (ruleOf f) (j .built .delegates) (cell / 32) (cell % 32) (at (cell / 32)))) (j .built .delegates) (ruleOf f .n) (ruleOf f .initials) (ruleOf f .finals) places
+    ≡ saysYes (listFrom 0 2048 (λ cell. endOf (ruleOf f) (cell / 32) (cell % 32) (at (cell / 32)))) (startsIn (ruleOf f) .delegates) (ruleOf f .n) (ruleOf f .initials) (ruleOf f .finals) places
 yes-same f places at j holds =
-    let is = holds .rule .0 in
-    rw (places-same (some f) places at j holds, n-same (ruleOf f) (holds .rule .1) (holds .rule .2) (j .built) is, is .initials-are, is .finals-are)
+    rw (places-same (some f) places at j holds, holds .rule .0, n-same (ruleOf f) (holds .rule .1) (holds .rule .2))
     (ap (λ (c : ℕ). shares c (ruleOf f .finals))
-    (join-same (j .board .ends) (listFrom 0 2048 (λ cell. endOf (ruleOf f) (j .built .delegates) (cell / 32) (cell % 32) (at (cell / 32)))) (j .built .delegates) (ruleOf f .n) (ruleOf f .initials) places
+    (join-same (j .board .ends) (listFrom 0 2048 (λ cell. endOf (ruleOf f) (cell / 32) (cell % 32) (at (cell / 32)))) (startsIn (ruleOf f) .delegates) (ruleOf f .n) (ruleOf f .initials) places
     (cells-same (some f) places at j holds)))
 
 pub by-rule : (file : Option (List ℕ)) (places : ℕ) (at : ℕ → Option (List ℕ)) (j : Judge) → Holds file places at j → 0 < places
     → isYes j
-    ≡ saysYes (listFrom 0 2048 (λ cell. endOf (ruleFrom file) (j .built .delegates) (cell / 32) (cell % 32) (at (cell / 32)))) (j .built .delegates) (ruleFrom file .n) (ruleFrom file .initials) (ruleFrom file .finals) places
+    ≡ saysYes (listFrom 0 2048 (λ cell. endOf (ruleFrom file) (cell / 32) (cell % 32) (at (cell / 32)))) (startsIn (ruleFrom file) .delegates) (ruleFrom file .n) (ruleFrom file .initials) (ruleFrom file .finals) places
 by-rule none places at j holds h = absurd (let e : true ≡ false = holds .ruled h in let z : _≡_ {A = ℕ} 0 1 = cc in omega arith)
 by-rule (some f) places at j holds h = yes-same f places at j holds
 
-pub verdict-says : (h : List Call) (j : Judge) → Good h j → verdictOf j ≡ verdictIn (j .built .delegates) h
+pub verdict-says : (h : List Call) (j : Judge) → Good h j → verdictOf j ≡ verdictIn h
 unfolding verdictOf
 verdict-says h j good =
-    let d = j .built .delegates in
-    let s = standing (j .built .delegates) h in
+    let s = standing h in
     let count = summed-same (fileOf h) (placesIn h) s j good in
     let empties = empties-same (fileOf h) (placesIn h) s j good in
     same-choice (lacksBoard j) (eqb (placesIn h) 0) (refused 21)
     (cond (eqb (emptyPlaces (j .board)) 0) (cond (isYes j) (keeps (summedCount (j .board))) (breaks (summedCount (j .board)))) (waiting (emptyPlaces (j .board))))
-    (cond (eqb (emptiesIn d h) 0) (cond (yesIn d h) (keeps (summedIn d h)) (breaks (summedIn d h))) (waiting (emptiesIn d h)))
+    (cond (eqb (emptiesIn h) 0) (cond (yesIn h) (keeps (summedIn h)) (breaks (summedIn h))) (waiting (emptiesIn h)))
     (no-board (fileOf h) (placesIn h) s j good)
     (λ b.
     let y = by-rule (fileOf h) (placesIn h) s j good (positive b) in
     ap (λ (e : ℕ). cond (eqb e 0) (cond (isYes j) (keeps (summedCount (j .board))) (breaks (summedCount (j .board)))) (waiting e)) empties
-    ∙ ap₂ (λ (t : Bool) (c : ℕ). cond (eqb (emptiesIn d h) 0) (cond t (keeps c) (breaks c)) (waiting (emptiesIn d h))) y count)
+    ∙ ap₂ (λ (t : Bool) (c : ℕ). cond (eqb (emptiesIn h) 0) (cond t (keeps c) (breaks c)) (waiting (emptiesIn h))) y count)
   where
     positive : eqb (placesIn h) 0 ≡ false → 0 < placesIn h
     positive b = let ne = eqb-false (placesIn h) 0 b in omega arith

@@ -68,6 +68,3 @@ module _ (f : List ℕ) (e : refusal f ≡ none) where
   -- the delegates of the rule that is read are those of the bytes
   pub of-rule : (d : List ℕ) (m : ℕ) → Merged (automatonOf (ruleOf f)) d m → Merged (automatonIn f) d m
   of-rule = merged-map (stateCount f) (symbolCount f) (λ q. q ∈ initialMask f) (λ q. q ∈ finalMask f) Read (ArcIn f) stands is-read
-
-  pub of-bytes : (d : List ℕ) (m : ℕ) → Merged (automatonIn f) d m → Merged (automatonOf (ruleOf f)) d m
-  of-bytes = merged-map (stateCount f) (symbolCount f) (λ q. q ∈ initialMask f) (λ q. q ∈ finalMask f) (ArcIn f) Read is-read stands

@@ -1,91 +1,82 @@
--- EVERY LIST OF CALLS, over the definitions alone: where the calls h were answered with the replies given and left the judge j, all that demand 3
--- says holds. Assumes nothing.
-use mathlib.Core.Path.{_≡_, refl, sym, ap, _∙_, subst}
-use mathlib.Core.List.{List, _∷_}
-use mathlib.Core.Option.{Option, none, some}
+-- EVERY LIST OF CALLS, over the definitions alone: of the replies to the calls h and of the judge that they leave, all that demand 3 says holds.
+-- Assumes nothing.
+use mathlib.Core.Path.{_≡_, refl, ap₂}
+use mathlib.Core.List.{List, [], _∷_}
+use mathlib.Core.Option.{none}
 use Prim.Native.Nat.{ℕ}
 use Rattle.ruleformat.specs.Reader.{ruleOf}
 use Rattle.ruleformat.specs.Language.{automatonIn}
 use Rattle.delegates.specs.Alike.{Merged}
-use Rattle.build.specs.declared.Built.{Built}
-use Rattle.build.specs.Building.{BuiltRule}
+use Rattle.delegates.specs.Claims.{startsIn}
 use Rattle.calls.specs.declared.Judge.{Judge}
-use Rattle.calls.specs.Replies.{Reply}
-use Rattle.histories.specs.History.{fileOf, placesIn, standing, verdictIn}
 use Rattle.calls.specs.Calls.{Call, loads, opens, delivers, withdraws, asks, loadNumber}
-use Rattle.calls.specs.Steps.{Outcome, verdictOf, Steps}
-use Rattle.histories.specs.Claims.{Ran, begins, next, BuiltBy, DelegatesBy, DelegatesIn, Right, AllRight, EveryList}
+use Rattle.calls.specs.Steps.{verdictOf, stepOf}
 use Rattle.calls.proofs.Conditions.{not-refused}
+use Rattle.histories.specs.History.{fileOf, placesIn, standing, verdictIn, answerOf, answersTo}
+use Rattle.histories.specs.Claims.{judgeAfter, repliesTo, EveryList}
 use Rattle.histories.proofs.Bytes.{of-rule}
 use Rattle.histories.proofs.Running.{merged}
 use Rattle.histories.proofs.Numbers.{summed-same}
-use Rattle.histories.proofs.Listed.{Good, good-fresh, file-accepted, accepted-rule, load-good, load-says, open-good, open-says, withdraw-good, withdraw-says, ask-good, deliver-good, deliver-says}
+use Rattle.histories.proofs.Listed.{Good, good-fresh, accepted-rule, load-good, load-says, open-good, open-says, withdraw-good, withdraw-says, ask-good, deliver-good, deliver-says}
 use Rattle.histories.proofs.Asked.{by-rule, verdict-says}
 use Rattle.histories.proofs.Words.{there, words}
 
--- the delegates of an accepted rule that is built
-built-delegates : (f : List ℕ) → loadNumber f ≡ none → (b : Built) → BuiltRule (ruleOf f) b → Merged (automatonIn f) (b .delegates) (b .starts)
-built-delegates f e b is =
+-- the delegates of an accepted file's rule are those of the automaton in its bytes
+file-delegates : (f : List ℕ) → loadNumber f ≡ none → Merged (automatonIn f) (startsIn (ruleOf f) .delegates) (startsIn (ruleOf f) .count)
+file-delegates f e =
     let a = accepted-rule f e in
-    of-rule f (not-refused f e .0) (b .delegates) (b .starts) (merged (ruleOf f) (a .0) (a .1) b is)
-
-delegates-by : (file : Option (List ℕ)) → ((f : List ℕ) → file ≡ some f → loadNumber f ≡ none) → (j : Judge) → BuiltBy file j
-    → DelegatesBy file (j .built .delegates) (j .built .starts)
-delegates-by none taken j is = tt
-delegates-by (some f) taken j is = built-delegates f (taken f refl) (j .built) (is .0)
+    of-rule f (not-refused f e .0) (startsIn (ruleOf f) .delegates) (startsIn (ruleOf f) .count) (merged (ruleOf f) (a .0) (a .1))
 
 -- ---- one call
 module _ (h : List Call) (j : Judge) (g : Good h j) where
-  delegates-of : DelegatesIn h (j .built .delegates) (j .built .starts)
-  delegates-of = delegates-by (fileOf h) (file-accepted h) j (g .rule)
+  step-good : (c : Call) → Good (c ∷ h) (stepOf j c .leaves)
+  step-good (loads f) = load-good h j g f
+  step-good (opens n) = open-good h j g n
+  step-good (delivers p w) = deliver-good h j g p w
+  step-good (withdraws p) = withdraw-good h j g p
+  step-good asks = ask-good h j g
 
-  step-good : (c : Call) (o : Outcome) → Steps j c o → Good (c ∷ h) (o .leaves)
-  step-good (loads f) o s = load-good h j g f o s
-  step-good (opens n) o s = subst (λ (x : Outcome). Good (opens n ∷ h) (x .leaves)) (sym s) (open-good h j g n)
-  step-good (delivers p w) o s = subst (λ (x : Outcome). Good (delivers p w ∷ h) (x .leaves)) (sym s) (deliver-good h j g p w)
-  step-good (withdraws p) o s = subst (λ (x : Outcome). Good (withdraws p ∷ h) (x .leaves)) (sym s) (withdraw-good h j g p)
-  step-good asks o s = subst (λ (x : Outcome). Good (asks ∷ h) (x .leaves)) (sym s) (ask-good h j g)
-
-  step-right : (c : Call) (o : Outcome) → Steps j c o → Right h c (o .says)
-  step-right (loads f) o s = (
-    o .leaves .built .delegates,
-    o .leaves .built .starts,
-    (λ e. built-delegates f e (o .leaves .built) (s .built e)),
-    load-says h j g f o s,
-  )
-  step-right (opens n) o s = (j .built .delegates, j .built .starts, delegates-of, ap (λ (x : Outcome). x .says) s ∙ open-says h j g n)
-  step-right (delivers p w) o s = (j .built .delegates, j .built .starts, delegates-of, ap (λ (x : Outcome). x .says) s ∙ deliver-says h j g p w)
-  step-right (withdraws p) o s = (j .built .delegates, j .built .starts, delegates-of, ap (λ (x : Outcome). x .says) s ∙ withdraw-says h j g p)
-  step-right asks o s = (j .built .delegates, j .built .starts, delegates-of, ap (λ (x : Outcome). x .says) s ∙ verdict-says h j g)
+  step-right : (c : Call) → stepOf j c .says ≡ answerOf h c
+  step-right (loads f) = load-says h j g f
+  step-right (opens n) = open-says h j g n
+  step-right (delivers p w) = deliver-says h j g p w
+  step-right (withdraws p) = withdraw-says h j g p
+  step-right asks = verdict-says h j g
 
 -- ---- every list
-good : {h : List Call} {given : List Reply} {j : Judge} → Ran h given j → Good h j
-good begins = good-fresh
-good (next {h} {given} {j} {c} {o} q s) = step-good h j (good q) c o s
+good : (h : List Call) → Good h (judgeAfter h)
+unfolding judgeAfter
+good [] = good-fresh
+good (c ∷ h) = step-good h (judgeAfter h) (good h) c
 
-all-right : {h : List Call} {given : List Reply} {j : Judge} → Ran h given j → AllRight h given
-all-right begins = tt
-all-right (next {h} {given} {j} {c} {o} q s) = (step-right h j (good q) c o s, all-right q)
+all-right : (h : List Call) → repliesTo h ≡ answersTo h
+unfolding repliesTo answersTo
+all-right [] = refl
+all-right (c ∷ h) = ap₂ _∷_ (step-right h (judgeAfter h) (good h) c) (all-right h)
 
-pub every-list : {h : List Call} {given : List Reply} {j : Judge} → Ran h given j → EveryList h given j
-every-list {h} {given} {j} q =
-    let g = good q in
+pub every-list : (h : List Call) → EveryList h
+every-list h =
+    let g = good h in
     record {
-      all-right = all-right q;
+      all-right = all-right h;
+      delegates = file-delegates;
       after = record {
         rule = g .rule;
-        delegates = delegates-of h j g;
         places = g .places-are;
         empty = g .empty;
         ends = g .ends;
         counts = g .counts;
-        asked = verdict-says h j g;
-        joined = λ b. by-rule (fileOf h) (placesIn h) (standing (j .built .delegates) h) j g (there h b);
-        summed = summed-same (fileOf h) (placesIn h) (standing (j .built .delegates) h) j g;
+        asked = verdict-says h (judgeAfter h) g;
+        joined = λ b. by-rule (fileOf h) (placesIn h) (standing h) (judgeAfter h) g (there h b);
+        summed = summed-same (fileOf h) (placesIn h) (standing h) (judgeAfter h) g;
       };
-      verdict = words h j g;
+      verdict = words h (judgeAfter h) g;
     }
 
+-- a call made then is answered as the list says
+pub answer-after : (h : List Call) (c : Call) → stepOf (judgeAfter h) c .says ≡ answerOf h c
+answer-after h = step-right h (judgeAfter h) (good h)
+
 -- the verdict asked then is the one that the list says
-pub verdict-after : {h : List Call} {given : List Reply} {j : Judge} → Ran h given j → verdictOf j ≡ verdictIn (j .built .delegates) h
-verdict-after {h} {given} {j} q = verdict-says h j (good q)
+pub verdict-after : (h : List Call) → verdictOf (judgeAfter h) ≡ verdictIn h
+verdict-after h = verdict-says h (judgeAfter h) (good h)

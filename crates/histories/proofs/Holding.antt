@@ -31,8 +31,8 @@ pub record Holds (file : Option (List ℕ)) (places : ℕ) (at : ℕ → Option 
   pub beyond : (p : ℕ) → places ≤ p → at p ≡ none
   pub texts : (p : ℕ) (w : List ℕ) → at p ≡ some w → Text (ruleFrom file .k) w
   pub empty : (p : ℕ) → p < 64 → isEmpty (j .board) p ≡ isNone (at p)
-  pub ends : (p q : ℕ) → p < 64 → q < 32 → held (j .board) p q ≡ endOf (ruleFrom file) (j .built .delegates) p q (at p)
-  pub counts : (p : ℕ) → p < 64 → getD (j .board .counts) p 0 ≡ countOf (ruleFrom file) (j .built .delegates) p (at p)
+  pub ends : (p q : ℕ) → p < 64 → q < 32 → held (j .board) p q ≡ endOf (ruleFrom file) p q (at p)
+  pub counts : (p : ℕ) → p < 64 → getD (j .board .counts) p 0 ≡ countOf (ruleFrom file) p (at p)
 
 never : {A : Type 0} {w : List ℕ} → none ≡ some w → A
 never e = absurd (let z : _≡_ {A = ℕ} 0 1 = cc in omega arith)
@@ -87,7 +87,7 @@ module _ (file : Option (List ℕ)) (places : ℕ) (at : ℕ → Option (List �
   place-below = omega (arith, h, holds .few)
 
   changed-holds : (new : Option (List ℕ)) (c : Board) → ((w : List ℕ) → new ≡ some w → Text (ruleFrom file .k) w)
-      → Changed (j .board) c p (isNone new) (countOf (ruleFrom file) (j .built .delegates) p new) (λ q. endOf (ruleFrom file) (j .built .delegates) p q new)
+      → Changed (j .board) c p (isNone new) (countOf (ruleFrom file) p new) (λ q. endOf (ruleFrom file) p q new)
       → Holds file places (placed at p new) (withBoard j c)
   changed-holds new c text changed = record {
     rule = kept file (holds .rule);
@@ -101,13 +101,13 @@ module _ (file : Option (List ℕ)) (places : ℕ) (at : ℕ → Option (List �
     empty =
         each at p new (λ i o. i < 64 → isEmpty c i ≡ isNone o) (λ b. changed .empty-own) (λ i ne b. changed .empty-other i ne ∙ holds .empty i b);
     ends = λ i q b.
-        each at p new (λ i o. i < 64 → q < 32 → held c i q ≡ endOf (ruleFrom file) (j .built .delegates) i q o)
+        each at p new (λ i o. i < 64 → q < 32 → held c i q ≡ endOf (ruleFrom file) i q o)
         (λ b l. changed .held-own q l)
         (λ i ne b l. changed .held-other i q b l ne ∙ holds .ends i q b l)
         i
         b;
     counts =
-        each at p new (λ i o. i < 64 → getD (c .counts) i 0 ≡ countOf (ruleFrom file) (j .built .delegates) i o)
+        each at p new (λ i o. i < 64 → getD (c .counts) i 0 ≡ countOf (ruleFrom file) i o)
         (λ b. changed .count-own)
         (λ i ne b. changed .count-other i ne ∙ holds .counts i b);
   }
@@ -122,8 +122,11 @@ module _ (file : Option (List ℕ)) (places : ℕ) (at : ℕ → Option (List �
 
 -- ---- a chunk is run and kept
 module _ (f : List ℕ) (places : ℕ) (at : ℕ → Option (List ℕ)) (j : Judge) (holds : Holds (some f) places at j) (p : ℕ) (h : p < places) (w : List ℕ) (text : Text (ruleOf f .k) w) where
-  pub run-count : runsAt j p w .count ≡ countOf (ruleOf f) (j .built .delegates) p (some w)
-  run-count = count-same (ruleOf f) (holds .rule .1) (holds .rule .2) (j .built) (holds .rule .0) p w text
+  pub run-count : runsAt j p w .count ≡ countOf (ruleOf f) p (some w)
+  run-count = rw (holds .rule .0) (count-same (ruleOf f) (holds .rule .1) (holds .rule .2) p w text)
+
+  run-end : (q : ℕ) → q < 32 → getD (runsAt j p w .ends) q 0 ≡ endOf (ruleOf f) p q (some w)
+  run-end q l = rw (holds .rule .0) (end-same (ruleOf f) (holds .rule .1) (holds .rule .2) p w text q l)
 
   pub filled-holds : Holds (some f) places (placed at p (some w)) (withBoard j (filledAt (j .board) p (runsAt j p w)))
   filled-holds =
@@ -137,6 +140,6 @@ module _ (f : List ℕ) (places : ℕ) (at : ℕ → Option (List ℕ)) (j : Jud
         empty-other = c .empty-other;
         count-own = c .count-own ∙ run-count;
         count-other = c .count-other;
-        held-own = λ q l. c .held-own q l ∙ end-same (ruleOf f) (holds .rule .1) (holds .rule .2) (j .built) (holds .rule .0) p w text q l;
+        held-own = λ q l. c .held-own q l ∙ run-end q l;
         held-other = c .held-other;
       })

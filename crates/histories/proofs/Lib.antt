@@ -8,10 +8,8 @@ pub mod Asked
 pub mod Words
 pub mod Every
 pub mod Tied
-pub mod Inhabited
 pub mod Taken
 pub mod Never
-pub mod Once
 pub mod TwoRules
 pub mod TableP
 pub mod TablePRuns

@@ -17,21 +17,23 @@ use Rattle.ruleformat.proofs.Claims as rulefile
 use Rattle.automaton.specs.Rules.{WellFormed}
 use Rattle.subsets.specs.Sets.{setsOf}
 use Rattle.subsets.specs.Claims.{fits}
+use Rattle.delegates.specs.Claims.{startsIn}
+use Rattle.build.specs.Building.{builtOf}
 use Rattle.chunks.specs.Chunks.{foreign}
 use Rattle.chunks.proofs.Claims as chunks
 use Rattle.board.specs.Boards.{emptyBoard, clearedAt, filledAt}
 use Rattle.calls.specs.declared.Judge.{Judge}
-use Rattle.calls.specs.Replies.{accepted, loaded}
+use Rattle.calls.specs.Replies.{Reply, accepted, loaded}
 use Rattle.calls.proofs.Conditions.{not-refused}
 use Rattle.histories.specs.History.{isNone, fileOf, ruleFrom, openNumber, placesIn, deliverCheck, standing, deliverNumber, withdrawNumber, replyBy}
 use Rattle.calls.specs.Calls.{Call, loads, opens, delivers, withdraws, asks, loadNumber}
-use Rattle.calls.specs.Steps.{fresh, withBoard, Outcome, outcomeBy, runsAt, Loads, openOf, deliverOf, withdrawOf}
+use Rattle.calls.specs.Steps.{fresh, withBoard, outcomeBy, runsAt, loadOf, openOf, deliverOf, withdrawOf}
 use Rattle.histories.specs.Claims.{BuiltBy}
 use Rattle.histories.proofs.Holding.{Holds, all-empty, fresh-holds, placed, cleared-holds, filled-holds}
 use Rattle.histories.proofs.Numbers.{list-11, list-12, list-13, list-22, passed, open-number, withdraw-number, deliver-number}
 
 abbrev pub Good : List Call → Judge → Type 0
-Good h j = Holds (fileOf h) (placesIn h) (standing (j .built .delegates) h) j
+Good h j = Holds (fileOf h) (placesIn h) (standing h) j
 
 pub good-fresh : Good [] fresh
 unfolding fileOf placesIn standing
@@ -46,7 +48,7 @@ and-false : (t u : Bool) → u ≡ false → (t && u) ≡ false
 and-false true u e = e
 and-false false u e = refl
 
-and-true : (t u : Bool) → u ≡ true → (t && u) ≡ t
+pub and-true : (t u : Bool) → u ≡ true → (t && u) ≡ t
 and-true true u e = e
 and-true false u e = refl
 
@@ -73,41 +75,42 @@ file-accepted (delivers p w ∷ h) f e = file-accepted h f e
 file-accepted (withdraws p ∷ h) f e = file-accepted h f e
 file-accepted (asks ∷ h) f e = file-accepted h f e
 
-by-says : (number : Option ℕ) (j next : Judge) → outcomeBy number j next .says ≡ replyBy number accepted
-by-says none j next = refl
-by-says (some x) j next = refl
+by-says : (number : Option ℕ) (a : Reply) (j next : Judge) → outcomeBy number a j next .says ≡ replyBy number a
+by-says none a j next = refl
+by-says (some x) a j next = refl
 
 module _ (h : List Call) (j : Judge) (good : Good h j) where
-  module _ (f : List ℕ) (o : Outcome) (l : Loads j f o) where
-    loaded-good : (number : Option ℕ) → loadNumber f ≡ number → Good (loads f ∷ h) (o .leaves)
+  module _ (f : List ℕ) where
+    abbrev brought : Judge
+    brought = record { built = builtOf (ruleOf f); board = emptyBoard 0 }
+
+    abbrev reply : Reply
+    reply = loaded (length (setsOf (ruleOf f .targets) (ruleOf f .n) (ruleOf f .k))) (startsIn (ruleOf f) .count)
+
+    loaded-good : (number : Option ℕ) → loadNumber f ≡ number → Good (loads f ∷ h) (outcomeBy number reply j brought .leaves)
     unfolding fileOf placesIn standing
     loaded-good none e =
         let a = accepted-rule f e in
-        transfer (o .leaves) (sym (rw e)) (sym (rw e)) (λ p. sym (rw e))
-        (all-empty (some f) 0 (o .leaves) (l .built e, a .0, a .1) (l .removed e) (omega arith) (λ z. absurd (omega arith)))
-    loaded-good (some x) e =
-        subst (Good (loads f ∷ h)) (sym (ap (λ b. b .leaves) (l .refused x e)))
-        (transfer j (sym (rw e)) (sym (rw e)) (λ p. sym (rw e)) good)
+        transfer brought (sym (rw e)) (sym (rw e)) (λ p. sym (rw e))
+        (all-empty (some f) 0 brought (refl, a .0, a .1) refl (omega arith) (λ z. absurd (omega arith)))
+    loaded-good (some x) e = transfer j (sym (rw e)) (sym (rw e)) (λ p. sym (rw e)) good
 
-    pub load-good : Good (loads f ∷ h) (o .leaves)
+    pub load-good : Good (loads f ∷ h) (loadOf j f .leaves)
+    unfolding loadOf
     load-good = loaded-good (loadNumber f) refl
 
-    load-reply : (number : Option ℕ) → loadNumber f ≡ number
-        → o .says ≡ replyBy number (loaded (length (setsOf (ruleOf f .targets) (ruleOf f .n) (ruleOf f .k))) (o .leaves .built .starts))
-    load-reply none e = l .answered e
-    load-reply (some x) e = ap (λ b. b .says) (l .refused x e)
-
-    pub load-says : o .says ≡ replyBy (loadNumber f) (loaded (length (setsOf (ruleOf f .targets) (ruleOf f .n) (ruleOf f .k))) (o .leaves .built .starts))
-    load-says = load-reply (loadNumber f) refl
+    pub load-says : loadOf j f .says ≡ replyBy (loadNumber f) reply
+    unfolding loadOf
+    load-says = by-says (loadNumber f) reply j brought
 
   -- ---- open
-  open-is : (n : ℕ) → openOf j n ≡ outcomeBy (openNumber h n) j (withBoard j (emptyBoard n))
+  open-is : (n : ℕ) → openOf j n ≡ outcomeBy (openNumber h n) accepted j (withBoard j (emptyBoard n))
   unfolding openOf
   open-is n =
-      ap (λ x. outcomeBy x j (withBoard j (emptyBoard n)))
-      (open-number (fileOf h) (placesIn h) (standing (j .built .delegates) h) j good n)
+      ap (λ x. outcomeBy x accepted j (withBoard j (emptyBoard n)))
+      (open-number (fileOf h) (placesIn h) (standing h) j good n)
 
-  opened-good : (n : ℕ) (o : Option ℕ) → openNumber h n ≡ o → Good (opens n ∷ h) (outcomeBy o j (withBoard j (emptyBoard n)) .leaves)
+  opened-good : (n : ℕ) (o : Option ℕ) → openNumber h n ≡ o → Good (opens n ∷ h) (outcomeBy o accepted j (withBoard j (emptyBoard n)) .leaves)
   unfolding fileOf placesIn standing
   opened-good n none e =
       let a = passed 20 (isNone (fileOf h)) (cond (outside 1 64 n) (some 10) none) e in
@@ -124,35 +127,35 @@ module _ (h : List Call) (j : Judge) (good : Good h j) where
   open-good n = subst (λ o. Good (opens n ∷ h) (o .leaves)) (sym (open-is n)) (opened-good n (openNumber h n) refl)
 
   pub open-says : (n : ℕ) → openOf j n .says ≡ replyBy (openNumber h n) accepted
-  open-says n = ap (λ o. o .says) (open-is n) ∙ by-says (openNumber h n) j (withBoard j (emptyBoard n))
+  open-says n = ap (λ o. o .says) (open-is n) ∙ by-says (openNumber h n) accepted j (withBoard j (emptyBoard n))
 
   -- ---- withdraw
-  withdraw-is : (p : ℕ) → withdrawOf j p ≡ outcomeBy (withdrawNumber (j .built .delegates) h p) j (withBoard j (clearedAt (j .board) p))
+  withdraw-is : (p : ℕ) → withdrawOf j p ≡ outcomeBy (withdrawNumber h p) accepted j (withBoard j (clearedAt (j .board) p))
   unfolding withdrawOf
   withdraw-is p =
-      ap (λ x. outcomeBy x j (withBoard j (clearedAt (j .board) p)))
-      (withdraw-number (fileOf h) (placesIn h) (standing (j .built .delegates) h) j good p)
+      ap (λ x. outcomeBy x accepted j (withBoard j (clearedAt (j .board) p)))
+      (withdraw-number (fileOf h) (placesIn h) (standing h) j good p)
 
-  withdrawn-good : (p : ℕ) (o : Option ℕ) → withdrawNumber (j .built .delegates) h p ≡ o
-      → Good (withdraws p ∷ h) (outcomeBy o j (withBoard j (clearedAt (j .board) p)) .leaves)
+  withdrawn-good : (p : ℕ) (o : Option ℕ) → withdrawNumber h p ≡ o
+      → Good (withdraws p ∷ h) (outcomeBy o accepted j (withBoard j (clearedAt (j .board) p)) .leaves)
   unfolding fileOf placesIn standing placed
   withdrawn-good p none e =
-      let a = passed 21 (eqb (placesIn h) 0) (firstOf (on 11 (leb (placesIn h) p) ∷ on 23 (isNone (standing (j .built .delegates) h p)) ∷ [])) e in
-      let b = passed 11 (leb (placesIn h) p) (firstOf (on 23 (isNone (standing (j .built .delegates) h p)) ∷ [])) (a .1) in
+      let a = passed 21 (eqb (placesIn h) 0) (firstOf (on 11 (leb (placesIn h) p) ∷ on 23 (isNone (standing h p)) ∷ [])) e in
+      let b = passed 11 (leb (placesIn h) p) (firstOf (on 23 (isNone (standing h p)) ∷ [])) (a .1) in
       transfer (withBoard j (clearedAt (j .board) p)) refl refl
-      (λ i. sym (ap (λ (t : Bool). cond t none (standing (j .built .delegates) h i)) (and-true (eqb p i) (isNone (withdrawNumber (j .built .delegates) h p)) (ap isNone e))))
-      (cleared-holds (fileOf h) (placesIn h) (standing (j .built .delegates) h) j good p (leb-false (placesIn h) p (b .0)))
+      (λ i. sym (ap (λ (t : Bool). cond t none (standing h i)) (and-true (eqb p i) (isNone (withdrawNumber h p)) (ap isNone e))))
+      (cleared-holds (fileOf h) (placesIn h) (standing h) j good p (leb-false (placesIn h) p (b .0)))
   withdrawn-good p (some x) e =
       transfer j refl refl
-      (λ i. sym (ap (λ (t : Bool). cond t none (standing (j .built .delegates) h i)) (and-false (eqb p i) (isNone (withdrawNumber (j .built .delegates) h p)) (ap isNone e))))
+      (λ i. sym (ap (λ (t : Bool). cond t none (standing h i)) (and-false (eqb p i) (isNone (withdrawNumber h p)) (ap isNone e))))
       good
 
   pub withdraw-good : (p : ℕ) → Good (withdraws p ∷ h) (withdrawOf j p .leaves)
-  withdraw-good p = subst (λ o. Good (withdraws p ∷ h) (o .leaves)) (sym (withdraw-is p)) (withdrawn-good p (withdrawNumber (j .built .delegates) h p) refl)
+  withdraw-good p = subst (λ o. Good (withdraws p ∷ h) (o .leaves)) (sym (withdraw-is p)) (withdrawn-good p (withdrawNumber h p) refl)
 
-  pub withdraw-says : (p : ℕ) → withdrawOf j p .says ≡ replyBy (withdrawNumber (j .built .delegates) h p) accepted
+  pub withdraw-says : (p : ℕ) → withdrawOf j p .says ≡ replyBy (withdrawNumber h p) accepted
   withdraw-says p =
-      ap (λ o. o .says) (withdraw-is p) ∙ by-says (withdrawNumber (j .built .delegates) h p) j (withBoard j (clearedAt (j .board) p))
+      ap (λ o. o .says) (withdraw-is p) ∙ by-says (withdrawNumber h p) accepted j (withBoard j (clearedAt (j .board) p))
 
   -- ---- verdict
   pub ask-good : Good (asks ∷ h) j
@@ -164,15 +167,15 @@ module _ (h : List Call) (j : Judge) (good : Good h j) (p : ℕ) (w : List ℕ) 
   abbrev kept : Judge
   kept = withBoard j (filledAt (j .board) p (runsAt j p w))
 
-  deliver-is : deliverOf j p w ≡ outcomeBy (deliverNumber (j .built .delegates) h p w) j kept
+  deliver-is : deliverOf j p w ≡ outcomeBy (deliverNumber h p w) accepted j kept
   unfolding deliverOf
   deliver-is =
-      ap (λ x. outcomeBy x j kept) (deliver-number (placesIn h) (standing (j .built .delegates) h) j p w (fileOf h) good)
+      ap (λ x. outcomeBy x accepted j kept) (deliver-number (placesIn h) (standing h) j p w (fileOf h) good)
 
   -- a delivery that meets no condition is run and kept
-  kept-chunk : (file : Option (List ℕ)) → Holds file (placesIn h) (standing (j .built .delegates) h) j
-      → deliverCheck (ruleFrom file) (j .built .delegates) (placesIn h) (standing (j .built .delegates) h) p w ≡ none
-      → Holds file (placesIn h) (placed (standing (j .built .delegates) h) p (some w)) kept
+  kept-chunk : (file : Option (List ℕ)) → Holds file (placesIn h) (standing h) j
+      → deliverCheck (ruleFrom file) (placesIn h) (standing h) p w ≡ none
+      → Holds file (placesIn h) (placed (standing h) p (some w)) kept
   kept-chunk none holds e =
       by-test (ltb 0 (placesIn h))
       (λ l. absurd (let z : true ≡ false = holds .ruled (ltb-true 0 (placesIn h) l) in let y : _≡_ {A = ℕ} 0 1 = cc in omega arith))
@@ -183,26 +186,26 @@ module _ (h : List Call) (j : Judge) (good : Good h j) (p : ℕ) (w : List ℕ) 
       let x : _≡_ {A = ℕ} 0 1 = cc in
       omega arith))
   kept-chunk (some f) holds e =
-      let s = standing (j .built .delegates) h in
-      let a = passed 21 (eqb (placesIn h) 0) (list-11 (ruleOf f) (j .built .delegates) (placesIn h) s p w) e in
-      let b = passed 11 (leb (placesIn h) p) (list-12 (ruleOf f) (j .built .delegates) (placesIn h) s p w) (a .1) in
-      let c = passed 12 (ltb 65536 (length w)) (list-13 (ruleOf f) (j .built .delegates) (placesIn h) s p w) (b .1) in
-      let t = passed 13 (foreign w (ruleOf f .k)) (list-22 (ruleOf f) (j .built .delegates) (placesIn h) s p w) (c .1) in
-      filled-holds f (placesIn h) (standing (j .built .delegates) h) j holds p (leb-false (placesIn h) p (b .0)) w (chunks.claims .text-law w (ruleOf f .k) .0 (t .0))
+      let s = standing h in
+      let a = passed 21 (eqb (placesIn h) 0) (list-11 (ruleOf f) (placesIn h) s p w) e in
+      let b = passed 11 (leb (placesIn h) p) (list-12 (ruleOf f) (placesIn h) s p w) (a .1) in
+      let c = passed 12 (ltb 65536 (length w)) (list-13 (ruleOf f) (placesIn h) s p w) (b .1) in
+      let t = passed 13 (foreign w (ruleOf f .k)) (list-22 (ruleOf f) (placesIn h) s p w) (c .1) in
+      filled-holds f (placesIn h) (standing h) j holds p (leb-false (placesIn h) p (b .0)) w (chunks.claims .text-law w (ruleOf f .k) .0 (t .0))
 
-  delivered-good : (o : Option ℕ) → deliverNumber (j .built .delegates) h p w ≡ o → Good (delivers p w ∷ h) (outcomeBy o j kept .leaves)
+  delivered-good : (o : Option ℕ) → deliverNumber h p w ≡ o → Good (delivers p w ∷ h) (outcomeBy o accepted j kept .leaves)
   unfolding fileOf placesIn standing placed
   delivered-good none e =
       transfer kept refl refl
-      (λ i. sym (ap (λ (t : Bool). cond t (some w) (standing (j .built .delegates) h i)) (and-true (eqb p i) (isNone (deliverNumber (j .built .delegates) h p w)) (ap isNone e))))
+      (λ i. sym (ap (λ (t : Bool). cond t (some w) (standing h i)) (and-true (eqb p i) (isNone (deliverNumber h p w)) (ap isNone e))))
       (kept-chunk (fileOf h) good e)
   delivered-good (some x) e =
       transfer j refl refl
-      (λ i. sym (ap (λ (t : Bool). cond t (some w) (standing (j .built .delegates) h i)) (and-false (eqb p i) (isNone (deliverNumber (j .built .delegates) h p w)) (ap isNone e))))
+      (λ i. sym (ap (λ (t : Bool). cond t (some w) (standing h i)) (and-false (eqb p i) (isNone (deliverNumber h p w)) (ap isNone e))))
       good
 
   pub deliver-good : Good (delivers p w ∷ h) (deliverOf j p w .leaves)
-  deliver-good = subst (λ o. Good (delivers p w ∷ h) (o .leaves)) (sym deliver-is) (delivered-good (deliverNumber (j .built .delegates) h p w) refl)
+  deliver-good = subst (λ o. Good (delivers p w ∷ h) (o .leaves)) (sym deliver-is) (delivered-good (deliverNumber h p w) refl)
 
-  pub deliver-says : deliverOf j p w .says ≡ replyBy (deliverNumber (j .built .delegates) h p w) accepted
-  deliver-says = ap (λ o. o .says) deliver-is ∙ by-says (deliverNumber (j .built .delegates) h p w) j kept
+  pub deliver-says : deliverOf j p w .says ≡ replyBy (deliverNumber h p w) accepted
+  deliver-says = ap (λ o. o .says) deliver-is ∙ by-says (deliverNumber h p w) accepted j kept

@@ -1,6 +1,6 @@
 -- No list of calls comes to 24, as `Never-24` of specs/Claims.antt says: a chunk counts at most 32 transitions for each of its 65,536 bytes at most,
--- and a board has at most 64 places. So which chunk stands where does not depend on the delegates (`Standing-fixed`). Assumes nothing.
-use mathlib.Core.Path.{_≡_, refl, sym, ap, ap₂, subst, fun-ext}
+-- and a board has at most 64 places. Assumes nothing.
+use mathlib.Core.Path.{_≡_, refl, sym, ap, subst}
 use mathlib.Core.Bool.{Bool, true, false, cond, _&&_, _||_}
 use mathlib.Core.List.{List, [], _∷_, _++_}
 use mathlib.Core.Option.{Option, none, some}
@@ -17,14 +17,15 @@ use Rattle.ruleformat.specs.Refusals.{fileConditions}
 use Rattle.ruleformat.specs.Reader.{ruleOf}
 use Rattle.ruleformat.proofs.Conditions.{or-left, or-right, none-law}
 use Rattle.subsets.specs.Sets.{setsOf}
-use Rattle.chunks.specs.Chunks.{foreign, counted, runSet, total, chunkCount}
+use Rattle.delegates.specs.Claims.{startsIn}
+use Rattle.chunks.specs.Chunks.{foreign, counted, total, chunkCount}
 use Rattle.chunks.proofs.Claims as chunks
 use Rattle.chunks.proofs.Totals.{total-most}
 use Rattle.calls.specs.Replies.{Reply, accepted, loaded, waiting, keeps, breaks, refused}
 use Rattle.calls.specs.Calls.{Call, loads, opens, delivers, withdraws, asks, loadNumber, openConditions, deliverConditions, withdrawConditions}
 use Rattle.calls.proofs.Conditions.{none-some, over}
-use Rattle.histories.specs.History.{isNone, isSome, fileOf, ruleIn, openNumber, placesIn, countOf, deliverCheck, withdrawCheck, standing, deliverNumber, withdrawNumber, emptiesIn, summedIn, yesIn, replyBy}
-use Rattle.histories.specs.Claims.{Never-24, Standing-fixed}
+use Rattle.histories.specs.History.{isNone, isSome, fileOf, ruleIn, openNumber, placesIn, runAt, countOf, deliverCheck, withdrawCheck, standing, deliverNumber, withdrawNumber, emptiesIn, summedIn, yesIn, replyBy}
+use Rattle.histories.specs.Claims.{Never-24}
 
 -- ---- what a chunk counts
 chunk-most : (ts : List ℕ) (run : ℕ) (w : List ℕ) → chunkCount ts run w ≤ 32 * length w
@@ -43,43 +44,42 @@ and-right : (t u : Bool) → (t && u) ≡ true → u ≡ true
 and-right true u e = e
 and-right false u e = absurd (let z : _≡_ {A = ℕ} 0 1 = cc in omega arith)
 
-module _ (d : List ℕ) where
-  -- ---- a standing chunk has at most 65,536 bytes
-  kept : (t : Bool) (o : Option (List ℕ)) (w : List ℕ) → cond t none o ≡ some w → o ≡ some w
-  kept true o w e = absurd (let z : _≡_ {A = ℕ} 0 1 = cc in omega arith)
-  kept false o w e = e
+-- ---- a standing chunk has at most 65,536 bytes
+kept : (t : Bool) (o : Option (List ℕ)) (w : List ℕ) → cond t none o ≡ some w → o ≡ some w
+kept true o w e = absurd (let z : _≡_ {A = ℕ} 0 1 = cc in omega arith)
+kept false o w e = e
 
-  delivered-short : (r : Rule) (places : ℕ) (at : ℕ → Option (List ℕ)) (q : ℕ) (v : List ℕ) → deliverCheck r d places at q v ≡ none → length v ≤ 65536
-  delivered-short r places at q v e =
-      let x =
-      none-law
-      (deliverConditions (eqb places 0) places q v (r .k) (isSome (at q)) (total (λ i. countOf r d i (at i)) places + countOf r d q (some v))) .0
-      e in
-      ltb-false 65536 (length v) (x .1 .1 .0)
+delivered-short : (r : Rule) (places : ℕ) (at : ℕ → Option (List ℕ)) (q : ℕ) (v : List ℕ) → deliverCheck r places at q v ≡ none → length v ≤ 65536
+delivered-short r places at q v e =
+    let x =
+    none-law
+    (deliverConditions (eqb places 0) places q v (r .k) (isSome (at q)) (total (λ i. countOf r i (at i)) places + countOf r q (some v))) .0
+    e in
+    ltb-false 65536 (length v) (x .1 .1 .0)
 
-  pub standing-short : (h : List Call) (p : ℕ) (w : List ℕ) → standing d h p ≡ some w → length w ≤ 65536
-  unfolding standing
-  standing-short [] p w e = absurd (let z : _≡_ {A = ℕ} 0 1 = cc in omega arith)
-  standing-short (loads f ∷ h) p w e = standing-short h p w (kept (isNone (loadNumber f)) (standing d h p) w e)
-  standing-short (opens n ∷ h) p w e = standing-short h p w (kept (isNone (openNumber h n)) (standing d h p) w e)
-  standing-short (delivers q v ∷ h) p w e =
-      by-test (eqb q p && isNone (deliverCheck (ruleIn h) d (placesIn h) (standing d h) q v))
-      (λ t.
-      let same : some v ≡ some w = rw t at e in
-      let is : v ≡ w = cc in
-      rw (sym is)
-      (delivered-short (ruleIn h) (placesIn h) (standing d h) q v
-      (is-none (deliverCheck (ruleIn h) d (placesIn h) (standing d h) q v)
-      (and-right (eqb q p) (isNone (deliverCheck (ruleIn h) d (placesIn h) (standing d h) q v)) t))))
-      (λ t. standing-short h p w (rw t at e))
-  standing-short (withdraws q ∷ h) p w e =
-      standing-short h p w (kept (eqb q p && isNone (withdrawCheck (placesIn h) (standing d h) q)) (standing d h p) w e)
-  standing-short (asks ∷ h) p w e = standing-short h p w e
+pub standing-short : (h : List Call) (p : ℕ) (w : List ℕ) → standing h p ≡ some w → length w ≤ 65536
+unfolding standing
+standing-short [] p w e = absurd (let z : _≡_ {A = ℕ} 0 1 = cc in omega arith)
+standing-short (loads f ∷ h) p w e = standing-short h p w (kept (isNone (loadNumber f)) (standing h p) w e)
+standing-short (opens n ∷ h) p w e = standing-short h p w (kept (isNone (openNumber h n)) (standing h p) w e)
+standing-short (delivers q v ∷ h) p w e =
+    by-test (eqb q p && isNone (deliverCheck (ruleIn h) (placesIn h) (standing h) q v))
+    (λ t.
+    let same : some v ≡ some w = rw t at e in
+    let is : v ≡ w = cc in
+    rw (sym is)
+    (delivered-short (ruleIn h) (placesIn h) (standing h) q v
+    (is-none (deliverCheck (ruleIn h) (placesIn h) (standing h) q v)
+    (and-right (eqb q p) (isNone (deliverCheck (ruleIn h) (placesIn h) (standing h) q v)) t))))
+    (λ t. standing-short h p w (rw t at e))
+standing-short (withdraws q ∷ h) p w e =
+    standing-short h p w (kept (eqb q p && isNone (withdrawCheck (placesIn h) (standing h) q)) (standing h p) w e)
+standing-short (asks ∷ h) p w e = standing-short h p w e
 
-  counted-few : (r : Rule) (p : ℕ) (o : Option (List ℕ)) → ((w : List ℕ) → o ≡ some w → length w ≤ 65536) → countOf r d p o ≤ 2097152
-  counted-few r p none short = omega arith
-  counted-few r p (some w) short =
-      omega (arith, chunk-most (r .targets) (runSet d (r .n) (r .initials) p) w, short w refl)
+counted-few : (r : Rule) (p : ℕ) (o : Option (List ℕ)) → ((w : List ℕ) → o ≡ some w → length w ≤ 65536) → countOf r p o ≤ 2097152
+counted-few r p none short = omega arith
+counted-few r p (some w) short =
+    omega (arith, chunk-most (r .targets) (runAt r p) w, short w refl)
 
 -- ---- a board has at most 64 places
 places-few : (h : List Call) → placesIn h ≤ 64
@@ -96,21 +96,21 @@ places-few (delivers p w ∷ h) = places-few h
 places-few (withdraws p ∷ h) = places-few h
 places-few (asks ∷ h) = places-few h
 
-module _ (d : List ℕ) (h : List Call) where
-  pub summed-few : summedIn d h ≤ 134217728
+module _ (h : List Call) where
+  pub summed-few : summedIn h ≤ 134217728
   summed-few =
       omega (
         arith,
         places-few h,
-        total-most (λ p. countOf (ruleIn h) d p (standing d h p)) 2097152 (placesIn h)
-            (λ p _. counted-few d (ruleIn h) p (standing d h p) (standing-short d h p)),
+        total-most (λ p. countOf (ruleIn h) p (standing h p)) 2097152 (placesIn h)
+            (λ p _. counted-few (ruleIn h) p (standing h p) (standing-short h p)),
       )
 
   -- the sixth condition of a delivery fails where the third does
-  fits-32 : (p : ℕ) (w : List ℕ) → length w ≤ 65536 → ltb 4294967295 (summedIn d h + countOf (ruleIn h) d p (some w)) ≡ false
+  fits-32 : (p : ℕ) (w : List ℕ) → length w ≤ 65536 → ltb 4294967295 (summedIn h + countOf (ruleIn h) p (some w)) ≡ false
   fits-32 p w short =
-      le-ltb 4294967295 (summedIn d h + countOf (ruleIn h) d p (some w))
-      (omega (arith, summed-few, counted-few d (ruleIn h) p (some w) (λ v e. let is : w ≡ v = cc in subst (λ (x : List ℕ). length x ≤ 65536) is short)))
+      le-ltb 4294967295 (summedIn h + countOf (ruleIn h) p (some w))
+      (omega (arith, summed-few, counted-few (ruleIn h) p (some w) (λ v e. let is : w ≡ v = cc in subst (λ (x : List ℕ). length x ≤ 65536) is short)))
 
 -- ---- numbers that no condition has
 named : ℕ → List Condition → Bool
@@ -134,16 +134,16 @@ replied : (o : Option ℕ) (a : Reply) → (a ≡ refused 24 → ⊥) → replyB
 replied none a other e = absurd (other e)
 replied (some x) a other e = let same : x ≡ 24 = cc in ap some same
 
-never-delivered : (d : List ℕ) (h : List Call) (p : ℕ) (w : List ℕ) → deliverNumber d h p w ≡ some 24 → ⊥
-never-delivered d h p w e =
-    let sum = summedIn d h + countOf (ruleIn h) d p (some w) in
+never-delivered : (h : List Call) (p : ℕ) (w : List ℕ) → deliverNumber h p w ≡ some 24 → ⊥
+never-delivered h p w e =
+    let sum = summedIn h + countOf (ruleIn h) p (some w) in
     let a = past 21 24 (eqb (placesIn h) 0) _ refl e in
     let b = past 11 24 (leb (placesIn h) p) _ refl (a .1) in
     let c = past 12 24 (ltb 65536 (length w)) _ refl (b .1) in
     let f = past 13 24 (foreign w (ruleIn h .k)) _ refl (c .1) in
-    let g = past 22 24 (isSome (standing d h p)) (cond (ltb 4294967295 sum) (some 24) none) refl (f .1) in
+    let g = past 22 24 (isSome (standing h p)) (cond (ltb 4294967295 sum) (some 24) none) refl (f .1) in
     none-some (cond (ltb 4294967295 sum) (some 24) none)
-    (ap (λ (t : Bool). cond t (some 24) none) (fits-32 d h p w (ltb-false 65536 (length w) (c .0))))
+    (ap (λ (t : Bool). cond t (some 24) none) (fits-32 h p w (ltb-false 65536 (length w) (c .0))))
     (g .1)
 
 never-verdict : (no-board none-empty is-yes : Bool) (empties sum : ℕ)
@@ -161,41 +161,14 @@ not-loaded sets m e = let z : _≡_ {A = ℕ} 0 1 = cc in omega arith
 
 pub never-24 : Never-24
 unfolding loadNumber named
-never-24 d m h (loads f) e =
+never-24 h (loads f) e =
     not-named 24 (fileConditions f ++ (on 9 (over f) ∷ []))
     refl
-    (replied (loadNumber f) (loaded (length (setsOf (ruleOf f .targets) (ruleOf f .n) (ruleOf f .k))) m) (not-loaded _ _) e)
-never-24 d m h (opens n) e = not-named 24 (openConditions (isNone (fileOf h)) n) refl (replied (openNumber h n) accepted not-accepted e)
-never-24 d m h (delivers p w) e = never-delivered d h p w (replied (deliverNumber d h p w) accepted not-accepted e)
-never-24 d m h (withdraws p) e =
-    not-named 24 (withdrawConditions (eqb (placesIn h) 0) (placesIn h) p (isNone (standing d h p))) refl
-    (replied (withdrawNumber d h p) accepted not-accepted e)
-never-24 d m h asks e =
-    never-verdict (eqb (placesIn h) 0) (eqb (emptiesIn d h) 0) (yesIn d h) (emptiesIn d h) (summedIn d h) e
-
--- ---- what stands does not depend on the delegates
-module _ (d e : List ℕ) where
-  same-check : (h : List Call) → ((p : ℕ) → standing d h p ≡ standing e h p) → (q : ℕ) (w : List ℕ)
-      → isNone (deliverNumber d h q w) ≡ isNone (deliverNumber e h q w)
-  same-check h same q w =
-      by-test (ltb 65536 (length w))
-      (λ long. rw long)
-      (λ short.
-      let few = ltb-false 65536 (length w) short in
-      rw (same q, fits-32 d h q w few, fits-32 e h q w few))
-
-  standing-same : (h : List Call) (p : ℕ) → standing d h p ≡ standing e h p
-  unfolding standing
-  standing-same [] p = refl
-  standing-same (loads f ∷ h) p = ap (cond (isNone (loadNumber f)) none) (standing-same h p)
-  standing-same (opens n ∷ h) p = ap (cond (isNone (openNumber h n)) none) (standing-same h p)
-  standing-same (delivers q w ∷ h) p =
-      ap₂ (λ (t : Bool) (o : Option (List ℕ)). cond (eqb q p && t) (some w) o) (same-check h (standing-same h) q w) (standing-same h p)
-  standing-same (withdraws q ∷ h) p =
-      ap₂ (λ (at : ℕ → Option (List ℕ)) (o : Option (List ℕ)). cond (eqb q p && isNone (withdrawCheck (placesIn h) at q)) none o)
-      (fun-ext (standing-same h))
-      (standing-same h p)
-  standing-same (asks ∷ h) p = standing-same h p
-
-pub standing-fixed : Standing-fixed
-standing-fixed = standing-same
+    (replied (loadNumber f) (loaded (length (setsOf (ruleOf f .targets) (ruleOf f .n) (ruleOf f .k))) (startsIn (ruleOf f) .count)) (not-loaded _ _) e)
+never-24 h (opens n) e = not-named 24 (openConditions (isNone (fileOf h)) n) refl (replied (openNumber h n) accepted not-accepted e)
+never-24 h (delivers p w) e = never-delivered h p w (replied (deliverNumber h p w) accepted not-accepted e)
+never-24 h (withdraws p) e =
+    not-named 24 (withdrawConditions (eqb (placesIn h) 0) (placesIn h) p (isNone (standing h p))) refl
+    (replied (withdrawNumber h p) accepted not-accepted e)
+never-24 h asks e =
+    never-verdict (eqb (placesIn h) 0) (eqb (emptiesIn h) 0) (yesIn h) (emptiesIn h) (summedIn h) e

@@ -13,6 +13,7 @@ use Rattle.ruleformat.specs.Conditions.{on, firstOf, outside}
 use Rattle.automaton.specs.declared.Rule.{Rule}
 use Rattle.ruleformat.specs.Reader.{ruleOf}
 use Rattle.delegates.specs.Alike.{Text}
+use Rattle.build.specs.declared.Built.{Built}
 use Rattle.chunks.specs.Chunks.{foreign, total}
 use Rattle.chunks.proofs.Claims as chunks
 use Rattle.board.specs.Boards.{placesOf, isEmpty, summedCount}
@@ -43,7 +44,7 @@ not-none (some x) = refl
 rule-there : (file : Option (List ℕ)) (j : Judge) → BuiltBy file j → lacksRule j ≡ isNone file
 rule-there none j e = ap (λ b. eqb (b .n) 0) e
 rule-there (some f) j e =
-    ne-eqb (j .built .n) 0 (λ z. absurd (omega (arith, z, n-same (ruleOf f) (e .1) (e .2) (j .built) (e .0), e .1 .states)))
+    ne-eqb (j .built .n) 0 (λ z. absurd (omega (arith, z, ap (λ (b : Built). b .n) (e .0), n-same (ruleOf f) (e .1) (e .2), e .1 .states)))
 
 module _ (file : Option (List ℕ)) (places : ℕ) (at : ℕ → Option (List ℕ)) (j : Judge) (holds : Holds file places at j) where
   pub no-rule : lacksRule j ≡ isNone file
@@ -55,10 +56,10 @@ module _ (file : Option (List ℕ)) (places : ℕ) (at : ℕ → Option (List �
   pub places-same : placesOf (j .board) ≡ places
   places-same = ap (λ (x : ℕ). min x 64) (holds .places-are) ∙ omega (arith, holds .few)
 
-  pub summed-same : summedCount (j .board) ≡ total (λ i. countOf (ruleFrom file) (j .built .delegates) i (at i)) places
+  pub summed-same : summedCount (j .board) ≡ total (λ i. countOf (ruleFrom file) i (at i)) places
   summed-same =
-      summed-law (j .board) (λ i. countOf (ruleFrom file) (j .built .delegates) i (at i)) (λ p l. holds .counts p (omega (arith, l)))
-      ∙ ap (total (λ i. countOf (ruleFrom file) (j .built .delegates) i (at i))) places-same
+      summed-law (j .board) (λ i. countOf (ruleFrom file) i (at i)) (λ p l. holds .counts p (omega (arith, l)))
+      ∙ ap (total (λ i. countOf (ruleFrom file) i (at i))) places-same
 
   pub open-number : (n : ℕ)
       → firstOf (openConditions (lacksRule j) n) ≡ firstOf (openConditions (isNone file) n)
@@ -94,9 +95,9 @@ module _ (j : Judge) (p : ℕ) (w : List ℕ) where
   state-11 = cond (leb (placesOf (j .board)) p) (some 11) state-12
 
 -- and read off the list
-module _ (r : Rule) (d : List ℕ) (places : ℕ) (at : ℕ → Option (List ℕ)) (p : ℕ) (w : List ℕ) where
+module _ (r : Rule) (places : ℕ) (at : ℕ → Option (List ℕ)) (p : ℕ) (w : List ℕ) where
   abbrev pub list-24 : Option ℕ
-  list-24 = cond (ltb 4294967295 (total (λ i. countOf r d i (at i)) places + countOf r d p (some w))) (some 24) none
+  list-24 = cond (ltb 4294967295 (total (λ i. countOf r i (at i)) places + countOf r p (some w))) (some 24) none
 
   abbrev pub list-22 : Option ℕ
   list-22 = cond (isSome (at p)) (some 22) list-24
@@ -112,36 +113,36 @@ module _ (r : Rule) (d : List ℕ) (places : ℕ) (at : ℕ → Option (List ℕ
 
 -- where the rule is there and the place is one of the board's
 module _ (f : List ℕ) (places : ℕ) (at : ℕ → Option (List ℕ)) (j : Judge) (holds : Holds (some f) places at j) (p : ℕ) (h : p < places) (w : List ℕ) where
-  from-24 : Text (ruleOf f .k) w → state-24 j p w ≡ list-24 (ruleOf f) (j .built .delegates) places at p w
+  from-24 : Text (ruleOf f .k) w → state-24 j p w ≡ list-24 (ruleOf f) places at p w
   from-24 text =
       ap (λ (x : ℕ). cond (ltb 4294967295 x) (some 24) none)
       (ap₂ (λ (x y : ℕ). x + y) (summed-same (some f) places at j holds) (run-count f places at j holds p h w text))
 
-  from-13 : state-13 j p w ≡ list-13 (ruleOf f) (j .built .delegates) places at p w
+  from-13 : state-13 j p w ≡ list-13 (ruleOf f) places at p w
   from-13 =
-      same-test 13 (foreign w (j .built .k)) (foreign w (ruleOf f .k)) (state-22 j p w) (list-22 (ruleOf f) (j .built .delegates) places at p w)
-      (ap (foreign w) (k-same (ruleOf f) (holds .rule .1) (holds .rule .2) (j .built) (holds .rule .0)))
+      same-test 13 (foreign w (j .built .k)) (foreign w (ruleOf f .k)) (state-22 j p w) (list-22 (ruleOf f) places at p w)
+      (ap (foreign w) (ap (λ (b : Built). b .k) (holds .rule .0) ∙ k-same (ruleOf f) (holds .rule .1) (holds .rule .2)))
       (λ fine.
-      same-test 22 (not (isEmpty (j .board) p)) (isSome (at p)) (state-24 j p w) (list-24 (ruleOf f) (j .built .delegates) places at p w)
+      same-test 22 (not (isEmpty (j .board) p)) (isSome (at p)) (state-24 j p w) (list-24 (ruleOf f) places at p w)
       (ap not (holds .empty p (omega (arith, h, holds .few))) ∙ not-none (at p))
       (λ _. from-24 (chunks.claims .text-law w (ruleOf f .k) .0 fine)))
 
-  from-12 : state-12 j p w ≡ list-12 (ruleOf f) (j .built .delegates) places at p w
+  from-12 : state-12 j p w ≡ list-12 (ruleOf f) places at p w
   from-12 = ap (cond (ltb 65536 (length w)) (some 12)) from-13
 
 module _ (places : ℕ) (at : ℕ → Option (List ℕ)) (j : Judge) (p : ℕ) (w : List ℕ) where
   -- a board is there only with a rule
   by-rule : (file : Option (List ℕ)) → Holds file places at j → p < places
-      → state-12 j p w ≡ list-12 (ruleFrom file) (j .built .delegates) places at p w
+      → state-12 j p w ≡ list-12 (ruleFrom file) places at p w
   by-rule none holds h = absurd (let e : true ≡ false = holds .ruled (omega (arith, h)) in let z : _≡_ {A = ℕ} 0 1 = cc in omega arith)
   by-rule (some f) holds h = from-12 f places at j holds p h w
 
   pub deliver-number : (file : Option (List ℕ)) → Holds file places at j
-      → cond (lacksBoard j) (some 21) (state-11 j p w) ≡ deliverCheck (ruleFrom file) (j .built .delegates) places at p w
+      → cond (lacksBoard j) (some 21) (state-11 j p w) ≡ deliverCheck (ruleFrom file) places at p w
   deliver-number file holds =
-      same-test 21 (lacksBoard j) (eqb places 0) (state-11 j p w) (list-11 (ruleFrom file) (j .built .delegates) places at p w)
+      same-test 21 (lacksBoard j) (eqb places 0) (state-11 j p w) (list-11 (ruleFrom file) places at p w)
       (no-board file places at j holds)
       (λ _.
-      same-test 11 (leb (placesOf (j .board)) p) (leb places p) (state-12 j p w) (list-12 (ruleFrom file) (j .built .delegates) places at p w)
+      same-test 11 (leb (placesOf (j .board)) p) (leb places p) (state-12 j p w) (list-12 (ruleFrom file) places at p w)
       (ap (λ (x : ℕ). leb x p) (places-same file places at j holds))
       (λ l. by-rule file holds (leb-false places p l)))

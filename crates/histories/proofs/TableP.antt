@@ -1,140 +1,159 @@
 -- Table P of document 01, proved as specs/TableP.antt claims it. Assumes nothing.
 --
--- The claim over every list of calls says that each reply is document 01's for some list of delegates of the rule. Rules A and B have one such
--- list only, so the replies to the calls of a case are those of the definitions for that list, and the definitions compute. That the calls run is
--- proofs/Inhabited.antt.
-use mathlib.Core.Path.{_≡_, refl, ap₂, _∙_, subst}
-use mathlib.Core.List.{List, [], _∷_}
-use mathlib.Core.Option.{Option, some}
-use Prim.Native.Nat.{ℕ, suc}
-use lib.ListN.{length}
+-- The claim over every list of calls says that the replies are document 01's answers, and those compute once the delegates of rules A and B are
+-- put in.
+use mathlib.Core.Path.{_≡_, refl, sym, ap, ap₂, _∙_, subst, subst₃, fun-ext}
+use mathlib.Core.Bool.{Bool, false, cond}
+use mathlib.Core.List.{List, [], _∷_, _++_}
+use mathlib.Core.Option.{Option, none, some}
+use Prim.Native.Nat.{ℕ, zero, suc, _+_, _/_, _%_}
+use lib.Dec.{eqb}
+use lib.ListN.{length, replicate}
 use Rattle.masks.specs.Masks.{union}
 use Rattle.masks.specs.Lists.{listFrom}
-use Rattle.ruleformat.specs.Conditions.{anyBelow}
+use Rattle.automaton.specs.declared.Rule.{Rule}
+use Rattle.ruleformat.specs.Conditions.{anyBelow, firstOf, outside}
 use Rattle.ruleformat.specs.Refusals.{tooShort, tooLong, badStates, badSymbols, noRoom, badMask, badPairs, badSection, badArcs, refusal}
 use Rattle.ruleformat.specs.Reader.{targetsUpTo, ruleOf}
 use Rattle.subsets.specs.Sets.{numberIn, numbered, expandFrom, closeFrom, setsUpTo, setsOf, tooMany, nextSet}
-use Rattle.build.specs.declared.Built.{Built}
-use Rattle.build.specs.Building.{BuiltRule}
-use Rattle.chunks.specs.Chunks.{foreign, counted, startSet, total}
-use Rattle.joins.specs.Joining.{joinUpTo}
-use Rattle.calls.specs.declared.Judge.{Judge}
-use Rattle.calls.specs.Replies.{Reply, refused}
-use Rattle.histories.specs.History.{fileOf, placesIn, standing, answerOf}
-use Rattle.calls.specs.Calls.{Call, loads, opens, delivers, withdraws, asks, loadNumber}
-use Rattle.histories.specs.Claims.{BuiltBy, DelegatesBy, DelegatesIn, Right, AllRight, EveryList}
-use Rattle.histories.specs.TableP.{Result, sets, delegates, verdict, turned-down, Case, case, delivering, callsFor, callsOf, repliesFor, rowsFrom, Shows, Holds, Each, Case-holds, table, TableP}
+use Rattle.delegates.specs.declared.Starts.{Starts}
+use Rattle.delegates.specs.Claims.{startsIn}
+use Rattle.build.specs.Building.{builtOf}
+use Rattle.chunks.specs.Chunks.{foreign, counted, startSet, runSet, endSet, total, chunkCount}
+use Rattle.joins.specs.Joining.{joinUpTo, saysYes}
+use Rattle.histories.specs.History.{isNone, isSome, fileOf, ruleFrom, openNumber, placesIn, deliverCheck, standing, deliverNumber, verdictIn, answersTo}
+use Rattle.calls.specs.Replies.{Reply, accepted, loaded, waiting, keeps, breaks, refused}
+use Rattle.calls.specs.Calls.{Call, loads, opens, delivers, loadNumber, deliverConditions}
+use Rattle.histories.specs.Claims.{judgeAfter, BuiltBy}
+use Rattle.histories.specs.TableP.{Result, sets, delegates, verdict, turned-down, Case, case, delivering, callsFor, callsOf, repliesOf, rowsFrom, Shows, Each, Case-holds, table, TableP}
+use Rattle.histories.proofs.Listed.{and-true}
 use Rattle.histories.proofs.Every.{every-list}
-use Rattle.histories.proofs.Inhabited.{every-list-ran}
-use Rattle.histories.proofs.TwoRules.{listed, Known, known-A, known-B}
+use Rattle.histories.proofs.TwoRules.{listed, starts-A, starts-B}
 
--- document 01's answers to a list of calls, for the delegates d and M
-answers : List ℕ → ℕ → List Call → List Reply
-answers d m [] = []
-answers d m (c ∷ h) = answerOf d m h c ∷ answers d m h
+-- ---- the definitions with the delegates d put in
+module _ (r : Rule) (d : List ℕ) (places : ℕ) (at : ℕ → Option (List ℕ)) where
+  abbrev countBy : ℕ → Option (List ℕ) → ℕ
+  countBy p none = 0
+  countBy p (some w) = chunkCount (r .targets) (runSet d (r .n) (r .initials) p) w
 
-module _ (f d : List ℕ) (m : ℕ) (known : Known f d m) where
-  -- the calls are about the rule of f only
-  abbrev About : List Call → Call → Type 0
-  About h (loads g) = g ≡ f
-  About h (opens n) = fileOf h ≡ some f
-  About h (delivers p w) = fileOf h ≡ some f
-  About h (withdraws p) = fileOf h ≡ some f
-  About h asks = fileOf h ≡ some f
+  abbrev endBy : ℕ → ℕ → Option (List ℕ) → ℕ
+  endBy p q none = 0
+  endBy p q (some w) = endSet (r .targets) (runSet d (r .n) (r .initials) p) w q
 
-  abbrev AllAbout : List Call → Type 0
-  AllAbout [] = Unit {0}
-  AllAbout (c ∷ h) = About h c × AllAbout h
+  abbrev checkBy : ℕ → List ℕ → Option ℕ
+  checkBy p w =
+      firstOf
+      (deliverConditions (eqb places 0) places p w (r .k) (isSome (at p)) (total (λ i. countBy i (at i)) places + countBy p (some w)))
 
-  -- the delegates of the rule that is there are d
-  there : (h : List Call) (c : Call) (a : Reply) → fileOf h ≡ some f
-      → (e : List ℕ) (i : ℕ) → DelegatesIn h e i → a ≡ answerOf e i h c → a ≡ answerOf d m h c
-  there h c a file e i given is =
-      let o = known .only e i (subst (λ (x : Option (List ℕ)). DelegatesBy x e i) file given) in
-      is ∙ ap₂ (λ (x : List ℕ) (y : ℕ). answerOf x y h c) (o .0) (o .1)
+  abbrev verdictBy : Reply
+  verdictBy =
+      let empties = total (λ p. cond (isNone (at p)) 1 0) places in
+      let sum = total (λ p. countBy p (at p)) places in
+      let yes-there = saysYes (listFrom 0 2048 (λ cell. endBy (cell / 32) (cell % 32) (at (cell / 32)))) d (r .n) (r .initials) (r .finals) places in
+      cond (eqb places 0) (refused 21) (cond (eqb empties 0) (cond yes-there (keeps sum) (breaks sum)) (waiting empties))
 
-  right-is : (h : List Call) (c : Call) (a : Reply) → About h c → Right h c a → a ≡ answerOf d m h c
-  right-is h (loads g) a e r =
-      let o = known .only (r .0) (r .1) (rw e at (r .2 (rw e (known .taken)))) in
-      r .3 ∙ ap₂ (λ (x : List ℕ) (y : ℕ). answerOf x y h (loads g)) (o .0) (o .1)
-  right-is h (opens n) a e r = there h (opens n) a e (r .0) (r .1) (r .2) (r .3)
-  right-is h (delivers p w) a e r = there h (delivers p w) a e (r .0) (r .1) (r .2) (r .3)
-  right-is h (withdraws p) a e r = there h (withdraws p) a e (r .0) (r .1) (r .2) (r .3)
-  right-is h asks a e r = there h asks a e (r .0) (r .1) (r .2) (r .3)
+-- ---- the calls of a verdict, one by one: the rule is that of f, and the board has these places and standing chunks
+record Stage (f : List ℕ) (h : List Call) (places : ℕ) (at : ℕ → Option (List ℕ)) : Type 0 where
+  file : fileOf h ≡ some f
+  board : placesIn h ≡ places
+  stands : standing h ≡ at
 
-  all-are : (h : List Call) (given : List Reply) → AllAbout h → AllRight h given → given ≡ answers d m h
-  unfolding answers
-  all-are [] [] t r = refl
-  all-are [] (a ∷ given) t r = absurd r
-  all-are (c ∷ h) [] t r = absurd r
-  all-are (c ∷ h) (a ∷ given) t r = ap₂ _∷_ (right-is h c a (t .0) (r .0)) (all-are h given (t .1) (r .1))
+abbrev put : (ℕ → Option (List ℕ)) → ℕ → List ℕ → ℕ → Option (List ℕ)
+put at p w i = cond (eqb p i) (some w) (at i)
 
-  -- ---- the calls of a case
-  after-load : fileOf (loads f ∷ []) ≡ some f
-  unfolding fileOf
-  after-load = rw (known .taken)
+abbrev putAll : ℕ → List (List ℕ) → (ℕ → Option (List ℕ)) → ℕ → Option (List ℕ)
+putAll p [] at = at
+putAll p (w ∷ ws) at = putAll (suc p) ws (put at p w)
 
-  after-deliveries : (p : ℕ) (chunks : List (List ℕ)) (h : List Call) → fileOf h ≡ some f → AllAbout h
-      → (fileOf (delivering p chunks h) ≡ some f) × AllAbout (delivering p chunks h)
-  unfolding fileOf
-  after-deliveries p [] h e t = (e, t)
-  after-deliveries p (w ∷ chunks) h e t = after-deliveries (suc p) chunks (delivers p w ∷ h) e (e, t)
+-- each delivery meets no condition
+abbrev Checked : Rule → List ℕ → ℕ → ℕ → List (List ℕ) → (ℕ → Option (List ℕ)) → Type 0
+Checked r d places p [] at = Unit {0}
+Checked r d places p (w ∷ ws) at = (checkBy r d places at p w ≡ none) × Checked r d places (suc p) ws (put at p w)
 
-  about : (r : Result) → (fileOf (callsFor f r) ≡ some f) × AllAbout (callsFor f r)
-  unfolding fileOf
-  about (sets masks rows) = (after-load, (refl, tt))
-  about (delegates ds) = (after-load, (refl, tt))
-  about (verdict chunks reply) =
-      let t = after-deliveries 0 chunks (opens (length chunks) ∷ loads f ∷ []) after-load (after-load, (refl, tt)) in
-      (t .0, t)
-  about turned-down = (after-load, (refl, tt))
+opened : (f : List ℕ) (n : ℕ) → loadNumber f ≡ none → outside 1 64 n ≡ false → (openNumber (loads f ∷ []) n ≡ none) × Stage f (opens n ∷ loads f ∷ []) n (λ _. none)
+unfolding fileOf placesIn standing
+opened f n taken fine = (rw (taken, fine), record { file = rw taken; board = rw (taken, fine); stands = fun-ext (λ i. rw (taken, fine)) })
 
-  replies-are : (r : Result) (given : List Reply) (j : Judge) → EveryList (callsFor f r) given j → given ≡ answers d m (callsFor f r)
-  replies-are r given j x = all-are (callsFor f r) given (about r .1) (x .all-right)
+module _ (f d : List ℕ) (is : startsIn (ruleOf f) .delegates ≡ d) (places : ℕ) where
+  delivered : (h : List Call) (at : ℕ → Option (List ℕ)) (p : ℕ) (w : List ℕ) → Stage f h places at → checkBy (ruleOf f) d places at p w ≡ none
+      → (deliverNumber h p w ≡ none) × Stage f (delivers p w ∷ h) places (put at p w)
+  unfolding fileOf placesIn standing
+  delivered h at p w s e =
+      let here : deliverCheck (ruleOf f) places at p w ≡ none = subst (λ (x : List ℕ). checkBy (ruleOf f) x places at p w ≡ none) (sym is) e in
+      let there : deliverNumber h p w ≡ none =
+      subst₃ (λ (x : Option (List ℕ)) (y : ℕ) (z : ℕ → Option (List ℕ)). deliverCheck (ruleFrom x) y z p w ≡ none) (sym (s .file)) (sym (s .board)) (sym (s .stands)) here in (
+        there,
+        record {
+          file = s .file;
+          board = s .board;
+          stands = fun-ext (λ i.
+              ap (λ (t : Bool). cond t (some w) (standing h i)) (and-true (eqb p i) (isNone (deliverNumber h p w)) (ap isNone there))
+              ∙ ap (λ (z : ℕ → Option (List ℕ)). put z p w i) (s .stands));
+        },
+      )
 
-  built-is : (r : Result) (given : List Reply) (j : Judge) → EveryList (callsFor f r) given j → BuiltRule (ruleOf f) (j .built)
-  built-is r given j x = subst (λ (file : Option (List ℕ)). BuiltBy file j) (about r .0) (x .after .rule) .0
+  all-delivered : (ws : List (List ℕ)) (h : List Call) (at : ℕ → Option (List ℕ)) (p : ℕ) → Stage f h places at → Checked (ruleOf f) d places p ws at
+      → (answersTo (delivering p ws h) ≡ replicate (length ws) accepted ++ answersTo h) × Stage f (delivering p ws h) places (putAll p ws at)
+  unfolding answersTo
+  all-delivered [] h at p s x = (refl, s)
+  all-delivered (w ∷ ws) h at p s x =
+      let one = delivered h at p w s (x .0) in
+      let rest = all-delivered ws (delivers p w ∷ h) (put at p w) (suc p) (one .1) (x .1) in
+      (rest .0 ∙ rw (one .0) (shift (length ws) (answersTo h)), rest .1)
+    where
+      shift : (n : ℕ) (l : List Reply) → replicate n accepted ++ (accepted ∷ l) ≡ accepted ∷ (replicate n accepted ++ l)
+      shift zero l = refl
+      shift (suc n) l = ap (λ (x : List Reply). accepted ∷ x) (shift n l)
 
-  delegates-are : (r : Result) (given : List Reply) (j : Judge) → EveryList (callsFor f r) given j → j .built .delegates ≡ d
-  delegates-are r given j x =
-      known .only (j .built .delegates) (j .built .starts)
-      (subst (λ (file : Option (List ℕ)). DelegatesBy file (j .built .delegates) (j .built .starts)) (about r .0) (x .after .delegates)) .0
+  asked : (h : List Call) (at : ℕ → Option (List ℕ)) → Stage f h places at → verdictIn h ≡ verdictBy (ruleOf f) d places at
+  asked h at s =
+      subst₃ (λ (x : Option (List ℕ)) (y : ℕ) (z : ℕ → Option (List ℕ)). verdictBy (ruleFrom x) (startsIn (ruleFrom x) .delegates) y z ≡ verdictBy (ruleOf f) d places at)
+      (sym (s .file)) (sym (s .board)) (sym (s .stands))
+      (ap (λ (x : List ℕ). verdictBy (ruleOf f) x places at) is)
 
 -- ---- what is left to compute
--- of a file that is accepted: the answers are the replies of the case, and its result shows in the rule built
-abbrev Computed : List ℕ → Reply → Result → Type 0
-Computed f load r =
-    (d : List ℕ) × (m : ℕ) × Known f d m × (answers d m (callsFor f r) ≡ repliesFor load r)
-    × ((b : Built) → BuiltRule (ruleOf f) b → b .delegates ≡ d → Shows r b)
+-- of a case: its answers; of an accepted file, that it is the last, and what shows in the rule built
+abbrev Answers : Case → Type 0
+Answers c = answersTo (callsOf c) ≡ repliesOf c
+
+abbrev Built-so : List ℕ → Result → Type 0
+Built-so f r = (fileOf (callsFor f r) ≡ some f) × Shows r (builtOf (ruleOf f))
+
+-- of a verdict, with the starts x put in
+abbrev Taken : List ℕ → Reply → Starts → List (List ℕ) → Reply → Type 0
+Taken f load x chunks reply =
+    (loadNumber f ≡ none) × (loaded (length (setsOf (ruleOf f .targets) (ruleOf f .n) (ruleOf f .k))) (x .count) ≡ load) × (outside 1 64 (length chunks) ≡ false)
+    × Checked (ruleOf f) (x .delegates) (length chunks) 0 chunks (λ _. none)
+    × (verdictBy (ruleOf f) (x .delegates) (length chunks) (putAll 0 chunks (λ _. none)) ≡ reply)
+
+verdict-answers : (f : List ℕ) (load : Reply) (x : Starts) (chunks : List (List ℕ)) (reply : Reply) → startsIn (ruleOf f) ≡ x → Taken f load x chunks reply
+    → Answers (case f load (verdict chunks reply))
+unfolding answersTo
+verdict-answers f load x chunks reply is t =
+    let o = opened f (length chunks) (t .0) (t .2) in
+    let d = all-delivered f (x .delegates) (ap (λ (s : Starts). s .delegates) is) (length chunks) chunks (opens (length chunks) ∷ loads f ∷ []) (λ _. none) 0 (o .1) (t .3) in
+    let first : answersTo (opens (length chunks) ∷ loads f ∷ []) ≡ accepted ∷ load ∷ [] = rw (o .0, t .0, is, t .1) in
+    ap₂ _∷_
+    (asked f (x .delegates) (ap (λ (s : Starts). s .delegates) is) (length chunks) (delivering 0 chunks (opens (length chunks) ∷ loads f ∷ [])) (putAll 0 chunks (λ _. none)) (d .1) ∙ t .4)
+    (d .0 ∙ ap (λ (l : List Reply). replicate (length chunks) accepted ++ l) first)
 
 abbrev Left : Case → Type 0
-Left (case f load (sets masks rows)) = Computed f load (sets masks rows)
-Left (case f load (delegates ds)) = Computed f load (delegates ds)
-Left (case f load (verdict chunks reply)) = Computed f load (verdict chunks reply)
-Left (case f load turned-down) = (x : ℕ) × (load ≡ refused x) × (loadNumber f ≡ some x)
+Left (case f load (sets masks rows)) = Answers (case f load (sets masks rows)) × Built-so f (sets masks rows)
+Left (case f load (delegates ds)) = Answers (case f load (delegates ds)) × Built-so f (delegates ds)
+Left (case f load (verdict chunks reply)) = (x : Starts) × (startsIn (ruleOf f) ≡ x) × Taken f load x chunks reply
+Left (case f load turned-down) = Answers (case f load turned-down)
 
--- of any replies and any state for which the claim over every list of calls holds
-abbrev By-claim : Case → Type 0
-By-claim c = (given : List Reply) (j : Judge) → EveryList (callsOf c) given j → Holds c given j
+shows : (f : List ℕ) (r : Result) → Built-so f r → Shows r (judgeAfter (callsFor f r) .built)
+shows f r b =
+    let is = subst (λ (file : Option (List ℕ)). BuiltBy file (judgeAfter (callsFor f r))) (b .0) (every-list (callsFor f r) .after .rule) in
+    subst (Shows r) (sym (is .0)) (b .1)
 
-accepted-holds : (f : List ℕ) (load : Reply) (r : Result) → Computed f load r → By-claim (case f load r)
-accepted-holds f load r l given j x = (
-  replies-are f (l .0) (l .1) (l .2) r given j x ∙ l .3,
-  l .4 (j .built) (built-is f (l .0) (l .1) (l .2) r given j x) (delegates-are f (l .0) (l .1) (l .2) r given j x),
-)
-
-refused-holds : (f : List ℕ) (load : Reply) (x : ℕ) → load ≡ refused x → loadNumber f ≡ some x → By-claim (case f load turned-down)
-refused-holds f load x is e [] j y = absurd (y .all-right)
-refused-holds f load x is e (a ∷ []) j y =
-    let told : a ≡ refused x = y .all-right .0 .3 ∙ rw e in
-    (rw (told, is), tt)
-refused-holds f load x is e (a ∷ b ∷ given) j y = absurd (y .all-right .1)
-
-holds : (c : Case) → Left c → By-claim c
-holds (case f load (sets masks rows)) l = accepted-holds f load (sets masks rows) l
-holds (case f load (delegates ds)) l = accepted-holds f load (delegates ds) l
-holds (case f load (verdict chunks reply)) l = accepted-holds f load (verdict chunks reply) l
-holds (case f load turned-down) l = refused-holds f load (l .0) (l .1) (l .2)
+holds : (c : Case) → Left c → Case-holds c
+holds (case f load (sets masks rows)) l = (every-list (loads f ∷ []) .all-right ∙ l .0, shows f (sets masks rows) (l .1))
+holds (case f load (delegates ds)) l = (every-list (loads f ∷ []) .all-right ∙ l .0, shows f (delegates ds) (l .1))
+holds (case f load (verdict chunks reply)) l =
+    (every-list (callsFor f (verdict chunks reply)) .all-right ∙ verdict-answers f load (l .0) chunks reply (l .1) (l .2), tt)
+holds (case f load turned-down) l = (every-list (loads f ∷ []) .all-right ∙ l, tt)
 
 pub each : {P Q : Case → Type 0} → ((c : Case) → P c → Q c) → (cases : List Case) → Each P cases → Each Q cases
 each g [] x = tt
@@ -145,19 +164,24 @@ infixr 20 _&_
 abbrev _&_ : {A B : Type 0} → A → B → A × B
 a & b = (a, b)
 
+abbrev given-A : Starts
+given-A = record { delegates = listed 0 1 2; count = 3 }
+
+abbrev given-B : Starts
+given-B = record { delegates = listed 0 1 1; count = 2 }
+
 computed : Each Left table
-unfolding answers loadNumber refusal tooShort tooLong badStates badSymbols noRoom badMask badPairs badSection badArcs anyBelow targetsUpTo listFrom union numberIn numbered expandFrom closeFrom setsUpTo setsOf tooMany nextSet rowsFrom fileOf placesIn standing foreign counted startSet total joinUpTo
+unfolding answersTo loadNumber refusal tooShort tooLong badStates badSymbols noRoom badMask badPairs badSection badArcs anyBelow targetsUpTo listFrom union numberIn numbered expandFrom closeFrom setsUpTo setsOf tooMany nextSet rowsFrom fileOf placesIn standing foreign counted startSet total joinUpTo
 computed =
-    (listed 0 1 2, 3, known-A, refl, λ b is e. (rw (is .sets-are, is .count-is), rw (is .next-are, is .k-is, is .count-is))) &
-    (listed 0 1 1, 2, known-B, refl, λ b is e. rw (e, is .n-is)) &
-    (listed 0 1 2, 3, known-A, refl, λ b is e. tt) &
-    (listed 0 1 2, 3, known-A, refl, λ b is e. tt) &
-    (listed 0 1 2, 3, known-A, refl, λ b is e. tt) &
-    (listed 0 1 1, 2, known-B, refl, λ b is e. tt) &
-    (listed 0 1 1, 2, known-B, refl, λ b is e. tt) &
-    (listed 0 1 1, 2, known-B, refl, λ b is e. tt) &
-    (listed 0 1 1, 2, known-B, refl, λ b is e. tt) &
-    (6, refl, refl) & tt
+    (rw starts-A, (refl, (refl, refl))) &
+    (rw starts-B, (refl, rw starts-B)) &
+    (given-A, starts-A, (refl, refl, refl, (refl, (refl, tt)), refl)) &
+    (given-A, starts-A, (refl, refl, refl, (refl, (refl, tt)), refl)) &
+    (given-A, starts-A, (refl, refl, refl, (refl, tt), refl)) &
+    (given-B, starts-B, (refl, refl, refl, (refl, (refl, tt)), refl)) &
+    (given-B, starts-B, (refl, refl, refl, (refl, (refl, tt)), refl)) &
+    (given-B, starts-B, (refl, refl, refl, (refl, tt), refl)) &
+    (given-B, starts-B, (refl, refl, refl, (refl, (refl, (refl, tt))), refl)) & refl & tt
 
 pub table-P : TableP
-table-P = each {P = Left} {Q = Case-holds} (λ c l. ((λ given j ran. holds c l given j (every-list ran)), every-list-ran (callsOf c))) table computed
+table-P = each {P = Left} {Q = Case-holds} holds table computed

@@ -56,8 +56,8 @@ inside lo hi x = (
 )
 
 -- ---- the calls
-pub accepted-exactly : (d : List ℕ) (m : ℕ) (h : List Call) → Accepted-exactly d m h
-accepted-exactly d m h = record {
+pub accepted-exactly : (h : List Call) → Accepted-exactly h
+accepted-exactly h = record {
   opening = λ n.
       let law = none-hold (on 20 (isNone (fileOf h)) ∷ on 10 (outside 1 64 n) ∷ []) in (
         (λ e. let x = law .0 e in let b = inside 1 64 n .0 (x .1 .0) in (is-some (fileOf h) .0 (x .0), b .0, b .1)),
@@ -70,16 +70,16 @@ accepted-exactly d m h = record {
       on 11 (leb (placesIn h) p) ∷
       on 12 (ltb 65536 (length w)) ∷
       on 13 (foreign w (ruleIn h .k)) ∷
-      on 22 (isSome (standing d h p)) ∷
-      on 24 (ltb 4294967295 (summedIn d h + countOf (ruleIn h) d p (some w))) ∷ []) in (
+      on 22 (isSome (standing h p)) ∷
+      on 24 (ltb 4294967295 (summedIn h + countOf (ruleIn h) p (some w))) ∷ []) in (
         (λ e.
             let x = law .0 e in (
               some-places (placesIn h) (x .0),
               leb-false (placesIn h) p (x .1 .0),
               ltb-false 65536 (length w) (x .1 .1 .0),
               x .1 .1 .1 .0,
-              is-none (standing d h p) .0 (x .1 .1 .1 .1 .0),
-              ltb-false 4294967295 (summedIn d h + countOf (ruleIn h) d p (some w)) (x .1 .1 .1 .1 .1 .0),
+              is-none (standing h p) .0 (x .1 .1 .1 .1 .0),
+              ltb-false 4294967295 (summedIn h + countOf (ruleIn h) p (some w)) (x .1 .1 .1 .1 .1 .0),
             )),
         λ x.
             law .1 (
@@ -90,17 +90,17 @@ accepted-exactly d m h = record {
                   le-ltb 65536 (length w) (x .2),
                   (
                     x .3,
-                    (is-none (standing d h p) .1 (x .4), (le-ltb 4294967295 (summedIn d h + countOf (ruleIn h) d p (some w)) (x .5), tt)),
+                    (is-none (standing h p) .1 (x .4), (le-ltb 4294967295 (summedIn h + countOf (ruleIn h) p (some w)) (x .5), tt)),
                   ),
                 ),
               ),
             ),
       );
   withdrawal = λ p.
-      let law = none-hold (on 21 (eqb (placesIn h) 0) ∷ on 11 (leb (placesIn h) p) ∷ on 23 (isNone (standing d h p)) ∷ []) in (
+      let law = none-hold (on 21 (eqb (placesIn h) 0) ∷ on 11 (leb (placesIn h) p) ∷ on 23 (isNone (standing h p)) ∷ []) in (
         (λ e.
             let x = law .0 e in
-            (some-places (placesIn h) (x .0), leb-false (placesIn h) p (x .1 .0), is-some (standing d h p) .0 (x .1 .1 .0))),
-        λ x. law .1 (places-some (placesIn h) (x .0), (lt-leb (placesIn h) p (x .1), (is-some (standing d h p) .1 (x .2), tt))),
+            (some-places (placesIn h) (x .0), leb-false (placesIn h) p (x .1 .0), is-some (standing h p) .0 (x .1 .1 .0))),
+        λ x. law .1 (places-some (placesIn h) (x .0), (lt-leb (placesIn h) p (x .1), (is-some (standing h p) .1 (x .2), tt))),
       );
 }

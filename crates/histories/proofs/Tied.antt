@@ -1,7 +1,7 @@
 -- EVERY LIST OF CALLS, about the code that runs. `Allowed h given j` says that the calls h (the last first) were answered with the replies given and
 -- left the judge j: it begins with what `new_judge` promises, and each step is any result that the function's own contract allows, as the checker
--- reads it (`Reads.Learnt`). Every such list ran as the definitions say (`tied`), so the theorem, `after-any-list`, is over every one. Assumes nothing.
-use mathlib.Core.Path.{_≡_, sym, ap, _∙_, subst}
+-- reads it (`Reads.Learnt`). Every such reply and judge is the one that the definitions compute (`tied`), so the theorem, `after-any-list`, is over every one. Assumes nothing.
+use mathlib.Core.Path.{_≡_, refl, ap, _∙_}
 use mathlib.Core.List.{List, [], _∷_}
 use Prim.Native.Nat.{ℕ}
 use contract.Lifetimes.{Lfts}
@@ -16,8 +16,8 @@ use Rattle.calls.specs.declared.Withdrawal.{Withdrawal}
 use Rattle.calls.specs.declared.Verdict.{Verdict}
 use Rattle.calls.specs.Replies.{Reply, loadSays, openSays, deliverSays, withdrawSays, verdictSays}
 use Rattle.calls.specs.Calls.{Call, loads, opens, delivers, withdraws, asks}
-use Rattle.calls.specs.Steps.{loadCame, openCame, deliverCame, withdrawCame, Loads, deliverOf}
-use Rattle.histories.specs.Claims.{Ran, begins, next, EveryList}
+use Rattle.calls.specs.Steps.{loadCame, openCame, deliverCame, withdrawCame, loadOf, deliverOf, Outcome, fresh, stepOf}
+use Rattle.histories.specs.Claims.{judgeAfter, repliesTo, EveryList}
 use Rattle.histories.proofs.Every.{every-list}
 use Rattle.judge.proofs.new_judge.Reads as new-reads
 use Rattle.judge.proofs.new_judge.Kinds as new-kinds
@@ -68,21 +68,28 @@ pub data Allowed : List Call → List Reply → Judge → Type 0 where
   asked : {h : List Call} {given : List Reply} {j : Judge} (v : Verdict) → Allowed h given j → MayJudge j v → Allowed (asks ∷ h) (verdictSays v ∷ given) j
 
 -- ---- it is what the definitions say
-loads-is : (j : Judge) (f : List ℕ) (r : Loading) → MayLoad j f r → Loads j f (loadCame r)
-loads-is j f r m = subst (λ (x : List ℕ). Loads j x (loadCame r)) (m .3) (m .4)
+pub Is : List Call → List Reply → Judge → Type 0
+Is h given j = (given ≡ repliesTo h) × (j ≡ judgeAfter h)
 
-delivers-is : (j : Judge) (p : ℕ) (w : List ℕ) (r : Delivery) → MayDeliver j p w r → deliverCame r ≡ deliverOf j p w
-delivers-is j p w r m = m .4 ∙ ap (deliverOf j p) (m .3)
+nothing-is : {j : Judge} → j ≡ fresh → Is [] [] j
+unfolding Is repliesTo judgeAfter
+nothing-is e = (refl, e)
 
-pub tied : {h : List Call} {given : List Reply} {j : Judge} → Allowed h given j → Ran h given j
-tied (start s) = subst (Ran [] []) (sym (s .1)) begins
-tied (loaded {h} {given} {j} {f} r q m) = next {c = loads f} {o = loadCame r} (tied q) (loads-is j f r m)
-tied (opened {h} {given} {j} {n} r q m) = next {c = opens n} {o = openCame r} (tied q) (m .1)
-tied (delivered {h} {given} {j} {p} {w} r q m) = next {c = delivers p w} {o = deliverCame r} (tied q) (delivers-is j p w r m)
-tied (withdrawn {h} {given} {j} {p} r q m) = next {c = withdraws p} {o = withdrawCame r} (tied q) (m .1)
+-- one call more
+then-is : (h : List Call) (given : List Reply) (j : Judge) (c : Call) (o : Outcome) → Is h given j → o ≡ stepOf j c → Is (c ∷ h) (o .says ∷ given) (o .leaves)
+unfolding Is repliesTo judgeAfter
+then-is h given j c o before e = rw (e, before .0, before .1) (refl, refl)
+
+pub tied : {h : List Call} {given : List Reply} {j : Judge} → Allowed h given j → Is h given j
+tied (start s) = nothing-is (s .1)
+tied (loaded {h} {given} {j} {f} r q m) = then-is h given j (loads f) (loadCame r) (tied q) (m .4 ∙ ap (loadOf j) (m .3))
+tied (opened {h} {given} {j} {n} r q m) = then-is h given j (opens n) (openCame r) (tied q) (m .1)
+tied (delivered {h} {given} {j} {p} {w} r q m) = then-is h given j (delivers p w) (deliverCame r) (tied q) (m .4 ∙ ap (deliverOf j p) (m .3))
+tied (withdrawn {h} {given} {j} {p} r q m) = then-is h given j (withdraws p) (withdrawCame r) (tied q) (m .1)
 tied (asked {h} {given} {j} v q m) =
-    next {c = asks} {o = record { says = verdictSays v; leaves = j }} (tied q) (ap (λ (a : Reply). record { says = a; leaves = j }) (m .1))
+    then-is h given j asks (record { says = verdictSays v; leaves = j }) (tied q) (ap (λ (a : Reply). record { says = a; leaves = j }) (m .1))
 
--- ---- the theorem
-pub after-any-list : {h : List Call} {given : List Reply} {j : Judge} → Allowed h given j → EveryList h given j
-after-any-list q = every-list (tied q)
+-- ---- the theorem: the replies and the judge are the functions of the list, of which `EveryList` holds
+pub after-any-list : {h : List Call} {given : List Reply} {j : Judge} → Allowed h given j → (given ≡ repliesTo h) × (j ≡ judgeAfter h) × EveryList h
+unfolding Is
+after-any-list {h} q = let t = tied q in (t .0, t .1, every-list h)

@@ -1,9 +1,7 @@
--- Rules A and B of document 01, from their bytes: both are accepted, what sets they have, and that no list but 0 1 2 and 0 1 1 lists their
--- delegates. States are told apart by a text over which the one has an accepting run and the other none. Assumes nothing.
-use mathlib.Core.Path.{_≡_, refl, sym, ap, _∙_}
+-- Rules A and B of document 01, from their bytes: what sets they have, and that their delegates are 0 1 2 and 0 1 1. States are told apart by a text over which the one has an accepting run and the other none. Assumes nothing.
+use mathlib.Core.Path.{_≡_, refl, sym, ap, ap₂, _∙_}
 use mathlib.Core.Bool.{Bool, true, false, true≢false}
 use mathlib.Core.List.{List, [], _∷_}
-use mathlib.Core.Option.{none}
 use Prim.Native.Nat.{ℕ, zero, suc, _≤_, _<_}
 use native.Mathlib.Omega.{arith}
 use lib.Dec.{lit<}
@@ -17,7 +15,6 @@ use Rattle.automaton.specs.Automaton.{Automaton}
 use Rattle.automaton.specs.Rules.{automatonOf, WellFormed}
 use Rattle.automaton.specs.Successor.{successor, after}
 use Rattle.ruleformat.specs.Reader.{targetsUpTo, ruleOf}
-use Rattle.ruleformat.specs.Language.{automatonIn}
 use Rattle.ruleformat.specs.Worked.{fileA, fileB}
 use Rattle.ruleformat.proofs.Claims as rulefile
 use Rattle.subsets.specs.Sets.{numberIn, numbered, expandFrom, closeFrom, setsUpTo, setsOf, tooMany}
@@ -27,9 +24,8 @@ use Rattle.delegates.specs.Alike.{Text, Alike, Delegate, startCount, Merged}
 use Rattle.delegates.proofs.Tests.{le-by}
 use Rattle.delegates.proofs.Alike.{alike-self, one-delegate}
 use Rattle.delegates.proofs.Acceptance.{from-law}
-use Rattle.calls.specs.Calls.{loadNumber}
-use Rattle.calls.proofs.Conditions.{load-number}
-use Rattle.histories.proofs.Bytes.{of-bytes}
+use Rattle.delegates.specs.Claims.{startsIn}
+use Rattle.histories.proofs.Running.{merged}
 
 -- ---- delegates
 -- the lowest state alike to q
@@ -77,10 +73,13 @@ only-listed a x y z three dx dy dz d m given =
     (λ q h. given .zeros q (rw three h)) in
     (e, given .starts ∙ rw (three, e))
 
--- ---- the file f is accepted, and only d and m are its delegates and M
-pub record Known (f d : List ℕ) (m : ℕ) : Type 0 where
-  pub taken : loadNumber f ≡ none
-  pub only : (e : List ℕ) (i : ℕ) → Merged (automatonIn f) e i → (e ≡ d) × (i ≡ m)
+-- so these are what the definition gives
+starts-are : (r : Rule) (x y z : ℕ) → WellFormed r → fits r → r .n ≡ 3
+    → Delegate (automatonOf r) 0 x × Delegate (automatonOf r) 1 y × Delegate (automatonOf r) 2 z
+    → startsIn r ≡ record { delegates = listed x y z; count = startCount (listed x y z) 3 }
+starts-are r x y z good fit three ds =
+    let o = only-listed (automatonOf r) x y z three (ds .0) (ds .1) (ds .2) (startsIn r .delegates) (startsIn r .count) (merged r good fit) in
+    ap₂ (λ (d : List ℕ) (m : ℕ). record { delegates = d; count = m }) (o .0) (o .1)
 
 -- ---- rule A
 sets-A : setsOf (ruleOf fileA .targets) (ruleOf fileA .n) (ruleOf fileA .k) ≡ 1 ∷ 3 ∷ 5 ∷ 2 ∷ 4 ∷ []
@@ -109,14 +108,9 @@ delegates-A =
           (apart 2 1 (lit< tt) (lit< tt) [] tt refl refl)),
     )
 
-pub known-A : Known fileA (listed 0 1 2) 3
+pub starts-A : startsIn (ruleOf fileA) ≡ record { delegates = listed 0 1 2; count = 3 }
 unfolding startCount
-known-A = record {
-  taken = load-number fileA ∙ rw (rulefile.claims .accepted-A, fits-A);
-  only = λ e i g.
-      only-listed (automatonOf (ruleOf fileA)) 0 1 2 refl (delegates-A .0) (delegates-A .1) (delegates-A .2) e i
-      (of-bytes fileA (rulefile.claims .accepted-A) e i g);
-}
+starts-A = starts-are (ruleOf fileA) 0 1 2 good-A fits-A refl delegates-A
 
 -- ---- rule B
 sets-B : setsOf (ruleOf fileB .targets) (ruleOf fileB .n) (ruleOf fileB .k) ≡ 1 ∷ 6 ∷ 2 ∷ 4 ∷ []
@@ -157,11 +151,6 @@ delegates-B =
           (below-more (λ p. Alike b 2 p → ⊥) 0 (below-none _) (apart 2 0 (lit< tt) (lit< tt) [] tt refl refl)),
     )
 
-pub known-B : Known fileB (listed 0 1 1) 2
+pub starts-B : startsIn (ruleOf fileB) ≡ record { delegates = listed 0 1 1; count = 2 }
 unfolding startCount
-known-B = record {
-  taken = load-number fileB ∙ rw (rulefile.claims .accepted-B, fits-B);
-  only = λ e i g.
-      only-listed (automatonOf (ruleOf fileB)) 0 1 1 refl (delegates-B .0) (delegates-B .1) (delegates-B .2) e i
-      (of-bytes fileB (rulefile.claims .accepted-B) e i g);
-}
+starts-B = starts-are (ruleOf fileB) 0 1 1 good-B fits-B refl delegates-B

@@ -25,8 +25,10 @@ use Rattle.ruleformat.specs.Conditions.{outside}
 use Rattle.ruleformat.specs.Reader.{ruleOf}
 use Rattle.ruleformat.proofs.Conditions.{or-left}
 use Rattle.ruleformat.proofs.Claims as rulefile
-use Rattle.delegates.specs.Alike.{Text, Merged}
-use Rattle.chunks.specs.Chunks.{counted, runSet, endSet, total, chunkCount}
+use Rattle.subsets.specs.Claims.{fits}
+use Rattle.delegates.specs.Alike.{Text}
+use Rattle.delegates.specs.Claims.{startsIn}
+use Rattle.chunks.specs.Chunks.{counted, endSet, total, chunkCount}
 use Rattle.joins.specs.Joining.{saysYes}
 use Rattle.joins.specs.Claims as joins-specs
 use Rattle.joins.proofs.Claims as joins
@@ -35,7 +37,7 @@ use Rattle.board.proofs.Totals.{term-most}
 use Rattle.calls.specs.declared.Judge.{Judge}
 use Rattle.calls.specs.Replies.{Reply, waiting, keeps, breaks, refused}
 use Rattle.calls.proofs.Conditions.{not-refused}
-use Rattle.histories.specs.History.{isNone, fileOf, ruleFrom, openNumber, boardIn, placesIn, countOf, endOf, standing, emptiesIn, summedIn, yesIn, chunkOf, joinedUpTo}
+use Rattle.histories.specs.History.{isNone, fileOf, ruleFrom, openNumber, boardIn, placesIn, runAt, countOf, endOf, standing, emptiesIn, summedIn, yesIn, chunkOf, joinedUpTo}
 use Rattle.calls.specs.Calls.{Call, loads, opens, delivers, withdraws, asks, loadNumber}
 use Rattle.histories.specs.Claims.{automatonBy, Verdict-words}
 use Rattle.histories.proofs.Running.{merged}
@@ -202,21 +204,21 @@ empty-count ts run = total-none (λ q. cond (has run q) 0 0) 32 (λ q. same (has
     same false = refl
 
 -- ---- for a rule that is there
-module _ (r : Rule) (good : WellFormed r) (d : List ℕ) (m : ℕ) (merged-is : Merged (automatonOf r) d m) (places : ℕ) (at : ℕ → Option (List ℕ)) where
-  count-is : (p : ℕ) (o : Option (List ℕ)) → countOf r d p o ≡ chunkCount (r .targets) (runSet d (r .n) (r .initials) p) (chunkOf o)
-  count-is p none = sym (empty-count (r .targets) (runSet d (r .n) (r .initials) p))
+module _ (r : Rule) (good : WellFormed r) (fit : fits r) (places : ℕ) (at : ℕ → Option (List ℕ)) where
+  count-is : (p : ℕ) (o : Option (List ℕ)) → countOf r p o ≡ chunkCount (r .targets) (runAt r p) (chunkOf o)
+  count-is p none = sym (empty-count (r .targets) (runAt r p))
   count-is p (some w) = refl
 
-  sum-most : total (λ p. countOf r d p (at p)) places ≤ m * length (joinedUpTo at places)
+  sum-most : total (λ p. countOf r p (at p)) places ≤ startsIn r .count * length (joinedUpTo at places)
   sum-most =
       let ws = chunksUpTo at places in
-      let e : total (λ p. countOf r d p (at p)) places ≡ joins-specs.countOf r d ws =
-      total-same (λ p. countOf r d p (at p)) (λ p. chunkCount (r .targets) (runSet d (r .n) (r .initials) p) (getD ws p [])) places
-      (λ p l. count-is p (at p) ∙ ap (chunkCount (r .targets) (runSet d (r .n) (r .initials) p)) (sym (chunk-at at places p l)))
-      ∙ ap (total (λ p. chunkCount (r .targets) (runSet d (r .n) (r .initials) p) (getD ws p []))) (sym (chunks-length at places)) in
-      rw (e, joined-is at places) (joins.claims .count-most r good d m merged-is ws)
+      let e : total (λ p. countOf r p (at p)) places ≡ joins-specs.countOf r (startsIn r .delegates) ws =
+      total-same (λ p. countOf r p (at p)) (λ p. chunkCount (r .targets) (runAt r p) (getD ws p [])) places
+      (λ p l. count-is p (at p) ∙ ap (chunkCount (r .targets) (runAt r p)) (sym (chunk-at at places p l)))
+      ∙ ap (total (λ p. chunkCount (r .targets) (runAt r p) (getD ws p []))) (sym (chunks-length at places)) in
+      rw (e, joined-is at places) (joins.claims .count-most r good (startsIn r .delegates) (startsIn r .count) (merged r good fit) ws)
 
-  filled : (p : ℕ) (o : Option (List ℕ)) → isNone o ≡ false → (q : ℕ) → endOf r d p q o ≡ endSet (r .targets) (runSet d (r .n) (r .initials) p) (chunkOf o) q
+  filled : (p : ℕ) (o : Option (List ℕ)) → isNone o ≡ false → (q : ℕ) → endOf r p q o ≡ endSet (r .targets) (runAt r p) (chunkOf o) q
   filled p none e q = absurd (let z : _≡_ {A = ℕ} 0 1 = cc in omega arith)
   filled p (some w) e q = refl
 
@@ -228,25 +230,25 @@ module _ (r : Rule) (good : WellFormed r) (d : List ℕ) (m : ℕ) (merged-is : 
       no-term false x = refl
 
   accepts-law : places ≤ 64 → ((p : ℕ) (w : List ℕ) → at p ≡ some w → Text (r .k) w) → total (λ p. cond (isNone (at p)) 1 0) places ≡ 0
-      → (saysYes (listFrom 0 2048 (λ cell. endOf r d (cell / 32) (cell % 32) (at (cell / 32)))) d (r .n) (r .initials) (r .finals) places ≡ true)
+      → (saysYes (listFrom 0 2048 (λ cell. endOf r (cell / 32) (cell % 32) (at (cell / 32)))) (startsIn r .delegates) (r .n) (r .initials) (r .finals) places ≡ true)
       ↔ Accepts (automatonOf r) (joinedUpTo at places)
   accepts-law few texts z =
       let ws = chunksUpTo at places in
-      let ends = listFrom 0 2048 (λ cell. endOf r d (cell / 32) (cell % 32) (at (cell / 32))) in
-      subst₂ (λ (x : ℕ) (y : List ℕ). (saysYes ends d (r .n) (r .initials) (r .finals) x ≡ true) ↔ Accepts (automatonOf r) y)
+      let ends = listFrom 0 2048 (λ cell. endOf r (cell / 32) (cell % 32) (at (cell / 32))) in
+      subst₂ (λ (x : ℕ) (y : List ℕ). (saysYes ends (startsIn r .delegates) (r .n) (r .initials) (r .finals) x ≡ true) ↔ Accepts (automatonOf r) y)
       (chunks-length at places)
       (sym (joined-is at places))
-      (joins.claims .join r good d m merged-is ends ws (chunk-texts (r .k) at texts places) holds)
+      (joins.claims .join r good (startsIn r .delegates) (startsIn r .count) (merged r good fit) ends ws (chunk-texts (r .k) at texts places) holds)
     where
-      holds : joins-specs.Holds r d (listFrom 0 2048 (λ cell. endOf r d (cell / 32) (cell % 32) (at (cell / 32)))) (chunksUpTo at places)
+      holds : joins-specs.Holds r (startsIn r .delegates) (listFrom 0 2048 (λ cell. endOf r (cell / 32) (cell % 32) (at (cell / 32)))) (chunksUpTo at places)
       holds p l q b =
           let lp : p < places = rw (chunks-length at places) at l in
           let row : (p * 32 + q) / 32 ≡ p = omega arith in
           let col : (p * 32 + q) % 32 ≡ q = omega arith in
-          cell-of 2048 (λ cell. endOf r d (cell / 32) (cell % 32) (at (cell / 32))) (p * 32 + q) 0 (omega arith)
-          ∙ ap₂ (λ (x y : ℕ). endOf r d x y (at x)) row col
+          cell-of 2048 (λ cell. endOf r (cell / 32) (cell % 32) (at (cell / 32))) (p * 32 + q) 0 (omega arith)
+          ∙ ap₂ (λ (x y : ℕ). endOf r x y (at x)) row col
           ∙ filled p (at p) (none-empty z p lp) q
-          ∙ ap (λ (w : List ℕ). endSet (r .targets) (runSet d (r .n) (r .initials) p) w q) (sym (chunk-at at places p lp))
+          ∙ ap (λ (w : List ℕ). endSet (r .targets) (runAt r p) w q) (sym (chunk-at at places p lp))
 
 -- ---- for every list of calls
 both : {A B C : Type 0} → A ↔ B → B ↔ C → A ↔ C
@@ -254,30 +256,25 @@ both f g = (λ x. g .0 (f .0 x), λ x. f .1 (g .1 x))
 
 module _ (places : ℕ) (at : ℕ → Option (List ℕ)) (j : Judge) where
   most-by : (file : Option (List ℕ)) → Holds file places at j
-      → total (λ p. countOf (ruleFrom file) (j .built .delegates) p (at p)) places ≤ j .built .starts * length (joinedUpTo at places)
+      → total (λ p. countOf (ruleFrom file) p (at p)) places ≤ startsIn (ruleFrom file) .count * length (joinedUpTo at places)
   unfolding total
   most-by none holds =
       by-test (ltb 0 places)
       (λ l. absurd (let e : true ≡ false = holds .ruled (ltb-true 0 places l) in let z : _≡_ {A = ℕ} 0 1 = cc in omega arith))
       (λ l. let z : places ≡ 0 = omega (arith, ltb-false 0 places l) in rw z zero-le)
   most-by (some f) holds =
-      sum-most (ruleOf f) (holds .rule .1) (j .built .delegates) (j .built .starts)
-      (merged (ruleOf f) (holds .rule .1) (holds .rule .2) (j .built) (holds .rule .0))
-      places
-      at
+      sum-most (ruleOf f) (holds .rule .1) (holds .rule .2) places at
 
   -- the file's automaton and the rule's accept the same texts
   accepts-by : (file : Option (List ℕ)) → ((f : List ℕ) → file ≡ some f → loadNumber f ≡ none) → Holds file places at j → 0 < places
       → total (λ p. cond (isNone (at p)) 1 0) places ≡ 0
-      → (saysYes (listFrom 0 2048 (λ cell. endOf (ruleFrom file) (j .built .delegates) (cell / 32) (cell % 32) (at (cell / 32)))) (j .built .delegates) (ruleFrom file .n) (ruleFrom file .initials) (ruleFrom file .finals) places ≡ true)
+      → (saysYes (listFrom 0 2048 (λ cell. endOf (ruleFrom file) (cell / 32) (cell % 32) (at (cell / 32)))) (startsIn (ruleFrom file) .delegates) (ruleFrom file .n) (ruleFrom file .initials) (ruleFrom file .finals) places ≡ true)
       ↔ Accepts (automatonBy file) (joinedUpTo at places)
   accepts-by none taken holds h z = absurd (let e : true ≡ false = holds .ruled h in let y : _≡_ {A = ℕ} 0 1 = cc in omega arith)
   accepts-by (some f) taken holds h z =
       let same = rulefile.claims .language f (not-refused f (taken f refl) .0) (joinedUpTo at places) in
       both
-      (accepts-law (ruleOf f) (holds .rule .1) (j .built .delegates) (j .built .starts)
-      (merged (ruleOf f) (holds .rule .1) (holds .rule .2) (j .built) (holds .rule .0))
-      places
+      (accepts-law (ruleOf f) (holds .rule .1) (holds .rule .2) places
       at
       (holds .few)
       (holds .texts)
@@ -313,26 +310,25 @@ not-true-false : (t : Bool) {A : Type 0} → (t ≡ true) ↔ A → (t ≡ false
 not-true-false true law = (λ e. absurd (let y : _≡_ {A = ℕ} 0 1 = cc in omega arith), λ n. absurd (n (law .0 refl)))
 not-true-false false law = (λ e a. let z = law .1 a in let y : _≡_ {A = ℕ} 0 1 = cc in omega arith, λ n. refl)
 
-pub words : (h : List Call) (j : Judge) → Good h j → Verdict-words h (j .built .delegates) (j .built .starts)
+pub words : (h : List Call) (j : Judge) → Good h j → Verdict-words h
 words h j good =
-    let d = j .built .delegates in
-    let s = standing (j .built .delegates) h in
+    let s = standing h in
     record {
-      none-there = both (refused-law (placesIn h) (emptiesIn d h) (yesIn d h) (summedIn d h)) (
+      none-there = both (refused-law (placesIn h) (emptiesIn h) (yesIn h) (summedIn h)) (
         (λ z. board-law h ∙ rw z),
         λ e. omega (arith, ltb-false 0 (placesIn h) (sym (board-law h) ∙ e)),
       );
-      waits = λ e. both (waiting-law (placesIn h) (emptiesIn d h) (yesIn d h) (summedIn d h) e) (
+      waits = λ e. both (waiting-law (placesIn h) (emptiesIn h) (yesIn h) (summedIn h) e) (
         (λ x. (board-law h ∙ lt-ltb 0 (placesIn h) (x .0), x .1, x .2)),
         λ x. (there h (x .0), x .1, x .2),
       );
-      counted = yes-count (placesIn h) (emptiesIn d h) (yesIn d h) (summedIn d h);
-      counted-no = no-count (placesIn h) (emptiesIn d h) (yesIn d h) (summedIn d h);
+      counted = yes-count (placesIn h) (emptiesIn h) (yesIn h) (summedIn h);
+      counted-no = no-count (placesIn h) (emptiesIn h) (yesIn h) (summedIn h);
       most = most-by (placesIn h) s j (fileOf h) good;
       accepts = λ b e.
-          both (yes-law (placesIn h) (emptiesIn d h) (yesIn d h) (summedIn d h) (there h b) e) (accepts-by (placesIn h) s j (fileOf h) (file-accepted h) good (there h b) e);
+          both (yes-law (placesIn h) (emptiesIn h) (yesIn h) (summedIn h) (there h b) e) (accepts-by (placesIn h) s j (fileOf h) (file-accepted h) good (there h b) e);
       rejects = λ b e.
-          both (no-law (placesIn h) (emptiesIn d h) (yesIn d h) (summedIn d h) (there h b) e)
-          (not-true-false (yesIn d h) (accepts-by (placesIn h) s j (fileOf h) (file-accepted h) good (there h b) e));
-      joins = λ b e. yes-law (placesIn h) (emptiesIn d h) (yesIn d h) (summedIn d h) (there h b) e;
+          both (no-law (placesIn h) (emptiesIn h) (yesIn h) (summedIn h) (there h b) e)
+          (not-true-false (yesIn h) (accepts-by (placesIn h) s j (fileOf h) (file-accepted h) good (there h b) e));
+      joins = λ b e. yes-law (placesIn h) (emptiesIn h) (yesIn h) (summedIn h) (there h b) e;
     }

@@ -1,23 +1,22 @@
 -- Lists of calls, and what such a list says by itself (document 01, "The board and its calls"). A history has the LAST call first. Nothing here
--- looks at a state. `d` lists the delegates of the rule that is there.
---
--- Where a rule is there `d` is fixed by the list (`one-list` of crates/delegates). `standing` takes it for condition 24 alone, which no list meets,
--- so it does not depend on `d` (`Never-24`, `Standing-fixed` of specs/Claims.antt).
+-- looks at a state.
 --
 --   fileOf h, ruleIn h       the file of the last accepted load, and its rule
 --   openNumber h n           the number with which an opening is refused: 20, 10
 --   boardIn h                a board is there: the last accepted call among loads and openings is an opening
 --   placesIn h               its places; 0 where no board is there
---   standing d h p           the standing chunk at place p, or none
---   endAt d h p q, countAt d h p   what place p holds: the end set of state q, and the count
---   countOf r d p chunk, endOf r d p q chunk   the same of a chunk at place p, by the rule r; 0 where there is none
+--   standing h p             the standing chunk at place p, or none
+--   endAt h p q, countAt h p       what place p holds: the end set of state q, and the count
+--   runAt r p                the states that are run at place p, by the rule r
+--   countOf r p chunk, endOf r p q chunk   the same of a chunk at place p, by the rule r; 0 where there is none
 --   deliverCheck, withdrawCheck    the conditions of a delivery and a withdrawal in order, by the places and the chunk standing at each
 --   deliverNumber, withdrawNumber  they after the calls h: 21, 11, 12, 13, 22, 24 and 21, 11, 23
---   emptiesIn d h, summedIn d h    how many places are empty, and the sum of the counts
---   yesIn d h, verdictIn d h       the join of the end sets says yes; the verdict
---   textIn d h               the standing chunks joined by place
+--   emptiesIn h, summedIn h        how many places are empty, and the sum of the counts
+--   yesIn h, verdictIn h           the join of the end sets says yes; the verdict
+--   textIn h                 the standing chunks joined by place
 --   replyBy number a         refused with the number, or a where there is none
---   answerOf d m h c         what document 01 answers to the call c after the calls h; m is the M of the rule that a load brings
+--   answerOf h c             what document 01 answers to the call c after the calls h
+--   answersTo h              its answers to all calls of the list
 use mathlib.Core.Bool.{Bool, true, false, cond, _&&_}
 use mathlib.Core.List.{List, [], _∷_, _++_}
 use mathlib.Core.Option.{Option, none, some}
@@ -29,6 +28,7 @@ use Rattle.automaton.specs.declared.Rule.{Rule}
 use Rattle.ruleformat.specs.Conditions.{firstOf}
 use Rattle.ruleformat.specs.Reader.{ruleOf, noRule}
 use Rattle.subsets.specs.Sets.{setsOf}
+use Rattle.delegates.specs.Claims.{startsIn}
 use Rattle.chunks.specs.Chunks.{runSet, endSet, total, chunkCount}
 use Rattle.joins.specs.Joining.{saysYes}
 use Rattle.calls.specs.Replies.{Reply, accepted, loaded, waiting, keeps, breaks, refused}
@@ -80,14 +80,17 @@ placesIn (withdraws p ∷ h) = placesIn h
 placesIn (asks ∷ h) = placesIn h
 
 -- ---- which chunk stands where. `at` gives the standing chunk at each place
-module _ (r : Rule) (d : List ℕ) where
+module _ (r : Rule) where
+  abbrev pub runAt : ℕ → ℕ
+  runAt p = runSet (startsIn r .delegates) (r .n) (r .initials) p
+
   abbrev pub countOf : ℕ → Option (List ℕ) → ℕ
   countOf p none = 0
-  countOf p (some w) = chunkCount (r .targets) (runSet d (r .n) (r .initials) p) w
+  countOf p (some w) = chunkCount (r .targets) (runAt p) w
 
   abbrev pub endOf : ℕ → ℕ → Option (List ℕ) → ℕ
   endOf p q none = 0
-  endOf p q (some w) = endSet (r .targets) (runSet d (r .n) (r .initials) p) w q
+  endOf p q (some w) = endSet (r .targets) (runAt p) w q
 
   abbrev pub deliverCheck : ℕ → (ℕ → Option (List ℕ)) → ℕ → List ℕ → Option ℕ
   deliverCheck places at p w =
@@ -97,37 +100,37 @@ module _ (r : Rule) (d : List ℕ) where
 abbrev pub withdrawCheck : ℕ → (ℕ → Option (List ℕ)) → ℕ → Option ℕ
 withdrawCheck places at p = firstOf (withdrawConditions (eqb places 0) places p (isNone (at p)))
 
-unfoldable pub standing : List ℕ → List Call → ℕ → Option (List ℕ)
-standing d [] p = none
-standing d (loads f ∷ h) p = cond (isNone (loadNumber f)) none (standing d h p)
-standing d (opens n ∷ h) p = cond (isNone (openNumber h n)) none (standing d h p)
-standing d (delivers q w ∷ h) p =
-    cond (eqb q p && isNone (deliverCheck (ruleIn h) d (placesIn h) (λ i. standing d h i) q w)) (some w) (standing d h p)
-standing d (withdraws q ∷ h) p = cond (eqb q p && isNone (withdrawCheck (placesIn h) (λ i. standing d h i) q)) none (standing d h p)
-standing d (asks ∷ h) p = standing d h p
+unfoldable pub standing : List Call → ℕ → Option (List ℕ)
+standing [] p = none
+standing (loads f ∷ h) p = cond (isNone (loadNumber f)) none (standing h p)
+standing (opens n ∷ h) p = cond (isNone (openNumber h n)) none (standing h p)
+standing (delivers q w ∷ h) p =
+    cond (eqb q p && isNone (deliverCheck (ruleIn h) (placesIn h) (λ i. standing h i) q w)) (some w) (standing h p)
+standing (withdraws q ∷ h) p = cond (eqb q p && isNone (withdrawCheck (placesIn h) (λ i. standing h i) q)) none (standing h p)
+standing (asks ∷ h) p = standing h p
 
-module _ (d : List ℕ) (h : List Call) where
+module _ (h : List Call) where
   abbrev pub deliverNumber : ℕ → List ℕ → Option ℕ
-  deliverNumber p w = deliverCheck (ruleIn h) d (placesIn h) (standing d h) p w
+  deliverNumber p w = deliverCheck (ruleIn h) (placesIn h) (standing h) p w
 
   abbrev pub withdrawNumber : ℕ → Option ℕ
-  withdrawNumber p = withdrawCheck (placesIn h) (standing d h) p
+  withdrawNumber p = withdrawCheck (placesIn h) (standing h) p
 
   abbrev pub countAt : ℕ → ℕ
-  countAt p = countOf (ruleIn h) d p (standing d h p)
+  countAt p = countOf (ruleIn h) p (standing h p)
 
   abbrev pub endAt : ℕ → ℕ → ℕ
-  endAt p q = endOf (ruleIn h) d p q (standing d h p)
+  endAt p q = endOf (ruleIn h) p q (standing h p)
 
   abbrev pub emptiesIn : ℕ
-  emptiesIn = total (λ p. cond (isNone (standing d h p)) 1 0) (placesIn h)
+  emptiesIn = total (λ p. cond (isNone (standing h p)) 1 0) (placesIn h)
 
   abbrev pub summedIn : ℕ
   summedIn = total countAt (placesIn h)
 
   -- the yes or no is the join of the end sets, place by place
   abbrev pub yesIn : Bool
-  yesIn = saysYes (listFrom 0 2048 (λ cell. endAt (cell / 32) (cell % 32))) d (ruleIn h .n) (ruleIn h .initials) (ruleIn h .finals) (placesIn h)
+  yesIn = saysYes (listFrom 0 2048 (λ cell. endAt (cell / 32) (cell % 32))) (startsIn (ruleIn h) .delegates) (ruleIn h .n) (ruleIn h .initials) (ruleIn h .finals) (placesIn h)
 
   abbrev pub verdictIn : Reply
   verdictIn =
@@ -143,18 +146,22 @@ unfoldable pub joinedUpTo : (ℕ → Option (List ℕ)) → ℕ → List ℕ
 joinedUpTo at zero = []
 joinedUpTo at (suc p) = joinedUpTo at p ++ chunkOf (at p)
 
-abbrev pub textIn : List ℕ → List Call → List ℕ
-textIn d h = joinedUpTo (standing d h) (placesIn h)
+abbrev pub textIn : List Call → List ℕ
+textIn h = joinedUpTo (standing h) (placesIn h)
 
 -- ---- the answers
 abbrev pub replyBy : Option ℕ → Reply → Reply
 replyBy none a = a
 replyBy (some number) a = refused number
 
--- m is the number of starts of the rule that a load brings
-abbrev pub answerOf : List ℕ → ℕ → List Call → Call → Reply
-answerOf d m h (loads f) = replyBy (loadNumber f) (loaded (length (setsOf (ruleOf f .targets) (ruleOf f .n) (ruleOf f .k))) m)
-answerOf d m h (opens n) = replyBy (openNumber h n) accepted
-answerOf d m h (delivers p w) = replyBy (deliverNumber d h p w) accepted
-answerOf d m h (withdraws p) = replyBy (withdrawNumber d h p) accepted
-answerOf d m h asks = verdictIn d h
+abbrev pub answerOf : List Call → Call → Reply
+answerOf h (loads f) = replyBy (loadNumber f) (loaded (length (setsOf (ruleOf f .targets) (ruleOf f .n) (ruleOf f .k))) (startsIn (ruleOf f) .count))
+answerOf h (opens n) = replyBy (openNumber h n) accepted
+answerOf h (delivers p w) = replyBy (deliverNumber h p w) accepted
+answerOf h (withdraws p) = replyBy (withdrawNumber h p) accepted
+answerOf h asks = verdictIn h
+
+-- the answers to a list of calls, the last first
+unfoldable pub answersTo : List Call → List Reply
+answersTo [] = []
+answersTo (c ∷ h) = answerOf h c ∷ answersTo h

@@ -5,7 +5,7 @@
 --   callsOf c     the calls of the case: a load; for a verdict also an opening, a delivery for each chunk and the question. The last first
 --   repliesOf c   what is answered to them
 --   Holds         what the case says of the replies that were given and of the state that is left
---   Case-holds    `Holds` after every run of the calls of the case, and there is such a run
+--   Case-holds    `Holds` after the calls of the case
 --   TableP        each case of the table holds so
 use mathlib.Core.Path.{_≡_}
 use mathlib.Core.List.{List, [], _∷_, _++_}
@@ -17,7 +17,7 @@ use Rattle.build.specs.declared.Built.{Built}
 use Rattle.calls.specs.declared.Judge.{Judge}
 use Rattle.calls.specs.Replies.{Reply, accepted, loaded, keeps, breaks, refused}
 use Rattle.calls.specs.Calls.{Call, loads, opens, delivers, asks}
-use Rattle.histories.specs.Claims.{Ran}
+use Rattle.histories.specs.Claims.{judgeAfter, repliesTo}
 
 -- ---- a case
 --   sets masks rows        the masks of all sets in number order, and for each set the cell of each symbol in the next-set table: the number of
@@ -109,11 +109,9 @@ abbrev pub Each : (Case → Type 0) → List Case → Type 0
 Each Says [] = Unit {0}
 Each Says (c ∷ cases) = Says c × Each Says cases
 
--- whatever replies the calls of the case c were given and whatever state they left, `Holds` is true of them; and the calls do run
+-- of the replies to the calls of the case c and of the state that they leave, `Holds` is true
 abbrev pub Case-holds : Case → Type 0
-Case-holds c =
-    ((given : List Reply) (j : Judge) → Ran (callsOf c) given j → Holds c given j)
-    × ((given : List Reply) × (j : Judge) × Ran (callsOf c) given j)
+Case-holds c = Holds c (repliesTo (callsOf c)) (judgeAfter (callsOf c))
 
 -- THE CLAIM
 abbrev pub TableP : Type 0

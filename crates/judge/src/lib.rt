@@ -5,7 +5,7 @@ ghost use lib.Dec.{ltb};
 ghost use lib.ListN.{length};
 ghost use Rattle.chunks.specs.Walks.{runMask, runsOf};
 ghost use Rattle.calls.specs.Replies.{refused, verdictSays};
-ghost use Rattle.calls.specs.Steps.{fresh, withBoard, loadCame, openCame, deliverCame, withdrawCame, Loads, openOf, deliverOf, withdrawOf, verdictOf};
+ghost use Rattle.calls.specs.Steps.{fresh, withBoard, loadCame, openCame, deliverCame, withdrawCame, loadOf, openOf, deliverOf, withdrawOf, verdictOf};
 use board::Board;
 use build::BuildAnswer;
 use build::Built;
@@ -92,7 +92,7 @@ fn exceeds(summed: u64, count: u32) -> bool
 
 // Checks and builds a rule. Accepted, it replaces the former rule and removes the board.
 pub fn load(judge: Judge, file: &[u8]) -> Loading
-    ensures { λ r. ⌜ Loads judge (now (file .entry)) (loadCame r) ⌝ }
+    ensures { λ r. ⌜ loadCame r ≡ loadOf judge (now (file .entry)) ⌝ }
 {
     let reading = rulefile::read(file);
     let read = reading.answer;

@@ -132,7 +132,7 @@ cond-malformed true x y t e = t
 cond-malformed false x y t e = e
 
 tells-loads : (f g : List ℕ) → 65537 ≤ length f → 65537 ≤ length g → Tells (call (loads f)) (call (loads g))
-tells-loads f g hf hg = record { steps = λ j to s l. (l .0, l .1, loads-long j f g _ (omega arith) (omega arith) (l .2)) }
+tells-loads f g hf hg = record { steps = λ j to s l. (l .0, l .1, l .2 ∙ loads-long j f g (omega arith) (omega arith)) }
 
 tells-delivers : (p : ℕ) (f g : List ℕ) → 65537 ≤ length f → 65537 ≤ length g → Tells (call (delivers p f)) (call (delivers p g))
 tells-delivers p f g hf hg = record { steps = λ j to s l. (l .0, l .1, l .2 ∙ delivers-long j p f g (omega arith) (omega arith)) }

@@ -4,7 +4,7 @@
 --   malformed-line       a line that is answered `malformed` is
 --   read-on              any other line adds its call to the list, or begins a new one
 --   lines-on             the lines of a text from an index on
-use mathlib.Core.Path.{_≡_, refl, sym, ap, ap₂, _∙_, subst}
+use mathlib.Core.Path.{_≡_, refl, sym, ap, ap₂, _∙_}
 use mathlib.Core.Bool.{true, false, true≢false}
 use mathlib.Core.List.{List, [], _∷_}
 use Prim.Native.Nat.{ℕ, suc, _+_, _-_, _≤_, _<_, min}
@@ -19,15 +19,14 @@ use Rattle.lines.specs.Splitting.{upTo, lastLine, linesFrom, linesOf}
 use Rattle.lines.proofs.Splits.{up-whole, lines-there, lines-last}
 use Rattle.lines.proofs.Parts.{part-rest, part-is}
 use Rattle.calls.specs.declared.Judge.{Judge}
-use Rattle.calls.specs.Replies.{Reply}
 use Rattle.calls.specs.Calls.{Call}
-use Rattle.calls.specs.Steps.{fresh, verdictOf}
-use Rattle.histories.specs.Claims.{Ran, begins, next}
-use Rattle.histories.proofs.Every.{every-list, verdict-after}
+use Rattle.calls.specs.Steps.{fresh, Outcome, verdictOf, stepOf}
+use Rattle.histories.specs.Claims.{judgeAfter}
+use Rattle.histories.proofs.Every.{verdict-after}
 use Rattle.calltext.specs.Meaning.{Meaning, again, call, malformed, lineIn}
 use Rattle.calltext.specs.Answers.{Response, isUnread}
 use Rattle.callrun.specs.Running.{LineSteps}
-use Rattle.replay.specs.Records.{Recorded, calls, malformedAt, readOn, readLines, recordIn, Told, verdict, malformedLine, Replayed}
+use Rattle.replay.specs.Records.{Recorded, calls, malformedAt, readOn, readLines, recordIn, Told, verdict, malformedLine, replayOf}
 
 pub stays-malformed : (k i : ℕ) (lines : List (List ℕ)) → readLines (malformedAt k) i lines ≡ malformedAt k
 unfolding readLines
@@ -43,15 +42,19 @@ malformed-line j to malformed s l e = refl
 -- the calls of the record so far, and a judge that they leave
 pub record Read (so : Recorded) (j : Judge) : Type 0 where
   pub history : List Call
-  pub given : List Reply
-  pub ran : Ran history given j
+  pub ran : j ≡ judgeAfter history
   pub is : so ≡ calls history
 
-pub read-on : (i : ℕ) (h : List Call) (given : List Reply) (j to : Judge) (m : Meaning) (s : Response) → Ran h given j → LineSteps j m s to
+pub read-on : (i : ℕ) (h : List Call) (j to : Judge) (m : Meaning) (s : Response) → j ≡ judgeAfter h → LineSteps j m s to
     → isUnread s ≡ false → Read (readOn i h m) to
-read-on i h given j to again s ran l e = record { history = []; given = []; ran = subst (Ran [] []) (sym (l .1)) begins; is = refl }
-read-on i h given j to (call c) s ran l e = record { history = c ∷ h; given = l .0 ∷ given; ran = next ran (l .2); is = refl }
-read-on i h given j to malformed s ran l e = absurd (true≢false (sym (ap isUnread (l .0)) ∙ e))
+unfolding judgeAfter
+read-on i h j to again s ran l e = record { history = []; ran = l .1; is = refl }
+read-on i h j to (call c) s ran l e = record {
+  history = c ∷ h;
+  ran = ap (λ (o : Outcome). o .leaves) (l .2) ∙ ap (λ (x : Judge). stepOf x c .leaves) ran;
+  is = refl;
+}
+read-on i h j to malformed s ran l e = absurd (true≢false (sym (ap isUnread (l .0)) ∙ e))
 
 -- ---- the lines of a text from an index on
 last-is : (v : List ℕ) → 0 < length v → lastLine v ≡ v ∷ []
@@ -93,20 +96,20 @@ module _ (w : List ℕ) (at end : ℕ) (here : at < length w) (found : end ≡ a
 -- ---- the loop: the lines before `at` were read and run, and what follows is still to be read
 pub record Going (w : List ℕ) (j : Judge) (line at : ℕ) : Type 0 where
   pub history : List Call
-  pub given : List Reply
-  pub ran : Ran history given j
+  pub ran : j ≡ judgeAfter history
   pub is : recordIn w ≡ readLines (calls history) (suc line) (linesOf (drop at w))
 
 pub going-first : (w : List ℕ) (j : Judge) → j ≡ fresh → Going w j 0 0
-going-first w j e = record { history = []; given = []; ran = subst (Ran [] []) (sym e) begins; is = refl }
+unfolding judgeAfter
+going-first w j e = record { history = []; ran = e; is = refl }
 
 module _ (w : List ℕ) (j : Judge) (line at : ℕ) (going : Going w j line at) where
   -- the end
-  pub going-last : length w ≤ at → (t : Told) → t ≡ verdict (verdictOf j) → Replayed (recordIn w) t
+  pub going-last : length w ≤ at → (t : Told) → t ≡ verdict (verdictOf j) → t ≡ replayOf (recordIn w)
   unfolding readLines linesFrom
   going-last l t e =
       let is : recordIn w ≡ calls (going .history) = going .is ∙ ap (λ (v : List ℕ). readLines (calls (going .history)) (suc line) (linesOf v)) (drop-of-length-le w l) in
-      rw is (going .given, j, going .ran, every-list (going .ran), e ∙ ap verdict (verdict-after (going .ran)))
+      e ∙ ap verdict (ap verdictOf (going .ran) ∙ verdict-after (going .history)) ∙ ap replayOf (sym is)
 
   module _ (end : ℕ) (here : at < length w) (found : end ≡ at + length (upTo 10 (drop at w))) (to : Judge) (s : Response)
       (steps : LineSteps j (lineIn (take (end - at) (drop at w))) s to) where
@@ -116,7 +119,7 @@ module _ (w : List ℕ) (j : Judge) (line at : ℕ) (going : Going w j line at) 
     on-line next-at e = going .is ∙ ap (readLines (calls (going .history)) (suc line)) (lines-on w at end here found next-at e)
 
     -- a malformed line
-    pub going-wrong : isUnread s ≡ true → (t : Told) → t ≡ malformedLine (line + 1) → Replayed (recordIn w) t
+    pub going-wrong : isUnread s ≡ true → (t : Told) → t ≡ malformedLine (line + 1) → t ≡ replayOf (recordIn w)
     going-wrong bad t e =
         let rest = linesOf (drop (min (end + 1) (length w)) w) in
         let m = malformed-line j to (lineIn (take (end - at) (drop at w))) s steps bad in
@@ -124,15 +127,14 @@ module _ (w : List ℕ) (j : Judge) (line at : ℕ) (going : Going w j line at) 
         on-line (min (end + 1) (length w)) refl
         ∙ ap (λ (x : Meaning). readLines (readOn (suc line) (going .history) x) (suc (suc line)) rest) m
         ∙ stays-malformed (suc line) (suc (suc line)) rest in
-        rw is (e ∙ ap malformedLine (add-one line))
+        e ∙ ap malformedLine (add-one line) ∙ ap replayOf (sym is)
 
     -- any other line
     pub going-on : isUnread s ≡ false → (next-at : ℕ) → next-at ≡ min (end + 1) (length w) → Going w to (line + 1) next-at
     going-on good next-at e =
-        let r = read-on (suc line) (going .history) (going .given) j to (lineIn (take (end - at) (drop at w))) s (going .ran) steps good in
+        let r = read-on (suc line) (going .history) j to (lineIn (take (end - at) (drop at w))) s (going .ran) steps good in
         record {
           history = r .history;
-          given = r .given;
           ran = r .ran;
           is =
               on-line next-at e

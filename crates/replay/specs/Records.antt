@@ -4,16 +4,13 @@
 --   recordIn w     what the text w records. An empty line begins a fresh judge: the calls are those after the last one
 --   Told           what replaying a record answers: a verdict, or that a line is malformed
 --   toldOf r       what each case of the code's answer says
---   Replayed s t   t is the right answer for a record that says s
-use mathlib.Core.Path.{_≡_}
+--   replayOf s     the right answer for a record that says s
 use mathlib.Core.List.{List, [], _∷_}
 use Prim.Native.Nat.{ℕ, suc}
 use Rattle.lines.specs.Splitting.{linesOf}
-use Rattle.calls.specs.declared.Judge.{Judge}
 use Rattle.calls.specs.Replies.{Reply, waiting, keeps, breaks, refused}
 use Rattle.histories.specs.History.{verdictIn}
 use Rattle.calls.specs.Calls.{Call}
-use Rattle.histories.specs.Claims.{Ran, EveryList}
 use Rattle.calltext.specs.Meaning.{Meaning, again, call, malformed, lineIn}
 use Rattle.replay.specs.declared.ReplayAnswer.{ReplayAnswer}
 use Rattle.replay.specs.declared.ReplayAnswer.the-variants.{Waiting, Yes, No, Refused, Malformed}
@@ -51,8 +48,7 @@ toldOf (No count) = verdict (breaks count)
 toldOf (Refused number) = verdict (refused number)
 toldOf (Malformed line) = malformedLine line
 
--- the recorded calls were run on a fresh judge, and the verdict is that of demand 3 for them: EveryList has its words
-abbrev pub Replayed : Recorded → Told → Type 0
-Replayed (calls h) t =
-    (given : List Reply) × (j : Judge) × Ran h given j × EveryList h given j × (t ≡ verdict (verdictIn (j .built .delegates) h))
-Replayed (malformedAt i) t = t ≡ malformedLine i
+-- the verdict of demand 3 for the recorded calls: `Verdict-words` of crates/histories, which holds of every list, has its words
+abbrev pub replayOf : Recorded → Told
+replayOf (calls h) = verdict (verdictIn h)
+replayOf (malformedAt i) = malformedLine i

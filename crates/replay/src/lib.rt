@@ -4,7 +4,7 @@ ghost use Prim.Native.Nat.{_+_, _≤_, min};
 ghost use lib.ListN.{length};
 ghost use Rattle.calltext.specs.Answers.{responseOf, isUnread};
 ghost use Rattle.calls.specs.Replies.{verdictSays};
-ghost use Rattle.replay.specs.Records.{verdict, recordIn, toldOf, Replayed};
+ghost use Rattle.replay.specs.Records.{verdict, recordIn, toldOf, replayOf};
 use calls::Verdict;
 use calltext::LineAnswer;
 
@@ -53,7 +53,7 @@ fn past(end: usize, most: usize) -> usize
 // The buffer is for the bytes that a line carries.
 fn replay_by(text: &[u8], buffer: &mut [u8]) -> ReplayAnswer
     requires { ⌜ 65537 ≤ length (now buffer) ⌝ }
-    ensures { λ r. ⌜ Replayed (recordIn (now (text .entry))) (toldOf r) ⌝ }
+    ensures { λ r. ⌜ toldOf r ≡ replayOf (recordIn (now (text .entry))) ⌝ }
 {
     let mut judge = judge::new_judge();
     let mut line: usize = 0;
@@ -74,7 +74,7 @@ fn replay_by(text: &[u8], buffer: &mut [u8]) -> ReplayAnswer
 
 // Runs the calls that the text records, a line each, and answers the verdict after them.
 pub fn replay(text: &[u8]) -> ReplayAnswer
-    ensures { λ r. ⌜ Replayed (recordIn (now (text .entry))) (toldOf r) ⌝ }
+    ensures { λ r. ⌜ toldOf r ≡ replayOf (recordIn (now (text .entry))) ⌝ }
 {
     let mut buffer = [0u8; 65537];
     replay_by(text, &mut buffer)

@@ -5,7 +5,7 @@ ghost use lib.ListN.{length, getD};
 ghost use Rattle.text.specs.Numerals.{joined};
 ghost use Rattle.text.specs.Writing.{Wrote};
 ghost use Rattle.ruletext.specs.RuleText.{field, cellText, rowText, setLine, headLine, delegatesLine, ruleText, refusedText, textOf};
-ghost use Rattle.ruletext.specs.Printing.{Prints, Shown};
+ghost use Rattle.ruletext.specs.Printing.{Prints, textFor};
 use build::BuildAnswer;
 use build::Building;
 use build::Built;
@@ -207,7 +207,7 @@ pub fn print_building(building: Building, out: &mut [u8]) -> Printed
 
 // The rule in a file, built, as text; or the number with which the file is refused.
 pub fn print_rule(file: &[u8], out: &mut [u8]) -> Printed
-    ensures { λ r. ⌜ Shown (now (file .entry)) (now (out .entry)) (now (out .exit)) r ⌝ }
+    ensures { λ r. ⌜ Prints (textFor (now (file .entry))) (now (out .entry)) (now (out .exit)) r ⌝ }
 {
     let reading = rulefile::read(file);
     let answer = reading.answer;

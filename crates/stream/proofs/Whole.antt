@@ -10,12 +10,12 @@ use Prim.Native.Nat.{ℕ, _≤_}
 use lib.ListN.{length, drop, drop-of-length-le}
 use Rattle.lines.specs.Splitting.{linesFrom}
 use Rattle.calls.specs.declared.Judge.{Judge}
-use Rattle.calls.specs.Replies.{Reply}
 use Rattle.calls.specs.Calls.{Call}
-use Rattle.histories.specs.Claims.{Ran, begins, next}
-use Rattle.histories.proofs.Every.{every-list}
+use Rattle.calls.specs.Steps.{fresh, Outcome, stepOf}
+use Rattle.histories.specs.Claims.{judgeAfter}
+use Rattle.histories.proofs.Every.{answer-after}
 use Rattle.calltext.specs.Meaning.{Meaning, again, call, malformed, lineIn}
-use Rattle.calltext.specs.Answers.{Response, responseText}
+use Rattle.calltext.specs.Answers.{Response, replied, responseText}
 use Rattle.callrun.specs.Running.{LineSteps}
 use Rattle.linebuffer.specs.declared.Held.{Held}
 use Rattle.linebuffer.specs.Holding.{Keeps}
@@ -39,27 +39,32 @@ whole-by {j} {last} {w} {rest = rest} (block-then mid begun block text more bloc
     (subst (λ (ls : List (List ℕ)). LinesRan j ls (text ++ (more ++ rest)) last) (sym (b .split (flatten blocks))) x)
 
 -- ---- the right answers
-module _ {h : List Call} {given : List Reply} {j : Judge} (ran : Ran h given j) (to : Judge) where
+module _ (h : List Call) (j : Judge) (ran : j ≡ judgeAfter h) (to : Judge) where
   response-right : (m : Meaning) (s : Response) → LineSteps j m s to → ResponseRight h m s
   response-right again s l = l .0
-  response-right (call c) s l = (l .0, l .1, every-list {j = to} (next {c = c} ran (l .2)) .all-right .0)
+  response-right (call c) s l =
+      l .1 ∙ ap replied (ap (λ (o : Outcome). o .says) (l .2) ∙ ap (λ (x : Judge). stepOf x c .says) ran ∙ answer-after h c)
   response-right malformed s l = l .0
 
-  ran-after : (m : Meaning) (s : Response) → LineSteps j m s to → (more : List Reply) × Ran (historyAfter h m) more to
-  ran-after again s l = ([], subst (Ran [] []) (sym (l .1)) begins)
-  ran-after (call c) s l = (l .0 ∷ given, next {c = c} ran (l .2))
-  ran-after malformed s l = (given, subst (Ran h given) (sym (l .1)) ran)
+  ran-after : (m : Meaning) (s : Response) → LineSteps j m s to → to ≡ judgeAfter (historyAfter h m)
+  unfolding judgeAfter
+  ran-after again s l = l .1
+  ran-after (call c) s l = ap (λ (o : Outcome). o .leaves) (l .2) ∙ ap (λ (x : Judge). stepOf x c .leaves) ran
+  ran-after malformed s l = l .1 ∙ ran
 
-right-by : {h : List Call} {given : List Reply} {j last : Judge} {ls : List (List ℕ)} {text : List ℕ} → Ran h given j → LinesRan j ls text last → LinesRight h ls text
-right-by ran no-lines = refl
-right-by ran (line-then mid l s text step q) =
-    let after = ran-after ran mid (lineIn l) s step in
-    (s, text, refl, response-right ran mid (lineIn l) s step, right-by (after .1) q)
+right-by : {j last : Judge} {ls : List (List ℕ)} {text : List ℕ} (h : List Call) → j ≡ judgeAfter h → LinesRan j ls text last → LinesRight h ls text
+right-by h ran no-lines = refl
+right-by {j} h ran (line-then mid l s text step q) =
+    (s, text, refl, response-right h j ran mid (lineIn l) s step, right-by (historyAfter h (lineIn l)) (ran-after h j ran mid (lineIn l) s step) q)
+
+from-fresh : fresh ≡ judgeAfter []
+unfolding judgeAfter
+from-fresh = refl
 
 pub claims : Claims
 claims = record {
   whole = λ blocks j last w text rest b r. whole-by b r;
-  right = λ ls text last q. right-by begins q;
+  right = λ ls text last q. right-by [] from-fresh q;
 }
 
 -- ---- the parts of a block, up to an index

@@ -11,10 +11,9 @@ use mathlib.Core.List.{List, [], _∷_, _++_, flatten}
 use Prim.Native.Nat.{ℕ}
 use Rattle.lines.specs.Splitting.{linesFrom, linesOf}
 use Rattle.calls.specs.declared.Judge.{Judge}
-use Rattle.calls.specs.Replies.{Reply}
 use Rattle.calls.specs.Calls.{Call}
 use Rattle.calls.specs.Steps.{fresh}
-use Rattle.histories.specs.Claims.{Right}
+use Rattle.histories.specs.History.{answerOf}
 use Rattle.calltext.specs.Meaning.{Meaning, again, call, malformed, lineIn}
 use Rattle.calltext.specs.Answers.{Response, began, replied, unread, responseText}
 use Rattle.callrun.specs.Running.{LineSteps}
@@ -49,7 +48,7 @@ historyAfter h malformed = h
 
 abbrev pub ResponseRight : List Call → Meaning → Response → Type 0
 ResponseRight h again s = s ≡ began
-ResponseRight h (call c) s = (a : Reply) × (s ≡ replied a) × Right h c a
+ResponseRight h (call c) s = s ≡ replied (answerOf h c)
 ResponseRight h malformed s = s ≡ unread
 
 abbrev pub LinesRight : List Call → List (List ℕ) → List ℕ → Type 0

@@ -12,6 +12,7 @@ use lib.Dec.{eqb}
 use Rattle.delegates.specs.Classes.{numberOf, Classes}
 use Rattle.delegates.proofs.Numbers.{number-within}
 use Rattle.delegates.proofs.Merging.{Merging, begun, turned}
+use Rattle.delegates.proofs.Merged.{starts-are}
 use Rattle.delegates.proofs.merge_starts.Statement.{statement}
 use Rattle.delegates.proofs.merge_starts.Tie as tie
 
@@ -113,13 +114,15 @@ returns : tie.Need-returns Inv-loop μ-loop
 returns c =
     let l = c .before .loop in
     let m = l .inv .1 in
-    let e : l .q ≡ min (c .before .before .before .before .before .before .args .n) 32 = omega arith in
-    record {
+    let a = c .before .before .before .before .before .before .args in
+    let e : l .q ≡ min (a .n) 32 = omega arith in
+    starts-are (a .sets .now) (a .next .now) (a .finals) (a .count) (a .n) (a .k) _
+    (record {
       cells = m .cells;
       delegates = λ q h. m .least q (rw e h);
       zeros = λ q h. m .zeros q (rw e h);
       starts = rw (← e) (m .counted);
-    }
+    })
 
 pub merge-starts-spec : {M : Type 1} → statement M
 merge-starts-spec =

@@ -19,12 +19,12 @@ enum-known-printed c = search needs
 array-share-prefix-text : tie.Need-array-share-prefix-text
 array-share-prefix-text c =
     let w = c .before .before .before .before .print-rule in
-    still-within (within (w .ensures .prints) (c .before .printed .given .1)) (w .kept .1 .0)
+    still-within (within (w .ensures) (c .before .printed .given .1)) (w .kept .1 .0)
 
 slice-aggregate-write-all : tie.Need-slice-aggregate-write-all
 slice-aggregate-write-all c =
     let w = c .before .before .before .before .before .print-rule in
-    sym (length-take-le _ (w .last .1 .0) (still-within (within (w .ensures .prints) (c .before .before .printed .given .1)) (w .kept .1 .0)))
+    sym (length-take-le _ (w .last .1 .0) (still-within (within (w .ensures) (c .before .before .printed .given .1)) (w .kept .1 .0)))
 
 write-all-requires : tie.Need-write-all-requires
 write-all-requires c κs = search needs

@@ -5,9 +5,8 @@ use Prim.Native.Nat.{ℕ}
 use Rattle.ruleformat.specs.declared.ReadAnswer.the-variants.{Accepted, Refused}
 use Rattle.ruleformat.specs.Refusals.{refusal}
 use Rattle.ruleformat.specs.Reader.{numberOf, ruleBy, ruleOf}
-use Rattle.ruletext.specs.RuleText.{textOf, refusedText}
-use Rattle.ruletext.specs.Printing.{unread}
-use Rattle.ruletext.proofs.ForFile.{text-for}
+use Rattle.build.specs.Building.{buildOf}
+use Rattle.ruletext.proofs.ForFile.{text-for, text-unread}
 use borrow.Author.Needs.{needs}
 use Rattle.ruletext.proofs.print_rule.Statement.{statement}
 use Rattle.ruletext.proofs.print_rule.Tie as tie
@@ -41,7 +40,7 @@ returns c =
     let e : g .result .answer ≡ Accepted = c .before .before .before .before .before .enum-told .given .1 in
     let n : refusal f ≡ none = sym (g .ensures .answer) ∙ ap numberOf e in
     let r : g .result .rule ≡ ruleOf f = g .ensures .rule ∙ ap (λ (o : Option ℕ). ruleBy o f) n in
-    record { text = textOf (a .result); for-file = text-for f n (a .result) (rw r at (a .ensures)); prints = c .before .before .print-building .ensures }
+    rw (← text-for f n (a .result) (a .ensures ∙ ap buildOf r)) (c .before .before .print-building .ensures)
 
 same-length-2 : tie.Need-same-length-2
 same-length-2 c = search needs
@@ -52,7 +51,7 @@ returns-2 c =
     let g = c .before .before .before .before .before .before .before .before .read in
     let x = c .before .before .before .before .before .answer .given in
     let e : g .result .answer ≡ Refused (x .0 .0) = x .1 in
-    record { text = refusedText (x .0 .0); for-file = unread (sym (g .ensures .answer) ∙ ap numberOf e); prints = c .before .before .print-refused .ensures }
+    rw (← text-unread f (x .0 .0) (sym (g .ensures .answer) ∙ ap numberOf e)) (c .before .before .print-refused .ensures)
 
 pub print-rule-spec : {M : Type 1} → statement M
 print-rule-spec =
