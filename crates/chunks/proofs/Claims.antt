@@ -3,11 +3,15 @@ use Rattle.chunks.specs.Claims.{Claims}
 use Rattle.chunks.proofs.Texts as texts
 use Rattle.chunks.proofs.Starts as starts
 use Rattle.chunks.proofs.Counts as counts
+use Rattle.chunks.proofs.Walks as walks
 use Rattle.chunks.proofs.Ends as ends
 
 pub claims : Claims
 claims = record {
   text-law = texts.text-law;
+  run-end = ends.run-end;
+  run-count = ends.run-count;
+  run-most = walks.count-most;
   ends = ends.ends;
   count = ends.count;
   counted-most = counts.counted-most;

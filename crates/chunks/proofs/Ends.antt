@@ -92,16 +92,26 @@ module _ (r : Rule) (good : WellFormed r) (fit : fits r) where
       (rw (lt-ltb j 512 (omega (arith, there .0, few)), t))
       (subst (λ (y : ℕ). Walked y j w) (there .1) (walked w (x .1) j (there .0))))
 
--- ---- the runs of a chunk
-module _ (r : Rule) (good : WellFormed r) (fit : fits r) (run : ℕ) (below : run < 2 ^ r .n) (w : List ℕ) (text : Text (r .k) w) where
+  -- ---- a run from a state
   abbrev single-at : ℕ → ℕ
   single-at q = getD (builtOf r .singles) q 0
 
-  from-state : (q : ℕ) → q < r .n → Walked r good fit (single q) (single-at q) w
-  from-state q h =
+  from-state : (q : ℕ) → q < r .n → (w : List ℕ) → Text (r .k) w → Walked (single q) (single-at q) w
+  from-state q h w text =
       let s = build.claims .singles r good fit q h in
-      subst (λ (m : ℕ). Walked r good fit m (single-at q) w) (sym (mask-at subsets.claims r good fit (single-at q) (s .0)) ∙ s .1)
-      (walked r good fit w text (single-at q) (s .0))
+      subst (λ (m : ℕ). Walked m (single-at q) w) (sym (mask-at subsets.claims r good fit (single-at q) (s .0)) ∙ s .1)
+      (walked w text (single-at q) (s .0))
+
+  pub run-end : (q : ℕ) → q < r .n → (w : List ℕ) → Text (r .k) w → maskOf masks (walkEnd table (single-at q) w) ≡ after (r .targets) (single q) w
+  run-end q h w text = from-state q h w text .end
+
+  pub run-count : (q : ℕ) → q < r .n → (w : List ℕ) → Text (r .k) w → walkCount table (single-at q) w ≡ counted (r .targets) (single q) w
+  run-count q h w text = from-state q h w text .steps
+
+-- ---- the runs of a chunk
+module _ (r : Rule) (good : WellFormed r) (fit : fits r) (run : ℕ) (below : run < 2 ^ r .n) (w : List ℕ) (text : Text (r .k) w) where
+  abbrev from : ℕ → ℕ
+  from q = single-at r good fit q
 
   state-of : (q : ℕ) → has run q ≡ true → q < r .n
   state-of q t = members-below (r .n) run q below (member-of run q t)
@@ -109,18 +119,18 @@ module _ (r : Rule) (good : WellFormed r) (fit : fits r) (run : ℕ) (below : ru
   pub ends : runsOf (builtOf r .sets) (builtOf r .next) (builtOf r .singles) run w .ends ≡ listFrom 0 32 (endSet (r .targets) run w)
   ends =
       same-list 32
-      (λ q. cond (has run q) (maskOf (masks r good fit) (walkEnd (table r good fit) (single-at q) w)) 0)
+      (λ q. cond (has run q) (maskOf (masks r good fit) (walkEnd (table r good fit) (from q) w)) 0)
       (endSet (r .targets) run w)
       (λ q h.
-      same-either (has run q) (maskOf (masks r good fit) (walkEnd (table r good fit) (single-at q) w)) (after (r .targets) (single q) w)
-      (λ t. from-state q (state-of q t) .end))
+      same-either (has run q) (maskOf (masks r good fit) (walkEnd (table r good fit) (from q) w)) (after (r .targets) (single q) w)
+      (λ t. run-end r good fit q (state-of q t) w text))
 
   pub count : runsOf (builtOf r .sets) (builtOf r .next) (builtOf r .singles) run w .count ≡ chunkCount (r .targets) run w
   count =
       total-same
-      (λ q. cond (has run q) (walkCount (table r good fit) (single-at q) w) 0)
+      (λ q. cond (has run q) (walkCount (table r good fit) (from q) w) 0)
       (λ q. cond (has run q) (counted (r .targets) (single q) w) 0)
       32
       (λ q h.
-      same-either (has run q) (walkCount (table r good fit) (single-at q) w) (counted (r .targets) (single q) w)
-      (λ t. from-state q (state-of q t) .steps))
+      same-either (has run q) (walkCount (table r good fit) (from q) w) (counted (r .targets) (single q) w)
+      (λ t. run-count r good fit q (state-of q t) w text))

@@ -5,19 +5,27 @@ use mathlib.Core.Bool.{false}
 use mathlib.Core.List.{List}
 use Prim.Native.Nat.{ℕ, _*_, _^_, _<_, _≤_}
 use lib.ListN.{length, getD}
-use Rattle.masks.specs.Masks.{_∈_}
+use Rattle.masks.specs.Masks.{_∈_, single}
 use Rattle.masks.specs.Lists.{listFrom}
 use Rattle.automaton.specs.declared.Rule.{Rule}
 use Rattle.automaton.specs.Rules.{WellFormed}
+use Rattle.automaton.specs.Successor.{after}
 use Rattle.subsets.specs.Claims.{fits}
 use Rattle.delegates.specs.Alike.{Text, startCount}
 use Rattle.build.specs.Building.{builtOf}
 use Rattle.chunks.specs.Chunks.{foreign, counted, startSet, delegateSet, runSet, endSet, chunkCount}
-use Rattle.chunks.specs.Walks.{runsOf, delegateMask, runMask}
+use Rattle.chunks.specs.Walks.{walkEnd, walkCount, maskOf, runsOf, delegateMask, runMask}
 
 pub record Claims : Type 0 where
   -- no byte is foreign exactly in a text of symbols below k
   pub text-law : (w : List ℕ) (k : ℕ) → foreign w k ≡ false ↔ Text k w
+  -- a run from a state of the rule over a text of its symbols ends with the set after the text, and counts one transition for each successor that
+  -- is not empty, which is at most one for each byte, on any table
+  pub run-end : (r : Rule) → WellFormed r → fits r → (q : ℕ) → q < r .n → (w : List ℕ) → Text (r .k) w
+      → maskOf (builtOf r .sets) (walkEnd (builtOf r .next) (getD (builtOf r .singles) q 0) w) ≡ after (r .targets) (single q) w
+  pub run-count : (r : Rule) → WellFormed r → fits r → (q : ℕ) → q < r .n → (w : List ℕ) → Text (r .k) w
+      → walkCount (builtOf r .next) (getD (builtOf r .singles) q 0) w ≡ counted (r .targets) (single q) w
+  pub run-most : (next : List ℕ) (i : ℕ) (w : List ℕ) → walkCount next i w ≤ length w
   -- over a text of the rule's symbols, run from states of the rule: each end set is the set after the text, and the count is document 01's
   pub ends : (r : Rule) → WellFormed r → fits r → (run : ℕ) → run < 2 ^ r .n → (w : List ℕ) → Text (r .k) w
       → runsOf (builtOf r .sets) (builtOf r .next) (builtOf r .singles) run w .ends ≡ listFrom 0 32 (endSet (r .targets) run w)
