@@ -4,17 +4,19 @@
 --   Call               load, open, deliver, withdraw and verdict, with what they are given
 --   loadNumber f       the number with which a load of the file f is refused, 1 to 9, or none where it is accepted
 --   openConditions, deliverConditions, withdrawConditions   20, 10; 21, 11, 12, 13, 22, 24; 21, 11, 23
-use mathlib.Core.Bool.{Bool}
+--   verdictBy          the verdict, by whether no board is there, the number of empty places, whether the join says yes, and the sum of the counts
+use mathlib.Core.Bool.{Bool, cond}
 use mathlib.Core.List.{List, [], _∷_, _++_}
 use mathlib.Core.Option.{Option}
 use Prim.Native.Nat.{ℕ}
-use lib.Dec.{ltb, leb}
+use lib.Dec.{ltb, leb, eqb}
 use lib.ListN.{length}
 use Rattle.ruleformat.specs.Conditions.{Condition, on, firstOf, outside}
 use Rattle.ruleformat.specs.Refusals.{fileConditions}
 use Rattle.ruleformat.specs.Reader.{ruleOf}
 use Rattle.subsets.specs.Sets.{tooMany}
 use Rattle.chunks.specs.Chunks.{foreign}
+use Rattle.calls.specs.Replies.{Reply, waiting, keeps, breaks, refused}
 
 pub data Call : Type 0 where
   loads : List ℕ → Call
@@ -45,3 +47,7 @@ deliverConditions lacks places p w k filled sum =
 -- no board is there; it has so many places; no chunk stands at place p
 abbrev pub withdrawConditions : Bool → ℕ → ℕ → Bool → List Condition
 withdrawConditions lacks places p empty = on 21 lacks ∷ on 11 (leb places p) ∷ on 23 empty ∷ []
+
+-- ---- the verdict: 21, else waiting, else yes or no
+abbrev pub verdictBy : Bool → ℕ → Bool → ℕ → Reply
+verdictBy lacks empty yes-there sum = cond lacks (refused 21) (cond (eqb empty 0) (cond yes-there (keeps sum) (breaks sum)) (waiting empty))

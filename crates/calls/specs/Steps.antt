@@ -8,7 +8,7 @@
 --   loadOf, openOf, deliverOf, withdrawOf   what the calls that may change the state come to
 --   verdictOf          what the verdict says
 --   stepOf j c         what the call c comes to on the state j
-use mathlib.Core.Bool.{Bool, cond, not}
+use mathlib.Core.Bool.{Bool, not}
 use mathlib.Core.List.{List}
 use mathlib.Core.Option.{Option, none, some}
 use Prim.Native.Nat.{ℕ, _+_}
@@ -26,8 +26,8 @@ use Rattle.calls.specs.declared.Loading.{Loading}
 use Rattle.calls.specs.declared.Opening.{Opening}
 use Rattle.calls.specs.declared.Delivery.{Delivery}
 use Rattle.calls.specs.declared.Withdrawal.{Withdrawal}
-use Rattle.calls.specs.Replies.{Reply, accepted, loaded, waiting, keeps, breaks, refused, loadSays, openSays, deliverSays, withdrawSays}
-use Rattle.calls.specs.Calls.{Call, loads, opens, delivers, withdraws, asks, loadNumber, openConditions, deliverConditions, withdrawConditions}
+use Rattle.calls.specs.Replies.{Reply, accepted, loaded, refused, loadSays, openSays, deliverSays, withdrawSays}
+use Rattle.calls.specs.Calls.{Call, loads, opens, delivers, withdraws, asks, loadNumber, openConditions, deliverConditions, withdrawConditions, verdictBy}
 
 unfoldable pub fresh : Judge
 fresh = record { built = noBuilt; board = emptyBoard 0 }
@@ -103,11 +103,7 @@ isYes j =
     saysYes (j .board .ends) (j .built .delegates) (j .built .n) (j .built .initials) (j .built .finals) (placesOf (j .board))
 
 unfoldable pub verdictOf : Judge → Reply
-verdictOf j =
-    cond (lacksBoard j) (refused 21)
-    (cond (eqb (emptyPlaces (j .board)) 0)
-    (cond (isYes j) (keeps (summedCount (j .board))) (breaks (summedCount (j .board))))
-    (waiting (emptyPlaces (j .board))))
+verdictOf j = verdictBy (lacksBoard j) (emptyPlaces (j .board)) (isYes j) (summedCount (j .board))
 
 -- ---- any call
 abbrev pub stepOf : Judge → Call → Outcome

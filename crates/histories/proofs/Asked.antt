@@ -1,47 +1,31 @@
--- The verdict of the state is the verdict that the list of calls says. Assumes nothing.
-use mathlib.Core.Path.{_≡_, refl, sym, ap, ap₂, _∙_, fun-ext}
-use mathlib.Core.Bool.{Bool, true, false, cond}
+-- The verdict of the state is the verdict that the list of calls says: the state's number of empty places, its join and its sum are the list's.
+-- Assumes nothing.
+use mathlib.Core.Path.{_≡_, sym, ap, _∙_}
+use mathlib.Core.Bool.{true, false, cond}
 use mathlib.Core.List.{List}
 use mathlib.Core.Option.{Option, none, some}
-use Prim.Native.Nat.{ℕ, zero, suc, _+_, _*_, _/_, _%_, _<_, min}
-use native.Mathlib.Nat.{mod-lt}
+use Prim.Native.Nat.{ℕ, _<_}
 use native.Mathlib.Omega.{arith}
-use lib.Dec.{eqb, lit<}
-use lib.ListN.{getD}
+use lib.Dec.{eqb}
 use borrow.Author.Tests.{eqb-false}
-use Rattle.masks.specs.Masks.{union, shares}
-use Rattle.masks.specs.Lists.{listFrom}
-use Rattle.masks.proofs.Lists.{cell-of}
+use Rattle.masks.specs.Masks.{shares}
+use Rattle.masks.proofs.Cases.{by-test}
 use Rattle.ruleformat.specs.Reader.{ruleOf}
 use Rattle.delegates.specs.Claims.{startsIn}
 use Rattle.chunks.specs.Chunks.{total}
 use Rattle.board.specs.Boards.{emptyPlaces, summedCount}
-use Rattle.joins.specs.Joining.{joinUpTo, saysYes}
 use Rattle.board.proofs.Laws.{empty-law}
+use Rattle.joins.specs.Joining.{yesOf, heldIn}
+use Rattle.joins.specs.Claims.{delegateIn}
+use Rattle.joins.proofs.Claims as joins
 use Rattle.calls.specs.declared.Judge.{Judge}
-use Rattle.calls.specs.Replies.{Reply, waiting, keeps, breaks, refused}
-use Rattle.histories.specs.History.{isNone, fileOf, ruleFrom, placesIn, endOf, standing, emptiesIn, summedIn, yesIn, verdictIn}
-use Rattle.calls.specs.Calls.{Call}
+use Rattle.calls.specs.Calls.{Call, verdictBy}
 use Rattle.calls.specs.Steps.{lacksBoard, isYes, verdictOf}
-use Rattle.histories.proofs.Running.{n-same}
+use Rattle.histories.specs.History.{isNone, fileOf, ruleFrom, placesIn, endOf, standing, emptiesIn, summedIn, yesIn, verdictIn}
+use Rattle.histories.proofs.Running.{n-same, merged}
 use Rattle.histories.proofs.Holding.{Holds}
 use Rattle.histories.proofs.Numbers.{no-board, places-same, summed-same}
 use Rattle.histories.proofs.Listed.{Good}
-
--- ---- the join looks only at the cells of the places that are joined
-join-same : (ends ends′ d : List ℕ) (n m places : ℕ) → ((p q : ℕ) → p < places → q < 32 → getD ends (p * 32 + q) 0 ≡ getD ends′ (p * 32 + q) 0)
-    → joinUpTo ends d n m places ≡ joinUpTo ends′ d n m places
-unfolding joinUpTo
-join-same ends ends′ d n m zero h = refl
-join-same ends ends′ d n m (suc p) h =
-    ap₂ (λ (f : ℕ → ℕ) (c : ℕ). union f c (min n 32))
-    (fun-ext (λ q. h p (getD d q 0 % 32) (omega arith) (mod-lt (getD d q 0) (lit< tt))))
-    (join-same ends ends′ d n m p (λ i q l. h i q (omega arith)))
-
--- ---- the two verdicts
-same-choice : (a b : Bool) (x y z : Reply) → a ≡ b → (b ≡ false → y ≡ z) → cond a x y ≡ cond b x z
-same-choice a true x y z e f = rw e
-same-choice a false x y z e f = rw e (f refl)
 
 module _ (file : Option (List ℕ)) (places : ℕ) (at : ℕ → Option (List ℕ)) (j : Judge) (holds : Holds file places at j) where
   pub empties-same : emptyPlaces (j .board) ≡ total (λ p. cond (isNone (at p)) 1 0) places
@@ -49,46 +33,43 @@ module _ (file : Option (List ℕ)) (places : ℕ) (at : ℕ → Option (List �
       empty-law (j .board) (λ p. isNone (at p)) (λ p l. holds .empty p (omega (arith, l)))
       ∙ ap (total (λ p. cond (isNone (at p)) 1 0)) (places-same file places at j holds)
 
-  -- the cells of a place, in the array and in the definition
-  cells-same : (p q : ℕ) → p < places → q < 32
-      → getD (j .board .ends) (p * 32 + q) 0
-      ≡ getD (listFrom 0 2048 (λ cell. endOf (ruleFrom file) (cell / 32) (cell % 32) (at (cell / 32)))) (p * 32 + q) 0
-  cells-same p q h l =
-      let row : p ≡ (p * 32 + q) / 32 = omega arith in
-      let col : q ≡ (p * 32 + q) % 32 = omega arith in
-      holds .ends p q (omega (arith, h, holds .few)) l
-      ∙ ap₂ (λ (x y : ℕ). endOf (ruleFrom file) x y (at x)) row col
-      ∙ sym (cell-of 2048 (λ cell. endOf (ruleFrom file) (cell / 32) (cell % 32) (at (cell / 32))) (p * 32 + q) 0 (omega (arith, h, holds .few)))
-
 yes-same : (f : List ℕ) (places : ℕ) (at : ℕ → Option (List ℕ)) (j : Judge) → Holds (some f) places at j
     → isYes j
-    ≡ saysYes (listFrom 0 2048 (λ cell. endOf (ruleOf f) (cell / 32) (cell % 32) (at (cell / 32)))) (startsIn (ruleOf f) .delegates) (ruleOf f .n) (ruleOf f .initials) (ruleOf f .finals) places
+    ≡ yesOf (λ p q. endOf (ruleOf f) p q (at p)) (delegateIn (startsIn (ruleOf f) .delegates)) (ruleOf f .n) (ruleOf f .initials) (ruleOf f .finals) places
 yes-same f places at j holds =
-    rw (places-same (some f) places at j holds, holds .rule .0, n-same (ruleOf f) (holds .rule .1) (holds .rule .2))
-    (ap (λ (c : ℕ). shares c (ruleOf f .finals))
-    (join-same (j .board .ends) (listFrom 0 2048 (λ cell. endOf (ruleOf f) (cell / 32) (cell % 32) (at (cell / 32)))) (startsIn (ruleOf f) .delegates) (ruleOf f .n) (ruleOf f .initials) places
-    (cells-same (some f) places at j holds)))
+    let r = ruleOf f in
+    let d = startsIn r .delegates in
+    let states : (q : ℕ) → q < r .n → delegateIn d q < 32 =
+    λ q b. omega (arith, merged r (holds .rule .1) (holds .rule .2) .delegates q b .state, holds .rule .1 .states) in
+    rw (places-same (some f) places at j holds, holds .rule .0, n-same r (holds .rule .1) (holds .rule .2))
+    (ap (λ (c : ℕ). shares c (r .finals))
+    (joins.claims .join-law (j .board .ends) d (r .n) (r .initials) places (holds .rule .1 .states .1) states
+    ∙ joins.claims .join-same (heldIn (j .board .ends)) (λ p q. endOf r p q (at p)) (delegateIn d) (r .n) (r .initials) places
+    (λ p q l b. holds .ends p (delegateIn d q) (omega (arith, l, holds .few)) (states q b))))
 
 pub by-rule : (file : Option (List ℕ)) (places : ℕ) (at : ℕ → Option (List ℕ)) (j : Judge) → Holds file places at j → 0 < places
     → isYes j
-    ≡ saysYes (listFrom 0 2048 (λ cell. endOf (ruleFrom file) (cell / 32) (cell % 32) (at (cell / 32)))) (startsIn (ruleFrom file) .delegates) (ruleFrom file .n) (ruleFrom file .initials) (ruleFrom file .finals) places
+    ≡ yesOf (λ p q. endOf (ruleFrom file) p q (at p)) (delegateIn (startsIn (ruleFrom file) .delegates)) (ruleFrom file .n) (ruleFrom file .initials) (ruleFrom file .finals) places
 by-rule none places at j holds h = absurd (let e : true ≡ false = holds .ruled h in let z : _≡_ {A = ℕ} 0 1 = cc in omega arith)
 by-rule (some f) places at j holds h = yes-same f places at j holds
 
+-- no board on either side, or the same numbers
 pub verdict-says : (h : List Call) (j : Judge) → Good h j → verdictOf j ≡ verdictIn h
 unfolding verdictOf
 verdict-says h j good =
     let s = standing h in
-    let count = summed-same (fileOf h) (placesIn h) s j good in
-    let empties = empties-same (fileOf h) (placesIn h) s j good in
-    same-choice (lacksBoard j) (eqb (placesIn h) 0) (refused 21)
-    (cond (eqb (emptyPlaces (j .board)) 0) (cond (isYes j) (keeps (summedCount (j .board))) (breaks (summedCount (j .board)))) (waiting (emptyPlaces (j .board))))
-    (cond (eqb (emptiesIn h) 0) (cond (yesIn h) (keeps (summedIn h)) (breaks (summedIn h))) (waiting (emptiesIn h)))
-    (no-board (fileOf h) (placesIn h) s j good)
-    (λ b.
-    let y = by-rule (fileOf h) (placesIn h) s j good (positive b) in
-    ap (λ (e : ℕ). cond (eqb e 0) (cond (isYes j) (keeps (summedCount (j .board))) (breaks (summedCount (j .board)))) (waiting e)) empties
-    ∙ ap₂ (λ (t : Bool) (c : ℕ). cond (eqb (emptiesIn h) 0) (cond t (keeps c) (breaks c)) (waiting (emptiesIn h))) y count)
+    let board = no-board (fileOf h) (placesIn h) s j good in
+    by-test (eqb (placesIn h) 0)
+    (λ t. let none-there : lacksBoard j ≡ true = board ∙ t in rw (none-there, t))
+    (λ t.
+    let some-there : lacksBoard j ≡ false = board ∙ t in
+    let empties : emptyPlaces (j .board) ≡ emptiesIn h = empties-same (fileOf h) (placesIn h) s j good in
+    let joined : isYes j ≡ yesIn h = by-rule (fileOf h) (placesIn h) s j good (positive t) in
+    let sum : summedCount (j .board) ≡ summedIn h = summed-same (fileOf h) (placesIn h) s j good in
+    ap₄ verdictBy (some-there ∙ sym t) empties joined sum)
   where
     positive : eqb (placesIn h) 0 ≡ false → 0 < placesIn h
     positive b = let ne = eqb-false (placesIn h) 0 b in omega arith
+
+    ap₄ : {A B C D E : Type 0} (f : A → B → C → D → E) {a x : A} {b y : B} {c z : C} {d w : D} → a ≡ x → b ≡ y → c ≡ z → d ≡ w → f a b c d ≡ f x y z w
+    ap₄ f p q r s = cc

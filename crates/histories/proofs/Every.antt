@@ -4,6 +4,7 @@ use mathlib.Core.Path.{_≡_, refl, ap₂}
 use mathlib.Core.List.{List, [], _∷_}
 use mathlib.Core.Option.{none}
 use Prim.Native.Nat.{ℕ}
+use Rattle.executions.specs.Executions.{stateAfter, repliesTo as machineReplies}
 use Rattle.ruleformat.specs.Reader.{ruleOf}
 use Rattle.ruleformat.specs.Language.{automatonIn}
 use Rattle.delegates.specs.Alike.{Merged}
@@ -45,12 +46,12 @@ module _ (h : List Call) (j : Judge) (g : Good h j) where
 
 -- ---- every list
 good : (h : List Call) → Good h (judgeAfter h)
-unfolding judgeAfter
+unfolding stateAfter
 good [] = good-fresh
 good (c ∷ h) = step-good h (judgeAfter h) (good h) c
 
 all-right : (h : List Call) → repliesTo h ≡ answersTo h
-unfolding repliesTo answersTo
+unfolding machineReplies answersTo
 all-right [] = refl
 all-right (c ∷ h) = ap₂ _∷_ (step-right h (judgeAfter h) (good h) c) (all-right h)
 

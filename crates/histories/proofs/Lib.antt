@@ -7,7 +7,7 @@ pub mod Listed
 pub mod Asked
 pub mod Words
 pub mod Every
-pub mod Tied
+pub mod Allowed
 pub mod Taken
 pub mod Never
 pub mod TwoRules

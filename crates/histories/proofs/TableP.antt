@@ -20,37 +20,32 @@ use Rattle.delegates.specs.declared.Starts.{Starts}
 use Rattle.delegates.specs.Claims.{startsIn}
 use Rattle.build.specs.Building.{builtOf}
 use Rattle.chunks.specs.Chunks.{foreign, counted, startSet, runSet, endSet, total, chunkCount}
-use Rattle.joins.specs.Joining.{joinUpTo, saysYes}
-use Rattle.histories.specs.History.{isNone, isSome, fileOf, ruleFrom, openNumber, placesIn, deliverCheck, standing, deliverNumber, verdictIn, answersTo}
+use Rattle.joins.specs.Joining.{joinOf, yesOf}
+use Rattle.joins.specs.Claims.{delegateIn}
+use Rattle.histories.specs.History.{isNone, isSome, fileOf, ruleFrom, openNumber, placesIn, standingCount, standingEnd, deliverCheck, standing, deliverNumber, verdictIn, answersTo}
 use Rattle.calls.specs.Replies.{Reply, accepted, loaded, waiting, keeps, breaks, refused}
-use Rattle.calls.specs.Calls.{Call, loads, opens, delivers, loadNumber, deliverConditions}
+use Rattle.calls.specs.Calls.{Call, loads, opens, delivers, loadNumber, deliverConditions, verdictBy}
 use Rattle.histories.specs.Claims.{judgeAfter, BuiltBy}
 use Rattle.histories.specs.TableP.{Result, sets, delegates, verdict, turned-down, Case, case, delivering, callsFor, callsOf, repliesOf, rowsFrom, Shows, Each, Case-holds, table, TableP}
 use Rattle.histories.proofs.Listed.{and-true}
 use Rattle.histories.proofs.Every.{every-list}
 use Rattle.histories.proofs.TwoRules.{listed, starts-A, starts-B}
 
--- ---- the definitions with the delegates d put in
+-- ---- what hangs on the delegates, with the delegates d put in
 module _ (r : Rule) (d : List ℕ) (places : ℕ) (at : ℕ → Option (List ℕ)) where
-  abbrev countBy : ℕ → Option (List ℕ) → ℕ
-  countBy p none = 0
-  countBy p (some w) = chunkCount (r .targets) (runSet d (r .n) (r .initials) p) w
-
-  abbrev endBy : ℕ → ℕ → Option (List ℕ) → ℕ
-  endBy p q none = 0
-  endBy p q (some w) = endSet (r .targets) (runSet d (r .n) (r .initials) p) w q
+  abbrev countsBy : ℕ → Option (List ℕ) → ℕ
+  countsBy p chunk = standingCount (r .targets) (runSet d (r .n) (r .initials) p) chunk
 
   abbrev checkBy : ℕ → List ℕ → Option ℕ
   checkBy p w =
       firstOf
-      (deliverConditions (eqb places 0) places p w (r .k) (isSome (at p)) (total (λ i. countBy i (at i)) places + countBy p (some w)))
+      (deliverConditions (eqb places 0) places p w (r .k) (isSome (at p)) (total (λ i. countsBy i (at i)) places + countsBy p (some w)))
 
-  abbrev verdictBy : Reply
-  verdictBy =
-      let empties = total (λ p. cond (isNone (at p)) 1 0) places in
-      let sum = total (λ p. countBy p (at p)) places in
-      let yes-there = saysYes (listFrom 0 2048 (λ cell. endBy (cell / 32) (cell % 32) (at (cell / 32)))) d (r .n) (r .initials) (r .finals) places in
-      cond (eqb places 0) (refused 21) (cond (eqb empties 0) (cond yes-there (keeps sum) (breaks sum)) (waiting empties))
+  abbrev verdictWith : Reply
+  verdictWith =
+      verdictBy (eqb places 0) (total (λ p. cond (isNone (at p)) 1 0) places)
+      (yesOf (λ p q. standingEnd (r .targets) (runSet d (r .n) (r .initials) p) q (at p)) (delegateIn d) (r .n) (r .initials) (r .finals) places)
+      (total (λ p. countsBy p (at p)) places)
 
 -- ---- the calls of a verdict, one by one: the rule is that of f, and the board has these places and standing chunks
 record Stage (f : List ℕ) (h : List Call) (places : ℕ) (at : ℕ → Option (List ℕ)) : Type 0 where
@@ -105,11 +100,11 @@ module _ (f d : List ℕ) (is : startsIn (ruleOf f) .delegates ≡ d) (places : 
       shift zero l = refl
       shift (suc n) l = ap (λ (x : List Reply). accepted ∷ x) (shift n l)
 
-  asked : (h : List Call) (at : ℕ → Option (List ℕ)) → Stage f h places at → verdictIn h ≡ verdictBy (ruleOf f) d places at
+  asked : (h : List Call) (at : ℕ → Option (List ℕ)) → Stage f h places at → verdictIn h ≡ verdictWith (ruleOf f) d places at
   asked h at s =
-      subst₃ (λ (x : Option (List ℕ)) (y : ℕ) (z : ℕ → Option (List ℕ)). verdictBy (ruleFrom x) (startsIn (ruleFrom x) .delegates) y z ≡ verdictBy (ruleOf f) d places at)
+      subst₃ (λ (x : Option (List ℕ)) (y : ℕ) (z : ℕ → Option (List ℕ)). verdictWith (ruleFrom x) (startsIn (ruleFrom x) .delegates) y z ≡ verdictWith (ruleOf f) d places at)
       (sym (s .file)) (sym (s .board)) (sym (s .stands))
-      (ap (λ (x : List ℕ). verdictBy (ruleOf f) x places at) is)
+      (ap (λ (x : List ℕ). verdictWith (ruleOf f) x places at) is)
 
 -- ---- what is left to compute
 -- of a case: its answers; of an accepted file, that it is the last, and what shows in the rule built
@@ -124,7 +119,7 @@ abbrev Taken : List ℕ → Reply → Starts → List (List ℕ) → Reply → T
 Taken f load x chunks reply =
     (loadNumber f ≡ none) × (loaded (length (setsOf (ruleOf f .targets) (ruleOf f .n) (ruleOf f .k))) (x .count) ≡ load) × (outside 1 64 (length chunks) ≡ false)
     × Checked (ruleOf f) (x .delegates) (length chunks) 0 chunks (λ _. none)
-    × (verdictBy (ruleOf f) (x .delegates) (length chunks) (putAll 0 chunks (λ _. none)) ≡ reply)
+    × (verdictWith (ruleOf f) (x .delegates) (length chunks) (putAll 0 chunks (λ _. none)) ≡ reply)
 
 verdict-answers : (f : List ℕ) (load : Reply) (x : Starts) (chunks : List (List ℕ)) (reply : Reply) → startsIn (ruleOf f) ≡ x → Taken f load x chunks reply
     → Answers (case f load (verdict chunks reply))
@@ -171,7 +166,7 @@ abbrev given-B : Starts
 given-B = record { delegates = listed 0 1 1; count = 2 }
 
 computed : Each Left table
-unfolding answersTo loadNumber refusal tooShort tooLong badStates badSymbols noRoom badMask badPairs badSection badArcs anyBelow targetsUpTo listFrom union numberIn numbered expandFrom closeFrom setsUpTo setsOf tooMany nextSet rowsFrom fileOf placesIn standing foreign counted startSet total joinUpTo
+unfolding answersTo loadNumber refusal tooShort tooLong badStates badSymbols noRoom badMask badPairs badSection badArcs anyBelow targetsUpTo listFrom union numberIn numbered expandFrom closeFrom setsUpTo setsOf tooMany nextSet rowsFrom fileOf placesIn standing foreign counted startSet total joinOf
 computed =
     (rw starts-A, (refl, (refl, refl))) &
     (rw starts-B, (refl, rw starts-B)) &

@@ -1,13 +1,14 @@
 -- The words of demand 3 for the verdict that a list of calls says. Assumes nothing.
 --
--- The last one goes so: with no place empty, the standing chunks are a list of texts, the cells of the definition's join are their end sets, and
--- the theorem of the join applies to that list.
+-- Which of the four a verdict is, is told by its numbers (`which`); 21, waiting and the counts follow. Yes and no go so: with no place empty, the
+-- standing chunks are a list of texts, what the places hold are their end sets, and the theorem of the join applies to that list. The bounds on
+-- the counts are those of the chunks, of which an empty one counts nothing.
 use mathlib.Core.Path.{_≡_, refl, sym, ap, ap₂, _∙_, subst, subst₂}
 use mathlib.Core.Logic.{_↔_}
 use mathlib.Core.Bool.{Bool, true, false, cond}
 use mathlib.Core.List.{List, [], _∷_, _++_, flatten, append-assoc, append-nil}
 use mathlib.Core.Option.{Option, none, some}
-use Prim.Native.Nat.{ℕ, zero, suc, _+_, _*_, _/_, _%_, _≤_, _<_, zero-le}
+use Prim.Native.Nat.{ℕ, zero, suc, _+_, _*_, _≤_, _<_, zero-le}
 use native.Mathlib.Numerals.{add-one}
 use native.Mathlib.Omega.{arith}
 use lib.Dec.{eqb, ltb}
@@ -15,9 +16,7 @@ use lib.ListN.{length, getD, length-append, List·getD-append}
 use lib.Seq.{getD-at}
 use borrow.Author.Tests.{lt-ltb, eq-eqb, ne-eqb, eqb-true, eqb-false, ltb-true, ltb-false}
 use Rattle.masks.specs.Masks.{has}
-use Rattle.masks.specs.Lists.{listFrom}
 use Rattle.masks.proofs.Cases.{by-test}
-use Rattle.masks.proofs.Lists.{cell-of}
 use Rattle.automaton.specs.declared.Rule.{Rule}
 use Rattle.automaton.specs.Automaton.{Accepts}
 use Rattle.automaton.specs.Rules.{automatonOf, WellFormed}
@@ -29,7 +28,8 @@ use Rattle.subsets.specs.Claims.{fits}
 use Rattle.delegates.specs.Alike.{Text}
 use Rattle.delegates.specs.Claims.{startsIn}
 use Rattle.chunks.specs.Chunks.{counted, endSet, total, chunkCount}
-use Rattle.joins.specs.Joining.{saysYes}
+use Rattle.joins.specs.Joining.{yesOf}
+use Rattle.joins.specs.Claims.{delegateIn}
 use Rattle.joins.specs.Claims as joins-specs
 use Rattle.joins.proofs.Claims as joins
 use Rattle.chunks.proofs.Totals.{total-same}
@@ -38,7 +38,7 @@ use Rattle.calls.specs.declared.Judge.{Judge}
 use Rattle.calls.specs.Replies.{Reply, waiting, keeps, breaks, refused}
 use Rattle.calls.proofs.Conditions.{not-refused}
 use Rattle.histories.specs.History.{isNone, fileOf, ruleFrom, openNumber, boardIn, placesIn, runAt, countOf, endOf, standing, emptiesIn, summedIn, yesIn, chunkOf, joinedUpTo}
-use Rattle.calls.specs.Calls.{Call, loads, opens, delivers, withdraws, asks, loadNumber}
+use Rattle.calls.specs.Calls.{Call, loads, opens, delivers, withdraws, asks, loadNumber, verdictBy}
 use Rattle.histories.specs.Claims.{automatonBy, Verdict-words}
 use Rattle.histories.proofs.Running.{merged}
 use Rattle.histories.proofs.Holding.{Holds}
@@ -48,7 +48,7 @@ use Rattle.histories.proofs.Listed.{Good, file-accepted}
 -- ---- the verdict by its numbers
 module _ (places empties : ℕ) (yes-there : Bool) (sum : ℕ) where
   abbrev by-numbers : Reply
-  by-numbers = cond (eqb places 0) (refused 21) (cond (eqb empties 0) (cond yes-there (keeps sum) (breaks sum)) (waiting empties))
+  by-numbers = verdictBy (eqb places 0) empties yes-there sum
 
   -- which of the four it is, with what it says
   data Which : Type 0 where
@@ -229,26 +229,28 @@ module _ (r : Rule) (good : WellFormed r) (fit : fits r) (places : ℕ) (at : �
       no-term true x = absurd (let y = x in omega arith)
       no-term false x = refl
 
-  accepts-law : places ≤ 64 → ((p : ℕ) (w : List ℕ) → at p ≡ some w → Text (r .k) w) → total (λ p. cond (isNone (at p)) 1 0) places ≡ 0
-      → (saysYes (listFrom 0 2048 (λ cell. endOf r (cell / 32) (cell % 32) (at (cell / 32)))) (startsIn r .delegates) (r .n) (r .initials) (r .finals) places ≡ true)
+  -- what each place holds, by place and state
+  abbrev held-at : ℕ → ℕ → ℕ
+  held-at p q = endOf r p q (at p)
+
+  accepts-law : ((p : ℕ) (w : List ℕ) → at p ≡ some w → Text (r .k) w) → total (λ p. cond (isNone (at p)) 1 0) places ≡ 0
+      → (yesOf held-at (delegateIn (startsIn r .delegates)) (r .n) (r .initials) (r .finals) places ≡ true)
       ↔ Accepts (automatonOf r) (joinedUpTo at places)
-  accepts-law few texts z =
+  accepts-law texts z =
       let ws = chunksUpTo at places in
-      let ends = listFrom 0 2048 (λ cell. endOf r (cell / 32) (cell % 32) (at (cell / 32))) in
-      subst₂ (λ (x : ℕ) (y : List ℕ). (saysYes ends (startsIn r .delegates) (r .n) (r .initials) (r .finals) x ≡ true) ↔ Accepts (automatonOf r) y)
+      let d = startsIn r .delegates in
+      let holds : joins-specs.Holds r d held-at ws =
+      λ p l q b.
+      let lp : p < places = rw (chunks-length at places) at l in
+      filled p (at p) (none-empty z p lp) q ∙ ap (λ (w : List ℕ). endSet (r .targets) (runAt r p) w q) (sym (chunk-at at places p lp)) in
+      subst₂ (λ (x : ℕ) (y : List ℕ). (yesOf held-at (delegateIn d) (r .n) (r .initials) (r .finals) x ≡ true) ↔ Accepts (automatonOf r) y)
       (chunks-length at places)
       (sym (joined-is at places))
-      (joins.claims .join r good (startsIn r .delegates) (startsIn r .count) (merged r good fit) ends ws (chunk-texts (r .k) at texts places) holds)
-    where
-      holds : joins-specs.Holds r (startsIn r .delegates) (listFrom 0 2048 (λ cell. endOf r (cell / 32) (cell % 32) (at (cell / 32)))) (chunksUpTo at places)
-      holds p l q b =
-          let lp : p < places = rw (chunks-length at places) at l in
-          let row : (p * 32 + q) / 32 ≡ p = omega arith in
-          let col : (p * 32 + q) % 32 ≡ q = omega arith in
-          cell-of 2048 (λ cell. endOf r (cell / 32) (cell % 32) (at (cell / 32))) (p * 32 + q) 0 (omega arith)
-          ∙ ap₂ (λ (x y : ℕ). endOf r x y (at x)) row col
-          ∙ filled p (at p) (none-empty z p lp) q
-          ∙ ap (λ (w : List ℕ). endSet (r .targets) (runAt r p) w q) (sym (chunk-at at places p lp))
+      (joins.claims .join r good d (startsIn r .count) (merged r good fit) held-at ws (chunk-texts (r .k) at texts places) holds)
+
+  place-most : (p : ℕ) → countOf r p (at p) ≤ startsIn r .count * length (chunkOf (at p))
+  place-most p =
+      rw (count-is p (at p)) (joins.claims .place-most r good (startsIn r .delegates) (startsIn r .count) (merged r good fit) p (chunkOf (at p)))
 
 -- ---- for every list of calls
 both : {A B C : Type 0} → A ↔ B → B ↔ C → A ↔ C
@@ -265,10 +267,19 @@ module _ (places : ℕ) (at : ℕ → Option (List ℕ)) (j : Judge) where
   most-by (some f) holds =
       sum-most (ruleOf f) (holds .rule .1) (holds .rule .2) places at
 
+  place-by : (file : Option (List ℕ)) → Holds file places at j → (p : ℕ)
+      → countOf (ruleFrom file) p (at p) ≤ startsIn (ruleFrom file) .count * length (chunkOf (at p))
+  place-by none holds p =
+      let free : places ≤ p = by-test (ltb 0 places)
+      (λ l. absurd (let e : true ≡ false = holds .ruled (ltb-true 0 places l) in let z : _≡_ {A = ℕ} 0 1 = cc in omega arith))
+      (λ l. omega (arith, ltb-false 0 places l)) in
+      rw (holds .beyond p free) (omega arith)
+  place-by (some f) holds p = place-most (ruleOf f) (holds .rule .1) (holds .rule .2) places at p
+
   -- the file's automaton and the rule's accept the same texts
   accepts-by : (file : Option (List ℕ)) → ((f : List ℕ) → file ≡ some f → loadNumber f ≡ none) → Holds file places at j → 0 < places
       → total (λ p. cond (isNone (at p)) 1 0) places ≡ 0
-      → (saysYes (listFrom 0 2048 (λ cell. endOf (ruleFrom file) (cell / 32) (cell % 32) (at (cell / 32)))) (startsIn (ruleFrom file) .delegates) (ruleFrom file .n) (ruleFrom file .initials) (ruleFrom file .finals) places ≡ true)
+      → (yesOf (λ p q. endOf (ruleFrom file) p q (at p)) (delegateIn (startsIn (ruleFrom file) .delegates)) (ruleFrom file .n) (ruleFrom file .initials) (ruleFrom file .finals) places ≡ true)
       ↔ Accepts (automatonBy file) (joinedUpTo at places)
   accepts-by none taken holds h z = absurd (let e : true ≡ false = holds .ruled h in let y : _≡_ {A = ℕ} 0 1 = cc in omega arith)
   accepts-by (some f) taken holds h z =
@@ -276,7 +287,6 @@ module _ (places : ℕ) (at : ℕ → Option (List ℕ)) (j : Judge) where
       both
       (accepts-law (ruleOf f) (holds .rule .1) (holds .rule .2) places
       at
-      (holds .few)
       (holds .texts)
       z)
       (same .1, same .0)
@@ -325,6 +335,7 @@ words h j good =
       counted = yes-count (placesIn h) (emptiesIn h) (yesIn h) (summedIn h);
       counted-no = no-count (placesIn h) (emptiesIn h) (yesIn h) (summedIn h);
       most = most-by (placesIn h) s j (fileOf h) good;
+      place-most = place-by (placesIn h) s j (fileOf h) good;
       accepts = λ b e.
           both (yes-law (placesIn h) (emptiesIn h) (yesIn h) (summedIn h) (there h b) e) (accepts-by (placesIn h) s j (fileOf h) (file-accepted h) good (there h b) e);
       rejects = λ b e.

@@ -13,10 +13,11 @@
 use mathlib.Core.Path.{_≡_}
 use mathlib.Core.Logic.{_↔_}
 use mathlib.Core.Bool.{true, false}
-use mathlib.Core.List.{List, [], _∷_}
+use mathlib.Core.List.{List}
 use mathlib.Core.Option.{Option, none, some}
 use Prim.Native.Nat.{ℕ, _+_, _*_, _≤_, _<_}
 use lib.ListN.{length, getD}
+use Rattle.executions.specs.Executions.{Machine, stateAfter, repliesTo as machineReplies}
 use Rattle.automaton.specs.Automaton.{Automaton, Accepts}
 use Rattle.automaton.specs.Rules.{automatonOf, WellFormed}
 use Rattle.ruleformat.specs.Reader.{ruleOf, noRule}
@@ -29,18 +30,19 @@ use Rattle.chunks.specs.Chunks.{foreign}
 use Rattle.board.specs.Boards.{held, isEmpty, summedCount}
 use Rattle.calls.specs.declared.Judge.{Judge}
 use Rattle.calls.specs.Replies.{Reply, accepted, waiting, keeps, breaks, refused}
-use Rattle.histories.specs.History.{isNone, fileOf, ruleIn, boardIn, placesIn, countOf, standing, endAt, countAt, emptiesIn, summedIn, yesIn, textIn, verdictIn, answerOf, answersTo}
+use Rattle.histories.specs.History.{isNone, fileOf, ruleIn, boardIn, placesIn, countOf, standing, endAt, countAt, emptiesIn, summedIn, yesIn, chunkOf, textIn, verdictIn, answerOf, answersTo}
 use Rattle.calls.specs.Calls.{Call, opens, delivers, withdraws, loadNumber}
 use Rattle.calls.specs.Steps.{fresh, isYes, verdictOf, stepOf}
 
--- the judge after a list of calls, and the replies to them; the last first
-unfoldable pub judgeAfter : List Call → Judge
-judgeAfter [] = fresh
-judgeAfter (c ∷ h) = stepOf (judgeAfter h) c .leaves
+-- the judge as a machine: what a call comes to is crates/calls' stepOf
+abbrev pub judgeMachine : Machine Judge Call Reply
+judgeMachine = record { fresh = fresh; reply = λ j c. stepOf j c .says; next = λ j c. stepOf j c .leaves }
 
-unfoldable pub repliesTo : List Call → List Reply
-repliesTo [] = []
-repliesTo (c ∷ h) = stepOf (judgeAfter h) c .says ∷ repliesTo h
+abbrev pub judgeAfter : List Call → Judge
+judgeAfter h = stateAfter judgeMachine h
+
+abbrev pub repliesTo : List Call → List Reply
+repliesTo h = machineReplies judgeMachine h
 
 abbrev pub BuiltBy : Option (List ℕ) → Judge → Type 0
 BuiltBy none j = j .built ≡ noBuilt
@@ -80,6 +82,8 @@ pub record Verdict-words (h : List Call) : Type 0 where
   pub counted : (c : ℕ) → verdictIn h ≡ keeps c → c ≡ summedIn h
   pub counted-no : (c : ℕ) → verdictIn h ≡ breaks c → c ≡ summedIn h
   pub most : summedIn h ≤ startsIn (ruleIn h) .count * length (textIn h)
+  -- and so it is at each place
+  pub place-most : (p : ℕ) → countAt h p ≤ startsIn (ruleIn h) .count * length (chunkOf (standing h p))
 
 -- which calls are accepted after the calls h: those of which every condition for a refusal fails, spelt out one by one
 pub record Accepted-exactly (h : List Call) : Type 0 where

@@ -8,7 +8,7 @@
 --   standing h p             the standing chunk at place p, or none
 --   endAt h p q, countAt h p       what place p holds: the end set of state q, and the count
 --   runAt r p                the states that are run at place p, by the rule r
---   countOf r p chunk, endOf r p q chunk   the same of a chunk at place p, by the rule r; 0 where there is none
+--   countOf r p chunk, endOf r p q chunk   the same of what stands at place p, by the rule r: standingCount and standingEnd
 --   deliverCheck, withdrawCheck    the conditions of a delivery and a withdrawal in order, by the places and the chunk standing at each
 --   deliverNumber, withdrawNumber  they after the calls h: 21, 11, 12, 13, 22, 24 and 21, 11, 23
 --   emptiesIn h, summedIn h        how many places are empty, and the sum of the counts
@@ -20,19 +20,19 @@
 use mathlib.Core.Bool.{Bool, true, false, cond, _&&_}
 use mathlib.Core.List.{List, [], _∷_, _++_}
 use mathlib.Core.Option.{Option, none, some}
-use Prim.Native.Nat.{ℕ, zero, suc, _+_, _/_, _%_}
+use Prim.Native.Nat.{ℕ, zero, suc, _+_}
 use lib.Dec.{eqb}
 use lib.ListN.{length}
-use Rattle.masks.specs.Lists.{listFrom}
 use Rattle.automaton.specs.declared.Rule.{Rule}
 use Rattle.ruleformat.specs.Conditions.{firstOf}
 use Rattle.ruleformat.specs.Reader.{ruleOf, noRule}
 use Rattle.subsets.specs.Sets.{setsOf}
 use Rattle.delegates.specs.Claims.{startsIn}
 use Rattle.chunks.specs.Chunks.{runSet, endSet, total, chunkCount}
-use Rattle.joins.specs.Joining.{saysYes}
-use Rattle.calls.specs.Replies.{Reply, accepted, loaded, waiting, keeps, breaks, refused}
-use Rattle.calls.specs.Calls.{Call, loads, opens, delivers, withdraws, asks, loadNumber, openConditions, deliverConditions, withdrawConditions}
+use Rattle.joins.specs.Joining.{yesOf}
+use Rattle.joins.specs.Claims.{delegateIn}
+use Rattle.calls.specs.Replies.{Reply, accepted, loaded, refused}
+use Rattle.calls.specs.Calls.{Call, loads, opens, delivers, withdraws, asks, loadNumber, openConditions, deliverConditions, withdrawConditions, verdictBy}
 
 -- there is no value, and there is one
 abbrev pub isNone : {A : Type 0} → Option A → Bool
@@ -79,18 +79,25 @@ placesIn (delivers p w ∷ h) = placesIn h
 placesIn (withdraws p ∷ h) = placesIn h
 placesIn (asks ∷ h) = placesIn h
 
+-- ---- what stands at a place comes to, where `run` has the states that are run there; 0 where nothing stands
+abbrev pub standingCount : List ℕ → ℕ → Option (List ℕ) → ℕ
+standingCount ts run none = 0
+standingCount ts run (some w) = chunkCount ts run w
+
+abbrev pub standingEnd : List ℕ → ℕ → ℕ → Option (List ℕ) → ℕ
+standingEnd ts run q none = 0
+standingEnd ts run q (some w) = endSet ts run w q
+
 -- ---- which chunk stands where. `at` gives the standing chunk at each place
 module _ (r : Rule) where
   abbrev pub runAt : ℕ → ℕ
   runAt p = runSet (startsIn r .delegates) (r .n) (r .initials) p
 
   abbrev pub countOf : ℕ → Option (List ℕ) → ℕ
-  countOf p none = 0
-  countOf p (some w) = chunkCount (r .targets) (runAt p) w
+  countOf p chunk = standingCount (r .targets) (runAt p) chunk
 
   abbrev pub endOf : ℕ → ℕ → Option (List ℕ) → ℕ
-  endOf p q none = 0
-  endOf p q (some w) = endSet (r .targets) (runAt p) w q
+  endOf p q chunk = standingEnd (r .targets) (runAt p) q chunk
 
   abbrev pub deliverCheck : ℕ → (ℕ → Option (List ℕ)) → ℕ → List ℕ → Option ℕ
   deliverCheck places at p w =
@@ -130,12 +137,10 @@ module _ (h : List Call) where
 
   -- the yes or no is the join of the end sets, place by place
   abbrev pub yesIn : Bool
-  yesIn = saysYes (listFrom 0 2048 (λ cell. endAt (cell / 32) (cell % 32))) (startsIn (ruleIn h) .delegates) (ruleIn h .n) (ruleIn h .initials) (ruleIn h .finals) (placesIn h)
+  yesIn = yesOf endAt (delegateIn (startsIn (ruleIn h) .delegates)) (ruleIn h .n) (ruleIn h .initials) (ruleIn h .finals) (placesIn h)
 
   abbrev pub verdictIn : Reply
-  verdictIn =
-      cond (eqb (placesIn h) 0) (refused 21)
-      (cond (eqb emptiesIn 0) (cond yesIn (keeps summedIn) (breaks summedIn)) (waiting emptiesIn))
+  verdictIn = verdictBy (eqb (placesIn h) 0) emptiesIn yesIn summedIn
 
 -- the chunk itself; an empty place has none
 abbrev pub chunkOf : Option (List ℕ) → List ℕ

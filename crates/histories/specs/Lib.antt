@@ -1,4 +1,5 @@
 -- In the order in which to read them.
 pub mod History
 pub mod Claims
+pub mod Functions
 pub mod TableP

@@ -35,8 +35,11 @@ module _ (given : ChunksClaims) (r : Rule) (good : WellFormed r) (d : List ℕ) 
       (merged .delegates (u .0) (u .1) .state, delegates-start (automatonOf r) d m merged (u .0) (u .1)))
   run-start (suc p) q i = i
 
+  pub place-most : (p : ℕ) (w : List ℕ) → chunkCount (r .targets) (runSet d (r .n) (r .initials) p) w ≤ m * length w
+  place-most p w =
+      rw (merged .starts)
+      (given .chunk-most (r .targets) d (r .n) (runSet d (r .n) (r .initials) p) (omega (arith, good .states)) (run-start p) w)
+
   pub count-most : (ws : List (List ℕ)) → countOf r d ws ≤ m * length (flatten ws)
   count-most ws =
-      flat-most m ws (λ p. chunkCount (r .targets) (runSet d (r .n) (r .initials) p) (getD ws p [])) λ p l.
-      rw (merged .starts)
-      (given .chunk-most (r .targets) d (r .n) (runSet d (r .n) (r .initials) p) (omega (arith, good .states)) (run-start p) (getD ws p []))
+      flat-most m ws (λ p. chunkCount (r .targets) (runSet d (r .n) (r .initials) p) (getD ws p [])) (λ p l. place-most p (getD ws p []))

@@ -2,15 +2,15 @@
 -- Assumes nothing.
 use mathlib.Core.Path.{_≡_, refl}
 use mathlib.Core.List.{List, [], _∷_, flatten}
-use Prim.Native.Nat.{ℕ, _*_, _/_, _%_}
-use lib.ListN.{length, getD}
+use Prim.Native.Nat.{ℕ}
+use lib.ListN.{getD}
 use Rattle.masks.specs.Masks.{union}
-use Rattle.masks.specs.Lists.{listFrom}
 use Rattle.automaton.specs.declared.Rule.{Rule}
 use Rattle.automaton.specs.Successor.{after}
 use Rattle.subsets.proofs.Examples.{ruleB as targetsB}
 use Rattle.chunks.specs.Chunks.{startSet, runSet, endSet}
-use Rattle.joins.specs.Joining.{joinUpTo}
+use Rattle.joins.specs.Joining.{joinOf}
+use Rattle.joins.specs.Claims.{delegateIn}
 
 abbrev ruleB : Rule
 ruleB = record { n = 3; k = 1; initials = 1; finals = 6; targets = targetsB }
@@ -18,17 +18,16 @@ ruleB = record { n = 3; k = 1; initials = 1; finals = 6; targets = targetsB }
 abbrev delegatesB : List ℕ
 delegatesB = 0 ∷ 1 ∷ 1 ∷ []
 
--- the end sets of the chunks, 32 cells a place
-abbrev endsOf : Rule → List ℕ → List (List ℕ) → List ℕ
-endsOf r d ws =
-    listFrom 0 (length ws * 32) (λ c. endSet (r .targets) (runSet d (r .n) (r .initials) (c / 32)) (getD ws (c / 32) []) (c % 32))
+-- the end set of state q at place p
+abbrev endsOf : Rule → List ℕ → List (List ℕ) → ℕ → ℕ → ℕ
+endsOf r d ws p q = endSet (r .targets) (runSet d (r .n) (r .initials) p) (getD ws p []) q
 
 -- B with 0 and then an empty chunk: C is {1}, and the automaton reaches {1, 2}
 abbrev apart : List (List ℕ)
 apart = (0 ∷ []) ∷ [] ∷ []
 
-pub c-apart : joinUpTo (endsOf ruleB delegatesB apart) delegatesB 3 1 2 ≡ 2
-unfolding union listFrom startSet joinUpTo
+pub c-apart : joinOf (endsOf ruleB delegatesB apart) (delegateIn delegatesB) 3 1 2 ≡ 2
+unfolding union startSet joinOf
 c-apart = refl
 
 pub reached-apart : after targetsB 1 (flatten apart) ≡ 6

@@ -10,9 +10,7 @@ use mathlib.Core.Logic.{_↔_}
 use mathlib.Core.Bool.{Bool, true, false, cond}
 use mathlib.Core.List.{List, [], _++_, flatten}
 use Prim.Native.Nat.{ℕ, zero, suc, _+_, _*_, _%_, _^_, _≤_, _<_}
-use native.Mathlib.Nat.{min-eq-left}
 use native.Mathlib.Omega.{arith}
-use lib.Bits.{bitOr}
 use lib.ListN.{length, getD, drop}
 use lib.Pow.{pow-lt, pow-pos}
 use lib.Seq.{drop-cons, drop-length}
@@ -28,8 +26,9 @@ use Rattle.delegates.specs.Alike.{Text, Merged}
 use Rattle.delegates.proofs.Alike.{delegates-start}
 use Rattle.chunks.specs.Chunks.{runSet, endSet}
 use Rattle.chunks.specs.Claims.{Claims as ChunksClaims}
-use Rattle.joins.specs.Joining.{joinUpTo, saysYes}
-use Rattle.joins.specs.Claims.{Texts, Holds}
+use Rattle.joins.specs.Joining.{joinOf, yesOf}
+use Rattle.joins.specs.Claims.{Texts, delegateIn, Holds}
+use Rattle.joins.proofs.Clamped.{union-same}
 use Rattle.joins.proofs.Acceptance.{Accepting, accepting-law, accepting-single, text-flatten, texts-drop}
 
 -- where a state is not run its end set is empty
@@ -41,26 +40,19 @@ end-below : (r : Rule) → WellFormed r → (run : ℕ) (w : List ℕ) (q : ℕ)
 end-below r good run w q h =
     by-test (has run q) (λ e. rw e (after-below r good (single q) w (pow-lt h))) (λ e. rw e (pow-pos (r .n)))
 
--- a union of the same sets
-union-same : (f g : ℕ → ℕ) (m n : ℕ) → ((q : ℕ) → q < n → f q ≡ g q) → union f m n ≡ union g m n
-unfolding union
-union-same f g m zero h = refl
-union-same f g m (suc n) h =
-    ap₂ bitOr (union-same f g m n (λ q l. h q (omega arith))) (ap (λ (x : ℕ). cond (has m n) x 0) (h n (omega arith)))
-
 module _ (given : ChunksClaims) (r : Rule) (good : WellFormed r) (d : List ℕ) (m : ℕ) (merged : Merged (automatonOf r) d m)
-    (ends : List ℕ) (ws : List (List ℕ)) (texts : Texts (r .k) ws) (holds : Holds r d ends ws) where
+    (e : ℕ → ℕ → ℕ) (ws : List (List ℕ)) (texts : Texts (r .k) ws) (holds : Holds r d e ws) where
   -- the states that are run at place p
   run : ℕ → ℕ
   run p = runSet d (r .n) (r .initials) p
 
   -- C after p places
   joined : ℕ → ℕ
-  joined p = joinUpTo ends d (r .n) (r .initials) p
+  joined p = joinOf e (delegateIn d) (r .n) (r .initials) p
 
   -- the delegate of a member of C is run at the place
   delegate-run : (p q : ℕ) → q < r .n → q ∈ joined p → getD d q 0 ∈ run p
-  unfolding run joined joinUpTo
+  unfolding run joined joinOf
   delegate-run zero q h i = given .delegate-law d (r .n) (r .initials) (getD d q 0) .1 (q, h, i, refl)
   delegate-run (suc p) q h i =
       given .start-law d (r .n) (getD d q 0) .1 (merged .delegates q h .state, delegates-start (automatonOf r) d m merged q h)
@@ -69,22 +61,18 @@ module _ (given : ChunksClaims) (r : Rule) (good : WellFormed r) (d : List ℕ) 
   delegate-ends : ℕ → ℕ → ℕ
   delegate-ends p q = endSet (r .targets) (run p) (getD ws p []) (getD d q 0)
 
-  looked-up : (p : ℕ) → p < length ws → (q : ℕ) → q < r .n → getD ends (p * 32 + getD d q 0 % 32) 0 ≡ delegate-ends p q
+  looked-up : (p : ℕ) → p < length ws → (q : ℕ) → q < r .n → e p (delegateIn d q) ≡ delegate-ends p q
   unfolding run delegate-ends
-  looked-up p h q l =
-      let s = merged .delegates q l .state in
-      let e : getD d q 0 % 32 ≡ getD d q 0 = omega (arith, s, good .states) in
-      rw e (holds p h (getD d q 0) (omega (arith, s, good .states)))
+  looked-up p h q l = holds p h (getD d q 0) (merged .delegates q l .state)
 
   -- C becomes the union of the end sets of the delegates of its members
   joined-place : (p : ℕ) → p < length ws → joined (suc p) ≡ union (delegate-ends p) (joined p) (r .n)
-  unfolding joined joinUpTo
+  unfolding joined joinOf
   joined-place p h =
-      rw (min-eq-left (good .states .1))
-      (union-same (λ q. getD ends (p * 32 + getD d q 0 % 32) 0) (delegate-ends p) (joined p) (r .n) (looked-up p h))
+      union-same (λ q. e p (delegateIn d q)) (delegate-ends p) (joined p) (r .n) (looked-up p h)
 
   joined-below : (p : ℕ) → p ≤ length ws → joined p < 2 ^ r .n
-  unfolding joined joinUpTo delegate-ends
+  unfolding joined joinOf delegate-ends
   joined-below zero h = good .initials-below
   joined-below (suc p) h =
       subst (λ (x : ℕ). x < 2 ^ r .n) (sym (joined-place p h))
@@ -132,23 +120,23 @@ module _ (given : ChunksClaims) (r : Rule) (good : WellFormed r) (d : List ℕ) 
 
   -- the invariant
   rest-law : (p : ℕ) → p ≤ length ws → Accepting r (joined p) (flatten (drop p ws)) ↔ Accepting r (r .initials) (flatten ws)
-  unfolding joined joinUpTo flatten
+  unfolding joined joinOf flatten
   rest-law zero h = ((λ y. y), λ y. y)
   rest-law (suc p) h =
       let before = rest-law p (omega arith) in
       let rest = flatten (drop (suc p) ws) in
-      let e : flatten (drop p ws) ≡ getD ws p [] ++ rest = ap flatten (drop-cons ws p [] h) in
-      let text = subst (λ (v : List ℕ). Text (r .k) v) e (text-flatten (r .k) (drop p ws) (texts-drop (r .k) ws p texts)) in (
-        (λ y. before .0 (subst (λ (v : List ℕ). Accepting r (joined p) v) (sym e) (back p h rest text y))),
-        λ y. there p h rest text (subst (λ (v : List ℕ). Accepting r (joined p) v) e (before .1 y)),
+      let same : flatten (drop p ws) ≡ getD ws p [] ++ rest = ap flatten (drop-cons ws p [] h) in
+      let text = subst (λ (v : List ℕ). Text (r .k) v) same (text-flatten (r .k) (drop p ws) (texts-drop (r .k) ws p texts)) in (
+        (λ y. before .0 (subst (λ (v : List ℕ). Accepting r (joined p) v) (sym same) (back p h rest text y))),
+        λ y. there p h rest text (subst (λ (v : List ℕ). Accepting r (joined p) v) same (before .1 y)),
       )
 
-  pub join-accepts : (saysYes ends d (r .n) (r .initials) (r .finals) (length ws) ≡ true) ↔ Accepts (automatonOf r) (flatten ws)
+  pub join-accepts : (yesOf e (delegateIn d) (r .n) (r .initials) (r .finals) (length ws) ≡ true) ↔ Accepts (automatonOf r) (flatten ws)
   unfolding joined flatten
   join-accepts =
       let all = rest-law (length ws) (omega arith) in
-      let e : flatten (drop (length ws) ws) ≡ [] = ap flatten (drop-length ws) in
+      let same : flatten (drop (length ws) ws) ≡ [] = ap flatten (drop-length ws) in
       let law = accepts-law r good (flatten ws) in (
-        (λ y. law .1 (all .0 (subst (λ (v : List ℕ). Accepting r (joined (length ws)) v) (sym e) y))),
-        λ t. subst (λ (v : List ℕ). Accepting r (joined (length ws)) v) e (all .1 (law .0 t)),
+        (λ y. law .1 (all .0 (subst (λ (v : List ℕ). Accepting r (joined (length ws)) v) (sym same) y))),
+        λ t. subst (λ (v : List ℕ). Accepting r (joined (length ws)) v) same (all .1 (law .0 t)),
       )

@@ -1,4 +1,5 @@
 -- In the order in which they build on each other; what belongs to no one function.
+pub mod Clamped
 pub mod Acceptance
 pub mod Joined
 pub mod Counted

@@ -2,30 +2,34 @@
 -- proves them. C need not be the set of states that the automaton reaches: both accept the same texts, and no more is claimed.
 --
 --   Texts k ws         each chunk is a text of symbols below k
---   Holds r d ends ws  each place holds, for each state, the end set that document 01 gives to its chunk there
+--   delegateIn d q     the delegate of q, in a list of delegates
+--   Holds r d e ws     each place holds, for each state, the end set that document 01 gives to its chunk there
 --   countOf r d ws     the sum of the chunks' counts
 use mathlib.Core.Path.{_≡_}
 use mathlib.Core.Logic.{_↔_}
 use mathlib.Core.Bool.{true}
 use mathlib.Core.List.{List, [], _∷_, flatten}
-use Prim.Native.Nat.{ℕ, _+_, _*_, _≤_, _<_}
+use Prim.Native.Nat.{ℕ, _*_, _≤_, _<_}
 use lib.ListN.{length, getD}
 use Rattle.automaton.specs.declared.Rule.{Rule}
 use Rattle.automaton.specs.Automaton.{Accepts}
 use Rattle.automaton.specs.Rules.{automatonOf, WellFormed}
 use Rattle.delegates.specs.Alike.{Text, Merged}
 use Rattle.chunks.specs.Chunks.{runSet, endSet, total, chunkCount}
-use Rattle.joins.specs.Joining.{saysYes}
+use Rattle.joins.specs.Joining.{joinOf, yesOf, heldIn, joinUpTo}
 
 abbrev pub Texts : ℕ → List (List ℕ) → Type 0
 Texts k [] = Unit {0}
 Texts k (w ∷ ws) = Text k w × Texts k ws
 
+abbrev pub delegateIn : List ℕ → ℕ → ℕ
+delegateIn d q = getD d q 0
+
 module _ (r : Rule) (d : List ℕ) where
-  abbrev pub Holds : List ℕ → List (List ℕ) → Type 0
-  Holds ends ws =
-      (p : ℕ) → p < length ws → (q : ℕ) → q < 32
-      → getD ends (p * 32 + q) 0 ≡ endSet (r .targets) (runSet d (r .n) (r .initials) p) (getD ws p []) q
+  abbrev pub Holds : (ℕ → ℕ → ℕ) → List (List ℕ) → Type 0
+  Holds e ws =
+      (p : ℕ) → p < length ws → (q : ℕ) → q < r .n
+      → e p q ≡ endSet (r .targets) (runSet d (r .n) (r .initials) p) (getD ws p []) q
 
   abbrev pub countOf : List (List ℕ) → ℕ
   countOf ws = total (λ p. chunkCount (r .targets) (runSet d (r .n) (r .initials) p) (getD ws p [])) (length ws)
@@ -33,8 +37,16 @@ module _ (r : Rule) (d : List ℕ) where
 pub record Claims : Type 0 where
   -- the join says yes exactly where the rule's automaton has an accepting run over the chunks joined in order
   pub join : (r : Rule) → WellFormed r → (d : List ℕ) (m : ℕ) → Merged (automatonOf r) d m
-      → (ends : List ℕ) (ws : List (List ℕ)) → Texts (r .k) ws → Holds r d ends ws
-      → (saysYes ends d (r .n) (r .initials) (r .finals) (length ws) ≡ true) ↔ Accepts (automatonOf r) (flatten ws)
-  -- the summed count is at most M times the bytes
+      → (e : ℕ → ℕ → ℕ) (ws : List (List ℕ)) → Texts (r .k) ws → Holds r d e ws
+      → (yesOf e (delegateIn d) (r .n) (r .initials) (r .finals) (length ws) ≡ true) ↔ Accepts (automatonOf r) (flatten ws)
+  -- where there are at most 32 states and each has one of them as its delegate, the code's join is this join of what the array holds
+  pub join-law : (ends d : List ℕ) (n m p : ℕ) → n ≤ 32 → ((q : ℕ) → q < n → delegateIn d q < 32)
+      → joinUpTo ends d n m p ≡ joinOf (heldIn ends) (delegateIn d) n m p
+  -- it looks only at the end sets of delegates at the places that are joined
+  pub join-same : (e f : ℕ → ℕ → ℕ) (d : ℕ → ℕ) (n m p : ℕ) → ((i q : ℕ) → i < p → q < n → e i (d q) ≡ f i (d q))
+      → joinOf e d n m p ≡ joinOf f d n m p
+  -- a chunk counts at most M times its bytes at its place, and so the summed count is at most M times the bytes
+  pub place-most : (r : Rule) → WellFormed r → (d : List ℕ) (m : ℕ) → Merged (automatonOf r) d m → (p : ℕ) (w : List ℕ)
+      → chunkCount (r .targets) (runSet d (r .n) (r .initials) p) w ≤ m * length w
   pub count-most : (r : Rule) → WellFormed r → (d : List ℕ) (m : ℕ) → Merged (automatonOf r) d m → (ws : List (List ℕ))
       → countOf r d ws ≤ m * length (flatten ws)

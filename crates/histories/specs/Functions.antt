@@ -1,0 +1,66 @@
+-- What the functions of crates/judge allow by their own contracts, as the checker reads them (`Reads.Learnt`): any result that a function's
+-- contract does not rule out. `judgeLibrary` is what a customer's program gets that calls these functions.
+--
+--   MayBegin .. MayJudge   what `new_judge`, `load`, `open`, `deliver`, `withdraw` and `judged` may return for their arguments
+--   MayStep j c a next     on the judge j the call c may be answered with a, in document 01's numbers and values, and leave the judge next
+use mathlib.Core.Path.{_≡_}
+use mathlib.Core.List.{List}
+use Prim.Native.Nat.{ℕ}
+use contract.Lifetimes.{Lfts}
+use denote.Ref.{RefT, now}
+use denote.Triple.Clauses.{AtExit}
+use borrow.Fn.Kinds.{endedOf}
+use Rattle.executions.specs.Executions.{Library}
+use Rattle.calls.specs.declared.Judge.{Judge}
+use Rattle.calls.specs.declared.Loading.{Loading}
+use Rattle.calls.specs.declared.Opening.{Opening}
+use Rattle.calls.specs.declared.Delivery.{Delivery}
+use Rattle.calls.specs.declared.Withdrawal.{Withdrawal}
+use Rattle.calls.specs.declared.Verdict.{Verdict}
+use Rattle.calls.specs.Replies.{Reply, verdictSays}
+use Rattle.calls.specs.Calls.{Call, loads, opens, delivers, withdraws, asks}
+use Rattle.calls.specs.Steps.{Outcome, loadCame, openCame, deliverCame, withdrawCame}
+use Rattle.judge.proofs.new_judge.Reads as new-reads
+use Rattle.judge.proofs.new_judge.Kinds as new-kinds
+use Rattle.judge.proofs.load.Reads as load-reads
+use Rattle.judge.proofs.load.Kinds as load-kinds
+use Rattle.judge.proofs.open.Reads as open-reads
+use Rattle.judge.proofs.open.Kinds as open-kinds
+use Rattle.judge.proofs.deliver.Reads as deliver-reads
+use Rattle.judge.proofs.deliver.Kinds as deliver-kinds
+use Rattle.judge.proofs.withdraw.Reads as withdraw-reads
+use Rattle.judge.proofs.withdraw.Kinds as withdraw-kinds
+use Rattle.judge.proofs.judged.Reads as judged-reads
+use Rattle.judge.proofs.judged.Kinds as judged-kinds
+
+abbrev pub MayBegin : Judge → Type 0
+MayBegin j = (s : AtExit (endedOf 0 new-kinds.ps new-kinds.r) tt) × new-reads.Learnt tt tt j s
+
+-- a file and a chunk are lent, as a reference to their bytes
+abbrev pub MayLoad : Judge → List ℕ → Loading → Type 0
+MayLoad j f r =
+    (κs : Lfts 1) × (c : RefT (List ℕ)) × (s : AtExit (endedOf 1 load-kinds.ps load-kinds.r) κs) × (now c ≡ f) × load-reads.Learnt κs (j, (c, tt)) r s
+
+abbrev pub MayOpen : Judge → ℕ → Opening → Type 0
+MayOpen j n r = (s : AtExit (endedOf 0 open-kinds.ps open-kinds.r) tt) × open-reads.Learnt tt (j, (n, tt)) r s
+
+abbrev pub MayDeliver : Judge → ℕ → List ℕ → Delivery → Type 0
+MayDeliver j p w r =
+    (κs : Lfts 1) × (c : RefT (List ℕ)) × (s : AtExit (endedOf 1 deliver-kinds.ps deliver-kinds.r) κs) × (now c ≡ w)
+    × deliver-reads.Learnt κs (j, (p, (c, tt))) r s
+
+abbrev pub MayWithdraw : Judge → ℕ → Withdrawal → Type 0
+MayWithdraw j p r = (s : AtExit (endedOf 0 withdraw-kinds.ps withdraw-kinds.r) tt) × withdraw-reads.Learnt tt (j, (p, tt)) r s
+
+abbrev pub MayJudge : Judge → Verdict → Type 0
+MayJudge j v = (s : AtExit (endedOf 0 judged-kinds.ps judged-kinds.r) tt) × judged-reads.Learnt tt (j, tt) v s
+
+abbrev pub MayStep : Judge → Call → Reply → Judge → Type 0
+MayStep j (loads f) a next = (r : Loading) × MayLoad j f r × (record { says = a; leaves = next } ≡ loadCame r)
+MayStep j (opens n) a next = (r : Opening) × MayOpen j n r × (record { says = a; leaves = next } ≡ openCame r)
+MayStep j (delivers p w) a next = (r : Delivery) × MayDeliver j p w r × (record { says = a; leaves = next } ≡ deliverCame r)
+MayStep j (withdraws p) a next = (r : Withdrawal) × MayWithdraw j p r × (record { says = a; leaves = next } ≡ withdrawCame r)
+MayStep j asks a next = (v : Verdict) × MayJudge j v × (a ≡ verdictSays v) × (next ≡ j)
+
+abbrev pub judgeLibrary : Library Judge Call Reply
+judgeLibrary = record { Begins = MayBegin; May = MayStep }
