@@ -55,7 +55,7 @@ module _ (given : SubsetsClaims) (r : Rule) (good : WellFormed r) (fit : fits r)
   pub mask-at : (i : ℕ) → i < length (sets r) → getD (setCells (r .targets) (r .n) (r .k)) i 0 ≡ getD (sets r) i 0
   mask-at i h = cell-of 512 (λ j. getD (sets r) j 0) i 0 (omega (arith, few))
 
-  cell-at : (i s : ℕ) → i < 512 → s < 16 → getD (nextCells (r .targets) (r .n) (r .k)) (i * 16 + s) 0 ≡ next r i s
+  pub cell-at : (i s : ℕ) → i < 512 → s < 16 → getD (nextCells (r .targets) (r .n) (r .k)) (i * 16 + s) 0 ≡ next r i s
   cell-at i s h l =
       let d : (i * 16 + s) / 16 ≡ i = omega arith in
       let m : (i * 16 + s) % 16 ≡ s = omega arith in

@@ -59,10 +59,10 @@ module _ (f : List ℕ) (e : refusal f ≡ none) where
   abbrev Read : ℕ → ℕ → ℕ → Type 0
   Read q s t = t ∈ targetMask (ruleOf f .targets) q s
 
-  is-read : (q s t : ℕ) → ArcIn f q s t → Read q s t
+  pub is-read : (q s t : ℕ) → ArcIn f q s t → Read q s t
   is-read q s t = rulefile.claims .arcs f e q s t .0
 
-  stands : (q s t : ℕ) → Read q s t → ArcIn f q s t
+  pub stands : (q s t : ℕ) → Read q s t → ArcIn f q s t
   stands q s t = rulefile.claims .arcs f e q s t .1
 
   -- the delegates of the rule that is read are those of the bytes

@@ -2,31 +2,18 @@
 -- Assumes nothing.
 use mathlib.Core.Path.{_≡_, refl, ap₂}
 use mathlib.Core.List.{List, [], _∷_}
-use mathlib.Core.Option.{none}
 use Prim.Native.Nat.{ℕ}
 use Rattle.executions.specs.Executions.{stateAfter, repliesTo as machineReplies}
-use Rattle.ruleformat.specs.Reader.{ruleOf}
-use Rattle.ruleformat.specs.Language.{automatonIn}
-use Rattle.delegates.specs.Alike.{Merged}
-use Rattle.delegates.specs.Claims.{startsIn}
 use Rattle.calls.specs.declared.Judge.{Judge}
-use Rattle.calls.specs.Calls.{Call, loads, opens, delivers, withdraws, asks, loadNumber}
+use Rattle.calls.specs.Calls.{Call, loads, opens, delivers, withdraws, asks}
 use Rattle.calls.specs.Steps.{verdictOf, stepOf}
-use Rattle.calls.proofs.Conditions.{not-refused}
 use Rattle.histories.specs.History.{fileOf, placesIn, standing, verdictIn, answerOf, answersTo}
 use Rattle.histories.specs.Claims.{judgeAfter, repliesTo, EveryList}
-use Rattle.histories.proofs.Bytes.{of-rule}
-use Rattle.histories.proofs.Running.{merged}
+use Rattle.histories.proofs.Method.{method}
 use Rattle.histories.proofs.Numbers.{summed-same}
-use Rattle.histories.proofs.Listed.{Good, good-fresh, accepted-rule, load-good, load-says, open-good, open-says, withdraw-good, withdraw-says, ask-good, deliver-good, deliver-says}
+use Rattle.histories.proofs.Listed.{Good, good-fresh, load-good, load-says, open-good, open-says, withdraw-good, withdraw-says, ask-good, deliver-good, deliver-says}
 use Rattle.histories.proofs.Asked.{by-rule, verdict-says}
 use Rattle.histories.proofs.Words.{there, words}
-
--- the delegates of an accepted file's rule are those of the automaton in its bytes
-file-delegates : (f : List ℕ) → loadNumber f ≡ none → Merged (automatonIn f) (startsIn (ruleOf f) .delegates) (startsIn (ruleOf f) .count)
-file-delegates f e =
-    let a = accepted-rule f e in
-    of-rule f (not-refused f e .0) (startsIn (ruleOf f) .delegates) (startsIn (ruleOf f) .count) (merged (ruleOf f) (a .0) (a .1))
 
 -- ---- one call
 module _ (h : List Call) (j : Judge) (g : Good h j) where
@@ -60,7 +47,7 @@ every-list h =
     let g = good h in
     record {
       all-right = all-right h;
-      delegates = file-delegates;
+      method = method;
       after = record {
         rule = g .rule;
         places = g .places-are;

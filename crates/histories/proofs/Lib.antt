@@ -1,5 +1,6 @@
 -- In the order in which they build on each other: to every list of calls, to what follows from it, and to table P.
 pub mod Bytes
+pub mod Method
 pub mod Running
 pub mod Holding
 pub mod Numbers

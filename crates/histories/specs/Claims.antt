@@ -1,5 +1,5 @@
--- The demands over every list of calls. `every-list` of proofs/Every.antt proves `EveryList` of every list of calls. proofs/Tied.antt ties it to the
--- functions: what their own contracts allow is `repliesTo` and `judgeAfter`, so `after-any-list` says the same of them.
+-- The demands over every list of calls. `every-list` of proofs/Every.antt proves `EveryList` of every list of calls. `after-any-list` of
+-- proofs/Allowed.antt ties it to the functions: what their own contracts allow is `repliesTo` and `judgeAfter`.
 --
 --   judgeAfter h        the judge that the calls h leave, from a fresh one
 --   repliesTo h         the replies to them
@@ -23,7 +23,6 @@ use Rattle.automaton.specs.Rules.{automatonOf, WellFormed}
 use Rattle.ruleformat.specs.Reader.{ruleOf, noRule}
 use Rattle.ruleformat.specs.Language.{automatonIn}
 use Rattle.subsets.specs.Claims.{fits}
-use Rattle.delegates.specs.Alike.{Merged}
 use Rattle.delegates.specs.Claims.{startsIn}
 use Rattle.build.specs.Building.{builtOf, noBuilt}
 use Rattle.chunks.specs.Chunks.{foreign}
@@ -31,6 +30,7 @@ use Rattle.board.specs.Boards.{held, isEmpty, summedCount}
 use Rattle.calls.specs.declared.Judge.{Judge}
 use Rattle.calls.specs.Replies.{Reply, accepted, waiting, keeps, breaks, refused}
 use Rattle.histories.specs.History.{isNone, fileOf, ruleIn, boardIn, placesIn, countOf, standing, endAt, countAt, emptiesIn, summedIn, yesIn, chunkOf, textIn, verdictIn, answerOf, answersTo}
+use Rattle.histories.specs.Method.{Method}
 use Rattle.calls.specs.Calls.{Call, opens, delivers, withdraws, loadNumber}
 use Rattle.calls.specs.Steps.{fresh, isYes, verdictOf, stepOf}
 
@@ -101,8 +101,8 @@ pub record Accepted-exactly (h : List Call) : Type 0 where
 pub record EveryList (h : List Call) : Type 0 where
   -- each reply is document 01's answer after the calls before it
   pub all-right : repliesTo h ≡ answersTo h
-  -- the delegates and the M by which they go are, of each file that a load accepts, those of the automaton in its bytes
-  pub delegates : (f : List ℕ) → loadNumber f ≡ none → Merged (automatonIn f) (startsIn (ruleOf f) .delegates) (startsIn (ruleOf f) .count)
+  -- the sets, the table, the delegates and the M by which they go are, of each file that a load accepts, those of the automaton in its bytes
+  pub method : (f : List ℕ) → loadNumber f ≡ none → Method f (builtOf (ruleOf f))
   pub after : After h (judgeAfter h)
   pub verdict : Verdict-words h
 

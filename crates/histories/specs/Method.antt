@@ -1,0 +1,43 @@
+-- Demand 2 from the bytes of a file that a load accepts: what the built rule has is what documents 000 and 004 give to the automaton that the bytes
+-- state. proofs/Method.antt proves it.
+--
+--   Leads a q w m   m is the set of the states to which a run over the text w leads from the state q
+--   Moves a l s m   m is the set of the states to which an arc by the symbol s leads from a member of l
+--   numberedIn b m  the set m has a number in the built rule b
+--   Method f b      the sets, the next-set table, the delegates and M of b are those of the automaton in the bytes f
+use mathlib.Core.Path.{_≡_}
+use mathlib.Core.Logic.{_↔_, _⊎_}
+use mathlib.Core.List.{List}
+use Prim.Native.Nat.{ℕ, _+_, _*_, _<_}
+use lib.ListN.{getD}
+use Rattle.masks.specs.Masks.{_∈_}
+use Rattle.automaton.specs.Automaton.{Automaton, Arc, Run}
+use Rattle.ruleformat.specs.Language.{automatonIn}
+use Rattle.delegates.specs.Alike.{Merged}
+use Rattle.build.specs.declared.Built.{Built}
+
+abbrev pub Leads : Automaton → ℕ → List ℕ → ℕ → Type 0
+Leads a q w m = (p : ℕ) → p ∈ m ↔ Run a q w p
+
+abbrev pub Moves : Automaton → ℕ → ℕ → ℕ → Type 0
+Moves a l s m = (p : ℕ) → p ∈ m ↔ (q : ℕ) × (q ∈ l) × Arc a q s p
+
+module _ (b : Built) where
+  abbrev pub setAt : ℕ → ℕ
+  setAt i = getD (b .sets) i 0
+
+  abbrev pub nextAt : ℕ → ℕ → ℕ
+  nextAt i s = getD (b .next) (i * 16 + s) 0
+
+  abbrev pub numberedIn : ℕ → Type 0
+  numberedIn m = (i : ℕ) × (i < b .count) × (setAt i ≡ m)
+
+pub record Method (f : List ℕ) (b : Built) : Type 0 where
+  -- a set has a number exactly when it is not empty and some state and text lead to it, and then it has one number
+  pub sets : (m : ℕ) → numberedIn b m ↔ (m ≡ 0 → ⊥) × (q : ℕ) × (q < automatonIn f .n) × (w : List ℕ) × Leads (automatonIn f) q w m
+  pub once : (i j : ℕ) → i < b .count → j < b .count → setAt b i ≡ setAt b j → i ≡ j
+  -- a cell of the table is the number of the set to which the arcs by its symbol lead, or 512 where they lead nowhere
+  pub table : (i s : ℕ) → i < b .count → s < automatonIn f .k
+      → ((nextAt b i s < b .count) × Moves (automatonIn f) (setAt b i) s (setAt b (nextAt b i s))) ⊎ ((nextAt b i s ≡ 512) × Moves (automatonIn f) (setAt b i) s 0)
+  -- its delegates are, for each state, the lowest alike one, with zeros after them, and its number of starts is M
+  pub delegates : Merged (automatonIn f) (b .delegates) (b .starts)
