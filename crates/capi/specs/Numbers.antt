@@ -3,8 +3,11 @@
 --   loadShown .. withdrawShown   an outcome as a result: accepted is 1, or it is 0 and refused has the number
 --   verdictShown a               a verdict: kind 0 refused, 1 waiting, 2 yes, 3 no, each with its number
 --   replayShown t                the same for a recorded list; kind 4: the line of that number is malformed
+--   loadTold .. verdictTold      what such a result says, read back from its numbers (specs/Claims.antt)
 -- No other reply is given to these calls; the lines for others are there so that every case has a value.
+use mathlib.Core.Bool.{cond}
 use Prim.Native.Nat.{ℕ}
+use lib.Dec.{eqb}
 use Rattle.calls.specs.declared.Judge.{Judge}
 use Rattle.calls.specs.Replies.{Reply, accepted, loaded, waiting, keeps, breaks, refused}
 use Rattle.calls.specs.Steps.{Outcome}
@@ -75,3 +78,21 @@ verdictShown a = record { kind = kindOf a; number = valueOf a }
 abbrev pub replayShown : Told → ReplayResult
 replayShown (verdict a) = record { kind = kindOf a; number = valueOf a }
 replayShown (malformedLine i) = record { kind = 4; number = i }
+
+-- ---- read back: what the header says of the numbers
+abbrev pub loadTold : LoadResult → Outcome
+loadTold r = record { says = cond (eqb (r .accepted) 1) (loaded (r .sets) (r .starts)) (refused (r .refused)); leaves = r .judge }
+
+abbrev pub openTold : OpenResult → Outcome
+openTold r = record { says = cond (eqb (r .accepted) 1) accepted (refused (r .refused)); leaves = r .judge }
+
+abbrev pub deliverTold : DeliverResult → Outcome
+deliverTold r = record { says = cond (eqb (r .accepted) 1) accepted (refused (r .refused)); leaves = r .judge }
+
+abbrev pub withdrawTold : WithdrawResult → Outcome
+withdrawTold r = record { says = cond (eqb (r .accepted) 1) accepted (refused (r .refused)); leaves = r .judge }
+
+abbrev pub verdictTold : VerdictResult → Reply
+verdictTold r =
+    cond (eqb (r .kind) 0) (refused (r .number))
+    (cond (eqb (r .kind) 1) (waiting (r .number)) (cond (eqb (r .kind) 2) (keeps (r .number)) (breaks (r .number))))

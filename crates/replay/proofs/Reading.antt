@@ -18,6 +18,7 @@ use Rattle.masks.proofs.Cases.{by-test}
 use Rattle.lines.specs.Splitting.{upTo, lastLine, linesFrom, linesOf}
 use Rattle.lines.proofs.Splits.{up-whole, lines-there, lines-last}
 use Rattle.lines.proofs.Parts.{part-rest, part-is}
+use Rattle.executions.specs.Executions.{stateAfter}
 use Rattle.calls.specs.declared.Judge.{Judge}
 use Rattle.calls.specs.Calls.{Call}
 use Rattle.calls.specs.Steps.{fresh, Outcome, verdictOf, stepOf}
@@ -47,7 +48,7 @@ pub record Read (so : Recorded) (j : Judge) : Type 0 where
 
 pub read-on : (i : ℕ) (h : List Call) (j to : Judge) (m : Meaning) (s : Response) → j ≡ judgeAfter h → LineSteps j m s to
     → isUnread s ≡ false → Read (readOn i h m) to
-unfolding judgeAfter
+unfolding stateAfter
 read-on i h j to again s ran l e = record { history = []; ran = l .1; is = refl }
 read-on i h j to (call c) s ran l e = record {
   history = c ∷ h;
@@ -100,7 +101,7 @@ pub record Going (w : List ℕ) (j : Judge) (line at : ℕ) : Type 0 where
   pub is : recordIn w ≡ readLines (calls history) (suc line) (linesOf (drop at w))
 
 pub going-first : (w : List ℕ) (j : Judge) → j ≡ fresh → Going w j 0 0
-unfolding judgeAfter
+unfolding stateAfter
 going-first w j e = record { history = []; ran = e; is = refl }
 
 module _ (w : List ℕ) (j : Judge) (line at : ℕ) (going : Going w j line at) where

@@ -9,6 +9,7 @@ use mathlib.Core.Logic.{⊎-elim}
 use Prim.Native.Nat.{ℕ, _≤_}
 use lib.ListN.{length, drop, drop-of-length-le}
 use Rattle.lines.specs.Splitting.{linesFrom}
+use Rattle.executions.specs.Executions.{stateAfter}
 use Rattle.calls.specs.declared.Judge.{Judge}
 use Rattle.calls.specs.Calls.{Call}
 use Rattle.calls.specs.Steps.{fresh, Outcome, stepOf}
@@ -47,7 +48,7 @@ module _ (h : List Call) (j : Judge) (ran : j ≡ judgeAfter h) (to : Judge) whe
   response-right malformed s l = l .0
 
   ran-after : (m : Meaning) (s : Response) → LineSteps j m s to → to ≡ judgeAfter (historyAfter h m)
-  unfolding judgeAfter
+  unfolding stateAfter
   ran-after again s l = l .1
   ran-after (call c) s l = ap (λ (o : Outcome). o .leaves) (l .2) ∙ ap (λ (x : Judge). stepOf x c .leaves) ran
   ran-after malformed s l = l .1 ∙ ran
@@ -58,7 +59,7 @@ right-by {j} h ran (line-then mid l s text step q) =
     (s, text, refl, response-right h j ran mid (lineIn l) s step, right-by (historyAfter h (lineIn l)) (ran-after h j ran mid (lineIn l) s step) q)
 
 from-fresh : fresh ≡ judgeAfter []
-unfolding judgeAfter
+unfolding stateAfter
 from-fresh = refl
 
 pub claims : Claims
