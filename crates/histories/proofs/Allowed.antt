@@ -89,14 +89,14 @@ module _ (j : Judge) where
 
 -- ---- the library meets the machine
 -- a reference to bytes, somewhere
-abbrev lent : List ℕ → RefT (List ℕ)
+abbrev pub lent : List ℕ → RefT (List ℕ)
 lent f = record { ptr = (0, 0); name = 0; now = f }
 
 -- an outcome is its reply and its state
-parts : (a : Reply) (next : Judge) (o : Outcome) → record { says = a; leaves = next } ≡ o → (a ≡ o .says) × (next ≡ o .leaves)
+pub parts : (a : Reply) (next : Judge) (o : Outcome) → record { says = a; leaves = next } ≡ o → (a ≡ o .says) × (next ≡ o .leaves)
 parts a next o e = (ap (λ (x : Outcome). x .says) e, ap (λ (x : Outcome). x .leaves) e)
 
-whole : (a : Reply) (next : Judge) (o : Outcome) → (a ≡ o .says) × (next ≡ o .leaves) → record { says = a; leaves = next } ≡ o
+pub whole : (a : Reply) (next : Judge) (o : Outcome) → (a ≡ o .says) × (next ≡ o .leaves) → record { says = a; leaves = next } ≡ o
 whole a next o e = ap₂ (λ (x : Reply) (y : Judge). record { says = x; leaves = y }) (e .0) (e .1)
 
 step-to : (j : Judge) (c : Call) (a : Reply) (next : Judge) → MayStep j c a next → (a ≡ stepOf j c .says) × (next ≡ stepOf j c .leaves)

@@ -1,0 +1,45 @@
+-- The library of the functions that C links meets the judge's definitions: a contract fixes every number of a result, and what the numbers say can be
+-- read back. Assumes nothing.
+use mathlib.Core.Path.{_≡_, refl, sym, ap, _∙_}
+use mathlib.Core.List.{List, []}
+use Prim.Native.Nat.{ℕ}
+use denote.Ref.{RefT}
+use Rattle.executions.specs.Executions.{Meets}
+use Rattle.calls.specs.declared.Judge.{Judge}
+use Rattle.calls.specs.Replies.{Reply}
+use Rattle.calls.specs.Calls.{Call, loads, opens, delivers, withdraws, asks}
+use Rattle.calls.specs.Steps.{loadOf, openOf, deliverOf, withdrawOf, verdictOf, stepOf}
+use Rattle.histories.specs.Claims.{judgeMachine}
+use Rattle.histories.proofs.Allowed.{lent, parts, whole}
+use Rattle.capi.specs.Numbers.{loadShown, openShown, deliverShown, withdrawShown, verdictShown, loadTold, openTold, deliverTold, withdrawTold, verdictTold}
+use Rattle.capi.proofs.ReadBack as capi
+use Rattle.demands.specs.Functions.{MayStep, cLibrary}
+
+step-to : (j : Judge) (c : Call) (a : Reply) (next : Judge) → MayStep j c a next → (a ≡ stepOf j c .says) × (next ≡ stepOf j c .leaves)
+step-to j (loads f) a next m =
+    parts a next (loadOf j f) (m .2 ∙ ap loadTold (m .1 .4 ∙ ap (λ (x : List ℕ). loadShown (loadOf j x)) (m .1 .3)) ∙ capi.claims .load-told j f)
+step-to j (opens n) a next m = parts a next (openOf j n) (m .2 ∙ ap openTold (m .1 .1) ∙ capi.claims .open-told j n)
+step-to j (delivers p w) a next m =
+    parts a next (deliverOf j p w)
+    (m .2 ∙ ap deliverTold (m .1 .4 ∙ ap (λ (x : List ℕ). deliverShown (deliverOf j p x)) (m .1 .3)) ∙ capi.claims .deliver-told j p w)
+step-to j (withdraws p) a next m = parts a next (withdrawOf j p) (m .2 ∙ ap withdrawTold (m .1 .1) ∙ capi.claims .withdraw-told j p)
+step-to j asks a next m = (m .2 ∙ ap verdictTold (m .1 .1) ∙ capi.claims .verdict-told j, m .3)
+
+step-back : (j : Judge) (c : Call) (a : Reply) (next : Judge) → (a ≡ stepOf j c .says) × (next ≡ stepOf j c .leaves) → MayStep j c a next
+step-back j (loads f) a next e =
+    (loadShown (loadOf j f), (([], tt), lent f, (j, (lent f, tt)), refl, refl), whole a next (loadOf j f) e ∙ sym (capi.claims .load-told j f))
+step-back j (opens n) a next e = (openShown (openOf j n), ((j, (n, tt)), refl), whole a next (openOf j n) e ∙ sym (capi.claims .open-told j n))
+step-back j (delivers p w) a next e = (
+  deliverShown (deliverOf j p w),
+  (([], tt), lent w, (j, (p, (lent w, tt))), refl, refl),
+  whole a next (deliverOf j p w) e ∙ sym (capi.claims .deliver-told j p w),
+)
+step-back j (withdraws p) a next e =
+    (withdrawShown (withdrawOf j p), ((j, (p, tt)), refl), whole a next (withdrawOf j p) e ∙ sym (capi.claims .withdraw-told j p))
+step-back j asks a next e = (verdictShown (verdictOf j), ((j, tt), refl), e .0 ∙ sym (capi.claims .verdict-told j), e .1)
+
+pub c-meets : Meets cLibrary judgeMachine
+c-meets = record {
+  begins = λ j. ((λ m. m .1), λ e. (tt, e));
+  steps = λ j c a next. (step-to j c a next, step-back j c a next);
+}

@@ -1,0 +1,75 @@
+-- What the functions that C links allow by their own contracts, as the checker reads them (`Reads.Learnt`): any result that a function's contract
+-- does not rule out. `cLibrary` is what a program in C gets that calls them; crates/histories has the same for the judge's own functions.
+--
+--   MayBegin .. MayJudge   what `bellbadger_new`, `_load`, `_open`, `_deliver`, `_withdraw` and `_verdict` may return for their arguments
+--   MayStep j c a next     on the judge j the call c may return numbers that say the reply a, and leave the judge next
+--   MayReplay text r       what `bellbadger_replay` may return for the text
+use mathlib.Core.Path.{_≡_}
+use mathlib.Core.List.{List}
+use Prim.Native.Nat.{ℕ}
+use contract.Lifetimes.{Lfts}
+use denote.Ref.{RefT, now}
+use denote.Triple.Clauses.{AtExit}
+use borrow.Fn.Kinds.{endedOf}
+use Rattle.executions.specs.Executions.{Library}
+use Rattle.calls.specs.declared.Judge.{Judge}
+use Rattle.calls.specs.Replies.{Reply}
+use Rattle.calls.specs.Calls.{Call, loads, opens, delivers, withdraws, asks}
+use Rattle.calls.specs.Steps.{Outcome}
+use Rattle.capi.specs.declared.LoadResult.{LoadResult}
+use Rattle.capi.specs.declared.OpenResult.{OpenResult}
+use Rattle.capi.specs.declared.DeliverResult.{DeliverResult}
+use Rattle.capi.specs.declared.WithdrawResult.{WithdrawResult}
+use Rattle.capi.specs.declared.VerdictResult.{VerdictResult}
+use Rattle.capi.specs.declared.ReplayResult.{ReplayResult}
+use Rattle.capi.specs.Numbers.{loadTold, openTold, deliverTold, withdrawTold, verdictTold}
+use Rattle.capi.proofs.bellbadger_new.Reads as new-reads
+use Rattle.capi.proofs.bellbadger_new.Kinds as new-kinds
+use Rattle.capi.proofs.bellbadger_load.Reads as load-reads
+use Rattle.capi.proofs.bellbadger_load.Kinds as load-kinds
+use Rattle.capi.proofs.bellbadger_open.Reads as open-reads
+use Rattle.capi.proofs.bellbadger_open.Kinds as open-kinds
+use Rattle.capi.proofs.bellbadger_deliver.Reads as deliver-reads
+use Rattle.capi.proofs.bellbadger_deliver.Kinds as deliver-kinds
+use Rattle.capi.proofs.bellbadger_withdraw.Reads as withdraw-reads
+use Rattle.capi.proofs.bellbadger_withdraw.Kinds as withdraw-kinds
+use Rattle.capi.proofs.bellbadger_verdict.Reads as verdict-reads
+use Rattle.capi.proofs.bellbadger_verdict.Kinds as verdict-kinds
+use Rattle.capi.proofs.bellbadger_replay.Reads as replay-reads
+use Rattle.capi.proofs.bellbadger_replay.Kinds as replay-kinds
+
+abbrev pub MayBegin : Judge → Type 0
+MayBegin j = (s : AtExit (endedOf 0 new-kinds.ps new-kinds.r) tt) × new-reads.Learnt tt tt j s
+
+-- a file and a chunk are lent, as a reference to their bytes
+abbrev pub MayLoad : Judge → List ℕ → LoadResult → Type 0
+MayLoad j f r =
+    (κs : Lfts 1) × (c : RefT (List ℕ)) × (s : AtExit (endedOf 1 load-kinds.ps load-kinds.r) κs) × (now c ≡ f) × load-reads.Learnt κs (j, (c, tt)) r s
+
+abbrev pub MayOpen : Judge → ℕ → OpenResult → Type 0
+MayOpen j n r = (s : AtExit (endedOf 0 open-kinds.ps open-kinds.r) tt) × open-reads.Learnt tt (j, (n, tt)) r s
+
+abbrev pub MayDeliver : Judge → ℕ → List ℕ → DeliverResult → Type 0
+MayDeliver j p w r =
+    (κs : Lfts 1) × (c : RefT (List ℕ)) × (s : AtExit (endedOf 1 deliver-kinds.ps deliver-kinds.r) κs) × (now c ≡ w)
+    × deliver-reads.Learnt κs (j, (p, (c, tt))) r s
+
+abbrev pub MayWithdraw : Judge → ℕ → WithdrawResult → Type 0
+MayWithdraw j p r = (s : AtExit (endedOf 0 withdraw-kinds.ps withdraw-kinds.r) tt) × withdraw-reads.Learnt tt (j, (p, tt)) r s
+
+abbrev pub MayJudge : Judge → VerdictResult → Type 0
+MayJudge j v = (s : AtExit (endedOf 0 verdict-kinds.ps verdict-kinds.r) tt) × verdict-reads.Learnt tt (j, tt) v s
+
+abbrev pub MayReplay : List ℕ → ReplayResult → Type 0
+MayReplay text r =
+    (κs : Lfts 1) × (c : RefT (List ℕ)) × (s : AtExit (endedOf 1 replay-kinds.ps replay-kinds.r) κs) × (now c ≡ text) × replay-reads.Learnt κs (c, tt) r s
+
+abbrev pub MayStep : Judge → Call → Reply → Judge → Type 0
+MayStep j (loads f) a next = (r : LoadResult) × MayLoad j f r × (record { says = a; leaves = next } ≡ loadTold r)
+MayStep j (opens n) a next = (r : OpenResult) × MayOpen j n r × (record { says = a; leaves = next } ≡ openTold r)
+MayStep j (delivers p w) a next = (r : DeliverResult) × MayDeliver j p w r × (record { says = a; leaves = next } ≡ deliverTold r)
+MayStep j (withdraws p) a next = (r : WithdrawResult) × MayWithdraw j p r × (record { says = a; leaves = next } ≡ withdrawTold r)
+MayStep j asks a next = (v : VerdictResult) × MayJudge j v × (a ≡ verdictTold v) × (next ≡ j)
+
+abbrev pub cLibrary : Library Judge Call Reply
+cLibrary = record { Begins = MayBegin; May = MayStep }
