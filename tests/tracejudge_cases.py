@@ -130,6 +130,7 @@ def line(call):
 
 A = bytes.fromhex("03020100000004000000160006001C0002001E0000000000000101000102")
 B = rule(3, 1, 1, 6, [(0, 0, 1), (0, 0, 2), (1, 0, 0), (2, 0, 0)])
+NO_INITIAL = rule(3, 1, 0, 6, [(0, 0, 1), (0, 0, 2), (1, 0, 0), (2, 0, 0)])
 # figure 1 of document 004: a, b, c are 0, 1, 2
 FIGURE_1 = rule(3, 3, 1, 4, [(0, 0, 1), (0, 2, 1), (1, 0, 0), (1, 0, 1), (1, 1, 0), (1, 1, 2), (1, 2, 0), (2, 1, 1)])
 NO_RULE = A[:9]
@@ -191,6 +192,9 @@ CASES = [
     [("load", A[:6] + b"\x08" + A[7:]), ("verdict",)],
     judged(FIGURE_1, b"\0\0\1", b"\2\0\1"),
     judged(B, b"\0", b""),
+    # no initial state: place 0 is run from nothing, though there are starts, and counts 0; the others are run from all starts
+    judged(NO_INITIAL, b"\0\0"),
+    judged(NO_INITIAL, b"\0", b"\0\0"),
     # places: N 0, 1, 64, 65 and the largest; place N - 1, N and the largest
     [("load", A)] + [("open", n) for n in (0, 65, LARGEST, 1)] + [("verdict",), ("deliver", 0, b"\0\1"), ("verdict",)],
     [("load", A), ("open", 64), ("deliver", 63, b""), ("deliver", 64, b""), ("deliver", LARGEST, b""), ("withdraw", 64), ("withdraw", LARGEST), ("verdict",)]
