@@ -1,4 +1,5 @@
--- The laws of lists that are joined: their length, equal parts, and the parts of a list that is cut at rising places. Assumes nothing.
+-- The laws of joined lists: their length, equal parts, each part's place, and a list that is cut at
+-- some places. Assumes nothing.
 use mathlib.Core.Path.{_≡_, refl, sym, ap, ap₂, _∙_}
 use mathlib.Core.Logic.{⊎-elim}
 use mathlib.Core.List.{List, [], _++_, append-assoc, append-nil}

@@ -1,5 +1,6 @@
--- The rule of an accepted file: a cell of its table has exactly the targets of the arcs that stand in the section, so the rule is well formed
--- and its automaton accepts the texts of the file's. Assumes nothing.
+-- The rule of an accepted file: a cell of its table has exactly the targets of the arcs that stand in
+-- the section, so the rule is well formed and its automaton accepts the texts of the file's.
+-- Assumes nothing.
 use mathlib.Core.Path.{_≡_, sym, ap₂, _∙_, subst}
 use mathlib.Core.Logic.{_↔_, ⊎-elim}
 use mathlib.Core.List.{List}
@@ -21,7 +22,7 @@ use Rattle.ruleformat.specs.Language.{ArcIn, automatonIn}
 use Rattle.ruleformat.proofs.Examples as examples
 use Rattle.ruleformat.proofs.Arcs.{bounds}
 use Rattle.ruleformat.proofs.Tables.{targets-law}
-use Rattle.ruleformat.proofs.Accepted.{Accepted, accepted, good-section}
+use Rattle.ruleformat.proofs.Accepted.{Accepted, good-section}
 
 module _ (f : List ℕ) (a : Accepted f) where
   -- a cell of the table is the target mask of its state and symbol

@@ -1,7 +1,8 @@
--- No accepted file of bytes is longer than 32,906 bytes, and that of the rule with every arc is that long. Assumes nothing.
+-- No accepted file of bytes has more than 32,906 bytes, and that of the rule with every arc has so
+-- many: 10, 4 for each of 32 states, and 2 for each state, symbol and target. Assumes nothing.
 use mathlib.Core.Path.{_≡_, refl, ap, _∙_, subst}
 use mathlib.Core.Logic.{⊎-elim}
-use mathlib.Core.Bool.{Bool, true, false, cond, not}
+use mathlib.Core.Bool.{Bool, true, cond, not}
 use mathlib.Core.List.{List, [], _∷_}
 use mathlib.Core.Option.{none}
 use Prim.Native.Nat.{ℕ, _+_, _*_, _^_, _≤_, _<_}

@@ -1,14 +1,13 @@
--- An accepted file of bytes is the file of its rule: it is put together from its header, its pairs and its sections, and each section has the
--- arcs of the rule's masks, in the only order that is accepted. Assumes nothing.
-use mathlib.Core.Path.{_≡_, refl, sym, ap, ap₂, _∙_}
-use mathlib.Core.Logic.{_↔_}
-use mathlib.Core.List.{List, [], _∷_, _++_, append-nil, append-assoc}
+-- An accepted file of bytes is the file of its rule. It is its header, its pairs and its sections, one
+-- after the other, since no pair leaves a gap; each number in it is written in the only way; and a
+-- section has the arcs of the rule's masks in the only order that is accepted. Assumes nothing.
+use mathlib.Core.Path.{_≡_, sym, ap, ap₂, _∙_}
+use mathlib.Core.List.{List, _∷_, _++_, append-nil}
 use mathlib.Core.Option.{none}
 use Prim.Native.Nat.{ℕ, zero, suc, _+_, _*_, _/_, _%_, _≤_, _<_}
 use native.Mathlib.Omega.{arith}
-use lib.ListN.{length, getD, take, drop, length-append, length-drop, take-append-drop}
+use lib.ListN.{length, getD, drop, length-append, length-drop, take-append-drop}
 use lib.Seq.{drop-cons, drop-drop, drop-length, length-take-le}
-use Rattle.masks.specs.Masks.{_∈_}
 use Rattle.automaton.specs.Rules.{targetMask}
 use Rattle.ruleformat.specs.Format.{halfAt, wordAt, stateCount, symbolCount, initialMask, finalMask, offsetOf, lengthOf, section}
 use Rattle.ruleformat.specs.Refusals.{dueAt, refusal}
@@ -19,7 +18,8 @@ use Rattle.ruleformat.proofs.Pairs.{end, offset-due, even-length, withi
 use Rattle.ruleformat.proofs.Accepted.{Accepted, accepted, good-section}
 use Rattle.ruleformat.proofs.Language.{in-bounds, arcs}
 use Rattle.ruleformat.proofs.Joined.{joined-same, none-joined, more-joined, cut}
-use Rattle.ruleformat.proofs.Sections.{In, same-section, section-rises, arcs-of, of-arcs, in-at, stands, passed}
+use Rattle.ruleformat.proofs.Rising.{same-section, in-at, stands, passed}
+use Rattle.ruleformat.proofs.Sections.{section-rises, arcs-of, of-arcs}
 
 -- equal sections make equal files
 file-same : (n k i f : ℕ) (p p′ : ℕ → List ℕ) → ((q : ℕ) → q < n → p q ≡ p′ q) → fileWith n k i f p ≡ fileWith n k i f p′

@@ -1,4 +1,5 @@
--- The file of a well-formed rule is accepted, is a list of bytes, and holds the rule. Assumes nothing.
+-- The file of a well-formed rule is accepted, is a list of bytes, and holds the rule. Its sections
+-- have the arcs of the rule's masks, so reading finds the masks again. Assumes nothing.
 use mathlib.Core.Path.{_≡_, sym, ap, _∙_}
 use mathlib.Core.Logic.{inl, inr}
 use mathlib.Core.List.{List}
@@ -19,7 +20,8 @@ use Rattle.ruleformat.specs.Refusals.{refusal}
 use Rattle.ruleformat.specs.Reader.{targetsBy, targetsFrom, ruleOf}
 use Rattle.ruleformat.specs.Writing.{Bytes, sectionOf, fileOf}
 use Rattle.ruleformat.proofs.Joined.{length-most}
-use Rattle.ruleformat.proofs.Sections.{even, passes, rising-bytes, section-rises, section-size, arcs-of, of-arcs, targets-in}
+use Rattle.ruleformat.proofs.Rising.{even, passes, rising-bytes, targets-in}
+use Rattle.ruleformat.proofs.Sections.{section-rises, section-size, arcs-of, of-arcs}
 use Rattle.ruleformat.proofs.Writing.{size-is, section-is, initial-is, final-is, accepted, bytes-file}
 
 same-rule : (n k : ℕ) {i j f g : ℕ} {s t : List ℕ} → i ≡ j → f ≡ g → s ≡ t

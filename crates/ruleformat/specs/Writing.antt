@@ -1,14 +1,16 @@
--- The rule file of a rule (document 01, "The rule file"), written from the rule: the second side from which the format is fixed. Reading
--- takes this file and gives the rule back, and no other file of bytes gives that rule (`written` and `rewritten` of Claims.antt).
+-- The rule file of a rule (document 01, "The rule file"), made from the rule. Claims.antt ties it to
+-- reading: `written` says that this file is accepted and holds the rule, `rewritten` that no other
+-- file of bytes does.
 --
---   Bytes f                     each member of f is a byte: below 256 (past the end of f a byte reads 0)
+--   Bytes f                     each member of f is a byte, below 256 (past the end a byte reads 0)
 --   joined p n                  the lists p 0, p 1, .. p (n − 1), one after the other
 --   half x, word x              the number x in two bytes and in four, the lowest first
 --   header n k initials finals  the bytes 0 to 9
 --   offsetIn n sections q       where the section of state q begins
---   pairs n sections            the offset and the length of each state's section
---   fileWith .. sections        the file with these numbers and these sections: header, pairs, sections
---   sectionOf n k masks         the section of a state whose target mask by symbol s is `masks s`: its arcs by symbol and then target
+--   pairs n sections            the offset and the length of the section of each state
+--   fileWith .. sections        the file with this header and these sections: header, pairs, sections
+--   sectionOf n k masks         the section of a state whose target mask by symbol s is `masks s`:
+--                               its arcs, by symbol and then target
 --   fileOf r                    the rule file of the rule r
 use mathlib.Core.Bool.{cond}
 use mathlib.Core.List.{List, [], _∷_, _++_}
