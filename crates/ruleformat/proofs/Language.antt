@@ -1,5 +1,5 @@
--- The rule of an accepted file: a cell of its table has exactly the targets of the arcs that stand in
--- the section, so the rule is well formed and its automaton accepts the texts of the file's.
+-- The rule of an accepted file: a cell of its table has exactly the targets of the arcs that stand
+-- in the section, so the rule is well formed and its automaton accepts the texts of the file's.
 -- Assumes nothing.
 use mathlib.Core.Path.{_≡_, sym, ap₂, _∙_, subst}
 use mathlib.Core.Logic.{_↔_, ⊎-elim}

@@ -1,5 +1,5 @@
--- An accepted file of bytes is the file of its rule. It is its header, its pairs and its sections, one
--- after the other, since no pair leaves a gap; each number in it is written in the only way; and a
+-- An accepted file of bytes is the file of its rule. It is its header, its pairs and its sections,
+-- one after the other, since no pair leaves a gap; each number is written in the only way; and a
 -- section has the arcs of the rule's masks in the only order that is accepted. Assumes nothing.
 use mathlib.Core.Path.{_≡_, sym, ap, ap₂, _∙_}
 use mathlib.Core.List.{List, _∷_, _++_, append-nil}

@@ -1,5 +1,5 @@
 -- The file that is put together from a header and sections: what reading finds in it, that it is
--- accepted where its numbers and sections are good, and that it is a list of bytes. Assumes nothing.
+-- accepted where its numbers and sections are good, and that it is all bytes. Assumes nothing.
 use mathlib.Core.Path.{_≡_, refl, sym, ap, ap₂, _∙_}
 use mathlib.Core.Bool.{false, not}
 use mathlib.Core.List.{List, [], _∷_, _++_, append-assoc}

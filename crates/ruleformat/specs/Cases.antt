@@ -1,5 +1,5 @@
--- Rule files worked by hand, at the edges of what is read: one list, and one claim over it. A refused
--- file is as near to an accepted one as can be. proofs/Cases.antt proves the claim.
+-- Rule files worked by hand, at the edges of what is read: one list, and one claim over it. A
+-- refused file is as near to an accepted one as can be. proofs/Cases.antt proves the claim.
 --
 --   noArcs n k      the file with n states, k symbols, both masks 0 and no arcs
 --   case f answer   the file f and its number, none where it is accepted
@@ -42,15 +42,15 @@ files =
     -- 6: rule A with a state 3, which it lacks, in the initial mask; in the final mask (P10)
     case (set fileA 2 0x08) (some 6) ∷
     case fileA-final-8 (some 6) ∷
-    -- 7: rule A with its sections from byte 24 on; with bytes 28 and 29 in no section; with sections
-    -- of 5 and 3 bytes; with an arc after the last section; without the last arc
+    -- 7: rule A with its sections from byte 24 on; with bytes 28 and 29 in no section; with
+    -- sections of 5 and 3 bytes; with an arc after the last section; without the last arc
     case (set (set fileA 10 0x18) 12 0x04) (some 7) ∷
     case (set (set fileA 14 0x1E) 16 0x00) (some 7) ∷
     case (set (set (set fileA 12 0x05) 14 0x1B) 16 0x03) (some 7) ∷
     case (fileA ++ (0x01 ∷ 0x02 ∷ [])) (some 7) ∷
     case (take 28 fileA) (some 7) ∷
-    -- 8: rule A with the arc (k, 2), (1, n); with (0, 0) twice; with (0, 1) before (0, 0); with (1, 0)
-    -- before (0, 1)
+    -- 8: rule A with the arc (k, 2); with (1, n); with (0, 0) twice; with (0, 1) before (0, 0);
+    -- with (1, 0) before (0, 1)
     case (set fileA 28 0x02) (some 8) ∷
     case (set fileA 29 0x03) (some 8) ∷
     case (set fileA 25 0x00) (some 8) ∷

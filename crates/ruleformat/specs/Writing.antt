@@ -1,6 +1,6 @@
--- The rule file of a rule (document 01, "The rule file"), made from the rule. Claims.antt ties it to
--- reading: `written` says that this file is accepted and holds the rule, `rewritten` that no other
--- file of bytes does.
+-- The rule file of a rule (document 01, "The rule file"), made from the rule. Claims.antt ties it
+-- to reading: `written` says that this file is accepted and holds the rule, `rewritten` that no
+-- other file of bytes does.
 --
 --   Bytes f                     each member of f is a byte, below 256 (past the end a byte reads 0)
 --   joined p n                  the lists p 0, p 1, .. p (n − 1), one after the other
@@ -8,7 +8,7 @@
 --   header n k initials finals  the bytes 0 to 9
 --   offsetIn n sections q       where the section of state q begins
 --   pairs n sections            the offset and the length of the section of each state
---   fileWith .. sections        the file with this header and these sections: header, pairs, sections
+--   fileWith .. sections        the file with this header and these sections
 --   sectionOf n k masks         the section of a state whose target mask by symbol s is `masks s`:
 --                               its arcs, by symbol and then target
 --   fileOf r                    the rule file of the rule r
