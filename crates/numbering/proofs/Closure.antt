@@ -3,7 +3,8 @@
 --   ..-begins                 each part only appends to the list of keys
 --   symbols-.., keys-..       its loops unroll by one turn
 --   close-keeps, upTo-keeps   what each turn of a key keeps holds of all the keys
---   close-covers, upTo-covers, upTo-seed   with at most 512 keys every key that a step leads to and that is not left out has a number; each seed has one
+--   upTo-covers, upTo-seed    with at most 512 keys what a numbered key leads to has a number, and
+--                             so has each seed, if it is not left out
 use mathlib.Core.Path.{_≡_, refl, sym, _∙_, subst}
 use mathlib.Core.Bool.{false, cond}
 use mathlib.Core.List.{List, []}
@@ -25,7 +26,7 @@ module _ (a : Walk) where
   pub expand-begins : (m s left : ℕ) (l : List ℕ) → Begins l (expandFrom a m s left l)
   unfolding expandFrom
   expand-begins m s zero l = begins-self l
-  expand-begins m s (suc left) l = begins-trans (numbered-begins (a .skips) l (a .step m s)) (expand-begins m (suc s) left (numbered (a .skips) l (a .step m s)))
+  expand-begins m s (suc left) l = begins-trans (numbered-begins (a .skips) l _) (expand-begins m (suc s) left _)
 
   pub close-begins : (left i : ℕ) (l : List ℕ) → Begins l (closeFrom a left i l)
   unfolding closeFrom
@@ -73,7 +74,8 @@ module _ (a : Walk) where
   keys-end zero i l h = refl
   keys-end (suc left) i l h = rw (le-ltb i (length l) h)
 
--- ---- what each turn of a key keeps holds of all the keys. P may speak of the turn, which is that of key i and symbol s
+-- ---- what each turn of a key keeps holds of all the keys. P i s may speak of the turn, which is
+-- that of key i and symbol s
 module _ (a : Walk) (P : ℕ → ℕ → List ℕ → Type 0)
     (turn : (l : List ℕ) (i s : ℕ) → i < length l → s < a .k → P i s l → P i (suc s) (numbered (a .skips) l (a .step (getD l i 0) s)))
     (row : (l : List ℕ) (i : ℕ) → P i (a .k) l → P (suc i) 0 l) where
@@ -105,7 +107,7 @@ module _ (a : Walk) (P : ℕ → ℕ → List ℕ → Type 0)
 -- what does not speak of the turn
 module _ (a : Walk) (P : List ℕ → Type 0)
     (turn : (l : List ℕ) (i s : ℕ) → i < length l → s < a .k → P l → P (numbered (a .skips) l (a .step (getD l i 0) s))) where
-  pub all-keep : (left i : ℕ) (l : List ℕ) → P l → P (closeFrom a left i l)
+  all-keep : (left i : ℕ) (l : List ℕ) → P l → P (closeFrom a left i l)
   all-keep left i l p = close-keeps a (λ _ _ x. P x) turn (λ _ _ q. q) left i l p .kept
 
   pub upTo-keeps : (seed : ℕ → ℕ) (n : ℕ) → P [] → ((l : List ℕ) (q : ℕ) → q < n → P l → P (numbered (a .skips) l (seed q))) → (q : ℕ) → q ≤ n → P (keysUpTo a seed q)
@@ -142,7 +144,7 @@ module _ (a : Walk) where
   Closed f i = (j s : ℕ) → i ≤ j → j < length f → s < a .k → Covers a f (a .step (getD f j 0) s)
 
   -- the fuel is enough while the list is no longer than it reaches
-  pub close-covers : (left i : ℕ) (l : List ℕ) → length (closeFrom a left i l) ≤ i + left → Closed (closeFrom a left i l) i
+  close-covers : (left i : ℕ) (l : List ℕ) → length (closeFrom a left i l) ≤ i + left → Closed (closeFrom a left i l) i
   unfolding closeFrom
   close-covers zero i l = λ h j s x y z. absurd (omega arith)
   close-covers (suc left) i l = go (close-covers left (suc i) (expandFrom a (getD l i 0) 0 (a .k) l))

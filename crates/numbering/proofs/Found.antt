@@ -1,12 +1,13 @@
--- How each key got its number: it is a seed, or the turn of a key below it and a symbol led to it; and whatever came before, a seed or a
--- turn, led to lower numbers or to keys that are left out. Assumes nothing.
+-- How each key got its number: it is a seed, or the turn of a lower number and a symbol led to it;
+-- and all seeds and turns before that led to lower numbers, or to keys that are left out. Assumes
+-- nothing.
 --
--- Within one seed's stage each turn keeps that this holds of all the keys so far (`turn`, `row`). A stage begins with every key expanded
--- (`upTo-covers`), so that what leads to a number past it is the new seed or a turn of this stage.
+-- Each turn of the stage of a seed keeps this of all the keys so far (`turn`, `row`). A stage
+-- begins with every key expanded (`upTo-covers`): only its seed and its own turns lead to new keys.
 --
---   Prior p t i s     the turn of key p and symbol t comes before that of key i and symbol s
---   Found l j q w     key j of the list l came from seed q over the text w
---   upTo-found        with at most 512 keys, each was found
+--   Prior p t i s   the turn of key p and symbol t comes before that of key i and symbol s
+--   Found l j q w   key j of the list l was found from seed q over the text w
+--   upTo-found      with at most 512 keys, each was found
 use mathlib.Core.Path.{_≡_, refl, sym, ap, _∙_, subst}
 use mathlib.Core.Logic.{_⊎_, inl, inr, ⊎-elim}
 use mathlib.Core.Bool.{false}
@@ -31,12 +32,12 @@ prior-le : (p t i s : ℕ) → Prior p t i s → p ≤ i
 prior-le p t i s h = ⊎-elim (λ b. omega arith) (λ b. omega (arith, b .0)) h
 
 module _ (a : Walk) (seed : ℕ → ℕ) where
-  -- what the turns before that of key i and symbol s lead to has a number below j, if it is not left out
+  -- what the turns before that of key i and symbol s lead to is left out or has a number below j
   abbrev pub TurnsBelow : List ℕ → ℕ → ℕ → ℕ → Type 0
   TurnsBelow l j i s =
       (p t : ℕ) → t < a .k → Prior p t i s → a .skips (a .step (getD l p 0) t) ≡ false → numberIn l (a .step (getD l p 0) t) < j
 
-  -- the seeds below q have a number below j, if they are not left out
+  -- each seed below q is left out or has a number below j
   abbrev pub SeedsBelow : List ℕ → ℕ → ℕ → Type 0
   SeedsBelow l j q = (p : ℕ) → p < q → a .skips (seed p) ≡ false → numberIn l (seed p) < j
 
@@ -66,7 +67,8 @@ module _ (a : Walk) (seed : ℕ → ℕ) where
         (seeds-more j (suc q) b x)
         (turns-more j i s b (omega arith) y)
 
-  -- ---- the stage of seed q, which began with b keys: key i is expanded by the symbols below s, and those before it by all
+  -- ---- the stage of seed q, which began with b keys: key i is expanded by the symbols below s,
+  -- and the keys before it by all
   record Stage (q b i s : ℕ) (l : List ℕ) : Type 0 where
     past : b ≤ i
     seeds : (p : ℕ) → p < suc q → Covers a l (seed p)

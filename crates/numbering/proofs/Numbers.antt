@@ -1,10 +1,11 @@
--- The laws of the numbers that a list of keys gives: a key's number is the place where it first stands; a key keeps its number where the
--- list goes on; `numbered` only appends, and gives a key that is not left out a number. Assumes nothing.
+-- The laws of the numbers that a list of keys gives: a key's number is the place where it first
+-- stands; a key keeps its number where the list goes on; `numbered` only appends, and gives a key
+-- that is not left out a number. Assumes nothing.
 --
---   Has l m                     the key m has a number in the list l
---   number-at, first-at         the key with a number stands at it; a key that stands somewhere has a number
---   begins-..                   what a list that begins another has in common with it
---   numbered-..                 what a key's turn does to the list
+--   Has l m                the key m has a number in the list l
+--   number-at, first-at    the key with a number stands at it; a key that stands somewhere has one
+--   begins-..              what a list that begins another has in common with it
+--   numbered-..            what a key's turn does to the list
 use mathlib.Core.Path.{_≡_, refl, sym, ap, _∙_, subst}
 use mathlib.Core.Bool.{Bool, true, false, cond}
 use mathlib.Core.List.{List, [], _∷_, _++_, append-assoc}

@@ -1,10 +1,13 @@
--- The order of the numbers is that of the first texts. Of a key j that was found from seed q over the text w (`Found`):
+-- The order of the numbers is that of the first texts. Of the keys with the texts over which they
+-- were found (`Found`):
 --
--- 1. How a key was found is determined, since whatever came before leads to lower numbers (`same`).
--- 2. A turn is never before the one that found the key that it leads to. So, with the order up to key i, the key that the turn of key i and
---    symbol s leads to was found no later than over the text to i and then s (`grows`). By induction the keys were found in the order of their
---    numbers (`rises`).
--- 3. By induction on a text, the key that it leads to was found no later than over this text (`ends`). So the text of `Found` is the first.
+-- 1. How a key was found is determined: what came before led to lower numbers (`same`).
+-- 2. A turn is never before the one that found the key that it leads to. So, given the order up to
+--    key i, the key that key i leads to by the symbol s was found no later than over the text to
+--    key i followed by s (`grows`). By induction the keys were found in the order of their numbers
+--    (`rises`).
+-- 3. By induction on a text, the key that it leads to was found no later than over this text
+--    (`ends`). So the text over which a key was found is the first that leads to it.
 --
 -- Assumes nothing.
 use mathlib.Core.Path.{_≡_, refl, sym, ap, _∙_, subst}

@@ -1,9 +1,13 @@
 -- The numbered keys are the keys that texts lead to from seeds, each once.
 --
--- 1. Each turn keeps that every numbered key is reached and not left out, and that each stands at its own number (`upTo-keeps`).
--- 2. With at most 512 keys what steps lead to is numbered (`upTo-covers`) and so is each seed: by induction on the text, what it leads to is
---    numbered.
--- 3. So 513 distinct reached keys cannot all be among at most 512 numbered ones; and where there are more, the first 513 are such.
+-- 1. Each turn keeps that every numbered key is reached and not left out, and that each stands at
+--    its own number (`upTo-keeps`).
+-- 2. With at most 512 keys what numbered keys lead to is numbered (`upTo-covers`) and so is each
+--    seed: by induction on the text, what it leads to is numbered.
+-- 3. So 513 distinct reached keys cannot all be among at most 512 numbered ones; and where there
+--    are more, the first 513 are such.
+--
+-- Assumes nothing.
 use mathlib.Core.Path.{_≡_, refl, sym, ap, _∙_, subst}
 use mathlib.Core.Logic.{_↔_, ⊎-elim}
 use mathlib.Core.Bool.{true, false}
@@ -25,7 +29,7 @@ use Rattle.numbering.proofs.Closure.{upTo-keeps, Covers, upTo-covers, u
 use Rattle.numbering.proofs.Pigeonhole.{at-most}
 
 -- what holds of the members and of one more holds of the members of the longer list
-pub snoc-all : (Q : ℕ → ℕ → Type 0) (l : List ℕ) (m : ℕ) → ((i : ℕ) → i < length l → Q i (getD l i 0)) → Q (length l) m
+snoc-all : (Q : ℕ → ℕ → Type 0) (l : List ℕ) (m : ℕ) → ((i : ℕ) → i < length l → Q i (getD l i 0)) → Q (length l) m
     → (i : ℕ) → i < length (l ++ (m ∷ [])) → Q i (getD (l ++ (m ∷ [])) i 0)
 snoc-all Q l m h new i b =
     let c : i ≤ length l = omega (arith, length-append l (m ∷ [])) in
@@ -38,7 +42,7 @@ snoc-all Q l m h new i b =
 abbrev pub Own : List ℕ → Type 0
 Own l = (i : ℕ) → i < length l → numberIn l (getD l i 0) ≡ i
 
-pub own-turn : (a : Walk) (l : List ℕ) (m : ℕ) → Own l → Own (numbered (a .skips) l m)
+own-turn : (a : Walk) (l : List ℕ) (m : ℕ) → Own l → Own (numbered (a .skips) l m)
 own-turn a l m h =
     by-turn (a .skips) l m Own (λ _. h) (λ _ _. h)
     (λ ne new.
@@ -108,7 +112,7 @@ module _ (a : Walk) (seed : ℕ → ℕ) (n : ℕ) where
           (by-test (a .skips (a .step m s)) (λ z. absurd (not-both (skipped-after a sinks (a .step m s) w p z) ne)) (λ z. z)))
           ne
 
-      pub reached-has : (m : ℕ) → Reach a seed n m → Has keys m
+      reached-has : (m : ℕ) → Reach a seed n m → Has keys m
       reached-has m h =
           subst (Has keys) (h .leads)
           (leads-in (seed (h .from)) (h .text) (h .symbols)

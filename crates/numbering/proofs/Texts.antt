@@ -4,7 +4,6 @@ use mathlib.Core.Logic.{_⊎_, inl, inr, ⊎-elim}
 use mathlib.Core.Bool.{true}
 use mathlib.Core.List.{List, [], _∷_, _++_}
 use Prim.Native.Nat.{ℕ, suc, _+_, _<_}
-use native.Mathlib.Nat.{lt-trans}
 use native.Mathlib.Omega.{arith}
 use lib.ListN.{length, length-append}
 use Rattle.numbering.specs.Numbering.{Walk}
@@ -25,7 +24,7 @@ skipped-after a sinks m (s ∷ w) (more b p) h = skipped-after a sinks (a .step 
 
 -- ---- the order
 lex-trans : {u v w : List ℕ} → Lex u v → Lex v w → Lex u w
-lex-trans (lower h) (lower g) = lower (lt-trans h g)
+lex-trans (lower {s = s} h) (lower {t = t} g) = lower {s = s} {t = t} (omega arith)
 lex-trans (lower h) (later q) = lower h
 lex-trans (later p) (lower g) = lower g
 lex-trans (later p) (later q) = later (lex-trans p q)

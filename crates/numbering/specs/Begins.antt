@@ -1,4 +1,4 @@
--- How the procedure goes on from a list of keys: it only appends. Nothing here needs to be believed: contracts of functions that number cite it.
+-- The procedure only appends. Nothing here needs to be believed: contracts of functions cite it.
 use mathlib.Core.Path.{_≡_}
 use mathlib.Core.List.{List, _++_}
 use Prim.Native.Nat.{ℕ}

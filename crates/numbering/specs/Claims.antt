@@ -1,10 +1,12 @@
 -- What makes a numbering believable, for every walk; proofs/Claims.antt proves it.
 --
---   Reach a seed n m        m is a key that is not left out, and a text leads to it from one of the n seeds
+--   Reach a seed n m        the key m is not left out, and a text leads to it from one of n seeds
 --   Distinct l              no member of the list l stands in it twice
 --   Sinks a                 what is left out leads only to what is left out
---   Origin a seed n m q w   q is the first of the n seeds that lead to the key m, and w the first text that leads there from q
---   Ordered a seed n keys   the keys stand in the order of their first seeds, then of their first texts from these
+--   Origin a seed n m q w   q is the first of n seeds that lead to the key m, and w the first text
+--                           that leads there from seed q
+--   Ordered a seed n keys   the keys stand in the order of their first seeds, and then of their
+--                           first texts from these
 use mathlib.Core.Path.{_≡_}
 use mathlib.Core.Logic.{_↔_, _⊎_}
 use mathlib.Core.Bool.{true, false}
@@ -57,7 +59,7 @@ module _ (a : Walk) (seed : ℕ → ℕ) (n : ℕ) where
   fits = length keys ≤ 512
 
 pub record Claims : Type 0 where
-  -- each numbered key is not left out and a text leads to it from a seed, and no key has two numbers
+  -- each numbered key is reached from a seed over a text, and no key has two numbers
   pub sound : (a : Walk) (seed : ℕ → ℕ) (n i : ℕ) → i < length (keys a seed n) → Reach a seed n (getD (keys a seed n) i 0)
   pub once : (a : Walk) (seed : ℕ → ℕ) (n : ℕ) → Distinct (keys a seed n)
   -- with at most 512 keys, each key so reached has a number
@@ -71,5 +73,6 @@ pub record Claims : Type 0 where
   -- there are more than 512 keys exactly when more than 512 distinct ones are reached
   pub over : (a : Walk) (seed : ℕ → ℕ) (n : ℕ) → Sinks a
       → (512 < length (keys a seed n)) ↔ (l : List ℕ) × (length l ≡ 513) × Distinct l × ((i : ℕ) → i < 513 → Reach a seed n (getD l i 0))
-  -- with at most 512 keys, these stand in the order of their first seeds, then of their first texts from these
+  -- with at most 512 keys, these stand in the order of their first seeds, and then of their first
+  -- texts from these
   pub in-order : (a : Walk) (seed : ℕ → ℕ) (n : ℕ) → Sinks a → fits a seed n → Ordered a seed n (keys a seed n)

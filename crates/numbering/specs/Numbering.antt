@@ -1,13 +1,14 @@
--- First found, numbered first: the procedure of document 01, "Sets and their order", over any step. A key is a number and stands for what
--- is numbered, there a set of states. A seed is a key that the procedure starts from, there the set {q} for a state q. A key's number is
--- its place in a list; 512 stands for a key that is left out, there the empty set, and that has no number.
+-- First found, numbered first: the procedure of document 01, "Sets and their order", over any step.
+-- A key is what is numbered, written as a number: there a set of states. The seeds are the keys
+-- that it starts from: there the sets {q}. A key's number is its place in a list. Some keys are
+-- left out, there the empty set: they have no number, and 512 stands for them.
 --
---   Walk                    the step from a key by a symbol, which keys are left out, and the number of symbols
+--   Walk                    where a key leads by a symbol, which keys are left out, and k symbols
 --   numberIn keys m         the number of the key m; the list's length where it has none
---   numbered skips keys m   a key that is not left out keeps the number it has, else it takes the next
+--   numbered skips keys m   a key not left out keeps the number it has, else it takes the next
 --   expandFrom, closeFrom, keysUpTo   the procedure: by symbols, in number order, for each seed
 --   numberOrNone            the number of a key, or 512 where it is left out
---   nextOf a keys i s       the table: the number of the key that the step from key i by the symbol s leads to, or 512
+--   nextOf a keys i s       the table: the number of what key i leads to by the symbol s, or 512
 use mathlib.Core.Bool.{Bool, cond, _&&_, _||_}
 use mathlib.Core.List.{List, [], _∷_, _++_}
 use Prim.Native.Nat.{ℕ, zero, suc}
@@ -31,13 +32,15 @@ unfoldable pub expandFrom : Walk → ℕ → ℕ → ℕ → List ℕ → List �
 expandFrom a m s zero keys = keys
 expandFrom a m s (suc left) keys = expandFrom a m (suc s) left (numbered (a .skips) keys (a .step m s))
 
--- in number order, each key from number i on is expanded by the k symbols: at most `left` of them, which is enough for 512 keys
+-- in number order, each key from number i on is expanded by the k symbols: at most `left` keys,
+-- which is enough for 512
 unfoldable pub closeFrom : Walk → ℕ → ℕ → List ℕ → List ℕ
 closeFrom a zero i keys = keys
 closeFrom a (suc left) i keys =
     cond (ltb i (length keys)) (closeFrom a left (suc i) (expandFrom a (getD keys i 0) 0 (a .k) keys)) keys
 
--- for each seed in order: it is numbered, and the keys not yet expanded, which are those from there on, are expanded
+-- for each seed in order: it is numbered, and the keys not yet expanded are expanded, which are
+-- those from there on
 unfoldable pub keysUpTo : Walk → (ℕ → ℕ) → ℕ → List ℕ
 keysUpTo a seed zero = []
 keysUpTo a seed (suc q) =

@@ -1,1 +1,1 @@
-// First found, numbered first, over any step: no code. What a numbering is, is in specs/; what it comes to is proved in proofs/.
+// First found, numbered first, over any step: no code. specs/ says what it is and what it comes to.

@@ -1,5 +1,6 @@
--- The one proof of all that specs/Claims.antt claims, from the claims of numbering. What is left to show for a well-formed rule: the empty
--- set leads to itself, and a text that leads to a set that is not empty has symbols below k. Assumes nothing.
+-- The one proof of all that specs/Claims.antt claims, from the claims of numbering. What is left to
+-- show: the empty set leads to itself, and in a well-formed rule a text that leads to a non-empty
+-- set has symbols below k. Assumes nothing.
 use mathlib.Core.Path.{_≡_, refl, sym, ap, _∙_}
 use mathlib.Core.Logic.{_↔_, inr}
 use mathlib.Core.List.{List, [], _∷_}

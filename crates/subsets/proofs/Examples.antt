@@ -1,4 +1,5 @@
--- Rules A and B of document 01, and two rules whose sets show the order of the numbers, by computation. Assumes nothing.
+-- Rules A and B of document 01, and two rules that show the order of the numbers, by computation.
+-- Assumes nothing.
 use mathlib.Core.Path.{_≡_, refl}
 use mathlib.Core.List.{List, [], _∷_}
 use Prim.Native.Nat.{ℕ}

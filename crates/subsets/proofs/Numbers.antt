@@ -1,4 +1,4 @@
--- The laws of a set's turn: those of numbering, where the empty set is the one that is left out. Assumes nothing.
+-- The laws of a set's turn: those of numbering, where the empty set is left out. Assumes nothing.
 use mathlib.Core.Path.{_≡_}
 use mathlib.Core.List.{List, [], _∷_, _++_}
 use Prim.Native.Nat.{ℕ, _≤_}

@@ -1,15 +1,16 @@
--- The numbered sets and the next-set table (document 01, "Sets and their order"; document 004, section 3.1), of a rule with the targets
--- `ts`, n states and k symbols. The procedure is that of the crate numbering, first found, numbered first: a step leads to the successor,
--- the empty set is left out, and the seeds are the sets {q}. A set's number is its place in a list; 512 stands for the empty set, which
--- has no number.
+-- The numbered sets and the next-set table (document 01, "Sets and their order"; document 004,
+-- section 3.1), of a rule with the targets `ts`, n states and k symbols. The procedure is that of
+-- the crate numbering: a set leads to its successors, the empty set is left out, and the seeds are
+-- the sets {q}. A set's number is its place in a list; 512 stands for the empty set, which has no
+-- number.
 --
---   setWalk ts k         the step of numbering for sets
+--   setWalk ts k         sets as the keys of numbering
 --   numberIn sets m      the number of the set m; the list's length where it has none
 --   numbered sets m      a non-empty set keeps the number it has, else it takes the next
 --   expandFrom, closeFrom, setsUpTo   the procedure: by symbols, in number order, for each state
 --   setsOf ts n k        the numbered sets, in number order
 --   tooMany ts n k       there are more than 512 (9)
---   nextSet ts n k i s   the next-set table: the number of the successor of set i by symbol s, or 512
+--   nextSet ts n k i s   the next-set table: the number of the successor of set i by s, or 512
 --   setCells, nextCells  both as arrays; a cell not in use is 0 or 512
 use mathlib.Core.Bool.{Bool}
 use mathlib.Core.List.{List}
@@ -36,11 +37,13 @@ numbered sets m = keys.numbered isEmpty sets m
 abbrev pub expandFrom : List ℕ → ℕ → ℕ → ℕ → ℕ → List ℕ → List ℕ
 expandFrom ts k m s left sets = keys.expandFrom (setWalk ts k) m s left sets
 
--- in number order, each set from number i on is expanded by the k symbols: at most `left` of them, which is enough for 512 sets
+-- in number order, each set from number i on is expanded by the k symbols: at most `left` sets,
+-- which is enough for 512
 abbrev pub closeFrom : List ℕ → ℕ → ℕ → ℕ → List ℕ → List ℕ
 closeFrom ts k left i sets = keys.closeFrom (setWalk ts k) left i sets
 
--- for each state q in order: {q} is numbered, and the sets not yet expanded, which are those from there on, are expanded
+-- for each state q in order: {q} is numbered, and the sets not yet expanded are expanded, which are
+-- those from there on
 abbrev pub setsUpTo : List ℕ → ℕ → ℕ → List ℕ
 setsUpTo ts k q = keysUpTo (setWalk ts k) single q
 
