@@ -15,7 +15,8 @@ use Rattle.automaton.specs.declared.Rule.{Rule}
 use Rattle.ruleformat.specs.Conditions.{anyBelow, firstOf, outside}
 use Rattle.ruleformat.specs.Refusals.{tooShort, tooLong, badStates, badSymbols, noRoom, badMask, badPairs, badSection, badArcs, refusal}
 use Rattle.ruleformat.specs.Reader.{targetsUpTo, ruleOf}
-use Rattle.subsets.specs.Sets.{numberIn, numbered, expandFrom, closeFrom, setsUpTo, setsOf, tooMany, nextSet}
+use Rattle.numbering.specs.Numbering.{numberIn, numbered, expandFrom, closeFrom, keysUpTo}
+use Rattle.subsets.specs.Sets.{setsOf, tooMany, nextSet}
 use Rattle.delegates.specs.declared.Starts.{Starts}
 use Rattle.delegates.specs.Claims.{startsIn}
 use Rattle.build.specs.Building.{builtOf}
@@ -166,7 +167,7 @@ abbrev given-B : Starts
 given-B = record { delegates = listed 0 1 1; count = 2 }
 
 computed : Each Left table
-unfolding answersTo loadNumber refusal tooShort tooLong badStates badSymbols noRoom badMask badPairs badSection badArcs anyBelow targetsUpTo listFrom union numberIn numbered expandFrom closeFrom setsUpTo setsOf tooMany nextSet rowsFrom fileOf placesIn standing foreign counted startSet total joinOf
+unfolding answersTo loadNumber refusal tooShort tooLong badStates badSymbols noRoom badMask badPairs badSection badArcs anyBelow targetsUpTo listFrom union numberIn numbered expandFrom closeFrom keysUpTo setsOf tooMany nextSet rowsFrom fileOf placesIn standing foreign counted startSet total joinOf
 computed =
     (rw starts-A, (refl, (refl, refl))) &
     (rw starts-B, (refl, rw starts-B)) &

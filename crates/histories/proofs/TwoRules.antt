@@ -17,7 +17,8 @@ use Rattle.automaton.specs.Successor.{successor, after}
 use Rattle.ruleformat.specs.Reader.{targetsUpTo, ruleOf}
 use Rattle.ruleformat.specs.Worked.{fileA, fileB}
 use Rattle.ruleformat.proofs.Claims as rulefile
-use Rattle.subsets.specs.Sets.{numberIn, numbered, expandFrom, closeFrom, setsUpTo, setsOf, tooMany}
+use Rattle.numbering.specs.Numbering.{numberIn, numbered, expandFrom, closeFrom, keysUpTo}
+use Rattle.subsets.specs.Sets.{setsOf, tooMany}
 use Rattle.subsets.specs.Claims.{fits}
 use Rattle.subsets.proofs.Claims as subsets
 use Rattle.delegates.specs.Alike.{Text, Alike, Delegate, startCount, Merged}
@@ -83,7 +84,7 @@ starts-are r x y z good fit three ds =
 
 -- ---- rule A
 sets-A : setsOf (ruleOf fileA .targets) (ruleOf fileA .n) (ruleOf fileA .k) ≡ 1 ∷ 3 ∷ 5 ∷ 2 ∷ 4 ∷ []
-unfolding union listFrom targetsUpTo numberIn numbered expandFrom closeFrom setsUpTo setsOf
+unfolding union listFrom targetsUpTo numberIn numbered expandFrom closeFrom keysUpTo setsOf
 sets-A = refl
 
 fits-A : fits (ruleOf fileA)
@@ -114,7 +115,7 @@ starts-A = starts-are (ruleOf fileA) 0 1 2 good-A fits-A refl delegates-A
 
 -- ---- rule B
 sets-B : setsOf (ruleOf fileB .targets) (ruleOf fileB .n) (ruleOf fileB .k) ≡ 1 ∷ 6 ∷ 2 ∷ 4 ∷ []
-unfolding union listFrom targetsUpTo numberIn numbered expandFrom closeFrom setsUpTo setsOf
+unfolding union listFrom targetsUpTo numberIn numbered expandFrom closeFrom keysUpTo setsOf
 sets-B = refl
 
 fits-B : fits (ruleOf fileB)

@@ -18,6 +18,7 @@ use Rattle.masks.proofs.Cases.{by-test}
 use Rattle.masks.proofs.Lists.{length-listFrom, cell-of, is-listFrom}
 use Rattle.automaton.specs.Successor.{successor}
 use Rattle.automaton.proofs.Laws.{successor-foreign}
+use Rattle.numbering.proofs.Numbers.{Has, nowhere, number-is, number-taken}
 use Rattle.subsets.specs.declared.SetNumber.{SetNumber}
 use Rattle.subsets.specs.declared.Found.the-variants.{At, Nothing}
 use Rattle.subsets.specs.declared.Numbered.{Numbered}
@@ -27,7 +28,7 @@ use Rattle.subsets.specs.declared.Numbering.the-variants.{Whole, Over}
 use Rattle.subsets.specs.Sets.{numberIn, numbered}
 use Rattle.subsets.specs.Answer.{counted, refused, toldOf}
 use Rattle.subsets.specs.Steps.{foundIn, limited, cellsOf, Entered, target, afterStep, Stepped}
-use Rattle.subsets.proofs.Numbers.{Has, nowhere, number-is, numbered-empty, numbered-kept, numbered-taken, number-taken}
+use Rattle.subsets.proofs.Numbers.{numbered-empty, numbered-kept, numbered-taken}
 
 -- ---- at most 512
 module _ (f : List ℕ) where

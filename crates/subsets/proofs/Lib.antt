@@ -1,10 +1,7 @@
 -- In the order in which they build on each other.
 pub mod Numbers
-pub mod Closure
 pub mod Arrays
 pub mod Table
 pub mod Turns
-pub mod Pigeonhole
-pub mod Reached
 pub mod Claims
 pub mod Examples

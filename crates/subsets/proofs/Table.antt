@@ -11,10 +11,12 @@ use borrow.Author.Tests.{eq-eqb, ne-eqb, lt-ltb, le-ltb, eqb-true, eqb-false, lt
 use Rattle.masks.proofs.Cases.{by-test}
 use Rattle.masks.proofs.Lists.{is-listFrom}
 use Rattle.automaton.proofs.Laws.{successor-foreign}
+use Rattle.numbering.specs.Begins.{Begins}
+use Rattle.numbering.proofs.Numbers.{begins-self, begins-trans, begins-length, begins-at, begins-number}
 use Rattle.subsets.specs.declared.Numbering.{Numbering}
 use Rattle.subsets.specs.Sets.{numberIn, numberOrEmpty, setsOf, nextSet, nextCells}
-use Rattle.subsets.specs.Steps.{cellsOf, target, afterStep, Stepped, Begins, cellTo, Holds}
-use Rattle.subsets.proofs.Numbers.{begins-self, begins-trans, begins-length, begins-at, begins-number, numbered-begins, numbered-has}
+use Rattle.subsets.specs.Steps.{cellsOf, target, afterStep, Stepped, cellTo, Holds}
+use Rattle.subsets.proofs.Numbers.{numbered-begins, numbered-has}
 use Rattle.subsets.proofs.Arrays.{cells-long, cells-at}
 
 -- the sets are read off the array again

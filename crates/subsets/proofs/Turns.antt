@@ -14,34 +14,37 @@ use lib.ListN.{length, getD, take}
 use borrow.Author.Tests.{lt-ltb, le-ltb, ltb-false}
 use Rattle.masks.specs.Masks.{single}
 use Rattle.masks.proofs.Lists.{length-listFrom, cell-of}
+use Rattle.numbering.specs.Numbering.{keysUpTo}
+use Rattle.numbering.specs.Begins.{Begins}
+use Rattle.numbering.proofs.Numbers.{begins-trans, begins-length, begins-at}
+use Rattle.numbering.proofs.Closure.{expand-begins, close-begins, upTo-begins, symbols-more}
 use Rattle.subsets.specs.declared.SetNumber.{SetNumber}
 use Rattle.subsets.specs.declared.Numbered.{Numbered}
 use Rattle.subsets.specs.declared.Numbered.the-variants.{As, Full}
 use Rattle.subsets.specs.declared.Numbering.{Numbering}
 use Rattle.subsets.specs.declared.Numbering.the-variants.{Whole, Over}
-use Rattle.subsets.specs.Sets.{numberIn, numbered, expandFrom, setsUpTo, setsOf, tooMany}
+use Rattle.subsets.specs.Sets.{setWalk, numberIn, numbered, expandFrom, setsUpTo, setsOf, tooMany}
 use Rattle.subsets.specs.Answer.{counted, Answered}
-use Rattle.subsets.specs.Steps.{Entered, target, afterStep, Stepped, Begins, Holds, Grown, closedFrom, grownBy, Cleared}
-use Rattle.subsets.proofs.Numbers.{begins-trans, begins-length, begins-at, numbered-begins}
-use Rattle.subsets.proofs.Closure.{expand-begins, close-begins, upTo-begins, symbols-more}
+use Rattle.subsets.specs.Steps.{Entered, target, afterStep, Stepped, Holds, Grown, closedFrom, grownBy, Cleared}
+use Rattle.subsets.proofs.Numbers.{numbered-begins}
 use Rattle.subsets.proofs.Arrays.{count-is, limited-whole, limited-over, whole-of, over-of, entered-as, entered-over}
 use Rattle.subsets.proofs.Table.{read-back, step-holds, holds-more, next-whole}
 
 module _ (ts : List ℕ) (k : ℕ) where
   -- the sets l after set i is expanded from symbol s on
   abbrev pub expanded : ℕ → ℕ → List ℕ → List ℕ
-  expanded i s l = expandFrom ts (getD l i 0) s (k - s) l
+  expanded i s l = expandFrom ts k (getD l i 0) s (k - s) l
 
   -- ---- a step within set i, at symbol s
   module _ (l : List ℕ) (i s : ℕ) (below : i < length l) (symbol : s < k) where
     step-expanded : expanded i s l ≡ expanded i (s + 1) (afterStep ts l i s)
     step-expanded =
-        symbols-more ts k (getD l i 0) s l symbol
-        ∙ ap (λ (x : ℕ). expandFrom ts x (s + 1) (k - (s + 1)) (afterStep ts l i s)) (sym (begins-at (numbered-begins l (target ts l i s)) i below))
+        symbols-more (setWalk ts k) (getD l i 0) s l symbol
+        ∙ ap (λ (x : ℕ). expandFrom ts k x (s + 1) (k - (s + 1)) (afterStep ts l i s)) (sym (begins-at (numbered-begins l (target ts l i s)) i below))
 
     step-begins : Begins (afterStep ts l i s) (expanded i s l)
     step-begins =
-        subst (Begins (afterStep ts l i s)) (sym step-expanded) (expand-begins ts (getD (afterStep ts l i s) i 0) (s + 1) (k - (s + 1)) (afterStep ts l i s))
+        subst (Begins (afterStep ts l i s)) (sym step-expanded) (expand-begins (setWalk ts k) (getD (afterStep ts l i s) i 0) (s + 1) (k - (s + 1)) (afterStep ts l i s))
 
     module _ {r : Numbering} {sets′ next next′ : List ℕ} (st : Stepped ts l i s r sets′ next next′) where
       module _ {sets : List ℕ} (h : Holds ts k l (i * 16 + min s 16) sets next) (c : ℕ) (whole : r ≡ Whole c) where
@@ -114,7 +117,7 @@ module _ (ts : List ℕ) (k : ℕ) where
     state-over next₂ e =
         let o : 512 < length (numbered before (single q)) = subst (λ (x : ℕ). 512 < length (numbered before x)) is (entered-over before m r sets′ entered e) in
         grown-over (grownBy ts k q before) sets′ next₂
-        (omega (arith, begins-length (close-begins ts k 512 (length before) (numbered before (single q)))))
+        (omega (arith, begins-length (close-begins (setWalk ts k) 512 (length before) (numbered before (single q)))))
 
   -- ---- the states
   pub begin : (sets next : List ℕ) → Cleared sets next → Holds ts k [] 0 sets next
@@ -129,7 +132,7 @@ module _ (ts : List ℕ) (k : ℕ) where
 
   module _ (q : ℕ) (l : List ℕ) (is : l ≡ setsUpTo ts k q) (r : Numbering) (sets next : List ℕ) (g : Grown ts k (grownBy ts k q l) r sets next) where
     grown-is : grownBy ts k q l ≡ setsUpTo ts k (q + 1)
-    unfolding setsUpTo
+    unfolding keysUpTo
     grown-is = rw (is, add-one)
 
     pub states-more : (c : ℕ) → r ≡ Whole c → (c ≤ 512) × (take c sets ≡ setsUpTo ts k (q + 1)) × Holds ts k (take c sets) (c * 16) sets next
@@ -147,7 +150,7 @@ module _ (ts : List ℕ) (k : ℕ) where
     unfolding tooMany setsOf
     answered-over q b o =
         let f = setsUpTo ts k (min n 32) in
-        let long : 512 < length f = omega (arith, begins-length (upTo-begins ts k (q + 1) (min n 32) (omega arith))) in
+        let long : 512 < length f = omega (arith, begins-length (upTo-begins (setWalk ts k) single (q + 1) (min n 32) (omega arith))) in
         record {
           count = rw (lt-ltb 512 (length f) long);
           sets-are = λ e. absurd (omega (arith, ltb-false 512 (length f) e));

@@ -1,46 +1,51 @@
--- The numbered sets and the next-set table (document 01, "Sets and their order"; document 004, section 3.1), of a rule with the targets
--- `ts`, n states and k symbols. A set's number is its place in a list; 512 stands for the empty set, which has no number.
+-- The numbered sets and the next-set table (document 01, "Sets and their order"; document 004,
+-- section 3.1), of a rule with the targets `ts`, n states and k symbols. The procedure is that of
+-- the crate numbering: a set leads to its successors, the empty set is left out, and the seeds are
+-- the sets {q}. A set's number is its place in a list; 512 stands for the empty set, which has no
+-- number.
 --
+--   setWalk ts k         sets as the keys of numbering
 --   numberIn sets m      the number of the set m; the list's length where it has none
 --   numbered sets m      a non-empty set keeps the number it has, else it takes the next
 --   expandFrom, closeFrom, setsUpTo   the procedure: by symbols, in number order, for each state
 --   setsOf ts n k        the numbered sets, in number order
 --   tooMany ts n k       there are more than 512 (9)
---   nextSet ts n k i s   the next-set table: the number of the successor of set i by symbol s, or 512
+--   nextSet ts n k i s   the next-set table: the number of the successor of set i by s, or 512
 --   setCells, nextCells  both as arrays; a cell not in use is 0 or 512
-use mathlib.Core.Bool.{Bool, cond, _&&_, _||_}
-use mathlib.Core.List.{List, [], _∷_, _++_}
-use Prim.Native.Nat.{ℕ, zero, suc, _/_, _%_, min}
+use mathlib.Core.Bool.{Bool}
+use mathlib.Core.List.{List}
+use Prim.Native.Nat.{ℕ, _/_, _%_, min}
 use lib.Dec.{eqb, ltb}
 use lib.ListN.{length, getD}
 use Rattle.masks.specs.Masks.{single}
 use Rattle.masks.specs.Lists.{listFrom}
 use Rattle.automaton.specs.Successor.{successor}
+use Rattle.numbering.specs.Numbering as keys
+use Rattle.numbering.specs.Numbering.{Walk, keysUpTo, numberOrNone, nextOf}
+unfoldable pub use Rattle.numbering.specs.Numbering.{numberIn}
 
-unfoldable pub numberIn : List ℕ → ℕ → ℕ
-numberIn [] m = 0
-numberIn (x ∷ sets) m = cond (eqb x m) 0 (suc (numberIn sets m))
+abbrev pub isEmpty : ℕ → Bool
+isEmpty m = eqb m 0
 
-unfoldable pub numbered : List ℕ → ℕ → List ℕ
-numbered sets m = cond (eqb m 0 || ltb (numberIn sets m) (length sets)) sets (sets ++ (m ∷ []))
+abbrev pub setWalk : List ℕ → ℕ → Walk
+setWalk ts k = record { step = successor ts; skips = isEmpty; k = k }
+
+abbrev pub numbered : List ℕ → ℕ → List ℕ
+numbered sets m = keys.numbered isEmpty sets m
 
 -- the set m is expanded by `left` symbols, from s on
-unfoldable pub expandFrom : List ℕ → ℕ → ℕ → ℕ → List ℕ → List ℕ
-expandFrom ts m s zero sets = sets
-expandFrom ts m s (suc left) sets = expandFrom ts m (suc s) left (numbered sets (successor ts m s))
+abbrev pub expandFrom : List ℕ → ℕ → ℕ → ℕ → ℕ → List ℕ → List ℕ
+expandFrom ts k m s left sets = keys.expandFrom (setWalk ts k) m s left sets
 
--- in number order, each set from number i on is expanded by the k symbols: at most `left` of them, which is enough for 512 sets
-unfoldable pub closeFrom : List ℕ → ℕ → ℕ → ℕ → List ℕ → List ℕ
-closeFrom ts k zero i sets = sets
-closeFrom ts k (suc left) i sets =
-    cond (ltb i (length sets)) (closeFrom ts k left (suc i) (expandFrom ts (getD sets i 0) 0 k sets)) sets
+-- in number order, each set from number i on is expanded by the k symbols: at most `left` sets,
+-- which is enough for 512
+abbrev pub closeFrom : List ℕ → ℕ → ℕ → ℕ → List ℕ → List ℕ
+closeFrom ts k left i sets = keys.closeFrom (setWalk ts k) left i sets
 
--- for each state q in order: {q} is numbered, and the sets not yet expanded, which are those from there on, are expanded
-unfoldable pub setsUpTo : List ℕ → ℕ → ℕ → List ℕ
-setsUpTo ts k zero = []
-setsUpTo ts k (suc q) =
-    let before = setsUpTo ts k q in
-    closeFrom ts k 512 (length before) (numbered before (single q))
+-- for each state q in order: {q} is numbered, and the sets not yet expanded are expanded, which are
+-- those from there on
+abbrev pub setsUpTo : List ℕ → ℕ → ℕ → List ℕ
+setsUpTo ts k q = keysUpTo (setWalk ts k) single q
 
 -- a rule has at most 32 states; a value that says more is taken to have 32
 unfoldable pub setsOf : List ℕ → ℕ → ℕ → List ℕ
@@ -51,12 +56,10 @@ tooMany ts n k = ltb 512 (length (setsOf ts n k))
 
 -- the number of the set m, or 512 for the empty set
 abbrev pub numberOrEmpty : List ℕ → ℕ → ℕ
-numberOrEmpty sets m = cond (eqb m 0) 512 (numberIn sets m)
+numberOrEmpty sets m = numberOrNone isEmpty sets m
 
 unfoldable pub nextSet : List ℕ → ℕ → ℕ → ℕ → ℕ → ℕ
-nextSet ts n k i s =
-    let sets = setsOf ts n k in
-    cond (ltb i (length sets) && ltb s k) (numberOrEmpty sets (successor ts (getD sets i 0) s)) 512
+nextSet ts n k i s = nextOf (setWalk ts k) (setsOf ts n k) i s
 
 abbrev pub setCells : List ℕ → ℕ → ℕ → List ℕ
 setCells ts n k = listFrom 0 512 (λ i. getD (setsOf ts n k) i 0)

@@ -8,13 +8,14 @@
 --   Holds             what the two arrays hold while sets are expanded
 use mathlib.Core.Path.{_≡_}
 use mathlib.Core.Bool.{cond, _&&_}
-use mathlib.Core.List.{List, [], _++_}
+use mathlib.Core.List.{List, []}
 use Prim.Native.Nat.{ℕ, _+_, _*_, _/_, _%_, _≤_, _<_}
 use lib.Dec.{eqb, ltb}
 use lib.ListN.{length, getD, set}
 use Rattle.masks.specs.Masks.{single}
 use Rattle.masks.specs.Lists.{listFrom}
 use Rattle.automaton.specs.Successor.{successor}
+use Rattle.numbering.specs.Begins.{Begins}
 use Rattle.subsets.specs.declared.Found.{Found}
 use Rattle.subsets.specs.declared.Found.the-variants.{At, Nothing}
 use Rattle.subsets.specs.declared.Numbered.{Numbered}
@@ -54,11 +55,6 @@ module _ (ts l : List ℕ) (i s : ℕ) where
     pub count : toldOf r ≡ limited afterStep
     pub sets-are : length afterStep ≤ 512 → sets ≡ cellsOf afterStep
     pub next-are : length afterStep ≤ 512 → next ≡ cond (eqb target 0) next₀ (set next₀ (i * 16 + s) (numberIn afterStep target))
-
--- the list l is how the list f begins
-pub record Begins (l f : List ℕ) : Type 0 where
-  pub rest : List ℕ
-  pub is : f ≡ l ++ rest
 
 -- the table's cell c, where the sets f are numbered and the cells before `upto` are filled
 abbrev pub cellTo : List ℕ → ℕ → List ℕ → ℕ → ℕ → ℕ

@@ -7,9 +7,9 @@ use Prim.Native.Nat.{ℕ, _+_, _-_, _*_, _≤_, _<_, min}
 use native.Mathlib.Omega.{arith}
 use lib.ListN.{length, getD, take}
 use borrow.Author.Needs.{needs}
-use Rattle.subsets.specs.Sets.{closeFrom}
+use Rattle.numbering.proofs.Closure.{close-begins, symbols-end, keys-more, keys-end}
+use Rattle.subsets.specs.Sets.{setWalk, closeFrom}
 use Rattle.subsets.specs.Steps.{Holds}
-use Rattle.subsets.proofs.Closure.{close-begins, symbols-end, sets-more, sets-end}
 use Rattle.subsets.proofs.Arrays.{count-is}
 use Rattle.subsets.proofs.Table.{row-begins, row-ends}
 use Rattle.subsets.proofs.Turns.{expanded, turn-whole, turn-over, grown-whole, grown-over}
@@ -100,9 +100,9 @@ expand-again c =
       omega arith,
       row-ends (a .targets .now) (a .k) (x .i) (e .symbol) (c .loop-test .left) (e .inv .3),
       x .inv .4
-          ∙ sets-more (a .targets .now) (a .k) top (x .i) l (omega arith) (omega arith)
+          ∙ keys-more (setWalk (a .targets .now) (a .k)) top (x .i) l (omega arith) (omega arith)
           ∙ ap (closeFrom (a .targets .now) (a .k) (top - (x .i + 1)) (x .i + 1))
-          (e .inv .4 ∙ symbols-end (a .targets .now) (a .k) (getD (take (e .count) (e .sets)) (x .i) 0) (e .symbol) (take (e .count) (e .sets)) (c .loop-test .left)),
+          (e .inv .4 ∙ symbols-end (setWalk (a .targets .now) (a .k)) (getD (take (e .count) (e .sets)) (x .i) 0) (e .symbol) (take (e .count) (e .sets)) (c .loop-test .left)),
     )
 
 returns : tie.Need-returns Inv-loop μ-loop Inv-expand μ-expand
@@ -113,7 +113,7 @@ returns c =
     let n : length l ≡ x .count = count-is (x .sets) (x .count) (x .inv .0) (x .inv .3 .sets-are) in
     grown-whole (a .targets .now) (a .k) (closeFrom (a .targets .now) (a .k) 512 (a .first .0) (take (a .from) (a .sets .now))) (x .sets) (x .next) (x .count)
     (x .inv .0)
-    (x .inv .4 ∙ sets-end (a .targets .now) (a .k) (512 + a .first .0 - x .i) (x .i) l (omega arith))
+    (x .inv .4 ∙ keys-end (setWalk (a .targets .now) (a .k)) (512 + a .first .0 - x .i) (x .i) l (omega arith))
     (rw (c .if1 .taken) at (x .inv .3))
 
 returns-2 : tie.Need-returns-2 Inv-loop μ-loop Inv-expand μ-expand
@@ -130,11 +130,11 @@ returns-2 c =
     let f = closeFrom (a .targets .now) (a .k) (top - (x .i + 1)) (x .i + 1) (expanded (a .targets .now) (a .k) (x .i) (e .symbol) l) in
     let same : closeFrom (a .targets .now) (a .k) 512 (a .first .0) (take (a .from) (a .sets .now)) ≡ f =
     x .inv .4
-    ∙ sets-more (a .targets .now) (a .k) top (x .i) l₀ (omega arith) (omega arith)
+    ∙ keys-more (setWalk (a .targets .now) (a .k)) top (x .i) l₀ (omega arith) (omega arith)
     ∙ ap (closeFrom (a .targets .now) (a .k) (top - (x .i + 1)) (x .i + 1)) (e .inv .4) in
     let long : 512 < length f =
     turn-over (a .targets .now) (a .k) l (x .i) (e .symbol) below (omega arith) (w .ensures) (c .enum-told .given .1) f
-    (close-begins (a .targets .now) (a .k) (top - (x .i + 1)) (x .i + 1) (expanded (a .targets .now) (a .k) (x .i) (e .symbol) l)) in
+    (close-begins (setWalk (a .targets .now) (a .k)) (top - (x .i + 1)) (x .i + 1) (expanded (a .targets .now) (a .k) (x .i) (e .symbol) l)) in
     rw same (grown-over (a .targets .now) (a .k) f (w .last .1 .0) (w .last .1 .1 .0) long)
 
 pub expand-spec : {M : Type 1} → statement M

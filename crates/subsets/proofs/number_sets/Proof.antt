@@ -5,6 +5,7 @@ use Prim.Native.Nat.{_-_, _*_, _≤_, min}
 use native.Mathlib.Omega.{arith}
 use lib.ListN.{take}
 use borrow.Author.Needs.{needs}
+use Rattle.numbering.specs.Numbering.{keysUpTo}
 use Rattle.subsets.specs.Sets.{setsUpTo}
 use Rattle.subsets.specs.Steps.{Holds}
 use Rattle.subsets.proofs.Turns.{begin, states-more, states-over, answered-over, answered-whole}
@@ -26,7 +27,7 @@ at-most-requires : tie.Need-at-most-requires Inv-loop μ-loop
 at-most-requires c κs = search needs
 
 loop-holds : tie.Need-loop-holds Inv-loop μ-loop
-unfolding setsUpTo
+unfolding keysUpTo
 loop-holds c =
     let a = c .before .before .before .before .args in
     let w = c .before .clear in

@@ -1,0 +1,9 @@
+-- In the order in which they build on each other.
+pub mod Texts
+pub mod Numbers
+pub mod Closure
+pub mod Pigeonhole
+pub mod Reached
+pub mod Found
+pub mod Order
+pub mod Claims

@@ -1,0 +1,5 @@
+-- In the order in which to read them.
+pub mod Numbering
+pub mod Texts
+pub mod Claims
+pub mod Begins
