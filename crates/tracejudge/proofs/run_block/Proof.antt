@@ -13,7 +13,7 @@ use Rattle.tracejudge.proofs.run_block.Tie as tie
 
 abbrev Inv-loop : tie.InvT-loop
 Inv-loop line₀ bytes₀ out₀ block judge₀ held₀ at₀ line bytes out judge held at =
-    (at ≤ length block) × (length line ≡ length line₀) × (length bytes ≡ length bytes₀) × (length out ≡ length out₀) 
+    (at ≤ length block) × (length line ≡ length line₀) × (length bytes ≡ length bytes₀) × (length out ≡ length out₀)
     × (feedParts (stateOf judge₀ held₀ line₀ out₀) (partsOf block) ≡ feedParts (stateOf judge held line out) (partsOf (drop at block)))
 
 abbrev μ-loop : tie.MeasureT-loop
@@ -47,8 +47,7 @@ loop-again c =
     let block = c .before .before .before .before .before .before .before .before .before .before .before .before .before .before .before .before .before .before .before .before .args .block .now in
     let at = c .before .before .before .before .before .before .before .before .before .before .before .before .before .before .before .loop .at in
     let here = c .before .before .before .before .before .before .before .before .before .before .before .before .before .before .loop-test .taken in
-    let fed = c .before .before .before .before .before .before .before .before .before .before .feed .ensures in
-    (
+    let fed = c .before .before .before .before .before .before .before .before .before .before .feed .ensures in (
       turn-within block at here _ _ _ _ (fed .0) (fed .1 .0),
       search needs,
       search needs,
