@@ -1,10 +1,12 @@
 -- What a line comes to on a judge.
 --
 --   LineOutcome            what a line came to: what it is answered, and the judge that it leaves
+--   replyOf o              what a line that records a call came to, from what the call came to
 --   lineStep j m           what a line of the meaning m comes to on the judge j
 --   outcomeOf r            the outcome that the code's result tells
---   Scratch before after   all that holds of a buffer that is lent for the bytes of a line: its length stays. What it has in it
---                          before is of no matter, and what is left in it is free, also where the call is refused
+--   Scratch before after   all that holds of a buffer that is lent for the bytes of a line: its
+--                          length stays. What it has in it before is of no matter, and what is
+--                          left in it is free, also where the call is refused
 use mathlib.Core.Path.{_≡_}
 use mathlib.Core.List.{List}
 use Prim.Native.Nat.{ℕ}
@@ -19,7 +21,6 @@ pub record LineOutcome : Type 0 where
   pub answers : Response
   pub leaves : Judge
 
--- of a call
 abbrev pub replyOf : Outcome → LineOutcome
 replyOf o = record { answers = replied (o .says); leaves = o .leaves }
 

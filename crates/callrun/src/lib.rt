@@ -88,7 +88,8 @@ fn run_empty(judge: Judge) -> LineRun
     LineRun { answer, judge }
 }
 
-// The bytes go through the lent buffer. What is longer than the buffer is refused by its length alone, so what does not fit is not missed.
+// The bytes go through the lent buffer. What is longer than the buffer is refused by its length
+// alone, so what does not fit is not missed.
 fn run_load(judge: Judge, field: &[u8], buffer: &mut [u8]) -> LineRun
     requires { ⌜ 65537 ≤ length (now buffer) ⌝ }
     ensures { λ r. ⌜ outcomeOf r ≡ lineStep judge (loadBy (bytesIn (now (field .entry)))) ⌝ }

@@ -1,10 +1,12 @@
--- A line that is longer than any accepted call needs is told by its first bytes and by whether the rest is hex digits, even in number: its last
--- field is then too long for a number, a file and a chunk alike. Assumes nothing.
+-- A line that is longer than any accepted call needs is told by its first bytes and by whether
+-- the rest is hex digits, even in number: its last field is then too long for a number, a file
+-- and a chunk alike. Assumes nothing.
 --
 --   …-append       a text that goes on with t, where its first bytes v decide
 --   Tells a b      a line of the meaning a comes to what a line of the meaning b comes to
 --   stray-tail     the rest is not hex digits: the line is malformed
---   hex-tail       the rest is hex digits, even in number: the line comes to what its first bytes come to
+--   hex-tail       the rest is hex digits, even in number: the line comes to what its first bytes
+--                  come to
 use mathlib.Core.Path.{_≡_, refl, ap, _∙_, subst}
 use mathlib.Core.Bool.{Bool, true, false, cond, _&&_}
 use mathlib.Core.List.{List, [], _∷_, _++_}

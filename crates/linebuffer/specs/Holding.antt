@@ -1,12 +1,19 @@
--- A line of any length, of which a buffer has the beginning: what the code makes of any buffer and any value, whether they fit each other or
--- not. specs/Claims.antt says what it comes to where they keep a line.
+-- A line of any length, of which a buffer has the beginning: what the code makes of any buffer
+-- and any value, whether they fit each other or not. specs/Claims.antt says what it comes to
+-- where they keep a line.
 --
 --   lineBegin                 what is held where a line begins: nothing
 --   keptLength buffer h       how many bytes of the line the buffer has
 --   taken buffer h piece      how many bytes of the piece the buffer takes
---   heldAfter, bufferAfter    what is held after the line went on with the piece, and the whole buffer then
---   standing odd n            of n bytes, how many stand for the line: one less where the bytes left out are odd in number
---   heldMeaning buffer h      what the line that is held means: its bytes that stand for it decide, and what the others are
+--   oddWith odd more          whether a number is odd with so many more
+--   heldAfter, bufferAfter    what is held after the line went on with the piece, and the whole
+--                             buffer then
+--   standing odd n            of n bytes, how many stand for the line: one less where the bytes
+--                             left out are odd in number
+--   meaningBy buffer n hex    the meaning of the first n bytes, where all others are hex digits; else
+--                             the line is malformed
+--   heldMeaning buffer h      what the line that is held means: its bytes that stand for it
+--                             decide, and what the others are
 use mathlib.Core.Bool.{Bool, true, false, cond, not, _&&_}
 use mathlib.Core.List.{List}
 use Prim.Native.Nat.{ℕ, _+_, _-_, _%_, min}
@@ -27,7 +34,6 @@ keptLength buffer h = min (h .length) (length buffer)
 abbrev pub taken : List ℕ → Held → List ℕ → ℕ
 taken buffer h piece = min (length piece) (length buffer - keptLength buffer h)
 
--- whether a number is odd with so many more
 abbrev pub oddWith : Bool → ℕ → Bool
 oddWith odd more = cond (eqb (more % 2) 1) (not odd) odd
 
@@ -45,7 +51,6 @@ bufferAfter buffer h piece = written buffer (keptLength buffer h) (take (taken b
 abbrev pub standing : Bool → ℕ → ℕ
 standing odd n = cond odd (n - 1) n
 
--- the first n bytes are the line's, where all others are hex digits; else the line is malformed
 abbrev pub meaningBy : List ℕ → ℕ → Bool → Meaning
 meaningBy buffer n hex = cond hex (lineIn (take n buffer)) malformed
 

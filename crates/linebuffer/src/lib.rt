@@ -9,7 +9,8 @@ ghost use Rattle.linebuffer.specs.Holding.{lineBegin, oddWith, heldAfter
 use callrun::LineRun;
 use calls::Judge;
 
-// How many bytes of a line the buffer has; whether the bytes that it does not have are hex digits; whether their number is odd.
+// How many bytes of a line the buffer has; whether the bytes that it does not have are hex
+// digits; whether their number is odd.
 pub struct Held {
     pub length: usize,
     pub hex: bool,
@@ -66,7 +67,8 @@ pub fn hold(buffer: &mut [u8], held: Held, piece: &[u8]) -> Held
     Held { length, hex, odd }
 }
 
-// How much of what the buffer has stands for the line: all of it, or one byte less, so that the bytes left out are even in number.
+// How much of what the buffer has stands for the line: all of it, or one byte less, so that the
+// bytes left out are even in number.
 fn stands(length: usize, odd: bool) -> usize
     ensures { λ r. ⌜ r ≡ standing odd length ⌝ }
 {
@@ -79,8 +81,9 @@ fn stands(length: usize, odd: bool) -> usize
     length
 }
 
-// Runs the call of a line that has ended. Beginnings of 131,103 bytes tell all lines apart that differ in their answers: `deliver `, 20 digits, a
-// space and the digits of 65,537 bytes. One byte more makes an odd rest even.
+// Runs the call of a line that has ended. Beginnings of 131,103 bytes tell all lines apart that
+// differ in their answers: `deliver `, 20 digits, a space and the digits of 65,537 bytes. One
+// byte more makes an odd rest even.
 pub fn run_held(judge: Judge, buffer: &[u8], held: Held, scratch: &mut [u8]) -> LineRun
     requires { ⌜ (131104 ≤ length (now buffer)) × (65537 ≤ length (now scratch)) ⌝ }
     ensures { λ r. ⌜ outcomeOf r ≡ lineStep judge (heldMeaning (now (buffer .entry)) held) ⌝ }

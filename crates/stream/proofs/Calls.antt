@@ -5,16 +5,15 @@
 --   next-ended, next-on         where the next part begins
 --   finished-none, finished-last   the last line is empty, or not
 --   fed-room, finished-room     what is answered is within its buffer
-use mathlib.Core.Path.{_≡_, refl, sym, ap, ap₂, _∙_}
+use mathlib.Core.Path.{_≡_, sym, ap, ap₂, _∙_}
 use mathlib.Core.Bool.{Bool, true, false, cond}
-use mathlib.Core.List.{List, [], _++_}
+use mathlib.Core.List.{List}
 use Prim.Native.Nat.{ℕ, _+_, _-_, _≤_, _<_}
 use native.Mathlib.Omega.{arith}
 use borrow.Author.Tests.{eq-eqb, ne-eqb}
 use lib.Dec.{eqb}
 use lib.ListN.{length, take, drop, length-append, length-drop}
 use lib.Seq.{length-take-le}
-use Rattle.masks.proofs.Cases.{by-test}
 use Rattle.text.specs.Writing.{written, Wrote}
 use Rattle.lines.specs.Splitting.{upTo}
 use Rattle.lines.proofs.Parts.{part-from, part-to}

@@ -10,11 +10,9 @@ use Prim.Native.Nat.{ℕ, _+_, _≤_, _<_}
 use native.Mathlib.Omega.{arith}
 use lib.ListN.{length, drop, length-drop, drop-of-length-le}
 use lib.Seq.{drop-drop}
-use Rattle.calls.specs.declared.Judge.{Judge}
-use Rattle.linebuffer.specs.declared.Held.{Held}
 use Rattle.stream.specs.declared.Answered.{Answered}
 use Rattle.stream.specs.declared.Fed.{Fed}
-use Rattle.stream.specs.Feeding.{State, Step, stateOf, Part, partsOf, firstOf, partAt, partSize, feedPart, finishOf, answerCame, feedCame}
+use Rattle.stream.specs.Feeding.{State, Step, stateOf, partsOf, partAt, partSize, feedPart, finishOf, answerCame, feedCame}
 use Rattle.stream.specs.Texts.{feedParts}
 use Rattle.stream.specs.Claims.{InOut, FirstPart}
 use Rattle.stream.proofs.Parts.{first-part}

@@ -1,4 +1,5 @@
--- Lines run one after the other, in whatever blocks they came, and the right answers. Assumes nothing.
+-- Lines run one after the other, in whatever blocks they came, and the right answers. Assumes
+-- nothing.
 --
 --   step-append     lines and then others
 --   feeds           the parts of a block
@@ -10,7 +11,7 @@ use mathlib.Core.List.{List, [], _∷_, _++_, append-assoc, append-nil, flatten}
 use Prim.Native.Nat.{ℕ, _+_, _≤_}
 use native.Mathlib.Omega.{arith}
 use borrow.Author.Tests.{eq-eqb, ne-eqb}
-use lib.ListN.{length, take, drop}
+use lib.ListN.{length, drop}
 use lib.Seq.{take-at}
 use Rattle.lines.specs.Splitting.{linesFrom}
 use Rattle.calls.specs.declared.Judge.{Judge}
@@ -22,9 +23,8 @@ use Rattle.calltext.specs.Meaning.{Meaning, again, call, malformed, lineIn}
 use Rattle.calltext.specs.Answers.{Response, replied, responseText}
 use Rattle.callrun.specs.Running.{LineOutcome, lineStep}
 use Rattle.linebuffer.specs.Holding.{lineBegin, heldMeaning}
-use Rattle.linebuffer.specs.Claims.{Keeps}
 use Rattle.linebuffer.proofs.Claimed as linebuffer
-use Rattle.stream.specs.Feeding.{State, Step, Part, ends, goesOn, stateOf, bytesOf, goOn, answeredBy, answerHeld, partsOf, feedPart, finishOf}
+use Rattle.stream.specs.Feeding.{State, Step, Part, ends, goesOn, stateOf, bytesOf, goOn, answeredBy, answerHeld, partsOf, finishOf}
 use Rattle.stream.specs.Texts.{TextOutcome, after, linesStep, feedParts, partsText, partsIn, streamOf, historyAfter, rightResponse, rightText}
 use Rattle.stream.specs.Claims.{Holds, linesEnded, lineBegun, Feeds}
 use Rattle.stream.proofs.Parts.{lines-split}

@@ -1,11 +1,23 @@
--- A text of lines that comes in blocks, cut anywhere: what each call comes to, on any judge, any value and any buffers, whether they fit each
--- other or not. specs/Claims.antt says what it comes to where the line's buffer keeps a line.
+-- A text of lines that comes in blocks, cut anywhere: what each call comes to, on any judge, any
+-- value and any buffers, whether they fit each other or not. specs/Claims.antt says what it comes
+-- to where the line's buffer keeps a line.
 --
---   State             the judge, what is held of a line, and what the line's buffer and the buffer for answers have in them
---   Step              what a call came to: the state that it leaves, and how many bytes at the start of `out` it answered
+--   State             the judge, what is held of a line, and what the line's buffer and the
+--                     buffer for answers have in them
+--   stateOf ..        a state, from these four
+--   Step              what a call came to: the state that it leaves, and how many bytes at the
+--                     start of `out` it answered
 --   bytesOf t         those bytes
---   Part              a part of a block: the bytes before a line feed, or the last bytes, where none follows
+--   goOn s p          the line that is held goes on with the piece p
+--   quiet s           nothing is answered
+--   answeredBy s o    what came of the line is answered at the start of `out`, and the next line
+--                     begins
+--   answerHeld s      the line that is held is run and answered
+--   Part              a part of a block: the bytes before a line feed, or the last bytes, where
+--                     none follows
+--   before x ps       the parts with a byte before the first
 --   partsOf block     the parts of a block
+--   firstOf ps        the first of them
 --   partAt block at   the part that begins at an index
 --   partSize p        how many bytes of the block the part takes, with its line feed
 --   feedPart s p      what feeding a part comes to
@@ -42,22 +54,18 @@ abbrev pub bytesOf : Step → List ℕ
 bytesOf t = take (t .written) (t .leaves .out)
 
 -- ---- a line
--- it goes on with a piece
 abbrev pub goOn : State → List ℕ → State
 goOn s p = stateOf (s .judge) (heldAfter (s .line) (s .held) p) (bufferAfter (s .line) (s .held) p) (s .out)
 
--- nothing is answered
 abbrev pub quiet : State → Step
 quiet s = record { leaves = s; written = 0 }
 
--- what came of it is answered at the start of `out`, and the next line begins
 abbrev pub answeredBy : State → LineOutcome → Step
 answeredBy s o = record {
   leaves = stateOf (o .leaves) lineBegin (s .line) (written (s .out) 0 (responseText (o .answers)));
   written = length (responseText (o .answers));
 }
 
--- the line that is held is run and answered
 unfoldable pub answerHeld : State → Step
 answerHeld s = answeredBy s (lineStep (s .judge) (heldMeaning (s .line) (s .held)))
 
@@ -66,7 +74,6 @@ pub data Part : Type 0 where
   ends : List ℕ → Part
   goesOn : List ℕ → Part
 
--- a byte before the first part
 abbrev pub before : ℕ → List Part → List Part
 before x [] = goesOn (x ∷ []) ∷ []
 before x (ends p ∷ ps) = ends (x ∷ p) ∷ ps

@@ -13,7 +13,8 @@ pub struct Answered {
     pub written: usize,
 }
 
-// The same after a part of a block, with what is kept of a line that goes on, and where the next part begins.
+// The same after a part of a block, with what is kept of a line that goes on, and where the next
+// part begins.
 pub struct Fed {
     pub judge: Judge,
     pub held: Held,
@@ -33,7 +34,8 @@ fn answer(judge: Judge, line: &[u8], held: Held, bytes: &mut [u8], out: &mut [u8
     Answered { judge, written }
 }
 
-// A part of a block: up to the next line feed, or to the block's end. `line` keeps the line, `bytes` is for the bytes that it carries.
+// A part of a block: up to the next line feed, or to the block's end. `line` keeps the line,
+// `bytes` is for the bytes that it carries.
 pub fn feed(
     judge: Judge,
     held: Held,

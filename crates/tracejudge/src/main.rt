@@ -1,6 +1,8 @@
-// Reads a list of calls from standard input, one a line, and prints an answer a line: `load HEX`, `open N`, `deliver P HEX`, `withdraw P`,
-// `verdict`. HEX is `-` for no bytes. An empty line starts again with a fresh judge. What a line means and how it is answered is proved in the
-// crates below; this program only reads and writes. What it prints is no promise, since the C library's `write` makes none: a test holds it.
+// Reads a list of calls from standard input, one a line, and prints an answer a line: `load HEX`,
+// `open N`, `deliver P HEX`, `withdraw P`, `verdict`. HEX is `-` for no bytes. An empty line
+// starts again with a fresh judge. What a line means and how it is answered is proved in the
+// crates below; this program only reads and writes. What it prints is no promise, since the C
+// library's `write` makes none: a test holds it.
 ghost use mathlib.Core.Path.{_≡_};
 ghost use mathlib.Core.Bool.{cond};
 ghost use Prim.Native.Nat.{_-_, _≤_, _<_};
@@ -54,7 +56,8 @@ fn run_block(
     Reading { judge, held }
 }
 
-// A proved loop ends, and nothing says that the input does. So the turns are counted down, from a number that no run uses up.
+// A proved loop ends, and nothing says that the input does. So the turns are counted down, from a
+// number that no run uses up.
 fn most_turns() -> u64
     ensures { λ r. ⌜ r ≡ 18446744073709551615 ⌝ }
 {
