@@ -6,7 +6,7 @@
 use mathlib.Core.Path.{_≡_, refl, sym, ap, ap₂, _∙_, subst}
 use mathlib.Core.Bool.{Bool, true, false, _&&_}
 use mathlib.Core.List.{List}
-use Prim.Native.Nat.{ℕ, _+_, _-_, _%_, _≤_, _<_}
+use Prim.Native.Nat.{ℕ, _+_, _-_, _%_, _≤_, _<_, min}
 use native.Mathlib.Omega.{arith}
 use borrow.Author.Tests.{eqb-true, eqb-false, ltb-true, ltb-false}
 use lib.Dec.{ltb}
@@ -37,8 +37,8 @@ less-within false len = omega arith
 pub stands-within : (odd : Bool) (len n : ℕ) → n ≡ standing odd len → n ≤ len
 stands-within odd len n e = subst (λ (x : ℕ). x ≤ len) (sym e) (less-within odd len)
 
-pub stands-prefix : (buffer : List ℕ) (held : Held) (len n : ℕ) → len ≡ keptLength buffer held → n ≡ standing (held .odd) len → n ≡ length (take n buffer)
-stands-prefix buffer held len n is e = sym (length-take-le n buffer (omega (arith, stands-within (held .odd) len n e, is)))
+pub stands-prefix : (buffer : List ℕ) (odd : Bool) (len n size : ℕ) → n ≡ standing odd len → len ≡ min size (length buffer) → n ≡ length (take n buffer)
+stands-prefix buffer odd len n size e is = sym (length-take-le n buffer (omega (arith, stands-within odd len n e, is)))
 
 -- ---- what `run_held` does, with any buffer and any value
 module _ (buffer : List ℕ) (held : Held) (len n : ℕ) (len-is : len ≡ keptLength buffer held) (n-is : n ≡ standing (held .odd) len)
