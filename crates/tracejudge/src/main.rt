@@ -42,18 +42,18 @@ fn run_block(
     ensures { λ r. ⌜ stateOf (r .judge) (r .held) (now (line .exit)) (now (out .exit)) ≡ feedParts (stateOf judge held (now (line .entry)) (now (out .entry))) (partsOf (now (block .entry))) ⌝ }
     ensures scratch { λ r. ⌜ Scratch (now (bytes .entry)) (now (bytes .exit)) ⌝ }
 {
-    let mut judge = judge;
-    let mut held = held;
+    let mut reading = Reading { judge, held };
     let mut at: usize = 0;
     while at < block.len() {
-        let fed = stream::feed(judge, held, line, bytes, out, block, at);
+        let fed = stream::feed(reading.judge, reading.held, line, bytes, out, block, at);
         let written = fed.written;
         io::write_all(STDOUT_FILENO, &out[..written]);
-        judge = fed.judge;
-        held = fed.held;
+        let judge = fed.judge;
+        let held = fed.held;
+        reading = Reading { judge, held };
         at = fed.at;
     }
-    Reading { judge, held }
+    reading
 }
 
 // A proved loop ends, and nothing says that the input does. So the turns are counted down, from a

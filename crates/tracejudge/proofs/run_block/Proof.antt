@@ -12,12 +12,12 @@ use Rattle.tracejudge.proofs.run_block.Statement.{statement}
 use Rattle.tracejudge.proofs.run_block.Tie as tie
 
 abbrev Inv-loop : tie.InvT-loop
-Inv-loop line₀ bytes₀ out₀ block judge₀ held₀ at₀ line bytes out judge held at =
+Inv-loop line₀ bytes₀ out₀ block reading₀ at₀ line bytes out reading at =
     (at ≤ length block) × (length line ≡ length line₀) × (length bytes ≡ length bytes₀) × (length out ≡ length out₀)
-    × (feedParts (stateOf judge₀ held₀ line₀ out₀) (partsOf block) ≡ feedParts (stateOf judge held line out) (partsOf (drop at block)))
+    × (feedParts (stateOf (reading₀ .judge) (reading₀ .held) line₀ out₀) (partsOf block) ≡ feedParts (stateOf (reading .judge) (reading .held) line out) (partsOf (drop at block)))
 
 abbrev μ-loop : tie.MeasureT-loop
-μ-loop line₀ bytes₀ out₀ block judge₀ held₀ at₀ line bytes out judge held at = length block - at
+μ-loop line₀ bytes₀ out₀ block reading₀ at₀ line bytes out reading at = length block - at
 
 loop-holds : tie.Need-loop-holds Inv-loop μ-loop
 loop-holds c = (search needs, refl, refl, refl, refl)
