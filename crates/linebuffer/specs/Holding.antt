@@ -10,8 +10,8 @@
 --                             buffer then
 --   standing odd n            of n bytes, how many stand for the line: one less where the bytes
 --                             left out are odd in number
---   meaningBy buffer n hex    the meaning of the first n bytes, where all others are hex digits; else
---                             the line is malformed
+--   meaningBy buffer n hex    the meaning of the first n bytes, where all others are hex digits;
+--                             else the line is malformed
 --   heldMeaning buffer h      what the line that is held means: its bytes that stand for it
 --                             decide, and what the others are
 use mathlib.Core.Bool.{Bool, true, false, cond, not, _&&_}
