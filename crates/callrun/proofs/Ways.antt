@@ -9,10 +9,9 @@ use Rattle.calls.specs.declared.Judge.{Judge}
 use Rattle.calls.specs.Calls.{opens, withdraws, asks}
 use Rattle.calltext.specs.declared.Line.{Line}
 use Rattle.calltext.specs.declared.Line.the-variants.{Empty, Load, Open, Deliver, Withdraw, Verdict, Malformed}
-use Rattle.calltext.specs.Meaning.{Meaning, again, call, malformed, loadBy, deliverBy, lineIn, meant, bytesFrom, Parsed}
-use Rattle.calltext.specs.Answers.{Response}
+use Rattle.calltext.specs.Meaning.{again, call, malformed, loadBy, deliverBy, lineIn, meant, bytesFrom, Parsed}
 use Rattle.calltext.proofs.Readings.{to-the-end}
-use Rattle.callrun.specs.Running.{LineSteps}
+use Rattle.callrun.specs.Running.{LineOutcome, lineStep}
 
 module _ (w : List ℕ) (x : Line) (parsed : Parsed w x) where
   pub load-inside : x ≡ Load → 5 ≤ length w
@@ -21,28 +20,28 @@ module _ (w : List ℕ) (x : Line) (parsed : Parsed w x) where
   pub deliver-inside : (p from : ℕ) → x ≡ Deliver p from → from ≤ length w
   deliver-inside p from e = subst (λ (y : Line). bytesFrom y ≤ length w) e (parsed .inside)
 
-  module _ (j : Judge) (s : Response) (next : Judge) where
-    by : (y : Line) → x ≡ y → LineSteps j (meant w y) s next → LineSteps j (lineIn w) s next
-    by y e l = subst (λ (m : Meaning). LineSteps j m s next) (sym (parsed .means ∙ ap (meant w) e)) l
+  module _ (j : Judge) (o : LineOutcome) where
+    by : (y : Line) → x ≡ y → o ≡ lineStep j (meant w y) → o ≡ lineStep j (lineIn w)
+    by y e l = l ∙ ap (lineStep j) (sym (parsed .means ∙ ap (meant w) e))
 
-    pub line-empty : x ≡ Empty → LineSteps j again s next → LineSteps j (lineIn w) s next
+    pub line-empty : x ≡ Empty → o ≡ lineStep j again → o ≡ lineStep j (lineIn w)
     line-empty e = by Empty e
 
-    pub line-load : x ≡ Load → LineSteps j (loadBy (bytesIn (take (length w - 5) (drop 5 w)))) s next → LineSteps j (lineIn w) s next
-    line-load e l = by Load e (subst (λ (v : List ℕ). LineSteps j (loadBy (bytesIn v)) s next) (to-the-end w 5) l)
+    pub line-load : x ≡ Load → o ≡ lineStep j (loadBy (bytesIn (take (length w - 5) (drop 5 w)))) → o ≡ lineStep j (lineIn w)
+    line-load e l = by Load e (l ∙ ap (λ (v : List ℕ). lineStep j (loadBy (bytesIn v))) (to-the-end w 5))
 
-    pub line-open : (n : ℕ) → x ≡ Open n → LineSteps j (call (opens n)) s next → LineSteps j (lineIn w) s next
+    pub line-open : (n : ℕ) → x ≡ Open n → o ≡ lineStep j (call (opens n)) → o ≡ lineStep j (lineIn w)
     line-open n e = by (Open n) e
 
     pub line-deliver : (p from : ℕ) → x ≡ Deliver p from
-        → LineSteps j (deliverBy (some p) (bytesIn (take (length w - from) (drop from w)))) s next → LineSteps j (lineIn w) s next
-    line-deliver p from e l = by (Deliver p from) e (subst (λ (v : List ℕ). LineSteps j (deliverBy (some p) (bytesIn v)) s next) (to-the-end w from) l)
+        → o ≡ lineStep j (deliverBy (some p) (bytesIn (take (length w - from) (drop from w)))) → o ≡ lineStep j (lineIn w)
+    line-deliver p from e l = by (Deliver p from) e (l ∙ ap (λ (v : List ℕ). lineStep j (deliverBy (some p) (bytesIn v))) (to-the-end w from))
 
-    pub line-withdraw : (p : ℕ) → x ≡ Withdraw p → LineSteps j (call (withdraws p)) s next → LineSteps j (lineIn w) s next
+    pub line-withdraw : (p : ℕ) → x ≡ Withdraw p → o ≡ lineStep j (call (withdraws p)) → o ≡ lineStep j (lineIn w)
     line-withdraw p e = by (Withdraw p) e
 
-    pub line-verdict : x ≡ Verdict → LineSteps j (call asks) s next → LineSteps j (lineIn w) s next
+    pub line-verdict : x ≡ Verdict → o ≡ lineStep j (call asks) → o ≡ lineStep j (lineIn w)
     line-verdict e = by Verdict e
 
-    pub line-malformed : x ≡ Malformed → LineSteps j malformed s next → LineSteps j (lineIn w) s next
+    pub line-malformed : x ≡ Malformed → o ≡ lineStep j malformed → o ≡ lineStep j (lineIn w)
     line-malformed e = by Malformed e

@@ -8,7 +8,7 @@ ghost use Rattle.calls.specs.Replies.{loadSays, openSays, deliverSays, withdraw
 ghost use Rattle.calls.specs.Calls.{opens, withdraws, asks};
 ghost use Rattle.calltext.specs.Meaning.{again, call, malformed, loadBy, deliverBy, lineIn};
 ghost use Rattle.calltext.specs.Answers.{replied, responseOf};
-ghost use Rattle.callrun.specs.Running.{LineSteps};
+ghost use Rattle.callrun.specs.Running.{lineStep, outcomeOf, Scratch};
 use calls::DeliverAnswer;
 use calls::Judge;
 use calls::LoadAnswer;
@@ -74,24 +74,26 @@ fn verdict_answer(verdict: Verdict) -> LineAnswer
 
 // A malformed line changes nothing.
 pub fn run_malformed(judge: Judge) -> LineRun
-    ensures { λ r. ⌜ LineSteps judge malformed (responseOf (r .answer)) (r .judge) ⌝ }
+    ensures { λ r. ⌜ outcomeOf r ≡ lineStep judge malformed ⌝ }
 {
     let answer = LineAnswer::Malformed;
     LineRun { answer, judge }
 }
 
 fn run_empty(judge: Judge) -> LineRun
-    ensures { λ r. ⌜ LineSteps judge again (responseOf (r .answer)) (r .judge) ⌝ }
+    ensures { λ r. ⌜ outcomeOf r ≡ lineStep judge again ⌝ }
 {
     let answer = LineAnswer::Began;
     let judge = judge::new_judge();
     LineRun { answer, judge }
 }
 
-// The bytes go through the lent buffer. What is longer than the buffer is refused by its length alone, so what does not fit is not missed.
+// The bytes go through the lent buffer. What is longer than the buffer is refused by its length
+// alone, so what does not fit is not missed.
 fn run_load(judge: Judge, field: &[u8], buffer: &mut [u8]) -> LineRun
     requires { ⌜ 65537 ≤ length (now buffer) ⌝ }
-    ensures { λ r. ⌜ LineSteps judge (loadBy (bytesIn (now (field .entry)))) (responseOf (r .answer)) (r .judge) ⌝ }
+    ensures { λ r. ⌜ outcomeOf r ≡ lineStep judge (loadBy (bytesIn (now (field .entry)))) ⌝ }
+    ensures scratch { λ r. ⌜ Scratch (now (buffer .entry)) (now (buffer .exit)) ⌝ }
 {
     let bytes = fields::read_bytes(field, buffer);
     match bytes {
@@ -107,7 +109,7 @@ fn run_load(judge: Judge, field: &[u8], buffer: &mut [u8]) -> LineRun
 }
 
 fn run_open(judge: Judge, places: u64) -> LineRun
-    ensures { λ r. ⌜ LineSteps judge (call (opens places)) (responseOf (r .answer)) (r .judge) ⌝ }
+    ensures { λ r. ⌜ outcomeOf r ≡ lineStep judge (call (opens places)) ⌝ }
 {
     let opening = judge::open(judge, places as usize);
     let said = opening.answer;
@@ -118,7 +120,8 @@ fn run_open(judge: Judge, places: u64) -> LineRun
 
 fn run_deliver(judge: Judge, place: u64, field: &[u8], buffer: &mut [u8]) -> LineRun
     requires { ⌜ 65537 ≤ length (now buffer) ⌝ }
-    ensures { λ r. ⌜ LineSteps judge (deliverBy (some place) (bytesIn (now (field .entry)))) (responseOf (r .answer)) (r .judge) ⌝ }
+    ensures { λ r. ⌜ outcomeOf r ≡ lineStep judge (deliverBy (some place) (bytesIn (now (field .entry)))) ⌝ }
+    ensures scratch { λ r. ⌜ Scratch (now (buffer .entry)) (now (buffer .exit)) ⌝ }
 {
     let bytes = fields::read_bytes(field, buffer);
     match bytes {
@@ -134,7 +137,7 @@ fn run_deliver(judge: Judge, place: u64, field: &[u8], buffer: &mut [u8]) -> Lin
 }
 
 fn run_withdraw(judge: Judge, place: u64) -> LineRun
-    ensures { λ r. ⌜ LineSteps judge (call (withdraws place)) (responseOf (r .answer)) (r .judge) ⌝ }
+    ensures { λ r. ⌜ outcomeOf r ≡ lineStep judge (call (withdraws place)) ⌝ }
 {
     let withdrawal = judge::withdraw(judge, place as usize);
     let said = withdrawal.answer;
@@ -144,16 +147,17 @@ fn run_withdraw(judge: Judge, place: u64) -> LineRun
 }
 
 fn run_verdict(judge: Judge) -> LineRun
-    ensures { λ r. ⌜ LineSteps judge (call asks) (responseOf (r .answer)) (r .judge) ⌝ }
+    ensures { λ r. ⌜ outcomeOf r ≡ lineStep judge (call asks) ⌝ }
 {
     let answer = verdict_answer(judge::judged(judge));
     LineRun { answer, judge }
 }
 
-// One line. The buffer is for the bytes that the line carries; what it holds before and after is of no matter.
+// One line. The buffer is for the bytes that the line carries.
 pub fn run_line(judge: Judge, line: &[u8], buffer: &mut [u8]) -> LineRun
     requires { ⌜ 65537 ≤ length (now buffer) ⌝ }
-    ensures { λ r. ⌜ LineSteps judge (lineIn (now (line .entry))) (responseOf (r .answer)) (r .judge) ⌝ }
+    ensures { λ r. ⌜ outcomeOf r ≡ lineStep judge (lineIn (now (line .entry))) ⌝ }
+    ensures scratch { λ r. ⌜ Scratch (now (buffer .entry)) (now (buffer .exit)) ⌝ }
 {
     let parsed = calltext::parse(line);
     match parsed {

@@ -2,3 +2,4 @@
 pub mod Kept
 pub mod Long
 pub mod Standing
+pub mod Claimed

@@ -1,10 +1,12 @@
--- A line that is longer than any accepted call needs is told by its first bytes and by whether the rest is hex digits, even in number: its last
--- field is then too long for a number, a file and a chunk alike. Assumes nothing.
+-- A line that is longer than any accepted call needs is told by its first bytes and by whether
+-- the rest is hex digits, even in number: its last field is then too long for a number, a file
+-- and a chunk alike. Assumes nothing.
 --
 --   …-append       a text that goes on with t, where its first bytes v decide
---   Tells a b      what a line of the meaning a does to a judge, a line of the meaning b does too
+--   Tells a b      a line of the meaning a comes to what a line of the meaning b comes to
 --   stray-tail     the rest is not hex digits: the line is malformed
---   hex-tail       the rest is hex digits, even in number: the line does what its first bytes do
+--   hex-tail       the rest is hex digits, even in number: the line comes to what its first bytes
+--                  come to
 use mathlib.Core.Path.{_≡_, refl, ap, _∙_, subst}
 use mathlib.Core.Bool.{Bool, true, false, cond, _&&_}
 use mathlib.Core.List.{List, [], _∷_, _++_}
@@ -25,8 +27,7 @@ use Rattle.fields.proofs.Pairs.{hex-append, pairs-length}
 use Rattle.calls.specs.declared.Judge.{Judge}
 use Rattle.calls.specs.Calls.{loads, delivers, asks}
 use Rattle.calltext.specs.Meaning.{Meaning, call, malformed, load-word, open-word, deliver-word, withdraw-word, verdict-word, loadBy, openBy, withdrawBy, deliverBy, deliverFields, callIn, lineIn}
-use Rattle.calltext.specs.Answers.{Response}
-use Rattle.callrun.specs.Running.{LineSteps}
+use Rattle.callrun.specs.Running.{replyOf, lineStep}
 use Rattle.callrun.proofs.Clipped.{loads-long, delivers-long}
 
 and-true : (b : Bool) → (b && true) ≡ b
@@ -116,12 +117,12 @@ open-long u h = ap openBy (said-long u h)
 withdraw-long : (u : List ℕ) → 20 < length u → withdrawBy (numberIn u) ≡ malformed
 withdraw-long u h = ap withdrawBy (said-long u h)
 
--- ---- what a line does
+-- ---- what a line comes to
 record Tells (a b : Meaning) : Type 0 where
-  steps : (j to : Judge) (s : Response) → LineSteps j a s to → LineSteps j b s to
+  steps : (j : Judge) → lineStep j a ≡ lineStep j b
 
 tells-malformed : {a b : Meaning} → a ≡ malformed → b ≡ malformed → Tells a b
-tells-malformed e f = rw (e, f) (record { steps = λ j to s l. l })
+tells-malformed e f = rw (e, f) (record { steps = λ j. refl })
 
 tells-cond : (b : Bool) (x x′ y y′ : Meaning) → Tells x x′ → Tells y y′ → Tells (cond b x y) (cond b x′ y′)
 tells-cond true x x′ y y′ t e = t
@@ -132,10 +133,10 @@ cond-malformed true x y t e = t
 cond-malformed false x y t e = e
 
 tells-loads : (f g : List ℕ) → 65537 ≤ length f → 65537 ≤ length g → Tells (call (loads f)) (call (loads g))
-tells-loads f g hf hg = record { steps = λ j to s l. (l .0, l .1, l .2 ∙ loads-long j f g (omega arith) (omega arith)) }
+tells-loads f g hf hg = record { steps = λ j. ap replyOf (loads-long j f g (omega arith) (omega arith)) }
 
 tells-delivers : (p : ℕ) (f g : List ℕ) → 65537 ≤ length f → 65537 ≤ length g → Tells (call (delivers p f)) (call (delivers p g))
-tells-delivers p f g hf hg = record { steps = λ j to s l. (l .0, l .1, l .2 ∙ delivers-long j p f g (omega arith) (omega arith)) }
+tells-delivers p f g hf hg = record { steps = λ j. ap replyOf (delivers-long j p f g (omega arith) (omega arith)) }
 
 -- ---- the fields of a delivery
 abbrev place : List ℕ → List ℕ
@@ -272,8 +273,7 @@ module _ (w : List ℕ) (n : ℕ) (long : 131103 ≤ n) (within : n ≤ length w
       subst (λ (u : List ℕ). lineIn u ≡ malformed) (take-append-drop n w)
       (more-bytes (take n w) (drop n w) first-long ∙ stray-call (take n w) (drop n w) first-long stray)
 
-  pub hex-tail : allHex (drop n w) ≡ true → (length w - n) % 2 ≡ 0 → (j to : Judge) (s : Response)
-      → LineSteps j (lineIn (take n w)) s to → LineSteps j (lineIn w) s to
-  hex-tail hex even j to s l =
-      subst (λ (u : List ℕ). LineSteps j (lineIn u) s to) (take-append-drop n w)
-      (hex-line (take n w) (drop n w) first-long hex (rw (length-drop n w) even) .steps j to s l)
+  pub hex-tail : allHex (drop n w) ≡ true → (length w - n) % 2 ≡ 0 → (j : Judge) → lineStep j (lineIn (take n w)) ≡ lineStep j (lineIn w)
+  hex-tail hex even j =
+      subst (λ (u : List ℕ). lineStep j (lineIn (take n w)) ≡ lineStep j (lineIn u)) (take-append-drop n w)
+      (hex-line (take n w) (drop n w) first-long hex (rw (length-drop n w) even) .steps j)

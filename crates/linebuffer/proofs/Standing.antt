@@ -1,10 +1,10 @@
 -- What a buffer keeps of a line stands for the line. Assumes nothing.
 --
---   stands-within        as much of the buffer as stands for the line is within it
---   held-runs            where the rest is hex digits, the call of what stands is the line's
---   held-malformed       where it is not, the line is malformed
+--   stands-within            as much of the buffer as stands for the line is within it
+--   held-call, held-stray    what `run_held` does is what the definition says
+--   held-step                what is kept comes to what the line comes to
 use mathlib.Core.Path.{_≡_, refl, sym, ap, ap₂, _∙_, subst}
-use mathlib.Core.Bool.{Bool, true, false, cond, _&&_, true≢false}
+use mathlib.Core.Bool.{Bool, true, false, _&&_}
 use mathlib.Core.List.{List}
 use Prim.Native.Nat.{ℕ, _+_, _-_, _%_, _≤_, _<_, min}
 use native.Mathlib.Omega.{arith}
@@ -15,11 +15,11 @@ use lib.Seq.{take-all, take-length, take-take, take-add, drop-at, drop-drop, len
 use Rattle.masks.proofs.Cases.{by-test}
 use Rattle.fields.specs.Bytes.{allHex}
 use Rattle.calls.specs.declared.Judge.{Judge}
-use Rattle.calltext.specs.Meaning.{Meaning, malformed, lineIn}
-use Rattle.calltext.specs.Answers.{Response}
-use Rattle.callrun.specs.Running.{LineSteps}
+use Rattle.calltext.specs.Meaning.{malformed, lineIn}
+use Rattle.callrun.specs.Running.{LineOutcome, lineStep}
 use Rattle.linebuffer.specs.declared.Held.{Held}
-use Rattle.linebuffer.specs.Holding.{Keeps}
+use Rattle.linebuffer.specs.Holding.{keptLength, standing, meaningBy, heldMeaning}
+use Rattle.linebuffer.specs.Claims.{Keeps}
 use Rattle.fields.proofs.Pairs.{hex-append}
 use Rattle.linebuffer.proofs.Kept.{nothing-left}
 use Rattle.linebuffer.proofs.Long.{stray-tail, hex-tail}
@@ -30,15 +30,29 @@ and-swap true false = refl
 and-swap false true = refl
 and-swap false false = refl
 
-less-within : (odd : Bool) (len : ℕ) → cond odd (len - 1) len ≤ len
+less-within : (odd : Bool) (len : ℕ) → standing odd len ≤ len
 less-within true len = omega arith
 less-within false len = omega arith
 
-pub stands-within : (odd : Bool) (len n : ℕ) → n ≡ cond odd (len - 1) len → n ≤ len
+pub stands-within : (odd : Bool) (len n : ℕ) → n ≡ standing odd len → n ≤ len
 stands-within odd len n e = subst (λ (x : ℕ). x ≤ len) (sym e) (less-within odd len)
 
-pub stands-prefix : (buffer : List ℕ) (odd : Bool) (len n size : ℕ) → n ≡ cond odd (len - 1) len → len ≡ min size (length buffer) → n ≡ length (take n buffer)
+pub stands-prefix : (buffer : List ℕ) (odd : Bool) (len n size : ℕ) → n ≡ standing odd len → len ≡ min size (length buffer) → n ≡ length (take n buffer)
 stands-prefix buffer odd len n size e is = sym (length-take-le n buffer (omega (arith, stands-within odd len n e, is)))
+
+-- ---- what `run_held` does, with any buffer and any value
+module _ (buffer : List ℕ) (held : Held) (len n : ℕ) (len-is : len ≡ keptLength buffer held) (n-is : n ≡ standing (held .odd) len)
+    (hex : Bool) (hex-is : hex ≡ held .hex && allHex (take (len - n) (drop n buffer))) where
+  meaning-is : heldMeaning buffer held ≡ meaningBy buffer n hex
+  unfolding heldMeaning
+  meaning-is = rw (hex-is, n-is, len-is)
+
+  module _ (j : Judge) (o : LineOutcome) where
+    pub held-call : hex ≡ true → o ≡ lineStep j (lineIn (take n buffer)) → o ≡ lineStep j (heldMeaning buffer held)
+    held-call e l = l ∙ ap (lineStep j) (sym (meaning-is ∙ ap (meaningBy buffer n) e))
+
+    pub held-stray : hex ≡ false → o ≡ lineStep j malformed → o ≡ lineStep j (heldMeaning buffer held)
+    held-stray e l = l ∙ ap (lineStep j) (sym (meaning-is ∙ ap (meaningBy buffer n) e))
 
 -- from n up to n + k, within the first n + k
 part : (w : List ℕ) (n k : ℕ) → n ≤ length w → take k (drop n (take (n + k) w)) ≡ take k (drop n w)
@@ -47,8 +61,9 @@ part w n k h =
     ∙ ap (take k) (drop-at (take n w) (take k (drop n w)) n (length-take-le n w h))
     ∙ take-take k k (drop n w) (omega arith)
 
+-- the line w is kept, and n of the bytes that are kept stand for it
 module _ (buffer : List ℕ) (held : Held) (w : List ℕ) (kept : Keeps buffer held w) (big : 131104 ≤ length buffer) (len n : ℕ)
-    (len-is : len ≡ min (held .length) (length buffer)) (n-is : n ≡ cond (held .odd) (len - 1) len)
+    (len-is : len ≡ keptLength buffer held) (n-is : n ≡ standing (held .odd) len)
     (hex : Bool) (hex-is : hex ≡ held .hex && allHex (take (len - n) (drop n buffer))) where
   -- the buffer has all of the line
   module _ (whole : length w ≤ length buffer) where
@@ -56,7 +71,7 @@ module _ (buffer : List ℕ) (held : Held) (w : List ℕ) (kept : Keeps buffer h
     not-odd = kept .odd ∙ sym (nothing-left w (length buffer) whole .1)
 
     n-whole : n ≡ held .length
-    n-whole = n-is ∙ ap (λ (b : Bool). cond b (len - 1) len) not-odd ∙ omega (arith, len-is, kept .size)
+    n-whole = n-is ∙ ap (λ (b : Bool). standing b len) not-odd ∙ omega (arith, len-is, kept .size)
 
     whole-is : take n buffer ≡ w
     whole-is = ap (λ (k : ℕ). take k buffer) n-whole ∙ kept .head ∙ take-all (length buffer) w whole
@@ -81,19 +96,19 @@ module _ (buffer : List ℕ) (held : Held) (w : List ℕ) (kept : Keeps buffer h
     n-long : 131103 ≤ n
     n-long =
         by-test (held .odd)
-        (λ o. let e : n ≡ len - 1 = n-is ∙ ap (λ (b : Bool). cond b (len - 1) len) o in omega (arith, e, len-is, full, big))
-        (λ o. let e : n ≡ len = n-is ∙ ap (λ (b : Bool). cond b (len - 1) len) o in omega (arith, e, len-is, full, big))
+        (λ o. let e : n ≡ len - 1 = n-is ∙ ap (λ (b : Bool). standing b len) o in omega (arith, e, len-is, full, big))
+        (λ o. let e : n ≡ len = n-is ∙ ap (λ (b : Bool). standing b len) o in omega (arith, e, len-is, full, big))
 
     even : (length w - n) % 2 ≡ 0
     even =
         let rest = length-drop (length buffer) w in
         by-test (held .odd)
         (λ o.
-        let e : n ≡ len - 1 = n-is ∙ ap (λ (b : Bool). cond b (len - 1) len) o in
+        let e : n ≡ len - 1 = n-is ∙ ap (λ (b : Bool). standing b len) o in
         let z = eqb-true (length (drop (length buffer) w) % 2) 1 (sym (kept .odd) ∙ o) in
         omega (arith, e, len-is, full, big, more, rest, z))
         (λ o.
-        let e : n ≡ len = n-is ∙ ap (λ (b : Bool). cond b (len - 1) len) o in
+        let e : n ≡ len = n-is ∙ ap (λ (b : Bool). standing b len) o in
         let z = eqb-false (length (drop (length buffer) w) % 2) 1 (sym (kept .odd) ∙ o) in
         omega (arith, e, len-is, full, more, rest, z))
 
@@ -113,19 +128,20 @@ module _ (buffer : List ℕ) (held : Held) (w : List ℕ) (kept : Keeps buffer h
         ∙ ap₂ (λ (a b : Bool). a && b) (ap allHex back ∙ sym (kept .hex)) (ap allHex (sym mid))
         ∙ sym hex-is
 
-  module _ (j to : Judge) (s : Response) where
-    pub held-runs : hex ≡ true → LineSteps j (lineIn (take n buffer)) s to → LineSteps j (lineIn w) s to
-    held-runs e l =
-        by-test (ltb (length buffer) (length w))
-        (λ t.
-        let more = ltb-true (length buffer) (length w) t in
-        hex-tail w n (n-long more) (omega (arith, least more, more)) (tail-hex more ∙ e) (even more) j to s (subst (λ (v : List ℕ). LineSteps j (lineIn v) s to) (head-is more) l))
-        (λ t. subst (λ (v : List ℕ). LineSteps j (lineIn v) s to) (whole-is (ltb-false (length buffer) (length w) t)) l)
+  step-is : (j : Judge) → lineStep j (meaningBy buffer n hex) ≡ lineStep j (lineIn w)
+  step-is j =
+      by-test (ltb (length buffer) (length w))
+      (λ t.
+      let more = ltb-true (length buffer) (length w) t in
+      let within : n ≤ length w = omega (arith, least more, more) in
+      by-test hex
+      (λ e. rw (e, head-is more) (hex-tail w n (n-long more) within (tail-hex more ∙ e) (even more) j))
+      (λ e. rw (e, stray-tail w n (n-long more) within (tail-hex more ∙ e))))
+      (λ t.
+      let whole = ltb-false (length buffer) (length w) t in
+      rw (whole-hex whole, whole-is whole))
 
-    pub held-malformed : hex ≡ false → LineSteps j malformed s to → LineSteps j (lineIn w) s to
-    held-malformed e l =
-        by-test (ltb (length buffer) (length w))
-        (λ t.
-        let more = ltb-true (length buffer) (length w) t in
-        subst (λ (m : Meaning). LineSteps j m s to) (sym (stray-tail w n (n-long more) (omega (arith, least more, more)) (tail-hex more ∙ e))) l)
-        (λ t. absurd (true≢false (sym (whole-hex (ltb-false (length buffer) (length w) t)) ∙ e)))
+pub held-step : (buffer : List ℕ) (held : Held) (w : List ℕ) → 131104 ≤ length buffer → Keeps buffer held w
+    → (j : Judge) → lineStep j (heldMeaning buffer held) ≡ lineStep j (lineIn w)
+unfolding heldMeaning
+held-step buffer held w big kept j = step-is buffer held w kept big (keptLength buffer held) _ refl refl _ refl j

@@ -1,36 +1,61 @@
--- A line of any length, of which a buffer keeps the beginning. A call whose line is longer than the buffer is told by its beginning, and by
--- whether the rest is hex digits and how many: such a file or chunk is refused by its length alone.
+-- A line of any length, of which a buffer has the beginning: what the code makes of any buffer
+-- and any value, whether they fit each other or not. specs/Claims.antt says what it comes to
+-- where they keep a line.
 --
---   Keeps buffer h w    the buffer and h keep the line w: as much of it as the buffer takes, and of the rest whether each byte is a hex digit and
---                       whether there is an odd number of them
---   KeepsNothing h      h keeps the empty line, whatever a buffer holds
---   KeepsMore ..        whatever line was kept before, that line and the piece behind it is kept after
---   RunsHeld ..         whatever line is kept, it was run on the judge
--- Where a buffer and a value keep no line, what the functions answer is free; they end and stay within their bounds all the same.
-use mathlib.Core.Path.{_≡_}
-use mathlib.Core.List.{List, [], _++_}
-use Prim.Native.Nat.{ℕ, _%_, min}
+--   lineBegin                 what is held where a line begins: nothing
+--   keptLength buffer h       how many bytes of the line the buffer has
+--   taken buffer h piece      how many bytes of the piece the buffer takes
+--   oddWith odd more          whether a number is odd with so many more
+--   heldAfter, bufferAfter    what is held after the line went on with the piece, and the whole
+--                             buffer then
+--   standing odd n            of n bytes, how many stand for the line: one less where the bytes
+--                             left out are odd in number
+--   meaningBy buffer n hex    the meaning of the first n bytes, where all others are hex digits;
+--                             else the line is malformed
+--   heldMeaning buffer h      what the line that is held means: its bytes that stand for it
+--                             decide, and what the others are
+use mathlib.Core.Bool.{Bool, true, false, cond, not, _&&_}
+use mathlib.Core.List.{List}
+use Prim.Native.Nat.{ℕ, _+_, _-_, _%_, min}
 use lib.Dec.{eqb}
 use lib.ListN.{length, take, drop}
+use Rattle.text.specs.Writing.{written}
 use Rattle.fields.specs.Bytes.{allHex}
-use Rattle.calls.specs.declared.Judge.{Judge}
-use Rattle.calltext.specs.Meaning.{lineIn}
-use Rattle.calltext.specs.Answers.{responseOf}
-use Rattle.callrun.specs.declared.LineRun.{LineRun}
-use Rattle.callrun.specs.Running.{LineSteps}
+use Rattle.calltext.specs.Meaning.{Meaning, malformed, lineIn}
 use Rattle.linebuffer.specs.declared.Held.{Held}
 
-pub record Keeps (buffer : List ℕ) (h : Held) (w : List ℕ) : Type 0 where
-  pub size : h .length ≡ min (length w) (length buffer)
-  pub head : take (h .length) buffer ≡ take (length buffer) w
-  pub hex : h .hex ≡ allHex (drop (length buffer) w)
-  pub odd : h .odd ≡ eqb (length (drop (length buffer) w) % 2) 1
+abbrev pub lineBegin : Held
+lineBegin = record { length = 0; hex = true; odd = false }
 
-abbrev pub KeepsNothing : Held → Type 0
-KeepsNothing h = (buffer : List ℕ) → Keeps buffer h []
+abbrev pub keptLength : List ℕ → Held → ℕ
+keptLength buffer h = min (h .length) (length buffer)
 
-abbrev pub KeepsMore : List ℕ → Held → List ℕ → List ℕ → Held → Type 0
-KeepsMore before held piece after r = (w : List ℕ) → Keeps before held w → Keeps after r (w ++ piece)
+-- ---- a piece more
+abbrev pub taken : List ℕ → Held → List ℕ → ℕ
+taken buffer h piece = min (length piece) (length buffer - keptLength buffer h)
 
-abbrev pub RunsHeld : Judge → List ℕ → Held → LineRun → Type 0
-RunsHeld j buffer held r = (w : List ℕ) → Keeps buffer held w → LineSteps j (lineIn w) (responseOf (r .answer)) (r .judge)
+abbrev pub oddWith : Bool → ℕ → Bool
+oddWith odd more = cond (eqb (more % 2) 1) (not odd) odd
+
+unfoldable pub heldAfter : List ℕ → Held → List ℕ → Held
+heldAfter buffer h piece = record {
+  length = keptLength buffer h + taken buffer h piece;
+  hex = h .hex && allHex (drop (taken buffer h piece) piece);
+  odd = oddWith (h .odd) (length piece - taken buffer h piece);
+}
+
+unfoldable pub bufferAfter : List ℕ → Held → List ℕ → List ℕ
+bufferAfter buffer h piece = written buffer (keptLength buffer h) (take (taken buffer h piece) piece)
+
+-- ---- the line has ended
+abbrev pub standing : Bool → ℕ → ℕ
+standing odd n = cond odd (n - 1) n
+
+abbrev pub meaningBy : List ℕ → ℕ → Bool → Meaning
+meaningBy buffer n hex = cond hex (lineIn (take n buffer)) malformed
+
+unfoldable pub heldMeaning : List ℕ → Held → Meaning
+heldMeaning buffer h =
+    let len = keptLength buffer h in
+    let n = standing (h .odd) len in
+    meaningBy buffer n (h .hex && allHex (take (len - n) (drop n buffer)))

@@ -1,15 +1,16 @@
 // Gathers a line that comes in pieces, of any length in all, and runs its call on a judge.
 ghost use mathlib.Core.Path.{_≡_};
-ghost use mathlib.Core.Bool.{cond, not, _&&_};
-ghost use Prim.Native.Nat.{_-_, _≤_, _%_, min};
-ghost use lib.Dec.{eqb};
+ghost use mathlib.Core.Bool.{_&&_};
+ghost use Prim.Native.Nat.{_≤_, min};
 ghost use lib.ListN.{length};
 ghost use Rattle.fields.specs.Bytes.{allHex};
-ghost use Rattle.linebuffer.specs.Holding.{KeepsNothing, KeepsMore, RunsHeld};
+ghost use Rattle.callrun.specs.Running.{lineStep, outcomeOf, Scratch};
+ghost use Rattle.linebuffer.specs.Holding.{lineBegin, oddWith, heldAfter, bufferAfter, standing, heldMeaning};
 use callrun::LineRun;
 use calls::Judge;
 
-// How many bytes of a line the buffer has; whether the bytes that it does not have are hex digits; whether their number is odd.
+// How many bytes of a line the buffer has; whether the bytes that it does not have are hex
+// digits; whether their number is odd.
 pub struct Held {
     pub length: usize,
     pub hex: bool,
@@ -18,7 +19,7 @@ pub struct Held {
 
 // The beginning of a line.
 pub fn nothing() -> Held
-    ensures { λ r. ⌜ KeepsNothing r ⌝ }
+    ensures { λ r. ⌜ r ≡ lineBegin ⌝ }
 {
     Held {
         length: 0,
@@ -35,7 +36,7 @@ fn least(a: usize, b: usize) -> usize
 
 // Whether the number of bytes is odd with so many more.
 fn odd_with(odd: bool, more: usize) -> bool
-    ensures { λ r. ⌜ r ≡ cond (eqb (more % 2) 1) (not odd) odd ⌝ }
+    ensures { λ r. ⌜ r ≡ oddWith odd more ⌝ }
 {
     if more % 2 == 1 {
         return !odd;
@@ -55,7 +56,8 @@ fn hex_with(hex: bool, more: &[u8]) -> bool
 
 // The line goes on with the piece.
 pub fn hold(buffer: &mut [u8], held: Held, piece: &[u8]) -> Held
-    ensures { λ r. ⌜ KeepsMore (now (buffer .entry)) held (now (piece .entry)) (now (buffer .exit)) r ⌝ }
+    ensures { λ r. ⌜ r ≡ heldAfter (now (buffer .entry)) held (now (piece .entry)) ⌝ }
+    ensures buffer { λ r. ⌜ now (buffer .exit) ≡ bufferAfter (now (buffer .entry)) held (now (piece .entry)) ⌝ }
 {
     let at = least(held.length, buffer.len());
     let fits = least(piece.len(), buffer.len() - at);
@@ -65,9 +67,10 @@ pub fn hold(buffer: &mut [u8], held: Held, piece: &[u8]) -> Held
     Held { length, hex, odd }
 }
 
-// How much of what the buffer has stands for the line: all of it, or one byte less, so that the bytes left out are even in number.
+// How much of what the buffer has stands for the line: all of it, or one byte less, so that the
+// bytes left out are even in number.
 fn stands(length: usize, odd: bool) -> usize
-    ensures { λ r. ⌜ r ≡ cond odd (length - 1) length ⌝ }
+    ensures { λ r. ⌜ r ≡ standing odd length ⌝ }
 {
     if odd {
         if 0 < length {
@@ -78,11 +81,13 @@ fn stands(length: usize, odd: bool) -> usize
     length
 }
 
-// Runs the call of a line that has ended. Beginnings of 131,103 bytes tell all lines apart that differ in their answers: `deliver `, 20 digits, a
-// space and the digits of 65,537 bytes. One byte more makes an odd rest even.
+// Runs the call of a line that has ended. Beginnings of 131,103 bytes tell all lines apart that
+// differ in their answers: `deliver `, 20 digits, a space and the digits of 65,537 bytes. One
+// byte more makes an odd rest even.
 pub fn run_held(judge: Judge, buffer: &[u8], held: Held, scratch: &mut [u8]) -> LineRun
     requires { ⌜ (131104 ≤ length (now buffer)) × (65537 ≤ length (now scratch)) ⌝ }
-    ensures { λ r. ⌜ RunsHeld judge (now (buffer .entry)) held r ⌝ }
+    ensures { λ r. ⌜ outcomeOf r ≡ lineStep judge (heldMeaning (now (buffer .entry)) held) ⌝ }
+    ensures scratch { λ r. ⌜ Scratch (now (scratch .entry)) (now (scratch .exit)) ⌝ }
 {
     let length = least(held.length, buffer.len());
     let n = stands(length, held.odd);

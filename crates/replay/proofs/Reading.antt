@@ -21,12 +21,13 @@ use Rattle.lines.proofs.Parts.{part-rest, part-is}
 use Rattle.executions.specs.Executions.{stateAfter}
 use Rattle.calls.specs.declared.Judge.{Judge}
 use Rattle.calls.specs.Calls.{Call}
-use Rattle.calls.specs.Steps.{fresh, Outcome, verdictOf, stepOf}
+use Rattle.calls.specs.Steps.{fresh, verdictOf, stepOf}
 use Rattle.histories.specs.Claims.{judgeAfter}
 use Rattle.histories.proofs.Every.{verdict-after}
 use Rattle.calltext.specs.Meaning.{Meaning, again, call, malformed, lineIn}
-use Rattle.calltext.specs.Answers.{Response, isUnread}
-use Rattle.callrun.specs.Running.{LineSteps}
+use Rattle.calltext.specs.Answers.{isUnread, responseOf}
+use Rattle.callrun.specs.declared.LineRun.{LineRun}
+use Rattle.callrun.specs.Running.{LineOutcome, lineStep, outcomeOf}
 use Rattle.replay.specs.Records.{Recorded, calls, malformedAt, readOn, readLines, recordIn, Told, verdict, malformedLine, replayOf}
 
 pub stays-malformed : (k i : ℕ) (lines : List (List ℕ)) → readLines (malformedAt k) i lines ≡ malformedAt k
@@ -34,11 +35,11 @@ unfolding readLines
 stays-malformed k i [] = refl
 stays-malformed k i (line ∷ lines) = stays-malformed k (suc i) lines
 
--- ---- what a line did
-pub malformed-line : (j to : Judge) (m : Meaning) (s : Response) → LineSteps j m s to → isUnread s ≡ true → m ≡ malformed
-malformed-line j to again s l e = absurd (true≢false (sym e ∙ ap isUnread (l .0)))
-malformed-line j to (call c) s l e = absurd (true≢false (sym e ∙ ap isUnread (l .1)))
-malformed-line j to malformed s l e = refl
+-- ---- what a line came to
+pub malformed-line : (j : Judge) (m : Meaning) → isUnread (lineStep j m .answers) ≡ true → m ≡ malformed
+malformed-line j again e = absurd (true≢false (sym e))
+malformed-line j (call c) e = absurd (true≢false (sym e))
+malformed-line j malformed e = refl
 
 -- the calls of the record so far, and a judge that they leave
 pub record Read (so : Recorded) (j : Judge) : Type 0 where
@@ -46,16 +47,12 @@ pub record Read (so : Recorded) (j : Judge) : Type 0 where
   pub ran : j ≡ judgeAfter history
   pub is : so ≡ calls history
 
-pub read-on : (i : ℕ) (h : List Call) (j to : Judge) (m : Meaning) (s : Response) → j ≡ judgeAfter h → LineSteps j m s to
-    → isUnread s ≡ false → Read (readOn i h m) to
+pub read-on : (i : ℕ) (h : List Call) (j : Judge) (m : Meaning) → j ≡ judgeAfter h → isUnread (lineStep j m .answers) ≡ false
+    → Read (readOn i h m) (lineStep j m .leaves)
 unfolding stateAfter
-read-on i h j to again s ran l e = record { history = []; ran = l .1; is = refl }
-read-on i h j to (call c) s ran l e = record {
-  history = c ∷ h;
-  ran = ap (λ (o : Outcome). o .leaves) (l .2) ∙ ap (λ (x : Judge). stepOf x c .leaves) ran;
-  is = refl;
-}
-read-on i h j to malformed s ran l e = absurd (true≢false (sym (ap isUnread (l .0)) ∙ e))
+read-on i h j again ran e = record { history = []; ran = refl; is = refl }
+read-on i h j (call c) ran e = record { history = c ∷ h; ran = ap (λ (x : Judge). stepOf x c .leaves) ran; is = refl }
+read-on i h j malformed ran e = absurd (true≢false e)
 
 -- ---- the lines of a text from an index on
 last-is : (v : List ℕ) → 0 < length v → lastLine v ≡ v ∷ []
@@ -112,18 +109,18 @@ module _ (w : List ℕ) (j : Judge) (line at : ℕ) (going : Going w j line at) 
       let is : recordIn w ≡ calls (going .history) = going .is ∙ ap (λ (v : List ℕ). readLines (calls (going .history)) (suc line) (linesOf v)) (drop-of-length-le w l) in
       e ∙ ap verdict (ap verdictOf (going .ran) ∙ verdict-after (going .history)) ∙ ap replayOf (sym is)
 
-  module _ (end : ℕ) (here : at < length w) (found : end ≡ at + length (upTo 10 (drop at w))) (to : Judge) (s : Response)
-      (steps : LineSteps j (lineIn (take (end - at) (drop at w))) s to) where
+  module _ (end : ℕ) (here : at < length w) (found : end ≡ at + length (upTo 10 (drop at w))) (r : LineRun)
+      (steps : outcomeOf r ≡ lineStep j (lineIn (take (end - at) (drop at w)))) where
     on-line : (next-at : ℕ) → next-at ≡ min (end + 1) (length w)
         → recordIn w ≡ readLines (readOn (suc line) (going .history) (lineIn (take (end - at) (drop at w)))) (suc (suc line)) (linesOf (drop next-at w))
     unfolding readLines
     on-line next-at e = going .is ∙ ap (readLines (calls (going .history)) (suc line)) (lines-on w at end here found next-at e)
 
     -- a malformed line
-    pub going-wrong : isUnread s ≡ true → (t : Told) → t ≡ malformedLine (line + 1) → t ≡ replayOf (recordIn w)
+    pub going-wrong : isUnread (responseOf (r .answer)) ≡ true → (t : Told) → t ≡ malformedLine (line + 1) → t ≡ replayOf (recordIn w)
     going-wrong bad t e =
         let rest = linesOf (drop (min (end + 1) (length w)) w) in
-        let m = malformed-line j to (lineIn (take (end - at) (drop at w))) s steps bad in
+        let m = malformed-line j (lineIn (take (end - at) (drop at w))) (sym (ap (λ (o : LineOutcome). isUnread (o .answers)) steps) ∙ bad) in
         let is : recordIn w ≡ malformedAt (suc line) =
         on-line (min (end + 1) (length w)) refl
         ∙ ap (λ (x : Meaning). readLines (readOn (suc line) (going .history) x) (suc (suc line)) rest) m
@@ -131,13 +128,14 @@ module _ (w : List ℕ) (j : Judge) (line at : ℕ) (going : Going w j line at) 
         e ∙ ap malformedLine (add-one line) ∙ ap replayOf (sym is)
 
     -- any other line
-    pub going-on : isUnread s ≡ false → (next-at : ℕ) → next-at ≡ min (end + 1) (length w) → Going w to (line + 1) next-at
+    pub going-on : isUnread (responseOf (r .answer)) ≡ false → (next-at : ℕ) → next-at ≡ min (end + 1) (length w) → Going w (r .judge) (line + 1) next-at
     going-on good next-at e =
-        let r = read-on (suc line) (going .history) j to (lineIn (take (end - at) (drop at w))) s (going .ran) steps good in
+        let m = lineIn (take (end - at) (drop at w)) in
+        let so = read-on (suc line) (going .history) j m (going .ran) (sym (ap (λ (o : LineOutcome). isUnread (o .answers)) steps) ∙ good) in
         record {
-          history = r .history;
-          ran = r .ran;
+          history = so .history;
+          ran = ap (λ (o : LineOutcome). o .leaves) steps ∙ so .ran;
           is =
               on-line next-at e
-              ∙ ap₂ (λ (so : Recorded) (i : ℕ). readLines so (suc i) (linesOf (drop next-at w))) (r .is) (sym (add-one line));
+              ∙ ap₂ (λ (x : Recorded) (i : ℕ). readLines x (suc i) (linesOf (drop next-at w))) (so .is) (sym (add-one line));
         }

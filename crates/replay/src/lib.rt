@@ -4,6 +4,7 @@ ghost use Prim.Native.Nat.{_+_, _≤_, min};
 ghost use lib.ListN.{length};
 ghost use Rattle.calltext.specs.Answers.{responseOf, isUnread};
 ghost use Rattle.calls.specs.Replies.{verdictSays};
+ghost use Rattle.callrun.specs.Running.{Scratch};
 ghost use Rattle.replay.specs.Records.{verdict, recordIn, toldOf, replayOf};
 use calls::Verdict;
 use calltext::LineAnswer;
@@ -54,6 +55,7 @@ fn past(end: usize, most: usize) -> usize
 fn replay_by(text: &[u8], buffer: &mut [u8]) -> ReplayAnswer
     requires { ⌜ 65537 ≤ length (now buffer) ⌝ }
     ensures { λ r. ⌜ toldOf r ≡ replayOf (recordIn (now (text .entry))) ⌝ }
+    ensures scratch { λ r. ⌜ Scratch (now (buffer .entry)) (now (buffer .exit)) ⌝ }
 {
     let mut judge = judge::new_judge();
     let mut line: usize = 0;

@@ -1,3 +1,6 @@
 -- In the order in which they build on each other.
 pub mod Parts
+pub mod Calls
+pub mod Turns
 pub mod Whole
+pub mod Claimed

@@ -1,126 +1,159 @@
--- Lines run one after the other, in whatever blocks they came, and the right answers. Assumes nothing.
+-- Lines run one after the other, in whatever blocks they came, and the right answers. Assumes
+-- nothing.
 --
---   ran-append        lines and then others
---   claims            the whole text
---   going-first, going-on, going-last   for a loop over the parts of a block
-use mathlib.Core.Path.{_≡_, refl, sym, ap, _∙_, subst}
-use mathlib.Core.List.{List, [], _∷_, _++_, append-assoc, flatten}
-use mathlib.Core.Logic.{⊎-elim}
-use Prim.Native.Nat.{ℕ, _≤_}
-use lib.ListN.{length, drop, drop-of-length-le}
+--   step-append     lines and then others
+--   feeds           the parts of a block
+--   finishes        the end of the text
+--   whole           the whole text
+--   right           the right answers
+use mathlib.Core.Path.{_≡_, refl, sym, ap, ap₂, _∙_}
+use mathlib.Core.List.{List, [], _∷_, _++_, append-assoc, append-nil, flatten}
+use Prim.Native.Nat.{ℕ, _+_, _≤_}
+use native.Mathlib.Omega.{arith}
+use borrow.Author.Tests.{eq-eqb, ne-eqb}
+use lib.ListN.{length, drop}
+use lib.Seq.{take-at}
 use Rattle.lines.specs.Splitting.{linesFrom}
 use Rattle.executions.specs.Executions.{stateAfter}
 use Rattle.calls.specs.declared.Judge.{Judge}
 use Rattle.calls.specs.Calls.{Call}
-use Rattle.calls.specs.Steps.{fresh, Outcome, stepOf}
+use Rattle.calls.specs.Steps.{fresh}
 use Rattle.histories.specs.Claims.{judgeAfter}
 use Rattle.histories.proofs.Every.{answer-after}
 use Rattle.calltext.specs.Meaning.{Meaning, again, call, malformed, lineIn}
 use Rattle.calltext.specs.Answers.{Response, replied, responseText}
-use Rattle.callrun.specs.Running.{LineSteps}
-use Rattle.linebuffer.specs.declared.Held.{Held}
-use Rattle.linebuffer.specs.Holding.{Keeps}
-use Rattle.stream.specs.declared.Fed.{Fed}
-use Rattle.stream.specs.Feeding.{Feeds}
-use Rattle.stream.specs.Texts.{LinesRan, no-lines, line-then, FedBlock, BlocksRan, no-blocks, block-then, historyAfter, ResponseRight, LinesRight, Claims}
+use Rattle.callrun.specs.Running.{LineOutcome, lineStep}
+use Rattle.linebuffer.specs.Holding.{lineBegin, heldMeaning}
+use Rattle.linebuffer.proofs.Claimed as linebuffer
+use Rattle.stream.specs.Feeding.{State, Step, Part, ends, goesOn, stateOf, bytesOf, goOn, answeredBy, answerHeld, partsOf, finishOf}
+use Rattle.stream.specs.Texts.{TextOutcome, after, linesStep, feedParts, partsText, partsIn, streamOf, historyAfter, rightResponse, rightText}
+use Rattle.stream.specs.Claims.{Holds, linesEnded, lineBegun, Feeds}
+use Rattle.stream.proofs.Parts.{lines-split}
 
-pub ran-append : {j to last : Judge} {ls : List (List ℕ)} {text : List ℕ} {ks : List (List ℕ)} {rest : List ℕ} → LinesRan j ls text to
-    → LinesRan to ks rest last → LinesRan j (ls ++ ks) (text ++ rest) last
-ran-append no-lines r = r
-ran-append {j} {to} {last} {ks = ks} {rest = rest} (line-then mid l {ls} s text step q) r =
-    subst (λ (t : List ℕ). LinesRan j (l ∷ (ls ++ ks)) t last) (sym (append-assoc (responseText s) text rest)) (line-then mid l s (text ++ rest) step (ran-append q r))
+-- ---- lines and then others
+abbrev then : TextOutcome → TextOutcome → TextOutcome
+then a b = record { text = a .text ++ b .text; leaves = b .leaves }
 
-whole-by : {j last : Judge} {w end text : List ℕ} {blocks : List (List ℕ)} {to : Judge} {rest : List ℕ} → BlocksRan j w blocks to end text
-    → LinesRan to (linesFrom end []) rest last → LinesRan j (linesFrom w (flatten blocks)) (text ++ rest) last
-unfolding flatten
-whole-by no-blocks r = r
-whole-by {j} {last} {w} {rest = rest} (block-then mid begun block text more blocks b q) r =
-    let x = ran-append (b .ran) (whole-by q r) in
-    subst (λ (t : List ℕ). LinesRan j (linesFrom w (block ++ flatten blocks)) t last) (sym (append-assoc text more rest))
-    (subst (λ (ls : List (List ℕ)). LinesRan j ls (text ++ (more ++ rest)) last) (sym (b .split (flatten blocks))) x)
+step-append : (ls ks : List (List ℕ)) (j : Judge) → linesStep j (ls ++ ks) ≡ then (linesStep j ls) (linesStep (linesStep j ls .leaves) ks)
+unfolding linesStep
+step-append [] ks j = refl
+step-append (l ∷ ls) ks j =
+    let o = lineStep j (lineIn l) in
+    ap (after (o .answers)) (step-append ls ks (o .leaves))
+    ∙ ap (λ (t : List ℕ). record { text = t; leaves = linesStep (linesStep (o .leaves) ls .leaves) ks .leaves })
+    (sym (append-assoc (responseText (o .answers)) (linesStep (o .leaves) ls .text) (linesStep (linesStep (o .leaves) ls .leaves) ks .text)))
+
+-- ---- one line
+abbrev pub came : Step → TextOutcome
+came t = record { text = bytesOf t; leaves = t .leaves .judge }
+
+bytes-are : (s : State) (o : LineOutcome) → bytesOf (answeredBy s o) ≡ responseText (o .answers)
+bytes-are s o =
+    let t = responseText (o .answers) in take-at t (drop (0 + length t) (s .out)) (length t) refl
+
+-- the line w that is held is run, and the lines ls after it
+module _ (s : State) (w : List ℕ) (holds : Holds s w) where
+  same-step : lineStep (s .judge) (heldMeaning (s .line) (s .held)) ≡ lineStep (s .judge) (lineIn w)
+  same-step = linebuffer.claims .runs (s .line) (s .held) w (holds .large) (holds .keeps) (s .judge)
+
+  line-then : (ls : List (List ℕ)) → then (came (answerHeld s)) (linesStep (answerHeld s .leaves .judge) ls) ≡ linesStep (s .judge) (w ∷ ls)
+  unfolding linesStep answerHeld
+  line-then ls =
+      let o = lineStep (s .judge) (heldMeaning (s .line) (s .held)) in
+      ap (λ (t : List ℕ). record { text = t ++ linesStep (o .leaves) ls .text; leaves = linesStep (o .leaves) ls .leaves }) (bytes-are s o)
+      ∙ ap (λ (x : LineOutcome). after (x .answers) (linesStep (x .leaves) ls)) same-step
+
+  next-holds : Holds (answerHeld s .leaves) []
+  unfolding answerHeld
+  next-holds = record { large = holds .large; keeps = linebuffer.claims .begins (s .line) }
+
+  on-holds : (p : List ℕ) → Holds (goOn s p) (w ++ p)
+  on-holds p = record {
+    large = omega (arith, holds .large, linebuffer.claims .same-size (s .line) (s .held) p);
+    keeps = linebuffer.claims .goes-on (s .line) (s .held) w p (holds .keeps);
+  }
+
+-- ---- the parts of a block
+pub feeds : (ps : List Part) (s : State) (w : List ℕ) → Holds s w → Feeds s w ps
+unfolding linesStep feedParts partsText linesEnded lineBegun
+feeds [] s w holds = record { ran = refl; holds = holds }
+feeds (ends p ∷ ps) s w holds =
+    let on = on-holds s w holds p in
+    let r = feeds ps (answerHeld (goOn s p) .leaves) [] (next-holds (goOn s p) (w ++ p) on) in
+    record {
+      ran = ap (then (came (answerHeld (goOn s p)))) (r .ran) ∙ line-then (goOn s p) (w ++ p) on (linesEnded [] ps);
+      holds = r .holds;
+    }
+feeds (goesOn p ∷ ps) s w holds =
+    let r = feeds ps (goOn s p) (w ++ p) (on-holds s w holds p) in record { ran = r .ran; holds = r .holds }
+
+-- ---- the end of the text
+pub finishes : (s : State) (w : List ℕ) → Holds s w → came (finishOf s) ≡ linesStep (s .judge) (linesFrom w [])
+unfolding linesStep linesFrom
+finishes s [] holds = rw (eq-eqb (s .held .length) 0 (omega (arith, holds .keeps .size)))
+finishes s (x ∷ w) holds =
+    rw (ne-eqb (s .held .length) 0 (λ e. omega (arith, holds .keeps .size, holds .large)))
+    (ap (λ (t : List ℕ). record { text = t; leaves = answerHeld s .leaves .judge }) (sym (append-nil (bytesOf (answerHeld s))))
+    ∙ line-then s (x ∷ w) holds [])
+
+-- ---- the whole text
+ended-append : (ps qs : List Part) (w : List ℕ) → linesEnded w (ps ++ qs) ≡ linesEnded w ps ++ linesEnded (lineBegun w ps) qs
+unfolding linesEnded lineBegun
+ended-append [] qs w = refl
+ended-append (ends p ∷ ps) qs w = ap (λ (ls : List (List ℕ)). (w ++ p) ∷ ls) (ended-append ps qs [])
+ended-append (goesOn p ∷ ps) qs w = ended-append ps qs (w ++ p)
+
+begun-append : (ps qs : List Part) (w : List ℕ) → lineBegun w (ps ++ qs) ≡ lineBegun (lineBegun w ps) qs
+unfolding lineBegun
+begun-append [] qs w = refl
+begun-append (ends p ∷ ps) qs w = begun-append ps qs []
+begun-append (goesOn p ∷ ps) qs w = begun-append ps qs (w ++ p)
+
+blocks-split : (blocks : List (List ℕ)) (w : List ℕ)
+    → linesFrom w (flatten blocks) ≡ linesEnded w (partsIn blocks) ++ linesFrom (lineBegun w (partsIn blocks)) []
+unfolding flatten partsIn linesEnded lineBegun
+blocks-split [] w = refl
+blocks-split (block ∷ blocks) w =
+    let ps = partsOf block in
+    let qs = partsIn blocks in
+    lines-split block w (flatten blocks)
+    ∙ ap (λ (ls : List (List ℕ)). linesEnded w ps ++ ls) (blocks-split blocks (lineBegun w ps))
+    ∙ sym (append-assoc (linesEnded w ps) (linesEnded (lineBegun w ps) qs) (linesFrom (lineBegun (lineBegun w ps) qs) []))
+    ∙ ap₂ (λ (ls : List (List ℕ)) (v : List ℕ). ls ++ linesFrom v []) (sym (ended-append ps qs w)) (sym (begun-append ps qs w))
+
+whole-by : (blocks : List (List ℕ)) (s : State) (w : List ℕ) → Holds s w → streamOf s blocks ≡ linesStep (s .judge) (linesFrom w (flatten blocks))
+whole-by blocks s w holds =
+    let ps = partsIn blocks in
+    let f = feeds ps s w holds in
+    let end = finishes (feedParts s ps) (lineBegun w ps) (f .holds) in
+    ap (then (record { text = partsText s ps; leaves = feedParts s ps .judge })) end
+    ∙ ap (λ (t : TextOutcome). then t (linesStep (t .leaves) (linesFrom (lineBegun w ps) []))) (f .ran)
+    ∙ sym (ap (linesStep (s .judge)) (blocks-split blocks w) ∙ step-append (linesEnded w ps) (linesFrom (lineBegun w ps) []) (s .judge))
+
+pub whole : (blocks : List (List ℕ)) (line out : List ℕ) → 131104 ≤ length line
+    → streamOf (stateOf fresh lineBegin line out) blocks ≡ linesStep fresh (linesFrom [] (flatten blocks))
+whole blocks line out large = whole-by blocks _ [] (record { large = large; keeps = linebuffer.claims .begins line })
 
 -- ---- the right answers
-module _ (h : List Call) (j : Judge) (ran : j ≡ judgeAfter h) (to : Judge) where
-  response-right : (m : Meaning) (s : Response) → LineSteps j m s to → ResponseRight h m s
-  response-right again s l = l .0
-  response-right (call c) s l =
-      l .1 ∙ ap replied (ap (λ (o : Outcome). o .says) (l .2) ∙ ap (λ (x : Judge). stepOf x c .says) ran ∙ answer-after h c)
-  response-right malformed s l = l .0
+response-right : (h : List Call) (m : Meaning) → lineStep (judgeAfter h) m .answers ≡ rightResponse h m
+response-right h again = refl
+response-right h (call c) = ap replied (answer-after h c)
+response-right h malformed = refl
 
-  ran-after : (m : Meaning) (s : Response) → LineSteps j m s to → to ≡ judgeAfter (historyAfter h m)
-  unfolding stateAfter
-  ran-after again s l = l .1
-  ran-after (call c) s l = ap (λ (o : Outcome). o .leaves) (l .2) ∙ ap (λ (x : Judge). stepOf x c .leaves) ran
-  ran-after malformed s l = l .1 ∙ ran
-
-right-by : {j last : Judge} {ls : List (List ℕ)} {text : List ℕ} (h : List Call) → j ≡ judgeAfter h → LinesRan j ls text last → LinesRight h ls text
-right-by h ran no-lines = refl
-right-by {j} h ran (line-then mid l s text step q) =
-    (s, text, refl, response-right h j ran mid (lineIn l) s step, right-by (historyAfter h (lineIn l)) (ran-after h j ran mid (lineIn l) s step) q)
-
-from-fresh : fresh ≡ judgeAfter []
+judge-after : (h : List Call) (m : Meaning) → lineStep (judgeAfter h) m .leaves ≡ judgeAfter (historyAfter h m)
 unfolding stateAfter
-from-fresh = refl
+judge-after h again = refl
+judge-after h (call c) = refl
+judge-after h malformed = refl
 
-pub claims : Claims
-claims = record {
-  whole = λ blocks j last w text rest b r. whole-by b r;
-  right = λ ls text last q. right-by [] from-fresh q;
-}
+right-by : (ls : List (List ℕ)) (h : List Call) → linesStep (judgeAfter h) ls .text ≡ rightText h ls
+unfolding linesStep rightText
+right-by [] h = refl
+right-by (l ∷ ls) h =
+    let m = lineIn l in
+    ap₂ (λ (s : Response) (j : Judge). responseText s ++ linesStep j ls .text) (response-right h m) (judge-after h m)
+    ∙ ap (λ (t : List ℕ). responseText (rightResponse h m) ++ t) (right-by ls (historyAfter h m))
 
--- ---- the parts of a block, up to an index
-pub record Going (j : Judge) (w block : List ℕ) (at : ℕ) (to : Judge) (line : List ℕ) (held : Held) : Type 0 where
-  pub begun : List ℕ
-  pub lines : List (List ℕ)
-  pub text : List ℕ
-  pub split : (more : List ℕ) → linesFrom w (block ++ more) ≡ lines ++ linesFrom begun (drop at block ++ more)
-  pub ran : LinesRan j lines text to
-  pub keeps : Keeps line held begun
-
--- whatever line was kept before
-abbrev pub GoingAny : Judge → Held → List ℕ → List ℕ → ℕ → Judge → List ℕ → Held → Type 0
-GoingAny j held₀ before block at to line held = (w : List ℕ) → Keeps before held₀ w → Going j w block at to line held
-
-pub going-first : (j : Judge) (held : Held) (before block : List ℕ) → GoingAny j held before block 0 j before held
-going-first j held before block = λ w k. record { begun = w; lines = []; text = []; split = λ more. refl; ran = no-lines; keeps = k }
-
-module _ (j : Judge) (held₀ : Held) (before block : List ℕ) (at : ℕ) (to : Judge) (line : List ℕ) (held : Held)
-    (going : GoingAny j held₀ before block at to line held) where
-  pub going-last : length block ≤ at → FedBlock j held₀ before block line to held
-  going-last l = λ w k.
-      let g = going w k in (
-        g .begun,
-        g .text,
-        record {
-          lines = g .lines;
-          split = λ more. g .split more ∙ ap (λ (v : List ℕ). g .lines ++ linesFrom (g .begun) (v ++ more)) (drop-of-length-le block l);
-          ran = g .ran;
-        },
-        g .keeps,
-      )
-
-  module _ (line′ out out′ : List ℕ) (r : Fed) (feeds : Feeds to held block at line line′ out out′ r) where
-    pub going-on : GoingAny j held₀ before block (r .at) (r .judge) line′ (r .held)
-    going-on = λ w k.
-        let g = going w k in
-        ⊎-elim
-        (λ e. record {
-          begun = [];
-          lines = g .lines ++ (e .ended ∷ []);
-          text = g .text ++ (responseText (e .answers .says) ++ []);
-          split = λ more.
-              g .split more
-              ∙ ap (λ (ls : List (List ℕ)). g .lines ++ ls) (e .split more)
-              ∙ sym (append-assoc (g .lines) (e .ended ∷ []) (linesFrom [] (drop (r .at) block ++ more)));
-          ran = ran-append (g .ran) (line-then (r .judge) (e .ended) (e .answers .says) [] (e .answers .ran) no-lines);
-          keeps = e .keeps;
-        })
-        (λ o. record {
-          begun = o .begun;
-          lines = g .lines;
-          text = g .text;
-          split = λ more. g .split more ∙ ap (λ (ls : List (List ℕ)). g .lines ++ ls) (o .split more);
-          ran = subst (LinesRan j (g .lines) (g .text)) (sym (o .same .0)) (g .ran);
-          keeps = o .keeps;
-        })
-        (feeds .fed (g .begun) (g .keeps))
+pub right : (ls : List (List ℕ)) → linesStep fresh ls .text ≡ rightText [] ls
+unfolding stateAfter
+right ls = right-by ls []

@@ -1,62 +1,111 @@
--- A text of lines that comes in blocks, cut anywhere. `w` is the beginning of a line that earlier blocks brought; `more` is what later ones bring.
+-- A text of lines that comes in blocks, cut anywhere: what each call comes to, on any judge, any
+-- value and any buffers, whether they fit each other or not. specs/Claims.antt says what it comes
+-- to where the line's buffer keeps a line.
 --
---   Answers ..    a line was run on the judge, and its answer stands at the buffer's start; AnswersHeld: the line that is kept
---   Ended ..      a line ended in the block: it was answered, and the next line begins behind its line feed
---   GoesOn ..     none ended: the line goes on beyond the block, and nothing was answered
---   Feeds ..      one of the two
---   Finishes ..   the text has ended: the last line was answered, if it is not empty
--- Where the buffer and the value keep no line, what is answered is free; it is within its buffer all the same (`room`). What is left in the buffer
--- for the bytes of a line is free.
-use mathlib.Core.Path.{_≡_}
-use mathlib.Core.Logic.{_⊎_}
-use mathlib.Core.List.{List, [], _∷_, _++_}
-use Prim.Native.Nat.{ℕ, _≤_, _<_}
-use lib.ListN.{length, drop}
-use Rattle.text.specs.Writing.{Wrote}
-use Rattle.lines.specs.Splitting.{linesFrom}
+--   State             the judge, what is held of a line, and what the line's buffer and the
+--                     buffer for answers have in them
+--   stateOf ..        a state, from these four
+--   Step              what a call came to: the state that it leaves, and how many bytes at the
+--                     start of `out` it answered
+--   bytesOf t         those bytes
+--   goOn s p          the line that is held goes on with the piece p
+--   quiet s           nothing is answered
+--   answeredBy s o    what came of the line is answered at the start of `out`, and the next line
+--                     begins
+--   answerHeld s      the line that is held is run and answered
+--   Part              a part of a block: the bytes before a line feed, or the last bytes, where
+--                     none follows
+--   before x ps       the parts with a byte before the first
+--   partsOf block     the parts of a block
+--   firstOf ps        the first of them
+--   partAt block at   the part that begins at an index
+--   partSize p        how many bytes of the block the part takes, with its line feed
+--   feedPart s p      what feeding a part comes to
+--   finishOf s        what the end of the text comes to: a last line is answered if it is not empty
+--   answerCame, feedCame   what the code's result and its buffers tell
+use mathlib.Core.Bool.{cond}
+use mathlib.Core.List.{List, [], _∷_}
+use Prim.Native.Nat.{ℕ, _+_}
+use lib.Dec.{eqb}
+use lib.ListN.{length, take, drop}
+use Rattle.text.specs.Writing.{written}
 use Rattle.calls.specs.declared.Judge.{Judge}
-use Rattle.calltext.specs.Meaning.{lineIn}
-use Rattle.calltext.specs.Answers.{Response, responseText}
-use Rattle.callrun.specs.Running.{LineSteps}
+use Rattle.calltext.specs.Answers.{responseText}
+use Rattle.callrun.specs.Running.{LineOutcome, lineStep}
 use Rattle.linebuffer.specs.declared.Held.{Held}
-use Rattle.linebuffer.specs.Holding.{Keeps}
+use Rattle.linebuffer.specs.Holding.{lineBegin, heldAfter, bufferAfter, heldMeaning}
 use Rattle.stream.specs.declared.Answered.{Answered}
 use Rattle.stream.specs.declared.Fed.{Fed}
 
--- the line l was run on the judge j, and its answer is what the buffer `after` begins with
-pub record Answers (j : Judge) (l before after : List ℕ) (next : Judge) (written : ℕ) : Type 0 where
-  pub says : Response
-  pub ran : LineSteps j (lineIn l) says next
-  pub wrote : Wrote before 0 (responseText says) after written
+pub record State : Type 0 where
+  pub judge : Judge
+  pub held : Held
+  pub line : List ℕ
+  pub out : List ℕ
 
-pub record AnswersHeld (j : Judge) (held : Held) (line before after : List ℕ) (r : Answered) : Type 0 where
-  pub room : r .written ≤ length after
-  pub answers : (w : List ℕ) → Keeps line held w → Answers j w before after (r .judge) (r .written)
+abbrev pub stateOf : Judge → Held → List ℕ → List ℕ → State
+stateOf j held line out = record { judge = j; held = held; line = line; out = out }
 
-module _ (j : Judge) (w block : List ℕ) (at : ℕ) (out line out′ : List ℕ) (r : Fed) where
-  pub record Ended : Type 0 where
-    pub ended : List ℕ
-    pub split : (more : List ℕ) → linesFrom w (drop at block ++ more) ≡ ended ∷ linesFrom [] (drop (r .at) block ++ more)
-    pub answers : Answers j ended out out′ (r .judge) (r .written)
-    pub keeps : Keeps line (r .held) []
+pub record Step : Type 0 where
+  pub leaves : State
+  pub written : ℕ
 
-  pub record GoesOn : Type 0 where
-    pub begun : List ℕ
-    pub split : (more : List ℕ) → linesFrom w (drop at block ++ more) ≡ linesFrom begun (drop (r .at) block ++ more)
-    pub same : (r .judge ≡ j) × (r .written ≡ 0) × (out′ ≡ out)
-    pub keeps : Keeps line (r .held) begun
+abbrev pub bytesOf : Step → List ℕ
+bytesOf t = take (t .written) (t .leaves .out)
 
--- `before` and `line` are what the line's buffer holds before and after
-pub record Feeds (j : Judge) (held : Held) (block : List ℕ) (at : ℕ) (before line out out′ : List ℕ) (r : Fed) : Type 0 where
-  pub forward : at < r .at
-  pub within : r .at ≤ length block
-  pub room : r .written ≤ length out′
-  pub fed : (w : List ℕ) → Keeps before held w → Ended j w block at out line out′ r ⊎ GoesOn j w block at out line out′ r
+-- ---- a line
+abbrev pub goOn : State → List ℕ → State
+goOn s p = stateOf (s .judge) (heldAfter (s .line) (s .held) p) (bufferAfter (s .line) (s .held) p) (s .out)
 
-abbrev pub FinishesBy : Judge → List (List ℕ) → List ℕ → List ℕ → Answered → Type 0
-FinishesBy j [] out out′ r = (r .judge ≡ j) × (r .written ≡ 0) × (out′ ≡ out)
-FinishesBy j (l ∷ lines) out out′ r = (lines ≡ []) × Answers j l out out′ (r .judge) (r .written)
+abbrev pub quiet : State → Step
+quiet s = record { leaves = s; written = 0 }
 
-pub record Finishes (j : Judge) (held : Held) (line out out′ : List ℕ) (r : Answered) : Type 0 where
-  pub room : r .written ≤ length out′
-  pub finished : (w : List ℕ) → Keeps line held w → FinishesBy j (linesFrom w []) out out′ r
+abbrev pub answeredBy : State → LineOutcome → Step
+answeredBy s o = record {
+  leaves = stateOf (o .leaves) lineBegin (s .line) (written (s .out) 0 (responseText (o .answers)));
+  written = length (responseText (o .answers));
+}
+
+unfoldable pub answerHeld : State → Step
+answerHeld s = answeredBy s (lineStep (s .judge) (heldMeaning (s .line) (s .held)))
+
+-- ---- the parts of a block
+pub data Part : Type 0 where
+  ends : List ℕ → Part
+  goesOn : List ℕ → Part
+
+abbrev pub before : ℕ → List Part → List Part
+before x [] = goesOn (x ∷ []) ∷ []
+before x (ends p ∷ ps) = ends (x ∷ p) ∷ ps
+before x (goesOn p ∷ ps) = goesOn (x ∷ p) ∷ ps
+
+unfoldable pub partsOf : List ℕ → List Part
+partsOf [] = []
+partsOf (x ∷ block) = cond (eqb x 10) (ends [] ∷ partsOf block) (before x (partsOf block))
+
+abbrev pub firstOf : List Part → Part
+firstOf [] = goesOn []
+firstOf (p ∷ ps) = p
+
+abbrev pub partAt : List ℕ → ℕ → Part
+partAt block at = firstOf (partsOf (drop at block))
+
+abbrev pub partSize : Part → ℕ
+partSize (ends p) = length p + 1
+partSize (goesOn p) = length p
+
+-- ---- the calls
+abbrev pub feedPart : State → Part → Step
+feedPart s (ends p) = answerHeld (goOn s p)
+feedPart s (goesOn p) = quiet (goOn s p)
+
+abbrev pub finishOf : State → Step
+finishOf s =
+    cond (eqb (s .held .length) 0) (quiet (stateOf (s .judge) lineBegin (s .line) (s .out))) (answerHeld s)
+
+-- the line's buffer stays as it is, and no line is held any more
+abbrev pub answerCame : Answered → List ℕ → List ℕ → Step
+answerCame r line out = record { leaves = stateOf (r .judge) lineBegin line out; written = r .written }
+
+abbrev pub feedCame : Fed → List ℕ → List ℕ → Step
+feedCame r line out = record { leaves = stateOf (r .judge) (r .held) line out; written = r .written }

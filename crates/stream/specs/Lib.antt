@@ -1,3 +1,4 @@
 -- In the order in which to read them.
 pub mod Feeding
 pub mod Texts
+pub mod Claims

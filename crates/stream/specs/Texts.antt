@@ -1,44 +1,55 @@
--- A whole text of lines, and every way of cutting it into blocks; proofs/Whole.antt proves the claims.
+-- A whole text of lines: what running its lines comes to, what feeding it in blocks comes to, and
+-- the right answers.
 --
---   LinesRan j ls text to    the lines ls, run one after the other beginning with the judge j, were answered with the text and left the judge to
---   BlockRan ..              of a block: the lines that end in it were run, and `begun` is the beginning of the line that goes on
---   FedBlock ..              whatever line was kept before, the block was run, and what goes on is kept
---   BlocksRan ..             blocks, one after the other
---   historyAfter h m         the calls since the last empty line: h, and then a line of the meaning m
---   LinesRight h ls text     the text has the right answer to each line, after the calls h and the lines before it
-use mathlib.Core.Path.{_≡_}
-use mathlib.Core.List.{List, [], _∷_, _++_, flatten}
+--   TextOutcome         all that was answered, and the judge that is left
+--   after s rest        a line's answer, and what the lines after it come to
+--   linesStep j ls      what the lines ls come to, one after the other, beginning with the judge j
+--   feedParts s ps      the state after feeding the parts ps
+--   partsText s ps      all that is answered to them
+--   partsIn blocks      the parts of the blocks, one block after the other
+--   streamOf s blocks   what feeding the blocks and then finishing comes to
+--   historyAfter h m    the calls since the last empty line: h, and then a line of the meaning m
+--   rightResponse h m   the right answer to a line of the meaning m after the calls h
+--   rightText h ls      the right answer to each line, after the calls h and the lines before it
+use mathlib.Core.List.{List, [], _∷_, _++_}
 use Prim.Native.Nat.{ℕ}
-use Rattle.lines.specs.Splitting.{linesFrom, linesOf}
 use Rattle.calls.specs.declared.Judge.{Judge}
 use Rattle.calls.specs.Calls.{Call}
-use Rattle.calls.specs.Steps.{fresh}
 use Rattle.histories.specs.History.{answerOf}
 use Rattle.calltext.specs.Meaning.{Meaning, again, call, malformed, lineIn}
 use Rattle.calltext.specs.Answers.{Response, began, replied, unread, responseText}
-use Rattle.callrun.specs.Running.{LineSteps}
-use Rattle.linebuffer.specs.declared.Held.{Held}
-use Rattle.linebuffer.specs.Holding.{Keeps}
+use Rattle.callrun.specs.Running.{lineStep}
+use Rattle.stream.specs.Feeding.{State, Part, bytesOf, partsOf, feedPart, finishOf}
 
-pub data LinesRan : Judge → List (List ℕ) → List ℕ → Judge → Type 0 where
-  no-lines : {j : Judge} → LinesRan j [] [] j
-  line-then : {j last : Judge} (to : Judge) (l : List ℕ) {ls : List (List ℕ)} (s : Response) (text : List ℕ) → LineSteps j (lineIn l) s to → LinesRan to ls text last
-      → LinesRan j (l ∷ ls) (responseText s ++ text) last
+pub record TextOutcome : Type 0 where
+  pub text : List ℕ
+  pub leaves : Judge
 
--- ---- blocks. `w` is the beginning of a line that earlier blocks brought, `more` is what later ones bring
-pub record BlockRan (j : Judge) (w block : List ℕ) (to : Judge) (begun text : List ℕ) : Type 0 where
-  pub lines : List (List ℕ)
-  pub split : (more : List ℕ) → linesFrom w (block ++ more) ≡ lines ++ linesFrom begun more
-  pub ran : LinesRan j lines text to
+-- ---- lines
+abbrev pub after : Response → TextOutcome → TextOutcome
+after s rest = record { text = responseText s ++ rest .text; leaves = rest .leaves }
 
-abbrev pub FedBlock : Judge → Held → List ℕ → List ℕ → List ℕ → Judge → Held → Type 0
-FedBlock j held before block after to kept =
-    (w : List ℕ) → Keeps before held w → (begun : List ℕ) × (text : List ℕ) × BlockRan j w block to begun text × Keeps after kept begun
+unfoldable pub linesStep : Judge → List (List ℕ) → TextOutcome
+linesStep j [] = record { text = []; leaves = j }
+linesStep j (l ∷ ls) = let o = lineStep j (lineIn l) in after (o .answers) (linesStep (o .leaves) ls)
 
-pub data BlocksRan : Judge → List ℕ → List (List ℕ) → Judge → List ℕ → List ℕ → Type 0 where
-  no-blocks : {j : Judge} {w : List ℕ} → BlocksRan j w [] j w []
-  block-then : {j last : Judge} {w end : List ℕ} (to : Judge) (begun block text rest : List ℕ) (blocks : List (List ℕ)) → BlockRan j w block to begun text
-      → BlocksRan to begun blocks last end rest → BlocksRan j w (block ∷ blocks) last end (text ++ rest)
+-- ---- blocks
+unfoldable pub feedParts : State → List Part → State
+feedParts s [] = s
+feedParts s (p ∷ ps) = feedParts (feedPart s p .leaves) ps
+
+unfoldable pub partsText : State → List Part → List ℕ
+partsText s [] = []
+partsText s (p ∷ ps) = bytesOf (feedPart s p) ++ partsText (feedPart s p .leaves) ps
+
+unfoldable pub partsIn : List (List ℕ) → List Part
+partsIn [] = []
+partsIn (block ∷ blocks) = partsOf block ++ partsIn blocks
+
+abbrev pub streamOf : State → List (List ℕ) → TextOutcome
+streamOf s blocks =
+    let last = finishOf (feedParts s (partsIn blocks)) in
+    record { text = partsText s (partsIn blocks) ++ bytesOf last; leaves = last .leaves .judge }
 
 -- ---- the right answers, by the calls alone
 abbrev pub historyAfter : List Call → Meaning → List Call
@@ -46,19 +57,11 @@ historyAfter h again = []
 historyAfter h (call c) = c ∷ h
 historyAfter h malformed = h
 
-abbrev pub ResponseRight : List Call → Meaning → Response → Type 0
-ResponseRight h again s = s ≡ began
-ResponseRight h (call c) s = s ≡ replied (answerOf h c)
-ResponseRight h malformed s = s ≡ unread
+abbrev pub rightResponse : List Call → Meaning → Response
+rightResponse h again = began
+rightResponse h (call c) = replied (answerOf h c)
+rightResponse h malformed = unread
 
-abbrev pub LinesRight : List Call → List (List ℕ) → List ℕ → Type 0
-LinesRight h [] text = text ≡ []
-LinesRight h (l ∷ ls) text =
-    (s : Response) × (rest : List ℕ) × (text ≡ responseText s ++ rest) × ResponseRight h (lineIn l) s × LinesRight (historyAfter h (lineIn l)) ls rest
-
-pub record Claims : Type 0 where
-  -- blocks from a fresh judge on, and then the last line: together they are the lines of the whole text, however it was cut
-  pub whole : (blocks : List (List ℕ)) (j last : Judge) (w text rest : List ℕ) → BlocksRan fresh [] blocks j w text
-      → LinesRan j (linesFrom w []) rest last → LinesRan fresh (linesOf (flatten blocks)) (text ++ rest) last
-  -- and every answer is the right one after the calls before it
-  pub right : (ls : List (List ℕ)) (text : List ℕ) (last : Judge) → LinesRan fresh ls text last → LinesRight [] ls text
+unfoldable pub rightText : List Call → List (List ℕ) → List ℕ
+rightText h [] = []
+rightText h (l ∷ ls) = responseText (rightResponse h (lineIn l)) ++ rightText (historyAfter h (lineIn l)) ls

@@ -1,7 +1,9 @@
 // Runs the calls of a text that comes in blocks, cut anywhere, and writes their answers.
-ghost use Prim.Native.Nat.{_≤_, _<_};
+ghost use mathlib.Core.Path.{_≡_};
+ghost use Prim.Native.Nat.{_+_, _≤_, _<_};
 ghost use lib.ListN.{length};
-ghost use Rattle.stream.specs.Feeding.{AnswersHeld, Feeds, Finishes};
+ghost use Rattle.callrun.specs.Running.{Scratch};
+ghost use Rattle.stream.specs.Feeding.{stateOf, answerHeld, partAt, partSize, feedPart, finishOf, answerCame, feedCame};
 use calls::Judge;
 use linebuffer::Held;
 
@@ -11,7 +13,8 @@ pub struct Answered {
     pub written: usize,
 }
 
-// The same after a part of a block, with what is kept of a line that goes on, and where the next part begins.
+// The same after a part of a block, with what is kept of a line that goes on, and where the next
+// part begins.
 pub struct Fed {
     pub judge: Judge,
     pub held: Held,
@@ -21,7 +24,8 @@ pub struct Fed {
 
 fn answer(judge: Judge, line: &[u8], held: Held, bytes: &mut [u8], out: &mut [u8]) -> Answered
     requires { ⌜ (131104 ≤ length (now line)) × (65537 ≤ length (now bytes)) × (64 ≤ length (now out)) ⌝ }
-    ensures { λ r. ⌜ AnswersHeld judge held (now (line .entry)) (now (out .entry)) (now (out .exit)) r ⌝ }
+    ensures { λ r. ⌜ answerCame r (now (line .entry)) (now (out .exit)) ≡ answerHeld (stateOf judge held (now (line .entry)) (now (out .entry))) ⌝ }
+    ensures scratch { λ r. ⌜ Scratch (now (bytes .entry)) (now (bytes .exit)) ⌝ }
 {
     let run = linebuffer::run_held(judge, line, held, bytes);
     let said = run.answer;
@@ -30,7 +34,8 @@ fn answer(judge: Judge, line: &[u8], held: Held, bytes: &mut [u8], out: &mut [u8
     Answered { judge, written }
 }
 
-// A part of a block: up to the next line feed, or to the block's end. `line` keeps the line, `bytes` is for the bytes that it carries.
+// A part of a block: up to the next line feed, or to the block's end. `line` keeps the line,
+// `bytes` is for the bytes that it carries.
 pub fn feed(
     judge: Judge,
     held: Held,
@@ -41,7 +46,9 @@ pub fn feed(
     at: usize,
 ) -> Fed
     requires { ⌜ (131104 ≤ length (now line)) × (65537 ≤ length (now bytes)) × (64 ≤ length (now out)) × (at < length (now block)) ⌝ }
-    ensures { λ r. ⌜ Feeds judge held (now (block .entry)) at (now (line .entry)) (now (line .exit)) (now (out .entry)) (now (out .exit)) r ⌝ }
+    ensures { λ r. ⌜ feedCame r (now (line .exit)) (now (out .exit)) ≡ feedPart (stateOf judge held (now (line .entry)) (now (out .entry))) (partAt (now (block .entry)) at) ⌝ }
+    ensures next { λ r. ⌜ r .at ≡ at + partSize (partAt (now (block .entry)) at) ⌝ }
+    ensures scratch { λ r. ⌜ Scratch (now (bytes .entry)) (now (bytes .exit)) ⌝ }
 {
     let end = lines::find(block, at, b'\n');
     let held = linebuffer::hold(line, held, &block[at..end]);
@@ -71,7 +78,8 @@ pub fn feed(
 // The end of the text.
 pub fn finish(judge: Judge, held: Held, line: &[u8], bytes: &mut [u8], out: &mut [u8]) -> Answered
     requires { ⌜ (131104 ≤ length (now line)) × (65537 ≤ length (now bytes)) × (64 ≤ length (now out)) ⌝ }
-    ensures { λ r. ⌜ Finishes judge held (now (line .entry)) (now (out .entry)) (now (out .exit)) r ⌝ }
+    ensures { λ r. ⌜ answerCame r (now (line .entry)) (now (out .exit)) ≡ finishOf (stateOf judge held (now (line .entry)) (now (out .entry))) ⌝ }
+    ensures scratch { λ r. ⌜ Scratch (now (bytes .entry)) (now (bytes .exit)) ⌝ }
 {
     if held.length == 0 {
         let written: usize = 0;

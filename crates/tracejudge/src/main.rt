@@ -1,13 +1,17 @@
-// Reads a list of calls from standard input, one a line, and prints an answer a line: `load HEX`, `open N`, `deliver P HEX`, `withdraw P`,
-// `verdict`. HEX is `-` for no bytes. An empty line starts again with a fresh judge. What a line means and how it is answered is proved in the
-// crates below; this program only reads and writes. What it prints is no promise, since the C library's `write` makes none: a test holds it.
+// Reads a list of calls from standard input, one a line, and prints an answer a line: `load HEX`,
+// `open N`, `deliver P HEX`, `withdraw P`, `verdict`. HEX is `-` for no bytes. An empty line
+// starts again with a fresh judge. What a line means and how it is answered is proved in the
+// crates below; this program only reads and writes. What it prints is no promise, since the C
+// library's `write` makes none: a test holds it.
 ghost use mathlib.Core.Path.{_≡_};
 ghost use mathlib.Core.Bool.{cond};
 ghost use Prim.Native.Nat.{_-_, _≤_, _<_};
 ghost use lib.Dec.{eqb};
 ghost use lib.ListN.{length};
 ghost use Rattle.io.specs.Counts.{Counts};
-ghost use Rattle.stream.specs.Texts.{FedBlock};
+ghost use Rattle.callrun.specs.Running.{Scratch};
+ghost use Rattle.stream.specs.Feeding.{stateOf, partsOf};
+ghost use Rattle.stream.specs.Texts.{feedParts};
 use calls::Judge;
 use libc::STDIN_FILENO;
 use libc::STDOUT_FILENO;
@@ -35,24 +39,32 @@ fn run_block(
     block: &[u8],
 ) -> Reading
     requires { ⌜ (131104 ≤ length (now line)) × (65537 ≤ length (now bytes)) × (64 ≤ length (now out)) ⌝ }
-    ensures { λ r. ⌜ FedBlock judge held (now (line .entry)) (now (block .entry)) (now (line .exit)) (r .judge) (r .held) ⌝ }
+    ensures { λ r. ⌜ stateOf (r .judge) (r .held) (now (line .exit)) (now (out .exit)) ≡ feedParts (stateOf judge held (now (line .entry)) (now (out .entry))) (partsOf (now (block .entry))) ⌝ }
+    ensures scratch { λ r. ⌜ Scratch (now (bytes .entry)) (now (bytes .exit)) ⌝ }
 {
-    let mut judge = judge;
-    let mut held = held;
+    let mut reading = Reading { judge, held };
     let mut at: usize = 0;
     while at < block.len() {
-        let fed = stream::feed(judge, held, line, bytes, out, block, at);
+        let fed = stream::feed(reading.judge, reading.held, line, bytes, out, block, at);
         let written = fed.written;
         io::write_all(STDOUT_FILENO, &out[..written]);
-        judge = fed.judge;
-        held = fed.held;
+        let judge = fed.judge;
+        let held = fed.held;
+        reading = Reading { judge, held };
         at = fed.at;
     }
-    Reading { judge, held }
+    reading
 }
 
-// A proved loop ends, and nothing says that the input does. So the turns are counted down, from a number that no run uses up; none is left at
-// the end of the input.
+// A proved loop ends, and nothing says that the input does. So the turns are counted down, from a
+// number that no run uses up.
+fn most_turns() -> u64
+    ensures { λ r. ⌜ r ≡ 18446744073709551615 ⌝ }
+{
+    u64::MAX
+}
+
+// None is left at the end of the input.
 fn turns_left(turns: u64, n: usize) -> u64
     requires { ⌜ 0 < turns ⌝ }
     ensures { λ r. ⌜ (r < turns) × (r ≡ cond (eqb n 0) 0 (turns - 1)) ⌝ }
@@ -68,7 +80,7 @@ fn run(line: &mut [u8], bytes: &mut [u8], out: &mut [u8], block: &mut [u8])
 {
     let mut judge = judge::new_judge();
     let mut held = linebuffer::nothing();
-    let mut turns = u64::MAX;
+    let mut turns = most_turns();
     while turns > 0 {
         let n = read_block(block);
         let reading = run_block(judge, held, line, bytes, out, &block[..n]);

@@ -1,6 +1,6 @@
 -- `hold` meets its contract. Assumes nothing.
 use borrow.Author.Needs.{needs}
-use Rattle.linebuffer.proofs.Kept.{kept-on, fits-prefix, fits-room}
+use Rattle.linebuffer.proofs.Kept.{fits-prefix, fits-room, holds-buffer, holds-held}
 use Rattle.linebuffer.proofs.hold.Statement.{statement}
 use Rattle.linebuffer.proofs.hold.Tie as tie
 
@@ -14,10 +14,10 @@ least-requires-2 : tie.Need-least-requires-2
 least-requires-2 c κs = search needs
 
 slice-aggregate-put-bytes : tie.Need-slice-aggregate-put-bytes
-slice-aggregate-put-bytes c = fits-prefix (c .before .before .before .before .before .before .args .buffer .now) _ _ _ (c .before .before .least2 .ensures)
+slice-aggregate-put-bytes c = search (needs, fits-prefix)
 
 put-bytes-requires : tie.Need-put-bytes-requires
-put-bytes-requires c κs = fits-room (c .before .before .before .before .before .before .args .buffer .now) _ _ _ (c .before .before .least2 .ensures) _ (c .before .before .before .least .ensures)
+put-bytes-requires c κs = search (needs, fits-room)
 
 sub-hex-with : tie.Need-sub-hex-with
 sub-hex-with c = search needs
@@ -41,7 +41,7 @@ same-length : tie.Need-same-length
 same-length c = search needs
 
 returns : tie.Need-returns
-returns c = λ w kept. kept-on _ _ w _ kept _ _ (c .before .before .before .before .before .before .before .before .before .least .ensures) (c .before .before .before .before .before .before .before .before .least2 .ensures) _ _ (c .before .before .before .before .before .put-bytes .ensures) _ (c .before .hex-with .ensures) _ (c .odd-with .ensures)
+returns c = search (needs, holds-held, holds-buffer)
 
 pub hold-spec : {M : Type 1} → statement M
 hold-spec =

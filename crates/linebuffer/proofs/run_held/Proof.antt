@@ -1,6 +1,6 @@
 -- `run_held` meets its contract. Assumes nothing.
 use borrow.Author.Needs.{needs}
-use Rattle.linebuffer.proofs.Standing.{stands-within, stands-prefix, held-runs, held-malformed}
+use Rattle.linebuffer.proofs.Standing.{stands-within, stands-prefix, held-call, held-stray}
 use Rattle.linebuffer.proofs.run_held.Statement.{statement}
 use Rattle.linebuffer.proofs.run_held.Tie as tie
 
@@ -32,13 +32,13 @@ same-length : tie.Need-same-length
 same-length c = search needs
 
 returns : tie.Need-returns
-returns c = λ w kept. held-runs _ _ w kept (c .before .before .before .before .before .before .before .before .before .before .before .before .pre .0) _ _ (c .before .before .before .before .before .before .before .before .before .least .ensures) (c .before .before .before .before .before .before .before .before .stands .ensures) _ (c .before .before .before .before .before .before .hex-with .ensures) _ _ _ (c .before .before .before .before .before .if1 .taken) (c .before .before .run-line .ensures)
+returns c = search (needs, held-call)
 
 run-malformed-requires : tie.Need-run-malformed-requires
 run-malformed-requires c κs = search needs
 
 returns-2 : tie.Need-returns-2
-returns-2 c = λ w kept. held-malformed _ _ w kept (c .before .before .before .before .before .before .before .before .pre .0) _ _ (c .before .before .before .before .before .least .ensures) (c .before .before .before .before .stands .ensures) _ (c .before .before .hex-with .ensures) _ _ _ (c .before .if1 .left) (c .run-malformed .ensures)
+returns-2 c = search (needs, held-stray)
 
 pub run-held-spec : {M : Type 1} → statement M
 run-held-spec =

@@ -51,7 +51,7 @@ returns : tie.Need-returns Inv-loop μ-loop
 returns c =
     let l = c .before .before .before .before .before .before .before .before .before .loop in
     let r = c .before .before .before .before .run-line in
-    going-wrong _ (l .judge) (l .line) (l .at) (l .inv .4) _ (c .before .before .before .before .before .before .before .before .loop-test .taken) (c .before .before .before .before .before .before .before .find .ensures) (r .result .judge) _ (r .ensures) (sym (c .before .is-malformed .ensures) ∙ c .if1 .taken) _ refl
+    (going-wrong _ (l .judge) (l .line) (l .at) (l .inv .4) _ (c .before .before .before .before .before .before .before .before .loop-test .taken) (c .before .before .before .before .before .before .before .find .ensures) (r .result) (r .ensures .0) (sym (c .before .is-malformed .ensures) ∙ c .if1 .taken) _ refl, search needs)
 
 past-requires : tie.Need-past-requires Inv-loop μ-loop
 past-requires c κs = search needs
@@ -76,7 +76,7 @@ loop-again c =
       omega (arith, c .past .ensures, here, from, to, l .inv),
       search needs,
       search needs,
-      going-on _ (l .judge) (l .line) (l .at) (l .inv .4) _ here find (r .result .judge) _ (r .ensures) (sym (c .before .before .before .is-malformed .ensures) ∙ c .before .before .if1 .left) _ (c .past .ensures),
+      going-on _ (l .judge) (l .line) (l .at) (l .inv .4) _ here find (r .result) (r .ensures .0) (sym (c .before .before .before .is-malformed .ensures) ∙ c .before .before .if1 .left) _ (c .past .ensures),
     )
 
 judged-requires : tie.Need-judged-requires Inv-loop μ-loop
@@ -91,7 +91,7 @@ same-length-2 c = search needs
 returns-2 : tie.Need-returns-2 Inv-loop μ-loop
 returns-2 c =
     let l = c .before .before .before .loop in
-    going-last _ (l .judge) (l .line) (l .at) (l .inv .4) (c .before .before .loop-test .left) _ (c .by-verdict .ensures ∙ ap verdict (c .before .judged .ensures))
+    (going-last _ (l .judge) (l .line) (l .at) (l .inv .4) (c .before .before .loop-test .left) _ (c .by-verdict .ensures ∙ ap verdict (c .before .judged .ensures)), search needs)
 
 pub replay-by-spec : {M : Type 1} → statement M
 replay-by-spec =

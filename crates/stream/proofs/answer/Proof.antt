@@ -1,6 +1,6 @@
 -- `answer` meets its contract. Assumes nothing.
 use borrow.Author.Needs.{needs}
-use Rattle.stream.proofs.Parts.{answered}
+use Rattle.stream.proofs.Calls.{answered}
 use Rattle.stream.proofs.answer.Statement.{statement}
 use Rattle.stream.proofs.answer.Tie as tie
 

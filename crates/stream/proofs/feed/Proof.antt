@@ -1,7 +1,7 @@
 -- `feed` meets its contract. Assumes nothing.
 use borrow.Author.Needs.{needs}
 use Rattle.lines.proofs.Parts.{part-to}
-use Rattle.stream.proofs.Parts.{fed-ended, fed-on}
+use Rattle.stream.proofs.Calls.{fed-ended, fed-on, next-ended, next-on}
 use Rattle.stream.proofs.feed.Statement.{statement}
 use Rattle.stream.proofs.feed.Tie as tie
 
@@ -39,13 +39,25 @@ same-length-3 : tie.Need-same-length-3
 same-length-3 c = search needs
 
 returns : tie.Need-returns
-returns c = fed-ended _ _ _ _ (c .before .before .before .before .before .before .before .before .before .before .before .before .before .before .before .before .before .before .before .before .before .pre .3) _ (c .before .before .before .before .before .before .before .before .before .before .before .before .before .before .before .before .find .ensures) _ _ _ _ (c .before .before .before .before .before .before .before .before .before .before .before .before .before .hold .ensures) (c .before .before .before .before .before .before .before .before .before .before .if1 .taken) _ _ (c .before .before .before .before .before .before .answer .ensures) _ (c .nothing .ensures)
+returns c =
+    let block = c .before .before .before .before .before .before .before .before .before .before .before .before .before .before .before .before .before .before .before .before .before .args .block .now in
+    let here = c .before .before .before .before .before .before .before .before .before .before .before .before .before .before .before .before .before .before .before .before .before .pre .3 in
+    let find = c .before .before .before .before .before .before .before .before .before .before .before .before .before .before .before .before .find .ensures in
+    let hold = c .before .before .before .before .before .before .before .before .before .before .before .before .before .hold .ensures in
+    let more = c .before .before .before .before .before .before .before .before .before .before .if1 .taken in
+    (fed-ended _ _ block _ here _ find _ _ _ _ (hold .0) (hold .1) more _ _ (c .before .before .before .before .before .before .answer .ensures .0) _ (c .nothing .ensures), (next-ended block _ here _ find more, search needs))
 
 same-length-4 : tie.Need-same-length-4
 same-length-4 c = search needs
 
 returns-2 : tie.Need-returns-2
-returns-2 c = search (needs, fed-on)
+returns-2 c =
+    let block = c .before .before .before .before .before .before .before .before .before .before .before .args .block .now in
+    let here = c .before .before .before .before .before .before .before .before .before .before .before .pre .3 in
+    let find = c .before .before .before .before .before .before .find .ensures in
+    let hold = c .before .before .before .hold .ensures in
+    let last = c .if1 .left in
+    (fed-on _ _ block _ here _ find _ _ _ _ (hold .0) (hold .1) last, (next-on block _ here _ find last, search needs))
 
 pub feed-spec : {M : Type 1} → statement M
 feed-spec =

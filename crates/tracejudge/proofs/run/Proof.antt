@@ -2,7 +2,8 @@
 use mathlib.Core.Path.{_≡_, refl}
 use borrow.Author.Needs.{needs}
 use lib.ListN.{length}
-use Rattle.stream.proofs.Parts.{room-prefix}
+use Rattle.stream.proofs.Calls.{room-prefix}
+use Rattle.stream.proofs.Turns.{end-room}
 use Rattle.tracejudge.proofs.run.Statement.{statement}
 use Rattle.tracejudge.proofs.run.Tie as tie
 
@@ -18,6 +19,9 @@ new-judge-requires c κs = search needs
 
 nothing-requires : tie.Need-nothing-requires Inv-loop μ-loop
 nothing-requires c κs = search needs
+
+most-turns-requires : tie.Need-most-turns-requires Inv-loop μ-loop
+most-turns-requires c κs = search needs
 
 loop-holds : tie.Need-loop-holds Inv-loop μ-loop
 loop-holds c = (refl, refl, refl, refl)
@@ -47,10 +51,10 @@ finish-requires : tie.Need-finish-requires Inv-loop μ-loop
 finish-requires c κs = search needs
 
 slice-reshare-prefix-write-all : tie.Need-slice-reshare-prefix-write-all Inv-loop μ-loop
-slice-reshare-prefix-write-all c = search needs
+slice-reshare-prefix-write-all c = search (needs, end-room)
 
 slice-aggregate-write-all : tie.Need-slice-aggregate-write-all Inv-loop μ-loop
-slice-aggregate-write-all c = search (needs, room-prefix)
+slice-aggregate-write-all c = search (needs, room-prefix, end-room)
 
 write-all-requires : tie.Need-write-all-requires Inv-loop μ-loop
 write-all-requires c κs = search needs
@@ -78,6 +82,7 @@ run-spec =
     μ-loop
     new-judge-requires
     nothing-requires
+    most-turns-requires
     loop-holds
     read-block-requires
     slice-reshare-prefix-run-block

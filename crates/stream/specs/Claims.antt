@@ -1,0 +1,70 @@
+-- Every text is answered right, however it is cut into blocks; proofs/Claimed.antt proves the
+-- claims.
+--
+--   Holds s w          the line's buffer is large enough, and it keeps w, the beginning of a line
+--                      that earlier parts brought
+--   linesEnded w ps    the lines that the parts end, where w is the beginning of the first
+--   lineBegun w ps     the beginning of the line that goes on behind them
+--   FirstPart block p  p is the first part of the block: it takes some of it, no more than there
+--                      is, and the others are the parts of the rest
+--   Feeds s w ps       feeding the parts ps to s: the lines that they end were run and answered,
+--                      and the beginning of the next is held
+--   InOut t            what is answered is within the buffer for it
+use mathlib.Core.Path.{_≡_}
+use mathlib.Core.List.{List, [], _∷_, _++_, flatten}
+use Prim.Native.Nat.{ℕ, _≤_, _<_}
+use lib.ListN.{length, drop}
+use Rattle.lines.specs.Splitting.{linesFrom, linesOf}
+use Rattle.calls.specs.Steps.{fresh}
+use Rattle.linebuffer.specs.Holding.{lineBegin}
+use Rattle.linebuffer.specs.Claims.{Keeps}
+use Rattle.stream.specs.Feeding.{State, Step, Part, ends, goesOn, stateOf, bytesOf, partsOf, firstOf, partSize, feedPart, finishOf}
+use Rattle.stream.specs.Texts.{linesStep, feedParts, partsText, streamOf, rightText}
+
+pub record Holds (s : State) (w : List ℕ) : Type 0 where
+  pub large : 131104 ≤ length (s .line)
+  pub keeps : Keeps (s .line) (s .held) w
+
+unfoldable pub linesEnded : List ℕ → List Part → List (List ℕ)
+linesEnded w [] = []
+linesEnded w (ends p ∷ ps) = (w ++ p) ∷ linesEnded [] ps
+linesEnded w (goesOn p ∷ ps) = linesEnded (w ++ p) ps
+
+unfoldable pub lineBegun : List ℕ → List Part → List ℕ
+lineBegun w [] = w
+lineBegun w (ends p ∷ ps) = lineBegun [] ps
+lineBegun w (goesOn p ∷ ps) = lineBegun (w ++ p) ps
+
+pub record FirstPart (block : List ℕ) (p : Part) : Type 0 where
+  pub forward : 0 < partSize p
+  pub within : partSize p ≤ length block
+  pub rest : partsOf block ≡ p ∷ partsOf (drop (partSize p) block)
+
+pub record Feeds (s : State) (w : List ℕ) (ps : List Part) : Type 0 where
+  pub ran : record { text = partsText s ps; leaves = feedParts s ps .judge } ≡ linesStep (s .judge) (linesEnded w ps)
+  pub holds : Holds (feedParts s ps) (lineBegun w ps)
+
+abbrev pub InOut : Step → Type 0
+InOut t = t .written ≤ length (t .leaves .out)
+
+pub record Claims : Type 0 where
+  -- a block is its parts, and the lines of a text are those that the parts of a block end, and
+  -- those of what follows; `more` is what later blocks bring
+  pub first : (block : List ℕ) → 0 < length block → FirstPart block (firstOf (partsOf block))
+  pub split : (block w more : List ℕ) → linesFrom w (block ++ more) ≡ linesEnded w (partsOf block) ++ linesFrom (lineBegun w (partsOf block)) more
+  pub fed-room : (s : State) (p : Part) → InOut (feedPart s p)
+  pub finished-room : (s : State) → InOut (finishOf s)
+  -- the parts of a block, or any others, and the end of the text
+  pub feeds : (ps : List Part) (s : State) (w : List ℕ) → Holds s w → Feeds s w ps
+  pub finishes : (s : State) (w : List ℕ) → Holds s w
+      → record { text = bytesOf (finishOf s); leaves = finishOf s .leaves .judge } ≡ linesStep (s .judge) (linesFrom w [])
+  -- blocks from a fresh judge on, and then the end: the lines of the whole text were run, however
+  -- it was cut
+  pub whole : (blocks : List (List ℕ)) (line out : List ℕ) → 131104 ≤ length line
+      → streamOf (stateOf fresh lineBegin line out) blocks ≡ linesStep fresh (linesOf (flatten blocks))
+  -- every answer is the right one after the calls before it
+  pub right : (ls : List (List ℕ)) → linesStep fresh ls .text ≡ rightText [] ls
+  -- BOTH IN ONE: what is answered to the blocks, fed one after the other, and to the end is right
+  -- for the lines of the blocks joined
+  pub answered : (blocks : List (List ℕ)) (line out : List ℕ) → 131104 ≤ length line
+      → streamOf (stateOf fresh lineBegin line out) blocks .text ≡ rightText [] (linesOf (flatten blocks))
