@@ -13,33 +13,38 @@
 --
 -- A list of calls has the last call first. A proved function ends and stays within its bounds, and
 -- none that a customer calls has a `requires`. Assumes nothing.
-use mathlib.Core.Path.{_≡_, ap}
-use mathlib.Core.Logic.{_↔_, _⊎_}
+use mathlib.Core.Path.{_≡_}
+use mathlib.Core.Logic.{_↔_}
 use mathlib.Core.Bool.{true, false}
-use mathlib.Core.List.{List, flatten}
-use mathlib.Core.Option.{none, some}
+use mathlib.Core.List.{List, [], flatten}
+use mathlib.Core.Option.{none}
 use Prim.Native.Nat.{ℕ, _*_, _≤_, _<_}
 use lib.ListN.{length, getD}
+use Rattle.masks.specs.Masks.{shares}
 use Rattle.executions.specs.Executions.{Execution}
 use Rattle.executions.proofs.Executions.{execution-law}
 use Rattle.automaton.specs.Automaton.{Accepts}
+use Rattle.automaton.specs.Successor.{after}
 use Rattle.ruleformat.specs.Reader.{ruleOf}
 use Rattle.ruleformat.specs.Language.{automatonIn}
 use Rattle.subsets.specs.Claims.{Ordered, sets}
+use Rattle.subsets.proofs.Claims as subsets
+use Rattle.delegates.specs.Claims.{startsIn}
 use Rattle.build.specs.Building.{builtOf}
-use Rattle.board.specs.Boards.{held, isEmpty}
+use Rattle.board.specs.Boards.{held, isEmpty, summedCount}
 use Rattle.calls.specs.declared.Judge.{Judge}
-use Rattle.calls.specs.Replies.{Reply, accepted, waiting, keeps, breaks, refused}
-use Rattle.calls.specs.Calls.{Call, opens, delivers, withdraws, loadNumber}
+use Rattle.calls.specs.Replies.{Reply, waiting, keeps, breaks, refused}
+use Rattle.calls.specs.Calls.{Call, loadNumber}
 use Rattle.calls.specs.Steps.{fresh, isYes, stepOf}
-use Rattle.calls.proofs.Refusing as calls
-use Rattle.histories.specs.History.{isNone, fileOf, ruleIn, boardIn, placesIn, standing, chunkOf, endAt, countAt, emptiesIn, summedIn, yesIn, textIn, verdictIn, answersTo}
+use Rattle.calls.proofs.Refusing as refusing
+use Rattle.histories.specs.History.{isNone, fileOf, ruleIn, boardIn, standing, chunkOf, endAt, countAt, emptiesIn, summedIn, yesIn, textIn, verdictIn, answersTo}
 use Rattle.histories.specs.Method.{Method}
-use Rattle.histories.specs.Claims.{judgeMachine, judgeAfter, repliesTo, EveryList, automatonBy, startsOf, Accepted-exactly}
+use Rattle.histories.specs.Claims.{judgeMachine, judgeAfter, repliesTo, EveryList, automatonBy, Accepted-exactly}
 use Rattle.histories.specs.Functions.{judgeLibrary}
 use Rattle.histories.specs.TableP.{TableP}
 use Rattle.histories.proofs.Every.{every-list}
-use Rattle.histories.proofs.Method as histories
+use Rattle.histories.proofs.Listed.{accepted-rule}
+use Rattle.histories.proofs.Method as histories-method
 use Rattle.histories.proofs.Taken as histories-taken
 use Rattle.histories.proofs.Allowed.{judge-meets}
 use Rattle.histories.proofs.TableP as histories-table
@@ -48,7 +53,9 @@ use Rattle.linebuffer.specs.Holding.{lineBegin}
 use Rattle.stream.specs.Feeding.{stateOf}
 use Rattle.stream.specs.Texts.{streamOf, rightText}
 use Rattle.stream.proofs.Claimed as stream
-use Rattle.replay.specs.Records.{Recorded, recordIn, replayOf}
+use Rattle.replay.specs.Records.{calls, recordIn, replayOf}
+use Rattle.replay.specs.Claims.{AllFit, recordOf}
+use Rattle.replay.proofs.Again as replay
 use Rattle.capi.specs.declared.ReplayResult.{ReplayResult}
 use Rattle.capi.specs.Numbers.{replayShown}
 use Rattle.demands.specs.Functions.{cLibrary, MayReplay}
@@ -67,4 +74,101 @@ any-call-from-C = c-meets .steps
 -- A refusal carries its number and leaves the state unchanged. (Each lent buffer too: a file and a
 -- chunk are lent as `&[u8]`, which no function can write.)
 pub refusals : (j : Judge) (c : Call) (x : ℕ) → stepOf j c .says ≡ refused x → stepOf j c .leaves ≡ j
-refusals = calls.unchanged
+refusals = refusing.unchanged
+
+-- ---- 2. THE METHOD
+-- The sets, next-set table and merged starts are those of source document 004: of the automaton in
+-- the bytes of each file that a load accepts (and nothing else would be, `one-list` of delegates).
+pub method : (f : List ℕ) → loadNumber f ≡ none → Method f (builtOf (ruleOf f))
+method = histories-method.method
+
+-- Sets are numbered in document 01's order: by their first states, and then by their first texts.
+pub order : (f : List ℕ) → loadNumber f ≡ none → Ordered (ruleOf f) (sets (ruleOf f))
+order f e = let a = accepted-rule f e in subsets.claims .ordered (ruleOf f) (a .0) (a .1)
+
+-- A text is accepted exactly when the automaton of source document 000 has an accepting run over it.
+pub acceptance : (f : List ℕ) → loadNumber f ≡ none → (w : List ℕ)
+    → Accepts (automatonIn f) w ↔ (shares (after (ruleOf f .targets) (ruleOf f .initials) w) (ruleOf f .finals) ≡ true)
+acceptance = histories-method.acceptance
+
+-- ---- 3. EVERY LIST OF CALLS
+-- For every list of calls from a fresh judge, refused ones included: what the functions' own
+-- contracts allow is what the definitions give, and that they allow. Of the judge's functions, and
+-- of those that C links:
+pub every-execution : (h : List Call) (rs : List Reply) (j : Judge) → Execution judgeLibrary h rs j ↔ (rs ≡ repliesTo h) × (j ≡ judgeAfter h)
+every-execution = execution-law judgeLibrary judgeMachine judge-meets
+
+pub every-execution-from-C : (h : List Call) (rs : List Reply) (j : Judge) → Execution cLibrary h rs j ↔ (rs ≡ repliesTo h) × (j ≡ judgeAfter h)
+every-execution-from-C = execution-law cLibrary judgeMachine c-meets
+
+-- One claim over the whole list; its parts follow, each with its sentence.
+pub one-claim : (h : List Call) → EveryList h
+one-claim = every-list
+
+-- Each reply, the verdict's among them, is document 01's after the calls before it, ..
+pub replies : (h : List Call) → repliesTo h ≡ answersTo h
+replies h = every-list h .all-right
+
+-- .. and a call is accepted exactly when none of its conditions holds.
+pub accepted-exactly : (h : List Call) → Accepted-exactly h
+accepted-exactly = histories-taken.accepted-exactly
+
+-- The verdict: refused with 21 unless the last accepted load or opening is an opening;
+pub refused-21 : (h : List Call) → (verdictIn h ≡ refused 21) ↔ (boardIn h ≡ false)
+refused-21 h = every-list h .verdict .none-there
+
+-- waiting with the number of empty places exactly when one is empty;
+pub waits : (h : List Call) (e : ℕ) → (verdictIn h ≡ waiting e) ↔ ((boardIn h ≡ true) × (0 < e) × (e ≡ emptiesIn h))
+waits h = every-list h .verdict .waits
+
+-- else yes exactly when the last accepted rule has an accepting run over the standing chunks joined
+-- by place, and no when it has none.
+pub accepted-texts : (h : List Call) → boardIn h ≡ true → emptiesIn h ≡ 0
+    → (verdictIn h ≡ keeps (summedIn h)) ↔ Accepts (automatonBy (fileOf h)) (textIn h)
+accepted-texts h = every-list h .verdict .accepts
+
+pub rejected-texts : (h : List Call) → boardIn h ≡ true → emptiesIn h ≡ 0
+    → (verdictIn h ≡ breaks (summedIn h)) ↔ (Accepts (automatonBy (fileOf h)) (textIn h) → ⊥)
+rejected-texts h = every-list h .verdict .rejects
+
+-- Each place with a standing chunk holds the end sets and the count that 01 gives, any other none:
+pub empties : (h : List Call) (p : ℕ) → p < 64 → isEmpty (judgeAfter h .board) p ≡ isNone (standing h p)
+empties h = every-list h .after .empty
+
+pub ends : (h : List Call) (p q : ℕ) → p < 64 → q < 32 → held (judgeAfter h .board) p q ≡ endAt h p q
+ends h = every-list h .after .ends
+
+pub counts : (h : List Call) (p : ℕ) → p < 64 → getD (judgeAfter h .board .counts) p 0 ≡ countAt h p
+counts h = every-list h .after .counts
+
+-- the yes or no is 01's join of them;
+pub joined : (h : List Call) → boardIn h ≡ true → isYes (judgeAfter h) ≡ yesIn h
+joined h = every-list h .after .joined
+
+-- the count is the sum of those counts and at most merged starts times bytes, as at each place.
+pub summed : (h : List Call) → summedCount (judgeAfter h .board) ≡ summedIn h
+summed h = every-list h .after .summed
+
+pub most : (h : List Call) → summedIn h ≤ startsIn (ruleIn h) .count * length (textIn h)
+most h = every-list h .verdict .most
+
+pub place-most : (h : List Call) (p : ℕ) → countAt h p ≤ startsIn (ruleIn h) .count * length (chunkOf (standing h p))
+place-most h = every-list h .verdict .place-most
+
+-- Table P, over one list of cases, through the calls.
+pub table-P : TableP
+table-P = histories-table.table-P
+
+-- ---- CALLS AS TEXT
+-- The answers to a text of calls are right line by line, however it is cut into blocks.
+pub texts : (blocks : List (List ℕ)) (line out : List ℕ) → 131104 ≤ length line
+    → streamOf (stateOf fresh lineBegin line out) blocks .text ≡ rightText [] (linesOf (flatten blocks))
+texts = stream.claims .answered
+
+-- What C is given for a recorded list is the verdict after it, or its first malformed line; and
+-- every list of calls has a record.
+pub replayed : (text : List ℕ) (r : ReplayResult) → MayReplay text r ↔ r ≡ replayShown (replayOf (recordIn text))
+replayed = replay-fixed
+
+pub records : (h : List Call) → AllFit h → recordIn (recordOf h) ≡ calls h
+records = replay.claims .record-again

@@ -1,6 +1,7 @@
 -- The library of the functions that C links meets the judge's definitions: a contract fixes every number of a result, and what the numbers say can be
 -- read back. Assumes nothing.
 use mathlib.Core.Path.{_≡_, refl, sym, ap, _∙_}
+use mathlib.Core.Logic.{_↔_}
 use mathlib.Core.List.{List, []}
 use Prim.Native.Nat.{ℕ}
 use denote.Ref.{RefT}
@@ -11,9 +12,11 @@ use Rattle.calls.specs.Calls.{Call, loads, opens, delivers, withdraws, asks}
 use Rattle.calls.specs.Steps.{loadOf, openOf, deliverOf, withdrawOf, verdictOf, stepOf}
 use Rattle.histories.specs.Claims.{judgeMachine}
 use Rattle.histories.proofs.Allowed.{lent, parts, whole}
-use Rattle.capi.specs.Numbers.{loadShown, openShown, deliverShown, withdrawShown, verdictShown, loadTold, openTold, deliverTold, withdrawTold, verdictTold}
+use Rattle.replay.specs.Records.{recordIn, replayOf}
+use Rattle.capi.specs.declared.ReplayResult.{ReplayResult}
+use Rattle.capi.specs.Numbers.{replayShown, loadShown, openShown, deliverShown, withdrawShown, verdictShown, loadTold, openTold, deliverTold, withdrawTold, verdictTold}
 use Rattle.capi.proofs.ReadBack as capi
-use Rattle.demands.specs.Functions.{MayStep, cLibrary}
+use Rattle.demands.specs.Functions.{MayStep, MayReplay, cLibrary}
 
 step-to : (j : Judge) (c : Call) (a : Reply) (next : Judge) → MayStep j c a next → (a ≡ stepOf j c .says) × (next ≡ stepOf j c .leaves)
 step-to j (loads f) a next m =
@@ -43,3 +46,10 @@ c-meets = record {
   begins = λ j. ((λ m. m .1), λ e. (tt, e));
   steps = λ j c a next. (step-to j c a next, step-back j c a next);
 }
+
+-- what a recorded list comes to is fixed too
+pub replay-fixed : (text : List ℕ) (r : ReplayResult) → MayReplay text r ↔ r ≡ replayShown (replayOf (recordIn text))
+replay-fixed text r = (
+  (λ m. m .4 ∙ ap (λ (x : List ℕ). replayShown (replayOf (recordIn x))) (m .3)),
+  λ e. (([], tt), lent text, (lent text, tt), refl, e),
+)

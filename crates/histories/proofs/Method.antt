@@ -4,7 +4,7 @@
 -- the states that a run leads to, and from there to the bytes, which state the same arcs.
 use mathlib.Core.Path.{_≡_, refl, sym, ap, _∙_, subst}
 use mathlib.Core.Logic.{_↔_, _⊎_, inl, inr}
-use mathlib.Core.Bool.{false}
+use mathlib.Core.Bool.{true, false}
 use mathlib.Core.List.{List}
 use mathlib.Core.Option.{none}
 use Prim.Native.Nat.{ℕ, _≤_, _<_}
@@ -13,10 +13,10 @@ use lib.Dec.{eqb}
 use lib.ListN.{length, getD}
 use lib.Pow.{pow-lt}
 use borrow.Author.Tests.{eqb-true, eqb-false, ltb-false}
-use Rattle.masks.specs.Masks.{_∈_, single}
+use Rattle.masks.specs.Masks.{_∈_, single, shares}
 use Rattle.masks.proofs.Cases.{by-test}
 use Rattle.masks.proofs.Claims as masks
-use Rattle.automaton.specs.Automaton.{Automaton, Arc, Run}
+use Rattle.automaton.specs.Automaton.{Automaton, Arc, Run, Accepts}
 use Rattle.automaton.specs.Rules.{automatonOf, WellFormed}
 use Rattle.automaton.specs.Successor.{successor, after}
 use Rattle.automaton.proofs.Laws.{run-map}
@@ -134,3 +134,7 @@ module _ (f : List ℕ) (e : loadNumber f ≡ none) where
     delegates =
         of-rule f (not-refused f e .0) (built .delegates) (built .starts) (build.claims .delegates (ruleOf f) good fit);
   }
+
+  -- a text is accepted exactly when a final state is in the successor of the set of initial states by it
+  pub acceptance : (w : List ℕ) → Accepts (automatonIn f) w ↔ (shares (after (ruleOf f .targets) (ruleOf f .initials) w) (ruleOf f .finals) ≡ true)
+  acceptance w = both (rulefile.claims .language f (not-refused f e .0) w) (automaton.claims .accepts-law (ruleOf f) good w)
