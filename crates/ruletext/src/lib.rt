@@ -5,7 +5,7 @@ ghost use lib.ListN.{length, getD};
 ghost use Rattle.text.specs.Numerals.{joined};
 ghost use Rattle.text.specs.Writing.{Wrote};
 ghost use Rattle.ruletext.specs.RuleText.{field, cellText, rowText, setLine, headLine, delegatesLine, ruleText, refusedText, textOf};
-ghost use Rattle.ruletext.specs.Printing.{Prints, textFor};
+ghost use Rattle.ruletext.specs.Printing.{Prints, textFor, mostBytes};
 use build::BuildAnswer;
 use build::Building;
 use build::Built;
@@ -159,8 +159,8 @@ fn at_most(x: usize, most: usize) -> usize
 
 // The text of a built rule, from the start.
 fn put_rule(out: &mut [u8], built: Built) -> usize
-    requires { ⌜ 39582 ≤ length (now out) ⌝ }
-    ensures { λ r. ⌜ (Wrote (now (out .entry)) 0 (ruleText built) (now (out .exit)) r) × (r ≤ 39582) ⌝ }
+    requires { ⌜ mostBytes ≤ length (now out) ⌝ }
+    ensures { λ r. ⌜ (Wrote (now (out .entry)) 0 (ruleText built) (now (out .exit)) r) × (r ≤ mostBytes) ⌝ }
 {
     let count = at_most(built.count as usize, 512);
     let k = at_most(built.k as usize, 16);
@@ -222,5 +222,17 @@ pub fn print_rule(file: &[u8], out: &mut [u8]) -> Printed
     match answer {
         ReadAnswer::Accepted => print_building(build::build_rule(rule), out),
         ReadAnswer::Refused(number) => print_refused(number, out),
+    }
+}
+
+// The same into a buffer that has room for the text of any file: the whole text is written, whatever the file.
+pub fn print_whole(file: &[u8], out: &mut [u8]) -> usize
+    requires { ⌜ mostBytes ≤ length (now out) ⌝ }
+    ensures { λ r. ⌜ Wrote (now (out .entry)) 0 (textFor (now (file .entry))) (now (out .exit)) r ⌝ }
+{
+    let printed = print_rule(file, out);
+    match printed {
+        Printed::Bytes(length) => length,
+        Printed::Short => 0,
     }
 }
