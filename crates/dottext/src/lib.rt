@@ -5,7 +5,7 @@ ghost use lib.ListN.{length};
 ghost use Rattle.text.specs.Numerals.{decimal, joined};
 ghost use Rattle.text.specs.Writing.{Wrote};
 ghost use Rattle.ruletext.specs.Printing.{Prints};
-ghost use Rattle.dottext.specs.DotText.{headLines, stateLine, arrow, pointLine, entryLine, initialLines, arcLine, arcLines, arcsFrom, arcsText, dotText, textFor};
+ghost use Rattle.dottext.specs.DotText.{headLines, stateLine, arrow, pointLine, entryLine, initialLines, arcLine, arcLines, arcsFrom, arcsText, dotText, textFor, mostBytes};
 ghost use Rattle.automaton.specs.Rules.{targetMask};
 use automaton::Rule;
 use masks::StateNumber;
@@ -199,8 +199,8 @@ fn put_arcs(out: &mut [u8], start: usize, targets: &[u32; 512], n: u8, k: u8) ->
 
 // The text of a rule, from the start.
 fn put_dot(out: &mut [u8], rule: Rule) -> usize
-    requires { ⌜ 427922 ≤ length (now out) ⌝ }
-    ensures { λ r. ⌜ (Wrote (now (out .entry)) 0 (dotText rule) (now (out .exit)) r) × (r ≤ 427922) ⌝ }
+    requires { ⌜ mostBytes ≤ length (now out) ⌝ }
+    ensures { λ r. ⌜ (Wrote (now (out .entry)) 0 (dotText rule) (now (out .exit)) r) × (r ≤ mostBytes) ⌝ }
 {
     let n = masks::at_most(rule.n, 32);
     let k = masks::at_most(rule.k, 16);
@@ -230,5 +230,17 @@ pub fn print_dot(file: &[u8], out: &mut [u8]) -> Printed
     match answer {
         ReadAnswer::Accepted => print_automaton(rule, out),
         ReadAnswer::Refused(number) => ruletext::print_refused(number, out),
+    }
+}
+
+// The same into a buffer that has room for the text of any file: the whole text is written, whatever the file.
+pub fn print_whole(file: &[u8], out: &mut [u8]) -> usize
+    requires { ⌜ mostBytes ≤ length (now out) ⌝ }
+    ensures { λ r. ⌜ Wrote (now (out .entry)) 0 (textFor (now (file .entry))) (now (out .exit)) r ⌝ }
+{
+    let printed = print_dot(file, out);
+    match printed {
+        Printed::Bytes(length) => length,
+        Printed::Short => 0,
     }
 }
