@@ -1,11 +1,14 @@
--- How long the parts of the text are at most. A number that is printed is below 1,000. Assumes nothing.
+-- How long the parts of the text are at most. A number that is printed is below 1,000.
+-- Assumes nothing.
 --
 --   number-most     3
 --   arrow-most      10
 --   state-most      26
 --   initial-most    33
 --   arc-most        26
---   by-most, from-most, arcs-most   832 for a state and a symbol, 13,312 for a state, 425,984 for all arcs
+--   by-most         832 for the arcs of a state and a symbol
+--   from-most       13,312 for those of a state
+--   arcs-most       425,984 for all
 --   dot-most        427,922
 use mathlib.Core.List.{List, [], _++_}
 use Prim.Native.Nat.{ℕ, _+_, _*_, _≤_, _<_, min}

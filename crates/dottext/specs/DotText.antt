@@ -5,7 +5,7 @@
 --                   target; and `}`
 --   textFor f       that of the rule in the file f, or `refused` and the number, 1 to 8, with which the reader refuses the file. A rule of over
 --                   512 sets is drawn: no set is numbered for it
---   mostBytes       a buffer of so many bytes has room for the text of any file (specs/Claims.antt)
+--   mostBytes       so many bytes have room for the text of any file (specs/Claims.antt)
 use mathlib.Core.Bool.{cond}
 use mathlib.Core.List.{List, [], _++_}
 use mathlib.Core.Option.{Option, none, some}

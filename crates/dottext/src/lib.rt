@@ -233,14 +233,14 @@ pub fn print_dot(file: &[u8], out: &mut [u8]) -> Printed
     }
 }
 
-// The same into a buffer that has room for the text of any file: the whole text is written, whatever the file.
+// The same into a buffer that has room for the text of any file. The whole text is written.
 pub fn print_whole(file: &[u8], out: &mut [u8]) -> usize
     requires { ⌜ mostBytes ≤ length (now out) ⌝ }
     ensures { λ r. ⌜ Wrote (now (out .entry)) 0 (textFor (now (file .entry))) (now (out .exit)) r ⌝ }
 {
     let printed = print_dot(file, out);
     match printed {
-        Printed::Bytes(length) => length,
+        Printed::Bytes(written) => written,
         Printed::Short => 0,
     }
 }

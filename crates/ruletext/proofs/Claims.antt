@@ -1,5 +1,6 @@
--- The proof of all that specs/Claims.antt claims. A file is refused with a number below 10. A rule that is built is well formed: its number of
--- starts and each delegate are at most its number of states, which is at most 32. Assumes nothing.
+-- The proof of all that specs/Claims.antt claims. A file is refused with a number below 10. A rule
+-- that is built is well formed: it has at most 32 states, no more starts than states, and each
+-- delegate is a state. Assumes nothing.
 --
 --   low           the number with which a file is refused
 --   few-starts    M is at most the number of states

@@ -3,7 +3,8 @@
 --   too-short   nothing is written
 --   copied      the text is written from the start
 --   within      the length that an answer tells is within the buffer
---   all-written, not-short   into a buffer with room for it the whole text is written, and the answer is never that there is none
+--   all-written into a buffer with room for it the whole text is written
+--   not-short   and the answer is never that there is none
 --   whole       a rule's text is its first line, its sets' lines and its last line
 use mathlib.Core.Path.{_≡_, sym, ap, _∙_}
 use mathlib.Core.Bool.{cond}
