@@ -5,6 +5,7 @@
 --                   target; and `}`
 --   textFor f       that of the rule in the file f, or `refused` and the number, 1 to 8, with which the reader refuses the file. A rule of over
 --                   512 sets is drawn: no set is numbered for it
+--   mostBytes       so many bytes have room for the text of any file (specs/Claims.antt)
 use mathlib.Core.Bool.{cond}
 use mathlib.Core.List.{List, [], _++_}
 use mathlib.Core.Option.{Option, none, some}
@@ -80,3 +81,7 @@ textBy (some number) r = refusedText number
 
 abbrev pub textFor : List ℕ → List ℕ
 textFor f = textBy (refusal f) (ruleOf f)
+
+-- 48 for the head, 26 and 33 for each of 32 states, 26 for each of 16,384 arcs, 2 for the last line
+abbrev pub mostBytes : ℕ
+mostBytes = 427922

@@ -1,3 +1,4 @@
 -- In the order in which to read them.
 pub mod Words
 pub mod DotText
+pub mod Claims

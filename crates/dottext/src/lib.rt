@@ -5,7 +5,7 @@ ghost use lib.ListN.{length};
 ghost use Rattle.text.specs.Numerals.{decimal, joined};
 ghost use Rattle.text.specs.Writing.{Wrote};
 ghost use Rattle.ruletext.specs.Printing.{Prints};
-ghost use Rattle.dottext.specs.DotText.{headLines, stateLine, arrow, pointLine, entryLine, initialLines, arcLine, arcLines, arcsFrom, arcsText, dotText, textFor};
+ghost use Rattle.dottext.specs.DotText.{headLines, stateLine, arrow, pointLine, entryLine, initialLines, arcLine, arcLines, arcsFrom, arcsText, dotText, textFor, mostBytes};
 ghost use Rattle.automaton.specs.Rules.{targetMask};
 use automaton::Rule;
 use masks::StateNumber;
@@ -29,12 +29,12 @@ fn put_head(out: &mut [u8], at: usize) -> usize
 }
 
 // The line of state q.
-fn put_state(out: &mut [u8], at: usize, finals: u32, q: u8) -> usize
-    requires { ⌜ (q < 32) × (at + 26 ≤ length (now out)) ⌝ }
-    ensures { λ r. ⌜ (Wrote (now (out .entry)) at (stateLine finals q) (now (out .exit)) r) × (r ≤ at + 26) ⌝ }
+fn put_state(out: &mut [u8], at: usize, finals: u32, q: StateNumber) -> usize
+    requires { ⌜ (q .0 < 32) × (at + 26 ≤ length (now out)) ⌝ }
+    ensures { λ r. ⌜ (Wrote (now (out .entry)) at (stateLine finals (q .0)) (now (out .exit)) r) × (r ≤ at + 26) ⌝ }
 {
-    let a = put_number(out, at, q);
-    if masks::member(finals, StateNumber(q)) {
+    let a = put_number(out, at, q.0);
+    if masks::member(finals, q) {
         text::put_bytes(out, a, b" [shape=doublecircle];\n")
     } else {
         text::put_bytes(out, a, b";\n")
@@ -49,33 +49,34 @@ fn put_states(out: &mut [u8], start: usize, finals: u32, n: u8) -> usize
     let mut at = start;
     let mut q: u8 = 0;
     while q < n {
-        at = put_state(out, at, finals, q);
+        at = put_state(out, at, finals, StateNumber(q));
         q += 1;
     }
     at
 }
 
-fn put_arrow(out: &mut [u8], at: usize, q: u8, t: u8) -> usize
+// From state q to state t.
+fn put_arrow(out: &mut [u8], at: usize, q: StateNumber, t: StateNumber) -> usize
     requires { ⌜ at + 10 ≤ length (now out) ⌝ }
-    ensures { λ r. ⌜ (Wrote (now (out .entry)) at (arrow q t) (now (out .exit)) r) × (r ≤ at + 10) ⌝ }
+    ensures { λ r. ⌜ (Wrote (now (out .entry)) at (arrow (q .0) (t .0)) (now (out .exit)) r) × (r ≤ at + 10) ⌝ }
 {
-    let a = put_number(out, at, q);
+    let a = put_number(out, at, q.0);
     let b = text::put_bytes(out, a, b" -> ");
-    put_number(out, b, t)
+    put_number(out, b, t.0)
 }
 
-fn put_point(out: &mut [u8], at: usize, q: u8) -> usize
+fn put_point(out: &mut [u8], at: usize, q: StateNumber) -> usize
     requires { ⌜ at + 20 ≤ length (now out) ⌝ }
-    ensures { λ r. ⌜ (Wrote (now (out .entry)) at (pointLine q) (now (out .exit)) r) × (r ≤ at + 20) ⌝ }
+    ensures { λ r. ⌜ (Wrote (now (out .entry)) at (pointLine (q .0)) (now (out .exit)) r) × (r ≤ at + 20) ⌝ }
 {
     let a = text::put_byte(out, at, b'i');
-    let b = put_number(out, a, q);
+    let b = put_number(out, a, q.0);
     text::put_bytes(out, b, b" [shape=point];\n")
 }
 
-fn put_entry(out: &mut [u8], at: usize, q: u8) -> usize
+fn put_entry(out: &mut [u8], at: usize, q: StateNumber) -> usize
     requires { ⌜ at + 13 ≤ length (now out) ⌝ }
-    ensures { λ r. ⌜ (Wrote (now (out .entry)) at (entryLine q) (now (out .exit)) r) × (r ≤ at + 13) ⌝ }
+    ensures { λ r. ⌜ (Wrote (now (out .entry)) at (entryLine (q .0)) (now (out .exit)) r) × (r ≤ at + 13) ⌝ }
 {
     let a = text::put_byte(out, at, b'i');
     let b = put_arrow(out, a, q, q);
@@ -83,11 +84,11 @@ fn put_entry(out: &mut [u8], at: usize, q: u8) -> usize
 }
 
 // The two lines of an initial state, nothing for another.
-fn put_initial(out: &mut [u8], at: usize, initials: u32, q: u8) -> usize
-    requires { ⌜ (q < 32) × (at + 33 ≤ length (now out)) ⌝ }
-    ensures { λ r. ⌜ (Wrote (now (out .entry)) at (initialLines initials q) (now (out .exit)) r) × (r ≤ at + 33) ⌝ }
+fn put_initial(out: &mut [u8], at: usize, initials: u32, q: StateNumber) -> usize
+    requires { ⌜ (q .0 < 32) × (at + 33 ≤ length (now out)) ⌝ }
+    ensures { λ r. ⌜ (Wrote (now (out .entry)) at (initialLines initials (q .0)) (now (out .exit)) r) × (r ≤ at + 33) ⌝ }
 {
-    if masks::member(initials, StateNumber(q)) {
+    if masks::member(initials, q) {
         let a = put_point(out, at, q);
         put_entry(out, a, q)
     } else {
@@ -103,15 +104,16 @@ fn put_initials(out: &mut [u8], start: usize, initials: u32, n: u8) -> usize
     let mut at = start;
     let mut q: u8 = 0;
     while q < n {
-        at = put_initial(out, at, initials, q);
+        at = put_initial(out, at, initials, StateNumber(q));
         q += 1;
     }
     at
 }
 
-fn put_arc(out: &mut [u8], at: usize, q: u8, s: u8, t: u8) -> usize
+// The line of the arc from q by s to t.
+fn put_arc(out: &mut [u8], at: usize, q: StateNumber, s: u8, t: StateNumber) -> usize
     requires { ⌜ at + 26 ≤ length (now out) ⌝ }
-    ensures { λ r. ⌜ (Wrote (now (out .entry)) at (arcLine q s t) (now (out .exit)) r) × (r ≤ at + 26) ⌝ }
+    ensures { λ r. ⌜ (Wrote (now (out .entry)) at (arcLine (q .0) s (t .0)) (now (out .exit)) r) × (r ≤ at + 26) ⌝ }
 {
     let a = put_arrow(out, at, q, t);
     let b = text::put_bytes(out, a, b" [label=\"");
@@ -120,11 +122,18 @@ fn put_arc(out: &mut [u8], at: usize, q: u8, s: u8, t: u8) -> usize
 }
 
 // The line of an arc from q by s to t, nothing where t is not among the targets.
-fn put_target(out: &mut [u8], at: usize, targets: u32, q: u8, s: u8, t: u8) -> usize
-    requires { ⌜ (t < 32) × (at + 26 ≤ length (now out)) ⌝ }
-    ensures { λ r. ⌜ (Wrote (now (out .entry)) at (arcLines targets q s t) (now (out .exit)) r) × (r ≤ at + 26) ⌝ }
+fn put_target(
+    out: &mut [u8],
+    at: usize,
+    targets: u32,
+    q: StateNumber,
+    s: u8,
+    t: StateNumber,
+) -> usize
+    requires { ⌜ (t .0 < 32) × (at + 26 ≤ length (now out)) ⌝ }
+    ensures { λ r. ⌜ (Wrote (now (out .entry)) at (arcLines targets (q .0) s (t .0)) (now (out .exit)) r) × (r ≤ at + 26) ⌝ }
 {
-    if masks::member(targets, StateNumber(t)) {
+    if masks::member(targets, t) {
         put_arc(out, at, q, s, t)
     } else {
         at
@@ -132,31 +141,38 @@ fn put_target(out: &mut [u8], at: usize, targets: u32, q: u8, s: u8, t: u8) -> u
 }
 
 // The lines of the arcs from q by s to states below n.
-fn put_targets(out: &mut [u8], start: usize, targets: u32, n: u8, q: u8, s: u8) -> usize
+fn put_targets(out: &mut [u8], start: usize, targets: u32, n: u8, q: StateNumber, s: u8) -> usize
     requires { ⌜ (n ≤ 32) × (start + 832 ≤ length (now out)) ⌝ }
-    ensures { λ r. ⌜ (Wrote (now (out .entry)) start (joined (arcLines targets q s) n) (now (out .exit)) r) × (r ≤ start + 832) ⌝ }
+    ensures { λ r. ⌜ (Wrote (now (out .entry)) start (joined (arcLines targets (q .0) s) n) (now (out .exit)) r) × (r ≤ start + 832) ⌝ }
 {
     let mut at = start;
     let mut t: u8 = 0;
     while t < n {
-        at = put_target(out, at, targets, q, s, t);
+        at = put_target(out, at, targets, q, s, StateNumber(t));
         t += 1;
     }
     at
 }
 
 // The mask of state q and symbol s.
-fn cell(targets: &[u32; 512], q: u8, s: u8) -> u32
-    requires { ⌜ (q < 32) × (s < 16) ⌝ }
-    ensures { λ r. ⌜ r ≡ targetMask (now (targets .entry)) q s ⌝ }
+fn cell(targets: &[u32; 512], q: StateNumber, s: u8) -> u32
+    requires { ⌜ (q .0 < 32) × (s < 16) ⌝ }
+    ensures { λ r. ⌜ r ≡ targetMask (now (targets .entry)) (q .0) s ⌝ }
 {
-    targets[(q as usize) * 16 + (s as usize)]
+    targets[(q.0 as usize) * 16 + (s as usize)]
 }
 
 // The lines of the arcs from q by the first k symbols.
-fn put_symbols(out: &mut [u8], start: usize, targets: &[u32; 512], n: u8, k: u8, q: u8) -> usize
-    requires { ⌜ (n ≤ 32) × (k ≤ 16) × (q < 32) × (start + 13312 ≤ length (now out)) ⌝ }
-    ensures { λ r. ⌜ (Wrote (now (out .entry)) start (arcsFrom (now (targets .entry)) n k q) (now (out .exit)) r) × (r ≤ start + 13312) ⌝ }
+fn put_symbols(
+    out: &mut [u8],
+    start: usize,
+    targets: &[u32; 512],
+    n: u8,
+    k: u8,
+    q: StateNumber,
+) -> usize
+    requires { ⌜ (n ≤ 32) × (k ≤ 16) × (q .0 < 32) × (start + 13312 ≤ length (now out)) ⌝ }
+    ensures { λ r. ⌜ (Wrote (now (out .entry)) start (arcsFrom (now (targets .entry)) n k (q .0)) (now (out .exit)) r) × (r ≤ start + 13312) ⌝ }
 {
     let mut at = start;
     let mut s: u8 = 0;
@@ -175,7 +191,7 @@ fn put_arcs(out: &mut [u8], start: usize, targets: &[u32; 512], n: u8, k: u8) ->
     let mut at = start;
     let mut q: u8 = 0;
     while q < n {
-        at = put_symbols(out, at, targets, n, k, q);
+        at = put_symbols(out, at, targets, n, k, StateNumber(q));
         q += 1;
     }
     at
@@ -183,8 +199,8 @@ fn put_arcs(out: &mut [u8], start: usize, targets: &[u32; 512], n: u8, k: u8) ->
 
 // The text of a rule, from the start.
 fn put_dot(out: &mut [u8], rule: Rule) -> usize
-    requires { ⌜ 427922 ≤ length (now out) ⌝ }
-    ensures { λ r. ⌜ (Wrote (now (out .entry)) 0 (dotText rule) (now (out .exit)) r) × (r ≤ 427922) ⌝ }
+    requires { ⌜ mostBytes ≤ length (now out) ⌝ }
+    ensures { λ r. ⌜ (Wrote (now (out .entry)) 0 (dotText rule) (now (out .exit)) r) × (r ≤ mostBytes) ⌝ }
 {
     let n = masks::at_most(rule.n, 32);
     let k = masks::at_most(rule.k, 16);
@@ -214,5 +230,17 @@ pub fn print_dot(file: &[u8], out: &mut [u8]) -> Printed
     match answer {
         ReadAnswer::Accepted => print_automaton(rule, out),
         ReadAnswer::Refused(number) => ruletext::print_refused(number, out),
+    }
+}
+
+// The same into a buffer that has room for the text of any file. The whole text is written.
+pub fn print_whole(file: &[u8], out: &mut [u8]) -> usize
+    requires { ⌜ mostBytes ≤ length (now out) ⌝ }
+    ensures { λ r. ⌜ Wrote (now (out .entry)) 0 (textFor (now (file .entry))) (now (out .exit)) r ⌝ }
+{
+    let printed = print_dot(file, out);
+    match printed {
+        Printed::Bytes(written) => written,
+        Printed::Short => 0,
     }
 }

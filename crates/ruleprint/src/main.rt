@@ -1,17 +1,10 @@
 // Reads a rule file from standard input and prints the built rule, or the number with which it is refused.
-use libc::STDIN_FILENO;
 use libc::STDOUT_FILENO;
-use ruletext::Printed;
 
 fn main() {
     let mut file = [0u8; 33000];
-    let n = io::read_full(STDIN_FILENO, &mut file);
+    let n = ruleinput::read_rule(&mut file);
     let mut text = [0u8; 40960];
-    let printed = ruletext::print_rule(&file[..n], &mut text);
-    match printed {
-        Printed::Bytes(length) => {
-            io::write_all(STDOUT_FILENO, &text[..length]);
-        }
-        Printed::Short => {}
-    }
+    let length = ruletext::print_whole(&file[..n], &mut text);
+    io::write_all(STDOUT_FILENO, &text[..length]);
 }

@@ -3,6 +3,8 @@
 --   too-short   nothing is written
 --   copied      the text is written from the start
 --   within      the length that an answer tells is within the buffer
+--   all-written into a buffer with room for it the whole text is written
+--   not-short   and the answer is never that there is none
 --   whole       a rule's text is its first line, its sets' lines and its last line
 use mathlib.Core.Path.{_≡_, sym, ap, _∙_}
 use mathlib.Core.Bool.{cond}
@@ -53,3 +55,21 @@ within {text} {before} {after} {r} {n} p is =
     by-test (ltb (length before) (length text))
     (λ e. let f : some n ≡ none = rw e at a in let z : _≡_ {A = ℕ} 0 1 = cc in absurd (omega arith))
     (λ e. let f : some n ≡ some (length text) = rw e at a in let z : n ≡ length text = cc in omega (arith, ltb-false (length before) (length text) e))
+
+module _ {text before after : List ℕ} {r : Printed} (p : Prints text before after r) (room : length text ≤ length before) where
+  pub all-written : {n : ℕ} → r ≡ Bytes n → Wrote before 0 text after n
+  all-written {n} is =
+      let e = le-ltb (length before) (length text) room in
+      let a : some n ≡ cond (ltb (length before) (length text)) none (some (length text)) = rw is at (p .answer) in
+      let s : some n ≡ some (length text) = rw e at a in
+      let l : n ≡ length text = cc in
+      let z = sym (zero-add (length text)) in
+      record { is = rw e at (p .buffer) ∙ ap (λ (x : ℕ). text ++ drop x before) z; ends = l ∙ z }
+
+  pub not-short : r ≡ Short → ⊥
+  not-short is =
+      let e = le-ltb (length before) (length text) room in
+      let a : none ≡ cond (ltb (length before) (length text)) none (some (length text)) = rw is at (p .answer) in
+      let s : none ≡ some (length text) = rw e at a in
+      let z : _≡_ {A = ℕ} 0 1 = cc in
+      omega arith

@@ -6,9 +6,11 @@
 --   row-most, cells-most    4 for each symbol, 64 for a row
 --   line-most               77
 --   fields-most, lines-most 4 for each state, 77 for each set
+--   head-most, last-most    20 and 138
+--   rule-most               39,582
 --   refused-most            12
 use mathlib.Core.List.{List, [], _∷_, _++_}
-use Prim.Native.Nat.{ℕ, _+_, _*_, _≤_, _<_}
+use Prim.Native.Nat.{ℕ, _+_, _*_, _≤_, _<_, min}
 use native.Mathlib.Omega.{arith}
 use lib.Dec.{ltb}
 use lib.ListN.{length, getD, length-append}
@@ -17,7 +19,9 @@ use Rattle.masks.proofs.Cases.{by-test}
 use Rattle.text.specs.Numerals.{decimal, hex, joined}
 use Rattle.text.proofs.Pieces.{joined-length}
 use Rattle.text.proofs.Digits.{decimal-most, hex-length}
-use Rattle.ruletext.specs.RuleText.{field, cellText, rowText, setLine, refusedText, space, lineFeed}
+use Rattle.build.specs.declared.Built.{Built}
+use Rattle.ruletext.specs.RuleText.{field, cellText, rowText, setLine, headLine, delegatesLine, ruleText, refusedText, startsWord, space, lineFeed}
+use Rattle.ruletext.specs.Printing.{mostBytes}
 
 pub byte-most : (n : ℕ) → n < 256 → length (decimal n) ≤ 3
 byte-most n h = decimal-most 2 n (omega arith)
@@ -66,6 +70,30 @@ fields-most d h n = joined-length (λ q. field (getD d q 0)) n 4 (λ q l. field-
 
 pub lines-most : (sets next : List ℕ) (k : ℕ) → k ≤ 16 → (n : ℕ) → n ≤ 512 → length (joined (setLine sets next k) n) ≤ n * 77
 lines-most sets next k hk n hn = joined-length (setLine sets next k) n 77 (λ i l. line-most sets next k i hk (omega arith))
+
+pub head-most : (count starts : ℕ) → count ≤ 512 → starts < 256 → length (headLine count starts) ≤ 20
+head-most count starts hc hs =
+    omega (
+      arith,
+      number-most count hc,
+      byte-most starts hs,
+      length-append (decimal count) (startsWord ++ (decimal starts ++ (lineFeed ∷ []))),
+      length-append (decimal starts) (lineFeed ∷ []),
+    )
+
+pub last-most : (d : List ℕ) → ((q : ℕ) → getD d q 0 < 256) → (n : ℕ) → n ≤ 32 → length (delegatesLine d n) ≤ 138
+last-most d h n hn = omega (arith, fields-most d h n, length-append (joined (λ q. field (getD d q 0)) n) (lineFeed ∷ []))
+
+pub rule-most : (b : Built) → b .starts < 256 → ((q : ℕ) → getD (b .delegates) q 0 < 256) → length (ruleText b) ≤ mostBytes
+rule-most b hs hd =
+    let count = min (b .count) 512 in
+    let first = headLine count (b .starts) in
+    let lines = joined (setLine (b .sets) (b .next) (min (b .k) 16)) count in
+    let last = delegatesLine (b .delegates) (min (b .n) 32) in
+    let hf = head-most count (b .starts) (omega arith) hs in
+    let hl = lines-most (b .sets) (b .next) (min (b .k) 16) (omega arith) count (omega arith) in
+    let ht = last-most (b .delegates) hd (min (b .n) 32) (omega arith) in
+    omega (arith, length-append first (lines ++ last), length-append lines last)
 
 pub refused-most : (x : ℕ) → x < 256 → length (refusedText x) ≤ 12
 refused-most x h = omega (arith, byte-most x h, length-append (decimal x) (lineFeed ∷ []))

@@ -2,3 +2,4 @@
 pub mod Lengths
 pub mod Copying
 pub mod ForFile
+pub mod Claims

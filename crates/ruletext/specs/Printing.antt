@@ -4,6 +4,7 @@
 --   Prints text ..     the text stands at the start of the buffer and what lies past it is left as it was; a buffer that is too short is
 --                      refused and left unchanged
 --   textFor f          the text for the rule file f: refused with the first number of 1 to 9 whose condition holds, else the built rule's
+--   mostBytes          so many bytes have room for the text of any file (specs/Claims.antt)
 use mathlib.Core.Path.{_≡_}
 use mathlib.Core.Bool.{cond}
 use mathlib.Core.List.{List, _++_}
@@ -38,3 +39,7 @@ textBy (some number) o = refusedText number
 
 abbrev pub textFor : List ℕ → List ℕ
 textFor f = textBy (refusal f) (buildOf (ruleOf f))
+
+-- 20 for the first line, 77 for each of 512 sets, 138 for the last line
+abbrev pub mostBytes : ℕ
+mostBytes = 39582

@@ -5,11 +5,13 @@ ghost use lib.ListN.{length, getD};
 ghost use Rattle.text.specs.Numerals.{joined};
 ghost use Rattle.text.specs.Writing.{Wrote};
 ghost use Rattle.ruletext.specs.RuleText.{field, cellText, rowText, setLine, headLine, delegatesLine, ruleText, refusedText, textOf};
-ghost use Rattle.ruletext.specs.Printing.{Prints, textFor};
+ghost use Rattle.ruletext.specs.Printing.{Prints, textFor, mostBytes};
 use build::BuildAnswer;
 use build::Building;
 use build::Built;
+use masks::StateNumber;
 use ruleformat::ReadAnswer;
+use subsets::SetNumber;
 
 // How many bytes the text has, or that the buffer is too short for it.
 pub enum Printed {
@@ -17,37 +19,39 @@ pub enum Printed {
     Short,
 }
 
-// A number with a space before it.
-fn put_field(out: &mut [u8], at: usize, n: u8) -> usize
+// A state's number with a space before it.
+fn put_field(out: &mut [u8], at: usize, q: StateNumber) -> usize
     requires { ⌜ at + 4 ≤ length (now out) ⌝ }
-    ensures { λ r. ⌜ Wrote (now (out .entry)) at (field n) (now (out .exit)) r ⌝ }
+    ensures { λ r. ⌜ Wrote (now (out .entry)) at (field (q .0)) (now (out .exit)) r ⌝ }
 {
     let digits = text::put_byte(out, at, b' ');
-    text::put_decimal(out, digits, n as u64)
+    text::put_decimal(out, digits, q.0 as u64)
 }
 
 // A cell of the next-set table.
-fn put_cell(out: &mut [u8], at: usize, to: u16) -> usize
+fn put_cell(out: &mut [u8], at: usize, to: SetNumber) -> usize
     requires { ⌜ at + 4 ≤ length (now out) ⌝ }
-    ensures { λ r. ⌜ Wrote (now (out .entry)) at (cellText to) (now (out .exit)) r ⌝ }
+    ensures { λ r. ⌜ Wrote (now (out .entry)) at (cellText (to .0)) (now (out .exit)) r ⌝ }
 {
     let number = text::put_byte(out, at, b' ');
-    if to < 512 {
-        text::put_decimal(out, number, to as u64)
+    if to.0 < 512 {
+        text::put_decimal(out, number, to.0 as u64)
     } else {
         text::put_byte(out, number, b'-')
     }
 }
 
 // The cells of set i for the k symbols.
-fn put_row(out: &mut [u8], start: usize, next: &[u16; 8192], k: usize, i: usize) -> usize
-    requires { ⌜ (k ≤ 16) × (i < 512) × (start + 4 * k ≤ length (now out)) ⌝ }
-    ensures { λ r. ⌜ Wrote (now (out .entry)) start (rowText (now (next .entry)) k i) (now (out .exit)) r ⌝ }
+fn put_row(out: &mut [u8], start: usize, next: &[u16; 8192], k: usize, i: SetNumber) -> usize
+    requires { ⌜ (k ≤ 16) × (i .0 < 512) × (start + 4 * k ≤ length (now out)) ⌝ }
+    ensures { λ r. ⌜ Wrote (now (out .entry)) start (rowText (now (next .entry)) k (i .0)) (now (out .exit)) r ⌝ }
 {
+    let row = i.0 as usize;
     let mut at = start;
     let mut s: usize = 0;
     while s < k {
-        at = put_cell(out, at, next[i * 16 + s]);
+        let to = next[row * 16 + s];
+        at = put_cell(out, at, SetNumber(to));
         s += 1;
     }
     at
@@ -66,14 +70,15 @@ fn put_set(
     sets: &[u32; 512],
     next: &[u16; 8192],
     k: usize,
-    i: usize,
+    i: SetNumber,
 ) -> usize
-    requires { ⌜ (k ≤ 16) × (i < 512) × (at + 77 ≤ length (now out)) ⌝ }
-    ensures { λ r. ⌜ Wrote (now (out .entry)) at (setLine (now (sets .entry)) (now (next .entry)) k i) (now (out .exit)) r ⌝ }
+    requires { ⌜ (k ≤ 16) × (i .0 < 512) × (at + 77 ≤ length (now out)) ⌝ }
+    ensures { λ r. ⌜ Wrote (now (out .entry)) at (setLine (now (sets .entry)) (now (next .entry)) k (i .0)) (now (out .exit)) r ⌝ }
 {
-    let a = text::put_decimal(out, at, i as u64);
+    let row = i.0 as usize;
+    let a = text::put_decimal(out, at, i.0 as u64);
     let b = text::put_byte(out, a, b' ');
-    let c = text::put_hex(out, b, 8, wide(sets[i]));
+    let c = text::put_hex(out, b, 8, wide(sets[row]));
     let d = put_row(out, c, next, k, i);
     text::put_byte(out, d, b'\n')
 }
@@ -93,7 +98,8 @@ fn put_sets(
     let mut at = start;
     let mut i: usize = 0;
     while i < count {
-        at = put_set(out, at, sets, next, k, i);
+        let number = i as u16;
+        at = put_set(out, at, sets, next, k, SetNumber(number));
         i += 1;
     }
     at
@@ -107,7 +113,8 @@ fn put_fields(out: &mut [u8], start: usize, delegates: &[u8], n: usize) -> usize
     let mut at = start;
     let mut q: usize = 0;
     while q < n {
-        at = put_field(out, at, delegates[q]);
+        let delegate = delegates[q];
+        at = put_field(out, at, StateNumber(delegate));
         q += 1;
     }
     at
@@ -152,8 +159,8 @@ fn at_most(x: usize, most: usize) -> usize
 
 // The text of a built rule, from the start.
 fn put_rule(out: &mut [u8], built: Built) -> usize
-    requires { ⌜ 39582 ≤ length (now out) ⌝ }
-    ensures { λ r. ⌜ (Wrote (now (out .entry)) 0 (ruleText built) (now (out .exit)) r) × (r ≤ 39582) ⌝ }
+    requires { ⌜ mostBytes ≤ length (now out) ⌝ }
+    ensures { λ r. ⌜ (Wrote (now (out .entry)) 0 (ruleText built) (now (out .exit)) r) × (r ≤ mostBytes) ⌝ }
 {
     let count = at_most(built.count as usize, 512);
     let k = at_most(built.k as usize, 16);
@@ -215,5 +222,17 @@ pub fn print_rule(file: &[u8], out: &mut [u8]) -> Printed
     match answer {
         ReadAnswer::Accepted => print_building(build::build_rule(rule), out),
         ReadAnswer::Refused(number) => print_refused(number, out),
+    }
+}
+
+// The same into a buffer that has room for the text of any file. The whole text is written.
+pub fn print_whole(file: &[u8], out: &mut [u8]) -> usize
+    requires { ⌜ mostBytes ≤ length (now out) ⌝ }
+    ensures { λ r. ⌜ Wrote (now (out .entry)) 0 (textFor (now (file .entry))) (now (out .exit)) r ⌝ }
+{
+    let printed = print_rule(file, out);
+    match printed {
+        Printed::Bytes(written) => written,
+        Printed::Short => 0,
     }
 }

@@ -13,6 +13,7 @@
 --   has-room  what is to be written has room in it
 --   within    so where it ends lies in the buffer
 --   still-within   and in one of the same length
+--   whole-within   a text that fits ends within the buffer that it was written to
 use mathlib.Core.Path.{_≡_}
 use mathlib.Core.List.{List, [], _++_}
 use Prim.Native.Nat.{ℕ, _+_, _≤_, _<_}
@@ -64,3 +65,7 @@ within room spare is kept most = omega arith
 
 pub still-within : {x y end : ℕ} → end ≤ x → y ≡ x → end ≤ y
 still-within most kept = omega arith
+
+pub whole-within : {text before after : List ℕ} {end : ℕ} → Wrote before 0 text after end → length after ≡ length before
+    → (room : ℕ) → length text ≤ room → room ≤ length before → end ≤ length after
+whole-within w kept room fits has = omega (arith, w .ends)

@@ -4,6 +4,9 @@ use borrow.Author.Needs.{needs}
 use Rattle.dottext.proofs.cell.Statement.{statement}
 use Rattle.dottext.proofs.cell.Tie as tie
 
+cast-result : tie.Need-cast-result
+cast-result c = search needs
+
 mul-result : tie.Need-mul-result
 mul-result c = search needs
 
@@ -17,7 +20,7 @@ element-copy-out-result : tie.Need-element-copy-out-result
 element-copy-out-result c = search needs
 
 returns : tie.Need-returns
-returns c = rw (lt-ltb (c .before .args .s) 16 (c .before .pre .1))
+returns c = rw (lt-ltb (c .before .before .args .s) 16 (c .before .before .pre .1))
 
 pub cell-spec : {M : Type 1} → statement M
-cell-spec = tie.close (tie.spec mul-result add-result mul-result-2 element-copy-out-result returns)
+cell-spec = tie.close (tie.spec cast-result mul-result add-result mul-result-2 element-copy-out-result returns)

@@ -11,7 +11,7 @@ use Rattle.dottext.proofs.put_symbols.Statement.{statement}
 use Rattle.dottext.proofs.put_symbols.Tie as tie
 
 abbrev Inv-loop : tie.InvT-loop
-Inv-loop out₀ start targets n k q at₀ s₀ out at s = (s ≤ k) × (n ≤ 32) × (k ≤ 16) × (q < 32) × (start + 13312 ≤ length out₀) × (at ≤ start + 832 * s) × Put out₀ start (joined (arcsBy targets n q) s) out at
+Inv-loop out₀ start targets n k q at₀ s₀ out at s = (s ≤ k) × (n ≤ 32) × (k ≤ 16) × (q .0 < 32) × (start + 13312 ≤ length out₀) × (at ≤ start + 832 * s) × Put out₀ start (joined (arcsBy targets n (q .0)) s) out at
 
 abbrev μ-loop : tie.MeasureT-loop
 μ-loop out₀ start targets n k q at₀ s₀ out at s = k - s
@@ -20,7 +20,7 @@ loop-holds : tie.Need-loop-holds Inv-loop μ-loop
 loop-holds c =
     let s = c .before in
     let a = s .args in
-    (omega arith, s .pre .0, s .pre .1, s .pre .2, s .pre .3, omega arith, none-put (arcsBy (a .targets .now) (a .n) (a .q)) (a .out .now) (a .start) (omega (arith, s .pre)))
+    (omega arith, s .pre .0, s .pre .1, s .pre .2, s .pre .3, omega arith, none-put (arcsBy (a .targets .now) (a .n) (a .q .0)) (a .out .now) (a .start) (omega (arith, s .pre)))
 
 cell-requires : tie.Need-cell-requires Inv-loop μ-loop
 cell-requires c κs =
@@ -48,7 +48,7 @@ loop-again c =
     let m = c .before .before .before .cell .ensures in
     let w = rw m at (c .before .before .put-targets .ensures) in
     let room : x .at + 832 ≤ length (x .out) = omega (arith, x .inv, x .inv .6 .kept, t) in
-    (omega (arith, t), x .inv .1, x .inv .2, x .inv .3, x .inv .4, omega (arith, x .inv, w .1), one-more (arcsBy (a .targets .now) (a .n) (a .q)) (x .s) (x .inv .6) (placed 832 room w))
+    (omega (arith, t), x .inv .1, x .inv .2, x .inv .3, x .inv .4, omega (arith, x .inv, w .1), one-more (arcsBy (a .targets .now) (a .n) (a .q .0)) (x .s) (x .inv .6) (placed 832 room w))
 
 same-length : tie.Need-same-length Inv-loop μ-loop
 same-length c = c .before .loop .inv .6 .kept

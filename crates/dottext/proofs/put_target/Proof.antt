@@ -19,13 +19,13 @@ same-length c = search needs
 returns : tie.Need-returns
 returns c =
     let s = c .before .before .before .before .before .before .before in
-    let e : has (s .args .targets) (s .args .t) ≡ true = sym (c .before .before .before .before .before .member .ensures) ∙ c .before .before .before .before .if1 .taken in
+    let e : has (s .args .targets) (s .args .t .0) ≡ true = sym (c .before .before .before .before .before .member .ensures) ∙ c .before .before .before .before .if1 .taken in
     rw e (c .before .before .put-arc .ensures)
 
 returns-2 : tie.Need-returns-2
 returns-2 c =
     let s = c .before .before .before in
-    let e : has (s .args .targets) (s .args .t) ≡ false = sym (c .before .member .ensures) ∙ c .if1 .left in
+    let e : has (s .args .targets) (s .args .t .0) ≡ false = sym (c .before .member .ensures) ∙ c .if1 .left in
     rw e (nothing (s .args .out .now) (s .args .at) 26)
 
 pub put-target-spec : {M : Type 1} → statement M

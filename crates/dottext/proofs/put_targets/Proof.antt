@@ -11,7 +11,7 @@ use Rattle.dottext.proofs.put_targets.Statement.{statement}
 use Rattle.dottext.proofs.put_targets.Tie as tie
 
 abbrev Inv-loop : tie.InvT-loop
-Inv-loop out₀ start targets n q s at₀ t₀ out at t = (t ≤ n) × (n ≤ 32) × (start + 832 ≤ length out₀) × (at ≤ start + 26 * t) × Put out₀ start (joined (arcLines targets q s) t) out at
+Inv-loop out₀ start targets n q s at₀ t₀ out at t = (t ≤ n) × (n ≤ 32) × (start + 832 ≤ length out₀) × (at ≤ start + 26 * t) × Put out₀ start (joined (arcLines targets (q .0) s) t) out at
 
 abbrev μ-loop : tie.MeasureT-loop
 μ-loop out₀ start targets n q s at₀ t₀ out at t = n - t
@@ -20,7 +20,7 @@ loop-holds : tie.Need-loop-holds Inv-loop μ-loop
 loop-holds c =
     let s = c .before in
     let a = s .args in
-    (omega arith, s .pre .0, s .pre .1, omega arith, none-put (arcLines (a .targets) (a .q) (a .s)) (a .out .now) (a .start) (omega (arith, s .pre)))
+    (omega arith, s .pre .0, s .pre .1, omega arith, none-put (arcLines (a .targets) (a .q .0) (a .s)) (a .out .now) (a .start) (omega (arith, s .pre)))
 
 put-target-requires : tie.Need-put-target-requires Inv-loop μ-loop
 put-target-requires c κs =
@@ -41,7 +41,7 @@ loop-again c =
     let t = c .before .before .before .before .loop-test .taken in
     let w = c .before .before .put-target .ensures in
     let room : x .at + 26 ≤ length (x .out) = omega (arith, x .inv, x .inv .4 .kept, t) in
-    (omega (arith, t), x .inv .1, x .inv .2, omega (arith, x .inv, w .1), one-more (arcLines (a .targets) (a .q) (a .s)) (x .t) (x .inv .4) (placed 26 room w))
+    (omega (arith, t), x .inv .1, x .inv .2, omega (arith, x .inv, w .1), one-more (arcLines (a .targets) (a .q .0) (a .s)) (x .t) (x .inv .4) (placed 26 room w))
 
 same-length : tie.Need-same-length Inv-loop μ-loop
 same-length c = c .before .loop .inv .4 .kept

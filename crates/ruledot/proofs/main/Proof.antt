@@ -1,69 +1,58 @@
--- `main` stays within its buffers. Assumes nothing.
+-- `main` has room for every file and every text, and stays within its buffers. Assumes nothing.
 use mathlib.Core.Path.{sym}
+use native.Mathlib.Omega.{arith}
+use lib.ListN.{length-replicate}
 use lib.Seq.{length-take-le}
-use Rattle.ruletext.proofs.Copying.{within}
-use Rattle.text.proofs.Rooms.{made, still-within}
+use Rattle.text.proofs.Rooms.{made, whole-within}
+use Rattle.dottext.specs.DotText.{mostBytes}
+use Rattle.dottext.proofs.Claims.{claims}
 use borrow.Author.Needs.{needs}
 use Rattle.ruledot.proofs.main.Statement.{statement}
 use Rattle.ruledot.proofs.main.Tie as tie
 
-slice-aggregate-read-full : tie.Need-slice-aggregate-read-full
-slice-aggregate-read-full c = sym (made 33000)
+slice-aggregate-read-rule : tie.Need-slice-aggregate-read-rule
+slice-aggregate-read-rule c = sym (made _)
 
-read-full-requires : tie.Need-read-full-requires
-read-full-requires c κs = search needs
+read-rule-requires : tie.Need-read-rule-requires
+read-rule-requires c κs = rw length-replicate (omega arith)
 
 array-share-prefix-file : tie.Need-array-share-prefix-file
 array-share-prefix-file c = search needs
 
-slice-aggregate-print-dot : tie.Need-slice-aggregate-print-dot
-slice-aggregate-print-dot c = search needs
+slice-aggregate-print-whole : tie.Need-slice-aggregate-print-whole
+slice-aggregate-print-whole c = search needs
 
-slice-aggregate-print-dot-2 : tie.Need-slice-aggregate-print-dot-2
-slice-aggregate-print-dot-2 c = sym (made 450000)
+slice-aggregate-print-whole-2 : tie.Need-slice-aggregate-print-whole-2
+slice-aggregate-print-whole-2 c = sym (made _)
 
-print-dot-requires : tie.Need-print-dot-requires
-print-dot-requires c κs = tt
-
-enum-known-printed : tie.Need-enum-known-printed
-enum-known-printed c = search needs
+print-whole-requires : tie.Need-print-whole-requires
+print-whole-requires c κs = rw length-replicate (omega arith)
 
 array-share-prefix-text : tie.Need-array-share-prefix-text
-array-share-prefix-text c =
-    let w = c .before .before .before .before .print-dot in
-    still-within (within (w .ensures) (c .before .printed .given .1)) (w .kept .1 .0)
+array-share-prefix-text c = let w = c .before .print-whole in whole-within (w .ensures) (w .kept .1 .0) mostBytes (claims .fits _) (rw length-replicate (omega arith))
 
 slice-aggregate-write-all : tie.Need-slice-aggregate-write-all
 slice-aggregate-write-all c =
-    let w = c .before .before .before .before .before .print-dot in
-    sym (length-take-le _ (w .last .1 .0) (still-within (within (w .ensures) (c .before .before .printed .given .1)) (w .kept .1 .0)))
+    let w = c .before .before .print-whole in
+    sym (length-take-le _ (w .last .1 .0) (whole-within (w .ensures) (w .kept .1 .0) mostBytes (claims .fits _) (rw length-replicate (omega arith))))
 
 write-all-requires : tie.Need-write-all-requires
-write-all-requires c κs = tt
-
-enum-told : tie.Need-enum-told
-enum-told c = search needs
+write-all-requires c κs = search needs
 
 returns : tie.Need-returns
 returns c = search needs
-
-returns-2 : tie.Need-returns-2
-returns-2 c = search needs
 
 pub main-spec : {M : Type 1} → statement M
 main-spec =
     tie.close
     (tie.spec
-    slice-aggregate-read-full
-    read-full-requires
+    slice-aggregate-read-rule
+    read-rule-requires
     array-share-prefix-file
-    slice-aggregate-print-dot
-    slice-aggregate-print-dot-2
-    print-dot-requires
-    enum-known-printed
+    slice-aggregate-print-whole
+    slice-aggregate-print-whole-2
+    print-whole-requires
     array-share-prefix-text
     slice-aggregate-write-all
     write-all-requires
-    enum-told
-    returns
-    returns-2)
+    returns)

@@ -9,22 +9,27 @@ use Rattle.ruletext.proofs.put_field.Tie as tie
 put-byte-requires : tie.Need-put-byte-requires
 put-byte-requires c κs = search needs
 
+cast-put-decimal : tie.Need-cast-put-decimal
+cast-put-decimal c = search needs
+
 put-decimal-requires : tie.Need-put-decimal-requires
 put-decimal-requires c κs =
-    let s = c .before .before .before .before .before .before in
-    let w = c .before .before .before .put-byte in
-    omega (arith, s .pre, w .ensures .ends, w .kept .0, byte-most (s .args .n) (s .fits .n .fits))
+    let s = c .before .before .before .before .before .before .before in
+    let w = c .before .before .before .before .put-byte in
+    omega (arith, s .pre, w .ensures .ends, w .kept .0, byte-most (s .args .q .0) (search needs))
 
 same-length : tie.Need-same-length
 same-length c = search needs
 
 returns : tie.Need-returns
 returns c =
-    let s = c .before .before .before .before .before .before .before .before .before in
-    let d = byte-most (s .args .n) (s .fits .n .fits) in
-    let u = put (omega (arith, s .pre)) (c .before .before .before .before .before .before .put-byte .ensures) in
+    let s = c .before .before .before .before .before .before .before .before .before .before in
+    let d = byte-most (s .args .q .0) (search needs) in
+    let u = put (omega (arith, s .pre)) (c .before .before .before .before .before .before .before .put-byte .ensures) in
     let v = put (omega (arith, s .pre, d, u)) (c .before .before .put-decimal .ensures) in
     (u then v) .wrote
 
 pub put-field-spec : {M : Type 1} → statement M
-put-field-spec = tie.close (tie.spec put-byte-requires put-decimal-requires same-length returns)
+put-field-spec =
+    tie.close
+    (tie.spec put-byte-requires cast-put-decimal put-decimal-requires same-length returns)

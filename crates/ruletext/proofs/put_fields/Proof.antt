@@ -23,8 +23,8 @@ loop-holds c =
     let a = s .args in
     (omega arith, s .pre .1, s .pre .2, (λ i. omega (arith, c .shared-slice-known .given i)), none-put (λ i. field (getD (a .delegates .now) i 0)) (a .out .now) (a .start) (omega (arith, s .pre)))
 
-shared-slice-read-put-field : tie.Need-shared-slice-read-put-field Inv-loop μ-loop
-shared-slice-read-put-field c = omega (arith, c .before .before .before .loop .inv, c .before .before .loop-test .taken)
+shared-slice-read-delegate : tie.Need-shared-slice-read-delegate Inv-loop μ-loop
+shared-slice-read-delegate c = omega (arith, c .before .before .loop .inv, c .before .loop-test .taken)
 
 put-field-requires : tie.Need-put-field-requires Inv-loop μ-loop
 put-field-requires c κs =
@@ -67,7 +67,7 @@ put-fields-spec =
     Inv-loop
     μ-loop
     loop-holds
-    shared-slice-read-put-field
+    shared-slice-read-delegate
     put-field-requires
     add-q
     loop-less

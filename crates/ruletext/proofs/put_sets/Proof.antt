@@ -23,6 +23,9 @@ loop-holds c =
     let a = s .args in
     (omega arith, s .pre .0, s .pre .1, s .pre .2, none-put (setLine (a .sets .now) (a .next .now) (a .k)) (a .out .now) (a .start) (omega (arith, s .pre)))
 
+cast-number : tie.Need-cast-number Inv-loop μ-loop
+cast-number c = omega (arith, c .before .loop .inv)
+
 put-set-requires : tie.Need-put-set-requires Inv-loop μ-loop
 put-set-requires c κs =
     let x = c .before .before .loop in
@@ -67,6 +70,7 @@ put-sets-spec =
     Inv-loop
     μ-loop
     loop-holds
+    cast-number
     put-set-requires
     add-i
     loop-less
