@@ -2,8 +2,10 @@
 pub mod Numbers
 pub mod Closure
 pub mod Arrays
+pub mod Singles
 pub mod Table
 pub mod Turns
+pub mod Tables
 pub mod Pigeonhole
 pub mod Reached
 pub mod Claims

@@ -1,4 +1,4 @@
--- The loops of `expand` and `number_sets`, turn by turn and way out by way out, over plain lists: what is left to do comes to the same list
+-- The loops of `expand` and `fill`, turn by turn and way out by way out, over plain lists: what is left to do comes to the same list
 -- after each turn, and the arrays hold the sets so far. Assumes nothing.
 --
 --   turn-..                   set i is expanded by the next symbol
@@ -20,8 +20,8 @@ use Rattle.subsets.specs.declared.Numbered.the-variants.{As, Full}
 use Rattle.subsets.specs.declared.Numbering.{Numbering}
 use Rattle.subsets.specs.declared.Numbering.the-variants.{Whole, Over}
 use Rattle.subsets.specs.Sets.{numberIn, numbered, expandFrom, setsUpTo, setsOf, tooMany}
-use Rattle.subsets.specs.Answer.{counted, Answered}
-use Rattle.subsets.specs.Steps.{Entered, target, afterStep, Stepped, Begins, Holds, Grown, closedFrom, grownBy, Cleared}
+use Rattle.subsets.specs.Answer.{counted}
+use Rattle.subsets.specs.Steps.{Entered, target, afterStep, Stepped, Begins, Holds, Grown, closedFrom, grownBy, Cleared, Answered}
 use Rattle.subsets.proofs.Numbers.{begins-trans, begins-length, begins-at, numbered-begins}
 use Rattle.subsets.proofs.Closure.{expand-begins, close-begins, upTo-begins, symbols-more}
 use Rattle.subsets.proofs.Arrays.{count-is, limited-whole, limited-over, whole-of, over-of, entered-as, entered-over}
