@@ -1,24 +1,24 @@
--- The loop that merges starts: its invariant, `Merging`, that a turn keeps it, and what it comes to.
--- The states below q have the class of their set in `own` and their delegate in `delegates`, which has
--- zeros from q on, and `starts` counts those that are their own delegate. States with sets of one class
--- are those that no text tells apart, so the search for the class finds the delegate. Assumes nothing.
-use mathlib.Core.Path.{_≡_, refl, sym, ap, ap₂, _∙_}
+-- The loop that merges starts: its invariant, `Merging`, that a turn keeps it, and what it comes
+-- to. The states below q have the class of their set in `own` and their delegate in `delegates`,
+-- which has zeros from q on, and `starts` counts those that are their own delegate. States with sets
+-- of one class are those that no text tells apart, so the first state of a class is the delegate.
+-- Assumes nothing.
+use mathlib.Core.Path.{_≡_, refl, sym, ap₂, _∙_}
 use mathlib.Core.Bool.{Bool, true, false, cond}
 use mathlib.Core.List.{List}
 use Prim.Native.Nat.{ℕ, zero, suc, _+_, _≤_, _<_, min}
 use native.Mathlib.Numerals.{add-one}
 use native.Mathlib.Omega.{arith}
 use borrow.Author.Count.{below-none}
-use borrow.Author.Tests.{lt-ltb, le-ltb, ltb-true, ltb-false}
+use borrow.Author.Tests.{ltb-true, ltb-false}
 use lib.Dec.{eqb, ltb}
 use lib.ListN.{length, getD, set, replicate, length-set}
 use lib.Seq.{getD-set-same, getD-set-other}
 use Rattle.masks.specs.Lists.{listFrom}
 use Rattle.masks.proofs.Cases.{by-test}
 use Rattle.masks.proofs.Lists.{is-listFrom}
-use Rattle.delegates.specs.declared.Starts.{Starts}
 use Rattle.delegates.specs.Alike.{startCount}
-use Rattle.delegates.specs.Classes.{firstFrom, alikeTo, singleAt, delegateOf, startsOf}
+use Rattle.delegates.specs.Classes.{alikeTo, singleAt, delegateOf, startsOf}
 use Rattle.delegates.specs.Refinement.{classOf, firstInClass, classesOf}
 use Rattle.delegates.proofs.Tests.{first-same}
 use Rattle.delegates.proofs.Lists.{zero-cells, stored}

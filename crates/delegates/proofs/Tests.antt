@@ -1,4 +1,5 @@
--- Tests, the answer of a test as what it decides, and the first number that passes one. Assumes nothing.
+-- Tests, the answer of a test as what it decides, and the first number that passes one. Assumes
+-- nothing.
 --
 --   Least R lo s u   u is the lowest number from lo on that R relates to s, and is at most s
 --   first-..         a loop that searches from lo up to n, one number at a time

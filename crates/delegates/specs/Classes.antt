@@ -1,7 +1,7 @@
--- Delegates as a function, over the arrays of numbered sets and next sets, whatever they hold. `sets`
--- has the mask of each set, `next` has 16 cells for each set, one for each symbol, and `singles` has
--- the number of {q} for each state q. A set is its number here; any number from 512 on stands for the
--- empty set, in a cell too.
+-- Delegates as a function, over the arrays of numbered sets and next sets, whatever they hold.
+-- `sets` has the mask of each set, `next` has 16 cells for each set, one for each symbol, and
+-- `singles` has the number of {q} for each state q. A set is its number here; any number from 512 on
+-- stands for the empty set, in a cell too.
 --
 --   final sets finals s   set s holds a final state; the empty set holds none
 --   follow next s a       the set to which symbol a leads from set s; the empty set leads to itself
@@ -13,10 +13,11 @@
 --   alikeTo .. k f s t    each text of fewer than f symbols below k is accepted from both sets or
 --                         from neither
 --   singleAt singles q    the set {q}
---   delegateOf .. q       the lowest state whose set no text of 512 symbols or fewer tells from that
---                         of q; a longer text is not needed (`alike-at` of specs/Claims.antt)
---   startsOf ..           the delegate of each state, zeros after them, and how many states are their
---                         own; 32 states and 16 symbols are the most: a number above counts as that
+--   delegateOf .. q       the lowest state whose set no text of 512 symbols or fewer tells from
+--                         that of q; a longer text is not needed (`alike-at` of specs/Claims.antt)
+--   startsOf ..           the delegate of each state, zeros after them, and how many states are
+--                         their own delegate; 32 states and 16 symbols are the most: a number above
+--                         counts as that
 use mathlib.Core.Path.{_≡_}
 use mathlib.Core.Bool.{Bool, true, false, cond, _&&_, Bool·beq}
 use mathlib.Core.List.{List, [], _∷_}

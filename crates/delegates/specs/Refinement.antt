@@ -1,6 +1,6 @@
--- What the functions below `merge_starts` promise: the classes of alike sets, by rounds of refinement
--- (Moore). Nothing here needs to be believed: `startsOf` says what they come to. A class is named by
--- its lowest set; the list c has the class of each set, and at 512 that of the empty set.
+-- What the functions below `merge_starts` promise: the classes of alike sets, by rounds of
+-- refinement (Moore). Nothing here needs to be believed: `startsOf` says what they come to. A class
+-- is named by its lowest set; the list c has the class of each set, and at 512 that of the empty set.
 --
 --   classOf c s          the class of set s
 --   sameIn .. k c t s    sets t and s are told apart neither by their classes, nor by being final,
@@ -9,9 +9,9 @@
 --                        not told from it
 --   roundOf .. k c       the classes after a round
 --   changes .. k c       whether a round changes the class of some set
---   classesOf .. k       the classes after all rounds: for each set and the empty set the lowest set
---                        that no text of fewer than 513 symbols tells from it
---   firstInClass own q   the lowest state in the class of state q, where `own` has each state's class
+--   classesOf .. k       the classes after all rounds: for each set and the empty set the lowest
+--                        set that no text of fewer than 513 symbols tells from it
+--   firstInClass own q   the lowest state in the class of state q; `own` has each state's class
 use mathlib.Core.Bool.{Bool, not, _&&_, Bool·beq}
 use mathlib.Core.List.{List}
 use Prim.Native.Nat.{ℕ, _-_}

@@ -1,5 +1,5 @@
--- What `fill` leaves, with the singletons' numbers, is the table; and where it tells of more than 512
--- sets the table is zeros. Assumes nothing.
+-- What `fill` leaves, with the singletons' numbers, is the table; and where it tells of more than
+-- 512 sets the table is zeros. Assumes nothing.
 use mathlib.Core.Path.{_≡_, sym, ap, _∙_}
 use mathlib.Core.Bool.{true, false}
 use mathlib.Core.List.{List}

@@ -1,5 +1,6 @@
--- The loops of `expand` and `fill`, turn by turn and way out by way out, over plain lists: what is left to do comes to the same list
--- after each turn, and the arrays hold the sets so far. Assumes nothing.
+-- The loops of `expand` and `fill`, turn by turn and way out by way out, over plain lists: what is
+-- left to do comes to the same list after each turn, and the arrays hold the sets so far. Assumes
+-- nothing.
 --
 --   turn-..                   set i is expanded by the next symbol
 --   grown-whole, grown-over   the ways out of `expand`

@@ -1,9 +1,10 @@
--- The number of a set among those that have one, and the number of {q} for each state q (document 01, "Sets and their order": {q} gets the next
--- number unless it has one). `sets` is the array of numbered sets, of which the first `count` cells are in use.
+-- The number of a set among those that have one, and the number of {q} for each state q (document
+-- 01, "Sets and their order"). `sets` is the array of numbered sets, of which the first `count`
+-- cells are in use.
 --
---   foundIn l m                    the number of the set m among the sets l, or that it has none
+--   foundIn l m                    the number of the set m among the sets l, or none
 --   foundOf                        what each case of the search's answer says: a number, or none
---   singletonNumber sets count q   the number of {q}; 512, which stands for the empty set, where it has none
+--   singletonNumber sets count q   the number of {q}, or 512, which stands for the empty set
 --   singlesOf sets count           that number for each of the 32 states
 use mathlib.Core.Bool.{cond}
 use mathlib.Core.List.{List}

@@ -1,9 +1,11 @@
--- What the functions below `number_sets` promise, each by the part of the procedure that it does. Nothing here needs to be believed:
--- `tableOf` says what they come to. The numbered sets are the first count cells of the array of sets, and the cells past them are 0.
+-- What the functions below `number_sets` promise, each by the part of the procedure that it does.
+-- Nothing here needs to be believed: `tableOf` says what they come to. The numbered sets are the
+-- first count cells of the array of sets, and the cells past them are 0.
 --
 --   limited l         what is told of the sets l: their number, or 9 where there are more than 512
 --   cellsOf l         the sets l as an array
---   Entered, Stepped, Grown, Answered   what `number`, `step`, `expand` and `add_state`, and `fill` promise
+--   Entered, Stepped, Grown, Answered   what `number`, `step`, `expand` and `add_state`, and `fill`
+--                                       promise
 --   Holds             what the two arrays hold while sets are expanded
 use mathlib.Core.Path.{_≡_}
 use mathlib.Core.Bool.{cond, false, _&&_}

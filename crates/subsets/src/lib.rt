@@ -28,7 +28,8 @@ pub enum Numbering {
     Over,
 }
 
-// The numbered sets, the next-set table and the number of {q} for each state q, beside the answer; zeros where the answer is 9.
+// The numbered sets, the next-set table and the number of {q} for each state q, beside the answer;
+// zeros where the answer is 9.
 pub struct SetTable {
     pub answer: Numbering,
     pub sets: [u32; 512],
@@ -157,7 +158,9 @@ fn add_state(
     }
 }
 
-// The numbered sets of a rule with n states and k symbols, and its next-set table, into two arrays where no cell is in use.
+// The numbered sets of a rule with n states and k symbols, and its next-set table, into two arrays
+// where no cell is in use; a value of n above 32 is taken for 32. Where the 513th set turns up, what
+// is left in the two arrays is free.
 fn fill(
     targets: &[u32; 512],
     n: u8,
@@ -190,7 +193,7 @@ fn rows(sets: &[u32; 512]) -> usize
     s.len()
 }
 
-// The number of {q} among the first count sets, or 512, which stands for the empty set, where it has none.
+// The number of {q} among the first count sets, or 512, which stands for the empty set.
 fn number_single(sets: &[u32; 512], count: usize, q: StateNumber) -> SetNumber
     requires { ⌜ q .0 < 32 ⌝ }
     ensures { λ r. ⌜ r .0 ≡ singletonNumber (now (sets .entry)) count (q .0) ⌝ }
@@ -231,8 +234,8 @@ fn no_table() -> SetTable
     }
 }
 
-// The numbered sets, the next-set table and the singletons' numbers of a rule with n states and k symbols, or 9. A value of n above 32 is
-// taken for 32.
+// The numbered sets, the next-set table and the singletons' numbers of a rule with n states and k
+// symbols, or 9. A value of n above 32 is taken for 32.
 pub fn number_sets(targets: &[u32; 512], n: u8, k: u8) -> SetTable
     ensures { λ r. ⌜ tableCame r ≡ tableOf (now (targets .entry)) n k ⌝ }
 {

@@ -1,8 +1,8 @@
--- `delegate` meets its contract. The loop's invariant: the search from p on finds what the whole search
--- does. Assumes nothing.
+-- `delegate` meets its contract. The loop's invariant: the search from p on finds what the whole
+-- search does. Assumes nothing.
 use mathlib.Core.Path.{_≡_, sym, ap, _∙_}
 use mathlib.Core.Bool.{Bool}
-use Prim.Native.Nat.{ℕ, _-_, _≤_}
+use Prim.Native.Nat.{ℕ, _-_}
 use native.Mathlib.Omega.{arith}
 use borrow.Author.Needs.{needs}
 use borrow.Author.Tests.{eq-eqb, ne-eqb}

@@ -1,8 +1,8 @@
--- `least` meets its contract. The loop's invariant: the search from t on finds what the whole search
--- does. Assumes nothing.
-use mathlib.Core.Path.{_≡_, refl, sym, ap, _∙_}
+-- `least` meets its contract. The loop's invariant: the search from t on finds what the whole
+-- search does. Assumes nothing.
+use mathlib.Core.Path.{_≡_, refl, sym, _∙_}
 use mathlib.Core.Bool.{Bool}
-use Prim.Native.Nat.{ℕ, _-_, _≤_}
+use Prim.Native.Nat.{ℕ, _-_}
 use native.Mathlib.Omega.{arith}
 use borrow.Author.Needs.{needs}
 use Rattle.delegates.specs.Classes.{firstFrom}

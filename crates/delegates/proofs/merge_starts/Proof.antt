@@ -1,5 +1,5 @@
 -- `merge_starts` meets its contract. The loop's invariant is `Merging`. Assumes nothing.
-use mathlib.Core.Path.{_≡_, refl, sym, ap, _∙_}
+use mathlib.Core.Path.{_≡_, sym, _∙_}
 use mathlib.Core.Logic.{⊎-elim}
 use mathlib.Core.Bool.{cond}
 use Prim.Native.Nat.{ℕ, _+_, _-_, _≤_, _<_, min, zero-le}
@@ -9,8 +9,7 @@ use native.Mathlib.Omega.{arith}
 use borrow.Author.Needs.{needs}
 use borrow.Author.Tests.{eq-eqb, ne-eqb}
 use lib.Dec.{eqb}
-use lib.ListN.{getD}
-use Rattle.delegates.specs.Refinement.{classOf, classesOf}
+use Rattle.delegates.specs.Refinement.{classOf}
 use Rattle.delegates.proofs.Merging.{Merging, classAt, begun, turned, all-merged}
 use Rattle.delegates.proofs.merge_starts.Statement.{statement}
 use Rattle.delegates.proofs.merge_starts.Tie as tie

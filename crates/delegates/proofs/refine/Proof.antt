@@ -1,6 +1,6 @@
--- `refine` meets its contract. The loop's invariant: the classes are those by the texts shorter than
--- some f. The measure is how many of the 513 sets are not the lowest of their class: a round that
--- changes a class takes one. Assumes nothing.
+-- `refine` meets its contract. The loop's invariant: the classes are those by the texts shorter
+-- than some f. The measure is how many of the 513 sets are not the lowest of their class: a round
+-- that changes a class takes one. Assumes nothing.
 use mathlib.Core.Path.{_≡_, refl, sym, ap, _∙_}
 use mathlib.Core.List.{List}
 use Prim.Native.Nat.{ℕ, suc, _-_}

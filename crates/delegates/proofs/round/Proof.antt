@@ -1,9 +1,9 @@
--- `round` meets its contract. The loop's invariant: each set passed has its new class, and `changed`
--- tells whether that of one of them is another than its old one. Assumes nothing.
+-- `round` meets its contract. The loop's invariant: each set passed has its new class, and
+-- `changed` tells whether that of one of them is another than its old one. Assumes nothing.
 use mathlib.Core.Path.{_≡_, refl, sym, ap, _∙_}
 use mathlib.Core.Logic.{⊎-elim}
 use mathlib.Core.Bool.{Bool, not}
-use Prim.Native.Nat.{ℕ, _+_, _-_, _≤_, _<_}
+use Prim.Native.Nat.{ℕ, _-_, _≤_, _<_}
 use native.Mathlib.Omega.{arith}
 use borrow.Author.Count.{below-none}
 use borrow.Author.Needs.{needs}

@@ -1,5 +1,6 @@
--- `fill` meets its contract. The loop's invariant: the first count sets are those that the definition has after the states below q, and
--- the arrays hold them and every cell of theirs. Assumes nothing.
+-- `fill` meets its contract. The loop's invariant: the first count sets are those that the
+-- definition has after the states below q, and the arrays hold them and every cell of theirs.
+-- Assumes nothing.
 use mathlib.Core.Path.{_≡_, refl, ap, _∙_}
 use Prim.Native.Nat.{_-_, _*_, _≤_, min}
 use native.Mathlib.Omega.{arith}

@@ -1,4 +1,5 @@
--- `number_singles` meets its contract: the numbers of the states before q are stored. Assumes nothing.
+-- `number_singles` meets its contract: the numbers of the states before q are stored. Assumes
+-- nothing.
 use Rattle.subsets.specs.Singles.{singletonNumber}
 use Rattle.masks.proofs.Lists.{cell-stored, is-listFrom}
 use lib.ListN.{length, getD, length-set}
