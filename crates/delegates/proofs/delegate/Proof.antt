@@ -1,8 +1,8 @@
--- `delegate` meets its contract. The loop's invariant: the search from p on finds what the whole
--- search does. Assumes nothing.
+-- `delegate` meets its contract. The loop's invariant: p is at most q, and the search from p on
+-- finds what the whole search does. Assumes nothing.
 use mathlib.Core.Path.{_≡_, sym, ap, _∙_}
 use mathlib.Core.Bool.{Bool}
-use Prim.Native.Nat.{ℕ, _-_}
+use Prim.Native.Nat.{ℕ, _-_, _≤_}
 use native.Mathlib.Omega.{arith}
 use borrow.Author.Needs.{needs}
 use borrow.Author.Tests.{eq-eqb, ne-eqb}
@@ -14,7 +14,8 @@ use Rattle.delegates.proofs.delegate.Statement.{statement}
 use Rattle.delegates.proofs.delegate.Tie as tie
 
 abbrev Inv-loop : tie.InvT-loop
-Inv-loop own q j class p₀ p = firstInClass own (q .0) ≡ firstFrom (λ u. eqb (classOf own u) (classOf own (q .0))) p (q .0 - p)
+Inv-loop own q j class p₀ p =
+    (p ≤ q .0) × (firstInClass own (q .0) ≡ firstFrom (λ u. eqb (classOf own u) (classOf own (q .0))) p (q .0 - p))
 
 abbrev μ-loop : tie.MeasureT-loop
 μ-loop own q j class p₀ p = q .0 - p
@@ -33,7 +34,7 @@ unfolding firstInClass
 loop-holds c =
     let a = c .before .before .args in
     let all : a .q .0 ≡ a .q .0 - 0 = omega arith in
-    ap (firstFrom (λ u. eqb (classOf (a .own .now) u) (classOf (a .own .now) (a .q .0))) 0) all
+    (omega arith, ap (firstFrom (λ u. eqb (classOf (a .own .now) u) (classOf (a .own .now) (a .q .0))) 0) all)
 
 cast-i : tie.Need-cast-i Inv-loop μ-loop
 cast-i c = search needs
@@ -50,7 +51,7 @@ returns c =
     let l = y .before .loop in
     let a = y .before .before .before .before .args in
     let test : ℕ → Bool = λ u. eqb (classOf (a .own .now) u) (classOf (a .own .now) (a .q .0)) in
-    first-here test (l .p) (a .q .0) (omega arith) (eq-eqb (classOf (a .own .now) (l .p)) (classOf (a .own .now) (a .q .0)) (c .if2 .taken)) ∙ sym (l .inv)
+    first-here test (l .p) (a .q .0) (omega arith) (eq-eqb (classOf (a .own .now) (l .p)) (classOf (a .own .now) (a .q .0)) (c .if2 .taken)) ∙ sym (l .inv .1)
 
 add-p : tie.Need-add-p Inv-loop μ-loop
 add-p c = search needs
@@ -64,14 +65,14 @@ loop-again c =
     let l = y .before .loop in
     let a = y .before .before .before .before .args in
     let test : ℕ → Bool = λ u. eqb (classOf (a .own .now) u) (classOf (a .own .now) (a .q .0)) in
-    l .inv ∙ first-past test (l .p) (a .q .0) (omega arith) (ne-eqb (classOf (a .own .now) (l .p)) (classOf (a .own .now) (a .q .0)) (c .if2 .left))
+    (omega arith, l .inv .1 ∙ first-past test (l .p) (a .q .0) (omega arith) (ne-eqb (classOf (a .own .now) (l .p)) (classOf (a .own .now) (a .q .0)) (c .if2 .left)))
 
 returns-2 : tie.Need-returns-2 Inv-loop μ-loop
 returns-2 c =
     let l = c .before .before .loop in
     let a = c .before .before .before .before .before .args in
     let test : ℕ → Bool = λ u. eqb (classOf (a .own .now) u) (classOf (a .own .now) (a .q .0)) in
-    first-end test (l .p) (a .q .0) (omega arith) ∙ sym (l .inv)
+    first-end test (l .p) (a .q .0) (omega arith) ∙ sym (l .inv .1)
 
 pub delegate-spec : {M : Type 1} → statement M
 delegate-spec =
