@@ -1,9 +1,8 @@
 -- What a table of numbered sets tells, and a rule built from it. Assumes nothing.
-use mathlib.Core.Path.{_≡_, refl, sym, ap, _∙_}
+use mathlib.Core.Path.{_≡_, sym, ap, _∙_}
 use mathlib.Core.Bool.{Bool, true, false, cond}
 use mathlib.Core.List.{List}
 use Prim.Native.Nat.{ℕ, _≤_, min}
-use native.Mathlib.Omega.{arith}
 use lib.ListN.{length}
 use borrow.Author.Tests.{ltb-false}
 use Rattle.automaton.specs.declared.Rule.{Rule}
@@ -11,7 +10,8 @@ use Rattle.subsets.specs.declared.Numbering.the-variants.{Whole, Over}
 use Rattle.subsets.specs.declared.SetTable.{SetTable}
 use Rattle.subsets.specs.Sets.{setsOf, tooMany, setCells, nextCells}
 use Rattle.subsets.specs.Singles.{singlesOf}
-use Rattle.subsets.specs.Answer.{Told, counted, refused, toldOf, Table, noTable, tableCame, tableOf}
+use Rattle.subsets.specs.Answer.{counted, refused, toldOf, Table, noTable, tableCame, tableOf}
+use Rattle.subsets.proofs.Arrays.{told-counted, told-refused}
 use Rattle.delegates.specs.declared.Starts.{Starts}
 use Rattle.delegates.specs.Classes.{startsOf}
 use Rattle.delegates.specs.Claims.{startsIn}
@@ -36,26 +36,26 @@ module _ (ts : List ℕ) (n k : ℕ) (t : SetTable) (is : tableCame t ≡ tableO
     singles = singlesOf (setCells ts n k) (length (setsOf ts n k));
   }
 
-  told-of : Table → Told
-  told-of x = x .told
+  told : toldOf (t .answer) ≡ cond (tooMany ts n k) (refused 9) (counted (length (setsOf ts n k)))
+  unfolding tableOf whole-table
+  told = go (tooMany ts n k) is
+    where
+      go : (b : Bool) → tableCame t ≡ cond b noTable whole-table → toldOf (t .answer) ≡ cond b (refused 9) (counted (length (setsOf ts n k)))
+      go true h = ap (λ (x : Table). x .told) h
+      go false h = ap (λ (x : Table). x .told) h
 
   counted-of : (c : ℕ) → t .answer ≡ Whole c → Counted c
-  unfolding tableOf whole-table told-of
-  counted-of c e = go (tooMany ts n k) refl is
-    where
-      go : (b : Bool) → tooMany ts n k ≡ b → tableCame t ≡ cond b noTable whole-table → Counted c
-      go true f h =
-          let o : counted c ≡ refused 9 = sym (ap toldOf e) ∙ ap told-of h in
-          absurd (let z : _≡_ {A = ℕ} 0 1 = cc in omega arith)
-      go false f h =
-          let o : counted c ≡ counted (length (setsOf ts n k)) = sym (ap toldOf e) ∙ ap told-of h in
-          record {
-            fits = f;
-            count = cc;
-            sets-are = ap (λ (x : Table). x .sets) h;
-            next-are = ap (λ (x : Table). x .next) h;
-            singles-are = ap (λ (x : Table). x .singles) h;
-          }
+  unfolding tableOf whole-table
+  counted-of c e =
+      let x = told-counted (tooMany ts n k) (length (setsOf ts n k)) c (sym (ap toldOf e) ∙ told) in
+      let h : tableCame t ≡ whole-table = is ∙ rw (x .0) in
+      record {
+        fits = x .0;
+        count = x .1;
+        sets-are = ap (λ (y : Table). y .sets) h;
+        next-are = ap (λ (y : Table). y .next) h;
+        singles-are = ap (λ (y : Table). y .singles) h;
+      }
 
   pub at-most-512 : (c : ℕ) → t .answer ≡ Whole c → c ≤ 512
   unfolding tooMany
@@ -63,14 +63,7 @@ module _ (ts : List ℕ) (n k : ℕ) (t : SetTable) (is : tableCame t ≡ tableO
 
   -- no count: there are too many
   is-over : t .answer ≡ Over → tooMany ts n k ≡ true
-  unfolding tableOf whole-table told-of
-  is-over e = go (tooMany ts n k) refl is
-    where
-      go : (b : Bool) → tooMany ts n k ≡ b → tableCame t ≡ cond b noTable whole-table → tooMany ts n k ≡ true
-      go true f h = f
-      go false f h =
-          let o : refused 9 ≡ counted (length (setsOf ts n k)) = sym (ap toldOf e) ∙ ap told-of h in
-          absurd (let z : _≡_ {A = ℕ} 0 1 = cc in omega arith)
+  is-over e = told-refused (tooMany ts n k) (length (setsOf ts n k)) (sym (ap toldOf e) ∙ told)
 
 -- the table and the merged starts make the built rule
 pub whole : (r : Rule) (t : SetTable) → tableCame t ≡ tableOf (r .targets) (r .n) (r .k) → (c : ℕ) → t .answer ≡ Whole c

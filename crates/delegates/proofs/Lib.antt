@@ -2,8 +2,8 @@
 pub mod Tests
 pub mod Lists
 pub mod Classes
-pub mod Merging
 pub mod Merged
+pub mod Merging
 pub mod Alike
 pub mod Acceptance
 pub mod Claims

@@ -37,11 +37,11 @@ module _ (sets next : List ℕ) (finals : ℕ) (singles : List ℕ) (n k : ℕ) 
       (found test 0 q q (omega arith) (alike-near sets next finals (min k 16) 513 (singleAt singles q) (singleAt singles q) (λ w x. refl)))
 
   -- what stands at cell q
-  cell : ℕ → ℕ
+  abbrev pub cell : ℕ → ℕ
   cell q = cond (ltb q (min n 32)) (delegateOf sets next finals singles (min k 16) q) 0
 
   pub starts-meet : MergedSets (startsOf sets next finals singles n k)
-  unfolding startsOf cell
+  unfolding startsOf
   starts-meet = record {
     cells = length-listFrom 0 32 cell;
     delegates = λ q h.

@@ -23,6 +23,7 @@ use Rattle.delegates.specs.Refinement.{classOf, firstInClass, classesOf}
 use Rattle.delegates.proofs.Tests.{first-same}
 use Rattle.delegates.proofs.Lists.{zero-cells, stored}
 use Rattle.delegates.proofs.Classes.{class-test}
+use Rattle.delegates.proofs.Merged.{cell}
 
 count-set : (d : List ℕ) (q v m : ℕ) → m ≤ q → startCount (set d q v) m ≡ startCount d m
 unfolding startCount
@@ -99,16 +100,12 @@ module _ (sets next : List ℕ) (finals : ℕ) (singles : List ℕ) (k : ℕ) wh
 
 -- ---- at the end
 module _ (sets next : List ℕ) (finals : ℕ) (singles : List ℕ) (n k : ℕ) where
-  -- what stands at cell q
-  cell : ℕ → ℕ
-  cell q = cond (ltb q (min n 32)) (delegateOf sets next finals singles (min k 16) q) 0
-
   pub all-merged : (own delegates : List ℕ) (starts q : ℕ) → q ≡ min n 32 → Merging sets next finals singles (min k 16) own delegates starts q
       → record { delegates = delegates; count = starts } ≡ startsOf sets next finals singles n k
-  unfolding startsOf cell
+  unfolding startsOf
   all-merged own delegates starts q e m =
-      let same : delegates ≡ listFrom 0 32 cell =
-      is-listFrom delegates 32 cell (m .cells)
+      let same : delegates ≡ listFrom 0 32 (cell sets next finals singles n k) =
+      is-listFrom delegates 32 (cell sets next finals singles n k) (m .cells)
       (λ b l.
       by-test (ltb b (min n 32))
       (λ t. let h = ltb-true b (min n 32) t in m .lowest b (omega arith) ∙ rw t)

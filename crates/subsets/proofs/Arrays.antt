@@ -1,6 +1,6 @@
 -- One lemma over plain lists for each way out of `find`, `number` and `step`, and what their answers tell. Assumes nothing.
 --
---   limited-.., whole-of, over-of   an answer and the limit of 512 sets
+--   told-.., limited-.., whole-of, over-of   an answer and the limit of 512 sets
 --   found-..                        the search
 --   cells-..                        the sets as an array
 --   entered-..                      a set's turn
@@ -31,6 +31,15 @@ use Rattle.subsets.specs.Steps.{limited, cellsOf, Entered, target, after
 use Rattle.subsets.proofs.Numbers.{Has, nowhere, number-is, numbered-empty, numbered-kept, numbered-taken, number-taken}
 
 -- ---- at most 512
+-- what is told of so many sets, where `over` says whether they are too many
+pub told-counted : (over : Bool) (count c : ℕ) → counted c ≡ cond over (refused 9) (counted count) → (over ≡ false) × (c ≡ count)
+told-counted true count c e = absurd (let z : _≡_ {A = ℕ} 0 1 = cc in omega arith)
+told-counted false count c e = (refl, cc)
+
+pub told-refused : (over : Bool) (count : ℕ) → refused 9 ≡ cond over (refused 9) (counted count) → over ≡ true
+told-refused true count e = refl
+told-refused false count e = absurd (let z : _≡_ {A = ℕ} 0 1 = cc in omega arith)
+
 module _ (f : List ℕ) where
   pub limited-whole : length f ≤ 512 → counted (length f) ≡ limited f
   limited-whole h = rw (le-ltb 512 (length f) h)
@@ -39,18 +48,12 @@ module _ (f : List ℕ) where
   limited-over h = rw (lt-ltb 512 (length f) h)
 
   pub whole-of : (r : Numbering) (c : ℕ) → toldOf r ≡ limited f → r ≡ Whole c → (length f ≤ 512) × (c ≡ length f)
-  whole-of r c e g = go (ltb 512 (length f)) refl (rw g at e)
-    where
-      go : (b : Bool) → ltb 512 (length f) ≡ b → counted c ≡ cond b (refused 9) (counted (length f)) → (length f ≤ 512) × (c ≡ length f)
-      go true t h = absurd (let z : _≡_ {A = ℕ} 0 1 = cc in omega arith)
-      go false t h = (ltb-false 512 (length f) t, cc)
+  whole-of r c e g =
+      let x = told-counted (ltb 512 (length f)) (length f) c (sym (ap toldOf g) ∙ e) in
+      (ltb-false 512 (length f) (x .0), x .1)
 
   pub over-of : (r : Numbering) → toldOf r ≡ limited f → r ≡ Over → 512 < length f
-  over-of r e g = go (ltb 512 (length f)) refl (rw g at e)
-    where
-      go : (b : Bool) → ltb 512 (length f) ≡ b → refused 9 ≡ cond b (refused 9) (counted (length f)) → 512 < length f
-      go true t h = ltb-true 512 (length f) t
-      go false t h = absurd (let z : _≡_ {A = ℕ} 0 1 = cc in omega arith)
+  over-of r e g = ltb-true 512 (length f) (told-refused (ltb 512 (length f)) (length f) (sym (ap toldOf g) ∙ e))
 
 -- ---- the search
 module _ (sets : List ℕ) (count m most : ℕ) (is : most ≡ min count (length sets)) where
