@@ -11,7 +11,7 @@ use Rattle.automaton.specs.declared.Rule.{Rule}
 use Rattle.automaton.specs.Rules.{WellFormed}
 use Rattle.subsets.specs.Sets.{setsOf, tooMany, setCells}
 use Rattle.subsets.specs.Claims.{fits}
-use Rattle.delegates.specs.Classes.{numberOf}
+use Rattle.subsets.specs.Singles.{singletonNumber}
 use Rattle.delegates.proofs.Claims as delegates
 use Rattle.build.specs.Building.{builtOf}
 use Rattle.build.specs.Claims.{Claims}
@@ -24,7 +24,7 @@ module _ (r : Rule) (good : WellFormed r) (f : fits r) where
   names : (q : ℕ) → q < r .n → (getD (builtOf r .singles) q 0 < builtOf r .count) × (getD (builtOf r .sets) (getD (builtOf r .singles) q 0) 0 ≡ single q)
   names q h =
       let s = delegates.claims .singles r good f q h in
-      let number = numberOf (setCells (r .targets) (r .n) (r .k)) (length (setsOf (r .targets) (r .n) (r .k))) in
+      let number = singletonNumber (setCells (r .targets) (r .n) (r .k)) (length (setsOf (r .targets) (r .n) (r .k))) in
       let e : getD (builtOf r .singles) q 0 ≡ number q = cell-of 32 number q 0 (omega (arith, good .states)) in
       let m = few in
       (rw e (s .0), rw e (cell-of 512 (λ i. getD (setsOf (r .targets) (r .n) (r .k)) i 0) (number q) 0 (omega (arith, s .0)) ∙ s .1))

@@ -1,59 +1,73 @@
--- What an answer of `number_sets` tells, and a rule built from what it leaves. Assumes nothing.
+-- What a table of numbered sets tells, and a rule built from it. Assumes nothing.
 use mathlib.Core.Path.{_≡_, sym, ap, _∙_}
-use mathlib.Core.Bool.{true, false}
+use mathlib.Core.Bool.{Bool, true, false, cond}
 use mathlib.Core.List.{List}
 use Prim.Native.Nat.{ℕ, _≤_, min}
-use native.Mathlib.Omega.{arith}
 use lib.ListN.{length}
 use borrow.Author.Tests.{ltb-false}
-use Rattle.masks.specs.Lists.{listFrom}
-use Rattle.masks.proofs.Cases.{by-test}
 use Rattle.automaton.specs.declared.Rule.{Rule}
-use Rattle.subsets.specs.declared.Numbering.{Numbering}
 use Rattle.subsets.specs.declared.Numbering.the-variants.{Whole, Over}
-use Rattle.subsets.specs.Sets.{setsOf, tooMany}
-use Rattle.subsets.specs.Answer.{counted, refused, toldOf, Answered}
+use Rattle.subsets.specs.declared.SetTable.{SetTable}
+use Rattle.subsets.specs.Sets.{setsOf, tooMany, setCells, nextCells}
+use Rattle.subsets.specs.Singles.{singlesOf}
+use Rattle.subsets.specs.Answer.{counted, refused, toldOf, Table, noTable, tableCame, tableOf}
+use Rattle.subsets.proofs.Arrays.{told-counted, told-refused}
 use Rattle.delegates.specs.declared.Starts.{Starts}
-use Rattle.delegates.specs.Classes.{numberOf, startsOf}
+use Rattle.delegates.specs.Classes.{startsOf}
 use Rattle.delegates.specs.Claims.{startsIn}
 use Rattle.build.specs.declared.BuildAnswer.the-variants.{Accepted, Refused}
 use Rattle.build.specs.declared.Built.{Built}
 use Rattle.build.specs.Building.{noBuilt, buildCame, buildOf}
 
-module _ (ts : List ℕ) (n k : ℕ) (r : Numbering) (sets next : List ℕ) (answered : Answered ts n k r sets next) where
-  -- a count: there are not too many
-  pub not-over : (c : ℕ) → r ≡ Whole c → tooMany ts n k ≡ false
-  not-over c e =
-      by-test (tooMany ts n k)
-      (λ t.
-      let o : counted c ≡ refused 9 = sym (ap toldOf e) ∙ answered .count ∙ rw t in
-      absurd (let z : _≡_ {A = ℕ} 0 1 = cc in omega arith))
-      (λ f. f)
+module _ (ts : List ℕ) (n k : ℕ) (t : SetTable) (is : tableCame t ≡ tableOf ts n k) where
+  -- a count: there are not too many, and the arrays are the rule's
+  record Counted (c : ℕ) : Type 0 where
+    fits : tooMany ts n k ≡ false
+    count : c ≡ length (setsOf ts n k)
+    sets-are : t .sets ≡ setCells ts n k
+    next-are : t .next ≡ nextCells ts n k
+    singles-are : t .singles ≡ singlesOf (setCells ts n k) (length (setsOf ts n k))
 
-  pub the-count : (c : ℕ) → r ≡ Whole c → c ≡ length (setsOf ts n k)
-  the-count c e =
-      let o : counted c ≡ counted (length (setsOf ts n k)) = sym (ap toldOf e) ∙ answered .count ∙ rw (not-over c e) in
-      cc
+  whole-table : Table
+  whole-table = record {
+    told = counted (length (setsOf ts n k));
+    sets = setCells ts n k;
+    next = nextCells ts n k;
+    singles = singlesOf (setCells ts n k) (length (setsOf ts n k));
+  }
 
-  few : tooMany ts n k ≡ false → length (setsOf ts n k) ≤ 512
+  told : toldOf (t .answer) ≡ cond (tooMany ts n k) (refused 9) (counted (length (setsOf ts n k)))
+  unfolding tableOf whole-table
+  told = go (tooMany ts n k) is
+    where
+      go : (b : Bool) → tableCame t ≡ cond b noTable whole-table → toldOf (t .answer) ≡ cond b (refused 9) (counted (length (setsOf ts n k)))
+      go true h = ap (λ (x : Table). x .told) h
+      go false h = ap (λ (x : Table). x .told) h
+
+  counted-of : (c : ℕ) → t .answer ≡ Whole c → Counted c
+  unfolding tableOf whole-table
+  counted-of c e =
+      let x = told-counted (tooMany ts n k) (length (setsOf ts n k)) c (sym (ap toldOf e) ∙ told) in
+      let h : tableCame t ≡ whole-table = is ∙ rw (x .0) in
+      record {
+        fits = x .0;
+        count = x .1;
+        sets-are = ap (λ (y : Table). y .sets) h;
+        next-are = ap (λ (y : Table). y .next) h;
+        singles-are = ap (λ (y : Table). y .singles) h;
+      }
+
+  pub at-most-512 : (c : ℕ) → t .answer ≡ Whole c → c ≤ 512
   unfolding tooMany
-  few f = ltb-false 512 (length (setsOf ts n k)) f
-
-  pub at-most-512 : (c : ℕ) → r ≡ Whole c → c ≤ 512
-  at-most-512 c e = rw (the-count c e) (few (not-over c e))
+  at-most-512 c e = let w = counted-of c e in rw (w .count) (ltb-false 512 (length (setsOf ts n k)) (w .fits))
 
   -- no count: there are too many
-  pub is-over : r ≡ Over → tooMany ts n k ≡ true
-  is-over e =
-      by-test (tooMany ts n k) (λ t. t)
-      (λ f.
-      let o : refused 9 ≡ counted (length (setsOf ts n k)) = sym (ap toldOf e) ∙ answered .count ∙ rw f in
-      absurd (let z : _≡_ {A = ℕ} 0 1 = cc in omega arith))
+  is-over : t .answer ≡ Over → tooMany ts n k ≡ true
+  is-over e = told-refused (tooMany ts n k) (length (setsOf ts n k)) (sym (ap toldOf e) ∙ told)
 
--- the two arrays, the merged starts and the numbers of singletons make the built rule
-pub whole : (r : Rule) (a : Numbering) (sets next : List ℕ) → Answered (r .targets) (r .n) (r .k) a sets next → (c : ℕ) → a ≡ Whole c
-    → (s : Starts) → s ≡ startsOf sets next (r .finals) c (r .n) (r .k)
-    → (singles : List ℕ) → singles ≡ listFrom 0 32 (numberOf sets c)
+-- the table and the merged starts make the built rule
+pub whole : (r : Rule) (t : SetTable) → tableCame t ≡ tableOf (r .targets) (r .n) (r .k) → (c : ℕ) → t .answer ≡ Whole c
+    → (s : Starts) → s ≡ startsOf (t .sets) (t .next) (r .finals) (t .singles) (r .n) (r .k)
     → (n k : ℕ) → n ≡ min (r .n) 32 → k ≡ min (r .k) 16
     → buildCame (record {
       answer = Accepted c (s .count);
@@ -65,21 +79,18 @@ pub whole : (r : Rule) (a : Numbering) (sets next : List ℕ) → Answered (r .t
         initials = r .initials;
         finals = r .finals;
         delegates = s .delegates;
-        singles = singles;
-        sets = sets;
-        next = next;
+        singles = t .singles;
+        sets = t .sets;
+        next = t .next;
       };
     })
     ≡ buildOf r
 unfolding buildOf startsIn
-whole r a sets next answered c e s merged singles are n k n-is k-is =
-    let f = not-over (r .targets) (r .n) (r .k) a sets next answered c e in
-    let count = the-count (r .targets) (r .n) (r .k) a sets next answered c e in
-    let masks = answered .sets-are f in
-    let cells = answered .next-are f in
-    rw (merged, are, n-is, k-is, f, masks, cells, count)
+whole r t is c e s merged n k n-is k-is =
+    let w = counted-of (r .targets) (r .n) (r .k) t is c e in
+    rw (merged, n-is, k-is, w .fits, w .sets-are, w .next-are, w .singles-are, w .count)
 
-pub too-many : (r : Rule) (a : Numbering) (sets next : List ℕ) → Answered (r .targets) (r .n) (r .k) a sets next → a ≡ Over
+pub too-many : (r : Rule) (t : SetTable) → tableCame t ≡ tableOf (r .targets) (r .n) (r .k) → t .answer ≡ Over
     → (b : Built) → b ≡ noBuilt → buildCame (record { answer = Refused 9; built = b }) ≡ buildOf r
 unfolding buildOf
-too-many r a sets next answered e b is = rw (is, is-over (r .targets) (r .n) (r .k) a sets next answered e)
+too-many r t is e b none = rw (none, is-over (r .targets) (r .n) (r .k) t is e)

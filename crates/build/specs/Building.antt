@@ -10,10 +10,9 @@ use mathlib.Core.Bool.{cond}
 use mathlib.Core.List.{List}
 use Prim.Native.Nat.{ℕ, min}
 use lib.ListN.{length, replicate}
-use Rattle.masks.specs.Lists.{listFrom}
 use Rattle.automaton.specs.declared.Rule.{Rule}
 use Rattle.subsets.specs.Sets.{setsOf, tooMany, setCells, nextCells}
-use Rattle.delegates.specs.Classes.{numberOf}
+use Rattle.subsets.specs.Singles.{singlesOf}
 use Rattle.delegates.specs.Claims.{startsIn}
 use Rattle.build.specs.declared.BuildAnswer.{BuildAnswer}
 use Rattle.build.specs.declared.BuildAnswer.the-variants.{Accepted, Refused}
@@ -42,7 +41,7 @@ module _ (r : Rule) where
     initials = r .initials;
     finals = r .finals;
     delegates = startsIn r .delegates;
-    singles = listFrom 0 32 (numberOf (setCells (r .targets) (r .n) (r .k)) (length sets));
+    singles = singlesOf (setCells (r .targets) (r .n) (r .k)) (length sets);
     sets = setCells (r .targets) (r .n) (r .k);
     next = nextCells (r .targets) (r .n) (r .k);
   }

@@ -1,11 +1,7 @@
 // Builds a rule: its numbered sets, its next-set table, its delegates and the number of its starts.
 ghost use mathlib.Core.Path.{_≡_};
-ghost use Prim.Native.Nat.{_≤_};
-ghost use Rattle.masks.specs.Lists.{listFrom};
-ghost use Rattle.delegates.specs.Classes.{numberOf};
 ghost use Rattle.build.specs.Building.{noBuilt, buildCame, buildOf};
 use automaton::Rule;
-use masks::StateNumber;
 use subsets::Numbering;
 
 // A rule that is built. starts is M; singles has the number of {q} for each state q. Any cell of next or singles at or above 512 reads as
@@ -34,21 +30,6 @@ pub enum BuildAnswer {
 pub struct Building {
     pub answer: BuildAnswer,
     pub built: Built,
-}
-
-// The number of {q} for each state q.
-fn number_singles(sets: &[u32; 512], count: usize) -> [u16; 32]
-    requires { ⌜ count ≤ 512 ⌝ }
-    ensures { λ r. ⌜ r ≡ listFrom 0 32 (numberOf (now (sets .entry)) count) ⌝ }
-{
-    let mut singles = [0u16; 32];
-    let mut q: usize = 0;
-    while q < 32 {
-        let number = delegates::number_of(sets, count, StateNumber(q as u8));
-        singles[q] = number.0;
-        q += 1;
-    }
-    singles
 }
 
 // Zeros in every field.
@@ -80,12 +61,14 @@ pub fn build_rule(rule: Rule) -> Building
     let n = rule.n;
     let k = rule.k;
     let finals = rule.finals;
-    let mut sets = [0u32; 512];
-    let mut next = [0u16; 8192];
-    match subsets::number_sets(&rule.targets, n, k, &mut sets, &mut next) {
+    let table = subsets::number_sets(&rule.targets, n, k);
+    let numbered = table.answer;
+    match numbered {
         Numbering::Whole(count) => {
-            let merged = delegates::merge_starts(&sets, &next, count, finals, n, k);
-            let singles = number_singles(&sets, count);
+            let sets = table.sets;
+            let next = table.next;
+            let singles = table.singles;
+            let merged = delegates::merge_starts(&sets, &next, &singles, finals, n, k);
             let delegates = merged.delegates;
             let starts = merged.count;
             let built = Built {

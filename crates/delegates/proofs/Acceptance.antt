@@ -12,7 +12,8 @@ use Prim.Native.Nat.{ℕ, _+_, _*_, _/_, _%_, _≤_, _<_, min, zero-le}
 use native.Mathlib.Omega.{arith}
 use borrow.Author.Tests.{ltb-false, eqb-true, eqb-false}
 use lib.Dec.{eqb}
-use lib.ListN.{length, getD}
+use lib.ListN.{length, getD, take}
+use lib.Seq.{length-take-le}
 use lib.Pow.{pow-lt, pow-pos}
 use Rattle.masks.specs.Masks.{single, shares}
 use Rattle.masks.proofs.Cases.{by-test}
@@ -25,11 +26,12 @@ use Rattle.automaton.specs.Successor.{successor, after}
 use Rattle.automaton.proofs.Laws.{after-law, after-empty}
 use Rattle.subsets.specs.Sets.{tooMany, nextSet, setCells, nextCells}
 use Rattle.subsets.specs.Claims.{Claims as SubsetsClaims, sets, next, fits}
+use Rattle.subsets.specs.Singles.{singletonNumber, singlesOf}
+use Rattle.subsets.proofs.Singles.{single-named}
 use Rattle.delegates.specs.Alike.{AcceptsFrom, Text, Alike, Delegate, Merged}
-use Rattle.delegates.specs.Classes.{follow, Least, numberOf, accepted, AlikeSets}
+use Rattle.delegates.specs.Classes.{follow, singleAt, accepted, AlikeSets}
 use Rattle.delegates.specs.Claims.{startsIn}
-use Rattle.delegates.proofs.Tests.{same-truth, le-by}
-use Rattle.delegates.proofs.Numbers.{named}
+use Rattle.delegates.proofs.Tests.{Least, same-truth, le-by}
 use Rattle.delegates.proofs.Classes.{final-set, final-empty, follow-set, follow-empty}
 use Rattle.delegates.proofs.Merged.{starts-meet}
 use Rattle.delegates.proofs.Alike.{alike-back}
@@ -110,12 +112,11 @@ module _ (given : SubsetsClaims) (r : Rule) (good : WellFormed r) (fit : fits r)
   )
 
   -- ---- the number of {q}
-  numbered : ℕ → ℕ
-  numbered q = numberOf masks (min (length (sets r)) 512) q
-
-  names : (q : ℕ) → q < r .n → (numbered q < length (sets r)) × (getD (sets r) (numbered q) 0 ≡ single q)
-  unfolding numbered masks
-  names q h =
+  pub named-single : (q : ℕ) → q < r .n
+      → (singletonNumber (setCells (r .targets) (r .n) (r .k)) (length (sets r)) q < length (sets r))
+      × (getD (sets r) (singletonNumber (setCells (r .targets) (r .n) (r .k)) (length (sets r)) q) 0 ≡ single q)
+  unfolding masks
+  named-single q h =
       let there = given .complete r good fit (single q) (record {
         some-state = λ z. omega (arith, pow-pos q);
         state = q;
@@ -123,17 +124,26 @@ module _ (given : SubsetsClaims) (r : Rule) (good : WellFormed r) (fit : fits r)
         text = [];
         leads = refl;
       }) in
-      let len : length masks ≡ 512 = length-listFrom 0 512 (λ j. getD (sets r) j 0) in
-      let f = few in
-      let found = named masks (min (length (sets r)) 512) q (omega arith) (there .0) (omega (arith, there .1)) (mask-at (there .0) (there .1) ∙ there .2) in
-      let l : numbered q < length (sets r) = omega (arith, found .0) in
-      (l, sym (mask-at (numbered q) l) ∙ found .1)
+      let all : length (take (length (sets r)) masks) ≡ length (sets r) =
+      length-take-le (length (sets r)) masks (omega (arith, few, length-listFrom 0 512 (λ j. getD (sets r) j 0))) in
+      let found = rw all at (single-named masks (length (sets r)) q (there .0) (rw all (there .1)) (mask-at (there .0) (there .1) ∙ there .2)) in
+      (found .0, sym (mask-at (singletonNumber masks (length (sets r)) q) (found .0)) ∙ found .1)
 
-  pub named-single : (q : ℕ) → q < r .n
-      → (numberOf (setCells (r .targets) (r .n) (r .k)) (length (sets r)) q < length (sets r))
-      × (getD (sets r) (numberOf (setCells (r .targets) (r .n) (r .k)) (length (sets r)) q) 0 ≡ single q)
-  unfolding numbered masks
-  named-single q h = let f = few in let e : min (length (sets r)) 512 ≡ length (sets r) = omega arith in rw e at (names q h)
+  singles : List ℕ
+  singles = singlesOf masks (length (sets r))
+
+  -- the set {q}
+  numbered : ℕ → ℕ
+  numbered q = singleAt singles q
+
+  names : (q : ℕ) → q < r .n → (numbered q < length (sets r)) × (getD (sets r) (numbered q) 0 ≡ single q)
+  unfolding numbered singles masks
+  names q h =
+      let number = named-single q h in
+      let e : numbered q ≡ singletonNumber masks (length (sets r)) q =
+      ap (λ (x : ℕ). min x 512) (cell-of 32 (singletonNumber masks (length (sets r))) q 0 (omega (arith, good .states)))
+      ∙ omega (arith, number .0, few) in
+      rw e number
 
   -- ---- alike sets and alike states
   state-law : (q : ℕ) → q < r .n → (w : List ℕ) → Text (r .k) w
@@ -169,11 +179,11 @@ module _ (given : SubsetsClaims) (r : Rule) (good : WellFormed r) (fit : fits r)
       }
 
   pub merged : Merged (automatonOf r) (startsIn r .delegates) (startsIn r .count)
-  unfolding masks cells numbered startsIn
+  unfolding masks cells singles numbered startsIn
   merged =
       let n : min (r .n) 32 ≡ r .n = omega (arith, good .states) in
       let k : min (r .k) 16 ≡ r .k = omega (arith, good .symbols) in
-      let m = starts-meet masks cells (r .finals) (length (sets r)) (r .n) (r .k) in
+      let m = starts-meet masks cells (r .finals) singles (r .n) (r .k) in
       record {
         cells = m .cells;
         delegates = λ q h. delegate-of q (getD (startsIn r .delegates) q 0) h (rw k at (m .delegates q (omega arith)));

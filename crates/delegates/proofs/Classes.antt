@@ -7,21 +7,23 @@
 -- class, and there are 513; so rounds end, and what texts shorter than 513 do not tell apart no text does.
 use mathlib.Core.Path.{_≡_, refl, sym, ap, _∙_}
 use mathlib.Core.Logic.{_⊎_, inl, inr, ⊎-elim, _↔_}
-use mathlib.Core.Bool.{Bool, true, false, Bool·beq}
+use mathlib.Core.Bool.{Bool, true, false, not, _&&_, Bool·beq, true≢false}
 use mathlib.Core.List.{List, [], _∷_}
-use Prim.Native.Nat.{ℕ, zero, suc, _+_, _*_, _≤_, _<_, min, zero-le}
+use Prim.Native.Nat.{ℕ, zero, suc, _+_, _-_, _*_, _≤_, _<_, min, zero-le}
 use native.Mathlib.Nat.{le-antisymm}
 use native.Mathlib.Decide.{ℕ-discrete}
 use native.Mathlib.Omega.{arith}
 use borrow.Author.Count.{below-none, below-more}
-use borrow.Author.Tests.{lt-ltb, le-ltb, ltb-true, ltb-false}
-use lib.Dec.{ltb}
+use borrow.Author.Tests.{lt-ltb, le-ltb, ltb-true, ltb-false, eq-eqb, eqb-true}
+use lib.Dec.{eqb, ltb}
 use lib.ListN.{length, getD}
 use Rattle.masks.specs.Masks.{shares}
 use Rattle.masks.proofs.Cases.{by-test}
+use Rattle.masks.proofs.Lists.{cell-of, is-listFrom}
 use Rattle.delegates.specs.Alike.{Text}
-use Rattle.delegates.specs.Classes.{final, follow, Least, classOf, accepted, AlikeSets, Same, Round, Classes, every, firstFrom, alikeTo}
-use Rattle.delegates.proofs.Tests.{le-by, both, equal, every-law, found, least-by}
+use Rattle.delegates.specs.Classes.{final, follow, accepted, AlikeSets, every, firstFrom, alikeTo}
+use Rattle.delegates.specs.Refinement.{classOf, sameIn, leastOf, roundOf, changes, classesOf}
+use Rattle.delegates.proofs.Tests.{Least, same-truth, le-by, both, equal, every-law, found, least-by, one-least}
 use Rattle.delegates.proofs.Lists.{kept, kept-most, kept-less}
 
 -- ---- final, follow
@@ -68,6 +70,10 @@ module _
     own s hs =
         let m = least s hs .most in
         joined (class s) s (omega arith) hs (least s hs .has)
+
+not-false : (b : Bool) → not b ≡ false → b ≡ true
+not-false true e = refl
+not-false false e = absurd (true≢false e)
 
 -- numbers that agree below n, or the place of a difference
 pub first-other : (f g : ℕ → ℕ) (n : ℕ) → ((a : ℕ) → a < n → f a ≡ g a) ⊎ ((a : ℕ) × (a < n) × (f a ≡ g a → ⊥))
@@ -194,15 +200,53 @@ module _ (sets next : List ℕ) (finals k : ℕ) where
       (λ h. x .2 s t hs ht (near-less (x .0) 513 s t (omega (arith, x .1)) h), alike-near 513 s t)
 
   -- ---- a round
-  pub same-self : (c : List ℕ) (s : ℕ) → Same sets next finals k c s s
-  same-self c s = record { here = refl; kind = refl; there = λ a l. refl }
+  -- sets t and s have one class, are both final or neither, and have successors in one class
+  pub record Same (c : List ℕ) (t s : ℕ) : Type 0 where
+    pub here : classOf c t ≡ classOf c s
+    pub kind : final sets finals t ≡ final sets finals s
+    pub there : (a : ℕ) → a < k → classOf c (follow next t a) ≡ classOf c (follow next s a)
+
+  pub same-law : (c : List ℕ) (t s : ℕ) → (sameIn sets next finals k c t s ≡ true) ↔ Same c t s
+  unfolding sameIn
+  same-law c t s =
+      let kind = Bool·beq (final sets finals t) (final sets finals s) in
+      let next-test : ℕ → Bool = λ a. eqb (classOf c (follow next t a)) (classOf c (follow next s a)) in
+      let law = both (eqb (classOf c t) (classOf c s)) (kind && every k next-test) in
+      let rest = both kind (every k next-test) in
+      let one = equal (final sets finals t) (final sets finals s) in
+      let all = every-law k next-test in (
+        (λ h.
+            let x = law .0 h in
+            let y = rest .0 (x .1) in
+            record {
+              here = eqb-true (classOf c t) (classOf c s) (x .0);
+              kind = one .0 (y .0);
+              there = λ a l. eqb-true (classOf c (follow next t a)) (classOf c (follow next s a)) (all .0 (y .1) a l);
+            }),
+        λ x.
+            law .1 (
+              eq-eqb (classOf c t) (classOf c s) (x .here),
+              rest .1 (one .1 (x .kind), all .1 (λ a l. eq-eqb (classOf c (follow next t a)) (classOf c (follow next s a)) (x .there a l))),
+            ),
+      )
+
+  least-law : (c : List ℕ) (s : ℕ) → classOf c s ≤ s → Least (Same c) (classOf c s) s (leastOf sets next finals k c s)
+  unfolding leastOf
+  least-law c s h =
+      least-by (λ t _. sameIn sets next finals k c t s ≡ true) (Same c) (classOf c s) s (leastOf sets next finals k c s)
+      (λ t l. same-law c t s)
+      (found (λ t. sameIn sets next finals k c t s) (classOf c s) (s - classOf c s) s (omega arith)
+      (same-law c s s .1 (record { here = refl; kind = refl; there = λ a l. refl })))
 
   -- one class of all sets
   pub started : (c : List ℕ) → ((s : ℕ) → classOf c s ≡ 0) → ClassesTo 0 (classOf c)
   started c zeros s h = rw (zeros s) (record { from = zero-le; most = zero-le; has = near-first 0 s; first = λ v a b y. omega arith })
 
-  module _ (f : ℕ) (c : List ℕ) (at : ClassesTo f (classOf c)) (d : List ℕ) (changed : Bool) (round : Round sets next finals k c d changed) where
-    together : (s t : ℕ) → s ≤ 512 → t ≤ 512 → Same sets next finals k c t s ↔ Near (suc f) t s
+  module _ (f : ℕ) (c : List ℕ) (at : ClassesTo f (classOf c)) (d : List ℕ) (is : d ≡ roundOf sets next finals k c) where
+    new-class : (s : ℕ) → s ≤ 512 → classOf d s ≡ leastOf sets next finals k c s
+    new-class s h = ap (λ (l : List ℕ). classOf l s) is ∙ cell-of 513 (leastOf sets next finals k c) s 0 (omega arith)
+
+    together : (s t : ℕ) → s ≤ 512 → t ≤ 512 → Same c t s ↔ Near (suc f) t s
     together s t hs ht = (
       (λ x.
           near-law f t s .1
@@ -218,7 +262,7 @@ module _ (sets next : List ℕ) (finals k : ℕ) where
 
     pub after-round : ClassesTo (suc f) (classOf d)
     after-round s h =
-        let x = round .least s h in
+        let x : Least (Same c) (classOf c s) s (classOf d s) = rw (new-class s h) (least-law c s (at s h .most)) in
         let m = x .most in
         record {
           from = zero-le;
@@ -230,20 +274,58 @@ module _ (sets next : List ℕ) (finals k : ℕ) where
               (λ t. x .first v (ltb-false v (classOf c s) t) l (together s v h (omega arith) .1 y));
         }
 
-    -- more sets are the lowest of their class where a class changed
-    pub rises : changed ≡ true → kept (classOf c) 513 < kept (classOf d) 513
-    rises e = let m = round .moved e in more f (classOf c) (classOf d) at after-round (m .0) (m .1) (λ z. omega (arith, m .2))
+    same-class : ℕ → Bool
+    same-class s = eqb (classOf c s) (leastOf sets next finals k c s)
 
-    pub done : changed ≡ false → Classes sets next finals k c
-    done e s h =
-        least-by (Near f) (AlikeSets sets next finals k) 0 s (classOf c s)
-        (λ t l. (settled f (classOf c) (classOf d) at after-round (round .still e) t s (omega arith) h, alike-near f t s))
-        (at s h)
+    -- where no class changes, the round says so
+    unchanged : ((s : ℕ) → s < 513 → classOf d s ≡ classOf c s) → every 513 same-class ≡ true
+    unfolding same-class
+    unchanged all =
+        every-law 513 same-class .1
+        (λ s l. eq-eqb (classOf c s) (leastOf sets next finals k c s) (sym (all s l) ∙ new-class s (omega arith)))
+
+    -- more sets are the lowest of their class where a class changed
+    pub rises : changes sets next finals k c ≡ true → kept (classOf c) 513 < kept (classOf d) 513
+    unfolding same-class
+    rises e =
+        ⊎-elim
+        (λ all. absurd (true≢false (sym e ∙ ap not (unchanged all))))
+        (λ x. more f (classOf c) (classOf d) at after-round (x .0) (omega (arith, x .1)) (x .2))
+        (first-other (classOf d) (classOf c) 513)
+
+    still : changes sets next finals k c ≡ false → (s : ℕ) → s ≤ 512 → classOf d s ≡ classOf c s
+    unfolding same-class
+    still e s h =
+        let all : every 513 same-class ≡ true = not-false (every 513 same-class) e in
+        new-class s h ∙ sym (eqb-true (classOf c s) (leastOf sets next finals k c s) (every-law 513 same-class .0 all s (omega arith)))
+
+    -- the rounds end with the classes
+    pub done : length c ≡ 513 → changes sets next finals k c ≡ false → c ≡ classesOf sets next finals k
+    unfolding lowestTo
+    done long e =
+        is-listFrom c 513 (lowestTo 513) long
+        (λ s b.
+        let h : s ≤ 512 = omega arith in
+        one-least (Near 513) 0 s (classOf c s) (lowestTo 513 s)
+        (least-by (Near f) (Near 513) 0 s (classOf c s)
+        (λ t l.
+        let all = near-alike t s (omega arith) h in
+        (λ x. all .1 (settled f (classOf c) (classOf d) at after-round (still e) t s (omega arith) h x), λ x. alike-near f t s (all .0 x)))
+        (at s h))
+        (lowest-to 513 s h))
 
   -- ---- what the classes say of any two sets
-  module _ (c : List ℕ) (classes : Classes sets next finals k c) (s t : ℕ) (hs : s ≤ 512) (ht : t ≤ 512) where
-    pub alike-class : AlikeSets sets next finals k s t → classOf c s ≡ classOf c t
-    alike-class = joined (AlikeSets sets next finals k) (λ s t x w y. sym (x w y)) (λ s t u x z w y. x w y ∙ z w y) (classOf c) classes s t hs ht
+  class-at : (s : ℕ) → s ≤ 512 → classOf (classesOf sets next finals k) s ≡ lowestTo 513 s
+  unfolding lowestTo
+  class-at s h = cell-of 513 (lowestTo 513) s 0 (omega arith)
 
-    pub class-alike : classOf c s ≡ classOf c t → AlikeSets sets next finals k s t
-    class-alike = split (AlikeSets sets next finals k) (λ s t x w y. sym (x w y)) (λ s t u x z w y. x w y ∙ z w y) (classOf c) classes s t hs ht
+  pub class-test : (s t : ℕ) → s ≤ 512 → t ≤ 512
+      → eqb (classOf (classesOf sets next finals k) s) (classOf (classesOf sets next finals k) t) ≡ alikeTo sets next finals k 513 s t
+  class-test s t hs ht =
+      rw (class-at s hs, class-at t ht)
+      (same-truth (eqb (lowestTo 513 s) (lowestTo 513 t)) (alikeTo sets next finals k 513 s t) (
+        (λ e.
+            split (Near 513) (near-back 513) (near-on 513) (lowestTo 513) (lowest-to 513) s t hs ht (eqb-true (lowestTo 513 s) (lowestTo 513 t) e)),
+        λ h.
+            eq-eqb (lowestTo 513 s) (lowestTo 513 t) (joined (Near 513) (near-back 513) (near-on 513) (lowestTo 513) (lowest-to 513) s t hs ht h),
+      ))

@@ -1,10 +1,9 @@
 -- In the order in which they build on each other; what belongs to no one function.
 pub mod Tests
 pub mod Lists
-pub mod Numbers
 pub mod Classes
-pub mod Merging
 pub mod Merged
+pub mod Merging
 pub mod Alike
 pub mod Acceptance
 pub mod Claims

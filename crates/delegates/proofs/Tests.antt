@@ -1,21 +1,34 @@
--- Tests, and the answer of a test as what it decides. Assumes nothing.
+-- Tests, the answer of a test as what it decides, and the first number that passes one. Assumes
+-- nothing.
+--
+--   Least R lo s u   u is the lowest number from lo on that R relates to s, and is at most s
+--   first-..         a loop that searches from lo up to n, one number at a time
 use mathlib.Core.Path.{_≡_, refl, sym, ap, _∙_}
 use mathlib.Core.Logic.{_↔_, ⊎-elim}
 use mathlib.Core.Bool.{Bool, true, false, not, _&&_, Bool·beq, true≢false, false≢true}
-use Prim.Native.Nat.{ℕ, zero, suc, _+_, _≤_, _<_}
+use Prim.Native.Nat.{ℕ, zero, suc, _+_, _-_, _≤_, _<_}
 use native.Mathlib.Nat.{le-antisymm, eq-or-lt-of-le}
+use native.Mathlib.Numerals.{add-one}
 use native.Mathlib.Omega.{arith}
 use borrow.Author.Count.{below-none, below-more}
 use borrow.Author.Tests.{leb-true, leb-false}
 use lib.Dec.{leb}
 use Rattle.masks.proofs.Cases.{by-test}
-use Rattle.delegates.specs.Classes.{Least, every, firstFrom}
+use Rattle.delegates.specs.Classes.{every, firstFrom}
 
-pub confirmed : {P : Type 0} → P → (true ≡ true) ↔ P
-confirmed p = (λ e. p, λ x. refl)
+pub record Least (R : ℕ → ℕ → Type 0) (lo s u : ℕ) : Type 0 where
+  pub from : lo ≤ u
+  pub most : u ≤ s
+  pub has : R u s
+  pub first : (v : ℕ) → lo ≤ v → v < u → R v s → ⊥
 
-pub refuted : {P : Type 0} → (P → ⊥) → (false ≡ true) ↔ P
-refuted n = (λ e. absurd (false≢true e), λ p. absurd (n p))
+-- the answer of a test that decides P
+module _ {P : Type 0} {b : Bool} (law : (b ≡ true) ↔ P) where
+  pub confirmed : P → true ≡ b
+  confirmed p = sym (law .1 p)
+
+  pub refuted : (P → ⊥) → false ≡ b
+  refuted n = by-test b (λ t. absurd (n (law .0 t))) sym
 
 pub differ : (a b : Bool) → not (Bool·beq a b) ≡ true → a ≡ b → ⊥
 differ true true t e = false≢true t
@@ -42,6 +55,14 @@ pub both : (a b : Bool) → (a && b ≡ true) ↔ ((a ≡ true) × (b ≡ true))
 both true b = (λ e. (refl, e), λ x. x .1)
 both false b = (λ e. absurd (false≢true e), λ x. x .0)
 
+and-true : (a : Bool) → a && true ≡ a
+and-true true = refl
+and-true false = refl
+
+and-false : (a : Bool) → a && false ≡ false
+and-false true = refl
+and-false false = refl
+
 pub equal : (a b : Bool) → (Bool·beq a b ≡ true) ↔ (a ≡ b)
 equal true true = (λ e. refl, λ e. refl)
 equal true false = (λ e. absurd (false≢true e), λ e. absurd (true≢false e))
@@ -55,6 +76,37 @@ every-law (suc n) t = (
   (λ e a l. let x = both (every n t) (t n) .0 e in below-more (λ b. t b ≡ true) n (every-law n t .0 (x .0)) (x .1) a (omega arith)),
   λ h. both (every n t) (t n) .1 (every-law n t .1 (λ a l. h a (omega arith)), h n (omega arith)),
 )
+
+-- one number more passes, or does not
+module _ (t : ℕ → Bool) (n : ℕ) where
+  pub every-more : t n ≡ true → every n t ≡ every (n + 1) t
+  unfolding every
+  every-more e = rw (add-one, e) (sym (and-true (every n t)))
+
+  pub every-fails : t n ≡ false → true ≡ not (every (n + 1) t)
+  unfolding every
+  every-fails e = rw (add-one, e, and-false (every n t))
+
+-- a search, number by number
+module _ (t : ℕ → Bool) (lo n : ℕ) where
+  pub first-here : lo < n → t lo ≡ true → lo ≡ firstFrom t lo (n - lo)
+  unfolding firstFrom
+  first-here h e = let more : n - lo ≡ suc (n - suc lo) = omega arith in rw (more, e)
+
+  pub first-past : lo < n → t lo ≡ false → firstFrom t lo (n - lo) ≡ firstFrom t (lo + 1) (n - (lo + 1))
+  unfolding firstFrom
+  first-past h e = let more : n - lo ≡ suc (n - suc lo) = omega arith in rw (more, e, add-one)
+
+  pub first-end : n ≤ lo → lo ≡ firstFrom t lo (n - lo)
+  unfolding firstFrom
+  first-end h = let none : n - lo ≡ 0 = omega arith in rw none
+
+-- two tests that agree find the same
+pub first-same : (t u : ℕ → Bool) (lo f : ℕ) → ((p : ℕ) → p < lo + f → t p ≡ u p) → firstFrom t lo f ≡ firstFrom u lo f
+unfolding firstFrom
+first-same t u lo zero same = refl
+first-same t u lo (suc f) same =
+    rw (same lo (omega arith), first-same t u (suc lo) f (λ p l. same p (omega arith)))
 
 -- a search finds the lowest number that passes
 pub found : (t : ℕ → Bool) (lo f s : ℕ) → lo + f ≡ s → t s ≡ true → Least (λ p _. t p ≡ true) lo s (firstFrom t lo f)

@@ -11,14 +11,18 @@ use Rattle.automaton.specs.Automaton.{Automaton}
 use Rattle.automaton.specs.Rules.{automatonOf, WellFormed}
 use Rattle.subsets.specs.Sets.{setsOf, setCells, nextCells}
 use Rattle.subsets.specs.Claims.{fits}
+use Rattle.subsets.specs.Singles.{singletonNumber, singlesOf}
 use Rattle.delegates.specs.declared.Starts.{Starts}
 use Rattle.delegates.specs.Alike.{Alike, Delegate, Merged}
-use Rattle.delegates.specs.Classes.{numberOf, AlikeSets, alikeTo, startsOf}
+use Rattle.delegates.specs.Classes.{AlikeSets, alikeTo, startsOf}
 
 -- the delegates and the number of starts of a rule, by the arrays of its numbered sets
 unfoldable pub startsIn : Rule → Starts
 startsIn r =
-    startsOf (setCells (r .targets) (r .n) (r .k)) (nextCells (r .targets) (r .n) (r .k)) (r .finals) (length (setsOf (r .targets) (r .n) (r .k))) (r .n) (r .k)
+    startsOf (setCells (r .targets) (r .n) (r .k)) (nextCells (r .targets) (r .n) (r .k)) (r .finals)
+    (singlesOf (setCells (r .targets) (r .n) (r .k)) (length (setsOf (r .targets) (r .n) (r .k))))
+    (r .n)
+    (r .k)
 
 pub record Claims : Type 1 where
   -- of a well-formed rule with at most 512 sets, they are the delegates and the number of starts of the automaton
@@ -28,8 +32,8 @@ pub record Claims : Type 1 where
       → (alikeTo sets next finals k 513 s t ≡ true) ↔ AlikeSets sets next finals k s t
   -- each state's singleton has a number, which names it
   pub singles : (r : Rule) → WellFormed r → fits r → (q : ℕ) → q < r .n
-      → (numberOf (setCells (r .targets) (r .n) (r .k)) (length (setsOf (r .targets) (r .n) (r .k))) q < length (setsOf (r .targets) (r .n) (r .k)))
-      × (getD (setsOf (r .targets) (r .n) (r .k)) (numberOf (setCells (r .targets) (r .n) (r .k)) (length (setsOf (r .targets) (r .n) (r .k))) q) 0 ≡ single q)
+      → (singletonNumber (setCells (r .targets) (r .n) (r .k)) (length (setsOf (r .targets) (r .n) (r .k))) q < length (setsOf (r .targets) (r .n) (r .k)))
+      × (getD (setsOf (r .targets) (r .n) (r .k)) (singletonNumber (setCells (r .targets) (r .n) (r .k)) (length (setsOf (r .targets) (r .n) (r .k))) q) 0 ≡ single q)
   -- alike is an equivalence
   pub alike-self : (a : Automaton) (q : ℕ) → Alike a q q
   pub alike-back : (a : Automaton) (q r : ℕ) → Alike a q r → Alike a r q

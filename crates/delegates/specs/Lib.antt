@@ -2,3 +2,4 @@
 pub mod Alike
 pub mod Classes
 pub mod Claims
+pub mod Refinement

@@ -1,11 +1,10 @@
 // The delegates of states and the number of starts, by the classes of alike sets (Moore's refinement). 512 stands for the empty set, and so
 // does any number above it in the next-set table.
 ghost use mathlib.Core.Path.{_≡_};
-ghost use mathlib.Core.Logic.{_↔_};
-ghost use mathlib.Core.Bool.{true};
-ghost use Prim.Native.Nat.{ℕ, _≤_, _<_, min};
+ghost use Prim.Native.Nat.{_≤_, _<_};
 ghost use lib.ListN.{length};
-ghost use Rattle.delegates.specs.Classes.{final, follow as followOf, Least, classOf, numberOf, Same, Round, Classes, startsOf};
+ghost use Rattle.delegates.specs.Classes.{final, follow as followOf, singleAt, startsOf};
+ghost use Rattle.delegates.specs.Refinement.{sameIn, leastOf, roundOf, changes, classesOf, firstInClass};
 use masks::StateNumber;
 use subsets::SetNumber;
 
@@ -15,26 +14,12 @@ pub struct Starts {
     pub count: u8,
 }
 
-// An array has its length: these only say so, and are compiled to nothing.
-fn rows(sets: &[u32; 512]) -> usize
-    ensures { λ r. ⌜ length (now (sets .entry)) ≡ 512 ⌝ }
-{
-    let s: &[u32] = sets;
-    s.len()
-}
-
+// An array has its length: this only says so, and is compiled to nothing.
 fn cells(class: &[u16; 513]) -> usize
     ensures { λ r. ⌜ length (now (class .entry)) ≡ 513 ⌝ }
 {
     let s: &[u16] = class;
     s.len()
-}
-
-// x, but no more than most.
-fn at_most(x: usize, most: usize) -> usize
-    ensures { λ r. ⌜ r ≡ min x most ⌝ }
-{
-    if x < most { x } else { most }
 }
 
 // Whether the set holds a final state.
@@ -77,7 +62,7 @@ fn same(
     s: SetNumber,
 ) -> bool
     requires { ⌜ (k ≤ 16) × (t .0 ≤ 512) × (s .0 ≤ 512) ⌝ }
-    ensures { λ r. ⌜ (r ≡ true) ↔ Same (now (sets .entry)) (now (next .entry)) finals k (now (class .entry)) (t .0) (s .0) ⌝ }
+    ensures { λ r. ⌜ r ≡ sameIn (now (sets .entry)) (now (next .entry)) finals k (now (class .entry)) (t .0) (s .0) ⌝ }
 {
     let i = t.0 as usize;
     let j = s.0 as usize;
@@ -113,8 +98,8 @@ fn least(
     class: &[u16; 513],
     s: SetNumber,
 ) -> SetNumber
-    requires { ⌜ (k ≤ 16) × (s .0 ≤ 512) × (classOf (now class) (s .0) ≤ s .0) ⌝ }
-    ensures { λ r. ⌜ Least (Same (now (sets .entry)) (now (next .entry)) finals k (now (class .entry))) (classOf (now (class .entry)) (s .0)) (s .0) (r .0) ⌝ }
+    requires { ⌜ (k ≤ 16) × (s .0 ≤ 512) ⌝ }
+    ensures { λ r. ⌜ r .0 ≡ leastOf (now (sets .entry)) (now (next .entry)) finals k (now (class .entry)) (s .0) ⌝ }
 {
     let i = s.0 as usize;
     let mut t = class[i];
@@ -136,8 +121,9 @@ fn round(
     class: &[u16; 513],
     new: &mut [u16; 513],
 ) -> bool
-    requires { ⌜ (k ≤ 16) × ((s : ℕ) → s ≤ 512 → classOf (now class) s ≤ s) ⌝ }
-    ensures { λ r. ⌜ Round (now (sets .entry)) (now (next .entry)) finals k (now (class .entry)) (now (new .exit)) r ⌝ }
+    requires { ⌜ k ≤ 16 ⌝ }
+    ensures { λ r. ⌜ (now (new .exit) ≡ roundOf (now (sets .entry)) (now (next .entry)) finals k (now (class .entry)))
+        × (r ≡ changes (now (sets .entry)) (now (next .entry)) finals k (now (class .entry))) ⌝ }
 {
     cells(new);
     let mut changed = false;
@@ -147,7 +133,7 @@ fn round(
         let to = least(sets, next, finals, k, class, SetNumber(s));
         let from = class[i];
         new[i] = to.0;
-        if from < to.0 {
+        if from != to.0 {
             changed = true;
         }
         s += 1;
@@ -158,7 +144,7 @@ fn round(
 // The class of each set, and at 512 that of the empty set: rounds until nothing changes, from one class of all sets.
 fn refine(sets: &[u32; 512], next: &[u16; 8192], finals: u32, k: usize) -> [u16; 513]
     requires { ⌜ k ≤ 16 ⌝ }
-    ensures { λ r. ⌜ Classes (now (sets .entry)) (now (next .entry)) finals k r ⌝ }
+    ensures { λ r. ⌜ r ≡ classesOf (now (sets .entry)) (now (next .entry)) finals k ⌝ }
 {
     let mut class: [u16; 513] = [0; 513];
     let mut new: [u16; 513] = [0; 513];
@@ -172,27 +158,24 @@ fn refine(sets: &[u32; 512], next: &[u16; 8192], finals: u32, k: usize) -> [u16;
     }
 }
 
-// The number of {q} among the first m sets.
-pub fn number_of(sets: &[u32; 512], m: usize, q: StateNumber) -> SetNumber
-    requires { ⌜ (m ≤ 512) × (q .0 < 32) ⌝ }
-    ensures { λ r. ⌜ r .0 ≡ numberOf (now (sets .entry)) m (q .0) ⌝ }
+// The number of {q}, or 512 where it stands for the empty set.
+fn single(singles: &[u16; 32], q: StateNumber) -> SetNumber
+    requires { ⌜ q .0 < 32 ⌝ }
+    ensures { λ r. ⌜ r .0 ≡ singleAt (now (singles .entry)) (q .0) ⌝ }
 {
-    rows(sets);
-    let set = masks::singleton(q);
-    let mut i: usize = 0;
-    while i < m {
-        if sets[i] == set {
-            return SetNumber(i as u16);
-        }
-        i += 1;
+    let i = q.0 as usize;
+    let set = singles[i];
+    if set < 512 {
+        SetNumber(set)
+    } else {
+        SetNumber(512)
     }
-    SetNumber(512)
 }
 
 // The lowest state in the class of q; own has the class of each state up to q.
 fn delegate(own: &[u16; 32], q: StateNumber) -> StateNumber
     requires { ⌜ q .0 < 32 ⌝ }
-    ensures { λ r. ⌜ Least (λ p u. classOf (now (own .entry)) p ≡ classOf (now (own .entry)) u) 0 (q .0) (r .0) ⌝ }
+    ensures { λ r. ⌜ r .0 ≡ firstInClass (now (own .entry)) (q .0) ⌝ }
 {
     let j = q.0 as usize;
     let class = own[j];
@@ -207,27 +190,27 @@ fn delegate(own: &[u16; 32], q: StateNumber) -> StateNumber
     StateNumber(p)
 }
 
-// The delegates of n states, by the classes of their sets, of which there are count, over k symbols.
+// The delegates of n states, by the classes of their sets over k symbols; singles has the number of
+// {q} for each state q, and one at or above 512 counts as the empty set.
 pub fn merge_starts(
     sets: &[u32; 512],
     next: &[u16; 8192],
-    count: usize,
+    singles: &[u16; 32],
     finals: u32,
     n: u8,
     k: u8,
 ) -> Starts
-    ensures { λ r. ⌜ r ≡ startsOf (now (sets .entry)) (now (next .entry)) finals count n k ⌝ }
+    ensures { λ r. ⌜ r ≡ startsOf (now (sets .entry)) (now (next .entry)) finals (now (singles .entry)) n k ⌝ }
 {
-    let most = at_most(count, 512);
-    let states = at_most(n as usize, 32);
-    let symbols = at_most(k as usize, 16);
+    let states = masks::at_most(n, 32) as usize;
+    let symbols = masks::at_most(k, 16) as usize;
     let class = refine(sets, next, finals, symbols);
     let mut own: [u16; 32] = [0; 32];
     let mut delegates: [u8; 32] = [0; 32];
     let mut starts: u8 = 0;
     let mut q: usize = 0;
     while q < states {
-        let set = number_of(sets, most, StateNumber(q as u8));
+        let set = single(singles, StateNumber(q as u8));
         let x = set.0 as usize;
         own[q] = class[x];
         let d = delegate(&own, StateNumber(q as u8));

@@ -26,6 +26,15 @@ abbrev pub Has : List ℕ → ℕ → Type 0
 Has l m = numberIn l m < length l
 
 -- ---- a key's number
+pub number-le : (l : List ℕ) (m : ℕ) → numberIn l m ≤ length l
+unfolding numberIn
+number-le [] m = omega arith
+number-le (x ∷ l) m = go (eqb x m) (number-le l m)
+  where
+    go : (b : Bool) → numberIn l m ≤ length l → cond b 0 (suc (numberIn l m)) ≤ suc (length l)
+    go true h = omega arith
+    go false h = omega arith
+
 pub number-at : (l : List ℕ) (m : ℕ) → Has l m → getD l (numberIn l m) 0 ≡ m
 unfolding numberIn
 number-at [] m h = absurd (omega arith)

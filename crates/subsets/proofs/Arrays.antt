@@ -1,6 +1,6 @@
 -- One lemma over plain lists for each way out of `find`, `number` and `step`, and what their answers tell. Assumes nothing.
 --
---   limited-.., whole-of, over-of   an answer and the limit of 512 sets
+--   told-.., limited-.., whole-of, over-of   an answer and the limit of 512 sets
 --   found-..                        the search
 --   cells-..                        the sets as an array
 --   entered-..                      a set's turn
@@ -8,10 +8,11 @@
 use mathlib.Core.Path.{_≡_, refl, sym, ap, _∙_, subst}
 use mathlib.Core.Bool.{Bool, true, false, cond}
 use mathlib.Core.List.{List, [], _∷_, _++_}
-use Prim.Native.Nat.{ℕ, zero, suc, _+_, _*_, _≤_, _<_}
+use mathlib.Core.Option.{none, some}
+use Prim.Native.Nat.{ℕ, zero, suc, _+_, _*_, _≤_, _<_, min}
 use native.Mathlib.Omega.{arith}
 use lib.Dec.{eqb, ltb}
-use lib.ListN.{length, getD, take, set, length-append, length-set}
+use lib.ListN.{length, getD, take, set, length-append, length-set, length-take}
 use lib.Seq.{getD-take, length-take-le, getD-append-seam, getD-set-same, getD-set-other}
 use borrow.Author.Tests.{eq-eqb, ne-eqb, lt-ltb, le-ltb, eqb-true, eqb-false, ltb-true, ltb-false}
 use Rattle.masks.proofs.Cases.{by-test}
@@ -20,17 +21,26 @@ use Rattle.automaton.specs.Successor.{successor}
 use Rattle.automaton.proofs.Laws.{successor-foreign}
 use Rattle.numbering.proofs.Numbers.{Has, nowhere, number-is, number-taken}
 use Rattle.subsets.specs.declared.SetNumber.{SetNumber}
-use Rattle.subsets.specs.declared.Found.the-variants.{At, Nothing}
 use Rattle.subsets.specs.declared.Numbered.{Numbered}
 use Rattle.subsets.specs.declared.Numbered.the-variants.{As, Full}
 use Rattle.subsets.specs.declared.Numbering.{Numbering}
 use Rattle.subsets.specs.declared.Numbering.the-variants.{Whole, Over}
 use Rattle.subsets.specs.Sets.{numberIn, numbered}
-use Rattle.subsets.specs.Answer.{counted, refused, toldOf}
-use Rattle.subsets.specs.Steps.{foundIn, limited, cellsOf, Entered, target, afterStep, Stepped}
+use Rattle.subsets.specs.Singles.{foundIn}
+use Rattle.subsets.specs.Answer.{counted, refused, toldOf, Turn, named, turned-down, turnOf}
+use Rattle.subsets.specs.Steps.{limited, cellsOf, Entered, target, afterStep, Stepped}
 use Rattle.subsets.proofs.Numbers.{numbered-empty, numbered-kept, numbered-taken}
 
 -- ---- at most 512
+-- what is told of so many sets, where `over` says whether they are too many
+pub told-counted : (over : Bool) (count c : ℕ) → counted c ≡ cond over (refused 9) (counted count) → (over ≡ false) × (c ≡ count)
+told-counted true count c e = absurd (let z : _≡_ {A = ℕ} 0 1 = cc in omega arith)
+told-counted false count c e = (refl, cc)
+
+pub told-refused : (over : Bool) (count : ℕ) → refused 9 ≡ cond over (refused 9) (counted count) → over ≡ true
+told-refused true count e = refl
+told-refused false count e = absurd (let z : _≡_ {A = ℕ} 0 1 = cc in omega arith)
+
 module _ (f : List ℕ) where
   pub limited-whole : length f ≤ 512 → counted (length f) ≡ limited f
   limited-whole h = rw (le-ltb 512 (length f) h)
@@ -39,36 +49,30 @@ module _ (f : List ℕ) where
   limited-over h = rw (lt-ltb 512 (length f) h)
 
   pub whole-of : (r : Numbering) (c : ℕ) → toldOf r ≡ limited f → r ≡ Whole c → (length f ≤ 512) × (c ≡ length f)
-  whole-of r c e g = go (ltb 512 (length f)) refl (rw g at e)
-    where
-      go : (b : Bool) → ltb 512 (length f) ≡ b → counted c ≡ cond b (refused 9) (counted (length f)) → (length f ≤ 512) × (c ≡ length f)
-      go true t h = absurd (let z : _≡_ {A = ℕ} 0 1 = cc in omega arith)
-      go false t h = (ltb-false 512 (length f) t, cc)
+  whole-of r c e g =
+      let x = told-counted (ltb 512 (length f)) (length f) c (sym (ap toldOf g) ∙ e) in
+      (ltb-false 512 (length f) (x .0), x .1)
 
   pub over-of : (r : Numbering) → toldOf r ≡ limited f → r ≡ Over → 512 < length f
-  over-of r e g = go (ltb 512 (length f)) refl (rw g at e)
-    where
-      go : (b : Bool) → ltb 512 (length f) ≡ b → refused 9 ≡ cond b (refused 9) (counted (length f)) → 512 < length f
-      go true t h = ltb-true 512 (length f) t
-      go false t h = absurd (let z : _≡_ {A = ℕ} 0 1 = cc in omega arith)
+  over-of r e g = ltb-true 512 (length f) (told-refused (ltb 512 (length f)) (length f) (sym (ap toldOf g) ∙ e))
 
 -- ---- the search
-module _ (sets : List ℕ) (count m : ℕ) (long : count ≤ length sets) where
-  has : length (take count sets) ≡ count
-  has = length-take-le count sets long
+module _ (sets : List ℕ) (count m most : ℕ) (is : most ≡ min count (length sets)) where
+  has : length (take count sets) ≡ most
+  has = length-take count sets ∙ sym is
 
-  pub found-none : ((j : ℕ) → j < count → getD sets j 0 ≡ m → ⊥) → Nothing ≡ foundIn (take count sets) m
+  pub found-none : ((j : ℕ) → j < most → getD sets j 0 ≡ m → ⊥) → none ≡ foundIn (take count sets) m
   found-none h =
       let b : length (take count sets) ≤ numberIn (take count sets) m =
-      nowhere (take count sets) m (λ j b e. let d : j < count = omega (arith, has) in h j d (sym (getD-take count sets j 0 d) ∙ e)) in
+      nowhere (take count sets) m (λ j b e. let d : j < most = omega (arith, has) in h j d (sym (getD-take count sets j 0 (omega arith)) ∙ e)) in
       rw (le-ltb (numberIn (take count sets) m) (length (take count sets)) b)
 
-  pub found-at : (i : ℕ) → i < count → getD sets i 0 ≡ m → ((j : ℕ) → j < i → getD sets j 0 ≡ m → ⊥) → At (record { 0 = i }) ≡ foundIn (take count sets) m
+  pub found-at : (i : ℕ) → i < most → getD sets i 0 ≡ m → ((j : ℕ) → j < i → getD sets j 0 ≡ m → ⊥) → some i ≡ foundIn (take count sets) m
   found-at i b e h =
       let l = take count sets in
       let n : numberIn l m ≡ i =
-      number-is l m i (rw has b) (getD-take count sets i 0 b ∙ e) (λ j c d. h j c (sym (getD-take count sets j 0 (omega arith)) ∙ d)) in
-      rw (n, has, lt-ltb i count b)
+      number-is l m i (rw has b) (getD-take count sets i 0 (omega arith) ∙ e) (λ j c d. h j c (sym (getD-take count sets j 0 (omega arith)) ∙ d)) in
+      rw (n, has, lt-ltb i most b)
 
 -- ---- a set's turn
 pub cells-long : (l : List ℕ) → length (cellsOf l) ≡ 512
@@ -97,17 +101,17 @@ cells-snoc l m h =
     getD-set-other (cellsOf l) (length l) c m 0 ne ∙ cells-at l c b ∙ sym (snoc-other l m c ne)))
 
 -- what the search said
-found-has : (l : List ℕ) (m : ℕ) (j : SetNumber) → foundIn l m ≡ At j → Has l m × (j ≡ record { 0 = numberIn l m })
+pub found-has : (l : List ℕ) (m j : ℕ) → foundIn l m ≡ some j → Has l m × (j ≡ numberIn l m)
 found-has l m j e = go (ltb (numberIn l m) (length l)) refl e
   where
-    go : (b : Bool) → ltb (numberIn l m) (length l) ≡ b → cond b (At (record { 0 = numberIn l m })) Nothing ≡ At j → Has l m × (j ≡ record { 0 = numberIn l m })
+    go : (b : Bool) → ltb (numberIn l m) (length l) ≡ b → cond b (some (numberIn l m)) none ≡ some j → Has l m × (j ≡ numberIn l m)
     go true t h = (ltb-true (numberIn l m) (length l) t, cc)
     go false t h = absurd (let z : _≡_ {A = ℕ} 0 1 = cc in omega arith)
 
-found-not : (l : List ℕ) (m : ℕ) → foundIn l m ≡ Nothing → length l ≤ numberIn l m
+pub found-not : (l : List ℕ) (m : ℕ) → foundIn l m ≡ none → length l ≤ numberIn l m
 found-not l m e = go (ltb (numberIn l m) (length l)) refl e
   where
-    go : (b : Bool) → ltb (numberIn l m) (length l) ≡ b → cond b (At (record { 0 = numberIn l m })) Nothing ≡ Nothing → length l ≤ numberIn l m
+    go : (b : Bool) → ltb (numberIn l m) (length l) ≡ b → cond b (some (numberIn l m)) none ≡ none → length l ≤ numberIn l m
     go true t h = absurd (let z : _≡_ {A = ℕ} 0 1 = cc in omega arith)
     go false t h = ltb-false (numberIn l m) (length l) t
 
@@ -119,17 +123,17 @@ module _ (sets : List ℕ) (count : ℕ) (most : count ≤ 512) (are : sets ≡ 
   count-is = length-take-le count sets (omega (arith, sets-long))
 
   module _ (m : ℕ) (ne : m ≡ 0 → ⊥) where
-    pub entered-kept : (j : SetNumber) → foundIn (take count sets) m ≡ At j → Entered (take count sets) m (As j count) sets
+    pub entered-kept : (j : SetNumber) → foundIn (take count sets) m ≡ some (j .0) → Entered (take count sets) m (As j count) sets
     entered-kept j e =
         let l = take count sets in
-        let h = found-has l m j e in
+        let h = found-has l m (j .0) e in
         let k : numbered l m ≡ l = numbered-kept l m ne (h .0) in
         record {
           number = rw (k, count-is, le-ltb 512 count most, h .1);
           sets-are = λ _. rw k are;
         }
 
-    pub entered-taken : count < 512 → foundIn (take count sets) m ≡ Nothing → Entered (take count sets) m (As (record { 0 = count }) (count + 1)) (set sets count m)
+    pub entered-taken : count < 512 → foundIn (take count sets) m ≡ none → Entered (take count sets) m (As (record { 0 = count }) (count + 1)) (set sets count m)
     entered-taken b e =
         let l = take count sets in
         let h = found-not l m e in
@@ -144,7 +148,7 @@ module _ (sets : List ℕ) (count : ℕ) (most : count ≤ 512) (are : sets ≡ 
               ∙ sym (ap cellsOf k);
         }
 
-    pub entered-full : 512 ≤ count → foundIn (take count sets) m ≡ Nothing → Entered (take count sets) m Full sets
+    pub entered-full : 512 ≤ count → foundIn (take count sets) m ≡ none → Entered (take count sets) m Full sets
     entered-full b e =
         let l = take count sets in
         let h = found-not l m e in
@@ -157,23 +161,23 @@ module _ (sets : List ℕ) (count : ℕ) (most : count ≤ 512) (are : sets ≡ 
 
 -- what a set's turn answered
 module _ (l : List ℕ) (m : ℕ) (r : Numbered) (sets : List ℕ) (h : Entered l m r sets) where
+  turn : Bool → Turn
+  turn b = cond b (turned-down 9) (named (numberIn (numbered l m) m) (length (numbered l m)))
+
   pub entered-as : (j : SetNumber) (c : ℕ) → r ≡ As j c → (length (numbered l m) ≤ 512) × (j .0 ≡ numberIn (numbered l m) m) × (c ≡ length (numbered l m))
-  entered-as j c e = go (ltb 512 (length (numbered l m))) refl (sym e ∙ h .number)
+  unfolding turn
+  entered-as j c e = go (ltb 512 (length (numbered l m))) refl (sym (ap turnOf e) ∙ h .number)
     where
-      go : (b : Bool) → ltb 512 (length (numbered l m)) ≡ b
-          → As j c ≡ cond b Full (As (record { 0 = numberIn (numbered l m) m }) (length (numbered l m)))
+      go : (b : Bool) → ltb 512 (length (numbered l m)) ≡ b → named (j .0) c ≡ turn b
           → (length (numbered l m) ≤ 512) × (j .0 ≡ numberIn (numbered l m) m) × (c ≡ length (numbered l m))
       go true t g = absurd (let z : _≡_ {A = ℕ} 0 1 = cc in omega arith)
-      go false t g =
-          let q : j ≡ record { 0 = numberIn (numbered l m) m } = cc in
-          (ltb-false 512 (length (numbered l m)) t, ap (λ (x : SetNumber). x .0) q, cc)
+      go false t g = (ltb-false 512 (length (numbered l m)) t, cc, cc)
 
   pub entered-over : r ≡ Full → 512 < length (numbered l m)
-  entered-over e = go (ltb 512 (length (numbered l m))) refl (sym e ∙ h .number)
+  unfolding turn
+  entered-over e = go (ltb 512 (length (numbered l m))) refl (sym (ap turnOf e) ∙ h .number)
     where
-      go : (b : Bool) → ltb 512 (length (numbered l m)) ≡ b
-          → Full ≡ cond b Full (As (record { 0 = numberIn (numbered l m) m }) (length (numbered l m)))
-          → 512 < length (numbered l m)
+      go : (b : Bool) → ltb 512 (length (numbered l m)) ≡ b → turned-down 9 ≡ turn b → 512 < length (numbered l m)
       go true t g = ltb-true 512 (length (numbered l m)) t
       go false t g = absurd (let z : _≡_ {A = ℕ} 0 1 = cc in omega arith)
 

@@ -1,7 +1,9 @@
 -- In the order in which they build on each other.
 pub mod Numbers
 pub mod Arrays
+pub mod Singles
 pub mod Table
 pub mod Turns
+pub mod Tables
 pub mod Claims
 pub mod Examples

@@ -1,5 +1,6 @@
--- The loops of `expand` and `number_sets`, turn by turn and way out by way out, over plain lists: what is left to do comes to the same list
--- after each turn, and the arrays hold the sets so far. Assumes nothing.
+-- The loops of `expand` and `fill`, turn by turn and way out by way out, over plain lists: what is
+-- left to do comes to the same list after each turn, and the arrays hold the sets so far. Assumes
+-- nothing.
 --
 --   turn-..                   set i is expanded by the next symbol
 --   grown-whole, grown-over   the ways out of `expand`
@@ -24,8 +25,8 @@ use Rattle.subsets.specs.declared.Numbered.the-variants.{As, Full}
 use Rattle.subsets.specs.declared.Numbering.{Numbering}
 use Rattle.subsets.specs.declared.Numbering.the-variants.{Whole, Over}
 use Rattle.subsets.specs.Sets.{setWalk, numberIn, numbered, expandFrom, setsUpTo, setsOf, tooMany}
-use Rattle.subsets.specs.Answer.{counted, Answered}
-use Rattle.subsets.specs.Steps.{Entered, target, afterStep, Stepped, Holds, Grown, closedFrom, grownBy, Cleared}
+use Rattle.subsets.specs.Answer.{counted}
+use Rattle.subsets.specs.Steps.{Entered, target, afterStep, Stepped, Holds, Grown, closedFrom, grownBy, Cleared, Answered}
 use Rattle.subsets.proofs.Numbers.{numbered-begins}
 use Rattle.subsets.proofs.Arrays.{count-is, limited-whole, limited-over, whole-of, over-of, entered-as, entered-over}
 use Rattle.subsets.proofs.Table.{read-back, step-holds, holds-more, next-whole}

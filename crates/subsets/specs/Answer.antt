@@ -1,15 +1,26 @@
--- What `number_sets` promises of any table of targets and any n and k: the number of sets or that there are more than 512 (9), and, where
--- there are not, both arrays whole, each cell that is not in use too. Where there are, the two arrays are free.
-use mathlib.Core.Path.{_≡_}
-use mathlib.Core.Bool.{cond, false}
+-- What `number_sets` promises of any table of targets and any n and k: the number of sets or that
+-- there are more than 512 (9), and, where there are not, both arrays whole, each cell that is not in
+-- use too, and the number of each singleton. A refusal carries zeros.
+--
+--   Told, toldOf       document 01's answer: the number of sets, or refused with a number; and what
+--                      each case of the code's answer says
+--   Turn, turnOf       what numbering one set comes to: its number and how many sets have one then,
+--                      or refused with a number; and what each case of the code's answer says
+--   Table, tableCame   what is told, with the arrays beside it; and what the code's result tells
+--   noTable            refused with 9: zeros
+--   tableOf ts n k     the table of a rule with the targets ts, n states and k symbols
+use mathlib.Core.Bool.{cond}
 use mathlib.Core.List.{List}
 use Prim.Native.Nat.{ℕ}
-use lib.ListN.{length}
+use lib.ListN.{length, replicate}
+use Rattle.subsets.specs.declared.Numbered.{Numbered}
+use Rattle.subsets.specs.declared.Numbered.the-variants.{As, Full}
 use Rattle.subsets.specs.declared.Numbering.{Numbering}
 use Rattle.subsets.specs.declared.Numbering.the-variants.{Whole, Over}
+use Rattle.subsets.specs.declared.SetTable.{SetTable}
 use Rattle.subsets.specs.Sets.{setsOf, tooMany, setCells, nextCells}
+use Rattle.subsets.specs.Singles.{singlesOf}
 
--- document 01's answer: the number of sets, or refused with a number; and what each case of the code's answer says
 pub data Told : Type 0 where
   counted : ℕ → Told
   refused : ℕ → Told
@@ -18,7 +29,37 @@ abbrev pub toldOf : Numbering → Told
 toldOf (Whole c) = counted c
 toldOf Over = refused 9
 
-pub record Answered (ts : List ℕ) (n k : ℕ) (r : Numbering) (sets next : List ℕ) : Type 0 where
-  pub count : toldOf r ≡ cond (tooMany ts n k) (refused 9) (counted (length (setsOf ts n k)))
-  pub sets-are : tooMany ts n k ≡ false → sets ≡ setCells ts n k
-  pub next-are : tooMany ts n k ≡ false → next ≡ nextCells ts n k
+pub data Turn : Type 0 where
+  named : ℕ → ℕ → Turn
+  turned-down : ℕ → Turn
+
+abbrev pub turnOf : Numbered → Turn
+turnOf (As number count) = named (number .0) count
+turnOf Full = turned-down 9
+
+pub record Table : Type 0 where
+  pub told : Told
+  pub sets : List ℕ
+  pub next : List ℕ
+  pub singles : List ℕ
+
+abbrev pub tableCame : SetTable → Table
+tableCame t = record { told = toldOf (t .answer); sets = t .sets; next = t .next; singles = t .singles }
+
+abbrev pub noTable : Table
+noTable = record {
+  told = refused 9;
+  sets = replicate 512 0;
+  next = replicate 8192 0;
+  singles = replicate 32 0;
+}
+
+unfoldable pub tableOf : List ℕ → ℕ → ℕ → Table
+tableOf ts n k =
+    cond (tooMany ts n k) noTable
+    (record {
+      told = counted (length (setsOf ts n k));
+      sets = setCells ts n k;
+      next = nextCells ts n k;
+      singles = singlesOf (setCells ts n k) (length (setsOf ts n k));
+    })

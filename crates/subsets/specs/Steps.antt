@@ -1,13 +1,14 @@
--- What the functions below `number_sets` promise, each by the part of the procedure that it does. Nothing here needs to be believed:
--- `Answered` says what they come to. The numbered sets are the first count cells of the array of sets, and the cells past them are 0.
+-- What the functions below `number_sets` promise, each by the part of the procedure that it does.
+-- Nothing here needs to be believed: `tableOf` says what they come to. The numbered sets are the
+-- first count cells of the array of sets, and the cells past them are 0.
 --
---   foundIn l m       what the search for the set m among the sets l answers
 --   limited l         what is told of the sets l: their number, or 9 where there are more than 512
 --   cellsOf l         the sets l as an array
---   Entered, Stepped, Grown   what `number`, `step`, `expand` and `add_state` promise
+--   Entered, Stepped, Grown, Answered   what `number`, `step`, `expand` and `add_state`, and `fill`
+--                                       promise
 --   Holds             what the two arrays hold while sets are expanded
 use mathlib.Core.Path.{_≡_}
-use mathlib.Core.Bool.{cond, _&&_}
+use mathlib.Core.Bool.{cond, false, _&&_}
 use mathlib.Core.List.{List, []}
 use Prim.Native.Nat.{ℕ, _+_, _*_, _/_, _%_, _≤_, _<_}
 use lib.Dec.{eqb, ltb}
@@ -16,16 +17,10 @@ use Rattle.masks.specs.Masks.{single}
 use Rattle.masks.specs.Lists.{listFrom}
 use Rattle.automaton.specs.Successor.{successor}
 use Rattle.numbering.specs.Begins.{Begins}
-use Rattle.subsets.specs.declared.Found.{Found}
-use Rattle.subsets.specs.declared.Found.the-variants.{At, Nothing}
 use Rattle.subsets.specs.declared.Numbered.{Numbered}
-use Rattle.subsets.specs.declared.Numbered.the-variants.{As, Full}
 use Rattle.subsets.specs.declared.Numbering.{Numbering}
-use Rattle.subsets.specs.Sets.{numberIn, numbered, closeFrom, numberOrEmpty}
-use Rattle.subsets.specs.Answer.{Told, counted, refused, toldOf}
-
-abbrev pub foundIn : List ℕ → ℕ → Found
-foundIn l m = cond (ltb (numberIn l m) (length l)) (At (record { 0 = numberIn l m })) Nothing
+use Rattle.subsets.specs.Sets.{numberIn, numbered, closeFrom, numberOrEmpty, setsOf, tooMany, setCells, nextCells}
+use Rattle.subsets.specs.Answer.{Told, counted, refused, toldOf, named, turned-down, turnOf}
 
 abbrev pub limited : List ℕ → Told
 limited l = cond (ltb 512 (length l)) (refused 9) (counted (length l))
@@ -35,7 +30,7 @@ cellsOf l = listFrom 0 512 (λ i. getD l i 0)
 
 -- the set m was numbered after the sets l
 pub record Entered (l : List ℕ) (m : ℕ) (r : Numbered) (sets : List ℕ) : Type 0 where
-  pub number : r ≡ cond (ltb 512 (length (numbered l m))) Full (As (record { 0 = numberIn (numbered l m) m }) (length (numbered l m)))
+  pub number : turnOf r ≡ cond (ltb 512 (length (numbered l m))) (turned-down 9) (named (numberIn (numbered l m) m) (length (numbered l m)))
   pub sets-are : length (numbered l m) ≤ 512 → sets ≡ cellsOf (numbered l m)
 
 -- nothing is numbered
@@ -78,3 +73,9 @@ closedFrom ts k i l = closeFrom ts k 512 i l
 -- the sets l, with {q} numbered and the sets from there on expanded
 abbrev pub grownBy : List ℕ → ℕ → ℕ → List ℕ → List ℕ
 grownBy ts k q l = closedFrom ts k (length l) (numbered l (single q))
+
+-- all that the rule has was numbered, or there are more than 512 sets
+pub record Answered (ts : List ℕ) (n k : ℕ) (r : Numbering) (sets next : List ℕ) : Type 0 where
+  pub count : toldOf r ≡ cond (tooMany ts n k) (refused 9) (counted (length (setsOf ts n k)))
+  pub sets-are : tooMany ts n k ≡ false → sets ≡ setCells ts n k
+  pub next-are : tooMany ts n k ≡ false → next ≡ nextCells ts n k

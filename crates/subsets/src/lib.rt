@@ -1,9 +1,10 @@
 // The sets of states that get a number, in the order of their numbers, and the next-set table.
 ghost use mathlib.Core.Path.{_≡_};
-ghost use Prim.Native.Nat.{_*_, _≤_, _<_};
-ghost use lib.ListN.{take};
-ghost use Rattle.subsets.specs.Answer.{Answered};
-ghost use Rattle.subsets.specs.Steps.{foundIn, cellsOf, Entered, Stepped, Holds, Grown, grownBy, closedFrom, Cleared};
+ghost use Prim.Native.Nat.{_*_, _≤_, _<_, min};
+ghost use lib.ListN.{length, take};
+ghost use Rattle.subsets.specs.Singles.{foundOf, foundIn, singletonNumber, singlesOf};
+ghost use Rattle.subsets.specs.Answer.{noTable, tableCame, tableOf};
+ghost use Rattle.subsets.specs.Steps.{cellsOf, Entered, Stepped, Holds, Grown, grownBy, closedFrom, Cleared, Answered};
 use masks::StateNumber;
 
 // The number of a set, which is never the number of a state.
@@ -27,15 +28,31 @@ pub enum Numbering {
     Over,
 }
 
-// The number of a set among the first count.
-fn find(sets: &[u32; 512], count: usize, set: u32) -> Found
-    requires { ⌜ count ≤ 512 ⌝ }
-    ensures { λ r. ⌜ r ≡ foundIn (take count (now (sets .entry))) set ⌝ }
+// The numbered sets, the next-set table and the number of {q} for each state q, beside the answer;
+// zeros where the answer is 9.
+pub struct SetTable {
+    pub answer: Numbering,
+    pub sets: [u32; 512],
+    pub next: [u16; 8192],
+    pub singles: [u16; 32],
+}
+
+// x, but no more than most.
+fn at_most(x: usize, most: usize) -> usize
+    ensures { λ r. ⌜ r ≡ min x most ⌝ }
+{
+    if x < most { x } else { most }
+}
+
+// The number of a set among the first count; a count above 512 is taken for 512.
+pub fn find(sets: &[u32; 512], count: usize, set: u32) -> Found
+    ensures { λ r. ⌜ foundOf r ≡ foundIn (take count (now (sets .entry))) set ⌝ }
 {
     let cells: &[u32] = sets;
+    let most = at_most(count, 512);
     let mut i: usize = 0;
     let found = loop {
-        if i == count {
+        if i == most {
             return Found::Nothing;
         }
         if cells[i] == set {
@@ -141,26 +158,19 @@ fn add_state(
     }
 }
 
-// Every cell says that it is not in use.
-fn clear(sets: &mut [u32; 512], next: &mut [u16; 8192])
-    ensures { λ _. ⌜ Cleared (now (sets .exit)) (now (next .exit)) ⌝ }
-{
-    *sets = [0u32; 512];
-    *next = [512u16; 8192];
-}
-
-// The numbered sets and the next-set table of a rule with n states and k symbols; a value of n above 32 is taken for 32.
-// Where the 513th set turns up, what is left in the two arrays is free.
-pub fn number_sets(
+// The numbered sets of a rule with n states and k symbols, and its next-set table, into two arrays
+// where no cell is in use; a value of n above 32 is taken for 32. Where the 513th set turns up, what
+// is left in the two arrays is free.
+fn fill(
     targets: &[u32; 512],
     n: u8,
     k: u8,
     sets: &mut [u32; 512],
     next: &mut [u16; 8192],
 ) -> Numbering
+    requires { ⌜ Cleared (now sets) (now next) ⌝ }
     ensures { λ r. ⌜ Answered (now (targets .entry)) n k r (now (sets .exit)) (now (next .exit)) ⌝ }
 {
-    clear(sets, next);
     let mut count: usize = 0;
     for q in 0..masks::at_most(n, 32) {
         match add_state(targets, k, sets, next, count, StateNumber(q)) {
@@ -173,4 +183,74 @@ pub fn number_sets(
         }
     }
     Numbering::Whole(count)
+}
+
+// An array has its length: this only says so, and is compiled to nothing.
+fn rows(sets: &[u32; 512]) -> usize
+    ensures { λ r. ⌜ length (now (sets .entry)) ≡ 512 ⌝ }
+{
+    let s: &[u32] = sets;
+    s.len()
+}
+
+// The number of {q} among the first count sets, or 512, which stands for the empty set.
+fn number_single(sets: &[u32; 512], count: usize, q: StateNumber) -> SetNumber
+    requires { ⌜ q .0 < 32 ⌝ }
+    ensures { λ r. ⌜ r .0 ≡ singletonNumber (now (sets .entry)) count (q .0) ⌝ }
+{
+    rows(sets);
+    match find(sets, count, masks::singleton(q)) {
+        Found::At(number) => number,
+        Found::Nothing => SetNumber(512),
+    }
+}
+
+// The number of {q} for each state q.
+pub fn number_singles(sets: &[u32; 512], count: usize) -> [u16; 32]
+    ensures { λ r. ⌜ r ≡ singlesOf (now (sets .entry)) count ⌝ }
+{
+    let mut singles = [0u16; 32];
+    let mut q: usize = 0;
+    while q < 32 {
+        let number = number_single(sets, count, StateNumber(q as u8));
+        singles[q] = number.0;
+        q += 1;
+    }
+    singles
+}
+
+// Refused with 9.
+fn no_table() -> SetTable
+    ensures { λ r. ⌜ tableCame r ≡ noTable ⌝ }
+{
+    let sets = [0u32; 512];
+    let next = [0u16; 8192];
+    let singles = [0u16; 32];
+    SetTable {
+        answer: Numbering::Over,
+        sets,
+        next,
+        singles,
+    }
+}
+
+// The numbered sets, the next-set table and the singletons' numbers of a rule with n states and k
+// symbols, or 9. A value of n above 32 is taken for 32.
+pub fn number_sets(targets: &[u32; 512], n: u8, k: u8) -> SetTable
+    ensures { λ r. ⌜ tableCame r ≡ tableOf (now (targets .entry)) n k ⌝ }
+{
+    let mut sets = [0u32; 512];
+    let mut next = [512u16; 8192];
+    match fill(targets, n, k, &mut sets, &mut next) {
+        Numbering::Whole(count) => {
+            let singles = number_singles(&sets, count);
+            SetTable {
+                answer: Numbering::Whole(count),
+                sets,
+                next,
+                singles,
+            }
+        }
+        Numbering::Over => no_table(),
+    }
 }

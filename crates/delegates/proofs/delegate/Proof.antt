@@ -1,15 +1,21 @@
--- `delegate` meets its contract. The loop's invariant: no state passed is in the class of q. Assumes nothing.
-use mathlib.Core.Path.{_≡_, ap}
-use Prim.Native.Nat.{ℕ, _-_, _≤_, _<_, zero-le}
+-- `delegate` meets its contract. The loop's invariant: p is at most q, and the search from p on
+-- finds what the whole search does. Assumes nothing.
+use mathlib.Core.Path.{_≡_, sym, ap, _∙_}
+use mathlib.Core.Bool.{Bool}
+use Prim.Native.Nat.{ℕ, _-_, _≤_}
 use native.Mathlib.Omega.{arith}
-use borrow.Author.Count.{below-none, below-more}
 use borrow.Author.Needs.{needs}
-use Rattle.delegates.specs.Classes.{classOf}
+use borrow.Author.Tests.{eq-eqb, ne-eqb}
+use lib.Dec.{eqb}
+use Rattle.delegates.specs.Classes.{firstFrom}
+use Rattle.delegates.specs.Refinement.{classOf, firstInClass}
+use Rattle.delegates.proofs.Tests.{first-here, first-past, first-end}
 use Rattle.delegates.proofs.delegate.Statement.{statement}
 use Rattle.delegates.proofs.delegate.Tie as tie
 
 abbrev Inv-loop : tie.InvT-loop
-Inv-loop own q j class p₀ p = (p ≤ q .0) × ((b : ℕ) → b < p → classOf own b ≡ classOf own (q .0) → ⊥)
+Inv-loop own q j class p₀ p =
+    (p ≤ q .0) × (firstInClass own (q .0) ≡ firstFrom (λ u. eqb (classOf own u) (classOf own (q .0))) p (q .0 - p))
 
 abbrev μ-loop : tie.MeasureT-loop
 μ-loop own q j class p₀ p = q .0 - p
@@ -24,7 +30,11 @@ element-copy-out-class : tie.Need-element-copy-out-class Inv-loop μ-loop
 element-copy-out-class c = search needs
 
 loop-holds : tie.Need-loop-holds Inv-loop μ-loop
-loop-holds c = (omega arith, below-none _)
+unfolding firstInClass
+loop-holds c =
+    let a = c .before .before .args in
+    let all : a .q .0 ≡ a .q .0 - 0 = omega arith in
+    (omega arith, ap (firstFrom (λ u. eqb (classOf (a .own .now) u) (classOf (a .own .now) (a .q .0))) 0) all)
 
 cast-i : tie.Need-cast-i Inv-loop μ-loop
 cast-i c = search needs
@@ -37,8 +47,11 @@ element-copy-out-if2 c = search needs
 
 returns : tie.Need-returns Inv-loop μ-loop
 returns c =
-    let l = c .before .before .before .before .loop in
-    record { from = zero-le; most = l .inv .0; has = c .if2 .taken; first = λ v _ m x. l .inv .1 v m x }
+    let y = c .before .before .before in
+    let l = y .before .loop in
+    let a = y .before .before .before .before .args in
+    let test : ℕ → Bool = λ u. eqb (classOf (a .own .now) u) (classOf (a .own .now) (a .q .0)) in
+    first-here test (l .p) (a .q .0) (omega arith) (eq-eqb (classOf (a .own .now) (l .p)) (classOf (a .own .now) (a .q .0)) (c .if2 .taken)) ∙ sym (l .inv .1)
 
 add-p : tie.Need-add-p Inv-loop μ-loop
 add-p c = search needs
@@ -47,14 +60,19 @@ loop-less : tie.Need-loop-less Inv-loop μ-loop
 loop-less c = search needs
 
 loop-again : tie.Need-loop-again Inv-loop μ-loop
-loop-again c = (omega arith, below-more _ _ (c .before .before .before .before .loop .inv .1) (c .if2 .left))
+loop-again c =
+    let y = c .before .before .before in
+    let l = y .before .loop in
+    let a = y .before .before .before .before .args in
+    let test : ℕ → Bool = λ u. eqb (classOf (a .own .now) u) (classOf (a .own .now) (a .q .0)) in
+    (omega arith, l .inv .1 ∙ first-past test (l .p) (a .q .0) (omega arith) (ne-eqb (classOf (a .own .now) (l .p)) (classOf (a .own .now) (a .q .0)) (c .if2 .left)))
 
 returns-2 : tie.Need-returns-2 Inv-loop μ-loop
 returns-2 c =
     let l = c .before .before .loop in
     let a = c .before .before .before .before .before .args in
-    let e : l .p ≡ a .q .0 = omega arith in
-    record { from = zero-le; most = l .inv .0; has = ap (classOf (a .own .now)) e; first = λ v _ m x. l .inv .1 v m x }
+    let test : ℕ → Bool = λ u. eqb (classOf (a .own .now) u) (classOf (a .own .now) (a .q .0)) in
+    first-end test (l .p) (a .q .0) (omega arith) ∙ sym (l .inv .1)
 
 pub delegate-spec : {M : Type 1} → statement M
 delegate-spec =

@@ -1,18 +1,19 @@
--- `least` meets its contract. The loop's invariant: no set passed goes with set s. Assumes nothing.
-use mathlib.Core.Path.{_≡_, sym, _∙_}
-use mathlib.Core.Bool.{true≢false}
-use Prim.Native.Nat.{ℕ, _-_, _≤_, _<_}
+-- `least` meets its contract. The loop's invariant: the search from t on finds what the whole
+-- search does. Assumes nothing.
+use mathlib.Core.Path.{_≡_, refl, sym, _∙_}
+use mathlib.Core.Bool.{Bool}
+use Prim.Native.Nat.{ℕ, _-_}
 use native.Mathlib.Omega.{arith}
-use borrow.Author.Count.{below-more}
 use borrow.Author.Needs.{needs}
-use Rattle.delegates.specs.Classes.{classOf, Same}
-use Rattle.delegates.proofs.Classes.{same-self}
+use Rattle.delegates.specs.Classes.{firstFrom}
+use Rattle.delegates.specs.Refinement.{sameIn, leastOf}
+use Rattle.delegates.proofs.Tests.{first-here, first-past, first-end}
 use Rattle.delegates.proofs.least.Statement.{statement}
 use Rattle.delegates.proofs.least.Tie as tie
 
 abbrev Inv-loop : tie.InvT-loop
 Inv-loop sets next finals k class s i t₀ t =
-    (classOf class (s .0) ≤ t) × (t ≤ s .0) × ((b : ℕ) → b < t → classOf class (s .0) ≤ b → Same sets next finals k class b (s .0) → ⊥)
+    leastOf sets next finals k class (s .0) ≡ firstFrom (λ u. sameIn sets next finals k class u (s .0)) t (s .0 - t)
 
 abbrev μ-loop : tie.MeasureT-loop
 μ-loop sets next finals k class s i t₀ t = s .0 - t
@@ -27,15 +28,19 @@ element-copy-out-t : tie.Need-element-copy-out-t Inv-loop μ-loop
 element-copy-out-t c = search needs
 
 loop-holds : tie.Need-loop-holds Inv-loop μ-loop
-loop-holds c = let p = c .before .before .pre in (omega arith, omega arith, λ b m h x. omega arith)
+unfolding leastOf
+loop-holds c = refl
 
 same-requires : tie.Need-same-requires Inv-loop μ-loop
 same-requires c κs = search needs
 
 returns : tie.Need-returns Inv-loop μ-loop
 returns c =
-    let l = c .before .before .before .before .loop in
-    record { from = l .inv .0; most = l .inv .1; has = c .before .same .ensures .0 (c .if2 .taken); first = λ v h m x. l .inv .2 v m h x }
+    let y = c .before .before .before in
+    let l = y .before .loop in
+    let a = y .before .before .before .before .args in
+    let test : ℕ → Bool = λ u. sameIn (a .sets .now) (a .next .now) (a .finals) (a .k) (a .class .now) u (a .s .0) in
+    first-here test (l .t) (a .s .0) (omega arith) (sym (c .before .same .ensures) ∙ c .if2 .taken) ∙ sym (l .inv)
 
 add-t : tie.Need-add-t Inv-loop μ-loop
 add-t c = search needs
@@ -45,21 +50,18 @@ loop-less c = search needs
 
 loop-again : tie.Need-loop-again Inv-loop μ-loop
 loop-again c =
-    let l = c .before .before .before .before .loop in
-    let s = c .before .same in
-    (omega arith, omega arith, below-more _ _ (l .inv .2) (λ h x. true≢false (sym (s .ensures .1 x) ∙ c .if2 .left)))
+    let y = c .before .before .before in
+    let l = y .before .loop in
+    let a = y .before .before .before .before .args in
+    let test : ℕ → Bool = λ u. sameIn (a .sets .now) (a .next .now) (a .finals) (a .k) (a .class .now) u (a .s .0) in
+    l .inv ∙ first-past test (l .t) (a .s .0) (omega arith) (sym (c .before .same .ensures) ∙ c .if2 .left)
 
 returns-2 : tie.Need-returns-2 Inv-loop μ-loop
 returns-2 c =
     let l = c .before .before .loop in
     let a = c .before .before .before .before .before .args in
-    let e : l .t ≡ a .s .0 = omega arith in
-    record {
-      from = l .inv .0;
-      most = l .inv .1;
-      has = rw e (same-self (a .sets .now) (a .next .now) (a .finals) (a .k) (a .class .now) (a .s .0));
-      first = λ v h m x. l .inv .2 v m h x;
-    }
+    let test : ℕ → Bool = λ u. sameIn (a .sets .now) (a .next .now) (a .finals) (a .k) (a .class .now) u (a .s .0) in
+    first-end test (l .t) (a .s .0) (omega arith) ∙ sym (l .inv)
 
 pub least-spec : {M : Type 1} → statement M
 least-spec =

@@ -1,14 +1,18 @@
--- `same` meets its contract. The loop's invariant: the successors by each symbol passed are in one class. Assumes nothing.
+-- `same` meets its contract: its answer decides `Same`, as the test does. The loop's invariant: the
+-- successors by each symbol passed are in one class. Assumes nothing.
 use mathlib.Core.Path.{_≡_, sym, ap, _∙_}
+use mathlib.Core.Logic.{_↔_}
+use mathlib.Core.Bool.{true}
 use Prim.Native.Nat.{ℕ, _-_, _≤_, _<_}
 use native.Mathlib.Nat.{lt-of-lt-of-le}
 use native.Mathlib.Numerals.{add-one}
 use native.Mathlib.Omega.{arith}
 use borrow.Author.Count.{below-none, below-more}
 use borrow.Author.Needs.{needs}
-use Rattle.delegates.specs.Classes.{follow, classOf}
+use Rattle.delegates.specs.Classes.{follow}
+use Rattle.delegates.specs.Refinement.{classOf, sameIn}
 use Rattle.delegates.proofs.Tests.{confirmed, refuted, differ, agree}
-use Rattle.delegates.proofs.Classes.{follow-within}
+use Rattle.delegates.proofs.Classes.{follow-within, Same, same-law}
 use Rattle.delegates.proofs.same.Statement.{statement}
 use Rattle.delegates.proofs.same.Tie as tie
 
@@ -18,6 +22,13 @@ Inv-loop sets next finals k class t s i j f g a₀ a =
 
 abbrev μ-loop : tie.MeasureT-loop
 μ-loop sets next finals k class t s i j f g a₀ a = k - a
+
+-- what the answer decides
+law : (c : tie.Start Inv-loop μ-loop)
+    → let a = c .args in
+    (sameIn (a .sets .now) (a .next .now) (a .finals) (a .k) (a .class .now) (a .t .0) (a .s .0) ≡ true)
+    ↔ Same (a .sets .now) (a .next .now) (a .finals) (a .k) (a .class .now) (a .t .0) (a .s .0)
+law c = let a = c .args in same-law (a .sets .now) (a .next .now) (a .finals) (a .k) (a .class .now) (a .t .0) (a .s .0)
 
 -- a successor's number is an index of the classes
 x-within : (c : tie.After-follow Inv-loop μ-loop) → c .follow .result .0 ≤ 512
@@ -49,7 +60,7 @@ element-copy-out-if1-2 : tie.Need-element-copy-out-if1-2 Inv-loop μ-loop
 element-copy-out-if1-2 c = search needs
 
 returns : tie.Need-returns Inv-loop μ-loop
-returns c = refuted (λ x. c .if1 .taken (x .here))
+returns c = refuted (law (c .before .before .before .before .before)) (λ x. c .if1 .taken (x .here))
 
 is-final-requires : tie.Need-is-final-requires Inv-loop μ-loop
 is-final-requires c κs = search needs
@@ -61,7 +72,7 @@ returns-2 : tie.Need-returns-2 Inv-loop μ-loop
 returns-2 c =
     let f = c .before .before .is-final in
     let g = c .before .is-final2 in
-    refuted (λ x. differ (f .result) (g .result) (c .if2 .taken) (f .ensures ∙ x .kind ∙ sym (g .ensures)))
+    refuted (law (c .before .before .before .before .before .before .before .before)) (λ x. differ (f .result) (g .result) (c .if2 .taken) (f .ensures ∙ x .kind ∙ sym (g .ensures)))
 
 loop-holds : tie.Need-loop-holds Inv-loop μ-loop
 loop-holds c = (omega arith, below-none _)
@@ -95,7 +106,7 @@ returns-3 c =
     let y = c .before .before .before .before .before in
     let l = y .before .before .before .loop in
     let a = y .before .before .before .before .before .before .before .before .before .before .before .before .args in
-    refuted
+    refuted (law (c .before .before .before .before .before .before .before .before .before .before .before .before .before .before .before .before .before))
     (λ x.
     c .if3 .taken
     (ap (classOf (a .class .now)) (y .before .follow .ensures)
@@ -124,7 +135,7 @@ returns-4 c =
     let y = c .before .before in
     let f = y .before .before .is-final in
     let g = y .before .is-final2 in
-    confirmed
+    confirmed (law (c .before .before .before .before .before .before .before .before .before .before))
     (record {
       here = y .before .before .before .if1 .left;
       kind = sym (f .ensures) ∙ agree (f .result) (g .result) (y .if2 .left) ∙ g .ensures;

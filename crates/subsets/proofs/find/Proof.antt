@@ -5,23 +5,28 @@ use Prim.Native.Nat.{ℕ, _-_, _≤_, _<_}
 use native.Mathlib.Omega.{arith}
 use lib.ListN.{getD}
 use borrow.Author.Count.{below-more}
+use borrow.Author.Needs.{needs}
 use Rattle.subsets.proofs.Arrays.{found-at, found-none}
 use Rattle.subsets.proofs.find.Statement.{statement}
 use Rattle.subsets.proofs.find.Tie as tie
 
 abbrev Inv-loop : tie.InvT-loop
-Inv-loop sets count set cells i₀ i = (i ≤ count) × ((j : ℕ) → j < i → getD sets j 0 ≡ set → ⊥)
+Inv-loop sets count set cells most i₀ i = (i ≤ most) × ((j : ℕ) → j < i → getD sets j 0 ≡ set → ⊥)
 
 abbrev μ-loop : tie.MeasureT-loop
-μ-loop sets count set cells i₀ i = count - i
+μ-loop sets count set cells most i₀ i = most - i
+
+at-most-requires : tie.Need-at-most-requires Inv-loop μ-loop
+at-most-requires c κs = search needs
 
 loop-holds : tie.Need-loop-holds Inv-loop μ-loop
 loop-holds c = (omega arith, λ j b e. omega arith)
 
 returns : tie.Need-returns Inv-loop μ-loop
 returns c =
-    let a = c .before .before .before .args in
-    found-none (a .sets .now) (a .count) (a .set) (omega arith) (rw (c .if1 .taken) at (c .before .loop .inv .1))
+    let a = c .before .before .before .before .args in
+    let m = c .before .before .at-most in
+    found-none (a .sets .now) (a .count) (a .set) (m .result) (omega arith) (rw (c .if1 .taken) at (c .before .loop .inv .1))
 
 mul-if2 : tie.Need-mul-if2 Inv-loop μ-loop
 mul-if2 c = omega arith
@@ -38,14 +43,15 @@ loop-less c = omega arith
 loop-again : tie.Need-loop-again Inv-loop μ-loop
 loop-again c = (omega arith, below-more _ _ (c .before .before .before .loop .inv .1) (c .if2 .left))
 
-cast-t13 : tie.Need-cast-t13 Inv-loop μ-loop
-cast-t13 c = omega arith
+cast-t14 : tie.Need-cast-t14 Inv-loop μ-loop
+cast-t14 c = omega arith
 
 returns-2 : tie.Need-returns-2 Inv-loop μ-loop
 returns-2 c =
     let x = c .before .before .before .loop in
-    let a = c .before .before .before .before .before .args in
-    found-at (a .sets .now) (a .count) (a .set) (omega arith) (x .i) (omega arith) (c .if2 .taken) (x .inv .1)
+    let a = c .before .before .before .before .before .before .args in
+    let m = c .before .before .before .before .at-most in
+    found-at (a .sets .now) (a .count) (a .set) (m .result) (omega arith) (x .i) (omega arith) (c .if2 .taken) (x .inv .1)
 
 pub find-spec : {M : Type 1} → statement M
 find-spec =
@@ -53,6 +59,7 @@ find-spec =
     (tie.spec
     Inv-loop
     μ-loop
+    at-most-requires
     loop-holds
     returns
     mul-if2
@@ -60,5 +67,5 @@ find-spec =
     add-i
     loop-less
     loop-again
-    cast-t13
+    cast-t14
     returns-2)

@@ -1,95 +1,50 @@
--- `number_sets` meets its contract. The loop's invariant: the first count sets are those that the definition has after the states below q, and
--- the arrays hold them and every cell of theirs. Assumes nothing.
-use mathlib.Core.Path.{_≡_, refl, ap, _∙_}
-use Prim.Native.Nat.{_-_, _*_, _≤_, min}
-use native.Mathlib.Omega.{arith}
-use lib.ListN.{take}
+-- `number_sets` meets its contract: the arrays begin with every cell not in use, and what `fill`
+-- leaves in them is the table. Assumes nothing.
+use mathlib.Core.Path.{refl}
 use borrow.Author.Needs.{needs}
-use Rattle.numbering.specs.Numbering.{keysUpTo}
-use Rattle.subsets.specs.Sets.{setsUpTo}
-use Rattle.subsets.specs.Steps.{Holds}
-use Rattle.subsets.proofs.Turns.{begin, states-more, states-over, answered-over, answered-whole}
+use Rattle.masks.specs.Lists.{listFrom}
+use Rattle.subsets.proofs.Tables.{table-whole, table-over}
 use Rattle.subsets.proofs.number_sets.Statement.{statement}
 use Rattle.subsets.proofs.number_sets.Tie as tie
 
-abbrev Inv-loop : tie.InvT-loop
-Inv-loop targets n k sets₀ next₀ count₀ q₀ q-end sets next count q =
-    (q-end ≡ min n 32) × (q ≤ q-end) × (count ≤ 512) × (take count sets ≡ setsUpTo targets k q)
-    × Holds targets k (take count sets) (count * 16) sets next
+fill-requires : tie.Need-fill-requires
+unfolding listFrom
+fill-requires c κs = record { sets-are = refl; next-are = refl }
 
-abbrev μ-loop : tie.MeasureT-loop
-μ-loop targets n k sets₀ next₀ count₀ q₀ q-end sets next count q = q-end - q
+enum-known-count : tie.Need-enum-known-count
+enum-known-count c = search needs
 
-clear-requires : tie.Need-clear-requires Inv-loop μ-loop
-clear-requires c κs = search needs
+number-singles-requires : tie.Need-number-singles-requires
+number-singles-requires c κs = search needs
 
-at-most-requires : tie.Need-at-most-requires Inv-loop μ-loop
-at-most-requires c κs = search needs
-
-loop-holds : tie.Need-loop-holds Inv-loop μ-loop
-unfolding keysUpTo
-loop-holds c =
-    let a = c .before .before .before .before .args in
-    let w = c .before .clear in
-    (c .at-most .ensures, omega arith, omega arith, refl, begin (a .targets .now) (a .k) (w .last .0) (w .last .1 .0) (w .ensures))
-
-add-state-requires : tie.Need-add-state-requires Inv-loop μ-loop
-add-state-requires c κs =
-    let x = c .before .before .before .loop in
-    (omega arith, x .inv .2, x .inv .4)
-
-enum-known-after : tie.Need-enum-known-after Inv-loop μ-loop
-enum-known-after c = search needs
-
-enum-told : tie.Need-enum-told Inv-loop μ-loop
+enum-told : tie.Need-enum-told
 enum-told c = search needs
 
-returns : tie.Need-returns Inv-loop μ-loop
+no-table-requires : tie.Need-no-table-requires
+no-table-requires c κs = search needs
+
+returns : tie.Need-returns
 returns c =
-    let x = c .before .before .before .before .before .before .loop in
-    let a = c .before .before .before .before .before .before .before .before .before .before .before .args in
-    let w = c .before .before .add-state in
-    answered-over (a .targets .now) (a .k) (a .n) (w .last .1 .1 .0) (w .last .1 .1 .1 .0) (x .q) (omega arith)
-    (states-over (a .targets .now) (a .k) (x .q) (take (x .count) (x .sets)) (x .inv .3) (w .result) (w .last .1 .1 .0) (w .last .1 .1 .1 .0) (w .ensures) (c .enum-told .given .1))
+    let a = c .before .before .before .before .before .before .before .before .args in
+    let w = c .before .before .before .before .before .fill in
+    let v = c .before .before .before .count .given in
+    let s = c .number-singles in
+    table-whole (a .targets .now) (a .n) (a .k) (w .result) (w .last .1 .1 .1 .0) (w .last .1 .1 .1 .1 .0) (w .ensures) (v .0 .0) (v .1) (s .result) (s .ensures)
 
-add-q : tie.Need-add-q Inv-loop μ-loop
-add-q c = omega arith
-
-loop-less : tie.Need-loop-less Inv-loop μ-loop
-loop-less c = omega arith
-
-loop-again : tie.Need-loop-again Inv-loop μ-loop
-loop-again c =
-    let x = c .before .before .before .before .before .before .before .loop in
-    let a = c .before .before .before .before .before .before .before .before .before .before .before .before .args in
-    let w = c .before .before .before .add-state in
-    let v = c .before .after .given in
-    let m = states-more (a .targets .now) (a .k) (x .q) (take (x .count) (x .sets)) (x .inv .3) (w .result) (w .last .1 .1 .0) (w .last .1 .1 .1 .0) (w .ensures) (v .0 .0) (v .1) in
-    (x .inv .0, omega arith, m .0, m .1, m .2)
-
-returns-2 : tie.Need-returns-2 Inv-loop μ-loop
+returns-2 : tie.Need-returns-2
 returns-2 c =
-    let x = c .before .loop in
     let a = c .before .before .before .before .before .before .args in
-    let e : x .q ≡ min (a .n) 32 = omega arith in
-    answered-whole (a .targets .now) (a .k) (a .n) (x .sets) (x .next) (x .count) (x .inv .2)
-    (x .inv .3 ∙ ap (setsUpTo (a .targets .now) (a .k)) e)
-    (x .inv .4)
+    let w = c .before .before .before .fill in
+    table-over (a .targets .now) (a .n) (a .k) (w .result) (w .last .1 .1 .1 .0) (w .last .1 .1 .1 .1 .0) (w .ensures) (cc) (c .no-table .result) (c .no-table .ensures)
 
 pub number-sets-spec : {M : Type 1} → statement M
 number-sets-spec =
     tie.close
     (tie.spec
-    Inv-loop
-    μ-loop
-    clear-requires
-    at-most-requires
-    loop-holds
-    add-state-requires
-    enum-known-after
+    fill-requires
+    enum-known-count
+    number-singles-requires
     enum-told
+    no-table-requires
     returns
-    add-q
-    loop-less
-    loop-again
     returns-2)

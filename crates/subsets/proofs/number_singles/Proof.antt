@@ -1,15 +1,16 @@
--- `number_singles` meets its contract: the numbers of the states before q are stored. Assumes nothing.
-use Rattle.delegates.specs.Classes.{numberOf}
+-- `number_singles` meets its contract: the numbers of the states before q are stored. Assumes
+-- nothing.
+use Rattle.subsets.specs.Singles.{singletonNumber}
 use Rattle.masks.proofs.Lists.{cell-stored, is-listFrom}
 use lib.ListN.{length, getD, length-set}
 use native.Mathlib.Omega.{arith}
 use Prim.Native.Nat.{ℕ, _-_, _≤_, _<_}
 use mathlib.Core.Path.{_≡_, refl, _∙_}
-use Rattle.build.proofs.number_singles.Statement.{statement}
-use Rattle.build.proofs.number_singles.Tie as tie
+use Rattle.subsets.proofs.number_singles.Statement.{statement}
+use Rattle.subsets.proofs.number_singles.Tie as tie
 
 abbrev Inv-loop : tie.InvT-loop
-Inv-loop sets count singles₀ q₀ singles q = (q ≤ 32) × (length singles ≡ 32) × ((p : ℕ) → p < q → getD singles p 0 ≡ numberOf sets count p)
+Inv-loop sets count singles₀ q₀ singles q = (q ≤ 32) × (length singles ≡ 32) × ((p : ℕ) → p < q → getD singles p 0 ≡ singletonNumber sets count p)
 
 abbrev μ-loop : tie.MeasureT-loop
 μ-loop sets count singles₀ q₀ singles q = 32 - q
@@ -20,8 +21,8 @@ loop-holds c = (omega arith, refl, λ p h. absurd (omega arith))
 cast-t7 : tie.Need-cast-t7 Inv-loop μ-loop
 cast-t7 c = omega arith
 
-number-of-requires : tie.Need-number-of-requires Inv-loop μ-loop
-number-of-requires c κs = omega arith
+number-single-requires : tie.Need-number-single-requires Inv-loop μ-loop
+number-single-requires c κs = omega arith
 
 mul-singles : tie.Need-mul-singles Inv-loop μ-loop
 mul-singles c = omega arith
@@ -40,15 +41,15 @@ loop-again c =
     let x = c .before .before .loop in
     let a = c .before .before .before .args in (
       omega arith,
-      length-set (x .singles) (x .q) (c .number-of .result .0) ∙ x .inv .1,
-      cell-stored (x .singles) (numberOf (a .sets .now) (a .count)) (x .q) (c .number-of .result .0) (omega (arith, x .inv .1)) (c .number-of .ensures) (x .inv .2),
+      length-set (x .singles) (x .q) (c .number-single .result .0) ∙ x .inv .1,
+      cell-stored (x .singles) (singletonNumber (a .sets .now) (a .count)) (x .q) (c .number-single .result .0) (omega (arith, x .inv .1)) (c .number-single .ensures) (x .inv .2),
     )
 
 returns : tie.Need-returns Inv-loop μ-loop
 returns c =
     let x = c .before .loop in
     let a = c .before .before .args in
-    is-listFrom (x .singles) 32 (numberOf (a .sets .now) (a .count)) (x .inv .1) (λ p h. x .inv .2 p (omega arith))
+    is-listFrom (x .singles) 32 (singletonNumber (a .sets .now) (a .count)) (x .inv .1) (λ p h. x .inv .2 p (omega arith))
 
 pub number-singles-spec : {M : Type 1} → statement M
 number-singles-spec =
@@ -58,7 +59,7 @@ number-singles-spec =
     μ-loop
     loop-holds
     cast-t7
-    number-of-requires
+    number-single-requires
     mul-singles
     array-write-singles
     add-q

@@ -1,0 +1,32 @@
+-- The number of a set among those that have one, and the number of {q} for each state q (document
+-- 01, "Sets and their order"). `sets` is the array of numbered sets, of which the first `count`
+-- cells are in use.
+--
+--   foundIn l m                    the number of the set m among the sets l, or none
+--   foundOf                        what each case of the search's answer says: a number, or none
+--   singletonNumber sets count q   the number of {q}, or 512, which stands for the empty set
+--   singlesOf sets count           that number for each of the 32 states
+use mathlib.Core.Bool.{cond}
+use mathlib.Core.List.{List}
+use mathlib.Core.Option.{Option, none, some}
+use Prim.Native.Nat.{ℕ}
+use lib.Dec.{ltb}
+use lib.ListN.{length, take}
+use Rattle.masks.specs.Masks.{single}
+use Rattle.masks.specs.Lists.{listFrom}
+use Rattle.subsets.specs.declared.Found.{Found}
+use Rattle.subsets.specs.declared.Found.the-variants.{At, Nothing}
+use Rattle.subsets.specs.Sets.{numberIn}
+
+abbrev pub foundIn : List ℕ → ℕ → Option ℕ
+foundIn l m = cond (ltb (numberIn l m) (length l)) (some (numberIn l m)) none
+
+abbrev pub foundOf : Found → Option ℕ
+foundOf (At number) = some (number .0)
+foundOf Nothing = none
+
+unfoldable pub singletonNumber : List ℕ → ℕ → ℕ → ℕ
+singletonNumber sets count q = let i = numberIn (take count sets) (single q) in cond (ltb i count) i 512
+
+abbrev pub singlesOf : List ℕ → ℕ → List ℕ
+singlesOf sets count = listFrom 0 32 (singletonNumber sets count)
