@@ -10,6 +10,7 @@ use Rattle.calls.specs.Steps.{verdictOf, stepOf}
 use Rattle.histories.specs.History.{fileOf, placesIn, standing, verdictIn, answerOf, answersTo}
 use Rattle.histories.specs.Claims.{judgeAfter, repliesTo, EveryList}
 use Rattle.histories.proofs.Method.{method}
+use Rattle.histories.proofs.Taken.{accepted-exactly, refused-exactly}
 use Rattle.histories.proofs.Numbers.{summed-same}
 use Rattle.histories.proofs.Listed.{Good, good-fresh, load-good, load-says, open-good, open-says, withdraw-good, withdraw-says, ask-good, deliver-good, deliver-says}
 use Rattle.histories.proofs.Asked.{by-rule, verdict-says}
@@ -48,6 +49,8 @@ every-list h =
     record {
       all-right = all-right h;
       method = method;
+      accepted-exactly = accepted-exactly h;
+      refused-exactly = refused-exactly h;
       after = record {
         rule = g .rule;
         places = g .places-are;

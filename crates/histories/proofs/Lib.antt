@@ -7,9 +7,9 @@ pub mod Numbers
 pub mod Listed
 pub mod Asked
 pub mod Words
+pub mod Taken
 pub mod Every
 pub mod Allowed
-pub mod Taken
 pub mod Never
 pub mod TwoRules
 pub mod TableP

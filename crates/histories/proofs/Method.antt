@@ -21,6 +21,7 @@ use Rattle.automaton.specs.Rules.{automatonOf, WellFormed}
 use Rattle.automaton.specs.Successor.{successor, after}
 use Rattle.automaton.proofs.Laws.{run-map}
 use Rattle.automaton.proofs.Claims as automaton
+use Rattle.ruleformat.specs.Refusals.{refusal}
 use Rattle.ruleformat.specs.Reader.{ruleOf}
 use Rattle.ruleformat.specs.Language.{automatonIn}
 use Rattle.ruleformat.proofs.Claims as rulefile
@@ -33,31 +34,22 @@ use Rattle.build.specs.Building.{builtOf}
 use Rattle.build.proofs.Claims as build
 use Rattle.calls.specs.Calls.{loadNumber}
 use Rattle.calls.proofs.Conditions.{not-refused}
-use Rattle.histories.specs.Method.{Leads, Moves, setAt, nextAt, numberedIn, Method}
+use Rattle.histories.specs.Method.{Leads, Moves, setAt, nextAt, numberedIn, Origin, InOrder, TooMany, Method}
 use Rattle.histories.proofs.Bytes.{of-rule, is-read, stands}
 
 both : {A B C : Type 0} → A ↔ B → B ↔ C → A ↔ C
 both f g = (λ x. g .0 (f .0 x), λ x. f .1 (g .1 x))
 
-module _ (f : List ℕ) (e : loadNumber f ≡ none) where
+-- ---- of a file that the reader accepts
+module _ (f : List ℕ) (e : refusal f ≡ none) where
   good : WellFormed (ruleOf f)
-  good = rulefile.claims .well-formed f (not-refused f e .0)
-
-  fit : fits (ruleOf f)
-  fit = not-refused f e .1
-
-  few : length (sets (ruleOf f)) ≤ 512
-  unfolding tooMany
-  few = ltb-false 512 (length (sets (ruleOf f))) fit
-
-  abbrev built : Built
-  built = builtOf (ruleOf f)
+  good = rulefile.claims .well-formed f e
 
   -- ---- the arcs and the runs of the rule are those of the bytes
   arc-law : (q s p : ℕ) → Arc (automatonOf (ruleOf f)) q s p ↔ Arc (automatonIn f) q s p
   arc-law q s p = (
-    (λ x. record { source = x .source; symbol = x .symbol; target = x .target; there = stands f (not-refused f e .0) q s p (x .there) }),
-    λ x. record { source = x .source; symbol = x .symbol; target = x .target; there = is-read f (not-refused f e .0) q s p (x .there) },
+    (λ x. record { source = x .source; symbol = x .symbol; target = x .target; there = stands f e q s p (x .there) }),
+    λ x. record { source = x .source; symbol = x .symbol; target = x .target; there = is-read f e q s p (x .there) },
   )
 
   run-law : (q p : ℕ) (w : List ℕ) → Run (automatonOf (ruleOf f)) q w p ↔ Run (automatonIn f) q w p
@@ -80,20 +72,6 @@ module _ (f : List ℕ) (e : loadNumber f ≡ none) where
       both (automaton.claims .successor-law (ruleOf f) good l s p)
       ((λ x. (x .0, x .1, arc-law (x .0) s p .0 (x .2))), λ x. (x .0, x .1, arc-law (x .0) s p .1 (x .2)))
 
-  -- ---- the arrays
-  set-at : (i : ℕ) → i < length (sets (ruleOf f)) → setAt built i ≡ getD (sets (ruleOf f)) i 0
-  set-at i h = mask-at subsets.claims (ruleOf f) good fit i h
-
-  next-at : (i s : ℕ) → i < length (sets (ruleOf f)) → s < ruleOf f .k → nextAt built i s ≡ next (ruleOf f) i s
-  next-at i s h l = cell-at subsets.claims (ruleOf f) good fit i s (omega (arith, few)) (omega (arith, good .symbols))
-
-  -- ---- the sets
-  numbered-law : (m : ℕ) → numberedIn built m ↔ Reach (ruleOf f) m
-  numbered-law m = (
-    (λ x. subst (Reach (ruleOf f)) (sym (set-at (x .0) (x .1)) ∙ x .2) (subsets.claims .sound (ruleOf f) good (x .0) (x .1))),
-    λ x. let i = subsets.claims .complete (ruleOf f) good fit m x in (i .0, i .1, set-at (i .0) (i .1) ∙ i .2),
-  )
-
   reach-law : (m : ℕ) → Reach (ruleOf f) m ↔ (m ≡ 0 → ⊥) × (q : ℕ) × (q < automatonIn f .n) × (w : List ℕ) × Leads (automatonIn f) q w m
   reach-law m = (
     (λ x. (x .some-state, x .state, x .below, x .text, subst (Leads (automatonIn f) (x .state) (x .text)) (x .leads) (leads-after (x .state) (x .below) (x .text)))),
@@ -108,15 +86,58 @@ module _ (f : List ℕ) (e : loadNumber f ≡ none) where
     },
   )
 
+  pub nine-law : (tooMany (ruleOf f .targets) (ruleOf f .n) (ruleOf f .k) ≡ true) ↔ TooMany (automatonIn f)
+  nine-law =
+      both (subsets.claims .nine (ruleOf f) good) (
+        (λ x. (x .0, x .1, x .2, λ i b. reach-law (getD (x .0) i 0) .0 (x .3 i b))),
+        λ x. (x .0, x .1, x .2, λ i b. reach-law (getD (x .0) i 0) .1 (x .3 i b)),
+      )
+
+  -- a text is accepted exactly when a final state is in the successor of the set of initial states by it
+  pub acceptance : (w : List ℕ) → Accepts (automatonIn f) w ↔ (shares (after (ruleOf f .targets) (ruleOf f .initials) w) (ruleOf f .finals) ≡ true)
+  acceptance w = both (rulefile.claims .language f e w) (automaton.claims .accepts-law (ruleOf f) good w)
+
+-- ---- of a file that a load accepts
+module _ (f : List ℕ) (e : loadNumber f ≡ none) where
+  read : refusal f ≡ none
+  read = not-refused f e .0
+
+  well : WellFormed (ruleOf f)
+  well = rulefile.claims .well-formed f (not-refused f e .0)
+
+  fit : fits (ruleOf f)
+  fit = not-refused f e .1
+
+  few : length (sets (ruleOf f)) ≤ 512
+  unfolding tooMany
+  few = ltb-false 512 (length (sets (ruleOf f))) fit
+
+  abbrev built : Built
+  built = builtOf (ruleOf f)
+
+  -- ---- the arrays
+  set-at : (i : ℕ) → i < length (sets (ruleOf f)) → setAt built i ≡ getD (sets (ruleOf f)) i 0
+  set-at i h = mask-at subsets.claims (ruleOf f) well fit i h
+
+  next-at : (i s : ℕ) → i < length (sets (ruleOf f)) → s < ruleOf f .k → nextAt built i s ≡ next (ruleOf f) i s
+  next-at i s h l = cell-at subsets.claims (ruleOf f) well fit i s (omega (arith, few)) (omega (arith, well .symbols))
+
+  -- ---- the sets
+  numbered-law : (m : ℕ) → numberedIn built m ↔ Reach (ruleOf f) m
+  numbered-law m = (
+    (λ x. subst (Reach (ruleOf f)) (sym (set-at (x .0) (x .1)) ∙ x .2) (subsets.claims .sound (ruleOf f) well (x .0) (x .1))),
+    λ x. let i = subsets.claims .complete (ruleOf f) well fit m x in (i .0, i .1, set-at (i .0) (i .1) ∙ i .2),
+  )
+
   -- ---- the table
   cell-law : (i s : ℕ) → i < built .count → s < automatonIn f .k
       → ((nextAt built i s < built .count) × Moves (automatonIn f) (setAt built i) s (setAt built (nextAt built i s)))
       ⊎ ((nextAt built i s ≡ 512) × Moves (automatonIn f) (setAt built i) s 0)
   cell-law i s h l =
-      let cell = subsets.claims .cell (ruleOf f) good fit i s h l in
+      let cell = subsets.claims .cell (ruleOf f) well fit i s h l in
       let m = successor (ruleOf f .targets) (getD (sets (ruleOf f)) i 0) s in
       let is : Moves (automatonIn f) (setAt built i) s m =
-      subst (λ (x : ℕ). Moves (automatonIn f) x s m) (sym (set-at i h)) (moves-successor (getD (sets (ruleOf f)) i 0) s) in
+      subst (λ (x : ℕ). Moves (automatonIn f) x s m) (sym (set-at i h)) (moves-successor f (not-refused f e .0) (getD (sets (ruleOf f)) i 0) s) in
       by-test (eqb m 0)
       (λ t. let z = eqb-true m 0 t in inr (next-at i s h l ∙ cell .0 z, subst (Moves (automatonIn f) (setAt built i) s) z is))
       (λ t.
@@ -126,15 +147,39 @@ module _ (f : List ℕ) (e : loadNumber f ≡ none) where
       sym (c .1) ∙ ap (λ (x : ℕ). getD (sets (ruleOf f)) x 0) (sym (next-at i s h l)) ∙ sym (set-at (nextAt built i s) b) in
       inl (b, subst (Moves (automatonIn f) (setAt built i) s) same is))
 
+  -- ---- the order: a text that leads to a set in the bytes leads to it in the rule
+  leads-law : (q : ℕ) → q < ruleOf f .n → (w : List ℕ) (m : ℕ) → Leads (automatonIn f) q w m ↔ (after (ruleOf f .targets) (single q) w ≡ m)
+  leads-law q h w m =
+      let law = leads-after f (not-refused f e .0) q h w in (
+        (λ x. masks.claims .same (after (ruleOf f .targets) (single q) w) m (λ p. both (law p) (x p .1, x p .0))),
+        λ x. subst (Leads (automatonIn f) q w) x law,
+      )
+
+  in-order : InOrder (automatonIn f) built
+  in-order =
+      let o = subsets.claims .ordered (ruleOf f) well fit in
+      record {
+        state = o .state;
+        text = o .text;
+        origin = λ i b.
+            let h = o .origin i b in
+            let q = o .state i in
+            subst (λ (m : ℕ). Origin (automatonIn f) m q (o .text i)) (sym (set-at i b))
+            (record {
+              below = h .below;
+              leads = leads-law q (h .below) (o .text i) (getD (sets (ruleOf f)) i 0) .1 (h .leads);
+              first-state = λ p v l x. h .first-state p v l (leads-law p l v (getD (sets (ruleOf f)) i 0) .0 x);
+              first-text = λ v x. h .first-text v (leads-law q (h .below) v (getD (sets (ruleOf f)) i 0) .0 x);
+            });
+        rises = o .rises;
+      }
+
   pub method : Method f (builtOf (ruleOf f))
   method = record {
-    sets = λ m. both (numbered-law m) (reach-law m);
-    once = λ i j h l same. subsets.claims .once (ruleOf f) good i j h l (sym (set-at i h) ∙ same ∙ set-at j l);
+    sets = λ m. both (numbered-law m) (reach-law f (not-refused f e .0) m);
+    once = λ i j h l same. subsets.claims .once (ruleOf f) well i j h l (sym (set-at i h) ∙ same ∙ set-at j l);
+    order = in-order;
     table = cell-law;
     delegates =
-        of-rule f (not-refused f e .0) (built .delegates) (built .starts) (build.claims .delegates (ruleOf f) good fit);
+        of-rule f (not-refused f e .0) (built .delegates) (built .starts) (build.claims .delegates (ruleOf f) well fit);
   }
-
-  -- a text is accepted exactly when a final state is in the successor of the set of initial states by it
-  pub acceptance : (w : List ℕ) → Accepts (automatonIn f) w ↔ (shares (after (ruleOf f .targets) (ruleOf f .initials) w) (ruleOf f .finals) ≡ true)
-  acceptance w = both (rulefile.claims .language f (not-refused f e .0) w) (automaton.claims .accepts-law (ruleOf f) good w)

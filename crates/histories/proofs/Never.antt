@@ -26,6 +26,7 @@ use Rattle.calls.specs.Calls.{Call, loads, opens, delivers, withdraws, asks, lo
 use Rattle.calls.proofs.Conditions.{none-some, over}
 use Rattle.histories.specs.History.{isNone, isSome, fileOf, ruleIn, openNumber, placesIn, runAt, countOf, deliverCheck, withdrawCheck, standing, deliverNumber, withdrawNumber, emptiesIn, summedIn, yesIn, replyBy}
 use Rattle.histories.specs.Claims.{Never-24}
+use Rattle.histories.proofs.Taken.{named, past, not-named}
 
 -- ---- what a chunk counts
 chunk-most : (ts : List ℕ) (run : ℕ) (w : List ℕ) → chunkCount ts run w ≤ 32 * length w
@@ -111,23 +112,6 @@ module _ (h : List Call) where
   fits-32 p w short =
       le-ltb 4294967295 (summedIn h + countOf (ruleIn h) p (some w))
       (omega (arith, summed-few, counted-few (ruleIn h) p (some w) (λ v e. let is : w ≡ v = cc in subst (λ (x : List ℕ). length x ≤ 65536) is short)))
-
--- ---- numbers that no condition has
-named : ℕ → List Condition → Bool
-named x [] = false
-named x (on number test ∷ cs) = eqb number x || named x cs
-
--- a condition with another number is passed
-past : (number x : ℕ) (test : Bool) (rest : Option ℕ) → eqb number x ≡ false → cond test (some number) rest ≡ some x → (test ≡ false) × (rest ≡ some x)
-past number x true rest other e = absurd (let same : number ≡ x = cc in eqb-false number x other same)
-past number x false rest other e = (refl, e)
-
-not-named : (x : ℕ) (cs : List Condition) → named x cs ≡ false → firstOf cs ≡ some x → ⊥
-unfolding named
-not-named x [] n e = none-some none refl e
-not-named x (on number test ∷ cs) n e =
-    not-named x cs (or-right (eqb number x) (named x cs) n)
-    (past number x test (firstOf cs) (or-left (eqb number x) (named x cs) n) e .1)
 
 -- ---- the claims
 replied : (o : Option ℕ) (a : Reply) → (a ≡ refused 24 → ⊥) → replyBy o a ≡ refused 24 → o ≡ some 24

@@ -324,6 +324,7 @@ pub words : (h : List Call) (j : Judge) → Good h j → Verdict-words h
 words h j good =
     let s = standing h in
     record {
+      board = ((λ e. there h e), λ l. board-law h ∙ lt-ltb 0 (placesIn h) l);
       none-there = both (refused-law (placesIn h) (emptiesIn h) (yesIn h) (summedIn h)) (
         (λ z. board-law h ∙ rw z),
         λ e. omega (arith, ltb-false 0 (placesIn h) (sym (board-law h) ∙ e)),

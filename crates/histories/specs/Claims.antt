@@ -7,7 +7,6 @@
 --   automatonBy file    the automaton of the file
 --   After h j           what holds of the state j after the calls h
 --   Verdict-words       the words of demand 3 for the verdict asked after h
---   Accepted-exactly    when an opening, a delivery and a withdrawal are accepted; proofs/Taken.antt
 --   EveryList           demand 3, one claim over a whole list
 --   Never-24            no list comes to 24; proofs/Never.antt
 use mathlib.Core.Path.{_≡_}
@@ -15,7 +14,7 @@ use mathlib.Core.Logic.{_↔_}
 use mathlib.Core.Bool.{true, false}
 use mathlib.Core.List.{List}
 use mathlib.Core.Option.{Option, none, some}
-use Prim.Native.Nat.{ℕ, _+_, _*_, _≤_, _<_}
+use Prim.Native.Nat.{ℕ, _*_, _≤_, _<_}
 use lib.ListN.{length, getD}
 use Rattle.executions.specs.Executions.{Machine, stateAfter, repliesTo as machineReplies}
 use Rattle.automaton.specs.Automaton.{Automaton, Accepts}
@@ -25,13 +24,13 @@ use Rattle.ruleformat.specs.Language.{automatonIn}
 use Rattle.subsets.specs.Claims.{fits}
 use Rattle.delegates.specs.Claims.{startsIn}
 use Rattle.build.specs.Building.{builtOf, noBuilt}
-use Rattle.chunks.specs.Chunks.{foreign}
 use Rattle.board.specs.Boards.{held, isEmpty, summedCount}
 use Rattle.calls.specs.declared.Judge.{Judge}
-use Rattle.calls.specs.Replies.{Reply, accepted, waiting, keeps, breaks, refused}
-use Rattle.histories.specs.History.{isNone, fileOf, ruleIn, boardIn, placesIn, countOf, standing, endAt, countAt, emptiesIn, summedIn, yesIn, chunkOf, textIn, verdictIn, answerOf, answersTo}
+use Rattle.calls.specs.Replies.{Reply, waiting, keeps, breaks, refused}
+use Rattle.histories.specs.History.{isNone, fileOf, ruleIn, boardIn, placesIn, standing, endAt, countAt, emptiesIn, summedIn, yesIn, chunkOf, textIn, verdictIn, answerOf, answersTo}
 use Rattle.histories.specs.Method.{Method}
-use Rattle.calls.specs.Calls.{Call, opens, delivers, withdraws, loadNumber}
+use Rattle.histories.specs.Conditions.{Accepted-exactly, Refused-exactly}
+use Rattle.calls.specs.Calls.{Call, loadNumber}
 use Rattle.calls.specs.Steps.{fresh, isYes, verdictOf, stepOf}
 
 -- the judge as a machine: what a call comes to is crates/calls' stepOf
@@ -67,6 +66,8 @@ pub record After (h : List Call) (j : Judge) : Type 0 where
 
 -- demand 3, of the verdict after the calls h
 pub record Verdict-words (h : List Call) : Type 0 where
+  -- a board is there exactly when it has places
+  pub board : (boardIn h ≡ true) ↔ (0 < placesIn h)
   -- refused with 21 unless the last accepted load or opening is an opening
   pub none-there : (verdictIn h ≡ refused 21) ↔ (boardIn h ≡ false)
   -- waiting with the number of empty places exactly when one is empty
@@ -85,24 +86,15 @@ pub record Verdict-words (h : List Call) : Type 0 where
   -- and so it is at each place
   pub place-most : (p : ℕ) → countAt h p ≤ startsIn (ruleIn h) .count * length (chunkOf (standing h p))
 
--- which calls are accepted after the calls h: those of which every condition for a refusal fails, spelt out one by one
-pub record Accepted-exactly (h : List Call) : Type 0 where
-  -- a rule is there, and 1 to 64 places are asked for
-  pub opening : (n : ℕ) → (answerOf h (opens n) ≡ accepted) ↔ ((fileOf h ≡ none → ⊥) × (1 ≤ n) × (n ≤ 64))
-  -- a board is there with that place, the chunk is within the limit and the alphabet, the place is empty, and the sum of the counts fits
-  pub delivery : (p : ℕ) (w : List ℕ)
-      → (answerOf h (delivers p w) ≡ accepted)
-      ↔ ((0 < placesIn h) × (p < placesIn h) × (length w ≤ 65536) × (foreign w (ruleIn h .k) ≡ false) × (standing h p ≡ none)
-      × (summedIn h + countOf (ruleIn h) p (some w) ≤ 4294967295))
-  -- a board is there with that place, and a chunk stands there
-  pub withdrawal : (p : ℕ) → (answerOf h (withdraws p) ≡ accepted) ↔ ((0 < placesIn h) × (p < placesIn h) × (standing h p ≡ none → ⊥))
-
 -- ONE CLAIM over a list of calls h
 pub record EveryList (h : List Call) : Type 0 where
   -- each reply is document 01's answer after the calls before it
   pub all-right : repliesTo h ≡ answersTo h
   -- the sets, the table, the delegates and the M by which they go are, of each file that a load accepts, those of the automaton in its bytes
   pub method : (f : List ℕ) → loadNumber f ≡ none → Method f (builtOf (ruleOf f))
+  -- a call is accepted exactly when none of its conditions holds, and refused with a number exactly when that one is the first that holds
+  pub accepted-exactly : Accepted-exactly h
+  pub refused-exactly : Refused-exactly h
   pub after : After h (judgeAfter h)
   pub verdict : Verdict-words h
 

@@ -4,15 +4,19 @@
 --   Leads a q w m   m is the set of the states to which a run over the text w leads from the state q
 --   Moves a l s m   m is the set of the states to which an arc by the symbol s leads from a member of l
 --   numberedIn b m  the set m has a number in the built rule b
+--   Origin, InOrder the first state and, from it, the first text that lead to a set; sets are numbered in the order of these
+--   TooMany a       more than 512 sets are reached: 513 distinct ones, none of them empty
 --   Method f b      the sets, the next-set table, the delegates and M of b are those of the automaton in the bytes f
 use mathlib.Core.Path.{_≡_}
 use mathlib.Core.Logic.{_↔_, _⊎_}
 use mathlib.Core.List.{List}
-use Prim.Native.Nat.{ℕ, _+_, _*_, _<_}
-use lib.ListN.{getD}
+use Prim.Native.Nat.{ℕ, _+_, _*_, _<_, _≤_}
+use lib.ListN.{length, getD}
 use Rattle.masks.specs.Masks.{_∈_}
 use Rattle.automaton.specs.Automaton.{Automaton, Arc, Run}
 use Rattle.ruleformat.specs.Language.{automatonIn}
+use Rattle.numbering.specs.Texts.{Sooner, NoLater}
+use Rattle.numbering.specs.Claims.{Distinct}
 use Rattle.delegates.specs.Alike.{Merged}
 use Rattle.build.specs.declared.Built.{Built}
 
@@ -32,10 +36,32 @@ module _ (b : Built) where
   abbrev pub numberedIn : ℕ → Type 0
   numberedIn m = (i : ℕ) × (i < b .count) × (setAt i ≡ m)
 
+-- the sets of the built rule in the order of their numbers. Of two texts the shorter is first; of two as long, the one with the lower symbol
+-- where they first differ
+pub record Origin (a : Automaton) (m q : ℕ) (w : List ℕ) : Type 0 where
+  pub below : q < a .n
+  pub leads : Leads a q w m
+  pub first-state : (p : ℕ) (v : List ℕ) → p < a .n → Leads a p v m → q ≤ p
+  pub first-text : (v : List ℕ) → Leads a q v m → NoLater w v
+
+pub record InOrder (a : Automaton) (b : Built) : Type 0 where
+  pub state : ℕ → ℕ
+  pub text : ℕ → List ℕ
+  pub origin : (i : ℕ) → i < b .count → Origin a (setAt b i) (state i) (text i)
+  pub rises : (i j : ℕ) → i < j → j < b .count → (state i < state j) ⊎ ((state i ≡ state j) × Sooner (text i) (text j))
+
+-- more than 512 sets are reached
+abbrev pub TooMany : Automaton → Type 0
+TooMany a =
+    (l : List ℕ) × (length l ≡ 513) × Distinct l
+    × ((i : ℕ) → i < 513 → (getD l i 0 ≡ 0 → ⊥) × (q : ℕ) × (q < a .n) × (w : List ℕ) × Leads a q w (getD l i 0))
+
 pub record Method (f : List ℕ) (b : Built) : Type 0 where
   -- a set has a number exactly when it is not empty and some state and text lead to it, and then it has one number
   pub sets : (m : ℕ) → numberedIn b m ↔ (m ≡ 0 → ⊥) × (q : ℕ) × (q < automatonIn f .n) × (w : List ℕ) × Leads (automatonIn f) q w m
   pub once : (i j : ℕ) → i < b .count → j < b .count → setAt b i ≡ setAt b j → i ≡ j
+  -- sets are numbered in the order of their first states, and then of their first texts from these
+  pub order : InOrder (automatonIn f) b
   -- a cell of the table is the number of the set to which the arcs by its symbol lead, or 512 where they lead nowhere
   pub table : (i s : ℕ) → i < b .count → s < automatonIn f .k
       → ((nextAt b i s < b .count) × Moves (automatonIn f) (setAt b i) s (setAt b (nextAt b i s))) ⊎ ((nextAt b i s ≡ 512) × Moves (automatonIn f) (setAt b i) s 0)
