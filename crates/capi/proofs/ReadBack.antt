@@ -11,9 +11,11 @@ use Rattle.build.specs.Building.{builtOf}
 use Rattle.board.specs.Boards.{placesOf, isEmpty, emptyBoard, filledAt, clearedAt, emptyPlaces, summedCount}
 use Rattle.calls.specs.declared.Judge.{Judge}
 use Rattle.calls.specs.Replies.{Reply, accepted, loaded}
-use Rattle.calls.specs.Calls.{loadNumber, openConditions, deliverConditions, withdrawConditions, verdictBy}
+use Rattle.calls.specs.Calls.{Call, loadNumber, openConditions, deliverConditions, withdrawConditions, verdictBy}
 use Rattle.calls.specs.Steps.{Outcome, lacksRule, lacksBoard, withBoard, outcomeBy, runsAt, loadOf, openOf, deliverOf, withdrawOf, isYes, verdictOf}
-use Rattle.capi.specs.Numbers.{loadShown, openShown, deliverShown, withdrawShown, verdictShown, loadTold, openTold, deliverTold, withdrawTold, verdictTold}
+use Rattle.histories.specs.History.{placesIn, emptiesIn, yesIn, summedIn, verdictIn}
+use Rattle.replay.specs.Records.{Recorded, calls, malformedAt, verdict, recordIn, replayOf}
+use Rattle.capi.specs.Numbers.{loadShown, openShown, deliverShown, withdrawShown, verdictShown, replayShown, loadTold, openTold, deliverTold, withdrawTold, verdictTold, replayTold}
 use Rattle.capi.specs.Claims.{Claims}
 
 module _ (j next : Judge) where
@@ -68,6 +70,21 @@ unfolding verdictOf
 verdict-told j =
     verdict-by (lacksBoard j) (emptyPlaces (j .board)) (eqb (emptyPlaces (j .board)) 0) (isYes j) (summedCount (j .board)) refl
 
+-- a recorded list's verdict is one of the four, by its numbers; a malformed line is told by kind 4
+list-told : (h : List Call) → replayTold (replayShown (verdict (verdictIn h))) ≡ verdict (verdictIn h)
+list-told h = go (eqb (placesIn h) 0) (emptiesIn h) (eqb (emptiesIn h) 0) (yesIn h) (summedIn h) refl
+  where
+    go : (lacks : Bool) (empty : ℕ) (none-empty yes-there : Bool) (sum : ℕ) → eqb empty 0 ≡ none-empty
+        → replayTold (replayShown (verdict (verdictBy lacks empty yes-there sum))) ≡ verdict (verdictBy lacks empty yes-there sum)
+    go true empty e y sum z = refl
+    go false empty false y sum z = rw z
+    go false empty true true sum z = rw z
+    go false empty true false sum z = rw z
+
+by-record : (r : Recorded) → replayTold (replayShown (replayOf r)) ≡ replayOf r
+by-record (calls h) = list-told h
+by-record (malformedAt i) = refl
+
 pub claims : Claims
 claims = record {
   load-told = load-told;
@@ -75,4 +92,5 @@ claims = record {
   deliver-told = deliver-told;
   withdraw-told = withdraw-told;
   verdict-told = verdict-told;
+  replay-told = λ text. by-record (recordIn text);
 }

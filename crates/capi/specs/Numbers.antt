@@ -96,3 +96,6 @@ abbrev pub verdictTold : VerdictResult → Reply
 verdictTold r =
     cond (eqb (r .kind) 0) (refused (r .number))
     (cond (eqb (r .kind) 1) (waiting (r .number)) (cond (eqb (r .kind) 2) (keeps (r .number)) (breaks (r .number))))
+
+abbrev pub replayTold : ReplayResult → Told
+replayTold r = cond (eqb (r .kind) 4) (malformedLine (r .number)) (verdict (verdictTold (record { kind = r .kind; number = r .number })))

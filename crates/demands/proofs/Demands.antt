@@ -1,20 +1,27 @@
 -- THE THREE DEMANDS, sentence by sentence. Under each stands the theorem that meets it; its proof
 -- only cites the file that has it. To believe them, read the definitions that they name:
 --
---   Accepts, Run, Arc                 automata and their runs (000)        automaton/specs/Automaton
---   automatonIn f                     the automaton in a file's bytes      ruleformat/specs/Language
---   loadNumber, .. Conditions         the numbers of each call, in order   calls/specs/Calls
---   Reply, Call                       01's answers and calls               calls/specs/Replies, Calls
---   stepOf j c                        what a call comes to on any state    calls/specs/Steps
---   judgeAfter h, repliesTo h         what a list of calls comes to        histories/specs/Claims
---   standing, verdictIn, answerOf     what 01 says of a list alone         histories/specs/History
---   judgeLibrary, cLibrary            any result that contracts allow      histories/, demands/specs/Functions
---   Execution l h rs j                calls made through such functions    executions/specs/Executions
+--   1  stepOf j c                     what a call comes to on any state    calls/specs/Steps
+--      Reply, Call; loadNumber ..     01's answers, calls and numbers      calls/specs/Replies, Calls
+--      judgeLibrary, cLibrary         what contracts ask and allow         histories/, demands/specs/Functions
+--   2  Accepts, Run, Arc              automata and their runs (000)        automaton/specs/Automaton
+--      automatonIn f                  the automaton in a file's bytes      ruleformat/specs/Language
+--      Method, InOrder, TooMany       sets, table, delegates, M, order     histories/specs/Method
+--      Merged, Delegate, Alike        merged starts                        delegates/specs/Alike
+--   3  Execution l h rs j             calls made through functions         executions/specs/Executions
+--      judgeAfter h, repliesTo h      what a list of calls comes to        histories/specs/Claims
+--      standing, verdictIn, answerOf  what 01 says of a list alone         histories/specs/History
+--      Accepted-exactly, Refused-..   which calls, with which number       histories/specs/Conditions
+--      runSet, endSet, chunkCount     running a chunk                      chunks/specs/Chunks
+--      joinOf, yesOf                  joining                              joins/specs/Joining
+--      TableP                         the table's cases                    histories/specs/TableP
+--      streamOf, rightText            a text of calls                      stream/specs/Texts
+--      recordIn, replayOf             a recorded list                      replay/specs/Records
 --
--- A list of calls has the last call first. A proved function ends and stays within its bounds, and
--- none that a customer calls has a `requires`. Assumes nothing.
-use mathlib.Core.Path.{_≡_}
-use mathlib.Core.Logic.{_↔_}
+-- A list of calls has the last call first. A proved function ends and stays within its bounds.
+-- Assumes nothing.
+use mathlib.Core.Path.{_≡_, _∙_}
+use mathlib.Core.Logic.{_↔_, _⊎_, ⊎-elim}
 use mathlib.Core.Bool.{true, false}
 use mathlib.Core.List.{List, [], flatten}
 use mathlib.Core.Option.{none}
@@ -27,8 +34,6 @@ use Rattle.automaton.specs.Automaton.{Accepts}
 use Rattle.automaton.specs.Successor.{after}
 use Rattle.ruleformat.specs.Reader.{ruleOf}
 use Rattle.ruleformat.specs.Language.{automatonIn}
-use Rattle.subsets.specs.Claims.{Ordered, sets}
-use Rattle.subsets.proofs.Claims as subsets
 use Rattle.delegates.specs.Claims.{startsIn}
 use Rattle.build.specs.Building.{builtOf}
 use Rattle.board.specs.Boards.{held, isEmpty, summedCount}
@@ -36,16 +41,16 @@ use Rattle.calls.specs.declared.Judge.{Judge}
 use Rattle.calls.specs.Replies.{Reply, waiting, keeps, breaks, refused}
 use Rattle.calls.specs.Calls.{Call, loadNumber}
 use Rattle.calls.specs.Steps.{fresh, isYes, stepOf}
+use Rattle.calls.proofs.Conditions.{not-refused}
 use Rattle.calls.proofs.Refusing as refusing
 use Rattle.histories.specs.History.{isNone, fileOf, ruleIn, boardIn, standing, chunkOf, endAt, countAt, emptiesIn, summedIn, yesIn, textIn, verdictIn, answersTo}
 use Rattle.histories.specs.Method.{Method}
-use Rattle.histories.specs.Claims.{judgeMachine, judgeAfter, repliesTo, EveryList, automatonBy, Accepted-exactly}
+use Rattle.histories.specs.Conditions.{Accepted-exactly, Refused-exactly}
+use Rattle.histories.specs.Claims.{judgeMachine, judgeAfter, repliesTo, EveryList, automatonBy}
 use Rattle.histories.specs.Functions.{judgeLibrary}
 use Rattle.histories.specs.TableP.{TableP}
 use Rattle.histories.proofs.Every.{every-list}
-use Rattle.histories.proofs.Listed.{accepted-rule}
 use Rattle.histories.proofs.Method as histories-method
-use Rattle.histories.proofs.Taken as histories-taken
 use Rattle.histories.proofs.Allowed.{judge-meets}
 use Rattle.histories.proofs.TableP as histories-table
 use Rattle.lines.specs.Splitting.{linesOf}
@@ -64,32 +69,32 @@ use Rattle.demands.proofs.Functions.{c-meets, replay-fixed}
 -- ---- 1. ANY INPUT
 -- Any bytes, any place number, any state: the call ends with the result that document 01 gives.
 -- (What it gives after a list of calls is demand 3; what the code does on any other state stands
--- in stepOf.) Of the judge's functions, and of those that C links:
+-- in stepOf.) It asks nothing, and allows that and nothing else. Of the judge's functions, and of
+-- those that C links:
+pub asks-nothing : (j : Judge) (c : Call) → judgeLibrary .Asks j c × cLibrary .Asks j c
+asks-nothing j c = (judge-meets .asks-nothing j c, c-meets .asks-nothing j c)
+
 pub any-call : (j : Judge) (c : Call) (a : Reply) (next : Judge) → judgeLibrary .May j c a next ↔ (a ≡ stepOf j c .says) × (next ≡ stepOf j c .leaves)
 any-call = judge-meets .steps
 
 pub any-call-from-C : (j : Judge) (c : Call) (a : Reply) (next : Judge) → cLibrary .May j c a next ↔ (a ≡ stepOf j c .says) × (next ≡ stepOf j c .leaves)
 any-call-from-C = c-meets .steps
 
--- A refusal carries its number and leaves the state unchanged. (Each lent buffer too: a file and a
--- chunk are lent as `&[u8]`, which no function can write.)
+-- A refusal leaves the state unchanged. (Its number is the first condition's that holds: demand 3.
+-- A file and a chunk are lent as `&[u8]`, which no function can write.)
 pub refusals : (j : Judge) (c : Call) (x : ℕ) → stepOf j c .says ≡ refused x → stepOf j c .leaves ≡ j
 refusals = refusing.unchanged
 
 -- ---- 2. THE METHOD
--- The sets, next-set table and merged starts are those of source document 004: of the automaton in
--- the bytes of each file that a load accepts (and nothing else would be, `one-list` of delegates).
+-- The sets, next-set table and merged starts are those of source document 004, numbered in document
+-- 01's order: of the automaton in the bytes of each file that a load accepts.
 pub method : (f : List ℕ) → loadNumber f ≡ none → Method f (builtOf (ruleOf f))
 method = histories-method.method
-
--- Sets are numbered in document 01's order: by their first states, and then by their first texts.
-pub order : (f : List ℕ) → loadNumber f ≡ none → Ordered (ruleOf f) (sets (ruleOf f))
-order f e = let a = accepted-rule f e in subsets.claims .ordered (ruleOf f) (a .0) (a .1)
 
 -- A text is accepted exactly when the automaton of source document 000 has an accepting run over it.
 pub acceptance : (f : List ℕ) → loadNumber f ≡ none → (w : List ℕ)
     → Accepts (automatonIn f) w ↔ (shares (after (ruleOf f .targets) (ruleOf f .initials) w) (ruleOf f .finals) ≡ true)
-acceptance = histories-method.acceptance
+acceptance f e = histories-method.acceptance f (not-refused f e .0)
 
 -- ---- 3. EVERY LIST OF CALLS
 -- For every list of calls from a fresh judge, refused ones included: what the functions' own
@@ -101,17 +106,21 @@ every-execution = execution-law judgeLibrary judgeMachine judge-meets
 pub every-execution-from-C : (h : List Call) (rs : List Reply) (j : Judge) → Execution cLibrary h rs j ↔ (rs ≡ repliesTo h) × (j ≡ judgeAfter h)
 every-execution-from-C = execution-law cLibrary judgeMachine c-meets
 
--- One claim over the whole list; its parts follow, each with its sentence.
-pub one-claim : (h : List Call) → EveryList h
-one-claim = every-list
+-- One claim over the whole list: each reply, the verdict's among them, is document 01's after the
+-- calls before it, and all that `EveryList` says holds; the sentences below are its parts.
+pub one-claim : (h : List Call) (rs : List Reply) (j : Judge) → Execution judgeLibrary h rs j ⊎ Execution cLibrary h rs j
+    → (rs ≡ answersTo h) × (j ≡ judgeAfter h) × EveryList h
+one-claim h rs j e =
+    let is = ⊎-elim (every-execution h rs j .0) (every-execution-from-C h rs j .0) e in
+    (is .0 ∙ every-list h .all-right, is .1, every-list h)
 
--- Each reply, the verdict's among them, is document 01's after the calls before it, ..
-pub replies : (h : List Call) → repliesTo h ≡ answersTo h
-replies h = every-list h .all-right
-
--- .. and a call is accepted exactly when none of its conditions holds.
+-- A call is accepted exactly when none of its conditions holds, and refused with a number exactly
+-- when that one is the first that holds.
 pub accepted-exactly : (h : List Call) → Accepted-exactly h
-accepted-exactly = histories-taken.accepted-exactly
+accepted-exactly h = every-list h .accepted-exactly
+
+pub refused-exactly : (h : List Call) → Refused-exactly h
+refused-exactly h = every-list h .refused-exactly
 
 -- The verdict: refused with 21 unless the last accepted load or opening is an opening;
 pub refused-21 : (h : List Call) → (verdictIn h ≡ refused 21) ↔ (boardIn h ≡ false)
@@ -160,7 +169,8 @@ pub table-P : TableP
 table-P = histories-table.table-P
 
 -- ---- CALLS AS TEXT
--- The answers to a text of calls are right line by line, however it is cut into blocks.
+-- The answers to a text of calls are right line by line, however it is cut into blocks. (streamOf is
+-- what `feed` and `finish` of crates/stream promise, one part after the other.)
 pub texts : (blocks : List (List ℕ)) (line out : List ℕ) → 131104 ≤ length line
     → streamOf (stateOf fresh lineBegin line out) blocks .text ≡ rightText [] (linesOf (flatten blocks))
 texts = stream.claims .answered

@@ -16,7 +16,8 @@ use Rattle.replay.specs.Records.{recordIn, replayOf}
 use Rattle.capi.specs.declared.ReplayResult.{ReplayResult}
 use Rattle.capi.specs.Numbers.{replayShown, loadShown, openShown, deliverShown, withdrawShown, verdictShown, loadTold, openTold, deliverTold, withdrawTold, verdictTold}
 use Rattle.capi.proofs.ReadBack as capi
-use Rattle.demands.specs.Functions.{MayStep, MayReplay, cLibrary}
+use Rattle.capi.proofs.Asks.{new-asks-nothing, load-asks-nothing, open-asks-nothing, deliver-asks-nothing, withdraw-asks-nothing, verdict-asks-nothing}
+use Rattle.demands.specs.Functions.{AsksStep, MayStep, MayReplay, cLibrary}
 
 step-to : (j : Judge) (c : Call) (a : Reply) (next : Judge) → MayStep j c a next → (a ≡ stepOf j c .says) × (next ≡ stepOf j c .leaves)
 step-to j (loads f) a next m =
@@ -41,8 +42,17 @@ step-back j (withdraws p) a next e =
     (withdrawShown (withdrawOf j p), ((j, (p, tt)), refl), whole a next (withdrawOf j p) e ∙ sym (capi.claims .withdraw-told j p))
 step-back j asks a next e = (verdictShown (verdictOf j), ((j, tt), refl), e .0 ∙ sym (capi.claims .verdict-told j), e .1)
 
+asks-nothing : (j : Judge) (c : Call) → AsksStep j c
+asks-nothing j (loads f) = λ κs c e. load-asks-nothing κs j c
+asks-nothing j (opens n) = open-asks-nothing j n
+asks-nothing j (delivers p w) = λ κs c e. deliver-asks-nothing κs j p c
+asks-nothing j (withdraws p) = withdraw-asks-nothing j p
+asks-nothing j asks = verdict-asks-nothing j
+
 pub c-meets : Meets cLibrary judgeMachine
 c-meets = record {
+  new-asks-nothing = new-asks-nothing;
+  asks-nothing = asks-nothing;
   begins = λ j. ((λ m. m .1), λ e. (tt, e));
   steps = λ j c a next. (step-to j c a next, step-back j c a next);
 }

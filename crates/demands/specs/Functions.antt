@@ -2,6 +2,7 @@
 -- does not rule out. `cLibrary` is what a program in C gets that calls them; crates/histories has the same for the judge's own functions.
 --
 --   MayBegin .. MayJudge   what `bellbadger_new`, `_load`, `_open`, `_deliver`, `_withdraw` and `_verdict` may return for their arguments
+--   AsksStep j c           what the function of the call c asks before it is called on the judge j
 --   MayStep j c a next     on the judge j the call c may return numbers that say the reply a, and leave the judge next
 --   MayReplay text r       what `bellbadger_replay` may return for the text
 use mathlib.Core.Path.{_≡_}
@@ -64,6 +65,14 @@ abbrev pub MayReplay : List ℕ → ReplayResult → Type 0
 MayReplay text r =
     (κs : Lfts 1) × (c : RefT (List ℕ)) × (s : AtExit (endedOf 1 replay-kinds.ps replay-kinds.r) κs) × (now c ≡ text) × replay-reads.Learnt κs (c, tt) r s
 
+-- what each asks before it is called
+abbrev pub AsksStep : Judge → Call → Type 0
+AsksStep j (loads f) = (κs : Lfts 1) (c : RefT (List ℕ)) → now c ≡ f → load-reads.Asked κs (j, (c, tt))
+AsksStep j (opens n) = open-reads.Asked tt (j, (n, tt))
+AsksStep j (delivers p w) = (κs : Lfts 1) (c : RefT (List ℕ)) → now c ≡ w → deliver-reads.Asked κs (j, (p, (c, tt)))
+AsksStep j (withdraws p) = withdraw-reads.Asked tt (j, (p, tt))
+AsksStep j asks = verdict-reads.Asked tt (j, tt)
+
 abbrev pub MayStep : Judge → Call → Reply → Judge → Type 0
 MayStep j (loads f) a next = (r : LoadResult) × MayLoad j f r × (record { says = a; leaves = next } ≡ loadTold r)
 MayStep j (opens n) a next = (r : OpenResult) × MayOpen j n r × (record { says = a; leaves = next } ≡ openTold r)
@@ -72,4 +81,4 @@ MayStep j (withdraws p) a next = (r : WithdrawResult) × MayWithdraw j p r × (r
 MayStep j asks a next = (v : VerdictResult) × MayJudge j v × (a ≡ verdictTold v) × (next ≡ j)
 
 abbrev pub cLibrary : Library Judge Call Reply
-cLibrary = record { Begins = MayBegin; May = MayStep }
+cLibrary = record { NewAsks = new-reads.Asked tt tt; Begins = MayBegin; Asks = AsksStep; May = MayStep }

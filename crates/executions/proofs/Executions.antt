@@ -8,8 +8,8 @@ module _ {S C R : Type 0} (l : Library S C R) (m : Machine S C R) (meets : Meets
   -- whatever the library allows is what the machine does
   to : {h : List C} {rs : List R} {s : S} → Execution l h rs s → (rs ≡ repliesTo m h) × (s ≡ stateAfter m h)
   unfolding repliesTo stateAfter
-  to (begin b) = (refl, meets .begins _ .0 b)
-  to (call {h} {rs} {s} {c} {r} {t} before may) =
+  to (begin a b) = (refl, meets .begins _ .0 b)
+  to (call {h} {rs} {s} {c} {r} {t} before asked may) =
       let e = to before in
       let step = meets .steps s c r t .0 may in (
         ap₂ _∷_ (step .0 ∙ ap (λ (x : S). m .reply x c) (e .1)) (e .0),
@@ -19,9 +19,9 @@ module _ {S C R : Type 0} (l : Library S C R) (m : Machine S C R) (meets : Meets
   -- and the library allows that, after every list
   runs : (h : List C) → Execution l h (repliesTo m h) (stateAfter m h)
   unfolding repliesTo stateAfter
-  runs [] = begin (meets .begins (m .fresh) .1 refl)
+  runs [] = begin (meets .new-asks-nothing) (meets .begins (m .fresh) .1 refl)
   runs (c ∷ h) =
-      call (runs h) (meets .steps (stateAfter m h) c (m .reply (stateAfter m h) c) (m .next (stateAfter m h) c) .1 (refl, refl))
+      call (runs h) (meets .asks-nothing (stateAfter m h) c) (meets .steps (stateAfter m h) c (m .reply (stateAfter m h) c) (m .next (stateAfter m h) c) .1 (refl, refl))
 
   -- THE LAW
   pub execution-law : (h : List C) (rs : List R) (s : S) → Execution l h rs s ↔ (rs ≡ repliesTo m h) × (s ≡ stateAfter m h)

@@ -31,8 +31,9 @@ use Rattle.calls.specs.declared.Verdict.the-variants as verdict
 use Rattle.calls.specs.Replies.{Reply, accepted, loaded, verdictSays}
 use Rattle.calls.specs.Calls.{Call, loads, opens, delivers, withdraws, asks, loadNumber, openConditions, deliverConditions, withdrawConditions, verdictBy}
 use Rattle.calls.specs.Steps.{Outcome, lacksRule, lacksBoard, withBoard, loadCame, openCame, deliverCame, withdrawCame, outcomeBy, runsAt, loadOf, openOf, deliverOf, withdrawOf, isYes, verdictOf, stepOf}
+use Rattle.judge.proofs.Asks.{new-judge-asks-nothing, load-asks-nothing, open-asks-nothing, deliver-asks-nothing, withdraw-asks-nothing, judged-asks-nothing}
 use Rattle.histories.specs.Claims.{judgeMachine, judgeAfter, repliesTo}
-use Rattle.histories.specs.Functions.{MayStep, judgeLibrary}
+use Rattle.histories.specs.Functions.{AsksStep, MayStep, judgeLibrary}
 
 -- ---- what a call comes to, said by a value of its answer type
 module _ (j next : Judge) where
@@ -121,8 +122,17 @@ step-back j (withdraws p) a next e =
     (r .0, ((j, (p, tt)), r .1), whole a next (withdrawOf j p) e ∙ sym (r .1))
 step-back j asks a next e = let v = verdict-of j in (v .0, ((j, tt), v .1), e .0 ∙ sym (v .1), e .1)
 
+asks-nothing : (j : Judge) (c : Call) → AsksStep j c
+asks-nothing j (loads f) = λ κs c e. load-asks-nothing κs j c
+asks-nothing j (opens n) = open-asks-nothing j n
+asks-nothing j (delivers p w) = λ κs c e. deliver-asks-nothing κs j p c
+asks-nothing j (withdraws p) = withdraw-asks-nothing j p
+asks-nothing j asks = judged-asks-nothing j
+
 pub judge-meets : Meets judgeLibrary judgeMachine
 judge-meets = record {
+  new-asks-nothing = new-judge-asks-nothing;
+  asks-nothing = asks-nothing;
   begins = λ j. ((λ m. m .1), λ e. (tt, e));
   steps = λ j c a next. (step-to j c a next, step-back j c a next);
 }

@@ -2,6 +2,7 @@
 -- contract does not rule out. `judgeLibrary` is what a customer's program gets that calls these functions.
 --
 --   MayBegin .. MayJudge   what `new_judge`, `load`, `open`, `deliver`, `withdraw` and `judged` may return for their arguments
+--   AsksStep j c           what the function of the call c asks before it is called on the judge j
 --   MayStep j c a next     on the judge j the call c may be answered with a, in document 01's numbers and values, and leave the judge next
 use mathlib.Core.Path.{_≡_}
 use mathlib.Core.List.{List}
@@ -55,6 +56,14 @@ MayWithdraw j p r = (s : AtExit (endedOf 0 withdraw-kinds.ps withdraw-kinds.r) t
 abbrev pub MayJudge : Judge → Verdict → Type 0
 MayJudge j v = (s : AtExit (endedOf 0 judged-kinds.ps judged-kinds.r) tt) × judged-reads.Learnt tt (j, tt) v s
 
+-- what each asks before it is called
+abbrev pub AsksStep : Judge → Call → Type 0
+AsksStep j (loads f) = (κs : Lfts 1) (c : RefT (List ℕ)) → now c ≡ f → load-reads.Asked κs (j, (c, tt))
+AsksStep j (opens n) = open-reads.Asked tt (j, (n, tt))
+AsksStep j (delivers p w) = (κs : Lfts 1) (c : RefT (List ℕ)) → now c ≡ w → deliver-reads.Asked κs (j, (p, (c, tt)))
+AsksStep j (withdraws p) = withdraw-reads.Asked tt (j, (p, tt))
+AsksStep j asks = judged-reads.Asked tt (j, tt)
+
 abbrev pub MayStep : Judge → Call → Reply → Judge → Type 0
 MayStep j (loads f) a next = (r : Loading) × MayLoad j f r × (record { says = a; leaves = next } ≡ loadCame r)
 MayStep j (opens n) a next = (r : Opening) × MayOpen j n r × (record { says = a; leaves = next } ≡ openCame r)
@@ -63,4 +72,4 @@ MayStep j (withdraws p) a next = (r : Withdrawal) × MayWithdraw j p r × (recor
 MayStep j asks a next = (v : Verdict) × MayJudge j v × (a ≡ verdictSays v) × (next ≡ j)
 
 abbrev pub judgeLibrary : Library Judge Call Reply
-judgeLibrary = record { Begins = MayBegin; May = MayStep }
+judgeLibrary = record { NewAsks = new-reads.Asked tt tt; Begins = MayBegin; Asks = AsksStep; May = MayStep }
