@@ -24,7 +24,7 @@ use Rattle.chunks.specs.Chunks.{foreign, counted, startSet, runSet, endSet, tot
 use Rattle.joins.specs.Joining.{joinOf, yesOf}
 use Rattle.joins.specs.Claims.{delegateIn}
 use Rattle.histories.specs.History.{isNone, isSome, fileOf, ruleFrom, openNumber, placesIn, standingCount, standingEnd, deliverCheck, standing, deliverNumber, verdictIn, answersTo}
-use Rattle.calls.specs.Replies.{Judgement, waiting, keeps, breaks, Reply, accepted, loaded, judged, refused}
+use Rattle.calls.specs.Replies.{Judgement, Reply, accepted, loaded, judged}
 use Rattle.calls.specs.Calls.{Call, loads, opens, delivers, loadNumber, deliverConditions, verdictBy}
 use Rattle.histories.specs.Claims.{judgeAfter, BuiltBy}
 use Rattle.histories.specs.TableP.{Result, sets, delegates, verdict, turned-down, Case, case, delivering, callsFor, callsOf, repliesOf, rowsFrom, Shows, Each, Case-holds, table, TableP}
