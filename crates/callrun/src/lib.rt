@@ -4,17 +4,10 @@ ghost use mathlib.Core.Option.{some};
 ghost use Prim.Native.Nat.{_≤_};
 ghost use lib.ListN.{length};
 ghost use Rattle.fields.specs.Bytes.{bytesIn};
-ghost use Rattle.calls.specs.Replies.{loadSays, openSays, deliverSays, withdrawSays, verdictSays};
 ghost use Rattle.calls.specs.Calls.{opens, withdraws, asks};
 ghost use Rattle.calltext.specs.Meaning.{again, call, malformed, loadBy, deliverBy, lineIn};
-ghost use Rattle.calltext.specs.Answers.{replied, responseOf};
 ghost use Rattle.callrun.specs.Running.{lineStep, outcomeOf, Scratch};
-use calls::DeliverAnswer;
 use calls::Judge;
-use calls::LoadAnswer;
-use calls::OpenAnswer;
-use calls::Verdict;
-use calls::WithdrawAnswer;
 use calltext::Line;
 use calltext::LineAnswer;
 use fields::Bytes;
@@ -23,53 +16,6 @@ use fields::Bytes;
 pub struct LineRun {
     pub answer: LineAnswer,
     pub judge: Judge,
-}
-
-fn load_answer(answer: LoadAnswer) -> LineAnswer
-    ensures { λ r. ⌜ responseOf r ≡ replied (loadSays answer) ⌝ }
-{
-    match answer {
-        LoadAnswer::Accepted(sets, starts) => LineAnswer::Loaded(sets, starts),
-        LoadAnswer::Refused(number) => LineAnswer::Refused(number),
-    }
-}
-
-fn open_answer(answer: OpenAnswer) -> LineAnswer
-    ensures { λ r. ⌜ responseOf r ≡ replied (openSays answer) ⌝ }
-{
-    match answer {
-        OpenAnswer::Accepted => LineAnswer::Accepted,
-        OpenAnswer::Refused(number) => LineAnswer::Refused(number),
-    }
-}
-
-fn deliver_answer(answer: DeliverAnswer) -> LineAnswer
-    ensures { λ r. ⌜ responseOf r ≡ replied (deliverSays answer) ⌝ }
-{
-    match answer {
-        DeliverAnswer::Accepted => LineAnswer::Accepted,
-        DeliverAnswer::Refused(number) => LineAnswer::Refused(number),
-    }
-}
-
-fn withdraw_answer(answer: WithdrawAnswer) -> LineAnswer
-    ensures { λ r. ⌜ responseOf r ≡ replied (withdrawSays answer) ⌝ }
-{
-    match answer {
-        WithdrawAnswer::Accepted => LineAnswer::Accepted,
-        WithdrawAnswer::Refused(number) => LineAnswer::Refused(number),
-    }
-}
-
-fn verdict_answer(verdict: Verdict) -> LineAnswer
-    ensures { λ r. ⌜ responseOf r ≡ replied (verdictSays verdict) ⌝ }
-{
-    match verdict {
-        Verdict::Waiting(empty) => LineAnswer::Waiting(empty),
-        Verdict::Yes(count) => LineAnswer::Yes(count),
-        Verdict::No(count) => LineAnswer::No(count),
-        Verdict::Refused(number) => LineAnswer::Refused(number),
-    }
 }
 
 // A malformed line changes nothing.
@@ -101,7 +47,7 @@ fn run_load(judge: Judge, field: &[u8], buffer: &mut [u8]) -> LineRun
         Bytes::Put(n) => {
             let loading = judge::load(judge, &buffer[..n]);
             let said = loading.answer;
-            let answer = load_answer(said);
+            let answer = LineAnswer::Load(said);
             let judge = loading.judge;
             LineRun { answer, judge }
         }
@@ -113,7 +59,7 @@ fn run_open(judge: Judge, places: u64) -> LineRun
 {
     let opening = judge::open(judge, places as usize);
     let said = opening.answer;
-    let answer = open_answer(said);
+    let answer = LineAnswer::Open(said);
     let judge = opening.judge;
     LineRun { answer, judge }
 }
@@ -129,7 +75,7 @@ fn run_deliver(judge: Judge, place: u64, field: &[u8], buffer: &mut [u8]) -> Lin
         Bytes::Put(n) => {
             let delivery = judge::deliver(judge, place as usize, &buffer[..n]);
             let said = delivery.answer;
-            let answer = deliver_answer(said);
+            let answer = LineAnswer::Deliver(said);
             let judge = delivery.judge;
             LineRun { answer, judge }
         }
@@ -141,7 +87,7 @@ fn run_withdraw(judge: Judge, place: u64) -> LineRun
 {
     let withdrawal = judge::withdraw(judge, place as usize);
     let said = withdrawal.answer;
-    let answer = withdraw_answer(said);
+    let answer = LineAnswer::Withdraw(said);
     let judge = withdrawal.judge;
     LineRun { answer, judge }
 }
@@ -149,7 +95,8 @@ fn run_withdraw(judge: Judge, place: u64) -> LineRun
 fn run_verdict(judge: Judge) -> LineRun
     ensures { λ r. ⌜ outcomeOf r ≡ lineStep judge (call asks) ⌝ }
 {
-    let answer = verdict_answer(judge::judged(judge));
+    let said = judge::judged(judge);
+    let answer = LineAnswer::Verdict(said);
     LineRun { answer, judge }
 }
 

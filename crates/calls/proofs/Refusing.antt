@@ -1,34 +1,46 @@
 -- A refusal leaves the state as it was, on any state whatever (demand 1). Assumes nothing.
-use mathlib.Core.Path.{_≡_, refl}
+--
+--   refusal-law   a reply has the number of a refusal exactly where it is that refusal
+--   unchanged     the claim
+use mathlib.Core.Path.{_≡_, refl, ap}
+use mathlib.Core.Logic.{_↔_}
 use mathlib.Core.Bool.{not}
 use mathlib.Core.Option.{Option, none, some}
 use Prim.Native.Nat.{ℕ, _+_}
-use native.Mathlib.Omega.{arith}
 use Rattle.ruleformat.specs.Conditions.{firstOf}
 use Rattle.ruleformat.specs.Reader.{ruleOf}
 use Rattle.build.specs.Building.{builtOf}
 use Rattle.board.specs.Boards.{placesOf, isEmpty, emptyBoard, filledAt, clearedAt, summedCount}
 use Rattle.calls.specs.declared.Judge.{Judge}
-use Rattle.calls.specs.Replies.{Reply, accepted, loaded, refused}
+use Rattle.calls.specs.Replies.{Reply, accepted, loaded, judged, refused, refusalOf}
 use Rattle.calls.specs.Calls.{loads, opens, delivers, withdraws, asks, loadNumber, openConditions, deliverConditions, withdrawConditions}
 use Rattle.calls.specs.Steps.{lacksRule, lacksBoard, withBoard, runsAt, outcomeBy, loadOf, openOf, deliverOf, withdrawOf}
 use Rattle.calls.specs.Claims.{Unchanged}
+use Rattle.calls.proofs.Conditions.{none-some}
 
-by-number : (number : Option ℕ) (a : Reply) (j next : Judge) → ((x : ℕ) → a ≡ refused x → ⊥)
+pub refusal-law : (a : Reply) (x : ℕ) → (refusalOf a ≡ some x) ↔ (a ≡ refused x)
+refusal-law a x = (to a, λ e. ap refusalOf e)
+  where
+    to : (b : Reply) → refusalOf b ≡ some x → b ≡ refused x
+    to accepted e = none-some none refl e
+    to (loaded sets m) e = none-some none refl e
+    to (judged v) e = none-some none refl e
+    to (refused number) e = cc
+
+pub not-refusal : (a : Reply) → refusalOf a ≡ none → (x : ℕ) → a ≡ refused x → ⊥
+not-refusal a taken x e = none-some (refusalOf a) taken (refusal-law a x .1 e)
+
+by-number : (number : Option ℕ) (a : Reply) (j next : Judge) → refusalOf a ≡ none
     → (x : ℕ) → outcomeBy number a j next .says ≡ refused x → outcomeBy number a j next .leaves ≡ j
-by-number none a j next taken x e = absurd (taken x e)
+by-number none a j next taken x e = absurd (not-refusal a taken x e)
 by-number (some m) a j next taken x e = refl
-
-accepts : (x : ℕ) → accepted ≡ refused x → ⊥
-accepts x e = let y : _≡_ {A = ℕ} 0 1 = cc in omega arith
 
 pub unchanged : Unchanged
 unfolding loadOf openOf deliverOf withdrawOf
 unchanged j (loads f) =
     let b = builtOf (ruleOf f) in
-    by-number (loadNumber f) (loaded (b .count) (b .starts)) j (record { built = b; board = emptyBoard 0 })
-    (λ x e. let y : _≡_ {A = ℕ} 0 1 = cc in omega arith)
-unchanged j (opens n) = by-number (firstOf (openConditions (lacksRule j) n)) accepted j (withBoard j (emptyBoard n)) accepts
+    by-number (loadNumber f) (loaded (b .count) (b .starts)) j (record { built = b; board = emptyBoard 0 }) refl
+unchanged j (opens n) = by-number (firstOf (openConditions (lacksRule j) n)) accepted j (withBoard j (emptyBoard n)) refl
 unchanged j (delivers p w) =
     by-number
     (firstOf
@@ -37,9 +49,9 @@ unchanged j (delivers p w) =
     accepted
     j
     (withBoard j (filledAt (j .board) p (runsAt j p w)))
-    accepts
+    refl
 unchanged j (withdraws p) =
     by-number (firstOf (withdrawConditions (lacksBoard j) (placesOf (j .board)) p (isEmpty (j .board) p))) accepted j
     (withBoard j (clearedAt (j .board) p))
-    accepts
+    refl
 unchanged j asks = λ x e. refl

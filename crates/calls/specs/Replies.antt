@@ -1,10 +1,16 @@
 -- What document 01 answers to a call, and what each case of the code's answers says.
 --
---   accepted           of opening, delivering and withdrawing
---   loaded sets m      a load was accepted: the number of sets and M
---   waiting e          e places are empty
---   keeps c, breaks c  yes, no, with the count
---   refused x          the call was refused with the number x
+--   Judgement            what a verdict says of the standing chunks
+--     waiting e          e places are empty
+--     keeps c, breaks c  yes, no, with the count
+--   Reply                what is answered to a call
+--     accepted           of opening, delivering and withdrawing
+--     loaded sets m      a load was accepted: the number of sets and M
+--     judged v           a verdict was asked for: it is v
+--     refused x          the call was refused with the number x
+--   refusalOf a          the number of the refusal, or none where a is no refusal
+--   loadSays .. verdictSays   what each case of the code's answers says
+use mathlib.Core.Option.{Option, none, some}
 use Prim.Native.Nat.{ℕ}
 use Rattle.calls.specs.declared.LoadAnswer.{LoadAnswer}
 use Rattle.calls.specs.declared.LoadAnswer.the-variants as load
@@ -17,13 +23,22 @@ use Rattle.calls.specs.declared.WithdrawAnswer.the-variants as withdrawa
 use Rattle.calls.specs.declared.Verdict.{Verdict}
 use Rattle.calls.specs.declared.Verdict.the-variants.{Waiting, Yes, No, Refused}
 
+pub data Judgement : Type 0 where
+  waiting : ℕ → Judgement
+  keeps : ℕ → Judgement
+  breaks : ℕ → Judgement
+
 pub data Reply : Type 0 where
   accepted : Reply
   loaded : ℕ → ℕ → Reply
-  waiting : ℕ → Reply
-  keeps : ℕ → Reply
-  breaks : ℕ → Reply
+  judged : Judgement → Reply
   refused : ℕ → Reply
+
+abbrev pub refusalOf : Reply → Option ℕ
+refusalOf accepted = none
+refusalOf (loaded sets starts) = none
+refusalOf (judged v) = none
+refusalOf (refused number) = some number
 
 abbrev pub loadSays : LoadAnswer → Reply
 loadSays (load.Accepted sets starts) = loaded sets starts
@@ -42,7 +57,7 @@ withdrawSays withdrawal.Accepted = accepted
 withdrawSays (withdrawal.Refused number) = refused number
 
 abbrev pub verdictSays : Verdict → Reply
-verdictSays (Waiting empty) = waiting empty
-verdictSays (Yes count) = keeps count
-verdictSays (No count) = breaks count
+verdictSays (Waiting empty) = judged (waiting empty)
+verdictSays (Yes count) = judged (keeps count)
+verdictSays (No count) = judged (breaks count)
 verdictSays (Refused number) = refused number

@@ -1,6 +1,7 @@
 -- How an answer is written, a line each.
 --
 --   Response          what a line is answered: a fresh judge began, a call was replied to, or the line is malformed
+--   judgementText v   what a verdict says, as text
 --   replyText a       a reply as text, without its line feed
 --   responseText s    the whole line
 --   isUnread s        the line is malformed
@@ -9,9 +10,9 @@ use mathlib.Core.Bool.{Bool, true, false}
 use mathlib.Core.List.{List, [], _∷_, _++_}
 use Prim.Native.Nat.{ℕ}
 use Rattle.text.specs.Numerals.{decimal}
-use Rattle.calls.specs.Replies.{Reply, accepted, loaded, waiting, keeps, breaks, refused}
+use Rattle.calls.specs.Replies.{Judgement, waiting, keeps, breaks, Reply, accepted, loaded, judged, refused, loadSays, openSays, deliverSays, withdrawSays, verdictSays}
 use Rattle.calltext.specs.declared.LineAnswer.{LineAnswer}
-use Rattle.calltext.specs.declared.LineAnswer.the-variants.{Began, Loaded, Accepted, Waiting, Yes, No, Refused, Malformed}
+use Rattle.calltext.specs.declared.LineAnswer.the-variants.{Began, Load, Open, Deliver, Withdraw, Verdict, Malformed}
 
 pub data Response : Type 0 where
   began : Response
@@ -45,12 +46,15 @@ malformed-word = 109 ∷ 97 ∷ 108 ∷ 102 ∷ 111 ∷ 114 ∷ 109 ∷ 101 ∷ 
 abbrev pub behind : ℕ → List ℕ
 behind n = 32 ∷ decimal n
 
+abbrev pub judgementText : Judgement → List ℕ
+judgementText (waiting empty) = waiting-word ++ behind empty
+judgementText (keeps count) = yes-word ++ behind count
+judgementText (breaks count) = no-word ++ behind count
+
 abbrev pub replyText : Reply → List ℕ
 replyText accepted = accepted-word
 replyText (loaded sets starts) = accepted-word ++ (behind sets ++ behind starts)
-replyText (waiting empty) = waiting-word ++ behind empty
-replyText (keeps count) = yes-word ++ behind count
-replyText (breaks count) = no-word ++ behind count
+replyText (judged v) = judgementText v
 replyText (refused number) = refused-word ++ behind number
 
 abbrev pub responseText : Response → List ℕ
@@ -60,10 +64,9 @@ responseText unread = malformed-word ++ (10 ∷ [])
 
 abbrev pub responseOf : LineAnswer → Response
 responseOf Began = began
-responseOf (Loaded sets starts) = replied (loaded sets starts)
-responseOf Accepted = replied accepted
-responseOf (Waiting empty) = replied (waiting empty)
-responseOf (Yes count) = replied (keeps count)
-responseOf (No count) = replied (breaks count)
-responseOf (Refused number) = replied (refused number)
+responseOf (Load a) = replied (loadSays a)
+responseOf (Open a) = replied (openSays a)
+responseOf (Deliver a) = replied (deliverSays a)
+responseOf (Withdraw a) = replied (withdrawSays a)
+responseOf (Verdict v) = replied (verdictSays v)
 responseOf Malformed = unread

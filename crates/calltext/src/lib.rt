@@ -8,7 +8,12 @@ ghost use Rattle.fields.specs.Numbers.{numberIn};
 ghost use Rattle.lines.specs.Splitting.{upTo, past};
 ghost use Rattle.calltext.specs.Meaning.{openBy, withdrawBy, deliverFields, meant, bytesFrom, Parsed};
 ghost use Rattle.calltext.specs.Answers.{behind, replied, responseText, responseOf};
-ghost use Rattle.calls.specs.Replies.{loaded};
+ghost use Rattle.calls.specs.Replies.{accepted, loaded, refused, loadSays, openSays, deliverSays, withdrawSays, verdictSays};
+use calls::DeliverAnswer;
+use calls::LoadAnswer;
+use calls::OpenAnswer;
+use calls::Verdict;
+use calls::WithdrawAnswer;
 use fields::Number;
 
 // A line. The bytes of a load begin at index 5, those of a delivery at the index beside its place.
@@ -86,15 +91,14 @@ pub fn parse(line: &[u8]) -> Line
     Line::Malformed
 }
 
-// What a line is answered.
+// What a line is answered: where it records a call, what the call is answered.
 pub enum LineAnswer {
     Began,
-    Loaded(u16, u8),
-    Accepted,
-    Waiting(u8),
-    Yes(u64),
-    No(u64),
-    Refused(u8),
+    Load(LoadAnswer),
+    Open(OpenAnswer),
+    Deliver(DeliverAnswer),
+    Withdraw(WithdrawAnswer),
+    Verdict(Verdict),
     Malformed,
 }
 
@@ -126,6 +130,20 @@ fn put_numbered(out: &mut [u8], word: &[u8], n: u64) -> usize
     text::put_byte(out, end, b'\n')
 }
 
+fn put_accepted(out: &mut [u8]) -> usize
+    requires { ⌜ 64 ≤ length (now out) ⌝ }
+    ensures { λ r. ⌜ Wrote (now (out .entry)) 0 (responseText (replied accepted)) (now (out .exit)) r ⌝ }
+{
+    put_word(out, b"accepted")
+}
+
+fn put_refused(out: &mut [u8], number: u8) -> usize
+    requires { ⌜ 64 ≤ length (now out) ⌝ }
+    ensures { λ r. ⌜ Wrote (now (out .entry)) 0 (responseText (replied (refused number))) (now (out .exit)) r ⌝ }
+{
+    put_numbered(out, b"refused", number as u64)
+}
+
 // The answer to a load that was accepted.
 fn put_loaded(out: &mut [u8], sets: u64, starts: u64) -> usize
     requires { ⌜ 51 ≤ length (now out) ⌝ }
@@ -137,6 +155,59 @@ fn put_loaded(out: &mut [u8], sets: u64, starts: u64) -> usize
     text::put_byte(out, end, b'\n')
 }
 
+// What a call is answered, a function for each type of answer.
+fn put_load(out: &mut [u8], answer: LoadAnswer) -> usize
+    requires { ⌜ 64 ≤ length (now out) ⌝ }
+    ensures { λ r. ⌜ Wrote (now (out .entry)) 0 (responseText (replied (loadSays answer))) (now (out .exit)) r ⌝ }
+{
+    match answer {
+        LoadAnswer::Accepted(sets, starts) => put_loaded(out, sets as u64, starts as u64),
+        LoadAnswer::Refused(number) => put_refused(out, number),
+    }
+}
+
+fn put_open(out: &mut [u8], answer: OpenAnswer) -> usize
+    requires { ⌜ 64 ≤ length (now out) ⌝ }
+    ensures { λ r. ⌜ Wrote (now (out .entry)) 0 (responseText (replied (openSays answer))) (now (out .exit)) r ⌝ }
+{
+    match answer {
+        OpenAnswer::Accepted => put_accepted(out),
+        OpenAnswer::Refused(number) => put_refused(out, number),
+    }
+}
+
+fn put_deliver(out: &mut [u8], answer: DeliverAnswer) -> usize
+    requires { ⌜ 64 ≤ length (now out) ⌝ }
+    ensures { λ r. ⌜ Wrote (now (out .entry)) 0 (responseText (replied (deliverSays answer))) (now (out .exit)) r ⌝ }
+{
+    match answer {
+        DeliverAnswer::Accepted => put_accepted(out),
+        DeliverAnswer::Refused(number) => put_refused(out, number),
+    }
+}
+
+fn put_withdraw(out: &mut [u8], answer: WithdrawAnswer) -> usize
+    requires { ⌜ 64 ≤ length (now out) ⌝ }
+    ensures { λ r. ⌜ Wrote (now (out .entry)) 0 (responseText (replied (withdrawSays answer))) (now (out .exit)) r ⌝ }
+{
+    match answer {
+        WithdrawAnswer::Accepted => put_accepted(out),
+        WithdrawAnswer::Refused(number) => put_refused(out, number),
+    }
+}
+
+fn put_verdict(out: &mut [u8], verdict: Verdict) -> usize
+    requires { ⌜ 64 ≤ length (now out) ⌝ }
+    ensures { λ r. ⌜ Wrote (now (out .entry)) 0 (responseText (replied (verdictSays verdict))) (now (out .exit)) r ⌝ }
+{
+    match verdict {
+        Verdict::Waiting(empty) => put_numbered(out, b"waiting", empty as u64),
+        Verdict::Yes(count) => put_numbered(out, b"yes", count),
+        Verdict::No(count) => put_numbered(out, b"no", count),
+        Verdict::Refused(number) => put_refused(out, number),
+    }
+}
+
 // Writes an answer at the buffer's start and tells its length; 64 bytes are enough.
 pub fn put_answer(out: &mut [u8], answer: LineAnswer) -> usize
     requires { ⌜ 64 ≤ length (now out) ⌝ }
@@ -144,12 +215,11 @@ pub fn put_answer(out: &mut [u8], answer: LineAnswer) -> usize
 {
     match answer {
         LineAnswer::Began => text::put_byte(out, 0, b'\n'),
-        LineAnswer::Loaded(sets, starts) => put_loaded(out, sets as u64, starts as u64),
-        LineAnswer::Accepted => put_word(out, b"accepted"),
-        LineAnswer::Waiting(empty) => put_numbered(out, b"waiting", empty as u64),
-        LineAnswer::Yes(count) => put_numbered(out, b"yes", count),
-        LineAnswer::No(count) => put_numbered(out, b"no", count),
-        LineAnswer::Refused(number) => put_numbered(out, b"refused", number as u64),
+        LineAnswer::Load(said) => put_load(out, said),
+        LineAnswer::Open(said) => put_open(out, said),
+        LineAnswer::Deliver(said) => put_deliver(out, said),
+        LineAnswer::Withdraw(said) => put_withdraw(out, said),
+        LineAnswer::Verdict(said) => put_verdict(out, said),
         LineAnswer::Malformed => put_word(out, b"malformed"),
     }
 }

@@ -1,6 +1,6 @@
 -- The numbers that C is given, read back: by cases of what the calls come to. Assumes nothing.
-use mathlib.Core.Path.{_≡_, refl, sym, _∙_}
-use mathlib.Core.Bool.{Bool, true, false, not}
+use mathlib.Core.Path.{_≡_, refl}
+use mathlib.Core.Bool.{Bool, true, false, cond, not}
 use mathlib.Core.List.{List}
 use mathlib.Core.Option.{Option, none, some}
 use Prim.Native.Nat.{ℕ, _+_}
@@ -10,11 +10,11 @@ use Rattle.ruleformat.specs.Reader.{ruleOf}
 use Rattle.build.specs.Building.{builtOf}
 use Rattle.board.specs.Boards.{placesOf, isEmpty, emptyBoard, filledAt, clearedAt, emptyPlaces, summedCount}
 use Rattle.calls.specs.declared.Judge.{Judge}
-use Rattle.calls.specs.Replies.{Reply, accepted, loaded}
-use Rattle.calls.specs.Calls.{Call, loadNumber, openConditions, deliverConditions, withdrawConditions, verdictBy}
-use Rattle.calls.specs.Steps.{Outcome, lacksRule, lacksBoard, withBoard, outcomeBy, runsAt, loadOf, openOf, deliverOf, withdrawOf, isYes, verdictOf}
-use Rattle.histories.specs.History.{placesIn, emptiesIn, yesIn, summedIn, verdictIn}
-use Rattle.replay.specs.Records.{Recorded, calls, malformedAt, verdict, recordIn, replayOf}
+use Rattle.calls.specs.Replies.{Judgement, waiting, keeps, breaks, accepted, loaded, judged, refused}
+use Rattle.calls.specs.Calls.{loadNumber, openConditions, deliverConditions, withdrawConditions, judgementBy}
+use Rattle.calls.specs.Steps.{lacksRule, lacksBoard, withBoard, outcomeBy, runsAt, loadOf, openOf, deliverOf, withdrawOf, isYes, verdictOf}
+use Rattle.histories.specs.History.{placesIn, emptiesIn, yesIn, summedIn}
+use Rattle.replay.specs.Records.{Recorded, calls, malformedAt, verdict, replayOf}
 use Rattle.capi.specs.Numbers.{loadShown, openShown, deliverShown, withdrawShown, verdictShown, replayShown, loadTold, openTold, deliverTold, withdrawTold, verdictTold, replayTold}
 use Rattle.capi.specs.Claims.{Claims}
 
@@ -23,24 +23,24 @@ module _ (j next : Judge) where
   load-by none sets m = refl
   load-by (some x) sets m = refl
 
-  open-by : (number : Option ℕ) → openTold (openShown (outcomeBy number accepted j next)) ≡ outcomeBy number accepted j next
-  open-by none = refl
-  open-by (some x) = refl
+  -- of an opening, a delivery and a withdrawal
+  taken-by : (number : Option ℕ) → openTold (openShown (outcomeBy number accepted j next)) ≡ outcomeBy number accepted j next
+  taken-by none = refl
+  taken-by (some x) = refl
 
-  deliver-by : (number : Option ℕ) → deliverTold (deliverShown (outcomeBy number accepted j next)) ≡ outcomeBy number accepted j next
-  deliver-by none = refl
-  deliver-by (some x) = refl
+-- a verdict is refused or judges
+verdict-by : (lacks : Bool) (x : ℕ) (v : Judgement) → verdictTold (verdictShown (cond lacks (refused x) (judged v))) ≡ cond lacks (refused x) (judged v)
+verdict-by true x v = refl
+verdict-by false x (waiting empty) = refl
+verdict-by false x (keeps count) = refl
+verdict-by false x (breaks count) = refl
 
-  withdraw-by : (number : Option ℕ) → withdrawTold (withdrawShown (outcomeBy number accepted j next)) ≡ outcomeBy number accepted j next
-  withdraw-by none = refl
-  withdraw-by (some x) = refl
-
-verdict-by : (lacks : Bool) (empty : ℕ) (none-empty yes-there : Bool) (sum : ℕ) → eqb empty 0 ≡ none-empty
-    → verdictTold (verdictShown (verdictBy lacks empty yes-there sum)) ≡ verdictBy lacks empty yes-there sum
-verdict-by true empty e y sum z = refl
-verdict-by false empty false y sum z = rw z
-verdict-by false empty true true sum z = rw z
-verdict-by false empty true false sum z = rw z
+replay-by : (lacks : Bool) (x : ℕ) (v : Judgement)
+    → replayTold (replayShown (verdict (cond lacks (refused x) (judged v)))) ≡ verdict (cond lacks (refused x) (judged v))
+replay-by true x v = refl
+replay-by false x (waiting empty) = refl
+replay-by false x (keeps count) = refl
+replay-by false x (breaks count) = refl
 
 load-told : (j : Judge) (f : List ℕ) → loadTold (loadShown (loadOf j f)) ≡ loadOf j f
 unfolding loadOf
@@ -49,12 +49,12 @@ load-told j f =
 
 open-told : (j : Judge) (n : ℕ) → openTold (openShown (openOf j n)) ≡ openOf j n
 unfolding openOf
-open-told j n = open-by j (withBoard j (emptyBoard n)) (firstOf (openConditions (lacksRule j) n))
+open-told j n = taken-by j (withBoard j (emptyBoard n)) (firstOf (openConditions (lacksRule j) n))
 
 deliver-told : (j : Judge) (p : ℕ) (w : List ℕ) → deliverTold (deliverShown (deliverOf j p w)) ≡ deliverOf j p w
 unfolding deliverOf
 deliver-told j p w =
-    deliver-by j (withBoard j (filledAt (j .board) p (runsAt j p w)))
+    taken-by j (withBoard j (filledAt (j .board) p (runsAt j p w)))
     (firstOf
     (deliverConditions (lacksBoard j) (placesOf (j .board)) p w (j .built .k) (not (isEmpty (j .board) p))
     (summedCount (j .board) + runsAt j p w .count)))
@@ -62,28 +62,16 @@ deliver-told j p w =
 withdraw-told : (j : Judge) (p : ℕ) → withdrawTold (withdrawShown (withdrawOf j p)) ≡ withdrawOf j p
 unfolding withdrawOf
 withdraw-told j p =
-    withdraw-by j (withBoard j (clearedAt (j .board) p))
+    taken-by j (withBoard j (clearedAt (j .board) p))
     (firstOf (withdrawConditions (lacksBoard j) (placesOf (j .board)) p (isEmpty (j .board) p)))
 
 verdict-told : (j : Judge) → verdictTold (verdictShown (verdictOf j)) ≡ verdictOf j
 unfolding verdictOf
-verdict-told j =
-    verdict-by (lacksBoard j) (emptyPlaces (j .board)) (eqb (emptyPlaces (j .board)) 0) (isYes j) (summedCount (j .board)) refl
+verdict-told j = verdict-by (lacksBoard j) 21 (judgementBy (emptyPlaces (j .board)) (isYes j) (summedCount (j .board)))
 
--- a recorded list's verdict is one of the four, by its numbers; a malformed line is told by kind 4
-list-told : (h : List Call) → replayTold (replayShown (verdict (verdictIn h))) ≡ verdict (verdictIn h)
-list-told h = go (eqb (placesIn h) 0) (emptiesIn h) (eqb (emptiesIn h) 0) (yesIn h) (summedIn h) refl
-  where
-    go : (lacks : Bool) (empty : ℕ) (none-empty yes-there : Bool) (sum : ℕ) → eqb empty 0 ≡ none-empty
-        → replayTold (replayShown (verdict (verdictBy lacks empty yes-there sum))) ≡ verdict (verdictBy lacks empty yes-there sum)
-    go true empty e y sum z = refl
-    go false empty false y sum z = rw z
-    go false empty true true sum z = rw z
-    go false empty true false sum z = rw z
-
-by-record : (r : Recorded) → replayTold (replayShown (replayOf r)) ≡ replayOf r
-by-record (calls h) = list-told h
-by-record (malformedAt i) = refl
+replay-told : (so : Recorded) → replayTold (replayShown (replayOf so)) ≡ replayOf so
+replay-told (calls h) = replay-by (eqb (placesIn h) 0) 21 (judgementBy (emptiesIn h) (yesIn h) (summedIn h))
+replay-told (malformedAt i) = refl
 
 pub claims : Claims
 claims = record {
@@ -92,5 +80,5 @@ claims = record {
   deliver-told = deliver-told;
   withdraw-told = withdraw-told;
   verdict-told = verdict-told;
-  replay-told = λ text. by-record (recordIn text);
+  replay-told = replay-told;
 }

@@ -10,16 +10,16 @@ use Rattle.calls.specs.declared.DeliverAnswer.the-variants as delivery
 use Rattle.calls.specs.declared.WithdrawAnswer.{WithdrawAnswer}
 use Rattle.calls.specs.declared.WithdrawAnswer.the-variants as withdrawal
 use Rattle.calls.specs.declared.Verdict.{Verdict}
-use Rattle.calls.specs.declared.Verdict.the-variants as verdict
 use Rattle.calls.specs.declared.Loading.{Loading}
 use Rattle.calls.specs.declared.Opening.{Opening}
 use Rattle.calls.specs.declared.Delivery.{Delivery}
 use Rattle.calls.specs.declared.Withdrawal.{Withdrawal}
-use Rattle.calls.specs.Replies.{Reply, loadSays, openSays, deliverSays, withdrawSays, verdictSays}
+use Rattle.calls.specs.Replies.{loadSays, openSays, deliverSays, withdrawSays, verdictSays}
 use Rattle.calls.specs.Steps.{Outcome, loadCame, openCame, deliverCame, withdrawCame}
 use Rattle.replay.specs.declared.ReplayAnswer.{ReplayAnswer}
 use Rattle.replay.specs.declared.ReplayAnswer.the-variants as replay
 use Rattle.replay.specs.Records.{Told, toldOf}
+use Rattle.capi.specs.declared.VerdictResult.{VerdictResult}
 use Rattle.capi.specs.Numbers.{loadShown, openShown, deliverShown, withdrawShown, verdictShown, replayShown}
 
 module _ (o : Outcome) where
@@ -52,31 +52,10 @@ module _ (o : Outcome) where
     pub withdraw-refused : (x : ℕ) → r .answer ≡ withdrawal.Refused x → record { accepted = 0; refused = x; judge = r .judge } ≡ withdrawShown o
     withdraw-refused x e = ap withdrawShown (sym (ap (λ (a : WithdrawAnswer). record { says = withdrawSays a; leaves = r .judge }) e) ∙ is)
 
-module _ (v : Verdict) (o : Reply) (is : verdictSays v ≡ o) (x : ℕ) where
-  pub verdict-refused : v ≡ verdict.Refused x → record { kind = 0; number = x } ≡ verdictShown o
-  verdict-refused e = ap verdictShown (sym (ap verdictSays e) ∙ is)
+module _ (v : ReplayAnswer) (t : Told) (is : toldOf v ≡ t) where
+  pub replay-verdict : (x : Verdict) → v ≡ replay.Verdict x → (r : VerdictResult) → r ≡ verdictShown (verdictSays x)
+      → record { kind = r .kind; number = r .number } ≡ replayShown t
+  replay-verdict x e r shows = rw shows (ap replayShown (sym (ap toldOf e) ∙ is))
 
-  pub verdict-waiting : v ≡ verdict.Waiting x → record { kind = 1; number = x } ≡ verdictShown o
-  verdict-waiting e = ap verdictShown (sym (ap verdictSays e) ∙ is)
-
-  pub verdict-yes : v ≡ verdict.Yes x → record { kind = 2; number = x } ≡ verdictShown o
-  verdict-yes e = ap verdictShown (sym (ap verdictSays e) ∙ is)
-
-  pub verdict-no : v ≡ verdict.No x → record { kind = 3; number = x } ≡ verdictShown o
-  verdict-no e = ap verdictShown (sym (ap verdictSays e) ∙ is)
-
-module _ (v : ReplayAnswer) (t : Told) (is : toldOf v ≡ t) (x : ℕ) where
-  pub replay-refused : v ≡ replay.Refused x → record { kind = 0; number = x } ≡ replayShown t
-  replay-refused e = ap replayShown (sym (ap toldOf e) ∙ is)
-
-  pub replay-waiting : v ≡ replay.Waiting x → record { kind = 1; number = x } ≡ replayShown t
-  replay-waiting e = ap replayShown (sym (ap toldOf e) ∙ is)
-
-  pub replay-yes : v ≡ replay.Yes x → record { kind = 2; number = x } ≡ replayShown t
-  replay-yes e = ap replayShown (sym (ap toldOf e) ∙ is)
-
-  pub replay-no : v ≡ replay.No x → record { kind = 3; number = x } ≡ replayShown t
-  replay-no e = ap replayShown (sym (ap toldOf e) ∙ is)
-
-  pub replay-malformed : v ≡ replay.Malformed x → record { kind = 4; number = x } ≡ replayShown t
-  replay-malformed e = ap replayShown (sym (ap toldOf e) ∙ is)
+  pub replay-malformed : (line : ℕ) → v ≡ replay.Malformed line → record { kind = 4; number = line } ≡ replayShown t
+  replay-malformed line e = ap replayShown (sym (ap toldOf e) ∙ is)

@@ -1,16 +1,20 @@
 -- The numbers that C is given for what a call came to. Every field is fixed: what a result has no use for is 0.
 --
---   loadShown .. withdrawShown   an outcome as a result: accepted is 1, or it is 0 and refused has the number
+--   flagOf a, refusedOf a        the fields `accepted` and `refused` for the reply a: 1 and 0, or 0
+--                                and the number of the refusal
+--   setsTold a, startsTold a     the fields `sets` and `starts`
+--   loadShown .. withdrawShown   an outcome as a result
 --   verdictShown a               a verdict: kind 0 refused, 1 waiting, 2 yes, 3 no, each with its number
 --   replayShown t                the same for a recorded list; kind 4: the line of that number is malformed
---   loadTold .. verdictTold      what such a result says, read back from its numbers (specs/Claims.antt)
+--   loadTold .. replayTold       what such a result says, read back from its numbers
 -- No other reply is given to these calls; the lines for others are there so that every case has a value.
 use mathlib.Core.Bool.{cond}
+use mathlib.Core.Option.{Option·getD}
 use Prim.Native.Nat.{ℕ}
 use lib.Dec.{eqb}
-use Rattle.calls.specs.declared.Judge.{Judge}
-use Rattle.calls.specs.Replies.{Reply, accepted, loaded, waiting, keeps, breaks, refused}
+use Rattle.calls.specs.Replies.{Judgement, waiting, keeps, breaks, Reply, accepted, loaded, judged, refused, refusalOf}
 use Rattle.calls.specs.Steps.{Outcome}
+use Rattle.histories.specs.History.{isNone}
 use Rattle.replay.specs.Records.{Told, verdict, malformedLine}
 use Rattle.capi.specs.declared.LoadResult.{LoadResult}
 use Rattle.capi.specs.declared.OpenResult.{OpenResult}
@@ -19,33 +23,33 @@ use Rattle.capi.specs.declared.WithdrawResult.{WithdrawResult}
 use Rattle.capi.specs.declared.VerdictResult.{VerdictResult}
 use Rattle.capi.specs.declared.ReplayResult.{ReplayResult}
 
--- whether a reply is no refusal, and the number of one that is
+-- ---- the calls that may change the state
 abbrev pub flagOf : Reply → ℕ
-flagOf accepted = 1
-flagOf (loaded sets starts) = 1
-flagOf (waiting empty) = 1
-flagOf (keeps count) = 1
-flagOf (breaks count) = 1
-flagOf (refused number) = 0
+flagOf a = cond (isNone (refusalOf a)) 1 0
 
 abbrev pub refusedOf : Reply → ℕ
-refusedOf accepted = 0
-refusedOf (loaded sets starts) = 0
-refusedOf (waiting empty) = 0
-refusedOf (keeps count) = 0
-refusedOf (breaks count) = 0
-refusedOf (refused number) = number
+refusedOf a = Option·getD (refusalOf a) 0
 
-abbrev pub loadBy : Reply → Judge → LoadResult
-loadBy (loaded sets starts) j = record { accepted = 1; refused = 0; sets = sets; starts = starts; judge = j }
-loadBy accepted j = record { accepted = 1; refused = 0; sets = 0; starts = 0; judge = j }
-loadBy (waiting empty) j = record { accepted = 1; refused = 0; sets = 0; starts = 0; judge = j }
-loadBy (keeps count) j = record { accepted = 1; refused = 0; sets = 0; starts = 0; judge = j }
-loadBy (breaks count) j = record { accepted = 1; refused = 0; sets = 0; starts = 0; judge = j }
-loadBy (refused number) j = record { accepted = 0; refused = number; sets = 0; starts = 0; judge = j }
+abbrev pub setsTold : Reply → ℕ
+setsTold (loaded sets starts) = sets
+setsTold accepted = 0
+setsTold (judged v) = 0
+setsTold (refused number) = 0
+
+abbrev pub startsTold : Reply → ℕ
+startsTold (loaded sets starts) = starts
+startsTold accepted = 0
+startsTold (judged v) = 0
+startsTold (refused number) = 0
 
 abbrev pub loadShown : Outcome → LoadResult
-loadShown o = loadBy (o .says) (o .leaves)
+loadShown o = record {
+  accepted = flagOf (o .says);
+  refused = refusedOf (o .says);
+  sets = setsTold (o .says);
+  starts = startsTold (o .says);
+  judge = o .leaves;
+}
 
 abbrev pub openShown : Outcome → OpenResult
 openShown o = record { accepted = flagOf (o .says); refused = refusedOf (o .says); judge = o .leaves }
@@ -56,46 +60,44 @@ deliverShown o = record { accepted = flagOf (o .says); refused = refusedOf (o .s
 abbrev pub withdrawShown : Outcome → WithdrawResult
 withdrawShown o = record { accepted = flagOf (o .says); refused = refusedOf (o .says); judge = o .leaves }
 
-abbrev pub kindOf : Reply → ℕ
-kindOf (refused number) = 0
-kindOf (waiting empty) = 1
-kindOf (keeps count) = 2
-kindOf (breaks count) = 3
-kindOf accepted = 0
-kindOf (loaded sets starts) = 0
-
-abbrev pub valueOf : Reply → ℕ
-valueOf (refused number) = number
-valueOf (waiting empty) = empty
-valueOf (keeps count) = count
-valueOf (breaks count) = count
-valueOf accepted = 0
-valueOf (loaded sets starts) = 0
+-- ---- the verdict
+abbrev pub judgementShown : Judgement → VerdictResult
+judgementShown (waiting empty) = record { kind = 1; number = empty }
+judgementShown (keeps count) = record { kind = 2; number = count }
+judgementShown (breaks count) = record { kind = 3; number = count }
 
 abbrev pub verdictShown : Reply → VerdictResult
-verdictShown a = record { kind = kindOf a; number = valueOf a }
+verdictShown (judged v) = judgementShown v
+verdictShown (refused number) = record { kind = 0; number = number }
+verdictShown accepted = record { kind = 0; number = 0 }
+verdictShown (loaded sets starts) = record { kind = 0; number = 0 }
 
 abbrev pub replayShown : Told → ReplayResult
-replayShown (verdict a) = record { kind = kindOf a; number = valueOf a }
+replayShown (verdict a) = record { kind = verdictShown a .kind; number = verdictShown a .number }
 replayShown (malformedLine i) = record { kind = 4; number = i }
 
 -- ---- read back: what the header says of the numbers
+-- `a` is the reply of a call that was accepted
+abbrev pub toldBy : ℕ → ℕ → Reply → Reply
+toldBy flag number a = cond (eqb flag 1) a (refused number)
+
 abbrev pub loadTold : LoadResult → Outcome
-loadTold r = record { says = cond (eqb (r .accepted) 1) (loaded (r .sets) (r .starts)) (refused (r .refused)); leaves = r .judge }
+loadTold r = record { says = toldBy (r .accepted) (r .refused) (loaded (r .sets) (r .starts)); leaves = r .judge }
 
 abbrev pub openTold : OpenResult → Outcome
-openTold r = record { says = cond (eqb (r .accepted) 1) accepted (refused (r .refused)); leaves = r .judge }
+openTold r = record { says = toldBy (r .accepted) (r .refused) accepted; leaves = r .judge }
 
 abbrev pub deliverTold : DeliverResult → Outcome
-deliverTold r = record { says = cond (eqb (r .accepted) 1) accepted (refused (r .refused)); leaves = r .judge }
+deliverTold r = record { says = toldBy (r .accepted) (r .refused) accepted; leaves = r .judge }
 
 abbrev pub withdrawTold : WithdrawResult → Outcome
-withdrawTold r = record { says = cond (eqb (r .accepted) 1) accepted (refused (r .refused)); leaves = r .judge }
+withdrawTold r = record { says = toldBy (r .accepted) (r .refused) accepted; leaves = r .judge }
 
 abbrev pub verdictTold : VerdictResult → Reply
 verdictTold r =
     cond (eqb (r .kind) 0) (refused (r .number))
-    (cond (eqb (r .kind) 1) (waiting (r .number)) (cond (eqb (r .kind) 2) (keeps (r .number)) (breaks (r .number))))
+    (judged (cond (eqb (r .kind) 1) (waiting (r .number)) (cond (eqb (r .kind) 2) (keeps (r .number)) (breaks (r .number)))))
 
 abbrev pub replayTold : ReplayResult → Told
-replayTold r = cond (eqb (r .kind) 4) (malformedLine (r .number)) (verdict (verdictTold (record { kind = r .kind; number = r .number })))
+replayTold r =
+    cond (eqb (r .kind) 4) (malformedLine (r .number)) (verdict (verdictTold (record { kind = r .kind; number = r .number })))

@@ -1,5 +1,6 @@
 // The judge for C and Rust. Answers are numbers; the state is a value that the caller keeps, hands in and gets back.
 ghost use mathlib.Core.Path.{_≡_};
+ghost use Rattle.calls.specs.Replies.{verdictSays};
 ghost use Rattle.calls.specs.Steps.{fresh, loadOf, openOf, deliverOf, withdrawOf, verdictOf};
 ghost use Rattle.replay.specs.Records.{recordIn, replayOf};
 ghost use Rattle.capi.specs.Numbers.{loadShown, openShown, deliverShown, withdrawShown, verdictShown, replayShown};
@@ -151,11 +152,10 @@ pub extern "C" fn bellbadger_withdraw(judge: Judge, place: usize) -> WithdrawRes
     }
 }
 
-#[no_mangle]
-pub extern "C" fn bellbadger_verdict(judge: Judge) -> VerdictResult
-    ensures { λ r. ⌜ r ≡ verdictShown (verdictOf judge) ⌝ }
+// A verdict in the numbers that C is given.
+fn shown(verdict: Verdict) -> VerdictResult
+    ensures { λ r. ⌜ r ≡ verdictShown (verdictSays verdict) ⌝ }
 {
-    let verdict = judge::judged(judge);
     match verdict {
         Verdict::Refused(x) => VerdictResult {
             kind: 0,
@@ -170,6 +170,13 @@ pub extern "C" fn bellbadger_verdict(judge: Judge) -> VerdictResult
     }
 }
 
+#[no_mangle]
+pub extern "C" fn bellbadger_verdict(judge: Judge) -> VerdictResult
+    ensures { λ r. ⌜ r ≡ verdictShown (verdictOf judge) ⌝ }
+{
+    shown(judge::judged(judge))
+}
+
 // The calls that the text records, and the verdict after them.
 #[no_mangle]
 pub extern "C" fn bellbadger_replay(text: &[u8]) -> ReplayResult
@@ -177,16 +184,13 @@ pub extern "C" fn bellbadger_replay(text: &[u8]) -> ReplayResult
 {
     let replayed = replay::replay(text);
     match replayed {
-        ReplayAnswer::Refused(x) => ReplayResult {
-            kind: 0,
-            number: x as u64,
-        },
-        ReplayAnswer::Waiting(empty) => ReplayResult {
-            kind: 1,
-            number: empty as u64,
-        },
-        ReplayAnswer::Yes(number) => ReplayResult { kind: 2, number },
-        ReplayAnswer::No(number) => ReplayResult { kind: 3, number },
+        ReplayAnswer::Verdict(verdict) => {
+            let told = shown(verdict);
+            ReplayResult {
+                kind: told.kind,
+                number: told.number,
+            }
+        }
         ReplayAnswer::Malformed(line) => ReplayResult {
             kind: 4,
             number: line as u64,

@@ -38,7 +38,7 @@ use Rattle.delegates.specs.Claims.{startsIn}
 use Rattle.build.specs.Building.{builtOf}
 use Rattle.board.specs.Boards.{held, isEmpty, summedCount}
 use Rattle.calls.specs.declared.Judge.{Judge}
-use Rattle.calls.specs.Replies.{Reply, waiting, keeps, breaks, refused}
+use Rattle.calls.specs.Replies.{waiting, keeps, breaks, Reply, judged, refused}
 use Rattle.calls.specs.Calls.{Call, loadNumber}
 use Rattle.calls.specs.Steps.{fresh, isYes, stepOf}
 use Rattle.calls.proofs.Conditions.{not-refused}
@@ -127,17 +127,17 @@ pub refused-21 : (h : List Call) → (verdictIn h ≡ refused 21) ↔ (boardIn h
 refused-21 h = every-list h .verdict .none-there
 
 -- waiting with the number of empty places exactly when one is empty;
-pub waits : (h : List Call) (e : ℕ) → (verdictIn h ≡ waiting e) ↔ ((boardIn h ≡ true) × (0 < e) × (e ≡ emptiesIn h))
+pub waits : (h : List Call) (e : ℕ) → (verdictIn h ≡ judged (waiting e)) ↔ ((boardIn h ≡ true) × (0 < e) × (e ≡ emptiesIn h))
 waits h = every-list h .verdict .waits
 
 -- else yes exactly when the last accepted rule has an accepting run over the standing chunks joined
 -- by place, and no when it has none.
 pub accepted-texts : (h : List Call) → boardIn h ≡ true → emptiesIn h ≡ 0
-    → (verdictIn h ≡ keeps (summedIn h)) ↔ Accepts (automatonBy (fileOf h)) (textIn h)
+    → (verdictIn h ≡ judged (keeps (summedIn h))) ↔ Accepts (automatonBy (fileOf h)) (textIn h)
 accepted-texts h = every-list h .verdict .accepts
 
 pub rejected-texts : (h : List Call) → boardIn h ≡ true → emptiesIn h ≡ 0
-    → (verdictIn h ≡ breaks (summedIn h)) ↔ (Accepts (automatonBy (fileOf h)) (textIn h) → ⊥)
+    → (verdictIn h ≡ judged (breaks (summedIn h))) ↔ (Accepts (automatonBy (fileOf h)) (textIn h) → ⊥)
 rejected-texts h = every-list h .verdict .rejects
 
 -- Each place with a standing chunk holds the end sets and the count that 01 gives, any other none:

@@ -21,9 +21,10 @@ use Rattle.delegates.specs.Claims.{startsIn}
 use Rattle.chunks.specs.Chunks.{foreign, counted, total, chunkCount}
 use Rattle.chunks.proofs.Claims as chunks
 use Rattle.chunks.proofs.Totals.{total-most}
-use Rattle.calls.specs.Replies.{Reply, accepted, loaded, waiting, keeps, breaks, refused}
-use Rattle.calls.specs.Calls.{Call, loads, opens, delivers, withdraws, asks, loadNumber, openConditions, deliverConditions, withdrawConditions}
+use Rattle.calls.specs.Replies.{Judgement, Reply, accepted, loaded, judged, refused, refusalOf}
+use Rattle.calls.specs.Calls.{Call, loads, opens, delivers, withdraws, asks, loadNumber, openConditions, deliverConditions, withdrawConditions, judgementBy}
 use Rattle.calls.proofs.Conditions.{none-some, over}
+use Rattle.calls.proofs.Refusing.{not-refusal}
 use Rattle.histories.specs.History.{isNone, isSome, fileOf, ruleIn, openNumber, placesIn, runAt, countOf, deliverCheck, withdrawCheck, standing, deliverNumber, withdrawNumber, emptiesIn, summedIn, yesIn, replyBy}
 use Rattle.histories.specs.Claims.{Never-24}
 use Rattle.histories.proofs.Taken.{named, past, not-named}
@@ -114,9 +115,9 @@ module _ (h : List Call) where
       (omega (arith, summed-few, counted-few (ruleIn h) p (some w) (λ v e. let is : w ≡ v = cc in subst (λ (x : List ℕ). length x ≤ 65536) is short)))
 
 -- ---- the claims
-replied : (o : Option ℕ) (a : Reply) → (a ≡ refused 24 → ⊥) → replyBy o a ≡ refused 24 → o ≡ some 24
-replied none a other e = absurd (other e)
-replied (some x) a other e = let same : x ≡ 24 = cc in ap some same
+replied : (o : Option ℕ) (a : Reply) → refusalOf a ≡ none → replyBy o a ≡ refused 24 → o ≡ some 24
+replied none a taken e = absurd (not-refusal a taken 24 e)
+replied (some x) a taken e = let same : x ≡ 24 = cc in ap some same
 
 never-delivered : (h : List Call) (p : ℕ) (w : List ℕ) → deliverNumber h p w ≡ some 24 → ⊥
 never-delivered h p w e =
@@ -130,29 +131,20 @@ never-delivered h p w e =
     (ap (λ (t : Bool). cond t (some 24) none) (fits-32 h p w (ltb-false 65536 (length w) (c .0))))
     (g .1)
 
-never-verdict : (no-board none-empty is-yes : Bool) (empties sum : ℕ)
-    → cond no-board (refused 21) (cond none-empty (cond is-yes (keeps sum) (breaks sum)) (waiting empties)) ≡ refused 24 → ⊥
-never-verdict true e y empties sum x = absurd (let z : _≡_ {A = ℕ} 0 1 = cc in omega arith)
-never-verdict false false y empties sum x = absurd (let z : _≡_ {A = ℕ} 0 1 = cc in omega arith)
-never-verdict false true true empties sum x = absurd (let z : _≡_ {A = ℕ} 0 1 = cc in omega arith)
-never-verdict false true false empties sum x = absurd (let z : _≡_ {A = ℕ} 0 1 = cc in omega arith)
-
-not-accepted : accepted ≡ refused 24 → ⊥
-not-accepted e = let z : _≡_ {A = ℕ} 0 1 = cc in omega arith
-
-not-loaded : (sets m : ℕ) → loaded sets m ≡ refused 24 → ⊥
-not-loaded sets m e = let z : _≡_ {A = ℕ} 0 1 = cc in omega arith
+never-verdict : (no-board : Bool) (v : Judgement) → cond no-board (refused 21) (judged v) ≡ refused 24 → ⊥
+never-verdict true v e = let z : _≡_ {A = ℕ} 0 1 = cc in omega arith
+never-verdict false v e = not-refusal (judged v) refl 24 e
 
 pub never-24 : Never-24
 unfolding loadNumber named
 never-24 h (loads f) e =
     not-named 24 (fileConditions f ++ (on 9 (over f) ∷ []))
     refl
-    (replied (loadNumber f) (loaded (length (setsOf (ruleOf f .targets) (ruleOf f .n) (ruleOf f .k))) (startsIn (ruleOf f) .count)) (not-loaded _ _) e)
-never-24 h (opens n) e = not-named 24 (openConditions (isNone (fileOf h)) n) refl (replied (openNumber h n) accepted not-accepted e)
-never-24 h (delivers p w) e = never-delivered h p w (replied (deliverNumber h p w) accepted not-accepted e)
+    (replied (loadNumber f) (loaded (length (setsOf (ruleOf f .targets) (ruleOf f .n) (ruleOf f .k))) (startsIn (ruleOf f) .count)) refl e)
+never-24 h (opens n) e = not-named 24 (openConditions (isNone (fileOf h)) n) refl (replied (openNumber h n) accepted refl e)
+never-24 h (delivers p w) e = never-delivered h p w (replied (deliverNumber h p w) accepted refl e)
 never-24 h (withdraws p) e =
     not-named 24 (withdrawConditions (eqb (placesIn h) 0) (placesIn h) p (isNone (standing h p))) refl
-    (replied (withdrawNumber h p) accepted not-accepted e)
+    (replied (withdrawNumber h p) accepted refl e)
 never-24 h asks e =
-    never-verdict (eqb (placesIn h) 0) (eqb (emptiesIn h) 0) (yesIn h) (emptiesIn h) (summedIn h) e
+    never-verdict (eqb (placesIn h) 0) (judgementBy (emptiesIn h) (yesIn h) (summedIn h)) e

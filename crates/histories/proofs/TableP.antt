@@ -24,7 +24,7 @@ use Rattle.chunks.specs.Chunks.{foreign, counted, startSet, runSet, endSet, tot
 use Rattle.joins.specs.Joining.{joinOf, yesOf}
 use Rattle.joins.specs.Claims.{delegateIn}
 use Rattle.histories.specs.History.{isNone, isSome, fileOf, ruleFrom, openNumber, placesIn, standingCount, standingEnd, deliverCheck, standing, deliverNumber, verdictIn, answersTo}
-use Rattle.calls.specs.Replies.{Reply, accepted, loaded, waiting, keeps, breaks, refused}
+use Rattle.calls.specs.Replies.{Judgement, Reply, accepted, loaded, judged}
 use Rattle.calls.specs.Calls.{Call, loads, opens, delivers, loadNumber, deliverConditions, verdictBy}
 use Rattle.histories.specs.Claims.{judgeAfter, BuiltBy}
 use Rattle.histories.specs.TableP.{Result, sets, delegates, verdict, turned-down, Case, case, delivering, callsFor, callsOf, repliesOf, rowsFrom, Shows, Each, Case-holds, table, TableP}
@@ -116,16 +116,16 @@ abbrev Built-so : List ℕ → Result → Type 0
 Built-so f r = (fileOf (callsFor f r) ≡ some f) × Shows r (builtOf (ruleOf f))
 
 -- of a verdict, with the starts x put in
-abbrev Taken : List ℕ → Reply → Starts → List (List ℕ) → Reply → Type 0
-Taken f load x chunks reply =
+abbrev Taken : List ℕ → Reply → Starts → List (List ℕ) → Judgement → Type 0
+Taken f load x chunks v =
     (loadNumber f ≡ none) × (loaded (length (setsOf (ruleOf f .targets) (ruleOf f .n) (ruleOf f .k))) (x .count) ≡ load) × (outside 1 64 (length chunks) ≡ false)
     × Checked (ruleOf f) (x .delegates) (length chunks) 0 chunks (λ _. none)
-    × (verdictWith (ruleOf f) (x .delegates) (length chunks) (putAll 0 chunks (λ _. none)) ≡ reply)
+    × (verdictWith (ruleOf f) (x .delegates) (length chunks) (putAll 0 chunks (λ _. none)) ≡ judged v)
 
-verdict-answers : (f : List ℕ) (load : Reply) (x : Starts) (chunks : List (List ℕ)) (reply : Reply) → startsIn (ruleOf f) ≡ x → Taken f load x chunks reply
-    → Answers (case f load (verdict chunks reply))
+verdict-answers : (f : List ℕ) (load : Reply) (x : Starts) (chunks : List (List ℕ)) (v : Judgement) → startsIn (ruleOf f) ≡ x → Taken f load x chunks v
+    → Answers (case f load (verdict chunks v))
 unfolding answersTo
-verdict-answers f load x chunks reply is t =
+verdict-answers f load x chunks v is t =
     let o = opened f (length chunks) (t .0) (t .2) in
     let d = all-delivered f (x .delegates) (ap (λ (s : Starts). s .delegates) is) (length chunks) chunks (opens (length chunks) ∷ loads f ∷ []) (λ _. none) 0 (o .1) (t .3) in
     let first : answersTo (opens (length chunks) ∷ loads f ∷ []) ≡ accepted ∷ load ∷ [] = rw (o .0, t .0, is, t .1) in
@@ -136,7 +136,7 @@ verdict-answers f load x chunks reply is t =
 abbrev Left : Case → Type 0
 Left (case f load (sets masks rows)) = Answers (case f load (sets masks rows)) × Built-so f (sets masks rows)
 Left (case f load (delegates ds)) = Answers (case f load (delegates ds)) × Built-so f (delegates ds)
-Left (case f load (verdict chunks reply)) = (x : Starts) × (startsIn (ruleOf f) ≡ x) × Taken f load x chunks reply
+Left (case f load (verdict chunks v)) = (x : Starts) × (startsIn (ruleOf f) ≡ x) × Taken f load x chunks v
 Left (case f load turned-down) = Answers (case f load turned-down)
 
 shows : (f : List ℕ) (r : Result) → Built-so f r → Shows r (judgeAfter (callsFor f r) .built)
@@ -147,8 +147,8 @@ shows f r b =
 holds : (c : Case) → Left c → Case-holds c
 holds (case f load (sets masks rows)) l = (every-list (loads f ∷ []) .all-right ∙ l .0, shows f (sets masks rows) (l .1))
 holds (case f load (delegates ds)) l = (every-list (loads f ∷ []) .all-right ∙ l .0, shows f (delegates ds) (l .1))
-holds (case f load (verdict chunks reply)) l =
-    (every-list (callsFor f (verdict chunks reply)) .all-right ∙ verdict-answers f load (l .0) chunks reply (l .1) (l .2), tt)
+holds (case f load (verdict chunks v)) l =
+    (every-list (callsFor f (verdict chunks v)) .all-right ∙ verdict-answers f load (l .0) chunks v (l .1) (l .2), tt)
 holds (case f load turned-down) l = (every-list (loads f ∷ []) .all-right ∙ l, tt)
 
 pub each : {P Q : Case → Type 0} → ((c : Case) → P c → Q c) → (cases : List Case) → Each P cases → Each Q cases

@@ -35,7 +35,7 @@ use Rattle.joins.proofs.Claims as joins
 use Rattle.chunks.proofs.Totals.{total-same}
 use Rattle.board.proofs.Totals.{term-most}
 use Rattle.calls.specs.declared.Judge.{Judge}
-use Rattle.calls.specs.Replies.{Reply, waiting, keeps, breaks, refused}
+use Rattle.calls.specs.Replies.{waiting, keeps, breaks, Reply, judged, refused}
 use Rattle.calls.proofs.Conditions.{not-refused}
 use Rattle.histories.specs.History.{isNone, fileOf, ruleFrom, openNumber, boardIn, placesIn, runAt, countOf, endOf, standing, emptiesIn, summedIn, yesIn, chunkOf, joinedUpTo}
 use Rattle.calls.specs.Calls.{Call, loads, opens, delivers, withdraws, asks, loadNumber, verdictBy}
@@ -53,9 +53,9 @@ module _ (places empties : ℕ) (yes-there : Bool) (sum : ℕ) where
   -- which of the four it is, with what it says
   data Which : Type 0 where
     no-board : places ≡ 0 → by-numbers ≡ refused 21 → Which
-    waits : 0 < places → 0 < empties → by-numbers ≡ waiting empties → Which
-    says-yes : 0 < places → empties ≡ 0 → yes-there ≡ true → by-numbers ≡ keeps sum → Which
-    says-no : 0 < places → empties ≡ 0 → yes-there ≡ false → by-numbers ≡ breaks sum → Which
+    waits : 0 < places → 0 < empties → by-numbers ≡ judged (waiting empties) → Which
+    says-yes : 0 < places → empties ≡ 0 → yes-there ≡ true → by-numbers ≡ judged (keeps sum) → Which
+    says-no : 0 < places → empties ≡ 0 → yes-there ≡ false → by-numbers ≡ judged (breaks sum) → Which
 
   which : Which
   which =
@@ -86,22 +86,22 @@ module _ (places empties : ℕ) (t : Bool) (sum : ℕ) where
       to (says-yes p q y e) x = absurd-reply (cc)
       to (says-no p q y e) x = absurd-reply (cc)
 
-  waiting-law : (e : ℕ) → (by-numbers places empties t sum ≡ waiting e) ↔ ((0 < places) × (0 < e) × (e ≡ empties))
+  waiting-law : (e : ℕ) → (by-numbers places empties t sum ≡ judged (waiting e)) ↔ ((0 < places) × (0 < e) × (e ≡ empties))
   waiting-law w = (
     (λ x. to (which places empties t sum) x),
     λ x. back (x .0) (x .1) (x .2),
   )
     where
-      to : Which places empties t sum → by-numbers places empties t sum ≡ waiting w → (0 < places) × (0 < w) × (w ≡ empties)
+      to : Which places empties t sum → by-numbers places empties t sum ≡ judged (waiting w) → (0 < places) × (0 < w) × (w ≡ empties)
       to (no-board p e) x = absurd-reply (cc)
       to (waits p q e) x = let z : w ≡ empties = cc in (p, omega arith, z)
       to (says-yes p q y e) x = absurd-reply (cc)
       to (says-no p q y e) x = absurd-reply (cc)
 
-      back : 0 < places → 0 < w → w ≡ empties → by-numbers places empties t sum ≡ waiting w
-      back p q e = rw (ne-eqb places 0 (λ z. absurd (omega arith)), ne-eqb empties 0 (λ z. absurd (omega arith))) (ap waiting (sym e))
+      back : 0 < places → 0 < w → w ≡ empties → by-numbers places empties t sum ≡ judged (waiting w)
+      back p q e = rw (ne-eqb places 0 (λ z. absurd (omega arith)), ne-eqb empties 0 (λ z. absurd (omega arith))) (ap (λ (n : ℕ). judged (waiting n)) (sym e))
 
-  yes-count : (c : ℕ) → by-numbers places empties t sum ≡ keeps c → c ≡ sum
+  yes-count : (c : ℕ) → by-numbers places empties t sum ≡ judged (keeps c) → c ≡ sum
   yes-count c x = to (which places empties t sum)
     where
       to : Which places empties t sum → c ≡ sum
@@ -110,7 +110,7 @@ module _ (places empties : ℕ) (t : Bool) (sum : ℕ) where
       to (says-yes p q y e) = cc
       to (says-no p q y e) = absurd-reply (cc)
 
-  no-count : (c : ℕ) → by-numbers places empties t sum ≡ breaks c → c ≡ sum
+  no-count : (c : ℕ) → by-numbers places empties t sum ≡ judged (breaks c) → c ≡ sum
   no-count c x = to (which places empties t sum)
     where
       to : Which places empties t sum → c ≡ sum
@@ -119,25 +119,25 @@ module _ (places empties : ℕ) (t : Bool) (sum : ℕ) where
       to (says-yes p q y e) = absurd-reply (cc)
       to (says-no p q y e) = cc
 
-  no-law : 0 < places → empties ≡ 0 → (by-numbers places empties t sum ≡ breaks sum) ↔ (t ≡ false)
+  no-law : 0 < places → empties ≡ 0 → (by-numbers places empties t sum ≡ judged (breaks sum)) ↔ (t ≡ false)
   no-law p e = (
     (λ x. to (which places empties t sum) x),
     λ y. rw (ne-eqb places 0 (λ z. absurd (omega arith)), eq-eqb empties 0 e, y),
   )
     where
-      to : Which places empties t sum → by-numbers places empties t sum ≡ breaks sum → t ≡ false
+      to : Which places empties t sum → by-numbers places empties t sum ≡ judged (breaks sum) → t ≡ false
       to (no-board z w) x = absurd (omega arith)
       to (waits z w v) x = absurd (omega arith)
       to (says-yes z w y v) x = absurd-reply (cc)
       to (says-no z w y v) x = y
 
-  yes-law : 0 < places → empties ≡ 0 → (by-numbers places empties t sum ≡ keeps sum) ↔ (t ≡ true)
+  yes-law : 0 < places → empties ≡ 0 → (by-numbers places empties t sum ≡ judged (keeps sum)) ↔ (t ≡ true)
   yes-law p e = (
     (λ x. to (which places empties t sum) x),
     λ y. rw (ne-eqb places 0 (λ z. absurd (omega arith)), eq-eqb empties 0 e, y),
   )
     where
-      to : Which places empties t sum → by-numbers places empties t sum ≡ keeps sum → t ≡ true
+      to : Which places empties t sum → by-numbers places empties t sum ≡ judged (keeps sum) → t ≡ true
       to (no-board z w) x = absurd (omega arith)
       to (waits z w v) x = absurd (omega arith)
       to (says-yes z w y v) x = y

@@ -26,7 +26,7 @@ use Rattle.delegates.specs.Claims.{startsIn}
 use Rattle.build.specs.Building.{builtOf, noBuilt}
 use Rattle.board.specs.Boards.{held, isEmpty, summedCount}
 use Rattle.calls.specs.declared.Judge.{Judge}
-use Rattle.calls.specs.Replies.{Reply, waiting, keeps, breaks, refused}
+use Rattle.calls.specs.Replies.{waiting, keeps, breaks, Reply, judged, refused}
 use Rattle.histories.specs.History.{isNone, fileOf, ruleIn, boardIn, placesIn, standing, endAt, countAt, emptiesIn, summedIn, yesIn, chunkOf, textIn, verdictIn, answerOf, answersTo}
 use Rattle.histories.specs.Method.{Method}
 use Rattle.histories.specs.Conditions.{Accepted-exactly, Refused-exactly}
@@ -71,17 +71,17 @@ pub record Verdict-words (h : List Call) : Type 0 where
   -- refused with 21 unless the last accepted load or opening is an opening
   pub none-there : (verdictIn h ≡ refused 21) ↔ (boardIn h ≡ false)
   -- waiting with the number of empty places exactly when one is empty
-  pub waits : (e : ℕ) → (verdictIn h ≡ waiting e) ↔ ((boardIn h ≡ true) × (0 < e) × (e ≡ emptiesIn h))
+  pub waits : (e : ℕ) → (verdictIn h ≡ judged (waiting e)) ↔ ((boardIn h ≡ true) × (0 < e) × (e ≡ emptiesIn h))
   -- else yes exactly when the last accepted rule has an accepting run over the standing chunks joined by place, and no when it has none
   pub accepts : boardIn h ≡ true → emptiesIn h ≡ 0
-      → (verdictIn h ≡ keeps (summedIn h)) ↔ Accepts (automatonBy (fileOf h)) (textIn h)
+      → (verdictIn h ≡ judged (keeps (summedIn h))) ↔ Accepts (automatonBy (fileOf h)) (textIn h)
   pub rejects : boardIn h ≡ true → emptiesIn h ≡ 0
-      → (verdictIn h ≡ breaks (summedIn h)) ↔ (Accepts (automatonBy (fileOf h)) (textIn h) → ⊥)
+      → (verdictIn h ≡ judged (breaks (summedIn h))) ↔ (Accepts (automatonBy (fileOf h)) (textIn h) → ⊥)
   -- the yes or no is the join of the end sets
-  pub joins : boardIn h ≡ true → emptiesIn h ≡ 0 → (verdictIn h ≡ keeps (summedIn h)) ↔ (yesIn h ≡ true)
+  pub joins : boardIn h ≡ true → emptiesIn h ≡ 0 → (verdictIn h ≡ judged (keeps (summedIn h))) ↔ (yesIn h ≡ true)
   -- the count is the sum over the places, and at most M times the bytes
-  pub counted : (c : ℕ) → verdictIn h ≡ keeps c → c ≡ summedIn h
-  pub counted-no : (c : ℕ) → verdictIn h ≡ breaks c → c ≡ summedIn h
+  pub counted : (c : ℕ) → verdictIn h ≡ judged (keeps c) → c ≡ summedIn h
+  pub counted-no : (c : ℕ) → verdictIn h ≡ judged (breaks c) → c ≡ summedIn h
   pub most : summedIn h ≤ startsIn (ruleIn h) .count * length (textIn h)
   -- and so it is at each place
   pub place-most : (p : ℕ) → countAt h p ≤ startsIn (ruleIn h) .count * length (chunkOf (standing h p))

@@ -15,7 +15,7 @@ use Rattle.masks.specs.Lists.{listFrom}
 use Rattle.ruleformat.specs.Worked.{fileA, fileB, fileA-final-8}
 use Rattle.build.specs.declared.Built.{Built}
 use Rattle.calls.specs.declared.Judge.{Judge}
-use Rattle.calls.specs.Replies.{Reply, accepted, loaded, keeps, breaks, refused}
+use Rattle.calls.specs.Replies.{Judgement, keeps, breaks, Reply, accepted, loaded, judged, refused}
 use Rattle.calls.specs.Calls.{Call, loads, opens, delivers, asks}
 use Rattle.histories.specs.Claims.{judgeAfter, repliesTo}
 
@@ -23,12 +23,13 @@ use Rattle.histories.specs.Claims.{judgeAfter, repliesTo}
 --   sets masks rows        the masks of all sets in number order, and for each set the cell of each symbol in the next-set table: the number of
 --                          the successor, or 512 for the empty set
 --   delegates ds           the delegate of each state
---   verdict chunks reply   with the chunks at the places 0, 1, .. of a board that has a place for each, the reply to the question
+--   verdict chunks v       with the chunks at the places 0, 1, .. of a board that has a place for
+--                          each, the verdict v
 --   turned-down            there is nothing more than the refusal of the load
 pub data Result : Type 0 where
   sets : List ℕ → List (List ℕ) → Result
   delegates : List ℕ → Result
-  verdict : List (List ℕ) → Reply → Result
+  verdict : List (List ℕ) → Judgement → Result
   turned-down : Result
 
 -- the file, the reply to its load, and the result
@@ -43,7 +44,7 @@ delivering p (w ∷ chunks) h = delivering (suc p) chunks (delivers p w ∷ h)
 abbrev pub callsFor : List ℕ → Result → List Call
 callsFor file (sets masks rows) = loads file ∷ []
 callsFor file (delegates ds) = loads file ∷ []
-callsFor file (verdict chunks reply) = asks ∷ delivering 0 chunks (opens (length chunks) ∷ loads file ∷ [])
+callsFor file (verdict chunks v) = asks ∷ delivering 0 chunks (opens (length chunks) ∷ loads file ∷ [])
 callsFor file turned-down = loads file ∷ []
 
 abbrev pub callsOf : Case → List Call
@@ -52,7 +53,7 @@ callsOf (case file load result) = callsFor file result
 abbrev pub repliesFor : Reply → Result → List Reply
 repliesFor load (sets masks rows) = load ∷ []
 repliesFor load (delegates ds) = load ∷ []
-repliesFor load (verdict chunks reply) = reply ∷ (replicate (length chunks) accepted ++ (accepted ∷ load ∷ []))
+repliesFor load (verdict chunks v) = judged v ∷ (replicate (length chunks) accepted ++ (accepted ∷ load ∷ []))
 repliesFor load turned-down = load ∷ []
 
 abbrev pub repliesOf : Case → List Reply
@@ -71,7 +72,7 @@ rowsFrom next k i (suc count) = cellsOf next (i * 16) k ∷ rowsFrom next k (suc
 abbrev pub Shows : Result → Built → Type 0
 Shows (sets masks rows) b = (cellsOf (b .sets) 0 (b .count) ≡ masks) × (rowsFrom (b .next) (b .k) 0 (b .count) ≡ rows)
 Shows (delegates ds) b = cellsOf (b .delegates) 0 (b .n) ≡ ds
-Shows (verdict chunks reply) b = Unit {0}
+Shows (verdict chunks v) b = Unit {0}
 Shows turned-down b = Unit {0}
 
 abbrev pub ResultOf : Case → Built → Type 0

@@ -8,12 +8,12 @@
 use mathlib.Core.List.{List, [], _∷_}
 use Prim.Native.Nat.{ℕ, suc}
 use Rattle.lines.specs.Splitting.{linesOf}
-use Rattle.calls.specs.Replies.{Reply, waiting, keeps, breaks, refused}
+use Rattle.calls.specs.Replies.{Reply, verdictSays}
 use Rattle.histories.specs.History.{verdictIn}
 use Rattle.calls.specs.Calls.{Call}
 use Rattle.calltext.specs.Meaning.{Meaning, again, call, malformed, lineIn}
 use Rattle.replay.specs.declared.ReplayAnswer.{ReplayAnswer}
-use Rattle.replay.specs.declared.ReplayAnswer.the-variants.{Waiting, Yes, No, Refused, Malformed}
+use Rattle.replay.specs.declared.ReplayAnswer.the-variants.{Verdict, Malformed}
 
 pub data Recorded : Type 0 where
   calls : List Call → Recorded
@@ -42,10 +42,7 @@ pub data Told : Type 0 where
   malformedLine : ℕ → Told
 
 abbrev pub toldOf : ReplayAnswer → Told
-toldOf (Waiting empty) = verdict (waiting empty)
-toldOf (Yes count) = verdict (keeps count)
-toldOf (No count) = verdict (breaks count)
-toldOf (Refused number) = verdict (refused number)
+toldOf (Verdict v) = verdict (verdictSays v)
 toldOf (Malformed line) = malformedLine line
 
 -- the verdict of demand 3 for the recorded calls: `Verdict-words` of crates/histories, which holds of every list, has its words

@@ -3,30 +3,15 @@ ghost use mathlib.Core.Path.{_≡_};
 ghost use Prim.Native.Nat.{_+_, _≤_, min};
 ghost use lib.ListN.{length};
 ghost use Rattle.calltext.specs.Answers.{responseOf, isUnread};
-ghost use Rattle.calls.specs.Replies.{verdictSays};
 ghost use Rattle.callrun.specs.Running.{Scratch};
-ghost use Rattle.replay.specs.Records.{verdict, recordIn, toldOf, replayOf};
+ghost use Rattle.replay.specs.Records.{recordIn, toldOf, replayOf};
 use calls::Verdict;
 use calltext::LineAnswer;
 
 // The verdict, or the number of the first malformed line.
 pub enum ReplayAnswer {
-    Waiting(u8),
-    Yes(u64),
-    No(u64),
-    Refused(u8),
+    Verdict(Verdict),
     Malformed(usize),
-}
-
-fn by_verdict(found: Verdict) -> ReplayAnswer
-    ensures { λ r. ⌜ toldOf r ≡ verdict (verdictSays found) ⌝ }
-{
-    match found {
-        Verdict::Waiting(empty) => ReplayAnswer::Waiting(empty),
-        Verdict::Yes(count) => ReplayAnswer::Yes(count),
-        Verdict::No(count) => ReplayAnswer::No(count),
-        Verdict::Refused(number) => ReplayAnswer::Refused(number),
-    }
 }
 
 fn is_malformed(answer: LineAnswer) -> bool
@@ -34,12 +19,11 @@ fn is_malformed(answer: LineAnswer) -> bool
 {
     match answer {
         LineAnswer::Began => false,
-        LineAnswer::Loaded(_, _) => false,
-        LineAnswer::Accepted => false,
-        LineAnswer::Waiting(_) => false,
-        LineAnswer::Yes(_) => false,
-        LineAnswer::No(_) => false,
-        LineAnswer::Refused(_) => false,
+        LineAnswer::Load(_) => false,
+        LineAnswer::Open(_) => false,
+        LineAnswer::Deliver(_) => false,
+        LineAnswer::Withdraw(_) => false,
+        LineAnswer::Verdict(_) => false,
         LineAnswer::Malformed => true,
     }
 }
@@ -71,7 +55,8 @@ fn replay_by(text: &[u8], buffer: &mut [u8]) -> ReplayAnswer
         judge = run.judge;
         at = past(end, text.len());
     }
-    by_verdict(judge::judged(judge))
+    let found = judge::judged(judge);
+    ReplayAnswer::Verdict(found)
 }
 
 // Runs the calls that the text records, a line each, and answers the verdict after them.

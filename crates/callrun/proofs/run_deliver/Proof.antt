@@ -26,9 +26,6 @@ slice-aggregate-deliver c = search (needs, put-prefix)
 deliver-requires : tie.Need-deliver-requires
 deliver-requires c κs = search needs
 
-deliver-answer-requires : tie.Need-deliver-answer-requires
-deliver-answer-requires c κs = search needs
-
 same-length : tie.Need-same-length
 same-length c = search needs
 
@@ -52,7 +49,6 @@ run-deliver-spec =
     slice-reshare-prefix-deliver
     slice-aggregate-deliver
     deliver-requires
-    deliver-answer-requires
     same-length
     returns
     same-length-2

@@ -26,9 +26,6 @@ slice-aggregate-load c = search (needs, put-prefix)
 load-requires : tie.Need-load-requires
 load-requires c κs = search needs
 
-load-answer-requires : tie.Need-load-answer-requires
-load-answer-requires c κs = search needs
-
 same-length : tie.Need-same-length
 same-length c = search needs
 
@@ -52,7 +49,6 @@ run-load-spec =
     slice-reshare-prefix-load
     slice-aggregate-load
     load-requires
-    load-answer-requires
     same-length
     returns
     same-length-2

@@ -82,16 +82,13 @@ loop-again c =
 judged-requires : tie.Need-judged-requires Inv-loop μ-loop
 judged-requires c κs = search needs
 
-by-verdict-requires : tie.Need-by-verdict-requires Inv-loop μ-loop
-by-verdict-requires c κs = search needs
-
 same-length-2 : tie.Need-same-length-2 Inv-loop μ-loop
 same-length-2 c = search needs
 
 returns-2 : tie.Need-returns-2 Inv-loop μ-loop
 returns-2 c =
-    let l = c .before .before .before .loop in
-    (going-last _ (l .judge) (l .line) (l .at) (l .inv .4) (c .before .before .loop-test .left) _ (c .by-verdict .ensures ∙ ap verdict (c .before .judged .ensures)), search needs)
+    let l = c .before .before .loop in
+    (going-last _ (l .judge) (l .line) (l .at) (l .inv .4) (c .before .loop-test .left) _ (ap verdict (c .judged .ensures)), search needs)
 
 pub replay-by-spec : {M : Type 1} → statement M
 replay-by-spec =
@@ -114,6 +111,5 @@ replay-by-spec =
     loop-less
     loop-again
     judged-requires
-    by-verdict-requires
     same-length-2
     returns-2)
