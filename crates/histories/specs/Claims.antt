@@ -17,6 +17,7 @@ use mathlib.Core.List.{List}
 use mathlib.Core.Option.{Option, none, some}
 use Prim.Native.Nat.{ℕ, _+_, _*_, _≤_, _<_}
 use lib.ListN.{length, getD}
+use Rattle.limits.specs.Limits.{mostStates, mostPlaces, longestChunk, mostCount}
 use Rattle.executions.specs.Executions.{Machine, stateAfter, repliesTo as machineReplies}
 use Rattle.automaton.specs.Automaton.{Automaton, Accepts}
 use Rattle.automaton.specs.Rules.{automatonOf, WellFormed}
@@ -57,9 +58,9 @@ automatonBy (some f) = automatonIn f
 pub record After (h : List Call) (j : Judge) : Type 0 where
   pub rule : BuiltBy (fileOf h) j
   pub places : j .board .places ≡ placesIn h
-  pub empty : (p : ℕ) → p < 64 → isEmpty (j .board) p ≡ isNone (standing h p)
-  pub ends : (p q : ℕ) → p < 64 → q < 32 → held (j .board) p q ≡ endAt h p q
-  pub counts : (p : ℕ) → p < 64 → getD (j .board .counts) p 0 ≡ countAt h p
+  pub empty : (p : ℕ) → p < mostPlaces → isEmpty (j .board) p ≡ isNone (standing h p)
+  pub ends : (p q : ℕ) → p < mostPlaces → q < mostStates → held (j .board) p q ≡ endAt h p q
+  pub counts : (p : ℕ) → p < mostPlaces → getD (j .board .counts) p 0 ≡ countAt h p
   -- a verdict asked now is the one that the list says; its yes or no is the join of the end sets held, its count the sum of the counts held
   pub asked : verdictOf j ≡ verdictIn h
   pub joined : boardIn h ≡ true → isYes j ≡ yesIn h
@@ -88,12 +89,12 @@ pub record Verdict-words (h : List Call) : Type 0 where
 -- which calls are accepted after the calls h: those of which every condition for a refusal fails, spelt out one by one
 pub record Accepted-exactly (h : List Call) : Type 0 where
   -- a rule is there, and 1 to 64 places are asked for
-  pub opening : (n : ℕ) → (answerOf h (opens n) ≡ accepted) ↔ ((fileOf h ≡ none → ⊥) × (1 ≤ n) × (n ≤ 64))
+  pub opening : (n : ℕ) → (answerOf h (opens n) ≡ accepted) ↔ ((fileOf h ≡ none → ⊥) × (1 ≤ n) × (n ≤ mostPlaces))
   -- a board is there with that place, the chunk is within the limit and the alphabet, the place is empty, and the sum of the counts fits
   pub delivery : (p : ℕ) (w : List ℕ)
       → (answerOf h (delivers p w) ≡ accepted)
-      ↔ ((0 < placesIn h) × (p < placesIn h) × (length w ≤ 65536) × (foreign w (ruleIn h .k) ≡ false) × (standing h p ≡ none)
-      × (summedIn h + countOf (ruleIn h) p (some w) ≤ 4294967295))
+      ↔ ((0 < placesIn h) × (p < placesIn h) × (length w ≤ longestChunk) × (foreign w (ruleIn h .k) ≡ false) × (standing h p ≡ none)
+      × (summedIn h + countOf (ruleIn h) p (some w) ≤ mostCount))
   -- a board is there with that place, and a chunk stands there
   pub withdrawal : (p : ℕ) → (answerOf h (withdraws p) ≡ accepted) ↔ ((0 < placesIn h) × (p < placesIn h) × (standing h p ≡ none → ⊥))
 

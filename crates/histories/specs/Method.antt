@@ -10,6 +10,7 @@ use mathlib.Core.Logic.{_↔_, _⊎_}
 use mathlib.Core.List.{List}
 use Prim.Native.Nat.{ℕ, _+_, _*_, _<_}
 use lib.ListN.{getD}
+use Rattle.limits.specs.Limits.{mostSymbols, emptySet}
 use Rattle.masks.specs.Masks.{_∈_}
 use Rattle.automaton.specs.Automaton.{Automaton, Arc, Run}
 use Rattle.ruleformat.specs.Language.{automatonIn}
@@ -27,7 +28,7 @@ module _ (b : Built) where
   setAt i = getD (b .sets) i 0
 
   abbrev pub nextAt : ℕ → ℕ → ℕ
-  nextAt i s = getD (b .next) (i * 16 + s) 0
+  nextAt i s = getD (b .next) (i * mostSymbols + s) 0
 
   abbrev pub numberedIn : ℕ → Type 0
   numberedIn m = (i : ℕ) × (i < b .count) × (setAt i ≡ m)
@@ -38,6 +39,6 @@ pub record Method (f : List ℕ) (b : Built) : Type 0 where
   pub once : (i j : ℕ) → i < b .count → j < b .count → setAt b i ≡ setAt b j → i ≡ j
   -- a cell of the table is the number of the set to which the arcs by its symbol lead, or 512 where they lead nowhere
   pub table : (i s : ℕ) → i < b .count → s < automatonIn f .k
-      → ((nextAt b i s < b .count) × Moves (automatonIn f) (setAt b i) s (setAt b (nextAt b i s))) ⊎ ((nextAt b i s ≡ 512) × Moves (automatonIn f) (setAt b i) s 0)
+      → ((nextAt b i s < b .count) × Moves (automatonIn f) (setAt b i) s (setAt b (nextAt b i s))) ⊎ ((nextAt b i s ≡ emptySet) × Moves (automatonIn f) (setAt b i) s 0)
   -- its delegates are, for each state, the lowest alike one, with zeros after them, and its number of starts is M
   pub delegates : Merged (automatonIn f) (b .delegates) (b .starts)

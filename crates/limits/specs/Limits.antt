@@ -15,10 +15,11 @@
 --   mostCount        the most transitions that the chunks of a board may count in all
 --   longestFile      the most bytes of a rule file
 --   largestNumber    the largest number on a line of calls: the largest of 64 bits
+--   mostDigits       the most digits of a number on a line of calls
 --   bytesRoom        room for the bytes of a chunk on a line, with one to spare: a longer chunk
 --                    fills it
---   lineRoom         room for what is kept of a line: `deliver `, the 20 digits of the largest
---                    number, a space, two hex digits for each of bytesRoom bytes, and one byte more
+--   lineRoom         room for what is kept of a line: `deliver `, the digits of a place, a
+--                    space, two hex digits for each of bytesRoom bytes, and one byte more
 --   answerRoom       room for the answer to a line
 use Prim.Native.Nat.{ℕ, _+_, _*_}
 
@@ -61,11 +62,14 @@ longestFile = 32906
 abbrev pub largestNumber : ℕ
 largestNumber = 18446744073709551615
 
+abbrev pub mostDigits : ℕ
+mostDigits = 20
+
 abbrev pub bytesRoom : ℕ
 bytesRoom = longestChunk + 1
 
 abbrev pub lineRoom : ℕ
-lineRoom = 8 + 20 + 1 + 2 * bytesRoom + 1
+lineRoom = 8 + mostDigits + 1 + 2 * bytesRoom + 1
 
 abbrev pub answerRoom : ℕ
 answerRoom = 64
