@@ -14,26 +14,27 @@ use mathlib.Core.List.{List}
 use Prim.Native.Nat.{ℕ, _+_, _*_, _/_, _%_, min}
 use lib.Dec.{eqb}
 use lib.ListN.{getD, set, replicate}
+use Rattle.limits.specs.Limits.{mostStates, mostPlaces, endCells}
 use Rattle.masks.specs.Lists.{listFrom}
 use Rattle.chunks.specs.declared.Runs.{Runs}
 use Rattle.chunks.specs.Chunks.{total}
 use Rattle.board.specs.declared.Board.{Board}
 
 abbrev pub placesOf : Board → ℕ
-placesOf b = min (b .places) 64
+placesOf b = min (b .places) mostPlaces
 
 abbrev pub held : Board → ℕ → ℕ → ℕ
-held b p q = getD (b .ends) (p * 32 + q) 0
+held b p q = getD (b .ends) (p * mostStates + q) 0
 
 abbrev pub isEmpty : Board → ℕ → Bool
 isEmpty b p = eqb (getD (b .filled) p 0) 0
 
 unfoldable pub emptyBoard : ℕ → Board
-emptyBoard n = record { places = n; filled = replicate 64 0; counts = replicate 64 0; ends = replicate 2048 0 }
+emptyBoard n = record { places = n; filled = replicate mostPlaces 0; counts = replicate mostPlaces 0; ends = replicate endCells 0 }
 
 -- the 32 cells of place p have the values g, the others stay
 abbrev pub rowSet : List ℕ → ℕ → (ℕ → ℕ) → List ℕ
-rowSet ends p g = listFrom 0 2048 (λ cell. cond (eqb (cell / 32) p) (g (cell % 32)) (getD ends cell 0))
+rowSet ends p g = listFrom 0 endCells (λ cell. cond (eqb (cell / mostStates) p) (g (cell % mostStates)) (getD ends cell 0))
 
 unfoldable pub filledAt : Board → ℕ → Runs → Board
 filledAt b p s = record {

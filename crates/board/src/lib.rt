@@ -4,6 +4,7 @@ ghost use Prim.Native.Nat.{_≤_, _<_};
 ghost use mathlib.Core.Bool.{cond};
 ghost use lib.Dec.{eqb};
 ghost use lib.ListN.{length, getD};
+ghost use Rattle.limits.specs.Limits.{mostPlaces, endCells};
 ghost use Rattle.chunks.specs.Chunks.{total};
 ghost use Rattle.board.specs.Boards.{placesOf, isEmpty, emptyBoard, rowSet, filledAt, clearedAt, emptyPlaces, summedCount};
 use chunks::Runs;
@@ -13,14 +14,14 @@ use chunks::Runs;
 #[repr(C)]
 pub struct Board {
     pub places: u8,
-    pub filled: [u8; 64],
-    pub counts: [u32; 64],
-    pub ends: [u32; 2048],
+    pub filled: [u8; limits::PLACES],
+    pub counts: [u32; limits::PLACES],
+    pub ends: [u32; limits::ENDS],
 }
 
 // An array has its length: this only says so, and is compiled to nothing.
-fn cells(ends: &[u32; 2048]) -> usize
-    ensures { λ r. ⌜ length (now (ends .entry)) ≡ 2048 ⌝ }
+fn cells(ends: &[u32; limits::ENDS]) -> usize
+    ensures { λ r. ⌜ length (now (ends .entry)) ≡ endCells ⌝ }
 {
     let s: &[u32] = ends;
     s.len()
@@ -30,16 +31,16 @@ fn cells(ends: &[u32; 2048]) -> usize
 pub fn places_of(board: Board) -> usize
     ensures { λ r. ⌜ r ≡ placesOf board ⌝ }
 {
-    masks::at_most(board.places, 64) as usize
+    masks::at_most(board.places, limits::MOST_PLACES) as usize
 }
 
 // A board with all places empty.
 pub fn empty_board(places: u8) -> Board
     ensures { λ r. ⌜ r ≡ emptyBoard places ⌝ }
 {
-    let filled = [0u8; 64];
-    let counts = [0u32; 64];
-    let ends = [0u32; 2048];
+    let filled = [0u8; limits::PLACES];
+    let counts = [0u32; limits::PLACES];
+    let ends = [0u32; limits::ENDS];
     Board {
         places,
         filled,
@@ -49,21 +50,21 @@ pub fn empty_board(places: u8) -> Board
 }
 
 // The place holds the end sets of the row.
-fn set_row(ends: &mut [u32; 2048], place: usize, row: &[u32; 32])
-    requires { ⌜ place < 64 ⌝ }
+fn set_row(ends: &mut [u32; limits::ENDS], place: usize, row: &[u32; limits::STATES])
+    requires { ⌜ place < mostPlaces ⌝ }
     ensures { λ r. ⌜ now (ends .exit) ≡ rowSet (now (ends .entry)) place (λ q. getD (now (row .entry)) q 0) ⌝ }
 {
     cells(ends);
     let mut q: usize = 0;
-    while q < 32 {
-        ends[place * 32 + q] = row[q];
+    while q < limits::STATES {
+        ends[place * limits::STATES + q] = row[q];
         q += 1;
     }
 }
 
 // The place holds the end sets and the count of a chunk, which may be empty.
 pub fn fill(board: Board, place: usize, runs: Runs) -> Board
-    requires { ⌜ place < 64 ⌝ }
+    requires { ⌜ place < mostPlaces ⌝ }
     ensures { λ r. ⌜ r ≡ filledAt board place runs ⌝ }
 {
     let mut filled = board;
@@ -75,28 +76,28 @@ pub fn fill(board: Board, place: usize, runs: Runs) -> Board
 
 // The place is empty, its end sets empty and its count 0.
 pub fn clear(board: Board, place: usize) -> Board
-    requires { ⌜ place < 64 ⌝ }
+    requires { ⌜ place < mostPlaces ⌝ }
     ensures { λ r. ⌜ r ≡ clearedAt board place ⌝ }
 {
     let mut cleared = board;
     cleared.filled[place] = 0;
     cleared.counts[place] = 0;
-    let row = [0u32; 32];
+    let row = [0u32; limits::STATES];
     set_row(&mut cleared.ends, place, &row);
     cleared
 }
 
 // Whether the place has no chunk.
 pub fn is_empty(board: Board, place: usize) -> bool
-    requires { ⌜ place < 64 ⌝ }
+    requires { ⌜ place < mostPlaces ⌝ }
     ensures { λ r. ⌜ r ≡ isEmpty board place ⌝ }
 {
     board.filled[place] == 0
 }
 
 // How many of the first n marks say empty.
-fn count_empty(filled: &[u8; 64], n: usize) -> u8
-    requires { ⌜ n ≤ 64 ⌝ }
+fn count_empty(filled: &[u8; limits::PLACES], n: usize) -> u8
+    requires { ⌜ n ≤ mostPlaces ⌝ }
     ensures { λ r. ⌜ r ≡ total (λ p. cond (eqb (getD (now (filled .entry)) p 0) 0) 1 0) n ⌝ }
 {
     let mut empty: u8 = 0;
@@ -126,8 +127,8 @@ fn wide(count: u32) -> u64
 }
 
 // The sum of the first n counts; in 64 bits no counts are too large.
-fn sum_counts(counts: &[u32; 64], n: usize) -> u64
-    requires { ⌜ n ≤ 64 ⌝ }
+fn sum_counts(counts: &[u32; limits::PLACES], n: usize) -> u64
+    requires { ⌜ n ≤ mostPlaces ⌝ }
     ensures { λ r. ⌜ r ≡ total (λ p. getD (now (counts .entry)) p 0) n ⌝ }
 {
     let mut sum: u64 = 0;

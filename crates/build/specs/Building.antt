@@ -10,6 +10,7 @@ use mathlib.Core.Bool.{cond}
 use mathlib.Core.List.{List}
 use Prim.Native.Nat.{ℕ, min}
 use lib.ListN.{length, replicate}
+use Rattle.limits.specs.Limits.{mostStates, mostSymbols, mostSets, tableCells}
 use Rattle.automaton.specs.declared.Rule.{Rule}
 use Rattle.subsets.specs.Sets.{setsOf, tooMany, setCells, nextCells}
 use Rattle.subsets.specs.Singles.{singlesOf}
@@ -34,8 +35,8 @@ module _ (r : Rule) where
   -- singles has the number of {q} for each state q
   abbrev pub builtOf : Built
   builtOf = record {
-    n = min (r .n) 32;
-    k = min (r .k) 16;
+    n = min (r .n) mostStates;
+    k = min (r .k) mostSymbols;
     starts = startsIn r .count;
     count = length sets;
     initials = r .initials;
@@ -54,10 +55,10 @@ noBuilt = record {
   count = 0;
   initials = 0;
   finals = 0;
-  delegates = replicate 32 0;
-  singles = replicate 32 0;
-  sets = replicate 512 0;
-  next = replicate 8192 0;
+  delegates = replicate mostStates 0;
+  singles = replicate mostStates 0;
+  sets = replicate mostSets 0;
+  next = replicate tableCells 0;
 }
 
 pub record Outcome : Type 0 where

@@ -14,10 +14,10 @@ pub struct Built {
     pub count: u16,
     pub initials: u32,
     pub finals: u32,
-    pub delegates: [u8; 32],
-    pub singles: [u16; 32],
-    pub sets: [u32; 512],
-    pub next: [u16; 8192],
+    pub delegates: [u8; limits::STATES],
+    pub singles: [u16; limits::STATES],
+    pub sets: [u32; limits::SETS],
+    pub next: [u16; limits::CELLS],
 }
 
 // The number of sets and M, or a refusal.
@@ -36,10 +36,10 @@ pub struct Building {
 pub fn nothing_built() -> Built
     ensures { λ r. ⌜ r ≡ noBuilt ⌝ }
 {
-    let delegates = [0u8; 32];
-    let singles = [0u16; 32];
-    let sets = [0u32; 512];
-    let next = [0u16; 8192];
+    let delegates = [0u8; limits::STATES];
+    let singles = [0u16; limits::STATES];
+    let sets = [0u32; limits::SETS];
+    let next = [0u16; limits::CELLS];
     Built {
         n: 0,
         k: 0,
@@ -72,8 +72,8 @@ pub fn build_rule(rule: Rule) -> Building
             let delegates = merged.delegates;
             let starts = merged.count;
             let built = Built {
-                n: masks::at_most(n, 32),
-                k: masks::at_most(k, 16),
+                n: masks::at_most(n, limits::MOST_STATES),
+                k: masks::at_most(k, limits::MOST_SYMBOLS),
                 starts,
                 count: count as u16,
                 initials: rule.initials,

@@ -3,6 +3,7 @@ ghost use mathlib.Core.Path.{_≡_};
 ghost use mathlib.Core.Option.{some};
 ghost use Prim.Native.Nat.{_≤_};
 ghost use lib.ListN.{length};
+ghost use Rattle.limits.specs.Limits.{bytesRoom};
 ghost use Rattle.fields.specs.Bytes.{bytesIn};
 ghost use Rattle.calls.specs.Calls.{opens, withdraws, asks};
 ghost use Rattle.calltext.specs.Meaning.{again, call, malformed, loadBy, deliverBy, lineIn};
@@ -37,7 +38,7 @@ fn run_empty(judge: Judge) -> LineRun
 // The bytes go through the lent buffer. What is longer than the buffer is refused by its length
 // alone, so what does not fit is not missed.
 fn run_load(judge: Judge, field: &[u8], buffer: &mut [u8]) -> LineRun
-    requires { ⌜ 65537 ≤ length (now buffer) ⌝ }
+    requires { ⌜ bytesRoom ≤ length (now buffer) ⌝ }
     ensures { λ r. ⌜ outcomeOf r ≡ lineStep judge (loadBy (bytesIn (now (field .entry)))) ⌝ }
     ensures scratch { λ r. ⌜ Scratch (now (buffer .entry)) (now (buffer .exit)) ⌝ }
 {
@@ -65,7 +66,7 @@ fn run_open(judge: Judge, places: u64) -> LineRun
 }
 
 fn run_deliver(judge: Judge, place: u64, field: &[u8], buffer: &mut [u8]) -> LineRun
-    requires { ⌜ 65537 ≤ length (now buffer) ⌝ }
+    requires { ⌜ bytesRoom ≤ length (now buffer) ⌝ }
     ensures { λ r. ⌜ outcomeOf r ≡ lineStep judge (deliverBy (some place) (bytesIn (now (field .entry)))) ⌝ }
     ensures scratch { λ r. ⌜ Scratch (now (buffer .entry)) (now (buffer .exit)) ⌝ }
 {
@@ -102,7 +103,7 @@ fn run_verdict(judge: Judge) -> LineRun
 
 // One line. The buffer is for the bytes that the line carries.
 pub fn run_line(judge: Judge, line: &[u8], buffer: &mut [u8]) -> LineRun
-    requires { ⌜ 65537 ≤ length (now buffer) ⌝ }
+    requires { ⌜ bytesRoom ≤ length (now buffer) ⌝ }
     ensures { λ r. ⌜ outcomeOf r ≡ lineStep judge (lineIn (now (line .entry))) ⌝ }
     ensures scratch { λ r. ⌜ Scratch (now (buffer .entry)) (now (buffer .exit)) ⌝ }
 {

@@ -13,6 +13,7 @@ use mathlib.Core.Option.{Option}
 use Prim.Native.Nat.{ℕ}
 use lib.Dec.{ltb, leb, eqb}
 use lib.ListN.{length}
+use Rattle.limits.specs.Limits.{mostPlaces, longestChunk, mostCount}
 use Rattle.ruleformat.specs.Conditions.{Condition, on, firstOf, outside}
 use Rattle.ruleformat.specs.Refusals.{fileConditions}
 use Rattle.ruleformat.specs.Reader.{ruleOf}
@@ -34,17 +35,17 @@ loadNumber f = firstOf (fileConditions f ++ (on 9 (tooMany (ruleOf f .targets) (
 
 -- no rule is there; n places are asked for
 abbrev pub openConditions : Bool → ℕ → List Condition
-openConditions lacks n = on 20 lacks ∷ on 10 (outside 1 64 n) ∷ []
+openConditions lacks n = on 20 lacks ∷ on 10 (outside 1 mostPlaces n) ∷ []
 
 -- no board is there; it has so many places; the chunk w for place p; the rule has k symbols; a chunk stands at p; the sum of the counts with w's
 abbrev pub deliverConditions : Bool → ℕ → ℕ → List ℕ → ℕ → Bool → ℕ → List Condition
 deliverConditions lacks places p w k filled sum =
     on 21 lacks ∷
     on 11 (leb places p) ∷
-    on 12 (ltb 65536 (length w)) ∷
+    on 12 (ltb longestChunk (length w)) ∷
     on 13 (foreign w k) ∷
     on 22 filled ∷
-    on 24 (ltb 4294967295 sum) ∷ []
+    on 24 (ltb mostCount sum) ∷ []
 
 -- no board is there; it has so many places; no chunk stands at place p
 abbrev pub withdrawConditions : Bool → ℕ → ℕ → Bool → List Condition

@@ -5,6 +5,7 @@
 use mathlib.Core.Path.{_≡_}
 use mathlib.Core.List.{List, _∷_, _++_}
 use Prim.Native.Nat.{ℕ, _≤_}
+use Rattle.limits.specs.Limits.{largestNumber}
 use Rattle.text.specs.Numerals.{decimal}
 use Rattle.fields.specs.Claims.{AllBytes, fieldOf}
 use Rattle.calls.specs.Calls.{Call, loads, opens, delivers, withdraws, asks}
@@ -12,9 +13,9 @@ use Rattle.calltext.specs.Meaning.{call, load-word, open-word, deliver-w
 
 abbrev pub Fits : Call → Type 0
 Fits (loads f) = AllBytes f
-Fits (opens n) = n ≤ 18446744073709551615
-Fits (delivers p w) = (p ≤ 18446744073709551615) × AllBytes w
-Fits (withdraws p) = p ≤ 18446744073709551615
+Fits (opens n) = n ≤ largestNumber
+Fits (delivers p w) = (p ≤ largestNumber) × AllBytes w
+Fits (withdraws p) = p ≤ largestNumber
 Fits asks = Unit {0}
 
 abbrev pub lineOf : Call → List ℕ

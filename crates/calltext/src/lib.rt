@@ -3,6 +3,7 @@ ghost use mathlib.Core.Path.{_≡_};
 ghost use mathlib.Core.List.{List, [], _∷_, _++_};
 ghost use Prim.Native.Nat.{ℕ, _+_, _≤_};
 ghost use lib.ListN.{length, drop};
+ghost use Rattle.limits.specs.Limits.{answerRoom};
 ghost use Rattle.text.specs.Writing.{Wrote};
 ghost use Rattle.fields.specs.Numbers.{numberIn};
 ghost use Rattle.lines.specs.Splitting.{upTo, past};
@@ -210,7 +211,7 @@ fn put_verdict(out: &mut [u8], verdict: Verdict) -> usize
 
 // Writes an answer at the buffer's start and tells its length; 64 bytes are enough.
 pub fn put_answer(out: &mut [u8], answer: LineAnswer) -> usize
-    requires { ⌜ 64 ≤ length (now out) ⌝ }
+    requires { ⌜ answerRoom ≤ length (now out) ⌝ }
     ensures { λ r. ⌜ Wrote (now (out .entry)) 0 (responseText (responseOf answer)) (now (out .exit)) r ⌝ }
 {
     match answer {

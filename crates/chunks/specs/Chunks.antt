@@ -14,6 +14,7 @@ use Prim.Native.Nat.{ℕ, zero, suc, _+_}
 use lib.Bits.{bitOr}
 use lib.Dec.{eqb, leb}
 use lib.ListN.{getD}
+use Rattle.limits.specs.Limits.{mostStates}
 use Rattle.masks.specs.Masks.{has, single, union}
 use Rattle.automaton.specs.Successor.{successor, after}
 
@@ -46,4 +47,4 @@ total f zero = 0
 total f (suc q) = total f q + f q
 
 abbrev pub chunkCount : List ℕ → ℕ → List ℕ → ℕ
-chunkCount ts run w = total (λ q. cond (has run q) (counted ts (single q) w) 0) 32
+chunkCount ts run w = total (λ q. cond (has run q) (counted ts (single q) w) 0) mostStates

@@ -5,6 +5,7 @@ use mathlib.Core.Bool.{false}
 use mathlib.Core.List.{List}
 use Prim.Native.Nat.{ℕ, _*_, _^_, _<_, _≤_}
 use lib.ListN.{length, getD}
+use Rattle.limits.specs.Limits.{mostStates}
 use Rattle.masks.specs.Masks.{_∈_, single}
 use Rattle.masks.specs.Lists.{listFrom}
 use Rattle.automaton.specs.declared.Rule.{Rule}
@@ -28,16 +29,16 @@ pub record Claims : Type 0 where
   pub run-most : (next : List ℕ) (i : ℕ) (w : List ℕ) → walkCount next i w ≤ length w
   -- over a text of the rule's symbols, run from states of the rule: each end set is the set after the text, and the count is document 01's
   pub ends : (r : Rule) → WellFormed r → fits r → (run : ℕ) → run < 2 ^ r .n → (w : List ℕ) → Text (r .k) w
-      → runsOf (builtOf r .sets) (builtOf r .next) (builtOf r .singles) run w .ends ≡ listFrom 0 32 (endSet (r .targets) run w)
+      → runsOf (builtOf r .sets) (builtOf r .next) (builtOf r .singles) run w .ends ≡ listFrom 0 mostStates (endSet (r .targets) run w)
   pub count : (r : Rule) → WellFormed r → fits r → (run : ℕ) → run < 2 ^ r .n → (w : List ℕ) → Text (r .k) w
       → runsOf (builtOf r .sets) (builtOf r .next) (builtOf r .singles) run w .count ≡ chunkCount (r .targets) run w
   -- a run counts at most one transition for each byte, so a chunk that is run from starts counts at most M times its bytes
   pub counted-most : (ts : List ℕ) (m : ℕ) (w : List ℕ) → counted ts m w ≤ length w
-  pub chunk-most : (ts d : List ℕ) (n run : ℕ) → n ≤ 32 → ((q : ℕ) → q ∈ run → q ∈ startSet d n) → (w : List ℕ)
+  pub chunk-most : (ts d : List ℕ) (n run : ℕ) → n ≤ mostStates → ((q : ℕ) → q ∈ run → q ∈ startSet d n) → (w : List ℕ)
       → chunkCount ts run w ≤ startCount d n * length w
   -- the members of the starts and of a place's starts, by document 01's words
   pub start-law : (d : List ℕ) (n q : ℕ) → q ∈ startSet d n ↔ (q < n) × (getD d q 0 ≡ q)
   pub delegate-law : (d : List ℕ) (n m p : ℕ) → p ∈ delegateSet d n m ↔ (q : ℕ) × (q < n) × (q ∈ m) × (p ≡ getD d q 0)
   -- where each delegate is a state, what the code takes them for is what they are
-  pub delegate-mask : (d : List ℕ) (n m : ℕ) → n ≤ 32 → ((q : ℕ) → q < n → getD d q 0 < 32) → delegateMask d n m ≡ delegateSet d n m
-  pub run-mask : (d : List ℕ) (n m : ℕ) → n ≤ 32 → ((q : ℕ) → q < n → getD d q 0 < 32) → (place : ℕ) → runMask d n m place ≡ runSet d n m place
+  pub delegate-mask : (d : List ℕ) (n m : ℕ) → n ≤ mostStates → ((q : ℕ) → q < n → getD d q 0 < mostStates) → delegateMask d n m ≡ delegateSet d n m
+  pub run-mask : (d : List ℕ) (n m : ℕ) → n ≤ mostStates → ((q : ℕ) → q < n → getD d q 0 < mostStates) → (place : ℕ) → runMask d n m place ≡ runSet d n m place

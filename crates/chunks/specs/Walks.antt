@@ -11,6 +11,7 @@ use mathlib.Core.List.{List, [], _∷_}
 use Prim.Native.Nat.{ℕ, zero, suc, _+_, _%_, min}
 use lib.Dec.{ltb}
 use lib.ListN.{getD}
+use Rattle.limits.specs.Limits.{mostStates, mostSymbols, emptySet}
 use Rattle.masks.specs.Masks.{has, single, union}
 use Rattle.masks.specs.Lists.{listFrom}
 use Rattle.delegates.specs.Classes.{follow}
@@ -18,7 +19,7 @@ use Rattle.chunks.specs.declared.Runs.{Runs}
 use Rattle.chunks.specs.Chunks.{startSet, total}
 
 abbrev pub stepOf : List ℕ → ℕ → ℕ → ℕ
-stepOf next i b = follow next i (b % 16)
+stepOf next i b = follow next i (b % mostSymbols)
 
 unfoldable pub walkEnd : List ℕ → ℕ → List ℕ → ℕ
 walkEnd next i [] = i
@@ -26,20 +27,20 @@ walkEnd next i (b ∷ w) = walkEnd next (stepOf next i b) w
 
 unfoldable pub walkCount : List ℕ → ℕ → List ℕ → ℕ
 walkCount next i [] = 0
-walkCount next i (b ∷ w) = cond (ltb (stepOf next i b) 512) 1 0 + walkCount next (stepOf next i b) w
+walkCount next i (b ∷ w) = cond (ltb (stepOf next i b) emptySet) 1 0 + walkCount next (stepOf next i b) w
 
 abbrev pub maskOf : List ℕ → ℕ → ℕ
-maskOf sets i = cond (ltb i 512) (getD sets i 0) 0
+maskOf sets i = cond (ltb i emptySet) (getD sets i 0) 0
 
 abbrev pub runsOf : List ℕ → List ℕ → List ℕ → ℕ → List ℕ → Runs
 runsOf sets next singles run w = record {
-  ends = listFrom 0 32 (λ q. cond (has run q) (maskOf sets (walkEnd next (getD singles q 0) w)) 0);
-  count = total (λ q. cond (has run q) (walkCount next (getD singles q 0) w) 0) 32;
+  ends = listFrom 0 mostStates (λ q. cond (has run q) (maskOf sets (walkEnd next (getD singles q 0) w)) 0);
+  count = total (λ q. cond (has run q) (walkCount next (getD singles q 0) w) 0) mostStates;
 }
 
 abbrev pub delegateMask : List ℕ → ℕ → ℕ → ℕ
-delegateMask d n m = union (λ q. single (getD d q 0 % 32)) m (min n 32)
+delegateMask d n m = union (λ q. single (getD d q 0 % mostStates)) m (min n mostStates)
 
 abbrev pub runMask : List ℕ → ℕ → ℕ → ℕ → ℕ
 runMask d n m zero = delegateMask d n m
-runMask d n m (suc place) = startSet d (min n 32)
+runMask d n m (suc place) = startSet d (min n mostStates)

@@ -2,6 +2,7 @@
 ghost use mathlib.Core.Path.{_≡_};
 ghost use Prim.Native.Nat.{_≤_, min};
 ghost use lib.ListN.{length};
+ghost use Rattle.limits.specs.Limits.{mostStates, longestChunk};
 ghost use Rattle.chunks.specs.Chunks.{foreign, startSet};
 ghost use Rattle.chunks.specs.Walks.{walkEnd, walkCount, maskOf, runsOf, delegateMask, runMask};
 use masks::StateNumber;
@@ -15,7 +16,7 @@ pub struct Run {
 
 // The end set of each state, empty where it was not run, and the sum of what the runs count.
 pub struct Runs {
-    pub ends: [u32; 32],
+    pub ends: [u32; limits::STATES],
     pub count: u32,
 }
 
@@ -36,8 +37,8 @@ pub fn has_foreign(chunk: &[u8], k: u8) -> bool
 
 // Where the chunk leads from the set, and how many of its steps lead to a set that is not empty: all of them, or those before the first that
 // does not.
-pub fn walk(next: &[u16; 8192], from: SetNumber, chunk: &[u8]) -> Run
-    requires { ⌜ length (now chunk) ≤ 65536 ⌝ }
+pub fn walk(next: &[u16; limits::CELLS], from: SetNumber, chunk: &[u8]) -> Run
+    requires { ⌜ length (now chunk) ≤ longestChunk ⌝ }
     ensures { λ r. ⌜ r .end .0 ≡ walkEnd (now (next .entry)) (from .0) (now (chunk .entry)) ⌝ }
     ensures { λ r. ⌜ r .count ≡ walkCount (now (next .entry)) (from .0) (now (chunk .entry)) ⌝ }
 {
@@ -48,20 +49,20 @@ pub fn walk(next: &[u16; 8192], from: SetNumber, chunk: &[u8]) -> Run
         };
     }
     let mut set = from.0;
-    if 512 <= set {
+    if limits::EMPTY <= set {
         return Run {
-            end: SetNumber(512),
+            end: SetNumber(limits::EMPTY),
             count: 0,
         };
     }
     let mut i: usize = 0;
     while i < chunk.len() {
         let row = set as usize;
-        let symbol = (chunk[i] % 16) as usize;
-        let to = next[row * 16 + symbol];
-        if 512 <= to {
+        let symbol = (chunk[i] % limits::MOST_SYMBOLS) as usize;
+        let to = next[row * limits::SYMBOLS + symbol];
+        if limits::EMPTY <= to {
             return Run {
-                end: SetNumber(512),
+                end: SetNumber(limits::EMPTY),
                 count: i as u32,
             };
         }
@@ -75,10 +76,10 @@ pub fn walk(next: &[u16; 8192], from: SetNumber, chunk: &[u8]) -> Run
 }
 
 // The starts, as a set: the states that are their own delegate.
-pub fn start_mask(delegates: [u8; 32], n: u8) -> u32
-    ensures { λ r. ⌜ r ≡ startSet delegates (min n 32) ⌝ }
+pub fn start_mask(delegates: [u8; limits::STATES], n: u8) -> u32
+    ensures { λ r. ⌜ r ≡ startSet delegates (min n mostStates) ⌝ }
 {
-    let most = masks::at_most(n, 32);
+    let most = masks::at_most(n, limits::MOST_STATES);
     let mut starts: u32 = 0;
     let mut q: u8 = 0;
     while q < most {
@@ -92,16 +93,19 @@ pub fn start_mask(delegates: [u8; 32], n: u8) -> u32
 }
 
 // The delegates of the set's members.
-pub fn delegate_mask(delegates: [u8; 32], n: u8, set: u32) -> u32
+pub fn delegate_mask(delegates: [u8; limits::STATES], n: u8, set: u32) -> u32
     ensures { λ r. ⌜ r ≡ delegateMask delegates n set ⌝ }
 {
-    let most = masks::at_most(n, 32);
+    let most = masks::at_most(n, limits::MOST_STATES);
     let mut out: u32 = 0;
     let mut q: u8 = 0;
     while q < most {
         if masks::member(set, StateNumber(q)) {
             let i = q as usize;
-            out = masks::union(out, masks::singleton(StateNumber(delegates[i] % 32)));
+            out = masks::union(
+                out,
+                masks::singleton(StateNumber(delegates[i] % limits::MOST_STATES)),
+            );
         }
         q += 1;
     }
@@ -109,7 +113,7 @@ pub fn delegate_mask(delegates: [u8; 32], n: u8, set: u32) -> u32
 }
 
 // The states that a chunk at the place is run from: the delegates of initial states at place 0, all starts at any other.
-pub fn run_mask(delegates: [u8; 32], n: u8, initials: u32, place: usize) -> u32
+pub fn run_mask(delegates: [u8; limits::STATES], n: u8, initials: u32, place: usize) -> u32
     ensures { λ r. ⌜ r ≡ runMask delegates n initials place ⌝ }
 {
     if place == 0 {
@@ -120,28 +124,28 @@ pub fn run_mask(delegates: [u8; 32], n: u8, initials: u32, place: usize) -> u32
 }
 
 // The mask of the set, which is empty from 512 on.
-fn mask_of(sets: &[u32; 512], set: SetNumber) -> u32
+fn mask_of(sets: &[u32; limits::SETS], set: SetNumber) -> u32
     ensures { λ r. ⌜ r ≡ maskOf (now (sets .entry)) (set .0) ⌝ }
 {
     let i = set.0 as usize;
-    if i < 512 { sets[i] } else { 0 }
+    if i < limits::SETS { sets[i] } else { 0 }
 }
 
 // The chunk run from each state of the mask.
 pub fn run_chunk(
-    sets: &[u32; 512],
-    next: &[u16; 8192],
-    singles: &[u16; 32],
+    sets: &[u32; limits::SETS],
+    next: &[u16; limits::CELLS],
+    singles: &[u16; limits::STATES],
     mask: u32,
     chunk: &[u8],
 ) -> Runs
-    requires { ⌜ length (now chunk) ≤ 65536 ⌝ }
+    requires { ⌜ length (now chunk) ≤ longestChunk ⌝ }
     ensures { λ r. ⌜ r ≡ runsOf (now (sets .entry)) (now (next .entry)) (now (singles .entry)) mask (now (chunk .entry)) ⌝ }
 {
-    let mut ends = [0u32; 32];
+    let mut ends = [0u32; limits::STATES];
     let mut count: u32 = 0;
     let mut q: usize = 0;
-    while q < 32 {
+    while q < limits::STATES {
         if masks::member(mask, StateNumber(q as u8)) {
             let run = walk(next, SetNumber(singles[q]), chunk);
             ends[q] = mask_of(sets, run.end);

@@ -13,6 +13,7 @@ use mathlib.Core.List.{List, [], _∷_}
 use Prim.Native.Nat.{ℕ, zero, suc, _+_, _≤_, _<_}
 use lib.Dec.{eqb}
 use lib.ListN.{length, getD}
+use Rattle.limits.specs.Limits.{mostStates}
 use Rattle.automaton.specs.Automaton.{Automaton, Run}
 
 pub record AcceptsFrom (a : Automaton) (q : ℕ) (w : List ℕ) : Type 0 where
@@ -37,7 +38,7 @@ startCount d zero = 0
 startCount d (suc q) = startCount d q + cond (eqb (getD d q 0) q) 1 0
 
 pub record Merged (a : Automaton) (d : List ℕ) (m : ℕ) : Type 0 where
-  pub cells : length d ≡ 32
+  pub cells : length d ≡ mostStates
   pub delegates : (q : ℕ) → q < a .n → Delegate a q (getD d q 0)
   pub zeros : (q : ℕ) → a .n ≤ q → getD d q 0 ≡ 0
   pub starts : m ≡ startCount d (a .n)

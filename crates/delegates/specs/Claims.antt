@@ -5,6 +5,7 @@ use mathlib.Core.Bool.{true}
 use mathlib.Core.List.{List}
 use Prim.Native.Nat.{ℕ, _≤_, _<_}
 use lib.ListN.{length, getD}
+use Rattle.limits.specs.Limits.{emptySet, mostClasses}
 use Rattle.masks.specs.Masks.{single}
 use Rattle.automaton.specs.declared.Rule.{Rule}
 use Rattle.automaton.specs.Automaton.{Automaton}
@@ -28,8 +29,8 @@ pub record Claims : Type 1 where
   -- of a well-formed rule with at most 512 sets, they are the delegates and the number of starts of the automaton
   pub merged : (r : Rule) → WellFormed r → fits r → Merged (automatonOf r) (startsIn r .delegates) (startsIn r .count)
   -- a text that tells two sets apart has 512 symbols or fewer, or there is one that has
-  pub alike-at : (sets next : List ℕ) (finals k s t : ℕ) → s ≤ 512 → t ≤ 512
-      → (alikeTo sets next finals k 513 s t ≡ true) ↔ AlikeSets sets next finals k s t
+  pub alike-at : (sets next : List ℕ) (finals k s t : ℕ) → s ≤ emptySet → t ≤ emptySet
+      → (alikeTo sets next finals k mostClasses s t ≡ true) ↔ AlikeSets sets next finals k s t
   -- each state's singleton has a number, which names it
   pub singles : (r : Rule) → WellFormed r → fits r → (q : ℕ) → q < r .n
       → (singletonNumber (setCells (r .targets) (r .n) (r .k)) (length (setsOf (r .targets) (r .n) (r .k))) q < length (setsOf (r .targets) (r .n) (r .k)))

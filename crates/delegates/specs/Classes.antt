@@ -24,16 +24,17 @@ use mathlib.Core.List.{List, [], _∷_}
 use Prim.Native.Nat.{ℕ, zero, suc, _+_, _*_, min}
 use lib.Dec.{ltb}
 use lib.ListN.{getD}
+use Rattle.limits.specs.Limits.{mostStates, mostSymbols, emptySet, mostClasses}
 use Rattle.masks.specs.Lists.{listFrom}
 use Rattle.masks.specs.Masks.{shares}
 use Rattle.delegates.specs.declared.Starts.{Starts}
 use Rattle.delegates.specs.Alike.{Text, startCount}
 
 unfoldable pub final : List ℕ → ℕ → ℕ → Bool
-final sets finals s = cond (ltb s 512) (shares (getD sets s 0) finals) false
+final sets finals s = cond (ltb s emptySet) (shares (getD sets s 0) finals) false
 
 unfoldable pub follow : List ℕ → ℕ → ℕ → ℕ
-follow next s a = cond (ltb s 512) (min (getD next (s * 16 + a) 0) 512) 512
+follow next s a = cond (ltb s emptySet) (min (getD next (s * mostSymbols + a) 0) emptySet) emptySet
 
 unfoldable pub every : ℕ → (ℕ → Bool) → Bool
 every zero t = true
@@ -44,7 +45,7 @@ firstFrom t lo zero = lo
 firstFrom t lo (suc f) = cond (t lo) lo (firstFrom t (suc lo) f)
 
 abbrev pub singleAt : List ℕ → ℕ → ℕ
-singleAt singles q = min (getD singles q 0) 512
+singleAt singles q = min (getD singles q 0) emptySet
 
 module _ (sets next : List ℕ) (finals : ℕ) where
   unfoldable pub accepted : ℕ → List ℕ → Bool
@@ -60,9 +61,9 @@ module _ (sets next : List ℕ) (finals : ℕ) where
       Bool·beq (final sets finals s) (final sets finals t) && every k (λ a. alikeTo k f (follow next s a) (follow next t a))
 
   unfoldable pub delegateOf : List ℕ → ℕ → ℕ → ℕ
-  delegateOf singles k q = firstFrom (λ p. alikeTo k 513 (singleAt singles p) (singleAt singles q)) 0 q
+  delegateOf singles k q = firstFrom (λ p. alikeTo k mostClasses (singleAt singles p) (singleAt singles q)) 0 q
 
   unfoldable pub startsOf : List ℕ → ℕ → ℕ → Starts
   startsOf singles n k =
-      let d = listFrom 0 32 (λ q. cond (ltb q (min n 32)) (delegateOf singles (min k 16) q) 0) in
-      record { delegates = d; count = startCount d (min n 32) }
+      let d = listFrom 0 mostStates (λ q. cond (ltb q (min n mostStates)) (delegateOf singles (min k mostSymbols) q) 0) in
+      record { delegates = d; count = startCount d (min n mostStates) }

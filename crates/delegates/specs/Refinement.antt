@@ -17,6 +17,7 @@ use mathlib.Core.List.{List}
 use Prim.Native.Nat.{ℕ, _-_}
 use lib.Dec.{eqb}
 use lib.ListN.{getD}
+use Rattle.limits.specs.Limits.{mostClasses}
 use Rattle.masks.specs.Lists.{listFrom}
 use Rattle.delegates.specs.Classes.{final, follow, every, firstFrom, alikeTo}
 
@@ -37,10 +38,10 @@ module _ (sets next : List ℕ) (finals k : ℕ) where
   leastOf c s = firstFrom (λ t. sameIn c t s) (classOf c s) (s - classOf c s)
 
   abbrev pub roundOf : List ℕ → List ℕ
-  roundOf c = listFrom 0 513 (leastOf c)
+  roundOf c = listFrom 0 mostClasses (leastOf c)
 
   abbrev pub changes : List ℕ → Bool
-  changes c = not (every 513 (λ s. eqb (classOf c s) (leastOf c s)))
+  changes c = not (every mostClasses (λ s. eqb (classOf c s) (leastOf c s)))
 
   abbrev pub classesOf : List ℕ
-  classesOf = listFrom 0 513 (λ s. firstFrom (λ t. alikeTo sets next finals k 513 t s) 0 s)
+  classesOf = listFrom 0 mostClasses (λ s. firstFrom (λ t. alikeTo sets next finals k mostClasses t s) 0 s)

@@ -3,6 +3,7 @@
 ghost use mathlib.Core.Path.{_≡_};
 ghost use Prim.Native.Nat.{_≤_, _<_};
 ghost use lib.ListN.{length};
+ghost use Rattle.limits.specs.Limits.{mostStates, mostSymbols, emptySet, mostClasses};
 ghost use Rattle.delegates.specs.Classes.{final, follow as followOf, singleAt, startsOf};
 ghost use Rattle.delegates.specs.Refinement.{sameIn, leastOf, roundOf, changes, classesOf, firstInClass};
 use masks::StateNumber;
@@ -10,24 +11,24 @@ use subsets::SetNumber;
 
 // The delegate of each state, zeros after them, and how many states are their own delegate.
 pub struct Starts {
-    pub delegates: [u8; 32],
+    pub delegates: [u8; limits::STATES],
     pub count: u8,
 }
 
 // An array has its length: this only says so, and is compiled to nothing.
-fn cells(class: &[u16; 513]) -> usize
-    ensures { λ r. ⌜ length (now (class .entry)) ≡ 513 ⌝ }
+fn cells(class: &[u16; limits::CLASSES]) -> usize
+    ensures { λ r. ⌜ length (now (class .entry)) ≡ mostClasses ⌝ }
 {
     let s: &[u16] = class;
     s.len()
 }
 
 // Whether the set holds a final state.
-fn is_final(sets: &[u32; 512], finals: u32, set: SetNumber) -> bool
+fn is_final(sets: &[u32; limits::SETS], finals: u32, set: SetNumber) -> bool
     ensures { λ r. ⌜ r ≡ final (now (sets .entry)) finals (set .0) ⌝ }
 {
     let s = set.0 as usize;
-    if s < 512 {
+    if s < limits::SETS {
         masks::meets(sets[s], finals)
     } else {
         false
@@ -35,33 +36,33 @@ fn is_final(sets: &[u32; 512], finals: u32, set: SetNumber) -> bool
 }
 
 // The set to which the symbol leads from the set.
-fn follow(next: &[u16; 8192], set: SetNumber, symbol: usize) -> SetNumber
-    requires { ⌜ symbol < 16 ⌝ }
+fn follow(next: &[u16; limits::CELLS], set: SetNumber, symbol: usize) -> SetNumber
+    requires { ⌜ symbol < mostSymbols ⌝ }
     ensures { λ r. ⌜ r .0 ≡ followOf (now (next .entry)) (set .0) symbol ⌝ }
 {
     let s = set.0 as usize;
-    if 512 <= s {
-        return SetNumber(512);
+    if limits::SETS <= s {
+        return SetNumber(limits::EMPTY);
     }
-    let to = next[s * 16 + symbol];
-    if to < 512 {
+    let to = next[s * limits::SYMBOLS + symbol];
+    if to < limits::EMPTY {
         SetNumber(to)
     } else {
-        SetNumber(512)
+        SetNumber(limits::EMPTY)
     }
 }
 
 // Whether the sets t and s are in one class, both final or neither, and their successors by each symbol in one class.
 fn same(
-    sets: &[u32; 512],
-    next: &[u16; 8192],
+    sets: &[u32; limits::SETS],
+    next: &[u16; limits::CELLS],
     finals: u32,
     k: usize,
-    class: &[u16; 513],
+    class: &[u16; limits::CLASSES],
     t: SetNumber,
     s: SetNumber,
 ) -> bool
-    requires { ⌜ (k ≤ 16) × (t .0 ≤ 512) × (s .0 ≤ 512) ⌝ }
+    requires { ⌜ (k ≤ mostSymbols) × (t .0 ≤ emptySet) × (s .0 ≤ emptySet) ⌝ }
     ensures { λ r. ⌜ r ≡ sameIn (now (sets .entry)) (now (next .entry)) finals k (now (class .entry)) (t .0) (s .0) ⌝ }
 {
     let i = t.0 as usize;
@@ -91,14 +92,14 @@ fn same(
 // The class of set s in the next round. No set below its class in this one is in it, so the search starts there: over all rounds a set
 // passes each lower one once.
 fn least(
-    sets: &[u32; 512],
-    next: &[u16; 8192],
+    sets: &[u32; limits::SETS],
+    next: &[u16; limits::CELLS],
     finals: u32,
     k: usize,
-    class: &[u16; 513],
+    class: &[u16; limits::CLASSES],
     s: SetNumber,
 ) -> SetNumber
-    requires { ⌜ (k ≤ 16) × (s .0 ≤ 512) ⌝ }
+    requires { ⌜ (k ≤ mostSymbols) × (s .0 ≤ emptySet) ⌝ }
     ensures { λ r. ⌜ r .0 ≡ leastOf (now (sets .entry)) (now (next .entry)) finals k (now (class .entry)) (s .0) ⌝ }
 {
     let i = s.0 as usize;
@@ -114,21 +115,21 @@ fn least(
 
 // One round of refinement: whether the class of some set changed.
 fn round(
-    sets: &[u32; 512],
-    next: &[u16; 8192],
+    sets: &[u32; limits::SETS],
+    next: &[u16; limits::CELLS],
     finals: u32,
     k: usize,
-    class: &[u16; 513],
-    new: &mut [u16; 513],
+    class: &[u16; limits::CLASSES],
+    new: &mut [u16; limits::CLASSES],
 ) -> bool
-    requires { ⌜ k ≤ 16 ⌝ }
+    requires { ⌜ k ≤ mostSymbols ⌝ }
     ensures { λ r. ⌜ (now (new .exit) ≡ roundOf (now (sets .entry)) (now (next .entry)) finals k (now (class .entry)))
         × (r ≡ changes (now (sets .entry)) (now (next .entry)) finals k (now (class .entry))) ⌝ }
 {
     cells(new);
     let mut changed = false;
     let mut s: u16 = 0;
-    while s < 513 {
+    while s <= limits::EMPTY {
         let i = s as usize;
         let to = least(sets, next, finals, k, class, SetNumber(s));
         let from = class[i];
@@ -142,12 +143,17 @@ fn round(
 }
 
 // The class of each set, and at 512 that of the empty set: rounds until nothing changes, from one class of all sets.
-fn refine(sets: &[u32; 512], next: &[u16; 8192], finals: u32, k: usize) -> [u16; 513]
-    requires { ⌜ k ≤ 16 ⌝ }
+fn refine(
+    sets: &[u32; limits::SETS],
+    next: &[u16; limits::CELLS],
+    finals: u32,
+    k: usize,
+) -> [u16; limits::CLASSES]
+    requires { ⌜ k ≤ mostSymbols ⌝ }
     ensures { λ r. ⌜ r ≡ classesOf (now (sets .entry)) (now (next .entry)) finals k ⌝ }
 {
-    let mut class: [u16; 513] = [0; 513];
-    let mut new: [u16; 513] = [0; 513];
+    let mut class: [u16; limits::CLASSES] = [0; limits::CLASSES];
+    let mut new: [u16; limits::CLASSES] = [0; limits::CLASSES];
     loop {
         let changed = round(sets, next, finals, k, &class, &mut new);
         if changed {
@@ -159,22 +165,22 @@ fn refine(sets: &[u32; 512], next: &[u16; 8192], finals: u32, k: usize) -> [u16;
 }
 
 // The number of {q}, or 512 where it stands for the empty set.
-fn single(singles: &[u16; 32], q: StateNumber) -> SetNumber
-    requires { ⌜ q .0 < 32 ⌝ }
+fn single(singles: &[u16; limits::STATES], q: StateNumber) -> SetNumber
+    requires { ⌜ q .0 < mostStates ⌝ }
     ensures { λ r. ⌜ r .0 ≡ singleAt (now (singles .entry)) (q .0) ⌝ }
 {
     let i = q.0 as usize;
     let set = singles[i];
-    if set < 512 {
+    if set < limits::EMPTY {
         SetNumber(set)
     } else {
-        SetNumber(512)
+        SetNumber(limits::EMPTY)
     }
 }
 
 // The lowest state in the class of q; own has the class of each state up to q.
-fn delegate(own: &[u16; 32], q: StateNumber) -> StateNumber
-    requires { ⌜ q .0 < 32 ⌝ }
+fn delegate(own: &[u16; limits::STATES], q: StateNumber) -> StateNumber
+    requires { ⌜ q .0 < mostStates ⌝ }
     ensures { λ r. ⌜ r .0 ≡ firstInClass (now (own .entry)) (q .0) ⌝ }
 {
     let j = q.0 as usize;
@@ -193,20 +199,20 @@ fn delegate(own: &[u16; 32], q: StateNumber) -> StateNumber
 // The delegates of n states, by the classes of their sets over k symbols; singles has the number of
 // {q} for each state q, and one at or above 512 counts as the empty set.
 pub fn merge_starts(
-    sets: &[u32; 512],
-    next: &[u16; 8192],
-    singles: &[u16; 32],
+    sets: &[u32; limits::SETS],
+    next: &[u16; limits::CELLS],
+    singles: &[u16; limits::STATES],
     finals: u32,
     n: u8,
     k: u8,
 ) -> Starts
     ensures { λ r. ⌜ r ≡ startsOf (now (sets .entry)) (now (next .entry)) finals (now (singles .entry)) n k ⌝ }
 {
-    let states = masks::at_most(n, 32) as usize;
-    let symbols = masks::at_most(k, 16) as usize;
+    let states = masks::at_most(n, limits::MOST_STATES) as usize;
+    let symbols = masks::at_most(k, limits::MOST_SYMBOLS) as usize;
     let class = refine(sets, next, finals, symbols);
-    let mut own: [u16; 32] = [0; 32];
-    let mut delegates: [u8; 32] = [0; 32];
+    let mut own: [u16; limits::STATES] = [0; limits::STATES];
+    let mut delegates: [u8; limits::STATES] = [0; limits::STATES];
     let mut starts: u8 = 0;
     let mut q: usize = 0;
     while q < states {

@@ -27,6 +27,7 @@ use mathlib.Core.List.{List, [], flatten}
 use mathlib.Core.Option.{none}
 use Prim.Native.Nat.{ℕ, _*_, _≤_, _<_}
 use lib.ListN.{length, getD}
+use Rattle.limits.specs.Limits.{mostStates, mostPlaces, lineRoom}
 use Rattle.masks.specs.Masks.{shares}
 use Rattle.executions.specs.Executions.{Execution}
 use Rattle.executions.proofs.Executions.{execution-law}
@@ -141,13 +142,13 @@ pub rejected-texts : (h : List Call) → boardIn h ≡ true → emptiesIn h ≡ 
 rejected-texts h = every-list h .verdict .rejects
 
 -- Each place with a standing chunk holds the end sets and the count that 01 gives, any other none:
-pub empties : (h : List Call) (p : ℕ) → p < 64 → isEmpty (judgeAfter h .board) p ≡ isNone (standing h p)
+pub empties : (h : List Call) (p : ℕ) → p < mostPlaces → isEmpty (judgeAfter h .board) p ≡ isNone (standing h p)
 empties h = every-list h .after .empty
 
-pub ends : (h : List Call) (p q : ℕ) → p < 64 → q < 32 → held (judgeAfter h .board) p q ≡ endAt h p q
+pub ends : (h : List Call) (p q : ℕ) → p < mostPlaces → q < mostStates → held (judgeAfter h .board) p q ≡ endAt h p q
 ends h = every-list h .after .ends
 
-pub counts : (h : List Call) (p : ℕ) → p < 64 → getD (judgeAfter h .board .counts) p 0 ≡ countAt h p
+pub counts : (h : List Call) (p : ℕ) → p < mostPlaces → getD (judgeAfter h .board .counts) p 0 ≡ countAt h p
 counts h = every-list h .after .counts
 
 -- the yes or no is 01's join of them;
@@ -171,7 +172,7 @@ table-P = histories-table.table-P
 -- ---- CALLS AS TEXT
 -- The answers to a text of calls are right line by line, however it is cut into blocks. (streamOf is
 -- what `feed` and `finish` of crates/stream promise, one part after the other.)
-pub texts : (blocks : List (List ℕ)) (line out : List ℕ) → 131104 ≤ length line
+pub texts : (blocks : List (List ℕ)) (line out : List ℕ) → lineRoom ≤ length line
     → streamOf (stateOf fresh lineBegin line out) blocks .text ≡ rightText [] (linesOf (flatten blocks))
 texts = stream.claims .answered
 

@@ -9,7 +9,8 @@
 use mathlib.Core.Bool.{cond}
 use mathlib.Core.List.{List, [], _++_}
 use mathlib.Core.Option.{Option, none, some}
-use Prim.Native.Nat.{ℕ, min}
+use Prim.Native.Nat.{ℕ, _+_, _*_, min}
+use Rattle.limits.specs.Limits.{mostStates, mostSymbols, targetCells}
 use Rattle.text.specs.Numerals.{decimal, joined}
 use Rattle.masks.specs.Masks.{has}
 use Rattle.automaton.specs.declared.Rule.{Rule}
@@ -73,7 +74,7 @@ graph r n k = headLines ++ (joined (stateLine (r .finals)) n ++ (joined (initial
 
 -- at most 32 states and 16 symbols are printed, which is all that a rule has
 abbrev pub dotText : Rule → List ℕ
-dotText r = graph r (min (r .n) 32) (min (r .k) 16)
+dotText r = graph r (min (r .n) mostStates) (min (r .k) mostSymbols)
 
 abbrev pub textBy : Option ℕ → Rule → List ℕ
 textBy none r = dotText r
@@ -84,4 +85,4 @@ textFor f = textBy (refusal f) (ruleOf f)
 
 -- 48 for the head, 26 and 33 for each of 32 states, 26 for each of 16,384 arcs, 2 for the last line
 abbrev pub mostBytes : ℕ
-mostBytes = 427922
+mostBytes = 48 + (26 + 33) * mostStates + 26 * (targetCells * mostStates) + 2

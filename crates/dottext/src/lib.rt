@@ -2,6 +2,7 @@
 ghost use mathlib.Core.Path.{_≡_};
 ghost use Prim.Native.Nat.{_+_, _*_, _≤_, _<_};
 ghost use lib.ListN.{length};
+ghost use Rattle.limits.specs.Limits.{mostStates, mostSymbols, targetCells};
 ghost use Rattle.text.specs.Numerals.{decimal, joined};
 ghost use Rattle.text.specs.Writing.{Wrote};
 ghost use Rattle.ruletext.specs.Printing.{Prints};
@@ -30,7 +31,7 @@ fn put_head(out: &mut [u8], at: usize) -> usize
 
 // The line of state q.
 fn put_state(out: &mut [u8], at: usize, finals: u32, q: StateNumber) -> usize
-    requires { ⌜ (q .0 < 32) × (at + 26 ≤ length (now out)) ⌝ }
+    requires { ⌜ (q .0 < mostStates) × (at + 26 ≤ length (now out)) ⌝ }
     ensures { λ r. ⌜ (Wrote (now (out .entry)) at (stateLine finals (q .0)) (now (out .exit)) r) × (r ≤ at + 26) ⌝ }
 {
     let a = put_number(out, at, q.0);
@@ -43,7 +44,7 @@ fn put_state(out: &mut [u8], at: usize, finals: u32, q: StateNumber) -> usize
 
 // The lines of the first n states.
 fn put_states(out: &mut [u8], start: usize, finals: u32, n: u8) -> usize
-    requires { ⌜ (n ≤ 32) × (start + 26 * n ≤ length (now out)) ⌝ }
+    requires { ⌜ (n ≤ mostStates) × (start + 26 * n ≤ length (now out)) ⌝ }
     ensures { λ r. ⌜ (Wrote (now (out .entry)) start (joined (stateLine finals) n) (now (out .exit)) r) × (r ≤ start + 26 * n) ⌝ }
 {
     let mut at = start;
@@ -85,7 +86,7 @@ fn put_entry(out: &mut [u8], at: usize, q: StateNumber) -> usize
 
 // The two lines of an initial state, nothing for another.
 fn put_initial(out: &mut [u8], at: usize, initials: u32, q: StateNumber) -> usize
-    requires { ⌜ (q .0 < 32) × (at + 33 ≤ length (now out)) ⌝ }
+    requires { ⌜ (q .0 < mostStates) × (at + 33 ≤ length (now out)) ⌝ }
     ensures { λ r. ⌜ (Wrote (now (out .entry)) at (initialLines initials (q .0)) (now (out .exit)) r) × (r ≤ at + 33) ⌝ }
 {
     if masks::member(initials, q) {
@@ -98,7 +99,7 @@ fn put_initial(out: &mut [u8], at: usize, initials: u32, q: StateNumber) -> usiz
 
 // The lines of the initial states below n.
 fn put_initials(out: &mut [u8], start: usize, initials: u32, n: u8) -> usize
-    requires { ⌜ (n ≤ 32) × (start + 33 * n ≤ length (now out)) ⌝ }
+    requires { ⌜ (n ≤ mostStates) × (start + 33 * n ≤ length (now out)) ⌝ }
     ensures { λ r. ⌜ (Wrote (now (out .entry)) start (joined (initialLines initials) n) (now (out .exit)) r) × (r ≤ start + 33 * n) ⌝ }
 {
     let mut at = start;
@@ -130,7 +131,7 @@ fn put_target(
     s: u8,
     t: StateNumber,
 ) -> usize
-    requires { ⌜ (t .0 < 32) × (at + 26 ≤ length (now out)) ⌝ }
+    requires { ⌜ (t .0 < mostStates) × (at + 26 ≤ length (now out)) ⌝ }
     ensures { λ r. ⌜ (Wrote (now (out .entry)) at (arcLines targets (q .0) s (t .0)) (now (out .exit)) r) × (r ≤ at + 26) ⌝ }
 {
     if masks::member(targets, t) {
@@ -142,8 +143,8 @@ fn put_target(
 
 // The lines of the arcs from q by s to states below n.
 fn put_targets(out: &mut [u8], start: usize, targets: u32, n: u8, q: StateNumber, s: u8) -> usize
-    requires { ⌜ (n ≤ 32) × (start + 832 ≤ length (now out)) ⌝ }
-    ensures { λ r. ⌜ (Wrote (now (out .entry)) start (joined (arcLines targets (q .0) s) n) (now (out .exit)) r) × (r ≤ start + 832) ⌝ }
+    requires { ⌜ (n ≤ mostStates) × (start + 26 * mostStates ≤ length (now out)) ⌝ }
+    ensures { λ r. ⌜ (Wrote (now (out .entry)) start (joined (arcLines targets (q .0) s) n) (now (out .exit)) r) × (r ≤ start + 26 * mostStates) ⌝ }
 {
     let mut at = start;
     let mut t: u8 = 0;
@@ -155,24 +156,24 @@ fn put_targets(out: &mut [u8], start: usize, targets: u32, n: u8, q: StateNumber
 }
 
 // The mask of state q and symbol s.
-fn cell(targets: &[u32; 512], q: StateNumber, s: u8) -> u32
-    requires { ⌜ (q .0 < 32) × (s < 16) ⌝ }
+fn cell(targets: &[u32; limits::TARGETS], q: StateNumber, s: u8) -> u32
+    requires { ⌜ (q .0 < mostStates) × (s < mostSymbols) ⌝ }
     ensures { λ r. ⌜ r ≡ targetMask (now (targets .entry)) (q .0) s ⌝ }
 {
-    targets[(q.0 as usize) * 16 + (s as usize)]
+    targets[(q.0 as usize) * limits::SYMBOLS + (s as usize)]
 }
 
 // The lines of the arcs from q by the first k symbols.
 fn put_symbols(
     out: &mut [u8],
     start: usize,
-    targets: &[u32; 512],
+    targets: &[u32; limits::TARGETS],
     n: u8,
     k: u8,
     q: StateNumber,
 ) -> usize
-    requires { ⌜ (n ≤ 32) × (k ≤ 16) × (q .0 < 32) × (start + 13312 ≤ length (now out)) ⌝ }
-    ensures { λ r. ⌜ (Wrote (now (out .entry)) start (arcsFrom (now (targets .entry)) n k (q .0)) (now (out .exit)) r) × (r ≤ start + 13312) ⌝ }
+    requires { ⌜ (n ≤ mostStates) × (k ≤ mostSymbols) × (q .0 < mostStates) × (start + 26 * targetCells ≤ length (now out)) ⌝ }
+    ensures { λ r. ⌜ (Wrote (now (out .entry)) start (arcsFrom (now (targets .entry)) n k (q .0)) (now (out .exit)) r) × (r ≤ start + 26 * targetCells) ⌝ }
 {
     let mut at = start;
     let mut s: u8 = 0;
@@ -184,9 +185,9 @@ fn put_symbols(
 }
 
 // The lines of all arcs.
-fn put_arcs(out: &mut [u8], start: usize, targets: &[u32; 512], n: u8, k: u8) -> usize
-    requires { ⌜ (n ≤ 32) × (k ≤ 16) × (start + 425984 ≤ length (now out)) ⌝ }
-    ensures { λ r. ⌜ (Wrote (now (out .entry)) start (arcsText (now (targets .entry)) n k) (now (out .exit)) r) × (r ≤ start + 425984) ⌝ }
+fn put_arcs(out: &mut [u8], start: usize, targets: &[u32; limits::TARGETS], n: u8, k: u8) -> usize
+    requires { ⌜ (n ≤ mostStates) × (k ≤ mostSymbols) × (start + 26 * (targetCells * mostStates) ≤ length (now out)) ⌝ }
+    ensures { λ r. ⌜ (Wrote (now (out .entry)) start (arcsText (now (targets .entry)) n k) (now (out .exit)) r) × (r ≤ start + 26 * (targetCells * mostStates)) ⌝ }
 {
     let mut at = start;
     let mut q: u8 = 0;
@@ -202,8 +203,8 @@ fn put_dot(out: &mut [u8], rule: Rule) -> usize
     requires { ⌜ mostBytes ≤ length (now out) ⌝ }
     ensures { λ r. ⌜ (Wrote (now (out .entry)) 0 (dotText rule) (now (out .exit)) r) × (r ≤ mostBytes) ⌝ }
 {
-    let n = masks::at_most(rule.n, 32);
-    let k = masks::at_most(rule.k, 16);
+    let n = masks::at_most(rule.n, limits::MOST_STATES);
+    let k = masks::at_most(rule.k, limits::MOST_SYMBOLS);
     let targets = rule.targets;
     let a = put_head(out, 0);
     let b = put_states(out, a, rule.finals, n);
@@ -215,7 +216,7 @@ fn put_dot(out: &mut [u8], rule: Rule) -> usize
 fn print_automaton(rule: Rule, out: &mut [u8]) -> Printed
     ensures { λ r. ⌜ Prints (dotText rule) (now (out .entry)) (now (out .exit)) r ⌝ }
 {
-    let mut text = [0u8; 450000];
+    let mut text = [0u8; limits::GRAPH_TEXT];
     let length = put_dot(&mut text, rule);
     ruletext::print_text(&text[..length], out)
 }

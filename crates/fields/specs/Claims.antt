@@ -6,6 +6,7 @@ use mathlib.Core.Path.{_≡_}
 use mathlib.Core.List.{List, [], _∷_, _++_}
 use mathlib.Core.Option.{some}
 use Prim.Native.Nat.{ℕ, _<_, _≤_}
+use Rattle.limits.specs.Limits.{largestNumber}
 use Rattle.text.specs.Numerals.{decimal, hex}
 use Rattle.fields.specs.Numbers.{numberIn}
 use Rattle.fields.specs.Bytes.{bytesIn}
@@ -23,5 +24,5 @@ fieldOf [] = 45 ∷ []
 fieldOf (x ∷ b) = digitsOf (x ∷ b)
 
 pub record Claims : Type 0 where
-  pub number-again : (n : ℕ) → n ≤ 18446744073709551615 → numberIn (decimal n) ≡ some n
+  pub number-again : (n : ℕ) → n ≤ largestNumber → numberIn (decimal n) ≡ some n
   pub bytes-again : (b : List ℕ) → AllBytes b → bytesIn (fieldOf b) ≡ some b

@@ -11,6 +11,7 @@ use mathlib.Core.Option.{Option, none, some}
 use Prim.Native.Nat.{ℕ, _+_, _*_, _-_}
 use lib.Dec.{leb}
 use lib.ListN.{length}
+use Rattle.limits.specs.Limits.{largestNumber, mostDigits}
 use Rattle.fields.specs.declared.Number.{Number}
 use Rattle.fields.specs.declared.Number.the-variants.{Value, Malformed}
 
@@ -27,7 +28,7 @@ abbrev pub valueOf : List ℕ → ℕ
 valueOf w = valueFrom 0 w
 
 abbrev pub isNumber : List ℕ → Bool
-isNumber w = leb 1 (length w) && (leb (length w) 20 && (allDigits w && leb (valueOf w) 18446744073709551615))
+isNumber w = leb 1 (length w) && (leb (length w) mostDigits && (allDigits w && leb (valueOf w) largestNumber))
 
 abbrev pub numberIn : List ℕ → Option ℕ
 numberIn w = cond (isNumber w) (some (valueOf w)) none

@@ -12,6 +12,9 @@ pub enum Number {
     Malformed,
 }
 
+// A larger value has no room for a digit more.
+const TENTH: u64 = limits::NUMBER / 10;
+
 // A field of 1 to 20 decimal digits with a value that 64 bits hold.
 pub fn read_number(field: &[u8]) -> Number
     ensures { λ r. ⌜ numberSaid r ≡ numberIn (now (field .entry)) ⌝ }
@@ -19,7 +22,7 @@ pub fn read_number(field: &[u8]) -> Number
     if field.len() == 0 {
         return Number::Malformed;
     }
-    if 20 < field.len() {
+    if limits::DIGITS < field.len() {
         return Number::Malformed;
     }
     let mut value: u64 = 0;
@@ -33,10 +36,10 @@ pub fn read_number(field: &[u8]) -> Number
             return Number::Malformed;
         }
         let digit = (c - 48) as u64;
-        if 1844674407370955161 < value {
+        if TENTH < value {
             return Number::Malformed;
         }
-        if 18446744073709551615 - 10 * value < digit {
+        if limits::NUMBER - 10 * value < digit {
             return Number::Malformed;
         }
         value = 10 * value + digit;

@@ -16,6 +16,7 @@ use mathlib.Core.List.{List}
 use mathlib.Core.Option.{Option, none, some}
 use Prim.Native.Nat.{ℕ, _*_, _≤_, _<_}
 use lib.ListN.{length, getD}
+use Rattle.limits.specs.Limits.{mostStates, mostPlaces}
 use Rattle.executions.specs.Executions.{Machine, stateAfter, repliesTo as machineReplies}
 use Rattle.automaton.specs.Automaton.{Automaton, Accepts}
 use Rattle.automaton.specs.Rules.{automatonOf, WellFormed}
@@ -56,9 +57,9 @@ automatonBy (some f) = automatonIn f
 pub record After (h : List Call) (j : Judge) : Type 0 where
   pub rule : BuiltBy (fileOf h) j
   pub places : j .board .places ≡ placesIn h
-  pub empty : (p : ℕ) → p < 64 → isEmpty (j .board) p ≡ isNone (standing h p)
-  pub ends : (p q : ℕ) → p < 64 → q < 32 → held (j .board) p q ≡ endAt h p q
-  pub counts : (p : ℕ) → p < 64 → getD (j .board .counts) p 0 ≡ countAt h p
+  pub empty : (p : ℕ) → p < mostPlaces → isEmpty (j .board) p ≡ isNone (standing h p)
+  pub ends : (p q : ℕ) → p < mostPlaces → q < mostStates → held (j .board) p q ≡ endAt h p q
+  pub counts : (p : ℕ) → p < mostPlaces → getD (j .board .counts) p 0 ≡ countAt h p
   -- a verdict asked now is the one that the list says; its yes or no is the join of the end sets held, its count the sum of the counts held
   pub asked : verdictOf j ≡ verdictIn h
   pub joined : boardIn h ≡ true → isYes j ≡ yesIn h

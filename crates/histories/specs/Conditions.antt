@@ -7,6 +7,7 @@ use mathlib.Core.List.{List}
 use mathlib.Core.Option.{none, some}
 use Prim.Native.Nat.{ℕ, _+_, _≤_, _<_}
 use lib.ListN.{length}
+use Rattle.limits.specs.Limits.{mostPlaces, longestChunk, mostCount}
 use Rattle.ruleformat.specs.Conditions.{NoneHolds, FirstHolds}
 use Rattle.ruleformat.specs.Refusals.{fileConditions}
 use Rattle.ruleformat.specs.Language.{automatonIn}
@@ -21,12 +22,12 @@ pub record Accepted-exactly (h : List Call) : Type 0 where
   pub loading : (f : List ℕ)
       → ((sets : ℕ) × (m : ℕ) × (answerOf h (loads f) ≡ loaded sets m)) ↔ (NoneHolds (fileConditions f) × (TooMany (automatonIn f) → ⊥))
   -- a rule is there, and 1 to 64 places are asked for
-  pub opening : (n : ℕ) → (answerOf h (opens n) ≡ accepted) ↔ ((fileOf h ≡ none → ⊥) × (1 ≤ n) × (n ≤ 64))
+  pub opening : (n : ℕ) → (answerOf h (opens n) ≡ accepted) ↔ ((fileOf h ≡ none → ⊥) × (1 ≤ n) × (n ≤ mostPlaces))
   -- a board is there with that place, the chunk is within the limit and the alphabet, the place is empty, and the sum of the counts fits
   pub delivery : (p : ℕ) (w : List ℕ)
       → (answerOf h (delivers p w) ≡ accepted)
-      ↔ ((0 < placesIn h) × (p < placesIn h) × (length w ≤ 65536) × (foreign w (ruleIn h .k) ≡ false) × (standing h p ≡ none)
-      × (summedIn h + countOf (ruleIn h) p (some w) ≤ 4294967295))
+      ↔ ((0 < placesIn h) × (p < placesIn h) × (length w ≤ longestChunk) × (foreign w (ruleIn h .k) ≡ false) × (standing h p ≡ none)
+      × (summedIn h + countOf (ruleIn h) p (some w) ≤ mostCount))
   -- a board is there with that place, and a chunk stands there
   pub withdrawal : (p : ℕ) → (answerOf h (withdraws p) ≡ accepted) ↔ ((0 < placesIn h) × (p < placesIn h) × (standing h p ≡ none → ⊥))
 
@@ -37,16 +38,16 @@ pub record Refused-exactly (h : List Call) : Type 0 where
   pub load-9 : (f : List ℕ) → (answerOf h (loads f) ≡ refused 9) ↔ (NoneHolds (fileConditions f) × TooMany (automatonIn f))
   -- no rule; with a rule, no number of places from 1 to 64
   pub open-20 : (n : ℕ) → (answerOf h (opens n) ≡ refused 20) ↔ (fileOf h ≡ none)
-  pub open-10 : (n : ℕ) → (answerOf h (opens n) ≡ refused 10) ↔ ((fileOf h ≡ none → ⊥) × ((n < 1) ⊎ (64 < n)))
+  pub open-10 : (n : ℕ) → (answerOf h (opens n) ≡ refused 10) ↔ ((fileOf h ≡ none → ⊥) × ((n < 1) ⊎ (mostPlaces < n)))
   -- no board; no such place; too long a chunk; a foreign byte; the place is filled
   pub deliver-21 : (p : ℕ) (w : List ℕ) → (answerOf h (delivers p w) ≡ refused 21) ↔ (placesIn h ≡ 0)
   pub deliver-11 : (p : ℕ) (w : List ℕ) → (answerOf h (delivers p w) ≡ refused 11) ↔ ((0 < placesIn h) × (placesIn h ≤ p))
-  pub deliver-12 : (p : ℕ) (w : List ℕ) → (answerOf h (delivers p w) ≡ refused 12) ↔ ((p < placesIn h) × (65536 < length w))
+  pub deliver-12 : (p : ℕ) (w : List ℕ) → (answerOf h (delivers p w) ≡ refused 12) ↔ ((p < placesIn h) × (longestChunk < length w))
   pub deliver-13 : (p : ℕ) (w : List ℕ)
-      → (answerOf h (delivers p w) ≡ refused 13) ↔ ((p < placesIn h) × (length w ≤ 65536) × (foreign w (ruleIn h .k) ≡ true))
+      → (answerOf h (delivers p w) ≡ refused 13) ↔ ((p < placesIn h) × (length w ≤ longestChunk) × (foreign w (ruleIn h .k) ≡ true))
   pub deliver-22 : (p : ℕ) (w : List ℕ)
       → (answerOf h (delivers p w) ≡ refused 22)
-      ↔ ((p < placesIn h) × (length w ≤ 65536) × (foreign w (ruleIn h .k) ≡ false) × (standing h p ≡ none → ⊥))
+      ↔ ((p < placesIn h) × (length w ≤ longestChunk) × (foreign w (ruleIn h .k) ≡ false) × (standing h p ≡ none → ⊥))
   -- no board; no such place; the place is empty
   pub withdraw-21 : (p : ℕ) → (answerOf h (withdraws p) ≡ refused 21) ↔ (placesIn h ≡ 0)
   pub withdraw-11 : (p : ℕ) → (answerOf h (withdraws p) ≡ refused 11) ↔ ((0 < placesIn h) × (placesIn h ≤ p))

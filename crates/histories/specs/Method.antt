@@ -12,6 +12,7 @@ use mathlib.Core.Logic.{_↔_, _⊎_}
 use mathlib.Core.List.{List}
 use Prim.Native.Nat.{ℕ, _+_, _*_, _<_, _≤_}
 use lib.ListN.{length, getD}
+use Rattle.limits.specs.Limits.{mostSymbols, mostSets, emptySet}
 use Rattle.masks.specs.Masks.{_∈_}
 use Rattle.automaton.specs.Automaton.{Automaton, Arc, Run}
 use Rattle.ruleformat.specs.Language.{automatonIn}
@@ -31,7 +32,7 @@ module _ (b : Built) where
   setAt i = getD (b .sets) i 0
 
   abbrev pub nextAt : ℕ → ℕ → ℕ
-  nextAt i s = getD (b .next) (i * 16 + s) 0
+  nextAt i s = getD (b .next) (i * mostSymbols + s) 0
 
   abbrev pub numberedIn : ℕ → Type 0
   numberedIn m = (i : ℕ) × (i < b .count) × (setAt i ≡ m)
@@ -53,8 +54,8 @@ pub record InOrder (a : Automaton) (b : Built) : Type 0 where
 -- more than 512 sets are reached
 abbrev pub TooMany : Automaton → Type 0
 TooMany a =
-    (l : List ℕ) × (length l ≡ 513) × Distinct l
-    × ((i : ℕ) → i < 513 → (getD l i 0 ≡ 0 → ⊥) × (q : ℕ) × (q < a .n) × (w : List ℕ) × Leads a q w (getD l i 0))
+    (l : List ℕ) × (length l ≡ mostSets + 1) × Distinct l
+    × ((i : ℕ) → i < mostSets + 1 → (getD l i 0 ≡ 0 → ⊥) × (q : ℕ) × (q < a .n) × (w : List ℕ) × Leads a q w (getD l i 0))
 
 pub record Method (f : List ℕ) (b : Built) : Type 0 where
   -- a set has a number exactly when it is not empty and some state and text lead to it, and then it has one number
@@ -64,6 +65,6 @@ pub record Method (f : List ℕ) (b : Built) : Type 0 where
   pub order : InOrder (automatonIn f) b
   -- a cell of the table is the number of the set to which the arcs by its symbol lead, or 512 where they lead nowhere
   pub table : (i s : ℕ) → i < b .count → s < automatonIn f .k
-      → ((nextAt b i s < b .count) × Moves (automatonIn f) (setAt b i) s (setAt b (nextAt b i s))) ⊎ ((nextAt b i s ≡ 512) × Moves (automatonIn f) (setAt b i) s 0)
+      → ((nextAt b i s < b .count) × Moves (automatonIn f) (setAt b i) s (setAt b (nextAt b i s))) ⊎ ((nextAt b i s ≡ emptySet) × Moves (automatonIn f) (setAt b i) s 0)
   -- its delegates are, for each state, the lowest alike one, with zeros after them, and its number of starts is M
   pub delegates : Merged (automatonIn f) (b .delegates) (b .starts)

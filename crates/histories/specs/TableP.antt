@@ -11,6 +11,7 @@ use mathlib.Core.Path.{_≡_}
 use mathlib.Core.List.{List, [], _∷_, _++_}
 use Prim.Native.Nat.{ℕ, zero, suc, _*_}
 use lib.ListN.{length, getD, replicate}
+use Rattle.limits.specs.Limits.{mostSymbols, emptySet}
 use Rattle.masks.specs.Lists.{listFrom}
 use Rattle.ruleformat.specs.Worked.{fileA, fileB, fileA-final-8}
 use Rattle.build.specs.declared.Built.{Built}
@@ -67,7 +68,7 @@ cellsOf array i count = listFrom i count (λ c. getD array c 0)
 -- the rows of the next-set table from set i on, each with the cells of the symbols 0 .. k − 1
 unfoldable pub rowsFrom : List ℕ → ℕ → ℕ → ℕ → List (List ℕ)
 rowsFrom next k i zero = []
-rowsFrom next k i (suc count) = cellsOf next (i * 16) k ∷ rowsFrom next k (suc i) count
+rowsFrom next k i (suc count) = cellsOf next (i * mostSymbols) k ∷ rowsFrom next k (suc i) count
 
 abbrev pub Shows : Result → Built → Type 0
 Shows (sets masks rows) b = (cellsOf (b .sets) 0 (b .count) ≡ masks) × (rowsFrom (b .next) (b .k) 0 (b .count) ≡ rows)
@@ -86,7 +87,7 @@ abbrev pub table : List Case
 table =
     -- P1 A: the five sets, with the rows that are printed for them
     case fileA (loaded 5 3)
-    (sets (1 ∷ 3 ∷ 5 ∷ 2 ∷ 4 ∷ []) ((1 ∷ 0 ∷ []) ∷ (1 ∷ 2 ∷ []) ∷ (1 ∷ 0 ∷ []) ∷ (512 ∷ 4 ∷ []) ∷ (512 ∷ 512 ∷ []) ∷ [])) ∷
+    (sets (1 ∷ 3 ∷ 5 ∷ 2 ∷ 4 ∷ []) ((1 ∷ 0 ∷ []) ∷ (1 ∷ 2 ∷ []) ∷ (1 ∷ 0 ∷ []) ∷ (emptySet ∷ 4 ∷ []) ∷ (emptySet ∷ emptySet ∷ []) ∷ [])) ∷
     -- P2 B: delegates 0 1 1
     case fileB (loaded 4 2) (delegates (0 ∷ 1 ∷ 1 ∷ [])) ∷
     -- P3 A, chunks 0 and 1: yes, 3

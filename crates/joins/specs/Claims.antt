@@ -11,6 +11,7 @@ use mathlib.Core.Bool.{true}
 use mathlib.Core.List.{List, [], _∷_, flatten}
 use Prim.Native.Nat.{ℕ, _*_, _≤_, _<_}
 use lib.ListN.{length, getD}
+use Rattle.limits.specs.Limits.{mostStates}
 use Rattle.automaton.specs.declared.Rule.{Rule}
 use Rattle.automaton.specs.Automaton.{Accepts}
 use Rattle.automaton.specs.Rules.{automatonOf, WellFormed}
@@ -40,7 +41,7 @@ pub record Claims : Type 0 where
       → (e : ℕ → ℕ → ℕ) (ws : List (List ℕ)) → Texts (r .k) ws → Holds r d e ws
       → (yesOf e (delegateIn d) (r .n) (r .initials) (r .finals) (length ws) ≡ true) ↔ Accepts (automatonOf r) (flatten ws)
   -- where there are at most 32 states and each has one of them as its delegate, the code's join is this join of what the array holds
-  pub join-law : (ends d : List ℕ) (n m p : ℕ) → n ≤ 32 → ((q : ℕ) → q < n → delegateIn d q < 32)
+  pub join-law : (ends d : List ℕ) (n m p : ℕ) → n ≤ mostStates → ((q : ℕ) → q < n → delegateIn d q < mostStates)
       → joinUpTo ends d n m p ≡ joinOf (heldIn ends) (delegateIn d) n m p
   -- it looks only at the end sets of delegates at the places that are joined
   pub join-same : (e f : ℕ → ℕ → ℕ) (d : ℕ → ℕ) (n m p : ℕ) → ((i q : ℕ) → i < p → q < n → e i (d q) ≡ f i (d q))

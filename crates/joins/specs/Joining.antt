@@ -11,6 +11,7 @@ use mathlib.Core.Bool.{Bool}
 use mathlib.Core.List.{List}
 use Prim.Native.Nat.{ℕ, zero, suc, _+_, _*_, _%_, min}
 use lib.ListN.{getD}
+use Rattle.limits.specs.Limits.{mostStates}
 use Rattle.masks.specs.Masks.{union, shares}
 
 unfoldable pub joinOf : (ℕ → ℕ → ℕ) → (ℕ → ℕ) → ℕ → ℕ → ℕ → ℕ
@@ -21,12 +22,12 @@ abbrev pub yesOf : (ℕ → ℕ → ℕ) → (ℕ → ℕ) → ℕ → ℕ → �
 yesOf e d n m f p = shares (joinOf e d n m p) f
 
 abbrev pub heldIn : List ℕ → ℕ → ℕ → ℕ
-heldIn ends p q = getD ends (p * 32 + q) 0
+heldIn ends p q = getD ends (p * mostStates + q) 0
 
 -- n above 32 counts as 32, and of a delegate the remainder by 32 is taken
 unfoldable pub joinUpTo : List ℕ → List ℕ → ℕ → ℕ → ℕ → ℕ
 joinUpTo ends d n m zero = m
-joinUpTo ends d n m (suc p) = union (λ q. getD ends (p * 32 + getD d q 0 % 32) 0) (joinUpTo ends d n m p) (min n 32)
+joinUpTo ends d n m (suc p) = union (λ q. getD ends (p * mostStates + getD d q 0 % mostStates) 0) (joinUpTo ends d n m p) (min n mostStates)
 
 abbrev pub saysYes : List ℕ → List ℕ → ℕ → ℕ → ℕ → ℕ → Bool
 saysYes ends d n m f p = shares (joinUpTo ends d n m p) f

@@ -2,6 +2,7 @@
 ghost use mathlib.Core.Path.{_≡_};
 ghost use Prim.Native.Nat.{_+_, _*_, _%_, _≤_, _<_};
 ghost use lib.ListN.{getD};
+ghost use Rattle.limits.specs.Limits.{mostStates, mostPlaces};
 ghost use Rattle.masks.specs.Masks.{union};
 ghost use Rattle.board.specs.Boards.{placesOf};
 ghost use Rattle.joins.specs.Joining.{joinUpTo, saysYes};
@@ -9,8 +10,8 @@ use board::Board;
 use masks::StateNumber;
 
 // The delegate of state q.
-fn delegate_of(delegates: &[u8; 32], q: StateNumber) -> StateNumber
-    requires { ⌜ q .0 < 32 ⌝ }
+fn delegate_of(delegates: &[u8; limits::STATES], q: StateNumber) -> StateNumber
+    requires { ⌜ q .0 < mostStates ⌝ }
     ensures { λ r. ⌜ r .0 ≡ getD (now (delegates .entry)) (q .0) 0 ⌝ }
 {
     let i = q.0 as usize;
@@ -18,18 +19,24 @@ fn delegate_of(delegates: &[u8; 32], q: StateNumber) -> StateNumber
 }
 
 // The end set of state q at a place.
-fn end_set(ends: &[u32; 2048], place: usize, q: StateNumber) -> u32
-    requires { ⌜ place < 64 ⌝ }
-    ensures { λ r. ⌜ r ≡ getD (now (ends .entry)) (place * 32 + q .0 % 32) 0 ⌝ }
+fn end_set(ends: &[u32; limits::ENDS], place: usize, q: StateNumber) -> u32
+    requires { ⌜ place < mostPlaces ⌝ }
+    ensures { λ r. ⌜ r ≡ getD (now (ends .entry)) (place * mostStates + q .0 % mostStates) 0 ⌝ }
 {
     let i = q.0 as usize;
-    ends[place * 32 + i % 32]
+    ends[place * limits::STATES + i % limits::STATES]
 }
 
 // The union of the end sets, at a place, of the delegates of the members of set; n is the number of states.
-fn join_place(ends: &[u32; 2048], delegates: &[u8; 32], n: usize, set: u32, place: usize) -> u32
-    requires { ⌜ (n ≤ 32) × (place < 64) ⌝ }
-    ensures { λ r. ⌜ r ≡ union (λ q. getD (now (ends .entry)) (place * 32 + getD (now (delegates .entry)) q 0 % 32) 0) set n ⌝ }
+fn join_place(
+    ends: &[u32; limits::ENDS],
+    delegates: &[u8; limits::STATES],
+    n: usize,
+    set: u32,
+    place: usize,
+) -> u32
+    requires { ⌜ (n ≤ mostStates) × (place < mostPlaces) ⌝ }
+    ensures { λ r. ⌜ r ≡ union (λ q. getD (now (ends .entry)) (place * mostStates + getD (now (delegates .entry)) q 0 % mostStates) 0) set n ⌝ }
 {
     let mut joined: u32 = 0;
     let mut q: usize = 0;
@@ -45,11 +52,17 @@ fn join_place(ends: &[u32; 2048], delegates: &[u8; 32], n: usize, set: u32, plac
 }
 
 // C after the first places.
-fn join_places(ends: &[u32; 2048], delegates: &[u8; 32], n: u8, initials: u32, places: usize) -> u32
-    requires { ⌜ places ≤ 64 ⌝ }
+fn join_places(
+    ends: &[u32; limits::ENDS],
+    delegates: &[u8; limits::STATES],
+    n: u8,
+    initials: u32,
+    places: usize,
+) -> u32
+    requires { ⌜ places ≤ mostPlaces ⌝ }
     ensures { λ r. ⌜ r ≡ joinUpTo (now (ends .entry)) (now (delegates .entry)) n initials places ⌝ }
 {
-    let states = masks::at_most(n, 32);
+    let states = masks::at_most(n, limits::MOST_STATES);
     let mut set = initials;
     let mut place: usize = 0;
     while place < places {
@@ -60,7 +73,7 @@ fn join_places(ends: &[u32; 2048], delegates: &[u8; 32], n: u8, initials: u32, p
 }
 
 // C after all places.
-pub fn join(board: Board, delegates: [u8; 32], n: u8, initials: u32) -> u32
+pub fn join(board: Board, delegates: [u8; limits::STATES], n: u8, initials: u32) -> u32
     ensures { λ r. ⌜ r ≡ joinUpTo (board .ends) delegates n initials (placesOf board) ⌝ }
 {
     let places = board::places_of(board);
@@ -68,7 +81,13 @@ pub fn join(board: Board, delegates: [u8; 32], n: u8, initials: u32) -> u32
 }
 
 // Whether C has a final state after all places.
-pub fn says_yes(board: Board, delegates: [u8; 32], n: u8, initials: u32, finals: u32) -> bool
+pub fn says_yes(
+    board: Board,
+    delegates: [u8; limits::STATES],
+    n: u8,
+    initials: u32,
+    finals: u32,
+) -> bool
     ensures { λ r. ⌜ r ≡ saysYes (board .ends) delegates n initials finals (placesOf board) ⌝ }
 {
     masks::meets(join(board, delegates, n, initials), finals)

@@ -3,6 +3,7 @@ ghost use mathlib.Core.Path.{_≡_};
 ghost use Prim.Native.Nat.{_+_, _≤_};
 ghost use lib.Dec.{ltb};
 ghost use lib.ListN.{length};
+ghost use Rattle.limits.specs.Limits.{longestChunk, mostCount};
 ghost use Rattle.chunks.specs.Walks.{runMask, runsOf};
 ghost use Rattle.calls.specs.Replies.{refused, verdictSays};
 ghost use Rattle.calls.specs.Steps.{fresh, withBoard, loadCame, openCame, deliverCame, withdrawCame, loadOf, openOf, deliverOf, withdrawOf, verdictOf};
@@ -69,7 +70,7 @@ fn refuse_withdrawal(judge: Judge, number: u8) -> Withdrawal
 
 // The runs of a chunk at a place.
 fn run_at(built: Built, place: usize, chunk: &[u8]) -> Runs
-    requires { ⌜ length (now chunk) ≤ 65536 ⌝ }
+    requires { ⌜ length (now chunk) ≤ longestChunk ⌝ }
     ensures { λ r. ⌜ r ≡ runsOf (built .sets) (built .next) (built .singles) (runMask (built .delegates) (built .n) (built .initials) place) (now (chunk .entry)) ⌝ }
 {
     let delegates = built.delegates;
@@ -82,12 +83,12 @@ fn run_at(built: Built, place: usize, chunk: &[u8]) -> Runs
 
 // The sum of the two is more than 32 bits hold. It is not formed, so nothing wraps.
 fn exceeds(summed: u64, count: u32) -> bool
-    ensures { λ r. ⌜ r ≡ ltb 4294967295 (summed + count) ⌝ }
+    ensures { λ r. ⌜ r ≡ ltb mostCount (summed + count) ⌝ }
 {
-    if 4294967295 < summed {
+    if limits::COUNT < summed {
         return true;
     }
-    4294967295 - summed < (count as u64)
+    limits::COUNT - summed < (count as u64)
 }
 
 // Checks and builds a rule. Accepted, it replaces the former rule and removes the board.
@@ -127,7 +128,7 @@ pub fn open(judge: Judge, places: usize) -> Opening
     if places < 1 {
         return refuse_opening(judge, 10);
     }
-    if 64 < places {
+    if limits::PLACES < places {
         return refuse_opening(judge, 10);
     }
     let answer = OpenAnswer::Accepted;
@@ -146,7 +147,7 @@ pub fn deliver(judge: Judge, place: usize, chunk: &[u8]) -> Delivery
     if board::places_of(board) <= place {
         return refuse_delivery(judge, 11);
     }
-    if 65536 < chunk.len() {
+    if limits::CHUNK < chunk.len() {
         return refuse_delivery(judge, 12);
     }
     let built = judge.built;

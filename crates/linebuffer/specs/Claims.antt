@@ -10,6 +10,7 @@ use mathlib.Core.List.{List, [], _++_}
 use Prim.Native.Nat.{ℕ, _%_, _≤_, min}
 use lib.Dec.{eqb}
 use lib.ListN.{length, take, drop}
+use Rattle.limits.specs.Limits.{lineRoom}
 use Rattle.fields.specs.Bytes.{allHex}
 use Rattle.calls.specs.declared.Judge.{Judge}
 use Rattle.calltext.specs.Meaning.{lineIn}
@@ -32,5 +33,5 @@ pub record Claims : Type 0 where
   -- the buffer keeps its length, also where it keeps no line
   pub same-size : (buffer : List ℕ) (h : Held) (piece : List ℕ) → length (bufferAfter buffer h piece) ≡ length buffer
   -- what is kept comes to what the whole line comes to, on every judge
-  pub runs : (buffer : List ℕ) (h : Held) (w : List ℕ) → 131104 ≤ length buffer → Keeps buffer h w
+  pub runs : (buffer : List ℕ) (h : Held) (w : List ℕ) → lineRoom ≤ length buffer → Keeps buffer h w
       → (j : Judge) → lineStep j (heldMeaning buffer h) ≡ lineStep j (lineIn w)

@@ -3,6 +3,7 @@ ghost use mathlib.Core.Path.{_≡_};
 ghost use mathlib.Core.Bool.{_&&_};
 ghost use Prim.Native.Nat.{_≤_, min};
 ghost use lib.ListN.{length};
+ghost use Rattle.limits.specs.Limits.{bytesRoom, lineRoom};
 ghost use Rattle.fields.specs.Bytes.{allHex};
 ghost use Rattle.callrun.specs.Running.{lineStep, outcomeOf, Scratch};
 ghost use Rattle.linebuffer.specs.Holding.{lineBegin, oddWith, heldAfter, bufferAfter, standing, heldMeaning};
@@ -85,7 +86,7 @@ fn stands(length: usize, odd: bool) -> usize
 // differ in their answers: `deliver `, 20 digits, a space and the digits of 65,537 bytes. One
 // byte more makes an odd rest even.
 pub fn run_held(judge: Judge, buffer: &[u8], held: Held, scratch: &mut [u8]) -> LineRun
-    requires { ⌜ (131104 ≤ length (now buffer)) × (65537 ≤ length (now scratch)) ⌝ }
+    requires { ⌜ (lineRoom ≤ length (now buffer)) × (bytesRoom ≤ length (now scratch)) ⌝ }
     ensures { λ r. ⌜ outcomeOf r ≡ lineStep judge (heldMeaning (now (buffer .entry)) held) ⌝ }
     ensures scratch { λ r. ⌜ Scratch (now (scratch .entry)) (now (scratch .exit)) ⌝ }
 {

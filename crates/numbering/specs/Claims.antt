@@ -11,8 +11,9 @@ use mathlib.Core.Path.{_≡_}
 use mathlib.Core.Logic.{_↔_, _⊎_}
 use mathlib.Core.Bool.{true, false}
 use mathlib.Core.List.{List}
-use Prim.Native.Nat.{ℕ, _≤_, _<_}
+use Prim.Native.Nat.{ℕ, _+_, _≤_, _<_}
 use lib.ListN.{length, getD}
+use Rattle.limits.specs.Limits.{mostSets, emptySet}
 use Rattle.numbering.specs.Numbering.{Walk, keysUpTo, nextOf}
 use Rattle.numbering.specs.Texts.{follow, Symbols, Sooner, NoLater}
 
@@ -56,7 +57,7 @@ module _ (a : Walk) (seed : ℕ → ℕ) (n : ℕ) where
   next i s = nextOf a keys i s
 
   abbrev pub fits : Type 0
-  fits = length keys ≤ 512
+  fits = length keys ≤ mostSets
 
 pub record Claims : Type 0 where
   -- each numbered key is reached from a seed over a text, and no key has two numbers
@@ -67,12 +68,12 @@ pub record Claims : Type 0 where
       → (i : ℕ) × (i < length (keys a seed n)) × (getD (keys a seed n) i 0 ≡ m)
   -- a cell is the number of the key that the step leads to, or 512 exactly where that is left out
   pub cell : (a : Walk) (seed : ℕ → ℕ) (n : ℕ) → fits a seed n → (i s : ℕ) → i < length (keys a seed n) → s < a .k
-      → (a .skips (target a seed n i s) ≡ true → next a seed n i s ≡ 512)
+      → (a .skips (target a seed n i s) ≡ true → next a seed n i s ≡ emptySet)
       × (a .skips (target a seed n i s) ≡ false
       → (next a seed n i s < length (keys a seed n)) × (getD (keys a seed n) (next a seed n i s) 0 ≡ target a seed n i s))
   -- there are more than 512 keys exactly when more than 512 distinct ones are reached
   pub over : (a : Walk) (seed : ℕ → ℕ) (n : ℕ) → Sinks a
-      → (512 < length (keys a seed n)) ↔ (l : List ℕ) × (length l ≡ 513) × Distinct l × ((i : ℕ) → i < 513 → Reach a seed n (getD l i 0))
+      → (mostSets < length (keys a seed n)) ↔ (l : List ℕ) × (length l ≡ mostSets + 1) × Distinct l × ((i : ℕ) → i < mostSets + 1 → Reach a seed n (getD l i 0))
   -- with at most 512 keys, these stand in the order of their first seeds, and then of their first
   -- texts from these
   pub in-order : (a : Walk) (seed : ℕ → ℕ) (n : ℕ) → Sinks a → fits a seed n → Ordered a seed n (keys a seed n)

@@ -14,6 +14,7 @@ use mathlib.Core.List.{List, [], _∷_, _++_}
 use Prim.Native.Nat.{ℕ, zero, suc}
 use lib.Dec.{eqb, ltb}
 use lib.ListN.{length, getD}
+use Rattle.limits.specs.Limits.{mostSets, emptySet}
 
 pub record Walk : Type 0 where
   pub step : ℕ → ℕ → ℕ
@@ -45,10 +46,10 @@ unfoldable pub keysUpTo : Walk → (ℕ → ℕ) → ℕ → List ℕ
 keysUpTo a seed zero = []
 keysUpTo a seed (suc q) =
     let before = keysUpTo a seed q in
-    closeFrom a 512 (length before) (numbered (a .skips) before (seed q))
+    closeFrom a mostSets (length before) (numbered (a .skips) before (seed q))
 
 abbrev pub numberOrNone : (ℕ → Bool) → List ℕ → ℕ → ℕ
-numberOrNone skips keys m = cond (skips m) 512 (numberIn keys m)
+numberOrNone skips keys m = cond (skips m) emptySet (numberIn keys m)
 
 abbrev pub nextOf : Walk → List ℕ → ℕ → ℕ → ℕ
-nextOf a keys i s = cond (ltb i (length keys) && ltb s (a .k)) (numberOrNone (a .skips) keys (a .step (getD keys i 0) s)) 512
+nextOf a keys i s = cond (ltb i (length keys) && ltb s (a .k)) (numberOrNone (a .skips) keys (a .step (getD keys i 0) s)) emptySet

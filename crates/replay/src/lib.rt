@@ -2,6 +2,7 @@
 ghost use mathlib.Core.Path.{_≡_};
 ghost use Prim.Native.Nat.{_+_, _≤_, min};
 ghost use lib.ListN.{length};
+ghost use Rattle.limits.specs.Limits.{bytesRoom};
 ghost use Rattle.calltext.specs.Answers.{responseOf, isUnread};
 ghost use Rattle.callrun.specs.Running.{Scratch};
 ghost use Rattle.replay.specs.Records.{recordIn, toldOf, replayOf};
@@ -37,7 +38,7 @@ fn past(end: usize, most: usize) -> usize
 
 // The buffer is for the bytes that a line carries.
 fn replay_by(text: &[u8], buffer: &mut [u8]) -> ReplayAnswer
-    requires { ⌜ 65537 ≤ length (now buffer) ⌝ }
+    requires { ⌜ bytesRoom ≤ length (now buffer) ⌝ }
     ensures { λ r. ⌜ toldOf r ≡ replayOf (recordIn (now (text .entry))) ⌝ }
     ensures scratch { λ r. ⌜ Scratch (now (buffer .entry)) (now (buffer .exit)) ⌝ }
 {
@@ -63,6 +64,6 @@ fn replay_by(text: &[u8], buffer: &mut [u8]) -> ReplayAnswer
 pub fn replay(text: &[u8]) -> ReplayAnswer
     ensures { λ r. ⌜ toldOf r ≡ replayOf (recordIn (now (text .entry))) ⌝ }
 {
-    let mut buffer = [0u8; 65537];
+    let mut buffer = [0u8; limits::BYTES];
     replay_by(text, &mut buffer)
 }

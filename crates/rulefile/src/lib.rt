@@ -6,6 +6,7 @@ ghost use Prim.Native.Nat.{ℕ, _+_, _*_, _/_, _%_, _^_, _≤_, _<_};
 ghost use lib.Bits.{bitOr};
 ghost use lib.Dec.{eqb, leb};
 ghost use lib.ListN.{length, getD};
+ghost use Rattle.limits.specs.Limits.{mostStates, mostSymbols, targetCells};
 ghost use Rattle.ruleformat.specs.Format.{byteAt, halfAt, wordAt, stateCount};
 ghost use Rattle.ruleformat.specs.Refusals.{badPairs, badSection, badArcs, refusal};
 ghost use Rattle.ruleformat.specs.Reader.{numberOf, targetsBy, ruleOf, noRule, Reads};
@@ -42,7 +43,7 @@ fn word(file: &[u8], at: usize) -> u32
 
 // The set has a state at n or above.
 fn beyond(set: u32, n: usize) -> bool
-    requires { ⌜ n ≤ 32 ⌝ }
+    requires { ⌜ n ≤ mostStates ⌝ }
     ensures { λ r. ⌜ r ≡ leb (2 ^ n) set ⌝ }
 {
     let wide = set as u64;
@@ -127,21 +128,21 @@ fn check(file: &[u8]) -> ReadAnswer
     if len < 10 {
         return ReadAnswer::Refused(1);
     }
-    if 32906 < len {
+    if limits::FILE < len {
         return ReadAnswer::Refused(2);
     }
     let n = byte(file, 0);
     if n < 1 {
         return ReadAnswer::Refused(3);
     }
-    if 32 < n {
+    if limits::STATES < n {
         return ReadAnswer::Refused(3);
     }
     let k = byte(file, 1);
     if k < 1 {
         return ReadAnswer::Refused(4);
     }
-    if 16 < k {
+    if limits::SYMBOLS < k {
         return ReadAnswer::Refused(4);
     }
     if len < 10 + 4 * n {
@@ -163,11 +164,11 @@ fn check(file: &[u8]) -> ReadAnswer
 }
 
 // Adds the arcs of the section of state q to its row of the table.
-fn store_arcs(targets: &mut [u32; 512], q: StateNumber, section: &[u8])
-    requires { ⌜ (q .0 < 32) × (length (now targets) ≡ 512) × (badSection 32 16 (now section) ≡ false) ⌝ }
-    ensures { λ _. ⌜ (length (now (targets .exit)) ≡ 512) × ((cell : ℕ) → getD (now (targets .exit)) cell 0 ≡ bitOr (getD (now (targets .entry)) cell 0) (cond (eqb (cell / 16) (q .0)) (targetsBy (now (section .entry)) (cell % 16)) 0)) ⌝ }
+fn store_arcs(targets: &mut [u32; limits::TARGETS], q: StateNumber, section: &[u8])
+    requires { ⌜ (q .0 < mostStates) × (length (now targets) ≡ targetCells) × (badSection mostStates mostSymbols (now section) ≡ false) ⌝ }
+    ensures { λ _. ⌜ (length (now (targets .exit)) ≡ targetCells) × ((cell : ℕ) → getD (now (targets .exit)) cell 0 ≡ bitOr (getD (now (targets .entry)) cell 0) (cond (eqb (cell / mostSymbols) (q .0)) (targetsBy (now (section .entry)) (cell % mostSymbols)) 0)) ⌝ }
 {
-    let row = 16 * (q.0 as usize);
+    let row = limits::SYMBOLS * (q.0 as usize);
     let count = section.len() / 2;
     let mut i: usize = 0;
     while i < count {
@@ -188,7 +189,7 @@ fn build(file: &[u8]) -> Rule
     let k = file[1];
     let initials = word(file, 2);
     let finals = word(file, 6);
-    let mut targets = [0u32; 512];
+    let mut targets = [0u32; limits::TARGETS];
     let mut q: u8 = 0;
     while q < n {
         let at = 4 * (q as usize);
@@ -211,7 +212,7 @@ fn build(file: &[u8]) -> Rule
 fn no_rule() -> Rule
     ensures { λ r. ⌜ r ≡ noRule ⌝ }
 {
-    let targets = [0u32; 512];
+    let targets = [0u32; limits::TARGETS];
     Rule {
         n: 0,
         k: 0,

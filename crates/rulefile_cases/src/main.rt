@@ -9,17 +9,17 @@ use ruleformat::ReadAnswer;
 fn print_cell(cell: usize, mask: u32) {
     if mask != 0 {
         io::write_all(STDOUT_FILENO, b" ");
-        io::print_decimal(STDOUT_FILENO, (cell / 16) as u64);
+        io::print_decimal(STDOUT_FILENO, (cell / limits::SYMBOLS) as u64);
         io::write_all(STDOUT_FILENO, b".");
-        io::print_decimal(STDOUT_FILENO, (cell % 16) as u64);
+        io::print_decimal(STDOUT_FILENO, (cell % limits::SYMBOLS) as u64);
         io::write_all(STDOUT_FILENO, b"=");
         io::print_hex(STDOUT_FILENO, mask as u64, 1);
     }
 }
 
-fn print_cells(targets: &[u32; 512]) {
+fn print_cells(targets: &[u32; limits::TARGETS]) {
     let mut cell: usize = 0;
-    while cell < 512 {
+    while cell < limits::TARGETS {
         print_cell(cell, targets[cell]);
         cell += 1;
     }
@@ -61,7 +61,7 @@ fn run_case(line: &[u8]) {
     }
     let hex = space + 1;
     io::write_all(STDOUT_FILENO, &line[..space]);
-    let mut file = [0u8; 33000];
+    let mut file = [0u8; limits::FILE_ROOM];
     let bytes = fields::read_bytes(&line[hex..], &mut file);
     match bytes {
         Bytes::Malformed => {
@@ -85,7 +85,7 @@ fn run_cases(text: &[u8]) {
 }
 
 fn main() {
-    let mut text = [0u8; 400000];
+    let mut text = [0u8; limits::CASES_TEXT];
     let n = io::read_full(STDIN_FILENO, &mut text);
     run_cases(&text[..n]);
 }

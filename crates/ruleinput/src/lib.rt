@@ -2,12 +2,13 @@
 ghost use Prim.Native.Nat.{_<_};
 ghost use lib.ListN.{length};
 ghost use Rattle.io.specs.Counts.{Counts};
+ghost use Rattle.limits.specs.Limits.{longestFile};
 use libc::STDIN_FILENO;
 
 // How many bytes were read. A file of 32,906 bytes may be accepted and one of 32,907 is refused, so
 // that the buffer has to hold more than 32,906: in a shorter one the two could not be told apart.
 pub fn read_rule(file: &mut [u8]) -> usize
-    requires { ⌜ 32906 < length (now file) ⌝ }
+    requires { ⌜ longestFile < length (now file) ⌝ }
     ensures { λ r. ⌜ Counts r (now (file .exit)) ⌝ }
 {
     io::read_full(STDIN_FILENO, file)

@@ -2,9 +2,9 @@
 use libc::STDOUT_FILENO;
 
 fn main() {
-    let mut file = [0u8; 33000];
+    let mut file = [0u8; limits::FILE_ROOM];
     let n = ruleinput::read_rule(&mut file);
-    let mut text = [0u8; 40960];
+    let mut text = [0u8; limits::RULE_TEXT];
     let length = ruletext::print_whole(&file[..n], &mut text);
     io::write_all(STDOUT_FILENO, &text[..length]);
 }

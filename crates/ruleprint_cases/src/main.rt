@@ -5,7 +5,7 @@ use libc::STDOUT_FILENO;
 use ruletext::Printed;
 
 fn print_text(file: &[u8]) {
-    let mut text = [0u8; 40960];
+    let mut text = [0u8; limits::RULE_TEXT];
     let printed = ruletext::print_rule(file, &mut text);
     match printed {
         Printed::Bytes(length) => {
@@ -24,7 +24,7 @@ fn run_case(line: &[u8]) {
     let hex = space + 1;
     io::write_all(STDOUT_FILENO, &line[..space]);
     io::write_all(STDOUT_FILENO, b"\n");
-    let mut file = [0u8; 33000];
+    let mut file = [0u8; limits::FILE_ROOM];
     let bytes = fields::read_bytes(&line[hex..], &mut file);
     match bytes {
         Bytes::Malformed => {
@@ -46,7 +46,7 @@ fn run_cases(text: &[u8]) {
 }
 
 fn main() {
-    let mut text = [0u8; 400000];
+    let mut text = [0u8; limits::CASES_TEXT];
     let n = io::read_full(STDIN_FILENO, &mut text);
     run_cases(&text[..n]);
 }

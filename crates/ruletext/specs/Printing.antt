@@ -9,9 +9,10 @@ use mathlib.Core.Path.{_≡_}
 use mathlib.Core.Bool.{cond}
 use mathlib.Core.List.{List, _++_}
 use mathlib.Core.Option.{Option, none, some}
-use Prim.Native.Nat.{ℕ}
+use Prim.Native.Nat.{ℕ, _+_, _*_}
 use lib.Dec.{ltb}
 use lib.ListN.{length, drop}
+use Rattle.limits.specs.Limits.{mostSets}
 use Rattle.ruleformat.specs.Refusals.{refusal}
 use Rattle.ruleformat.specs.Reader.{ruleOf}
 use Rattle.build.specs.declared.Built.{Built}
@@ -42,4 +43,4 @@ textFor f = textBy (refusal f) (buildOf (ruleOf f))
 
 -- 20 for the first line, 77 for each of 512 sets, 138 for the last line
 abbrev pub mostBytes : ℕ
-mostBytes = 39582
+mostBytes = 20 + 77 * mostSets + 138

@@ -10,6 +10,7 @@ use mathlib.Core.List.{List, [], _∷_, _++_}
 use Prim.Native.Nat.{ℕ, _+_, _*_, min}
 use lib.Dec.{ltb}
 use lib.ListN.{getD}
+use Rattle.limits.specs.Limits.{mostStates, mostSymbols, mostSets, emptySet}
 use Rattle.text.specs.Numerals.{decimal, hex, joined}
 use Rattle.build.specs.declared.BuildAnswer.{BuildAnswer}
 use Rattle.build.specs.declared.BuildAnswer.the-variants.{Accepted, Refused}
@@ -44,10 +45,10 @@ field n = (space ∷ []) ++ decimal n
 
 -- a cell of the next-set table
 abbrev pub cellText : ℕ → List ℕ
-cellText to = (space ∷ []) ++ cond (ltb to 512) (decimal to) (dash ∷ [])
+cellText to = (space ∷ []) ++ cond (ltb to emptySet) (decimal to) (dash ∷ [])
 
 abbrev pub rowText : List ℕ → ℕ → ℕ → List ℕ
-rowText next k i = joined (λ s. cellText (getD next (i * 16 + s) 0)) k
+rowText next k i = joined (λ s. cellText (getD next (i * mostSymbols + s) 0)) k
 
 abbrev pub setLine : List ℕ → List ℕ → ℕ → ℕ → List ℕ
 setLine sets next k i = decimal i ++ ((space ∷ []) ++ (hex 8 (getD sets i 0) ++ (rowText next k i ++ (lineFeed ∷ []))))
@@ -61,8 +62,8 @@ delegatesLine d n = delegatesWord ++ (joined (λ q. field (getD d q 0)) n ++ (li
 -- at most 512 sets, 16 symbols and 32 states are printed, which is all that a built rule has
 abbrev pub ruleText : Built → List ℕ
 ruleText b =
-    headLine (min (b .count) 512) (b .starts)
-    ++ (joined (setLine (b .sets) (b .next) (min (b .k) 16)) (min (b .count) 512) ++ delegatesLine (b .delegates) (min (b .n) 32))
+    headLine (min (b .count) mostSets) (b .starts)
+    ++ (joined (setLine (b .sets) (b .next) (min (b .k) mostSymbols)) (min (b .count) mostSets) ++ delegatesLine (b .delegates) (min (b .n) mostStates))
 
 abbrev pub refusedText : ℕ → List ℕ
 refusedText x = refusedWord ++ (decimal x ++ (lineFeed ∷ []))

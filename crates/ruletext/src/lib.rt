@@ -2,6 +2,7 @@
 ghost use mathlib.Core.Path.{_≡_};
 ghost use Prim.Native.Nat.{_+_, _*_, _≤_, _<_, min};
 ghost use lib.ListN.{length, getD};
+ghost use Rattle.limits.specs.Limits.{mostStates, mostSymbols, mostSets};
 ghost use Rattle.text.specs.Numerals.{joined};
 ghost use Rattle.text.specs.Writing.{Wrote};
 ghost use Rattle.ruletext.specs.RuleText.{field, cellText, rowText, setLine, headLine, delegatesLine, ruleText, refusedText, textOf};
@@ -34,7 +35,7 @@ fn put_cell(out: &mut [u8], at: usize, to: SetNumber) -> usize
     ensures { λ r. ⌜ Wrote (now (out .entry)) at (cellText (to .0)) (now (out .exit)) r ⌝ }
 {
     let number = text::put_byte(out, at, b' ');
-    if to.0 < 512 {
+    if to.0 < limits::EMPTY {
         text::put_decimal(out, number, to.0 as u64)
     } else {
         text::put_byte(out, number, b'-')
@@ -42,15 +43,21 @@ fn put_cell(out: &mut [u8], at: usize, to: SetNumber) -> usize
 }
 
 // The cells of set i for the k symbols.
-fn put_row(out: &mut [u8], start: usize, next: &[u16; 8192], k: usize, i: SetNumber) -> usize
-    requires { ⌜ (k ≤ 16) × (i .0 < 512) × (start + 4 * k ≤ length (now out)) ⌝ }
+fn put_row(
+    out: &mut [u8],
+    start: usize,
+    next: &[u16; limits::CELLS],
+    k: usize,
+    i: SetNumber,
+) -> usize
+    requires { ⌜ (k ≤ mostSymbols) × (i .0 < mostSets) × (start + 4 * k ≤ length (now out)) ⌝ }
     ensures { λ r. ⌜ Wrote (now (out .entry)) start (rowText (now (next .entry)) k (i .0)) (now (out .exit)) r ⌝ }
 {
     let row = i.0 as usize;
     let mut at = start;
     let mut s: usize = 0;
     while s < k {
-        let to = next[row * 16 + s];
+        let to = next[row * limits::SYMBOLS + s];
         at = put_cell(out, at, SetNumber(to));
         s += 1;
     }
@@ -67,12 +74,12 @@ fn wide(x: u32) -> u64
 fn put_set(
     out: &mut [u8],
     at: usize,
-    sets: &[u32; 512],
-    next: &[u16; 8192],
+    sets: &[u32; limits::SETS],
+    next: &[u16; limits::CELLS],
     k: usize,
     i: SetNumber,
 ) -> usize
-    requires { ⌜ (k ≤ 16) × (i .0 < 512) × (at + 77 ≤ length (now out)) ⌝ }
+    requires { ⌜ (k ≤ mostSymbols) × (i .0 < mostSets) × (at + 77 ≤ length (now out)) ⌝ }
     ensures { λ r. ⌜ Wrote (now (out .entry)) at (setLine (now (sets .entry)) (now (next .entry)) k (i .0)) (now (out .exit)) r ⌝ }
 {
     let row = i.0 as usize;
@@ -87,12 +94,12 @@ fn put_set(
 fn put_sets(
     out: &mut [u8],
     start: usize,
-    sets: &[u32; 512],
-    next: &[u16; 8192],
+    sets: &[u32; limits::SETS],
+    next: &[u16; limits::CELLS],
     k: usize,
     count: usize,
 ) -> usize
-    requires { ⌜ (k ≤ 16) × (count ≤ 512) × (start + 77 * count ≤ length (now out)) ⌝ }
+    requires { ⌜ (k ≤ mostSymbols) × (count ≤ mostSets) × (start + 77 * count ≤ length (now out)) ⌝ }
     ensures { λ r. ⌜ Wrote (now (out .entry)) start (joined (setLine (now (sets .entry)) (now (next .entry)) k) count) (now (out .exit)) r ⌝ }
 {
     let mut at = start;
@@ -107,7 +114,7 @@ fn put_sets(
 
 // The delegates of the first n states.
 fn put_fields(out: &mut [u8], start: usize, delegates: &[u8], n: usize) -> usize
-    requires { ⌜ (n ≤ 32) × (n ≤ length (now delegates)) × (start + 4 * n ≤ length (now out)) ⌝ }
+    requires { ⌜ (n ≤ mostStates) × (n ≤ length (now delegates)) × (start + 4 * n ≤ length (now out)) ⌝ }
     ensures { λ r. ⌜ (Wrote (now (out .entry)) start (joined (λ q. field (getD (now (delegates .entry)) q 0)) n) (now (out .exit)) r) × (r ≤ start + 4 * n) ⌝ }
 {
     let mut at = start;
@@ -120,8 +127,8 @@ fn put_fields(out: &mut [u8], start: usize, delegates: &[u8], n: usize) -> usize
     at
 }
 
-fn put_delegates(out: &mut [u8], at: usize, delegates: &[u8; 32], n: usize) -> usize
-    requires { ⌜ (n ≤ 32) × (at + 138 ≤ length (now out)) ⌝ }
+fn put_delegates(out: &mut [u8], at: usize, delegates: &[u8; limits::STATES], n: usize) -> usize
+    requires { ⌜ (n ≤ mostStates) × (at + 138 ≤ length (now out)) ⌝ }
     ensures { λ r. ⌜ (Wrote (now (out .entry)) at (delegatesLine (now (delegates .entry)) n) (now (out .exit)) r) × (r ≤ at + 138) ⌝ }
 {
     let first = text::put_bytes(out, at, b"delegates");
@@ -131,7 +138,7 @@ fn put_delegates(out: &mut [u8], at: usize, delegates: &[u8; 32], n: usize) -> u
 }
 
 fn put_head(out: &mut [u8], at: usize, count: usize, starts: u8) -> usize
-    requires { ⌜ (count ≤ 512) × (at + 20 ≤ length (now out)) ⌝ }
+    requires { ⌜ (count ≤ mostSets) × (at + 20 ≤ length (now out)) ⌝ }
     ensures { λ r. ⌜ (Wrote (now (out .entry)) at (headLine count starts) (now (out .exit)) r) × (r ≤ at + 20) ⌝ }
 {
     let a = text::put_bytes(out, at, b"sets ");
@@ -162,9 +169,9 @@ fn put_rule(out: &mut [u8], built: Built) -> usize
     requires { ⌜ mostBytes ≤ length (now out) ⌝ }
     ensures { λ r. ⌜ (Wrote (now (out .entry)) 0 (ruleText built) (now (out .exit)) r) × (r ≤ mostBytes) ⌝ }
 {
-    let count = at_most(built.count as usize, 512);
-    let k = at_most(built.k as usize, 16);
-    let n = at_most(built.n as usize, 32);
+    let count = at_most(built.count as usize, limits::SETS);
+    let k = at_most(built.k as usize, limits::SYMBOLS);
+    let n = at_most(built.n as usize, limits::STATES);
     let sets = built.sets;
     let next = built.next;
     let delegates = built.delegates;
@@ -187,7 +194,7 @@ pub fn print_text(text: &[u8], out: &mut [u8]) -> Printed
 fn print_built(built: Built, out: &mut [u8]) -> Printed
     ensures { λ r. ⌜ Prints (ruleText built) (now (out .entry)) (now (out .exit)) r ⌝ }
 {
-    let mut text = [0u8; 40960];
+    let mut text = [0u8; limits::RULE_TEXT];
     let length = put_rule(&mut text, built);
     print_text(&text[..length], out)
 }

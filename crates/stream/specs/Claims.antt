@@ -14,6 +14,7 @@ use mathlib.Core.Path.{_≡_}
 use mathlib.Core.List.{List, [], _∷_, _++_, flatten}
 use Prim.Native.Nat.{ℕ, _≤_, _<_}
 use lib.ListN.{length, drop}
+use Rattle.limits.specs.Limits.{lineRoom}
 use Rattle.lines.specs.Splitting.{linesFrom, linesOf}
 use Rattle.calls.specs.Steps.{fresh}
 use Rattle.linebuffer.specs.Holding.{lineBegin}
@@ -22,7 +23,7 @@ use Rattle.stream.specs.Feeding.{State, Step, Part, ends, goesOn, stateO
 use Rattle.stream.specs.Texts.{linesStep, feedParts, partsText, streamOf, rightText}
 
 pub record Holds (s : State) (w : List ℕ) : Type 0 where
-  pub large : 131104 ≤ length (s .line)
+  pub large : lineRoom ≤ length (s .line)
   pub keeps : Keeps (s .line) (s .held) w
 
 unfoldable pub linesEnded : List ℕ → List Part → List (List ℕ)
@@ -60,11 +61,11 @@ pub record Claims : Type 0 where
       → record { text = bytesOf (finishOf s); leaves = finishOf s .leaves .judge } ≡ linesStep (s .judge) (linesFrom w [])
   -- blocks from a fresh judge on, and then the end: the lines of the whole text were run, however
   -- it was cut
-  pub whole : (blocks : List (List ℕ)) (line out : List ℕ) → 131104 ≤ length line
+  pub whole : (blocks : List (List ℕ)) (line out : List ℕ) → lineRoom ≤ length line
       → streamOf (stateOf fresh lineBegin line out) blocks ≡ linesStep fresh (linesOf (flatten blocks))
   -- every answer is the right one after the calls before it
   pub right : (ls : List (List ℕ)) → linesStep fresh ls .text ≡ rightText [] ls
   -- BOTH IN ONE: what is answered to the blocks, fed one after the other, and to the end is right
   -- for the lines of the blocks joined
-  pub answered : (blocks : List (List ℕ)) (line out : List ℕ) → 131104 ≤ length line
+  pub answered : (blocks : List (List ℕ)) (line out : List ℕ) → lineRoom ≤ length line
       → streamOf (stateOf fresh lineBegin line out) blocks .text ≡ rightText [] (linesOf (flatten blocks))

@@ -13,6 +13,7 @@ use mathlib.Core.Bool.{cond}
 use mathlib.Core.List.{List}
 use Prim.Native.Nat.{ℕ}
 use lib.ListN.{length, replicate}
+use Rattle.limits.specs.Limits.{mostStates, mostSets, tableCells}
 use Rattle.subsets.specs.declared.Numbered.{Numbered}
 use Rattle.subsets.specs.declared.Numbered.the-variants.{As, Full}
 use Rattle.subsets.specs.declared.Numbering.{Numbering}
@@ -49,9 +50,9 @@ tableCame t = record { told = toldOf (t .answer); sets = t .sets; next = t .next
 abbrev pub noTable : Table
 noTable = record {
   told = refused 9;
-  sets = replicate 512 0;
-  next = replicate 8192 0;
-  singles = replicate 32 0;
+  sets = replicate mostSets 0;
+  next = replicate tableCells 0;
+  singles = replicate mostStates 0;
 }
 
 unfoldable pub tableOf : List ℕ → ℕ → ℕ → Table

@@ -17,6 +17,7 @@ use mathlib.Core.List.{List}
 use Prim.Native.Nat.{ℕ, _/_, _%_, min}
 use lib.Dec.{eqb, ltb}
 use lib.ListN.{length, getD}
+use Rattle.limits.specs.Limits.{mostStates, mostSymbols, mostSets, tableCells}
 use Rattle.masks.specs.Masks.{single}
 use Rattle.masks.specs.Lists.{listFrom}
 use Rattle.automaton.specs.Successor.{successor}
@@ -49,10 +50,10 @@ setsUpTo ts k q = keysUpTo (setWalk ts k) single q
 
 -- a rule has at most 32 states; a value that says more is taken to have 32
 unfoldable pub setsOf : List ℕ → ℕ → ℕ → List ℕ
-setsOf ts n k = setsUpTo ts k (min n 32)
+setsOf ts n k = setsUpTo ts k (min n mostStates)
 
 unfoldable pub tooMany : List ℕ → ℕ → ℕ → Bool
-tooMany ts n k = ltb 512 (length (setsOf ts n k))
+tooMany ts n k = ltb mostSets (length (setsOf ts n k))
 
 -- the number of the set m, or 512 for the empty set
 abbrev pub numberOrEmpty : List ℕ → ℕ → ℕ
@@ -62,7 +63,7 @@ unfoldable pub nextSet : List ℕ → ℕ → ℕ → ℕ → ℕ → ℕ
 nextSet ts n k i s = nextOf (setWalk ts k) (setsOf ts n k) i s
 
 abbrev pub setCells : List ℕ → ℕ → ℕ → List ℕ
-setCells ts n k = listFrom 0 512 (λ i. getD (setsOf ts n k) i 0)
+setCells ts n k = listFrom 0 mostSets (λ i. getD (setsOf ts n k) i 0)
 
 abbrev pub nextCells : List ℕ → ℕ → ℕ → List ℕ
-nextCells ts n k = listFrom 0 8192 (λ cell. nextSet ts n k (cell / 16) (cell % 16))
+nextCells ts n k = listFrom 0 tableCells (λ cell. nextSet ts n k (cell / mostSymbols) (cell % mostSymbols))

@@ -12,6 +12,7 @@ use mathlib.Core.Option.{Option, none, some}
 use Prim.Native.Nat.{ℕ}
 use lib.Dec.{ltb}
 use lib.ListN.{length, take}
+use Rattle.limits.specs.Limits.{mostStates, emptySet}
 use Rattle.masks.specs.Masks.{single}
 use Rattle.masks.specs.Lists.{listFrom}
 use Rattle.subsets.specs.declared.Found.{Found}
@@ -26,7 +27,7 @@ foundOf (At number) = some (number .0)
 foundOf Nothing = none
 
 unfoldable pub singletonNumber : List ℕ → ℕ → ℕ → ℕ
-singletonNumber sets count q = let i = numberIn (take count sets) (single q) in cond (ltb i count) i 512
+singletonNumber sets count q = let i = numberIn (take count sets) (single q) in cond (ltb i count) i emptySet
 
 abbrev pub singlesOf : List ℕ → ℕ → List ℕ
-singlesOf sets count = listFrom 0 32 (singletonNumber sets count)
+singlesOf sets count = listFrom 0 mostStates (singletonNumber sets count)

@@ -13,6 +13,7 @@ use mathlib.Core.List.{List, []}
 use Prim.Native.Nat.{ℕ, _+_, _*_, _/_, _%_, _≤_, _<_}
 use lib.Dec.{eqb, ltb}
 use lib.ListN.{length, getD, set}
+use Rattle.limits.specs.Limits.{mostSymbols, mostSets, emptySet, tableCells}
 use Rattle.masks.specs.Masks.{single}
 use Rattle.masks.specs.Lists.{listFrom}
 use Rattle.automaton.specs.Successor.{successor}
@@ -23,20 +24,20 @@ use Rattle.subsets.specs.Sets.{numberIn, numbered, closeFrom, numberOrEm
 use Rattle.subsets.specs.Answer.{Told, counted, refused, toldOf, named, turned-down, turnOf}
 
 abbrev pub limited : List ℕ → Told
-limited l = cond (ltb 512 (length l)) (refused 9) (counted (length l))
+limited l = cond (ltb mostSets (length l)) (refused 9) (counted (length l))
 
 abbrev pub cellsOf : List ℕ → List ℕ
-cellsOf l = listFrom 0 512 (λ i. getD l i 0)
+cellsOf l = listFrom 0 mostSets (λ i. getD l i 0)
 
 -- the set m was numbered after the sets l
 pub record Entered (l : List ℕ) (m : ℕ) (r : Numbered) (sets : List ℕ) : Type 0 where
-  pub number : turnOf r ≡ cond (ltb 512 (length (numbered l m))) (turned-down 9) (named (numberIn (numbered l m) m) (length (numbered l m)))
-  pub sets-are : length (numbered l m) ≤ 512 → sets ≡ cellsOf (numbered l m)
+  pub number : turnOf r ≡ cond (ltb mostSets (length (numbered l m))) (turned-down 9) (named (numberIn (numbered l m) m) (length (numbered l m)))
+  pub sets-are : length (numbered l m) ≤ mostSets → sets ≡ cellsOf (numbered l m)
 
 -- nothing is numbered
 pub record Cleared (sets next : List ℕ) : Type 0 where
   pub sets-are : sets ≡ cellsOf []
-  pub next-are : next ≡ listFrom 0 8192 (λ _. 512)
+  pub next-are : next ≡ listFrom 0 tableCells (λ _. emptySet)
 
 -- set i of the sets l was expanded by the symbol s
 module _ (ts l : List ℕ) (i s : ℕ) where
@@ -48,27 +49,27 @@ module _ (ts l : List ℕ) (i s : ℕ) where
 
   pub record Stepped (r : Numbering) (sets next₀ next : List ℕ) : Type 0 where
     pub count : toldOf r ≡ limited afterStep
-    pub sets-are : length afterStep ≤ 512 → sets ≡ cellsOf afterStep
-    pub next-are : length afterStep ≤ 512 → next ≡ cond (eqb target 0) next₀ (set next₀ (i * 16 + s) (numberIn afterStep target))
+    pub sets-are : length afterStep ≤ mostSets → sets ≡ cellsOf afterStep
+    pub next-are : length afterStep ≤ mostSets → next ≡ cond (eqb target 0) next₀ (set next₀ (i * mostSymbols + s) (numberIn afterStep target))
 
 -- the table's cell c, where the sets f are numbered and the cells before `upto` are filled
 abbrev pub cellTo : List ℕ → ℕ → List ℕ → ℕ → ℕ → ℕ
-cellTo ts k f upto c = cond (ltb c upto && ltb (c % 16) k) (numberOrEmpty f (successor ts (getD f (c / 16) 0) (c % 16))) 512
+cellTo ts k f upto c = cond (ltb c upto && ltb (c % mostSymbols) k) (numberOrEmpty f (successor ts (getD f (c / mostSymbols) 0) (c % mostSymbols))) emptySet
 
 -- The arrays hold the sets l and the table's cells before `upto`. A cell is said for every list that goes on from l, since a set keeps its number.
 pub record Holds (ts : List ℕ) (k : ℕ) (l : List ℕ) (upto : ℕ) (sets next : List ℕ) : Type 0 where
   pub sets-are : sets ≡ cellsOf l
-  pub next-long : length next ≡ 8192
-  pub cells : (f : List ℕ) → Begins l f → (c : ℕ) → c < 8192 → getD next c 0 ≡ cellTo ts k f upto c
+  pub next-long : length next ≡ tableCells
+  pub cells : (f : List ℕ) → Begins l f → (c : ℕ) → c < tableCells → getD next c 0 ≡ cellTo ts k f upto c
 
 -- the numbered sets became f, and all of them are expanded
 pub record Grown (ts : List ℕ) (k : ℕ) (f : List ℕ) (r : Numbering) (sets next : List ℕ) : Type 0 where
   pub count : toldOf r ≡ limited f
-  pub held : length f ≤ 512 → Holds ts k f (length f * 16) sets next
+  pub held : length f ≤ mostSets → Holds ts k f (length f * mostSymbols) sets next
 
 -- the sets l, with those from number i on expanded
 abbrev pub closedFrom : List ℕ → ℕ → ℕ → List ℕ → List ℕ
-closedFrom ts k i l = closeFrom ts k 512 i l
+closedFrom ts k i l = closeFrom ts k mostSets i l
 
 -- the sets l, with {q} numbered and the sets from there on expanded
 abbrev pub grownBy : List ℕ → ℕ → ℕ → List ℕ → List ℕ

@@ -2,6 +2,7 @@
 ghost use mathlib.Core.Path.{_≡_};
 ghost use Prim.Native.Nat.{_*_, _≤_, _<_, min};
 ghost use lib.ListN.{length, take};
+ghost use Rattle.limits.specs.Limits.{mostStates, mostSymbols, mostSets};
 ghost use Rattle.subsets.specs.Singles.{foundOf, foundIn, singletonNumber, singlesOf};
 ghost use Rattle.subsets.specs.Answer.{noTable, tableCame, tableOf};
 ghost use Rattle.subsets.specs.Steps.{cellsOf, Entered, Stepped, Holds, Grown, grownBy, closedFrom, Cleared, Answered};
@@ -32,9 +33,9 @@ pub enum Numbering {
 // zeros where the answer is 9.
 pub struct SetTable {
     pub answer: Numbering,
-    pub sets: [u32; 512],
-    pub next: [u16; 8192],
-    pub singles: [u16; 32],
+    pub sets: [u32; limits::SETS],
+    pub next: [u16; limits::CELLS],
+    pub singles: [u16; limits::STATES],
 }
 
 // x, but no more than most.
@@ -45,11 +46,11 @@ fn at_most(x: usize, most: usize) -> usize
 }
 
 // The number of a set among the first count; a count above 512 is taken for 512.
-pub fn find(sets: &[u32; 512], count: usize, set: u32) -> Found
+pub fn find(sets: &[u32; limits::SETS], count: usize, set: u32) -> Found
     ensures { λ r. ⌜ foundOf r ≡ foundIn (take count (now (sets .entry))) set ⌝ }
 {
     let cells: &[u32] = sets;
-    let most = at_most(count, 512);
+    let most = at_most(count, limits::SETS);
     let mut i: usize = 0;
     let found = loop {
         if i == most {
@@ -64,14 +65,14 @@ pub fn find(sets: &[u32; 512], count: usize, set: u32) -> Found
 }
 
 // A set that is not empty keeps the number it has among the first count, else it takes the next.
-fn number(sets: &mut [u32; 512], count: usize, set: u32) -> Numbered
-    requires { ⌜ (count ≤ 512) × (now sets ≡ cellsOf (take count (now sets))) × (set ≡ 0 → ⊥) ⌝ }
+fn number(sets: &mut [u32; limits::SETS], count: usize, set: u32) -> Numbered
+    requires { ⌜ (count ≤ mostSets) × (now sets ≡ cellsOf (take count (now sets))) × (set ≡ 0 → ⊥) ⌝ }
     ensures { λ r. ⌜ Entered (take count (now (sets .entry))) set r (now (sets .exit)) ⌝ }
 {
     match find(sets, count, set) {
         Found::At(number) => Numbered::As(number, count),
         Found::Nothing => {
-            if count < 512 {
+            if count < limits::SETS {
                 sets[count] = set;
                 Numbered::As(SetNumber(count as u16), count + 1)
             } else {
@@ -83,14 +84,14 @@ fn number(sets: &mut [u32; 512], count: usize, set: u32) -> Numbered
 
 // Set i is expanded by one symbol. The cell of an empty successor is left as it is.
 fn step(
-    targets: &[u32; 512],
-    sets: &mut [u32; 512],
-    next: &mut [u16; 8192],
+    targets: &[u32; limits::TARGETS],
+    sets: &mut [u32; limits::SETS],
+    next: &mut [u16; limits::CELLS],
     count: usize,
     i: SetNumber,
     symbol: u8,
 ) -> Numbering
-    requires { ⌜ (count ≤ 512) × (now sets ≡ cellsOf (take count (now sets))) × (i .0 < count) ⌝ }
+    requires { ⌜ (count ≤ mostSets) × (now sets ≡ cellsOf (take count (now sets))) × (i .0 < count) ⌝ }
     ensures { λ r. ⌜ Stepped (now (targets .entry)) (take count (now (sets .entry))) (i .0) symbol r (now (sets .exit)) (now (next .entry)) (now (next .exit)) ⌝ }
 {
     let row = i.0 as usize;
@@ -100,7 +101,7 @@ fn step(
     }
     match number(sets, count, set) {
         Numbered::As(number, after) => {
-            next[row * 16 + symbol as usize] = number.0;
+            next[row * limits::SYMBOLS + symbol as usize] = number.0;
             Numbering::Whole(after)
         }
         Numbered::Full => Numbering::Over,
@@ -109,14 +110,14 @@ fn step(
 
 // The sets from number first on are expanded in number order, those that turn up on the way too.
 fn expand(
-    targets: &[u32; 512],
+    targets: &[u32; limits::TARGETS],
     k: u8,
-    sets: &mut [u32; 512],
-    next: &mut [u16; 8192],
+    sets: &mut [u32; limits::SETS],
+    next: &mut [u16; limits::CELLS],
     first: SetNumber,
     from: usize,
 ) -> Numbering
-    requires { ⌜ (from ≤ 512) × (first .0 ≤ from) × Holds (now targets) k (take from (now sets)) (first .0 * 16) (now sets) (now next) ⌝ }
+    requires { ⌜ (from ≤ mostSets) × (first .0 ≤ from) × Holds (now targets) k (take from (now sets)) (first .0 * mostSymbols) (now sets) (now next) ⌝ }
     ensures { λ r. ⌜ Grown (now (targets .entry)) k (closedFrom (now (targets .entry)) k (first .0) (take from (now (sets .entry)))) r (now (sets .exit)) (now (next .exit)) ⌝ }
 {
     let mut count = from;
@@ -142,14 +143,14 @@ fn expand(
 
 // {q} is numbered, and the sets that are not yet expanded, which are those from number count on, are.
 fn add_state(
-    targets: &[u32; 512],
+    targets: &[u32; limits::TARGETS],
     k: u8,
-    sets: &mut [u32; 512],
-    next: &mut [u16; 8192],
+    sets: &mut [u32; limits::SETS],
+    next: &mut [u16; limits::CELLS],
     count: usize,
     q: StateNumber,
 ) -> Numbering
-    requires { ⌜ (q .0 < 32) × (count ≤ 512) × Holds (now targets) k (take count (now sets)) (count * 16) (now sets) (now next) ⌝ }
+    requires { ⌜ (q .0 < mostStates) × (count ≤ mostSets) × Holds (now targets) k (take count (now sets)) (count * mostSymbols) (now sets) (now next) ⌝ }
     ensures { λ r. ⌜ Grown (now (targets .entry)) k (grownBy (now (targets .entry)) k (q .0) (take count (now (sets .entry)))) r (now (sets .exit)) (now (next .exit)) ⌝ }
 {
     match number(sets, count, masks::singleton(q)) {
@@ -162,17 +163,17 @@ fn add_state(
 // where no cell is in use; a value of n above 32 is taken for 32. Where the 513th set turns up, what
 // is left in the two arrays is free.
 fn fill(
-    targets: &[u32; 512],
+    targets: &[u32; limits::TARGETS],
     n: u8,
     k: u8,
-    sets: &mut [u32; 512],
-    next: &mut [u16; 8192],
+    sets: &mut [u32; limits::SETS],
+    next: &mut [u16; limits::CELLS],
 ) -> Numbering
     requires { ⌜ Cleared (now sets) (now next) ⌝ }
     ensures { λ r. ⌜ Answered (now (targets .entry)) n k r (now (sets .exit)) (now (next .exit)) ⌝ }
 {
     let mut count: usize = 0;
-    for q in 0..masks::at_most(n, 32) {
+    for q in 0..masks::at_most(n, limits::MOST_STATES) {
         match add_state(targets, k, sets, next, count, StateNumber(q)) {
             Numbering::Whole(after) => {
                 count = after;
@@ -186,32 +187,32 @@ fn fill(
 }
 
 // An array has its length: this only says so, and is compiled to nothing.
-fn rows(sets: &[u32; 512]) -> usize
-    ensures { λ r. ⌜ length (now (sets .entry)) ≡ 512 ⌝ }
+fn rows(sets: &[u32; limits::SETS]) -> usize
+    ensures { λ r. ⌜ length (now (sets .entry)) ≡ mostSets ⌝ }
 {
     let s: &[u32] = sets;
     s.len()
 }
 
 // The number of {q} among the first count sets, or 512, which stands for the empty set.
-fn number_single(sets: &[u32; 512], count: usize, q: StateNumber) -> SetNumber
-    requires { ⌜ q .0 < 32 ⌝ }
+fn number_single(sets: &[u32; limits::SETS], count: usize, q: StateNumber) -> SetNumber
+    requires { ⌜ q .0 < mostStates ⌝ }
     ensures { λ r. ⌜ r .0 ≡ singletonNumber (now (sets .entry)) count (q .0) ⌝ }
 {
     rows(sets);
     match find(sets, count, masks::singleton(q)) {
         Found::At(number) => number,
-        Found::Nothing => SetNumber(512),
+        Found::Nothing => SetNumber(limits::EMPTY),
     }
 }
 
 // The number of {q} for each state q.
-pub fn number_singles(sets: &[u32; 512], count: usize) -> [u16; 32]
+pub fn number_singles(sets: &[u32; limits::SETS], count: usize) -> [u16; limits::STATES]
     ensures { λ r. ⌜ r ≡ singlesOf (now (sets .entry)) count ⌝ }
 {
-    let mut singles = [0u16; 32];
+    let mut singles = [0u16; limits::STATES];
     let mut q: usize = 0;
-    while q < 32 {
+    while q < limits::STATES {
         let number = number_single(sets, count, StateNumber(q as u8));
         singles[q] = number.0;
         q += 1;
@@ -223,9 +224,9 @@ pub fn number_singles(sets: &[u32; 512], count: usize) -> [u16; 32]
 fn no_table() -> SetTable
     ensures { λ r. ⌜ tableCame r ≡ noTable ⌝ }
 {
-    let sets = [0u32; 512];
-    let next = [0u16; 8192];
-    let singles = [0u16; 32];
+    let sets = [0u32; limits::SETS];
+    let next = [0u16; limits::CELLS];
+    let singles = [0u16; limits::STATES];
     SetTable {
         answer: Numbering::Over,
         sets,
@@ -236,11 +237,11 @@ fn no_table() -> SetTable
 
 // The numbered sets, the next-set table and the singletons' numbers of a rule with n states and k
 // symbols, or 9. A value of n above 32 is taken for 32.
-pub fn number_sets(targets: &[u32; 512], n: u8, k: u8) -> SetTable
+pub fn number_sets(targets: &[u32; limits::TARGETS], n: u8, k: u8) -> SetTable
     ensures { λ r. ⌜ tableCame r ≡ tableOf (now (targets .entry)) n k ⌝ }
 {
-    let mut sets = [0u32; 512];
-    let mut next = [512u16; 8192];
+    let mut sets = [0u32; limits::SETS];
+    let mut next = [limits::EMPTY; limits::CELLS];
     match fill(targets, n, k, &mut sets, &mut next) {
         Numbering::Whole(count) => {
             let singles = number_singles(&sets, count);

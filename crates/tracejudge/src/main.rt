@@ -9,6 +9,7 @@ ghost use Prim.Native.Nat.{_-_, _≤_, _<_};
 ghost use lib.Dec.{eqb};
 ghost use lib.ListN.{length};
 ghost use Rattle.io.specs.Counts.{Counts};
+ghost use Rattle.limits.specs.Limits.{bytesRoom, lineRoom, answerRoom};
 ghost use Rattle.callrun.specs.Running.{Scratch};
 ghost use Rattle.stream.specs.Feeding.{stateOf, partsOf};
 ghost use Rattle.stream.specs.Texts.{feedParts};
@@ -38,7 +39,7 @@ fn run_block(
     out: &mut [u8],
     block: &[u8],
 ) -> Reading
-    requires { ⌜ (131104 ≤ length (now line)) × (65537 ≤ length (now bytes)) × (64 ≤ length (now out)) ⌝ }
+    requires { ⌜ (lineRoom ≤ length (now line)) × (bytesRoom ≤ length (now bytes)) × (answerRoom ≤ length (now out)) ⌝ }
     ensures { λ r. ⌜ stateOf (r .judge) (r .held) (now (line .exit)) (now (out .exit)) ≡ feedParts (stateOf judge held (now (line .entry)) (now (out .entry))) (partsOf (now (block .entry))) ⌝ }
     ensures scratch { λ r. ⌜ Scratch (now (bytes .entry)) (now (bytes .exit)) ⌝ }
 {
@@ -76,7 +77,7 @@ fn turns_left(turns: u64, n: usize) -> u64
 }
 
 fn run(line: &mut [u8], bytes: &mut [u8], out: &mut [u8], block: &mut [u8])
-    requires { ⌜ (131104 ≤ length (now line)) × (65537 ≤ length (now bytes)) × (64 ≤ length (now out)) ⌝ }
+    requires { ⌜ (lineRoom ≤ length (now line)) × (bytesRoom ≤ length (now bytes)) × (answerRoom ≤ length (now out)) ⌝ }
 {
     let mut judge = judge::new_judge();
     let mut held = linebuffer::nothing();
@@ -94,9 +95,9 @@ fn run(line: &mut [u8], bytes: &mut [u8], out: &mut [u8], block: &mut [u8])
 }
 
 fn main() {
-    let mut line = [0u8; 131104];
-    let mut bytes = [0u8; 65537];
-    let mut out = [0u8; 64];
+    let mut line = [0u8; limits::LINE];
+    let mut bytes = [0u8; limits::BYTES];
+    let mut out = [0u8; limits::ANSWER];
     let mut block = [0u8; 65536];
     run(&mut line, &mut bytes, &mut out, &mut block);
 }

@@ -26,15 +26,15 @@ slice-aggregate-print-whole-2 : tie.Need-slice-aggregate-print-whole-2
 slice-aggregate-print-whole-2 c = sym (made _)
 
 print-whole-requires : tie.Need-print-whole-requires
-print-whole-requires c κs = rw length-replicate (omega arith)
+print-whole-requires c κs = simp length-replicate (omega arith)
 
 array-share-prefix-text : tie.Need-array-share-prefix-text
-array-share-prefix-text c = let w = c .before .print-whole in whole-within (w .ensures) (w .kept .1 .0) mostBytes (claims .fits _) (rw length-replicate (omega arith))
+array-share-prefix-text c = let w = c .before .print-whole in whole-within (w .ensures) (w .kept .1 .0) mostBytes (claims .fits _) (simp length-replicate (omega arith))
 
 slice-aggregate-write-all : tie.Need-slice-aggregate-write-all
 slice-aggregate-write-all c =
     let w = c .before .before .print-whole in
-    sym (length-take-le _ (w .last .1 .0) (whole-within (w .ensures) (w .kept .1 .0) mostBytes (claims .fits _) (rw length-replicate (omega arith))))
+    sym (length-take-le _ (w .last .1 .0) (whole-within (w .ensures) (w .kept .1 .0) mostBytes (claims .fits _) (simp length-replicate (omega arith))))
 
 write-all-requires : tie.Need-write-all-requires
 write-all-requires c κs = search needs
