@@ -1,5 +1,5 @@
 -- The limits of rules, boards and lines of calls (document 01), and the sizes of tables and buffers
--- that follow from them. src/lib.rt has the same numbers for code.
+-- that follow from them. src/lib.rt has them for code.
 --
 --   mostStates       the most states of a rule: a set of states is a 32-bit mask
 --   mostSymbols      the most symbols of a rule

@@ -1,6 +1,6 @@
 // The limits of rules, boards and lines of calls (document 01), and the sizes of tables and buffers
-// that follow from them: numbers and no code. specs/Limits.antt has the same numbers for definitions
-// and contracts.
+// that follow from them: numbers and no code. specs/Limits.antt has the numbers that definitions
+// and contracts cite.
 
 // The most states of a rule: a set of states is a 32-bit mask.
 pub const STATES: usize = 32;
