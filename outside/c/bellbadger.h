@@ -2,10 +2,10 @@
  *
  * The caller keeps the judge and hands it in by value; each call that may change it hands the next
  * one back. A refused call hands back the judge that came: look at `accepted` after every call. Any
- * bytes whatever may stand in a judge: every call still ends and stays within its bounds, but only a
- * judge that began with bellbadger_new and went through the calls below has a meaning. Files, chunks
- * and texts are only read; a pointer must lead to as many bytes as the length beside it says, and may
- * be anything where that is 0.
+ * bytes whatever may stand in a judge: every call still ends and stays within its bounds, but only
+ * a judge that began with bellbadger_new and went through the calls below has a meaning. Files,
+ * chunks and texts are only read; a pointer must lead to as many bytes as the length beside it
+ * says, and may be anything where that is 0.
  *
  * Threads: no function keeps anything, they work on values only; any number of threads may call at
  * once. Stack: a judge goes by value; for a thread that calls these functions a stack of 512 KB is

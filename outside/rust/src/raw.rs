@@ -72,7 +72,12 @@ extern "C" {
     pub fn bellbadger_new() -> RawJudge;
     pub fn bellbadger_load(judge: RawJudge, file: *const u8, length: usize) -> RawLoad;
     pub fn bellbadger_open(judge: RawJudge, places: usize) -> RawChange;
-    pub fn bellbadger_deliver(judge: RawJudge, place: usize, chunk: *const u8, length: usize) -> RawChange;
+    pub fn bellbadger_deliver(
+        judge: RawJudge,
+        place: usize,
+        chunk: *const u8,
+        length: usize,
+    ) -> RawChange;
     pub fn bellbadger_withdraw(judge: RawJudge, place: usize) -> RawChange;
     pub fn bellbadger_verdict(judge: RawJudge) -> RawVerdict;
     pub fn bellbadger_replay(text: *const u8, length: usize) -> RawVerdict;

@@ -97,7 +97,10 @@ mod tests {
     #[test]
     fn every_number_has_its_words() {
         let numbers = (1..=13).chain(20..=24);
-        let words: BTreeSet<&str> = numbers.chain([99]).map(|number| Refused::new(number).reason()).collect();
+        let words: BTreeSet<&str> = numbers
+            .chain([99])
+            .map(|number| Refused::new(number).reason())
+            .collect();
         assert_eq!(words.len(), 18 + 1);
     }
 }

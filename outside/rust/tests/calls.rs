@@ -4,12 +4,12 @@ use bellbadger::{replay, version, Judge, Loaded, Refused, ReplayError, Verdict};
 use std::fmt::Debug;
 
 const A: [u8; 30] = [
-    0x03, 0x02, 0x01, 0, 0, 0, 0x04, 0, 0, 0, 0x16, 0, 0x06, 0, 0x1C, 0, 0x02, 0, 0x1E, 0, 0, 0, 0, 0, 0, 1,
-    1, 0, 1, 2,
+    0x03, 0x02, 0x01, 0, 0, 0, 0x04, 0, 0, 0, 0x16, 0, 0x06, 0, 0x1C, 0, 0x02, 0, 0x1E, 0, 0, 0, 0,
+    0, 0, 1, 1, 0, 1, 2,
 ];
 const B: [u8; 30] = [
-    0x03, 0x01, 0x01, 0, 0, 0, 0x06, 0, 0, 0, 0x16, 0, 0x04, 0, 0x1A, 0, 0x02, 0, 0x1C, 0, 0x02, 0, 0, 1, 0,
-    2, 0, 0, 0, 0,
+    0x03, 0x01, 0x01, 0, 0, 0, 0x06, 0, 0, 0, 0x16, 0, 0x04, 0, 0x1A, 0, 0x02, 0, 0x1C, 0, 0x02, 0,
+    0, 1, 0, 2, 0, 0, 0, 0,
 ];
 
 /// The number of a refusal.
@@ -82,7 +82,13 @@ fn the_sum_of_the_counts() {
         file.extend([0, (q + 1) % 32]);
     }
     let mut judge = Judge::new();
-    assert_eq!(judge.load(&file), Ok(Loaded { sets: 32, starts: 32 }));
+    assert_eq!(
+        judge.load(&file),
+        Ok(Loaded {
+            sets: 32,
+            starts: 32
+        })
+    );
     assert_eq!(judge.open(64), Ok(()));
     for place in 0..64 {
         assert_eq!(judge.deliver(place, &[0; 65536]), Ok(()));
@@ -112,7 +118,10 @@ fn a_refusal_is_an_error() {
         Judge::new().open(1)?;
         Ok(())
     }
-    assert_eq!(called().unwrap_err().to_string(), "refused 20: no rule is loaded");
+    assert_eq!(
+        called().unwrap_err().to_string(),
+        "refused 20: no rule is loaded"
+    );
 }
 
 #[test]
