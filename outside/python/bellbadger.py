@@ -169,7 +169,7 @@ def _declare(library, name, result, *arguments):
 def _library(path):
     """The shared library, seen to be the one that this module was written for."""
     if not path.is_file():
-        raise ImportError(f"{path} is not there; make it, at the top of the repository, with: tests/outside")
+        raise ImportError(f"{path} is not there; make it at the top of the repository: tests/outside")
     library = ctypes.CDLL(str(path))
     size, data = ctypes.c_size_t, (ctypes.c_char_p, ctypes.c_size_t)
     _declare(library, "version", ctypes.c_uint32)
@@ -192,7 +192,7 @@ _lib = _library(_path())
 
 
 def _size(number):
-    """A number for C. One that C has no size for is too large for any board: so is what stands for it."""
+    """A number for C. One that C has no size for fits no board: nor does what stands for it."""
     number = operator.index(number)
     return number if 0 <= number <= _LARGEST_SIZE else _LARGEST_SIZE
 

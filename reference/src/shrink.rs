@@ -36,14 +36,14 @@ pub fn shrink(list: &Lines, differs: Test<Lines>) -> Lines {
 /// Leaves out pieces, first large and then small ones, as long as the rest still passes the test.
 fn leave_out<T: Clone + PartialEq>(items: &[T], test: &dyn Fn(&[T]) -> bool) -> Vec<T> {
     let without = |items: &[T], from: usize, to: usize| [&items[..from], &items[to..]].concat();
-    by_pieces(items, &without, test)
+    by_pieces(items, without, test)
 }
 
 /// Changes pieces, first large and then small ones, where what comes of it passes the test. A change
 /// leaves a piece out or keeps the number of items.
 fn by_pieces<T: Clone + PartialEq>(
     items: &[T],
-    change: &dyn Fn(&[T], usize, usize) -> Vec<T>,
+    change: impl Fn(&[T], usize, usize) -> Vec<T>,
     test: &dyn Fn(&[T]) -> bool,
 ) -> Vec<T> {
     let mut items = items.to_vec();
@@ -88,7 +88,7 @@ fn smaller_bytes(bytes: &[u8], test: &dyn Fn(&[u8]) -> bool) -> Vec<u8> {
         changed[from..to].fill(0);
         changed
     };
-    let mut bytes = by_pieces(bytes, &zeros, test);
+    let mut bytes = by_pieces(bytes, zeros, test);
     let left: Vec<usize> = (0..bytes.len()).filter(|&i| bytes[i] > 0).take(REFUSALS / 8).collect();
     for i in left {
         let with = |number: u64| {
