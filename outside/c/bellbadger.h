@@ -1,4 +1,4 @@
-/* The valve trace judge. Link target/staticlib/libcapi.a (`rt staticlib capi` writes it), on x86-64.
+/* The valve trace judge, for x86-64. Link target/staticlib/libcapi.a: `rt staticlib capi` makes it.
  *
  * The caller keeps the judge and hands it in by value; each call that may change it hands the next
  * one back. A refused call hands back the judge that came: look at `accepted` after every call. Any
@@ -37,9 +37,9 @@
 extern "C" {
 #endif
 
-/* A rule as it was built: states, symbols, starts (M), sets; masks of initial and final states; each
- * state's delegate and the number of its own set; the sets' masks; 16 cells of next sets for each
- * set. n is 0 where no rule is there. */
+/* A rule as it was built: states, symbols, starts (M), sets; masks of initial and final states;
+ * each state's delegate and the number of its own set; the sets' masks; 16 cells of next sets for
+ * each set. n is 0 where no rule is there. */
 typedef struct {
     uint8_t n, k, starts;
     uint16_t count;
@@ -123,7 +123,8 @@ BELLBADGER_RESULT bellbadger_withdraw_result bellbadger_withdraw(bellbadger_judg
 /* Changes nothing. Refused with 21 no board is open. */
 BELLBADGER_RESULT bellbadger_verdict_result bellbadger_verdict(bellbadger_judge judge);
 
-/* Runs the calls that a text records on a fresh judge, and answers the verdict after them. A line is
+/* Runs the calls that a text records on a fresh judge, and answers the verdict after them. A line
+ * is
  *   load HEX        deliver P HEX      verdict
  *   open N          withdraw P         or empty: a fresh judge begins
  * with exactly one space between fields. HEX is pairs of hex digits of either case, or - for no

@@ -1,5 +1,5 @@
-/* Two controllers deliver out of turn; rule A accepts the texts that end in 0 1. Every call is looked
- * at: one that is refused hands back the judge that came, and only `accepted` tells. */
+/* Two controllers deliver out of turn; rule A accepts the texts that end in 0 1. Every answer is
+ * looked at: a refused call hands back the judge that came, and only `accepted` tells. */
 #include <inttypes.h>
 #include <stdio.h>
 #include <stdlib.h>

@@ -81,7 +81,8 @@ static void replay(const char *text, int kind, uint64_t number) {
 static void built_with(void) {
     CHECK(bellbadger_version() == BELLBADGER_VERSION);
     CHECK(bellbadger_version() >> 16 == BELLBADGER_VERSION_MAJOR && (bellbadger_version() & 65535) == BELLBADGER_VERSION_MINOR);
-    CHECK(bellbadger_state_size() == sizeof(bellbadger_judge) && sizeof(bellbadger_judge) == BELLBADGER_STATE_SIZE);
+    CHECK(sizeof(bellbadger_judge) == BELLBADGER_STATE_SIZE);
+    CHECK(bellbadger_state_size() == sizeof(bellbadger_judge));
 }
 
 /* every field of rule A as it was built, so that the header's struct is the library's */

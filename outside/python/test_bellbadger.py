@@ -101,14 +101,19 @@ class Calls(unittest.TestCase):
 
     def test_a_small_stack(self):
         verdicts = []
+        record = b"load " + A.hex().encode() + b"\nopen 1\ndeliver 0 -\n"
+
+        def calls():
+            verdicts.extend([judged(A, [0], [1]), replay(record)])
+
         before = threading.stack_size(512 * 1024)
         try:
-            thread = threading.Thread(target=lambda: verdicts.append(judged(A, [0], [1])))
+            thread = threading.Thread(target=calls)
             thread.start()
             thread.join()
         finally:
             threading.stack_size(before)
-        self.assertEqual(verdicts, [Yes(3)])
+        self.assertEqual(verdicts, [Yes(3), No(0)])
 
 
 class Records(unittest.TestCase):

@@ -1,6 +1,6 @@
-//! Makes a list of calls that shows a difference small: whatever can be left out or made smaller while
-//! the difference stays. Calls, bytes, places, symbols, states and arcs are left out; numbers and
-//! bytes are made smaller. Every step makes the list smaller, so it ends.
+//! Makes a list of calls that shows a difference small. Calls, bytes, places, symbols, states and
+//! arcs are left out, and numbers and bytes made smaller, wherever the difference stays. Every step
+//! makes the list smaller or a line plainer, so it ends.
 
 use crate::automata::file;
 use crate::judge::Call;
@@ -39,8 +39,8 @@ fn leave_out<T: Clone + PartialEq>(items: &[T], test: &dyn Fn(&[T]) -> bool) -> 
     by_pieces(items, without, test)
 }
 
-/// Changes pieces, first large and then small ones, where what comes of it passes the test. A change
-/// leaves a piece out or keeps the number of items.
+/// Changes pieces, first large and then small ones, where what comes of it passes the test. A
+/// change leaves a piece out or keeps the number of items.
 fn by_pieces<T: Clone + PartialEq>(
     items: &[T],
     change: impl Fn(&[T], usize, usize) -> Vec<T>,
@@ -68,7 +68,7 @@ fn by_pieces<T: Clone + PartialEq>(
     items
 }
 
-/// The smallest number found that passes the test, if a larger one does where a smaller does.
+/// A smaller number that passes the test: the smallest one, where all above it pass too.
 fn smaller_number(number: u64, test: &dyn Fn(u64) -> bool) -> u64 {
     let (mut number, mut step) = (number, number);
     while step > 0 {
@@ -108,8 +108,8 @@ fn with_line(list: &Lines, i: usize, line: Vec<u8>) -> Lines {
     other
 }
 
-/// Leaves out bytes: of the hex digits of a file or a chunk, which stay as they are written, or of a
-/// line that is malformed.
+/// Leaves out bytes: of the hex digits of a file or a chunk, which stay as they are written, or of
+/// a line that is malformed.
 fn fewer_bytes(list: &Lines, i: usize, differs: Test<Lines>) -> Lines {
     let Some(call) = call(&list[i]) else {
         let shorter = leave_out(&list[i], &|rest| !rest.is_empty() && differs(&with_line(list, i, rest.to_vec())));
@@ -228,7 +228,7 @@ fn fewer_members(mask: u32, test: &dyn Fn(u32) -> bool) -> u32 {
     of(&leave_out(&states, &|states| test(of(states))))
 }
 
-/// Leaves out, of each line that has some, one thing after the other, and what the later lines say of
+/// Leaves out, of each line that has some, one thing after the other, and what later lines say of
 /// it: `count` is how many things a line has, `without` the list without one of them.
 fn fewer(
     list: Lines,
@@ -266,7 +266,7 @@ fn symbols(line: &[u8]) -> usize {
     }
 }
 
-/// The number without one below or above it: nothing for that one, and those above move down.
+/// What becomes of a number when one is left out: nothing of that one, and those above move down.
 fn moved(number: u64, one: usize) -> Option<u64> {
     match number.cmp(&(one as u64)) {
         std::cmp::Ordering::Less => Some(number),
@@ -275,7 +275,7 @@ fn moved(number: u64, one: usize) -> Option<u64> {
     }
 }
 
-/// The list with a smaller board opened in line i, and without the calls for the place that it lost.
+/// The list with a smaller board opened in line i, without the calls for the place that it lost.
 fn without_place(list: &Lines, i: usize, place: usize) -> Lines {
     let Some(Call::Open(places)) = call(&list[i]) else { return list.clone() };
     let mut less = with_line(list, i, line(&Call::Open(places - 1)));
@@ -302,7 +302,7 @@ fn without_symbol(list: &Lines, i: usize, symbol: usize) -> Lines {
     less
 }
 
-/// Changes the calls after line i, up to the next empty line; a call that nothing comes of is left out.
+/// Changes the calls after line i up to an empty line; one that nothing comes of is left out.
 fn later(list: &mut Lines, i: usize, change: impl Fn(Call) -> Option<Call>) {
     let rest = list.split_off(i + 1);
     let end = rest.iter().position(Vec::is_empty).unwrap_or(rest.len());

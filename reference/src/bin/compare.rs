@@ -1,5 +1,5 @@
-//! Compares another program with the reference: `compare PROGRAM SEED LISTS FILE`. A list that shows a
-//! difference is made small, printed with the answers of both, and written whole to FILE.
+//! Compares another program with the reference: `compare PROGRAM SEED LISTS FILE`. A list that
+//! shows a difference is made small, printed with the answers of both, and written whole to FILE.
 
 use reference::compare::{first_difference, program_answers, reference_answers, smallest};
 use reference::table::table;
@@ -49,14 +49,14 @@ fn lists_from(seed: u64, first: u64, last: u64) -> Vec<u8> {
     text
 }
 
-/// Makes the list small that shows a difference, prints it with both answers, and writes it to a file.
+/// Makes the list that shows a difference small, prints it with both answers, writes it to a file.
 fn difference(program: &str, text: &[u8], line: usize, file: &str) -> ! {
     // a panic of the reference was told once; each smaller list would tell it again
     std::panic::set_hook(Box::new(|_| ()));
     let text = smallest(program, text, line);
     print!("{}", table(&text, &reference_answers(&text), &program_answers(program, &text)));
     match std::fs::write(file, &text) {
-        Ok(()) => println!("the list, made small and with its lines whole: {file}; try it with: {program} < {file}"),
+        Ok(()) => println!("the same list with its lines whole: {file}\ntry it with: {program} < {file}"),
         Err(error) => println!("the list could not be written to {file}: {error}"),
     }
     std::process::exit(1);
