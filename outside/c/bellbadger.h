@@ -1,11 +1,15 @@
-/* The valve trace judge. Link target/staticlib/libcapi.a (`rt staticlib capi` writes it), on x86-64.
+/* The valve trace judge, for x86-64. Link target/staticlib/libcapi.a: `rt staticlib capi` makes it.
  *
- * The caller keeps the judge and hands it in by value; each call that may change it hands the next one back.
- * A refused call hands back the judge that came. Any bytes whatever may stand in a judge: every call still
- * ends and stays within its bounds, but only a judge that began with bellbadger_new and went through the calls
- * below has a meaning. Files, chunks and texts are only read; a pointer must lead to as many bytes as the
- * length beside it says, and may be anything where that is 0. A judge goes by value, so a thread needs a stack
- * of 1 MB to be at ease.
+ * The caller keeps the judge and hands it in by value; each call that may change it hands the next
+ * one back. A refused call hands back the judge that came: look at `accepted` after every call. Any
+ * bytes whatever may stand in a judge: every call still ends and stays within its bounds, but only
+ * a judge that began with bellbadger_new and went through the calls below has a meaning. Files,
+ * chunks and texts are only read; a pointer must lead to as many bytes as the length beside it
+ * says, and may be anything where that is 0.
+ *
+ * Threads: no function keeps anything, they work on values only; any number of threads may call at
+ * once. Stack: a judge goes by value; for a thread that calls these functions a stack of 512 KB is
+ * enough, 128 KB is not.
  */
 #ifndef BELLBADGER_H
 #define BELLBADGER_H
@@ -13,9 +17,29 @@
 #include <stddef.h>
 #include <stdint.h>
 
-/* A rule as it was built: states, symbols, starts (M), sets; masks of initial and final states; each state's
- * delegate and the number of its own set; the sets' masks; 16 cells of next sets for each set. n is 0 where
- * no rule is there. */
+/* What this header was written for. Compare with what the library tells of itself at run time:
+ * bellbadger_version() == BELLBADGER_VERSION && bellbadger_state_size() == BELLBADGER_STATE_SIZE.
+ * Another major number or size: the two do not fit. A higher minor number of the library: it can
+ * more than this header says. */
+#define BELLBADGER_VERSION_MAJOR 1
+#define BELLBADGER_VERSION_MINOR 0
+#define BELLBADGER_VERSION (BELLBADGER_VERSION_MAJOR * 65536 + BELLBADGER_VERSION_MINOR)
+#define BELLBADGER_STATE_SIZE 27060 /* the bytes of a bellbadger_judge */
+
+/* A result that is dropped is a call without effect, or a refusal that nobody sees. */
+#if defined(__GNUC__)
+#define BELLBADGER_RESULT __attribute__((warn_unused_result))
+#else
+#define BELLBADGER_RESULT
+#endif
+
+#ifdef __cplusplus
+extern "C" {
+#endif
+
+/* A rule as it was built: states, symbols, starts (M), sets; masks of initial and final states;
+ * each state's delegate and the number of its own set; the sets' masks; 16 cells of next sets for
+ * each set. n is 0 where no rule is there. */
 typedef struct {
     uint8_t n, k, starts;
     uint16_t count;
@@ -26,8 +50,8 @@ typedef struct {
     uint16_t next[8192];
 } bellbadger_rule;
 
-/* A board: how many places, which are filled, their counts, and 32 end sets for each. places is 0 where no
- * board is there. */
+/* A board: how many places, which are filled, their counts, and 32 end sets for each. places is 0
+ * where no board is there. */
 typedef struct {
     uint8_t places;
     uint8_t filled[64];
@@ -66,8 +90,12 @@ typedef struct {
     uint64_t number;
 } bellbadger_verdict_result, bellbadger_replay_result;
 
+/* What the library was built with: its version, major * 65536 + minor, and the bytes of a judge. */
+BELLBADGER_RESULT uint32_t bellbadger_version(void);
+BELLBADGER_RESULT size_t bellbadger_state_size(void);
+
 /* A judge with no rule and no board. */
-bellbadger_judge bellbadger_new(void);
+BELLBADGER_RESULT bellbadger_judge bellbadger_new(void);
 
 /* Checks and builds a rule; replaces the former one and removes the board. Refused with
  *   1 too short for a head (10 bytes)      2 longer than any rule (32,906 bytes)
@@ -76,24 +104,38 @@ bellbadger_judge bellbadger_new(void);
  *   7 a pair has a wrong offset or an odd length, or the sections do not end where the file does
  *   8 an arc has a symbol or a target that there is not, or the arcs of a section do not rise
  *   9 the rule has over 512 sets */
-bellbadger_load_result bellbadger_load(bellbadger_judge judge, const uint8_t *file, size_t length);
+BELLBADGER_RESULT bellbadger_load_result bellbadger_load(bellbadger_judge judge, const uint8_t *file, size_t length);
 
-/* A board of that many empty places; drops an earlier one. Refused with 20 no rule is loaded, 10 no number of places from 1 to 64. */
-bellbadger_open_result bellbadger_open(bellbadger_judge judge, size_t places);
+/* A board of that many empty places; drops an earlier one. Refused with
+ *   20 no rule is loaded      10 no number of places from 1 to 64 */
+BELLBADGER_RESULT bellbadger_open_result bellbadger_open(bellbadger_judge judge, size_t places);
 
 /* Runs a chunk and keeps its end sets and count at the place. Refused with
  *   21 no board is open      11 the board has no such place      12 the chunk has over 65,536 bytes
- *   13 a byte is no symbol   22 the place has a chunk already    24 the counts would sum up to 2^32 or more */
-bellbadger_deliver_result bellbadger_deliver(bellbadger_judge judge, size_t place, const uint8_t *chunk, size_t length);
+ *   13 a byte is no symbol   22 the place has a chunk already
+ *   24 the counts would sum up to 2^32 or more (cannot happen to a judge that began fresh) */
+BELLBADGER_RESULT bellbadger_deliver_result bellbadger_deliver(bellbadger_judge judge, size_t place, const uint8_t *chunk, size_t length);
 
-/* Empties a place. Refused with 21 no board is open, 11 the board has no such place, 23 it has no chunk. */
-bellbadger_withdraw_result bellbadger_withdraw(bellbadger_judge judge, size_t place);
+/* Empties a place. Refused with
+ *   21 no board is open      11 the board has no such place      23 the place has no chunk */
+BELLBADGER_RESULT bellbadger_withdraw_result bellbadger_withdraw(bellbadger_judge judge, size_t place);
 
 /* Changes nothing. Refused with 21 no board is open. */
-bellbadger_verdict_result bellbadger_verdict(bellbadger_judge judge);
+BELLBADGER_RESULT bellbadger_verdict_result bellbadger_verdict(bellbadger_judge judge);
 
-/* Runs the calls that a text records, one a line as tracejudge reads them, on a fresh judge, and answers the
- * verdict after them. */
-bellbadger_replay_result bellbadger_replay(const uint8_t *text, size_t length);
+/* Runs the calls that a text records on a fresh judge, and answers the verdict after them. A line
+ * is
+ *   load HEX        deliver P HEX      verdict
+ *   open N          withdraw P         or empty: a fresh judge begins
+ * with exactly one space between fields. HEX is pairs of hex digits of either case, or - for no
+ * bytes; N and P are 1 to 20 decimal digits with a value below 2^64. A line ends with a line feed
+ * alone (a carriage return belongs to the line, which is then malformed); the last may end with the
+ * text. A call that is refused changes nothing, and the next line is run. Any other line is
+ * malformed: the answer is BELLBADGER_MALFORMED with the number of the first such line. */
+BELLBADGER_RESULT bellbadger_replay_result bellbadger_replay(const uint8_t *text, size_t length);
+
+#ifdef __cplusplus
+}
+#endif
 
 #endif

@@ -1,6 +1,7 @@
 /* What the judge costs, as ratios: each figure is the median of several runs, taken side by side in one process.
  * Chunks are run at place 1, from all starts; beside them a plain walk of the rule's own next-set table on the
  * same text, once for each start. */
+#define _POSIX_C_SOURCE 200809L /* clock_gettime */
 #include <stdio.h>
 #include <stdlib.h>
 #include <string.h>

@@ -1,6 +1,8 @@
-/* Two controllers deliver out of turn; rule A accepts the texts that end in 0 1. */
+/* Two controllers deliver out of turn; rule A accepts the texts that end in 0 1. Every answer is
+ * looked at: a refused call hands back the judge that came, and only `accepted` tells. */
 #include <inttypes.h>
 #include <stdio.h>
+#include <stdlib.h>
 
 #include "bellbadger.h"
 
@@ -9,6 +11,38 @@ static const uint8_t rule_a[] = {
     0x00, 0x02, 0x00, 0x1E, 0x00, 0x00, 0x00, 0x00, 0x00, 0x00, 0x01, 0x01, 0x00, 0x01, 0x02,
 };
 
+/* Ends the program where a call that should be accepted is refused. */
+static void expect_accepted(const char *call, uint8_t accepted, uint8_t refused) {
+    if (accepted) return;
+    printf("%s: refused %d\n", call, refused);
+    exit(1);
+}
+
+static bellbadger_judge load(bellbadger_judge judge, const uint8_t *file, size_t length) {
+    bellbadger_load_result r = bellbadger_load(judge, file, length);
+    expect_accepted("load", r.accepted, r.refused);
+    printf("%d sets, %d starts\n", r.sets, r.starts);
+    return r.judge;
+}
+
+static bellbadger_judge open_board(bellbadger_judge judge, size_t places) {
+    bellbadger_open_result r = bellbadger_open(judge, places);
+    expect_accepted("open", r.accepted, r.refused);
+    return r.judge;
+}
+
+static bellbadger_judge deliver(bellbadger_judge judge, size_t place, uint8_t event) {
+    bellbadger_deliver_result r = bellbadger_deliver(judge, place, &event, 1);
+    expect_accepted("deliver", r.accepted, r.refused);
+    return r.judge;
+}
+
+static bellbadger_judge withdraw(bellbadger_judge judge, size_t place) {
+    bellbadger_withdraw_result r = bellbadger_withdraw(judge, place);
+    expect_accepted("withdraw", r.accepted, r.refused);
+    return r.judge;
+}
+
 static void ask(bellbadger_judge judge) {
     static const char *words[] = {"refused", "waiting", "yes", "no"};
     bellbadger_verdict_result v = bellbadger_verdict(judge);
@@ -16,22 +50,19 @@ static void ask(bellbadger_judge judge) {
 }
 
 int main(void) {
-    bellbadger_judge judge = bellbadger_new();
-    bellbadger_load_result loaded = bellbadger_load(judge, rule_a, sizeof rule_a);
-    if (!loaded.accepted) {
-        printf("refused %d\n", loaded.refused);
+    if (bellbadger_version() != BELLBADGER_VERSION || bellbadger_state_size() != sizeof(bellbadger_judge)) {
+        printf("the library is not the one that bellbadger.h describes\n");
         return 1;
     }
-    printf("%d sets, %d starts\n", loaded.sets, loaded.starts);
-    judge = bellbadger_open(loaded.judge, 2).judge;
+    bellbadger_judge judge = load(bellbadger_new(), rule_a, sizeof rule_a);
+    judge = open_board(judge, 2);
     ask(judge);
-    judge = bellbadger_deliver(judge, 1, (const uint8_t[]){1}, 1).judge;
-    judge = bellbadger_deliver(judge, 0, (const uint8_t[]){0}, 1).judge;
+    judge = deliver(judge, 1, 1);
+    judge = deliver(judge, 0, 0);
     ask(judge);
     bellbadger_deliver_result again = bellbadger_deliver(judge, 0, (const uint8_t[]){1}, 1);
     printf("%s %d\n", again.accepted ? "accepted" : "refused", again.refused);
-    judge = bellbadger_withdraw(again.judge, 0).judge;
-    judge = bellbadger_deliver(judge, 0, (const uint8_t[]){1}, 1).judge;
+    judge = deliver(withdraw(again.judge, 0), 0, 1);
     ask(judge);
     return 0;
 }

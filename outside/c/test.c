@@ -1,10 +1,15 @@
-/* The library's calls from C: the struct field by field, answers and refusals, and states that no list of calls
- * leaves. Prints how many checks were made; stops at the first that fails. */
+/* The library's calls from C, all on a thread with the stack that the header says is enough: the
+ * struct field by field, answers and refusals, and states that no list of calls leaves. Prints how
+ * many checks were made; stops at the first that fails. */
+#define _POSIX_C_SOURCE 200809L
+#include <pthread.h>
 #include <stdio.h>
 #include <stdlib.h>
 #include <string.h>
 
 #include "bellbadger.h"
+
+enum { STACK = 512 * 1024 };
 
 static long checks;
 
@@ -72,6 +77,14 @@ static void replay(const char *text, int kind, uint64_t number) {
     CHECK(r.kind == kind && r.number == number);
 }
 
+/* the library is the one that the header describes */
+static void built_with(void) {
+    CHECK(bellbadger_version() == BELLBADGER_VERSION);
+    CHECK(bellbadger_version() >> 16 == BELLBADGER_VERSION_MAJOR && (bellbadger_version() & 65535) == BELLBADGER_VERSION_MINOR);
+    CHECK(sizeof(bellbadger_judge) == BELLBADGER_STATE_SIZE);
+    CHECK(bellbadger_state_size() == sizeof(bellbadger_judge));
+}
+
 /* every field of rule A as it was built, so that the header's struct is the library's */
 static void layout(const bellbadger_judge *j) {
     static const uint32_t sets[] = {1, 3, 5, 2, 4};
@@ -135,6 +148,8 @@ static void records(void) {
     replay(LOAD_A "open  2\nverdict\n", BELLBADGER_MALFORMED, 2);
     replay(LOAD_A "open 2\r\n", BELLBADGER_MALFORMED, 2);
     replay("verdict\nverdict\nx", BELLBADGER_MALFORMED, 3);
+    replay("open 1\n" LOAD_A "open 99\nopen 1\nwithdraw 0\ndeliver 00 0001\nverdict\n", BELLBADGER_YES, 2);
+    replay(LOAD_A "open 00000000000000000001\ndeliver 0 -", BELLBADGER_NO, 0);
 }
 
 /* xorshift */
@@ -169,17 +184,26 @@ static void garbage(int states) {
         bellbadger_withdraw_result w = bellbadger_withdraw(d.judge, place);
         CHECK(w.accepted || same(&w.judge, &d.judge));
         CHECK(bellbadger_verdict(j).kind <= BELLBADGER_NO && bellbadger_verdict(w.judge).kind <= BELLBADGER_NO);
-        bellbadger_replay((const uint8_t *)chunk, sizeof chunk);
+        CHECK(bellbadger_replay(chunk, sizeof chunk).kind <= BELLBADGER_MALFORMED);
         CHECK(!memcmp(before, chunk, sizeof chunk));
     }
 }
 
-int main(int argc, char **argv) {
-    CHECK(sizeof(bellbadger_judge) == 27060);
-    for (size_t i = 0; i < sizeof big; i++) big[i] = i % 2;
+static void *all(void *states) {
+    built_with();
     calls();
     records();
-    garbage(argc > 1 ? atoi(argv[1]) : 2000);
-    printf("%ld checks\n", checks);
+    garbage(*(int *)states);
+    return NULL;
+}
+
+int main(int argc, char **argv) {
+    int states = argc > 1 ? atoi(argv[1]) : 2000;
+    pthread_attr_t small;
+    pthread_t thread;
+    for (size_t i = 0; i < sizeof big; i++) big[i] = i % 2;
+    CHECK(!pthread_attr_init(&small) && !pthread_attr_setstacksize(&small, STACK));
+    CHECK(!pthread_create(&thread, &small, all, &states) && !pthread_join(thread, NULL));
+    printf("%ld checks on a stack of %d KB\n", checks, STACK / 1024);
     return 0;
 }

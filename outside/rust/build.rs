@@ -1,12 +1,26 @@
 // Links libcapi.a, which `rt staticlib capi` writes; BELLBADGER_LIB names another folder for it.
 use std::{env, path::PathBuf};
 
+fn folder() -> PathBuf {
+    match env::var_os("BELLBADGER_LIB") {
+        Some(folder) => PathBuf::from(folder),
+        None => PathBuf::from(env!("CARGO_MANIFEST_DIR")).join("../../target/staticlib"),
+    }
+}
+
 fn main() {
-    let folder = env::var("BELLBADGER_LIB").map(PathBuf::from).unwrap_or_else(|_| {
-        PathBuf::from(env::var("CARGO_MANIFEST_DIR").unwrap()).join("../../target/staticlib")
-    });
+    let folder = folder();
+    let library = folder.join("libcapi.a");
     println!("cargo:rerun-if-env-changed=BELLBADGER_LIB");
-    println!("cargo:rerun-if-changed={}", folder.join("libcapi.a").display());
+    println!("cargo:rerun-if-changed={}", library.display());
+    if !library.is_file() {
+        eprintln!(
+            "{} is not there. Make it, at the top of the repository, with:\n    rt staticlib capi\n\
+             or name the folder that has it in BELLBADGER_LIB.",
+            library.display()
+        );
+        std::process::exit(1);
+    }
     println!("cargo:rustc-link-search=native={}", folder.display());
     println!("cargo:rustc-link-lib=static=capi");
 }

@@ -1,10 +1,11 @@
-//! Runs the other program, finds the first difference, makes the list that shows it short.
+//! Runs both sides on a text of calls, and finds the first difference.
 
+use crate::judge::Judge;
 use crate::lines;
+use crate::shrink::{shrink, Lines};
 use std::io::{Read, Write};
+use std::panic::{catch_unwind, AssertUnwindSafe};
 use std::process::{Command, Stdio};
-
-type Lines = Vec<Vec<u8>>;
 
 /// What the program prints for a text. A program that fails says so in a last line.
 pub fn program_answers(program: &str, text: &[u8]) -> Vec<u8> {
@@ -25,6 +26,27 @@ pub fn program_answers(program: &str, text: &[u8]) -> Vec<u8> {
         printed.extend(format!("({status})\n").into_bytes());
     }
     printed
+}
+
+/// What the reference answers to a text. If it panics, that is its last answer.
+pub fn reference_answers(text: &[u8]) -> Vec<u8> {
+    answers_or_panic(text, lines::answer_line)
+}
+
+/// The answers to the lines of a text, up to the first on which the judge panics.
+pub fn answers_or_panic(text: &[u8], answer: fn(&mut Judge, &[u8]) -> String) -> Vec<u8> {
+    let mut judge = Judge::default();
+    let mut answers = Vec::new();
+    for line in lines::lines(text) {
+        match catch_unwind(AssertUnwindSafe(|| answer(&mut judge, line))) {
+            Ok(answer) => answers.extend((answer + "\n").into_bytes()),
+            Err(_) => {
+                answers.extend(b"(panic)\n");
+                break;
+            }
+        }
+    }
+    answers
 }
 
 /// The number of the first line on which the two texts of answers differ.
@@ -48,62 +70,12 @@ fn joined(list: &Lines, line_feed: bool) -> Vec<u8> {
 
 /// Whether the two differ on a text.
 fn differs(program: &str, text: &[u8]) -> bool {
-    program_answers(program, text) != lines::answers(text).into_bytes()
+    program_answers(program, text) != reference_answers(text)
 }
 
-/// Leaves out pieces, first large and then small ones, as long as the rest still passes the test.
-fn leave_out<T: Clone>(items: &[T], test: &dyn Fn(&[T]) -> bool) -> Vec<T> {
-    let mut items = items.to_vec();
-    let mut piece = items.len().div_ceil(2);
-    let mut failures = 0;
-    while piece > 0 && failures < 600 {
-        let mut at = 0;
-        while at < items.len() && failures < 600 {
-            let mut rest = items.clone();
-            rest.drain(at..(at + piece).min(items.len()));
-            if test(&rest) {
-                items = rest;
-            } else {
-                at += piece;
-                failures += 1;
-            }
-        }
-        piece /= 2;
-    }
-    items
-}
-
-/// The shortest list that can be had by leaving out calls and bytes while the two still differ.
-pub fn shrink(list: &Lines, differs: &dyn Fn(&Lines) -> bool) -> Lines {
-    let mut list = list.clone();
-    loop {
-        let before = list.clone();
-        list = leave_out(&list, &|rest: &[Vec<u8>]| differs(&rest.to_vec()));
-        for i in 0..list.len() {
-            let Some(space) = list[i].iter().rposition(|&c| c == b' ') else { continue };
-            let (front, hex) = list[i].split_at(space + 1);
-            if !matches!(front.split(|&c| c == b' ').next(), Some(b"load" | b"deliver")) || hex.len() % 2 != 0 {
-                continue;
-            }
-            let pairs: Vec<[u8; 2]> = hex.chunks(2).map(|pair| [pair[0], pair[1]]).collect();
-            let with = |pairs: &[[u8; 2]]| -> Lines {
-                let mut other = list.clone();
-                let hex = if pairs.is_empty() { b"-".to_vec() } else { pairs.concat() };
-                other[i] = [front, &hex].concat();
-                other
-            };
-            let shorter = leave_out(&pairs, &|rest: &[[u8; 2]]| differs(&with(rest)));
-            list = with(&shorter);
-        }
-        if list == before {
-            return list;
-        }
-    }
-}
-
-/// A short text for a difference on a line: made from the list alone that has the line, else from
+/// A small text for a difference on a line: made from the list alone that has the line, else from
 /// all lines up to it, else (a program may fail without answers) from the whole text.
-pub fn shortest(program: &str, text: &[u8], line: usize) -> Vec<u8> {
+pub fn smallest(program: &str, text: &[u8], line: usize) -> Vec<u8> {
     let all: Lines = lines::lines(text).iter().map(|line| line.to_vec()).collect();
     let line_feed = line + 1 < all.len() || text.ends_with(b"\n");
     let up_to = all[..all.len().min(line + 1)].to_vec();

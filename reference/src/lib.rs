@@ -9,4 +9,6 @@ pub mod lines;
 pub mod lists;
 pub mod random;
 pub mod rule;
+pub mod shrink;
+pub mod table;
 pub mod tally;

@@ -36,6 +36,22 @@ pub fn call(line: &[u8]) -> Option<Call> {
     }
 }
 
+/// The plainest line that records a call.
+pub fn line(call: &Call) -> Vec<u8> {
+    let hex = |bytes: &[u8]| match bytes {
+        [] => "-".to_string(),
+        bytes => bytes.iter().map(|byte| format!("{byte:02X}")).collect(),
+    };
+    let line = match call {
+        Call::Load(file) => format!("load {}", hex(file)),
+        Call::Open(places) => format!("open {places}"),
+        Call::Deliver(place, chunk) => format!("deliver {place} {}", hex(chunk)),
+        Call::Withdraw(place) => format!("withdraw {place}"),
+        Call::Verdict => "verdict".to_string(),
+    };
+    line.into_bytes()
+}
+
 fn answer(answer: Answer) -> String {
     match answer {
         Answer::Loaded(sets, starts) => format!("accepted {sets} {starts}"),
@@ -56,20 +72,17 @@ pub fn lines(text: &[u8]) -> Vec<&[u8]> {
     lines
 }
 
+/// The answer to a line; an empty one has an empty answer, and a fresh judge begins.
+pub fn answer_line(judge: &mut Judge, line: &[u8]) -> String {
+    if line.is_empty() {
+        *judge = Judge::default();
+        return String::new();
+    }
+    call(line).map_or("malformed".to_string(), |call| answer(judge.call(&call)))
+}
+
 /// The answers to the lines of a text.
 pub fn answers(text: &[u8]) -> String {
     let mut judge = Judge::default();
-    let mut answers = String::new();
-    for line in lines(text) {
-        if line.is_empty() {
-            judge = Judge::default();
-        } else {
-            match call(line) {
-                Some(call) => answers += &answer(judge.call(&call)),
-                None => answers += "malformed",
-            }
-        }
-        answers += "\n";
-    }
-    answers
+    lines(text).iter().map(|line| answer_line(&mut judge, line) + "\n").collect()
 }

@@ -1,11 +1,13 @@
 //! The parser, and checks of the reference against itself by other ways to the same result.
 
-use reference::automata::{automaton, file};
-use reference::compare::shrink;
+use reference::automata::{automaton, blank, file};
+use reference::compare::answers_or_panic;
 use reference::judge::Call;
-use reference::lines::{answers, call, lines};
+use reference::lines::{answer_line, answers, call, line, lines};
 use reference::random::Random;
 use reference::rule::{members, Automaton, Rule};
+use reference::shrink::shrink;
+use reference::table::table;
 use std::collections::BTreeSet;
 
 #[test]
@@ -18,6 +20,13 @@ fn calls() {
     assert_eq!(call(b"deliver 0 0001"), Some(Call::Deliver(0, vec![0, 1])));
     assert_eq!(call(b"withdraw 0"), Some(Call::Withdraw(0)));
     assert_eq!(call(b"verdict"), Some(Call::Verdict));
+}
+
+#[test]
+fn a_call_is_read_as_it_was_written() {
+    for plain in [&b"load 0AFF"[..], b"load -", b"open 64", b"deliver 7 -", b"deliver 0 0001", b"withdraw 0", b"verdict"] {
+        assert_eq!(line(&call(plain).unwrap()), plain);
+    }
 }
 
 #[test]
@@ -126,4 +135,67 @@ fn shrinking_leaves_what_matters() {
         list.iter().any(|line| has(line, b"deliver 7 ") && has(line, b"03")) && list.iter().any(|line| has(line, b"23 "))
     };
     assert_eq!(shrink(&list, &wrong), vec![b"deliver 7 03".to_vec(), b"deliver 23 -".to_vec()]);
+}
+
+/// The lines of a text.
+fn list(text: &str) -> Vec<Vec<u8>> {
+    text.lines().map(|line| line.as_bytes().to_vec()).collect()
+}
+
+#[test]
+fn shrinking_makes_numbers_smaller() {
+    let large = |list: &Vec<Vec<u8>>| list.iter().any(|line| matches!(call(line), Some(Call::Withdraw(100..))));
+    assert_eq!(shrink(&list("withdraw 18446744073709551615"), &large), list("withdraw 100"));
+    assert_eq!(shrink(&list("withdraw 00000000000000000107"), &large), list("withdraw 100"));
+}
+
+/// Five places and a rule of six states and four symbols, of which one of each is enough for a yes
+/// with a count: whatever place, state and symbol it is, what is left has number 0.
+#[test]
+fn shrinking_makes_places_symbols_and_rules_smaller() {
+    let mut rule = blank(6, 4);
+    (rule.initial, rule.finals) = (0b111000, 0b011100);
+    rule.targets.iter_mut().flatten().for_each(|targets| *targets = 0b111111);
+    let load = String::from_utf8(line(&Call::Load(file(&rule)))).unwrap();
+    let text = format!("{load}\nopen 5\ndeliver 4 -\ndeliver 3 03\ndeliver 2 010203\ndeliver 1 -\ndeliver 0 -\nverdict");
+    let counted = |list: &Vec<Vec<u8>>| {
+        let answers = answers(&list.join(&b'\n'));
+        answers.lines().any(|answer| answer.starts_with("yes ") && answer != "yes 0")
+    };
+    let mut least = blank(1, 1);
+    (least.initial, least.finals, least.targets[0][0]) = (1, 1, 1);
+    let least = String::from_utf8(line(&Call::Load(file(&least)))).unwrap();
+    assert_eq!(shrink(&list(&text), &counted), list(&format!("{least}\nopen 1\ndeliver 0 00\nverdict")));
+}
+
+#[test]
+fn the_bytes_of_a_file_that_is_no_rule_are_made_smaller() {
+    let refused_3 = |list: &Vec<Vec<u8>>| answers(&list.join(&b'\n')).contains("refused 3");
+    assert_eq!(shrink(&list("load FF0102030405060708090A0B"), &refused_3), list("load 00000000000000000000"));
+}
+
+#[test]
+fn a_panic_is_an_answer_and_the_last() {
+    let answer = |judge: &mut _, line: &[u8]| {
+        assert!(line != b"open 7", "planted");
+        answer_line(judge, line)
+    };
+    assert_eq!(answers_or_panic(b"open 1\n\nopen 7\nopen 1\n", answer), b"refused 20\n\n(panic)\n");
+    assert_eq!(answers_or_panic(b"open 1\nopen 1", answer), b"refused 20\nrefused 20\n");
+}
+
+#[test]
+fn answers_stand_beside_their_lines() {
+    let long = format!("load {}", "00".repeat(40));
+    let shown = table(format!("{long}\nopen\t1\n\nverdict").as_bytes(), b"refused 3\nmalformed\n\nno 0\n", b"refused 3\naccepted\n");
+    let expected = "
+  line                                                      reference     program
+  load 000000000000000000000000000000000.. (85 characters)  refused 3     refused 3
+> open\\t1                                                   malformed     accepted
+> (empty line)                                              (empty line)  (nothing)
+> verdict                                                   no 0          (nothing)
+(no line feed after the last line)
+";
+    assert_eq!(shown, expected[1..]);
+    assert!(table(b"verdict\n", b"no 0\n", b"no 0").contains("> the answers differ in the line feed"));
 }

@@ -1,6 +1,7 @@
 // The judge for C and Rust. Answers are numbers; the state is a value that the caller keeps, hands in and gets back.
 ghost use mathlib.Core.Path.{_≡_};
 ghost use Rattle.calls.specs.Replies.{verdictSays};
+ghost use Prim.Native.Nat.{_+_, _*_};
 ghost use Rattle.calls.specs.Steps.{fresh, loadOf, openOf, deliverOf, withdrawOf, verdictOf};
 ghost use Rattle.replay.specs.Records.{recordIn, replayOf};
 ghost use Rattle.capi.specs.Numbers.{loadShown, openShown, deliverShown, withdrawShown, verdictShown, replayShown};
@@ -55,6 +56,29 @@ pub struct VerdictResult {
 pub struct ReplayResult {
     pub kind: u8,
     pub number: u64,
+}
+
+// The version of these functions, and how many bytes a judge has as C lays it out.
+const MAJOR: u32 = 1;
+
+const MINOR: u32 = 0;
+
+const STATE_SIZE: usize = 27060;
+
+// The version that the library was built with: the major number times 65,536, and the minor one.
+#[no_mangle]
+pub extern "C" fn bellbadger_version() -> u32
+    ensures { λ r. ⌜ r ≡ 1 * 65536 + 0 ⌝ }
+{
+    MAJOR * 65536 + MINOR
+}
+
+// The size of the judge that the library was built with.
+#[no_mangle]
+pub extern "C" fn bellbadger_state_size() -> usize
+    ensures { λ r. ⌜ r ≡ 27060 ⌝ }
+{
+    STATE_SIZE
 }
 
 #[no_mangle]

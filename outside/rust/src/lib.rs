@@ -1,51 +1,72 @@
-//! The valve trace judge: a rule, a board and five calls. Each call has an answer type of its own; a refusal carries
-//! its number and leaves the judge as it was.
+//! The valve trace judge: a rule, a board and five calls.
+//!
+//! A refused call is an error that carries its number and leaves the judge as it was.
+//!
+//! ```
+//! use bellbadger::{Judge, Refused, Verdict};
+//!
+//! // Rule A accepts the texts that end in 0 1.
+//! let rule_a = [
+//!     3, 2, 1, 0, 0, 0, 4, 0, 0, 0, 22, 0, 6, 0, 28, 0, 2, 0, 30, 0, 0, 0, 0, 0, 0, 1, 1, 0, 1, 2,
+//! ];
+//! let mut judge = Judge::new();
+//! let loaded = judge.load(&rule_a)?;
+//! assert_eq!((loaded.sets, loaded.starts), (5, 3));
+//! judge.open(2)?;
+//! judge.deliver(1, &[1])?; // chunks come out of turn
+//! assert_eq!(judge.verdict()?, Verdict::Waiting(1));
+//! judge.deliver(0, &[0])?;
+//! assert_eq!(judge.verdict()?, Verdict::Yes(3));
+//! # Ok::<(), Refused>(())
+//! ```
+//!
+//! A refusal that nobody looks at is told by the compiler:
+//!
+//! ```compile_fail
+//! #![deny(unused_must_use)]
+//! bellbadger::Judge::new().deliver(0, &[1]);
+//! ```
+//!
+//! # Threads and stack
+//!
+//! No call keeps anything outside its judge. A judge goes by value within the library: for a thread
+//! that calls it a stack of 512 KB is enough, 128 KB is not (Rust's own threads have 2 MB).
 mod raw;
+mod refused;
 
-use raw::{RawJudge, RawVerdict};
+pub use refused::{Refused, ReplayError};
 
-/// The answer to a load: the number of sets and of starts of the rule, or why it was refused (1 to 9).
-#[derive(Clone, Copy, Debug, PartialEq, Eq)]
-pub enum Load {
-    Accepted { sets: u16, starts: u8 },
-    Refused(u8),
+use raw::{RawChange, RawJudge, RawVerdict};
+use std::fmt;
+
+/// The version of the library that is linked: major and minor number.
+#[must_use]
+pub fn version() -> (u32, u32) {
+    // SAFETY: the function takes nothing and returns a number.
+    let version = unsafe { raw::bellbadger_version() };
+    (version >> 16, version & 0xFFFF)
 }
 
-/// The answer to an opening; refused with 20 (no rule) or 10 (places outside 1 to 64).
+/// What an accepted load tells of the rule.
 #[derive(Clone, Copy, Debug, PartialEq, Eq)]
-pub enum Open {
-    Accepted,
-    Refused(u8),
+#[must_use]
+pub struct Loaded {
+    /// The number of sets, 1 to 512.
+    pub sets: u16,
+    /// The number of starts (M).
+    pub starts: u8,
 }
 
-/// The answer to a delivery; refused with 21, 11, 12, 13, 22 or 24.
+/// What is to be said of the trace.
 #[derive(Clone, Copy, Debug, PartialEq, Eq)]
-pub enum Deliver {
-    Accepted,
-    Refused(u8),
-}
-
-/// The answer to a withdrawal; refused with 21, 11 or 23.
-#[derive(Clone, Copy, Debug, PartialEq, Eq)]
-pub enum Withdraw {
-    Accepted,
-    Refused(u8),
-}
-
-/// Waiting with the number of empty places, yes or no with the count, or refused with 21.
-#[derive(Clone, Copy, Debug, PartialEq, Eq)]
+#[must_use]
 pub enum Verdict {
+    /// So many places are empty.
     Waiting(u64),
+    /// The trace keeps to the rule; the count.
     Yes(u64),
+    /// The trace does not keep to the rule; the count.
     No(u64),
-    Refused(u64),
-}
-
-/// The verdict after a recorded list of calls, or the number of its first malformed line, counted from 1.
-#[derive(Clone, Copy, Debug, PartialEq, Eq)]
-pub enum Replay {
-    Verdict(Verdict),
-    Malformed(u64),
 }
 
 /// One rule and one board.
@@ -58,79 +79,168 @@ impl Default for Judge {
     }
 }
 
+/// The sizes of the rule and of the board; 0 states: no rule, 0 places: no board.
+impl fmt::Debug for Judge {
+    fn fmt(&self, f: &mut fmt::Formatter<'_>) -> fmt::Result {
+        let RawJudge { rule, board } = &*self.0;
+        f.debug_struct("Judge")
+            .field("states", &rule.n)
+            .field("symbols", &rule.k)
+            .field("sets", &rule.count)
+            .field("starts", &rule.starts)
+            .field("places", &board.places)
+            .field("filled", &board.filled.iter().filter(|&&x| x != 0).count())
+            .finish_non_exhaustive()
+    }
+}
+
 impl Judge {
     /// A judge with no rule and no board.
+    ///
+    /// ```
+    /// # use bellbadger::Judge;
+    /// assert_eq!(Judge::new().verdict().unwrap_err().number(), 21);
+    /// ```
+    ///
+    /// # Panics
+    /// Where the library that is linked has another state than this wrapper was written for.
+    #[must_use]
     pub fn new() -> Judge {
+        // SAFETY: the function takes nothing and returns a number.
+        let size = unsafe { raw::bellbadger_state_size() };
+        assert_eq!(
+            size,
+            raw::STATE_SIZE,
+            "libcapi.a has another state than this wrapper"
+        );
         // SAFETY: the function takes nothing and returns plain numbers.
         Judge(Box::new(unsafe { raw::bellbadger_new() }))
     }
 
     /// Checks and builds a rule; accepted, it replaces the former one and removes the board.
-    pub fn load(&mut self, file: &[u8]) -> Load {
+    ///
+    /// # Errors
+    /// 1 to 9: the file is no rule.
+    ///
+    /// ```
+    /// # use bellbadger::Judge;
+    /// let refused = Judge::new().load(b"no rule").unwrap_err();
+    /// assert_eq!(refused.number(), 1);
+    /// assert_eq!(refused.to_string(), "refused 1: the file is too short for a head of 10 bytes");
+    /// ```
+    pub fn load(&mut self, file: &[u8]) -> Result<Loaded, Refused> {
         // SAFETY: the pointer leads to as many bytes as the length says, and they are only read.
         let r = unsafe { raw::bellbadger_load(*self.0, file.as_ptr(), file.len()) };
         *self.0 = r.judge;
-        match r.accepted {
-            1 => Load::Accepted { sets: r.sets, starts: r.starts },
-            _ => Load::Refused(r.refused),
-        }
+        let (sets, starts) = (r.sets, r.starts);
+        accepted(r.accepted, r.refused).map(|()| Loaded { sets, starts })
     }
 
     /// A board of that many empty places; an earlier one is dropped.
-    pub fn open(&mut self, places: usize) -> Open {
+    ///
+    /// # Errors
+    /// 20 (no rule is loaded), 10 (no number of places from 1 to 64).
+    ///
+    /// ```
+    /// # use bellbadger::Judge;
+    /// assert_eq!(Judge::new().open(1).unwrap_err().number(), 20);
+    /// ```
+    pub fn open(&mut self, places: usize) -> Result<(), Refused> {
         // SAFETY: plain numbers.
         let r = unsafe { raw::bellbadger_open(*self.0, places) };
-        *self.0 = r.judge;
-        match r.accepted {
-            1 => Open::Accepted,
-            _ => Open::Refused(r.refused),
-        }
+        self.changed(r)
     }
 
-    /// Runs a chunk and keeps its end sets and count at the place.
-    pub fn deliver(&mut self, place: usize, chunk: &[u8]) -> Deliver {
+    /// Runs a chunk and keeps its end sets and count at the place, which are counted from 0.
+    ///
+    /// # Errors
+    /// 21 (no board is open), 11 (no such place), 12 (over 65,536 bytes), 13 (a byte is no symbol),
+    /// 22 (the place has a chunk already), 24 (the counts would sum up to 2^32 or more).
+    ///
+    /// ```
+    /// # use bellbadger::Judge;
+    /// assert_eq!(Judge::new().deliver(0, &[1]).unwrap_err().number(), 21);
+    /// ```
+    pub fn deliver(&mut self, place: usize, chunk: &[u8]) -> Result<(), Refused> {
         // SAFETY: the pointer leads to as many bytes as the length says, and they are only read.
         let r = unsafe { raw::bellbadger_deliver(*self.0, place, chunk.as_ptr(), chunk.len()) };
-        *self.0 = r.judge;
-        match r.accepted {
-            1 => Deliver::Accepted,
-            _ => Deliver::Refused(r.refused),
-        }
+        self.changed(r)
     }
 
     /// Empties a place.
-    pub fn withdraw(&mut self, place: usize) -> Withdraw {
+    ///
+    /// # Errors
+    /// 21 (no board is open), 11 (no such place), 23 (the place has no chunk).
+    ///
+    /// ```
+    /// # use bellbadger::Judge;
+    /// assert_eq!(Judge::new().withdraw(0).unwrap_err().number(), 21);
+    /// ```
+    pub fn withdraw(&mut self, place: usize) -> Result<(), Refused> {
         // SAFETY: plain numbers.
         let r = unsafe { raw::bellbadger_withdraw(*self.0, place) };
-        *self.0 = r.judge;
-        match r.accepted {
-            1 => Withdraw::Accepted,
-            _ => Withdraw::Refused(r.refused),
-        }
+        self.changed(r)
     }
 
-    /// Changes nothing.
-    pub fn verdict(&self) -> Verdict {
+    /// Waiting, yes or no; changes nothing.
+    ///
+    /// # Errors
+    /// 21 (no board is open).
+    ///
+    /// ```
+    /// # use bellbadger::Judge;
+    /// assert_eq!(Judge::new().verdict().unwrap_err().number(), 21);
+    /// ```
+    pub fn verdict(&self) -> Result<Verdict, Refused> {
         // SAFETY: plain numbers.
-        verdict(unsafe { raw::bellbadger_verdict(*self.0) })
+        verdict(&unsafe { raw::bellbadger_verdict(*self.0) })
+    }
+
+    fn changed(&mut self, r: RawChange) -> Result<(), Refused> {
+        *self.0 = r.judge;
+        accepted(r.accepted, r.refused)
     }
 }
 
-/// Runs the calls that a text records, one a line, on a fresh judge.
-pub fn replay(text: &[u8]) -> Replay {
+/// Runs the calls that a text records on a fresh judge: the verdict after them.
+///
+/// A line is `load HEX`, `open N`, `deliver P HEX`, `withdraw P` or `verdict`, with exactly one
+/// space between fields; an empty line begins a fresh judge. HEX is pairs of hex digits, or `-` for
+/// no bytes. A recorded call that is refused changes nothing, and the next line is run.
+///
+/// # Errors
+/// The verdict is refused (21: no board is open), or a line is malformed.
+///
+/// ```
+/// use bellbadger::{replay, ReplayError, Verdict};
+///
+/// let rule_a = "load 03020100000004000000160006001C0002001E0000000000000101000102";
+/// let text = format!("{rule_a}\nopen 2\ndeliver 1 01\ndeliver 0 00\n");
+/// assert_eq!(replay(text.as_bytes())?, Verdict::Yes(3));
+/// assert_eq!(replay(b"verdict\nopen  2\n"), Err(ReplayError::Malformed { line: 2 }));
+/// # Ok::<(), ReplayError>(())
+/// ```
+pub fn replay(text: &[u8]) -> Result<Verdict, ReplayError> {
     // SAFETY: the pointer leads to as many bytes as the length says, and they are only read.
     let r = unsafe { raw::bellbadger_replay(text.as_ptr(), text.len()) };
     match r.kind {
-        4 => Replay::Malformed(r.number),
-        _ => Replay::Verdict(verdict(r)),
+        raw::MALFORMED => Err(ReplayError::Malformed { line: r.number }),
+        _ => Ok(verdict(&r)?),
     }
 }
 
-fn verdict(r: RawVerdict) -> Verdict {
+fn accepted(accepted: u8, refused: u8) -> Result<(), Refused> {
+    match accepted {
+        1 => Ok(()),
+        _ => Err(Refused::new(refused)),
+    }
+}
+
+fn verdict(r: &RawVerdict) -> Result<Verdict, Refused> {
     match r.kind {
-        1 => Verdict::Waiting(r.number),
-        2 => Verdict::Yes(r.number),
-        3 => Verdict::No(r.number),
-        _ => Verdict::Refused(r.number),
+        raw::WAITING => Ok(Verdict::Waiting(r.number)),
+        raw::YES => Ok(Verdict::Yes(r.number)),
+        raw::NO => Ok(Verdict::No(r.number)),
+        _ => Err(Refused::new(r.number as u8)),
     }
 }

@@ -3,10 +3,10 @@
 #[repr(C)]
 #[derive(Clone, Copy)]
 pub struct RawRule {
-    n: u8,
-    k: u8,
-    starts: u8,
-    count: u16,
+    pub n: u8,
+    pub k: u8,
+    pub starts: u8,
+    pub count: u16,
     initials: u32,
     finals: u32,
     delegates: [u8; 32],
@@ -18,8 +18,8 @@ pub struct RawRule {
 #[repr(C)]
 #[derive(Clone, Copy)]
 pub struct RawBoard {
-    places: u8,
-    filled: [u8; 64],
+    pub places: u8,
+    pub filled: [u8; 64],
     counts: [u32; 64],
     ends: [u32; 2048],
 }
@@ -27,8 +27,8 @@ pub struct RawBoard {
 #[repr(C)]
 #[derive(Clone, Copy)]
 pub struct RawJudge {
-    rule: RawRule,
-    board: RawBoard,
+    pub rule: RawRule,
+    pub board: RawBoard,
 }
 
 #[repr(C)]
@@ -48,6 +48,13 @@ pub struct RawChange {
     pub judge: RawJudge,
 }
 
+/// What a verdict's number is: of empty places, or the count of a yes or no. The rest: a refusal.
+pub const WAITING: u8 = 1;
+pub const YES: u8 = 2;
+pub const NO: u8 = 3;
+/// Of a recorded list alone: the number is that of a line.
+pub const MALFORMED: u8 = 4;
+
 /// Of a verdict and of a recorded list.
 #[repr(C)]
 pub struct RawVerdict {
@@ -56,13 +63,21 @@ pub struct RawVerdict {
 }
 
 /// As the C header has it; outside/c/test.c reads every field of it.
-const _: () = assert!(std::mem::size_of::<RawJudge>() == 27060);
+pub const STATE_SIZE: usize = 27060;
+const _: () = assert!(std::mem::size_of::<RawJudge>() == STATE_SIZE);
 
 extern "C" {
+    pub fn bellbadger_version() -> u32;
+    pub fn bellbadger_state_size() -> usize;
     pub fn bellbadger_new() -> RawJudge;
     pub fn bellbadger_load(judge: RawJudge, file: *const u8, length: usize) -> RawLoad;
     pub fn bellbadger_open(judge: RawJudge, places: usize) -> RawChange;
-    pub fn bellbadger_deliver(judge: RawJudge, place: usize, chunk: *const u8, length: usize) -> RawChange;
+    pub fn bellbadger_deliver(
+        judge: RawJudge,
+        place: usize,
+        chunk: *const u8,
+        length: usize,
+    ) -> RawChange;
     pub fn bellbadger_withdraw(judge: RawJudge, place: usize) -> RawChange;
     pub fn bellbadger_verdict(judge: RawJudge) -> RawVerdict;
     pub fn bellbadger_replay(text: *const u8, length: usize) -> RawVerdict;

@@ -1,64 +1,73 @@
-//! The judge through the wrapper: table P, refusals, the largest count, and recorded lists.
-use bellbadger::{replay, Deliver, Judge, Load, Open, Replay, Verdict, Withdraw};
+//! The judge through the wrapper: table P, refusals and their words, the largest count, recorded
+//! lists, and what a judge shows of itself.
+use bellbadger::{replay, version, Judge, Loaded, Refused, ReplayError, Verdict};
+use std::fmt::Debug;
 
 const A: [u8; 30] = [
-    0x03, 0x02, 0x01, 0, 0, 0, 0x04, 0, 0, 0, 0x16, 0, 0x06, 0, 0x1C, 0, 0x02, 0, 0x1E, 0, 0, 0, 0, 0, 0, 1, 1, 0, 1, 2,
+    0x03, 0x02, 0x01, 0, 0, 0, 0x04, 0, 0, 0, 0x16, 0, 0x06, 0, 0x1C, 0, 0x02, 0, 0x1E, 0, 0, 0, 0,
+    0, 0, 1, 1, 0, 1, 2,
 ];
 const B: [u8; 30] = [
-    0x03, 0x01, 0x01, 0, 0, 0, 0x06, 0, 0, 0, 0x16, 0, 0x04, 0, 0x1A, 0, 0x02, 0, 0x1C, 0, 0x02, 0, 0, 1, 0, 2, 0, 0, 0, 0,
+    0x03, 0x01, 0x01, 0, 0, 0, 0x06, 0, 0, 0, 0x16, 0, 0x04, 0, 0x1A, 0, 0x02, 0, 0x1C, 0, 0x02, 0,
+    0, 1, 0, 2, 0, 0, 0, 0,
 ];
 
+/// The number of a refusal.
+fn number<T: Debug>(answer: Result<T, Refused>) -> u8 {
+    answer.unwrap_err().number()
+}
+
 /// The verdict on a rule and the chunks of its places, delivered the last first.
-fn judged(rule: &[u8], chunks: &[&[u8]]) -> Verdict {
+fn judged(rule: &[u8], chunks: &[&[u8]]) -> Result<Verdict, Refused> {
     let mut judge = Judge::new();
-    assert!(matches!(judge.load(rule), Load::Accepted { .. }));
-    assert_eq!(judge.open(chunks.len()), Open::Accepted);
+    let _sizes = judge.load(rule)?;
+    judge.open(chunks.len())?;
     for (place, chunk) in chunks.iter().enumerate().rev() {
-        assert_eq!(judge.verdict(), Verdict::Waiting(place as u64 + 1));
-        assert_eq!(judge.deliver(place, chunk), Deliver::Accepted);
+        assert_eq!(judge.verdict()?, Verdict::Waiting(place as u64 + 1));
+        judge.deliver(place, chunk)?;
     }
     judge.verdict()
 }
 
 #[test]
 fn table_p() {
-    assert_eq!(Judge::new().load(&A), Load::Accepted { sets: 5, starts: 3 });
-    assert_eq!(Judge::new().load(&B), Load::Accepted { sets: 4, starts: 2 });
-    assert_eq!(judged(&A, &[&[0], &[1]]), Verdict::Yes(3));
-    assert_eq!(judged(&A, &[&[1], &[0]]), Verdict::No(2));
-    assert_eq!(judged(&A, &[&[]]), Verdict::No(0));
-    assert_eq!(judged(&B, &[&[0], &[0, 0]]), Verdict::Yes(5));
-    assert_eq!(judged(&B, &[&[0, 0], &[0]]), Verdict::Yes(4));
-    assert_eq!(judged(&B, &[&[0, 0, 0]]), Verdict::Yes(3));
-    assert_eq!(judged(&B, &[&[], &[], &[]]), Verdict::No(0));
+    assert_eq!(Judge::new().load(&A), Ok(Loaded { sets: 5, starts: 3 }));
+    assert_eq!(Judge::new().load(&B), Ok(Loaded { sets: 4, starts: 2 }));
+    assert_eq!(judged(&A, &[&[0], &[1]]), Ok(Verdict::Yes(3)));
+    assert_eq!(judged(&A, &[&[1], &[0]]), Ok(Verdict::No(2)));
+    assert_eq!(judged(&A, &[&[]]), Ok(Verdict::No(0)));
+    assert_eq!(judged(&B, &[&[0], &[0, 0]]), Ok(Verdict::Yes(5)));
+    assert_eq!(judged(&B, &[&[0, 0], &[0]]), Ok(Verdict::Yes(4)));
+    assert_eq!(judged(&B, &[&[0, 0, 0]]), Ok(Verdict::Yes(3)));
+    assert_eq!(judged(&B, &[&[], &[], &[]]), Ok(Verdict::No(0)));
     let mut p10 = A;
     p10[6] = 8;
-    assert_eq!(Judge::new().load(&p10), Load::Refused(6));
+    assert_eq!(number(Judge::new().load(&p10)), 6);
 }
 
 #[test]
 fn refusals_of_the_calls() {
     let mut judge = Judge::new();
-    assert_eq!(judge.verdict(), Verdict::Refused(21));
-    assert_eq!(judge.open(1), Open::Refused(20));
-    assert_eq!(judge.deliver(0, &[]), Deliver::Refused(21));
-    assert_eq!(judge.withdraw(0), Withdraw::Refused(21));
-    judge.load(&A);
+    assert_eq!(number(judge.verdict()), 21);
+    assert_eq!(number(judge.open(1)), 20);
+    assert_eq!(number(judge.deliver(0, &[])), 21);
+    assert_eq!(number(judge.withdraw(0)), 21);
+    assert!(judge.load(&A).is_ok());
     for places in [0, 65, usize::MAX] {
-        assert_eq!(judge.open(places), Open::Refused(10));
+        assert_eq!(number(judge.open(places)), 10);
     }
-    assert_eq!(judge.open(64), Open::Accepted);
-    assert_eq!(judge.deliver(64, &[]), Deliver::Refused(11));
-    assert_eq!(judge.withdraw(usize::MAX), Withdraw::Refused(11));
-    assert_eq!(judge.deliver(63, &[0; 65537]), Deliver::Refused(12));
-    assert_eq!(judge.deliver(63, &[0, 2]), Deliver::Refused(13));
-    assert_eq!(judge.withdraw(63), Withdraw::Refused(23));
-    assert_eq!(judge.deliver(63, &[0; 65536]), Deliver::Accepted);
-    assert_eq!(judge.deliver(63, &[]), Deliver::Refused(22));
-    assert_eq!(judge.verdict(), Verdict::Waiting(63));
-    assert_eq!(judge.load(&A[..9]), Load::Refused(1));
-    assert_eq!(judge.load(&[0; 32907]), Load::Refused(2));
-    assert_eq!(judge.verdict(), Verdict::Waiting(63));
+    assert_eq!(judge.open(64), Ok(()));
+    assert_eq!(number(judge.deliver(64, &[])), 11);
+    assert_eq!(number(judge.withdraw(usize::MAX)), 11);
+    assert_eq!(number(judge.deliver(63, &[0; 65537])), 12);
+    assert_eq!(number(judge.deliver(63, &[0, 2])), 13);
+    assert_eq!(number(judge.withdraw(63)), 23);
+    assert_eq!(judge.deliver(63, &[0; 65536]), Ok(()));
+    assert_eq!(number(judge.deliver(63, &[])), 22);
+    assert_eq!(judge.verdict(), Ok(Verdict::Waiting(63)));
+    assert_eq!(number(judge.load(&A[..9])), 1);
+    assert_eq!(number(judge.load(&[0; 32907])), 2);
+    assert_eq!(judge.verdict(), Ok(Verdict::Waiting(63)));
 }
 
 /// 32 states that lead round and accept different texts each: 32 starts, each of which counts every byte.
@@ -73,19 +82,53 @@ fn the_sum_of_the_counts() {
         file.extend([0, (q + 1) % 32]);
     }
     let mut judge = Judge::new();
-    assert_eq!(judge.load(&file), Load::Accepted { sets: 32, starts: 32 });
-    judge.open(64);
+    assert_eq!(
+        judge.load(&file),
+        Ok(Loaded {
+            sets: 32,
+            starts: 32
+        })
+    );
+    assert_eq!(judge.open(64), Ok(()));
     for place in 0..64 {
-        assert_eq!(judge.deliver(place, &[0; 65536]), Deliver::Accepted);
+        assert_eq!(judge.deliver(place, &[0; 65536]), Ok(()));
     }
     // place 0 is run from one start, the other 63 from 32
-    assert_eq!(judge.verdict(), Verdict::Yes(65536 + 63 * 32 * 65536));
+    assert_eq!(judge.verdict(), Ok(Verdict::Yes(65536 + 63 * 32 * 65536)));
 }
 
 #[test]
 fn recorded_lists() {
-    assert_eq!(replay(b""), Replay::Verdict(Verdict::Refused(21)));
-    assert_eq!(replay(b"verdict\nverdict \n"), Replay::Malformed(2));
     let text = "load 03020100000004000000160006001C0002001E0000000000000101000102\nopen 2\ndeliver 1 01\ndeliver 0 00";
-    assert_eq!(replay(text.as_bytes()), Replay::Verdict(Verdict::Yes(3)));
+    assert_eq!(replay(text.as_bytes()), Ok(Verdict::Yes(3)));
+    assert!(matches!(replay(b""), Err(ReplayError::Refused(refused)) if refused.number() == 21));
+    assert_eq!(
+        replay(b"").unwrap_err().to_string(),
+        "refused 21: no board is open"
+    );
+    let malformed = replay(b"verdict\nverdict \n").unwrap_err();
+    assert_eq!(malformed, ReplayError::Malformed { line: 2 });
+    assert_eq!(malformed.to_string(), "line 2 is malformed");
+}
+
+/// An error of a caller's own can take a refusal in.
+#[test]
+fn a_refusal_is_an_error() {
+    fn called() -> Result<(), Box<dyn std::error::Error>> {
+        Judge::new().open(1)?;
+        Ok(())
+    }
+    assert_eq!(
+        called().unwrap_err().to_string(),
+        "refused 20: no rule is loaded"
+    );
+}
+
+#[test]
+fn what_a_judge_shows() {
+    let mut judge = Judge::new();
+    assert!(judge.load(&A).is_ok() && judge.open(2).is_ok() && judge.deliver(1, &[]).is_ok());
+    let shown = "Judge { states: 3, symbols: 2, sets: 5, starts: 3, places: 2, filled: 1, .. }";
+    assert_eq!(format!("{judge:?}"), shown);
+    assert_eq!(version(), (1, 0));
 }

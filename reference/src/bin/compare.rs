@@ -1,35 +1,32 @@
-//! Compares another program with the reference: `compare PROGRAM SEED LISTS`.
+//! Compares another program with the reference: `compare PROGRAM SEED LISTS FILE`. A list that
+//! shows a difference is made small, printed with the answers of both, and written whole to FILE.
 
-use reference::compare::{first_difference, program_answers, shortest};
+use reference::compare::{first_difference, program_answers, reference_answers, smallest};
+use reference::table::table;
 use reference::{lines, lists, tally::Tally};
-use std::io::Write;
 
 /// How many lists one run of the program gets.
 const TOGETHER: u64 = 200;
 
 fn main() {
     let words: Vec<String> = std::env::args().skip(1).collect();
-    let (program, seed, count) = match words.as_slice() {
-        [program, seed, count] => (program, seed.parse::<u64>(), count.parse::<u64>()),
+    let (program, seed, count, file) = match words.as_slice() {
+        [program, seed, count, file] => (program, seed.parse::<u64>(), count.parse::<u64>(), file),
         _ => usage(),
     };
     let (Ok(seed), Ok(count)) = (seed, count) else { usage() };
     let mut tally = Tally::default();
     for first in (0..count).step_by(TOGETHER as usize) {
-        let last = count.min(first + TOGETHER);
-        let together: Vec<_> = (first..last).map(|index| lists::list(seed, index)).collect();
-        let mut text = lists::text(&together);
-        if first / TOGETHER % 2 == 1 {
-            text.pop(); // the last line is then ended by the end of the input
-        }
-        let ours = lines::answers(&text);
+        let text = lists_from(seed, first, count.min(first + TOGETHER));
+        let ours = reference_answers(&text);
         let theirs = program_answers(program, &text);
-        if let Some(line) = first_difference(ours.as_bytes(), &theirs) {
+        if let Some(line) = first_difference(&ours, &theirs) {
             let agreed = lines::lines(&text)[..line].iter().filter(|line| !line.is_empty()).count();
-            println!("{} calls agreed, then a difference:", tally.calls + agreed);
-            difference(program, &text, line);
+            println!("seed {seed}: {} calls agreed, then a difference", tally.calls + agreed);
+            difference(program, &text, line, file);
         }
-        for (line, answer) in lines::lines(&text).iter().zip(ours.lines()) {
+        let answers = String::from_utf8(ours).expect("answers are ASCII");
+        for (line, answer) in lines::lines(&text).iter().zip(answers.lines()) {
             tally.line(line, answer);
         }
     }
@@ -38,21 +35,29 @@ fn main() {
 }
 
 fn usage() -> ! {
-    eprintln!("usage: compare PROGRAM SEED LISTS");
+    eprintln!("usage: compare PROGRAM SEED LISTS FILE");
     std::process::exit(2);
 }
 
-/// Prints the shortest list that shows a difference, then the answers of both.
-fn difference(program: &str, text: &[u8], line: usize) -> ! {
-    let text = shortest(program, text, line);
-    let mut all = text.clone();
-    if !text.ends_with(b"\n") {
-        all.extend(b"(no line feed here)\n");
+/// The text of some lists; of every second text the last line is ended by the end of the input.
+fn lists_from(seed: u64, first: u64, last: u64) -> Vec<u8> {
+    let together: Vec<_> = (first..last).map(|index| lists::list(seed, index)).collect();
+    let mut text = lists::text(&together);
+    if first / TOGETHER % 2 == 1 {
+        text.pop();
     }
-    all.extend(b"answers of the reference:\n");
-    all.extend(lines::answers(&text).into_bytes());
-    all.extend(b"answers of the program:\n");
-    all.extend(program_answers(program, &text));
-    std::io::stdout().write_all(&all).unwrap();
+    text
+}
+
+/// Makes the list that shows a difference small, prints it with both answers, writes it to a file.
+fn difference(program: &str, text: &[u8], line: usize, file: &str) -> ! {
+    // a panic of the reference was told once; each smaller list would tell it again
+    std::panic::set_hook(Box::new(|_| ()));
+    let text = smallest(program, text, line);
+    print!("{}", table(&text, &reference_answers(&text), &program_answers(program, &text)));
+    match std::fs::write(file, &text) {
+        Ok(()) => println!("the same list with its lines whole: {file}\ntry it with: {program} < {file}"),
+        Err(error) => println!("the list could not be written to {file}: {error}"),
+    }
     std::process::exit(1);
 }

@@ -1,0 +1,32 @@
+// The header from C++: every function is linked under its C name and answers as it does in C.
+#include <cstdio>
+#include <cstring>
+
+#include "bellbadger.h"
+
+static const uint8_t rule_a[] = {
+    0x03, 0x02, 0x01, 0x00, 0x00, 0x00, 0x04, 0x00, 0x00, 0x00, 0x16, 0x00, 0x06, 0x00, 0x1C,
+    0x00, 0x02, 0x00, 0x1E, 0x00, 0x00, 0x00, 0x00, 0x00, 0x00, 0x01, 0x01, 0x00, 0x01, 0x02,
+};
+
+static bool right() {
+    static_assert(sizeof(bellbadger_judge) == BELLBADGER_STATE_SIZE, "the size that the header says");
+    const uint8_t text[] = {0, 1};
+    const char *record = "verdict\nopen\n";
+    bellbadger_load_result loaded = bellbadger_load(bellbadger_new(), rule_a, sizeof rule_a);
+    bellbadger_open_result opened = bellbadger_open(loaded.judge, 1);
+    bellbadger_deliver_result delivered = bellbadger_deliver(opened.judge, 0, text, sizeof text);
+    bellbadger_verdict_result verdict = bellbadger_verdict(delivered.judge);
+    bellbadger_withdraw_result withdrawn = bellbadger_withdraw(opened.judge, 0);
+    bellbadger_replay_result replayed = bellbadger_replay(reinterpret_cast<const uint8_t *>(record), std::strlen(record));
+    return bellbadger_version() == BELLBADGER_VERSION && bellbadger_state_size() == sizeof(bellbadger_judge)
+        && loaded.accepted && loaded.sets == 5 && opened.accepted && delivered.accepted
+        && verdict.kind == BELLBADGER_YES && verdict.number == 2 && !withdrawn.accepted && withdrawn.refused == 23
+        && replayed.kind == BELLBADGER_MALFORMED && replayed.number == 2;
+}
+
+int main() {
+    bool as_in_c = right();
+    std::puts(as_in_c ? "C++: as in C" : "C++: other answers than in C");
+    return as_in_c ? 0 : 1;
+}

@@ -1,0 +1,282 @@
+"""The valve trace judge: a rule, a board and five calls.
+
+    >>> judge = Judge()
+    >>> judge.load(bytes.fromhex("03020100000004000000160006001C0002001E0000000000000101000102"))
+    Loaded(sets=5, starts=3)
+    >>> judge.open(2)
+    >>> judge.deliver(1, bytes([1]))
+    >>> judge.verdict()
+    Waiting(places=1)
+    >>> judge.deliver(0, bytes([0]))
+    >>> judge.verdict()
+    Yes(count=3)
+    >>> judge.deliver(0, bytes([1]))
+    Traceback (most recent call last):
+    ...
+    bellbadger.Refused: refused 22: the place has a chunk already
+
+A refused call raises Refused, which has the number, and leaves the judge as it was. Any number of
+threads may call at once, each with a judge of its own. For a thread that calls a stack of 512 KB
+is enough, 128 KB is not (threading.stack_size).
+
+The module needs target/sharedlib/libbellbadger.so, which tests/outside makes, on x86-64; the
+variable BELLBADGER_LIB of the environment names another folder for it.
+"""
+
+import ctypes
+import operator
+import os
+from dataclasses import dataclass
+from pathlib import Path
+
+__all__ = ["Judge", "Loaded", "Waiting", "Yes", "No", "Refused", "Malformed", "replay", "version"]
+
+# what this module was written for, as outside/c/bellbadger.h has it
+_MAJOR, _STATE_SIZE = 1, 27060
+_WAITING, _YES, _NO, _MALFORMED = 1, 2, 3, 4
+_LARGEST_SIZE = 2**64 - 1
+
+_REASONS = {
+    1: "the file is too short for a head of 10 bytes",
+    2: "the file is longer than any rule (32,906 bytes)",
+    3: "no number of states from 1 to 32",
+    4: "no number of symbols from 1 to 16",
+    5: "the file ends within the list of pairs",
+    6: "a mask names a state that there is not",
+    7: "a pair has a wrong offset or an odd length, or the sections do not end where the file does",
+    8: "an arc has a symbol or a target that there is not, or arcs do not rise",
+    9: "the rule has over 512 sets",
+    10: "no number of places from 1 to 64",
+    11: "the board has no such place",
+    12: "the chunk has over 65,536 bytes",
+    13: "a byte is no symbol of the rule",
+    20: "no rule is loaded",
+    21: "no board is open",
+    22: "the place has a chunk already",
+    23: "the place has no chunk",
+    24: "the counts would sum up to 2^32 or more",
+}
+
+
+class Refused(Exception):
+    """A call was refused; the judge is as it was."""
+
+    def __init__(self, number):
+        super().__init__(number)
+        self.number = number
+
+    def __str__(self):
+        return f"refused {self.number}: {_REASONS.get(self.number, 'for another reason')}"
+
+
+class Malformed(ValueError):
+    """A recorded list has a line that is no call; line is its number, counted from 1."""
+
+    def __init__(self, line):
+        super().__init__(line)
+        self.line = line
+
+    def __str__(self):
+        return f"line {self.line} is malformed"
+
+
+@dataclass(frozen=True)
+class Loaded:
+    """What an accepted load tells of the rule: how many sets and starts (M) there are."""
+
+    sets: int
+    starts: int
+
+
+@dataclass(frozen=True)
+class Waiting:
+    """A verdict: so many places are empty."""
+
+    places: int
+
+
+@dataclass(frozen=True)
+class Yes:
+    """A verdict: the trace keeps to the rule; the count."""
+
+    count: int
+
+
+@dataclass(frozen=True)
+class No:
+    """A verdict: the trace does not keep to the rule; the count."""
+
+    count: int
+
+
+class _Rule(ctypes.Structure):
+    _fields_ = [
+        ("n", ctypes.c_uint8),
+        ("k", ctypes.c_uint8),
+        ("starts", ctypes.c_uint8),
+        ("count", ctypes.c_uint16),
+        ("initials", ctypes.c_uint32),
+        ("finals", ctypes.c_uint32),
+        ("delegates", ctypes.c_uint8 * 32),
+        ("singles", ctypes.c_uint16 * 32),
+        ("sets", ctypes.c_uint32 * 512),
+        ("next", ctypes.c_uint16 * 8192),
+    ]
+
+
+class _Board(ctypes.Structure):
+    _fields_ = [
+        ("places", ctypes.c_uint8),
+        ("filled", ctypes.c_uint8 * 64),
+        ("counts", ctypes.c_uint32 * 64),
+        ("ends", ctypes.c_uint32 * 2048),
+    ]
+
+
+class _State(ctypes.Structure):
+    _fields_ = [("rule", _Rule), ("board", _Board)]
+
+
+class _Load(ctypes.Structure):
+    _fields_ = [
+        ("accepted", ctypes.c_uint8),
+        ("refused", ctypes.c_uint8),
+        ("sets", ctypes.c_uint16),
+        ("starts", ctypes.c_uint8),
+        ("state", _State),
+    ]
+
+
+class _Change(ctypes.Structure):
+    _fields_ = [("accepted", ctypes.c_uint8), ("refused", ctypes.c_uint8), ("state", _State)]
+
+
+class _Verdict(ctypes.Structure):
+    _fields_ = [("kind", ctypes.c_uint8), ("number", ctypes.c_uint64)]
+
+
+def _path():
+    folder = os.environ.get("BELLBADGER_LIB")
+    top = Path(__file__).resolve().parents[2]
+    return (Path(folder) if folder else top / "target" / "sharedlib") / "libbellbadger.so"
+
+
+def _declare(library, name, result, *arguments):
+    function = getattr(library, "bellbadger_" + name)
+    function.restype, function.argtypes = result, arguments
+
+
+def _library(path):
+    """The shared library, seen to be the one that this module was written for."""
+    if not path.is_file():
+        raise ImportError(f"{path} is not there; make it at the top of the repository: tests/outside")
+    library = ctypes.CDLL(str(path))
+    size, data = ctypes.c_size_t, (ctypes.c_char_p, ctypes.c_size_t)
+    _declare(library, "version", ctypes.c_uint32)
+    _declare(library, "state_size", size)
+    _declare(library, "new", _State)
+    _declare(library, "load", _Load, _State, *data)
+    _declare(library, "open", _Change, _State, size)
+    _declare(library, "deliver", _Change, _State, size, *data)
+    _declare(library, "withdraw", _Change, _State, size)
+    _declare(library, "verdict", _Verdict, _State)
+    _declare(library, "replay", _Verdict, *data)
+    if library.bellbadger_version() >> 16 != _MAJOR:
+        raise ImportError(f"{path} has another version than this module")
+    if not library.bellbadger_state_size() == ctypes.sizeof(_State) == _STATE_SIZE:
+        raise ImportError(f"{path} has another state than this module")
+    return library
+
+
+_lib = _library(_path())
+
+
+def _size(number):
+    """A number for C. One that C has no size for fits no board: nor does what stands for it."""
+    number = operator.index(number)
+    return number if 0 <= number <= _LARGEST_SIZE else _LARGEST_SIZE
+
+
+def _bytes(data):
+    """The bytes of anything that is made of bytes; a str, a number and a list are none."""
+    view = memoryview(data)
+    if view.itemsize != 1:
+        raise TypeError("bytes are expected, not larger items")
+    return view.tobytes()
+
+
+def _verdict(result):
+    makers = {_WAITING: Waiting, _YES: Yes, _NO: No}
+    if result.kind not in makers:
+        raise Refused(result.number)
+    return makers[result.kind](result.number)
+
+
+def version():
+    """The version of the library: major and minor number."""
+    return divmod(_lib.bellbadger_version(), 65536)
+
+
+class Judge:
+    """One rule and one board; at first none."""
+
+    def __init__(self):
+        self._state = _lib.bellbadger_new()
+
+    def __repr__(self):
+        rule, board = self._state.rule, self._state.board
+        filled = sum(1 for mark in board.filled if mark)
+        return (
+            f"<Judge: states {rule.n}, symbols {rule.k}, sets {rule.count}, starts {rule.starts}, "
+            f"places {board.places}, filled {filled}>"
+        )
+
+    def load(self, file):
+        """Checks and builds a rule; accepted, it replaces the former one and removes the board.
+
+        Refused with 1 to 9.
+        """
+        data = _bytes(file)
+        result = _lib.bellbadger_load(self._state, data, len(data))
+        self._change(result)
+        return Loaded(result.sets, result.starts)
+
+    def open(self, places):
+        """A board of that many empty places; an earlier one is dropped. Refused with 20, 10."""
+        self._change(_lib.bellbadger_open(self._state, _size(places)))
+
+    def deliver(self, place, chunk):
+        """Runs a chunk and keeps its end sets and count at the place; places are counted from 0.
+
+        Refused with 21, 11, 12, 13, 22, 24.
+        """
+        data = _bytes(chunk)
+        self._change(_lib.bellbadger_deliver(self._state, _size(place), data, len(data)))
+
+    def withdraw(self, place):
+        """Empties a place. Refused with 21, 11, 23."""
+        self._change(_lib.bellbadger_withdraw(self._state, _size(place)))
+
+    def verdict(self):
+        """Waiting, Yes or No; changes nothing. Refused with 21."""
+        return _verdict(_lib.bellbadger_verdict(self._state))
+
+    def _change(self, result):
+        if not result.accepted:
+            raise Refused(result.refused)
+        self._state = result.state
+
+
+def replay(text):
+    """Runs the calls that a text of bytes records on a fresh judge: the verdict after them.
+
+    A line is `load HEX`, `open N`, `deliver P HEX`, `withdraw P` or `verdict`, with exactly one
+    space between fields; an empty line begins a fresh judge. A recorded call that is refused
+    changes nothing, and the next line is run. Raises Malformed for the first line that is no call,
+    Refused with 21 where no board is open at the end.
+    """
+    data = _bytes(text)
+    result = _lib.bellbadger_replay(data, len(data))
+    if result.kind == _MALFORMED:
+        raise Malformed(result.number)
+    return _verdict(result)

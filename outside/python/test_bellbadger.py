@@ -1,0 +1,159 @@
+"""The judge from Python: table P, refusals, arguments that C would misread, recorded lists."""
+
+import array
+import doctest
+import os
+import subprocess
+import sys
+import threading
+import unittest
+
+import bellbadger
+from bellbadger import Judge, Loaded, Malformed, No, Refused, Waiting, Yes, replay
+
+A = bytes.fromhex("03020100000004000000160006001C0002001E0000000000000101000102")
+B = bytes.fromhex("03010100000006000000160004001A0002001C0002000001000200000000")
+
+
+def judged(rule, *chunks):
+    """The verdict on a rule and the chunks of its places, delivered the last first."""
+    judge = Judge()
+    judge.load(rule)
+    judge.open(len(chunks))
+    for place in reversed(range(len(chunks))):
+        assert judge.verdict() == Waiting(place + 1)
+        judge.deliver(place, bytes(chunks[place]))
+    return judge.verdict()
+
+
+class Calls(unittest.TestCase):
+    def refused(self, number, call, *arguments):
+        with self.assertRaises(Refused) as caught:
+            call(*arguments)
+        self.assertEqual(caught.exception.number, number)
+
+    def opened(self, places):
+        judge = Judge()
+        judge.load(A)
+        judge.open(places)
+        return judge
+
+    def test_table_p(self):
+        self.assertEqual(Judge().load(A), Loaded(5, 3))
+        self.assertEqual(Judge().load(B), Loaded(4, 2))
+        self.assertEqual(judged(A, [0], [1]), Yes(3))
+        self.assertEqual(judged(A, [1], [0]), No(2))
+        self.assertEqual(judged(A, []), No(0))
+        self.assertEqual(judged(B, [0], [0, 0]), Yes(5))
+        self.assertEqual(judged(B, [0, 0], [0]), Yes(4))
+        self.assertEqual(judged(B, [0, 0, 0]), Yes(3))
+        self.assertEqual(judged(B, [], [], []), No(0))
+        self.refused(6, Judge().load, A[:6] + bytes([8]) + A[7:])
+
+    def test_refusals(self):
+        judge = Judge()
+        self.refused(21, judge.verdict)
+        self.refused(20, judge.open, 1)
+        self.refused(21, judge.deliver, 0, b"")
+        self.refused(21, judge.withdraw, 0)
+        judge = self.opened(64)
+        self.refused(10, judge.open, 65)
+        self.refused(11, judge.deliver, 64, b"")
+        self.refused(12, judge.deliver, 63, bytes(65537))
+        self.refused(13, judge.deliver, 63, bytes([0, 2]))
+        self.refused(23, judge.withdraw, 63)
+        judge.deliver(63, bytes(65536))
+        self.refused(22, judge.deliver, 63, b"")
+        self.refused(1, judge.load, A[:9])
+        self.refused(2, judge.load, bytes(32907))
+        self.assertEqual(judge.verdict(), Waiting(63))
+        judge.withdraw(63)
+        self.assertEqual(judge.verdict(), Waiting(64))
+
+    def test_words_of_a_refusal(self):
+        with self.assertRaisesRegex(Refused, "^refused 20: no rule is loaded$"):
+            Judge().open(1)
+
+    def test_answers_of_other_kinds_differ(self):
+        self.assertNotEqual(Yes(3), No(3))
+        self.assertNotEqual(Yes(3), Waiting(3))
+
+    def test_numbers_that_c_would_cut(self):
+        judge = self.opened(2)
+        for number in (2**64, 2**64 + 1, 2**65, -1, -(2**64)):
+            self.refused(11, judge.deliver, number, b"")
+            self.refused(11, judge.withdraw, number)
+            self.refused(10, judge.open, number)
+        self.assertEqual(judge.verdict(), Waiting(2))
+
+    def test_arguments_that_are_no_bytes(self):
+        judge = self.opened(1)
+        for chunk in (5, "01", [0, 1], None, array.array("H", [0, 1])):
+            self.assertRaises(TypeError, judge.deliver, 0, chunk)
+        self.assertRaises(TypeError, judge.deliver, 0.0, b"")
+        judge.deliver(0, bytearray([0, 1]))
+        self.assertEqual(judge.verdict(), Yes(2))
+
+    def test_a_judge_shows_its_sizes(self):
+        judge = self.opened(2)
+        judge.deliver(1, b"")
+        self.assertEqual(repr(judge), "<Judge: states 3, symbols 2, sets 5, starts 3, places 2, filled 1>")
+
+    def test_a_small_stack(self):
+        verdicts = []
+        record = b"load " + A.hex().encode() + b"\nopen 1\ndeliver 0 -\n"
+
+        def calls():
+            verdicts.extend([judged(A, [0], [1]), replay(record)])
+
+        before = threading.stack_size(512 * 1024)
+        try:
+            thread = threading.Thread(target=calls)
+            thread.start()
+            thread.join()
+        finally:
+            threading.stack_size(before)
+        self.assertEqual(verdicts, [Yes(3), No(0)])
+
+
+class Records(unittest.TestCase):
+    def test_replay(self):
+        load = b"load " + A.hex().encode() + b"\n"
+        self.assertEqual(replay(load + b"open 2\n"), Waiting(2))
+        self.assertEqual(replay(load + b"open 2\ndeliver 1 01\ndeliver 0 00\n"), Yes(3))
+        self.assertEqual(replay(load + b"open 2\ndeliver 1 00\ndeliver 0 01"), No(2))
+
+    def test_malformed(self):
+        with self.assertRaisesRegex(Malformed, "^line 2 is malformed$") as caught:
+            replay(b"verdict\nverdict \n")
+        self.assertEqual(caught.exception.line, 2)
+
+    def test_refused(self):
+        with self.assertRaises(Refused) as caught:
+            replay(b"")
+        self.assertEqual(caught.exception.number, 21)
+
+
+class Module(unittest.TestCase):
+    def test_examples(self):
+        found = doctest.testmod(bellbadger)
+        self.assertGreater(found.attempted, 0)
+        self.assertEqual(found.failed, 0)
+
+    def test_version(self):
+        self.assertEqual(bellbadger.version(), (1, 0))
+
+    def test_a_missing_library_names_the_command(self):
+        run = subprocess.run(
+            [sys.executable, "-c", "import bellbadger"],
+            cwd=os.path.dirname(os.path.abspath(__file__)),
+            env={**os.environ, "BELLBADGER_LIB": "/nonexistent"},
+            capture_output=True,
+            text=True,
+        )
+        self.assertNotEqual(run.returncode, 0)
+        self.assertIn("tests/outside", run.stderr)
+
+
+if __name__ == "__main__":
+    unittest.main()

@@ -1,0 +1,106 @@
+//! The errors: a refused call, and what may be wrong with a recorded list.
+use std::error::Error;
+use std::fmt;
+
+/// A call was refused; the judge is as it was.
+///
+/// ```
+/// # use bellbadger::Judge;
+/// let refused = Judge::new().open(1).unwrap_err();
+/// assert_eq!(refused.number(), 20);
+/// assert_eq!(refused.to_string(), "refused 20: no rule is loaded");
+/// ```
+#[derive(Clone, Copy, Debug, PartialEq, Eq, Hash)]
+#[must_use]
+pub struct Refused(u8);
+
+impl Refused {
+    pub(crate) fn new(number: u8) -> Refused {
+        Refused(number)
+    }
+
+    /// Why: 1 to 13 for what is wrong with the input, 20 to 24 for what stands in the way.
+    #[must_use]
+    pub fn number(self) -> u8 {
+        self.0
+    }
+
+    fn reason(self) -> &'static str {
+        match self.0 {
+            1 => "the file is too short for a head of 10 bytes",
+            2 => "the file is longer than any rule (32,906 bytes)",
+            3 => "no number of states from 1 to 32",
+            4 => "no number of symbols from 1 to 16",
+            5 => "the file ends within the list of pairs",
+            6 => "a mask names a state that there is not",
+            7 => "a pair has a wrong offset or an odd length, or the sections do not end where the file does",
+            8 => "an arc has a symbol or a target that there is not, or arcs do not rise",
+            9 => "the rule has over 512 sets",
+            10 => "no number of places from 1 to 64",
+            11 => "the board has no such place",
+            12 => "the chunk has over 65,536 bytes",
+            13 => "a byte is no symbol of the rule",
+            20 => "no rule is loaded",
+            21 => "no board is open",
+            22 => "the place has a chunk already",
+            23 => "the place has no chunk",
+            24 => "the counts would sum up to 2^32 or more",
+            _ => "for a reason that this wrapper does not know",
+        }
+    }
+}
+
+impl fmt::Display for Refused {
+    fn fmt(&self, f: &mut fmt::Formatter<'_>) -> fmt::Result {
+        write!(f, "refused {}: {}", self.number(), self.reason())
+    }
+}
+
+impl Error for Refused {}
+
+/// A recorded list of calls has no verdict.
+#[derive(Clone, Copy, Debug, PartialEq, Eq, Hash)]
+#[must_use]
+pub enum ReplayError {
+    /// The verdict after the calls is refused.
+    Refused(Refused),
+    /// The first line that is no call, counted from 1.
+    Malformed {
+        /// Its number.
+        line: u64,
+    },
+}
+
+impl fmt::Display for ReplayError {
+    fn fmt(&self, f: &mut fmt::Formatter<'_>) -> fmt::Result {
+        match self {
+            ReplayError::Refused(refused) => refused.fmt(f),
+            ReplayError::Malformed { line } => write!(f, "line {line} is malformed"),
+        }
+    }
+}
+
+impl Error for ReplayError {}
+
+impl From<Refused> for ReplayError {
+    fn from(refused: Refused) -> Self {
+        ReplayError::Refused(refused)
+    }
+}
+
+#[cfg(test)]
+mod tests {
+    use super::Refused;
+    use std::collections::BTreeSet;
+
+    /// Each of the paper's numbers has words of its own.
+    #[test]
+    fn every_number_has_its_words() {
+        let numbers = (1..=13).chain(20..=24);
+        let words: BTreeSet<&str> = numbers
+            .chain([99])
+            .map(|number| Refused::new(number).reason())
+            .collect();
+        assert_eq!(words.len(), 18 + 1);
+    }
+}
