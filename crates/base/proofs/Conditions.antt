@@ -5,7 +5,7 @@
 --   outside-law                     x is in lo .. hi
 --   passed                          no number: the first test fails, and no later one holds
 --   none-law, first-law             `firstOf` gives no number, and a number
-use mathlib.Core.Path.{_≡_, refl, sym, ap}
+use mathlib.Core.Path.{_≡_, refl, ap}
 use mathlib.Core.Logic.{_↔_, _⊎_, inl, inr, ⊎-elim}
 use mathlib.Core.Bool.{Bool, true, false, cond}
 use mathlib.Core.List.{List, [], _∷_}

@@ -1,7 +1,7 @@
 -- The laws of lists that are made cell by cell (`listFrom`) or part by part (`joined`). Assumes
 -- nothing.
 --
---   length-listFrom, getD-listFrom, cell-of   the length of `listFrom` and its cells
+--   length-listFrom, cell-of  the length of `listFrom` and its cells
 --   is-listFrom, same-list    an array with those cells is that list; the same cells, the same list
 --   zero-cells                every cell of a list of zeros
 --   stored, cell-stored       one cell more: what holds of each cell passed, and what each has
@@ -29,7 +29,7 @@ unfolding listFrom
 length-listFrom i zero g = refl
 length-listFrom i (suc len) g = ap suc (length-listFrom (suc i) len g)
 
-pub getD-listFrom : (i len : ℕ) (g : ℕ → ℕ) (c d : ℕ) → c < len → getD (listFrom i len g) c d ≡ g (i + c)
+getD-listFrom : (i len : ℕ) (g : ℕ → ℕ) (c d : ℕ) → c < len → getD (listFrom i len g) c d ≡ g (i + c)
 unfolding listFrom
 getD-listFrom i zero g c d h = absurd (omega arith)
 getD-listFrom i (suc len) g zero d h = let e : i ≡ i + 0 = omega arith in ap g e

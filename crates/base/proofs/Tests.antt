@@ -3,6 +3,7 @@
 --
 --   zero-one                       what `cc` finds contradictory: `zero-one cc` proves anything
 --   by-test                        the two cases of a test, each with its equation
+--   either                         what holds in both cases holds of the test
 --   not-both                       a test is not both true and false
 --   or-either, or-neither          one of two tests holds; neither does
 --   or-left, or-right              where not one of them holds, the first and the second fail
@@ -20,6 +21,10 @@ zero-one e = absurd (omega (arith, e))
 pub by-test : {P : Type 0} (b : Bool) → (b ≡ true → P) → (b ≡ false → P) → P
 by-test true f g = f refl
 by-test false f g = g refl
+
+pub either : (b : Bool) (P : Bool → Type 0) → P true → P false → P b
+either true P x y = x
+either false P x y = y
 
 pub not-both : {A : Type 0} {b : Bool} → b ≡ true → b ≡ false → A
 not-both t f = zero-one cc

@@ -11,8 +11,8 @@ pub fn at_most(x: usize, most: usize) -> usize
 }
 
 // The same of bytes.
-pub fn at_most_u8(x: u8, most: u8) -> u8
-    ensures { λ r. ⌜ r ≡ min x most ⌝ }
+pub fn at_most_u8(byte: u8, most: u8) -> u8
+    ensures { λ r. ⌜ r ≡ min byte most ⌝ }
 {
-    if x < most { x } else { most }
+    if byte < most { byte } else { most }
 }

@@ -4,7 +4,7 @@ ghost use Prim.Native.Nat.{_≤_, _<_};
 ghost use mathlib.Core.Bool.{cond};
 ghost use lib.Dec.{eqb};
 ghost use lib.ListN.{length, getD};
-ghost use Rattle.chunks.specs.Chunks.{total};
+ghost use Rattle.base.specs.Totals.{total};
 ghost use Rattle.board.specs.Boards.{placesOf, isEmpty, emptyBoard, rowSet, filledAt, clearedAt, emptyPlaces, summedCount};
 use chunks::Runs;
 
@@ -30,7 +30,7 @@ fn cells(ends: &[u32; 2048]) -> usize
 pub fn places_of(board: Board) -> usize
     ensures { λ r. ⌜ r ≡ placesOf board ⌝ }
 {
-    masks::at_most(board.places, 64) as usize
+    base::at_most_u8(board.places, 64) as usize
 }
 
 // A board with all places empty.

@@ -72,8 +72,8 @@ pub fn build_rule(rule: Rule) -> Building
             let delegates = merged.delegates;
             let starts = merged.count;
             let built = Built {
-                n: masks::at_most(n, 32),
-                k: masks::at_most(k, 16),
+                n: base::at_most_u8(n, 32),
+                k: base::at_most_u8(k, 16),
                 starts,
                 count: count as u16,
                 initials: rule.initials,

@@ -3,8 +3,8 @@ use mathlib.Core.Path.{_≡_, refl}
 use mathlib.Core.Bool.{not}
 use mathlib.Core.Option.{Option, none, some}
 use Prim.Native.Nat.{ℕ, _+_}
-use native.Mathlib.Omega.{arith}
-use Rattle.ruleformat.specs.Conditions.{firstOf}
+use Rattle.base.specs.Conditions.{firstOf}
+use Rattle.base.proofs.Tests.{zero-one}
 use Rattle.ruleformat.specs.Reader.{ruleOf}
 use Rattle.build.specs.Building.{builtOf}
 use Rattle.board.specs.Boards.{placesOf, isEmpty, emptyBoard, filledAt, clearedAt, summedCount}
@@ -20,14 +20,14 @@ by-number none a j next taken x e = absurd (taken x e)
 by-number (some m) a j next taken x e = refl
 
 accepts : (x : ℕ) → accepted ≡ refused x → ⊥
-accepts x e = let y : _≡_ {A = ℕ} 0 1 = cc in omega arith
+accepts x e = zero-one cc
 
 pub unchanged : Unchanged
 unfolding loadOf openOf deliverOf withdrawOf
 unchanged j (loads f) =
     let b = builtOf (ruleOf f) in
     by-number (loadNumber f) (loaded (b .count) (b .starts)) j (record { built = b; board = emptyBoard 0 })
-    (λ x e. let y : _≡_ {A = ℕ} 0 1 = cc in omega arith)
+    (λ x e. zero-one cc)
 unchanged j (opens n) = by-number (firstOf (openConditions (lacksRule j) n)) accepted j (withBoard j (emptyBoard n)) accepts
 unchanged j (delivers p w) =
     by-number

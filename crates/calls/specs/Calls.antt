@@ -11,7 +11,7 @@ use mathlib.Core.Option.{Option}
 use Prim.Native.Nat.{ℕ}
 use lib.Dec.{ltb, leb, eqb}
 use lib.ListN.{length}
-use Rattle.ruleformat.specs.Conditions.{Condition, on, firstOf, outside}
+use Rattle.base.specs.Conditions.{Condition, on, firstOf, outside}
 use Rattle.ruleformat.specs.Refusals.{fileConditions}
 use Rattle.ruleformat.specs.Reader.{ruleOf}
 use Rattle.subsets.specs.Sets.{tooMany}

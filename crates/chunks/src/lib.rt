@@ -78,7 +78,7 @@ pub fn walk(next: &[u16; 8192], from: SetNumber, chunk: &[u8]) -> Run
 pub fn start_mask(delegates: [u8; 32], n: u8) -> u32
     ensures { λ r. ⌜ r ≡ startSet delegates (min n 32) ⌝ }
 {
-    let most = masks::at_most(n, 32);
+    let most = base::at_most_u8(n, 32);
     let mut starts: u32 = 0;
     let mut q: u8 = 0;
     while q < most {
@@ -95,7 +95,7 @@ pub fn start_mask(delegates: [u8; 32], n: u8) -> u32
 pub fn delegate_mask(delegates: [u8; 32], n: u8, set: u32) -> u32
     ensures { λ r. ⌜ r ≡ delegateMask delegates n set ⌝ }
 {
-    let most = masks::at_most(n, 32);
+    let most = base::at_most_u8(n, 32);
     let mut out: u32 = 0;
     let mut q: u8 = 0;
     while q < most {

@@ -17,7 +17,7 @@ use mathlib.Core.List.{List}
 use Prim.Native.Nat.{ℕ, _-_}
 use lib.Dec.{eqb}
 use lib.ListN.{getD}
-use Rattle.masks.specs.Lists.{listFrom}
+use Rattle.base.specs.Lists.{listFrom}
 use Rattle.delegates.specs.Classes.{final, follow, every, firstFrom, alikeTo}
 
 abbrev pub classOf : List ℕ → ℕ → ℕ

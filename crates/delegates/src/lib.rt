@@ -202,8 +202,8 @@ pub fn merge_starts(
 ) -> Starts
     ensures { λ r. ⌜ r ≡ startsOf (now (sets .entry)) (now (next .entry)) finals (now (singles .entry)) n k ⌝ }
 {
-    let states = masks::at_most(n, 32) as usize;
-    let symbols = masks::at_most(k, 16) as usize;
+    let states = base::at_most_u8(n, 32) as usize;
+    let symbols = base::at_most_u8(k, 16) as usize;
     let class = refine(sets, next, finals, symbols);
     let mut own: [u16; 32] = [0; 32];
     let mut delegates: [u8; 32] = [0; 32];

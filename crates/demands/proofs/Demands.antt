@@ -20,6 +20,7 @@ use mathlib.Core.List.{List, [], flatten}
 use mathlib.Core.Option.{none}
 use Prim.Native.Nat.{ℕ, _*_, _≤_, _<_}
 use lib.ListN.{length, getD}
+use Rattle.base.specs.Options.{isNone}
 use Rattle.masks.specs.Masks.{shares}
 use Rattle.executions.specs.Executions.{Execution}
 use Rattle.executions.proofs.Executions.{execution-law}
@@ -37,7 +38,7 @@ use Rattle.calls.specs.Replies.{Reply, waiting, keeps, breaks, refused}
 use Rattle.calls.specs.Calls.{Call, loadNumber}
 use Rattle.calls.specs.Steps.{fresh, isYes, stepOf}
 use Rattle.calls.proofs.Refusing as refusing
-use Rattle.histories.specs.History.{isNone, fileOf, ruleIn, boardIn, standing, chunkOf, endAt, countAt, emptiesIn, summedIn, yesIn, textIn, verdictIn, answersTo}
+use Rattle.histories.specs.History.{fileOf, ruleIn, boardIn, standing, chunkOf, endAt, countAt, emptiesIn, summedIn, yesIn, textIn, verdictIn, answersTo}
 use Rattle.histories.specs.Method.{Method}
 use Rattle.histories.specs.Claims.{judgeMachine, judgeAfter, repliesTo, EveryList, automatonBy, Accepted-exactly}
 use Rattle.histories.specs.Functions.{judgeLibrary}

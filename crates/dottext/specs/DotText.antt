@@ -10,7 +10,8 @@ use mathlib.Core.Bool.{cond}
 use mathlib.Core.List.{List, [], _++_}
 use mathlib.Core.Option.{Option, none, some}
 use Prim.Native.Nat.{ℕ, min}
-use Rattle.text.specs.Numerals.{decimal, joined}
+use Rattle.base.specs.Lists.{joined}
+use Rattle.text.specs.Numerals.{decimal}
 use Rattle.masks.specs.Masks.{has}
 use Rattle.automaton.specs.declared.Rule.{Rule}
 use Rattle.automaton.specs.Rules.{targetMask}

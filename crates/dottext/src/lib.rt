@@ -2,7 +2,8 @@
 ghost use mathlib.Core.Path.{_≡_};
 ghost use Prim.Native.Nat.{_+_, _*_, _≤_, _<_};
 ghost use lib.ListN.{length};
-ghost use Rattle.text.specs.Numerals.{decimal, joined};
+ghost use Rattle.base.specs.Lists.{joined};
+ghost use Rattle.text.specs.Numerals.{decimal};
 ghost use Rattle.text.specs.Writing.{Wrote};
 ghost use Rattle.ruletext.specs.Printing.{Prints};
 ghost use Rattle.dottext.specs.DotText.{headLines, stateLine, arrow, pointLine, entryLine, initialLines, arcLine, arcLines, arcsFrom, arcsText, dotText, textFor, mostBytes};
@@ -202,8 +203,8 @@ fn put_dot(out: &mut [u8], rule: Rule) -> usize
     requires { ⌜ mostBytes ≤ length (now out) ⌝ }
     ensures { λ r. ⌜ (Wrote (now (out .entry)) 0 (dotText rule) (now (out .exit)) r) × (r ≤ mostBytes) ⌝ }
 {
-    let n = masks::at_most(rule.n, 32);
-    let k = masks::at_most(rule.k, 16);
+    let n = base::at_most_u8(rule.n, 32);
+    let k = base::at_most_u8(rule.k, 16);
     let targets = rule.targets;
     let a = put_head(out, 0);
     let b = put_states(out, a, rule.finals, n);

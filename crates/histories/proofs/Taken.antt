@@ -4,16 +4,19 @@ use mathlib.Core.Logic.{_↔_}
 use mathlib.Core.Bool.{false}
 use mathlib.Core.List.{List, [], _∷_}
 use mathlib.Core.Option.{Option, none, some}
-use Prim.Native.Nat.{ℕ, _+_, _≤_, _<_}
+use Prim.Native.Nat.{ℕ, _+_, _<_}
 use native.Mathlib.Omega.{arith}
 use lib.Dec.{eqb, ltb, leb}
 use lib.ListN.{length}
 use borrow.Author.Tests.{ne-eqb, eqb-false, lt-leb, leb-false, le-ltb, ltb-false}
-use Rattle.ruleformat.specs.Conditions.{Condition, on, firstOf, NoneHolds, outside}
-use Rattle.ruleformat.proofs.Conditions.{or-left, or-right, or-neither, none-law}
+use Rattle.base.specs.Conditions.{Condition, on, firstOf, NoneHolds, outside}
+use Rattle.base.specs.Options.{isNone, isSome}
+use Rattle.base.proofs.Conditions.{none-law, outside-law}
+use Rattle.base.proofs.Options.{is-some, not-some}
+use Rattle.base.proofs.Tests.{zero-one}
 use Rattle.chunks.specs.Chunks.{foreign}
 use Rattle.calls.specs.Replies.{accepted}
-use Rattle.histories.specs.History.{isNone, isSome, fileOf, ruleIn, placesIn, countOf, standing, summedIn, replyBy}
+use Rattle.histories.specs.History.{fileOf, ruleIn, placesIn, countOf, standing, summedIn, replyBy}
 use Rattle.calls.specs.Calls.{Call}
 use Rattle.histories.specs.Claims.{Accepted-exactly}
 
@@ -21,8 +24,8 @@ use Rattle.histories.specs.Claims.{Accepted-exactly}
 reply-law : (o : Option ℕ) → (replyBy o accepted ≡ accepted) ↔ (o ≡ none)
 reply-law none = (λ e. refl, λ e. refl)
 reply-law (some x) = (
-  (λ e. absurd (let z : _≡_ {A = ℕ} 0 1 = cc in omega arith)),
-  λ e. absurd (let z : _≡_ {A = ℕ} 0 1 = cc in omega arith),
+  (λ e. zero-one cc),
+  λ e. zero-one cc,
 )
 
 none-hold : (cs : List Condition) → (replyBy (firstOf cs) accepted ≡ accepted) ↔ NoneHolds cs
@@ -32,36 +35,19 @@ none-hold cs = (
 )
 
 -- ---- one condition
-is-some : {A : Type 0} (o : Option A) → (isNone o ≡ false) ↔ (o ≡ none → ⊥)
-is-some none = (λ e z. let y : _≡_ {A = ℕ} 0 1 = cc in omega arith, λ n. absurd (n refl))
-is-some (some x) = (λ e z. let y : _≡_ {A = ℕ} 0 1 = cc in omega arith, λ n. refl)
-
-is-none : {A : Type 0} (o : Option A) → (isSome o ≡ false) ↔ (o ≡ none)
-is-none none = (λ e. refl, λ e. refl)
-is-none (some x) = (
-  (λ e. absurd (let z : _≡_ {A = ℕ} 0 1 = cc in omega arith)),
-  λ e. absurd (let z : _≡_ {A = ℕ} 0 1 = cc in omega arith),
-)
-
 some-places : (n : ℕ) → eqb n 0 ≡ false → 0 < n
 some-places n e = let x = eqb-false n 0 e in omega arith
 
 places-some : (n : ℕ) → 0 < n → eqb n 0 ≡ false
 places-some n h = ne-eqb n 0 (λ z. absurd (omega arith))
 
-inside : (lo hi x : ℕ) → (outside lo hi x ≡ false) ↔ ((lo ≤ x) × (x ≤ hi))
-inside lo hi x = (
-  (λ e. (ltb-false x lo (or-left (ltb x lo) (ltb hi x) e), ltb-false hi x (or-right (ltb x lo) (ltb hi x) e))),
-  λ b. or-neither (ltb x lo) (ltb hi x) (le-ltb x lo (b .0)) (le-ltb hi x (b .1)),
-)
-
 -- ---- the calls
 pub accepted-exactly : (h : List Call) → Accepted-exactly h
 accepted-exactly h = record {
   opening = λ n.
       let law = none-hold (on 20 (isNone (fileOf h)) ∷ on 10 (outside 1 64 n) ∷ []) in (
-        (λ e. let x = law .0 e in let b = inside 1 64 n .0 (x .1 .0) in (is-some (fileOf h) .0 (x .0), b .0, b .1)),
-        λ x. law .1 (is-some (fileOf h) .1 (x .0), (inside 1 64 n .1 (x .1, x .2), tt)),
+        (λ e. let x = law .0 e in let b = outside-law 1 64 n .0 (x .1 .0) in (is-some (fileOf h) .0 (x .0), b .0, b .1)),
+        λ x. law .1 (is-some (fileOf h) .1 (x .0), (outside-law 1 64 n .1 (x .1, x .2), tt)),
       );
   delivery = λ p w.
       let law =
@@ -78,7 +64,7 @@ accepted-exactly h = record {
               leb-false (placesIn h) p (x .1 .0),
               ltb-false 65536 (length w) (x .1 .1 .0),
               x .1 .1 .1 .0,
-              is-none (standing h p) .0 (x .1 .1 .1 .1 .0),
+              not-some (standing h p) .0 (x .1 .1 .1 .1 .0),
               ltb-false 4294967295 (summedIn h + countOf (ruleIn h) p (some w)) (x .1 .1 .1 .1 .1 .0),
             )),
         λ x.
@@ -90,7 +76,7 @@ accepted-exactly h = record {
                   le-ltb 65536 (length w) (x .2),
                   (
                     x .3,
-                    (is-none (standing h p) .1 (x .4), (le-ltb 4294967295 (summedIn h + countOf (ruleIn h) p (some w)) (x .5), tt)),
+                    (not-some (standing h p) .1 (x .4), (le-ltb 4294967295 (summedIn h + countOf (ruleIn h) p (some w)) (x .5), tt)),
                   ),
                 ),
               ),

@@ -49,7 +49,7 @@ fn join_places(ends: &[u32; 2048], delegates: &[u8; 32], n: u8, initials: u32, p
     requires { ⌜ places ≤ 64 ⌝ }
     ensures { λ r. ⌜ r ≡ joinUpTo (now (ends .entry)) (now (delegates .entry)) n initials places ⌝ }
 {
-    let states = masks::at_most(n, 32);
+    let states = base::at_most_u8(n, 32);
     let mut set = initials;
     let mut place: usize = 0;
     while place < places {

@@ -13,8 +13,8 @@ use mathlib.Core.List.{List, []}
 use Prim.Native.Nat.{ℕ, _+_, _*_, _/_, _%_, _≤_, _<_}
 use lib.Dec.{eqb, ltb}
 use lib.ListN.{length, getD, set}
+use Rattle.base.specs.Lists.{listFrom}
 use Rattle.masks.specs.Masks.{single}
-use Rattle.masks.specs.Lists.{listFrom}
 use Rattle.automaton.specs.Successor.{successor}
 use Rattle.numbering.specs.Begins.{Begins}
 use Rattle.subsets.specs.declared.Numbered.{Numbered}
