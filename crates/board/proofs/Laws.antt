@@ -5,24 +5,20 @@
 --   Changed                                           one place has been changed, and the others are as before
 --   filled-at, cleared-at                             filling and clearing change their place alone, and to what
 --   empty-law, summed-law                             the empty places and the summed count, from what is known of each place
---   none-empty, empty-most                            no place is empty; at most all are
---   empty-changed, summed-changed                     what a change adds and takes away
 use mathlib.Core.Path.{_≡_, refl, ap, _∙_}
-use mathlib.Core.Logic.{_↔_}
 use mathlib.Core.Bool.{Bool, true, false, cond}
-use Prim.Native.Nat.{ℕ, _+_, _*_, _≤_, _<_, min}
+use Prim.Native.Nat.{ℕ, _+_, _*_, _<_}
 use native.Mathlib.Omega.{arith}
-use lib.Dec.{eqb, ltb}
-use lib.ListN.{length, getD, set, replicate, length-set, length-replicate, getD-replicate, List·getD-eq-default}
+use lib.Dec.{eqb}
+use lib.ListN.{length, getD, set, replicate, length-set, length-replicate}
 use lib.Seq.{getD-set-same, getD-set-other}
-use borrow.Author.Tests.{eq-eqb, ltb-true, ltb-false}
-use Rattle.masks.proofs.Cases.{by-test}
+use borrow.Author.Tests.{eq-eqb}
+use Rattle.base.specs.Totals.{total}
+use Rattle.base.proofs.Lists.{zero-cells}
+use Rattle.base.proofs.Totals.{total-same}
 use Rattle.chunks.specs.declared.Runs.{Runs}
-use Rattle.chunks.specs.Chunks.{total}
 use Rattle.board.specs.declared.Board.{Board}
 use Rattle.board.specs.Boards.{placesOf, held, isEmpty, emptyBoard, rowSet, filledAt, clearedAt, emptyPlaces, summedCount}
-use Rattle.chunks.proofs.Totals.{total-same, total-most}
-use Rattle.board.proofs.Totals.{one-most, term-most, total-changed}
 use Rattle.board.proofs.Rows.{row-length, row-own, row-other}
 
 pub record Sized (b : Board) : Type 0 where
@@ -31,11 +27,6 @@ pub record Sized (b : Board) : Type 0 where
   pub ends-cells : length (b .ends) ≡ 2048
 
 -- ---- a new board
-zero-cell : (len i : ℕ) → getD (replicate {A = ℕ} len 0) i 0 ≡ 0
-zero-cell len i =
-    by-test (ltb i len) (λ t. getD-replicate len i 0 0 (ltb-true i len t))
-    (λ f. List·getD-eq-default (replicate {A = ℕ} len 0) 0 (rw length-replicate (ltb-false i len f)))
-
 module _ (n : ℕ) where
   pub sized-empty : Sized (emptyBoard n)
   unfolding emptyBoard
@@ -45,21 +36,17 @@ module _ (n : ℕ) where
     ends-cells = length-replicate {A = ℕ} 2048 0;
   }
 
-  pub places-empty : placesOf (emptyBoard n) ≡ min n 64
-  unfolding emptyBoard
-  places-empty = refl
-
   pub empty-all : (p : ℕ) → isEmpty (emptyBoard n) p ≡ true
   unfolding emptyBoard
-  empty-all p = eq-eqb (getD (replicate 64 0) p 0) 0 (zero-cell 64 p)
+  empty-all p = eq-eqb (getD (replicate 64 0) p 0) 0 (zero-cells 64 p)
 
   pub empty-held : (p q : ℕ) → held (emptyBoard n) p q ≡ 0
   unfolding emptyBoard
-  empty-held p q = zero-cell 2048 (p * 32 + q)
+  empty-held p q = zero-cells 2048 (p * 32 + q)
 
   pub empty-count : (p : ℕ) → getD (emptyBoard n .counts) p 0 ≡ 0
   unfolding emptyBoard
-  empty-count p = zero-cell 64 p
+  empty-count p = zero-cells 64 p
 
 -- ---- one place changed
 -- c is b but for place p: whether that is empty, its count and its end sets are as said
@@ -110,37 +97,7 @@ module _ (b : Board) where
   unfolding emptyPlaces
   empty-law f h = total-same (λ p. cond (isEmpty b p) 1 0) (λ p. cond (f p) 1 0) (placesOf b) (λ p l. ap (λ (t : Bool). cond t 1 0) (h p l))
 
-  pub empty-most : emptyPlaces b ≤ placesOf b
-  unfolding emptyPlaces
-  empty-most = omega (arith, total-most (λ p. cond (isEmpty b p) 1 0) 1 (placesOf b) (λ p l. one-most (isEmpty b p)))
-
-  pub none-empty : (emptyPlaces b ≡ 0) ↔ ((p : ℕ) → p < placesOf b → isEmpty b p ≡ false)
-  unfolding emptyPlaces
-  none-empty = (
-    (λ z p l. no-term (isEmpty b p) (omega (arith, term-most (λ i. cond (isEmpty b i) 1 0) (placesOf b) p l))),
-    λ h. omega (arith, total-most (λ p. cond (isEmpty b p) 1 0) 0 (placesOf b) (λ p l. rw (h p l) (omega arith))),
-  )
-    where
-      no-term : (t : Bool) → cond t 1 0 ≤ 0 → t ≡ false
-      no-term true l = absurd (omega arith)
-      no-term false l = refl
-
   -- ---- the summed count
   pub summed-law : (f : ℕ → ℕ) → ((p : ℕ) → p < placesOf b → getD (b .counts) p 0 ≡ f p) → summedCount b ≡ total f (placesOf b)
   unfolding summedCount
   summed-law f h = total-same (λ p. getD (b .counts) p 0) f (placesOf b) h
-
--- ---- what a change adds and takes away
-module _ (b c : Board) (p : ℕ) (empty : Bool) (count : ℕ) (ends : ℕ → ℕ) (changed : Changed b c p empty count ends) (h : p < placesOf b) where
-  pub empty-changed : emptyPlaces c + cond (isEmpty b p) 1 0 ≡ emptyPlaces b + cond empty 1 0
-  unfolding emptyPlaces
-  empty-changed =
-      rw (changed .places-same, ← changed .empty-own)
-      (total-changed (λ i. cond (isEmpty c i) 1 0) (λ i. cond (isEmpty b i) 1 0) (placesOf b) p h
-      (λ i ne. ap (λ (t : Bool). cond t 1 0) (changed .empty-other i ne)))
-
-  pub summed-changed : summedCount c + getD (b .counts) p 0 ≡ summedCount b + count
-  unfolding summedCount
-  summed-changed =
-      rw (changed .places-same, ← changed .count-own)
-      (total-changed (λ i. getD (c .counts) i 0) (λ i. getD (b .counts) i 0) (placesOf b) p h (changed .count-other))

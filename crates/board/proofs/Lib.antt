@@ -1,4 +1,3 @@
 -- In the order in which they build on each other; what belongs to no one function.
-pub mod Totals
 pub mod Rows
 pub mod Laws

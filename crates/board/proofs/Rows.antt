@@ -11,8 +11,8 @@ use lib.ListN.{length, getD, set, length-set}
 use lib.Seq.{getD-set-same, getD-set-other}
 use borrow.Author.Count.{below-none, below-more}
 use borrow.Author.Tests.{eq-eqb, ne-eqb, eqb-true, eqb-false, ltb-true, ltb-false}
-use Rattle.masks.proofs.Cases.{by-test}
-use Rattle.masks.proofs.Lists.{is-listFrom, cell-of, length-listFrom}
+use Rattle.base.proofs.Lists.{is-listFrom, cell-of, length-listFrom}
+use Rattle.base.proofs.Tests.{by-test}
 use Rattle.board.specs.Boards.{rowSet}
 
 -- what a cell has once the row of place p has the values g

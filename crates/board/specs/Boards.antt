@@ -15,9 +15,9 @@ use Prim.Native.Nat.{ℕ, _+_, _*_, _/_, _%_, min}
 use lib.Dec.{eqb}
 use lib.ListN.{getD, set, replicate}
 use Rattle.limits.specs.Limits.{mostStates, mostPlaces, endCells}
-use Rattle.masks.specs.Lists.{listFrom}
+use Rattle.base.specs.Lists.{listFrom}
+use Rattle.base.specs.Totals.{total}
 use Rattle.chunks.specs.declared.Runs.{Runs}
-use Rattle.chunks.specs.Chunks.{total}
 use Rattle.board.specs.declared.Board.{Board}
 
 abbrev pub placesOf : Board → ℕ

@@ -5,7 +5,7 @@ ghost use mathlib.Core.Bool.{cond};
 ghost use lib.Dec.{eqb};
 ghost use lib.ListN.{length, getD};
 ghost use Rattle.limits.specs.Limits.{mostPlaces, endCells};
-ghost use Rattle.chunks.specs.Chunks.{total};
+ghost use Rattle.base.specs.Totals.{total};
 ghost use Rattle.board.specs.Boards.{placesOf, isEmpty, emptyBoard, rowSet, filledAt, clearedAt, emptyPlaces, summedCount};
 use chunks::Runs;
 
@@ -31,7 +31,7 @@ fn cells(ends: &[u32; limits::ENDS]) -> usize
 pub fn places_of(board: Board) -> usize
     ensures { λ r. ⌜ r ≡ placesOf board ⌝ }
 {
-    masks::at_most(board.places, limits::MOST_PLACES) as usize
+    base::at_most_u8(board.places, limits::MOST_PLACES) as usize
 }
 
 // A board with all places empty.

@@ -5,8 +5,8 @@ use Prim.Native.Nat.{ℕ, _≤_, _<_}
 use native.Mathlib.Omega.{arith}
 use lib.ListN.{length, getD}
 use borrow.Author.Tests.{ltb-false}
+use Rattle.base.proofs.Lists.{cell-of}
 use Rattle.masks.specs.Masks.{single}
-use Rattle.masks.proofs.Lists.{cell-of}
 use Rattle.automaton.specs.declared.Rule.{Rule}
 use Rattle.automaton.specs.Rules.{WellFormed}
 use Rattle.subsets.specs.Sets.{setsOf, tooMany, setCells}

@@ -72,8 +72,8 @@ pub fn build_rule(rule: Rule) -> Building
             let delegates = merged.delegates;
             let starts = merged.count;
             let built = Built {
-                n: masks::at_most(n, limits::MOST_STATES),
-                k: masks::at_most(k, limits::MOST_SYMBOLS),
+                n: base::at_most_u8(n, limits::MOST_STATES),
+                k: base::at_most_u8(k, limits::MOST_SYMBOLS),
                 starts,
                 count: count as u16,
                 initials: rule.initials,

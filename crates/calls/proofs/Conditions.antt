@@ -4,16 +4,12 @@ use mathlib.Core.Bool.{Bool, true, false, cond}
 use mathlib.Core.List.{List, [], _∷_, _++_}
 use mathlib.Core.Option.{Option, none, some}
 use Prim.Native.Nat.{ℕ}
-use native.Mathlib.Omega.{arith}
-use Rattle.ruleformat.specs.Conditions.{Condition, on, firstOf}
+use Rattle.base.specs.Conditions.{Condition, on, firstOf}
+use Rattle.base.proofs.Tests.{zero-one}
 use Rattle.ruleformat.specs.Refusals.{fileConditions, refusal}
 use Rattle.ruleformat.specs.Reader.{ruleOf}
 use Rattle.subsets.specs.Sets.{tooMany}
 use Rattle.calls.specs.Calls.{loadNumber}
-
--- there is a number or there is none
-pub none-some : {A : Type 0} {x : ℕ} (o : Option ℕ) → o ≡ none → o ≡ some x → A
-none-some o e f = absurd (let z : _≡_ {A = ℕ} 0 1 = cc in omega arith)
 
 abbrev pub orElse : Option ℕ → Option ℕ → Option ℕ
 orElse none y = y
@@ -25,8 +21,8 @@ first-append (on x true ∷ cs) ds = refl
 first-append (on x false ∷ cs) ds = first-append cs ds
 
 neither : (a : Option ℕ) (t : Bool) → orElse a (cond t (some 9) none) ≡ none → (a ≡ none) × (t ≡ false)
-neither (some x) t e = absurd (let z : _≡_ {A = ℕ} 0 1 = cc in omega arith)
-neither none true e = absurd (let z : _≡_ {A = ℕ} 0 1 = cc in omega arith)
+neither (some x) t e = zero-one cc
+neither none true e = zero-one cc
 neither none false e = (refl, refl)
 
 -- the rule of the file has over 512 sets

@@ -7,7 +7,9 @@ use mathlib.Core.Logic.{_↔_}
 use mathlib.Core.Bool.{not}
 use mathlib.Core.Option.{Option, none, some}
 use Prim.Native.Nat.{ℕ, _+_}
-use Rattle.ruleformat.specs.Conditions.{firstOf}
+use Rattle.base.proofs.Options.{none-some}
+use Rattle.base.specs.Conditions.{firstOf}
+use Rattle.base.proofs.Tests.{zero-one}
 use Rattle.ruleformat.specs.Reader.{ruleOf}
 use Rattle.build.specs.Building.{builtOf}
 use Rattle.board.specs.Boards.{placesOf, isEmpty, emptyBoard, filledAt, clearedAt, summedCount}
@@ -16,7 +18,6 @@ use Rattle.calls.specs.Replies.{Reply, accepted, loaded, judged, refused
 use Rattle.calls.specs.Calls.{loads, opens, delivers, withdraws, asks, loadNumber, openConditions, deliverConditions, withdrawConditions}
 use Rattle.calls.specs.Steps.{lacksRule, lacksBoard, withBoard, runsAt, outcomeBy, loadOf, openOf, deliverOf, withdrawOf}
 use Rattle.calls.specs.Claims.{Unchanged}
-use Rattle.calls.proofs.Conditions.{none-some}
 
 pub refusal-law : (a : Reply) (x : ℕ) → (refusalOf a ≡ some x) ↔ (a ≡ refused x)
 refusal-law a x = (to a, λ e. ap refusalOf e)

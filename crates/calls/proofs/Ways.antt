@@ -17,7 +17,7 @@ use native.Mathlib.Omega.{arith}
 use lib.Dec.{ltb}
 use lib.ListN.{length}
 use borrow.Author.Tests.{lt-ltb, le-ltb, le-leb, lt-leb, eq-eqb, ne-eqb, ltb-true, ltb-false}
-use Rattle.masks.proofs.Cases.{by-test}
+use Rattle.base.proofs.Tests.{by-test, zero-one}
 use Rattle.ruleformat.specs.declared.ReadAnswer.the-variants as reading
 use Rattle.ruleformat.specs.declared.Reading.{Reading}
 use Rattle.ruleformat.specs.Refusals.{refusal}
@@ -194,7 +194,7 @@ module _ (j : Judge) (f : List ℕ) (read : Reading) (reads : Reads f read) wher
         (λ few.
         let is : refused number ≡ accepted (length (sets (ruleOf f))) (builtOf (ruleOf f) .starts) =
         sym (ap saidOf answered) ∙ ap (λ (o : Built-outcome). o .says) came ∙ rw few in
-        absurd (let z : _≡_ {A = ℕ} 0 1 = cc in omega arith))
+        zero-one cc)
 
     pub loaded : (m starts : ℕ) → b .answer ≡ build.Accepted m starts → (e : Board) → e ≡ emptyBoard 0
         → record { says = reply.loaded m starts; leaves = record { built = b .built; board = e } } ≡ loadOf j f
@@ -203,7 +203,7 @@ module _ (j : Judge) (f : List ℕ) (read : Reading) (reads : Reads f read) wher
         by-test (over f)
         (λ t.
         let is : accepted m starts ≡ refused 9 = sym (ap saidOf answered) ∙ ap (λ (o : Built-outcome). o .says) came ∙ rw t in
-        absurd (let z : _≡_ {A = ℕ} 0 1 = cc in omega arith))
+        zero-one cc)
         (λ few.
         let is : accepted m starts ≡ accepted (length (sets (ruleOf f))) (builtOf (ruleOf f) .starts) =
         sym (ap saidOf answered) ∙ ap (λ (o : Built-outcome). o .says) came ∙ rw few in

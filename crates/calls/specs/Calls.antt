@@ -14,7 +14,7 @@ use Prim.Native.Nat.{ℕ}
 use lib.Dec.{ltb, leb, eqb}
 use lib.ListN.{length}
 use Rattle.limits.specs.Limits.{mostPlaces, longestChunk, mostCount}
-use Rattle.ruleformat.specs.Conditions.{Condition, on, firstOf, outside}
+use Rattle.base.specs.Conditions.{Condition, on, firstOf, outside}
 use Rattle.ruleformat.specs.Refusals.{fileConditions}
 use Rattle.ruleformat.specs.Reader.{ruleOf}
 use Rattle.subsets.specs.Sets.{tooMany}

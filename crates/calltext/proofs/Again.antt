@@ -7,7 +7,7 @@ use borrow.Author.Needs.{needs}
 use borrow.Author.Tests.{ne-eqb}
 use lib.Dec.{ltb}
 use lib.ListN.{length}
-use Rattle.masks.proofs.Cases.{by-test}
+use Rattle.base.proofs.Tests.{by-test}
 use Rattle.text.specs.Numerals.{decimalBelow, decimal, hexDigit, hex}
 use Rattle.lines.specs.Splitting.{begins}
 use Rattle.lines.proofs.Over.{Over, over-append, over-less, over-up, over-past}

@@ -9,7 +9,7 @@ use borrow.Author.Tests.{eq-eqb, ne-eqb, ltb-true, ltb-false}
 use lib.Dec.{ltb}
 use lib.ListN.{length, take, drop, length-drop}
 use lib.Seq.{take-all, drop-drop}
-use Rattle.masks.proofs.Cases.{by-test}
+use Rattle.base.proofs.Tests.{by-test}
 use Rattle.lines.specs.Splitting.{begins, upTo, past}
 use Rattle.lines.proofs.Splits.{begins-short, up-take, past-there, past-none}
 use Rattle.fields.specs.declared.Number.{Number}

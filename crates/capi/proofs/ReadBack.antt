@@ -5,7 +5,7 @@ use mathlib.Core.List.{List}
 use mathlib.Core.Option.{Option, none, some}
 use Prim.Native.Nat.{ℕ, _+_}
 use lib.Dec.{eqb}
-use Rattle.ruleformat.specs.Conditions.{firstOf}
+use Rattle.base.specs.Conditions.{firstOf}
 use Rattle.ruleformat.specs.Reader.{ruleOf}
 use Rattle.build.specs.Building.{builtOf}
 use Rattle.board.specs.Boards.{placesOf, isEmpty, emptyBoard, filledAt, clearedAt, emptyPlaces, summedCount}

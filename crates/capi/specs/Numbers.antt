@@ -12,9 +12,9 @@ use mathlib.Core.Bool.{cond}
 use mathlib.Core.Option.{Option·getD}
 use Prim.Native.Nat.{ℕ}
 use lib.Dec.{eqb}
+use Rattle.base.specs.Options.{isNone}
 use Rattle.calls.specs.Replies.{Judgement, waiting, keeps, breaks, Reply, accepted, loaded, judged, refused, refusalOf}
 use Rattle.calls.specs.Steps.{Outcome}
-use Rattle.histories.specs.History.{isNone}
 use Rattle.replay.specs.Records.{Told, verdict, malformedLine}
 use Rattle.capi.specs.declared.LoadResult.{LoadResult}
 use Rattle.capi.specs.declared.OpenResult.{OpenResult}

@@ -2,19 +2,21 @@
 use mathlib.Core.Path.{_≡_, refl}
 use mathlib.Core.Bool.{Bool, cond}
 use mathlib.Core.List.{List, [], _∷_}
-use Prim.Native.Nat.{ℕ, _+_, _-_, _*_, _≤_, _<_}
+use Prim.Native.Nat.{ℕ, zero, suc, _+_, _-_, _*_, _≤_, _<_}
+use native.Mathlib.Nat.{add-mul}
 use native.Mathlib.Omega.{arith}
 use borrow.Author.Tests.{eq-eqb}
 use lib.Dec.{eqb}
 use lib.ListN.{length, getD}
+use Rattle.base.specs.Totals.{total}
+use Rattle.base.proofs.Tests.{by-test, either-most}
+use Rattle.base.proofs.Totals.{total-rest}
 use Rattle.masks.specs.Masks.{_∈_, has, single}
-use Rattle.masks.proofs.Cases.{by-test}
 use Rattle.masks.proofs.Laws.{member-of, union-empty}
 use Rattle.automaton.specs.Rules.{targetMask}
 use Rattle.automaton.specs.Successor.{successor}
 use Rattle.delegates.specs.Alike.{startCount}
 use Rattle.chunks.specs.Chunks.{counted, startSet, chunkCount}
-use Rattle.chunks.proofs.Totals.{either-most, total-rest, total-starts}
 use Rattle.chunks.proofs.Starts.{start-law}
 
 one-transition : (b : Bool) → cond b 0 1 ≤ 1
@@ -30,6 +32,14 @@ pub counted-empty : (ts w : List ℕ) → counted ts 0 w ≡ 0
 unfolding counted
 counted-empty ts [] = refl
 counted-empty ts (s ∷ w) = rw (union-empty (λ q. targetMask ts q s) 32) (omega (arith, counted-empty ts w))
+
+-- where only states that are their own delegate add, and each at most so much, the whole is at most M times that
+total-starts : (f : ℕ → ℕ) (d : List ℕ) (most n : ℕ) → ((q : ℕ) → q < n → f q ≤ cond (eqb (getD d q 0) q) 1 0 * most)
+    → total f n ≤ startCount d n * most
+unfolding total startCount
+total-starts f d most zero h = omega arith
+total-starts f d most (suc n) h =
+    rw (add-mul (startCount d n) (cond (eqb (getD d n 0) n) 1 0) most) (omega (arith, total-starts f d most n (λ q l. h q (omega arith)), h n (omega arith)))
 
 module _ (ts d : List ℕ) (n run : ℕ) (few : n ≤ 32) (starts : (q : ℕ) → q ∈ run → q ∈ startSet d n) (w : List ℕ) where
   runs : ℕ → ℕ

@@ -9,11 +9,12 @@ use native.Mathlib.Omega.{arith}
 use borrow.Author.Tests.{lt-ltb, ltb-false, eqb-true, eqb-false}
 use lib.Dec.{eqb, ltb}
 use lib.ListN.{length, getD}
+use Rattle.base.specs.Lists.{listFrom}
+use Rattle.base.proofs.Lists.{same-list}
+use Rattle.base.proofs.Tests.{by-test}
+use Rattle.base.proofs.Totals.{total-same}
 use Rattle.masks.specs.Masks.{has, single}
-use Rattle.masks.specs.Lists.{listFrom}
-use Rattle.masks.proofs.Cases.{by-test}
 use Rattle.masks.proofs.Laws.{member-of, members-below}
-use Rattle.masks.proofs.Lists.{length-listFrom, cell-of, is-listFrom}
 use Rattle.automaton.specs.declared.Rule.{Rule}
 use Rattle.automaton.specs.Rules.{WellFormed}
 use Rattle.automaton.specs.Successor.{successor, after}
@@ -28,16 +29,12 @@ use Rattle.build.specs.Building.{builtOf}
 use Rattle.build.proofs.Claims as build
 use Rattle.chunks.specs.Chunks.{counted, endSet, chunkCount}
 use Rattle.chunks.specs.Walks.{stepOf, walkEnd, walkCount, maskOf, runsOf}
-use Rattle.chunks.proofs.Totals.{total-same}
 use Rattle.chunks.proofs.Walks.{end-empty, count-empty}
 use Rattle.chunks.proofs.Counts.{counted-empty}
 
 same-either : (b : Bool) (x y : ℕ) → (b ≡ true → x ≡ y) → cond b x 0 ≡ cond b y 0
 same-either true x y h = h refl
 same-either false x y h = refl
-
-same-list : (len : ℕ) (f g : ℕ → ℕ) → ((q : ℕ) → q < len → f q ≡ g q) → listFrom 0 len f ≡ listFrom 0 len g
-same-list len f g same = is-listFrom (listFrom 0 len f) len g (length-listFrom 0 len f) (λ q h. cell-of len f q 0 h ∙ same q h)
 
 module _ (r : Rule) (good : WellFormed r) (fit : fits r) where
   abbrev masks : List ℕ

@@ -1,6 +1,5 @@
 -- In the order in which they build on each other.
 pub mod Texts
-pub mod Totals
 pub mod Walks
 pub mod Running
 pub mod Starts

@@ -8,13 +8,13 @@ use native.Mathlib.Omega.{arith}
 use borrow.Author.Count.{below-none, below-more}
 use lib.ListN.{length, getD, set, replicate, length-set}
 use lib.Seq.{getD-set-other}
+use Rattle.base.specs.Totals.{total}
+use Rattle.base.proofs.Lists.{is-listFrom, cell-stored, zero-cells}
+use Rattle.base.proofs.Tests.{either-most}
+use Rattle.base.proofs.Totals.{total-more, total-most}
 use Rattle.masks.specs.Masks.{has}
-use Rattle.masks.proofs.Lists.{is-listFrom, cell-stored}
-use Rattle.delegates.proofs.Lists.{zero-cells}
-use Rattle.chunks.specs.Chunks.{total}
 use Rattle.chunks.specs.Walks.{walkEnd, walkCount, maskOf, runsOf}
 use Rattle.chunks.proofs.Walks.{count-most}
-use Rattle.chunks.proofs.Totals.{either-most, total-more, total-most}
 
 module _ (sets next singles : List ℕ) (mask : ℕ) (chunk : List ℕ) where
   -- the end set of state q, and what its run counts

@@ -12,8 +12,8 @@ use borrow.Author.Tests.{eq-eqb, ne-eqb, eqb-true}
 use lib.Bits.{bitOr, or-zero-r}
 use lib.Dec.{eqb}
 use lib.ListN.{getD}
-use Rattle.masks.specs.Masks.{_∈_, has, single, union}
-use Rattle.masks.proofs.Laws.{no-member, or-cases, or-left, or-right, single-law, part-of, in-union}
+use Rattle.masks.specs.Masks.{_∈_, single}
+use Rattle.masks.proofs.Laws.{no-member, or-cases, or-left, or-right, single-law, part-of, in-union, union-same}
 use Rattle.chunks.specs.Chunks.{startSet, delegateSet, runSet}
 use Rattle.chunks.specs.Walks.{delegateMask, runMask}
 
@@ -26,15 +26,6 @@ module _ (d : List ℕ) (q : ℕ) where
   pub start-other : (getD d q 0 ≡ q → ⊥) → startSet d q ≡ startSet d (q + 1)
   unfolding startSet
   start-other ne = rw (add-one, ne-eqb (getD d q 0) q ne, or-zero-r)
-
-module _ (f : ℕ → ℕ) (m q : ℕ) where
-  pub union-member : has m q ≡ true → bitOr (union f m q) (f q) ≡ union f m (q + 1)
-  unfolding union
-  union-member e = rw (add-one, e)
-
-  pub union-other : has m q ≡ false → union f m q ≡ union f m (q + 1)
-  unfolding union
-  union-other e = rw (add-one, e, or-zero-r)
 
 -- ---- the states that a place is run from, for any delegates
 module _ (d : List ℕ) (n m place : ℕ) where
@@ -85,11 +76,6 @@ delegate-law d n m p = (
 )
 
 -- ---- delegates that are states
-union-same : (f g : ℕ → ℕ) (m n : ℕ) → ((q : ℕ) → q < n → f q ≡ g q) → union f m n ≡ union g m n
-unfolding union
-union-same f g m zero same = refl
-union-same f g m (suc n) same = rw (union-same f g m n (λ q h. same q (omega arith)), same n (omega arith))
-
 module _ (d : List ℕ) (n m : ℕ) (few : n ≤ 32) (states : (q : ℕ) → q < n → getD d q 0 < 32) where
   pub delegate-mask : delegateMask d n m ≡ delegateSet d n m
   delegate-mask =

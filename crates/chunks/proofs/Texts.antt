@@ -1,7 +1,7 @@
 -- The laws of `foreign`: byte by byte, and that no byte is foreign exactly in a text. Assumes nothing.
 use mathlib.Core.Path.{_≡_, refl}
 use mathlib.Core.Logic.{_↔_}
-use mathlib.Core.Bool.{Bool, true, false, _||_, true≢false}
+use mathlib.Core.Bool.{Bool, true, false, _||_, true≢false, or-true, or-false}
 use mathlib.Core.List.{List, [], _∷_}
 use Prim.Native.Nat.{ℕ, _+_, _≤_, _<_}
 use native.Mathlib.Numerals.{add-one}
@@ -9,19 +9,11 @@ use borrow.Author.Tests.{le-leb, lt-leb, leb-false}
 use lib.Dec.{leb}
 use lib.ListN.{length, getD, drop, drop-of-length-le}
 use lib.Seq.{drop-cons}
-use Rattle.masks.proofs.Cases.{by-test}
+use Rattle.base.proofs.Tests.{by-test}
 use Rattle.delegates.specs.Alike.{Text}
 use Rattle.chunks.specs.Chunks.{foreign}
 
 -- ---- what is left to look at from byte i on, where `found` says whether a byte before is foreign
-or-true : (found : Bool) → found || true ≡ true
-or-true true = refl
-or-true false = refl
-
-or-false : (found : Bool) → found || false ≡ found
-or-false true = refl
-or-false false = refl
-
 module _ (w : List ℕ) (k i : ℕ) (found : Bool) where
   pub foreign-here : i < length w → k ≤ getD w i 0 → found || foreign (drop i w) k ≡ true
   unfolding foreign

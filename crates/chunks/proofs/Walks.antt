@@ -1,7 +1,6 @@
 -- The laws of a walk over any next-set table: one byte more, no byte left, the empty set stays empty, and at most one step is counted for a
 -- byte. Assumes nothing.
 use mathlib.Core.Path.{_≡_, refl, ap, _∙_}
-use mathlib.Core.Bool.{Bool, cond}
 use mathlib.Core.List.{List, [], _∷_}
 use Prim.Native.Nat.{ℕ, suc, _+_, _*_, _%_, _≤_, _<_}
 use native.Mathlib.Numerals.{add-one}
@@ -10,18 +9,15 @@ use borrow.Author.Tests.{lt-ltb}
 use lib.Dec.{ltb}
 use lib.ListN.{length, getD, drop, drop-of-length-le}
 use lib.Seq.{drop-cons}
+use Rattle.base.proofs.Tests.{one-most}
 use Rattle.delegates.proofs.Classes.{follow-set, follow-empty}
 use Rattle.chunks.specs.Walks.{stepOf, walkEnd, walkCount}
-use Rattle.chunks.proofs.Totals.{either-most}
-
-one-step : (b : Bool) → cond b 1 0 ≤ 1
-one-step b = either-most b (omega arith) (omega arith)
 
 module _ (next : List ℕ) where
   pub count-most : (s : ℕ) (w : List ℕ) → walkCount next s w ≤ length w
   unfolding walkCount
   count-most s [] = omega arith
-  count-most s (b ∷ w) = omega (arith, one-step (ltb (stepOf next s b) 512), count-most (stepOf next s b) w)
+  count-most s (b ∷ w) = omega (arith, one-most (ltb (stepOf next s b) 512), count-most (stepOf next s b) w)
 
   -- ---- over no byte
   pub end-nothing : (s : ℕ) (w : List ℕ) → length w ≡ 0 → walkEnd next s w ≡ s

@@ -15,6 +15,7 @@ use lib.Bits.{bitOr}
 use lib.Dec.{eqb, leb}
 use lib.ListN.{getD}
 use Rattle.limits.specs.Limits.{mostStates}
+use Rattle.base.specs.Totals.{total}
 use Rattle.masks.specs.Masks.{has, single, union}
 use Rattle.automaton.specs.Successor.{successor, after}
 
@@ -40,11 +41,6 @@ runSet d n m (suc place) = startSet d n
 
 abbrev pub endSet : List ℕ → ℕ → List ℕ → ℕ → ℕ
 endSet ts run w q = cond (has run q) (after ts (single q) w) 0
-
--- the sum of f q over the states q below n
-unfoldable pub total : (ℕ → ℕ) → ℕ → ℕ
-total f zero = 0
-total f (suc q) = total f q + f q
 
 abbrev pub chunkCount : List ℕ → ℕ → List ℕ → ℕ
 chunkCount ts run w = total (λ q. cond (has run q) (counted ts (single q) w) 0) mostStates

@@ -6,8 +6,8 @@ use mathlib.Core.List.{List}
 use Prim.Native.Nat.{ℕ, _*_, _^_, _<_, _≤_}
 use lib.ListN.{length, getD}
 use Rattle.limits.specs.Limits.{mostStates}
+use Rattle.base.specs.Lists.{listFrom}
 use Rattle.masks.specs.Masks.{_∈_, single}
-use Rattle.masks.specs.Lists.{listFrom}
 use Rattle.automaton.specs.declared.Rule.{Rule}
 use Rattle.automaton.specs.Rules.{WellFormed}
 use Rattle.automaton.specs.Successor.{after}

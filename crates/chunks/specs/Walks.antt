@@ -12,11 +12,12 @@ use Prim.Native.Nat.{ℕ, zero, suc, _+_, _%_, min}
 use lib.Dec.{ltb}
 use lib.ListN.{getD}
 use Rattle.limits.specs.Limits.{mostStates, mostSymbols, emptySet}
+use Rattle.base.specs.Lists.{listFrom}
+use Rattle.base.specs.Totals.{total}
 use Rattle.masks.specs.Masks.{has, single, union}
-use Rattle.masks.specs.Lists.{listFrom}
 use Rattle.delegates.specs.Classes.{follow}
 use Rattle.chunks.specs.declared.Runs.{Runs}
-use Rattle.chunks.specs.Chunks.{startSet, total}
+use Rattle.chunks.specs.Chunks.{startSet}
 
 abbrev pub stepOf : List ℕ → ℕ → ℕ → ℕ
 stepOf next i b = follow next i (b % mostSymbols)

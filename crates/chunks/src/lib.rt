@@ -79,7 +79,7 @@ pub fn walk(next: &[u16; limits::CELLS], from: SetNumber, chunk: &[u8]) -> Run
 pub fn start_mask(delegates: [u8; limits::STATES], n: u8) -> u32
     ensures { λ r. ⌜ r ≡ startSet delegates (min n mostStates) ⌝ }
 {
-    let most = masks::at_most(n, limits::MOST_STATES);
+    let most = base::at_most_u8(n, limits::MOST_STATES);
     let mut starts: u32 = 0;
     let mut q: u8 = 0;
     while q < most {
@@ -96,7 +96,7 @@ pub fn start_mask(delegates: [u8; limits::STATES], n: u8) -> u32
 pub fn delegate_mask(delegates: [u8; limits::STATES], n: u8, set: u32) -> u32
     ensures { λ r. ⌜ r ≡ delegateMask delegates n set ⌝ }
 {
-    let most = masks::at_most(n, limits::MOST_STATES);
+    let most = base::at_most_u8(n, limits::MOST_STATES);
     let mut out: u32 = 0;
     let mut q: u8 = 0;
     while q < most {

@@ -15,10 +15,10 @@ use lib.Dec.{eqb}
 use lib.ListN.{length, getD, take}
 use lib.Seq.{length-take-le}
 use lib.Pow.{pow-lt, pow-pos}
+use Rattle.base.proofs.Lists.{length-listFrom, cell-of}
+use Rattle.base.proofs.Tests.{by-test, same-truth}
 use Rattle.masks.specs.Masks.{single, shares}
-use Rattle.masks.proofs.Cases.{by-test}
 use Rattle.masks.proofs.Laws.{single-law, shares-law}
-use Rattle.masks.proofs.Lists.{length-listFrom, cell-of}
 use Rattle.automaton.specs.declared.Rule.{Rule}
 use Rattle.automaton.specs.Automaton.{Run}
 use Rattle.automaton.specs.Rules.{automatonOf, WellFormed}
@@ -31,7 +31,7 @@ use Rattle.subsets.proofs.Singles.{single-named}
 use Rattle.delegates.specs.Alike.{AcceptsFrom, Text, Alike, Delegate, Merged}
 use Rattle.delegates.specs.Classes.{follow, singleAt, accepted, AlikeSets}
 use Rattle.delegates.specs.Claims.{startsIn}
-use Rattle.delegates.proofs.Tests.{Least, same-truth, le-by}
+use Rattle.delegates.proofs.Tests.{Least, le-by}
 use Rattle.delegates.proofs.Classes.{final-set, final-empty, follow-set, follow-empty}
 use Rattle.delegates.proofs.Merged.{starts-meet}
 use Rattle.delegates.proofs.Alike.{alike-back}

@@ -7,24 +7,24 @@
 -- class, and there are 513; so rounds end, and what texts shorter than 513 do not tell apart no text does.
 use mathlib.Core.Path.{_≡_, refl, sym, ap, _∙_}
 use mathlib.Core.Logic.{_⊎_, inl, inr, ⊎-elim, _↔_}
-use mathlib.Core.Bool.{Bool, true, false, not, _&&_, Bool·beq, true≢false}
+use mathlib.Core.Bool.{Bool, true, false, not, _&&_, Bool·beq, true≢false, and-eq-true-iff}
 use mathlib.Core.List.{List, [], _∷_}
 use Prim.Native.Nat.{ℕ, zero, suc, _+_, _-_, _*_, _≤_, _<_, min, zero-le}
 use native.Mathlib.Nat.{le-antisymm}
 use native.Mathlib.Decide.{ℕ-discrete}
 use native.Mathlib.Omega.{arith}
 use borrow.Author.Count.{below-none, below-more}
-use borrow.Author.Tests.{lt-ltb, le-ltb, ltb-true, ltb-false, eq-eqb, eqb-true}
+use borrow.Author.Tests.{lt-ltb, le-ltb, ltb-true, ltb-false, eq-eqb, eqb-true, not-false}
 use lib.Dec.{eqb, ltb}
 use lib.ListN.{length, getD}
+use Rattle.base.proofs.Lists.{cell-of, is-listFrom}
+use Rattle.base.proofs.Tests.{by-test, same-truth}
 use Rattle.masks.specs.Masks.{shares}
-use Rattle.masks.proofs.Cases.{by-test}
-use Rattle.masks.proofs.Lists.{cell-of, is-listFrom}
 use Rattle.delegates.specs.Alike.{Text}
 use Rattle.delegates.specs.Classes.{final, follow, accepted, AlikeSets, every, firstFrom, alikeTo}
 use Rattle.delegates.specs.Refinement.{classOf, sameIn, leastOf, roundOf, changes, classesOf}
-use Rattle.delegates.proofs.Tests.{Least, same-truth, le-by, both, equal, every-law, found, least-by, one-least}
-use Rattle.delegates.proofs.Lists.{kept, kept-most, kept-less}
+use Rattle.delegates.proofs.Tests.{Least, le-by, equal, every-law, found, least-by, one-least}
+use Rattle.delegates.proofs.Kept.{kept, kept-most, kept-less}
 
 -- ---- final, follow
 pub final-set : (sets : List ℕ) (finals s : ℕ) → s < 512 → final sets finals s ≡ shares (getD sets s 0) finals
@@ -71,10 +71,6 @@ module _
         let m = least s hs .most in
         joined (class s) s (omega arith) hs (least s hs .has)
 
-not-false : (b : Bool) → not b ≡ false → b ≡ true
-not-false true e = refl
-not-false false e = absurd (true≢false e)
-
 -- numbers that agree below n, or the place of a difference
 pub first-other : (f g : ℕ → ℕ) (n : ℕ) → ((a : ℕ) → a < n → f a ≡ g a) ⊎ ((a : ℕ) × (a < n) × (f a ≡ g a → ⊥))
 first-other f g zero = inl (below-none _)
@@ -95,7 +91,7 @@ module _ (sets next : List ℕ) (finals k : ℕ) where
   unfolding alikeTo
   near-law f s t =
       let kind = Bool·beq (final sets finals s) (final sets finals t) in
-      let law = both kind (every k (λ a. alikeTo sets next finals k f (follow next s a) (follow next t a))) in
+      let law = and-eq-true-iff kind (every k (λ a. alikeTo sets next finals k f (follow next s a) (follow next t a))) in
       let one = equal (final sets finals s) (final sets finals t) in
       let all = every-law k (λ a. alikeTo sets next finals k f (follow next s a) (follow next t a)) in
       (λ h. let x = law .0 h in (one .0 (x .0), all .0 (x .1)), λ x. law .1 (one .1 (x .0), all .1 (x .1)))
@@ -211,8 +207,8 @@ module _ (sets next : List ℕ) (finals k : ℕ) where
   same-law c t s =
       let kind = Bool·beq (final sets finals t) (final sets finals s) in
       let next-test : ℕ → Bool = λ a. eqb (classOf c (follow next t a)) (classOf c (follow next s a)) in
-      let law = both (eqb (classOf c t) (classOf c s)) (kind && every k next-test) in
-      let rest = both kind (every k next-test) in
+      let law = and-eq-true-iff (eqb (classOf c t) (classOf c s)) (kind && every k next-test) in
+      let rest = and-eq-true-iff kind (every k next-test) in
       let one = equal (final sets finals t) (final sets finals s) in
       let all = every-law k next-test in (
         (λ h.

@@ -1,6 +1,6 @@
 -- In the order in which they build on each other; what belongs to no one function.
 pub mod Tests
-pub mod Lists
+pub mod Kept
 pub mod Classes
 pub mod Merged
 pub mod Merging

@@ -8,9 +8,9 @@ use native.Mathlib.Omega.{arith}
 use borrow.Author.Tests.{lt-ltb, le-ltb, ltb-true, ltb-false}
 use lib.Dec.{ltb}
 use lib.ListN.{length, getD, List·getD-eq-default}
-use Rattle.masks.specs.Lists.{listFrom}
-use Rattle.masks.proofs.Cases.{by-test}
-use Rattle.masks.proofs.Lists.{length-listFrom, cell-of}
+use Rattle.base.specs.Lists.{listFrom}
+use Rattle.base.proofs.Lists.{length-listFrom, cell-of}
+use Rattle.base.proofs.Tests.{by-test}
 use Rattle.delegates.specs.declared.Starts.{Starts}
 use Rattle.delegates.specs.Alike.{startCount}
 use Rattle.delegates.specs.Classes.{AlikeSets, firstFrom, alikeTo, singleAt, delegateOf, startsOf}

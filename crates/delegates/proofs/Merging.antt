@@ -4,7 +4,7 @@
 -- of one class are those that no text tells apart, so the first state of a class is the delegate.
 -- Assumes nothing.
 use mathlib.Core.Path.{_≡_, refl, sym, ap₂, _∙_}
-use mathlib.Core.Bool.{Bool, true, false, cond}
+use mathlib.Core.Bool.{cond}
 use mathlib.Core.List.{List}
 use Prim.Native.Nat.{ℕ, zero, suc, _+_, _≤_, _<_, min}
 use native.Mathlib.Numerals.{add-one}
@@ -14,14 +14,13 @@ use borrow.Author.Tests.{ltb-true, ltb-false}
 use lib.Dec.{eqb, ltb}
 use lib.ListN.{length, getD, set, replicate, length-set}
 use lib.Seq.{getD-set-same, getD-set-other}
-use Rattle.masks.specs.Lists.{listFrom}
-use Rattle.masks.proofs.Cases.{by-test}
-use Rattle.masks.proofs.Lists.{is-listFrom}
+use Rattle.base.specs.Lists.{listFrom}
+use Rattle.base.proofs.Lists.{is-listFrom, zero-cells, stored}
+use Rattle.base.proofs.Tests.{by-test, one-most}
 use Rattle.delegates.specs.Alike.{startCount}
 use Rattle.delegates.specs.Classes.{alikeTo, singleAt, delegateOf, startsOf}
 use Rattle.delegates.specs.Refinement.{classOf, firstInClass, classesOf}
 use Rattle.delegates.proofs.Tests.{first-same}
-use Rattle.delegates.proofs.Lists.{zero-cells, stored}
 use Rattle.delegates.proofs.Classes.{class-test}
 use Rattle.delegates.proofs.Merged.{cell}
 
@@ -30,10 +29,6 @@ unfolding startCount
 count-set d q v zero h = refl
 count-set d q v (suc m) h =
     rw (count-set d q v m (omega arith), getD-set-other d q m v 0 (λ e. omega arith))
-
-one-at-most : (b : Bool) → cond b 1 0 ≤ 1
-one-at-most true = omega arith
-one-at-most false = omega arith
 
 module _ (sets next : List ℕ) (finals : ℕ) (singles : List ℕ) (k : ℕ) where
   -- the class of the set {q}
@@ -85,7 +80,7 @@ module _ (sets next : List ℕ) (finals : ℕ) (singles : List ℕ) (k : ℕ) wh
 
     pub turned : (s : ℕ) → s ≡ starts + cond (eqb d q) 1 0 → Merging (set own q class) (set delegates q d) s (q + 1)
     turned s e =
-        let one = one-at-most (eqb d q) in
+        let one = one-most (eqb d q) in
         let same = stored (λ b y. y ≡ classAt b) own q class (omega (arith, before .own-cells)) (before .own-class) is in
         record {
           own-cells = simp length-set (before .own-cells);

@@ -5,7 +5,7 @@
 --   first-..         a loop that searches from lo up to n, one number at a time
 use mathlib.Core.Path.{_≡_, refl, sym, ap, _∙_}
 use mathlib.Core.Logic.{_↔_, ⊎-elim}
-use mathlib.Core.Bool.{Bool, true, false, not, _&&_, Bool·beq, true≢false, false≢true}
+use mathlib.Core.Bool.{Bool, true, false, not, Bool·beq, true≢false, false≢true, and-eq-true-iff, and-true, and-false}
 use Prim.Native.Nat.{ℕ, zero, suc, _+_, _-_, _≤_, _<_}
 use native.Mathlib.Nat.{le-antisymm, eq-or-lt-of-le}
 use native.Mathlib.Numerals.{add-one}
@@ -13,7 +13,7 @@ use native.Mathlib.Omega.{arith}
 use borrow.Author.Count.{below-none, below-more}
 use borrow.Author.Tests.{leb-true, leb-false}
 use lib.Dec.{leb}
-use Rattle.masks.proofs.Cases.{by-test}
+use Rattle.base.proofs.Tests.{by-test}
 use Rattle.delegates.specs.Classes.{every, firstFrom}
 
 pub record Least (R : ℕ → ℕ → Type 0) (lo s u : ℕ) : Type 0 where
@@ -42,26 +42,8 @@ agree true false t = absurd (true≢false t)
 agree false true t = absurd (true≢false t)
 agree false false t = refl
 
-pub same-truth : (a b : Bool) → (a ≡ true) ↔ (b ≡ true) → a ≡ b
-same-truth true true law = refl
-same-truth true false law = sym (law .0 refl)
-same-truth false true law = law .1 refl
-same-truth false false law = refl
-
 pub le-by : (a b : ℕ) → (b < a → ⊥) → a ≤ b
 le-by a b h = by-test (leb a b) (leb-true a b) (λ f. absurd (h (leb-false a b f)))
-
-pub both : (a b : Bool) → (a && b ≡ true) ↔ ((a ≡ true) × (b ≡ true))
-both true b = (λ e. (refl, e), λ x. x .1)
-both false b = (λ e. absurd (false≢true e), λ x. x .0)
-
-and-true : (a : Bool) → a && true ≡ a
-and-true true = refl
-and-true false = refl
-
-and-false : (a : Bool) → a && false ≡ false
-and-false true = refl
-and-false false = refl
 
 pub equal : (a b : Bool) → (Bool·beq a b ≡ true) ↔ (a ≡ b)
 equal true true = (λ e. refl, λ e. refl)
@@ -73,8 +55,8 @@ pub every-law : (n : ℕ) (t : ℕ → Bool) → (every n t ≡ true) ↔ ((a : 
 unfolding every
 every-law zero t = (λ e. below-none _, λ h. refl)
 every-law (suc n) t = (
-  (λ e a l. let x = both (every n t) (t n) .0 e in below-more (λ b. t b ≡ true) n (every-law n t .0 (x .0)) (x .1) a (omega arith)),
-  λ h. both (every n t) (t n) .1 (every-law n t .1 (λ a l. h a (omega arith)), h n (omega arith)),
+  (λ e a l. let x = and-eq-true-iff (every n t) (t n) .0 e in below-more (λ b. t b ≡ true) n (every-law n t .0 (x .0)) (x .1) a (omega arith)),
+  λ h. and-eq-true-iff (every n t) (t n) .1 (every-law n t .1 (λ a l. h a (omega arith)), h n (omega arith)),
 )
 
 -- one number more passes, or does not

@@ -25,7 +25,7 @@ use Prim.Native.Nat.{ℕ, zero, suc, _+_, _*_, min}
 use lib.Dec.{ltb}
 use lib.ListN.{getD}
 use Rattle.limits.specs.Limits.{mostStates, mostSymbols, emptySet, mostClasses}
-use Rattle.masks.specs.Lists.{listFrom}
+use Rattle.base.specs.Lists.{listFrom}
 use Rattle.masks.specs.Masks.{shares}
 use Rattle.delegates.specs.declared.Starts.{Starts}
 use Rattle.delegates.specs.Alike.{Text, startCount}

@@ -18,7 +18,7 @@ use Prim.Native.Nat.{ℕ, _-_}
 use lib.Dec.{eqb}
 use lib.ListN.{getD}
 use Rattle.limits.specs.Limits.{mostClasses}
-use Rattle.masks.specs.Lists.{listFrom}
+use Rattle.base.specs.Lists.{listFrom}
 use Rattle.delegates.specs.Classes.{final, follow, every, firstFrom, alikeTo}
 
 abbrev pub classOf : List ℕ → ℕ → ℕ

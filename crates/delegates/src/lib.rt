@@ -208,8 +208,8 @@ pub fn merge_starts(
 ) -> Starts
     ensures { λ r. ⌜ r ≡ startsOf (now (sets .entry)) (now (next .entry)) finals (now (singles .entry)) n k ⌝ }
 {
-    let states = masks::at_most(n, limits::MOST_STATES) as usize;
-    let symbols = masks::at_most(k, limits::MOST_SYMBOLS) as usize;
+    let states = base::at_most_u8(n, limits::MOST_STATES) as usize;
+    let symbols = base::at_most_u8(k, limits::MOST_SYMBOLS) as usize;
     let class = refine(sets, next, finals, symbols);
     let mut own: [u16; limits::STATES] = [0; limits::STATES];
     let mut delegates: [u8; limits::STATES] = [0; limits::STATES];

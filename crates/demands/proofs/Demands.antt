@@ -28,6 +28,7 @@ use mathlib.Core.Option.{none}
 use Prim.Native.Nat.{ℕ, _*_, _≤_, _<_}
 use lib.ListN.{length, getD}
 use Rattle.limits.specs.Limits.{mostStates, mostPlaces, lineRoom}
+use Rattle.base.specs.Options.{isNone}
 use Rattle.masks.specs.Masks.{shares}
 use Rattle.executions.specs.Executions.{Execution}
 use Rattle.executions.proofs.Executions.{execution-law}
@@ -44,7 +45,7 @@ use Rattle.calls.specs.Calls.{Call, loadNumber}
 use Rattle.calls.specs.Steps.{fresh, isYes, stepOf}
 use Rattle.calls.proofs.Conditions.{not-refused}
 use Rattle.calls.proofs.Refusing as refusing
-use Rattle.histories.specs.History.{isNone, fileOf, ruleIn, boardIn, standing, chunkOf, endAt, countAt, emptiesIn, summedIn, yesIn, textIn, verdictIn, answersTo}
+use Rattle.histories.specs.History.{fileOf, ruleIn, boardIn, standing, chunkOf, endAt, countAt, emptiesIn, summedIn, yesIn, textIn, verdictIn, answersTo}
 use Rattle.histories.specs.Method.{Method}
 use Rattle.histories.specs.Conditions.{Accepted-exactly, Refused-exactly}
 use Rattle.histories.specs.Claims.{judgeMachine, judgeAfter, repliesTo, EveryList, automatonBy}

@@ -14,12 +14,13 @@ use mathlib.Core.List.{List, [], _++_}
 use Prim.Native.Nat.{ℕ, _+_, _*_, _≤_, _<_, min}
 use native.Mathlib.Omega.{arith}
 use lib.ListN.{length, length-append}
+use Rattle.base.specs.Lists.{joined}
+use Rattle.base.proofs.Lists.{joined-length}
+use Rattle.base.proofs.Tests.{by-test}
 use Rattle.masks.specs.Masks.{has}
-use Rattle.masks.proofs.Cases.{by-test}
 use Rattle.automaton.specs.declared.Rule.{Rule}
 use Rattle.automaton.specs.Rules.{targetMask}
-use Rattle.text.specs.Numerals.{decimal, joined}
-use Rattle.text.proofs.Pieces.{joined-length}
+use Rattle.text.specs.Numerals.{decimal}
 use Rattle.text.proofs.Digits.{decimal-most}
 use Rattle.dottext.specs.Words.{finalMark, pointMark, lineEnd, arrowSign, labelStart, labelEnd, closing}
 use Rattle.dottext.specs.DotText.{

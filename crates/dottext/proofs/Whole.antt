@@ -5,7 +5,7 @@ use mathlib.Core.List.{List}
 use Prim.Native.Nat.{ℕ, _+_, _*_, _≤_, min}
 use native.Mathlib.Omega.{arith}
 use lib.ListN.{length}
-use Rattle.text.specs.Numerals.{joined}
+use Rattle.base.specs.Lists.{joined}
 use Rattle.text.specs.Writing.{Wrote}
 use Rattle.automaton.specs.declared.Rule.{Rule}
 use Rattle.dottext.specs.Words.{closing}

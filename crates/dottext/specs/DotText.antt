@@ -9,9 +9,10 @@
 use mathlib.Core.Bool.{cond}
 use mathlib.Core.List.{List, [], _++_}
 use mathlib.Core.Option.{Option, none, some}
-use Prim.Native.Nat.{ℕ, _+_, _*_, min}
 use Rattle.limits.specs.Limits.{mostStates, mostSymbols, targetCells}
-use Rattle.text.specs.Numerals.{decimal, joined}
+use Prim.Native.Nat.{ℕ, min}
+use Rattle.base.specs.Lists.{joined}
+use Rattle.text.specs.Numerals.{decimal}
 use Rattle.masks.specs.Masks.{has}
 use Rattle.automaton.specs.declared.Rule.{Rule}
 use Rattle.automaton.specs.Rules.{targetMask}

@@ -3,7 +3,8 @@ ghost use mathlib.Core.Path.{_≡_};
 ghost use Prim.Native.Nat.{_+_, _*_, _≤_, _<_};
 ghost use lib.ListN.{length};
 ghost use Rattle.limits.specs.Limits.{mostStates, mostSymbols, targetCells};
-ghost use Rattle.text.specs.Numerals.{decimal, joined};
+ghost use Rattle.base.specs.Lists.{joined};
+ghost use Rattle.text.specs.Numerals.{decimal};
 ghost use Rattle.text.specs.Writing.{Wrote};
 ghost use Rattle.ruletext.specs.Printing.{Prints};
 ghost use Rattle.dottext.specs.DotText.{headLines, stateLine, arrow, pointLine, entryLine, initialLines, arcLine, arcLines, arcsFrom, arcsText, dotText, textFor, mostBytes};
@@ -203,8 +204,8 @@ fn put_dot(out: &mut [u8], rule: Rule) -> usize
     requires { ⌜ mostBytes ≤ length (now out) ⌝ }
     ensures { λ r. ⌜ (Wrote (now (out .entry)) 0 (dotText rule) (now (out .exit)) r) × (r ≤ mostBytes) ⌝ }
 {
-    let n = masks::at_most(rule.n, limits::MOST_STATES);
-    let k = masks::at_most(rule.k, limits::MOST_SYMBOLS);
+    let n = base::at_most_u8(rule.n, limits::MOST_STATES);
+    let k = base::at_most_u8(rule.k, limits::MOST_SYMBOLS);
     let targets = rule.targets;
     let a = put_head(out, 0);
     let b = put_states(out, a, rule.finals, n);

@@ -9,7 +9,7 @@ use native.Mathlib.Omega.{arith}
 use borrow.Author.Tests.{le-leb, lt-ltb, ltb-true, ltb-false, ne-eqb}
 use lib.Dec.{leb, ltb}
 use lib.ListN.{length, length-append}
-use Rattle.masks.proofs.Cases.{by-test}
+use Rattle.base.proofs.Tests.{by-test}
 use Rattle.text.specs.Numerals.{decimal, decimalBelow, hexDigit, hex}
 use Rattle.text.proofs.Digits.{one-digit, more-digits, decimal-most}
 use Rattle.fields.specs.Numbers.{allDigits, valueFrom, numberIn}

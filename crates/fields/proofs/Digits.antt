@@ -2,8 +2,8 @@
 --
 --   saidFrom v w   what the digits w say after digits of the value v
 --   said-…         at the end, by a digit, by another byte, and past 64 bits
-use mathlib.Core.Path.{_≡_, refl}
-use mathlib.Core.Bool.{Bool, true, false, cond, _&&_}
+use mathlib.Core.Path.{_≡_}
+use mathlib.Core.Bool.{cond, _&&_, and-false}
 use mathlib.Core.List.{List, [], _∷_}
 use mathlib.Core.Option.{Option, none, some}
 use Prim.Native.Nat.{ℕ, _+_, _*_, _-_, _≤_, _<_}
@@ -18,10 +18,6 @@ use Rattle.fields.specs.Numbers.{allDigits, valueFrom, numberIn}
 
 unfoldable pub saidFrom : ℕ → List ℕ → Option ℕ
 saidFrom v w = cond (allDigits w && leb (valueFrom v w) 18446744073709551615) (some (valueFrom v w)) none
-
-pub and-false : (b : Bool) → b && false ≡ false
-and-false true = refl
-and-false false = refl
 
 grows : (w : List ℕ) (v : ℕ) → v ≤ valueFrom v w
 unfolding valueFrom

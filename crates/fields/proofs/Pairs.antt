@@ -1,6 +1,6 @@
 -- The laws of hex digits and their pairs. Assumes nothing.
 use mathlib.Core.Path.{_≡_, refl, sym, _∙_}
-use mathlib.Core.Bool.{Bool, true, false, _&&_, true≢false}
+use mathlib.Core.Bool.{true, false, _&&_, and-eq-true-iff, and-false}
 use mathlib.Core.List.{List, [], _∷_, _++_}
 use mathlib.Core.Option.{none, some}
 use Prim.Native.Nat.{ℕ, zero, suc, _+_, _*_, _-_, _%_, _≤_, _<_}
@@ -10,11 +10,10 @@ use borrow.Author.Tests.{le-leb, lt-leb, lt-ltb, le-ltb, ltb-true, ne-eqb}
 use lib.Dec.{leb, ltb, eqb}
 use lib.ListN.{length, getD, drop, take, drop-of-length-le}
 use lib.Seq.{drop-cons, take-all}
-use Rattle.masks.proofs.Cases.{by-test}
+use Rattle.base.proofs.Tests.{by-test}
 use Rattle.text.specs.Writing.{Wrote}
 use Rattle.text.proofs.Pieces.{wrote-none}
 use Rattle.fields.specs.Bytes.{within, hexValue, allHex, pairs, bytesIn, TookOf}
-use Rattle.fields.proofs.Digits.{and-false}
 
 module _ (low high c : ℕ) where
   pub within-so : low ≤ c → c ≤ high → within low high c ≡ true
@@ -63,19 +62,11 @@ pairs-length [] = (omega arith, omega arith)
 pairs-length (a ∷ []) = (omega arith, omega arith)
 pairs-length (a ∷ b ∷ w) = let g = pairs-length w in (omega (arith, g), omega (arith, g))
 
-and-left : (a b : Bool) → a && b ≡ true → a ≡ true
-and-left true b e = refl
-and-left false b e = e
-
-and-right : (a b : Bool) → a && b ≡ true → b ≡ true
-and-right true b e = e
-and-right false b e = absurd (true≢false (sym e))
-
 pub hex-at : (w : List ℕ) → allHex w ≡ true → (i : ℕ) → i < length w → hexValue (getD w i 0) < 16
 unfolding allHex
 hex-at [] e i h = absurd (omega arith)
-hex-at (c ∷ w) e zero h = ltb-true (hexValue c) 16 (and-left (ltb (hexValue c) 16) (allHex w) e)
-hex-at (c ∷ w) e (suc i) h = hex-at w (and-right (ltb (hexValue c) 16) (allHex w) e) i (omega arith)
+hex-at (c ∷ w) e zero h = ltb-true (hexValue c) 16 (and-eq-true-iff (ltb (hexValue c) 16) (allHex w) .0 e .0)
+hex-at (c ∷ w) e (suc i) h = hex-at w (and-eq-true-iff (ltb (hexValue c) 16) (allHex w) .0 e .1) i (omega arith)
 
 -- with fewer than two digits left past the first i pairs, those are all of them
 pub pairs-all : (w : List ℕ) (i most : ℕ) → length w - 2 * i < 2 → i ≤ most → take most (pairs w) ≡ take i (pairs w)

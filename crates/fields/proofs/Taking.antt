@@ -8,6 +8,7 @@ use mathlib.Core.Option.{Option, none, some}
 use Prim.Native.Nat.{ℕ, _≤_}
 use native.Mathlib.Omega.{arith}
 use lib.ListN.{length, take, length-take}
+use Rattle.base.proofs.Options.{none-some}
 use Rattle.text.proofs.Fitting.{taken}
 use Rattle.fields.specs.declared.Bytes.{Bytes}
 use Rattle.fields.specs.declared.Bytes.the-variants.{Put, Malformed}
@@ -20,18 +21,15 @@ pub record Carries (o : Option (List ℕ)) (before after : List ℕ) (n : ℕ) :
   pub is : take n after ≡ take (length before) bytes
   pub size : n ≡ length (take (length before) bytes)
 
-none-some : {A B : Type 0} {x : A} → _≡_ {A = Option A} none (some x) → B
-none-some e = absurd (let z : _≡_ {A = ℕ} 0 1 = cc in omega arith)
-
 carries-by : (o : Option (List ℕ)) (before after : List ℕ) (n : ℕ) → TookOf o before (some n) after → Carries o before after n
-carries-by none before after n t = none-some (sym (t .0))
+carries-by none before after n t = none-some refl (sym (t .0))
 carries-by (some b) before after n t =
     let e : n ≡ t .0 = cc in
     record { bytes = b; said = refl; is = ap (λ (x : ℕ). take x after) e ∙ taken (t .2); size = e ∙ t .2 .ends ∙ omega arith }
 
 not-by : (o : Option (List ℕ)) (before after : List ℕ) → TookOf o before none after → o ≡ none
 not-by none before after t = refl
-not-by (some b) before after t = none-some (t .1)
+not-by (some b) before after t = none-some refl (t .1)
 
 module _ (field before after : List ℕ) (x : Bytes) (took : Took field before x after) where
   pub carries : (n : ℕ) → x ≡ Put n → Carries (bytesIn field) before after n

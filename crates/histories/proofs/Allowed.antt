@@ -11,9 +11,9 @@ use mathlib.Core.Option.{Option, none, some}
 use Prim.Native.Nat.{ℕ, _+_}
 use lib.Dec.{eqb}
 use denote.Ref.{RefT}
+use Rattle.base.specs.Conditions.{firstOf}
 use Rattle.executions.specs.Executions.{Execution, Meets}
 use Rattle.executions.proofs.Executions.{execution-law}
-use Rattle.ruleformat.specs.Conditions.{firstOf}
 use Rattle.ruleformat.specs.Reader.{ruleOf}
 use Rattle.build.specs.Building.{builtOf}
 use Rattle.board.specs.Boards.{placesOf, isEmpty, emptyBoard, filledAt, clearedAt, emptyPlaces, summedCount}

@@ -1,6 +1,6 @@
 -- The verdict of the state is the verdict that the list of calls says: the state's number of empty places, its join and its sum are the list's.
 -- Assumes nothing.
-use mathlib.Core.Path.{_≡_, sym, ap, _∙_}
+use mathlib.Core.Path.{_≡_, refl, sym, ap, _∙_}
 use mathlib.Core.Bool.{true, false, cond}
 use mathlib.Core.List.{List}
 use mathlib.Core.Option.{Option, none, some}
@@ -8,11 +8,12 @@ use Prim.Native.Nat.{ℕ, _<_}
 use native.Mathlib.Omega.{arith}
 use lib.Dec.{eqb}
 use borrow.Author.Tests.{eqb-false}
+use Rattle.base.specs.Options.{isNone}
+use Rattle.base.specs.Totals.{total}
+use Rattle.base.proofs.Tests.{by-test, not-both}
 use Rattle.masks.specs.Masks.{shares}
-use Rattle.masks.proofs.Cases.{by-test}
 use Rattle.ruleformat.specs.Reader.{ruleOf}
 use Rattle.delegates.specs.Claims.{startsIn}
-use Rattle.chunks.specs.Chunks.{total}
 use Rattle.board.specs.Boards.{emptyPlaces, summedCount}
 use Rattle.board.proofs.Laws.{empty-law}
 use Rattle.joins.specs.Joining.{yesOf, heldIn}
@@ -21,7 +22,7 @@ use Rattle.joins.proofs.Claims as joins
 use Rattle.calls.specs.declared.Judge.{Judge}
 use Rattle.calls.specs.Calls.{Call, verdictBy}
 use Rattle.calls.specs.Steps.{lacksBoard, isYes, verdictOf}
-use Rattle.histories.specs.History.{isNone, fileOf, ruleFrom, placesIn, endOf, standing, emptiesIn, summedIn, yesIn, verdictIn}
+use Rattle.histories.specs.History.{fileOf, ruleFrom, placesIn, endOf, standing, emptiesIn, summedIn, yesIn, verdictIn}
 use Rattle.histories.proofs.Running.{n-same, merged}
 use Rattle.histories.proofs.Holding.{Holds}
 use Rattle.histories.proofs.Numbers.{no-board, places-same, summed-same}
@@ -50,7 +51,7 @@ yes-same f places at j holds =
 pub by-rule : (file : Option (List ℕ)) (places : ℕ) (at : ℕ → Option (List ℕ)) (j : Judge) → Holds file places at j → 0 < places
     → isYes j
     ≡ yesOf (λ p q. endOf (ruleFrom file) p q (at p)) (delegateIn (startsIn (ruleFrom file) .delegates)) (ruleFrom file .n) (ruleFrom file .initials) (ruleFrom file .finals) places
-by-rule none places at j holds h = absurd (let e : true ≡ false = holds .ruled h in let z : _≡_ {A = ℕ} 0 1 = cc in omega arith)
+by-rule none places at j holds h = not-both refl (holds .ruled h)
 by-rule (some f) places at j holds h = yes-same f places at j holds
 
 -- no board on either side, or the same numbers

@@ -9,7 +9,9 @@ use native.Mathlib.Omega.{arith}
 use lib.Dec.{eqb}
 use lib.ListN.{getD}
 use borrow.Author.Tests.{eq-eqb, ne-eqb, eqb-true, eqb-false}
-use Rattle.masks.proofs.Cases.{by-test}
+use Rattle.base.specs.Options.{isNone}
+use Rattle.base.proofs.Options.{none-some}
+use Rattle.base.proofs.Tests.{by-test}
 use Rattle.ruleformat.specs.Reader.{ruleOf}
 use Rattle.delegates.specs.Alike.{Text}
 use Rattle.build.specs.Building.{noBuilt}
@@ -17,7 +19,7 @@ use Rattle.board.specs.declared.Board.{Board}
 use Rattle.board.specs.Boards.{held, isEmpty, emptyBoard, filledAt, clearedAt}
 use Rattle.board.proofs.Laws.{Sized, sized-empty, empty-all, empty-held, empty-count, Changed, filled-at, cleared-at}
 use Rattle.calls.specs.declared.Judge.{Judge}
-use Rattle.histories.specs.History.{isNone, ruleFrom, countOf, endOf}
+use Rattle.histories.specs.History.{ruleFrom, countOf, endOf}
 use Rattle.calls.specs.Steps.{fresh, withBoard, runsAt}
 use Rattle.histories.specs.Claims.{BuiltBy}
 use Rattle.histories.proofs.Running.{count-same, end-same}
@@ -34,9 +36,6 @@ pub record Holds (file : Option (List ℕ)) (places : ℕ) (at : ℕ → Option 
   pub ends : (p q : ℕ) → p < 64 → q < 32 → held (j .board) p q ≡ endOf (ruleFrom file) p q (at p)
   pub counts : (p : ℕ) → p < 64 → getD (j .board .counts) p 0 ≡ countOf (ruleFrom file) p (at p)
 
-never : {A : Type 0} {w : List ℕ} → none ≡ some w → A
-never e = absurd (let z : _≡_ {A = ℕ} 0 1 = cc in omega arith)
-
 -- ---- all places empty
 nothing : ℕ → Option (List ℕ)
 nothing p = none
@@ -51,7 +50,7 @@ module _ (file : Option (List ℕ)) (n : ℕ) (j : Judge) (rule : BuiltBy file j
     few = few;
     ruled = ruled;
     beyond = λ p h. refl;
-    texts = λ p w e. never e;
+    texts = λ p w e. none-some refl e;
     empty = λ p h. ap (λ b. isEmpty b p) is ∙ empty-all n p;
     ends = λ p q hp hq. ap (λ b. held b p q) is ∙ empty-held n p q;
     counts = λ p h. ap (λ b. getD (b .counts) p 0) is ∙ empty-count n p;
@@ -118,7 +117,7 @@ module _ (file : Option (List ℕ)) (places : ℕ) (at : ℕ → Option (List �
 
   pub cleared-holds : Holds file places (placed at p none) (withBoard j (clearedAt (j .board) p))
   cleared-holds =
-      changed-holds none (clearedAt (j .board) p) (λ w e. never e) (cleared-at (j .board) p (holds .sized) place-below)
+      changed-holds none (clearedAt (j .board) p) (λ w e. none-some refl e) (cleared-at (j .board) p (holds .sized) place-below)
 
 -- ---- a chunk is run and kept
 module _ (f : List ℕ) (places : ℕ) (at : ℕ → Option (List ℕ)) (j : Judge) (holds : Holds (some f) places at j) (p : ℕ) (h : p < places) (w : List ℕ) (text : Text (ruleOf f .k) w) where

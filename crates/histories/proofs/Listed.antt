@@ -1,7 +1,7 @@
 -- After every call the state agrees with the list of calls, and the call's answer is the one that the list says. `Good h j` is the invariant; one
 -- lemma a call. Assumes nothing.
 use mathlib.Core.Path.{_≡_, refl, sym, ap, _∙_, subst, subst₃, fun-ext}
-use mathlib.Core.Bool.{Bool, true, false, cond, _&&_}
+use mathlib.Core.Bool.{Bool, cond, _&&_, and-true, and-false}
 use mathlib.Core.List.{List, [], _∷_}
 use mathlib.Core.Option.{Option, none, some}
 use Prim.Native.Nat.{ℕ}
@@ -9,10 +9,11 @@ use native.Mathlib.Omega.{arith}
 use lib.Dec.{eqb, ltb, leb}
 use lib.ListN.{length}
 use borrow.Author.Tests.{eq-eqb, ltb-true, ltb-false, leb-false}
-use Rattle.masks.proofs.Cases.{by-test}
-use Rattle.ruleformat.specs.Conditions.{on, firstOf, outside}
+use Rattle.base.specs.Conditions.{on, firstOf, outside}
+use Rattle.base.specs.Options.{isNone}
+use Rattle.base.proofs.Conditions.{passed}
+use Rattle.base.proofs.Tests.{by-test, or-right, zero-one, not-both}
 use Rattle.ruleformat.specs.Reader.{ruleOf}
-use Rattle.ruleformat.proofs.Conditions.{or-right}
 use Rattle.ruleformat.proofs.Claims as rulefile
 use Rattle.automaton.specs.Rules.{WellFormed}
 use Rattle.subsets.specs.Sets.{setsOf}
@@ -25,12 +26,12 @@ use Rattle.board.specs.Boards.{emptyBoard, clearedAt, filledAt}
 use Rattle.calls.specs.declared.Judge.{Judge}
 use Rattle.calls.specs.Replies.{Reply, accepted, loaded}
 use Rattle.calls.proofs.Conditions.{not-refused}
-use Rattle.histories.specs.History.{isNone, fileOf, ruleFrom, openNumber, placesIn, deliverCheck, standing, deliverNumber, withdrawNumber, replyBy}
+use Rattle.histories.specs.History.{fileOf, ruleFrom, openNumber, placesIn, deliverCheck, standing, deliverNumber, withdrawNumber, replyBy}
 use Rattle.calls.specs.Calls.{Call, loads, opens, delivers, withdraws, asks, loadNumber}
 use Rattle.calls.specs.Steps.{fresh, withBoard, outcomeBy, runsAt, loadOf, openOf, deliverOf, withdrawOf}
 use Rattle.histories.specs.Claims.{BuiltBy}
 use Rattle.histories.proofs.Holding.{Holds, all-empty, fresh-holds, placed, cleared-holds, filled-holds}
-use Rattle.histories.proofs.Numbers.{list-11, list-12, list-13, list-22, passed, open-number, withdraw-number, deliver-number}
+use Rattle.histories.proofs.Numbers.{list-11, list-12, list-13, list-22, open-number, withdraw-number, deliver-number}
 
 abbrev pub Good : List Call → Judge → Type 0
 Good h j = Holds (fileOf h) (placesIn h) (standing h) j
@@ -44,14 +45,6 @@ transfer : {file file′ : Option (List ℕ)} {places places′ : ℕ} {at at′
     → file ≡ file′ → places ≡ places′ → ((p : ℕ) → at p ≡ at′ p) → Holds file places at j → Holds file′ places′ at′ j
 transfer j f p a holds = subst₃ (λ x y z. Holds x y z j) f p (fun-ext a) holds
 
-and-false : (t u : Bool) → u ≡ false → (t && u) ≡ false
-and-false true u e = e
-and-false false u e = refl
-
-pub and-true : (t u : Bool) → u ≡ true → (t && u) ≡ t
-and-true true u e = e
-and-true false u e = refl
-
 -- ---- load
 module _ (f : List ℕ) (e : loadNumber f ≡ none) where
   -- an accepted file is a well-formed rule with at most 512 sets
@@ -61,7 +54,7 @@ module _ (f : List ℕ) (e : loadNumber f ≡ none) where
 -- the file whose rule is there was accepted
 pub file-accepted : (h : List Call) (f : List ℕ) → fileOf h ≡ some f → loadNumber f ≡ none
 unfolding fileOf
-file-accepted [] f e = absurd (let z : _≡_ {A = ℕ} 0 1 = cc in omega arith)
+file-accepted [] f e = zero-one cc
 file-accepted (loads g ∷ h) f e = by-number (loadNumber g) refl (file-accepted h f)
   where
     by-number : (o : Option ℕ) → loadNumber g ≡ o → (fileOf h ≡ some f → loadNumber f ≡ none) → loadNumber f ≡ none
@@ -143,11 +136,11 @@ module _ (h : List Call) (j : Judge) (good : Good h j) where
       let a = passed 21 (eqb (placesIn h) 0) (firstOf (on 11 (leb (placesIn h) p) ∷ on 23 (isNone (standing h p)) ∷ [])) e in
       let b = passed 11 (leb (placesIn h) p) (firstOf (on 23 (isNone (standing h p)) ∷ [])) (a .1) in
       transfer (withBoard j (clearedAt (j .board) p)) refl refl
-      (λ i. sym (ap (λ (t : Bool). cond t none (standing h i)) (and-true (eqb p i) (isNone (withdrawNumber h p)) (ap isNone e))))
+      (λ i. sym (ap (λ (t : Bool). cond t none (standing h i)) (ap (λ (u : Bool). eqb p i && u) (ap isNone e) ∙ and-true (eqb p i))))
       (cleared-holds (fileOf h) (placesIn h) (standing h) j good p (leb-false (placesIn h) p (b .0)))
   withdrawn-good p (some x) e =
       transfer j refl refl
-      (λ i. sym (ap (λ (t : Bool). cond t none (standing h i)) (and-false (eqb p i) (isNone (withdrawNumber h p)) (ap isNone e))))
+      (λ i. sym (ap (λ (t : Bool). cond t none (standing h i)) (ap (λ (u : Bool). eqb p i && u) (ap isNone e) ∙ and-false (eqb p i))))
       good
 
   pub withdraw-good : (p : ℕ) → Good (withdraws p ∷ h) (withdrawOf j p .leaves)
@@ -178,13 +171,11 @@ module _ (h : List Call) (j : Judge) (good : Good h j) (p : ℕ) (w : List ℕ) 
       → Holds file (placesIn h) (placed (standing h) p (some w)) kept
   kept-chunk none holds e =
       by-test (ltb 0 (placesIn h))
-      (λ l. absurd (let z : true ≡ false = holds .ruled (ltb-true 0 (placesIn h) l) in let y : _≡_ {A = ℕ} 0 1 = cc in omega arith))
+      (λ l. not-both refl (holds .ruled (ltb-true 0 (placesIn h) l)))
       (λ l.
-      absurd
-      (let z : placesIn h ≡ 0 = omega (arith, ltb-false 0 (placesIn h) l) in
+      let z : placesIn h ≡ 0 = omega (arith, ltb-false 0 (placesIn h) l) in
       let y : some 21 ≡ none = rw (eq-eqb (placesIn h) 0 z) at e in
-      let x : _≡_ {A = ℕ} 0 1 = cc in
-      omega arith))
+      zero-one cc)
   kept-chunk (some f) holds e =
       let s = standing h in
       let a = passed 21 (eqb (placesIn h) 0) (list-11 (ruleOf f) (placesIn h) s p w) e in
@@ -197,11 +188,11 @@ module _ (h : List Call) (j : Judge) (good : Good h j) (p : ℕ) (w : List ℕ) 
   unfolding fileOf placesIn standing placed
   delivered-good none e =
       transfer kept refl refl
-      (λ i. sym (ap (λ (t : Bool). cond t (some w) (standing h i)) (and-true (eqb p i) (isNone (deliverNumber h p w)) (ap isNone e))))
+      (λ i. sym (ap (λ (t : Bool). cond t (some w) (standing h i)) (ap (λ (u : Bool). eqb p i && u) (ap isNone e) ∙ and-true (eqb p i))))
       (kept-chunk (fileOf h) good e)
   delivered-good (some x) e =
       transfer j refl refl
-      (λ i. sym (ap (λ (t : Bool). cond t (some w) (standing h i)) (and-false (eqb p i) (isNone (deliverNumber h p w)) (ap isNone e))))
+      (λ i. sym (ap (λ (t : Bool). cond t (some w) (standing h i)) (ap (λ (u : Bool). eqb p i && u) (ap isNone e) ∙ and-false (eqb p i))))
       good
 
   pub deliver-good : Good (delivers p w ∷ h) (deliverOf j p w .leaves)

@@ -3,7 +3,7 @@
 -- What crates/subsets and crates/delegates claim of the rule is carried over to its automaton, where the successor of {q} by a text is the set of
 -- the states that a run leads to, and from there to the bytes, which state the same arcs.
 use mathlib.Core.Path.{_≡_, refl, sym, ap, _∙_, subst}
-use mathlib.Core.Logic.{_↔_, _⊎_, inl, inr}
+use mathlib.Core.Logic.{_↔_, _⊎_, inl, inr, Iff·trans}
 use mathlib.Core.Bool.{true, false}
 use mathlib.Core.List.{List}
 use mathlib.Core.Option.{none}
@@ -13,8 +13,8 @@ use lib.Dec.{eqb}
 use lib.ListN.{length, getD}
 use lib.Pow.{pow-lt}
 use borrow.Author.Tests.{eqb-true, eqb-false, ltb-false}
+use Rattle.base.proofs.Tests.{by-test}
 use Rattle.masks.specs.Masks.{_∈_, single, shares}
-use Rattle.masks.proofs.Cases.{by-test}
 use Rattle.masks.proofs.Claims as masks
 use Rattle.automaton.specs.Automaton.{Automaton, Arc, Run, Accepts}
 use Rattle.automaton.specs.Rules.{automatonOf, WellFormed}
@@ -36,9 +36,6 @@ use Rattle.calls.specs.Calls.{loadNumber}
 use Rattle.calls.proofs.Conditions.{not-refused}
 use Rattle.histories.specs.Method.{Leads, Moves, setAt, nextAt, numberedIn, Origin, InOrder, TooMany, Method}
 use Rattle.histories.proofs.Bytes.{of-rule, is-read, stands}
-
-both : {A B C : Type 0} → A ↔ B → B ↔ C → A ↔ C
-both f g = (λ x. g .0 (f .0 x), λ x. f .1 (g .1 x))
 
 -- ---- of a file that the reader accepts
 module _ (f : List ℕ) (e : refusal f ≡ none) where
@@ -62,14 +59,14 @@ module _ (f : List ℕ) (e : refusal f ≡ none) where
   leads-after : (q : ℕ) → q < ruleOf f .n → (w : List ℕ) → Leads (automatonIn f) q w (after (ruleOf f .targets) (single q) w)
   leads-after q h w p =
       let law = automaton.claims .after-law (ruleOf f) good (single q) p w (pow-lt h) in
-      both law (
+      Iff·trans law (
         (λ x. run-law q p w .0 (subst (λ (z : ℕ). Run (automatonOf (ruleOf f)) z w p) (masks.claims .single-members q (x .from) .0 (x .member)) (x .run))),
         λ x. record { from = q; member = masks.claims .single-members q q .1 refl; run = run-law q p w .1 x },
       )
 
   moves-successor : (l s : ℕ) → Moves (automatonIn f) l s (successor (ruleOf f .targets) l s)
   moves-successor l s p =
-      both (automaton.claims .successor-law (ruleOf f) good l s p)
+      Iff·trans (automaton.claims .successor-law (ruleOf f) good l s p)
       ((λ x. (x .0, x .1, arc-law (x .0) s p .0 (x .2))), λ x. (x .0, x .1, arc-law (x .0) s p .1 (x .2)))
 
   reach-law : (m : ℕ) → Reach (ruleOf f) m ↔ (m ≡ 0 → ⊥) × (q : ℕ) × (q < automatonIn f .n) × (w : List ℕ) × Leads (automatonIn f) q w m
@@ -82,20 +79,20 @@ module _ (f : List ℕ) (e : refusal f ≡ none) where
       text = x .3;
       leads =
           let law = leads-after (x .1) (x .2) (x .3) in
-          masks.claims .same (after (ruleOf f .targets) (single (x .1)) (x .3)) m (λ p. both (law p) (x .4 p .1, x .4 p .0));
+          masks.claims .same (after (ruleOf f .targets) (single (x .1)) (x .3)) m (λ p. Iff·trans (law p) (x .4 p .1, x .4 p .0));
     },
   )
 
   pub nine-law : (tooMany (ruleOf f .targets) (ruleOf f .n) (ruleOf f .k) ≡ true) ↔ TooMany (automatonIn f)
   nine-law =
-      both (subsets.claims .nine (ruleOf f) good) (
+      Iff·trans (subsets.claims .nine (ruleOf f) good) (
         (λ x. (x .0, x .1, x .2, λ i b. reach-law (getD (x .0) i 0) .0 (x .3 i b))),
         λ x. (x .0, x .1, x .2, λ i b. reach-law (getD (x .0) i 0) .1 (x .3 i b)),
       )
 
   -- a text is accepted exactly when a final state is in the successor of the set of initial states by it
   pub acceptance : (w : List ℕ) → Accepts (automatonIn f) w ↔ (shares (after (ruleOf f .targets) (ruleOf f .initials) w) (ruleOf f .finals) ≡ true)
-  acceptance w = both (rulefile.claims .language f e w) (automaton.claims .accepts-law (ruleOf f) good w)
+  acceptance w = Iff·trans (rulefile.claims .language f e w) (automaton.claims .accepts-law (ruleOf f) good w)
 
 -- ---- of a file that a load accepts
 module _ (f : List ℕ) (e : loadNumber f ≡ none) where
@@ -151,7 +148,7 @@ module _ (f : List ℕ) (e : loadNumber f ≡ none) where
   leads-law : (q : ℕ) → q < ruleOf f .n → (w : List ℕ) (m : ℕ) → Leads (automatonIn f) q w m ↔ (after (ruleOf f .targets) (single q) w ≡ m)
   leads-law q h w m =
       let law = leads-after f (not-refused f e .0) q h w in (
-        (λ x. masks.claims .same (after (ruleOf f .targets) (single q) w) m (λ p. both (law p) (x p .1, x p .0))),
+        (λ x. masks.claims .same (after (ruleOf f .targets) (single q) w) m (λ p. Iff·trans (law p) (x p .1, x p .0))),
         λ x. subst (Leads (automatonIn f) q w) x law,
       )
 
@@ -176,7 +173,7 @@ module _ (f : List ℕ) (e : loadNumber f ≡ none) where
 
   pub method : Method f (builtOf (ruleOf f))
   method = record {
-    sets = λ m. both (numbered-law m) (reach-law f (not-refused f e .0) m);
+    sets = λ m. Iff·trans (numbered-law m) (reach-law f (not-refused f e .0) m);
     once = λ i j h l same. subsets.claims .once (ruleOf f) well i j h l (sym (set-at i h) ∙ same ∙ set-at j l);
     order = in-order;
     table = cell-law;

@@ -1,7 +1,7 @@
 -- No list of calls comes to 24, as `Never-24` of specs/Claims.antt says: a chunk counts at most 32 transitions for each of its 65,536 bytes at most,
 -- and a board has at most 64 places. Assumes nothing.
 use mathlib.Core.Path.{_≡_, refl, sym, ap, subst}
-use mathlib.Core.Bool.{Bool, true, false, cond, _&&_, _||_}
+use mathlib.Core.Bool.{Bool, true, false, cond, _&&_, _||_, and-eq-true-iff}
 use mathlib.Core.List.{List, [], _∷_, _++_}
 use mathlib.Core.Option.{Option, none, some}
 use Prim.Native.Nat.{ℕ, _+_, _*_, _≤_}
@@ -9,23 +9,25 @@ use native.Mathlib.Omega.{arith}
 use lib.Dec.{eqb, ltb, leb}
 use lib.ListN.{length}
 use borrow.Author.Tests.{eqb-false, le-ltb, ltb-false}
+use Rattle.base.specs.Conditions.{Condition, on, firstOf}
+use Rattle.base.specs.Options.{isNone, isSome}
+use Rattle.base.specs.Totals.{total}
+use Rattle.base.proofs.Conditions.{none-law}
+use Rattle.base.proofs.Options.{none-some, is-none}
+use Rattle.base.proofs.Tests.{by-test, or-left, or-right, zero-one}
+use Rattle.base.proofs.Totals.{total-most}
 use Rattle.masks.specs.Masks.{single, has}
-use Rattle.masks.proofs.Cases.{by-test}
 use Rattle.automaton.specs.declared.Rule.{Rule}
-use Rattle.ruleformat.specs.Conditions.{Condition, on, firstOf}
 use Rattle.ruleformat.specs.Refusals.{fileConditions}
 use Rattle.ruleformat.specs.Reader.{ruleOf}
-use Rattle.ruleformat.proofs.Conditions.{or-left, or-right, none-law}
 use Rattle.subsets.specs.Sets.{setsOf}
 use Rattle.delegates.specs.Claims.{startsIn}
-use Rattle.chunks.specs.Chunks.{foreign, counted, total, chunkCount}
+use Rattle.chunks.specs.Chunks.{foreign, counted, chunkCount}
 use Rattle.chunks.proofs.Claims as chunks
-use Rattle.chunks.proofs.Totals.{total-most}
-use Rattle.calls.specs.Replies.{Judgement, Reply, accepted, loaded, judged, refused, refusalOf}
-use Rattle.calls.specs.Calls.{Call, loads, opens, delivers, withdraws, asks, loadNumber, openConditions, deliverConditions, withdrawConditions, judgementBy}
-use Rattle.calls.proofs.Conditions.{none-some, over}
-use Rattle.calls.proofs.Refusing.{not-refusal}
-use Rattle.histories.specs.History.{isNone, isSome, fileOf, ruleIn, openNumber, placesIn, runAt, countOf, deliverCheck, withdrawCheck, standing, deliverNumber, withdrawNumber, emptiesIn, summedIn, yesIn, replyBy}
+use Rattle.calls.specs.Replies.{Reply, accepted, loaded, waiting, keeps, breaks, refused}
+use Rattle.calls.specs.Calls.{Call, loads, opens, delivers, withdraws, asks, loadNumber, openConditions, deliverConditions, withdrawConditions}
+use Rattle.calls.proofs.Conditions.{over}
+use Rattle.histories.specs.History.{fileOf, ruleIn, openNumber, placesIn, runAt, countOf, deliverCheck, withdrawCheck, standing, deliverNumber, withdrawNumber, emptiesIn, summedIn, yesIn, replyBy}
 use Rattle.histories.specs.Claims.{Never-24}
 use Rattle.histories.proofs.Taken.{named, past, not-named}
 
@@ -38,17 +40,9 @@ chunk-most ts run w =
     one true q = chunks.claims .counted-most ts (single q) w
     one false q = omega arith
 
-is-none : (o : Option ℕ) → isNone o ≡ true → o ≡ none
-is-none none e = refl
-is-none (some x) e = absurd (let z : _≡_ {A = ℕ} 0 1 = cc in omega arith)
-
-and-right : (t u : Bool) → (t && u) ≡ true → u ≡ true
-and-right true u e = e
-and-right false u e = absurd (let z : _≡_ {A = ℕ} 0 1 = cc in omega arith)
-
 -- ---- a standing chunk has at most 65,536 bytes
 kept : (t : Bool) (o : Option (List ℕ)) (w : List ℕ) → cond t none o ≡ some w → o ≡ some w
-kept true o w e = absurd (let z : _≡_ {A = ℕ} 0 1 = cc in omega arith)
+kept true o w e = zero-one cc
 kept false o w e = e
 
 delivered-short : (r : Rule) (places : ℕ) (at : ℕ → Option (List ℕ)) (q : ℕ) (v : List ℕ) → deliverCheck r places at q v ≡ none → length v ≤ 65536
@@ -61,7 +55,7 @@ delivered-short r places at q v e =
 
 pub standing-short : (h : List Call) (p : ℕ) (w : List ℕ) → standing h p ≡ some w → length w ≤ 65536
 unfolding standing
-standing-short [] p w e = absurd (let z : _≡_ {A = ℕ} 0 1 = cc in omega arith)
+standing-short [] p w e = zero-one cc
 standing-short (loads f ∷ h) p w e = standing-short h p w (kept (isNone (loadNumber f)) (standing h p) w e)
 standing-short (opens n ∷ h) p w e = standing-short h p w (kept (isNone (openNumber h n)) (standing h p) w e)
 standing-short (delivers q v ∷ h) p w e =
@@ -71,8 +65,8 @@ standing-short (delivers q v ∷ h) p w e =
     let is : v ≡ w = cc in
     rw (sym is)
     (delivered-short (ruleIn h) (placesIn h) (standing h) q v
-    (is-none (deliverCheck (ruleIn h) (placesIn h) (standing h) q v)
-    (and-right (eqb q p) (isNone (deliverCheck (ruleIn h) (placesIn h) (standing h) q v)) t))))
+    (is-none (deliverCheck (ruleIn h) (placesIn h) (standing h) q v) .0
+    (and-eq-true-iff (eqb q p) (isNone (deliverCheck (ruleIn h) (placesIn h) (standing h) q v)) .0 t .1))))
     (λ t. standing-short h p w (rw t at e))
 standing-short (withdraws q ∷ h) p w e =
     standing-short h p w (kept (eqb q p && isNone (withdrawCheck (placesIn h) (standing h) q)) (standing h p) w e)
@@ -91,7 +85,7 @@ places-few (loads f ∷ h) = by-test (isNone (loadNumber f)) (λ t. rw t (omega 
 places-few (opens n ∷ h) =
     by-test (isNone (openNumber h n))
     (λ t.
-    let x = none-law (openConditions (isNone (fileOf h)) n) .0 (is-none (openNumber h n) t) in
+    let x = none-law (openConditions (isNone (fileOf h)) n) .0 (is-none (openNumber h n) .0 t) in
     rw t (ltb-false 64 n (or-right (ltb n 1) (ltb 64 n) (x .1 .0))))
     (λ t. rw t (places-few h))
 places-few (delivers p w ∷ h) = places-few h
@@ -127,7 +121,7 @@ never-delivered h p w e =
     let c = past 12 24 (ltb 65536 (length w)) _ refl (b .1) in
     let f = past 13 24 (foreign w (ruleIn h .k)) _ refl (c .1) in
     let g = past 22 24 (isSome (standing h p)) (cond (ltb 4294967295 sum) (some 24) none) refl (f .1) in
-    none-some (cond (ltb 4294967295 sum) (some 24) none)
+    none-some
     (ap (λ (t : Bool). cond t (some 24) none) (fits-32 h p w (ltb-false 65536 (length w) (c .0))))
     (g .1)
 

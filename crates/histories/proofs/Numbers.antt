@@ -9,17 +9,21 @@ use native.Mathlib.Omega.{arith}
 use lib.Dec.{eqb, ltb, leb}
 use lib.ListN.{length}
 use borrow.Author.Tests.{ne-eqb, leb-false}
-use Rattle.ruleformat.specs.Conditions.{on, firstOf, outside}
+use Rattle.base.specs.Conditions.{on, firstOf, outside}
+use Rattle.base.specs.Options.{isNone, isSome}
+use Rattle.base.specs.Totals.{total}
+use Rattle.base.proofs.Options.{not-none}
+use Rattle.base.proofs.Tests.{not-both}
 use Rattle.automaton.specs.declared.Rule.{Rule}
 use Rattle.ruleformat.specs.Reader.{ruleOf}
 use Rattle.delegates.specs.Alike.{Text}
 use Rattle.build.specs.declared.Built.{Built}
-use Rattle.chunks.specs.Chunks.{foreign, total}
+use Rattle.chunks.specs.Chunks.{foreign}
 use Rattle.chunks.proofs.Claims as chunks
 use Rattle.board.specs.Boards.{placesOf, isEmpty, summedCount}
 use Rattle.board.proofs.Laws.{summed-law}
 use Rattle.calls.specs.declared.Judge.{Judge}
-use Rattle.histories.specs.History.{isNone, isSome, ruleFrom, countOf, deliverCheck, withdrawCheck}
+use Rattle.histories.specs.History.{ruleFrom, countOf, deliverCheck, withdrawCheck}
 use Rattle.calls.specs.Calls.{openConditions, withdrawConditions}
 use Rattle.calls.specs.Steps.{lacksRule, lacksBoard, runsAt}
 use Rattle.histories.specs.Claims.{BuiltBy}
@@ -31,14 +35,6 @@ module _ (number : ℕ) where
   pub same-test : (a b : Bool) (x y : Option ℕ) → a ≡ b → (b ≡ false → x ≡ y) → cond a (some number) x ≡ cond b (some number) y
   same-test a true x y e f = rw e
   same-test a false x y e f = rw e (f refl)
-
-  pub passed : (t : Bool) (rest : Option ℕ) → cond t (some number) rest ≡ none → (t ≡ false) × (rest ≡ none)
-  passed true rest e = absurd (let z : _≡_ {A = ℕ} 0 1 = cc in omega arith)
-  passed false rest e = (refl, e)
-
-not-none : {A : Type 0} (o : Option A) → not (isNone o) ≡ isSome o
-not-none none = refl
-not-none (some x) = refl
 
 -- ---- whether a rule is there
 rule-there : (file : Option (List ℕ)) (j : Judge) → BuiltBy file j → lacksRule j ≡ isNone file
@@ -134,7 +130,7 @@ module _ (places : ℕ) (at : ℕ → Option (List ℕ)) (j : Judge) (p : ℕ) (
   -- a board is there only with a rule
   by-rule : (file : Option (List ℕ)) → Holds file places at j → p < places
       → state-12 j p w ≡ list-12 (ruleFrom file) places at p w
-  by-rule none holds h = absurd (let e : true ≡ false = holds .ruled (omega (arith, h)) in let z : _≡_ {A = ℕ} 0 1 = cc in omega arith)
+  by-rule none holds h = not-both refl (holds .ruled (omega (arith, h)))
   by-rule (some f) holds h = from-12 f places at j holds p h w
 
   pub deliver-number : (file : Option (List ℕ)) → Holds file places at j

@@ -3,16 +3,18 @@
 -- The claim over every list of calls says that the replies are document 01's answers, and those compute once the delegates of rules A and B are
 -- put in.
 use mathlib.Core.Path.{_≡_, refl, sym, ap, ap₂, _∙_, subst, subst₃, fun-ext}
-use mathlib.Core.Bool.{Bool, false, cond}
+use mathlib.Core.Bool.{Bool, false, cond, _&&_, and-true}
 use mathlib.Core.List.{List, [], _∷_, _++_}
 use mathlib.Core.Option.{Option, none, some}
 use Prim.Native.Nat.{ℕ, zero, suc, _+_, _/_, _%_}
 use lib.Dec.{eqb}
 use lib.ListN.{length, replicate}
+use Rattle.base.specs.Conditions.{anyBelow, firstOf, outside}
+use Rattle.base.specs.Lists.{listFrom}
+use Rattle.base.specs.Options.{isNone, isSome}
+use Rattle.base.specs.Totals.{total}
 use Rattle.masks.specs.Masks.{union}
-use Rattle.masks.specs.Lists.{listFrom}
 use Rattle.automaton.specs.declared.Rule.{Rule}
-use Rattle.ruleformat.specs.Conditions.{anyBelow, firstOf, outside}
 use Rattle.ruleformat.specs.Refusals.{tooShort, tooLong, badStates, badSymbols, noRoom, badMask, badPairs, badSection, badArcs, refusal}
 use Rattle.ruleformat.specs.Reader.{targetsUpTo, ruleOf}
 use Rattle.numbering.specs.Numbering.{numberIn, numbered, expandFrom, closeFrom, keysUpTo}
@@ -20,15 +22,14 @@ use Rattle.subsets.specs.Sets.{setsOf, tooMany, nextSet}
 use Rattle.delegates.specs.declared.Starts.{Starts}
 use Rattle.delegates.specs.Claims.{startsIn}
 use Rattle.build.specs.Building.{builtOf}
-use Rattle.chunks.specs.Chunks.{foreign, counted, startSet, runSet, endSet, total, chunkCount}
+use Rattle.chunks.specs.Chunks.{foreign, counted, startSet, runSet, endSet, chunkCount}
 use Rattle.joins.specs.Joining.{joinOf, yesOf}
 use Rattle.joins.specs.Claims.{delegateIn}
-use Rattle.histories.specs.History.{isNone, isSome, fileOf, ruleFrom, openNumber, placesIn, standingCount, standingEnd, deliverCheck, standing, deliverNumber, verdictIn, answersTo}
-use Rattle.calls.specs.Replies.{Judgement, Reply, accepted, loaded, judged}
+use Rattle.histories.specs.History.{fileOf, ruleFrom, openNumber, placesIn, standingCount, standingEnd, deliverCheck, standing, deliverNumber, verdictIn, answersTo}
+use Rattle.calls.specs.Replies.{Reply, accepted, loaded, waiting, keeps, breaks, refused}
 use Rattle.calls.specs.Calls.{Call, loads, opens, delivers, loadNumber, deliverConditions, verdictBy}
 use Rattle.histories.specs.Claims.{judgeAfter, BuiltBy}
 use Rattle.histories.specs.TableP.{Result, sets, delegates, verdict, turned-down, Case, case, delivering, callsFor, callsOf, repliesOf, rowsFrom, Shows, Each, Case-holds, table, TableP}
-use Rattle.histories.proofs.Listed.{and-true}
 use Rattle.histories.proofs.Every.{every-list}
 use Rattle.histories.proofs.TwoRules.{listed, starts-A, starts-B}
 
@@ -83,7 +84,7 @@ module _ (f d : List ℕ) (is : startsIn (ruleOf f) .delegates ≡ d) (places : 
           file = s .file;
           board = s .board;
           stands = fun-ext (λ i.
-              ap (λ (t : Bool). cond t (some w) (standing h i)) (and-true (eqb p i) (isNone (deliverNumber h p w)) (ap isNone there))
+              ap (λ (t : Bool). cond t (some w) (standing h i)) (ap (λ (u : Bool). eqb p i && u) (ap isNone there) ∙ and-true (eqb p i))
               ∙ ap (λ (z : ℕ → Option (List ℕ)). put z p w i) (s .stands));
         },
       )

@@ -3,28 +3,30 @@
 -- An answer is told by the first condition of its call's list that holds; each list is taken apart condition by condition, and each test is turned
 -- into what it tests.
 use mathlib.Core.Path.{_≡_, refl, sym, ap, _∙_}
-use mathlib.Core.Logic.{_↔_, _⊎_, inl, inr, ⊎-elim}
+use mathlib.Core.Logic.{_↔_, _⊎_, inl, inr, ⊎-elim, Iff·trans}
 use mathlib.Core.Bool.{Bool, true, false, cond, _||_}
 use mathlib.Core.List.{List, [], _∷_}
 use mathlib.Core.Option.{Option, none, some}
-use Prim.Native.Nat.{ℕ, _+_, _≤_, _<_}
+use Prim.Native.Nat.{ℕ, _+_, _<_}
 use native.Mathlib.Omega.{arith}
 use lib.Dec.{eqb, ltb, leb}
 use lib.ListN.{length}
 use borrow.Author.Tests.{eq-eqb, ne-eqb, eqb-true, eqb-false, lt-ltb, le-ltb, ltb-true, ltb-false, le-leb, lt-leb, leb-true, leb-false}
-use Rattle.masks.proofs.Cases.{by-test}
-use Rattle.ruleformat.specs.Conditions.{Condition, on, firstOf, NoneHolds, FirstHolds, outside}
+use Rattle.base.specs.Options.{isNone, isSome}
+use Rattle.base.proofs.Options.{none-some}
+use Rattle.base.proofs.Conditions.{none-law, first-law}
+use Rattle.base.specs.Conditions.{Condition, on, firstOf, NoneHolds, FirstHolds, outside}
+use Rattle.base.proofs.Tests.{by-test, or-left, or-right, or-neither}
 use Rattle.ruleformat.specs.Refusals.{fileConditions, refusal}
 use Rattle.ruleformat.specs.Reader.{ruleOf}
 use Rattle.ruleformat.specs.Language.{automatonIn}
-use Rattle.ruleformat.proofs.Conditions.{or-left, or-right, or-neither, none-law, first-law}
 use Rattle.subsets.specs.Sets.{setsOf}
 use Rattle.delegates.specs.Claims.{startsIn}
 use Rattle.chunks.specs.Chunks.{foreign}
 use Rattle.calls.specs.Replies.{Reply, accepted, loaded, refused}
 use Rattle.calls.specs.Calls.{Call, opens, delivers, withdraws, loadNumber, openConditions}
-use Rattle.calls.proofs.Conditions.{none-some, orElse, over, load-number, not-refused}
-use Rattle.histories.specs.History.{isNone, isSome, fileOf, ruleIn, placesIn, countOf, standing, summedIn, replyBy, answerOf}
+use Rattle.calls.proofs.Conditions.{orElse, over, load-number, not-refused}
+use Rattle.histories.specs.History.{fileOf, ruleIn, placesIn, countOf, standing, summedIn, replyBy, answerOf}
 use Rattle.histories.specs.Method.{TooMany}
 use Rattle.histories.specs.Conditions.{Accepted-exactly, Refused-exactly}
 use Rattle.histories.proofs.Method.{nine-law}
@@ -46,15 +48,12 @@ not-named x (on number test ∷ cs) n e =
     not-named x cs (or-right (eqb number x) (named x cs) n)
     (past number x test (firstOf cs) (or-left (eqb number x) (named x cs) n) e .1)
 
-both : {A B C : Type 0} → A ↔ B → B ↔ C → A ↔ C
-both f g = (λ x. g .0 (f .0 x), λ x. f .1 (g .1 x))
-
 -- ---- accepted where no condition holds
 reply-law : (o : Option ℕ) → (replyBy o accepted ≡ accepted) ↔ (o ≡ none)
 reply-law none = (λ e. refl, λ e. refl)
 reply-law (some x) = (
-  (λ e. absurd (let z : _≡_ {A = ℕ} 0 1 = cc in omega arith)),
-  λ e. absurd (let z : _≡_ {A = ℕ} 0 1 = cc in omega arith),
+  (λ e. zero-one cc),
+  λ e. zero-one cc,
 )
 
 none-hold : (cs : List Condition) → (replyBy (firstOf cs) accepted ≡ accepted) ↔ NoneHolds cs
@@ -64,28 +63,11 @@ none-hold cs = (
 )
 
 -- ---- one condition
-is-some : {A : Type 0} (o : Option A) → (isNone o ≡ false) ↔ (o ≡ none → ⊥)
-is-some none = (λ e z. let y : _≡_ {A = ℕ} 0 1 = cc in omega arith, λ n. absurd (n refl))
-is-some (some x) = (λ e z. let y : _≡_ {A = ℕ} 0 1 = cc in omega arith, λ n. refl)
-
-is-none : {A : Type 0} (o : Option A) → (isSome o ≡ false) ↔ (o ≡ none)
-is-none none = (λ e. refl, λ e. refl)
-is-none (some x) = (
-  (λ e. absurd (let z : _≡_ {A = ℕ} 0 1 = cc in omega arith)),
-  λ e. absurd (let z : _≡_ {A = ℕ} 0 1 = cc in omega arith),
-)
-
 some-places : (n : ℕ) → eqb n 0 ≡ false → 0 < n
 some-places n e = let x = eqb-false n 0 e in omega arith
 
 places-some : (n : ℕ) → 0 < n → eqb n 0 ≡ false
 places-some n h = ne-eqb n 0 (λ z. absurd (omega arith))
-
-inside : (lo hi x : ℕ) → (outside lo hi x ≡ false) ↔ ((lo ≤ x) × (x ≤ hi))
-inside lo hi x = (
-  (λ e. (ltb-false x lo (or-left (ltb x lo) (ltb hi x) e), ltb-false hi x (or-right (ltb x lo) (ltb hi x) e))),
-  λ b. or-neither (ltb x lo) (ltb hi x) (le-ltb x lo (b .0)) (le-ltb hi x (b .1)),
-)
 
 -- ---- the calls
 -- a load: the file's conditions, then 9
@@ -204,11 +186,11 @@ pub accepted-exactly : (h : List Call) → Accepted-exactly h
 accepted-exactly h = record {
   loading = λ f.
       let law = loaded-law (loadNumber f) (length (setsOf (ruleOf f .targets) (ruleOf f .n) (ruleOf f .k))) (startsIn (ruleOf f) .count) in
-      both law (loads-law f);
+      Iff·trans law (loads-law f);
   opening = λ n.
       let law = none-hold (on 20 (isNone (fileOf h)) ∷ on 10 (outside 1 64 n) ∷ []) in (
-        (λ e. let x = law .0 e in let b = inside 1 64 n .0 (x .1 .0) in (is-some (fileOf h) .0 (x .0), b .0, b .1)),
-        λ x. law .1 (is-some (fileOf h) .1 (x .0), (inside 1 64 n .1 (x .1, x .2), tt)),
+        (λ e. let x = law .0 e in let b = outside-law 1 64 n .0 (x .1 .0) in (is-some (fileOf h) .0 (x .0), b .0, b .1)),
+        λ x. law .1 (is-some (fileOf h) .1 (x .0), (outside-law 1 64 n .1 (x .1, x .2), tt)),
       );
   delivery = λ p w.
       let law =
@@ -225,7 +207,7 @@ accepted-exactly h = record {
               leb-false (placesIn h) p (x .1 .0),
               ltb-false 65536 (length w) (x .1 .1 .0),
               x .1 .1 .1 .0,
-              is-none (standing h p) .0 (x .1 .1 .1 .1 .0),
+              not-some (standing h p) .0 (x .1 .1 .1 .1 .0),
               ltb-false 4294967295 (summedIn h + countOf (ruleIn h) p (some w)) (x .1 .1 .1 .1 .1 .0),
             )),
         λ x.
@@ -237,7 +219,7 @@ accepted-exactly h = record {
                   le-ltb 65536 (length w) (x .2),
                   (
                     x .3,
-                    (is-none (standing h p) .1 (x .4), (le-ltb 4294967295 (summedIn h + countOf (ruleIn h) p (some w)) (x .5), tt)),
+                    (not-some (standing h p) .1 (x .4), (le-ltb 4294967295 (summedIn h + countOf (ruleIn h) p (some w)) (x .5), tt)),
                   ),
                 ),
               ),
@@ -252,19 +234,19 @@ accepted-exactly h = record {
       );
 }
 
--- ---- the refusals. Deliveries and withdrawals both begin with 21 and 11
+-- ---- the refusals. Deliveries and withdrawals Iff·trans begin with 21 and 11
 module _ (places p : ℕ) (cs : List Condition) where
   abbrev board-first : List Condition
   board-first = on 21 (eqb places 0) ∷ on 11 (leb places p) ∷ cs
 
   board-21 : named 21 cs ≡ false → (firstOf board-first ≡ some 21) ↔ (places ≡ 0)
   unfolding named
-  board-21 n = both (first-here 21 (eqb places 0) (on 11 (leb places p) ∷ cs) n) (no-places places)
+  board-21 n = Iff·trans (first-here 21 (eqb places 0) (on 11 (leb places p) ∷ cs) n) (no-places places)
 
   board-11 : named 11 cs ≡ false → (firstOf board-first ≡ some 11) ↔ ((0 < places) × (places ≤ p))
   board-11 n =
       let past = first-past 21 11 (eqb places 0) (on 11 (leb places p) ∷ cs) refl in
-      let here = both (first-here 11 (leb places p) cs n) (is-most places p) in (
+      let here = Iff·trans (first-here 11 (leb places p) cs n) (is-most places p) in (
         (λ e. let a = past .0 e in (some-places places (a .0), here .0 (a .1))),
         λ x. past .1 (places-some places (x .0), here .1 (x .1)),
       )
@@ -297,7 +279,7 @@ module _ (h : List Call) (p : ℕ) (w : List ℕ) where
   past-12 : (x : ℕ) → eqb 21 x ≡ false → eqb 11 x ≡ false → eqb 12 x ≡ false
       → (answerOf h (delivers p w) ≡ refused x) ↔ ((p < placesIn h) × (length w ≤ 65536) × (firstOf from-13 ≡ some x))
   past-12 x a b c =
-      let one = both (delivery-law x) (board-past (placesIn h) p from-12 x a b) in
+      let one = Iff·trans (delivery-law x) (board-past (placesIn h) p from-12 x a b) in
       let two = first-past 12 x (ltb 65536 (length w)) from-13 c in (
         (λ e. let y = one .0 e in let z = two .0 (y .1) in (y .0, ltb-false 65536 (length w) (z .0), z .1)),
         λ y. one .1 (y .0, two .1 (le-ltb 65536 (length w) (y .1), y .2)),
@@ -316,7 +298,7 @@ module _ (h : List Call) (p : ℕ) (w : List ℕ) where
   delivery-22 =
       let one = past-12 22 refl refl refl in
       let two = first-past 13 22 (foreign w (ruleIn h .k)) from-22 refl in
-      let here = both (first-here 22 (isSome (standing h p)) from-24 refl) (filled (standing h p)) in (
+      let here = Iff·trans (first-here 22 (isSome (standing h p)) from-24 refl) (filled (standing h p)) in (
         (λ e. let y = one .0 e in let z = two .0 (y .2) in (y .0, y .1, z .0, here .0 (z .1))),
         λ y. one .1 (y .0, y .1, two .1 (y .2, here .1 (y .3))),
       )
@@ -325,32 +307,32 @@ pub refused-exactly : (h : List Call) → Refused-exactly h
 unfolding named
 refused-exactly h = record {
   load-file = λ f x l.
-      both (refused-law (loadNumber f) (loaded (length (setsOf (ruleOf f .targets) (ruleOf f .n) (ruleOf f .k))) (startsIn (ruleOf f) .count)) x (not-loaded x _ _)) (file-words f x l);
+      Iff·trans (refused-law (loadNumber f) (loaded (length (setsOf (ruleOf f .targets) (ruleOf f .n) (ruleOf f .k))) (startsIn (ruleOf f) .count)) x (not-loaded x _ _)) (file-words f x l);
   load-9 = λ f.
-      both (refused-law (loadNumber f) (loaded (length (setsOf (ruleOf f .targets) (ruleOf f .n) (ruleOf f .k))) (startsIn (ruleOf f) .count)) 9 (not-loaded 9 _ _)) (nine-words f);
+      Iff·trans (refused-law (loadNumber f) (loaded (length (setsOf (ruleOf f .targets) (ruleOf f .n) (ruleOf f .k))) (startsIn (ruleOf f) .count)) 9 (not-loaded 9 _ _)) (nine-words f);
   open-20 = λ n.
-      both (refused-law (firstOf (openConditions (isNone (fileOf h)) n)) accepted 20 (not-accepted 20))
-      (both (first-here 20 (isNone (fileOf h)) (on 10 (outside 1 64 n) ∷ []) refl) (there (fileOf h)));
+      Iff·trans (refused-law (firstOf (openConditions (isNone (fileOf h)) n)) accepted 20 (not-accepted 20))
+      (Iff·trans (first-here 20 (isNone (fileOf h)) (on 10 (outside 1 64 n) ∷ []) refl) (there (fileOf h)));
   open-10 = λ n.
-      let one = both (refused-law (firstOf (openConditions (isNone (fileOf h)) n)) accepted 10 (not-accepted 10))
+      let one = Iff·trans (refused-law (firstOf (openConditions (isNone (fileOf h)) n)) accepted 10 (not-accepted 10))
       (first-past 20 10 (isNone (fileOf h)) (on 10 (outside 1 64 n) ∷ []) refl) in
-      let here = both (first-here 10 (outside 1 64 n) [] refl) (is-outside 1 64 n) in (
+      let here = Iff·trans (first-here 10 (outside 1 64 n) [] refl) (is-outside 1 64 n) in (
         (λ e. let y = one .0 e in (is-some (fileOf h) .0 (y .0), here .0 (y .1))),
         λ y. one .1 (is-some (fileOf h) .1 (y .0), here .1 (y .1)),
       );
-  deliver-21 = λ p w. both (delivery-law h p w 21) (board-21 (placesIn h) p (from-12 h p w) refl);
-  deliver-11 = λ p w. both (delivery-law h p w 11) (board-11 (placesIn h) p (from-12 h p w) refl);
+  deliver-21 = λ p w. Iff·trans (delivery-law h p w 21) (board-21 (placesIn h) p (from-12 h p w) refl);
+  deliver-11 = λ p w. Iff·trans (delivery-law h p w 11) (board-11 (placesIn h) p (from-12 h p w) refl);
   deliver-12 = λ p w.
-      let one = both (delivery-law h p w 12) (board-past (placesIn h) p (from-12 h p w) 12 refl refl) in
-      let here = both (first-here 12 (ltb 65536 (length w)) (from-13 h p w) refl) (is-less 65536 (length w)) in
+      let one = Iff·trans (delivery-law h p w 12) (board-past (placesIn h) p (from-12 h p w) 12 refl refl) in
+      let here = Iff·trans (first-here 12 (ltb 65536 (length w)) (from-13 h p w) refl) (is-less 65536 (length w)) in
       ((λ e. let y = one .0 e in (y .0, here .0 (y .1))), λ y. one .1 (y .0, here .1 (y .1)));
   deliver-13 = delivery-13 h;
   deliver-22 = delivery-22 h;
-  withdraw-21 = λ p. both (withdrawal-law p 21) (board-21 (placesIn h) p (on 23 (isNone (standing h p)) ∷ []) refl);
-  withdraw-11 = λ p. both (withdrawal-law p 11) (board-11 (placesIn h) p (on 23 (isNone (standing h p)) ∷ []) refl);
+  withdraw-21 = λ p. Iff·trans (withdrawal-law p 21) (board-21 (placesIn h) p (on 23 (isNone (standing h p)) ∷ []) refl);
+  withdraw-11 = λ p. Iff·trans (withdrawal-law p 11) (board-11 (placesIn h) p (on 23 (isNone (standing h p)) ∷ []) refl);
   withdraw-23 = λ p.
-      let one = both (withdrawal-law p 23) (board-past (placesIn h) p (on 23 (isNone (standing h p)) ∷ []) 23 refl refl) in
-      let here = both (first-here 23 (isNone (standing h p)) [] refl) (there (standing h p)) in
+      let one = Iff·trans (withdrawal-law p 23) (board-past (placesIn h) p (on 23 (isNone (standing h p)) ∷ []) 23 refl refl) in
+      let here = Iff·trans (first-here 23 (isNone (standing h p)) [] refl) (there (standing h p)) in
       ((λ e. let y = one .0 e in (y .0, here .0 (y .1))), λ y. one .1 (y .0, here .1 (y .1)));
 }
   where

@@ -8,8 +8,8 @@ use lib.Dec.{lit<}
 use borrow.Author.Count.{below-none, below-more}
 use lib.ListN.{length, getD, replicate, getD-replicate}
 use lib.Seq.{ext-getD}
+use Rattle.base.specs.Lists.{listFrom}
 use Rattle.masks.specs.Masks.{single, union, shares}
-use Rattle.masks.specs.Lists.{listFrom}
 use Rattle.automaton.specs.declared.Rule.{Rule}
 use Rattle.automaton.specs.Automaton.{Automaton}
 use Rattle.automaton.specs.Rules.{automatonOf, WellFormed}

@@ -4,7 +4,7 @@
 -- standing chunks are a list of texts, what the places hold are their end sets, and the theorem of the join applies to that list. The bounds on
 -- the counts are those of the chunks, of which an empty one counts nothing.
 use mathlib.Core.Path.{_≡_, refl, sym, ap, ap₂, _∙_, subst, subst₂}
-use mathlib.Core.Logic.{_↔_}
+use mathlib.Core.Logic.{_↔_, Iff·trans}
 use mathlib.Core.Bool.{Bool, true, false, cond}
 use mathlib.Core.List.{List, [], _∷_, _++_, flatten, append-assoc, append-nil}
 use mathlib.Core.Option.{Option, none, some}
@@ -15,34 +15,35 @@ use lib.Dec.{eqb, ltb}
 use lib.ListN.{length, getD, length-append, List·getD-append}
 use lib.Seq.{getD-at}
 use borrow.Author.Tests.{lt-ltb, eq-eqb, ne-eqb, eqb-true, eqb-false, ltb-true, ltb-false}
+use Rattle.base.specs.Conditions.{outside}
+use Rattle.base.specs.Lists.{joined}
+use Rattle.base.specs.Options.{isNone}
+use Rattle.base.specs.Totals.{total}
+use Rattle.base.proofs.Conditions.{passed}
+use Rattle.base.proofs.Tests.{by-test, or-left, zero-one, not-both}
+use Rattle.base.proofs.Totals.{total-same, term-most}
 use Rattle.masks.specs.Masks.{has}
-use Rattle.masks.proofs.Cases.{by-test}
 use Rattle.automaton.specs.declared.Rule.{Rule}
 use Rattle.automaton.specs.Automaton.{Accepts}
 use Rattle.automaton.specs.Rules.{automatonOf, WellFormed}
-use Rattle.ruleformat.specs.Conditions.{outside}
 use Rattle.ruleformat.specs.Reader.{ruleOf}
-use Rattle.ruleformat.proofs.Conditions.{or-left}
 use Rattle.ruleformat.proofs.Claims as rulefile
 use Rattle.subsets.specs.Claims.{fits}
 use Rattle.delegates.specs.Alike.{Text}
 use Rattle.delegates.specs.Claims.{startsIn}
-use Rattle.chunks.specs.Chunks.{counted, endSet, total, chunkCount}
+use Rattle.chunks.specs.Chunks.{counted, endSet, chunkCount}
 use Rattle.joins.specs.Joining.{yesOf}
 use Rattle.joins.specs.Claims.{delegateIn}
 use Rattle.joins.specs.Claims as joins-specs
 use Rattle.joins.proofs.Claims as joins
-use Rattle.chunks.proofs.Totals.{total-same}
-use Rattle.board.proofs.Totals.{term-most}
 use Rattle.calls.specs.declared.Judge.{Judge}
 use Rattle.calls.specs.Replies.{waiting, keeps, breaks, Reply, judged, refused}
 use Rattle.calls.proofs.Conditions.{not-refused}
-use Rattle.histories.specs.History.{isNone, fileOf, ruleFrom, openNumber, boardIn, placesIn, runAt, countOf, endOf, standing, emptiesIn, summedIn, yesIn, chunkOf, joinedUpTo}
+use Rattle.histories.specs.History.{fileOf, ruleFrom, openNumber, boardIn, placesIn, runAt, countOf, endOf, standing, emptiesIn, summedIn, yesIn, chunkOf, joinedUpTo}
 use Rattle.calls.specs.Calls.{Call, loads, opens, delivers, withdraws, asks, loadNumber, verdictBy}
 use Rattle.histories.specs.Claims.{automatonBy, Verdict-words}
 use Rattle.histories.proofs.Running.{merged}
 use Rattle.histories.proofs.Holding.{Holds}
-use Rattle.histories.proofs.Numbers.{passed}
 use Rattle.histories.proofs.Listed.{Good, file-accepted}
 
 -- ---- the verdict by its numbers
@@ -172,7 +173,7 @@ module _ (at : ℕ → Option (List ℕ)) where
       (getD-at (chunksUpTo at n) (chunkOf (at n)) [] [] n (chunks-length n)))
 
   joined-is : (n : ℕ) → joinedUpTo at n ≡ flatten (chunksUpTo at n)
-  unfolding chunksUpTo joinedUpTo flatten
+  unfolding chunksUpTo joined flatten
   joined-is zero = refl
   joined-is (suc n) = ap (λ (x : List ℕ). x ++ chunkOf (at n)) (joined-is n) ∙ sym (flatten-more (chunksUpTo at n) (chunkOf (at n)))
 
@@ -219,7 +220,7 @@ module _ (r : Rule) (good : WellFormed r) (fit : fits r) (places : ℕ) (at : �
       rw (e, joined-is at places) (joins.claims .count-most r good (startsIn r .delegates) (startsIn r .count) (merged r good fit) ws)
 
   filled : (p : ℕ) (o : Option (List ℕ)) → isNone o ≡ false → (q : ℕ) → endOf r p q o ≡ endSet (r .targets) (runAt r p) (chunkOf o) q
-  filled p none e q = absurd (let z : _≡_ {A = ℕ} 0 1 = cc in omega arith)
+  filled p none e q = zero-one cc
   filled p (some w) e q = refl
 
   none-empty : total (λ p. cond (isNone (at p)) 1 0) places ≡ 0 → (p : ℕ) → p < places → isNone (at p) ≡ false
@@ -253,16 +254,13 @@ module _ (r : Rule) (good : WellFormed r) (fit : fits r) (places : ℕ) (at : �
       rw (count-is p (at p)) (joins.claims .place-most r good (startsIn r .delegates) (startsIn r .count) (merged r good fit) p (chunkOf (at p)))
 
 -- ---- for every list of calls
-both : {A B C : Type 0} → A ↔ B → B ↔ C → A ↔ C
-both f g = (λ x. g .0 (f .0 x), λ x. f .1 (g .1 x))
-
 module _ (places : ℕ) (at : ℕ → Option (List ℕ)) (j : Judge) where
   most-by : (file : Option (List ℕ)) → Holds file places at j
       → total (λ p. countOf (ruleFrom file) p (at p)) places ≤ startsIn (ruleFrom file) .count * length (joinedUpTo at places)
   unfolding total
   most-by none holds =
       by-test (ltb 0 places)
-      (λ l. absurd (let e : true ≡ false = holds .ruled (ltb-true 0 places l) in let z : _≡_ {A = ℕ} 0 1 = cc in omega arith))
+      (λ l. not-both refl (holds .ruled (ltb-true 0 places l)))
       (λ l. let z : places ≡ 0 = omega (arith, ltb-false 0 places l) in rw z zero-le)
   most-by (some f) holds =
       sum-most (ruleOf f) (holds .rule .1) (holds .rule .2) places at
@@ -271,7 +269,7 @@ module _ (places : ℕ) (at : ℕ → Option (List ℕ)) (j : Judge) where
       → countOf (ruleFrom file) p (at p) ≤ startsIn (ruleFrom file) .count * length (chunkOf (at p))
   place-by none holds p =
       let free : places ≤ p = by-test (ltb 0 places)
-      (λ l. absurd (let e : true ≡ false = holds .ruled (ltb-true 0 places l) in let z : _≡_ {A = ℕ} 0 1 = cc in omega arith))
+      (λ l. not-both refl (holds .ruled (ltb-true 0 places l)))
       (λ l. omega (arith, ltb-false 0 places l)) in
       rw (holds .beyond p free) (omega arith)
   place-by (some f) holds p = place-most (ruleOf f) (holds .rule .1) (holds .rule .2) places at p
@@ -281,10 +279,10 @@ module _ (places : ℕ) (at : ℕ → Option (List ℕ)) (j : Judge) where
       → total (λ p. cond (isNone (at p)) 1 0) places ≡ 0
       → (yesOf (λ p q. endOf (ruleFrom file) p q (at p)) (delegateIn (startsIn (ruleFrom file) .delegates)) (ruleFrom file .n) (ruleFrom file .initials) (ruleFrom file .finals) places ≡ true)
       ↔ Accepts (automatonBy file) (joinedUpTo at places)
-  accepts-by none taken holds h z = absurd (let e : true ≡ false = holds .ruled h in let y : _≡_ {A = ℕ} 0 1 = cc in omega arith)
+  accepts-by none taken holds h z = not-both refl (holds .ruled h)
   accepts-by (some f) taken holds h z =
       let same = rulefile.claims .language f (not-refused f (taken f refl) .0) (joinedUpTo at places) in
-      both
+      Iff·trans
       (accepts-law (ruleOf f) (holds .rule .1) (holds .rule .2) places
       at
       (holds .texts)
@@ -308,7 +306,7 @@ board-law (opens n ∷ h) =
     accepted-opening none z t =
         let a = passed 20 (isNone (fileOf h)) (cond (outside 1 64 n) (some 10) none) z in
         passed 10 (outside 1 64 n) none (a .1) .0
-    accepted-opening (some x) z t = absurd (let y : _≡_ {A = ℕ} 0 1 = cc in omega arith)
+    accepted-opening (some x) z t = zero-one cc
 board-law (delivers p w ∷ h) = board-law h
 board-law (withdraws p ∷ h) = board-law h
 board-law (asks ∷ h) = board-law h
@@ -317,19 +315,19 @@ pub there : (h : List Call) → boardIn h ≡ true → 0 < placesIn h
 there h e = ltb-true 0 (placesIn h) (sym (board-law h) ∙ e)
 
 not-true-false : (t : Bool) {A : Type 0} → (t ≡ true) ↔ A → (t ≡ false) ↔ (A → ⊥)
-not-true-false true law = (λ e. absurd (let y : _≡_ {A = ℕ} 0 1 = cc in omega arith), λ n. absurd (n (law .0 refl)))
-not-true-false false law = (λ e a. let z = law .1 a in let y : _≡_ {A = ℕ} 0 1 = cc in omega arith, λ n. refl)
+not-true-false true law = (λ e. zero-one cc, λ n. absurd (n (law .0 refl)))
+not-true-false false law = (λ e a. let z = law .1 a in zero-one cc, λ n. refl)
 
 pub words : (h : List Call) (j : Judge) → Good h j → Verdict-words h
 words h j good =
     let s = standing h in
     record {
       board = ((λ e. there h e), λ l. board-law h ∙ lt-ltb 0 (placesIn h) l);
-      none-there = both (refused-law (placesIn h) (emptiesIn h) (yesIn h) (summedIn h)) (
+      none-there = Iff·trans (refused-law (placesIn h) (emptiesIn h) (yesIn h) (summedIn h)) (
         (λ z. board-law h ∙ rw z),
         λ e. omega (arith, ltb-false 0 (placesIn h) (sym (board-law h) ∙ e)),
       );
-      waits = λ e. both (waiting-law (placesIn h) (emptiesIn h) (yesIn h) (summedIn h) e) (
+      waits = λ e. Iff·trans (waiting-law (placesIn h) (emptiesIn h) (yesIn h) (summedIn h) e) (
         (λ x. (board-law h ∙ lt-ltb 0 (placesIn h) (x .0), x .1, x .2)),
         λ x. (there h (x .0), x .1, x .2),
       );
@@ -338,9 +336,9 @@ words h j good =
       most = most-by (placesIn h) s j (fileOf h) good;
       place-most = place-by (placesIn h) s j (fileOf h) good;
       accepts = λ b e.
-          both (yes-law (placesIn h) (emptiesIn h) (yesIn h) (summedIn h) (there h b) e) (accepts-by (placesIn h) s j (fileOf h) (file-accepted h) good (there h b) e);
+          Iff·trans (yes-law (placesIn h) (emptiesIn h) (yesIn h) (summedIn h) (there h b) e) (accepts-by (placesIn h) s j (fileOf h) (file-accepted h) good (there h b) e);
       rejects = λ b e.
-          both (no-law (placesIn h) (emptiesIn h) (yesIn h) (summedIn h) (there h b) e)
+          Iff·trans (no-law (placesIn h) (emptiesIn h) (yesIn h) (summedIn h) (there h b) e)
           (not-true-false (yesIn h) (accepts-by (placesIn h) s j (fileOf h) (file-accepted h) good (there h b) e));
       joins = λ b e. yes-law (placesIn h) (emptiesIn h) (yesIn h) (summedIn h) (there h b) e;
     }

@@ -17,6 +17,7 @@ use mathlib.Core.Option.{Option, none, some}
 use Prim.Native.Nat.{ℕ, _*_, _≤_, _<_}
 use lib.ListN.{length, getD}
 use Rattle.limits.specs.Limits.{mostStates, mostPlaces}
+use Rattle.base.specs.Options.{isNone}
 use Rattle.executions.specs.Executions.{Machine, stateAfter, repliesTo as machineReplies}
 use Rattle.automaton.specs.Automaton.{Automaton, Accepts}
 use Rattle.automaton.specs.Rules.{automatonOf, WellFormed}
@@ -27,8 +28,8 @@ use Rattle.delegates.specs.Claims.{startsIn}
 use Rattle.build.specs.Building.{builtOf, noBuilt}
 use Rattle.board.specs.Boards.{held, isEmpty, summedCount}
 use Rattle.calls.specs.declared.Judge.{Judge}
-use Rattle.calls.specs.Replies.{waiting, keeps, breaks, Reply, judged, refused}
-use Rattle.histories.specs.History.{isNone, fileOf, ruleIn, boardIn, placesIn, standing, endAt, countAt, emptiesIn, summedIn, yesIn, chunkOf, textIn, verdictIn, answerOf, answersTo}
+use Rattle.calls.specs.Replies.{Reply, accepted, waiting, keeps, breaks, refused}
+use Rattle.histories.specs.History.{fileOf, ruleIn, boardIn, placesIn, countOf, standing, endAt, countAt, emptiesIn, summedIn, yesIn, chunkOf, textIn, verdictIn, answerOf, answersTo}
 use Rattle.histories.specs.Method.{Method}
 use Rattle.histories.specs.Conditions.{Accepted-exactly, Refused-exactly}
 use Rattle.calls.specs.Calls.{Call, loadNumber}

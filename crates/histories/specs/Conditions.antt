@@ -7,8 +7,8 @@ use mathlib.Core.List.{List}
 use mathlib.Core.Option.{none, some}
 use Prim.Native.Nat.{ℕ, _+_, _≤_, _<_}
 use lib.ListN.{length}
+use Rattle.base.specs.Conditions.{NoneHolds, FirstHolds}
 use Rattle.limits.specs.Limits.{mostPlaces, longestChunk, mostCount}
-use Rattle.ruleformat.specs.Conditions.{NoneHolds, FirstHolds}
 use Rattle.ruleformat.specs.Refusals.{fileConditions}
 use Rattle.ruleformat.specs.Language.{automatonIn}
 use Rattle.chunks.specs.Chunks.{foreign}

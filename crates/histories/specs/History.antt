@@ -18,30 +18,24 @@
 --   answerOf h c             what document 01 answers to the call c after the calls h
 --   answersTo h              its answers to all calls of the list
 use mathlib.Core.Bool.{Bool, true, false, cond, _&&_}
-use mathlib.Core.List.{List, [], _∷_, _++_}
+use mathlib.Core.List.{List, [], _∷_}
 use mathlib.Core.Option.{Option, none, some}
-use Prim.Native.Nat.{ℕ, zero, suc, _+_}
+use Prim.Native.Nat.{ℕ, _+_}
 use lib.Dec.{eqb}
 use lib.ListN.{length}
+use Rattle.base.specs.Conditions.{firstOf}
+use Rattle.base.specs.Lists.{joined}
+use Rattle.base.specs.Options.{isNone, isSome}
+use Rattle.base.specs.Totals.{total}
 use Rattle.automaton.specs.declared.Rule.{Rule}
-use Rattle.ruleformat.specs.Conditions.{firstOf}
 use Rattle.ruleformat.specs.Reader.{ruleOf, noRule}
 use Rattle.subsets.specs.Sets.{setsOf}
 use Rattle.delegates.specs.Claims.{startsIn}
-use Rattle.chunks.specs.Chunks.{runSet, endSet, total, chunkCount}
+use Rattle.chunks.specs.Chunks.{runSet, endSet, chunkCount}
 use Rattle.joins.specs.Joining.{yesOf}
 use Rattle.joins.specs.Claims.{delegateIn}
 use Rattle.calls.specs.Replies.{Reply, accepted, loaded, refused}
 use Rattle.calls.specs.Calls.{Call, loads, opens, delivers, withdraws, asks, loadNumber, openConditions, deliverConditions, withdrawConditions, verdictBy}
-
--- there is no value, and there is one
-abbrev pub isNone : {A : Type 0} → Option A → Bool
-isNone none = true
-isNone (some x) = false
-
-abbrev pub isSome : {A : Type 0} → Option A → Bool
-isSome none = false
-isSome (some x) = true
 
 -- ---- which rule is there
 unfoldable pub fileOf : List Call → Option (List ℕ)
@@ -147,9 +141,9 @@ abbrev pub chunkOf : Option (List ℕ) → List ℕ
 chunkOf none = []
 chunkOf (some w) = w
 
-unfoldable pub joinedUpTo : (ℕ → Option (List ℕ)) → ℕ → List ℕ
-joinedUpTo at zero = []
-joinedUpTo at (suc p) = joinedUpTo at p ++ chunkOf (at p)
+-- the chunks at the first places, one after the other
+abbrev pub joinedUpTo : (ℕ → Option (List ℕ)) → ℕ → List ℕ
+joinedUpTo at places = joined (λ p. chunkOf (at p)) places
 
 abbrev pub textIn : List Call → List ℕ
 textIn h = joinedUpTo (standing h) (placesIn h)

@@ -1,23 +1,15 @@
 -- The code's join and document 01's: where the number of states is at most 32 and delegates are states, what the code cuts off is nothing. Assumes
 -- nothing.
-use mathlib.Core.Path.{_≡_, refl, ap, ap₂, _∙_}
-use mathlib.Core.Bool.{cond}
+use mathlib.Core.Path.{_≡_, refl, ap, _∙_}
 use mathlib.Core.List.{List}
 use Prim.Native.Nat.{ℕ, zero, suc, _+_, _*_, _%_, _≤_, _<_}
 use native.Mathlib.Nat.{min-eq-left}
 use native.Mathlib.Omega.{arith}
-use lib.Bits.{bitOr}
 use lib.ListN.{getD}
-use Rattle.masks.specs.Masks.{has, union}
+use Rattle.masks.proofs.Laws.{union-same}
+use Rattle.masks.specs.Masks.{union}
 use Rattle.joins.specs.Joining.{joinOf, heldIn, joinUpTo}
 use Rattle.joins.specs.Claims.{delegateIn}
-
--- a union of the same sets
-pub union-same : (f g : ℕ → ℕ) (m n : ℕ) → ((q : ℕ) → q < n → f q ≡ g q) → union f m n ≡ union g m n
-unfolding union
-union-same f g m zero h = refl
-union-same f g m (suc n) h =
-    ap₂ bitOr (union-same f g m n (λ q l. h q (omega arith))) (ap (λ (x : ℕ). cond (has m n) x 0) (h n (omega arith)))
 
 pub join-same : (e f : ℕ → ℕ → ℕ) (d : ℕ → ℕ) (n m p : ℕ) → ((i q : ℕ) → i < p → q < n → e i (d q) ≡ f i (d q)) → joinOf e d n m p ≡ joinOf f d n m p
 unfolding joinOf

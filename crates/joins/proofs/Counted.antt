@@ -6,15 +6,16 @@ use Prim.Native.Nat.{ℕ, zero, suc, _*_, _≤_, _<_}
 use native.Mathlib.Nat.{mul-add, add-le-add}
 use native.Mathlib.Omega.{arith}
 use lib.ListN.{length, getD, length-append}
+use Rattle.base.specs.Totals.{total}
+use Rattle.base.proofs.Totals.{total-first}
 use Rattle.masks.specs.Masks.{_∈_}
 use Rattle.automaton.specs.declared.Rule.{Rule}
 use Rattle.automaton.specs.Rules.{automatonOf, WellFormed}
 use Rattle.delegates.specs.Alike.{Merged}
 use Rattle.delegates.proofs.Alike.{delegates-start}
-use Rattle.chunks.specs.Chunks.{startSet, runSet, total, chunkCount}
+use Rattle.chunks.specs.Chunks.{startSet, runSet, chunkCount}
 use Rattle.chunks.specs.Claims.{Claims as ChunksClaims}
 use Rattle.joins.specs.Claims.{countOf}
-use Rattle.board.proofs.Totals.{total-first}
 
 -- a sum over chunks, each term at most most times the chunk's bytes
 flat-most : (most : ℕ) (ws : List (List ℕ)) (f : ℕ → ℕ) → ((p : ℕ) → p < length ws → f p ≤ most * length (getD ws p []))

@@ -14,9 +14,9 @@ use native.Mathlib.Omega.{arith}
 use lib.ListN.{length, getD, drop}
 use lib.Pow.{pow-lt, pow-pos}
 use lib.Seq.{drop-cons, drop-length}
+use Rattle.base.proofs.Tests.{by-test}
 use Rattle.masks.specs.Masks.{_∈_, has, single, union, shares}
-use Rattle.masks.proofs.Cases.{by-test}
-use Rattle.masks.proofs.Laws.{no-member, has-member, members-below, part-of, in-union, union-lt}
+use Rattle.masks.proofs.Laws.{no-member, has-member, members-below, part-of, in-union, union-lt, union-same}
 use Rattle.automaton.specs.declared.Rule.{Rule}
 use Rattle.automaton.specs.Automaton.{Accepts}
 use Rattle.automaton.specs.Rules.{automatonOf, WellFormed}
@@ -28,7 +28,6 @@ use Rattle.chunks.specs.Chunks.{runSet, endSet}
 use Rattle.chunks.specs.Claims.{Claims as ChunksClaims}
 use Rattle.joins.specs.Joining.{joinOf, yesOf}
 use Rattle.joins.specs.Claims.{Texts, delegateIn, Holds}
-use Rattle.joins.proofs.Clamped.{union-same}
 use Rattle.joins.proofs.Acceptance.{Accepting, accepting-law, accepting-single, text-flatten, texts-drop}
 
 -- where a state is not run its end set is empty

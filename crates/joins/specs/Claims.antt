@@ -12,11 +12,12 @@ use mathlib.Core.List.{List, [], _∷_, flatten}
 use Prim.Native.Nat.{ℕ, _*_, _≤_, _<_}
 use lib.ListN.{length, getD}
 use Rattle.limits.specs.Limits.{mostStates}
+use Rattle.base.specs.Totals.{total}
 use Rattle.automaton.specs.declared.Rule.{Rule}
 use Rattle.automaton.specs.Automaton.{Accepts}
 use Rattle.automaton.specs.Rules.{automatonOf, WellFormed}
 use Rattle.delegates.specs.Alike.{Text, Merged}
-use Rattle.chunks.specs.Chunks.{runSet, endSet, total, chunkCount}
+use Rattle.chunks.specs.Chunks.{runSet, endSet, chunkCount}
 use Rattle.joins.specs.Joining.{joinOf, yesOf, heldIn, joinUpTo}
 
 abbrev pub Texts : ℕ → List (List ℕ) → Type 0

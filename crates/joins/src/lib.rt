@@ -62,7 +62,7 @@ fn join_places(
     requires { ⌜ places ≤ mostPlaces ⌝ }
     ensures { λ r. ⌜ r ≡ joinUpTo (now (ends .entry)) (now (delegates .entry)) n initials places ⌝ }
 {
-    let states = masks::at_most(n, limits::MOST_STATES);
+    let states = base::at_most_u8(n, limits::MOST_STATES);
     let mut set = initials;
     let mut place: usize = 0;
     while place < places {

@@ -15,7 +15,7 @@ use borrow.Author.Tests.{eq-eqb, ne-eqb, eqb-true, eqb-false, ltb-true, ltb-fals
 use lib.Dec.{eqb, ltb}
 use lib.ListN.{length, take, drop, length-append, length-drop, drop-of-length-le}
 use lib.Seq.{take-all, take-at, length-take-le, take-append-add, drop-append-add, take-append-le, drop-append-le}
-use Rattle.masks.proofs.Cases.{by-test}
+use Rattle.base.proofs.Tests.{by-test}
 use Rattle.text.specs.Writing.{written, Wrote}
 use Rattle.text.proofs.Pieces.{wrote-length}
 use Rattle.fields.specs.Bytes.{allHex}

@@ -8,7 +8,7 @@
 --   hex-tail       the rest is hex digits, even in number: the line comes to what its first bytes
 --                  come to
 use mathlib.Core.Path.{_≡_, refl, ap, _∙_, subst}
-use mathlib.Core.Bool.{Bool, true, false, cond, _&&_}
+use mathlib.Core.Bool.{Bool, true, false, cond, _&&_, and-true, and-false}
 use mathlib.Core.List.{List, [], _∷_, _++_}
 use mathlib.Core.Option.{Option, none, some}
 use Prim.Native.Nat.{ℕ, suc, _+_, _-_, _%_, _≤_, _<_}
@@ -17,22 +17,18 @@ use borrow.Author.Tests.{le-leb, ne-eqb, ltb-true, ltb-false}
 use lib.Dec.{eqb, ltb}
 use lib.ListN.{length, take, drop, length-append, length-drop, take-append-drop}
 use lib.Seq.{drop-append-le, length-take-le}
-use Rattle.masks.proofs.Cases.{by-test}
+use Rattle.base.proofs.Tests.{by-test, either}
 use Rattle.lines.specs.Splitting.{begins, upTo, past}
-use Rattle.lines.proofs.Splits.{either, up-append, past-there}
+use Rattle.lines.proofs.Splits.{up-append, past-there}
 use Rattle.fields.specs.Numbers.{numberIn}
 use Rattle.fields.specs.Bytes.{allHex, pairs, bytesIn}
-use Rattle.fields.proofs.Digits.{and-false, said-long}
+use Rattle.fields.proofs.Digits.{said-long}
 use Rattle.fields.proofs.Pairs.{hex-append, pairs-length}
 use Rattle.calls.specs.declared.Judge.{Judge}
 use Rattle.calls.specs.Calls.{loads, delivers, asks}
 use Rattle.calltext.specs.Meaning.{Meaning, call, malformed, load-word, open-word, deliver-word, withdraw-word, verdict-word, loadBy, openBy, withdrawBy, deliverBy, deliverFields, callIn, lineIn}
 use Rattle.callrun.specs.Running.{replyOf, lineStep}
 use Rattle.callrun.proofs.Clipped.{loads-long, delivers-long}
-
-and-true : (b : Bool) → (b && true) ≡ b
-and-true true = refl
-and-true false = refl
 
 -- ---- a text that goes on
 begins-append : (h v t : List ℕ) → length h ≤ length v → begins h (v ++ t) ≡ begins h v

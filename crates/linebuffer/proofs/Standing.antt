@@ -4,7 +4,7 @@
 --   held-call, held-stray    what `run_held` does is what the definition says
 --   held-step                what is kept comes to what the line comes to
 use mathlib.Core.Path.{_≡_, refl, sym, ap, ap₂, _∙_, subst}
-use mathlib.Core.Bool.{Bool, true, false, _&&_}
+use mathlib.Core.Bool.{Bool, true, false, _&&_, and-comm}
 use mathlib.Core.List.{List}
 use Prim.Native.Nat.{ℕ, _+_, _-_, _%_, _≤_, _<_, min}
 use native.Mathlib.Omega.{arith}
@@ -12,7 +12,7 @@ use borrow.Author.Tests.{eqb-true, eqb-false, ltb-true, ltb-false}
 use lib.Dec.{ltb}
 use lib.ListN.{length, take, drop, length-drop, take-append-drop}
 use lib.Seq.{take-all, take-length, take-take, take-add, drop-at, drop-drop, length-take-le}
-use Rattle.masks.proofs.Cases.{by-test}
+use Rattle.base.proofs.Tests.{by-test}
 use Rattle.fields.specs.Bytes.{allHex}
 use Rattle.calls.specs.declared.Judge.{Judge}
 use Rattle.calltext.specs.Meaning.{malformed, lineIn}
@@ -23,12 +23,6 @@ use Rattle.linebuffer.specs.Claims.{Keeps}
 use Rattle.fields.proofs.Pairs.{hex-append}
 use Rattle.linebuffer.proofs.Kept.{nothing-left}
 use Rattle.linebuffer.proofs.Long.{stray-tail, hex-tail}
-
-and-swap : (a b : Bool) → a && b ≡ b && a
-and-swap true true = refl
-and-swap true false = refl
-and-swap false true = refl
-and-swap false false = refl
 
 less-within : (odd : Bool) (len : ℕ) → standing odd len ≤ len
 less-within true len = omega arith
@@ -124,7 +118,7 @@ module _ (buffer : List ℕ) (held : Held) (w : List ℕ) (kept : Keeps buffer h
         let back : drop k (drop n w) ≡ drop (length buffer) w = drop-drop k n w ∙ ap (λ (x : ℕ). drop x w) sum in
         ap allHex (sym (take-append-drop k (drop n w)))
         ∙ hex-append (take k (drop n w)) (drop k (drop n w))
-        ∙ and-swap (allHex (take k (drop n w))) (allHex (drop k (drop n w)))
+        ∙ and-comm (allHex (take k (drop n w))) (allHex (drop k (drop n w)))
         ∙ ap₂ (λ (a b : Bool). a && b) (ap allHex back ∙ sym (kept .hex)) (ap allHex (sym mid))
         ∙ sym hex-is
 

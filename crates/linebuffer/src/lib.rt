@@ -1,7 +1,7 @@
 // Gathers a line that comes in pieces, of any length in all, and runs its call on a judge.
 ghost use mathlib.Core.Path.{_≡_};
 ghost use mathlib.Core.Bool.{_&&_};
-ghost use Prim.Native.Nat.{_≤_, min};
+ghost use Prim.Native.Nat.{_≤_};
 ghost use lib.ListN.{length};
 ghost use Rattle.limits.specs.Limits.{bytesRoom, lineRoom};
 ghost use Rattle.fields.specs.Bytes.{allHex};
@@ -29,12 +29,6 @@ pub fn nothing() -> Held
     }
 }
 
-fn least(a: usize, b: usize) -> usize
-    ensures { λ r. ⌜ r ≡ min a b ⌝ }
-{
-    if a < b { a } else { b }
-}
-
 // Whether the number of bytes is odd with so many more.
 fn odd_with(odd: bool, more: usize) -> bool
     ensures { λ r. ⌜ r ≡ oddWith odd more ⌝ }
@@ -60,8 +54,8 @@ pub fn hold(buffer: &mut [u8], held: Held, piece: &[u8]) -> Held
     ensures { λ r. ⌜ r ≡ heldAfter (now (buffer .entry)) held (now (piece .entry)) ⌝ }
     ensures buffer { λ r. ⌜ now (buffer .exit) ≡ bufferAfter (now (buffer .entry)) held (now (piece .entry)) ⌝ }
 {
-    let at = least(held.length, buffer.len());
-    let fits = least(piece.len(), buffer.len() - at);
+    let at = base::at_most(held.length, buffer.len());
+    let fits = base::at_most(piece.len(), buffer.len() - at);
     let length = text::put_bytes(buffer, at, &piece[..fits]);
     let hex = hex_with(held.hex, &piece[fits..]);
     let odd = odd_with(held.odd, piece.len() - fits);
@@ -90,7 +84,7 @@ pub fn run_held(judge: Judge, buffer: &[u8], held: Held, scratch: &mut [u8]) -> 
     ensures { λ r. ⌜ outcomeOf r ≡ lineStep judge (heldMeaning (now (buffer .entry)) held) ⌝ }
     ensures scratch { λ r. ⌜ Scratch (now (scratch .entry)) (now (scratch .exit)) ⌝ }
 {
-    let length = least(held.length, buffer.len());
+    let length = base::at_most(held.length, buffer.len());
     let n = stands(length, held.odd);
     if hex_with(held.hex, &buffer[n..length]) {
         return callrun::run_line(judge, &buffer[..n], scratch);

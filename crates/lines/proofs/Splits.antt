@@ -1,6 +1,6 @@
 -- The laws of splitting, byte by byte. Assumes nothing.
 use mathlib.Core.Path.{_≡_, refl, sym, ap, _∙_}
-use mathlib.Core.Bool.{Bool, true, false, cond, _&&_}
+use mathlib.Core.Bool.{true, false, cond, _&&_}
 use mathlib.Core.List.{List, [], _∷_, _++_, append-assoc, append-nil}
 use mathlib.Core.Option.{none, some}
 use Prim.Native.Nat.{ℕ, suc, _+_, _≤_, _<_}
@@ -10,12 +10,8 @@ use borrow.Author.Tests.{eq-eqb, ne-eqb}
 use lib.Dec.{eqb}
 use lib.ListN.{length, getD, take, drop, drop-of-length-le}
 use lib.Seq.{drop-cons, take-all}
+use Rattle.base.proofs.Tests.{either}
 use Rattle.lines.specs.Splitting.{begins, upTo, past, lastLine, linesFrom}
-
--- by the two cases of a test
-pub either : (b : Bool) (P : Bool → Type 0) → P true → P false → P b
-either true P x y = x
-either false P x y = y
 
 -- ---- the first c from i on
 module _ (c : ℕ) (w : List ℕ) (i : ℕ) where

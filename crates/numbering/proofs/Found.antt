@@ -19,7 +19,7 @@ use lib.Dec.{ltb}
 use lib.ListN.{length, getD, length-append}
 use lib.Seq.{getD-append-seam}
 use borrow.Author.Tests.{ltb-true, ltb-false}
-use Rattle.masks.proofs.Cases.{by-test}
+use Rattle.base.proofs.Tests.{by-test}
 use Rattle.numbering.specs.Numbering.{Walk, numberIn, numbered, closeFrom, keysUpTo}
 use Rattle.numbering.specs.Begins.{Begins}
 use Rattle.numbering.proofs.Numbers.{Has, begins-at, begins-number, begins-length, begins-has, by-turn, numbered-begins, numbered-has, number-taken}

@@ -8,19 +8,16 @@
 --   numbered-..            what a key's turn does to the list
 use mathlib.Core.Path.{_≡_, refl, sym, ap, _∙_, subst}
 use mathlib.Core.Bool.{Bool, true, false, cond}
-use mathlib.Core.List.{List, [], _∷_, _++_, append-assoc}
+use mathlib.Core.List.{List, [], _∷_, _++_, append-assoc, append-nil}
 use Prim.Native.Nat.{ℕ, zero, suc, _≤_, _<_}
 use native.Mathlib.Omega.{arith}
 use lib.Dec.{eqb, ltb}
 use lib.ListN.{length, getD, length-append, List·getD-append}
 use lib.Seq.{getD-append-seam}
 use borrow.Author.Tests.{eq-eqb, lt-ltb, le-ltb, eqb-true, ltb-true, ltb-false}
-use Rattle.masks.proofs.Cases.{by-test}
+use Rattle.base.proofs.Tests.{by-test, not-both}
 use Rattle.numbering.specs.Numbering.{numberIn, numbered}
 use Rattle.numbering.specs.Begins.{Begins}
-
-pub not-both : {b : Bool} → b ≡ true → b ≡ false → ⊥
-not-both t f = let z : _≡_ {A = ℕ} 0 1 = cc in omega arith
 
 abbrev pub Has : List ℕ → ℕ → Type 0
 Has l m = numberIn l m < length l
@@ -87,10 +84,6 @@ number-more (x ∷ l) r m h = go (eqb x m) h (number-more l r m)
 -- ---- a list that goes on
 pub begins-self : (l : List ℕ) → Begins l l
 begins-self l = record { rest = []; is = sym (append-nil l) }
-  where
-    append-nil : (x : List ℕ) → x ++ [] ≡ x
-    append-nil [] = refl
-    append-nil (a ∷ x) = ap (λ (y : List ℕ). a ∷ y) (append-nil x)
 
 pub begins-trans : {a b c : List ℕ} → Begins a b → Begins b c → Begins a c
 begins-trans {a} p q = record {

@@ -20,12 +20,12 @@ use native.Mathlib.Omega.{arith}
 use lib.Dec.{ltb}
 use lib.ListN.{length, getD}
 use borrow.Author.Tests.{ltb-true, ltb-false}
-use Rattle.masks.proofs.Cases.{by-test}
+use Rattle.base.proofs.Tests.{by-test, not-both}
 use Rattle.numbering.specs.Numbering.{Walk, numberIn, keysUpTo}
 use Rattle.numbering.specs.Texts.{follow, Symbols, none, more, Sooner, NoLater}
 use Rattle.numbering.specs.Claims.{Sinks, Ordered}
 use Rattle.numbering.proofs.Texts.{follow-append, symbols-append, skipped-after, sooner-snoc, sooner-last, no-later-snoc, no-later-trans, empty-no-later}
-use Rattle.numbering.proofs.Numbers.{Has, number-at, not-both}
+use Rattle.numbering.proofs.Numbers.{Has, number-at}
 use Rattle.numbering.proofs.Reached.{own, once, sound, covered}
 use Rattle.numbering.proofs.Closure.{upTo-seed}
 use Rattle.numbering.proofs.Found.{Prior, TurnsBelow, SeedsBelow, Found, seeded, turned, upTo-found}

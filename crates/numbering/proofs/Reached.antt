@@ -19,12 +19,12 @@ use lib.Dec.{ltb}
 use lib.ListN.{length, getD, take, length-append, List·getD-append}
 use lib.Seq.{getD-append-seam, getD-take, length-take-le}
 use borrow.Author.Tests.{lt-ltb, ltb-true, ltb-false}
-use Rattle.masks.proofs.Cases.{by-test}
+use Rattle.base.proofs.Tests.{by-test, not-both}
 use Rattle.numbering.specs.Numbering.{Walk, numberIn, numbered, keysUpTo, nextOf}
 use Rattle.numbering.specs.Texts.{follow, Symbols, none, more}
 use Rattle.numbering.specs.Claims.{Reach, Distinct, Sinks}
 use Rattle.numbering.proofs.Texts.{follow-append, symbols-append, skipped-after}
-use Rattle.numbering.proofs.Numbers.{Has, number-at, stands, begins-number, number-taken, by-turn, not-both}
+use Rattle.numbering.proofs.Numbers.{Has, number-at, stands, begins-number, number-taken, by-turn}
 use Rattle.numbering.proofs.Closure.{upTo-keeps, Covers, upTo-covers, upTo-seed}
 use Rattle.numbering.proofs.Pigeonhole.{at-most}
 

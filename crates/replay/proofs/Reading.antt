@@ -14,7 +14,7 @@ use lib.ListN.{length, take, drop, drop-of-length-le}
 use lib.Seq.{drop-drop, drop-length}
 use borrow.Author.Tests.{ltb-true, ltb-false}
 use lib.Dec.{ltb}
-use Rattle.masks.proofs.Cases.{by-test}
+use Rattle.base.proofs.Tests.{by-test}
 use Rattle.lines.specs.Splitting.{upTo, lastLine, linesFrom, linesOf}
 use Rattle.lines.proofs.Splits.{up-whole, lines-there, lines-last}
 use Rattle.lines.proofs.Parts.{part-rest, part-is}

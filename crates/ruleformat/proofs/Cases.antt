@@ -6,9 +6,10 @@ use mathlib.Core.Option.{Option, some}
 use Prim.Native.Nat.{ℕ, _+_}
 use native.Mathlib.Omega.{arith}
 use lib.ListN.{length, drop, length-append}
-use Rattle.ruleformat.specs.Conditions.{anyBelow}
+use Rattle.base.specs.Conditions.{anyBelow}
+use Rattle.base.specs.Lists.{joined}
 use Rattle.ruleformat.specs.Refusals.{tooShort, tooLong, badStates, badSymbols, noRoom, badMask, badPairs, badSection, badArcs, refusal}
-use Rattle.ruleformat.specs.Writing.{joined, fileOf}
+use Rattle.ruleformat.specs.Writing.{fileOf}
 use Rattle.ruleformat.specs.Worked.{fullRule}
 use Rattle.ruleformat.specs.Cases.{Case, case, files, Answered}
 use Rattle.ruleformat.proofs.Refused.{not-short, long, from-1, from-2, from-3, holds, skips}

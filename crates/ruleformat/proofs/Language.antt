@@ -9,10 +9,10 @@ use native.Mathlib.Omega.{arith}
 use lib.Dec.{ltb}
 use lib.ListN.{getD, List·getD-eq-default}
 use borrow.Author.Tests.{lt-ltb, le-ltb, ltb-true, ltb-false}
+use Rattle.base.proofs.Lists.{length-listFrom, cell-of}
+use Rattle.base.proofs.Tests.{by-test}
 use Rattle.masks.specs.Masks.{_∈_}
-use Rattle.masks.proofs.Cases.{by-test}
 use Rattle.masks.proofs.Laws.{no-member, below-of, empty-mask}
-use Rattle.masks.proofs.Lists.{length-listFrom, cell-of}
 use Rattle.automaton.specs.Automaton.{Equivalent}
 use Rattle.automaton.specs.Rules.{cellOf, targetMask, automatonOf, WellFormed}
 use Rattle.automaton.proofs.Laws.{accepts-map}

@@ -10,18 +10,19 @@ use native.Mathlib.Omega.{arith}
 use lib.Dec.{ltb}
 use lib.ListN.{length, getD, replicate, length-replicate, getD-replicate, List·getD-eq-default}
 use borrow.Author.Tests.{lt-ltb, le-ltb, ltb-true, ltb-false, not-false}
+use Rattle.base.specs.Conditions.{anyBelow}
+use Rattle.base.specs.Lists.{joined}
+use Rattle.base.proofs.Conditions.{none-at}
+use Rattle.base.proofs.Lists.{length-exact}
+use Rattle.base.proofs.Tests.{by-test}
 use Rattle.masks.specs.Masks.{has}
-use Rattle.masks.proofs.Cases.{by-test}
 use Rattle.automaton.specs.Rules.{targetMask, WellFormed}
-use Rattle.ruleformat.specs.Conditions.{anyBelow}
 use Rattle.ruleformat.specs.Refusals.{refusal}
 use Rattle.ruleformat.specs.Reader.{ruleOf}
-use Rattle.ruleformat.specs.Writing.{Bytes, joined, sectionOf, fileOf}
+use Rattle.ruleformat.specs.Writing.{Bytes, sectionOf, fileOf}
 use Rattle.ruleformat.specs.Worked.{fullRule}
-use Rattle.ruleformat.proofs.Conditions.{none-at}
 use Rattle.ruleformat.proofs.Accepted.{accepted}
 use Rattle.ruleformat.proofs.Language as language
-use Rattle.ruleformat.proofs.Joined.{length-exact}
 use Rattle.ruleformat.proofs.Writing.{size-is}
 use Rattle.ruleformat.proofs.Written.{file-size}
 use Rattle.ruleformat.proofs.Rewritten.{rewritten}
@@ -77,8 +78,8 @@ well-formed = record {
 
 section-full : (q : ℕ) → q < 32 → length (sectionOf 32 16 (masks q)) ≡ 1024
 section-full q l =
-    length-exact (λ s. joined (λ t. cond (has (masks q s) t) (s ∷ t ∷ []) []) 32) 64 16 λ s hs.
-    length-exact (λ t. cond (has (masks q s) t) (s ∷ t ∷ []) []) 2 32 λ t ht.
+    length-exact (λ s. joined (λ t. cond (has (masks q s) t) (s ∷ t ∷ []) []) 32) 16 64 λ s hs.
+    length-exact (λ t. cond (has (masks q s) t) (s ∷ t ∷ []) []) 32 2 λ t ht.
     ap (λ (m : ℕ). length (cond (has m t) (s ∷ t ∷ []) [])) (inside q s l hs)
     ∙ ap (λ (b : Bool). length (cond b (s ∷ t ∷ []) [])) (full-has t ht)
 
@@ -86,4 +87,4 @@ pub length-full : length (fileOf fullRule) ≡ 32906
 unfolding fullRule
 length-full =
     size-is 32 16 0xFFFFFFFF 0xFFFFFFFF (λ q. sectionOf 32 16 (masks q))
-    ∙ ap (λ (x : ℕ). 10 + 4 * 32 + x) (length-exact (λ q. sectionOf 32 16 (masks q)) 1024 32 section-full)
+    ∙ ap (λ (x : ℕ). 10 + 4 * 32 + x) (length-exact (λ q. sectionOf 32 16 (masks q)) 32 1024 section-full)

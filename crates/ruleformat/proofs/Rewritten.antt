@@ -8,16 +8,17 @@ use Prim.Native.Nat.{ℕ, zero, suc, _+_, _*_, _/_, _%_, _≤_, _<_}
 use native.Mathlib.Omega.{arith}
 use lib.ListN.{length, getD, drop, length-append, length-drop, take-append-drop}
 use lib.Seq.{drop-cons, drop-drop, drop-length, length-take-le}
+use Rattle.base.specs.Lists.{joined}
+use Rattle.base.proofs.Lists.{joined-same, joined-none, joined-suc, cut}
 use Rattle.automaton.specs.Rules.{targetMask}
 use Rattle.ruleformat.specs.Format.{halfAt, wordAt, stateCount, symbolCount, initialMask, finalMask, offsetOf, lengthOf, section}
 use Rattle.ruleformat.specs.Refusals.{dueAt, refusal}
 use Rattle.ruleformat.specs.Reader.{ruleOf}
 use Rattle.ruleformat.specs.Language.{ArcIn}
-use Rattle.ruleformat.specs.Writing.{Bytes, joined, half, word, header, offsetIn, pairs, fileWith, sectionOf, fileOf}
+use Rattle.ruleformat.specs.Writing.{Bytes, half, word, header, offsetIn, pairs, fileWith, sectionOf, fileOf}
 use Rattle.ruleformat.proofs.Pairs.{end, offset-due, even-length, within}
 use Rattle.ruleformat.proofs.Accepted.{Accepted, accepted, good-section}
 use Rattle.ruleformat.proofs.Language.{in-bounds, arcs}
-use Rattle.ruleformat.proofs.Joined.{joined-same, none-joined, more-joined, cut}
 use Rattle.ruleformat.proofs.Rising.{same-section, in-at, stands, passed}
 use Rattle.ruleformat.proofs.Sections.{section-rises, arcs-of, of-arcs}
 
@@ -80,14 +81,14 @@ module _ (f : List ℕ) (bytes : Bytes f) where
         length-take-le (lengthOf f q) (drop (offsetOf f q) f) (omega (arith, length-drop (offsetOf f q) f, within f (a .pairs) q l))
 
     due-is : (q : ℕ) → q ≤ stateCount f → offsetIn (stateCount f) (section f) q ≡ dueAt f q
-    due-is zero l = omega (arith, ap length (none-joined (section f)))
+    due-is zero l = omega (arith, ap length (joined-none (section f)))
     due-is (suc q) l =
         omega (
           arith,
           due-is q (omega arith),
           offset-due f (a .pairs) q l,
           section-length q l,
-          ap length (more-joined (section f) q),
+          ap length (joined-suc (section f) q),
           length-append (joined (section f) q) (section f q),
         )
 

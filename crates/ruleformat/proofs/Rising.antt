@@ -13,13 +13,14 @@ use native.Mathlib.Omega.{arith}
 use lib.Dec.{ltb, leb}
 use lib.ListN.{length, getD, List·getD-eq-default}
 use borrow.Author.Tests.{ltb-true, ltb-false}
+use Rattle.base.specs.Lists.{joined}
+use Rattle.base.proofs.Conditions.{none-at, none-all}
+use Rattle.base.proofs.Tests.{by-test, or-right}
 use Rattle.masks.specs.Masks.{_∈_}
-use Rattle.masks.proofs.Cases.{by-test}
 use Rattle.ruleformat.specs.Format.{arcCount, symbolAt, targetAt}
 use Rattle.ruleformat.specs.Refusals.{outOfOrder, badArc, badSection}
 use Rattle.ruleformat.specs.Reader.{targetsBy}
-use Rattle.ruleformat.specs.Writing.{Bytes, joined}
-use Rattle.ruleformat.proofs.Conditions.{or-right, none-at, none-all}
+use Rattle.ruleformat.specs.Writing.{Bytes}
 use Rattle.ruleformat.proofs.Arcs.{pastOf, order-law, good-arc, section-end, bounds}
 use Rattle.ruleformat.proofs.Tables.{Stands, targets-law}
 

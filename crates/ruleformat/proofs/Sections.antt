@@ -7,10 +7,11 @@ use Prim.Native.Nat.{ℕ, suc, _+_, _*_, _≤_, _<_}
 use native.Mathlib.Nat.{le-refl}
 use native.Mathlib.Omega.{arith}
 use lib.ListN.{length}
+use Rattle.base.specs.Lists.{joined}
+use Rattle.base.proofs.Lists.{joined-length}
 use Rattle.masks.specs.Masks.{_∈_, has}
 use Rattle.masks.proofs.Laws.{has-member, member-of}
-use Rattle.ruleformat.specs.Writing.{joined, sectionOf}
-use Rattle.ruleformat.proofs.Joined.{length-most}
+use Rattle.ruleformat.specs.Writing.{sectionOf}
 use Rattle.ruleformat.proofs.Rising.{Rising, done, next, In, first, later, lower, raise, none-in, rising-joined, in-joined, joined-in}
 
 arc-rises : {n : ℕ} (s t : ℕ) (b : Bool) → t < n → Rising n (256 * s + t) (256 * s + suc t) (cond b (s ∷ t ∷ []) [])
@@ -58,6 +59,6 @@ module _ (n k : ℕ) (few : n ≤ 256) (masks : ℕ → ℕ) where
   section-size hn hk =
       let size : (s t : ℕ) (b : Bool) → length (cond b (s ∷ t ∷ []) []) ≤ 2 = λ s t b. elim b [ true ↦ le-refl 2 | false ↦ omega arith ] in
       let row : (s : ℕ) → length (joined (arc s) n) ≤ 64 =
-      λ s. let h = length-most (arc s) 2 n (λ t l. size s t (has (masks s) t)) in omega arith in
-      let h = length-most (λ s. joined (arc s) n) 64 k (λ s l. row s) in
+      λ s. let h = joined-length (arc s) n 2 (λ t l. size s t (has (masks s) t)) in omega arith in
+      let h = joined-length (λ s. joined (arc s) n) k 64 (λ s l. row s) in
       omega arith

@@ -9,13 +9,14 @@ use native.Mathlib.Omega.{arith}
 use lib.ListN.{length, getD, take, drop, length-append}
 use lib.Pow.{pow-mono}
 use borrow.Author.Tests.{lt-leb, eq-eqb}
+use Rattle.base.specs.Lists.{joined}
+use Rattle.base.proofs.Conditions.{none-all, none-law}
+use Rattle.base.proofs.Lists.{joined-none, joined-suc, length-exact, joined-length, joined-split, part-at, part-byte}
 use Rattle.ruleformat.specs.Format.{initialMask, finalMask, offsetOf, lengthOf, section}
 use Rattle.ruleformat.specs.Refusals.{dueAt, badMask, badPair, badPairs, badSection, badArcs, fileConditions, refusal}
-use Rattle.ruleformat.specs.Writing.{Bytes, joined, half, word, header, offsetIn, pairs, fileWith}
-use Rattle.ruleformat.proofs.Conditions.{none-all, none-law}
+use Rattle.ruleformat.specs.Writing.{Bytes, half, word, header, offsetIn, pairs, fileWith}
 use Rattle.ruleformat.proofs.Pairs.{good-pair, pairs-end}
 use Rattle.ruleformat.proofs.Refused as refused
-use Rattle.ruleformat.proofs.Joined.{none-joined, more-joined, length-exact, length-most, joined-split, part-at, part-byte}
 
 -- ---- what reading finds
 module _ (n k i f : ℕ) (sections : ℕ → List ℕ) where
@@ -26,7 +27,7 @@ module _ (n k i f : ℕ) (sections : ℕ → List ℕ) where
   pair q = half (offsetIn n sections q) ++ half (length (sections q))
 
   pairs-size : (q : ℕ) → length (joined pair q) ≡ 4 * q
-  pairs-size q = length-exact pair 4 q (λ p l. refl)
+  pairs-size q = omega (arith, length-exact pair q 4 (λ p l. refl))
 
   pub size-is : length file ≡ offsetIn n sections n
   size-is =
@@ -70,9 +71,9 @@ module _ (n k i f : ℕ) (sections : ℕ → List ℕ) where
   final-is = omega arith
 
   due-is : (q : ℕ) → q ≤ n → dueAt file q ≡ offsetIn n sections q
-  due-is zero l = omega (arith, ap length (none-joined sections))
+  due-is zero l = omega (arith, ap length (joined-none sections))
   due-is (suc q) l =
-      omega (arith, offset-is q l, length-is q l, ap length (more-joined sections q), length-append (joined sections q) (sections q))
+      omega (arith, offset-is q l, length-is q l, ap length (joined-suc sections q), length-append (joined sections q) (sections q))
 
   -- ---- that it is accepted
   module _ (states : (1 ≤ n) × (n ≤ 32)) (symbols : (1 ≤ k) × (k ≤ 16)) (small-i : i < 2 ^ n) (small-f : f < 2 ^ n)
@@ -141,7 +142,7 @@ module _ (n k i f : ℕ) (sections : ℕ → List ℕ) (hn : n ≤ 32) (hk : k �
   bytes-pair : (q : ℕ) → q < n → Bytes (half (offsetIn n sections q) ++ half (length (sections q)))
   bytes-pair q l =
       let s = short q l in
-      let t = length-most sections 1024 q (λ p m. short p (omega arith)) in
+      let t = joined-length sections q 1024 (λ p m. short p (omega arith)) in
       bytes-append (half (offsetIn n sections q)) (half (length (sections q)))
       (bytes-half (offsetIn n sections q) (omega arith))
       (bytes-half (length (sections q)) (omega arith))

@@ -9,17 +9,16 @@ use native.Mathlib.Omega.{arith}
 use lib.Dec.{ltb}
 use lib.ListN.{length, getD}
 use borrow.Author.Tests.{lt-ltb, ltb-true, ltb-false}
+use Rattle.base.specs.Lists.{listFrom}
+use Rattle.base.proofs.Lists.{is-listFrom, joined-length}
+use Rattle.base.proofs.Tests.{by-test}
 use Rattle.masks.specs.Masks.{_∈_}
-use Rattle.masks.specs.Lists.{listFrom}
-use Rattle.masks.proofs.Cases.{by-test}
 use Rattle.masks.proofs.Laws.{members-below, no-member, ext}
-use Rattle.masks.proofs.Lists.{is-listFrom}
 use Rattle.automaton.specs.declared.Rule.{Rule}
 use Rattle.automaton.specs.Rules.{targetMask, WellFormed}
 use Rattle.ruleformat.specs.Refusals.{refusal}
 use Rattle.ruleformat.specs.Reader.{targetsBy, targetsFrom, ruleOf}
 use Rattle.ruleformat.specs.Writing.{Bytes, sectionOf, fileOf}
-use Rattle.ruleformat.proofs.Joined.{length-most}
 use Rattle.ruleformat.proofs.Rising.{even, passes, rising-bytes, targets-in}
 use Rattle.ruleformat.proofs.Sections.{section-rises, section-size, arcs-of, of-arcs}
 use Rattle.ruleformat.proofs.Writing.{size-is, section-is, initial-is, final-is, accepted, bytes-file}
@@ -57,7 +56,7 @@ module _ (r : Rule) (good : WellFormed r) where
 
   pub file-size : length (fileOf r) ≤ 32906
   file-size =
-      omega (arith, size-is (r .n) (r .k) (r .initials) (r .finals) sections, length-most sections 1024 (r .n) short, good .states .1)
+      omega (arith, size-is (r .n) (r .k) (r .initials) (r .finals) sections, joined-length sections (r .n) 1024 short, good .states .1)
 
   pub file-accepted : refusal (fileOf r) ≡ none
   file-accepted =

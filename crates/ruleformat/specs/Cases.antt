@@ -10,8 +10,9 @@ use mathlib.Core.List.{List, [], _∷_, _++_}
 use mathlib.Core.Option.{Option, none, some}
 use Prim.Native.Nat.{ℕ, _+_, _*_}
 use lib.ListN.{take, set, replicate}
+use Rattle.base.specs.Lists.{joined}
 use Rattle.ruleformat.specs.Refusals.{refusal}
-use Rattle.ruleformat.specs.Writing.{joined, fileOf}
+use Rattle.ruleformat.specs.Writing.{fileOf}
 use Rattle.ruleformat.specs.Worked.{fileA, fileA-final-8, fullRule}
 
 -- each pair is (10 + 4n, 0), and n is small enough that 10 + 4n is a byte

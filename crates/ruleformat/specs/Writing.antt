@@ -3,7 +3,6 @@
 -- other file of bytes does.
 --
 --   Bytes f                     each member of f is a byte, below 256 (past the end a byte reads 0)
---   joined p n                  the lists p 0, p 1, .. p (n − 1), one after the other
 --   half x, word x              the number x in two bytes and in four, the lowest first
 --   header n k initials finals  the bytes 0 to 9
 --   offsetIn n sections q       where the section of state q begins
@@ -14,8 +13,9 @@
 --   fileOf r                    the rule file of the rule r
 use mathlib.Core.Bool.{cond}
 use mathlib.Core.List.{List, [], _∷_, _++_}
-use Prim.Native.Nat.{ℕ, zero, suc, _+_, _*_, _/_, _%_, _<_}
+use Prim.Native.Nat.{ℕ, _+_, _*_, _/_, _%_, _<_}
 use lib.ListN.{length}
+use Rattle.base.specs.Lists.{joined}
 use Rattle.masks.specs.Masks.{has}
 use Rattle.automaton.specs.declared.Rule.{Rule}
 use Rattle.automaton.specs.Rules.{targetMask}
@@ -23,10 +23,6 @@ use Rattle.ruleformat.specs.Format.{byteAt}
 
 abbrev pub Bytes : List ℕ → Type 0
 Bytes f = (i : ℕ) → byteAt f i < 256
-
-unfoldable pub joined : (ℕ → List ℕ) → ℕ → List ℕ
-joined p zero = []
-joined p (suc i) = joined p i ++ p i
 
 abbrev pub half : ℕ → List ℕ
 half x = x % 256 ∷ x / 256 ∷ []

@@ -14,13 +14,13 @@ use native.Mathlib.Omega.{arith}
 use lib.Dec.{ltb, eqb}
 use lib.ListN.{length, getD}
 use borrow.Author.Tests.{ltb-true, ltb-false}
-use Rattle.masks.proofs.Cases.{by-test}
+use Rattle.base.specs.Conditions.{Condition, on, FirstHolds}
+use Rattle.base.proofs.Conditions.{first-law}
+use Rattle.base.proofs.Tests.{by-test}
 use Rattle.automaton.specs.declared.Rule.{Rule}
 use Rattle.automaton.specs.Rules.{WellFormed}
-use Rattle.ruleformat.specs.Conditions.{Condition, on, FirstHolds}
 use Rattle.ruleformat.specs.Refusals.{fileConditions, refusal}
 use Rattle.ruleformat.specs.Reader.{ruleOf}
-use Rattle.ruleformat.proofs.Conditions.{first-law}
 use Rattle.ruleformat.proofs.Claims as ruleformat
 use Rattle.subsets.specs.Sets.{tooMany}
 use Rattle.subsets.specs.Claims.{fits}

@@ -16,8 +16,8 @@ use native.Mathlib.Nat.{zero-add}
 use lib.Dec.{ltb}
 use lib.ListN.{length, drop}
 use borrow.Author.Tests.{lt-ltb, le-ltb, ltb-false}
-use Rattle.masks.proofs.Cases.{by-test}
-use Rattle.text.specs.Numerals.{joined}
+use Rattle.base.specs.Lists.{joined}
+use Rattle.base.proofs.Tests.{by-test, zero-one}
 use Rattle.text.specs.Writing.{Wrote}
 use Rattle.build.specs.declared.Built.{Built}
 use Rattle.ruletext.specs.declared.Printed.{Printed}
@@ -53,7 +53,7 @@ pub within : {text before after : List ℕ} {r : Printed} {n : ℕ} → Prints t
 within {text} {before} {after} {r} {n} p is =
     let a : some n ≡ cond (ltb (length before) (length text)) none (some (length text)) = rw is at (p .answer) in
     by-test (ltb (length before) (length text))
-    (λ e. let f : some n ≡ none = rw e at a in let z : _≡_ {A = ℕ} 0 1 = cc in absurd (omega arith))
+    (λ e. let f : some n ≡ none = rw e at a in zero-one cc)
     (λ e. let f : some n ≡ some (length text) = rw e at a in let z : n ≡ length text = cc in omega (arith, ltb-false (length before) (length text) e))
 
 module _ {text before after : List ℕ} {r : Printed} (p : Prints text before after r) (room : length text ≤ length before) where
@@ -71,5 +71,4 @@ module _ {text before after : List ℕ} {r : Printed} (p : Prints text before af
       let e = le-ltb (length before) (length text) room in
       let a : none ≡ cond (ltb (length before) (length text)) none (some (length text)) = rw is at (p .answer) in
       let s : none ≡ some (length text) = rw e at a in
-      let z : _≡_ {A = ℕ} 0 1 = cc in
-      omega arith
+      zero-one cc

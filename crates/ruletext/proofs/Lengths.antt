@@ -15,9 +15,10 @@ use native.Mathlib.Omega.{arith}
 use lib.Dec.{ltb}
 use lib.ListN.{length, getD, length-append}
 use borrow.Author.Tests.{ltb-true}
-use Rattle.masks.proofs.Cases.{by-test}
-use Rattle.text.specs.Numerals.{decimal, hex, joined}
-use Rattle.text.proofs.Pieces.{joined-length}
+use Rattle.base.specs.Lists.{joined}
+use Rattle.base.proofs.Lists.{joined-length}
+use Rattle.base.proofs.Tests.{by-test}
+use Rattle.text.specs.Numerals.{decimal, hex}
 use Rattle.text.proofs.Digits.{decimal-most, hex-length}
 use Rattle.build.specs.declared.Built.{Built}
 use Rattle.ruletext.specs.RuleText.{field, cellText, rowText, setLine, headLine, delegatesLine, ruleText, refusedText, startsWord, space, lineFeed}

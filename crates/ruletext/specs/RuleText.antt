@@ -11,7 +11,8 @@ use Prim.Native.Nat.{ℕ, _+_, _*_, min}
 use lib.Dec.{ltb}
 use lib.ListN.{getD}
 use Rattle.limits.specs.Limits.{mostStates, mostSymbols, mostSets, emptySet}
-use Rattle.text.specs.Numerals.{decimal, hex, joined}
+use Rattle.base.specs.Lists.{joined}
+use Rattle.text.specs.Numerals.{decimal, hex}
 use Rattle.build.specs.declared.BuildAnswer.{BuildAnswer}
 use Rattle.build.specs.declared.BuildAnswer.the-variants.{Accepted, Refused}
 use Rattle.build.specs.declared.Built.{Built}

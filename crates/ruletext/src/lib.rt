@@ -1,9 +1,9 @@
 // Prints a built rule into a lent buffer.
 ghost use mathlib.Core.Path.{_≡_};
-ghost use Prim.Native.Nat.{_+_, _*_, _≤_, _<_, min};
+ghost use Prim.Native.Nat.{_+_, _*_, _≤_, _<_};
 ghost use lib.ListN.{length, getD};
 ghost use Rattle.limits.specs.Limits.{mostStates, mostSymbols, mostSets};
-ghost use Rattle.text.specs.Numerals.{joined};
+ghost use Rattle.base.specs.Lists.{joined};
 ghost use Rattle.text.specs.Writing.{Wrote};
 ghost use Rattle.ruletext.specs.RuleText.{field, cellText, rowText, setLine, headLine, delegatesLine, ruleText, refusedText, textOf};
 ghost use Rattle.ruletext.specs.Printing.{Prints, textFor, mostBytes};
@@ -157,21 +157,14 @@ fn put_refused(out: &mut [u8], at: usize, number: u8) -> usize
     text::put_byte(out, b, b'\n')
 }
 
-// x, but no more than most.
-fn at_most(x: usize, most: usize) -> usize
-    ensures { λ r. ⌜ r ≡ min x most ⌝ }
-{
-    if x < most { x } else { most }
-}
-
 // The text of a built rule, from the start.
 fn put_rule(out: &mut [u8], built: Built) -> usize
     requires { ⌜ mostBytes ≤ length (now out) ⌝ }
     ensures { λ r. ⌜ (Wrote (now (out .entry)) 0 (ruleText built) (now (out .exit)) r) × (r ≤ mostBytes) ⌝ }
 {
-    let count = at_most(built.count as usize, limits::SETS);
-    let k = at_most(built.k as usize, limits::SYMBOLS);
-    let n = at_most(built.n as usize, limits::STATES);
+    let count = base::at_most(built.count as usize, limits::SETS);
+    let k = base::at_most(built.k as usize, limits::SYMBOLS);
+    let n = base::at_most(built.n as usize, limits::STATES);
     let sets = built.sets;
     let next = built.next;
     let delegates = built.delegates;

@@ -14,9 +14,9 @@ use borrow.Author.Tests.{ltb-true, ltb-false}
 use lib.Dec.{eqb, ltb}
 use lib.ListN.{length, take, drop}
 use lib.Seq.{drop-length}
-use Rattle.masks.proofs.Cases.{by-test}
+use Rattle.base.proofs.Tests.{by-test, either}
 use Rattle.lines.specs.Splitting.{upTo, linesFrom}
-use Rattle.lines.proofs.Splits.{either, up-whole}
+use Rattle.lines.proofs.Splits.{up-whole}
 use Rattle.lines.proofs.Parts.{part-rest, part-is}
 use Rattle.stream.specs.Feeding.{Part, ends, goesOn, before, partsOf, firstOf, partAt, partSize}
 use Rattle.stream.specs.Claims.{linesEnded, lineBegun, FirstPart}

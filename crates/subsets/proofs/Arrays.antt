@@ -15,8 +15,8 @@ use lib.Dec.{eqb, ltb}
 use lib.ListN.{length, getD, take, set, length-append, length-set, length-take}
 use lib.Seq.{getD-take, length-take-le, getD-append-seam, getD-set-same, getD-set-other}
 use borrow.Author.Tests.{eq-eqb, ne-eqb, lt-ltb, le-ltb, eqb-true, eqb-false, ltb-true, ltb-false}
-use Rattle.masks.proofs.Cases.{by-test}
-use Rattle.masks.proofs.Lists.{length-listFrom, cell-of, is-listFrom}
+use Rattle.base.proofs.Lists.{length-listFrom, cell-of, is-listFrom}
+use Rattle.base.proofs.Tests.{by-test, zero-one}
 use Rattle.automaton.specs.Successor.{successor}
 use Rattle.automaton.proofs.Laws.{successor-foreign}
 use Rattle.numbering.proofs.Numbers.{Has, nowhere, number-is, number-taken}
@@ -34,12 +34,12 @@ use Rattle.subsets.proofs.Numbers.{numbered-empty, numbered-kept, numbe
 -- ---- at most 512
 -- what is told of so many sets, where `over` says whether they are too many
 pub told-counted : (over : Bool) (count c : ℕ) → counted c ≡ cond over (refused 9) (counted count) → (over ≡ false) × (c ≡ count)
-told-counted true count c e = absurd (let z : _≡_ {A = ℕ} 0 1 = cc in omega arith)
+told-counted true count c e = zero-one cc
 told-counted false count c e = (refl, cc)
 
 pub told-refused : (over : Bool) (count : ℕ) → refused 9 ≡ cond over (refused 9) (counted count) → over ≡ true
 told-refused true count e = refl
-told-refused false count e = absurd (let z : _≡_ {A = ℕ} 0 1 = cc in omega arith)
+told-refused false count e = zero-one cc
 
 module _ (f : List ℕ) where
   pub limited-whole : length f ≤ 512 → counted (length f) ≡ limited f
@@ -106,13 +106,13 @@ found-has l m j e = go (ltb (numberIn l m) (length l)) refl e
   where
     go : (b : Bool) → ltb (numberIn l m) (length l) ≡ b → cond b (some (numberIn l m)) none ≡ some j → Has l m × (j ≡ numberIn l m)
     go true t h = (ltb-true (numberIn l m) (length l) t, cc)
-    go false t h = absurd (let z : _≡_ {A = ℕ} 0 1 = cc in omega arith)
+    go false t h = zero-one cc
 
 pub found-not : (l : List ℕ) (m : ℕ) → foundIn l m ≡ none → length l ≤ numberIn l m
 found-not l m e = go (ltb (numberIn l m) (length l)) refl e
   where
     go : (b : Bool) → ltb (numberIn l m) (length l) ≡ b → cond b (some (numberIn l m)) none ≡ none → length l ≤ numberIn l m
-    go true t h = absurd (let z : _≡_ {A = ℕ} 0 1 = cc in omega arith)
+    go true t h = zero-one cc
     go false t h = ltb-false (numberIn l m) (length l) t
 
 module _ (sets : List ℕ) (count : ℕ) (most : count ≤ 512) (are : sets ≡ cellsOf (take count sets)) where
@@ -170,7 +170,7 @@ module _ (l : List ℕ) (m : ℕ) (r : Numbered) (sets : List ℕ) (h : Entered 
     where
       go : (b : Bool) → ltb 512 (length (numbered l m)) ≡ b → named (j .0) c ≡ turn b
           → (length (numbered l m) ≤ 512) × (j .0 ≡ numberIn (numbered l m) m) × (c ≡ length (numbered l m))
-      go true t g = absurd (let z : _≡_ {A = ℕ} 0 1 = cc in omega arith)
+      go true t g = zero-one cc
       go false t g = (ltb-false 512 (length (numbered l m)) t, cc, cc)
 
   pub entered-over : r ≡ Full → 512 < length (numbered l m)
@@ -179,7 +179,7 @@ module _ (l : List ℕ) (m : ℕ) (r : Numbered) (sets : List ℕ) (h : Entered 
     where
       go : (b : Bool) → ltb 512 (length (numbered l m)) ≡ b → turned-down 9 ≡ turn b → 512 < length (numbered l m)
       go true t g = ltb-true 512 (length (numbered l m)) t
-      go false t g = absurd (let z : _≡_ {A = ℕ} 0 1 = cc in omega arith)
+      go false t g = zero-one cc
 
 -- ---- a set is expanded by a symbol
 module _ (ts sets next : List ℕ) (count i s m : ℕ) (most : count ≤ 512) (are : sets ≡ cellsOf (take count sets)) (below : i < count)

@@ -10,8 +10,8 @@ use lib.Arith.{lt-one}
 use lib.Dec.{ltb, lit<}
 use lib.ListN.{length, getD}
 use borrow.Author.Tests.{eq-eqb, ne-eqb, eqb-true, eqb-false, lt-ltb, ltb-true, ltb-false}
+use Rattle.base.proofs.Tests.{by-test}
 use Rattle.masks.specs.Masks.{single}
-use Rattle.masks.proofs.Cases.{by-test}
 use Rattle.masks.proofs.Laws.{union-lt, union-empty}
 use Rattle.automaton.specs.declared.Rule.{Rule}
 use Rattle.automaton.specs.Rules.{targetMask, WellFormed}

@@ -9,8 +9,8 @@ use borrow.Author.Tests.{lt-ltb, ltb-true}
 use lib.Dec.{ltb}
 use lib.ListN.{length, getD, take, length-take}
 use lib.Seq.{getD-take}
+use Rattle.base.proofs.Tests.{by-test}
 use Rattle.masks.specs.Masks.{single}
-use Rattle.masks.proofs.Cases.{by-test}
 use Rattle.subsets.specs.Sets.{numberIn}
 use Rattle.subsets.specs.Singles.{foundIn, singletonNumber}
 use Rattle.numbering.proofs.Numbers.{Has, number-le, number-at, stands}

@@ -8,8 +8,8 @@ use lib.Dec.{eqb, ltb}
 use lib.ListN.{length, getD, take, set, length-set}
 use lib.Seq.{getD-set-same, getD-set-other, length-take-le, getD-take, ext-getD}
 use borrow.Author.Tests.{eq-eqb, ne-eqb, lt-ltb, le-ltb, eqb-true, eqb-false, ltb-true, ltb-false}
-use Rattle.masks.proofs.Cases.{by-test}
-use Rattle.masks.proofs.Lists.{is-listFrom}
+use Rattle.base.proofs.Lists.{is-listFrom}
+use Rattle.base.proofs.Tests.{by-test}
 use Rattle.automaton.proofs.Laws.{successor-foreign}
 use Rattle.numbering.specs.Begins.{Begins}
 use Rattle.numbering.proofs.Numbers.{begins-self, begins-trans, begins-length, begins-at, begins-number}

@@ -13,8 +13,8 @@ use native.Mathlib.Numerals.{add-one}
 use native.Mathlib.Omega.{arith}
 use lib.ListN.{length, getD, take}
 use borrow.Author.Tests.{lt-ltb, le-ltb, ltb-false}
+use Rattle.base.proofs.Lists.{length-listFrom, cell-of}
 use Rattle.masks.specs.Masks.{single}
-use Rattle.masks.proofs.Lists.{length-listFrom, cell-of}
 use Rattle.numbering.specs.Numbering.{keysUpTo}
 use Rattle.numbering.specs.Begins.{Begins}
 use Rattle.numbering.proofs.Numbers.{begins-trans, begins-length, begins-at}

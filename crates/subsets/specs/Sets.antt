@@ -18,8 +18,8 @@ use Prim.Native.Nat.{ℕ, _/_, _%_, min}
 use lib.Dec.{eqb, ltb}
 use lib.ListN.{length, getD}
 use Rattle.limits.specs.Limits.{mostStates, mostSymbols, mostSets, tableCells}
+use Rattle.base.specs.Lists.{listFrom}
 use Rattle.masks.specs.Masks.{single}
-use Rattle.masks.specs.Lists.{listFrom}
 use Rattle.automaton.specs.Successor.{successor}
 use Rattle.numbering.specs.Numbering as keys
 use Rattle.numbering.specs.Numbering.{Walk, keysUpTo, numberOrNone, nextOf}

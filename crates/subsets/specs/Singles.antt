@@ -13,8 +13,8 @@ use Prim.Native.Nat.{ℕ}
 use lib.Dec.{ltb}
 use lib.ListN.{length, take}
 use Rattle.limits.specs.Limits.{mostStates, emptySet}
+use Rattle.base.specs.Lists.{listFrom}
 use Rattle.masks.specs.Masks.{single}
-use Rattle.masks.specs.Lists.{listFrom}
 use Rattle.subsets.specs.declared.Found.{Found}
 use Rattle.subsets.specs.declared.Found.the-variants.{At, Nothing}
 use Rattle.subsets.specs.Sets.{numberIn}

@@ -14,8 +14,8 @@ use Prim.Native.Nat.{ℕ, _+_, _*_, _/_, _%_, _≤_, _<_}
 use lib.Dec.{eqb, ltb}
 use lib.ListN.{length, getD, set}
 use Rattle.limits.specs.Limits.{mostSymbols, mostSets, emptySet, tableCells}
+use Rattle.base.specs.Lists.{listFrom}
 use Rattle.masks.specs.Masks.{single}
-use Rattle.masks.specs.Lists.{listFrom}
 use Rattle.automaton.specs.Successor.{successor}
 use Rattle.numbering.specs.Begins.{Begins}
 use Rattle.subsets.specs.declared.Numbered.{Numbered}

@@ -1,6 +1,6 @@
 // The sets of states that get a number, in the order of their numbers, and the next-set table.
 ghost use mathlib.Core.Path.{_≡_};
-ghost use Prim.Native.Nat.{_*_, _≤_, _<_, min};
+ghost use Prim.Native.Nat.{_*_, _≤_, _<_};
 ghost use lib.ListN.{length, take};
 ghost use Rattle.limits.specs.Limits.{mostStates, mostSymbols, mostSets};
 ghost use Rattle.subsets.specs.Singles.{foundOf, foundIn, singletonNumber, singlesOf};
@@ -38,19 +38,12 @@ pub struct SetTable {
     pub singles: [u16; limits::STATES],
 }
 
-// x, but no more than most.
-fn at_most(x: usize, most: usize) -> usize
-    ensures { λ r. ⌜ r ≡ min x most ⌝ }
-{
-    if x < most { x } else { most }
-}
-
 // The number of a set among the first count; a count above 512 is taken for 512.
 pub fn find(sets: &[u32; limits::SETS], count: usize, set: u32) -> Found
     ensures { λ r. ⌜ foundOf r ≡ foundIn (take count (now (sets .entry))) set ⌝ }
 {
     let cells: &[u32] = sets;
-    let most = at_most(count, limits::SETS);
+    let most = base::at_most(count, limits::SETS);
     let mut i: usize = 0;
     let found = loop {
         if i == most {
@@ -173,7 +166,7 @@ fn fill(
     ensures { λ r. ⌜ Answered (now (targets .entry)) n k r (now (sets .exit)) (now (next .exit)) ⌝ }
 {
     let mut count: usize = 0;
-    for q in 0..masks::at_most(n, limits::MOST_STATES) {
+    for q in 0..base::at_most_u8(n, limits::MOST_STATES) {
         match add_state(targets, k, sets, next, count, StateNumber(q)) {
             Numbering::Whole(after) => {
                 count = after;

@@ -11,9 +11,10 @@ use Prim.Native.Nat.{ℕ, _+_, _≤_}
 use native.Mathlib.Omega.{arith}
 use lib.ListN.{length, take, drop, length-append}
 use lib.Seq.{take-at}
-use Rattle.text.specs.Numerals.{joined}
+use Rattle.base.specs.Lists.{joined}
+use Rattle.base.proofs.Lists.{joined-none, joined-more}
 use Rattle.text.specs.Writing.{Wrote}
-use Rattle.text.proofs.Pieces.{wrote-none, wrote-more, wrote-length, joined-none, joined-more}
+use Rattle.text.proofs.Pieces.{wrote-none, wrote-more, wrote-length}
 
 pub record Put (before : List ℕ) (at : ℕ) (piece after : List ℕ) (end : ℕ) : Type 0 where
   pub wrote : Wrote before at piece after end

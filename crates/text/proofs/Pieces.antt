@@ -5,13 +5,11 @@
 --   wrote-length             the buffer keeps its length
 use mathlib.Core.Path.{_≡_, refl, sym, ap, ap₂, _∙_}
 use mathlib.Core.List.{List, [], _∷_, _++_, append-assoc}
-use Prim.Native.Nat.{ℕ, zero, suc, _+_, _*_, _≤_, _<_}
-use native.Mathlib.Nat.{suc-mul}
+use Prim.Native.Nat.{ℕ, _+_, _≤_, _<_}
 use native.Mathlib.Numerals.{add-one}
 use native.Mathlib.Omega.{arith}
 use lib.ListN.{length, take, drop, set, length-append, length-drop, take-append-drop}
 use lib.Seq.{length-take-le, take-at, drop-append-add, drop-drop, set-split}
-use Rattle.text.specs.Numerals.{joined}
 use Rattle.text.specs.Writing.{written, Wrote}
 
 pub wrote-none : (before : List ℕ) (at : ℕ) → Wrote before at [] before at
@@ -70,20 +68,3 @@ module _ (before : List ℕ) (at : ℕ) where
               ∙ ap (λ (x : ℕ). take at before ++ ((p ++ q) ++ drop x before)) sum;
           ends = v .ends ∙ ap (λ (x : ℕ). x + length q) (w .ends) ∙ sum;
         }
-
--- ---- pieces one after the other
-pub joined-none : (g : ℕ → List ℕ) → joined g 0 ≡ []
-unfolding joined
-joined-none g = refl
-
-pub joined-more : (g : ℕ → List ℕ) (i : ℕ) → joined g (i + 1) ≡ joined g i ++ g i
-unfolding joined
-joined-more g i = rw add-one
-
-pub joined-length : (g : ℕ → List ℕ) (n most : ℕ) → ((i : ℕ) → i < n → length (g i) ≤ most) → length (joined g n) ≤ n * most
-unfolding joined
-joined-length g zero most h = omega arith
-joined-length g (suc n) most h =
-    let l = joined-length g n most (λ i b. h i (omega arith)) in
-    let s : suc n * most ≡ n * most + most = suc-mul n most in
-    omega (arith, length-append (joined g n) (g n), h n (omega arith))

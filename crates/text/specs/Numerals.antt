@@ -2,7 +2,6 @@
 --
 --   decimal n       the decimal digits of n, without leading zeros; for numbers below 10 ^ 20
 --   hex width n     `width` upper-case hex digits of n, the highest first
---   joined g n      g 0, g 1, .. g (n − 1), one after the other
 use mathlib.Core.Bool.{cond}
 use mathlib.Core.List.{List, [], _∷_, _++_}
 use Prim.Native.Nat.{ℕ, zero, suc, _+_, _/_, _%_}
@@ -23,7 +22,3 @@ hexDigit d = cond (ltb d 10) (48 + d) (55 + d)
 unfoldable pub hex : ℕ → ℕ → List ℕ
 hex zero n = []
 hex (suc width) n = hex width (n / 16) ++ (hexDigit (n % 16) ∷ [])
-
-unfoldable pub joined : (ℕ → List ℕ) → ℕ → List ℕ
-joined g zero = []
-joined g (suc i) = joined g i ++ g i

@@ -7,9 +7,9 @@ use native.Mathlib.Omega.{arith}
 use lib.Dec.{eqb}
 use lib.ListN.{getD}
 use borrow.Author.Tests.{eq-eqb, ne-eqb}
-use Rattle.chunks.specs.Chunks.{total}
-use Rattle.chunks.proofs.Totals.{total-more}
-use Rattle.board.proofs.Totals.{one-most}
+use Rattle.base.specs.Totals.{total}
+use Rattle.base.proofs.Tests.{one-most}
+use Rattle.base.proofs.Totals.{total-more}
 use Rattle.board.proofs.count_empty.Statement.{statement}
 use Rattle.board.proofs.count_empty.Tie as tie
 

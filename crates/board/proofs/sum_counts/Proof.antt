@@ -4,8 +4,8 @@ use Prim.Native.Nat.{ℕ, _+_, _*_, _-_, _≤_}
 use native.Mathlib.Omega.{arith}
 use lib.ListN.{getD}
 use borrow.Author.Needs.{needs}
-use Rattle.chunks.specs.Chunks.{total}
-use Rattle.chunks.proofs.Totals.{total-more}
+use Rattle.base.specs.Totals.{total}
+use Rattle.base.proofs.Totals.{total-more}
 use Rattle.board.proofs.sum_counts.Statement.{statement}
 use Rattle.board.proofs.sum_counts.Tie as tie
 

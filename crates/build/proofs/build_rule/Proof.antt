@@ -14,11 +14,11 @@ enum-known-numbered c = search needs
 merge-starts-requires : tie.Need-merge-starts-requires
 merge-starts-requires c κs = search needs
 
-at-most-requires : tie.Need-at-most-requires
-at-most-requires c κs = search needs
+at-most-u8-requires : tie.Need-at-most-u8-requires
+at-most-u8-requires c κs = search needs
 
-at-most-requires-2 : tie.Need-at-most-requires-2
-at-most-requires-2 c κs = search needs
+at-most-u8-requires-2 : tie.Need-at-most-u8-requires-2
+at-most-u8-requires-2 c κs = search needs
 
 cast-t26 : tie.Need-cast-t26
 cast-t26 c =
@@ -50,10 +50,10 @@ returns c =
     let x = y .numbered .given in
     let m = c .before .before .before .merge-starts in
     whole r (t .result) (t .ensures) (x .0 .0) (x .1) (m .result) (m .ensures)
-    (c .before .at-most .result)
-    (c .at-most2 .result)
-    (c .before .at-most .ensures)
-    (c .at-most2 .ensures)
+    (c .before .at-most-u8 .result)
+    (c .at-most-u82 .result)
+    (c .before .at-most-u8 .ensures)
+    (c .at-most-u82 .ensures)
 
 returns-2 : tie.Need-returns-2
 returns-2 c =
@@ -68,8 +68,8 @@ build-rule-spec =
     number-sets-requires
     enum-known-numbered
     merge-starts-requires
-    at-most-requires
-    at-most-requires-2
+    at-most-u8-requires
+    at-most-u8-requires-2
     cast-t26
     cast-t26-2
     enum-told

@@ -6,8 +6,8 @@ use native.Mathlib.Omega.{arith}
 use borrow.Author.Needs.{needs}
 use lib.Bits.{bitOr}
 use lib.ListN.{getD}
+use Rattle.masks.proofs.Laws.{union-member, union-other}
 use Rattle.masks.specs.Masks.{single, union}
-use Rattle.chunks.proofs.Starts.{union-member, union-other}
 use Rattle.chunks.proofs.delegate_mask.Statement.{statement}
 use Rattle.chunks.proofs.delegate_mask.Tie as tie
 
@@ -17,8 +17,8 @@ Inv-loop n set delegates most out₀ q₀ out q = (q ≤ min n 32) × (out ≡ u
 abbrev μ-loop : tie.MeasureT-loop
 μ-loop n set delegates most out₀ q₀ out q = min n 32 - q
 
-at-most-requires : tie.Need-at-most-requires Inv-loop μ-loop
-at-most-requires c κs = search needs
+at-most-u8-requires : tie.Need-at-most-u8-requires Inv-loop μ-loop
+at-most-u8-requires c κs = search needs
 
 loop-holds : tie.Need-loop-holds Inv-loop μ-loop
 unfolding union
@@ -74,7 +74,7 @@ delegate-mask-spec =
     (tie.spec
     Inv-loop
     μ-loop
-    at-most-requires
+    at-most-u8-requires
     loop-holds
     member-requires
     cast-i

@@ -16,8 +16,8 @@ Inv-loop n delegates most starts₀ q₀ starts q = (q ≤ min n 32) × (starts 
 abbrev μ-loop : tie.MeasureT-loop
 μ-loop n delegates most starts₀ q₀ starts q = min n 32 - q
 
-at-most-requires : tie.Need-at-most-requires Inv-loop μ-loop
-at-most-requires c κs = search needs
+at-most-u8-requires : tie.Need-at-most-u8-requires Inv-loop μ-loop
+at-most-u8-requires c κs = search needs
 
 loop-holds : tie.Need-loop-holds Inv-loop μ-loop
 unfolding startSet
@@ -64,7 +64,7 @@ start-mask-spec =
     (tie.spec
     Inv-loop
     μ-loop
-    at-most-requires
+    at-most-u8-requires
     loop-holds
     cast-i
     array-read-if1

@@ -21,14 +21,14 @@ Inv-loop sets next singles finals n k states symbols class own₀ delegates₀ s
 abbrev μ-loop : tie.MeasureT-loop
 μ-loop sets next singles finals n k states symbols class own₀ delegates₀ starts₀ q₀ own delegates starts q = min n 32 - q
 
-at-most-requires : tie.Need-at-most-requires Inv-loop μ-loop
-at-most-requires c κs = search needs
+at-most-u8-requires : tie.Need-at-most-u8-requires Inv-loop μ-loop
+at-most-u8-requires c κs = search needs
 
 cast-states : tie.Need-cast-states Inv-loop μ-loop
 cast-states c = search needs
 
-at-most-requires-2 : tie.Need-at-most-requires-2 Inv-loop μ-loop
-at-most-requires-2 c κs = search needs
+at-most-u8-requires-2 : tie.Need-at-most-u8-requires-2 Inv-loop μ-loop
+at-most-u8-requires-2 c κs = search needs
 
 cast-symbols : tie.Need-cast-symbols Inv-loop μ-loop
 cast-symbols c = search needs
@@ -92,8 +92,8 @@ loop-again c =
     let d = c .before .before .delegate in
     let x : ℕ = y .single .result .0 in
     let is : classOf (m .refine .result) x ≡ classAt (a .sets .now) (a .next .now) (a .finals) (a .singles .now) (min (a .k) 16) (l .q) =
-    rw (m .refine .ensures, m .before .at-most2 .ensures, y .single .ensures) in
-    let below : l .q < min (a .n) 32 = rw (m .before .before .at-most .ensures) at (y .before .loop-test .taken) in
+    rw (m .refine .ensures, m .before .at-most-u82 .ensures, y .single .ensures) in
+    let below : l .q < min (a .n) 32 = rw (m .before .before .at-most-u8 .ensures) at (y .before .loop-test .taken) in
     let counted : c .if1 .starts ≡ l .starts + cond (eqb (d .result .0) (l .q)) 1 0 =
     ⊎-elim
     (λ w. w .1 ∙ rw (eq-eqb (d .result .0) (l .q) (w .0 .taken)))
@@ -123,9 +123,9 @@ merge-starts-spec =
     (tie.spec
     Inv-loop
     μ-loop
-    at-most-requires
+    at-most-u8-requires
     cast-states
-    at-most-requires-2
+    at-most-u8-requires-2
     cast-symbols
     refine-requires
     loop-holds

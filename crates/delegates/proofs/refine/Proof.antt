@@ -6,9 +6,9 @@ use mathlib.Core.List.{List}
 use Prim.Native.Nat.{ℕ, suc, _-_}
 use native.Mathlib.Omega.{arith}
 use lib.ListN.{length, replicate}
-use Rattle.masks.proofs.Lists.{length-listFrom}
+use Rattle.base.proofs.Lists.{length-listFrom, zero-cells}
 use Rattle.delegates.specs.Refinement.{classOf, leastOf}
-use Rattle.delegates.proofs.Lists.{zero-cells, kept, kept-most}
+use Rattle.delegates.proofs.Kept.{kept, kept-most}
 use Rattle.delegates.proofs.Classes.{ClassesTo, started, after-round, rises, done}
 use Rattle.delegates.proofs.refine.Statement.{statement}
 use Rattle.delegates.proofs.refine.Tie as tie

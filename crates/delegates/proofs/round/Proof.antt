@@ -10,7 +10,7 @@ use borrow.Author.Needs.{needs}
 use borrow.Author.Tests.{eq-eqb, ne-eqb}
 use lib.Dec.{eqb}
 use lib.ListN.{length, length-set}
-use Rattle.masks.proofs.Lists.{cell-stored, is-listFrom}
+use Rattle.base.proofs.Lists.{cell-stored, is-listFrom}
 use Rattle.delegates.specs.Classes.{every}
 use Rattle.delegates.specs.Refinement.{classOf, leastOf}
 use Rattle.delegates.proofs.Tests.{every-more, every-fails}

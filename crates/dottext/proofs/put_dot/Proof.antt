@@ -4,11 +4,11 @@ use borrow.Author.Needs.{needs}
 use Rattle.dottext.proofs.put_dot.Statement.{statement}
 use Rattle.dottext.proofs.put_dot.Tie as tie
 
-at-most-requires : tie.Need-at-most-requires
-at-most-requires c κs = search needs
+at-most-u8-requires : tie.Need-at-most-u8-requires
+at-most-u8-requires c κs = search needs
 
-at-most-requires-2 : tie.Need-at-most-requires-2
-at-most-requires-2 c κs = search needs
+at-most-u8-requires-2 : tie.Need-at-most-u8-requires-2
+at-most-u8-requires-2 c κs = search needs
 
 put-head-requires : tie.Need-put-head-requires
 put-head-requires c κs = search needs
@@ -34,8 +34,8 @@ same-length c = search needs
 returns : tie.Need-returns
 returns c =
     let s = c .before .before .before .before .before .before .before .before .before .before .before .before .before .before .before .before .before .before .before .before .before .before .before .before .before .before in
-    let n = c .before .before .before .before .before .before .before .before .before .before .before .before .before .before .before .before .before .before .before .before .before .before .before .before .at-most in
-    let k = c .before .before .before .before .before .before .before .before .before .before .before .before .before .before .before .before .before .before .before .before .before .before .before .at-most2 in
+    let n = c .before .before .before .before .before .before .before .before .before .before .before .before .before .before .before .before .before .before .before .before .before .before .before .before .at-most-u8 in
+    let k = c .before .before .before .before .before .before .before .before .before .before .before .before .before .before .before .before .before .before .before .before .before .before .before .at-most-u82 in
     whole (s .args .rule) (n .result) (k .result) (n .ensures) (k .ensures) (s .pre)
     (c .before .before .before .before .before .before .before .before .before .before .before .before .before .before .before .before .before .before .before .before .put-head .ensures)
     (c .before .before .before .before .before .before .before .before .before .before .before .before .before .before .before .before .put-states .ensures)
@@ -47,8 +47,8 @@ pub put-dot-spec : {M : Type 1} → statement M
 put-dot-spec =
     tie.close
     (tie.spec
-    at-most-requires
-    at-most-requires-2
+    at-most-u8-requires
+    at-most-u8-requires-2
     put-head-requires
     put-states-requires
     put-initials-requires

@@ -3,7 +3,7 @@ use native.Mathlib.Omega.{arith}
 use Prim.Native.Nat.{_+_, _*_, _-_, _≤_, _<_}
 use mathlib.Core.Path.{_≡_}
 use lib.ListN.{length}
-use Rattle.text.specs.Numerals.{joined}
+use Rattle.base.specs.Lists.{joined}
 use Rattle.text.proofs.Fitting.{Put, none-put, one-more}
 use Rattle.text.proofs.Rooms.{placed}
 use Rattle.dottext.specs.DotText.{arcsBy}

@@ -1,26 +1,15 @@
 -- `join_place` meets its contract: the union over the members below q. Assumes nothing.
 use mathlib.Core.Path.{_≡_, refl, sym, ap, ap₂, _∙_}
 use mathlib.Core.Logic.{⊎-elim}
-use mathlib.Core.Bool.{true, false}
 use Prim.Native.Nat.{ℕ, _+_, _*_, _-_, _%_, _≤_}
-use native.Mathlib.Numerals.{add-one}
 use native.Mathlib.Omega.{arith}
-use lib.Bits.{bitOr, or-zero-r}
+use lib.Bits.{bitOr}
 use lib.ListN.{getD}
 use borrow.Author.Needs.{needs}
-use Rattle.masks.specs.Masks.{has, union}
+use Rattle.masks.proofs.Laws.{union-member, union-other}
+use Rattle.masks.specs.Masks.{union}
 use Rattle.joins.proofs.join_place.Statement.{statement}
 use Rattle.joins.proofs.join_place.Tie as tie
-
--- one state more, which is a member or not
-module _ (f : ℕ → ℕ) (m q : ℕ) where
-  union-more : has m q ≡ true → bitOr (union f m q) (f q) ≡ union f m (q + 1)
-  unfolding union
-  union-more e = rw (add-one, e)
-
-  union-same : has m q ≡ false → union f m q ≡ union f m (q + 1)
-  unfolding union
-  union-same e = rw (add-one, e, or-zero-r)
 
 abbrev Inv-loop : tie.InvT-loop
 Inv-loop ends delegates n set place joined₀ q₀ joined q = (q ≤ n) × (joined ≡ union (λ p. getD ends (place * 32 + getD delegates p 0 % 32) 0) set q)
@@ -64,8 +53,8 @@ loop-again c =
           w .4
           ∙ w .3 .ensures
           ∙ ap₂ bitOr (x .inv .1) (w .2 .ensures ∙ ap (λ (d : ℕ). getD (a .ends .now) (a .place * 32 + d % 32) 0) (w .1 .ensures))
-          ∙ union-more f (a .set) (x .q) (sym (c .before .member .ensures) ∙ w .0 .taken))
-          (λ w. w .1 ∙ x .inv .1 ∙ union-same f (a .set) (x .q) (sym (c .before .member .ensures) ∙ w .0 .left))
+          ∙ union-member f (a .set) (x .q) (sym (c .before .member .ensures) ∙ w .0 .taken))
+          (λ w. w .1 ∙ x .inv .1 ∙ union-other f (a .set) (x .q) (sym (c .before .member .ensures) ∙ w .0 .left))
           (c .if1 .came),
     )
 

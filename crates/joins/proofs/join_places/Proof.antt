@@ -14,8 +14,8 @@ Inv-loop ends delegates n initials places states set₀ place₀ set place = (pl
 abbrev μ-loop : tie.MeasureT-loop
 μ-loop ends delegates n initials places states set₀ place₀ set place = places - place
 
-at-most-requires : tie.Need-at-most-requires Inv-loop μ-loop
-at-most-requires c κs = search needs
+at-most-u8-requires : tie.Need-at-most-u8-requires Inv-loop μ-loop
+at-most-u8-requires c κs = search needs
 
 loop-holds : tie.Need-loop-holds Inv-loop μ-loop
 unfolding joinUpTo
@@ -37,8 +37,8 @@ loop-again : tie.Need-loop-again Inv-loop μ-loop
 unfolding joinUpTo
 loop-again c =
     let x = c .before .before .loop in
-    let s : ℕ = c .before .before .before .at-most .result in
-    let e : s ≡ min (c .before .before .before .before .args .n) 32 = c .before .before .before .at-most .ensures in
+    let s : ℕ = c .before .before .before .at-most-u8 .result in
+    let e : s ≡ min (c .before .before .before .before .args .n) 32 = c .before .before .before .at-most-u8 .ensures in
     (omega arith, rw (add-one, ← e, ← x .inv .1) (c .join-place .ensures))
 
 returns : tie.Need-returns Inv-loop μ-loop
@@ -53,7 +53,7 @@ join-places-spec =
     (tie.spec
     Inv-loop
     μ-loop
-    at-most-requires
+    at-most-u8-requires
     loop-holds
     cast-join-place
     join-place-requires

@@ -4,14 +4,14 @@ use Rattle.linebuffer.proofs.Kept.{fits-prefix, fits-room, holds-buffer
 use Rattle.linebuffer.proofs.hold.Statement.{statement}
 use Rattle.linebuffer.proofs.hold.Tie as tie
 
-least-requires : tie.Need-least-requires
-least-requires c κs = search needs
+at-most-requires : tie.Need-at-most-requires
+at-most-requires c κs = search needs
 
-sub-least : tie.Need-sub-least
-sub-least c = search needs
+sub-at-most : tie.Need-sub-at-most
+sub-at-most c = search needs
 
-least-requires-2 : tie.Need-least-requires-2
-least-requires-2 c κs = search needs
+at-most-requires-2 : tie.Need-at-most-requires-2
+at-most-requires-2 c κs = search needs
 
 slice-aggregate-put-bytes : tie.Need-slice-aggregate-put-bytes
 slice-aggregate-put-bytes c = search (needs, fits-prefix)
@@ -47,9 +47,9 @@ pub hold-spec : {M : Type 1} → statement M
 hold-spec =
     tie.close
     (tie.spec
-    least-requires
-    sub-least
-    least-requires-2
+    at-most-requires
+    sub-at-most
+    at-most-requires-2
     slice-aggregate-put-bytes
     put-bytes-requires
     sub-hex-with

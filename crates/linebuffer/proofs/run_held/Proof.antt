@@ -4,8 +4,8 @@ use Rattle.linebuffer.proofs.Standing.{stands-within, stands-prefix, he
 use Rattle.linebuffer.proofs.run_held.Statement.{statement}
 use Rattle.linebuffer.proofs.run_held.Tie as tie
 
-least-requires : tie.Need-least-requires
-least-requires c κs = search needs
+at-most-requires : tie.Need-at-most-requires
+at-most-requires c κs = search needs
 
 stands-requires : tie.Need-stands-requires
 stands-requires c κs = search needs
@@ -44,7 +44,7 @@ pub run-held-spec : {M : Type 1} → statement M
 run-held-spec =
     tie.close
     (tie.spec
-    least-requires
+    at-most-requires
     stands-requires
     sub-hex-with
     part-hex-with-start

@@ -1,10 +1,10 @@
 -- `arcs_break` meets its contract. The loop's invariant: no section before q has a bad arc. Each section lies in the file, since condition 7
 -- does not hold. Assumes nothing.
+use Rattle.base.specs.Conditions.{anyBelow}
+use Rattle.base.proofs.Conditions.{none-yet, none-more, any-at}
 use Rattle.ruleformat.proofs.Pairs.{within, section-part}
-use Rattle.ruleformat.proofs.Conditions.{none-yet, none-more, any-at}
 use Rattle.ruleformat.specs.Refusals.{badPairs, badSection, badArcs}
 use Rattle.ruleformat.specs.Format.{stateCount, symbolCount, offsetOf, lengthOf, section}
-use Rattle.ruleformat.specs.Conditions.{anyBelow}
 use lib.ListN.{length, take, drop}
 use native.Mathlib.Omega.{arith}
 use Prim.Native.Nat.{ℕ, _+_, _-_, _*_, _≤_, _<_}

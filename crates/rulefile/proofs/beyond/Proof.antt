@@ -1,5 +1,4 @@
 -- `beyond` meets its contract: a shift by n leaves no bit of a mask below 2 ^ n, and only of such a one. Assumes nothing.
-use Rattle.masks.proofs.Cases.{by-test}
 use borrow.Author.Tests.{eq-eqb, ne-eqb, leb-true, leb-false}
 use lib.Pow.{pow-pos}
 use lib.Dec.{eqb, leb}
@@ -9,6 +8,7 @@ use Prim.Native.Nat.{ℕ, _/_, _^_, _≤_}
 use mathlib.Core.Bool.{not}
 use mathlib.Core.Path.{_≡_, ap, sym, _∙_}
 use borrow.Author.Needs.{needs}
+use Rattle.base.proofs.Tests.{by-test}
 use Rattle.rulefile.proofs.beyond.Statement.{statement}
 use Rattle.rulefile.proofs.beyond.Tie as tie
 

@@ -1,11 +1,11 @@
 -- `build` meets its contract. The loop's invariant: the table has the arcs of the sections before q, and no others. Assumes nothing.
+use Rattle.base.proofs.Lists.{is-listFrom}
 use Rattle.ruleformat.proofs.Accepted.{accepted, tabled}
 use Rattle.ruleformat.proofs.Tables.{cellUpTo, no-section, section-stored}
 use Rattle.ruleformat.proofs.Pairs.{within, section-part}
 use Rattle.ruleformat.specs.Reader.{targetsBy, targetsFrom}
 use Rattle.ruleformat.specs.Refusals.{badSection, refusal}
 use Rattle.ruleformat.specs.Format.{stateCount, symbolCount}
-use Rattle.masks.proofs.Lists.{is-listFrom}
 use lib.Bits.{bitOr}
 use lib.Dec.{eqb}
 use lib.ListN.{length, getD}

@@ -1,10 +1,10 @@
 -- `section_breaks` meets its contract. The loop's invariant: no arc before i breaks the rule, and `past` is one more than the arc before i,
 -- as a number. Assumes nothing.
+use Rattle.base.specs.Conditions.{anyBelow}
+use Rattle.base.proofs.Conditions.{none-yet, none-more}
 use Rattle.ruleformat.proofs.Arcs.{pastOf, bad-symbol, bad-target, bad-order, good-arc, section-at, section-end}
-use Rattle.ruleformat.proofs.Conditions.{none-yet, none-more}
 use Rattle.ruleformat.specs.Refusals.{badArc}
 use Rattle.ruleformat.specs.Format.{arcCount}
-use Rattle.ruleformat.specs.Conditions.{anyBelow}
 use native.Mathlib.Omega.{arith}
 use native.Mathlib.Numerals.{add-one}
 use Prim.Native.Nat.{ℕ, _+_, _-_, _*_, _≤_}

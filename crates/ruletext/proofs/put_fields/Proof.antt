@@ -3,7 +3,7 @@ use native.Mathlib.Omega.{arith}
 use Prim.Native.Nat.{ℕ, _+_, _*_, _-_, _≤_, _<_}
 use mathlib.Core.Path.{_≡_}
 use lib.ListN.{length, getD}
-use Rattle.text.specs.Numerals.{joined}
+use Rattle.base.specs.Lists.{joined}
 use Rattle.ruletext.specs.RuleText.{field}
 use Rattle.text.proofs.Fitting.{Put, put, none-put, one-more}
 use Rattle.ruletext.proofs.Lengths.{field-most, fields-most}

@@ -21,15 +21,15 @@ Inv-loop targets n k sets₀ next₀ count₀ q₀ q-end sets next count q =
 abbrev μ-loop : tie.MeasureT-loop
 μ-loop targets n k sets₀ next₀ count₀ q₀ q-end sets next count q = q-end - q
 
-at-most-requires : tie.Need-at-most-requires Inv-loop μ-loop
-at-most-requires c κs = search needs
+at-most-u8-requires : tie.Need-at-most-u8-requires Inv-loop μ-loop
+at-most-u8-requires c κs = search needs
 
 loop-holds : tie.Need-loop-holds Inv-loop μ-loop
 unfolding keysUpTo
 loop-holds c =
     let s = c .before in
     let a = s .args in
-    (c .at-most .ensures, omega arith, omega arith, refl, begin (a .targets .now) (a .k) (a .sets .now) (a .next .now) (s .pre))
+    (c .at-most-u8 .ensures, omega arith, omega arith, refl, begin (a .targets .now) (a .k) (a .sets .now) (a .next .now) (s .pre))
 
 add-state-requires : tie.Need-add-state-requires Inv-loop μ-loop
 add-state-requires c κs =
@@ -80,7 +80,7 @@ fill-spec =
     (tie.spec
     Inv-loop
     μ-loop
-    at-most-requires
+    at-most-u8-requires
     loop-holds
     add-state-requires
     enum-known-after

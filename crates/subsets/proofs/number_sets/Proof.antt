@@ -2,7 +2,7 @@
 -- leaves in them is the table. Assumes nothing.
 use mathlib.Core.Path.{refl}
 use borrow.Author.Needs.{needs}
-use Rattle.masks.specs.Lists.{listFrom}
+use Rattle.base.specs.Lists.{listFrom}
 use Rattle.subsets.proofs.Tables.{table-whole, table-over}
 use Rattle.subsets.proofs.number_sets.Statement.{statement}
 use Rattle.subsets.proofs.number_sets.Tie as tie

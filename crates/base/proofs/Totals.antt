@@ -1,23 +1,25 @@
--- The laws of `total`: one state more, the same sum of the same numbers, bounds, and states with nothing to add. Assumes nothing.
+-- The laws of `total`, the sum over the numbers below a bound. Assumes nothing.
+--
+--   total-more, total-first   one number more, and the first apart
+--   total-same                the same sum of the same numbers
+--   total-most, term-most     a bound of the sum; a term is at most the sum
+--   total-rest                numbers that add nothing
 use mathlib.Core.Path.{_≡_, refl, ap}
-use mathlib.Core.Bool.{Bool, true, false, cond}
-use mathlib.Core.List.{List}
+use mathlib.Core.Logic.{⊎-elim}
 use Prim.Native.Nat.{ℕ, zero, suc, _+_, _*_, _≤_, _<_}
+use native.Mathlib.Nat.{suc-mul, eq-or-lt-of-le, le-of-suc-le-suc}
 use native.Mathlib.Numerals.{add-one}
 use native.Mathlib.Omega.{arith}
-use lib.Dec.{eqb}
-use lib.ListN.{getD}
-use native.Mathlib.Nat.{add-mul, suc-mul}
-use Rattle.delegates.specs.Alike.{startCount}
-use Rattle.chunks.specs.Chunks.{total}
-
-pub either-most : (b : Bool) {x y most : ℕ} → x ≤ most → y ≤ most → cond b x y ≤ most
-either-most true h l = h
-either-most false h l = l
+use Rattle.base.specs.Totals.{total}
 
 pub total-more : (f : ℕ → ℕ) (q : ℕ) → total f (q + 1) ≡ total f q + f q
 unfolding total
 total-more f q = rw add-one
+
+pub total-first : (f : ℕ → ℕ) (n : ℕ) → total f (suc n) ≡ f 0 + total (λ p. f (suc p)) n
+unfolding total
+total-first f zero = omega arith
+total-first f (suc n) = omega (arith, total-first f n)
 
 pub total-same : (f g : ℕ → ℕ) (n : ℕ) → ((q : ℕ) → q < n → f q ≡ g q) → total f n ≡ total g n
 unfolding total
@@ -29,18 +31,16 @@ unfolding total
 total-most f most zero h = omega arith
 total-most f most (suc n) h = rw suc-mul (omega (arith, total-most f most n (λ q l. h q (omega arith)), h n (omega arith)))
 
--- states from n on that add nothing
+pub term-most : (f : ℕ → ℕ) (n p : ℕ) → p < n → f p ≤ total f n
+unfolding total
+term-most f zero p h = absurd (omega arith)
+term-most f (suc n) p h =
+    ⊎-elim (λ e. rw e (omega arith)) (λ l. omega (arith, term-most f n p l)) (eq-or-lt-of-le (le-of-suc-le-suc h))
+
+-- from n on they add nothing
 pub total-rest : (f : ℕ → ℕ) (k n : ℕ) → ((q : ℕ) → n ≤ q → f q ≡ 0) → total f (k + n) ≡ total f n
 unfolding total
 total-rest f zero n h = let e : 0 + n ≡ n = omega arith in ap (total f) e
 total-rest f (suc k) n h =
     let e : suc k + n ≡ suc (k + n) = omega arith in
     rw e (omega (arith, total-rest f k n h, h (k + n) (omega arith)))
-
--- where only states that are their own delegate add, and each at most so much, the whole is at most M times that
-pub total-starts : (f : ℕ → ℕ) (d : List ℕ) (most n : ℕ) → ((q : ℕ) → q < n → f q ≤ cond (eqb (getD d q 0) q) 1 0 * most)
-    → total f n ≤ startCount d n * most
-unfolding total startCount
-total-starts f d most zero h = omega arith
-total-starts f d most (suc n) h =
-    rw (add-mul (startCount d n) (cond (eqb (getD d n 0) n) 1 0) most) (omega (arith, total-starts f d most n (λ q l. h q (omega arith)), h n (omega arith)))

@@ -1,22 +1,13 @@
--- Lists of numbers: a list of zeros, how many numbers a function keeps, and what a store does to all the cells passed. Assumes nothing.
-use mathlib.Core.Path.{_≡_, refl}
+-- How many of the numbers below a bound a function keeps (`kept`), and when that grows. Assumes nothing.
+use mathlib.Core.Path.{_≡_}
 use mathlib.Core.Logic.{⊎-elim}
 use mathlib.Core.Bool.{cond}
-use mathlib.Core.List.{List}
 use Prim.Native.Nat.{ℕ, zero, suc, _+_, _≤_, _<_, zero-le}
 use native.Mathlib.Nat.{le-of-suc-le-suc, eq-or-lt-of-le}
 use native.Mathlib.Omega.{arith}
-use borrow.Author.Count.{below-more}
 use borrow.Author.Tests.{eq-eqb, ne-eqb, eqb-true}
 use lib.Dec.{eqb}
-use lib.ListN.{length, getD, set, replicate}
-use lib.Seq.{getD-set-same, getD-set-other}
-use Rattle.masks.proofs.Cases.{by-test}
-
-pub zero-cells : (n i : ℕ) → getD {A = ℕ} (replicate n 0) i 0 ≡ 0
-zero-cells zero i = refl
-zero-cells (suc n) zero = refl
-zero-cells (suc n) (suc i) = zero-cells n i
+use Rattle.base.proofs.Tests.{by-test}
 
 -- how many of the numbers below n the function keeps
 unfoldable pub kept : (ℕ → ℕ) → ℕ → ℕ
@@ -52,13 +43,3 @@ kept-less c d (suc n) up u h ne e =
     let ih = kept-less c d n (λ b l. up b (omega arith)) u l ne e in
     omega (arith, cell-le (c n) (d n) n (up n (omega arith))))
     (eq-or-lt-of-le (le-of-suc-le-suc h))
-
--- a loop that fills a list from the front: what holds of each element passed
-pub stored : (P : ℕ → ℕ → Type 0) (l : List ℕ) (i v : ℕ) → i < length l → ((b : ℕ) → b < i → P b (getD l b 0)) → P i v
-    → (b : ℕ) → b < i + 1 → P b (getD (set l i v) b 0)
-stored P l i v h all here =
-    below-more
-    (λ b. P b (getD (set l i v) b 0))
-    i
-    (λ b m. rw (getD-set-other l i b v 0 (λ e. omega arith)) (all b m))
-    (rw (getD-set-same l i v 0 h) here)
