@@ -142,6 +142,6 @@ module _ (skips : ℕ → Bool) (l : List ℕ) (m : ℕ) where
   pub numbered-has : skips m ≡ false → Has (numbered skips l m) m
   numbered-has ne =
       by-turn (λ x. Has x m)
-      (λ z. absurd (not-both z ne))
+      (λ z. not-both z ne)
       (λ _ h. h)
       (λ _ h. let e = number-taken l m h in rw length-append (omega arith))

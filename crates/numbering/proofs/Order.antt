@@ -227,13 +227,13 @@ module _ (a : Walk) (seed : ℕ → ℕ) (n : ℕ) (sinks : Sinks a) (most : len
   ends-from x p v [] h c ne = rw append-nil h
   ends-from x p v (s ∷ w) h (more b c) ne =
       let kept : a .skips (a .step x s) ≡ false =
-      by-test (a .skips (a .step x s)) (λ z. absurd (not-both (skipped-after a sinks (a .step x s) w c z) ne)) (λ z. z) in
+      by-test (a .skips (a .step x s)) (λ z. not-both (skipped-after a sinks (a .step x s) w c z) ne) (λ z. z) in
       subst (Ends (follow a (a .step x s) w) p) (append-assoc v (s ∷ []) w) (ends-from (a .step x s) p (v ++ (s ∷ [])) w (turn-ends x p s v h b kept) c ne)
 
   ends : (p : ℕ) (w : List ℕ) → p < n → Symbols (a .k) w → a .skips (follow a (seed p) w) ≡ false → Ends (follow a (seed p) w) p w
   ends p w b c ne =
       ends-from (seed p) p [] w
-      (seed-ends p b (by-test (a .skips (seed p)) (λ z. absurd (not-both (skipped-after a sinks (seed p) w c z) ne)) (λ z. z)))
+      (seed-ends p b (by-test (a .skips (seed p)) (λ z. not-both (skipped-after a sinks (seed p) w c z) ne) (λ z. z)))
       c
       ne
 

@@ -109,7 +109,7 @@ module _ (a : Walk) (seed : ℕ → ℕ) (n : ℕ) where
       leads-in m (s ∷ w) (more c p) h ne =
           leads-in (a .step m s) w p
           (subst (λ (x : ℕ). Covers a keys (a .step x s)) (number-at keys m h) (covered (numberIn keys m) s h c)
-          (by-test (a .skips (a .step m s)) (λ z. absurd (not-both (skipped-after a sinks (a .step m s) w p z) ne)) (λ z. z)))
+          (by-test (a .skips (a .step m s)) (λ z. not-both (skipped-after a sinks (a .step m s) w p z) ne) (λ z. z)))
           ne
 
       reached-has : (m : ℕ) → Reach a seed n m → Has keys m
@@ -118,7 +118,7 @@ module _ (a : Walk) (seed : ℕ → ℕ) (n : ℕ) where
           (leads-in (seed (h .from)) (h .text) (h .symbols)
           (upTo-seed a seed n (h .from) (h .below)
           (by-test (a .skips (seed (h .from)))
-          (λ z. absurd (not-both (skipped-after a sinks (seed (h .from)) (h .text) (h .symbols) z) (ap (a .skips) (h .leads) ∙ h .counts)))
+          (λ z. not-both (skipped-after a sinks (seed (h .from)) (h .text) (h .symbols) z) (ap (a .skips) (h .leads) ∙ h .counts))
           (λ z. z)))
           (ap (a .skips) (h .leads) ∙ h .counts))
 
