@@ -10,7 +10,7 @@ use mathlib.Core.Bool.{cond}
 use mathlib.Core.List.{List, [], _++_}
 use mathlib.Core.Option.{Option, none, some}
 use Rattle.limits.specs.Limits.{mostStates, mostSymbols, targetCells}
-use Prim.Native.Nat.{ℕ, min}
+use Prim.Native.Nat.{ℕ, _+_, _*_, min}
 use Rattle.base.specs.Lists.{joined}
 use Rattle.text.specs.Numerals.{decimal}
 use Rattle.masks.specs.Masks.{has}
