@@ -23,13 +23,13 @@ pub refusal-law : (a : Reply) (x : ℕ) → (refusalOf a ≡ some x) ↔ (a ≡ 
 refusal-law a x = (to a, λ e. ap refusalOf e)
   where
     to : (b : Reply) → refusalOf b ≡ some x → b ≡ refused x
-    to accepted e = none-some none refl e
-    to (loaded sets m) e = none-some none refl e
-    to (judged v) e = none-some none refl e
+    to accepted e = none-some refl e
+    to (loaded sets m) e = none-some refl e
+    to (judged v) e = none-some refl e
     to (refused number) e = cc
 
 pub not-refusal : (a : Reply) → refusalOf a ≡ none → (x : ℕ) → a ≡ refused x → ⊥
-not-refusal a taken x e = none-some (refusalOf a) taken (refusal-law a x .1 e)
+not-refusal a taken x e = none-some taken (refusal-law a x .1 e)
 
 by-number : (number : Option ℕ) (a : Reply) (j next : Judge) → refusalOf a ≡ none
     → (x : ℕ) → outcomeBy number a j next .says ≡ refused x → outcomeBy number a j next .leaves ≡ j

@@ -24,9 +24,10 @@ use Rattle.subsets.specs.Sets.{setsOf}
 use Rattle.delegates.specs.Claims.{startsIn}
 use Rattle.chunks.specs.Chunks.{foreign, counted, chunkCount}
 use Rattle.chunks.proofs.Claims as chunks
-use Rattle.calls.specs.Replies.{Reply, accepted, loaded, waiting, keeps, breaks, refused}
-use Rattle.calls.specs.Calls.{Call, loads, opens, delivers, withdraws, asks, loadNumber, openConditions, deliverConditions, withdrawConditions}
+use Rattle.calls.specs.Replies.{Reply, accepted, loaded, waiting, keeps, breaks, refused, refusalOf, Judgement, judged}
+use Rattle.calls.specs.Calls.{Call, loads, opens, delivers, withdraws, asks, loadNumber, openConditions, deliverConditions, withdrawConditions, judgementBy}
 use Rattle.calls.proofs.Conditions.{over}
+use Rattle.calls.proofs.Refusing.{not-refusal}
 use Rattle.histories.specs.History.{fileOf, ruleIn, openNumber, placesIn, runAt, countOf, deliverCheck, withdrawCheck, standing, deliverNumber, withdrawNumber, emptiesIn, summedIn, yesIn, replyBy}
 use Rattle.histories.specs.Claims.{Never-24}
 use Rattle.histories.proofs.Taken.{named, past, not-named}
@@ -126,7 +127,7 @@ never-delivered h p w e =
     (g .1)
 
 never-verdict : (no-board : Bool) (v : Judgement) → cond no-board (refused 21) (judged v) ≡ refused 24 → ⊥
-never-verdict true v e = let z : _≡_ {A = ℕ} 0 1 = cc in omega arith
+never-verdict true v e = zero-one cc
 never-verdict false v e = not-refusal (judged v) refl 24 e
 
 pub never-24 : Never-24

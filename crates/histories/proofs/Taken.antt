@@ -7,16 +7,16 @@ use mathlib.Core.Logic.{_↔_, _⊎_, inl, inr, ⊎-elim, Iff·trans}
 use mathlib.Core.Bool.{Bool, true, false, cond, _||_}
 use mathlib.Core.List.{List, [], _∷_}
 use mathlib.Core.Option.{Option, none, some}
-use Prim.Native.Nat.{ℕ, _+_, _<_}
+use Prim.Native.Nat.{ℕ, _+_, _<_, _≤_}
 use native.Mathlib.Omega.{arith}
 use lib.Dec.{eqb, ltb, leb}
 use lib.ListN.{length}
 use borrow.Author.Tests.{eq-eqb, ne-eqb, eqb-true, eqb-false, lt-ltb, le-ltb, ltb-true, ltb-false, le-leb, lt-leb, leb-true, leb-false}
 use Rattle.base.specs.Options.{isNone, isSome}
-use Rattle.base.proofs.Options.{none-some}
-use Rattle.base.proofs.Conditions.{none-law, first-law}
+use Rattle.base.proofs.Options.{none-some, is-some, not-some}
+use Rattle.base.proofs.Conditions.{none-law, first-law, outside-law}
 use Rattle.base.specs.Conditions.{Condition, on, firstOf, NoneHolds, FirstHolds, outside}
-use Rattle.base.proofs.Tests.{by-test, or-left, or-right, or-neither}
+use Rattle.base.proofs.Tests.{by-test, or-left, or-right, or-neither, zero-one}
 use Rattle.ruleformat.specs.Refusals.{fileConditions, refusal}
 use Rattle.ruleformat.specs.Reader.{ruleOf}
 use Rattle.ruleformat.specs.Language.{automatonIn}
@@ -43,7 +43,7 @@ past number x false rest other e = (refl, e)
 
 pub not-named : (x : ℕ) (cs : List Condition) → named x cs ≡ false → firstOf cs ≡ some x → ⊥
 unfolding named
-not-named x [] n e = none-some none refl e
+not-named x [] n e = none-some refl e
 not-named x (on number test ∷ cs) n e =
     not-named x cs (or-right (eqb number x) (named x cs) n)
     (past number x test (firstOf cs) (or-left (eqb number x) (named x cs) n) e .1)
@@ -74,8 +74,8 @@ places-some n h = ne-eqb n 0 (λ z. absurd (omega arith))
 loaded-law : (o : Option ℕ) (sets m : ℕ) → ((s : ℕ) × (n : ℕ) × (replyBy o (loaded sets m) ≡ loaded s n)) ↔ (o ≡ none)
 loaded-law none sets m = (λ e. refl, λ e. (sets, m, refl))
 loaded-law (some x) sets m = (
-  (λ e. absurd (let y = e .2 in let z : _≡_ {A = ℕ} 0 1 = cc in omega arith)),
-  λ e. absurd (let z : _≡_ {A = ℕ} 0 1 = cc in omega arith),
+  (λ e. absurd (let y = e .2 in zero-one cc)),
+  λ e. zero-one cc,
 )
 
 not-true : (t : Bool) {A : Type 0} → (t ≡ true) ↔ A → (t ≡ false) ↔ (A → ⊥)
@@ -128,26 +128,26 @@ module _ (f : List ℕ) where
 
 -- ---- a number of a list of conditions
 refused-law : (o : Option ℕ) (a : Reply) (x : ℕ) → (a ≡ refused x → ⊥) → (replyBy o a ≡ refused x) ↔ (o ≡ some x)
-refused-law none a x other = (λ e. absurd (other e), λ e. absurd (let z : _≡_ {A = ℕ} 0 1 = cc in omega arith))
+refused-law none a x other = (λ e. absurd (other e), λ e. zero-one cc)
 refused-law (some y) a x other = (λ e. let same : y ≡ x = cc in ap some same, λ e. let same : y ≡ x = cc in ap refused same)
 
 not-accepted : (x : ℕ) → accepted ≡ refused x → ⊥
-not-accepted x e = let z : _≡_ {A = ℕ} 0 1 = cc in omega arith
+not-accepted x e = zero-one cc
 
 not-loaded : (x sets m : ℕ) → loaded sets m ≡ refused x → ⊥
-not-loaded x sets m e = let z : _≡_ {A = ℕ} 0 1 = cc in omega arith
+not-loaded x sets m e = zero-one cc
 
 -- the first condition has the number, which no later one has
 first-here : (x : ℕ) (test : Bool) (cs : List Condition) → named x cs ≡ false → (firstOf (on x test ∷ cs) ≡ some x) ↔ (test ≡ true)
 first-here x true cs n = (λ e. refl, λ e. refl)
-first-here x false cs n = (λ e. absurd (not-named x cs n e), λ e. absurd (let z : _≡_ {A = ℕ} 0 1 = cc in omega arith))
+first-here x false cs n = (λ e. absurd (not-named x cs n e), λ e. zero-one cc)
 
 -- the first condition has another number
 first-past : (number x : ℕ) (test : Bool) (cs : List Condition) → eqb number x ≡ false
     → (firstOf (on number test ∷ cs) ≡ some x) ↔ ((test ≡ false) × (firstOf cs ≡ some x))
 first-past number x true cs other = (
   (λ e. absurd (let same : number ≡ x = cc in eqb-false number x other same)),
-  λ e. absurd (let y = e .0 in let z : _≡_ {A = ℕ} 0 1 = cc in omega arith),
+  λ e. absurd (let y = e .0 in zero-one cc),
 )
 first-past number x false cs other = (λ e. (refl, e), λ e. e .1)
 
@@ -174,8 +174,8 @@ is-outside lo hi x = (
 there : {A : Type 0} (o : Option A) → (isNone o ≡ true) ↔ (o ≡ none)
 there none = (λ e. refl, λ e. refl)
 there (some x) = (
-  (λ e. absurd (let z : _≡_ {A = ℕ} 0 1 = cc in omega arith)),
-  λ e. absurd (let z : _≡_ {A = ℕ} 0 1 = cc in omega arith),
+  (λ e. zero-one cc),
+  λ e. zero-one cc,
 )
 
 filled : {A : Type 0} (o : Option A) → (isSome o ≡ true) ↔ (o ≡ none → ⊥)
