@@ -1,35 +1,35 @@
--- No accepted file of bytes has more than 32,906 bytes, and that of the rule with every arc has so
--- many: 10, 4 for each of 32 states, and 2 for each state, symbol and target. Assumes nothing.
+-- No file of bytes that conditions 1 and 3 to 8 let pass has more than 32,906 bytes, and that of the
+-- rule with every arc has so many: 10, 4 for each of 32 states, and 2 for each state, symbol and target. Assumes nothing.
 use mathlib.Core.Path.{_≡_, refl, ap, _∙_, subst}
 use mathlib.Core.Logic.{⊎-elim}
 use mathlib.Core.Bool.{Bool, true, cond, not}
 use mathlib.Core.List.{List, [], _∷_}
-use mathlib.Core.Option.{none}
 use Prim.Native.Nat.{ℕ, _+_, _*_, _^_, _≤_, _<_}
 use native.Mathlib.Omega.{arith}
 use lib.Dec.{ltb}
 use lib.ListN.{length, getD, replicate, length-replicate, getD-replicate, List·getD-eq-default}
 use borrow.Author.Tests.{lt-ltb, le-ltb, ltb-true, ltb-false, not-false}
-use Rattle.base.specs.Conditions.{anyBelow}
+use Rattle.base.specs.Conditions.{NoneHolds, anyBelow}
 use Rattle.base.specs.Lists.{joined}
 use Rattle.base.proofs.Conditions.{none-at}
 use Rattle.base.proofs.Lists.{length-exact}
 use Rattle.base.proofs.Tests.{by-test}
 use Rattle.masks.specs.Masks.{has}
 use Rattle.automaton.specs.Rules.{targetMask, WellFormed}
-use Rattle.ruleformat.specs.Refusals.{refusal}
+use Rattle.ruleformat.specs.Refusals.{conditionsBut2}
 use Rattle.ruleformat.specs.Reader.{ruleOf}
 use Rattle.ruleformat.specs.Writing.{Bytes, sectionOf, fileOf}
 use Rattle.ruleformat.specs.Worked.{fullRule}
-use Rattle.ruleformat.proofs.Accepted.{accepted}
+use Rattle.ruleformat.proofs.Accepted.{accepted-by}
 use Rattle.ruleformat.proofs.Language as language
 use Rattle.ruleformat.proofs.Writing.{size-is}
 use Rattle.ruleformat.proofs.Written.{file-size}
-use Rattle.ruleformat.proofs.Rewritten.{rewritten}
+use Rattle.ruleformat.proofs.Rewritten.{whole}
 
-pub longest : (f : List ℕ) → Bytes f → refusal f ≡ none → length f ≤ 32906
+pub longest : (f : List ℕ) → Bytes f → NoneHolds (conditionsBut2 f) → length f ≤ 32906
 longest f b e =
-    subst (λ (x : List ℕ). length x ≤ 32906) (rewritten f b e) (file-size (ruleOf f) (language.well-formed f (accepted f e)))
+    let a = accepted-by f e in
+    subst (λ (x : List ℕ). length x ≤ 32906) (whole f b a) (file-size (ruleOf f) (language.well-formed f a))
 
 -- ---- the rule with every arc
 -- every state is in the mask

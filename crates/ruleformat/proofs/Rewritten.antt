@@ -139,7 +139,7 @@ module _ (f : List ℕ) (bytes : Bytes f) where
               rw (r .symbol, r .target) at (in-at (section f q) (r .index) (r .within)),
         )
 
-    whole : fileOf (ruleOf f) ≡ f
+    pub whole : fileOf (ruleOf f) ≡ f
     whole =
         sym (parts
         ∙ file-same (stateCount f) (symbolCount f) (initialMask f) (finalMask f) (section f)
