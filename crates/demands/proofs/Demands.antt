@@ -4,8 +4,11 @@
 --   1  stepOf j c                     what a call comes to on any state    calls/specs/Steps
 --      Reply, Call; loadNumber ..     01's answers, calls and numbers      calls/specs/Replies, Calls
 --      judgeLibrary, cLibrary         what contracts ask and allow         histories/, demands/specs/Functions
+--      loadSays .. verdictSays        what an answer of the code says      calls/specs/Replies
+--      loadTold .., replayShown       what C's numbers say                 capi/specs/Numbers
 --   2  Accepts, Run, Arc              automata and their runs (000)        automaton/specs/Automaton
---      automatonIn f                  the automaton in a file's bytes      ruleformat/specs/Language
+--      automatonIn f                  the automaton in a file's bytes      ruleformat/specs/Language, Format
+--      fileConditions, FirstHolds     numbers 1 to 8; the first that holds ruleformat/specs/Refusals, base/specs/Conditions
 --      Method, InOrder, TooMany       sets, table, delegates, M, order     histories/specs/Method
 --      Merged, Delegate, Alike        merged starts                        delegates/specs/Alike
 --   3  Execution l h rs j             calls made through functions         executions/specs/Executions
@@ -13,6 +16,7 @@
 --      standing, verdictIn, answerOf  what 01 says of a list alone         histories/specs/History
 --      Accepted-exactly, Refused-..   which calls, with which number       histories/specs/Conditions
 --      runSet, endSet, chunkCount     running a chunk                      chunks/specs/Chunks
+--      held, isEmpty, summedCount     what a board holds                   board/specs/Boards
 --      joinOf, yesOf                  joining                              joins/specs/Joining
 --      TableP                         the table's cases                    histories/specs/TableP
 --      streamOf, rightText            a text of calls                      stream/specs/Texts
@@ -27,6 +31,8 @@ use mathlib.Core.List.{List, [], flatten}
 use mathlib.Core.Option.{none}
 use Prim.Native.Nat.{ℕ, _*_, _≤_, _<_}
 use lib.ListN.{length, getD}
+use contract.Lifetimes.{Lfts}
+use denote.Ref.{RefT}
 use Rattle.limits.specs.Limits.{mostStates, mostPlaces, lineRoom}
 use Rattle.base.specs.Options.{isNone}
 use Rattle.masks.specs.Masks.{shares}
@@ -48,7 +54,7 @@ use Rattle.calls.proofs.Refusing as refusing
 use Rattle.histories.specs.History.{fileOf, ruleIn, boardIn, standing, chunkOf, endAt, countAt, emptiesIn, summedIn, yesIn, textIn, verdictIn, answersTo}
 use Rattle.histories.specs.Method.{Method}
 use Rattle.histories.specs.Conditions.{Accepted-exactly, Refused-exactly}
-use Rattle.histories.specs.Claims.{judgeMachine, judgeAfter, repliesTo, EveryList, automatonBy}
+use Rattle.histories.specs.Claims.{judgeMachine, judgeAfter, repliesTo, BuiltBy, EveryList, automatonBy}
 use Rattle.histories.specs.Functions.{judgeLibrary}
 use Rattle.histories.specs.TableP.{TableP}
 use Rattle.histories.proofs.Every.{every-list}
@@ -65,6 +71,8 @@ use Rattle.replay.specs.Claims.{AllFit, recordOf}
 use Rattle.replay.proofs.Again as replay
 use Rattle.capi.specs.declared.ReplayResult.{ReplayResult}
 use Rattle.capi.specs.Numbers.{replayShown}
+use Rattle.capi.proofs.Asks as capi-asks
+use Rattle.capi.proofs.bellbadger_replay.Reads as replay-reads
 use Rattle.demands.specs.Functions.{cLibrary, MayReplay}
 use Rattle.demands.proofs.Functions.{c-meets, replay-fixed}
 
@@ -88,8 +96,12 @@ pub refusals : (j : Judge) (c : Call) (x : ℕ) → stepOf j c .says ≡ refused
 refusals = refusing.unchanged
 
 -- ---- 2. THE METHOD
--- The sets, next-set table and merged starts are those of source document 004, numbered in document
--- 01's order: of the automaton in the bytes of each file that a load accepts.
+-- The rule that is there after a list of calls is that of the last accepted load, built; and its sets,
+-- next-set table and merged starts are those of source document 004, numbered in document 01's order:
+-- of the automaton in the bytes of each file that a load accepts.
+pub built : (h : List Call) → BuiltBy (fileOf h) (judgeAfter h)
+built h = every-list h .after .rule
+
 pub method : (f : List ℕ) → loadNumber f ≡ none → Method f (builtOf (ruleOf f))
 method = histories-method.method
 
@@ -172,13 +184,16 @@ table-P = histories-table.table-P
 
 -- ---- CALLS AS TEXT
 -- The answers to a text of calls are right line by line, however it is cut into blocks. (streamOf is
--- what `feed` and `finish` of crates/stream promise, one part after the other.)
+-- what the contracts of `feed` and `finish` promise, one part after the other: stream/src/lib.rt.)
 pub texts : (blocks : List (List ℕ)) (line out : List ℕ) → lineRoom ≤ length line
     → streamOf (stateOf fresh lineBegin line out) blocks .text ≡ rightText [] (linesOf (flatten blocks))
 texts = stream.claims .answered
 
--- What C is given for a recorded list is the verdict after it, or its first malformed line; and
--- every list of calls has a record.
+-- What C is given for a recorded list, of which nothing is asked, is the verdict after it, or its
+-- first malformed line; and every list of calls has a record.
+pub replay-asks-nothing : (κs : Lfts 1) (c : RefT (List ℕ)) → replay-reads.Asked κs (c, tt)
+replay-asks-nothing = capi-asks.replay-asks-nothing
+
 pub replayed : (text : List ℕ) (r : ReplayResult) → MayReplay text r ↔ r ≡ replayShown (replayOf (recordIn text))
 replayed = replay-fixed
 

@@ -71,12 +71,9 @@ places-some n h = ne-eqb n 0 (λ z. absurd (omega arith))
 
 -- ---- the calls
 -- a load: the file's conditions, then 9
-loaded-law : (o : Option ℕ) (sets m : ℕ) → ((s : ℕ) × (n : ℕ) × (replyBy o (loaded sets m) ≡ loaded s n)) ↔ (o ≡ none)
-loaded-law none sets m = (λ e. refl, λ e. (sets, m, refl))
-loaded-law (some x) sets m = (
-  (λ e. absurd (let y = e .2 in zero-one cc)),
-  λ e. zero-one cc,
-)
+loaded-law : (o : Option ℕ) (sets m : ℕ) → (replyBy o (loaded sets m) ≡ loaded sets m) ↔ (o ≡ none)
+loaded-law none sets m = (λ e. refl, λ e. refl)
+loaded-law (some x) sets m = (λ e. zero-one cc, λ e. zero-one cc)
 
 not-true : (t : Bool) {A : Type 0} → (t ≡ true) ↔ A → (t ≡ false) ↔ (A → ⊥)
 not-true true law = (λ e. absurd (let y : _≡_ {A = ℕ} 0 1 = cc in omega arith), λ n. absurd (n (law .0 refl)))

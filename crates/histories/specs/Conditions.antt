@@ -10,7 +10,9 @@ use lib.ListN.{length}
 use Rattle.base.specs.Conditions.{NoneHolds, FirstHolds}
 use Rattle.limits.specs.Limits.{mostPlaces, longestChunk, mostCount}
 use Rattle.ruleformat.specs.Refusals.{fileConditions}
+use Rattle.ruleformat.specs.Reader.{ruleOf}
 use Rattle.ruleformat.specs.Language.{automatonIn}
+use Rattle.build.specs.Building.{builtOf}
 use Rattle.chunks.specs.Chunks.{foreign}
 use Rattle.calls.specs.Replies.{accepted, loaded, refused}
 use Rattle.calls.specs.Calls.{Call, loads, opens, delivers, withdraws}
@@ -18,9 +20,10 @@ use Rattle.histories.specs.History.{fileOf, ruleIn, boardIn, placesIn, c
 use Rattle.histories.specs.Method.{TooMany}
 
 pub record Accepted-exactly (h : List Call) : Type 0 where
-  -- none of the conditions 1 to 8 holds of the file, and no more than 512 sets are reached in its automaton
+  -- none of the conditions 1 to 8 holds of the file, and no more than 512 sets are reached in its automaton; it is answered with the number of
+  -- sets and the M of the built rule, which `Method` of specs/Method.antt ties to that automaton
   pub loading : (f : List ℕ)
-      → ((sets : ℕ) × (m : ℕ) × (answerOf h (loads f) ≡ loaded sets m)) ↔ (NoneHolds (fileConditions f) × (TooMany (automatonIn f) → ⊥))
+      → (answerOf h (loads f) ≡ loaded (builtOf (ruleOf f) .count) (builtOf (ruleOf f) .starts)) ↔ (NoneHolds (fileConditions f) × (TooMany (automatonIn f) → ⊥))
   -- a rule is there, and 1 to 64 places are asked for
   pub opening : (n : ℕ) → (answerOf h (opens n) ≡ accepted) ↔ ((fileOf h ≡ none → ⊥) × (1 ≤ n) × (n ≤ mostPlaces))
   -- a board is there with that place, the chunk is within the limit and the alphabet, the place is empty, and the sum of the counts fits
