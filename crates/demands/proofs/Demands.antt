@@ -54,12 +54,13 @@ use Rattle.calls.proofs.Refusing as refusing
 use Rattle.histories.specs.History.{fileOf, ruleIn, boardIn, standing, chunkOf, endAt, countAt, emptiesIn, summedIn, yesIn, textIn, verdictIn, answersTo}
 use Rattle.histories.specs.Method.{Method}
 use Rattle.histories.specs.Conditions.{Accepted-exactly, Refused-exactly}
-use Rattle.histories.specs.Claims.{judgeMachine, judgeAfter, repliesTo, BuiltBy, EveryList, automatonBy}
+use Rattle.histories.specs.Claims.{judgeMachine, judgeAfter, repliesTo, BuiltBy, EveryList, automatonBy, Sum-fits, Never-24}
 use Rattle.histories.specs.Functions.{judgeLibrary}
 use Rattle.histories.specs.TableP.{TableP}
 use Rattle.histories.proofs.Every.{every-list}
 use Rattle.histories.proofs.Method as histories-method
 use Rattle.histories.proofs.Allowed.{judge-meets}
+use Rattle.histories.proofs.Never as histories-never
 use Rattle.histories.proofs.TableP as histories-table
 use Rattle.lines.specs.Splitting.{linesOf}
 use Rattle.linebuffer.specs.Holding.{lineBegin}
@@ -129,12 +130,19 @@ one-claim h rs j e =
     (is .0 ∙ every-list h .all-right, is .1, every-list h)
 
 -- A call is accepted exactly when none of its conditions holds, and refused with a number exactly
--- when that one is the first that holds.
+-- when that one is the first that holds (the verdict's 21 follows below; the sum of 24 is never too
+-- large, so no call answers 24).
 pub accepted-exactly : (h : List Call) → Accepted-exactly h
 accepted-exactly h = every-list h .accepted-exactly
 
 pub refused-exactly : (h : List Call) → Refused-exactly h
 refused-exactly h = every-list h .refused-exactly
+
+pub sum-fits : Sum-fits
+sum-fits = histories-never.sum-fits
+
+pub never-24 : Never-24
+never-24 = histories-never.never-24
 
 -- The verdict: refused with 21 unless the last accepted load or opening is an opening;
 pub refused-21 : (h : List Call) → (verdictIn h ≡ refused 21) ↔ (boardIn h ≡ false)

@@ -29,7 +29,7 @@ use Rattle.calls.specs.Calls.{Call, loads, opens, delivers, withdraws, asks, lo
 use Rattle.calls.proofs.Conditions.{over}
 use Rattle.calls.proofs.Refusing.{not-refusal}
 use Rattle.histories.specs.History.{fileOf, ruleIn, openNumber, placesIn, runAt, countOf, deliverCheck, withdrawCheck, standing, deliverNumber, withdrawNumber, emptiesIn, summedIn, yesIn, replyBy}
-use Rattle.histories.specs.Claims.{Never-24}
+use Rattle.histories.specs.Claims.{Sum-fits, Never-24}
 use Rattle.histories.proofs.Taken.{named, past, not-named}
 
 -- ---- what a chunk counts
@@ -110,6 +110,9 @@ module _ (h : List Call) where
       (omega (arith, summed-few, counted-few (ruleIn h) p (some w) (λ v e. let is : w ≡ v = cc in subst (λ (x : List ℕ). length x ≤ 65536) is short)))
 
 -- ---- the claims
+pub sum-fits : Sum-fits
+sum-fits h p w short = ltb-false 4294967295 (summedIn h + countOf (ruleIn h) p (some w)) (fits-32 h p w short)
+
 replied : (o : Option ℕ) (a : Reply) → refusalOf a ≡ none → replyBy o a ≡ refused 24 → o ≡ some 24
 replied none a taken e = absurd (not-refusal a taken 24 e)
 replied (some x) a taken e = let same : x ≡ 24 = cc in ap some same
