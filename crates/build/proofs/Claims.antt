@@ -21,7 +21,7 @@ module _ (r : Rule) (good : WellFormed r) (f : fits r) where
   unfolding tooMany
   few = ltb-false 512 (length (setsOf (r .targets) (r .n) (r .k))) f
 
-  names : (q : ℕ) → q < r .n → (getD (builtOf r .singles) q 0 < builtOf r .count) × (getD (builtOf r .sets) (getD (builtOf r .singles) q 0) 0 ≡ single q)
+  names : (q : ℕ) → q < r .n → (getD (builtOf r .singles) q 0 < builtOf r .setcount) × (getD (builtOf r .sets) (getD (builtOf r .singles) q 0) 0 ≡ single q)
   names q h =
       let s = delegates.claims .singles r good f q h in
       let number = singletonNumber (setCells (r .targets) (r .n) (r .k)) (length (setsOf (r .targets) (r .n) (r .k))) in

@@ -10,16 +10,16 @@ use Rattle.subsets.specs.declared.Numbering.the-variants.{Whole, Over}
 use Rattle.subsets.specs.declared.SetTable.{SetTable}
 use Rattle.subsets.specs.Sets.{setsOf, tooMany, setCells, nextCells}
 use Rattle.subsets.specs.Singles.{singlesOf}
-use Rattle.subsets.specs.Answer.{counted, refused, toldOf, Table, noTable, tableCame, tableOf}
+use Rattle.subsets.specs.Answer.{counted, refused, numberingMeans, Table, noTable, tableOutcome, tableOf}
 use Rattle.subsets.proofs.Arrays.{told-counted, told-refused}
 use Rattle.delegates.specs.declared.Starts.{Starts}
 use Rattle.delegates.specs.Classes.{startsOf}
 use Rattle.delegates.specs.Claims.{startsIn}
 use Rattle.build.specs.declared.BuildAnswer.the-variants.{Accepted, Refused}
 use Rattle.build.specs.declared.Built.{Built}
-use Rattle.build.specs.Building.{noBuilt, buildCame, buildOf}
+use Rattle.build.specs.Building.{noBuilt, buildOutcome, buildOf}
 
-module _ (ts : List ℕ) (n k : ℕ) (t : SetTable) (is : tableCame t ≡ tableOf ts n k) where
+module _ (ts : List ℕ) (n k : ℕ) (t : SetTable) (is : tableOutcome t ≡ tableOf ts n k) where
   -- a count: there are not too many, and the arrays are the rule's
   record Counted (c : ℕ) : Type 0 where
     fits : tooMany ts n k ≡ false
@@ -30,25 +30,25 @@ module _ (ts : List ℕ) (n k : ℕ) (t : SetTable) (is : tableCame t ≡ tableO
 
   whole-table : Table
   whole-table = record {
-    told = counted (length (setsOf ts n k));
+    reply = counted (length (setsOf ts n k));
     sets = setCells ts n k;
     next = nextCells ts n k;
     singles = singlesOf (setCells ts n k) (length (setsOf ts n k));
   }
 
-  told : toldOf (t .answer) ≡ cond (tooMany ts n k) (refused 9) (counted (length (setsOf ts n k)))
+  told : numberingMeans (t .answer) ≡ cond (tooMany ts n k) (refused 9) (counted (length (setsOf ts n k)))
   unfolding tableOf whole-table
   told = go (tooMany ts n k) is
     where
-      go : (b : Bool) → tableCame t ≡ cond b noTable whole-table → toldOf (t .answer) ≡ cond b (refused 9) (counted (length (setsOf ts n k)))
-      go true h = ap (λ (x : Table). x .told) h
-      go false h = ap (λ (x : Table). x .told) h
+      go : (b : Bool) → tableOutcome t ≡ cond b noTable whole-table → numberingMeans (t .answer) ≡ cond b (refused 9) (counted (length (setsOf ts n k)))
+      go true h = ap (λ (x : Table). x .reply) h
+      go false h = ap (λ (x : Table). x .reply) h
 
   counted-of : (c : ℕ) → t .answer ≡ Whole c → Counted c
   unfolding tableOf whole-table
   counted-of c e =
-      let x = told-counted (tooMany ts n k) (length (setsOf ts n k)) c (sym (ap toldOf e) ∙ told) in
-      let h : tableCame t ≡ whole-table = is ∙ rw (x .0) in
+      let x = told-counted (tooMany ts n k) (length (setsOf ts n k)) c (sym (ap numberingMeans e) ∙ told) in
+      let h : tableOutcome t ≡ whole-table = is ∙ rw (x .0) in
       record {
         fits = x .0;
         count = x .1;
@@ -63,19 +63,19 @@ module _ (ts : List ℕ) (n k : ℕ) (t : SetTable) (is : tableCame t ≡ tableO
 
   -- no count: there are too many
   is-over : t .answer ≡ Over → tooMany ts n k ≡ true
-  is-over e = told-refused (tooMany ts n k) (length (setsOf ts n k)) (sym (ap toldOf e) ∙ told)
+  is-over e = told-refused (tooMany ts n k) (length (setsOf ts n k)) (sym (ap numberingMeans e) ∙ told)
 
 -- the table and the merged starts make the built rule
-pub whole : (r : Rule) (t : SetTable) → tableCame t ≡ tableOf (r .targets) (r .n) (r .k) → (c : ℕ) → t .answer ≡ Whole c
+pub whole : (r : Rule) (t : SetTable) → tableOutcome t ≡ tableOf (r .targets) (r .n) (r .k) → (c : ℕ) → t .answer ≡ Whole c
     → (s : Starts) → s ≡ startsOf (t .sets) (t .next) (r .finals) (t .singles) (r .n) (r .k)
     → (n k : ℕ) → n ≡ min (r .n) 32 → k ≡ min (r .k) 16
-    → buildCame (record {
-      answer = Accepted c (s .count);
+    → buildOutcome (record {
+      answer = Accepted c (s .startcount);
       built = record {
         n = n;
         k = k;
-        starts = s .count;
-        count = c;
+        startcount = s .startcount;
+        setcount = c;
         initials = r .initials;
         finals = r .finals;
         delegates = s .delegates;
@@ -90,7 +90,7 @@ whole r t is c e s merged n k n-is k-is =
     let w = counted-of (r .targets) (r .n) (r .k) t is c e in
     rw (merged, n-is, k-is, w .fits, w .sets-are, w .next-are, w .singles-are, w .count)
 
-pub too-many : (r : Rule) (t : SetTable) → tableCame t ≡ tableOf (r .targets) (r .n) (r .k) → t .answer ≡ Over
-    → (b : Built) → b ≡ noBuilt → buildCame (record { answer = Refused 9; built = b }) ≡ buildOf r
+pub too-many : (r : Rule) (t : SetTable) → tableOutcome t ≡ tableOf (r .targets) (r .n) (r .k) → t .answer ≡ Over
+    → (b : Built) → b ≡ noBuilt → buildOutcome (record { answer = Refused 9; built = b }) ≡ buildOf r
 unfolding buildOf
 too-many r t is e b none = rw (none, is-over (r .targets) (r .n) (r .k) t is e)

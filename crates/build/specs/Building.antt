@@ -1,10 +1,10 @@
 -- What building a rule answers (document 01, "Load: check and build a rule", of which this is the part after the file is read).
 --
---   Said, saidOf   document 01's answer: accepted with the number of sets and M, or refused with a number; and what each case of the
+--   BuildReply, buildMeans   document 01's answer: accepted with the number of sets and M, or refused with a number; and what each case of the
 --                  code's answer says
 --   builtOf r      the rule r built: its sets, its next-set table, its delegates and M, and what running needs
 --   noBuilt        zeros, which a refusal carries
---   Outcome, buildCame   what building came to: what the answer says, and the built rule; and the outcome that the code's result tells
+--   Outcome, buildOutcome   what building came to: what the answer says, and the built rule; and the outcome that the code's result tells
 --   buildOf r      what building the rule r comes to
 use mathlib.Core.Bool.{cond}
 use mathlib.Core.List.{List}
@@ -18,15 +18,15 @@ use Rattle.delegates.specs.Claims.{startsIn}
 use Rattle.build.specs.declared.BuildAnswer.{BuildAnswer}
 use Rattle.build.specs.declared.BuildAnswer.the-variants.{Accepted, Refused}
 use Rattle.build.specs.declared.Built.{Built}
-use Rattle.build.specs.declared.Building.{Building}
+use Rattle.build.specs.declared.BuildResult.{BuildResult}
 
-pub data Said : Type 0 where
-  accepted : ℕ → ℕ → Said
-  refused : ℕ → Said
+pub data BuildReply : Type 0 where
+  accepted : ℕ → ℕ → BuildReply
+  refused : ℕ → BuildReply
 
-abbrev pub saidOf : BuildAnswer → Said
-saidOf (Accepted sets starts) = accepted sets starts
-saidOf (Refused number) = refused number
+abbrev pub buildMeans : BuildAnswer → BuildReply
+buildMeans (Accepted sets starts) = accepted sets starts
+buildMeans (Refused number) = refused number
 
 module _ (r : Rule) where
   abbrev pub sets : List ℕ
@@ -37,8 +37,8 @@ module _ (r : Rule) where
   builtOf = record {
     n = min (r .n) mostStates;
     k = min (r .k) mostSymbols;
-    starts = startsIn r .count;
-    count = length sets;
+    startcount = startsIn r .startcount;
+    setcount = length sets;
     initials = r .initials;
     finals = r .finals;
     delegates = startsIn r .delegates;
@@ -51,8 +51,8 @@ abbrev pub noBuilt : Built
 noBuilt = record {
   n = 0;
   k = 0;
-  starts = 0;
-  count = 0;
+  startcount = 0;
+  setcount = 0;
   initials = 0;
   finals = 0;
   delegates = replicate mostStates 0;
@@ -62,14 +62,14 @@ noBuilt = record {
 }
 
 pub record Outcome : Type 0 where
-  pub says : Said
-  pub leaves : Built
+  pub answer : BuildReply
+  pub built : Built
 
-abbrev pub buildCame : Building → Outcome
-buildCame b = record { says = saidOf (b .answer); leaves = b .built }
+abbrev pub buildOutcome : BuildResult → Outcome
+buildOutcome b = record { answer = buildMeans (b .answer); built = b .built }
 
 unfoldable pub buildOf : Rule → Outcome
 buildOf r =
     cond (tooMany (r .targets) (r .n) (r .k))
-    (record { says = refused 9; leaves = noBuilt })
-    (record { says = accepted (length (sets r)) (startsIn r .count); leaves = builtOf r })
+    (record { answer = refused 9; built = noBuilt })
+    (record { answer = accepted (length (sets r)) (startsIn r .startcount); built = builtOf r })

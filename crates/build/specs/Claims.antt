@@ -12,7 +12,7 @@ use Rattle.build.specs.Building.{builtOf}
 
 pub record Claims : Type 0 where
   -- its delegates are, for each state, the lowest alike one, and its number of starts is M
-  pub delegates : (r : Rule) → WellFormed r → fits r → Merged (automatonOf r) (builtOf r .delegates) (builtOf r .starts)
+  pub delegates : (r : Rule) → WellFormed r → fits r → Merged (automatonOf r) (builtOf r .delegates) (builtOf r .startcount)
   -- the number of {q} names the mask of {q}
   pub singles : (r : Rule) → WellFormed r → fits r → (q : ℕ) → q < r .n
-      → (getD (builtOf r .singles) q 0 < builtOf r .count) × (getD (builtOf r .sets) (getD (builtOf r .singles) q 0) 0 ≡ single q)
+      → (getD (builtOf r .singles) q 0 < builtOf r .setcount) × (getD (builtOf r .sets) (getD (builtOf r .singles) q 0) 0 ≡ single q)

@@ -1,17 +1,17 @@
 // Builds a rule: its numbered sets, its next-set table, its delegates and the number of its starts.
 ghost use mathlib.Core.Path.{_≡_};
-ghost use Rattle.build.specs.Building.{noBuilt, buildCame, buildOf};
+ghost use Rattle.build.specs.Building.{noBuilt, buildOutcome, buildOf};
 use automaton::Rule;
 use subsets::Numbering;
 
-// A rule that is built. starts is M; singles has the number of {q} for each state q. Any cell of next or singles at or above 512 reads as
+// A rule that is built. startcount is M; singles has the number of {q} for each state q. Any cell of next or singles at or above 512 reads as
 // the empty set.
 #[repr(C)]
 pub struct Built {
     pub n: u8,
     pub k: u8,
-    pub starts: u8,
-    pub count: u16,
+    pub startcount: u8,
+    pub setcount: u16,
     pub initials: u32,
     pub finals: u32,
     pub delegates: [u8; limits::STATES],
@@ -27,7 +27,7 @@ pub enum BuildAnswer {
 }
 
 // An answer with the built rule beside it, which is all zeros where the rule is refused.
-pub struct Building {
+pub struct BuildResult {
     pub answer: BuildAnswer,
     pub built: Built,
 }
@@ -43,8 +43,8 @@ pub fn nothing_built() -> Built
     Built {
         n: 0,
         k: 0,
-        starts: 0,
-        count: 0,
+        startcount: 0,
+        setcount: 0,
         initials: 0,
         finals: 0,
         delegates,
@@ -55,8 +55,8 @@ pub fn nothing_built() -> Built
 }
 
 // The rule built, or a refusal with 9 where it has more than 512 sets. Any value is taken, also one that no file gives.
-pub fn build_rule(rule: Rule) -> Building
-    ensures { λ r. ⌜ buildCame r ≡ buildOf rule ⌝ }
+pub fn build_rule(rule: Rule) -> BuildResult
+    ensures { λ r. ⌜ buildOutcome r ≡ buildOf rule ⌝ }
 {
     let n = rule.n;
     let k = rule.k;
@@ -70,12 +70,12 @@ pub fn build_rule(rule: Rule) -> Building
             let singles = table.singles;
             let merged = delegates::merge_starts(&sets, &next, &singles, finals, n, k);
             let delegates = merged.delegates;
-            let starts = merged.count;
+            let startcount = merged.startcount;
             let built = Built {
                 n: base::at_most_u8(n, limits::MOST_STATES),
                 k: base::at_most_u8(k, limits::MOST_SYMBOLS),
-                starts,
-                count: count as u16,
+                startcount,
+                setcount: count as u16,
                 initials: rule.initials,
                 finals,
                 delegates,
@@ -83,13 +83,13 @@ pub fn build_rule(rule: Rule) -> Building
                 sets,
                 next,
             };
-            let answer = BuildAnswer::Accepted(count as u16, starts);
-            Building { answer, built }
+            let answer = BuildAnswer::Accepted(count as u16, startcount);
+            BuildResult { answer, built }
         }
         Numbering::Over => {
             let built = nothing_built();
             let answer = BuildAnswer::Refused(9);
-            Building { answer, built }
+            BuildResult { answer, built }
         }
     }
 }

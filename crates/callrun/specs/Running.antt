@@ -3,7 +3,7 @@
 --   LineOutcome            what a line came to: what it is answered, and the judge that it leaves
 --   replyOf o              what a line that records a call came to, from what the call came to
 --   lineStep j m           what a line of the meaning m comes to on the judge j
---   outcomeOf r            the outcome that the code's result tells
+--   runOutcome r            the outcome that the code's result tells
 --   Scratch before after   all that holds of a buffer that is lent for the bytes of a line: its
 --                          length stays. What it has in it before is of no matter, and what is
 --                          left in it is free, also where the call is refused
@@ -14,24 +14,24 @@ use lib.ListN.{length}
 use Rattle.calls.specs.declared.Judge.{Judge}
 use Rattle.calls.specs.Steps.{fresh, Outcome, stepOf}
 use Rattle.calltext.specs.Meaning.{Meaning, again, call, malformed}
-use Rattle.calltext.specs.Answers.{Response, began, replied, unread, responseOf}
+use Rattle.calltext.specs.Answers.{Response, began, replied, unread, answerMeans}
 use Rattle.callrun.specs.declared.LineRun.{LineRun}
 
 pub record LineOutcome : Type 0 where
-  pub answers : Response
-  pub leaves : Judge
+  pub response : Response
+  pub state : Judge
 
 abbrev pub replyOf : Outcome → LineOutcome
-replyOf o = record { answers = replied (o .says); leaves = o .leaves }
+replyOf o = record { response = replied (o .reply); state = o .state }
 
 -- an empty line begins with a fresh judge, and a malformed one changes nothing
 abbrev pub lineStep : Judge → Meaning → LineOutcome
-lineStep j again = record { answers = began; leaves = fresh }
+lineStep j again = record { response = began; state = fresh }
 lineStep j (call c) = replyOf (stepOf j c)
-lineStep j malformed = record { answers = unread; leaves = j }
+lineStep j malformed = record { response = unread; state = j }
 
-abbrev pub outcomeOf : LineRun → LineOutcome
-outcomeOf r = record { answers = responseOf (r .answer); leaves = r .judge }
+abbrev pub runOutcome : LineRun → LineOutcome
+runOutcome r = record { response = answerMeans (r .answer); state = r .judge }
 
 abbrev pub Scratch : List ℕ → List ℕ → Type 0
 Scratch before after = length after ≡ length before

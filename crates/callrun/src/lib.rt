@@ -4,10 +4,10 @@ ghost use mathlib.Core.Option.{some};
 ghost use Prim.Native.Nat.{_≤_};
 ghost use lib.ListN.{length};
 ghost use Rattle.limits.specs.Limits.{bytesRoom};
-ghost use Rattle.fields.specs.Bytes.{bytesIn};
-ghost use Rattle.calls.specs.Calls.{opens, withdraws, asks};
+ghost use Rattle.fields.specs.Bytes.{parseBytes};
+ghost use Rattle.calls.specs.Calls.{opens, withdraws, asksVerdict};
 ghost use Rattle.calltext.specs.Meaning.{again, call, malformed, loadBy, deliverBy, lineIn};
-ghost use Rattle.callrun.specs.Running.{lineStep, outcomeOf, Scratch};
+ghost use Rattle.callrun.specs.Running.{lineStep, runOutcome, Scratch};
 use calls::Judge;
 use calltext::Line;
 use calltext::LineAnswer;
@@ -21,14 +21,14 @@ pub struct LineRun {
 
 // A malformed line changes nothing.
 pub fn run_malformed(judge: Judge) -> LineRun
-    ensures { λ r. ⌜ outcomeOf r ≡ lineStep judge malformed ⌝ }
+    ensures { λ r. ⌜ runOutcome r ≡ lineStep judge malformed ⌝ }
 {
     let answer = LineAnswer::Malformed;
     LineRun { answer, judge }
 }
 
 fn run_empty(judge: Judge) -> LineRun
-    ensures { λ r. ⌜ outcomeOf r ≡ lineStep judge again ⌝ }
+    ensures { λ r. ⌜ runOutcome r ≡ lineStep judge again ⌝ }
 {
     let answer = LineAnswer::Began;
     let judge = judge::new_judge();
@@ -39,7 +39,7 @@ fn run_empty(judge: Judge) -> LineRun
 // alone, so what does not fit is not missed.
 fn run_load(judge: Judge, field: &[u8], buffer: &mut [u8]) -> LineRun
     requires { ⌜ bytesRoom ≤ length (now buffer) ⌝ }
-    ensures { λ r. ⌜ outcomeOf r ≡ lineStep judge (loadBy (bytesIn (now (field .entry)))) ⌝ }
+    ensures { λ r. ⌜ runOutcome r ≡ lineStep judge (loadBy (parseBytes (now (field .entry)))) ⌝ }
     ensures scratch { λ r. ⌜ Scratch (now (buffer .entry)) (now (buffer .exit)) ⌝ }
 {
     let bytes = fields::read_bytes(field, buffer);
@@ -56,7 +56,7 @@ fn run_load(judge: Judge, field: &[u8], buffer: &mut [u8]) -> LineRun
 }
 
 fn run_open(judge: Judge, places: u64) -> LineRun
-    ensures { λ r. ⌜ outcomeOf r ≡ lineStep judge (call (opens places)) ⌝ }
+    ensures { λ r. ⌜ runOutcome r ≡ lineStep judge (call (opens places)) ⌝ }
 {
     let opening = judge::open(judge, places as usize);
     let said = opening.answer;
@@ -67,7 +67,7 @@ fn run_open(judge: Judge, places: u64) -> LineRun
 
 fn run_deliver(judge: Judge, place: u64, field: &[u8], buffer: &mut [u8]) -> LineRun
     requires { ⌜ bytesRoom ≤ length (now buffer) ⌝ }
-    ensures { λ r. ⌜ outcomeOf r ≡ lineStep judge (deliverBy (some place) (bytesIn (now (field .entry)))) ⌝ }
+    ensures { λ r. ⌜ runOutcome r ≡ lineStep judge (deliverBy (some place) (parseBytes (now (field .entry)))) ⌝ }
     ensures scratch { λ r. ⌜ Scratch (now (buffer .entry)) (now (buffer .exit)) ⌝ }
 {
     let bytes = fields::read_bytes(field, buffer);
@@ -84,7 +84,7 @@ fn run_deliver(judge: Judge, place: u64, field: &[u8], buffer: &mut [u8]) -> Lin
 }
 
 fn run_withdraw(judge: Judge, place: u64) -> LineRun
-    ensures { λ r. ⌜ outcomeOf r ≡ lineStep judge (call (withdraws place)) ⌝ }
+    ensures { λ r. ⌜ runOutcome r ≡ lineStep judge (call (withdraws place)) ⌝ }
 {
     let withdrawal = judge::withdraw(judge, place as usize);
     let said = withdrawal.answer;
@@ -94,9 +94,9 @@ fn run_withdraw(judge: Judge, place: u64) -> LineRun
 }
 
 fn run_verdict(judge: Judge) -> LineRun
-    ensures { λ r. ⌜ outcomeOf r ≡ lineStep judge (call asks) ⌝ }
+    ensures { λ r. ⌜ runOutcome r ≡ lineStep judge (call asksVerdict) ⌝ }
 {
-    let said = judge::judged(judge);
+    let said = judge::ask_verdict(judge);
     let answer = LineAnswer::Verdict(said);
     LineRun { answer, judge }
 }
@@ -104,7 +104,7 @@ fn run_verdict(judge: Judge) -> LineRun
 // One line. The buffer is for the bytes that the line carries.
 pub fn run_line(judge: Judge, line: &[u8], buffer: &mut [u8]) -> LineRun
     requires { ⌜ bytesRoom ≤ length (now buffer) ⌝ }
-    ensures { λ r. ⌜ outcomeOf r ≡ lineStep judge (lineIn (now (line .entry))) ⌝ }
+    ensures { λ r. ⌜ runOutcome r ≡ lineStep judge (lineIn (now (line .entry))) ⌝ }
     ensures scratch { λ r. ⌜ Scratch (now (buffer .entry)) (now (buffer .exit)) ⌝ }
 {
     let parsed = calltext::parse(line);

@@ -15,7 +15,7 @@ use Rattle.build.specs.Building.{builtOf}
 use Rattle.board.specs.Boards.{placesOf, isEmpty, emptyBoard, filledAt, clearedAt, summedCount}
 use Rattle.calls.specs.declared.Judge.{Judge}
 use Rattle.calls.specs.Replies.{Reply, accepted, loaded, judged, refused, refusalOf}
-use Rattle.calls.specs.Calls.{loads, opens, delivers, withdraws, asks, loadNumber, openConditions, deliverConditions, withdrawConditions}
+use Rattle.calls.specs.Calls.{loads, opens, delivers, withdraws, asksVerdict, loadNumber, openConditions, deliverConditions, withdrawConditions}
 use Rattle.calls.specs.Steps.{lacksRule, lacksBoard, withBoard, runsAt, outcomeBy, loadOf, openOf, deliverOf, withdrawOf}
 use Rattle.calls.specs.Claims.{Unchanged}
 
@@ -32,7 +32,7 @@ pub not-refusal : (a : Reply) → refusalOf a ≡ none → (x : ℕ) → a ≡ r
 not-refusal a taken x e = none-some taken (refusal-law a x .1 e)
 
 by-number : (number : Option ℕ) (a : Reply) (j next : Judge) → refusalOf a ≡ none
-    → (x : ℕ) → outcomeBy number a j next .says ≡ refused x → outcomeBy number a j next .leaves ≡ j
+    → (x : ℕ) → outcomeBy number a j next .reply ≡ refused x → outcomeBy number a j next .state ≡ j
 by-number none a j next taken x e = absurd (not-refusal a taken x e)
 by-number (some m) a j next taken x e = refl
 
@@ -40,7 +40,7 @@ pub unchanged : Unchanged
 unfolding loadOf openOf deliverOf withdrawOf
 unchanged j (loads f) =
     let b = builtOf (ruleOf f) in
-    by-number (loadNumber f) (loaded (b .count) (b .starts)) j (record { built = b; board = emptyBoard 0 }) refl
+    by-number (loadNumber f) (loaded (b .setcount) (b .startcount)) j (record { built = b; board = emptyBoard 0 }) refl
 unchanged j (opens n) = by-number (firstOf (openConditions (lacksRule j) n)) accepted j (withBoard j (emptyBoard n)) refl
 unchanged j (delivers p w) =
     by-number
@@ -55,4 +55,4 @@ unchanged j (withdraws p) =
     by-number (firstOf (withdrawConditions (lacksBoard j) (placesOf (j .board)) p (isEmpty (j .board) p))) accepted j
     (withBoard j (clearedAt (j .board) p))
     refl
-unchanged j asks = λ x e. refl
+unchanged j asksVerdict = λ x e. refl

@@ -19,13 +19,13 @@ use lib.ListN.{length}
 use borrow.Author.Tests.{lt-ltb, le-ltb, le-leb, lt-leb, eq-eqb, ne-eqb, ltb-true, ltb-false}
 use Rattle.base.proofs.Tests.{by-test, zero-one}
 use Rattle.ruleformat.specs.declared.ReadAnswer.the-variants as reading
-use Rattle.ruleformat.specs.declared.Reading.{Reading}
+use Rattle.ruleformat.specs.declared.ReadResult.{ReadResult}
 use Rattle.ruleformat.specs.Refusals.{refusal}
-use Rattle.ruleformat.specs.Reader.{numberOf, ruleOf, ruleBy, Reads}
+use Rattle.ruleformat.specs.Reader.{readMeans, ruleOf, ruleBy, Reads}
 use Rattle.build.specs.declared.BuildAnswer.the-variants as build
 use Rattle.build.specs.declared.Built.{Built}
-use Rattle.build.specs.declared.Building.{Building}
-use Rattle.build.specs.Building.{accepted, refused, saidOf, sets, builtOf, noBuilt, Outcome as Built-outcome, buildCame, buildOf}
+use Rattle.build.specs.declared.BuildResult.{BuildResult}
+use Rattle.build.specs.Building.{accepted, refused, buildMeans, sets, builtOf, noBuilt, Outcome as Built-outcome, buildOutcome, buildOf}
 use Rattle.chunks.specs.declared.Runs.{Runs}
 use Rattle.chunks.specs.Chunks.{foreign}
 use Rattle.chunks.specs.Walks.{runMask, runsOf}
@@ -44,41 +44,41 @@ fresh-by b nothing e empty = rw (nothing, empty)
 -- ---- open
 module _ (j : Judge) (n : ℕ) where
   module _ (r : Outcome) where
-    pub open-20 : j .built .n ≡ 0 → r ≡ record { says = reply.refused 20; leaves = j } → r ≡ openOf j n
+    pub open-20 : j .built .n ≡ 0 → r ≡ record { reply = reply.refused 20; state = j } → r ≡ openOf j n
     unfolding openOf
     open-20 a e = e ∙ rw (eq-eqb _ _ a)
 
-    pub open-few : (j .built .n ≡ 0 → ⊥) → n < 1 → r ≡ record { says = reply.refused 10; leaves = j } → r ≡ openOf j n
+    pub open-few : (j .built .n ≡ 0 → ⊥) → n < 1 → r ≡ record { reply = reply.refused 10; state = j } → r ≡ openOf j n
     unfolding openOf
     open-few a b e = e ∙ rw (ne-eqb _ _ a, lt-ltb _ _ b)
 
-    pub open-many : (j .built .n ≡ 0 → ⊥) → 1 ≤ n → 64 < n → r ≡ record { says = reply.refused 10; leaves = j } → r ≡ openOf j n
+    pub open-many : (j .built .n ≡ 0 → ⊥) → 1 ≤ n → 64 < n → r ≡ record { reply = reply.refused 10; state = j } → r ≡ openOf j n
     unfolding openOf
     open-many a b c e = e ∙ rw (ne-eqb _ _ a, le-ltb _ _ b, lt-ltb _ _ c)
 
   pub opened : (j .built .n ≡ 0 → ⊥) → 1 ≤ n → n ≤ 64 → (b : Board) → b ≡ emptyBoard n → (s : Judge) → s ≡ withBoard j b
-      → record { says = reply.accepted; leaves = s } ≡ openOf j n
+      → record { reply = reply.accepted; state = s } ≡ openOf j n
   unfolding openOf
   opened a few many b is s e = rw (e, is, ne-eqb _ _ a, le-ltb _ _ few, le-ltb _ _ many)
 
 -- ---- withdraw
 module _ (j : Judge) (p : ℕ) where
-  pub withdraw-21 : j .board .places ≡ 0 → (r : Outcome) → r ≡ record { says = reply.refused 21; leaves = j } → r ≡ withdrawOf j p
+  pub withdraw-21 : j .board .places ≡ 0 → (r : Outcome) → r ≡ record { reply = reply.refused 21; state = j } → r ≡ withdrawOf j p
   unfolding withdrawOf
   withdraw-21 a r e = e ∙ rw (eq-eqb _ _ a)
 
   module _ (a : j .board .places ≡ 0 → ⊥) (n : ℕ) (places : n ≡ placesOf (j .board)) where
-    pub withdraw-11 : n ≤ p → (r : Outcome) → r ≡ record { says = reply.refused 11; leaves = j } → r ≡ withdrawOf j p
+    pub withdraw-11 : n ≤ p → (r : Outcome) → r ≡ record { reply = reply.refused 11; state = j } → r ≡ withdrawOf j p
     unfolding withdrawOf
     withdraw-11 b r e = e ∙ rw (ne-eqb _ _ a, ← places, le-leb _ _ b)
 
     module _ (b : p < n) (x : Bool) (empty : x ≡ isEmpty (j .board) p) where
-      pub withdraw-23 : x ≡ true → (r : Outcome) → r ≡ record { says = reply.refused 23; leaves = j } → r ≡ withdrawOf j p
+      pub withdraw-23 : x ≡ true → (r : Outcome) → r ≡ record { reply = reply.refused 23; state = j } → r ≡ withdrawOf j p
       unfolding withdrawOf
       withdraw-23 c r e = e ∙ rw (ne-eqb _ _ a, ← places, lt-leb _ _ b, ← empty, c)
 
       pub withdrawn : x ≡ false → (d : Board) → d ≡ clearedAt (j .board) p → (s : Judge) → s ≡ withBoard j d
-          → record { says = reply.accepted; leaves = s } ≡ withdrawOf j p
+          → record { reply = reply.accepted; state = s } ≡ withdrawOf j p
       unfolding withdrawOf
       withdrawn c d is s e = rw (e, is, ne-eqb _ _ a, ← places, lt-leb _ _ b, ← empty, c)
 
@@ -99,27 +99,27 @@ pub runs-by : (b : Built) (p : ℕ) (w : List ℕ) (mask : ℕ) → mask ≡ run
 runs-by b p w mask is r e = rw is at e
 
 module _ (j : Judge) (p : ℕ) (w : List ℕ) where
-  pub deliver-21 : j .board .places ≡ 0 → (r : Outcome) → r ≡ record { says = reply.refused 21; leaves = j } → r ≡ deliverOf j p w
+  pub deliver-21 : j .board .places ≡ 0 → (r : Outcome) → r ≡ record { reply = reply.refused 21; state = j } → r ≡ deliverOf j p w
   unfolding deliverOf
   deliver-21 a r e = e ∙ rw (eq-eqb _ _ a)
 
   module _ (a : j .board .places ≡ 0 → ⊥) (n : ℕ) (places : n ≡ placesOf (j .board)) where
-    pub deliver-11 : n ≤ p → (r : Outcome) → r ≡ record { says = reply.refused 11; leaves = j } → r ≡ deliverOf j p w
+    pub deliver-11 : n ≤ p → (r : Outcome) → r ≡ record { reply = reply.refused 11; state = j } → r ≡ deliverOf j p w
     unfolding deliverOf
     deliver-11 b r e = e ∙ rw (ne-eqb _ _ a, ← places, le-leb _ _ b)
 
     module _ (b : p < n) where
-      pub deliver-12 : 65536 < length w → (r : Outcome) → r ≡ record { says = reply.refused 12; leaves = j } → r ≡ deliverOf j p w
+      pub deliver-12 : 65536 < length w → (r : Outcome) → r ≡ record { reply = reply.refused 12; state = j } → r ≡ deliverOf j p w
       unfolding deliverOf
       deliver-12 c r e = e ∙ rw (ne-eqb _ _ a, ← places, lt-leb _ _ b, lt-ltb _ _ c)
 
       module _ (c : length w ≤ 65536) (f : Bool) (has : f ≡ foreign w (j .built .k)) where
-        pub deliver-13 : f ≡ true → (r : Outcome) → r ≡ record { says = reply.refused 13; leaves = j } → r ≡ deliverOf j p w
+        pub deliver-13 : f ≡ true → (r : Outcome) → r ≡ record { reply = reply.refused 13; state = j } → r ≡ deliverOf j p w
         unfolding deliverOf
         deliver-13 d r e = e ∙ rw (ne-eqb _ _ a, ← places, lt-leb _ _ b, le-ltb _ _ c, ← has, d)
 
         module _ (d : f ≡ false) (x : Bool) (empty : x ≡ isEmpty (j .board) p) where
-          pub deliver-22 : not x ≡ true → (r : Outcome) → r ≡ record { says = reply.refused 22; leaves = j } → r ≡ deliverOf j p w
+          pub deliver-22 : not x ≡ true → (r : Outcome) → r ≡ record { reply = reply.refused 22; state = j } → r ≡ deliverOf j p w
           unfolding deliverOf
           deliver-22 g r e = e ∙ rw (ne-eqb _ _ a, ← places, lt-leb _ _ b, le-ltb _ _ c, ← has, d, ← empty, g)
 
@@ -128,12 +128,12 @@ module _ (j : Judge) (p : ℕ) (w : List ℕ) where
             weighed : ltb 4294967295 (summedCount (j .board) + runsAt j p w .count) ≡ over
             weighed = sym (exceeds ∙ ap₂ (λ (m : ℕ) (s : Runs). ltb 4294967295 (m + s .count)) summed ran)
 
-            pub deliver-24 : over ≡ true → (r : Outcome) → r ≡ record { says = reply.refused 24; leaves = j } → r ≡ deliverOf j p w
+            pub deliver-24 : over ≡ true → (r : Outcome) → r ≡ record { reply = reply.refused 24; state = j } → r ≡ deliverOf j p w
             unfolding deliverOf
             deliver-24 h r e = e ∙ rw (ne-eqb _ _ a, ← places, lt-leb _ _ b, le-ltb _ _ c, ← has, d, ← empty, g, weighed, h)
 
             pub delivered : over ≡ false → (l : Board) → l ≡ filledAt (j .board) p runs → (s : Judge) → s ≡ withBoard j l
-                → record { says = reply.accepted; leaves = s } ≡ deliverOf j p w
+                → record { reply = reply.accepted; state = s } ≡ deliverOf j p w
             unfolding deliverOf
             delivered h l is s e = rw (e, is, ran, ne-eqb _ _ a, ← places, lt-leb _ _ b, le-ltb _ _ c, ← has, d, ← empty, g, weighed, h)
 
@@ -149,33 +149,33 @@ module _ (j : Judge) where
     verdict-waiting b = rw (ne-eqb _ _ a, ← empty, ne-eqb _ _ b)
 
     module _ (b : e ≡ 0) (count : ℕ) (summed : count ≡ summedCount (j .board)) (x : Bool) (says : x ≡ isYes j) where
-      pub verdict-yes : x ≡ true → reply.judged (reply.keeps count) ≡ verdictOf j
+      pub verdict-yes : x ≡ true → reply.judged (reply.yesWith count) ≡ verdictOf j
       unfolding verdictOf
       verdict-yes c = rw (ne-eqb _ _ a, ← empty, eq-eqb _ _ b, ← says, c, summed)
 
-      pub verdict-no : x ≡ false → reply.judged (reply.breaks count) ≡ verdictOf j
+      pub verdict-no : x ≡ false → reply.judged (reply.noWith count) ≡ verdictOf j
       unfolding verdictOf
       verdict-no c = rw (ne-eqb _ _ a, ← empty, eq-eqb _ _ b, ← says, c, summed)
 
 -- ---- load
 refused-with : (j : Judge) (f : List ℕ) (number : ℕ) → loadNumber f ≡ some number
-    → (r : Outcome) → r ≡ record { says = reply.refused number; leaves = j } → r ≡ loadOf j f
+    → (r : Outcome) → r ≡ record { reply = reply.refused number; state = j } → r ≡ loadOf j f
 unfolding loadOf
 refused-with j f number told r e = e ∙ rw told
 
-module _ (j : Judge) (f : List ℕ) (read : Reading) (reads : Reads f read) where
+module _ (j : Judge) (f : List ℕ) (read : ReadResult) (reads : Reads f read) where
   -- the file is refused
   pub load-unread : (number : ℕ) → read .answer ≡ reading.Refused number
-      → (r : Outcome) → r ≡ record { says = reply.refused number; leaves = j } → r ≡ loadOf j f
+      → (r : Outcome) → r ≡ record { reply = reply.refused number; state = j } → r ≡ loadOf j f
   load-unread number told =
-      let told : refusal f ≡ some number = sym (reads .answer) ∙ ap numberOf told in
+      let told : refusal f ≡ some number = sym (reads .answer) ∙ ap readMeans told in
       refused-with j f number (load-number f ∙ rw told)
 
-  module _ (told : read .answer ≡ reading.Accepted) (b : Building) (builds : buildCame b ≡ buildOf (read .rule)) where
+  module _ (told : read .answer ≡ reading.Accepted) (b : BuildResult) (builds : buildOutcome b ≡ buildOf (read .rule)) where
     good : refusal f ≡ none
-    good = sym (reads .answer) ∙ ap numberOf told
+    good = sym (reads .answer) ∙ ap readMeans told
 
-    came : buildCame b ≡ buildOf (ruleOf f)
+    came : buildOutcome b ≡ buildOf (ruleOf f)
     came = builds ∙ ap buildOf (reads .rule ∙ ap (λ (o : Option ℕ). ruleBy o f) good)
 
     number-is : loadNumber f ≡ cond (over f) (some 9) none
@@ -183,32 +183,32 @@ module _ (j : Judge) (f : List ℕ) (read : Reading) (reads : Reads f read) wher
 
     -- it has too many sets
     pub load-unbuilt : (number : ℕ) → b .answer ≡ build.Refused number
-        → (r : Outcome) → r ≡ record { says = reply.refused number; leaves = j } → r ≡ loadOf j f
+        → (r : Outcome) → r ≡ record { reply = reply.refused number; state = j } → r ≡ loadOf j f
     unfolding buildOf
     load-unbuilt number answered =
         by-test (over f)
         (λ t.
-        let is : refused number ≡ refused 9 = sym (ap saidOf answered) ∙ ap (λ (o : Built-outcome). o .says) came ∙ rw t in
+        let is : refused number ≡ refused 9 = sym (ap buildMeans answered) ∙ ap (λ (o : Built-outcome). o .answer) came ∙ rw t in
         let nine : number ≡ 9 = cc in
         refused-with j f number (number-is ∙ rw (t, nine)))
         (λ few.
-        let is : refused number ≡ accepted (length (sets (ruleOf f))) (builtOf (ruleOf f) .starts) =
-        sym (ap saidOf answered) ∙ ap (λ (o : Built-outcome). o .says) came ∙ rw few in
+        let is : refused number ≡ accepted (length (sets (ruleOf f))) (builtOf (ruleOf f) .startcount) =
+        sym (ap buildMeans answered) ∙ ap (λ (o : Built-outcome). o .answer) came ∙ rw few in
         zero-one cc)
 
     pub loaded : (m starts : ℕ) → b .answer ≡ build.Accepted m starts → (e : Board) → e ≡ emptyBoard 0
-        → record { says = reply.loaded m starts; leaves = record { built = b .built; board = e } } ≡ loadOf j f
+        → record { reply = reply.loaded m starts; state = record { built = b .built; board = e } } ≡ loadOf j f
     unfolding buildOf loadOf
     loaded m starts answered e empty =
         by-test (over f)
         (λ t.
-        let is : accepted m starts ≡ refused 9 = sym (ap saidOf answered) ∙ ap (λ (o : Built-outcome). o .says) came ∙ rw t in
+        let is : accepted m starts ≡ refused 9 = sym (ap buildMeans answered) ∙ ap (λ (o : Built-outcome). o .answer) came ∙ rw t in
         zero-one cc)
         (λ few.
-        let is : accepted m starts ≡ accepted (length (sets (ruleOf f))) (builtOf (ruleOf f) .starts) =
-        sym (ap saidOf answered) ∙ ap (λ (o : Built-outcome). o .says) came ∙ rw few in
-        let built : b .built ≡ builtOf (ruleOf f) = ap (λ (o : Built-outcome). o .leaves) came ∙ rw few in
+        let is : accepted m starts ≡ accepted (length (sets (ruleOf f))) (builtOf (ruleOf f) .startcount) =
+        sym (ap buildMeans answered) ∙ ap (λ (o : Built-outcome). o .answer) came ∙ rw few in
+        let built : b .built ≡ builtOf (ruleOf f) = ap (λ (o : Built-outcome). o .built) came ∙ rw few in
         let same-m : m ≡ length (sets (ruleOf f)) = cc in
-        let same-starts : starts ≡ builtOf (ruleOf f) .starts = cc in
+        let same-starts : starts ≡ builtOf (ruleOf f) .startcount = cc in
         let none-is : loadNumber f ≡ none = number-is ∙ rw few in
         rw (same-m, same-starts, built, empty, none-is))

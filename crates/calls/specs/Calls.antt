@@ -19,14 +19,14 @@ use Rattle.ruleformat.specs.Refusals.{fileConditions}
 use Rattle.ruleformat.specs.Reader.{ruleOf}
 use Rattle.subsets.specs.Sets.{tooMany}
 use Rattle.chunks.specs.Chunks.{foreign}
-use Rattle.calls.specs.Replies.{Judgement, waiting, keeps, breaks, Reply, judged, refused}
+use Rattle.calls.specs.Replies.{Judgement, waiting, yesWith, noWith, Reply, judged, refused}
 
 pub data Call : Type 0 where
   loads : List ℕ → Call
   opens : ℕ → Call
   delivers : ℕ → List ℕ → Call
   withdraws : ℕ → Call
-  asks : Call
+  asksVerdict : Call
 
 -- ---- the conditions
 -- those of the file, then 9
@@ -53,7 +53,7 @@ withdrawConditions lacks places p empty = on 21 lacks ∷ on 11 (leb places p) �
 
 -- ---- the verdict: 21, else waiting, else yes or no
 abbrev pub judgementBy : ℕ → Bool → ℕ → Judgement
-judgementBy empty yes-there sum = cond (eqb empty 0) (cond yes-there (keeps sum) (breaks sum)) (waiting empty)
+judgementBy empty yes-there sum = cond (eqb empty 0) (cond yes-there (yesWith sum) (noWith sum)) (waiting empty)
 
 abbrev pub verdictBy : Bool → ℕ → Bool → ℕ → Reply
 verdictBy lacks empty yes-there sum = cond lacks (refused 21) (judged (judgementBy empty yes-there sum))

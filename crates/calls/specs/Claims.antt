@@ -8,4 +8,4 @@ use Rattle.calls.specs.Steps.{stepOf}
 
 -- a refusal leaves the state as it was. (File and chunk are lent as `&[u8]`, which no function can write.)
 abbrev pub Unchanged : Type 0
-Unchanged = (j : Judge) (c : Call) (x : ℕ) → stepOf j c .says ≡ refused x → stepOf j c .leaves ≡ j
+Unchanged = (j : Judge) (c : Call) (x : ℕ) → stepOf j c .reply ≡ refused x → stepOf j c .state ≡ j

@@ -9,7 +9,7 @@
 --     judged v           a verdict was asked for: it is v
 --     refused x          the call was refused with the number x
 --   refusalOf a          the number of the refusal, or none where a is no refusal
---   loadSays .. verdictSays   what each case of the code's answers says
+--   loadMeans .. verdictMeans   what each case of the code's answers says
 use mathlib.Core.Option.{Option, none, some}
 use Prim.Native.Nat.{ℕ}
 use Rattle.calls.specs.declared.LoadAnswer.{LoadAnswer}
@@ -25,8 +25,8 @@ use Rattle.calls.specs.declared.Verdict.the-variants.{Waiting, Yes, No, 
 
 pub data Judgement : Type 0 where
   waiting : ℕ → Judgement
-  keeps : ℕ → Judgement
-  breaks : ℕ → Judgement
+  yesWith : ℕ → Judgement
+  noWith : ℕ → Judgement
 
 pub data Reply : Type 0 where
   accepted : Reply
@@ -40,24 +40,24 @@ refusalOf (loaded sets starts) = none
 refusalOf (judged v) = none
 refusalOf (refused number) = some number
 
-abbrev pub loadSays : LoadAnswer → Reply
-loadSays (load.Accepted sets starts) = loaded sets starts
-loadSays (load.Refused number) = refused number
+abbrev pub loadMeans : LoadAnswer → Reply
+loadMeans (load.Accepted sets starts) = loaded sets starts
+loadMeans (load.Refused number) = refused number
 
-abbrev pub openSays : OpenAnswer → Reply
-openSays opening.Accepted = accepted
-openSays (opening.Refused number) = refused number
+abbrev pub openMeans : OpenAnswer → Reply
+openMeans opening.Accepted = accepted
+openMeans (opening.Refused number) = refused number
 
-abbrev pub deliverSays : DeliverAnswer → Reply
-deliverSays delivery.Accepted = accepted
-deliverSays (delivery.Refused number) = refused number
+abbrev pub deliverMeans : DeliverAnswer → Reply
+deliverMeans delivery.Accepted = accepted
+deliverMeans (delivery.Refused number) = refused number
 
-abbrev pub withdrawSays : WithdrawAnswer → Reply
-withdrawSays withdrawal.Accepted = accepted
-withdrawSays (withdrawal.Refused number) = refused number
+abbrev pub withdrawMeans : WithdrawAnswer → Reply
+withdrawMeans withdrawal.Accepted = accepted
+withdrawMeans (withdrawal.Refused number) = refused number
 
-abbrev pub verdictSays : Verdict → Reply
-verdictSays (Waiting empty) = judged (waiting empty)
-verdictSays (Yes count) = judged (keeps count)
-verdictSays (No count) = judged (breaks count)
-verdictSays (Refused number) = refused number
+abbrev pub verdictMeans : Verdict → Reply
+verdictMeans (Waiting empty) = judged (waiting empty)
+verdictMeans (Yes count) = judged (yesWith count)
+verdictMeans (No count) = judged (noWith count)
+verdictMeans (Refused number) = refused number

@@ -4,7 +4,7 @@
 --
 --   fresh              no rule and no board: zeros
 --   Outcome            what a call came to: what its answer says, and the state that it leaves
---   loadCame, openCame, deliverCame, withdrawCame   the outcome that the code's result tells
+--   loadOutcome, openOutcome, deliverOutcome, withdrawOutcome   the outcome that the code's result tells
 --   loadOf, openOf, deliverOf, withdrawOf   what the calls that may change the state come to
 --   verdictOf          what the verdict says
 --   stepOf j c         what the call c comes to on the state j
@@ -22,12 +22,12 @@ use Rattle.board.specs.declared.Board.{Board}
 use Rattle.board.specs.Boards.{placesOf, isEmpty, emptyBoard, filledAt, clearedAt, emptyPlaces, summedCount}
 use Rattle.joins.specs.Joining.{saysYes}
 use Rattle.calls.specs.declared.Judge.{Judge}
-use Rattle.calls.specs.declared.Loading.{Loading}
-use Rattle.calls.specs.declared.Opening.{Opening}
-use Rattle.calls.specs.declared.Delivery.{Delivery}
-use Rattle.calls.specs.declared.Withdrawal.{Withdrawal}
-use Rattle.calls.specs.Replies.{Reply, accepted, loaded, refused, loadSays, openSays, deliverSays, withdrawSays}
-use Rattle.calls.specs.Calls.{Call, loads, opens, delivers, withdraws, asks, loadNumber, openConditions, deliverConditions, withdrawConditions, verdictBy}
+use Rattle.calls.specs.declared.LoadResult.{LoadResult}
+use Rattle.calls.specs.declared.OpenResult.{OpenResult}
+use Rattle.calls.specs.declared.DeliverResult.{DeliverResult}
+use Rattle.calls.specs.declared.WithdrawResult.{WithdrawResult}
+use Rattle.calls.specs.Replies.{Reply, accepted, loaded, refused, loadMeans, openMeans, deliverMeans, withdrawMeans}
+use Rattle.calls.specs.Calls.{Call, loads, opens, delivers, withdraws, asksVerdict, loadNumber, openConditions, deliverConditions, withdrawConditions, verdictBy}
 
 unfoldable pub fresh : Judge
 fresh = record { built = noBuilt; board = emptyBoard 0 }
@@ -43,30 +43,30 @@ withBoard j b = record { built = j .built; board = b }
 
 -- ---- outcomes
 pub record Outcome : Type 0 where
-  pub says : Reply
-  pub leaves : Judge
+  pub reply : Reply
+  pub state : Judge
 
-abbrev pub loadCame : Loading → Outcome
-loadCame r = record { says = loadSays (r .answer); leaves = r .judge }
+abbrev pub loadOutcome : LoadResult → Outcome
+loadOutcome r = record { reply = loadMeans (r .answer); state = r .judge }
 
-abbrev pub openCame : Opening → Outcome
-openCame r = record { says = openSays (r .answer); leaves = r .judge }
+abbrev pub openOutcome : OpenResult → Outcome
+openOutcome r = record { reply = openMeans (r .answer); state = r .judge }
 
-abbrev pub deliverCame : Delivery → Outcome
-deliverCame r = record { says = deliverSays (r .answer); leaves = r .judge }
+abbrev pub deliverOutcome : DeliverResult → Outcome
+deliverOutcome r = record { reply = deliverMeans (r .answer); state = r .judge }
 
-abbrev pub withdrawCame : Withdrawal → Outcome
-withdrawCame r = record { says = withdrawSays (r .answer); leaves = r .judge }
+abbrev pub withdrawOutcome : WithdrawResult → Outcome
+withdrawOutcome r = record { reply = withdrawMeans (r .answer); state = r .judge }
 
 -- where no condition holds the call is accepted; a refusal leaves the state as it was
 abbrev pub outcomeBy : Option ℕ → Reply → Judge → Judge → Outcome
-outcomeBy none a j next = record { says = a; leaves = next }
-outcomeBy (some number) a j next = record { says = refused number; leaves = j }
+outcomeBy none a j next = record { reply = a; state = next }
+outcomeBy (some number) a j next = record { reply = refused number; state = j }
 
 -- ---- load
 unfoldable pub loadOf : Judge → List ℕ → Outcome
 loadOf j f =
-    let b = builtOf (ruleOf f) in outcomeBy (loadNumber f) (loaded (b .count) (b .starts)) j (record { built = b; board = emptyBoard 0 })
+    let b = builtOf (ruleOf f) in outcomeBy (loadNumber f) (loaded (b .setcount) (b .startcount)) j (record { built = b; board = emptyBoard 0 })
 
 -- ---- open
 unfoldable pub openOf : Judge → ℕ → Outcome
@@ -111,4 +111,4 @@ stepOf j (loads f) = loadOf j f
 stepOf j (opens n) = openOf j n
 stepOf j (delivers p w) = deliverOf j p w
 stepOf j (withdraws p) = withdrawOf j p
-stepOf j asks = record { says = verdictOf j; leaves = j }
+stepOf j asksVerdict = record { reply = verdictOf j; state = j }

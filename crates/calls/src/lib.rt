@@ -38,22 +38,22 @@ pub enum Verdict {
 }
 
 // Each call that may change the state answers with the next state beside the answer.
-pub struct Loading {
+pub struct LoadResult {
     pub answer: LoadAnswer,
     pub judge: Judge,
 }
 
-pub struct Opening {
+pub struct OpenResult {
     pub answer: OpenAnswer,
     pub judge: Judge,
 }
 
-pub struct Delivery {
+pub struct DeliverResult {
     pub answer: DeliverAnswer,
     pub judge: Judge,
 }
 
-pub struct Withdrawal {
+pub struct WithdrawResult {
     pub answer: WithdrawAnswer,
     pub judge: Judge,
 }

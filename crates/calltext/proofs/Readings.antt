@@ -15,26 +15,26 @@ use Rattle.lines.proofs.Splits.{begins-short, up-take, past-there, past-none}
 use Rattle.fields.specs.declared.Number.{Number}
 use Rattle.fields.specs.declared.Number.the-variants.{Value}
 use Rattle.fields.specs.declared.Number.the-variants as number
-use Rattle.fields.specs.Numbers.{numberIn, numberSaid}
-use Rattle.fields.specs.Bytes.{bytesIn}
+use Rattle.fields.specs.Numbers.{parseNumber, numberMeans}
+use Rattle.fields.specs.Bytes.{parseBytes}
 use Rattle.calls.specs.Calls.{opens, withdraws}
 use Rattle.calltext.specs.declared.Line.{Line}
 use Rattle.calltext.specs.declared.Line.the-variants.{Empty, Load, Verdict, Malformed}
-use Rattle.calltext.specs.Meaning.{call, malformed, load-word, open-word, deliver-word, withdraw-word, verdict-word, openBy, withdrawBy, deliverBy, deliverFields, callIn, lineIn, meant, bytesFrom, Parsed}
+use Rattle.calltext.specs.Meaning.{call, malformed, load-word, open-word, deliver-word, withdraw-word, verdict-word, openBy, withdrawBy, deliverBy, deliverFields, callIn, lineIn, lineMeans, bytesFrom, Parsed}
 
 -- ---- the number of an opening, a withdrawal and a delivery
-module _ (field : List ℕ) (x : Number) (said : numberSaid x ≡ numberIn field) where
-  pub open-value : (n : ℕ) → x ≡ Value n → call (opens n) ≡ openBy (numberIn field)
-  open-value n e = ap openBy (sym (ap numberSaid e) ∙ said)
+module _ (field : List ℕ) (x : Number) (said : numberMeans x ≡ parseNumber field) where
+  pub open-value : (n : ℕ) → x ≡ Value n → call (opens n) ≡ openBy (parseNumber field)
+  open-value n e = ap openBy (sym (ap numberMeans e) ∙ said)
 
-  pub open-malformed : x ≡ number.Malformed → malformed ≡ openBy (numberIn field)
-  open-malformed e = ap openBy (sym (ap numberSaid e) ∙ said)
+  pub open-malformed : x ≡ number.Malformed → malformed ≡ openBy (parseNumber field)
+  open-malformed e = ap openBy (sym (ap numberMeans e) ∙ said)
 
-  pub withdraw-value : (p : ℕ) → x ≡ Value p → call (withdraws p) ≡ withdrawBy (numberIn field)
-  withdraw-value p e = ap withdrawBy (sym (ap numberSaid e) ∙ said)
+  pub withdraw-value : (p : ℕ) → x ≡ Value p → call (withdraws p) ≡ withdrawBy (parseNumber field)
+  withdraw-value p e = ap withdrawBy (sym (ap numberMeans e) ∙ said)
 
-  pub withdraw-malformed : x ≡ number.Malformed → malformed ≡ withdrawBy (numberIn field)
-  withdraw-malformed e = ap withdrawBy (sym (ap numberSaid e) ∙ said)
+  pub withdraw-malformed : x ≡ number.Malformed → malformed ≡ withdrawBy (parseNumber field)
+  withdraw-malformed e = ap withdrawBy (sym (ap numberMeans e) ∙ said)
 
 -- `space` is the index of the first space from 8 on
 module _ (w : List ℕ) (long : 8 ≤ length w) (space : ℕ) (found : space ≡ 8 + length (upTo 32 (drop 8 w))) where
@@ -45,7 +45,7 @@ module _ (w : List ℕ) (long : 8 ≤ length w) (space : ℕ) (found : space ≡
   deliver-alone l = rw (past-none 32 (drop 8 w) (omega (arith, rest-length)))
 
   module _ (here : space < length w) where
-    fields-are : deliverFields (upTo 32 (drop 8 w)) (past 32 (drop 8 w)) ≡ deliverBy (numberIn (take (space - 8) (drop 8 w))) (bytesIn (drop (space + 1) w))
+    fields-are : deliverFields (upTo 32 (drop 8 w)) (past 32 (drop 8 w)) ≡ deliverBy (parseNumber (take (space - 8) (drop 8 w))) (parseBytes (drop (space + 1) w))
     fields-are =
         let m = length (upTo 32 (drop 8 w)) in
         let next : 8 + suc m ≡ space + 1 = omega (arith, found) in
@@ -56,12 +56,12 @@ module _ (w : List ℕ) (long : 8 ≤ length w) (space : ℕ) (found : space ≡
         ∙ ap (λ (l : List ℕ). some l) (drop-drop (suc m) 8 w ∙ ap (λ (x : ℕ). drop x w) next) in
         rw (rest, part)
 
-    module _ (x : Number) (said : numberSaid x ≡ numberIn (take (space - 8) (drop 8 w))) where
-      pub deliver-value : (p : ℕ) → x ≡ Value p → deliverBy (some p) (bytesIn (drop (space + 1) w)) ≡ deliverFields (upTo 32 (drop 8 w)) (past 32 (drop 8 w))
-      deliver-value p e = ap (λ (o : Option ℕ). deliverBy o (bytesIn (drop (space + 1) w))) (sym (ap numberSaid e) ∙ said) ∙ sym fields-are
+    module _ (x : Number) (said : numberMeans x ≡ parseNumber (take (space - 8) (drop 8 w))) where
+      pub deliver-value : (p : ℕ) → x ≡ Value p → deliverBy (some p) (parseBytes (drop (space + 1) w)) ≡ deliverFields (upTo 32 (drop 8 w)) (past 32 (drop 8 w))
+      deliver-value p e = ap (λ (o : Option ℕ). deliverBy o (parseBytes (drop (space + 1) w))) (sym (ap numberMeans e) ∙ said) ∙ sym fields-are
 
       pub deliver-malformed : x ≡ number.Malformed → malformed ≡ deliverFields (upTo 32 (drop 8 w)) (past 32 (drop 8 w))
-      deliver-malformed e = ap (λ (o : Option ℕ). deliverBy o (bytesIn (drop (space + 1) w))) (sym (ap numberSaid e) ∙ said) ∙ sym fields-are
+      deliver-malformed e = ap (λ (o : Option ℕ). deliverBy o (parseBytes (drop (space + 1) w))) (sym (ap numberMeans e) ∙ said) ∙ sym fields-are
 
 -- a part of a line up to its end
 pub to-the-end : (w : List ℕ) (from : ℕ) → take (length w - from) (drop from w) ≡ drop from w
@@ -110,19 +110,19 @@ module _ (w : List ℕ) where
       parsed-load is = record { means = line-is ∙ rw (no-verdict, is); inside = begins-long load-word w is }
 
       module _ (no-load : begins load-word w ≡ false) where
-        pub parsed-open : begins open-word w ≡ true → (r : Line) → bytesFrom r ≡ 0 → meant w r ≡ openBy (numberIn (take (length w - 5) (drop 5 w))) → Parsed w r
+        pub parsed-open : begins open-word w ≡ true → (r : Line) → bytesFrom r ≡ 0 → lineMeans w r ≡ openBy (parseNumber (take (length w - 5) (drop 5 w))) → Parsed w r
         unfolding callIn
         parsed-open is r from e = record { means = line-is ∙ rw (no-verdict, no-load, is) (sym (rw (to-the-end w 5) at e)); inside = omega (arith, from) }
 
         module _ (no-open : begins open-word w ≡ false) where
           pub parsed-delivery : begins deliver-word w ≡ true → (r : Line) → bytesFrom r ≤ length w
-              → meant w r ≡ deliverFields (upTo 32 (drop 8 w)) (past 32 (drop 8 w)) → Parsed w r
+              → lineMeans w r ≡ deliverFields (upTo 32 (drop 8 w)) (past 32 (drop 8 w)) → Parsed w r
           unfolding callIn
           parsed-delivery is r from e = record { means = line-is ∙ rw (no-verdict, no-load, no-open, is) (sym e); inside = from }
 
           module _ (no-deliver : begins deliver-word w ≡ false) where
             pub parsed-withdrawal : begins withdraw-word w ≡ true → (r : Line) → bytesFrom r ≡ 0
-                → meant w r ≡ withdrawBy (numberIn (take (length w - 9) (drop 9 w))) → Parsed w r
+                → lineMeans w r ≡ withdrawBy (parseNumber (take (length w - 9) (drop 9 w))) → Parsed w r
             unfolding callIn
             parsed-withdrawal is r from e = record {
               means = line-is ∙ rw (no-verdict, no-load, no-open, no-deliver, is) (sym (rw (to-the-end w 9) at e));

@@ -4,13 +4,13 @@
 --   judgementText v   what a verdict says, as text
 --   replyText a       a reply as text, without its line feed
 --   responseText s    the whole line
---   isUnread s        the line is malformed
---   responseOf r      what each case of the code's answer says
+--   isMalformed s        the line is malformed
+--   answerMeans r      what each case of the code's answer says
 use mathlib.Core.Bool.{Bool, true, false}
 use mathlib.Core.List.{List, [], _∷_, _++_}
 use Prim.Native.Nat.{ℕ}
 use Rattle.text.specs.Numerals.{decimal}
-use Rattle.calls.specs.Replies.{Judgement, waiting, keeps, breaks, Reply, accepted, loaded, judged, refused, loadSays, openSays, deliverSays, withdrawSays, verdictSays}
+use Rattle.calls.specs.Replies.{Judgement, waiting, yesWith, noWith, Reply, accepted, loaded, judged, refused, loadMeans, openMeans, deliverMeans, withdrawMeans, verdictMeans}
 use Rattle.calltext.specs.declared.LineAnswer.{LineAnswer}
 use Rattle.calltext.specs.declared.LineAnswer.the-variants.{Began, Load, Open, Deliver, Withdraw, Verdict, Malformed}
 
@@ -19,10 +19,10 @@ pub data Response : Type 0 where
   replied : Reply → Response
   unread : Response
 
-abbrev pub isUnread : Response → Bool
-isUnread began = false
-isUnread (replied a) = false
-isUnread unread = true
+abbrev pub isMalformed : Response → Bool
+isMalformed began = false
+isMalformed (replied a) = false
+isMalformed unread = true
 
 abbrev pub accepted-word : List ℕ
 accepted-word = 97 ∷ 99 ∷ 99 ∷ 101 ∷ 112 ∷ 116 ∷ 101 ∷ 100 ∷ []
@@ -48,8 +48,8 @@ behind n = 32 ∷ decimal n
 
 abbrev pub judgementText : Judgement → List ℕ
 judgementText (waiting empty) = waiting-word ++ behind empty
-judgementText (keeps count) = yes-word ++ behind count
-judgementText (breaks count) = no-word ++ behind count
+judgementText (yesWith count) = yes-word ++ behind count
+judgementText (noWith count) = no-word ++ behind count
 
 abbrev pub replyText : Reply → List ℕ
 replyText accepted = accepted-word
@@ -62,11 +62,11 @@ responseText began = 10 ∷ []
 responseText (replied a) = replyText a ++ (10 ∷ [])
 responseText unread = malformed-word ++ (10 ∷ [])
 
-abbrev pub responseOf : LineAnswer → Response
-responseOf Began = began
-responseOf (Load a) = replied (loadSays a)
-responseOf (Open a) = replied (openSays a)
-responseOf (Deliver a) = replied (deliverSays a)
-responseOf (Withdraw a) = replied (withdrawSays a)
-responseOf (Verdict v) = replied (verdictSays v)
-responseOf Malformed = unread
+abbrev pub answerMeans : LineAnswer → Response
+answerMeans Began = began
+answerMeans (Load a) = replied (loadMeans a)
+answerMeans (Open a) = replied (openMeans a)
+answerMeans (Deliver a) = replied (deliverMeans a)
+answerMeans (Withdraw a) = replied (withdrawMeans a)
+answerMeans (Verdict v) = replied (verdictMeans v)
+answerMeans Malformed = unread

@@ -13,9 +13,9 @@ use Prim.Native.Nat.{ℕ, _≤_}
 use lib.Dec.{eqb}
 use lib.ListN.{length, drop}
 use Rattle.lines.specs.Splitting.{begins, upTo, past}
-use Rattle.fields.specs.Numbers.{numberIn}
-use Rattle.fields.specs.Bytes.{bytesIn}
-use Rattle.calls.specs.Calls.{Call, loads, opens, delivers, withdraws, asks}
+use Rattle.fields.specs.Numbers.{parseNumber}
+use Rattle.fields.specs.Bytes.{parseBytes}
+use Rattle.calls.specs.Calls.{Call, loads, opens, delivers, withdraws, asksVerdict}
 use Rattle.calltext.specs.declared.Line.{Line}
 use Rattle.calltext.specs.declared.Line.the-variants.{Empty, Load, Open, Deliver, Withdraw, Verdict, Malformed}
 
@@ -61,29 +61,29 @@ deliverBy (some p) (some w) = call (delivers p w)
 -- a place, and behind one space the bytes
 abbrev pub deliverFields : List ℕ → Option (List ℕ) → Meaning
 deliverFields p none = malformed
-deliverFields p (some w) = deliverBy (numberIn p) (bytesIn w)
+deliverFields p (some w) = deliverBy (parseNumber p) (parseBytes w)
 
 -- the five calls
 unfoldable pub callIn : List ℕ → Meaning
 callIn w =
-    cond (begins verdict-word w) (cond (eqb (length w) 7) (call asks) malformed)
-    (cond (begins load-word w) (loadBy (bytesIn (drop 5 w)))
-    (cond (begins open-word w) (openBy (numberIn (drop 5 w)))
+    cond (begins verdict-word w) (cond (eqb (length w) 7) (call asksVerdict) malformed)
+    (cond (begins load-word w) (loadBy (parseBytes (drop 5 w)))
+    (cond (begins open-word w) (openBy (parseNumber (drop 5 w)))
     (cond (begins deliver-word w) (deliverFields (upTo 32 (drop 8 w)) (past 32 (drop 8 w)))
-    (cond (begins withdraw-word w) (withdrawBy (numberIn (drop 9 w))) malformed))))
+    (cond (begins withdraw-word w) (withdrawBy (parseNumber (drop 9 w))) malformed))))
 
 abbrev pub lineIn : List ℕ → Meaning
 lineIn w = cond (eqb (length w) 0) again (callIn w)
 
 -- ---- what the code answers. The bytes of a load and of a delivery are still to be read, from an index on
-abbrev pub meant : List ℕ → Line → Meaning
-meant w Empty = again
-meant w Load = loadBy (bytesIn (drop 5 w))
-meant w (Open n) = call (opens n)
-meant w (Deliver p from) = deliverBy (some p) (bytesIn (drop from w))
-meant w (Withdraw p) = call (withdraws p)
-meant w Verdict = call asks
-meant w Malformed = malformed
+abbrev pub lineMeans : List ℕ → Line → Meaning
+lineMeans w Empty = again
+lineMeans w Load = loadBy (parseBytes (drop 5 w))
+lineMeans w (Open n) = call (opens n)
+lineMeans w (Deliver p from) = deliverBy (some p) (parseBytes (drop from w))
+lineMeans w (Withdraw p) = call (withdraws p)
+lineMeans w Verdict = call asksVerdict
+lineMeans w Malformed = malformed
 
 abbrev pub bytesFrom : Line → ℕ
 bytesFrom Empty = 0
@@ -95,5 +95,5 @@ bytesFrom Verdict = 0
 bytesFrom Malformed = 0
 
 pub record Parsed (w : List ℕ) (r : Line) : Type 0 where
-  pub means : lineIn w ≡ meant w r
+  pub means : lineIn w ≡ lineMeans w r
   pub inside : bytesFrom r ≤ length w

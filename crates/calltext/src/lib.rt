@@ -5,11 +5,11 @@ ghost use Prim.Native.Nat.{ℕ, _+_, _≤_};
 ghost use lib.ListN.{length, drop};
 ghost use Rattle.limits.specs.Limits.{answerRoom};
 ghost use Rattle.text.specs.Writing.{Wrote};
-ghost use Rattle.fields.specs.Numbers.{numberIn};
+ghost use Rattle.fields.specs.Numbers.{parseNumber};
 ghost use Rattle.lines.specs.Splitting.{upTo, past};
-ghost use Rattle.calltext.specs.Meaning.{openBy, withdrawBy, deliverFields, meant, bytesFrom, Parsed};
-ghost use Rattle.calltext.specs.Answers.{behind, replied, responseText, responseOf};
-ghost use Rattle.calls.specs.Replies.{accepted, loaded, refused, loadSays, openSays, deliverSays, withdrawSays, verdictSays};
+ghost use Rattle.calltext.specs.Meaning.{openBy, withdrawBy, deliverFields, lineMeans, bytesFrom, Parsed};
+ghost use Rattle.calltext.specs.Answers.{behind, replied, responseText, answerMeans};
+ghost use Rattle.calls.specs.Replies.{accepted, loaded, refused, loadMeans, openMeans, deliverMeans, withdrawMeans, verdictMeans};
 use calls::DeliverAnswer;
 use calls::LoadAnswer;
 use calls::OpenAnswer;
@@ -29,7 +29,7 @@ pub enum Line {
 }
 
 fn opening(field: &[u8]) -> Line
-    ensures { λ r. ⌜ (bytesFrom r ≡ 0) × ((w : List ℕ) → meant w r ≡ openBy (numberIn (now (field .entry)))) ⌝ }
+    ensures { λ r. ⌜ (bytesFrom r ≡ 0) × ((w : List ℕ) → lineMeans w r ≡ openBy (parseNumber (now (field .entry)))) ⌝ }
 {
     let number = fields::read_number(field);
     match number {
@@ -39,7 +39,7 @@ fn opening(field: &[u8]) -> Line
 }
 
 fn withdrawal(field: &[u8]) -> Line
-    ensures { λ r. ⌜ (bytesFrom r ≡ 0) × ((w : List ℕ) → meant w r ≡ withdrawBy (numberIn (now (field .entry)))) ⌝ }
+    ensures { λ r. ⌜ (bytesFrom r ≡ 0) × ((w : List ℕ) → lineMeans w r ≡ withdrawBy (parseNumber (now (field .entry)))) ⌝ }
 {
     let number = fields::read_number(field);
     match number {
@@ -51,7 +51,7 @@ fn withdrawal(field: &[u8]) -> Line
 // A place up to the next space, and bytes behind it.
 fn delivery(line: &[u8]) -> Line
     requires { ⌜ 8 ≤ length (now line) ⌝ }
-    ensures { λ r. ⌜ (bytesFrom r ≤ length (now (line .entry))) × (meant (now (line .entry)) r ≡ deliverFields (upTo 32 (drop 8 (now (line .entry)))) (past 32 (drop 8 (now (line .entry))))) ⌝ }
+    ensures { λ r. ⌜ (bytesFrom r ≤ length (now (line .entry))) × (lineMeans (now (line .entry)) r ≡ deliverFields (upTo 32 (drop 8 (now (line .entry)))) (past 32 (drop 8 (now (line .entry))))) ⌝ }
 {
     let space = lines::find(line, 8, b' ');
     if line.len() <= space {
@@ -159,7 +159,7 @@ fn put_loaded(out: &mut [u8], sets: u64, starts: u64) -> usize
 // What a call is answered, a function for each type of answer.
 fn put_load(out: &mut [u8], answer: LoadAnswer) -> usize
     requires { ⌜ 64 ≤ length (now out) ⌝ }
-    ensures { λ r. ⌜ Wrote (now (out .entry)) 0 (responseText (replied (loadSays answer))) (now (out .exit)) r ⌝ }
+    ensures { λ r. ⌜ Wrote (now (out .entry)) 0 (responseText (replied (loadMeans answer))) (now (out .exit)) r ⌝ }
 {
     match answer {
         LoadAnswer::Accepted(sets, starts) => put_loaded(out, sets as u64, starts as u64),
@@ -169,7 +169,7 @@ fn put_load(out: &mut [u8], answer: LoadAnswer) -> usize
 
 fn put_open(out: &mut [u8], answer: OpenAnswer) -> usize
     requires { ⌜ 64 ≤ length (now out) ⌝ }
-    ensures { λ r. ⌜ Wrote (now (out .entry)) 0 (responseText (replied (openSays answer))) (now (out .exit)) r ⌝ }
+    ensures { λ r. ⌜ Wrote (now (out .entry)) 0 (responseText (replied (openMeans answer))) (now (out .exit)) r ⌝ }
 {
     match answer {
         OpenAnswer::Accepted => put_accepted(out),
@@ -179,7 +179,7 @@ fn put_open(out: &mut [u8], answer: OpenAnswer) -> usize
 
 fn put_deliver(out: &mut [u8], answer: DeliverAnswer) -> usize
     requires { ⌜ 64 ≤ length (now out) ⌝ }
-    ensures { λ r. ⌜ Wrote (now (out .entry)) 0 (responseText (replied (deliverSays answer))) (now (out .exit)) r ⌝ }
+    ensures { λ r. ⌜ Wrote (now (out .entry)) 0 (responseText (replied (deliverMeans answer))) (now (out .exit)) r ⌝ }
 {
     match answer {
         DeliverAnswer::Accepted => put_accepted(out),
@@ -189,7 +189,7 @@ fn put_deliver(out: &mut [u8], answer: DeliverAnswer) -> usize
 
 fn put_withdraw(out: &mut [u8], answer: WithdrawAnswer) -> usize
     requires { ⌜ 64 ≤ length (now out) ⌝ }
-    ensures { λ r. ⌜ Wrote (now (out .entry)) 0 (responseText (replied (withdrawSays answer))) (now (out .exit)) r ⌝ }
+    ensures { λ r. ⌜ Wrote (now (out .entry)) 0 (responseText (replied (withdrawMeans answer))) (now (out .exit)) r ⌝ }
 {
     match answer {
         WithdrawAnswer::Accepted => put_accepted(out),
@@ -199,7 +199,7 @@ fn put_withdraw(out: &mut [u8], answer: WithdrawAnswer) -> usize
 
 fn put_verdict(out: &mut [u8], verdict: Verdict) -> usize
     requires { ⌜ 64 ≤ length (now out) ⌝ }
-    ensures { λ r. ⌜ Wrote (now (out .entry)) 0 (responseText (replied (verdictSays verdict))) (now (out .exit)) r ⌝ }
+    ensures { λ r. ⌜ Wrote (now (out .entry)) 0 (responseText (replied (verdictMeans verdict))) (now (out .exit)) r ⌝ }
 {
     match verdict {
         Verdict::Waiting(empty) => put_numbered(out, b"waiting", empty as u64),
@@ -212,7 +212,7 @@ fn put_verdict(out: &mut [u8], verdict: Verdict) -> usize
 // Writes an answer at the buffer's start and tells its length; 64 bytes are enough.
 pub fn put_answer(out: &mut [u8], answer: LineAnswer) -> usize
     requires { ⌜ answerRoom ≤ length (now out) ⌝ }
-    ensures { λ r. ⌜ Wrote (now (out .entry)) 0 (responseText (responseOf answer)) (now (out .exit)) r ⌝ }
+    ensures { λ r. ⌜ Wrote (now (out .entry)) 0 (responseText (answerMeans answer)) (now (out .exit)) r ⌝ }
 {
     match answer {
         LineAnswer::Began => text::put_byte(out, 0, b'\n'),

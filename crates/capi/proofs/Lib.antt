@@ -1,3 +1,3 @@
-pub mod Told
+pub mod Numbers
 pub mod ReadBack
 pub mod Asks

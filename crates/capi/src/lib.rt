@@ -1,6 +1,6 @@
 // The judge for C and Rust. Answers are numbers; the state is a value that the caller keeps, hands in and gets back.
 ghost use mathlib.Core.Path.{_≡_};
-ghost use Rattle.calls.specs.Replies.{verdictSays};
+ghost use Rattle.calls.specs.Replies.{verdictMeans};
 ghost use Prim.Native.Nat.{_+_, _*_};
 ghost use Rattle.calls.specs.Steps.{fresh, loadOf, openOf, deliverOf, withdrawOf, verdictOf};
 ghost use Rattle.replay.specs.Records.{recordIn, replayOf};
@@ -15,7 +15,7 @@ use replay::ReplayAnswer;
 
 // Accepted is 1 or 0; where it is 0, refused has the number.
 #[repr(C)]
-pub struct LoadResult {
+pub struct LoadNumbers {
     pub accepted: u8,
     pub refused: u8,
     pub sets: u16,
@@ -24,21 +24,21 @@ pub struct LoadResult {
 }
 
 #[repr(C)]
-pub struct OpenResult {
+pub struct OpenNumbers {
     pub accepted: u8,
     pub refused: u8,
     pub judge: Judge,
 }
 
 #[repr(C)]
-pub struct DeliverResult {
+pub struct DeliverNumbers {
     pub accepted: u8,
     pub refused: u8,
     pub judge: Judge,
 }
 
 #[repr(C)]
-pub struct WithdrawResult {
+pub struct WithdrawNumbers {
     pub accepted: u8,
     pub refused: u8,
     pub judge: Judge,
@@ -46,14 +46,14 @@ pub struct WithdrawResult {
 
 // Kind 0 refused with the number, 1 waiting with so many empty places, 2 yes and 3 no with the count.
 #[repr(C)]
-pub struct VerdictResult {
+pub struct VerdictNumbers {
     pub kind: u8,
     pub number: u64,
 }
 
 // As a verdict; kind 4: the line of that number is malformed.
 #[repr(C)]
-pub struct ReplayResult {
+pub struct ReplayNumbers {
     pub kind: u8,
     pub number: u64,
 }
@@ -89,21 +89,21 @@ pub extern "C" fn bellbadger_new() -> Judge
 }
 
 #[no_mangle]
-pub extern "C" fn bellbadger_load(judge: Judge, file: &[u8]) -> LoadResult
+pub extern "C" fn bellbadger_load(judge: Judge, file: &[u8]) -> LoadNumbers
     ensures { λ r. ⌜ r ≡ loadShown (loadOf judge (now (file .entry))) ⌝ }
 {
     let loading = judge::load(judge, file);
     let answer = loading.answer;
     let judge = loading.judge;
     match answer {
-        LoadAnswer::Accepted(sets, starts) => LoadResult {
+        LoadAnswer::Accepted(sets, starts) => LoadNumbers {
             accepted: 1,
             refused: 0,
             sets,
             starts,
             judge,
         },
-        LoadAnswer::Refused(refused) => LoadResult {
+        LoadAnswer::Refused(refused) => LoadNumbers {
             accepted: 0,
             refused,
             sets: 0,
@@ -114,19 +114,19 @@ pub extern "C" fn bellbadger_load(judge: Judge, file: &[u8]) -> LoadResult
 }
 
 #[no_mangle]
-pub extern "C" fn bellbadger_open(judge: Judge, places: usize) -> OpenResult
+pub extern "C" fn bellbadger_open(judge: Judge, places: usize) -> OpenNumbers
     ensures { λ r. ⌜ r ≡ openShown (openOf judge places) ⌝ }
 {
     let opening = judge::open(judge, places);
     let answer = opening.answer;
     let judge = opening.judge;
     match answer {
-        OpenAnswer::Accepted => OpenResult {
+        OpenAnswer::Accepted => OpenNumbers {
             accepted: 1,
             refused: 0,
             judge,
         },
-        OpenAnswer::Refused(refused) => OpenResult {
+        OpenAnswer::Refused(refused) => OpenNumbers {
             accepted: 0,
             refused,
             judge,
@@ -135,19 +135,19 @@ pub extern "C" fn bellbadger_open(judge: Judge, places: usize) -> OpenResult
 }
 
 #[no_mangle]
-pub extern "C" fn bellbadger_deliver(judge: Judge, place: usize, chunk: &[u8]) -> DeliverResult
+pub extern "C" fn bellbadger_deliver(judge: Judge, place: usize, chunk: &[u8]) -> DeliverNumbers
     ensures { λ r. ⌜ r ≡ deliverShown (deliverOf judge place (now (chunk .entry))) ⌝ }
 {
     let delivery = judge::deliver(judge, place, chunk);
     let answer = delivery.answer;
     let judge = delivery.judge;
     match answer {
-        DeliverAnswer::Accepted => DeliverResult {
+        DeliverAnswer::Accepted => DeliverNumbers {
             accepted: 1,
             refused: 0,
             judge,
         },
-        DeliverAnswer::Refused(refused) => DeliverResult {
+        DeliverAnswer::Refused(refused) => DeliverNumbers {
             accepted: 0,
             refused,
             judge,
@@ -156,19 +156,19 @@ pub extern "C" fn bellbadger_deliver(judge: Judge, place: usize, chunk: &[u8]) -
 }
 
 #[no_mangle]
-pub extern "C" fn bellbadger_withdraw(judge: Judge, place: usize) -> WithdrawResult
+pub extern "C" fn bellbadger_withdraw(judge: Judge, place: usize) -> WithdrawNumbers
     ensures { λ r. ⌜ r ≡ withdrawShown (withdrawOf judge place) ⌝ }
 {
     let withdrawal = judge::withdraw(judge, place);
     let answer = withdrawal.answer;
     let judge = withdrawal.judge;
     match answer {
-        WithdrawAnswer::Accepted => WithdrawResult {
+        WithdrawAnswer::Accepted => WithdrawNumbers {
             accepted: 1,
             refused: 0,
             judge,
         },
-        WithdrawAnswer::Refused(refused) => WithdrawResult {
+        WithdrawAnswer::Refused(refused) => WithdrawNumbers {
             accepted: 0,
             refused,
             judge,
@@ -177,45 +177,45 @@ pub extern "C" fn bellbadger_withdraw(judge: Judge, place: usize) -> WithdrawRes
 }
 
 // A verdict in the numbers that C is given.
-fn shown(verdict: Verdict) -> VerdictResult
-    ensures { λ r. ⌜ r ≡ verdictShown (verdictSays verdict) ⌝ }
+fn shown(verdict: Verdict) -> VerdictNumbers
+    ensures { λ r. ⌜ r ≡ verdictShown (verdictMeans verdict) ⌝ }
 {
     match verdict {
-        Verdict::Refused(x) => VerdictResult {
+        Verdict::Refused(x) => VerdictNumbers {
             kind: 0,
             number: x as u64,
         },
-        Verdict::Waiting(empty) => VerdictResult {
+        Verdict::Waiting(empty) => VerdictNumbers {
             kind: 1,
             number: empty as u64,
         },
-        Verdict::Yes(number) => VerdictResult { kind: 2, number },
-        Verdict::No(number) => VerdictResult { kind: 3, number },
+        Verdict::Yes(number) => VerdictNumbers { kind: 2, number },
+        Verdict::No(number) => VerdictNumbers { kind: 3, number },
     }
 }
 
 #[no_mangle]
-pub extern "C" fn bellbadger_verdict(judge: Judge) -> VerdictResult
+pub extern "C" fn bellbadger_verdict(judge: Judge) -> VerdictNumbers
     ensures { λ r. ⌜ r ≡ verdictShown (verdictOf judge) ⌝ }
 {
-    shown(judge::judged(judge))
+    shown(judge::ask_verdict(judge))
 }
 
 // The calls that the text records, and the verdict after them.
 #[no_mangle]
-pub extern "C" fn bellbadger_replay(text: &[u8]) -> ReplayResult
+pub extern "C" fn bellbadger_replay(text: &[u8]) -> ReplayNumbers
     ensures { λ r. ⌜ r ≡ replayShown (replayOf (recordIn (now (text .entry)))) ⌝ }
 {
     let replayed = replay::replay(text);
     match replayed {
         ReplayAnswer::Verdict(verdict) => {
             let told = shown(verdict);
-            ReplayResult {
+            ReplayNumbers {
                 kind: told.kind,
                 number: told.number,
             }
         }
-        ReplayAnswer::Malformed(line) => ReplayResult {
+        ReplayAnswer::Malformed(line) => ReplayNumbers {
             kind: 4,
             number: line as u64,
         },

@@ -15,8 +15,8 @@ use Rattle.masks.specs.Masks.{_∈_, has, single}
 use Rattle.masks.proofs.Laws.{member-of, union-empty}
 use Rattle.automaton.specs.Rules.{targetMask}
 use Rattle.automaton.specs.Successor.{successor}
-use Rattle.delegates.specs.Alike.{startCount}
-use Rattle.chunks.specs.Chunks.{counted, startSet, chunkCount}
+use Rattle.delegates.specs.Alike.{startCount, startSet}
+use Rattle.chunks.specs.Chunks.{counted, chunkCount}
 use Rattle.chunks.proofs.Starts.{start-law}
 
 one-transition : (b : Bool) → cond b 0 1 ≤ 1

@@ -22,7 +22,7 @@ use Rattle.automaton.proofs.Laws.{after-empty}
 use Rattle.subsets.specs.Sets.{tooMany, setCells, nextCells}
 use Rattle.subsets.specs.Claims.{sets, fits}
 use Rattle.subsets.proofs.Claims as subsets
-use Rattle.delegates.specs.Alike.{Text}
+use Rattle.automaton.specs.Automaton.{Text}
 use Rattle.delegates.specs.Classes.{follow}
 use Rattle.delegates.proofs.Acceptance.{mask-at, follow-law}
 use Rattle.build.specs.Building.{builtOf}

@@ -3,7 +3,8 @@ use mathlib.Core.Path.{_≡_, refl}
 use mathlib.Core.List.{List, [], _∷_}
 use Prim.Native.Nat.{ℕ}
 use Rattle.masks.specs.Masks.{union}
-use Rattle.chunks.specs.Chunks.{startSet, runSet}
+use Rattle.delegates.specs.Alike.{startSet}
+use Rattle.chunks.specs.Chunks.{runSet}
 
 -- the delegates of the two rules; both have the initial states {0}, as the mask 1
 abbrev pub delegatesA : List ℕ

@@ -14,7 +14,8 @@ use lib.Dec.{eqb}
 use lib.ListN.{getD}
 use Rattle.masks.specs.Masks.{_∈_, single}
 use Rattle.masks.proofs.Laws.{no-member, or-cases, or-left, or-right, single-law, part-of, in-union, union-same}
-use Rattle.chunks.specs.Chunks.{startSet, delegateSet, runSet}
+use Rattle.delegates.specs.Alike.{startSet}
+use Rattle.chunks.specs.Chunks.{delegateSet, runSet}
 use Rattle.chunks.specs.Walks.{delegateMask, runMask}
 
 -- ---- one state more

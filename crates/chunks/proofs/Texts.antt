@@ -10,7 +10,7 @@ use lib.Dec.{leb}
 use lib.ListN.{length, getD, drop, drop-of-length-le}
 use lib.Seq.{drop-cons}
 use Rattle.base.proofs.Tests.{by-test}
-use Rattle.delegates.specs.Alike.{Text}
+use Rattle.automaton.specs.Automaton.{Text}
 use Rattle.chunks.specs.Chunks.{foreign}
 
 -- ---- what is left to look at from byte i on, where `found` says whether a byte before is foreign

@@ -3,7 +3,6 @@
 --
 --   foreign w k            some byte of w is no symbol below k (13)
 --   counted ts m w         what a run over w counts that begins with the set m: one transition for each successor that is not empty
---   startSet d n           the starts, as a set: the states below n that are their own delegate, where d lists each state's delegate
 --   delegateSet d n m      the delegates of the members of m
 --   runSet d n m place     the states that a chunk is run from at a place, where m is the set of initial states
 --   endSet ts run w q      the end set of state q for the chunk w; empty where q is not run
@@ -11,13 +10,13 @@
 use mathlib.Core.Bool.{Bool, false, cond, _||_}
 use mathlib.Core.List.{List, [], _∷_}
 use Prim.Native.Nat.{ℕ, zero, suc, _+_}
-use lib.Bits.{bitOr}
 use lib.Dec.{eqb, leb}
 use lib.ListN.{getD}
 use Rattle.limits.specs.Limits.{mostStates}
 use Rattle.base.specs.Totals.{total}
 use Rattle.masks.specs.Masks.{has, single, union}
 use Rattle.automaton.specs.Successor.{successor, after}
+use Rattle.delegates.specs.Alike.{startSet}
 
 unfoldable pub foreign : List ℕ → ℕ → Bool
 foreign [] k = false
@@ -26,10 +25,6 @@ foreign (b ∷ w) k = leb k b || foreign w k
 unfoldable pub counted : List ℕ → ℕ → List ℕ → ℕ
 counted ts m [] = 0
 counted ts m (s ∷ w) = cond (eqb (successor ts m s) 0) 0 1 + counted ts (successor ts m s) w
-
-unfoldable pub startSet : List ℕ → ℕ → ℕ
-startSet d zero = 0
-startSet d (suc q) = bitOr (startSet d q) (cond (eqb (getD d q 0) q) (single q) 0)
 
 abbrev pub delegateSet : List ℕ → ℕ → ℕ → ℕ
 delegateSet d n m = union (λ q. single (getD d q 0)) m n

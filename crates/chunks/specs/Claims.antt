@@ -12,9 +12,10 @@ use Rattle.automaton.specs.declared.Rule.{Rule}
 use Rattle.automaton.specs.Rules.{WellFormed}
 use Rattle.automaton.specs.Successor.{after}
 use Rattle.subsets.specs.Claims.{fits}
-use Rattle.delegates.specs.Alike.{Text, startCount}
+use Rattle.automaton.specs.Automaton.{Text}
+use Rattle.delegates.specs.Alike.{startCount, startSet}
 use Rattle.build.specs.Building.{builtOf}
-use Rattle.chunks.specs.Chunks.{foreign, counted, startSet, delegateSet, runSet, endSet, chunkCount}
+use Rattle.chunks.specs.Chunks.{foreign, counted, delegateSet, runSet, endSet, chunkCount}
 use Rattle.chunks.specs.Walks.{walkEnd, walkCount, maskOf, runsOf, delegateMask, runMask}
 
 pub record Claims : Type 0 where

@@ -17,7 +17,7 @@ use Rattle.base.specs.Totals.{total}
 use Rattle.masks.specs.Masks.{has, single, union}
 use Rattle.delegates.specs.Classes.{follow}
 use Rattle.chunks.specs.declared.Runs.{Runs}
-use Rattle.chunks.specs.Chunks.{startSet}
+use Rattle.delegates.specs.Alike.{startSet}
 
 abbrev pub stepOf : List ℕ → ℕ → ℕ → ℕ
 stepOf next i b = follow next i (b % mostSymbols)

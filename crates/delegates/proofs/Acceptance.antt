@@ -20,7 +20,7 @@ use Rattle.base.proofs.Tests.{by-test, same-truth}
 use Rattle.masks.specs.Masks.{single, shares}
 use Rattle.masks.proofs.Laws.{single-law, shares-law}
 use Rattle.automaton.specs.declared.Rule.{Rule}
-use Rattle.automaton.specs.Automaton.{Run}
+use Rattle.automaton.specs.Automaton.{Run, Text}
 use Rattle.automaton.specs.Rules.{automatonOf, WellFormed}
 use Rattle.automaton.specs.Successor.{successor, after}
 use Rattle.automaton.proofs.Laws.{after-law, after-empty}
@@ -28,7 +28,7 @@ use Rattle.subsets.specs.Sets.{tooMany, nextSet, setCells, nextCells}
 use Rattle.subsets.specs.Claims.{Claims as SubsetsClaims, sets, next, fits}
 use Rattle.subsets.specs.Singles.{singletonNumber, singlesOf}
 use Rattle.subsets.proofs.Singles.{single-named}
-use Rattle.delegates.specs.Alike.{AcceptsFrom, Text, Alike, Delegate, Merged}
+use Rattle.delegates.specs.Alike.{AcceptsFrom, Alike, Delegate, Merged}
 use Rattle.delegates.specs.Classes.{follow, singleAt, accepted, AlikeSets}
 use Rattle.delegates.specs.Claims.{startsIn}
 use Rattle.delegates.proofs.Tests.{Least, le-by}
@@ -178,7 +178,7 @@ module _ (given : SubsetsClaims) (r : Rule) (good : WellFormed r) (fit : fits r)
         lowest = λ p l y. le-by d p (λ b. x .first p zero-le b (alike-law p q l h .1 (alike-back (automatonOf r) q p y)));
       }
 
-  pub merged : Merged (automatonOf r) (startsIn r .delegates) (startsIn r .count)
+  pub merged : Merged (automatonOf r) (startsIn r .delegates) (startsIn r .startcount)
   unfolding masks cells singles numbered startsIn
   merged =
       let n : min (r .n) 32 ≡ r .n = omega (arith, good .states) in

@@ -20,7 +20,7 @@ use lib.ListN.{length, getD}
 use Rattle.base.proofs.Lists.{cell-of, is-listFrom}
 use Rattle.base.proofs.Tests.{by-test, same-truth}
 use Rattle.masks.specs.Masks.{shares}
-use Rattle.delegates.specs.Alike.{Text}
+use Rattle.automaton.specs.Automaton.{Text}
 use Rattle.delegates.specs.Classes.{final, follow, accepted, AlikeSets, every, firstFrom, alikeTo}
 use Rattle.delegates.specs.Refinement.{classOf, sameIn, leastOf, roundOf, changes, classesOf}
 use Rattle.delegates.proofs.Tests.{Least, le-by, equal, every-law, found, least-by, one-least}

@@ -26,7 +26,7 @@ module _ (sets next : List ℕ) (finals : ℕ) (singles : List ℕ) (n k : ℕ) 
     pub cells : length (r .delegates) ≡ 32
     pub delegates : (q : ℕ) → q < min n 32 → Least (Kin sets next finals singles (min k 16)) 0 q (getD (r .delegates) q 0)
     pub zeros : (q : ℕ) → min n 32 ≤ q → getD (r .delegates) q 0 ≡ 0
-    pub starts : r .count ≡ startCount (r .delegates) (min n 32)
+    pub starts : r .startcount ≡ startCount (r .delegates) (min n 32)
 
   lowest : (q : ℕ) → Least (Kin sets next finals singles (min k 16)) 0 q (delegateOf sets next finals singles (min k 16) q)
   unfolding delegateOf

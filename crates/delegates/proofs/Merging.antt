@@ -96,7 +96,7 @@ module _ (sets next : List ℕ) (finals : ℕ) (singles : List ℕ) (k : ℕ) wh
 -- ---- at the end
 module _ (sets next : List ℕ) (finals : ℕ) (singles : List ℕ) (n k : ℕ) where
   pub all-merged : (own delegates : List ℕ) (starts q : ℕ) → q ≡ min n 32 → Merging sets next finals singles (min k 16) own delegates starts q
-      → record { delegates = delegates; count = starts } ≡ startsOf sets next finals singles n k
+      → record { delegates = delegates; startcount = starts } ≡ startsOf sets next finals singles n k
   unfolding startsOf
   all-merged own delegates starts q e m =
       let same : delegates ≡ listFrom 0 32 (cell sets next finals singles n k) =
@@ -105,5 +105,5 @@ module _ (sets next : List ℕ) (finals : ℕ) (singles : List ℕ) (n k : ℕ) 
       by-test (ltb b (min n 32))
       (λ t. let h = ltb-true b (min n 32) t in m .lowest b (omega arith) ∙ rw t)
       (λ t. let h = ltb-false b (min n 32) t in m .zeros b (omega arith) ∙ rw t)) in
-      ap₂ (λ (d : List ℕ) (c : ℕ). record { delegates = d; count = c }) same
+      ap₂ (λ (d : List ℕ) (c : ℕ). record { delegates = d; startcount = c }) same
       (m .counted ∙ ap₂ (λ (d : List ℕ) (x : ℕ). startCount d x) same e)

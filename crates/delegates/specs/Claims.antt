@@ -27,7 +27,7 @@ startsIn r =
 
 pub record Claims : Type 1 where
   -- of a well-formed rule with at most 512 sets, they are the delegates and the number of starts of the automaton
-  pub merged : (r : Rule) → WellFormed r → fits r → Merged (automatonOf r) (startsIn r .delegates) (startsIn r .count)
+  pub merged : (r : Rule) → WellFormed r → fits r → Merged (automatonOf r) (startsIn r .delegates) (startsIn r .startcount)
   -- a text that tells two sets apart has 512 symbols or fewer, or there is one that has
   pub alike-at : (sets next : List ℕ) (finals k s t : ℕ) → s ≤ emptySet → t ≤ emptySet
       → (alikeTo sets next finals k mostClasses s t ≡ true) ↔ AlikeSets sets next finals k s t

@@ -28,7 +28,8 @@ use Rattle.limits.specs.Limits.{mostStates, mostSymbols, emptySet, mostClasses}
 use Rattle.base.specs.Lists.{listFrom}
 use Rattle.masks.specs.Masks.{shares}
 use Rattle.delegates.specs.declared.Starts.{Starts}
-use Rattle.delegates.specs.Alike.{Text, startCount}
+use Rattle.automaton.specs.Automaton.{Text}
+use Rattle.delegates.specs.Alike.{startCount}
 
 unfoldable pub final : List ℕ → ℕ → ℕ → Bool
 final sets finals s = cond (ltb s emptySet) (shares (getD sets s 0) finals) false
@@ -66,4 +67,4 @@ module _ (sets next : List ℕ) (finals : ℕ) where
   unfoldable pub startsOf : List ℕ → ℕ → ℕ → Starts
   startsOf singles n k =
       let d = listFrom 0 mostStates (λ q. cond (ltb q (min n mostStates)) (delegateOf singles (min k mostSymbols) q) 0) in
-      record { delegates = d; count = startCount d (min n mostStates) }
+      record { delegates = d; startcount = startCount d (min n mostStates) }

@@ -12,7 +12,7 @@ use subsets::SetNumber;
 // The delegate of each state, zeros after them, and how many states are their own delegate.
 pub struct Starts {
     pub delegates: [u8; limits::STATES],
-    pub count: u8,
+    pub startcount: u8,
 }
 
 // An array has its length: this only says so, and is compiled to nothing.
@@ -228,6 +228,6 @@ pub fn merge_starts(
     }
     Starts {
         delegates,
-        count: starts,
+        startcount: starts,
     }
 }

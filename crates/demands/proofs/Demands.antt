@@ -4,8 +4,8 @@
 --   1  stepOf j c                     what a call comes to on any state    calls/specs/Steps
 --      Reply, Call; loadNumber ..     01's answers, calls and numbers      calls/specs/Replies, Calls
 --      judgeLibrary, cLibrary         what contracts ask and allow         histories/, demands/specs/Functions
---      loadSays .. verdictSays        what an answer of the code says      calls/specs/Replies
---      loadTold .., replayShown       what C's numbers say                 capi/specs/Numbers
+--      loadMeans .. verdictMeans        what an answer of the code says      calls/specs/Replies
+--      loadReadBack .., replayShown       what C's numbers say                 capi/specs/Numbers
 --   2  Accepts, Run, Arc              automata and their runs (000)        automaton/specs/Automaton
 --      automatonIn f                  the automaton in a file's bytes      ruleformat/specs/Language, Format
 --      fileConditions, FirstHolds     numbers 1 to 8; the first that holds ruleformat/specs/Refusals, base/specs/Conditions
@@ -46,7 +46,7 @@ use Rattle.delegates.specs.Claims.{startsIn}
 use Rattle.build.specs.Building.{builtOf}
 use Rattle.board.specs.Boards.{held, isEmpty, summedCount}
 use Rattle.calls.specs.declared.Judge.{Judge}
-use Rattle.calls.specs.Replies.{waiting, keeps, breaks, Reply, judged, refused}
+use Rattle.calls.specs.Replies.{waiting, yesWith, noWith, Reply, judged, refused}
 use Rattle.calls.specs.Calls.{Call, loadNumber}
 use Rattle.calls.specs.Steps.{fresh, isYes, stepOf}
 use Rattle.calls.proofs.Conditions.{not-refused}
@@ -57,10 +57,10 @@ use Rattle.histories.specs.Conditions.{Accepted-exactly, Refused-exactly}
 use Rattle.histories.specs.Claims.{judgeMachine, judgeAfter, repliesTo, BuiltBy, EveryList, automatonBy, Sum-fits, Never-24}
 use Rattle.histories.specs.Functions.{judgeLibrary}
 use Rattle.histories.specs.TableP.{TableP}
-use Rattle.histories.proofs.Every.{every-list}
+use Rattle.histories.proofs.EveryList.{every-list}
 use Rattle.histories.proofs.Method as histories-method
-use Rattle.histories.proofs.Allowed.{judge-meets}
-use Rattle.histories.proofs.Never as histories-never
+use Rattle.histories.proofs.Refinement.{judge-meets}
+use Rattle.histories.proofs.CountBound as histories-never
 use Rattle.histories.proofs.TableP as histories-table
 use Rattle.lines.specs.Splitting.{linesOf}
 use Rattle.linebuffer.specs.Holding.{lineBegin}
@@ -69,8 +69,8 @@ use Rattle.stream.specs.Texts.{streamOf, rightText}
 use Rattle.stream.proofs.Claimed as stream
 use Rattle.replay.specs.Records.{calls, recordIn, replayOf}
 use Rattle.replay.specs.Claims.{AllFit, recordOf}
-use Rattle.replay.proofs.Again as replay
-use Rattle.capi.specs.declared.ReplayResult.{ReplayResult}
+use Rattle.replay.proofs.RoundTrip as replay
+use Rattle.capi.specs.declared.ReplayNumbers.{ReplayNumbers}
 use Rattle.capi.specs.Numbers.{replayShown}
 use Rattle.capi.proofs.Asks as capi-asks
 use Rattle.capi.proofs.bellbadger_replay.Reads as replay-reads
@@ -85,15 +85,15 @@ use Rattle.demands.proofs.Functions.{c-meets, replay-fixed}
 pub asks-nothing : (j : Judge) (c : Call) → judgeLibrary .Asks j c × cLibrary .Asks j c
 asks-nothing j c = (judge-meets .asks-nothing j c, c-meets .asks-nothing j c)
 
-pub any-call : (j : Judge) (c : Call) (a : Reply) (next : Judge) → judgeLibrary .May j c a next ↔ (a ≡ stepOf j c .says) × (next ≡ stepOf j c .leaves)
+pub any-call : (j : Judge) (c : Call) (a : Reply) (next : Judge) → judgeLibrary .May j c a next ↔ (a ≡ stepOf j c .reply) × (next ≡ stepOf j c .state)
 any-call = judge-meets .steps
 
-pub any-call-from-C : (j : Judge) (c : Call) (a : Reply) (next : Judge) → cLibrary .May j c a next ↔ (a ≡ stepOf j c .says) × (next ≡ stepOf j c .leaves)
+pub any-call-from-C : (j : Judge) (c : Call) (a : Reply) (next : Judge) → cLibrary .May j c a next ↔ (a ≡ stepOf j c .reply) × (next ≡ stepOf j c .state)
 any-call-from-C = c-meets .steps
 
 -- A refusal leaves the state unchanged. (Its number is the first condition's that holds: demand 3.
 -- A file and a chunk are lent as `&[u8]`, which no function can write.)
-pub refusals : (j : Judge) (c : Call) (x : ℕ) → stepOf j c .says ≡ refused x → stepOf j c .leaves ≡ j
+pub refusals : (j : Judge) (c : Call) (x : ℕ) → stepOf j c .reply ≡ refused x → stepOf j c .state ≡ j
 refusals = refusing.unchanged
 
 -- ---- 2. THE METHOD
@@ -127,7 +127,7 @@ pub one-claim : (h : List Call) (rs : List Reply) (j : Judge) → Execution judg
     → (rs ≡ answersTo h) × (j ≡ judgeAfter h) × EveryList h
 one-claim h rs j e =
     let is = ⊎-elim (every-execution h rs j .0) (every-execution-from-C h rs j .0) e in
-    (is .0 ∙ every-list h .all-right, is .1, every-list h)
+    (is .0 ∙ every-list h .correct, is .1, every-list h)
 
 -- A call is accepted exactly when none of its conditions holds, and refused with a number exactly
 -- when that one is the first that holds (the verdict's 21 follows below; the sum of 24 is never too
@@ -155,11 +155,11 @@ waits h = every-list h .verdict .waits
 -- else yes exactly when the last accepted rule has an accepting run over the standing chunks joined
 -- by place, and no when it has none.
 pub accepted-texts : (h : List Call) → boardIn h ≡ true → emptiesIn h ≡ 0
-    → (verdictIn h ≡ judged (keeps (summedIn h))) ↔ Accepts (automatonBy (fileOf h)) (textIn h)
+    → (verdictIn h ≡ judged (yesWith (summedIn h))) ↔ Accepts (automatonBy (fileOf h)) (textIn h)
 accepted-texts h = every-list h .verdict .accepts
 
 pub rejected-texts : (h : List Call) → boardIn h ≡ true → emptiesIn h ≡ 0
-    → (verdictIn h ≡ judged (breaks (summedIn h))) ↔ (Accepts (automatonBy (fileOf h)) (textIn h) → ⊥)
+    → (verdictIn h ≡ judged (noWith (summedIn h))) ↔ (Accepts (automatonBy (fileOf h)) (textIn h) → ⊥)
 rejected-texts h = every-list h .verdict .rejects
 
 -- Each place with a standing chunk holds the end sets and the count that 01 gives, any other none:
@@ -180,10 +180,10 @@ joined h = every-list h .after .joined
 pub summed : (h : List Call) → summedCount (judgeAfter h .board) ≡ summedIn h
 summed h = every-list h .after .summed
 
-pub most : (h : List Call) → summedIn h ≤ startsIn (ruleIn h) .count * length (textIn h)
+pub most : (h : List Call) → summedIn h ≤ startsIn (ruleIn h) .startcount * length (textIn h)
 most h = every-list h .verdict .most
 
-pub place-most : (h : List Call) (p : ℕ) → countAt h p ≤ startsIn (ruleIn h) .count * length (chunkOf (standing h p))
+pub place-most : (h : List Call) (p : ℕ) → countAt h p ≤ startsIn (ruleIn h) .startcount * length (chunkOf (standing h p))
 place-most h = every-list h .verdict .place-most
 
 -- Table P, over one list of cases, through the calls.
@@ -202,8 +202,8 @@ texts = stream.claims .answered
 pub replay-asks-nothing : (κs : Lfts 1) (c : RefT (List ℕ)) → replay-reads.Asked κs (c, tt)
 replay-asks-nothing = capi-asks.replay-asks-nothing
 
-pub replayed : (text : List ℕ) (r : ReplayResult) → MayReplay text r ↔ r ≡ replayShown (replayOf (recordIn text))
+pub replayed : (text : List ℕ) (r : ReplayNumbers) → MayReplay text r ↔ r ≡ replayShown (replayOf (recordIn text))
 replayed = replay-fixed
 
 pub records : (h : List Call) → AllFit h → recordIn (recordOf h) ≡ calls h
-records = replay.claims .record-again
+records = replay.claims .record-round-trip

@@ -8,46 +8,46 @@ use denote.Ref.{RefT}
 use Rattle.executions.specs.Executions.{Meets}
 use Rattle.calls.specs.declared.Judge.{Judge}
 use Rattle.calls.specs.Replies.{Reply}
-use Rattle.calls.specs.Calls.{Call, loads, opens, delivers, withdraws, asks}
+use Rattle.calls.specs.Calls.{Call, loads, opens, delivers, withdraws, asksVerdict}
 use Rattle.calls.specs.Steps.{loadOf, openOf, deliverOf, withdrawOf, verdictOf, stepOf}
 use Rattle.histories.specs.Claims.{judgeMachine}
-use Rattle.histories.proofs.Allowed.{lent, parts, whole}
+use Rattle.histories.proofs.Refinement.{lent, parts, whole}
 use Rattle.replay.specs.Records.{recordIn, replayOf}
-use Rattle.capi.specs.declared.ReplayResult.{ReplayResult}
-use Rattle.capi.specs.Numbers.{replayShown, loadShown, openShown, deliverShown, withdrawShown, verdictShown, loadTold, openTold, deliverTold, withdrawTold, verdictTold}
+use Rattle.capi.specs.declared.ReplayNumbers.{ReplayNumbers}
+use Rattle.capi.specs.Numbers.{replayShown, loadShown, openShown, deliverShown, withdrawShown, verdictShown, loadReadBack, openReadBack, deliverReadBack, withdrawReadBack, verdictReadBack}
 use Rattle.capi.proofs.ReadBack as capi
 use Rattle.capi.proofs.Asks.{new-asks-nothing, load-asks-nothing, open-asks-nothing, deliver-asks-nothing, withdraw-asks-nothing, verdict-asks-nothing}
 use Rattle.demands.specs.Functions.{AsksStep, MayStep, MayReplay, cLibrary}
 
-step-to : (j : Judge) (c : Call) (a : Reply) (next : Judge) → MayStep j c a next → (a ≡ stepOf j c .says) × (next ≡ stepOf j c .leaves)
+step-to : (j : Judge) (c : Call) (a : Reply) (next : Judge) → MayStep j c a next → (a ≡ stepOf j c .reply) × (next ≡ stepOf j c .state)
 step-to j (loads f) a next m =
-    parts a next (loadOf j f) (m .2 ∙ ap loadTold (m .1 .4 ∙ ap (λ (x : List ℕ). loadShown (loadOf j x)) (m .1 .3)) ∙ capi.claims .load-told j f)
-step-to j (opens n) a next m = parts a next (openOf j n) (m .2 ∙ ap openTold (m .1 .1) ∙ capi.claims .open-told j n)
+    parts a next (loadOf j f) (m .2 ∙ ap loadReadBack (m .1 .4 ∙ ap (λ (x : List ℕ). loadShown (loadOf j x)) (m .1 .3)) ∙ capi.claims .load-read-back j f)
+step-to j (opens n) a next m = parts a next (openOf j n) (m .2 ∙ ap openReadBack (m .1 .1) ∙ capi.claims .open-read-back j n)
 step-to j (delivers p w) a next m =
     parts a next (deliverOf j p w)
-    (m .2 ∙ ap deliverTold (m .1 .4 ∙ ap (λ (x : List ℕ). deliverShown (deliverOf j p x)) (m .1 .3)) ∙ capi.claims .deliver-told j p w)
-step-to j (withdraws p) a next m = parts a next (withdrawOf j p) (m .2 ∙ ap withdrawTold (m .1 .1) ∙ capi.claims .withdraw-told j p)
-step-to j asks a next m = (m .2 ∙ ap verdictTold (m .1 .1) ∙ capi.claims .verdict-told j, m .3)
+    (m .2 ∙ ap deliverReadBack (m .1 .4 ∙ ap (λ (x : List ℕ). deliverShown (deliverOf j p x)) (m .1 .3)) ∙ capi.claims .deliver-read-back j p w)
+step-to j (withdraws p) a next m = parts a next (withdrawOf j p) (m .2 ∙ ap withdrawReadBack (m .1 .1) ∙ capi.claims .withdraw-read-back j p)
+step-to j asksVerdict a next m = (m .2 ∙ ap verdictReadBack (m .1 .1) ∙ capi.claims .verdict-read-back j, m .3)
 
-step-back : (j : Judge) (c : Call) (a : Reply) (next : Judge) → (a ≡ stepOf j c .says) × (next ≡ stepOf j c .leaves) → MayStep j c a next
+step-back : (j : Judge) (c : Call) (a : Reply) (next : Judge) → (a ≡ stepOf j c .reply) × (next ≡ stepOf j c .state) → MayStep j c a next
 step-back j (loads f) a next e =
-    (loadShown (loadOf j f), (([], tt), lent f, (j, (lent f, tt)), refl, refl), whole a next (loadOf j f) e ∙ sym (capi.claims .load-told j f))
-step-back j (opens n) a next e = (openShown (openOf j n), ((j, (n, tt)), refl), whole a next (openOf j n) e ∙ sym (capi.claims .open-told j n))
+    (loadShown (loadOf j f), (([], tt), lent f, (j, (lent f, tt)), refl, refl), whole a next (loadOf j f) e ∙ sym (capi.claims .load-read-back j f))
+step-back j (opens n) a next e = (openShown (openOf j n), ((j, (n, tt)), refl), whole a next (openOf j n) e ∙ sym (capi.claims .open-read-back j n))
 step-back j (delivers p w) a next e = (
   deliverShown (deliverOf j p w),
   (([], tt), lent w, (j, (p, (lent w, tt))), refl, refl),
-  whole a next (deliverOf j p w) e ∙ sym (capi.claims .deliver-told j p w),
+  whole a next (deliverOf j p w) e ∙ sym (capi.claims .deliver-read-back j p w),
 )
 step-back j (withdraws p) a next e =
-    (withdrawShown (withdrawOf j p), ((j, (p, tt)), refl), whole a next (withdrawOf j p) e ∙ sym (capi.claims .withdraw-told j p))
-step-back j asks a next e = (verdictShown (verdictOf j), ((j, tt), refl), e .0 ∙ sym (capi.claims .verdict-told j), e .1)
+    (withdrawShown (withdrawOf j p), ((j, (p, tt)), refl), whole a next (withdrawOf j p) e ∙ sym (capi.claims .withdraw-read-back j p))
+step-back j asksVerdict a next e = (verdictShown (verdictOf j), ((j, tt), refl), e .0 ∙ sym (capi.claims .verdict-read-back j), e .1)
 
 asks-nothing : (j : Judge) (c : Call) → AsksStep j c
 asks-nothing j (loads f) = λ κs c e. load-asks-nothing κs j c
 asks-nothing j (opens n) = open-asks-nothing j n
 asks-nothing j (delivers p w) = λ κs c e. deliver-asks-nothing κs j p c
 asks-nothing j (withdraws p) = withdraw-asks-nothing j p
-asks-nothing j asks = verdict-asks-nothing j
+asks-nothing j asksVerdict = verdict-asks-nothing j
 
 pub c-meets : Meets cLibrary judgeMachine
 c-meets = record {
@@ -58,7 +58,7 @@ c-meets = record {
 }
 
 -- what a recorded list comes to is fixed too
-pub replay-fixed : (text : List ℕ) (r : ReplayResult) → MayReplay text r ↔ r ≡ replayShown (replayOf (recordIn text))
+pub replay-fixed : (text : List ℕ) (r : ReplayNumbers) → MayReplay text r ↔ r ≡ replayShown (replayOf (recordIn text))
 replay-fixed text r = (
   (λ m. m .4 ∙ ap (λ (x : List ℕ). replayShown (replayOf (recordIn x))) (m .3)),
   λ e. (([], tt), lent text, (lent text, tt), refl, e),

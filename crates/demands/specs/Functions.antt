@@ -15,15 +15,15 @@ use borrow.Fn.Kinds.{endedOf}
 use Rattle.executions.specs.Executions.{Library}
 use Rattle.calls.specs.declared.Judge.{Judge}
 use Rattle.calls.specs.Replies.{Reply}
-use Rattle.calls.specs.Calls.{Call, loads, opens, delivers, withdraws, asks}
+use Rattle.calls.specs.Calls.{Call, loads, opens, delivers, withdraws, asksVerdict}
 use Rattle.calls.specs.Steps.{Outcome}
-use Rattle.capi.specs.declared.LoadResult.{LoadResult}
-use Rattle.capi.specs.declared.OpenResult.{OpenResult}
-use Rattle.capi.specs.declared.DeliverResult.{DeliverResult}
-use Rattle.capi.specs.declared.WithdrawResult.{WithdrawResult}
-use Rattle.capi.specs.declared.VerdictResult.{VerdictResult}
-use Rattle.capi.specs.declared.ReplayResult.{ReplayResult}
-use Rattle.capi.specs.Numbers.{loadTold, openTold, deliverTold, withdrawTold, verdictTold}
+use Rattle.capi.specs.declared.LoadNumbers.{LoadNumbers}
+use Rattle.capi.specs.declared.OpenNumbers.{OpenNumbers}
+use Rattle.capi.specs.declared.DeliverNumbers.{DeliverNumbers}
+use Rattle.capi.specs.declared.WithdrawNumbers.{WithdrawNumbers}
+use Rattle.capi.specs.declared.VerdictNumbers.{VerdictNumbers}
+use Rattle.capi.specs.declared.ReplayNumbers.{ReplayNumbers}
+use Rattle.capi.specs.Numbers.{loadReadBack, openReadBack, deliverReadBack, withdrawReadBack, verdictReadBack}
 use Rattle.capi.proofs.bellbadger_new.Reads as new-reads
 use Rattle.capi.proofs.bellbadger_new.Kinds as new-kinds
 use Rattle.capi.proofs.bellbadger_load.Reads as load-reads
@@ -43,25 +43,25 @@ abbrev pub MayBegin : Judge → Type 0
 MayBegin j = (s : AtExit (endedOf 0 new-kinds.ps new-kinds.r) tt) × new-reads.Learnt tt tt j s
 
 -- a file and a chunk are lent, as a reference to their bytes
-abbrev pub MayLoad : Judge → List ℕ → LoadResult → Type 0
+abbrev pub MayLoad : Judge → List ℕ → LoadNumbers → Type 0
 MayLoad j f r =
     (κs : Lfts 1) × (c : RefT (List ℕ)) × (s : AtExit (endedOf 1 load-kinds.ps load-kinds.r) κs) × (now c ≡ f) × load-reads.Learnt κs (j, (c, tt)) r s
 
-abbrev pub MayOpen : Judge → ℕ → OpenResult → Type 0
+abbrev pub MayOpen : Judge → ℕ → OpenNumbers → Type 0
 MayOpen j n r = (s : AtExit (endedOf 0 open-kinds.ps open-kinds.r) tt) × open-reads.Learnt tt (j, (n, tt)) r s
 
-abbrev pub MayDeliver : Judge → ℕ → List ℕ → DeliverResult → Type 0
+abbrev pub MayDeliver : Judge → ℕ → List ℕ → DeliverNumbers → Type 0
 MayDeliver j p w r =
     (κs : Lfts 1) × (c : RefT (List ℕ)) × (s : AtExit (endedOf 1 deliver-kinds.ps deliver-kinds.r) κs) × (now c ≡ w)
     × deliver-reads.Learnt κs (j, (p, (c, tt))) r s
 
-abbrev pub MayWithdraw : Judge → ℕ → WithdrawResult → Type 0
+abbrev pub MayWithdraw : Judge → ℕ → WithdrawNumbers → Type 0
 MayWithdraw j p r = (s : AtExit (endedOf 0 withdraw-kinds.ps withdraw-kinds.r) tt) × withdraw-reads.Learnt tt (j, (p, tt)) r s
 
-abbrev pub MayJudge : Judge → VerdictResult → Type 0
+abbrev pub MayJudge : Judge → VerdictNumbers → Type 0
 MayJudge j v = (s : AtExit (endedOf 0 verdict-kinds.ps verdict-kinds.r) tt) × verdict-reads.Learnt tt (j, tt) v s
 
-abbrev pub MayReplay : List ℕ → ReplayResult → Type 0
+abbrev pub MayReplay : List ℕ → ReplayNumbers → Type 0
 MayReplay text r =
     (κs : Lfts 1) × (c : RefT (List ℕ)) × (s : AtExit (endedOf 1 replay-kinds.ps replay-kinds.r) κs) × (now c ≡ text) × replay-reads.Learnt κs (c, tt) r s
 
@@ -71,14 +71,14 @@ AsksStep j (loads f) = (κs : Lfts 1) (c : RefT (List ℕ)) → now c ≡ f → 
 AsksStep j (opens n) = open-reads.Asked tt (j, (n, tt))
 AsksStep j (delivers p w) = (κs : Lfts 1) (c : RefT (List ℕ)) → now c ≡ w → deliver-reads.Asked κs (j, (p, (c, tt)))
 AsksStep j (withdraws p) = withdraw-reads.Asked tt (j, (p, tt))
-AsksStep j asks = verdict-reads.Asked tt (j, tt)
+AsksStep j asksVerdict = verdict-reads.Asked tt (j, tt)
 
 abbrev pub MayStep : Judge → Call → Reply → Judge → Type 0
-MayStep j (loads f) a next = (r : LoadResult) × MayLoad j f r × (record { says = a; leaves = next } ≡ loadTold r)
-MayStep j (opens n) a next = (r : OpenResult) × MayOpen j n r × (record { says = a; leaves = next } ≡ openTold r)
-MayStep j (delivers p w) a next = (r : DeliverResult) × MayDeliver j p w r × (record { says = a; leaves = next } ≡ deliverTold r)
-MayStep j (withdraws p) a next = (r : WithdrawResult) × MayWithdraw j p r × (record { says = a; leaves = next } ≡ withdrawTold r)
-MayStep j asks a next = (v : VerdictResult) × MayJudge j v × (a ≡ verdictTold v) × (next ≡ j)
+MayStep j (loads f) a next = (r : LoadNumbers) × MayLoad j f r × (record { reply = a; state = next } ≡ loadReadBack r)
+MayStep j (opens n) a next = (r : OpenNumbers) × MayOpen j n r × (record { reply = a; state = next } ≡ openReadBack r)
+MayStep j (delivers p w) a next = (r : DeliverNumbers) × MayDeliver j p w r × (record { reply = a; state = next } ≡ deliverReadBack r)
+MayStep j (withdraws p) a next = (r : WithdrawNumbers) × MayWithdraw j p r × (record { reply = a; state = next } ≡ withdrawReadBack r)
+MayStep j asksVerdict a next = (v : VerdictNumbers) × MayJudge j v × (a ≡ verdictReadBack v) × (next ≡ j)
 
 abbrev pub cLibrary : Library Judge Call Reply
 cLibrary = record { NewAsks = new-reads.Asked tt tt; Begins = MayBegin; Asks = AsksStep; May = MayStep }

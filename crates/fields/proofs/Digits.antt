@@ -14,7 +14,7 @@ use borrow.Author.Tests.{le-leb, lt-leb}
 use lib.Dec.{leb}
 use lib.ListN.{length, getD, drop, drop-of-length-le}
 use lib.Seq.{drop-cons}
-use Rattle.fields.specs.Numbers.{allDigits, valueFrom, numberIn}
+use Rattle.fields.specs.Numbers.{allDigits, valueFrom, parseNumber}
 
 unfoldable pub saidFrom : ℕ → List ℕ → Option ℕ
 saidFrom v w = cond (allDigits w && leb (valueFrom v w) 18446744073709551615) (some (valueFrom v w)) none
@@ -30,13 +30,13 @@ said-over v w h =
     let g = grows w v in
     rw (lt-leb (valueFrom v w) 18446744073709551615 (omega (arith, g)), and-false (allDigits w))
 
-pub said-short : (w : List ℕ) → length w ≡ 0 → numberIn w ≡ none
+pub said-short : (w : List ℕ) → length w ≡ 0 → parseNumber w ≡ none
 said-short w e = rw e
 
-pub said-long : (w : List ℕ) → 20 < length w → numberIn w ≡ none
+pub said-long : (w : List ℕ) → 20 < length w → parseNumber w ≡ none
 said-long w h = rw (le-leb 1 (length w) (omega arith), lt-leb (length w) 20 h)
 
-pub said-whole : (w : List ℕ) → 1 ≤ length w → length w ≤ 20 → numberIn w ≡ saidFrom 0 w
+pub said-whole : (w : List ℕ) → 1 ≤ length w → length w ≤ 20 → parseNumber w ≡ saidFrom 0 w
 unfolding saidFrom
 said-whole w l m = rw (le-leb 1 (length w) l, le-leb (length w) 20 m)
 

@@ -1,6 +1,6 @@
 -- In the order in which they build on each other.
 pub mod Digits
 pub mod Pairs
-pub mod Again
+pub mod RoundTrip
 pub mod Examples
 pub mod Taking

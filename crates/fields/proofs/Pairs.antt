@@ -13,7 +13,7 @@ use lib.Seq.{drop-cons, take-all}
 use Rattle.base.proofs.Tests.{by-test}
 use Rattle.text.specs.Writing.{Wrote}
 use Rattle.text.proofs.Pieces.{wrote-none}
-use Rattle.fields.specs.Bytes.{within, hexValue, allHex, pairs, bytesIn, TookOf}
+use Rattle.fields.specs.Bytes.{within, hexValue, allHex, pairs, parseBytes, TookOf}
 
 module _ (low high c : ℕ) where
   pub within-so : low ≤ c → c ≤ high → within low high c ≡ true
@@ -76,30 +76,30 @@ pairs-all w i most left h =
 
 -- ---- what reading a field comes to, for each way out
 module _ (w out : List ℕ) where
-  pub took-dash : length w ≡ 1 → getD w 0 0 ≡ 45 → TookOf (bytesIn w) out (some 0) out
-  unfolding bytesIn
+  pub took-dash : length w ≡ 1 → getD w 0 0 ≡ 45 → TookOf (parseBytes w) out (some 0) out
+  unfolding parseBytes
   took-dash e d = rw (e, d) (0, refl, rw (take-all {A = ℕ} (length out) [] (omega arith)) (wrote-none out 0))
 
-  pub took-stray : length w ≡ 1 → (getD w 0 0 ≡ 45 → ⊥) → TookOf (bytesIn w) out none out
-  unfolding bytesIn
+  pub took-stray : length w ≡ 1 → (getD w 0 0 ≡ 45 → ⊥) → TookOf (parseBytes w) out none out
+  unfolding parseBytes
   took-stray e d = rw (e, ne-eqb (getD w 0 0) 45 d) (refl, refl)
 
-  pub took-empty : length w ≡ 0 → TookOf (bytesIn w) out none out
-  unfolding bytesIn
+  pub took-empty : length w ≡ 0 → TookOf (parseBytes w) out none out
+  unfolding parseBytes
   took-empty e = rw e (refl, refl)
 
   module _ (some-more : length w ≡ 1 → ⊥) where
-    pub took-odd : length w % 2 ≡ 1 → TookOf (bytesIn w) out none out
-    unfolding bytesIn
+    pub took-odd : length w % 2 ≡ 1 → TookOf (parseBytes w) out none out
+    unfolding parseBytes
     took-odd e = rw (ne-eqb (length w) 1 some-more, e, and-false (leb 1 (length w))) (refl, refl)
 
-    pub took-other : allHex w ≡ false → TookOf (bytesIn w) out none out
-    unfolding bytesIn
+    pub took-other : allHex w ≡ false → TookOf (parseBytes w) out none out
+    unfolding parseBytes
     took-other e = rw (ne-eqb (length w) 1 some-more, e, and-false (eqb (length w % 2) 0), and-false (leb 1 (length w))) (refl, refl)
 
     pub took-pairs : (length w ≡ 0 → ⊥) → (length w % 2 ≡ 1 → ⊥) → allHex w ≡ true → (after : List ℕ) (n : ℕ)
-        → Wrote out 0 (take (length out) (pairs w)) after n → TookOf (bytesIn w) out (some n) after
-    unfolding bytesIn
+        → Wrote out 0 (take (length out) (pairs w)) after n → TookOf (parseBytes w) out (some n) after
+    unfolding parseBytes
     took-pairs not-none not-odd e after n h =
         let even : length w % 2 ≡ 0 = omega arith in
         rw (ne-eqb (length w) 1 some-more, even, e, le-leb 1 (length w) (omega arith)) (n, refl, h)

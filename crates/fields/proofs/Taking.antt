@@ -12,7 +12,7 @@ use Rattle.base.proofs.Options.{none-some}
 use Rattle.text.proofs.Fitting.{taken}
 use Rattle.fields.specs.declared.Bytes.{Bytes}
 use Rattle.fields.specs.declared.Bytes.the-variants.{Put, Malformed}
-use Rattle.fields.specs.Bytes.{bytesIn, TookOf, Took}
+use Rattle.fields.specs.Bytes.{parseBytes, TookOf, Took}
 
 -- the field says bytes, and the first n of the buffer are those that fit
 pub record Carries (o : Option (List ℕ)) (before after : List ℕ) (n : ℕ) : Type 0 where
@@ -32,11 +32,11 @@ not-by none before after t = refl
 not-by (some b) before after t = none-some refl (t .1)
 
 module _ (field before after : List ℕ) (x : Bytes) (took : Took field before x after) where
-  pub carries : (n : ℕ) → x ≡ Put n → Carries (bytesIn field) before after n
-  carries n e = carries-by (bytesIn field) before after n (subst (λ (y : Bytes). Took field before y after) e took)
+  pub carries : (n : ℕ) → x ≡ Put n → Carries (parseBytes field) before after n
+  carries n e = carries-by (parseBytes field) before after n (subst (λ (y : Bytes). Took field before y after) e took)
 
-  pub not-bytes : x ≡ Malformed → bytesIn field ≡ none
-  not-bytes e = not-by (bytesIn field) before after (subst (λ (y : Bytes). Took field before y after) e took)
+  pub not-bytes : x ≡ Malformed → parseBytes field ≡ none
+  not-bytes e = not-by (parseBytes field) before after (subst (λ (y : Bytes). Took field before y after) e took)
 
   pub put-prefix : (n : ℕ) → x ≡ Put n → n ≡ length (take n after)
   put-prefix n e = let k = carries n e in k .size ∙ sym (ap length (k .is))

@@ -4,8 +4,8 @@
 --   allHex w       each byte of w is a hex digit
 --   pairs w        the bytes that the pairs of hex digits w stand for, the high digit first
 --   isBytes w      the field w is pairs of hex digits, at least one
---   bytesIn w      the bytes that the field w says, if it says bytes
---   countSaid r    how many bytes each case of the code's answer says were put, if it was no refusal
+--   parseBytes w      the bytes that the field w says, if it says bytes
+--   bytesMeans r    how many bytes each case of the code's answer says were put, if it was no refusal
 --   Took           what reading the field w into a lent buffer does: the bytes go to its beginning, as many as fit; a refusal changes nothing
 use mathlib.Core.Path.{_≡_}
 use mathlib.Core.Bool.{Bool, true, cond, _&&_}
@@ -41,16 +41,16 @@ isBytes w = leb 1 (length w) && (eqb (length w % 2) 0 && allHex w)
 abbrev pub isNoBytes : List ℕ → Bool
 isNoBytes w = eqb (length w) 1 && eqb (getD w 0 0) 45
 
-unfoldable pub bytesIn : List ℕ → Option (List ℕ)
-bytesIn w = cond (isNoBytes w) (some []) (cond (isBytes w) (some (pairs w)) none)
+unfoldable pub parseBytes : List ℕ → Option (List ℕ)
+parseBytes w = cond (isNoBytes w) (some []) (cond (isBytes w) (some (pairs w)) none)
 
-abbrev pub countSaid : Bytes → Option ℕ
-countSaid (Put n) = some n
-countSaid Malformed = none
+abbrev pub bytesMeans : Bytes → Option ℕ
+bytesMeans (Put n) = some n
+bytesMeans Malformed = none
 
 abbrev pub TookOf : Option (List ℕ) → List ℕ → Option ℕ → List ℕ → Type 0
 TookOf none before said after = (said ≡ none) × (after ≡ before)
 TookOf (some bytes) before said after = (n : ℕ) × (said ≡ some n) × Wrote before 0 (take (length before) bytes) after n
 
 abbrev pub Took : List ℕ → List ℕ → Bytes → List ℕ → Type 0
-Took w before r after = TookOf (bytesIn w) before (countSaid r) after
+Took w before r after = TookOf (parseBytes w) before (bytesMeans r) after

@@ -1,4 +1,4 @@
--- Every number of 64 bits and every list of bytes has a field, and reading the field gives it again; proofs/Again.antt proves it.
+-- Every number of 64 bits and every list of bytes has a field, and reading the field gives it again; proofs/RoundTrip.antt proves it.
 --
 --   AllBytes b    each member of b is a byte
 --   fieldOf b     the bytes b as a field: two hex digits a byte, or `-` for none
@@ -8,8 +8,8 @@ use mathlib.Core.Option.{some}
 use Prim.Native.Nat.{ℕ, _<_, _≤_}
 use Rattle.limits.specs.Limits.{largestNumber}
 use Rattle.text.specs.Numerals.{decimal, hex}
-use Rattle.fields.specs.Numbers.{numberIn}
-use Rattle.fields.specs.Bytes.{bytesIn}
+use Rattle.fields.specs.Numbers.{parseNumber}
+use Rattle.fields.specs.Bytes.{parseBytes}
 
 abbrev pub AllBytes : List ℕ → Type 0
 AllBytes [] = Unit {0}
@@ -24,5 +24,5 @@ fieldOf [] = 45 ∷ []
 fieldOf (x ∷ b) = digitsOf (x ∷ b)
 
 pub record Claims : Type 0 where
-  pub number-again : (n : ℕ) → n ≤ largestNumber → numberIn (decimal n) ≡ some n
-  pub bytes-again : (b : List ℕ) → AllBytes b → bytesIn (fieldOf b) ≡ some b
+  pub number-round-trip : (n : ℕ) → n ≤ largestNumber → parseNumber (decimal n) ≡ some n
+  pub bytes-round-trip : (b : List ℕ) → AllBytes b → parseBytes (fieldOf b) ≡ some b

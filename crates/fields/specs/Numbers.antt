@@ -3,8 +3,8 @@
 --   allDigits w    each byte of w is an ASCII decimal digit
 --   valueOf w      the value of the digits w, the highest first
 --   isNumber w     the field w is such a number
---   numberIn w     the number that the field w says, if it is one
---   numberSaid r   what each case of the code's answer says
+--   parseNumber w     the number that the field w says, if it is one
+--   numberMeans r   what each case of the code's answer says
 use mathlib.Core.Bool.{Bool, true, cond, _&&_}
 use mathlib.Core.List.{List, [], _∷_}
 use mathlib.Core.Option.{Option, none, some}
@@ -30,9 +30,9 @@ valueOf w = valueFrom 0 w
 abbrev pub isNumber : List ℕ → Bool
 isNumber w = leb 1 (length w) && (leb (length w) mostDigits && (allDigits w && leb (valueOf w) largestNumber))
 
-abbrev pub numberIn : List ℕ → Option ℕ
-numberIn w = cond (isNumber w) (some (valueOf w)) none
+abbrev pub parseNumber : List ℕ → Option ℕ
+parseNumber w = cond (isNumber w) (some (valueOf w)) none
 
-abbrev pub numberSaid : Number → Option ℕ
-numberSaid (Value v) = some v
-numberSaid Malformed = none
+abbrev pub numberMeans : Number → Option ℕ
+numberMeans (Value v) = some v
+numberMeans Malformed = none

@@ -3,7 +3,7 @@ ghost use mathlib.Core.Path.{_≡_};
 ghost use mathlib.Core.Bool.{true};
 ghost use lib.ListN.{length, take};
 ghost use Rattle.text.specs.Writing.{Wrote};
-ghost use Rattle.fields.specs.Numbers.{numberSaid, numberIn};
+ghost use Rattle.fields.specs.Numbers.{numberMeans, parseNumber};
 ghost use Rattle.fields.specs.Bytes.{hexValue, allHex, pairs, Took};
 
 // The number that a field says, or that it says none.
@@ -17,7 +17,7 @@ const TENTH: u64 = limits::NUMBER / 10;
 
 // A field of 1 to 20 decimal digits with a value that 64 bits hold.
 pub fn read_number(field: &[u8]) -> Number
-    ensures { λ r. ⌜ numberSaid r ≡ numberIn (now (field .entry)) ⌝ }
+    ensures { λ r. ⌜ numberMeans r ≡ parseNumber (now (field .entry)) ⌝ }
 {
     if field.len() == 0 {
         return Number::Malformed;

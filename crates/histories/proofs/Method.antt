@@ -35,7 +35,7 @@ use Rattle.build.proofs.Claims as build
 use Rattle.calls.specs.Calls.{loadNumber}
 use Rattle.calls.proofs.Conditions.{not-refused}
 use Rattle.histories.specs.Method.{Leads, Moves, setAt, nextAt, numberedIn, Origin, InOrder, TooMany, Method}
-use Rattle.histories.proofs.Bytes.{of-rule, is-read, stands}
+use Rattle.histories.proofs.SameArcs.{of-rule, is-read, stands}
 
 -- ---- of a file that the reader accepts
 module _ (f : List ℕ) (e : refusal f ≡ none) where
@@ -127,8 +127,8 @@ module _ (f : List ℕ) (e : loadNumber f ≡ none) where
   )
 
   -- ---- the table
-  cell-law : (i s : ℕ) → i < built .count → s < automatonIn f .k
-      → ((nextAt built i s < built .count) × Moves (automatonIn f) (setAt built i) s (setAt built (nextAt built i s)))
+  cell-law : (i s : ℕ) → i < built .setcount → s < automatonIn f .k
+      → ((nextAt built i s < built .setcount) × Moves (automatonIn f) (setAt built i) s (setAt built (nextAt built i s)))
       ⊎ ((nextAt built i s ≡ 512) × Moves (automatonIn f) (setAt built i) s 0)
   cell-law i s h l =
       let cell = subsets.claims .cell (ruleOf f) well fit i s h l in
@@ -139,7 +139,7 @@ module _ (f : List ℕ) (e : loadNumber f ≡ none) where
       (λ t. let z = eqb-true m 0 t in inr (next-at i s h l ∙ cell .0 z, subst (Moves (automatonIn f) (setAt built i) s) z is))
       (λ t.
       let c = cell .1 (eqb-false m 0 t) in
-      let b : nextAt built i s < built .count = subst (λ (x : ℕ). x < built .count) (sym (next-at i s h l)) (c .0) in
+      let b : nextAt built i s < built .setcount = subst (λ (x : ℕ). x < built .setcount) (sym (next-at i s h l)) (c .0) in
       let same : m ≡ setAt built (nextAt built i s) =
       sym (c .1) ∙ ap (λ (x : ℕ). getD (sets (ruleOf f)) x 0) (sym (next-at i s h l)) ∙ sym (set-at (nextAt built i s) b) in
       inl (b, subst (Moves (automatonIn f) (setAt built i) s) same is))
@@ -178,5 +178,5 @@ module _ (f : List ℕ) (e : loadNumber f ≡ none) where
     order = in-order;
     table = cell-law;
     delegates =
-        of-rule f (not-refused f e .0) (built .delegates) (built .starts) (build.claims .delegates (ruleOf f) well fit);
+        of-rule f (not-refused f e .0) (built .delegates) (built .startcount) (build.claims .delegates (ruleOf f) well fit);
   }

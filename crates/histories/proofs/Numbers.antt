@@ -16,7 +16,7 @@ use Rattle.base.proofs.Options.{not-none}
 use Rattle.base.proofs.Tests.{not-both}
 use Rattle.automaton.specs.declared.Rule.{Rule}
 use Rattle.ruleformat.specs.Reader.{ruleOf}
-use Rattle.delegates.specs.Alike.{Text}
+use Rattle.automaton.specs.Automaton.{Text}
 use Rattle.build.specs.declared.Built.{Built}
 use Rattle.chunks.specs.Chunks.{foreign}
 use Rattle.chunks.proofs.Claims as chunks
@@ -28,7 +28,7 @@ use Rattle.calls.specs.Calls.{openConditions, withdrawConditions}
 use Rattle.calls.specs.Steps.{lacksRule, lacksBoard, runsAt}
 use Rattle.histories.specs.Claims.{BuiltBy}
 use Rattle.histories.proofs.Running.{n-same, k-same}
-use Rattle.histories.proofs.Holding.{Holds, run-count}
+use Rattle.histories.proofs.Agreement.{Agrees, run-count}
 
 -- ---- one condition
 module _ (number : ℕ) where
@@ -42,7 +42,7 @@ rule-there none j e = ap (λ b. eqb (b .n) 0) e
 rule-there (some f) j e =
     ne-eqb (j .built .n) 0 (λ z. absurd (omega (arith, z, ap (λ (b : Built). b .n) (e .0), n-same (ruleOf f) (e .1) (e .2), e .1 .states)))
 
-module _ (file : Option (List ℕ)) (places : ℕ) (at : ℕ → Option (List ℕ)) (j : Judge) (holds : Holds file places at j) where
+module _ (file : Option (List ℕ)) (places : ℕ) (at : ℕ → Option (List ℕ)) (j : Judge) (holds : Agrees file places at j) where
   pub no-rule : lacksRule j ≡ isNone file
   no-rule = rule-there file j (holds .rule)
 
@@ -108,7 +108,7 @@ module _ (r : Rule) (places : ℕ) (at : ℕ → Option (List ℕ)) (p : ℕ) (w
   list-11 = cond (leb places p) (some 11) list-12
 
 -- where the rule is there and the place is one of the board's
-module _ (f : List ℕ) (places : ℕ) (at : ℕ → Option (List ℕ)) (j : Judge) (holds : Holds (some f) places at j) (p : ℕ) (h : p < places) (w : List ℕ) where
+module _ (f : List ℕ) (places : ℕ) (at : ℕ → Option (List ℕ)) (j : Judge) (holds : Agrees (some f) places at j) (p : ℕ) (h : p < places) (w : List ℕ) where
   from-24 : Text (ruleOf f .k) w → state-24 j p w ≡ list-24 (ruleOf f) places at p w
   from-24 text =
       ap (λ (x : ℕ). cond (ltb 4294967295 x) (some 24) none)
@@ -128,12 +128,12 @@ module _ (f : List ℕ) (places : ℕ) (at : ℕ → Option (List ℕ)) (j : Jud
 
 module _ (places : ℕ) (at : ℕ → Option (List ℕ)) (j : Judge) (p : ℕ) (w : List ℕ) where
   -- a board is there only with a rule
-  by-rule : (file : Option (List ℕ)) → Holds file places at j → p < places
+  by-rule : (file : Option (List ℕ)) → Agrees file places at j → p < places
       → state-12 j p w ≡ list-12 (ruleFrom file) places at p w
   by-rule none holds h = not-both refl (holds .ruled (omega (arith, h)))
   by-rule (some f) holds h = from-12 f places at j holds p h w
 
-  pub deliver-number : (file : Option (List ℕ)) → Holds file places at j
+  pub deliver-number : (file : Option (List ℕ)) → Agrees file places at j
       → cond (lacksBoard j) (some 21) (state-11 j p w) ≡ deliverCheck (ruleFrom file) places at p w
   deliver-number file holds =
       same-test 21 (lacksBoard j) (eqb places 0) (state-11 j p w) (list-11 (ruleFrom file) places at p w)

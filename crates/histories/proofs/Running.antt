@@ -9,7 +9,8 @@ use Rattle.masks.proofs.Laws.{below-of}
 use Rattle.automaton.specs.declared.Rule.{Rule}
 use Rattle.automaton.specs.Rules.{automatonOf, WellFormed}
 use Rattle.subsets.specs.Claims.{fits}
-use Rattle.delegates.specs.Alike.{Text, Merged}
+use Rattle.automaton.specs.Automaton.{Text}
+use Rattle.delegates.specs.Alike.{Merged}
 use Rattle.delegates.specs.Claims.{startsIn}
 use Rattle.build.specs.Building.{builtOf}
 use Rattle.build.proofs.Claims as build
@@ -25,7 +26,7 @@ module _ (r : Rule) (good : WellFormed r) (fit : fits r) where
   pub k-same : builtOf r .k ≡ r .k
   k-same = omega (arith, good .symbols)
 
-  pub merged : Merged (automatonOf r) (startsIn r .delegates) (startsIn r .count)
+  pub merged : Merged (automatonOf r) (startsIn r .delegates) (startsIn r .startcount)
   merged = build.claims .delegates r good fit
 
   delegate-below : (q : ℕ) → q < r .n → getD (startsIn r .delegates) q 0 < r .n

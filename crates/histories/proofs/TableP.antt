@@ -17,20 +17,21 @@ use Rattle.masks.specs.Masks.{union}
 use Rattle.automaton.specs.declared.Rule.{Rule}
 use Rattle.ruleformat.specs.Refusals.{tooShort, tooLong, badStates, badSymbols, noRoom, badMask, badPairs, badSection, badArcs, refusal}
 use Rattle.ruleformat.specs.Reader.{targetsUpTo, ruleOf}
-use Rattle.numbering.specs.Numbering.{numberIn, numbered, expandFrom, closeFrom, keysUpTo}
+use Rattle.numbering.specs.Numbering.{indexOf, numbered, expandFrom, closeFrom, keysUpTo}
 use Rattle.subsets.specs.Sets.{setsOf, tooMany, nextSet}
 use Rattle.delegates.specs.declared.Starts.{Starts}
 use Rattle.delegates.specs.Claims.{startsIn}
 use Rattle.build.specs.Building.{builtOf}
-use Rattle.chunks.specs.Chunks.{foreign, counted, startSet, runSet, endSet, chunkCount}
+use Rattle.delegates.specs.Alike.{startSet}
+use Rattle.chunks.specs.Chunks.{foreign, counted, runSet, endSet, chunkCount}
 use Rattle.joins.specs.Joining.{joinOf, yesOf}
 use Rattle.joins.specs.Claims.{delegateIn}
 use Rattle.histories.specs.History.{fileOf, ruleFrom, openNumber, placesIn, standingCount, standingEnd, deliverCheck, standing, deliverNumber, verdictIn, answersTo}
-use Rattle.calls.specs.Replies.{Reply, accepted, loaded, waiting, keeps, breaks, refused, Judgement, judged}
+use Rattle.calls.specs.Replies.{Reply, accepted, loaded, waiting, yesWith, noWith, refused, Judgement, judged}
 use Rattle.calls.specs.Calls.{Call, loads, opens, delivers, loadNumber, deliverConditions, verdictBy}
 use Rattle.histories.specs.Claims.{judgeAfter, BuiltBy}
 use Rattle.histories.specs.TableP.{Result, sets, delegates, verdict, turned-down, Case, case, delivering, callsFor, callsOf, repliesOf, rowsFrom, Shows, Each, Case-holds, table, TableP}
-use Rattle.histories.proofs.Every.{every-list}
+use Rattle.histories.proofs.EveryList.{every-list}
 use Rattle.histories.proofs.TwoRules.{listed, starts-A, starts-B}
 
 -- ---- what hangs on the delegates, with the delegates d put in
@@ -119,7 +120,7 @@ Built-so f r = (fileOf (callsFor f r) ≡ some f) × Shows r (builtOf (ruleOf f)
 -- of a verdict, with the starts x put in
 abbrev Taken : List ℕ → Reply → Starts → List (List ℕ) → Judgement → Type 0
 Taken f load x chunks v =
-    (loadNumber f ≡ none) × (loaded (length (setsOf (ruleOf f .targets) (ruleOf f .n) (ruleOf f .k))) (x .count) ≡ load) × (outside 1 64 (length chunks) ≡ false)
+    (loadNumber f ≡ none) × (loaded (length (setsOf (ruleOf f .targets) (ruleOf f .n) (ruleOf f .k))) (x .startcount) ≡ load) × (outside 1 64 (length chunks) ≡ false)
     × Checked (ruleOf f) (x .delegates) (length chunks) 0 chunks (λ _. none)
     × (verdictWith (ruleOf f) (x .delegates) (length chunks) (putAll 0 chunks (λ _. none)) ≡ judged v)
 
@@ -146,11 +147,11 @@ shows f r b =
     subst (Shows r) (sym (is .0)) (b .1)
 
 holds : (c : Case) → Left c → Case-holds c
-holds (case f load (sets masks rows)) l = (every-list (loads f ∷ []) .all-right ∙ l .0, shows f (sets masks rows) (l .1))
-holds (case f load (delegates ds)) l = (every-list (loads f ∷ []) .all-right ∙ l .0, shows f (delegates ds) (l .1))
+holds (case f load (sets masks rows)) l = (every-list (loads f ∷ []) .correct ∙ l .0, shows f (sets masks rows) (l .1))
+holds (case f load (delegates ds)) l = (every-list (loads f ∷ []) .correct ∙ l .0, shows f (delegates ds) (l .1))
 holds (case f load (verdict chunks v)) l =
-    (every-list (callsFor f (verdict chunks v)) .all-right ∙ verdict-answers f load (l .0) chunks v (l .1) (l .2), tt)
-holds (case f load turned-down) l = (every-list (loads f ∷ []) .all-right ∙ l, tt)
+    (every-list (callsFor f (verdict chunks v)) .correct ∙ verdict-answers f load (l .0) chunks v (l .1) (l .2), tt)
+holds (case f load turned-down) l = (every-list (loads f ∷ []) .correct ∙ l, tt)
 
 pub each : {P Q : Case → Type 0} → ((c : Case) → P c → Q c) → (cases : List Case) → Each P cases → Each Q cases
 each g [] x = tt
@@ -162,13 +163,13 @@ abbrev _&_ : {A B : Type 0} → A → B → A × B
 a & b = (a, b)
 
 abbrev given-A : Starts
-given-A = record { delegates = listed 0 1 2; count = 3 }
+given-A = record { delegates = listed 0 1 2; startcount = 3 }
 
 abbrev given-B : Starts
-given-B = record { delegates = listed 0 1 1; count = 2 }
+given-B = record { delegates = listed 0 1 1; startcount = 2 }
 
 computed : Each Left table
-unfolding answersTo loadNumber refusal tooShort tooLong badStates badSymbols noRoom badMask badPairs badSection badArcs anyBelow targetsUpTo listFrom union numberIn numbered expandFrom closeFrom keysUpTo setsOf tooMany nextSet rowsFrom fileOf placesIn standing foreign counted startSet total joinOf
+unfolding answersTo loadNumber refusal tooShort tooLong badStates badSymbols noRoom badMask badPairs badSection badArcs anyBelow targetsUpTo listFrom union indexOf numbered expandFrom closeFrom keysUpTo setsOf tooMany nextSet rowsFrom fileOf placesIn standing foreign counted startSet total joinOf
 computed =
     (rw starts-A, (refl, (refl, refl))) &
     (rw starts-B, (refl, rw starts-B)) &

@@ -11,17 +11,17 @@ use lib.Seq.{ext-getD}
 use Rattle.base.specs.Lists.{listFrom}
 use Rattle.masks.specs.Masks.{single, union, shares}
 use Rattle.automaton.specs.declared.Rule.{Rule}
-use Rattle.automaton.specs.Automaton.{Automaton}
+use Rattle.automaton.specs.Automaton.{Automaton, Text}
 use Rattle.automaton.specs.Rules.{automatonOf, WellFormed}
 use Rattle.automaton.specs.Successor.{successor, after}
 use Rattle.ruleformat.specs.Reader.{targetsUpTo, ruleOf}
 use Rattle.ruleformat.specs.Worked.{fileA, fileB}
 use Rattle.ruleformat.proofs.Claims as rulefile
-use Rattle.numbering.specs.Numbering.{numberIn, numbered, expandFrom, closeFrom, keysUpTo}
+use Rattle.numbering.specs.Numbering.{indexOf, numbered, expandFrom, closeFrom, keysUpTo}
 use Rattle.subsets.specs.Sets.{setsOf, tooMany}
 use Rattle.subsets.specs.Claims.{fits}
 use Rattle.subsets.proofs.Claims as subsets
-use Rattle.delegates.specs.Alike.{Text, Alike, Delegate, startCount, Merged}
+use Rattle.delegates.specs.Alike.{Alike, Delegate, startCount, Merged}
 use Rattle.delegates.proofs.Tests.{le-by}
 use Rattle.delegates.proofs.Alike.{alike-self, one-delegate}
 use Rattle.delegates.proofs.Acceptance.{from-law}
@@ -77,14 +77,14 @@ only-listed a x y z three dx dy dz d m given =
 -- so these are what the definition gives
 starts-are : (r : Rule) (x y z : ℕ) → WellFormed r → fits r → r .n ≡ 3
     → Delegate (automatonOf r) 0 x × Delegate (automatonOf r) 1 y × Delegate (automatonOf r) 2 z
-    → startsIn r ≡ record { delegates = listed x y z; count = startCount (listed x y z) 3 }
+    → startsIn r ≡ record { delegates = listed x y z; startcount = startCount (listed x y z) 3 }
 starts-are r x y z good fit three ds =
-    let o = only-listed (automatonOf r) x y z three (ds .0) (ds .1) (ds .2) (startsIn r .delegates) (startsIn r .count) (merged r good fit) in
-    ap₂ (λ (d : List ℕ) (m : ℕ). record { delegates = d; count = m }) (o .0) (o .1)
+    let o = only-listed (automatonOf r) x y z three (ds .0) (ds .1) (ds .2) (startsIn r .delegates) (startsIn r .startcount) (merged r good fit) in
+    ap₂ (λ (d : List ℕ) (m : ℕ). record { delegates = d; startcount = m }) (o .0) (o .1)
 
 -- ---- rule A
 sets-A : setsOf (ruleOf fileA .targets) (ruleOf fileA .n) (ruleOf fileA .k) ≡ 1 ∷ 3 ∷ 5 ∷ 2 ∷ 4 ∷ []
-unfolding union listFrom targetsUpTo numberIn numbered expandFrom closeFrom keysUpTo setsOf
+unfolding union listFrom targetsUpTo indexOf numbered expandFrom closeFrom keysUpTo setsOf
 sets-A = refl
 
 fits-A : fits (ruleOf fileA)
@@ -109,13 +109,13 @@ delegates-A =
           (apart 2 1 (lit< tt) (lit< tt) [] tt refl refl)),
     )
 
-pub starts-A : startsIn (ruleOf fileA) ≡ record { delegates = listed 0 1 2; count = 3 }
+pub starts-A : startsIn (ruleOf fileA) ≡ record { delegates = listed 0 1 2; startcount = 3 }
 unfolding startCount
 starts-A = starts-are (ruleOf fileA) 0 1 2 good-A fits-A refl delegates-A
 
 -- ---- rule B
 sets-B : setsOf (ruleOf fileB .targets) (ruleOf fileB .n) (ruleOf fileB .k) ≡ 1 ∷ 6 ∷ 2 ∷ 4 ∷ []
-unfolding union listFrom targetsUpTo numberIn numbered expandFrom closeFrom keysUpTo setsOf
+unfolding union listFrom targetsUpTo indexOf numbered expandFrom closeFrom keysUpTo setsOf
 sets-B = refl
 
 fits-B : fits (ruleOf fileB)
@@ -152,6 +152,6 @@ delegates-B =
           (below-more (λ p. Alike b 2 p → ⊥) 0 (below-none _) (apart 2 0 (lit< tt) (lit< tt) [] tt refl refl)),
     )
 
-pub starts-B : startsIn (ruleOf fileB) ≡ record { delegates = listed 0 1 1; count = 2 }
+pub starts-B : startsIn (ruleOf fileB) ≡ record { delegates = listed 0 1 1; startcount = 2 }
 unfolding startCount
 starts-B = starts-are (ruleOf fileB) 0 1 1 good-B fits-B refl delegates-B

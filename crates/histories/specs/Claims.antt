@@ -1,14 +1,14 @@
--- The demands over every list of calls. `every-list` of proofs/Every.antt proves `EveryList` of every list of calls. `after-any-list` of
--- proofs/Allowed.antt ties it to the functions: what their own contracts allow is `repliesTo` and `judgeAfter`.
+-- The demands over every list of calls. `every-list` of proofs/EveryList.antt proves `EveryList` of every list of calls. `after-any-list` of
+-- proofs/Refinement.antt ties it to the functions: what their own contracts allow is `repliesTo` and `judgeAfter`.
 --
 --   judgeAfter h        the judge that the calls h leave, from a fresh one
 --   repliesTo h         the replies to them
 --   BuiltBy file j      the rule of the file, if there is one, is built in j; no rule is zeros
 --   automatonBy file    the automaton of the file
 --   After h j           what holds of the state j after the calls h
---   Verdict-words       the words of demand 3 for the verdict asked after h
+--   VerdictClauses       the words of demand 3 for the verdict asked after h
 --   EveryList           demand 3, one claim over a whole list
---   Sum-fits, Never-24  no list comes to 24: the fact, and the number; proofs/Never.antt
+--   Sum-fits, Never-24  no list comes to 24: the fact, and the number; proofs/CountBound.antt
 use mathlib.Core.Path.{_≡_}
 use mathlib.Core.Logic.{_↔_}
 use mathlib.Core.Bool.{true, false}
@@ -28,7 +28,7 @@ use Rattle.delegates.specs.Claims.{startsIn}
 use Rattle.build.specs.Building.{builtOf, noBuilt}
 use Rattle.board.specs.Boards.{held, isEmpty, summedCount}
 use Rattle.calls.specs.declared.Judge.{Judge}
-use Rattle.calls.specs.Replies.{Reply, accepted, waiting, keeps, breaks, refused, judged}
+use Rattle.calls.specs.Replies.{Reply, accepted, waiting, yesWith, noWith, refused, judged}
 use Rattle.histories.specs.History.{fileOf, ruleIn, boardIn, placesIn, countOf, standing, endAt, countAt, emptiesIn, summedIn, yesIn, chunkOf, textIn, verdictIn, answerOf, answersTo}
 use Rattle.histories.specs.Method.{Method}
 use Rattle.histories.specs.Conditions.{Accepted-exactly, Refused-exactly}
@@ -37,7 +37,7 @@ use Rattle.calls.specs.Steps.{fresh, isYes, verdictOf, stepOf}
 
 -- the judge as a machine: what a call comes to is crates/calls' stepOf
 abbrev pub judgeMachine : Machine Judge Call Reply
-judgeMachine = record { fresh = fresh; reply = λ j c. stepOf j c .says; next = λ j c. stepOf j c .leaves }
+judgeMachine = record { fresh = fresh; reply = λ j c. stepOf j c .reply; next = λ j c. stepOf j c .state }
 
 abbrev pub judgeAfter : List Call → Judge
 judgeAfter h = stateAfter judgeMachine h
@@ -55,7 +55,7 @@ automatonBy none = automatonOf noRule
 automatonBy (some f) = automatonIn f
 
 -- the state: the rule that is there is built, and each place holds the end sets and the count of its standing chunk, or nothing
-pub record After (h : List Call) (j : Judge) : Type 0 where
+pub record Invariant (h : List Call) (j : Judge) : Type 0 where
   pub rule : BuiltBy (fileOf h) j
   pub places : j .board .places ≡ placesIn h
   pub empty : (p : ℕ) → p < mostPlaces → isEmpty (j .board) p ≡ isNone (standing h p)
@@ -67,7 +67,7 @@ pub record After (h : List Call) (j : Judge) : Type 0 where
   pub summed : summedCount (j .board) ≡ summedIn h
 
 -- demand 3, of the verdict after the calls h
-pub record Verdict-words (h : List Call) : Type 0 where
+pub record VerdictClauses (h : List Call) : Type 0 where
   -- a board is there exactly when it has places
   pub board : (boardIn h ≡ true) ↔ (0 < placesIn h)
   -- refused with 21 unless the last accepted load or opening is an opening
@@ -76,30 +76,30 @@ pub record Verdict-words (h : List Call) : Type 0 where
   pub waits : (e : ℕ) → (verdictIn h ≡ judged (waiting e)) ↔ ((boardIn h ≡ true) × (0 < e) × (e ≡ emptiesIn h))
   -- else yes exactly when the last accepted rule has an accepting run over the standing chunks joined by place, and no when it has none
   pub accepts : boardIn h ≡ true → emptiesIn h ≡ 0
-      → (verdictIn h ≡ judged (keeps (summedIn h))) ↔ Accepts (automatonBy (fileOf h)) (textIn h)
+      → (verdictIn h ≡ judged (yesWith (summedIn h))) ↔ Accepts (automatonBy (fileOf h)) (textIn h)
   pub rejects : boardIn h ≡ true → emptiesIn h ≡ 0
-      → (verdictIn h ≡ judged (breaks (summedIn h))) ↔ (Accepts (automatonBy (fileOf h)) (textIn h) → ⊥)
+      → (verdictIn h ≡ judged (noWith (summedIn h))) ↔ (Accepts (automatonBy (fileOf h)) (textIn h) → ⊥)
   -- the yes or no is the join of the end sets
-  pub joins : boardIn h ≡ true → emptiesIn h ≡ 0 → (verdictIn h ≡ judged (keeps (summedIn h))) ↔ (yesIn h ≡ true)
+  pub joins : boardIn h ≡ true → emptiesIn h ≡ 0 → (verdictIn h ≡ judged (yesWith (summedIn h))) ↔ (yesIn h ≡ true)
   -- the count is the sum over the places, and at most M times the bytes
-  pub counted : (c : ℕ) → verdictIn h ≡ judged (keeps c) → c ≡ summedIn h
-  pub counted-no : (c : ℕ) → verdictIn h ≡ judged (breaks c) → c ≡ summedIn h
-  pub most : summedIn h ≤ startsIn (ruleIn h) .count * length (textIn h)
+  pub counted : (c : ℕ) → verdictIn h ≡ judged (yesWith c) → c ≡ summedIn h
+  pub counted-no : (c : ℕ) → verdictIn h ≡ judged (noWith c) → c ≡ summedIn h
+  pub most : summedIn h ≤ startsIn (ruleIn h) .startcount * length (textIn h)
   -- and so it is at each place
-  pub place-most : (p : ℕ) → countAt h p ≤ startsIn (ruleIn h) .count * length (chunkOf (standing h p))
+  pub place-most : (p : ℕ) → countAt h p ≤ startsIn (ruleIn h) .startcount * length (chunkOf (standing h p))
 
 -- ONE CLAIM over a list of calls h
 pub record EveryList (h : List Call) : Type 0 where
   -- each reply is document 01's answer after the calls before it
-  pub all-right : repliesTo h ≡ answersTo h
+  pub correct : repliesTo h ≡ answersTo h
   -- the sets, the table, the delegates and the M by which they go are, of each file that a load accepts, those of the automaton in its bytes
   pub method : (f : List ℕ) → loadNumber f ≡ none → Method f (builtOf (ruleOf f))
   -- a call is accepted exactly when none of its conditions holds, and refused with a number exactly when that one is the first that holds (the
-  -- verdict's 21 is in `Verdict-words`, and 24 is no call's: `Never-24`)
+  -- verdict's 21 is in `VerdictClauses`, and 24 is no call's: `Never-24`)
   pub accepted-exactly : Accepted-exactly h
   pub refused-exactly : Refused-exactly h
-  pub after : After h (judgeAfter h)
-  pub verdict : Verdict-words h
+  pub after : Invariant h (judgeAfter h)
+  pub verdict : VerdictClauses h
 
 -- 24: after no list of calls is the sum of the counts too large with that of a chunk within the limit, since 64 places, 65,536 bytes a chunk and 32
 -- starts make 2^27 transitions at most; so no call answers 24

@@ -1,5 +1,5 @@
 -- When a call after the calls h is accepted, and when it is refused with which number (document 01, "Numbers caused by the input" and "by the
--- state"), spelt out condition by condition and without the lists of crates/calls. proofs/Taken.antt proves it.
+-- state"), spelt out condition by condition and without the lists of crates/calls. proofs/Conditions.antt proves it.
 use mathlib.Core.Path.{_≡_}
 use mathlib.Core.Logic.{_↔_, _⊎_}
 use mathlib.Core.Bool.{true, false}
@@ -23,7 +23,7 @@ pub record Accepted-exactly (h : List Call) : Type 0 where
   -- none of the conditions 1 to 8 holds of the file, and no more than 512 sets are reached in its automaton; it is answered with the number of
   -- sets and the M of the built rule, which `Method` of specs/Method.antt ties to that automaton
   pub loading : (f : List ℕ)
-      → (answerOf h (loads f) ≡ loaded (builtOf (ruleOf f) .count) (builtOf (ruleOf f) .starts)) ↔ (NoneHolds (fileConditions f) × (TooMany (automatonIn f) → ⊥))
+      → (answerOf h (loads f) ≡ loaded (builtOf (ruleOf f) .setcount) (builtOf (ruleOf f) .startcount)) ↔ (NoneHolds (fileConditions f) × (TooMany (automatonIn f) → ⊥))
   -- a rule is there, and 1 to 64 places are asked for
   pub opening : (n : ℕ) → (answerOf h (opens n) ≡ accepted) ↔ ((fileOf h ≡ none → ⊥) × (1 ≤ n) × (n ≤ mostPlaces))
   -- a board is there with that place, the chunk is within the limit and the alphabet, the place is empty, and the sum of the counts fits

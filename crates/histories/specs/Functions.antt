@@ -1,7 +1,7 @@
 -- What the functions of crates/judge allow by their own contracts, as the checker reads them (`Reads.Learnt`): any result that a function's
 -- contract does not rule out. `judgeLibrary` is what a customer's program gets that calls these functions.
 --
---   MayBegin .. MayJudge   what `new_judge`, `load`, `open`, `deliver`, `withdraw` and `judged` may return for their arguments
+--   MayBegin .. MayJudge   what `new_judge`, `load`, `open`, `deliver`, `withdraw` and `ask_verdict` may return for their arguments
 --   AsksStep j c           what the function of the call c asks before it is called on the judge j
 --   MayStep j c a next     on the judge j the call c may be answered with a, in document 01's numbers and values, and leave the judge next
 use mathlib.Core.Path.{_≡_}
@@ -13,14 +13,14 @@ use denote.Triple.Clauses.{AtExit}
 use borrow.Fn.Kinds.{endedOf}
 use Rattle.executions.specs.Executions.{Library}
 use Rattle.calls.specs.declared.Judge.{Judge}
-use Rattle.calls.specs.declared.Loading.{Loading}
-use Rattle.calls.specs.declared.Opening.{Opening}
-use Rattle.calls.specs.declared.Delivery.{Delivery}
-use Rattle.calls.specs.declared.Withdrawal.{Withdrawal}
+use Rattle.calls.specs.declared.LoadResult.{LoadResult}
+use Rattle.calls.specs.declared.OpenResult.{OpenResult}
+use Rattle.calls.specs.declared.DeliverResult.{DeliverResult}
+use Rattle.calls.specs.declared.WithdrawResult.{WithdrawResult}
 use Rattle.calls.specs.declared.Verdict.{Verdict}
-use Rattle.calls.specs.Replies.{Reply, verdictSays}
-use Rattle.calls.specs.Calls.{Call, loads, opens, delivers, withdraws, asks}
-use Rattle.calls.specs.Steps.{Outcome, loadCame, openCame, deliverCame, withdrawCame}
+use Rattle.calls.specs.Replies.{Reply, verdictMeans}
+use Rattle.calls.specs.Calls.{Call, loads, opens, delivers, withdraws, asksVerdict}
+use Rattle.calls.specs.Steps.{Outcome, loadOutcome, openOutcome, deliverOutcome, withdrawOutcome}
 use Rattle.judge.proofs.new_judge.Reads as new-reads
 use Rattle.judge.proofs.new_judge.Kinds as new-kinds
 use Rattle.judge.proofs.load.Reads as load-reads
@@ -31,30 +31,30 @@ use Rattle.judge.proofs.deliver.Reads as deliver-reads
 use Rattle.judge.proofs.deliver.Kinds as deliver-kinds
 use Rattle.judge.proofs.withdraw.Reads as withdraw-reads
 use Rattle.judge.proofs.withdraw.Kinds as withdraw-kinds
-use Rattle.judge.proofs.judged.Reads as judged-reads
-use Rattle.judge.proofs.judged.Kinds as judged-kinds
+use Rattle.judge.proofs.ask_verdict.Reads as verdict-reads
+use Rattle.judge.proofs.ask_verdict.Kinds as verdict-kinds
 
 abbrev pub MayBegin : Judge → Type 0
 MayBegin j = (s : AtExit (endedOf 0 new-kinds.ps new-kinds.r) tt) × new-reads.Learnt tt tt j s
 
 -- a file and a chunk are lent, as a reference to their bytes
-abbrev pub MayLoad : Judge → List ℕ → Loading → Type 0
+abbrev pub MayLoad : Judge → List ℕ → LoadResult → Type 0
 MayLoad j f r =
     (κs : Lfts 1) × (c : RefT (List ℕ)) × (s : AtExit (endedOf 1 load-kinds.ps load-kinds.r) κs) × (now c ≡ f) × load-reads.Learnt κs (j, (c, tt)) r s
 
-abbrev pub MayOpen : Judge → ℕ → Opening → Type 0
+abbrev pub MayOpen : Judge → ℕ → OpenResult → Type 0
 MayOpen j n r = (s : AtExit (endedOf 0 open-kinds.ps open-kinds.r) tt) × open-reads.Learnt tt (j, (n, tt)) r s
 
-abbrev pub MayDeliver : Judge → ℕ → List ℕ → Delivery → Type 0
+abbrev pub MayDeliver : Judge → ℕ → List ℕ → DeliverResult → Type 0
 MayDeliver j p w r =
     (κs : Lfts 1) × (c : RefT (List ℕ)) × (s : AtExit (endedOf 1 deliver-kinds.ps deliver-kinds.r) κs) × (now c ≡ w)
     × deliver-reads.Learnt κs (j, (p, (c, tt))) r s
 
-abbrev pub MayWithdraw : Judge → ℕ → Withdrawal → Type 0
+abbrev pub MayWithdraw : Judge → ℕ → WithdrawResult → Type 0
 MayWithdraw j p r = (s : AtExit (endedOf 0 withdraw-kinds.ps withdraw-kinds.r) tt) × withdraw-reads.Learnt tt (j, (p, tt)) r s
 
 abbrev pub MayJudge : Judge → Verdict → Type 0
-MayJudge j v = (s : AtExit (endedOf 0 judged-kinds.ps judged-kinds.r) tt) × judged-reads.Learnt tt (j, tt) v s
+MayJudge j v = (s : AtExit (endedOf 0 verdict-kinds.ps verdict-kinds.r) tt) × verdict-reads.Learnt tt (j, tt) v s
 
 -- what each asks before it is called
 abbrev pub AsksStep : Judge → Call → Type 0
@@ -62,14 +62,14 @@ AsksStep j (loads f) = (κs : Lfts 1) (c : RefT (List ℕ)) → now c ≡ f → 
 AsksStep j (opens n) = open-reads.Asked tt (j, (n, tt))
 AsksStep j (delivers p w) = (κs : Lfts 1) (c : RefT (List ℕ)) → now c ≡ w → deliver-reads.Asked κs (j, (p, (c, tt)))
 AsksStep j (withdraws p) = withdraw-reads.Asked tt (j, (p, tt))
-AsksStep j asks = judged-reads.Asked tt (j, tt)
+AsksStep j asksVerdict = verdict-reads.Asked tt (j, tt)
 
 abbrev pub MayStep : Judge → Call → Reply → Judge → Type 0
-MayStep j (loads f) a next = (r : Loading) × MayLoad j f r × (record { says = a; leaves = next } ≡ loadCame r)
-MayStep j (opens n) a next = (r : Opening) × MayOpen j n r × (record { says = a; leaves = next } ≡ openCame r)
-MayStep j (delivers p w) a next = (r : Delivery) × MayDeliver j p w r × (record { says = a; leaves = next } ≡ deliverCame r)
-MayStep j (withdraws p) a next = (r : Withdrawal) × MayWithdraw j p r × (record { says = a; leaves = next } ≡ withdrawCame r)
-MayStep j asks a next = (v : Verdict) × MayJudge j v × (a ≡ verdictSays v) × (next ≡ j)
+MayStep j (loads f) a next = (r : LoadResult) × MayLoad j f r × (record { reply = a; state = next } ≡ loadOutcome r)
+MayStep j (opens n) a next = (r : OpenResult) × MayOpen j n r × (record { reply = a; state = next } ≡ openOutcome r)
+MayStep j (delivers p w) a next = (r : DeliverResult) × MayDeliver j p w r × (record { reply = a; state = next } ≡ deliverOutcome r)
+MayStep j (withdraws p) a next = (r : WithdrawResult) × MayWithdraw j p r × (record { reply = a; state = next } ≡ withdrawOutcome r)
+MayStep j asksVerdict a next = (v : Verdict) × MayJudge j v × (a ≡ verdictMeans v) × (next ≡ j)
 
 abbrev pub judgeLibrary : Library Judge Call Reply
 judgeLibrary = record { NewAsks = new-reads.Asked tt tt; Begins = MayBegin; Asks = AsksStep; May = MayStep }

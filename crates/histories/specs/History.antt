@@ -35,7 +35,7 @@ use Rattle.chunks.specs.Chunks.{runSet, endSet, chunkCount}
 use Rattle.joins.specs.Joining.{yesOf}
 use Rattle.joins.specs.Claims.{delegateIn}
 use Rattle.calls.specs.Replies.{Reply, accepted, loaded, refused}
-use Rattle.calls.specs.Calls.{Call, loads, opens, delivers, withdraws, asks, loadNumber, openConditions, deliverConditions, withdrawConditions, verdictBy}
+use Rattle.calls.specs.Calls.{Call, loads, opens, delivers, withdraws, asksVerdict, loadNumber, openConditions, deliverConditions, withdrawConditions, verdictBy}
 
 -- ---- which rule is there
 unfoldable pub fileOf : List Call → Option (List ℕ)
@@ -44,7 +44,7 @@ fileOf (loads f ∷ h) = cond (isNone (loadNumber f)) (some f) (fileOf h)
 fileOf (opens n ∷ h) = fileOf h
 fileOf (delivers p w ∷ h) = fileOf h
 fileOf (withdraws p ∷ h) = fileOf h
-fileOf (asks ∷ h) = fileOf h
+fileOf (asksVerdict ∷ h) = fileOf h
 
 abbrev pub ruleFrom : Option (List ℕ) → Rule
 ruleFrom none = noRule
@@ -63,7 +63,7 @@ boardIn (loads f ∷ h) = cond (isNone (loadNumber f)) false (boardIn h)
 boardIn (opens n ∷ h) = cond (isNone (openNumber h n)) true (boardIn h)
 boardIn (delivers p w ∷ h) = boardIn h
 boardIn (withdraws p ∷ h) = boardIn h
-boardIn (asks ∷ h) = boardIn h
+boardIn (asksVerdict ∷ h) = boardIn h
 
 unfoldable pub placesIn : List Call → ℕ
 placesIn [] = 0
@@ -71,7 +71,7 @@ placesIn (loads f ∷ h) = cond (isNone (loadNumber f)) 0 (placesIn h)
 placesIn (opens n ∷ h) = cond (isNone (openNumber h n)) n (placesIn h)
 placesIn (delivers p w ∷ h) = placesIn h
 placesIn (withdraws p ∷ h) = placesIn h
-placesIn (asks ∷ h) = placesIn h
+placesIn (asksVerdict ∷ h) = placesIn h
 
 -- ---- what stands at a place comes to, where `run` has the states that are run there; 0 where nothing stands
 abbrev pub standingCount : List ℕ → ℕ → Option (List ℕ) → ℕ
@@ -108,7 +108,7 @@ standing (opens n ∷ h) p = cond (isNone (openNumber h n)) none (standing h p)
 standing (delivers q w ∷ h) p =
     cond (eqb q p && isNone (deliverCheck (ruleIn h) (placesIn h) (λ i. standing h i) q w)) (some w) (standing h p)
 standing (withdraws q ∷ h) p = cond (eqb q p && isNone (withdrawCheck (placesIn h) (λ i. standing h i) q)) none (standing h p)
-standing (asks ∷ h) p = standing h p
+standing (asksVerdict ∷ h) p = standing h p
 
 module _ (h : List Call) where
   abbrev pub deliverNumber : ℕ → List ℕ → Option ℕ
@@ -154,11 +154,11 @@ replyBy none a = a
 replyBy (some number) a = refused number
 
 abbrev pub answerOf : List Call → Call → Reply
-answerOf h (loads f) = replyBy (loadNumber f) (loaded (length (setsOf (ruleOf f .targets) (ruleOf f .n) (ruleOf f .k))) (startsIn (ruleOf f) .count))
+answerOf h (loads f) = replyBy (loadNumber f) (loaded (length (setsOf (ruleOf f .targets) (ruleOf f .n) (ruleOf f .k))) (startsIn (ruleOf f) .startcount))
 answerOf h (opens n) = replyBy (openNumber h n) accepted
 answerOf h (delivers p w) = replyBy (deliverNumber h p w) accepted
 answerOf h (withdraws p) = replyBy (withdrawNumber h p) accepted
-answerOf h asks = verdictIn h
+answerOf h asksVerdict = verdictIn h
 
 -- the answers to a list of calls, the last first
 unfoldable pub answersTo : List Call → List Reply

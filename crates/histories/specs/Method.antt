@@ -35,7 +35,7 @@ module _ (b : Built) where
   nextAt i s = getD (b .next) (i * mostSymbols + s) 0
 
   abbrev pub numberedIn : ℕ → Type 0
-  numberedIn m = (i : ℕ) × (i < b .count) × (setAt i ≡ m)
+  numberedIn m = (i : ℕ) × (i < b .setcount) × (setAt i ≡ m)
 
 -- the sets of the built rule in the order of their numbers. Of two texts the shorter is first; of two as long, the one with the lower symbol
 -- where they first differ
@@ -48,8 +48,8 @@ pub record Origin (a : Automaton) (m q : ℕ) (w : List ℕ) : Type 0 where
 pub record InOrder (a : Automaton) (b : Built) : Type 0 where
   pub state : ℕ → ℕ
   pub text : ℕ → List ℕ
-  pub origin : (i : ℕ) → i < b .count → Origin a (setAt b i) (state i) (text i)
-  pub rises : (i j : ℕ) → i < j → j < b .count → (state i < state j) ⊎ ((state i ≡ state j) × Sooner (text i) (text j))
+  pub origin : (i : ℕ) → i < b .setcount → Origin a (setAt b i) (state i) (text i)
+  pub rises : (i j : ℕ) → i < j → j < b .setcount → (state i < state j) ⊎ ((state i ≡ state j) × Sooner (text i) (text j))
 
 -- more than 512 sets are reached
 abbrev pub TooMany : Automaton → Type 0
@@ -60,11 +60,11 @@ TooMany a =
 pub record Method (f : List ℕ) (b : Built) : Type 0 where
   -- a set has a number exactly when it is not empty and some state and text lead to it, and then it has one number
   pub sets : (m : ℕ) → numberedIn b m ↔ (m ≡ 0 → ⊥) × (q : ℕ) × (q < automatonIn f .n) × (w : List ℕ) × Leads (automatonIn f) q w m
-  pub once : (i j : ℕ) → i < b .count → j < b .count → setAt b i ≡ setAt b j → i ≡ j
+  pub once : (i j : ℕ) → i < b .setcount → j < b .setcount → setAt b i ≡ setAt b j → i ≡ j
   -- sets are numbered in the order of their first states, and then of their first texts from these
   pub order : InOrder (automatonIn f) b
   -- a cell of the table is the number of the set to which the arcs by its symbol lead, or 512 where they lead nowhere
-  pub table : (i s : ℕ) → i < b .count → s < automatonIn f .k
-      → ((nextAt b i s < b .count) × Moves (automatonIn f) (setAt b i) s (setAt b (nextAt b i s))) ⊎ ((nextAt b i s ≡ emptySet) × Moves (automatonIn f) (setAt b i) s 0)
+  pub table : (i s : ℕ) → i < b .setcount → s < automatonIn f .k
+      → ((nextAt b i s < b .setcount) × Moves (automatonIn f) (setAt b i) s (setAt b (nextAt b i s))) ⊎ ((nextAt b i s ≡ emptySet) × Moves (automatonIn f) (setAt b i) s 0)
   -- its delegates are, for each state, the lowest alike one, with zeros after them, and its number of starts is M
-  pub delegates : Merged (automatonIn f) (b .delegates) (b .starts)
+  pub delegates : Merged (automatonIn f) (b .delegates) (b .startcount)

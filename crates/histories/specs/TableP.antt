@@ -4,8 +4,8 @@
 --   Case          a rule file, what its load answers, and the result of the case
 --   callsOf c     the calls of the case: a load; for a verdict also an opening, a delivery for each chunk and the question. The last first
 --   repliesOf c   what is answered to them
---   Holds         what the case says of the replies that were given and of the state that is left
---   Case-holds    `Holds` after the calls of the case
+--   AsTabled         what the case says of the replies that were given and of the state that is left
+--   Case-holds    `AsTabled` after the calls of the case
 --   TableP        each case of the table holds so
 use mathlib.Core.Path.{_≡_}
 use mathlib.Core.List.{List, [], _∷_, _++_}
@@ -16,8 +16,8 @@ use Rattle.base.specs.Lists.{listFrom}
 use Rattle.ruleformat.specs.Worked.{fileA, fileB, fileA-final-8}
 use Rattle.build.specs.declared.Built.{Built}
 use Rattle.calls.specs.declared.Judge.{Judge}
-use Rattle.calls.specs.Replies.{Judgement, keeps, breaks, Reply, accepted, loaded, judged, refused}
-use Rattle.calls.specs.Calls.{Call, loads, opens, delivers, asks}
+use Rattle.calls.specs.Replies.{Judgement, yesWith, noWith, Reply, accepted, loaded, judged, refused}
+use Rattle.calls.specs.Calls.{Call, loads, opens, delivers, asksVerdict}
 use Rattle.histories.specs.Claims.{judgeAfter, repliesTo}
 
 -- ---- a case
@@ -45,7 +45,7 @@ delivering p (w ∷ chunks) h = delivering (suc p) chunks (delivers p w ∷ h)
 abbrev pub callsFor : List ℕ → Result → List Call
 callsFor file (sets masks rows) = loads file ∷ []
 callsFor file (delegates ds) = loads file ∷ []
-callsFor file (verdict chunks v) = asks ∷ delivering 0 chunks (opens (length chunks) ∷ loads file ∷ [])
+callsFor file (verdict chunks v) = asksVerdict ∷ delivering 0 chunks (opens (length chunks) ∷ loads file ∷ [])
 callsFor file turned-down = loads file ∷ []
 
 abbrev pub callsOf : Case → List Call
@@ -71,7 +71,7 @@ rowsFrom next k i zero = []
 rowsFrom next k i (suc count) = cellsOf next (i * mostSymbols) k ∷ rowsFrom next k (suc i) count
 
 abbrev pub Shows : Result → Built → Type 0
-Shows (sets masks rows) b = (cellsOf (b .sets) 0 (b .count) ≡ masks) × (rowsFrom (b .next) (b .k) 0 (b .count) ≡ rows)
+Shows (sets masks rows) b = (cellsOf (b .sets) 0 (b .setcount) ≡ masks) × (rowsFrom (b .next) (b .k) 0 (b .setcount) ≡ rows)
 Shows (delegates ds) b = cellsOf (b .delegates) 0 (b .n) ≡ ds
 Shows (verdict chunks v) b = Unit {0}
 Shows turned-down b = Unit {0}
@@ -79,8 +79,8 @@ Shows turned-down b = Unit {0}
 abbrev pub ResultOf : Case → Built → Type 0
 ResultOf (case file load result) b = Shows result b
 
-abbrev pub Holds : Case → List Reply → Judge → Type 0
-Holds c given j = (given ≡ repliesOf c) × ResultOf c (j .built)
+abbrev pub AsTabled : Case → List Reply → Judge → Type 0
+AsTabled c replies j = (replies ≡ repliesOf c) × ResultOf c (j .built)
 
 -- ---- the table
 abbrev pub table : List Case
@@ -91,19 +91,19 @@ table =
     -- P2 B: delegates 0 1 1
     case fileB (loaded 4 2) (delegates (0 ∷ 1 ∷ 1 ∷ [])) ∷
     -- P3 A, chunks 0 and 1: yes, 3
-    case fileA (loaded 5 3) (verdict ((0 ∷ []) ∷ (1 ∷ []) ∷ []) (keeps 3)) ∷
+    case fileA (loaded 5 3) (verdict ((0 ∷ []) ∷ (1 ∷ []) ∷ []) (yesWith 3)) ∷
     -- P4 A, chunks 1 and 0: no, 2
-    case fileA (loaded 5 3) (verdict ((1 ∷ []) ∷ (0 ∷ []) ∷ []) (breaks 2)) ∷
+    case fileA (loaded 5 3) (verdict ((1 ∷ []) ∷ (0 ∷ []) ∷ []) (noWith 2)) ∷
     -- P5 A, one empty chunk: no, 0
-    case fileA (loaded 5 3) (verdict ([] ∷ []) (breaks 0)) ∷
+    case fileA (loaded 5 3) (verdict ([] ∷ []) (noWith 0)) ∷
     -- P6 B, 0 then 0 0: yes, 5
-    case fileB (loaded 4 2) (verdict ((0 ∷ []) ∷ (0 ∷ 0 ∷ []) ∷ []) (keeps 5)) ∷
+    case fileB (loaded 4 2) (verdict ((0 ∷ []) ∷ (0 ∷ 0 ∷ []) ∷ []) (yesWith 5)) ∷
     -- P7 B, 0 0 then 0: yes, 4
-    case fileB (loaded 4 2) (verdict ((0 ∷ 0 ∷ []) ∷ (0 ∷ []) ∷ []) (keeps 4)) ∷
+    case fileB (loaded 4 2) (verdict ((0 ∷ 0 ∷ []) ∷ (0 ∷ []) ∷ []) (yesWith 4)) ∷
     -- P8 B, 0 0 0 in one place: yes, 3
-    case fileB (loaded 4 2) (verdict ((0 ∷ 0 ∷ 0 ∷ []) ∷ []) (keeps 3)) ∷
+    case fileB (loaded 4 2) (verdict ((0 ∷ 0 ∷ 0 ∷ []) ∷ []) (yesWith 3)) ∷
     -- P9 B, three empty chunks: no, 0
-    case fileB (loaded 4 2) (verdict ([] ∷ [] ∷ [] ∷ []) (breaks 0)) ∷
+    case fileB (loaded 4 2) (verdict ([] ∷ [] ∷ [] ∷ []) (noWith 0)) ∷
     -- P10 A, final mask 8: 6
     case fileA-final-8 (refused 6) turned-down ∷ []
 
@@ -111,9 +111,9 @@ abbrev pub Each : (Case → Type 0) → List Case → Type 0
 Each Says [] = Unit {0}
 Each Says (c ∷ cases) = Says c × Each Says cases
 
--- of the replies to the calls of the case c and of the state that they leave, `Holds` is true
+-- of the replies to the calls of the case c and of the state that they leave, `AsTabled` is true
 abbrev pub Case-holds : Case → Type 0
-Case-holds c = Holds c (repliesTo (callsOf c)) (judgeAfter (callsOf c))
+Case-holds c = AsTabled c (repliesTo (callsOf c)) (judgeAfter (callsOf c))
 
 -- THE CLAIM
 abbrev pub TableP : Type 0

@@ -13,7 +13,8 @@ use Rattle.automaton.specs.declared.Rule.{Rule}
 use Rattle.automaton.specs.Rules.{automatonOf, WellFormed}
 use Rattle.automaton.specs.Successor.{after}
 use Rattle.automaton.proofs.Laws.{after-law}
-use Rattle.delegates.specs.Alike.{AcceptsFrom, Text}
+use Rattle.automaton.specs.Automaton.{Text}
+use Rattle.delegates.specs.Alike.{AcceptsFrom}
 use Rattle.joins.specs.Claims.{Texts}
 
 -- the set m accepts the text w

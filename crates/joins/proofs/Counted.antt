@@ -11,9 +11,9 @@ use Rattle.base.proofs.Totals.{total-first}
 use Rattle.masks.specs.Masks.{_∈_}
 use Rattle.automaton.specs.declared.Rule.{Rule}
 use Rattle.automaton.specs.Rules.{automatonOf, WellFormed}
-use Rattle.delegates.specs.Alike.{Merged}
+use Rattle.delegates.specs.Alike.{Merged, startSet}
 use Rattle.delegates.proofs.Alike.{delegates-start}
-use Rattle.chunks.specs.Chunks.{startSet, runSet, chunkCount}
+use Rattle.chunks.specs.Chunks.{runSet, chunkCount}
 use Rattle.chunks.specs.Claims.{Claims as ChunksClaims}
 use Rattle.joins.specs.Claims.{countOf}
 

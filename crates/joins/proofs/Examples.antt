@@ -8,7 +8,8 @@ use Rattle.masks.specs.Masks.{union}
 use Rattle.automaton.specs.declared.Rule.{Rule}
 use Rattle.automaton.specs.Successor.{after}
 use Rattle.subsets.proofs.Examples.{ruleB as targetsB}
-use Rattle.chunks.specs.Chunks.{startSet, runSet, endSet}
+use Rattle.delegates.specs.Alike.{startSet}
+use Rattle.chunks.specs.Chunks.{runSet, endSet}
 use Rattle.joins.specs.Joining.{joinOf}
 use Rattle.joins.specs.Claims.{delegateIn}
 

@@ -18,16 +18,16 @@ use Rattle.base.proofs.Tests.{by-test}
 use Rattle.masks.specs.Masks.{_∈_, has, single, union, shares}
 use Rattle.masks.proofs.Laws.{no-member, has-member, members-below, part-of, in-union, union-lt, union-same}
 use Rattle.automaton.specs.declared.Rule.{Rule}
-use Rattle.automaton.specs.Automaton.{Accepts}
+use Rattle.automaton.specs.Automaton.{Accepts, Text}
 use Rattle.automaton.specs.Rules.{automatonOf, WellFormed}
 use Rattle.automaton.specs.Successor.{after}
 use Rattle.automaton.proofs.Laws.{after-append, after-below, accepts-law}
-use Rattle.delegates.specs.Alike.{Text, Merged}
+use Rattle.delegates.specs.Alike.{Merged}
 use Rattle.delegates.proofs.Alike.{delegates-start}
 use Rattle.chunks.specs.Chunks.{runSet, endSet}
 use Rattle.chunks.specs.Claims.{Claims as ChunksClaims}
 use Rattle.joins.specs.Joining.{joinOf, yesOf}
-use Rattle.joins.specs.Claims.{Texts, delegateIn, Holds}
+use Rattle.joins.specs.Claims.{Texts, delegateIn, HoldsEnds}
 use Rattle.joins.proofs.Acceptance.{Accepting, accepting-law, accepting-single, text-flatten, texts-drop}
 
 -- where a state is not run its end set is empty
@@ -40,7 +40,7 @@ end-below r good run w q h =
     by-test (has run q) (λ e. rw e (after-below r good (single q) w (pow-lt h))) (λ e. rw e (pow-pos (r .n)))
 
 module _ (given : ChunksClaims) (r : Rule) (good : WellFormed r) (d : List ℕ) (m : ℕ) (merged : Merged (automatonOf r) d m)
-    (e : ℕ → ℕ → ℕ) (ws : List (List ℕ)) (texts : Texts (r .k) ws) (holds : Holds r d e ws) where
+    (e : ℕ → ℕ → ℕ) (ws : List (List ℕ)) (texts : Texts (r .k) ws) (holds : HoldsEnds r d e ws) where
   -- the states that are run at place p
   run : ℕ → ℕ
   run p = runSet d (r .n) (r .initials) p

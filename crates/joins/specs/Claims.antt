@@ -3,7 +3,7 @@
 --
 --   Texts k ws         each chunk is a text of symbols below k
 --   delegateIn d q     the delegate of q, in a list of delegates
---   Holds r d e ws     each place holds, for each state, the end set that document 01 gives to its chunk there
+--   HoldsEnds r d e ws     each place holds, for each state, the end set that document 01 gives to its chunk there
 --   countOf r d ws     the sum of the chunks' counts
 use mathlib.Core.Path.{_≡_}
 use mathlib.Core.Logic.{_↔_}
@@ -14,9 +14,9 @@ use lib.ListN.{length, getD}
 use Rattle.limits.specs.Limits.{mostStates}
 use Rattle.base.specs.Totals.{total}
 use Rattle.automaton.specs.declared.Rule.{Rule}
-use Rattle.automaton.specs.Automaton.{Accepts}
+use Rattle.automaton.specs.Automaton.{Accepts, Text}
 use Rattle.automaton.specs.Rules.{automatonOf, WellFormed}
-use Rattle.delegates.specs.Alike.{Text, Merged}
+use Rattle.delegates.specs.Alike.{Merged}
 use Rattle.chunks.specs.Chunks.{runSet, endSet, chunkCount}
 use Rattle.joins.specs.Joining.{joinOf, yesOf, heldIn, joinUpTo}
 
@@ -28,8 +28,8 @@ abbrev pub delegateIn : List ℕ → ℕ → ℕ
 delegateIn d q = getD d q 0
 
 module _ (r : Rule) (d : List ℕ) where
-  abbrev pub Holds : (ℕ → ℕ → ℕ) → List (List ℕ) → Type 0
-  Holds e ws =
+  abbrev pub HoldsEnds : (ℕ → ℕ → ℕ) → List (List ℕ) → Type 0
+  HoldsEnds e ws =
       (p : ℕ) → p < length ws → (q : ℕ) → q < r .n
       → e p q ≡ endSet (r .targets) (runSet d (r .n) (r .initials) p) (getD ws p []) q
 
@@ -39,7 +39,7 @@ module _ (r : Rule) (d : List ℕ) where
 pub record Claims : Type 0 where
   -- the join says yes exactly where the rule's automaton has an accepting run over the chunks joined in order
   pub join : (r : Rule) → WellFormed r → (d : List ℕ) (m : ℕ) → Merged (automatonOf r) d m
-      → (e : ℕ → ℕ → ℕ) (ws : List (List ℕ)) → Texts (r .k) ws → Holds r d e ws
+      → (e : ℕ → ℕ → ℕ) (ws : List (List ℕ)) → Texts (r .k) ws → HoldsEnds r d e ws
       → (yesOf e (delegateIn d) (r .n) (r .initials) (r .finals) (length ws) ≡ true) ↔ Accepts (automatonOf r) (flatten ws)
   -- where there are at most 32 states and each has one of them as its delegate, the code's join is this join of what the array holds
   pub join-law : (ends d : List ℕ) (n m p : ℕ) → n ≤ mostStates → ((q : ℕ) → q < n → delegateIn d q < mostStates)

@@ -10,7 +10,7 @@ use Rattle.judge.proofs.load.Reads as load
 use Rattle.judge.proofs.open.Reads as opening
 use Rattle.judge.proofs.deliver.Reads as deliver
 use Rattle.judge.proofs.withdraw.Reads as withdraw
-use Rattle.judge.proofs.judged.Reads as judged
+use Rattle.judge.proofs.ask_verdict.Reads as verdict
 
 pub new-judge-asks-nothing : new-judge.Asked tt tt
 new-judge-asks-nothing = tt
@@ -27,5 +27,5 @@ deliver-asks-nothing κs j p c = tt
 pub withdraw-asks-nothing : (j : Judge) (p : ℕ) → withdraw.Asked tt (j, (p, tt))
 withdraw-asks-nothing j p = tt
 
-pub judged-asks-nothing : (j : Judge) → judged.Asked tt (j, tt)
-judged-asks-nothing j = tt
+pub verdict-asks-nothing : (j : Judge) → verdict.Asked tt (j, tt)
+verdict-asks-nothing j = tt

@@ -5,21 +5,21 @@ ghost use lib.Dec.{ltb};
 ghost use lib.ListN.{length};
 ghost use Rattle.limits.specs.Limits.{longestChunk, mostCount};
 ghost use Rattle.chunks.specs.Walks.{runMask, runsOf};
-ghost use Rattle.calls.specs.Replies.{refused, verdictSays};
-ghost use Rattle.calls.specs.Steps.{fresh, withBoard, loadCame, openCame, deliverCame, withdrawCame, loadOf, openOf, deliverOf, withdrawOf, verdictOf};
+ghost use Rattle.calls.specs.Replies.{refused, verdictMeans};
+ghost use Rattle.calls.specs.Steps.{fresh, withBoard, loadOutcome, openOutcome, deliverOutcome, withdrawOutcome, loadOf, openOf, deliverOf, withdrawOf, verdictOf};
 use board::Board;
 use build::BuildAnswer;
 use build::Built;
 use calls::DeliverAnswer;
-use calls::Delivery;
+use calls::DeliverResult;
 use calls::Judge;
 use calls::LoadAnswer;
-use calls::Loading;
+use calls::LoadResult;
 use calls::OpenAnswer;
-use calls::Opening;
+use calls::OpenResult;
 use calls::Verdict;
 use calls::WithdrawAnswer;
-use calls::Withdrawal;
+use calls::WithdrawResult;
 use chunks::Runs;
 use ruleformat::ReadAnswer;
 
@@ -40,32 +40,32 @@ fn with_board(judge: Judge, board: Board) -> Judge
     Judge { built, board }
 }
 
-fn refuse_load(judge: Judge, number: u8) -> Loading
-    ensures { λ r. ⌜ loadCame r ≡ record { says = refused number; leaves = judge } ⌝ }
+fn refuse_load(judge: Judge, number: u8) -> LoadResult
+    ensures { λ r. ⌜ loadOutcome r ≡ record { reply = refused number; state = judge } ⌝ }
 {
     let answer = LoadAnswer::Refused(number);
-    Loading { answer, judge }
+    LoadResult { answer, judge }
 }
 
-fn refuse_opening(judge: Judge, number: u8) -> Opening
-    ensures { λ r. ⌜ openCame r ≡ record { says = refused number; leaves = judge } ⌝ }
+fn refuse_opening(judge: Judge, number: u8) -> OpenResult
+    ensures { λ r. ⌜ openOutcome r ≡ record { reply = refused number; state = judge } ⌝ }
 {
     let answer = OpenAnswer::Refused(number);
-    Opening { answer, judge }
+    OpenResult { answer, judge }
 }
 
-fn refuse_delivery(judge: Judge, number: u8) -> Delivery
-    ensures { λ r. ⌜ deliverCame r ≡ record { says = refused number; leaves = judge } ⌝ }
+fn refuse_delivery(judge: Judge, number: u8) -> DeliverResult
+    ensures { λ r. ⌜ deliverOutcome r ≡ record { reply = refused number; state = judge } ⌝ }
 {
     let answer = DeliverAnswer::Refused(number);
-    Delivery { answer, judge }
+    DeliverResult { answer, judge }
 }
 
-fn refuse_withdrawal(judge: Judge, number: u8) -> Withdrawal
-    ensures { λ r. ⌜ withdrawCame r ≡ record { says = refused number; leaves = judge } ⌝ }
+fn refuse_withdrawal(judge: Judge, number: u8) -> WithdrawResult
+    ensures { λ r. ⌜ withdrawOutcome r ≡ record { reply = refused number; state = judge } ⌝ }
 {
     let answer = WithdrawAnswer::Refused(number);
-    Withdrawal { answer, judge }
+    WithdrawResult { answer, judge }
 }
 
 // The runs of a chunk at a place.
@@ -92,8 +92,8 @@ fn exceeds(summed: u64, count: u32) -> bool
 }
 
 // Checks and builds a rule. Accepted, it replaces the former rule and removes the board.
-pub fn load(judge: Judge, file: &[u8]) -> Loading
-    ensures { λ r. ⌜ loadCame r ≡ loadOf judge (now (file .entry)) ⌝ }
+pub fn load(judge: Judge, file: &[u8]) -> LoadResult
+    ensures { λ r. ⌜ loadOutcome r ≡ loadOf judge (now (file .entry)) ⌝ }
 {
     let reading = rulefile::read(file);
     let read = reading.answer;
@@ -110,7 +110,7 @@ pub fn load(judge: Judge, file: &[u8]) -> Loading
                     let board = board::empty_board(0);
                     let answer = LoadAnswer::Accepted(sets, starts);
                     let judge = Judge { built, board };
-                    Loading { answer, judge }
+                    LoadResult { answer, judge }
                 }
             }
         }
@@ -118,8 +118,8 @@ pub fn load(judge: Judge, file: &[u8]) -> Loading
 }
 
 // A board of that many places, all empty; an earlier board is dropped.
-pub fn open(judge: Judge, places: usize) -> Opening
-    ensures { λ r. ⌜ openCame r ≡ openOf judge places ⌝ }
+pub fn open(judge: Judge, places: usize) -> OpenResult
+    ensures { λ r. ⌜ openOutcome r ≡ openOf judge places ⌝ }
 {
     let built = judge.built;
     if built.n == 0 {
@@ -133,12 +133,12 @@ pub fn open(judge: Judge, places: usize) -> Opening
     }
     let answer = OpenAnswer::Accepted;
     let judge = with_board(judge, board::empty_board(places as u8));
-    Opening { answer, judge }
+    OpenResult { answer, judge }
 }
 
 // Runs a chunk and keeps its end sets and count at the place.
-pub fn deliver(judge: Judge, place: usize, chunk: &[u8]) -> Delivery
-    ensures { λ r. ⌜ deliverCame r ≡ deliverOf judge place (now (chunk .entry)) ⌝ }
+pub fn deliver(judge: Judge, place: usize, chunk: &[u8]) -> DeliverResult
+    ensures { λ r. ⌜ deliverOutcome r ≡ deliverOf judge place (now (chunk .entry)) ⌝ }
 {
     let board = judge.board;
     if board.places == 0 {
@@ -163,12 +163,12 @@ pub fn deliver(judge: Judge, place: usize, chunk: &[u8]) -> Delivery
     }
     let answer = DeliverAnswer::Accepted;
     let judge = with_board(judge, board::fill(board, place, runs));
-    Delivery { answer, judge }
+    DeliverResult { answer, judge }
 }
 
 // Empties the place.
-pub fn withdraw(judge: Judge, place: usize) -> Withdrawal
-    ensures { λ r. ⌜ withdrawCame r ≡ withdrawOf judge place ⌝ }
+pub fn withdraw(judge: Judge, place: usize) -> WithdrawResult
+    ensures { λ r. ⌜ withdrawOutcome r ≡ withdrawOf judge place ⌝ }
 {
     let board = judge.board;
     if board.places == 0 {
@@ -182,12 +182,12 @@ pub fn withdraw(judge: Judge, place: usize) -> Withdrawal
     }
     let answer = WithdrawAnswer::Accepted;
     let judge = with_board(judge, board::clear(board, place));
-    Withdrawal { answer, judge }
+    WithdrawResult { answer, judge }
 }
 
 // Waiting with the number of empty places; or yes or no with the count.
-pub fn judged(judge: Judge) -> Verdict
-    ensures { λ r. ⌜ verdictSays r ≡ verdictOf judge ⌝ }
+pub fn ask_verdict(judge: Judge) -> Verdict
+    ensures { λ r. ⌜ verdictMeans r ≡ verdictOf judge ⌝ }
 {
     let board = judge.board;
     if board.places == 0 {

@@ -20,12 +20,12 @@ use lib.Seq.{drop-append-le, length-take-le}
 use Rattle.base.proofs.Tests.{by-test, either}
 use Rattle.lines.specs.Splitting.{begins, upTo, past}
 use Rattle.lines.proofs.Splits.{up-append, past-there}
-use Rattle.fields.specs.Numbers.{numberIn}
-use Rattle.fields.specs.Bytes.{allHex, pairs, bytesIn}
+use Rattle.fields.specs.Numbers.{parseNumber}
+use Rattle.fields.specs.Bytes.{allHex, pairs, parseBytes}
 use Rattle.fields.proofs.Digits.{said-long}
 use Rattle.fields.proofs.Pairs.{hex-append, pairs-length}
 use Rattle.calls.specs.declared.Judge.{Judge}
-use Rattle.calls.specs.Calls.{loads, delivers, asks}
+use Rattle.calls.specs.Calls.{loads, delivers, asksVerdict}
 use Rattle.calltext.specs.Meaning.{Meaning, call, malformed, load-word, open-word, deliver-word, withdraw-word, verdict-word, loadBy, openBy, withdrawBy, deliverBy, deliverFields, callIn, lineIn}
 use Rattle.callrun.specs.Running.{replyOf, lineStep}
 use Rattle.callrun.proofs.Clipped.{loads-long, delivers-long}
@@ -56,24 +56,24 @@ module _ (c : ℕ) where
 
 -- ---- bytes in a field of two bytes at least
 module _ (v : List ℕ) (two : 2 ≤ length v) where
-  bytes-stray : allHex v ≡ false → bytesIn v ≡ none
-  unfolding bytesIn
+  bytes-stray : allHex v ≡ false → parseBytes v ≡ none
+  unfolding parseBytes
   bytes-stray e =
       rw (ne-eqb (length v) 1 (λ o. omega arith), e, and-false (eqb (length v % 2) 0), le-leb 1 (length v) (omega arith))
 
-  bytes-odd : eqb (length v % 2) 0 ≡ false → bytesIn v ≡ none
-  unfolding bytesIn
+  bytes-odd : eqb (length v % 2) 0 ≡ false → parseBytes v ≡ none
+  unfolding parseBytes
   bytes-odd e = rw (ne-eqb (length v) 1 (λ o. omega arith), e, le-leb 1 (length v) (omega arith))
 
-  bytes-even : eqb (length v % 2) 0 ≡ true → allHex v ≡ true → bytesIn v ≡ some (pairs v)
-  unfolding bytesIn
+  bytes-even : eqb (length v % 2) 0 ≡ true → allHex v ≡ true → parseBytes v ≡ some (pairs v)
+  unfolding parseBytes
   bytes-even e a = rw (ne-eqb (length v) 1 (λ o. omega arith), e, a, le-leb 1 (length v) (omega arith))
 
 module _ (v t : List ℕ) (two : 2 ≤ length v) where
   more-two : 2 ≤ length (v ++ t)
   more-two = rw (length-append v t) (omega arith)
 
-  tail-stray : allHex t ≡ false → bytesIn (v ++ t) ≡ none
+  tail-stray : allHex t ≡ false → parseBytes (v ++ t) ≡ none
   tail-stray e = bytes-stray (v ++ t) more-two (rw (hex-append v t, e) (and-false (allHex v)))
 
   module _ (hex : allHex t ≡ true) (even : length t % 2 ≡ 0) where
@@ -85,7 +85,7 @@ module _ (v t : List ℕ) (two : 2 ≤ length v) where
 
     -- both say no bytes, or both say at least m
     tail-bytes : (m : ℕ) → m + m ≤ length v → (P : Option (List ℕ) → Option (List ℕ) → Type 0) → P none none
-        → ((f g : List ℕ) → m ≤ length f → m ≤ length g → P (some f) (some g)) → P (bytesIn v) (bytesIn (v ++ t))
+        → ((f g : List ℕ) → m ≤ length f → m ≤ length g → P (some f) (some g)) → P (parseBytes v) (parseBytes (v ++ t))
     tail-bytes m l P neither both =
         by-test (eqb (length v % 2) 0)
         (λ e. by-test (allHex v)
@@ -96,7 +96,7 @@ module _ (v t : List ℕ) (two : 2 ≤ length v) where
         (λ e. rw (bytes-odd v two e, bytes-odd (v ++ t) more-two (rw parity e)) neither)
 
 -- ---- fields that are malformed
-deliver-none : (p : List ℕ) (o : Option (List ℕ)) → numberIn p ≡ none → deliverFields p o ≡ malformed
+deliver-none : (p : List ℕ) (o : Option (List ℕ)) → parseNumber p ≡ none → deliverFields p o ≡ malformed
 deliver-none p none e = refl
 deliver-none p (some u) e = rw e
 
@@ -104,13 +104,13 @@ deliver-stray : (o : Option ℕ) → deliverBy o none ≡ malformed
 deliver-stray none = refl
 deliver-stray (some p) = refl
 
-verdict-long : (u : List ℕ) → 7 < length u → cond (eqb (length u) 7) (call asks) malformed ≡ malformed
+verdict-long : (u : List ℕ) → 7 < length u → cond (eqb (length u) 7) (call asksVerdict) malformed ≡ malformed
 verdict-long u h = rw (ne-eqb (length u) 7 (λ e. omega arith))
 
-open-long : (u : List ℕ) → 20 < length u → openBy (numberIn u) ≡ malformed
+open-long : (u : List ℕ) → 20 < length u → openBy (parseNumber u) ≡ malformed
 open-long u h = ap openBy (said-long u h)
 
-withdraw-long : (u : List ℕ) → 20 < length u → withdrawBy (numberIn u) ≡ malformed
+withdraw-long : (u : List ℕ) → 20 < length u → withdrawBy (parseNumber u) ≡ malformed
 withdraw-long u h = ap withdrawBy (said-long u h)
 
 -- ---- what a line comes to
@@ -164,22 +164,22 @@ module _ (v t : List ℕ) (long : 131103 ≤ length v) where
   more-bytes : lineIn (v ++ t) ≡ callIn (v ++ t)
   more-bytes = rw (ne-eqb (length (v ++ t)) 0 (λ e. omega (arith, length-append v t)))
 
-  verdict-v : cond (eqb (length v) 7) (call asks) malformed ≡ malformed
+  verdict-v : cond (eqb (length v) 7) (call asksVerdict) malformed ≡ malformed
   verdict-v = verdict-long v (omega arith)
 
-  verdict-more : cond (eqb (length (v ++ t)) 7) (call asks) malformed ≡ malformed
+  verdict-more : cond (eqb (length (v ++ t)) 7) (call asksVerdict) malformed ≡ malformed
   verdict-more = verdict-long (v ++ t) (omega (arith, length-append v t))
 
-  open-v : openBy (numberIn (drop 5 v)) ≡ malformed
+  open-v : openBy (parseNumber (drop 5 v)) ≡ malformed
   open-v = open-long (drop 5 v) (omega (arith, rest-long 5 (omega arith)))
 
-  open-more : openBy (numberIn (drop 5 (v ++ t))) ≡ malformed
+  open-more : openBy (parseNumber (drop 5 (v ++ t))) ≡ malformed
   open-more = open-long (drop 5 (v ++ t)) (omega (arith, more-long 5 (omega arith)))
 
-  withdraw-v : withdrawBy (numberIn (drop 9 v)) ≡ malformed
+  withdraw-v : withdrawBy (parseNumber (drop 9 v)) ≡ malformed
   withdraw-v = withdraw-long (drop 9 v) (omega (arith, rest-long 9 (omega arith)))
 
-  withdraw-more : withdrawBy (numberIn (drop 9 (v ++ t))) ≡ malformed
+  withdraw-more : withdrawBy (parseNumber (drop 9 (v ++ t))) ≡ malformed
   withdraw-more = withdraw-long (drop 9 (v ++ t)) (omega (arith, more-long 9 (omega arith)))
 
   -- the place of a delivery is too long for a number, or the bytes behind it are long enough
@@ -199,14 +199,14 @@ module _ (v t : List ℕ) (long : 131103 ≤ length v) where
     behind-long : 131074 ≤ length (behind v)
     behind-long = rw (length-drop (suc (length (place v))) (drop 8 v)) (omega (arith, near, rest-long 8 (omega arith)))
 
-    near-v : delivery v ≡ deliverBy (numberIn (place v)) (bytesIn (behind v))
+    near-v : delivery v ≡ deliverBy (parseNumber (place v)) (parseBytes (behind v))
     near-v = rw (past-there 32 (drop 8 v) inside)
 
-    near-more : delivery (v ++ t) ≡ deliverBy (numberIn (place v)) (bytesIn (behind v ++ t))
+    near-more : delivery (v ++ t) ≡ deliverBy (parseNumber (place v)) (parseBytes (behind v ++ t))
     near-more = rw (rest 8 (omega arith), past-append 32 (drop 8 v) t inside, up-append 32 (drop 8 v) t inside)
 
   module _ (stray : allHex t ≡ false) where
-    stray-load : loadBy (bytesIn (drop 5 (v ++ t))) ≡ malformed
+    stray-load : loadBy (parseBytes (drop 5 (v ++ t))) ≡ malformed
     stray-load = rw (rest 5 (omega arith), tail-stray (drop 5 v) t (omega (arith, rest-long 5 (omega arith))) stray)
 
     stray-deliver : delivery (v ++ t) ≡ malformed
@@ -215,7 +215,7 @@ module _ (v t : List ℕ) (long : 131103 ≤ length v) where
         (λ b. far-more (ltb-true 20 (length (place v)) b))
         (λ b.
         let near = ltb-false 20 (length (place v)) b in
-        near-more near ∙ ap (deliverBy (numberIn (place v))) (tail-stray (behind v) t (omega (arith, behind-long near)) stray) ∙ deliver-stray (numberIn (place v)))
+        near-more near ∙ ap (deliverBy (parseNumber (place v))) (tail-stray (behind v) t (omega (arith, behind-long near)) stray) ∙ deliver-stray (parseNumber (place v)))
 
     stray-call : callIn (v ++ t) ≡ malformed
     unfolding callIn
@@ -227,13 +227,13 @@ module _ (v t : List ℕ) (long : 131103 ≤ length v) where
         (cond-malformed (begins withdraw-word (v ++ t)) _ _ withdraw-more refl))))
 
   module _ (hex : allHex t ≡ true) (even : length t % 2 ≡ 0) where
-    hex-load : Tells (loadBy (bytesIn (drop 5 v))) (loadBy (bytesIn (drop 5 (v ++ t))))
+    hex-load : Tells (loadBy (parseBytes (drop 5 v))) (loadBy (parseBytes (drop 5 (v ++ t))))
     hex-load =
         let l = rest-long 5 (omega arith) in
         rw (rest 5 (omega arith))
         (tail-bytes (drop 5 v) t (omega (arith, l)) hex even 65537 (omega (arith, l)) (λ a b. Tells (loadBy a) (loadBy b)) (tells-malformed refl refl) tells-loads)
 
-    hex-bytes : (o : Option ℕ) (u : List ℕ) → 131074 ≤ length u → Tells (deliverBy o (bytesIn u)) (deliverBy o (bytesIn (u ++ t)))
+    hex-bytes : (o : Option ℕ) (u : List ℕ) → 131074 ≤ length u → Tells (deliverBy o (parseBytes u)) (deliverBy o (parseBytes (u ++ t)))
     hex-bytes none u l = tells-malformed refl refl
     hex-bytes (some p) u l =
         tail-bytes u t (omega arith) hex even 65537 (omega arith) (λ a b. Tells (deliverBy (some p) a) (deliverBy (some p) b)) (tells-malformed refl refl) (tells-delivers p)
@@ -244,7 +244,7 @@ module _ (v t : List ℕ) (long : 131103 ≤ length v) where
         (λ b. let far = ltb-true 20 (length (place v)) b in tells-malformed (far-v far) (far-more far))
         (λ b.
         let near = ltb-false 20 (length (place v)) b in
-        rw (near-v near, near-more near) (hex-bytes (numberIn (place v)) (behind v) (behind-long near)))
+        rw (near-v near, near-more near) (hex-bytes (parseNumber (place v)) (behind v) (behind-long near)))
 
     hex-call : Tells (callIn v) (callIn (v ++ t))
     unfolding callIn

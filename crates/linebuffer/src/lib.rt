@@ -5,7 +5,7 @@ ghost use Prim.Native.Nat.{_≤_};
 ghost use lib.ListN.{length};
 ghost use Rattle.limits.specs.Limits.{bytesRoom, lineRoom};
 ghost use Rattle.fields.specs.Bytes.{allHex};
-ghost use Rattle.callrun.specs.Running.{lineStep, outcomeOf, Scratch};
+ghost use Rattle.callrun.specs.Running.{lineStep, runOutcome, Scratch};
 ghost use Rattle.linebuffer.specs.Holding.{lineBegin, oddWith, heldAfter, bufferAfter, standing, heldMeaning};
 use callrun::LineRun;
 use calls::Judge;
@@ -81,7 +81,7 @@ fn stands(length: usize, odd: bool) -> usize
 // byte more makes an odd rest even.
 pub fn run_held(judge: Judge, buffer: &[u8], held: Held, scratch: &mut [u8]) -> LineRun
     requires { ⌜ (lineRoom ≤ length (now buffer)) × (bytesRoom ≤ length (now scratch)) ⌝ }
-    ensures { λ r. ⌜ outcomeOf r ≡ lineStep judge (heldMeaning (now (buffer .entry)) held) ⌝ }
+    ensures { λ r. ⌜ runOutcome r ≡ lineStep judge (heldMeaning (now (buffer .entry)) held) ⌝ }
     ensures scratch { λ r. ⌜ Scratch (now (scratch .entry)) (now (scratch .exit)) ⌝ }
 {
     let length = base::at_most(held.length, buffer.len());

@@ -20,7 +20,7 @@ use lib.ListN.{length, getD, length-append}
 use lib.Seq.{getD-append-seam}
 use borrow.Author.Tests.{ltb-true, ltb-false}
 use Rattle.base.proofs.Tests.{by-test}
-use Rattle.numbering.specs.Numbering.{Walk, numberIn, numbered, closeFrom, keysUpTo}
+use Rattle.numbering.specs.Numbering.{Walk, indexOf, numbered, closeFrom, keysUpTo}
 use Rattle.numbering.specs.Begins.{Begins}
 use Rattle.numbering.proofs.Numbers.{Has, begins-at, begins-number, begins-length, begins-has, by-turn, numbered-begins, numbered-has, number-taken}
 use Rattle.numbering.proofs.Closure.{close-keeps, seed-begins, keys-end, Covers, covers-more, upTo-covers, upTo-seed}
@@ -35,11 +35,11 @@ module _ (a : Walk) (seed : ℕ → ℕ) where
   -- what the turns before that of key i and symbol s lead to is left out or has a number below j
   abbrev pub TurnsBelow : List ℕ → ℕ → ℕ → ℕ → Type 0
   TurnsBelow l j i s =
-      (p t : ℕ) → t < a .k → Prior p t i s → a .skips (a .step (getD l p 0) t) ≡ false → numberIn l (a .step (getD l p 0) t) < j
+      (p t : ℕ) → t < a .k → Prior p t i s → a .skips (a .step (getD l p 0) t) ≡ false → indexOf l (a .step (getD l p 0) t) < j
 
   -- each seed below q is left out or has a number below j
   abbrev pub SeedsBelow : List ℕ → ℕ → ℕ → Type 0
-  SeedsBelow l j q = (p : ℕ) → p < q → a .skips (seed p) ≡ false → numberIn l (seed p) < j
+  SeedsBelow l j q = (p : ℕ) → p < q → a .skips (seed p) ≡ false → indexOf l (seed p) < j
 
   pub data Found (l : List ℕ) : ℕ → ℕ → List ℕ → Type 0 where
     seeded : {j q : ℕ} → seed q ≡ getD l j 0 → SeedsBelow l j q → TurnsBelow l j j 0 → Found l j q []
@@ -78,7 +78,7 @@ module _ (a : Walk) (seed : ℕ → ℕ) where
 
   module _ (q b : ℕ) where
     -- the key that takes a number
-    found-new : (l : List ℕ) (i s : ℕ) → i < length l → s < a .k → Stage q b i s l → (m : ℕ) → a .step (getD l i 0) s ≡ m → length l ≤ numberIn l m
+    found-new : (l : List ℕ) (i s : ℕ) → i < length l → s < a .k → Stage q b i s l → (m : ℕ) → a .step (getD l i 0) s ≡ m → length l ≤ indexOf l m
         → (w : List ℕ) × Found (l ++ (m ∷ [])) (length l) q w
     found-new l i s c d h m is new =
         let f : List ℕ = l ++ (m ∷ []) in
@@ -158,7 +158,7 @@ module _ (a : Walk) (seed : ℕ → ℕ) where
     widened j c = let o = h j c in (o .0, o .1, omega (arith, o .2), o .3)
 
     -- the seed is new
-    opened : length b ≤ numberIn b (seed q) → Stage q (length b) (length b) 0 (b ++ (seed q ∷ []))
+    opened : length b ≤ indexOf b (seed q) → Stage q (length b) (length b) 0 (b ++ (seed q ∷ []))
     opened none =
         let m : ℕ = seed q in
         let f : List ℕ = b ++ (m ∷ []) in

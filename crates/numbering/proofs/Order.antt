@@ -21,7 +21,7 @@ use lib.Dec.{ltb}
 use lib.ListN.{length, getD}
 use borrow.Author.Tests.{ltb-true, ltb-false}
 use Rattle.base.proofs.Tests.{by-test, not-both}
-use Rattle.numbering.specs.Numbering.{Walk, numberIn, keysUpTo}
+use Rattle.numbering.specs.Numbering.{Walk, indexOf, keysUpTo}
 use Rattle.numbering.specs.Texts.{follow, Symbols, none, more, Sooner, NoLater}
 use Rattle.numbering.specs.Claims.{Sinks, Ordered}
 use Rattle.numbering.proofs.Texts.{follow-append, symbols-append, skipped-after, sooner-snoc, sooner-last, no-later-snoc, no-later-trans, empty-no-later}
@@ -87,12 +87,12 @@ module _ (a : Walk) (seed : ℕ → ℕ) (n : ℕ) (sinks : Sinks a) (most : len
     late-turn : (p t i s : ℕ) → t < a .k → a .step (key p) t ≡ key y → TurnsBelow a seed keys x i s → Prior p t i s → ⊥
     late-turn p t i s c e h r =
         let d = h p t c r (ap (a .skips) e ∙ sound a seed n y b .counts) in
-        omega (arith, ap (numberIn keys) e ∙ own a seed n y b)
+        omega (arith, ap (indexOf keys) e ∙ own a seed n y b)
 
     late-seed : (p q : ℕ) → seed p ≡ key y → SeedsBelow a seed keys x q → p < q → ⊥
     late-seed p q e h r =
         let d = h p r (ap (a .skips) e ∙ sound a seed n y b .counts) in
-        omega (arith, ap (numberIn keys) e ∙ own a seed n y b)
+        omega (arith, ap (indexOf keys) e ∙ own a seed n y b)
 
   same : {j q p : ℕ} {w v : List ℕ} → j < length keys → Came j q w → Came j p v → (q ≡ p) × (w ≡ v)
   same {j} {q} {p} b (seeded e x y) (seeded f u v) =
@@ -184,9 +184,9 @@ module _ (a : Walk) (seed : ℕ → ℕ) (n : ℕ) (sinks : Sinks a) (most : len
   seed-ends p b ne =
       let d : Has keys (seed p) = upTo-seed a seed n p b ne in
       let at = number-at keys (seed p) d in
-      let o = upTo-found a seed n most (numberIn keys (seed p)) d in
+      let o = upTo-found a seed n most (indexOf keys (seed p)) d in
       record {
-        number = numberIn keys (seed p);
+        number = indexOf keys (seed p);
         below = d;
         is = at;
         from = o .0;
@@ -210,16 +210,16 @@ module _ (a : Walk) (seed : ℕ → ℕ) (n : ℕ) (sinks : Sinks a) (most : len
       let e : a .step (key (h .number)) s ≡ a .step x s = ap (λ (m : ℕ). a .step m s) (h .is) in
       let d : Has keys (a .step x s) = subst (Has keys) e (covered a seed n most (h .number) s (h .below) c (ap (a .skips) e ∙ ne)) in
       let at = number-at keys (a .step x s) d in
-      let o = upTo-found a seed n most (numberIn keys (a .step x s)) d in
+      let o = upTo-found a seed n most (indexOf keys (a .step x s)) d in
       record {
-        number = numberIn keys (a .step x s);
+        number = indexOf keys (a .step x s);
         below = d;
         is = at;
         from = o .0;
         text = o .1;
         came = o .3;
         not-after = not-after-trans (o .0) (h .from) p (o .1) (h .text ++ (s ∷ [])) (v ++ (s ∷ []))
-            (grows s (numberIn keys (a .step x s)) (h .below) c (e ∙ sym at) d (omega arith) (h .came) (λ _ _ _ g k. rises g (h .below) k (h .came)) (o .3))
+            (grows s (indexOf keys (a .step x s)) (h .below) c (e ∙ sym at) d (omega arith) (h .came) (λ _ _ _ g k. rises g (h .below) k (h .came)) (o .3))
             (not-after-snoc (h .from) p (h .text) v s (h .not-after));
       }
 
@@ -246,12 +246,12 @@ module _ (a : Walk) (seed : ℕ → ℕ) (n : ℕ) (sinks : Sinks a) (most : len
       subst (λ (x : ℕ). NotAfter x w p v) (z .0) (subst (λ (x : List ℕ). NotAfter (o .from) x p v) (z .1) (o .not-after))
 
   -- ---- what is claimed
-  record Told (j : ℕ) : Type 0 where
+  record NumberingReply (j : ℕ) : Type 0 where
     from : ℕ
     text : List ℕ
     known : j < length keys → (from < n) × Came j from text
 
-  told : (j : ℕ) → Told j
+  told : (j : ℕ) → NumberingReply j
   told j =
       by-test (ltb j (length keys))
       (λ t. let o = upTo-found a seed n most j (ltb-true j (length keys) t) in record { from = o .0; text = o .1; known = λ _. (o .2, o .3) })

@@ -20,7 +20,7 @@ use lib.ListN.{length, getD, take, length-append, List·getD-append}
 use lib.Seq.{getD-append-seam, getD-take, length-take-le}
 use borrow.Author.Tests.{lt-ltb, ltb-true, ltb-false}
 use Rattle.base.proofs.Tests.{by-test, not-both}
-use Rattle.numbering.specs.Numbering.{Walk, numberIn, numbered, keysUpTo, nextOf}
+use Rattle.numbering.specs.Numbering.{Walk, indexOf, numbered, keysUpTo, nextOf}
 use Rattle.numbering.specs.Texts.{follow, Symbols, none, more}
 use Rattle.numbering.specs.Claims.{Reach, Distinct, Sinks}
 use Rattle.numbering.proofs.Texts.{follow-append, symbols-append, skipped-after}
@@ -40,13 +40,13 @@ snoc-all Q l m h new i b =
 
 -- ---- each numbered key stands at its number
 abbrev pub Own : List ℕ → Type 0
-Own l = (i : ℕ) → i < length l → numberIn l (getD l i 0) ≡ i
+Own l = (i : ℕ) → i < length l → indexOf l (getD l i 0) ≡ i
 
 own-turn : (a : Walk) (l : List ℕ) (m : ℕ) → Own l → Own (numbered (a .skips) l m)
 own-turn a l m h =
     by-turn (a .skips) l m Own (λ _. h) (λ _ _. h)
     (λ ne new.
-    snoc-all (λ i x. numberIn (l ++ (m ∷ [])) x ≡ i) l m
+    snoc-all (λ i x. indexOf (l ++ (m ∷ [])) x ≡ i) l m
     (λ i b. begins-number (record { rest = m ∷ []; is = refl }) (getD l i 0) (stands l (getD l i 0) i b refl) ∙ h i b)
     (number-taken l m new))
 
@@ -60,7 +60,7 @@ module _ (a : Walk) (seed : ℕ → ℕ) (n : ℕ) where
       upTo-keeps a Own (λ l i s _ _ h. own-turn a l (a .step (getD l i 0) s) h) seed n (λ i b. absurd (omega arith)) (λ l p _ h. own-turn a l (seed p) h) n (omega arith)
 
   pub once : Distinct keys
-  once i j p q e = sym (own i p) ∙ ap (numberIn keys) e ∙ own j q
+  once i j p q e = sym (own i p) ∙ ap (indexOf keys) e ∙ own j q
 
   abbrev AllReached : List ℕ → Type 0
   AllReached l = (i : ℕ) → i < length l → Reach a seed n (getD l i 0)
@@ -108,7 +108,7 @@ module _ (a : Walk) (seed : ℕ → ℕ) (n : ℕ) where
       leads-in m [] p h ne = h
       leads-in m (s ∷ w) (more c p) h ne =
           leads-in (a .step m s) w p
-          (subst (λ (x : ℕ). Covers a keys (a .step x s)) (number-at keys m h) (covered (numberIn keys m) s h c)
+          (subst (λ (x : ℕ). Covers a keys (a .step x s)) (number-at keys m h) (covered (indexOf keys m) s h c)
           (by-test (a .skips (a .step m s)) (λ z. not-both (skipped-after a sinks (a .step m s) w p z) ne) (λ z. z)))
           ne
 
@@ -123,7 +123,7 @@ module _ (a : Walk) (seed : ℕ → ℕ) (n : ℕ) where
           (ap (a .skips) (h .leads) ∙ h .counts))
 
       pub complete : (m : ℕ) → Reach a seed n m → (i : ℕ) × (i < length keys) × (getD keys i 0 ≡ m)
-      complete m h = let b = reached-has m h in (numberIn keys m, b, number-at keys m b)
+      complete m h = let b = reached-has m h in (indexOf keys m, b, number-at keys m b)
 
   -- ---- 3
   pub over : Sinks a → (512 < length keys) ↔ (l : List ℕ) × (length l ≡ 513) × Distinct l × ((i : ℕ) → i < 513 → Reach a seed n (getD l i 0))

@@ -4,7 +4,7 @@
 -- left out, there the empty set: they have no number, and 512 stands for them.
 --
 --   Walk                    where a key leads by a symbol, which keys are left out, and k symbols
---   numberIn keys m         the number of the key m; the list's length where it has none
+--   indexOf keys m         the number of the key m; the list's length where it has none
 --   numbered skips keys m   a key not left out keeps the number it has, else it takes the next
 --   expandFrom, closeFrom, keysUpTo   the procedure: by symbols, in number order, for each seed
 --   numberOrNone            the number of a key, or 512 where it is left out
@@ -21,12 +21,12 @@ pub record Walk : Type 0 where
   pub skips : ℕ → Bool
   pub k : ℕ
 
-unfoldable pub numberIn : List ℕ → ℕ → ℕ
-numberIn [] m = 0
-numberIn (x ∷ keys) m = cond (eqb x m) 0 (suc (numberIn keys m))
+unfoldable pub indexOf : List ℕ → ℕ → ℕ
+indexOf [] m = 0
+indexOf (x ∷ keys) m = cond (eqb x m) 0 (suc (indexOf keys m))
 
 unfoldable pub numbered : (ℕ → Bool) → List ℕ → ℕ → List ℕ
-numbered skips keys m = cond (skips m || ltb (numberIn keys m) (length keys)) keys (keys ++ (m ∷ []))
+numbered skips keys m = cond (skips m || ltb (indexOf keys m) (length keys)) keys (keys ++ (m ∷ []))
 
 -- the key m is expanded by `left` symbols, from s on
 unfoldable pub expandFrom : Walk → ℕ → ℕ → ℕ → List ℕ → List ℕ
@@ -49,7 +49,7 @@ keysUpTo a seed (suc q) =
     closeFrom a mostSets (length before) (numbered (a .skips) before (seed q))
 
 abbrev pub numberOrNone : (ℕ → Bool) → List ℕ → ℕ → ℕ
-numberOrNone skips keys m = cond (skips m) emptySet (numberIn keys m)
+numberOrNone skips keys m = cond (skips m) emptySet (indexOf keys m)
 
 abbrev pub nextOf : Walk → List ℕ → ℕ → ℕ → ℕ
 nextOf a keys i s = cond (ltb i (length keys) && ltb s (a .k)) (numberOrNone (a .skips) keys (a .step (getD keys i 0) s)) emptySet

@@ -23,12 +23,12 @@ use Rattle.calls.specs.declared.Judge.{Judge}
 use Rattle.calls.specs.Calls.{Call}
 use Rattle.calls.specs.Steps.{fresh, verdictOf, stepOf}
 use Rattle.histories.specs.Claims.{judgeAfter}
-use Rattle.histories.proofs.Every.{verdict-after}
+use Rattle.histories.proofs.EveryList.{verdict-after}
 use Rattle.calltext.specs.Meaning.{Meaning, again, call, malformed, lineIn}
-use Rattle.calltext.specs.Answers.{isUnread, responseOf}
+use Rattle.calltext.specs.Answers.{isMalformed, answerMeans}
 use Rattle.callrun.specs.declared.LineRun.{LineRun}
-use Rattle.callrun.specs.Running.{LineOutcome, lineStep, outcomeOf}
-use Rattle.replay.specs.Records.{Recorded, calls, malformedAt, readOn, readLines, recordIn, Told, verdict, malformedLine, replayOf}
+use Rattle.callrun.specs.Running.{LineOutcome, lineStep, runOutcome}
+use Rattle.replay.specs.Records.{Recorded, calls, malformedAt, readOn, readLines, recordIn, ReplayReply, verdict, malformedLine, replayOf}
 
 pub stays-malformed : (k i : ℕ) (lines : List (List ℕ)) → readLines (malformedAt k) i lines ≡ malformedAt k
 unfolding readLines
@@ -36,7 +36,7 @@ stays-malformed k i [] = refl
 stays-malformed k i (line ∷ lines) = stays-malformed k (suc i) lines
 
 -- ---- what a line came to
-pub malformed-line : (j : Judge) (m : Meaning) → isUnread (lineStep j m .answers) ≡ true → m ≡ malformed
+pub malformed-line : (j : Judge) (m : Meaning) → isMalformed (lineStep j m .response) ≡ true → m ≡ malformed
 malformed-line j again e = absurd (true≢false (sym e))
 malformed-line j (call c) e = absurd (true≢false (sym e))
 malformed-line j malformed e = refl
@@ -47,11 +47,11 @@ pub record Read (so : Recorded) (j : Judge) : Type 0 where
   pub ran : j ≡ judgeAfter history
   pub is : so ≡ calls history
 
-pub read-on : (i : ℕ) (h : List Call) (j : Judge) (m : Meaning) → j ≡ judgeAfter h → isUnread (lineStep j m .answers) ≡ false
-    → Read (readOn i h m) (lineStep j m .leaves)
+pub read-on : (i : ℕ) (h : List Call) (j : Judge) (m : Meaning) → j ≡ judgeAfter h → isMalformed (lineStep j m .response) ≡ false
+    → Read (readOn i h m) (lineStep j m .state)
 unfolding stateAfter
 read-on i h j again ran e = record { history = []; ran = refl; is = refl }
-read-on i h j (call c) ran e = record { history = c ∷ h; ran = ap (λ (x : Judge). stepOf x c .leaves) ran; is = refl }
+read-on i h j (call c) ran e = record { history = c ∷ h; ran = ap (λ (x : Judge). stepOf x c .state) ran; is = refl }
 read-on i h j malformed ran e = absurd (true≢false e)
 
 -- ---- the lines of a text from an index on
@@ -103,24 +103,24 @@ going-first w j e = record { history = []; ran = e; is = refl }
 
 module _ (w : List ℕ) (j : Judge) (line at : ℕ) (going : Going w j line at) where
   -- the end
-  pub going-last : length w ≤ at → (t : Told) → t ≡ verdict (verdictOf j) → t ≡ replayOf (recordIn w)
+  pub going-last : length w ≤ at → (t : ReplayReply) → t ≡ verdict (verdictOf j) → t ≡ replayOf (recordIn w)
   unfolding readLines linesFrom
   going-last l t e =
       let is : recordIn w ≡ calls (going .history) = going .is ∙ ap (λ (v : List ℕ). readLines (calls (going .history)) (suc line) (linesOf v)) (drop-of-length-le w l) in
       e ∙ ap verdict (ap verdictOf (going .ran) ∙ verdict-after (going .history)) ∙ ap replayOf (sym is)
 
   module _ (end : ℕ) (here : at < length w) (found : end ≡ at + length (upTo 10 (drop at w))) (r : LineRun)
-      (steps : outcomeOf r ≡ lineStep j (lineIn (take (end - at) (drop at w)))) where
+      (steps : runOutcome r ≡ lineStep j (lineIn (take (end - at) (drop at w)))) where
     on-line : (next-at : ℕ) → next-at ≡ min (end + 1) (length w)
         → recordIn w ≡ readLines (readOn (suc line) (going .history) (lineIn (take (end - at) (drop at w)))) (suc (suc line)) (linesOf (drop next-at w))
     unfolding readLines
     on-line next-at e = going .is ∙ ap (readLines (calls (going .history)) (suc line)) (lines-on w at end here found next-at e)
 
     -- a malformed line
-    pub going-wrong : isUnread (responseOf (r .answer)) ≡ true → (t : Told) → t ≡ malformedLine (line + 1) → t ≡ replayOf (recordIn w)
+    pub going-wrong : isMalformed (answerMeans (r .answer)) ≡ true → (t : ReplayReply) → t ≡ malformedLine (line + 1) → t ≡ replayOf (recordIn w)
     going-wrong bad t e =
         let rest = linesOf (drop (min (end + 1) (length w)) w) in
-        let m = malformed-line j (lineIn (take (end - at) (drop at w))) (sym (ap (λ (o : LineOutcome). isUnread (o .answers)) steps) ∙ bad) in
+        let m = malformed-line j (lineIn (take (end - at) (drop at w))) (sym (ap (λ (o : LineOutcome). isMalformed (o .response)) steps) ∙ bad) in
         let is : recordIn w ≡ malformedAt (suc line) =
         on-line (min (end + 1) (length w)) refl
         ∙ ap (λ (x : Meaning). readLines (readOn (suc line) (going .history) x) (suc (suc line)) rest) m
@@ -128,13 +128,13 @@ module _ (w : List ℕ) (j : Judge) (line at : ℕ) (going : Going w j line at) 
         e ∙ ap malformedLine (add-one line) ∙ ap replayOf (sym is)
 
     -- any other line
-    pub going-on : isUnread (responseOf (r .answer)) ≡ false → (next-at : ℕ) → next-at ≡ min (end + 1) (length w) → Going w (r .judge) (line + 1) next-at
+    pub going-on : isMalformed (answerMeans (r .answer)) ≡ false → (next-at : ℕ) → next-at ≡ min (end + 1) (length w) → Going w (r .judge) (line + 1) next-at
     going-on good next-at e =
         let m = lineIn (take (end - at) (drop at w)) in
-        let so = read-on (suc line) (going .history) j m (going .ran) (sym (ap (λ (o : LineOutcome). isUnread (o .answers)) steps) ∙ good) in
+        let so = read-on (suc line) (going .history) j m (going .ran) (sym (ap (λ (o : LineOutcome). isMalformed (o .response)) steps) ∙ good) in
         record {
           history = so .history;
-          ran = ap (λ (o : LineOutcome). o .leaves) steps ∙ so .ran;
+          ran = ap (λ (o : LineOutcome). o .state) steps ∙ so .ran;
           is =
               on-line next-at e
               ∙ ap₂ (λ (x : Recorded) (i : ℕ). readLines x (suc i) (linesOf (drop next-at w))) (so .is) (sym (add-one line));

@@ -1,4 +1,4 @@
--- Every list of calls has a record, and reading the record gives the list again; proofs/Again.antt proves it.
+-- Every list of calls has a record, and reading the record gives the list again; proofs/RoundTrip.antt proves it.
 --
 --   AllFit h      each call of h has numbers of 64 bits, and bytes that are bytes
 --   recordOf h    the record of the calls h, of which the last is first: a line each, in the order in which they are made
@@ -18,4 +18,4 @@ recordOf [] = []
 recordOf (c ∷ h) = recordOf h ++ (lineOf c ++ (10 ∷ []))
 
 pub record Claims : Type 0 where
-  pub record-again : (h : List Call) → AllFit h → recordIn (recordOf h) ≡ calls h
+  pub record-round-trip : (h : List Call) → AllFit h → recordIn (recordOf h) ≡ calls h

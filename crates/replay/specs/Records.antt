@@ -2,13 +2,13 @@
 --
 --   Recorded       the calls of a record, the last first, as a history has them; or the number of its first malformed line, counted from 1
 --   recordIn w     what the text w records. An empty line begins a fresh judge: the calls are those after the last one
---   Told           what replaying a record answers: a verdict, or that a line is malformed
---   toldOf r       what each case of the code's answer says
+--   ReplayReply           what replaying a record answers: a verdict, or that a line is malformed
+--   replayMeans r       what each case of the code's answer says
 --   replayOf s     the right answer for a record that says s
 use mathlib.Core.List.{List, [], _∷_}
 use Prim.Native.Nat.{ℕ, suc}
 use Rattle.lines.specs.Splitting.{linesOf}
-use Rattle.calls.specs.Replies.{Reply, verdictSays}
+use Rattle.calls.specs.Replies.{Reply, verdictMeans}
 use Rattle.histories.specs.History.{verdictIn}
 use Rattle.calls.specs.Calls.{Call}
 use Rattle.calltext.specs.Meaning.{Meaning, again, call, malformed, lineIn}
@@ -37,15 +37,15 @@ readLines so i (line ∷ lines) = readLines (readLine so i line) (suc i) lines
 abbrev pub recordIn : List ℕ → Recorded
 recordIn w = readLines (calls []) 1 (linesOf w)
 
-pub data Told : Type 0 where
-  verdict : Reply → Told
-  malformedLine : ℕ → Told
+pub data ReplayReply : Type 0 where
+  verdict : Reply → ReplayReply
+  malformedLine : ℕ → ReplayReply
 
-abbrev pub toldOf : ReplayAnswer → Told
-toldOf (Verdict v) = verdict (verdictSays v)
-toldOf (Malformed line) = malformedLine line
+abbrev pub replayMeans : ReplayAnswer → ReplayReply
+replayMeans (Verdict v) = verdict (verdictMeans v)
+replayMeans (Malformed line) = malformedLine line
 
--- the verdict of demand 3 for the recorded calls: `Verdict-words` of crates/histories, which holds of every list, has its words
-abbrev pub replayOf : Recorded → Told
+-- the verdict of demand 3 for the recorded calls: `VerdictClauses` of crates/histories, which holds of every list, has its words
+abbrev pub replayOf : Recorded → ReplayReply
 replayOf (calls h) = verdict (verdictIn h)
 replayOf (malformedAt i) = malformedLine i

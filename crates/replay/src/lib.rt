@@ -3,9 +3,9 @@ ghost use mathlib.Core.Path.{_≡_};
 ghost use Prim.Native.Nat.{_+_, _≤_, min};
 ghost use lib.ListN.{length};
 ghost use Rattle.limits.specs.Limits.{bytesRoom};
-ghost use Rattle.calltext.specs.Answers.{responseOf, isUnread};
+ghost use Rattle.calltext.specs.Answers.{answerMeans, isMalformed};
 ghost use Rattle.callrun.specs.Running.{Scratch};
-ghost use Rattle.replay.specs.Records.{recordIn, toldOf, replayOf};
+ghost use Rattle.replay.specs.Records.{recordIn, replayMeans, replayOf};
 use calls::Verdict;
 use calltext::LineAnswer;
 
@@ -16,7 +16,7 @@ pub enum ReplayAnswer {
 }
 
 fn is_malformed(answer: LineAnswer) -> bool
-    ensures { λ r. ⌜ r ≡ isUnread (responseOf answer) ⌝ }
+    ensures { λ r. ⌜ r ≡ isMalformed (answerMeans answer) ⌝ }
 {
     match answer {
         LineAnswer::Began => false,
@@ -39,7 +39,7 @@ fn past(end: usize, most: usize) -> usize
 // The buffer is for the bytes that a line carries.
 fn replay_by(text: &[u8], buffer: &mut [u8]) -> ReplayAnswer
     requires { ⌜ bytesRoom ≤ length (now buffer) ⌝ }
-    ensures { λ r. ⌜ toldOf r ≡ replayOf (recordIn (now (text .entry))) ⌝ }
+    ensures { λ r. ⌜ replayMeans r ≡ replayOf (recordIn (now (text .entry))) ⌝ }
     ensures scratch { λ r. ⌜ Scratch (now (buffer .entry)) (now (buffer .exit)) ⌝ }
 {
     let mut judge = judge::new_judge();
@@ -56,13 +56,13 @@ fn replay_by(text: &[u8], buffer: &mut [u8]) -> ReplayAnswer
         judge = run.judge;
         at = past(end, text.len());
     }
-    let found = judge::judged(judge);
+    let found = judge::ask_verdict(judge);
     ReplayAnswer::Verdict(found)
 }
 
 // Runs the calls that the text records, a line each, and answers the verdict after them.
 pub fn replay(text: &[u8]) -> ReplayAnswer
-    ensures { λ r. ⌜ toldOf r ≡ replayOf (recordIn (now (text .entry))) ⌝ }
+    ensures { λ r. ⌜ replayMeans r ≡ replayOf (recordIn (now (text .entry))) ⌝ }
 {
     let mut buffer = [0u8; limits::BYTES];
     replay_by(text, &mut buffer)

@@ -9,11 +9,11 @@ ghost use lib.ListN.{length, getD};
 ghost use Rattle.limits.specs.Limits.{mostStates, mostSymbols, targetCells};
 ghost use Rattle.ruleformat.specs.Format.{byteAt, halfAt, wordAt, stateCount};
 ghost use Rattle.ruleformat.specs.Refusals.{badPairs, badSection, badArcs, refusal};
-ghost use Rattle.ruleformat.specs.Reader.{numberOf, targetsBy, ruleOf, noRule, Reads};
+ghost use Rattle.ruleformat.specs.Reader.{readMeans, targetsBy, ruleOf, noRule, Reads};
 use automaton::Rule;
 use masks::StateNumber;
 use ruleformat::ReadAnswer;
-use ruleformat::Reading;
+use ruleformat::ReadResult;
 
 // The byte at an index.
 fn byte(file: &[u8], at: usize) -> usize
@@ -122,7 +122,7 @@ fn arcs_break(file: &[u8]) -> bool
 
 // The first of the conditions 1 to 8 that holds.
 fn check(file: &[u8]) -> ReadAnswer
-    ensures { λ r. ⌜ numberOf r ≡ refusal (now (file .entry)) ⌝ }
+    ensures { λ r. ⌜ readMeans r ≡ refusal (now (file .entry)) ⌝ }
 {
     let len = file.len();
     if len < 10 {
@@ -223,18 +223,18 @@ fn no_rule() -> Rule
 }
 
 // The rule in the file, or the first of the refusals 1 to 8 whose condition holds.
-pub fn read(file: &[u8]) -> Reading
+pub fn read(file: &[u8]) -> ReadResult
     ensures { λ r. ⌜ Reads (now (file .entry)) r ⌝ }
 {
     let answer = check(file);
     match answer {
         ReadAnswer::Accepted => {
             let rule = build(file);
-            Reading { answer, rule }
+            ReadResult { answer, rule }
         }
         ReadAnswer::Refused(_) => {
             let rule = no_rule();
-            Reading { answer, rule }
+            ReadResult { answer, rule }
         }
     }
 }

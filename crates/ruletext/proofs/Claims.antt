@@ -28,7 +28,7 @@ use Rattle.delegates.specs.Alike.{startCount}
 use Rattle.build.specs.Building.{builtOf, buildOf}
 use Rattle.build.proofs.Claims as build
 use Rattle.ruletext.specs.RuleText.{refusedText}
-use Rattle.ruletext.specs.Printing.{saidText, textBy, textFor, mostBytes}
+use Rattle.ruletext.specs.Printing.{builtText, textBy, textFor, mostBytes}
 use Rattle.ruletext.specs.Claims.{Claims}
 use Rattle.ruletext.proofs.Lengths.{rule-most, refused-most}
 
@@ -66,21 +66,21 @@ module _ (r : Rule) (good : WellFormed r) (f : fits r) where
       (λ e. omega (arith, good .states, m .delegates q (ltb-true q (r .n) e) .state))
       (λ e. omega (arith, m .zeros q (ltb-false q (r .n) e)))
 
-  starts-low : builtOf r .starts < 256
+  starts-low : builtOf r .startcount < 256
   starts-low =
       let m = build.claims .delegates r good f in
       omega (arith, good .states, m .starts, few-starts (builtOf r .delegates) (r .n))
 
-  whole-fits : length (saidText (buildOf r .says) (buildOf r .leaves)) ≤ mostBytes
+  whole-fits : length (builtText (buildOf r .answer) (buildOf r .built)) ≤ mostBytes
   unfolding buildOf
   whole-fits = rw f (rule-most (builtOf r) starts-low delegate-low)
 
 module _ (r : Rule) where
-  over-fits : tooMany (r .targets) (r .n) (r .k) ≡ true → length (saidText (buildOf r .says) (buildOf r .leaves)) ≤ mostBytes
+  over-fits : tooMany (r .targets) (r .n) (r .k) ≡ true → length (builtText (buildOf r .answer) (buildOf r .built)) ≤ mostBytes
   unfolding buildOf
   over-fits e = let l = refused-most 9 (omega arith) in rw e (omega arith)
 
-  built-fits : WellFormed r → length (saidText (buildOf r .says) (buildOf r .leaves)) ≤ mostBytes
+  built-fits : WellFormed r → length (builtText (buildOf r .answer) (buildOf r .built)) ≤ mostBytes
   built-fits good = by-test (tooMany (r .targets) (r .n) (r .k)) over-fits (whole-fits r good)
 
 -- ---- any file

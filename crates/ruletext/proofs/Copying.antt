@@ -37,8 +37,8 @@ copied {text} {before} {after} {end} h w =
     record { answer = rw (e, l); buffer = rw e (w .is ∙ ap (λ (x : ℕ). text ++ drop x before) (zero-add (length text))) }
 
 pub whole : (b : Built) (count k n : ℕ) {out m₁ m₂ after : List ℕ} {lines last end : ℕ}
-    → count ≡ min (b .count) 512 → k ≡ min (b .k) 16 → n ≡ min (b .n) 32 → 39582 ≤ length out
-    → Wrote out 0 (headLine count (b .starts)) m₁ lines × (lines ≤ 20)
+    → count ≡ min (b .setcount) 512 → k ≡ min (b .k) 16 → n ≡ min (b .n) 32 → 39582 ≤ length out
+    → Wrote out 0 (headLine count (b .startcount)) m₁ lines × (lines ≤ 20)
     → Wrote m₁ lines (joined (setLine (b .sets) (b .next) k) count) m₂ last
     → Wrote m₂ last (delegatesLine (b .delegates) n) after end × (end ≤ last + 138)
     → Wrote out 0 (ruleText b) after end × (end ≤ 39582)

@@ -8,18 +8,18 @@ use Rattle.ruleformat.specs.Reader.{ruleOf}
 use Rattle.build.specs.declared.BuildAnswer.{BuildAnswer}
 use Rattle.build.specs.declared.BuildAnswer.the-variants.{Accepted, Refused}
 use Rattle.build.specs.declared.Built.{Built}
-use Rattle.build.specs.declared.Building.{Building}
-use Rattle.build.specs.Building.{saidOf, Outcome, buildCame, buildOf}
+use Rattle.build.specs.declared.BuildResult.{BuildResult}
+use Rattle.build.specs.Building.{buildMeans, Outcome, buildOutcome, buildOf}
 use Rattle.ruletext.specs.RuleText.{answerText, textOf, refusedText}
-use Rattle.ruletext.specs.Printing.{saidText, textFor}
+use Rattle.ruletext.specs.Printing.{builtText, textFor}
 
-answered : (a : BuildAnswer) (b : Built) → answerText a b ≡ saidText (saidOf a) b
+answered : (a : BuildAnswer) (b : Built) → answerText a b ≡ builtText (buildMeans a) b
 answered (Accepted sets starts) b = refl
 answered (Refused number) b = refl
 
 module _ (f : List ℕ) where
-  pub text-for : refusal f ≡ none → (b : Building) → buildCame b ≡ buildOf (ruleOf f) → textOf b ≡ textFor f
-  text-for read b is = answered (b .answer) (b .built) ∙ ap (λ (o : Outcome). saidText (o .says) (o .leaves)) is ∙ rw read
+  pub text-for : refusal f ≡ none → (b : BuildResult) → buildOutcome b ≡ buildOf (ruleOf f) → textOf b ≡ textFor f
+  text-for read b is = answered (b .answer) (b .built) ∙ ap (λ (o : Outcome). builtText (o .answer) (o .built)) is ∙ rw read
 
   pub text-unread : (number : ℕ) → refusal f ≡ some number → refusedText number ≡ textFor f
   text-unread number read = rw read

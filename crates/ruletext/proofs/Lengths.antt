@@ -85,13 +85,13 @@ head-most count starts hc hs =
 pub last-most : (d : List ℕ) → ((q : ℕ) → getD d q 0 < 256) → (n : ℕ) → n ≤ 32 → length (delegatesLine d n) ≤ 138
 last-most d h n hn = omega (arith, fields-most d h n, length-append (joined (λ q. field (getD d q 0)) n) (lineFeed ∷ []))
 
-pub rule-most : (b : Built) → b .starts < 256 → ((q : ℕ) → getD (b .delegates) q 0 < 256) → length (ruleText b) ≤ mostBytes
+pub rule-most : (b : Built) → b .startcount < 256 → ((q : ℕ) → getD (b .delegates) q 0 < 256) → length (ruleText b) ≤ mostBytes
 rule-most b hs hd =
-    let count = min (b .count) 512 in
-    let first = headLine count (b .starts) in
+    let count = min (b .setcount) 512 in
+    let first = headLine count (b .startcount) in
     let lines = joined (setLine (b .sets) (b .next) (min (b .k) 16)) count in
     let last = delegatesLine (b .delegates) (min (b .n) 32) in
-    let hf = head-most count (b .starts) (omega arith) hs in
+    let hf = head-most count (b .startcount) (omega arith) hs in
     let hl = lines-most (b .sets) (b .next) (min (b .k) 16) (omega arith) count (omega arith) in
     let ht = last-most (b .delegates) hd (min (b .n) 32) (omega arith) in
     omega (arith, length-append first (lines ++ last), length-append lines last)

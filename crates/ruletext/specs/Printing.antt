@@ -1,6 +1,6 @@
 -- What printing into a lent buffer answers.
 --
---   lengthOf           the length that an answer tells, none where the buffer is too short
+--   printedMeans           the length that an answer tells, none where the buffer is too short
 --   Prints text ..     the text stands at the start of the buffer and what lies past it is left as it was; a buffer that is too short is
 --                      refused and left unchanged
 --   textFor f          the text for the rule file f: refused with the first number of 1 to 9 whose condition holds, else the built rule's
@@ -16,26 +16,26 @@ use Rattle.limits.specs.Limits.{mostSets}
 use Rattle.ruleformat.specs.Refusals.{refusal}
 use Rattle.ruleformat.specs.Reader.{ruleOf}
 use Rattle.build.specs.declared.Built.{Built}
-use Rattle.build.specs.Building.{Said, accepted, refused, Outcome, buildOf}
+use Rattle.build.specs.Building.{BuildReply, accepted, refused, Outcome, buildOf}
 use Rattle.ruletext.specs.declared.Printed.{Printed}
 use Rattle.ruletext.specs.declared.Printed.the-variants.{Bytes, Short}
 use Rattle.ruletext.specs.RuleText.{ruleText, refusedText}
 
-abbrev pub lengthOf : Printed → Option ℕ
-lengthOf (Bytes n) = some n
-lengthOf Short = none
+abbrev pub printedMeans : Printed → Option ℕ
+printedMeans (Bytes n) = some n
+printedMeans Short = none
 
 pub record Prints (text before after : List ℕ) (r : Printed) : Type 0 where
-  pub answer : lengthOf r ≡ cond (ltb (length before) (length text)) none (some (length text))
+  pub answer : printedMeans r ≡ cond (ltb (length before) (length text)) none (some (length text))
   pub buffer : after ≡ cond (ltb (length before) (length text)) before (text ++ drop (length text) before)
 
 -- a refusal with its number, or the rule
-abbrev pub saidText : Said → Built → List ℕ
-saidText (accepted sets starts) b = ruleText b
-saidText (refused number) b = refusedText number
+abbrev pub builtText : BuildReply → Built → List ℕ
+builtText (accepted sets starts) b = ruleText b
+builtText (refused number) b = refusedText number
 
 abbrev pub textBy : Option ℕ → Outcome → List ℕ
-textBy none o = saidText (o .says) (o .leaves)
+textBy none o = builtText (o .answer) (o .built)
 textBy (some number) o = refusedText number
 
 abbrev pub textFor : List ℕ → List ℕ

@@ -16,7 +16,7 @@ use Rattle.text.specs.Numerals.{decimal, hex}
 use Rattle.build.specs.declared.BuildAnswer.{BuildAnswer}
 use Rattle.build.specs.declared.BuildAnswer.the-variants.{Accepted, Refused}
 use Rattle.build.specs.declared.Built.{Built}
-use Rattle.build.specs.declared.Building.{Building}
+use Rattle.build.specs.declared.BuildResult.{BuildResult}
 
 abbrev pub space : ℕ
 space = 32
@@ -63,8 +63,8 @@ delegatesLine d n = delegatesWord ++ (joined (λ q. field (getD d q 0)) n ++ (li
 -- at most 512 sets, 16 symbols and 32 states are printed, which is all that a built rule has
 abbrev pub ruleText : Built → List ℕ
 ruleText b =
-    headLine (min (b .count) mostSets) (b .starts)
-    ++ (joined (setLine (b .sets) (b .next) (min (b .k) mostSymbols)) (min (b .count) mostSets) ++ delegatesLine (b .delegates) (min (b .n) mostStates))
+    headLine (min (b .setcount) mostSets) (b .startcount)
+    ++ (joined (setLine (b .sets) (b .next) (min (b .k) mostSymbols)) (min (b .setcount) mostSets) ++ delegatesLine (b .delegates) (min (b .n) mostStates))
 
 abbrev pub refusedText : ℕ → List ℕ
 refusedText x = refusedWord ++ (decimal x ++ (lineFeed ∷ []))
@@ -73,5 +73,5 @@ abbrev pub answerText : BuildAnswer → Built → List ℕ
 answerText (Accepted sets starts) b = ruleText b
 answerText (Refused number) b = refusedText number
 
-abbrev pub textOf : Building → List ℕ
+abbrev pub textOf : BuildResult → List ℕ
 textOf b = answerText (b .answer) (b .built)

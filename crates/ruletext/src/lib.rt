@@ -8,7 +8,7 @@ ghost use Rattle.text.specs.Writing.{Wrote};
 ghost use Rattle.ruletext.specs.RuleText.{field, cellText, rowText, setLine, headLine, delegatesLine, ruleText, refusedText, textOf};
 ghost use Rattle.ruletext.specs.Printing.{Prints, textFor, mostBytes};
 use build::BuildAnswer;
-use build::Building;
+use build::BuildResult;
 use build::Built;
 use masks::StateNumber;
 use ruleformat::ReadAnswer;
@@ -162,13 +162,13 @@ fn put_rule(out: &mut [u8], built: Built) -> usize
     requires { ⌜ mostBytes ≤ length (now out) ⌝ }
     ensures { λ r. ⌜ (Wrote (now (out .entry)) 0 (ruleText built) (now (out .exit)) r) × (r ≤ mostBytes) ⌝ }
 {
-    let count = base::at_most(built.count as usize, limits::SETS);
+    let count = base::at_most(built.setcount as usize, limits::SETS);
     let k = base::at_most(built.k as usize, limits::SYMBOLS);
     let n = base::at_most(built.n as usize, limits::STATES);
     let sets = built.sets;
     let next = built.next;
     let delegates = built.delegates;
-    let lines = put_head(out, 0, count, built.starts);
+    let lines = put_head(out, 0, count, built.startcount);
     let last = put_sets(out, lines, &sets, &next, k, count);
     put_delegates(out, last, &delegates, n)
 }
@@ -201,7 +201,7 @@ pub fn print_refused(number: u8, out: &mut [u8]) -> Printed
 }
 
 // What building a rule answers, as text.
-pub fn print_building(building: Building, out: &mut [u8]) -> Printed
+pub fn print_building(building: BuildResult, out: &mut [u8]) -> Printed
     ensures { λ r. ⌜ Prints (textOf building) (now (out .entry)) (now (out .exit)) r ⌝ }
 {
     let answer = building.answer;

@@ -18,24 +18,24 @@ use Rattle.text.specs.Writing.{written, Wrote}
 use Rattle.lines.specs.Splitting.{upTo}
 use Rattle.lines.proofs.Parts.{part-from, part-to}
 use Rattle.calls.specs.declared.Judge.{Judge}
-use Rattle.calltext.specs.Answers.{responseText, responseOf}
+use Rattle.calltext.specs.Answers.{responseText, answerMeans}
 use Rattle.callrun.specs.declared.LineRun.{LineRun}
-use Rattle.callrun.specs.Running.{LineOutcome, lineStep, outcomeOf}
+use Rattle.callrun.specs.Running.{LineOutcome, lineStep, runOutcome}
 use Rattle.linebuffer.specs.declared.Held.{Held}
 use Rattle.linebuffer.specs.Holding.{lineBegin, heldAfter, bufferAfter, heldMeaning}
 use Rattle.stream.specs.declared.Answered.{Answered}
-use Rattle.stream.specs.Feeding.{State, Step, stateOf, quiet, answeredBy, answerHeld, Part, ends, goesOn, partAt, partSize, feedPart, finishOf, answerCame, feedCame}
+use Rattle.stream.specs.Feeding.{State, Step, stateOf, quiet, answeredBy, answerHeld, Part, ends, goesOn, partAt, partSize, feedPart, finishOf, answerOutcome, feedOutcome}
 use Rattle.stream.specs.Claims.{InOut}
 use Rattle.stream.proofs.Parts.{part-ended, part-on}
 
 -- ---- one line
-pub answered : (j : Judge) (held : Held) (line before after : List ℕ) (run : LineRun) (end : ℕ) → outcomeOf run ≡ lineStep j (heldMeaning line held)
-    → Wrote before 0 (responseText (responseOf (run .answer))) after end
-    → answerCame (record { judge = run .judge; written = end }) line after ≡ answerHeld (stateOf j held line before)
+pub answered : (j : Judge) (held : Held) (line before after : List ℕ) (run : LineRun) (end : ℕ) → runOutcome run ≡ lineStep j (heldMeaning line held)
+    → Wrote before 0 (responseText (answerMeans (run .answer))) after end
+    → answerOutcome (record { judge = run .judge; written = end }) line after ≡ answerHeld (stateOf j held line before)
 unfolding answerHeld
 answered j held line before after run end is wrote =
-    let size : end ≡ length (responseText (responseOf (run .answer))) = omega (arith, wrote .ends) in
-    ap₂ (λ (o : List ℕ) (n : ℕ). record { leaves = stateOf (run .judge) lineBegin line o; written = n }) (wrote .is) size
+    let size : end ≡ length (responseText (answerMeans (run .answer))) = omega (arith, wrote .ends) in
+    ap₂ (λ (o : List ℕ) (n : ℕ). record { state = stateOf (run .judge) lineBegin line o; written = n }) (wrote .is) size
     ∙ ap (answeredBy (stateOf j held line before)) is
 
 -- ---- a part of a block; `mid` and `line` hold the line with the part behind it
@@ -45,17 +45,17 @@ module _ (j : Judge) (held : Held) (block : List ℕ) (at : ℕ) (here : at < le
   state-is : stateOf j mid line out ≡ stateOf j (heldAfter before held (take (end - at) (drop at block))) (bufferAfter before held (take (end - at) (drop at block))) out
   state-is = ap₂ (λ (h : Held) (l : List ℕ). stateOf j h l out) held-is line-is
 
-  pub fed-ended : end < length block → (out′ : List ℕ) (a : Answered) → answerCame a line out′ ≡ answerHeld (stateOf j mid line out)
+  pub fed-ended : end < length block → (out′ : List ℕ) (a : Answered) → answerOutcome a line out′ ≡ answerHeld (stateOf j mid line out)
       → (none : Held) → none ≡ lineBegin
-      → feedCame (record { judge = a .judge; held = none; at = end + 1; written = a .written }) line out′ ≡ feedPart (stateOf j held before out) (partAt block at)
+      → feedOutcome (record { judge = a .judge; held = none; at = end + 1; written = a .written }) line out′ ≡ feedPart (stateOf j held before out) (partAt block at)
   fed-ended l out′ a is none begins =
-      ap (λ (h : Held). record { leaves = stateOf (a .judge) h line out′; written = a .written }) begins
+      ap (λ (h : Held). record { state = stateOf (a .judge) h line out′; written = a .written }) begins
       ∙ is
       ∙ ap answerHeld state-is
       ∙ ap (feedPart (stateOf j held before out)) (sym (part-ended block at end here found l))
 
   pub fed-on : length block ≤ end
-      → feedCame (record { judge = j; held = mid; at = end; written = 0 }) line out ≡ feedPart (stateOf j held before out) (partAt block at)
+      → feedOutcome (record { judge = j; held = mid; at = end; written = 0 }) line out ≡ feedPart (stateOf j held before out) (partAt block at)
   fed-on l = ap quiet state-is ∙ ap (feedPart (stateOf j held before out)) (sym (part-on block at end here found l))
 
 module _ (block : List ℕ) (at : ℕ) (here : at < length block) (end : ℕ) (found : end ≡ at + length (upTo 10 (drop at block))) where
@@ -70,17 +70,17 @@ module _ (block : List ℕ) (at : ℕ) (here : at < length block) (end : ℕ) (f
 
 -- ---- the end of the text
 module _ (j : Judge) (held : Held) (line out : List ℕ) where
-  pub finished-none : held .length ≡ 0 → answerCame (record { judge = j; written = 0 }) line out ≡ finishOf (stateOf j held line out)
+  pub finished-none : held .length ≡ 0 → answerOutcome (record { judge = j; written = 0 }) line out ≡ finishOf (stateOf j held line out)
   finished-none e = rw (eq-eqb (held .length) 0 e)
 
-  pub finished-last : (held .length ≡ 0 → ⊥) → (after : List ℕ) (r : Answered) → answerCame r line after ≡ answerHeld (stateOf j held line out)
-      → answerCame r line after ≡ finishOf (stateOf j held line out)
+  pub finished-last : (held .length ≡ 0 → ⊥) → (after : List ℕ) (r : Answered) → answerOutcome r line after ≡ answerHeld (stateOf j held line out)
+      → answerOutcome r line after ≡ finishOf (stateOf j held line out)
   finished-last e after r is = rw (ne-eqb (held .length) 0 e) is
 
 -- ---- what is answered is within its buffer
 answer-room : (s : State) (o : LineOutcome) → InOut (answeredBy s o)
 answer-room s o =
-    let t = responseText (o .answers) in omega (arith, length-append t (drop (0 + length t) (s .out)))
+    let t = responseText (o .response) in omega (arith, length-append t (drop (0 + length t) (s .out)))
 
 held-room : (s : State) → InOut (answerHeld s)
 unfolding answerHeld

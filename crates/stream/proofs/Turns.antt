@@ -12,18 +12,18 @@ use lib.ListN.{length, drop, length-drop, drop-of-length-le}
 use lib.Seq.{drop-drop}
 use Rattle.stream.specs.declared.Answered.{Answered}
 use Rattle.stream.specs.declared.Fed.{Fed}
-use Rattle.stream.specs.Feeding.{State, Step, stateOf, partsOf, partAt, partSize, feedPart, finishOf, answerCame, feedCame}
+use Rattle.stream.specs.Feeding.{State, Step, stateOf, partsOf, partAt, partSize, feedPart, finishOf, answerOutcome, feedOutcome}
 use Rattle.stream.specs.Texts.{feedParts}
 use Rattle.stream.specs.Claims.{InOut, FirstPart}
 use Rattle.stream.proofs.Parts.{first-part}
 use Rattle.stream.proofs.Calls.{fed-room, finished-room}
 
-pub end-room : (s : State) (r : Answered) (line out : List ℕ) → answerCame r line out ≡ finishOf s → r .written ≤ length out
+pub end-room : (s : State) (r : Answered) (line out : List ℕ) → answerOutcome r line out ≡ finishOf s → r .written ≤ length out
 end-room s r line out is = subst InOut (sym is) (finished-room s)
 
 -- the part at `at` of the block was fed to the state s
 module _ (block : List ℕ) (at : ℕ) (here : at < length block) (s : State) (r : Fed) (line out : List ℕ)
-    (came : feedCame r line out ≡ feedPart s (partAt block at)) (next : r .at ≡ at + partSize (partAt block at)) where
+    (came : feedOutcome r line out ≡ feedPart s (partAt block at)) (next : r .at ≡ at + partSize (partAt block at)) where
   first : FirstPart (drop at block) (partAt block at)
   first = first-part (drop at block) (omega (arith, length-drop at block))
 
@@ -42,7 +42,7 @@ module _ (block : List ℕ) (at : ℕ) (here : at < length block) (s : State) (r
       let p = partAt block at in
       let sum : at + partSize p ≡ r .at = sym next in
       ap (feedParts s) (first .rest)
-      ∙ ap (λ (t : Step). feedParts (t .leaves) (partsOf (drop (partSize p) (drop at block)))) (sym came)
+      ∙ ap (λ (t : Step). feedParts (t .state) (partsOf (drop (partSize p) (drop at block)))) (sym came)
       ∙ ap (λ (v : List ℕ). feedParts (stateOf (r .judge) (r .held) line out) (partsOf v)) (drop-drop (partSize p) at block ∙ ap (λ (n : ℕ). drop n block) sum)
 
 pub turns-over : (block : List ℕ) (at : ℕ) (s : State) → length block ≤ at → s ≡ feedParts s (partsOf (drop at block))

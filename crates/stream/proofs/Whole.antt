@@ -19,7 +19,7 @@ use Rattle.calls.specs.declared.Judge.{Judge}
 use Rattle.calls.specs.Calls.{Call}
 use Rattle.calls.specs.Steps.{fresh}
 use Rattle.histories.specs.Claims.{judgeAfter}
-use Rattle.histories.proofs.Every.{answer-after}
+use Rattle.histories.proofs.EveryList.{answer-after}
 use Rattle.calltext.specs.Meaning.{Meaning, again, call, malformed, lineIn}
 use Rattle.calltext.specs.Answers.{Response, replied, responseText}
 use Rattle.callrun.specs.Running.{LineOutcome, lineStep}
@@ -27,59 +27,59 @@ use Rattle.linebuffer.specs.Holding.{lineBegin, heldMeaning}
 use Rattle.linebuffer.proofs.Claimed as linebuffer
 use Rattle.stream.specs.Feeding.{State, Step, Part, ends, goesOn, stateOf, bytesOf, goOn, answeredBy, answerHeld, partsOf, finishOf}
 use Rattle.stream.specs.Texts.{TextOutcome, after, linesStep, feedParts, partsText, partsIn, streamOf, historyAfter, rightResponse, rightText}
-use Rattle.stream.specs.Claims.{Holds, linesEnded, lineBegun, Feeds}
+use Rattle.stream.specs.Claims.{KeepsLine, linesEnded, lineBegun, Feeds}
 use Rattle.stream.proofs.Parts.{lines-split}
 
 -- ---- lines and then others
 abbrev then : TextOutcome → TextOutcome → TextOutcome
-then a b = record { text = a .text ++ b .text; leaves = b .leaves }
+then a b = record { text = a .text ++ b .text; state = b .state }
 
-step-append : (ls ks : List (List ℕ)) (j : Judge) → linesStep j (ls ++ ks) ≡ then (linesStep j ls) (linesStep (linesStep j ls .leaves) ks)
+step-append : (ls ks : List (List ℕ)) (j : Judge) → linesStep j (ls ++ ks) ≡ then (linesStep j ls) (linesStep (linesStep j ls .state) ks)
 unfolding linesStep
 step-append [] ks j = refl
 step-append (l ∷ ls) ks j =
     let o = lineStep j (lineIn l) in
-    ap (after (o .answers)) (step-append ls ks (o .leaves))
-    ∙ ap (λ (t : List ℕ). record { text = t; leaves = linesStep (linesStep (o .leaves) ls .leaves) ks .leaves })
-    (sym (append-assoc (responseText (o .answers)) (linesStep (o .leaves) ls .text) (linesStep (linesStep (o .leaves) ls .leaves) ks .text)))
+    ap (after (o .response)) (step-append ls ks (o .state))
+    ∙ ap (λ (t : List ℕ). record { text = t; state = linesStep (linesStep (o .state) ls .state) ks .state })
+    (sym (append-assoc (responseText (o .response)) (linesStep (o .state) ls .text) (linesStep (linesStep (o .state) ls .state) ks .text)))
 
 -- ---- one line
 abbrev pub came : Step → TextOutcome
-came t = record { text = bytesOf t; leaves = t .leaves .judge }
+came t = record { text = bytesOf t; state = t .state .judge }
 
-bytes-are : (s : State) (o : LineOutcome) → bytesOf (answeredBy s o) ≡ responseText (o .answers)
+bytes-are : (s : State) (o : LineOutcome) → bytesOf (answeredBy s o) ≡ responseText (o .response)
 bytes-are s o =
-    let t = responseText (o .answers) in take-at t (drop (0 + length t) (s .out)) (length t) refl
+    let t = responseText (o .response) in take-at t (drop (0 + length t) (s .out)) (length t) refl
 
 -- the line w that is held is run, and the lines ls after it
-module _ (s : State) (w : List ℕ) (holds : Holds s w) where
+module _ (s : State) (w : List ℕ) (holds : KeepsLine s w) where
   same-step : lineStep (s .judge) (heldMeaning (s .line) (s .held)) ≡ lineStep (s .judge) (lineIn w)
   same-step = linebuffer.claims .runs (s .line) (s .held) w (holds .large) (holds .keeps) (s .judge)
 
-  line-then : (ls : List (List ℕ)) → then (came (answerHeld s)) (linesStep (answerHeld s .leaves .judge) ls) ≡ linesStep (s .judge) (w ∷ ls)
+  line-then : (ls : List (List ℕ)) → then (came (answerHeld s)) (linesStep (answerHeld s .state .judge) ls) ≡ linesStep (s .judge) (w ∷ ls)
   unfolding linesStep answerHeld
   line-then ls =
       let o = lineStep (s .judge) (heldMeaning (s .line) (s .held)) in
-      ap (λ (t : List ℕ). record { text = t ++ linesStep (o .leaves) ls .text; leaves = linesStep (o .leaves) ls .leaves }) (bytes-are s o)
-      ∙ ap (λ (x : LineOutcome). after (x .answers) (linesStep (x .leaves) ls)) same-step
+      ap (λ (t : List ℕ). record { text = t ++ linesStep (o .state) ls .text; state = linesStep (o .state) ls .state }) (bytes-are s o)
+      ∙ ap (λ (x : LineOutcome). after (x .response) (linesStep (x .state) ls)) same-step
 
-  next-holds : Holds (answerHeld s .leaves) []
+  next-holds : KeepsLine (answerHeld s .state) []
   unfolding answerHeld
   next-holds = record { large = holds .large; keeps = linebuffer.claims .begins (s .line) }
 
-  on-holds : (p : List ℕ) → Holds (goOn s p) (w ++ p)
+  on-holds : (p : List ℕ) → KeepsLine (goOn s p) (w ++ p)
   on-holds p = record {
     large = omega (arith, holds .large, linebuffer.claims .same-size (s .line) (s .held) p);
     keeps = linebuffer.claims .goes-on (s .line) (s .held) w p (holds .keeps);
   }
 
 -- ---- the parts of a block
-pub feeds : (ps : List Part) (s : State) (w : List ℕ) → Holds s w → Feeds s w ps
+pub feeds : (ps : List Part) (s : State) (w : List ℕ) → KeepsLine s w → Feeds s w ps
 unfolding linesStep feedParts partsText linesEnded lineBegun
 feeds [] s w holds = record { ran = refl; holds = holds }
 feeds (ends p ∷ ps) s w holds =
     let on = on-holds s w holds p in
-    let r = feeds ps (answerHeld (goOn s p) .leaves) [] (next-holds (goOn s p) (w ++ p) on) in
+    let r = feeds ps (answerHeld (goOn s p) .state) [] (next-holds (goOn s p) (w ++ p) on) in
     record {
       ran = ap (then (came (answerHeld (goOn s p)))) (r .ran) ∙ line-then (goOn s p) (w ++ p) on (linesEnded [] ps);
       holds = r .holds;
@@ -88,12 +88,12 @@ feeds (goesOn p ∷ ps) s w holds =
     let r = feeds ps (goOn s p) (w ++ p) (on-holds s w holds p) in record { ran = r .ran; holds = r .holds }
 
 -- ---- the end of the text
-pub finishes : (s : State) (w : List ℕ) → Holds s w → came (finishOf s) ≡ linesStep (s .judge) (linesFrom w [])
+pub finishes : (s : State) (w : List ℕ) → KeepsLine s w → came (finishOf s) ≡ linesStep (s .judge) (linesFrom w [])
 unfolding linesStep linesFrom
 finishes s [] holds = rw (eq-eqb (s .held .length) 0 (omega (arith, holds .keeps .size)))
 finishes s (x ∷ w) holds =
     rw (ne-eqb (s .held .length) 0 (λ e. omega (arith, holds .keeps .size, holds .large)))
-    (ap (λ (t : List ℕ). record { text = t; leaves = answerHeld s .leaves .judge }) (sym (append-nil (bytesOf (answerHeld s))))
+    (ap (λ (t : List ℕ). record { text = t; state = answerHeld s .state .judge }) (sym (append-nil (bytesOf (answerHeld s))))
     ∙ line-then s (x ∷ w) holds [])
 
 -- ---- the whole text
@@ -121,13 +121,13 @@ blocks-split (block ∷ blocks) w =
     ∙ sym (append-assoc (linesEnded w ps) (linesEnded (lineBegun w ps) qs) (linesFrom (lineBegun (lineBegun w ps) qs) []))
     ∙ ap₂ (λ (ls : List (List ℕ)) (v : List ℕ). ls ++ linesFrom v []) (sym (ended-append ps qs w)) (sym (begun-append ps qs w))
 
-whole-by : (blocks : List (List ℕ)) (s : State) (w : List ℕ) → Holds s w → streamOf s blocks ≡ linesStep (s .judge) (linesFrom w (flatten blocks))
+whole-by : (blocks : List (List ℕ)) (s : State) (w : List ℕ) → KeepsLine s w → streamOf s blocks ≡ linesStep (s .judge) (linesFrom w (flatten blocks))
 whole-by blocks s w holds =
     let ps = partsIn blocks in
     let f = feeds ps s w holds in
     let end = finishes (feedParts s ps) (lineBegun w ps) (f .holds) in
-    ap (then (record { text = partsText s ps; leaves = feedParts s ps .judge })) end
-    ∙ ap (λ (t : TextOutcome). then t (linesStep (t .leaves) (linesFrom (lineBegun w ps) []))) (f .ran)
+    ap (then (record { text = partsText s ps; state = feedParts s ps .judge })) end
+    ∙ ap (λ (t : TextOutcome). then t (linesStep (t .state) (linesFrom (lineBegun w ps) []))) (f .ran)
     ∙ sym (ap (linesStep (s .judge)) (blocks-split blocks w) ∙ step-append (linesEnded w ps) (linesFrom (lineBegun w ps) []) (s .judge))
 
 pub whole : (blocks : List (List ℕ)) (line out : List ℕ) → 131104 ≤ length line
@@ -135,12 +135,12 @@ pub whole : (blocks : List (List ℕ)) (line out : List ℕ) → 131104 ≤ leng
 whole blocks line out large = whole-by blocks _ [] (record { large = large; keeps = linebuffer.claims .begins line })
 
 -- ---- the right answers
-response-right : (h : List Call) (m : Meaning) → lineStep (judgeAfter h) m .answers ≡ rightResponse h m
+response-right : (h : List Call) (m : Meaning) → lineStep (judgeAfter h) m .response ≡ rightResponse h m
 response-right h again = refl
 response-right h (call c) = ap replied (answer-after h c)
 response-right h malformed = refl
 
-judge-after : (h : List Call) (m : Meaning) → lineStep (judgeAfter h) m .leaves ≡ judgeAfter (historyAfter h m)
+judge-after : (h : List Call) (m : Meaning) → lineStep (judgeAfter h) m .state ≡ judgeAfter (historyAfter h m)
 unfolding stateAfter
 judge-after h again = refl
 judge-after h (call c) = refl

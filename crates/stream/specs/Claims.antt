@@ -1,7 +1,7 @@
 -- Every text is answered right, however it is cut into blocks; proofs/Claimed.antt proves the
 -- claims.
 --
---   Holds s w          the line's buffer is large enough, and it keeps w, the beginning of a line
+--   KeepsLine s w          the line's buffer is large enough, and it keeps w, the beginning of a line
 --                      that earlier parts brought
 --   linesEnded w ps    the lines that the parts end, where w is the beginning of the first
 --   lineBegun w ps     the beginning of the line that goes on behind them
@@ -22,7 +22,7 @@ use Rattle.linebuffer.specs.Claims.{Keeps}
 use Rattle.stream.specs.Feeding.{State, Step, Part, ends, goesOn, stateOf, bytesOf, partsOf, firstOf, partSize, feedPart, finishOf}
 use Rattle.stream.specs.Texts.{linesStep, feedParts, partsText, streamOf, rightText}
 
-pub record Holds (s : State) (w : List ℕ) : Type 0 where
+pub record KeepsLine (s : State) (w : List ℕ) : Type 0 where
   pub large : lineRoom ≤ length (s .line)
   pub keeps : Keeps (s .line) (s .held) w
 
@@ -42,11 +42,11 @@ pub record FirstPart (block : List ℕ) (p : Part) : Type 0 where
   pub rest : partsOf block ≡ p ∷ partsOf (drop (partSize p) block)
 
 pub record Feeds (s : State) (w : List ℕ) (ps : List Part) : Type 0 where
-  pub ran : record { text = partsText s ps; leaves = feedParts s ps .judge } ≡ linesStep (s .judge) (linesEnded w ps)
-  pub holds : Holds (feedParts s ps) (lineBegun w ps)
+  pub ran : record { text = partsText s ps; state = feedParts s ps .judge } ≡ linesStep (s .judge) (linesEnded w ps)
+  pub holds : KeepsLine (feedParts s ps) (lineBegun w ps)
 
 abbrev pub InOut : Step → Type 0
-InOut t = t .written ≤ length (t .leaves .out)
+InOut t = t .written ≤ length (t .state .out)
 
 pub record Claims : Type 0 where
   -- a block is its parts, and the lines of a text are those that the parts of a block end, and
@@ -56,9 +56,9 @@ pub record Claims : Type 0 where
   pub fed-room : (s : State) (p : Part) → InOut (feedPart s p)
   pub finished-room : (s : State) → InOut (finishOf s)
   -- the parts of a block, or any others, and the end of the text
-  pub feeds : (ps : List Part) (s : State) (w : List ℕ) → Holds s w → Feeds s w ps
-  pub finishes : (s : State) (w : List ℕ) → Holds s w
-      → record { text = bytesOf (finishOf s); leaves = finishOf s .leaves .judge } ≡ linesStep (s .judge) (linesFrom w [])
+  pub feeds : (ps : List Part) (s : State) (w : List ℕ) → KeepsLine s w → Feeds s w ps
+  pub finishes : (s : State) (w : List ℕ) → KeepsLine s w
+      → record { text = bytesOf (finishOf s); state = finishOf s .state .judge } ≡ linesStep (s .judge) (linesFrom w [])
   -- blocks from a fresh judge on, and then the end: the lines of the whole text were run, however
   -- it was cut
   pub whole : (blocks : List (List ℕ)) (line out : List ℕ) → lineRoom ≤ length line

@@ -22,7 +22,7 @@
 --   partSize p        how many bytes of the block the part takes, with its line feed
 --   feedPart s p      what feeding a part comes to
 --   finishOf s        what the end of the text comes to: a last line is answered if it is not empty
---   answerCame, feedCame   what the code's result and its buffers tell
+--   answerOutcome, feedOutcome   what the code's result and its buffers tell
 use mathlib.Core.Bool.{cond}
 use mathlib.Core.List.{List, [], _∷_}
 use Prim.Native.Nat.{ℕ, _+_}
@@ -47,23 +47,23 @@ abbrev pub stateOf : Judge → Held → List ℕ → List ℕ → State
 stateOf j held line out = record { judge = j; held = held; line = line; out = out }
 
 pub record Step : Type 0 where
-  pub leaves : State
+  pub state : State
   pub written : ℕ
 
 abbrev pub bytesOf : Step → List ℕ
-bytesOf t = take (t .written) (t .leaves .out)
+bytesOf t = take (t .written) (t .state .out)
 
 -- ---- a line
 abbrev pub goOn : State → List ℕ → State
 goOn s p = stateOf (s .judge) (heldAfter (s .line) (s .held) p) (bufferAfter (s .line) (s .held) p) (s .out)
 
 abbrev pub quiet : State → Step
-quiet s = record { leaves = s; written = 0 }
+quiet s = record { state = s; written = 0 }
 
 abbrev pub answeredBy : State → LineOutcome → Step
 answeredBy s o = record {
-  leaves = stateOf (o .leaves) lineBegin (s .line) (written (s .out) 0 (responseText (o .answers)));
-  written = length (responseText (o .answers));
+  state = stateOf (o .state) lineBegin (s .line) (written (s .out) 0 (responseText (o .response)));
+  written = length (responseText (o .response));
 }
 
 unfoldable pub answerHeld : State → Step
@@ -104,8 +104,8 @@ finishOf s =
     cond (eqb (s .held .length) 0) (quiet (stateOf (s .judge) lineBegin (s .line) (s .out))) (answerHeld s)
 
 -- the line's buffer stays as it is, and no line is held any more
-abbrev pub answerCame : Answered → List ℕ → List ℕ → Step
-answerCame r line out = record { leaves = stateOf (r .judge) lineBegin line out; written = r .written }
+abbrev pub answerOutcome : Answered → List ℕ → List ℕ → Step
+answerOutcome r line out = record { state = stateOf (r .judge) lineBegin line out; written = r .written }
 
-abbrev pub feedCame : Fed → List ℕ → List ℕ → Step
-feedCame r line out = record { leaves = stateOf (r .judge) (r .held) line out; written = r .written }
+abbrev pub feedOutcome : Fed → List ℕ → List ℕ → Step
+feedOutcome r line out = record { state = stateOf (r .judge) (r .held) line out; written = r .written }

@@ -23,24 +23,24 @@ use Rattle.stream.specs.Feeding.{State, Part, bytesOf, partsOf, feedPart
 
 pub record TextOutcome : Type 0 where
   pub text : List ℕ
-  pub leaves : Judge
+  pub state : Judge
 
 -- ---- lines
 abbrev pub after : Response → TextOutcome → TextOutcome
-after s rest = record { text = responseText s ++ rest .text; leaves = rest .leaves }
+after s rest = record { text = responseText s ++ rest .text; state = rest .state }
 
 unfoldable pub linesStep : Judge → List (List ℕ) → TextOutcome
-linesStep j [] = record { text = []; leaves = j }
-linesStep j (l ∷ ls) = let o = lineStep j (lineIn l) in after (o .answers) (linesStep (o .leaves) ls)
+linesStep j [] = record { text = []; state = j }
+linesStep j (l ∷ ls) = let o = lineStep j (lineIn l) in after (o .response) (linesStep (o .state) ls)
 
 -- ---- blocks
 unfoldable pub feedParts : State → List Part → State
 feedParts s [] = s
-feedParts s (p ∷ ps) = feedParts (feedPart s p .leaves) ps
+feedParts s (p ∷ ps) = feedParts (feedPart s p .state) ps
 
 unfoldable pub partsText : State → List Part → List ℕ
 partsText s [] = []
-partsText s (p ∷ ps) = bytesOf (feedPart s p) ++ partsText (feedPart s p .leaves) ps
+partsText s (p ∷ ps) = bytesOf (feedPart s p) ++ partsText (feedPart s p .state) ps
 
 unfoldable pub partsIn : List (List ℕ) → List Part
 partsIn [] = []
@@ -49,7 +49,7 @@ partsIn (block ∷ blocks) = partsOf block ++ partsIn blocks
 abbrev pub streamOf : State → List (List ℕ) → TextOutcome
 streamOf s blocks =
     let last = finishOf (feedParts s (partsIn blocks)) in
-    record { text = partsText s (partsIn blocks) ++ bytesOf last; leaves = last .leaves .judge }
+    record { text = partsText s (partsIn blocks) ++ bytesOf last; state = last .state .judge }
 
 -- ---- the right answers, by the calls alone
 abbrev pub historyAfter : List Call → Meaning → List Call

@@ -4,7 +4,7 @@ ghost use Prim.Native.Nat.{_+_, _≤_, _<_};
 ghost use lib.ListN.{length};
 ghost use Rattle.limits.specs.Limits.{bytesRoom, lineRoom, answerRoom};
 ghost use Rattle.callrun.specs.Running.{Scratch};
-ghost use Rattle.stream.specs.Feeding.{stateOf, answerHeld, partAt, partSize, feedPart, finishOf, answerCame, feedCame};
+ghost use Rattle.stream.specs.Feeding.{stateOf, answerHeld, partAt, partSize, feedPart, finishOf, answerOutcome, feedOutcome};
 use calls::Judge;
 use linebuffer::Held;
 
@@ -25,7 +25,7 @@ pub struct Fed {
 
 fn answer(judge: Judge, line: &[u8], held: Held, bytes: &mut [u8], out: &mut [u8]) -> Answered
     requires { ⌜ (lineRoom ≤ length (now line)) × (bytesRoom ≤ length (now bytes)) × (answerRoom ≤ length (now out)) ⌝ }
-    ensures { λ r. ⌜ answerCame r (now (line .entry)) (now (out .exit)) ≡ answerHeld (stateOf judge held (now (line .entry)) (now (out .entry))) ⌝ }
+    ensures { λ r. ⌜ answerOutcome r (now (line .entry)) (now (out .exit)) ≡ answerHeld (stateOf judge held (now (line .entry)) (now (out .entry))) ⌝ }
     ensures scratch { λ r. ⌜ Scratch (now (bytes .entry)) (now (bytes .exit)) ⌝ }
 {
     let run = linebuffer::run_held(judge, line, held, bytes);
@@ -47,7 +47,7 @@ pub fn feed(
     at: usize,
 ) -> Fed
     requires { ⌜ (lineRoom ≤ length (now line)) × (bytesRoom ≤ length (now bytes)) × (answerRoom ≤ length (now out)) × (at < length (now block)) ⌝ }
-    ensures { λ r. ⌜ feedCame r (now (line .exit)) (now (out .exit)) ≡ feedPart (stateOf judge held (now (line .entry)) (now (out .entry))) (partAt (now (block .entry)) at) ⌝ }
+    ensures { λ r. ⌜ feedOutcome r (now (line .exit)) (now (out .exit)) ≡ feedPart (stateOf judge held (now (line .entry)) (now (out .entry))) (partAt (now (block .entry)) at) ⌝ }
     ensures next { λ r. ⌜ r .at ≡ at + partSize (partAt (now (block .entry)) at) ⌝ }
     ensures scratch { λ r. ⌜ Scratch (now (bytes .entry)) (now (bytes .exit)) ⌝ }
 {
@@ -79,7 +79,7 @@ pub fn feed(
 // The end of the text.
 pub fn finish(judge: Judge, held: Held, line: &[u8], bytes: &mut [u8], out: &mut [u8]) -> Answered
     requires { ⌜ (lineRoom ≤ length (now line)) × (bytesRoom ≤ length (now bytes)) × (answerRoom ≤ length (now out)) ⌝ }
-    ensures { λ r. ⌜ answerCame r (now (line .entry)) (now (out .exit)) ≡ finishOf (stateOf judge held (now (line .entry)) (now (out .entry))) ⌝ }
+    ensures { λ r. ⌜ answerOutcome r (now (line .entry)) (now (out .exit)) ≡ finishOf (stateOf judge held (now (line .entry)) (now (out .entry))) ⌝ }
     ensures scratch { λ r. ⌜ Scratch (now (bytes .entry)) (now (bytes .exit)) ⌝ }
 {
     if held.length == 0 {

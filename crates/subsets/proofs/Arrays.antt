@@ -25,9 +25,9 @@ use Rattle.subsets.specs.declared.Numbered.{Numbered}
 use Rattle.subsets.specs.declared.Numbered.the-variants.{As, Full}
 use Rattle.subsets.specs.declared.Numbering.{Numbering}
 use Rattle.subsets.specs.declared.Numbering.the-variants.{Whole, Over}
-use Rattle.subsets.specs.Sets.{numberIn, numbered}
+use Rattle.subsets.specs.Sets.{indexOf, numbered}
 use Rattle.subsets.specs.Singles.{foundIn}
-use Rattle.subsets.specs.Answer.{counted, refused, toldOf, Turn, named, turned-down, turnOf}
+use Rattle.subsets.specs.Answer.{counted, refused, numberingMeans, Turn, named, turned-down, turnMeans}
 use Rattle.subsets.specs.Steps.{limited, cellsOf, Entered, target, afterStep, Stepped}
 use Rattle.subsets.proofs.Numbers.{numbered-empty, numbered-kept, numbered-taken}
 
@@ -48,13 +48,13 @@ module _ (f : List ℕ) where
   pub limited-over : 512 < length f → refused 9 ≡ limited f
   limited-over h = rw (lt-ltb 512 (length f) h)
 
-  pub whole-of : (r : Numbering) (c : ℕ) → toldOf r ≡ limited f → r ≡ Whole c → (length f ≤ 512) × (c ≡ length f)
+  pub whole-of : (r : Numbering) (c : ℕ) → numberingMeans r ≡ limited f → r ≡ Whole c → (length f ≤ 512) × (c ≡ length f)
   whole-of r c e g =
-      let x = told-counted (ltb 512 (length f)) (length f) c (sym (ap toldOf g) ∙ e) in
+      let x = told-counted (ltb 512 (length f)) (length f) c (sym (ap numberingMeans g) ∙ e) in
       (ltb-false 512 (length f) (x .0), x .1)
 
-  pub over-of : (r : Numbering) → toldOf r ≡ limited f → r ≡ Over → 512 < length f
-  over-of r e g = ltb-true 512 (length f) (told-refused (ltb 512 (length f)) (length f) (sym (ap toldOf g) ∙ e))
+  pub over-of : (r : Numbering) → numberingMeans r ≡ limited f → r ≡ Over → 512 < length f
+  over-of r e g = ltb-true 512 (length f) (told-refused (ltb 512 (length f)) (length f) (sym (ap numberingMeans g) ∙ e))
 
 -- ---- the search
 module _ (sets : List ℕ) (count m most : ℕ) (is : most ≡ min count (length sets)) where
@@ -63,14 +63,14 @@ module _ (sets : List ℕ) (count m most : ℕ) (is : most ≡ min count (length
 
   pub found-none : ((j : ℕ) → j < most → getD sets j 0 ≡ m → ⊥) → none ≡ foundIn (take count sets) m
   found-none h =
-      let b : length (take count sets) ≤ numberIn (take count sets) m =
+      let b : length (take count sets) ≤ indexOf (take count sets) m =
       nowhere (take count sets) m (λ j b e. let d : j < most = omega (arith, has) in h j d (sym (getD-take count sets j 0 (omega arith)) ∙ e)) in
-      rw (le-ltb (numberIn (take count sets) m) (length (take count sets)) b)
+      rw (le-ltb (indexOf (take count sets) m) (length (take count sets)) b)
 
   pub found-at : (i : ℕ) → i < most → getD sets i 0 ≡ m → ((j : ℕ) → j < i → getD sets j 0 ≡ m → ⊥) → some i ≡ foundIn (take count sets) m
   found-at i b e h =
       let l = take count sets in
-      let n : numberIn l m ≡ i =
+      let n : indexOf l m ≡ i =
       number-is l m i (rw has b) (getD-take count sets i 0 (omega arith) ∙ e) (λ j c d. h j c (sym (getD-take count sets j 0 (omega arith)) ∙ d)) in
       rw (n, has, lt-ltb i most b)
 
@@ -101,19 +101,19 @@ cells-snoc l m h =
     getD-set-other (cellsOf l) (length l) c m 0 ne ∙ cells-at l c b ∙ sym (snoc-other l m c ne)))
 
 -- what the search said
-pub found-has : (l : List ℕ) (m j : ℕ) → foundIn l m ≡ some j → Has l m × (j ≡ numberIn l m)
-found-has l m j e = go (ltb (numberIn l m) (length l)) refl e
+pub found-has : (l : List ℕ) (m j : ℕ) → foundIn l m ≡ some j → Has l m × (j ≡ indexOf l m)
+found-has l m j e = go (ltb (indexOf l m) (length l)) refl e
   where
-    go : (b : Bool) → ltb (numberIn l m) (length l) ≡ b → cond b (some (numberIn l m)) none ≡ some j → Has l m × (j ≡ numberIn l m)
-    go true t h = (ltb-true (numberIn l m) (length l) t, cc)
+    go : (b : Bool) → ltb (indexOf l m) (length l) ≡ b → cond b (some (indexOf l m)) none ≡ some j → Has l m × (j ≡ indexOf l m)
+    go true t h = (ltb-true (indexOf l m) (length l) t, cc)
     go false t h = zero-one cc
 
-pub found-not : (l : List ℕ) (m : ℕ) → foundIn l m ≡ none → length l ≤ numberIn l m
-found-not l m e = go (ltb (numberIn l m) (length l)) refl e
+pub found-not : (l : List ℕ) (m : ℕ) → foundIn l m ≡ none → length l ≤ indexOf l m
+found-not l m e = go (ltb (indexOf l m) (length l)) refl e
   where
-    go : (b : Bool) → ltb (numberIn l m) (length l) ≡ b → cond b (some (numberIn l m)) none ≡ none → length l ≤ numberIn l m
+    go : (b : Bool) → ltb (indexOf l m) (length l) ≡ b → cond b (some (indexOf l m)) none ≡ none → length l ≤ indexOf l m
     go true t h = zero-one cc
-    go false t h = ltb-false (numberIn l m) (length l) t
+    go false t h = ltb-false (indexOf l m) (length l) t
 
 module _ (sets : List ℕ) (count : ℕ) (most : count ≤ 512) (are : sets ≡ cellsOf (take count sets)) where
   pub sets-long : length sets ≡ 512
@@ -162,20 +162,20 @@ module _ (sets : List ℕ) (count : ℕ) (most : count ≤ 512) (are : sets ≡ 
 -- what a set's turn answered
 module _ (l : List ℕ) (m : ℕ) (r : Numbered) (sets : List ℕ) (h : Entered l m r sets) where
   turn : Bool → Turn
-  turn b = cond b (turned-down 9) (named (numberIn (numbered l m) m) (length (numbered l m)))
+  turn b = cond b (turned-down 9) (named (indexOf (numbered l m) m) (length (numbered l m)))
 
-  pub entered-as : (j : SetNumber) (c : ℕ) → r ≡ As j c → (length (numbered l m) ≤ 512) × (j .0 ≡ numberIn (numbered l m) m) × (c ≡ length (numbered l m))
+  pub entered-as : (j : SetNumber) (c : ℕ) → r ≡ As j c → (length (numbered l m) ≤ 512) × (j .0 ≡ indexOf (numbered l m) m) × (c ≡ length (numbered l m))
   unfolding turn
-  entered-as j c e = go (ltb 512 (length (numbered l m))) refl (sym (ap turnOf e) ∙ h .number)
+  entered-as j c e = go (ltb 512 (length (numbered l m))) refl (sym (ap turnMeans e) ∙ h .number)
     where
       go : (b : Bool) → ltb 512 (length (numbered l m)) ≡ b → named (j .0) c ≡ turn b
-          → (length (numbered l m) ≤ 512) × (j .0 ≡ numberIn (numbered l m) m) × (c ≡ length (numbered l m))
+          → (length (numbered l m) ≤ 512) × (j .0 ≡ indexOf (numbered l m) m) × (c ≡ length (numbered l m))
       go true t g = zero-one cc
       go false t g = (ltb-false 512 (length (numbered l m)) t, cc, cc)
 
   pub entered-over : r ≡ Full → 512 < length (numbered l m)
   unfolding turn
-  entered-over e = go (ltb 512 (length (numbered l m))) refl (sym (ap turnOf e) ∙ h .number)
+  entered-over e = go (ltb 512 (length (numbered l m))) refl (sym (ap turnMeans e) ∙ h .number)
     where
       go : (b : Bool) → ltb 512 (length (numbered l m)) ≡ b → turned-down 9 ≡ turn b → 512 < length (numbered l m)
       go true t g = ltb-true 512 (length (numbered l m)) t

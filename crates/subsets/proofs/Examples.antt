@@ -4,7 +4,7 @@ use mathlib.Core.Path.{_≡_, refl}
 use mathlib.Core.List.{List, [], _∷_}
 use Prim.Native.Nat.{ℕ}
 use Rattle.masks.specs.Masks.{union}
-use Rattle.numbering.specs.Numbering.{numberIn, numbered, expandFrom, closeFrom, keysUpTo}
+use Rattle.numbering.specs.Numbering.{indexOf, numbered, expandFrom, closeFrom, keysUpTo}
 use Rattle.subsets.specs.Sets.{setsOf}
 
 abbrev pub ruleA : List ℕ
@@ -21,19 +21,19 @@ abbrev twoLevels : List ℕ
 twoLevels = 2 ∷ 4 ∷ 0 ∷ 0 ∷ 0 ∷ 0 ∷ 0 ∷ 0 ∷ 0 ∷ 0 ∷ 0 ∷ 0 ∷ 0 ∷ 0 ∷ 0 ∷ 0 ∷ 8 ∷ 0 ∷ 0 ∷ 0 ∷ 0 ∷ 0 ∷ 0 ∷ 0 ∷ 0 ∷ 0 ∷ 0 ∷ 0 ∷ 0 ∷ 0 ∷ 0 ∷ 0 ∷ 16 ∷ []
 
 pub sets-A : setsOf ruleA 3 2 ≡ 1 ∷ 3 ∷ 5 ∷ 2 ∷ 4 ∷ []
-unfolding union numberIn numbered expandFrom closeFrom keysUpTo setsOf
+unfolding union indexOf numbered expandFrom closeFrom keysUpTo setsOf
 sets-A = refl
 
 pub sets-B : setsOf ruleB 3 1 ≡ 1 ∷ 6 ∷ 2 ∷ 4 ∷ []
-unfolding union numberIn numbered expandFrom closeFrom keysUpTo setsOf
+unfolding union indexOf numbered expandFrom closeFrom keysUpTo setsOf
 sets-B = refl
 
 -- symbols in ascending order: descending, the sets would be 1 4 2
 pub sets-fork : setsOf fork 3 2 ≡ 1 ∷ 2 ∷ 4 ∷ []
-unfolding union numberIn numbered expandFrom closeFrom keysUpTo setsOf
+unfolding union indexOf numbered expandFrom closeFrom keysUpTo setsOf
 sets-fork = refl
 
 -- sets expanded in number order: with the set found last expanded first, they would be 1 2 4 16 8
 pub sets-two-levels : setsOf twoLevels 5 2 ≡ 1 ∷ 2 ∷ 4 ∷ 8 ∷ 16 ∷ []
-unfolding union numberIn numbered expandFrom closeFrom keysUpTo setsOf
+unfolding union indexOf numbered expandFrom closeFrom keysUpTo setsOf
 sets-two-levels = refl

@@ -7,7 +7,7 @@ use borrow.Author.Tests.{eq-eqb, ne-eqb}
 use Rattle.numbering.specs.Begins.{Begins}
 use Rattle.numbering.proofs.Numbers as keys
 use Rattle.numbering.proofs.Numbers.{Has}
-use Rattle.subsets.specs.Sets.{numberIn, isEmpty, numbered}
+use Rattle.subsets.specs.Sets.{indexOf, isEmpty, numbered}
 
 module _ (l : List ℕ) (m : ℕ) where
   pub numbered-begins : Begins l (numbered l m)
@@ -19,7 +19,7 @@ module _ (l : List ℕ) (m : ℕ) where
   pub numbered-kept : (m ≡ 0 → ⊥) → Has l m → numbered l m ≡ l
   numbered-kept ne h = keys.numbered-kept isEmpty l m (ne-eqb m 0 ne) h
 
-  pub numbered-taken : (m ≡ 0 → ⊥) → length l ≤ numberIn l m → numbered l m ≡ l ++ (m ∷ [])
+  pub numbered-taken : (m ≡ 0 → ⊥) → length l ≤ indexOf l m → numbered l m ≡ l ++ (m ∷ [])
   numbered-taken ne h = keys.numbered-taken isEmpty l m (ne-eqb m 0 ne) h
 
   pub numbered-has : (m ≡ 0 → ⊥) → Has (numbered l m) m

@@ -11,7 +11,7 @@ use lib.ListN.{length, getD, take, length-take}
 use lib.Seq.{getD-take}
 use Rattle.base.proofs.Tests.{by-test}
 use Rattle.masks.specs.Masks.{single}
-use Rattle.subsets.specs.Sets.{numberIn}
+use Rattle.subsets.specs.Sets.{indexOf}
 use Rattle.subsets.specs.Singles.{foundIn, singletonNumber}
 use Rattle.numbering.proofs.Numbers.{Has, number-le, number-at, stands}
 use Rattle.subsets.proofs.Arrays.{found-has, found-not}
@@ -20,11 +20,11 @@ module _ (sets : List ℕ) (count q : ℕ) where
   abbrev among : List ℕ
   among = take count sets
 
-  has-number : Has among (single q) → singletonNumber sets count q ≡ numberIn among (single q)
+  has-number : Has among (single q) → singletonNumber sets count q ≡ indexOf among (single q)
   unfolding singletonNumber
   has-number h =
-      let l : numberIn among (single q) < count = omega (arith, length-take count sets) in
-      rw (lt-ltb (numberIn among (single q)) count l)
+      let l : indexOf among (single q) < count = omega (arith, length-take count sets) in
+      rw (lt-ltb (indexOf among (single q)) count l)
 
   pub single-found : (j : ℕ) → foundIn among (single q) ≡ some j → j ≡ singletonNumber sets count q
   single-found j e = let h = found-has among (single q) j e in h .1 ∙ sym (has-number (h .0))
@@ -33,7 +33,7 @@ module _ (sets : List ℕ) (count q : ℕ) where
   pub single-missing : length sets ≡ 512 → foundIn among (single q) ≡ none → 512 ≡ singletonNumber sets count q
   unfolding singletonNumber
   single-missing long e =
-      let i : ℕ = numberIn among (single q) in
+      let i : ℕ = indexOf among (single q) in
       let all : i ≡ min count 512 = omega (arith, found-not among (single q) e, number-le among (single q), length-take count sets) in
       by-test (ltb i count)
       (λ t. rw t (let l = ltb-true i count t in omega arith))
@@ -44,6 +44,6 @@ module _ (sets : List ℕ) (count q : ℕ) where
   single-named i h e =
       let below : i < count = omega (arith, length-take count sets) in
       let has : Has among (single q) = stands among (single q) i h (getD-take count sets i 0 below ∙ e) in
-      let number : ℕ = numberIn among (single q) in
+      let number : ℕ = indexOf among (single q) in
       let l : number < count = omega (arith, length-take count sets) in
       rw (has-number has) (has, sym (getD-take count sets number 0 l) ∙ number-at among (single q) has)

@@ -1,4 +1,4 @@
--- How `Holds` goes on: over a step, to the next set, over the turn of {q}; and what it comes to at the end. Assumes nothing.
+-- How `ArraysHold` goes on: over a step, to the next set, over the turn of {q}; and what it comes to at the end. Assumes nothing.
 use mathlib.Core.Path.{_≡_, refl, sym, ap, _∙_}
 use mathlib.Core.Bool.{Bool, true, false, _&&_}
 use mathlib.Core.List.{List}
@@ -14,8 +14,8 @@ use Rattle.automaton.proofs.Laws.{successor-foreign}
 use Rattle.numbering.specs.Begins.{Begins}
 use Rattle.numbering.proofs.Numbers.{begins-self, begins-trans, begins-length, begins-at, begins-number}
 use Rattle.subsets.specs.declared.Numbering.{Numbering}
-use Rattle.subsets.specs.Sets.{numberIn, numberOrEmpty, setsOf, nextSet, nextCells}
-use Rattle.subsets.specs.Steps.{cellsOf, target, afterStep, Stepped, cellTo, Holds}
+use Rattle.subsets.specs.Sets.{indexOf, numberOrEmpty, setsOf, nextSet, nextCells}
+use Rattle.subsets.specs.Steps.{cellsOf, target, afterStep, Stepped, cellTo, ArraysHold}
 use Rattle.subsets.proofs.Numbers.{numbered-begins, numbered-has}
 use Rattle.subsets.proofs.Arrays.{cells-long, cells-at}
 
@@ -46,8 +46,8 @@ module _ (ts : List ℕ) (k : ℕ) where
   same-cell f a b c to from =
       rw (and-same (ltb c a) (ltb c b) (ltb (c % 16) k) (λ t. let d = ltb-true (c % 16) k t in same-test c a c b (to d) (from d)))
 
-  module _ {l : List ℕ} {upto : ℕ} {sets next : List ℕ} (h : Holds ts k l upto sets next) where
-    holds-to : (b : ℕ) → ((c : ℕ) → c % 16 < k → c < upto → c < b) → ((c : ℕ) → c % 16 < k → c < b → c < upto) → Holds ts k l b sets next
+  module _ {l : List ℕ} {upto : ℕ} {sets next : List ℕ} (h : ArraysHold ts k l upto sets next) where
+    holds-to : (b : ℕ) → ((c : ℕ) → c % 16 < k → c < upto → c < b) → ((c : ℕ) → c % 16 < k → c < b → c < upto) → ArraysHold ts k l b sets next
     holds-to b to from = record {
       sets-are = h .sets-are;
       next-long = h .next-long;
@@ -55,15 +55,15 @@ module _ (ts : List ℕ) (k : ℕ) where
     }
 
     -- the sets go on
-    pub holds-more : (l′ sets′ : List ℕ) → Begins l l′ → sets′ ≡ cellsOf l′ → Holds ts k l′ upto sets′ next
+    pub holds-more : (l′ sets′ : List ℕ) → Begins l l′ → sets′ ≡ cellsOf l′ → ArraysHold ts k l′ upto sets′ next
     holds-more l′ sets′ b e = record { sets-are = e; next-long = h .next-long; cells = λ f g c d. h .cells f (begins-trans b g) c d }
 
   module _ {l : List ℕ} {sets next : List ℕ} (i : ℕ) where
     -- the symbols of set i are still to come, and are all passed
-    pub row-begins : Holds ts k l (i * 16) sets next → Holds ts k l (i * 16 + min 0 16) sets next
+    pub row-begins : ArraysHold ts k l (i * 16) sets next → ArraysHold ts k l (i * 16 + min 0 16) sets next
     row-begins h = holds-to h (i * 16 + min 0 16) (λ c a b. omega arith) (λ c a b. omega arith)
 
-    pub row-ends : (s : ℕ) → k ≤ s → Holds ts k l (i * 16 + min s 16) sets next → Holds ts k l ((i + 1) * 16) sets next
+    pub row-ends : (s : ℕ) → k ≤ s → ArraysHold ts k l (i * 16 + min s 16) sets next → ArraysHold ts k l ((i + 1) * 16) sets next
     row-ends s e h = holds-to h ((i + 1) * 16) (λ c a b. omega arith) (λ c a b. omega arith)
 
   -- ---- a step
@@ -98,7 +98,7 @@ module _ (ts : List ℕ) (k : ℕ) where
         let b = ltb-false s 16 t in
         same c (λ x e. omega arith) ∙ old c d ∙ same-cell f (i * 16 + min s 16) (i * 16 + min (s + 1) 16) c (λ _ x. omega arith) (λ _ x. omega arith))
 
-    module _ {sets next : List ℕ} (h : Holds ts k l (i * 16 + min s 16) sets next) {r : Numbering} {sets′ next′ : List ℕ}
+    module _ {sets next : List ℕ} (h : ArraysHold ts k l (i * 16 + min s 16) sets next) {r : Numbering} {sets′ next′ : List ℕ}
         (st : Stepped ts l i s r sets′ next next′) (fits : length l′ ≤ 512) where
       small : i < 512
       small = omega (arith, begins-length (numbered-begins l m))
@@ -107,7 +107,7 @@ module _ (ts : List ℕ) (k : ℕ) where
       old f g = h .cells f (begins-trans (numbered-begins l m) g)
 
       -- no cell is written for an empty successor
-      step-none : m ≡ 0 → Holds ts k l′ (i * 16 + min (s + 1) 16) sets′ next′
+      step-none : m ≡ 0 → ArraysHold ts k l′ (i * 16 + min (s + 1) 16) sets′ next′
       step-none z =
           let e : next′ ≡ next = st .next-are fits ∙ rw (eq-eqb m 0 z) in
           record {
@@ -123,30 +123,30 @@ module _ (ts : List ℕ) (k : ℕ) where
                 (old f g);
           }
 
-      step-some : (m ≡ 0 → ⊥) → Holds ts k l′ (i * 16 + min (s + 1) 16) sets′ next′
+      step-some : (m ≡ 0 → ⊥) → ArraysHold ts k l′ (i * 16 + min (s + 1) 16) sets′ next′
       step-some ne =
           let b : s < 16 = by-test (ltb s 16) (ltb-true s 16) (λ t. absurd (ne (successor-foreign ts (getD l i 0) s (ltb-false s 16 t)))) in
           let at : ℕ = i * 16 + s in
-          let e : next′ ≡ set next at (numberIn l′ m) = st .next-are fits ∙ rw (ne-eqb m 0 ne) in
+          let e : next′ ≡ set next at (indexOf l′ m) = st .next-are fits ∙ rw (ne-eqb m 0 ne) in
           record {
             sets-are = st .sets-are fits;
-            next-long = ap length e ∙ length-set next at (numberIn l′ m) ∙ h .next-long;
+            next-long = ap length e ∙ length-set next at (indexOf l′ m) ∙ h .next-long;
             cells = λ f g.
                 step-cells next next′ f (begins-trans (numbered-begins l m) g)
                 (λ _.
                 ap (λ (x : List ℕ). getD x at 0) e
-                ∙ getD-set-same next at (numberIn l′ m) 0 (omega (arith, small, h .next-long))
+                ∙ getD-set-same next at (indexOf l′ m) 0 (omega (arith, small, h .next-long))
                 ∙ sym (begins-number g m (numbered-has l m ne))
                 ∙ rw (ne-eqb m 0 ne))
-                (λ c x. ap (λ (y : List ℕ). getD y c 0) e ∙ getD-set-other next at c (numberIn l′ m) 0 (x b))
+                (λ c x. ap (λ (y : List ℕ). getD y c 0) e ∙ getD-set-other next at c (indexOf l′ m) 0 (x b))
                 (old f g);
           }
 
-      pub step-holds : Holds ts k l′ (i * 16 + min (s + 1) 16) sets′ next′
+      pub step-holds : ArraysHold ts k l′ (i * 16 + min (s + 1) 16) sets′ next′
       step-holds = by-test (eqb m 0) (λ t. step-none (eqb-true m 0 t)) (λ t. step-some (eqb-false m 0 t))
 
 -- ---- at the end
-pub next-whole : (ts : List ℕ) (n k : ℕ) (sets next : List ℕ) → Holds ts k (setsOf ts n k) (length (setsOf ts n k) * 16) sets next → next ≡ nextCells ts n k
+pub next-whole : (ts : List ℕ) (n k : ℕ) (sets next : List ℕ) → ArraysHold ts k (setsOf ts n k) (length (setsOf ts n k) * 16) sets next → next ≡ nextCells ts n k
 unfolding nextSet
 next-whole ts n k sets next h =
     let l = setsOf ts n k in

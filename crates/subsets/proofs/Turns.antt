@@ -24,9 +24,9 @@ use Rattle.subsets.specs.declared.Numbered.{Numbered}
 use Rattle.subsets.specs.declared.Numbered.the-variants.{As, Full}
 use Rattle.subsets.specs.declared.Numbering.{Numbering}
 use Rattle.subsets.specs.declared.Numbering.the-variants.{Whole, Over}
-use Rattle.subsets.specs.Sets.{setWalk, numberIn, numbered, expandFrom, setsUpTo, setsOf, tooMany}
+use Rattle.subsets.specs.Sets.{setWalk, indexOf, numbered, expandFrom, setsUpTo, setsOf, tooMany}
 use Rattle.subsets.specs.Answer.{counted}
-use Rattle.subsets.specs.Steps.{Entered, target, afterStep, Stepped, Holds, Grown, closedFrom, grownBy, Cleared, Answered}
+use Rattle.subsets.specs.Steps.{Entered, target, afterStep, Stepped, ArraysHold, Grown, closedFrom, grownBy, Cleared, Answered}
 use Rattle.subsets.proofs.Numbers.{numbered-begins}
 use Rattle.subsets.proofs.Arrays.{count-is, limited-whole, limited-over, whole-of, over-of, entered-as, entered-over}
 use Rattle.subsets.proofs.Table.{read-back, step-holds, holds-more, next-whole}
@@ -48,14 +48,14 @@ module _ (ts : List ℕ) (k : ℕ) where
         subst (Begins (afterStep ts l i s)) (sym step-expanded) (expand-begins (setWalk ts k) (getD (afterStep ts l i s) i 0) (s + 1) (k - (s + 1)) (afterStep ts l i s))
 
     module _ {r : Numbering} {sets′ next next′ : List ℕ} (st : Stepped ts l i s r sets′ next next′) where
-      module _ {sets : List ℕ} (h : Holds ts k l (i * 16 + min s 16) sets next) (c : ℕ) (whole : r ≡ Whole c) where
+      module _ {sets : List ℕ} (h : ArraysHold ts k l (i * 16 + min s 16) sets next) (c : ℕ) (whole : r ≡ Whole c) where
         after : (length (afterStep ts l i s) ≤ 512) × (c ≡ length (afterStep ts l i s))
         after = whole-of (afterStep ts l i s) r c (st .count) whole
 
         read : take c sets′ ≡ afterStep ts l i s
         read = read-back (afterStep ts l i s) sets′ c (after .0) (after .1) (st .sets-are (after .0))
 
-        pub turn-whole : (c ≤ 512) × (i < c) × Holds ts k (take c sets′) (i * 16 + min (s + 1) 16) sets′ next′
+        pub turn-whole : (c ≤ 512) × (i < c) × ArraysHold ts k (take c sets′) (i * 16 + min (s + 1) 16) sets′ next′
             × (expanded i s l ≡ expanded i (s + 1) (take c sets′))
         turn-whole = (
           omega (arith, after),
@@ -70,7 +70,7 @@ module _ (ts : List ℕ) (k : ℕ) where
           omega (arith, begins-length (begins-trans step-begins b))
 
   -- ---- the ways out
-  pub grown-whole : (f sets next : List ℕ) (count : ℕ) → count ≤ 512 → f ≡ take count sets → Holds ts k (take count sets) (count * 16) sets next
+  pub grown-whole : (f sets next : List ℕ) (count : ℕ) → count ≤ 512 → f ≡ take count sets → ArraysHold ts k (take count sets) (count * 16) sets next
       → Grown ts k f (Whole count) sets next
   grown-whole f sets next count most e h =
       let n : length f ≡ count = ap length e ∙ count-is sets count most (h .sets-are) in
@@ -83,7 +83,7 @@ module _ (ts : List ℕ) (k : ℕ) where
   grown-over f sets next b = record { count = limited-over f b; held = λ h. absurd (omega arith) }
 
   -- ---- the turn of {q}
-  module _ (sets next : List ℕ) (count q m : ℕ) (most : count ≤ 512) (h : Holds ts k (take count sets) (count * 16) sets next) (is : m ≡ single q)
+  module _ (sets next : List ℕ) (count q m : ℕ) (most : count ≤ 512) (h : ArraysHold ts k (take count sets) (count * 16) sets next) (is : m ≡ single q)
       (r : Numbered) (sets′ : List ℕ) (entered : Entered (take count sets) m r sets′) where
     abbrev before : List ℕ
     before = take count sets
@@ -92,13 +92,13 @@ module _ (ts : List ℕ) (k : ℕ) where
     before-is = count-is sets count most (h .sets-are)
 
     module _ (j : SetNumber) (c : ℕ) (known : r ≡ As j c) where
-      a : (length (numbered before m) ≤ 512) × (j .0 ≡ numberIn (numbered before m) m) × (c ≡ length (numbered before m))
+      a : (length (numbered before m) ≤ 512) × (j .0 ≡ indexOf (numbered before m) m) × (c ≡ length (numbered before m))
       a = entered-as before m r sets′ entered j c known
 
       read-state : take c sets′ ≡ numbered before m
       read-state = read-back (numbered before m) sets′ c (a .0) (a .2) (entered .sets-are (a .0))
 
-      pub state-asked : (c ≤ 512) × (count ≤ c) × Holds ts k (take c sets′) (count * 16) sets′ next
+      pub state-asked : (c ≤ 512) × (count ≤ c) × ArraysHold ts k (take c sets′) (count * 16) sets′ next
       state-asked =
           let b = begins-length (numbered-begins before m) in
           let n = before-is in (
@@ -121,7 +121,7 @@ module _ (ts : List ℕ) (k : ℕ) where
         (omega (arith, begins-length (close-begins (setWalk ts k) 512 (length before) (numbered before (single q)))))
 
   -- ---- the states
-  pub begin : (sets next : List ℕ) → Cleared sets next → Holds ts k [] 0 sets next
+  pub begin : (sets next : List ℕ) → Cleared sets next → ArraysHold ts k [] 0 sets next
   begin sets next h = record {
     sets-are = h .sets-are;
     next-long = ap length (h .next-are) ∙ length-listFrom 0 8192 (λ _. 512);
@@ -136,7 +136,7 @@ module _ (ts : List ℕ) (k : ℕ) where
     unfolding keysUpTo
     grown-is = rw (is, add-one)
 
-    pub states-more : (c : ℕ) → r ≡ Whole c → (c ≤ 512) × (take c sets ≡ setsUpTo ts k (q + 1)) × Holds ts k (take c sets) (c * 16) sets next
+    pub states-more : (c : ℕ) → r ≡ Whole c → (c ≤ 512) × (take c sets ≡ setsUpTo ts k (q + 1)) × ArraysHold ts k (take c sets) (c * 16) sets next
     states-more c e =
         let f = grownBy ts k q l in
         let a = whole-of f r c (g .count) e in
@@ -158,12 +158,12 @@ module _ (ts : List ℕ) (k : ℕ) where
           next-are = λ e. absurd (omega (arith, ltb-false 512 (length f) e));
         }
 
-    pub answered-whole : (c : ℕ) → c ≤ 512 → take c sets ≡ setsUpTo ts k (min n 32) → Holds ts k (take c sets) (c * 16) sets next → Answered ts n k (Whole c) sets next
+    pub answered-whole : (c : ℕ) → c ≤ 512 → take c sets ≡ setsUpTo ts k (min n 32) → ArraysHold ts k (take c sets) (c * 16) sets next → Answered ts n k (Whole c) sets next
     unfolding tooMany setsOf
     answered-whole c most e h =
         let f = setsUpTo ts k (min n 32) in
         let l : length f ≡ c = sym (ap length e) ∙ count-is sets c most (h .sets-are) in
-        let held : Holds ts k f (length f * 16) sets next = rw (l, ← e) h in
+        let held : ArraysHold ts k f (length f * 16) sets next = rw (l, ← e) h in
         record {
           count = rw (le-ltb 512 (length f) (omega arith), l);
           sets-are = λ _. held .sets-are;

@@ -2,11 +2,11 @@
 -- there are more than 512 (9), and, where there are not, both arrays whole, each cell that is not in
 -- use too, and the number of each singleton. A refusal carries zeros.
 --
---   Told, toldOf       document 01's answer: the number of sets, or refused with a number; and what
+--   NumberingReply, numberingMeans       document 01's answer: the number of sets, or refused with a number; and what
 --                      each case of the code's answer says
---   Turn, turnOf       what numbering one set comes to: its number and how many sets have one then,
+--   Turn, turnMeans       what numbering one set comes to: its number and how many sets have one then,
 --                      or refused with a number; and what each case of the code's answer says
---   Table, tableCame   what is told, with the arrays beside it; and what the code's result tells
+--   Table, tableOutcome   what is told, with the arrays beside it; and what the code's result tells
 --   noTable            refused with 9: zeros
 --   tableOf ts n k     the table of a rule with the targets ts, n states and k symbols
 use mathlib.Core.Bool.{cond}
@@ -22,34 +22,34 @@ use Rattle.subsets.specs.declared.SetTable.{SetTable}
 use Rattle.subsets.specs.Sets.{setsOf, tooMany, setCells, nextCells}
 use Rattle.subsets.specs.Singles.{singlesOf}
 
-pub data Told : Type 0 where
-  counted : ℕ → Told
-  refused : ℕ → Told
+pub data NumberingReply : Type 0 where
+  counted : ℕ → NumberingReply
+  refused : ℕ → NumberingReply
 
-abbrev pub toldOf : Numbering → Told
-toldOf (Whole c) = counted c
-toldOf Over = refused 9
+abbrev pub numberingMeans : Numbering → NumberingReply
+numberingMeans (Whole c) = counted c
+numberingMeans Over = refused 9
 
 pub data Turn : Type 0 where
   named : ℕ → ℕ → Turn
   turned-down : ℕ → Turn
 
-abbrev pub turnOf : Numbered → Turn
-turnOf (As number count) = named (number .0) count
-turnOf Full = turned-down 9
+abbrev pub turnMeans : Numbered → Turn
+turnMeans (As number count) = named (number .0) count
+turnMeans Full = turned-down 9
 
 pub record Table : Type 0 where
-  pub told : Told
+  pub reply : NumberingReply
   pub sets : List ℕ
   pub next : List ℕ
   pub singles : List ℕ
 
-abbrev pub tableCame : SetTable → Table
-tableCame t = record { told = toldOf (t .answer); sets = t .sets; next = t .next; singles = t .singles }
+abbrev pub tableOutcome : SetTable → Table
+tableOutcome t = record { reply = numberingMeans (t .answer); sets = t .sets; next = t .next; singles = t .singles }
 
 abbrev pub noTable : Table
 noTable = record {
-  told = refused 9;
+  reply = refused 9;
   sets = replicate mostSets 0;
   next = replicate tableCells 0;
   singles = replicate mostStates 0;
@@ -59,7 +59,7 @@ unfoldable pub tableOf : List ℕ → ℕ → ℕ → Table
 tableOf ts n k =
     cond (tooMany ts n k) noTable
     (record {
-      told = counted (length (setsOf ts n k));
+      reply = counted (length (setsOf ts n k));
       sets = setCells ts n k;
       next = nextCells ts n k;
       singles = singlesOf (setCells ts n k) (length (setsOf ts n k));

@@ -5,7 +5,7 @@
 -- number.
 --
 --   setWalk ts k         sets as the keys of numbering
---   numberIn sets m      the number of the set m; the list's length where it has none
+--   indexOf sets m      the number of the set m; the list's length where it has none
 --   numbered sets m      a non-empty set keeps the number it has, else it takes the next
 --   expandFrom, closeFrom, setsUpTo   the procedure: by symbols, in number order, for each state
 --   setsOf ts n k        the numbered sets, in number order
@@ -23,7 +23,7 @@ use Rattle.masks.specs.Masks.{single}
 use Rattle.automaton.specs.Successor.{successor}
 use Rattle.numbering.specs.Numbering as keys
 use Rattle.numbering.specs.Numbering.{Walk, keysUpTo, numberOrNone, nextOf}
-unfoldable pub use Rattle.numbering.specs.Numbering.{numberIn}
+unfoldable pub use Rattle.numbering.specs.Numbering.{indexOf}
 
 abbrev pub isEmpty : ℕ → Bool
 isEmpty m = eqb m 0

@@ -3,7 +3,7 @@
 -- cells are in use.
 --
 --   foundIn l m                    the number of the set m among the sets l, or none
---   foundOf                        what each case of the search's answer says: a number, or none
+--   foundMeans                        what each case of the search's answer says: a number, or none
 --   singletonNumber sets count q   the number of {q}, or 512, which stands for the empty set
 --   singlesOf sets count           that number for each of the 32 states
 use mathlib.Core.Bool.{cond}
@@ -17,17 +17,17 @@ use Rattle.base.specs.Lists.{listFrom}
 use Rattle.masks.specs.Masks.{single}
 use Rattle.subsets.specs.declared.Found.{Found}
 use Rattle.subsets.specs.declared.Found.the-variants.{At, Nothing}
-use Rattle.subsets.specs.Sets.{numberIn}
+use Rattle.subsets.specs.Sets.{indexOf}
 
 abbrev pub foundIn : List ℕ → ℕ → Option ℕ
-foundIn l m = cond (ltb (numberIn l m) (length l)) (some (numberIn l m)) none
+foundIn l m = cond (ltb (indexOf l m) (length l)) (some (indexOf l m)) none
 
-abbrev pub foundOf : Found → Option ℕ
-foundOf (At number) = some (number .0)
-foundOf Nothing = none
+abbrev pub foundMeans : Found → Option ℕ
+foundMeans (At number) = some (number .0)
+foundMeans Nothing = none
 
 unfoldable pub singletonNumber : List ℕ → ℕ → ℕ → ℕ
-singletonNumber sets count q = let i = numberIn (take count sets) (single q) in cond (ltb i count) i emptySet
+singletonNumber sets count q = let i = indexOf (take count sets) (single q) in cond (ltb i count) i emptySet
 
 abbrev pub singlesOf : List ℕ → ℕ → List ℕ
 singlesOf sets count = listFrom 0 mostStates (singletonNumber sets count)

@@ -6,7 +6,7 @@
 --   cellsOf l         the sets l as an array
 --   Entered, Stepped, Grown, Answered   what `number`, `step`, `expand` and `add_state`, and `fill`
 --                                       promise
---   Holds             what the two arrays hold while sets are expanded
+--   ArraysHold             what the two arrays hold while sets are expanded
 use mathlib.Core.Path.{_≡_}
 use mathlib.Core.Bool.{cond, false, _&&_}
 use mathlib.Core.List.{List, []}
@@ -20,10 +20,10 @@ use Rattle.automaton.specs.Successor.{successor}
 use Rattle.numbering.specs.Begins.{Begins}
 use Rattle.subsets.specs.declared.Numbered.{Numbered}
 use Rattle.subsets.specs.declared.Numbering.{Numbering}
-use Rattle.subsets.specs.Sets.{numberIn, numbered, closeFrom, numberOrEmpty, setsOf, tooMany, setCells, nextCells}
-use Rattle.subsets.specs.Answer.{Told, counted, refused, toldOf, named, turned-down, turnOf}
+use Rattle.subsets.specs.Sets.{indexOf, numbered, closeFrom, numberOrEmpty, setsOf, tooMany, setCells, nextCells}
+use Rattle.subsets.specs.Answer.{NumberingReply, counted, refused, numberingMeans, named, turned-down, turnMeans}
 
-abbrev pub limited : List ℕ → Told
+abbrev pub limited : List ℕ → NumberingReply
 limited l = cond (ltb mostSets (length l)) (refused 9) (counted (length l))
 
 abbrev pub cellsOf : List ℕ → List ℕ
@@ -31,7 +31,7 @@ cellsOf l = listFrom 0 mostSets (λ i. getD l i 0)
 
 -- the set m was numbered after the sets l
 pub record Entered (l : List ℕ) (m : ℕ) (r : Numbered) (sets : List ℕ) : Type 0 where
-  pub number : turnOf r ≡ cond (ltb mostSets (length (numbered l m))) (turned-down 9) (named (numberIn (numbered l m) m) (length (numbered l m)))
+  pub number : turnMeans r ≡ cond (ltb mostSets (length (numbered l m))) (turned-down 9) (named (indexOf (numbered l m) m) (length (numbered l m)))
   pub sets-are : length (numbered l m) ≤ mostSets → sets ≡ cellsOf (numbered l m)
 
 -- nothing is numbered
@@ -48,24 +48,24 @@ module _ (ts l : List ℕ) (i s : ℕ) where
   afterStep = numbered l target
 
   pub record Stepped (r : Numbering) (sets next₀ next : List ℕ) : Type 0 where
-    pub count : toldOf r ≡ limited afterStep
+    pub count : numberingMeans r ≡ limited afterStep
     pub sets-are : length afterStep ≤ mostSets → sets ≡ cellsOf afterStep
-    pub next-are : length afterStep ≤ mostSets → next ≡ cond (eqb target 0) next₀ (set next₀ (i * mostSymbols + s) (numberIn afterStep target))
+    pub next-are : length afterStep ≤ mostSets → next ≡ cond (eqb target 0) next₀ (set next₀ (i * mostSymbols + s) (indexOf afterStep target))
 
 -- the table's cell c, where the sets f are numbered and the cells before `upto` are filled
 abbrev pub cellTo : List ℕ → ℕ → List ℕ → ℕ → ℕ → ℕ
 cellTo ts k f upto c = cond (ltb c upto && ltb (c % mostSymbols) k) (numberOrEmpty f (successor ts (getD f (c / mostSymbols) 0) (c % mostSymbols))) emptySet
 
 -- The arrays hold the sets l and the table's cells before `upto`. A cell is said for every list that goes on from l, since a set keeps its number.
-pub record Holds (ts : List ℕ) (k : ℕ) (l : List ℕ) (upto : ℕ) (sets next : List ℕ) : Type 0 where
+pub record ArraysHold (ts : List ℕ) (k : ℕ) (l : List ℕ) (upto : ℕ) (sets next : List ℕ) : Type 0 where
   pub sets-are : sets ≡ cellsOf l
   pub next-long : length next ≡ tableCells
   pub cells : (f : List ℕ) → Begins l f → (c : ℕ) → c < tableCells → getD next c 0 ≡ cellTo ts k f upto c
 
 -- the numbered sets became f, and all of them are expanded
 pub record Grown (ts : List ℕ) (k : ℕ) (f : List ℕ) (r : Numbering) (sets next : List ℕ) : Type 0 where
-  pub count : toldOf r ≡ limited f
-  pub held : length f ≤ mostSets → Holds ts k f (length f * mostSymbols) sets next
+  pub count : numberingMeans r ≡ limited f
+  pub held : length f ≤ mostSets → ArraysHold ts k f (length f * mostSymbols) sets next
 
 -- the sets l, with those from number i on expanded
 abbrev pub closedFrom : List ℕ → ℕ → ℕ → List ℕ → List ℕ
@@ -77,6 +77,6 @@ grownBy ts k q l = closedFrom ts k (length l) (numbered l (single q))
 
 -- all that the rule has was numbered, or there are more than 512 sets
 pub record Answered (ts : List ℕ) (n k : ℕ) (r : Numbering) (sets next : List ℕ) : Type 0 where
-  pub count : toldOf r ≡ cond (tooMany ts n k) (refused 9) (counted (length (setsOf ts n k)))
+  pub count : numberingMeans r ≡ cond (tooMany ts n k) (refused 9) (counted (length (setsOf ts n k)))
   pub sets-are : tooMany ts n k ≡ false → sets ≡ setCells ts n k
   pub next-are : tooMany ts n k ≡ false → next ≡ nextCells ts n k

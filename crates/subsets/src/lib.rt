@@ -3,9 +3,9 @@ ghost use mathlib.Core.Path.{_≡_};
 ghost use Prim.Native.Nat.{_*_, _≤_, _<_};
 ghost use lib.ListN.{length, take};
 ghost use Rattle.limits.specs.Limits.{mostStates, mostSymbols, mostSets};
-ghost use Rattle.subsets.specs.Singles.{foundOf, foundIn, singletonNumber, singlesOf};
-ghost use Rattle.subsets.specs.Answer.{noTable, tableCame, tableOf};
-ghost use Rattle.subsets.specs.Steps.{cellsOf, Entered, Stepped, Holds, Grown, grownBy, closedFrom, Cleared, Answered};
+ghost use Rattle.subsets.specs.Singles.{foundMeans, foundIn, singletonNumber, singlesOf};
+ghost use Rattle.subsets.specs.Answer.{noTable, tableOutcome, tableOf};
+ghost use Rattle.subsets.specs.Steps.{cellsOf, Entered, Stepped, ArraysHold, Grown, grownBy, closedFrom, Cleared, Answered};
 use masks::StateNumber;
 
 // The number of a set, which is never the number of a state.
@@ -40,7 +40,7 @@ pub struct SetTable {
 
 // The number of a set among the first count; a count above 512 is taken for 512.
 pub fn find(sets: &[u32; limits::SETS], count: usize, set: u32) -> Found
-    ensures { λ r. ⌜ foundOf r ≡ foundIn (take count (now (sets .entry))) set ⌝ }
+    ensures { λ r. ⌜ foundMeans r ≡ foundIn (take count (now (sets .entry))) set ⌝ }
 {
     let cells: &[u32] = sets;
     let most = base::at_most(count, limits::SETS);
@@ -110,7 +110,7 @@ fn expand(
     first: SetNumber,
     from: usize,
 ) -> Numbering
-    requires { ⌜ (from ≤ mostSets) × (first .0 ≤ from) × Holds (now targets) k (take from (now sets)) (first .0 * mostSymbols) (now sets) (now next) ⌝ }
+    requires { ⌜ (from ≤ mostSets) × (first .0 ≤ from) × ArraysHold (now targets) k (take from (now sets)) (first .0 * mostSymbols) (now sets) (now next) ⌝ }
     ensures { λ r. ⌜ Grown (now (targets .entry)) k (closedFrom (now (targets .entry)) k (first .0) (take from (now (sets .entry)))) r (now (sets .exit)) (now (next .exit)) ⌝ }
 {
     let mut count = from;
@@ -143,7 +143,7 @@ fn add_state(
     count: usize,
     q: StateNumber,
 ) -> Numbering
-    requires { ⌜ (q .0 < mostStates) × (count ≤ mostSets) × Holds (now targets) k (take count (now sets)) (count * mostSymbols) (now sets) (now next) ⌝ }
+    requires { ⌜ (q .0 < mostStates) × (count ≤ mostSets) × ArraysHold (now targets) k (take count (now sets)) (count * mostSymbols) (now sets) (now next) ⌝ }
     ensures { λ r. ⌜ Grown (now (targets .entry)) k (grownBy (now (targets .entry)) k (q .0) (take count (now (sets .entry)))) r (now (sets .exit)) (now (next .exit)) ⌝ }
 {
     match number(sets, count, masks::singleton(q)) {
@@ -215,7 +215,7 @@ pub fn number_singles(sets: &[u32; limits::SETS], count: usize) -> [u16; limits:
 
 // Refused with 9.
 fn no_table() -> SetTable
-    ensures { λ r. ⌜ tableCame r ≡ noTable ⌝ }
+    ensures { λ r. ⌜ tableOutcome r ≡ noTable ⌝ }
 {
     let sets = [0u32; limits::SETS];
     let next = [0u16; limits::CELLS];
@@ -231,7 +231,7 @@ fn no_table() -> SetTable
 // The numbered sets, the next-set table and the singletons' numbers of a rule with n states and k
 // symbols, or 9. A value of n above 32 is taken for 32.
 pub fn number_sets(targets: &[u32; limits::TARGETS], n: u8, k: u8) -> SetTable
-    ensures { λ r. ⌜ tableCame r ≡ tableOf (now (targets .entry)) n k ⌝ }
+    ensures { λ r. ⌜ tableOutcome r ≡ tableOf (now (targets .entry)) n k ⌝ }
 {
     let mut sets = [0u32; limits::SETS];
     let mut next = [limits::EMPTY; limits::CELLS];

@@ -10,7 +10,7 @@ new-judge-requires : tie.Need-new-judge-requires
 new-judge-requires c κs = search needs
 
 returns : tie.Need-returns
-returns c = ap (λ (j : Judge). record { answers = began; leaves = j }) (c .new-judge .ensures)
+returns c = ap (λ (j : Judge). record { response = began; state = j }) (c .new-judge .ensures)
 
 pub run-empty-spec : {M : Type 1} → statement M
 run-empty-spec = tie.close (tie.spec new-judge-requires returns)

@@ -6,11 +6,11 @@ use borrow.Author.Needs.{needs}
 use Rattle.callrun.proofs.run_verdict.Statement.{statement}
 use Rattle.callrun.proofs.run_verdict.Tie as tie
 
-judged-requires : tie.Need-judged-requires
-judged-requires c κs = search needs
+ask-verdict-requires : tie.Need-ask-verdict-requires
+ask-verdict-requires c κs = search needs
 
 returns : tie.Need-returns
-returns c = ap (λ (a : Reply). record { answers = replied a; leaves = c .before .args .judge }) (c .judged .ensures)
+returns c = ap (λ (a : Reply). record { response = replied a; state = c .before .args .judge }) (c .ask-verdict .ensures)
 
 pub run-verdict-spec : {M : Type 1} → statement M
-run-verdict-spec = tie.close (tie.spec judged-requires returns)
+run-verdict-spec = tie.close (tie.spec ask-verdict-requires returns)

@@ -1,6 +1,6 @@
 -- `bellbadger_deliver` meets its contract. Assumes nothing.
 use borrow.Author.Needs.{needs}
-use Rattle.capi.proofs.Told.{deliver-accepted, deliver-refused}
+use Rattle.capi.proofs.Numbers.{deliver-accepted, deliver-refused}
 use Rattle.capi.proofs.bellbadger_deliver.Statement.{statement}
 use Rattle.capi.proofs.bellbadger_deliver.Tie as tie
 

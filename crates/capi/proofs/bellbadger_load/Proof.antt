@@ -1,6 +1,6 @@
 -- `bellbadger_load` meets its contract. Assumes nothing.
 use borrow.Author.Needs.{needs}
-use Rattle.capi.proofs.Told.{load-accepted, load-refused}
+use Rattle.capi.proofs.Numbers.{load-accepted, load-refused}
 use Rattle.capi.proofs.bellbadger_load.Statement.{statement}
 use Rattle.capi.proofs.bellbadger_load.Tie as tie
 

@@ -1,6 +1,6 @@
 -- `bellbadger_open` meets its contract. Assumes nothing.
 use borrow.Author.Needs.{needs}
-use Rattle.capi.proofs.Told.{open-accepted, open-refused}
+use Rattle.capi.proofs.Numbers.{open-accepted, open-refused}
 use Rattle.capi.proofs.bellbadger_open.Statement.{statement}
 use Rattle.capi.proofs.bellbadger_open.Tie as tie
 

@@ -1,6 +1,6 @@
 -- `bellbadger_replay` meets its contract. Assumes nothing.
 use borrow.Author.Needs.{needs}
-use Rattle.capi.proofs.Told.{replay-verdict, replay-malformed}
+use Rattle.capi.proofs.Numbers.{replay-verdict, replay-malformed}
 use Rattle.capi.proofs.bellbadger_replay.Statement.{statement}
 use Rattle.capi.proofs.bellbadger_replay.Tie as tie
 

@@ -1,6 +1,6 @@
 -- `bellbadger_withdraw` meets its contract. Assumes nothing.
 use borrow.Author.Needs.{needs}
-use Rattle.capi.proofs.Told.{withdraw-accepted, withdraw-refused}
+use Rattle.capi.proofs.Numbers.{withdraw-accepted, withdraw-refused}
 use Rattle.capi.proofs.bellbadger_withdraw.Statement.{statement}
 use Rattle.capi.proofs.bellbadger_withdraw.Tie as tie
 

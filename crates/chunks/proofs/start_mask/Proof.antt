@@ -5,7 +5,7 @@ use Prim.Native.Nat.{_-_, _≤_, min}
 use native.Mathlib.Omega.{arith}
 use borrow.Author.Needs.{needs}
 use lib.Bits.{bitOr}
-use Rattle.chunks.specs.Chunks.{startSet}
+use Rattle.delegates.specs.Alike.{startSet}
 use Rattle.chunks.proofs.Starts.{start-own, start-other}
 use Rattle.chunks.proofs.start_mask.Statement.{statement}
 use Rattle.chunks.proofs.start_mask.Tie as tie

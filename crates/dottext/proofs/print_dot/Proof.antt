@@ -4,7 +4,7 @@ use mathlib.Core.Option.{Option, none, some}
 use Prim.Native.Nat.{ℕ}
 use Rattle.ruleformat.specs.declared.ReadAnswer.the-variants.{Accepted, Refused}
 use Rattle.ruleformat.specs.Refusals.{refusal}
-use Rattle.ruleformat.specs.Reader.{numberOf, ruleBy, ruleOf}
+use Rattle.ruleformat.specs.Reader.{readMeans, ruleBy, ruleOf}
 use borrow.Author.Needs.{needs}
 use Rattle.dottext.proofs.print_dot.Statement.{statement}
 use Rattle.dottext.proofs.print_dot.Tie as tie
@@ -32,7 +32,7 @@ returns c =
     let f = c .before .before .before .before .before .before .before .before .before .before .args .file .now in
     let g = c .before .before .before .before .before .before .before .read in
     let e : g .result .answer ≡ Accepted = c .before .before .before .before .enum-told .given .1 in
-    let n : refusal f ≡ none = sym (g .ensures .answer) ∙ ap numberOf e in
+    let n : refusal f ≡ none = sym (g .ensures .answer) ∙ ap readMeans e in
     let r : g .result .rule ≡ ruleOf f = g .ensures .rule ∙ ap (λ (o : Option ℕ). ruleBy o f) n in
     rw n (rw r at (c .before .before .print-automaton .ensures))
 
@@ -45,7 +45,7 @@ returns-2 c =
     let g = c .before .before .before .before .before .before .before .before .read in
     let x = c .before .before .before .before .before .answer .given in
     let e : g .result .answer ≡ Refused (x .0 .0) = x .1 in
-    let n : refusal f ≡ some (x .0 .0) = sym (g .ensures .answer) ∙ ap numberOf e in
+    let n : refusal f ≡ some (x .0 .0) = sym (g .ensures .answer) ∙ ap readMeans e in
     rw n (c .before .before .print-refused .ensures)
 
 pub print-dot-spec : {M : Type 1} → statement M

@@ -4,13 +4,13 @@ use Prim.Native.Nat.{_+_, _*_, _-_, _≤_}
 use native.Mathlib.Omega.{arith}
 use borrow.Author.Needs.{needs}
 use lib.ListN.{length, getD, drop}
-use Rattle.fields.specs.Numbers.{numberIn}
+use Rattle.fields.specs.Numbers.{parseNumber}
 use Rattle.fields.proofs.Digits.{saidFrom, said-over, said-short, said-long, said-whole, said-end, said-low, said-high, said-digit}
 use Rattle.fields.proofs.read_number.Statement.{statement}
 use Rattle.fields.proofs.read_number.Tie as tie
 
 abbrev Inv-loop : tie.InvT-loop
-Inv-loop field value₀ i₀ value i = (i ≤ length field) × (value ≤ 18446744073709551615) × (numberIn field ≡ saidFrom value (drop i field))
+Inv-loop field value₀ i₀ value i = (i ≤ length field) × (value ≤ 18446744073709551615) × (parseNumber field ≡ saidFrom value (drop i field))
 
 abbrev μ-loop : tie.MeasureT-loop
 μ-loop field value₀ i₀ value i = length field - i

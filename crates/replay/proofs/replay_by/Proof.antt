@@ -79,8 +79,8 @@ loop-again c =
       going-on _ (l .judge) (l .line) (l .at) (l .inv .4) _ here find (r .result) (r .ensures .0) (sym (c .before .before .before .is-malformed .ensures) ∙ c .before .before .if1 .left) _ (c .past .ensures),
     )
 
-judged-requires : tie.Need-judged-requires Inv-loop μ-loop
-judged-requires c κs = search needs
+ask-verdict-requires : tie.Need-ask-verdict-requires Inv-loop μ-loop
+ask-verdict-requires c κs = search needs
 
 same-length-2 : tie.Need-same-length-2 Inv-loop μ-loop
 same-length-2 c = search needs
@@ -88,7 +88,7 @@ same-length-2 c = search needs
 returns-2 : tie.Need-returns-2 Inv-loop μ-loop
 returns-2 c =
     let l = c .before .before .loop in
-    (going-last _ (l .judge) (l .line) (l .at) (l .inv .4) (c .before .loop-test .left) _ (ap verdict (c .judged .ensures)), search needs)
+    (going-last _ (l .judge) (l .line) (l .at) (l .inv .4) (c .before .loop-test .left) _ (ap verdict (c .ask-verdict .ensures)), search needs)
 
 pub replay-by-spec : {M : Type 1} → statement M
 replay-by-spec =
@@ -110,6 +110,6 @@ replay-by-spec =
     past-requires
     loop-less
     loop-again
-    judged-requires
+    ask-verdict-requires
     same-length-2
     returns-2)

@@ -2,7 +2,7 @@
 use mathlib.Core.Option.{Option}
 use Prim.Native.Nat.{ℕ}
 use Rattle.ruleformat.specs.declared.ReadAnswer.the-variants.{Accepted, Refused}
-use Rattle.ruleformat.specs.Reader.{numberOf, ruleBy}
+use Rattle.ruleformat.specs.Reader.{readMeans, ruleBy}
 use mathlib.Core.Path.{_≡_, sym, ap, _∙_}
 use borrow.Author.Needs.{needs}
 use Rattle.rulefile.proofs.read.Statement.{statement}
@@ -15,7 +15,7 @@ enum-told : tie.Need-enum-told
 enum-told c = search needs
 
 build-requires : tie.Need-build-requires
-build-requires c κs = let e : c .before .before .check .result ≡ Accepted = cc in sym (c .before .before .check .ensures) ∙ ap numberOf e
+build-requires c κs = let e : c .before .before .check .result ≡ Accepted = cc in sym (c .before .before .check .ensures) ∙ ap readMeans e
 
 enum-told-2 : tie.Need-enum-told-2
 enum-told-2 c = search needs
@@ -28,7 +28,7 @@ returns c =
     let f = c .before .before .before .before .before .args .file .now in
     let k = c .before .before .before .check in
     let e : k .result ≡ Accepted = cc in
-    record { answer = k .ensures; rule = c .build .ensures ∙ ap (λ (o : Option ℕ). ruleBy o f) (sym (ap numberOf e) ∙ k .ensures) }
+    record { answer = k .ensures; rule = c .build .ensures ∙ ap (λ (o : Option ℕ). ruleBy o f) (sym (ap readMeans e) ∙ k .ensures) }
 
 returns-2 : tie.Need-returns-2
 returns-2 c =
@@ -36,7 +36,7 @@ returns-2 c =
     let k = c .before .before .before .check in
     let g = c .before .enum-told2 .given in
     let e : k .result ≡ Refused (g .0 .0) = g .1 in
-    record { answer = k .ensures; rule = c .no-rule .ensures ∙ ap (λ (o : Option ℕ). ruleBy o f) (sym (ap numberOf e) ∙ k .ensures) }
+    record { answer = k .ensures; rule = c .no-rule .ensures ∙ ap (λ (o : Option ℕ). ruleBy o f) (sym (ap readMeans e) ∙ k .ensures) }
 
 pub read-spec : {M : Type 1} → statement M
 read-spec =

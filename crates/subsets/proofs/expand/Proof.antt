@@ -9,7 +9,7 @@ use lib.ListN.{length, getD, take}
 use borrow.Author.Needs.{needs}
 use Rattle.numbering.proofs.Closure.{close-begins, symbols-end, keys-more, keys-end}
 use Rattle.subsets.specs.Sets.{setWalk, closeFrom}
-use Rattle.subsets.specs.Steps.{Holds}
+use Rattle.subsets.specs.Steps.{ArraysHold}
 use Rattle.subsets.proofs.Arrays.{count-is}
 use Rattle.subsets.proofs.Table.{row-begins, row-ends}
 use Rattle.subsets.proofs.Turns.{expanded, turn-whole, turn-over, grown-whole, grown-over}
@@ -18,7 +18,7 @@ use Rattle.subsets.proofs.expand.Tie as tie
 
 abbrev Inv-loop : tie.InvT-loop
 Inv-loop targets k sets₀ next₀ from count₀ i symbol₀ sets next count symbol =
-    (count ≤ 512) × (i < count) × (symbol ≤ k) × Holds targets k (take count sets) (i * 16 + min symbol 16) sets next
+    (count ≤ 512) × (i < count) × (symbol ≤ k) × ArraysHold targets k (take count sets) (i * 16 + min symbol 16) sets next
     × (expanded targets k i 0 (take count₀ sets₀) ≡ expanded targets k i symbol (take count sets))
 
 abbrev μ-loop : tie.MeasureT-loop
@@ -26,7 +26,7 @@ abbrev μ-loop : tie.MeasureT-loop
 
 abbrev Inv-expand : tie.InvT-expand
 Inv-expand targets k sets₀ next₀ from count₀ i₀ sets next count i =
-    (count ≤ 512) × (i₀ ≤ i) × (i ≤ count) × Holds targets k (take count sets) (i * 16) sets next
+    (count ≤ 512) × (i₀ ≤ i) × (i ≤ count) × ArraysHold targets k (take count sets) (i * 16) sets next
     × (closeFrom targets k 512 i₀ (take count₀ sets₀) ≡ closeFrom targets k (512 + i₀ - i) i (take count sets))
 
 abbrev μ-expand : tie.MeasureT-expand

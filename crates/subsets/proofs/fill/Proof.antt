@@ -8,7 +8,7 @@ use lib.ListN.{take}
 use borrow.Author.Needs.{needs}
 use Rattle.numbering.specs.Numbering.{keysUpTo}
 use Rattle.subsets.specs.Sets.{setsUpTo}
-use Rattle.subsets.specs.Steps.{Holds}
+use Rattle.subsets.specs.Steps.{ArraysHold}
 use Rattle.subsets.proofs.Turns.{begin, states-more, states-over, answered-over, answered-whole}
 use Rattle.subsets.proofs.fill.Statement.{statement}
 use Rattle.subsets.proofs.fill.Tie as tie
@@ -16,7 +16,7 @@ use Rattle.subsets.proofs.fill.Tie as tie
 abbrev Inv-loop : tie.InvT-loop
 Inv-loop targets n k sets₀ next₀ count₀ q₀ q-end sets next count q =
     (q-end ≡ min n 32) × (q ≤ q-end) × (count ≤ 512) × (take count sets ≡ setsUpTo targets k q)
-    × Holds targets k (take count sets) (count * 16) sets next
+    × ArraysHold targets k (take count sets) (count * 16) sets next
 
 abbrev μ-loop : tie.MeasureT-loop
 μ-loop targets n k sets₀ next₀ count₀ q₀ q-end sets next count q = q-end - q

@@ -1,7 +1,7 @@
 -- `number` meets its contract, one way out at a time: the set has a number, it takes the next, or none is left. Assumes nothing.
 use mathlib.Core.Path.{sym, ap, _∙_}
 use borrow.Author.Needs.{needs}
-use Rattle.subsets.specs.Singles.{foundOf}
+use Rattle.subsets.specs.Singles.{foundMeans}
 use Rattle.subsets.proofs.Arrays.{entered-kept, entered-taken, entered-full}
 use Rattle.subsets.proofs.number.Statement.{statement}
 use Rattle.subsets.proofs.number.Tie as tie
@@ -32,19 +32,19 @@ returns c =
     let s = c .before .before .before .before .before in
     let a = s .args in
     entered-kept (a .sets .now) (a .count) (s .pre .0) (s .pre .1) (a .set) (s .pre .2) (c .before .number .given .0 .0)
-    (sym (c .before .before .before .find .ensures) ∙ ap foundOf (c .before .number .given .1))
+    (sym (c .before .before .before .find .ensures) ∙ ap foundMeans (c .before .number .given .1))
 
 returns-2 : tie.Need-returns-2
 returns-2 c =
     let s = c .before .before .before .before .before in
     let a = s .args in
-    entered-taken (a .sets .now) (a .count) (s .pre .0) (s .pre .1) (a .set) (s .pre .2) (c .if1 .taken) (sym (c .before .before .before .find .ensures) ∙ ap foundOf (c .before .enum-told .given .1))
+    entered-taken (a .sets .now) (a .count) (s .pre .0) (s .pre .1) (a .set) (s .pre .2) (c .if1 .taken) (sym (c .before .before .before .find .ensures) ∙ ap foundMeans (c .before .enum-told .given .1))
 
 returns-3 : tie.Need-returns-3
 returns-3 c =
     let s = c .before .before .before .before .before in
     let a = s .args in
-    entered-full (a .sets .now) (a .count) (s .pre .0) (s .pre .1) (a .set) (s .pre .2) (c .if1 .left) (sym (c .before .before .before .find .ensures) ∙ ap foundOf (c .before .enum-told .given .1))
+    entered-full (a .sets .now) (a .count) (s .pre .0) (s .pre .1) (a .set) (s .pre .2) (c .if1 .left) (sym (c .before .before .before .find .ensures) ∙ ap foundMeans (c .before .enum-told .given .1))
 
 pub number-spec : {M : Type 1} → statement M
 number-spec =

@@ -5,7 +5,7 @@ use Prim.Native.Nat.{ℕ}
 use lib.ListN.{take}
 use borrow.Author.Needs.{needs}
 use Rattle.masks.specs.Masks.{single}
-use Rattle.subsets.specs.Singles.{foundIn, foundOf}
+use Rattle.subsets.specs.Singles.{foundIn, foundMeans}
 use Rattle.subsets.proofs.Singles.{single-found, single-missing}
 use Rattle.subsets.proofs.number_single.Statement.{statement}
 use Rattle.subsets.proofs.number_single.Tie as tie
@@ -32,7 +32,7 @@ returns c =
     let f = c .before .before .before .find in
     let n = c .before .number .given in
     let e : foundIn (take (a .count) (a .sets .now)) (single (a .q .0)) ≡ some (n .0 .0 .0) =
-    ap (λ (m : ℕ). foundIn (take (a .count) (a .sets .now)) m) (sym (s .ensures)) ∙ sym (f .ensures) ∙ ap foundOf (n .1) in
+    ap (λ (m : ℕ). foundIn (take (a .count) (a .sets .now)) m) (sym (s .ensures)) ∙ sym (f .ensures) ∙ ap foundMeans (n .1) in
     single-found (a .sets .now) (a .count) (a .q .0) (n .0 .0 .0) e
 
 returns-2 : tie.Need-returns-2
@@ -42,7 +42,7 @@ returns-2 c =
     let s = c .before .before .before .singleton in
     let f = c .before .before .find in
     let e : foundIn (take (a .count) (a .sets .now)) (single (a .q .0)) ≡ none =
-    ap (λ (m : ℕ). foundIn (take (a .count) (a .sets .now)) m) (sym (s .ensures)) ∙ sym (f .ensures) ∙ ap foundOf (c .enum-told .given .1) in
+    ap (λ (m : ℕ). foundIn (take (a .count) (a .sets .now)) m) (sym (s .ensures)) ∙ sym (f .ensures) ∙ ap foundMeans (c .enum-told .given .1) in
     single-missing (a .sets .now) (a .count) (a .q .0) (r .ensures) e
 
 pub number-single-spec : {M : Type 1} → statement M

@@ -182,7 +182,7 @@ filled (some x) = (λ e z. let y : _≡_ {A = ℕ} 0 1 = cc in omega arith, λ n
 pub accepted-exactly : (h : List Call) → Accepted-exactly h
 accepted-exactly h = record {
   loading = λ f.
-      let law = loaded-law (loadNumber f) (length (setsOf (ruleOf f .targets) (ruleOf f .n) (ruleOf f .k))) (startsIn (ruleOf f) .count) in
+      let law = loaded-law (loadNumber f) (length (setsOf (ruleOf f .targets) (ruleOf f .n) (ruleOf f .k))) (startsIn (ruleOf f) .startcount) in
       Iff·trans law (loads-law f);
   opening = λ n.
       let law = none-hold (on 20 (isNone (fileOf h)) ∷ on 10 (outside 1 64 n) ∷ []) in (
@@ -304,9 +304,9 @@ pub refused-exactly : (h : List Call) → Refused-exactly h
 unfolding named
 refused-exactly h = record {
   load-file = λ f x l.
-      Iff·trans (refused-law (loadNumber f) (loaded (length (setsOf (ruleOf f .targets) (ruleOf f .n) (ruleOf f .k))) (startsIn (ruleOf f) .count)) x (not-loaded x _ _)) (file-words f x l);
+      Iff·trans (refused-law (loadNumber f) (loaded (length (setsOf (ruleOf f .targets) (ruleOf f .n) (ruleOf f .k))) (startsIn (ruleOf f) .startcount)) x (not-loaded x _ _)) (file-words f x l);
   load-9 = λ f.
-      Iff·trans (refused-law (loadNumber f) (loaded (length (setsOf (ruleOf f .targets) (ruleOf f .n) (ruleOf f .k))) (startsIn (ruleOf f) .count)) 9 (not-loaded 9 _ _)) (nine-words f);
+      Iff·trans (refused-law (loadNumber f) (loaded (length (setsOf (ruleOf f .targets) (ruleOf f .n) (ruleOf f .k))) (startsIn (ruleOf f) .startcount)) 9 (not-loaded 9 _ _)) (nine-words f);
   open-20 = λ n.
       Iff·trans (refused-law (firstOf (openConditions (isNone (fileOf h)) n)) accepted 20 (not-accepted 20))
       (Iff·trans (first-here 20 (isNone (fileOf h)) (on 10 (outside 1 64 n) ∷ []) refl) (there (fileOf h)));

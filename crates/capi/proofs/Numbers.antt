@@ -10,52 +10,52 @@ use Rattle.calls.specs.declared.DeliverAnswer.the-variants as delivery
 use Rattle.calls.specs.declared.WithdrawAnswer.{WithdrawAnswer}
 use Rattle.calls.specs.declared.WithdrawAnswer.the-variants as withdrawal
 use Rattle.calls.specs.declared.Verdict.{Verdict}
-use Rattle.calls.specs.declared.Loading.{Loading}
-use Rattle.calls.specs.declared.Opening.{Opening}
-use Rattle.calls.specs.declared.Delivery.{Delivery}
-use Rattle.calls.specs.declared.Withdrawal.{Withdrawal}
-use Rattle.calls.specs.Replies.{loadSays, openSays, deliverSays, withdrawSays, verdictSays}
-use Rattle.calls.specs.Steps.{Outcome, loadCame, openCame, deliverCame, withdrawCame}
+use Rattle.calls.specs.declared.LoadResult.{LoadResult}
+use Rattle.calls.specs.declared.OpenResult.{OpenResult}
+use Rattle.calls.specs.declared.DeliverResult.{DeliverResult}
+use Rattle.calls.specs.declared.WithdrawResult.{WithdrawResult}
+use Rattle.calls.specs.Replies.{loadMeans, openMeans, deliverMeans, withdrawMeans, verdictMeans}
+use Rattle.calls.specs.Steps.{Outcome, loadOutcome, openOutcome, deliverOutcome, withdrawOutcome}
 use Rattle.replay.specs.declared.ReplayAnswer.{ReplayAnswer}
 use Rattle.replay.specs.declared.ReplayAnswer.the-variants as replay
-use Rattle.replay.specs.Records.{Told, toldOf}
-use Rattle.capi.specs.declared.VerdictResult.{VerdictResult}
+use Rattle.replay.specs.Records.{ReplayReply, replayMeans}
+use Rattle.capi.specs.declared.VerdictNumbers.{VerdictNumbers}
 use Rattle.capi.specs.Numbers.{loadShown, openShown, deliverShown, withdrawShown, verdictShown, replayShown}
 
 module _ (o : Outcome) where
-  module _ (r : Loading) (is : loadCame r ≡ o) where
+  module _ (r : LoadResult) (is : loadOutcome r ≡ o) where
     pub load-accepted : (sets starts : ℕ) → r .answer ≡ load.Accepted sets starts
         → record { accepted = 1; refused = 0; sets = sets; starts = starts; judge = r .judge } ≡ loadShown o
-    load-accepted sets starts e = ap loadShown (sym (ap (λ (a : LoadAnswer). record { says = loadSays a; leaves = r .judge }) e) ∙ is)
+    load-accepted sets starts e = ap loadShown (sym (ap (λ (a : LoadAnswer). record { reply = loadMeans a; state = r .judge }) e) ∙ is)
 
     pub load-refused : (x : ℕ) → r .answer ≡ load.Refused x → record { accepted = 0; refused = x; sets = 0; starts = 0; judge = r .judge } ≡ loadShown o
-    load-refused x e = ap loadShown (sym (ap (λ (a : LoadAnswer). record { says = loadSays a; leaves = r .judge }) e) ∙ is)
+    load-refused x e = ap loadShown (sym (ap (λ (a : LoadAnswer). record { reply = loadMeans a; state = r .judge }) e) ∙ is)
 
-  module _ (r : Opening) (is : openCame r ≡ o) where
+  module _ (r : OpenResult) (is : openOutcome r ≡ o) where
     pub open-accepted : r .answer ≡ opening.Accepted → record { accepted = 1; refused = 0; judge = r .judge } ≡ openShown o
-    open-accepted e = ap openShown (sym (ap (λ (a : OpenAnswer). record { says = openSays a; leaves = r .judge }) e) ∙ is)
+    open-accepted e = ap openShown (sym (ap (λ (a : OpenAnswer). record { reply = openMeans a; state = r .judge }) e) ∙ is)
 
     pub open-refused : (x : ℕ) → r .answer ≡ opening.Refused x → record { accepted = 0; refused = x; judge = r .judge } ≡ openShown o
-    open-refused x e = ap openShown (sym (ap (λ (a : OpenAnswer). record { says = openSays a; leaves = r .judge }) e) ∙ is)
+    open-refused x e = ap openShown (sym (ap (λ (a : OpenAnswer). record { reply = openMeans a; state = r .judge }) e) ∙ is)
 
-  module _ (r : Delivery) (is : deliverCame r ≡ o) where
+  module _ (r : DeliverResult) (is : deliverOutcome r ≡ o) where
     pub deliver-accepted : r .answer ≡ delivery.Accepted → record { accepted = 1; refused = 0; judge = r .judge } ≡ deliverShown o
-    deliver-accepted e = ap deliverShown (sym (ap (λ (a : DeliverAnswer). record { says = deliverSays a; leaves = r .judge }) e) ∙ is)
+    deliver-accepted e = ap deliverShown (sym (ap (λ (a : DeliverAnswer). record { reply = deliverMeans a; state = r .judge }) e) ∙ is)
 
     pub deliver-refused : (x : ℕ) → r .answer ≡ delivery.Refused x → record { accepted = 0; refused = x; judge = r .judge } ≡ deliverShown o
-    deliver-refused x e = ap deliverShown (sym (ap (λ (a : DeliverAnswer). record { says = deliverSays a; leaves = r .judge }) e) ∙ is)
+    deliver-refused x e = ap deliverShown (sym (ap (λ (a : DeliverAnswer). record { reply = deliverMeans a; state = r .judge }) e) ∙ is)
 
-  module _ (r : Withdrawal) (is : withdrawCame r ≡ o) where
+  module _ (r : WithdrawResult) (is : withdrawOutcome r ≡ o) where
     pub withdraw-accepted : r .answer ≡ withdrawal.Accepted → record { accepted = 1; refused = 0; judge = r .judge } ≡ withdrawShown o
-    withdraw-accepted e = ap withdrawShown (sym (ap (λ (a : WithdrawAnswer). record { says = withdrawSays a; leaves = r .judge }) e) ∙ is)
+    withdraw-accepted e = ap withdrawShown (sym (ap (λ (a : WithdrawAnswer). record { reply = withdrawMeans a; state = r .judge }) e) ∙ is)
 
     pub withdraw-refused : (x : ℕ) → r .answer ≡ withdrawal.Refused x → record { accepted = 0; refused = x; judge = r .judge } ≡ withdrawShown o
-    withdraw-refused x e = ap withdrawShown (sym (ap (λ (a : WithdrawAnswer). record { says = withdrawSays a; leaves = r .judge }) e) ∙ is)
+    withdraw-refused x e = ap withdrawShown (sym (ap (λ (a : WithdrawAnswer). record { reply = withdrawMeans a; state = r .judge }) e) ∙ is)
 
-module _ (v : ReplayAnswer) (t : Told) (is : toldOf v ≡ t) where
-  pub replay-verdict : (x : Verdict) → v ≡ replay.Verdict x → (r : VerdictResult) → r ≡ verdictShown (verdictSays x)
+module _ (v : ReplayAnswer) (t : ReplayReply) (is : replayMeans v ≡ t) where
+  pub replay-verdict : (x : Verdict) → v ≡ replay.Verdict x → (r : VerdictNumbers) → r ≡ verdictShown (verdictMeans x)
       → record { kind = r .kind; number = r .number } ≡ replayShown t
-  replay-verdict x e r shows = rw shows (ap replayShown (sym (ap toldOf e) ∙ is))
+  replay-verdict x e r shows = rw shows (ap replayShown (sym (ap replayMeans e) ∙ is))
 
   pub replay-malformed : (line : ℕ) → v ≡ replay.Malformed line → record { kind = 4; number = line } ≡ replayShown t
-  replay-malformed line e = ap replayShown (sym (ap toldOf e) ∙ is)
+  replay-malformed line e = ap replayShown (sym (ap replayMeans e) ∙ is)

@@ -5,49 +5,49 @@ use mathlib.Core.List.{List, [], _∷_}
 use Prim.Native.Nat.{ℕ}
 use Rattle.executions.specs.Executions.{stateAfter, repliesTo as machineReplies}
 use Rattle.calls.specs.declared.Judge.{Judge}
-use Rattle.calls.specs.Calls.{Call, loads, opens, delivers, withdraws, asks}
+use Rattle.calls.specs.Calls.{Call, loads, opens, delivers, withdraws, asksVerdict}
 use Rattle.calls.specs.Steps.{verdictOf, stepOf}
 use Rattle.histories.specs.History.{fileOf, placesIn, standing, verdictIn, answerOf, answersTo}
 use Rattle.histories.specs.Claims.{judgeAfter, repliesTo, EveryList}
 use Rattle.histories.proofs.Method.{method}
-use Rattle.histories.proofs.Taken.{accepted-exactly, refused-exactly}
+use Rattle.histories.proofs.Conditions.{accepted-exactly, refused-exactly}
 use Rattle.histories.proofs.Numbers.{summed-same}
-use Rattle.histories.proofs.Listed.{Good, good-fresh, load-good, load-says, open-good, open-says, withdraw-good, withdraw-says, ask-good, deliver-good, deliver-says}
-use Rattle.histories.proofs.Asked.{by-rule, verdict-says}
-use Rattle.histories.proofs.Words.{there, words}
+use Rattle.histories.proofs.Steps.{AgreesWith, good-fresh, load-good, load-says, open-good, open-says, withdraw-good, withdraw-says, ask-good, deliver-good, deliver-says}
+use Rattle.histories.proofs.VerdictAgrees.{by-rule, verdict-says}
+use Rattle.histories.proofs.VerdictClauses.{there, words}
 
 -- ---- one call
-module _ (h : List Call) (j : Judge) (g : Good h j) where
-  step-good : (c : Call) → Good (c ∷ h) (stepOf j c .leaves)
+module _ (h : List Call) (j : Judge) (g : AgreesWith h j) where
+  step-good : (c : Call) → AgreesWith (c ∷ h) (stepOf j c .state)
   step-good (loads f) = load-good h j g f
   step-good (opens n) = open-good h j g n
   step-good (delivers p w) = deliver-good h j g p w
   step-good (withdraws p) = withdraw-good h j g p
-  step-good asks = ask-good h j g
+  step-good asksVerdict = ask-good h j g
 
-  step-right : (c : Call) → stepOf j c .says ≡ answerOf h c
+  step-right : (c : Call) → stepOf j c .reply ≡ answerOf h c
   step-right (loads f) = load-says h j g f
   step-right (opens n) = open-says h j g n
   step-right (delivers p w) = deliver-says h j g p w
   step-right (withdraws p) = withdraw-says h j g p
-  step-right asks = verdict-says h j g
+  step-right asksVerdict = verdict-says h j g
 
 -- ---- every list
-good : (h : List Call) → Good h (judgeAfter h)
+good : (h : List Call) → AgreesWith h (judgeAfter h)
 unfolding stateAfter
 good [] = good-fresh
 good (c ∷ h) = step-good h (judgeAfter h) (good h) c
 
-all-right : (h : List Call) → repliesTo h ≡ answersTo h
+correct : (h : List Call) → repliesTo h ≡ answersTo h
 unfolding machineReplies answersTo
-all-right [] = refl
-all-right (c ∷ h) = ap₂ _∷_ (step-right h (judgeAfter h) (good h) c) (all-right h)
+correct [] = refl
+correct (c ∷ h) = ap₂ _∷_ (step-right h (judgeAfter h) (good h) c) (correct h)
 
 pub every-list : (h : List Call) → EveryList h
 every-list h =
     let g = good h in
     record {
-      all-right = all-right h;
+      correct = correct h;
       method = method;
       accepted-exactly = accepted-exactly h;
       refused-exactly = refused-exactly h;
@@ -65,7 +65,7 @@ every-list h =
     }
 
 -- a call made then is answered as the list says
-pub answer-after : (h : List Call) (c : Call) → stepOf (judgeAfter h) c .says ≡ answerOf h c
+pub answer-after : (h : List Call) (c : Call) → stepOf (judgeAfter h) c .reply ≡ answerOf h c
 answer-after h = step-right h (judgeAfter h) (good h)
 
 -- the verdict asked then is the one that the list says

@@ -1,4 +1,4 @@
--- After every call the state agrees with the list of calls, and the call's answer is the one that the list says. `Good h j` is the invariant; one
+-- After every call the state agrees with the list of calls, and the call's answer is the one that the list says. `AgreesWith h j` is the invariant; one
 -- lemma a call. Assumes nothing.
 use mathlib.Core.Path.{_≡_, refl, sym, ap, _∙_, subst, subst₃, fun-ext}
 use mathlib.Core.Bool.{Bool, cond, _&&_, and-true, and-false}
@@ -27,23 +27,23 @@ use Rattle.calls.specs.declared.Judge.{Judge}
 use Rattle.calls.specs.Replies.{Reply, accepted, loaded}
 use Rattle.calls.proofs.Conditions.{not-refused}
 use Rattle.histories.specs.History.{fileOf, ruleFrom, openNumber, placesIn, deliverCheck, standing, deliverNumber, withdrawNumber, replyBy}
-use Rattle.calls.specs.Calls.{Call, loads, opens, delivers, withdraws, asks, loadNumber}
+use Rattle.calls.specs.Calls.{Call, loads, opens, delivers, withdraws, asksVerdict, loadNumber}
 use Rattle.calls.specs.Steps.{fresh, withBoard, outcomeBy, runsAt, loadOf, openOf, deliverOf, withdrawOf}
 use Rattle.histories.specs.Claims.{BuiltBy}
-use Rattle.histories.proofs.Holding.{Holds, all-empty, fresh-holds, placed, cleared-holds, filled-holds}
+use Rattle.histories.proofs.Agreement.{Agrees, all-empty, fresh-holds, placed, cleared-holds, filled-holds}
 use Rattle.histories.proofs.Numbers.{list-11, list-12, list-13, list-22, open-number, withdraw-number, deliver-number}
 
-abbrev pub Good : List Call → Judge → Type 0
-Good h j = Holds (fileOf h) (placesIn h) (standing h) j
+abbrev pub AgreesWith : List Call → Judge → Type 0
+AgreesWith h j = Agrees (fileOf h) (placesIn h) (standing h) j
 
-pub good-fresh : Good [] fresh
+pub good-fresh : AgreesWith [] fresh
 unfolding fileOf placesIn standing
 good-fresh = fresh-holds
 
 -- the same file, places and chunks
 transfer : {file file′ : Option (List ℕ)} {places places′ : ℕ} {at at′ : ℕ → Option (List ℕ)} (j : Judge)
-    → file ≡ file′ → places ≡ places′ → ((p : ℕ) → at p ≡ at′ p) → Holds file places at j → Holds file′ places′ at′ j
-transfer j f p a holds = subst₃ (λ x y z. Holds x y z j) f p (fun-ext a) holds
+    → file ≡ file′ → places ≡ places′ → ((p : ℕ) → at p ≡ at′ p) → Agrees file places at j → Agrees file′ places′ at′ j
+transfer j f p a holds = subst₃ (λ x y z. Agrees x y z j) f p (fun-ext a) holds
 
 -- ---- load
 module _ (f : List ℕ) (e : loadNumber f ≡ none) where
@@ -66,21 +66,21 @@ file-accepted (loads g ∷ h) f e = by-number (loadNumber g) refl (file-accepted
 file-accepted (opens n ∷ h) f e = file-accepted h f e
 file-accepted (delivers p w ∷ h) f e = file-accepted h f e
 file-accepted (withdraws p ∷ h) f e = file-accepted h f e
-file-accepted (asks ∷ h) f e = file-accepted h f e
+file-accepted (asksVerdict ∷ h) f e = file-accepted h f e
 
-by-says : (number : Option ℕ) (a : Reply) (j next : Judge) → outcomeBy number a j next .says ≡ replyBy number a
+by-says : (number : Option ℕ) (a : Reply) (j next : Judge) → outcomeBy number a j next .reply ≡ replyBy number a
 by-says none a j next = refl
 by-says (some x) a j next = refl
 
-module _ (h : List Call) (j : Judge) (good : Good h j) where
+module _ (h : List Call) (j : Judge) (good : AgreesWith h j) where
   module _ (f : List ℕ) where
     abbrev brought : Judge
     brought = record { built = builtOf (ruleOf f); board = emptyBoard 0 }
 
     abbrev reply : Reply
-    reply = loaded (length (setsOf (ruleOf f .targets) (ruleOf f .n) (ruleOf f .k))) (startsIn (ruleOf f) .count)
+    reply = loaded (length (setsOf (ruleOf f .targets) (ruleOf f .n) (ruleOf f .k))) (startsIn (ruleOf f) .startcount)
 
-    loaded-good : (number : Option ℕ) → loadNumber f ≡ number → Good (loads f ∷ h) (outcomeBy number reply j brought .leaves)
+    loaded-good : (number : Option ℕ) → loadNumber f ≡ number → AgreesWith (loads f ∷ h) (outcomeBy number reply j brought .state)
     unfolding fileOf placesIn standing
     loaded-good none e =
         let a = accepted-rule f e in
@@ -88,11 +88,11 @@ module _ (h : List Call) (j : Judge) (good : Good h j) where
         (all-empty (some f) 0 brought (refl, a .0, a .1) refl (omega arith) (λ z. absurd (omega arith)))
     loaded-good (some x) e = transfer j (sym (rw e)) (sym (rw e)) (λ p. sym (rw e)) good
 
-    pub load-good : Good (loads f ∷ h) (loadOf j f .leaves)
+    pub load-good : AgreesWith (loads f ∷ h) (loadOf j f .state)
     unfolding loadOf
     load-good = loaded-good (loadNumber f) refl
 
-    pub load-says : loadOf j f .says ≡ replyBy (loadNumber f) reply
+    pub load-says : loadOf j f .reply ≡ replyBy (loadNumber f) reply
     unfolding loadOf
     load-says = by-says (loadNumber f) reply j brought
 
@@ -103,7 +103,7 @@ module _ (h : List Call) (j : Judge) (good : Good h j) where
       ap (λ x. outcomeBy x accepted j (withBoard j (emptyBoard n)))
       (open-number (fileOf h) (placesIn h) (standing h) j good n)
 
-  opened-good : (n : ℕ) (o : Option ℕ) → openNumber h n ≡ o → Good (opens n ∷ h) (outcomeBy o accepted j (withBoard j (emptyBoard n)) .leaves)
+  opened-good : (n : ℕ) (o : Option ℕ) → openNumber h n ≡ o → AgreesWith (opens n ∷ h) (outcomeBy o accepted j (withBoard j (emptyBoard n)) .state)
   unfolding fileOf placesIn standing
   opened-good n none e =
       let a = passed 20 (isNone (fileOf h)) (cond (outside 1 64 n) (some 10) none) e in
@@ -116,11 +116,11 @@ module _ (h : List Call) (j : Judge) (good : Good h j) where
       kept (some f) x = x
   opened-good n (some x) e = transfer j refl (sym (rw e)) (λ p. sym (rw e)) good
 
-  pub open-good : (n : ℕ) → Good (opens n ∷ h) (openOf j n .leaves)
-  open-good n = subst (λ o. Good (opens n ∷ h) (o .leaves)) (sym (open-is n)) (opened-good n (openNumber h n) refl)
+  pub open-good : (n : ℕ) → AgreesWith (opens n ∷ h) (openOf j n .state)
+  open-good n = subst (λ o. AgreesWith (opens n ∷ h) (o .state)) (sym (open-is n)) (opened-good n (openNumber h n) refl)
 
-  pub open-says : (n : ℕ) → openOf j n .says ≡ replyBy (openNumber h n) accepted
-  open-says n = ap (λ o. o .says) (open-is n) ∙ by-says (openNumber h n) accepted j (withBoard j (emptyBoard n))
+  pub open-says : (n : ℕ) → openOf j n .reply ≡ replyBy (openNumber h n) accepted
+  open-says n = ap (λ o. o .reply) (open-is n) ∙ by-says (openNumber h n) accepted j (withBoard j (emptyBoard n))
 
   -- ---- withdraw
   withdraw-is : (p : ℕ) → withdrawOf j p ≡ outcomeBy (withdrawNumber h p) accepted j (withBoard j (clearedAt (j .board) p))
@@ -130,7 +130,7 @@ module _ (h : List Call) (j : Judge) (good : Good h j) where
       (withdraw-number (fileOf h) (placesIn h) (standing h) j good p)
 
   withdrawn-good : (p : ℕ) (o : Option ℕ) → withdrawNumber h p ≡ o
-      → Good (withdraws p ∷ h) (outcomeBy o accepted j (withBoard j (clearedAt (j .board) p)) .leaves)
+      → AgreesWith (withdraws p ∷ h) (outcomeBy o accepted j (withBoard j (clearedAt (j .board) p)) .state)
   unfolding fileOf placesIn standing placed
   withdrawn-good p none e =
       let a = passed 21 (eqb (placesIn h) 0) (firstOf (on 11 (leb (placesIn h) p) ∷ on 23 (isNone (standing h p)) ∷ [])) e in
@@ -143,20 +143,20 @@ module _ (h : List Call) (j : Judge) (good : Good h j) where
       (λ i. sym (ap (λ (t : Bool). cond t none (standing h i)) (ap (λ (u : Bool). eqb p i && u) (ap isNone e) ∙ and-false (eqb p i))))
       good
 
-  pub withdraw-good : (p : ℕ) → Good (withdraws p ∷ h) (withdrawOf j p .leaves)
-  withdraw-good p = subst (λ o. Good (withdraws p ∷ h) (o .leaves)) (sym (withdraw-is p)) (withdrawn-good p (withdrawNumber h p) refl)
+  pub withdraw-good : (p : ℕ) → AgreesWith (withdraws p ∷ h) (withdrawOf j p .state)
+  withdraw-good p = subst (λ o. AgreesWith (withdraws p ∷ h) (o .state)) (sym (withdraw-is p)) (withdrawn-good p (withdrawNumber h p) refl)
 
-  pub withdraw-says : (p : ℕ) → withdrawOf j p .says ≡ replyBy (withdrawNumber h p) accepted
+  pub withdraw-says : (p : ℕ) → withdrawOf j p .reply ≡ replyBy (withdrawNumber h p) accepted
   withdraw-says p =
-      ap (λ o. o .says) (withdraw-is p) ∙ by-says (withdrawNumber h p) accepted j (withBoard j (clearedAt (j .board) p))
+      ap (λ o. o .reply) (withdraw-is p) ∙ by-says (withdrawNumber h p) accepted j (withBoard j (clearedAt (j .board) p))
 
   -- ---- verdict
-  pub ask-good : Good (asks ∷ h) j
+  pub ask-good : AgreesWith (asksVerdict ∷ h) j
   unfolding fileOf placesIn standing
   ask-good = good
 
 -- ---- deliver
-module _ (h : List Call) (j : Judge) (good : Good h j) (p : ℕ) (w : List ℕ) where
+module _ (h : List Call) (j : Judge) (good : AgreesWith h j) (p : ℕ) (w : List ℕ) where
   abbrev kept : Judge
   kept = withBoard j (filledAt (j .board) p (runsAt j p w))
 
@@ -166,9 +166,9 @@ module _ (h : List Call) (j : Judge) (good : Good h j) (p : ℕ) (w : List ℕ) 
       ap (λ x. outcomeBy x accepted j kept) (deliver-number (placesIn h) (standing h) j p w (fileOf h) good)
 
   -- a delivery that meets no condition is run and kept
-  kept-chunk : (file : Option (List ℕ)) → Holds file (placesIn h) (standing h) j
+  kept-chunk : (file : Option (List ℕ)) → Agrees file (placesIn h) (standing h) j
       → deliverCheck (ruleFrom file) (placesIn h) (standing h) p w ≡ none
-      → Holds file (placesIn h) (placed (standing h) p (some w)) kept
+      → Agrees file (placesIn h) (placed (standing h) p (some w)) kept
   kept-chunk none holds e =
       by-test (ltb 0 (placesIn h))
       (λ l. not-both refl (holds .ruled (ltb-true 0 (placesIn h) l)))
@@ -184,7 +184,7 @@ module _ (h : List Call) (j : Judge) (good : Good h j) (p : ℕ) (w : List ℕ) 
       let t = passed 13 (foreign w (ruleOf f .k)) (list-22 (ruleOf f) (placesIn h) s p w) (c .1) in
       filled-holds f (placesIn h) (standing h) j holds p (leb-false (placesIn h) p (b .0)) w (chunks.claims .text-law w (ruleOf f .k) .0 (t .0))
 
-  delivered-good : (o : Option ℕ) → deliverNumber h p w ≡ o → Good (delivers p w ∷ h) (outcomeBy o accepted j kept .leaves)
+  delivered-good : (o : Option ℕ) → deliverNumber h p w ≡ o → AgreesWith (delivers p w ∷ h) (outcomeBy o accepted j kept .state)
   unfolding fileOf placesIn standing placed
   delivered-good none e =
       transfer kept refl refl
@@ -195,8 +195,8 @@ module _ (h : List Call) (j : Judge) (good : Good h j) (p : ℕ) (w : List ℕ) 
       (λ i. sym (ap (λ (t : Bool). cond t (some w) (standing h i)) (ap (λ (u : Bool). eqb p i && u) (ap isNone e) ∙ and-false (eqb p i))))
       good
 
-  pub deliver-good : Good (delivers p w ∷ h) (deliverOf j p w .leaves)
-  deliver-good = subst (λ o. Good (delivers p w ∷ h) (o .leaves)) (sym deliver-is) (delivered-good (deliverNumber h p w) refl)
+  pub deliver-good : AgreesWith (delivers p w ∷ h) (deliverOf j p w .state)
+  deliver-good = subst (λ o. AgreesWith (delivers p w ∷ h) (o .state)) (sym deliver-is) (delivered-good (deliverNumber h p w) refl)
 
-  pub deliver-says : deliverOf j p w .says ≡ replyBy (deliverNumber h p w) accepted
-  deliver-says = ap (λ o. o .says) deliver-is ∙ by-says (deliverNumber h p w) accepted j kept
+  pub deliver-says : deliverOf j p w .reply ≡ replyBy (deliverNumber h p w) accepted
+  deliver-says = ap (λ o. o .reply) deliver-is ∙ by-says (deliverNumber h p w) accepted j kept

@@ -18,59 +18,59 @@ use Rattle.ruleformat.specs.Reader.{ruleOf}
 use Rattle.build.specs.Building.{builtOf}
 use Rattle.board.specs.Boards.{placesOf, isEmpty, emptyBoard, filledAt, clearedAt, emptyPlaces, summedCount}
 use Rattle.calls.specs.declared.Judge.{Judge}
-use Rattle.calls.specs.declared.Loading.{Loading}
+use Rattle.calls.specs.declared.LoadResult.{LoadResult}
 use Rattle.calls.specs.declared.LoadAnswer.the-variants as load
-use Rattle.calls.specs.declared.Opening.{Opening}
+use Rattle.calls.specs.declared.OpenResult.{OpenResult}
 use Rattle.calls.specs.declared.OpenAnswer.the-variants as opening
-use Rattle.calls.specs.declared.Delivery.{Delivery}
+use Rattle.calls.specs.declared.DeliverResult.{DeliverResult}
 use Rattle.calls.specs.declared.DeliverAnswer.the-variants as delivery
-use Rattle.calls.specs.declared.Withdrawal.{Withdrawal}
+use Rattle.calls.specs.declared.WithdrawResult.{WithdrawResult}
 use Rattle.calls.specs.declared.WithdrawAnswer.the-variants as withdrawal
 use Rattle.calls.specs.declared.Verdict.{Verdict}
 use Rattle.calls.specs.declared.Verdict.the-variants as verdict
-use Rattle.calls.specs.Replies.{Reply, accepted, loaded, verdictSays}
-use Rattle.calls.specs.Calls.{Call, loads, opens, delivers, withdraws, asks, loadNumber, openConditions, deliverConditions, withdrawConditions, verdictBy}
-use Rattle.calls.specs.Steps.{Outcome, lacksRule, lacksBoard, withBoard, loadCame, openCame, deliverCame, withdrawCame, outcomeBy, runsAt, loadOf, openOf, deliverOf, withdrawOf, isYes, verdictOf, stepOf}
-use Rattle.judge.proofs.Asks.{new-judge-asks-nothing, load-asks-nothing, open-asks-nothing, deliver-asks-nothing, withdraw-asks-nothing, judged-asks-nothing}
+use Rattle.calls.specs.Replies.{Reply, accepted, loaded, verdictMeans}
+use Rattle.calls.specs.Calls.{Call, loads, opens, delivers, withdraws, asksVerdict, loadNumber, openConditions, deliverConditions, withdrawConditions, verdictBy}
+use Rattle.calls.specs.Steps.{Outcome, lacksRule, lacksBoard, withBoard, loadOutcome, openOutcome, deliverOutcome, withdrawOutcome, outcomeBy, runsAt, loadOf, openOf, deliverOf, withdrawOf, isYes, verdictOf, stepOf}
+use Rattle.judge.proofs.Asks.{new-judge-asks-nothing, load-asks-nothing, open-asks-nothing, deliver-asks-nothing, withdraw-asks-nothing, verdict-asks-nothing}
 use Rattle.histories.specs.Claims.{judgeMachine, judgeAfter, repliesTo}
 use Rattle.histories.specs.Functions.{AsksStep, MayStep, judgeLibrary}
 
 -- ---- what a call comes to, said by a value of its answer type
 module _ (j next : Judge) where
-  a-loading : (number : Option ℕ) (sets m : ℕ) → (r : Loading) × (loadCame r ≡ outcomeBy number (loaded sets m) j next)
+  a-loading : (number : Option ℕ) (sets m : ℕ) → (r : LoadResult) × (loadOutcome r ≡ outcomeBy number (loaded sets m) j next)
   a-loading none sets m = (record { answer = load.Accepted sets m; judge = next }, refl)
   a-loading (some x) sets m = (record { answer = load.Refused x; judge = j }, refl)
 
-  an-opening : (number : Option ℕ) → (r : Opening) × (openCame r ≡ outcomeBy number accepted j next)
+  an-opening : (number : Option ℕ) → (r : OpenResult) × (openOutcome r ≡ outcomeBy number accepted j next)
   an-opening none = (record { answer = opening.Accepted; judge = next }, refl)
   an-opening (some x) = (record { answer = opening.Refused x; judge = j }, refl)
 
-  a-delivery : (number : Option ℕ) → (r : Delivery) × (deliverCame r ≡ outcomeBy number accepted j next)
+  a-delivery : (number : Option ℕ) → (r : DeliverResult) × (deliverOutcome r ≡ outcomeBy number accepted j next)
   a-delivery none = (record { answer = delivery.Accepted; judge = next }, refl)
   a-delivery (some x) = (record { answer = delivery.Refused x; judge = j }, refl)
 
-  a-withdrawal : (number : Option ℕ) → (r : Withdrawal) × (withdrawCame r ≡ outcomeBy number accepted j next)
+  a-withdrawal : (number : Option ℕ) → (r : WithdrawResult) × (withdrawOutcome r ≡ outcomeBy number accepted j next)
   a-withdrawal none = (record { answer = withdrawal.Accepted; judge = next }, refl)
   a-withdrawal (some x) = (record { answer = withdrawal.Refused x; judge = j }, refl)
 
-a-verdict : (lacks : Bool) (empty : ℕ) (none-empty yes-there : Bool) (sum : ℕ) → eqb empty 0 ≡ none-empty → (v : Verdict) × (verdictSays v ≡ verdictBy lacks empty yes-there sum)
+a-verdict : (lacks : Bool) (empty : ℕ) (none-empty yes-there : Bool) (sum : ℕ) → eqb empty 0 ≡ none-empty → (v : Verdict) × (verdictMeans v ≡ verdictBy lacks empty yes-there sum)
 a-verdict true empty e y sum z = (verdict.Refused 21, refl)
 a-verdict false empty false y sum z = (verdict.Waiting empty, sym (rw z))
 a-verdict false empty true true sum z = (verdict.Yes sum, sym (rw z))
 a-verdict false empty true false sum z = (verdict.No sum, sym (rw z))
 
 module _ (j : Judge) where
-  loading-of : (f : List ℕ) → (r : Loading) × (loadCame r ≡ loadOf j f)
+  loading-of : (f : List ℕ) → (r : LoadResult) × (loadOutcome r ≡ loadOf j f)
   unfolding loadOf
   loading-of f =
       let b = builtOf (ruleOf f) in
-      a-loading j (record { built = b; board = emptyBoard 0 }) (loadNumber f) (b .count) (b .starts)
+      a-loading j (record { built = b; board = emptyBoard 0 }) (loadNumber f) (b .setcount) (b .startcount)
 
-  opening-of : (n : ℕ) → (r : Opening) × (openCame r ≡ openOf j n)
+  opening-of : (n : ℕ) → (r : OpenResult) × (openOutcome r ≡ openOf j n)
   unfolding openOf
   opening-of n = an-opening j (withBoard j (emptyBoard n)) (firstOf (openConditions (lacksRule j) n))
 
-  delivery-of : (p : ℕ) (w : List ℕ) → (r : Delivery) × (deliverCame r ≡ deliverOf j p w)
+  delivery-of : (p : ℕ) (w : List ℕ) → (r : DeliverResult) × (deliverOutcome r ≡ deliverOf j p w)
   unfolding deliverOf
   delivery-of p w =
       a-delivery j (withBoard j (filledAt (j .board) p (runsAt j p w)))
@@ -78,13 +78,13 @@ module _ (j : Judge) where
       (deliverConditions (lacksBoard j) (placesOf (j .board)) p w (j .built .k) (not (isEmpty (j .board) p))
       (summedCount (j .board) + runsAt j p w .count)))
 
-  withdrawal-of : (p : ℕ) → (r : Withdrawal) × (withdrawCame r ≡ withdrawOf j p)
+  withdrawal-of : (p : ℕ) → (r : WithdrawResult) × (withdrawOutcome r ≡ withdrawOf j p)
   unfolding withdrawOf
   withdrawal-of p =
       a-withdrawal j (withBoard j (clearedAt (j .board) p))
       (firstOf (withdrawConditions (lacksBoard j) (placesOf (j .board)) p (isEmpty (j .board) p)))
 
-  verdict-of : (v : Verdict) × (verdictSays v ≡ verdictOf j)
+  verdict-of : (v : Verdict) × (verdictMeans v ≡ verdictOf j)
   unfolding verdictOf
   verdict-of = a-verdict (lacksBoard j) (emptyPlaces (j .board)) (eqb (emptyPlaces (j .board)) 0) (isYes j) (summedCount (j .board)) refl
 
@@ -94,20 +94,20 @@ abbrev pub lent : List ℕ → RefT (List ℕ)
 lent f = record { ptr = (0, 0); name = 0; now = f }
 
 -- an outcome is its reply and its state
-pub parts : (a : Reply) (next : Judge) (o : Outcome) → record { says = a; leaves = next } ≡ o → (a ≡ o .says) × (next ≡ o .leaves)
-parts a next o e = (ap (λ (x : Outcome). x .says) e, ap (λ (x : Outcome). x .leaves) e)
+pub parts : (a : Reply) (next : Judge) (o : Outcome) → record { reply = a; state = next } ≡ o → (a ≡ o .reply) × (next ≡ o .state)
+parts a next o e = (ap (λ (x : Outcome). x .reply) e, ap (λ (x : Outcome). x .state) e)
 
-pub whole : (a : Reply) (next : Judge) (o : Outcome) → (a ≡ o .says) × (next ≡ o .leaves) → record { says = a; leaves = next } ≡ o
-whole a next o e = ap₂ (λ (x : Reply) (y : Judge). record { says = x; leaves = y }) (e .0) (e .1)
+pub whole : (a : Reply) (next : Judge) (o : Outcome) → (a ≡ o .reply) × (next ≡ o .state) → record { reply = a; state = next } ≡ o
+whole a next o e = ap₂ (λ (x : Reply) (y : Judge). record { reply = x; state = y }) (e .0) (e .1)
 
-step-to : (j : Judge) (c : Call) (a : Reply) (next : Judge) → MayStep j c a next → (a ≡ stepOf j c .says) × (next ≡ stepOf j c .leaves)
+step-to : (j : Judge) (c : Call) (a : Reply) (next : Judge) → MayStep j c a next → (a ≡ stepOf j c .reply) × (next ≡ stepOf j c .state)
 step-to j (loads f) a next m = parts a next (loadOf j f) (m .2 ∙ m .1 .4 ∙ ap (loadOf j) (m .1 .3))
 step-to j (opens n) a next m = parts a next (openOf j n) (m .2 ∙ m .1 .1)
 step-to j (delivers p w) a next m = parts a next (deliverOf j p w) (m .2 ∙ m .1 .4 ∙ ap (deliverOf j p) (m .1 .3))
 step-to j (withdraws p) a next m = parts a next (withdrawOf j p) (m .2 ∙ m .1 .1)
-step-to j asks a next m = (m .2 ∙ m .1 .1, m .3)
+step-to j asksVerdict a next m = (m .2 ∙ m .1 .1, m .3)
 
-step-back : (j : Judge) (c : Call) (a : Reply) (next : Judge) → (a ≡ stepOf j c .says) × (next ≡ stepOf j c .leaves) → MayStep j c a next
+step-back : (j : Judge) (c : Call) (a : Reply) (next : Judge) → (a ≡ stepOf j c .reply) × (next ≡ stepOf j c .state) → MayStep j c a next
 step-back j (loads f) a next e =
     let r = loading-of j f in
     (r .0, (([], tt), lent f, (j, (lent f, tt)), refl, r .1), whole a next (loadOf j f) e ∙ sym (r .1))
@@ -120,14 +120,14 @@ step-back j (delivers p w) a next e =
 step-back j (withdraws p) a next e =
     let r = withdrawal-of j p in
     (r .0, ((j, (p, tt)), r .1), whole a next (withdrawOf j p) e ∙ sym (r .1))
-step-back j asks a next e = let v = verdict-of j in (v .0, ((j, tt), v .1), e .0 ∙ sym (v .1), e .1)
+step-back j asksVerdict a next e = let v = verdict-of j in (v .0, ((j, tt), v .1), e .0 ∙ sym (v .1), e .1)
 
 asks-nothing : (j : Judge) (c : Call) → AsksStep j c
 asks-nothing j (loads f) = λ κs c e. load-asks-nothing κs j c
 asks-nothing j (opens n) = open-asks-nothing j n
 asks-nothing j (delivers p w) = λ κs c e. deliver-asks-nothing κs j p c
 asks-nothing j (withdraws p) = withdraw-asks-nothing j p
-asks-nothing j asks = judged-asks-nothing j
+asks-nothing j asksVerdict = verdict-asks-nothing j
 
 pub judge-meets : Meets judgeLibrary judgeMachine
 judge-meets = record {
@@ -138,6 +138,6 @@ judge-meets = record {
 }
 
 -- ---- the theorem
-pub after-any-list : (h : List Call) (given : List Reply) (j : Judge)
-    → Execution judgeLibrary h given j ↔ (given ≡ repliesTo h) × (j ≡ judgeAfter h)
+pub after-any-list : (h : List Call) (replies : List Reply) (j : Judge)
+    → Execution judgeLibrary h replies j ↔ (replies ≡ repliesTo h) × (j ≡ judgeAfter h)
 after-any-list = execution-law judgeLibrary judgeMachine judge-meets

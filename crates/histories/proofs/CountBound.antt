@@ -24,13 +24,13 @@ use Rattle.subsets.specs.Sets.{setsOf}
 use Rattle.delegates.specs.Claims.{startsIn}
 use Rattle.chunks.specs.Chunks.{foreign, counted, chunkCount}
 use Rattle.chunks.proofs.Claims as chunks
-use Rattle.calls.specs.Replies.{Reply, accepted, loaded, waiting, keeps, breaks, refused, refusalOf, Judgement, judged}
-use Rattle.calls.specs.Calls.{Call, loads, opens, delivers, withdraws, asks, loadNumber, openConditions, deliverConditions, withdrawConditions, judgementBy}
+use Rattle.calls.specs.Replies.{Reply, accepted, loaded, waiting, yesWith, noWith, refused, refusalOf, Judgement, judged}
+use Rattle.calls.specs.Calls.{Call, loads, opens, delivers, withdraws, asksVerdict, loadNumber, openConditions, deliverConditions, withdrawConditions, judgementBy}
 use Rattle.calls.proofs.Conditions.{over}
 use Rattle.calls.proofs.Refusing.{not-refusal}
 use Rattle.histories.specs.History.{fileOf, ruleIn, openNumber, placesIn, runAt, countOf, deliverCheck, withdrawCheck, standing, deliverNumber, withdrawNumber, emptiesIn, summedIn, yesIn, replyBy}
 use Rattle.histories.specs.Claims.{Sum-fits, Never-24}
-use Rattle.histories.proofs.Taken.{named, past, not-named}
+use Rattle.histories.proofs.Conditions.{named, past, not-named}
 
 -- ---- what a chunk counts
 chunk-most : (ts : List ℕ) (run : ℕ) (w : List ℕ) → chunkCount ts run w ≤ 32 * length w
@@ -71,7 +71,7 @@ standing-short (delivers q v ∷ h) p w e =
     (λ t. standing-short h p w (rw t at e))
 standing-short (withdraws q ∷ h) p w e =
     standing-short h p w (kept (eqb q p && isNone (withdrawCheck (placesIn h) (standing h) q)) (standing h p) w e)
-standing-short (asks ∷ h) p w e = standing-short h p w e
+standing-short (asksVerdict ∷ h) p w e = standing-short h p w e
 
 counted-few : (r : Rule) (p : ℕ) (o : Option (List ℕ)) → ((w : List ℕ) → o ≡ some w → length w ≤ 65536) → countOf r p o ≤ 2097152
 counted-few r p none short = omega arith
@@ -91,7 +91,7 @@ places-few (opens n ∷ h) =
     (λ t. rw t (places-few h))
 places-few (delivers p w ∷ h) = places-few h
 places-few (withdraws p ∷ h) = places-few h
-places-few (asks ∷ h) = places-few h
+places-few (asksVerdict ∷ h) = places-few h
 
 module _ (h : List Call) where
   pub summed-few : summedIn h ≤ 134217728
@@ -138,11 +138,11 @@ unfolding loadNumber named
 never-24 h (loads f) e =
     not-named 24 (fileConditions f ++ (on 9 (over f) ∷ []))
     refl
-    (replied (loadNumber f) (loaded (length (setsOf (ruleOf f .targets) (ruleOf f .n) (ruleOf f .k))) (startsIn (ruleOf f) .count)) refl e)
+    (replied (loadNumber f) (loaded (length (setsOf (ruleOf f .targets) (ruleOf f .n) (ruleOf f .k))) (startsIn (ruleOf f) .startcount)) refl e)
 never-24 h (opens n) e = not-named 24 (openConditions (isNone (fileOf h)) n) refl (replied (openNumber h n) accepted refl e)
 never-24 h (delivers p w) e = never-delivered h p w (replied (deliverNumber h p w) accepted refl e)
 never-24 h (withdraws p) e =
     not-named 24 (withdrawConditions (eqb (placesIn h) 0) (placesIn h) p (isNone (standing h p))) refl
     (replied (withdrawNumber h p) accepted refl e)
-never-24 h asks e =
+never-24 h asksVerdict e =
     never-verdict (eqb (placesIn h) 0) (judgementBy (emptiesIn h) (yesIn h) (summedIn h)) e

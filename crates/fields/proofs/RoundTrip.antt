@@ -12,8 +12,8 @@ use lib.ListN.{length, length-append}
 use Rattle.base.proofs.Tests.{by-test}
 use Rattle.text.specs.Numerals.{decimal, decimalBelow, hexDigit, hex}
 use Rattle.text.proofs.Digits.{one-digit, more-digits, decimal-most}
-use Rattle.fields.specs.Numbers.{allDigits, valueFrom, numberIn}
-use Rattle.fields.specs.Bytes.{hexValue, allHex, pairs, bytesIn}
+use Rattle.fields.specs.Numbers.{allDigits, valueFrom, parseNumber}
+use Rattle.fields.specs.Bytes.{hexValue, allHex, pairs, parseBytes}
 use Rattle.fields.specs.Claims.{AllBytes, digitsOf, fieldOf, Claims}
 use Rattle.fields.proofs.Pairs.{within-so, within-high}
 
@@ -57,8 +57,8 @@ reads-decimal (suc f) n h =
     let p = pow-suc 10 (suc f) in
     rw (more-digits (suc f) n (ltb-false n 10 e)) (reads-more (decimalBelow (suc f) (n / 10)) n (reads-decimal f (n / 10) (omega arith))))
 
-number-again : (n : ℕ) → n ≤ 18446744073709551615 → numberIn (decimal n) ≡ some n
-number-again n h =
+number-round-trip : (n : ℕ) → n ≤ 18446744073709551615 → parseNumber (decimal n) ≡ some n
+number-round-trip n h =
     let r = reads-decimal 19 n (omega arith) in
     let most = decimal-most 19 n (omega arith) in
     rw (le-leb 1 (length (decimal n)) (r .some-digit), le-leb (length (decimal n)) 20 most, r .digits, r .value, le-leb n 18446744073709551615 h)
@@ -110,14 +110,14 @@ unfolding digitsOf
 length-again [] a = refl
 length-again (x ∷ b) a = let i = length-again b (a .1) in length-two x b (a .0) ∙ omega arith
 
-bytes-again : (b : List ℕ) → AllBytes b → bytesIn (fieldOf b) ≡ some b
-unfolding bytesIn
-bytes-again [] a = refl
-bytes-again (x ∷ b) a =
+bytes-round-trip : (b : List ℕ) → AllBytes b → parseBytes (fieldOf b) ≡ some b
+unfolding parseBytes
+bytes-round-trip [] a = refl
+bytes-round-trip (x ∷ b) a =
     let l = length-again (x ∷ b) a in
     let w = digitsOf (x ∷ b) in
     let even : length w % 2 ≡ 0 = omega arith in
     rw (ne-eqb (length w) 1 (λ e. omega arith), le-leb 1 (length w) (omega arith), even, hex-again (x ∷ b) a, pairs-again (x ∷ b) a)
 
 pub claims : Claims
-claims = record { number-again = number-again; bytes-again = bytes-again }
+claims = record { number-round-trip = number-round-trip; bytes-round-trip = bytes-round-trip }

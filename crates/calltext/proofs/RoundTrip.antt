@@ -12,8 +12,8 @@ use Rattle.text.specs.Numerals.{decimalBelow, decimal, hexDigit, hex}
 use Rattle.lines.specs.Splitting.{begins}
 use Rattle.lines.proofs.Over.{Over, over-append, over-less, over-up, over-past}
 use Rattle.fields.specs.Claims.{digitsOf, fieldOf}
-use Rattle.fields.proofs.Again as fields
-use Rattle.calls.specs.Calls.{Call, loads, opens, delivers, withdraws, asks}
+use Rattle.fields.proofs.RoundTrip as fields
+use Rattle.calls.specs.Calls.{Call, loads, opens, delivers, withdraws, asksVerdict}
 use Rattle.calltext.specs.Meaning.{call, load-word, open-word, deliver-word, withdraw-word, loadBy, openBy, withdrawBy, callIn, lineIn}
 use Rattle.calltext.specs.Claims.{Fits, lineOf, Claims}
 
@@ -56,7 +56,7 @@ over-call (opens n) = over-append 10 open-word (decimal n) (search needs) (numbe
 over-call (delivers p w) =
     over-append 10 deliver-word (decimal p ++ (32 ∷ fieldOf w)) (search needs) (over-append 10 (decimal p) (32 ∷ fieldOf w) (number-10 p) (omega arith, field-10 w))
 over-call (withdraws p) = over-append 10 withdraw-word (decimal p) (search needs) (number-10 p)
-over-call asks = search needs
+over-call asksVerdict = search needs
 
 -- ---- the calls
 some-byte : (c : Call) → 1 ≤ length (lineOf c)
@@ -64,20 +64,20 @@ some-byte (loads f) = omega arith
 some-byte (opens n) = omega arith
 some-byte (delivers p w) = omega arith
 some-byte (withdraws p) = omega arith
-some-byte asks = omega arith
+some-byte asksVerdict = omega arith
 
 call-again : (c : Call) → Fits c → callIn (lineOf c) ≡ call c
 unfolding begins callIn
-call-again (loads f) a = ap loadBy (fields.claims .bytes-again f a)
-call-again (opens n) a = ap openBy (fields.claims .number-again n a)
+call-again (loads f) a = ap loadBy (fields.claims .bytes-round-trip f a)
+call-again (opens n) a = ap openBy (fields.claims .number-round-trip n a)
 call-again (delivers p w) a =
     let space = over-less 32 47 (decimal p) (omega arith) (over-decimal 20 p) in
-    rw (over-up 32 (fieldOf w) (decimal p) space, over-past 32 (fieldOf w) (decimal p) space, fields.claims .number-again p (a .0), fields.claims .bytes-again w (a .1))
-call-again (withdraws p) a = ap withdrawBy (fields.claims .number-again p a)
-call-again asks a = refl
+    rw (over-up 32 (fieldOf w) (decimal p) space, over-past 32 (fieldOf w) (decimal p) space, fields.claims .number-round-trip p (a .0), fields.claims .bytes-round-trip w (a .1))
+call-again (withdraws p) a = ap withdrawBy (fields.claims .number-round-trip p a)
+call-again asksVerdict a = refl
 
-line-again : (c : Call) → Fits c → lineIn (lineOf c) ≡ call c
-line-again c a = rw (ne-eqb (length (lineOf c)) 0 (λ e. omega (arith, some-byte c))) (call-again c a)
+line-round-trip : (c : Call) → Fits c → lineIn (lineOf c) ≡ call c
+line-round-trip c a = rw (ne-eqb (length (lineOf c)) 0 (λ e. omega (arith, some-byte c))) (call-again c a)
 
 pub claims : Claims
-claims = record { line-again = line-again }
+claims = record { line-round-trip = line-round-trip }

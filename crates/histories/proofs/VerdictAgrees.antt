@@ -24,17 +24,17 @@ use Rattle.calls.specs.Calls.{Call, verdictBy}
 use Rattle.calls.specs.Steps.{lacksBoard, isYes, verdictOf}
 use Rattle.histories.specs.History.{fileOf, ruleFrom, placesIn, endOf, standing, emptiesIn, summedIn, yesIn, verdictIn}
 use Rattle.histories.proofs.Running.{n-same, merged}
-use Rattle.histories.proofs.Holding.{Holds}
+use Rattle.histories.proofs.Agreement.{Agrees}
 use Rattle.histories.proofs.Numbers.{no-board, places-same, summed-same}
-use Rattle.histories.proofs.Listed.{Good}
+use Rattle.histories.proofs.Steps.{AgreesWith}
 
-module _ (file : Option (List ℕ)) (places : ℕ) (at : ℕ → Option (List ℕ)) (j : Judge) (holds : Holds file places at j) where
+module _ (file : Option (List ℕ)) (places : ℕ) (at : ℕ → Option (List ℕ)) (j : Judge) (holds : Agrees file places at j) where
   pub empties-same : emptyPlaces (j .board) ≡ total (λ p. cond (isNone (at p)) 1 0) places
   empties-same =
       empty-law (j .board) (λ p. isNone (at p)) (λ p l. holds .empty p (omega (arith, l)))
       ∙ ap (total (λ p. cond (isNone (at p)) 1 0)) (places-same file places at j holds)
 
-yes-same : (f : List ℕ) (places : ℕ) (at : ℕ → Option (List ℕ)) (j : Judge) → Holds (some f) places at j
+yes-same : (f : List ℕ) (places : ℕ) (at : ℕ → Option (List ℕ)) (j : Judge) → Agrees (some f) places at j
     → isYes j
     ≡ yesOf (λ p q. endOf (ruleOf f) p q (at p)) (delegateIn (startsIn (ruleOf f) .delegates)) (ruleOf f .n) (ruleOf f .initials) (ruleOf f .finals) places
 yes-same f places at j holds =
@@ -48,14 +48,14 @@ yes-same f places at j holds =
     ∙ joins.claims .join-same (heldIn (j .board .ends)) (λ p q. endOf r p q (at p)) (delegateIn d) (r .n) (r .initials) places
     (λ p q l b. holds .ends p (delegateIn d q) (omega (arith, l, holds .few)) (states q b))))
 
-pub by-rule : (file : Option (List ℕ)) (places : ℕ) (at : ℕ → Option (List ℕ)) (j : Judge) → Holds file places at j → 0 < places
+pub by-rule : (file : Option (List ℕ)) (places : ℕ) (at : ℕ → Option (List ℕ)) (j : Judge) → Agrees file places at j → 0 < places
     → isYes j
     ≡ yesOf (λ p q. endOf (ruleFrom file) p q (at p)) (delegateIn (startsIn (ruleFrom file) .delegates)) (ruleFrom file .n) (ruleFrom file .initials) (ruleFrom file .finals) places
 by-rule none places at j holds h = not-both refl (holds .ruled h)
 by-rule (some f) places at j holds h = yes-same f places at j holds
 
 -- no board on either side, or the same numbers
-pub verdict-says : (h : List Call) (j : Judge) → Good h j → verdictOf j ≡ verdictIn h
+pub verdict-says : (h : List Call) (j : Judge) → AgreesWith h j → verdictOf j ≡ verdictIn h
 unfolding verdictOf
 verdict-says h j good =
     let s = standing h in

@@ -8,8 +8,8 @@ use Rattle.lines.proofs.Over.{over-line}
 use Rattle.calls.specs.Calls.{Call}
 use Rattle.calltext.specs.Meaning.{Meaning}
 use Rattle.calltext.specs.Claims.{lineOf}
-use Rattle.calltext.proofs.Again.{over-call}
-use Rattle.calltext.proofs.Again as calltext
+use Rattle.calltext.proofs.RoundTrip.{over-call}
+use Rattle.calltext.proofs.RoundTrip as calltext
 use Rattle.replay.specs.Records.{calls, readOn, readLines, recordIn}
 use Rattle.replay.specs.Claims.{AllFit, recordOf, Claims}
 
@@ -19,7 +19,7 @@ read-on : (i : ℕ) (c : Call) (h : List Call) (y : List ℕ) → AllFit (c ∷ 
 unfolding readLines
 read-on i c h y a =
     rw (over-line (lineOf c) y (over-call c))
-    (ap (λ (m : Meaning). readLines (readOn i h m) (suc i) (linesFrom [] y)) (calltext.claims .line-again c (a .0)))
+    (ap (λ (m : Meaning). readLines (readOn i h m) (suc i) (linesFrom [] y)) (calltext.claims .line-round-trip c (a .0)))
 
 -- a text y behind the record of h is read after the calls h
 read-record : (h : List Call) (y : List ℕ) → AllFit h
@@ -30,9 +30,9 @@ read-record (c ∷ h) y a =
     rw (append-assoc (recordOf h) (lineOf c ++ (10 ∷ [])) y, append-assoc (lineOf c) (10 ∷ []) y)
     (read-record h (lineOf c ++ (10 ∷ y)) (a .1) ∙ read-on (suc (length h)) c h y a)
 
-record-again : (h : List Call) → AllFit h → recordIn (recordOf h) ≡ calls h
+record-round-trip : (h : List Call) → AllFit h → recordIn (recordOf h) ≡ calls h
 unfolding linesFrom readLines
-record-again h a = rw append-nil at (read-record h [] a)
+record-round-trip h a = rw append-nil at (read-record h [] a)
 
 pub claims : Claims
-claims = record { record-again = record-again }
+claims = record { record-round-trip = record-round-trip }

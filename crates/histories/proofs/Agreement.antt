@@ -1,4 +1,4 @@
--- The state agrees with a rule and with a chunk at each place, or none: `Holds`. A fresh judge agrees with nothing, a load brings a rule, an
+-- The state agrees with a rule and with a chunk at each place, or none: `Agrees`. A fresh judge agrees with nothing, a load brings a rule, an
 -- opening empties all places, a delivery changes one place and a withdrawal empties one. Assumes nothing.
 use mathlib.Core.Path.{_≡_, refl, sym, ap, _∙_, subst}
 use mathlib.Core.Bool.{false, cond}
@@ -13,7 +13,7 @@ use Rattle.base.specs.Options.{isNone}
 use Rattle.base.proofs.Options.{none-some}
 use Rattle.base.proofs.Tests.{by-test}
 use Rattle.ruleformat.specs.Reader.{ruleOf}
-use Rattle.delegates.specs.Alike.{Text}
+use Rattle.automaton.specs.Automaton.{Text}
 use Rattle.build.specs.Building.{noBuilt}
 use Rattle.board.specs.declared.Board.{Board}
 use Rattle.board.specs.Boards.{held, isEmpty, emptyBoard, filledAt, clearedAt}
@@ -24,7 +24,7 @@ use Rattle.calls.specs.Steps.{fresh, withBoard, runsAt}
 use Rattle.histories.specs.Claims.{BuiltBy}
 use Rattle.histories.proofs.Running.{count-same, end-same}
 
-pub record Holds (file : Option (List ℕ)) (places : ℕ) (at : ℕ → Option (List ℕ)) (j : Judge) : Type 0 where
+pub record Agrees (file : Option (List ℕ)) (places : ℕ) (at : ℕ → Option (List ℕ)) (j : Judge) : Type 0 where
   pub rule : BuiltBy file j
   pub sized : Sized (j .board)
   pub places-are : j .board .places ≡ places
@@ -41,7 +41,7 @@ nothing : ℕ → Option (List ℕ)
 nothing p = none
 
 module _ (file : Option (List ℕ)) (n : ℕ) (j : Judge) (rule : BuiltBy file j) (is : j .board ≡ emptyBoard n) (few : n ≤ 64) (ruled : 0 < n → isNone file ≡ false) where
-  pub all-empty : Holds file n (λ p. none) j
+  pub all-empty : Agrees file n (λ p. none) j
   unfolding emptyBoard
   all-empty = record {
     rule = rule;
@@ -56,7 +56,7 @@ module _ (file : Option (List ℕ)) (n : ℕ) (j : Judge) (rule : BuiltBy file j
     counts = λ p h. ap (λ b. getD (b .counts) p 0) is ∙ empty-count n p;
   }
 
-pub fresh-holds : Holds none 0 (λ p. none) fresh
+pub fresh-holds : Agrees none 0 (λ p. none) fresh
 unfolding fresh
 fresh-holds = all-empty none 0 (record { built = noBuilt; board = emptyBoard 0 }) refl refl (omega arith) (λ h. absurd (omega arith))
 
@@ -81,13 +81,13 @@ module _ (at : ℕ → Option (List ℕ)) (p : ℕ) (new : Option (List ℕ)) wh
       (λ e. let z = eqb-true i p e in subst (λ (x : ℕ). P x (placed at p new x)) (sym z) (subst (P p) (sym placed-own) own))
       (λ e. let ne = eqb-false i p e in subst (P i) (sym (placed-other i ne)) (other i ne))
 
-module _ (file : Option (List ℕ)) (places : ℕ) (at : ℕ → Option (List ℕ)) (j : Judge) (holds : Holds file places at j) (p : ℕ) (h : p < places) where
+module _ (file : Option (List ℕ)) (places : ℕ) (at : ℕ → Option (List ℕ)) (j : Judge) (holds : Agrees file places at j) (p : ℕ) (h : p < places) where
   pub place-below : p < 64
   place-below = omega (arith, h, holds .few)
 
   changed-holds : (new : Option (List ℕ)) (c : Board) → ((w : List ℕ) → new ≡ some w → Text (ruleFrom file .k) w)
       → Changed (j .board) c p (isNone new) (countOf (ruleFrom file) p new) (λ q. endOf (ruleFrom file) p q new)
-      → Holds file places (placed at p new) (withBoard j c)
+      → Agrees file places (placed at p new) (withBoard j c)
   changed-holds new c text changed = record {
     rule = kept file (holds .rule);
     sized = changed .sized;
@@ -115,19 +115,19 @@ module _ (file : Option (List ℕ)) (places : ℕ) (at : ℕ → Option (List �
       kept none e = e
       kept (some f) e = e
 
-  pub cleared-holds : Holds file places (placed at p none) (withBoard j (clearedAt (j .board) p))
+  pub cleared-holds : Agrees file places (placed at p none) (withBoard j (clearedAt (j .board) p))
   cleared-holds =
       changed-holds none (clearedAt (j .board) p) (λ w e. none-some refl e) (cleared-at (j .board) p (holds .sized) place-below)
 
 -- ---- a chunk is run and kept
-module _ (f : List ℕ) (places : ℕ) (at : ℕ → Option (List ℕ)) (j : Judge) (holds : Holds (some f) places at j) (p : ℕ) (h : p < places) (w : List ℕ) (text : Text (ruleOf f .k) w) where
+module _ (f : List ℕ) (places : ℕ) (at : ℕ → Option (List ℕ)) (j : Judge) (holds : Agrees (some f) places at j) (p : ℕ) (h : p < places) (w : List ℕ) (text : Text (ruleOf f .k) w) where
   pub run-count : runsAt j p w .count ≡ countOf (ruleOf f) p (some w)
   run-count = rw (holds .rule .0) (count-same (ruleOf f) (holds .rule .1) (holds .rule .2) p w text)
 
   run-end : (q : ℕ) → q < 32 → getD (runsAt j p w .ends) q 0 ≡ endOf (ruleOf f) p q (some w)
   run-end q l = rw (holds .rule .0) (end-same (ruleOf f) (holds .rule .1) (holds .rule .2) p w text q l)
 
-  pub filled-holds : Holds (some f) places (placed at p (some w)) (withBoard j (filledAt (j .board) p (runsAt j p w)))
+  pub filled-holds : Agrees (some f) places (placed at p (some w)) (withBoard j (filledAt (j .board) p (runsAt j p w)))
   filled-holds =
       let c = filled-at (j .board) p (holds .sized) (place-below (some f) places at j holds p h) (runsAt j p w) in
       changed-holds (some f) places at j holds p h (some w) (filledAt (j .board) p (runsAt j p w))

@@ -1,8 +1,8 @@
--- `judged` meets its contract. Assumes nothing.
+-- `ask_verdict` meets its contract. Assumes nothing.
 use Rattle.calls.proofs.Ways.{verdict-21, verdict-waiting, verdict-yes, verdict-no}
 use borrow.Author.Needs.{needs}
-use Rattle.judge.proofs.judged.Statement.{statement}
-use Rattle.judge.proofs.judged.Tie as tie
+use Rattle.judge.proofs.ask_verdict.Statement.{statement}
+use Rattle.judge.proofs.ask_verdict.Tie as tie
 
 returns : tie.Need-returns
 returns c = search (needs, verdict-21)
@@ -25,8 +25,8 @@ returns-3 c = search (needs, verdict-yes)
 returns-4 : tie.Need-returns-4
 returns-4 c = search (needs, verdict-no)
 
-pub judged-spec : {M : Type 1} → statement M
-judged-spec =
+pub ask-verdict-spec : {M : Type 1} → statement M
+ask-verdict-spec =
     tie.close
     (tie.spec
     returns

@@ -24,12 +24,11 @@ use Rattle.base.proofs.Tests.{by-test, or-left, zero-one, not-both}
 use Rattle.base.proofs.Totals.{total-same, term-most}
 use Rattle.masks.specs.Masks.{has}
 use Rattle.automaton.specs.declared.Rule.{Rule}
-use Rattle.automaton.specs.Automaton.{Accepts}
+use Rattle.automaton.specs.Automaton.{Accepts, Text}
 use Rattle.automaton.specs.Rules.{automatonOf, WellFormed}
 use Rattle.ruleformat.specs.Reader.{ruleOf}
 use Rattle.ruleformat.proofs.Claims as rulefile
 use Rattle.subsets.specs.Claims.{fits}
-use Rattle.delegates.specs.Alike.{Text}
 use Rattle.delegates.specs.Claims.{startsIn}
 use Rattle.chunks.specs.Chunks.{counted, endSet, chunkCount}
 use Rattle.joins.specs.Joining.{yesOf}
@@ -37,14 +36,14 @@ use Rattle.joins.specs.Claims.{delegateIn}
 use Rattle.joins.specs.Claims as joins-specs
 use Rattle.joins.proofs.Claims as joins
 use Rattle.calls.specs.declared.Judge.{Judge}
-use Rattle.calls.specs.Replies.{waiting, keeps, breaks, Reply, judged, refused}
+use Rattle.calls.specs.Replies.{waiting, yesWith, noWith, Reply, judged, refused}
 use Rattle.calls.proofs.Conditions.{not-refused}
 use Rattle.histories.specs.History.{fileOf, ruleFrom, openNumber, boardIn, placesIn, runAt, countOf, endOf, standing, emptiesIn, summedIn, yesIn, chunkOf, joinedUpTo}
-use Rattle.calls.specs.Calls.{Call, loads, opens, delivers, withdraws, asks, loadNumber, verdictBy}
-use Rattle.histories.specs.Claims.{automatonBy, Verdict-words}
+use Rattle.calls.specs.Calls.{Call, loads, opens, delivers, withdraws, asksVerdict, loadNumber, verdictBy}
+use Rattle.histories.specs.Claims.{automatonBy, VerdictClauses}
 use Rattle.histories.proofs.Running.{merged}
-use Rattle.histories.proofs.Holding.{Holds}
-use Rattle.histories.proofs.Listed.{Good, file-accepted}
+use Rattle.histories.proofs.Agreement.{Agrees}
+use Rattle.histories.proofs.Steps.{AgreesWith, file-accepted}
 
 -- ---- the verdict by its numbers
 module _ (places empties : ℕ) (yes-there : Bool) (sum : ℕ) where
@@ -55,8 +54,8 @@ module _ (places empties : ℕ) (yes-there : Bool) (sum : ℕ) where
   data Which : Type 0 where
     no-board : places ≡ 0 → by-numbers ≡ refused 21 → Which
     waits : 0 < places → 0 < empties → by-numbers ≡ judged (waiting empties) → Which
-    says-yes : 0 < places → empties ≡ 0 → yes-there ≡ true → by-numbers ≡ judged (keeps sum) → Which
-    says-no : 0 < places → empties ≡ 0 → yes-there ≡ false → by-numbers ≡ judged (breaks sum) → Which
+    says-yes : 0 < places → empties ≡ 0 → yes-there ≡ true → by-numbers ≡ judged (yesWith sum) → Which
+    says-no : 0 < places → empties ≡ 0 → yes-there ≡ false → by-numbers ≡ judged (noWith sum) → Which
 
   which : Which
   which =
@@ -102,7 +101,7 @@ module _ (places empties : ℕ) (t : Bool) (sum : ℕ) where
       back : 0 < places → 0 < w → w ≡ empties → by-numbers places empties t sum ≡ judged (waiting w)
       back p q e = rw (ne-eqb places 0 (λ z. absurd (omega arith)), ne-eqb empties 0 (λ z. absurd (omega arith))) (ap (λ (n : ℕ). judged (waiting n)) (sym e))
 
-  yes-count : (c : ℕ) → by-numbers places empties t sum ≡ judged (keeps c) → c ≡ sum
+  yes-count : (c : ℕ) → by-numbers places empties t sum ≡ judged (yesWith c) → c ≡ sum
   yes-count c x = to (which places empties t sum)
     where
       to : Which places empties t sum → c ≡ sum
@@ -111,7 +110,7 @@ module _ (places empties : ℕ) (t : Bool) (sum : ℕ) where
       to (says-yes p q y e) = cc
       to (says-no p q y e) = absurd-reply (cc)
 
-  no-count : (c : ℕ) → by-numbers places empties t sum ≡ judged (breaks c) → c ≡ sum
+  no-count : (c : ℕ) → by-numbers places empties t sum ≡ judged (noWith c) → c ≡ sum
   no-count c x = to (which places empties t sum)
     where
       to : Which places empties t sum → c ≡ sum
@@ -120,25 +119,25 @@ module _ (places empties : ℕ) (t : Bool) (sum : ℕ) where
       to (says-yes p q y e) = absurd-reply (cc)
       to (says-no p q y e) = cc
 
-  no-law : 0 < places → empties ≡ 0 → (by-numbers places empties t sum ≡ judged (breaks sum)) ↔ (t ≡ false)
+  no-law : 0 < places → empties ≡ 0 → (by-numbers places empties t sum ≡ judged (noWith sum)) ↔ (t ≡ false)
   no-law p e = (
     (λ x. to (which places empties t sum) x),
     λ y. rw (ne-eqb places 0 (λ z. absurd (omega arith)), eq-eqb empties 0 e, y),
   )
     where
-      to : Which places empties t sum → by-numbers places empties t sum ≡ judged (breaks sum) → t ≡ false
+      to : Which places empties t sum → by-numbers places empties t sum ≡ judged (noWith sum) → t ≡ false
       to (no-board z w) x = absurd (omega arith)
       to (waits z w v) x = absurd (omega arith)
       to (says-yes z w y v) x = absurd-reply (cc)
       to (says-no z w y v) x = y
 
-  yes-law : 0 < places → empties ≡ 0 → (by-numbers places empties t sum ≡ judged (keeps sum)) ↔ (t ≡ true)
+  yes-law : 0 < places → empties ≡ 0 → (by-numbers places empties t sum ≡ judged (yesWith sum)) ↔ (t ≡ true)
   yes-law p e = (
     (λ x. to (which places empties t sum) x),
     λ y. rw (ne-eqb places 0 (λ z. absurd (omega arith)), eq-eqb empties 0 e, y),
   )
     where
-      to : Which places empties t sum → by-numbers places empties t sum ≡ judged (keeps sum) → t ≡ true
+      to : Which places empties t sum → by-numbers places empties t sum ≡ judged (yesWith sum) → t ≡ true
       to (no-board z w) x = absurd (omega arith)
       to (waits z w v) x = absurd (omega arith)
       to (says-yes z w y v) x = y
@@ -210,14 +209,14 @@ module _ (r : Rule) (good : WellFormed r) (fit : fits r) (places : ℕ) (at : �
   count-is p none = sym (empty-count (r .targets) (runAt r p))
   count-is p (some w) = refl
 
-  sum-most : total (λ p. countOf r p (at p)) places ≤ startsIn r .count * length (joinedUpTo at places)
+  sum-most : total (λ p. countOf r p (at p)) places ≤ startsIn r .startcount * length (joinedUpTo at places)
   sum-most =
       let ws = chunksUpTo at places in
       let e : total (λ p. countOf r p (at p)) places ≡ joins-specs.countOf r (startsIn r .delegates) ws =
       total-same (λ p. countOf r p (at p)) (λ p. chunkCount (r .targets) (runAt r p) (getD ws p [])) places
       (λ p l. count-is p (at p) ∙ ap (chunkCount (r .targets) (runAt r p)) (sym (chunk-at at places p l)))
       ∙ ap (total (λ p. chunkCount (r .targets) (runAt r p) (getD ws p []))) (sym (chunks-length at places)) in
-      rw (e, joined-is at places) (joins.claims .count-most r good (startsIn r .delegates) (startsIn r .count) (merged r good fit) ws)
+      rw (e, joined-is at places) (joins.claims .count-most r good (startsIn r .delegates) (startsIn r .startcount) (merged r good fit) ws)
 
   filled : (p : ℕ) (o : Option (List ℕ)) → isNone o ≡ false → (q : ℕ) → endOf r p q o ≡ endSet (r .targets) (runAt r p) (chunkOf o) q
   filled p none e q = zero-one cc
@@ -240,23 +239,23 @@ module _ (r : Rule) (good : WellFormed r) (fit : fits r) (places : ℕ) (at : �
   accepts-law texts z =
       let ws = chunksUpTo at places in
       let d = startsIn r .delegates in
-      let holds : joins-specs.Holds r d held-at ws =
+      let holds : joins-specs.HoldsEnds r d held-at ws =
       λ p l q b.
       let lp : p < places = rw (chunks-length at places) at l in
       filled p (at p) (none-empty z p lp) q ∙ ap (λ (w : List ℕ). endSet (r .targets) (runAt r p) w q) (sym (chunk-at at places p lp)) in
       subst₂ (λ (x : ℕ) (y : List ℕ). (yesOf held-at (delegateIn d) (r .n) (r .initials) (r .finals) x ≡ true) ↔ Accepts (automatonOf r) y)
       (chunks-length at places)
       (sym (joined-is at places))
-      (joins.claims .join r good d (startsIn r .count) (merged r good fit) held-at ws (chunk-texts (r .k) at texts places) holds)
+      (joins.claims .join r good d (startsIn r .startcount) (merged r good fit) held-at ws (chunk-texts (r .k) at texts places) holds)
 
-  place-most : (p : ℕ) → countOf r p (at p) ≤ startsIn r .count * length (chunkOf (at p))
+  place-most : (p : ℕ) → countOf r p (at p) ≤ startsIn r .startcount * length (chunkOf (at p))
   place-most p =
-      rw (count-is p (at p)) (joins.claims .place-most r good (startsIn r .delegates) (startsIn r .count) (merged r good fit) p (chunkOf (at p)))
+      rw (count-is p (at p)) (joins.claims .place-most r good (startsIn r .delegates) (startsIn r .startcount) (merged r good fit) p (chunkOf (at p)))
 
 -- ---- for every list of calls
 module _ (places : ℕ) (at : ℕ → Option (List ℕ)) (j : Judge) where
-  most-by : (file : Option (List ℕ)) → Holds file places at j
-      → total (λ p. countOf (ruleFrom file) p (at p)) places ≤ startsIn (ruleFrom file) .count * length (joinedUpTo at places)
+  most-by : (file : Option (List ℕ)) → Agrees file places at j
+      → total (λ p. countOf (ruleFrom file) p (at p)) places ≤ startsIn (ruleFrom file) .startcount * length (joinedUpTo at places)
   unfolding total
   most-by none holds =
       by-test (ltb 0 places)
@@ -265,8 +264,8 @@ module _ (places : ℕ) (at : ℕ → Option (List ℕ)) (j : Judge) where
   most-by (some f) holds =
       sum-most (ruleOf f) (holds .rule .1) (holds .rule .2) places at
 
-  place-by : (file : Option (List ℕ)) → Holds file places at j → (p : ℕ)
-      → countOf (ruleFrom file) p (at p) ≤ startsIn (ruleFrom file) .count * length (chunkOf (at p))
+  place-by : (file : Option (List ℕ)) → Agrees file places at j → (p : ℕ)
+      → countOf (ruleFrom file) p (at p) ≤ startsIn (ruleFrom file) .startcount * length (chunkOf (at p))
   place-by none holds p =
       let free : places ≤ p = by-test (ltb 0 places)
       (λ l. not-both refl (holds .ruled (ltb-true 0 places l)))
@@ -275,7 +274,7 @@ module _ (places : ℕ) (at : ℕ → Option (List ℕ)) (j : Judge) where
   place-by (some f) holds p = place-most (ruleOf f) (holds .rule .1) (holds .rule .2) places at p
 
   -- the file's automaton and the rule's accept the same texts
-  accepts-by : (file : Option (List ℕ)) → ((f : List ℕ) → file ≡ some f → loadNumber f ≡ none) → Holds file places at j → 0 < places
+  accepts-by : (file : Option (List ℕ)) → ((f : List ℕ) → file ≡ some f → loadNumber f ≡ none) → Agrees file places at j → 0 < places
       → total (λ p. cond (isNone (at p)) 1 0) places ≡ 0
       → (yesOf (λ p q. endOf (ruleFrom file) p q (at p)) (delegateIn (startsIn (ruleFrom file) .delegates)) (ruleFrom file .n) (ruleFrom file .initials) (ruleFrom file .finals) places ≡ true)
       ↔ Accepts (automatonBy file) (joinedUpTo at places)
@@ -309,7 +308,7 @@ board-law (opens n ∷ h) =
     accepted-opening (some x) z t = zero-one cc
 board-law (delivers p w ∷ h) = board-law h
 board-law (withdraws p ∷ h) = board-law h
-board-law (asks ∷ h) = board-law h
+board-law (asksVerdict ∷ h) = board-law h
 
 pub there : (h : List Call) → boardIn h ≡ true → 0 < placesIn h
 there h e = ltb-true 0 (placesIn h) (sym (board-law h) ∙ e)
@@ -318,7 +317,7 @@ not-true-false : (t : Bool) {A : Type 0} → (t ≡ true) ↔ A → (t ≡ false
 not-true-false true law = (λ e. zero-one cc, λ n. absurd (n (law .0 refl)))
 not-true-false false law = (λ e a. let z = law .1 a in zero-one cc, λ n. refl)
 
-pub words : (h : List Call) (j : Judge) → Good h j → Verdict-words h
+pub words : (h : List Call) (j : Judge) → AgreesWith h j → VerdictClauses h
 words h j good =
     let s = standing h in
     record {
