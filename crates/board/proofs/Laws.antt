@@ -1,10 +1,15 @@
--- The laws of the board, place by place: a new board, a board with one place changed, which filling and clearing are, and what the empty places
--- and the summed count come to. Assumes the lengths of the arrays (`Sized`), which a new board has and every change keeps.
+-- The laws of the board, place by place: a new board, a board with one place changed, which filling
+-- and clearing are, and what the empty places and the summed count come to. Assumes the lengths of
+-- the arrays (`Sized`), which a new board has and every change keeps.
 --
---   sized-empty, empty-all, empty-held, empty-count   a new board: all places empty, no end sets, counts 0
---   Changed                                           one place has been changed, and the others are as before
---   filled-at, cleared-at                             filling and clearing change their place alone, and to what
---   empty-law, summed-law                             the empty places and the summed count, from what is known of each place
+--   sized-empty, empty-all, empty-held, empty-count   a new board: all places empty, no end sets,
+--                                                     counts 0
+--   Changed                                           one place has been changed, and the others
+--                                                     are as before
+--   filled-at, cleared-at                             filling and clearing change their place
+--                                                     alone, and to what
+--   empty-law, summed-law                             the empty places and the summed count, from
+--                                                     what is known of each place
 use mathlib.Core.Path.{_≡_, refl, ap, _∙_}
 use mathlib.Core.Bool.{Bool, true, false, cond}
 use Prim.Native.Nat.{ℕ, _+_, _*_, _<_}

@@ -1,5 +1,5 @@
--- The rows of a board's end sets, 32 cells a place: a row that is stored cell by cell, and the cells once it is stored.
--- Assumes nothing.
+-- The rows of a board's end sets, 32 cells a place: a row that is stored cell by cell, and the
+-- cells once it is stored. Assumes nothing.
 use mathlib.Core.Path.{_≡_, refl, ap, _∙_}
 use mathlib.Core.Logic.{_⊎_, inl, inr, ⊎-elim}
 use mathlib.Core.Bool.{cond}

@@ -1,5 +1,6 @@
--- The board (document 01, "The board and its calls"): for each place whether it is filled, the count of its chunk and the end set of each state.
--- Any value of any field is a board: a filled mark is a number, 0 for empty, and a number of places above 64 counts as 64.
+-- The board (document 01, "The board and its calls"): for each place whether it is filled, the
+-- count of its chunk and the end set of each state. Any value of any field is a board: a filled
+-- mark is a number, 0 for empty, and a number of places above 64 counts as 64.
 --
 --   placesOf b         the number of places
 --   held b p q         the end set of state q at place p

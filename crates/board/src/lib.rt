@@ -1,4 +1,5 @@
-// The board: what stands at each place. Any value of any field is taken: a number of places above 64 counts as 64.
+// The board: what stands at each place. Any value of any field is taken: a number of places above
+// 64 counts as 64.
 ghost use mathlib.Core.Path.{_≡_};
 ghost use Prim.Native.Nat.{_≤_, _<_};
 ghost use mathlib.Core.Bool.{cond};
@@ -9,8 +10,8 @@ ghost use Rattle.base.specs.Totals.{total};
 ghost use Rattle.board.specs.Boards.{placesOf, isEmpty, emptyBoard, rowSet, filledAt, clearedAt, emptyPlaces, summedCount};
 use chunks::Runs;
 
-// For each of up to 64 places whether it is filled (0 for empty), the count of its chunk, and 32 end sets, one for each state. In a new board
-// every cell is 0.
+// For each of up to 64 places whether it is filled (0 for empty), the count of its chunk, and 32
+// end sets, one for each state. In a new board every cell is 0.
 #[repr(C)]
 pub struct Board {
     pub places: u8,

@@ -1,5 +1,5 @@
--- The proof of all that specs/Claims.antt claims: the claims of the numbered sets and of the merged starts, brought to the built rule.
--- Assumes nothing.
+-- The proof of all that specs/Claims.antt claims: the claims of the numbered sets and of the merged
+-- starts, brought to the built rule. Assumes nothing.
 use mathlib.Core.Path.{_≡_, _∙_}
 use Prim.Native.Nat.{ℕ, _≤_, _<_}
 use native.Mathlib.Omega.{arith}

@@ -1,11 +1,14 @@
--- What building a rule answers (document 01, "Load: check and build a rule", of which this is the part after the file is read).
+-- What building a rule answers (document 01, "Load: check and build a rule", of which this is the
+-- part after the file is read).
 --
---   BuildReply, buildMeans   document 01's answer: accepted with the number of sets and M, or refused with a number; and what each case of the
---                  code's answer says
---   builtOf r      the rule r built: its sets, its next-set table, its delegates and M, and what running needs
+--   BuildReply, buildMeans   document 01's answer: accepted with the number of sets and M, or
+--                            refused with a number; and what each case of the code's answer says
+--   builtOf r      the rule r built: its sets, its next-set table, its delegates and M, and what
+--                  running needs
 --   noBuilt        zeros, which a refusal carries
---   Outcome, buildOutcome   what building came to: what the answer says, and the built rule; and the outcome that the code's result tells
---   buildOf r      what building the rule r comes to
+--   Outcome, buildOutcome   the outcome of building: the answer, and the built rule; and
+--                           the outcome that the code's result stands for
+--   buildOf r      the outcome of building the rule r
 use mathlib.Core.Bool.{cond}
 use mathlib.Core.List.{List}
 use Prim.Native.Nat.{ℕ, min}

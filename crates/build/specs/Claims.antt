@@ -1,5 +1,5 @@
--- What a built rule means, for every well-formed rule with at most 512 sets; proofs/Claims.antt proves it. What its sets and its table are is
--- claimed in crates/subsets.
+-- What a built rule means, for every well-formed rule with at most 512 sets; proofs/Claims.antt
+-- proves it. What its sets and its table are is claimed in crates/subsets.
 use mathlib.Core.Path.{_≡_}
 use Prim.Native.Nat.{ℕ, _<_}
 use lib.ListN.{getD}

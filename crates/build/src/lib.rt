@@ -4,8 +4,8 @@ ghost use Rattle.build.specs.Building.{noBuilt, buildOutcome, buildOf};
 use automaton::Rule;
 use subsets::Numbering;
 
-// A rule that is built. startcount is M; singles has the number of {q} for each state q. Any cell of next or singles at or above 512 reads as
-// the empty set.
+// A rule that is built. startcount is M; singles has the number of {q} for each state q. Any cell
+// of next or singles at or above 512 reads as the empty set.
 #[repr(C)]
 pub struct Built {
     pub n: u8,
@@ -54,7 +54,8 @@ pub fn nothing_built() -> Built
     }
 }
 
-// The rule built, or a refusal with 9 where it has more than 512 sets. Any value is taken, also one that no file gives.
+// The rule built, or a refusal with 9 where it has more than 512 sets. Any value is taken, also one
+// that no file gives.
 pub fn build_rule(rule: Rule) -> BuildResult
     ensures { λ r. ⌜ buildOutcome r ≡ buildOf rule ⌝ }
 {

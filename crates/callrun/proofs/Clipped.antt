@@ -1,8 +1,10 @@
--- A file or a chunk that is too long is refused by its length alone, so its first bytes stand for it. Assumes nothing.
+-- A file or a chunk that is too long is refused by its length alone, so its first bytes stand for
+-- it. Assumes nothing.
 --
 --   long-load                    the number is 2
---   loads-long, delivers-long    one that is too long comes to what any other comes to
---   loads-clip, delivers-clip    the first bytes, one more than the limit at least, come to what all of them come to
+--   loads-long, delivers-long    one that is too long has the outcome of any other
+--   loads-clip, delivers-clip    the first bytes, one more than the limit at least, come to what
+--                                all of them come to
 use mathlib.Core.Path.{_≡_, refl, ap}
 use mathlib.Core.Bool.{Bool, true, false, cond}
 use mathlib.Core.List.{List}

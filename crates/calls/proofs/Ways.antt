@@ -1,4 +1,5 @@
--- Each way out of each call's definition: the facts that lead there, in the order in which the code finds them, and the answer. Assumes nothing.
+-- Each way out of each call's definition: the facts that lead there, in the order in which the code
+-- finds them, and the answer. Assumes nothing.
 --
 --   fresh-by                                                fresh
 --   open-20, open-few, open-many, opened                    openOf

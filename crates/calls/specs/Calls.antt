@@ -1,9 +1,13 @@
--- The calls of document 01, and the conditions for a refusal of each in its order. A call is refused with the number of the first condition that
--- holds, and accepted where none does. The conditions stand over what a call looks at, so that they serve for a state and for a list of calls.
+-- The calls of document 01, and the conditions for a refusal of each in its order. A call is
+-- refused with the number of the first condition that holds, and accepted where none does. The
+-- conditions stand over what a call looks at, so that they serve for a state and for a list of
+-- calls.
 --
 --   Call               load, open, deliver, withdraw and verdict, with what they are given
---   loadNumber f       the number with which a load of the file f is refused, 1 to 9, or none where it is accepted
---   openConditions, deliverConditions, withdrawConditions   20, 10; 21, 11, 12, 13, 22, 24; 21, 11, 23
+--   loadNumber f       the number with which a load of the file f is refused, 1 to 9, or none where
+--                      it is accepted
+--   openConditions, deliverConditions, withdrawConditions   20, 10; 21, 11, 12, 13, 22, 24; 21, 11,
+--                                                           23
 --   judgementBy        what a verdict says: by the number of empty places, whether the join says
 --                      yes, and the sum of the counts
 --   verdictBy          the reply to the call verdict: by whether no board is there, and these three
@@ -37,7 +41,8 @@ loadNumber f = firstOf (fileConditions f ++ (on 9 (tooMany (ruleOf f .targets) (
 abbrev pub openConditions : Bool → ℕ → List Condition
 openConditions lacks n = on 20 lacks ∷ on 10 (outside 1 mostPlaces n) ∷ []
 
--- no board is there; it has so many places; the chunk w for place p; the rule has k symbols; a chunk stands at p; the sum of the counts with w's
+-- no board is there; it has so many places; the chunk w for place p; the rule has k symbols; a
+-- chunk stands at p; the sum of the counts with w's
 abbrev pub deliverConditions : Bool → ℕ → ℕ → List ℕ → ℕ → Bool → ℕ → List Condition
 deliverConditions lacks places p w k filled sum =
     on 21 lacks ∷

@@ -1,4 +1,5 @@
--- Demand 1, of every call on any state whatever: a refusal changes nothing. proofs/Refusing.antt proves it.
+-- Demand 1, of every call on any state whatever: a refusal changes nothing. proofs/Refusing.antt
+-- proves it.
 use mathlib.Core.Path.{_≡_}
 use Prim.Native.Nat.{ℕ}
 use Rattle.calls.specs.declared.Judge.{Judge}
@@ -6,6 +7,7 @@ use Rattle.calls.specs.Replies.{refused}
 use Rattle.calls.specs.Calls.{Call}
 use Rattle.calls.specs.Steps.{stepOf}
 
--- a refusal leaves the state as it was. (File and chunk are lent as `&[u8]`, which no function can write.)
+-- a refusal leaves the state as it was. (File and chunk are lent as `&[u8]`, which no function can
+-- write.)
 abbrev pub Unchanged : Type 0
 Unchanged = (j : Judge) (c : Call) (x : ℕ) → stepOf j c .reply ≡ refused x → stepOf j c .state ≡ j

@@ -1,13 +1,15 @@
--- What each call answers and what state it leaves, for any state whatever. A refusal leaves the state as it was. On a state that no list of calls
--- leaves, document 01 leaves the answer free, and the next state where the call accepts; what stands here is what this code does. crates/histories
--- says what it comes to after a list of calls.
+-- What each call answers and what state it leaves, for any state whatever. A refusal leaves the
+-- state as it was. On a state that no list of calls leaves, document 01 leaves the answer free, and
+-- the next state where the call accepts; what stands here is what this code does. crates/histories
+-- says what that is after a list of calls.
 --
 --   fresh              no rule and no board: zeros
---   Outcome            what a call came to: what its answer says, and the state that it leaves
---   loadOutcome, openOutcome, deliverOutcome, withdrawOutcome   the outcome that the code's result tells
---   loadOf, openOf, deliverOf, withdrawOf   what the calls that may change the state come to
+--   Outcome            the outcome of a call: its reply, and the state that it leaves
+--   loadOutcome, openOutcome, deliverOutcome, withdrawOutcome   the outcome that the code's result
+--                                                               tells
+--   loadOf, openOf, deliverOf, withdrawOf   the outcomes of the calls that may change the state
 --   verdictOf          what the verdict says
---   stepOf j c         what the call c comes to on the state j
+--   stepOf j c         the outcome of the call c on the state j
 use mathlib.Core.Bool.{Bool, not}
 use mathlib.Core.List.{List}
 use mathlib.Core.Option.{Option, none, some}

@@ -1,8 +1,10 @@
-// The state of the judge and the answers of its calls. What each call comes to is in specs/; crates/judge has the calls.
+// The state of the judge and the answers of its calls. The outcome of each call is in specs/;
+// crates/judge has the calls.
 use board::Board;
 use build::Built;
 
-// The state. A rule is there when built.n is not 0, a board when board.places is not 0; in a fresh judge every number is 0.
+// The state. A rule is there when built.n is not 0, a board when board.places is not 0; in a fresh
+// judge every number is 0.
 #[repr(C)]
 pub struct Judge {
     pub built: Built,

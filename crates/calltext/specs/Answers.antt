@@ -1,6 +1,7 @@
 -- How an answer is written, a line each.
 --
---   Response          what a line is answered: a fresh judge began, a call was replied to, or the line is malformed
+--   Response          what a line is answered: a fresh judge began, a call was replied to, or the
+--                     line is malformed
 --   judgementText v   what a verdict says, as text
 --   replyText a       a reply as text, without its line feed
 --   responseText s    the whole line

@@ -1,4 +1,5 @@
--- Every call has a line, and reading the line gives the call again; proofs/RoundTrip.antt proves it.
+-- Every call has a line, and reading the line gives the call again; proofs/RoundTrip.antt proves
+-- it.
 --
 --   Fits c      the call c has numbers of 64 bits, and bytes that are bytes
 --   lineOf c    the line of the call c, without its line feed

@@ -1,5 +1,6 @@
--- What a line that records a call means: `load HEX`, `open N`, `deliver P HEX`, `withdraw P` or `verdict`, with exactly one space between the
--- fields. An empty line means a fresh judge; any other line is malformed.
+-- What a line that records a call means: `load HEX`, `open N`, `deliver P HEX`, `withdraw P` or
+-- `verdict`, with exactly one space between the fields. An empty line means a fresh judge; any
+-- other line is malformed.
 --
 --   Meaning            of a line
 --   lineIn w           what the line w means
@@ -75,7 +76,8 @@ callIn w =
 abbrev pub lineIn : List ℕ → Meaning
 lineIn w = cond (eqb (length w) 0) again (callIn w)
 
--- ---- what the code answers. The bytes of a load and of a delivery are still to be read, from an index on
+-- ---- what the code answers. The bytes of a load and of a delivery are still to be read, from an
+-- index on
 abbrev pub lineMeans : List ℕ → Line → Meaning
 lineMeans w Empty = again
 lineMeans w Load = loadBy (parseBytes (drop 5 w))

@@ -1,4 +1,5 @@
-// Between the text of a list of calls and the calls: what a line means, and how its answer is written.
+// Between the text of a list of calls and the calls: what a line means, and how its answer is
+// written.
 ghost use mathlib.Core.Path.{_≡_};
 ghost use mathlib.Core.List.{List, [], _∷_, _++_};
 ghost use Prim.Native.Nat.{ℕ, _+_, _≤_};

@@ -1,4 +1,4 @@
--- The numbers that C is given, read back: by cases of what the calls come to. Assumes nothing.
+-- The numbers that C is given, read back: by cases of the calls' outcomes. Assumes nothing.
 use mathlib.Core.Path.{_≡_, refl}
 use mathlib.Core.Bool.{Bool, true, false, cond, not}
 use mathlib.Core.List.{List}

@@ -1,4 +1,4 @@
--- What a call or a recorded list came to can be read back from the numbers that C is given;
+-- The outcome of a call or of a recorded list can be read back from the numbers that C is given;
 -- proofs/ReadBack.antt proves it.
 use mathlib.Core.Path.{_≡_}
 use mathlib.Core.List.{List}

@@ -1,13 +1,17 @@
--- The numbers that C is given for what a call came to. Every field is fixed: what a result has no use for is 0.
+-- The numbers that C is given for the outcome of a call. Every field is fixed: what a result has no
+-- use for is 0.
 --
 --   flagOf a, refusedOf a        the fields `accepted` and `refused` for the reply a: 1 and 0, or 0
 --                                and the number of the refusal
 --   setsField a, startsField a     the fields `sets` and `starts`
 --   loadShown .. withdrawShown   an outcome as a result
---   verdictShown a               a verdict: kind 0 refused, 1 waiting, 2 yes, 3 no, each with its number
---   replayShown t                the same for a recorded list; kind 4: the line of that number is malformed
+--   verdictShown a               a verdict: kind 0 refused, 1 waiting, 2 yes, 3 no, each with its
+--                                number
+--   replayShown t                the same for a recorded list; kind 4: the line of that number is
+--                                malformed
 --   loadReadBack .. replayReadBack       what such a result says, read back from its numbers
--- No other reply is given to these calls; the lines for others are there so that every case has a value.
+-- No other reply is given to these calls; the lines for others are there so that every case has a
+-- value.
 use mathlib.Core.Bool.{cond}
 use mathlib.Core.Option.{Option·getD}
 use Prim.Native.Nat.{ℕ}

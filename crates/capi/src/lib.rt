@@ -1,4 +1,5 @@
-// The judge for C and Rust. Answers are numbers; the state is a value that the caller keeps, hands in and gets back.
+// The judge for C and Rust. Answers are numbers; the state is a value that the caller keeps, hands
+// in and gets back.
 ghost use mathlib.Core.Path.{_≡_};
 ghost use Rattle.calls.specs.Replies.{verdictMeans};
 ghost use Prim.Native.Nat.{_+_, _*_};
@@ -44,7 +45,8 @@ pub struct WithdrawNumbers {
     pub judge: Judge,
 }
 
-// Kind 0 refused with the number, 1 waiting with so many empty places, 2 yes and 3 no with the count.
+// Kind 0 refused with the number, 1 waiting with so many empty places, 2 yes and 3 no with the
+// count.
 #[repr(C)]
 pub struct VerdictNumbers {
     pub kind: u8,

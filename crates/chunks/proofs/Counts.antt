@@ -1,4 +1,5 @@
--- What runs count, at most: one transition for each byte, and so for a chunk that is run from starts M times its bytes. Assumes nothing.
+-- What runs count, at most: one transition for each byte, and so for a chunk that is run from
+-- starts M times its bytes. Assumes nothing.
 use mathlib.Core.Path.{_≡_, refl}
 use mathlib.Core.Bool.{Bool, cond}
 use mathlib.Core.List.{List, [], _∷_}
@@ -33,7 +34,8 @@ unfolding counted
 counted-empty ts [] = refl
 counted-empty ts (s ∷ w) = rw (union-empty (λ q. targetMask ts q s) 32) (omega (arith, counted-empty ts w))
 
--- where only states that are their own delegate add, and each at most so much, the whole is at most M times that
+-- where only states that are their own delegate add, and each at most so much, the whole is at most
+-- M times that
 total-starts : (f : ℕ → ℕ) (d : List ℕ) (most n : ℕ) → ((q : ℕ) → q < n → f q ≤ cond (eqb (getD d q 0) q) 1 0 * most)
     → total f n ≤ startCount d n * most
 unfolding total startCount

@@ -1,4 +1,5 @@
--- What a chunk is run from at each place (document 01, "Running a chunk"), for rules A and B, by computation. Assumes nothing.
+-- What a chunk is run from at each place (document 01, "Running a chunk"), for rules A and B, by
+-- computation. Assumes nothing.
 use mathlib.Core.Path.{_≡_, refl}
 use mathlib.Core.List.{List, [], _∷_}
 use Prim.Native.Nat.{ℕ}
@@ -22,7 +23,8 @@ pub from-B : (runSet delegatesB 3 1 0 ≡ 1) × (runSet delegatesB 3 1 1 ≡ 3)
 unfolding union startSet
 from-B = (refl, refl)
 
--- place 0 goes by the initial states alone: with none of them it is run from nothing, though there are starts, and with 2 alone from its delegate 1
+-- place 0 goes by the initial states alone: with none of them it is run from nothing, though there
+-- are starts, and with 2 alone from its delegate 1
 pub from-none : (runSet delegatesB 3 0 0 ≡ 0) × (runSet delegatesB 3 0 1 ≡ 3)
 unfolding union startSet
 from-none = (refl, refl)

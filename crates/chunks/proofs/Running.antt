@@ -1,5 +1,6 @@
--- The loop that runs a chunk from each state of a mask: its invariant, `Running`, and that a turn keeps it. The states below q have their end
--- set in `ends`, which has zeros from q on, and `count` is the sum of what their runs count. Assumes nothing.
+-- The loop that runs a chunk from each state of a mask: its invariant, `Running`, and that a turn
+-- keeps it. The states below q have their end set in `ends`, which has zeros from q on, and `count`
+-- is the sum of what their runs count. Assumes nothing.
 use mathlib.Core.Path.{_≡_, refl, sym, ap, ap₂, _∙_}
 use mathlib.Core.Bool.{true, false, cond}
 use mathlib.Core.List.{List}

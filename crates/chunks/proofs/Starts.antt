@@ -1,5 +1,6 @@
--- The laws of the starts, of the delegates of a set and of a place's starts: one state more, the members, and that what the code takes a
--- delegate for is what it is where it is a state. Assumes nothing.
+-- The laws of the starts, of the delegates of a set and of a place's starts: one state more, the
+-- members, and that what the code takes a delegate for is what it is where it is a state. Assumes
+-- nothing.
 use mathlib.Core.Path.{_≡_, refl, sym, ap}
 use mathlib.Core.Logic.{_↔_, ⊎-elim}
 use mathlib.Core.Bool.{Bool, true, false, cond}

@@ -1,4 +1,5 @@
--- The laws of `foreign`: byte by byte, and that no byte is foreign exactly in a text. Assumes nothing.
+-- The laws of `foreign`: byte by byte, and that no byte is foreign exactly in a text. Assumes
+-- nothing.
 use mathlib.Core.Path.{_≡_, refl}
 use mathlib.Core.Logic.{_↔_}
 use mathlib.Core.Bool.{Bool, true, false, _||_, true≢false, or-true, or-false}

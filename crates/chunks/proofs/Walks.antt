@@ -1,5 +1,5 @@
--- The laws of a walk over any next-set table: one byte more, no byte left, the empty set stays empty, and at most one step is counted for a
--- byte. Assumes nothing.
+-- The laws of a walk over any next-set table: one byte more, no byte left, the empty set stays
+-- empty, and at most one step is counted for a byte. Assumes nothing.
 use mathlib.Core.Path.{_≡_, refl, ap, _∙_}
 use mathlib.Core.List.{List, [], _∷_}
 use Prim.Native.Nat.{ℕ, suc, _+_, _*_, _%_, _≤_, _<_}

@@ -1,10 +1,12 @@
--- Running a chunk (document 01, "Running a chunk"), over the targets `ts` of a rule: which states a chunk is run from, the end set of each run
--- and what the runs count.
+-- Running a chunk (document 01, "Running a chunk"), over the targets `ts` of a rule: which states a
+-- chunk is run from, the end set of each run and what the runs count.
 --
 --   foreign w k            some byte of w is no symbol below k (13)
---   counted ts m w         what a run over w counts that begins with the set m: one transition for each successor that is not empty
+--   counted ts m w         what a run over w counts that begins with the set m: one transition for
+--                          each successor that is not empty
 --   delegateSet d n m      the delegates of the members of m
---   runSet d n m place     the states that a chunk is run from at a place, where m is the set of initial states
+--   runSet d n m place     the states that a chunk is run from at a place, where m is the set of
+--                          initial states
 --   endSet ts run w q      the end set of state q for the chunk w; empty where q is not run
 --   chunkCount ts run w    the chunk's count: the sum of what its runs count
 use mathlib.Core.Bool.{Bool, false, cond, _||_}

@@ -1,4 +1,5 @@
--- What running a chunk comes to, for every well-formed rule with at most 512 sets, as it is built; proofs/Claims.antt proves it.
+-- What running a chunk gives, for every well-formed rule with at most 512 sets, as it is built;
+-- proofs/Claims.antt proves it.
 use mathlib.Core.Path.{_≡_}
 use mathlib.Core.Logic.{_↔_}
 use mathlib.Core.Bool.{false}
@@ -21,19 +22,22 @@ use Rattle.chunks.specs.Walks.{walkEnd, walkCount, maskOf, runsOf, deleg
 pub record Claims : Type 0 where
   -- no byte is foreign exactly in a text of symbols below k
   pub text-law : (w : List ℕ) (k : ℕ) → foreign w k ≡ false ↔ Text k w
-  -- a run from a state of the rule over a text of its symbols ends with the set after the text, and counts one transition for each successor that
-  -- is not empty, which is at most one for each byte, on any table
+  -- a run from a state of the rule over a text of its symbols ends with the set after the text, and
+  -- counts one transition for each successor that is not empty, which is at most one for each byte,
+  -- on any table
   pub run-end : (r : Rule) → WellFormed r → fits r → (q : ℕ) → q < r .n → (w : List ℕ) → Text (r .k) w
       → maskOf (builtOf r .sets) (walkEnd (builtOf r .next) (getD (builtOf r .singles) q 0) w) ≡ after (r .targets) (single q) w
   pub run-count : (r : Rule) → WellFormed r → fits r → (q : ℕ) → q < r .n → (w : List ℕ) → Text (r .k) w
       → walkCount (builtOf r .next) (getD (builtOf r .singles) q 0) w ≡ counted (r .targets) (single q) w
   pub run-most : (next : List ℕ) (i : ℕ) (w : List ℕ) → walkCount next i w ≤ length w
-  -- over a text of the rule's symbols, run from states of the rule: each end set is the set after the text, and the count is document 01's
+  -- over a text of the rule's symbols, run from states of the rule: each end set is the set after
+  -- the text, and the count is document 01's
   pub ends : (r : Rule) → WellFormed r → fits r → (run : ℕ) → run < 2 ^ r .n → (w : List ℕ) → Text (r .k) w
       → runsOf (builtOf r .sets) (builtOf r .next) (builtOf r .singles) run w .ends ≡ listFrom 0 mostStates (endSet (r .targets) run w)
   pub count : (r : Rule) → WellFormed r → fits r → (run : ℕ) → run < 2 ^ r .n → (w : List ℕ) → Text (r .k) w
       → runsOf (builtOf r .sets) (builtOf r .next) (builtOf r .singles) run w .count ≡ chunkCount (r .targets) run w
-  -- a run counts at most one transition for each byte, so a chunk that is run from starts counts at most M times its bytes
+  -- a run counts at most one transition for each byte, so a chunk that is run from starts counts at
+  -- most M times its bytes
   pub counted-most : (ts : List ℕ) (m : ℕ) (w : List ℕ) → counted ts m w ≤ length w
   pub chunk-most : (ts d : List ℕ) (n run : ℕ) → n ≤ mostStates → ((q : ℕ) → q ∈ run → q ∈ startSet d n) → (w : List ℕ)
       → chunkCount ts run w ≤ startCount d n * length w

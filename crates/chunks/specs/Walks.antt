@@ -1,11 +1,15 @@
--- What the code does over the arrays of a built rule, whatever they hold: a walk over the next-set table from a set's number. Nothing here needs
--- to be believed: specs/Claims.antt says what it comes to for a built rule. Any number from 512 on stands for the empty set.
+-- What the code does over the arrays of a built rule, whatever they hold: a walk over the next-set
+-- table from a set's number. Nothing here needs to be believed: specs/Claims.antt says what it
+-- comes to for a built rule. Any number from 512 on stands for the empty set.
 --
 --   stepOf next i b       the set to which the byte b leads from set i
---   walkEnd, walkCount    the number of the set after the bytes w, and how many of the steps led to a set that is not empty
+--   walkEnd, walkCount    the number of the set after the bytes w, and how many of the steps led to
+--                         a set that is not empty
 --   maskOf sets i         the mask of set i
---   runsOf ..             the end set of each state that is run, as an array, and the sum of the counts
---   delegateMask, runMask   delegateSet and runSet for at most 32 states; of a delegate the remainder by 32 is taken
+--   runsOf ..             the end set of each state that is run, as an array, and the sum of the
+--                         counts
+--   delegateMask, runMask   delegateSet and runSet for at most 32 states; of a delegate the
+--                           remainder by 32 is taken
 use mathlib.Core.Bool.{cond}
 use mathlib.Core.List.{List, [], _∷_}
 use Prim.Native.Nat.{ℕ, zero, suc, _+_, _%_, min}

@@ -36,8 +36,8 @@ pub fn has_foreign(chunk: &[u8], k: u8) -> bool
     found
 }
 
-// Where the chunk leads from the set, and how many of its steps lead to a set that is not empty: all of them, or those before the first that
-// does not.
+// Where the chunk leads from the set, and how many of its steps lead to a set that is not empty:
+// all of them, or those before the first that does not.
 pub fn walk(next: &[u16; limits::CELLS], from: SetNumber, chunk: &[u8]) -> Run
     requires { ⌜ length (now chunk) ≤ longestChunk ⌝ }
     ensures { λ r. ⌜ r .end .0 ≡ walkEnd (now (next .entry)) (from .0) (now (chunk .entry)) ⌝ }
@@ -113,7 +113,8 @@ pub fn delegate_mask(delegates: [u8; limits::STATES], n: u8, set: u32) -> u32
     out
 }
 
-// The states that a chunk at the place is run from: the delegates of initial states at place 0, all starts at any other.
+// The states that a chunk at the place is run from: the delegates of initial states at place 0, all
+// starts at any other.
 pub fn run_mask(delegates: [u8; limits::STATES], n: u8, initials: u32, place: usize) -> u32
     ensures { λ r. ⌜ r ≡ runMask delegates n initials place ⌝ }
 {

@@ -1,9 +1,10 @@
--- Acceptance over the table of a rule is acceptance in its automaton, so alike sets {p} and {q} are alike states, and `startsOf`
--- has the delegates and the starts of the automaton. Assumes what crates/subsets claims of the numbered sets, a well-formed rule and
--- at most 512 sets.
+-- Acceptance over the table of a rule is acceptance in its automaton, so alike sets {p} and {q} are
+-- alike states, and `startsOf` has the delegates and the starts of the automaton. Assumes what
+-- crates/subsets claims of the numbered sets, a well-formed rule and at most 512 sets.
 --
--- A text leads from set number i to the number of the successor of set i by that text, or to 512 where it is empty; by induction over the text,
--- one cell a symbol. The members of the successor of {q} are the states that runs from q lead to. And {q}, reached by the empty text, has a number.
+-- A text leads from set number i to the number of the successor of set i by that text, or to 512
+-- where it is empty; by induction over the text, one cell a symbol. The members of the successor of
+-- {q} are the states that runs from q lead to. And {q}, reached by the empty text, has a number.
 use mathlib.Core.Path.{_≡_, refl, sym, ap, _∙_, subst}
 use mathlib.Core.Logic.{_↔_}
 use mathlib.Core.Bool.{true, false}

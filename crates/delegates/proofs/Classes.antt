@@ -1,10 +1,13 @@
--- The mathematics of the refinement: the laws of `final` and `follow`, a round takes the classes by texts shorter than f to those by texts shorter
--- than f + 1, and a round that changes nothing has found the classes. Assumes nothing.
+-- The mathematics of the refinement: the laws of `final` and `follow`, a round takes the classes by
+-- texts shorter than f to those by texts shorter than f + 1, and a round that changes nothing has
+-- found the classes. Assumes nothing.
 --
--- Sets that no text shorter than f tells apart are near at f (`alikeTo`). Being near is an equivalence, for each f. A round looks at two sets of one
--- class, at their being final and at the classes of their successors: that is to be near at f + 1. Where a round changes nothing, sets near at f are
--- near at f + 1, so their successors are near at f, and so on over every text. A round that changes something makes one more set the lowest of its
--- class, and there are 513; so rounds end, and what texts shorter than 513 do not tell apart no text does.
+-- Sets that no text shorter than f tells apart are near at f (`alikeTo`). Being near is an
+-- equivalence, for each f. A round looks at two sets of one class, at their being final and at the
+-- classes of their successors: that is to be near at f + 1. Where a round changes nothing, sets
+-- near at f are near at f + 1, so their successors are near at f, and so on over every text. A
+-- round that changes something makes one more set the lowest of its class, and there are 513; so
+-- rounds end, and what texts shorter than 513 do not tell apart no text does.
 use mathlib.Core.Path.{_≡_, refl, sym, ap, _∙_}
 use mathlib.Core.Logic.{_⊎_, inl, inr, ⊎-elim, _↔_}
 use mathlib.Core.Bool.{Bool, true, false, not, _&&_, Bool·beq, true≢false, and-eq-true-iff}

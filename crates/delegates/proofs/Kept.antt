@@ -1,4 +1,5 @@
--- How many of the numbers below a bound a function keeps (`kept`), and when that grows. Assumes nothing.
+-- How many of the numbers below a bound a function keeps (`kept`), and when that grows. Assumes
+-- nothing.
 use mathlib.Core.Path.{_≡_}
 use mathlib.Core.Logic.{⊎-elim}
 use mathlib.Core.Bool.{cond}

@@ -1,8 +1,8 @@
 -- The loop that merges starts: its invariant, `Merging`, that a turn keeps it, and what it comes
 -- to. The states below q have the class of their set in `own` and their delegate in `delegates`,
--- which has zeros from q on, and `starts` counts those that are their own delegate. States with sets
--- of one class are those that no text tells apart, so the first state of a class is the delegate.
--- Assumes nothing.
+-- which has zeros from q on, and `starts` counts those that are their own delegate. States with
+-- sets of one class are those that no text tells apart, so the first state of a class is the
+-- delegate. Assumes nothing.
 use mathlib.Core.Path.{_≡_, refl, sym, ap₂, _∙_}
 use mathlib.Core.Bool.{cond}
 use mathlib.Core.List.{List}

@@ -26,7 +26,8 @@ startsIn r =
     (r .k)
 
 pub record Claims : Type 1 where
-  -- of a well-formed rule with at most 512 sets, they are the delegates and the number of starts of the automaton
+  -- of a well-formed rule with at most 512 sets, they are the delegates and the number of starts of
+  -- the automaton
   pub merged : (r : Rule) → WellFormed r → fits r → Merged (automatonOf r) (startsIn r .delegates) (startsIn r .startcount)
   -- a text that tells two sets apart has 512 symbols or fewer, or there is one that has
   pub alike-at : (sets next : List ℕ) (finals k s t : ℕ) → s ≤ emptySet → t ≤ emptySet

@@ -1,7 +1,7 @@
 -- Delegates as a function, over the arrays of numbered sets and next sets, whatever they hold.
 -- `sets` has the mask of each set, `next` has 16 cells for each set, one for each symbol, and
--- `singles` has the number of {q} for each state q. A set is its number here; any number from 512 on
--- stands for the empty set, in a cell too.
+-- `singles` has the number of {q} for each state q. A set is its number here; any number from 512
+-- on stands for the empty set, in a cell too.
 --
 --   final sets finals s   set s holds a final state; the empty set holds none
 --   follow next s a       the set to which symbol a leads from set s; the empty set leads to itself

@@ -1,6 +1,7 @@
 -- What the functions below `merge_starts` promise: the classes of alike sets, by rounds of
--- refinement (Moore). Nothing here needs to be believed: `startsOf` says what they come to. A class
--- is named by its lowest set; the list c has the class of each set, and at 512 that of the empty set.
+-- refinement (Moore). Nothing here needs to be believed: `startsOf` says what they give. A class
+-- is named by its lowest set; the list c has the class of each set, and at 512 that of the empty
+-- set.
 --
 --   classOf c s          the class of set s
 --   sameIn .. k c t s    sets t and s are told apart neither by their classes, nor by being final,

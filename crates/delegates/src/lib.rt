@@ -1,5 +1,5 @@
-// The delegates of states and the number of starts, by the classes of alike sets (Moore's refinement). 512 stands for the empty set, and so
-// does any number above it in the next-set table.
+// The delegates of states and the number of starts, by the classes of alike sets (Moore's
+// refinement). 512 stands for the empty set, and so does any number above it in the next-set table.
 ghost use mathlib.Core.Path.{_≡_};
 ghost use Prim.Native.Nat.{_≤_, _<_};
 ghost use lib.ListN.{length};
@@ -52,7 +52,8 @@ fn follow(next: &[u16; limits::CELLS], set: SetNumber, symbol: usize) -> SetNumb
     }
 }
 
-// Whether the sets t and s are in one class, both final or neither, and their successors by each symbol in one class.
+// Whether the sets t and s are in one class, both final or neither, and their successors by each
+// symbol in one class.
 fn same(
     sets: &[u32; limits::SETS],
     next: &[u16; limits::CELLS],
@@ -89,8 +90,8 @@ fn same(
     true
 }
 
-// The class of set s in the next round. No set below its class in this one is in it, so the search starts there: over all rounds a set
-// passes each lower one once.
+// The class of set s in the next round. No set below its class in this one is in it, so the search
+// starts there: over all rounds a set passes each lower one once.
 fn least(
     sets: &[u32; limits::SETS],
     next: &[u16; limits::CELLS],
@@ -142,7 +143,8 @@ fn round(
     changed
 }
 
-// The class of each set, and at 512 that of the empty set: rounds until nothing changes, from one class of all sets.
+// The class of each set, and at 512 that of the empty set: rounds until nothing changes, from one
+// class of all sets.
 fn refine(
     sets: &[u32; limits::SETS],
     next: &[u16; limits::CELLS],

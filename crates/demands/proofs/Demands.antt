@@ -1,26 +1,27 @@
 -- THE THREE DEMANDS, sentence by sentence. Under each stands the theorem that meets it; its proof
 -- only cites the file that has it. To believe them, read the definitions that they name:
 --
---   1  stepOf j c                     what a call comes to on any state    calls/specs/Steps
---      Reply, Call; loadNumber ..     01's answers, calls and numbers      calls/specs/Replies, Calls
---      judgeLibrary, cLibrary         what contracts ask and allow         histories/, demands/specs/Functions
---      loadMeans .. verdictMeans        what an answer of the code says      calls/specs/Replies
---      loadReadBack .., replayShown       what C's numbers say                 capi/specs/Numbers
---   2  Accepts, Run, Arc              automata and their runs (000)        automaton/specs/Automaton
---      automatonIn f                  the automaton in a file's bytes      ruleformat/specs/Language, Format
---      fileConditions, FirstHolds     numbers 1 to 8; the first that holds ruleformat/specs/Refusals, base/specs/Conditions
---      Method, InOrder, TooMany       sets, table, delegates, M, order     histories/specs/Method
---      Merged, Delegate, Alike        merged starts                        delegates/specs/Alike
---   3  Execution l h rs j             calls made through functions         executions/specs/Executions
---      judgeAfter h, repliesTo h      what a list of calls comes to        histories/specs/Claims
---      standing, verdictIn, answerOf  what 01 says of a list alone         histories/specs/History
---      Accepted-exactly, Refused-..   which calls, with which number       histories/specs/Conditions
---      runSet, endSet, chunkCount     running a chunk                      chunks/specs/Chunks
---      held, isEmpty, summedCount     what a board holds                   board/specs/Boards
---      joinOf, yesOf                  joining                              joins/specs/Joining
---      TableP                         the table's cases                    histories/specs/TableP
---      streamOf, rightText            a text of calls                      stream/specs/Texts
---      recordIn, replayOf             a recorded list                      replay/specs/Records
+--   1  stepOf j c                     the outcome of a call on any state    calls/specs/Steps
+--      Reply, Call; loadNumber ..     01's answers, calls and numbers       calls/specs/Replies, Calls
+--      judgeLibrary, cLibrary         what contracts ask and allow          histories/, demands/specs/Functions
+--      loadMeans .. verdictMeans      what an answer of the code means      calls/specs/Replies
+--      loadReadBack .., replayShown   what C's numbers mean                 capi/specs/Numbers
+--   2  Accepts, Run, Arc              automata and their runs (000)         automaton/specs/Automaton
+--      automatonIn f                  the automaton in a file's bytes       ruleformat/specs/Language, Format
+--      fileConditions                 numbers 1 to 8                        ruleformat/specs/Refusals
+--      FirstHolds                     the first condition that holds        base/specs/Conditions
+--      Method, InOrder, TooMany       sets, table, delegates, M, order      histories/specs/Method
+--      Merged, Delegate, Alike        merged starts                         delegates/specs/Alike
+--   3  Execution l h rs j             calls made through functions          executions/specs/Executions
+--      judgeAfter h, repliesTo h      the outcome of a list of calls        histories/specs/Claims
+--      standing, verdictIn, answerOf  what 01 says of a list alone          histories/specs/History
+--      Accepted-exactly, Refused-..   which calls, with which number        histories/specs/Conditions
+--      runSet, endSet, chunkCount     running a chunk                       chunks/specs/Chunks
+--      held, isEmpty, summedCount     what a board holds                    board/specs/Boards
+--      joinOf, yesOf                  joining                               joins/specs/Joining
+--      TableP                         the table's cases                     histories/specs/TableP
+--      streamOf, rightText            a text of calls                       stream/specs/Texts
+--      recordIn, replayOf             a recorded list                       replay/specs/Records
 --
 -- A list of calls has the last call first. A proved function ends and stays within its bounds.
 -- Assumes nothing.

@@ -1,5 +1,5 @@
--- The library of the functions that C links meets the judge's definitions: a contract fixes every number of a result, and what the numbers say can be
--- read back. Assumes nothing.
+-- The library of the functions that C links meets the judge's definitions: a contract fixes every
+-- number of a result, and what the numbers say can be read back. Assumes nothing.
 use mathlib.Core.Path.{_≡_, refl, sym, ap, _∙_}
 use mathlib.Core.Logic.{_↔_}
 use mathlib.Core.List.{List, []}

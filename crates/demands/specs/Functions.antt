@@ -1,9 +1,12 @@
--- What the functions that C links allow by their own contracts, as the checker reads them (`Reads.Learnt`): any result that a function's contract
--- does not rule out. `cLibrary` is what a program in C gets that calls them; crates/histories has the same for the judge's own functions.
+-- What the functions that C links allow by their own contracts, as the checker reads them
+-- (`Reads.Learnt`): any result that a function's contract does not rule out. `cLibrary` is what a
+-- program in C gets that calls them; crates/histories has the same for the judge's own functions.
 --
---   MayBegin .. MayJudge   what `bellbadger_new`, `_load`, `_open`, `_deliver`, `_withdraw` and `_verdict` may return for their arguments
+--   MayBegin .. MayJudge   what `bellbadger_new`, `_load`, `_open`, `_deliver`, `_withdraw` and
+--                          `_verdict` may return for their arguments
 --   AsksStep j c           what the function of the call c asks before it is called on the judge j
---   MayStep j c a next     on the judge j the call c may return numbers that say the reply a, and leave the judge next
+--   MayStep j c a next     on the judge j the call c may return numbers that say the reply a, and
+--                          leave the judge next
 --   MayReplay text r       what `bellbadger_replay` may return for the text
 use mathlib.Core.Path.{_≡_}
 use mathlib.Core.List.{List}

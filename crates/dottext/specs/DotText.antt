@@ -1,10 +1,13 @@
--- What `ruledot` prints: the automaton of a rule in the language of Graphviz, as byte values, each line ended by one line feed.
+-- What `ruledot` prints: the automaton of a rule in the language of Graphviz, as byte values, each
+-- line ended by one line feed.
 --
---   dotText r       three lines of head; a line for each state, `Q;` or `Q [shape=doublecircle];` for a final one; two lines for each
---                   initial state, `iQ [shape=point];` and `iQ -> Q;`; a line for each arc, `Q -> T [label="S"];`, by state, symbol and
+--   dotText r       three lines of head; a line for each state, `Q;` or `Q [shape=doublecircle];`
+--                   for a final one; two lines for each initial state, `iQ [shape=point];` and `iQ
+--                   -> Q;`; a line for each arc, `Q -> T [label="S"];`, by state, symbol and
 --                   target; and `}`
---   textFor f       that of the rule in the file f, or `refused` and the number, 1 to 8, with which the reader refuses the file. A rule of over
---                   512 sets is drawn: no set is numbered for it
+--   textFor f       that of the rule in the file f, or `refused` and the number, 1 to 8, with which
+--                   the reader refuses the file. A rule of over 512 sets is drawn: no set is
+--                   numbered for it
 --   mostBytes       so many bytes have room for the text of any file (specs/Claims.antt)
 use mathlib.Core.Bool.{cond}
 use mathlib.Core.List.{List, [], _++_}

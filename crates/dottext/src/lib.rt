@@ -1,4 +1,5 @@
-// Prints the automaton of a rule as Graphviz text into a lent buffer. A number that is printed has at most three digits.
+// Prints the automaton of a rule as Graphviz text into a lent buffer. A number that is printed has
+// at most three digits.
 ghost use mathlib.Core.Path.{_≡_};
 ghost use Prim.Native.Nat.{_+_, _*_, _≤_, _<_};
 ghost use lib.ListN.{length};

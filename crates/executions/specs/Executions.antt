@@ -1,13 +1,18 @@
--- Lists of calls to any machine that has a state and answers each call (document 01: "In a list the first call gets the fresh judge and each
--- other one the judge that the call before it left, refused or not"). A list has the LAST call first.
+-- Lists of calls to any machine that has a state and answers each call (document 01: "In a list the
+-- first call gets the fresh judge and each other one the judge that the call before it left,
+-- refused or not"). A list has the LAST call first.
 --
---   Machine              the state to begin with, and of each state and call the reply and the next state
+--   Machine              the state to begin with, and of each state and call the reply and the next
+--                        state
 --   stateAfter, repliesTo    the state that the calls leave, and the replies to them
---   Library              what functions ask and allow by their contracts: `NewAsks` and `Asks s c` what must hold before a new state is asked
---                        for and before the call c on the state s; `Begins s` that a new state is s, `May s c r t` that on the state s the call
---                        c is answered with r and leaves t
---   Execution l h rs s   the calls h, made one after the other through the library l, were answered with rs and left the state s
---   Meets l m            the library asks nothing, and allows what the machine does and nothing else
+--   Library              what functions ask and allow by their contracts: `NewAsks` and `Asks s c`
+--                        what must hold before a new state is asked for and before the call c on
+--                        the state s; `Begins s` that a new state is s, `May s c r t` that on the
+--                        state s the call c is answered with r and leaves t
+--   Execution l h rs s   the calls h, made one after the other through the library l, were answered
+--                        with rs and left the state s
+--   Meets l m            the library asks nothing, and allows what the machine does and nothing
+--                        else
 use mathlib.Core.Path.{_≡_}
 use mathlib.Core.Logic.{_↔_}
 use mathlib.Core.List.{List, [], _∷_}

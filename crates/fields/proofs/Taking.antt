@@ -1,6 +1,7 @@
 -- What reading a field of bytes into a lent buffer leaves there. Assumes nothing.
 --
---   carries, not-bytes        the field says bytes, of which those that fit are at the buffer's beginning; or it says none
+--   carries, not-bytes        the field says bytes, of which those that fit are at the buffer's
+--                             beginning; or it says none
 --   put-prefix, put-within    the bytes that were put are within the buffer
 use mathlib.Core.Path.{_≡_, refl, sym, ap, _∙_, subst}
 use mathlib.Core.List.{List}

@@ -1,4 +1,5 @@
--- Every number of 64 bits and every list of bytes has a field, and reading the field gives it again; proofs/RoundTrip.antt proves it.
+-- Every number of 64 bits and every list of bytes has a field, and reading the field gives it
+-- again; proofs/RoundTrip.antt proves it.
 --
 --   AllBytes b    each member of b is a byte
 --   fieldOf b     the bytes b as a field: two hex digits a byte, or `-` for none

@@ -1,4 +1,5 @@
--- A number in a line that records a call: 1 to 20 decimal digits with a value of at most 18446744073709551615. Leading zeros are let in.
+-- A number in a line that records a call: 1 to 20 decimal digits with a value of at most
+-- 18446744073709551615. Leading zeros are let in.
 --
 --   allDigits w    each byte of w is an ASCII decimal digit
 --   valueOf w      the value of the digits w, the highest first

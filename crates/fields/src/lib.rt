@@ -111,8 +111,9 @@ fn put_pairs(field: &[u8], out: &mut [u8]) -> usize
     i
 }
 
-// A field of one or more pairs of hex digits, or `-` for no bytes. The bytes that it says are put into the buffer, as many as fit; what lies
-// past them stays, and so does the whole of it where the field is malformed.
+// A field of one or more pairs of hex digits, or `-` for no bytes. The bytes that it says are put
+// into the buffer, as many as fit; what lies past them stays, and so does the whole of it where the
+// field is malformed.
 pub fn read_bytes(field: &[u8], out: &mut [u8]) -> Bytes
     ensures { λ r. ⌜ Took (now (field .entry)) (now (out .entry)) r (now (out .exit)) ⌝ }
 {

@@ -1,7 +1,8 @@
--- Which calls are accepted, and which are refused with which number, as specs/Conditions.antt says. Assumes nothing.
+-- Which calls are accepted, and which are refused with which number, as specs/Conditions.antt says.
+-- Assumes nothing.
 --
--- An answer is told by the first condition of its call's list that holds; each list is taken apart condition by condition, and each test is turned
--- into what it tests.
+-- An answer is told by the first condition of its call's list that holds; each list is taken apart
+-- condition by condition, and each test is turned into what it tests.
 use mathlib.Core.Path.{_≡_, refl, sym, ap, _∙_}
 use mathlib.Core.Logic.{_↔_, _⊎_, inl, inr, ⊎-elim, Iff·trans}
 use mathlib.Core.Bool.{Bool, true, false, cond, _||_}

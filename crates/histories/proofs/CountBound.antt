@@ -1,5 +1,6 @@
--- No list of calls comes to 24, as `Never-24` of specs/Claims.antt says: a chunk counts at most 32 transitions for each of its 65,536 bytes at most,
--- and a board has at most 64 places. Assumes nothing.
+-- No list of calls comes to 24, as `Never-24` of specs/Claims.antt says: a chunk counts at most 32
+-- transitions for each of its 65,536 bytes at most, and a board has at most 64 places. Assumes
+-- nothing.
 use mathlib.Core.Path.{_≡_, refl, sym, ap, subst}
 use mathlib.Core.Bool.{Bool, true, false, cond, _&&_, _||_, and-eq-true-iff}
 use mathlib.Core.List.{List, [], _∷_, _++_}

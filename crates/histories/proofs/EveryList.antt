@@ -1,5 +1,5 @@
--- EVERY LIST OF CALLS, over the definitions alone: of the replies to the calls h and of the judge that they leave, all that demand 3 says holds.
--- Assumes nothing.
+-- EVERY LIST OF CALLS, over the definitions alone: of the replies to the calls h and of the judge
+-- that they leave, all that demand 3 says holds. Assumes nothing.
 use mathlib.Core.Path.{_≡_, refl, ap₂}
 use mathlib.Core.List.{List, [], _∷_}
 use Prim.Native.Nat.{ℕ}

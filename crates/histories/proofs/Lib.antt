@@ -1,4 +1,5 @@
--- In the order in which they build on each other: to every list of calls, to what follows from it, and to table P.
+-- In the order in which they build on each other: to every list of calls, to what follows from it,
+-- and to table P.
 pub mod SameArcs
 pub mod Method
 pub mod Running

@@ -1,7 +1,9 @@
--- The built rule of an accepted file has the sets, the table, the delegates and M of the automaton in the file's bytes. Assumes nothing.
+-- The built rule of an accepted file has the sets, the table, the delegates and M of the automaton
+-- in the file's bytes. Assumes nothing.
 --
--- What crates/subsets and crates/delegates claim of the rule is carried over to its automaton, where the successor of {q} by a text is the set of
--- the states that a run leads to, and from there to the bytes, which state the same arcs.
+-- What crates/subsets and crates/delegates claim of the rule is carried over to its automaton,
+-- where the successor of {q} by a text is the set of the states that a run leads to, and from there
+-- to the bytes, which state the same arcs.
 use mathlib.Core.Path.{_≡_, refl, sym, ap, _∙_, subst}
 use mathlib.Core.Logic.{_↔_, _⊎_, inl, inr, Iff·trans}
 use mathlib.Core.Bool.{true, false}
@@ -90,7 +92,8 @@ module _ (f : List ℕ) (e : refusal f ≡ none) where
         λ x. (x .0, x .1, x .2, λ i b. reach-law (getD (x .0) i 0) .1 (x .3 i b)),
       )
 
-  -- a text is accepted exactly when a final state is in the successor of the set of initial states by it
+  -- a text is accepted exactly when a final state is in the successor of the set of initial states
+  -- by it
   pub acceptance : (w : List ℕ) → Accepts (automatonIn f) w ↔ (shares (after (ruleOf f .targets) (ruleOf f .initials) w) (ruleOf f .finals) ≡ true)
   acceptance w = Iff·trans (rulefile.claims .language f e w) (automaton.claims .accepts-law (ruleOf f) good w)
 

@@ -1,5 +1,6 @@
--- The number that a call is refused with, read off the state, is the one that the list of calls says: each test of the state is the test of the
--- list, as far as the earlier ones fail. Assumes nothing.
+-- The number that a call is refused with, read off the state, is the one that the list of calls
+-- says: each test of the state is the test of the list, as far as the earlier ones fail. Assumes
+-- nothing.
 use mathlib.Core.Path.{_≡_, refl, ap, ap₂, _∙_}
 use mathlib.Core.Bool.{Bool, true, false, cond, not}
 use mathlib.Core.List.{List, [], _∷_}

@@ -1,8 +1,9 @@
--- EVERY LIST OF CALLS, about the code that runs: the library of the judge's functions meets the judge's definitions, so what the functions' own
--- contracts allow after a list of calls is the replies and the judge of `repliesTo` and `judgeAfter`, and nothing else. Assumes nothing.
+-- EVERY LIST OF CALLS, about the code that runs: the library of the judge's functions meets the
+-- judge's definitions, so what the functions' own contracts allow after a list of calls is the
+-- replies and the judge of `repliesTo` and `judgeAfter`, and nothing else. Assumes nothing.
 --
--- A contract is an equation for what the result says, which gives the one direction. For the other, each answer type has a value that says what
--- the definition wants.
+-- A contract is an equation for what the result says, which gives the one direction. For the other,
+-- each answer type has a value that says what the definition wants.
 use mathlib.Core.Path.{_≡_, refl, sym, ap, ap₂, _∙_}
 use mathlib.Core.Logic.{_↔_}
 use mathlib.Core.Bool.{Bool, true, false, not}
@@ -35,7 +36,7 @@ use Rattle.judge.proofs.Asks.{new-judge-asks-nothing, load-asks-nothing, open-a
 use Rattle.histories.specs.Claims.{judgeMachine, judgeAfter, repliesTo}
 use Rattle.histories.specs.Functions.{AsksStep, MayStep, judgeLibrary}
 
--- ---- what a call comes to, said by a value of its answer type
+-- ---- the outcome of a call, as a value of its answer type
 module _ (j next : Judge) where
   a-loading : (number : Option ℕ) (sets m : ℕ) → (r : LoadResult) × (loadOutcome r ≡ outcomeBy number (loaded sets m) j next)
   a-loading none sets m = (record { answer = load.Accepted sets m; judge = next }, refl)

@@ -1,4 +1,5 @@
--- What running a chunk gives, for a rule that is built: the end sets and the count that document 01 gives to it at its place. Assumes nothing.
+-- What running a chunk gives, for a rule that is built: the end sets and the count that document 01
+-- gives to it at its place. Assumes nothing.
 use mathlib.Core.Path.{_≡_, sym, ap, _∙_, subst}
 use mathlib.Core.List.{List}
 use Prim.Native.Nat.{ℕ, zero, suc, _^_, _<_}

@@ -1,5 +1,5 @@
--- Automata that differ only in how their arcs are stated have the same delegates, so the delegates of a rule are those of the bytes of its
--- file. Assumes nothing.
+-- Automata that differ only in how their arcs are stated have the same delegates, so the delegates
+-- of a rule are those of the bytes of its file. Assumes nothing.
 use mathlib.Core.Path.{_≡_}
 use mathlib.Core.List.{List}
 use mathlib.Core.Option.{none}

@@ -1,5 +1,5 @@
--- After every call the state agrees with the list of calls, and the call's answer is the one that the list says. `AgreesWith h j` is the invariant; one
--- lemma a call. Assumes nothing.
+-- After every call the state agrees with the list of calls, and the call's answer is the one that
+-- the list says. `AgreesWith h j` is the invariant; one lemma a call. Assumes nothing.
 use mathlib.Core.Path.{_≡_, refl, sym, ap, _∙_, subst, subst₃, fun-ext}
 use mathlib.Core.Bool.{Bool, cond, _&&_, and-true, and-false}
 use mathlib.Core.List.{List, [], _∷_}

@@ -1,7 +1,7 @@
 -- Table P of document 01, proved as specs/TableP.antt claims it. Assumes nothing.
 --
--- The claim over every list of calls says that the replies are document 01's answers, and those compute once the delegates of rules A and B are
--- put in.
+-- The claim over every list of calls says that the replies are document 01's answers, and those
+-- compute once the delegates of rules A and B are put in.
 use mathlib.Core.Path.{_≡_, refl, sym, ap, ap₂, _∙_, subst, subst₃, fun-ext}
 use mathlib.Core.Bool.{Bool, false, cond, _&&_, and-true}
 use mathlib.Core.List.{List, [], _∷_, _++_}
@@ -50,7 +50,8 @@ module _ (r : Rule) (d : List ℕ) (places : ℕ) (at : ℕ → Option (List ℕ
       (yesOf (λ p q. standingEnd (r .targets) (runSet d (r .n) (r .initials) p) q (at p)) (delegateIn d) (r .n) (r .initials) (r .finals) places)
       (total (λ p. countsBy p (at p)) places)
 
--- ---- the calls of a verdict, one by one: the rule is that of f, and the board has these places and standing chunks
+-- ---- the calls of a verdict, one by one: the rule is that of f, and the board has these places
+-- and standing chunks
 record Stage (f : List ℕ) (h : List Call) (places : ℕ) (at : ℕ → Option (List ℕ)) : Type 0 where
   file : fileOf h ≡ some f
   board : placesIn h ≡ places
@@ -110,7 +111,8 @@ module _ (f d : List ℕ) (is : startsIn (ruleOf f) .delegates ≡ d) (places : 
       (ap (λ (x : List ℕ). verdictWith (ruleOf f) x places at) is)
 
 -- ---- what is left to compute
--- of a case: its answers; of an accepted file, that it is the last, and what shows in the rule built
+-- of a case: its answers; of an accepted file, that it is the last, and what shows in the rule
+-- built
 abbrev Answers : Case → Type 0
 Answers c = answersTo (callsOf c) ≡ repliesOf c
 

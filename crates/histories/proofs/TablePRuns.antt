@@ -1,5 +1,5 @@
--- Table P about the code that runs: the replies and the state are any that the functions' own contracts allow for the calls of a case, as
--- specs/Functions.antt has them. Assumes nothing.
+-- Table P about the code that runs: the replies and the state are any that the functions' own
+-- contracts allow for the calls of a case, as specs/Functions.antt has them. Assumes nothing.
 use mathlib.Core.Path.{sym, subst₂}
 use mathlib.Core.List.{List}
 use Rattle.calls.specs.declared.Judge.{Judge}

@@ -1,4 +1,6 @@
--- Rules A and B of document 01, from their bytes: what sets they have, and that their delegates are 0 1 2 and 0 1 1. States are told apart by a text over which the one has an accepting run and the other none. Assumes nothing.
+-- Rules A and B of document 01, from their bytes: what sets they have, and that their delegates are
+-- 0 1 2 and 0 1 1. States are told apart by a text over which the one has an accepting run and the
+-- other none. Assumes nothing.
 use mathlib.Core.Path.{_≡_, refl, sym, ap, ap₂, _∙_}
 use mathlib.Core.Bool.{Bool, true, false, true≢false}
 use mathlib.Core.List.{List, [], _∷_}

@@ -1,5 +1,5 @@
--- The verdict of the state is the verdict that the list of calls says: the state's number of empty places, its join and its sum are the list's.
--- Assumes nothing.
+-- The verdict of the state is the verdict that the list of calls says: the state's number of empty
+-- places, its join and its sum are the list's. Assumes nothing.
 use mathlib.Core.Path.{_≡_, refl, sym, ap, _∙_}
 use mathlib.Core.Bool.{true, false, cond}
 use mathlib.Core.List.{List}

@@ -1,7 +1,8 @@
 -- The words of demand 3 for the verdict that a list of calls says. Assumes nothing.
 --
--- Which of the four a verdict is, is told by its numbers (`which`); 21, waiting and the counts follow. Yes and no go so: with no place empty, the
--- standing chunks are a list of texts, what the places hold are their end sets, and the theorem of the join applies to that list. The bounds on
+-- Which of the four a verdict is, is told by its numbers (`which`); 21, waiting and the counts
+-- follow. Yes and no go so: with no place empty, the standing chunks are a list of texts, what the
+-- places hold are their end sets, and the theorem of the join applies to that list. The bounds on
 -- the counts are those of the chunks, of which an empty one counts nothing.
 use mathlib.Core.Path.{_≡_, refl, sym, ap, ap₂, _∙_, subst, subst₂}
 use mathlib.Core.Logic.{_↔_, Iff·trans}

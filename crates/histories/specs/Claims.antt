@@ -1,5 +1,6 @@
--- The demands over every list of calls. `every-list` of proofs/EveryList.antt proves `EveryList` of every list of calls. `after-any-list` of
--- proofs/Refinement.antt ties it to the functions: what their own contracts allow is `repliesTo` and `judgeAfter`.
+-- The demands over every list of calls. `every-list` of proofs/EveryList.antt proves `EveryList` of
+-- every list of calls. `after-any-list` of proofs/Refinement.antt ties it to the functions: what
+-- their own contracts allow is `repliesTo` and `judgeAfter`.
 --
 --   judgeAfter h        the judge that the calls h leave, from a fresh one
 --   repliesTo h         the replies to them
@@ -35,7 +36,7 @@ use Rattle.histories.specs.Conditions.{Accepted-exactly, Refused-exactly
 use Rattle.calls.specs.Calls.{Call, loadNumber}
 use Rattle.calls.specs.Steps.{fresh, isYes, verdictOf, stepOf}
 
--- the judge as a machine: what a call comes to is crates/calls' stepOf
+-- the judge as a machine: the outcome of a call is crates/calls' stepOf
 abbrev pub judgeMachine : Machine Judge Call Reply
 judgeMachine = record { fresh = fresh; reply = λ j c. stepOf j c .reply; next = λ j c. stepOf j c .state }
 
@@ -54,14 +55,16 @@ abbrev pub automatonBy : Option (List ℕ) → Automaton
 automatonBy none = automatonOf noRule
 automatonBy (some f) = automatonIn f
 
--- the state: the rule that is there is built, and each place holds the end sets and the count of its standing chunk, or nothing
+-- the state: the rule that is there is built, and each place holds the end sets and the count of
+-- its standing chunk, or nothing
 pub record Invariant (h : List Call) (j : Judge) : Type 0 where
   pub rule : BuiltBy (fileOf h) j
   pub places : j .board .places ≡ placesIn h
   pub empty : (p : ℕ) → p < mostPlaces → isEmpty (j .board) p ≡ isNone (standing h p)
   pub ends : (p q : ℕ) → p < mostPlaces → q < mostStates → held (j .board) p q ≡ endAt h p q
   pub counts : (p : ℕ) → p < mostPlaces → getD (j .board .counts) p 0 ≡ countAt h p
-  -- a verdict asked now is the one that the list says; its yes or no is the join of the end sets held, its count the sum of the counts held
+  -- a verdict asked now is the one that the list says; its yes or no is the join of the end sets
+  -- held, its count the sum of the counts held
   pub asked : verdictOf j ≡ verdictIn h
   pub joined : boardIn h ≡ true → isYes j ≡ yesIn h
   pub summed : summedCount (j .board) ≡ summedIn h
@@ -74,7 +77,8 @@ pub record VerdictClauses (h : List Call) : Type 0 where
   pub none-there : (verdictIn h ≡ refused 21) ↔ (boardIn h ≡ false)
   -- waiting with the number of empty places exactly when one is empty
   pub waits : (e : ℕ) → (verdictIn h ≡ judged (waiting e)) ↔ ((boardIn h ≡ true) × (0 < e) × (e ≡ emptiesIn h))
-  -- else yes exactly when the last accepted rule has an accepting run over the standing chunks joined by place, and no when it has none
+  -- else yes exactly when the last accepted rule has an accepting run over the standing chunks
+  -- joined by place, and no when it has none
   pub accepts : boardIn h ≡ true → emptiesIn h ≡ 0
       → (verdictIn h ≡ judged (yesWith (summedIn h))) ↔ Accepts (automatonBy (fileOf h)) (textIn h)
   pub rejects : boardIn h ≡ true → emptiesIn h ≡ 0
@@ -92,17 +96,20 @@ pub record VerdictClauses (h : List Call) : Type 0 where
 pub record EveryList (h : List Call) : Type 0 where
   -- each reply is document 01's answer after the calls before it
   pub correct : repliesTo h ≡ answersTo h
-  -- the sets, the table, the delegates and the M by which they go are, of each file that a load accepts, those of the automaton in its bytes
+  -- the sets, the table, the delegates and the M by which they go are, of each file that a load
+  -- accepts, those of the automaton in its bytes
   pub method : (f : List ℕ) → loadNumber f ≡ none → Method f (builtOf (ruleOf f))
-  -- a call is accepted exactly when none of its conditions holds, and refused with a number exactly when that one is the first that holds (the
-  -- verdict's 21 is in `VerdictClauses`, and 24 is no call's: `Never-24`)
+  -- a call is accepted exactly when none of its conditions holds, and refused with a number exactly
+  -- when that one is the first that holds (the verdict's 21 is in `VerdictClauses`, and 24 is no
+  -- call's: `Never-24`)
   pub accepted-exactly : Accepted-exactly h
   pub refused-exactly : Refused-exactly h
   pub after : Invariant h (judgeAfter h)
   pub verdict : VerdictClauses h
 
--- 24: after no list of calls is the sum of the counts too large with that of a chunk within the limit, since 64 places, 65,536 bytes a chunk and 32
--- starts make 2^27 transitions at most; so no call answers 24
+-- 24: after no list of calls is the sum of the counts too large with that of a chunk within the
+-- limit, since 64 places, 65,536 bytes a chunk and 32 starts make 2^27 transitions at most; so no
+-- call answers 24
 abbrev pub Sum-fits : Type 0
 Sum-fits = (h : List Call) (p : ℕ) (w : List ℕ) → length w ≤ longestChunk → summedIn h + countOf (ruleIn h) p (some w) ≤ mostCount
 

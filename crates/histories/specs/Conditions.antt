@@ -1,5 +1,6 @@
--- When a call after the calls h is accepted, and when it is refused with which number (document 01, "Numbers caused by the input" and "by the
--- state"), spelt out condition by condition and without the lists of crates/calls. proofs/Conditions.antt proves it.
+-- When a call after the calls h is accepted, and when it is refused with which number (document 01,
+-- "Numbers caused by the input" and "by the state"), spelt out condition by condition and without
+-- the lists of crates/calls. proofs/Conditions.antt proves it.
 use mathlib.Core.Path.{_≡_}
 use mathlib.Core.Logic.{_↔_, _⊎_}
 use mathlib.Core.Bool.{true, false}
@@ -20,13 +21,15 @@ use Rattle.histories.specs.History.{fileOf, ruleIn, boardIn, placesIn, c
 use Rattle.histories.specs.Method.{TooMany}
 
 pub record Accepted-exactly (h : List Call) : Type 0 where
-  -- none of the conditions 1 to 8 holds of the file, and no more than 512 sets are reached in its automaton; it is answered with the number of
-  -- sets and the M of the built rule, which `Method` of specs/Method.antt ties to that automaton
+  -- none of the conditions 1 to 8 holds of the file, and no more than 512 sets are reached in its
+  -- automaton; it is answered with the number of sets and the M of the built rule, which `Method`
+  -- of specs/Method.antt ties to that automaton
   pub loading : (f : List ℕ)
       → (answerOf h (loads f) ≡ loaded (builtOf (ruleOf f) .setcount) (builtOf (ruleOf f) .startcount)) ↔ (NoneHolds (fileConditions f) × (TooMany (automatonIn f) → ⊥))
   -- a rule is there, and 1 to 64 places are asked for
   pub opening : (n : ℕ) → (answerOf h (opens n) ≡ accepted) ↔ ((fileOf h ≡ none → ⊥) × (1 ≤ n) × (n ≤ mostPlaces))
-  -- a board is there with that place, the chunk is within the limit and the alphabet, the place is empty, and the sum of the counts fits
+  -- a board is there with that place, the chunk is within the limit and the alphabet, the place is
+  -- empty, and the sum of the counts fits
   pub delivery : (p : ℕ) (w : List ℕ)
       → (answerOf h (delivers p w) ≡ accepted)
       ↔ ((0 < placesIn h) × (p < placesIn h) × (length w ≤ longestChunk) × (foreign w (ruleIn h .k) ≡ false) × (standing h p ≡ none)

@@ -1,9 +1,12 @@
--- What the functions of crates/judge allow by their own contracts, as the checker reads them (`Reads.Learnt`): any result that a function's
--- contract does not rule out. `judgeLibrary` is what a customer's program gets that calls these functions.
+-- What the functions of crates/judge allow by their own contracts, as the checker reads them
+-- (`Reads.Learnt`): any result that a function's contract does not rule out. `judgeLibrary` is what
+-- a customer's program gets that calls these functions.
 --
---   MayBegin .. MayJudge   what `new_judge`, `load`, `open`, `deliver`, `withdraw` and `ask_verdict` may return for their arguments
+--   MayBegin .. MayJudge   what `new_judge`, `load`, `open`, `deliver`, `withdraw` and
+--                          `ask_verdict` may return for their arguments
 --   AsksStep j c           what the function of the call c asks before it is called on the judge j
---   MayStep j c a next     on the judge j the call c may be answered with a, in document 01's numbers and values, and leave the judge next
+--   MayStep j c a next     on the judge j the call c may be answered with a, in document 01's
+--                          numbers and values, and leave the judge next
 use mathlib.Core.Path.{_≡_}
 use mathlib.Core.List.{List}
 use Prim.Native.Nat.{ℕ}

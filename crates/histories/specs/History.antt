@@ -1,15 +1,18 @@
--- Lists of calls, and what such a list says by itself (document 01, "The board and its calls"). A history has the LAST call first. Nothing here
--- looks at a state.
+-- Lists of calls, and what such a list says by itself (document 01, "The board and its calls"). A
+-- history has the LAST call first. Nothing here looks at a state.
 --
 --   fileOf h, ruleIn h       the file of the last accepted load, and its rule
 --   openNumber h n           the number with which an opening is refused: 20, 10
---   boardIn h                a board is there: the last accepted call among loads and openings is an opening
+--   boardIn h                a board is there: the last accepted call among loads and openings is
+--                            an opening
 --   placesIn h               its places; 0 where no board is there
 --   standing h p             the standing chunk at place p, or none
 --   endAt h p q, countAt h p       what place p holds: the end set of state q, and the count
 --   runAt r p                the states that are run at place p, by the rule r
---   countOf r p chunk, endOf r p q chunk   the same of what stands at place p, by the rule r: standingCount and standingEnd
---   deliverCheck, withdrawCheck    the conditions of a delivery and a withdrawal in order, by the places and the chunk standing at each
+--   countOf r p chunk, endOf r p q chunk   the same of what stands at place p, by the rule r:
+--                                          standingCount and standingEnd
+--   deliverCheck, withdrawCheck    the conditions of a delivery and a withdrawal in order, by the
+--                                  places and the chunk standing at each
 --   deliverNumber, withdrawNumber  they after the calls h: 21, 11, 12, 13, 22, 24 and 21, 11, 23
 --   emptiesIn h, summedIn h        how many places are empty, and the sum of the counts
 --   yesIn h, verdictIn h           the join of the end sets says yes; the verdict
@@ -73,7 +76,8 @@ placesIn (delivers p w ∷ h) = placesIn h
 placesIn (withdraws p ∷ h) = placesIn h
 placesIn (asksVerdict ∷ h) = placesIn h
 
--- ---- what stands at a place comes to, where `run` has the states that are run there; 0 where nothing stands
+-- ---- what stands at a place comes to, where `run` has the states that are run there; 0 where
+-- nothing stands
 abbrev pub standingCount : List ℕ → ℕ → Option (List ℕ) → ℕ
 standingCount ts run none = 0
 standingCount ts run (some w) = chunkCount ts run w

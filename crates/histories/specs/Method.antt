@@ -1,12 +1,16 @@
--- Demand 2 from the bytes of a file that a load accepts: what the built rule has is what documents 000 and 004 give to the automaton that the bytes
--- state. proofs/Method.antt proves it.
+-- Demand 2 from the bytes of a file that a load accepts: what the built rule has is what documents
+-- 000 and 004 give to the automaton that the bytes state. proofs/Method.antt proves it.
 --
---   Leads a q w m   m is the set of the states to which a run over the text w leads from the state q
---   Moves a l s m   m is the set of the states to which an arc by the symbol s leads from a member of l
+--   Leads a q w m   m is the set of the states to which a run over the text w leads from the state
+--                   q
+--   Moves a l s m   m is the set of the states to which an arc by the symbol s leads from a member
+--                   of l
 --   numberedIn b m  the set m has a number in the built rule b
---   Origin, InOrder the first state and, from it, the first text that lead to a set; sets are numbered in the order of these
+--   Origin, InOrder the first state and, from it, the first text that lead to a set; sets are
+--   numbered in the order of these
 --   TooMany a       more than 512 sets are reached: 513 distinct ones, none of them empty
---   Method f b      the sets, the next-set table, the delegates and M of b are those of the automaton in the bytes f
+--   Method f b      the sets, the next-set table, the delegates and M of b are those of the
+--                   automaton in the bytes f
 use mathlib.Core.Path.{_≡_}
 use mathlib.Core.Logic.{_↔_, _⊎_}
 use mathlib.Core.List.{List}
@@ -37,8 +41,8 @@ module _ (b : Built) where
   abbrev pub numberedIn : ℕ → Type 0
   numberedIn m = (i : ℕ) × (i < b .setcount) × (setAt i ≡ m)
 
--- the sets of the built rule in the order of their numbers. Of two texts the shorter is first; of two as long, the one with the lower symbol
--- where they first differ
+-- the sets of the built rule in the order of their numbers. Of two texts the shorter is first; of
+-- two as long, the one with the lower symbol where they first differ
 pub record Origin (a : Automaton) (m q : ℕ) (w : List ℕ) : Type 0 where
   pub below : q < a .n
   pub leads : Leads a q w m
@@ -58,13 +62,16 @@ TooMany a =
     × ((i : ℕ) → i < mostSets + 1 → (getD l i 0 ≡ 0 → ⊥) × (q : ℕ) × (q < a .n) × (w : List ℕ) × Leads a q w (getD l i 0))
 
 pub record Method (f : List ℕ) (b : Built) : Type 0 where
-  -- a set has a number exactly when it is not empty and some state and text lead to it, and then it has one number
+  -- a set has a number exactly when it is not empty and some state and text lead to it, and then it
+  -- has one number
   pub sets : (m : ℕ) → numberedIn b m ↔ (m ≡ 0 → ⊥) × (q : ℕ) × (q < automatonIn f .n) × (w : List ℕ) × Leads (automatonIn f) q w m
   pub once : (i j : ℕ) → i < b .setcount → j < b .setcount → setAt b i ≡ setAt b j → i ≡ j
   -- sets are numbered in the order of their first states, and then of their first texts from these
   pub order : InOrder (automatonIn f) b
-  -- a cell of the table is the number of the set to which the arcs by its symbol lead, or 512 where they lead nowhere
+  -- a cell of the table is the number of the set to which the arcs by its symbol lead, or 512 where
+  -- they lead nowhere
   pub table : (i s : ℕ) → i < b .setcount → s < automatonIn f .k
       → ((nextAt b i s < b .setcount) × Moves (automatonIn f) (setAt b i) s (setAt b (nextAt b i s))) ⊎ ((nextAt b i s ≡ emptySet) × Moves (automatonIn f) (setAt b i) s 0)
-  -- its delegates are, for each state, the lowest alike one, with zeros after them, and its number of starts is M
+  -- its delegates are, for each state, the lowest alike one, with zeros after them, and its number
+  -- of starts is M
   pub delegates : Merged (automatonIn f) (b .delegates) (b .startcount)

@@ -1,10 +1,12 @@
--- Table P of document 01: one list of cases and one claim over it, from the bytes of the rule files, through the judge's calls.
--- proofs/TableP.antt proves it.
+-- Table P of document 01: one list of cases and one claim over it, from the bytes of the rule
+-- files, through the judge's calls. proofs/TableP.antt proves it.
 --
 --   Case          a rule file, what its load answers, and the result of the case
---   callsOf c     the calls of the case: a load; for a verdict also an opening, a delivery for each chunk and the question. The last first
+--   callsOf c     the calls of the case: a load; for a verdict also an opening, a delivery for each
+--                 chunk and the question. The last first
 --   repliesOf c   what is answered to them
---   AsTabled         what the case says of the replies that were given and of the state that is left
+--   AsTabled         what the case says of the replies that were given and of the state that is
+--                    left
 --   Case-holds    `AsTabled` after the calls of the case
 --   TableP        each case of the table holds so
 use mathlib.Core.Path.{_≡_}
@@ -21,8 +23,9 @@ use Rattle.calls.specs.Calls.{Call, loads, opens, delivers, asksVerdict}
 use Rattle.histories.specs.Claims.{judgeAfter, repliesTo}
 
 -- ---- a case
---   sets masks rows        the masks of all sets in number order, and for each set the cell of each symbol in the next-set table: the number of
---                          the successor, or 512 for the empty set
+--   sets masks rows        the masks of all sets in number order, and for each set the cell of each
+--                          symbol in the next-set table: the number of the successor, or 512 for
+--                          the empty set
 --   delegates ds           the delegate of each state
 --   verdict chunks v       with the chunks at the places 0, 1, .. of a board that has a place for
 --                          each, the verdict v

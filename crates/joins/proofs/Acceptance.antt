@@ -1,5 +1,6 @@
--- Acceptance from a set of states: a final state is in the successor of the set by a text exactly where an accepting run over the text starts in
--- a member. And texts that are joined. Assumes a well-formed rule.
+-- Acceptance from a set of states: a final state is in the successor of the set by a text exactly
+-- where an accepting run over the text starts in a member. And texts that are joined. Assumes a
+-- well-formed rule.
 use mathlib.Core.Path.{_≡_, refl, subst}
 use mathlib.Core.Logic.{_↔_}
 use mathlib.Core.Bool.{true}

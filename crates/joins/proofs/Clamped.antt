@@ -1,5 +1,5 @@
--- The code's join and document 01's: where the number of states is at most 32 and delegates are states, what the code cuts off is nothing. Assumes
--- nothing.
+-- The code's join and document 01's: where the number of states is at most 32 and delegates are
+-- states, what the code cuts off is nothing. Assumes nothing.
 use mathlib.Core.Path.{_≡_, refl, ap, _∙_}
 use mathlib.Core.List.{List}
 use Prim.Native.Nat.{ℕ, zero, suc, _+_, _*_, _%_, _≤_, _<_}

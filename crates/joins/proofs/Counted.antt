@@ -1,5 +1,6 @@
--- The bound on the count: the summed count is at most M times the bytes of all chunks, since what is run at a place is a start. Assumes what
--- crates/chunks claims of a chunk's count, a well-formed rule and its delegates.
+-- The bound on the count: the summed count is at most M times the bytes of all chunks, since what
+-- is run at a place is a start. Assumes what crates/chunks claims of a chunk's count, a well-formed
+-- rule and its delegates.
 use mathlib.Core.Path.{sym, subst}
 use mathlib.Core.List.{List, [], _∷_, flatten}
 use Prim.Native.Nat.{ℕ, zero, suc, _*_, _≤_, _<_}

@@ -1,5 +1,5 @@
--- The case that sets C apart from the states that the automaton reaches (document 01, "Mistakes that look like the method"), by computation.
--- Assumes nothing.
+-- The case that sets C apart from the states that the automaton reaches (document 01, "Mistakes
+-- that look like the method"), by computation. Assumes nothing.
 use mathlib.Core.Path.{_≡_, refl}
 use mathlib.Core.List.{List, [], _∷_, flatten}
 use Prim.Native.Nat.{ℕ}

@@ -1,10 +1,13 @@
--- The theorem of the join: it says yes exactly where the rule's automaton accepts the chunks joined in order. Assumes what crates/chunks claims
--- of the states that are run, a well-formed rule, its delegates, and that each place holds the end sets of its chunk.
+-- The theorem of the join: it says yes exactly where the rule's automaton accepts the chunks joined
+-- in order. Assumes what crates/chunks claims of the states that are run, a well-formed rule, its
+-- delegates, and that each place holds the end sets of its chunk.
 --
--- The invariant, after p places: C accepts what is left of the text exactly where the initial states accept the whole. C need not be the set
--- that the automaton reaches. A place keeps it: a member of C accepts the rest exactly where its delegate does, being alike to it; and the
--- delegate does exactly where its end set accepts what is left after the chunk. That end set is at the place, since the delegate was run there:
--- at place 0 C is the set of initial states, whose delegates are run; later all starts are run, and a delegate is a start.
+-- The invariant, after p places: C accepts what is left of the text exactly where the initial
+-- states accept the whole. C need not be the set that the automaton reaches. A place keeps it: a
+-- member of C accepts the rest exactly where its delegate does, being alike to it; and the delegate
+-- does exactly where its end set accepts what is left after the chunk. That end set is at the
+-- place, since the delegate was run there: at place 0 C is the set of initial states, whose
+-- delegates are run; later all starts are run, and a delegate is a start.
 use mathlib.Core.Path.{_≡_, refl, sym, ap, ap₂, subst}
 use mathlib.Core.Logic.{_↔_}
 use mathlib.Core.Bool.{Bool, true, false, cond}

@@ -1,9 +1,11 @@
--- The theorem of the join and the bound on the count, for every well-formed rule with its delegates and every list of chunks; proofs/Claims.antt
--- proves them. C need not be the set of states that the automaton reaches: both accept the same texts, and no more is claimed.
+-- The theorem of the join and the bound on the count, for every well-formed rule with its delegates
+-- and every list of chunks; proofs/Claims.antt proves them. C need not be the set of states that
+-- the automaton reaches: both accept the same texts, and no more is claimed.
 --
 --   Texts k ws         each chunk is a text of symbols below k
 --   delegateIn d q     the delegate of q, in a list of delegates
---   HoldsEnds r d e ws     each place holds, for each state, the end set that document 01 gives to its chunk there
+--   HoldsEnds r d e ws     each place holds, for each state, the end set that document 01 gives to
+--                          its chunk there
 --   countOf r d ws     the sum of the chunks' counts
 use mathlib.Core.Path.{_≡_}
 use mathlib.Core.Logic.{_↔_}
@@ -37,17 +39,20 @@ module _ (r : Rule) (d : List ℕ) where
   countOf ws = total (λ p. chunkCount (r .targets) (runSet d (r .n) (r .initials) p) (getD ws p [])) (length ws)
 
 pub record Claims : Type 0 where
-  -- the join says yes exactly where the rule's automaton has an accepting run over the chunks joined in order
+  -- the join says yes exactly where the rule's automaton has an accepting run over the chunks
+  -- joined in order
   pub join : (r : Rule) → WellFormed r → (d : List ℕ) (m : ℕ) → Merged (automatonOf r) d m
       → (e : ℕ → ℕ → ℕ) (ws : List (List ℕ)) → Texts (r .k) ws → HoldsEnds r d e ws
       → (yesOf e (delegateIn d) (r .n) (r .initials) (r .finals) (length ws) ≡ true) ↔ Accepts (automatonOf r) (flatten ws)
-  -- where there are at most 32 states and each has one of them as its delegate, the code's join is this join of what the array holds
+  -- where there are at most 32 states and each has one of them as its delegate, the code's join is
+  -- this join of what the array holds
   pub join-law : (ends d : List ℕ) (n m p : ℕ) → n ≤ mostStates → ((q : ℕ) → q < n → delegateIn d q < mostStates)
       → joinUpTo ends d n m p ≡ joinOf (heldIn ends) (delegateIn d) n m p
   -- it looks only at the end sets of delegates at the places that are joined
   pub join-same : (e f : ℕ → ℕ → ℕ) (d : ℕ → ℕ) (n m p : ℕ) → ((i q : ℕ) → i < p → q < n → e i (d q) ≡ f i (d q))
       → joinOf e d n m p ≡ joinOf f d n m p
-  -- a chunk counts at most M times its bytes at its place, and so the summed count is at most M times the bytes
+  -- a chunk counts at most M times its bytes at its place, and so the summed count is at most M
+  -- times the bytes
   pub place-most : (r : Rule) → WellFormed r → (d : List ℕ) (m : ℕ) → Merged (automatonOf r) d m → (p : ℕ) (w : List ℕ)
       → chunkCount (r .targets) (runSet d (r .n) (r .initials) p) w ≤ m * length w
   pub count-most : (r : Rule) → WellFormed r → (d : List ℕ) (m : ℕ) → Merged (automatonOf r) d m → (ws : List (List ℕ))

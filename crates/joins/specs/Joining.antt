@@ -1,12 +1,14 @@
--- Joining (document 01, "The board and its calls"): C begins with the initial states, and for each place in order becomes the union of the end
--- sets of the delegates of its members. Yes when C has a final state.
+-- Joining (document 01, "The board and its calls"): C begins with the initial states, and for each
+-- place in order becomes the union of the end sets of the delegates of its members. Yes when C has
+-- a final state.
 --
---   joinOf e d n m p        C after the first p places, for n states: e p q is the end set of state q at place p, d q the delegate of q, and m the
---                           set of initial states
+--   joinOf e d n m p        C after the first p places, for n states: e p q is the end set of state
+--                           q at place p, d q the delegate of q, and m the set of initial states
 --   yesOf e d n m f p       yes: C has a final state, f being the set of final states
 --   heldIn ends p q         the end set of state q at place p, in an array with 32 cells a place
---   joinUpTo, saysYes       the same as the code does it, over arrays that may hold anything. Nobody has to believe these two: `join-law` of
---                           specs/Claims.antt says that on delegates they are the two above
+--   joinUpTo, saysYes       the same as the code does it, over arrays that may hold anything.
+--                           Nobody has to believe these two: `join-law` of specs/Claims.antt says
+--                           that on delegates they are the two above
 use mathlib.Core.Bool.{Bool}
 use mathlib.Core.List.{List}
 use Prim.Native.Nat.{ℕ, zero, suc, _+_, _*_, _%_, min}

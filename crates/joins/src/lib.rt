@@ -1,4 +1,5 @@
-// The join of the end sets that a board holds, place by place. Any value is taken: a number of states above 32 counts as 32.
+// The join of the end sets that a board holds, place by place. Any value is taken: a number of
+// states above 32 counts as 32.
 ghost use mathlib.Core.Path.{_≡_};
 ghost use Prim.Native.Nat.{_+_, _*_, _%_, _≤_, _<_};
 ghost use lib.ListN.{getD};
@@ -27,7 +28,8 @@ fn end_set(ends: &[u32; limits::ENDS], place: usize, q: StateNumber) -> u32
     ends[place * limits::STATES + i % limits::STATES]
 }
 
-// The union of the end sets, at a place, of the delegates of the members of set; n is the number of states.
+// The union of the end sets, at a place, of the delegates of the members of set; n is the number of
+// states.
 fn join_place(
     ends: &[u32; limits::ENDS],
     delegates: &[u8; limits::STATES],

@@ -1,5 +1,5 @@
--- No function of the judge asks anything of its caller: what each asks, as the checker reads its contract
--- (`Reads.Asked`), is met by any arguments whatever. Assumes nothing.
+-- No function of the judge asks anything of its caller: what each asks, as the checker reads its
+-- contract (`Reads.Asked`), is met by any arguments whatever. Assumes nothing.
 use mathlib.Core.List.{List}
 use Prim.Native.Nat.{ℕ}
 use contract.Lifetimes.{Lfts}

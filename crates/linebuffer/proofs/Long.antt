@@ -3,7 +3,7 @@
 -- and a chunk alike. Assumes nothing.
 --
 --   …-append       a text that goes on with t, where its first bytes v decide
---   Tells a b      a line of the meaning a comes to what a line of the meaning b comes to
+--   Tells a b      a line of the meaning a has the outcome of a line of the meaning b
 --   stray-tail     the rest is not hex digits: the line is malformed
 --   hex-tail       the rest is hex digits, even in number: the line comes to what its first bytes
 --                  come to

@@ -2,7 +2,7 @@
 --
 --   stands-within            as much of the buffer as stands for the line is within it
 --   held-call, held-stray    what `run_held` does is what the definition says
---   held-step                what is kept comes to what the line comes to
+--   held-step                what is kept has the outcome of the line
 use mathlib.Core.Path.{_≡_, refl, sym, ap, ap₂, _∙_, subst}
 use mathlib.Core.Bool.{Bool, true, false, _&&_, and-comm}
 use mathlib.Core.List.{List}

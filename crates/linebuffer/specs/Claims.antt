@@ -32,6 +32,6 @@ pub record Claims : Type 0 where
       → Keeps (bufferAfter buffer h piece) (heldAfter buffer h piece) (w ++ piece)
   -- the buffer keeps its length, also where it keeps no line
   pub same-size : (buffer : List ℕ) (h : Held) (piece : List ℕ) → length (bufferAfter buffer h piece) ≡ length buffer
-  -- what is kept comes to what the whole line comes to, on every judge
+  -- what is kept has the outcome of the whole line, on every judge
   pub runs : (buffer : List ℕ) (h : Held) (w : List ℕ) → lineRoom ≤ length buffer → Keeps buffer h w
       → (j : Judge) → lineStep j (heldMeaning buffer h) ≡ lineStep j (lineIn w)

@@ -1,4 +1,5 @@
--- Texts whose bytes are all greater than some byte, which therefore do not split there. Assumes nothing.
+-- Texts whose bytes are all greater than some byte, which therefore do not split there. Assumes
+-- nothing.
 --
 --   Over m w    each byte of w is greater than m
 use mathlib.Core.Path.{_≡_, refl, ap, _∙_}

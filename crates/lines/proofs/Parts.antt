@@ -1,4 +1,5 @@
--- The part of a text from an index to the next line feed, or to the end of the text. Assumes nothing.
+-- The part of a text from an index to the next line feed, or to the end of the text. Assumes
+-- nothing.
 use mathlib.Core.Path.{_≡_, sym, ap, _∙_}
 use mathlib.Core.List.{List}
 use Prim.Native.Nat.{ℕ, _+_, _-_, _≤_, _<_}

@@ -3,7 +3,8 @@
 --   begins h w   the text w begins with the bytes h
 --   upTo c w     the bytes of w before the first c; all of them where there is none
 --   past c w     the bytes of w after the first c, if there is one
---   linesOf w    the lines of w: a line is ended by a line feed or, if it is the last and not empty, by the text's end
+--   linesOf w    the lines of w: a line is ended by a line feed or, if it is the last and not
+--                empty, by the text's end
 use mathlib.Core.Bool.{Bool, true, false, cond, _&&_}
 use mathlib.Core.List.{List, [], _∷_, _++_}
 use mathlib.Core.Option.{Option, none, some}

@@ -4,7 +4,8 @@ ghost use Prim.Native.Nat.{_+_};
 ghost use lib.ListN.{length, drop};
 ghost use Rattle.lines.specs.Splitting.{upTo, begins};
 
-// The index of the first such byte from `from` on, or the text's length; `from` where that is past the end.
+// The index of the first such byte from `from` on, or the text's length; `from` where that is past
+// the end.
 pub fn find(text: &[u8], from: usize, c: u8) -> usize
     ensures { λ r. ⌜ r ≡ from + length (upTo c (drop from (now (text .entry)))) ⌝ }
 {

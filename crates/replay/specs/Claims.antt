@@ -1,7 +1,9 @@
--- Every list of calls has a record, and reading the record gives the list again; proofs/RoundTrip.antt proves it.
+-- Every list of calls has a record, and reading the record gives the list again;
+-- proofs/RoundTrip.antt proves it.
 --
 --   AllFit h      each call of h has numbers of 64 bits, and bytes that are bytes
---   recordOf h    the record of the calls h, of which the last is first: a line each, in the order in which they are made
+--   recordOf h    the record of the calls h, of which the last is first: a line each, in the order
+--                 in which they are made
 use mathlib.Core.Path.{_≡_}
 use mathlib.Core.List.{List, [], _∷_, _++_}
 use Prim.Native.Nat.{ℕ}

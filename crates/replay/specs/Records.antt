@@ -1,7 +1,9 @@
 -- A recorded list of calls: a text of lines, each as crates/calltext gives its meaning.
 --
---   Recorded       the calls of a record, the last first, as a history has them; or the number of its first malformed line, counted from 1
---   recordIn w     what the text w records. An empty line begins a fresh judge: the calls are those after the last one
+--   Recorded       the calls of a record, the last first, as a history has them; or the number of
+--                  its first malformed line, counted from 1
+--   recordIn w     what the text w records. An empty line begins a fresh judge: the calls are those
+--                  after the last one
 --   ReplayReply           what replaying a record answers: a verdict, or that a line is malformed
 --   replayMeans r       what each case of the code's answer says
 --   replayOf s     the right answer for a record that says s
@@ -45,7 +47,8 @@ abbrev pub replayMeans : ReplayAnswer → ReplayReply
 replayMeans (Verdict v) = verdict (verdictMeans v)
 replayMeans (Malformed line) = malformedLine line
 
--- the verdict of demand 3 for the recorded calls: `VerdictClauses` of crates/histories, which holds of every list, has its words
+-- the verdict of demand 3 for the recorded calls: `VerdictClauses` of crates/histories, which holds
+-- of every list, has its words
 abbrev pub replayOf : Recorded → ReplayReply
 replayOf (calls h) = verdict (verdictIn h)
 replayOf (malformedAt i) = malformedLine i

@@ -1,4 +1,5 @@
-// Reads rule files from standard input, a line `NAME HEX` each with `-` for no bytes, and prints what the reader answers.
+// Reads rule files from standard input, a line `NAME HEX` each with `-` for no bytes, and prints
+// what the reader answers.
 use automaton::Rule;
 use fields::Bytes;
 use libc::STDIN_FILENO;

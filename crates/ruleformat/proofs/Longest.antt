@@ -1,5 +1,6 @@
--- No file of bytes that conditions 1 and 3 to 8 let pass has more than 32,906 bytes, and that of the
--- rule with every arc has so many: 10, 4 for each of 32 states, and 2 for each state, symbol and target. Assumes nothing.
+-- No file of bytes that conditions 1 and 3 to 8 let pass has more than 32,906 bytes, and that of
+-- the rule with every arc has so many: 10, 4 for each of 32 states, and 2 for each state, symbol
+-- and target. Assumes nothing.
 use mathlib.Core.Path.{_≡_, refl, ap, _∙_, subst}
 use mathlib.Core.Logic.{⊎-elim}
 use mathlib.Core.Bool.{Bool, true, cond, not}

@@ -1,4 +1,5 @@
-// Reads a rule file from standard input and prints the built rule, or the number with which it is refused.
+// Reads a rule file from standard input and prints the built rule, or the number with which it is
+// refused.
 use libc::STDOUT_FILENO;
 
 fn main() {

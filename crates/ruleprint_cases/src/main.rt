@@ -1,4 +1,5 @@
-// Reads rule files from standard input, a line `NAME HEX` each with `-` for no bytes, and prints each name and what ruleprint prints for the file.
+// Reads rule files from standard input, a line `NAME HEX` each with `-` for no bytes, and prints
+// each name and what ruleprint prints for the file.
 use fields::Bytes;
 use libc::STDIN_FILENO;
 use libc::STDOUT_FILENO;

@@ -1,9 +1,10 @@
 -- What printing into a lent buffer answers.
 --
 --   printedMeans           the length that an answer tells, none where the buffer is too short
---   Prints text ..     the text stands at the start of the buffer and what lies past it is left as it was; a buffer that is too short is
---                      refused and left unchanged
---   textFor f          the text for the rule file f: refused with the first number of 1 to 9 whose condition holds, else the built rule's
+--   Prints text ..     the text stands at the start of the buffer and what lies past it is left as
+--                      it was; a buffer that is too short is refused and left unchanged
+--   textFor f          the text for the rule file f: refused with the first number of 1 to 9 whose
+--                      condition holds, else the built rule's
 --   mostBytes          so many bytes have room for the text of any file (specs/Claims.antt)
 use mathlib.Core.Path.{_≡_}
 use mathlib.Core.Bool.{cond}

@@ -1,8 +1,9 @@
--- What `ruleprint` prints (document 01, "Two rules by hand"), as byte values: fields with one space between them, each line ended by one line
--- feed.
+-- What `ruleprint` prints (document 01, "Two rules by hand"), as byte values: fields with one space
+-- between them, each line ended by one line feed.
 --
---   ruleText b      the number of sets and M; a line for each set: its number, its mask in 8 hex digits and, for each symbol, the number of
---                   the successor or - for the empty set; and each state's delegate
+--   ruleText b      the number of sets and M; a line for each set: its number, its mask in 8 hex
+--                   digits and, for each symbol, the number of the successor or - for the empty
+--                   set; and each state's delegate
 --   refusedText x   `refused` and the number
 --   textOf b        one or the other, by the answer of building
 use mathlib.Core.Bool.{cond}

@@ -1,8 +1,8 @@
 -- Every text is answered right, however it is cut into blocks; proofs/Claimed.antt proves the
 -- claims.
 --
---   KeepsLine s w          the line's buffer is large enough, and it keeps w, the beginning of a line
---                      that earlier parts brought
+--   KeepsLine s w          the line's buffer is large enough, and it keeps w, the beginning of a
+--                          line that earlier parts brought
 --   linesEnded w ps    the lines that the parts end, where w is the beginning of the first
 --   lineBegun w ps     the beginning of the line that goes on behind them
 --   FirstPart block p  p is the first part of the block: it takes some of it, no more than there

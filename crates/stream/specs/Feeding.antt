@@ -1,11 +1,11 @@
--- A text of lines that comes in blocks, cut anywhere: what each call comes to, on any judge, any
+-- A text of lines that comes in blocks, cut anywhere: the outcome of each call, on any judge, any
 -- value and any buffers, whether they fit each other or not. specs/Claims.antt says what it comes
 -- to where the line's buffer keeps a line.
 --
 --   State             the judge, what is held of a line, and what the line's buffer and the
 --                     buffer for answers have in them
 --   stateOf ..        a state, from these four
---   Step              what a call came to: the state that it leaves, and how many bytes at the
+--   Step              the outcome of a call: the state that it leaves, and how many bytes at the
 --                     start of `out` it answered
 --   bytesOf t         those bytes
 --   goOn s p          the line that is held goes on with the piece p
@@ -20,9 +20,10 @@
 --   firstOf ps        the first of them
 --   partAt block at   the part that begins at an index
 --   partSize p        how many bytes of the block the part takes, with its line feed
---   feedPart s p      what feeding a part comes to
---   finishOf s        what the end of the text comes to: a last line is answered if it is not empty
---   answerOutcome, feedOutcome   what the code's result and its buffers tell
+--   feedPart s p      the outcome of feeding a part
+--   finishOf s        the outcome of the end of the text: a last line is answered if it is not
+--                     empty
+--   answerOutcome, feedOutcome   the outcome that the code's result and its buffers stand for
 use mathlib.Core.Bool.{cond}
 use mathlib.Core.List.{List, [], _∷_}
 use Prim.Native.Nat.{ℕ, _+_}

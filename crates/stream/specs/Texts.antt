@@ -1,13 +1,13 @@
--- A whole text of lines: what running its lines comes to, what feeding it in blocks comes to, and
+-- A whole text of lines: the outcome of running its lines, the outcome of feeding it in blocks, and
 -- the right answers.
 --
 --   TextOutcome         all that was answered, and the judge that is left
---   after s rest        a line's answer, and what the lines after it come to
---   linesStep j ls      what the lines ls come to, one after the other, beginning with the judge j
+--   after s rest        a line's answer, and the outcome of the lines after it
+--   linesStep j ls      the outcome of the lines ls, one after the other, from the judge j on
 --   feedParts s ps      the state after feeding the parts ps
 --   partsText s ps      all that is answered to them
 --   partsIn blocks      the parts of the blocks, one block after the other
---   streamOf s blocks   what feeding the blocks and then finishing comes to
+--   streamOf s blocks   the outcome of feeding the blocks and then finishing
 --   historyAfter h m    the calls since the last empty line: h, and then a line of the meaning m
 --   rightResponse h m   the right answer to a line of the meaning m after the calls h
 --   rightText h ls      the right answer to each line, after the calls h and the lines before it

@@ -1,4 +1,5 @@
--- One lemma over plain lists for each way out of `find`, `number` and `step`, and what their answers tell. Assumes nothing.
+-- One lemma over plain lists for each way out of `find`, `number` and `step`, and what their
+-- answers tell. Assumes nothing.
 --
 --   told-.., limited-.., whole-of, over-of   an answer and the limit of 512 sets
 --   found-..                        the search

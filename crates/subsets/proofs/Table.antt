@@ -1,4 +1,5 @@
--- How `ArraysHold` goes on: over a step, to the next set, over the turn of {q}; and what it comes to at the end. Assumes nothing.
+-- How `ArraysHold` goes on: over a step, to the next set, over the turn of {q}; and what it comes
+-- to at the end. Assumes nothing.
 use mathlib.Core.Path.{_≡_, refl, sym, ap, _∙_}
 use mathlib.Core.Bool.{Bool, true, false, _&&_}
 use mathlib.Core.List.{List}

@@ -1,12 +1,14 @@
 -- What `number_sets` promises of any table of targets and any n and k: the number of sets or that
--- there are more than 512 (9), and, where there are not, both arrays whole, each cell that is not in
--- use too, and the number of each singleton. A refusal carries zeros.
+-- there are more than 512 (9), and, where there are not, both arrays whole, each cell that is not
+-- in use too, and the number of each singleton. A refusal carries zeros.
 --
---   NumberingReply, numberingMeans       document 01's answer: the number of sets, or refused with a number; and what
---                      each case of the code's answer says
---   Turn, turnMeans       what numbering one set comes to: its number and how many sets have one then,
---                      or refused with a number; and what each case of the code's answer says
---   Table, tableOutcome   what is told, with the arrays beside it; and what the code's result tells
+--   NumberingReply, numberingMeans       document 01's answer: the number of sets, or refused with
+--                                        a number; and what each case of the code's answer says
+--   Turn, turnMeans       the outcome of numbering one set: its number and how many sets have one
+--                         then, or refused with a number; and what each case of the code's answer
+--                         says
+--   Table, tableOutcome   the answer, with the arrays beside it; and the outcome that the code's
+--                         result stands for
 --   noTable            refused with 9: zeros
 --   tableOf ts n k     the table of a rule with the targets ts, n states and k symbols
 use mathlib.Core.Bool.{cond}

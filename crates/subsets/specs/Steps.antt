@@ -1,5 +1,5 @@
 -- What the functions below `number_sets` promise, each by the part of the procedure that it does.
--- Nothing here needs to be believed: `tableOf` says what they come to. The numbered sets are the
+-- Nothing here needs to be believed: `tableOf` says what they give. The numbered sets are the
 -- first count cells of the array of sets, and the cells past them are 0.
 --
 --   limited l         what is told of the sets l: their number, or 9 where there are more than 512
@@ -56,7 +56,8 @@ module _ (ts l : List ℕ) (i s : ℕ) where
 abbrev pub cellTo : List ℕ → ℕ → List ℕ → ℕ → ℕ → ℕ
 cellTo ts k f upto c = cond (ltb c upto && ltb (c % mostSymbols) k) (numberOrEmpty f (successor ts (getD f (c / mostSymbols) 0) (c % mostSymbols))) emptySet
 
--- The arrays hold the sets l and the table's cells before `upto`. A cell is said for every list that goes on from l, since a set keeps its number.
+-- The arrays hold the sets l and the table's cells before `upto`. A cell is said for every list
+-- that goes on from l, since a set keeps its number.
 pub record ArraysHold (ts : List ℕ) (k : ℕ) (l : List ℕ) (upto : ℕ) (sets next : List ℕ) : Type 0 where
   pub sets-are : sets ≡ cellsOf l
   pub next-long : length next ≡ tableCells

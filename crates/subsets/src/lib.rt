@@ -134,7 +134,8 @@ fn expand(
     answer
 }
 
-// {q} is numbered, and the sets that are not yet expanded, which are those from number count on, are.
+// {q} is numbered, and the sets that are not yet expanded, which are those from number count on,
+// are.
 fn add_state(
     targets: &[u32; limits::TARGETS],
     k: u8,
@@ -153,8 +154,8 @@ fn add_state(
 }
 
 // The numbered sets of a rule with n states and k symbols, and its next-set table, into two arrays
-// where no cell is in use; a value of n above 32 is taken for 32. Where the 513th set turns up, what
-// is left in the two arrays is free.
+// where no cell is in use; a value of n above 32 is taken for 32. Where the 513th set turns up,
+// what is left in the two arrays is free.
 fn fill(
     targets: &[u32; limits::TARGETS],
     n: u8,

@@ -1,5 +1,5 @@
--- The laws of numbers as text: how many digits they have, and that the digits of a number are those of its tenth and one more. Assumes
--- nothing.
+-- The laws of numbers as text: how many digits they have, and that the digits of a number are those
+-- of its tenth and one more. Assumes nothing.
 use mathlib.Core.Path.{_≡_, refl, sym, ap, _∙_}
 use mathlib.Core.List.{List, [], _∷_, _++_}
 use Prim.Native.Nat.{ℕ, zero, suc, _+_, _/_, _%_, _^_, _≤_, _<_}

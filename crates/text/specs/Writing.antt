@@ -1,7 +1,9 @@
 -- Text written into a lent buffer.
 --
---   written before at piece          the buffer `before` with the piece in it from `at` on: what lies before and past it stays
---   Wrote before at piece after end  that is what the buffer holds after, and `end` is where the piece ends
+--   written before at piece          the buffer `before` with the piece in it from `at` on: what
+--                                    lies before and past it stays
+--   Wrote before at piece after end  that is what the buffer holds after, and `end` is where the
+--                                    piece ends
 use mathlib.Core.Path.{_≡_}
 use mathlib.Core.List.{List, _++_}
 use Prim.Native.Nat.{ℕ, _+_}

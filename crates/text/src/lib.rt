@@ -1,4 +1,5 @@
-// Writes bytes and numbers into a lent buffer, one after the other. Each function answers where its piece ends.
+// Writes bytes and numbers into a lent buffer, one after the other. Each function answers where its
+// piece ends.
 ghost use mathlib.Core.Path.{_≡_};
 ghost use mathlib.Core.List.{[], _∷_};
 ghost use Prim.Native.Nat.{_+_, _≤_, _<_};

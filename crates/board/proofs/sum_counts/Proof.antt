@@ -1,4 +1,5 @@
--- `sum_counts` meets its contract: the counts before p are summed, and each is below 2 ^ 32. Assumes nothing.
+-- `sum_counts` meets its contract: the counts before p are summed, and each is below 2 ^ 32.
+-- Assumes nothing.
 use mathlib.Core.Path.{_≡_, refl, sym, ap₂, _∙_}
 use Prim.Native.Nat.{ℕ, _+_, _*_, _-_, _≤_}
 use native.Mathlib.Omega.{arith}

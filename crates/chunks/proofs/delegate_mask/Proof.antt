@@ -1,4 +1,5 @@
--- `delegate_mask` meets its contract. The loop's invariant: the set has the delegates of the members below q. Assumes nothing.
+-- `delegate_mask` meets its contract. The loop's invariant: the set has the delegates of the
+-- members below q. Assumes nothing.
 use mathlib.Core.Path.{_≡_, refl, sym, ap, ap₂, _∙_}
 use mathlib.Core.Logic.{⊎-elim}
 use Prim.Native.Nat.{_-_, _%_, _≤_, min}

@@ -1,4 +1,5 @@
--- `has_foreign` meets its contract. The loop's invariant: the chunk has a foreign byte exactly where one was found or one is left. Assumes nothing.
+-- `has_foreign` meets its contract. The loop's invariant: the chunk has a foreign byte exactly
+-- where one was found or one is left. Assumes nothing.
 use mathlib.Core.Path.{_≡_, refl, sym, _∙_}
 use mathlib.Core.Logic.{⊎-elim}
 use mathlib.Core.Bool.{_||_}

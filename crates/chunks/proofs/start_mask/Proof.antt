@@ -1,4 +1,5 @@
--- `start_mask` meets its contract. The loop's invariant: the set has the starts below q. Assumes nothing.
+-- `start_mask` meets its contract. The loop's invariant: the set has the starts below q. Assumes
+-- nothing.
 use mathlib.Core.Path.{_≡_, refl, ap, ap₂, _∙_}
 use mathlib.Core.Logic.{⊎-elim}
 use Prim.Native.Nat.{_-_, _≤_, min}

@@ -1,5 +1,6 @@
--- `walk` meets its contract. The loop's invariant: the set is not empty, the whole walk ends where what is left of it ends from there, and it
--- counts one step for each byte passed and the steps of what is left. Assumes nothing.
+-- `walk` meets its contract. The loop's invariant: the set is not empty, the whole walk ends where
+-- what is left of it ends from there, and it counts one step for each byte passed and the steps of
+-- what is left. Assumes nothing.
 use mathlib.Core.Path.{_≡_, refl, sym, _∙_}
 use Prim.Native.Nat.{_+_, _-_, _≤_, _<_}
 use native.Mathlib.Omega.{arith}

@@ -1,5 +1,5 @@
--- `print_whole` meets its contract: the text for any file fits, so `print_dot` never finds the buffer
--- too short. Assumes nothing.
+-- `print_whole` meets its contract: the text for any file fits, so `print_dot` never finds the
+-- buffer too short. Assumes nothing.
 use native.Mathlib.Omega.{arith}
 use Rattle.ruletext.proofs.Copying.{all-written, not-short}
 use Rattle.dottext.proofs.Claims.{claims}

@@ -1,4 +1,5 @@
--- `all_hex` meets its contract. The loop's invariant: the bytes before i are hex digits. Assumes nothing.
+-- `all_hex` meets its contract. The loop's invariant: the bytes before i are hex digits. Assumes
+-- nothing.
 use mathlib.Core.Path.{_≡_, refl, sym, _∙_}
 use Prim.Native.Nat.{_-_, _≤_}
 use native.Mathlib.Omega.{arith}

@@ -1,4 +1,5 @@
--- `put_pairs` meets its contract. The loop's invariant: the bytes of the first i pairs are written. Assumes nothing.
+-- `put_pairs` meets its contract. The loop's invariant: the bytes of the first i pairs are written.
+-- Assumes nothing.
 use mathlib.Core.Path.{_≡_, refl, sym, ap₂, _∙_}
 use mathlib.Core.Bool.{true}
 use mathlib.Core.List.{[], _∷_, _++_}

@@ -1,4 +1,5 @@
--- `read_number` meets its contract. The loop's invariant: the field says what the bytes from i on say after digits of the value. Assumes nothing.
+-- `read_number` meets its contract. The loop's invariant: the field says what the bytes from i on
+-- say after digits of the value. Assumes nothing.
 use mathlib.Core.Path.{_≡_, sym, _∙_}
 use Prim.Native.Nat.{_+_, _*_, _-_, _≤_}
 use native.Mathlib.Omega.{arith}

@@ -1,5 +1,5 @@
--- `begins_with` meets its contract. The loop's invariant: the text begins with the head exactly when what follows i begins with the rest of the
--- head. Assumes nothing.
+-- `begins_with` meets its contract. The loop's invariant: the text begins with the head exactly
+-- when what follows i begins with the rest of the head. Assumes nothing.
 use mathlib.Core.Path.{_≡_, refl, sym, _∙_}
 use Prim.Native.Nat.{_-_, _≤_}
 use native.Mathlib.Omega.{arith}

@@ -1,4 +1,5 @@
--- `find` meets its contract. The loop's invariant: the first such byte from `from` on is the first from i on. Assumes nothing.
+-- `find` meets its contract. The loop's invariant: the first such byte from `from` on is the first
+-- from i on. Assumes nothing.
 use mathlib.Core.Path.{_≡_, refl, _∙_}
 use Prim.Native.Nat.{_+_, _-_}
 use native.Mathlib.Omega.{arith}

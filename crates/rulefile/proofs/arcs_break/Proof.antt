@@ -1,5 +1,5 @@
--- `arcs_break` meets its contract. The loop's invariant: no section before q has a bad arc. Each section lies in the file, since condition 7
--- does not hold. Assumes nothing.
+-- `arcs_break` meets its contract. The loop's invariant: no section before q has a bad arc. Each
+-- section lies in the file, since condition 7 does not hold. Assumes nothing.
 use Rattle.base.specs.Conditions.{anyBelow}
 use Rattle.base.proofs.Conditions.{none-yet, none-more, any-at}
 use Rattle.ruleformat.proofs.Pairs.{within, section-part}

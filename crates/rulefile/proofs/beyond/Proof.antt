@@ -1,4 +1,5 @@
--- `beyond` meets its contract: a shift by n leaves no bit of a mask below 2 ^ n, and only of such a one. Assumes nothing.
+-- `beyond` meets its contract: a shift by n leaves no bit of a mask below 2 ^ n, and only of such a
+-- one. Assumes nothing.
 use borrow.Author.Tests.{eq-eqb, ne-eqb, leb-true, leb-false}
 use lib.Pow.{pow-pos}
 use lib.Dec.{eqb, leb}

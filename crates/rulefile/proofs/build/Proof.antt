@@ -1,4 +1,5 @@
--- `build` meets its contract. The loop's invariant: the table has the arcs of the sections before q, and no others. Assumes nothing.
+-- `build` meets its contract. The loop's invariant: the table has the arcs of the sections before
+-- q, and no others. Assumes nothing.
 use Rattle.base.proofs.Lists.{is-listFrom}
 use Rattle.ruleformat.proofs.Accepted.{accepted, tabled}
 use Rattle.ruleformat.proofs.Tables.{cellUpTo, no-section, section-stored}

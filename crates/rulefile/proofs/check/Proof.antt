@@ -1,4 +1,5 @@
--- `check` meets its contract: after each test the number is that of the first condition from there on. Assumes nothing.
+-- `check` meets its contract: after each test the number is that of the first condition from there
+-- on. Assumes nothing.
 use Rattle.ruleformat.proofs.Refused.{short, not-short, long, not-long, few-states, many-states, good-states, few-symbols, many-symbols, good-symbols, no-room, room, initials-out, finals-out, good-masks, from-1, from-2, from-3, from-4, from-5, from-6, from-7, from-8, holds, skips}
 use Rattle.ruleformat.specs.Refusals.{tooShort, tooLong, badStates, badSymbols, noRoom, badMask, badPairs, badArcs, refusal}
 use Rattle.ruleformat.specs.Format.{stateCount, initialMask, finalMask}

@@ -1,5 +1,5 @@
--- `pairs_break` meets its contract. The loop's invariant: no pair before q breaks the rule, and `due` is where section q has to begin.
--- Assumes nothing.
+-- `pairs_break` meets its contract. The loop's invariant: no pair before q breaks the rule, and
+-- `due` is where section q has to begin. Assumes nothing.
 use Rattle.base.specs.Conditions.{anyBelow}
 use Rattle.base.proofs.Conditions.{none-yet, none-more}
 use Rattle.ruleformat.proofs.Pairs.{bad-offset, bad-length, good-pair, pairs-at, pairs-end}

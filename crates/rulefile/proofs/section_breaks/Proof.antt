@@ -1,5 +1,5 @@
--- `section_breaks` meets its contract. The loop's invariant: no arc before i breaks the rule, and `past` is one more than the arc before i,
--- as a number. Assumes nothing.
+-- `section_breaks` meets its contract. The loop's invariant: no arc before i breaks the rule, and
+-- `past` is one more than the arc before i, as a number. Assumes nothing.
 use Rattle.base.specs.Conditions.{anyBelow}
 use Rattle.base.proofs.Conditions.{none-yet, none-more}
 use Rattle.ruleformat.proofs.Arcs.{pastOf, bad-symbol, bad-target, bad-order, good-arc, section-at, section-end}

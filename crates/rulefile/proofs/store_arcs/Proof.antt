@@ -1,5 +1,5 @@
--- `store_arcs` meets its contract. The loop's invariant: each cell is what it was, with, in the row of state q, the targets of the first i
--- arcs. Assumes nothing.
+-- `store_arcs` meets its contract. The loop's invariant: each cell is what it was, with, in the row
+-- of state q, the targets of the first i arcs. Assumes nothing.
 use Rattle.ruleformat.proofs.Tables.{cellAfter, none-stored, arc-stored}
 use Rattle.ruleformat.proofs.Arcs.{bounds}
 use Rattle.ruleformat.specs.Refusals.{badSection}

@@ -1,4 +1,5 @@
--- `put_fields` meets its contract. The loop's invariant: the delegates of the first q states are written. Assumes nothing.
+-- `put_fields` meets its contract. The loop's invariant: the delegates of the first q states are
+-- written. Assumes nothing.
 use native.Mathlib.Omega.{arith}
 use Prim.Native.Nat.{ℕ, _+_, _*_, _-_, _≤_, _<_}
 use mathlib.Core.Path.{_≡_}

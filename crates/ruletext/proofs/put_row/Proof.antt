@@ -1,4 +1,5 @@
--- `put_row` meets its contract. The loop's invariant: the cells of the first s symbols are written. Assumes nothing.
+-- `put_row` meets its contract. The loop's invariant: the cells of the first s symbols are written.
+-- Assumes nothing.
 use native.Mathlib.Omega.{arith}
 use Prim.Native.Nat.{_+_, _*_, _-_, _≤_, _<_}
 use mathlib.Core.Path.{_≡_}

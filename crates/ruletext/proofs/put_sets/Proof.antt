@@ -1,4 +1,5 @@
--- `put_sets` meets its contract. The loop's invariant: the lines of the first i sets are written. Assumes nothing.
+-- `put_sets` meets its contract. The loop's invariant: the lines of the first i sets are written.
+-- Assumes nothing.
 use native.Mathlib.Omega.{arith}
 use Prim.Native.Nat.{_+_, _*_, _-_, _≤_}
 use mathlib.Core.Path.{_≡_}

@@ -1,4 +1,5 @@
--- `add_state` meets its contract: {q} is not empty, and once it has its turn the arrays hold what `expand` asks for. Assumes nothing.
+-- `add_state` meets its contract: {q} is not empty, and once it has its turn the arrays hold what
+-- `expand` asks for. Assumes nothing.
 use native.Mathlib.Omega.{arith}
 use lib.Pow.{pow-pos}
 use borrow.Author.Needs.{needs}

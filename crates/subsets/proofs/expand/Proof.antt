@@ -1,7 +1,9 @@
--- `expand` meets its contract. The invariant of the outer loop: the arrays hold the first count sets and the cells of the sets below number i,
--- and expanding these sets from i on comes to the list that the contract names. Within set i the same of the symbols below the present one.
--- The fuel of the definition is 512 at the first set and one less with each set, so it lasts while there are at most 512 sets. Where the
--- 513th turns up, that list is longer than 512, since the procedure only appends. Assumes nothing.
+-- `expand` meets its contract. The invariant of the outer loop: the arrays hold the first count
+-- sets and the cells of the sets below number i, and expanding these sets from i on comes to the
+-- list that the contract names. Within set i the same of the symbols below the present one. The
+-- fuel of the definition is 512 at the first set and one less with each set, so it lasts while
+-- there are at most 512 sets. Where the 513th turns up, that list is longer than 512, since the
+-- procedure only appends. Assumes nothing.
 use mathlib.Core.Path.{_≡_, refl, ap, _∙_}
 use Prim.Native.Nat.{ℕ, _+_, _-_, _*_, _≤_, _<_, min}
 use native.Mathlib.Omega.{arith}

@@ -1,5 +1,6 @@
--- `find` meets its contract. The loop's invariant: the set stands at none of the places passed. So the place where it is found is the
--- first, and where all are passed it has no number. Assumes nothing.
+-- `find` meets its contract. The loop's invariant: the set stands at none of the places passed. So
+-- the place where it is found is the first, and where all are passed it has no number. Assumes
+-- nothing.
 use mathlib.Core.Path.{_≡_}
 use Prim.Native.Nat.{ℕ, _-_, _≤_, _<_}
 use native.Mathlib.Omega.{arith}

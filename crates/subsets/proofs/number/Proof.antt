@@ -1,4 +1,5 @@
--- `number` meets its contract, one way out at a time: the set has a number, it takes the next, or none is left. Assumes nothing.
+-- `number` meets its contract, one way out at a time: the set has a number, it takes the next, or
+-- none is left. Assumes nothing.
 use mathlib.Core.Path.{sym, ap, _∙_}
 use borrow.Author.Needs.{needs}
 use Rattle.subsets.specs.Singles.{foundMeans}

@@ -1,5 +1,5 @@
--- `step` meets its contract. A symbol of 16 or more leads to the empty set, so the cell that is written is one of the set's row.
--- Assumes nothing.
+-- `step` meets its contract. A symbol of 16 or more leads to the empty set, so the cell that is
+-- written is one of the set's row. Assumes nothing.
 use mathlib.Core.Path.{_≡_}
 use native.Mathlib.Omega.{arith}
 use lib.ListN.{getD}

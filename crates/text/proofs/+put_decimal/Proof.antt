@@ -1,4 +1,5 @@
--- `put_decimal` meets its contract: the digits of a tenth, and then the last digit. The number falls at each call. Assumes nothing.
+-- `put_decimal` meets its contract: the digits of a tenth, and then the last digit. The number
+-- falls at each call. Assumes nothing.
 use mathlib.Core.List.{[], _∷_}
 use Rattle.text.proofs.Digits.{one-digit, decimal-more, one-length, more-length}
 use Rattle.text.proofs.Pieces.{wrote-more}

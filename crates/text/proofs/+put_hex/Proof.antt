@@ -1,4 +1,5 @@
--- `put_hex` meets its contract: the digits of a sixteenth, and then the last digit. The width falls at each call. Assumes nothing.
+-- `put_hex` meets its contract: the digits of a sixteenth, and then the last digit. The width falls
+-- at each call. Assumes nothing.
 use mathlib.Core.List.{[], _∷_}
 use Rattle.text.proofs.Digits.{hex-none, hex-more, hex-length}
 use Rattle.text.proofs.Pieces.{wrote-none, wrote-more}

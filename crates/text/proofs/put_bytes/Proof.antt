@@ -1,4 +1,5 @@
--- `put_bytes` meets its contract. The loop's invariant: the first i bytes are written. Assumes nothing.
+-- `put_bytes` meets its contract. The loop's invariant: the first i bytes are written. Assumes
+-- nothing.
 use native.Mathlib.Nat.{add-zero, add-assoc}
 use Rattle.text.proofs.Pieces.{wrote-none, wrote-byte, wrote-more}
 use Rattle.text.specs.Writing.{Wrote}
