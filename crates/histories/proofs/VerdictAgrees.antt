@@ -1,5 +1,10 @@
 -- The verdict of the state is the verdict that the list of calls says: the state's number of empty
 -- places, its join and its sum are the list's. Assumes nothing.
+--
+-- The route: where the state agrees with the list (`Agrees`), each place holds the end sets and the
+-- count of its standing chunk, or is empty on both sides. So the sums over the places are the same
+-- (`empties-same`, and `summed-same` of Numbers.antt), and the join over what is held is the join
+-- over the end sets of the list, delegate by delegate (`yes-same`). Without a board both are 21.
 use mathlib.Core.Path.{_≡_, refl, sym, ap, _∙_}
 use mathlib.Core.Bool.{true, false, cond}
 use mathlib.Core.List.{List}

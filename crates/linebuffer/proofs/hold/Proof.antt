@@ -1,4 +1,8 @@
 -- `hold` meets its contract. Assumes nothing.
+--
+-- The route: the piece is cut in two, the bytes for which the buffer has room and the rest, maybe
+-- none. The first part goes behind what is kept (`holds-buffer`); of the rest only two facts are
+-- kept, and each is the old fact with that of the rest (`holds-held`).
 use borrow.Author.Needs.{needs}
 use Rattle.linebuffer.proofs.Kept.{fits-prefix, fits-room, holds-buffer, holds-held}
 use Rattle.linebuffer.proofs.hold.Statement.{statement}
