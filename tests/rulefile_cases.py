@@ -1,17 +1,9 @@
-#!/usr/bin/env python3
-"""Writes the cases of the program rulefile_cases: crates/rulefile_cases/stdin and stdout. With --check it
-writes nothing and says whether they are what it would write.
-
-A case is a line `NAME HEX`, with `-` for no bytes. The expected answer is computed here, from the words of document 01 and
-sharing nothing with the Rattle code: `NAME refused NUMBER`, or `NAME accepted N K INITIALS FINALS`
-and, for each state and symbol with a target, ` STATE.SYMBOL=MASK` (masks in hex).
+"""Rule files at the edges of the format, and what reading answers to a file, computed from the words
+of document 01 and sharing nothing with the Rattle code: the number of a refusal, or `accepted N K
+INITIALS FINALS` and, for each state and symbol with a target, ` STATE.SYMBOL=MASK` (masks in hex).
+tests/rule_cases.py makes the cases of a program of them.
 """
-import os
 import struct
-import sys
-
-HERE = os.path.dirname(os.path.abspath(__file__))
-CRATE = os.path.join(HERE, "..", "crates", "rulefile_cases")
 
 
 def answer(f):
@@ -157,18 +149,3 @@ CASES = [
     ("8_alone", patched(A, 29, 3)),
 ]
 
-
-def main():
-    cases = "".join(f"{name} {f.hex() or '-'}\n" for name, f in CASES) + "half_a_byte 0\n"
-    answers = [(name, answer(f)) for name, f in CASES]
-    expected = "".join(f"{name} {a if isinstance(a, str) else f'refused {a}'}\n" for name, a in answers) + "half_a_byte malformed\n"
-    for name, text in (("stdin", cases), ("stdout", expected)):
-        path = os.path.join(CRATE, name)
-        if sys.argv[1:] == ["--check"]:
-            if open(path).read() != text:
-                sys.exit(f"{path} is not what {__file__} writes")
-        else:
-            open(path, "w").write(text)
-
-
-main()

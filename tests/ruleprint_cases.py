@@ -1,19 +1,10 @@
-#!/usr/bin/env python3
-"""Writes the cases of the program ruleprint_cases: crates/ruleprint_cases/stdin and stdout. With --check it
-writes nothing and says whether they are what it would write.
-
-A case is a line `NAME HEX`. The expected text is computed here, from the words of document 01 and sharing
-nothing with the Rattle code: sets are Python sets, numbered by the procedure of "Sets and their order";
+"""Rules with few and many sets and starts, and what ruleprint prints for a file, computed from the
+words of document 01 and sharing nothing with the Rattle code: sets are Python sets, numbered by the procedure of "Sets and their order";
 two states are alike unless a search over the pairs of sets that the same text leads to finds a pair of
-which one accepts and the other does not.
+which one accepts and the other does not. tests/rule_cases.py makes the cases of a program of them.
 """
-import os
 import random
 import struct
-import sys
-
-HERE = os.path.dirname(os.path.abspath(__file__))
-CRATE = os.path.join(HERE, "..", "crates", "ruleprint_cases")
 
 
 class Refused(Exception):
@@ -187,26 +178,11 @@ CASES = [
 ]
 
 
-def main():
-    cases, expected = "", ""
+def checked():
+    """The names and files, after a look that each shows what it is there for."""
     for name, f, first, starts in CASES:
-        cases += f"{name} {f.hex() or '-'}\n"
-        answer = text(f)
-        words = answer.split()
+        words = text(f).split()
         for word, due in ((words[1], first), (words[3] if words[0] == "sets" else None, starts)):
             if due is not None and word != str(due):
-                sys.exit(f"{name} has {word} where {due} is due")
-        expected += f"{name}\n{answer}"
-    cases += "half_a_byte 0\n"
-    expected += "half_a_byte\nmalformed\n"
-    for name, content in (("stdin", cases), ("stdout", expected)):
-        path = os.path.join(CRATE, name)
-        if sys.argv[1:] == ["--check"]:
-            if open(path).read() != content:
-                sys.exit(f"{path} is not what {__file__} writes")
-        else:
-            open(path, "w").write(content)
-
-
-if __name__ == "__main__":
-    main()
+                raise SystemExit(f"{name} has {word} where {due} is due")
+        yield name, f

@@ -1,5 +1,5 @@
 // Reads rule files from standard input, a line `NAME HEX` each with `-` for no bytes, and prints
-// what the reader answers.
+// the name with what the reader answers, and then what ruleprint prints for the file.
 use automaton::Rule;
 use fields::Bytes;
 use libc::STDIN_FILENO;
@@ -54,6 +54,19 @@ fn print_answer(file: &[u8]) {
     }
 }
 
+// What ruleprint prints for a file.
+fn print_text(file: &[u8]) {
+    let mut text = [0u8; limits::RULE_TEXT];
+    let length = ruletext::print_whole(file, &mut text);
+    io::write_all(STDOUT_FILENO, &text[..length]);
+}
+
+fn print_case(file: &[u8]) {
+    print_answer(file);
+    io::write_all(STDOUT_FILENO, b"\n");
+    print_text(file);
+}
+
 // One case.
 fn run_case(line: &[u8]) {
     let space = lines::find(line, 0, b' ');
@@ -70,8 +83,7 @@ fn run_case(line: &[u8]) {
         }
         Bytes::Put(n) => {
             io::write_all(STDOUT_FILENO, b" ");
-            print_answer(&file[..n]);
-            io::write_all(STDOUT_FILENO, b"\n");
+            print_case(&file[..n]);
         }
     }
 }

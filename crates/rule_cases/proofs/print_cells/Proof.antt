@@ -1,8 +1,8 @@
 -- `print_cells` stays within its table and ends. Assumes nothing.
 use native.Mathlib.Omega.{arith}
 use Prim.Native.Nat.{_-_, _≤_}
-use Rattle.rulefile_cases.proofs.print_cells.Statement.{statement}
-use Rattle.rulefile_cases.proofs.print_cells.Tie as tie
+use Rattle.rule_cases.proofs.print_cells.Statement.{statement}
+use Rattle.rule_cases.proofs.print_cells.Tie as tie
 
 abbrev Inv-loop : tie.InvT-loop
 Inv-loop targets cell₀ cell = cell ≤ 512

@@ -4,8 +4,8 @@ use native.Mathlib.Omega.{arith}
 use lib.ListN.{length}
 use borrow.Author.Needs.{needs}
 use Rattle.lines.proofs.Parts.{part-from, part-to}
-use Rattle.ruleprint_cases.proofs.run_cases.Statement.{statement}
-use Rattle.ruleprint_cases.proofs.run_cases.Tie as tie
+use Rattle.rule_cases.proofs.run_cases.Statement.{statement}
+use Rattle.rule_cases.proofs.run_cases.Tie as tie
 
 abbrev Inv-loop : tie.InvT-loop
 Inv-loop text at₀ at = Unit {0}

@@ -1,8 +1,8 @@
 -- `main` stays within its buffer. Assumes nothing.
 use mathlib.Core.Path.{sym}
 use Rattle.text.proofs.Rooms.{made}
-use Rattle.ruleprint_cases.proofs.main.Statement.{statement}
-use Rattle.ruleprint_cases.proofs.main.Tie as tie
+use Rattle.rule_cases.proofs.main.Statement.{statement}
+use Rattle.rule_cases.proofs.main.Tie as tie
 
 slice-aggregate-read-full : tie.Need-slice-aggregate-read-full
 slice-aggregate-read-full c = sym (made 400000)

@@ -5,8 +5,8 @@ use lib.Seq.{length-take-le}
 use borrow.Author.Needs.{needs}
 use Rattle.fields.proofs.Taking.{put-within, put-prefix}
 use Rattle.text.proofs.Rooms.{made}
-use Rattle.rulefile_cases.proofs.run_case.Statement.{statement}
-use Rattle.rulefile_cases.proofs.run_case.Tie as tie
+use Rattle.rule_cases.proofs.run_case.Statement.{statement}
+use Rattle.rule_cases.proofs.run_case.Tie as tie
 
 find-requires : tie.Need-find-requires
 find-requires c κs = search needs
@@ -61,17 +61,11 @@ write-all-requires-3 c κs = search needs
 array-share-prefix-file : tie.Need-array-share-prefix-file
 array-share-prefix-file c = search (needs, put-within)
 
-slice-aggregate-print-answer : tie.Need-slice-aggregate-print-answer
-slice-aggregate-print-answer c = search (needs, put-prefix)
+slice-aggregate-print-case : tie.Need-slice-aggregate-print-case
+slice-aggregate-print-case c = search (needs, put-prefix)
 
-print-answer-requires : tie.Need-print-answer-requires
-print-answer-requires c κs = search needs
-
-slice-aggregate-write-all-4 : tie.Need-slice-aggregate-write-all-4
-slice-aggregate-write-all-4 c = search needs
-
-write-all-requires-4 : tie.Need-write-all-requires-4
-write-all-requires-4 c κs = search needs
+print-case-requires : tie.Need-print-case-requires
+print-case-requires c κs = search needs
 
 returns-2 : tie.Need-returns-2
 returns-2 c = search needs
@@ -100,9 +94,7 @@ run-case-spec =
     slice-aggregate-write-all-3
     write-all-requires-3
     array-share-prefix-file
-    slice-aggregate-print-answer
-    print-answer-requires
-    slice-aggregate-write-all-4
-    write-all-requires-4
+    slice-aggregate-print-case
+    print-case-requires
     returns-2
     returns-3)
