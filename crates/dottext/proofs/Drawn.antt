@@ -1,9 +1,8 @@
 -- The answers of drawing a file. Assumes nothing.
 --
 --   drew, refused   the rule is drawn; the file is refused and nothing is drawn
---   bytes-are       the answer tells the length of the drawing
---   read-back       which is read back from the start of the buffer
---   most-bytes      and is within the bound
+--   bytes-are, bytes-most, drawn-most   the answer tells the length of the drawing, which has its bound
+--   read-back       the drawing is read back from the start of the buffer
 --   short, copied   another buffer is too short for it; or it is copied there
 use mathlib.Core.Path.{_≡_, refl, sym, ap, _∙_}
 use mathlib.Core.List.{List, _++_}
@@ -47,11 +46,14 @@ module _ {f room text : List ℕ} {r : Drawing} (d : Draws f room text r) where
     pub bytes-are : end ≡ length (drawingFor f)
     bytes-are = told ∙ ap bytesOf (d .answer) ∙ said-length (refusal f) (ruleOf f)
 
+    pub bytes-most : end ≤ mostBytes
+    bytes-most = rw bytes-are (claims .fits f)
+
     pub read-back : take end text ≡ drawingFor f
     read-back = ap (take end) (d .buffer) ∙ take-at (drawingFor f) (drop (length (drawingFor f)) room) end (sym bytes-are)
 
-  pub most-bytes : {n : ℕ} → r ≡ Bytes n → n ≤ mostBytes
-  most-bytes e = rw (bytes-are (ap (λ (x : Drawing). bytesOf (saidOf x)) (sym e))) (claims .fits f)
+  pub drawn-most : {end : ℕ} → r ≡ Bytes end → end ≤ mostBytes
+  drawn-most e = bytes-most (ap (λ (x : Drawing). bytesOf (saidOf x)) (sym e))
 
   module _ {before : List ℕ} where
     pub short : length before < length (drawingFor f) → DrawsIn f before before Short

@@ -1,19 +1,19 @@
 -- `print_dot` meets its contract. Assumes nothing.
 use mathlib.Core.Path.{sym}
 use native.Mathlib.Omega.{arith}
+use lib.ListN.{length-replicate}
 use lib.Seq.{length-take-le}
-use Rattle.text.proofs.Rooms.{made, has-room, within}
-use Rattle.dottext.proofs.Claims.{claims}
-use Rattle.dottext.proofs.Drawn.{bytes-are, read-back, short, copied}
+use Rattle.text.proofs.Rooms.{made, still-within}
+use Rattle.dottext.proofs.Drawn.{bytes-are, bytes-most, read-back, short, copied}
 use borrow.Author.Needs.{needs}
 use Rattle.dottext.proofs.print_dot.Statement.{statement}
 use Rattle.dottext.proofs.print_dot.Tie as tie
 
 slice-aggregate-print-whole : tie.Need-slice-aggregate-print-whole
-slice-aggregate-print-whole c = sym (made 75000)
+slice-aggregate-print-whole c = sym (made _)
 
 print-whole-requires : tie.Need-print-whole-requires
-print-whole-requires c κs = has-room 72466 2534 (made 75000)
+print-whole-requires c κs = simp length-replicate (omega arith)
 
 bytes-of-requires : tie.Need-bytes-of-requires
 bytes-of-requires c κs = search needs
@@ -26,13 +26,13 @@ returns c =
 array-share-prefix-text : tie.Need-array-share-prefix-text
 array-share-prefix-text c =
     let w = c .before .before .before .before .print-whole in
-    within 72466 2534 (made 75000) (w .kept .1 .0) (rw (bytes-are (w .ensures) (c .before .before .bytes-of .ensures)) (claims .fits _))
+    still-within (simp length-replicate (omega (arith, bytes-most (w .ensures) (c .before .before .bytes-of .ensures)))) (w .kept .1 .0)
 
 slice-aggregate-put-bytes : tie.Need-slice-aggregate-put-bytes
 slice-aggregate-put-bytes c =
     let w = c .before .before .before .before .before .print-whole in
     let b = c .before .before .before .bytes-of in
-    sym (length-take-le (b .result) (w .last .1 .0) (within 72466 2534 (made 75000) (w .kept .1 .0) (rw (bytes-are (w .ensures) (b .ensures)) (claims .fits _))))
+    sym (length-take-le (b .result) (w .last .1 .0) (still-within (simp length-replicate (omega (arith, bytes-most (w .ensures) (b .ensures)))) (w .kept .1 .0)))
 
 put-bytes-requires : tie.Need-put-bytes-requires
 put-bytes-requires c κs =

@@ -3,8 +3,8 @@ use mathlib.Core.Path.{sym}
 use native.Mathlib.Omega.{arith}
 use lib.ListN.{length-replicate}
 use lib.Seq.{length-take-le}
-use Rattle.text.proofs.Rooms.{made, within}
-use Rattle.dottext.proofs.Drawn.{most-bytes}
+use Rattle.text.proofs.Rooms.{made, still-within}
+use Rattle.dottext.proofs.Drawn.{drawn-most}
 use borrow.Author.Needs.{needs}
 use Rattle.ruledot.proofs.main.Statement.{statement}
 use Rattle.ruledot.proofs.main.Tie as tie
@@ -31,12 +31,12 @@ enum-known-drawing : tie.Need-enum-known-drawing
 enum-known-drawing c = search needs
 
 array-share-prefix-text : tie.Need-array-share-prefix-text
-array-share-prefix-text c = let w = c .before .before .before .before .print-whole in within 72466 2534 (made 75000) (w .kept .1 .0) (most-bytes (w .ensures) (c .before .drawing .given .1))
+array-share-prefix-text c = let w = c .before .before .before .before .print-whole in still-within (simp length-replicate (omega (arith, drawn-most (w .ensures) (c .before .drawing .given .1)))) (w .kept .1 .0)
 
 slice-aggregate-write-all : tie.Need-slice-aggregate-write-all
 slice-aggregate-write-all c =
     let w = c .before .before .before .before .before .print-whole in
-    sym (length-take-le _ (w .last .1 .0) (within 72466 2534 (made 75000) (w .kept .1 .0) (most-bytes (w .ensures) (c .before .before .drawing .given .1))))
+    sym (length-take-le _ (w .last .1 .0) (still-within (simp length-replicate (omega (arith, drawn-most (w .ensures) (c .before .before .drawing .given .1)))) (w .kept .1 .0)))
 
 write-all-requires : tie.Need-write-all-requires
 write-all-requires c κs = search needs
