@@ -58,6 +58,8 @@ byZero = 48 ∷ 32 ∷ 45 ∷ 62 ∷ 32 ∷ 49 ∷ 32 ∷ 91 ∷ 108 ∷ 97 ∷ 
 abbrev byOne : List ℕ
 byOne = 49 ∷ 32 ∷ 45 ∷ 62 ∷ 32 ∷ 50 ∷ 32 ∷ 91 ∷ 108 ∷ 97 ∷ 98 ∷ 101 ∷ 108 ∷ 61 ∷ 34 ∷ 49 ∷ 34 ∷ 93 ∷ 59 ∷ 10 ∷ []
 
-drawing-A : drawingFor fileA ≡ digraphLine ++ (rankdirLine ++ (shapeLine ++ (states ++ (entry ++ (loop ++ (byZero ++ (byOne ++ closing)))))))
+drawing-A : drawingFor fileA
+    ≡ digraphLine
+    ++ (rankdirLine ++ (shapeLine ++ (states ++ (entry ++ (loop ++ (byZero ++ (byOne ++ closing)))))))
 unfolding leads piece joined anyBelow decimalBelow listFrom targetsUpTo
 drawing-A = rw accepted-A

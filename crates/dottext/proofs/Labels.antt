@@ -24,6 +24,7 @@ module _ (p : ℕ → Bool) (s : ℕ) where
   unfolding piece
   within e b n = rw (e, b, n)
 
-  pub last : p s ≡ true → earlier p 1 s ≡ true → p (s + 1) ≡ false → piece p s ≡ lastPiece (earlier p 2 s) s
+  pub last : p s ≡ true → earlier p 1 s ≡ true → p (s + 1) ≡ false
+      → piece p s ≡ lastPiece (earlier p 2 s) s
   unfolding piece
   last e b n = rw (e, b, n)

@@ -1,4 +1,5 @@
--- How long the parts of the drawing are at most. A number that is drawn is below 100. Assumes nothing.
+-- How long the parts of the drawing are at most. A number that is drawn is below 100. Assumes
+-- nothing.
 --
 --   both            two parts have the room of both
 --   number-most     2
@@ -21,7 +22,18 @@ use Rattle.masks.specs.Masks.{has}
 use Rattle.automaton.specs.declared.Rule.{Rule}
 use Rattle.text.specs.Numerals.{decimal}
 use Rattle.text.proofs.Digits.{decimal-most}
-use Rattle.dottext.specs.Words.{finalMark, pointMark, lineEnd, entryName, arrowSign, labelStart, comma, dash, labelEnd, closing}
+use Rattle.dottext.specs.Words.{
+  finalMark,
+  pointMark,
+  lineEnd,
+  entryName,
+  arrowSign,
+  labelStart,
+  comma,
+  dash,
+  labelEnd,
+  closing,
+}
 use Rattle.dottext.specs.DotText.{
   headLines,
   stateLine,
@@ -47,7 +59,8 @@ both : (x y : ℕ) (p q : List ℕ) → length p ≤ x → length q ≤ y → le
 both x y p q h l = omega (arith, length-append p q)
 
 -- one of two parts, by a test
-one-of : (most : ℕ) (b : Bool) (p q : List ℕ) → length p ≤ most → length q ≤ most → length (cond b p q) ≤ most
+one-of : (most : ℕ) (b : Bool) (p q : List ℕ) → length p ≤ most → length q ≤ most
+    → length (cond b p q) ≤ most
 one-of most true p q h l = h
 one-of most false p q h l = l
 
@@ -55,7 +68,9 @@ number-most : (n : ℕ) → n < 100 → length (decimal n) ≤ 2
 number-most n h = decimal-most 1 n h
 
 arrow-most : (q t : ℕ) → q < 100 → t < 100 → length (arrow q t) ≤ 8
-arrow-most q t hq ht = both 2 6 (decimal q) (arrowSign ++ decimal t) (number-most q hq) (both 4 2 arrowSign (decimal t) (omega arith) (number-most t ht))
+arrow-most q t hq ht =
+    both 2 6 (decimal q) (arrowSign ++ decimal t) (number-most q hq)
+    (both 4 2 arrowSign (decimal t) (omega arith) (number-most t ht))
 
 state-most : (finals q : ℕ) → q < 100 → length (stateLine finals q) ≤ 25
 state-most finals q h =

@@ -17,13 +17,15 @@ use Rattle.text.specs.Writing.{Wrote}
 use Rattle.text.proofs.Fitting.{Put, none-put, one-more}
 use Rattle.text.proofs.Rooms.{placed}
 
-pub record Row (part : ℕ → List ℕ) (room n : ℕ) (before : List ℕ) (start : ℕ) (after : List ℕ) (at i : ℕ) : Type 0 where
+pub record Row (part : ℕ → List ℕ) (room n : ℕ) (before : List ℕ) (start : ℕ) (after : List ℕ) (at i : ℕ)
+    : Type 0 where
   pub low : i ≤ n
   pub has : start + room * n ≤ length before
   pub spent : at ≤ start + room * i
   pub parts : Put before start (joined part i) after at
 
-pub begin : (part : ℕ → List ℕ) (room n : ℕ) {before : List ℕ} {start : ℕ} → start + room * n ≤ length before → Row part room n before start before start 0
+pub begin : (part : ℕ → List ℕ) (room n : ℕ) {before : List ℕ} {start : ℕ}
+    → start + room * n ≤ length before → Row part room n before start before start 0
 begin part room n {before} {start} has = record {
   low = omega arith;
   has = has;
@@ -37,12 +39,15 @@ module _ {part : ℕ → List ℕ} {room n : ℕ} {before : List ℕ} {start : �
 
   module _ (next : i < n) where
     after-next : room * i + room ≤ room * n
-    after-next = let e = mul-suc room i in omega (arith, mul-le-mul-left {m = suc i} {n = n} room (omega arith))
+    after-next =
+        let e = mul-suc room i in
+        omega (arith, mul-le-mul-left {m = suc i} {n = n} room (omega arith))
 
     pub fits : at + room ≤ length mid
     fits = omega (arith, after-next, w .has, w .spent, w .parts .kept)
 
-    pub more : {after : List ℕ} {end : ℕ} → Wrote mid at (part i) after end × (end ≤ at + room) → Row part room n before start after end (i + 1)
+    pub more : {after : List ℕ} {end : ℕ} → Wrote mid at (part i) after end × (end ≤ at + room)
+        → Row part room n before start after end (i + 1)
     more p = record {
       low = omega arith;
       has = w .has;

@@ -1,12 +1,15 @@
--- What drawing a file into a lent buffer answers. A rule of over 512 sets is drawn: no set is numbered for it.
+-- What drawing a file into a lent buffer answers. A rule of over 512 sets is drawn too: no set is
+-- numbered for it.
 --
---   Said            a drawing of so many bytes, or a refusal with its number
---   saidOf          what each case of the code's answer says, and `bytesOf` how many bytes are drawn
---   fitOf           the same where the buffer may be too short, none where it is
---   drawingFor f    the drawing of the rule in the file f, nothing where the reader refuses it
---   saidFor f       what is said of the file f: the length of its drawing, or the number, 1 to 8, with which the reader refuses it
---   Draws f ..      that is answered, and the drawing stands at the start of the buffer; what lies past it is left as it was
---   DrawsIn f ..    the same into any buffer: one that is too short for the drawing is left unchanged
+--   Said           a drawing of so many bytes, or a refusal with its number
+--   saidOf         what each case of the code's answer says
+--   bytesOf        how many bytes are drawn
+--   fitOf          what is said where the buffer may be too short: none where it is
+--   drawingFor f   the drawing of the rule in the file f; nothing where the reader refuses the file
+--   saidFor f      the length of that drawing; or the number, 1 to 8, with which the reader refuses
+--   Draws f ..     that is said, and the drawing stands at the start of the buffer; what lies past it
+--                  is left as it was
+--   DrawsIn f ..   the same for any buffer: one that is too short for the drawing is left unchanged
 use mathlib.Core.Path.{_≡_}
 use mathlib.Core.Bool.{Bool, cond}
 use mathlib.Core.List.{List, [], _++_}
@@ -62,4 +65,5 @@ tooShort f before = ltb (length before) (length (drawingFor f))
 
 pub record DrawsIn (f before after : List ℕ) (r : Fitting) : Type 0 where
   pub answer : fitOf r ≡ cond (tooShort f before) none (some (saidFor f))
-  pub buffer : after ≡ cond (tooShort f before) before (drawingFor f ++ drop (length (drawingFor f)) before)
+  pub buffer :
+      after ≡ cond (tooShort f before) before (drawingFor f ++ drop (length (drawingFor f)) before)

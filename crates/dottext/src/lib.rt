@@ -1,4 +1,5 @@
-// Draws the automaton of a rule as Graphviz text into a lent buffer. A number that is drawn has at most two digits.
+// Draws the automaton of a rule as Graphviz text into a lent buffer. A number that is drawn has at
+// most two digits.
 ghost use mathlib.Core.Path.{_≡_};
 ghost use mathlib.Core.List.{[], _∷_, _++_};
 ghost use Prim.Native.Nat.{_+_, _*_, _≤_, _<_};
@@ -8,9 +9,11 @@ ghost use Rattle.base.specs.Lists.{joined};
 ghost use Rattle.base.specs.Conditions.{anyBelow};
 ghost use Rattle.text.specs.Numerals.{decimal};
 ghost use Rattle.text.specs.Writing.{Wrote};
-ghost use Rattle.dottext.specs.DotText.{headLines, stateLine, arrow, pointLine, entryLine, initialLines};
-ghost use Rattle.dottext.specs.DotText.{leads as leadsBy, earlier as earlierOf, firstPiece, lastPiece, piece, label};
-ghost use Rattle.dottext.specs.DotText.{arrowLine, arrowLines, arrowsFrom, arrowsText, dotText, mostBytes};
+ghost use Rattle.dottext.specs.DotText.{headLines, stateLine, arrow, pointLine, entryLine};
+ghost use Rattle.dottext.specs.DotText.{initialLines, leads as leadsBy, earlier as earlierOf};
+ghost use Rattle.dottext.specs.DotText.{firstPiece, lastPiece, piece, label, arrowLine};
+ghost use Rattle.dottext.specs.DotText.{arrowLines, arrowsFrom, arrowsText, dotText};
+ghost use Rattle.dottext.specs.DotText.{mostBytes};
 ghost use Rattle.dottext.specs.Answers.{Draws, DrawsIn, bytesOf, saidOf};
 ghost use Rattle.automaton.specs.Rules.{targetMask};
 use automaton::Rule;
@@ -31,7 +34,8 @@ pub enum Fitting {
 
 fn put_number(out: &mut [u8], at: usize, n: u8) -> usize
     requires { ⌜ (n < 100) × (at + 2 ≤ length (now out)) ⌝ }
-    ensures { λ r. ⌜ (Wrote (now (out .entry)) at (decimal n) (now (out .exit)) r) × (r ≤ at + 2) ⌝ }
+    ensures { λ r. ⌜ (Wrote (now (out .entry)) at (decimal n) (now (out .exit)) r)
+        × (r ≤ at + 2) ⌝ }
 {
     text::put_decimal(out, at, n as u64)
 }
@@ -48,7 +52,8 @@ fn put_head(out: &mut [u8], at: usize) -> usize
 // The line of state q.
 fn put_state(out: &mut [u8], at: usize, finals: u32, q: StateNumber) -> usize
     requires { ⌜ (q .0 < mostStates) × (at + 25 ≤ length (now out)) ⌝ }
-    ensures { λ r. ⌜ (Wrote (now (out .entry)) at (stateLine finals (q .0)) (now (out .exit)) r) × (r ≤ at + 25) ⌝ }
+    ensures { λ r. ⌜ (Wrote (now (out .entry)) at (stateLine finals (q .0)) (now (out .exit)) r)
+        × (r ≤ at + 25) ⌝ }
 {
     let a = put_number(out, at, q.0);
     if masks::member(finals, q) {
@@ -61,7 +66,9 @@ fn put_state(out: &mut [u8], at: usize, finals: u32, q: StateNumber) -> usize
 // The lines of the first n states.
 fn put_states(out: &mut [u8], start: usize, finals: u32, n: u8) -> usize
     requires { ⌜ (n ≤ mostStates) × (start + 25 * n ≤ length (now out)) ⌝ }
-    ensures { λ r. ⌜ (Wrote (now (out .entry)) start (joined (stateLine finals) n) (now (out .exit)) r) × (r ≤ start + 25 * n) ⌝ }
+    ensures { λ r. ⌜ (Wrote (now (out .entry)) start
+        (joined (stateLine finals) n) (now (out .exit)) r)
+        × (r ≤ start + 25 * n) ⌝ }
 {
     let mut at = start;
     let mut q: u8 = 0;
@@ -75,7 +82,8 @@ fn put_states(out: &mut [u8], start: usize, finals: u32, n: u8) -> usize
 // From state q to state t.
 fn put_arrow(out: &mut [u8], at: usize, q: StateNumber, t: StateNumber) -> usize
     requires { ⌜ (q .0 < mostStates) × (t .0 < mostStates) × (at + 8 ≤ length (now out)) ⌝ }
-    ensures { λ r. ⌜ (Wrote (now (out .entry)) at (arrow (q .0) (t .0)) (now (out .exit)) r) × (r ≤ at + 8) ⌝ }
+    ensures { λ r. ⌜ (Wrote (now (out .entry)) at (arrow (q .0) (t .0)) (now (out .exit)) r)
+        × (r ≤ at + 8) ⌝ }
 {
     let a = put_number(out, at, q.0);
     let b = text::put_bytes(out, a, b" -> ");
@@ -84,7 +92,8 @@ fn put_arrow(out: &mut [u8], at: usize, q: StateNumber, t: StateNumber) -> usize
 
 fn put_point(out: &mut [u8], at: usize, q: StateNumber) -> usize
     requires { ⌜ (q .0 < mostStates) × (at + 19 ≤ length (now out)) ⌝ }
-    ensures { λ r. ⌜ (Wrote (now (out .entry)) at (pointLine (q .0)) (now (out .exit)) r) × (r ≤ at + 19) ⌝ }
+    ensures { λ r. ⌜ (Wrote (now (out .entry)) at (pointLine (q .0)) (now (out .exit)) r)
+        × (r ≤ at + 19) ⌝ }
 {
     let a = text::put_byte(out, at, b'i');
     let b = put_number(out, a, q.0);
@@ -93,7 +102,8 @@ fn put_point(out: &mut [u8], at: usize, q: StateNumber) -> usize
 
 fn put_entry(out: &mut [u8], at: usize, q: StateNumber) -> usize
     requires { ⌜ (q .0 < mostStates) × (at + 11 ≤ length (now out)) ⌝ }
-    ensures { λ r. ⌜ (Wrote (now (out .entry)) at (entryLine (q .0)) (now (out .exit)) r) × (r ≤ at + 11) ⌝ }
+    ensures { λ r. ⌜ (Wrote (now (out .entry)) at (entryLine (q .0)) (now (out .exit)) r)
+        × (r ≤ at + 11) ⌝ }
 {
     let a = text::put_byte(out, at, b'i');
     let b = put_arrow(out, a, q, q);
@@ -103,7 +113,9 @@ fn put_entry(out: &mut [u8], at: usize, q: StateNumber) -> usize
 // The two lines of an initial state, nothing for another.
 fn put_initial(out: &mut [u8], at: usize, initials: u32, q: StateNumber) -> usize
     requires { ⌜ (q .0 < mostStates) × (at + 30 ≤ length (now out)) ⌝ }
-    ensures { λ r. ⌜ (Wrote (now (out .entry)) at (initialLines initials (q .0)) (now (out .exit)) r) × (r ≤ at + 30) ⌝ }
+    ensures { λ r. ⌜ (Wrote (now (out .entry)) at
+        (initialLines initials (q .0)) (now (out .exit)) r)
+        × (r ≤ at + 30) ⌝ }
 {
     if masks::member(initials, q) {
         let a = put_point(out, at, q);
@@ -116,7 +128,9 @@ fn put_initial(out: &mut [u8], at: usize, initials: u32, q: StateNumber) -> usiz
 // The lines of the initial states below n.
 fn put_initials(out: &mut [u8], start: usize, initials: u32, n: u8) -> usize
     requires { ⌜ (n ≤ mostStates) × (start + 30 * n ≤ length (now out)) ⌝ }
-    ensures { λ r. ⌜ (Wrote (now (out .entry)) start (joined (initialLines initials) n) (now (out .exit)) r) × (r ≤ start + 30 * n) ⌝ }
+    ensures { λ r. ⌜ (Wrote (now (out .entry)) start
+        (joined (initialLines initials) n) (now (out .exit)) r)
+        × (r ≤ start + 30 * n) ⌝ }
 {
     let mut at = start;
     let mut q: u8 = 0;
@@ -190,15 +204,18 @@ fn any_below(
 // A number after a sign.
 fn put_after(out: &mut [u8], at: usize, sign: u8, n: u8) -> usize
     requires { ⌜ (n < 100) × (at + 3 ≤ length (now out)) ⌝ }
-    ensures { λ r. ⌜ (Wrote (now (out .entry)) at ((sign ∷ []) ++ decimal n) (now (out .exit)) r) × (r ≤ at + 3) ⌝ }
+    ensures { λ r. ⌜ (Wrote (now (out .entry)) at ((sign ∷ []) ++ decimal n) (now (out .exit)) r)
+        × (r ≤ at + 3) ⌝ }
 {
     let a = text::put_byte(out, at, sign);
     put_number(out, a, n)
 }
 
+// The first symbol of a row; more: a row came before.
 fn put_first(out: &mut [u8], at: usize, more: bool, s: u8) -> usize
     requires { ⌜ (s < 100) × (at + 3 ≤ length (now out)) ⌝ }
-    ensures { λ r. ⌜ (Wrote (now (out .entry)) at (firstPiece more s) (now (out .exit)) r) × (r ≤ at + 3) ⌝ }
+    ensures { λ r. ⌜ (Wrote (now (out .entry)) at (firstPiece more s) (now (out .exit)) r)
+        × (r ≤ at + 3) ⌝ }
 {
     if more {
         put_after(out, at, b',', s)
@@ -207,9 +224,11 @@ fn put_first(out: &mut [u8], at: usize, more: bool, s: u8) -> usize
     }
 }
 
+// The last symbol of a row; range: the row has three symbols or more.
 fn put_last(out: &mut [u8], at: usize, range: bool, s: u8) -> usize
     requires { ⌜ (s < 100) × (at + 3 ≤ length (now out)) ⌝ }
-    ensures { λ r. ⌜ (Wrote (now (out .entry)) at (lastPiece range s) (now (out .exit)) r) × (r ≤ at + 3) ⌝ }
+    ensures { λ r. ⌜ (Wrote (now (out .entry)) at (lastPiece range s) (now (out .exit)) r)
+        × (r ≤ at + 3) ⌝ }
 {
     if range {
         put_after(out, at, b'-', s)
@@ -228,8 +247,11 @@ fn put_piece(
     t: StateNumber,
     s: u8,
 ) -> usize
-    requires { ⌜ (k ≤ mostSymbols) × (q .0 < mostStates) × (t .0 < mostStates) × (s < mostSymbols) × (at + 3 ≤ length (now out)) ⌝ }
-    ensures { λ r. ⌜ (Wrote (now (out .entry)) at (piece (leadsBy (now (targets .entry)) k (q .0) (t .0)) s) (now (out .exit)) r) × (r ≤ at + 3) ⌝ }
+    requires { ⌜ (k ≤ mostSymbols) × (q .0 < mostStates) × (t .0 < mostStates) × (s < mostSymbols)
+        × (at + 3 ≤ length (now out)) ⌝ }
+    ensures { λ r. ⌜ (Wrote (now (out .entry)) at
+        (piece (leadsBy (now (targets .entry)) k (q .0) (t .0)) s) (now (out .exit)) r)
+        × (r ≤ at + 3) ⌝ }
 {
     if leads(targets, k, q, t, s) {
         if earlier(targets, k, q, t, 1, s) {
@@ -255,8 +277,11 @@ fn put_label(
     q: StateNumber,
     t: StateNumber,
 ) -> usize
-    requires { ⌜ (k ≤ mostSymbols) × (q .0 < mostStates) × (t .0 < mostStates) × (start + 3 * k ≤ length (now out)) ⌝ }
-    ensures { λ r. ⌜ (Wrote (now (out .entry)) start (label (leadsBy (now (targets .entry)) k (q .0) (t .0)) k) (now (out .exit)) r) × (r ≤ start + 3 * k) ⌝ }
+    requires { ⌜ (k ≤ mostSymbols) × (q .0 < mostStates) × (t .0 < mostStates)
+        × (start + 3 * k ≤ length (now out)) ⌝ }
+    ensures { λ r. ⌜ (Wrote (now (out .entry)) start
+        (label (leadsBy (now (targets .entry)) k (q .0) (t .0)) k) (now (out .exit)) r)
+        × (r ≤ start + 3 * k) ⌝ }
 {
     let mut at = start;
     let mut s: u8 = 0;
@@ -276,8 +301,11 @@ fn put_line(
     q: StateNumber,
     t: StateNumber,
 ) -> usize
-    requires { ⌜ (k ≤ mostSymbols) × (q .0 < mostStates) × (t .0 < mostStates) × (at + 69 ≤ length (now out)) ⌝ }
-    ensures { λ r. ⌜ (Wrote (now (out .entry)) at (arrowLine (now (targets .entry)) k (q .0) (t .0)) (now (out .exit)) r) × (r ≤ at + 69) ⌝ }
+    requires { ⌜ (k ≤ mostSymbols) × (q .0 < mostStates) × (t .0 < mostStates)
+        × (at + 69 ≤ length (now out)) ⌝ }
+    ensures { λ r. ⌜ (Wrote (now (out .entry)) at
+        (arrowLine (now (targets .entry)) k (q .0) (t .0)) (now (out .exit)) r)
+        × (r ≤ at + 69) ⌝ }
 {
     let a = put_arrow(out, at, q, t);
     let b = text::put_bytes(out, a, b" [label=\"");
@@ -294,8 +322,11 @@ fn put_target(
     q: StateNumber,
     t: StateNumber,
 ) -> usize
-    requires { ⌜ (k ≤ mostSymbols) × (q .0 < mostStates) × (t .0 < mostStates) × (at + 69 ≤ length (now out)) ⌝ }
-    ensures { λ r. ⌜ (Wrote (now (out .entry)) at (arrowLines (now (targets .entry)) k (q .0) (t .0)) (now (out .exit)) r) × (r ≤ at + 69) ⌝ }
+    requires { ⌜ (k ≤ mostSymbols) × (q .0 < mostStates) × (t .0 < mostStates)
+        × (at + 69 ≤ length (now out)) ⌝ }
+    ensures { λ r. ⌜ (Wrote (now (out .entry)) at
+        (arrowLines (now (targets .entry)) k (q .0) (t .0)) (now (out .exit)) r)
+        × (r ≤ at + 69) ⌝ }
 {
     if any_below(targets, k, q, t, k) {
         put_line(out, at, targets, k, q, t)
@@ -313,8 +344,11 @@ fn put_targets(
     k: u8,
     q: StateNumber,
 ) -> usize
-    requires { ⌜ (n ≤ mostStates) × (k ≤ mostSymbols) × (q .0 < mostStates) × (start + 69 * n ≤ length (now out)) ⌝ }
-    ensures { λ r. ⌜ (Wrote (now (out .entry)) start (arrowsFrom (now (targets .entry)) n k (q .0)) (now (out .exit)) r) × (r ≤ start + 69 * n) ⌝ }
+    requires { ⌜ (n ≤ mostStates) × (k ≤ mostSymbols) × (q .0 < mostStates)
+        × (start + 69 * n ≤ length (now out)) ⌝ }
+    ensures { λ r. ⌜ (Wrote (now (out .entry)) start
+        (arrowsFrom (now (targets .entry)) n k (q .0)) (now (out .exit)) r)
+        × (r ≤ start + 69 * n) ⌝ }
 {
     let mut at = start;
     let mut t: u8 = 0;
@@ -327,8 +361,11 @@ fn put_targets(
 
 // All arrows.
 fn put_arrows(out: &mut [u8], start: usize, targets: &[u32; limits::TARGETS], n: u8, k: u8) -> usize
-    requires { ⌜ (n ≤ mostStates) × (k ≤ mostSymbols) × (start + 69 * mostStates * n ≤ length (now out)) ⌝ }
-    ensures { λ r. ⌜ (Wrote (now (out .entry)) start (arrowsText (now (targets .entry)) n k) (now (out .exit)) r) × (r ≤ start + 69 * mostStates * n) ⌝ }
+    requires { ⌜ (n ≤ mostStates) × (k ≤ mostSymbols)
+        × (start + 69 * mostStates * n ≤ length (now out)) ⌝ }
+    ensures { λ r. ⌜ (Wrote (now (out .entry)) start
+        (arrowsText (now (targets .entry)) n k) (now (out .exit)) r)
+        × (r ≤ start + 69 * mostStates * n) ⌝ }
 {
     let mut at = start;
     let mut q: u8 = 0;
@@ -339,10 +376,11 @@ fn put_arrows(out: &mut [u8], start: usize, targets: &[u32; limits::TARGETS], n:
     at
 }
 
-// The text of a rule, from the start.
+// The drawing of a rule, from the start.
 fn put_dot(out: &mut [u8], rule: Rule) -> usize
     requires { ⌜ mostBytes ≤ length (now out) ⌝ }
-    ensures { λ r. ⌜ (Wrote (now (out .entry)) 0 (dotText rule) (now (out .exit)) r) × (r ≤ mostBytes) ⌝ }
+    ensures { λ r. ⌜ (Wrote (now (out .entry)) 0 (dotText rule) (now (out .exit)) r)
+        × (r ≤ mostBytes) ⌝ }
 {
     let n = base::at_most_u8(rule.n, limits::MOST_STATES);
     let k = base::at_most_u8(rule.k, limits::MOST_SYMBOLS);
@@ -354,8 +392,8 @@ fn put_dot(out: &mut [u8], rule: Rule) -> usize
     text::put_bytes(out, d, b"}\n")
 }
 
-// The automaton of the rule in a file is drawn into a buffer that has room for any drawing; where
-// the reader refuses the file nothing is drawn.
+// Draws the rule in a file into a buffer that has room for any drawing. Where the reader refuses
+// the file nothing is drawn.
 pub fn print_whole(file: &[u8], out: &mut [u8]) -> Drawing
     requires { ⌜ mostBytes ≤ length (now out) ⌝ }
     ensures { λ r. ⌜ Draws (now (file .entry)) (now (out .entry)) (now (out .exit)) r ⌝ }
@@ -369,6 +407,7 @@ pub fn print_whole(file: &[u8], out: &mut [u8]) -> Drawing
     }
 }
 
+// How many bytes are drawn.
 fn bytes_of(drawing: Drawing) -> usize
     ensures { λ r. ⌜ r ≡ bytesOf (saidOf drawing) ⌝ }
 {
@@ -378,7 +417,7 @@ fn bytes_of(drawing: Drawing) -> usize
     }
 }
 
-// The same into any buffer; one that is too short for the drawing is left as it was.
+// Draws the rule in a file into any buffer; one that is too short for it is left as it was.
 pub fn print_dot(file: &[u8], out: &mut [u8]) -> Fitting
     ensures { λ r. ⌜ DrawsIn (now (file .entry)) (now (out .entry)) (now (out .exit)) r ⌝ }
 {
