@@ -1,28 +1,39 @@
--- How long the parts of the text are at most. A number that is printed is below 1,000.
--- Assumes nothing.
+-- How long the parts of the drawing are at most. A number that is drawn is below 100. Assumes
+-- nothing.
 --
---   number-most     3
---   arrow-most      10
---   state-most      26
---   initial-most    33
---   arc-most        26
---   by-most         832 for the arcs of a state and a symbol
---   from-most       13,312 for those of a state
---   arcs-most       425,984 for all
---   dot-most        427,922
+--   both            two parts have the room of both
+--   number-most     2
+--   arrow-most      8
+--   state-most      25
+--   initial-most    30
+--   piece-most      3
+--   line-most       69
+--   from-most       2,208 for the arrows of a state
+--   dot-most        72,466
+use mathlib.Core.Bool.{Bool, true, false, cond}
 use mathlib.Core.List.{List, [], _++_}
 use Prim.Native.Nat.{ℕ, _+_, _*_, _≤_, _<_, min}
 use native.Mathlib.Omega.{arith}
 use lib.ListN.{length, length-append}
 use Rattle.base.specs.Lists.{joined}
+use Rattle.base.specs.Conditions.{anyBelow}
 use Rattle.base.proofs.Lists.{joined-length}
-use Rattle.base.proofs.Tests.{by-test}
 use Rattle.masks.specs.Masks.{has}
 use Rattle.automaton.specs.declared.Rule.{Rule}
-use Rattle.automaton.specs.Rules.{targetMask}
 use Rattle.text.specs.Numerals.{decimal}
 use Rattle.text.proofs.Digits.{decimal-most}
-use Rattle.dottext.specs.Words.{finalMark, pointMark, lineEnd, arrowSign, labelStart, labelEnd, closing}
+use Rattle.dottext.specs.Words.{
+  finalMark,
+  pointMark,
+  lineEnd,
+  entryName,
+  arrowSign,
+  labelStart,
+  comma,
+  dash,
+  labelEnd,
+  closing,
+}
 use Rattle.dottext.specs.DotText.{
   headLines,
   stateLine,
@@ -30,66 +41,81 @@ use Rattle.dottext.specs.DotText.{
   pointLine,
   entryLine,
   initialLines,
-  arcLines,
-  arcsBy,
-  arcsFrom,
-  arcsText,
+  leads,
+  earlier,
+  firstPiece,
+  lastPiece,
+  piece,
+  label,
+  arrowLine,
+  arrowLines,
+  arrowsFrom,
+  arrowsText,
   dotText,
   mostBytes,
 }
 
-number-most : (n : ℕ) → n < 1000 → length (decimal n) ≤ 3
-number-most n h = decimal-most 2 n h
+both : (x y : ℕ) (p q : List ℕ) → length p ≤ x → length q ≤ y → length (p ++ q) ≤ x + y
+both x y p q h l = omega (arith, length-append p q)
 
-arrow-most : (q t : ℕ) → q < 1000 → t < 1000 → length (arrow q t) ≤ 10
-arrow-most q t hq ht = omega (arith, number-most q hq, number-most t ht, length-append (decimal q) (arrowSign ++ decimal t))
+-- one of two parts, by a test
+one-of : (most : ℕ) (b : Bool) (p q : List ℕ) → length p ≤ most → length q ≤ most
+    → length (cond b p q) ≤ most
+one-of most true p q h l = h
+one-of most false p q h l = l
 
-state-most : (finals q : ℕ) → q < 1000 → length (stateLine finals q) ≤ 26
+number-most : (n : ℕ) → n < 100 → length (decimal n) ≤ 2
+number-most n h = decimal-most 1 n h
+
+arrow-most : (q t : ℕ) → q < 100 → t < 100 → length (arrow q t) ≤ 8
+arrow-most q t hq ht =
+    both 2 6 (decimal q) (arrowSign ++ decimal t) (number-most q hq)
+    (both 4 2 arrowSign (decimal t) (omega arith) (number-most t ht))
+
+state-most : (finals q : ℕ) → q < 100 → length (stateLine finals q) ≤ 25
 state-most finals q h =
-    let l = number-most q h in
-    by-test (has finals q)
-    (λ e. rw e (omega (arith, length-append (decimal q) finalMark)))
-    (λ e. rw e (omega (arith, length-append (decimal q) lineEnd)))
+    both 2 23 (decimal q) (cond (has finals q) finalMark lineEnd) (number-most q h)
+    (one-of 23 (has finals q) finalMark lineEnd (omega arith) (omega arith))
 
-initial-most : (initials q : ℕ) → q < 1000 → length (initialLines initials q) ≤ 33
+initial-most : (initials q : ℕ) → q < 100 → length (initialLines initials q) ≤ 30
 initial-most initials q h =
-    by-test (has initials q)
-    (λ e.
-    rw e
-    (omega (
-      arith,
-      number-most q h,
-      arrow-most q q h h,
-      length-append (pointLine q) (entryLine q),
-      length-append (decimal q) pointMark,
-      length-append (arrow q q) lineEnd,
-    )))
-    (λ e. rw e (omega arith))
+    one-of 30 (has initials q) (pointLine q ++ entryLine q) []
+    (both 19 11 (pointLine q) (entryLine q)
+    (both 1 18 entryName (decimal q ++ pointMark) (omega arith) (both 2 16 (decimal q) pointMark (number-most q h) (omega arith)))
+    (both 1 10 entryName (arrow q q ++ lineEnd) (omega arith) (both 8 2 (arrow q q) lineEnd (arrow-most q q h h) (omega arith))))
+    (omega arith)
 
-arc-most : (targets q s t : ℕ) → q < 1000 → s < 1000 → t < 1000 → length (arcLines targets q s t) ≤ 26
-arc-most targets q s t hq hs ht =
-    by-test (has targets t)
-    (λ e.
-    rw e
-    (omega (
-      arith,
-      arrow-most q t hq ht,
-      number-most s hs,
-      length-append (arrow q t) (labelStart ++ (decimal s ++ labelEnd)),
-      length-append (decimal s) labelEnd,
-    )))
-    (λ e. rw e (omega arith))
+module _ (p : ℕ → Bool) where
+  piece-most : (s : ℕ) → s < 100 → length (piece p s) ≤ 3
+  unfolding piece
+  piece-most s h =
+      let n = number-most s h in
+      one-of 3 (p s)
+      (cond (earlier p 1 s) (cond (p (s + 1)) [] (lastPiece (earlier p 2 s) s)) (firstPiece (anyBelow p s) s))
+      []
+      (one-of 3 (earlier p 1 s) (cond (p (s + 1)) [] (lastPiece (earlier p 2 s) s)) (firstPiece (anyBelow p s) s)
+      (one-of 3 (p (s + 1)) [] (lastPiece (earlier p 2 s) s) (omega arith)
+      (both 1 2 (cond (earlier p 2 s) dash comma) (decimal s) (one-of 1 (earlier p 2 s) dash comma (omega arith) (omega arith)) n))
+      (both 1 2 (cond (anyBelow p s) comma []) (decimal s) (one-of 1 (anyBelow p s) comma [] (omega arith) (omega arith)) n))
+      (omega arith)
+
+  label-most : (k : ℕ) → k ≤ 16 → length (label p k) ≤ 48
+  label-most k h = omega (arith, joined-length (piece p) k 3 (λ s l. piece-most s (omega arith)))
 
 module _ (ts : List ℕ) (n k : ℕ) (hn : n ≤ 32) (hk : k ≤ 16) where
-  by-most : (q s : ℕ) → q < n → s < k → length (arcsBy ts n q s) ≤ 832
-  by-most q s hq hs =
-      omega (arith, joined-length (arcLines (targetMask ts q s) q s) n 26 (λ t l. arc-most (targetMask ts q s) q s t (omega arith) (omega arith) (omega arith)))
+  line-most : (q t : ℕ) → q < n → t < n → length (arrowLines ts k q t) ≤ 69
+  line-most q t hq ht =
+      let p = leads ts k q t in
+      one-of 69 (anyBelow p k) (arrowLine ts k q t) []
+      (both 8 61 (arrow q t) (labelStart ++ (label p k ++ labelEnd)) (arrow-most q t (omega arith) (omega arith))
+      (both 9 52 labelStart (label p k ++ labelEnd) (omega arith) (both 48 4 (label p k) labelEnd (label-most p k hk) (omega arith))))
+      (omega arith)
 
-  from-most : (q : ℕ) → q < n → length (arcsFrom ts n k q) ≤ 13312
-  from-most q hq = omega (arith, joined-length (arcsBy ts n q) k 832 (λ s l. by-most q s hq l))
+  from-most : (q : ℕ) → q < n → length (arrowsFrom ts n k q) ≤ 2208
+  from-most q hq = omega (arith, joined-length (arrowLines ts k q) n 69 (λ t l. line-most q t hq l))
 
-  arcs-most : length (arcsText ts n k) ≤ 425984
-  arcs-most = omega (arith, joined-length (arcsFrom ts n k) n 13312 (λ q l. from-most q l))
+  arrows-most : length (arrowsText ts n k) ≤ 70656
+  arrows-most = omega (arith, joined-length (arrowsFrom ts n k) n 2208 (λ q l. from-most q l))
 
 pub dot-most : (r : Rule) → length (dotText r) ≤ mostBytes
 dot-most r =
@@ -97,14 +123,14 @@ dot-most r =
     let k = min (r .k) 16 in
     let states = joined (stateLine (r .finals)) n in
     let initials = joined (initialLines (r .initials)) n in
-    let arcs = arcsText (r .targets) n k in
-    let hs = joined-length (stateLine (r .finals)) n 26 (λ q l. state-most (r .finals) q (omega arith)) in
-    let hi = joined-length (initialLines (r .initials)) n 33 (λ q l. initial-most (r .initials) q (omega arith)) in
-    let ha = arcs-most (r .targets) n k (omega arith) (omega arith) in
+    let arrows = arrowsText (r .targets) n k in
+    let hs = joined-length (stateLine (r .finals)) n 25 (λ q l. state-most (r .finals) q (omega arith)) in
+    let hi = joined-length (initialLines (r .initials)) n 30 (λ q l. initial-most (r .initials) q (omega arith)) in
+    let ha = arrows-most (r .targets) n k (omega arith) (omega arith) in
     omega (
       arith,
-      length-append headLines (states ++ (initials ++ (arcs ++ closing))),
-      length-append states (initials ++ (arcs ++ closing)),
-      length-append initials (arcs ++ closing),
-      length-append arcs closing,
+      length-append headLines (states ++ (initials ++ (arrows ++ closing))),
+      length-append states (initials ++ (arrows ++ closing)),
+      length-append initials (arrows ++ closing),
+      length-append arrows closing,
     )

@@ -1,5 +1,4 @@
--- The fixed parts of the text for a rule as a graph, in ASCII: lists of byte values. Each has its
--- characters above it, with ⏎ for a line feed.
+-- The fixed parts of the text for a rule as a graph, in ASCII: lists of byte values. Each has its characters above it, with ⏎ for a line feed.
 use mathlib.Core.List.{List, [], _∷_}
 use Prim.Native.Nat.{ℕ}
 
@@ -38,6 +37,14 @@ arrowSign = 32 ∷ 45 ∷ 62 ∷ 32 ∷ []
 -- ` [label="`
 abbrev pub labelStart : List ℕ
 labelStart = 32 ∷ 91 ∷ 108 ∷ 97 ∷ 98 ∷ 101 ∷ 108 ∷ 61 ∷ 34 ∷ []
+
+-- `,`
+abbrev pub comma : List ℕ
+comma = 44 ∷ []
+
+-- `-`
+abbrev pub dash : List ℕ
+dash = 45 ∷ []
 
 -- `"];⏎`
 abbrev pub labelEnd : List ℕ

@@ -1,23 +1,41 @@
-// Prints the automaton of a rule as Graphviz text into a lent buffer. A number that is printed has
-// at most three digits.
+// Draws the automaton of a rule as Graphviz text into a lent buffer. A number that is drawn has at
+// most two digits.
 ghost use mathlib.Core.Path.{_≡_};
+ghost use mathlib.Core.List.{[], _∷_, _++_};
 ghost use Prim.Native.Nat.{_+_, _*_, _≤_, _<_};
 ghost use lib.ListN.{length};
-ghost use Rattle.limits.specs.Limits.{mostStates, mostSymbols, targetCells};
+ghost use Rattle.limits.specs.Limits.{mostStates, mostSymbols};
 ghost use Rattle.base.specs.Lists.{joined};
+ghost use Rattle.base.specs.Conditions.{anyBelow};
 ghost use Rattle.text.specs.Numerals.{decimal};
 ghost use Rattle.text.specs.Writing.{Wrote};
-ghost use Rattle.ruletext.specs.Printing.{Prints};
-ghost use Rattle.dottext.specs.DotText.{headLines, stateLine, arrow, pointLine, entryLine, initialLines, arcLine, arcLines, arcsFrom, arcsText, dotText, textFor, mostBytes};
+ghost use Rattle.dottext.specs.DotText.{headLines, stateLine, arrow, pointLine, entryLine};
+ghost use Rattle.dottext.specs.DotText.{initialLines, leads as leadsBy, earlier as earlierOf};
+ghost use Rattle.dottext.specs.DotText.{firstPiece, lastPiece, piece, label, arrowLine};
+ghost use Rattle.dottext.specs.DotText.{arrowLines, arrowsFrom, arrowsText, dotText};
+ghost use Rattle.dottext.specs.DotText.{mostBytes};
+ghost use Rattle.dottext.specs.Answers.{Draws, DrawsIn, bytesOf, drawingMeans};
 ghost use Rattle.automaton.specs.Rules.{targetMask};
 use automaton::Rule;
 use masks::StateNumber;
 use ruleformat::ReadAnswer;
-use ruletext::Printed;
+
+// A drawing of so many bytes; or no drawing, since the reader refuses the file with this number.
+pub enum Drawing {
+    Bytes(usize),
+    Refused(u8),
+}
+
+// That, or that the buffer is too short for the drawing.
+pub enum Fitting {
+    Done(Drawing),
+    Short,
+}
 
 fn put_number(out: &mut [u8], at: usize, n: u8) -> usize
-    requires { ⌜ at + 3 ≤ length (now out) ⌝ }
-    ensures { λ r. ⌜ (Wrote (now (out .entry)) at (decimal n) (now (out .exit)) r) × (r ≤ at + 3) ⌝ }
+    requires { ⌜ (n < 100) × (at + 2 ≤ length (now out)) ⌝ }
+    ensures { λ r. ⌜ (Wrote (now (out .entry)) at (decimal n) (now (out .exit)) r)
+        × (r ≤ at + 2) ⌝ }
 {
     text::put_decimal(out, at, n as u64)
 }
@@ -33,8 +51,9 @@ fn put_head(out: &mut [u8], at: usize) -> usize
 
 // The line of state q.
 fn put_state(out: &mut [u8], at: usize, finals: u32, q: StateNumber) -> usize
-    requires { ⌜ (q .0 < mostStates) × (at + 26 ≤ length (now out)) ⌝ }
-    ensures { λ r. ⌜ (Wrote (now (out .entry)) at (stateLine finals (q .0)) (now (out .exit)) r) × (r ≤ at + 26) ⌝ }
+    requires { ⌜ (q .0 < mostStates) × (at + 25 ≤ length (now out)) ⌝ }
+    ensures { λ r. ⌜ (Wrote (now (out .entry)) at (stateLine finals (q .0)) (now (out .exit)) r)
+        × (r ≤ at + 25) ⌝ }
 {
     let a = put_number(out, at, q.0);
     if masks::member(finals, q) {
@@ -46,8 +65,10 @@ fn put_state(out: &mut [u8], at: usize, finals: u32, q: StateNumber) -> usize
 
 // The lines of the first n states.
 fn put_states(out: &mut [u8], start: usize, finals: u32, n: u8) -> usize
-    requires { ⌜ (n ≤ mostStates) × (start + 26 * n ≤ length (now out)) ⌝ }
-    ensures { λ r. ⌜ (Wrote (now (out .entry)) start (joined (stateLine finals) n) (now (out .exit)) r) × (r ≤ start + 26 * n) ⌝ }
+    requires { ⌜ (n ≤ mostStates) × (start + 25 * n ≤ length (now out)) ⌝ }
+    ensures { λ r. ⌜ (Wrote (now (out .entry)) start
+        (joined (stateLine finals) n) (now (out .exit)) r)
+        × (r ≤ start + 25 * n) ⌝ }
 {
     let mut at = start;
     let mut q: u8 = 0;
@@ -60,8 +81,9 @@ fn put_states(out: &mut [u8], start: usize, finals: u32, n: u8) -> usize
 
 // From state q to state t.
 fn put_arrow(out: &mut [u8], at: usize, q: StateNumber, t: StateNumber) -> usize
-    requires { ⌜ at + 10 ≤ length (now out) ⌝ }
-    ensures { λ r. ⌜ (Wrote (now (out .entry)) at (arrow (q .0) (t .0)) (now (out .exit)) r) × (r ≤ at + 10) ⌝ }
+    requires { ⌜ (q .0 < mostStates) × (t .0 < mostStates) × (at + 8 ≤ length (now out)) ⌝ }
+    ensures { λ r. ⌜ (Wrote (now (out .entry)) at (arrow (q .0) (t .0)) (now (out .exit)) r)
+        × (r ≤ at + 8) ⌝ }
 {
     let a = put_number(out, at, q.0);
     let b = text::put_bytes(out, a, b" -> ");
@@ -69,8 +91,9 @@ fn put_arrow(out: &mut [u8], at: usize, q: StateNumber, t: StateNumber) -> usize
 }
 
 fn put_point(out: &mut [u8], at: usize, q: StateNumber) -> usize
-    requires { ⌜ at + 20 ≤ length (now out) ⌝ }
-    ensures { λ r. ⌜ (Wrote (now (out .entry)) at (pointLine (q .0)) (now (out .exit)) r) × (r ≤ at + 20) ⌝ }
+    requires { ⌜ (q .0 < mostStates) × (at + 19 ≤ length (now out)) ⌝ }
+    ensures { λ r. ⌜ (Wrote (now (out .entry)) at (pointLine (q .0)) (now (out .exit)) r)
+        × (r ≤ at + 19) ⌝ }
 {
     let a = text::put_byte(out, at, b'i');
     let b = put_number(out, a, q.0);
@@ -78,8 +101,9 @@ fn put_point(out: &mut [u8], at: usize, q: StateNumber) -> usize
 }
 
 fn put_entry(out: &mut [u8], at: usize, q: StateNumber) -> usize
-    requires { ⌜ at + 13 ≤ length (now out) ⌝ }
-    ensures { λ r. ⌜ (Wrote (now (out .entry)) at (entryLine (q .0)) (now (out .exit)) r) × (r ≤ at + 13) ⌝ }
+    requires { ⌜ (q .0 < mostStates) × (at + 11 ≤ length (now out)) ⌝ }
+    ensures { λ r. ⌜ (Wrote (now (out .entry)) at (entryLine (q .0)) (now (out .exit)) r)
+        × (r ≤ at + 11) ⌝ }
 {
     let a = text::put_byte(out, at, b'i');
     let b = put_arrow(out, a, q, q);
@@ -88,8 +112,10 @@ fn put_entry(out: &mut [u8], at: usize, q: StateNumber) -> usize
 
 // The two lines of an initial state, nothing for another.
 fn put_initial(out: &mut [u8], at: usize, initials: u32, q: StateNumber) -> usize
-    requires { ⌜ (q .0 < mostStates) × (at + 33 ≤ length (now out)) ⌝ }
-    ensures { λ r. ⌜ (Wrote (now (out .entry)) at (initialLines initials (q .0)) (now (out .exit)) r) × (r ≤ at + 33) ⌝ }
+    requires { ⌜ (q .0 < mostStates) × (at + 30 ≤ length (now out)) ⌝ }
+    ensures { λ r. ⌜ (Wrote (now (out .entry)) at
+        (initialLines initials (q .0)) (now (out .exit)) r)
+        × (r ≤ at + 30) ⌝ }
 {
     if masks::member(initials, q) {
         let a = put_point(out, at, q);
@@ -101,58 +127,16 @@ fn put_initial(out: &mut [u8], at: usize, initials: u32, q: StateNumber) -> usiz
 
 // The lines of the initial states below n.
 fn put_initials(out: &mut [u8], start: usize, initials: u32, n: u8) -> usize
-    requires { ⌜ (n ≤ mostStates) × (start + 33 * n ≤ length (now out)) ⌝ }
-    ensures { λ r. ⌜ (Wrote (now (out .entry)) start (joined (initialLines initials) n) (now (out .exit)) r) × (r ≤ start + 33 * n) ⌝ }
+    requires { ⌜ (n ≤ mostStates) × (start + 30 * n ≤ length (now out)) ⌝ }
+    ensures { λ r. ⌜ (Wrote (now (out .entry)) start
+        (joined (initialLines initials) n) (now (out .exit)) r)
+        × (r ≤ start + 30 * n) ⌝ }
 {
     let mut at = start;
     let mut q: u8 = 0;
     while q < n {
         at = put_initial(out, at, initials, StateNumber(q));
         q += 1;
-    }
-    at
-}
-
-// The line of the arc from q by s to t.
-fn put_arc(out: &mut [u8], at: usize, q: StateNumber, s: u8, t: StateNumber) -> usize
-    requires { ⌜ at + 26 ≤ length (now out) ⌝ }
-    ensures { λ r. ⌜ (Wrote (now (out .entry)) at (arcLine (q .0) s (t .0)) (now (out .exit)) r) × (r ≤ at + 26) ⌝ }
-{
-    let a = put_arrow(out, at, q, t);
-    let b = text::put_bytes(out, a, b" [label=\"");
-    let c = put_number(out, b, s);
-    text::put_bytes(out, c, b"\"];\n")
-}
-
-// The line of an arc from q by s to t, nothing where t is not among the targets.
-fn put_target(
-    out: &mut [u8],
-    at: usize,
-    targets: u32,
-    q: StateNumber,
-    s: u8,
-    t: StateNumber,
-) -> usize
-    requires { ⌜ (t .0 < mostStates) × (at + 26 ≤ length (now out)) ⌝ }
-    ensures { λ r. ⌜ (Wrote (now (out .entry)) at (arcLines targets (q .0) s (t .0)) (now (out .exit)) r) × (r ≤ at + 26) ⌝ }
-{
-    if masks::member(targets, t) {
-        put_arc(out, at, q, s, t)
-    } else {
-        at
-    }
-}
-
-// The lines of the arcs from q by s to states below n.
-fn put_targets(out: &mut [u8], start: usize, targets: u32, n: u8, q: StateNumber, s: u8) -> usize
-    requires { ⌜ (n ≤ mostStates) × (start + 26 * mostStates ≤ length (now out)) ⌝ }
-    ensures { λ r. ⌜ (Wrote (now (out .entry)) start (joined (arcLines targets (q .0) s) n) (now (out .exit)) r) × (r ≤ start + 26 * mostStates) ⌝ }
-{
-    let mut at = start;
-    let mut t: u8 = 0;
-    while t < n {
-        at = put_target(out, at, targets, q, s, StateNumber(t));
-        t += 1;
     }
     at
 }
@@ -165,8 +149,194 @@ fn cell(targets: &[u32; limits::TARGETS], q: StateNumber, s: u8) -> u32
     targets[(q.0 as usize) * limits::SYMBOLS + (s as usize)]
 }
 
-// The lines of the arcs from q by the first k symbols.
-fn put_symbols(
+// Whether an arc leads from q to t by symbol s, one of the first k.
+fn leads(targets: &[u32; limits::TARGETS], k: u8, q: StateNumber, t: StateNumber, s: u8) -> bool
+    requires { ⌜ (k ≤ mostSymbols) × (q .0 < mostStates) × (t .0 < mostStates) ⌝ }
+    ensures { λ r. ⌜ r ≡ leadsBy (now (targets .entry)) k (q .0) (t .0) s ⌝ }
+{
+    if s < k {
+        masks::member(cell(targets, q, s), t)
+    } else {
+        false
+    }
+}
+
+// Whether one leads by the symbol that is so far back from s.
+fn earlier(
+    targets: &[u32; limits::TARGETS],
+    k: u8,
+    q: StateNumber,
+    t: StateNumber,
+    back: u8,
+    s: u8,
+) -> bool
+    requires { ⌜ (k ≤ mostSymbols) × (q .0 < mostStates) × (t .0 < mostStates) ⌝ }
+    ensures { λ r. ⌜ r ≡ earlierOf (leadsBy (now (targets .entry)) k (q .0) (t .0)) back s ⌝ }
+{
+    if back <= s {
+        leads(targets, k, q, t, s - back)
+    } else {
+        false
+    }
+}
+
+// Whether one leads by a symbol below end.
+fn any_below(
+    targets: &[u32; limits::TARGETS],
+    k: u8,
+    q: StateNumber,
+    t: StateNumber,
+    end: u8,
+) -> bool
+    requires { ⌜ (k ≤ mostSymbols) × (q .0 < mostStates) × (t .0 < mostStates) ⌝ }
+    ensures { λ r. ⌜ r ≡ anyBelow (leadsBy (now (targets .entry)) k (q .0) (t .0)) end ⌝ }
+{
+    let mut s: u8 = 0;
+    while s < end {
+        if leads(targets, k, q, t, s) {
+            return true;
+        }
+        s += 1;
+    }
+    false
+}
+
+// A number after a sign.
+fn put_after(out: &mut [u8], at: usize, sign: u8, n: u8) -> usize
+    requires { ⌜ (n < 100) × (at + 3 ≤ length (now out)) ⌝ }
+    ensures { λ r. ⌜ (Wrote (now (out .entry)) at ((sign ∷ []) ++ decimal n) (now (out .exit)) r)
+        × (r ≤ at + 3) ⌝ }
+{
+    let a = text::put_byte(out, at, sign);
+    put_number(out, a, n)
+}
+
+// The first symbol of a row; more: a row came before.
+fn put_first(out: &mut [u8], at: usize, more: bool, s: u8) -> usize
+    requires { ⌜ (s < 100) × (at + 3 ≤ length (now out)) ⌝ }
+    ensures { λ r. ⌜ (Wrote (now (out .entry)) at (firstPiece more s) (now (out .exit)) r)
+        × (r ≤ at + 3) ⌝ }
+{
+    if more {
+        put_after(out, at, b',', s)
+    } else {
+        put_number(out, at, s)
+    }
+}
+
+// The last symbol of a row; range: the row has three symbols or more.
+fn put_last(out: &mut [u8], at: usize, range: bool, s: u8) -> usize
+    requires { ⌜ (s < 100) × (at + 3 ≤ length (now out)) ⌝ }
+    ensures { λ r. ⌜ (Wrote (now (out .entry)) at (lastPiece range s) (now (out .exit)) r)
+        × (r ≤ at + 3) ⌝ }
+{
+    if range {
+        put_after(out, at, b'-', s)
+    } else {
+        put_after(out, at, b',', s)
+    }
+}
+
+// What the label of the arrow from q to t has for symbol s.
+fn put_piece(
+    out: &mut [u8],
+    at: usize,
+    targets: &[u32; limits::TARGETS],
+    k: u8,
+    q: StateNumber,
+    t: StateNumber,
+    s: u8,
+) -> usize
+    requires { ⌜ (k ≤ mostSymbols) × (q .0 < mostStates) × (t .0 < mostStates) × (s < mostSymbols)
+        × (at + 3 ≤ length (now out)) ⌝ }
+    ensures { λ r. ⌜ (Wrote (now (out .entry)) at
+        (piece (leadsBy (now (targets .entry)) k (q .0) (t .0)) s) (now (out .exit)) r)
+        × (r ≤ at + 3) ⌝ }
+{
+    if leads(targets, k, q, t, s) {
+        if earlier(targets, k, q, t, 1, s) {
+            if leads(targets, k, q, t, s + 1) {
+                at
+            } else {
+                put_last(out, at, earlier(targets, k, q, t, 2, s), s)
+            }
+        } else {
+            put_first(out, at, any_below(targets, k, q, t, s), s)
+        }
+    } else {
+        at
+    }
+}
+
+// The label of the arrow from q to t.
+fn put_label(
+    out: &mut [u8],
+    start: usize,
+    targets: &[u32; limits::TARGETS],
+    k: u8,
+    q: StateNumber,
+    t: StateNumber,
+) -> usize
+    requires { ⌜ (k ≤ mostSymbols) × (q .0 < mostStates) × (t .0 < mostStates)
+        × (start + 3 * k ≤ length (now out)) ⌝ }
+    ensures { λ r. ⌜ (Wrote (now (out .entry)) start
+        (label (leadsBy (now (targets .entry)) k (q .0) (t .0)) k) (now (out .exit)) r)
+        × (r ≤ start + 3 * k) ⌝ }
+{
+    let mut at = start;
+    let mut s: u8 = 0;
+    while s < k {
+        at = put_piece(out, at, targets, k, q, t, s);
+        s += 1;
+    }
+    at
+}
+
+// The line of the arrow from q to t.
+fn put_line(
+    out: &mut [u8],
+    at: usize,
+    targets: &[u32; limits::TARGETS],
+    k: u8,
+    q: StateNumber,
+    t: StateNumber,
+) -> usize
+    requires { ⌜ (k ≤ mostSymbols) × (q .0 < mostStates) × (t .0 < mostStates)
+        × (at + 69 ≤ length (now out)) ⌝ }
+    ensures { λ r. ⌜ (Wrote (now (out .entry)) at
+        (arrowLine (now (targets .entry)) k (q .0) (t .0)) (now (out .exit)) r)
+        × (r ≤ at + 69) ⌝ }
+{
+    let a = put_arrow(out, at, q, t);
+    let b = text::put_bytes(out, a, b" [label=\"");
+    let c = put_label(out, b, targets, k, q, t);
+    text::put_bytes(out, c, b"\"];\n")
+}
+
+// The same, nothing where no symbol leads from q to t.
+fn put_target(
+    out: &mut [u8],
+    at: usize,
+    targets: &[u32; limits::TARGETS],
+    k: u8,
+    q: StateNumber,
+    t: StateNumber,
+) -> usize
+    requires { ⌜ (k ≤ mostSymbols) × (q .0 < mostStates) × (t .0 < mostStates)
+        × (at + 69 ≤ length (now out)) ⌝ }
+    ensures { λ r. ⌜ (Wrote (now (out .entry)) at
+        (arrowLines (now (targets .entry)) k (q .0) (t .0)) (now (out .exit)) r)
+        × (r ≤ at + 69) ⌝ }
+{
+    if any_below(targets, k, q, t, k) {
+        put_line(out, at, targets, k, q, t)
+    } else {
+        at
+    }
+}
+
+// The arrows from q to states below n.
+fn put_targets(
     out: &mut [u8],
     start: usize,
     targets: &[u32; limits::TARGETS],
@@ -174,36 +344,43 @@ fn put_symbols(
     k: u8,
     q: StateNumber,
 ) -> usize
-    requires { ⌜ (n ≤ mostStates) × (k ≤ mostSymbols) × (q .0 < mostStates) × (start + 26 * targetCells ≤ length (now out)) ⌝ }
-    ensures { λ r. ⌜ (Wrote (now (out .entry)) start (arcsFrom (now (targets .entry)) n k (q .0)) (now (out .exit)) r) × (r ≤ start + 26 * targetCells) ⌝ }
+    requires { ⌜ (n ≤ mostStates) × (k ≤ mostSymbols) × (q .0 < mostStates)
+        × (start + 69 * n ≤ length (now out)) ⌝ }
+    ensures { λ r. ⌜ (Wrote (now (out .entry)) start
+        (arrowsFrom (now (targets .entry)) n k (q .0)) (now (out .exit)) r)
+        × (r ≤ start + 69 * n) ⌝ }
 {
     let mut at = start;
-    let mut s: u8 = 0;
-    while s < k {
-        at = put_targets(out, at, cell(targets, q, s), n, q, s);
-        s += 1;
+    let mut t: u8 = 0;
+    while t < n {
+        at = put_target(out, at, targets, k, q, StateNumber(t));
+        t += 1;
     }
     at
 }
 
-// The lines of all arcs.
-fn put_arcs(out: &mut [u8], start: usize, targets: &[u32; limits::TARGETS], n: u8, k: u8) -> usize
-    requires { ⌜ (n ≤ mostStates) × (k ≤ mostSymbols) × (start + 26 * (targetCells * mostStates) ≤ length (now out)) ⌝ }
-    ensures { λ r. ⌜ (Wrote (now (out .entry)) start (arcsText (now (targets .entry)) n k) (now (out .exit)) r) × (r ≤ start + 26 * (targetCells * mostStates)) ⌝ }
+// All arrows.
+fn put_arrows(out: &mut [u8], start: usize, targets: &[u32; limits::TARGETS], n: u8, k: u8) -> usize
+    requires { ⌜ (n ≤ mostStates) × (k ≤ mostSymbols)
+        × (start + 69 * mostStates * n ≤ length (now out)) ⌝ }
+    ensures { λ r. ⌜ (Wrote (now (out .entry)) start
+        (arrowsText (now (targets .entry)) n k) (now (out .exit)) r)
+        × (r ≤ start + 69 * mostStates * n) ⌝ }
 {
     let mut at = start;
     let mut q: u8 = 0;
     while q < n {
-        at = put_symbols(out, at, targets, n, k, StateNumber(q));
+        at = put_targets(out, at, targets, n, k, StateNumber(q));
         q += 1;
     }
     at
 }
 
-// The text of a rule, from the start.
+// The drawing of a rule, from the start.
 fn put_dot(out: &mut [u8], rule: Rule) -> usize
     requires { ⌜ mostBytes ≤ length (now out) ⌝ }
-    ensures { λ r. ⌜ (Wrote (now (out .entry)) 0 (dotText rule) (now (out .exit)) r) × (r ≤ mostBytes) ⌝ }
+    ensures { λ r. ⌜ (Wrote (now (out .entry)) 0 (dotText rule) (now (out .exit)) r)
+        × (r ≤ mostBytes) ⌝ }
 {
     let n = base::at_most_u8(rule.n, limits::MOST_STATES);
     let k = base::at_most_u8(rule.k, limits::MOST_SYMBOLS);
@@ -211,39 +388,45 @@ fn put_dot(out: &mut [u8], rule: Rule) -> usize
     let a = put_head(out, 0);
     let b = put_states(out, a, rule.finals, n);
     let c = put_initials(out, b, rule.initials, n);
-    let d = put_arcs(out, c, &targets, n, k);
+    let d = put_arrows(out, c, &targets, n, k);
     text::put_bytes(out, d, b"}\n")
 }
 
-fn print_automaton(rule: Rule, out: &mut [u8]) -> Printed
-    ensures { λ r. ⌜ Prints (dotText rule) (now (out .entry)) (now (out .exit)) r ⌝ }
-{
-    let mut text = [0u8; limits::GRAPH_TEXT];
-    let length = put_dot(&mut text, rule);
-    ruletext::print_text(&text[..length], out)
-}
-
-// The automaton of the rule in a file; or the number, 1 to 8, with which the reader refuses it.
-pub fn print_dot(file: &[u8], out: &mut [u8]) -> Printed
-    ensures { λ r. ⌜ Prints (textFor (now (file .entry))) (now (out .entry)) (now (out .exit)) r ⌝ }
+// Draws the rule in a file into a buffer that has room for any drawing. Where the reader refuses
+// the file nothing is drawn.
+pub fn print_whole(file: &[u8], out: &mut [u8]) -> Drawing
+    requires { ⌜ mostBytes ≤ length (now out) ⌝ }
+    ensures { λ r. ⌜ Draws (now (file .entry)) (now (out .entry)) (now (out .exit)) r ⌝ }
 {
     let reading = rulefile::read(file);
     let answer = reading.answer;
     let rule = reading.rule;
     match answer {
-        ReadAnswer::Accepted => print_automaton(rule, out),
-        ReadAnswer::Refused(number) => ruletext::print_refused(number, out),
+        ReadAnswer::Accepted => Drawing::Bytes(put_dot(out, rule)),
+        ReadAnswer::Refused(number) => Drawing::Refused(number),
     }
 }
 
-// The same into a buffer that has room for the text of any file. The whole text is written.
-pub fn print_whole(file: &[u8], out: &mut [u8]) -> usize
-    requires { ⌜ mostBytes ≤ length (now out) ⌝ }
-    ensures { λ r. ⌜ Wrote (now (out .entry)) 0 (textFor (now (file .entry))) (now (out .exit)) r ⌝ }
+// How many bytes are drawn.
+fn bytes_of(drawing: Drawing) -> usize
+    ensures { λ r. ⌜ r ≡ bytesOf (drawingMeans drawing) ⌝ }
 {
-    let printed = print_dot(file, out);
-    match printed {
-        Printed::Bytes(written) => written,
-        Printed::Short => 0,
+    match drawing {
+        Drawing::Bytes(length) => length,
+        Drawing::Refused(_) => 0,
     }
+}
+
+// Draws the rule in a file into any buffer; one that is too short for it is left as it was.
+pub fn print_dot(file: &[u8], out: &mut [u8]) -> Fitting
+    ensures { λ r. ⌜ DrawsIn (now (file .entry)) (now (out .entry)) (now (out .exit)) r ⌝ }
+{
+    let mut text = [0u8; limits::GRAPH_TEXT];
+    let drawing = print_whole(file, &mut text);
+    let length = bytes_of(drawing);
+    if out.len() < length {
+        return Fitting::Short;
+    }
+    text::put_bytes(out, 0, &text[..length]);
+    Fitting::Done(drawing)
 }

@@ -70,8 +70,8 @@ pub const ANSWER: usize = 64;
 // Room for the printed text of any rule.
 pub const RULE_TEXT: usize = 40960;
 
-// Room for the graph of any rule.
-pub const GRAPH_TEXT: usize = 450000;
+// Room for the drawing of any rule.
+pub const GRAPH_TEXT: usize = 75000;
 
 // Room for the lines that a program of cases reads.
 pub const CASES_TEXT: usize = 400000;

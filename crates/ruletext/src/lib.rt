@@ -148,7 +148,8 @@ fn put_head(out: &mut [u8], at: usize, count: usize, starts: u8) -> usize
     text::put_byte(out, d, b'\n')
 }
 
-fn put_refused(out: &mut [u8], at: usize, number: u8) -> usize
+// The line of a refusal.
+pub fn put_refused(out: &mut [u8], at: usize, number: u8) -> usize
     requires { ⌜ at + 12 ≤ length (now out) ⌝ }
     ensures { λ r. ⌜ Wrote (now (out .entry)) at (refusedText number) (now (out .exit)) r ⌝ }
 {
@@ -174,7 +175,7 @@ fn put_rule(out: &mut [u8], built: Built) -> usize
 }
 
 // A text that is there already.
-pub fn print_text(text: &[u8], out: &mut [u8]) -> Printed
+fn print_text(text: &[u8], out: &mut [u8]) -> Printed
     ensures { λ r. ⌜ Prints (now (text .entry)) (now (out .entry)) (now (out .exit)) r ⌝ }
 {
     if out.len() < text.len() {
@@ -192,7 +193,7 @@ fn print_built(built: Built, out: &mut [u8]) -> Printed
     print_text(&text[..length], out)
 }
 
-pub fn print_refused(number: u8, out: &mut [u8]) -> Printed
+fn print_refused(number: u8, out: &mut [u8]) -> Printed
     ensures { λ r. ⌜ Prints (refusedText number) (now (out .entry)) (now (out .exit)) r ⌝ }
 {
     let mut text = [0u8; 12];

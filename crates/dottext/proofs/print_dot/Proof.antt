@@ -1,63 +1,64 @@
 -- `print_dot` meets its contract. Assumes nothing.
-use mathlib.Core.Path.{_≡_, sym, ap, _∙_}
-use mathlib.Core.Option.{Option, none, some}
-use Prim.Native.Nat.{ℕ}
-use Rattle.ruleformat.specs.declared.ReadAnswer.the-variants.{Accepted, Refused}
-use Rattle.ruleformat.specs.Refusals.{refusal}
-use Rattle.ruleformat.specs.Reader.{readMeans, ruleBy, ruleOf}
+use mathlib.Core.Path.{sym}
+use native.Mathlib.Omega.{arith}
+use lib.ListN.{length-replicate}
+use lib.Seq.{length-take-le}
+use Rattle.text.proofs.Rooms.{made, still-within}
+use Rattle.dottext.proofs.Drawn.{bytes-are, bytes-most, read-back, short, copied}
 use borrow.Author.Needs.{needs}
 use Rattle.dottext.proofs.print_dot.Statement.{statement}
 use Rattle.dottext.proofs.print_dot.Tie as tie
 
-read-requires : tie.Need-read-requires
-read-requires c κs = search needs
+slice-aggregate-print-whole : tie.Need-slice-aggregate-print-whole
+slice-aggregate-print-whole c = sym (made _)
 
-enum-told : tie.Need-enum-told
-enum-told c = search needs
+print-whole-requires : tie.Need-print-whole-requires
+print-whole-requires c κs = simp length-replicate (omega arith)
 
-print-automaton-requires : tie.Need-print-automaton-requires
-print-automaton-requires c κs = search needs
+bytes-of-requires : tie.Need-bytes-of-requires
+bytes-of-requires c κs = search needs
 
-enum-known-answer : tie.Need-enum-known-answer
-enum-known-answer c = search needs
+returns : tie.Need-returns
+returns c =
+    let d = c .before .before .before .print-whole .ensures in
+    short d (rw (bytes-are d (c .before .bytes-of .ensures)) at (c .if1 .taken))
 
-print-refused-requires : tie.Need-print-refused-requires
-print-refused-requires c κs = search needs
+array-share-prefix-text : tie.Need-array-share-prefix-text
+array-share-prefix-text c =
+    let w = c .before .before .before .before .print-whole in
+    still-within (simp length-replicate (omega (arith, bytes-most (w .ensures) (c .before .before .bytes-of .ensures)))) (w .kept .1 .0)
+
+slice-aggregate-put-bytes : tie.Need-slice-aggregate-put-bytes
+slice-aggregate-put-bytes c =
+    let w = c .before .before .before .before .before .print-whole in
+    let b = c .before .before .before .bytes-of in
+    sym (length-take-le (b .result) (w .last .1 .0) (still-within (simp length-replicate (omega (arith, bytes-most (w .ensures) (b .ensures)))) (w .kept .1 .0)))
+
+put-bytes-requires : tie.Need-put-bytes-requires
+put-bytes-requires c κs =
+    let d = c .before .before .before .before .before .print-whole .ensures in
+    let b = c .before .before .before .bytes-of .ensures in
+    rw (read-back d b) (omega (arith, rw (bytes-are d b) at (c .before .before .if1 .left)))
 
 same-length : tie.Need-same-length
 same-length c = search needs
 
-returns : tie.Need-returns
-returns c =
-    let f = c .before .before .before .before .before .before .before .before .before .before .args .file .now in
-    let g = c .before .before .before .before .before .before .before .read in
-    let e : g .result .answer ≡ Accepted = c .before .before .before .before .enum-told .given .1 in
-    let n : refusal f ≡ none = sym (g .ensures .answer) ∙ ap readMeans e in
-    let r : g .result .rule ≡ ruleOf f = g .ensures .rule ∙ ap (λ (o : Option ℕ). ruleBy o f) n in
-    rw n (rw r at (c .before .before .print-automaton .ensures))
-
-same-length-2 : tie.Need-same-length-2
-same-length-2 c = search needs
-
 returns-2 : tie.Need-returns-2
 returns-2 c =
-    let f = c .before .before .before .before .before .before .before .before .before .before .before .args .file .now in
-    let g = c .before .before .before .before .before .before .before .before .read in
-    let x = c .before .before .before .before .before .answer .given in
-    let e : g .result .answer ≡ Refused (x .0 .0) = x .1 in
-    let n : refusal f ≡ some (x .0 .0) = sym (g .ensures .answer) ∙ ap readMeans e in
-    rw n (c .before .before .print-refused .ensures)
+    let d = c .before .before .before .before .before .before .before .before .print-whole .ensures in
+    let b = c .before .before .before .before .before .before .bytes-of .ensures in
+    copied d (rw (bytes-are d b) at (c .before .before .before .before .before .if1 .left)) (rw (read-back d b) at (c .before .before .put-bytes .ensures))
 
 pub print-dot-spec : {M : Type 1} → statement M
 print-dot-spec =
     tie.close
     (tie.spec
-    read-requires
-    enum-told
-    print-automaton-requires
-    enum-known-answer
-    print-refused-requires
-    same-length
+    slice-aggregate-print-whole
+    print-whole-requires
+    bytes-of-requires
     returns
-    same-length-2
+    array-share-prefix-text
+    slice-aggregate-put-bytes
+    put-bytes-requires
+    same-length
     returns-2)

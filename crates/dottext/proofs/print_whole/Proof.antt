@@ -1,47 +1,56 @@
--- `print_whole` meets its contract: the text for any file fits, so `print_dot` never finds the
--- buffer too short. Assumes nothing.
-use native.Mathlib.Omega.{arith}
-use Rattle.ruletext.proofs.Copying.{all-written, not-short}
-use Rattle.dottext.proofs.Claims.{claims}
+-- `print_whole` meets its contract. Assumes nothing.
+use mathlib.Core.Path.{_≡_, sym, ap, _∙_}
+use mathlib.Core.Option.{Option, none, some}
+use Prim.Native.Nat.{ℕ}
+use Rattle.ruleformat.specs.declared.ReadAnswer.the-variants.{Accepted, Refused}
+use Rattle.ruleformat.specs.Refusals.{refusal}
+use Rattle.ruleformat.specs.Reader.{readMeans, ruleBy, ruleOf}
+use Rattle.dottext.proofs.Drawn.{drew, refused}
 use borrow.Author.Needs.{needs}
 use Rattle.dottext.proofs.print_whole.Statement.{statement}
 use Rattle.dottext.proofs.print_whole.Tie as tie
 
-print-dot-requires : tie.Need-print-dot-requires
-print-dot-requires c κs = search needs
-
-enum-known-printed : tie.Need-enum-known-printed
-enum-known-printed c = search needs
+read-requires : tie.Need-read-requires
+read-requires c κs = search needs
 
 enum-told : tie.Need-enum-told
 enum-told c = search needs
+
+put-dot-requires : tie.Need-put-dot-requires
+put-dot-requires c κs = search needs
+
+enum-known-answer : tie.Need-enum-known-answer
+enum-known-answer c = search needs
 
 same-length : tie.Need-same-length
 same-length c = search needs
 
 returns : tie.Need-returns
 returns c =
-    let s = c .before .before .before .before .before .before .before .before .before in
-    let l = claims .fits (s .args .file .now) in
-    all-written (c .before .before .before .before .before .print-dot .ensures) (omega (arith, s .pre)) (c .before .printed .given .1)
-
-same-length-2 : tie.Need-same-length-2
-same-length-2 c = search needs
+    let f = c .before .before .before .before .before .before .before .before .before .before .args .file .now in
+    let g = c .before .before .before .before .before .before .before .read in
+    let e : g .result .answer ≡ Accepted = c .before .before .before .before .enum-told .given .1 in
+    let n : refusal f ≡ none = sym (g .ensures .answer) ∙ ap readMeans e in
+    let r : g .result .rule ≡ ruleOf f = g .ensures .rule ∙ ap (λ (o : Option ℕ). ruleBy o f) n in
+    drew f n (rw r at (c .before .before .put-dot .ensures .0))
 
 returns-2 : tie.Need-returns-2
 returns-2 c =
-    let s = c .before .before .before .before .before .before .before .before in
-    let l = claims .fits (s .args .file .now) in
-    absurd (not-short (c .before .before .before .before .print-dot .ensures) (omega (arith, s .pre)) (c .enum-told .given .1))
+    let f = c .before .before .before .before .before .before .before .args .file .now in
+    let g = c .before .before .before .before .read in
+    let x = c .before .answer .given in
+    let e : g .result .answer ≡ Refused (x .0 .0) = x .1 in
+    let n : refusal f ≡ some (x .0 .0) = sym (g .ensures .answer) ∙ ap readMeans e in
+    refused f n
 
 pub print-whole-spec : {M : Type 1} → statement M
 print-whole-spec =
     tie.close
     (tie.spec
-    print-dot-requires
-    enum-known-printed
+    read-requires
     enum-told
+    put-dot-requires
+    enum-known-answer
     same-length
     returns
-    same-length-2
     returns-2)

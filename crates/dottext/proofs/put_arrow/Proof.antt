@@ -21,9 +21,9 @@ same-length c = search needs
 
 returns : tie.Need-returns
 returns c =
-    two 3 7 (c .before .before .before .before .before .before .before .before .before .before .before .before .before .before .pre)
+    two 2 6 (c .before .before .before .before .before .before .before .before .before .before .before .before .before .before .pre .2)
     (c .before .before .before .before .before .before .before .before .before .before .before .put-number .ensures)
-    (λ h0. two 4 3 h0
+    (λ h0. two 4 2 h0
     (exact (c .before .before .before .before .before .before .put-bytes .ensures))
     (λ h1. c .before .before .put-number2 .ensures))
 

@@ -19,8 +19,8 @@ put-states-requires c κs = search needs
 put-initials-requires : tie.Need-put-initials-requires
 put-initials-requires c κs = search needs
 
-put-arcs-requires : tie.Need-put-arcs-requires
-put-arcs-requires c κs = search needs
+put-arrows-requires : tie.Need-put-arrows-requires
+put-arrows-requires c κs = search needs
 
 slice-aggregate-put-bytes : tie.Need-slice-aggregate-put-bytes
 slice-aggregate-put-bytes c = search needs
@@ -40,7 +40,7 @@ returns c =
     (c .before .before .before .before .before .before .before .before .before .before .before .before .before .before .before .before .before .before .before .before .put-head .ensures)
     (c .before .before .before .before .before .before .before .before .before .before .before .before .before .before .before .before .put-states .ensures)
     (c .before .before .before .before .before .before .before .before .before .before .before .before .put-initials .ensures)
-    (c .before .before .before .before .before .before .before .put-arcs .ensures)
+    (c .before .before .before .before .before .before .before .put-arrows .ensures)
     (c .before .before .put-bytes .ensures)
 
 pub put-dot-spec : {M : Type 1} → statement M
@@ -52,7 +52,7 @@ put-dot-spec =
     put-head-requires
     put-states-requires
     put-initials-requires
-    put-arcs-requires
+    put-arrows-requires
     slice-aggregate-put-bytes
     put-bytes-requires
     same-length

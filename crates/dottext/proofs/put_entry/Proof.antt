@@ -21,9 +21,9 @@ same-length c = search needs
 
 returns : tie.Need-returns
 returns c =
-    two 1 12 (c .before .before .before .before .before .before .before .before .before .before .before .before .before .before .pre)
+    two 1 10 (c .before .before .before .before .before .before .before .before .before .before .before .before .before .before .pre .1)
     (exact (c .before .before .before .before .before .before .before .before .before .before .before .put-byte .ensures))
-    (λ h0. two 10 2 h0
+    (λ h0. two 8 2 h0
     (c .before .before .before .before .before .before .before .put-arrow .ensures)
     (λ h1. exact (c .before .before .put-bytes .ensures)))
 

@@ -6,7 +6,7 @@ use Rattle.dottext.proofs.put_number.Statement.{statement}
 use Rattle.dottext.proofs.put_number.Tie as tie
 
 put-decimal-requires : tie.Need-put-decimal-requires
-put-decimal-requires c κs = let s = c .before .before in omega (arith, decimal-most 2 (s .args .n) (omega (arith, s .fits .n .fits)))
+put-decimal-requires c κs = let s = c .before .before in omega (arith, decimal-most 1 (s .args .n) (s .pre .0))
 
 same-length : tie.Need-same-length
 same-length c = search needs
@@ -15,7 +15,7 @@ returns : tie.Need-returns
 returns c =
     let s = c .before .before .before .before .before in
     let w = c .before .before .put-decimal .ensures in
-    (w, omega (arith, w .ends, decimal-most 2 (s .args .n) (omega (arith, s .fits .n .fits))))
+    (w, omega (arith, w .ends, decimal-most 1 (s .args .n) (s .pre .0)))
 
 pub put-number-spec : {M : Type 1} → statement M
 put-number-spec = tie.close (tie.spec put-decimal-requires same-length returns)

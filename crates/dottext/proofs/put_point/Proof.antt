@@ -21,9 +21,9 @@ same-length c = search needs
 
 returns : tie.Need-returns
 returns c =
-    two 1 19 (c .before .before .before .before .before .before .before .before .before .before .before .before .before .before .pre)
+    two 1 18 (c .before .before .before .before .before .before .before .before .before .before .before .before .before .before .pre .1)
     (exact (c .before .before .before .before .before .before .before .before .before .before .before .put-byte .ensures))
-    (λ h0. two 3 16 h0
+    (λ h0. two 2 16 h0
     (c .before .before .before .before .before .before .before .put-number .ensures)
     (λ h1. exact (c .before .before .put-bytes .ensures)))
 

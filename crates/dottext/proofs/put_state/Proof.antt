@@ -33,7 +33,7 @@ returns : tie.Need-returns
 returns c =
     let s = c .before .before .before .before .before .before .before .before .before .before .before .before in
     let e : has (s .args .finals) (s .args .q .0) ≡ true = sym (c .before .before .before .before .before .before .member .ensures) ∙ c .before .before .before .before .before .if1 .taken in
-    rw e (two 3 23 (s .pre .1) (c .before .before .before .before .before .before .before .before .before .put-number .ensures) (λ h. exact (c .before .before .put-bytes .ensures)))
+    rw e (two 2 23 (s .pre .1) (c .before .before .before .before .before .before .before .before .before .put-number .ensures) (λ h. exact (c .before .before .put-bytes .ensures)))
 
 same-length-2 : tie.Need-same-length-2
 same-length-2 c = search needs
@@ -42,7 +42,7 @@ returns-2 : tie.Need-returns-2
 returns-2 c =
     let s = c .before .before .before .before .before .before .before .before .before .before .before .before in
     let e : has (s .args .finals) (s .args .q .0) ≡ false = sym (c .before .before .before .before .before .before .member .ensures) ∙ c .before .before .before .before .before .if1 .left in
-    let w = two 3 2 (omega (arith, s .pre .1)) (c .before .before .before .before .before .before .before .before .before .put-number .ensures) (λ h. exact (c .before .before .put-bytes2 .ensures)) in
+    let w = two 2 2 (omega (arith, s .pre .1)) (c .before .before .before .before .before .before .before .before .before .put-number .ensures) (λ h. exact (c .before .before .put-bytes2 .ensures)) in
     rw e (w .0, omega (arith, w .1))
 
 pub put-state-spec : {M : Type 1} → statement M

@@ -1,33 +1,26 @@
--- `put_states` meets its contract. The loop's invariant: the lines of the first q states are
--- written. Assumes nothing.
+-- `put_states` meets its contract. The loop's invariant: the lines of the first q states are written. Assumes nothing.
 use native.Mathlib.Omega.{arith}
-use Prim.Native.Nat.{_+_, _*_, _-_, _≤_}
-use mathlib.Core.Path.{_≡_}
-use lib.ListN.{length}
-use Rattle.base.specs.Lists.{joined}
-use Rattle.text.proofs.Fitting.{Put, none-put, one-more}
-use Rattle.text.proofs.Rooms.{placed}
+use Prim.Native.Nat.{_-_}
 use Rattle.dottext.specs.DotText.{stateLine}
+use Rattle.dottext.proofs.Rows.{Row, begin, fits, more, all}
 use Rattle.dottext.proofs.put_states.Statement.{statement}
 use Rattle.dottext.proofs.put_states.Tie as tie
 
 abbrev Inv-loop : tie.InvT-loop
-Inv-loop out₀ start finals n at₀ q₀ out at q = (q ≤ n) × (n ≤ 32) × (start + 26 * n ≤ length out₀) × (at ≤ start + 26 * q) × Put out₀ start (joined (stateLine finals) q) out at
+Inv-loop out₀ start finals n at₀ q₀ out at q = Row (stateLine finals) 25 n out₀ start out at q
 
 abbrev μ-loop : tie.MeasureT-loop
 μ-loop out₀ start finals n at₀ q₀ out at q = n - q
 
 loop-holds : tie.Need-loop-holds Inv-loop μ-loop
-loop-holds c =
-    let s = c .before in
-    let a = s .args in
-    (omega arith, s .pre .0, s .pre .1, omega arith, none-put (stateLine (a .finals)) (a .out .now) (a .start) (omega (arith, s .pre)))
+loop-holds c = let a = c .before .args in begin (stateLine (a .finals)) 25 (a .n) (c .before .pre .1)
 
 put-state-requires : tie.Need-put-state-requires Inv-loop μ-loop
 put-state-requires c κs =
-    let x = c .before .before .loop in
+    let h = c .before .before .before .before .pre in
     let t = c .before .loop-test .taken in
-    (omega (arith, x .inv, t), omega (arith, x .inv, x .inv .4 .kept, t))
+    let room = fits (c .before .before .loop .inv) t in
+    (omega (arith, h .0, t), room)
 
 add-q : tie.Need-add-q Inv-loop μ-loop
 add-q c = omega arith
@@ -37,21 +30,14 @@ loop-less c = omega arith
 
 loop-again : tie.Need-loop-again Inv-loop μ-loop
 loop-again c =
-    let x = c .before .before .before .before .before .loop in
-    let a = c .before .before .before .before .before .before .before .args in
-    let t = c .before .before .before .before .loop-test .taken in
     let w = c .before .before .put-state .ensures in
-    let room : x .at + 26 ≤ length (x .out) = omega (arith, x .inv, x .inv .4 .kept, t) in
-    (omega (arith, t), x .inv .1, x .inv .2, omega (arith, x .inv, w .1), one-more (stateLine (a .finals)) (x .q) (x .inv .4) (placed 26 room w))
+    more (c .before .before .before .before .before .loop .inv) (c .before .before .before .before .loop-test .taken) w
 
 same-length : tie.Need-same-length Inv-loop μ-loop
-same-length c = c .before .loop .inv .4 .kept
+same-length c = c .before .loop .inv .parts .kept
 
 returns : tie.Need-returns Inv-loop μ-loop
-returns c =
-    let x = c .before .loop in
-    let e : x .q ≡ c .before .before .before .args .n = omega (arith, x .inv, c .loop-test .left) in
-    (rw e at (x .inv .4 .wrote), omega (arith, x .inv, e))
+returns c = all (c .before .loop .inv) (c .loop-test .left)
 
 pub put-states-spec : {M : Type 1} → statement M
 put-states-spec =
