@@ -112,8 +112,7 @@ BELLBADGER_RESULT bellbadger_open_result bellbadger_open(bellbadger_judge judge,
 
 /* Runs a chunk and keeps its end sets and count at the place. Refused with
  *   21 no board is open      11 the board has no such place      12 the chunk has over 65,536 bytes
- *   13 a byte is no symbol   22 the place has a chunk already
- *   24 the counts would sum up to 2^32 or more (cannot happen to a judge that began fresh) */
+ *   13 a byte is no symbol   22 the place has a chunk already */
 BELLBADGER_RESULT bellbadger_deliver_result bellbadger_deliver(bellbadger_judge judge, size_t place, const uint8_t *chunk, size_t length);
 
 /* Empties a place. Refused with

@@ -54,7 +54,6 @@ _REASONS = {
     21: "no board is open",
     22: "the place has a chunk already",
     23: "the place has no chunk",
-    24: "the counts would sum up to 2^32 or more",
 }
 
 
@@ -248,7 +247,7 @@ class Judge:
     def deliver(self, place, chunk):
         """Runs a chunk and keeps its end sets and count at the place; places are counted from 0.
 
-        Refused with 21, 11, 12, 13, 22, 24.
+        Refused with 21, 11, 12, 13, 22.
         """
         data = _bytes(chunk)
         self._change(_lib.bellbadger_deliver(self._state, _size(place), data, len(data)))

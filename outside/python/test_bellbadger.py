@@ -70,6 +70,18 @@ class Calls(unittest.TestCase):
         judge.withdraw(63)
         self.assertEqual(judge.verdict(), Waiting(64))
 
+    def test_the_largest_count(self):
+        states = range(32)
+        pairs = b"".join((138 + 2 * q).to_bytes(2, "little") + b"\2\0" for q in states)
+        arcs = bytes(b for q in states for b in (0, (q + 1) % 32))
+        judge = Judge()
+        ring = bytes([32, 1]) + b"\xff" * 4 + bytes([1, 0, 0, 0]) + pairs + arcs
+        self.assertEqual(judge.load(ring), Loaded(32, 32))
+        judge.open(64)
+        for place in range(64):
+            judge.deliver(place, bytes(65536))
+        self.assertEqual(judge.verdict(), Yes(64 * 65536 * 32))
+
     def test_words_of_a_refusal(self):
         with self.assertRaisesRegex(Refused, "^refused 20: no rule is loaded$"):
             Judge().open(1)

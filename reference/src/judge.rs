@@ -79,7 +79,6 @@ impl Judge {
         if chunk.iter().any(|&s| s as usize >= rule.automaton.k) { return Refused(13); }
         let place = place as usize;
         if board[place].is_some() { return Refused(22); }
-        if total(rule, board) + rule.count(place, chunk) > 4_294_967_295 { return Refused(24); }
         board[place] = Some(chunk.to_vec());
         Accepted
     }

@@ -227,12 +227,6 @@ fn refused_22_and_23() {
     assert_eq!(deliver(&mut judge, 0, &[0]), Accepted);
 }
 
-/// No list of calls reaches 24: the counts of all places together stay far below its bound.
-#[test]
-fn the_largest_count_is_below_the_bound_of_24() {
-    assert!(32u64 * 65_536 * 64 < 4_294_967_295);
-}
-
 #[test]
 fn a_refused_load_leaves_rule_and_board() {
     let mut judge = opened(&A, 1);

@@ -3,6 +3,7 @@
 --   total-more, total-first   one number more, and the first apart
 --   total-same                the same sum of the same numbers
 --   total-most, term-most     a bound of the sum; a term is at most the sum
+--   total-but-one             a bound where one term is 0: room for one more is left
 --   total-rest                numbers that add nothing
 use mathlib.Core.Path.{_≡_, refl, ap}
 use mathlib.Core.Logic.{⊎-elim}
@@ -30,6 +31,17 @@ pub total-most : (f : ℕ → ℕ) (most n : ℕ) → ((q : ℕ) → q < n → f
 unfolding total
 total-most f most zero h = omega arith
 total-most f most (suc n) h = rw suc-mul (omega (arith, total-most f most n (λ q l. h q (omega arith)), h n (omega arith)))
+
+pub total-but-one : (f : ℕ → ℕ) (most n p : ℕ) → p < n → f p ≡ 0 → ((q : ℕ) → q < n → f q ≤ most)
+    → total f n + most ≤ n * most
+unfolding total
+total-but-one f most zero p l none-there h = absurd (omega arith)
+total-but-one f most (suc n) p l none-there h =
+    rw suc-mul
+    (⊎-elim
+    (λ e. omega (arith, total-most f most n (λ q b. h q (omega arith)), ap f e))
+    (λ b. omega (arith, total-but-one f most n p b none-there (λ q c. h q (omega arith)), h n (omega arith)))
+    (eq-or-lt-of-le (le-of-suc-le-suc l)))
 
 pub term-most : (f : ℕ → ℕ) (n p : ℕ) → p < n → f p ≤ total f n
 unfolding total

@@ -15,7 +15,7 @@ abbrev pub orElse : Option ℕ → Option ℕ → Option ℕ
 orElse none y = y
 orElse (some x) y = some x
 
-first-append : (cs ds : List Condition) → orElse (firstOf cs) (firstOf ds) ≡ firstOf (cs ++ ds)
+pub first-append : (cs ds : List Condition) → orElse (firstOf cs) (firstOf ds) ≡ firstOf (cs ++ ds)
 first-append [] ds = refl
 first-append (on x true ∷ cs) ds = refl
 first-append (on x false ∷ cs) ds = first-append cs ds

@@ -6,13 +6,12 @@ use mathlib.Core.Path.{_≡_, refl, ap}
 use mathlib.Core.Logic.{_↔_}
 use mathlib.Core.Bool.{not}
 use mathlib.Core.Option.{Option, none, some}
-use Prim.Native.Nat.{ℕ, _+_}
+use Prim.Native.Nat.{ℕ}
 use Rattle.base.proofs.Options.{none-some}
 use Rattle.base.specs.Conditions.{firstOf}
-use Rattle.base.proofs.Tests.{zero-one}
 use Rattle.ruleformat.specs.Reader.{ruleOf}
 use Rattle.build.specs.Building.{builtOf}
-use Rattle.board.specs.Boards.{placesOf, isEmpty, emptyBoard, filledAt, clearedAt, summedCount}
+use Rattle.board.specs.Boards.{placesOf, isEmpty, emptyBoard, filledAt, clearedAt}
 use Rattle.calls.specs.declared.Judge.{Judge}
 use Rattle.calls.specs.Replies.{Reply, accepted, loaded, judged, refused, refusalOf}
 use Rattle.calls.specs.Calls.{loads, opens, delivers, withdraws, asksVerdict, loadNumber, openConditions, deliverConditions, withdrawConditions}
@@ -45,8 +44,7 @@ unchanged j (opens n) = by-number (firstOf (openConditions (lacksRule j) n)) acc
 unchanged j (delivers p w) =
     by-number
     (firstOf
-    (deliverConditions (lacksBoard j) (placesOf (j .board)) p w (j .built .k) (not (isEmpty (j .board) p))
-    (summedCount (j .board) + runsAt j p w .count)))
+    (deliverConditions (lacksBoard j) (placesOf (j .board)) p w (j .built .k) (not (isEmpty (j .board) p))))
     accepted
     j
     (withBoard j (filledAt (j .board) p (runsAt j p w)))

@@ -4,20 +4,17 @@
 --   fresh-by                                                fresh
 --   open-20, open-few, open-many, opened                    openOf
 --   withdraw-21, withdraw-11, withdraw-23, withdrawn        withdrawOf
---   over-by-one, over-by-both                               the test of 24, in two steps
 --   runs-by                                                 the runs at a place, from their mask
---   deliver-21, -11, -12, -13, -22, -24, delivered          deliverOf
+--   deliver-21, -11, -12, -13, -22, delivered               deliverOf
 --   verdict-21, verdict-waiting, verdict-yes, verdict-no    verdictOf
 --   load-unread, load-unbuilt, loaded                       loadOf
-use mathlib.Core.Path.{_≡_, sym, ap, ap₂, _∙_}
+use mathlib.Core.Path.{_≡_, sym, ap, _∙_}
 use mathlib.Core.Bool.{Bool, true, false, cond, not}
 use mathlib.Core.List.{List}
 use mathlib.Core.Option.{Option, none, some}
-use Prim.Native.Nat.{ℕ, _+_, _-_, _≤_, _<_}
-use native.Mathlib.Omega.{arith}
-use lib.Dec.{ltb}
+use Prim.Native.Nat.{ℕ, _≤_, _<_}
 use lib.ListN.{length}
-use borrow.Author.Tests.{lt-ltb, le-ltb, le-leb, lt-leb, eq-eqb, ne-eqb, ltb-true, ltb-false}
+use borrow.Author.Tests.{lt-ltb, le-ltb, le-leb, lt-leb, eq-eqb, ne-eqb}
 use Rattle.base.proofs.Tests.{by-test, zero-one}
 use Rattle.ruleformat.specs.declared.ReadAnswer.the-variants as reading
 use Rattle.ruleformat.specs.declared.ReadResult.{ReadResult}
@@ -84,16 +81,6 @@ module _ (j : Judge) (p : ℕ) where
       withdrawn c d is s e = rw (e, is, ne-eqb _ _ a, ← places, lt-leb _ _ b, ← empty, c)
 
 -- ---- deliver
--- the sum of counts is more than 32 bits hold
-pub over-by-one : (s c : ℕ) → 4294967295 < s → true ≡ ltb 4294967295 (s + c)
-over-by-one s c h = sym (lt-ltb 4294967295 (s + c) (omega arith))
-
-pub over-by-both : (s c : ℕ) → s ≤ 4294967295 → ltb (4294967295 - s) c ≡ ltb 4294967295 (s + c)
-over-by-both s c h =
-    by-test (ltb (4294967295 - s) c)
-    (λ t. t ∙ sym (lt-ltb 4294967295 (s + c) (omega (arith, ltb-true (4294967295 - s) c t))))
-    (λ f. f ∙ sym (le-ltb 4294967295 (s + c) (omega (arith, ltb-false (4294967295 - s) c f))))
-
 pub runs-by : (b : Built) (p : ℕ) (w : List ℕ) (mask : ℕ) → mask ≡ runMask (b .delegates) (b .n) (b .initials) p
     → (r : Runs) → r ≡ runsOf (b .sets) (b .next) (b .singles) mask w
     → r ≡ runsOf (b .sets) (b .next) (b .singles) (runMask (b .delegates) (b .n) (b .initials) p) w
@@ -124,19 +111,10 @@ module _ (j : Judge) (p : ℕ) (w : List ℕ) where
           unfolding deliverOf
           deliver-22 g r e = e ∙ rw (ne-eqb _ _ a, ← places, lt-leb _ _ b, le-ltb _ _ c, ← has, d, ← empty, g)
 
-          module _ (g : not x ≡ false) (runs : Runs) (ran : runs ≡ runsAt j p w) (sum : ℕ) (summed : sum ≡ summedCount (j .board))
-              (over : Bool) (exceeds : over ≡ ltb 4294967295 (sum + runs .count)) where
-            weighed : ltb 4294967295 (summedCount (j .board) + runsAt j p w .count) ≡ over
-            weighed = sym (exceeds ∙ ap₂ (λ (m : ℕ) (s : Runs). ltb 4294967295 (m + s .count)) summed ran)
-
-            pub deliver-24 : over ≡ true → (r : Outcome) → r ≡ record { reply = reply.refused 24; state = j } → r ≡ deliverOf j p w
-            unfolding deliverOf
-            deliver-24 h r e = e ∙ rw (ne-eqb _ _ a, ← places, lt-leb _ _ b, le-ltb _ _ c, ← has, d, ← empty, g, weighed, h)
-
-            pub delivered : over ≡ false → (l : Board) → l ≡ filledAt (j .board) p runs → (s : Judge) → s ≡ withBoard j l
-                → record { reply = reply.accepted; state = s } ≡ deliverOf j p w
-            unfolding deliverOf
-            delivered h l is s e = rw (e, is, ran, ne-eqb _ _ a, ← places, lt-leb _ _ b, le-ltb _ _ c, ← has, d, ← empty, g, weighed, h)
+          pub delivered : not x ≡ false → (runs : Runs) → runs ≡ runsAt j p w → (l : Board) → l ≡ filledAt (j .board) p runs → (s : Judge) → s ≡ withBoard j l
+              → record { reply = reply.accepted; state = s } ≡ deliverOf j p w
+          unfolding deliverOf
+          delivered g runs ran l is s e = rw (e, is, ran, ne-eqb _ _ a, ← places, lt-leb _ _ b, le-ltb _ _ c, ← has, d, ← empty, g)
 
 -- ---- verdict
 module _ (j : Judge) where

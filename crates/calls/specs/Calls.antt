@@ -6,8 +6,7 @@
 --   Call               load, open, deliver, withdraw and verdict, with what they are given
 --   loadNumber f       the number with which a load of the file f is refused, 1 to 9, or none where
 --                      it is accepted
---   openConditions, deliverConditions, withdrawConditions   20, 10; 21, 11, 12, 13, 22, 24; 21, 11,
---                                                           23
+--   openConditions, deliverConditions, withdrawConditions   20, 10; 21, 11, 12, 13, 22; 21, 11, 23
 --   judgementBy        what a verdict says: by the number of empty places, whether the join says
 --                      yes, and the sum of the counts
 --   verdictBy          the reply to the call verdict: by whether no board is there, and these three
@@ -17,7 +16,7 @@ use mathlib.Core.Option.{Option}
 use Prim.Native.Nat.{ℕ}
 use lib.Dec.{ltb, leb, eqb}
 use lib.ListN.{length}
-use Rattle.limits.specs.Limits.{mostPlaces, longestChunk, mostCount}
+use Rattle.limits.specs.Limits.{mostPlaces, longestChunk}
 use Rattle.base.specs.Conditions.{Condition, on, firstOf, outside}
 use Rattle.ruleformat.specs.Refusals.{fileConditions}
 use Rattle.ruleformat.specs.Reader.{ruleOf}
@@ -42,15 +41,14 @@ abbrev pub openConditions : Bool → ℕ → List Condition
 openConditions lacks n = on 20 lacks ∷ on 10 (outside 1 mostPlaces n) ∷ []
 
 -- no board is there; it has so many places; the chunk w for place p; the rule has k symbols; a
--- chunk stands at p; the sum of the counts with w's
-abbrev pub deliverConditions : Bool → ℕ → ℕ → List ℕ → ℕ → Bool → ℕ → List Condition
-deliverConditions lacks places p w k filled sum =
+-- chunk stands at p
+abbrev pub deliverConditions : Bool → ℕ → ℕ → List ℕ → ℕ → Bool → List Condition
+deliverConditions lacks places p w k filled =
     on 21 lacks ∷
     on 11 (leb places p) ∷
     on 12 (ltb longestChunk (length w)) ∷
     on 13 (foreign w k) ∷
-    on 22 filled ∷
-    on 24 (ltb mostCount sum) ∷ []
+    on 22 filled ∷ []
 
 -- no board is there; it has so many places; no chunk stands at place p
 abbrev pub withdrawConditions : Bool → ℕ → ℕ → Bool → List Condition

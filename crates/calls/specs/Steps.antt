@@ -13,7 +13,7 @@
 use mathlib.Core.Bool.{Bool, not}
 use mathlib.Core.List.{List}
 use mathlib.Core.Option.{Option, none, some}
-use Prim.Native.Nat.{ℕ, _+_}
+use Prim.Native.Nat.{ℕ}
 use lib.Dec.{eqb}
 use Rattle.base.specs.Conditions.{firstOf}
 use Rattle.ruleformat.specs.Reader.{ruleOf}
@@ -85,8 +85,7 @@ unfoldable pub deliverOf : Judge → ℕ → List ℕ → Outcome
 deliverOf j p w =
     outcomeBy
     (firstOf
-    (deliverConditions (lacksBoard j) (placesOf (j .board)) p w (j .built .k) (not (isEmpty (j .board) p))
-    (summedCount (j .board) + runsAt j p w .count)))
+    (deliverConditions (lacksBoard j) (placesOf (j .board)) p w (j .built .k) (not (isEmpty (j .board) p))))
     accepted
     j
     (withBoard j (filledAt (j .board) p (runsAt j p w)))

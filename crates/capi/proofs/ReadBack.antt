@@ -3,7 +3,7 @@ use mathlib.Core.Path.{_≡_, refl}
 use mathlib.Core.Bool.{Bool, true, false, cond, not}
 use mathlib.Core.List.{List}
 use mathlib.Core.Option.{Option, none, some}
-use Prim.Native.Nat.{ℕ, _+_}
+use Prim.Native.Nat.{ℕ}
 use lib.Dec.{eqb}
 use Rattle.base.specs.Conditions.{firstOf}
 use Rattle.ruleformat.specs.Reader.{ruleOf}
@@ -56,8 +56,7 @@ unfolding deliverOf
 deliver-read-back j p w =
     taken-by j (withBoard j (filledAt (j .board) p (runsAt j p w)))
     (firstOf
-    (deliverConditions (lacksBoard j) (placesOf (j .board)) p w (j .built .k) (not (isEmpty (j .board) p))
-    (summedCount (j .board) + runsAt j p w .count)))
+    (deliverConditions (lacksBoard j) (placesOf (j .board)) p w (j .built .k) (not (isEmpty (j .board) p))))
 
 withdraw-read-back : (j : Judge) (p : ℕ) → withdrawReadBack (withdrawShown (withdrawOf j p)) ≡ withdrawOf j p
 unfolding withdrawOf

@@ -16,6 +16,7 @@
 --      judgeAfter h, repliesTo h      the outcome of a list of calls        histories/specs/Claims
 --      standing, verdictIn, answerOf  what 01 says of a list alone          histories/specs/History
 --      Accepted-exactly, Refused-..   which calls, with which number        histories/specs/Conditions
+--      CountBound                     the sum's bound; the former 24        histories/specs/CountBound
 --      runSet, endSet, chunkCount     running a chunk                       chunks/specs/Chunks
 --      held, isEmpty, summedCount     what a board holds                    board/specs/Boards
 --      joinOf, yesOf                  joining                               joins/specs/Joining
@@ -55,13 +56,14 @@ use Rattle.calls.proofs.Refusing as refusing
 use Rattle.histories.specs.History.{fileOf, ruleIn, boardIn, standing, chunkOf, endAt, countAt, emptiesIn, summedIn, yesIn, textIn, verdictIn, answersTo}
 use Rattle.histories.specs.Method.{Method}
 use Rattle.histories.specs.Conditions.{Accepted-exactly, Refused-exactly}
-use Rattle.histories.specs.Claims.{judgeMachine, judgeAfter, repliesTo, BuiltBy, EveryList, automatonBy, Sum-fits, Never-24}
+use Rattle.histories.specs.Claims.{judgeMachine, judgeAfter, repliesTo, BuiltBy, EveryList, automatonBy}
+use Rattle.histories.specs.CountBound.{CountBound}
 use Rattle.histories.specs.Functions.{judgeLibrary}
 use Rattle.histories.specs.TableP.{TableP}
 use Rattle.histories.proofs.EveryList.{every-list}
 use Rattle.histories.proofs.Method as histories-method
 use Rattle.histories.proofs.Refinement.{judge-meets}
-use Rattle.histories.proofs.CountBound as histories-never
+use Rattle.histories.proofs.CountBound as histories-bound
 use Rattle.histories.proofs.TableP as histories-table
 use Rattle.lines.specs.Splitting.{linesOf}
 use Rattle.linebuffer.specs.Holding.{lineBegin}
@@ -131,19 +133,18 @@ one-claim h rs j e =
     (is .0 ∙ every-list h .correct, is .1, every-list h)
 
 -- A call is accepted exactly when none of its conditions holds, and refused with a number exactly
--- when that one is the first that holds (the verdict's 21 follows below; the sum of 24 is never too
--- large, so no call answers 24).
+-- when that one is the first that holds (the verdict's 21 follows below).
 pub accepted-exactly : (h : List Call) → Accepted-exactly h
 accepted-exactly h = every-list h .accepted-exactly
 
 pub refused-exactly : (h : List Call) → Refused-exactly h
 refused-exactly h = every-list h .refused-exactly
 
-pub sum-fits : Sum-fits
-sum-fits = histories-never.sum-fits
-
-pub never-24 : Never-24
-never-24 = histories-never.never-24
+-- The summed count is at most 64 places times 65,536 bytes times 32 starts, with a chunk that can be
+-- delivered too: so what document 01 numbered 24, a sum over 4,294,967,295, changed no answer, and a
+-- delivery has the other five conditions (document 02, R-4).
+pub count-bound : (h : List Call) → CountBound h
+count-bound = histories-bound.count-bound
 
 -- The verdict: refused with 21 unless the last accepted load or opening is an opening;
 pub refused-21 : (h : List Call) → (verdictIn h ≡ refused 21) ↔ (boardIn h ≡ false)

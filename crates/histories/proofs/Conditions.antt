@@ -8,7 +8,7 @@ use mathlib.Core.Logic.{_↔_, _⊎_, inl, inr, ⊎-elim, Iff·trans}
 use mathlib.Core.Bool.{Bool, true, false, cond, _||_}
 use mathlib.Core.List.{List, [], _∷_}
 use mathlib.Core.Option.{Option, none, some}
-use Prim.Native.Nat.{ℕ, _+_, _<_, _≤_}
+use Prim.Native.Nat.{ℕ, _<_, _≤_}
 use native.Mathlib.Omega.{arith}
 use lib.Dec.{eqb, ltb, leb}
 use lib.ListN.{length}
@@ -17,7 +17,7 @@ use Rattle.base.specs.Options.{isNone, isSome}
 use Rattle.base.proofs.Options.{none-some, is-some, not-some}
 use Rattle.base.proofs.Conditions.{none-law, first-law, outside-law}
 use Rattle.base.specs.Conditions.{Condition, on, firstOf, NoneHolds, FirstHolds, outside}
-use Rattle.base.proofs.Tests.{by-test, or-left, or-right, or-neither, zero-one}
+use Rattle.base.proofs.Tests.{by-test, or-left, or-right, zero-one}
 use Rattle.ruleformat.specs.Refusals.{fileConditions, refusal}
 use Rattle.ruleformat.specs.Reader.{ruleOf}
 use Rattle.ruleformat.specs.Language.{automatonIn}
@@ -27,22 +27,22 @@ use Rattle.chunks.specs.Chunks.{foreign}
 use Rattle.calls.specs.Replies.{Reply, accepted, loaded, refused}
 use Rattle.calls.specs.Calls.{Call, opens, delivers, withdraws, loadNumber, openConditions}
 use Rattle.calls.proofs.Conditions.{orElse, over, load-number, not-refused}
-use Rattle.histories.specs.History.{fileOf, ruleIn, placesIn, countOf, standing, summedIn, replyBy, answerOf}
+use Rattle.histories.specs.History.{fileOf, ruleIn, placesIn, standing, replyBy, answerOf}
 use Rattle.histories.specs.Method.{TooMany}
 use Rattle.histories.specs.Conditions.{Accepted-exactly, Refused-exactly}
 use Rattle.histories.proofs.Method.{nine-law}
 
 -- ---- numbers that no condition has
-unfoldable pub named : ℕ → List Condition → Bool
+unfoldable named : ℕ → List Condition → Bool
 named x [] = false
 named x (on number test ∷ cs) = eqb number x || named x cs
 
 -- a condition with another number is passed
-pub past : (number x : ℕ) (test : Bool) (rest : Option ℕ) → eqb number x ≡ false → cond test (some number) rest ≡ some x → (test ≡ false) × (rest ≡ some x)
+past : (number x : ℕ) (test : Bool) (rest : Option ℕ) → eqb number x ≡ false → cond test (some number) rest ≡ some x → (test ≡ false) × (rest ≡ some x)
 past number x true rest other e = absurd (let same : number ≡ x = cc in eqb-false number x other same)
 past number x false rest other e = (refl, e)
 
-pub not-named : (x : ℕ) (cs : List Condition) → named x cs ≡ false → firstOf cs ≡ some x → ⊥
+not-named : (x : ℕ) (cs : List Condition) → named x cs ≡ false → firstOf cs ≡ some x → ⊥
 unfolding named
 not-named x [] n e = none-some refl e
 not-named x (on number test ∷ cs) n e =
@@ -197,8 +197,7 @@ accepted-exactly h = record {
       on 11 (leb (placesIn h) p) ∷
       on 12 (ltb 65536 (length w)) ∷
       on 13 (foreign w (ruleIn h .k)) ∷
-      on 22 (isSome (standing h p)) ∷
-      on 24 (ltb 4294967295 (summedIn h + countOf (ruleIn h) p (some w))) ∷ []) in (
+      on 22 (isSome (standing h p)) ∷ []) in (
         (λ e.
             let x = law .0 e in (
               some-places (placesIn h) (x .0),
@@ -206,7 +205,6 @@ accepted-exactly h = record {
               ltb-false 65536 (length w) (x .1 .1 .0),
               x .1 .1 .1 .0,
               not-some (standing h p) .0 (x .1 .1 .1 .1 .0),
-              ltb-false 4294967295 (summedIn h + countOf (ruleIn h) p (some w)) (x .1 .1 .1 .1 .1 .0),
             )),
         λ x.
             law .1 (
@@ -215,10 +213,7 @@ accepted-exactly h = record {
                 lt-leb (placesIn h) p (x .1),
                 (
                   le-ltb 65536 (length w) (x .2),
-                  (
-                    x .3,
-                    (not-some (standing h p) .1 (x .4), (le-ltb 4294967295 (summedIn h + countOf (ruleIn h) p (some w)) (x .5), tt)),
-                  ),
+                  (x .3, (not-some (standing h p) .1 (x .4), tt)),
                 ),
               ),
             ),
@@ -258,11 +253,8 @@ module _ (places p : ℕ) (cs : List Condition) where
       )
 
 module _ (h : List Call) (p : ℕ) (w : List ℕ) where
-  abbrev from-24 : List Condition
-  from-24 = on 24 (ltb 4294967295 (summedIn h + countOf (ruleIn h) p (some w))) ∷ []
-
   abbrev from-22 : List Condition
-  from-22 = on 22 (isSome (standing h p)) ∷ from-24
+  from-22 = on 22 (isSome (standing h p)) ∷ []
 
   abbrev from-13 : List Condition
   from-13 = on 13 (foreign w (ruleIn h .k)) ∷ from-22
@@ -296,7 +288,7 @@ module _ (h : List Call) (p : ℕ) (w : List ℕ) where
   delivery-22 =
       let one = past-12 22 refl refl refl in
       let two = first-past 13 22 (foreign w (ruleIn h .k)) from-22 refl in
-      let here = Iff·trans (first-here 22 (isSome (standing h p)) from-24 refl) (filled (standing h p)) in (
+      let here = Iff·trans (first-here 22 (isSome (standing h p)) [] refl) (filled (standing h p)) in (
         (λ e. let y = one .0 e in let z = two .0 (y .2) in (y .0, y .1, z .0, here .0 (z .1))),
         λ y. one .1 (y .0, y .1, two .1 (y .2, here .1 (y .3))),
       )

@@ -1,37 +1,42 @@
--- No list of calls comes to 24, as `Never-24` of specs/Claims.antt says: a chunk counts at most 32
--- transitions for each of its 65,536 bytes at most, and a board has at most 64 places. Assumes
--- nothing.
-use mathlib.Core.Path.{_≡_, refl, sym, ap, subst}
-use mathlib.Core.Bool.{Bool, true, false, cond, _&&_, _||_, and-eq-true-iff}
+-- The summed count is bounded after every list of calls, and the former conditions of a delivery
+-- change no answer, as specs/CountBound.antt says. Assumes nothing.
+--
+-- A chunk counts at most 32 transitions for each of its 65,536 bytes at most, and a board has at
+-- most 64 places. A delivery that can be accepted finds its place empty, so that its chunk's count
+-- is one of 64 still.
+use mathlib.Core.Path.{_≡_, refl, sym, ap, ap₂, _∙_}
+use mathlib.Core.Bool.{Bool, true, false, cond, not, _&&_, and-eq-true-iff}
 use mathlib.Core.List.{List, [], _∷_, _++_}
 use mathlib.Core.Option.{Option, none, some}
-use Prim.Native.Nat.{ℕ, _+_, _*_, _≤_}
+use Prim.Native.Nat.{ℕ, _+_, _*_, _≤_, _<_}
 use native.Mathlib.Omega.{arith}
-use lib.Dec.{eqb, ltb, leb}
+use lib.Dec.{eqb, ltb}
 use lib.ListN.{length}
-use borrow.Author.Tests.{eqb-false, le-ltb, ltb-false}
+use borrow.Author.Tests.{le-ltb}
 use Rattle.base.specs.Conditions.{Condition, on, firstOf}
 use Rattle.base.specs.Options.{isNone, isSome}
-use Rattle.base.specs.Totals.{total}
-use Rattle.base.proofs.Conditions.{none-law}
-use Rattle.base.proofs.Options.{none-some, is-none}
-use Rattle.base.proofs.Tests.{by-test, or-left, or-right, zero-one}
-use Rattle.base.proofs.Totals.{total-most}
+use Rattle.base.proofs.Conditions.{none-law, outside-law}
+use Rattle.base.proofs.Options.{is-none}
+use Rattle.base.proofs.Tests.{by-test, not-both, zero-one}
+use Rattle.base.proofs.Totals.{total-most, total-but-one}
 use Rattle.masks.specs.Masks.{single, has}
+use Rattle.executions.specs.Executions.{stateAfter, repliesTo as machineReplies}
 use Rattle.automaton.specs.declared.Rule.{Rule}
-use Rattle.ruleformat.specs.Refusals.{fileConditions}
-use Rattle.ruleformat.specs.Reader.{ruleOf}
-use Rattle.subsets.specs.Sets.{setsOf}
-use Rattle.delegates.specs.Claims.{startsIn}
 use Rattle.chunks.specs.Chunks.{foreign, counted, chunkCount}
 use Rattle.chunks.proofs.Claims as chunks
-use Rattle.calls.specs.Replies.{Reply, accepted, loaded, waiting, yesWith, noWith, refused, refusalOf, Judgement, judged}
-use Rattle.calls.specs.Calls.{Call, loads, opens, delivers, withdraws, asksVerdict, loadNumber, openConditions, deliverConditions, withdrawConditions, judgementBy}
-use Rattle.calls.proofs.Conditions.{over}
-use Rattle.calls.proofs.Refusing.{not-refusal}
-use Rattle.histories.specs.History.{fileOf, ruleIn, openNumber, placesIn, runAt, countOf, deliverCheck, withdrawCheck, standing, deliverNumber, withdrawNumber, emptiesIn, summedIn, yesIn, replyBy}
-use Rattle.histories.specs.Claims.{Sum-fits, Never-24}
-use Rattle.histories.proofs.Conditions.{named, past, not-named}
+use Rattle.board.specs.Boards.{placesOf, isEmpty, filledAt, summedCount}
+use Rattle.calls.specs.declared.Judge.{Judge}
+use Rattle.calls.specs.Replies.{accepted}
+use Rattle.calls.specs.Calls.{Call, loads, opens, delivers, withdraws, asksVerdict, loadNumber, openConditions, deliverConditions}
+use Rattle.calls.specs.Steps.{lacksBoard, withBoard, outcomeBy, runsAt, deliverOf, stepOf}
+use Rattle.calls.proofs.Conditions.{orElse, first-append}
+use Rattle.histories.specs.History.{fileOf, ruleFrom, ruleIn, openNumber, placesIn, runAt, countOf, withdrawCheck, standing, deliverNumber, summedIn, replyBy}
+use Rattle.histories.specs.Claims.{judgeAfter, repliesTo}
+use Rattle.histories.specs.CountBound.{formerNumber, formerOn, sumWith, formerStep, formerMachine, CountBound}
+use Rattle.histories.proofs.Agreement.{Agrees, run-count}
+use Rattle.histories.proofs.Numbers.{deliver-number, summed-same}
+use Rattle.histories.proofs.Conditions.{accepted-exactly}
+use Rattle.histories.proofs.EveryList.{good}
 
 -- ---- what a chunk counts
 chunk-most : (ts : List ℕ) (run : ℕ) (w : List ℕ) → chunkCount ts run w ≤ 32 * length w
@@ -42,42 +47,37 @@ chunk-most ts run w =
     one true q = chunks.claims .counted-most ts (single q) w
     one false q = omega arith
 
+-- ---- a delivery that can be accepted
+module _ (h : List Call) (p : ℕ) (w : List ℕ) (e : deliverNumber h p w ≡ none) where
+  passes : (0 < placesIn h) × (p < placesIn h) × (length w ≤ 65536) × (foreign w (ruleIn h .k) ≡ false) × (standing h p ≡ none)
+  passes = accepted-exactly h .delivery p w .0 (ap (λ (o : Option ℕ). replyBy o accepted) e)
+
 -- ---- a standing chunk has at most 65,536 bytes
 kept : (t : Bool) (o : Option (List ℕ)) (w : List ℕ) → cond t none o ≡ some w → o ≡ some w
 kept true o w e = zero-one cc
 kept false o w e = e
 
-delivered-short : (r : Rule) (places : ℕ) (at : ℕ → Option (List ℕ)) (q : ℕ) (v : List ℕ) → deliverCheck r places at q v ≡ none → length v ≤ 65536
-delivered-short r places at q v e =
-    let x =
-    none-law
-    (deliverConditions (eqb places 0) places q v (r .k) (isSome (at q)) (total (λ i. countOf r i (at i)) places + countOf r q (some v))) .0
-    e in
-    ltb-false 65536 (length v) (x .1 .1 .0)
-
-pub standing-short : (h : List Call) (p : ℕ) (w : List ℕ) → standing h p ≡ some w → length w ≤ 65536
+standing-short : (h : List Call) (p : ℕ) (w : List ℕ) → standing h p ≡ some w → length w ≤ 65536
 unfolding standing
 standing-short [] p w e = zero-one cc
 standing-short (loads f ∷ h) p w e = standing-short h p w (kept (isNone (loadNumber f)) (standing h p) w e)
 standing-short (opens n ∷ h) p w e = standing-short h p w (kept (isNone (openNumber h n)) (standing h p) w e)
 standing-short (delivers q v ∷ h) p w e =
-    by-test (eqb q p && isNone (deliverCheck (ruleIn h) (placesIn h) (standing h) q v))
+    by-test (eqb q p && isNone (deliverNumber h q v))
     (λ t.
     let same : some v ≡ some w = rw t at e in
     let is : v ≡ w = cc in
     rw (sym is)
-    (delivered-short (ruleIn h) (placesIn h) (standing h) q v
-    (is-none (deliverCheck (ruleIn h) (placesIn h) (standing h) q v) .0
-    (and-eq-true-iff (eqb q p) (isNone (deliverCheck (ruleIn h) (placesIn h) (standing h) q v)) .0 t .1))))
+    (passes h q v (is-none (deliverNumber h q v) .0 (and-eq-true-iff (eqb q p) (isNone (deliverNumber h q v)) .0 t .1)) .2))
     (λ t. standing-short h p w (rw t at e))
 standing-short (withdraws q ∷ h) p w e =
-    standing-short h p w (kept (eqb q p && isNone (withdrawCheck (placesIn h) (standing h) q)) (standing h p) w e)
+    standing-short h p w (kept (eqb q p && isNone (withdrawCheck (placesIn h) (standing h q) q)) (standing h p) w e)
 standing-short (asksVerdict ∷ h) p w e = standing-short h p w e
 
+-- and counts at most 32 times as many
 counted-few : (r : Rule) (p : ℕ) (o : Option (List ℕ)) → ((w : List ℕ) → o ≡ some w → length w ≤ 65536) → countOf r p o ≤ 2097152
 counted-few r p none short = omega arith
-counted-few r p (some w) short =
-    omega (arith, chunk-most (r .targets) (runAt r p) w, short w refl)
+counted-few r p (some w) short = omega (arith, chunk-most (r .targets) (runAt r p) w, short w refl)
 
 -- ---- a board has at most 64 places
 places-few : (h : List Call) → placesIn h ≤ 64
@@ -88,62 +88,119 @@ places-few (opens n ∷ h) =
     by-test (isNone (openNumber h n))
     (λ t.
     let x = none-law (openConditions (isNone (fileOf h)) n) .0 (is-none (openNumber h n) .0 t) in
-    rw t (ltb-false 64 n (or-right (ltb n 1) (ltb 64 n) (x .1 .0))))
+    rw t (outside-law 1 64 n .0 (x .1 .0) .1))
     (λ t. rw t (places-few h))
 places-few (delivers p w ∷ h) = places-few h
 places-few (withdraws p ∷ h) = places-few h
 places-few (asksVerdict ∷ h) = places-few h
 
+-- ---- the sum
 module _ (h : List Call) where
-  pub summed-few : summedIn h ≤ 134217728
-  summed-few =
+  few-at : (p : ℕ) → p < placesIn h → countOf (ruleIn h) p (standing h p) ≤ 2097152
+  few-at p _ = counted-few (ruleIn h) p (standing h p) (standing-short h p)
+
+  most : summedIn h ≤ 134217728
+  most = omega (arith, places-few h, total-most (λ p. countOf (ruleIn h) p (standing h p)) 2097152 (placesIn h) few-at)
+
+  module _ (p : ℕ) (w : List ℕ) (e : deliverNumber h p w ≡ none) where
+    most-with : summedIn h + countOf (ruleIn h) p (some w) ≤ 134217728
+    most-with =
+        let x = passes h p w e in
+        omega (
+          arith,
+          places-few h,
+          total-but-one (λ i. countOf (ruleIn h) i (standing h i)) 2097152 (placesIn h) p (x .1)
+              (ap (countOf (ruleIn h) p) (x .4))
+              few-at,
+          chunk-most (ruleIn h .targets) (runAt (ruleIn h) p) w,
+          x .2,
+        )
+
+-- ---- of the state
+-- a board is there only with a rule, so the chunk is run by it
+ran : (file : Option (List ℕ)) (places : ℕ) (at : ℕ → Option (List ℕ)) (j : Judge) → Agrees file places at j
+    → (p : ℕ) → p < places → (w : List ℕ) → foreign w (ruleFrom file .k) ≡ false → runsAt j p w .count ≡ countOf (ruleFrom file) p (some w)
+ran none places at j holds p l w fine = not-both refl (holds .ruled (omega arith))
+ran (some f) places at j holds p l w fine = run-count f places at j holds p l w (chunks.claims .text-law w (ruleFrom (some f) .k) .0 fine)
+
+module _ (h : List Call) where
+  held-sum : summedCount (judgeAfter h .board) ≡ summedIn h
+  held-sum = summed-same (fileOf h) (placesIn h) (standing h) (judgeAfter h) (good h)
+
+  held-most : summedCount (judgeAfter h .board) ≤ 134217728
+  held-most = omega (arith, held-sum, most h)
+
+  held-most-with : (p : ℕ) (w : List ℕ) → deliverNumber h p w ≡ none → sumWith (judgeAfter h) p w ≤ 134217728
+  held-most-with p w e =
+      let x = passes h p w e in
       omega (
         arith,
-        places-few h,
-        total-most (λ p. countOf (ruleIn h) p (standing h p)) 2097152 (placesIn h)
-            (λ p _. counted-few (ruleIn h) p (standing h p) (standing-short h p)),
+        held-sum,
+        ran (fileOf h) (placesIn h) (standing h) (judgeAfter h) (good h) p (x .1) w (x .3),
+        most-with h p w e,
       )
 
-  -- the sixth condition of a delivery fails where the third does
-  fits-32 : (p : ℕ) (w : List ℕ) → length w ≤ 65536 → ltb 4294967295 (summedIn h + countOf (ruleIn h) p (some w)) ≡ false
-  fits-32 p w short =
-      le-ltb 4294967295 (summedIn h + countOf (ruleIn h) p (some w))
-      (omega (arith, summed-few, counted-few (ruleIn h) p (some w) (λ v e. let is : w ≡ v = cc in subst (λ (x : List ℕ). length x ≤ 65536) is short)))
+-- ---- a last condition that fails wherever it is looked at
+idle : (cs : List Condition) (sum : ℕ) → (firstOf cs ≡ none → sum ≤ 134217728) → firstOf (cs ++ (on 24 (ltb 4294967295 sum) ∷ [])) ≡ firstOf cs
+idle cs sum small =
+    sym (first-append cs (on 24 (ltb 4294967295 sum) ∷ []))
+    ∙ by-number (firstOf cs) (λ e. le-ltb 4294967295 sum (omega (arith, small e)))
+  where
+    by-number : (o : Option ℕ) → (o ≡ none → ltb 4294967295 sum ≡ false) → orElse o (cond (ltb 4294967295 sum) (some 24) none) ≡ o
+    by-number none fails = rw (fails refl)
+    by-number (some x) fails = refl
 
--- ---- the claims
-pub sum-fits : Sum-fits
-sum-fits h p w short = ltb-false 4294967295 (summedIn h + countOf (ruleIn h) p (some w)) (fits-32 h p w short)
+module _ (h : List Call) (p : ℕ) (w : List ℕ) where
+  same-number : formerNumber h p w ≡ deliverNumber h p w
+  same-number =
+      idle (deliverConditions (eqb (placesIn h) 0) (placesIn h) p w (ruleIn h .k) (isSome (standing h p)))
+      (summedIn h + countOf (ruleIn h) p (some w))
+      (most-with h p w)
 
-replied : (o : Option ℕ) (a : Reply) → refusalOf a ≡ none → replyBy o a ≡ refused 24 → o ≡ some 24
-replied none a taken e = absurd (not-refusal a taken 24 e)
-replied (some x) a taken e = let same : x ≡ 24 = cc in ap some same
+  same-held : formerOn (judgeAfter h) p w ≡ deliverNumber h p w
+  same-held =
+      let j = judgeAfter h in
+      let number = deliver-number (fileOf h) (placesIn h) (standing h) j (good h) p w in
+      idle (deliverConditions (lacksBoard j) (placesOf (j .board)) p w (j .built .k) (not (isEmpty (j .board) p)))
+      (sumWith j p w)
+      (λ e. held-most-with h p w (sym number ∙ e))
+      ∙ number
 
-never-delivered : (h : List Call) (p : ℕ) (w : List ℕ) → deliverNumber h p w ≡ some 24 → ⊥
-never-delivered h p w e =
-    let sum = summedIn h + countOf (ruleIn h) p (some w) in
-    let a = past 21 24 (eqb (placesIn h) 0) _ refl e in
-    let b = past 11 24 (leb (placesIn h) p) _ refl (a .1) in
-    let c = past 12 24 (ltb 65536 (length w)) _ refl (b .1) in
-    let f = past 13 24 (foreign w (ruleIn h .k)) _ refl (c .1) in
-    let g = past 22 24 (isSome (standing h p)) (cond (ltb 4294967295 sum) (some 24) none) refl (f .1) in
-    none-some
-    (ap (λ (t : Bool). cond t (some 24) none) (fits-32 h p w (ltb-false 65536 (length w) (c .0))))
-    (g .1)
+  same-delivery : formerStep (judgeAfter h) (delivers p w) ≡ stepOf (judgeAfter h) (delivers p w)
+  unfolding deliverOf
+  same-delivery =
+      let j = judgeAfter h in
+      ap (λ (o : Option ℕ). outcomeBy o accepted j (withBoard j (filledAt (j .board) p (runsAt j p w))))
+      (same-held ∙ sym (deliver-number (fileOf h) (placesIn h) (standing h) j (good h) p w))
 
-never-verdict : (no-board : Bool) (v : Judgement) → cond no-board (refused 21) (judged v) ≡ refused 24 → ⊥
-never-verdict true v e = zero-one cc
-never-verdict false v e = not-refusal (judged v) refl 24 e
+-- ---- the judge with the six conditions
+same-step : (h : List Call) (c : Call) → formerStep (judgeAfter h) c ≡ stepOf (judgeAfter h) c
+same-step h (loads f) = refl
+same-step h (opens n) = refl
+same-step h (delivers p w) = same-delivery h p w
+same-step h (withdraws p) = refl
+same-step h asksVerdict = refl
 
-pub never-24 : Never-24
-unfolding loadNumber named
-never-24 h (loads f) e =
-    not-named 24 (fileConditions f ++ (on 9 (over f) ∷ []))
-    refl
-    (replied (loadNumber f) (loaded (length (setsOf (ruleOf f .targets) (ruleOf f .n) (ruleOf f .k))) (startsIn (ruleOf f) .startcount)) refl e)
-never-24 h (opens n) e = not-named 24 (openConditions (isNone (fileOf h)) n) refl (replied (openNumber h n) accepted refl e)
-never-24 h (delivers p w) e = never-delivered h p w (replied (deliverNumber h p w) accepted refl e)
-never-24 h (withdraws p) e =
-    not-named 24 (withdrawConditions (eqb (placesIn h) 0) (placesIn h) p (isNone (standing h p))) refl
-    (replied (withdrawNumber h p) accepted refl e)
-never-24 h asksVerdict e =
-    never-verdict (eqb (placesIn h) 0) (judgementBy (emptiesIn h) (yesIn h) (summedIn h)) e
+same-state : (h : List Call) → stateAfter formerMachine h ≡ judgeAfter h
+unfolding stateAfter
+same-state [] = refl
+same-state (c ∷ h) =
+    ap (λ (j : Judge). formerStep j c .state) (same-state h) ∙ ap (λ o. o .state) (same-step h c)
+
+same-replies : (h : List Call) → machineReplies formerMachine h ≡ repliesTo h
+unfolding machineReplies
+same-replies [] = refl
+same-replies (c ∷ h) =
+    ap₂ _∷_ (ap (λ (j : Judge). formerStep j c .reply) (same-state h) ∙ ap (λ o. o .reply) (same-step h c)) (same-replies h)
+
+pub count-bound : (h : List Call) → CountBound h
+count-bound h = record {
+  most = most h;
+  most-with = most-with h;
+  held-most = held-most h;
+  held-most-with = held-most-with h;
+  same-number = same-number h;
+  same-held = same-held h;
+  same-replies = same-replies h;
+  same-state = same-state h;
+}

@@ -33,7 +33,7 @@ module _ (h : List Call) (j : Judge) (g : AgreesWith h j) where
   step-right asksVerdict = verdict-says h j g
 
 -- ---- every list
-good : (h : List Call) → AgreesWith h (judgeAfter h)
+pub good : (h : List Call) → AgreesWith h (judgeAfter h)
 unfolding stateAfter
 good [] = good-fresh
 good (c ∷ h) = step-good h (judgeAfter h) (good h) c

@@ -9,7 +9,7 @@ use mathlib.Core.Logic.{_↔_}
 use mathlib.Core.Bool.{Bool, true, false, not}
 use mathlib.Core.List.{List, []}
 use mathlib.Core.Option.{Option, none, some}
-use Prim.Native.Nat.{ℕ, _+_}
+use Prim.Native.Nat.{ℕ}
 use lib.Dec.{eqb}
 use denote.Ref.{RefT}
 use Rattle.base.specs.Conditions.{firstOf}
@@ -76,8 +76,7 @@ module _ (j : Judge) where
   delivery-of p w =
       a-delivery j (withBoard j (filledAt (j .board) p (runsAt j p w)))
       (firstOf
-      (deliverConditions (lacksBoard j) (placesOf (j .board)) p w (j .built .k) (not (isEmpty (j .board) p))
-      (summedCount (j .board) + runsAt j p w .count)))
+      (deliverConditions (lacksBoard j) (placesOf (j .board)) p w (j .built .k) (not (isEmpty (j .board) p))))
 
   withdrawal-of : (p : ℕ) → (r : WithdrawResult) × (withdrawOutcome r ≡ withdrawOf j p)
   unfolding withdrawOf

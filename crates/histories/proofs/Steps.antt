@@ -10,8 +10,8 @@ use lib.Dec.{eqb, ltb, leb}
 use lib.ListN.{length}
 use borrow.Author.Tests.{eq-eqb, ltb-true, ltb-false, leb-false}
 use Rattle.base.specs.Conditions.{on, firstOf, outside}
-use Rattle.base.specs.Options.{isNone}
-use Rattle.base.proofs.Conditions.{passed}
+use Rattle.base.specs.Options.{isNone, isSome}
+use Rattle.base.proofs.Conditions.{passed, none-law}
 use Rattle.base.proofs.Tests.{by-test, or-right, zero-one, not-both}
 use Rattle.ruleformat.specs.Reader.{ruleOf}
 use Rattle.ruleformat.proofs.Claims as rulefile
@@ -20,18 +20,17 @@ use Rattle.subsets.specs.Sets.{setsOf}
 use Rattle.subsets.specs.Claims.{fits}
 use Rattle.delegates.specs.Claims.{startsIn}
 use Rattle.build.specs.Building.{builtOf}
-use Rattle.chunks.specs.Chunks.{foreign}
 use Rattle.chunks.proofs.Claims as chunks
 use Rattle.board.specs.Boards.{emptyBoard, clearedAt, filledAt}
 use Rattle.calls.specs.declared.Judge.{Judge}
 use Rattle.calls.specs.Replies.{Reply, accepted, loaded}
 use Rattle.calls.proofs.Conditions.{not-refused}
 use Rattle.histories.specs.History.{fileOf, ruleFrom, openNumber, placesIn, deliverCheck, standing, deliverNumber, withdrawNumber, replyBy}
-use Rattle.calls.specs.Calls.{Call, loads, opens, delivers, withdraws, asksVerdict, loadNumber}
+use Rattle.calls.specs.Calls.{Call, loads, opens, delivers, withdraws, asksVerdict, loadNumber, deliverConditions}
 use Rattle.calls.specs.Steps.{fresh, withBoard, outcomeBy, runsAt, loadOf, openOf, deliverOf, withdrawOf}
 use Rattle.histories.specs.Claims.{BuiltBy}
 use Rattle.histories.proofs.Agreement.{Agrees, all-empty, fresh-holds, placed, cleared-holds, filled-holds}
-use Rattle.histories.proofs.Numbers.{list-11, list-12, list-13, list-22, open-number, withdraw-number, deliver-number}
+use Rattle.histories.proofs.Numbers.{open-number, withdraw-number, deliver-number}
 
 abbrev pub AgreesWith : List Call → Judge → Type 0
 AgreesWith h j = Agrees (fileOf h) (placesIn h) (standing h) j
@@ -163,11 +162,11 @@ module _ (h : List Call) (j : Judge) (good : AgreesWith h j) (p : ℕ) (w : List
   deliver-is : deliverOf j p w ≡ outcomeBy (deliverNumber h p w) accepted j kept
   unfolding deliverOf
   deliver-is =
-      ap (λ x. outcomeBy x accepted j kept) (deliver-number (placesIn h) (standing h) j p w (fileOf h) good)
+      ap (λ x. outcomeBy x accepted j kept) (deliver-number (fileOf h) (placesIn h) (standing h) j good p w)
 
   -- a delivery that meets no condition is run and kept
   kept-chunk : (file : Option (List ℕ)) → Agrees file (placesIn h) (standing h) j
-      → deliverCheck (ruleFrom file) (placesIn h) (standing h) p w ≡ none
+      → deliverCheck (ruleFrom file .k) (placesIn h) (standing h p) p w ≡ none
       → Agrees file (placesIn h) (placed (standing h) p (some w)) kept
   kept-chunk none holds e =
       by-test (ltb 0 (placesIn h))
@@ -177,12 +176,9 @@ module _ (h : List Call) (j : Judge) (good : AgreesWith h j) (p : ℕ) (w : List
       let y : some 21 ≡ none = rw (eq-eqb (placesIn h) 0 z) at e in
       zero-one cc)
   kept-chunk (some f) holds e =
-      let s = standing h in
-      let a = passed 21 (eqb (placesIn h) 0) (list-11 (ruleOf f) (placesIn h) s p w) e in
-      let b = passed 11 (leb (placesIn h) p) (list-12 (ruleOf f) (placesIn h) s p w) (a .1) in
-      let c = passed 12 (ltb 65536 (length w)) (list-13 (ruleOf f) (placesIn h) s p w) (b .1) in
-      let t = passed 13 (foreign w (ruleOf f .k)) (list-22 (ruleOf f) (placesIn h) s p w) (c .1) in
-      filled-holds f (placesIn h) (standing h) j holds p (leb-false (placesIn h) p (b .0)) w (chunks.claims .text-law w (ruleOf f .k) .0 (t .0))
+      let passes = none-law (deliverConditions (eqb (placesIn h) 0) (placesIn h) p w (ruleOf f .k) (isSome (standing h p))) .0 e in
+      filled-holds f (placesIn h) (standing h) j holds p (leb-false (placesIn h) p (passes .1 .0)) w
+      (chunks.claims .text-law w (ruleOf f .k) .0 (passes .1 .1 .1 .0))
 
   delivered-good : (o : Option ℕ) → deliverNumber h p w ≡ o → AgreesWith (delivers p w ∷ h) (outcomeBy o accepted j kept .state)
   unfolding fileOf placesIn standing placed

@@ -6,12 +6,12 @@ use mathlib.Core.Path.{_≡_, refl, sym, ap, ap₂, _∙_, subst, subst₃, fun-
 use mathlib.Core.Bool.{Bool, false, cond, _&&_, and-true}
 use mathlib.Core.List.{List, [], _∷_, _++_}
 use mathlib.Core.Option.{Option, none, some}
-use Prim.Native.Nat.{ℕ, zero, suc, _+_, _/_, _%_}
+use Prim.Native.Nat.{ℕ, zero, suc}
 use lib.Dec.{eqb}
 use lib.ListN.{length, replicate}
-use Rattle.base.specs.Conditions.{anyBelow, firstOf, outside}
+use Rattle.base.specs.Conditions.{anyBelow, outside}
 use Rattle.base.specs.Lists.{listFrom}
-use Rattle.base.specs.Options.{isNone, isSome}
+use Rattle.base.specs.Options.{isNone}
 use Rattle.base.specs.Totals.{total}
 use Rattle.masks.specs.Masks.{union}
 use Rattle.automaton.specs.declared.Rule.{Rule}
@@ -23,12 +23,12 @@ use Rattle.delegates.specs.declared.Starts.{Starts}
 use Rattle.delegates.specs.Claims.{startsIn}
 use Rattle.build.specs.Building.{builtOf}
 use Rattle.delegates.specs.Alike.{startSet}
-use Rattle.chunks.specs.Chunks.{foreign, counted, runSet, endSet, chunkCount}
+use Rattle.chunks.specs.Chunks.{foreign, counted, runSet}
 use Rattle.joins.specs.Joining.{joinOf, yesOf}
 use Rattle.joins.specs.Claims.{delegateIn}
 use Rattle.histories.specs.History.{fileOf, ruleFrom, openNumber, placesIn, standingCount, standingEnd, deliverCheck, standing, deliverNumber, verdictIn, answersTo}
-use Rattle.calls.specs.Replies.{Reply, accepted, loaded, waiting, yesWith, noWith, refused, Judgement, judged}
-use Rattle.calls.specs.Calls.{Call, loads, opens, delivers, loadNumber, deliverConditions, verdictBy}
+use Rattle.calls.specs.Replies.{Reply, accepted, loaded, Judgement, judged}
+use Rattle.calls.specs.Calls.{Call, loads, opens, delivers, loadNumber, verdictBy}
 use Rattle.histories.specs.Claims.{judgeAfter, BuiltBy}
 use Rattle.histories.specs.TableP.{Result, sets, delegates, verdict, turned-down, Case, case, delivering, callsFor, callsOf, repliesOf, rowsFrom, Shows, Each, Case-holds, table, TableP}
 use Rattle.histories.proofs.EveryList.{every-list}
@@ -38,11 +38,6 @@ use Rattle.histories.proofs.TwoRules.{listed, starts-A, starts-B}
 module _ (r : Rule) (d : List ℕ) (places : ℕ) (at : ℕ → Option (List ℕ)) where
   abbrev countsBy : ℕ → Option (List ℕ) → ℕ
   countsBy p chunk = standingCount (r .targets) (runSet d (r .n) (r .initials) p) chunk
-
-  abbrev checkBy : ℕ → List ℕ → Option ℕ
-  checkBy p w =
-      firstOf
-      (deliverConditions (eqb places 0) places p w (r .k) (isSome (at p)) (total (λ i. countsBy i (at i)) places + countsBy p (some w)))
 
   abbrev verdictWith : Reply
   verdictWith =
@@ -65,22 +60,21 @@ putAll p [] at = at
 putAll p (w ∷ ws) at = putAll (suc p) ws (put at p w)
 
 -- each delivery meets no condition
-abbrev Checked : Rule → List ℕ → ℕ → ℕ → List (List ℕ) → (ℕ → Option (List ℕ)) → Type 0
-Checked r d places p [] at = Unit {0}
-Checked r d places p (w ∷ ws) at = (checkBy r d places at p w ≡ none) × Checked r d places (suc p) ws (put at p w)
+abbrev Checked : ℕ → ℕ → ℕ → List (List ℕ) → (ℕ → Option (List ℕ)) → Type 0
+Checked k places p [] at = Unit {0}
+Checked k places p (w ∷ ws) at = (deliverCheck k places (at p) p w ≡ none) × Checked k places (suc p) ws (put at p w)
 
 opened : (f : List ℕ) (n : ℕ) → loadNumber f ≡ none → outside 1 64 n ≡ false → (openNumber (loads f ∷ []) n ≡ none) × Stage f (opens n ∷ loads f ∷ []) n (λ _. none)
 unfolding fileOf placesIn standing
 opened f n taken fine = (rw (taken, fine), record { file = rw taken; board = rw (taken, fine); stands = fun-ext (λ i. rw (taken, fine)) })
 
-module _ (f d : List ℕ) (is : startsIn (ruleOf f) .delegates ≡ d) (places : ℕ) where
-  delivered : (h : List Call) (at : ℕ → Option (List ℕ)) (p : ℕ) (w : List ℕ) → Stage f h places at → checkBy (ruleOf f) d places at p w ≡ none
+module _ (f : List ℕ) (places : ℕ) where
+  delivered : (h : List Call) (at : ℕ → Option (List ℕ)) (p : ℕ) (w : List ℕ) → Stage f h places at → deliverCheck (ruleOf f .k) places (at p) p w ≡ none
       → (deliverNumber h p w ≡ none) × Stage f (delivers p w ∷ h) places (put at p w)
   unfolding fileOf placesIn standing
   delivered h at p w s e =
-      let here : deliverCheck (ruleOf f) places at p w ≡ none = subst (λ (x : List ℕ). checkBy (ruleOf f) x places at p w ≡ none) (sym is) e in
       let there : deliverNumber h p w ≡ none =
-      subst₃ (λ (x : Option (List ℕ)) (y : ℕ) (z : ℕ → Option (List ℕ)). deliverCheck (ruleFrom x) y z p w ≡ none) (sym (s .file)) (sym (s .board)) (sym (s .stands)) here in (
+      subst₃ (λ (x : Option (List ℕ)) (y : ℕ) (z : ℕ → Option (List ℕ)). deliverCheck (ruleFrom x .k) y (z p) p w ≡ none) (sym (s .file)) (sym (s .board)) (sym (s .stands)) e in (
         there,
         record {
           file = s .file;
@@ -91,7 +85,7 @@ module _ (f d : List ℕ) (is : startsIn (ruleOf f) .delegates ≡ d) (places : 
         },
       )
 
-  all-delivered : (ws : List (List ℕ)) (h : List Call) (at : ℕ → Option (List ℕ)) (p : ℕ) → Stage f h places at → Checked (ruleOf f) d places p ws at
+  all-delivered : (ws : List (List ℕ)) (h : List Call) (at : ℕ → Option (List ℕ)) (p : ℕ) → Stage f h places at → Checked (ruleOf f .k) places p ws at
       → (answersTo (delivering p ws h) ≡ replicate (length ws) accepted ++ answersTo h) × Stage f (delivering p ws h) places (putAll p ws at)
   unfolding answersTo
   all-delivered [] h at p s x = (refl, s)
@@ -104,8 +98,8 @@ module _ (f d : List ℕ) (is : startsIn (ruleOf f) .delegates ≡ d) (places : 
       shift zero l = refl
       shift (suc n) l = ap (λ (x : List Reply). accepted ∷ x) (shift n l)
 
-  asked : (h : List Call) (at : ℕ → Option (List ℕ)) → Stage f h places at → verdictIn h ≡ verdictWith (ruleOf f) d places at
-  asked h at s =
+  asked : (d : List ℕ) → startsIn (ruleOf f) .delegates ≡ d → (h : List Call) (at : ℕ → Option (List ℕ)) → Stage f h places at → verdictIn h ≡ verdictWith (ruleOf f) d places at
+  asked d is h at s =
       subst₃ (λ (x : Option (List ℕ)) (y : ℕ) (z : ℕ → Option (List ℕ)). verdictWith (ruleFrom x) (startsIn (ruleFrom x) .delegates) y z ≡ verdictWith (ruleOf f) d places at)
       (sym (s .file)) (sym (s .board)) (sym (s .stands))
       (ap (λ (x : List ℕ). verdictWith (ruleOf f) x places at) is)
@@ -123,7 +117,7 @@ Built-so f r = (fileOf (callsFor f r) ≡ some f) × Shows r (builtOf (ruleOf f)
 abbrev Taken : List ℕ → Reply → Starts → List (List ℕ) → Judgement → Type 0
 Taken f load x chunks v =
     (loadNumber f ≡ none) × (loaded (length (setsOf (ruleOf f .targets) (ruleOf f .n) (ruleOf f .k))) (x .startcount) ≡ load) × (outside 1 64 (length chunks) ≡ false)
-    × Checked (ruleOf f) (x .delegates) (length chunks) 0 chunks (λ _. none)
+    × Checked (ruleOf f .k) (length chunks) 0 chunks (λ _. none)
     × (verdictWith (ruleOf f) (x .delegates) (length chunks) (putAll 0 chunks (λ _. none)) ≡ judged v)
 
 verdict-answers : (f : List ℕ) (load : Reply) (x : Starts) (chunks : List (List ℕ)) (v : Judgement) → startsIn (ruleOf f) ≡ x → Taken f load x chunks v
@@ -131,10 +125,10 @@ verdict-answers : (f : List ℕ) (load : Reply) (x : Starts) (chunks : List (Lis
 unfolding answersTo
 verdict-answers f load x chunks v is t =
     let o = opened f (length chunks) (t .0) (t .2) in
-    let d = all-delivered f (x .delegates) (ap (λ (s : Starts). s .delegates) is) (length chunks) chunks (opens (length chunks) ∷ loads f ∷ []) (λ _. none) 0 (o .1) (t .3) in
+    let d = all-delivered f (length chunks) chunks (opens (length chunks) ∷ loads f ∷ []) (λ _. none) 0 (o .1) (t .3) in
     let first : answersTo (opens (length chunks) ∷ loads f ∷ []) ≡ accepted ∷ load ∷ [] = rw (o .0, t .0, is, t .1) in
     ap₂ _∷_
-    (asked f (x .delegates) (ap (λ (s : Starts). s .delegates) is) (length chunks) (delivering 0 chunks (opens (length chunks) ∷ loads f ∷ [])) (putAll 0 chunks (λ _. none)) (d .1) ∙ t .4)
+    (asked f (length chunks) (x .delegates) (ap (λ (s : Starts). s .delegates) is) (delivering 0 chunks (opens (length chunks) ∷ loads f ∷ [])) (putAll 0 chunks (λ _. none)) (d .1) ∙ t .4)
     (d .0 ∙ ap (λ (l : List Reply). replicate (length chunks) accepted ++ l) first)
 
 abbrev Left : Case → Type 0

@@ -9,15 +9,14 @@
 --   After h j           what holds of the state j after the calls h
 --   VerdictClauses       the words of demand 3 for the verdict asked after h
 --   EveryList           demand 3, one claim over a whole list
---   Sum-fits, Never-24  no list comes to 24: the fact, and the number; proofs/CountBound.antt
 use mathlib.Core.Path.{_≡_}
 use mathlib.Core.Logic.{_↔_}
 use mathlib.Core.Bool.{true, false}
 use mathlib.Core.List.{List}
 use mathlib.Core.Option.{Option, none, some}
-use Prim.Native.Nat.{ℕ, _+_, _*_, _≤_, _<_}
+use Prim.Native.Nat.{ℕ, _*_, _≤_, _<_}
 use lib.ListN.{length, getD}
-use Rattle.limits.specs.Limits.{mostStates, mostPlaces, longestChunk, mostCount}
+use Rattle.limits.specs.Limits.{mostStates, mostPlaces}
 use Rattle.base.specs.Options.{isNone}
 use Rattle.executions.specs.Executions.{Machine, stateAfter, repliesTo as machineReplies}
 use Rattle.automaton.specs.Automaton.{Automaton, Accepts}
@@ -29,8 +28,8 @@ use Rattle.delegates.specs.Claims.{startsIn}
 use Rattle.build.specs.Building.{builtOf, noBuilt}
 use Rattle.board.specs.Boards.{held, isEmpty, summedCount}
 use Rattle.calls.specs.declared.Judge.{Judge}
-use Rattle.calls.specs.Replies.{Reply, accepted, waiting, yesWith, noWith, refused, judged}
-use Rattle.histories.specs.History.{fileOf, ruleIn, boardIn, placesIn, countOf, standing, endAt, countAt, emptiesIn, summedIn, yesIn, chunkOf, textIn, verdictIn, answerOf, answersTo}
+use Rattle.calls.specs.Replies.{Reply, waiting, yesWith, noWith, refused, judged}
+use Rattle.histories.specs.History.{fileOf, ruleIn, boardIn, placesIn, standing, endAt, countAt, emptiesIn, summedIn, yesIn, chunkOf, textIn, verdictIn, answersTo}
 use Rattle.histories.specs.Method.{Method}
 use Rattle.histories.specs.Conditions.{Accepted-exactly, Refused-exactly}
 use Rattle.calls.specs.Calls.{Call, loadNumber}
@@ -100,18 +99,8 @@ pub record EveryList (h : List Call) : Type 0 where
   -- accepts, those of the automaton in its bytes
   pub method : (f : List ℕ) → loadNumber f ≡ none → Method f (builtOf (ruleOf f))
   -- a call is accepted exactly when none of its conditions holds, and refused with a number exactly
-  -- when that one is the first that holds (the verdict's 21 is in `VerdictClauses`, and 24 is no
-  -- call's: `Never-24`)
+  -- when that one is the first that holds (the verdict's 21 is in `VerdictClauses`)
   pub accepted-exactly : Accepted-exactly h
   pub refused-exactly : Refused-exactly h
   pub after : Invariant h (judgeAfter h)
   pub verdict : VerdictClauses h
-
--- 24: after no list of calls is the sum of the counts too large with that of a chunk within the
--- limit, since 64 places, 65,536 bytes a chunk and 32 starts make 2^27 transitions at most; so no
--- call answers 24
-abbrev pub Sum-fits : Type 0
-Sum-fits = (h : List Call) (p : ℕ) (w : List ℕ) → length w ≤ longestChunk → summedIn h + countOf (ruleIn h) p (some w) ≤ mostCount
-
-abbrev pub Never-24 : Type 0
-Never-24 = (h : List Call) (c : Call) → answerOf h c ≡ refused 24 → ⊥

@@ -5,11 +5,11 @@ use mathlib.Core.Path.{_≡_}
 use mathlib.Core.Logic.{_↔_, _⊎_}
 use mathlib.Core.Bool.{true, false}
 use mathlib.Core.List.{List}
-use mathlib.Core.Option.{none, some}
-use Prim.Native.Nat.{ℕ, _+_, _≤_, _<_}
+use mathlib.Core.Option.{none}
+use Prim.Native.Nat.{ℕ, _≤_, _<_}
 use lib.ListN.{length}
 use Rattle.base.specs.Conditions.{NoneHolds, FirstHolds}
-use Rattle.limits.specs.Limits.{mostPlaces, longestChunk, mostCount}
+use Rattle.limits.specs.Limits.{mostPlaces, longestChunk}
 use Rattle.ruleformat.specs.Refusals.{fileConditions}
 use Rattle.ruleformat.specs.Reader.{ruleOf}
 use Rattle.ruleformat.specs.Language.{automatonIn}
@@ -17,7 +17,7 @@ use Rattle.build.specs.Building.{builtOf}
 use Rattle.chunks.specs.Chunks.{foreign}
 use Rattle.calls.specs.Replies.{accepted, loaded, refused}
 use Rattle.calls.specs.Calls.{Call, loads, opens, delivers, withdraws}
-use Rattle.histories.specs.History.{fileOf, ruleIn, boardIn, placesIn, countOf, standing, summedIn, answerOf}
+use Rattle.histories.specs.History.{fileOf, ruleIn, placesIn, standing, answerOf}
 use Rattle.histories.specs.Method.{TooMany}
 
 pub record Accepted-exactly (h : List Call) : Type 0 where
@@ -28,16 +28,14 @@ pub record Accepted-exactly (h : List Call) : Type 0 where
       → (answerOf h (loads f) ≡ loaded (builtOf (ruleOf f) .setcount) (builtOf (ruleOf f) .startcount)) ↔ (NoneHolds (fileConditions f) × (TooMany (automatonIn f) → ⊥))
   -- a rule is there, and 1 to 64 places are asked for
   pub opening : (n : ℕ) → (answerOf h (opens n) ≡ accepted) ↔ ((fileOf h ≡ none → ⊥) × (1 ≤ n) × (n ≤ mostPlaces))
-  -- a board is there with that place, the chunk is within the limit and the alphabet, the place is
-  -- empty, and the sum of the counts fits
+  -- a board is there with that place, the chunk is within the limit and the alphabet, and the place
+  -- is empty
   pub delivery : (p : ℕ) (w : List ℕ)
       → (answerOf h (delivers p w) ≡ accepted)
-      ↔ ((0 < placesIn h) × (p < placesIn h) × (length w ≤ longestChunk) × (foreign w (ruleIn h .k) ≡ false) × (standing h p ≡ none)
-      × (summedIn h + countOf (ruleIn h) p (some w) ≤ mostCount))
+      ↔ ((0 < placesIn h) × (p < placesIn h) × (length w ≤ longestChunk) × (foreign w (ruleIn h .k) ≡ false) × (standing h p ≡ none))
   -- a board is there with that place, and a chunk stands there
   pub withdrawal : (p : ℕ) → (answerOf h (withdraws p) ≡ accepted) ↔ ((0 < placesIn h) × (p < placesIn h) × (standing h p ≡ none → ⊥))
 
--- (24 is the number of no call: `Never-24` of specs/Claims.antt)
 pub record Refused-exactly (h : List Call) : Type 0 where
   -- 1 to 8 by the file, in order; 9 when it passes them and more than 512 sets are reached
   pub load-file : (f : List ℕ) (x : ℕ) → x ≤ 8 → (answerOf h (loads f) ≡ refused x) ↔ FirstHolds x (fileConditions f)

@@ -11,9 +11,9 @@
 --   runAt r p                the states that are run at place p, by the rule r
 --   countOf r p chunk, endOf r p q chunk   the same of what stands at place p, by the rule r:
 --                                          standingCount and standingEnd
---   deliverCheck, withdrawCheck    the conditions of a delivery and a withdrawal in order, by the
---                                  places and the chunk standing at each
---   deliverNumber, withdrawNumber  they after the calls h: 21, 11, 12, 13, 22, 24 and 21, 11, 23
+--   deliverCheck, withdrawCheck    the number with which a delivery and a withdrawal at place p are
+--                                  refused, by the places and what stands at p
+--   deliverNumber, withdrawNumber  they after the calls h: 21, 11, 12, 13, 22 and 21, 11, 23
 --   emptiesIn h, summedIn h        how many places are empty, and the sum of the counts
 --   yesIn h, verdictIn h           the join of the end sets says yes; the verdict
 --   textIn h                 the standing chunks joined by place
@@ -23,7 +23,7 @@
 use mathlib.Core.Bool.{Bool, true, false, cond, _&&_}
 use mathlib.Core.List.{List, [], _∷_}
 use mathlib.Core.Option.{Option, none, some}
-use Prim.Native.Nat.{ℕ, _+_}
+use Prim.Native.Nat.{ℕ}
 use lib.Dec.{eqb}
 use lib.ListN.{length}
 use Rattle.base.specs.Conditions.{firstOf}
@@ -76,6 +76,21 @@ placesIn (delivers p w ∷ h) = placesIn h
 placesIn (withdraws p ∷ h) = placesIn h
 placesIn (asksVerdict ∷ h) = placesIn h
 
+-- ---- which chunk stands where. `at-p` is what stands at place p, `k` the rule's number of symbols
+abbrev pub deliverCheck : ℕ → ℕ → Option (List ℕ) → ℕ → List ℕ → Option ℕ
+deliverCheck k places at-p p w = firstOf (deliverConditions (eqb places 0) places p w k (isSome at-p))
+
+abbrev pub withdrawCheck : ℕ → Option (List ℕ) → ℕ → Option ℕ
+withdrawCheck places at-p p = firstOf (withdrawConditions (eqb places 0) places p (isNone at-p))
+
+unfoldable pub standing : List Call → ℕ → Option (List ℕ)
+standing [] p = none
+standing (loads f ∷ h) p = cond (isNone (loadNumber f)) none (standing h p)
+standing (opens n ∷ h) p = cond (isNone (openNumber h n)) none (standing h p)
+standing (delivers q w ∷ h) p = cond (eqb q p && isNone (deliverCheck (ruleIn h .k) (placesIn h) (standing h q) q w)) (some w) (standing h p)
+standing (withdraws q ∷ h) p = cond (eqb q p && isNone (withdrawCheck (placesIn h) (standing h q) q)) none (standing h p)
+standing (asksVerdict ∷ h) p = standing h p
+
 -- ---- what stands at a place comes to, where `run` has the states that are run there; 0 where
 -- nothing stands
 abbrev pub standingCount : List ℕ → ℕ → Option (List ℕ) → ℕ
@@ -86,7 +101,7 @@ abbrev pub standingEnd : List ℕ → ℕ → ℕ → Option (List ℕ) → ℕ
 standingEnd ts run q none = 0
 standingEnd ts run q (some w) = endSet ts run w q
 
--- ---- which chunk stands where. `at` gives the standing chunk at each place
+-- by the rule r, at place p
 module _ (r : Rule) where
   abbrev pub runAt : ℕ → ℕ
   runAt p = runSet (startsIn r .delegates) (r .n) (r .initials) p
@@ -97,29 +112,12 @@ module _ (r : Rule) where
   abbrev pub endOf : ℕ → ℕ → Option (List ℕ) → ℕ
   endOf p q chunk = standingEnd (r .targets) (runAt p) q chunk
 
-  abbrev pub deliverCheck : ℕ → (ℕ → Option (List ℕ)) → ℕ → List ℕ → Option ℕ
-  deliverCheck places at p w =
-      firstOf
-      (deliverConditions (eqb places 0) places p w (r .k) (isSome (at p)) (total (λ i. countOf i (at i)) places + countOf p (some w)))
-
-abbrev pub withdrawCheck : ℕ → (ℕ → Option (List ℕ)) → ℕ → Option ℕ
-withdrawCheck places at p = firstOf (withdrawConditions (eqb places 0) places p (isNone (at p)))
-
-unfoldable pub standing : List Call → ℕ → Option (List ℕ)
-standing [] p = none
-standing (loads f ∷ h) p = cond (isNone (loadNumber f)) none (standing h p)
-standing (opens n ∷ h) p = cond (isNone (openNumber h n)) none (standing h p)
-standing (delivers q w ∷ h) p =
-    cond (eqb q p && isNone (deliverCheck (ruleIn h) (placesIn h) (λ i. standing h i) q w)) (some w) (standing h p)
-standing (withdraws q ∷ h) p = cond (eqb q p && isNone (withdrawCheck (placesIn h) (λ i. standing h i) q)) none (standing h p)
-standing (asksVerdict ∷ h) p = standing h p
-
 module _ (h : List Call) where
   abbrev pub deliverNumber : ℕ → List ℕ → Option ℕ
-  deliverNumber p w = deliverCheck (ruleIn h) (placesIn h) (standing h) p w
+  deliverNumber p w = deliverCheck (ruleIn h .k) (placesIn h) (standing h p) p w
 
   abbrev pub withdrawNumber : ℕ → Option ℕ
-  withdrawNumber p = withdrawCheck (placesIn h) (standing h) p
+  withdrawNumber p = withdrawCheck (placesIn h) (standing h p) p
 
   abbrev pub countAt : ℕ → ℕ
   countAt p = countOf (ruleIn h) p (standing h p)

@@ -3,5 +3,6 @@ pub mod History
 pub mod Method
 pub mod Conditions
 pub mod Claims
+pub mod CountBound
 pub mod Functions
 pub mod TableP

@@ -1,9 +1,8 @@
 // The judge: five calls over one state.
 ghost use mathlib.Core.Path.{_≡_};
-ghost use Prim.Native.Nat.{_+_, _≤_};
-ghost use lib.Dec.{ltb};
+ghost use Prim.Native.Nat.{_≤_};
 ghost use lib.ListN.{length};
-ghost use Rattle.limits.specs.Limits.{longestChunk, mostCount};
+ghost use Rattle.limits.specs.Limits.{longestChunk};
 ghost use Rattle.chunks.specs.Walks.{runMask, runsOf};
 ghost use Rattle.calls.specs.Replies.{refused, verdictMeans};
 ghost use Rattle.calls.specs.Steps.{fresh, withBoard, loadOutcome, openOutcome, deliverOutcome, withdrawOutcome, loadOf, openOf, deliverOf, withdrawOf, verdictOf};
@@ -81,16 +80,6 @@ fn run_at(built: Built, place: usize, chunk: &[u8]) -> Runs
     chunks::run_chunk(&sets, &next, &singles, mask, chunk)
 }
 
-// The sum of the two is more than 32 bits hold. It is not formed, so nothing wraps.
-fn exceeds(summed: u64, count: u32) -> bool
-    ensures { λ r. ⌜ r ≡ ltb mostCount (summed + count) ⌝ }
-{
-    if limits::COUNT < summed {
-        return true;
-    }
-    limits::COUNT - summed < (count as u64)
-}
-
 // Checks and builds a rule. Accepted, it replaces the former rule and removes the board.
 pub fn load(judge: Judge, file: &[u8]) -> LoadResult
     ensures { λ r. ⌜ loadOutcome r ≡ loadOf judge (now (file .entry)) ⌝ }
@@ -158,9 +147,6 @@ pub fn deliver(judge: Judge, place: usize, chunk: &[u8]) -> DeliverResult
         return refuse_delivery(judge, 22);
     }
     let runs = run_at(built, place, chunk);
-    if exceeds(board::summed_count(board), runs.count) {
-        return refuse_delivery(judge, 24);
-    }
     let answer = DeliverAnswer::Accepted;
     let judge = with_board(judge, board::fill(board, place, runs));
     DeliverResult { answer, judge }

@@ -12,7 +12,8 @@
 --   mostPlaces       the most places of a board
 --   endCells         the cells of a board's end sets: a mask for each place and state
 --   longestChunk     the most bytes of a chunk
---   mostCount        the most transitions that the chunks of a board may count in all
+--   mostTransitions  the most transitions that the chunks of a board can count in all: one for each
+--                    place, byte of its chunk and state that is run
 --   longestFile      the most bytes of a rule file
 --   largestNumber    the largest number on a line of calls: the largest of 64 bits
 --   mostDigits       the most digits of a number on a line of calls
@@ -53,8 +54,8 @@ endCells = mostPlaces * mostStates
 abbrev pub longestChunk : ℕ
 longestChunk = 65536
 
-abbrev pub mostCount : ℕ
-mostCount = 4294967295
+abbrev pub mostTransitions : ℕ
+mostTransitions = mostPlaces * longestChunk * mostStates
 
 abbrev pub longestFile : ℕ
 longestFile = 32906

@@ -42,9 +42,6 @@ pub const ENDS: usize = PLACES * STATES;
 // The most bytes of a chunk.
 pub const CHUNK: usize = 65536;
 
-// The most transitions that the chunks of a board may count in all.
-pub const COUNT: u64 = 4294967295;
-
 // The most bytes of a rule file.
 pub const FILE: usize = 32906;
 

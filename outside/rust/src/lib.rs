@@ -155,7 +155,7 @@ impl Judge {
     ///
     /// # Errors
     /// 21 (no board is open), 11 (no such place), 12 (over 65,536 bytes), 13 (a byte is no symbol),
-    /// 22 (the place has a chunk already), 24 (the counts would sum up to 2^32 or more).
+    /// 22 (the place has a chunk already).
     ///
     /// ```
     /// # use bellbadger::Judge;

@@ -19,7 +19,7 @@ impl Refused {
         Refused(number)
     }
 
-    /// Why: 1 to 13 for what is wrong with the input, 20 to 24 for what stands in the way.
+    /// Why: 1 to 13 for what is wrong with the input, 20 to 23 for what stands in the way.
     #[must_use]
     pub fn number(self) -> u8 {
         self.0
@@ -44,7 +44,6 @@ impl Refused {
             21 => "no board is open",
             22 => "the place has a chunk already",
             23 => "the place has no chunk",
-            24 => "the counts would sum up to 2^32 or more",
             _ => "for a reason that this wrapper does not know",
         }
     }
@@ -96,11 +95,11 @@ mod tests {
     /// Each of the paper's numbers has words of its own.
     #[test]
     fn every_number_has_its_words() {
-        let numbers = (1..=13).chain(20..=24);
+        let numbers = (1..=13).chain(20..=23);
         let words: BTreeSet<&str> = numbers
             .chain([99])
             .map(|number| Refused::new(number).reason())
             .collect();
-        assert_eq!(words.len(), 18 + 1);
+        assert_eq!(words.len(), 17 + 1);
     }
 }

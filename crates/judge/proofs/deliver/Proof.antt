@@ -1,5 +1,5 @@
 -- `deliver` meets its contract. Assumes nothing.
-use Rattle.calls.proofs.Ways.{deliver-21, deliver-11, deliver-12, deliver-13, deliver-22, deliver-24, delivered}
+use Rattle.calls.proofs.Ways.{deliver-21, deliver-11, deliver-12, deliver-13, deliver-22, delivered}
 use borrow.Author.Needs.{needs}
 use Rattle.judge.proofs.deliver.Statement.{statement}
 use Rattle.judge.proofs.deliver.Tie as tie
@@ -46,27 +46,15 @@ returns-5 c = search (needs, deliver-22)
 run-at-requires : tie.Need-run-at-requires
 run-at-requires c κs = search needs
 
-summed-count-requires : tie.Need-summed-count-requires
-summed-count-requires c κs = search needs
-
-exceeds-requires : tie.Need-exceeds-requires
-exceeds-requires c κs = search needs
-
-refuse-delivery-requires-6 : tie.Need-refuse-delivery-requires-6
-refuse-delivery-requires-6 c κs = search needs
-
-returns-6 : tie.Need-returns-6
-returns-6 c = search (needs, deliver-24)
-
 fill-requires : tie.Need-fill-requires
 fill-requires c κs = search needs
 
 with-board-requires : tie.Need-with-board-requires
 with-board-requires c κs = search needs
 
-returns-7 : tie.Need-returns-7
-returns-7 c =
-    let ran = c .before .before .before .before .before in
+returns-6 : tie.Need-returns-6
+returns-6 c =
+    let ran = c .before .before in
     let empty = ran .before .before in
     let foreign = empty .before .before in
     let long = foreign .before .before in
@@ -74,8 +62,7 @@ returns-7 c =
     delivered _ _ _ (within .before .before .if1 .left) _ (within .before .places-of .ensures) (within .if2 .left)
     (long .if3 .left) _ (foreign .has-foreign .ensures) (empty .before .if4 .left)
     _ (empty .is-empty .ensures) (ran .before .if5 .left)
-    _ (ran .run-at .ensures) _ (c .before .before .before .before .summed-count .ensures) _ (c .before .before .before .exceeds .ensures) (c .before .before .if6 .left)
-    _ (c .before .fill .ensures) _ (c .with-board .ensures)
+    _ (ran .run-at .ensures) _ (c .before .fill .ensures) _ (c .with-board .ensures)
 
 pub deliver-spec : {M : Type 1} → statement M
 deliver-spec =
@@ -95,10 +82,6 @@ deliver-spec =
     refuse-delivery-requires-5
     returns-5
     run-at-requires
-    summed-count-requires
-    exceeds-requires
-    refuse-delivery-requires-6
-    returns-6
     fill-requires
     with-board-requires
-    returns-7)
+    returns-6)
