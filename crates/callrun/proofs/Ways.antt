@@ -1,18 +1,53 @@
--- The ways through `run_line`, by what the line was parsed as. Assumes nothing.
-use mathlib.Core.Path.{_≡_, sym, ap, _∙_, subst}
+-- The ways through `run_line` and `asks_verdict`, by what the line was parsed as. Assumes nothing.
+use mathlib.Core.Path.{_≡_, refl, sym, ap, _∙_, subst}
+use mathlib.Core.Bool.{Bool, true, false}
 use mathlib.Core.List.{List}
-use mathlib.Core.Option.{some}
+use mathlib.Core.Option.{Option, none, some}
 use Prim.Native.Nat.{ℕ, _-_, _≤_}
 use lib.ListN.{length, take, drop}
+use Rattle.base.proofs.Tests.{not-both}
 use Rattle.fields.specs.Bytes.{parseBytes}
 use Rattle.calls.specs.declared.Judge.{Judge}
-use Rattle.calls.specs.Calls.{opens, withdraws, asksVerdict}
+use Rattle.calls.specs.Calls.{Call, loads, opens, delivers, withdraws, asksVerdict}
+use Rattle.calls.specs.Steps.{stepOf, verdictOf}
 use Rattle.calltext.specs.declared.Line.{Line}
 use Rattle.calltext.specs.declared.Line.the-variants.{Empty, Load, Open, Deliver, Withdraw, Verdict, Malformed}
-use Rattle.calltext.specs.Meaning.{again, call, malformed, loadBy, deliverBy, lineIn, lineMeans, bytesFrom, Parsed}
+use Rattle.calltext.specs.Meaning.{Meaning, again, call, malformed, loadBy, deliverBy, lineIn, lineMeans, bytesFrom, Parsed}
 use Rattle.calltext.proofs.Readings.{to-the-end}
-use Rattle.callrun.specs.Running.{LineOutcome, lineStep}
+use Rattle.calltext.specs.Answers.{replied}
+use Rattle.callrun.specs.Running.{LineOutcome, replyOf, lineStep, isAsks, verdictAsked}
 
+-- ---- whether it asks for the verdict
+load-asks : (bytes : Option (List ℕ)) → verdictAsked (loadBy bytes) ≡ false
+load-asks none = refl
+load-asks (some f) = refl
+
+deliver-asks : (p : ℕ) (bytes : Option (List ℕ)) → verdictAsked (deliverBy (some p) bytes) ≡ false
+deliver-asks p none = refl
+deliver-asks p (some w) = refl
+
+abbrev isVerdict : Line → Bool
+isVerdict Empty = false
+isVerdict Load = false
+isVerdict (Open n) = false
+isVerdict (Deliver p from) = false
+isVerdict (Withdraw p) = false
+isVerdict Verdict = true
+isVerdict Malformed = false
+
+meant-asks : (w : List ℕ) (x : Line) → isVerdict x ≡ verdictAsked (lineMeans w x)
+meant-asks w Empty = refl
+meant-asks w Load = sym (load-asks (parseBytes (drop 5 w)))
+meant-asks w (Open n) = refl
+meant-asks w (Deliver p from) = sym (deliver-asks p (parseBytes (drop from w)))
+meant-asks w (Withdraw p) = refl
+meant-asks w Verdict = refl
+meant-asks w Malformed = refl
+
+pub asks-by : (w : List ℕ) (x : Line) → Parsed w x → isVerdict x ≡ verdictAsked (lineIn w)
+asks-by w x parsed = meant-asks w x ∙ ap verdictAsked (sym (parsed .means))
+
+-- ---- what it comes to
 module _ (w : List ℕ) (x : Line) (parsed : Parsed w x) where
   pub load-inside : x ≡ Load → 5 ≤ length w
   load-inside e = subst (λ (y : Line). bytesFrom y ≤ length w) e (parsed .inside)
@@ -45,3 +80,16 @@ module _ (w : List ℕ) (x : Line) (parsed : Parsed w x) where
 
     pub line-malformed : x ≡ Malformed → o ≡ lineStep j malformed → o ≡ lineStep j (lineIn w)
     line-malformed e = by Malformed e
+
+-- ---- a line that asks for the verdict changes nothing
+call-asks : (j : Judge) (c : Call) → isAsks c ≡ true → replyOf (stepOf j c) ≡ record { response = replied (verdictOf j); state = j }
+call-asks j (loads f) e = not-both e refl
+call-asks j (opens n) e = not-both e refl
+call-asks j (delivers p w) e = not-both e refl
+call-asks j (withdraws p) e = not-both e refl
+call-asks j asksVerdict e = refl
+
+pub asks-step : (j : Judge) (m : Meaning) → verdictAsked m ≡ true → lineStep j m ≡ record { response = replied (verdictOf j); state = j }
+asks-step j again e = not-both e refl
+asks-step j (call c) e = call-asks j c e
+asks-step j malformed e = not-both e refl

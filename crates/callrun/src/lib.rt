@@ -7,7 +7,7 @@ ghost use Rattle.limits.specs.Limits.{bytesRoom};
 ghost use Rattle.fields.specs.Bytes.{parseBytes};
 ghost use Rattle.calls.specs.Calls.{opens, withdraws, asksVerdict};
 ghost use Rattle.calltext.specs.Meaning.{again, call, malformed, loadBy, deliverBy, lineIn};
-ghost use Rattle.callrun.specs.Running.{lineStep, runOutcome, Scratch};
+ghost use Rattle.callrun.specs.Running.{lineStep, verdictAsked, runOutcome, Scratch};
 use calls::Judge;
 use calltext::Line;
 use calltext::LineAnswer;
@@ -116,5 +116,22 @@ pub fn run_line(judge: Judge, line: &[u8], buffer: &mut [u8]) -> LineRun
         Line::Withdraw(place) => run_withdraw(judge, place),
         Line::Verdict => run_verdict(judge),
         Line::Malformed => run_malformed(judge),
+    }
+}
+
+// Whether a line asks for the verdict. Such a line changes nothing, so whoever keeps the judge need
+// not send it through `run_line`.
+pub fn asks_verdict(line: &[u8]) -> bool
+    ensures { λ r. ⌜ r ≡ verdictAsked (lineIn (now (line .entry))) ⌝ }
+{
+    let parsed = calltext::parse(line);
+    match parsed {
+        Line::Empty => false,
+        Line::Load => false,
+        Line::Open(_) => false,
+        Line::Deliver(_, _) => false,
+        Line::Withdraw(_) => false,
+        Line::Verdict => true,
+        Line::Malformed => false,
     }
 }

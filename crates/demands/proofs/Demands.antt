@@ -22,6 +22,7 @@
 --      joinOf, yesOf                  joining                               joins/specs/Joining
 --      TableP                         the table's cases                     histories/specs/TableP
 --      streamOf, rightText            a text of calls                       stream/specs/Texts
+--      Blocks                         what is written for blocks            stream/specs/Claims
 --      recordIn, replayOf             a recorded list                       replay/specs/Records
 --
 -- A list of calls has the last call first. A proved function ends and stays within its bounds.
@@ -29,7 +30,7 @@
 use mathlib.Core.Path.{_≡_, _∙_}
 use mathlib.Core.Logic.{_↔_, _⊎_, ⊎-elim}
 use mathlib.Core.Bool.{true, false}
-use mathlib.Core.List.{List, [], flatten}
+use mathlib.Core.List.{List, [], _++_, flatten}
 use mathlib.Core.Option.{none}
 use Prim.Native.Nat.{ℕ, _*_, _≤_, _<_}
 use lib.ListN.{length, getD}
@@ -67,8 +68,9 @@ use Rattle.histories.proofs.CountBound as histories-bound
 use Rattle.histories.proofs.TableP as histories-table
 use Rattle.lines.specs.Splitting.{linesOf}
 use Rattle.linebuffer.specs.Holding.{lineBegin}
-use Rattle.stream.specs.Feeding.{stateOf}
+use Rattle.stream.specs.Feeding.{State, stateOf, finishOf}
 use Rattle.stream.specs.Texts.{streamOf, rightText}
+use Rattle.stream.specs.Claims.{Blocks}
 use Rattle.stream.proofs.Claimed as stream
 use Rattle.replay.specs.Records.{calls, recordIn, replayOf}
 use Rattle.replay.specs.Claims.{AllFit, recordOf}
@@ -193,11 +195,16 @@ pub table-P : TableP
 table-P = histories-table.table-P
 
 -- ---- CALLS AS TEXT
--- The answers to a text of calls are right line by line, however it is cut into blocks. (streamOf is
--- what the contracts of `feed` and `finish` promise, one part after the other: stream/src/lib.rt.)
-pub texts : (blocks : List (List ℕ)) (line out : List ℕ) → lineRoom ≤ length line
-    → streamOf (stateOf fresh lineBegin line out) blocks .text ≡ rightText [] (linesOf (flatten blocks))
+-- The answers to a text of calls are right line by line, however it is cut into blocks.
+pub texts : (blocks : List (List ℕ)) (line : List ℕ) → lineRoom ≤ length line
+    → streamOf (stateOf fresh lineBegin line) blocks .text ≡ rightText [] (linesOf (flatten blocks))
 texts = stream.claims .answered
+
+-- So is all that is written, in whatever rounds the blocks are fed. (A round is what the contract of
+-- `gather` promises, and the end what that of `finish` does: stream/src/lib.rt.)
+pub texts-written : {room : ℕ} {s′ : State} {blocks : List (List ℕ)} {line text : List ℕ} → lineRoom ≤ length line
+    → Blocks room (stateOf fresh lineBegin line) blocks s′ text → text ++ finishOf s′ .text ≡ rightText [] (linesOf (flatten blocks))
+texts-written = stream.claims .written
 
 -- What C is given for a recorded list, of which nothing is asked, is the verdict after it, or its
 -- first malformed line; and every list of calls has a record.

@@ -1,5 +1,5 @@
--- A rule's text is its head, the lines of its states, of its initial states and of its arrows, and the closing line; and the buffer it
--- is written to has room for it. Assumes nothing.
+-- A rule's text is its head, the lines of its states, of its initial states and of its arrows, and
+-- the closing line; and the buffer it is written to has room for it. Assumes nothing.
 use mathlib.Core.Path.{_≡_, sym}
 use mathlib.Core.List.{List}
 use Prim.Native.Nat.{ℕ, _+_, _*_, _≤_, min}

@@ -7,8 +7,8 @@
 --   fittingMeans   what is said where the buffer may be too short: none where it is
 --   drawingFor f   the drawing of the rule in the file f; nothing where the reader refuses the file
 --   replyFor f     the length of that drawing; or the number, 1 to 8, with which the reader refuses
---   Draws f ..     that is said, and the drawing stands at the start of the buffer; what lies past it
---                  is left as it was
+--   Draws f ..     that is said, and the drawing stands at the start of the buffer; what lies past
+--                  it is left as it was
 --   DrawsIn f ..   the same for any buffer: one that is too short for the drawing is left unchanged
 use mathlib.Core.Path.{_≡_}
 use mathlib.Core.Bool.{Bool, cond}

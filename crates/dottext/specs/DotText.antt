@@ -1,13 +1,13 @@
 -- What `ruledot` draws: the automaton of a rule in the language of Graphviz, as byte values, each
 -- line ended by one line feed.
 --
---   dotText r     three lines of head; a line for each state, `Q;`, or `Q [shape=doublecircle];` for
---                 a final one; two lines for each initial state, `iQ [shape=point];` and `iQ -> Q;`;
---                 a line for each pair of states that an arc leads between, by state and target,
---                 `Q -> T [label="LABEL"];`; and `}`
+--   dotText r     three lines of head; a line for each state, `Q;`, or `Q [shape=doublecircle];`
+--                 for a final one; two lines for each initial state, `iQ [shape=point];` and `iQ ->
+--                 Q;`; a line for each pair of states that an arc leads between, by state and
+--                 target, `Q -> T [label="LABEL"];`; and `}`
 --   leads         an arc leads from one state to another by a symbol
---   label p k     the numbers below k of which p holds, joined by commas, three or more in a row as a
---                 range: `0,1`, `0-5`, `0,2-5,7`
+--   label p k     the numbers below k of which p holds, joined by commas, three or more in a row as
+--                 a range: `0,1`, `0-5`, `0,2-5,7`
 --   piece p s     what the label has for the number s
 --   mostBytes     so many bytes have room for the drawing of any rule (specs/Claims.antt)
 use mathlib.Core.Bool.{Bool, cond, _&&_}
@@ -112,7 +112,7 @@ graph r n k =
 abbrev pub dotText : Rule → List ℕ
 dotText r = graph r (min (r .n) mostStates) (min (r .k) mostSymbols)
 
--- 48 for the head, 25 and 30 for each of 32 states, 69 for each of 1,024 arrows, of which 3 for each
--- of 16 symbols, and 2 for the last line
+-- 48 for the head, 25 and 30 for each of 32 states, 69 for each of 1,024 arrows, of which 3 for
+-- each of 16 symbols, and 2 for the last line
 abbrev pub mostBytes : ℕ
 mostBytes = 48 + (25 + 30) * mostStates + 69 * mostStates * mostStates + 2

@@ -1,4 +1,5 @@
--- The fixed parts of the text for a rule as a graph, in ASCII: lists of byte values. Each has its characters above it, with ⏎ for a line feed.
+-- The fixed parts of the text for a rule as a graph, in ASCII: lists of byte values. Each has its
+-- characters above it, with ⏎ for a line feed.
 use mathlib.Core.List.{List, [], _∷_}
 use Prim.Native.Nat.{ℕ}
 

@@ -1,7 +1,10 @@
 -- What a buffer keeps of a line stands for the line. Assumes nothing.
 --
---   stands-within            as much of the buffer as stands for the line is within it
+--   stands-within, stands-inside, stands-prefix   as much of the buffer as stands for the line is
+--                            within what is kept of it, and within the buffer
+--   meaning-is               what stands for the line has its meaning
 --   held-call, held-stray    what `run_held` does is what the definition says
+--   asks-call, asks-stray    what `asks_verdict` does is
 --   held-step                what is kept has the outcome of the line
 use mathlib.Core.Path.{_≡_, refl, sym, ap, ap₂, _∙_, subst}
 use mathlib.Core.Bool.{Bool, true, false, _&&_, and-comm}
@@ -16,7 +19,7 @@ use Rattle.base.proofs.Tests.{by-test}
 use Rattle.fields.specs.Bytes.{allHex}
 use Rattle.calls.specs.declared.Judge.{Judge}
 use Rattle.calltext.specs.Meaning.{malformed, lineIn}
-use Rattle.callrun.specs.Running.{LineOutcome, lineStep}
+use Rattle.callrun.specs.Running.{LineOutcome, lineStep, verdictAsked}
 use Rattle.linebuffer.specs.declared.Held.{Held}
 use Rattle.linebuffer.specs.Holding.{keptLength, standing, meaningBy, heldMeaning}
 use Rattle.linebuffer.specs.Claims.{Keeps}
@@ -31,22 +34,36 @@ less-within false len = omega arith
 pub stands-within : (odd : Bool) (len n : ℕ) → n ≡ standing odd len → n ≤ len
 stands-within odd len n e = subst (λ (x : ℕ). x ≤ len) (sym e) (less-within odd len)
 
-pub stands-prefix : (buffer : List ℕ) (odd : Bool) (len n size : ℕ) → n ≡ standing odd len → len ≡ min size (length buffer) → n ≡ length (take n buffer)
-stands-prefix buffer odd len n size e is = sym (length-take-le n buffer (omega (arith, stands-within odd len n e, is)))
+module _ (buffer : List ℕ) (odd : Bool) (len n size : ℕ) (e : n ≡ standing odd len) (is : len ≡ min size (length buffer)) where
+  pub stands-inside : n ≤ length buffer
+  stands-inside = omega (arith, stands-within odd len n e, is)
 
--- ---- what `run_held` does, with any buffer and any value
-module _ (buffer : List ℕ) (held : Held) (len n : ℕ) (len-is : len ≡ keptLength buffer held) (n-is : n ≡ standing (held .odd) len)
-    (hex : Bool) (hex-is : hex ≡ held .hex && allHex (take (len - n) (drop n buffer))) where
-  meaning-is : heldMeaning buffer held ≡ meaningBy buffer n hex
-  unfolding heldMeaning
-  meaning-is = rw (hex-is, n-is, len-is)
+  pub stands-prefix : n ≡ length (take n buffer)
+  stands-prefix = sym (length-take-le n buffer stands-inside)
+
+-- ---- what stands for the line, with any buffer and any value
+pub meaning-is : (buffer : List ℕ) (held : Held) (len n : ℕ) → len ≡ keptLength buffer held → n ≡ standing (held .odd) len
+    → (hex : Bool) → hex ≡ held .hex && allHex (take (len - n) (drop n buffer)) → heldMeaning buffer held ≡ meaningBy buffer n hex
+unfolding heldMeaning
+meaning-is buffer held len n len-is n-is hex hex-is = rw (hex-is, n-is, len-is)
+
+-- ---- what `run_held` and `asks_verdict` do with it
+module _ (buffer : List ℕ) (held : Held) (n : ℕ) (hex : Bool) (is : heldMeaning buffer held ≡ meaningBy buffer n hex) where
+  by-hex : (b : Bool) → hex ≡ b → meaningBy buffer n b ≡ heldMeaning buffer held
+  by-hex b e = sym (is ∙ ap (meaningBy buffer n) e)
 
   module _ (j : Judge) (o : LineOutcome) where
     pub held-call : hex ≡ true → o ≡ lineStep j (lineIn (take n buffer)) → o ≡ lineStep j (heldMeaning buffer held)
-    held-call e l = l ∙ ap (lineStep j) (sym (meaning-is ∙ ap (meaningBy buffer n) e))
+    held-call e l = l ∙ ap (lineStep j) (by-hex true e)
 
     pub held-stray : hex ≡ false → o ≡ lineStep j malformed → o ≡ lineStep j (heldMeaning buffer held)
-    held-stray e l = l ∙ ap (lineStep j) (sym (meaning-is ∙ ap (meaningBy buffer n) e))
+    held-stray e l = l ∙ ap (lineStep j) (by-hex false e)
+
+  pub asks-call : hex ≡ true → (r : Bool) → r ≡ verdictAsked (lineIn (take n buffer)) → r ≡ verdictAsked (heldMeaning buffer held)
+  asks-call e r l = l ∙ ap verdictAsked (by-hex true e)
+
+  pub asks-stray : hex ≡ false → false ≡ verdictAsked (heldMeaning buffer held)
+  asks-stray e = ap verdictAsked (by-hex false e)
 
 -- from n up to n + k, within the first n + k
 part : (w : List ℕ) (n k : ℕ) → n ≤ length w → take k (drop n (take (n + k) w)) ≡ take k (drop n w)

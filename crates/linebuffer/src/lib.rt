@@ -2,11 +2,11 @@
 ghost use mathlib.Core.Path.{_≡_};
 ghost use mathlib.Core.Bool.{_&&_};
 ghost use Prim.Native.Nat.{_≤_};
-ghost use lib.ListN.{length};
+ghost use lib.ListN.{length, take};
 ghost use Rattle.limits.specs.Limits.{bytesRoom, lineRoom};
 ghost use Rattle.fields.specs.Bytes.{allHex};
-ghost use Rattle.callrun.specs.Running.{lineStep, runOutcome, Scratch};
-ghost use Rattle.linebuffer.specs.Holding.{lineBegin, oddWith, heldAfter, bufferAfter, standing, heldMeaning};
+ghost use Rattle.callrun.specs.Running.{lineStep, verdictAsked, runOutcome, Scratch};
+ghost use Rattle.linebuffer.specs.Holding.{lineBegin, oddWith, heldAfter, bufferAfter, standing, meaningBy, heldMeaning};
 use callrun::LineRun;
 use calls::Judge;
 
@@ -16,6 +16,13 @@ pub struct Held {
     pub length: usize,
     pub hex: bool,
     pub odd: bool,
+}
+
+// What stands for a line: so many bytes at the start of the buffer, and whether the others are hex
+// digits.
+struct Seen {
+    length: usize,
+    hex: bool,
 }
 
 // The beginning of a line.
@@ -76,18 +83,42 @@ fn stands(length: usize, odd: bool) -> usize
     length
 }
 
-// Runs the call of a line that has ended. Beginnings of 131,103 bytes tell all lines apart that
-// differ in their answers: `deliver `, 20 digits, a space and the digits of 65,537 bytes. One
-// byte more makes an odd rest even.
+// How many bytes of the buffer stand for the line that is held, and whether those that they leave
+// out are hex digits. Beginnings of 131,103 bytes tell all lines apart that differ in their
+// answers: `deliver `, 20 digits, a space and the digits of 65,537 bytes. One byte more makes an
+// odd rest even.
+fn look(buffer: &[u8], held: Held) -> Seen
+    ensures { λ r. ⌜ heldMeaning (now (buffer .entry)) held ≡ meaningBy (now (buffer .entry)) (r .length) (r .hex) ⌝ }
+    ensures within { λ r. ⌜ (r .length ≤ length (now (buffer .entry))) × (r .length ≡ length (take (r .length) (now (buffer .entry)))) ⌝ }
+{
+    let kept = base::at_most(held.length, buffer.len());
+    let length = stands(kept, held.odd);
+    let hex = hex_with(held.hex, &buffer[length..kept]);
+    Seen { length, hex }
+}
+
+// Runs the call of a line that has ended.
 pub fn run_held(judge: Judge, buffer: &[u8], held: Held, scratch: &mut [u8]) -> LineRun
     requires { ⌜ (lineRoom ≤ length (now buffer)) × (bytesRoom ≤ length (now scratch)) ⌝ }
     ensures { λ r. ⌜ runOutcome r ≡ lineStep judge (heldMeaning (now (buffer .entry)) held) ⌝ }
     ensures scratch { λ r. ⌜ Scratch (now (scratch .entry)) (now (scratch .exit)) ⌝ }
 {
-    let length = base::at_most(held.length, buffer.len());
-    let n = stands(length, held.odd);
-    if hex_with(held.hex, &buffer[n..length]) {
+    let seen = look(buffer, held);
+    let n = seen.length;
+    if seen.hex {
         return callrun::run_line(judge, &buffer[..n], scratch);
     }
     callrun::run_malformed(judge)
+}
+
+// Whether a line that has ended asks for the verdict.
+pub fn asks_verdict(buffer: &[u8], held: Held) -> bool
+    ensures { λ r. ⌜ r ≡ verdictAsked (heldMeaning (now (buffer .entry)) held) ⌝ }
+{
+    let seen = look(buffer, held);
+    let n = seen.length;
+    if seen.hex {
+        return callrun::asks_verdict(&buffer[..n]);
+    }
+    false
 }

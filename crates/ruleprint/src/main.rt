@@ -1,11 +1,17 @@
 // Reads a rule file from standard input and prints the built rule, or the number with which it is
-// refused.
-use libc::STDOUT_FILENO;
+// refused. Where it cannot read or write it says so on standard error.
+use stdio::Input;
 
 fn main() {
+    if stdio::has_arguments(b"usage: ruleprint < RULE   (takes no arguments; see README.md)\n") {
+        return;
+    }
     let mut file = [0u8; limits::FILE_ROOM];
-    let n = ruleinput::read_rule(&mut file);
+    let read = ruleinput::read_rule(b"ruleprint", &mut file);
+    let Input::Bytes(n) = read else {
+        return;
+    };
     let mut text = [0u8; limits::RULE_TEXT];
     let length = ruletext::print_whole(&file[..n], &mut text);
-    io::write_all(STDOUT_FILENO, &text[..length]);
+    stdio::write_all(b"ruleprint", &text[..length]);
 }

@@ -5,19 +5,21 @@ use Rattle.lines.specs.Splitting.{linesOf}
 use Rattle.stream.specs.Texts.{TextOutcome}
 use Rattle.stream.specs.Claims.{Claims}
 use Rattle.stream.proofs.Parts.{first-part, lines-split}
-use Rattle.stream.proofs.Calls.{fed-room, finished-room}
-use Rattle.stream.proofs.Whole.{feeds, finishes, whole, right}
+use Rattle.stream.proofs.Rounds.{forward, within, rounds}
+use Rattle.stream.proofs.Whole.{feeds, finishes, whole, right, written-right}
 
 pub claims : Claims
 claims = record {
   first = first-part;
   split = lines-split;
-  fed-room = fed-room;
-  finished-room = finished-room;
   feeds = feeds;
   finishes = finishes;
   whole = whole;
   right = right;
-  answered = λ blocks line out large.
-      ap (λ (t : TextOutcome). t .text) (whole blocks line out large) ∙ right (linesOf (flatten blocks));
+  answered = λ blocks line large.
+      ap (λ (t : TextOutcome). t .text) (whole blocks line large) ∙ right (linesOf (flatten blocks));
+  forward = forward;
+  within = within;
+  rounds = rounds;
+  written = written-right;
 }

@@ -1,6 +1,8 @@
 -- In the order in which they build on each other.
 pub mod Parts
 pub mod Calls
+pub mod Gathering
 pub mod Turns
+pub mod Rounds
 pub mod Whole
 pub mod Claimed

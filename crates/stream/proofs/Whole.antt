@@ -5,14 +5,14 @@
 --   feeds           the parts of a block
 --   finishes        the end of the text
 --   whole           the whole text
+--   written-right   all that is written, round by round
 --   right           the right answers
 use mathlib.Core.Path.{_≡_, refl, sym, ap, ap₂, _∙_}
 use mathlib.Core.List.{List, [], _∷_, _++_, append-assoc, append-nil, flatten}
 use Prim.Native.Nat.{ℕ, _+_, _≤_}
 use native.Mathlib.Omega.{arith}
 use borrow.Author.Tests.{eq-eqb, ne-eqb}
-use lib.ListN.{length, drop}
-use lib.Seq.{take-at}
+use lib.ListN.{length}
 use Rattle.lines.specs.Splitting.{linesFrom}
 use Rattle.executions.specs.Executions.{stateAfter}
 use Rattle.calls.specs.declared.Judge.{Judge}
@@ -25,10 +25,11 @@ use Rattle.calltext.specs.Answers.{Response, replied, responseText}
 use Rattle.callrun.specs.Running.{LineOutcome, lineStep}
 use Rattle.linebuffer.specs.Holding.{lineBegin, heldMeaning}
 use Rattle.linebuffer.proofs.Claimed as linebuffer
-use Rattle.stream.specs.Feeding.{State, Step, Part, ends, goesOn, stateOf, bytesOf, goOn, answeredBy, answerHeld, partsOf, finishOf}
+use Rattle.stream.specs.Feeding.{State, Step, Part, ends, goesOn, stateOf, goOn, answerHeld, partsOf, finishOf}
 use Rattle.stream.specs.Texts.{TextOutcome, after, linesStep, feedParts, partsText, partsIn, streamOf, historyAfter, rightResponse, rightText}
-use Rattle.stream.specs.Claims.{KeepsLine, linesEnded, lineBegun, Feeds}
+use Rattle.stream.specs.Claims.{KeepsLine, linesEnded, lineBegun, Feeds, Blocks}
 use Rattle.stream.proofs.Parts.{lines-split}
+use Rattle.stream.proofs.Rounds.{blocks-are}
 
 -- ---- lines and then others
 abbrev then : TextOutcome → TextOutcome → TextOutcome
@@ -45,11 +46,7 @@ step-append (l ∷ ls) ks j =
 
 -- ---- one line
 abbrev pub came : Step → TextOutcome
-came t = record { text = bytesOf t; state = t .state .judge }
-
-bytes-are : (s : State) (o : LineOutcome) → bytesOf (answeredBy s o) ≡ responseText (o .response)
-bytes-are s o =
-    let t = responseText (o .response) in take-at t (drop (0 + length t) (s .out)) (length t) refl
+came t = record { text = t .text; state = t .state .judge }
 
 -- the line w that is held is run, and the lines ls after it
 module _ (s : State) (w : List ℕ) (holds : KeepsLine s w) where
@@ -58,10 +55,7 @@ module _ (s : State) (w : List ℕ) (holds : KeepsLine s w) where
 
   line-then : (ls : List (List ℕ)) → then (came (answerHeld s)) (linesStep (answerHeld s .state .judge) ls) ≡ linesStep (s .judge) (w ∷ ls)
   unfolding linesStep answerHeld
-  line-then ls =
-      let o = lineStep (s .judge) (heldMeaning (s .line) (s .held)) in
-      ap (λ (t : List ℕ). record { text = t ++ linesStep (o .state) ls .text; state = linesStep (o .state) ls .state }) (bytes-are s o)
-      ∙ ap (λ (x : LineOutcome). after (x .response) (linesStep (x .state) ls)) same-step
+  line-then ls = ap (λ (x : LineOutcome). after (x .response) (linesStep (x .state) ls)) same-step
 
   next-holds : KeepsLine (answerHeld s .state) []
   unfolding answerHeld
@@ -93,7 +87,7 @@ unfolding linesStep linesFrom
 finishes s [] holds = rw (eq-eqb (s .held .length) 0 (omega (arith, holds .keeps .size)))
 finishes s (x ∷ w) holds =
     rw (ne-eqb (s .held .length) 0 (λ e. omega (arith, holds .keeps .size, holds .large)))
-    (ap (λ (t : List ℕ). record { text = t; state = answerHeld s .state .judge }) (sym (append-nil (bytesOf (answerHeld s))))
+    (ap (λ (t : List ℕ). record { text = t; state = answerHeld s .state .judge }) (sym (append-nil (answerHeld s .text)))
     ∙ line-then s (x ∷ w) holds [])
 
 -- ---- the whole text
@@ -130,9 +124,9 @@ whole-by blocks s w holds =
     ∙ ap (λ (t : TextOutcome). then t (linesStep (t .state) (linesFrom (lineBegun w ps) []))) (f .ran)
     ∙ sym (ap (linesStep (s .judge)) (blocks-split blocks w) ∙ step-append (linesEnded w ps) (linesFrom (lineBegun w ps) []) (s .judge))
 
-pub whole : (blocks : List (List ℕ)) (line out : List ℕ) → 131104 ≤ length line
-    → streamOf (stateOf fresh lineBegin line out) blocks ≡ linesStep fresh (linesFrom [] (flatten blocks))
-whole blocks line out large = whole-by blocks _ [] (record { large = large; keeps = linebuffer.claims .begins line })
+pub whole : (blocks : List (List ℕ)) (line : List ℕ) → 131104 ≤ length line
+    → streamOf (stateOf fresh lineBegin line) blocks ≡ linesStep fresh (linesFrom [] (flatten blocks))
+whole blocks line large = whole-by blocks _ [] (record { large = large; keeps = linebuffer.claims .begins line })
 
 -- ---- the right answers
 response-right : (h : List Call) (m : Meaning) → lineStep (judgeAfter h) m .response ≡ rightResponse h m
@@ -157,3 +151,12 @@ right-by (l ∷ ls) h =
 pub right : (ls : List (List ℕ)) → linesStep fresh ls .text ≡ rightText [] ls
 unfolding stateAfter
 right ls = right-by ls []
+
+-- ---- all that is written
+pub written-right : {room : ℕ} {s′ : State} {blocks : List (List ℕ)} {line text : List ℕ} → 131104 ≤ length line
+    → Blocks room (stateOf fresh lineBegin line) blocks s′ text → text ++ finishOf s′ .text ≡ rightText [] (linesFrom [] (flatten blocks))
+written-right {room} {s′} {blocks} {line} {text} large b =
+    let are = blocks-are b in
+    ap₂ (λ (t : List ℕ) (s : State). t ++ finishOf s .text) (are .0) (are .1)
+    ∙ ap (λ (o : TextOutcome). o .text) (whole blocks line large)
+    ∙ right (linesFrom [] (flatten blocks))

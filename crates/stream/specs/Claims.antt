@@ -1,5 +1,5 @@
--- Every text is answered right, however it is cut into blocks; proofs/Claimed.antt proves the
--- claims.
+-- Every text is answered right, however it is cut into blocks, and in however many rounds a block
+-- is fed; proofs/Claimed.antt proves the claims.
 --
 --   KeepsLine s w          the line's buffer is large enough, and it keeps w, the beginning of a
 --                          line that earlier parts brought
@@ -9,17 +9,20 @@
 --                      is, and the others are the parts of the rest
 --   Feeds s w ps       feeding the parts ps to s: the lines that they end were run and answered,
 --                      and the beginning of the next is held
---   InOut t            what is answered is within the buffer for it
+--   Rounds room s block s′ texts     the block is fed to s in rounds, each as far as the room for
+--                                    answers goes: the last leaves s′, and each answered its text
+--   Blocks room s blocks s′ text     blocks are fed so, one after the other; `text` is all that was
+--                                    answered
 use mathlib.Core.Path.{_≡_}
 use mathlib.Core.List.{List, [], _∷_, _++_, flatten}
 use Prim.Native.Nat.{ℕ, _≤_, _<_}
 use lib.ListN.{length, drop}
-use Rattle.limits.specs.Limits.{lineRoom}
+use Rattle.limits.specs.Limits.{lineRoom, answerRoom}
 use Rattle.lines.specs.Splitting.{linesFrom, linesOf}
 use Rattle.calls.specs.Steps.{fresh}
 use Rattle.linebuffer.specs.Holding.{lineBegin}
 use Rattle.linebuffer.specs.Claims.{Keeps}
-use Rattle.stream.specs.Feeding.{State, Step, Part, ends, goesOn, stateOf, bytesOf, partsOf, firstOf, partSize, feedPart, finishOf}
+use Rattle.stream.specs.Feeding.{State, Part, ends, goesOn, stateOf, partsOf, firstOf, partSize, finishOf, gatherParts}
 use Rattle.stream.specs.Texts.{linesStep, feedParts, partsText, streamOf, rightText}
 
 pub record KeepsLine (s : State) (w : List ℕ) : Type 0 where
@@ -45,27 +48,43 @@ pub record Feeds (s : State) (w : List ℕ) (ps : List Part) : Type 0 where
   pub ran : record { text = partsText s ps; state = feedParts s ps .judge } ≡ linesStep (s .judge) (linesEnded w ps)
   pub holds : KeepsLine (feedParts s ps) (lineBegun w ps)
 
-abbrev pub InOut : Step → Type 0
-InOut t = t .written ≤ length (t .state .out)
+-- ---- rounds
+pub data Rounds (room : ℕ) : State → List ℕ → State → List (List ℕ) → Type 0 where
+  over : {s : State} → Rounds room s [] s []
+  round : {s s′ : State} {block : List ℕ} {texts : List (List ℕ)}
+      → Rounds room (gatherParts room s (partsOf block) .state) (drop (gatherParts room s (partsOf block) .taken) block) s′ texts
+      → Rounds room s block s′ (gatherParts room s (partsOf block) .text ∷ texts)
+
+pub data Blocks (room : ℕ) : State → List (List ℕ) → State → List ℕ → Type 0 where
+  none : {s : State} → Blocks room s [] s []
+  block : {s s′ s″ : State} {block : List ℕ} {blocks texts : List (List ℕ)} {text : List ℕ}
+      → Rounds room s block s′ texts → Blocks room s′ blocks s″ text → Blocks room s (block ∷ blocks) s″ (flatten texts ++ text)
 
 pub record Claims : Type 0 where
   -- a block is its parts, and the lines of a text are those that the parts of a block end, and
   -- those of what follows; `more` is what later blocks bring
   pub first : (block : List ℕ) → 0 < length block → FirstPart block (firstOf (partsOf block))
   pub split : (block w more : List ℕ) → linesFrom w (block ++ more) ≡ linesEnded w (partsOf block) ++ linesFrom (lineBegun w (partsOf block)) more
-  pub fed-room : (s : State) (p : Part) → InOut (feedPart s p)
-  pub finished-room : (s : State) → InOut (finishOf s)
   -- the parts of a block, or any others, and the end of the text
   pub feeds : (ps : List Part) (s : State) (w : List ℕ) → KeepsLine s w → Feeds s w ps
   pub finishes : (s : State) (w : List ℕ) → KeepsLine s w
-      → record { text = bytesOf (finishOf s); state = finishOf s .state .judge } ≡ linesStep (s .judge) (linesFrom w [])
+      → record { text = finishOf s .text; state = finishOf s .state .judge } ≡ linesStep (s .judge) (linesFrom w [])
   -- blocks from a fresh judge on, and then the end: the lines of the whole text were run, however
   -- it was cut
-  pub whole : (blocks : List (List ℕ)) (line out : List ℕ) → lineRoom ≤ length line
-      → streamOf (stateOf fresh lineBegin line out) blocks ≡ linesStep fresh (linesOf (flatten blocks))
+  pub whole : (blocks : List (List ℕ)) (line : List ℕ) → lineRoom ≤ length line
+      → streamOf (stateOf fresh lineBegin line) blocks ≡ linesStep fresh (linesOf (flatten blocks))
   -- every answer is the right one after the calls before it
   pub right : (ls : List (List ℕ)) → linesStep fresh ls .text ≡ rightText [] ls
   -- BOTH IN ONE: what is answered to the blocks, fed one after the other, and to the end is right
   -- for the lines of the blocks joined
-  pub answered : (blocks : List (List ℕ)) (line out : List ℕ) → lineRoom ≤ length line
-      → streamOf (stateOf fresh lineBegin line out) blocks .text ≡ rightText [] (linesOf (flatten blocks))
+  pub answered : (blocks : List (List ℕ)) (line : List ℕ) → lineRoom ≤ length line
+      → streamOf (stateOf fresh lineBegin line) blocks .text ≡ rightText [] (linesOf (flatten blocks))
+  -- a round takes some of a block, if there is room for an answer, and no more than there is; what
+  -- the rounds of a block answer, joined, is what its parts are answered
+  pub forward : (room : ℕ) (s : State) (block : List ℕ) → answerRoom ≤ room → 0 < length block → 0 < gatherParts room s (partsOf block) .taken
+  pub within : (room : ℕ) (s : State) (block : List ℕ) → gatherParts room s (partsOf block) .taken ≤ length block
+  pub rounds : {room : ℕ} {s s′ : State} {block : List ℕ} {texts : List (List ℕ)} → Rounds room s block s′ texts
+      → (flatten texts ≡ partsText s (partsOf block)) × (s′ ≡ feedParts s (partsOf block))
+  -- ALL THAT IS WRITTEN, round by round, block by block, and at the end, is right
+  pub written : {room : ℕ} {s′ : State} {blocks : List (List ℕ)} {line text : List ℕ} → lineRoom ≤ length line
+      → Blocks room (stateOf fresh lineBegin line) blocks s′ text → text ++ finishOf s′ .text ≡ rightText [] (linesOf (flatten blocks))

@@ -19,7 +19,7 @@ use Rattle.histories.specs.History.{answerOf}
 use Rattle.calltext.specs.Meaning.{Meaning, again, call, malformed, lineIn}
 use Rattle.calltext.specs.Answers.{Response, began, replied, unread, responseText}
 use Rattle.callrun.specs.Running.{lineStep}
-use Rattle.stream.specs.Feeding.{State, Part, bytesOf, partsOf, feedPart, finishOf}
+use Rattle.stream.specs.Feeding.{State, Part, partsOf, feedPart, finishOf}
 
 pub record TextOutcome : Type 0 where
   pub text : List ℕ
@@ -40,7 +40,7 @@ feedParts s (p ∷ ps) = feedParts (feedPart s p .state) ps
 
 unfoldable pub partsText : State → List Part → List ℕ
 partsText s [] = []
-partsText s (p ∷ ps) = bytesOf (feedPart s p) ++ partsText (feedPart s p .state) ps
+partsText s (p ∷ ps) = feedPart s p .text ++ partsText (feedPart s p .state) ps
 
 unfoldable pub partsIn : List (List ℕ) → List Part
 partsIn [] = []
@@ -49,7 +49,7 @@ partsIn (block ∷ blocks) = partsOf block ++ partsIn blocks
 abbrev pub streamOf : State → List (List ℕ) → TextOutcome
 streamOf s blocks =
     let last = finishOf (feedParts s (partsIn blocks)) in
-    record { text = partsText s (partsIn blocks) ++ bytesOf last; state = last .state .judge }
+    record { text = partsText s (partsIn blocks) ++ last .text; state = last .state .judge }
 
 -- ---- the right answers, by the calls alone
 abbrev pub historyAfter : List Call → Meaning → List Call

@@ -1,11 +1,16 @@
 // Runs the calls of a text that comes in blocks, cut anywhere, and writes their answers.
 ghost use mathlib.Core.Path.{_≡_};
-ghost use Prim.Native.Nat.{_+_, _≤_, _<_};
+ghost use Prim.Native.Nat.{_≤_, _<_};
 ghost use lib.ListN.{length};
 ghost use Rattle.limits.specs.Limits.{bytesRoom, lineRoom, answerRoom};
+ghost use Rattle.text.specs.Writing.{Wrote};
+ghost use Rattle.calls.specs.Steps.{verdictOf};
+ghost use Rattle.calltext.specs.Answers.{replied, responseText};
 ghost use Rattle.callrun.specs.Running.{Scratch};
-ghost use Rattle.stream.specs.Feeding.{stateOf, answerHeld, partAt, partSize, feedPart, finishOf, answerOutcome, feedOutcome};
+ghost use Rattle.linebuffer.specs.Holding.{lineBegin};
+ghost use Rattle.stream.specs.Feeding.{stateOf, answerHeld, partAt, finishOf, gatherAt, TookPart, Gathers};
 use calls::Judge;
+use calltext::LineAnswer;
 use linebuffer::Held;
 
 // The judge that a line leaves, and how many bytes its answer has.
@@ -14,9 +19,16 @@ pub struct Answered {
     pub written: usize,
 }
 
-// The same after a part of a block, with what is kept of a line that goes on, and where the next
-// part begins.
-pub struct Fed {
+// A line with a part of a block behind it, where the next part begins, and whether the line ends.
+pub struct Taken {
+    pub held: Held,
+    pub at: usize,
+    pub ends: bool,
+}
+
+// The judge that some parts of a block leave, what is kept of a line that goes on, where the next
+// part begins, and how many bytes the answers have.
+pub struct Gathered {
     pub judge: Judge,
     pub held: Held,
     pub at: usize,
@@ -25,7 +37,8 @@ pub struct Fed {
 
 fn answer(judge: Judge, line: &[u8], held: Held, bytes: &mut [u8], out: &mut [u8]) -> Answered
     requires { ⌜ (lineRoom ≤ length (now line)) × (bytesRoom ≤ length (now bytes)) × (answerRoom ≤ length (now out)) ⌝ }
-    ensures { λ r. ⌜ answerOutcome r (now (line .entry)) (now (out .exit)) ≡ answerHeld (stateOf judge held (now (line .entry)) (now (out .entry))) ⌝ }
+    ensures { λ r. ⌜ stateOf (r .judge) lineBegin (now (line .entry)) ≡ answerHeld (stateOf judge held (now (line .entry))) .state ⌝ }
+    ensures text { λ r. ⌜ Wrote (now (out .entry)) 0 (answerHeld (stateOf judge held (now (line .entry))) .text) (now (out .exit)) (r .written) ⌝ }
     ensures scratch { λ r. ⌜ Scratch (now (bytes .entry)) (now (bytes .exit)) ⌝ }
 {
     let run = linebuffer::run_held(judge, line, held, bytes);
@@ -35,40 +48,74 @@ fn answer(judge: Judge, line: &[u8], held: Held, bytes: &mut [u8], out: &mut [u8
     Answered { judge, written }
 }
 
-// A part of a block: up to the next line feed, or to the block's end. `line` keeps the line,
-// `bytes` is for the bytes that it carries.
-pub fn feed(
+// The answer to a line that asks for the verdict.
+fn answer_verdict(judge: Judge, out: &mut [u8]) -> usize
+    requires { ⌜ answerRoom ≤ length (now out) ⌝ }
+    ensures { λ r. ⌜ Wrote (now (out .entry)) 0 (responseText (replied (verdictOf judge))) (now (out .exit)) r ⌝ }
+{
+    let said = judge::ask_verdict(judge);
+    let answer = LineAnswer::Verdict(said);
+    calltext::put_answer(out, answer)
+}
+
+// A part of a block: up to the next line feed, or to the block's end. `line` keeps the line.
+fn take_part(held: Held, line: &mut [u8], block: &[u8], at: usize) -> Taken
+    requires { ⌜ at < length (now block) ⌝ }
+    ensures { λ r. ⌜ TookPart held (now (line .entry)) at (partAt (now (block .entry)) at) r (now (line .exit)) ⌝ }
+{
+    let end = lines::find(block, at, b'\n');
+    let held = linebuffer::hold(line, held, &block[at..end]);
+    if end < block.len() {
+        let at = end + 1;
+        let ends = true;
+        return Taken { held, at, ends };
+    }
+    let at = end;
+    let ends = false;
+    Taken { held, at, ends }
+}
+
+// The parts of a block from an index on, while there is room for their answers, which stand one
+// behind the other at the start of `out`. `line` keeps the line, `bytes` is for the bytes that it
+// carries. A line that asks for the verdict leaves the judge where it is: nothing is copied.
+pub fn gather(
     judge: Judge,
     held: Held,
     line: &mut [u8],
     bytes: &mut [u8],
     out: &mut [u8],
     block: &[u8],
-    at: usize,
-) -> Fed
-    requires { ⌜ (lineRoom ≤ length (now line)) × (bytesRoom ≤ length (now bytes)) × (answerRoom ≤ length (now out)) × (at < length (now block)) ⌝ }
-    ensures { λ r. ⌜ feedOutcome r (now (line .exit)) (now (out .exit)) ≡ feedPart (stateOf judge held (now (line .entry)) (now (out .entry))) (partAt (now (block .entry)) at) ⌝ }
-    ensures next { λ r. ⌜ r .at ≡ at + partSize (partAt (now (block .entry)) at) ⌝ }
+    from: usize,
+) -> Gathered
+    requires { ⌜ (lineRoom ≤ length (now line)) × (bytesRoom ≤ length (now bytes)) ⌝ }
+    ensures { λ r. ⌜ Gathers (gatherAt (now (block .entry)) from (length (now (out .entry))) (stateOf judge held (now (line .entry)))) from r (now (line .exit)) (now (out .entry)) (now (out .exit)) ⌝ }
     ensures scratch { λ r. ⌜ Scratch (now (bytes .entry)) (now (bytes .exit)) ⌝ }
 {
-    let end = lines::find(block, at, b'\n');
-    let held = linebuffer::hold(line, held, &block[at..end]);
-    if end < block.len() {
-        let at = end + 1;
-        let answered = answer(judge, line, held, bytes, out);
-        let judge = answered.judge;
-        let written = answered.written;
-        let held = linebuffer::nothing();
-        return Fed {
-            judge,
-            held,
-            at,
-            written,
-        };
+    let mut judge = judge;
+    let mut held = held;
+    let mut at = from;
+    let mut written: usize = 0;
+    while at < block.len() {
+        if out.len() - written < limits::ANSWER {
+            break;
+        }
+        let part = take_part(held, line, block, at);
+        at = part.at;
+        held = part.held;
+        if !part.ends {
+            continue;
+        }
+        if linebuffer::asks_verdict(line, held) {
+            written += answer_verdict(judge, &mut out[written..]);
+            held = linebuffer::nothing();
+            continue;
+        }
+        let answered = answer(judge, line, held, bytes, &mut out[written..]);
+        judge = answered.judge;
+        written += answered.written;
+        held = linebuffer::nothing();
     }
-    let at = end;
-    let written: usize = 0;
-    Fed {
+    Gathered {
         judge,
         held,
         at,
@@ -79,7 +126,8 @@ pub fn feed(
 // The end of the text.
 pub fn finish(judge: Judge, held: Held, line: &[u8], bytes: &mut [u8], out: &mut [u8]) -> Answered
     requires { ⌜ (lineRoom ≤ length (now line)) × (bytesRoom ≤ length (now bytes)) × (answerRoom ≤ length (now out)) ⌝ }
-    ensures { λ r. ⌜ answerOutcome r (now (line .entry)) (now (out .exit)) ≡ finishOf (stateOf judge held (now (line .entry)) (now (out .entry))) ⌝ }
+    ensures { λ r. ⌜ stateOf (r .judge) lineBegin (now (line .entry)) ≡ finishOf (stateOf judge held (now (line .entry))) .state ⌝ }
+    ensures text { λ r. ⌜ Wrote (now (out .entry)) 0 (finishOf (stateOf judge held (now (line .entry))) .text) (now (out .exit)) (r .written) ⌝ }
     ensures scratch { λ r. ⌜ Scratch (now (bytes .entry)) (now (bytes .exit)) ⌝ }
 {
     if held.length == 0 {

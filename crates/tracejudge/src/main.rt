@@ -1,33 +1,45 @@
 // Reads a list of calls from standard input, one a line, and prints an answer a line: `load HEX`,
 // `open N`, `deliver P HEX`, `withdraw P`, `verdict`. HEX is `-` for no bytes. An empty line
 // starts again with a fresh judge. What a line means and how it is answered is proved in the
-// crates below; this program only reads and writes. What it prints is no promise, since the C
+// crates below; this program only reads and writes. The answers to a block that was read are
+// written before the next is read, all at once where their buffer holds them. Where it cannot read
+// or write it says so on standard error and stops. What it prints is no promise, since the C
 // library's `write` makes none: a test holds it.
 ghost use mathlib.Core.Path.{_≡_};
-ghost use mathlib.Core.Bool.{cond};
-ghost use Prim.Native.Nat.{_-_, _≤_, _<_};
-ghost use lib.Dec.{eqb};
+ghost use mathlib.Core.Bool.{false};
+ghost use Prim.Native.Nat.{_≤_};
 ghost use lib.ListN.{length};
-ghost use Rattle.io.specs.Counts.{Counts};
 ghost use Rattle.limits.specs.Limits.{bytesRoom, lineRoom, answerRoom};
 ghost use Rattle.callrun.specs.Running.{Scratch};
+ghost use Rattle.stdio.specs.Blocks.{Within};
 ghost use Rattle.stream.specs.Feeding.{stateOf, partsOf};
 ghost use Rattle.stream.specs.Texts.{feedParts};
 use calls::Judge;
-use libc::STDIN_FILENO;
-use libc::STDOUT_FILENO;
 use linebuffer::Held;
+use stdio::Block;
 
+// How many bytes are read at once.
+const BLOCK: usize = 65536;
+
+// Room for the answers to a block. A line of one byte, with its line feed, is answered with ten,
+// and no line with more than five for each of its bytes.
+const ANSWERS: usize = 6 * BLOCK;
+
+// The judge, what is held of a line, and whether the input or the output failed, which was told.
 struct Reading {
     judge: Judge,
     held: Held,
+    failed: bool,
 }
 
-fn read_block(block: &mut [u8]) -> usize
-    ensures { λ r. ⌜ Counts r (now (block .exit)) ⌝ }
+fn read_block(block: &mut [u8]) -> Block
+    ensures { λ r. ⌜ Within r (now (block .exit)) ⌝ }
 {
-    let got = libc::read(STDIN_FILENO, block);
-    io::count(got, block)
+    stdio::read_block(b"tracejudge", block)
+}
+
+fn write_answers(answers: &[u8]) -> bool {
+    stdio::write_all(b"tracejudge", answers)
 }
 
 // The lines of a block. `line` keeps a line that goes on.
@@ -40,21 +52,33 @@ fn run_block(
     block: &[u8],
 ) -> Reading
     requires { ⌜ (lineRoom ≤ length (now line)) × (bytesRoom ≤ length (now bytes)) × (answerRoom ≤ length (now out)) ⌝ }
-    ensures { λ r. ⌜ stateOf (r .judge) (r .held) (now (line .exit)) (now (out .exit)) ≡ feedParts (stateOf judge held (now (line .entry)) (now (out .entry))) (partsOf (now (block .entry))) ⌝ }
+    ensures { λ r. ⌜ (r .failed ≡ false → stateOf (r .judge) (r .held) (now (line .exit)) ≡ feedParts (stateOf judge held (now (line .entry))) (partsOf (now (block .entry)))) ⌝ }
     ensures scratch { λ r. ⌜ Scratch (now (bytes .entry)) (now (bytes .exit)) ⌝ }
 {
-    let mut reading = Reading { judge, held };
+    let mut judge = judge;
+    let mut held = held;
     let mut at: usize = 0;
     while at < block.len() {
-        let fed = stream::feed(reading.judge, reading.held, line, bytes, out, block, at);
-        let written = fed.written;
-        io::write_all(STDOUT_FILENO, &out[..written]);
-        let judge = fed.judge;
-        let held = fed.held;
-        reading = Reading { judge, held };
-        at = fed.at;
+        let round = stream::gather(judge, held, line, bytes, out, block, at);
+        judge = round.judge;
+        held = round.held;
+        at = round.at;
+        let written = round.written;
+        if !write_answers(&out[..written]) {
+            let failed = true;
+            return Reading {
+                judge,
+                held,
+                failed,
+            };
+        }
     }
-    reading
+    let failed = false;
+    Reading {
+        judge,
+        held,
+        failed,
+    }
 }
 
 // A proved loop ends, and nothing says that the input does. So the turns are counted down, from a
@@ -65,39 +89,70 @@ fn most_turns() -> u64
     u64::MAX
 }
 
-// None is left at the end of the input.
-fn turns_left(turns: u64, n: usize) -> u64
-    requires { ⌜ 0 < turns ⌝ }
-    ensures { λ r. ⌜ (r < turns) × (r ≡ cond (eqb n 0) 0 (turns - 1)) ⌝ }
-{
-    if n == 0 {
-        return 0;
-    }
-    turns - 1
-}
-
-fn run(line: &mut [u8], bytes: &mut [u8], out: &mut [u8], block: &mut [u8])
+// All blocks, up to the end of the input.
+fn run_blocks(line: &mut [u8], bytes: &mut [u8], out: &mut [u8], block: &mut [u8]) -> Reading
     requires { ⌜ (lineRoom ≤ length (now line)) × (bytesRoom ≤ length (now bytes)) × (answerRoom ≤ length (now out)) ⌝ }
 {
     let mut judge = judge::new_judge();
     let mut held = linebuffer::nothing();
     let mut turns = most_turns();
     while turns > 0 {
-        let n = read_block(block);
-        let reading = run_block(judge, held, line, bytes, out, &block[..n]);
-        judge = reading.judge;
-        held = reading.held;
-        turns = turns_left(turns, n);
+        let read = read_block(block);
+        match read {
+            Block::Bytes(n) => {
+                let reading = run_block(judge, held, line, bytes, out, &block[..n]);
+                if reading.failed {
+                    return reading;
+                }
+                judge = reading.judge;
+                held = reading.held;
+            }
+            Block::End => {
+                let failed = false;
+                return Reading {
+                    judge,
+                    held,
+                    failed,
+                };
+            }
+            Block::Failed => {
+                let failed = true;
+                return Reading {
+                    judge,
+                    held,
+                    failed,
+                };
+            }
+        }
+        turns -= 1;
     }
-    let last = stream::finish(judge, held, line, bytes, out);
+    let failed = false;
+    Reading {
+        judge,
+        held,
+        failed,
+    }
+}
+
+fn run(line: &mut [u8], bytes: &mut [u8], out: &mut [u8], block: &mut [u8])
+    requires { ⌜ (lineRoom ≤ length (now line)) × (bytesRoom ≤ length (now bytes)) × (answerRoom ≤ length (now out)) ⌝ }
+{
+    let reading = run_blocks(line, bytes, out, block);
+    if reading.failed {
+        return;
+    }
+    let last = stream::finish(reading.judge, reading.held, line, bytes, out);
     let written = last.written;
-    io::write_all(STDOUT_FILENO, &out[..written]);
+    write_answers(&out[..written]);
 }
 
 fn main() {
+    if stdio::has_arguments(b"usage: tracejudge < CALLS   (takes no arguments; see README.md)\n") {
+        return;
+    }
     let mut line = [0u8; limits::LINE];
     let mut bytes = [0u8; limits::BYTES];
-    let mut out = [0u8; limits::ANSWER];
-    let mut block = [0u8; 65536];
+    let mut out = [0u8; ANSWERS];
+    let mut block = [0u8; BLOCK];
     run(&mut line, &mut bytes, &mut out, &mut block);
 }

@@ -1,4 +1,5 @@
--- `put_initials` meets its contract. The loop's invariant: the lines of the initial states below q are written. Assumes nothing.
+-- `put_initials` meets its contract. The loop's invariant: the lines of the initial states below q
+-- are written. Assumes nothing.
 use native.Mathlib.Omega.{arith}
 use Prim.Native.Nat.{_-_}
 use Rattle.dottext.specs.DotText.{initialLines}

@@ -1,4 +1,5 @@
--- `put_label` meets its contract. The loop's invariant: the pieces of the symbols below s are written. Assumes nothing.
+-- `put_label` meets its contract. The loop's invariant: the pieces of the symbols below s are
+-- written. Assumes nothing.
 use native.Mathlib.Omega.{arith}
 use Prim.Native.Nat.{_-_}
 use Rattle.dottext.specs.DotText.{leads, piece}

@@ -1,4 +1,5 @@
--- `put_states` meets its contract. The loop's invariant: the lines of the first q states are written. Assumes nothing.
+-- `put_states` meets its contract. The loop's invariant: the lines of the first q states are
+-- written. Assumes nothing.
 use native.Mathlib.Omega.{arith}
 use Prim.Native.Nat.{_-_}
 use Rattle.dottext.specs.DotText.{stateLine}

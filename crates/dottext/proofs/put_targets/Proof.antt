@@ -1,4 +1,5 @@
--- `put_targets` meets its contract. The loop's invariant: the arrows to the states below t are written. Assumes nothing.
+-- `put_targets` meets its contract. The loop's invariant: the arrows to the states below t are
+-- written. Assumes nothing.
 use native.Mathlib.Omega.{arith}
 use Prim.Native.Nat.{_-_}
 use Rattle.dottext.specs.DotText.{arrowLines}

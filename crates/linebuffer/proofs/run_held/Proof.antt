@@ -1,29 +1,14 @@
 -- `run_held` meets its contract. Assumes nothing.
+use Rattle.linebuffer.proofs.Standing.{held-call, held-stray}
 use borrow.Author.Needs.{needs}
-use Rattle.linebuffer.proofs.Standing.{stands-within, stands-prefix, held-call, held-stray}
 use Rattle.linebuffer.proofs.run_held.Statement.{statement}
 use Rattle.linebuffer.proofs.run_held.Tie as tie
 
-at-most-requires : tie.Need-at-most-requires
-at-most-requires c κs = search needs
-
-stands-requires : tie.Need-stands-requires
-stands-requires c κs = search needs
-
-sub-hex-with : tie.Need-sub-hex-with
-sub-hex-with c = search (needs, stands-within)
-
-part-hex-with-start : tie.Need-part-hex-with-start
-part-hex-with-start c = search (needs, stands-within)
-
-part-hex-with-end : tie.Need-part-hex-with-end
-part-hex-with-end c = search needs
-
-hex-with-requires : tie.Need-hex-with-requires
-hex-with-requires c κs = search needs
+look-requires : tie.Need-look-requires
+look-requires c κs = search needs
 
 slice-aggregate-run-line : tie.Need-slice-aggregate-run-line
-slice-aggregate-run-line c = search (needs, stands-prefix)
+slice-aggregate-run-line c = search needs
 
 run-line-requires : tie.Need-run-line-requires
 run-line-requires c κs = search needs
@@ -44,12 +29,7 @@ pub run-held-spec : {M : Type 1} → statement M
 run-held-spec =
     tie.close
     (tie.spec
-    at-most-requires
-    stands-requires
-    sub-hex-with
-    part-hex-with-start
-    part-hex-with-end
-    hex-with-requires
+    look-requires
     slice-aggregate-run-line
     run-line-requires
     same-length

@@ -1,59 +1,47 @@
 -- `run_block` meets its contract. Assumes nothing.
-use mathlib.Core.Path.{_≡_, refl, sym, _∙_}
-use Prim.Native.Nat.{_-_, _≤_}
-use native.Mathlib.Omega.{arith}
-use borrow.Author.Needs.{needs}
-use lib.ListN.{length, drop}
-use Rattle.stream.specs.Feeding.{stateOf, partsOf}
+use Rattle.stream.proofs.Rounds.{round-forward, round-on, rounds-over}
+use Rattle.stream.proofs.Calls.{wrote-within, room-prefix}
 use Rattle.stream.specs.Texts.{feedParts}
-use Rattle.stream.proofs.Calls.{room-prefix}
-use Rattle.stream.proofs.Turns.{turn-room, turn-forward, turn-within, turn-on, turns-over}
+use Rattle.stream.specs.Feeding.{stateOf, partsOf}
+use Rattle.base.proofs.Tests.{not-both}
+use lib.ListN.{length, drop}
+use native.Mathlib.Omega.{arith}
+use Prim.Native.Nat.{_-_, _<_}
+use mathlib.Core.Bool.{true, false}
+use mathlib.Core.Path.{_≡_, refl, sym, _∙_}
+use borrow.Author.Needs.{needs}
 use Rattle.tracejudge.proofs.run_block.Statement.{statement}
 use Rattle.tracejudge.proofs.run_block.Tie as tie
 
 abbrev Inv-loop : tie.InvT-loop
-Inv-loop line₀ bytes₀ out₀ block reading₀ at₀ line bytes out reading at =
-    (at ≤ length block) × (length line ≡ length line₀) × (length bytes ≡ length bytes₀) × (length out ≡ length out₀)
-    × (feedParts (stateOf (reading₀ .judge) (reading₀ .held) line₀ out₀) (partsOf block) ≡ feedParts (stateOf (reading .judge) (reading .held) line out) (partsOf (drop at block)))
+Inv-loop line₀ bytes₀ out₀ block judge₀ held₀ at₀ line bytes out judge held at =
+    (length line ≡ length line₀) × (length bytes ≡ length bytes₀) × (length out ≡ length out₀)
+    × (feedParts (stateOf judge₀ held₀ line₀) (partsOf block) ≡ feedParts (stateOf judge held line) (partsOf (drop at block)))
 
 abbrev μ-loop : tie.MeasureT-loop
-μ-loop line₀ bytes₀ out₀ block reading₀ at₀ line bytes out reading at = length block - at
+μ-loop line₀ bytes₀ out₀ block judge₀ held₀ at₀ line bytes out judge held at = length block - at
+
+-- ---- where a round was gathered
+module _ (p : tie.After-gather Inv-loop μ-loop) where
+  forward : p .before .before .before .before .before .loop .at < p .gather .result .at
+  forward =
+      round-forward _ _ _ (p .before .before .before .before .loop-test .taken) _ _ _ _ _ (p .gather .ensures .0)
+      (omega (arith, p .before .before .before .before .before .loop .inv .2, p .before .before .before .before .before .before .before .before .before .before .pre .2))
 
 loop-holds : tie.Need-loop-holds Inv-loop μ-loop
-loop-holds c = (search needs, refl, refl, refl, refl)
+loop-holds c = (refl, refl, refl, refl)
 
-feed-requires : tie.Need-feed-requires Inv-loop μ-loop
-feed-requires c κs = search needs
+gather-requires : tie.Need-gather-requires Inv-loop μ-loop
+gather-requires c κs = search needs
 
-slice-reshare-prefix-write-all : tie.Need-slice-reshare-prefix-write-all Inv-loop μ-loop
-slice-reshare-prefix-write-all c = search (needs, turn-room)
+slice-reshare-prefix-write-answers : tie.Need-slice-reshare-prefix-write-answers Inv-loop μ-loop
+slice-reshare-prefix-write-answers c = wrote-within _ _ _ _ (c .before .before .before .before .before .before .before .before .gather .ensures .0 .response)
 
-slice-aggregate-write-all : tie.Need-slice-aggregate-write-all Inv-loop μ-loop
-slice-aggregate-write-all c = search (needs, room-prefix, turn-room)
+slice-aggregate-write-answers : tie.Need-slice-aggregate-write-answers Inv-loop μ-loop
+slice-aggregate-write-answers c = room-prefix _ _ (wrote-within _ _ _ _ (c .before .before .before .before .before .before .before .before .before .gather .ensures .0 .response))
 
-write-all-requires : tie.Need-write-all-requires Inv-loop μ-loop
-write-all-requires c κs = search needs
-
-loop-less : tie.Need-loop-less Inv-loop μ-loop
-loop-less c =
-    let block = c .before .before .before .before .before .before .before .before .before .before .before .before .before .before .before .before .before .before .before .before .args .block .now in
-    let at = c .before .before .before .before .before .before .before .before .before .before .before .before .before .before .before .loop .at in
-    let here = c .before .before .before .before .before .before .before .before .before .before .before .before .before .before .loop-test .taken in
-    let fed = c .before .before .before .before .before .before .before .before .before .before .feed .ensures in
-    omega (arith, turn-forward block at here _ _ _ _ (fed .0) (fed .1 .0), turn-within block at here _ _ _ _ (fed .0) (fed .1 .0))
-
-loop-again : tie.Need-loop-again Inv-loop μ-loop
-loop-again c =
-    let block = c .before .before .before .before .before .before .before .before .before .before .before .before .before .before .before .before .before .before .before .before .args .block .now in
-    let at = c .before .before .before .before .before .before .before .before .before .before .before .before .before .before .before .loop .at in
-    let here = c .before .before .before .before .before .before .before .before .before .before .before .before .before .before .loop-test .taken in
-    let fed = c .before .before .before .before .before .before .before .before .before .before .feed .ensures in (
-      turn-within block at here _ _ _ _ (fed .0) (fed .1 .0),
-      search needs,
-      search needs,
-      search needs,
-      c .before .before .before .before .before .before .before .before .before .before .before .before .before .before .before .loop .inv .4 ∙ turn-on block at here _ _ _ _ (fed .0) (fed .1 .0),
-    )
+write-answers-requires : tie.Need-write-answers-requires Inv-loop μ-loop
+write-answers-requires c κs = search needs
 
 same-length : tie.Need-same-length Inv-loop μ-loop
 same-length c = search needs
@@ -65,7 +53,32 @@ same-length-3 : tie.Need-same-length-3 Inv-loop μ-loop
 same-length-3 c = search needs
 
 returns : tie.Need-returns Inv-loop μ-loop
-returns c = (turns-over _ _ _ (c .loop-test .left) ∙ sym (c .before .loop .inv .4), search needs)
+returns c = ((λ e. not-both refl e), search needs)
+
+loop-less : tie.Need-loop-less Inv-loop μ-loop
+loop-less c = omega (arith, forward (c .before .before .before .before .before .before .before .before .before .before .before), c .before .before .before .before .before .before .before .before .before .before .before .before .before .before .before .loop-test .taken)
+
+loop-again : tie.Need-loop-again Inv-loop μ-loop
+loop-again c =
+    let round = c .before .before .before .before .before .before .before .before .before .before .before .gather in
+    let loop = c .before .before .before .before .before .before .before .before .before .before .before .before .before .before .before .before .loop in (
+      round .kept .1 .1 .0 ∙ loop .inv .0,
+      round .kept .1 .1 .1 .0 ∙ loop .inv .1,
+      round .kept .1 .1 .1 .1 .0 ∙ loop .inv .2,
+      loop .inv .3 ∙ round-on _ _ _ (c .before .before .before .before .before .before .before .before .before .before .before .before .before .before .before .loop-test .taken) _ _ _ _ _ (round .ensures .0),
+    )
+
+same-length-4 : tie.Need-same-length-4 Inv-loop μ-loop
+same-length-4 c = search needs
+
+same-length-5 : tie.Need-same-length-5 Inv-loop μ-loop
+same-length-5 c = search needs
+
+same-length-6 : tie.Need-same-length-6 Inv-loop μ-loop
+same-length-6 c = search needs
+
+returns-2 : tie.Need-returns-2 Inv-loop μ-loop
+returns-2 c = ((λ e. rounds-over _ _ _ (c .loop-test .left) ∙ sym (c .before .loop .inv .3)), c .before .loop .inv .1)
 
 pub run-block-spec : {M : Type 1} → statement M
 run-block-spec =
@@ -74,13 +87,17 @@ run-block-spec =
     Inv-loop
     μ-loop
     loop-holds
-    feed-requires
-    slice-reshare-prefix-write-all
-    slice-aggregate-write-all
-    write-all-requires
-    loop-less
-    loop-again
+    gather-requires
+    slice-reshare-prefix-write-answers
+    slice-aggregate-write-answers
+    write-answers-requires
     same-length
     same-length-2
     same-length-3
-    returns)
+    returns
+    loop-less
+    loop-again
+    same-length-4
+    same-length-5
+    same-length-6
+    returns-2)
