@@ -1,4 +1,5 @@
--- The rules of specs/Worked.antt have the numbers that stand there, by computation. Assumes nothing.
+-- The rules of specs/Worked.antt have the numbers that stand there, by computation. Assumes
+-- nothing.
 use mathlib.Core.Path.{_≡_, refl}
 use mathlib.Core.List.{List, [], _∷_}
 use mathlib.Core.Option.{Option}

@@ -22,14 +22,19 @@ use Rattle.rulecheck.proofs.Targets.{targets-law, stray-law}
 module _ (n i f : ℕ) where
   pub masks-law : (badMasks n i f ≡ false) ↔ ((i < 2 ^ n) × (f < 2 ^ n))
   masks-law = (
-    (λ e. (leb-false (2 ^ n) i (or-left (beyond n i) (beyond n f) e), leb-false (2 ^ n) f (or-right (beyond n i) (beyond n f) e))),
+    (λ e. (
+      leb-false (2 ^ n) i (or-left (beyond n i) (beyond n f) e),
+      leb-false (2 ^ n) f (or-right (beyond n i) (beyond n f) e),
+    )),
     λ x. or-neither (beyond n i) (beyond n f) (lt-leb (2 ^ n) i (x .0)) (lt-leb (2 ^ n) f (x .1)),
   )
 
   pub is-beyond : (badMasks n i f ≡ true) ↔ ((2 ^ n ≤ i) ⊎ (2 ^ n ≤ f))
   is-beyond = (
-    (λ e. by-test (beyond n i) (λ t. inl (leb-true (2 ^ n) i t)) (λ t. inr (leb-true (2 ^ n) f (rw t at e)))),
-    λ b. or-either (beyond n i) (beyond n f) (⊎-elim (λ l. inl (le-leb (2 ^ n) i l)) (λ l. inr (le-leb (2 ^ n) f l)) b),
+    (λ e. by-test (beyond n i) (λ t. inl (leb-true (2 ^ n) i t))
+        (λ t. inr (leb-true (2 ^ n) f (rw t at e)))),
+    λ b. or-either (beyond n i) (beyond n f)
+        (⊎-elim (λ l. inl (le-leb (2 ^ n) i l)) (λ l. inr (le-leb (2 ^ n) f l)) b),
   )
 
 -- ---- none holds
@@ -55,7 +60,11 @@ passes r l = (
           outside-law 1 16 (r .k) .1 (w .symbols),
           (
             masks-law (r .n) (r .initials) (r .finals) .1 (w .initials-below, w .finals-below),
-            (targets-law (r .targets) (r .n) (r .k) l .1 (λ q s. (w .targets-below q s, w .zero-outside q s)), tt),
+            (
+              targets-law (r .targets) (r .n) (r .k) l .1
+                  (λ q s. (w .targets-below q s, w .zero-outside q s)),
+              tt,
+            ),
           ),
         ),
       ),
@@ -75,13 +84,20 @@ module _ (r : Rule) where
   abbrev pub from-4 : List Condition
   from-4 = on 4 (badSymbolCount (r .k)) ∷ from-6
 
-  past-3 : (x : ℕ) {A : Type 0} → eqb 3 x ≡ false → (firstOf from-4 ≡ some x) ↔ A → (ruleNumber r ≡ some x) ↔ (StatesIn r × A)
-  past-3 x other law = Iff·trans (first-past 3 x (badStateCount (r .n)) from-4 other) (both (outside-law 1 32 (r .n)) law)
+  past-3 : (x : ℕ) {A : Type 0} → eqb 3 x ≡ false → (firstOf from-4 ≡ some x) ↔ A
+      → (ruleNumber r ≡ some x) ↔ (StatesIn r × A)
+  past-3 x other law =
+      Iff·trans (first-past 3 x (badStateCount (r .n)) from-4 other)
+      (both (outside-law 1 32 (r .n)) law)
 
-  past-4 : (x : ℕ) {A : Type 0} → eqb 4 x ≡ false → (firstOf from-6 ≡ some x) ↔ A → (firstOf from-4 ≡ some x) ↔ (SymbolsIn r × A)
-  past-4 x other law = Iff·trans (first-past 4 x (badSymbolCount (r .k)) from-6 other) (both (outside-law 1 16 (r .k)) law)
+  past-4 : (x : ℕ) {A : Type 0} → eqb 4 x ≡ false → (firstOf from-6 ≡ some x) ↔ A
+      → (firstOf from-4 ≡ some x) ↔ (SymbolsIn r × A)
+  past-4 x other law =
+      Iff·trans (first-past 4 x (badSymbolCount (r .k)) from-6 other)
+      (both (outside-law 1 16 (r .k)) law)
 
-  past-6 : (x : ℕ) {A : Type 0} → eqb 6 x ≡ false → (firstOf from-8 ≡ some x) ↔ A → (firstOf from-6 ≡ some x) ↔ (MasksIn r × A)
+  past-6 : (x : ℕ) {A : Type 0} → eqb 6 x ≡ false → (firstOf from-8 ≡ some x) ↔ A
+      → (firstOf from-6 ≡ some x) ↔ (MasksIn r × A)
   past-6 x other law =
       Iff·trans (first-past 6 x (badMasks (r .n) (r .initials) (r .finals)) from-8 other)
       (both (masks-law (r .n) (r .initials) (r .finals)) law)
@@ -90,14 +106,18 @@ module _ (r : Rule) where
   unfolding named
   refused = record {
     number-3 = Iff·trans (first-here 3 (badStateCount (r .n)) from-4 refl) (is-outside 1 32 (r .n));
-    number-4 = past-3 4 refl (Iff·trans (first-here 4 (badSymbolCount (r .k)) from-6 refl) (is-outside 1 16 (r .k)));
+    number-4 =
+        past-3 4 refl
+        (Iff·trans (first-here 4 (badSymbolCount (r .k)) from-6 refl) (is-outside 1 16 (r .k)));
     number-6 =
         let here =
-        Iff·trans (first-here 6 (badMasks (r .n) (r .initials) (r .finals)) from-8 refl) (is-beyond (r .n) (r .initials) (r .finals)) in
+        Iff·trans (first-here 6 (badMasks (r .n) (r .initials) (r .finals)) from-8 refl)
+        (is-beyond (r .n) (r .initials) (r .finals)) in
         let law = past-3 6 refl (past-4 6 refl here) in
         ((λ e. let x = law .0 e in (x .0, x .1 .0, x .1 .1)), λ x. law .1 (x .0, (x .1, x .2)));
     number-8 =
-        let here = Iff·trans (first-here 8 (badTargets (r .n) (r .k) (r .targets)) [] refl) (stray-law r) in
+        let here =
+        Iff·trans (first-here 8 (badTargets (r .n) (r .k) (r .targets)) [] refl) (stray-law r) in
         let law = past-3 8 refl (past-4 8 refl (past-6 8 refl here)) in (
           (λ e. let x = law .0 e in (x .0, x .1 .0, x .1 .1 .0, x .1 .1 .1)),
           λ x. law .1 (x .0, (x .1, (x .2, x .3))),

@@ -1,5 +1,5 @@
--- The laws of condition 8: what a bad target mask is, by the kind of its cell and in words, and that
--- no cell is bad exactly where every target mask is as in a well-formed rule. Assumes nothing.
+-- The laws of condition 8: what a bad target mask is, by the kind of its cell and in words, and
+-- that no cell is bad exactly where every target mask is as in a well-formed rule. Assumes nothing.
 --
 --   kept-cell, own-cell   the test of a mask that is kept for no state or symbol, and of another
 --   bad-law, good-law     what the test says, and what it says where it fails
@@ -37,13 +37,15 @@ module _ (n k q s : ℕ) where
   Kept = (n ≤ q) ⊎ (k ≤ s)
 
   kept-true : Kept → (leb n q || leb k s) ≡ true
-  kept-true o = or-either (leb n q) (leb k s) (⊎-elim (λ l. inl (le-leb n q l)) (λ l. inr (le-leb k s l)) o)
+  kept-true o =
+      or-either (leb n q) (leb k s) (⊎-elim (λ l. inl (le-leb n q l)) (λ l. inr (le-leb k s l)) o)
 
   pub kept-cell : (m : ℕ) → Kept → badTarget n k q s m ≡ not (eqb m 0)
   kept-cell m o =
       rw (kept-true o)
       (by-test (eqb m 0)
-      (λ e. rw (e, or-false (beyond n m)) (lt-leb (2 ^ n) m (omega (arith, eqb-true m 0 e, pow-pos n))))
+      (λ e. rw (e, or-false (beyond n m))
+      (lt-leb (2 ^ n) m (omega (arith, eqb-true m 0 e, pow-pos n))))
       (λ e. rw (e, or-true (beyond n m))))
 
   pub own-cell : (m : ℕ) → q < n → s < k → badTarget n k q s m ≡ beyond n m
@@ -62,7 +64,8 @@ module _ (n k q s : ℕ) where
     λ g.
         by-test (leb n q || leb k s)
         (λ t.
-        let z : m ≡ 0 = g .1 (by-test (leb n q) (λ a. inl (leb-true n q a)) (λ a. inr (leb-true k s (rw a at t)))) in
+        let z : m ≡ 0 = g .1
+        (by-test (leb n q) (λ a. inl (leb-true n q a)) (λ a. inr (leb-true k s (rw a at t)))) in
         rw (t, eq-eqb m 0 z, or-false (beyond n m)) (lt-leb (2 ^ n) m (g .0)))
         (λ t. rw (t, or-false (beyond n m)) (lt-leb (2 ^ n) m (g .0))),
   )
@@ -98,7 +101,8 @@ module _ (ts : List ℕ) where
       rw (lt-ltb (cell % 16) 16 (omega arith)) (ap (λ (x : ℕ). getD ts x 0) e)
 
   -- the test of the cell of a state and a symbol
-  cell-test : (n k q s : ℕ) → s < 16 → badCell n k ts (cellOf q s) ≡ badTarget n k q s (targetMask ts q s)
+  cell-test : (n k q s : ℕ) → s < 16
+      → badCell n k ts (cellOf q s) ≡ badTarget n k q s (targetMask ts q s)
   cell-test n k q s h =
       let row : (q * 16 + s) / 16 ≡ q = omega arith in
       let col : (q * 16 + s) % 16 ≡ s = omega arith in
@@ -115,7 +119,8 @@ module _ (ts : List ℕ) where
       (λ t. rw t)
 
   module _ (n k : ℕ) where
-    good-at : badTargets n k ts ≡ false → length ts ≡ 512 → (q s : ℕ) → Good n k q s (targetMask ts q s)
+    good-at : badTargets n k ts ≡ false → length ts ≡ 512 → (q s : ℕ)
+        → Good n k q s (targetMask ts q s)
     unfolding badTargets
     good-at e l q s =
         by-test (ltb s 16)
@@ -124,7 +129,8 @@ module _ (ts : List ℕ) where
         by-test (ltb q 32)
         (λ u.
         let hq = ltb-true q 32 u in
-        good-law n k q s (targetMask ts q s) .0 (sym (cell-test n k q s hs) ∙ none-at (badCell n k ts) 512 (cellOf q s) e (omega arith)))
+        good-law n k q s (targetMask ts q s) .0
+        (sym (cell-test n k q s hs) ∙ none-at (badCell n k ts) 512 (cellOf q s) e (omega arith)))
         (λ u. none-there q s (no-state q s l (ltb-false q 32 u))))
         (λ t. none-there q s (no-symbol q s (ltb-false s 16 t)))
       where
@@ -135,9 +141,11 @@ module _ (ts : List ℕ) where
     unfolding badTargets
     all-good g =
         none-all (badCell n k ts) 512 λ cell h.
-        good-law n k (cell / 16) (cell % 16) (getD ts cell 0) .1 (rw (cell-mask cell) at (g (cell / 16) (cell % 16)))
+        good-law n k (cell / 16) (cell % 16) (getD ts cell 0) .1
+        (rw (cell-mask cell) at (g (cell / 16) (cell % 16)))
 
-    pub targets-law : length ts ≡ 512 → (badTargets n k ts ≡ false) ↔ ((q s : ℕ) → Good n k q s (targetMask ts q s))
+    pub targets-law : length ts ≡ 512
+        → (badTargets n k ts ≡ false) ↔ ((q s : ℕ) → Good n k q s (targetMask ts q s))
     targets-law l = (λ e. good-at e l, all-good)
 
 -- some cell is bad
@@ -151,10 +159,14 @@ stray-law r = (
         symbol = x .0 % 16;
         row = omega (arith, x .1);
         column = omega arith;
-        bad = rw (cell-mask (r .targets) (x .0)) (bad-law (r .n) (r .k) (x .0 / 16) (x .0 % 16) (getD (r .targets) (x .0) 0) .0 (x .2));
+        bad =
+            rw (cell-mask (r .targets) (x .0))
+            (bad-law (r .n) (r .k) (x .0 / 16) (x .0 % 16) (getD (r .targets) (x .0) 0) .0 (x .2));
       }),
   λ s.
-      any-at (badCell (r .n) (r .k) (r .targets)) 512 (cellOf (s .state) (s .symbol)) (omega (arith, s .row, s .column))
+      any-at (badCell (r .n) (r .k) (r .targets)) 512 (cellOf (s .state) (s .symbol))
+      (omega (arith, s .row, s .column))
       (cell-test (r .targets) (r .n) (r .k) (s .state) (s .symbol) (s .column)
-      ∙ bad-law (r .n) (r .k) (s .state) (s .symbol) (targetMask (r .targets) (s .state) (s .symbol)) .1 (s .bad)),
+      ∙ bad-law (r .n) (r .k) (s .state) (s .symbol)
+      (targetMask (r .targets) (s .state) (s .symbol)) .1 (s .bad)),
 )

@@ -17,7 +17,8 @@ use Rattle.automaton.specs.Rules.{cellOf}
 use Rattle.rulecheck.specs.Checking.{ruleNumber}
 
 abbrev pub rule : ℕ → ℕ → ℕ → ℕ → List ℕ → Rule
-rule n k initials finals targets = record { n = n; k = k; initials = initials; finals = finals; targets = targets }
+rule n k initials finals targets =
+    record { n = n; k = k; initials = initials; finals = finals; targets = targets }
 
 -- no arcs
 abbrev pub noTargets : List ℕ

@@ -16,15 +16,18 @@ Inv-loop n k targets cell₀ cell = (cell ≤ 512) × (anyBelow (badCell n k tar
 abbrev μ-loop : tie.MeasureT-loop
 μ-loop n k targets cell₀ cell = 512 - cell
 
-bad-at : (n k cell : ℕ) (ts : List ℕ) {t : Bool} → cell < 512 → t ≡ badCell n k ts cell → t ≡ true → badTargets n k ts ≡ true
+bad-at : (n k cell : ℕ) (ts : List ℕ) {t : Bool} → cell < 512 → t ≡ badCell n k ts cell → t ≡ true
+    → badTargets n k ts ≡ true
 unfolding badTargets
 bad-at n k cell ts h e f = any-at (badCell n k ts) 512 cell h (sym e ∙ f)
 
-none-more-bad : (n k cell : ℕ) (ts : List ℕ) {t : Bool} → anyBelow (badCell n k ts) cell ≡ false → t ≡ badCell n k ts cell → t ≡ false
+none-more-bad : (n k cell : ℕ) (ts : List ℕ) {t : Bool} → anyBelow (badCell n k ts) cell ≡ false
+    → t ≡ badCell n k ts cell → t ≡ false
     → anyBelow (badCell n k ts) (cell + 1) ≡ false
 none-more-bad n k cell ts before e f = none-more (badCell n k ts) cell before (sym e ∙ f)
 
-none-bad : (n k : ℕ) (ts : List ℕ) → anyBelow (badCell n k ts) 512 ≡ false → badTargets n k ts ≡ false
+none-bad : (n k : ℕ) (ts : List ℕ) → anyBelow (badCell n k ts) 512 ≡ false
+    → badTargets n k ts ≡ false
 unfolding badTargets
 none-bad n k ts e = e
 
@@ -44,7 +47,8 @@ returns : tie.Need-returns Inv-loop μ-loop
 returns c =
     let a = c .before .before .before .before .before .args in
     let x = c .before .before .before .before .loop in
-    sym (bad-at (a .n) (a .k) (x .cell) (a .targets .now) (omega arith) (c .before .bad-target .ensures) (c .if1 .taken))
+    sym (bad-at (a .n) (a .k) (x .cell) (a .targets .now) (omega arith)
+    (c .before .bad-target .ensures) (c .if1 .taken))
 
 add-cell : tie.Need-add-cell Inv-loop μ-loop
 add-cell c = omega arith
@@ -57,7 +61,8 @@ loop-again c =
     let a = c .before .before .before .before .before .args in
     let x = c .before .before .before .before .loop in (
       omega arith,
-      none-more-bad (a .n) (a .k) (x .cell) (a .targets .now) (x .inv .1) (c .before .bad-target .ensures) (c .if1 .left),
+      none-more-bad (a .n) (a .k) (x .cell) (a .targets .now) (x .inv .1)
+          (c .before .bad-target .ensures) (c .if1 .left),
     )
 
 returns-2 : tie.Need-returns-2 Inv-loop μ-loop

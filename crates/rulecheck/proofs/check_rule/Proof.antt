@@ -27,19 +27,25 @@ module _ (r : Rule) {t3 : Bool} (e3 : t3 ≡ badStateCount (r .n)) where
     past-4 : t4 ≡ false → firstOf (from-6 r) ≡ ruleNumber r
     past-4 h = sym (skips 4 (badSymbolCount (r .k)) (firstOf (from-6 r)) (sym e4 ∙ h)) ∙ past-3 h3
 
-    module _ (h4 : t4 ≡ false) {t6 : Bool} (e6 : t6 ≡ badMasks (r .n) (r .initials) (r .finals)) where
+    module _ (h4 : t4 ≡ false) {t6 : Bool}
+        (e6 : t6 ≡ badMasks (r .n) (r .initials) (r .finals)) where
       on-6 : t6 ≡ true → some 6 ≡ ruleNumber r
-      on-6 h = sym (holds 6 (badMasks (r .n) (r .initials) (r .finals)) (firstOf (from-8 r)) (sym e6 ∙ h)) ∙ past-4 h4
+      on-6 h =
+          sym (holds 6 (badMasks (r .n) (r .initials) (r .finals)) (firstOf (from-8 r))
+          (sym e6 ∙ h)) ∙ past-4 h4
 
       past-6 : t6 ≡ false → firstOf (from-8 r) ≡ ruleNumber r
-      past-6 h = sym (skips 6 (badMasks (r .n) (r .initials) (r .finals)) (firstOf (from-8 r)) (sym e6 ∙ h)) ∙ past-4 h4
+      past-6 h =
+          sym (skips 6 (badMasks (r .n) (r .initials) (r .finals)) (firstOf (from-8 r))
+          (sym e6 ∙ h)) ∙ past-4 h4
 
       module _ (h6 : t6 ≡ false) {t8 : Bool} (e8 : t8 ≡ badTargets (r .n) (r .k) (r .targets)) where
         on-8 : t8 ≡ true → some 8 ≡ ruleNumber r
         on-8 h = sym (holds 8 (badTargets (r .n) (r .k) (r .targets)) none (sym e8 ∙ h)) ∙ past-6 h6
 
         past-8 : t8 ≡ false → none ≡ ruleNumber r
-        past-8 h = sym (skips 8 (badTargets (r .n) (r .k) (r .targets)) none (sym e8 ∙ h)) ∙ past-6 h6
+        past-8 h =
+            sym (skips 8 (badTargets (r .n) (r .k) (r .targets)) none (sym e8 ∙ h)) ∙ past-6 h6
 
 cast-n : tie.Need-cast-n
 cast-n c = search needs
@@ -59,7 +65,8 @@ outside-requires-2 c κs = search needs
 returns-2 : tie.Need-returns-2
 returns-2 c =
     let b = c .before .before in
-    on-4 (b .before .before .args .t1) (b .before .outside .ensures) (b .if1 .left) (c .before .outside2 .ensures) (c .if2 .taken)
+    on-4 (b .before .before .args .t1) (b .before .outside .ensures) (b .if1 .left)
+    (c .before .outside2 .ensures) (c .if2 .taken)
 
 bad-masks-requires : tie.Need-bad-masks-requires
 bad-masks-requires c κs = search needs
@@ -68,7 +75,8 @@ returns-3 : tie.Need-returns-3
 returns-3 c =
     let d = c .before .before in
     let b = d .before .before in
-    on-6 (b .before .before .args .t1) (b .before .outside .ensures) (b .if1 .left) (d .before .outside2 .ensures) (d .if2 .left)
+    on-6 (b .before .before .args .t1) (b .before .outside .ensures) (b .if1 .left)
+    (d .before .outside2 .ensures) (d .if2 .left)
     (c .before .bad-masks .ensures) (c .if3 .taken)
 
 bad-targets-requires : tie.Need-bad-targets-requires
@@ -79,7 +87,8 @@ returns-4 c =
     let e = c .before .before .before .before in
     let d = e .before .before in
     let b = d .before .before in
-    on-8 (b .before .before .args .t1) (b .before .outside .ensures) (b .if1 .left) (d .before .outside2 .ensures) (d .if2 .left)
+    on-8 (b .before .before .args .t1) (b .before .outside .ensures) (b .if1 .left)
+    (d .before .outside2 .ensures) (d .if2 .left)
     (e .before .bad-masks .ensures) (e .if3 .left) (c .before .bad-targets .ensures) (c .if4 .taken)
 
 returns-5 : tie.Need-returns-5
@@ -87,7 +96,8 @@ returns-5 c =
     let e = c .before .before .before .before in
     let d = e .before .before in
     let b = d .before .before in
-    past-8 (b .before .before .args .t1) (b .before .outside .ensures) (b .if1 .left) (d .before .outside2 .ensures) (d .if2 .left)
+    past-8 (b .before .before .args .t1) (b .before .outside .ensures) (b .if1 .left)
+    (d .before .outside2 .ensures) (d .if2 .left)
     (e .before .bad-masks .ensures) (e .if3 .left) (c .before .bad-targets .ensures) (c .if4 .left)
 
 pub check-rule-spec : {M : Type 1} → statement M
