@@ -1,5 +1,10 @@
 -- The laws of the conditions of a rule: none holds exactly where the rule is well formed, and which
 -- number it has otherwise. Assumes nothing.
+--
+--   masks-law, is-beyond    both masks are within the states; one is not
+--   passes                  no condition holds
+--   from-4, from-6, from-8  the conditions from the one with that number on
+--   refused                 which number the rule has
 use mathlib.Core.Path.{_≡_, refl, sym}
 use mathlib.Core.Logic.{_↔_, _⊎_, inl, inr, ⊎-elim, Iff·trans}
 use mathlib.Core.Bool.{Bool, true, false, _||_}

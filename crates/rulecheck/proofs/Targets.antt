@@ -1,7 +1,8 @@
 -- The laws of condition 8: what a bad target mask is, by the kind of its cell and in words, and
 -- that no cell is bad exactly where every target mask is as in a well-formed rule. Assumes nothing.
 --
---   kept-cell, own-cell   the test of a mask that is kept for no state or symbol, and of another
+--   kept-cell, own-cell   the test of a mask that is kept for a state or symbol outside n or k, and
+--                         of any other
 --   bad-law, good-law     what the test says, and what it says where it fails
 --   cell-mask             a cell is the target mask of its state and symbol
 --   targets-law           no cell is bad

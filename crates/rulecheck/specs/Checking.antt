@@ -8,6 +8,7 @@
 --   badMasks n i f      6: a mask with a bit at n or above
 --   badTarget .. m      the target mask m of state q and symbol s has a bit at n or above, or it is
 --                       kept for a state or symbol outside n or k and is not 0
+--   badCell n k ts c    the mask in cell c of the table is bad
 --   badTargets n k ts   8: some target mask is bad
 --   ruleConditions r    the conditions of the rule, in order
 --   ruleNumber r        the number of the first that holds, none where the rule is well formed

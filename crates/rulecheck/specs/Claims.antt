@@ -2,6 +2,7 @@
 -- proofs/Claims.antt proves it.
 --
 --   Stray r             a target mask is bad: that of a state and a symbol of the table
+--   StatesIn, SymbolsIn, MasksIn   n is 1 to 32, k is 1 to 16, both masks are below 2 ^ n
 --   Refused-exactly r   which number the rule has, condition by condition
 use mathlib.Core.Path.{_≡_}
 use mathlib.Core.Logic.{_↔_, _⊎_}

@@ -2,7 +2,8 @@
 -- rule is as near to one that passes as can be. proofs/Examples.antt proves the claim.
 --
 --   rule n k i f ts   the rule with these fields
---   ruleA             rule A of document 01, "Two rules by hand"
+--   noTargets         a table without arcs
+--   ruleA, targetsA   rule A of document 01, "Two rules by hand", and its table
 --   case r number     the rule r and its number, none where it passes
 --   rules             the list
 --   Answered cases    each rule has the number beside it
@@ -20,7 +21,6 @@ abbrev pub rule : ℕ → ℕ → ℕ → ℕ → List ℕ → Rule
 rule n k initials finals targets =
     record { n = n; k = k; initials = initials; finals = finals; targets = targets }
 
--- no arcs
 abbrev pub noTargets : List ℕ
 noTargets = replicate targetCells 0
 
