@@ -1,5 +1,5 @@
--- `bad_target` meets its contract: a mask kept for a state or symbol outside n or k has to be 0, any
--- other below 2 ^ n. Assumes nothing.
+-- `bad_target` meets its contract: a mask kept for a state or symbol outside n or k has to be 0,
+-- any other below 2 ^ n. Assumes nothing.
 use mathlib.Core.Logic.{inl, inr}
 use mathlib.Core.Path.{_≡_, sym, _∙_}
 use borrow.Author.Needs.{needs}
