@@ -2,9 +2,9 @@
 ghost use mathlib.Core.Path.{_≡_};
 ghost use mathlib.Core.Bool.{false, cond};
 ghost use mathlib.Core.Option.{none};
-ghost use Prim.Native.Nat.{ℕ, _+_, _*_, _/_, _%_, _^_, _≤_, _<_};
+ghost use Prim.Native.Nat.{ℕ, _+_, _*_, _/_, _%_, _≤_, _<_};
 ghost use lib.Bits.{bitOr};
-ghost use lib.Dec.{eqb, leb};
+ghost use lib.Dec.{eqb};
 ghost use lib.ListN.{length, getD};
 ghost use Rattle.limits.specs.Limits.{mostStates, mostSymbols, targetCells};
 ghost use Rattle.ruleformat.specs.Format.{byteAt, halfAt, wordAt, stateCount};
@@ -39,15 +39,6 @@ fn word(file: &[u8], at: usize) -> u32
     let low = half(file, at);
     let high = half(file, at + 2);
     (low + 65536 * high) as u32
-}
-
-// The set has a state at n or above.
-fn beyond(set: u32, n: usize) -> bool
-    requires { ⌜ n ≤ mostStates ⌝ }
-    ensures { λ r. ⌜ r ≡ leb (2 ^ n) set ⌝ }
-{
-    let wide = set as u64;
-    wide >> n != 0
 }
 
 // Condition 7: some pair breaks the pair rule, or the last section does not end at the file's end.
@@ -132,26 +123,19 @@ fn check(file: &[u8]) -> ReadAnswer
         return ReadAnswer::Refused(2);
     }
     let n = byte(file, 0);
-    if n < 1 {
-        return ReadAnswer::Refused(3);
-    }
-    if limits::STATES < n {
+    if rulecheck::outside(n, limits::STATES) {
         return ReadAnswer::Refused(3);
     }
     let k = byte(file, 1);
-    if k < 1 {
-        return ReadAnswer::Refused(4);
-    }
-    if limits::SYMBOLS < k {
+    if rulecheck::outside(k, limits::SYMBOLS) {
         return ReadAnswer::Refused(4);
     }
     if len < 10 + 4 * n {
         return ReadAnswer::Refused(5);
     }
-    if beyond(word(file, 2), n) {
-        return ReadAnswer::Refused(6);
-    }
-    if beyond(word(file, 6), n) {
+    let initials = word(file, 2);
+    let finals = word(file, 6);
+    if rulecheck::bad_masks(n, initials, finals) {
         return ReadAnswer::Refused(6);
     }
     if pairs_break(file) {

@@ -8,11 +8,12 @@ use native.Mathlib.Omega.{arith}
 use lib.ListN.{length, drop, length-append}
 use Rattle.base.specs.Conditions.{anyBelow}
 use Rattle.base.specs.Lists.{joined}
+use Rattle.base.proofs.Conditions.{holds, skips}
 use Rattle.ruleformat.specs.Refusals.{tooShort, tooLong, badStates, badSymbols, noRoom, badMask, badPairs, badSection, badArcs, refusal}
 use Rattle.ruleformat.specs.Writing.{fileOf}
 use Rattle.ruleformat.specs.Worked.{fullRule}
 use Rattle.ruleformat.specs.Cases.{Case, case, files, Answered}
-use Rattle.ruleformat.proofs.Refused.{not-short, long, from-1, from-2, from-3, holds, skips}
+use Rattle.ruleformat.proofs.Refused.{not-short, long, from-1, from-2, from-3}
 use Rattle.ruleformat.proofs.Written.{file-accepted}
 use Rattle.ruleformat.proofs.Longest.{well-formed, length-full}
 

@@ -8,7 +8,7 @@ use Prim.Native.Nat.{ℕ, zero, suc, _+_, _*_, _/_, _%_, _^_, _≤_, _<_}
 use native.Mathlib.Omega.{arith}
 use lib.ListN.{length, getD, take, drop, length-append}
 use lib.Pow.{pow-mono}
-use borrow.Author.Tests.{lt-leb, eq-eqb}
+use borrow.Author.Tests.{eq-eqb}
 use Rattle.base.specs.Lists.{joined}
 use Rattle.base.proofs.Conditions.{none-all, none-law}
 use Rattle.base.proofs.Lists.{joined-none, joined-suc, length-exact, joined-length, joined-split, part-at, part-byte}
@@ -81,9 +81,7 @@ module _ (n k i f : ℕ) (sections : ℕ → List ℕ) where
       (good : (q : ℕ) → q < n → badSection n k (sections q) ≡ false) where
     good-masks : badMask file ≡ false
     good-masks =
-        refused.good-masks file
-        (lt-leb (2 ^ n) (initialMask file) (rw initial-is small-i))
-        (lt-leb (2 ^ n) (finalMask file) (rw final-is small-f))
+        refused.good-masks file (rw initial-is small-i) (rw final-is small-f)
 
     good-pairs : badPairs file ≡ false
     good-pairs =

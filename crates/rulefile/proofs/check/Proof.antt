@@ -1,58 +1,108 @@
 -- `check` meets its contract: after each test the number is that of the first condition from there
 -- on. Assumes nothing.
-use Rattle.ruleformat.proofs.Refused.{short, not-short, long, not-long, few-states, many-states, good-states, few-symbols, many-symbols, good-symbols, no-room, room, initials-out, finals-out, good-masks, from-1, from-2, from-3, from-4, from-5, from-6, from-7, from-8, holds, skips}
-use Rattle.ruleformat.specs.Refusals.{tooShort, tooLong, badStates, badSymbols, noRoom, badMask, badPairs, badArcs, refusal}
-use Rattle.ruleformat.specs.Format.{stateCount, initialMask, finalMask}
-use lib.Dec.{leb}
-use native.Mathlib.Omega.{arith}
-use Prim.Native.Nat.{ℕ, _^_}
+use mathlib.Core.Bool.{Bool}
+use mathlib.Core.List.{List}
 use mathlib.Core.Option.{none}
-use mathlib.Core.Path.{_≡_, sym, ap₂, _∙_}
+use mathlib.Core.Path.{_≡_, sym, ap, _∙_}
+use Prim.Native.Nat.{ℕ}
+use native.Mathlib.Omega.{arith}
 use borrow.Author.Needs.{needs}
+use Rattle.base.proofs.Conditions.{holds, skips}
+use Rattle.rulecheck.specs.Checking.{badStateCount, badSymbolCount, badMasks}
+use Rattle.ruleformat.specs.Format.{stateCount, symbolCount, initialMask, finalMask}
+use Rattle.ruleformat.specs.Refusals.{tooShort, tooLong, badStates, badSymbols, noRoom, badMask, badPairs, badArcs, refusal}
+use Rattle.ruleformat.proofs.Refused.{short, not-short, long, not-long, states-test, symbols-test, no-room, room, masks-test, from-1, from-2, from-3, from-4, from-5, from-6, from-7, from-8}
 use Rattle.rulefile.proofs.check.Statement.{statement}
 use Rattle.rulefile.proofs.check.Tie as tie
 
-past-1 : (c : tie.Else1) → refusal (c .before .before .args .file .now) ≡ from-2 (c .before .before .args .file .now)
-past-1 c = let f = c .before .before .args .file .now in from-1 f ∙ skips 1 (tooShort f) (from-2 f) (not-short f (c .if1 .left))
+-- ---- what the tests of the numbers in the file say
+states : (f : List ℕ) {n : ℕ} {t : Bool} → n ≡ stateCount f → t ≡ badStateCount n → badStates f ≡ t
+states f e r = states-test f ∙ sym (r ∙ ap badStateCount e)
 
-past-2 : (c : tie.Else2) → refusal (c .before .before .before .args .file .now) ≡ from-3 (c .before .before .before .args .file .now)
-past-2 c = let f = c .before .before .before .args .file .now in past-1 (c .before) ∙ skips 2 (tooLong f) (from-3 f) (not-long f (c .if2 .left))
+symbols : (f : List ℕ) {k : ℕ} {t : Bool} → k ≡ symbolCount f → t ≡ badSymbolCount k
+    → badSymbols f ≡ t
+symbols f e r = symbols-test f ∙ sym (r ∙ ap badSymbolCount e)
 
-past-3 : (c : tie.Else4) → refusal (c .before .before .before .before .before .before .args .file .now) ≡ from-4 (c .before .before .before .before .before .before .args .file .now)
+masks : (f : List ℕ) {n i m : ℕ} {t : Bool} → n ≡ stateCount f → i ≡ initialMask f → m ≡ finalMask f
+    → t ≡ badMasks n i m → badMask f ≡ t
+masks f en ei em r = masks-test f ∙ sym (rw (en, ei, em) at r)
+
+-- ---- the file, once a condition is passed
+abbrev file-1 : tie.Else1 → List ℕ
+file-1 c = c .before .before .args .file .now
+
+abbrev file-2 : tie.Else2 → List ℕ
+file-2 c = file-1 (c .before)
+
+abbrev file-3 : tie.Else3 → List ℕ
+file-3 c = file-2 (c .before .before .before)
+
+abbrev file-4 : tie.Else4 → List ℕ
+file-4 c = file-3 (c .before .before .before)
+
+abbrev file-5 : tie.Else5 → List ℕ
+file-5 c = file-4 (c .before)
+
+abbrev file-6 : tie.Else6 → List ℕ
+file-6 c = file-5 (c .before .before .before .before)
+
+abbrev file-7 : tie.Else7 → List ℕ
+file-7 c = file-6 (c .before .before)
+
+-- n is the number of states
+count : (c : tie.Else4)
+    → c .before .before .before .before .before .byte .result ≡ stateCount (file-4 c)
+count c = c .before .before .before .before .before .byte .ensures .0
+
+past-1 : (c : tie.Else1) → refusal (file-1 c) ≡ from-2 (file-1 c)
+past-1 c =
+    let f = file-1 c in from-1 f ∙ skips 1 (tooShort f) (from-2 f) (not-short f (c .if1 .left))
+
+past-2 : (c : tie.Else2) → refusal (file-2 c) ≡ from-3 (file-2 c)
+past-2 c =
+    let f = file-2 c in past-1 (c .before) ∙ skips 2 (tooLong f) (from-3 f)
+    (not-long f (c .if2 .left))
+
+past-3 : (c : tie.Else3) → refusal (file-3 c) ≡ from-4 (file-3 c)
 past-3 c =
-    let f = c .before .before .before .before .before .before .args .file .now in
-    let n = c .before .before .byte .ensures .0 in
-    past-2 (c .before .before .before) ∙ skips 3 (badStates f) (from-4 f) (good-states f (rw n at (c .before .if3 .left)) (rw n at (c .if4 .left)))
+    let f = file-3 c in
+    let b = c .before in
+    past-2 (b .before .before) ∙ skips 3 (badStates f) (from-4 f)
+    (states f (b .before .byte .ensures .0) (b .outside .ensures) ∙ c .if3 .left)
 
-past-4 : (c : tie.Else6) → refusal (c .before .before .before .before .before .before .before .before .before .args .file .now) ≡ from-5 (c .before .before .before .before .before .before .before .before .before .args .file .now)
+past-4 : (c : tie.Else4) → refusal (file-4 c) ≡ from-5 (file-4 c)
 past-4 c =
-    let f = c .before .before .before .before .before .before .before .before .before .args .file .now in
-    let k = c .before .before .byte2 .ensures .0 in
-    past-3 (c .before .before .before) ∙ skips 4 (badSymbols f) (from-5 f) (good-symbols f (rw k at (c .before .if5 .left)) (rw k at (c .if6 .left)))
+    let f = file-4 c in
+    let b = c .before in
+    past-3 (b .before .before) ∙ skips 4 (badSymbols f) (from-5 f)
+    (symbols f (b .before .byte2 .ensures .0) (b .outside2 .ensures) ∙ c .if4 .left)
 
-past-5 : (c : tie.Else7) → refusal (c .before .before .before .before .before .before .before .before .before .before .args .file .now) ≡ from-6 (c .before .before .before .before .before .before .before .before .before .before .args .file .now)
+past-5 : (c : tie.Else5) → refusal (file-5 c) ≡ from-6 (file-5 c)
 past-5 c =
-    let f = c .before .before .before .before .before .before .before .before .before .before .args .file .now in
-    past-4 (c .before) ∙ skips 5 (noRoom f) (from-6 f) (room f (omega (arith, c .if7 .left, c .before .before .before .before .before .before .byte .ensures .0)))
+    let f = file-5 c in
+    past-4 (c .before) ∙ skips 5 (noRoom f) (from-6 f)
+    (room f (omega (arith, c .if5 .left, count (c .before))))
 
--- what the tests of the two masks say
-initials : (c : tie.After-beyond) → leb (2 ^ stateCount (c .before .before .before .before .before .before .before .before .before .before .before .before .args .file .now)) (initialMask (c .before .before .before .before .before .before .before .before .before .before .before .before .args .file .now)) ≡ c .beyond .result
-initials c = sym (c .beyond .ensures ∙ ap₂ (λ (n m : ℕ). leb (2 ^ n) m) (c .before .before .before .before .before .before .before .before .byte .ensures .0) (c .before .word .ensures))
+bad-masks : (c : tie.After-bad-masks)
+    → badMask (file-5 (c .before .before .before)) ≡ c .bad-masks .result
+bad-masks c =
+    masks (file-5 (c .before .before .before)) (count (c .before .before .before .before))
+    (c .before .before .word .ensures)
+    (c .before .word2 .ensures) (c .bad-masks .ensures)
 
-finals : (c : tie.After-beyond2) → leb (2 ^ stateCount (c .before .before .before .before .before .before .before .before .before .before .before .before .before .before .before .args .file .now)) (finalMask (c .before .before .before .before .before .before .before .before .before .before .before .before .before .before .before .args .file .now)) ≡ c .beyond2 .result
-finals c = sym (c .beyond2 .ensures ∙ ap₂ (λ (n m : ℕ). leb (2 ^ n) m) (c .before .before .before .before .before .before .before .before .before .before .before .byte .ensures .0) (c .before .word2 .ensures))
-
-past-6 : (c : tie.Else9) → refusal (c .before .before .before .before .before .before .before .before .before .before .before .before .before .before .before .before .args .file .now) ≡ from-7 (c .before .before .before .before .before .before .before .before .before .before .before .before .before .before .before .before .args .file .now)
+past-6 : (c : tie.Else6) → refusal (file-6 c) ≡ from-7 (file-6 c)
 past-6 c =
-    let f = c .before .before .before .before .before .before .before .before .before .before .before .before .before .before .before .before .args .file .now in
-    past-5 (c .before .before .before .before .before .before)
-    ∙ skips 6 (badMask f) (from-7 f) (good-masks f (initials (c .before .before .before .before) ∙ c .before .before .before .if8 .left) (finals (c .before) ∙ c .if9 .left))
+    let f = file-6 c in
+    past-5 (c .before .before .before .before) ∙ skips 6 (badMask f) (from-7 f)
+    (bad-masks (c .before) ∙ c .if6 .left)
 
-past-7 : (c : tie.Else10) → refusal (c .before .before .before .before .before .before .before .before .before .before .before .before .before .before .before .before .before .before .args .file .now) ≡ from-8 (c .before .before .before .before .before .before .before .before .before .before .before .before .before .before .before .before .before .before .args .file .now)
+past-7 : (c : tie.Else7) → refusal (file-7 c) ≡ from-8 (file-7 c)
 past-7 c =
-    let f = c .before .before .before .before .before .before .before .before .before .before .before .before .before .before .before .before .before .before .args .file .now in
-    past-6 (c .before .before) ∙ skips 7 (badPairs f) (from-8 f) (sym (c .before .pairs-break .ensures) ∙ c .if10 .left)
+    let f = file-7 c in
+    past-6 (c .before .before) ∙ skips 7 (badPairs f) (from-8 f)
+    (sym (c .before .pairs-break .ensures) ∙ c .if7 .left)
 
+-- ---- the needs
 returns : tie.Need-returns
 returns c =
     let f = c .before .before .args .file .now in
@@ -60,89 +110,91 @@ returns c =
 
 returns-2 : tie.Need-returns-2
 returns-2 c =
-    let f = c .before .before .before .args .file .now in
+    let f = file-1 (c .before) in
     sym (past-1 (c .before) ∙ holds 2 (tooLong f) (from-3 f) (long f (c .if2 .taken)))
 
 byte-requires : tie.Need-byte-requires
 byte-requires c κs = search needs
 
+outside-requires : tie.Need-outside-requires
+outside-requires c κs = search needs
+
 returns-3 : tie.Need-returns-3
 returns-3 c =
-    let f = c .before .before .before .before .before .args .file .now in
-    sym (past-2 (c .before .before) ∙ holds 3 (badStates f) (from-4 f) (few-states f (rw (c .before .byte .ensures .0) at (c .if3 .taken))))
-
-returns-4 : tie.Need-returns-4
-returns-4 c =
-    let f = c .before .before .before .before .before .before .args .file .now in
-    sym (past-2 (c .before .before .before) ∙ holds 3 (badStates f) (from-4 f) (many-states f (rw (c .before .before .byte .ensures .0) at (c .if4 .taken))))
+    let b = c .before in
+    let f = file-2 (b .before .before) in
+    sym (past-2 (b .before .before) ∙ holds 3 (badStates f) (from-4 f)
+    (states f (b .before .byte .ensures .0) (b .outside .ensures) ∙ c .if3 .taken))
 
 byte-requires-2 : tie.Need-byte-requires-2
 byte-requires-2 c κs = search needs
 
+outside-requires-2 : tie.Need-outside-requires-2
+outside-requires-2 c κs = search needs
+
+returns-4 : tie.Need-returns-4
+returns-4 c =
+    let b = c .before in
+    let f = file-3 (b .before .before) in
+    sym (past-3 (b .before .before) ∙ holds 4 (badSymbols f) (from-5 f)
+    (symbols f (b .before .byte2 .ensures .0) (b .outside2 .ensures) ∙ c .if4 .taken))
+
+mul-if5 : tie.Need-mul-if5
+mul-if5 c = search needs
+
+add-if5 : tie.Need-add-if5
+add-if5 c = search needs
+
 returns-5 : tie.Need-returns-5
 returns-5 c =
-    let f = c .before .before .before .before .before .before .before .before .args .file .now in
-    sym (past-3 (c .before .before) ∙ holds 4 (badSymbols f) (from-5 f) (few-symbols f (rw (c .before .byte2 .ensures .0) at (c .if5 .taken))))
-
-returns-6 : tie.Need-returns-6
-returns-6 c =
-    let f = c .before .before .before .before .before .before .before .before .before .args .file .now in
-    sym (past-3 (c .before .before .before) ∙ holds 4 (badSymbols f) (from-5 f) (many-symbols f (rw (c .before .before .byte2 .ensures .0) at (c .if6 .taken))))
-
-mul-if7 : tie.Need-mul-if7
-mul-if7 c = search needs
-
-add-if7 : tie.Need-add-if7
-add-if7 c = search needs
-
-returns-7 : tie.Need-returns-7
-returns-7 c =
-    let f = c .before .before .before .before .before .before .before .before .before .before .args .file .now in
-    sym (past-4 (c .before) ∙ holds 5 (noRoom f) (from-6 f) (no-room f (omega (arith, c .before .before .before .before .before .before .byte .ensures .0))))
+    let f = file-4 (c .before) in
+    sym (past-4 (c .before) ∙ holds 5 (noRoom f) (from-6 f)
+    (no-room f (omega (arith, c .if5 .taken, count (c .before)))))
 
 word-requires : tie.Need-word-requires
 word-requires c κs = search needs
 
-beyond-requires : tie.Need-beyond-requires
-beyond-requires c κs = search needs
-
-returns-8 : tie.Need-returns-8
-returns-8 c =
-    let f = c .before .before .before .before .before .before .before .before .before .before .before .before .before .args .file .now in
-    sym (past-5 (c .before .before .before) ∙ holds 6 (badMask f) (from-7 f) (initials-out f (initials (c .before) ∙ c .if8 .taken)))
-
 word-requires-2 : tie.Need-word-requires-2
 word-requires-2 c κs = search needs
 
-beyond-requires-2 : tie.Need-beyond-requires-2
-beyond-requires-2 c κs = search needs
+bad-masks-requires : tie.Need-bad-masks-requires
+bad-masks-requires c κs = search needs
 
-returns-9 : tie.Need-returns-9
-returns-9 c =
-    let f = c .before .before .before .before .before .before .before .before .before .before .before .before .before .before .before .before .args .file .now in
-    sym (past-5 (c .before .before .before .before .before .before) ∙ holds 6 (badMask f) (from-7 f) (finals-out f (finals (c .before) ∙ c .if9 .taken)))
+returns-6 : tie.Need-returns-6
+returns-6 c =
+    let b = c .before in
+    let f = file-5 (b .before .before .before) in
+    sym (past-5 (b .before .before .before) ∙ holds 6 (badMask f) (from-7 f)
+    (bad-masks b ∙ c .if6 .taken))
 
 pairs-break-requires : tie.Need-pairs-break-requires
 pairs-break-requires c κs = search needs
 
-returns-10 : tie.Need-returns-10
-returns-10 c =
-    let f = c .before .before .before .before .before .before .before .before .before .before .before .before .before .before .before .before .before .before .args .file .now in
-    sym (past-6 (c .before .before) ∙ holds 7 (badPairs f) (from-8 f) (sym (c .before .pairs-break .ensures) ∙ c .if10 .taken))
+returns-7 : tie.Need-returns-7
+returns-7 c =
+    let f = file-6 (c .before .before) in
+    sym (past-6 (c .before .before) ∙ holds 7 (badPairs f) (from-8 f)
+    (sym (c .before .pairs-break .ensures) ∙ c .if7 .taken))
 
 arcs-break-requires : tie.Need-arcs-break-requires
 arcs-break-requires c κs =
-    (c .before .before .before .before .before .before .before .before .before .before .before .before .before .before .before .before .if1 .left, omega (arith, c .before .before .before .before .before .before .before .before .if7 .left, c .before .before .before .before .before .before .before .before .before .before .before .before .before .before .byte .ensures .0), sym (c .before .pairs-break .ensures) ∙ c .if10 .left)
+    let e = c .before .before .before .before .before .before in (
+      omega (arith, e .if5 .left),
+      omega (arith, e .if5 .left, count (e .before)),
+      sym (c .before .pairs-break .ensures) ∙ c .if7 .left,
+    )
 
-returns-11 : tie.Need-returns-11
-returns-11 c =
-    let f = c .before .before .before .before .before .before .before .before .before .before .before .before .before .before .before .before .before .before .before .before .args .file .now in
-    sym (past-7 (c .before .before) ∙ holds 8 (badArcs f) none (sym (c .before .arcs-break .ensures) ∙ c .if11 .taken))
+returns-8 : tie.Need-returns-8
+returns-8 c =
+    let f = file-7 (c .before .before) in
+    sym (past-7 (c .before .before) ∙ holds 8 (badArcs f) none
+    (sym (c .before .arcs-break .ensures) ∙ c .if8 .taken))
 
-returns-12 : tie.Need-returns-12
-returns-12 c =
-    let f = c .before .before .before .before .before .before .before .before .before .before .before .before .before .before .before .before .before .before .before .before .args .file .now in
-    sym (past-7 (c .before .before) ∙ skips 8 (badArcs f) none (sym (c .before .arcs-break .ensures) ∙ c .if11 .left))
+returns-9 : tie.Need-returns-9
+returns-9 c =
+    let f = file-7 (c .before .before) in
+    sym (past-7 (c .before .before) ∙ skips 8 (badArcs f) none
+    (sym (c .before .arcs-break .ensures) ∙ c .if8 .left))
 
 pub check-spec : {M : Type 1} → statement M
 check-spec =
@@ -151,22 +203,20 @@ check-spec =
     returns
     returns-2
     byte-requires
+    outside-requires
     returns-3
-    returns-4
     byte-requires-2
+    outside-requires-2
+    returns-4
+    mul-if5
+    add-if5
     returns-5
-    returns-6
-    mul-if7
-    add-if7
-    returns-7
     word-requires
-    beyond-requires
-    returns-8
     word-requires-2
-    beyond-requires-2
-    returns-9
+    bad-masks-requires
+    returns-6
     pairs-break-requires
-    returns-10
+    returns-7
     arcs-break-requires
-    returns-11
-    returns-12)
+    returns-8
+    returns-9)

@@ -1,0 +1,5 @@
+-- In the order in which they build on each other.
+pub mod Targets
+pub mod Laws
+pub mod Examples
+pub mod Claims
