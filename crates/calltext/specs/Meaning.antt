@@ -4,7 +4,7 @@
 --
 --   Meaning            of a line
 --   lineIn w           what the line w means
---   meant w r          what each case of the code's answer says of the line w
+--   lineMeans w r          what each case of the code's answer says of the line w
 --   Parsed w r         r is the right answer for the line w
 use mathlib.Core.Path.{_≡_}
 use mathlib.Core.Bool.{cond}

@@ -6,8 +6,8 @@
 --                 Q;`; a line for each pair of states that an arc leads between, by state and
 --                 target, `Q -> T [label="LABEL"];`; and `}`
 --   leads         an arc leads from one state to another by a symbol
---   label p k     the numbers below k of which p holds, joined by commas, three or more in a row as
---                 a range: `0,1`, `0-5`, `0,2-5,7`
+--   label p k     the numbers of which p holds, none from k on, joined by commas, three or more in
+--                 a row as a range: `0,1`, `0-5`, `0,2-5,7`
 --   piece p s     what the label has for the number s
 --   mostBytes     so many bytes have room for the drawing of any rule (specs/Claims.antt)
 use mathlib.Core.Bool.{Bool, cond, _&&_}

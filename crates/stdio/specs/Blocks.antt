@@ -1,7 +1,7 @@
 -- What the contracts of reading cite.
 --
---   Within b xs   the bytes that a read brought are some, at the start of the buffer xs
---   Whole i xs    the bytes of the whole input are at the start of the buffer xs
+--   Within b xs   some bytes were read, no more than the buffer xs has; which they are is no promise
+--   Whole i xs    no more bytes were read than the buffer xs has; which they are is no promise
 use mathlib.Core.List.{List}
 use Prim.Native.Nat.{ℕ, _<_}
 use Rattle.io.specs.Counts.{Counts}
