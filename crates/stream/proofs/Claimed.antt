@@ -6,6 +6,7 @@ use Rattle.stream.specs.Texts.{TextOutcome}
 use Rattle.stream.specs.Claims.{Claims}
 use Rattle.stream.proofs.Parts.{first-part, lines-split}
 use Rattle.stream.proofs.Rounds.{forward, within, rounds}
+use Rattle.stream.proofs.Fed.{gathered, fed}
 use Rattle.stream.proofs.Whole.{feeds, finishes, whole, right, written-right}
 
 pub claims : Claims
@@ -21,5 +22,7 @@ claims = record {
   forward = forward;
   within = within;
   rounds = rounds;
+  gathered = gathered;
+  fed = fed;
   written = written-right;
 }

@@ -4,5 +4,6 @@ pub mod Calls
 pub mod Gathering
 pub mod Turns
 pub mod Rounds
+pub mod Fed
 pub mod Whole
 pub mod Claimed

@@ -18,7 +18,7 @@ use Rattle.base.proofs.Tests.{by-test}
 use Rattle.stream.specs.declared.Gathered.{Gathered}
 use Rattle.stream.specs.Feeding.{State, Step, stateOf, Part, partsOf, firstOf, partSize, feedPart, Gathering, stop, onward, gatherParts, gatherAt, Gathers}
 use Rattle.stream.specs.Texts.{feedParts, partsText, partsIn}
-use Rattle.stream.specs.Claims.{FirstPart, Rounds, over, round, Blocks, none, block}
+use Rattle.stream.specs.Claims.{FirstPart, Rounds, over, round, Blocks, no-block, one-more}
 use Rattle.stream.proofs.Parts.{first-part}
 use Rattle.stream.proofs.Gathering.{gather-on, gather-short, gather-over}
 
@@ -110,8 +110,8 @@ text-append (p ∷ ps) qs s =
 pub blocks-are : {room : ℕ} {s s′ : State} {bs : List (List ℕ)} {text : List ℕ} → Blocks room s bs s′ text
     → (text ≡ partsText s (partsIn bs)) × (s′ ≡ feedParts s (partsIn bs))
 unfolding partsText feedParts partsIn
-blocks-are none = (refl, refl)
-blocks-are {room} {s} (block {s′ = s′} {block = b} {blocks = bs} {texts = ts} {text = text} r more) =
+blocks-are no-block = (refl, refl)
+blocks-are {room} {s} (one-more {s′ = s′} {block = b} {blocks = bs} {texts = ts} {text = text} r more) =
     let is = rounds r in
     let rest = blocks-are more in (
       ap₂ (λ (v w : List ℕ). v ++ w) (is .0) (rest .0 ∙ ap (λ (x : State). partsText x (partsIn bs)) (is .1)) ∙ sym (text-append (partsOf b) (partsIn bs) s),

@@ -1,8 +1,8 @@
 -- Every text is answered right, however it is cut into blocks, and in however many rounds a block
 -- is fed; proofs/Claimed.antt proves the claims.
 --
---   KeepsLine s w          the line's buffer is large enough, and it keeps w, the beginning of a
---                          line that earlier parts brought
+--   KeepsLine s w      the line's buffer is large enough, and it keeps w, the beginning of a line
+--                      that earlier parts brought
 --   linesEnded w ps    the lines that the parts end, where w is the beginning of the first
 --   lineBegun w ps     the beginning of the line that goes on behind them
 --   FirstPart block p  p is the first part of the block: it takes some of it, no more than there
@@ -16,13 +16,14 @@
 use mathlib.Core.Path.{_≡_}
 use mathlib.Core.List.{List, [], _∷_, _++_, flatten}
 use Prim.Native.Nat.{ℕ, _≤_, _<_}
-use lib.ListN.{length, drop}
+use lib.ListN.{length, take, drop}
 use Rattle.limits.specs.Limits.{lineRoom, answerRoom}
 use Rattle.lines.specs.Splitting.{linesFrom, linesOf}
 use Rattle.calls.specs.Steps.{fresh}
 use Rattle.linebuffer.specs.Holding.{lineBegin}
 use Rattle.linebuffer.specs.Claims.{Keeps}
-use Rattle.stream.specs.Feeding.{State, Part, ends, goesOn, stateOf, partsOf, firstOf, partSize, finishOf, gatherParts}
+use Rattle.stream.specs.declared.Gathered.{Gathered}
+use Rattle.stream.specs.Feeding.{State, Part, ends, goesOn, stateOf, partsOf, firstOf, partSize, finishOf, gatherParts, gatherAt, Gathers}
 use Rattle.stream.specs.Texts.{linesStep, feedParts, partsText, streamOf, rightText}
 
 pub record KeepsLine (s : State) (w : List ℕ) : Type 0 where
@@ -56,8 +57,8 @@ pub data Rounds (room : ℕ) : State → List ℕ → State → List (List ℕ) 
       → Rounds room s block s′ (gatherParts room s (partsOf block) .text ∷ texts)
 
 pub data Blocks (room : ℕ) : State → List (List ℕ) → State → List ℕ → Type 0 where
-  none : {s : State} → Blocks room s [] s []
-  block : {s s′ s″ : State} {block : List ℕ} {blocks texts : List (List ℕ)} {text : List ℕ}
+  no-block : {s : State} → Blocks room s [] s []
+  one-more : {s s′ s″ : State} {block : List ℕ} {blocks texts : List (List ℕ)} {text : List ℕ}
       → Rounds room s block s′ texts → Blocks room s′ blocks s″ text → Blocks room s (block ∷ blocks) s″ (flatten texts ++ text)
 
 pub record Claims : Type 0 where
@@ -85,6 +86,14 @@ pub record Claims : Type 0 where
   pub within : (room : ℕ) (s : State) (block : List ℕ) → gatherParts room s (partsOf block) .taken ≤ length block
   pub rounds : {room : ℕ} {s s′ : State} {block : List ℕ} {texts : List (List ℕ)} → Rounds room s block s′ texts
       → (flatten texts ≡ partsText s (partsOf block)) × (s′ ≡ feedParts s (partsOf block))
+  -- what `gather` promises is a round, whose text stands at the start of the buffer for answers; and
+  -- every list of blocks is fed so, where there is room for an answer
+  pub gathered : (room at : ℕ) (block : List ℕ) (s s′ : State) (r : Gathered) (line before after : List ℕ) (texts : List (List ℕ))
+      → Gathers (gatherAt block at room s) at r line before after
+      → Rounds room (stateOf (r .judge) (r .held) line) (drop (r .at) block) s′ texts
+      → Rounds room s (drop at block) s′ (take (r .written) after ∷ texts)
+  pub fed : (room : ℕ) → answerRoom ≤ room → (blocks : List (List ℕ)) (s : State)
+      → (s′ : State) × (text : List ℕ) × Blocks room s blocks s′ text
   -- ALL THAT IS WRITTEN, round by round, block by block, and at the end, is right
   pub written : {room : ℕ} {s′ : State} {blocks : List (List ℕ)} {line text : List ℕ} → lineRoom ≤ length line
       → Blocks room (stateOf fresh lineBegin line) blocks s′ text → text ++ finishOf s′ .text ≡ rightText [] (linesOf (flatten blocks))
