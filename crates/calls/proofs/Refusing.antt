@@ -3,7 +3,7 @@
 --   refusal-law   a reply has the number of a refusal exactly where it is that refusal, of the verdict
 --                 or of another call
 --   unchanged     the claim
-use mathlib.Core.Path.{_≡_, refl, ap}
+use mathlib.Core.Path.{_≡_, refl, ap, _∙_}
 use mathlib.Core.Logic.{_↔_, _⊎_, inl, inr, ⊎-elim}
 use mathlib.Core.Bool.{not}
 use mathlib.Core.Option.{Option, none, some}
@@ -14,21 +14,25 @@ use Rattle.ruleformat.specs.Reader.{ruleOf}
 use Rattle.build.specs.Building.{builtOf}
 use Rattle.board.specs.Boards.{placesOf, isEmpty, emptyBoard, filledAt, clearedAt}
 use Rattle.calls.specs.declared.Judge.{Judge}
-use Rattle.calls.specs.Replies.{waiting, yesWith, noWith, refusedWith, Reply, accepted, loaded, judged, refused, refusalOf}
+use Rattle.calls.specs.Replies.{Judgement, waiting, yesWith, noWith, refusedWith, refusalIn, Reported, Reply, accepted, loaded, judged, refused, refusalOf}
 use Rattle.calls.specs.Calls.{loads, opens, delivers, withdraws, asksVerdict, loadNumber, openConditions, deliverConditions, withdrawConditions}
 use Rattle.calls.specs.Steps.{lacksRule, lacksBoard, withBoard, runsAt, outcomeBy, loadOf, openOf, deliverOf, withdrawOf}
 use Rattle.calls.specs.Claims.{Unchanged}
 
-pub refusal-law : (a : Reply) (x : ℕ) → (refusalOf a ≡ some x) ↔ ((a ≡ refused x) ⊎ (a ≡ judged (refusedWith x)))
-refusal-law a x = (to a, ⊎-elim (λ e. ap refusalOf e) (λ e. ap refusalOf e))
+refused-in : (v : Judgement) (x : ℕ) → refusalIn v ≡ some x → v ≡ refusedWith x
+refused-in (waiting empty) x e = none-some refl e
+refused-in (yesWith count) x e = none-some refl e
+refused-in (noWith count) x e = none-some refl e
+refused-in (refusedWith number) x e = cc
+
+pub refusal-law : (a : Reply) (x : ℕ)
+    → (refusalOf a ≡ some x) ↔ ((a ≡ refused x) ⊎ ((r : Reported) × (a ≡ judged r) × (r .verdict ≡ refusedWith x)))
+refusal-law a x = (to a, ⊎-elim (λ e. ap refusalOf e) (λ e. ap refusalOf (e .1) ∙ ap refusalIn (e .2)))
   where
-    to : (b : Reply) → refusalOf b ≡ some x → (b ≡ refused x) ⊎ (b ≡ judged (refusedWith x))
+    to : (b : Reply) → refusalOf b ≡ some x → (b ≡ refused x) ⊎ ((r : Reported) × (b ≡ judged r) × (r .verdict ≡ refusedWith x))
     to accepted e = none-some refl e
     to (loaded sets m) e = none-some refl e
-    to (judged (waiting empty)) e = none-some refl e
-    to (judged (yesWith count)) e = none-some refl e
-    to (judged (noWith count)) e = none-some refl e
-    to (judged (refusedWith number)) e = inr cc
+    to (judged r) e = inr (r, refl, refused-in (r .verdict) x e)
     to (refused number) e = inl cc
 
 by-number : (number : Option ℕ) (a : Reply) (j next : Judge) → refusalOf a ≡ none

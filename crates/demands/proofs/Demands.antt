@@ -4,7 +4,7 @@
 --   1  stepOf j c                     what a call comes to on any state    calls/specs/Steps
 --      Reply, Call; loadNumber ..     01's answers, calls and numbers      calls/specs/Replies, Calls
 --      judgeLibrary, cLibrary         what contracts ask and allow         histories/, demands/specs/Functions
---      loadMeans .. verdictMeans        what an answer of the code says      calls/specs/Replies
+--      loadMeans .. reportMeans       what an answer of the code says      calls/specs/Replies
 --      loadReadBack .., replayShown       what C's numbers say                 capi/specs/Numbers
 --   2  Accepts, Run, Arc              automata and their runs (000)        automaton/specs/Automaton
 --      automatonIn f                  the automaton in a file's bytes      ruleformat/specs/Language, Format
@@ -17,7 +17,8 @@
 --      Accepted-exactly, Refused-..   which calls, with which number       histories/specs/Conditions
 --      CountBound                     the sum's bound; the former 24       histories/specs/CountBound
 --      runSet, endSet, chunkCount     running a chunk                      chunks/specs/Chunks
---      held, isEmpty, summedCount     what a board holds                   board/specs/Boards
+--      held, isEmpty, summedCount ..  what a board holds                   board/specs/Boards
+--      reportBy; Divided, ThreeZeros  what is reported with a verdict      calls/specs/Calls, Claims
 --      joinOf, yesOf                  joining                              joins/specs/Joining
 --      TableP                         the table's cases                    histories/specs/TableP
 --      streamOf, rightText            a text of calls                      stream/specs/Texts
@@ -45,14 +46,15 @@ use Rattle.ruleformat.specs.Reader.{ruleOf}
 use Rattle.ruleformat.specs.Language.{automatonIn}
 use Rattle.delegates.specs.Claims.{startsIn}
 use Rattle.build.specs.Building.{builtOf}
-use Rattle.board.specs.Boards.{held, isEmpty, summedCount}
+use Rattle.board.specs.Boards.{held, isEmpty, summedCount, summedBytes}
 use Rattle.calls.specs.declared.Judge.{Judge}
 use Rattle.calls.specs.Replies.{waiting, yesWith, noWith, refusedWith, Reply, refusalOf}
 use Rattle.calls.specs.Calls.{Call, loadNumber}
-use Rattle.calls.specs.Steps.{fresh, isYes, stepOf}
+use Rattle.calls.specs.Steps.{fresh, isYes, reportOf, stepOf}
+use Rattle.calls.specs.Claims.{Divided, ThreeZeros}
 use Rattle.calls.proofs.Conditions.{not-refused}
 use Rattle.calls.proofs.Refusing as refusing
-use Rattle.histories.specs.History.{fileOf, ruleIn, boardIn, standing, chunkOf, endAt, countAt, emptiesIn, summedIn, yesIn, textIn, verdictIn, answersTo}
+use Rattle.histories.specs.History.{fileOf, ruleIn, boardIn, standing, chunkOf, endAt, countAt, lengthAt, emptiesIn, summedIn, bytesIn, yesIn, textIn, verdictIn, reportIn, answersTo}
 use Rattle.histories.specs.Method.{Method}
 use Rattle.histories.specs.Conditions.{Accepted-exactly, Refused-exactly}
 use Rattle.histories.specs.Claims.{judgeMachine, judgeAfter, repliesTo, BuiltBy, EveryList, automatonBy}
@@ -186,6 +188,27 @@ most h = every-list h .verdict .most
 
 pub place-most : (h : List Call) (p : ℕ) → countAt h p ≤ startsIn (ruleIn h) .startcount * length (chunkOf (standing h p))
 place-most h = every-list h .verdict .place-most
+
+-- Beside yes or no the verdict reports the number of text bytes, and the whole quotient and the exact
+-- remainder of the count by it; for a text of 0 bytes both are 0, beside waiting or a refusal all three
+-- (document 02, R-1). Each place holds its standing chunk's length, an empty one 0:
+pub lengths : (h : List Call) (p : ℕ) → p < mostPlaces → getD (judgeAfter h .board .lengths) p 0 ≡ lengthAt h p
+lengths h = every-list h .after .lengths
+
+-- they sum up to the length of the standing chunks joined by place;
+pub text-bytes : (h : List Call) → (summedBytes (judgeAfter h .board) ≡ bytesIn h) × (bytesIn h ≡ length (textIn h))
+text-bytes h = (every-list h .after .summed-bytes, every-list h .report .text-bytes)
+
+-- what is reported is the verdict of the sentences above with these numbers.
+pub reported : (h : List Call) → (reportOf (judgeAfter h) ≡ reportIn h) × (reportIn h .verdict ≡ verdictIn h)
+reported h = (every-list h .after .reported, every-list h .report .verdict)
+
+pub divided : (h : List Call) (count : ℕ) → (verdictIn h ≡ yesWith count) ⊎ (verdictIn h ≡ noWith count)
+    → Divided count (length (textIn h)) (reportIn h)
+divided h = every-list h .report .divided
+
+pub zeros : (h : List Call) (x : ℕ) → (verdictIn h ≡ waiting x) ⊎ (verdictIn h ≡ refusedWith x) → ThreeZeros (reportIn h)
+zeros h = every-list h .report .zeros
 
 -- Table P, over one list of cases, through the calls.
 pub table-P : TableP

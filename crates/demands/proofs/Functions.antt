@@ -9,7 +9,7 @@ use Rattle.executions.specs.Executions.{Meets}
 use Rattle.calls.specs.declared.Judge.{Judge}
 use Rattle.calls.specs.Replies.{Reply, judged}
 use Rattle.calls.specs.Calls.{Call, loads, opens, delivers, withdraws, asksVerdict}
-use Rattle.calls.specs.Steps.{loadOf, openOf, deliverOf, withdrawOf, verdictOf, stepOf}
+use Rattle.calls.specs.Steps.{loadOf, openOf, deliverOf, withdrawOf, reportOf, stepOf}
 use Rattle.histories.specs.Claims.{judgeMachine}
 use Rattle.histories.proofs.Refinement.{lent, parts, whole}
 use Rattle.replay.specs.Records.{recordIn, replayOf}
@@ -40,7 +40,7 @@ step-back j (delivers p w) a next e = (
 )
 step-back j (withdraws p) a next e =
     (withdrawShown (withdrawOf j p), ((j, (p, tt)), refl), whole a next (withdrawOf j p) e ∙ sym (capi.claims .withdraw-read-back j p))
-step-back j asksVerdict a next e = (verdictShown (verdictOf j), ((j, tt), refl), e .0 ∙ ap judged (sym (capi.claims .verdict-read-back j)), e .1)
+step-back j asksVerdict a next e = (verdictShown (reportOf j), ((j, tt), refl), e .0 ∙ ap judged (sym (capi.claims .verdict-read-back j)), e .1)
 
 asks-nothing : (j : Judge) (c : Call) → AsksStep j c
 asks-nothing j (loads f) = λ κs c e. load-asks-nothing κs j c

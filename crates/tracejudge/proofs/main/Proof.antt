@@ -11,13 +11,13 @@ slice-aggregate-run-2 : tie.Need-slice-aggregate-run-2
 slice-aggregate-run-2 c = sym (made 65537)
 
 slice-aggregate-run-3 : tie.Need-slice-aggregate-run-3
-slice-aggregate-run-3 c = sym (made 64)
+slice-aggregate-run-3 c = sym (made 96)
 
 slice-aggregate-run-4 : tie.Need-slice-aggregate-run-4
 slice-aggregate-run-4 c = sym (made 65536)
 
 run-requires : tie.Need-run-requires
-run-requires c κs = (has-room 131104 0 (made 131104), has-room 65537 0 (made 65537), has-room 64 0 (made 64))
+run-requires c κs = (has-room 131104 0 (made 131104), has-room 65537 0 (made 65537), has-room 96 0 (made 96))
 
 returns : tie.Need-returns
 returns c = tt
