@@ -82,10 +82,12 @@ class Judge:
             return f"waiting {empty}"
         _, _, initials, finals, targets, _ = self.rule
         members = frozenset(initials)
-        for s in b"".join(self.board):
+        text = b"".join(self.board)
+        for s in text:
             members = successor(targets, members, s)
         count = sum(self.count(p, chunk) for p, chunk in enumerate(self.board))
-        return f"{'yes' if members & finals else 'no'} {count}"
+        quotient, remainder = divmod(count, len(text)) if text else (0, 0)
+        return f"{'yes' if members & finals else 'no'} {count} {len(text)} {quotient} {remainder}"
 
 
 HEX, NUMBER = rb"((?:[0-9a-fA-F]{2})+|-)", rb"([0-9]{1,20})"

@@ -21,10 +21,10 @@
  * bellbadger_version() == BELLBADGER_VERSION && bellbadger_state_size() == BELLBADGER_STATE_SIZE.
  * Another major number or size: the two do not fit. A higher minor number of the library: it can
  * more than this header says. */
-#define BELLBADGER_VERSION_MAJOR 1
+#define BELLBADGER_VERSION_MAJOR 2
 #define BELLBADGER_VERSION_MINOR 0
 #define BELLBADGER_VERSION (BELLBADGER_VERSION_MAJOR * 65536 + BELLBADGER_VERSION_MINOR)
-#define BELLBADGER_STATE_SIZE 27060 /* the bytes of a bellbadger_judge */
+#define BELLBADGER_STATE_SIZE 27316 /* the bytes of a bellbadger_judge */
 
 /* A result that is dropped is a call without effect, or a refusal that nobody sees. */
 #if defined(__GNUC__)
@@ -50,12 +50,13 @@ typedef struct {
     uint16_t next[8192];
 } bellbadger_rule;
 
-/* A board: how many places, which are filled, their counts, and 32 end sets for each. places is 0
- * where no board is there. */
+/* A board: how many places, which are filled, the counts and lengths of their chunks, and 32 end sets
+ * for each. places is 0 where no board is there. */
 typedef struct {
     uint8_t places;
     uint8_t filled[64];
     uint32_t counts[64];
+    uint32_t lengths[64];
     uint32_t ends[2048];
 } bellbadger_board;
 
@@ -85,9 +86,13 @@ enum {
     BELLBADGER_MALFORMED = 4  /* number: which line, counted from 1; of bellbadger_replay alone */
 };
 
+/* Beside yes and no: how many bytes the text has, and how many transitions there are for each:
+ * number == quotient * bytes + remainder with remainder < bytes, or both 0 where bytes is 0. Beside
+ * the others all three are 0. */
 typedef struct {
     uint8_t kind;
     uint64_t number;
+    uint64_t bytes, quotient, remainder;
 } bellbadger_verdict_result, bellbadger_replay_result;
 
 /* What the library was built with: its version, major * 65536 + minor, and the bytes of a judge. */
@@ -110,7 +115,7 @@ BELLBADGER_RESULT bellbadger_load_result bellbadger_load(bellbadger_judge judge,
  *   20 no rule is loaded      10 no number of places from 1 to 64 */
 BELLBADGER_RESULT bellbadger_open_result bellbadger_open(bellbadger_judge judge, size_t places);
 
-/* Runs a chunk and keeps its end sets and count at the place. Refused with
+/* Runs a chunk and keeps its end sets, count and length at the place. Refused with
  *   21 no board is open      11 the board has no such place      12 the chunk has over 65,536 bytes
  *   13 a byte is no symbol   22 the place has a chunk already */
 BELLBADGER_RESULT bellbadger_deliver_result bellbadger_deliver(bellbadger_judge judge, size_t place, const uint8_t *chunk, size_t length);

@@ -46,7 +46,10 @@ static bellbadger_judge withdraw(bellbadger_judge judge, size_t place) {
 static void ask(bellbadger_judge judge) {
     static const char *words[] = {"refused", "waiting", "yes", "no"};
     bellbadger_verdict_result v = bellbadger_verdict(judge);
-    printf("%s %" PRIu64 "\n", words[v.kind], v.number);
+    printf("%s %" PRIu64, words[v.kind], v.number);
+    if (v.kind == BELLBADGER_YES || v.kind == BELLBADGER_NO)
+        printf(": %" PRIu64 " bytes, %" PRIu64 " for each and %" PRIu64 " over", v.bytes, v.quotient, v.remainder);
+    printf("\n");
 }
 
 int main(void) {

@@ -36,7 +36,8 @@ static int same(const bellbadger_judge *a, const bellbadger_judge *b) {
         && !memcmp(a->rule.singles, b->rule.singles, sizeof a->rule.singles)
         && !memcmp(a->rule.sets, b->rule.sets, sizeof a->rule.sets) && !memcmp(a->rule.next, b->rule.next, sizeof a->rule.next)
         && a->board.places == b->board.places && !memcmp(a->board.filled, b->board.filled, sizeof a->board.filled)
-        && !memcmp(a->board.counts, b->board.counts, sizeof a->board.counts) && !memcmp(a->board.ends, b->board.ends, sizeof a->board.ends);
+        && !memcmp(a->board.counts, b->board.counts, sizeof a->board.counts)
+        && !memcmp(a->board.lengths, b->board.lengths, sizeof a->board.lengths) && !memcmp(a->board.ends, b->board.ends, sizeof a->board.ends);
 }
 
 static void load(bellbadger_judge *j, const uint8_t *file, size_t length, int refused) {
@@ -67,14 +68,21 @@ static void withdraw(bellbadger_judge *j, size_t place, int refused) {
     *j = r.judge;
 }
 
-static void verdict(const bellbadger_judge *j, int kind, uint64_t number) {
-    bellbadger_verdict_result r = bellbadger_verdict(*j);
-    CHECK(r.kind == kind && r.number == number);
+/* the quotient and the remainder fit the number and the bytes; no bytes beside waiting, a refusal and a
+ * malformed line */
+static int divides(bellbadger_verdict_result r) {
+    if (r.bytes == 0) return r.quotient == 0 && r.remainder == 0;
+    return (r.kind == BELLBADGER_YES || r.kind == BELLBADGER_NO) && r.quotient == r.number / r.bytes && r.remainder == r.number % r.bytes;
 }
 
-static void replay(const char *text, int kind, uint64_t number) {
+static void verdict(const bellbadger_judge *j, int kind, uint64_t number, uint64_t bytes) {
+    bellbadger_verdict_result r = bellbadger_verdict(*j);
+    CHECK(r.kind == kind && r.number == number && r.bytes == bytes && divides(r));
+}
+
+static void replay(const char *text, int kind, uint64_t number, uint64_t bytes) {
     bellbadger_replay_result r = bellbadger_replay((const uint8_t *)text, strlen(text));
-    CHECK(r.kind == kind && r.number == number);
+    CHECK(r.kind == kind && r.number == number && r.bytes == bytes && divides(r));
 }
 
 /* the library is the one that the header describes */
@@ -100,7 +108,7 @@ static void layout(const bellbadger_judge *j) {
 static void calls(void) {
     static const uint8_t zero[] = {0}, one[] = {1}, two[] = {2};
     bellbadger_judge j = bellbadger_new();
-    verdict(&j, BELLBADGER_REFUSED, 21);
+    verdict(&j, BELLBADGER_REFUSED, 21, 0);
     open(&j, 1, 20);
     deliver(&j, 0, zero, 1, 21);
     withdraw(&j, 0, 21);
@@ -113,7 +121,7 @@ static void calls(void) {
     open(&j, 65, 10);
     open(&j, SIZE_MAX, 10);
     open(&j, 2, 0);
-    verdict(&j, BELLBADGER_WAITING, 2);
+    verdict(&j, BELLBADGER_WAITING, 2, 0);
     deliver(&j, 2, zero, 1, 11);
     deliver(&j, SIZE_MAX, zero, 1, 11);
     deliver(&j, 0, big, 65537, 12);
@@ -122,34 +130,36 @@ static void calls(void) {
     deliver(&j, 1, one, 1, 22);
     withdraw(&j, 0, 23);
     deliver(&j, 0, zero, 1, 0);
-    verdict(&j, BELLBADGER_YES, 3);
+    verdict(&j, BELLBADGER_YES, 3, 2);
     CHECK(j.board.places == 2 && j.board.filled[0] && j.board.filled[1] && !j.board.filled[2]);
     CHECK(j.board.counts[0] == 1 && j.board.counts[1] == 2 && j.board.counts[2] == 0);
+    CHECK(j.board.lengths[0] == 1 && j.board.lengths[1] == 1 && j.board.lengths[2] == 0);
     CHECK(j.board.ends[0] == 3 && j.board.ends[1] == 0 && j.board.ends[32] == 1 && j.board.ends[33] == 4 && j.board.ends[34] == 0);
     withdraw(&j, 0, 0);
     deliver(&j, 0, NULL, 0, 0);
-    verdict(&j, BELLBADGER_NO, 2);
+    verdict(&j, BELLBADGER_NO, 2, 1);
     withdraw(&j, 0, 0);
+    CHECK(j.board.lengths[0] == 0 && j.board.lengths[1] == 1);
     deliver(&j, 0, big, 65536, 0);
-    verdict(&j, BELLBADGER_NO, 65538);
+    verdict(&j, BELLBADGER_NO, 65538, 65537);
     load(&j, rule_a, 9, 1);
-    verdict(&j, BELLBADGER_NO, 65538);
+    verdict(&j, BELLBADGER_NO, 65538, 65537);
     load(&j, rule_a, sizeof rule_a, 0);
-    verdict(&j, BELLBADGER_REFUSED, 21);
+    verdict(&j, BELLBADGER_REFUSED, 21, 0);
 }
 
 static void records(void) {
 #define LOAD_A "load 03020100000004000000160006001C0002001E0000000000000101000102\n"
-    replay("", BELLBADGER_REFUSED, 21);
-    replay(LOAD_A "open 2\n", BELLBADGER_WAITING, 2);
-    replay(LOAD_A "open 2\ndeliver 1 01\ndeliver 0 00\n", BELLBADGER_YES, 3);
-    replay(LOAD_A "open 2\ndeliver 1 00\ndeliver 0 01", BELLBADGER_NO, 2);
-    replay(LOAD_A "open 2\n\n", BELLBADGER_REFUSED, 21);
-    replay(LOAD_A "open  2\nverdict\n", BELLBADGER_MALFORMED, 2);
-    replay(LOAD_A "open 2\r\n", BELLBADGER_MALFORMED, 2);
-    replay("verdict\nverdict\nx", BELLBADGER_MALFORMED, 3);
-    replay("open 1\n" LOAD_A "open 99\nopen 1\nwithdraw 0\ndeliver 00 0001\nverdict\n", BELLBADGER_YES, 2);
-    replay(LOAD_A "open 00000000000000000001\ndeliver 0 -", BELLBADGER_NO, 0);
+    replay("", BELLBADGER_REFUSED, 21, 0);
+    replay(LOAD_A "open 2\n", BELLBADGER_WAITING, 2, 0);
+    replay(LOAD_A "open 2\ndeliver 1 01\ndeliver 0 00\n", BELLBADGER_YES, 3, 2);
+    replay(LOAD_A "open 2\ndeliver 1 00\ndeliver 0 01", BELLBADGER_NO, 2, 2);
+    replay(LOAD_A "open 2\n\n", BELLBADGER_REFUSED, 21, 0);
+    replay(LOAD_A "open  2\nverdict\n", BELLBADGER_MALFORMED, 2, 0);
+    replay(LOAD_A "open 2\r\n", BELLBADGER_MALFORMED, 2, 0);
+    replay("verdict\nverdict\nx", BELLBADGER_MALFORMED, 3, 0);
+    replay("open 1\n" LOAD_A "open 99\nopen 1\nwithdraw 0\ndeliver 00 0001\nverdict\n", BELLBADGER_YES, 2, 2);
+    replay(LOAD_A "open 00000000000000000001\ndeliver 0 -", BELLBADGER_NO, 0, 0);
 }
 
 /* xorshift */
@@ -184,6 +194,7 @@ static void garbage(int states) {
         bellbadger_withdraw_result w = bellbadger_withdraw(d.judge, place);
         CHECK(w.accepted || same(&w.judge, &d.judge));
         CHECK(bellbadger_verdict(j).kind <= BELLBADGER_NO && bellbadger_verdict(w.judge).kind <= BELLBADGER_NO);
+        CHECK(divides(bellbadger_verdict(j)) && divides(bellbadger_verdict(w.judge)));
         CHECK(bellbadger_replay(chunk, sizeof chunk).kind <= BELLBADGER_MALFORMED);
         CHECK(!memcmp(before, chunk, sizeof chunk));
     }

@@ -9,7 +9,7 @@
     Waiting(places=1)
     >>> judge.deliver(0, bytes([0]))
     >>> judge.verdict()
-    Yes(count=3)
+    Yes(count=3, bytes=2, quotient=1, remainder=1)
     >>> judge.deliver(0, bytes([1]))
     Traceback (most recent call last):
     ...
@@ -32,7 +32,7 @@ from pathlib import Path
 __all__ = ["Judge", "Loaded", "Waiting", "Yes", "No", "Refused", "Malformed", "replay", "version"]
 
 # what this module was written for, as outside/c/bellbadger.h has it
-_MAJOR, _STATE_SIZE = 1, 27060
+_MAJOR, _STATE_SIZE = 2, 27316
 _WAITING, _YES, _NO, _MALFORMED = 1, 2, 3, 4
 _LARGEST_SIZE = 2**64 - 1
 
@@ -95,17 +95,23 @@ class Waiting:
 
 
 @dataclass(frozen=True)
-class Yes:
-    """A verdict: the trace keeps to the rule; the count."""
-
+class _Counted:
     count: int
+    bytes: int
+    quotient: int
+    remainder: int
 
 
-@dataclass(frozen=True)
-class No:
-    """A verdict: the trace does not keep to the rule; the count."""
+class Yes(_Counted):
+    """A verdict: the trace keeps to the rule.
 
-    count: int
+    count == quotient * bytes + remainder, where bytes is the length of the text and the remainder is
+    below it; quotient and remainder are 0 for a text of 0 bytes.
+    """
+
+
+class No(_Counted):
+    """A verdict: the trace does not keep to the rule; the numbers are as for Yes."""
 
 
 class _Rule(ctypes.Structure):
@@ -128,6 +134,7 @@ class _Board(ctypes.Structure):
         ("places", ctypes.c_uint8),
         ("filled", ctypes.c_uint8 * 64),
         ("counts", ctypes.c_uint32 * 64),
+        ("lengths", ctypes.c_uint32 * 64),
         ("ends", ctypes.c_uint32 * 2048),
     ]
 
@@ -151,7 +158,13 @@ class _Change(ctypes.Structure):
 
 
 class _Verdict(ctypes.Structure):
-    _fields_ = [("kind", ctypes.c_uint8), ("number", ctypes.c_uint64)]
+    _fields_ = [
+        ("kind", ctypes.c_uint8),
+        ("number", ctypes.c_uint64),
+        ("bytes", ctypes.c_uint64),
+        ("quotient", ctypes.c_uint64),
+        ("remainder", ctypes.c_uint64),
+    ]
 
 
 def _path():
@@ -205,10 +218,12 @@ def _bytes(data):
 
 
 def _verdict(result):
-    makers = {_WAITING: Waiting, _YES: Yes, _NO: No}
-    if result.kind not in makers:
+    if result.kind == _WAITING:
+        return Waiting(result.number)
+    counted = {_YES: Yes, _NO: No}
+    if result.kind not in counted:
         raise Refused(result.number)
-    return makers[result.kind](result.number)
+    return counted[result.kind](result.number, result.bytes, result.quotient, result.remainder)
 
 
 def version():
@@ -245,7 +260,7 @@ class Judge:
         self._change(_lib.bellbadger_open(self._state, _size(places)))
 
     def deliver(self, place, chunk):
-        """Runs a chunk and keeps its end sets and count at the place; places are counted from 0.
+        """Runs a chunk and keeps its end sets, count and length at the place, counted from 0.
 
         Refused with 21, 11, 12, 13, 22.
         """

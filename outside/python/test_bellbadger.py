@@ -41,13 +41,13 @@ class Calls(unittest.TestCase):
     def test_table_p(self):
         self.assertEqual(Judge().load(A), Loaded(5, 3))
         self.assertEqual(Judge().load(B), Loaded(4, 2))
-        self.assertEqual(judged(A, [0], [1]), Yes(3))
-        self.assertEqual(judged(A, [1], [0]), No(2))
-        self.assertEqual(judged(A, []), No(0))
-        self.assertEqual(judged(B, [0], [0, 0]), Yes(5))
-        self.assertEqual(judged(B, [0, 0], [0]), Yes(4))
-        self.assertEqual(judged(B, [0, 0, 0]), Yes(3))
-        self.assertEqual(judged(B, [], [], []), No(0))
+        self.assertEqual(judged(A, [0], [1]), Yes(3, 2, 1, 1))
+        self.assertEqual(judged(A, [1], [0]), No(2, 2, 1, 0))
+        self.assertEqual(judged(A, []), No(0, 0, 0, 0))
+        self.assertEqual(judged(B, [0], [0, 0]), Yes(5, 3, 1, 2))
+        self.assertEqual(judged(B, [0, 0], [0]), Yes(4, 3, 1, 1))
+        self.assertEqual(judged(B, [0, 0, 0]), Yes(3, 3, 1, 0))
+        self.assertEqual(judged(B, [], [], []), No(0, 0, 0, 0))
         self.refused(6, Judge().load, A[:6] + bytes([8]) + A[7:])
 
     def test_refusals(self):
@@ -80,15 +80,15 @@ class Calls(unittest.TestCase):
         judge.open(64)
         for place in range(64):
             judge.deliver(place, bytes(65536))
-        self.assertEqual(judge.verdict(), Yes(64 * 65536 * 32))
+        self.assertEqual(judge.verdict(), Yes(64 * 65536 * 32, 64 * 65536, 32, 0))
 
     def test_words_of_a_refusal(self):
         with self.assertRaisesRegex(Refused, "^refused 20: no rule is loaded$"):
             Judge().open(1)
 
     def test_answers_of_other_kinds_differ(self):
-        self.assertNotEqual(Yes(3), No(3))
-        self.assertNotEqual(Yes(3), Waiting(3))
+        self.assertNotEqual(Yes(3, 2, 1, 1), No(3, 2, 1, 1))
+        self.assertNotEqual(No(0, 0, 0, 0), Waiting(0))
 
     def test_numbers_that_c_would_cut(self):
         judge = self.opened(2)
@@ -104,7 +104,7 @@ class Calls(unittest.TestCase):
             self.assertRaises(TypeError, judge.deliver, 0, chunk)
         self.assertRaises(TypeError, judge.deliver, 0.0, b"")
         judge.deliver(0, bytearray([0, 1]))
-        self.assertEqual(judge.verdict(), Yes(2))
+        self.assertEqual(judge.verdict(), Yes(2, 2, 1, 0))
 
     def test_a_judge_shows_its_sizes(self):
         judge = self.opened(2)
@@ -125,15 +125,15 @@ class Calls(unittest.TestCase):
             thread.join()
         finally:
             threading.stack_size(before)
-        self.assertEqual(verdicts, [Yes(3), No(0)])
+        self.assertEqual(verdicts, [Yes(3, 2, 1, 1), No(0, 0, 0, 0)])
 
 
 class Records(unittest.TestCase):
     def test_replay(self):
         load = b"load " + A.hex().encode() + b"\n"
         self.assertEqual(replay(load + b"open 2\n"), Waiting(2))
-        self.assertEqual(replay(load + b"open 2\ndeliver 1 01\ndeliver 0 00\n"), Yes(3))
-        self.assertEqual(replay(load + b"open 2\ndeliver 1 00\ndeliver 0 01"), No(2))
+        self.assertEqual(replay(load + b"open 2\ndeliver 1 01\ndeliver 0 00\n"), Yes(3, 2, 1, 1))
+        self.assertEqual(replay(load + b"open 2\ndeliver 1 00\ndeliver 0 01"), No(2, 2, 1, 0))
 
     def test_malformed(self):
         with self.assertRaisesRegex(Malformed, "^line 2 is malformed$") as caught:
@@ -153,7 +153,7 @@ class Module(unittest.TestCase):
         self.assertEqual(found.failed, 0)
 
     def test_version(self):
-        self.assertEqual(bellbadger.version(), (1, 0))
+        self.assertEqual(bellbadger.version(), (2, 0))
 
     def test_a_missing_library_names_the_command(self):
         run = subprocess.run(

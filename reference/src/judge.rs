@@ -17,9 +17,25 @@ pub enum Answer {
     Loaded(usize, usize),
     Accepted,
     Waiting(usize),
-    Yes(u64),
-    No(u64),
+    Yes(Work),
+    No(Work),
     Refused(u32),
+}
+
+/// What a trace costs: the count, the bytes of the text, and the count divided by them.
+#[derive(Clone, Debug, PartialEq)]
+pub struct Work {
+    pub count: u64,
+    pub bytes: u64,
+    pub quotient: u64,
+    pub remainder: u64,
+}
+
+impl Work {
+    pub fn new(count: u64, bytes: u64) -> Work {
+        let (quotient, remainder) = if bytes == 0 { (0, 0) } else { (count / bytes, count % bytes) };
+        Work { count, bytes, quotient, remainder }
+    }
 }
 
 use Answer::{Accepted, Loaded, No, Refused, Waiting, Yes};
@@ -100,11 +116,11 @@ impl Judge {
             return Waiting(empty);
         }
         let text: Vec<u8> = board.iter().flatten().flatten().copied().collect();
-        let count = total(rule, board);
+        let work = Work::new(total(rule, board), text.len() as u64);
         if rule.automaton.accepts_from(rule.automaton.initial, &text) {
-            Yes(count)
+            Yes(work)
         } else {
-            No(count)
+            No(work)
         }
     }
 }

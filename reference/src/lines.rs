@@ -1,6 +1,6 @@
 //! Lists of calls as text: one call a line, one answer a line.
 
-use crate::judge::{Answer, Call, Judge};
+use crate::judge::{Answer, Call, Judge, Work};
 
 /// One or more pairs of hex digits, or `-` for no bytes.
 fn bytes(field: &[u8]) -> Option<Vec<u8>> {
@@ -52,13 +52,18 @@ pub fn line(call: &Call) -> Vec<u8> {
     line.into_bytes()
 }
 
+/// The four numbers of a yes or no.
+fn numbers(work: Work) -> String {
+    format!("{} {} {} {}", work.count, work.bytes, work.quotient, work.remainder)
+}
+
 fn answer(answer: Answer) -> String {
     match answer {
         Answer::Loaded(sets, starts) => format!("accepted {sets} {starts}"),
         Answer::Accepted => "accepted".to_string(),
         Answer::Waiting(empty) => format!("waiting {empty}"),
-        Answer::Yes(count) => format!("yes {count}"),
-        Answer::No(count) => format!("no {count}"),
+        Answer::Yes(work) => format!("yes {}", numbers(work)),
+        Answer::No(work) => format!("no {}", numbers(work)),
         Answer::Refused(number) => format!("refused {number}"),
     }
 }

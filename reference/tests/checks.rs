@@ -56,7 +56,7 @@ fn ends_of_lines() {
 fn an_empty_line_starts_afresh_and_a_malformed_one_changes_nothing() {
     let rule = "load 010101000000010000000e000000";
     let text = format!("{rule}\nopen 1\nopen 1 \ndeliver 0 -\nverdict\n\nverdict\n");
-    assert_eq!(answers(text.as_bytes()), "accepted 1 1\naccepted\nmalformed\naccepted\nyes 0\n\nrefused 21\n");
+    assert_eq!(answers(text.as_bytes()), "accepted 1 1\naccepted\nmalformed\naccepted\nyes 0 0 0 0\n\nrefused 21\n");
 }
 
 #[test]
@@ -160,7 +160,7 @@ fn shrinking_makes_places_symbols_and_rules_smaller() {
     let text = format!("{load}\nopen 5\ndeliver 4 -\ndeliver 3 03\ndeliver 2 010203\ndeliver 1 -\ndeliver 0 -\nverdict");
     let counted = |list: &Vec<Vec<u8>>| {
         let answers = answers(&list.join(&b'\n'));
-        answers.lines().any(|answer| answer.starts_with("yes ") && answer != "yes 0")
+        answers.lines().any(|answer| answer.starts_with("yes ") && !answer.starts_with("yes 0 "))
     };
     let mut least = blank(1, 1);
     (least.initial, least.finals, least.targets[0][0]) = (1, 1, 1);

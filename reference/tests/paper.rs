@@ -3,7 +3,7 @@
 use reference::automata::{blank, file};
 use reference::faults::faulty;
 use reference::judge::Answer::{self, *};
-use reference::judge::{Call, Judge};
+use reference::judge::{Call, Judge, Work};
 use reference::random::Random;
 use reference::rule::Rule;
 
@@ -41,6 +41,11 @@ fn verdict(rule: &[u8], chunks: &[&[u8]]) -> Answer {
     judge.call(&Call::Verdict)
 }
 
+/// The count, the bytes of the text, the quotient and the remainder.
+fn work(count: u64, bytes: u64, quotient: u64, remainder: u64) -> Work {
+    Work { count, bytes, quotient, remainder }
+}
+
 fn load(file: &[u8]) -> Answer {
     Judge::default().call(&Call::Load(file.to_vec()))
 }
@@ -60,17 +65,17 @@ fn p2() {
 
 #[test]
 fn p3_to_p5() {
-    assert_eq!(verdict(&A, &[&[0], &[1]]), Yes(3));
-    assert_eq!(verdict(&A, &[&[1], &[0]]), No(2));
-    assert_eq!(verdict(&A, &[&[]]), No(0));
+    assert_eq!(verdict(&A, &[&[0], &[1]]), Yes(work(3, 2, 1, 1)));
+    assert_eq!(verdict(&A, &[&[1], &[0]]), No(work(2, 2, 1, 0)));
+    assert_eq!(verdict(&A, &[&[]]), No(work(0, 0, 0, 0)));
 }
 
 #[test]
 fn p6_to_p9() {
-    assert_eq!(verdict(&b(), &[&[0], &[0, 0]]), Yes(5));
-    assert_eq!(verdict(&b(), &[&[0, 0], &[0]]), Yes(4));
-    assert_eq!(verdict(&b(), &[&[0, 0, 0]]), Yes(3));
-    assert_eq!(verdict(&b(), &[&[], &[], &[]]), No(0));
+    assert_eq!(verdict(&b(), &[&[0], &[0, 0]]), Yes(work(5, 3, 1, 2)));
+    assert_eq!(verdict(&b(), &[&[0, 0], &[0]]), Yes(work(4, 3, 1, 1)));
+    assert_eq!(verdict(&b(), &[&[0, 0, 0]]), Yes(work(3, 3, 1, 0)));
+    assert_eq!(verdict(&b(), &[&[], &[], &[]]), No(work(0, 0, 0, 0)));
 }
 
 #[test]
@@ -199,7 +204,7 @@ fn refused_12_and_13() {
     assert_eq!(deliver(&mut judge, 0, &[0, 2]), Refused(13));
     assert_eq!(deliver(&mut judge, 0, &[1; 65_536]), Accepted);
     assert_eq!(deliver(&mut judge, 0, &[2]), Refused(13));
-    assert_eq!(judge.call(&Call::Verdict), No(65_536));
+    assert_eq!(judge.call(&Call::Verdict), No(work(65_536, 65_536, 1, 0)));
 }
 
 #[test]
@@ -233,5 +238,5 @@ fn a_refused_load_leaves_rule_and_board() {
     assert_eq!(deliver(&mut judge, 0, &[0, 1]), Accepted);
     assert_eq!(judge.call(&Call::Load(vec![])), Refused(1));
     assert_eq!(judge.call(&Call::Open(65)), Refused(10));
-    assert_eq!(judge.call(&Call::Verdict), Yes(2));
+    assert_eq!(judge.call(&Call::Verdict), Yes(work(2, 2, 1, 0)));
 }

@@ -7,7 +7,7 @@
 --   stored, cell-stored       one cell more: what holds of each cell passed, and what each has
 --   joined-none, joined-suc, joined-more      no part, and one part more
 --   joined-same               equal parts make equal lists
---   joined-length, length-exact               the length, by that of each part
+--   joined-length, length-exact, length-joined   the length, by that of each part
 --   joined-split              part i stands after those before it
 --   cut                       a list that is cut at some places is its parts, joined, and the rest
 --   part-at, part-byte        the part that stands after another, and its members
@@ -22,6 +22,7 @@ use lib.ListN.{length, getD, set, take, drop, replicate, length-append}
 use lib.Seq.{ext-getD, getD-set-same, getD-set-other, take-at, drop-at, getD-take, getD-drop}
 use borrow.Author.Count.{below-more}
 use Rattle.base.specs.Lists.{listFrom, joined}
+use Rattle.base.specs.Totals.{total}
 
 -- ---- cell by cell
 pub length-listFrom : (i len : ℕ) (g : ℕ → ℕ) → length (listFrom i len g) ≡ len
@@ -98,6 +99,11 @@ module _ (p : ℕ → List ℕ) where
       let l = joined-length n most (λ i b. h i (omega arith)) in
       let s : suc n * most ≡ n * most + most = suc-mul n most in
       omega (arith, length-append (joined p n) (p n), h n (omega arith))
+
+  pub length-joined : (n : ℕ) → length (joined p n) ≡ total (λ i. length (p i)) n
+  unfolding joined total
+  length-joined zero = refl
+  length-joined (suc n) = length-append (joined p n) (p n) ∙ ap (λ (x : ℕ). x + length (p n)) (length-joined n)
 
   pub joined-split : (n i : ℕ) → i < n → (r : List ℕ) × (joined p n ≡ joined p i ++ (p i ++ r))
   unfolding joined

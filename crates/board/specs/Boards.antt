@@ -1,15 +1,17 @@
 -- The board (document 01, "The board and its calls"): for each place whether it is filled, the
--- count of its chunk and the end set of each state. Any value of any field is a board: a filled
--- mark is a number, 0 for empty, and a number of places above 64 counts as 64.
+-- count and the length of its chunk and the end set of each state. Any value of any field is a
+-- board: a filled mark is a number, 0 for empty, and a number of places above 64 counts as 64.
 --
 --   placesOf b         the number of places
 --   held b p q         the end set of state q at place p
 --   isEmpty b p        place p has no chunk
 --   emptyBoard n       n places, all empty
---   filledAt b p s     place p holds the end sets and the count s of a chunk, which may be empty
---   clearedAt b p      place p is empty, its end sets empty and its count 0
+--   filledAt b p s     place p holds the end sets, the count and the length s of a chunk, which may
+--                      be empty
+--   clearedAt b p      place p is empty, its end sets empty, its count and its length 0
 --   emptyPlaces b      how many places are empty
 --   summedCount b      the sum of the counts over all places
+--   summedBytes b      the sum of the lengths over all places
 use mathlib.Core.Bool.{Bool, cond}
 use mathlib.Core.List.{List}
 use Prim.Native.Nat.{ℕ, _+_, _*_, _/_, _%_, min}
@@ -31,7 +33,13 @@ abbrev pub isEmpty : Board → ℕ → Bool
 isEmpty b p = eqb (getD (b .filled) p 0) 0
 
 unfoldable pub emptyBoard : ℕ → Board
-emptyBoard n = record { places = n; filled = replicate mostPlaces 0; counts = replicate mostPlaces 0; ends = replicate endCells 0 }
+emptyBoard n = record {
+  places = n;
+  filled = replicate mostPlaces 0;
+  counts = replicate mostPlaces 0;
+  lengths = replicate mostPlaces 0;
+  ends = replicate endCells 0;
+}
 
 -- the 32 cells of place p have the values g, the others stay
 abbrev pub rowSet : List ℕ → ℕ → (ℕ → ℕ) → List ℕ
@@ -42,6 +50,7 @@ filledAt b p s = record {
   places = b .places;
   filled = set (b .filled) p 1;
   counts = set (b .counts) p (s .count);
+  lengths = set (b .lengths) p (s .bytes);
   ends = rowSet (b .ends) p (λ q. getD (s .ends) q 0);
 }
 
@@ -50,6 +59,7 @@ clearedAt b p = record {
   places = b .places;
   filled = set (b .filled) p 0;
   counts = set (b .counts) p 0;
+  lengths = set (b .lengths) p 0;
   ends = rowSet (b .ends) p (λ q. 0);
 }
 
@@ -58,3 +68,6 @@ emptyPlaces b = total (λ p. cond (isEmpty b p) 1 0) (placesOf b)
 
 unfoldable pub summedCount : Board → ℕ
 summedCount b = total (λ p. getD (b .counts) p 0) (placesOf b)
+
+unfoldable pub summedBytes : Board → ℕ
+summedBytes b = total (λ p. getD (b .lengths) p 0) (placesOf b)

@@ -7,16 +7,17 @@ ghost use lib.Dec.{eqb};
 ghost use lib.ListN.{length, getD};
 ghost use Rattle.limits.specs.Limits.{mostPlaces, endCells};
 ghost use Rattle.base.specs.Totals.{total};
-ghost use Rattle.board.specs.Boards.{placesOf, isEmpty, emptyBoard, rowSet, filledAt, clearedAt, emptyPlaces, summedCount};
+ghost use Rattle.board.specs.Boards.{placesOf, isEmpty, emptyBoard, rowSet, filledAt, clearedAt, emptyPlaces, summedCount, summedBytes};
 use chunks::Runs;
 
-// For each of up to 64 places whether it is filled (0 for empty), the count of its chunk, and 32
-// end sets, one for each state. In a new board every cell is 0.
+// For each of up to 64 places whether it is filled (0 for empty), the count and the length of its
+// chunk, and 32 end sets, one for each state. In a new board every cell is 0.
 #[repr(C)]
 pub struct Board {
     pub places: u8,
     pub filled: [u8; limits::PLACES],
     pub counts: [u32; limits::PLACES],
+    pub lengths: [u32; limits::PLACES],
     pub ends: [u32; limits::ENDS],
 }
 
@@ -41,11 +42,13 @@ pub fn empty_board(places: u8) -> Board
 {
     let filled = [0u8; limits::PLACES];
     let counts = [0u32; limits::PLACES];
+    let lengths = [0u32; limits::PLACES];
     let ends = [0u32; limits::ENDS];
     Board {
         places,
         filled,
         counts,
+        lengths,
         ends,
     }
 }
@@ -63,7 +66,7 @@ fn set_row(ends: &mut [u32; limits::ENDS], place: usize, row: &[u32; limits::STA
     }
 }
 
-// The place holds the end sets and the count of a chunk, which may be empty.
+// The place holds the end sets, the count and the length of a chunk, which may be empty.
 pub fn fill(board: Board, place: usize, runs: Runs) -> Board
     requires { ⌜ place < mostPlaces ⌝ }
     ensures { λ r. ⌜ r ≡ filledAt board place runs ⌝ }
@@ -71,11 +74,12 @@ pub fn fill(board: Board, place: usize, runs: Runs) -> Board
     let mut filled = board;
     filled.filled[place] = 1;
     filled.counts[place] = runs.count;
+    filled.lengths[place] = runs.bytes;
     set_row(&mut filled.ends, place, &runs.ends);
     filled
 }
 
-// The place is empty, its end sets empty and its count 0.
+// The place is empty, its end sets empty, its count and its length 0.
 pub fn clear(board: Board, place: usize) -> Board
     requires { ⌜ place < mostPlaces ⌝ }
     ensures { λ r. ⌜ r ≡ clearedAt board place ⌝ }
@@ -83,6 +87,7 @@ pub fn clear(board: Board, place: usize) -> Board
     let mut cleared = board;
     cleared.filled[place] = 0;
     cleared.counts[place] = 0;
+    cleared.lengths[place] = 0;
     let row = [0u32; limits::STATES];
     set_row(&mut cleared.ends, place, &row);
     cleared
@@ -120,22 +125,22 @@ pub fn empty_places(board: Board) -> u8
     count_empty(&board.filled, places)
 }
 
-// A count, in 64 bits.
-fn wide(count: u32) -> u64
-    ensures { λ r. ⌜ (r ≡ count) × (r < 4294967296) ⌝ }
+// A number of a place, in 64 bits.
+fn wide(number: u32) -> u64
+    ensures { λ r. ⌜ (r ≡ number) × (r < 4294967296) ⌝ }
 {
-    count as u64
+    number as u64
 }
 
-// The sum of the first n counts; in 64 bits no counts are too large.
-fn sum_counts(counts: &[u32; limits::PLACES], n: usize) -> u64
+// The sum of the numbers of the first n places; in 64 bits none are too large.
+fn sum_up(numbers: &[u32; limits::PLACES], n: usize) -> u64
     requires { ⌜ n ≤ mostPlaces ⌝ }
-    ensures { λ r. ⌜ r ≡ total (λ p. getD (now (counts .entry)) p 0) n ⌝ }
+    ensures { λ r. ⌜ r ≡ total (λ p. getD (now (numbers .entry)) p 0) n ⌝ }
 {
     let mut sum: u64 = 0;
     let mut p: usize = 0;
     while p < n {
-        sum += wide(counts[p]);
+        sum += wide(numbers[p]);
         p += 1;
     }
     sum
@@ -146,5 +151,13 @@ pub fn summed_count(board: Board) -> u64
     ensures { λ r. ⌜ r ≡ summedCount board ⌝ }
 {
     let places = places_of(board);
-    sum_counts(&board.counts, places)
+    sum_up(&board.counts, places)
+}
+
+// The sum of the lengths over all places.
+pub fn summed_bytes(board: Board) -> u64
+    ensures { λ r. ⌜ r ≡ summedBytes board ⌝ }
+{
+    let places = places_of(board);
+    sum_up(&board.lengths, places)
 }

@@ -9,7 +9,8 @@ use Rattle.base.proofs.Tests.{not-both}
 use Rattle.fields.specs.Bytes.{parseBytes}
 use Rattle.calls.specs.declared.Judge.{Judge}
 use Rattle.calls.specs.Calls.{Call, loads, opens, delivers, withdraws, asksVerdict}
-use Rattle.calls.specs.Steps.{stepOf, verdictOf}
+use Rattle.calls.specs.Replies.{judged}
+use Rattle.calls.specs.Steps.{stepOf, reportOf}
 use Rattle.calltext.specs.declared.Line.{Line}
 use Rattle.calltext.specs.declared.Line.the-variants.{Empty, Load, Open, Deliver, Withdraw, Verdict, Malformed}
 use Rattle.calltext.specs.Meaning.{Meaning, again, call, malformed, loadBy, deliverBy, lineIn, lineMeans, bytesFrom, Parsed}
@@ -82,14 +83,14 @@ module _ (w : List ℕ) (x : Line) (parsed : Parsed w x) where
     line-malformed e = by Malformed e
 
 -- ---- a line that asks for the verdict changes nothing
-call-asks : (j : Judge) (c : Call) → isAsks c ≡ true → replyOf (stepOf j c) ≡ record { response = replied (verdictOf j); state = j }
+call-asks : (j : Judge) (c : Call) → isAsks c ≡ true → replyOf (stepOf j c) ≡ record { response = replied (judged (reportOf j)); state = j }
 call-asks j (loads f) e = not-both e refl
 call-asks j (opens n) e = not-both e refl
 call-asks j (delivers p w) e = not-both e refl
 call-asks j (withdraws p) e = not-both e refl
 call-asks j asksVerdict e = refl
 
-pub asks-step : (j : Judge) (m : Meaning) → verdictAsked m ≡ true → lineStep j m ≡ record { response = replied (verdictOf j); state = j }
+pub asks-step : (j : Judge) (m : Meaning) → verdictAsked m ≡ true → lineStep j m ≡ record { response = replied (judged (reportOf j)); state = j }
 asks-step j again e = not-both e refl
 asks-step j (call c) e = call-asks j c e
 asks-step j malformed e = not-both e refl

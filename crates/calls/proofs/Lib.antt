@@ -2,3 +2,4 @@
 pub mod Conditions
 pub mod Ways
 pub mod Refusing
+pub mod Reporting

@@ -7,12 +7,14 @@
 --   runs-by                                                 the runs at a place, from their mask
 --   deliver-21, -11, -12, -13, -22, delivered               deliverOf
 --   verdict-21, verdict-waiting, verdict-yes, verdict-no    verdictOf
+--   bytes-none, bytes-some                                  perByte
+--   report-waiting, report-yes, report-no, report-refused   reportBy
 --   load-unread, load-unbuilt, loaded                       loadOf
 use mathlib.Core.Path.{_≡_, sym, ap, _∙_}
 use mathlib.Core.Bool.{Bool, true, false, cond, not}
 use mathlib.Core.List.{List}
 use mathlib.Core.Option.{Option, none, some}
-use Prim.Native.Nat.{ℕ, _≤_, _<_}
+use Prim.Native.Nat.{ℕ, _/_, _%_, _≤_, _<_}
 use lib.ListN.{length}
 use borrow.Author.Tests.{lt-ltb, le-ltb, le-leb, lt-leb, eq-eqb, ne-eqb}
 use Rattle.base.proofs.Tests.{by-test, zero-one}
@@ -30,8 +32,10 @@ use Rattle.chunks.specs.Walks.{runMask, runsOf}
 use Rattle.board.specs.declared.Board.{Board}
 use Rattle.board.specs.Boards.{placesOf, isEmpty, emptyBoard, filledAt, clearedAt, emptyPlaces, summedCount}
 use Rattle.calls.specs.declared.Judge.{Judge}
+use Rattle.calls.specs.declared.Verdict.{Verdict}
+use Rattle.calls.specs.declared.Verdict.the-variants as verdict
 use Rattle.calls.specs.Replies as reply
-use Rattle.calls.specs.Calls.{loadNumber}
+use Rattle.calls.specs.Calls.{loadNumber, perByte, alone, reportBy}
 use Rattle.calls.specs.Steps.{fresh, withBoard, Outcome, loadOf, openOf, runsAt, deliverOf, withdrawOf, isYes, verdictOf}
 use Rattle.calls.proofs.Conditions.{over, load-number}
 
@@ -118,23 +122,44 @@ module _ (j : Judge) (p : ℕ) (w : List ℕ) where
 
 -- ---- verdict
 module _ (j : Judge) where
-  pub verdict-21 : j .board .places ≡ 0 → reply.refused 21 ≡ verdictOf j
+  pub verdict-21 : j .board .places ≡ 0 → reply.refusedWith 21 ≡ verdictOf j
   unfolding verdictOf
   verdict-21 a = rw (eq-eqb _ _ a)
 
   module _ (a : j .board .places ≡ 0 → ⊥) (e : ℕ) (empty : e ≡ emptyPlaces (j .board)) where
-    pub verdict-waiting : (e ≡ 0 → ⊥) → reply.judged (reply.waiting e) ≡ verdictOf j
+    pub verdict-waiting : (e ≡ 0 → ⊥) → reply.waiting e ≡ verdictOf j
     unfolding verdictOf
     verdict-waiting b = rw (ne-eqb _ _ a, ← empty, ne-eqb _ _ b)
 
     module _ (b : e ≡ 0) (count : ℕ) (summed : count ≡ summedCount (j .board)) (x : Bool) (says : x ≡ isYes j) where
-      pub verdict-yes : x ≡ true → reply.judged (reply.yesWith count) ≡ verdictOf j
+      pub verdict-yes : x ≡ true → reply.yesWith count ≡ verdictOf j
       unfolding verdictOf
       verdict-yes c = rw (ne-eqb _ _ a, ← empty, eq-eqb _ _ b, ← says, c, summed)
 
-      pub verdict-no : x ≡ false → reply.judged (reply.noWith count) ≡ verdictOf j
+      pub verdict-no : x ≡ false → reply.noWith count ≡ verdictOf j
       unfolding verdictOf
       verdict-no c = rw (ne-eqb _ _ a, ← empty, eq-eqb _ _ b, ← says, c, summed)
+
+-- ---- what is reported with it
+module _ (v : reply.Judgement) (count bytes : ℕ) where
+  pub bytes-none : bytes ≡ 0 → record { verdict = v; bytes = bytes; quotient = 0; remainder = 0 } ≡ perByte v count bytes
+  bytes-none z = rw (eq-eqb _ _ z)
+
+  pub bytes-some : (bytes ≡ 0 → ⊥) → record { verdict = v; bytes = bytes; quotient = count / bytes; remainder = count % bytes } ≡ perByte v count bytes
+  bytes-some n = rw (ne-eqb _ _ n)
+
+module _ (x : Verdict) (bytes : ℕ) (r : reply.Reported) where
+  pub report-waiting : (e : ℕ) → x ≡ verdict.Waiting e → r ≡ alone (reply.verdictMeans x) → r ≡ reportBy (reply.verdictMeans x) bytes
+  report-waiting e is said = said ∙ rw is
+
+  pub report-yes : (c : ℕ) → x ≡ verdict.Yes c → r ≡ perByte (reply.yesWith c) c bytes → r ≡ reportBy (reply.verdictMeans x) bytes
+  report-yes c is said = said ∙ rw is
+
+  pub report-no : (c : ℕ) → x ≡ verdict.No c → r ≡ perByte (reply.noWith c) c bytes → r ≡ reportBy (reply.verdictMeans x) bytes
+  report-no c is said = said ∙ rw is
+
+  pub report-refused : (n : ℕ) → x ≡ verdict.Refused n → r ≡ alone (reply.verdictMeans x) → r ≡ reportBy (reply.verdictMeans x) bytes
+  report-refused n is said = said ∙ rw is
 
 -- ---- load
 refused-with : (j : Judge) (f : List ℕ) (number : ℕ) → loadNumber f ≡ some number

@@ -7,13 +7,17 @@
 --   loadNumber f       the number with which a load of the file f is refused, 1 to 9, or none where
 --                      it is accepted
 --   openConditions, deliverConditions, withdrawConditions   20, 10; 21, 11, 12, 13, 22; 21, 11, 23
---   judgementBy        what a verdict says: by the number of empty places, whether the join says
---                      yes, and the sum of the counts
---   verdictBy          the reply to the call verdict: by whether no board is there, and these three
+--   verdictBy          what a verdict says: by whether no board is there, the number of empty
+--                      places, whether the join says yes, and the sum of the counts
+--   perByte v c b      v, with the b bytes of the text, the whole quotient of the count c by them,
+--                      and the remainder; both are 0 for a text of 0 bytes
+--   alone v            v, with three zeros
+--   reportBy v b       what the call verdict reports: yes or no with its count by the bytes of the
+--                      text, of which there are b; waiting and a refusal alone
 use mathlib.Core.Bool.{Bool, cond}
 use mathlib.Core.List.{List, [], _∷_, _++_}
 use mathlib.Core.Option.{Option}
-use Prim.Native.Nat.{ℕ}
+use Prim.Native.Nat.{ℕ, _/_, _%_}
 use lib.Dec.{ltb, leb, eqb}
 use lib.ListN.{length}
 use Rattle.limits.specs.Limits.{mostPlaces, longestChunk}
@@ -22,7 +26,7 @@ use Rattle.ruleformat.specs.Refusals.{fileConditions}
 use Rattle.ruleformat.specs.Reader.{ruleOf}
 use Rattle.subsets.specs.Sets.{tooMany}
 use Rattle.chunks.specs.Chunks.{foreign}
-use Rattle.calls.specs.Replies.{Judgement, waiting, yesWith, noWith, Reply, judged, refused}
+use Rattle.calls.specs.Replies.{Judgement, waiting, yesWith, noWith, refusedWith, Reported}
 
 pub data Call : Type 0 where
   loads : List ℕ → Call
@@ -55,8 +59,24 @@ abbrev pub withdrawConditions : Bool → ℕ → ℕ → Bool → List Condition
 withdrawConditions lacks places p empty = on 21 lacks ∷ on 11 (leb places p) ∷ on 23 empty ∷ []
 
 -- ---- the verdict: 21, else waiting, else yes or no
-abbrev pub judgementBy : ℕ → Bool → ℕ → Judgement
-judgementBy empty yes-there sum = cond (eqb empty 0) (cond yes-there (yesWith sum) (noWith sum)) (waiting empty)
+abbrev pub verdictBy : Bool → ℕ → Bool → ℕ → Judgement
+verdictBy lacks empty yes-there sum =
+    cond lacks (refusedWith 21) (cond (eqb empty 0) (cond yes-there (yesWith sum) (noWith sum)) (waiting empty))
 
-abbrev pub verdictBy : Bool → ℕ → Bool → ℕ → Reply
-verdictBy lacks empty yes-there sum = cond lacks (refused 21) (judged (judgementBy empty yes-there sum))
+-- the library's n % 0 is n, so 0 bytes are a case of their own
+abbrev pub perByte : Judgement → ℕ → ℕ → Reported
+perByte v count bytes = record {
+  verdict = v;
+  bytes = bytes;
+  quotient = cond (eqb bytes 0) 0 (count / bytes);
+  remainder = cond (eqb bytes 0) 0 (count % bytes);
+}
+
+abbrev pub alone : Judgement → Reported
+alone v = record { verdict = v; bytes = 0; quotient = 0; remainder = 0 }
+
+abbrev pub reportBy : Judgement → ℕ → Reported
+reportBy (waiting empty) bytes = alone (waiting empty)
+reportBy (yesWith count) bytes = perByte (yesWith count) count bytes
+reportBy (noWith count) bytes = perByte (noWith count) count bytes
+reportBy (refusedWith number) bytes = alone (refusedWith number)

@@ -1,13 +1,37 @@
--- Demand 1, of every call on any state whatever: a refusal changes nothing. proofs/Refusing.antt
--- proves it.
+-- What holds of the calls on any state whatever.
+--
+--   Unchanged       demand 1: a refusal changes nothing. proofs/Refusing.antt proves it
+--   Divided c b r   the report r has the bytes b, and the quotient and remainder of the count c by
+--                   them (document 02, R-1)
+--   ThreeZeros r    it has none of the three
+--   ReportLaw       what `reportBy` comes to. proofs/Reporting.antt proves it
 use mathlib.Core.Path.{_≡_}
-use Prim.Native.Nat.{ℕ}
+use mathlib.Core.Logic.{_⊎_}
+use mathlib.Core.Option.{some}
+use Prim.Native.Nat.{ℕ, _+_, _*_, _<_}
 use Rattle.calls.specs.declared.Judge.{Judge}
-use Rattle.calls.specs.Replies.{refused}
-use Rattle.calls.specs.Calls.{Call}
+use Rattle.calls.specs.Replies.{Judgement, waiting, yesWith, noWith, refusedWith, Reported, refusalOf}
+use Rattle.calls.specs.Calls.{Call, reportBy}
 use Rattle.calls.specs.Steps.{stepOf}
 
 -- a refusal leaves the state as it was. (File and chunk are lent as `&[u8]`, which no function can
 -- write.)
 abbrev pub Unchanged : Type 0
-Unchanged = (j : Judge) (c : Call) (x : ℕ) → stepOf j c .reply ≡ refused x → stepOf j c .state ≡ j
+Unchanged = (j : Judge) (c : Call) (x : ℕ) → refusalOf (stepOf j c .reply) ≡ some x → stepOf j c .state ≡ j
+
+-- count = quotient × bytes + remainder, remainder below bytes; for a text of 0 bytes both are 0
+pub record Divided (count bytes : ℕ) (r : Reported) : Type 0 where
+  pub bytes-are : r .bytes ≡ bytes
+  pub whole : 0 < bytes → count ≡ r .quotient * bytes + r .remainder
+  pub below : 0 < bytes → r .remainder < bytes
+  pub no-bytes : bytes ≡ 0 → (r .quotient ≡ 0) × (r .remainder ≡ 0)
+
+abbrev pub ThreeZeros : Reported → Type 0
+ThreeZeros r = (r .bytes ≡ 0) × (r .quotient ≡ 0) × (r .remainder ≡ 0)
+
+pub record ReportLaw (v : Judgement) (bytes : ℕ) : Type 0 where
+  pub verdict : reportBy v bytes .verdict ≡ v
+  -- beside yes or no
+  pub divided : (count : ℕ) → (v ≡ yesWith count) ⊎ (v ≡ noWith count) → Divided count bytes (reportBy v bytes)
+  -- beside waiting or a refusal
+  pub zeros : (x : ℕ) → (v ≡ waiting x) ⊎ (v ≡ refusedWith x) → ThreeZeros (reportBy v bytes)

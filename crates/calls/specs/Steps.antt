@@ -6,9 +6,10 @@
 --   fresh              no rule and no board: zeros
 --   Outcome            the outcome of a call: its reply, and the state that it leaves
 --   loadOutcome, openOutcome, deliverOutcome, withdrawOutcome   the outcome that the code's result
---                                                               tells
+--                                                               stands for
 --   loadOf, openOf, deliverOf, withdrawOf   the outcomes of the calls that may change the state
 --   verdictOf          what the verdict says
+--   reportOf           what the call verdict reports
 --   stepOf j c         the outcome of the call c on the state j
 use mathlib.Core.Bool.{Bool, not}
 use mathlib.Core.List.{List}
@@ -21,15 +22,15 @@ use Rattle.build.specs.Building.{builtOf, noBuilt}
 use Rattle.chunks.specs.declared.Runs.{Runs}
 use Rattle.chunks.specs.Walks.{runMask, runsOf}
 use Rattle.board.specs.declared.Board.{Board}
-use Rattle.board.specs.Boards.{placesOf, isEmpty, emptyBoard, filledAt, clearedAt, emptyPlaces, summedCount}
+use Rattle.board.specs.Boards.{placesOf, isEmpty, emptyBoard, filledAt, clearedAt, emptyPlaces, summedCount, summedBytes}
 use Rattle.joins.specs.Joining.{saysYes}
 use Rattle.calls.specs.declared.Judge.{Judge}
 use Rattle.calls.specs.declared.LoadResult.{LoadResult}
 use Rattle.calls.specs.declared.OpenResult.{OpenResult}
 use Rattle.calls.specs.declared.DeliverResult.{DeliverResult}
 use Rattle.calls.specs.declared.WithdrawResult.{WithdrawResult}
-use Rattle.calls.specs.Replies.{Reply, accepted, loaded, refused, loadMeans, openMeans, deliverMeans, withdrawMeans}
-use Rattle.calls.specs.Calls.{Call, loads, opens, delivers, withdraws, asksVerdict, loadNumber, openConditions, deliverConditions, withdrawConditions, verdictBy}
+use Rattle.calls.specs.Replies.{Judgement, Reported, Reply, accepted, loaded, judged, refused, loadMeans, openMeans, deliverMeans, withdrawMeans}
+use Rattle.calls.specs.Calls.{Call, loads, opens, delivers, withdraws, asksVerdict, loadNumber, openConditions, deliverConditions, withdrawConditions, verdictBy, reportBy}
 
 unfoldable pub fresh : Judge
 fresh = record { built = noBuilt; board = emptyBoard 0 }
@@ -103,8 +104,11 @@ abbrev pub isYes : Judge → Bool
 isYes j =
     saysYes (j .board .ends) (j .built .delegates) (j .built .n) (j .built .initials) (j .built .finals) (placesOf (j .board))
 
-unfoldable pub verdictOf : Judge → Reply
+unfoldable pub verdictOf : Judge → Judgement
 verdictOf j = verdictBy (lacksBoard j) (emptyPlaces (j .board)) (isYes j) (summedCount (j .board))
+
+abbrev pub reportOf : Judge → Reported
+reportOf j = reportBy (verdictOf j) (summedBytes (j .board))
 
 -- ---- any call
 abbrev pub stepOf : Judge → Call → Outcome
@@ -112,4 +116,4 @@ stepOf j (loads f) = loadOf j f
 stepOf j (opens n) = openOf j n
 stepOf j (delivers p w) = deliverOf j p w
 stepOf j (withdraws p) = withdrawOf j p
-stepOf j asksVerdict = record { reply = verdictOf j; state = j }
+stepOf j asksVerdict = record { reply = judged (reportOf j); state = j }

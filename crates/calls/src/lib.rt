@@ -39,6 +39,15 @@ pub enum Verdict {
     Refused(u8),
 }
 
+// What the call verdict reports: the verdict; beside yes or no also the number of text bytes, the
+// whole quotient of the count by it and the remainder, beside waiting or a refusal three zeros.
+pub struct Report {
+    pub verdict: Verdict,
+    pub bytes: u64,
+    pub quotient: u64,
+    pub remainder: u64,
+}
+
 // Each call that may change the state answers with the next state beside the answer.
 pub struct LoadResult {
     pub answer: LoadAnswer,

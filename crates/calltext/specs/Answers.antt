@@ -2,7 +2,9 @@
 --
 --   Response          what a line is answered: a fresh judge began, a call was replied to, or the
 --                     line is malformed
---   judgementText v   what a verdict says, as text
+--   judgementText v beside   a verdict as text; `beside` follows the count of a yes or no
+--   reportText r      what the call verdict reports, as text: the bytes, the quotient and the
+--                     remainder stand beside a yes or no alone
 --   replyText a       a reply as text, without its line feed
 --   responseText s    the whole line
 --   isMalformed s        the line is malformed
@@ -11,7 +13,7 @@ use mathlib.Core.Bool.{Bool, true, false}
 use mathlib.Core.List.{List, [], _∷_, _++_}
 use Prim.Native.Nat.{ℕ}
 use Rattle.text.specs.Numerals.{decimal}
-use Rattle.calls.specs.Replies.{Judgement, waiting, yesWith, noWith, Reply, accepted, loaded, judged, refused, loadMeans, openMeans, deliverMeans, withdrawMeans, verdictMeans}
+use Rattle.calls.specs.Replies.{Judgement, waiting, yesWith, noWith, refusedWith, Reported, Reply, accepted, loaded, judged, refused, loadMeans, openMeans, deliverMeans, withdrawMeans, reportMeans}
 use Rattle.calltext.specs.declared.LineAnswer.{LineAnswer}
 use Rattle.calltext.specs.declared.LineAnswer.the-variants.{Began, Load, Open, Deliver, Withdraw, Verdict, Malformed}
 
@@ -47,15 +49,19 @@ malformed-word = 109 ∷ 97 ∷ 108 ∷ 102 ∷ 111 ∷ 114 ∷ 109 ∷ 101 ∷ 
 abbrev pub behind : ℕ → List ℕ
 behind n = 32 ∷ decimal n
 
-abbrev pub judgementText : Judgement → List ℕ
-judgementText (waiting empty) = waiting-word ++ behind empty
-judgementText (yesWith count) = yes-word ++ behind count
-judgementText (noWith count) = no-word ++ behind count
+abbrev pub judgementText : Judgement → List ℕ → List ℕ
+judgementText (waiting empty) beside = waiting-word ++ behind empty
+judgementText (yesWith count) beside = yes-word ++ (behind count ++ beside)
+judgementText (noWith count) beside = no-word ++ (behind count ++ beside)
+judgementText (refusedWith number) beside = refused-word ++ behind number
+
+abbrev pub reportText : Reported → List ℕ
+reportText r = judgementText (r .verdict) (behind (r .bytes) ++ (behind (r .quotient) ++ behind (r .remainder)))
 
 abbrev pub replyText : Reply → List ℕ
 replyText accepted = accepted-word
 replyText (loaded sets starts) = accepted-word ++ (behind sets ++ behind starts)
-replyText (judged v) = judgementText v
+replyText (judged r) = reportText r
 replyText (refused number) = refused-word ++ behind number
 
 abbrev pub responseText : Response → List ℕ
@@ -69,5 +75,5 @@ answerMeans (Load a) = replied (loadMeans a)
 answerMeans (Open a) = replied (openMeans a)
 answerMeans (Deliver a) = replied (deliverMeans a)
 answerMeans (Withdraw a) = replied (withdrawMeans a)
-answerMeans (Verdict v) = replied (verdictMeans v)
+answerMeans (Verdict r) = replied (judged (reportMeans r))
 answerMeans Malformed = unread

@@ -10,10 +10,11 @@ ghost use Rattle.fields.specs.Numbers.{parseNumber};
 ghost use Rattle.lines.specs.Splitting.{upTo, past};
 ghost use Rattle.calltext.specs.Meaning.{openBy, withdrawBy, deliverFields, lineMeans, bytesFrom, Parsed};
 ghost use Rattle.calltext.specs.Answers.{behind, replied, responseText, answerMeans};
-ghost use Rattle.calls.specs.Replies.{accepted, loaded, refused, loadMeans, openMeans, deliverMeans, withdrawMeans, verdictMeans};
+ghost use Rattle.calls.specs.Replies.{accepted, loaded, judged, refused, loadMeans, openMeans, deliverMeans, withdrawMeans, reportMeans};
 use calls::DeliverAnswer;
 use calls::LoadAnswer;
 use calls::OpenAnswer;
+use calls::Report;
 use calls::Verdict;
 use calls::WithdrawAnswer;
 use fields::Number;
@@ -100,7 +101,7 @@ pub enum LineAnswer {
     Open(OpenAnswer),
     Deliver(DeliverAnswer),
     Withdraw(WithdrawAnswer),
-    Verdict(Verdict),
+    Verdict(Report),
     Malformed,
 }
 
@@ -132,15 +133,35 @@ fn put_numbered(out: &mut [u8], word: &[u8], n: u64) -> usize
     text::put_byte(out, end, b'\n')
 }
 
+// A word and the four numbers of a yes or no.
+fn put_counted(
+    out: &mut [u8],
+    word: &[u8],
+    count: u64,
+    bytes: u64,
+    quotient: u64,
+    remainder: u64,
+) -> usize
+    requires { ⌜ length (now word) + 85 ≤ length (now out) ⌝ }
+    ensures { λ r. ⌜ Wrote (now (out .entry)) 0 ((now (word .entry) ++ (behind count ++ (behind bytes ++ (behind quotient ++ behind remainder)))) ++ (10 ∷ [])) (now (out .exit)) r ⌝ }
+{
+    let first = text::put_bytes(out, 0, word);
+    let second = put_behind(out, first, count);
+    let third = put_behind(out, second, bytes);
+    let fourth = put_behind(out, third, quotient);
+    let end = put_behind(out, fourth, remainder);
+    text::put_byte(out, end, b'\n')
+}
+
 fn put_accepted(out: &mut [u8]) -> usize
-    requires { ⌜ 64 ≤ length (now out) ⌝ }
+    requires { ⌜ answerRoom ≤ length (now out) ⌝ }
     ensures { λ r. ⌜ Wrote (now (out .entry)) 0 (responseText (replied accepted)) (now (out .exit)) r ⌝ }
 {
     put_word(out, b"accepted")
 }
 
 fn put_refused(out: &mut [u8], number: u8) -> usize
-    requires { ⌜ 64 ≤ length (now out) ⌝ }
+    requires { ⌜ answerRoom ≤ length (now out) ⌝ }
     ensures { λ r. ⌜ Wrote (now (out .entry)) 0 (responseText (replied (refused number))) (now (out .exit)) r ⌝ }
 {
     put_numbered(out, b"refused", number as u64)
@@ -159,7 +180,7 @@ fn put_loaded(out: &mut [u8], sets: u64, starts: u64) -> usize
 
 // What a call is answered, a function for each type of answer.
 fn put_load(out: &mut [u8], answer: LoadAnswer) -> usize
-    requires { ⌜ 64 ≤ length (now out) ⌝ }
+    requires { ⌜ answerRoom ≤ length (now out) ⌝ }
     ensures { λ r. ⌜ Wrote (now (out .entry)) 0 (responseText (replied (loadMeans answer))) (now (out .exit)) r ⌝ }
 {
     match answer {
@@ -169,7 +190,7 @@ fn put_load(out: &mut [u8], answer: LoadAnswer) -> usize
 }
 
 fn put_open(out: &mut [u8], answer: OpenAnswer) -> usize
-    requires { ⌜ 64 ≤ length (now out) ⌝ }
+    requires { ⌜ answerRoom ≤ length (now out) ⌝ }
     ensures { λ r. ⌜ Wrote (now (out .entry)) 0 (responseText (replied (openMeans answer))) (now (out .exit)) r ⌝ }
 {
     match answer {
@@ -179,7 +200,7 @@ fn put_open(out: &mut [u8], answer: OpenAnswer) -> usize
 }
 
 fn put_deliver(out: &mut [u8], answer: DeliverAnswer) -> usize
-    requires { ⌜ 64 ≤ length (now out) ⌝ }
+    requires { ⌜ answerRoom ≤ length (now out) ⌝ }
     ensures { λ r. ⌜ Wrote (now (out .entry)) 0 (responseText (replied (deliverMeans answer))) (now (out .exit)) r ⌝ }
 {
     match answer {
@@ -189,7 +210,7 @@ fn put_deliver(out: &mut [u8], answer: DeliverAnswer) -> usize
 }
 
 fn put_withdraw(out: &mut [u8], answer: WithdrawAnswer) -> usize
-    requires { ⌜ 64 ≤ length (now out) ⌝ }
+    requires { ⌜ answerRoom ≤ length (now out) ⌝ }
     ensures { λ r. ⌜ Wrote (now (out .entry)) 0 (responseText (replied (withdrawMeans answer))) (now (out .exit)) r ⌝ }
 {
     match answer {
@@ -198,19 +219,34 @@ fn put_withdraw(out: &mut [u8], answer: WithdrawAnswer) -> usize
     }
 }
 
-fn put_verdict(out: &mut [u8], verdict: Verdict) -> usize
-    requires { ⌜ 64 ≤ length (now out) ⌝ }
-    ensures { λ r. ⌜ Wrote (now (out .entry)) 0 (responseText (replied (verdictMeans verdict))) (now (out .exit)) r ⌝ }
+fn put_report(out: &mut [u8], report: Report) -> usize
+    requires { ⌜ answerRoom ≤ length (now out) ⌝ }
+    ensures { λ r. ⌜ Wrote (now (out .entry)) 0 (responseText (replied (judged (reportMeans report)))) (now (out .exit)) r ⌝ }
 {
+    let verdict = report.verdict;
     match verdict {
         Verdict::Waiting(empty) => put_numbered(out, b"waiting", empty as u64),
-        Verdict::Yes(count) => put_numbered(out, b"yes", count),
-        Verdict::No(count) => put_numbered(out, b"no", count),
+        Verdict::Yes(count) => put_counted(
+            out,
+            b"yes",
+            count,
+            report.bytes,
+            report.quotient,
+            report.remainder,
+        ),
+        Verdict::No(count) => put_counted(
+            out,
+            b"no",
+            count,
+            report.bytes,
+            report.quotient,
+            report.remainder,
+        ),
         Verdict::Refused(number) => put_refused(out, number),
     }
 }
 
-// Writes an answer at the buffer's start and tells its length; 64 bytes are enough.
+// Writes an answer at the buffer's start and tells its length; 96 bytes are enough.
 pub fn put_answer(out: &mut [u8], answer: LineAnswer) -> usize
     requires { ⌜ answerRoom ≤ length (now out) ⌝ }
     ensures { λ r. ⌜ Wrote (now (out .entry)) 0 (responseText (answerMeans answer)) (now (out .exit)) r ⌝ }
@@ -221,7 +257,7 @@ pub fn put_answer(out: &mut [u8], answer: LineAnswer) -> usize
         LineAnswer::Open(said) => put_open(out, said),
         LineAnswer::Deliver(said) => put_deliver(out, said),
         LineAnswer::Withdraw(said) => put_withdraw(out, said),
-        LineAnswer::Verdict(said) => put_verdict(out, said),
+        LineAnswer::Verdict(said) => put_report(out, said),
         LineAnswer::Malformed => put_word(out, b"malformed"),
     }
 }

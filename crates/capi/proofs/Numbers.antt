@@ -9,12 +9,12 @@ use Rattle.calls.specs.declared.DeliverAnswer.{DeliverAnswer}
 use Rattle.calls.specs.declared.DeliverAnswer.the-variants as delivery
 use Rattle.calls.specs.declared.WithdrawAnswer.{WithdrawAnswer}
 use Rattle.calls.specs.declared.WithdrawAnswer.the-variants as withdrawal
-use Rattle.calls.specs.declared.Verdict.{Verdict}
+use Rattle.calls.specs.declared.Report.{Report}
 use Rattle.calls.specs.declared.LoadResult.{LoadResult}
 use Rattle.calls.specs.declared.OpenResult.{OpenResult}
 use Rattle.calls.specs.declared.DeliverResult.{DeliverResult}
 use Rattle.calls.specs.declared.WithdrawResult.{WithdrawResult}
-use Rattle.calls.specs.Replies.{loadMeans, openMeans, deliverMeans, withdrawMeans, verdictMeans}
+use Rattle.calls.specs.Replies.{loadMeans, openMeans, deliverMeans, withdrawMeans, reportMeans}
 use Rattle.calls.specs.Steps.{Outcome, loadOutcome, openOutcome, deliverOutcome, withdrawOutcome}
 use Rattle.replay.specs.declared.ReplayAnswer.{ReplayAnswer}
 use Rattle.replay.specs.declared.ReplayAnswer.the-variants as replay
@@ -53,9 +53,9 @@ module _ (o : Outcome) where
     withdraw-refused x e = ap withdrawShown (sym (ap (λ (a : WithdrawAnswer). record { reply = withdrawMeans a; state = r .judge }) e) ∙ is)
 
 module _ (v : ReplayAnswer) (t : ReplayReply) (is : replayMeans v ≡ t) where
-  pub replay-verdict : (x : Verdict) → v ≡ replay.Verdict x → (r : VerdictNumbers) → r ≡ verdictShown (verdictMeans x)
-      → record { kind = r .kind; number = r .number } ≡ replayShown t
+  pub replay-verdict : (x : Report) → v ≡ replay.Verdict x → (r : VerdictNumbers) → r ≡ verdictShown (reportMeans x)
+      → record { kind = r .kind; number = r .number; bytes = r .bytes; quotient = r .quotient; remainder = r .remainder } ≡ replayShown t
   replay-verdict x e r shows = rw shows (ap replayShown (sym (ap replayMeans e) ∙ is))
 
-  pub replay-malformed : (line : ℕ) → v ≡ replay.Malformed line → record { kind = 4; number = line } ≡ replayShown t
+  pub replay-malformed : (line : ℕ) → v ≡ replay.Malformed line → record { kind = 4; number = line; bytes = 0; quotient = 0; remainder = 0 } ≡ replayShown t
   replay-malformed line e = ap replayShown (sym (ap replayMeans e) ∙ is)

@@ -1,6 +1,6 @@
 -- The numbers that C is given, read back: by cases of the calls' outcomes. Assumes nothing.
-use mathlib.Core.Path.{_≡_, refl}
-use mathlib.Core.Bool.{Bool, true, false, cond, not}
+use mathlib.Core.Path.{_≡_, refl, ap}
+use mathlib.Core.Bool.{false, not}
 use mathlib.Core.List.{List}
 use mathlib.Core.Option.{Option, none, some}
 use Prim.Native.Nat.{ℕ}
@@ -8,14 +8,14 @@ use lib.Dec.{eqb}
 use Rattle.base.specs.Conditions.{firstOf}
 use Rattle.ruleformat.specs.Reader.{ruleOf}
 use Rattle.build.specs.Building.{builtOf}
-use Rattle.board.specs.Boards.{placesOf, isEmpty, emptyBoard, filledAt, clearedAt, emptyPlaces, summedCount}
+use Rattle.board.specs.Boards.{placesOf, isEmpty, emptyBoard, filledAt, clearedAt}
 use Rattle.calls.specs.declared.Judge.{Judge}
-use Rattle.calls.specs.Replies.{Judgement, waiting, yesWith, noWith, accepted, loaded, judged, refused}
-use Rattle.calls.specs.Calls.{loadNumber, openConditions, deliverConditions, withdrawConditions, judgementBy}
-use Rattle.calls.specs.Steps.{lacksRule, lacksBoard, withBoard, outcomeBy, runsAt, loadOf, openOf, deliverOf, withdrawOf, isYes, verdictOf}
-use Rattle.histories.specs.History.{placesIn, emptiesIn, yesIn, summedIn}
+use Rattle.calls.specs.Replies.{Judgement, waiting, yesWith, noWith, refusedWith, Reported, accepted, loaded}
+use Rattle.calls.specs.Calls.{loadNumber, openConditions, deliverConditions, withdrawConditions}
+use Rattle.calls.specs.Steps.{lacksRule, lacksBoard, withBoard, outcomeBy, runsAt, loadOf, openOf, deliverOf, withdrawOf, reportOf}
+use Rattle.histories.specs.History.{reportIn}
 use Rattle.replay.specs.Records.{Recorded, calls, malformedAt, verdict, replayOf}
-use Rattle.capi.specs.Numbers.{loadShown, openShown, deliverShown, withdrawShown, verdictShown, replayShown, loadReadBack, openReadBack, deliverReadBack, withdrawReadBack, verdictReadBack, replayReadBack}
+use Rattle.capi.specs.Numbers.{loadShown, openShown, deliverShown, withdrawShown, kindOf, numberOf, verdictShown, replayShown, loadReadBack, openReadBack, deliverReadBack, withdrawReadBack, judgementBack, verdictReadBack, replayReadBack}
 use Rattle.capi.specs.Claims.{Claims}
 
 module _ (j next : Judge) where
@@ -28,19 +28,26 @@ module _ (j next : Judge) where
   taken-by none = refl
   taken-by (some x) = refl
 
--- a verdict is refused or judges
-verdict-by : (lacks : Bool) (x : ℕ) (v : Judgement) → verdictReadBack (verdictShown (cond lacks (refused x) (judged v))) ≡ cond lacks (refused x) (judged v)
-verdict-by true x v = refl
-verdict-by false x (waiting empty) = refl
-verdict-by false x (yesWith count) = refl
-verdict-by false x (noWith count) = refl
+-- of whatever a verdict says and reports
+judgement-by : (v : Judgement) → judgementBack (kindOf v) (numberOf v) ≡ v
+judgement-by (waiting empty) = refl
+judgement-by (yesWith count) = refl
+judgement-by (noWith count) = refl
+judgement-by (refusedWith number) = refl
 
-replay-by : (lacks : Bool) (x : ℕ) (v : Judgement)
-    → replayReadBack (replayShown (verdict (cond lacks (refused x) (judged v)))) ≡ verdict (cond lacks (refused x) (judged v))
-replay-by true x v = refl
-replay-by false x (waiting empty) = refl
-replay-by false x (yesWith count) = refl
-replay-by false x (noWith count) = refl
+verdict-by : (r : Reported) → verdictReadBack (verdictShown r) ≡ r
+verdict-by r =
+    ap (λ (v : Judgement). record { verdict = v; bytes = r .bytes; quotient = r .quotient; remainder = r .remainder }) (judgement-by (r .verdict))
+
+-- its kind is not that of a malformed line
+replay-by : (r : Reported) → replayReadBack (replayShown (verdict r)) ≡ verdict r
+replay-by r = rw (not-4 (r .verdict)) (ap verdict (verdict-by r))
+  where
+    not-4 : (v : Judgement) → eqb (kindOf v) 4 ≡ false
+    not-4 (waiting empty) = refl
+    not-4 (yesWith count) = refl
+    not-4 (noWith count) = refl
+    not-4 (refusedWith number) = refl
 
 load-read-back : (j : Judge) (f : List ℕ) → loadReadBack (loadShown (loadOf j f)) ≡ loadOf j f
 unfolding loadOf
@@ -64,12 +71,11 @@ withdraw-read-back j p =
     taken-by j (withBoard j (clearedAt (j .board) p))
     (firstOf (withdrawConditions (lacksBoard j) (placesOf (j .board)) p (isEmpty (j .board) p)))
 
-verdict-read-back : (j : Judge) → verdictReadBack (verdictShown (verdictOf j)) ≡ verdictOf j
-unfolding verdictOf
-verdict-read-back j = verdict-by (lacksBoard j) 21 (judgementBy (emptyPlaces (j .board)) (isYes j) (summedCount (j .board)))
+verdict-read-back : (j : Judge) → verdictReadBack (verdictShown (reportOf j)) ≡ reportOf j
+verdict-read-back j = verdict-by (reportOf j)
 
 replay-read-back : (so : Recorded) → replayReadBack (replayShown (replayOf so)) ≡ replayOf so
-replay-read-back (calls h) = replay-by (eqb (placesIn h) 0) 21 (judgementBy (emptiesIn h) (yesIn h) (summedIn h))
+replay-read-back (calls h) = replay-by (reportIn h)
 replay-read-back (malformedAt i) = refl
 
 pub claims : Claims

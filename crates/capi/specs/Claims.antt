@@ -4,7 +4,7 @@ use mathlib.Core.Path.{_≡_}
 use mathlib.Core.List.{List}
 use Prim.Native.Nat.{ℕ}
 use Rattle.calls.specs.declared.Judge.{Judge}
-use Rattle.calls.specs.Steps.{loadOf, openOf, deliverOf, withdrawOf, verdictOf}
+use Rattle.calls.specs.Steps.{loadOf, openOf, deliverOf, withdrawOf, reportOf}
 use Rattle.replay.specs.Records.{Recorded, replayOf}
 use Rattle.capi.specs.Numbers.{loadShown, openShown, deliverShown, withdrawShown, verdictShown, replayShown, loadReadBack, openReadBack, deliverReadBack, withdrawReadBack, verdictReadBack, replayReadBack}
 
@@ -13,5 +13,5 @@ pub record Claims : Type 0 where
   pub open-read-back : (j : Judge) (n : ℕ) → openReadBack (openShown (openOf j n)) ≡ openOf j n
   pub deliver-read-back : (j : Judge) (p : ℕ) (w : List ℕ) → deliverReadBack (deliverShown (deliverOf j p w)) ≡ deliverOf j p w
   pub withdraw-read-back : (j : Judge) (p : ℕ) → withdrawReadBack (withdrawShown (withdrawOf j p)) ≡ withdrawOf j p
-  pub verdict-read-back : (j : Judge) → verdictReadBack (verdictShown (verdictOf j)) ≡ verdictOf j
+  pub verdict-read-back : (j : Judge) → verdictReadBack (verdictShown (reportOf j)) ≡ reportOf j
   pub replay-read-back : (so : Recorded) → replayReadBack (replayShown (replayOf so)) ≡ replayOf so

@@ -5,8 +5,10 @@
 --                                and the number of the refusal
 --   setsField a, startsField a     the fields `sets` and `starts`
 --   loadShown .. withdrawShown   an outcome as a result
---   verdictShown a               a verdict: kind 0 refused, 1 waiting, 2 yes, 3 no, each with its
+--   kindOf v, numberOf v         a verdict: kind 0 refused, 1 waiting, 2 yes, 3 no, each with its
 --                                number
+--   verdictShown r               what the call verdict reports: its kind and number, and the bytes,
+--                                the quotient and the remainder beside them
 --   replayShown t                the same for a recorded list; kind 4: the line of that number is
 --                                malformed
 --   loadReadBack .. replayReadBack       what such a result says, read back from its numbers
@@ -17,7 +19,7 @@ use mathlib.Core.Option.{Option·getD}
 use Prim.Native.Nat.{ℕ}
 use lib.Dec.{eqb}
 use Rattle.base.specs.Options.{isNone}
-use Rattle.calls.specs.Replies.{Judgement, waiting, yesWith, noWith, Reply, accepted, loaded, judged, refused, refusalOf}
+use Rattle.calls.specs.Replies.{Judgement, waiting, yesWith, noWith, refusedWith, Reported, Reply, accepted, loaded, judged, refused, refusalOf}
 use Rattle.calls.specs.Steps.{Outcome}
 use Rattle.replay.specs.Records.{ReplayReply, verdict, malformedLine}
 use Rattle.capi.specs.declared.LoadNumbers.{LoadNumbers}
@@ -65,20 +67,36 @@ abbrev pub withdrawShown : Outcome → WithdrawNumbers
 withdrawShown o = record { accepted = flagOf (o .reply); refused = refusedOf (o .reply); judge = o .state }
 
 -- ---- the verdict
-abbrev pub judgementShown : Judgement → VerdictNumbers
-judgementShown (waiting empty) = record { kind = 1; number = empty }
-judgementShown (yesWith count) = record { kind = 2; number = count }
-judgementShown (noWith count) = record { kind = 3; number = count }
+abbrev pub kindOf : Judgement → ℕ
+kindOf (refusedWith number) = 0
+kindOf (waiting empty) = 1
+kindOf (yesWith count) = 2
+kindOf (noWith count) = 3
 
-abbrev pub verdictShown : Reply → VerdictNumbers
-verdictShown (judged v) = judgementShown v
-verdictShown (refused number) = record { kind = 0; number = number }
-verdictShown accepted = record { kind = 0; number = 0 }
-verdictShown (loaded sets starts) = record { kind = 0; number = 0 }
+abbrev pub numberOf : Judgement → ℕ
+numberOf (refusedWith number) = number
+numberOf (waiting empty) = empty
+numberOf (yesWith count) = count
+numberOf (noWith count) = count
+
+abbrev pub verdictShown : Reported → VerdictNumbers
+verdictShown r = record {
+  kind = kindOf (r .verdict);
+  number = numberOf (r .verdict);
+  bytes = r .bytes;
+  quotient = r .quotient;
+  remainder = r .remainder;
+}
 
 abbrev pub replayShown : ReplayReply → ReplayNumbers
-replayShown (verdict a) = record { kind = verdictShown a .kind; number = verdictShown a .number }
-replayShown (malformedLine i) = record { kind = 4; number = i }
+replayShown (verdict r) = record {
+  kind = kindOf (r .verdict);
+  number = numberOf (r .verdict);
+  bytes = r .bytes;
+  quotient = r .quotient;
+  remainder = r .remainder;
+}
+replayShown (malformedLine i) = record { kind = 4; number = i; bytes = 0; quotient = 0; remainder = 0 }
 
 -- ---- read back: what the header says of the numbers
 -- `a` is the reply of a call that was accepted
@@ -97,11 +115,24 @@ deliverReadBack r = record { reply = readBackBy (r .accepted) (r .refused) accep
 abbrev pub withdrawReadBack : WithdrawNumbers → Outcome
 withdrawReadBack r = record { reply = readBackBy (r .accepted) (r .refused) accepted; state = r .judge }
 
-abbrev pub verdictReadBack : VerdictNumbers → Reply
-verdictReadBack r =
-    cond (eqb (r .kind) 0) (refused (r .number))
-    (judged (cond (eqb (r .kind) 1) (waiting (r .number)) (cond (eqb (r .kind) 2) (yesWith (r .number)) (noWith (r .number)))))
+abbrev pub judgementBack : ℕ → ℕ → Judgement
+judgementBack kind number =
+    cond (eqb kind 0) (refusedWith number) (cond (eqb kind 1) (waiting number) (cond (eqb kind 2) (yesWith number) (noWith number)))
+
+abbrev pub verdictReadBack : VerdictNumbers → Reported
+verdictReadBack r = record {
+  verdict = judgementBack (r .kind) (r .number);
+  bytes = r .bytes;
+  quotient = r .quotient;
+  remainder = r .remainder;
+}
 
 abbrev pub replayReadBack : ReplayNumbers → ReplayReply
 replayReadBack r =
-    cond (eqb (r .kind) 4) (malformedLine (r .number)) (verdict (verdictReadBack (record { kind = r .kind; number = r .number })))
+    cond (eqb (r .kind) 4) (malformedLine (r .number))
+    (verdict (record {
+      verdict = judgementBack (r .kind) (r .number);
+      bytes = r .bytes;
+      quotient = r .quotient;
+      remainder = r .remainder;
+    }))

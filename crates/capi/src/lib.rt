@@ -1,15 +1,16 @@
 // The judge for C and Rust. Answers are numbers; the state is a value that the caller keeps, hands
 // in and gets back.
 ghost use mathlib.Core.Path.{_≡_};
-ghost use Rattle.calls.specs.Replies.{verdictMeans};
+ghost use Rattle.calls.specs.Replies.{verdictMeans, reportMeans};
 ghost use Prim.Native.Nat.{_+_, _*_};
-ghost use Rattle.calls.specs.Steps.{fresh, loadOf, openOf, deliverOf, withdrawOf, verdictOf};
+ghost use Rattle.calls.specs.Steps.{fresh, loadOf, openOf, deliverOf, withdrawOf, reportOf};
 ghost use Rattle.replay.specs.Records.{recordIn, replayOf};
-ghost use Rattle.capi.specs.Numbers.{loadShown, openShown, deliverShown, withdrawShown, verdictShown, replayShown};
+ghost use Rattle.capi.specs.Numbers.{loadShown, openShown, deliverShown, withdrawShown, kindOf, numberOf, verdictShown, replayShown};
 use calls::DeliverAnswer;
 use calls::Judge;
 use calls::LoadAnswer;
 use calls::OpenAnswer;
+use calls::Report;
 use calls::Verdict;
 use calls::WithdrawAnswer;
 use replay::ReplayAnswer;
@@ -46,11 +47,15 @@ pub struct WithdrawNumbers {
 }
 
 // Kind 0 refused with the number, 1 waiting with so many empty places, 2 yes and 3 no with the
-// count.
+// count. Beside yes and no the bytes of the text, and the quotient and remainder of the count by
+// them; beside the others these are 0.
 #[repr(C)]
 pub struct VerdictNumbers {
     pub kind: u8,
     pub number: u64,
+    pub bytes: u64,
+    pub quotient: u64,
+    pub remainder: u64,
 }
 
 // As a verdict; kind 4: the line of that number is malformed.
@@ -58,19 +63,22 @@ pub struct VerdictNumbers {
 pub struct ReplayNumbers {
     pub kind: u8,
     pub number: u64,
+    pub bytes: u64,
+    pub quotient: u64,
+    pub remainder: u64,
 }
 
 // The version of these functions, and how many bytes a judge has as C lays it out.
-const MAJOR: u32 = 1;
+const MAJOR: u32 = 2;
 
 const MINOR: u32 = 0;
 
-const STATE_SIZE: usize = 27060;
+const STATE_SIZE: usize = 27316;
 
 // The version that the library was built with: the major number times 65,536, and the minor one.
 #[no_mangle]
 pub extern "C" fn bellbadger_version() -> u32
-    ensures { λ r. ⌜ r ≡ 1 * 65536 + 0 ⌝ }
+    ensures { λ r. ⌜ r ≡ 2 * 65536 + 0 ⌝ }
 {
     MAJOR * 65536 + MINOR
 }
@@ -78,7 +86,7 @@ pub extern "C" fn bellbadger_version() -> u32
 // The size of the judge that the library was built with.
 #[no_mangle]
 pub extern "C" fn bellbadger_state_size() -> usize
-    ensures { λ r. ⌜ r ≡ 27060 ⌝ }
+    ensures { λ r. ⌜ r ≡ 27316 ⌝ }
 {
     STATE_SIZE
 }
@@ -178,27 +186,46 @@ pub extern "C" fn bellbadger_withdraw(judge: Judge, place: usize) -> WithdrawNum
     }
 }
 
-// A verdict in the numbers that C is given.
-fn shown(verdict: Verdict) -> VerdictNumbers
-    ensures { λ r. ⌜ r ≡ verdictShown (verdictMeans verdict) ⌝ }
+// Which of the four a verdict is, and the number that it has.
+fn kind_of(verdict: Verdict) -> u8
+    ensures { λ r. ⌜ r ≡ kindOf (verdictMeans verdict) ⌝ }
 {
     match verdict {
-        Verdict::Refused(x) => VerdictNumbers {
-            kind: 0,
-            number: x as u64,
-        },
-        Verdict::Waiting(empty) => VerdictNumbers {
-            kind: 1,
-            number: empty as u64,
-        },
-        Verdict::Yes(number) => VerdictNumbers { kind: 2, number },
-        Verdict::No(number) => VerdictNumbers { kind: 3, number },
+        Verdict::Refused(_) => 0,
+        Verdict::Waiting(_) => 1,
+        Verdict::Yes(_) => 2,
+        Verdict::No(_) => 3,
+    }
+}
+
+fn number_of(verdict: Verdict) -> u64
+    ensures { λ r. ⌜ r ≡ numberOf (verdictMeans verdict) ⌝ }
+{
+    match verdict {
+        Verdict::Refused(x) => x as u64,
+        Verdict::Waiting(empty) => empty as u64,
+        Verdict::Yes(count) => count,
+        Verdict::No(count) => count,
+    }
+}
+
+// A report in the numbers that C is given.
+fn shown(report: Report) -> VerdictNumbers
+    ensures { λ r. ⌜ r ≡ verdictShown (reportMeans report) ⌝ }
+{
+    let verdict = report.verdict;
+    VerdictNumbers {
+        kind: kind_of(verdict),
+        number: number_of(verdict),
+        bytes: report.bytes,
+        quotient: report.quotient,
+        remainder: report.remainder,
     }
 }
 
 #[no_mangle]
 pub extern "C" fn bellbadger_verdict(judge: Judge) -> VerdictNumbers
-    ensures { λ r. ⌜ r ≡ verdictShown (verdictOf judge) ⌝ }
+    ensures { λ r. ⌜ r ≡ verdictShown (reportOf judge) ⌝ }
 {
     shown(judge::ask_verdict(judge))
 }
@@ -210,16 +237,22 @@ pub extern "C" fn bellbadger_replay(text: &[u8]) -> ReplayNumbers
 {
     let replayed = replay::replay(text);
     match replayed {
-        ReplayAnswer::Verdict(verdict) => {
-            let told = shown(verdict);
+        ReplayAnswer::Verdict(report) => {
+            let told = shown(report);
             ReplayNumbers {
                 kind: told.kind,
                 number: told.number,
+                bytes: told.bytes,
+                quotient: told.quotient,
+                remainder: told.remainder,
             }
         }
         ReplayAnswer::Malformed(line) => ReplayNumbers {
             kind: 4,
             number: line as u64,
+            bytes: 0,
+            quotient: 0,
+            remainder: 0,
         },
     }
 }

@@ -62,8 +62,8 @@ module _ (sets next singles : List ℕ) (mask : ℕ) (chunk : List ℕ) where
       counted = ap₂ (λ (a : ℕ) (b : ℕ). a + b) (before .counted) counts ∙ sym (total-more countAt q ∙ rw e);
     }
 
-    pub all-run : q ≡ 32 → record { ends = ends; count = count } ≡ runsOf sets next singles mask chunk
+    pub all-run : q ≡ 32 → record { ends = ends; count = count; bytes = length chunk } ≡ runsOf sets next singles mask chunk
     all-run e =
-        ap₂ (λ (a : List ℕ) (b : ℕ). record { ends = a; count = b })
+        ap₂ (λ (a : List ℕ) (b : ℕ). record { ends = a; count = b; bytes = length chunk })
         (is-listFrom ends 32 endAt (before .cells) (λ p h. before .passed p (omega arith)))
         (before .counted ∙ ap (total countAt) e)

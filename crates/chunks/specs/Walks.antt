@@ -6,15 +6,15 @@
 --   walkEnd, walkCount    the number of the set after the bytes w, and how many of the steps led to
 --                         a set that is not empty
 --   maskOf sets i         the mask of set i
---   runsOf ..             the end set of each state that is run, as an array, and the sum of the
---                         counts
+--   runsOf ..             the end set of each state that is run, as an array, the sum of the
+--                         counts, and the number of text bytes
 --   delegateMask, runMask   delegateSet and runSet for at most 32 states; of a delegate the
 --                           remainder by 32 is taken
 use mathlib.Core.Bool.{cond}
 use mathlib.Core.List.{List, [], _∷_}
 use Prim.Native.Nat.{ℕ, zero, suc, _+_, _%_, min}
 use lib.Dec.{ltb}
-use lib.ListN.{getD}
+use lib.ListN.{length, getD}
 use Rattle.limits.specs.Limits.{mostStates, mostSymbols, emptySet}
 use Rattle.base.specs.Lists.{listFrom}
 use Rattle.base.specs.Totals.{total}
@@ -41,6 +41,7 @@ abbrev pub runsOf : List ℕ → List ℕ → List ℕ → ℕ → List ℕ → 
 runsOf sets next singles run w = record {
   ends = listFrom 0 mostStates (λ q. cond (has run q) (maskOf sets (walkEnd next (getD singles q 0) w)) 0);
   count = total (λ q. cond (has run q) (walkCount next (getD singles q 0) w) 0) mostStates;
+  bytes = length w;
 }
 
 abbrev pub delegateMask : List ℕ → ℕ → ℕ → ℕ

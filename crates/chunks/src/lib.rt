@@ -15,10 +15,12 @@ pub struct Run {
     pub count: u32,
 }
 
-// The end set of each state, empty where it was not run, and the sum of what the runs count.
+// The end set of each state, empty where it was not run, the sum of what the runs count, and how
+// many bytes of text the chunk has.
 pub struct Runs {
     pub ends: [u32; limits::STATES],
     pub count: u32,
+    pub bytes: u32,
 }
 
 // Whether some byte is no symbol below k (13).
@@ -155,5 +157,6 @@ pub fn run_chunk(
         }
         q += 1;
     }
-    Runs { ends, count }
+    let bytes = chunk.len() as u32;
+    Runs { ends, count, bytes }
 }

@@ -4,7 +4,7 @@
 --   1  stepOf j c                     the outcome of a call on any state    calls/specs/Steps
 --      Reply, Call; loadNumber ..     01's answers, calls and numbers       calls/specs/Replies, Calls
 --      judgeLibrary, cLibrary         what contracts ask and allow          histories/, demands/specs/Functions
---      loadMeans .. verdictMeans      what an answer of the code means      calls/specs/Replies
+--      loadMeans .. reportMeans       what an answer of the code means      calls/specs/Replies
 --      loadReadBack .., replayShown   what C's numbers mean                 capi/specs/Numbers
 --   2  Accepts, Run, Arc              automata and their runs (000)         automaton/specs/Automaton
 --      automatonIn f                  the automaton in a file's bytes       ruleformat/specs/Language, Format
@@ -18,8 +18,9 @@
 --      Accepted-exactly, Refused-..   which calls, with which number        histories/specs/Conditions
 --      CountBound                     the sum's bound; the former 24        histories/specs/CountBound
 --      runSet, endSet, chunkCount     running a chunk                       chunks/specs/Chunks
---      held, isEmpty, summedCount     what a board holds                    board/specs/Boards
+--      held, isEmpty, summedCount ..  what a board holds                    board/specs/Boards
 --      joinOf, yesOf                  joining                               joins/specs/Joining
+--      reportBy; Divided, ThreeZeros  what is reported with a verdict       calls/specs/Calls, Claims
 --      TableP                         the table's cases                     histories/specs/TableP
 --      streamOf, rightText            a text of calls                       stream/specs/Texts
 --      Blocks                         what is written for blocks            stream/specs/Claims
@@ -31,7 +32,7 @@ use mathlib.Core.Path.{_≡_, _∙_}
 use mathlib.Core.Logic.{_↔_, _⊎_, ⊎-elim}
 use mathlib.Core.Bool.{true, false}
 use mathlib.Core.List.{List, [], _++_, flatten}
-use mathlib.Core.Option.{none}
+use mathlib.Core.Option.{none, some}
 use Prim.Native.Nat.{ℕ, _*_, _≤_, _<_}
 use lib.ListN.{length, getD}
 use contract.Lifetimes.{Lfts}
@@ -47,14 +48,15 @@ use Rattle.ruleformat.specs.Reader.{ruleOf}
 use Rattle.ruleformat.specs.Language.{automatonIn}
 use Rattle.delegates.specs.Claims.{startsIn}
 use Rattle.build.specs.Building.{builtOf}
-use Rattle.board.specs.Boards.{held, isEmpty, summedCount}
+use Rattle.board.specs.Boards.{held, isEmpty, summedCount, summedBytes}
 use Rattle.calls.specs.declared.Judge.{Judge}
-use Rattle.calls.specs.Replies.{waiting, yesWith, noWith, Reply, judged, refused}
+use Rattle.calls.specs.Replies.{waiting, yesWith, noWith, refusedWith, Reply, refusalOf}
 use Rattle.calls.specs.Calls.{Call, loadNumber}
-use Rattle.calls.specs.Steps.{fresh, isYes, stepOf}
+use Rattle.calls.specs.Steps.{fresh, isYes, reportOf, stepOf}
+use Rattle.calls.specs.Claims.{Divided, ThreeZeros}
 use Rattle.calls.proofs.Conditions.{not-refused}
 use Rattle.calls.proofs.Refusing as refusing
-use Rattle.histories.specs.History.{fileOf, ruleIn, boardIn, standing, chunkOf, endAt, countAt, emptiesIn, summedIn, yesIn, textIn, verdictIn, answersTo}
+use Rattle.histories.specs.History.{fileOf, ruleIn, boardIn, standing, chunkOf, endAt, countAt, lengthAt, emptiesIn, summedIn, bytesIn, yesIn, textIn, verdictIn, reportIn, answersTo}
 use Rattle.histories.specs.Method.{Method}
 use Rattle.histories.specs.Conditions.{Accepted-exactly, Refused-exactly}
 use Rattle.histories.specs.Claims.{judgeMachine, judgeAfter, repliesTo, BuiltBy, EveryList, automatonBy}
@@ -98,7 +100,7 @@ any-call-from-C = c-meets .steps
 
 -- A refusal leaves the state unchanged. (Its number is the first condition's that holds: demand 3.
 -- A file and a chunk are lent as `&[u8]`, which no function can write.)
-pub refusals : (j : Judge) (c : Call) (x : ℕ) → stepOf j c .reply ≡ refused x → stepOf j c .state ≡ j
+pub refusals : (j : Judge) (c : Call) (x : ℕ) → refusalOf (stepOf j c .reply) ≡ some x → stepOf j c .state ≡ j
 refusals = refusing.unchanged
 
 -- ---- 2. THE METHOD
@@ -149,21 +151,21 @@ pub count-bound : (h : List Call) → CountBound h
 count-bound = histories-bound.count-bound
 
 -- The verdict: refused with 21 unless the last accepted load or opening is an opening;
-pub refused-21 : (h : List Call) → (verdictIn h ≡ refused 21) ↔ (boardIn h ≡ false)
+pub refused-21 : (h : List Call) → (verdictIn h ≡ refusedWith 21) ↔ (boardIn h ≡ false)
 refused-21 h = every-list h .verdict .none-there
 
 -- waiting with the number of empty places exactly when one is empty;
-pub waits : (h : List Call) (e : ℕ) → (verdictIn h ≡ judged (waiting e)) ↔ ((boardIn h ≡ true) × (0 < e) × (e ≡ emptiesIn h))
+pub waits : (h : List Call) (e : ℕ) → (verdictIn h ≡ waiting e) ↔ ((boardIn h ≡ true) × (0 < e) × (e ≡ emptiesIn h))
 waits h = every-list h .verdict .waits
 
 -- else yes exactly when the last accepted rule has an accepting run over the standing chunks joined
 -- by place, and no when it has none.
 pub accepted-texts : (h : List Call) → boardIn h ≡ true → emptiesIn h ≡ 0
-    → (verdictIn h ≡ judged (yesWith (summedIn h))) ↔ Accepts (automatonBy (fileOf h)) (textIn h)
+    → (verdictIn h ≡ yesWith (summedIn h)) ↔ Accepts (automatonBy (fileOf h)) (textIn h)
 accepted-texts h = every-list h .verdict .accepts
 
 pub rejected-texts : (h : List Call) → boardIn h ≡ true → emptiesIn h ≡ 0
-    → (verdictIn h ≡ judged (noWith (summedIn h))) ↔ (Accepts (automatonBy (fileOf h)) (textIn h) → ⊥)
+    → (verdictIn h ≡ noWith (summedIn h)) ↔ (Accepts (automatonBy (fileOf h)) (textIn h) → ⊥)
 rejected-texts h = every-list h .verdict .rejects
 
 -- Each place with a standing chunk holds the end sets and the count that 01 gives, any other none:
@@ -189,6 +191,27 @@ most h = every-list h .verdict .most
 
 pub place-most : (h : List Call) (p : ℕ) → countAt h p ≤ startsIn (ruleIn h) .startcount * length (chunkOf (standing h p))
 place-most h = every-list h .verdict .place-most
+
+-- Beside yes or no the verdict reports the number of text bytes, and the whole quotient and the exact
+-- remainder of the count by it; for a text of 0 bytes both are 0, beside waiting or a refusal all three
+-- (document 02, R-1). Each place holds its standing chunk's length, an empty one 0:
+pub lengths : (h : List Call) (p : ℕ) → p < mostPlaces → getD (judgeAfter h .board .lengths) p 0 ≡ lengthAt h p
+lengths h = every-list h .after .lengths
+
+-- they sum up to the length of the standing chunks joined by place;
+pub text-bytes : (h : List Call) → (summedBytes (judgeAfter h .board) ≡ bytesIn h) × (bytesIn h ≡ length (textIn h))
+text-bytes h = (every-list h .after .summed-bytes, every-list h .report .text-bytes)
+
+-- what is reported is the verdict of the sentences above with these numbers.
+pub reported : (h : List Call) → (reportOf (judgeAfter h) ≡ reportIn h) × (reportIn h .verdict ≡ verdictIn h)
+reported h = (every-list h .after .reported, every-list h .report .verdict)
+
+pub divided : (h : List Call) (count : ℕ) → (verdictIn h ≡ yesWith count) ⊎ (verdictIn h ≡ noWith count)
+    → Divided count (length (textIn h)) (reportIn h)
+divided h = every-list h .report .divided
+
+pub zeros : (h : List Call) (x : ℕ) → (verdictIn h ≡ waiting x) ⊎ (verdictIn h ≡ refusedWith x) → ThreeZeros (reportIn h)
+zeros h = every-list h .report .zeros
 
 -- Table P, over one list of cases, through the calls.
 pub table-P : TableP

@@ -8,7 +8,7 @@ use mathlib.Core.Option.{Option, none, some}
 use Prim.Native.Nat.{ℕ, _≤_, _<_}
 use native.Mathlib.Omega.{arith}
 use lib.Dec.{eqb}
-use lib.ListN.{getD}
+use lib.ListN.{length, getD}
 use borrow.Author.Tests.{eq-eqb, ne-eqb, eqb-true, eqb-false}
 use Rattle.base.specs.Options.{isNone}
 use Rattle.base.proofs.Options.{none-some}
@@ -18,9 +18,9 @@ use Rattle.automaton.specs.Automaton.{Text}
 use Rattle.build.specs.Building.{noBuilt}
 use Rattle.board.specs.declared.Board.{Board}
 use Rattle.board.specs.Boards.{held, isEmpty, emptyBoard, filledAt, clearedAt}
-use Rattle.board.proofs.Laws.{Sized, sized-empty, empty-all, empty-held, empty-count, Changed, filled-at, cleared-at}
+use Rattle.board.proofs.Laws.{Sized, sized-empty, empty-all, empty-held, empty-count, empty-length, Changed, filled-at, cleared-at}
 use Rattle.calls.specs.declared.Judge.{Judge}
-use Rattle.histories.specs.History.{ruleFrom, countOf, endOf}
+use Rattle.histories.specs.History.{ruleFrom, countOf, endOf, chunkOf}
 use Rattle.calls.specs.Steps.{fresh, withBoard, runsAt}
 use Rattle.histories.specs.Claims.{BuiltBy}
 use Rattle.histories.proofs.Running.{count-same, end-same}
@@ -36,6 +36,7 @@ pub record Agrees (file : Option (List ℕ)) (places : ℕ) (at : ℕ → Option
   pub empty : (p : ℕ) → p < 64 → isEmpty (j .board) p ≡ isNone (at p)
   pub ends : (p q : ℕ) → p < 64 → q < 32 → held (j .board) p q ≡ endOf (ruleFrom file) p q (at p)
   pub counts : (p : ℕ) → p < 64 → getD (j .board .counts) p 0 ≡ countOf (ruleFrom file) p (at p)
+  pub lengths : (p : ℕ) → p < 64 → getD (j .board .lengths) p 0 ≡ length (chunkOf (at p))
 
 -- ---- all places empty
 nothing : ℕ → Option (List ℕ)
@@ -55,6 +56,7 @@ module _ (file : Option (List ℕ)) (n : ℕ) (j : Judge) (rule : BuiltBy file j
     empty = λ p h. ap (λ b. isEmpty b p) is ∙ empty-all n p;
     ends = λ p q hp hq. ap (λ b. held b p q) is ∙ empty-held n p q;
     counts = λ p h. ap (λ b. getD (b .counts) p 0) is ∙ empty-count n p;
+    lengths = λ p h. ap (λ b. getD (b .lengths) p 0) is ∙ empty-length n p;
   }
 
 pub fresh-holds : Agrees none 0 (λ p. none) fresh
@@ -87,7 +89,7 @@ module _ (file : Option (List ℕ)) (places : ℕ) (at : ℕ → Option (List �
   place-below = omega (arith, h, holds .few)
 
   changed-holds : (new : Option (List ℕ)) (c : Board) → ((w : List ℕ) → new ≡ some w → Text (ruleFrom file .k) w)
-      → Changed (j .board) c p (isNone new) (countOf (ruleFrom file) p new) (λ q. endOf (ruleFrom file) p q new)
+      → Changed (j .board) c p (isNone new) (countOf (ruleFrom file) p new) (length (chunkOf new)) (λ q. endOf (ruleFrom file) p q new)
       → Agrees file places (placed at p new) (withBoard j c)
   changed-holds new c text changed = record {
     rule = kept file (holds .rule);
@@ -110,6 +112,10 @@ module _ (file : Option (List ℕ)) (places : ℕ) (at : ℕ → Option (List �
         each at p new (λ i o. i < 64 → getD (c .counts) i 0 ≡ countOf (ruleFrom file) i o)
         (λ b. changed .count-own)
         (λ i ne b. changed .count-other i ne ∙ holds .counts i b);
+    lengths =
+        each at p new (λ i o. i < 64 → getD (c .lengths) i 0 ≡ length (chunkOf o))
+        (λ b. changed .length-own)
+        (λ i ne b. changed .length-other i ne ∙ holds .lengths i b);
   }
     where
       kept : (o : Option (List ℕ)) → BuiltBy o j → BuiltBy o (withBoard j c)
@@ -140,6 +146,8 @@ module _ (f : List ℕ) (places : ℕ) (at : ℕ → Option (List ℕ)) (j : Jud
         empty-other = c .empty-other;
         count-own = c .count-own ∙ run-count;
         count-other = c .count-other;
+        length-own = c .length-own;
+        length-other = c .length-other;
         held-own = λ q l. c .held-own q l ∙ run-end q l;
         held-other = c .held-other;
       })

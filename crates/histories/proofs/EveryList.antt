@@ -1,20 +1,22 @@
 -- EVERY LIST OF CALLS, over the definitions alone: of the replies to the calls h and of the judge
 -- that they leave, all that demand 3 says holds. Assumes nothing.
-use mathlib.Core.Path.{_≡_, refl, ap₂}
+use mathlib.Core.Path.{_≡_, refl, ap, ap₂}
 use mathlib.Core.List.{List, [], _∷_}
 use Prim.Native.Nat.{ℕ}
 use Rattle.executions.specs.Executions.{stateAfter, repliesTo as machineReplies}
 use Rattle.calls.specs.declared.Judge.{Judge}
+use Rattle.calls.specs.Replies.{judged}
 use Rattle.calls.specs.Calls.{Call, loads, opens, delivers, withdraws, asksVerdict}
-use Rattle.calls.specs.Steps.{verdictOf, stepOf}
-use Rattle.histories.specs.History.{fileOf, placesIn, standing, verdictIn, answerOf, answersTo}
+use Rattle.calls.specs.Steps.{reportOf, stepOf}
+use Rattle.histories.specs.History.{fileOf, placesIn, standing, reportIn, answerOf, answersTo}
 use Rattle.histories.specs.Claims.{judgeAfter, repliesTo, EveryList}
 use Rattle.histories.proofs.Method.{method}
 use Rattle.histories.proofs.Conditions.{accepted-exactly, refused-exactly}
-use Rattle.histories.proofs.Numbers.{summed-same}
+use Rattle.histories.proofs.Numbers.{summed-same, bytes-same}
 use Rattle.histories.proofs.Steps.{AgreesWith, good-fresh, load-good, load-says, open-good, open-says, withdraw-good, withdraw-says, ask-good, deliver-good, deliver-says}
-use Rattle.histories.proofs.VerdictAgrees.{by-rule, verdict-says}
+use Rattle.histories.proofs.VerdictAgrees.{by-rule, verdict-says, report-says}
 use Rattle.histories.proofs.VerdictClauses.{there, words}
+use Rattle.histories.proofs.ReportClauses.{report-words}
 
 -- ---- one call
 module _ (h : List Call) (j : Judge) (g : AgreesWith h j) where
@@ -30,7 +32,7 @@ module _ (h : List Call) (j : Judge) (g : AgreesWith h j) where
   step-right (opens n) = open-says h j g n
   step-right (delivers p w) = deliver-says h j g p w
   step-right (withdraws p) = withdraw-says h j g p
-  step-right asksVerdict = verdict-says h j g
+  step-right asksVerdict = ap judged (report-says h j g)
 
 -- ---- every list
 pub good : (h : List Call) → AgreesWith h (judgeAfter h)
@@ -57,17 +59,21 @@ every-list h =
         empty = g .empty;
         ends = g .ends;
         counts = g .counts;
+        lengths = g .lengths;
         asked = verdict-says h (judgeAfter h) g;
         joined = λ b. by-rule (fileOf h) (placesIn h) (standing h) (judgeAfter h) g (there h b);
         summed = summed-same (fileOf h) (placesIn h) (standing h) (judgeAfter h) g;
+        reported = report-says h (judgeAfter h) g;
+        summed-bytes = bytes-same (fileOf h) (placesIn h) (standing h) (judgeAfter h) g;
       };
       verdict = words h (judgeAfter h) g;
+      report = report-words h;
     }
 
 -- a call made then is answered as the list says
 pub answer-after : (h : List Call) (c : Call) → stepOf (judgeAfter h) c .reply ≡ answerOf h c
 answer-after h = step-right h (judgeAfter h) (good h)
 
--- the verdict asked then is the one that the list says
-pub verdict-after : (h : List Call) → verdictOf (judgeAfter h) ≡ verdictIn h
-verdict-after h = verdict-says h (judgeAfter h) (good h)
+-- what is reported then is what the list says
+pub report-after : (h : List Call) → reportOf (judgeAfter h) ≡ reportIn h
+report-after h = report-says h (judgeAfter h) (good h)

@@ -8,6 +8,7 @@ pub mod Numbers
 pub mod Steps
 pub mod VerdictAgrees
 pub mod VerdictClauses
+pub mod ReportClauses
 pub mod Conditions
 pub mod EveryList
 pub mod Refinement

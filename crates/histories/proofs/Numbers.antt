@@ -17,10 +17,10 @@ use Rattle.base.proofs.Options.{not-none}
 use Rattle.ruleformat.specs.Reader.{ruleOf}
 use Rattle.build.specs.declared.Built.{Built}
 use Rattle.chunks.specs.Chunks.{foreign}
-use Rattle.board.specs.Boards.{placesOf, isEmpty, summedCount}
-use Rattle.board.proofs.Laws.{summed-law}
+use Rattle.board.specs.Boards.{placesOf, isEmpty, summedCount, summedBytes}
+use Rattle.board.proofs.Laws.{summed-law, bytes-law}
 use Rattle.calls.specs.declared.Judge.{Judge}
-use Rattle.histories.specs.History.{ruleFrom, countOf, deliverCheck, withdrawCheck}
+use Rattle.histories.specs.History.{ruleFrom, countOf, chunkOf, deliverCheck, withdrawCheck}
 use Rattle.calls.specs.Calls.{openConditions, deliverConditions, withdrawConditions}
 use Rattle.calls.specs.Steps.{lacksRule, lacksBoard}
 use Rattle.histories.specs.Claims.{BuiltBy}
@@ -57,6 +57,11 @@ module _ (file : Option (List ℕ)) (places : ℕ) (at : ℕ → Option (List �
   summed-same =
       summed-law (j .board) (λ i. countOf (ruleFrom file) i (at i)) (λ p l. holds .counts p (omega (arith, l)))
       ∙ ap (total (λ i. countOf (ruleFrom file) i (at i))) places-same
+
+  pub bytes-same : summedBytes (j .board) ≡ total (λ i. length (chunkOf (at i))) places
+  bytes-same =
+      bytes-law (j .board) (λ i. length (chunkOf (at i))) (λ p l. holds .lengths p (omega (arith, l)))
+      ∙ ap (total (λ i. length (chunkOf (at i)))) places-same
 
   pub open-number : (n : ℕ)
       → firstOf (openConditions (lacksRule j) n) ≡ firstOf (openConditions (isNone file) n)

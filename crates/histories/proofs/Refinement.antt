@@ -6,18 +6,17 @@
 -- each answer type has a value that says what the definition wants.
 use mathlib.Core.Path.{_≡_, refl, sym, ap, ap₂, _∙_}
 use mathlib.Core.Logic.{_↔_}
-use mathlib.Core.Bool.{Bool, true, false, not}
+use mathlib.Core.Bool.{not}
 use mathlib.Core.List.{List, []}
 use mathlib.Core.Option.{Option, none, some}
 use Prim.Native.Nat.{ℕ}
-use lib.Dec.{eqb}
 use denote.Ref.{RefT}
 use Rattle.base.specs.Conditions.{firstOf}
 use Rattle.executions.specs.Executions.{Execution, Meets}
 use Rattle.executions.proofs.Executions.{execution-law}
 use Rattle.ruleformat.specs.Reader.{ruleOf}
 use Rattle.build.specs.Building.{builtOf}
-use Rattle.board.specs.Boards.{placesOf, isEmpty, emptyBoard, filledAt, clearedAt, emptyPlaces, summedCount}
+use Rattle.board.specs.Boards.{placesOf, isEmpty, emptyBoard, filledAt, clearedAt}
 use Rattle.calls.specs.declared.Judge.{Judge}
 use Rattle.calls.specs.declared.LoadResult.{LoadResult}
 use Rattle.calls.specs.declared.LoadAnswer.the-variants as load
@@ -27,11 +26,12 @@ use Rattle.calls.specs.declared.DeliverResult.{DeliverResult}
 use Rattle.calls.specs.declared.DeliverAnswer.the-variants as delivery
 use Rattle.calls.specs.declared.WithdrawResult.{WithdrawResult}
 use Rattle.calls.specs.declared.WithdrawAnswer.the-variants as withdrawal
+use Rattle.calls.specs.declared.Report.{Report}
 use Rattle.calls.specs.declared.Verdict.{Verdict}
 use Rattle.calls.specs.declared.Verdict.the-variants as verdict
-use Rattle.calls.specs.Replies.{Reply, accepted, loaded, verdictMeans}
-use Rattle.calls.specs.Calls.{Call, loads, opens, delivers, withdraws, asksVerdict, loadNumber, openConditions, deliverConditions, withdrawConditions, verdictBy}
-use Rattle.calls.specs.Steps.{Outcome, lacksRule, lacksBoard, withBoard, loadOutcome, openOutcome, deliverOutcome, withdrawOutcome, outcomeBy, runsAt, loadOf, openOf, deliverOf, withdrawOf, isYes, verdictOf, stepOf}
+use Rattle.calls.specs.Replies.{Judgement, waiting, yesWith, noWith, refusedWith, Reported, Reply, accepted, loaded, judged, verdictMeans, reportMeans}
+use Rattle.calls.specs.Calls.{Call, loads, opens, delivers, withdraws, asksVerdict, loadNumber, openConditions, deliverConditions, withdrawConditions}
+use Rattle.calls.specs.Steps.{Outcome, lacksRule, lacksBoard, withBoard, loadOutcome, openOutcome, deliverOutcome, withdrawOutcome, outcomeBy, runsAt, loadOf, openOf, deliverOf, withdrawOf, reportOf, stepOf}
 use Rattle.judge.proofs.Asks.{new-judge-asks-nothing, load-asks-nothing, open-asks-nothing, deliver-asks-nothing, withdraw-asks-nothing, verdict-asks-nothing}
 use Rattle.histories.specs.Claims.{judgeMachine, judgeAfter, repliesTo}
 use Rattle.histories.specs.Functions.{AsksStep, MayStep, judgeLibrary}
@@ -54,11 +54,18 @@ module _ (j next : Judge) where
   a-withdrawal none = (record { answer = withdrawal.Accepted; judge = next }, refl)
   a-withdrawal (some x) = (record { answer = withdrawal.Refused x; judge = j }, refl)
 
-a-verdict : (lacks : Bool) (empty : ℕ) (none-empty yes-there : Bool) (sum : ℕ) → eqb empty 0 ≡ none-empty → (v : Verdict) × (verdictMeans v ≡ verdictBy lacks empty yes-there sum)
-a-verdict true empty e y sum z = (verdict.Refused 21, refl)
-a-verdict false empty false y sum z = (verdict.Waiting empty, sym (rw z))
-a-verdict false empty true true sum z = (verdict.Yes sum, sym (rw z))
-a-verdict false empty true false sum z = (verdict.No sum, sym (rw z))
+a-judgement : (v : Judgement) → (x : Verdict) × (verdictMeans x ≡ v)
+a-judgement (waiting empty) = (verdict.Waiting empty, refl)
+a-judgement (yesWith count) = (verdict.Yes count, refl)
+a-judgement (noWith count) = (verdict.No count, refl)
+a-judgement (refusedWith number) = (verdict.Refused number, refl)
+
+a-report : (r : Reported) → (x : Report) × (reportMeans x ≡ r)
+a-report r =
+    let v = a-judgement (r .verdict) in (
+      record { verdict = v .0; bytes = r .bytes; quotient = r .quotient; remainder = r .remainder },
+      ap (λ (w : Judgement). record { verdict = w; bytes = r .bytes; quotient = r .quotient; remainder = r .remainder }) (v .1),
+    )
 
 module _ (j : Judge) where
   loading-of : (f : List ℕ) → (r : LoadResult) × (loadOutcome r ≡ loadOf j f)
@@ -84,10 +91,6 @@ module _ (j : Judge) where
       a-withdrawal j (withBoard j (clearedAt (j .board) p))
       (firstOf (withdrawConditions (lacksBoard j) (placesOf (j .board)) p (isEmpty (j .board) p)))
 
-  verdict-of : (v : Verdict) × (verdictMeans v ≡ verdictOf j)
-  unfolding verdictOf
-  verdict-of = a-verdict (lacksBoard j) (emptyPlaces (j .board)) (eqb (emptyPlaces (j .board)) 0) (isYes j) (summedCount (j .board)) refl
-
 -- ---- the library meets the machine
 -- a reference to bytes, somewhere
 abbrev pub lent : List ℕ → RefT (List ℕ)
@@ -105,7 +108,7 @@ step-to j (loads f) a next m = parts a next (loadOf j f) (m .2 ∙ m .1 .4 ∙ a
 step-to j (opens n) a next m = parts a next (openOf j n) (m .2 ∙ m .1 .1)
 step-to j (delivers p w) a next m = parts a next (deliverOf j p w) (m .2 ∙ m .1 .4 ∙ ap (deliverOf j p) (m .1 .3))
 step-to j (withdraws p) a next m = parts a next (withdrawOf j p) (m .2 ∙ m .1 .1)
-step-to j asksVerdict a next m = (m .2 ∙ m .1 .1, m .3)
+step-to j asksVerdict a next m = (m .2 ∙ ap judged (m .1 .1), m .3)
 
 step-back : (j : Judge) (c : Call) (a : Reply) (next : Judge) → (a ≡ stepOf j c .reply) × (next ≡ stepOf j c .state) → MayStep j c a next
 step-back j (loads f) a next e =
@@ -120,7 +123,7 @@ step-back j (delivers p w) a next e =
 step-back j (withdraws p) a next e =
     let r = withdrawal-of j p in
     (r .0, ((j, (p, tt)), r .1), whole a next (withdrawOf j p) e ∙ sym (r .1))
-step-back j asksVerdict a next e = let v = verdict-of j in (v .0, ((j, tt), v .1), e .0 ∙ sym (v .1), e .1)
+step-back j asksVerdict a next e = let r = a-report (reportOf j) in (r .0, ((j, tt), r .1), e .0 ∙ ap judged (sym (r .1)), e .1)
 
 asks-nothing : (j : Judge) (c : Call) → AsksStep j c
 asks-nothing j (loads f) = λ κs c e. load-asks-nothing κs j c

@@ -26,9 +26,9 @@ use Rattle.delegates.specs.Alike.{startSet}
 use Rattle.chunks.specs.Chunks.{foreign, counted, runSet}
 use Rattle.joins.specs.Joining.{joinOf, yesOf}
 use Rattle.joins.specs.Claims.{delegateIn}
-use Rattle.histories.specs.History.{fileOf, ruleFrom, openNumber, placesIn, standingCount, standingEnd, deliverCheck, standing, deliverNumber, verdictIn, answersTo}
-use Rattle.calls.specs.Replies.{Reply, accepted, loaded, Judgement, judged}
-use Rattle.calls.specs.Calls.{Call, loads, opens, delivers, loadNumber, verdictBy}
+use Rattle.histories.specs.History.{fileOf, ruleFrom, openNumber, placesIn, standingCount, standingEnd, deliverCheck, standing, deliverNumber, chunkOf, reportIn, answersTo}
+use Rattle.calls.specs.Replies.{Reported, Reply, accepted, loaded, judged}
+use Rattle.calls.specs.Calls.{Call, loads, opens, delivers, loadNumber, verdictBy, reportBy}
 use Rattle.histories.specs.Claims.{judgeAfter, BuiltBy}
 use Rattle.histories.specs.TableP.{Result, sets, delegates, verdict, turned-down, Case, case, delivering, callsFor, callsOf, repliesOf, rowsFrom, Shows, Each, Case-holds, table, TableP}
 use Rattle.histories.proofs.EveryList.{every-list}
@@ -39,11 +39,13 @@ module _ (r : Rule) (d : List ℕ) (places : ℕ) (at : ℕ → Option (List ℕ
   abbrev countsBy : ℕ → Option (List ℕ) → ℕ
   countsBy p chunk = standingCount (r .targets) (runSet d (r .n) (r .initials) p) chunk
 
-  abbrev verdictWith : Reply
-  verdictWith =
-      verdictBy (eqb places 0) (total (λ p. cond (isNone (at p)) 1 0) places)
+  abbrev reportWith : Reported
+  reportWith =
+      reportBy
+      (verdictBy (eqb places 0) (total (λ p. cond (isNone (at p)) 1 0) places)
       (yesOf (λ p q. standingEnd (r .targets) (runSet d (r .n) (r .initials) p) q (at p)) (delegateIn d) (r .n) (r .initials) (r .finals) places)
-      (total (λ p. countsBy p (at p)) places)
+      (total (λ p. countsBy p (at p)) places))
+      (total (λ p. length (chunkOf (at p))) places)
 
 -- ---- the calls of a verdict, one by one: the rule is that of f, and the board has these places
 -- and standing chunks
@@ -98,11 +100,11 @@ module _ (f : List ℕ) (places : ℕ) where
       shift zero l = refl
       shift (suc n) l = ap (λ (x : List Reply). accepted ∷ x) (shift n l)
 
-  asked : (d : List ℕ) → startsIn (ruleOf f) .delegates ≡ d → (h : List Call) (at : ℕ → Option (List ℕ)) → Stage f h places at → verdictIn h ≡ verdictWith (ruleOf f) d places at
+  asked : (d : List ℕ) → startsIn (ruleOf f) .delegates ≡ d → (h : List Call) (at : ℕ → Option (List ℕ)) → Stage f h places at → reportIn h ≡ reportWith (ruleOf f) d places at
   asked d is h at s =
-      subst₃ (λ (x : Option (List ℕ)) (y : ℕ) (z : ℕ → Option (List ℕ)). verdictWith (ruleFrom x) (startsIn (ruleFrom x) .delegates) y z ≡ verdictWith (ruleOf f) d places at)
+      subst₃ (λ (x : Option (List ℕ)) (y : ℕ) (z : ℕ → Option (List ℕ)). reportWith (ruleFrom x) (startsIn (ruleFrom x) .delegates) y z ≡ reportWith (ruleOf f) d places at)
       (sym (s .file)) (sym (s .board)) (sym (s .stands))
-      (ap (λ (x : List ℕ). verdictWith (ruleOf f) x places at) is)
+      (ap (λ (x : List ℕ). reportWith (ruleOf f) x places at) is)
 
 -- ---- what is left to compute
 -- of a case: its answers; of an accepted file, that it is the last, and what shows in the rule
@@ -114,13 +116,13 @@ abbrev Built-so : List ℕ → Result → Type 0
 Built-so f r = (fileOf (callsFor f r) ≡ some f) × Shows r (builtOf (ruleOf f))
 
 -- of a verdict, with the starts x put in
-abbrev Taken : List ℕ → Reply → Starts → List (List ℕ) → Judgement → Type 0
+abbrev Taken : List ℕ → Reply → Starts → List (List ℕ) → Reported → Type 0
 Taken f load x chunks v =
     (loadNumber f ≡ none) × (loaded (length (setsOf (ruleOf f .targets) (ruleOf f .n) (ruleOf f .k))) (x .startcount) ≡ load) × (outside 1 64 (length chunks) ≡ false)
     × Checked (ruleOf f .k) (length chunks) 0 chunks (λ _. none)
-    × (verdictWith (ruleOf f) (x .delegates) (length chunks) (putAll 0 chunks (λ _. none)) ≡ judged v)
+    × (reportWith (ruleOf f) (x .delegates) (length chunks) (putAll 0 chunks (λ _. none)) ≡ v)
 
-verdict-answers : (f : List ℕ) (load : Reply) (x : Starts) (chunks : List (List ℕ)) (v : Judgement) → startsIn (ruleOf f) ≡ x → Taken f load x chunks v
+verdict-answers : (f : List ℕ) (load : Reply) (x : Starts) (chunks : List (List ℕ)) (v : Reported) → startsIn (ruleOf f) ≡ x → Taken f load x chunks v
     → Answers (case f load (verdict chunks v))
 unfolding answersTo
 verdict-answers f load x chunks v is t =
@@ -128,7 +130,7 @@ verdict-answers f load x chunks v is t =
     let d = all-delivered f (length chunks) chunks (opens (length chunks) ∷ loads f ∷ []) (λ _. none) 0 (o .1) (t .3) in
     let first : answersTo (opens (length chunks) ∷ loads f ∷ []) ≡ accepted ∷ load ∷ [] = rw (o .0, t .0, is, t .1) in
     ap₂ _∷_
-    (asked f (length chunks) (x .delegates) (ap (λ (s : Starts). s .delegates) is) (delivering 0 chunks (opens (length chunks) ∷ loads f ∷ [])) (putAll 0 chunks (λ _. none)) (d .1) ∙ t .4)
+    (ap judged (asked f (length chunks) (x .delegates) (ap (λ (s : Starts). s .delegates) is) (delivering 0 chunks (opens (length chunks) ∷ loads f ∷ [])) (putAll 0 chunks (λ _. none)) (d .1) ∙ t .4))
     (d .0 ∙ ap (λ (l : List Reply). replicate (length chunks) accepted ++ l) first)
 
 abbrev Left : Case → Type 0

@@ -1,11 +1,13 @@
 -- The verdict of the state is the verdict that the list of calls says: the state's number of empty
--- places, its join and its sum are the list's. Assumes nothing.
+-- places, its join and its sum are the list's; and so is the report, since its bytes are. Assumes
+-- nothing.
 --
--- The route: where the state agrees with the list (`Agrees`), each place holds the end sets and the
--- count of its standing chunk, or is empty on both sides. So the sums over the places are the same
--- (`empties-same`, and `summed-same` of Numbers.antt), and the join over what is held is the join
--- over the end sets of the list, delegate by delegate (`yes-same`). Without a board both are 21.
-use mathlib.Core.Path.{_≡_, refl, sym, ap, _∙_}
+-- The route: where the state agrees with the list (`Agrees`), each place holds the end sets, the
+-- count and the length of its standing chunk, or is empty on both sides. So the sums over the
+-- places are the same (`empties-same`, and `summed-same` of Numbers.antt), and the join over what
+-- is held is the join over the end sets of the list, delegate by delegate (`yes-same`). Without a
+-- board both are 21.
+use mathlib.Core.Path.{_≡_, refl, sym, ap, ap₂, _∙_}
 use mathlib.Core.Bool.{true, false, cond}
 use mathlib.Core.List.{List}
 use mathlib.Core.Option.{Option, none, some}
@@ -25,12 +27,12 @@ use Rattle.joins.specs.Joining.{yesOf, heldIn}
 use Rattle.joins.specs.Claims.{delegateIn}
 use Rattle.joins.proofs.Claims as joins
 use Rattle.calls.specs.declared.Judge.{Judge}
-use Rattle.calls.specs.Calls.{Call, verdictBy}
-use Rattle.calls.specs.Steps.{lacksBoard, isYes, verdictOf}
-use Rattle.histories.specs.History.{fileOf, ruleFrom, placesIn, endOf, standing, emptiesIn, summedIn, yesIn, verdictIn}
+use Rattle.calls.specs.Calls.{Call, verdictBy, reportBy}
+use Rattle.calls.specs.Steps.{lacksBoard, isYes, verdictOf, reportOf}
+use Rattle.histories.specs.History.{fileOf, ruleFrom, placesIn, endOf, standing, emptiesIn, summedIn, yesIn, verdictIn, reportIn}
 use Rattle.histories.proofs.Running.{n-same, merged}
 use Rattle.histories.proofs.Agreement.{Agrees}
-use Rattle.histories.proofs.Numbers.{no-board, places-same, summed-same}
+use Rattle.histories.proofs.Numbers.{no-board, places-same, summed-same, bytes-same}
 use Rattle.histories.proofs.Steps.{AgreesWith}
 
 module _ (file : Option (List ℕ)) (places : ℕ) (at : ℕ → Option (List ℕ)) (j : Judge) (holds : Agrees file places at j) where
@@ -79,3 +81,6 @@ verdict-says h j good =
 
     ap₄ : {A B C D E : Type 0} (f : A → B → C → D → E) {a x : A} {b y : B} {c z : C} {d w : D} → a ≡ x → b ≡ y → c ≡ z → d ≡ w → f a b c d ≡ f x y z w
     ap₄ f p q r s = cc
+
+pub report-says : (h : List Call) (j : Judge) → AgreesWith h j → reportOf j ≡ reportIn h
+report-says h j good = ap₂ reportBy (verdict-says h j good) (bytes-same (fileOf h) (placesIn h) (standing h) j good)

@@ -6,11 +6,12 @@
 --   repliesTo h         the replies to them
 --   BuiltBy file j      the rule of the file, if there is one, is built in j; no rule is zeros
 --   automatonBy file    the automaton of the file
---   After h j           what holds of the state j after the calls h
---   VerdictClauses       the words of demand 3 for the verdict asked after h
+--   Invariant h j       what holds of the state j after the calls h
+--   VerdictClauses      the words of demand 3 for the verdict asked after h
+--   ReportClauses       what is reported with it (document 02, R-1)
 --   EveryList           demand 3, one claim over a whole list
 use mathlib.Core.Path.{_≡_}
-use mathlib.Core.Logic.{_↔_}
+use mathlib.Core.Logic.{_↔_, _⊎_}
 use mathlib.Core.Bool.{true, false}
 use mathlib.Core.List.{List}
 use mathlib.Core.Option.{Option, none, some}
@@ -26,14 +27,15 @@ use Rattle.ruleformat.specs.Language.{automatonIn}
 use Rattle.subsets.specs.Claims.{fits}
 use Rattle.delegates.specs.Claims.{startsIn}
 use Rattle.build.specs.Building.{builtOf, noBuilt}
-use Rattle.board.specs.Boards.{held, isEmpty, summedCount}
+use Rattle.board.specs.Boards.{held, isEmpty, summedCount, summedBytes}
 use Rattle.calls.specs.declared.Judge.{Judge}
-use Rattle.calls.specs.Replies.{Reply, waiting, yesWith, noWith, refused, judged}
-use Rattle.histories.specs.History.{fileOf, ruleIn, boardIn, placesIn, standing, endAt, countAt, emptiesIn, summedIn, yesIn, chunkOf, textIn, verdictIn, answersTo}
+use Rattle.calls.specs.Replies.{Reply, waiting, yesWith, noWith, refusedWith}
+use Rattle.histories.specs.History.{fileOf, ruleIn, boardIn, placesIn, standing, endAt, countAt, lengthAt, emptiesIn, summedIn, bytesIn, yesIn, chunkOf, textIn, verdictIn, reportIn, answersTo}
 use Rattle.histories.specs.Method.{Method}
 use Rattle.histories.specs.Conditions.{Accepted-exactly, Refused-exactly}
 use Rattle.calls.specs.Calls.{Call, loadNumber}
-use Rattle.calls.specs.Steps.{fresh, isYes, verdictOf, stepOf}
+use Rattle.calls.specs.Steps.{fresh, isYes, verdictOf, reportOf, stepOf}
+use Rattle.calls.specs.Claims.{Divided, ThreeZeros}
 
 -- the judge as a machine: the outcome of a call is crates/calls' stepOf
 abbrev pub judgeMachine : Machine Judge Call Reply
@@ -54,42 +56,59 @@ abbrev pub automatonBy : Option (List ℕ) → Automaton
 automatonBy none = automatonOf noRule
 automatonBy (some f) = automatonIn f
 
--- the state: the rule that is there is built, and each place holds the end sets and the count of
--- its standing chunk, or nothing
+-- the state: the rule that is there is built, and each place holds the end sets, the count and the
+-- length of its standing chunk, or nothing
 pub record Invariant (h : List Call) (j : Judge) : Type 0 where
   pub rule : BuiltBy (fileOf h) j
   pub places : j .board .places ≡ placesIn h
   pub empty : (p : ℕ) → p < mostPlaces → isEmpty (j .board) p ≡ isNone (standing h p)
   pub ends : (p q : ℕ) → p < mostPlaces → q < mostStates → held (j .board) p q ≡ endAt h p q
   pub counts : (p : ℕ) → p < mostPlaces → getD (j .board .counts) p 0 ≡ countAt h p
+  pub lengths : (p : ℕ) → p < mostPlaces → getD (j .board .lengths) p 0 ≡ lengthAt h p
   -- a verdict asked now is the one that the list says; its yes or no is the join of the end sets
   -- held, its count the sum of the counts held
   pub asked : verdictOf j ≡ verdictIn h
   pub joined : boardIn h ≡ true → isYes j ≡ yesIn h
   pub summed : summedCount (j .board) ≡ summedIn h
+  -- and the report is the one that the list says, its bytes the sum of the lengths held
+  pub reported : reportOf j ≡ reportIn h
+  pub summed-bytes : summedBytes (j .board) ≡ bytesIn h
 
 -- demand 3, of the verdict after the calls h
 pub record VerdictClauses (h : List Call) : Type 0 where
   -- a board is there exactly when it has places
   pub board : (boardIn h ≡ true) ↔ (0 < placesIn h)
   -- refused with 21 unless the last accepted load or opening is an opening
-  pub none-there : (verdictIn h ≡ refused 21) ↔ (boardIn h ≡ false)
+  pub none-there : (verdictIn h ≡ refusedWith 21) ↔ (boardIn h ≡ false)
   -- waiting with the number of empty places exactly when one is empty
-  pub waits : (e : ℕ) → (verdictIn h ≡ judged (waiting e)) ↔ ((boardIn h ≡ true) × (0 < e) × (e ≡ emptiesIn h))
+  pub waits : (e : ℕ) → (verdictIn h ≡ waiting e) ↔ ((boardIn h ≡ true) × (0 < e) × (e ≡ emptiesIn h))
   -- else yes exactly when the last accepted rule has an accepting run over the standing chunks
   -- joined by place, and no when it has none
   pub accepts : boardIn h ≡ true → emptiesIn h ≡ 0
-      → (verdictIn h ≡ judged (yesWith (summedIn h))) ↔ Accepts (automatonBy (fileOf h)) (textIn h)
+      → (verdictIn h ≡ yesWith (summedIn h)) ↔ Accepts (automatonBy (fileOf h)) (textIn h)
   pub rejects : boardIn h ≡ true → emptiesIn h ≡ 0
-      → (verdictIn h ≡ judged (noWith (summedIn h))) ↔ (Accepts (automatonBy (fileOf h)) (textIn h) → ⊥)
+      → (verdictIn h ≡ noWith (summedIn h)) ↔ (Accepts (automatonBy (fileOf h)) (textIn h) → ⊥)
   -- the yes or no is the join of the end sets
-  pub joins : boardIn h ≡ true → emptiesIn h ≡ 0 → (verdictIn h ≡ judged (yesWith (summedIn h))) ↔ (yesIn h ≡ true)
+  pub joins : boardIn h ≡ true → emptiesIn h ≡ 0 → (verdictIn h ≡ yesWith (summedIn h)) ↔ (yesIn h ≡ true)
   -- the count is the sum over the places, and at most M times the bytes
-  pub counted : (c : ℕ) → verdictIn h ≡ judged (yesWith c) → c ≡ summedIn h
-  pub counted-no : (c : ℕ) → verdictIn h ≡ judged (noWith c) → c ≡ summedIn h
+  pub counted : (c : ℕ) → verdictIn h ≡ yesWith c → c ≡ summedIn h
+  pub counted-no : (c : ℕ) → verdictIn h ≡ noWith c → c ≡ summedIn h
   pub most : summedIn h ≤ startsIn (ruleIn h) .startcount * length (textIn h)
   -- and so it is at each place
   pub place-most : (p : ℕ) → countAt h p ≤ startsIn (ruleIn h) .startcount * length (chunkOf (standing h p))
+
+-- document 02, R-1, of what is reported after the calls h
+pub record ReportClauses (h : List Call) : Type 0 where
+  -- the verdict is that of demand 3
+  pub verdict : reportIn h .verdict ≡ verdictIn h
+  -- the sum of the lengths is the length of the standing chunks joined by place
+  pub text-bytes : bytesIn h ≡ length (textIn h)
+  -- beside yes or no the text's bytes, the whole quotient of the count by them, and the remainder;
+  -- both 0 for a text of 0 bytes
+  pub divided : (count : ℕ) → (verdictIn h ≡ yesWith count) ⊎ (verdictIn h ≡ noWith count)
+      → Divided count (length (textIn h)) (reportIn h)
+  -- beside waiting or a refusal all three are 0
+  pub zeros : (x : ℕ) → (verdictIn h ≡ waiting x) ⊎ (verdictIn h ≡ refusedWith x) → ThreeZeros (reportIn h)
 
 -- ONE CLAIM over a list of calls h
 pub record EveryList (h : List Call) : Type 0 where
@@ -104,3 +123,4 @@ pub record EveryList (h : List Call) : Type 0 where
   pub refused-exactly : Refused-exactly h
   pub after : Invariant h (judgeAfter h)
   pub verdict : VerdictClauses h
+  pub report : ReportClauses h

@@ -20,8 +20,8 @@ use Rattle.calls.specs.declared.LoadResult.{LoadResult}
 use Rattle.calls.specs.declared.OpenResult.{OpenResult}
 use Rattle.calls.specs.declared.DeliverResult.{DeliverResult}
 use Rattle.calls.specs.declared.WithdrawResult.{WithdrawResult}
-use Rattle.calls.specs.declared.Verdict.{Verdict}
-use Rattle.calls.specs.Replies.{Reply, verdictMeans}
+use Rattle.calls.specs.declared.Report.{Report}
+use Rattle.calls.specs.Replies.{Reply, judged, reportMeans}
 use Rattle.calls.specs.Calls.{Call, loads, opens, delivers, withdraws, asksVerdict}
 use Rattle.calls.specs.Steps.{Outcome, loadOutcome, openOutcome, deliverOutcome, withdrawOutcome}
 use Rattle.judge.proofs.new_judge.Reads as new-reads
@@ -56,8 +56,8 @@ MayDeliver j p w r =
 abbrev pub MayWithdraw : Judge → ℕ → WithdrawResult → Type 0
 MayWithdraw j p r = (s : AtExit (endedOf 0 withdraw-kinds.ps withdraw-kinds.r) tt) × withdraw-reads.Learnt tt (j, (p, tt)) r s
 
-abbrev pub MayJudge : Judge → Verdict → Type 0
-MayJudge j v = (s : AtExit (endedOf 0 verdict-kinds.ps verdict-kinds.r) tt) × verdict-reads.Learnt tt (j, tt) v s
+abbrev pub MayJudge : Judge → Report → Type 0
+MayJudge j r = (s : AtExit (endedOf 0 verdict-kinds.ps verdict-kinds.r) tt) × verdict-reads.Learnt tt (j, tt) r s
 
 -- what each asks before it is called
 abbrev pub AsksStep : Judge → Call → Type 0
@@ -72,7 +72,7 @@ MayStep j (loads f) a next = (r : LoadResult) × MayLoad j f r × (record { repl
 MayStep j (opens n) a next = (r : OpenResult) × MayOpen j n r × (record { reply = a; state = next } ≡ openOutcome r)
 MayStep j (delivers p w) a next = (r : DeliverResult) × MayDeliver j p w r × (record { reply = a; state = next } ≡ deliverOutcome r)
 MayStep j (withdraws p) a next = (r : WithdrawResult) × MayWithdraw j p r × (record { reply = a; state = next } ≡ withdrawOutcome r)
-MayStep j asksVerdict a next = (v : Verdict) × MayJudge j v × (a ≡ verdictMeans v) × (next ≡ j)
+MayStep j asksVerdict a next = (r : Report) × MayJudge j r × (a ≡ judged (reportMeans r)) × (next ≡ j)
 
 abbrev pub judgeLibrary : Library Judge Call Reply
 judgeLibrary = record { NewAsks = new-reads.Asked tt tt; Begins = MayBegin; Asks = AsksStep; May = MayStep }

@@ -7,15 +7,18 @@
 --                            an opening
 --   placesIn h               its places; 0 where no board is there
 --   standing h p             the standing chunk at place p, or none
---   endAt h p q, countAt h p       what place p holds: the end set of state q, and the count
+--   endAt h p q, countAt h p, lengthAt h p   what place p holds: the end set of state q, the count,
+--                                            and the length of the chunk
 --   runAt r p                the states that are run at place p, by the rule r
 --   countOf r p chunk, endOf r p q chunk   the same of what stands at place p, by the rule r:
 --                                          standingCount and standingEnd
 --   deliverCheck, withdrawCheck    the number with which a delivery and a withdrawal at place p are
 --                                  refused, by the places and what stands at p
 --   deliverNumber, withdrawNumber  they after the calls h: 21, 11, 12, 13, 22 and 21, 11, 23
---   emptiesIn h, summedIn h        how many places are empty, and the sum of the counts
---   yesIn h, verdictIn h           the join of the end sets says yes; the verdict
+--   emptiesIn h, summedIn h, bytesIn h   how many places are empty, the sum of the counts, and that
+--                                        of the lengths
+--   yesIn h, verdictIn h, reportIn h     the join of the end sets says yes; the verdict; what is
+--                                        reported with it
 --   textIn h                 the standing chunks joined by place
 --   replyBy number a         refused with the number, or a where there is none
 --   answerOf h c             what document 01 answers to the call c after the calls h
@@ -37,8 +40,8 @@ use Rattle.delegates.specs.Claims.{startsIn}
 use Rattle.chunks.specs.Chunks.{runSet, endSet, chunkCount}
 use Rattle.joins.specs.Joining.{yesOf}
 use Rattle.joins.specs.Claims.{delegateIn}
-use Rattle.calls.specs.Replies.{Reply, accepted, loaded, refused}
-use Rattle.calls.specs.Calls.{Call, loads, opens, delivers, withdraws, asksVerdict, loadNumber, openConditions, deliverConditions, withdrawConditions, verdictBy}
+use Rattle.calls.specs.Replies.{Judgement, Reported, Reply, accepted, loaded, judged, refused}
+use Rattle.calls.specs.Calls.{Call, loads, opens, delivers, withdraws, asksVerdict, loadNumber, openConditions, deliverConditions, withdrawConditions, verdictBy, reportBy}
 
 -- ---- which rule is there
 unfoldable pub fileOf : List Call → Option (List ℕ)
@@ -101,6 +104,11 @@ abbrev pub standingEnd : List ℕ → ℕ → ℕ → Option (List ℕ) → ℕ
 standingEnd ts run q none = 0
 standingEnd ts run q (some w) = endSet ts run w q
 
+-- the chunk itself; an empty place has none
+abbrev pub chunkOf : Option (List ℕ) → List ℕ
+chunkOf none = []
+chunkOf (some w) = w
+
 -- by the rule r, at place p
 module _ (r : Rule) where
   abbrev pub runAt : ℕ → ℕ
@@ -125,23 +133,28 @@ module _ (h : List Call) where
   abbrev pub endAt : ℕ → ℕ → ℕ
   endAt p q = endOf (ruleIn h) p q (standing h p)
 
+  -- 0 at an empty place
+  abbrev pub lengthAt : ℕ → ℕ
+  lengthAt p = length (chunkOf (standing h p))
+
   abbrev pub emptiesIn : ℕ
   emptiesIn = total (λ p. cond (isNone (standing h p)) 1 0) (placesIn h)
 
   abbrev pub summedIn : ℕ
   summedIn = total countAt (placesIn h)
 
+  abbrev pub bytesIn : ℕ
+  bytesIn = total lengthAt (placesIn h)
+
   -- the yes or no is the join of the end sets, place by place
   abbrev pub yesIn : Bool
   yesIn = yesOf endAt (delegateIn (startsIn (ruleIn h) .delegates)) (ruleIn h .n) (ruleIn h .initials) (ruleIn h .finals) (placesIn h)
 
-  abbrev pub verdictIn : Reply
+  abbrev pub verdictIn : Judgement
   verdictIn = verdictBy (eqb (placesIn h) 0) emptiesIn yesIn summedIn
 
--- the chunk itself; an empty place has none
-abbrev pub chunkOf : Option (List ℕ) → List ℕ
-chunkOf none = []
-chunkOf (some w) = w
+  abbrev pub reportIn : Reported
+  reportIn = reportBy verdictIn bytesIn
 
 -- the chunks at the first places, one after the other
 abbrev pub joinedUpTo : (ℕ → Option (List ℕ)) → ℕ → List ℕ
@@ -160,7 +173,7 @@ answerOf h (loads f) = replyBy (loadNumber f) (loaded (length (setsOf (ruleOf f 
 answerOf h (opens n) = replyBy (openNumber h n) accepted
 answerOf h (delivers p w) = replyBy (deliverNumber h p w) accepted
 answerOf h (withdraws p) = replyBy (withdrawNumber h p) accepted
-answerOf h asksVerdict = verdictIn h
+answerOf h asksVerdict = judged (reportIn h)
 
 -- the answers to a list of calls, the last first
 unfoldable pub answersTo : List Call → List Reply

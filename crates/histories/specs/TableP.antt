@@ -18,7 +18,7 @@ use Rattle.base.specs.Lists.{listFrom}
 use Rattle.ruleformat.specs.Worked.{fileA, fileB, fileA-final-8}
 use Rattle.build.specs.declared.Built.{Built}
 use Rattle.calls.specs.declared.Judge.{Judge}
-use Rattle.calls.specs.Replies.{Judgement, yesWith, noWith, Reply, accepted, loaded, judged, refused}
+use Rattle.calls.specs.Replies.{Judgement, yesWith, noWith, Reported, Reply, accepted, loaded, judged, refused}
 use Rattle.calls.specs.Calls.{Call, loads, opens, delivers, asksVerdict}
 use Rattle.histories.specs.Claims.{judgeAfter, repliesTo}
 
@@ -27,13 +27,13 @@ use Rattle.histories.specs.Claims.{judgeAfter, repliesTo}
 --                          symbol in the next-set table: the number of the successor, or 512 for
 --                          the empty set
 --   delegates ds           the delegate of each state
---   verdict chunks v       with the chunks at the places 0, 1, .. of a board that has a place for
---                          each, the verdict v
+--   verdict chunks r       with the chunks at the places 0, 1, .. of a board that has a place for
+--                          each, the verdict reports r
 --   turned-down            there is nothing more than the refusal of the load
 pub data Result : Type 0 where
   sets : List ℕ → List (List ℕ) → Result
   delegates : List ℕ → Result
-  verdict : List (List ℕ) → Judgement → Result
+  verdict : List (List ℕ) → Reported → Result
   turned-down : Result
 
 -- the file, the reply to its load, and the result
@@ -48,7 +48,7 @@ delivering p (w ∷ chunks) h = delivering (suc p) chunks (delivers p w ∷ h)
 abbrev pub callsFor : List ℕ → Result → List Call
 callsFor file (sets masks rows) = loads file ∷ []
 callsFor file (delegates ds) = loads file ∷ []
-callsFor file (verdict chunks v) = asksVerdict ∷ delivering 0 chunks (opens (length chunks) ∷ loads file ∷ [])
+callsFor file (verdict chunks r) = asksVerdict ∷ delivering 0 chunks (opens (length chunks) ∷ loads file ∷ [])
 callsFor file turned-down = loads file ∷ []
 
 abbrev pub callsOf : Case → List Call
@@ -57,7 +57,7 @@ callsOf (case file load result) = callsFor file result
 abbrev pub repliesFor : Reply → Result → List Reply
 repliesFor load (sets masks rows) = load ∷ []
 repliesFor load (delegates ds) = load ∷ []
-repliesFor load (verdict chunks v) = judged v ∷ (replicate (length chunks) accepted ++ (accepted ∷ load ∷ []))
+repliesFor load (verdict chunks r) = judged r ∷ (replicate (length chunks) accepted ++ (accepted ∷ load ∷ []))
 repliesFor load turned-down = load ∷ []
 
 abbrev pub repliesOf : Case → List Reply
@@ -76,7 +76,7 @@ rowsFrom next k i (suc count) = cellsOf next (i * mostSymbols) k ∷ rowsFrom ne
 abbrev pub Shows : Result → Built → Type 0
 Shows (sets masks rows) b = (cellsOf (b .sets) 0 (b .setcount) ≡ masks) × (rowsFrom (b .next) (b .k) 0 (b .setcount) ≡ rows)
 Shows (delegates ds) b = cellsOf (b .delegates) 0 (b .n) ≡ ds
-Shows (verdict chunks v) b = Unit {0}
+Shows (verdict chunks r) b = Unit {0}
 Shows turned-down b = Unit {0}
 
 abbrev pub ResultOf : Case → Built → Type 0
@@ -86,6 +86,11 @@ abbrev pub AsTabled : Case → List Reply → Judge → Type 0
 AsTabled c replies j = (replies ≡ repliesOf c) × ResultOf c (j .built)
 
 -- ---- the table
+-- a verdict with the bytes of the text, the quotient and the remainder of the count by them
+-- (document 02, R-1)
+abbrev pub report : Judgement → ℕ → ℕ → ℕ → Reported
+report v bytes quotient remainder = record { verdict = v; bytes = bytes; quotient = quotient; remainder = remainder }
+
 abbrev pub table : List Case
 table =
     -- P1 A: the five sets, with the rows that are printed for them
@@ -93,20 +98,20 @@ table =
     (sets (1 ∷ 3 ∷ 5 ∷ 2 ∷ 4 ∷ []) ((1 ∷ 0 ∷ []) ∷ (1 ∷ 2 ∷ []) ∷ (1 ∷ 0 ∷ []) ∷ (emptySet ∷ 4 ∷ []) ∷ (emptySet ∷ emptySet ∷ []) ∷ [])) ∷
     -- P2 B: delegates 0 1 1
     case fileB (loaded 4 2) (delegates (0 ∷ 1 ∷ 1 ∷ [])) ∷
-    -- P3 A, chunks 0 and 1: yes, 3
-    case fileA (loaded 5 3) (verdict ((0 ∷ []) ∷ (1 ∷ []) ∷ []) (yesWith 3)) ∷
-    -- P4 A, chunks 1 and 0: no, 2
-    case fileA (loaded 5 3) (verdict ((1 ∷ []) ∷ (0 ∷ []) ∷ []) (noWith 2)) ∷
+    -- P3 A, chunks 0 and 1: yes, 3; 2 bytes, 1 each and 1 over
+    case fileA (loaded 5 3) (verdict ((0 ∷ []) ∷ (1 ∷ []) ∷ []) (report (yesWith 3) 2 1 1)) ∷
+    -- P4 A, chunks 1 and 0: no, 2; 2 bytes, 1 each
+    case fileA (loaded 5 3) (verdict ((1 ∷ []) ∷ (0 ∷ []) ∷ []) (report (noWith 2) 2 1 0)) ∷
     -- P5 A, one empty chunk: no, 0
-    case fileA (loaded 5 3) (verdict ([] ∷ []) (noWith 0)) ∷
-    -- P6 B, 0 then 0 0: yes, 5
-    case fileB (loaded 4 2) (verdict ((0 ∷ []) ∷ (0 ∷ 0 ∷ []) ∷ []) (yesWith 5)) ∷
-    -- P7 B, 0 0 then 0: yes, 4
-    case fileB (loaded 4 2) (verdict ((0 ∷ 0 ∷ []) ∷ (0 ∷ []) ∷ []) (yesWith 4)) ∷
-    -- P8 B, 0 0 0 in one place: yes, 3
-    case fileB (loaded 4 2) (verdict ((0 ∷ 0 ∷ 0 ∷ []) ∷ []) (yesWith 3)) ∷
+    case fileA (loaded 5 3) (verdict ([] ∷ []) (report (noWith 0) 0 0 0)) ∷
+    -- P6 B, 0 then 0 0: yes, 5; 3 bytes, 1 each and 2 over
+    case fileB (loaded 4 2) (verdict ((0 ∷ []) ∷ (0 ∷ 0 ∷ []) ∷ []) (report (yesWith 5) 3 1 2)) ∷
+    -- P7 B, 0 0 then 0: yes, 4; 3 bytes, 1 each and 1 over
+    case fileB (loaded 4 2) (verdict ((0 ∷ 0 ∷ []) ∷ (0 ∷ []) ∷ []) (report (yesWith 4) 3 1 1)) ∷
+    -- P8 B, 0 0 0 in one place: yes, 3; 3 bytes, 1 each
+    case fileB (loaded 4 2) (verdict ((0 ∷ 0 ∷ 0 ∷ []) ∷ []) (report (yesWith 3) 3 1 0)) ∷
     -- P9 B, three empty chunks: no, 0
-    case fileB (loaded 4 2) (verdict ([] ∷ [] ∷ [] ∷ []) (noWith 0)) ∷
+    case fileB (loaded 4 2) (verdict ([] ∷ [] ∷ [] ∷ []) (report (noWith 0) 0 0 0)) ∷
     -- P10 A, final mask 8: 6
     case fileA-final-8 (refused 6) turned-down ∷ []
 

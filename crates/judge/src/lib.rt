@@ -4,8 +4,9 @@ ghost use Prim.Native.Nat.{_≤_};
 ghost use lib.ListN.{length};
 ghost use Rattle.limits.specs.Limits.{longestChunk};
 ghost use Rattle.chunks.specs.Walks.{runMask, runsOf};
-ghost use Rattle.calls.specs.Replies.{refused, verdictMeans};
-ghost use Rattle.calls.specs.Steps.{fresh, withBoard, loadOutcome, openOutcome, deliverOutcome, withdrawOutcome, loadOf, openOf, deliverOf, withdrawOf, verdictOf};
+ghost use Rattle.calls.specs.Replies.{refused, verdictMeans, reportMeans};
+ghost use Rattle.calls.specs.Calls.{perByte, alone, reportBy};
+ghost use Rattle.calls.specs.Steps.{fresh, withBoard, loadOutcome, openOutcome, deliverOutcome, withdrawOutcome, loadOf, openOf, deliverOf, withdrawOf, verdictOf, reportOf};
 use board::Board;
 use build::BuildAnswer;
 use build::Built;
@@ -16,6 +17,7 @@ use calls::LoadAnswer;
 use calls::LoadResult;
 use calls::OpenAnswer;
 use calls::OpenResult;
+use calls::Report;
 use calls::Verdict;
 use calls::WithdrawAnswer;
 use calls::WithdrawResult;
@@ -172,7 +174,7 @@ pub fn withdraw(judge: Judge, place: usize) -> WithdrawResult
 }
 
 // Waiting with the number of empty places; or yes or no with the count.
-pub fn ask_verdict(judge: Judge) -> Verdict
+fn find_verdict(judge: Judge) -> Verdict
     ensures { λ r. ⌜ verdictMeans r ≡ verdictOf judge ⌝ }
 {
     let board = judge.board;
@@ -191,4 +193,57 @@ pub fn ask_verdict(judge: Judge) -> Verdict
     } else {
         Verdict::No(count)
     }
+}
+
+// The verdict with the bytes of the text, and the quotient and remainder of the count by them.
+fn report_by_bytes(verdict: Verdict, count: u64, bytes: u64) -> Report
+    ensures { λ r. ⌜ reportMeans r ≡ perByte (verdictMeans verdict) count bytes ⌝ }
+{
+    if bytes == 0 {
+        return Report {
+            verdict,
+            bytes,
+            quotient: 0,
+            remainder: 0,
+        };
+    }
+    Report {
+        verdict,
+        bytes,
+        quotient: count / bytes,
+        remainder: count % bytes,
+    }
+}
+
+// The verdict with three zeros.
+fn report_alone(verdict: Verdict) -> Report
+    ensures { λ r. ⌜ reportMeans r ≡ alone (verdictMeans verdict) ⌝ }
+{
+    Report {
+        verdict,
+        bytes: 0,
+        quotient: 0,
+        remainder: 0,
+    }
+}
+
+// What is reported beside the verdict, where the text has so many bytes.
+fn report_on(verdict: Verdict, bytes: u64) -> Report
+    ensures { λ r. ⌜ reportMeans r ≡ reportBy (verdictMeans verdict) bytes ⌝ }
+{
+    match verdict {
+        Verdict::Waiting(_) => report_alone(verdict),
+        Verdict::Yes(count) => report_by_bytes(verdict, count, bytes),
+        Verdict::No(count) => report_by_bytes(verdict, count, bytes),
+        Verdict::Refused(_) => report_alone(verdict),
+    }
+}
+
+// The verdict, and how many transitions it cost for each byte.
+pub fn ask_verdict(judge: Judge) -> Report
+    ensures { λ r. ⌜ reportMeans r ≡ reportOf judge ⌝ }
+{
+    let verdict = find_verdict(judge);
+    let board = judge.board;
+    report_on(verdict, board::summed_bytes(board))
 }

@@ -21,7 +21,7 @@
 --                    fills it
 --   lineRoom         room for what is kept of a line: `deliver `, the digits of a place, a
 --                    space, two hex digits for each of bytesRoom bytes, and one byte more
---   answerRoom       room for the answer to a line
+--   answerRoom       room for the answer to a line: of a word and four numbers, each behind a space
 use Prim.Native.Nat.{ℕ, _+_, _*_}
 
 abbrev pub mostStates : ℕ
@@ -73,4 +73,4 @@ abbrev pub lineRoom : ℕ
 lineRoom = 8 + mostDigits + 1 + 2 * bytesRoom + 1
 
 abbrev pub answerRoom : ℕ
-answerRoom = 64
+answerRoom = 96

@@ -61,8 +61,8 @@ pub const BYTES: usize = CHUNK + 1;
 // for each of BYTES bytes, and one byte more.
 pub const LINE: usize = 8 + DIGITS + 1 + 2 * BYTES + 1;
 
-// Room for the answer to a line.
-pub const ANSWER: usize = 64;
+// Room for the answer to a line: of a word and four numbers, each behind a space.
+pub const ANSWER: usize = 96;
 
 // Room for the printed text of any rule.
 pub const RULE_TEXT: usize = 40960;

@@ -21,9 +21,9 @@ use Rattle.lines.proofs.Parts.{part-rest, part-is}
 use Rattle.executions.specs.Executions.{stateAfter}
 use Rattle.calls.specs.declared.Judge.{Judge}
 use Rattle.calls.specs.Calls.{Call}
-use Rattle.calls.specs.Steps.{fresh, verdictOf, stepOf}
+use Rattle.calls.specs.Steps.{fresh, reportOf, stepOf}
 use Rattle.histories.specs.Claims.{judgeAfter}
-use Rattle.histories.proofs.EveryList.{verdict-after}
+use Rattle.histories.proofs.EveryList.{report-after}
 use Rattle.calltext.specs.Meaning.{Meaning, again, call, malformed, lineIn}
 use Rattle.calltext.specs.Answers.{isMalformed, answerMeans}
 use Rattle.callrun.specs.declared.LineRun.{LineRun}
@@ -103,11 +103,11 @@ going-first w j e = record { history = []; ran = e; is = refl }
 
 module _ (w : List ℕ) (j : Judge) (line at : ℕ) (going : Going w j line at) where
   -- the end
-  pub going-last : length w ≤ at → (t : ReplayReply) → t ≡ verdict (verdictOf j) → t ≡ replayOf (recordIn w)
+  pub going-last : length w ≤ at → (t : ReplayReply) → t ≡ verdict (reportOf j) → t ≡ replayOf (recordIn w)
   unfolding readLines linesFrom
   going-last l t e =
       let is : recordIn w ≡ calls (going .history) = going .is ∙ ap (λ (v : List ℕ). readLines (calls (going .history)) (suc line) (linesOf v)) (drop-of-length-le w l) in
-      e ∙ ap verdict (ap verdictOf (going .ran) ∙ verdict-after (going .history)) ∙ ap replayOf (sym is)
+      e ∙ ap verdict (ap reportOf (going .ran) ∙ report-after (going .history)) ∙ ap replayOf (sym is)
 
   module _ (end : ℕ) (here : at < length w) (found : end ≡ at + length (upTo 10 (drop at w))) (r : LineRun)
       (steps : runOutcome r ≡ lineStep j (lineIn (take (end - at) (drop at w)))) where

@@ -4,14 +4,15 @@
 --                  its first malformed line, counted from 1
 --   recordIn w     what the text w records. An empty line begins a fresh judge: the calls are those
 --                  after the last one
---   ReplayReply           what replaying a record answers: a verdict, or that a line is malformed
+--   ReplayReply    what replaying a record answers: what a verdict reports, or that a line is
+--                  malformed
 --   replayMeans r       what each case of the code's answer says
 --   replayOf s     the right answer for a record that says s
 use mathlib.Core.List.{List, [], _∷_}
 use Prim.Native.Nat.{ℕ, suc}
 use Rattle.lines.specs.Splitting.{linesOf}
-use Rattle.calls.specs.Replies.{Reply, verdictMeans}
-use Rattle.histories.specs.History.{verdictIn}
+use Rattle.calls.specs.Replies.{Reported, reportMeans}
+use Rattle.histories.specs.History.{reportIn}
 use Rattle.calls.specs.Calls.{Call}
 use Rattle.calltext.specs.Meaning.{Meaning, again, call, malformed, lineIn}
 use Rattle.replay.specs.declared.ReplayAnswer.{ReplayAnswer}
@@ -40,15 +41,15 @@ abbrev pub recordIn : List ℕ → Recorded
 recordIn w = readLines (calls []) 1 (linesOf w)
 
 pub data ReplayReply : Type 0 where
-  verdict : Reply → ReplayReply
+  verdict : Reported → ReplayReply
   malformedLine : ℕ → ReplayReply
 
 abbrev pub replayMeans : ReplayAnswer → ReplayReply
-replayMeans (Verdict v) = verdict (verdictMeans v)
+replayMeans (Verdict r) = verdict (reportMeans r)
 replayMeans (Malformed line) = malformedLine line
 
--- the verdict of demand 3 for the recorded calls: `VerdictClauses` of crates/histories, which holds
--- of every list, has its words
+-- what is reported after the recorded calls: `VerdictClauses` and `ReportClauses` of
+-- crates/histories, which hold of every list, have its words
 abbrev pub replayOf : Recorded → ReplayReply
-replayOf (calls h) = verdict (verdictIn h)
+replayOf (calls h) = verdict (reportIn h)
 replayOf (malformedAt i) = malformedLine i

@@ -6,12 +6,12 @@ ghost use Rattle.limits.specs.Limits.{bytesRoom};
 ghost use Rattle.calltext.specs.Answers.{answerMeans, isMalformed};
 ghost use Rattle.callrun.specs.Running.{Scratch};
 ghost use Rattle.replay.specs.Records.{recordIn, replayMeans, replayOf};
-use calls::Verdict;
+use calls::Report;
 use calltext::LineAnswer;
 
 // The verdict, or the number of the first malformed line.
 pub enum ReplayAnswer {
-    Verdict(Verdict),
+    Verdict(Report),
     Malformed(usize),
 }
 

@@ -1,6 +1,7 @@
 -- What the contracts of reading cite.
 --
---   Within b xs   some bytes were read, no more than the buffer xs has; which they are is no promise
+--   Within b xs   some bytes were read, no more than the buffer xs has; which they are is no
+--                 promise
 --   Whole i xs    no more bytes were read than the buffer xs has; which they are is no promise
 use mathlib.Core.List.{List}
 use Prim.Native.Nat.{ℕ, _<_}

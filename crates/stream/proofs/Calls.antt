@@ -19,9 +19,9 @@ use Rattle.text.proofs.Pieces.{wrote-none}
 use Rattle.lines.specs.Splitting.{upTo}
 use Rattle.lines.proofs.Parts.{part-from, part-to}
 use Rattle.calls.specs.declared.Judge.{Judge}
-use Rattle.calls.specs.declared.Verdict.{Verdict}
-use Rattle.calls.specs.Replies.{Reply, verdictMeans}
-use Rattle.calls.specs.Steps.{verdictOf}
+use Rattle.calls.specs.declared.Report.{Report}
+use Rattle.calls.specs.Replies.{Reported, judged, reportMeans}
+use Rattle.calls.specs.Steps.{reportOf}
 use Rattle.calltext.specs.Answers.{replied, responseText, answerMeans}
 use Rattle.callrun.specs.declared.LineRun.{LineRun}
 use Rattle.callrun.specs.Running.{LineOutcome, lineStep, runOutcome}
@@ -43,9 +43,9 @@ module _ (j : Judge) (held : Held) (line : List ℕ) (run : LineRun) (is : runOu
   answered-text before after end wrote =
       subst (λ (t : List ℕ). Wrote before 0 t after end) (ap (λ (o : LineOutcome). responseText (o .response)) is) wrote
 
-pub asked-text : (j : Judge) (v : Verdict) → verdictMeans v ≡ verdictOf j → (before after : List ℕ) (end : ℕ)
-    → Wrote before 0 (responseText (replied (verdictMeans v))) after end → Wrote before 0 (responseText (replied (verdictOf j))) after end
-asked-text j v is before after end wrote = subst (λ (a : Reply). Wrote before 0 (responseText (replied a)) after end) is wrote
+pub asked-text : (j : Judge) (v : Report) → reportMeans v ≡ reportOf j → (before after : List ℕ) (end : ℕ)
+    → Wrote before 0 (responseText (replied (judged (reportMeans v)))) after end → Wrote before 0 (responseText (replied (judged (reportOf j)))) after end
+asked-text j v is before after end wrote = subst (λ (a : Reported). Wrote before 0 (responseText (replied (judged a))) after end) is wrote
 
 -- ---- a part of a block; `mid` and `after` hold the line with the part behind it
 module _ (held : Held) (block : List ℕ) (at : ℕ) (here : at < length block) (end : ℕ) (found : end ≡ at + length (upTo 10 (drop at block)))

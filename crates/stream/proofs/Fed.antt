@@ -26,7 +26,7 @@ gathered room at block s s′ r line before after texts came rest =
     subst (λ (t : List ℕ). Rounds room s (drop at block) s′ (t ∷ texts)) (sym (taken (came .response))) (round from)
 
 -- by a number that the length of the block is at most
-rounds-by : (n room : ℕ) → 64 ≤ room → (block : List ℕ) (s : State) → length block ≤ n → (s′ : State) × (texts : List (List ℕ)) × Rounds room s block s′ texts
+rounds-by : (n room : ℕ) → 96 ≤ room → (block : List ℕ) (s : State) → length block ≤ n → (s′ : State) × (texts : List (List ℕ)) × Rounds room s block s′ texts
 rounds-by zero room enough [] s l = (s, [], over)
 rounds-by zero room enough (x ∷ block) s l = absurd (omega arith)
 rounds-by (suc n) room enough [] s l = (s, [], over)
@@ -36,7 +36,7 @@ rounds-by (suc n) room enough (x ∷ block) s l =
     let rest = rounds-by n room enough (drop (g .taken) (x ∷ block)) (g .state) (omega (arith, some, length-drop (g .taken) (x ∷ block))) in
     (rest .0, g .text ∷ rest .1, round (rest .2))
 
-pub fed : (room : ℕ) → 64 ≤ room → (blocks : List (List ℕ)) (s : State) → (s′ : State) × (text : List ℕ) × Blocks room s blocks s′ text
+pub fed : (room : ℕ) → 96 ≤ room → (blocks : List (List ℕ)) (s : State) → (s′ : State) × (text : List ℕ) × Blocks room s blocks s′ text
 fed room enough [] s = (s, [], no-block)
 fed room enough (block ∷ blocks) s =
     let here = rounds-by (length block) room enough block s (omega arith) in

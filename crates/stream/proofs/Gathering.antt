@@ -25,7 +25,7 @@ use Rattle.stream.specs.Claims.{FirstPart}
 use Rattle.stream.proofs.Parts.{first-part}
 
 -- ---- the first part, and the others
-pub gather-on : (room : ℕ) (s : State) (block : List ℕ) → 0 < length block → 64 ≤ room
+pub gather-on : (room : ℕ) (s : State) (block : List ℕ) → 0 < length block → 96 ≤ room
     → gatherParts room s (partsOf block)
     ≡ onward (feedPart s (firstOf (partsOf block))) (partSize (firstOf (partsOf block)))
     (gatherParts (room - length (feedPart s (firstOf (partsOf block)) .text)) (feedPart s (firstOf (partsOf block)) .state) (partsOf (drop (partSize (firstOf (partsOf block))) block)))
@@ -34,12 +34,12 @@ gather-on room s block some enough =
     let p = firstOf (partsOf block) in
     let t = feedPart s p in
     ap (gatherParts room s) (first-part block some .rest)
-    ∙ ap (λ (b : Bool). cond b (stop s) (onward t (partSize p) (gatherParts (room - length (t .text)) (t .state) (partsOf (drop (partSize p) block))))) (le-ltb room 64 enough)
+    ∙ ap (λ (b : Bool). cond b (stop s) (onward t (partSize p) (gatherParts (room - length (t .text)) (t .state) (partsOf (drop (partSize p) block))))) (le-ltb room 96 enough)
 
-pub gather-short : (room : ℕ) (s : State) (ps : List Part) → room < 64 → gatherParts room s ps ≡ stop s
+pub gather-short : (room : ℕ) (s : State) (ps : List Part) → room < 96 → gatherParts room s ps ≡ stop s
 unfolding gatherParts
 gather-short room s [] short = refl
-gather-short room s (p ∷ ps) short = rw (lt-ltb room 64 short)
+gather-short room s (p ∷ ps) short = rw (lt-ltb room 96 short)
 
 pub gather-over : (room : ℕ) (s : State) → gatherParts room s (partsOf []) ≡ stop s
 unfolding gatherParts partsOf
@@ -47,7 +47,7 @@ gather-over room s = refl
 
 -- ---- from an index on
 module _ (block : List ℕ) (at room : ℕ) (s : State) where
-  pub at-on : at < length block → 64 ≤ room
+  pub at-on : at < length block → 96 ≤ room
       → gatherAt block at room s
       ≡ onward (feedPart s (partAt block at)) (partSize (partAt block at))
       (gatherAt block (at + partSize (partAt block at)) (room - length (feedPart s (partAt block at) .text)) (feedPart s (partAt block at) .state))
@@ -99,7 +99,7 @@ onward-twice s said m t n g s′ =
     ap₂ (λ (x : List ℕ) (k : ℕ). record { state = g .state; text = x; taken = k }) (sym (append-assoc said (t .text) (g .text))) sum
 
 module _ (block : List ℕ) (from : ℕ) (s₀ : State) (out₀ : List ℕ) (at : ℕ) (s : State) (out : List ℕ) (used : ℕ) (so : SoFar block from s₀ out₀ at s out used) where
-  pub gone-on : at < length block → 64 ≤ length out - used
+  pub gone-on : at < length block → 96 ≤ length out - used
       → (t : Step) → feedPart s (partAt block at) ≡ t → (next : ℕ) → next ≡ at + partSize (partAt block at)
       → (after : List ℕ) (end : ℕ) → Wrote out used (t .text) after end → length after ≡ length out → end ≤ length out
       → SoFar block from s₀ out₀ next (t .state) after end

@@ -61,14 +61,14 @@ round-by zero room s b l = nothing-left room s b l
 round-by (suc n) room s b l =
     let p = firstOf (partsOf b) in
     let t = feedPart s p in
-    by-test (ltb room 64)
-    (λ e. subst (RoundIs s b) (sym (gather-short room s (partsOf b) (ltb-true room 64 e))) (stopped s b))
+    by-test (ltb room 96)
+    (λ e. subst (RoundIs s b) (sym (gather-short room s (partsOf b) (ltb-true room 96 e))) (stopped s b))
     (λ e.
     by-test (ltb 0 (length b))
     (λ k.
     let some = ltb-true 0 (length b) k in
     let first = first-part b some in
-    subst (RoundIs s b) (sym (gather-on room s b some (ltb-false room 64 e)))
+    subst (RoundIs s b) (sym (gather-on room s b some (ltb-false room 96 e)))
     (part-then s b some _
     (round-by n (room - length (t .text)) (t .state) (drop (partSize p) b) (omega (arith, l, first .forward, length-drop (partSize p) b)))))
     (λ k. nothing-left room s b (ltb-false 0 (length b) k)))
@@ -79,7 +79,7 @@ round-is room s b = round-by (length b) room s b (omega arith)
 pub within : (room : ℕ) (s : State) (b : List ℕ) → gatherParts room s (partsOf b) .taken ≤ length b
 within room s b = round-is room s b .inside
 
-pub forward : (room : ℕ) (s : State) (b : List ℕ) → 64 ≤ room → 0 < length b → 0 < gatherParts room s (partsOf b) .taken
+pub forward : (room : ℕ) (s : State) (b : List ℕ) → 96 ≤ room → 0 < length b → 0 < gatherParts room s (partsOf b) .taken
 forward room s b enough some =
     subst (λ (g : Gathering). 0 < g .taken) (sym (gather-on room s b some enough)) (omega (arith, first-part b some .forward))
 
@@ -121,7 +121,7 @@ blocks-are {room} {s} (one-more {s′ = s′} {block = b} {blocks = bs} {texts =
 -- ---- for a loop over the rounds of a block: the block was fed from `at` on
 module _ (b : List ℕ) (at room : ℕ) (here : at < length b) (s : State) (r : Gathered) (line before after : List ℕ)
     (came : Gathers (gatherAt b at room s) at r line before after) where
-  pub round-forward : 64 ≤ room → at < r .at
+  pub round-forward : 96 ≤ room → at < r .at
   round-forward enough = omega (arith, forward room s (drop at b) enough (omega (arith, length-drop at b)), came .next)
 
   pub round-within : r .at ≤ length b

@@ -15,7 +15,8 @@ use Rattle.base.proofs.Tests.{not-both}
 use Rattle.text.specs.Writing.{Wrote}
 use Rattle.text.proofs.Pieces.{wrote-none}
 use Rattle.calls.specs.declared.Judge.{Judge}
-use Rattle.calls.specs.Steps.{verdictOf}
+use Rattle.calls.specs.Replies.{judged}
+use Rattle.calls.specs.Steps.{reportOf}
 use Rattle.calltext.specs.Answers.{replied, responseText}
 use Rattle.callrun.specs.Running.{LineOutcome, verdictAsked}
 use Rattle.callrun.proofs.Ways.{asks-step}
@@ -37,7 +38,7 @@ feed-ended s (ends p) e = refl
 feed-ended s (goesOn p) e = not-both e refl
 
 asked : (j : Judge) (held : Held) (line : List ℕ) → verdictAsked (heldMeaning line held) ≡ true
-    → answerHeld (stateOf j held line) ≡ record { state = stateOf j lineBegin line; text = responseText (replied (verdictOf j)) }
+    → answerHeld (stateOf j held line) ≡ record { state = stateOf j lineBegin line; text = responseText (replied (judged (reportOf j))) }
 unfolding answerHeld
 asked j held line e = ap (answeredBy (stateOf j held line)) (asks-step j (heldMeaning line held) e)
 
@@ -58,7 +59,7 @@ has-ended false e = sym e
 -- a part was taken at `at`, where there is room for an answer
 module _ (block : List ℕ) (from : ℕ) (s₀ : State) (out₀ : List ℕ) (at : ℕ) (j : Judge) (held : Held) (line out : List ℕ) (used : ℕ)
     (here : at < length block) (r : Taken) (after : List ℕ) (took : TookPart held line at (partAt block at) r after)
-    (so : SoFar block from s₀ out₀ at (stateOf j held line) out used) (enough : 64 ≤ length out - used) where
+    (so : SoFar block from s₀ out₀ at (stateOf j held line) out used) (enough : 96 ≤ length out - used) where
   state-is : goOn (stateOf j held line) (partBytes (partAt block at)) ≡ stateOf j (r .held) after
   state-is = ap₂ (stateOf j) (sym (took .held-is)) (sym (took .line-is))
 
@@ -84,9 +85,9 @@ module _ (block : List ℕ) (from : ℕ) (s₀ : State) (out₀ : List ℕ) (at 
         (placed-size out last t used n (so .within) kept wrote)
         (placed-within out last t used n (so .within) kept wrote)
 
-    pub turn-verdict : verdictAsked (heldMeaning after (r .held)) ≡ true → Wrote (midOf used (length out - used) out) 0 (responseText (replied (verdictOf j))) last n
+    pub turn-verdict : verdictAsked (heldMeaning after (r .held)) ≡ true → Wrote (midOf used (length out - used) out) 0 (responseText (replied (judged (reportOf j)))) last n
         → SoFar block from s₀ out₀ (r .at) (stateOf j none after) (putMid used (length out - used) out last) (used + n)
-    turn-verdict verdictAsked wrote = answered j (responseText (replied (verdictOf j))) (asked j (r .held) after verdictAsked) wrote
+    turn-verdict verdictAsked wrote = answered j (responseText (replied (judged (reportOf j)))) (asked j (r .held) after verdictAsked) wrote
 
     pub turn-answered : (j′ : Judge) → stateOf j′ lineBegin after ≡ answerHeld (stateOf j (r .held) after) .state
         → Wrote (midOf used (length out - used) out) 0 (answerHeld (stateOf j (r .held) after) .text) last n

@@ -86,8 +86,8 @@ pub record Claims : Type 0 where
   pub within : (room : ℕ) (s : State) (block : List ℕ) → gatherParts room s (partsOf block) .taken ≤ length block
   pub rounds : {room : ℕ} {s s′ : State} {block : List ℕ} {texts : List (List ℕ)} → Rounds room s block s′ texts
       → (flatten texts ≡ partsText s (partsOf block)) × (s′ ≡ feedParts s (partsOf block))
-  -- what `gather` promises is a round, whose text stands at the start of the buffer for answers; and
-  -- every list of blocks is fed so, where there is room for an answer
+  -- what `gather` promises is a round, whose text stands at the start of the buffer for answers;
+  -- and every list of blocks is fed so, where there is room for an answer
   pub gathered : (room at : ℕ) (block : List ℕ) (s s′ : State) (r : Gathered) (line before after : List ℕ) (texts : List (List ℕ))
       → Gathers (gatherAt block at room s) at r line before after
       → Rounds room (stateOf (r .judge) (r .held) line) (drop (r .at) block) s′ texts

@@ -4,7 +4,8 @@ ghost use Prim.Native.Nat.{_≤_, _<_};
 ghost use lib.ListN.{length};
 ghost use Rattle.limits.specs.Limits.{bytesRoom, lineRoom, answerRoom};
 ghost use Rattle.text.specs.Writing.{Wrote};
-ghost use Rattle.calls.specs.Steps.{verdictOf};
+ghost use Rattle.calls.specs.Replies.{judged};
+ghost use Rattle.calls.specs.Steps.{reportOf};
 ghost use Rattle.calltext.specs.Answers.{replied, responseText};
 ghost use Rattle.callrun.specs.Running.{Scratch};
 ghost use Rattle.linebuffer.specs.Holding.{lineBegin};
@@ -51,7 +52,7 @@ fn answer(judge: Judge, line: &[u8], held: Held, bytes: &mut [u8], out: &mut [u8
 // The answer to a line that asks for the verdict.
 fn answer_verdict(judge: Judge, out: &mut [u8]) -> usize
     requires { ⌜ answerRoom ≤ length (now out) ⌝ }
-    ensures { λ r. ⌜ Wrote (now (out .entry)) 0 (responseText (replied (verdictOf judge))) (now (out .exit)) r ⌝ }
+    ensures { λ r. ⌜ Wrote (now (out .entry)) 0 (responseText (replied (judged (reportOf judge)))) (now (out .exit)) r ⌝ }
 {
     let said = judge::ask_verdict(judge);
     let answer = LineAnswer::Verdict(said);

@@ -14,9 +14,12 @@
 //! assert_eq!((loaded.sets, loaded.starts), (5, 3));
 //! judge.open(2)?;
 //! judge.deliver(1, &[1])?; // chunks come out of turn
-//! assert_eq!(judge.verdict()?, Verdict::Waiting(1));
+//! assert_eq!(judge.verdict()?.verdict, Verdict::Waiting(1));
 //! judge.deliver(0, &[0])?;
-//! assert_eq!(judge.verdict()?, Verdict::Yes(3));
+//! let report = judge.verdict()?;
+//! assert_eq!(report.verdict, Verdict::Yes(3));
+//! // 2 bytes of text, for each 1 transition and 1 over
+//! assert_eq!((report.bytes, report.quotient, report.remainder), (2, 1, 1));
 //! # Ok::<(), Refused>(())
 //! ```
 //!
@@ -67,6 +70,23 @@ pub enum Verdict {
     Yes(u64),
     /// The trace does not keep to the rule; the count.
     No(u64),
+}
+
+/// A verdict, and how much work the trace costs.
+///
+/// Beside yes or no `bytes` is the number of text bytes, and count = quotient × bytes + remainder with
+/// a remainder below bytes; for a text of 0 bytes both are 0. Beside waiting all three are 0.
+#[derive(Clone, Copy, Debug, PartialEq, Eq)]
+#[must_use]
+pub struct Report {
+    /// Waiting, yes or no.
+    pub verdict: Verdict,
+    /// How many bytes the text has.
+    pub bytes: u64,
+    /// The count divided by the bytes, without what is over.
+    pub quotient: u64,
+    /// What is over.
+    pub remainder: u64,
 }
 
 /// One rule and one board.
@@ -151,7 +171,7 @@ impl Judge {
         self.changed(r)
     }
 
-    /// Runs a chunk and keeps its end sets and count at the place, which are counted from 0.
+    /// Runs a chunk and keeps its end sets, count and length at the place, which are counted from 0.
     ///
     /// # Errors
     /// 21 (no board is open), 11 (no such place), 12 (over 65,536 bytes), 13 (a byte is no symbol),
@@ -182,7 +202,7 @@ impl Judge {
         self.changed(r)
     }
 
-    /// Waiting, yes or no; changes nothing.
+    /// Waiting, yes or no, with the work for each byte; changes nothing.
     ///
     /// # Errors
     /// 21 (no board is open).
@@ -191,9 +211,9 @@ impl Judge {
     /// # use bellbadger::Judge;
     /// assert_eq!(Judge::new().verdict().unwrap_err().number(), 21);
     /// ```
-    pub fn verdict(&self) -> Result<Verdict, Refused> {
+    pub fn verdict(&self) -> Result<Report, Refused> {
         // SAFETY: plain numbers.
-        verdict(&unsafe { raw::bellbadger_verdict(*self.0) })
+        report(&unsafe { raw::bellbadger_verdict(*self.0) })
     }
 
     fn changed(&mut self, r: RawChange) -> Result<(), Refused> {
@@ -202,7 +222,7 @@ impl Judge {
     }
 }
 
-/// Runs the calls that a text records on a fresh judge: the verdict after them.
+/// Runs the calls that a text records on a fresh judge: the report on the verdict after them.
 ///
 /// A line is `load HEX`, `open N`, `deliver P HEX`, `withdraw P` or `verdict`, with exactly one
 /// space between fields; an empty line begins a fresh judge. HEX is pairs of hex digits, or `-` for
@@ -216,16 +236,16 @@ impl Judge {
 ///
 /// let rule_a = "load 03020100000004000000160006001C0002001E0000000000000101000102";
 /// let text = format!("{rule_a}\nopen 2\ndeliver 1 01\ndeliver 0 00\n");
-/// assert_eq!(replay(text.as_bytes())?, Verdict::Yes(3));
+/// assert_eq!(replay(text.as_bytes())?.verdict, Verdict::Yes(3));
 /// assert_eq!(replay(b"verdict\nopen  2\n"), Err(ReplayError::Malformed { line: 2 }));
 /// # Ok::<(), ReplayError>(())
 /// ```
-pub fn replay(text: &[u8]) -> Result<Verdict, ReplayError> {
+pub fn replay(text: &[u8]) -> Result<Report, ReplayError> {
     // SAFETY: the pointer leads to as many bytes as the length says, and they are only read.
     let r = unsafe { raw::bellbadger_replay(text.as_ptr(), text.len()) };
     match r.kind {
         raw::MALFORMED => Err(ReplayError::Malformed { line: r.number }),
-        _ => Ok(verdict(&r)?),
+        _ => Ok(report(&r)?),
     }
 }
 
@@ -236,11 +256,17 @@ fn accepted(accepted: u8, refused: u8) -> Result<(), Refused> {
     }
 }
 
-fn verdict(r: &RawVerdict) -> Result<Verdict, Refused> {
-    match r.kind {
-        raw::WAITING => Ok(Verdict::Waiting(r.number)),
-        raw::YES => Ok(Verdict::Yes(r.number)),
-        raw::NO => Ok(Verdict::No(r.number)),
-        _ => Err(Refused::new(r.number as u8)),
-    }
+fn report(r: &RawVerdict) -> Result<Report, Refused> {
+    let verdict = match r.kind {
+        raw::WAITING => Verdict::Waiting(r.number),
+        raw::YES => Verdict::Yes(r.number),
+        raw::NO => Verdict::No(r.number),
+        _ => return Err(Refused::new(r.number as u8)),
+    };
+    Ok(Report {
+        verdict,
+        bytes: r.bytes,
+        quotient: r.quotient,
+        remainder: r.remainder,
+    })
 }

@@ -21,6 +21,7 @@ pub struct RawBoard {
     pub places: u8,
     pub filled: [u8; 64],
     counts: [u32; 64],
+    lengths: [u32; 64],
     ends: [u32; 2048],
 }
 
@@ -60,10 +61,13 @@ pub const MALFORMED: u8 = 4;
 pub struct RawVerdict {
     pub kind: u8,
     pub number: u64,
+    pub bytes: u64,
+    pub quotient: u64,
+    pub remainder: u64,
 }
 
 /// As the C header has it; outside/c/test.c reads every field of it.
-pub const STATE_SIZE: usize = 27060;
+pub const STATE_SIZE: usize = 27316;
 const _: () = assert!(std::mem::size_of::<RawJudge>() == STATE_SIZE);
 
 extern "C" {

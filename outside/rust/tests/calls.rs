@@ -1,6 +1,6 @@
 //! The judge through the wrapper: table P, refusals and their words, the largest count, recorded
 //! lists, and what a judge shows of itself.
-use bellbadger::{replay, version, Judge, Loaded, Refused, ReplayError, Verdict};
+use bellbadger::{replay, version, Judge, Loaded, Refused, ReplayError, Report, Verdict};
 use std::fmt::Debug;
 
 const A: [u8; 30] = [
@@ -17,13 +17,28 @@ fn number<T: Debug>(answer: Result<T, Refused>) -> u8 {
     answer.unwrap_err().number()
 }
 
-/// The verdict on a rule and the chunks of its places, delivered the last first.
-fn judged(rule: &[u8], chunks: &[&[u8]]) -> Result<Verdict, Refused> {
+/// A verdict with the bytes, the quotient and the remainder beside it.
+fn reported(verdict: Verdict, numbers: [u64; 3]) -> Report {
+    let [bytes, quotient, remainder] = numbers;
+    Report {
+        verdict,
+        bytes,
+        quotient,
+        remainder,
+    }
+}
+
+fn waiting(places: u64) -> Report {
+    reported(Verdict::Waiting(places), [0, 0, 0])
+}
+
+/// What is reported on a rule and the chunks of its places, delivered the last first.
+fn judged(rule: &[u8], chunks: &[&[u8]]) -> Result<Report, Refused> {
     let mut judge = Judge::new();
     let _sizes = judge.load(rule)?;
     judge.open(chunks.len())?;
     for (place, chunk) in chunks.iter().enumerate().rev() {
-        assert_eq!(judge.verdict()?, Verdict::Waiting(place as u64 + 1));
+        assert_eq!(judge.verdict()?, waiting(place as u64 + 1));
         judge.deliver(place, chunk)?;
     }
     judge.verdict()
@@ -33,13 +48,15 @@ fn judged(rule: &[u8], chunks: &[&[u8]]) -> Result<Verdict, Refused> {
 fn table_p() {
     assert_eq!(Judge::new().load(&A), Ok(Loaded { sets: 5, starts: 3 }));
     assert_eq!(Judge::new().load(&B), Ok(Loaded { sets: 4, starts: 2 }));
-    assert_eq!(judged(&A, &[&[0], &[1]]), Ok(Verdict::Yes(3)));
-    assert_eq!(judged(&A, &[&[1], &[0]]), Ok(Verdict::No(2)));
-    assert_eq!(judged(&A, &[&[]]), Ok(Verdict::No(0)));
-    assert_eq!(judged(&B, &[&[0], &[0, 0]]), Ok(Verdict::Yes(5)));
-    assert_eq!(judged(&B, &[&[0, 0], &[0]]), Ok(Verdict::Yes(4)));
-    assert_eq!(judged(&B, &[&[0, 0, 0]]), Ok(Verdict::Yes(3)));
-    assert_eq!(judged(&B, &[&[], &[], &[]]), Ok(Verdict::No(0)));
+    let yes = |count, numbers| Ok(reported(Verdict::Yes(count), numbers));
+    let no = |count, numbers| Ok(reported(Verdict::No(count), numbers));
+    assert_eq!(judged(&A, &[&[0], &[1]]), yes(3, [2, 1, 1]));
+    assert_eq!(judged(&A, &[&[1], &[0]]), no(2, [2, 1, 0]));
+    assert_eq!(judged(&A, &[&[]]), no(0, [0, 0, 0]));
+    assert_eq!(judged(&B, &[&[0], &[0, 0]]), yes(5, [3, 1, 2]));
+    assert_eq!(judged(&B, &[&[0, 0], &[0]]), yes(4, [3, 1, 1]));
+    assert_eq!(judged(&B, &[&[0, 0, 0]]), yes(3, [3, 1, 0]));
+    assert_eq!(judged(&B, &[&[], &[], &[]]), no(0, [0, 0, 0]));
     let mut p10 = A;
     p10[6] = 8;
     assert_eq!(number(Judge::new().load(&p10)), 6);
@@ -64,10 +81,10 @@ fn refusals_of_the_calls() {
     assert_eq!(number(judge.withdraw(63)), 23);
     assert_eq!(judge.deliver(63, &[0; 65536]), Ok(()));
     assert_eq!(number(judge.deliver(63, &[])), 22);
-    assert_eq!(judge.verdict(), Ok(Verdict::Waiting(63)));
+    assert_eq!(judge.verdict(), Ok(waiting(63)));
     assert_eq!(number(judge.load(&A[..9])), 1);
     assert_eq!(number(judge.load(&[0; 32907])), 2);
-    assert_eq!(judge.verdict(), Ok(Verdict::Waiting(63)));
+    assert_eq!(judge.verdict(), Ok(waiting(63)));
 }
 
 /// 32 states that lead round and accept different texts each: 32 starts, each of which counts every byte.
@@ -93,14 +110,19 @@ fn the_sum_of_the_counts() {
     for place in 0..64 {
         assert_eq!(judge.deliver(place, &[0; 65536]), Ok(()));
     }
-    // place 0 is run from one start, the other 63 from 32
-    assert_eq!(judge.verdict(), Ok(Verdict::Yes(65536 + 63 * 32 * 65536)));
+    // place 0 is run from one start, the other 63 from 32: 2,017 for every 64 bytes
+    let verdict = Verdict::Yes(65536 + 63 * 32 * 65536);
+    let numbers = [64 * 65536, 31, 33 * 65536];
+    assert_eq!(judge.verdict(), Ok(reported(verdict, numbers)));
 }
 
 #[test]
 fn recorded_lists() {
     let text = "load 03020100000004000000160006001C0002001E0000000000000101000102\nopen 2\ndeliver 1 01\ndeliver 0 00";
-    assert_eq!(replay(text.as_bytes()), Ok(Verdict::Yes(3)));
+    assert_eq!(
+        replay(text.as_bytes()),
+        Ok(reported(Verdict::Yes(3), [2, 1, 1]))
+    );
     assert!(matches!(replay(b""), Err(ReplayError::Refused(refused)) if refused.number() == 21));
     assert_eq!(
         replay(b"").unwrap_err().to_string(),
@@ -130,5 +152,5 @@ fn what_a_judge_shows() {
     assert!(judge.load(&A).is_ok() && judge.open(2).is_ok() && judge.deliver(1, &[]).is_ok());
     let shown = "Judge { states: 3, symbols: 2, sets: 5, starts: 3, places: 2, filled: 1, .. }";
     assert_eq!(format!("{judge:?}"), shown);
-    assert_eq!(version(), (1, 0));
+    assert_eq!(version(), (2, 0));
 }

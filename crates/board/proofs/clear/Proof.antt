@@ -16,6 +16,12 @@ mul-cleared c = search needs
 element-write-cleared-2 : tie.Need-element-write-cleared-2
 element-write-cleared-2 c = search needs
 
+mul-cleared-2 : tie.Need-mul-cleared-2
+mul-cleared-2 c = search needs
+
+element-write-cleared-3 : tie.Need-element-write-cleared-3
+element-write-cleared-3 c = search needs
+
 set-row-requires : tie.Need-set-row-requires
 set-row-requires c κs = search needs
 
@@ -30,4 +36,4 @@ returns c =
 pub clear-spec : {M : Type 1} → statement M
 clear-spec =
     tie.close
-    (tie.spec element-write-cleared mul-cleared element-write-cleared-2 set-row-requires returns)
+    (tie.spec element-write-cleared mul-cleared element-write-cleared-2 mul-cleared-2 element-write-cleared-3 set-row-requires returns)

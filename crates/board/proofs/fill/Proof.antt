@@ -13,6 +13,12 @@ mul-filled c = search needs
 element-write-filled-2 : tie.Need-element-write-filled-2
 element-write-filled-2 c = search needs
 
+mul-filled-2 : tie.Need-mul-filled-2
+mul-filled-2 c = search needs
+
+element-write-filled-3 : tie.Need-element-write-filled-3
+element-write-filled-3 c = search needs
+
 set-row-requires : tie.Need-set-row-requires
 set-row-requires c κs = search needs
 
@@ -23,4 +29,4 @@ returns c = rw (c .set-row .ensures)
 pub fill-spec : {M : Type 1} → statement M
 fill-spec =
     tie.close
-    (tie.spec element-write-filled mul-filled element-write-filled-2 set-row-requires returns)
+    (tie.spec element-write-filled mul-filled element-write-filled-2 mul-filled-2 element-write-filled-3 set-row-requires returns)

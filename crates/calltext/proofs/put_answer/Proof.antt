@@ -36,8 +36,8 @@ put-withdraw-requires c κs = search needs
 enum-known-answer-5 : tie.Need-enum-known-answer-5
 enum-known-answer-5 c = search needs
 
-put-verdict-requires : tie.Need-put-verdict-requires
-put-verdict-requires c κs = search needs
+put-report-requires : tie.Need-put-report-requires
+put-report-requires c κs = search needs
 
 enum-told-2 : tie.Need-enum-told-2
 enum-told-2 c = search needs
@@ -82,7 +82,7 @@ same-length-6 : tie.Need-same-length-6
 same-length-6 c = search needs
 
 returns-6 : tie.Need-returns-6
-returns-6 c = rw (c .before .before .before .before .before .answer5 .given .1) (c .before .before .put-verdict .ensures)
+returns-6 c = rw (c .before .before .before .before .before .answer5 .given .1) (c .before .before .put-report .ensures)
 
 same-length-7 : tie.Need-same-length-7
 same-length-7 c = search needs
@@ -105,7 +105,7 @@ put-answer-spec =
     enum-known-answer-4
     put-withdraw-requires
     enum-known-answer-5
-    put-verdict-requires
+    put-report-requires
     enum-told-2
     slice-aggregate-put-word
     put-word-requires

@@ -22,17 +22,17 @@ loop-holds c =
     let a = c .before .args in
     (omega arith, begun (a .sets .now) (a .next .now) (a .singles .now) (a .mask) (a .chunk .now))
 
-cast-t12 : tie.Need-cast-t12 Inv-loop μ-loop
-cast-t12 c = search needs
+cast-t13 : tie.Need-cast-t13 Inv-loop μ-loop
+cast-t13 c = search needs
 
 member-requires : tie.Need-member-requires Inv-loop μ-loop
 member-requires c κs = search needs
 
-mul-t14 : tie.Need-mul-t14 Inv-loop μ-loop
-mul-t14 c = search needs
+mul-t15 : tie.Need-mul-t15 Inv-loop μ-loop
+mul-t15 c = search needs
 
-element-copy-out-t17 : tie.Need-element-copy-out-t17 Inv-loop μ-loop
-element-copy-out-t17 c = search needs
+element-copy-out-t18 : tie.Need-element-copy-out-t18 Inv-loop μ-loop
+element-copy-out-t18 c = search needs
 
 walk-requires : tie.Need-walk-requires Inv-loop μ-loop
 walk-requires c κs = search needs
@@ -89,6 +89,9 @@ loop-again c =
           (c .if1 .came),
     )
 
+cast-bytes : tie.Need-cast-bytes Inv-loop μ-loop
+cast-bytes c = search needs
+
 returns : tie.Need-returns Inv-loop μ-loop
 returns c =
     let l = c .before .loop in
@@ -102,10 +105,10 @@ run-chunk-spec =
     Inv-loop
     μ-loop
     loop-holds
-    cast-t12
+    cast-t13
     member-requires
-    mul-t14
-    element-copy-out-t17
+    mul-t15
+    element-copy-out-t18
     walk-requires
     mask-of-requires
     mul-ends
@@ -114,4 +117,5 @@ run-chunk-spec =
     add-q
     loop-less
     loop-again
+    cast-bytes
     returns)

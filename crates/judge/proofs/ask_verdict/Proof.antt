@@ -1,38 +1,22 @@
 -- `ask_verdict` meets its contract. Assumes nothing.
-use Rattle.calls.proofs.Ways.{verdict-21, verdict-waiting, verdict-yes, verdict-no}
+use mathlib.Core.Path.{ap₂, _∙_}
+use Rattle.calls.specs.Calls.{reportBy}
 use borrow.Author.Needs.{needs}
 use Rattle.judge.proofs.ask_verdict.Statement.{statement}
 use Rattle.judge.proofs.ask_verdict.Tie as tie
 
+find-verdict-requires : tie.Need-find-verdict-requires
+find-verdict-requires c κs = search needs
+
+summed-bytes-requires : tie.Need-summed-bytes-requires
+summed-bytes-requires c κs = search needs
+
+report-on-requires : tie.Need-report-on-requires
+report-on-requires c κs = search needs
+
 returns : tie.Need-returns
-returns c = search (needs, verdict-21)
-
-empty-places-requires : tie.Need-empty-places-requires
-empty-places-requires c κs = search needs
-
-returns-2 : tie.Need-returns-2
-returns-2 c = search (needs, verdict-waiting)
-
-summed-count-requires : tie.Need-summed-count-requires
-summed-count-requires c κs = search needs
-
-says-yes-requires : tie.Need-says-yes-requires
-says-yes-requires c κs = search needs
-
-returns-3 : tie.Need-returns-3
-returns-3 c = search (needs, verdict-yes)
-
-returns-4 : tie.Need-returns-4
-returns-4 c = search (needs, verdict-no)
+returns c = c .report-on .ensures ∙ ap₂ reportBy (c .before .before .before .find-verdict .ensures) (c .before .summed-bytes .ensures)
 
 pub ask-verdict-spec : {M : Type 1} → statement M
 ask-verdict-spec =
-    tie.close
-    (tie.spec
-    returns
-    empty-places-requires
-    returns-2
-    summed-count-requires
-    says-yes-requires
-    returns-3
-    returns-4)
+    tie.close (tie.spec find-verdict-requires summed-bytes-requires report-on-requires returns)

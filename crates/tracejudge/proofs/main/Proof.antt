@@ -26,7 +26,7 @@ slice-aggregate-run-4 : tie.Need-slice-aggregate-run-4
 slice-aggregate-run-4 c = search needs
 
 run-requires : tie.Need-run-requires
-run-requires c κs = (has-room 131104 0 (made 131104), has-room 65537 0 (made 65537), has-room 64 393152 (made 393216))
+run-requires c κs = (has-room 131104 0 (made 131104), has-room 65537 0 (made 65537), has-room 96 393120 (made 393216))
 
 returns-2 : tie.Need-returns-2
 returns-2 c = search needs

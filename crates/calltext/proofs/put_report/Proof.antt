@@ -1,7 +1,7 @@
--- `put_verdict` meets its contract. Assumes nothing.
+-- `put_report` meets its contract. Assumes nothing.
 use borrow.Author.Needs.{needs}
-use Rattle.calltext.proofs.put_verdict.Statement.{statement}
-use Rattle.calltext.proofs.put_verdict.Tie as tie
+use Rattle.calltext.proofs.put_report.Statement.{statement}
+use Rattle.calltext.proofs.put_report.Tie as tie
 
 enum-known-verdict : tie.Need-enum-known-verdict
 enum-known-verdict c = search needs
@@ -18,20 +18,20 @@ put-numbered-requires c κs = search needs
 enum-known-verdict-2 : tie.Need-enum-known-verdict-2
 enum-known-verdict-2 c = search needs
 
-slice-aggregate-put-numbered-2 : tie.Need-slice-aggregate-put-numbered-2
-slice-aggregate-put-numbered-2 c = search needs
+slice-aggregate-put-counted : tie.Need-slice-aggregate-put-counted
+slice-aggregate-put-counted c = search needs
 
-put-numbered-requires-2 : tie.Need-put-numbered-requires-2
-put-numbered-requires-2 c κs = search needs
+put-counted-requires : tie.Need-put-counted-requires
+put-counted-requires c κs = search needs
 
 enum-known-verdict-3 : tie.Need-enum-known-verdict-3
 enum-known-verdict-3 c = search needs
 
-slice-aggregate-put-numbered-3 : tie.Need-slice-aggregate-put-numbered-3
-slice-aggregate-put-numbered-3 c = search needs
+slice-aggregate-put-counted-2 : tie.Need-slice-aggregate-put-counted-2
+slice-aggregate-put-counted-2 c = search needs
 
-put-numbered-requires-3 : tie.Need-put-numbered-requires-3
-put-numbered-requires-3 c κs = search needs
+put-counted-requires-2 : tie.Need-put-counted-requires-2
+put-counted-requires-2 c κs = search needs
 
 enum-known-verdict-4 : tie.Need-enum-known-verdict-4
 enum-known-verdict-4 c = search needs
@@ -49,13 +49,13 @@ same-length-2 : tie.Need-same-length-2
 same-length-2 c = search needs
 
 returns-2 : tie.Need-returns-2
-returns-2 c = rw (c .before .before .before .before .before .before .verdict2 .given .1) (c .before .before .put-numbered2 .ensures)
+returns-2 c = rw (c .before .before .before .before .before .before .verdict2 .given .1) (c .before .before .put-counted .ensures)
 
 same-length-3 : tie.Need-same-length-3
 same-length-3 c = search needs
 
 returns-3 : tie.Need-returns-3
-returns-3 c = rw (c .before .before .before .before .before .before .verdict3 .given .1) (c .before .before .put-numbered3 .ensures)
+returns-3 c = rw (c .before .before .before .before .before .before .verdict3 .given .1) (c .before .before .put-counted2 .ensures)
 
 same-length-4 : tie.Need-same-length-4
 same-length-4 c = search needs
@@ -63,8 +63,8 @@ same-length-4 c = search needs
 returns-4 : tie.Need-returns-4
 returns-4 c = rw (c .before .before .before .before .before .verdict4 .given .1) (c .before .before .put-refused .ensures)
 
-pub put-verdict-spec : {M : Type 1} → statement M
-put-verdict-spec =
+pub put-report-spec : {M : Type 1} → statement M
+put-report-spec =
     tie.close
     (tie.spec
     enum-known-verdict
@@ -72,11 +72,11 @@ put-verdict-spec =
     cast-put-numbered
     put-numbered-requires
     enum-known-verdict-2
-    slice-aggregate-put-numbered-2
-    put-numbered-requires-2
+    slice-aggregate-put-counted
+    put-counted-requires
     enum-known-verdict-3
-    slice-aggregate-put-numbered-3
-    put-numbered-requires-3
+    slice-aggregate-put-counted-2
+    put-counted-requires-2
     enum-known-verdict-4
     put-refused-requires
     same-length

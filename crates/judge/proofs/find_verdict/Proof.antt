@@ -1,0 +1,38 @@
+-- `find_verdict` meets its contract. Assumes nothing.
+use Rattle.calls.proofs.Ways.{verdict-21, verdict-waiting, verdict-yes, verdict-no}
+use borrow.Author.Needs.{needs}
+use Rattle.judge.proofs.find_verdict.Statement.{statement}
+use Rattle.judge.proofs.find_verdict.Tie as tie
+
+returns : tie.Need-returns
+returns c = search (needs, verdict-21)
+
+empty-places-requires : tie.Need-empty-places-requires
+empty-places-requires c κs = search needs
+
+returns-2 : tie.Need-returns-2
+returns-2 c = search (needs, verdict-waiting)
+
+summed-count-requires : tie.Need-summed-count-requires
+summed-count-requires c κs = search needs
+
+says-yes-requires : tie.Need-says-yes-requires
+says-yes-requires c κs = search needs
+
+returns-3 : tie.Need-returns-3
+returns-3 c = search (needs, verdict-yes)
+
+returns-4 : tie.Need-returns-4
+returns-4 c = search (needs, verdict-no)
+
+pub find-verdict-spec : {M : Type 1} → statement M
+find-verdict-spec =
+    tie.close
+    (tie.spec
+    returns
+    empty-places-requires
+    returns-2
+    summed-count-requires
+    says-yes-requires
+    returns-3
+    returns-4)
