@@ -1,9 +1,10 @@
 -- A refusal leaves the state as it was, on any state whatever (demand 1). Assumes nothing.
 --
---   refusal-law   a reply has the number of a refusal exactly where it is that refusal
+--   refusal-law   a reply has the number of a refusal exactly where it is that refusal, of the
+--                 verdict or of another call
 --   unchanged     the claim
 use mathlib.Core.Path.{_≡_, refl, ap}
-use mathlib.Core.Logic.{_↔_}
+use mathlib.Core.Logic.{_↔_, _⊎_, inl, inr, ⊎-elim}
 use mathlib.Core.Bool.{not}
 use mathlib.Core.Option.{Option, none, some}
 use Prim.Native.Nat.{ℕ}
@@ -13,26 +14,26 @@ use Rattle.ruleformat.specs.Reader.{ruleOf}
 use Rattle.build.specs.Building.{builtOf}
 use Rattle.board.specs.Boards.{placesOf, isEmpty, emptyBoard, filledAt, clearedAt}
 use Rattle.calls.specs.declared.Judge.{Judge}
-use Rattle.calls.specs.Replies.{Reply, accepted, loaded, judged, refused, refusalOf}
+use Rattle.calls.specs.Replies.{waiting, yesWith, noWith, refusedWith, Reply, accepted, loaded, judged, refused, refusalOf}
 use Rattle.calls.specs.Calls.{loads, opens, delivers, withdraws, asksVerdict, loadNumber, openConditions, deliverConditions, withdrawConditions}
 use Rattle.calls.specs.Steps.{lacksRule, lacksBoard, withBoard, runsAt, outcomeBy, loadOf, openOf, deliverOf, withdrawOf}
 use Rattle.calls.specs.Claims.{Unchanged}
 
-pub refusal-law : (a : Reply) (x : ℕ) → (refusalOf a ≡ some x) ↔ (a ≡ refused x)
-refusal-law a x = (to a, λ e. ap refusalOf e)
+pub refusal-law : (a : Reply) (x : ℕ) → (refusalOf a ≡ some x) ↔ ((a ≡ refused x) ⊎ (a ≡ judged (refusedWith x)))
+refusal-law a x = (to a, ⊎-elim (λ e. ap refusalOf e) (λ e. ap refusalOf e))
   where
-    to : (b : Reply) → refusalOf b ≡ some x → b ≡ refused x
+    to : (b : Reply) → refusalOf b ≡ some x → (b ≡ refused x) ⊎ (b ≡ judged (refusedWith x))
     to accepted e = none-some refl e
     to (loaded sets m) e = none-some refl e
-    to (judged v) e = none-some refl e
-    to (refused number) e = cc
-
-pub not-refusal : (a : Reply) → refusalOf a ≡ none → (x : ℕ) → a ≡ refused x → ⊥
-not-refusal a taken x e = none-some taken (refusal-law a x .1 e)
+    to (judged (waiting empty)) e = none-some refl e
+    to (judged (yesWith count)) e = none-some refl e
+    to (judged (noWith count)) e = none-some refl e
+    to (judged (refusedWith number)) e = inr cc
+    to (refused number) e = inl cc
 
 by-number : (number : Option ℕ) (a : Reply) (j next : Judge) → refusalOf a ≡ none
-    → (x : ℕ) → outcomeBy number a j next .reply ≡ refused x → outcomeBy number a j next .state ≡ j
-by-number none a j next taken x e = absurd (not-refusal a taken x e)
+    → (x : ℕ) → refusalOf (outcomeBy number a j next .reply) ≡ some x → outcomeBy number a j next .state ≡ j
+by-number none a j next taken x e = none-some taken e
 by-number (some m) a j next taken x e = refl
 
 pub unchanged : Unchanged

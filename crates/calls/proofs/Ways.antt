@@ -118,21 +118,21 @@ module _ (j : Judge) (p : ℕ) (w : List ℕ) where
 
 -- ---- verdict
 module _ (j : Judge) where
-  pub verdict-21 : j .board .places ≡ 0 → reply.refused 21 ≡ verdictOf j
+  pub verdict-21 : j .board .places ≡ 0 → reply.refusedWith 21 ≡ verdictOf j
   unfolding verdictOf
   verdict-21 a = rw (eq-eqb _ _ a)
 
   module _ (a : j .board .places ≡ 0 → ⊥) (e : ℕ) (empty : e ≡ emptyPlaces (j .board)) where
-    pub verdict-waiting : (e ≡ 0 → ⊥) → reply.judged (reply.waiting e) ≡ verdictOf j
+    pub verdict-waiting : (e ≡ 0 → ⊥) → reply.waiting e ≡ verdictOf j
     unfolding verdictOf
     verdict-waiting b = rw (ne-eqb _ _ a, ← empty, ne-eqb _ _ b)
 
     module _ (b : e ≡ 0) (count : ℕ) (summed : count ≡ summedCount (j .board)) (x : Bool) (says : x ≡ isYes j) where
-      pub verdict-yes : x ≡ true → reply.judged (reply.yesWith count) ≡ verdictOf j
+      pub verdict-yes : x ≡ true → reply.yesWith count ≡ verdictOf j
       unfolding verdictOf
       verdict-yes c = rw (ne-eqb _ _ a, ← empty, eq-eqb _ _ b, ← says, c, summed)
 
-      pub verdict-no : x ≡ false → reply.judged (reply.noWith count) ≡ verdictOf j
+      pub verdict-no : x ≡ false → reply.noWith count ≡ verdictOf j
       unfolding verdictOf
       verdict-no c = rw (ne-eqb _ _ a, ← empty, eq-eqb _ _ b, ← says, c, summed)
 

@@ -7,9 +7,8 @@
 --   loadNumber f       the number with which a load of the file f is refused, 1 to 9, or none where
 --                      it is accepted
 --   openConditions, deliverConditions, withdrawConditions   20, 10; 21, 11, 12, 13, 22; 21, 11, 23
---   judgementBy        what a verdict says: by the number of empty places, whether the join says
---                      yes, and the sum of the counts
---   verdictBy          the reply to the call verdict: by whether no board is there, and these three
+--   verdictBy          what a verdict says: by whether no board is there, the number of empty
+--                      places, whether the join says yes, and the sum of the counts
 use mathlib.Core.Bool.{Bool, cond}
 use mathlib.Core.List.{List, [], _∷_, _++_}
 use mathlib.Core.Option.{Option}
@@ -22,7 +21,7 @@ use Rattle.ruleformat.specs.Refusals.{fileConditions}
 use Rattle.ruleformat.specs.Reader.{ruleOf}
 use Rattle.subsets.specs.Sets.{tooMany}
 use Rattle.chunks.specs.Chunks.{foreign}
-use Rattle.calls.specs.Replies.{Judgement, waiting, yesWith, noWith, Reply, judged, refused}
+use Rattle.calls.specs.Replies.{Judgement, waiting, yesWith, noWith, refusedWith}
 
 pub data Call : Type 0 where
   loads : List ℕ → Call
@@ -55,8 +54,6 @@ abbrev pub withdrawConditions : Bool → ℕ → ℕ → Bool → List Condition
 withdrawConditions lacks places p empty = on 21 lacks ∷ on 11 (leb places p) ∷ on 23 empty ∷ []
 
 -- ---- the verdict: 21, else waiting, else yes or no
-abbrev pub judgementBy : ℕ → Bool → ℕ → Judgement
-judgementBy empty yes-there sum = cond (eqb empty 0) (cond yes-there (yesWith sum) (noWith sum)) (waiting empty)
-
-abbrev pub verdictBy : Bool → ℕ → Bool → ℕ → Reply
-verdictBy lacks empty yes-there sum = cond lacks (refused 21) (judged (judgementBy empty yes-there sum))
+abbrev pub verdictBy : Bool → ℕ → Bool → ℕ → Judgement
+verdictBy lacks empty yes-there sum =
+    cond lacks (refusedWith 21) (cond (eqb empty 0) (cond yes-there (yesWith sum) (noWith sum)) (waiting empty))

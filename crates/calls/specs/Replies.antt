@@ -1,14 +1,15 @@
 -- What document 01 answers to a call, and what each case of the code's answers says.
 --
---   Judgement            what a verdict says of the standing chunks
+--   Judgement            what a verdict says
 --     waiting e          e places are empty
---     keeps c, breaks c  yes, no, with the count
+--     yesWith c, noWith c   yes, no, with the count
+--     refusedWith x      the call was refused with the number x
 --   Reply                what is answered to a call
 --     accepted           of opening, delivering and withdrawing
 --     loaded sets m      a load was accepted: the number of sets and M
 --     judged v           a verdict was asked for: it is v
---     refused x          the call was refused with the number x
---   refusalOf a          the number of the refusal, or none where a is no refusal
+--     refused x          a call other than the verdict was refused with the number x
+--   refusalIn v, refusalOf a   the number of the refusal, or none where v or a is none
 --   loadMeans .. verdictMeans   what each case of the code's answers says
 use mathlib.Core.Option.{Option, none, some}
 use Prim.Native.Nat.{ℕ}
@@ -27,6 +28,7 @@ pub data Judgement : Type 0 where
   waiting : ℕ → Judgement
   yesWith : ℕ → Judgement
   noWith : ℕ → Judgement
+  refusedWith : ℕ → Judgement
 
 pub data Reply : Type 0 where
   accepted : Reply
@@ -34,10 +36,16 @@ pub data Reply : Type 0 where
   judged : Judgement → Reply
   refused : ℕ → Reply
 
+abbrev pub refusalIn : Judgement → Option ℕ
+refusalIn (waiting empty) = none
+refusalIn (yesWith count) = none
+refusalIn (noWith count) = none
+refusalIn (refusedWith number) = some number
+
 abbrev pub refusalOf : Reply → Option ℕ
 refusalOf accepted = none
 refusalOf (loaded sets starts) = none
-refusalOf (judged v) = none
+refusalOf (judged v) = refusalIn v
 refusalOf (refused number) = some number
 
 abbrev pub loadMeans : LoadAnswer → Reply
@@ -56,8 +64,8 @@ abbrev pub withdrawMeans : WithdrawAnswer → Reply
 withdrawMeans withdrawal.Accepted = accepted
 withdrawMeans (withdrawal.Refused number) = refused number
 
-abbrev pub verdictMeans : Verdict → Reply
-verdictMeans (Waiting empty) = judged (waiting empty)
-verdictMeans (Yes count) = judged (yesWith count)
-verdictMeans (No count) = judged (noWith count)
-verdictMeans (Refused number) = refused number
+abbrev pub verdictMeans : Verdict → Judgement
+verdictMeans (Waiting empty) = waiting empty
+verdictMeans (Yes count) = yesWith count
+verdictMeans (No count) = noWith count
+verdictMeans (Refused number) = refusedWith number

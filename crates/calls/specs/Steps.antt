@@ -28,7 +28,7 @@ use Rattle.calls.specs.declared.LoadResult.{LoadResult}
 use Rattle.calls.specs.declared.OpenResult.{OpenResult}
 use Rattle.calls.specs.declared.DeliverResult.{DeliverResult}
 use Rattle.calls.specs.declared.WithdrawResult.{WithdrawResult}
-use Rattle.calls.specs.Replies.{Reply, accepted, loaded, refused, loadMeans, openMeans, deliverMeans, withdrawMeans}
+use Rattle.calls.specs.Replies.{Judgement, Reply, accepted, loaded, judged, refused, loadMeans, openMeans, deliverMeans, withdrawMeans}
 use Rattle.calls.specs.Calls.{Call, loads, opens, delivers, withdraws, asksVerdict, loadNumber, openConditions, deliverConditions, withdrawConditions, verdictBy}
 
 unfoldable pub fresh : Judge
@@ -103,7 +103,7 @@ abbrev pub isYes : Judge → Bool
 isYes j =
     saysYes (j .board .ends) (j .built .delegates) (j .built .n) (j .built .initials) (j .built .finals) (placesOf (j .board))
 
-unfoldable pub verdictOf : Judge → Reply
+unfoldable pub verdictOf : Judge → Judgement
 verdictOf j = verdictBy (lacksBoard j) (emptyPlaces (j .board)) (isYes j) (summedCount (j .board))
 
 -- ---- any call
@@ -112,4 +112,4 @@ stepOf j (loads f) = loadOf j f
 stepOf j (opens n) = openOf j n
 stepOf j (delivers p w) = deliverOf j p w
 stepOf j (withdraws p) = withdrawOf j p
-stepOf j asksVerdict = record { reply = verdictOf j; state = j }
+stepOf j asksVerdict = record { reply = judged (verdictOf j); state = j }

@@ -11,7 +11,7 @@ use mathlib.Core.Bool.{Bool, true, false}
 use mathlib.Core.List.{List, [], _∷_, _++_}
 use Prim.Native.Nat.{ℕ}
 use Rattle.text.specs.Numerals.{decimal}
-use Rattle.calls.specs.Replies.{Judgement, waiting, yesWith, noWith, Reply, accepted, loaded, judged, refused, loadMeans, openMeans, deliverMeans, withdrawMeans, verdictMeans}
+use Rattle.calls.specs.Replies.{Judgement, waiting, yesWith, noWith, refusedWith, Reply, accepted, loaded, judged, refused, loadMeans, openMeans, deliverMeans, withdrawMeans, verdictMeans}
 use Rattle.calltext.specs.declared.LineAnswer.{LineAnswer}
 use Rattle.calltext.specs.declared.LineAnswer.the-variants.{Began, Load, Open, Deliver, Withdraw, Verdict, Malformed}
 
@@ -51,6 +51,7 @@ abbrev pub judgementText : Judgement → List ℕ
 judgementText (waiting empty) = waiting-word ++ behind empty
 judgementText (yesWith count) = yes-word ++ behind count
 judgementText (noWith count) = no-word ++ behind count
+judgementText (refusedWith number) = refused-word ++ behind number
 
 abbrev pub replyText : Reply → List ℕ
 replyText accepted = accepted-word
@@ -69,5 +70,5 @@ answerMeans (Load a) = replied (loadMeans a)
 answerMeans (Open a) = replied (openMeans a)
 answerMeans (Deliver a) = replied (deliverMeans a)
 answerMeans (Withdraw a) = replied (withdrawMeans a)
-answerMeans (Verdict v) = replied (verdictMeans v)
+answerMeans (Verdict v) = replied (judged (verdictMeans v))
 answerMeans Malformed = unread

@@ -10,7 +10,7 @@ ghost use Rattle.fields.specs.Numbers.{parseNumber};
 ghost use Rattle.lines.specs.Splitting.{upTo, past};
 ghost use Rattle.calltext.specs.Meaning.{openBy, withdrawBy, deliverFields, lineMeans, bytesFrom, Parsed};
 ghost use Rattle.calltext.specs.Answers.{behind, replied, responseText, answerMeans};
-ghost use Rattle.calls.specs.Replies.{accepted, loaded, refused, loadMeans, openMeans, deliverMeans, withdrawMeans, verdictMeans};
+ghost use Rattle.calls.specs.Replies.{accepted, loaded, judged, refused, loadMeans, openMeans, deliverMeans, withdrawMeans, verdictMeans};
 use calls::DeliverAnswer;
 use calls::LoadAnswer;
 use calls::OpenAnswer;
@@ -200,7 +200,7 @@ fn put_withdraw(out: &mut [u8], answer: WithdrawAnswer) -> usize
 
 fn put_verdict(out: &mut [u8], verdict: Verdict) -> usize
     requires { ⌜ 64 ≤ length (now out) ⌝ }
-    ensures { λ r. ⌜ Wrote (now (out .entry)) 0 (responseText (replied (verdictMeans verdict))) (now (out .exit)) r ⌝ }
+    ensures { λ r. ⌜ Wrote (now (out .entry)) 0 (responseText (replied (judged (verdictMeans verdict)))) (now (out .exit)) r ⌝ }
 {
     match verdict {
         Verdict::Waiting(empty) => put_numbered(out, b"waiting", empty as u64),

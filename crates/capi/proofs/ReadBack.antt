@@ -1,19 +1,18 @@
 -- The numbers that C is given, read back: by cases of the calls' outcomes. Assumes nothing.
 use mathlib.Core.Path.{_≡_, refl}
-use mathlib.Core.Bool.{Bool, true, false, cond, not}
+use mathlib.Core.Bool.{not}
 use mathlib.Core.List.{List}
 use mathlib.Core.Option.{Option, none, some}
 use Prim.Native.Nat.{ℕ}
-use lib.Dec.{eqb}
 use Rattle.base.specs.Conditions.{firstOf}
 use Rattle.ruleformat.specs.Reader.{ruleOf}
 use Rattle.build.specs.Building.{builtOf}
-use Rattle.board.specs.Boards.{placesOf, isEmpty, emptyBoard, filledAt, clearedAt, emptyPlaces, summedCount}
+use Rattle.board.specs.Boards.{placesOf, isEmpty, emptyBoard, filledAt, clearedAt}
 use Rattle.calls.specs.declared.Judge.{Judge}
-use Rattle.calls.specs.Replies.{Judgement, waiting, yesWith, noWith, accepted, loaded, judged, refused}
-use Rattle.calls.specs.Calls.{loadNumber, openConditions, deliverConditions, withdrawConditions, judgementBy}
-use Rattle.calls.specs.Steps.{lacksRule, lacksBoard, withBoard, outcomeBy, runsAt, loadOf, openOf, deliverOf, withdrawOf, isYes, verdictOf}
-use Rattle.histories.specs.History.{placesIn, emptiesIn, yesIn, summedIn}
+use Rattle.calls.specs.Replies.{Judgement, waiting, yesWith, noWith, refusedWith, accepted, loaded}
+use Rattle.calls.specs.Calls.{loadNumber, openConditions, deliverConditions, withdrawConditions}
+use Rattle.calls.specs.Steps.{lacksRule, lacksBoard, withBoard, outcomeBy, runsAt, loadOf, openOf, deliverOf, withdrawOf, verdictOf}
+use Rattle.histories.specs.History.{verdictIn}
 use Rattle.replay.specs.Records.{Recorded, calls, malformedAt, verdict, replayOf}
 use Rattle.capi.specs.Numbers.{loadShown, openShown, deliverShown, withdrawShown, verdictShown, replayShown, loadReadBack, openReadBack, deliverReadBack, withdrawReadBack, verdictReadBack, replayReadBack}
 use Rattle.capi.specs.Claims.{Claims}
@@ -28,19 +27,18 @@ module _ (j next : Judge) where
   taken-by none = refl
   taken-by (some x) = refl
 
--- a verdict is refused or judges
-verdict-by : (lacks : Bool) (x : ℕ) (v : Judgement) → verdictReadBack (verdictShown (cond lacks (refused x) (judged v))) ≡ cond lacks (refused x) (judged v)
-verdict-by true x v = refl
-verdict-by false x (waiting empty) = refl
-verdict-by false x (yesWith count) = refl
-verdict-by false x (noWith count) = refl
+-- of whatever a verdict says
+verdict-by : (v : Judgement) → verdictReadBack (verdictShown v) ≡ v
+verdict-by (waiting empty) = refl
+verdict-by (yesWith count) = refl
+verdict-by (noWith count) = refl
+verdict-by (refusedWith number) = refl
 
-replay-by : (lacks : Bool) (x : ℕ) (v : Judgement)
-    → replayReadBack (replayShown (verdict (cond lacks (refused x) (judged v)))) ≡ verdict (cond lacks (refused x) (judged v))
-replay-by true x v = refl
-replay-by false x (waiting empty) = refl
-replay-by false x (yesWith count) = refl
-replay-by false x (noWith count) = refl
+replay-by : (v : Judgement) → replayReadBack (replayShown (verdict v)) ≡ verdict v
+replay-by (waiting empty) = refl
+replay-by (yesWith count) = refl
+replay-by (noWith count) = refl
+replay-by (refusedWith number) = refl
 
 load-read-back : (j : Judge) (f : List ℕ) → loadReadBack (loadShown (loadOf j f)) ≡ loadOf j f
 unfolding loadOf
@@ -65,11 +63,10 @@ withdraw-read-back j p =
     (firstOf (withdrawConditions (lacksBoard j) (placesOf (j .board)) p (isEmpty (j .board) p)))
 
 verdict-read-back : (j : Judge) → verdictReadBack (verdictShown (verdictOf j)) ≡ verdictOf j
-unfolding verdictOf
-verdict-read-back j = verdict-by (lacksBoard j) 21 (judgementBy (emptyPlaces (j .board)) (isYes j) (summedCount (j .board)))
+verdict-read-back j = verdict-by (verdictOf j)
 
 replay-read-back : (so : Recorded) → replayReadBack (replayShown (replayOf so)) ≡ replayOf so
-replay-read-back (calls h) = replay-by (eqb (placesIn h) 0) 21 (judgementBy (emptiesIn h) (yesIn h) (summedIn h))
+replay-read-back (calls h) = replay-by (verdictIn h)
 replay-read-back (malformedAt i) = refl
 
 pub claims : Claims

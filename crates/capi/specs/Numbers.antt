@@ -5,7 +5,7 @@
 --                                and the number of the refusal
 --   setsField a, startsField a     the fields `sets` and `starts`
 --   loadShown .. withdrawShown   an outcome as a result
---   verdictShown a               a verdict: kind 0 refused, 1 waiting, 2 yes, 3 no, each with its
+--   verdictShown v               a verdict: kind 0 refused, 1 waiting, 2 yes, 3 no, each with its
 --                                number
 --   replayShown t                the same for a recorded list; kind 4: the line of that number is
 --                                malformed
@@ -17,7 +17,7 @@ use mathlib.Core.Option.{Option·getD}
 use Prim.Native.Nat.{ℕ}
 use lib.Dec.{eqb}
 use Rattle.base.specs.Options.{isNone}
-use Rattle.calls.specs.Replies.{Judgement, waiting, yesWith, noWith, Reply, accepted, loaded, judged, refused, refusalOf}
+use Rattle.calls.specs.Replies.{Judgement, waiting, yesWith, noWith, refusedWith, Reply, accepted, loaded, judged, refused, refusalOf}
 use Rattle.calls.specs.Steps.{Outcome}
 use Rattle.replay.specs.Records.{ReplayReply, verdict, malformedLine}
 use Rattle.capi.specs.declared.LoadNumbers.{LoadNumbers}
@@ -65,19 +65,14 @@ abbrev pub withdrawShown : Outcome → WithdrawNumbers
 withdrawShown o = record { accepted = flagOf (o .reply); refused = refusedOf (o .reply); judge = o .state }
 
 -- ---- the verdict
-abbrev pub judgementShown : Judgement → VerdictNumbers
-judgementShown (waiting empty) = record { kind = 1; number = empty }
-judgementShown (yesWith count) = record { kind = 2; number = count }
-judgementShown (noWith count) = record { kind = 3; number = count }
-
-abbrev pub verdictShown : Reply → VerdictNumbers
-verdictShown (judged v) = judgementShown v
-verdictShown (refused number) = record { kind = 0; number = number }
-verdictShown accepted = record { kind = 0; number = 0 }
-verdictShown (loaded sets starts) = record { kind = 0; number = 0 }
+abbrev pub verdictShown : Judgement → VerdictNumbers
+verdictShown (refusedWith number) = record { kind = 0; number = number }
+verdictShown (waiting empty) = record { kind = 1; number = empty }
+verdictShown (yesWith count) = record { kind = 2; number = count }
+verdictShown (noWith count) = record { kind = 3; number = count }
 
 abbrev pub replayShown : ReplayReply → ReplayNumbers
-replayShown (verdict a) = record { kind = verdictShown a .kind; number = verdictShown a .number }
+replayShown (verdict v) = record { kind = verdictShown v .kind; number = verdictShown v .number }
 replayShown (malformedLine i) = record { kind = 4; number = i }
 
 -- ---- read back: what the header says of the numbers
@@ -97,10 +92,10 @@ deliverReadBack r = record { reply = readBackBy (r .accepted) (r .refused) accep
 abbrev pub withdrawReadBack : WithdrawNumbers → Outcome
 withdrawReadBack r = record { reply = readBackBy (r .accepted) (r .refused) accepted; state = r .judge }
 
-abbrev pub verdictReadBack : VerdictNumbers → Reply
+abbrev pub verdictReadBack : VerdictNumbers → Judgement
 verdictReadBack r =
-    cond (eqb (r .kind) 0) (refused (r .number))
-    (judged (cond (eqb (r .kind) 1) (waiting (r .number)) (cond (eqb (r .kind) 2) (yesWith (r .number)) (noWith (r .number)))))
+    cond (eqb (r .kind) 0) (refusedWith (r .number))
+    (cond (eqb (r .kind) 1) (waiting (r .number)) (cond (eqb (r .kind) 2) (yesWith (r .number)) (noWith (r .number))))
 
 abbrev pub replayReadBack : ReplayNumbers → ReplayReply
 replayReadBack r =

@@ -1,8 +1,8 @@
 -- Over the table of a built rule a walk from the number of a set ends at the number of the set
 -- after the text, or at 512 exactly where that is empty, and it counts a step for each transition
--- that document 01 counts. It reads a cell for each byte until its set is empty. So the runs of a chunk end in the sets, and count the transitions, of
--- the definition. By induction over the text, one cell a symbol. Assumes a well-formed rule with at
--- most 512 sets.
+-- that document 01 counts. It reads a cell for each byte until its set is empty. So the runs of a
+-- chunk end in the sets, and count the transitions, of the definition. By induction over the text,
+-- one cell a symbol. Assumes a well-formed rule with at most 512 sets.
 use mathlib.Core.Path.{_≡_, refl, sym, ap, ap₂, _∙_, subst}
 use mathlib.Core.Bool.{Bool, true, false, cond}
 use mathlib.Core.List.{List, [], _∷_}

@@ -8,8 +8,8 @@
 --   walkLooked            for how many of the bytes w a cell of the table is read
 --   maskOf sets i         the mask of set i
 --   greatest f n          the greatest of f 0, f 1, .. f (n − 1); 0 where n is 0
---   runsOf ..             the end set of each state that is run, as an array, the sum of the counts,
---                         and the bytes for which any run looks a successor up
+--   runsOf ..             the end set of each state that is run, as an array, the sum of the
+--                         counts, and the bytes for which any run looks a successor up
 --   delegateMask, runMask   delegateSet and runSet for at most 32 states; of a delegate the
 --                           remainder by 32 is taken
 use mathlib.Core.Bool.{cond}

@@ -30,7 +30,7 @@ use mathlib.Core.Path.{_≡_, _∙_}
 use mathlib.Core.Logic.{_↔_, _⊎_, ⊎-elim}
 use mathlib.Core.Bool.{true, false}
 use mathlib.Core.List.{List, [], flatten}
-use mathlib.Core.Option.{none}
+use mathlib.Core.Option.{none, some}
 use Prim.Native.Nat.{ℕ, _*_, _≤_, _<_}
 use lib.ListN.{length, getD}
 use contract.Lifetimes.{Lfts}
@@ -48,7 +48,7 @@ use Rattle.delegates.specs.Claims.{startsIn}
 use Rattle.build.specs.Building.{builtOf}
 use Rattle.board.specs.Boards.{held, isEmpty, summedCount}
 use Rattle.calls.specs.declared.Judge.{Judge}
-use Rattle.calls.specs.Replies.{waiting, yesWith, noWith, Reply, judged, refused}
+use Rattle.calls.specs.Replies.{waiting, yesWith, noWith, refusedWith, Reply, refusalOf}
 use Rattle.calls.specs.Calls.{Call, loadNumber}
 use Rattle.calls.specs.Steps.{fresh, isYes, stepOf}
 use Rattle.calls.proofs.Conditions.{not-refused}
@@ -96,7 +96,7 @@ any-call-from-C = c-meets .steps
 
 -- A refusal leaves the state unchanged. (Its number is the first condition's that holds: demand 3.
 -- A file and a chunk are lent as `&[u8]`, which no function can write.)
-pub refusals : (j : Judge) (c : Call) (x : ℕ) → stepOf j c .reply ≡ refused x → stepOf j c .state ≡ j
+pub refusals : (j : Judge) (c : Call) (x : ℕ) → refusalOf (stepOf j c .reply) ≡ some x → stepOf j c .state ≡ j
 refusals = refusing.unchanged
 
 -- ---- 2. THE METHOD
@@ -147,21 +147,21 @@ pub count-bound : (h : List Call) → CountBound h
 count-bound = histories-bound.count-bound
 
 -- The verdict: refused with 21 unless the last accepted load or opening is an opening;
-pub refused-21 : (h : List Call) → (verdictIn h ≡ refused 21) ↔ (boardIn h ≡ false)
+pub refused-21 : (h : List Call) → (verdictIn h ≡ refusedWith 21) ↔ (boardIn h ≡ false)
 refused-21 h = every-list h .verdict .none-there
 
 -- waiting with the number of empty places exactly when one is empty;
-pub waits : (h : List Call) (e : ℕ) → (verdictIn h ≡ judged (waiting e)) ↔ ((boardIn h ≡ true) × (0 < e) × (e ≡ emptiesIn h))
+pub waits : (h : List Call) (e : ℕ) → (verdictIn h ≡ waiting e) ↔ ((boardIn h ≡ true) × (0 < e) × (e ≡ emptiesIn h))
 waits h = every-list h .verdict .waits
 
 -- else yes exactly when the last accepted rule has an accepting run over the standing chunks joined
 -- by place, and no when it has none.
 pub accepted-texts : (h : List Call) → boardIn h ≡ true → emptiesIn h ≡ 0
-    → (verdictIn h ≡ judged (yesWith (summedIn h))) ↔ Accepts (automatonBy (fileOf h)) (textIn h)
+    → (verdictIn h ≡ yesWith (summedIn h)) ↔ Accepts (automatonBy (fileOf h)) (textIn h)
 accepted-texts h = every-list h .verdict .accepts
 
 pub rejected-texts : (h : List Call) → boardIn h ≡ true → emptiesIn h ≡ 0
-    → (verdictIn h ≡ judged (noWith (summedIn h))) ↔ (Accepts (automatonBy (fileOf h)) (textIn h) → ⊥)
+    → (verdictIn h ≡ noWith (summedIn h)) ↔ (Accepts (automatonBy (fileOf h)) (textIn h) → ⊥)
 rejected-texts h = every-list h .verdict .rejects
 
 -- Each place with a standing chunk holds the end sets and the count that 01 gives, any other none:

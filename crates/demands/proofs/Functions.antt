@@ -7,7 +7,7 @@ use Prim.Native.Nat.{ℕ}
 use denote.Ref.{RefT}
 use Rattle.executions.specs.Executions.{Meets}
 use Rattle.calls.specs.declared.Judge.{Judge}
-use Rattle.calls.specs.Replies.{Reply}
+use Rattle.calls.specs.Replies.{Reply, judged}
 use Rattle.calls.specs.Calls.{Call, loads, opens, delivers, withdraws, asksVerdict}
 use Rattle.calls.specs.Steps.{loadOf, openOf, deliverOf, withdrawOf, verdictOf, stepOf}
 use Rattle.histories.specs.Claims.{judgeMachine}
@@ -27,7 +27,7 @@ step-to j (delivers p w) a next m =
     parts a next (deliverOf j p w)
     (m .2 ∙ ap deliverReadBack (m .1 .4 ∙ ap (λ (x : List ℕ). deliverShown (deliverOf j p x)) (m .1 .3)) ∙ capi.claims .deliver-read-back j p w)
 step-to j (withdraws p) a next m = parts a next (withdrawOf j p) (m .2 ∙ ap withdrawReadBack (m .1 .1) ∙ capi.claims .withdraw-read-back j p)
-step-to j asksVerdict a next m = (m .2 ∙ ap verdictReadBack (m .1 .1) ∙ capi.claims .verdict-read-back j, m .3)
+step-to j asksVerdict a next m = (m .2 ∙ ap judged (ap verdictReadBack (m .1 .1) ∙ capi.claims .verdict-read-back j), m .3)
 
 step-back : (j : Judge) (c : Call) (a : Reply) (next : Judge) → (a ≡ stepOf j c .reply) × (next ≡ stepOf j c .state) → MayStep j c a next
 step-back j (loads f) a next e =
@@ -40,7 +40,7 @@ step-back j (delivers p w) a next e = (
 )
 step-back j (withdraws p) a next e =
     (withdrawShown (withdrawOf j p), ((j, (p, tt)), refl), whole a next (withdrawOf j p) e ∙ sym (capi.claims .withdraw-read-back j p))
-step-back j asksVerdict a next e = (verdictShown (verdictOf j), ((j, tt), refl), e .0 ∙ sym (capi.claims .verdict-read-back j), e .1)
+step-back j asksVerdict a next e = (verdictShown (verdictOf j), ((j, tt), refl), e .0 ∙ ap judged (sym (capi.claims .verdict-read-back j)), e .1)
 
 asks-nothing : (j : Judge) (c : Call) → AsksStep j c
 asks-nothing j (loads f) = λ κs c e. load-asks-nothing κs j c

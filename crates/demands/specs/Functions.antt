@@ -17,7 +17,7 @@ use denote.Triple.Clauses.{AtExit}
 use borrow.Fn.Kinds.{endedOf}
 use Rattle.executions.specs.Executions.{Library}
 use Rattle.calls.specs.declared.Judge.{Judge}
-use Rattle.calls.specs.Replies.{Reply}
+use Rattle.calls.specs.Replies.{Reply, judged}
 use Rattle.calls.specs.Calls.{Call, loads, opens, delivers, withdraws, asksVerdict}
 use Rattle.calls.specs.Steps.{Outcome}
 use Rattle.capi.specs.declared.LoadNumbers.{LoadNumbers}
@@ -81,7 +81,7 @@ MayStep j (loads f) a next = (r : LoadNumbers) × MayLoad j f r × (record { rep
 MayStep j (opens n) a next = (r : OpenNumbers) × MayOpen j n r × (record { reply = a; state = next } ≡ openReadBack r)
 MayStep j (delivers p w) a next = (r : DeliverNumbers) × MayDeliver j p w r × (record { reply = a; state = next } ≡ deliverReadBack r)
 MayStep j (withdraws p) a next = (r : WithdrawNumbers) × MayWithdraw j p r × (record { reply = a; state = next } ≡ withdrawReadBack r)
-MayStep j asksVerdict a next = (v : VerdictNumbers) × MayJudge j v × (a ≡ verdictReadBack v) × (next ≡ j)
+MayStep j asksVerdict a next = (v : VerdictNumbers) × MayJudge j v × (a ≡ judged (verdictReadBack v)) × (next ≡ j)
 
 abbrev pub cLibrary : Library Judge Call Reply
 cLibrary = record { NewAsks = new-reads.Asked tt tt; Begins = MayBegin; Asks = AsksStep; May = MayStep }

@@ -1,10 +1,11 @@
 -- EVERY LIST OF CALLS, over the definitions alone: of the replies to the calls h and of the judge
 -- that they leave, all that demand 3 says holds. Assumes nothing.
-use mathlib.Core.Path.{_≡_, refl, ap₂}
+use mathlib.Core.Path.{_≡_, refl, ap, ap₂}
 use mathlib.Core.List.{List, [], _∷_}
 use Prim.Native.Nat.{ℕ}
 use Rattle.executions.specs.Executions.{stateAfter, repliesTo as machineReplies}
 use Rattle.calls.specs.declared.Judge.{Judge}
+use Rattle.calls.specs.Replies.{judged}
 use Rattle.calls.specs.Calls.{Call, loads, opens, delivers, withdraws, asksVerdict}
 use Rattle.calls.specs.Steps.{verdictOf, stepOf}
 use Rattle.histories.specs.History.{fileOf, placesIn, standing, verdictIn, answerOf, answersTo}
@@ -30,7 +31,7 @@ module _ (h : List Call) (j : Judge) (g : AgreesWith h j) where
   step-right (opens n) = open-says h j g n
   step-right (delivers p w) = deliver-says h j g p w
   step-right (withdraws p) = withdraw-says h j g p
-  step-right asksVerdict = verdict-says h j g
+  step-right asksVerdict = ap judged (verdict-says h j g)
 
 -- ---- every list
 pub good : (h : List Call) → AgreesWith h (judgeAfter h)

@@ -29,7 +29,7 @@ use Rattle.calls.specs.declared.WithdrawResult.{WithdrawResult}
 use Rattle.calls.specs.declared.WithdrawAnswer.the-variants as withdrawal
 use Rattle.calls.specs.declared.Verdict.{Verdict}
 use Rattle.calls.specs.declared.Verdict.the-variants as verdict
-use Rattle.calls.specs.Replies.{Reply, accepted, loaded, verdictMeans}
+use Rattle.calls.specs.Replies.{Reply, accepted, loaded, judged, verdictMeans}
 use Rattle.calls.specs.Calls.{Call, loads, opens, delivers, withdraws, asksVerdict, loadNumber, openConditions, deliverConditions, withdrawConditions, verdictBy}
 use Rattle.calls.specs.Steps.{Outcome, lacksRule, lacksBoard, withBoard, loadOutcome, openOutcome, deliverOutcome, withdrawOutcome, outcomeBy, runsAt, loadOf, openOf, deliverOf, withdrawOf, isYes, verdictOf, stepOf}
 use Rattle.judge.proofs.Asks.{new-judge-asks-nothing, load-asks-nothing, open-asks-nothing, deliver-asks-nothing, withdraw-asks-nothing, verdict-asks-nothing}
@@ -105,7 +105,7 @@ step-to j (loads f) a next m = parts a next (loadOf j f) (m .2 ∙ m .1 .4 ∙ a
 step-to j (opens n) a next m = parts a next (openOf j n) (m .2 ∙ m .1 .1)
 step-to j (delivers p w) a next m = parts a next (deliverOf j p w) (m .2 ∙ m .1 .4 ∙ ap (deliverOf j p) (m .1 .3))
 step-to j (withdraws p) a next m = parts a next (withdrawOf j p) (m .2 ∙ m .1 .1)
-step-to j asksVerdict a next m = (m .2 ∙ m .1 .1, m .3)
+step-to j asksVerdict a next m = (m .2 ∙ ap judged (m .1 .1), m .3)
 
 step-back : (j : Judge) (c : Call) (a : Reply) (next : Judge) → (a ≡ stepOf j c .reply) × (next ≡ stepOf j c .state) → MayStep j c a next
 step-back j (loads f) a next e =
@@ -120,7 +120,7 @@ step-back j (delivers p w) a next e =
 step-back j (withdraws p) a next e =
     let r = withdrawal-of j p in
     (r .0, ((j, (p, tt)), r .1), whole a next (withdrawOf j p) e ∙ sym (r .1))
-step-back j asksVerdict a next e = let v = verdict-of j in (v .0, ((j, tt), v .1), e .0 ∙ sym (v .1), e .1)
+step-back j asksVerdict a next e = let v = verdict-of j in (v .0, ((j, tt), v .1), e .0 ∙ ap judged (sym (v .1)), e .1)
 
 asks-nothing : (j : Judge) (c : Call) → AsksStep j c
 asks-nothing j (loads f) = λ κs c e. load-asks-nothing κs j c

@@ -39,7 +39,7 @@ module _ (r : Rule) (d : List ℕ) (places : ℕ) (at : ℕ → Option (List ℕ
   abbrev countsBy : ℕ → Option (List ℕ) → ℕ
   countsBy p chunk = standingCount (r .targets) (runSet d (r .n) (r .initials) p) chunk
 
-  abbrev verdictWith : Reply
+  abbrev verdictWith : Judgement
   verdictWith =
       verdictBy (eqb places 0) (total (λ p. cond (isNone (at p)) 1 0) places)
       (yesOf (λ p q. standingEnd (r .targets) (runSet d (r .n) (r .initials) p) q (at p)) (delegateIn d) (r .n) (r .initials) (r .finals) places)
@@ -118,7 +118,7 @@ abbrev Taken : List ℕ → Reply → Starts → List (List ℕ) → Judgement �
 Taken f load x chunks v =
     (loadNumber f ≡ none) × (loaded (length (setsOf (ruleOf f .targets) (ruleOf f .n) (ruleOf f .k))) (x .startcount) ≡ load) × (outside 1 64 (length chunks) ≡ false)
     × Checked (ruleOf f .k) (length chunks) 0 chunks (λ _. none)
-    × (verdictWith (ruleOf f) (x .delegates) (length chunks) (putAll 0 chunks (λ _. none)) ≡ judged v)
+    × (verdictWith (ruleOf f) (x .delegates) (length chunks) (putAll 0 chunks (λ _. none)) ≡ v)
 
 verdict-answers : (f : List ℕ) (load : Reply) (x : Starts) (chunks : List (List ℕ)) (v : Judgement) → startsIn (ruleOf f) ≡ x → Taken f load x chunks v
     → Answers (case f load (verdict chunks v))
@@ -128,7 +128,7 @@ verdict-answers f load x chunks v is t =
     let d = all-delivered f (length chunks) chunks (opens (length chunks) ∷ loads f ∷ []) (λ _. none) 0 (o .1) (t .3) in
     let first : answersTo (opens (length chunks) ∷ loads f ∷ []) ≡ accepted ∷ load ∷ [] = rw (o .0, t .0, is, t .1) in
     ap₂ _∷_
-    (asked f (length chunks) (x .delegates) (ap (λ (s : Starts). s .delegates) is) (delivering 0 chunks (opens (length chunks) ∷ loads f ∷ [])) (putAll 0 chunks (λ _. none)) (d .1) ∙ t .4)
+    (ap judged (asked f (length chunks) (x .delegates) (ap (λ (s : Starts). s .delegates) is) (delivering 0 chunks (opens (length chunks) ∷ loads f ∷ [])) (putAll 0 chunks (λ _. none)) (d .1) ∙ t .4))
     (d .0 ∙ ap (λ (l : List Reply). replicate (length chunks) accepted ++ l) first)
 
 abbrev Left : Case → Type 0

@@ -37,7 +37,7 @@ use Rattle.joins.specs.Claims.{delegateIn}
 use Rattle.joins.specs.Claims as joins-specs
 use Rattle.joins.proofs.Claims as joins
 use Rattle.calls.specs.declared.Judge.{Judge}
-use Rattle.calls.specs.Replies.{waiting, yesWith, noWith, Reply, judged, refused}
+use Rattle.calls.specs.Replies.{Judgement, waiting, yesWith, noWith, refusedWith}
 use Rattle.calls.proofs.Conditions.{not-refused}
 use Rattle.histories.specs.History.{fileOf, ruleFrom, openNumber, boardIn, placesIn, runAt, countOf, endOf, standing, emptiesIn, summedIn, yesIn, chunkOf, joinedUpTo}
 use Rattle.calls.specs.Calls.{Call, loads, opens, delivers, withdraws, asksVerdict, loadNumber, verdictBy}
@@ -48,15 +48,15 @@ use Rattle.histories.proofs.Steps.{AgreesWith, file-accepted}
 
 -- ---- the verdict by its numbers
 module _ (places empties : ℕ) (yes-there : Bool) (sum : ℕ) where
-  abbrev by-numbers : Reply
+  abbrev by-numbers : Judgement
   by-numbers = verdictBy (eqb places 0) empties yes-there sum
 
   -- which of the four it is, with what it says
   data Which : Type 0 where
-    no-board : places ≡ 0 → by-numbers ≡ refused 21 → Which
-    waits : 0 < places → 0 < empties → by-numbers ≡ judged (waiting empties) → Which
-    says-yes : 0 < places → empties ≡ 0 → yes-there ≡ true → by-numbers ≡ judged (yesWith sum) → Which
-    says-no : 0 < places → empties ≡ 0 → yes-there ≡ false → by-numbers ≡ judged (noWith sum) → Which
+    no-board : places ≡ 0 → by-numbers ≡ refusedWith 21 → Which
+    waits : 0 < places → 0 < empties → by-numbers ≡ waiting empties → Which
+    says-yes : 0 < places → empties ≡ 0 → yes-there ≡ true → by-numbers ≡ yesWith sum → Which
+    says-no : 0 < places → empties ≡ 0 → yes-there ≡ false → by-numbers ≡ noWith sum → Which
 
   which : Which
   which =
@@ -75,34 +75,34 @@ absurd-reply : {A : Type 0} → _≡_ {A = ℕ} 0 1 → A
 absurd-reply z = absurd (omega arith)
 
 module _ (places empties : ℕ) (t : Bool) (sum : ℕ) where
-  refused-law : (by-numbers places empties t sum ≡ refused 21) ↔ (places ≡ 0)
+  refused-law : (by-numbers places empties t sum ≡ refusedWith 21) ↔ (places ≡ 0)
   refused-law = (
     (λ e. to (which places empties t sum) e),
     λ z. rw (eq-eqb places 0 z),
   )
     where
-      to : Which places empties t sum → by-numbers places empties t sum ≡ refused 21 → places ≡ 0
+      to : Which places empties t sum → by-numbers places empties t sum ≡ refusedWith 21 → places ≡ 0
       to (no-board p e) x = p
       to (waits p q e) x = absurd-reply (cc)
       to (says-yes p q y e) x = absurd-reply (cc)
       to (says-no p q y e) x = absurd-reply (cc)
 
-  waiting-law : (e : ℕ) → (by-numbers places empties t sum ≡ judged (waiting e)) ↔ ((0 < places) × (0 < e) × (e ≡ empties))
+  waiting-law : (e : ℕ) → (by-numbers places empties t sum ≡ waiting e) ↔ ((0 < places) × (0 < e) × (e ≡ empties))
   waiting-law w = (
     (λ x. to (which places empties t sum) x),
     λ x. back (x .0) (x .1) (x .2),
   )
     where
-      to : Which places empties t sum → by-numbers places empties t sum ≡ judged (waiting w) → (0 < places) × (0 < w) × (w ≡ empties)
+      to : Which places empties t sum → by-numbers places empties t sum ≡ waiting w → (0 < places) × (0 < w) × (w ≡ empties)
       to (no-board p e) x = absurd-reply (cc)
       to (waits p q e) x = let z : w ≡ empties = cc in (p, omega arith, z)
       to (says-yes p q y e) x = absurd-reply (cc)
       to (says-no p q y e) x = absurd-reply (cc)
 
-      back : 0 < places → 0 < w → w ≡ empties → by-numbers places empties t sum ≡ judged (waiting w)
-      back p q e = rw (ne-eqb places 0 (λ z. absurd (omega arith)), ne-eqb empties 0 (λ z. absurd (omega arith))) (ap (λ (n : ℕ). judged (waiting n)) (sym e))
+      back : 0 < places → 0 < w → w ≡ empties → by-numbers places empties t sum ≡ waiting w
+      back p q e = rw (ne-eqb places 0 (λ z. absurd (omega arith)), ne-eqb empties 0 (λ z. absurd (omega arith))) (ap waiting (sym e))
 
-  yes-count : (c : ℕ) → by-numbers places empties t sum ≡ judged (yesWith c) → c ≡ sum
+  yes-count : (c : ℕ) → by-numbers places empties t sum ≡ yesWith c → c ≡ sum
   yes-count c x = to (which places empties t sum)
     where
       to : Which places empties t sum → c ≡ sum
@@ -111,7 +111,7 @@ module _ (places empties : ℕ) (t : Bool) (sum : ℕ) where
       to (says-yes p q y e) = cc
       to (says-no p q y e) = absurd-reply (cc)
 
-  no-count : (c : ℕ) → by-numbers places empties t sum ≡ judged (noWith c) → c ≡ sum
+  no-count : (c : ℕ) → by-numbers places empties t sum ≡ noWith c → c ≡ sum
   no-count c x = to (which places empties t sum)
     where
       to : Which places empties t sum → c ≡ sum
@@ -120,25 +120,25 @@ module _ (places empties : ℕ) (t : Bool) (sum : ℕ) where
       to (says-yes p q y e) = absurd-reply (cc)
       to (says-no p q y e) = cc
 
-  no-law : 0 < places → empties ≡ 0 → (by-numbers places empties t sum ≡ judged (noWith sum)) ↔ (t ≡ false)
+  no-law : 0 < places → empties ≡ 0 → (by-numbers places empties t sum ≡ noWith sum) ↔ (t ≡ false)
   no-law p e = (
     (λ x. to (which places empties t sum) x),
     λ y. rw (ne-eqb places 0 (λ z. absurd (omega arith)), eq-eqb empties 0 e, y),
   )
     where
-      to : Which places empties t sum → by-numbers places empties t sum ≡ judged (noWith sum) → t ≡ false
+      to : Which places empties t sum → by-numbers places empties t sum ≡ noWith sum → t ≡ false
       to (no-board z w) x = absurd (omega arith)
       to (waits z w v) x = absurd (omega arith)
       to (says-yes z w y v) x = absurd-reply (cc)
       to (says-no z w y v) x = y
 
-  yes-law : 0 < places → empties ≡ 0 → (by-numbers places empties t sum ≡ judged (yesWith sum)) ↔ (t ≡ true)
+  yes-law : 0 < places → empties ≡ 0 → (by-numbers places empties t sum ≡ yesWith sum) ↔ (t ≡ true)
   yes-law p e = (
     (λ x. to (which places empties t sum) x),
     λ y. rw (ne-eqb places 0 (λ z. absurd (omega arith)), eq-eqb empties 0 e, y),
   )
     where
-      to : Which places empties t sum → by-numbers places empties t sum ≡ judged (yesWith sum) → t ≡ true
+      to : Which places empties t sum → by-numbers places empties t sum ≡ yesWith sum → t ≡ true
       to (no-board z w) x = absurd (omega arith)
       to (waits z w v) x = absurd (omega arith)
       to (says-yes z w y v) x = y

@@ -28,7 +28,7 @@ use Rattle.delegates.specs.Claims.{startsIn}
 use Rattle.build.specs.Building.{builtOf, noBuilt}
 use Rattle.board.specs.Boards.{held, isEmpty, summedCount}
 use Rattle.calls.specs.declared.Judge.{Judge}
-use Rattle.calls.specs.Replies.{Reply, waiting, yesWith, noWith, refused, judged}
+use Rattle.calls.specs.Replies.{Reply, waiting, yesWith, noWith, refusedWith}
 use Rattle.histories.specs.History.{fileOf, ruleIn, boardIn, placesIn, standing, endAt, countAt, emptiesIn, summedIn, yesIn, chunkOf, textIn, verdictIn, answersTo}
 use Rattle.histories.specs.Method.{Method}
 use Rattle.histories.specs.Conditions.{Accepted-exactly, Refused-exactly}
@@ -73,20 +73,20 @@ pub record VerdictClauses (h : List Call) : Type 0 where
   -- a board is there exactly when it has places
   pub board : (boardIn h ≡ true) ↔ (0 < placesIn h)
   -- refused with 21 unless the last accepted load or opening is an opening
-  pub none-there : (verdictIn h ≡ refused 21) ↔ (boardIn h ≡ false)
+  pub none-there : (verdictIn h ≡ refusedWith 21) ↔ (boardIn h ≡ false)
   -- waiting with the number of empty places exactly when one is empty
-  pub waits : (e : ℕ) → (verdictIn h ≡ judged (waiting e)) ↔ ((boardIn h ≡ true) × (0 < e) × (e ≡ emptiesIn h))
+  pub waits : (e : ℕ) → (verdictIn h ≡ waiting e) ↔ ((boardIn h ≡ true) × (0 < e) × (e ≡ emptiesIn h))
   -- else yes exactly when the last accepted rule has an accepting run over the standing chunks
   -- joined by place, and no when it has none
   pub accepts : boardIn h ≡ true → emptiesIn h ≡ 0
-      → (verdictIn h ≡ judged (yesWith (summedIn h))) ↔ Accepts (automatonBy (fileOf h)) (textIn h)
+      → (verdictIn h ≡ yesWith (summedIn h)) ↔ Accepts (automatonBy (fileOf h)) (textIn h)
   pub rejects : boardIn h ≡ true → emptiesIn h ≡ 0
-      → (verdictIn h ≡ judged (noWith (summedIn h))) ↔ (Accepts (automatonBy (fileOf h)) (textIn h) → ⊥)
+      → (verdictIn h ≡ noWith (summedIn h)) ↔ (Accepts (automatonBy (fileOf h)) (textIn h) → ⊥)
   -- the yes or no is the join of the end sets
-  pub joins : boardIn h ≡ true → emptiesIn h ≡ 0 → (verdictIn h ≡ judged (yesWith (summedIn h))) ↔ (yesIn h ≡ true)
+  pub joins : boardIn h ≡ true → emptiesIn h ≡ 0 → (verdictIn h ≡ yesWith (summedIn h)) ↔ (yesIn h ≡ true)
   -- the count is the sum over the places, and at most M times the bytes
-  pub counted : (c : ℕ) → verdictIn h ≡ judged (yesWith c) → c ≡ summedIn h
-  pub counted-no : (c : ℕ) → verdictIn h ≡ judged (noWith c) → c ≡ summedIn h
+  pub counted : (c : ℕ) → verdictIn h ≡ yesWith c → c ≡ summedIn h
+  pub counted-no : (c : ℕ) → verdictIn h ≡ noWith c → c ≡ summedIn h
   pub most : summedIn h ≤ startsIn (ruleIn h) .startcount * length (textIn h)
   -- and so it is at each place
   pub place-most : (p : ℕ) → countAt h p ≤ startsIn (ruleIn h) .startcount * length (chunkOf (standing h p))

@@ -21,7 +21,7 @@ use Rattle.calls.specs.declared.OpenResult.{OpenResult}
 use Rattle.calls.specs.declared.DeliverResult.{DeliverResult}
 use Rattle.calls.specs.declared.WithdrawResult.{WithdrawResult}
 use Rattle.calls.specs.declared.Verdict.{Verdict}
-use Rattle.calls.specs.Replies.{Reply, verdictMeans}
+use Rattle.calls.specs.Replies.{Reply, judged, verdictMeans}
 use Rattle.calls.specs.Calls.{Call, loads, opens, delivers, withdraws, asksVerdict}
 use Rattle.calls.specs.Steps.{Outcome, loadOutcome, openOutcome, deliverOutcome, withdrawOutcome}
 use Rattle.judge.proofs.new_judge.Reads as new-reads
@@ -72,7 +72,7 @@ MayStep j (loads f) a next = (r : LoadResult) × MayLoad j f r × (record { repl
 MayStep j (opens n) a next = (r : OpenResult) × MayOpen j n r × (record { reply = a; state = next } ≡ openOutcome r)
 MayStep j (delivers p w) a next = (r : DeliverResult) × MayDeliver j p w r × (record { reply = a; state = next } ≡ deliverOutcome r)
 MayStep j (withdraws p) a next = (r : WithdrawResult) × MayWithdraw j p r × (record { reply = a; state = next } ≡ withdrawOutcome r)
-MayStep j asksVerdict a next = (v : Verdict) × MayJudge j v × (a ≡ verdictMeans v) × (next ≡ j)
+MayStep j asksVerdict a next = (v : Verdict) × MayJudge j v × (a ≡ judged (verdictMeans v)) × (next ≡ j)
 
 abbrev pub judgeLibrary : Library Judge Call Reply
 judgeLibrary = record { NewAsks = new-reads.Asked tt tt; Begins = MayBegin; Asks = AsksStep; May = MayStep }

@@ -37,7 +37,7 @@ use Rattle.delegates.specs.Claims.{startsIn}
 use Rattle.chunks.specs.Chunks.{runSet, endSet, chunkCount}
 use Rattle.joins.specs.Joining.{yesOf}
 use Rattle.joins.specs.Claims.{delegateIn}
-use Rattle.calls.specs.Replies.{Reply, accepted, loaded, refused}
+use Rattle.calls.specs.Replies.{Judgement, Reply, accepted, loaded, judged, refused}
 use Rattle.calls.specs.Calls.{Call, loads, opens, delivers, withdraws, asksVerdict, loadNumber, openConditions, deliverConditions, withdrawConditions, verdictBy}
 
 -- ---- which rule is there
@@ -135,7 +135,7 @@ module _ (h : List Call) where
   abbrev pub yesIn : Bool
   yesIn = yesOf endAt (delegateIn (startsIn (ruleIn h) .delegates)) (ruleIn h .n) (ruleIn h .initials) (ruleIn h .finals) (placesIn h)
 
-  abbrev pub verdictIn : Reply
+  abbrev pub verdictIn : Judgement
   verdictIn = verdictBy (eqb (placesIn h) 0) emptiesIn yesIn summedIn
 
 -- the chunk itself; an empty place has none
@@ -160,7 +160,7 @@ answerOf h (loads f) = replyBy (loadNumber f) (loaded (length (setsOf (ruleOf f 
 answerOf h (opens n) = replyBy (openNumber h n) accepted
 answerOf h (delivers p w) = replyBy (deliverNumber h p w) accepted
 answerOf h (withdraws p) = replyBy (withdrawNumber h p) accepted
-answerOf h asksVerdict = verdictIn h
+answerOf h asksVerdict = judged (verdictIn h)
 
 -- the answers to a list of calls, the last first
 unfoldable pub answersTo : List Call → List Reply

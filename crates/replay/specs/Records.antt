@@ -10,7 +10,7 @@
 use mathlib.Core.List.{List, [], _∷_}
 use Prim.Native.Nat.{ℕ, suc}
 use Rattle.lines.specs.Splitting.{linesOf}
-use Rattle.calls.specs.Replies.{Reply, verdictMeans}
+use Rattle.calls.specs.Replies.{Judgement, verdictMeans}
 use Rattle.histories.specs.History.{verdictIn}
 use Rattle.calls.specs.Calls.{Call}
 use Rattle.calltext.specs.Meaning.{Meaning, again, call, malformed, lineIn}
@@ -40,7 +40,7 @@ abbrev pub recordIn : List ℕ → Recorded
 recordIn w = readLines (calls []) 1 (linesOf w)
 
 pub data ReplayReply : Type 0 where
-  verdict : Reply → ReplayReply
+  verdict : Judgement → ReplayReply
   malformedLine : ℕ → ReplayReply
 
 abbrev pub replayMeans : ReplayAnswer → ReplayReply

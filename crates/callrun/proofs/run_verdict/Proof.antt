@@ -1,6 +1,6 @@
 -- `run_verdict` meets its contract. Assumes nothing.
 use mathlib.Core.Path.{ap}
-use Rattle.calls.specs.Replies.{Reply}
+use Rattle.calls.specs.Replies.{Judgement, judged}
 use Rattle.calltext.specs.Answers.{replied}
 use borrow.Author.Needs.{needs}
 use Rattle.callrun.proofs.run_verdict.Statement.{statement}
@@ -10,7 +10,7 @@ ask-verdict-requires : tie.Need-ask-verdict-requires
 ask-verdict-requires c κs = search needs
 
 returns : tie.Need-returns
-returns c = ap (λ (a : Reply). record { response = replied a; state = c .before .args .judge }) (c .ask-verdict .ensures)
+returns c = ap (λ (v : Judgement). record { response = replied (judged v); state = c .before .args .judge }) (c .ask-verdict .ensures)
 
 pub run-verdict-spec : {M : Type 1} → statement M
 run-verdict-spec = tie.close (tie.spec ask-verdict-requires returns)
