@@ -5,8 +5,10 @@
 --     yesWith c, noWith c   yes, no, with the count
 --     refusedWith x      the call was refused with the number x
 --   Reply                what is answered to a call
---     accepted           of opening, delivering and withdrawing
+--     accepted           of opening and withdrawing
 --     loaded sets m      a load was accepted: the number of sets and M
+--     delivered looked   a delivery was accepted: for how many bytes of its text a successor was
+--                        looked up (document 02, R-2)
 --     judged v           a verdict was asked for: it is v
 --     refused x          a call other than the verdict was refused with the number x
 --   refusalIn v, refusalOf a   the number of the refusal, or none where v or a is none
@@ -33,6 +35,7 @@ pub data Judgement : Type 0 where
 pub data Reply : Type 0 where
   accepted : Reply
   loaded : ℕ → ℕ → Reply
+  delivered : ℕ → Reply
   judged : Judgement → Reply
   refused : ℕ → Reply
 
@@ -45,6 +48,7 @@ refusalIn (refusedWith number) = some number
 abbrev pub refusalOf : Reply → Option ℕ
 refusalOf accepted = none
 refusalOf (loaded sets starts) = none
+refusalOf (delivered looked) = none
 refusalOf (judged v) = refusalIn v
 refusalOf (refused number) = some number
 
@@ -57,7 +61,7 @@ openMeans opening.Accepted = accepted
 openMeans (opening.Refused number) = refused number
 
 abbrev pub deliverMeans : DeliverAnswer → Reply
-deliverMeans delivery.Accepted = accepted
+deliverMeans (delivery.Accepted looked) = delivered looked
 deliverMeans (delivery.Refused number) = refused number
 
 abbrev pub withdrawMeans : WithdrawAnswer → Reply
