@@ -11,7 +11,7 @@ use mathlib.Core.Bool.{Bool, true, false}
 use mathlib.Core.List.{List, [], _∷_, _++_}
 use Prim.Native.Nat.{ℕ}
 use Rattle.text.specs.Numerals.{decimal}
-use Rattle.calls.specs.Replies.{Judgement, waiting, yesWith, noWith, refusedWith, Reply, accepted, loaded, judged, refused, loadMeans, openMeans, deliverMeans, withdrawMeans, verdictMeans}
+use Rattle.calls.specs.Replies.{Judgement, waiting, yesWith, noWith, refusedWith, Reply, accepted, loaded, delivered, judged, refused, loadMeans, openMeans, deliverMeans, withdrawMeans, verdictMeans}
 use Rattle.calltext.specs.declared.LineAnswer.{LineAnswer}
 use Rattle.calltext.specs.declared.LineAnswer.the-variants.{Began, Load, Open, Deliver, Withdraw, Verdict, Malformed}
 
@@ -56,6 +56,7 @@ judgementText (refusedWith number) = refused-word ++ behind number
 abbrev pub replyText : Reply → List ℕ
 replyText accepted = accepted-word
 replyText (loaded sets starts) = accepted-word ++ (behind sets ++ behind starts)
+replyText (delivered looked) = accepted-word ++ behind looked
 replyText (judged v) = judgementText v
 replyText (refused number) = refused-word ++ behind number
 

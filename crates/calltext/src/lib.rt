@@ -183,7 +183,7 @@ fn put_deliver(out: &mut [u8], answer: DeliverAnswer) -> usize
     ensures { λ r. ⌜ Wrote (now (out .entry)) 0 (responseText (replied (deliverMeans answer))) (now (out .exit)) r ⌝ }
 {
     match answer {
-        DeliverAnswer::Accepted => put_accepted(out),
+        DeliverAnswer::Accepted(looked) => put_numbered(out, b"accepted", looked as u64),
         DeliverAnswer::Refused(number) => put_refused(out, number),
     }
 }

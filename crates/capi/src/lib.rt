@@ -31,10 +31,12 @@ pub struct OpenNumbers {
     pub judge: Judge,
 }
 
+// Looked is the number of text bytes for which any successor was looked up, 0 where refused.
 #[repr(C)]
 pub struct DeliverNumbers {
     pub accepted: u8,
     pub refused: u8,
+    pub looked: u32,
     pub judge: Judge,
 }
 
@@ -144,14 +146,16 @@ pub extern "C" fn bellbadger_deliver(judge: Judge, place: usize, chunk: &[u8]) -
     let answer = delivery.answer;
     let judge = delivery.judge;
     match answer {
-        DeliverAnswer::Accepted => DeliverNumbers {
+        DeliverAnswer::Accepted(looked) => DeliverNumbers {
             accepted: 1,
             refused: 0,
+            looked,
             judge,
         },
         DeliverAnswer::Refused(refused) => DeliverNumbers {
             accepted: 0,
             refused,
+            looked: 0,
             judge,
         },
     }
