@@ -6,11 +6,8 @@ use Rattle.calltext.proofs.put_deliver.Tie as tie
 enum-known-answer : tie.Need-enum-known-answer
 enum-known-answer c = search needs
 
-cast-put-numbered : tie.Need-cast-put-numbered
-cast-put-numbered c = search needs
-
-put-numbered-requires : tie.Need-put-numbered-requires
-put-numbered-requires c κs = search needs
+put-delivered-requires : tie.Need-put-delivered-requires
+put-delivered-requires c κs = search needs
 
 enum-known-answer-2 : tie.Need-enum-known-answer-2
 enum-known-answer-2 c = search needs
@@ -22,7 +19,7 @@ same-length : tie.Need-same-length
 same-length c = search needs
 
 returns : tie.Need-returns
-returns c = rw (c .before .before .before .before .before .answer .given .1) (c .before .before .put-numbered .ensures)
+returns c = rw (c .before .before .before .before .before .answer .given .1) (c .before .before .put-delivered .ensures)
 
 same-length-2 : tie.Need-same-length-2
 same-length-2 c = search needs
@@ -35,8 +32,7 @@ put-deliver-spec =
     tie.close
     (tie.spec
     enum-known-answer
-    cast-put-numbered
-    put-numbered-requires
+    put-delivered-requires
     enum-known-answer-2
     put-refused-requires
     same-length
