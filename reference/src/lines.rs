@@ -55,6 +55,7 @@ pub fn line(call: &Call) -> Vec<u8> {
 fn answer(answer: Answer) -> String {
     match answer {
         Answer::Loaded(sets, starts) => format!("accepted {sets} {starts}"),
+        Answer::Delivered(looked) => format!("accepted {looked}"),
         Answer::Accepted => "accepted".to_string(),
         Answer::Waiting(empty) => format!("waiting {empty}"),
         Answer::Yes(count) => format!("yes {count}"),

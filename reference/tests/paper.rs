@@ -36,7 +36,7 @@ fn verdict(rule: &[u8], chunks: &[&[u8]]) -> Answer {
     let mut judge = opened(rule, chunks.len() as u64);
     for (place, chunk) in chunks.iter().enumerate().rev() {
         assert_eq!(judge.call(&Call::Verdict), Waiting(place + 1));
-        assert_eq!(deliver(&mut judge, place as u64, chunk), Accepted);
+        assert!(matches!(deliver(&mut judge, place as u64, chunk), Delivered(_)));
     }
     judge.call(&Call::Verdict)
 }
