@@ -91,7 +91,10 @@ fn the_sum_of_the_counts() {
     );
     assert_eq!(judge.open(64), Ok(()));
     for place in 0..64 {
-        assert_eq!(judge.deliver(place, &[0; 65536]), Ok(Looked { bytes: 65536 }));
+        assert_eq!(
+            judge.deliver(place, &[0; 65536]),
+            Ok(Looked { bytes: 65536 })
+        );
     }
     // place 0 is run from one start, the other 63 from 32
     assert_eq!(judge.verdict(), Ok(Verdict::Yes(65536 + 63 * 32 * 65536)));
