@@ -56,6 +56,16 @@ class Judge:
                 total += 1
         return total
 
+    def looked(self, p, text):
+        """The least number of bytes after which the sets of all runs are empty, else all."""
+        _, _, initials, _, targets, delegates = self.rule
+        sets = {frozenset({d}) for d in ({delegates[q] for q in initials} if p == 0 else set(delegates))}
+        for i, s in enumerate(text):
+            if not any(sets):
+                return i
+            sets = {successor(targets, members, s) for members in sets}
+        return len(text)
+
     def deliver(self, p, chunk):
         self.at(p)
         if len(chunk) > 65536:
@@ -65,7 +75,7 @@ class Judge:
         if self.board[p] is not None:
             raise Refused(22)
         self.board[p] = chunk
-        return "accepted"
+        return f"accepted {self.looked(p, chunk)}"
 
     def withdraw(self, p):
         self.at(p)
@@ -135,6 +145,10 @@ B = rule(3, 1, 1, 6, [(0, 0, 1), (0, 0, 2), (1, 0, 0), (2, 0, 0)])
 NO_INITIAL = rule(3, 1, 0, 6, [(0, 0, 1), (0, 0, 2), (1, 0, 0), (2, 0, 0)])
 # figure 1 of document 004: a, b, c are 0, 1, 2
 FIGURE_1 = rule(3, 3, 1, 4, [(0, 0, 1), (0, 2, 1), (1, 0, 0), (1, 0, 1), (1, 1, 0), (1, 1, 2), (1, 2, 0), (2, 1, 1)])
+# by 1 neither state leads anywhere, by 0 each leads to the other
+DIES = rule(2, 2, 1, 1, [(0, 0, 1), (1, 0, 0)])
+# by 0 from 0 to 1 to 2, and no further: the runs from 0, 1 and 2 die one after the other
+CHAIN = rule(3, 1, 1, 4, [(0, 0, 1), (1, 0, 2)])
 NO_RULE = A[:9]
 LARGEST = 2 ** 64 - 1
 
@@ -215,6 +229,11 @@ CASES = [
     [("load", many_sets(4)), ("open", 1), ("load", many_sets(5)), ("deliver", 0, b"\0\1\0"), ("verdict",)],
     # a file of 32,906 bytes, and one byte more
     [("load", FULL), ("open", 1), ("deliver", 0, b"\x0f"), ("verdict",), ("load", FULL + b"\0"), ("verdict",)],
+    # every run dies: at the first byte, within, at the last, not at all; a bad byte further on is 13
+    [("load", DIES), ("open", 6)] + [("deliver", 0, chunk) for chunk in (b"\1\0\0\2", b"\0\1\1\xff", b"\1" * 65535 + b"\2")]
+    + [("deliver", p, chunk) for p, chunk in enumerate([b"\1\0\0", b"\0\1\0", b"\0\0\1", b"\0\0\0", b"\1" * 65536, b""])] + [("verdict",)],
+    judged(DIES, b"\0\0", b"\1" + LONG[1:]),
+    judged(CHAIN, b"\0\0\0\0", b"\0\0\0\0", b"\0\0"),
     # n 33; hex digits of either case; the largest number of digits
     [("load", b"\x21" + A[1:]), b"load " + A.hex().upper().encode(), b"open 00000000000000000001", b"deliver 0 0001", ("verdict",)],
     # lines that are malformed, and lines that are very long

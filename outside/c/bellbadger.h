@@ -21,7 +21,7 @@
  * bellbadger_version() == BELLBADGER_VERSION && bellbadger_state_size() == BELLBADGER_STATE_SIZE.
  * Another major number or size: the two do not fit. A higher minor number of the library: it can
  * more than this header says. */
-#define BELLBADGER_VERSION_MAJOR 2
+#define BELLBADGER_VERSION_MAJOR 3
 #define BELLBADGER_VERSION_MINOR 0
 #define BELLBADGER_VERSION (BELLBADGER_VERSION_MAJOR * 65536 + BELLBADGER_VERSION_MINOR)
 #define BELLBADGER_STATE_SIZE 27316 /* the bytes of a bellbadger_judge */
@@ -76,7 +76,13 @@ typedef struct {
 typedef struct {
     uint8_t accepted, refused;
     bellbadger_judge judge;
-} bellbadger_open_result, bellbadger_deliver_result, bellbadger_withdraw_result;
+} bellbadger_open_result, bellbadger_withdraw_result;
+
+typedef struct {
+    uint8_t accepted, refused;
+    uint32_t looked; /* the text bytes for which any successor was looked up; 0 where refused */
+    bellbadger_judge judge;
+} bellbadger_deliver_result;
 
 enum {
     BELLBADGER_REFUSED = 0,   /* number: why */
@@ -115,7 +121,9 @@ BELLBADGER_RESULT bellbadger_load_result bellbadger_load(bellbadger_judge judge,
  *   20 no rule is loaded      10 no number of places from 1 to 64 */
 BELLBADGER_RESULT bellbadger_open_result bellbadger_open(bellbadger_judge judge, size_t places);
 
-/* Runs a chunk and keeps its end sets, count and length at the place. Refused with
+/* Runs a chunk and keeps its end sets, count and length at the place. Once every run has died no
+ * successor is looked up: looked is the least number of text bytes after which every set is empty,
+ * else all of them. Refused with
  *   21 no board is open      11 the board has no such place      12 the chunk has over 65,536 bytes
  *   13 a byte is no symbol   22 the place has a chunk already */
 BELLBADGER_RESULT bellbadger_deliver_result bellbadger_deliver(bellbadger_judge judge, size_t place, const uint8_t *chunk, size_t length);

@@ -34,6 +34,7 @@ static bellbadger_judge open_board(bellbadger_judge judge, size_t places) {
 static bellbadger_judge deliver(bellbadger_judge judge, size_t place, uint8_t event) {
     bellbadger_deliver_result r = bellbadger_deliver(judge, place, &event, 1);
     expect_accepted("deliver", r.accepted, r.refused);
+    printf("%" PRIu32 " looked up\n", r.looked);
     return r.judge;
 }
 

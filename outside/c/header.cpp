@@ -20,7 +20,7 @@ static bool right() {
     bellbadger_withdraw_result withdrawn = bellbadger_withdraw(opened.judge, 0);
     bellbadger_replay_result replayed = bellbadger_replay(reinterpret_cast<const uint8_t *>(record), std::strlen(record));
     return bellbadger_version() == BELLBADGER_VERSION && bellbadger_state_size() == sizeof(bellbadger_judge)
-        && loaded.accepted && loaded.sets == 5 && opened.accepted && delivered.accepted
+        && loaded.accepted && loaded.sets == 5 && opened.accepted && delivered.accepted && delivered.looked == 2
         && verdict.kind == BELLBADGER_YES && verdict.number == 2 && verdict.bytes == 2 && verdict.quotient == 1
         && verdict.remainder == 0 && !withdrawn.accepted && withdrawn.refused == 23
         && replayed.kind == BELLBADGER_MALFORMED && replayed.number == 2;

@@ -5,9 +5,11 @@
     Loaded(sets=5, starts=3)
     >>> judge.open(2)
     >>> judge.deliver(1, bytes([1]))
+    Looked(bytes=1)
     >>> judge.verdict()
     Waiting(places=1)
     >>> judge.deliver(0, bytes([0]))
+    Looked(bytes=1)
     >>> judge.verdict()
     Yes(count=3, bytes=2, quotient=1, remainder=1)
     >>> judge.deliver(0, bytes([1]))
@@ -29,10 +31,10 @@ import os
 from dataclasses import dataclass
 from pathlib import Path
 
-__all__ = ["Judge", "Loaded", "Waiting", "Yes", "No", "Refused", "Malformed", "replay", "version"]
+__all__ = ["Judge", "Loaded", "Looked", "Waiting", "Yes", "No", "Refused", "Malformed", "replay", "version"]
 
 # what this module was written for, as outside/c/bellbadger.h has it
-_MAJOR, _STATE_SIZE = 2, 27316
+_MAJOR, _STATE_SIZE = 3, 27316
 _WAITING, _YES, _NO, _MALFORMED = 1, 2, 3, 4
 _LARGEST_SIZE = 2**64 - 1
 
@@ -85,6 +87,14 @@ class Loaded:
 
     sets: int
     starts: int
+
+
+@dataclass(frozen=True)
+class Looked:
+    """What an accepted delivery tells of the run: for how many bytes of the text any successor was
+    looked up, the least number of them after which every run has died, else all."""
+
+    bytes: int
 
 
 @dataclass(frozen=True)
@@ -157,6 +167,15 @@ class _Change(ctypes.Structure):
     _fields_ = [("accepted", ctypes.c_uint8), ("refused", ctypes.c_uint8), ("state", _State)]
 
 
+class _Delivery(ctypes.Structure):
+    _fields_ = [
+        ("accepted", ctypes.c_uint8),
+        ("refused", ctypes.c_uint8),
+        ("looked", ctypes.c_uint32),
+        ("state", _State),
+    ]
+
+
 class _Verdict(ctypes.Structure):
     _fields_ = [
         ("kind", ctypes.c_uint8),
@@ -189,7 +208,7 @@ def _library(path):
     _declare(library, "new", _State)
     _declare(library, "load", _Load, _State, *data)
     _declare(library, "open", _Change, _State, size)
-    _declare(library, "deliver", _Change, _State, size, *data)
+    _declare(library, "deliver", _Delivery, _State, size, *data)
     _declare(library, "withdraw", _Change, _State, size)
     _declare(library, "verdict", _Verdict, _State)
     _declare(library, "replay", _Verdict, *data)
@@ -265,7 +284,9 @@ class Judge:
         Refused with 21, 11, 12, 13, 22.
         """
         data = _bytes(chunk)
-        self._change(_lib.bellbadger_deliver(self._state, _size(place), data, len(data)))
+        result = _lib.bellbadger_deliver(self._state, _size(place), data, len(data))
+        self._change(result)
+        return Looked(result.looked)
 
     def withdraw(self, place):
         """Empties a place. Refused with 21, 11, 23."""

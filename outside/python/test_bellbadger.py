@@ -9,7 +9,7 @@ import threading
 import unittest
 
 import bellbadger
-from bellbadger import Judge, Loaded, Malformed, No, Refused, Waiting, Yes, replay
+from bellbadger import Judge, Loaded, Looked, Malformed, No, Refused, Waiting, Yes, replay
 
 A = bytes.fromhex("03020100000004000000160006001C0002001E0000000000000101000102")
 B = bytes.fromhex("03010100000006000000160004001A0002001C0002000001000200000000")
@@ -62,7 +62,7 @@ class Calls(unittest.TestCase):
         self.refused(12, judge.deliver, 63, bytes(65537))
         self.refused(13, judge.deliver, 63, bytes([0, 2]))
         self.refused(23, judge.withdraw, 63)
-        judge.deliver(63, bytes(65536))
+        self.assertEqual(judge.deliver(63, bytes(65536)), Looked(65536))
         self.refused(22, judge.deliver, 63, b"")
         self.refused(1, judge.load, A[:9])
         self.refused(2, judge.load, bytes(32907))
@@ -81,6 +81,14 @@ class Calls(unittest.TestCase):
         for place in range(64):
             judge.deliver(place, bytes(65536))
         self.assertEqual(judge.verdict(), Yes(64 * 65536 * 32, 64 * 65536, 32, 0))
+
+    def test_bytes_looked_up(self):
+        dies = bytes([2, 2, 1, 0, 0, 0, 1, 0, 0, 0, 18, 0, 2, 0, 20, 0, 2, 0, 0, 1, 0, 0])
+        judge = Judge()
+        judge.load(dies)
+        judge.open(5)
+        for place, (chunk, looked) in enumerate([("10", 1), ("010", 2), ("001", 3), ("000", 3), ("", 0)]):
+            self.assertEqual(judge.deliver(place, bytes(int(s) for s in chunk)), Looked(looked))
 
     def test_words_of_a_refusal(self):
         with self.assertRaisesRegex(Refused, "^refused 20: no rule is loaded$"):
@@ -153,7 +161,7 @@ class Module(unittest.TestCase):
         self.assertEqual(found.failed, 0)
 
     def test_version(self):
-        self.assertEqual(bellbadger.version(), (2, 0))
+        self.assertEqual(bellbadger.version(), (3, 0))
 
     def test_a_missing_library_names_the_command(self):
         run = subprocess.run(

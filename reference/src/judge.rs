@@ -15,6 +15,8 @@ pub enum Call {
 #[derive(Clone, Debug, PartialEq)]
 pub enum Answer {
     Loaded(usize, usize),
+    /// A delivery was accepted: for so many bytes of its text a successor is looked up.
+    Delivered(usize),
     Accepted,
     Waiting(usize),
     Yes(Work),
@@ -38,7 +40,7 @@ impl Work {
     }
 }
 
-use Answer::{Accepted, Loaded, No, Refused, Waiting, Yes};
+use Answer::{Accepted, Delivered, Loaded, No, Refused, Waiting, Yes};
 
 /// A place has its standing chunk, or none.
 type Board = Vec<Option<Vec<u8>>>;
@@ -96,7 +98,7 @@ impl Judge {
         let place = place as usize;
         if board[place].is_some() { return Refused(22); }
         board[place] = Some(chunk.to_vec());
-        Accepted
+        Delivered(rule.looked(place, chunk))
     }
 
     fn withdraw(&mut self, place: u64) -> Answer {

@@ -60,6 +60,7 @@ fn numbers(work: Work) -> String {
 fn answer(answer: Answer) -> String {
     match answer {
         Answer::Loaded(sets, starts) => format!("accepted {sets} {starts}"),
+        Answer::Delivered(looked) => format!("accepted {looked}"),
         Answer::Accepted => "accepted".to_string(),
         Answer::Waiting(empty) => format!("waiting {empty}"),
         Answer::Yes(work) => format!("yes {}", numbers(work)),

@@ -177,6 +177,19 @@ impl Rule {
         self.starts_at(place).into_iter().map(|d| self.run(d, chunk).1).sum()
     }
 
+    /// For how many bytes of a text at a place a successor is looked up: the least number of them
+    /// after which the sets of all its runs are empty, else all.
+    pub fn looked(&self, place: usize, text: &[u8]) -> usize {
+        let mut sets: Vec<u32> = self.starts_at(place).into_iter().map(|d| 1 << d).collect();
+        for (i, &s) in text.iter().enumerate() {
+            if sets.iter().all(|&set| set == 0) {
+                return i;
+            }
+            sets = sets.into_iter().map(|set| self.automaton.successor(set, s)).collect();
+        }
+        text.len()
+    }
+
     /// The rule as `ruleprint` shows it.
     pub fn print(&self) -> String {
         let mut text = format!("sets {} starts {}\n", self.sets.len(), self.starts().len());

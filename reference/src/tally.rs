@@ -38,8 +38,21 @@ impl Tally {
                 if accepted && (length == 0 || length == 65_536) || length == 65_537 {
                     self.add(&format!("edge: chunk of {length} bytes"));
                 }
+                if accepted {
+                    self.looked(words[1].parse().unwrap(), length);
+                }
             }
             _ => (),
+        }
+    }
+
+    /// Counts an accepted chunk of so many bytes whose runs all died, or that nothing was run from.
+    fn looked(&mut self, looked: usize, length: usize) {
+        match looked {
+            _ if looked == length => (),
+            0 => self.add("chunk: nothing runs"),
+            1 => self.add("chunk: every run dies at the first byte"),
+            _ => self.add("chunk: every run dies later, before the last byte"),
         }
     }
 

@@ -56,7 +56,7 @@ fn ends_of_lines() {
 fn an_empty_line_starts_afresh_and_a_malformed_one_changes_nothing() {
     let rule = "load 010101000000010000000e000000";
     let text = format!("{rule}\nopen 1\nopen 1 \ndeliver 0 -\nverdict\n\nverdict\n");
-    assert_eq!(answers(text.as_bytes()), "accepted 1 1\naccepted\nmalformed\naccepted\nyes 0 0 0 0\n\nrefused 21\n");
+    assert_eq!(answers(text.as_bytes()), "accepted 1 1\naccepted\nmalformed\naccepted 0\nyes 0 0 0 0\n\nrefused 21\n");
 }
 
 #[test]

@@ -36,7 +36,7 @@ fn verdict(rule: &[u8], chunks: &[&[u8]]) -> Answer {
     let mut judge = opened(rule, chunks.len() as u64);
     for (place, chunk) in chunks.iter().enumerate().rev() {
         assert_eq!(judge.call(&Call::Verdict), Waiting(place + 1));
-        assert_eq!(deliver(&mut judge, place as u64, chunk), Accepted);
+        assert!(matches!(deliver(&mut judge, place as u64, chunk), Delivered(_)));
     }
     judge.call(&Call::Verdict)
 }
@@ -193,7 +193,7 @@ fn refused_11() {
     assert_eq!(deliver(&mut judge, 64, &[2; 65_537]), Refused(11));
     assert_eq!(judge.call(&Call::Withdraw(64)), Refused(11));
     assert_eq!(judge.call(&Call::Withdraw(1 << 32)), Refused(11));
-    assert_eq!(deliver(&mut judge, 63, &[1]), Accepted);
+    assert_eq!(deliver(&mut judge, 63, &[1]), Delivered(1));
 }
 
 #[test]
@@ -202,9 +202,31 @@ fn refused_12_and_13() {
     assert_eq!(deliver(&mut judge, 0, &[2; 65_537]), Refused(12));
     assert_eq!(deliver(&mut judge, 0, &[1; 65_537]), Refused(12));
     assert_eq!(deliver(&mut judge, 0, &[0, 2]), Refused(13));
-    assert_eq!(deliver(&mut judge, 0, &[1; 65_536]), Accepted);
+    assert_eq!(deliver(&mut judge, 0, &[1; 65_536]), Delivered(65_536));
     assert_eq!(deliver(&mut judge, 0, &[2]), Refused(13));
     assert_eq!(judge.call(&Call::Verdict), No(work(65_536, 65_536, 1, 0)));
+}
+
+/// What a delivery answers: the least number of bytes after which every set is empty, else all.
+#[test]
+fn looked_up() {
+    // by symbol 1 neither state leads anywhere
+    let mut dies = blank(2, 2);
+    (dies.initial, dies.finals) = (1, 1);
+    dies.targets = vec![vec![2, 0], vec![1, 0]];
+    for (chunk, looked) in [([1, 0, 0], 1), ([0, 1, 0], 2), ([0, 0, 1], 3), ([0, 0, 0], 3)] {
+        let mut judge = opened(&file(&dies), 2);
+        assert_eq!(deliver(&mut judge, 0, &chunk), Delivered(looked));
+        assert_eq!(deliver(&mut judge, 1, &chunk), Delivered(looked));
+    }
+    // the runs from 0, 1 and 2 die one after the other, the last after three bytes
+    let mut chain = blank(3, 1);
+    (chain.initial, chain.finals) = (1, 4);
+    chain.targets = vec![vec![2], vec![4], vec![0]];
+    assert_eq!(deliver(&mut opened(&file(&chain), 2), 1, &[0; 9]), Delivered(3));
+    // nothing runs at place 0 without an initial state
+    chain.initial = 0;
+    assert_eq!(deliver(&mut opened(&file(&chain), 2), 0, &[0; 9]), Delivered(0));
 }
 
 #[test]
@@ -223,19 +245,19 @@ fn refused_21() {
 fn refused_22_and_23() {
     let mut judge = opened(&A, 2);
     assert_eq!(judge.call(&Call::Withdraw(0)), Refused(23));
-    assert_eq!(deliver(&mut judge, 0, &[]), Accepted);
+    assert_eq!(deliver(&mut judge, 0, &[]), Delivered(0));
     assert_eq!(deliver(&mut judge, 0, &[0]), Refused(22));
     assert_eq!(judge.call(&Call::Verdict), Waiting(1));
     assert_eq!(judge.call(&Call::Withdraw(0)), Accepted);
     assert_eq!(judge.call(&Call::Withdraw(0)), Refused(23));
     assert_eq!(judge.call(&Call::Verdict), Waiting(2));
-    assert_eq!(deliver(&mut judge, 0, &[0]), Accepted);
+    assert_eq!(deliver(&mut judge, 0, &[0]), Delivered(1));
 }
 
 #[test]
 fn a_refused_load_leaves_rule_and_board() {
     let mut judge = opened(&A, 1);
-    assert_eq!(deliver(&mut judge, 0, &[0, 1]), Accepted);
+    assert_eq!(deliver(&mut judge, 0, &[0, 1]), Delivered(2));
     assert_eq!(judge.call(&Call::Load(vec![])), Refused(1));
     assert_eq!(judge.call(&Call::Open(65)), Refused(10));
     assert_eq!(judge.call(&Call::Verdict), Yes(work(2, 2, 1, 0)));

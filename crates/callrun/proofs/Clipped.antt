@@ -19,7 +19,7 @@ use Rattle.base.proofs.Tests.{by-test}
 use Rattle.ruleformat.specs.Refusals.{tooShort, tooLong}
 use Rattle.board.specs.Boards.{placesOf}
 use Rattle.calls.specs.declared.Judge.{Judge}
-use Rattle.calls.specs.Replies.{accepted}
+use Rattle.calls.specs.Replies.{Reply}
 use Rattle.calls.specs.Calls.{loadNumber}
 use Rattle.calls.specs.Steps.{outcomeBy, lacksBoard, loadOf, deliverOf}
 
@@ -41,15 +41,15 @@ loads-clip j f n h =
     (λ t. ap (loadOf j) (take-all n f (ltb-false n (length f) t)))
 
 -- ---- deliver
-by-12 : (a b : Bool) (j next next′ : Judge)
-    → outcomeBy (cond a (some 21) (cond b (some 11) (some 12))) accepted j next ≡ outcomeBy (cond a (some 21) (cond b (some 11) (some 12))) accepted j next′
-by-12 true b j next next′ = refl
-by-12 false true j next next′ = refl
-by-12 false false j next next′ = refl
+by-12 : (a b : Bool) (x y : Reply) (j next next′ : Judge)
+    → outcomeBy (cond a (some 21) (cond b (some 11) (some 12))) x j next ≡ outcomeBy (cond a (some 21) (cond b (some 11) (some 12))) y j next′
+by-12 true b x y j next next′ = refl
+by-12 false true x y j next next′ = refl
+by-12 false false x y j next next′ = refl
 
 pub delivers-long : (j : Judge) (p : ℕ) (v w : List ℕ) → 65536 < length v → 65536 < length w → deliverOf j p v ≡ deliverOf j p w
 unfolding deliverOf
-delivers-long j p v w hv hw = rw (lt-ltb 65536 (length v) hv, lt-ltb 65536 (length w) hw) (by-12 (lacksBoard j) (leb (placesOf (j .board)) p) j _ _)
+delivers-long j p v w hv hw = rw (lt-ltb 65536 (length v) hv, lt-ltb 65536 (length w) hw) (by-12 (lacksBoard j) (leb (placesOf (j .board)) p) _ _ j _ _)
 
 pub delivers-clip : (j : Judge) (p : ℕ) (w : List ℕ) (n : ℕ) → 65537 ≤ n → deliverOf j p (take n w) ≡ deliverOf j p w
 delivers-clip j p w n h =

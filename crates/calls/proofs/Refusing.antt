@@ -14,7 +14,7 @@ use Rattle.ruleformat.specs.Reader.{ruleOf}
 use Rattle.build.specs.Building.{builtOf}
 use Rattle.board.specs.Boards.{placesOf, isEmpty, emptyBoard, filledAt, clearedAt}
 use Rattle.calls.specs.declared.Judge.{Judge}
-use Rattle.calls.specs.Replies.{Judgement, waiting, yesWith, noWith, refusedWith, refusalIn, Reported, Reply, accepted, loaded, judged, refused, refusalOf}
+use Rattle.calls.specs.Replies.{Judgement, waiting, yesWith, noWith, refusedWith, refusalIn, Reported, Reply, accepted, loaded, judged, refused, refusalOf, delivered}
 use Rattle.calls.specs.Calls.{loads, opens, delivers, withdraws, asksVerdict, loadNumber, openConditions, deliverConditions, withdrawConditions}
 use Rattle.calls.specs.Steps.{lacksRule, lacksBoard, withBoard, runsAt, outcomeBy, loadOf, openOf, deliverOf, withdrawOf}
 use Rattle.calls.specs.Claims.{Unchanged}
@@ -32,6 +32,7 @@ refusal-law a x = (to a, ⊎-elim (λ e. ap refusalOf e) (λ e. ap refusalOf (e 
     to : (b : Reply) → refusalOf b ≡ some x → (b ≡ refused x) ⊎ ((r : Reported) × (b ≡ judged r) × (r .verdict ≡ refusedWith x))
     to accepted e = none-some refl e
     to (loaded sets m) e = none-some refl e
+    to (delivered looked) e = none-some refl e
     to (judged r) e = inr (r, refl, refused-in (r .verdict) x e)
     to (refused number) e = inl cc
 
@@ -50,7 +51,7 @@ unchanged j (delivers p w) =
     by-number
     (firstOf
     (deliverConditions (lacksBoard j) (placesOf (j .board)) p w (j .built .k) (not (isEmpty (j .board) p))))
-    accepted
+    (delivered (runsAt j p w .looked))
     j
     (withBoard j (filledAt (j .board) p (runsAt j p w)))
     refl

@@ -116,7 +116,7 @@ module _ (j : Judge) (p : ℕ) (w : List ℕ) where
           deliver-22 g r e = e ∙ rw (ne-eqb _ _ a, ← places, lt-leb _ _ b, le-ltb _ _ c, ← has, d, ← empty, g)
 
           pub delivered : not x ≡ false → (runs : Runs) → runs ≡ runsAt j p w → (l : Board) → l ≡ filledAt (j .board) p runs → (s : Judge) → s ≡ withBoard j l
-              → record { reply = reply.accepted; state = s } ≡ deliverOf j p w
+              → record { reply = reply.delivered (runs .looked); state = s } ≡ deliverOf j p w
           unfolding deliverOf
           delivered g runs ran l is s e = rw (e, is, ran, ne-eqb _ _ a, ← places, lt-leb _ _ b, le-ltb _ _ c, ← has, d, ← empty, g)
 

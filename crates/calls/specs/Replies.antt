@@ -7,8 +7,10 @@
 --   Reported             what the call verdict reports: the verdict, the number of text bytes, the
 --                        whole quotient of the count by it, and the remainder
 --   Reply                what is answered to a call
---     accepted           of opening, delivering and withdrawing
+--     accepted           of opening and withdrawing
 --     loaded sets m      a load was accepted: the number of sets and M
+--     delivered looked   a delivery was accepted: for how many bytes of its text a successor was
+--                        looked up (document 02, R-2)
 --     judged r           a verdict was asked for: r is reported
 --     refused x          a call other than the verdict was refused with the number x
 --   refusalIn v, refusalOf a   the number of the refusal, or none where v or a is none
@@ -42,6 +44,7 @@ pub record Reported : Type 0 where
 pub data Reply : Type 0 where
   accepted : Reply
   loaded : ℕ → ℕ → Reply
+  delivered : ℕ → Reply
   judged : Reported → Reply
   refused : ℕ → Reply
 
@@ -54,6 +57,7 @@ refusalIn (refusedWith number) = some number
 abbrev pub refusalOf : Reply → Option ℕ
 refusalOf accepted = none
 refusalOf (loaded sets starts) = none
+refusalOf (delivered looked) = none
 refusalOf (judged r) = refusalIn (r .verdict)
 refusalOf (refused number) = some number
 
@@ -66,7 +70,7 @@ openMeans opening.Accepted = accepted
 openMeans (opening.Refused number) = refused number
 
 abbrev pub deliverMeans : DeliverAnswer → Reply
-deliverMeans delivery.Accepted = accepted
+deliverMeans (delivery.Accepted looked) = delivered looked
 deliverMeans (delivery.Refused number) = refused number
 
 abbrev pub withdrawMeans : WithdrawAnswer → Reply

@@ -29,7 +29,7 @@ use Rattle.calls.specs.declared.LoadResult.{LoadResult}
 use Rattle.calls.specs.declared.OpenResult.{OpenResult}
 use Rattle.calls.specs.declared.DeliverResult.{DeliverResult}
 use Rattle.calls.specs.declared.WithdrawResult.{WithdrawResult}
-use Rattle.calls.specs.Replies.{Judgement, Reported, Reply, accepted, loaded, judged, refused, loadMeans, openMeans, deliverMeans, withdrawMeans}
+use Rattle.calls.specs.Replies.{Judgement, Reported, Reply, accepted, loaded, judged, refused, loadMeans, openMeans, deliverMeans, withdrawMeans, delivered}
 use Rattle.calls.specs.Calls.{Call, loads, opens, delivers, withdraws, asksVerdict, loadNumber, openConditions, deliverConditions, withdrawConditions, verdictBy, reportBy}
 
 unfoldable pub fresh : Judge
@@ -87,7 +87,7 @@ deliverOf j p w =
     outcomeBy
     (firstOf
     (deliverConditions (lacksBoard j) (placesOf (j .board)) p w (j .built .k) (not (isEmpty (j .board) p))))
-    accepted
+    (delivered (runsAt j p w .looked))
     j
     (withBoard j (filledAt (j .board) p (runsAt j p w)))
 

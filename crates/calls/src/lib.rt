@@ -22,8 +22,9 @@ pub enum OpenAnswer {
     Refused(u8),
 }
 
+// The number of text bytes for which any successor was looked up, or a refusal.
 pub enum DeliverAnswer {
-    Accepted,
+    Accepted(u32),
     Refused(u8),
 }
 

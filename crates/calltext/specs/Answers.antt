@@ -13,7 +13,7 @@ use mathlib.Core.Bool.{Bool, true, false}
 use mathlib.Core.List.{List, [], _∷_, _++_}
 use Prim.Native.Nat.{ℕ}
 use Rattle.text.specs.Numerals.{decimal}
-use Rattle.calls.specs.Replies.{Judgement, waiting, yesWith, noWith, refusedWith, Reported, Reply, accepted, loaded, judged, refused, loadMeans, openMeans, deliverMeans, withdrawMeans, reportMeans}
+use Rattle.calls.specs.Replies.{Judgement, waiting, yesWith, noWith, refusedWith, Reported, Reply, accepted, loaded, judged, refused, loadMeans, openMeans, deliverMeans, withdrawMeans, reportMeans, delivered}
 use Rattle.calltext.specs.declared.LineAnswer.{LineAnswer}
 use Rattle.calltext.specs.declared.LineAnswer.the-variants.{Began, Load, Open, Deliver, Withdraw, Verdict, Malformed}
 
@@ -61,6 +61,7 @@ reportText r = judgementText (r .verdict) (behind (r .bytes) ++ (behind (r .quot
 abbrev pub replyText : Reply → List ℕ
 replyText accepted = accepted-word
 replyText (loaded sets starts) = accepted-word ++ (behind sets ++ behind starts)
+replyText (delivered looked) = accepted-word ++ behind looked
 replyText (judged r) = reportText r
 replyText (refused number) = refused-word ++ behind number
 

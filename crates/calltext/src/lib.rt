@@ -10,7 +10,7 @@ ghost use Rattle.fields.specs.Numbers.{parseNumber};
 ghost use Rattle.lines.specs.Splitting.{upTo, past};
 ghost use Rattle.calltext.specs.Meaning.{openBy, withdrawBy, deliverFields, lineMeans, bytesFrom, Parsed};
 ghost use Rattle.calltext.specs.Answers.{behind, replied, responseText, answerMeans};
-ghost use Rattle.calls.specs.Replies.{accepted, loaded, judged, refused, loadMeans, openMeans, deliverMeans, withdrawMeans, reportMeans};
+ghost use Rattle.calls.specs.Replies.{accepted, loaded, judged, refused, loadMeans, openMeans, deliverMeans, withdrawMeans, reportMeans, delivered};
 use calls::DeliverAnswer;
 use calls::LoadAnswer;
 use calls::OpenAnswer;
@@ -178,6 +178,14 @@ fn put_loaded(out: &mut [u8], sets: u64, starts: u64) -> usize
     text::put_byte(out, end, b'\n')
 }
 
+// The answer to a delivery that was accepted.
+fn put_delivered(out: &mut [u8], looked: u32) -> usize
+    requires { ⌜ answerRoom ≤ length (now out) ⌝ }
+    ensures { λ r. ⌜ Wrote (now (out .entry)) 0 (responseText (replied (delivered looked))) (now (out .exit)) r ⌝ }
+{
+    put_numbered(out, b"accepted", looked as u64)
+}
+
 // What a call is answered, a function for each type of answer.
 fn put_load(out: &mut [u8], answer: LoadAnswer) -> usize
     requires { ⌜ answerRoom ≤ length (now out) ⌝ }
@@ -204,7 +212,7 @@ fn put_deliver(out: &mut [u8], answer: DeliverAnswer) -> usize
     ensures { λ r. ⌜ Wrote (now (out .entry)) 0 (responseText (replied (deliverMeans answer))) (now (out .exit)) r ⌝ }
 {
     match answer {
-        DeliverAnswer::Accepted => put_accepted(out),
+        DeliverAnswer::Accepted(looked) => put_delivered(out, looked),
         DeliverAnswer::Refused(number) => put_refused(out, number),
     }
 }

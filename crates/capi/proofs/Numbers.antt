@@ -39,10 +39,10 @@ module _ (o : Outcome) where
     open-refused x e = ap openShown (sym (ap (λ (a : OpenAnswer). record { reply = openMeans a; state = r .judge }) e) ∙ is)
 
   module _ (r : DeliverResult) (is : deliverOutcome r ≡ o) where
-    pub deliver-accepted : r .answer ≡ delivery.Accepted → record { accepted = 1; refused = 0; judge = r .judge } ≡ deliverShown o
-    deliver-accepted e = ap deliverShown (sym (ap (λ (a : DeliverAnswer). record { reply = deliverMeans a; state = r .judge }) e) ∙ is)
+    pub deliver-accepted : (looked : ℕ) → r .answer ≡ delivery.Accepted looked → record { accepted = 1; refused = 0; looked = looked; judge = r .judge } ≡ deliverShown o
+    deliver-accepted looked e = ap deliverShown (sym (ap (λ (a : DeliverAnswer). record { reply = deliverMeans a; state = r .judge }) e) ∙ is)
 
-    pub deliver-refused : (x : ℕ) → r .answer ≡ delivery.Refused x → record { accepted = 0; refused = x; judge = r .judge } ≡ deliverShown o
+    pub deliver-refused : (x : ℕ) → r .answer ≡ delivery.Refused x → record { accepted = 0; refused = x; looked = 0; judge = r .judge } ≡ deliverShown o
     deliver-refused x e = ap deliverShown (sym (ap (λ (a : DeliverAnswer). record { reply = deliverMeans a; state = r .judge }) e) ∙ is)
 
   module _ (r : WithdrawResult) (is : withdrawOutcome r ≡ o) where

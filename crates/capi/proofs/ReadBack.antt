@@ -10,7 +10,7 @@ use Rattle.ruleformat.specs.Reader.{ruleOf}
 use Rattle.build.specs.Building.{builtOf}
 use Rattle.board.specs.Boards.{placesOf, isEmpty, emptyBoard, filledAt, clearedAt}
 use Rattle.calls.specs.declared.Judge.{Judge}
-use Rattle.calls.specs.Replies.{Judgement, waiting, yesWith, noWith, refusedWith, Reported, accepted, loaded}
+use Rattle.calls.specs.Replies.{Judgement, waiting, yesWith, noWith, refusedWith, Reported, accepted, loaded, delivered}
 use Rattle.calls.specs.Calls.{loadNumber, openConditions, deliverConditions, withdrawConditions}
 use Rattle.calls.specs.Steps.{lacksRule, lacksBoard, withBoard, outcomeBy, runsAt, loadOf, openOf, deliverOf, withdrawOf, reportOf}
 use Rattle.histories.specs.History.{reportIn}
@@ -23,7 +23,11 @@ module _ (j next : Judge) where
   load-by none sets m = refl
   load-by (some x) sets m = refl
 
-  -- of an opening, a delivery and a withdrawal
+  deliver-by : (number : Option ℕ) (looked : ℕ) → deliverReadBack (deliverShown (outcomeBy number (delivered looked) j next)) ≡ outcomeBy number (delivered looked) j next
+  deliver-by none looked = refl
+  deliver-by (some x) looked = refl
+
+  -- of an opening and a withdrawal
   taken-by : (number : Option ℕ) → openReadBack (openShown (outcomeBy number accepted j next)) ≡ outcomeBy number accepted j next
   taken-by none = refl
   taken-by (some x) = refl
@@ -61,9 +65,10 @@ open-read-back j n = taken-by j (withBoard j (emptyBoard n)) (firstOf (openCondi
 deliver-read-back : (j : Judge) (p : ℕ) (w : List ℕ) → deliverReadBack (deliverShown (deliverOf j p w)) ≡ deliverOf j p w
 unfolding deliverOf
 deliver-read-back j p w =
-    taken-by j (withBoard j (filledAt (j .board) p (runsAt j p w)))
+    deliver-by j (withBoard j (filledAt (j .board) p (runsAt j p w)))
     (firstOf
     (deliverConditions (lacksBoard j) (placesOf (j .board)) p w (j .built .k) (not (isEmpty (j .board) p))))
+    (runsAt j p w .looked)
 
 withdraw-read-back : (j : Judge) (p : ℕ) → withdrawReadBack (withdrawShown (withdrawOf j p)) ≡ withdrawOf j p
 unfolding withdrawOf

@@ -3,7 +3,7 @@
 --
 --   flagOf a, refusedOf a        the fields `accepted` and `refused` for the reply a: 1 and 0, or 0
 --                                and the number of the refusal
---   setsField a, startsField a     the fields `sets` and `starts`
+--   setsField a, startsField a, lookedField a   the fields `sets`, `starts` and `looked`
 --   loadShown .. withdrawShown   an outcome as a result
 --   kindOf v, numberOf v         a verdict: kind 0 refused, 1 waiting, 2 yes, 3 no, each with its
 --                                number
@@ -19,7 +19,7 @@ use mathlib.Core.Option.{Option·getD}
 use Prim.Native.Nat.{ℕ}
 use lib.Dec.{eqb}
 use Rattle.base.specs.Options.{isNone}
-use Rattle.calls.specs.Replies.{Judgement, waiting, yesWith, noWith, refusedWith, Reported, Reply, accepted, loaded, judged, refused, refusalOf}
+use Rattle.calls.specs.Replies.{Judgement, waiting, yesWith, noWith, refusedWith, Reported, Reply, accepted, loaded, judged, refused, refusalOf, delivered}
 use Rattle.calls.specs.Steps.{Outcome}
 use Rattle.replay.specs.Records.{ReplayReply, verdict, malformedLine}
 use Rattle.capi.specs.declared.LoadNumbers.{LoadNumbers}
@@ -39,14 +39,23 @@ refusedOf a = Option·getD (refusalOf a) 0
 abbrev pub setsField : Reply → ℕ
 setsField (loaded sets starts) = sets
 setsField accepted = 0
+setsField (delivered looked) = 0
 setsField (judged v) = 0
 setsField (refused number) = 0
 
 abbrev pub startsField : Reply → ℕ
 startsField (loaded sets starts) = starts
 startsField accepted = 0
+startsField (delivered looked) = 0
 startsField (judged v) = 0
 startsField (refused number) = 0
+
+abbrev pub lookedField : Reply → ℕ
+lookedField (delivered looked) = looked
+lookedField accepted = 0
+lookedField (loaded sets starts) = 0
+lookedField (judged v) = 0
+lookedField (refused number) = 0
 
 abbrev pub loadShown : Outcome → LoadNumbers
 loadShown o = record {
@@ -61,7 +70,12 @@ abbrev pub openShown : Outcome → OpenNumbers
 openShown o = record { accepted = flagOf (o .reply); refused = refusedOf (o .reply); judge = o .state }
 
 abbrev pub deliverShown : Outcome → DeliverNumbers
-deliverShown o = record { accepted = flagOf (o .reply); refused = refusedOf (o .reply); judge = o .state }
+deliverShown o = record {
+  accepted = flagOf (o .reply);
+  refused = refusedOf (o .reply);
+  looked = lookedField (o .reply);
+  judge = o .state;
+}
 
 abbrev pub withdrawShown : Outcome → WithdrawNumbers
 withdrawShown o = record { accepted = flagOf (o .reply); refused = refusedOf (o .reply); judge = o .state }
@@ -110,7 +124,7 @@ abbrev pub openReadBack : OpenNumbers → Outcome
 openReadBack r = record { reply = readBackBy (r .accepted) (r .refused) accepted; state = r .judge }
 
 abbrev pub deliverReadBack : DeliverNumbers → Outcome
-deliverReadBack r = record { reply = readBackBy (r .accepted) (r .refused) accepted; state = r .judge }
+deliverReadBack r = record { reply = readBackBy (r .accepted) (r .refused) (delivered (r .looked)); state = r .judge }
 
 abbrev pub withdrawReadBack : WithdrawNumbers → Outcome
 withdrawReadBack r = record { reply = readBackBy (r .accepted) (r .refused) accepted; state = r .judge }

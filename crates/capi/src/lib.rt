@@ -32,10 +32,12 @@ pub struct OpenNumbers {
     pub judge: Judge,
 }
 
+// Looked is the number of text bytes for which any successor was looked up, 0 where refused.
 #[repr(C)]
 pub struct DeliverNumbers {
     pub accepted: u8,
     pub refused: u8,
+    pub looked: u32,
     pub judge: Judge,
 }
 
@@ -69,7 +71,7 @@ pub struct ReplayNumbers {
 }
 
 // The version of these functions, and how many bytes a judge has as C lays it out.
-const MAJOR: u32 = 2;
+const MAJOR: u32 = 3;
 
 const MINOR: u32 = 0;
 
@@ -78,7 +80,7 @@ const STATE_SIZE: usize = 27316;
 // The version that the library was built with: the major number times 65,536, and the minor one.
 #[no_mangle]
 pub extern "C" fn bellbadger_version() -> u32
-    ensures { λ r. ⌜ r ≡ 2 * 65536 + 0 ⌝ }
+    ensures { λ r. ⌜ r ≡ 3 * 65536 + 0 ⌝ }
 {
     MAJOR * 65536 + MINOR
 }
@@ -152,14 +154,16 @@ pub extern "C" fn bellbadger_deliver(judge: Judge, place: usize, chunk: &[u8]) -
     let answer = delivery.answer;
     let judge = delivery.judge;
     match answer {
-        DeliverAnswer::Accepted => DeliverNumbers {
+        DeliverAnswer::Accepted(looked) => DeliverNumbers {
             accepted: 1,
             refused: 0,
+            looked,
             judge,
         },
         DeliverAnswer::Refused(refused) => DeliverNumbers {
             accepted: 0,
             refused,
+            looked: 0,
             judge,
         },
     }

@@ -4,6 +4,7 @@ use Rattle.chunks.proofs.Texts as texts
 use Rattle.chunks.proofs.Starts as starts
 use Rattle.chunks.proofs.Counts as counts
 use Rattle.chunks.proofs.Walks as walks
+use Rattle.chunks.proofs.Looked as looked
 use Rattle.chunks.proofs.Ends as ends
 
 pub claims : Claims
@@ -14,6 +15,10 @@ claims = record {
   run-most = walks.count-most;
   ends = ends.ends;
   count = ends.count;
+  looks = ends.looks;
+  looked-most = looked.looked-most;
+  looked-all-empty = looked.looked-all-empty;
+  looked-least = looked.looked-least;
   counted-most = counts.counted-most;
   chunk-most = counts.chunk-most;
   start-law = starts.start-law;

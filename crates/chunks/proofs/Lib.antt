@@ -1,6 +1,7 @@
 -- In the order in which they build on each other.
 pub mod Texts
 pub mod Walks
+pub mod Looked
 pub mod Running
 pub mod Starts
 pub mod Counts

@@ -9,6 +9,9 @@
 --                          initial states
 --   endSet ts run w q      the end set of state q for the chunk w; empty where q is not run
 --   chunkCount ts run w    the chunk's count: the sum of what its runs count
+--   looked ts run w        for how many bytes of w a successor is looked up (document 02, R-2):
+--                          until every run's set is empty, else for all. `run` is the set of the
+--                          states that are run, so its successor is the union of the runs' sets
 use mathlib.Core.Bool.{Bool, false, cond, _||_}
 use mathlib.Core.List.{List, [], _∷_}
 use Prim.Native.Nat.{ℕ, zero, suc, _+_}
@@ -41,3 +44,7 @@ endSet ts run w q = cond (has run q) (after ts (single q) w) 0
 
 abbrev pub chunkCount : List ℕ → ℕ → List ℕ → ℕ
 chunkCount ts run w = total (λ q. cond (has run q) (counted ts (single q) w) 0) mostStates
+
+unfoldable pub looked : List ℕ → ℕ → List ℕ → ℕ
+looked ts run [] = 0
+looked ts run (s ∷ w) = cond (eqb run 0) 0 (suc (looked ts (successor ts run s) w))

@@ -5,7 +5,7 @@ use mathlib.Core.Logic.{_↔_}
 use mathlib.Core.Bool.{false}
 use mathlib.Core.List.{List}
 use Prim.Native.Nat.{ℕ, _*_, _^_, _<_, _≤_}
-use lib.ListN.{length, getD}
+use lib.ListN.{length, getD, take}
 use Rattle.limits.specs.Limits.{mostStates}
 use Rattle.base.specs.Lists.{listFrom}
 use Rattle.masks.specs.Masks.{_∈_, single}
@@ -16,8 +16,12 @@ use Rattle.subsets.specs.Claims.{fits}
 use Rattle.automaton.specs.Automaton.{Text}
 use Rattle.delegates.specs.Alike.{startCount, startSet}
 use Rattle.build.specs.Building.{builtOf}
-use Rattle.chunks.specs.Chunks.{foreign, counted, delegateSet, runSet, endSet, chunkCount}
+use Rattle.chunks.specs.Chunks.{foreign, counted, delegateSet, runSet, endSet, chunkCount, looked}
 use Rattle.chunks.specs.Walks.{walkEnd, walkCount, maskOf, runsOf, delegateMask, runMask}
+
+-- every run's set is empty after the text w
+abbrev pub AllEmpty : List ℕ → ℕ → List ℕ → Type 0
+AllEmpty ts run w = (q : ℕ) → q ∈ run → after ts (single q) w ≡ 0
 
 pub record Claims : Type 0 where
   -- no byte is foreign exactly in a text of symbols below k
@@ -36,6 +40,15 @@ pub record Claims : Type 0 where
       → runsOf (builtOf r .sets) (builtOf r .next) (builtOf r .singles) run w .ends ≡ listFrom 0 mostStates (endSet (r .targets) run w)
   pub count : (r : Rule) → WellFormed r → fits r → (run : ℕ) → run < 2 ^ r .n → (w : List ℕ) → Text (r .k) w
       → runsOf (builtOf r .sets) (builtOf r .next) (builtOf r .singles) run w .count ≡ chunkCount (r .targets) run w
+  -- what is looked up is R-2's number: the least number of bytes after which every set is empty, or
+  -- all bytes where it never comes to that
+  pub looks : (r : Rule) → WellFormed r → fits r → (run : ℕ) → run < 2 ^ r .n → (w : List ℕ) → Text (r .k) w
+      → runsOf (builtOf r .sets) (builtOf r .next) (builtOf r .singles) run w .looked ≡ looked (r .targets) run w
+  pub looked-most : (ts : List ℕ) (run : ℕ) (w : List ℕ) → looked ts run w ≤ length w
+  pub looked-all-empty : (ts : List ℕ) (run : ℕ) → run < 2 ^ mostStates → (w : List ℕ)
+      → looked ts run w < length w → AllEmpty ts run (take (looked ts run w) w)
+  pub looked-least : (ts : List ℕ) (run : ℕ) → run < 2 ^ mostStates → (w : List ℕ) (i : ℕ)
+      → i < looked ts run w → AllEmpty ts run (take i w) → ⊥
   -- a run counts at most one transition for each byte, so a chunk that is run from starts counts at
   -- most M times its bytes
   pub counted-most : (ts : List ℕ) (m : ℕ) (w : List ℕ) → counted ts m w ≤ length w

@@ -1,26 +1,29 @@
 // Runs a chunk over the next-set table of a built rule.
 ghost use mathlib.Core.Path.{_≡_};
-ghost use Prim.Native.Nat.{_≤_, min};
+ghost use Prim.Native.Nat.{_≤_, min, max};
 ghost use lib.ListN.{length};
 ghost use Rattle.limits.specs.Limits.{mostStates, longestChunk};
 ghost use Rattle.delegates.specs.Alike.{startSet};
 ghost use Rattle.chunks.specs.Chunks.{foreign};
-ghost use Rattle.chunks.specs.Walks.{walkEnd, walkCount, maskOf, runsOf, delegateMask, runMask};
+ghost use Rattle.chunks.specs.Walks.{walkEnd, walkCount, walkLooked, maskOf, runsOf, delegateMask, runMask};
 use masks::StateNumber;
 use subsets::SetNumber;
 
-// Where a run ends, and how many of its transitions led to a set that is not empty.
+// Where a run ends, how many of its transitions led to a set that is not empty, and for how many
+// bytes it looked a successor up.
 pub struct Run {
     pub end: SetNumber,
     pub count: u32,
+    pub looked: u32,
 }
 
-// The end set of each state, empty where it was not run, the sum of what the runs count, and how
-// many bytes of text the chunk has.
+// The end set of each state, empty where it was not run, the sum of what the runs count, how many
+// bytes of text the chunk has, and for how many of them any run looked a successor up.
 pub struct Runs {
     pub ends: [u32; limits::STATES],
     pub count: u32,
     pub bytes: u32,
+    pub looked: u32,
 }
 
 // Whether some byte is no symbol below k (13).
@@ -38,17 +41,20 @@ pub fn has_foreign(chunk: &[u8], k: u8) -> bool
     found
 }
 
-// Where the chunk leads from the set, and how many of its steps lead to a set that is not empty:
-// all of them, or those before the first that does not.
+// Where the chunk leads from the set, how many of its steps lead to a set that is not empty, all of
+// them or those before the first that does not, and for how many bytes the table is read: one for
+// each turn of the loop, which ends with the step into the empty set.
 pub fn walk(next: &[u16; limits::CELLS], from: SetNumber, chunk: &[u8]) -> Run
     requires { ⌜ length (now chunk) ≤ longestChunk ⌝ }
     ensures { λ r. ⌜ r .end .0 ≡ walkEnd (now (next .entry)) (from .0) (now (chunk .entry)) ⌝ }
     ensures { λ r. ⌜ r .count ≡ walkCount (now (next .entry)) (from .0) (now (chunk .entry)) ⌝ }
+    ensures { λ r. ⌜ r .looked ≡ walkLooked (now (next .entry)) (from .0) (now (chunk .entry)) ⌝ }
 {
     if chunk.len() == 0 {
         return Run {
             end: from,
             count: 0,
+            looked: 0,
         };
     }
     let mut set = from.0;
@@ -56,6 +62,7 @@ pub fn walk(next: &[u16; limits::CELLS], from: SetNumber, chunk: &[u8]) -> Run
         return Run {
             end: SetNumber(limits::EMPTY),
             count: 0,
+            looked: 0,
         };
     }
     let mut i: usize = 0;
@@ -63,18 +70,20 @@ pub fn walk(next: &[u16; limits::CELLS], from: SetNumber, chunk: &[u8]) -> Run
         let row = set as usize;
         let symbol = (chunk[i] % limits::MOST_SYMBOLS) as usize;
         let to = next[row * limits::SYMBOLS + symbol];
+        i += 1;
         if limits::EMPTY <= to {
             return Run {
                 end: SetNumber(limits::EMPTY),
-                count: i as u32,
+                count: (i - 1) as u32,
+                looked: i as u32,
             };
         }
         set = to;
-        i += 1;
     }
     Run {
         end: SetNumber(set),
         count: i as u32,
+        looked: i as u32,
     }
 }
 
@@ -135,6 +144,13 @@ fn mask_of(sets: &[u32; limits::SETS], set: SetNumber) -> u32
     if i < limits::SETS { sets[i] } else { 0 }
 }
 
+// The greater of two numbers.
+fn greater(a: u32, b: u32) -> u32
+    ensures { λ r. ⌜ r ≡ max a b ⌝ }
+{
+    if a < b { b } else { a }
+}
+
 // The chunk run from each state of the mask.
 pub fn run_chunk(
     sets: &[u32; limits::SETS],
@@ -148,15 +164,22 @@ pub fn run_chunk(
 {
     let mut ends = [0u32; limits::STATES];
     let mut count: u32 = 0;
+    let mut looked: u32 = 0;
     let mut q: usize = 0;
     while q < limits::STATES {
         if masks::member(mask, StateNumber(q as u8)) {
             let run = walk(next, SetNumber(singles[q]), chunk);
             ends[q] = mask_of(sets, run.end);
             count += run.count;
+            looked = greater(looked, run.looked);
         }
         q += 1;
     }
     let bytes = chunk.len() as u32;
-    Runs { ends, count, bytes }
+    Runs {
+        ends,
+        count,
+        bytes,
+        looked,
+    }
 }

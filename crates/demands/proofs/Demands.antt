@@ -17,6 +17,7 @@
 --      standing, verdictIn, answerOf  what 01 says of a list alone          histories/specs/History
 --      Accepted-exactly, Refused-..   which calls, with which number        histories/specs/Conditions
 --      CountBound                     the sum's bound; the former 24        histories/specs/CountBound
+--      LookedUp, AllEmpty             for how many bytes a set is looked up histories/, chunks/specs/Claims
 --      runSet, endSet, chunkCount     running a chunk                       chunks/specs/Chunks
 --      held, isEmpty, summedCount ..  what a board holds                    board/specs/Boards
 --      joinOf, yesOf                  joining                               joins/specs/Joining
@@ -50,16 +51,16 @@ use Rattle.delegates.specs.Claims.{startsIn}
 use Rattle.build.specs.Building.{builtOf}
 use Rattle.board.specs.Boards.{held, isEmpty, summedCount, summedBytes}
 use Rattle.calls.specs.declared.Judge.{Judge}
-use Rattle.calls.specs.Replies.{waiting, yesWith, noWith, refusedWith, Reply, refusalOf}
-use Rattle.calls.specs.Calls.{Call, loadNumber}
+use Rattle.calls.specs.Replies.{waiting, yesWith, noWith, refusedWith, Reply, refusalOf, delivered}
+use Rattle.calls.specs.Calls.{Call, loadNumber, delivers}
 use Rattle.calls.specs.Steps.{fresh, isYes, reportOf, stepOf}
 use Rattle.calls.specs.Claims.{Divided, ThreeZeros}
 use Rattle.calls.proofs.Conditions.{not-refused}
 use Rattle.calls.proofs.Refusing as refusing
-use Rattle.histories.specs.History.{fileOf, ruleIn, boardIn, standing, chunkOf, endAt, countAt, lengthAt, emptiesIn, summedIn, bytesIn, yesIn, textIn, verdictIn, reportIn, answersTo}
+use Rattle.histories.specs.History.{fileOf, ruleIn, boardIn, standing, chunkOf, endAt, countAt, lengthAt, emptiesIn, summedIn, bytesIn, yesIn, textIn, verdictIn, reportIn, answersTo, answerOf}
 use Rattle.histories.specs.Method.{Method}
 use Rattle.histories.specs.Conditions.{Accepted-exactly, Refused-exactly}
-use Rattle.histories.specs.Claims.{judgeMachine, judgeAfter, repliesTo, BuiltBy, EveryList, automatonBy}
+use Rattle.histories.specs.Claims.{judgeMachine, judgeAfter, repliesTo, BuiltBy, LookedUp, EveryList, automatonBy}
 use Rattle.histories.specs.CountBound.{CountBound}
 use Rattle.histories.specs.Functions.{judgeLibrary}
 use Rattle.histories.specs.TableP.{TableP}
@@ -149,6 +150,11 @@ refused-exactly h = every-list h .refused-exactly
 -- delivery has the other five conditions (document 02, R-4).
 pub count-bound : (h : List Call) → CountBound h
 count-bound = histories-bound.count-bound
+
+-- An accepted delivery is answered for how many bytes of its text any successor is looked up: the
+-- least number of text bytes after which every run's set is empty, else all (document 02, R-2).
+pub looked-up : (h : List Call) (p : ℕ) (w : List ℕ) (n : ℕ) → answerOf h (delivers p w) ≡ delivered n → LookedUp h p w n
+looked-up h = every-list h .looked-up
 
 -- The verdict: refused with 21 unless the last accepted load or opening is an opening;
 pub refused-21 : (h : List Call) → (verdictIn h ≡ refusedWith 21) ↔ (boardIn h ≡ false)

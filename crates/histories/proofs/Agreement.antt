@@ -20,10 +20,10 @@ use Rattle.board.specs.declared.Board.{Board}
 use Rattle.board.specs.Boards.{held, isEmpty, emptyBoard, filledAt, clearedAt}
 use Rattle.board.proofs.Laws.{Sized, sized-empty, empty-all, empty-held, empty-count, empty-length, Changed, filled-at, cleared-at}
 use Rattle.calls.specs.declared.Judge.{Judge}
-use Rattle.histories.specs.History.{ruleFrom, countOf, endOf, chunkOf}
+use Rattle.histories.specs.History.{ruleFrom, countOf, endOf, chunkOf, lookedOf}
 use Rattle.calls.specs.Steps.{fresh, withBoard, runsAt}
 use Rattle.histories.specs.Claims.{BuiltBy}
-use Rattle.histories.proofs.Running.{count-same, end-same}
+use Rattle.histories.proofs.Running.{count-same, looked-same, end-same}
 
 pub record Agrees (file : Option (List ℕ)) (places : ℕ) (at : ℕ → Option (List ℕ)) (j : Judge) : Type 0 where
   pub rule : BuiltBy file j
@@ -130,6 +130,9 @@ module _ (file : Option (List ℕ)) (places : ℕ) (at : ℕ → Option (List �
 module _ (f : List ℕ) (places : ℕ) (at : ℕ → Option (List ℕ)) (j : Judge) (holds : Agrees (some f) places at j) (p : ℕ) (h : p < places) (w : List ℕ) (text : Text (ruleOf f .k) w) where
   pub run-count : runsAt j p w .count ≡ countOf (ruleOf f) p (some w)
   run-count = rw (holds .rule .0) (count-same (ruleOf f) (holds .rule .1) (holds .rule .2) p w text)
+
+  pub run-looked : runsAt j p w .looked ≡ lookedOf (ruleOf f) p w
+  run-looked = rw (holds .rule .0) (looked-same (ruleOf f) (holds .rule .1) (holds .rule .2) p w text)
 
   run-end : (q : ℕ) → q < 32 → getD (runsAt j p w .ends) q 0 ≡ endOf (ruleOf f) p q (some w)
   run-end q l = rw (holds .rule .0) (end-same (ruleOf f) (holds .rule .1) (holds .rule .2) p w text q l)

@@ -24,10 +24,10 @@ use Rattle.ruleformat.specs.Language.{automatonIn}
 use Rattle.subsets.specs.Sets.{setsOf}
 use Rattle.delegates.specs.Claims.{startsIn}
 use Rattle.chunks.specs.Chunks.{foreign}
-use Rattle.calls.specs.Replies.{Reply, accepted, loaded, refused}
+use Rattle.calls.specs.Replies.{Reply, accepted, loaded, delivered, refused}
 use Rattle.calls.specs.Calls.{Call, opens, delivers, withdraws, loadNumber, openConditions}
 use Rattle.calls.proofs.Conditions.{orElse, over, load-number, not-refused}
-use Rattle.histories.specs.History.{fileOf, ruleIn, placesIn, standing, replyBy, answerOf}
+use Rattle.histories.specs.History.{fileOf, ruleIn, placesIn, lookedOf, standing, replyBy, answerOf}
 use Rattle.histories.specs.Method.{TooMany}
 use Rattle.histories.specs.Conditions.{Accepted-exactly, Refused-exactly}
 use Rattle.histories.proofs.Method.{nine-law}
@@ -62,6 +62,11 @@ none-hold cs = (
   (λ e. none-law cs .0 (reply-law (firstOf cs) .0 e)),
   λ x. reply-law (firstOf cs) .1 (none-law cs .1 x),
 )
+
+-- and what is answered then
+delivered-law : (o : Option ℕ) (m n : ℕ) → (replyBy o (delivered m) ≡ delivered n) ↔ ((o ≡ none) × (n ≡ m))
+delivered-law none m n = ((λ e. (refl, cc)), λ e. ap delivered (sym (e .1)))
+delivered-law (some x) m n = ((λ e. zero-one cc), λ e. let y = e .0 in zero-one cc)
 
 -- ---- one condition
 some-places : (n : ℕ) → eqb n 0 ≡ false → 0 < n
@@ -190,32 +195,37 @@ accepted-exactly h = record {
         (λ e. let x = law .0 e in let b = outside-law 1 64 n .0 (x .1 .0) in (is-some (fileOf h) .0 (x .0), b .0, b .1)),
         λ x. law .1 (is-some (fileOf h) .1 (x .0), (outside-law 1 64 n .1 (x .1, x .2), tt)),
       );
-  delivery = λ p w.
-      let law =
-      none-hold (
+  delivery = λ p w n.
+      let conditions =
       on 21 (eqb (placesIn h) 0) ∷
       on 11 (leb (placesIn h) p) ∷
       on 12 (ltb 65536 (length w)) ∷
       on 13 (foreign w (ruleIn h .k)) ∷
-      on 22 (isSome (standing h p)) ∷ []) in (
+      on 22 (isSome (standing h p)) ∷ [] in
+      let law = delivered-law (firstOf conditions) (lookedOf (ruleIn h) p w) n in (
         (λ e.
-            let x = law .0 e in (
+            let y = law .0 e in
+            let x = none-law conditions .0 (y .0) in (
               some-places (placesIn h) (x .0),
               leb-false (placesIn h) p (x .1 .0),
               ltb-false 65536 (length w) (x .1 .1 .0),
               x .1 .1 .1 .0,
               not-some (standing h p) .0 (x .1 .1 .1 .1 .0),
+              y .1,
             )),
         λ x.
             law .1 (
-              places-some (placesIn h) (x .0),
-              (
-                lt-leb (placesIn h) p (x .1),
+              none-law conditions .1 (
+                places-some (placesIn h) (x .0),
                 (
-                  le-ltb 65536 (length w) (x .2),
-                  (x .3, (not-some (standing h p) .1 (x .4), tt)),
+                  lt-leb (placesIn h) p (x .1),
+                  (
+                    le-ltb 65536 (length w) (x .2),
+                    (x .3, (not-some (standing h p) .1 (x .4), tt)),
+                  ),
                 ),
               ),
+              x .5,
             ),
       );
   withdrawal = λ p.
@@ -263,7 +273,8 @@ module _ (h : List Call) (p : ℕ) (w : List ℕ) where
   from-12 = on 12 (ltb 65536 (length w)) ∷ from-13
 
   delivery-law : (x : ℕ) → (answerOf h (delivers p w) ≡ refused x) ↔ (firstOf (board-first (placesIn h) p from-12) ≡ some x)
-  delivery-law x = refused-law (firstOf (board-first (placesIn h) p from-12)) accepted x (not-accepted x)
+  delivery-law x =
+      refused-law (firstOf (board-first (placesIn h) p from-12)) (delivered (lookedOf (ruleIn h) p w)) x (λ e. zero-one cc)
 
   -- past 21, 11 and 12
   past-12 : (x : ℕ) → eqb 21 x ≡ false → eqb 11 x ≡ false → eqb 12 x ≡ false

@@ -17,7 +17,7 @@ use Rattle.base.specs.Conditions.{Condition, on, firstOf}
 use Rattle.base.specs.Options.{isNone, isSome}
 use Rattle.base.proofs.Conditions.{none-law, outside-law}
 use Rattle.base.proofs.Options.{is-none}
-use Rattle.base.proofs.Tests.{by-test, not-both, zero-one}
+use Rattle.base.proofs.Tests.{by-test, zero-one}
 use Rattle.base.proofs.Totals.{total-most, total-but-one}
 use Rattle.masks.specs.Masks.{single, has}
 use Rattle.executions.specs.Executions.{stateAfter, repliesTo as machineReplies}
@@ -26,15 +26,16 @@ use Rattle.chunks.specs.Chunks.{foreign, counted, chunkCount}
 use Rattle.chunks.proofs.Claims as chunks
 use Rattle.board.specs.Boards.{placesOf, isEmpty, filledAt, summedCount}
 use Rattle.calls.specs.declared.Judge.{Judge}
-use Rattle.calls.specs.Replies.{accepted}
+use Rattle.calls.specs.Replies.{delivered}
 use Rattle.calls.specs.Calls.{Call, loads, opens, delivers, withdraws, asksVerdict, loadNumber, openConditions, deliverConditions}
 use Rattle.calls.specs.Steps.{lacksBoard, withBoard, outcomeBy, runsAt, deliverOf, stepOf}
 use Rattle.calls.proofs.Conditions.{orElse, first-append}
-use Rattle.histories.specs.History.{fileOf, ruleFrom, ruleIn, openNumber, placesIn, runAt, countOf, withdrawCheck, standing, deliverNumber, summedIn, replyBy}
+use Rattle.histories.specs.History.{fileOf, ruleFrom, ruleIn, openNumber, placesIn, runAt, countOf, lookedOf, withdrawCheck, standing, deliverNumber, summedIn, replyBy}
 use Rattle.histories.specs.Claims.{judgeAfter, repliesTo}
 use Rattle.histories.specs.CountBound.{formerNumber, formerOn, sumWith, formerStep, formerMachine, CountBound}
-use Rattle.histories.proofs.Agreement.{Agrees, run-count}
+use Rattle.histories.proofs.Agreement.{run-count}
 use Rattle.histories.proofs.Numbers.{deliver-number, summed-same}
+use Rattle.histories.proofs.Steps.{by-run}
 use Rattle.histories.proofs.Conditions.{accepted-exactly}
 use Rattle.histories.proofs.EveryList.{good}
 
@@ -50,7 +51,9 @@ chunk-most ts run w =
 -- ---- a delivery that can be accepted
 module _ (h : List Call) (p : ℕ) (w : List ℕ) (e : deliverNumber h p w ≡ none) where
   passes : (0 < placesIn h) × (p < placesIn h) × (length w ≤ 65536) × (foreign w (ruleIn h .k) ≡ false) × (standing h p ≡ none)
-  passes = accepted-exactly h .delivery p w .0 (ap (λ (o : Option ℕ). replyBy o accepted) e)
+      × (lookedOf (ruleIn h) p w ≡ lookedOf (ruleIn h) p w)
+  passes =
+      accepted-exactly h .delivery p w (lookedOf (ruleIn h) p w) .0 (ap (λ (o : Option ℕ). replyBy o (delivered (lookedOf (ruleIn h) p w))) e)
 
 -- ---- a standing chunk has at most 65,536 bytes
 kept : (t : Bool) (o : Option (List ℕ)) (w : List ℕ) → cond t none o ≡ some w → o ≡ some w
@@ -117,12 +120,6 @@ module _ (h : List Call) where
         )
 
 -- ---- of the state
--- a board is there only with a rule, so the chunk is run by it
-ran : (file : Option (List ℕ)) (places : ℕ) (at : ℕ → Option (List ℕ)) (j : Judge) → Agrees file places at j
-    → (p : ℕ) → p < places → (w : List ℕ) → foreign w (ruleFrom file .k) ≡ false → runsAt j p w .count ≡ countOf (ruleFrom file) p (some w)
-ran none places at j holds p l w fine = not-both refl (holds .ruled (omega arith))
-ran (some f) places at j holds p l w fine = run-count f places at j holds p l w (chunks.claims .text-law w (ruleFrom (some f) .k) .0 fine)
-
 module _ (h : List Call) where
   held-sum : summedCount (judgeAfter h .board) ≡ summedIn h
   held-sum = summed-same (fileOf h) (placesIn h) (standing h) (judgeAfter h) (good h)
@@ -132,11 +129,15 @@ module _ (h : List Call) where
 
   held-most-with : (p : ℕ) (w : List ℕ) → deliverNumber h p w ≡ none → sumWith (judgeAfter h) p w ≤ 134217728
   held-most-with p w e =
-      let x = passes h p w e in
+      let j = judgeAfter h in
       omega (
         arith,
         held-sum,
-        ran (fileOf h) (placesIn h) (standing h) (judgeAfter h) (good h) p (x .1) w (x .3),
+        by-run h j p w (λ file. runsAt j p w .count ≡ countOf (ruleFrom file) p (some w))
+            (λ f holds l text. run-count f (placesIn h) (standing h) j holds p l w text)
+            (fileOf h)
+            (good h)
+            e,
         most-with h p w e,
       )
 
@@ -170,7 +171,7 @@ module _ (h : List Call) (p : ℕ) (w : List ℕ) where
   unfolding deliverOf
   same-delivery =
       let j = judgeAfter h in
-      ap (λ (o : Option ℕ). outcomeBy o accepted j (withBoard j (filledAt (j .board) p (runsAt j p w))))
+      ap (λ (o : Option ℕ). outcomeBy o (delivered (runsAt j p w .looked)) j (withBoard j (filledAt (j .board) p (runsAt j p w))))
       (same-held ∙ sym (deliver-number (fileOf h) (placesIn h) (standing h) j (good h) p w))
 
 -- ---- the judge with the six conditions

@@ -1,16 +1,24 @@
 -- EVERY LIST OF CALLS, over the definitions alone: of the replies to the calls h and of the judge
 -- that they leave, all that demand 3 says holds. Assumes nothing.
-use mathlib.Core.Path.{_≡_, refl, ap, ap₂}
+use mathlib.Core.Path.{_≡_, refl, ap, ap₂, sym}
 use mathlib.Core.List.{List, [], _∷_}
-use Prim.Native.Nat.{ℕ}
+use mathlib.Core.Option.{Option, none, some}
+use Prim.Native.Nat.{ℕ, _^_, _<_}
+use native.Mathlib.Nat.{lt-of-lt-of-le}
+use lib.Pow.{pow-mono}
 use Rattle.executions.specs.Executions.{stateAfter, repliesTo as machineReplies}
+use Rattle.base.proofs.Tests.{not-both}
+use Rattle.ruleformat.specs.Reader.{ruleOf}
+use Rattle.chunks.proofs.Claims as chunks
 use Rattle.calls.specs.declared.Judge.{Judge}
-use Rattle.calls.specs.Replies.{judged}
+use Rattle.calls.specs.Replies.{delivered, judged}
 use Rattle.calls.specs.Calls.{Call, loads, opens, delivers, withdraws, asksVerdict}
-use Rattle.calls.specs.Steps.{reportOf, stepOf}
-use Rattle.histories.specs.History.{fileOf, placesIn, standing, reportIn, answerOf, answersTo}
-use Rattle.histories.specs.Claims.{judgeAfter, repliesTo, EveryList}
+use Rattle.calls.specs.Steps.{reportOf, stepOf, verdictOf}
+use Rattle.histories.specs.History.{fileOf, placesIn, standing, reportIn, answerOf, answersTo, ruleFrom, ruleIn, runAt, lookedOf, verdictIn}
+use Rattle.histories.specs.Claims.{judgeAfter, repliesTo, EveryList, LookedUp}
 use Rattle.histories.proofs.Method.{method}
+use Rattle.histories.proofs.Running.{run-below}
+use Rattle.histories.proofs.Agreement.{Agrees}
 use Rattle.histories.proofs.Conditions.{accepted-exactly, refused-exactly}
 use Rattle.histories.proofs.Numbers.{summed-same, bytes-same}
 use Rattle.histories.proofs.Steps.{AgreesWith, good-fresh, load-good, load-says, open-good, open-says, withdraw-good, withdraw-says, ask-good, deliver-good, deliver-says}
@@ -45,6 +53,27 @@ unfolding machineReplies answersTo
 correct [] = refl
 correct (c ∷ h) = ap₂ _∷_ (step-right h (judgeAfter h) (good h) c) (correct h)
 
+-- ---- what an accepted delivery is answered
+-- the states that are run are below 32, since a board is there only with a rule
+few-run : (file : Option (List ℕ)) (places : ℕ) (at : ℕ → Option (List ℕ)) (j : Judge) → Agrees file places at j → 0 < places
+    → (p : ℕ) → runAt (ruleFrom file) p < 2 ^ 32
+few-run none places at j holds l p = not-both refl (holds .ruled l)
+few-run (some f) places at j holds l p =
+    let good = holds .rule .1 in lt-of-lt-of-le (run-below (ruleOf f) good (holds .rule .2) p) (pow-mono (good .states .1))
+
+looked-up : (h : List Call) (p : ℕ) (w : List ℕ) (n : ℕ) → answerOf h (delivers p w) ≡ delivered n → LookedUp h p w n
+looked-up h p w n e =
+    let x = accepted-exactly h .delivery p w n .0 e in
+    let few = few-run (fileOf h) (placesIn h) (standing h) (judgeAfter h) (good h) (x .0) p in
+    let ts = ruleIn h .targets in
+    let run = runAt (ruleIn h) p in
+    rw (x .5)
+    (record {
+      most = chunks.claims .looked-most ts run w;
+      all-empty = chunks.claims .looked-all-empty ts run few w;
+      least = chunks.claims .looked-least ts run few w;
+    })
+
 pub every-list : (h : List Call) → EveryList h
 every-list h =
     let g = good h in
@@ -53,6 +82,7 @@ every-list h =
       method = method;
       accepted-exactly = accepted-exactly h;
       refused-exactly = refused-exactly h;
+      looked-up = looked-up h;
       after = record {
         rule = g .rule;
         places = g .places-are;

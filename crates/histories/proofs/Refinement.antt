@@ -29,9 +29,9 @@ use Rattle.calls.specs.declared.WithdrawAnswer.the-variants as withdrawal
 use Rattle.calls.specs.declared.Report.{Report}
 use Rattle.calls.specs.declared.Verdict.{Verdict}
 use Rattle.calls.specs.declared.Verdict.the-variants as verdict
-use Rattle.calls.specs.Replies.{Judgement, waiting, yesWith, noWith, refusedWith, Reported, Reply, accepted, loaded, judged, verdictMeans, reportMeans}
-use Rattle.calls.specs.Calls.{Call, loads, opens, delivers, withdraws, asksVerdict, loadNumber, openConditions, deliverConditions, withdrawConditions}
-use Rattle.calls.specs.Steps.{Outcome, lacksRule, lacksBoard, withBoard, loadOutcome, openOutcome, deliverOutcome, withdrawOutcome, outcomeBy, runsAt, loadOf, openOf, deliverOf, withdrawOf, reportOf, stepOf}
+use Rattle.calls.specs.Replies.{Judgement, waiting, yesWith, noWith, refusedWith, Reported, Reply, accepted, loaded, judged, verdictMeans, reportMeans, delivered}
+use Rattle.calls.specs.Calls.{Call, loads, opens, delivers, withdraws, asksVerdict, loadNumber, openConditions, deliverConditions, withdrawConditions, verdictBy}
+use Rattle.calls.specs.Steps.{Outcome, lacksRule, lacksBoard, withBoard, loadOutcome, openOutcome, deliverOutcome, withdrawOutcome, outcomeBy, runsAt, loadOf, openOf, deliverOf, withdrawOf, reportOf, stepOf, isYes, verdictOf}
 use Rattle.judge.proofs.Asks.{new-judge-asks-nothing, load-asks-nothing, open-asks-nothing, deliver-asks-nothing, withdraw-asks-nothing, verdict-asks-nothing}
 use Rattle.histories.specs.Claims.{judgeMachine, judgeAfter, repliesTo}
 use Rattle.histories.specs.Functions.{AsksStep, MayStep, judgeLibrary}
@@ -46,9 +46,9 @@ module _ (j next : Judge) where
   an-opening none = (record { answer = opening.Accepted; judge = next }, refl)
   an-opening (some x) = (record { answer = opening.Refused x; judge = j }, refl)
 
-  a-delivery : (number : Option ℕ) → (r : DeliverResult) × (deliverOutcome r ≡ outcomeBy number accepted j next)
-  a-delivery none = (record { answer = delivery.Accepted; judge = next }, refl)
-  a-delivery (some x) = (record { answer = delivery.Refused x; judge = j }, refl)
+  a-delivery : (number : Option ℕ) (looked : ℕ) → (r : DeliverResult) × (deliverOutcome r ≡ outcomeBy number (delivered looked) j next)
+  a-delivery none looked = (record { answer = delivery.Accepted looked; judge = next }, refl)
+  a-delivery (some x) looked = (record { answer = delivery.Refused x; judge = j }, refl)
 
   a-withdrawal : (number : Option ℕ) → (r : WithdrawResult) × (withdrawOutcome r ≡ outcomeBy number accepted j next)
   a-withdrawal none = (record { answer = withdrawal.Accepted; judge = next }, refl)
@@ -84,6 +84,7 @@ module _ (j : Judge) where
       a-delivery j (withBoard j (filledAt (j .board) p (runsAt j p w)))
       (firstOf
       (deliverConditions (lacksBoard j) (placesOf (j .board)) p w (j .built .k) (not (isEmpty (j .board) p))))
+      (runsAt j p w .looked)
 
   withdrawal-of : (p : ℕ) → (r : WithdrawResult) × (withdrawOutcome r ≡ withdrawOf j p)
   unfolding withdrawOf

@@ -1,5 +1,5 @@
 -- What running a chunk gives, for a rule that is built: the end sets and the count that document 01
--- gives to it at its place. Assumes nothing.
+-- gives to it at its place, and the number of bytes of R-2. Assumes nothing.
 use mathlib.Core.Path.{_≡_, sym, ap, _∙_, subst}
 use mathlib.Core.List.{List}
 use Prim.Native.Nat.{ℕ, zero, suc, _^_, _<_}
@@ -15,7 +15,7 @@ use Rattle.delegates.specs.Alike.{Merged}
 use Rattle.delegates.specs.Claims.{startsIn}
 use Rattle.build.specs.Building.{builtOf}
 use Rattle.build.proofs.Claims as build
-use Rattle.chunks.specs.Chunks.{endSet, chunkCount}
+use Rattle.chunks.specs.Chunks.{endSet, chunkCount, looked}
 use Rattle.chunks.specs.Walks.{runMask, runsOf}
 use Rattle.chunks.proofs.Claims as chunks
 use Rattle.histories.specs.History.{runAt}
@@ -33,7 +33,7 @@ module _ (r : Rule) (good : WellFormed r) (fit : fits r) where
   delegate-below : (q : ℕ) → q < r .n → getD (startsIn r .delegates) q 0 < r .n
   delegate-below q h = merged .delegates q h .state
 
-  run-below : (p : ℕ) → runAt r p < 2 ^ r .n
+  pub run-below : (p : ℕ) → runAt r p < 2 ^ r .n
   run-below zero =
       below-of (r .n) (runAt r 0)
       (λ q e.
@@ -56,6 +56,12 @@ module _ (r : Rule) (good : WellFormed r) (fit : fits r) where
     count-same =
         ap (λ (m : ℕ). runsOf (builtOf r .sets) (builtOf r .next) (builtOf r .singles) m w .count) (run-same p)
         ∙ chunks.claims .count r good fit (runAt r p) (run-below p) w text
+
+    pub looked-same : runsOf (builtOf r .sets) (builtOf r .next) (builtOf r .singles) (runMask (startsIn r .delegates) (builtOf r .n) (r .initials) p) w .looked
+        ≡ looked (r .targets) (runAt r p) w
+    looked-same =
+        ap (λ (m : ℕ). runsOf (builtOf r .sets) (builtOf r .next) (builtOf r .singles) m w .looked) (run-same p)
+        ∙ chunks.claims .looks r good fit (runAt r p) (run-below p) w text
 
     pub end-same : (q : ℕ) → q < 32
         → getD (runsOf (builtOf r .sets) (builtOf r .next) (builtOf r .singles) (runMask (startsIn r .delegates) (builtOf r .n) (r .initials) p) w .ends) q 0

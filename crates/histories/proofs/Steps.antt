@@ -4,7 +4,7 @@ use mathlib.Core.Path.{_≡_, refl, sym, ap, _∙_, subst, subst₃, fun-ext}
 use mathlib.Core.Bool.{Bool, cond, _&&_, and-true, and-false}
 use mathlib.Core.List.{List, [], _∷_}
 use mathlib.Core.Option.{Option, none, some}
-use Prim.Native.Nat.{ℕ}
+use Prim.Native.Nat.{ℕ, _<_}
 use native.Mathlib.Omega.{arith}
 use lib.Dec.{eqb, ltb, leb}
 use lib.ListN.{length}
@@ -15,6 +15,7 @@ use Rattle.base.proofs.Conditions.{passed, none-law}
 use Rattle.base.proofs.Tests.{by-test, or-right, zero-one, not-both}
 use Rattle.ruleformat.specs.Reader.{ruleOf}
 use Rattle.ruleformat.proofs.Claims as rulefile
+use Rattle.automaton.specs.Automaton.{Text}
 use Rattle.automaton.specs.Rules.{WellFormed}
 use Rattle.subsets.specs.Sets.{setsOf}
 use Rattle.subsets.specs.Claims.{fits}
@@ -23,13 +24,13 @@ use Rattle.build.specs.Building.{builtOf}
 use Rattle.chunks.proofs.Claims as chunks
 use Rattle.board.specs.Boards.{emptyBoard, clearedAt, filledAt}
 use Rattle.calls.specs.declared.Judge.{Judge}
-use Rattle.calls.specs.Replies.{Reply, accepted, loaded}
+use Rattle.calls.specs.Replies.{Reply, accepted, loaded, delivered}
 use Rattle.calls.proofs.Conditions.{not-refused}
-use Rattle.histories.specs.History.{fileOf, ruleFrom, openNumber, placesIn, deliverCheck, standing, deliverNumber, withdrawNumber, replyBy}
+use Rattle.histories.specs.History.{fileOf, ruleFrom, ruleIn, openNumber, placesIn, lookedOf, deliverCheck, standing, deliverNumber, withdrawNumber, replyBy}
 use Rattle.calls.specs.Calls.{Call, loads, opens, delivers, withdraws, asksVerdict, loadNumber, deliverConditions}
 use Rattle.calls.specs.Steps.{fresh, withBoard, outcomeBy, runsAt, loadOf, openOf, deliverOf, withdrawOf}
 use Rattle.histories.specs.Claims.{BuiltBy}
-use Rattle.histories.proofs.Agreement.{Agrees, all-empty, fresh-holds, placed, cleared-holds, filled-holds}
+use Rattle.histories.proofs.Agreement.{Agrees, all-empty, fresh-holds, placed, cleared-holds, run-looked, filled-holds}
 use Rattle.histories.proofs.Numbers.{open-number, withdraw-number, deliver-number}
 
 abbrev pub AgreesWith : List Call → Judge → Type 0
@@ -155,37 +156,56 @@ module _ (h : List Call) (j : Judge) (good : AgreesWith h j) where
   ask-good = good
 
 -- ---- deliver
-module _ (h : List Call) (j : Judge) (good : AgreesWith h j) (p : ℕ) (w : List ℕ) where
-  abbrev kept : Judge
-  kept = withBoard j (filledAt (j .board) p (runsAt j p w))
-
-  deliver-is : deliverOf j p w ≡ outcomeBy (deliverNumber h p w) accepted j kept
-  unfolding deliverOf
-  deliver-is =
-      ap (λ x. outcomeBy x accepted j kept) (deliver-number (fileOf h) (placesIn h) (standing h) j good p w)
-
-  -- a delivery that meets no condition is run and kept
-  kept-chunk : (file : Option (List ℕ)) → Agrees file (placesIn h) (standing h) j
-      → deliverCheck (ruleFrom file .k) (placesIn h) (standing h p) p w ≡ none
-      → Agrees file (placesIn h) (placed (standing h) p (some w)) kept
-  kept-chunk none holds e =
+-- a delivery that meets no condition is of symbols of a rule, since a board is there only with one
+module _ (h : List Call) (j : Judge) (p : ℕ) (w : List ℕ) (P : Option (List ℕ) → Type 0) where
+  pub by-run : ((f : List ℕ) → Agrees (some f) (placesIn h) (standing h) j → p < placesIn h → Text (ruleOf f .k) w → P (some f))
+      → (file : Option (List ℕ)) → Agrees file (placesIn h) (standing h) j
+      → deliverCheck (ruleFrom file .k) (placesIn h) (standing h p) p w ≡ none → P file
+  by-run ran none holds e =
       by-test (ltb 0 (placesIn h))
       (λ l. not-both refl (holds .ruled (ltb-true 0 (placesIn h) l)))
       (λ l.
       let z : placesIn h ≡ 0 = omega (arith, ltb-false 0 (placesIn h) l) in
       let y : some 21 ≡ none = rw (eq-eqb (placesIn h) 0 z) at e in
       zero-one cc)
-  kept-chunk (some f) holds e =
+  by-run ran (some f) holds e =
       let passes = none-law (deliverConditions (eqb (placesIn h) 0) (placesIn h) p w (ruleOf f .k) (isSome (standing h p))) .0 e in
-      filled-holds f (placesIn h) (standing h) j holds p (leb-false (placesIn h) p (passes .1 .0)) w
-      (chunks.claims .text-law w (ruleOf f .k) .0 (passes .1 .1 .1 .0))
+      ran f holds (leb-false (placesIn h) p (passes .1 .0)) (chunks.claims .text-law w (ruleOf f .k) .0 (passes .1 .1 .1 .0))
 
-  delivered-good : (o : Option ℕ) → deliverNumber h p w ≡ o → AgreesWith (delivers p w ∷ h) (outcomeBy o accepted j kept .state)
+module _ (h : List Call) (j : Judge) (good : AgreesWith h j) (p : ℕ) (w : List ℕ) where
+  abbrev kept : Judge
+  kept = withBoard j (filledAt (j .board) p (runsAt j p w))
+
+  abbrev answered : Reply
+  answered = delivered (runsAt j p w .looked)
+
+  deliver-is : deliverOf j p w ≡ outcomeBy (deliverNumber h p w) answered j kept
+  unfolding deliverOf
+  deliver-is =
+      ap (λ x. outcomeBy x answered j kept) (deliver-number (fileOf h) (placesIn h) (standing h) j good p w)
+
+  -- it is kept
+  kept-chunk : deliverNumber h p w ≡ none → Agrees (fileOf h) (placesIn h) (placed (standing h) p (some w)) kept
+  kept-chunk =
+      by-run h j p w (λ file. Agrees file (placesIn h) (placed (standing h) p (some w)) kept)
+      (λ f holds l text. filled-holds f (placesIn h) (standing h) j holds p l w text)
+      (fileOf h)
+      good
+
+  -- and run, with a successor looked up for as many bytes as R-2 says
+  ran-looked : deliverNumber h p w ≡ none → runsAt j p w .looked ≡ lookedOf (ruleIn h) p w
+  ran-looked =
+      by-run h j p w (λ file. runsAt j p w .looked ≡ lookedOf (ruleFrom file) p w)
+      (λ f holds l text. run-looked f (placesIn h) (standing h) j holds p l w text)
+      (fileOf h)
+      good
+
+  delivered-good : (o : Option ℕ) → deliverNumber h p w ≡ o → AgreesWith (delivers p w ∷ h) (outcomeBy o answered j kept .state)
   unfolding fileOf placesIn standing placed
   delivered-good none e =
       transfer kept refl refl
       (λ i. sym (ap (λ (t : Bool). cond t (some w) (standing h i)) (ap (λ (u : Bool). eqb p i && u) (ap isNone e) ∙ and-true (eqb p i))))
-      (kept-chunk (fileOf h) good e)
+      (kept-chunk e)
   delivered-good (some x) e =
       transfer j refl refl
       (λ i. sym (ap (λ (t : Bool). cond t (some w) (standing h i)) (ap (λ (u : Bool). eqb p i && u) (ap isNone e) ∙ and-false (eqb p i))))
@@ -194,5 +214,10 @@ module _ (h : List Call) (j : Judge) (good : AgreesWith h j) (p : ℕ) (w : List
   pub deliver-good : AgreesWith (delivers p w ∷ h) (deliverOf j p w .state)
   deliver-good = subst (λ o. AgreesWith (delivers p w ∷ h) (o .state)) (sym deliver-is) (delivered-good (deliverNumber h p w) refl)
 
-  pub deliver-says : deliverOf j p w .reply ≡ replyBy (deliverNumber h p w) accepted
-  deliver-says = ap (λ o. o .reply) deliver-is ∙ by-says (deliverNumber h p w) accepted j kept
+  pub deliver-says : deliverOf j p w .reply ≡ replyBy (deliverNumber h p w) (delivered (lookedOf (ruleIn h) p w))
+  deliver-says =
+      ap (λ o. o .reply) deliver-is ∙ by-says (deliverNumber h p w) answered j kept ∙ by-number (deliverNumber h p w) ran-looked
+    where
+      by-number : {m n : ℕ} (o : Option ℕ) → (o ≡ none → m ≡ n) → replyBy o (delivered m) ≡ replyBy o (delivered n)
+      by-number none same = ap delivered (same refl)
+      by-number (some x) same = refl

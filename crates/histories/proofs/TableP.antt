@@ -4,11 +4,11 @@
 -- compute once the delegates of rules A and B are put in.
 use mathlib.Core.Path.{_≡_, refl, sym, ap, ap₂, _∙_, subst, subst₃, fun-ext}
 use mathlib.Core.Bool.{Bool, false, cond, _&&_, and-true}
-use mathlib.Core.List.{List, [], _∷_, _++_}
+use mathlib.Core.List.{List, [], _∷_}
 use mathlib.Core.Option.{Option, none, some}
-use Prim.Native.Nat.{ℕ, zero, suc}
+use Prim.Native.Nat.{ℕ, suc}
 use lib.Dec.{eqb}
-use lib.ListN.{length, replicate}
+use lib.ListN.{length}
 use Rattle.base.specs.Conditions.{anyBelow, outside}
 use Rattle.base.specs.Lists.{listFrom}
 use Rattle.base.specs.Options.{isNone}
@@ -23,14 +23,14 @@ use Rattle.delegates.specs.declared.Starts.{Starts}
 use Rattle.delegates.specs.Claims.{startsIn}
 use Rattle.build.specs.Building.{builtOf}
 use Rattle.delegates.specs.Alike.{startSet}
-use Rattle.chunks.specs.Chunks.{foreign, counted, runSet}
+use Rattle.chunks.specs.Chunks.{foreign, counted, runSet, looked}
 use Rattle.joins.specs.Joining.{joinOf, yesOf}
 use Rattle.joins.specs.Claims.{delegateIn}
-use Rattle.histories.specs.History.{fileOf, ruleFrom, openNumber, placesIn, standingCount, standingEnd, deliverCheck, standing, deliverNumber, chunkOf, reportIn, answersTo}
-use Rattle.calls.specs.Replies.{Reported, Reply, accepted, loaded, judged}
+use Rattle.histories.specs.History.{fileOf, ruleFrom, openNumber, placesIn, standingCount, standingEnd, deliverCheck, standing, deliverNumber, chunkOf, reportIn, answersTo, ruleIn, lookedOf, verdictIn, replyBy, answerOf}
+use Rattle.calls.specs.Replies.{Reported, Reply, accepted, loaded, judged, delivered, Judgement}
 use Rattle.calls.specs.Calls.{Call, loads, opens, delivers, loadNumber, verdictBy, reportBy}
 use Rattle.histories.specs.Claims.{judgeAfter, BuiltBy}
-use Rattle.histories.specs.TableP.{Result, sets, delegates, verdict, turned-down, Case, case, delivering, callsFor, callsOf, repliesOf, rowsFrom, Shows, Each, Case-holds, table, TableP}
+use Rattle.histories.specs.TableP.{Result, sets, delegates, verdict, turned-down, Case, case, delivering, answering, callsFor, callsOf, repliesOf, rowsFrom, Shows, Each, Case-holds, table, TableP}
 use Rattle.histories.proofs.EveryList.{every-list}
 use Rattle.histories.proofs.TwoRules.{listed, starts-A, starts-B}
 
@@ -57,27 +57,36 @@ record Stage (f : List ℕ) (h : List Call) (places : ℕ) (at : ℕ → Option 
 abbrev put : (ℕ → Option (List ℕ)) → ℕ → List ℕ → ℕ → Option (List ℕ)
 put at p w i = cond (eqb p i) (some w) (at i)
 
-abbrev putAll : ℕ → List (List ℕ) → (ℕ → Option (List ℕ)) → ℕ → Option (List ℕ)
+abbrev putAll : ℕ → List (List ℕ × ℕ) → (ℕ → Option (List ℕ)) → ℕ → Option (List ℕ)
 putAll p [] at = at
-putAll p (w ∷ ws) at = putAll (suc p) ws (put at p w)
+putAll p (c ∷ cs) at = putAll (suc p) cs (put at p (c .0))
 
--- each delivery meets no condition
-abbrev Checked : ℕ → ℕ → ℕ → List (List ℕ) → (ℕ → Option (List ℕ)) → Type 0
-Checked k places p [] at = Unit {0}
-Checked k places p (w ∷ ws) at = (deliverCheck k places (at p) p w ≡ none) × Checked k places (suc p) ws (put at p w)
+-- each delivery meets no condition, and a successor is looked up for as many bytes as stand beside
+-- its chunk; with the delegates d put in
+abbrev Checked : Rule → List ℕ → ℕ → ℕ → List (List ℕ × ℕ) → (ℕ → Option (List ℕ)) → Type 0
+Checked r d places p [] at = Unit {0}
+Checked r d places p (c ∷ cs) at =
+    (deliverCheck (r .k) places (at p) p (c .0) ≡ none) × (looked (r .targets) (runSet d (r .n) (r .initials) p) (c .0) ≡ c .1)
+    × Checked r d places (suc p) cs (put at p (c .0))
 
 opened : (f : List ℕ) (n : ℕ) → loadNumber f ≡ none → outside 1 64 n ≡ false → (openNumber (loads f ∷ []) n ≡ none) × Stage f (opens n ∷ loads f ∷ []) n (λ _. none)
 unfolding fileOf placesIn standing
 opened f n taken fine = (rw (taken, fine), record { file = rw taken; board = rw (taken, fine); stands = fun-ext (λ i. rw (taken, fine)) })
 
-module _ (f : List ℕ) (places : ℕ) where
-  delivered : (h : List Call) (at : ℕ → Option (List ℕ)) (p : ℕ) (w : List ℕ) → Stage f h places at → deliverCheck (ruleOf f .k) places (at p) p w ≡ none
-      → (deliverNumber h p w ≡ none) × Stage f (delivers p w ∷ h) places (put at p w)
+module _ (f : List ℕ) (places : ℕ) (d : List ℕ) (is : startsIn (ruleOf f) .delegates ≡ d) where
+  one-delivered : (h : List Call) (at : ℕ → Option (List ℕ)) (p : ℕ) (w : List ℕ) (n : ℕ) → Stage f h places at
+      → deliverCheck (ruleOf f .k) places (at p) p w ≡ none
+      → looked (ruleOf f .targets) (runSet d (ruleOf f .n) (ruleOf f .initials) p) w ≡ n
+      → (answerOf h (delivers p w) ≡ delivered n) × Stage f (delivers p w ∷ h) places (put at p w)
   unfolding fileOf placesIn standing
-  delivered h at p w s e =
+  one-delivered h at p w n s e looks =
       let there : deliverNumber h p w ≡ none =
-      subst₃ (λ (x : Option (List ℕ)) (y : ℕ) (z : ℕ → Option (List ℕ)). deliverCheck (ruleFrom x .k) y (z p) p w ≡ none) (sym (s .file)) (sym (s .board)) (sym (s .stands)) e in (
-        there,
+      subst₃ (λ (x : Option (List ℕ)) (y : ℕ) (z : ℕ → Option (List ℕ)). deliverCheck (ruleFrom x .k) y (z p) p w ≡ none) (sym (s .file)) (sym (s .board)) (sym (s .stands)) e in
+      let number : lookedOf (ruleIn h) p w ≡ n =
+      ap (λ (x : Option (List ℕ)). lookedOf (ruleFrom x) p w) (s .file)
+      ∙ ap (λ (x : List ℕ). looked (ruleOf f .targets) (runSet x (ruleOf f .n) (ruleOf f .initials) p) w) is
+      ∙ looks in (
+        ap₂ (λ (o : Option ℕ) (m : ℕ). replyBy o (delivered m)) there number,
         record {
           file = s .file;
           board = s .board;
@@ -87,21 +96,17 @@ module _ (f : List ℕ) (places : ℕ) where
         },
       )
 
-  all-delivered : (ws : List (List ℕ)) (h : List Call) (at : ℕ → Option (List ℕ)) (p : ℕ) → Stage f h places at → Checked (ruleOf f .k) places p ws at
-      → (answersTo (delivering p ws h) ≡ replicate (length ws) accepted ++ answersTo h) × Stage f (delivering p ws h) places (putAll p ws at)
+  all-delivered : (cs : List (List ℕ × ℕ)) (h : List Call) (at : ℕ → Option (List ℕ)) (p : ℕ) → Stage f h places at → Checked (ruleOf f) d places p cs at
+      → (answersTo (delivering p cs h) ≡ answering cs (answersTo h)) × Stage f (delivering p cs h) places (putAll p cs at)
   unfolding answersTo
   all-delivered [] h at p s x = (refl, s)
-  all-delivered (w ∷ ws) h at p s x =
-      let one = delivered h at p w s (x .0) in
-      let rest = all-delivered ws (delivers p w ∷ h) (put at p w) (suc p) (one .1) (x .1) in
-      (rest .0 ∙ rw (one .0) (shift (length ws) (answersTo h)), rest .1)
-    where
-      shift : (n : ℕ) (l : List Reply) → replicate n accepted ++ (accepted ∷ l) ≡ accepted ∷ (replicate n accepted ++ l)
-      shift zero l = refl
-      shift (suc n) l = ap (λ (x : List Reply). accepted ∷ x) (shift n l)
+  all-delivered (c ∷ cs) h at p s x =
+      let one = one-delivered h at p (c .0) (c .1) s (x .0) (x .1) in
+      let rest = all-delivered cs (delivers p (c .0) ∷ h) (put at p (c .0)) (suc p) (one .1) (x .2) in
+      (rest .0 ∙ ap (λ (a : Reply). answering cs (a ∷ answersTo h)) (one .0), rest .1)
 
-  asked : (d : List ℕ) → startsIn (ruleOf f) .delegates ≡ d → (h : List Call) (at : ℕ → Option (List ℕ)) → Stage f h places at → reportIn h ≡ reportWith (ruleOf f) d places at
-  asked d is h at s =
+  asked : (h : List Call) (at : ℕ → Option (List ℕ)) → Stage f h places at → reportIn h ≡ reportWith (ruleOf f) d places at
+  asked h at s =
       subst₃ (λ (x : Option (List ℕ)) (y : ℕ) (z : ℕ → Option (List ℕ)). reportWith (ruleFrom x) (startsIn (ruleFrom x) .delegates) y z ≡ reportWith (ruleOf f) d places at)
       (sym (s .file)) (sym (s .board)) (sym (s .stands))
       (ap (λ (x : List ℕ). reportWith (ruleOf f) x places at) is)
@@ -116,22 +121,23 @@ abbrev Built-so : List ℕ → Result → Type 0
 Built-so f r = (fileOf (callsFor f r) ≡ some f) × Shows r (builtOf (ruleOf f))
 
 -- of a verdict, with the starts x put in
-abbrev Taken : List ℕ → Reply → Starts → List (List ℕ) → Reported → Type 0
+abbrev Taken : List ℕ → Reply → Starts → List (List ℕ × ℕ) → Reported → Type 0
 Taken f load x chunks v =
     (loadNumber f ≡ none) × (loaded (length (setsOf (ruleOf f .targets) (ruleOf f .n) (ruleOf f .k))) (x .startcount) ≡ load) × (outside 1 64 (length chunks) ≡ false)
-    × Checked (ruleOf f .k) (length chunks) 0 chunks (λ _. none)
+    × Checked (ruleOf f) (x .delegates) (length chunks) 0 chunks (λ _. none)
     × (reportWith (ruleOf f) (x .delegates) (length chunks) (putAll 0 chunks (λ _. none)) ≡ v)
 
-verdict-answers : (f : List ℕ) (load : Reply) (x : Starts) (chunks : List (List ℕ)) (v : Reported) → startsIn (ruleOf f) ≡ x → Taken f load x chunks v
+verdict-answers : (f : List ℕ) (load : Reply) (x : Starts) (chunks : List (List ℕ × ℕ)) (v : Reported) → startsIn (ruleOf f) ≡ x → Taken f load x chunks v
     → Answers (case f load (verdict chunks v))
 unfolding answersTo
 verdict-answers f load x chunks v is t =
     let o = opened f (length chunks) (t .0) (t .2) in
-    let d = all-delivered f (length chunks) chunks (opens (length chunks) ∷ loads f ∷ []) (λ _. none) 0 (o .1) (t .3) in
+    let same = ap (λ (s : Starts). s .delegates) is in
+    let d = all-delivered f (length chunks) (x .delegates) same chunks (opens (length chunks) ∷ loads f ∷ []) (λ _. none) 0 (o .1) (t .3) in
     let first : answersTo (opens (length chunks) ∷ loads f ∷ []) ≡ accepted ∷ load ∷ [] = rw (o .0, t .0, is, t .1) in
     ap₂ _∷_
-    (ap judged (asked f (length chunks) (x .delegates) (ap (λ (s : Starts). s .delegates) is) (delivering 0 chunks (opens (length chunks) ∷ loads f ∷ [])) (putAll 0 chunks (λ _. none)) (d .1) ∙ t .4))
-    (d .0 ∙ ap (λ (l : List Reply). replicate (length chunks) accepted ++ l) first)
+    (ap judged (asked f (length chunks) (x .delegates) same (delivering 0 chunks (opens (length chunks) ∷ loads f ∷ [])) (putAll 0 chunks (λ _. none)) (d .1) ∙ t .4))
+    (d .0 ∙ ap (answering chunks) first)
 
 abbrev Left : Case → Type 0
 Left (case f load (sets masks rows)) = Answers (case f load (sets masks rows)) × Built-so f (sets masks rows)
@@ -167,17 +173,17 @@ abbrev given-B : Starts
 given-B = record { delegates = listed 0 1 1; startcount = 2 }
 
 computed : Each Left table
-unfolding answersTo loadNumber refusal tooShort tooLong badStates badSymbols noRoom badMask badPairs badSection badArcs anyBelow targetsUpTo listFrom union indexOf numbered expandFrom closeFrom keysUpTo setsOf tooMany nextSet rowsFrom fileOf placesIn standing foreign counted startSet total joinOf
+unfolding answersTo loadNumber refusal tooShort tooLong badStates badSymbols noRoom badMask badPairs badSection badArcs anyBelow targetsUpTo listFrom union indexOf numbered expandFrom closeFrom keysUpTo setsOf tooMany nextSet rowsFrom fileOf placesIn standing foreign counted looked startSet total joinOf
 computed =
     (rw starts-A, (refl, (refl, refl))) &
     (rw starts-B, (refl, rw starts-B)) &
-    (given-A, starts-A, (refl, refl, refl, (refl, (refl, tt)), refl)) &
-    (given-A, starts-A, (refl, refl, refl, (refl, (refl, tt)), refl)) &
-    (given-A, starts-A, (refl, refl, refl, (refl, tt), refl)) &
-    (given-B, starts-B, (refl, refl, refl, (refl, (refl, tt)), refl)) &
-    (given-B, starts-B, (refl, refl, refl, (refl, (refl, tt)), refl)) &
-    (given-B, starts-B, (refl, refl, refl, (refl, tt), refl)) &
-    (given-B, starts-B, (refl, refl, refl, (refl, (refl, (refl, tt))), refl)) & refl & tt
+    (given-A, starts-A, (refl, refl, refl, (refl, refl, (refl, refl, tt)), refl)) &
+    (given-A, starts-A, (refl, refl, refl, (refl, refl, (refl, refl, tt)), refl)) &
+    (given-A, starts-A, (refl, refl, refl, (refl, refl, tt), refl)) &
+    (given-B, starts-B, (refl, refl, refl, (refl, refl, (refl, refl, tt)), refl)) &
+    (given-B, starts-B, (refl, refl, refl, (refl, refl, (refl, refl, tt)), refl)) &
+    (given-B, starts-B, (refl, refl, refl, (refl, refl, tt), refl)) &
+    (given-B, starts-B, (refl, refl, refl, (refl, refl, (refl, refl, (refl, refl, tt))), refl)) & refl & tt
 
 pub table-P : TableP
 table-P = each {P = Left} {Q = Case-holds} holds table computed

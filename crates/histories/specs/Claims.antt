@@ -9,6 +9,8 @@
 --   Invariant h j       what holds of the state j after the calls h
 --   VerdictClauses      the words of demand 3 for the verdict asked after h
 --   ReportClauses       what is reported with it (document 02, R-1)
+--   LookedUp h p w n    document 02's words for the number n that answers a delivery (R-2): for n
+--                       bytes of the text w at place p a successor is looked up
 --   EveryList           demand 3, one claim over a whole list
 use mathlib.Core.Path.{_≡_}
 use mathlib.Core.Logic.{_↔_, _⊎_}
@@ -16,7 +18,7 @@ use mathlib.Core.Bool.{true, false}
 use mathlib.Core.List.{List}
 use mathlib.Core.Option.{Option, none, some}
 use Prim.Native.Nat.{ℕ, _*_, _≤_, _<_}
-use lib.ListN.{length, getD}
+use lib.ListN.{length, getD, take}
 use Rattle.limits.specs.Limits.{mostStates, mostPlaces}
 use Rattle.base.specs.Options.{isNone}
 use Rattle.executions.specs.Executions.{Machine, stateAfter, repliesTo as machineReplies}
@@ -29,13 +31,14 @@ use Rattle.delegates.specs.Claims.{startsIn}
 use Rattle.build.specs.Building.{builtOf, noBuilt}
 use Rattle.board.specs.Boards.{held, isEmpty, summedCount, summedBytes}
 use Rattle.calls.specs.declared.Judge.{Judge}
-use Rattle.calls.specs.Replies.{Reply, waiting, yesWith, noWith, refusedWith}
-use Rattle.histories.specs.History.{fileOf, ruleIn, boardIn, placesIn, standing, endAt, countAt, lengthAt, emptiesIn, summedIn, bytesIn, yesIn, chunkOf, textIn, verdictIn, reportIn, answersTo}
+use Rattle.calls.specs.Replies.{Reply, waiting, yesWith, noWith, refusedWith, delivered}
+use Rattle.histories.specs.History.{fileOf, ruleIn, boardIn, placesIn, standing, endAt, countAt, lengthAt, emptiesIn, summedIn, bytesIn, yesIn, chunkOf, textIn, verdictIn, reportIn, answersTo, runAt, answerOf}
 use Rattle.histories.specs.Method.{Method}
 use Rattle.histories.specs.Conditions.{Accepted-exactly, Refused-exactly}
-use Rattle.calls.specs.Calls.{Call, loadNumber}
+use Rattle.calls.specs.Calls.{Call, loadNumber, delivers}
 use Rattle.calls.specs.Steps.{fresh, isYes, verdictOf, reportOf, stepOf}
 use Rattle.calls.specs.Claims.{Divided, ThreeZeros}
+use Rattle.chunks.specs.Claims.{AllEmpty}
 
 -- the judge as a machine: the outcome of a call is crates/calls' stepOf
 abbrev pub judgeMachine : Machine Judge Call Reply
@@ -110,6 +113,12 @@ pub record ReportClauses (h : List Call) : Type 0 where
   -- beside waiting or a refusal all three are 0
   pub zeros : (x : ℕ) → (verdictIn h ≡ waiting x) ⊎ (verdictIn h ≡ refusedWith x) → ThreeZeros (reportIn h)
 
+-- R-2: the least number of text bytes after which every run's set is empty, else all
+pub record LookedUp (h : List Call) (p : ℕ) (w : List ℕ) (n : ℕ) : Type 0 where
+  pub most : n ≤ length w
+  pub all-empty : n < length w → AllEmpty (ruleIn h .targets) (runAt (ruleIn h) p) (take n w)
+  pub least : (i : ℕ) → i < n → AllEmpty (ruleIn h .targets) (runAt (ruleIn h) p) (take i w) → ⊥
+
 -- ONE CLAIM over a list of calls h
 pub record EveryList (h : List Call) : Type 0 where
   -- each reply is document 01's answer after the calls before it
@@ -121,6 +130,8 @@ pub record EveryList (h : List Call) : Type 0 where
   -- when that one is the first that holds (the verdict's 21 is in `VerdictClauses`)
   pub accepted-exactly : Accepted-exactly h
   pub refused-exactly : Refused-exactly h
+  -- an accepted delivery is answered for how many bytes of its text a successor is looked up
+  pub looked-up : (p : ℕ) (w : List ℕ) (n : ℕ) → answerOf h (delivers p w) ≡ delivered n → LookedUp h p w n
   pub after : Invariant h (judgeAfter h)
   pub verdict : VerdictClauses h
   pub report : ReportClauses h

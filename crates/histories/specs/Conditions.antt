@@ -15,9 +15,9 @@ use Rattle.ruleformat.specs.Reader.{ruleOf}
 use Rattle.ruleformat.specs.Language.{automatonIn}
 use Rattle.build.specs.Building.{builtOf}
 use Rattle.chunks.specs.Chunks.{foreign}
-use Rattle.calls.specs.Replies.{accepted, loaded, refused}
+use Rattle.calls.specs.Replies.{accepted, loaded, delivered, refused}
 use Rattle.calls.specs.Calls.{Call, loads, opens, delivers, withdraws}
-use Rattle.histories.specs.History.{fileOf, ruleIn, placesIn, standing, answerOf}
+use Rattle.histories.specs.History.{fileOf, ruleIn, placesIn, lookedOf, standing, answerOf}
 use Rattle.histories.specs.Method.{TooMany}
 
 pub record Accepted-exactly (h : List Call) : Type 0 where
@@ -29,10 +29,12 @@ pub record Accepted-exactly (h : List Call) : Type 0 where
   -- a rule is there, and 1 to 64 places are asked for
   pub opening : (n : ℕ) → (answerOf h (opens n) ≡ accepted) ↔ ((fileOf h ≡ none → ⊥) × (1 ≤ n) × (n ≤ mostPlaces))
   -- a board is there with that place, the chunk is within the limit and the alphabet, and the place
-  -- is empty
-  pub delivery : (p : ℕ) (w : List ℕ)
-      → (answerOf h (delivers p w) ≡ accepted)
-      ↔ ((0 < placesIn h) × (p < placesIn h) × (length w ≤ longestChunk) × (foreign w (ruleIn h .k) ≡ false) × (standing h p ≡ none))
+  -- is empty; it is answered for how many bytes a successor is looked up, which `LookedUp` of
+  -- specs/Claims.antt says in document 02's words
+  pub delivery : (p : ℕ) (w : List ℕ) (n : ℕ)
+      → (answerOf h (delivers p w) ≡ delivered n)
+      ↔ ((0 < placesIn h) × (p < placesIn h) × (length w ≤ longestChunk) × (foreign w (ruleIn h .k) ≡ false) × (standing h p ≡ none)
+      × (n ≡ lookedOf (ruleIn h) p w))
   -- a board is there with that place, and a chunk stands there
   pub withdrawal : (p : ℕ) → (answerOf h (withdraws p) ≡ accepted) ↔ ((0 < placesIn h) × (p < placesIn h) × (standing h p ≡ none → ⊥))
 

@@ -22,7 +22,7 @@ use Rattle.base.specs.Options.{isSome}
 use Rattle.executions.specs.Executions.{Machine, stateAfter, repliesTo as machineReplies}
 use Rattle.board.specs.Boards.{placesOf, isEmpty, filledAt, summedCount}
 use Rattle.calls.specs.declared.Judge.{Judge}
-use Rattle.calls.specs.Replies.{Reply, accepted}
+use Rattle.calls.specs.Replies.{Reply, delivered}
 use Rattle.calls.specs.Calls.{Call, loads, opens, delivers, withdraws, asksVerdict, deliverConditions}
 use Rattle.calls.specs.Steps.{Outcome, fresh, lacksBoard, withBoard, outcomeBy, runsAt, stepOf}
 use Rattle.histories.specs.History.{ruleIn, placesIn, countOf, standing, summedIn, deliverNumber}
@@ -55,7 +55,7 @@ abbrev pub formerStep : Judge → Call → Outcome
 formerStep j (loads f) = stepOf j (loads f)
 formerStep j (opens n) = stepOf j (opens n)
 formerStep j (delivers p w) =
-    outcomeBy (formerOn j p w) accepted j (withBoard j (filledAt (j .board) p (runsAt j p w)))
+    outcomeBy (formerOn j p w) (delivered (runsAt j p w .looked)) j (withBoard j (filledAt (j .board) p (runsAt j p w)))
 formerStep j (withdraws p) = stepOf j (withdraws p)
 formerStep j asksVerdict = stepOf j asksVerdict
 

@@ -12,6 +12,8 @@
 --   runAt r p                the states that are run at place p, by the rule r
 --   countOf r p chunk, endOf r p q chunk   the same of what stands at place p, by the rule r:
 --                                          standingCount and standingEnd
+--   lookedOf r p w           for how many bytes of the chunk w a successor is looked up at place p,
+--                            by the rule r (document 02, R-2)
 --   deliverCheck, withdrawCheck    the number with which a delivery and a withdrawal at place p are
 --                                  refused, by the places and what stands at p
 --   deliverNumber, withdrawNumber  they after the calls h: 21, 11, 12, 13, 22 and 21, 11, 23
@@ -37,10 +39,10 @@ use Rattle.automaton.specs.declared.Rule.{Rule}
 use Rattle.ruleformat.specs.Reader.{ruleOf, noRule}
 use Rattle.subsets.specs.Sets.{setsOf}
 use Rattle.delegates.specs.Claims.{startsIn}
-use Rattle.chunks.specs.Chunks.{runSet, endSet, chunkCount}
+use Rattle.chunks.specs.Chunks.{runSet, endSet, chunkCount, looked}
 use Rattle.joins.specs.Joining.{yesOf}
 use Rattle.joins.specs.Claims.{delegateIn}
-use Rattle.calls.specs.Replies.{Judgement, Reported, Reply, accepted, loaded, judged, refused}
+use Rattle.calls.specs.Replies.{Judgement, Reported, Reply, accepted, loaded, judged, refused, delivered}
 use Rattle.calls.specs.Calls.{Call, loads, opens, delivers, withdraws, asksVerdict, loadNumber, openConditions, deliverConditions, withdrawConditions, verdictBy, reportBy}
 
 -- ---- which rule is there
@@ -120,6 +122,9 @@ module _ (r : Rule) where
   abbrev pub endOf : ℕ → ℕ → Option (List ℕ) → ℕ
   endOf p q chunk = standingEnd (r .targets) (runAt p) q chunk
 
+  abbrev pub lookedOf : ℕ → List ℕ → ℕ
+  lookedOf p w = looked (r .targets) (runAt p) w
+
 module _ (h : List Call) where
   abbrev pub deliverNumber : ℕ → List ℕ → Option ℕ
   deliverNumber p w = deliverCheck (ruleIn h .k) (placesIn h) (standing h p) p w
@@ -171,7 +176,7 @@ replyBy (some number) a = refused number
 abbrev pub answerOf : List Call → Call → Reply
 answerOf h (loads f) = replyBy (loadNumber f) (loaded (length (setsOf (ruleOf f .targets) (ruleOf f .n) (ruleOf f .k))) (startsIn (ruleOf f) .startcount))
 answerOf h (opens n) = replyBy (openNumber h n) accepted
-answerOf h (delivers p w) = replyBy (deliverNumber h p w) accepted
+answerOf h (delivers p w) = replyBy (deliverNumber h p w) (delivered (lookedOf (ruleIn h) p w))
 answerOf h (withdraws p) = replyBy (withdrawNumber h p) accepted
 answerOf h asksVerdict = judged (reportIn h)
 

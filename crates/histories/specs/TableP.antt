@@ -10,15 +10,15 @@
 --   Case-holds    `AsTabled` after the calls of the case
 --   TableP        each case of the table holds so
 use mathlib.Core.Path.{_≡_}
-use mathlib.Core.List.{List, [], _∷_, _++_}
+use mathlib.Core.List.{List, [], _∷_}
 use Prim.Native.Nat.{ℕ, zero, suc, _*_}
-use lib.ListN.{length, getD, replicate}
+use lib.ListN.{length, getD}
 use Rattle.limits.specs.Limits.{mostSymbols, emptySet}
 use Rattle.base.specs.Lists.{listFrom}
 use Rattle.ruleformat.specs.Worked.{fileA, fileB, fileA-final-8}
 use Rattle.build.specs.declared.Built.{Built}
 use Rattle.calls.specs.declared.Judge.{Judge}
-use Rattle.calls.specs.Replies.{Judgement, yesWith, noWith, Reported, Reply, accepted, loaded, judged, refused}
+use Rattle.calls.specs.Replies.{Judgement, yesWith, noWith, Reported, Reply, accepted, loaded, judged, refused, delivered}
 use Rattle.calls.specs.Calls.{Call, loads, opens, delivers, asksVerdict}
 use Rattle.histories.specs.Claims.{judgeAfter, repliesTo}
 
@@ -28,12 +28,13 @@ use Rattle.histories.specs.Claims.{judgeAfter, repliesTo}
 --                          the empty set
 --   delegates ds           the delegate of each state
 --   verdict chunks r       with the chunks at the places 0, 1, .. of a board that has a place for
---                          each, the verdict reports r
+--                          each, the verdict reports r. Beside a chunk stands the number that its
+--                          delivery is answered (document 02, R-2)
 --   turned-down            there is nothing more than the refusal of the load
 pub data Result : Type 0 where
   sets : List ℕ → List (List ℕ) → Result
   delegates : List ℕ → Result
-  verdict : List (List ℕ) → Reported → Result
+  verdict : List (List ℕ × ℕ) → Reported → Result
   turned-down : Result
 
 -- the file, the reply to its load, and the result
@@ -41,9 +42,13 @@ pub data Case : Type 0 where
   case : List ℕ → Reply → Result → Case
 
 -- ---- its calls and their replies
-abbrev pub delivering : ℕ → List (List ℕ) → List Call → List Call
+abbrev pub delivering : ℕ → List (List ℕ × ℕ) → List Call → List Call
 delivering p [] h = h
-delivering p (w ∷ chunks) h = delivering (suc p) chunks (delivers p w ∷ h)
+delivering p (c ∷ chunks) h = delivering (suc p) chunks (delivers p (c .0) ∷ h)
+
+abbrev pub answering : List (List ℕ × ℕ) → List Reply → List Reply
+answering [] replies = replies
+answering (c ∷ chunks) replies = answering chunks (delivered (c .1) ∷ replies)
 
 abbrev pub callsFor : List ℕ → Result → List Call
 callsFor file (sets masks rows) = loads file ∷ []
@@ -57,7 +62,7 @@ callsOf (case file load result) = callsFor file result
 abbrev pub repliesFor : Reply → Result → List Reply
 repliesFor load (sets masks rows) = load ∷ []
 repliesFor load (delegates ds) = load ∷ []
-repliesFor load (verdict chunks r) = judged r ∷ (replicate (length chunks) accepted ++ (accepted ∷ load ∷ []))
+repliesFor load (verdict chunks r) = judged r ∷ answering chunks (accepted ∷ load ∷ [])
 repliesFor load turned-down = load ∷ []
 
 abbrev pub repliesOf : Case → List Reply
@@ -99,19 +104,19 @@ table =
     -- P2 B: delegates 0 1 1
     case fileB (loaded 4 2) (delegates (0 ∷ 1 ∷ 1 ∷ [])) ∷
     -- P3 A, chunks 0 and 1: yes, 3; 2 bytes, 1 each and 1 over
-    case fileA (loaded 5 3) (verdict ((0 ∷ []) ∷ (1 ∷ []) ∷ []) (report (yesWith 3) 2 1 1)) ∷
+    case fileA (loaded 5 3) (verdict ((0 ∷ [], 1) ∷ (1 ∷ [], 1) ∷ []) (report (yesWith 3) 2 1 1)) ∷
     -- P4 A, chunks 1 and 0: no, 2; 2 bytes, 1 each
-    case fileA (loaded 5 3) (verdict ((1 ∷ []) ∷ (0 ∷ []) ∷ []) (report (noWith 2) 2 1 0)) ∷
+    case fileA (loaded 5 3) (verdict ((1 ∷ [], 1) ∷ (0 ∷ [], 1) ∷ []) (report (noWith 2) 2 1 0)) ∷
     -- P5 A, one empty chunk: no, 0
-    case fileA (loaded 5 3) (verdict ([] ∷ []) (report (noWith 0) 0 0 0)) ∷
+    case fileA (loaded 5 3) (verdict (([], 0) ∷ []) (report (noWith 0) 0 0 0)) ∷
     -- P6 B, 0 then 0 0: yes, 5; 3 bytes, 1 each and 2 over
-    case fileB (loaded 4 2) (verdict ((0 ∷ []) ∷ (0 ∷ 0 ∷ []) ∷ []) (report (yesWith 5) 3 1 2)) ∷
+    case fileB (loaded 4 2) (verdict ((0 ∷ [], 1) ∷ (0 ∷ 0 ∷ [], 2) ∷ []) (report (yesWith 5) 3 1 2)) ∷
     -- P7 B, 0 0 then 0: yes, 4; 3 bytes, 1 each and 1 over
-    case fileB (loaded 4 2) (verdict ((0 ∷ 0 ∷ []) ∷ (0 ∷ []) ∷ []) (report (yesWith 4) 3 1 1)) ∷
+    case fileB (loaded 4 2) (verdict ((0 ∷ 0 ∷ [], 2) ∷ (0 ∷ [], 1) ∷ []) (report (yesWith 4) 3 1 1)) ∷
     -- P8 B, 0 0 0 in one place: yes, 3; 3 bytes, 1 each
-    case fileB (loaded 4 2) (verdict ((0 ∷ 0 ∷ 0 ∷ []) ∷ []) (report (yesWith 3) 3 1 0)) ∷
+    case fileB (loaded 4 2) (verdict ((0 ∷ 0 ∷ 0 ∷ [], 3) ∷ []) (report (yesWith 3) 3 1 0)) ∷
     -- P9 B, three empty chunks: no, 0
-    case fileB (loaded 4 2) (verdict ([] ∷ [] ∷ [] ∷ []) (report (noWith 0) 0 0 0)) ∷
+    case fileB (loaded 4 2) (verdict (([], 0) ∷ ([], 0) ∷ ([], 0) ∷ []) (report (noWith 0) 0 0 0)) ∷
     -- P10 A, final mask 8: 6
     case fileA-final-8 (refused 6) turned-down ∷ []
 

@@ -127,7 +127,8 @@ pub fn open(judge: Judge, places: usize) -> OpenResult
     OpenResult { answer, judge }
 }
 
-// Runs a chunk and keeps its end sets and count at the place.
+// Runs a chunk and keeps its end sets and count at the place. Accepted, it answers for how many
+// bytes of the text a successor was looked up.
 pub fn deliver(judge: Judge, place: usize, chunk: &[u8]) -> DeliverResult
     ensures { λ r. ⌜ deliverOutcome r ≡ deliverOf judge place (now (chunk .entry)) ⌝ }
 {
@@ -149,7 +150,7 @@ pub fn deliver(judge: Judge, place: usize, chunk: &[u8]) -> DeliverResult
         return refuse_delivery(judge, 22);
     }
     let runs = run_at(built, place, chunk);
-    let answer = DeliverAnswer::Accepted;
+    let answer = DeliverAnswer::Accepted(runs.looked);
     let judge = with_board(judge, board::fill(board, place, runs));
     DeliverResult { answer, judge }
 }

@@ -13,9 +13,10 @@
 //! let loaded = judge.load(&rule_a)?;
 //! assert_eq!((loaded.sets, loaded.starts), (5, 3));
 //! judge.open(2)?;
-//! judge.deliver(1, &[1])?; // chunks come out of turn
+//! let looked = judge.deliver(1, &[1])?; // chunks come out of turn
+//! assert_eq!(looked.bytes, 1);
 //! assert_eq!(judge.verdict()?.verdict, Verdict::Waiting(1));
-//! judge.deliver(0, &[0])?;
+//! let _looked = judge.deliver(0, &[0])?;
 //! let report = judge.verdict()?;
 //! assert_eq!(report.verdict, Verdict::Yes(3));
 //! // 2 bytes of text, for each 1 transition and 1 over
@@ -58,6 +59,15 @@ pub struct Loaded {
     pub sets: u16,
     /// The number of starts (M).
     pub starts: u8,
+}
+
+/// What an accepted delivery tells of the run.
+#[derive(Clone, Copy, Debug, PartialEq, Eq)]
+#[must_use]
+pub struct Looked {
+    /// For how many bytes of the text any successor was looked up: the least number of them after
+    /// which every run has died, else all.
+    pub bytes: u32,
 }
 
 /// What is to be said of the trace.
@@ -181,10 +191,12 @@ impl Judge {
     /// # use bellbadger::Judge;
     /// assert_eq!(Judge::new().deliver(0, &[1]).unwrap_err().number(), 21);
     /// ```
-    pub fn deliver(&mut self, place: usize, chunk: &[u8]) -> Result<(), Refused> {
+    pub fn deliver(&mut self, place: usize, chunk: &[u8]) -> Result<Looked, Refused> {
         // SAFETY: the pointer leads to as many bytes as the length says, and they are only read.
         let r = unsafe { raw::bellbadger_deliver(*self.0, place, chunk.as_ptr(), chunk.len()) };
-        self.changed(r)
+        *self.0 = r.judge;
+        let bytes = r.looked;
+        accepted(r.accepted, r.refused).map(|()| Looked { bytes })
     }
 
     /// Empties a place.

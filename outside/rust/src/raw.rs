@@ -41,11 +41,19 @@ pub struct RawLoad {
     pub judge: RawJudge,
 }
 
-/// Of an opening, a delivery and a withdrawal.
+/// Of an opening and a withdrawal.
 #[repr(C)]
 pub struct RawChange {
     pub accepted: u8,
     pub refused: u8,
+    pub judge: RawJudge,
+}
+
+#[repr(C)]
+pub struct RawDelivery {
+    pub accepted: u8,
+    pub refused: u8,
+    pub looked: u32,
     pub judge: RawJudge,
 }
 
@@ -81,7 +89,7 @@ extern "C" {
         place: usize,
         chunk: *const u8,
         length: usize,
-    ) -> RawChange;
+    ) -> RawDelivery;
     pub fn bellbadger_withdraw(judge: RawJudge, place: usize) -> RawChange;
     pub fn bellbadger_verdict(judge: RawJudge) -> RawVerdict;
     pub fn bellbadger_replay(text: *const u8, length: usize) -> RawVerdict;

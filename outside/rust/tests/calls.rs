@@ -1,6 +1,6 @@
 //! The judge through the wrapper: table P, refusals and their words, the largest count, recorded
 //! lists, and what a judge shows of itself.
-use bellbadger::{replay, version, Judge, Loaded, Refused, ReplayError, Report, Verdict};
+use bellbadger::{replay, version, Judge, Loaded, Looked, Refused, ReplayError, Report, Verdict};
 use std::fmt::Debug;
 
 const A: [u8; 30] = [
@@ -39,7 +39,7 @@ fn judged(rule: &[u8], chunks: &[&[u8]]) -> Result<Report, Refused> {
     judge.open(chunks.len())?;
     for (place, chunk) in chunks.iter().enumerate().rev() {
         assert_eq!(judge.verdict()?, waiting(place as u64 + 1));
-        judge.deliver(place, chunk)?;
+        let _looked = judge.deliver(place, chunk)?;
     }
     judge.verdict()
 }
@@ -79,7 +79,7 @@ fn refusals_of_the_calls() {
     assert_eq!(number(judge.deliver(63, &[0; 65537])), 12);
     assert_eq!(number(judge.deliver(63, &[0, 2])), 13);
     assert_eq!(number(judge.withdraw(63)), 23);
-    assert_eq!(judge.deliver(63, &[0; 65536]), Ok(()));
+    assert_eq!(judge.deliver(63, &[0; 65536]), Ok(Looked { bytes: 65536 }));
     assert_eq!(number(judge.deliver(63, &[])), 22);
     assert_eq!(judge.verdict(), Ok(waiting(63)));
     assert_eq!(number(judge.load(&A[..9])), 1);
@@ -108,12 +108,37 @@ fn the_sum_of_the_counts() {
     );
     assert_eq!(judge.open(64), Ok(()));
     for place in 0..64 {
-        assert_eq!(judge.deliver(place, &[0; 65536]), Ok(()));
+        assert_eq!(
+            judge.deliver(place, &[0; 65536]),
+            Ok(Looked { bytes: 65536 })
+        );
     }
     // place 0 is run from one start, the other 63 from 32: 2,017 for every 64 bytes
     let verdict = Verdict::Yes(65536 + 63 * 32 * 65536);
     let numbers = [64 * 65536, 31, 33 * 65536];
     assert_eq!(judge.verdict(), Ok(reported(verdict, numbers)));
+}
+
+/// Runs of rule A from 0 never die; where 1 leads nowhere, they die at the first 1, which is looked
+/// up; without an initial state nothing is run at place 0.
+#[test]
+fn looked_up() {
+    let dies = [
+        2, 2, 1, 0, 0, 0, 1, 0, 0, 0, 18, 0, 2, 0, 20, 0, 2, 0, 0, 1, 0, 0,
+    ];
+    let nothing_runs = [1, 2, 0, 0, 0, 0, 1, 0, 0, 0, 14, 0, 2, 0, 0, 0];
+    for (rule, chunk, bytes) in [
+        (&A[..], &[1, 1, 1], 3),
+        (&dies[..], &[1, 0, 0], 1),
+        (&dies[..], &[0, 1, 0], 2),
+        (&dies[..], &[0, 0, 1], 3),
+        (&dies[..], &[0, 0, 0], 3),
+        (&nothing_runs[..], &[0, 0, 0], 0),
+    ] {
+        let mut judge = Judge::new();
+        assert!(judge.load(rule).is_ok() && judge.open(1).is_ok());
+        assert_eq!(judge.deliver(0, chunk), Ok(Looked { bytes }));
+    }
 }
 
 #[test]
@@ -152,5 +177,5 @@ fn what_a_judge_shows() {
     assert!(judge.load(&A).is_ok() && judge.open(2).is_ok() && judge.deliver(1, &[]).is_ok());
     let shown = "Judge { states: 3, symbols: 2, sets: 5, starts: 3, places: 2, filled: 1, .. }";
     assert_eq!(format!("{judge:?}"), shown);
-    assert_eq!(version(), (2, 0));
+    assert_eq!(version(), (3, 0));
 }

@@ -3,14 +3,14 @@ use borrow.Author.Needs.{needs}
 use Rattle.calltext.proofs.put_deliver.Statement.{statement}
 use Rattle.calltext.proofs.put_deliver.Tie as tie
 
-enum-told : tie.Need-enum-told
-enum-told c = search needs
-
-put-accepted-requires : tie.Need-put-accepted-requires
-put-accepted-requires c κs = search needs
-
 enum-known-answer : tie.Need-enum-known-answer
 enum-known-answer c = search needs
+
+put-delivered-requires : tie.Need-put-delivered-requires
+put-delivered-requires c κs = search needs
+
+enum-known-answer-2 : tie.Need-enum-known-answer-2
+enum-known-answer-2 c = search needs
 
 put-refused-requires : tie.Need-put-refused-requires
 put-refused-requires c κs = search needs
@@ -19,21 +19,21 @@ same-length : tie.Need-same-length
 same-length c = search needs
 
 returns : tie.Need-returns
-returns c = rw (c .before .before .before .before .enum-told .given .1) (c .before .before .put-accepted .ensures)
+returns c = rw (c .before .before .before .before .before .answer .given .1) (c .before .before .put-delivered .ensures)
 
 same-length-2 : tie.Need-same-length-2
 same-length-2 c = search needs
 
 returns-2 : tie.Need-returns-2
-returns-2 c = rw (c .before .before .before .before .before .answer .given .1) (c .before .before .put-refused .ensures)
+returns-2 c = rw (c .before .before .before .before .before .answer2 .given .1) (c .before .before .put-refused .ensures)
 
 pub put-deliver-spec : {M : Type 1} → statement M
 put-deliver-spec =
     tie.close
     (tie.spec
-    enum-told
-    put-accepted-requires
     enum-known-answer
+    put-delivered-requires
+    enum-known-answer-2
     put-refused-requires
     same-length
     returns
