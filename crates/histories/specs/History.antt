@@ -10,15 +10,15 @@
 --   endAt h p q, countAt h p       what place p holds: the end set of state q, and the count
 --   runAt r p                the states that are run at place p, by the rule r
 --   countOf r p chunk, endOf r p q chunk   the same of what stands at place p, by the rule r:
---                                          standingCount and standingEnd
---   lookedOf r p w           for how many bytes of the chunk w a successor is looked up at place p,
---                            by the rule r (document 02, R-2)
+--                                          standingCount and standingEnd, of its text
+--   lookedOf r p w           for how many bytes of the text of the chunk w a successor is looked up
+--                            at place p, by the rule r (document 02, R-2)
 --   deliverCheck, withdrawCheck    the number with which a delivery and a withdrawal at place p are
 --                                  refused, by the places and what stands at p
 --   deliverNumber, withdrawNumber  they after the calls h: 21, 11, 12, 13, 22 and 21, 11, 23
 --   emptiesIn h, summedIn h        how many places are empty, and the sum of the counts
 --   yesIn h, verdictIn h           the join of the end sets says yes; the verdict
---   textIn h                 the standing chunks joined by place
+--   textIn h                 the standing chunks without their idle marks, joined by place
 --   replyBy number a         refused with the number, or a where there is none
 --   answerOf h c             what document 01 answers to the call c after the calls h
 --   answersTo h              its answers to all calls of the list
@@ -32,6 +32,7 @@ use Rattle.base.specs.Conditions.{firstOf}
 use Rattle.base.specs.Lists.{joined}
 use Rattle.base.specs.Options.{isNone, isSome}
 use Rattle.base.specs.Totals.{total}
+use Rattle.marks.specs.Marks.{textOf}
 use Rattle.automaton.specs.declared.Rule.{Rule}
 use Rattle.ruleformat.specs.Reader.{ruleOf, noRule}
 use Rattle.subsets.specs.Sets.{setsOf}
@@ -94,14 +95,14 @@ standing (withdraws q ∷ h) p = cond (eqb q p && isNone (withdrawCheck (placesI
 standing (asksVerdict ∷ h) p = standing h p
 
 -- ---- what stands at a place comes to, where `run` has the states that are run there; 0 where
--- nothing stands
+-- nothing stands. What stands is what was delivered; what is judged is its text, without idle marks
 abbrev pub standingCount : List ℕ → ℕ → Option (List ℕ) → ℕ
 standingCount ts run none = 0
-standingCount ts run (some w) = chunkCount ts run w
+standingCount ts run (some w) = chunkCount ts run (textOf w)
 
 abbrev pub standingEnd : List ℕ → ℕ → ℕ → Option (List ℕ) → ℕ
 standingEnd ts run q none = 0
-standingEnd ts run q (some w) = endSet ts run w q
+standingEnd ts run q (some w) = endSet ts run (textOf w) q
 
 -- by the rule r, at place p
 module _ (r : Rule) where
@@ -115,7 +116,7 @@ module _ (r : Rule) where
   endOf p q chunk = standingEnd (r .targets) (runAt p) q chunk
 
   abbrev pub lookedOf : ℕ → List ℕ → ℕ
-  lookedOf p w = looked (r .targets) (runAt p) w
+  lookedOf p w = looked (r .targets) (runAt p) (textOf w)
 
 module _ (h : List Call) where
   abbrev pub deliverNumber : ℕ → List ℕ → Option ℕ
@@ -143,14 +144,14 @@ module _ (h : List Call) where
   abbrev pub verdictIn : Judgement
   verdictIn = verdictBy (eqb (placesIn h) 0) emptiesIn yesIn summedIn
 
--- the chunk itself; an empty place has none
-abbrev pub chunkOf : Option (List ℕ) → List ℕ
-chunkOf none = []
-chunkOf (some w) = w
+-- the text itself; an empty place has none
+abbrev pub standingText : Option (List ℕ) → List ℕ
+standingText none = []
+standingText (some w) = textOf w
 
--- the chunks at the first places, one after the other
+-- the texts at the first places, one after the other
 abbrev pub joinedUpTo : (ℕ → Option (List ℕ)) → ℕ → List ℕ
-joinedUpTo at places = joined (λ p. chunkOf (at p)) places
+joinedUpTo at places = joined (λ p. standingText (at p)) places
 
 abbrev pub textIn : List Call → List ℕ
 textIn h = joinedUpTo (standing h) (placesIn h)
