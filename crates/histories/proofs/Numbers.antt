@@ -14,6 +14,7 @@ use Rattle.base.specs.Conditions.{Condition, on, firstOf, outside}
 use Rattle.base.specs.Options.{isNone, isSome}
 use Rattle.base.specs.Totals.{total}
 use Rattle.base.proofs.Options.{not-none}
+use Rattle.marks.specs.Marks.{textOf}
 use Rattle.ruleformat.specs.Reader.{ruleOf}
 use Rattle.build.specs.declared.Built.{Built}
 use Rattle.chunks.specs.Chunks.{foreign}
@@ -93,4 +94,4 @@ module _ (file : Option (List ℕ)) (places : ℕ) (at : ℕ → Option (List �
       (ap not (holds .empty p (omega (arith, leb-false places p l, holds .few))) ∙ not-none (at p))))
     where
       from-12 : ℕ → Bool → List Condition
-      from-12 k filled = on 12 (ltb 65536 (length w)) ∷ on 13 (foreign w k) ∷ on 22 filled ∷ []
+      from-12 k filled = on 12 (ltb 65536 (length w)) ∷ on 13 (foreign (textOf w) k) ∷ on 22 filled ∷ []
