@@ -161,11 +161,12 @@ impl Judge {
         self.changed(r)
     }
 
-    /// Runs a chunk and keeps its end sets and count at the place, which are counted from 0.
+    /// Runs a chunk and keeps its end sets and count at the place, which are counted from 0. Byte 255 is
+    /// an idle mark: it is skipped and is no part of the text, but counts in the chunk's length.
     ///
     /// # Errors
-    /// 21 (no board is open), 11 (no such place), 12 (over 65,536 bytes), 13 (a byte is no symbol),
-    /// 22 (the place has a chunk already).
+    /// 21 (no board is open), 11 (no such place), 12 (over 65,536 bytes), 13 (a byte is no symbol
+    /// and no idle mark), 22 (the place has a chunk already).
     ///
     /// ```
     /// # use bellbadger::Judge;
