@@ -17,6 +17,14 @@ HERE = os.path.dirname(os.path.abspath(__file__))
 CRATE = os.path.join(HERE, "..", "crates", "tracejudge")
 
 
+IDLE = 255
+
+
+def without_marks(chunk):
+    """The text of a chunk."""
+    return bytes(b for b in chunk if b != IDLE)
+
+
 class Judge:
     def __init__(self):
         self.rule = self.board = None
@@ -43,13 +51,13 @@ class Judge:
         if p >= len(self.board):
             raise Refused(11)
 
-    def count(self, p, chunk):
+    def count(self, p, text):
         n, _, initials, _, targets, delegates = self.rule
         starts = {delegates[q] for q in initials} if p == 0 else set(delegates)
         total = 0
         for d in starts:
             members = frozenset({d})
-            for s in chunk:
+            for s in text:
                 members = successor(targets, members, s)
                 if not members:
                     break
@@ -70,12 +78,12 @@ class Judge:
         self.at(p)
         if len(chunk) > 65536:
             raise Refused(12)
-        if any(b >= self.rule[1] for b in chunk):
+        if any(b >= self.rule[1] and b != IDLE for b in chunk):
             raise Refused(13)
         if self.board[p] is not None:
             raise Refused(22)
         self.board[p] = chunk
-        return f"accepted {self.looked(p, chunk)}"
+        return f"accepted {self.looked(p, without_marks(chunk))}"
 
     def withdraw(self, p):
         self.at(p)
@@ -92,12 +100,13 @@ class Judge:
             return f"waiting {empty}"
         _, _, initials, finals, targets, _ = self.rule
         members = frozenset(initials)
-        text = b"".join(self.board)
-        for s in text:
+        texts = [without_marks(chunk) for chunk in self.board]
+        whole = b"".join(texts)
+        for s in whole:
             members = successor(targets, members, s)
-        count = sum(self.count(p, chunk) for p, chunk in enumerate(self.board))
-        quotient, remainder = divmod(count, len(text)) if text else (0, 0)
-        return f"{'yes' if members & finals else 'no'} {count} {len(text)} {quotient} {remainder}"
+        count = sum(self.count(p, text) for p, text in enumerate(texts))
+        quotient, remainder = divmod(count, len(whole)) if whole else (0, 0)
+        return f"{'yes' if members & finals else 'no'} {count} {len(whole)} {quotient} {remainder}"
 
 
 HEX, NUMBER = rb"((?:[0-9a-fA-F]{2})+|-)", rb"([0-9]{1,20})"
@@ -149,6 +158,8 @@ FIGURE_1 = rule(3, 3, 1, 4, [(0, 0, 1), (0, 2, 1), (1, 0, 0), (1, 0, 1), (1, 1, 
 DIES = rule(2, 2, 1, 1, [(0, 0, 1), (1, 0, 0)])
 # by 0 from 0 to 1 to 2, and no further: the runs from 0, 1 and 2 die one after the other
 CHAIN = rule(3, 1, 1, 4, [(0, 0, 1), (1, 0, 2)])
+# 16 symbols, of which only 0 leads anywhere
+ONLY_0 = rule(1, 16, 1, 1, [(0, 0, 0)])
 NO_RULE = A[:9]
 LARGEST = 2 ** 64 - 1
 
@@ -161,6 +172,14 @@ def judged(f, *chunks):
     return calls
 
 
+def marked(rng, text):
+    """A chunk with the text and one to four idle marks."""
+    chunk = list(text)
+    for _ in range(rng.randint(1, 4)):
+        chunk.insert(rng.randint(0, len(chunk)), IDLE)
+    return bytes(chunk)
+
+
 def random_calls(seed):
     rng = random.Random(seed)
     n, k = rng.randint(1, 6), rng.randint(1, 3)
@@ -169,6 +188,8 @@ def random_calls(seed):
     for _ in range(30):
         p = rng.randint(0, 4)
         chunk = bytes(rng.randrange(k) for _ in range(rng.randint(0, 6)))
+        if rng.random() < 0.3:
+            chunk = marked(rng, chunk)
         calls.append(rng.choice([
             ("deliver", p, chunk), ("deliver", p, chunk), ("deliver", p, chunk), ("withdraw", p), ("verdict",), ("verdict",),
             ("deliver", p, chunk + bytes([k])), rng.choice([("open", rng.randint(0, 4)), ("load", f), ("load", NO_RULE), ("verdict",)]),
@@ -230,10 +251,19 @@ CASES = [
     # a file of 32,906 bytes, and one byte more
     [("load", FULL), ("open", 1), ("deliver", 0, b"\x0f"), ("verdict",), ("load", FULL + b"\0"), ("verdict",)],
     # every run dies: at the first byte, within, at the last, not at all; a bad byte further on is 13
-    [("load", DIES), ("open", 6)] + [("deliver", 0, chunk) for chunk in (b"\1\0\0\2", b"\0\1\1\xff", b"\1" * 65535 + b"\2")]
+    [("load", DIES), ("open", 6)] + [("deliver", 0, chunk) for chunk in (b"\1\0\0\2", b"\0\1\1\xfe", b"\1" * 65535 + b"\2")]
     + [("deliver", p, chunk) for p, chunk in enumerate([b"\1\0\0", b"\0\1\0", b"\0\0\1", b"\0\0\0", b"\1" * 65536, b""])] + [("verdict",)],
     judged(DIES, b"\0\0", b"\1" + LONG[1:]),
     judged(CHAIN, b"\0\0\0\0", b"\0\0\0\0", b"\0\0"),
+    # idle marks: before, between and behind the bytes of a text; alone; at the limit, which counts them; a bad byte behind them, and 254
+    judged(A, b"\xff\0\xff\xff", b"\1\xff"),
+    judged(A, b"\xff\xff", b"\0\xff\1", b"\xff"),
+    judged(B, b"\xff\0\xff\0", b"\0\xff"),
+    [("load", A), ("open", 2)] + [("deliver", 0, chunk) for chunk in (b"\xff" * 65537, b"\xff\xff\2", b"\xfe", b"\xff\xfe\xff")]
+    + [("deliver", 0, b"\xff" * 65536), ("deliver", 0, b"\xff"), ("verdict",), ("deliver", 1, b"\0" * 32767 + b"\xff" * 32768 + b"\1"), ("verdict",)],
+    # 255 is 15 modulo 16: a mark is no symbol 15, which leads nowhere here; nor does it end a run, or count after its death
+    judged(ONLY_0, b"\0\xff\0", b"\xff\0\0\xff"),
+    judged(ONLY_0, b"\xff\x0f\xff\0\xff", b"\0\xff\x0f\xff\xff"),
     # n 33; hex digits of either case; the largest number of digits
     [("load", b"\x21" + A[1:]), b"load " + A.hex().upper().encode(), b"open 00000000000000000001", b"deliver 0 0001", ("verdict",)],
     # lines that are malformed, and lines that are very long

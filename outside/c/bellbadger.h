@@ -8,8 +8,8 @@
  * says, and may be anything where that is 0.
  *
  * Threads: no function keeps anything, they work on values only; any number of threads may call at
- * once. Stack: a judge goes by value; for a thread that calls these functions a stack of 512 KB is
- * enough, 128 KB is not.
+ * once. Stack: a judge goes by value, and a chunk with idle marks is packed on the stack; for a thread
+ * that calls these functions a stack of 512 KB is enough, 128 KB is not.
  */
 #ifndef BELLBADGER_H
 #define BELLBADGER_H
@@ -22,7 +22,7 @@
  * Another major number or size: the two do not fit. A higher minor number of the library: it can
  * more than this header says. */
 #define BELLBADGER_VERSION_MAJOR 3
-#define BELLBADGER_VERSION_MINOR 0
+#define BELLBADGER_VERSION_MINOR 1
 #define BELLBADGER_VERSION (BELLBADGER_VERSION_MAJOR * 65536 + BELLBADGER_VERSION_MINOR)
 #define BELLBADGER_STATE_SIZE 27316 /* the bytes of a bellbadger_judge */
 
@@ -121,11 +121,12 @@ BELLBADGER_RESULT bellbadger_load_result bellbadger_load(bellbadger_judge judge,
  *   20 no rule is loaded      10 no number of places from 1 to 64 */
 BELLBADGER_RESULT bellbadger_open_result bellbadger_open(bellbadger_judge judge, size_t places);
 
-/* Runs a chunk and keeps its end sets, count and length at the place. Once every run has died no
- * successor is looked up: looked is the least number of text bytes after which every set is empty,
+/* Runs a chunk and keeps its end sets, count and length at the place. Byte 255 is an idle mark: it is
+ * skipped and is no part of the text, but counts in the limit of 65,536 bytes. Once every run has died
+ * no successor is looked up: looked is the least number of text bytes after which every set is empty,
  * else all of them. Refused with
  *   21 no board is open      11 the board has no such place      12 the chunk has over 65,536 bytes
- *   13 a byte is no symbol   22 the place has a chunk already */
+ *   13 a byte is no symbol and no idle mark                       22 the place has a chunk already */
 BELLBADGER_RESULT bellbadger_deliver_result bellbadger_deliver(bellbadger_judge judge, size_t place, const uint8_t *chunk, size_t length);
 
 /* Empties a place. Refused with

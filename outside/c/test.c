@@ -169,12 +169,33 @@ static void dying(void) {
     verdict(&j, BELLBADGER_NO, 2, 65541);
 }
 
+/* idle marks are skipped wherever they stand; the limit counts them */
+static void idle(void) {
+    static const uint8_t first[] = {255, 0, 255}, second[] = {1, 255}, bad[] = {255, 255, 254}, no_symbol[] = {255, 2};
+    static uint8_t marks[65537];
+    memset(marks, 255, sizeof marks);
+    bellbadger_judge j = bellbadger_new();
+    load(&j, rule_a, sizeof rule_a, 0);
+    open(&j, 3, 0);
+    deliver(&j, 1, marks, 65537, 12);
+    deliver(&j, 1, bad, sizeof bad, 13);
+    deliver(&j, 1, no_symbol, sizeof no_symbol, 13);
+    looked(&j, 1, marks, 65536, 0);
+    CHECK(j.board.filled[1] && j.board.counts[1] == 0 && j.board.ends[32] == 1 && j.board.ends[33] == 2 && j.board.ends[34] == 4);
+    deliver(&j, 1, first, sizeof first, 22);
+    looked(&j, 0, first, sizeof first, 1);
+    looked(&j, 2, second, sizeof second, 1);
+    CHECK(j.board.lengths[0] == 1 && j.board.lengths[1] == 0 && j.board.lengths[2] == 1);
+    verdict(&j, BELLBADGER_YES, 3, 2);
+}
+
 static void records(void) {
 #define LOAD_A "load 03020100000004000000160006001C0002001E0000000000000101000102\n"
     replay("", BELLBADGER_REFUSED, 21, 0);
     replay(LOAD_A "open 2\n", BELLBADGER_WAITING, 2, 0);
     replay(LOAD_A "open 2\ndeliver 1 01\ndeliver 0 00\n", BELLBADGER_YES, 3, 2);
     replay(LOAD_A "open 2\ndeliver 1 00\ndeliver 0 01", BELLBADGER_NO, 2, 2);
+    replay(LOAD_A "open 2\ndeliver 1 FF01\ndeliver 0 00ffFF\n", BELLBADGER_YES, 3, 2);
     replay(LOAD_A "open 2\n\n", BELLBADGER_REFUSED, 21, 0);
     replay(LOAD_A "open  2\nverdict\n", BELLBADGER_MALFORMED, 2, 0);
     replay(LOAD_A "open 2\r\n", BELLBADGER_MALFORMED, 2, 0);
@@ -202,7 +223,7 @@ static void garbage(int states) {
         if (i % 2) j.rule.n = 1 + j.rule.n % 32, j.board.places = 1 + j.board.places % 64;
         if (i % 4 == 1) memset(j.board.filled, 0, sizeof j.board.filled), memset(j.board.counts, 0, sizeof j.board.counts);
         if (i % 8 == 7) memset(j.board.filled, 1, sizeof j.board.filled);
-        for (size_t b = 0; b < sizeof chunk; b++) chunk[b] = (uint8_t)(random_number() >> 32) % (i % 3 ? 2 : 255);
+        for (size_t b = 0; b < sizeof chunk; b++) chunk[b] = i % 11 && random_number() % 9 ? (uint8_t)(random_number() >> 32) % (i % 3 ? 2 : 255) : 255;
         memcpy(before, chunk, sizeof chunk);
         size_t place = i % 5 ? random_number() % 64 : (size_t)random_number();
         bellbadger_load_result l = bellbadger_load(j, chunk, sizeof chunk);
@@ -226,6 +247,7 @@ static void *all(void *states) {
     built_with();
     calls();
     dying();
+    idle();
     records();
     garbage(*(int *)states);
     return NULL;

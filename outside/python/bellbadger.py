@@ -51,7 +51,7 @@ _REASONS = {
     10: "no number of places from 1 to 64",
     11: "the board has no such place",
     12: "the chunk has over 65,536 bytes",
-    13: "a byte is no symbol of the rule",
+    13: "a byte is no symbol of the rule and no idle mark",
     20: "no rule is loaded",
     21: "no board is open",
     22: "the place has a chunk already",
@@ -281,7 +281,8 @@ class Judge:
     def deliver(self, place, chunk):
         """Runs a chunk and keeps its end sets, count and length at the place, counted from 0.
 
-        Refused with 21, 11, 12, 13, 22.
+        Byte 255 is an idle mark: it is skipped and is no part of the text, but counts in the
+        chunk's length. Refused with 21, 11, 12, 13, 22.
         """
         data = _bytes(chunk)
         result = _lib.bellbadger_deliver(self._state, _size(place), data, len(data))

@@ -90,6 +90,15 @@ class Calls(unittest.TestCase):
         for place, (chunk, looked) in enumerate([("10", 1), ("010", 2), ("001", 3), ("000", 3), ("", 0)]):
             self.assertEqual(judge.deliver(place, bytes(int(s) for s in chunk)), Looked(looked))
 
+    def test_idle_marks(self):
+        self.assertEqual(judged(A, [255, 0, 255], [255] * 9, [1, 255]), Yes(3, 2, 1, 1))
+        judge = self.opened(1)
+        self.refused(12, judge.deliver, 0, b"\xff" * 65537)
+        self.refused(13, judge.deliver, 0, b"\xff\xfe")
+        self.refused(13, judge.deliver, 0, b"\xff\2")
+        self.assertEqual(judge.deliver(0, b"\xff" * 65536), Looked(0))
+        self.refused(22, judge.deliver, 0, b"\xff")
+
     def test_words_of_a_refusal(self):
         with self.assertRaisesRegex(Refused, "^refused 20: no rule is loaded$"):
             Judge().open(1)
@@ -161,7 +170,7 @@ class Module(unittest.TestCase):
         self.assertEqual(found.failed, 0)
 
     def test_version(self):
-        self.assertEqual(bellbadger.version(), (3, 0))
+        self.assertEqual(bellbadger.version(), (3, 1))
 
     def test_a_missing_library_names_the_command(self):
         run = subprocess.run(

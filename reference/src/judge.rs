@@ -42,6 +42,14 @@ impl Work {
 
 use Answer::{Accepted, Delivered, Loaded, No, Refused, Waiting, Yes};
 
+/// What a controller writes while no valve moves.
+const IDLE: u8 = 255;
+
+/// The text of a chunk: idle marks are skipped.
+fn text(chunk: &[u8]) -> Vec<u8> {
+    chunk.iter().copied().filter(|&byte| byte != IDLE).collect()
+}
+
 /// A place has its standing chunk, or none.
 type Board = Vec<Option<Vec<u8>>>;
 
@@ -54,7 +62,7 @@ pub struct Judge {
 /// The sum of the counts of the standing chunks.
 fn total(rule: &Rule, board: &Board) -> u64 {
     let count = |(place, chunk): (usize, &Option<Vec<u8>>)| match chunk {
-        Some(chunk) => rule.count(place, chunk),
+        Some(chunk) => rule.count(place, &text(chunk)),
         None => 0,
     };
     board.iter().enumerate().map(count).sum()
@@ -94,11 +102,12 @@ impl Judge {
         let (Some(rule), Some(board)) = (&self.rule, &mut self.board) else { return Refused(21) };
         if place >= board.len() as u64 { return Refused(11); }
         if chunk.len() > 65_536 { return Refused(12); }
-        if chunk.iter().any(|&s| s as usize >= rule.automaton.k) { return Refused(13); }
+        let foreign = |&byte: &u8| byte != IDLE && byte as usize >= rule.automaton.k;
+        if chunk.iter().any(foreign) { return Refused(13); }
         let place = place as usize;
         if board[place].is_some() { return Refused(22); }
         board[place] = Some(chunk.to_vec());
-        Delivered(rule.looked(place, chunk))
+        Delivered(rule.looked(place, &text(chunk)))
     }
 
     fn withdraw(&mut self, place: u64) -> Answer {
@@ -110,16 +119,16 @@ impl Judge {
         Accepted
     }
 
-    /// Whether the automaton accepts the chunks joined to one text.
+    /// Whether the automaton accepts the chunks, without their idle marks, joined to one text.
     fn verdict(&self) -> Answer {
         let (Some(rule), Some(board)) = (&self.rule, &self.board) else { return Refused(21) };
         let empty = board.iter().filter(|chunk| chunk.is_none()).count();
         if empty > 0 {
             return Waiting(empty);
         }
-        let text: Vec<u8> = board.iter().flatten().flatten().copied().collect();
-        let work = Work::new(total(rule, board), text.len() as u64);
-        if rule.automaton.accepts_from(rule.automaton.initial, &text) {
+        let whole: Vec<u8> = board.iter().flatten().flat_map(|chunk| text(chunk)).collect();
+        let work = Work::new(total(rule, board), whole.len() as u64);
+        if rule.automaton.accepts_from(rule.automaton.initial, &whole) {
             Yes(work)
         } else {
             No(work)

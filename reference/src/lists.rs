@@ -6,6 +6,7 @@ use crate::random::Random;
 use crate::rule::Automaton;
 
 const LONGEST: usize = 65_536;
+const IDLE: u8 = 255;
 
 /// A list of calls in the making. What it remembers only guides the choice of the next call.
 struct Maker {
@@ -186,10 +187,32 @@ impl Maker {
         text
     }
 
+    /// A chunk with that text, now and then with idle marks, a row of them or some here and there;
+    /// none beyond the limit.
+    fn marked(&mut self, text: Vec<u8>) -> Vec<u8> {
+        let spare = LONGEST.saturating_sub(text.len());
+        let mut chunk = text;
+        if spare == 0 || !self.r.one_in(3) {
+            return chunk;
+        }
+        if self.r.one_in(2) {
+            let marks = self.r.pick(&[1, 2, 8, chunk.len() + 2]).min(spare);
+            let at = self.r.below(chunk.len() + 1);
+            chunk.splice(at..at, vec![IDLE; marks]);
+            return chunk;
+        }
+        for _ in 0..self.r.range(1, 8).min(spare) {
+            let at = self.r.below(chunk.len() + 1);
+            chunk.insert(at, IDLE);
+        }
+        chunk
+    }
+
     fn chunk(&mut self) -> Vec<u8> {
         let from = 1 << self.r.below(self.rule.n);
         let length = self.length();
-        self.walk(from, length)
+        let text = self.walk(from, length);
+        self.marked(text)
     }
 
     /// A chunk with a byte at or above k: the first, the last or any.
@@ -198,20 +221,23 @@ impl Maker {
         chunk.push(0);
         let at = self.r.below(chunk.len());
         let at = self.r.pick(&[0, chunk.len() - 1, at]);
-        chunk[at] = self.r.pick(&[self.rule.k as u8, self.rule.k as u8, 16, 127, 128, 255]);
+        chunk[at] = self.r.pick(&[self.rule.k as u8, self.rule.k as u8, 16, 127, 128, 254]);
         chunk
     }
 
     fn too_long_chunk(&mut self) -> Vec<u8> {
         let length = LONGEST + self.r.pick(&[1, 1, 1, 1, 2, 1000, 300_000]);
         let mut chunk = self.walk(self.rule.initial, length);
-        if self.r.one_in(3) {
-            chunk[LONGEST] = 255;
+        match self.r.below(6) {
+            0 | 1 => chunk[LONGEST] = IDLE,
+            2 => chunk.fill(IDLE),
+            _ => (),
         }
         chunk
     }
 
-    /// Chunks for all places whose text is, if luck will have it, accepted or not as wished.
+    /// Chunks for all places whose text is, if luck will have it, accepted or not as wished, with
+    /// idle marks.
     fn chunks(&mut self) -> Vec<Vec<u8>> {
         let wish = !self.r.one_in(3);
         let mut chunks: Vec<Vec<u8>> = Vec::new();
@@ -228,7 +254,7 @@ impl Maker {
                 break;
             }
         }
-        chunks
+        chunks.into_iter().map(|chunk| self.marked(chunk)).collect()
     }
 
     /// A load, an opening, chunks for the places in any order, verdicts, and changes afterwards.

@@ -39,14 +39,25 @@ impl Tally {
                     self.add(&format!("edge: chunk of {length} bytes"));
                 }
                 if accepted {
-                    self.looked(words[1].parse().unwrap(), length);
+                    let marks = chunk.iter().filter(|&&byte| byte == 255).count();
+                    self.marks(marks, length);
+                    self.looked(words[1].parse().unwrap(), length - marks);
                 }
             }
             _ => (),
         }
     }
 
-    /// Counts an accepted chunk of so many bytes whose runs all died, or that nothing was run from.
+    /// Counts an accepted chunk that has idle marks, or nothing else.
+    fn marks(&mut self, marks: usize, length: usize) {
+        match marks {
+            0 => (),
+            _ if marks == length => self.add("chunk: idle marks alone"),
+            _ => self.add("chunk: idle marks and text"),
+        }
+    }
+
+    /// Counts an accepted text of so many bytes whose runs all died, or that nothing was run from.
     fn looked(&mut self, looked: usize, length: usize) {
         match looked {
             _ if looked == length => (),

@@ -229,6 +229,22 @@ fn looked_up() {
     assert_eq!(deliver(&mut opened(&file(&chain), 2), 0, &[0; 9]), Delivered(0));
 }
 
+/// Byte 255 is skipped, counts no transition and is no part of the text; the limit counts it.
+#[test]
+fn idle_marks() {
+    assert_eq!(verdict(&A, &[&[255, 0], &[1, 255, 255]]), Yes(work(3, 2, 1, 1)));
+    assert_eq!(verdict(&b(), &[&[0, 255], &[255, 0, 255, 0]]), Yes(work(5, 3, 1, 2)));
+    assert_eq!(verdict(&A, &[&[255]]), No(work(0, 0, 0, 0)));
+    let mut judge = opened(&A, 2);
+    assert_eq!(deliver(&mut judge, 0, &[255; 65_537]), Refused(12));
+    assert_eq!(deliver(&mut judge, 0, &[255, 254]), Refused(13));
+    assert_eq!(deliver(&mut judge, 0, &[255, 255, 2]), Refused(13));
+    assert_eq!(deliver(&mut judge, 0, &[255; 65_536]), Delivered(0));
+    assert_eq!(judge.call(&Call::Verdict), Waiting(1));
+    assert_eq!(deliver(&mut judge, 0, &[]), Refused(22));
+    assert_eq!(deliver(&mut judge, 1, &[255, 0, 255, 1, 255]), Delivered(2));
+}
+
 #[test]
 fn refused_21() {
     let mut judge = Judge::default();

@@ -27,6 +27,7 @@ use Rattle.build.specs.declared.Built.{Built}
 use Rattle.build.specs.declared.BuildResult.{BuildResult}
 use Rattle.build.specs.Building.{accepted, refused, buildMeans, sets, builtOf, noBuilt, Outcome as Built-outcome, buildOutcome, buildOf}
 use Rattle.chunks.specs.declared.Runs.{Runs}
+use Rattle.marks.specs.Marks.{textOf}
 use Rattle.chunks.specs.Chunks.{foreign}
 use Rattle.chunks.specs.Walks.{runMask, runsOf}
 use Rattle.board.specs.declared.Board.{Board}
@@ -105,20 +106,22 @@ module _ (j : Judge) (p : ℕ) (w : List ℕ) where
       unfolding deliverOf
       deliver-12 c r e = e ∙ rw (ne-eqb _ _ a, ← places, lt-leb _ _ b, lt-ltb _ _ c)
 
-      module _ (c : length w ≤ 65536) (f : Bool) (has : f ≡ foreign w (j .built .k)) where
+      -- from here on by the chunk's text v
+      module _ (c : length w ≤ 65536) (v : List ℕ) (text : textOf w ≡ v) (f : Bool) (has : f ≡ foreign v (j .built .k)) where
         pub deliver-13 : f ≡ true → (r : Outcome) → r ≡ record { reply = reply.refused 13; state = j } → r ≡ deliverOf j p w
         unfolding deliverOf
-        deliver-13 d r e = e ∙ rw (ne-eqb _ _ a, ← places, lt-leb _ _ b, le-ltb _ _ c, ← has, d)
+        deliver-13 d r e = e ∙ rw (ne-eqb _ _ a, ← places, lt-leb _ _ b, le-ltb _ _ c, text, ← has, d)
 
         module _ (d : f ≡ false) (x : Bool) (empty : x ≡ isEmpty (j .board) p) where
           pub deliver-22 : not x ≡ true → (r : Outcome) → r ≡ record { reply = reply.refused 22; state = j } → r ≡ deliverOf j p w
           unfolding deliverOf
-          deliver-22 g r e = e ∙ rw (ne-eqb _ _ a, ← places, lt-leb _ _ b, le-ltb _ _ c, ← has, d, ← empty, g)
+          deliver-22 g r e = e ∙ rw (ne-eqb _ _ a, ← places, lt-leb _ _ b, le-ltb _ _ c, text, ← has, d, ← empty, g)
 
-          pub delivered : not x ≡ false → (runs : Runs) → runs ≡ runsAt j p w → (l : Board) → l ≡ filledAt (j .board) p runs → (s : Judge) → s ≡ withBoard j l
+          pub delivered : not x ≡ false → (runs : Runs)
+              → runs ≡ runsOf (j .built .sets) (j .built .next) (j .built .singles) (runMask (j .built .delegates) (j .built .n) (j .built .initials) p) v → (l : Board) → l ≡ filledAt (j .board) p runs → (s : Judge) → s ≡ withBoard j l
               → record { reply = reply.delivered (runs .looked); state = s } ≡ deliverOf j p w
           unfolding deliverOf
-          delivered g runs ran l is s e = rw (e, is, ran, ne-eqb _ _ a, ← places, lt-leb _ _ b, le-ltb _ _ c, ← has, d, ← empty, g)
+          delivered g runs ran l is s e = rw (text, e, is, ran, ne-eqb _ _ a, ← places, lt-leb _ _ b, le-ltb _ _ c, ← has, d, ← empty, g)
 
 -- ---- verdict
 module _ (j : Judge) where

@@ -22,6 +22,7 @@ use lib.Dec.{ltb, leb, eqb}
 use lib.ListN.{length}
 use Rattle.limits.specs.Limits.{mostPlaces, longestChunk}
 use Rattle.base.specs.Conditions.{Condition, on, firstOf, outside}
+use Rattle.marks.specs.Marks.{textOf}
 use Rattle.ruleformat.specs.Refusals.{fileConditions}
 use Rattle.ruleformat.specs.Reader.{ruleOf}
 use Rattle.subsets.specs.Sets.{tooMany}
@@ -44,14 +45,14 @@ loadNumber f = firstOf (fileConditions f ++ (on 9 (tooMany (ruleOf f .targets) (
 abbrev pub openConditions : Bool → ℕ → List Condition
 openConditions lacks n = on 20 lacks ∷ on 10 (outside 1 mostPlaces n) ∷ []
 
--- no board is there; it has so many places; the chunk w for place p; the rule has k symbols; a
--- chunk stands at p
+-- no board is there; it has so many places; the chunk w for place p, whose length counts every byte
+-- and whose text is without its idle marks; the rule has k symbols; a chunk stands at p
 abbrev pub deliverConditions : Bool → ℕ → ℕ → List ℕ → ℕ → Bool → List Condition
 deliverConditions lacks places p w k filled =
     on 21 lacks ∷
     on 11 (leb places p) ∷
     on 12 (ltb longestChunk (length w)) ∷
-    on 13 (foreign w k) ∷
+    on 13 (foreign (textOf w) k) ∷
     on 22 filled ∷ []
 
 -- no board is there; it has so many places; no chunk stands at place p

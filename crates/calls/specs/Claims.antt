@@ -1,21 +1,27 @@
 -- What holds of the calls on any state whatever.
 --
---   Unchanged       demand 1: a refusal changes nothing. proofs/Refusing.antt proves it
---   Divided c b r   the report r has the bytes b, and the quotient and remainder of the count c by
---                   them (document 02, R-1)
---   ThreeZeros r    it has none of the three
---   ReportLaw       what `reportBy` comes to. proofs/Reporting.antt proves it
+--   Unchanged         demand 1: a refusal changes nothing. proofs/Refusing.antt proves it
+--   Divided c b r     the report r has the bytes b, and the quotient and remainder of the count c
+--                     by them (document 02, R-1)
+--   ThreeZeros r      it has none of the three
+--   ReportLaw         what `reportBy` gives. proofs/Reporting.antt proves it
+--   ForeignByte w k   some byte of the chunk w is neither an idle mark nor a symbol below k
+--   Foreign-exactly   the condition of 13 holds exactly then. proofs/Foreign.antt proves it
 use mathlib.Core.Path.{_≡_}
-use mathlib.Core.Logic.{_⊎_}
+use mathlib.Core.Logic.{_↔_, _⊎_}
+use mathlib.Core.Bool.{true}
+use mathlib.Core.List.{List}
 use mathlib.Core.Option.{some}
-use Prim.Native.Nat.{ℕ, _+_, _*_, _<_}
+use Prim.Native.Nat.{ℕ, _+_, _*_, _<_, _≤_}
+use lib.ListN.{length, getD}
+use Rattle.marks.specs.Marks.{idleMark, textOf}
+use Rattle.chunks.specs.Chunks.{foreign}
 use Rattle.calls.specs.declared.Judge.{Judge}
 use Rattle.calls.specs.Replies.{Judgement, waiting, yesWith, noWith, refusedWith, Reported, refusalOf}
 use Rattle.calls.specs.Calls.{Call, reportBy}
 use Rattle.calls.specs.Steps.{stepOf}
 
--- a refusal leaves the state as it was. (File and chunk are lent as `&[u8]`, which no function can
--- write.)
+-- (File and chunk are lent as `&[u8]`, which no function can write.)
 abbrev pub Unchanged : Type 0
 Unchanged = (j : Judge) (c : Call) (x : ℕ) → refusalOf (stepOf j c .reply) ≡ some x → stepOf j c .state ≡ j
 
@@ -35,3 +41,9 @@ pub record ReportLaw (v : Judgement) (bytes : ℕ) : Type 0 where
   pub divided : (count : ℕ) → (v ≡ yesWith count) ⊎ (v ≡ noWith count) → Divided count bytes (reportBy v bytes)
   -- beside waiting or a refusal
   pub zeros : (x : ℕ) → (v ≡ waiting x) ⊎ (v ≡ refusedWith x) → ThreeZeros (reportBy v bytes)
+
+abbrev pub ForeignByte : List ℕ → ℕ → Type 0
+ForeignByte w k = (i : ℕ) × (i < length w) × (getD w i 0 ≡ idleMark → ⊥) × (k ≤ getD w i 0)
+
+abbrev pub Foreign-exactly : Type 0
+Foreign-exactly = (w : List ℕ) (k : ℕ) → (foreign (textOf w) k ≡ true) ↔ ForeignByte w k

@@ -17,6 +17,7 @@ use mathlib.Core.Option.{Option, none, some}
 use Prim.Native.Nat.{ℕ}
 use lib.Dec.{eqb}
 use Rattle.base.specs.Conditions.{firstOf}
+use Rattle.marks.specs.Marks.{textOf}
 use Rattle.ruleformat.specs.Reader.{ruleOf}
 use Rattle.build.specs.Building.{builtOf, noBuilt}
 use Rattle.chunks.specs.declared.Runs.{Runs}
@@ -77,10 +78,10 @@ openOf j n =
     outcomeBy (firstOf (openConditions (lacksRule j) n)) accepted j (withBoard j (emptyBoard n))
 
 -- ---- deliver
--- the runs of a chunk at a place
+-- the runs of a chunk at a place: those of its text
 abbrev pub runsAt : Judge → ℕ → List ℕ → Runs
 runsAt j p w =
-    runsOf (j .built .sets) (j .built .next) (j .built .singles) (runMask (j .built .delegates) (j .built .n) (j .built .initials) p) w
+    runsOf (j .built .sets) (j .built .next) (j .built .singles) (runMask (j .built .delegates) (j .built .n) (j .built .initials) p) (textOf w)
 
 unfoldable pub deliverOf : Judge → ℕ → List ℕ → Outcome
 deliverOf j p w =

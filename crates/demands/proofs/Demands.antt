@@ -18,7 +18,8 @@
 --      Accepted-exactly, Refused-..   which calls, with which number        histories/specs/Conditions
 --      CountBound                     the sum's bound; the former 24        histories/specs/CountBound
 --      LookedUp, AllEmpty             for how many bytes a set is looked up histories/, chunks/specs/Claims
---      runSet, endSet, chunkCount     running a chunk                       chunks/specs/Chunks
+--      textOf, foreign                a chunk without idle marks; 13        marks/specs/Marks, chunks/specs/Chunks
+--      runSet, endSet, chunkCount     running a text                        chunks/specs/Chunks
 --      held, isEmpty, summedCount ..  what a board holds                    board/specs/Boards
 --      joinOf, yesOf                  joining                               joins/specs/Joining
 --      reportBy; Divided, ThreeZeros  what is reported with a verdict       calls/specs/Calls, Claims
@@ -40,6 +41,7 @@ use contract.Lifetimes.{Lfts}
 use denote.Ref.{RefT}
 use Rattle.limits.specs.Limits.{mostStates, mostPlaces, lineRoom}
 use Rattle.base.specs.Options.{isNone}
+use Rattle.marks.specs.Marks.{textOf}
 use Rattle.masks.specs.Masks.{shares}
 use Rattle.executions.specs.Executions.{Execution}
 use Rattle.executions.proofs.Executions.{execution-law}
@@ -54,10 +56,12 @@ use Rattle.calls.specs.declared.Judge.{Judge}
 use Rattle.calls.specs.Replies.{waiting, yesWith, noWith, refusedWith, Reply, refusalOf, delivered}
 use Rattle.calls.specs.Calls.{Call, loadNumber, delivers}
 use Rattle.calls.specs.Steps.{fresh, isYes, reportOf, stepOf}
-use Rattle.calls.specs.Claims.{Divided, ThreeZeros}
+use Rattle.calls.specs.Claims.{Divided, ThreeZeros, ForeignByte}
+use Rattle.chunks.specs.Chunks.{foreign}
 use Rattle.calls.proofs.Conditions.{not-refused}
+use Rattle.calls.proofs.Foreign as calls-foreign
 use Rattle.calls.proofs.Refusing as refusing
-use Rattle.histories.specs.History.{fileOf, ruleIn, boardIn, standing, chunkOf, endAt, countAt, lengthAt, emptiesIn, summedIn, bytesIn, yesIn, textIn, verdictIn, reportIn, answersTo, answerOf}
+use Rattle.histories.specs.History.{fileOf, ruleIn, boardIn, standing, standingText, endAt, countAt, lengthAt, emptiesIn, summedIn, bytesIn, yesIn, textIn, verdictIn, reportIn, answersTo, answerOf}
 use Rattle.histories.specs.Method.{Method}
 use Rattle.histories.specs.Conditions.{Accepted-exactly, Refused-exactly}
 use Rattle.histories.specs.Claims.{judgeMachine, judgeAfter, repliesTo, BuiltBy, LookedUp, EveryList, automatonBy}
@@ -145,6 +149,11 @@ accepted-exactly h = every-list h .accepted-exactly
 pub refused-exactly : (h : List Call) → Refused-exactly h
 refused-exactly h = every-list h .refused-exactly
 
+-- 13 is by a delivery's text, which is its chunk without idle marks (document 02, R-5): it is the
+-- number exactly where some byte is neither an idle mark, 255, nor a symbol below k.
+pub foreign-bytes : (w : List ℕ) (k : ℕ) → (foreign (textOf w) k ≡ true) ↔ ForeignByte w k
+foreign-bytes = calls-foreign.foreign-exactly
+
 -- The summed count is at most 64 places times 65,536 bytes times 32 starts, with a chunk that can be
 -- delivered too: so what document 01 numbered 24, a sum over 4,294,967,295, changed no answer, and a
 -- delivery has the other five conditions (document 02, R-4).
@@ -153,7 +162,7 @@ count-bound = histories-bound.count-bound
 
 -- An accepted delivery is answered for how many bytes of its text any successor is looked up: the
 -- least number of text bytes after which every run's set is empty, else all (document 02, R-2).
-pub looked-up : (h : List Call) (p : ℕ) (w : List ℕ) (n : ℕ) → answerOf h (delivers p w) ≡ delivered n → LookedUp h p w n
+pub looked-up : (h : List Call) (p : ℕ) (w : List ℕ) (n : ℕ) → answerOf h (delivers p w) ≡ delivered n → LookedUp h p (textOf w) n
 looked-up h = every-list h .looked-up
 
 -- The verdict: refused with 21 unless the last accepted load or opening is an opening;
@@ -164,8 +173,8 @@ refused-21 h = every-list h .verdict .none-there
 pub waits : (h : List Call) (e : ℕ) → (verdictIn h ≡ waiting e) ↔ ((boardIn h ≡ true) × (0 < e) × (e ≡ emptiesIn h))
 waits h = every-list h .verdict .waits
 
--- else yes exactly when the last accepted rule has an accepting run over the standing chunks joined
--- by place, and no when it has none.
+-- else yes exactly when the last accepted rule has an accepting run over the standing chunks without
+-- their idle marks, joined by place, and no when it has none.
 pub accepted-texts : (h : List Call) → boardIn h ≡ true → emptiesIn h ≡ 0
     → (verdictIn h ≡ yesWith (summedIn h)) ↔ Accepts (automatonBy (fileOf h)) (textIn h)
 accepted-texts h = every-list h .verdict .accepts
@@ -174,7 +183,8 @@ pub rejected-texts : (h : List Call) → boardIn h ≡ true → emptiesIn h ≡ 
     → (verdictIn h ≡ noWith (summedIn h)) ↔ (Accepts (automatonBy (fileOf h)) (textIn h) → ⊥)
 rejected-texts h = every-list h .verdict .rejects
 
--- Each place with a standing chunk holds the end sets and the count that 01 gives, any other none:
+-- Each place with a standing chunk holds the end sets and the count that 01 gives to its text, any
+-- other none:
 pub empties : (h : List Call) (p : ℕ) → p < mostPlaces → isEmpty (judgeAfter h .board) p ≡ isNone (standing h p)
 empties h = every-list h .after .empty
 
@@ -188,14 +198,15 @@ counts h = every-list h .after .counts
 pub joined : (h : List Call) → boardIn h ≡ true → isYes (judgeAfter h) ≡ yesIn h
 joined h = every-list h .after .joined
 
--- the count is the sum of those counts and at most merged starts times bytes, as at each place.
+-- the count is the sum of those counts and at most merged starts times bytes of the text, as at each
+-- place.
 pub summed : (h : List Call) → summedCount (judgeAfter h .board) ≡ summedIn h
 summed h = every-list h .after .summed
 
 pub most : (h : List Call) → summedIn h ≤ startsIn (ruleIn h) .startcount * length (textIn h)
 most h = every-list h .verdict .most
 
-pub place-most : (h : List Call) (p : ℕ) → countAt h p ≤ startsIn (ruleIn h) .startcount * length (chunkOf (standing h p))
+pub place-most : (h : List Call) (p : ℕ) → countAt h p ≤ startsIn (ruleIn h) .startcount * length (standingText (standing h p))
 place-most h = every-list h .verdict .place-most
 
 -- Beside yes or no the verdict reports the number of text bytes, and the whole quotient and the exact

@@ -13,6 +13,7 @@ use borrow.Author.Tests.{eq-eqb, ne-eqb, eqb-true, eqb-false}
 use Rattle.base.specs.Options.{isNone}
 use Rattle.base.proofs.Options.{none-some}
 use Rattle.base.proofs.Tests.{by-test}
+use Rattle.marks.specs.Marks.{textOf}
 use Rattle.ruleformat.specs.Reader.{ruleOf}
 use Rattle.automaton.specs.Automaton.{Text}
 use Rattle.build.specs.Building.{noBuilt}
@@ -20,7 +21,7 @@ use Rattle.board.specs.declared.Board.{Board}
 use Rattle.board.specs.Boards.{held, isEmpty, emptyBoard, filledAt, clearedAt}
 use Rattle.board.proofs.Laws.{Sized, sized-empty, empty-all, empty-held, empty-count, empty-length, Changed, filled-at, cleared-at}
 use Rattle.calls.specs.declared.Judge.{Judge}
-use Rattle.histories.specs.History.{ruleFrom, countOf, endOf, chunkOf, lookedOf}
+use Rattle.histories.specs.History.{ruleFrom, countOf, endOf, standingText, lookedOf}
 use Rattle.calls.specs.Steps.{fresh, withBoard, runsAt}
 use Rattle.histories.specs.Claims.{BuiltBy}
 use Rattle.histories.proofs.Running.{count-same, looked-same, end-same}
@@ -32,11 +33,11 @@ pub record Agrees (file : Option (List ℕ)) (places : ℕ) (at : ℕ → Option
   pub few : places ≤ 64
   pub ruled : 0 < places → isNone file ≡ false
   pub beyond : (p : ℕ) → places ≤ p → at p ≡ none
-  pub texts : (p : ℕ) (w : List ℕ) → at p ≡ some w → Text (ruleFrom file .k) w
+  pub texts : (p : ℕ) (w : List ℕ) → at p ≡ some w → Text (ruleFrom file .k) (textOf w)
   pub empty : (p : ℕ) → p < 64 → isEmpty (j .board) p ≡ isNone (at p)
   pub ends : (p q : ℕ) → p < 64 → q < 32 → held (j .board) p q ≡ endOf (ruleFrom file) p q (at p)
   pub counts : (p : ℕ) → p < 64 → getD (j .board .counts) p 0 ≡ countOf (ruleFrom file) p (at p)
-  pub lengths : (p : ℕ) → p < 64 → getD (j .board .lengths) p 0 ≡ length (chunkOf (at p))
+  pub lengths : (p : ℕ) → p < 64 → getD (j .board .lengths) p 0 ≡ length (standingText (at p))
 
 -- ---- all places empty
 nothing : ℕ → Option (List ℕ)
@@ -88,8 +89,8 @@ module _ (file : Option (List ℕ)) (places : ℕ) (at : ℕ → Option (List �
   pub place-below : p < 64
   place-below = omega (arith, h, holds .few)
 
-  changed-holds : (new : Option (List ℕ)) (c : Board) → ((w : List ℕ) → new ≡ some w → Text (ruleFrom file .k) w)
-      → Changed (j .board) c p (isNone new) (countOf (ruleFrom file) p new) (length (chunkOf new)) (λ q. endOf (ruleFrom file) p q new)
+  changed-holds : (new : Option (List ℕ)) (c : Board) → ((w : List ℕ) → new ≡ some w → Text (ruleFrom file .k) (textOf w))
+      → Changed (j .board) c p (isNone new) (countOf (ruleFrom file) p new) (length (standingText new)) (λ q. endOf (ruleFrom file) p q new)
       → Agrees file places (placed at p new) (withBoard j c)
   changed-holds new c text changed = record {
     rule = kept file (holds .rule);
@@ -99,7 +100,7 @@ module _ (file : Option (List ℕ)) (places : ℕ) (at : ℕ → Option (List �
     ruled = holds .ruled;
     beyond = λ i b. placed-other at p new i (λ e. absurd (omega (arith, h, b, e))) ∙ holds .beyond i b;
     texts =
-        each at p new (λ i o. (w : List ℕ) → o ≡ some w → Text (ruleFrom file .k) w) text (λ i ne. holds .texts i);
+        each at p new (λ i o. (w : List ℕ) → o ≡ some w → Text (ruleFrom file .k) (textOf w)) text (λ i ne. holds .texts i);
     empty =
         each at p new (λ i o. i < 64 → isEmpty c i ≡ isNone o) (λ b. changed .empty-own) (λ i ne b. changed .empty-other i ne ∙ holds .empty i b);
     ends = λ i q b.
@@ -113,7 +114,7 @@ module _ (file : Option (List ℕ)) (places : ℕ) (at : ℕ → Option (List �
         (λ b. changed .count-own)
         (λ i ne b. changed .count-other i ne ∙ holds .counts i b);
     lengths =
-        each at p new (λ i o. i < 64 → getD (c .lengths) i 0 ≡ length (chunkOf o))
+        each at p new (λ i o. i < 64 → getD (c .lengths) i 0 ≡ length (standingText o))
         (λ b. changed .length-own)
         (λ i ne b. changed .length-other i ne ∙ holds .lengths i b);
   }
@@ -126,22 +127,22 @@ module _ (file : Option (List ℕ)) (places : ℕ) (at : ℕ → Option (List �
   cleared-holds =
       changed-holds none (clearedAt (j .board) p) (λ w e. none-some refl e) (cleared-at (j .board) p (holds .sized) place-below)
 
--- ---- a chunk is run and kept
-module _ (f : List ℕ) (places : ℕ) (at : ℕ → Option (List ℕ)) (j : Judge) (holds : Agrees (some f) places at j) (p : ℕ) (h : p < places) (w : List ℕ) (text : Text (ruleOf f .k) w) where
+-- ---- the text of a chunk is run, and what comes of it kept
+module _ (f : List ℕ) (places : ℕ) (at : ℕ → Option (List ℕ)) (j : Judge) (holds : Agrees (some f) places at j) (p : ℕ) (h : p < places) (w : List ℕ) (text : Text (ruleOf f .k) (textOf w)) where
   pub run-count : runsAt j p w .count ≡ countOf (ruleOf f) p (some w)
-  run-count = rw (holds .rule .0) (count-same (ruleOf f) (holds .rule .1) (holds .rule .2) p w text)
+  run-count = rw (holds .rule .0) (count-same (ruleOf f) (holds .rule .1) (holds .rule .2) p (textOf w) text)
 
   pub run-looked : runsAt j p w .looked ≡ lookedOf (ruleOf f) p w
-  run-looked = rw (holds .rule .0) (looked-same (ruleOf f) (holds .rule .1) (holds .rule .2) p w text)
+  run-looked = rw (holds .rule .0) (looked-same (ruleOf f) (holds .rule .1) (holds .rule .2) p (textOf w) text)
 
   run-end : (q : ℕ) → q < 32 → getD (runsAt j p w .ends) q 0 ≡ endOf (ruleOf f) p q (some w)
-  run-end q l = rw (holds .rule .0) (end-same (ruleOf f) (holds .rule .1) (holds .rule .2) p w text q l)
+  run-end q l = rw (holds .rule .0) (end-same (ruleOf f) (holds .rule .1) (holds .rule .2) p (textOf w) text q l)
 
   pub filled-holds : Agrees (some f) places (placed at p (some w)) (withBoard j (filledAt (j .board) p (runsAt j p w)))
   filled-holds =
       let c = filled-at (j .board) p (holds .sized) (place-below (some f) places at j holds p h) (runsAt j p w) in
       changed-holds (some f) places at j holds p h (some w) (filledAt (j .board) p (runsAt j p w))
-      (λ v e. let z : w ≡ v = cc in subst (Text (ruleOf f .k)) z text)
+      (λ v e. let z : w ≡ v = cc in subst (λ (x : List ℕ). Text (ruleOf f .k) (textOf x)) z text)
       (record {
         sized = c .sized;
         places-same = c .places-same;

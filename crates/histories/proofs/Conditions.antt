@@ -18,6 +18,7 @@ use Rattle.base.proofs.Options.{none-some, is-some, not-some}
 use Rattle.base.proofs.Conditions.{none-law, first-law, outside-law}
 use Rattle.base.specs.Conditions.{Condition, on, firstOf, NoneHolds, FirstHolds, outside}
 use Rattle.base.proofs.Tests.{by-test, or-left, or-right, zero-one}
+use Rattle.marks.specs.Marks.{textOf}
 use Rattle.ruleformat.specs.Refusals.{fileConditions, refusal}
 use Rattle.ruleformat.specs.Reader.{ruleOf}
 use Rattle.ruleformat.specs.Language.{automatonIn}
@@ -200,7 +201,7 @@ accepted-exactly h = record {
       on 21 (eqb (placesIn h) 0) ∷
       on 11 (leb (placesIn h) p) ∷
       on 12 (ltb 65536 (length w)) ∷
-      on 13 (foreign w (ruleIn h .k)) ∷
+      on 13 (foreign (textOf w) (ruleIn h .k)) ∷
       on 22 (isSome (standing h p)) ∷ [] in
       let law = delivered-law (firstOf conditions) (lookedOf (ruleIn h) p w) n in (
         (λ e.
@@ -267,7 +268,7 @@ module _ (h : List Call) (p : ℕ) (w : List ℕ) where
   from-22 = on 22 (isSome (standing h p)) ∷ []
 
   abbrev from-13 : List Condition
-  from-13 = on 13 (foreign w (ruleIn h .k)) ∷ from-22
+  from-13 = on 13 (foreign (textOf w) (ruleIn h .k)) ∷ from-22
 
   abbrev from-12 : List Condition
   from-12 = on 12 (ltb 65536 (length w)) ∷ from-13
@@ -286,19 +287,19 @@ module _ (h : List Call) (p : ℕ) (w : List ℕ) where
         λ y. one .1 (y .0, two .1 (le-ltb 65536 (length w) (y .1), y .2)),
       )
 
-  delivery-13 : (answerOf h (delivers p w) ≡ refused 13) ↔ ((p < placesIn h) × (length w ≤ 65536) × (foreign w (ruleIn h .k) ≡ true))
+  delivery-13 : (answerOf h (delivers p w) ≡ refused 13) ↔ ((p < placesIn h) × (length w ≤ 65536) × (foreign (textOf w) (ruleIn h .k) ≡ true))
   unfolding named
   delivery-13 =
       let one = past-12 13 refl refl refl in
-      let here = first-here 13 (foreign w (ruleIn h .k)) from-22 refl in
+      let here = first-here 13 (foreign (textOf w) (ruleIn h .k)) from-22 refl in
       ((λ e. let y = one .0 e in (y .0, y .1, here .0 (y .2))), λ y. one .1 (y .0, y .1, here .1 (y .2)))
 
   delivery-22 : (answerOf h (delivers p w) ≡ refused 22)
-      ↔ ((p < placesIn h) × (length w ≤ 65536) × (foreign w (ruleIn h .k) ≡ false) × (standing h p ≡ none → ⊥))
+      ↔ ((p < placesIn h) × (length w ≤ 65536) × (foreign (textOf w) (ruleIn h .k) ≡ false) × (standing h p ≡ none → ⊥))
   unfolding named
   delivery-22 =
       let one = past-12 22 refl refl refl in
-      let two = first-past 13 22 (foreign w (ruleIn h .k)) from-22 refl in
+      let two = first-past 13 22 (foreign (textOf w) (ruleIn h .k)) from-22 refl in
       let here = Iff·trans (first-here 22 (isSome (standing h p)) [] refl) (filled (standing h p)) in (
         (λ e. let y = one .0 e in let z = two .0 (y .2) in (y .0, y .1, z .0, here .0 (z .1))),
         λ y. one .1 (y .0, y .1, two .1 (y .2, here .1 (y .3))),

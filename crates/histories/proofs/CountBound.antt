@@ -21,6 +21,8 @@ use Rattle.base.proofs.Tests.{by-test, zero-one}
 use Rattle.base.proofs.Totals.{total-most, total-but-one}
 use Rattle.masks.specs.Masks.{single, has}
 use Rattle.executions.specs.Executions.{stateAfter, repliesTo as machineReplies}
+use Rattle.marks.specs.Marks.{textOf}
+use Rattle.marks.proofs.Claims as marks
 use Rattle.automaton.specs.declared.Rule.{Rule}
 use Rattle.chunks.specs.Chunks.{foreign, counted, chunkCount}
 use Rattle.chunks.proofs.Claims as chunks
@@ -39,18 +41,18 @@ use Rattle.histories.proofs.Steps.{by-run}
 use Rattle.histories.proofs.Conditions.{accepted-exactly}
 use Rattle.histories.proofs.EveryList.{good}
 
--- ---- what a chunk counts
-chunk-most : (ts : List ℕ) (run : ℕ) (w : List ℕ) → chunkCount ts run w ≤ 32 * length w
+-- ---- what the text of a chunk counts
+chunk-most : (ts : List ℕ) (run : ℕ) (w : List ℕ) → chunkCount ts run (textOf w) ≤ 32 * length w
 chunk-most ts run w =
-    total-most (λ q. cond (has run q) (counted ts (single q) w) 0) (length w) 32 (λ q _. one (has run q) q)
+    total-most (λ q. cond (has run q) (counted ts (single q) (textOf w)) 0) (length w) 32 (λ q _. one (has run q) q)
   where
-    one : (t : Bool) (q : ℕ) → cond t (counted ts (single q) w) 0 ≤ length w
-    one true q = chunks.claims .counted-most ts (single q) w
+    one : (t : Bool) (q : ℕ) → cond t (counted ts (single q) (textOf w)) 0 ≤ length w
+    one true q = omega (arith, chunks.claims .counted-most ts (single q) (textOf w), marks.claims .no-longer w)
     one false q = omega arith
 
 -- ---- a delivery that can be accepted
 module _ (h : List Call) (p : ℕ) (w : List ℕ) (e : deliverNumber h p w ≡ none) where
-  passes : (0 < placesIn h) × (p < placesIn h) × (length w ≤ 65536) × (foreign w (ruleIn h .k) ≡ false) × (standing h p ≡ none)
+  passes : (0 < placesIn h) × (p < placesIn h) × (length w ≤ 65536) × (foreign (textOf w) (ruleIn h .k) ≡ false) × (standing h p ≡ none)
       × (lookedOf (ruleIn h) p w ≡ lookedOf (ruleIn h) p w)
   passes =
       accepted-exactly h .delivery p w (lookedOf (ruleIn h) p w) .0 (ap (λ (o : Option ℕ). replyBy o (delivered (lookedOf (ruleIn h) p w))) e)

@@ -8,6 +8,7 @@ use native.Mathlib.Nat.{lt-of-lt-of-le}
 use lib.Pow.{pow-mono}
 use Rattle.executions.specs.Executions.{stateAfter, repliesTo as machineReplies}
 use Rattle.base.proofs.Tests.{not-both}
+use Rattle.marks.specs.Marks.{textOf}
 use Rattle.ruleformat.specs.Reader.{ruleOf}
 use Rattle.chunks.proofs.Claims as chunks
 use Rattle.calls.specs.declared.Judge.{Judge}
@@ -61,17 +62,18 @@ few-run none places at j holds l p = not-both refl (holds .ruled l)
 few-run (some f) places at j holds l p =
     let good = holds .rule .1 in lt-of-lt-of-le (run-below (ruleOf f) good (holds .rule .2) p) (pow-mono (good .states .1))
 
-looked-up : (h : List Call) (p : ℕ) (w : List ℕ) (n : ℕ) → answerOf h (delivers p w) ≡ delivered n → LookedUp h p w n
+looked-up : (h : List Call) (p : ℕ) (w : List ℕ) (n : ℕ) → answerOf h (delivers p w) ≡ delivered n → LookedUp h p (textOf w) n
 looked-up h p w n e =
     let x = accepted-exactly h .delivery p w n .0 e in
     let few = few-run (fileOf h) (placesIn h) (standing h) (judgeAfter h) (good h) (x .0) p in
     let ts = ruleIn h .targets in
     let run = runAt (ruleIn h) p in
+    let v = textOf w in
     rw (x .5)
     (record {
-      most = chunks.claims .looked-most ts run w;
-      all-empty = chunks.claims .looked-all-empty ts run few w;
-      least = chunks.claims .looked-least ts run few w;
+      most = chunks.claims .looked-most ts run v;
+      all-empty = chunks.claims .looked-all-empty ts run few v;
+      least = chunks.claims .looked-least ts run few v;
     })
 
 pub every-list : (h : List Call) → EveryList h

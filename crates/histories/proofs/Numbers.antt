@@ -14,13 +14,14 @@ use Rattle.base.specs.Conditions.{Condition, on, firstOf, outside}
 use Rattle.base.specs.Options.{isNone, isSome}
 use Rattle.base.specs.Totals.{total}
 use Rattle.base.proofs.Options.{not-none}
+use Rattle.marks.specs.Marks.{textOf}
 use Rattle.ruleformat.specs.Reader.{ruleOf}
 use Rattle.build.specs.declared.Built.{Built}
 use Rattle.chunks.specs.Chunks.{foreign}
 use Rattle.board.specs.Boards.{placesOf, isEmpty, summedCount, summedBytes}
 use Rattle.board.proofs.Laws.{summed-law, bytes-law}
 use Rattle.calls.specs.declared.Judge.{Judge}
-use Rattle.histories.specs.History.{ruleFrom, countOf, chunkOf, deliverCheck, withdrawCheck}
+use Rattle.histories.specs.History.{ruleFrom, countOf, standingText, deliverCheck, withdrawCheck}
 use Rattle.calls.specs.Calls.{openConditions, deliverConditions, withdrawConditions}
 use Rattle.calls.specs.Steps.{lacksRule, lacksBoard}
 use Rattle.histories.specs.Claims.{BuiltBy}
@@ -58,10 +59,10 @@ module _ (file : Option (List ℕ)) (places : ℕ) (at : ℕ → Option (List �
       summed-law (j .board) (λ i. countOf (ruleFrom file) i (at i)) (λ p l. holds .counts p (omega (arith, l)))
       ∙ ap (total (λ i. countOf (ruleFrom file) i (at i))) places-same
 
-  pub bytes-same : summedBytes (j .board) ≡ total (λ i. length (chunkOf (at i))) places
+  pub bytes-same : summedBytes (j .board) ≡ total (λ i. length (standingText (at i))) places
   bytes-same =
-      bytes-law (j .board) (λ i. length (chunkOf (at i))) (λ p l. holds .lengths p (omega (arith, l)))
-      ∙ ap (total (λ i. length (chunkOf (at i)))) places-same
+      bytes-law (j .board) (λ i. length (standingText (at i))) (λ p l. holds .lengths p (omega (arith, l)))
+      ∙ ap (total (λ i. length (standingText (at i)))) places-same
 
   pub open-number : (n : ℕ)
       → firstOf (openConditions (lacksRule j) n) ≡ firstOf (openConditions (isNone file) n)
@@ -98,4 +99,4 @@ module _ (file : Option (List ℕ)) (places : ℕ) (at : ℕ → Option (List �
       (ap not (holds .empty p (omega (arith, leb-false places p l, holds .few))) ∙ not-none (at p))))
     where
       from-12 : ℕ → Bool → List Condition
-      from-12 k filled = on 12 (ltb 65536 (length w)) ∷ on 13 (foreign w k) ∷ on 22 filled ∷ []
+      from-12 k filled = on 12 (ltb 65536 (length w)) ∷ on 13 (foreign (textOf w) k) ∷ on 22 filled ∷ []

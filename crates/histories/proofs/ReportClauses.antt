@@ -9,13 +9,13 @@ use Rattle.base.proofs.Lists.{length-joined}
 use Rattle.calls.specs.Calls.{Call}
 use Rattle.calls.specs.Claims.{Divided}
 use Rattle.calls.proofs.Reporting.{report-law}
-use Rattle.histories.specs.History.{placesIn, standing, chunkOf, bytesIn, textIn, verdictIn, reportIn}
+use Rattle.histories.specs.History.{placesIn, standing, standingText, bytesIn, textIn, verdictIn, reportIn}
 use Rattle.histories.specs.Claims.{ReportClauses}
 
 pub report-words : (h : List Call) → ReportClauses h
 report-words h =
     let law = report-law (verdictIn h) (bytesIn h) in
-    let bytes : bytesIn h ≡ length (textIn h) = sym (length-joined (λ p. chunkOf (standing h p)) (placesIn h)) in
+    let bytes : bytesIn h ≡ length (textIn h) = sym (length-joined (λ p. standingText (standing h p)) (placesIn h)) in
     record {
       verdict = law .verdict;
       text-bytes = bytes;

@@ -13,6 +13,7 @@ use Rattle.base.specs.Conditions.{on, firstOf, outside}
 use Rattle.base.specs.Options.{isNone, isSome}
 use Rattle.base.proofs.Conditions.{passed, none-law}
 use Rattle.base.proofs.Tests.{by-test, or-right, zero-one, not-both}
+use Rattle.marks.specs.Marks.{textOf}
 use Rattle.ruleformat.specs.Reader.{ruleOf}
 use Rattle.ruleformat.proofs.Claims as rulefile
 use Rattle.automaton.specs.Automaton.{Text}
@@ -156,9 +157,10 @@ module _ (h : List Call) (j : Judge) (good : AgreesWith h j) where
   ask-good = good
 
 -- ---- deliver
--- a delivery that meets no condition is of symbols of a rule, since a board is there only with one
+-- the text of a delivery that meets no condition is of symbols of a rule, since a board is there
+-- only with one
 module _ (h : List Call) (j : Judge) (p : ℕ) (w : List ℕ) (P : Option (List ℕ) → Type 0) where
-  pub by-run : ((f : List ℕ) → Agrees (some f) (placesIn h) (standing h) j → p < placesIn h → Text (ruleOf f .k) w → P (some f))
+  pub by-run : ((f : List ℕ) → Agrees (some f) (placesIn h) (standing h) j → p < placesIn h → Text (ruleOf f .k) (textOf w) → P (some f))
       → (file : Option (List ℕ)) → Agrees file (placesIn h) (standing h) j
       → deliverCheck (ruleFrom file .k) (placesIn h) (standing h p) p w ≡ none → P file
   by-run ran none holds e =
@@ -170,7 +172,7 @@ module _ (h : List Call) (j : Judge) (p : ℕ) (w : List ℕ) (P : Option (List 
       zero-one cc)
   by-run ran (some f) holds e =
       let passes = none-law (deliverConditions (eqb (placesIn h) 0) (placesIn h) p w (ruleOf f .k) (isSome (standing h p))) .0 e in
-      ran f holds (leb-false (placesIn h) p (passes .1 .0)) (chunks.claims .text-law w (ruleOf f .k) .0 (passes .1 .1 .1 .0))
+      ran f holds (leb-false (placesIn h) p (passes .1 .0)) (chunks.claims .text-law (textOf w) (ruleOf f .k) .0 (passes .1 .1 .1 .0))
 
 module _ (h : List Call) (j : Judge) (good : AgreesWith h j) (p : ℕ) (w : List ℕ) where
   abbrev kept : Judge

@@ -14,6 +14,7 @@ use Rattle.base.specs.Lists.{listFrom}
 use Rattle.base.specs.Options.{isNone}
 use Rattle.base.specs.Totals.{total}
 use Rattle.masks.specs.Masks.{union}
+use Rattle.marks.specs.Marks.{textOf}
 use Rattle.automaton.specs.declared.Rule.{Rule}
 use Rattle.ruleformat.specs.Refusals.{tooShort, tooLong, badStates, badSymbols, noRoom, badMask, badPairs, badSection, badArcs, refusal}
 use Rattle.ruleformat.specs.Reader.{targetsUpTo, ruleOf}
@@ -26,7 +27,7 @@ use Rattle.delegates.specs.Alike.{startSet}
 use Rattle.chunks.specs.Chunks.{foreign, counted, runSet, looked}
 use Rattle.joins.specs.Joining.{joinOf, yesOf}
 use Rattle.joins.specs.Claims.{delegateIn}
-use Rattle.histories.specs.History.{fileOf, ruleFrom, openNumber, placesIn, standingCount, standingEnd, deliverCheck, standing, deliverNumber, chunkOf, reportIn, answersTo, ruleIn, lookedOf, verdictIn, replyBy, answerOf}
+use Rattle.histories.specs.History.{fileOf, ruleFrom, openNumber, placesIn, standingCount, standingEnd, deliverCheck, standing, deliverNumber, standingText, reportIn, answersTo, ruleIn, lookedOf, verdictIn, replyBy, answerOf}
 use Rattle.calls.specs.Replies.{Reported, Reply, accepted, loaded, judged, delivered, Judgement}
 use Rattle.calls.specs.Calls.{Call, loads, opens, delivers, loadNumber, verdictBy, reportBy}
 use Rattle.histories.specs.Claims.{judgeAfter, BuiltBy}
@@ -45,7 +46,7 @@ module _ (r : Rule) (d : List ℕ) (places : ℕ) (at : ℕ → Option (List ℕ
       (verdictBy (eqb places 0) (total (λ p. cond (isNone (at p)) 1 0) places)
       (yesOf (λ p q. standingEnd (r .targets) (runSet d (r .n) (r .initials) p) q (at p)) (delegateIn d) (r .n) (r .initials) (r .finals) places)
       (total (λ p. countsBy p (at p)) places))
-      (total (λ p. length (chunkOf (at p))) places)
+      (total (λ p. length (standingText (at p))) places)
 
 -- ---- the calls of a verdict, one by one: the rule is that of f, and the board has these places
 -- and standing chunks
@@ -66,7 +67,7 @@ putAll p (c ∷ cs) at = putAll (suc p) cs (put at p (c .0))
 abbrev Checked : Rule → List ℕ → ℕ → ℕ → List (List ℕ × ℕ) → (ℕ → Option (List ℕ)) → Type 0
 Checked r d places p [] at = Unit {0}
 Checked r d places p (c ∷ cs) at =
-    (deliverCheck (r .k) places (at p) p (c .0) ≡ none) × (looked (r .targets) (runSet d (r .n) (r .initials) p) (c .0) ≡ c .1)
+    (deliverCheck (r .k) places (at p) p (c .0) ≡ none) × (looked (r .targets) (runSet d (r .n) (r .initials) p) (textOf (c .0)) ≡ c .1)
     × Checked r d places (suc p) cs (put at p (c .0))
 
 opened : (f : List ℕ) (n : ℕ) → loadNumber f ≡ none → outside 1 64 n ≡ false → (openNumber (loads f ∷ []) n ≡ none) × Stage f (opens n ∷ loads f ∷ []) n (λ _. none)
@@ -76,7 +77,7 @@ opened f n taken fine = (rw (taken, fine), record { file = rw taken; board = rw 
 module _ (f : List ℕ) (places : ℕ) (d : List ℕ) (is : startsIn (ruleOf f) .delegates ≡ d) where
   one-delivered : (h : List Call) (at : ℕ → Option (List ℕ)) (p : ℕ) (w : List ℕ) (n : ℕ) → Stage f h places at
       → deliverCheck (ruleOf f .k) places (at p) p w ≡ none
-      → looked (ruleOf f .targets) (runSet d (ruleOf f .n) (ruleOf f .initials) p) w ≡ n
+      → looked (ruleOf f .targets) (runSet d (ruleOf f .n) (ruleOf f .initials) p) (textOf w) ≡ n
       → (answerOf h (delivers p w) ≡ delivered n) × Stage f (delivers p w ∷ h) places (put at p w)
   unfolding fileOf placesIn standing
   one-delivered h at p w n s e looks =
@@ -84,7 +85,7 @@ module _ (f : List ℕ) (places : ℕ) (d : List ℕ) (is : startsIn (ruleOf f) 
       subst₃ (λ (x : Option (List ℕ)) (y : ℕ) (z : ℕ → Option (List ℕ)). deliverCheck (ruleFrom x .k) y (z p) p w ≡ none) (sym (s .file)) (sym (s .board)) (sym (s .stands)) e in
       let number : lookedOf (ruleIn h) p w ≡ n =
       ap (λ (x : Option (List ℕ)). lookedOf (ruleFrom x) p w) (s .file)
-      ∙ ap (λ (x : List ℕ). looked (ruleOf f .targets) (runSet x (ruleOf f .n) (ruleOf f .initials) p) w) is
+      ∙ ap (λ (x : List ℕ). looked (ruleOf f .targets) (runSet x (ruleOf f .n) (ruleOf f .initials) p) (textOf w)) is
       ∙ looks in (
         ap₂ (λ (o : Option ℕ) (m : ℕ). replyBy o (delivered m)) there number,
         record {
@@ -173,7 +174,7 @@ abbrev given-B : Starts
 given-B = record { delegates = listed 0 1 1; startcount = 2 }
 
 computed : Each Left table
-unfolding answersTo loadNumber refusal tooShort tooLong badStates badSymbols noRoom badMask badPairs badSection badArcs anyBelow targetsUpTo listFrom union indexOf numbered expandFrom closeFrom keysUpTo setsOf tooMany nextSet rowsFrom fileOf placesIn standing foreign counted looked startSet total joinOf
+unfolding answersTo loadNumber refusal tooShort tooLong badStates badSymbols noRoom badMask badPairs badSection badArcs anyBelow targetsUpTo listFrom union indexOf numbered expandFrom closeFrom keysUpTo setsOf tooMany nextSet rowsFrom fileOf placesIn standing textOf foreign counted looked startSet total joinOf
 computed =
     (rw starts-A, (refl, (refl, refl))) &
     (rw starts-B, (refl, rw starts-B)) &

@@ -24,6 +24,7 @@ use Rattle.base.proofs.Conditions.{passed}
 use Rattle.base.proofs.Tests.{by-test, or-left, zero-one, not-both}
 use Rattle.base.proofs.Totals.{total-same, term-most}
 use Rattle.masks.specs.Masks.{has}
+use Rattle.marks.specs.Marks.{textOf}
 use Rattle.automaton.specs.declared.Rule.{Rule}
 use Rattle.automaton.specs.Automaton.{Accepts, Text}
 use Rattle.automaton.specs.Rules.{automatonOf, WellFormed}
@@ -39,7 +40,7 @@ use Rattle.joins.proofs.Claims as joins
 use Rattle.calls.specs.declared.Judge.{Judge}
 use Rattle.calls.specs.Replies.{Judgement, waiting, yesWith, noWith, refusedWith}
 use Rattle.calls.proofs.Conditions.{not-refused}
-use Rattle.histories.specs.History.{fileOf, ruleFrom, openNumber, boardIn, placesIn, runAt, countOf, endOf, standing, emptiesIn, summedIn, yesIn, chunkOf, joinedUpTo}
+use Rattle.histories.specs.History.{fileOf, ruleFrom, openNumber, boardIn, placesIn, runAt, countOf, endOf, standing, emptiesIn, summedIn, yesIn, standingText, joinedUpTo}
 use Rattle.calls.specs.Calls.{Call, loads, opens, delivers, withdraws, asksVerdict, loadNumber, verdictBy}
 use Rattle.histories.specs.Claims.{automatonBy, VerdictClauses}
 use Rattle.histories.proofs.Running.{merged}
@@ -144,10 +145,10 @@ module _ (places empties : ℕ) (t : Bool) (sum : ℕ) where
       to (says-yes z w y v) x = y
       to (says-no z w y v) x = absurd-reply (cc)
 
--- ---- the standing chunks as a list
+-- ---- the texts of the standing chunks as a list
 chunksUpTo : (ℕ → Option (List ℕ)) → ℕ → List (List ℕ)
 chunksUpTo at zero = []
-chunksUpTo at (suc p) = chunksUpTo at p ++ (chunkOf (at p) ∷ [])
+chunksUpTo at (suc p) = chunksUpTo at p ++ (standingText (at p) ∷ [])
 
 flatten-more : (l : List (List ℕ)) (w : List ℕ) → flatten (l ++ (w ∷ [])) ≡ flatten l ++ w
 unfolding flatten
@@ -158,37 +159,37 @@ module _ (at : ℕ → Option (List ℕ)) where
   chunks-length : (n : ℕ) → length (chunksUpTo at n) ≡ n
   unfolding chunksUpTo
   chunks-length zero = refl
-  chunks-length (suc n) = length-append (chunksUpTo at n) (chunkOf (at n) ∷ []) ∙ ap (λ (x : ℕ). x + 1) (chunks-length n) ∙ add-one n
+  chunks-length (suc n) = length-append (chunksUpTo at n) (standingText (at n) ∷ []) ∙ ap (λ (x : ℕ). x + 1) (chunks-length n) ∙ add-one n
 
-  chunk-at : (n p : ℕ) → p < n → getD (chunksUpTo at n) p [] ≡ chunkOf (at p)
+  chunk-at : (n p : ℕ) → p < n → getD (chunksUpTo at n) p [] ≡ standingText (at p)
   unfolding chunksUpTo
   chunk-at zero p h = absurd (let x = h in omega arith)
   chunk-at (suc n) p h =
       by-test (ltb p n)
-      (λ l. List·getD-append (chunksUpTo at n) (chunkOf (at n) ∷ []) [] p (rw (chunks-length n) (ltb-true p n l)) ∙ chunk-at n p (ltb-true p n l))
+      (λ l. List·getD-append (chunksUpTo at n) (standingText (at n) ∷ []) [] p (rw (chunks-length n) (ltb-true p n l)) ∙ chunk-at n p (ltb-true p n l))
       (λ l.
       let g = ltb-false p n l in
       let e : n ≡ p = omega arith in
-      subst (λ (x : ℕ). getD (chunksUpTo at n ++ (chunkOf (at n) ∷ [])) x [] ≡ chunkOf (at x)) e
-      (getD-at (chunksUpTo at n) (chunkOf (at n)) [] [] n (chunks-length n)))
+      subst (λ (x : ℕ). getD (chunksUpTo at n ++ (standingText (at n) ∷ [])) x [] ≡ standingText (at x)) e
+      (getD-at (chunksUpTo at n) (standingText (at n)) [] [] n (chunks-length n)))
 
   joined-is : (n : ℕ) → joinedUpTo at n ≡ flatten (chunksUpTo at n)
   unfolding chunksUpTo joined flatten
   joined-is zero = refl
-  joined-is (suc n) = ap (λ (x : List ℕ). x ++ chunkOf (at n)) (joined-is n) ∙ sym (flatten-more (chunksUpTo at n) (chunkOf (at n)))
+  joined-is (suc n) = ap (λ (x : List ℕ). x ++ standingText (at n)) (joined-is n) ∙ sym (flatten-more (chunksUpTo at n) (standingText (at n)))
 
 texts-more : (k : ℕ) (l : List (List ℕ)) (w : List ℕ) → joins-specs.Texts k l → Text k w → joins-specs.Texts k (l ++ (w ∷ []))
 texts-more k [] w t u = (u, tt)
 texts-more k (v ∷ l) w t u = (t .0, texts-more k l w (t .1) u)
 
-text-of : (k : ℕ) (o : Option (List ℕ)) → ((w : List ℕ) → o ≡ some w → Text k w) → Text k (chunkOf o)
+text-of : (k : ℕ) (o : Option (List ℕ)) → ((w : List ℕ) → o ≡ some w → Text k (textOf w)) → Text k (standingText o)
 text-of k none h = tt
 text-of k (some w) h = h w refl
 
-chunk-texts : (k : ℕ) (at : ℕ → Option (List ℕ)) → ((p : ℕ) (w : List ℕ) → at p ≡ some w → Text k w) → (n : ℕ) → joins-specs.Texts k (chunksUpTo at n)
+chunk-texts : (k : ℕ) (at : ℕ → Option (List ℕ)) → ((p : ℕ) (w : List ℕ) → at p ≡ some w → Text k (textOf w)) → (n : ℕ) → joins-specs.Texts k (chunksUpTo at n)
 unfolding chunksUpTo
 chunk-texts k at h zero = tt
-chunk-texts k at h (suc n) = texts-more k (chunksUpTo at n) (chunkOf (at n)) (chunk-texts k at h n) (text-of k (at n) (h n))
+chunk-texts k at h (suc n) = texts-more k (chunksUpTo at n) (standingText (at n)) (chunk-texts k at h n) (text-of k (at n) (h n))
 
 -- ---- an empty chunk counts nothing
 total-none : (f : ℕ → ℕ) (n : ℕ) → ((p : ℕ) → f p ≡ 0) → total f n ≡ 0
@@ -206,7 +207,7 @@ empty-count ts run = total-none (λ q. cond (has run q) 0 0) 32 (λ q. same (has
 
 -- ---- for a rule that is there
 module _ (r : Rule) (good : WellFormed r) (fit : fits r) (places : ℕ) (at : ℕ → Option (List ℕ)) where
-  count-is : (p : ℕ) (o : Option (List ℕ)) → countOf r p o ≡ chunkCount (r .targets) (runAt r p) (chunkOf o)
+  count-is : (p : ℕ) (o : Option (List ℕ)) → countOf r p o ≡ chunkCount (r .targets) (runAt r p) (standingText o)
   count-is p none = sym (empty-count (r .targets) (runAt r p))
   count-is p (some w) = refl
 
@@ -219,7 +220,7 @@ module _ (r : Rule) (good : WellFormed r) (fit : fits r) (places : ℕ) (at : �
       ∙ ap (total (λ p. chunkCount (r .targets) (runAt r p) (getD ws p []))) (sym (chunks-length at places)) in
       rw (e, joined-is at places) (joins.claims .count-most r good (startsIn r .delegates) (startsIn r .startcount) (merged r good fit) ws)
 
-  filled : (p : ℕ) (o : Option (List ℕ)) → isNone o ≡ false → (q : ℕ) → endOf r p q o ≡ endSet (r .targets) (runAt r p) (chunkOf o) q
+  filled : (p : ℕ) (o : Option (List ℕ)) → isNone o ≡ false → (q : ℕ) → endOf r p q o ≡ endSet (r .targets) (runAt r p) (standingText o) q
   filled p none e q = zero-one cc
   filled p (some w) e q = refl
 
@@ -234,7 +235,7 @@ module _ (r : Rule) (good : WellFormed r) (fit : fits r) (places : ℕ) (at : �
   abbrev held-at : ℕ → ℕ → ℕ
   held-at p q = endOf r p q (at p)
 
-  accepts-law : ((p : ℕ) (w : List ℕ) → at p ≡ some w → Text (r .k) w) → total (λ p. cond (isNone (at p)) 1 0) places ≡ 0
+  accepts-law : ((p : ℕ) (w : List ℕ) → at p ≡ some w → Text (r .k) (textOf w)) → total (λ p. cond (isNone (at p)) 1 0) places ≡ 0
       → (yesOf held-at (delegateIn (startsIn r .delegates)) (r .n) (r .initials) (r .finals) places ≡ true)
       ↔ Accepts (automatonOf r) (joinedUpTo at places)
   accepts-law texts z =
@@ -249,9 +250,9 @@ module _ (r : Rule) (good : WellFormed r) (fit : fits r) (places : ℕ) (at : �
       (sym (joined-is at places))
       (joins.claims .join r good d (startsIn r .startcount) (merged r good fit) held-at ws (chunk-texts (r .k) at texts places) holds)
 
-  place-most : (p : ℕ) → countOf r p (at p) ≤ startsIn r .startcount * length (chunkOf (at p))
+  place-most : (p : ℕ) → countOf r p (at p) ≤ startsIn r .startcount * length (standingText (at p))
   place-most p =
-      rw (count-is p (at p)) (joins.claims .place-most r good (startsIn r .delegates) (startsIn r .startcount) (merged r good fit) p (chunkOf (at p)))
+      rw (count-is p (at p)) (joins.claims .place-most r good (startsIn r .delegates) (startsIn r .startcount) (merged r good fit) p (standingText (at p)))
 
 -- ---- for every list of calls
 module _ (places : ℕ) (at : ℕ → Option (List ℕ)) (j : Judge) where
@@ -266,7 +267,7 @@ module _ (places : ℕ) (at : ℕ → Option (List ℕ)) (j : Judge) where
       sum-most (ruleOf f) (holds .rule .1) (holds .rule .2) places at
 
   place-by : (file : Option (List ℕ)) → Agrees file places at j → (p : ℕ)
-      → countOf (ruleFrom file) p (at p) ≤ startsIn (ruleFrom file) .startcount * length (chunkOf (at p))
+      → countOf (ruleFrom file) p (at p) ≤ startsIn (ruleFrom file) .startcount * length (standingText (at p))
   place-by none holds p =
       let free : places ≤ p = by-test (ltb 0 places)
       (λ l. not-both refl (holds .ruled (ltb-true 0 places l)))

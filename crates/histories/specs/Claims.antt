@@ -22,6 +22,7 @@ use lib.ListN.{length, getD, take}
 use Rattle.limits.specs.Limits.{mostStates, mostPlaces}
 use Rattle.base.specs.Options.{isNone}
 use Rattle.executions.specs.Executions.{Machine, stateAfter, repliesTo as machineReplies}
+use Rattle.marks.specs.Marks.{textOf}
 use Rattle.automaton.specs.Automaton.{Automaton, Accepts}
 use Rattle.automaton.specs.Rules.{automatonOf, WellFormed}
 use Rattle.ruleformat.specs.Reader.{ruleOf, noRule}
@@ -32,7 +33,7 @@ use Rattle.build.specs.Building.{builtOf, noBuilt}
 use Rattle.board.specs.Boards.{held, isEmpty, summedCount, summedBytes}
 use Rattle.calls.specs.declared.Judge.{Judge}
 use Rattle.calls.specs.Replies.{Reply, waiting, yesWith, noWith, refusedWith, delivered}
-use Rattle.histories.specs.History.{fileOf, ruleIn, boardIn, placesIn, standing, endAt, countAt, lengthAt, emptiesIn, summedIn, bytesIn, yesIn, chunkOf, textIn, verdictIn, reportIn, answersTo, runAt, answerOf}
+use Rattle.histories.specs.History.{fileOf, ruleIn, boardIn, placesIn, standing, endAt, countAt, lengthAt, emptiesIn, summedIn, bytesIn, yesIn, standingText, textIn, verdictIn, reportIn, answersTo, runAt, answerOf}
 use Rattle.histories.specs.Method.{Method}
 use Rattle.histories.specs.Conditions.{Accepted-exactly, Refused-exactly}
 use Rattle.calls.specs.Calls.{Call, loadNumber, delivers}
@@ -86,19 +87,19 @@ pub record VerdictClauses (h : List Call) : Type 0 where
   -- waiting with the number of empty places exactly when one is empty
   pub waits : (e : ℕ) → (verdictIn h ≡ waiting e) ↔ ((boardIn h ≡ true) × (0 < e) × (e ≡ emptiesIn h))
   -- else yes exactly when the last accepted rule has an accepting run over the standing chunks
-  -- joined by place, and no when it has none
+  -- without their idle marks, joined by place, and no when it has none
   pub accepts : boardIn h ≡ true → emptiesIn h ≡ 0
       → (verdictIn h ≡ yesWith (summedIn h)) ↔ Accepts (automatonBy (fileOf h)) (textIn h)
   pub rejects : boardIn h ≡ true → emptiesIn h ≡ 0
       → (verdictIn h ≡ noWith (summedIn h)) ↔ (Accepts (automatonBy (fileOf h)) (textIn h) → ⊥)
   -- the yes or no is the join of the end sets
   pub joins : boardIn h ≡ true → emptiesIn h ≡ 0 → (verdictIn h ≡ yesWith (summedIn h)) ↔ (yesIn h ≡ true)
-  -- the count is the sum over the places, and at most M times the bytes
+  -- the count is the sum over the places, and at most M times the bytes of the text
   pub counted : (c : ℕ) → verdictIn h ≡ yesWith c → c ≡ summedIn h
   pub counted-no : (c : ℕ) → verdictIn h ≡ noWith c → c ≡ summedIn h
   pub most : summedIn h ≤ startsIn (ruleIn h) .startcount * length (textIn h)
   -- and so it is at each place
-  pub place-most : (p : ℕ) → countAt h p ≤ startsIn (ruleIn h) .startcount * length (chunkOf (standing h p))
+  pub place-most : (p : ℕ) → countAt h p ≤ startsIn (ruleIn h) .startcount * length (standingText (standing h p))
 
 -- document 02, R-1, of what is reported after the calls h
 pub record ReportClauses (h : List Call) : Type 0 where
@@ -131,7 +132,7 @@ pub record EveryList (h : List Call) : Type 0 where
   pub accepted-exactly : Accepted-exactly h
   pub refused-exactly : Refused-exactly h
   -- an accepted delivery is answered for how many bytes of its text a successor is looked up
-  pub looked-up : (p : ℕ) (w : List ℕ) (n : ℕ) → answerOf h (delivers p w) ≡ delivered n → LookedUp h p w n
+  pub looked-up : (p : ℕ) (w : List ℕ) (n : ℕ) → answerOf h (delivers p w) ≡ delivered n → LookedUp h p (textOf w) n
   pub after : Invariant h (judgeAfter h)
   pub verdict : VerdictClauses h
   pub report : ReportClauses h

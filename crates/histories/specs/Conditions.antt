@@ -10,6 +10,7 @@ use Prim.Native.Nat.{ℕ, _≤_, _<_}
 use lib.ListN.{length}
 use Rattle.base.specs.Conditions.{NoneHolds, FirstHolds}
 use Rattle.limits.specs.Limits.{mostPlaces, longestChunk}
+use Rattle.marks.specs.Marks.{textOf}
 use Rattle.ruleformat.specs.Refusals.{fileConditions}
 use Rattle.ruleformat.specs.Reader.{ruleOf}
 use Rattle.ruleformat.specs.Language.{automatonIn}
@@ -28,12 +29,12 @@ pub record Accepted-exactly (h : List Call) : Type 0 where
       → (answerOf h (loads f) ≡ loaded (builtOf (ruleOf f) .setcount) (builtOf (ruleOf f) .startcount)) ↔ (NoneHolds (fileConditions f) × (TooMany (automatonIn f) → ⊥))
   -- a rule is there, and 1 to 64 places are asked for
   pub opening : (n : ℕ) → (answerOf h (opens n) ≡ accepted) ↔ ((fileOf h ≡ none → ⊥) × (1 ≤ n) × (n ≤ mostPlaces))
-  -- a board is there with that place, the chunk is within the limit and the alphabet, and the place
-  -- is empty; it is answered for how many bytes a successor is looked up, which `LookedUp` of
-  -- specs/Claims.antt says in document 02's words
+  -- a board is there with that place, the chunk is within the limit and its text, which is without
+  -- its idle marks, within the alphabet, and the place is empty; it is answered for how many bytes
+  -- a successor is looked up, which `LookedUp` of specs/Claims.antt says in document 02's words
   pub delivery : (p : ℕ) (w : List ℕ) (n : ℕ)
       → (answerOf h (delivers p w) ≡ delivered n)
-      ↔ ((0 < placesIn h) × (p < placesIn h) × (length w ≤ longestChunk) × (foreign w (ruleIn h .k) ≡ false) × (standing h p ≡ none)
+      ↔ ((0 < placesIn h) × (p < placesIn h) × (length w ≤ longestChunk) × (foreign (textOf w) (ruleIn h .k) ≡ false) × (standing h p ≡ none)
       × (n ≡ lookedOf (ruleIn h) p w))
   -- a board is there with that place, and a chunk stands there
   pub withdrawal : (p : ℕ) → (answerOf h (withdraws p) ≡ accepted) ↔ ((0 < placesIn h) × (p < placesIn h) × (standing h p ≡ none → ⊥))
@@ -50,10 +51,10 @@ pub record Refused-exactly (h : List Call) : Type 0 where
   pub deliver-11 : (p : ℕ) (w : List ℕ) → (answerOf h (delivers p w) ≡ refused 11) ↔ ((0 < placesIn h) × (placesIn h ≤ p))
   pub deliver-12 : (p : ℕ) (w : List ℕ) → (answerOf h (delivers p w) ≡ refused 12) ↔ ((p < placesIn h) × (longestChunk < length w))
   pub deliver-13 : (p : ℕ) (w : List ℕ)
-      → (answerOf h (delivers p w) ≡ refused 13) ↔ ((p < placesIn h) × (length w ≤ longestChunk) × (foreign w (ruleIn h .k) ≡ true))
+      → (answerOf h (delivers p w) ≡ refused 13) ↔ ((p < placesIn h) × (length w ≤ longestChunk) × (foreign (textOf w) (ruleIn h .k) ≡ true))
   pub deliver-22 : (p : ℕ) (w : List ℕ)
       → (answerOf h (delivers p w) ≡ refused 22)
-      ↔ ((p < placesIn h) × (length w ≤ longestChunk) × (foreign w (ruleIn h .k) ≡ false) × (standing h p ≡ none → ⊥))
+      ↔ ((p < placesIn h) × (length w ≤ longestChunk) × (foreign (textOf w) (ruleIn h .k) ≡ false) × (standing h p ≡ none → ⊥))
   -- no board; no such place; the place is empty
   pub withdraw-21 : (p : ℕ) → (answerOf h (withdraws p) ≡ refused 21) ↔ (placesIn h ≡ 0)
   pub withdraw-11 : (p : ℕ) → (answerOf h (withdraws p) ≡ refused 11) ↔ ((0 < placesIn h) × (placesIn h ≤ p))

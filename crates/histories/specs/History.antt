@@ -11,9 +11,9 @@
 --                                            and the length of the chunk
 --   runAt r p                the states that are run at place p, by the rule r
 --   countOf r p chunk, endOf r p q chunk   the same of what stands at place p, by the rule r:
---                                          standingCount and standingEnd
---   lookedOf r p w           for how many bytes of the chunk w a successor is looked up at place p,
---                            by the rule r (document 02, R-2)
+--                                          standingCount and standingEnd, of its text
+--   lookedOf r p w           for how many bytes of the text of the chunk w a successor is looked up
+--                            at place p, by the rule r (document 02, R-2)
 --   deliverCheck, withdrawCheck    the number with which a delivery and a withdrawal at place p are
 --                                  refused, by the places and what stands at p
 --   deliverNumber, withdrawNumber  they after the calls h: 21, 11, 12, 13, 22 and 21, 11, 23
@@ -21,7 +21,7 @@
 --                                        of the lengths
 --   yesIn h, verdictIn h, reportIn h     the join of the end sets says yes; the verdict; what is
 --                                        reported with it
---   textIn h                 the standing chunks joined by place
+--   textIn h                 the standing chunks without their idle marks, joined by place
 --   replyBy number a         refused with the number, or a where there is none
 --   answerOf h c             what document 01 answers to the call c after the calls h
 --   answersTo h              its answers to all calls of the list
@@ -35,6 +35,7 @@ use Rattle.base.specs.Conditions.{firstOf}
 use Rattle.base.specs.Lists.{joined}
 use Rattle.base.specs.Options.{isNone, isSome}
 use Rattle.base.specs.Totals.{total}
+use Rattle.marks.specs.Marks.{textOf}
 use Rattle.automaton.specs.declared.Rule.{Rule}
 use Rattle.ruleformat.specs.Reader.{ruleOf, noRule}
 use Rattle.subsets.specs.Sets.{setsOf}
@@ -97,19 +98,19 @@ standing (withdraws q ∷ h) p = cond (eqb q p && isNone (withdrawCheck (placesI
 standing (asksVerdict ∷ h) p = standing h p
 
 -- ---- what stands at a place comes to, where `run` has the states that are run there; 0 where
--- nothing stands
+-- nothing stands. What stands is what was delivered; what is judged is its text, without idle marks
 abbrev pub standingCount : List ℕ → ℕ → Option (List ℕ) → ℕ
 standingCount ts run none = 0
-standingCount ts run (some w) = chunkCount ts run w
+standingCount ts run (some w) = chunkCount ts run (textOf w)
 
 abbrev pub standingEnd : List ℕ → ℕ → ℕ → Option (List ℕ) → ℕ
 standingEnd ts run q none = 0
-standingEnd ts run q (some w) = endSet ts run w q
+standingEnd ts run q (some w) = endSet ts run (textOf w) q
 
--- the chunk itself; an empty place has none
-abbrev pub chunkOf : Option (List ℕ) → List ℕ
-chunkOf none = []
-chunkOf (some w) = w
+-- the text itself; an empty place has none
+abbrev pub standingText : Option (List ℕ) → List ℕ
+standingText none = []
+standingText (some w) = textOf w
 
 -- by the rule r, at place p
 module _ (r : Rule) where
@@ -123,7 +124,7 @@ module _ (r : Rule) where
   endOf p q chunk = standingEnd (r .targets) (runAt p) q chunk
 
   abbrev pub lookedOf : ℕ → List ℕ → ℕ
-  lookedOf p w = looked (r .targets) (runAt p) w
+  lookedOf p w = looked (r .targets) (runAt p) (textOf w)
 
 module _ (h : List Call) where
   abbrev pub deliverNumber : ℕ → List ℕ → Option ℕ
@@ -140,7 +141,7 @@ module _ (h : List Call) where
 
   -- 0 at an empty place
   abbrev pub lengthAt : ℕ → ℕ
-  lengthAt p = length (chunkOf (standing h p))
+  lengthAt p = length (standingText (standing h p))
 
   abbrev pub emptiesIn : ℕ
   emptiesIn = total (λ p. cond (isNone (standing h p)) 1 0) (placesIn h)
@@ -161,9 +162,9 @@ module _ (h : List Call) where
   abbrev pub reportIn : Reported
   reportIn = reportBy verdictIn bytesIn
 
--- the chunks at the first places, one after the other
+-- the texts at the first places, one after the other
 abbrev pub joinedUpTo : (ℕ → Option (List ℕ)) → ℕ → List ℕ
-joinedUpTo at places = joined (λ p. chunkOf (at p)) places
+joinedUpTo at places = joined (λ p. standingText (at p)) places
 
 abbrev pub textIn : List Call → List ℕ
 textIn h = joinedUpTo (standing h) (placesIn h)

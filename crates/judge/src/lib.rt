@@ -1,12 +1,15 @@
 // The judge: five calls over one state.
 ghost use mathlib.Core.Path.{_≡_};
-ghost use Prim.Native.Nat.{_≤_};
+ghost use mathlib.Core.List.{List};
+ghost use Prim.Native.Nat.{ℕ, _≤_, _<_};
 ghost use lib.ListN.{length};
 ghost use Rattle.limits.specs.Limits.{longestChunk};
+ghost use Rattle.marks.specs.Marks.{textOf};
 ghost use Rattle.chunks.specs.Walks.{runMask, runsOf};
 ghost use Rattle.calls.specs.Replies.{refused, verdictMeans, reportMeans};
 ghost use Rattle.calls.specs.Calls.{perByte, alone, reportBy};
 ghost use Rattle.calls.specs.Steps.{fresh, withBoard, loadOutcome, openOutcome, deliverOutcome, withdrawOutcome, loadOf, openOf, deliverOf, withdrawOf, verdictOf, reportOf};
+ghost use Rattle.board.specs.Boards.{placesOf};
 use board::Board;
 use build::BuildAnswer;
 use build::Built;
@@ -69,17 +72,17 @@ fn refuse_withdrawal(judge: Judge, number: u8) -> WithdrawResult
     WithdrawResult { answer, judge }
 }
 
-// The runs of a chunk at a place.
-fn run_at(built: Built, place: usize, chunk: &[u8]) -> Runs
-    requires { ⌜ length (now chunk) ≤ longestChunk ⌝ }
-    ensures { λ r. ⌜ r ≡ runsOf (built .sets) (built .next) (built .singles) (runMask (built .delegates) (built .n) (built .initials) place) (now (chunk .entry)) ⌝ }
+// The runs of a text at a place.
+fn run_at(built: Built, place: usize, text: &[u8]) -> Runs
+    requires { ⌜ length (now text) ≤ longestChunk ⌝ }
+    ensures { λ r. ⌜ r ≡ runsOf (built .sets) (built .next) (built .singles) (runMask (built .delegates) (built .n) (built .initials) place) (now (text .entry)) ⌝ }
 {
     let delegates = built.delegates;
     let sets = built.sets;
     let next = built.next;
     let singles = built.singles;
     let mask = chunks::run_mask(delegates, built.n, built.initials, place);
-    chunks::run_chunk(&sets, &next, &singles, mask, chunk)
+    chunks::run_chunk(&sets, &next, &singles, mask, text)
 }
 
 // Checks and builds a rule. Accepted, it replaces the former rule and removes the board.
@@ -127,8 +130,38 @@ pub fn open(judge: Judge, places: usize) -> OpenResult
     OpenResult { answer, judge }
 }
 
-// Runs a chunk and keeps its end sets and count at the place. Accepted, it answers for how many
-// bytes of the text a successor was looked up.
+// What a delivery comes to from 13 on, of any chunk that has this text.
+fn deliver_text(judge: Judge, place: usize, text: &[u8]) -> DeliverResult
+    requires { ⌜ (judge .board .places ≡ 0 → ⊥) × (place < placesOf (judge .board)) × (length (now text) ≤ longestChunk) ⌝ }
+    ensures { λ r. ⌜ ((w : List ℕ) → length w ≤ longestChunk → textOf w ≡ now (text .entry) → deliverOutcome r ≡ deliverOf judge place w) ⌝ }
+{
+    let built = judge.built;
+    if chunks::has_foreign(text, built.k) {
+        return refuse_delivery(judge, 13);
+    }
+    let board = judge.board;
+    if !board::is_empty(board, place) {
+        return refuse_delivery(judge, 22);
+    }
+    let runs = run_at(built, place, text);
+    let answer = DeliverAnswer::Accepted(runs.looked);
+    let judge = with_board(judge, board::fill(board, place, runs));
+    DeliverResult { answer, judge }
+}
+
+// The same of a chunk with idle marks: its text is packed once, and run from there.
+fn deliver_marked(judge: Judge, place: usize, chunk: &[u8]) -> DeliverResult
+    requires { ⌜ (judge .board .places ≡ 0 → ⊥) × (place < placesOf (judge .board)) × (length (now chunk) ≤ longestChunk) ⌝ }
+    ensures { λ r. ⌜ deliverOutcome r ≡ deliverOf judge place (now (chunk .entry)) ⌝ }
+{
+    let mut buffer = [0u8; limits::CHUNK];
+    let n = marks::pack(chunk, &mut buffer);
+    deliver_text(judge, place, &buffer[..n])
+}
+
+// Runs the text of a chunk, which is the chunk without its idle marks, and keeps its end sets and
+// count at the place. Accepted, it answers for how many bytes of the text a successor was looked
+// up.
 pub fn deliver(judge: Judge, place: usize, chunk: &[u8]) -> DeliverResult
     ensures { λ r. ⌜ deliverOutcome r ≡ deliverOf judge place (now (chunk .entry)) ⌝ }
 {
@@ -142,17 +175,10 @@ pub fn deliver(judge: Judge, place: usize, chunk: &[u8]) -> DeliverResult
     if limits::CHUNK < chunk.len() {
         return refuse_delivery(judge, 12);
     }
-    let built = judge.built;
-    if chunks::has_foreign(chunk, built.k) {
-        return refuse_delivery(judge, 13);
+    if marks::has_marks(chunk) {
+        return deliver_marked(judge, place, chunk);
     }
-    if !board::is_empty(board, place) {
-        return refuse_delivery(judge, 22);
-    }
-    let runs = run_at(built, place, chunk);
-    let answer = DeliverAnswer::Accepted(runs.looked);
-    let judge = with_board(judge, board::fill(board, place, runs));
-    DeliverResult { answer, judge }
+    deliver_text(judge, place, chunk)
 }
 
 // Empties the place.

@@ -182,10 +182,11 @@ impl Judge {
     }
 
     /// Runs a chunk and keeps its end sets, count and length at the place, which are counted from 0.
+    /// Byte 255 is an idle mark: it is skipped and is no part of the text, but counts in the limit.
     ///
     /// # Errors
-    /// 21 (no board is open), 11 (no such place), 12 (over 65,536 bytes), 13 (a byte is no symbol),
-    /// 22 (the place has a chunk already).
+    /// 21 (no board is open), 11 (no such place), 12 (over 65,536 bytes), 13 (a byte is no symbol
+    /// and no idle mark), 22 (the place has a chunk already).
     ///
     /// ```
     /// # use bellbadger::Judge;

@@ -39,7 +39,7 @@ impl Refused {
             10 => "no number of places from 1 to 64",
             11 => "the board has no such place",
             12 => "the chunk has over 65,536 bytes",
-            13 => "a byte is no symbol of the rule",
+            13 => "a byte is no symbol of the rule and no idle mark",
             20 => "no rule is loaded",
             21 => "no board is open",
             22 => "the place has a chunk already",

@@ -142,6 +142,21 @@ fn looked_up() {
 }
 
 #[test]
+fn idle_marks() {
+    assert_eq!(
+        judged(&A, &[&[255, 0, 255], &[255; 9], &[1, 255]]),
+        Ok(reported(Verdict::Yes(3), [2, 1, 1]))
+    );
+    let mut judge = Judge::new();
+    assert!(judge.load(&A).is_ok() && judge.open(1).is_ok());
+    assert_eq!(number(judge.deliver(0, &[255; 65537])), 12);
+    assert_eq!(number(judge.deliver(0, &[255, 254])), 13);
+    assert_eq!(number(judge.deliver(0, &[255, 2])), 13);
+    assert_eq!(judge.deliver(0, &[255; 65536]), Ok(Looked { bytes: 0 }));
+    assert_eq!(number(judge.deliver(0, &[255])), 22);
+}
+
+#[test]
 fn recorded_lists() {
     let text = "load 03020100000004000000160006001C0002001E0000000000000101000102\nopen 2\ndeliver 1 01\ndeliver 0 00";
     assert_eq!(
@@ -177,5 +192,5 @@ fn what_a_judge_shows() {
     assert!(judge.load(&A).is_ok() && judge.open(2).is_ok() && judge.deliver(1, &[]).is_ok());
     let shown = "Judge { states: 3, symbols: 2, sets: 5, starts: 3, places: 2, filled: 1, .. }";
     assert_eq!(format!("{judge:?}"), shown);
-    assert_eq!(version(), (3, 0));
+    assert_eq!(version(), (3, 1));
 }

@@ -1,0 +1,56 @@
+-- `deliver_marked` meets its contract: what stands at the start of the buffer is the chunk's text,
+-- which is no longer than the chunk. Assumes nothing.
+use mathlib.Core.Path.{sym}
+use mathlib.Core.List.{List}
+use Prim.Native.Nat.{ℕ, _≤_}
+use native.Mathlib.Omega.{arith}
+use lib.ListN.{length, length-replicate}
+use lib.Seq.{length-take-le}
+use Rattle.text.proofs.Fitting.{taken}
+use Rattle.text.proofs.Rooms.{whole-within}
+use Rattle.marks.specs.Marks.{textOf}
+use Rattle.marks.proofs.Claims as marks
+use borrow.Author.Needs.{needs}
+use Rattle.judge.proofs.deliver_marked.Statement.{statement}
+use Rattle.judge.proofs.deliver_marked.Tie as tie
+
+short : (w : List ℕ) → length w ≤ 65536 → length (textOf w) ≤ 65536
+short w h = omega (arith, marks.claims .no-longer w)
+
+slice-aggregate-pack : tie.Need-slice-aggregate-pack
+slice-aggregate-pack c = search needs
+
+pack-requires : tie.Need-pack-requires
+pack-requires c κs = search needs
+
+array-share-prefix-buffer : tie.Need-array-share-prefix-buffer
+array-share-prefix-buffer c =
+    let packed = c .before .pack in
+    whole-within (packed .ensures) (packed .kept .1 .0) 65536 (short _ (c .before .before .before .before .pre .2)) (simp length-replicate (omega arith))
+
+slice-aggregate-deliver-text : tie.Need-slice-aggregate-deliver-text
+slice-aggregate-deliver-text c =
+    let packed = c .before .before .pack in
+    sym (length-take-le (packed .result) (packed .last .1 .0)
+    (whole-within (packed .ensures) (packed .kept .1 .0) 65536 (short _ (c .before .before .before .before .before .pre .2)) (simp length-replicate (omega arith))))
+
+deliver-text-requires : tie.Need-deliver-text-requires
+deliver-text-requires c κs =
+    let start = c .before .before .before .before .before in
+    (start .pre .0, start .pre .1, rw (taken (c .before .before .pack .ensures)) (short _ (start .pre .2)))
+
+returns : tie.Need-returns
+returns c =
+    let start = c .before .before .before .before .before .before in
+    c .deliver-text .ensures _ (start .pre .2) (sym (taken (c .before .before .before .pack .ensures)))
+
+pub deliver-marked-spec : {M : Type 1} → statement M
+deliver-marked-spec =
+    tie.close
+    (tie.spec
+    slice-aggregate-pack
+    pack-requires
+    array-share-prefix-buffer
+    slice-aggregate-deliver-text
+    deliver-text-requires
+    returns)

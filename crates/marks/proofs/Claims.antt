@@ -1,0 +1,6 @@
+-- The proof of all that specs/Claims.antt claims. Assumes nothing.
+use Rattle.marks.specs.Claims.{Claims}
+use Rattle.marks.proofs.Laws as laws
+
+pub claims : Claims
+claims = record { unmarked = laws.unmarked; text-unmarked = laws.text-unmarked; no-longer = laws.no-longer; text-append = laws.text-append }

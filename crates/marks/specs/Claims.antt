@@ -1,0 +1,17 @@
+-- What the text of a chunk is; proofs/Claims.antt proves it.
+use mathlib.Core.Path.{_≡_}
+use mathlib.Core.Bool.{false}
+use mathlib.Core.List.{List, _++_}
+use Prim.Native.Nat.{ℕ, _≤_}
+use lib.ListN.{length}
+use Rattle.marks.specs.Marks.{marked, textOf}
+
+pub record Claims : Type 0 where
+  -- a chunk without marks is its text
+  pub unmarked : (w : List ℕ) → marked w ≡ false → textOf w ≡ w
+  -- no text has a mark
+  pub text-unmarked : (w : List ℕ) → marked (textOf w) ≡ false
+  -- a text is no longer than its chunk
+  pub no-longer : (w : List ℕ) → length (textOf w) ≤ length w
+  -- the text of two chunks joined is their texts joined
+  pub text-append : (v w : List ℕ) → textOf (v ++ w) ≡ textOf v ++ textOf w
