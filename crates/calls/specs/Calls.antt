@@ -46,7 +46,8 @@ abbrev pub openConditions : Bool → ℕ → List Condition
 openConditions lacks n = on 20 lacks ∷ on 10 (outside 1 mostPlaces n) ∷ []
 
 -- no board is there; it has so many places; the chunk w for place p, whose length counts every byte
--- and whose text is without its idle marks; the rule has k symbols; a chunk stands at p
+-- and whose text is without its idle marks; the rule has k symbols; a chunk stands at p. (Document
+-- 01's last number, 24, went with R-4: crates/histories/specs/CountBound.antt)
 abbrev pub deliverConditions : Bool → ℕ → ℕ → List ℕ → ℕ → Bool → List Condition
 deliverConditions lacks places p w k filled =
     on 21 lacks ∷

@@ -9,6 +9,8 @@
 --   2  Accepts, Run, Arc              automata and their runs (000)         automaton/specs/Automaton
 --      automatonIn f                  the automaton in a file's bytes       ruleformat/specs/Language, Format
 --      fileConditions                 numbers 1 to 8                        ruleformat/specs/Refusals
+--      badStateCount ..               3, 4 and 6, over numbers              rulecheck/specs/Checking
+--      mostStates ..                  the limits                            limits/specs/Limits
 --      FirstHolds                     the first condition that holds        base/specs/Conditions
 --      Method, InOrder, TooMany       sets, table, delegates, M, order      histories/specs/Method
 --      Merged, Delegate, Alike        merged starts                         delegates/specs/Alike
@@ -25,12 +27,13 @@
 --      reportBy; Divided, ThreeZeros  what is reported with a verdict       calls/specs/Calls, Claims
 --      TableP                         the table's cases                     histories/specs/TableP
 --      streamOf, rightText            a text of calls                       stream/specs/Texts
---      Blocks                         what is written for blocks            stream/specs/Claims
+--      linesOf; lineIn, responseText  lines, calls and answers as text      lines/, calltext/specs
+--      Blocks; finishOf               what is written for blocks            stream/specs/Claims, Feeding
 --      recordIn, replayOf             a recorded list                       replay/specs/Records
 --
 -- A list of calls has the last call first. A proved function ends and stays within its bounds.
 -- Assumes nothing.
-use mathlib.Core.Path.{_≡_, _∙_}
+use mathlib.Core.Path.{_≡_, refl, _∙_}
 use mathlib.Core.Logic.{_↔_, _⊎_, ⊎-elim}
 use mathlib.Core.Bool.{true, false}
 use mathlib.Core.List.{List, [], _++_, flatten}
@@ -39,7 +42,7 @@ use Prim.Native.Nat.{ℕ, _*_, _≤_, _<_}
 use lib.ListN.{length, getD}
 use contract.Lifetimes.{Lfts}
 use denote.Ref.{RefT}
-use Rattle.limits.specs.Limits.{mostStates, mostPlaces, lineRoom}
+use Rattle.limits.specs.Limits.{mostStates, mostPlaces, mostTransitions, lineRoom}
 use Rattle.base.specs.Options.{isNone}
 use Rattle.marks.specs.Marks.{textOf}
 use Rattle.masks.specs.Masks.{shares}
@@ -157,6 +160,9 @@ foreign-bytes = calls-foreign.foreign-exactly
 -- The summed count is at most 64 places times 65,536 bytes times 32 starts, with a chunk that can be
 -- delivered too: so what document 01 numbered 24, a sum over 4,294,967,295, changed no answer, and a
 -- delivery has the other five conditions (document 02, R-4).
+pub bound-is : mostTransitions ≡ 134217728
+bound-is = refl
+
 pub count-bound : (h : List Call) → CountBound h
 count-bound = histories-bound.count-bound
 
@@ -211,7 +217,8 @@ place-most h = every-list h .verdict .place-most
 
 -- Beside yes or no the verdict reports the number of text bytes, and the whole quotient and the exact
 -- remainder of the count by it; for a text of 0 bytes both are 0, beside waiting or a refusal all three
--- (document 02, R-1). Each place holds its standing chunk's length, an empty one 0:
+-- (document 02, R-1). Each place holds the length of its standing chunk
+-- without idle marks, an empty one 0:
 pub lengths : (h : List Call) (p : ℕ) → p < mostPlaces → getD (judgeAfter h .board .lengths) p 0 ≡ lengthAt h p
 lengths h = every-list h .after .lengths
 

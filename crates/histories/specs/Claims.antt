@@ -61,7 +61,7 @@ automatonBy none = automatonOf noRule
 automatonBy (some f) = automatonIn f
 
 -- the state: the rule that is there is built, and each place holds the end sets, the count and the
--- length of its standing chunk, or nothing
+-- length of its standing chunk's text, or nothing
 pub record Invariant (h : List Call) (j : Judge) : Type 0 where
   pub rule : BuiltBy (fileOf h) j
   pub places : j .board .places ≡ placesIn h
@@ -105,7 +105,7 @@ pub record VerdictClauses (h : List Call) : Type 0 where
 pub record ReportClauses (h : List Call) : Type 0 where
   -- the verdict is that of demand 3
   pub verdict : reportIn h .verdict ≡ verdictIn h
-  -- the sum of the lengths is the length of the standing chunks joined by place
+  -- the sum of the lengths is the length of the standing chunks' texts joined by place
   pub text-bytes : bytesIn h ≡ length (textIn h)
   -- beside yes or no the text's bytes, the whole quotient of the count by them, and the remainder;
   -- both 0 for a text of 0 bytes
