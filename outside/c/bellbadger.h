@@ -50,7 +50,7 @@ typedef struct {
     uint16_t next[8192];
 } bellbadger_rule;
 
-/* A board: how many places, which are filled, the counts and lengths of their chunks, and 32 end sets
+/* A board: how many places, which are filled, the counts and lengths of their texts, and 32 end sets
  * for each. places is 0 where no board is there. */
 typedef struct {
     uint8_t places;

@@ -282,7 +282,7 @@ class Judge:
         """Runs a chunk and keeps its end sets, count and length at the place, counted from 0.
 
         Byte 255 is an idle mark: it is skipped and is no part of the text, but counts in the
-        chunk's length. Refused with 21, 11, 12, 13, 22.
+        limit of 65,536 bytes. Refused with 21, 11, 12, 13, 22.
         """
         data = _bytes(chunk)
         result = _lib.bellbadger_deliver(self._state, _size(place), data, len(data))

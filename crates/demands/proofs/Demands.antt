@@ -8,6 +8,7 @@
 --      loadReadBack .., replayShown   what C's numbers mean                 capi/specs/Numbers
 --   2  Accepts, Run, Arc              automata and their runs (000)         automaton/specs/Automaton
 --      automatonIn f                  the automaton in a file's bytes       ruleformat/specs/Language, Format
+--      after, shares                  the set after a text; sets that meet  automaton/specs/Successor, masks/specs/Masks
 --      fileConditions                 numbers 1 to 8                        ruleformat/specs/Refusals
 --      badStateCount ..               3, 4 and 6, over numbers              rulecheck/specs/Checking
 --      mostStates ..                  the limits                            limits/specs/Limits
@@ -20,7 +21,7 @@
 --      Accepted-exactly, Refused-..   which calls, with which number        histories/specs/Conditions
 --      CountBound                     the sum's bound; the former 24        histories/specs/CountBound
 --      LookedUp, AllEmpty             for how many bytes a set is looked up histories/, chunks/specs/Claims
---      textOf, foreign                a chunk without idle marks; 13        marks/specs/Marks, chunks/specs/Chunks
+--      textOf; foreign, ForeignByte   a chunk without idle marks; 13        marks/, chunks/, calls/specs
 --      runSet, endSet, chunkCount     running a text                        chunks/specs/Chunks
 --      held, isEmpty, summedCount ..  what a board holds                    board/specs/Boards
 --      joinOf, yesOf                  joining                               joins/specs/Joining
@@ -222,7 +223,7 @@ place-most h = every-list h .verdict .place-most
 pub lengths : (h : List Call) (p : ℕ) → p < mostPlaces → getD (judgeAfter h .board .lengths) p 0 ≡ lengthAt h p
 lengths h = every-list h .after .lengths
 
--- they sum up to the length of the standing chunks joined by place;
+-- they sum up to the length of these texts joined by place;
 pub text-bytes : (h : List Call) → (summedBytes (judgeAfter h .board) ≡ bytesIn h) × (bytesIn h ≡ length (textIn h))
 text-bytes h = (every-list h .after .summed-bytes, every-list h .report .text-bytes)
 

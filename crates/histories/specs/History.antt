@@ -8,7 +8,7 @@
 --   placesIn h               its places; 0 where no board is there
 --   standing h p             the standing chunk at place p, or none
 --   endAt h p q, countAt h p, lengthAt h p   what place p holds: the end set of state q, the count,
---                                            and the length of the chunk
+--                                            and the length of the chunk's text
 --   runAt r p                the states that are run at place p, by the rule r
 --   countOf r p chunk, endOf r p q chunk   the same of what stands at place p, by the rule r:
 --                                          standingCount and standingEnd, of its text

@@ -159,9 +159,9 @@ fn deliver_marked(judge: Judge, place: usize, chunk: &[u8]) -> DeliverResult
     deliver_text(judge, place, &buffer[..n])
 }
 
-// Runs the text of a chunk, which is the chunk without its idle marks, and keeps its end sets and
-// count at the place. Accepted, it answers for how many bytes of the text a successor was looked
-// up.
+// Runs the text of a chunk, which is the chunk without its idle marks, and keeps its end sets,
+// count and length at the place. Accepted, it answers for how many bytes of the text a successor
+// was looked up.
 pub fn deliver(judge: Judge, place: usize, chunk: &[u8]) -> DeliverResult
     ensures { λ r. ⌜ deliverOutcome r ≡ deliverOf judge place (now (chunk .entry)) ⌝ }
 {

@@ -29,6 +29,14 @@ module _ (w : List ℕ) (i : ℕ) (found : Bool) where
   marked-none h = rw (drop-of-length-le w h) (or-false found)
 
 -- ---- the text
+pub mark-skipped : (w : List ℕ) → textOf (255 ∷ w) ≡ textOf w
+unfolding textOf
+mark-skipped w = refl
+
+pub byte-kept : (b : ℕ) (w : List ℕ) → (b ≡ 255 → ⊥) → textOf (b ∷ w) ≡ b ∷ textOf w
+unfolding textOf
+byte-kept b w n = rw (ne-eqb b 255 n)
+
 pub unmarked : (w : List ℕ) → marked w ≡ false → textOf w ≡ w
 unfolding marked textOf
 unmarked [] e = refl

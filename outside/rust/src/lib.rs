@@ -133,16 +133,10 @@ impl Judge {
     /// ```
     ///
     /// # Panics
-    /// Where the library that is linked has another state than this wrapper was written for.
+    /// Where the library that is linked has another version or state than this wrapper was written for.
     #[must_use]
     pub fn new() -> Judge {
-        // SAFETY: the function takes nothing and returns a number.
-        let size = unsafe { raw::bellbadger_state_size() };
-        assert_eq!(
-            size,
-            raw::STATE_SIZE,
-            "libcapi.a has another state than this wrapper"
-        );
+        fits();
         // SAFETY: the function takes nothing and returns plain numbers.
         Judge(Box::new(unsafe { raw::bellbadger_new() }))
     }
@@ -253,13 +247,28 @@ impl Judge {
 /// assert_eq!(replay(b"verdict\nopen  2\n"), Err(ReplayError::Malformed { line: 2 }));
 /// # Ok::<(), ReplayError>(())
 /// ```
+///
+/// # Panics
+/// Where the library that is linked has another version or state than this wrapper was written for.
 pub fn replay(text: &[u8]) -> Result<Report, ReplayError> {
+    fits();
     // SAFETY: the pointer leads to as many bytes as the length says, and they are only read.
     let r = unsafe { raw::bellbadger_replay(text.as_ptr(), text.len()) };
     match r.kind {
         raw::MALFORMED => Err(ReplayError::Malformed { line: r.number }),
         _ => Ok(report(&r)?),
     }
+}
+
+/// The library that is linked has the functions and the state that this wrapper was written for.
+fn fits() {
+    // SAFETY: the function takes nothing and returns a number.
+    let size = unsafe { raw::bellbadger_state_size() };
+    assert_eq!(
+        (version().0, size),
+        (raw::MAJOR, raw::STATE_SIZE),
+        "libcapi.a has another version or state than this wrapper"
+    );
 }
 
 fn accepted(accepted: u8, refused: u8) -> Result<(), Refused> {

@@ -74,6 +74,8 @@ pub struct RawVerdict {
     pub remainder: u64,
 }
 
+/// The major version that the declarations here are of.
+pub const MAJOR: u32 = 3;
 /// As the C header has it; outside/c/test.c reads every field of it.
 pub const STATE_SIZE: usize = 27316;
 const _: () = assert!(std::mem::size_of::<RawJudge>() == STATE_SIZE);

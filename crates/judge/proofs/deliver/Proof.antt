@@ -1,4 +1,8 @@
 -- `deliver` meets its contract. Assumes nothing.
+--
+-- The route: each way out has its lemma (calls/proofs/Ways.antt): the tests that failed before it in
+-- document 01's order, the test that held, and the answer. `search` finds these tests among what is
+-- known at that place. A chunk without marks is its own text.
 use mathlib.Core.Path.{sym, _∙_}
 use Rattle.marks.proofs.Claims as marks
 use Rattle.calls.proofs.Ways.{deliver-21, deliver-11, deliver-12}

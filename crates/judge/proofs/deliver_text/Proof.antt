@@ -1,4 +1,5 @@
--- `deliver_text` meets its contract. Assumes nothing.
+-- `deliver_text` meets its contract, from 13 on: each way out by its lemma, as in `deliver`. Assumes
+-- nothing.
 use mathlib.Core.Path.{refl}
 use Rattle.calls.proofs.Ways.{deliver-13, deliver-22, delivered}
 use borrow.Author.Needs.{needs}

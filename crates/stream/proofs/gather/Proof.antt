@@ -1,4 +1,9 @@
 -- `gather` meets its contract. Assumes nothing.
+--
+-- The route: the loop's invariant, `SoFar`, says that what was gathered with what is gathered from
+-- here on is what the whole block gives. A turn feeds one part: a line that goes on is kept
+-- (`turn-on`), one that asks for the verdict is answered from the judge at hand (`turn-verdict`), any
+-- other is run (`turn-answered`). The loop ends where the block is used up or the room is short.
 use Rattle.stream.proofs.Turns.{turn-forward, turn-on, turn-verdict, turn-answered}
 use Rattle.stream.proofs.Gathering.{SoFar, begun, ended, at-over, gather-short, placed-within}
 use Rattle.stream.specs.Feeding.{stateOf}
