@@ -13,7 +13,7 @@ use mathlib.Core.Bool.{Bool, true, false}
 use mathlib.Core.List.{List, [], _∷_, _++_}
 use Prim.Native.Nat.{ℕ}
 use Rattle.text.specs.Numerals.{decimal}
-use Rattle.calls.specs.Replies.{Judgement, waiting, yesWith, noWith, refusedWith, Reported, Reply, accepted, loaded, judged, refused, loadMeans, openMeans, deliverMeans, withdrawMeans, reportMeans, delivered}
+use Rattle.calls.specs.Replies.{Judgement, waiting, yesWith, noWith, refusedWith, Reported, Reply, accepted, loaded, judged, refused, installMeans, openMeans, deliverMeans, withdrawMeans, reportMeans, delivered}
 use Rattle.calltext.specs.declared.LineAnswer.{LineAnswer}
 use Rattle.calltext.specs.declared.LineAnswer.the-variants.{Began, Load, Open, Deliver, Withdraw, Verdict, Malformed}
 
@@ -72,7 +72,7 @@ responseText unread = malformed-word ++ (10 ∷ [])
 
 abbrev pub answerMeans : LineAnswer → Response
 answerMeans Began = began
-answerMeans (Load a) = replied (loadMeans a)
+answerMeans (Load a) = replied (installMeans a)
 answerMeans (Open a) = replied (openMeans a)
 answerMeans (Deliver a) = replied (deliverMeans a)
 answerMeans (Withdraw a) = replied (withdrawMeans a)

@@ -10,9 +10,9 @@ ghost use Rattle.fields.specs.Numbers.{parseNumber};
 ghost use Rattle.lines.specs.Splitting.{upTo, past};
 ghost use Rattle.calltext.specs.Meaning.{openBy, withdrawBy, deliverFields, lineMeans, bytesFrom, Parsed};
 ghost use Rattle.calltext.specs.Answers.{behind, replied, responseText, answerMeans};
-ghost use Rattle.calls.specs.Replies.{accepted, loaded, judged, refused, loadMeans, openMeans, deliverMeans, withdrawMeans, reportMeans, delivered};
+ghost use Rattle.calls.specs.Replies.{accepted, loaded, judged, refused, installMeans, openMeans, deliverMeans, withdrawMeans, reportMeans, delivered};
 use calls::DeliverAnswer;
-use calls::LoadAnswer;
+use calls::InstallAnswer;
 use calls::OpenAnswer;
 use calls::Report;
 use calls::Verdict;
@@ -97,7 +97,7 @@ pub fn parse(line: &[u8]) -> Line
 // What a line is answered: where it records a call, what the call is answered.
 pub enum LineAnswer {
     Began,
-    Load(LoadAnswer),
+    Load(InstallAnswer),
     Open(OpenAnswer),
     Deliver(DeliverAnswer),
     Withdraw(WithdrawAnswer),
@@ -187,13 +187,13 @@ fn put_delivered(out: &mut [u8], looked: u32) -> usize
 }
 
 // What a call is answered, a function for each type of answer.
-fn put_load(out: &mut [u8], answer: LoadAnswer) -> usize
+fn put_load(out: &mut [u8], answer: InstallAnswer) -> usize
     requires { ⌜ answerRoom ≤ length (now out) ⌝ }
-    ensures { λ r. ⌜ Wrote (now (out .entry)) 0 (responseText (replied (loadMeans answer))) (now (out .exit)) r ⌝ }
+    ensures { λ r. ⌜ Wrote (now (out .entry)) 0 (responseText (replied (installMeans answer))) (now (out .exit)) r ⌝ }
 {
     match answer {
-        LoadAnswer::Accepted(sets, starts) => put_loaded(out, sets as u64, starts as u64),
-        LoadAnswer::Refused(number) => put_refused(out, number),
+        InstallAnswer::Accepted(sets, starts) => put_loaded(out, sets as u64, starts as u64),
+        InstallAnswer::Refused(number) => put_refused(out, number),
     }
 }
 

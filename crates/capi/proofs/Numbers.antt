@@ -1,8 +1,8 @@
 -- The numbers of each case of an answer are those of what it says. Assumes nothing.
 use mathlib.Core.Path.{_≡_, sym, ap, _∙_}
 use Prim.Native.Nat.{ℕ}
-use Rattle.calls.specs.declared.LoadAnswer.{LoadAnswer}
-use Rattle.calls.specs.declared.LoadAnswer.the-variants as load
+use Rattle.calls.specs.declared.InstallAnswer.{InstallAnswer}
+use Rattle.calls.specs.declared.InstallAnswer.the-variants as load
 use Rattle.calls.specs.declared.OpenAnswer.{OpenAnswer}
 use Rattle.calls.specs.declared.OpenAnswer.the-variants as opening
 use Rattle.calls.specs.declared.DeliverAnswer.{DeliverAnswer}
@@ -10,12 +10,12 @@ use Rattle.calls.specs.declared.DeliverAnswer.the-variants as delivery
 use Rattle.calls.specs.declared.WithdrawAnswer.{WithdrawAnswer}
 use Rattle.calls.specs.declared.WithdrawAnswer.the-variants as withdrawal
 use Rattle.calls.specs.declared.Report.{Report}
-use Rattle.calls.specs.declared.LoadResult.{LoadResult}
+use Rattle.calls.specs.declared.InstallResult.{InstallResult}
 use Rattle.calls.specs.declared.OpenResult.{OpenResult}
 use Rattle.calls.specs.declared.DeliverResult.{DeliverResult}
 use Rattle.calls.specs.declared.WithdrawResult.{WithdrawResult}
-use Rattle.calls.specs.Replies.{loadMeans, openMeans, deliverMeans, withdrawMeans, reportMeans}
-use Rattle.calls.specs.Steps.{Outcome, loadOutcome, openOutcome, deliverOutcome, withdrawOutcome}
+use Rattle.calls.specs.Replies.{installMeans, openMeans, deliverMeans, withdrawMeans, reportMeans}
+use Rattle.calls.specs.Steps.{Outcome, installOutcome, openOutcome, deliverOutcome, withdrawOutcome}
 use Rattle.replay.specs.declared.ReplayAnswer.{ReplayAnswer}
 use Rattle.replay.specs.declared.ReplayAnswer.the-variants as replay
 use Rattle.replay.specs.Records.{ReplayReply, replayMeans}
@@ -23,13 +23,13 @@ use Rattle.capi.specs.declared.VerdictNumbers.{VerdictNumbers}
 use Rattle.capi.specs.Numbers.{loadShown, openShown, deliverShown, withdrawShown, verdictShown, replayShown}
 
 module _ (o : Outcome) where
-  module _ (r : LoadResult) (is : loadOutcome r ≡ o) where
+  module _ (r : InstallResult) (is : installOutcome r ≡ o) where
     pub load-accepted : (sets starts : ℕ) → r .answer ≡ load.Accepted sets starts
         → record { accepted = 1; refused = 0; sets = sets; starts = starts; judge = r .judge } ≡ loadShown o
-    load-accepted sets starts e = ap loadShown (sym (ap (λ (a : LoadAnswer). record { reply = loadMeans a; state = r .judge }) e) ∙ is)
+    load-accepted sets starts e = ap loadShown (sym (ap (λ (a : InstallAnswer). record { reply = installMeans a; state = r .judge }) e) ∙ is)
 
     pub load-refused : (x : ℕ) → r .answer ≡ load.Refused x → record { accepted = 0; refused = x; sets = 0; starts = 0; judge = r .judge } ≡ loadShown o
-    load-refused x e = ap loadShown (sym (ap (λ (a : LoadAnswer). record { reply = loadMeans a; state = r .judge }) e) ∙ is)
+    load-refused x e = ap loadShown (sym (ap (λ (a : InstallAnswer). record { reply = installMeans a; state = r .judge }) e) ∙ is)
 
   module _ (r : OpenResult) (is : openOutcome r ≡ o) where
     pub open-accepted : r .answer ≡ opening.Accepted → record { accepted = 1; refused = 0; judge = r .judge } ≡ openShown o

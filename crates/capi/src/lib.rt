@@ -8,7 +8,7 @@ ghost use Rattle.replay.specs.Records.{recordIn, replayOf};
 ghost use Rattle.capi.specs.Numbers.{loadShown, openShown, deliverShown, withdrawShown, kindOf, numberOf, verdictShown, replayShown};
 use calls::DeliverAnswer;
 use calls::Judge;
-use calls::LoadAnswer;
+use calls::InstallAnswer;
 use calls::OpenAnswer;
 use calls::Report;
 use calls::Verdict;
@@ -108,14 +108,14 @@ pub extern "C" fn bellbadger_load(judge: Judge, file: &[u8]) -> LoadNumbers
     let answer = loading.answer;
     let judge = loading.judge;
     match answer {
-        LoadAnswer::Accepted(sets, starts) => LoadNumbers {
+        InstallAnswer::Accepted(sets, starts) => LoadNumbers {
             accepted: 1,
             refused: 0,
             sets,
             starts,
             judge,
         },
-        LoadAnswer::Refused(refused) => LoadNumbers {
+        InstallAnswer::Refused(refused) => LoadNumbers {
             accepted: 0,
             refused,
             sets: 0,

@@ -4,7 +4,7 @@
 --   1  stepOf j c                     the outcome of a call on any state    calls/specs/Steps
 --      Reply, Call; loadNumber ..     01's answers, calls and numbers       calls/specs/Replies, Calls
 --      judgeLibrary, cLibrary         what contracts ask and allow          histories/, demands/specs/Functions
---      loadMeans .. reportMeans       what an answer of the code means      calls/specs/Replies
+--      installMeans .. reportMeans       what an answer of the code means      calls/specs/Replies
 --      loadReadBack .., replayShown   what C's numbers mean                 capi/specs/Numbers
 --   2  Accepts, Run, Arc              automata and their runs (000)         automaton/specs/Automaton
 --      automatonIn f                  the automaton in a file's bytes       ruleformat/specs/Language, Format

@@ -18,8 +18,8 @@ use Rattle.ruleformat.specs.Reader.{ruleOf}
 use Rattle.build.specs.Building.{builtOf}
 use Rattle.board.specs.Boards.{placesOf, isEmpty, emptyBoard, filledAt, clearedAt}
 use Rattle.calls.specs.declared.Judge.{Judge}
-use Rattle.calls.specs.declared.LoadResult.{LoadResult}
-use Rattle.calls.specs.declared.LoadAnswer.the-variants as load
+use Rattle.calls.specs.declared.InstallResult.{InstallResult}
+use Rattle.calls.specs.declared.InstallAnswer.the-variants as load
 use Rattle.calls.specs.declared.OpenResult.{OpenResult}
 use Rattle.calls.specs.declared.OpenAnswer.the-variants as opening
 use Rattle.calls.specs.declared.DeliverResult.{DeliverResult}
@@ -31,14 +31,14 @@ use Rattle.calls.specs.declared.Verdict.{Verdict}
 use Rattle.calls.specs.declared.Verdict.the-variants as verdict
 use Rattle.calls.specs.Replies.{Judgement, waiting, yesWith, noWith, refusedWith, Reported, Reply, accepted, loaded, judged, verdictMeans, reportMeans, delivered}
 use Rattle.calls.specs.Calls.{Call, loads, opens, delivers, withdraws, asksVerdict, loadNumber, openConditions, deliverConditions, withdrawConditions, verdictBy}
-use Rattle.calls.specs.Steps.{Outcome, lacksRule, lacksBoard, withBoard, loadOutcome, openOutcome, deliverOutcome, withdrawOutcome, outcomeBy, runsAt, loadOf, openOf, deliverOf, withdrawOf, reportOf, stepOf, isYes, verdictOf}
+use Rattle.calls.specs.Steps.{Outcome, lacksRule, lacksBoard, withBoard, installOutcome, openOutcome, deliverOutcome, withdrawOutcome, outcomeBy, runsAt, loadOf, openOf, deliverOf, withdrawOf, reportOf, stepOf, isYes, verdictOf}
 use Rattle.judge.proofs.Asks.{new-judge-asks-nothing, load-asks-nothing, open-asks-nothing, deliver-asks-nothing, withdraw-asks-nothing, verdict-asks-nothing}
 use Rattle.histories.specs.Claims.{judgeMachine, judgeAfter, repliesTo}
 use Rattle.histories.specs.Functions.{AsksStep, MayStep, judgeLibrary}
 
 -- ---- the outcome of a call, as a value of its answer type
 module _ (j next : Judge) where
-  a-loading : (number : Option ℕ) (sets m : ℕ) → (r : LoadResult) × (loadOutcome r ≡ outcomeBy number (loaded sets m) j next)
+  a-loading : (number : Option ℕ) (sets m : ℕ) → (r : InstallResult) × (installOutcome r ≡ outcomeBy number (loaded sets m) j next)
   a-loading none sets m = (record { answer = load.Accepted sets m; judge = next }, refl)
   a-loading (some x) sets m = (record { answer = load.Refused x; judge = j }, refl)
 
@@ -68,7 +68,7 @@ a-report r =
     )
 
 module _ (j : Judge) where
-  loading-of : (f : List ℕ) → (r : LoadResult) × (loadOutcome r ≡ loadOf j f)
+  loading-of : (f : List ℕ) → (r : InstallResult) × (installOutcome r ≡ loadOf j f)
   unfolding loadOf
   loading-of f =
       let b = builtOf (ruleOf f) in

@@ -16,14 +16,14 @@ use denote.Triple.Clauses.{AtExit}
 use borrow.Fn.Kinds.{endedOf}
 use Rattle.executions.specs.Executions.{Library}
 use Rattle.calls.specs.declared.Judge.{Judge}
-use Rattle.calls.specs.declared.LoadResult.{LoadResult}
+use Rattle.calls.specs.declared.InstallResult.{InstallResult}
 use Rattle.calls.specs.declared.OpenResult.{OpenResult}
 use Rattle.calls.specs.declared.DeliverResult.{DeliverResult}
 use Rattle.calls.specs.declared.WithdrawResult.{WithdrawResult}
 use Rattle.calls.specs.declared.Report.{Report}
 use Rattle.calls.specs.Replies.{Reply, judged, reportMeans}
 use Rattle.calls.specs.Calls.{Call, loads, opens, delivers, withdraws, asksVerdict}
-use Rattle.calls.specs.Steps.{Outcome, loadOutcome, openOutcome, deliverOutcome, withdrawOutcome}
+use Rattle.calls.specs.Steps.{Outcome, installOutcome, openOutcome, deliverOutcome, withdrawOutcome}
 use Rattle.judge.proofs.new_judge.Reads as new-reads
 use Rattle.judge.proofs.new_judge.Kinds as new-kinds
 use Rattle.judge.proofs.load.Reads as load-reads
@@ -41,7 +41,7 @@ abbrev pub MayBegin : Judge → Type 0
 MayBegin j = (s : AtExit (endedOf 0 new-kinds.ps new-kinds.r) tt) × new-reads.Learnt tt tt j s
 
 -- a file and a chunk are lent, as a reference to their bytes
-abbrev pub MayLoad : Judge → List ℕ → LoadResult → Type 0
+abbrev pub MayLoad : Judge → List ℕ → InstallResult → Type 0
 MayLoad j f r =
     (κs : Lfts 1) × (c : RefT (List ℕ)) × (s : AtExit (endedOf 1 load-kinds.ps load-kinds.r) κs) × (now c ≡ f) × load-reads.Learnt κs (j, (c, tt)) r s
 
@@ -68,7 +68,7 @@ AsksStep j (withdraws p) = withdraw-reads.Asked tt (j, (p, tt))
 AsksStep j asksVerdict = verdict-reads.Asked tt (j, tt)
 
 abbrev pub MayStep : Judge → Call → Reply → Judge → Type 0
-MayStep j (loads f) a next = (r : LoadResult) × MayLoad j f r × (record { reply = a; state = next } ≡ loadOutcome r)
+MayStep j (loads f) a next = (r : InstallResult) × MayLoad j f r × (record { reply = a; state = next } ≡ installOutcome r)
 MayStep j (opens n) a next = (r : OpenResult) × MayOpen j n r × (record { reply = a; state = next } ≡ openOutcome r)
 MayStep j (delivers p w) a next = (r : DeliverResult) × MayDeliver j p w r × (record { reply = a; state = next } ≡ deliverOutcome r)
 MayStep j (withdraws p) a next = (r : WithdrawResult) × MayWithdraw j p r × (record { reply = a; state = next } ≡ withdrawOutcome r)
