@@ -3,10 +3,10 @@
 -- Assumes nothing.
 use mathlib.Core.Path.{_≡_, ap, _∙_}
 use mathlib.Core.List.{List}
-use mathlib.Core.Option.{Option, none, some}
+use mathlib.Core.Option.{Option, some}
 use Prim.Native.Nat.{ℕ}
 use Rattle.ruleformat.specs.Refusals.{refusal}
-use Rattle.ruleformat.specs.Reader.{ruleOf, ruleBy}
+use Rattle.ruleformat.specs.Reader.{ruleOf}
 use Rattle.calls.specs.declared.Judge.{Judge}
 use Rattle.calls.specs.Calls.{loadNumber}
 use Rattle.calls.specs.Steps.{outcomeBy, withRule, installReply, installOf, loadOf}

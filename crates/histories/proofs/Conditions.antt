@@ -14,7 +14,7 @@ use lib.Dec.{eqb, ltb, leb}
 use lib.ListN.{length}
 use borrow.Author.Tests.{eq-eqb, ne-eqb, eqb-true, eqb-false, lt-ltb, le-ltb, ltb-true, ltb-false, le-leb, lt-leb, leb-true, leb-false}
 use Rattle.base.specs.Options.{isNone, isSome}
-use Rattle.base.proofs.Options.{none-some, is-some, not-some}
+use Rattle.base.proofs.Options.{is-some, not-some}
 use Rattle.base.proofs.Conditions.{none-law, outside-law, is-outside, named, not-named, first-here, first-past}
 use Rattle.base.specs.Conditions.{Condition, on, firstOf, NoneHolds, outside}
 use Rattle.base.proofs.Tests.{zero-one}
@@ -27,7 +27,7 @@ use Rattle.subsets.specs.Sets.{setsOf}
 use Rattle.delegates.specs.Claims.{startsIn}
 use Rattle.chunks.specs.Chunks.{foreign}
 use Rattle.calls.specs.Replies.{Reply, accepted, installed, delivered, refused}
-use Rattle.calls.specs.Calls.{Call, opens, delivers, withdraws, installNumber, openConditions}
+use Rattle.calls.specs.Calls.{Call, delivers, withdraws, installNumber, openConditions}
 use Rattle.calls.proofs.Conditions.{orElse, over, install-number}
 use Rattle.histories.specs.History.{ruleThere, ruleIn, placesIn, lookedOf, standing, replyBy, withSets, answerOf}
 use Rattle.histories.specs.Method.{TooMany}

@@ -1,6 +1,6 @@
 -- EVERY LIST OF CALLS, over the definitions alone: of the replies to the calls h and of the judge
 -- that they leave, all that demand 3 says holds. Assumes nothing.
-use mathlib.Core.Path.{_≡_, refl, ap, ap₂, sym}
+use mathlib.Core.Path.{_≡_, refl, ap, ap₂}
 use mathlib.Core.List.{List, [], _∷_}
 use mathlib.Core.Option.{Option, none, some}
 use Prim.Native.Nat.{ℕ, _^_, _<_}
@@ -14,8 +14,8 @@ use Rattle.chunks.proofs.Claims as chunks
 use Rattle.calls.specs.declared.Judge.{Judge}
 use Rattle.calls.specs.Replies.{delivered, judged}
 use Rattle.calls.specs.Calls.{Call, installs, opens, delivers, withdraws, asksVerdict}
-use Rattle.calls.specs.Steps.{reportOf, stepOf, verdictOf}
-use Rattle.histories.specs.History.{ruleThere, placesIn, standing, reportIn, answerOf, answersTo, ruleFrom, ruleIn, runAt, lookedOf, verdictIn}
+use Rattle.calls.specs.Steps.{reportOf, stepOf}
+use Rattle.histories.specs.History.{ruleThere, placesIn, standing, reportIn, answerOf, answersTo, ruleFrom, ruleIn, runAt}
 use Rattle.histories.specs.Claims.{judgeAfter, repliesTo, EveryList, LookedUp}
 use Rattle.histories.proofs.Method.{method}
 use Rattle.histories.proofs.Running.{run-below}

@@ -3,30 +3,27 @@
 --
 --   load-reply, load-state   of the judge after any calls
 --   load-clauses             all of `LoadClauses`
-use mathlib.Core.Path.{_≡_, refl, sym, ap, _∙_}
+use mathlib.Core.Path.{_≡_, refl, ap, _∙_}
 use mathlib.Core.Logic.{_↔_, Iff·trans}
-use mathlib.Core.Bool.{true, false, cond}
-use mathlib.Core.List.{List, [], _∷_, _++_}
+use mathlib.Core.Bool.{true}
+use mathlib.Core.List.{List, _++_}
 use mathlib.Core.Option.{Option, none, some}
 use Prim.Native.Nat.{ℕ, _≤_}
 use native.Mathlib.Omega.{arith}
-use lib.Dec.{eqb}
 use borrow.Author.Tests.{ne-eqb}
 use Rattle.base.specs.Conditions.{NoneHolds, FirstHolds}
-use Rattle.base.specs.Options.{isNone}
 use Rattle.base.proofs.Conditions.{none-law, first-law, named, not-named}
-use Rattle.base.proofs.Tests.{zero-one}
 use Rattle.executions.specs.Executions.{stateAfter}
 use Rattle.ruleformat.specs.Refusals.{fileConditions, refusal}
-use Rattle.ruleformat.specs.Reader.{ruleOf, readOf}
+use Rattle.ruleformat.specs.Reader.{ruleOf}
 use Rattle.ruleformat.specs.Language.{automatonIn}
 use Rattle.ruleformat.proofs.Claims as rulefile
-use Rattle.calls.specs.Replies.{Reply, installed, refused}
-use Rattle.calls.specs.Calls.{Call, installs, loadNumber}
-use Rattle.calls.specs.Steps.{Outcome, outcomeBy, installReply, withRule, installOf, loadOf}
+use Rattle.calls.specs.Replies.{installed}
+use Rattle.calls.specs.Calls.{Call, loadNumber}
+use Rattle.calls.specs.Steps.{Outcome, installReply, withRule, loadOf}
 use Rattle.calls.proofs.Conditions.{over, load-number, load-accepted}
 use Rattle.calls.proofs.Loading.{load-law}
-use Rattle.histories.specs.History.{ruleThere, replyBy, withSets, loading, loadReply}
+use Rattle.histories.specs.History.{ruleThere, withSets, loading, loadReply}
 use Rattle.histories.specs.Method.{TooMany}
 use Rattle.histories.specs.Claims.{judgeAfter, LoadClauses}
 use Rattle.histories.proofs.Method.{method-bytes, nine-bytes}

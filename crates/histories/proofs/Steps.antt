@@ -7,7 +7,6 @@ use mathlib.Core.Option.{Option, none, some}
 use Prim.Native.Nat.{ℕ, _<_}
 use native.Mathlib.Omega.{arith}
 use lib.Dec.{eqb, ltb, leb}
-use lib.ListN.{length}
 use borrow.Author.Tests.{eq-eqb, ltb-true, ltb-false, leb-false}
 use Rattle.base.specs.Conditions.{on, firstOf, outside}
 use Rattle.base.specs.Options.{isNone, isSome}

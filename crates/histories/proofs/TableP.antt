@@ -27,12 +27,12 @@ use Rattle.delegates.specs.Alike.{startSet}
 use Rattle.chunks.specs.Chunks.{foreign, counted, runSet, looked}
 use Rattle.joins.specs.Joining.{joinOf, yesOf}
 use Rattle.joins.specs.Claims.{delegateIn}
-use Rattle.histories.specs.History.{ruleThere, ruleFrom, withSets, loading, loadReply, openNumber, placesIn, standingCount, standingEnd, deliverCheck, standing, deliverNumber, standingText, reportIn, answersTo, ruleIn, lookedOf, verdictIn, replyBy, answerOf}
+use Rattle.histories.specs.History.{ruleThere, ruleFrom, withSets, loading, loadReply, openNumber, placesIn, standingCount, standingEnd, deliverCheck, standing, deliverNumber, standingText, reportIn, answersTo, ruleIn, lookedOf, replyBy, answerOf}
 use Rattle.calls.specs.Replies.{Reported, Reply, accepted, installed, judged, refused, delivered}
 use Rattle.calls.specs.Calls.{Call, installs, opens, delivers, asksVerdict, installNumber, loadNumber, verdictBy, reportBy}
 use Rattle.calls.proofs.Conditions.{load-number, load-accepted}
 use Rattle.histories.specs.Claims.{judgeAfter, BuiltBy}
-use Rattle.histories.specs.TableP.{Result, sets, delegates, verdict, turned-down, Case, case, delivering, answering, callsFor, callsOf, repliesOf, rowsFrom, Shows, Each, Case-holds, table, TableP}
+use Rattle.histories.specs.TableP.{sets, delegates, verdict, turned-down, Case, case, delivering, answering, callsFor, callsOf, repliesOf, rowsFrom, Shows, Each, Case-holds, table, TableP}
 use Rattle.histories.proofs.EveryList.{every-list}
 use Rattle.histories.proofs.TwoRules.{listed, starts-A, starts-B}
 

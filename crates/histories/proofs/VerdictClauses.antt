@@ -4,7 +4,7 @@
 -- follow. Yes and no go so: with no place empty, the standing chunks are a list of texts, what the
 -- places hold are their end sets, and the theorem of the join applies to that list. The bounds on
 -- the counts are those of the chunks, of which an empty one counts nothing.
-use mathlib.Core.Path.{_≡_, refl, sym, ap, ap₂, _∙_, subst, subst₂}
+use mathlib.Core.Path.{_≡_, refl, sym, ap, _∙_, subst, subst₂}
 use mathlib.Core.Logic.{_↔_, Iff·trans}
 use mathlib.Core.Bool.{Bool, true, false, cond}
 use mathlib.Core.List.{List, [], _∷_, _++_, flatten, append-assoc, append-nil}

@@ -7,20 +7,19 @@
 --   refused                 which number the rule has
 use mathlib.Core.Path.{_≡_, refl, sym}
 use mathlib.Core.Logic.{_↔_, _⊎_, inl, inr, ⊎-elim, Iff·trans}
-use mathlib.Core.Bool.{Bool, true, false, _||_}
+use mathlib.Core.Bool.{true, false}
 use mathlib.Core.List.{List, [], _∷_}
 use mathlib.Core.Option.{none, some}
 use Prim.Native.Nat.{ℕ, _^_, _≤_, _<_}
 use lib.Dec.{eqb}
-use lib.ListN.{length}
 use borrow.Author.Tests.{le-leb, lt-leb, leb-true, leb-false}
 use Rattle.base.specs.Conditions.{Condition, on, firstOf}
 use Rattle.base.proofs.Tests.{by-test, or-either, or-neither, or-left, or-right}
 use Rattle.base.proofs.Conditions.{outside-law, is-outside, none-law, first-law, named, first-here, first-past}
 use Rattle.automaton.specs.declared.Rule.{Rule}
-use Rattle.automaton.specs.Rules.{targetMask, WellFormed}
+use Rattle.automaton.specs.Rules.{WellFormed}
 use Rattle.rulecheck.specs.Checking.{badStateCount, badSymbolCount, beyond, badMasks, badTargets, ruleConditions, ruleNumber}
-use Rattle.rulecheck.specs.Claims.{StatesIn, SymbolsIn, MasksIn, Stray, Refused-exactly}
+use Rattle.rulecheck.specs.Claims.{StatesIn, SymbolsIn, MasksIn, Refused-exactly}
 use Rattle.rulecheck.proofs.Targets.{targets-law, stray-law}
 
 -- ---- the two masks

@@ -7,7 +7,7 @@
 --   cell-mask             a cell is the target mask of its state and symbol
 --   targets-law           no cell is bad
 --   stray-law             some cell is bad
-use mathlib.Core.Path.{_≡_, refl, sym, ap, ap₂, _∙_, subst}
+use mathlib.Core.Path.{_≡_, refl, sym, ap, ap₂, _∙_}
 use mathlib.Core.Logic.{_↔_, _⊎_, inl, inr, ⊎-elim}
 use mathlib.Core.Bool.{Bool, true, false, not, _||_, _&&_}
 use mathlib.Core.List.{List}
@@ -16,8 +16,8 @@ use native.Mathlib.Omega.{arith}
 use lib.Dec.{ltb, leb, eqb}
 use lib.ListN.{getD}
 use lib.Pow.{pow-pos}
-use borrow.Author.Tests.{lt-ltb, le-ltb, ltb-true, ltb-false, le-leb, lt-leb, leb-true, leb-false, eq-eqb, ne-eqb, eqb-true, eqb-false, not-false}
-use Rattle.base.proofs.Tests.{by-test, not-both, or-either, or-neither, or-left, or-right}
+use borrow.Author.Tests.{lt-ltb, le-ltb, ltb-true, ltb-false, le-leb, lt-leb, leb-true, leb-false, eq-eqb, ne-eqb, eqb-true, not-false}
+use Rattle.base.proofs.Tests.{by-test, not-both, or-either, or-left}
 use Rattle.base.proofs.Conditions.{any-at, any-found, none-at, none-all}
 use Rattle.automaton.specs.declared.Rule.{Rule}
 use Rattle.automaton.specs.Rules.{cellOf, targetMask}

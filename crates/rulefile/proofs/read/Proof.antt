@@ -5,7 +5,7 @@ use Prim.Native.Nat.{ℕ}
 use Rattle.ruleformat.specs.declared.ReadAnswer.the-variants.{Accepted, Refused}
 use Rattle.automaton.specs.declared.Rule.{Rule}
 use Rattle.ruleformat.specs.Refusals.{refusal}
-use Rattle.ruleformat.specs.Reader.{readMeans, ruleBy, Reading, readOf}
+use Rattle.ruleformat.specs.Reader.{readMeans, ruleBy, readOf}
 use mathlib.Core.Path.{_≡_, sym, ap, ap₂, _∙_}
 use borrow.Author.Needs.{needs}
 use Rattle.rulefile.proofs.read.Statement.{statement}
