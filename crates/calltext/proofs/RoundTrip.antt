@@ -62,9 +62,6 @@ over-call (delivers p w) =
 over-call (withdraws p) = over-append 10 withdraw-word (decimal p) (search needs) (number-10 p)
 over-call asksVerdict = search needs
 
-pub over-load : (f : List ℕ) → Over 10 (load-word ++ fieldOf f)
-over-load f = over-append 10 load-word (fieldOf f) (search needs) (field-10 f)
-
 not-empty : (w : List ℕ) → 1 ≤ length w → lineIn w ≡ callIn w
 not-empty w h = rw (ne-eqb (length w) 0 (λ e. omega arith))
 
