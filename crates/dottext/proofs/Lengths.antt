@@ -1,16 +1,13 @@
 -- How long the parts of the drawing are at most. A number that is drawn is below 100. Assumes
 -- nothing.
 --
---   both            two parts have the room of both
---   number-most     2
 --   arrow-most      8
 --   state-most      25
 --   initial-most    30
---   piece-most      3
 --   line-most       69
 --   from-most       2,208 for the arrows of a state
 --   dot-most        72,466
-use mathlib.Core.Bool.{Bool, true, false, cond}
+use mathlib.Core.Bool.{cond}
 use mathlib.Core.List.{List, [], _++_}
 use Prim.Native.Nat.{ℕ, _+_, _*_, _≤_, _<_, min}
 use native.Mathlib.Omega.{arith}
@@ -21,7 +18,8 @@ use Rattle.base.proofs.Lists.{joined-length}
 use Rattle.masks.specs.Masks.{has}
 use Rattle.automaton.specs.declared.Rule.{Rule}
 use Rattle.text.specs.Numerals.{decimal}
-use Rattle.text.proofs.Digits.{decimal-most}
+use Rattle.dotlabels.specs.Labels.{leads, label}
+use Rattle.dotlabels.proofs.Lengths.{both, one-of, number-most, label-most}
 use Rattle.dottext.specs.Words.{
   finalMark,
   pointMark,
@@ -29,8 +27,6 @@ use Rattle.dottext.specs.Words.{
   entryName,
   arrowSign,
   labelStart,
-  comma,
-  dash,
   labelEnd,
   closing,
 }
@@ -41,12 +37,6 @@ use Rattle.dottext.specs.DotText.{
   pointLine,
   entryLine,
   initialLines,
-  leads,
-  earlier,
-  firstPiece,
-  lastPiece,
-  piece,
-  label,
   arrowLine,
   arrowLines,
   arrowsFrom,
@@ -54,18 +44,6 @@ use Rattle.dottext.specs.DotText.{
   dotText,
   mostBytes,
 }
-
-both : (x y : ℕ) (p q : List ℕ) → length p ≤ x → length q ≤ y → length (p ++ q) ≤ x + y
-both x y p q h l = omega (arith, length-append p q)
-
--- one of two parts, by a test
-one-of : (most : ℕ) (b : Bool) (p q : List ℕ) → length p ≤ most → length q ≤ most
-    → length (cond b p q) ≤ most
-one-of most true p q h l = h
-one-of most false p q h l = l
-
-number-most : (n : ℕ) → n < 100 → length (decimal n) ≤ 2
-number-most n h = decimal-most 1 n h
 
 arrow-most : (q t : ℕ) → q < 100 → t < 100 → length (arrow q t) ≤ 8
 arrow-most q t hq ht =
@@ -84,23 +62,6 @@ initial-most initials q h =
     (both 1 18 entryName (decimal q ++ pointMark) (omega arith) (both 2 16 (decimal q) pointMark (number-most q h) (omega arith)))
     (both 1 10 entryName (arrow q q ++ lineEnd) (omega arith) (both 8 2 (arrow q q) lineEnd (arrow-most q q h h) (omega arith))))
     (omega arith)
-
-module _ (p : ℕ → Bool) where
-  piece-most : (s : ℕ) → s < 100 → length (piece p s) ≤ 3
-  unfolding piece
-  piece-most s h =
-      let n = number-most s h in
-      one-of 3 (p s)
-      (cond (earlier p 1 s) (cond (p (s + 1)) [] (lastPiece (earlier p 2 s) s)) (firstPiece (anyBelow p s) s))
-      []
-      (one-of 3 (earlier p 1 s) (cond (p (s + 1)) [] (lastPiece (earlier p 2 s) s)) (firstPiece (anyBelow p s) s)
-      (one-of 3 (p (s + 1)) [] (lastPiece (earlier p 2 s) s) (omega arith)
-      (both 1 2 (cond (earlier p 2 s) dash comma) (decimal s) (one-of 1 (earlier p 2 s) dash comma (omega arith) (omega arith)) n))
-      (both 1 2 (cond (anyBelow p s) comma []) (decimal s) (one-of 1 (anyBelow p s) comma [] (omega arith) (omega arith)) n))
-      (omega arith)
-
-  label-most : (k : ℕ) → k ≤ 16 → length (label p k) ≤ 48
-  label-most k h = omega (arith, joined-length (piece p) k 3 (λ s l. piece-most s (omega arith)))
 
 module _ (ts : List ℕ) (n k : ℕ) (hn : n ≤ 32) (hk : k ≤ 16) where
   line-most : (q t : ℕ) → q < n → t < n → length (arrowLines ts k q t) ≤ 69

@@ -39,14 +39,6 @@ arrowSign = 32 ∷ 45 ∷ 62 ∷ 32 ∷ []
 abbrev pub labelStart : List ℕ
 labelStart = 32 ∷ 91 ∷ 108 ∷ 97 ∷ 98 ∷ 101 ∷ 108 ∷ 61 ∷ 34 ∷ []
 
--- `,`
-abbrev pub comma : List ℕ
-comma = 44 ∷ []
-
--- `-`
-abbrev pub dash : List ℕ
-dash = 45 ∷ []
-
 -- `"];⏎`
 abbrev pub labelEnd : List ℕ
 labelEnd = 34 ∷ 93 ∷ 59 ∷ 10 ∷ []

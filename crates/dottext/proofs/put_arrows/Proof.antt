@@ -3,7 +3,7 @@
 use native.Mathlib.Omega.{arith}
 use Prim.Native.Nat.{_-_}
 use Rattle.dottext.specs.DotText.{arrowsFrom}
-use Rattle.dottext.proofs.Rows.{Row, begin, fits, more, all}
+use Rattle.dotlabels.proofs.Rows.{Row, begin, fits, more, all}
 use Rattle.dottext.proofs.put_arrows.Statement.{statement}
 use Rattle.dottext.proofs.put_arrows.Tie as tie
 

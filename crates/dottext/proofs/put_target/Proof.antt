@@ -3,7 +3,7 @@ use mathlib.Core.Path.{_≡_, sym, _∙_}
 use mathlib.Core.Bool.{true, false}
 use Rattle.base.specs.Conditions.{anyBelow}
 use Rattle.text.proofs.Rooms.{nothing}
-use Rattle.dottext.specs.DotText.{leads}
+use Rattle.dotlabels.specs.Labels.{leads}
 use borrow.Author.Needs.{needs}
 use Rattle.dottext.proofs.put_target.Statement.{statement}
 use Rattle.dottext.proofs.put_target.Tie as tie

@@ -3,7 +3,7 @@
 use native.Mathlib.Omega.{arith}
 use Prim.Native.Nat.{_-_}
 use Rattle.dottext.specs.DotText.{arrowLines}
-use Rattle.dottext.proofs.Rows.{Row, begin, fits, more, all}
+use Rattle.dotlabels.proofs.Rows.{Row, begin, fits, more, all}
 use Rattle.dottext.proofs.put_targets.Statement.{statement}
 use Rattle.dottext.proofs.put_targets.Tie as tie
 

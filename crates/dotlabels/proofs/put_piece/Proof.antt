@@ -1,11 +1,11 @@
 -- `put_piece` meets its contract. Assumes nothing.
 use mathlib.Core.Path.{_≡_, sym, _∙_}
 use Rattle.text.proofs.Rooms.{nothing}
-use Rattle.dottext.specs.DotText.{leads}
-use Rattle.dottext.proofs.Labels.{outside, first, within, last}
+use Rattle.dotlabels.specs.Labels.{leads}
+use Rattle.dotlabels.proofs.Labels.{outside, first, within, last}
 use borrow.Author.Needs.{needs}
-use Rattle.dottext.proofs.put_piece.Statement.{statement}
-use Rattle.dottext.proofs.put_piece.Tie as tie
+use Rattle.dotlabels.proofs.put_piece.Statement.{statement}
+use Rattle.dotlabels.proofs.put_piece.Tie as tie
 
 leads-requires : tie.Need-leads-requires
 leads-requires c κs = search needs

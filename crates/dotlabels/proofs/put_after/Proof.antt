@@ -1,8 +1,8 @@
 -- `put_after` meets its contract. Assumes nothing.
 use Rattle.text.proofs.Rooms.{exact, two}
 use borrow.Author.Needs.{needs}
-use Rattle.dottext.proofs.put_after.Statement.{statement}
-use Rattle.dottext.proofs.put_after.Tie as tie
+use Rattle.dotlabels.proofs.put_after.Statement.{statement}
+use Rattle.dotlabels.proofs.put_after.Tie as tie
 
 put-byte-requires : tie.Need-put-byte-requires
 put-byte-requires c κs = search needs

@@ -9,7 +9,7 @@ use mathlib.Core.Bool.{Bool, true, false}
 use mathlib.Core.List.{List, []}
 use Prim.Native.Nat.{ℕ, _+_}
 use Rattle.base.specs.Conditions.{anyBelow}
-use Rattle.dottext.specs.DotText.{earlier, firstPiece, lastPiece, piece}
+use Rattle.dotlabels.specs.Labels.{earlier, firstPiece, lastPiece, piece}
 
 module _ (p : ℕ → Bool) (s : ℕ) where
   pub outside : p s ≡ false → piece p s ≡ []

@@ -3,10 +3,10 @@ use mathlib.Core.Path.{ap, _∙_}
 use Prim.Native.Nat.{ℕ}
 use borrow.Author.Tests.{lt-ltb, le-ltb}
 use Rattle.masks.specs.Masks.{has}
-use Rattle.dottext.specs.DotText.{leads}
+use Rattle.dotlabels.specs.Labels.{leads}
 use borrow.Author.Needs.{needs}
-use Rattle.dottext.proofs.leads.Statement.{statement}
-use Rattle.dottext.proofs.leads.Tie as tie
+use Rattle.dotlabels.proofs.leads.Statement.{statement}
+use Rattle.dotlabels.proofs.leads.Tie as tie
 
 cell-requires : tie.Need-cell-requires
 cell-requires c κs = search needs

@@ -1,8 +1,8 @@
 -- `cell` meets its contract. Assumes nothing.
 use borrow.Author.Tests.{lt-ltb}
 use borrow.Author.Needs.{needs}
-use Rattle.dottext.proofs.cell.Statement.{statement}
-use Rattle.dottext.proofs.cell.Tie as tie
+use Rattle.dotlabels.proofs.cell.Statement.{statement}
+use Rattle.dotlabels.proofs.cell.Tie as tie
 
 cast-result : tie.Need-cast-result
 cast-result c = search needs

@@ -1,8 +1,8 @@
 -- `put_last` meets its contract. Assumes nothing.
 
 use borrow.Author.Needs.{needs}
-use Rattle.dottext.proofs.put_last.Statement.{statement}
-use Rattle.dottext.proofs.put_last.Tie as tie
+use Rattle.dotlabels.proofs.put_last.Statement.{statement}
+use Rattle.dotlabels.proofs.put_last.Tie as tie
 
 put-after-requires : tie.Need-put-after-requires
 put-after-requires c κs = search needs

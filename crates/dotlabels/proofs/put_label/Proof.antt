@@ -2,10 +2,10 @@
 -- written. Assumes nothing.
 use native.Mathlib.Omega.{arith}
 use Prim.Native.Nat.{_-_}
-use Rattle.dottext.specs.DotText.{leads, piece}
-use Rattle.dottext.proofs.Rows.{Row, begin, fits, more, all}
-use Rattle.dottext.proofs.put_label.Statement.{statement}
-use Rattle.dottext.proofs.put_label.Tie as tie
+use Rattle.dotlabels.specs.Labels.{leads, piece}
+use Rattle.dotlabels.proofs.Rows.{Row, begin, fits, more, all}
+use Rattle.dotlabels.proofs.put_label.Statement.{statement}
+use Rattle.dotlabels.proofs.put_label.Tie as tie
 
 abbrev Inv-loop : tie.InvT-loop
 Inv-loop out₀ start targets k q t at₀ s₀ out at s = Row (piece (leads targets k (q .0) (t .0))) 3 k out₀ start out at s

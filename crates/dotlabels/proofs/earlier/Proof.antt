@@ -1,8 +1,8 @@
 -- `earlier` meets its contract. Assumes nothing.
 use borrow.Author.Tests.{le-leb, lt-leb}
 use borrow.Author.Needs.{needs}
-use Rattle.dottext.proofs.earlier.Statement.{statement}
-use Rattle.dottext.proofs.earlier.Tie as tie
+use Rattle.dotlabels.proofs.earlier.Statement.{statement}
+use Rattle.dotlabels.proofs.earlier.Tie as tie
 
 leads-requires : tie.Need-leads-requires
 leads-requires c κs = search needs

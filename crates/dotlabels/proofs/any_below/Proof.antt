@@ -5,9 +5,9 @@ use Prim.Native.Nat.{_-_, _≤_}
 use native.Mathlib.Omega.{arith}
 use Rattle.base.specs.Conditions.{anyBelow}
 use Rattle.base.proofs.Conditions.{any-at, none-yet, none-more}
-use Rattle.dottext.specs.DotText.{leads}
-use Rattle.dottext.proofs.any_below.Statement.{statement}
-use Rattle.dottext.proofs.any_below.Tie as tie
+use Rattle.dotlabels.specs.Labels.{leads}
+use Rattle.dotlabels.proofs.any_below.Statement.{statement}
+use Rattle.dotlabels.proofs.any_below.Tie as tie
 
 abbrev Inv-loop : tie.InvT-loop
 Inv-loop targets k q t end s₀ s = (s ≤ end) × (anyBelow (leads targets k (q .0) (t .0)) s ≡ false)

@@ -1,8 +1,8 @@
 -- `put_first` meets its contract. Assumes nothing.
 use native.Mathlib.Omega.{arith}
 use borrow.Author.Needs.{needs}
-use Rattle.dottext.proofs.put_first.Statement.{statement}
-use Rattle.dottext.proofs.put_first.Tie as tie
+use Rattle.dotlabels.proofs.put_first.Statement.{statement}
+use Rattle.dotlabels.proofs.put_first.Tie as tie
 
 put-after-requires : tie.Need-put-after-requires
 put-after-requires c κs = search needs

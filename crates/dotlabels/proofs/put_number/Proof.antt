@@ -2,8 +2,8 @@
 use native.Mathlib.Omega.{arith}
 use Rattle.text.proofs.Digits.{decimal-most}
 use borrow.Author.Needs.{needs}
-use Rattle.dottext.proofs.put_number.Statement.{statement}
-use Rattle.dottext.proofs.put_number.Tie as tie
+use Rattle.dotlabels.proofs.put_number.Statement.{statement}
+use Rattle.dotlabels.proofs.put_number.Tie as tie
 
 put-decimal-requires : tie.Need-put-decimal-requires
 put-decimal-requires c κs = let s = c .before .before in omega (arith, decimal-most 1 (s .args .n) (s .pre .0))
