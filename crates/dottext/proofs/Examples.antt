@@ -8,7 +8,7 @@ use Rattle.text.specs.Numerals.{decimalBelow}
 use Rattle.ruleformat.specs.Reader.{targetsUpTo}
 use Rattle.ruleformat.specs.Worked.{fileA}
 use Rattle.ruleformat.proofs.Examples.{accepted-A}
-use Rattle.dottext.specs.Words.{digraphLine, rankdirLine, shapeLine, closing}
+use Rattle.dotgraph.specs.Words.{digraphLine, rankdirLine, shapeLine, closing}
 use Rattle.dotlabels.specs.Labels.{leads, piece}
 use Rattle.dottext.specs.Answers.{drawingFor}
 

@@ -1,6 +1,4 @@
 -- In the order in which they build on each other.
-pub mod Whole
-pub mod Lengths
 pub mod Claims
 pub mod Drawn
 pub mod Examples
