@@ -1,7 +1,7 @@
 -- A refusal leaves the state as it was, on any state whatever (demand 1). Assumes nothing.
 --
---   refusal-law                 a reply has the number of a refusal exactly where it is that refusal, of the
---                 verdict or of another call
+--   refusal-law                 a reply has the number of a refusal exactly where it is that
+--                               refusal, of the verdict or of another call
 --   unchanged, load-unchanged   the claims
 use mathlib.Core.Path.{_≡_, refl, ap, _∙_}
 use mathlib.Core.Logic.{_↔_, _⊎_, inl, inr, ⊎-elim}

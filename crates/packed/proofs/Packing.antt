@@ -87,9 +87,9 @@ module _ (b : List ℕ) (h : Bytes b) where
       by-test (ltb cell 512)
       (λ e. omega (arith, cell-of 512 g cell 0 (ltb-true cell 512 e), word-below (10 + 4 * cell)))
       (λ e.
-          let past : getD (ruleAt b .targets) cell 0 ≡ 0 =
-          List·getD-eq-default (ruleAt b .targets) 0 (omega (arith, length-listFrom 0 512 g, ltb-false cell 512 e)) in
-          omega (arith, past))
+      let past : getD (ruleAt b .targets) cell 0 ≡ 0 =
+      List·getD-eq-default (ruleAt b .targets) 0 (omega (arith, length-listFrom 0 512 g, ltb-false cell 512 e)) in
+      omega (arith, past))
 
   stated-fits : Fits-rule (ruleAt b)
   stated-fits = record {
