@@ -1,8 +1,8 @@
 -- A refusal leaves the state as it was, on any state whatever (demand 1). Assumes nothing.
 --
---   refusal-law   a reply has the number of a refusal exactly where it is that refusal, of the
---                 verdict or of another call
---   unchanged     the claim
+--   refusal-law                 a reply has the number of a refusal exactly where it is that
+--                               refusal, of the verdict or of another call
+--   unchanged, load-unchanged   the claims
 use mathlib.Core.Path.{_≡_, refl, ap, _∙_}
 use mathlib.Core.Logic.{_↔_, _⊎_, inl, inr, ⊎-elim}
 use mathlib.Core.Bool.{not}
@@ -11,13 +11,12 @@ use Prim.Native.Nat.{ℕ}
 use Rattle.base.proofs.Options.{none-some}
 use Rattle.base.specs.Conditions.{firstOf}
 use Rattle.ruleformat.specs.Reader.{ruleOf}
-use Rattle.build.specs.Building.{builtOf}
 use Rattle.board.specs.Boards.{placesOf, isEmpty, emptyBoard, filledAt, clearedAt}
 use Rattle.calls.specs.declared.Judge.{Judge}
-use Rattle.calls.specs.Replies.{Judgement, waiting, yesWith, noWith, refusedWith, refusalIn, Reported, Reply, accepted, loaded, judged, refused, refusalOf, delivered}
-use Rattle.calls.specs.Calls.{loads, opens, delivers, withdraws, asksVerdict, loadNumber, openConditions, deliverConditions, withdrawConditions}
-use Rattle.calls.specs.Steps.{lacksRule, lacksBoard, withBoard, runsAt, outcomeBy, loadOf, openOf, deliverOf, withdrawOf}
-use Rattle.calls.specs.Claims.{Unchanged}
+use Rattle.calls.specs.Replies.{Judgement, waiting, yesWith, noWith, refusedWith, refusalIn, Reported, Reply, accepted, installed, judged, refused, refusalOf, delivered}
+use Rattle.calls.specs.Calls.{installs, opens, delivers, withdraws, asksVerdict, installNumber, loadNumber, openConditions, deliverConditions, withdrawConditions}
+use Rattle.calls.specs.Steps.{lacksRule, lacksBoard, withBoard, runsAt, outcomeBy, withRule, installReply, installOf, loadOf, openOf, deliverOf, withdrawOf}
+use Rattle.calls.specs.Claims.{Unchanged, Unchanged-load}
 
 refused-in : (v : Judgement) (x : ℕ) → refusalIn v ≡ some x → v ≡ refusedWith x
 refused-in (waiting empty) x e = none-some refl e
@@ -31,7 +30,7 @@ refusal-law a x = (to a, ⊎-elim (λ e. ap refusalOf e) (λ e. ap refusalOf (e 
   where
     to : (b : Reply) → refusalOf b ≡ some x → (b ≡ refused x) ⊎ ((r : Reported) × (b ≡ judged r) × (r .verdict ≡ refusedWith x))
     to accepted e = none-some refl e
-    to (loaded sets m) e = none-some refl e
+    to (installed sets m) e = none-some refl e
     to (delivered looked) e = none-some refl e
     to (judged r) e = inr (r, refl, refused-in (r .verdict) x e)
     to (refused number) e = inl cc
@@ -42,10 +41,8 @@ by-number none a j next taken x e = none-some taken e
 by-number (some m) a j next taken x e = refl
 
 pub unchanged : Unchanged
-unfolding loadOf openOf deliverOf withdrawOf
-unchanged j (loads f) =
-    let b = builtOf (ruleOf f) in
-    by-number (loadNumber f) (loaded (b .setcount) (b .startcount)) j (record { built = b; board = emptyBoard 0 }) refl
+unfolding installOf openOf deliverOf withdrawOf
+unchanged j (installs r) = by-number (installNumber r) (installReply r) j (withRule r) refl
 unchanged j (opens n) = by-number (firstOf (openConditions (lacksRule j) n)) accepted j (withBoard j (emptyBoard n)) refl
 unchanged j (delivers p w) =
     by-number
@@ -60,3 +57,8 @@ unchanged j (withdraws p) =
     (withBoard j (clearedAt (j .board) p))
     refl
 unchanged j asksVerdict = λ x e. refl
+
+-- nor does a load that is refused, which is no call
+pub load-unchanged : Unchanged-load
+unfolding loadOf
+load-unchanged j f = by-number (loadNumber f) (installReply (ruleOf f)) j (withRule (ruleOf f)) refl
