@@ -1,5 +1,6 @@
--- Conditions and Ways are for the proofs of the functions; Refusing and Foreign prove the claims.
+-- Conditions and Ways are for the proofs of the functions; the others prove the claims.
 pub mod Conditions
+pub mod Loading
 pub mod Ways
 pub mod Refusing
 pub mod Reporting

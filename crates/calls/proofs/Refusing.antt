@@ -10,13 +10,11 @@ use mathlib.Core.Option.{Option, none, some}
 use Prim.Native.Nat.{ℕ}
 use Rattle.base.proofs.Options.{none-some}
 use Rattle.base.specs.Conditions.{firstOf}
-use Rattle.ruleformat.specs.Reader.{ruleOf}
-use Rattle.build.specs.Building.{builtOf}
 use Rattle.board.specs.Boards.{placesOf, isEmpty, emptyBoard, filledAt, clearedAt}
 use Rattle.calls.specs.declared.Judge.{Judge}
-use Rattle.calls.specs.Replies.{Judgement, waiting, yesWith, noWith, refusedWith, refusalIn, Reported, Reply, accepted, loaded, judged, refused, refusalOf, delivered}
-use Rattle.calls.specs.Calls.{loads, opens, delivers, withdraws, asksVerdict, loadNumber, openConditions, deliverConditions, withdrawConditions}
-use Rattle.calls.specs.Steps.{lacksRule, lacksBoard, withBoard, runsAt, outcomeBy, loadOf, openOf, deliverOf, withdrawOf}
+use Rattle.calls.specs.Replies.{Judgement, waiting, yesWith, noWith, refusedWith, refusalIn, Reported, Reply, accepted, installed, judged, refused, refusalOf, delivered}
+use Rattle.calls.specs.Calls.{installs, opens, delivers, withdraws, asksVerdict, installNumber, openConditions, deliverConditions, withdrawConditions}
+use Rattle.calls.specs.Steps.{lacksRule, lacksBoard, withBoard, runsAt, outcomeBy, withRule, installReply, installOf, openOf, deliverOf, withdrawOf}
 use Rattle.calls.specs.Claims.{Unchanged}
 
 refused-in : (v : Judgement) (x : ℕ) → refusalIn v ≡ some x → v ≡ refusedWith x
@@ -31,7 +29,7 @@ refusal-law a x = (to a, ⊎-elim (λ e. ap refusalOf e) (λ e. ap refusalOf (e 
   where
     to : (b : Reply) → refusalOf b ≡ some x → (b ≡ refused x) ⊎ ((r : Reported) × (b ≡ judged r) × (r .verdict ≡ refusedWith x))
     to accepted e = none-some refl e
-    to (loaded sets m) e = none-some refl e
+    to (installed sets m) e = none-some refl e
     to (delivered looked) e = none-some refl e
     to (judged r) e = inr (r, refl, refused-in (r .verdict) x e)
     to (refused number) e = inl cc
@@ -42,10 +40,8 @@ by-number none a j next taken x e = none-some taken e
 by-number (some m) a j next taken x e = refl
 
 pub unchanged : Unchanged
-unfolding loadOf openOf deliverOf withdrawOf
-unchanged j (loads f) =
-    let b = builtOf (ruleOf f) in
-    by-number (loadNumber f) (loaded (b .setcount) (b .startcount)) j (record { built = b; board = emptyBoard 0 }) refl
+unfolding installOf openOf deliverOf withdrawOf
+unchanged j (installs r) = by-number (installNumber r) (installReply r) j (withRule r) refl
 unchanged j (opens n) = by-number (firstOf (openConditions (lacksRule j) n)) accepted j (withBoard j (emptyBoard n)) refl
 unchanged j (delivers p w) =
     by-number

@@ -9,19 +9,23 @@
 --   verdict-21, verdict-waiting, verdict-yes, verdict-no    verdictOf
 --   bytes-none, bytes-some                                  perByte
 --   report-waiting, report-yes, report-no, report-refused   reportBy
---   load-unread, load-unbuilt, loaded                       loadOf
+--   install-unchecked, install-unbuilt, installed           installOf
+--   load-unread, load-read                                  loadOf
 use mathlib.Core.Path.{_≡_, sym, ap, _∙_}
 use mathlib.Core.Bool.{Bool, true, false, cond, not}
 use mathlib.Core.List.{List}
-use mathlib.Core.Option.{Option, none, some}
+use mathlib.Core.Option.{none, some}
 use Prim.Native.Nat.{ℕ, _/_, _%_, _≤_, _<_}
 use lib.ListN.{length}
 use borrow.Author.Tests.{lt-ltb, le-ltb, le-leb, lt-leb, eq-eqb, ne-eqb}
 use Rattle.base.proofs.Tests.{by-test, zero-one}
+use Rattle.automaton.specs.declared.Rule.{Rule}
+use Rattle.rulecheck.specs.declared.CheckAnswer.{CheckAnswer}
+use Rattle.rulecheck.specs.declared.CheckAnswer.the-variants as check
+use Rattle.rulecheck.specs.Checking.{ruleNumber, checkMeans}
 use Rattle.ruleformat.specs.declared.ReadAnswer.the-variants as reading
 use Rattle.ruleformat.specs.declared.ReadResult.{ReadResult}
-use Rattle.ruleformat.specs.Refusals.{refusal}
-use Rattle.ruleformat.specs.Reader.{readMeans, ruleOf, ruleBy, Reads}
+use Rattle.ruleformat.specs.Reader.{readMeans, Reading, readOutcome, readOf}
 use Rattle.build.specs.declared.BuildAnswer.the-variants as build
 use Rattle.build.specs.declared.Built.{Built}
 use Rattle.build.specs.declared.BuildResult.{BuildResult}
@@ -36,9 +40,10 @@ use Rattle.calls.specs.declared.Judge.{Judge}
 use Rattle.calls.specs.declared.Verdict.{Verdict}
 use Rattle.calls.specs.declared.Verdict.the-variants as verdict
 use Rattle.calls.specs.Replies as reply
-use Rattle.calls.specs.Calls.{loadNumber, perByte, alone, reportBy}
-use Rattle.calls.specs.Steps.{fresh, withBoard, Outcome, loadOf, openOf, runsAt, deliverOf, withdrawOf, isYes, verdictOf}
-use Rattle.calls.proofs.Conditions.{over, load-number}
+use Rattle.calls.specs.Calls.{installNumber, perByte, alone, reportBy}
+use Rattle.calls.specs.Steps.{fresh, withBoard, Outcome, installOf, loadOf, openOf, deliverOf, withdrawOf, isYes, verdictOf}
+use Rattle.calls.proofs.Conditions.{over, install-number}
+use Rattle.calls.proofs.Loading.{load-law}
 
 pub fresh-by : (b : Built) → b ≡ noBuilt → (e : Board) → e ≡ emptyBoard 0 → record { built = b; board = e } ≡ fresh
 unfolding fresh
@@ -164,58 +169,69 @@ module _ (x : Verdict) (bytes : ℕ) (r : reply.Reported) where
   pub report-refused : (n : ℕ) → x ≡ verdict.Refused n → r ≡ alone (reply.verdictMeans x) → r ≡ reportBy (reply.verdictMeans x) bytes
   report-refused n is said = said ∙ rw is
 
--- ---- load
-refused-with : (j : Judge) (f : List ℕ) (number : ℕ) → loadNumber f ≡ some number
-    → (r : Outcome) → r ≡ record { reply = reply.refused number; state = j } → r ≡ loadOf j f
-unfolding loadOf
-refused-with j f number told r e = e ∙ rw told
+-- ---- install
+module _ (j : Judge) (r : Rule) where
+  refused-with : (number : ℕ) → installNumber r ≡ some number
+      → (o : Outcome) → o ≡ record { reply = reply.refused number; state = j } → o ≡ installOf j r
+  unfolding installOf
+  refused-with number told o e = e ∙ rw told
 
-module _ (j : Judge) (f : List ℕ) (read : ReadResult) (reads : Reads f read) where
+  module _ (a : CheckAnswer) (checked : checkMeans a ≡ ruleNumber r) where
+    -- the rule does not pass
+    pub install-unchecked : (number : ℕ) → a ≡ check.Refused number
+        → (o : Outcome) → o ≡ record { reply = reply.refused number; state = j } → o ≡ installOf j r
+    install-unchecked number told =
+        let is : ruleNumber r ≡ some number = sym checked ∙ ap checkMeans told in
+        refused-with number (install-number r ∙ rw is)
+
+    module _ (told : a ≡ check.Passed) (b : BuildResult) (came : buildOutcome b ≡ buildOf r) where
+      number-is : installNumber r ≡ cond (over r) (some 9) none
+      number-is =
+          let passes : ruleNumber r ≡ none = sym checked ∙ ap checkMeans told in
+          install-number r ∙ rw passes
+
+      -- it has too many sets
+      pub install-unbuilt : (number : ℕ) → b .answer ≡ build.Refused number
+          → (o : Outcome) → o ≡ record { reply = reply.refused number; state = j } → o ≡ installOf j r
+      unfolding buildOf
+      install-unbuilt number answered =
+          by-test (over r)
+          (λ t.
+          let is : refused number ≡ refused 9 = sym (ap buildMeans answered) ∙ ap (λ (o : Built-outcome). o .answer) came ∙ rw t in
+          let nine : number ≡ 9 = cc in
+          refused-with number (number-is ∙ rw (t, nine)))
+          (λ few.
+          let is : refused number ≡ accepted (length (sets r)) (builtOf r .startcount) =
+          sym (ap buildMeans answered) ∙ ap (λ (o : Built-outcome). o .answer) came ∙ rw few in
+          zero-one cc)
+
+      pub installed : (m starts : ℕ) → b .answer ≡ build.Accepted m starts → (e : Board) → e ≡ emptyBoard 0
+          → record { reply = reply.installed m starts; state = record { built = b .built; board = e } } ≡ installOf j r
+      unfolding buildOf installOf
+      installed m starts answered e empty =
+          by-test (over r)
+          (λ t.
+          let is : accepted m starts ≡ refused 9 = sym (ap buildMeans answered) ∙ ap (λ (o : Built-outcome). o .answer) came ∙ rw t in
+          zero-one cc)
+          (λ few.
+          let is : accepted m starts ≡ accepted (length (sets r)) (builtOf r .startcount) =
+          sym (ap buildMeans answered) ∙ ap (λ (o : Built-outcome). o .answer) came ∙ rw few in
+          let built : b .built ≡ builtOf r = ap (λ (o : Built-outcome). o .built) came ∙ rw few in
+          let same-m : m ≡ length (sets r) = cc in
+          let same-starts : starts ≡ builtOf r .startcount = cc in
+          let none-is : installNumber r ≡ none = number-is ∙ rw few in
+          rw (same-m, same-starts, built, empty, none-is))
+
+-- ---- load
+module _ (j : Judge) (f : List ℕ) (read : ReadResult) (reads : readOutcome read ≡ readOf f) where
   -- the file is refused
   pub load-unread : (number : ℕ) → read .answer ≡ reading.Refused number
-      → (r : Outcome) → r ≡ record { reply = reply.refused number; state = j } → r ≡ loadOf j f
-  load-unread number told =
-      let told : refusal f ≡ some number = sym (reads .answer) ∙ ap readMeans told in
-      refused-with j f number (load-number f ∙ rw told)
+      → (o : Outcome) → o ≡ record { reply = reply.refused number; state = j } → o ≡ loadOf j f
+  load-unread number told o e =
+      e ∙ sym (load-law j f .unread number (ap (λ (x : Reading). x .number) (sym reads) ∙ ap readMeans told))
 
-  module _ (told : read .answer ≡ reading.Accepted) (b : BuildResult) (builds : buildOutcome b ≡ buildOf (read .rule)) where
-    good : refusal f ≡ none
-    good = sym (reads .answer) ∙ ap readMeans told
-
-    came : buildOutcome b ≡ buildOf (ruleOf f)
-    came = builds ∙ ap buildOf (reads .rule ∙ ap (λ (o : Option ℕ). ruleBy o f) good)
-
-    number-is : loadNumber f ≡ cond (over f) (some 9) none
-    number-is = load-number f ∙ rw good
-
-    -- it has too many sets
-    pub load-unbuilt : (number : ℕ) → b .answer ≡ build.Refused number
-        → (r : Outcome) → r ≡ record { reply = reply.refused number; state = j } → r ≡ loadOf j f
-    unfolding buildOf
-    load-unbuilt number answered =
-        by-test (over f)
-        (λ t.
-        let is : refused number ≡ refused 9 = sym (ap buildMeans answered) ∙ ap (λ (o : Built-outcome). o .answer) came ∙ rw t in
-        let nine : number ≡ 9 = cc in
-        refused-with j f number (number-is ∙ rw (t, nine)))
-        (λ few.
-        let is : refused number ≡ accepted (length (sets (ruleOf f))) (builtOf (ruleOf f) .startcount) =
-        sym (ap buildMeans answered) ∙ ap (λ (o : Built-outcome). o .answer) came ∙ rw few in
-        zero-one cc)
-
-    pub loaded : (m starts : ℕ) → b .answer ≡ build.Accepted m starts → (e : Board) → e ≡ emptyBoard 0
-        → record { reply = reply.loaded m starts; state = record { built = b .built; board = e } } ≡ loadOf j f
-    unfolding buildOf loadOf
-    loaded m starts answered e empty =
-        by-test (over f)
-        (λ t.
-        let is : accepted m starts ≡ refused 9 = sym (ap buildMeans answered) ∙ ap (λ (o : Built-outcome). o .answer) came ∙ rw t in
-        zero-one cc)
-        (λ few.
-        let is : accepted m starts ≡ accepted (length (sets (ruleOf f))) (builtOf (ruleOf f) .startcount) =
-        sym (ap buildMeans answered) ∙ ap (λ (o : Built-outcome). o .answer) came ∙ rw few in
-        let built : b .built ≡ builtOf (ruleOf f) = ap (λ (o : Built-outcome). o .built) came ∙ rw few in
-        let same-m : m ≡ length (sets (ruleOf f)) = cc in
-        let same-starts : starts ≡ builtOf (ruleOf f) .startcount = cc in
-        let none-is : loadNumber f ≡ none = number-is ∙ rw few in
-        rw (same-m, same-starts, built, empty, none-is))
+  -- its rule is installed
+  pub load-read : read .answer ≡ reading.Accepted → (o : Outcome) → o ≡ installOf j (read .rule) → o ≡ loadOf j f
+  load-read told o e =
+      e ∙ ap (installOf j) (ap (λ (x : Reading). x .rule) reads)
+      ∙ sym (load-law j f .installed (ap (λ (x : Reading). x .number) (sym reads) ∙ ap readMeans told))

@@ -1,11 +1,15 @@
--- The calls of document 01, and the conditions for a refusal of each in its order. A call is
+-- The calls of document 01, with the installation of a rule in the part of a load (document 02,
+-- R-3), and the conditions for a refusal of each in its order. A call is
 -- refused with the number of the first condition that holds, and accepted where none does. The
 -- conditions stand over what a call looks at, so that they serve for a state and for a list of
 -- calls.
 --
---   Call               load, open, deliver, withdraw and verdict, with what they are given
---   loadNumber f       the number with which a load of the file f is refused, 1 to 9, or none where
---                      it is accepted
+--   Call               install, open, deliver, withdraw and verdict, with what they are given
+--   installNumber r    the number with which the installation of the rule r is refused, 3, 4, 6, 8
+--                      or 9, or none where it is accepted
+--   loadNumber f       the number with which a load of the file f is refused, document 01's 1 to 9
+--                      in one order. A load is no call: it is reading the file, and installing the
+--                      rule where there is one (`LoadLaw` of specs/Claims.antt)
 --   openConditions, deliverConditions, withdrawConditions   20, 10; 21, 11, 12, 13, 22; 21, 11, 23
 --   verdictBy          what a verdict says: by whether no board is there, the number of empty
 --                      places, whether the join says yes, and the sum of the counts
@@ -23,6 +27,8 @@ use lib.ListN.{length}
 use Rattle.limits.specs.Limits.{mostPlaces, longestChunk}
 use Rattle.base.specs.Conditions.{Condition, on, firstOf, outside}
 use Rattle.marks.specs.Marks.{textOf}
+use Rattle.automaton.specs.declared.Rule.{Rule}
+use Rattle.rulecheck.specs.Checking.{ruleConditions}
 use Rattle.ruleformat.specs.Refusals.{fileConditions}
 use Rattle.ruleformat.specs.Reader.{ruleOf}
 use Rattle.subsets.specs.Sets.{tooMany}
@@ -30,16 +36,24 @@ use Rattle.chunks.specs.Chunks.{foreign}
 use Rattle.calls.specs.Replies.{Judgement, waiting, yesWith, noWith, refusedWith, Reported}
 
 pub data Call : Type 0 where
-  loads : List ℕ → Call
+  installs : Rule → Call
   opens : ℕ → Call
   delivers : ℕ → List ℕ → Call
   withdraws : ℕ → Call
   asksVerdict : Call
 
 -- ---- the conditions
+-- more than 512 sets are reached
+abbrev pub manySets : Rule → List Condition
+manySets r = on 9 (tooMany (r .targets) (r .n) (r .k)) ∷ []
+
+-- those of the rule, then 9
+unfoldable pub installNumber : Rule → Option ℕ
+installNumber r = firstOf (ruleConditions r ++ manySets r)
+
 -- those of the file, then 9
 unfoldable pub loadNumber : List ℕ → Option ℕ
-loadNumber f = firstOf (fileConditions f ++ (on 9 (tooMany (ruleOf f .targets) (ruleOf f .n) (ruleOf f .k)) ∷ []))
+loadNumber f = firstOf (fileConditions f ++ manySets (ruleOf f))
 
 -- no rule is there; n places are asked for
 abbrev pub openConditions : Bool → ℕ → List Condition

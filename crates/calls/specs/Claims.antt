@@ -1,6 +1,8 @@
 -- What holds of the calls on any state whatever.
 --
 --   Unchanged         demand 1: a refusal changes nothing. proofs/Refusing.antt proves it
+--   LoadLaw j f       a load of the file f on the state j is reading it and, where that accepts,
+--                     installing its rule (document 02, R-3). proofs/Loading.antt proves it
 --   Divided c b r     the report r has the bytes b, and the quotient and remainder of the count c
 --                     by them (document 02, R-1)
 --   ThreeZeros r      it has none of the three
@@ -11,19 +13,26 @@ use mathlib.Core.Path.{_≡_}
 use mathlib.Core.Logic.{_↔_, _⊎_}
 use mathlib.Core.Bool.{true}
 use mathlib.Core.List.{List}
-use mathlib.Core.Option.{some}
+use mathlib.Core.Option.{none, some}
 use Prim.Native.Nat.{ℕ, _+_, _*_, _<_, _≤_}
 use lib.ListN.{length, getD}
 use Rattle.marks.specs.Marks.{idleMark, textOf}
+use Rattle.ruleformat.specs.Reader.{readOf}
 use Rattle.chunks.specs.Chunks.{foreign}
 use Rattle.calls.specs.declared.Judge.{Judge}
-use Rattle.calls.specs.Replies.{Judgement, waiting, yesWith, noWith, refusedWith, Reported, refusalOf}
+use Rattle.calls.specs.Replies.{Judgement, waiting, yesWith, noWith, refusedWith, Reported, refused, refusalOf}
 use Rattle.calls.specs.Calls.{Call, reportBy}
-use Rattle.calls.specs.Steps.{stepOf}
+use Rattle.calls.specs.Steps.{installOf, loadOf, stepOf}
 
 -- (File and chunk are lent as `&[u8]`, which no function can write.)
 abbrev pub Unchanged : Type 0
 Unchanged = (j : Judge) (c : Call) (x : ℕ) → refusalOf (stepOf j c .reply) ≡ some x → stepOf j c .state ≡ j
+
+pub record LoadLaw (j : Judge) (f : List ℕ) : Type 0 where
+  -- a file that reading refuses: the same number, and nothing changes
+  pub unread : (x : ℕ) → readOf f .number ≡ some x → loadOf j f ≡ record { reply = refused x; state = j }
+  -- a file that it accepts: the rule that it answers is installed
+  pub installed : readOf f .number ≡ none → loadOf j f ≡ installOf j (readOf f .rule)
 
 -- count = quotient × bytes + remainder, remainder below bytes; for a text of 0 bytes both are 0
 pub record Divided (count bytes : ℕ) (r : Reported) : Type 0 where

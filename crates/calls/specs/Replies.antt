@@ -8,17 +8,17 @@
 --                        whole quotient of the count by it, and the remainder
 --   Reply                what is answered to a call
 --     accepted           of opening and withdrawing
---     loaded sets m      a load was accepted: the number of sets and M
+--     installed sets m   a rule was installed: the number of sets and M
 --     delivered looked   a delivery was accepted: for how many bytes of its text a successor was
 --                        looked up (document 02, R-2)
 --     judged r           a verdict was asked for: r is reported
 --     refused x          a call other than the verdict was refused with the number x
 --   refusalIn v, refusalOf a   the number of the refusal, or none where v or a is none
---   loadMeans .. verdictMeans, reportMeans   what each case of the code's answers says
+--   installMeans .. verdictMeans, reportMeans   what each case of the code's answers says
 use mathlib.Core.Option.{Option, none, some}
 use Prim.Native.Nat.{ℕ}
-use Rattle.calls.specs.declared.LoadAnswer.{LoadAnswer}
-use Rattle.calls.specs.declared.LoadAnswer.the-variants as load
+use Rattle.calls.specs.declared.InstallAnswer.{InstallAnswer}
+use Rattle.calls.specs.declared.InstallAnswer.the-variants as install
 use Rattle.calls.specs.declared.OpenAnswer.{OpenAnswer}
 use Rattle.calls.specs.declared.OpenAnswer.the-variants as opening
 use Rattle.calls.specs.declared.DeliverAnswer.{DeliverAnswer}
@@ -43,7 +43,7 @@ pub record Reported : Type 0 where
 
 pub data Reply : Type 0 where
   accepted : Reply
-  loaded : ℕ → ℕ → Reply
+  installed : ℕ → ℕ → Reply
   delivered : ℕ → Reply
   judged : Reported → Reply
   refused : ℕ → Reply
@@ -56,14 +56,14 @@ refusalIn (refusedWith number) = some number
 
 abbrev pub refusalOf : Reply → Option ℕ
 refusalOf accepted = none
-refusalOf (loaded sets starts) = none
+refusalOf (installed sets starts) = none
 refusalOf (delivered looked) = none
 refusalOf (judged r) = refusalIn (r .verdict)
 refusalOf (refused number) = some number
 
-abbrev pub loadMeans : LoadAnswer → Reply
-loadMeans (load.Accepted sets starts) = loaded sets starts
-loadMeans (load.Refused number) = refused number
+abbrev pub installMeans : InstallAnswer → Reply
+installMeans (install.Accepted sets starts) = installed sets starts
+installMeans (install.Refused number) = refused number
 
 abbrev pub openMeans : OpenAnswer → Reply
 openMeans opening.Accepted = accepted

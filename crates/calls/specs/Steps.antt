@@ -5,9 +5,10 @@
 --
 --   fresh              no rule and no board: zeros
 --   Outcome            the outcome of a call: its reply, and the state that it leaves
---   loadOutcome, openOutcome, deliverOutcome, withdrawOutcome   the outcome that the code's result
---                                                               stands for
---   loadOf, openOf, deliverOf, withdrawOf   the outcomes of the calls that may change the state
+--   installOutcome, openOutcome, deliverOutcome, withdrawOutcome   the outcome that the code's
+--                                                                  result stands for
+--   installOf, openOf, deliverOf, withdrawOf   the outcomes of the calls that may change the state
+--   loadOf             the outcome of a load, by document 01's numbers; it is no call
 --   verdictOf          what the verdict says
 --   reportOf           what the call verdict reports
 --   stepOf j c         the outcome of the call c on the state j
@@ -18,6 +19,7 @@ use Prim.Native.Nat.{ℕ}
 use lib.Dec.{eqb}
 use Rattle.base.specs.Conditions.{firstOf}
 use Rattle.marks.specs.Marks.{textOf}
+use Rattle.automaton.specs.declared.Rule.{Rule}
 use Rattle.ruleformat.specs.Reader.{ruleOf}
 use Rattle.build.specs.Building.{builtOf, noBuilt}
 use Rattle.chunks.specs.declared.Runs.{Runs}
@@ -26,12 +28,12 @@ use Rattle.board.specs.declared.Board.{Board}
 use Rattle.board.specs.Boards.{placesOf, isEmpty, emptyBoard, filledAt, clearedAt, emptyPlaces, summedCount, summedBytes}
 use Rattle.joins.specs.Joining.{saysYes}
 use Rattle.calls.specs.declared.Judge.{Judge}
-use Rattle.calls.specs.declared.LoadResult.{LoadResult}
+use Rattle.calls.specs.declared.InstallResult.{InstallResult}
 use Rattle.calls.specs.declared.OpenResult.{OpenResult}
 use Rattle.calls.specs.declared.DeliverResult.{DeliverResult}
 use Rattle.calls.specs.declared.WithdrawResult.{WithdrawResult}
-use Rattle.calls.specs.Replies.{Judgement, Reported, Reply, accepted, loaded, judged, refused, loadMeans, openMeans, deliverMeans, withdrawMeans, delivered}
-use Rattle.calls.specs.Calls.{Call, loads, opens, delivers, withdraws, asksVerdict, loadNumber, openConditions, deliverConditions, withdrawConditions, verdictBy, reportBy}
+use Rattle.calls.specs.Replies.{Judgement, Reported, Reply, accepted, installed, judged, refused, installMeans, openMeans, deliverMeans, withdrawMeans, delivered}
+use Rattle.calls.specs.Calls.{Call, installs, opens, delivers, withdraws, asksVerdict, installNumber, loadNumber, openConditions, deliverConditions, withdrawConditions, verdictBy, reportBy}
 
 unfoldable pub fresh : Judge
 fresh = record { built = noBuilt; board = emptyBoard 0 }
@@ -50,8 +52,8 @@ pub record Outcome : Type 0 where
   pub reply : Reply
   pub state : Judge
 
-abbrev pub loadOutcome : LoadResult → Outcome
-loadOutcome r = record { reply = loadMeans (r .answer); state = r .judge }
+abbrev pub installOutcome : InstallResult → Outcome
+installOutcome r = record { reply = installMeans (r .answer); state = r .judge }
 
 abbrev pub openOutcome : OpenResult → Outcome
 openOutcome r = record { reply = openMeans (r .answer); state = r .judge }
@@ -67,10 +69,21 @@ abbrev pub outcomeBy : Option ℕ → Reply → Judge → Judge → Outcome
 outcomeBy none a j next = record { reply = a; state = next }
 outcomeBy (some number) a j next = record { reply = refused number; state = j }
 
+-- ---- install
+-- the rule is built, and no board is there
+abbrev pub withRule : Rule → Judge
+withRule r = record { built = builtOf r; board = emptyBoard 0 }
+
+-- it is answered with the number of sets and M
+abbrev pub installReply : Rule → Reply
+installReply r = installed (builtOf r .setcount) (builtOf r .startcount)
+
+unfoldable pub installOf : Judge → Rule → Outcome
+installOf j r = outcomeBy (installNumber r) (installReply r) j (withRule r)
+
 -- ---- load
 unfoldable pub loadOf : Judge → List ℕ → Outcome
-loadOf j f =
-    let b = builtOf (ruleOf f) in outcomeBy (loadNumber f) (loaded (b .setcount) (b .startcount)) j (record { built = b; board = emptyBoard 0 })
+loadOf j f = outcomeBy (loadNumber f) (installReply (ruleOf f)) j (withRule (ruleOf f))
 
 -- ---- open
 unfoldable pub openOf : Judge → ℕ → Outcome
@@ -113,7 +126,7 @@ reportOf j = reportBy (verdictOf j) (summedBytes (j .board))
 
 -- ---- any call
 abbrev pub stepOf : Judge → Call → Outcome
-stepOf j (loads f) = loadOf j f
+stepOf j (installs r) = installOf j r
 stepOf j (opens n) = openOf j n
 stepOf j (delivers p w) = deliverOf j p w
 stepOf j (withdraws p) = withdrawOf j p

@@ -11,8 +11,8 @@ pub struct Judge {
     pub board: Board,
 }
 
-// The number of sets and M, or a refusal.
-pub enum LoadAnswer {
+// What installing a rule answers, and loading a file: the number of sets and M, or a refusal.
+pub enum InstallAnswer {
     Accepted(u16, u8),
     Refused(u8),
 }
@@ -50,8 +50,8 @@ pub struct Report {
 }
 
 // Each call that may change the state answers with the next state beside the answer.
-pub struct LoadResult {
-    pub answer: LoadAnswer,
+pub struct InstallResult {
+    pub answer: InstallAnswer,
     pub judge: Judge,
 }
 

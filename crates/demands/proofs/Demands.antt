@@ -2,15 +2,17 @@
 -- only cites the file that has it. To believe them, read the definitions that they name:
 --
 --   1  stepOf j c                     the outcome of a call on any state    calls/specs/Steps
---      Reply, Call; loadNumber ..     01's answers, calls and numbers       calls/specs/Replies, Calls
+--      Reply, Call; installNumber ..  01's answers, calls and numbers       calls/specs/Replies, Calls
 --      judgeLibrary, cLibrary         what contracts ask and allow          histories/, demands/specs/Functions
---      loadMeans .. reportMeans       what an answer of the code means      calls/specs/Replies
---      loadReadBack .., replayShown   what C's numbers mean                 capi/specs/Numbers
+--      installMeans .. reportMeans    what an answer of the code means      calls/specs/Replies
+--      installReadBack .., readShown  what C's numbers mean                 capi/specs/Numbers
+--      readOf f, readOutcome          reading a file                        ruleformat/specs/Reader
+--      loadOf j f                     a load, of any state and file         calls/specs/Steps
 --   2  Accepts, Run, Arc              automata and their runs (000)         automaton/specs/Automaton
 --      automatonIn f                  the automaton in a file's bytes       ruleformat/specs/Language, Format
 --      after, shares                  the set after a text; sets that meet  automaton/specs/Successor, masks/specs/Masks
 --      fileConditions                 numbers 1 to 8                        ruleformat/specs/Refusals
---      badStateCount ..               3, 4 and 6, over numbers              rulecheck/specs/Checking
+--      ruleConditions, WellFormed     3, 4, 6, 8 of a rule as a value       rulecheck/specs/Checking, automaton/specs/Rules
 --      mostStates ..                  the limits                            limits/specs/Limits
 --      FirstHolds                     the first condition that holds        base/specs/Conditions
 --      Method, InOrder, TooMany       sets, table, delegates, M, order      histories/specs/Method
@@ -19,6 +21,7 @@
 --      judgeAfter h, repliesTo h      the outcome of a list of calls        histories/specs/Claims
 --      standing, verdictIn, answerOf  what 01 says of a list alone          histories/specs/History
 --      Accepted-exactly, Refused-..   which calls, with which number        histories/specs/Conditions
+--      loading, loadReply             a load after a list of calls          histories/specs/History
 --      CountBound                     the sum's bound; the former 24        histories/specs/CountBound
 --      LookedUp, AllEmpty             for how many bytes a set is looked up histories/, chunks/specs/Claims
 --      textOf; foreign, ForeignByte   a chunk without idle marks; 13        marks/, chunks/, calls/specs
@@ -49,32 +52,37 @@ use Rattle.marks.specs.Marks.{textOf}
 use Rattle.masks.specs.Masks.{shares}
 use Rattle.executions.specs.Executions.{Execution}
 use Rattle.executions.proofs.Executions.{execution-law}
-use Rattle.automaton.specs.Automaton.{Accepts}
+use Rattle.automaton.specs.declared.Rule.{Rule}
+use Rattle.automaton.specs.Automaton.{Accepts, Equivalent}
+use Rattle.automaton.specs.Rules.{automatonOf}
 use Rattle.automaton.specs.Successor.{after}
-use Rattle.ruleformat.specs.Reader.{ruleOf}
+use Rattle.automaton.proofs.Claims as automaton
+use Rattle.ruleformat.specs.Reader.{ruleOf, readOf}
 use Rattle.ruleformat.specs.Language.{automatonIn}
 use Rattle.delegates.specs.Claims.{startsIn}
 use Rattle.build.specs.Building.{builtOf}
 use Rattle.board.specs.Boards.{held, isEmpty, summedCount, summedBytes}
 use Rattle.calls.specs.declared.Judge.{Judge}
 use Rattle.calls.specs.Replies.{waiting, yesWith, noWith, refusedWith, Reply, refusalOf, delivered}
-use Rattle.calls.specs.Calls.{Call, loadNumber, delivers}
-use Rattle.calls.specs.Steps.{fresh, isYes, reportOf, stepOf}
-use Rattle.calls.specs.Claims.{Divided, ThreeZeros, ForeignByte}
+use Rattle.calls.specs.declared.InstallResult.{InstallResult}
+use Rattle.calls.specs.Calls.{Call, installNumber, loadNumber, delivers}
+use Rattle.calls.specs.Steps.{Outcome, fresh, installOutcome, isYes, reportOf, stepOf, loadOf}
+use Rattle.calls.specs.Claims.{LoadLaw, Divided, ThreeZeros, ForeignByte}
 use Rattle.chunks.specs.Chunks.{foreign}
-use Rattle.calls.proofs.Conditions.{not-refused}
+use Rattle.calls.proofs.Loading as calls-loading
 use Rattle.calls.proofs.Foreign as calls-foreign
 use Rattle.calls.proofs.Refusing as refusing
-use Rattle.histories.specs.History.{fileOf, ruleIn, boardIn, standing, standingText, endAt, countAt, lengthAt, emptiesIn, summedIn, bytesIn, yesIn, textIn, verdictIn, reportIn, answersTo, answerOf}
+use Rattle.histories.specs.History.{ruleThere, ruleIn, boardIn, standing, standingText, endAt, countAt, lengthAt, emptiesIn, summedIn, bytesIn, yesIn, textIn, verdictIn, reportIn, answersTo, answerOf}
 use Rattle.histories.specs.Method.{Method}
 use Rattle.histories.specs.Conditions.{Accepted-exactly, Refused-exactly}
-use Rattle.histories.specs.Claims.{judgeMachine, judgeAfter, repliesTo, BuiltBy, LookedUp, EveryList, automatonBy}
+use Rattle.histories.specs.Claims.{judgeMachine, judgeAfter, repliesTo, BuiltBy, LookedUp, LoadClauses, EveryList}
 use Rattle.histories.specs.CountBound.{CountBound}
-use Rattle.histories.specs.Functions.{judgeLibrary}
+use Rattle.histories.specs.Functions.{judgeLibrary, MayLoad}
 use Rattle.histories.specs.TableP.{TableP}
 use Rattle.histories.proofs.EveryList.{every-list}
 use Rattle.histories.proofs.Method as histories-method
-use Rattle.histories.proofs.Refinement.{judge-meets}
+use Rattle.histories.proofs.Refinement.{judge-meets, load-may}
+use Rattle.histories.proofs.Steps.{accepted-rule}
 use Rattle.histories.proofs.CountBound as histories-bound
 use Rattle.histories.proofs.TableP as histories-table
 use Rattle.lines.specs.Splitting.{linesOf}
@@ -86,12 +94,14 @@ use Rattle.stream.proofs.Claimed as stream
 use Rattle.replay.specs.Records.{calls, recordIn, replayOf}
 use Rattle.replay.specs.Claims.{AllFit, recordOf}
 use Rattle.replay.proofs.RoundTrip as replay
+use Rattle.capi.specs.declared.ReadNumbers.{ReadNumbers}
+use Rattle.capi.specs.declared.InstallNumbers.{InstallNumbers}
 use Rattle.capi.specs.declared.ReplayNumbers.{ReplayNumbers}
-use Rattle.capi.specs.Numbers.{replayShown}
+use Rattle.capi.specs.Numbers.{readShown, installShown, replayShown}
 use Rattle.capi.proofs.Asks as capi-asks
 use Rattle.capi.proofs.bellbadger_replay.Reads as replay-reads
-use Rattle.demands.specs.Functions.{cLibrary, MayReplay}
-use Rattle.demands.proofs.Functions.{c-meets, replay-fixed}
+use Rattle.demands.specs.Functions.{cLibrary, MayRead, MayLoad as MayLoadC, MayReplay}
+use Rattle.demands.proofs.Functions.{c-meets, read-fixed, load-fixed, replay-fixed}
 
 -- ---- 1. ANY INPUT
 -- Any bytes, any place number, any state: the call ends with the result that document 01 gives.
@@ -113,19 +123,27 @@ pub refusals : (j : Judge) (c : Call) (x : ℕ) → refusalOf (stepOf j c .reply
 refusals = refusing.unchanged
 
 -- ---- 2. THE METHOD
--- The rule that is there after a list of calls is that of the last accepted load, built; and its sets,
--- next-set table and merged starts are those of source document 004, numbered in document 01's order:
--- of the automaton in the bytes of each file that a load accepts.
-pub built : (h : List Call) → BuiltBy (fileOf h) (judgeAfter h)
+-- The rule that is there after a list of calls is that of the last accepted installation, built; and
+-- its sets, next-set table and merged starts are those of source document 004, numbered in document
+-- 01's order: of the automaton of each rule that an installation accepts.
+pub built : (h : List Call) → BuiltBy (ruleThere h) (judgeAfter h)
 built h = every-list h .after .rule
 
-pub method : (f : List ℕ) → loadNumber f ≡ none → Method f (builtOf (ruleOf f))
+pub method : (r : Rule) → installNumber r ≡ none → Method (automatonOf r) (builtOf r)
 method = histories-method.method
 
 -- A text is accepted exactly when the automaton of source document 000 has an accepting run over it.
-pub acceptance : (f : List ℕ) → loadNumber f ≡ none → (w : List ℕ)
-    → Accepts (automatonIn f) w ↔ (shares (after (ruleOf f .targets) (ruleOf f .initials) w) (ruleOf f .finals) ≡ true)
-acceptance f e = histories-method.acceptance f (not-refused f e .0)
+pub acceptance : (r : Rule) → installNumber r ≡ none → (w : List ℕ)
+    → Accepts (automatonOf r) w ↔ (shares (after (r .targets) (r .initials) w) (r .finals) ≡ true)
+acceptance r e = automaton.claims .accepts-law r (accepted-rule r e .0)
+
+-- From the bytes of a file that a load accepts: the rule that is read accepts the texts that the
+-- automaton in the bytes accepts, and is built by that automaton (document 02, R-3).
+pub language-of-bytes : (f : List ℕ) → loadNumber f ≡ none → Equivalent (automatonIn f) (automatonOf (ruleOf f))
+language-of-bytes f = every-list [] .loads f .language
+
+pub method-of-bytes : (f : List ℕ) → loadNumber f ≡ none → Method (automatonIn f) (builtOf (ruleOf f))
+method-of-bytes = histories-method.method-bytes
 
 -- ---- 3. EVERY LIST OF CALLS
 -- For every list of calls from a fresh judge, refused ones included: what the functions' own
@@ -153,6 +171,27 @@ accepted-exactly h = every-list h .accepted-exactly
 pub refused-exactly : (h : List Call) → Refused-exactly h
 refused-exactly h = every-list h .refused-exactly
 
+-- A load may be made after any list of calls. It is no call: it reads the file and, where that
+-- accepts, installs the rule, and it answers document 01's numbers 1 to 9 in one order
+-- (document 02, R-3). On every state, and after every list:
+pub loading-law : (j : Judge) (f : List ℕ) → LoadLaw j f
+loading-law = calls-loading.load-law
+
+pub loads : (h : List Call) (f : List ℕ) → LoadClauses h f
+loads h = every-list h .loads
+
+-- What the contract of the judge's `load` allows is that outcome, and of it nothing is asked.
+pub load-allowed : (j : Judge) (f : List ℕ) (o : Outcome) → ((r : InstallResult) × MayLoad j f r × (o ≡ installOutcome r)) ↔ (o ≡ loadOf j f)
+load-allowed = load-may
+
+-- Of what C links: reading answers the number and the rule, zeros where it is refused; a load the
+-- same outcome. Nothing is asked of either.
+pub read-from-C : (f : List ℕ) (r : ReadNumbers) → MayRead f r ↔ r ≡ readShown (readOf f)
+read-from-C = read-fixed
+
+pub load-from-C : (j : Judge) (f : List ℕ) (r : InstallNumbers) → MayLoadC j f r ↔ r ≡ installShown (loadOf j f)
+load-from-C = load-fixed
+
 -- 13 is by a delivery's text, which is its chunk without idle marks (document 02, R-5): it is the
 -- number exactly where some byte is neither an idle mark, 255, nor a symbol below k.
 pub foreign-bytes : (w : List ℕ) (k : ℕ) → (foreign (textOf w) k ≡ true) ↔ ForeignByte w k
@@ -172,7 +211,7 @@ count-bound = histories-bound.count-bound
 pub looked-up : (h : List Call) (p : ℕ) (w : List ℕ) (n : ℕ) → answerOf h (delivers p w) ≡ delivered n → LookedUp h p (textOf w) n
 looked-up h = every-list h .looked-up
 
--- The verdict: refused with 21 unless the last accepted load or opening is an opening;
+-- The verdict: refused with 21 unless the last accepted installation or opening is an opening;
 pub refused-21 : (h : List Call) → (verdictIn h ≡ refusedWith 21) ↔ (boardIn h ≡ false)
 refused-21 h = every-list h .verdict .none-there
 
@@ -183,11 +222,11 @@ waits h = every-list h .verdict .waits
 -- else yes exactly when the last accepted rule has an accepting run over the standing chunks without
 -- their idle marks, joined by place, and no when it has none.
 pub accepted-texts : (h : List Call) → boardIn h ≡ true → emptiesIn h ≡ 0
-    → (verdictIn h ≡ yesWith (summedIn h)) ↔ Accepts (automatonBy (fileOf h)) (textIn h)
+    → (verdictIn h ≡ yesWith (summedIn h)) ↔ Accepts (automatonOf (ruleIn h)) (textIn h)
 accepted-texts h = every-list h .verdict .accepts
 
 pub rejected-texts : (h : List Call) → boardIn h ≡ true → emptiesIn h ≡ 0
-    → (verdictIn h ≡ noWith (summedIn h)) ↔ (Accepts (automatonBy (fileOf h)) (textIn h) → ⊥)
+    → (verdictIn h ≡ noWith (summedIn h)) ↔ (Accepts (automatonOf (ruleIn h)) (textIn h) → ⊥)
 rejected-texts h = every-list h .verdict .rejects
 
 -- Each place with a standing chunk holds the end sets and the count that 01 gives to its text, any

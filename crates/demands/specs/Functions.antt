@@ -2,8 +2,9 @@
 -- (`Reads.Learnt`): any result that a function's contract does not rule out. `cLibrary` is what a
 -- program in C gets that calls them; crates/histories has the same for the judge's own functions.
 --
---   MayBegin .. MayJudge   what `bellbadger_new`, `_load`, `_open`, `_deliver`, `_withdraw` and
+--   MayBegin .. MayJudge   what `bellbadger_new`, `_install`, `_open`, `_deliver`, `_withdraw` and
 --                          `_verdict` may return for their arguments
+--   MayRead, MayLoad       what `bellbadger_read` and `_load` may, which are no calls
 --   AsksStep j c           what the function of the call c asks before it is called on the judge j
 --   MayStep j c a next     on the judge j the call c may return numbers that say the reply a, and
 --                          leave the judge next
@@ -16,19 +17,25 @@ use denote.Ref.{RefT, now}
 use denote.Triple.Clauses.{AtExit}
 use borrow.Fn.Kinds.{endedOf}
 use Rattle.executions.specs.Executions.{Library}
+use Rattle.automaton.specs.declared.Rule.{Rule}
 use Rattle.calls.specs.declared.Judge.{Judge}
 use Rattle.calls.specs.Replies.{Reply, judged}
-use Rattle.calls.specs.Calls.{Call, loads, opens, delivers, withdraws, asksVerdict}
+use Rattle.calls.specs.Calls.{Call, installs, opens, delivers, withdraws, asksVerdict}
 use Rattle.calls.specs.Steps.{Outcome}
-use Rattle.capi.specs.declared.LoadNumbers.{LoadNumbers}
+use Rattle.capi.specs.declared.ReadNumbers.{ReadNumbers}
+use Rattle.capi.specs.declared.InstallNumbers.{InstallNumbers}
 use Rattle.capi.specs.declared.OpenNumbers.{OpenNumbers}
 use Rattle.capi.specs.declared.DeliverNumbers.{DeliverNumbers}
 use Rattle.capi.specs.declared.WithdrawNumbers.{WithdrawNumbers}
 use Rattle.capi.specs.declared.VerdictNumbers.{VerdictNumbers}
 use Rattle.capi.specs.declared.ReplayNumbers.{ReplayNumbers}
-use Rattle.capi.specs.Numbers.{loadReadBack, openReadBack, deliverReadBack, withdrawReadBack, verdictReadBack}
+use Rattle.capi.specs.Numbers.{installReadBack, openReadBack, deliverReadBack, withdrawReadBack, verdictReadBack}
 use Rattle.capi.proofs.bellbadger_new.Reads as new-reads
 use Rattle.capi.proofs.bellbadger_new.Kinds as new-kinds
+use Rattle.capi.proofs.bellbadger_read.Reads as read-reads
+use Rattle.capi.proofs.bellbadger_read.Kinds as read-kinds
+use Rattle.capi.proofs.bellbadger_install.Reads as install-reads
+use Rattle.capi.proofs.bellbadger_install.Kinds as install-kinds
 use Rattle.capi.proofs.bellbadger_load.Reads as load-reads
 use Rattle.capi.proofs.bellbadger_load.Kinds as load-kinds
 use Rattle.capi.proofs.bellbadger_open.Reads as open-reads
@@ -45,8 +52,15 @@ use Rattle.capi.proofs.bellbadger_replay.Kinds as replay-kinds
 abbrev pub MayBegin : Judge → Type 0
 MayBegin j = (s : AtExit (endedOf 0 new-kinds.ps new-kinds.r) tt) × new-reads.Learnt tt tt j s
 
+abbrev pub MayInstall : Judge → Rule → InstallNumbers → Type 0
+MayInstall j rule r = (s : AtExit (endedOf 0 install-kinds.ps install-kinds.r) tt) × install-reads.Learnt tt (j, (rule, tt)) r s
+
 -- a file and a chunk are lent, as a reference to their bytes
-abbrev pub MayLoad : Judge → List ℕ → LoadNumbers → Type 0
+abbrev pub MayRead : List ℕ → ReadNumbers → Type 0
+MayRead f r =
+    (κs : Lfts 1) × (c : RefT (List ℕ)) × (s : AtExit (endedOf 1 read-kinds.ps read-kinds.r) κs) × (now c ≡ f) × read-reads.Learnt κs (c, tt) r s
+
+abbrev pub MayLoad : Judge → List ℕ → InstallNumbers → Type 0
 MayLoad j f r =
     (κs : Lfts 1) × (c : RefT (List ℕ)) × (s : AtExit (endedOf 1 load-kinds.ps load-kinds.r) κs) × (now c ≡ f) × load-reads.Learnt κs (j, (c, tt)) r s
 
@@ -70,14 +84,14 @@ MayReplay text r =
 
 -- what each asks before it is called
 abbrev pub AsksStep : Judge → Call → Type 0
-AsksStep j (loads f) = (κs : Lfts 1) (c : RefT (List ℕ)) → now c ≡ f → load-reads.Asked κs (j, (c, tt))
+AsksStep j (installs rule) = install-reads.Asked tt (j, (rule, tt))
 AsksStep j (opens n) = open-reads.Asked tt (j, (n, tt))
 AsksStep j (delivers p w) = (κs : Lfts 1) (c : RefT (List ℕ)) → now c ≡ w → deliver-reads.Asked κs (j, (p, (c, tt)))
 AsksStep j (withdraws p) = withdraw-reads.Asked tt (j, (p, tt))
 AsksStep j asksVerdict = verdict-reads.Asked tt (j, tt)
 
 abbrev pub MayStep : Judge → Call → Reply → Judge → Type 0
-MayStep j (loads f) a next = (r : LoadNumbers) × MayLoad j f r × (record { reply = a; state = next } ≡ loadReadBack r)
+MayStep j (installs rule) a next = (r : InstallNumbers) × MayInstall j rule r × (record { reply = a; state = next } ≡ installReadBack r)
 MayStep j (opens n) a next = (r : OpenNumbers) × MayOpen j n r × (record { reply = a; state = next } ≡ openReadBack r)
 MayStep j (delivers p w) a next = (r : DeliverNumbers) × MayDeliver j p w r × (record { reply = a; state = next } ≡ deliverReadBack r)
 MayStep j (withdraws p) a next = (r : WithdrawNumbers) × MayWithdraw j p r × (record { reply = a; state = next } ≡ withdrawReadBack r)

@@ -14,7 +14,7 @@ use Rattle.base.specs.Options.{isNone}
 use Rattle.base.proofs.Options.{none-some}
 use Rattle.base.proofs.Tests.{by-test}
 use Rattle.marks.specs.Marks.{textOf}
-use Rattle.ruleformat.specs.Reader.{ruleOf}
+use Rattle.automaton.specs.declared.Rule.{Rule}
 use Rattle.automaton.specs.Automaton.{Text}
 use Rattle.build.specs.Building.{noBuilt}
 use Rattle.board.specs.declared.Board.{Board}
@@ -26,25 +26,25 @@ use Rattle.calls.specs.Steps.{fresh, withBoard, runsAt}
 use Rattle.histories.specs.Claims.{BuiltBy}
 use Rattle.histories.proofs.Running.{count-same, looked-same, end-same}
 
-pub record Agrees (file : Option (List ℕ)) (places : ℕ) (at : ℕ → Option (List ℕ)) (j : Judge) : Type 0 where
-  pub rule : BuiltBy file j
+pub record Agrees (present : Option Rule) (places : ℕ) (at : ℕ → Option (List ℕ)) (j : Judge) : Type 0 where
+  pub rule : BuiltBy present j
   pub sized : Sized (j .board)
   pub places-are : j .board .places ≡ places
   pub few : places ≤ 64
-  pub ruled : 0 < places → isNone file ≡ false
+  pub ruled : 0 < places → isNone present ≡ false
   pub beyond : (p : ℕ) → places ≤ p → at p ≡ none
-  pub texts : (p : ℕ) (w : List ℕ) → at p ≡ some w → Text (ruleFrom file .k) (textOf w)
+  pub texts : (p : ℕ) (w : List ℕ) → at p ≡ some w → Text (ruleFrom present .k) (textOf w)
   pub empty : (p : ℕ) → p < 64 → isEmpty (j .board) p ≡ isNone (at p)
-  pub ends : (p q : ℕ) → p < 64 → q < 32 → held (j .board) p q ≡ endOf (ruleFrom file) p q (at p)
-  pub counts : (p : ℕ) → p < 64 → getD (j .board .counts) p 0 ≡ countOf (ruleFrom file) p (at p)
+  pub ends : (p q : ℕ) → p < 64 → q < 32 → held (j .board) p q ≡ endOf (ruleFrom present) p q (at p)
+  pub counts : (p : ℕ) → p < 64 → getD (j .board .counts) p 0 ≡ countOf (ruleFrom present) p (at p)
   pub lengths : (p : ℕ) → p < 64 → getD (j .board .lengths) p 0 ≡ length (standingText (at p))
 
 -- ---- all places empty
 nothing : ℕ → Option (List ℕ)
 nothing p = none
 
-module _ (file : Option (List ℕ)) (n : ℕ) (j : Judge) (rule : BuiltBy file j) (is : j .board ≡ emptyBoard n) (few : n ≤ 64) (ruled : 0 < n → isNone file ≡ false) where
-  pub all-empty : Agrees file n (λ p. none) j
+module _ (present : Option Rule) (n : ℕ) (j : Judge) (rule : BuiltBy present j) (is : j .board ≡ emptyBoard n) (few : n ≤ 64) (ruled : 0 < n → isNone present ≡ false) where
+  pub all-empty : Agrees present n (λ p. none) j
   unfolding emptyBoard
   all-empty = record {
     rule = rule;
@@ -85,32 +85,32 @@ module _ (at : ℕ → Option (List ℕ)) (p : ℕ) (new : Option (List ℕ)) wh
       (λ e. let z = eqb-true i p e in subst (λ (x : ℕ). P x (placed at p new x)) (sym z) (subst (P p) (sym placed-own) own))
       (λ e. let ne = eqb-false i p e in subst (P i) (sym (placed-other i ne)) (other i ne))
 
-module _ (file : Option (List ℕ)) (places : ℕ) (at : ℕ → Option (List ℕ)) (j : Judge) (holds : Agrees file places at j) (p : ℕ) (h : p < places) where
+module _ (present : Option Rule) (places : ℕ) (at : ℕ → Option (List ℕ)) (j : Judge) (holds : Agrees present places at j) (p : ℕ) (h : p < places) where
   pub place-below : p < 64
   place-below = omega (arith, h, holds .few)
 
-  changed-holds : (new : Option (List ℕ)) (c : Board) → ((w : List ℕ) → new ≡ some w → Text (ruleFrom file .k) (textOf w))
-      → Changed (j .board) c p (isNone new) (countOf (ruleFrom file) p new) (length (standingText new)) (λ q. endOf (ruleFrom file) p q new)
-      → Agrees file places (placed at p new) (withBoard j c)
+  changed-holds : (new : Option (List ℕ)) (c : Board) → ((w : List ℕ) → new ≡ some w → Text (ruleFrom present .k) (textOf w))
+      → Changed (j .board) c p (isNone new) (countOf (ruleFrom present) p new) (length (standingText new)) (λ q. endOf (ruleFrom present) p q new)
+      → Agrees present places (placed at p new) (withBoard j c)
   changed-holds new c text changed = record {
-    rule = kept file (holds .rule);
+    rule = kept present (holds .rule);
     sized = changed .sized;
     places-are = changed .places-same ∙ holds .places-are;
     few = holds .few;
     ruled = holds .ruled;
     beyond = λ i b. placed-other at p new i (λ e. absurd (omega (arith, h, b, e))) ∙ holds .beyond i b;
     texts =
-        each at p new (λ i o. (w : List ℕ) → o ≡ some w → Text (ruleFrom file .k) (textOf w)) text (λ i ne. holds .texts i);
+        each at p new (λ i o. (w : List ℕ) → o ≡ some w → Text (ruleFrom present .k) (textOf w)) text (λ i ne. holds .texts i);
     empty =
         each at p new (λ i o. i < 64 → isEmpty c i ≡ isNone o) (λ b. changed .empty-own) (λ i ne b. changed .empty-other i ne ∙ holds .empty i b);
     ends = λ i q b.
-        each at p new (λ i o. i < 64 → q < 32 → held c i q ≡ endOf (ruleFrom file) i q o)
+        each at p new (λ i o. i < 64 → q < 32 → held c i q ≡ endOf (ruleFrom present) i q o)
         (λ b l. changed .held-own q l)
         (λ i ne b l. changed .held-other i q b l ne ∙ holds .ends i q b l)
         i
         b;
     counts =
-        each at p new (λ i o. i < 64 → getD (c .counts) i 0 ≡ countOf (ruleFrom file) i o)
+        each at p new (λ i o. i < 64 → getD (c .counts) i 0 ≡ countOf (ruleFrom present) i o)
         (λ b. changed .count-own)
         (λ i ne b. changed .count-other i ne ∙ holds .counts i b);
     lengths =
@@ -119,30 +119,30 @@ module _ (file : Option (List ℕ)) (places : ℕ) (at : ℕ → Option (List �
         (λ i ne b. changed .length-other i ne ∙ holds .lengths i b);
   }
     where
-      kept : (o : Option (List ℕ)) → BuiltBy o j → BuiltBy o (withBoard j c)
+      kept : (o : Option Rule) → BuiltBy o j → BuiltBy o (withBoard j c)
       kept none e = e
-      kept (some f) e = e
+      kept (some r) e = e
 
-  pub cleared-holds : Agrees file places (placed at p none) (withBoard j (clearedAt (j .board) p))
+  pub cleared-holds : Agrees present places (placed at p none) (withBoard j (clearedAt (j .board) p))
   cleared-holds =
       changed-holds none (clearedAt (j .board) p) (λ w e. none-some refl e) (cleared-at (j .board) p (holds .sized) place-below)
 
 -- ---- the text of a chunk is run, and what comes of it kept
-module _ (f : List ℕ) (places : ℕ) (at : ℕ → Option (List ℕ)) (j : Judge) (holds : Agrees (some f) places at j) (p : ℕ) (h : p < places) (w : List ℕ) (text : Text (ruleOf f .k) (textOf w)) where
-  pub run-count : runsAt j p w .count ≡ countOf (ruleOf f) p (some w)
-  run-count = rw (holds .rule .0) (count-same (ruleOf f) (holds .rule .1) (holds .rule .2) p (textOf w) text)
+module _ (r : Rule) (places : ℕ) (at : ℕ → Option (List ℕ)) (j : Judge) (holds : Agrees (some r) places at j) (p : ℕ) (h : p < places) (w : List ℕ) (text : Text (r .k) (textOf w)) where
+  pub run-count : runsAt j p w .count ≡ countOf r p (some w)
+  run-count = rw (holds .rule .0) (count-same r (holds .rule .1) (holds .rule .2) p (textOf w) text)
 
-  pub run-looked : runsAt j p w .looked ≡ lookedOf (ruleOf f) p w
-  run-looked = rw (holds .rule .0) (looked-same (ruleOf f) (holds .rule .1) (holds .rule .2) p (textOf w) text)
+  pub run-looked : runsAt j p w .looked ≡ lookedOf r p w
+  run-looked = rw (holds .rule .0) (looked-same r (holds .rule .1) (holds .rule .2) p (textOf w) text)
 
-  run-end : (q : ℕ) → q < 32 → getD (runsAt j p w .ends) q 0 ≡ endOf (ruleOf f) p q (some w)
-  run-end q l = rw (holds .rule .0) (end-same (ruleOf f) (holds .rule .1) (holds .rule .2) p (textOf w) text q l)
+  run-end : (q : ℕ) → q < 32 → getD (runsAt j p w .ends) q 0 ≡ endOf r p q (some w)
+  run-end q l = rw (holds .rule .0) (end-same r (holds .rule .1) (holds .rule .2) p (textOf w) text q l)
 
-  pub filled-holds : Agrees (some f) places (placed at p (some w)) (withBoard j (filledAt (j .board) p (runsAt j p w)))
+  pub filled-holds : Agrees (some r) places (placed at p (some w)) (withBoard j (filledAt (j .board) p (runsAt j p w)))
   filled-holds =
-      let c = filled-at (j .board) p (holds .sized) (place-below (some f) places at j holds p h) (runsAt j p w) in
-      changed-holds (some f) places at j holds p h (some w) (filledAt (j .board) p (runsAt j p w))
-      (λ v e. let z : w ≡ v = cc in subst (λ (x : List ℕ). Text (ruleOf f .k) (textOf x)) z text)
+      let c = filled-at (j .board) p (holds .sized) (place-below (some r) places at j holds p h) (runsAt j p w) in
+      changed-holds (some r) places at j holds p h (some w) (filledAt (j .board) p (runsAt j p w))
+      (λ v e. let z : w ≡ v = cc in subst (λ (x : List ℕ). Text (r .k) (textOf x)) z text)
       (record {
         sized = c .sized;
         places-same = c .places-same;

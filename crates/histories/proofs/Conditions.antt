@@ -4,8 +4,8 @@
 -- An answer is told by the first condition of its call's list that holds; each list is taken apart
 -- condition by condition, and each test is turned into what it tests.
 use mathlib.Core.Path.{_≡_, refl, sym, ap, _∙_}
-use mathlib.Core.Logic.{_↔_, _⊎_, inl, inr, ⊎-elim, Iff·trans}
-use mathlib.Core.Bool.{Bool, true, false, cond, _||_}
+use mathlib.Core.Logic.{_↔_, Iff·trans}
+use mathlib.Core.Bool.{Bool, true, false, cond}
 use mathlib.Core.List.{List, [], _∷_}
 use mathlib.Core.Option.{Option, none, some}
 use Prim.Native.Nat.{ℕ, _<_, _≤_}
@@ -14,41 +14,25 @@ use lib.Dec.{eqb, ltb, leb}
 use lib.ListN.{length}
 use borrow.Author.Tests.{eq-eqb, ne-eqb, eqb-true, eqb-false, lt-ltb, le-ltb, ltb-true, ltb-false, le-leb, lt-leb, leb-true, leb-false}
 use Rattle.base.specs.Options.{isNone, isSome}
-use Rattle.base.proofs.Options.{none-some, is-some, not-some}
-use Rattle.base.proofs.Conditions.{none-law, first-law, outside-law}
-use Rattle.base.specs.Conditions.{Condition, on, firstOf, NoneHolds, FirstHolds, outside}
-use Rattle.base.proofs.Tests.{by-test, or-left, or-right, zero-one}
+use Rattle.base.proofs.Options.{is-some, not-some}
+use Rattle.base.proofs.Conditions.{none-law, outside-law, is-outside, named, not-named, first-here, first-past}
+use Rattle.base.specs.Conditions.{Condition, on, firstOf, NoneHolds, outside}
+use Rattle.base.proofs.Tests.{zero-one}
 use Rattle.marks.specs.Marks.{textOf}
-use Rattle.ruleformat.specs.Refusals.{fileConditions, refusal}
-use Rattle.ruleformat.specs.Reader.{ruleOf}
-use Rattle.ruleformat.specs.Language.{automatonIn}
+use Rattle.automaton.specs.declared.Rule.{Rule}
+use Rattle.automaton.specs.Rules.{automatonOf, WellFormed}
+use Rattle.rulecheck.specs.Checking.{ruleConditions, ruleNumber}
+use Rattle.rulecheck.proofs.Laws as rulecheck
 use Rattle.subsets.specs.Sets.{setsOf}
 use Rattle.delegates.specs.Claims.{startsIn}
 use Rattle.chunks.specs.Chunks.{foreign}
-use Rattle.calls.specs.Replies.{Reply, accepted, loaded, delivered, refused}
-use Rattle.calls.specs.Calls.{Call, opens, delivers, withdraws, loadNumber, openConditions}
-use Rattle.calls.proofs.Conditions.{orElse, over, load-number, not-refused}
-use Rattle.histories.specs.History.{fileOf, ruleIn, placesIn, lookedOf, standing, replyBy, answerOf}
+use Rattle.calls.specs.Replies.{Reply, accepted, installed, delivered, refused}
+use Rattle.calls.specs.Calls.{Call, delivers, withdraws, installNumber, openConditions}
+use Rattle.calls.proofs.Conditions.{orElse, over, install-number}
+use Rattle.histories.specs.History.{ruleThere, ruleIn, placesIn, lookedOf, standing, replyBy, withSets, answerOf}
 use Rattle.histories.specs.Method.{TooMany}
 use Rattle.histories.specs.Conditions.{Accepted-exactly, Refused-exactly}
 use Rattle.histories.proofs.Method.{nine-law}
-
--- ---- numbers that no condition has
-unfoldable named : ℕ → List Condition → Bool
-named x [] = false
-named x (on number test ∷ cs) = eqb number x || named x cs
-
--- a condition with another number is passed
-past : (number x : ℕ) (test : Bool) (rest : Option ℕ) → eqb number x ≡ false → cond test (some number) rest ≡ some x → (test ≡ false) × (rest ≡ some x)
-past number x true rest other e = absurd (let same : number ≡ x = cc in eqb-false number x other same)
-past number x false rest other e = (refl, e)
-
-not-named : (x : ℕ) (cs : List Condition) → named x cs ≡ false → firstOf cs ≡ some x → ⊥
-unfolding named
-not-named x [] n e = none-some refl e
-not-named x (on number test ∷ cs) n e =
-    not-named x cs (or-right (eqb number x) (named x cs) n)
-    (past number x test (firstOf cs) (or-left (eqb number x) (named x cs) n) e .1)
 
 -- ---- accepted where no condition holds
 reply-law : (o : Option ℕ) → (replyBy o accepted ≡ accepted) ↔ (o ≡ none)
@@ -76,84 +60,81 @@ some-places n e = let x = eqb-false n 0 e in omega arith
 places-some : (n : ℕ) → 0 < n → eqb n 0 ≡ false
 places-some n h = ne-eqb n 0 (λ z. absurd (omega arith))
 
--- ---- the calls
--- a load: the file's conditions, then 9
-loaded-law : (o : Option ℕ) (sets m : ℕ) → (replyBy o (loaded sets m) ≡ loaded sets m) ↔ (o ≡ none)
-loaded-law none sets m = (λ e. refl, λ e. refl)
-loaded-law (some x) sets m = (λ e. zero-one cc, λ e. zero-one cc)
+-- ---- an installation: the rule's conditions, then 9
+pub installed-law : (o : Option ℕ) (sets m : ℕ) → (replyBy o (installed sets m) ≡ installed sets m) ↔ (o ≡ none)
+installed-law none sets m = (λ e. refl, λ e. refl)
+installed-law (some x) sets m = (λ e. zero-one cc, λ e. zero-one cc)
 
-not-true : (t : Bool) {A : Type 0} → (t ≡ true) ↔ A → (t ≡ false) ↔ (A → ⊥)
+pub not-true : (t : Bool) {A : Type 0} → (t ≡ true) ↔ A → (t ≡ false) ↔ (A → ⊥)
 not-true true law = (λ e. absurd (let y : _≡_ {A = ℕ} 0 1 = cc in omega arith), λ n. absurd (n (law .0 refl)))
 not-true false law = (λ e a. let z = law .1 a in let y : _≡_ {A = ℕ} 0 1 = cc in omega arith, λ n. refl)
 
--- no condition of the file has the number 9
-file-below-9 : (f : List ℕ) → refusal f ≡ some 9 → ⊥
-unfolding refusal named
-file-below-9 f e = not-named 9 (fileConditions f) refl e
+-- the number o of a rule or file, then 9 by the test t
+module _ (o : Option ℕ) (t : Bool) where
+  abbrev then-9 : Option ℕ
+  then-9 = orElse o (cond t (some 9) none)
 
-module _ (f : List ℕ) where
-  -- it is not refused, in words
-  loads-law : (loadNumber f ≡ none) ↔ (NoneHolds (fileConditions f) × (TooMany (automatonIn f) → ⊥))
-  unfolding refusal
-  loads-law = (
-    (λ e. let x = not-refused f e in (none-law (fileConditions f) .0 (x .0), not-true (over f) (nine-law f (x .0)) .0 (x .1))),
-    λ x.
-        let r : refusal f ≡ none = none-law (fileConditions f) .1 (x .0) in
-        load-number f ∙ rw (r, not-true (over f) (nine-law f r) .1 (x .1)),
-  )
-
-  nine-words : (loadNumber f ≡ some 9) ↔ (NoneHolds (fileConditions f) × TooMany (automatonIn f))
-  unfolding refusal
-  nine-words = (
-    (λ e.
-        let x = by-nine (refusal f) (over f) (file-below-9 f) (sym (load-number f) ∙ e) in
-        (none-law (fileConditions f) .0 (x .0), nine-law f (x .0) .0 (x .1))),
-    λ x.
-        let r : refusal f ≡ none = none-law (fileConditions f) .1 (x .0) in
-        load-number f ∙ rw (r, nine-law f r .1 (x .1)),
-  )
+  pub by-none : (then-9 ≡ none) ↔ ((o ≡ none) × (t ≡ false))
+  by-none = (to o t, λ x. rw (x .0, x .1))
     where
-      by-nine : (o : Option ℕ) (t : Bool) → (o ≡ some 9 → ⊥) → orElse o (cond t (some 9) none) ≡ some 9 → (o ≡ none) × (t ≡ true)
-      by-nine none true b z = (refl, refl)
-      by-nine none false b z = absurd (let y : _≡_ {A = ℕ} 0 1 = cc in omega arith)
-      by-nine (some y) t b z = absurd (b z)
+      to : (o : Option ℕ) (t : Bool) → orElse o (cond t (some 9) none) ≡ none → (o ≡ none) × (t ≡ false)
+      to none true e = zero-one cc
+      to none false e = (refl, refl)
+      to (some y) t e = zero-one cc
 
-  file-words : (x : ℕ) → x ≤ 8 → (loadNumber f ≡ some x) ↔ FirstHolds x (fileConditions f)
-  unfolding refusal
-  file-words x l = (
-    (λ e. first-law x (fileConditions f) .0 (by-file (refusal f) (over f) (sym (load-number f) ∙ e))),
-    λ y. load-number f ∙ rw (first-law x (fileConditions f) .1 y),
-  )
+  pub by-nine : (o ≡ some 9 → ⊥) → (then-9 ≡ some 9) ↔ ((o ≡ none) × (t ≡ true))
+  by-nine other = (to o t other, λ x. rw (x .0, x .1))
     where
-      by-file : (o : Option ℕ) (t : Bool) → orElse o (cond t (some 9) none) ≡ some x → o ≡ some x
-      by-file none true z = absurd (let y : 9 ≡ x = cc in omega arith)
-      by-file none false z = absurd (let y : _≡_ {A = ℕ} 0 1 = cc in omega arith)
-      by-file (some y) t z = z
+      to : (o : Option ℕ) (t : Bool) → (o ≡ some 9 → ⊥) → orElse o (cond t (some 9) none) ≡ some 9 → (o ≡ none) × (t ≡ true)
+      to none true b e = (refl, refl)
+      to none false b e = zero-one cc
+      to (some y) t b e = absurd (b e)
+
+  pub by-other : (x : ℕ) → eqb 9 x ≡ false → (then-9 ≡ some x) ↔ (o ≡ some x)
+  by-other x other = (to o t, λ e. rw e)
+    where
+      to : (o : Option ℕ) (t : Bool) → orElse o (cond t (some 9) none) ≡ some x → o ≡ some x
+      to none true e = absurd (let same : 9 ≡ x = cc in eqb-false 9 x other same)
+      to none false e = zero-one cc
+      to (some y) t e = e
+
+-- one law, and another where its words hold
+pub both : {P Q A B : Type 0} → P ↔ A → (A → Q ↔ B) → (P × Q) ↔ (A × B)
+both f g = ((λ x. let a = f .0 (x .0) in (a, g a .0 (x .1))), λ x. (f .1 (x .0), g (x .0) .1 (x .1)))
+
+-- the same number on both sides
+pub number-is : {o u : Option ℕ} {A : Type 0} (x : Option ℕ) → o ≡ u → (u ≡ x) ↔ A → (o ≡ x) ↔ A
+number-is x e law = ((λ z. law .0 (sym e ∙ z)), λ a. e ∙ law .1 a)
+
+module _ (r : Rule) where
+  -- no condition of a rule has the number 9
+  rule-below-9 : ruleNumber r ≡ some 9 → ⊥
+  unfolding named
+  rule-below-9 e = not-named 9 (ruleConditions r) refl e
+
+  installs-law : (installNumber r ≡ none) ↔ (WellFormed r × (TooMany (automatonOf r) → ⊥))
+  installs-law =
+      number-is none (install-number r)
+      (Iff·trans (by-none (ruleNumber r) (over r)) (both (rulecheck.passes r) (λ good. not-true (over r) (nine-law r good))))
+
+  nine-words : (installNumber r ≡ some 9) ↔ (WellFormed r × TooMany (automatonOf r))
+  nine-words =
+      number-is (some 9) (install-number r)
+      (Iff·trans (by-nine (ruleNumber r) (over r) rule-below-9) (both (rulecheck.passes r) (nine-law r)))
+
+  rule-words : (x : ℕ) → eqb 9 x ≡ false → (installNumber r ≡ some x) ↔ (ruleNumber r ≡ some x)
+  rule-words x other = number-is (some x) (install-number r) (by-other (ruleNumber r) (over r) x other)
 
 -- ---- a number of a list of conditions
-refused-law : (o : Option ℕ) (a : Reply) (x : ℕ) → (a ≡ refused x → ⊥) → (replyBy o a ≡ refused x) ↔ (o ≡ some x)
+pub refused-law : (o : Option ℕ) (a : Reply) (x : ℕ) → (a ≡ refused x → ⊥) → (replyBy o a ≡ refused x) ↔ (o ≡ some x)
 refused-law none a x other = (λ e. absurd (other e), λ e. zero-one cc)
 refused-law (some y) a x other = (λ e. let same : y ≡ x = cc in ap some same, λ e. let same : y ≡ x = cc in ap refused same)
 
 not-accepted : (x : ℕ) → accepted ≡ refused x → ⊥
 not-accepted x e = zero-one cc
 
-not-loaded : (x sets m : ℕ) → loaded sets m ≡ refused x → ⊥
-not-loaded x sets m e = zero-one cc
-
--- the first condition has the number, which no later one has
-first-here : (x : ℕ) (test : Bool) (cs : List Condition) → named x cs ≡ false → (firstOf (on x test ∷ cs) ≡ some x) ↔ (test ≡ true)
-first-here x true cs n = (λ e. refl, λ e. refl)
-first-here x false cs n = (λ e. absurd (not-named x cs n e), λ e. zero-one cc)
-
--- the first condition has another number
-first-past : (number x : ℕ) (test : Bool) (cs : List Condition) → eqb number x ≡ false
-    → (firstOf (on number test ∷ cs) ≡ some x) ↔ ((test ≡ false) × (firstOf cs ≡ some x))
-first-past number x true cs other = (
-  (λ e. absurd (let same : number ≡ x = cc in eqb-false number x other same)),
-  λ e. absurd (let y = e .0 in zero-one cc),
-)
-first-past number x false cs other = (λ e. (refl, e), λ e. e .1)
+pub not-installed : (x sets m : ℕ) → installed sets m ≡ refused x → ⊥
+not-installed x sets m e = zero-one cc
 
 -- ---- what a test tests
 no-places : (n : ℕ) → (eqb n 0 ≡ true) ↔ (n ≡ 0)
@@ -164,16 +145,6 @@ is-less m n = (ltb-true m n, lt-ltb m n)
 
 is-most : (m n : ℕ) → (leb m n ≡ true) ↔ (m ≤ n)
 is-most m n = (leb-true m n, le-leb m n)
-
-is-outside : (lo hi x : ℕ) → (outside lo hi x ≡ true) ↔ ((x < lo) ⊎ (hi < x))
-is-outside lo hi x = (
-  (λ e. by-test (ltb x lo) (λ t. inl (ltb-true x lo t)) (λ t. let z : ltb hi x ≡ true = rw t at e in inr (ltb-true hi x z))),
-  λ b. ⊎-elim (λ l. rw (lt-ltb x lo l)) (λ l. or-second (ltb x lo) (ltb hi x) (lt-ltb hi x l)) b,
-)
-  where
-    or-second : (t u : Bool) → u ≡ true → (t || u) ≡ true
-    or-second true u e = refl
-    or-second false u e = e
 
 there : {A : Type 0} (o : Option A) → (isNone o ≡ true) ↔ (o ≡ none)
 there none = (λ e. refl, λ e. refl)
@@ -188,13 +159,12 @@ filled (some x) = (λ e z. let y : _≡_ {A = ℕ} 0 1 = cc in omega arith, λ n
 
 pub accepted-exactly : (h : List Call) → Accepted-exactly h
 accepted-exactly h = record {
-  loading = λ f.
-      let law = loaded-law (loadNumber f) (length (setsOf (ruleOf f .targets) (ruleOf f .n) (ruleOf f .k))) (startsIn (ruleOf f) .startcount) in
-      Iff·trans law (loads-law f);
+  installation = λ r.
+      Iff·trans (installed-law (installNumber r) (length (setsOf (r .targets) (r .n) (r .k))) (startsIn r .startcount)) (installs-law r);
   opening = λ n.
-      let law = none-hold (on 20 (isNone (fileOf h)) ∷ on 10 (outside 1 64 n) ∷ []) in (
-        (λ e. let x = law .0 e in let b = outside-law 1 64 n .0 (x .1 .0) in (is-some (fileOf h) .0 (x .0), b .0, b .1)),
-        λ x. law .1 (is-some (fileOf h) .1 (x .0), (outside-law 1 64 n .1 (x .1, x .2), tt)),
+      let law = none-hold (on 20 (isNone (ruleThere h)) ∷ on 10 (outside 1 64 n) ∷ []) in (
+        (λ e. let x = law .0 e in let b = outside-law 1 64 n .0 (x .1 .0) in (is-some (ruleThere h) .0 (x .0), b .0, b .1)),
+        λ x. law .1 (is-some (ruleThere h) .1 (x .0), (outside-law 1 64 n .1 (x .1, x .2), tt)),
       );
   delivery = λ p w n.
       let conditions =
@@ -305,22 +275,28 @@ module _ (h : List Call) (p : ℕ) (w : List ℕ) where
         λ y. one .1 (y .0, y .1, two .1 (y .2, here .1 (y .3))),
       )
 
+-- a number of the rule
+install-law : (r : Rule) (x : ℕ) {A : Type 0} → eqb 9 x ≡ false → (ruleNumber r ≡ some x) ↔ A → (replyBy (installNumber r) (withSets r) ≡ refused x) ↔ A
+install-law r x other law =
+    Iff·trans (refused-law (installNumber r) (withSets r) x (not-installed x _ _)) (Iff·trans (rule-words r x other) law)
+
 pub refused-exactly : (h : List Call) → Refused-exactly h
 unfolding named
 refused-exactly h = record {
-  load-file = λ f x l.
-      Iff·trans (refused-law (loadNumber f) (loaded (length (setsOf (ruleOf f .targets) (ruleOf f .n) (ruleOf f .k))) (startsIn (ruleOf f) .startcount)) x (not-loaded x _ _)) (file-words f x l);
-  load-9 = λ f.
-      Iff·trans (refused-law (loadNumber f) (loaded (length (setsOf (ruleOf f .targets) (ruleOf f .n) (ruleOf f .k))) (startsIn (ruleOf f) .startcount)) 9 (not-loaded 9 _ _)) (nine-words f);
+  install-3 = λ r. install-law r 3 refl (rulecheck.refused r .number-3);
+  install-4 = λ r. install-law r 4 refl (rulecheck.refused r .number-4);
+  install-6 = λ r. install-law r 6 refl (rulecheck.refused r .number-6);
+  install-8 = λ r. install-law r 8 refl (rulecheck.refused r .number-8);
+  install-9 = λ r. Iff·trans (refused-law (installNumber r) (withSets r) 9 (not-installed 9 _ _)) (nine-words r);
   open-20 = λ n.
-      Iff·trans (refused-law (firstOf (openConditions (isNone (fileOf h)) n)) accepted 20 (not-accepted 20))
-      (Iff·trans (first-here 20 (isNone (fileOf h)) (on 10 (outside 1 64 n) ∷ []) refl) (there (fileOf h)));
+      Iff·trans (refused-law (firstOf (openConditions (isNone (ruleThere h)) n)) accepted 20 (not-accepted 20))
+      (Iff·trans (first-here 20 (isNone (ruleThere h)) (on 10 (outside 1 64 n) ∷ []) refl) (there (ruleThere h)));
   open-10 = λ n.
-      let one = Iff·trans (refused-law (firstOf (openConditions (isNone (fileOf h)) n)) accepted 10 (not-accepted 10))
-      (first-past 20 10 (isNone (fileOf h)) (on 10 (outside 1 64 n) ∷ []) refl) in
+      let one = Iff·trans (refused-law (firstOf (openConditions (isNone (ruleThere h)) n)) accepted 10 (not-accepted 10))
+      (first-past 20 10 (isNone (ruleThere h)) (on 10 (outside 1 64 n) ∷ []) refl) in
       let here = Iff·trans (first-here 10 (outside 1 64 n) [] refl) (is-outside 1 64 n) in (
-        (λ e. let y = one .0 e in (is-some (fileOf h) .0 (y .0), here .0 (y .1))),
-        λ y. one .1 (is-some (fileOf h) .1 (y .0), here .1 (y .1)),
+        (λ e. let y = one .0 e in (is-some (ruleThere h) .0 (y .0), here .0 (y .1))),
+        λ y. one .1 (is-some (ruleThere h) .1 (y .0), here .1 (y .1)),
       );
   deliver-21 = λ p w. Iff·trans (delivery-law h p w 21) (board-21 (placesIn h) p (from-12 h p w) refl);
   deliver-11 = λ p w. Iff·trans (delivery-law h p w 11) (board-11 (placesIn h) p (from-12 h p w) refl);

@@ -29,10 +29,10 @@ use Rattle.chunks.proofs.Claims as chunks
 use Rattle.board.specs.Boards.{placesOf, isEmpty, filledAt, summedCount}
 use Rattle.calls.specs.declared.Judge.{Judge}
 use Rattle.calls.specs.Replies.{delivered}
-use Rattle.calls.specs.Calls.{Call, loads, opens, delivers, withdraws, asksVerdict, loadNumber, openConditions, deliverConditions}
+use Rattle.calls.specs.Calls.{Call, installs, opens, delivers, withdraws, asksVerdict, installNumber, openConditions, deliverConditions}
 use Rattle.calls.specs.Steps.{lacksBoard, withBoard, outcomeBy, runsAt, deliverOf, stepOf}
 use Rattle.calls.proofs.Conditions.{orElse, first-append}
-use Rattle.histories.specs.History.{fileOf, ruleFrom, ruleIn, openNumber, placesIn, runAt, countOf, lookedOf, withdrawCheck, standing, deliverNumber, summedIn, replyBy}
+use Rattle.histories.specs.History.{ruleThere, ruleFrom, ruleIn, openNumber, placesIn, runAt, countOf, lookedOf, withdrawCheck, standing, deliverNumber, summedIn, replyBy}
 use Rattle.histories.specs.Claims.{judgeAfter, repliesTo}
 use Rattle.histories.specs.CountBound.{formerNumber, formerOn, sumWith, formerStep, formerMachine, CountBound}
 use Rattle.histories.proofs.Agreement.{run-count}
@@ -65,7 +65,7 @@ kept false o w e = e
 standing-short : (h : List Call) (p : ℕ) (w : List ℕ) → standing h p ≡ some w → length w ≤ 65536
 unfolding standing
 standing-short [] p w e = zero-one cc
-standing-short (loads f ∷ h) p w e = standing-short h p w (kept (isNone (loadNumber f)) (standing h p) w e)
+standing-short (installs r ∷ h) p w e = standing-short h p w (kept (isNone (installNumber r)) (standing h p) w e)
 standing-short (opens n ∷ h) p w e = standing-short h p w (kept (isNone (openNumber h n)) (standing h p) w e)
 standing-short (delivers q v ∷ h) p w e =
     by-test (eqb q p && isNone (deliverNumber h q v))
@@ -88,11 +88,11 @@ counted-few r p (some w) short = omega (arith, chunk-most (r .targets) (runAt r 
 places-few : (h : List Call) → placesIn h ≤ 64
 unfolding placesIn
 places-few [] = omega arith
-places-few (loads f ∷ h) = by-test (isNone (loadNumber f)) (λ t. rw t (omega arith)) (λ t. rw t (places-few h))
+places-few (installs r ∷ h) = by-test (isNone (installNumber r)) (λ t. rw t (omega arith)) (λ t. rw t (places-few h))
 places-few (opens n ∷ h) =
     by-test (isNone (openNumber h n))
     (λ t.
-    let x = none-law (openConditions (isNone (fileOf h)) n) .0 (is-none (openNumber h n) .0 t) in
+    let x = none-law (openConditions (isNone (ruleThere h)) n) .0 (is-none (openNumber h n) .0 t) in
     rw t (outside-law 1 64 n .0 (x .1 .0) .1))
     (λ t. rw t (places-few h))
 places-few (delivers p w ∷ h) = places-few h
@@ -124,7 +124,7 @@ module _ (h : List Call) where
 -- ---- of the state
 module _ (h : List Call) where
   held-sum : summedCount (judgeAfter h .board) ≡ summedIn h
-  held-sum = summed-same (fileOf h) (placesIn h) (standing h) (judgeAfter h) (good h)
+  held-sum = summed-same (ruleThere h) (placesIn h) (standing h) (judgeAfter h) (good h)
 
   held-most : summedCount (judgeAfter h .board) ≤ 134217728
   held-most = omega (arith, held-sum, most h)
@@ -135,9 +135,9 @@ module _ (h : List Call) where
       omega (
         arith,
         held-sum,
-        by-run h j p w (λ file. runsAt j p w .count ≡ countOf (ruleFrom file) p (some w))
-            (λ f holds l text. run-count f (placesIn h) (standing h) j holds p l w text)
-            (fileOf h)
+        by-run h j p w (λ present. runsAt j p w .count ≡ countOf (ruleFrom present) p (some w))
+            (λ r holds l text. run-count r (placesIn h) (standing h) j holds p l w text)
+            (ruleThere h)
             (good h)
             e,
         most-with h p w e,
@@ -163,7 +163,7 @@ module _ (h : List Call) (p : ℕ) (w : List ℕ) where
   same-held : formerOn (judgeAfter h) p w ≡ deliverNumber h p w
   same-held =
       let j = judgeAfter h in
-      let number = deliver-number (fileOf h) (placesIn h) (standing h) j (good h) p w in
+      let number = deliver-number (ruleThere h) (placesIn h) (standing h) j (good h) p w in
       idle (deliverConditions (lacksBoard j) (placesOf (j .board)) p w (j .built .k) (not (isEmpty (j .board) p)))
       (sumWith j p w)
       (λ e. held-most-with h p w (sym number ∙ e))
@@ -174,11 +174,11 @@ module _ (h : List Call) (p : ℕ) (w : List ℕ) where
   same-delivery =
       let j = judgeAfter h in
       ap (λ (o : Option ℕ). outcomeBy o (delivered (runsAt j p w .looked)) j (withBoard j (filledAt (j .board) p (runsAt j p w))))
-      (same-held ∙ sym (deliver-number (fileOf h) (placesIn h) (standing h) j (good h) p w))
+      (same-held ∙ sym (deliver-number (ruleThere h) (placesIn h) (standing h) j (good h) p w))
 
 -- ---- the judge with the six conditions
 same-step : (h : List Call) (c : Call) → formerStep (judgeAfter h) c ≡ stepOf (judgeAfter h) c
-same-step h (loads f) = refl
+same-step h (installs r) = refl
 same-step h (opens n) = refl
 same-step h (delivers p w) = same-delivery h p w
 same-step h (withdraws p) = refl

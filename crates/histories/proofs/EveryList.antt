@@ -1,6 +1,6 @@
 -- EVERY LIST OF CALLS, over the definitions alone: of the replies to the calls h and of the judge
 -- that they leave, all that demand 3 says holds. Assumes nothing.
-use mathlib.Core.Path.{_≡_, refl, ap, ap₂, sym}
+use mathlib.Core.Path.{_≡_, refl, ap, ap₂}
 use mathlib.Core.List.{List, [], _∷_}
 use mathlib.Core.Option.{Option, none, some}
 use Prim.Native.Nat.{ℕ, _^_, _<_}
@@ -9,35 +9,36 @@ use lib.Pow.{pow-mono}
 use Rattle.executions.specs.Executions.{stateAfter, repliesTo as machineReplies}
 use Rattle.base.proofs.Tests.{not-both}
 use Rattle.marks.specs.Marks.{textOf}
-use Rattle.ruleformat.specs.Reader.{ruleOf}
+use Rattle.automaton.specs.declared.Rule.{Rule}
 use Rattle.chunks.proofs.Claims as chunks
 use Rattle.calls.specs.declared.Judge.{Judge}
 use Rattle.calls.specs.Replies.{delivered, judged}
-use Rattle.calls.specs.Calls.{Call, loads, opens, delivers, withdraws, asksVerdict}
-use Rattle.calls.specs.Steps.{reportOf, stepOf, verdictOf}
-use Rattle.histories.specs.History.{fileOf, placesIn, standing, reportIn, answerOf, answersTo, ruleFrom, ruleIn, runAt, lookedOf, verdictIn}
+use Rattle.calls.specs.Calls.{Call, installs, opens, delivers, withdraws, asksVerdict}
+use Rattle.calls.specs.Steps.{reportOf, stepOf}
+use Rattle.histories.specs.History.{ruleThere, placesIn, standing, reportIn, answerOf, answersTo, ruleFrom, ruleIn, runAt}
 use Rattle.histories.specs.Claims.{judgeAfter, repliesTo, EveryList, LookedUp}
 use Rattle.histories.proofs.Method.{method}
 use Rattle.histories.proofs.Running.{run-below}
 use Rattle.histories.proofs.Agreement.{Agrees}
 use Rattle.histories.proofs.Conditions.{accepted-exactly, refused-exactly}
 use Rattle.histories.proofs.Numbers.{summed-same, bytes-same}
-use Rattle.histories.proofs.Steps.{AgreesWith, good-fresh, load-good, load-says, open-good, open-says, withdraw-good, withdraw-says, ask-good, deliver-good, deliver-says}
+use Rattle.histories.proofs.Steps.{AgreesWith, good-fresh, install-good, install-says, open-good, open-says, withdraw-good, withdraw-says, ask-good, deliver-good, deliver-says}
 use Rattle.histories.proofs.VerdictAgrees.{by-rule, verdict-says, report-says}
 use Rattle.histories.proofs.VerdictClauses.{there, words}
 use Rattle.histories.proofs.ReportClauses.{report-words}
+use Rattle.histories.proofs.Loads.{load-clauses}
 
 -- ---- one call
 module _ (h : List Call) (j : Judge) (g : AgreesWith h j) where
   step-good : (c : Call) → AgreesWith (c ∷ h) (stepOf j c .state)
-  step-good (loads f) = load-good h j g f
+  step-good (installs r) = install-good h j g r
   step-good (opens n) = open-good h j g n
   step-good (delivers p w) = deliver-good h j g p w
   step-good (withdraws p) = withdraw-good h j g p
   step-good asksVerdict = ask-good h j g
 
   step-right : (c : Call) → stepOf j c .reply ≡ answerOf h c
-  step-right (loads f) = load-says h j g f
+  step-right (installs r) = install-says h j g r
   step-right (opens n) = open-says h j g n
   step-right (delivers p w) = deliver-says h j g p w
   step-right (withdraws p) = withdraw-says h j g p
@@ -56,16 +57,16 @@ correct (c ∷ h) = ap₂ _∷_ (step-right h (judgeAfter h) (good h) c) (correc
 
 -- ---- what an accepted delivery is answered
 -- the states that are run are below 32, since a board is there only with a rule
-few-run : (file : Option (List ℕ)) (places : ℕ) (at : ℕ → Option (List ℕ)) (j : Judge) → Agrees file places at j → 0 < places
-    → (p : ℕ) → runAt (ruleFrom file) p < 2 ^ 32
+few-run : (present : Option Rule) (places : ℕ) (at : ℕ → Option (List ℕ)) (j : Judge) → Agrees present places at j → 0 < places
+    → (p : ℕ) → runAt (ruleFrom present) p < 2 ^ 32
 few-run none places at j holds l p = not-both refl (holds .ruled l)
-few-run (some f) places at j holds l p =
-    let good = holds .rule .1 in lt-of-lt-of-le (run-below (ruleOf f) good (holds .rule .2) p) (pow-mono (good .states .1))
+few-run (some r) places at j holds l p =
+    let good = holds .rule .1 in lt-of-lt-of-le (run-below r good (holds .rule .2) p) (pow-mono (good .states .1))
 
 looked-up : (h : List Call) (p : ℕ) (w : List ℕ) (n : ℕ) → answerOf h (delivers p w) ≡ delivered n → LookedUp h p (textOf w) n
 looked-up h p w n e =
     let x = accepted-exactly h .delivery p w n .0 e in
-    let few = few-run (fileOf h) (placesIn h) (standing h) (judgeAfter h) (good h) (x .0) p in
+    let few = few-run (ruleThere h) (placesIn h) (standing h) (judgeAfter h) (good h) (x .0) p in
     let ts = ruleIn h .targets in
     let run = runAt (ruleIn h) p in
     let v = textOf w in
@@ -93,13 +94,14 @@ every-list h =
         counts = g .counts;
         lengths = g .lengths;
         asked = verdict-says h (judgeAfter h) g;
-        joined = λ b. by-rule (fileOf h) (placesIn h) (standing h) (judgeAfter h) g (there h b);
-        summed = summed-same (fileOf h) (placesIn h) (standing h) (judgeAfter h) g;
+        joined = λ b. by-rule (ruleThere h) (placesIn h) (standing h) (judgeAfter h) g (there h b);
+        summed = summed-same (ruleThere h) (placesIn h) (standing h) (judgeAfter h) g;
         reported = report-says h (judgeAfter h) g;
-        summed-bytes = bytes-same (fileOf h) (placesIn h) (standing h) (judgeAfter h) g;
+        summed-bytes = bytes-same (ruleThere h) (placesIn h) (standing h) (judgeAfter h) g;
       };
       verdict = words h (judgeAfter h) g;
       report = report-words h;
+      loads = λ f. load-clauses f h;
     }
 
 -- a call made then is answered as the list says

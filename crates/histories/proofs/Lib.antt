@@ -1,15 +1,16 @@
 -- In the order in which they build on each other: to every list of calls, to what follows from it,
 -- and to table P.
-pub mod SameArcs
-pub mod Method
 pub mod Running
 pub mod Agreement
 pub mod Numbers
 pub mod Steps
+pub mod SameArcs
+pub mod Method
 pub mod VerdictAgrees
 pub mod VerdictClauses
 pub mod ReportClauses
 pub mod Conditions
+pub mod Loads
 pub mod EveryList
 pub mod Refinement
 pub mod CountBound

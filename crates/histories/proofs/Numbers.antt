@@ -15,7 +15,7 @@ use Rattle.base.specs.Options.{isNone, isSome}
 use Rattle.base.specs.Totals.{total}
 use Rattle.base.proofs.Options.{not-none}
 use Rattle.marks.specs.Marks.{textOf}
-use Rattle.ruleformat.specs.Reader.{ruleOf}
+use Rattle.automaton.specs.declared.Rule.{Rule}
 use Rattle.build.specs.declared.Built.{Built}
 use Rattle.chunks.specs.Chunks.{foreign}
 use Rattle.board.specs.Boards.{placesOf, isEmpty, summedCount, summedBytes}
@@ -35,18 +35,18 @@ module _ (number : ℕ) where
   same-test a false x y e f = rw e (f refl)
 
 -- ---- whether a rule is there
-rule-there : (file : Option (List ℕ)) (j : Judge) → BuiltBy file j → lacksRule j ≡ isNone file
+rule-there : (present : Option Rule) (j : Judge) → BuiltBy present j → lacksRule j ≡ isNone present
 rule-there none j e = ap (λ b. eqb (b .n) 0) e
-rule-there (some f) j e =
-    ne-eqb (j .built .n) 0 (λ z. absurd (omega (arith, z, ap (λ (b : Built). b .n) (e .0), n-same (ruleOf f) (e .1) (e .2), e .1 .states)))
+rule-there (some r) j e =
+    ne-eqb (j .built .n) 0 (λ z. absurd (omega (arith, z, ap (λ (b : Built). b .n) (e .0), n-same r (e .1) (e .2), e .1 .states)))
 
-symbols-there : (file : Option (List ℕ)) (j : Judge) → BuiltBy file j → j .built .k ≡ ruleFrom file .k
+symbols-there : (present : Option Rule) (j : Judge) → BuiltBy present j → j .built .k ≡ ruleFrom present .k
 symbols-there none j e = ap (λ (b : Built). b .k) e
-symbols-there (some f) j e = ap (λ (b : Built). b .k) (e .0) ∙ k-same (ruleOf f) (e .1) (e .2)
+symbols-there (some r) j e = ap (λ (b : Built). b .k) (e .0) ∙ k-same r (e .1) (e .2)
 
-module _ (file : Option (List ℕ)) (places : ℕ) (at : ℕ → Option (List ℕ)) (j : Judge) (holds : Agrees file places at j) where
-  pub no-rule : lacksRule j ≡ isNone file
-  no-rule = rule-there file j (holds .rule)
+module _ (present : Option Rule) (places : ℕ) (at : ℕ → Option (List ℕ)) (j : Judge) (holds : Agrees present places at j) where
+  pub no-rule : lacksRule j ≡ isNone present
+  no-rule = rule-there present j (holds .rule)
 
   pub no-board : lacksBoard j ≡ eqb places 0
   no-board = ap (λ (x : ℕ). eqb x 0) (holds .places-are)
@@ -54,10 +54,10 @@ module _ (file : Option (List ℕ)) (places : ℕ) (at : ℕ → Option (List �
   pub places-same : placesOf (j .board) ≡ places
   places-same = ap (λ (x : ℕ). min x 64) (holds .places-are) ∙ omega (arith, holds .few)
 
-  pub summed-same : summedCount (j .board) ≡ total (λ i. countOf (ruleFrom file) i (at i)) places
+  pub summed-same : summedCount (j .board) ≡ total (λ i. countOf (ruleFrom present) i (at i)) places
   summed-same =
-      summed-law (j .board) (λ i. countOf (ruleFrom file) i (at i)) (λ p l. holds .counts p (omega (arith, l)))
-      ∙ ap (total (λ i. countOf (ruleFrom file) i (at i))) places-same
+      summed-law (j .board) (λ i. countOf (ruleFrom present) i (at i)) (λ p l. holds .counts p (omega (arith, l)))
+      ∙ ap (total (λ i. countOf (ruleFrom present) i (at i))) places-same
 
   pub bytes-same : summedBytes (j .board) ≡ total (λ i. length (standingText (at i))) places
   bytes-same =
@@ -65,8 +65,8 @@ module _ (file : Option (List ℕ)) (places : ℕ) (at : ℕ → Option (List �
       ∙ ap (total (λ i. length (standingText (at i)))) places-same
 
   pub open-number : (n : ℕ)
-      → firstOf (openConditions (lacksRule j) n) ≡ firstOf (openConditions (isNone file) n)
-  open-number n = same-test 20 (lacksRule j) (isNone file) (cond (outside 1 64 n) (some 10) none) (cond (outside 1 64 n) (some 10) none) no-rule (λ _. refl)
+      → firstOf (openConditions (lacksRule j) n) ≡ firstOf (openConditions (isNone present) n)
+  open-number n = same-test 20 (lacksRule j) (isNone present) (cond (outside 1 64 n) (some 10) none) (cond (outside 1 64 n) (some 10) none) no-rule (λ _. refl)
 
   pub withdraw-number : (p : ℕ)
       → firstOf (withdrawConditions (lacksBoard j) (placesOf (j .board)) p (isEmpty (j .board) p)) ≡ withdrawCheck places (at p) p
@@ -82,20 +82,20 @@ module _ (file : Option (List ℕ)) (places : ℕ) (at : ℕ → Option (List �
   -- past 11 the place is one of the board's
   pub deliver-number : (p : ℕ) (w : List ℕ)
       → firstOf (deliverConditions (lacksBoard j) (placesOf (j .board)) p w (j .built .k) (not (isEmpty (j .board) p)))
-      ≡ deliverCheck (ruleFrom file .k) places (at p) p w
+      ≡ deliverCheck (ruleFrom present .k) places (at p) p w
   deliver-number p w =
       same-test 21 (lacksBoard j) (eqb places 0)
       (firstOf (on 11 (leb (placesOf (j .board)) p) ∷ from-12 (j .built .k) (not (isEmpty (j .board) p))))
-      (firstOf (on 11 (leb places p) ∷ from-12 (ruleFrom file .k) (isSome (at p))))
+      (firstOf (on 11 (leb places p) ∷ from-12 (ruleFrom present .k) (isSome (at p))))
       no-board
       (λ b.
       same-test 11 (leb (placesOf (j .board)) p) (leb places p)
       (firstOf (from-12 (j .built .k) (not (isEmpty (j .board) p))))
-      (firstOf (from-12 (ruleFrom file .k) (isSome (at p))))
+      (firstOf (from-12 (ruleFrom present .k) (isSome (at p))))
       (ap (λ (x : ℕ). leb x p) places-same)
       (λ l.
       ap₂ (λ (k : ℕ) (filled : Bool). firstOf (from-12 k filled))
-      (symbols-there file j (holds .rule))
+      (symbols-there present j (holds .rule))
       (ap not (holds .empty p (omega (arith, leb-false places p l, holds .few))) ∙ not-none (at p))))
     where
       from-12 : ℕ → Bool → List Condition

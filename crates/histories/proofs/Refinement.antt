@@ -14,12 +14,13 @@ use denote.Ref.{RefT}
 use Rattle.base.specs.Conditions.{firstOf}
 use Rattle.executions.specs.Executions.{Execution, Meets}
 use Rattle.executions.proofs.Executions.{execution-law}
+use Rattle.automaton.specs.declared.Rule.{Rule}
 use Rattle.ruleformat.specs.Reader.{ruleOf}
 use Rattle.build.specs.Building.{builtOf}
 use Rattle.board.specs.Boards.{placesOf, isEmpty, emptyBoard, filledAt, clearedAt}
 use Rattle.calls.specs.declared.Judge.{Judge}
-use Rattle.calls.specs.declared.LoadResult.{LoadResult}
-use Rattle.calls.specs.declared.LoadAnswer.the-variants as load
+use Rattle.calls.specs.declared.InstallResult.{InstallResult}
+use Rattle.calls.specs.declared.InstallAnswer.the-variants as installation
 use Rattle.calls.specs.declared.OpenResult.{OpenResult}
 use Rattle.calls.specs.declared.OpenAnswer.the-variants as opening
 use Rattle.calls.specs.declared.DeliverResult.{DeliverResult}
@@ -29,18 +30,18 @@ use Rattle.calls.specs.declared.WithdrawAnswer.the-variants as withdrawal
 use Rattle.calls.specs.declared.Report.{Report}
 use Rattle.calls.specs.declared.Verdict.{Verdict}
 use Rattle.calls.specs.declared.Verdict.the-variants as verdict
-use Rattle.calls.specs.Replies.{Judgement, waiting, yesWith, noWith, refusedWith, Reported, Reply, accepted, loaded, judged, verdictMeans, reportMeans, delivered}
-use Rattle.calls.specs.Calls.{Call, loads, opens, delivers, withdraws, asksVerdict, loadNumber, openConditions, deliverConditions, withdrawConditions, verdictBy}
-use Rattle.calls.specs.Steps.{Outcome, lacksRule, lacksBoard, withBoard, loadOutcome, openOutcome, deliverOutcome, withdrawOutcome, outcomeBy, runsAt, loadOf, openOf, deliverOf, withdrawOf, reportOf, stepOf, isYes, verdictOf}
-use Rattle.judge.proofs.Asks.{new-judge-asks-nothing, load-asks-nothing, open-asks-nothing, deliver-asks-nothing, withdraw-asks-nothing, verdict-asks-nothing}
+use Rattle.calls.specs.Replies.{Judgement, waiting, yesWith, noWith, refusedWith, Reported, Reply, accepted, installed, judged, verdictMeans, reportMeans, delivered}
+use Rattle.calls.specs.Calls.{Call, installs, opens, delivers, withdraws, asksVerdict, installNumber, loadNumber, openConditions, deliverConditions, withdrawConditions}
+use Rattle.calls.specs.Steps.{Outcome, lacksRule, lacksBoard, withBoard, installOutcome, openOutcome, deliverOutcome, withdrawOutcome, outcomeBy, withRule, runsAt, installOf, loadOf, openOf, deliverOf, withdrawOf, reportOf, stepOf}
+use Rattle.judge.proofs.Asks.{new-judge-asks-nothing, install-asks-nothing, load-asks-nothing, open-asks-nothing, deliver-asks-nothing, withdraw-asks-nothing, verdict-asks-nothing}
 use Rattle.histories.specs.Claims.{judgeMachine, judgeAfter, repliesTo}
-use Rattle.histories.specs.Functions.{AsksStep, MayStep, judgeLibrary}
+use Rattle.histories.specs.Functions.{AsksStep, AsksLoad, MayLoad, MayStep, judgeLibrary}
 
 -- ---- the outcome of a call, as a value of its answer type
 module _ (j next : Judge) where
-  a-loading : (number : Option ℕ) (sets m : ℕ) → (r : LoadResult) × (loadOutcome r ≡ outcomeBy number (loaded sets m) j next)
-  a-loading none sets m = (record { answer = load.Accepted sets m; judge = next }, refl)
-  a-loading (some x) sets m = (record { answer = load.Refused x; judge = j }, refl)
+  an-installation : (number : Option ℕ) (sets m : ℕ) → (r : InstallResult) × (installOutcome r ≡ outcomeBy number (installed sets m) j next)
+  an-installation none sets m = (record { answer = installation.Accepted sets m; judge = next }, refl)
+  an-installation (some x) sets m = (record { answer = installation.Refused x; judge = j }, refl)
 
   an-opening : (number : Option ℕ) → (r : OpenResult) × (openOutcome r ≡ outcomeBy number accepted j next)
   an-opening none = (record { answer = opening.Accepted; judge = next }, refl)
@@ -68,11 +69,14 @@ a-report r =
     )
 
 module _ (j : Judge) where
-  loading-of : (f : List ℕ) → (r : LoadResult) × (loadOutcome r ≡ loadOf j f)
+  installation-of : (rule : Rule) → (r : InstallResult) × (installOutcome r ≡ installOf j rule)
+  unfolding installOf
+  installation-of rule = an-installation j (withRule rule) (installNumber rule) (builtOf rule .setcount) (builtOf rule .startcount)
+
+  loading-of : (f : List ℕ) → (r : InstallResult) × (installOutcome r ≡ loadOf j f)
   unfolding loadOf
   loading-of f =
-      let b = builtOf (ruleOf f) in
-      a-loading j (record { built = b; board = emptyBoard 0 }) (loadNumber f) (b .setcount) (b .startcount)
+      let rule = ruleOf f in an-installation j (withRule rule) (loadNumber f) (builtOf rule .setcount) (builtOf rule .startcount)
 
   opening-of : (n : ℕ) → (r : OpenResult) × (openOutcome r ≡ openOf j n)
   unfolding openOf
@@ -105,16 +109,16 @@ pub whole : (a : Reply) (next : Judge) (o : Outcome) → (a ≡ o .reply) × (ne
 whole a next o e = ap₂ (λ (x : Reply) (y : Judge). record { reply = x; state = y }) (e .0) (e .1)
 
 step-to : (j : Judge) (c : Call) (a : Reply) (next : Judge) → MayStep j c a next → (a ≡ stepOf j c .reply) × (next ≡ stepOf j c .state)
-step-to j (loads f) a next m = parts a next (loadOf j f) (m .2 ∙ m .1 .4 ∙ ap (loadOf j) (m .1 .3))
+step-to j (installs rule) a next m = parts a next (installOf j rule) (m .2 ∙ m .1 .1)
 step-to j (opens n) a next m = parts a next (openOf j n) (m .2 ∙ m .1 .1)
 step-to j (delivers p w) a next m = parts a next (deliverOf j p w) (m .2 ∙ m .1 .4 ∙ ap (deliverOf j p) (m .1 .3))
 step-to j (withdraws p) a next m = parts a next (withdrawOf j p) (m .2 ∙ m .1 .1)
 step-to j asksVerdict a next m = (m .2 ∙ ap judged (m .1 .1), m .3)
 
 step-back : (j : Judge) (c : Call) (a : Reply) (next : Judge) → (a ≡ stepOf j c .reply) × (next ≡ stepOf j c .state) → MayStep j c a next
-step-back j (loads f) a next e =
-    let r = loading-of j f in
-    (r .0, (([], tt), lent f, (j, (lent f, tt)), refl, r .1), whole a next (loadOf j f) e ∙ sym (r .1))
+step-back j (installs rule) a next e =
+    let r = installation-of j rule in
+    (r .0, ((j, (rule, tt)), r .1), whole a next (installOf j rule) e ∙ sym (r .1))
 step-back j (opens n) a next e =
     let r = opening-of j n in
     (r .0, ((j, (n, tt)), r .1), whole a next (openOf j n) e ∙ sym (r .1))
@@ -127,7 +131,7 @@ step-back j (withdraws p) a next e =
 step-back j asksVerdict a next e = let r = a-report (reportOf j) in (r .0, ((j, tt), r .1), e .0 ∙ ap judged (sym (r .1)), e .1)
 
 asks-nothing : (j : Judge) (c : Call) → AsksStep j c
-asks-nothing j (loads f) = λ κs c e. load-asks-nothing κs j c
+asks-nothing j (installs rule) = install-asks-nothing j rule
 asks-nothing j (opens n) = open-asks-nothing j n
 asks-nothing j (delivers p w) = λ κs c e. deliver-asks-nothing κs j p c
 asks-nothing j (withdraws p) = withdraw-asks-nothing j p
@@ -145,3 +149,13 @@ judge-meets = record {
 pub after-any-list : (h : List Call) (replies : List Reply) (j : Judge)
     → Execution judgeLibrary h replies j ↔ (replies ≡ repliesTo h) × (j ≡ judgeAfter h)
 after-any-list = execution-law judgeLibrary judgeMachine judge-meets
+
+-- ---- a load, which is no call: what its contract allows is the outcome of the definition
+pub load-asks : (j : Judge) (f : List ℕ) → AsksLoad j f
+load-asks j f κs c e = load-asks-nothing κs j c
+
+pub load-may : (j : Judge) (f : List ℕ) (o : Outcome) → ((r : InstallResult) × MayLoad j f r × (o ≡ installOutcome r)) ↔ (o ≡ loadOf j f)
+load-may j f o = (
+  (λ m. m .2 ∙ m .1 .4 ∙ ap (loadOf j) (m .1 .3)),
+  λ e. let r = loading-of j f in (r .0, (([], tt), lent f, (j, (lent f, tt)), refl, r .1), e ∙ sym (r .1)),
+)

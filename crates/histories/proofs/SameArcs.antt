@@ -1,12 +1,18 @@
--- Automata that differ only in how their arcs are stated have the same delegates, so the delegates
--- of a rule are those of the bytes of its file. Assumes nothing.
+-- Automata that differ only in how their arcs are stated have the same runs, and so the same sets,
+-- table, delegates and M: what holds of the automaton of a rule that was read holds of the automaton
+-- in the bytes of its file. Assumes nothing.
+--
+--   run-to, alike-map, delegate-map, merged-map     runs and delegates
+--   leads-map, moves-map, method-map, many-map      sets, table and all of `Method`
+--   method-read, many-read                          of a file and the rule in it
 use mathlib.Core.Path.{_≡_}
+use mathlib.Core.Logic.{_↔_, inl, inr, ⊎-elim, Iff·trans}
 use mathlib.Core.List.{List}
 use mathlib.Core.Option.{none}
 use Prim.Native.Nat.{ℕ}
 use lib.ListN.{getD}
 use Rattle.masks.specs.Masks.{_∈_}
-use Rattle.automaton.specs.Automaton.{Automaton}
+use Rattle.automaton.specs.Automaton.{Automaton, Arc, Run}
 use Rattle.automaton.specs.Rules.{targetMask, automatonOf}
 use Rattle.automaton.proofs.Laws.{run-map}
 use Rattle.ruleformat.specs.Format.{stateCount, symbolCount, initialMask, finalMask}
@@ -15,19 +21,25 @@ use Rattle.ruleformat.specs.Reader.{ruleOf}
 use Rattle.ruleformat.specs.Language.{ArcIn, automatonIn}
 use Rattle.ruleformat.proofs.Claims as rulefile
 use Rattle.delegates.specs.Alike.{AcceptsFrom, Alike, Delegate, Merged}
+use Rattle.build.specs.declared.Built.{Built}
+use Rattle.histories.specs.Method.{Leads, Moves, setAt, nextAt, TooMany, Method}
 
 module _ (n k : ℕ) (Initial Final : ℕ → Type 0) where
   abbrev by : (ℕ → ℕ → ℕ → Type 0) → Automaton
   by D = record { n = n; k = k; Delta = D; Initial = Initial; Final = Final }
 
+  -- by an arc for each arc
+  arc-to : (D E : ℕ → ℕ → ℕ → Type 0) → ((q s r : ℕ) → D q s r → E q s r) → (q s p : ℕ) → Arc (by D) q s p → Arc (by E) q s p
+  arc-to D E on q s p x = record { source = x .source; symbol = x .symbol; target = x .target; there = on q s p (x .there) }
+
+  run-to : (D E : ℕ → ℕ → ℕ → Type 0) → ((q s r : ℕ) → D q s r → E q s r) → (q : ℕ) (w : List ℕ) (p : ℕ) → Run (by D) q w p → Run (by E) q w p
+  run-to D E on q w p x = run-map (by D) (by E) (λ _ l. l) (arc-to D E on) x
+
   from-map : (D E : ℕ → ℕ → ℕ → Type 0) → ((q s r : ℕ) → D q s r → E q s r) → (q : ℕ) (w : List ℕ) → AcceptsFrom (by D) q w → AcceptsFrom (by E) q w
   from-map D E on q w t = record {
     to = t .to;
     ends = t .ends;
-    run =
-        run-map (by D) (by E) (λ _ l. l)
-        (λ q s r x. record { source = x .source; symbol = x .symbol; target = x .target; there = on q s r (x .there) })
-        (t .run);
+    run = run-to D E on q w (t .to) (t .run);
   }
 
   alike-map : (D E : ℕ → ℕ → ℕ → Type 0) → ((q s r : ℕ) → D q s r → E q s r) → ((q s r : ℕ) → E q s r → D q s r)
@@ -54,17 +66,75 @@ module _ (n k : ℕ) (Initial Final : ℕ → Type 0) where
     starts = g .starts;
   }
 
+  -- ---- sets and table
+  leads-map : (D E : ℕ → ℕ → ℕ → Type 0) → ((q s r : ℕ) → D q s r → E q s r) → ((q s r : ℕ) → E q s r → D q s r)
+      → (q : ℕ) (w : List ℕ) (m : ℕ) → Leads (by D) q w m → Leads (by E) q w m
+  leads-map D E on back q w m l p = Iff·trans (l p) (run-to D E on q w p, run-to E D back q w p)
+
+  moves-map : (D E : ℕ → ℕ → ℕ → Type 0) → ((q s r : ℕ) → D q s r → E q s r) → ((q s r : ℕ) → E q s r → D q s r)
+      → (l s m : ℕ) → Moves (by D) l s m → Moves (by E) l s m
+  moves-map D E on back l s m v p =
+      Iff·trans (v p) (
+        (λ x. (x .0, x .1, arc-to D E on (x .0) s p (x .2))),
+        λ x. (x .0, x .1, arc-to E D back (x .0) s p (x .2)),
+      )
+
+  many-map : (D E : ℕ → ℕ → ℕ → Type 0) → ((q s r : ℕ) → D q s r → E q s r) → ((q s r : ℕ) → E q s r → D q s r)
+      → TooMany (by D) → TooMany (by E)
+  many-map D E on back x = (
+    x .0,
+    x .1,
+    x .2,
+    λ i b. let y = x .3 i b in (y .0, y .1, y .2, y .3, leads-map D E on back (y .1) (y .3) (getD (x .0) i 0) (y .4)),
+  )
+
+  method-map : (D E : ℕ → ℕ → ℕ → Type 0) → ((q s r : ℕ) → D q s r → E q s r) → ((q s r : ℕ) → E q s r → D q s r)
+      → (b : Built) → Method (by D) b → Method (by E) b
+  method-map D E on back b m = record {
+    sets = λ x.
+        Iff·trans (m .sets x) (
+          (λ y. (y .0, y .1, y .2, y .3, leads-map D E on back (y .1) (y .3) x (y .4))),
+          λ y. (y .0, y .1, y .2, y .3, leads-map E D back on (y .1) (y .3) x (y .4)),
+        );
+    once = m .once;
+    order = record {
+      state = m .order .state;
+      text = m .order .text;
+      origin = λ i h.
+          let o = m .order .origin i h in
+          record {
+            below = o .below;
+            leads = leads-map D E on back (m .order .state i) (m .order .text i) (setAt b i) (o .leads);
+            first-state = λ p v l x. o .first-state p v l (leads-map E D back on p v (setAt b i) x);
+            first-text = λ v x. o .first-text v (leads-map E D back on (m .order .state i) v (setAt b i) x);
+          };
+      rises = m .order .rises;
+    };
+    table = λ i s h l.
+        ⊎-elim
+        (λ x. inl (x .0, moves-map D E on back (setAt b i) s (setAt b (nextAt b i s)) (x .1)))
+        (λ x. inr (x .0, moves-map D E on back (setAt b i) s 0 (x .1)))
+        (m .table i s h l);
+    delegates = merged-map D E on back (b .delegates) (b .startcount) (m .delegates);
+  }
+
+-- ---- a file that is read
 module _ (f : List ℕ) (e : refusal f ≡ none) where
-  -- the arcs of the rule that is read
+  -- the arcs of the rule in it
   abbrev Read : ℕ → ℕ → ℕ → Type 0
   Read q s t = t ∈ targetMask (ruleOf f .targets) q s
 
-  pub is-read : (q s t : ℕ) → ArcIn f q s t → Read q s t
+  is-read : (q s t : ℕ) → ArcIn f q s t → Read q s t
   is-read q s t = rulefile.claims .arcs f e q s t .0
 
-  pub stands : (q s t : ℕ) → Read q s t → ArcIn f q s t
+  stands : (q s t : ℕ) → Read q s t → ArcIn f q s t
   stands q s t = rulefile.claims .arcs f e q s t .1
 
-  -- the delegates of the rule that is read are those of the bytes
-  pub of-rule : (d : List ℕ) (m : ℕ) → Merged (automatonOf (ruleOf f)) d m → Merged (automatonIn f) d m
-  of-rule = merged-map (stateCount f) (symbolCount f) (λ q. q ∈ initialMask f) (λ q. q ∈ finalMask f) Read (ArcIn f) stands is-read
+  pub method-read : (b : Built) → Method (automatonOf (ruleOf f)) b → Method (automatonIn f) b
+  method-read = method-map (stateCount f) (symbolCount f) (λ q. q ∈ initialMask f) (λ q. q ∈ finalMask f) Read (ArcIn f) stands is-read
+
+  pub many-read : TooMany (automatonOf (ruleOf f)) ↔ TooMany (automatonIn f)
+  many-read = (
+    many-map (stateCount f) (symbolCount f) (λ q. q ∈ initialMask f) (λ q. q ∈ finalMask f) Read (ArcIn f) stands is-read,
+    many-map (stateCount f) (symbolCount f) (λ q. q ∈ initialMask f) (λ q. q ∈ finalMask f) (ArcIn f) Read is-read stands,
+  )

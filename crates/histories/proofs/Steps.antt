@@ -7,114 +7,86 @@ use mathlib.Core.Option.{Option, none, some}
 use Prim.Native.Nat.{ℕ, _<_}
 use native.Mathlib.Omega.{arith}
 use lib.Dec.{eqb, ltb, leb}
-use lib.ListN.{length}
 use borrow.Author.Tests.{eq-eqb, ltb-true, ltb-false, leb-false}
 use Rattle.base.specs.Conditions.{on, firstOf, outside}
 use Rattle.base.specs.Options.{isNone, isSome}
 use Rattle.base.proofs.Conditions.{passed, none-law}
 use Rattle.base.proofs.Tests.{by-test, or-right, zero-one, not-both}
 use Rattle.marks.specs.Marks.{textOf}
-use Rattle.ruleformat.specs.Reader.{ruleOf}
-use Rattle.ruleformat.proofs.Claims as rulefile
+use Rattle.automaton.specs.declared.Rule.{Rule}
+use Rattle.rulecheck.proofs.Laws as rulecheck
 use Rattle.automaton.specs.Automaton.{Text}
 use Rattle.automaton.specs.Rules.{WellFormed}
-use Rattle.subsets.specs.Sets.{setsOf}
 use Rattle.subsets.specs.Claims.{fits}
-use Rattle.delegates.specs.Claims.{startsIn}
-use Rattle.build.specs.Building.{builtOf}
 use Rattle.chunks.proofs.Claims as chunks
 use Rattle.board.specs.Boards.{emptyBoard, clearedAt, filledAt}
 use Rattle.calls.specs.declared.Judge.{Judge}
-use Rattle.calls.specs.Replies.{Reply, accepted, loaded, delivered}
+use Rattle.calls.specs.Replies.{Reply, accepted, delivered}
 use Rattle.calls.proofs.Conditions.{not-refused}
-use Rattle.histories.specs.History.{fileOf, ruleFrom, ruleIn, openNumber, placesIn, lookedOf, deliverCheck, standing, deliverNumber, withdrawNumber, replyBy}
-use Rattle.calls.specs.Calls.{Call, loads, opens, delivers, withdraws, asksVerdict, loadNumber, deliverConditions}
-use Rattle.calls.specs.Steps.{fresh, withBoard, outcomeBy, runsAt, loadOf, openOf, deliverOf, withdrawOf}
+use Rattle.histories.specs.History.{ruleThere, ruleFrom, ruleIn, openNumber, placesIn, lookedOf, deliverCheck, standing, deliverNumber, withdrawNumber, replyBy, withSets}
+use Rattle.calls.specs.Calls.{Call, installs, opens, delivers, withdraws, asksVerdict, installNumber, deliverConditions}
+use Rattle.calls.specs.Steps.{fresh, withBoard, outcomeBy, withRule, installReply, runsAt, installOf, openOf, deliverOf, withdrawOf}
 use Rattle.histories.specs.Claims.{BuiltBy}
 use Rattle.histories.proofs.Agreement.{Agrees, all-empty, fresh-holds, placed, cleared-holds, run-looked, filled-holds}
 use Rattle.histories.proofs.Numbers.{open-number, withdraw-number, deliver-number}
 
 abbrev pub AgreesWith : List Call → Judge → Type 0
-AgreesWith h j = Agrees (fileOf h) (placesIn h) (standing h) j
+AgreesWith h j = Agrees (ruleThere h) (placesIn h) (standing h) j
 
 pub good-fresh : AgreesWith [] fresh
-unfolding fileOf placesIn standing
+unfolding ruleThere placesIn standing
 good-fresh = fresh-holds
 
--- the same file, places and chunks
-transfer : {file file′ : Option (List ℕ)} {places places′ : ℕ} {at at′ : ℕ → Option (List ℕ)} (j : Judge)
-    → file ≡ file′ → places ≡ places′ → ((p : ℕ) → at p ≡ at′ p) → Agrees file places at j → Agrees file′ places′ at′ j
+-- the same present, places and chunks
+transfer : {present present′ : Option Rule} {places places′ : ℕ} {at at′ : ℕ → Option (List ℕ)} (j : Judge)
+    → present ≡ present′ → places ≡ places′ → ((p : ℕ) → at p ≡ at′ p) → Agrees present places at j → Agrees present′ places′ at′ j
 transfer j f p a holds = subst₃ (λ x y z. Agrees x y z j) f p (fun-ext a) holds
 
--- ---- load
-module _ (f : List ℕ) (e : loadNumber f ≡ none) where
-  -- an accepted file is a well-formed rule with at most 512 sets
-  pub accepted-rule : WellFormed (ruleOf f) × fits (ruleOf f)
-  accepted-rule = let n = not-refused f e in (rulefile.claims .well-formed f (n .0), n .1)
+-- ---- install
+-- an accepted rule is well formed and has at most 512 sets
+pub accepted-rule : (r : Rule) → installNumber r ≡ none → WellFormed r × fits r
+accepted-rule r e = let n = not-refused r e in (rulecheck.passes r .0 (n .0), n .1)
 
--- the file whose rule is there was accepted
-pub file-accepted : (h : List Call) (f : List ℕ) → fileOf h ≡ some f → loadNumber f ≡ none
-unfolding fileOf
-file-accepted [] f e = zero-one cc
-file-accepted (loads g ∷ h) f e = by-number (loadNumber g) refl (file-accepted h f)
-  where
-    by-number : (o : Option ℕ) → loadNumber g ≡ o → (fileOf h ≡ some f → loadNumber f ≡ none) → loadNumber f ≡ none
-    by-number none z before =
-        let y : some g ≡ some f = rw z at e in
-        let same : g ≡ f = cc in
-        rw same at z
-    by-number (some x) z before = before (rw z at e)
-file-accepted (opens n ∷ h) f e = file-accepted h f e
-file-accepted (delivers p w ∷ h) f e = file-accepted h f e
-file-accepted (withdraws p ∷ h) f e = file-accepted h f e
-file-accepted (asksVerdict ∷ h) f e = file-accepted h f e
-
-by-says : (number : Option ℕ) (a : Reply) (j next : Judge) → outcomeBy number a j next .reply ≡ replyBy number a
+pub by-says : (number : Option ℕ) (a : Reply) (j next : Judge) → outcomeBy number a j next .reply ≡ replyBy number a
 by-says none a j next = refl
 by-says (some x) a j next = refl
 
 module _ (h : List Call) (j : Judge) (good : AgreesWith h j) where
-  module _ (f : List ℕ) where
-    abbrev brought : Judge
-    brought = record { built = builtOf (ruleOf f); board = emptyBoard 0 }
+  module _ (r : Rule) where
+    installed-good : (number : Option ℕ) → installNumber r ≡ number
+        → AgreesWith (installs r ∷ h) (outcomeBy number (installReply r) j (withRule r) .state)
+    unfolding ruleThere placesIn standing
+    installed-good none e =
+        transfer (withRule r) (sym (rw e)) (sym (rw e)) (λ p. sym (rw e))
+        (all-empty (some r) 0 (withRule r) (refl, accepted-rule r e .0, accepted-rule r e .1) refl (omega arith) (λ z. absurd (omega arith)))
+    installed-good (some x) e = transfer j (sym (rw e)) (sym (rw e)) (λ p. sym (rw e)) good
 
-    abbrev reply : Reply
-    reply = loaded (length (setsOf (ruleOf f .targets) (ruleOf f .n) (ruleOf f .k))) (startsIn (ruleOf f) .startcount)
+    pub install-good : AgreesWith (installs r ∷ h) (installOf j r .state)
+    unfolding installOf
+    install-good = installed-good (installNumber r) refl
 
-    loaded-good : (number : Option ℕ) → loadNumber f ≡ number → AgreesWith (loads f ∷ h) (outcomeBy number reply j brought .state)
-    unfolding fileOf placesIn standing
-    loaded-good none e =
-        let a = accepted-rule f e in
-        transfer brought (sym (rw e)) (sym (rw e)) (λ p. sym (rw e))
-        (all-empty (some f) 0 brought (refl, a .0, a .1) refl (omega arith) (λ z. absurd (omega arith)))
-    loaded-good (some x) e = transfer j (sym (rw e)) (sym (rw e)) (λ p. sym (rw e)) good
-
-    pub load-good : AgreesWith (loads f ∷ h) (loadOf j f .state)
-    unfolding loadOf
-    load-good = loaded-good (loadNumber f) refl
-
-    pub load-says : loadOf j f .reply ≡ replyBy (loadNumber f) reply
-    unfolding loadOf
-    load-says = by-says (loadNumber f) reply j brought
+    pub install-says : installOf j r .reply ≡ replyBy (installNumber r) (withSets r)
+    unfolding installOf
+    install-says = by-says (installNumber r) (installReply r) j (withRule r)
 
   -- ---- open
   open-is : (n : ℕ) → openOf j n ≡ outcomeBy (openNumber h n) accepted j (withBoard j (emptyBoard n))
   unfolding openOf
   open-is n =
       ap (λ x. outcomeBy x accepted j (withBoard j (emptyBoard n)))
-      (open-number (fileOf h) (placesIn h) (standing h) j good n)
+      (open-number (ruleThere h) (placesIn h) (standing h) j good n)
 
   opened-good : (n : ℕ) (o : Option ℕ) → openNumber h n ≡ o → AgreesWith (opens n ∷ h) (outcomeBy o accepted j (withBoard j (emptyBoard n)) .state)
-  unfolding fileOf placesIn standing
+  unfolding ruleThere placesIn standing
   opened-good n none e =
-      let a = passed 20 (isNone (fileOf h)) (cond (outside 1 64 n) (some 10) none) e in
+      let a = passed 20 (isNone (ruleThere h)) (cond (outside 1 64 n) (some 10) none) e in
       let b = passed 10 (outside 1 64 n) none (a .1) .0 in
       transfer (withBoard j (emptyBoard n)) refl (sym (rw e)) (λ p. sym (rw e))
-      (all-empty (fileOf h) n (withBoard j (emptyBoard n)) (kept (fileOf h) (good .rule)) refl (ltb-false 64 n (or-right (ltb n 1) (ltb 64 n) b)) (λ _. a .0))
+      (all-empty (ruleThere h) n (withBoard j (emptyBoard n)) (kept (ruleThere h) (good .rule)) refl (ltb-false 64 n (or-right (ltb n 1) (ltb 64 n) b)) (λ _. a .0))
     where
-      kept : (o : Option (List ℕ)) → BuiltBy o j → BuiltBy o (withBoard j (emptyBoard n))
+      kept : (o : Option Rule) → BuiltBy o j → BuiltBy o (withBoard j (emptyBoard n))
       kept none x = x
-      kept (some f) x = x
+      kept (some r) x = x
   opened-good n (some x) e = transfer j refl (sym (rw e)) (λ p. sym (rw e)) good
 
   pub open-good : (n : ℕ) → AgreesWith (opens n ∷ h) (openOf j n .state)
@@ -128,17 +100,17 @@ module _ (h : List Call) (j : Judge) (good : AgreesWith h j) where
   unfolding withdrawOf
   withdraw-is p =
       ap (λ x. outcomeBy x accepted j (withBoard j (clearedAt (j .board) p)))
-      (withdraw-number (fileOf h) (placesIn h) (standing h) j good p)
+      (withdraw-number (ruleThere h) (placesIn h) (standing h) j good p)
 
   withdrawn-good : (p : ℕ) (o : Option ℕ) → withdrawNumber h p ≡ o
       → AgreesWith (withdraws p ∷ h) (outcomeBy o accepted j (withBoard j (clearedAt (j .board) p)) .state)
-  unfolding fileOf placesIn standing placed
+  unfolding ruleThere placesIn standing placed
   withdrawn-good p none e =
       let a = passed 21 (eqb (placesIn h) 0) (firstOf (on 11 (leb (placesIn h) p) ∷ on 23 (isNone (standing h p)) ∷ [])) e in
       let b = passed 11 (leb (placesIn h) p) (firstOf (on 23 (isNone (standing h p)) ∷ [])) (a .1) in
       transfer (withBoard j (clearedAt (j .board) p)) refl refl
       (λ i. sym (ap (λ (t : Bool). cond t none (standing h i)) (ap (λ (u : Bool). eqb p i && u) (ap isNone e) ∙ and-true (eqb p i))))
-      (cleared-holds (fileOf h) (placesIn h) (standing h) j good p (leb-false (placesIn h) p (b .0)))
+      (cleared-holds (ruleThere h) (placesIn h) (standing h) j good p (leb-false (placesIn h) p (b .0)))
   withdrawn-good p (some x) e =
       transfer j refl refl
       (λ i. sym (ap (λ (t : Bool). cond t none (standing h i)) (ap (λ (u : Bool). eqb p i && u) (ap isNone e) ∙ and-false (eqb p i))))
@@ -153,16 +125,16 @@ module _ (h : List Call) (j : Judge) (good : AgreesWith h j) where
 
   -- ---- verdict
   pub ask-good : AgreesWith (asksVerdict ∷ h) j
-  unfolding fileOf placesIn standing
+  unfolding ruleThere placesIn standing
   ask-good = good
 
 -- ---- deliver
 -- the text of a delivery that meets no condition is of symbols of a rule, since a board is there
 -- only with one
-module _ (h : List Call) (j : Judge) (p : ℕ) (w : List ℕ) (P : Option (List ℕ) → Type 0) where
-  pub by-run : ((f : List ℕ) → Agrees (some f) (placesIn h) (standing h) j → p < placesIn h → Text (ruleOf f .k) (textOf w) → P (some f))
-      → (file : Option (List ℕ)) → Agrees file (placesIn h) (standing h) j
-      → deliverCheck (ruleFrom file .k) (placesIn h) (standing h p) p w ≡ none → P file
+module _ (h : List Call) (j : Judge) (p : ℕ) (w : List ℕ) (P : Option Rule → Type 0) where
+  pub by-run : ((r : Rule) → Agrees (some r) (placesIn h) (standing h) j → p < placesIn h → Text (r .k) (textOf w) → P (some r))
+      → (present : Option Rule) → Agrees present (placesIn h) (standing h) j
+      → deliverCheck (ruleFrom present .k) (placesIn h) (standing h p) p w ≡ none → P present
   by-run ran none holds e =
       by-test (ltb 0 (placesIn h))
       (λ l. not-both refl (holds .ruled (ltb-true 0 (placesIn h) l)))
@@ -170,9 +142,9 @@ module _ (h : List Call) (j : Judge) (p : ℕ) (w : List ℕ) (P : Option (List 
       let z : placesIn h ≡ 0 = omega (arith, ltb-false 0 (placesIn h) l) in
       let y : some 21 ≡ none = rw (eq-eqb (placesIn h) 0 z) at e in
       zero-one cc)
-  by-run ran (some f) holds e =
-      let passes = none-law (deliverConditions (eqb (placesIn h) 0) (placesIn h) p w (ruleOf f .k) (isSome (standing h p))) .0 e in
-      ran f holds (leb-false (placesIn h) p (passes .1 .0)) (chunks.claims .text-law (textOf w) (ruleOf f .k) .0 (passes .1 .1 .1 .0))
+  by-run ran (some r) holds e =
+      let passes = none-law (deliverConditions (eqb (placesIn h) 0) (placesIn h) p w (r .k) (isSome (standing h p))) .0 e in
+      ran r holds (leb-false (placesIn h) p (passes .1 .0)) (chunks.claims .text-law (textOf w) (r .k) .0 (passes .1 .1 .1 .0))
 
 module _ (h : List Call) (j : Judge) (good : AgreesWith h j) (p : ℕ) (w : List ℕ) where
   abbrev kept : Judge
@@ -184,26 +156,26 @@ module _ (h : List Call) (j : Judge) (good : AgreesWith h j) (p : ℕ) (w : List
   deliver-is : deliverOf j p w ≡ outcomeBy (deliverNumber h p w) answered j kept
   unfolding deliverOf
   deliver-is =
-      ap (λ x. outcomeBy x answered j kept) (deliver-number (fileOf h) (placesIn h) (standing h) j good p w)
+      ap (λ x. outcomeBy x answered j kept) (deliver-number (ruleThere h) (placesIn h) (standing h) j good p w)
 
   -- it is kept
-  kept-chunk : deliverNumber h p w ≡ none → Agrees (fileOf h) (placesIn h) (placed (standing h) p (some w)) kept
+  kept-chunk : deliverNumber h p w ≡ none → Agrees (ruleThere h) (placesIn h) (placed (standing h) p (some w)) kept
   kept-chunk =
-      by-run h j p w (λ file. Agrees file (placesIn h) (placed (standing h) p (some w)) kept)
-      (λ f holds l text. filled-holds f (placesIn h) (standing h) j holds p l w text)
-      (fileOf h)
+      by-run h j p w (λ present. Agrees present (placesIn h) (placed (standing h) p (some w)) kept)
+      (λ r holds l text. filled-holds r (placesIn h) (standing h) j holds p l w text)
+      (ruleThere h)
       good
 
   -- and run, with a successor looked up for as many bytes as R-2 says
   ran-looked : deliverNumber h p w ≡ none → runsAt j p w .looked ≡ lookedOf (ruleIn h) p w
   ran-looked =
-      by-run h j p w (λ file. runsAt j p w .looked ≡ lookedOf (ruleFrom file) p w)
-      (λ f holds l text. run-looked f (placesIn h) (standing h) j holds p l w text)
-      (fileOf h)
+      by-run h j p w (λ present. runsAt j p w .looked ≡ lookedOf (ruleFrom present) p w)
+      (λ r holds l text. run-looked r (placesIn h) (standing h) j holds p l w text)
+      (ruleThere h)
       good
 
   delivered-good : (o : Option ℕ) → deliverNumber h p w ≡ o → AgreesWith (delivers p w ∷ h) (outcomeBy o answered j kept .state)
-  unfolding fileOf placesIn standing placed
+  unfolding ruleThere placesIn standing placed
   delivered-good none e =
       transfer kept refl refl
       (λ i. sym (ap (λ (t : Bool). cond t (some w) (standing h i)) (ap (λ (u : Bool). eqb p i && u) (ap isNone e) ∙ and-true (eqb p i))))

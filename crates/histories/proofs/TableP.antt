@@ -27,11 +27,12 @@ use Rattle.delegates.specs.Alike.{startSet}
 use Rattle.chunks.specs.Chunks.{foreign, counted, runSet, looked}
 use Rattle.joins.specs.Joining.{joinOf, yesOf}
 use Rattle.joins.specs.Claims.{delegateIn}
-use Rattle.histories.specs.History.{fileOf, ruleFrom, openNumber, placesIn, standingCount, standingEnd, deliverCheck, standing, deliverNumber, standingText, reportIn, answersTo, ruleIn, lookedOf, verdictIn, replyBy, answerOf}
-use Rattle.calls.specs.Replies.{Reported, Reply, accepted, loaded, judged, delivered, Judgement}
-use Rattle.calls.specs.Calls.{Call, loads, opens, delivers, loadNumber, verdictBy, reportBy}
+use Rattle.histories.specs.History.{ruleThere, ruleFrom, withSets, loading, loadReply, openNumber, placesIn, standingCount, standingEnd, deliverCheck, standing, deliverNumber, standingText, reportIn, answersTo, ruleIn, lookedOf, replyBy, answerOf}
+use Rattle.calls.specs.Replies.{Reported, Reply, accepted, installed, judged, refused, delivered}
+use Rattle.calls.specs.Calls.{Call, installs, opens, delivers, asksVerdict, installNumber, loadNumber, verdictBy, reportBy}
+use Rattle.calls.proofs.Conditions.{load-number, load-accepted}
 use Rattle.histories.specs.Claims.{judgeAfter, BuiltBy}
-use Rattle.histories.specs.TableP.{Result, sets, delegates, verdict, turned-down, Case, case, delivering, answering, callsFor, callsOf, repliesOf, rowsFrom, Shows, Each, Case-holds, table, TableP}
+use Rattle.histories.specs.TableP.{sets, delegates, verdict, turned-down, Case, case, delivering, answering, callsFor, callsOf, repliesOf, rowsFrom, Shows, Each, Case-holds, table, TableP}
 use Rattle.histories.proofs.EveryList.{every-list}
 use Rattle.histories.proofs.TwoRules.{listed, starts-A, starts-B}
 
@@ -48,10 +49,10 @@ module _ (r : Rule) (d : List ℕ) (places : ℕ) (at : ℕ → Option (List ℕ
       (total (λ p. countsBy p (at p)) places))
       (total (λ p. length (standingText (at p))) places)
 
--- ---- the calls of a verdict, one by one: the rule is that of f, and the board has these places
+-- ---- the calls of a verdict, one by one: the rule is r, and the board has these places
 -- and standing chunks
-record Stage (f : List ℕ) (h : List Call) (places : ℕ) (at : ℕ → Option (List ℕ)) : Type 0 where
-  file : fileOf h ≡ some f
+record Stage (r : Rule) (h : List Call) (places : ℕ) (at : ℕ → Option (List ℕ)) : Type 0 where
+  rule : ruleThere h ≡ some r
   board : placesIn h ≡ places
   stands : standing h ≡ at
 
@@ -70,26 +71,27 @@ Checked r d places p (c ∷ cs) at =
     (deliverCheck (r .k) places (at p) p (c .0) ≡ none) × (looked (r .targets) (runSet d (r .n) (r .initials) p) (textOf (c .0)) ≡ c .1)
     × Checked r d places (suc p) cs (put at p (c .0))
 
-opened : (f : List ℕ) (n : ℕ) → loadNumber f ≡ none → outside 1 64 n ≡ false → (openNumber (loads f ∷ []) n ≡ none) × Stage f (opens n ∷ loads f ∷ []) n (λ _. none)
-unfolding fileOf placesIn standing
-opened f n taken fine = (rw (taken, fine), record { file = rw taken; board = rw (taken, fine); stands = fun-ext (λ i. rw (taken, fine)) })
+opened : (r : Rule) (n : ℕ) → installNumber r ≡ none → outside 1 64 n ≡ false
+    → (openNumber (installs r ∷ []) n ≡ none) × Stage r (opens n ∷ installs r ∷ []) n (λ _. none)
+unfolding ruleThere placesIn standing
+opened r n taken fine = (rw (taken, fine), record { rule = rw taken; board = rw (taken, fine); stands = fun-ext (λ i. rw (taken, fine)) })
 
-module _ (f : List ℕ) (places : ℕ) (d : List ℕ) (is : startsIn (ruleOf f) .delegates ≡ d) where
-  one-delivered : (h : List Call) (at : ℕ → Option (List ℕ)) (p : ℕ) (w : List ℕ) (n : ℕ) → Stage f h places at
-      → deliverCheck (ruleOf f .k) places (at p) p w ≡ none
-      → looked (ruleOf f .targets) (runSet d (ruleOf f .n) (ruleOf f .initials) p) (textOf w) ≡ n
-      → (answerOf h (delivers p w) ≡ delivered n) × Stage f (delivers p w ∷ h) places (put at p w)
-  unfolding fileOf placesIn standing
+module _ (r : Rule) (places : ℕ) (d : List ℕ) (is : startsIn r .delegates ≡ d) where
+  one-delivered : (h : List Call) (at : ℕ → Option (List ℕ)) (p : ℕ) (w : List ℕ) (n : ℕ) → Stage r h places at
+      → deliverCheck (r .k) places (at p) p w ≡ none
+      → looked (r .targets) (runSet d (r .n) (r .initials) p) (textOf w) ≡ n
+      → (answerOf h (delivers p w) ≡ delivered n) × Stage r (delivers p w ∷ h) places (put at p w)
+  unfolding ruleThere placesIn standing
   one-delivered h at p w n s e looks =
       let there : deliverNumber h p w ≡ none =
-      subst₃ (λ (x : Option (List ℕ)) (y : ℕ) (z : ℕ → Option (List ℕ)). deliverCheck (ruleFrom x .k) y (z p) p w ≡ none) (sym (s .file)) (sym (s .board)) (sym (s .stands)) e in
+      subst₃ (λ (x : Option Rule) (y : ℕ) (z : ℕ → Option (List ℕ)). deliverCheck (ruleFrom x .k) y (z p) p w ≡ none) (sym (s .rule)) (sym (s .board)) (sym (s .stands)) e in
       let number : lookedOf (ruleIn h) p w ≡ n =
-      ap (λ (x : Option (List ℕ)). lookedOf (ruleFrom x) p w) (s .file)
-      ∙ ap (λ (x : List ℕ). looked (ruleOf f .targets) (runSet x (ruleOf f .n) (ruleOf f .initials) p) (textOf w)) is
+      ap (λ (x : Option Rule). lookedOf (ruleFrom x) p w) (s .rule)
+      ∙ ap (λ (x : List ℕ). looked (r .targets) (runSet x (r .n) (r .initials) p) (textOf w)) is
       ∙ looks in (
         ap₂ (λ (o : Option ℕ) (m : ℕ). replyBy o (delivered m)) there number,
         record {
-          file = s .file;
+          rule = s .rule;
           board = s .board;
           stands = fun-ext (λ i.
               ap (λ (t : Bool). cond t (some w) (standing h i)) (ap (λ (u : Bool). eqb p i && u) (ap isNone there) ∙ and-true (eqb p i))
@@ -97,8 +99,8 @@ module _ (f : List ℕ) (places : ℕ) (d : List ℕ) (is : startsIn (ruleOf f) 
         },
       )
 
-  all-delivered : (cs : List (List ℕ × ℕ)) (h : List Call) (at : ℕ → Option (List ℕ)) (p : ℕ) → Stage f h places at → Checked (ruleOf f) d places p cs at
-      → (answersTo (delivering p cs h) ≡ answering cs (answersTo h)) × Stage f (delivering p cs h) places (putAll p cs at)
+  all-delivered : (cs : List (List ℕ × ℕ)) (h : List Call) (at : ℕ → Option (List ℕ)) (p : ℕ) → Stage r h places at → Checked r d places p cs at
+      → (answersTo (delivering p cs h) ≡ answering cs (answersTo h)) × Stage r (delivering p cs h) places (putAll p cs at)
   unfolding answersTo
   all-delivered [] h at p s x = (refl, s)
   all-delivered (c ∷ cs) h at p s x =
@@ -106,57 +108,95 @@ module _ (f : List ℕ) (places : ℕ) (d : List ℕ) (is : startsIn (ruleOf f) 
       let rest = all-delivered cs (delivers p (c .0) ∷ h) (put at p (c .0)) (suc p) (one .1) (x .2) in
       (rest .0 ∙ ap (λ (a : Reply). answering cs (a ∷ answersTo h)) (one .0), rest .1)
 
-  asked : (h : List Call) (at : ℕ → Option (List ℕ)) → Stage f h places at → reportIn h ≡ reportWith (ruleOf f) d places at
+  asked : (h : List Call) (at : ℕ → Option (List ℕ)) → Stage r h places at → reportIn h ≡ reportWith r d places at
   asked h at s =
-      subst₃ (λ (x : Option (List ℕ)) (y : ℕ) (z : ℕ → Option (List ℕ)). reportWith (ruleFrom x) (startsIn (ruleFrom x) .delegates) y z ≡ reportWith (ruleOf f) d places at)
-      (sym (s .file)) (sym (s .board)) (sym (s .stands))
-      (ap (λ (x : List ℕ). reportWith (ruleOf f) x places at) is)
+      subst₃ (λ (x : Option Rule) (y : ℕ) (z : ℕ → Option (List ℕ)). reportWith (ruleFrom x) (startsIn (ruleFrom x) .delegates) y z ≡ reportWith r d places at)
+      (sym (s .rule)) (sym (s .board)) (sym (s .stands))
+      (ap (λ (x : List ℕ). reportWith r x places at) is)
 
--- ---- what is left to compute
--- of a case: its answers; of an accepted file, that it is the last, and what shows in the rule
--- built
-abbrev Answers : Case → Type 0
-Answers c = answersTo (callsOf c) ≡ repliesOf c
-
-abbrev Built-so : List ℕ → Result → Type 0
-Built-so f r = (fileOf (callsFor f r) ≡ some f) × Shows r (builtOf (ruleOf f))
+-- ---- what is left to compute of a case
+-- of a file that is accepted: what is answered
+abbrev Accepted : List ℕ → Reply → Type 0
+Accepted f load = (loadNumber f ≡ none) × (withSets (ruleOf f) ≡ load)
 
 -- of a verdict, with the starts x put in
 abbrev Taken : List ℕ → Reply → Starts → List (List ℕ × ℕ) → Reported → Type 0
 Taken f load x chunks v =
-    (loadNumber f ≡ none) × (loaded (length (setsOf (ruleOf f .targets) (ruleOf f .n) (ruleOf f .k))) (x .startcount) ≡ load) × (outside 1 64 (length chunks) ≡ false)
+    (loadNumber f ≡ none) × (installed (length (setsOf (ruleOf f .targets) (ruleOf f .n) (ruleOf f .k))) (x .startcount) ≡ load) × (outside 1 64 (length chunks) ≡ false)
     × Checked (ruleOf f) (x .delegates) (length chunks) 0 chunks (λ _. none)
     × (reportWith (ruleOf f) (x .delegates) (length chunks) (putAll 0 chunks (λ _. none)) ≡ v)
 
+abbrev Left : Case → Type 0
+Left (case f load (sets masks rows)) = Accepted f load × Shows f (sets masks rows) (builtOf (ruleOf f))
+Left (case f load (delegates ds)) = Accepted f load × Shows f (delegates ds) (builtOf (ruleOf f))
+Left (case f load (verdict chunks v)) = (x : Starts) × (startsIn (ruleOf f) ≡ x) × Taken f load x chunks v
+Left (case f load (turned-down x)) = (refusal f ≡ some x) × (load ≡ refused x)
+
+-- ---- and what follows from it
+-- the load makes one call
+makes : (f : List ℕ) → loadNumber f ≡ none → loading f ≡ installs (ruleOf f) ∷ []
+makes f e = rw (load-accepted f e .0)
+
+load-answer : (f : List ℕ) (load : Reply) → Accepted f load → loadReply f ≡ load
+load-answer f load a = rw (a .0) (a .1)
+
+-- it is answered, and the rule is built
+installs-so : (f : List ℕ) (load : Reply) → Accepted f load → answersTo (loading f) ≡ load ∷ []
+unfolding answersTo
+installs-so f load a =
+    ap answersTo (makes f (a .0)) ∙ ap (λ (x : Reply). x ∷ []) (ap (λ (o : Option ℕ). replyBy o (withSets (ruleOf f))) (load-accepted f (a .0) .1) ∙ a .1)
+
+built-so : (f : List ℕ) → loadNumber f ≡ none → judgeAfter (loading f) .built ≡ builtOf (ruleOf f)
+unfolding ruleThere
+built-so f e =
+    let there : ruleThere (loading f) ≡ some (ruleOf f) = ap ruleThere (makes f e) ∙ rw (load-accepted f e .1) in
+    subst (λ (present : Option Rule). BuiltBy present (judgeAfter (loading f))) there (every-list (loading f) .after .rule) .0
+
 verdict-answers : (f : List ℕ) (load : Reply) (x : Starts) (chunks : List (List ℕ × ℕ)) (v : Reported) → startsIn (ruleOf f) ≡ x → Taken f load x chunks v
-    → Answers (case f load (verdict chunks v))
+    → answersTo (callsOf (case f load (verdict chunks v))) ≡ repliesOf (case f load (verdict chunks v))
 unfolding answersTo
 verdict-answers f load x chunks v is t =
-    let o = opened f (length chunks) (t .0) (t .2) in
+    let r = ruleOf f in
+    let n = length chunks in
+    let taken = load-accepted f (t .0) .1 in
+    let o = opened r n taken (t .2) in
     let same = ap (λ (s : Starts). s .delegates) is in
-    let d = all-delivered f (length chunks) (x .delegates) same chunks (opens (length chunks) ∷ loads f ∷ []) (λ _. none) 0 (o .1) (t .3) in
-    let first : answersTo (opens (length chunks) ∷ loads f ∷ []) ≡ accepted ∷ load ∷ [] = rw (o .0, t .0, is, t .1) in
-    ap₂ _∷_
-    (ap judged (asked f (length chunks) (x .delegates) same (delivering 0 chunks (opens (length chunks) ∷ loads f ∷ [])) (putAll 0 chunks (λ _. none)) (d .1) ∙ t .4))
+    let h = opens n ∷ installs r ∷ [] in
+    let d = all-delivered r n (x .delegates) same chunks h (λ _. none) 0 (o .1) (t .3) in
+    let first : answersTo h ≡ accepted ∷ load ∷ [] = rw (o .0, taken, is, t .1) in
+    ap (λ (l : List Call). answersTo (asksVerdict ∷ delivering 0 chunks (opens n ∷ l))) (makes f (t .0))
+    ∙ ap₂ _∷_
+    (ap judged (asked r n (x .delegates) same (delivering 0 chunks h) (putAll 0 chunks (λ _. none)) (d .1) ∙ t .4))
     (d .0 ∙ ap (answering chunks) first)
 
-abbrev Left : Case → Type 0
-Left (case f load (sets masks rows)) = Answers (case f load (sets masks rows)) × Built-so f (sets masks rows)
-Left (case f load (delegates ds)) = Answers (case f load (delegates ds)) × Built-so f (delegates ds)
-Left (case f load (verdict chunks v)) = (x : Starts) × (startsIn (ruleOf f) ≡ x) × Taken f load x chunks v
-Left (case f load turned-down) = Answers (case f load turned-down)
+-- a file that is not read makes no call
+answers-none : (f : List ℕ) (x : ℕ) → refusal f ≡ some x → answersTo (loading f) ≡ []
+unfolding answersTo
+answers-none f x e = rw e
 
-shows : (f : List ℕ) (r : Result) → Built-so f r → Shows r (judgeAfter (callsFor f r) .built)
-shows f r b =
-    let is = subst (λ (file : Option (List ℕ)). BuiltBy file (judgeAfter (callsFor f r))) (b .0) (every-list (callsFor f r) .after .rule) in
-    subst (Shows r) (sym (is .0)) (b .1)
+load-refused : (f : List ℕ) (x : ℕ) → refusal f ≡ some x → loadReply f ≡ refused x
+load-refused f x e = let number : loadNumber f ≡ some x = load-number f ∙ rw e in rw number
 
 holds : (c : Case) → Left c → Case-holds c
-holds (case f load (sets masks rows)) l = (every-list (loads f ∷ []) .correct ∙ l .0, shows f (sets masks rows) (l .1))
-holds (case f load (delegates ds)) l = (every-list (loads f ∷ []) .correct ∙ l .0, shows f (delegates ds) (l .1))
-holds (case f load (verdict chunks v)) l =
-    (every-list (callsFor f (verdict chunks v)) .correct ∙ verdict-answers f load (l .0) chunks v (l .1) (l .2), tt)
-holds (case f load turned-down) l = (every-list (loads f ∷ []) .correct ∙ l, tt)
+holds (case f load (sets masks rows)) l = (
+  every-list (loading f) .correct ∙ installs-so f load (l .0),
+  (load-answer f load (l .0), subst (Shows f (sets masks rows)) (sym (built-so f (l .0 .0))) (l .1)),
+)
+holds (case f load (delegates ds)) l = (
+  every-list (loading f) .correct ∙ installs-so f load (l .0),
+  (load-answer f load (l .0), subst (Shows f (delegates ds)) (sym (built-so f (l .0 .0))) (l .1)),
+)
+holds (case f load (verdict chunks v)) l = (
+  every-list (callsFor f (verdict chunks v)) .correct ∙ verdict-answers f load (l .0) chunks v (l .1) (l .2),
+  (load-answer f load (l .2 .0, ap (λ (s : Starts). installed (length (setsOf (ruleOf f .targets) (ruleOf f .n) (ruleOf f .k))) (s .startcount)) (l .1) ∙ l .2 .1), tt),
+)
+holds (case f load (turned-down x)) l = (every-list (loading f) .correct ∙ no-call, (no-load, l .0))
+  where
+    no-call : answersTo (loading f) ≡ []
+    no-call = answers-none f x (l .0)
+
+    no-load : loadReply f ≡ load
+    no-load = load-refused f x (l .0) ∙ sym (l .1)
 
 pub each : {P Q : Case → Type 0} → ((c : Case) → P c → Q c) → (cases : List Case) → Each P cases → Each Q cases
 each g [] x = tt
@@ -174,17 +214,17 @@ abbrev given-B : Starts
 given-B = record { delegates = listed 0 1 1; startcount = 2 }
 
 computed : Each Left table
-unfolding answersTo loadNumber refusal tooShort tooLong badStates badSymbols noRoom badMask badPairs badSection badArcs anyBelow targetsUpTo listFrom union indexOf numbered expandFrom closeFrom keysUpTo setsOf tooMany nextSet rowsFrom fileOf placesIn standing textOf foreign counted looked startSet total joinOf
+unfolding loadNumber refusal tooShort tooLong badStates badSymbols noRoom badMask badPairs badSection badArcs anyBelow targetsUpTo listFrom union indexOf numbered expandFrom closeFrom keysUpTo setsOf tooMany nextSet rowsFrom placesIn standing textOf foreign counted looked startSet total joinOf
 computed =
-    (rw starts-A, (refl, (refl, refl))) &
-    (rw starts-B, (refl, rw starts-B)) &
+    ((refl, rw starts-A), (refl, refl)) &
+    ((refl, rw starts-B), rw starts-B) &
     (given-A, starts-A, (refl, refl, refl, (refl, refl, (refl, refl, tt)), refl)) &
     (given-A, starts-A, (refl, refl, refl, (refl, refl, (refl, refl, tt)), refl)) &
     (given-A, starts-A, (refl, refl, refl, (refl, refl, tt), refl)) &
     (given-B, starts-B, (refl, refl, refl, (refl, refl, (refl, refl, tt)), refl)) &
     (given-B, starts-B, (refl, refl, refl, (refl, refl, (refl, refl, tt)), refl)) &
     (given-B, starts-B, (refl, refl, refl, (refl, refl, tt), refl)) &
-    (given-B, starts-B, (refl, refl, refl, (refl, refl, (refl, refl, (refl, refl, tt))), refl)) & refl & tt
+    (given-B, starts-B, (refl, refl, refl, (refl, refl, (refl, refl, (refl, refl, tt))), refl)) & (refl, refl) & tt
 
 pub table-P : TableP
 table-P = each {P = Left} {Q = Case-holds} holds table computed

@@ -19,61 +19,60 @@ use Rattle.base.specs.Options.{isNone}
 use Rattle.base.specs.Totals.{total}
 use Rattle.base.proofs.Tests.{by-test, not-both}
 use Rattle.masks.specs.Masks.{shares}
-use Rattle.ruleformat.specs.Reader.{ruleOf}
 use Rattle.delegates.specs.Claims.{startsIn}
 use Rattle.board.specs.Boards.{emptyPlaces, summedCount}
 use Rattle.board.proofs.Laws.{empty-law}
 use Rattle.joins.specs.Joining.{yesOf, heldIn}
 use Rattle.joins.specs.Claims.{delegateIn}
 use Rattle.joins.proofs.Claims as joins
+use Rattle.automaton.specs.declared.Rule.{Rule}
 use Rattle.calls.specs.declared.Judge.{Judge}
 use Rattle.calls.specs.Calls.{Call, verdictBy, reportBy}
 use Rattle.calls.specs.Steps.{lacksBoard, isYes, verdictOf, reportOf}
-use Rattle.histories.specs.History.{fileOf, ruleFrom, placesIn, endOf, standing, emptiesIn, summedIn, yesIn, verdictIn, reportIn}
+use Rattle.histories.specs.History.{ruleThere, ruleFrom, placesIn, endOf, standing, emptiesIn, summedIn, yesIn, verdictIn, reportIn}
 use Rattle.histories.proofs.Running.{n-same, merged}
 use Rattle.histories.proofs.Agreement.{Agrees}
 use Rattle.histories.proofs.Numbers.{no-board, places-same, summed-same, bytes-same}
 use Rattle.histories.proofs.Steps.{AgreesWith}
 
-module _ (file : Option (List ℕ)) (places : ℕ) (at : ℕ → Option (List ℕ)) (j : Judge) (holds : Agrees file places at j) where
+module _ (present : Option Rule) (places : ℕ) (at : ℕ → Option (List ℕ)) (j : Judge) (holds : Agrees present places at j) where
   pub empties-same : emptyPlaces (j .board) ≡ total (λ p. cond (isNone (at p)) 1 0) places
   empties-same =
       empty-law (j .board) (λ p. isNone (at p)) (λ p l. holds .empty p (omega (arith, l)))
-      ∙ ap (total (λ p. cond (isNone (at p)) 1 0)) (places-same file places at j holds)
+      ∙ ap (total (λ p. cond (isNone (at p)) 1 0)) (places-same present places at j holds)
 
-yes-same : (f : List ℕ) (places : ℕ) (at : ℕ → Option (List ℕ)) (j : Judge) → Agrees (some f) places at j
+yes-same : (r : Rule) (places : ℕ) (at : ℕ → Option (List ℕ)) (j : Judge) → Agrees (some r) places at j
     → isYes j
-    ≡ yesOf (λ p q. endOf (ruleOf f) p q (at p)) (delegateIn (startsIn (ruleOf f) .delegates)) (ruleOf f .n) (ruleOf f .initials) (ruleOf f .finals) places
-yes-same f places at j holds =
-    let r = ruleOf f in
+    ≡ yesOf (λ p q. endOf r p q (at p)) (delegateIn (startsIn r .delegates)) (r .n) (r .initials) (r .finals) places
+yes-same r places at j holds =
     let d = startsIn r .delegates in
     let states : (q : ℕ) → q < r .n → delegateIn d q < 32 =
     λ q b. omega (arith, merged r (holds .rule .1) (holds .rule .2) .delegates q b .state, holds .rule .1 .states) in
-    rw (places-same (some f) places at j holds, holds .rule .0, n-same r (holds .rule .1) (holds .rule .2))
+    rw (places-same (some r) places at j holds, holds .rule .0, n-same r (holds .rule .1) (holds .rule .2))
     (ap (λ (c : ℕ). shares c (r .finals))
     (joins.claims .join-law (j .board .ends) d (r .n) (r .initials) places (holds .rule .1 .states .1) states
     ∙ joins.claims .join-same (heldIn (j .board .ends)) (λ p q. endOf r p q (at p)) (delegateIn d) (r .n) (r .initials) places
     (λ p q l b. holds .ends p (delegateIn d q) (omega (arith, l, holds .few)) (states q b))))
 
-pub by-rule : (file : Option (List ℕ)) (places : ℕ) (at : ℕ → Option (List ℕ)) (j : Judge) → Agrees file places at j → 0 < places
+pub by-rule : (present : Option Rule) (places : ℕ) (at : ℕ → Option (List ℕ)) (j : Judge) → Agrees present places at j → 0 < places
     → isYes j
-    ≡ yesOf (λ p q. endOf (ruleFrom file) p q (at p)) (delegateIn (startsIn (ruleFrom file) .delegates)) (ruleFrom file .n) (ruleFrom file .initials) (ruleFrom file .finals) places
+    ≡ yesOf (λ p q. endOf (ruleFrom present) p q (at p)) (delegateIn (startsIn (ruleFrom present) .delegates)) (ruleFrom present .n) (ruleFrom present .initials) (ruleFrom present .finals) places
 by-rule none places at j holds h = not-both refl (holds .ruled h)
-by-rule (some f) places at j holds h = yes-same f places at j holds
+by-rule (some r) places at j holds h = yes-same r places at j holds
 
 -- no board on either side, or the same numbers
 pub verdict-says : (h : List Call) (j : Judge) → AgreesWith h j → verdictOf j ≡ verdictIn h
 unfolding verdictOf
 verdict-says h j good =
     let s = standing h in
-    let board = no-board (fileOf h) (placesIn h) s j good in
+    let board = no-board (ruleThere h) (placesIn h) s j good in
     by-test (eqb (placesIn h) 0)
     (λ t. let none-there : lacksBoard j ≡ true = board ∙ t in rw (none-there, t))
     (λ t.
     let some-there : lacksBoard j ≡ false = board ∙ t in
-    let empties : emptyPlaces (j .board) ≡ emptiesIn h = empties-same (fileOf h) (placesIn h) s j good in
-    let joined : isYes j ≡ yesIn h = by-rule (fileOf h) (placesIn h) s j good (positive t) in
-    let sum : summedCount (j .board) ≡ summedIn h = summed-same (fileOf h) (placesIn h) s j good in
+    let empties : emptyPlaces (j .board) ≡ emptiesIn h = empties-same (ruleThere h) (placesIn h) s j good in
+    let joined : isYes j ≡ yesIn h = by-rule (ruleThere h) (placesIn h) s j good (positive t) in
+    let sum : summedCount (j .board) ≡ summedIn h = summed-same (ruleThere h) (placesIn h) s j good in
     ap₄ verdictBy (some-there ∙ sym t) empties joined sum)
   where
     positive : eqb (placesIn h) 0 ≡ false → 0 < placesIn h
@@ -83,4 +82,4 @@ verdict-says h j good =
     ap₄ f p q r s = cc
 
 pub report-says : (h : List Call) (j : Judge) → AgreesWith h j → reportOf j ≡ reportIn h
-report-says h j good = ap₂ reportBy (verdict-says h j good) (bytes-same (fileOf h) (placesIn h) (standing h) j good)
+report-says h j good = ap₂ reportBy (verdict-says h j good) (bytes-same (ruleThere h) (placesIn h) (standing h) j good)

@@ -4,7 +4,7 @@
 -- follow. Yes and no go so: with no place empty, the standing chunks are a list of texts, what the
 -- places hold are their end sets, and the theorem of the join applies to that list. The bounds on
 -- the counts are those of the chunks, of which an empty one counts nothing.
-use mathlib.Core.Path.{_≡_, refl, sym, ap, ap₂, _∙_, subst, subst₂}
+use mathlib.Core.Path.{_≡_, refl, sym, ap, _∙_, subst, subst₂}
 use mathlib.Core.Logic.{_↔_, Iff·trans}
 use mathlib.Core.Bool.{Bool, true, false, cond}
 use mathlib.Core.List.{List, [], _∷_, _++_, flatten, append-assoc, append-nil}
@@ -28,8 +28,6 @@ use Rattle.marks.specs.Marks.{textOf}
 use Rattle.automaton.specs.declared.Rule.{Rule}
 use Rattle.automaton.specs.Automaton.{Accepts, Text}
 use Rattle.automaton.specs.Rules.{automatonOf, WellFormed}
-use Rattle.ruleformat.specs.Reader.{ruleOf}
-use Rattle.ruleformat.proofs.Claims as rulefile
 use Rattle.subsets.specs.Claims.{fits}
 use Rattle.delegates.specs.Claims.{startsIn}
 use Rattle.chunks.specs.Chunks.{counted, endSet, chunkCount}
@@ -39,13 +37,12 @@ use Rattle.joins.specs.Claims as joins-specs
 use Rattle.joins.proofs.Claims as joins
 use Rattle.calls.specs.declared.Judge.{Judge}
 use Rattle.calls.specs.Replies.{Judgement, waiting, yesWith, noWith, refusedWith}
-use Rattle.calls.proofs.Conditions.{not-refused}
-use Rattle.histories.specs.History.{fileOf, ruleFrom, openNumber, boardIn, placesIn, runAt, countOf, endOf, standing, emptiesIn, summedIn, yesIn, standingText, joinedUpTo}
-use Rattle.calls.specs.Calls.{Call, loads, opens, delivers, withdraws, asksVerdict, loadNumber, verdictBy}
-use Rattle.histories.specs.Claims.{automatonBy, VerdictClauses}
+use Rattle.histories.specs.History.{ruleThere, ruleFrom, openNumber, boardIn, placesIn, runAt, countOf, endOf, standing, emptiesIn, summedIn, yesIn, standingText, joinedUpTo}
+use Rattle.calls.specs.Calls.{Call, installs, opens, delivers, withdraws, asksVerdict, installNumber, verdictBy}
+use Rattle.histories.specs.Claims.{VerdictClauses}
 use Rattle.histories.proofs.Running.{merged}
 use Rattle.histories.proofs.Agreement.{Agrees}
-use Rattle.histories.proofs.Steps.{AgreesWith, file-accepted}
+use Rattle.histories.proofs.Steps.{AgreesWith}
 
 -- ---- the verdict by its numbers
 module _ (places empties : ℕ) (yes-there : Bool) (sum : ℕ) where
@@ -256,39 +253,31 @@ module _ (r : Rule) (good : WellFormed r) (fit : fits r) (places : ℕ) (at : �
 
 -- ---- for every list of calls
 module _ (places : ℕ) (at : ℕ → Option (List ℕ)) (j : Judge) where
-  most-by : (file : Option (List ℕ)) → Agrees file places at j
-      → total (λ p. countOf (ruleFrom file) p (at p)) places ≤ startsIn (ruleFrom file) .startcount * length (joinedUpTo at places)
+  most-by : (present : Option Rule) → Agrees present places at j
+      → total (λ p. countOf (ruleFrom present) p (at p)) places ≤ startsIn (ruleFrom present) .startcount * length (joinedUpTo at places)
   unfolding total
   most-by none holds =
       by-test (ltb 0 places)
       (λ l. not-both refl (holds .ruled (ltb-true 0 places l)))
       (λ l. let z : places ≡ 0 = omega (arith, ltb-false 0 places l) in rw z zero-le)
-  most-by (some f) holds =
-      sum-most (ruleOf f) (holds .rule .1) (holds .rule .2) places at
+  most-by (some r) holds =
+      sum-most r (holds .rule .1) (holds .rule .2) places at
 
-  place-by : (file : Option (List ℕ)) → Agrees file places at j → (p : ℕ)
-      → countOf (ruleFrom file) p (at p) ≤ startsIn (ruleFrom file) .startcount * length (standingText (at p))
+  place-by : (present : Option Rule) → Agrees present places at j → (p : ℕ)
+      → countOf (ruleFrom present) p (at p) ≤ startsIn (ruleFrom present) .startcount * length (standingText (at p))
   place-by none holds p =
       let free : places ≤ p = by-test (ltb 0 places)
       (λ l. not-both refl (holds .ruled (ltb-true 0 places l)))
       (λ l. omega (arith, ltb-false 0 places l)) in
       rw (holds .beyond p free) (omega arith)
-  place-by (some f) holds p = place-most (ruleOf f) (holds .rule .1) (holds .rule .2) places at p
+  place-by (some r) holds p = place-most r (holds .rule .1) (holds .rule .2) places at p
 
-  -- the file's automaton and the rule's accept the same texts
-  accepts-by : (file : Option (List ℕ)) → ((f : List ℕ) → file ≡ some f → loadNumber f ≡ none) → Agrees file places at j → 0 < places
+  accepts-by : (present : Option Rule) → Agrees present places at j → 0 < places
       → total (λ p. cond (isNone (at p)) 1 0) places ≡ 0
-      → (yesOf (λ p q. endOf (ruleFrom file) p q (at p)) (delegateIn (startsIn (ruleFrom file) .delegates)) (ruleFrom file .n) (ruleFrom file .initials) (ruleFrom file .finals) places ≡ true)
-      ↔ Accepts (automatonBy file) (joinedUpTo at places)
-  accepts-by none taken holds h z = not-both refl (holds .ruled h)
-  accepts-by (some f) taken holds h z =
-      let same = rulefile.claims .language f (not-refused f (taken f refl) .0) (joinedUpTo at places) in
-      Iff·trans
-      (accepts-law (ruleOf f) (holds .rule .1) (holds .rule .2) places
-      at
-      (holds .texts)
-      z)
-      (same .1, same .0)
+      → (yesOf (λ p q. endOf (ruleFrom present) p q (at p)) (delegateIn (startsIn (ruleFrom present) .delegates)) (ruleFrom present .n) (ruleFrom present .initials) (ruleFrom present .finals) places ≡ true)
+      ↔ Accepts (automatonOf (ruleFrom present)) (joinedUpTo at places)
+  accepts-by none holds h z = not-both refl (holds .ruled h)
+  accepts-by (some r) holds h z = accepts-law r (holds .rule .1) (holds .rule .2) places at (holds .texts) z
 
 -- a board is there exactly where it has places
 opened-places : (n : ℕ) → outside 1 64 n ≡ false → 0 < n
@@ -297,7 +286,7 @@ opened-places n e = ltb-false n 1 (or-left (ltb n 1) (ltb 64 n) e)
 board-law : (h : List Call) → boardIn h ≡ ltb 0 (placesIn h)
 unfolding boardIn placesIn
 board-law [] = refl
-board-law (loads f ∷ h) = by-test (isNone (loadNumber f)) (λ e. rw e) (λ e. rw e (board-law h))
+board-law (installs r ∷ h) = by-test (isNone (installNumber r)) (λ e. rw e) (λ e. rw e (board-law h))
 board-law (opens n ∷ h) =
     by-test (isNone (openNumber h n))
     (λ e. rw e (sym (lt-ltb 0 n (opened-places n (accepted-opening (openNumber h n) refl e)))))
@@ -305,7 +294,7 @@ board-law (opens n ∷ h) =
   where
     accepted-opening : (o : Option ℕ) → openNumber h n ≡ o → isNone o ≡ true → outside 1 64 n ≡ false
     accepted-opening none z t =
-        let a = passed 20 (isNone (fileOf h)) (cond (outside 1 64 n) (some 10) none) z in
+        let a = passed 20 (isNone (ruleThere h)) (cond (outside 1 64 n) (some 10) none) z in
         passed 10 (outside 1 64 n) none (a .1) .0
     accepted-opening (some x) z t = zero-one cc
 board-law (delivers p w ∷ h) = board-law h
@@ -334,12 +323,12 @@ words h j good =
       );
       counted = yes-count (placesIn h) (emptiesIn h) (yesIn h) (summedIn h);
       counted-no = no-count (placesIn h) (emptiesIn h) (yesIn h) (summedIn h);
-      most = most-by (placesIn h) s j (fileOf h) good;
-      place-most = place-by (placesIn h) s j (fileOf h) good;
+      most = most-by (placesIn h) s j (ruleThere h) good;
+      place-most = place-by (placesIn h) s j (ruleThere h) good;
       accepts = λ b e.
-          Iff·trans (yes-law (placesIn h) (emptiesIn h) (yesIn h) (summedIn h) (there h b) e) (accepts-by (placesIn h) s j (fileOf h) (file-accepted h) good (there h b) e);
+          Iff·trans (yes-law (placesIn h) (emptiesIn h) (yesIn h) (summedIn h) (there h b) e) (accepts-by (placesIn h) s j (ruleThere h) good (there h b) e);
       rejects = λ b e.
           Iff·trans (no-law (placesIn h) (emptiesIn h) (yesIn h) (summedIn h) (there h b) e)
-          (not-true-false (yesIn h) (accepts-by (placesIn h) s j (fileOf h) (file-accepted h) good (there h b) e));
+          (not-true-false (yesIn h) (accepts-by (placesIn h) s j (ruleThere h) good (there h b) e));
       joins = λ b e. yes-law (placesIn h) (emptiesIn h) (yesIn h) (summedIn h) (there h b) e;
     }

@@ -4,8 +4,9 @@
 --
 --   judgeAfter h        the judge that the calls h leave, from a fresh one
 --   repliesTo h         the replies to them
---   BuiltBy file j      the rule of the file, if there is one, is built in j; no rule is zeros
---   automatonBy file    the automaton of the file
+--   BuiltBy present j   the rule that is there, if there is one, is built in j; no rule is zeros
+--   loadAfter h f       the outcome of a load of the file f after the calls h
+--   LoadClauses h f     what a load is (document 02, R-3)
 --   Invariant h j       what holds of the state j after the calls h
 --   VerdictClauses      the words of demand 3 for the verdict asked after h
 --   ReportClauses       what is reported with it (document 02, R-1)
@@ -15,29 +16,32 @@
 use mathlib.Core.Path.{_≡_}
 use mathlib.Core.Logic.{_↔_, _⊎_}
 use mathlib.Core.Bool.{true, false}
-use mathlib.Core.List.{List}
+use mathlib.Core.List.{List, _++_}
 use mathlib.Core.Option.{Option, none, some}
 use Prim.Native.Nat.{ℕ, _*_, _≤_, _<_}
 use lib.ListN.{length, getD, take}
 use Rattle.limits.specs.Limits.{mostStates, mostPlaces}
+use Rattle.base.specs.Conditions.{NoneHolds, FirstHolds}
 use Rattle.base.specs.Options.{isNone}
 use Rattle.executions.specs.Executions.{Machine, stateAfter, repliesTo as machineReplies}
 use Rattle.marks.specs.Marks.{textOf}
-use Rattle.automaton.specs.Automaton.{Automaton, Accepts}
+use Rattle.automaton.specs.declared.Rule.{Rule}
+use Rattle.automaton.specs.Automaton.{Accepts, Equivalent}
 use Rattle.automaton.specs.Rules.{automatonOf, WellFormed}
-use Rattle.ruleformat.specs.Reader.{ruleOf, noRule}
+use Rattle.ruleformat.specs.Refusals.{fileConditions}
+use Rattle.ruleformat.specs.Reader.{ruleOf}
 use Rattle.ruleformat.specs.Language.{automatonIn}
 use Rattle.subsets.specs.Claims.{fits}
 use Rattle.delegates.specs.Claims.{startsIn}
 use Rattle.build.specs.Building.{builtOf, noBuilt}
 use Rattle.board.specs.Boards.{held, isEmpty, summedCount, summedBytes}
 use Rattle.calls.specs.declared.Judge.{Judge}
-use Rattle.calls.specs.Replies.{Reply, waiting, yesWith, noWith, refusedWith, delivered}
-use Rattle.histories.specs.History.{fileOf, ruleIn, boardIn, placesIn, standing, endAt, countAt, lengthAt, emptiesIn, summedIn, bytesIn, yesIn, standingText, textIn, verdictIn, reportIn, answersTo, runAt, answerOf}
-use Rattle.histories.specs.Method.{Method}
+use Rattle.calls.specs.Replies.{Reply, waiting, yesWith, noWith, refusedWith, refused, delivered}
+use Rattle.histories.specs.History.{ruleThere, ruleIn, withSets, loading, loadReply, boardIn, placesIn, standing, endAt, countAt, lengthAt, emptiesIn, summedIn, bytesIn, yesIn, standingText, textIn, verdictIn, reportIn, answersTo, runAt, answerOf}
+use Rattle.histories.specs.Method.{TooMany, Method}
 use Rattle.histories.specs.Conditions.{Accepted-exactly, Refused-exactly}
-use Rattle.calls.specs.Calls.{Call, loadNumber, delivers}
-use Rattle.calls.specs.Steps.{fresh, isYes, verdictOf, reportOf, stepOf}
+use Rattle.calls.specs.Calls.{Call, installNumber, loadNumber, delivers}
+use Rattle.calls.specs.Steps.{Outcome, fresh, isYes, verdictOf, reportOf, stepOf, loadOf}
 use Rattle.calls.specs.Claims.{Divided, ThreeZeros}
 use Rattle.chunks.specs.Claims.{AllEmpty}
 
@@ -51,19 +55,14 @@ judgeAfter h = stateAfter judgeMachine h
 abbrev pub repliesTo : List Call → List Reply
 repliesTo h = machineReplies judgeMachine h
 
-abbrev pub BuiltBy : Option (List ℕ) → Judge → Type 0
+abbrev pub BuiltBy : Option Rule → Judge → Type 0
 BuiltBy none j = j .built ≡ noBuilt
-BuiltBy (some f) j = (j .built ≡ builtOf (ruleOf f)) × WellFormed (ruleOf f) × fits (ruleOf f)
-
--- the automaton of the file, stated from its bytes
-abbrev pub automatonBy : Option (List ℕ) → Automaton
-automatonBy none = automatonOf noRule
-automatonBy (some f) = automatonIn f
+BuiltBy (some r) j = (j .built ≡ builtOf r) × WellFormed r × fits r
 
 -- the state: the rule that is there is built, and each place holds the end sets, the count and the
 -- length of its standing chunk's text, or nothing
 pub record Invariant (h : List Call) (j : Judge) : Type 0 where
-  pub rule : BuiltBy (fileOf h) j
+  pub rule : BuiltBy (ruleThere h) j
   pub places : j .board .places ≡ placesIn h
   pub empty : (p : ℕ) → p < mostPlaces → isEmpty (j .board) p ≡ isNone (standing h p)
   pub ends : (p q : ℕ) → p < mostPlaces → q < mostStates → held (j .board) p q ≡ endAt h p q
@@ -82,16 +81,16 @@ pub record Invariant (h : List Call) (j : Judge) : Type 0 where
 pub record VerdictClauses (h : List Call) : Type 0 where
   -- a board is there exactly when it has places
   pub board : (boardIn h ≡ true) ↔ (0 < placesIn h)
-  -- refused with 21 unless the last accepted load or opening is an opening
+  -- refused with 21 unless the last accepted installation or opening is an opening
   pub none-there : (verdictIn h ≡ refusedWith 21) ↔ (boardIn h ≡ false)
   -- waiting with the number of empty places exactly when one is empty
   pub waits : (e : ℕ) → (verdictIn h ≡ waiting e) ↔ ((boardIn h ≡ true) × (0 < e) × (e ≡ emptiesIn h))
   -- else yes exactly when the last accepted rule has an accepting run over the standing chunks
   -- without their idle marks, joined by place, and no when it has none
   pub accepts : boardIn h ≡ true → emptiesIn h ≡ 0
-      → (verdictIn h ≡ yesWith (summedIn h)) ↔ Accepts (automatonBy (fileOf h)) (textIn h)
+      → (verdictIn h ≡ yesWith (summedIn h)) ↔ Accepts (automatonOf (ruleIn h)) (textIn h)
   pub rejects : boardIn h ≡ true → emptiesIn h ≡ 0
-      → (verdictIn h ≡ noWith (summedIn h)) ↔ (Accepts (automatonBy (fileOf h)) (textIn h) → ⊥)
+      → (verdictIn h ≡ noWith (summedIn h)) ↔ (Accepts (automatonOf (ruleIn h)) (textIn h) → ⊥)
   -- the yes or no is the join of the end sets
   pub joins : boardIn h ≡ true → emptiesIn h ≡ 0 → (verdictIn h ≡ yesWith (summedIn h)) ↔ (yesIn h ≡ true)
   -- the count is the sum over the places, and at most M times the bytes of the text
@@ -120,13 +119,36 @@ pub record LookedUp (h : List Call) (p : ℕ) (w : List ℕ) (n : ℕ) : Type 0 
   pub all-empty : n < length w → AllEmpty (ruleIn h .targets) (runAt (ruleIn h) p) (take n w)
   pub least : (i : ℕ) → i < n → AllEmpty (ruleIn h .targets) (runAt (ruleIn h) p) (take i w) → ⊥
 
+-- R-3: a load of a file made after the calls h
+abbrev pub loadAfter : List Call → List ℕ → Outcome
+loadAfter h f = loadOf (judgeAfter h) f
+
+pub record LoadClauses (h : List Call) (f : List ℕ) : Type 0 where
+  -- it answers as document 01 says, with the numbers 1 to 9 in one order
+  pub reply : loadAfter h f .reply ≡ loadReply f
+  -- it leaves what the calls leave that it makes: the installation of the rule in the file, or none
+  -- where reading refuses the file
+  pub state : loadAfter h f .state ≡ judgeAfter (loading f ++ h)
+  -- and where it is accepted that rule is there, which accepts the texts that the automaton in the
+  -- file's bytes accepts, and is built by that automaton
+  pub rule : loadNumber f ≡ none → ruleThere (loading f ++ h) ≡ some (ruleOf f)
+  pub language : loadNumber f ≡ none → Equivalent (automatonIn f) (automatonOf (ruleOf f))
+  pub method : loadNumber f ≡ none → Method (automatonIn f) (builtOf (ruleOf f))
+  -- it is accepted exactly when none of the conditions 1 to 8 holds of the file and no more than
+  -- 512 sets are reached in the automaton in its bytes
+  pub accepted : (loadReply f ≡ withSets (ruleOf f)) ↔ (NoneHolds (fileConditions f) × (TooMany (automatonIn f) → ⊥))
+  -- and refused with 1 to 8 by the file, in order; with 9 when it passes them and more than 512
+  -- sets are reached
+  pub refused-by-file : (x : ℕ) → x ≤ 8 → (loadReply f ≡ refused x) ↔ FirstHolds x (fileConditions f)
+  pub refused-9 : (loadReply f ≡ refused 9) ↔ (NoneHolds (fileConditions f) × TooMany (automatonIn f))
+
 -- ONE CLAIM over a list of calls h
 pub record EveryList (h : List Call) : Type 0 where
   -- each reply is document 01's answer after the calls before it
   pub correct : repliesTo h ≡ answersTo h
-  -- the sets, the table, the delegates and the M by which they go are, of each file that a load
-  -- accepts, those of the automaton in its bytes
-  pub method : (f : List ℕ) → loadNumber f ≡ none → Method f (builtOf (ruleOf f))
+  -- the sets, the table, the delegates and the M by which they go are, of each rule that an
+  -- installation accepts, those of its automaton
+  pub method : (r : Rule) → installNumber r ≡ none → Method (automatonOf r) (builtOf r)
   -- a call is accepted exactly when none of its conditions holds, and refused with a number exactly
   -- when that one is the first that holds (the verdict's 21 is in `VerdictClauses`)
   pub accepted-exactly : Accepted-exactly h
@@ -136,3 +158,5 @@ pub record EveryList (h : List Call) : Type 0 where
   pub after : Invariant h (judgeAfter h)
   pub verdict : VerdictClauses h
   pub report : ReportClauses h
+  -- a file may be loaded at any time
+  pub loads : (f : List ℕ) → LoadClauses h f

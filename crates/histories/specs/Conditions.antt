@@ -6,29 +6,28 @@ use mathlib.Core.Logic.{_↔_, _⊎_}
 use mathlib.Core.Bool.{true, false}
 use mathlib.Core.List.{List}
 use mathlib.Core.Option.{none}
-use Prim.Native.Nat.{ℕ, _≤_, _<_}
+use Prim.Native.Nat.{ℕ, _^_, _≤_, _<_}
 use lib.ListN.{length}
-use Rattle.base.specs.Conditions.{NoneHolds, FirstHolds}
-use Rattle.limits.specs.Limits.{mostPlaces, longestChunk}
+use Rattle.limits.specs.Limits.{mostStates, mostSymbols, mostPlaces, longestChunk}
 use Rattle.marks.specs.Marks.{textOf}
-use Rattle.ruleformat.specs.Refusals.{fileConditions}
-use Rattle.ruleformat.specs.Reader.{ruleOf}
-use Rattle.ruleformat.specs.Language.{automatonIn}
+use Rattle.automaton.specs.declared.Rule.{Rule}
+use Rattle.automaton.specs.Rules.{automatonOf, WellFormed}
+use Rattle.rulecheck.specs.Claims.{Stray, StatesIn, SymbolsIn, MasksIn}
 use Rattle.build.specs.Building.{builtOf}
 use Rattle.chunks.specs.Chunks.{foreign}
-use Rattle.calls.specs.Replies.{accepted, loaded, delivered, refused}
-use Rattle.calls.specs.Calls.{Call, loads, opens, delivers, withdraws}
-use Rattle.histories.specs.History.{fileOf, ruleIn, placesIn, lookedOf, standing, answerOf}
+use Rattle.calls.specs.Replies.{accepted, installed, delivered, refused}
+use Rattle.calls.specs.Calls.{Call, installs, opens, delivers, withdraws}
+use Rattle.histories.specs.History.{ruleThere, ruleIn, placesIn, lookedOf, standing, answerOf}
 use Rattle.histories.specs.Method.{TooMany}
 
 pub record Accepted-exactly (h : List Call) : Type 0 where
-  -- none of the conditions 1 to 8 holds of the file, and no more than 512 sets are reached in its
-  -- automaton; it is answered with the number of sets and the M of the built rule, which `Method`
-  -- of specs/Method.antt ties to that automaton
-  pub loading : (f : List ℕ)
-      → (answerOf h (loads f) ≡ loaded (builtOf (ruleOf f) .setcount) (builtOf (ruleOf f) .startcount)) ↔ (NoneHolds (fileConditions f) × (TooMany (automatonIn f) → ⊥))
+  -- the rule is well formed, and no more than 512 sets are reached in its automaton; it is answered
+  -- with the number of sets and the M of the built rule, which `Method` of specs/Method.antt ties to
+  -- that automaton
+  pub installation : (r : Rule)
+      → (answerOf h (installs r) ≡ installed (builtOf r .setcount) (builtOf r .startcount)) ↔ (WellFormed r × (TooMany (automatonOf r) → ⊥))
   -- a rule is there, and 1 to 64 places are asked for
-  pub opening : (n : ℕ) → (answerOf h (opens n) ≡ accepted) ↔ ((fileOf h ≡ none → ⊥) × (1 ≤ n) × (n ≤ mostPlaces))
+  pub opening : (n : ℕ) → (answerOf h (opens n) ≡ accepted) ↔ ((ruleThere h ≡ none → ⊥) × (1 ≤ n) × (n ≤ mostPlaces))
   -- a board is there with that place, the chunk is within the limit and its text, which is without
   -- its idle marks, within the alphabet, and the place is empty; it is answered for how many bytes
   -- a successor is looked up, which `LookedUp` of specs/Claims.antt says in document 02's words
@@ -40,12 +39,18 @@ pub record Accepted-exactly (h : List Call) : Type 0 where
   pub withdrawal : (p : ℕ) → (answerOf h (withdraws p) ≡ accepted) ↔ ((0 < placesIn h) × (p < placesIn h) × (standing h p ≡ none → ⊥))
 
 pub record Refused-exactly (h : List Call) : Type 0 where
-  -- 1 to 8 by the file, in order; 9 when it passes them and more than 512 sets are reached
-  pub load-file : (f : List ℕ) (x : ℕ) → x ≤ 8 → (answerOf h (loads f) ≡ refused x) ↔ FirstHolds x (fileConditions f)
-  pub load-9 : (f : List ℕ) → (answerOf h (loads f) ≡ refused 9) ↔ (NoneHolds (fileConditions f) × TooMany (automatonIn f))
+  -- n outside 1 to 32; else k outside 1 to 16; else a mask with a bit at n or above; else a target
+  -- mask with such a bit, or one kept for a state or symbol outside n or k that is not 0; 9 when
+  -- the rule is well formed and more than 512 sets are reached
+  pub install-3 : (r : Rule) → (answerOf h (installs r) ≡ refused 3) ↔ ((r .n < 1) ⊎ (mostStates < r .n))
+  pub install-4 : (r : Rule) → (answerOf h (installs r) ≡ refused 4) ↔ (StatesIn r × ((r .k < 1) ⊎ (mostSymbols < r .k)))
+  pub install-6 : (r : Rule)
+      → (answerOf h (installs r) ≡ refused 6) ↔ (StatesIn r × SymbolsIn r × ((2 ^ r .n ≤ r .initials) ⊎ (2 ^ r .n ≤ r .finals)))
+  pub install-8 : (r : Rule) → (answerOf h (installs r) ≡ refused 8) ↔ (StatesIn r × SymbolsIn r × MasksIn r × Stray r)
+  pub install-9 : (r : Rule) → (answerOf h (installs r) ≡ refused 9) ↔ (WellFormed r × TooMany (automatonOf r))
   -- no rule; with a rule, no number of places from 1 to 64
-  pub open-20 : (n : ℕ) → (answerOf h (opens n) ≡ refused 20) ↔ (fileOf h ≡ none)
-  pub open-10 : (n : ℕ) → (answerOf h (opens n) ≡ refused 10) ↔ ((fileOf h ≡ none → ⊥) × ((n < 1) ⊎ (mostPlaces < n)))
+  pub open-20 : (n : ℕ) → (answerOf h (opens n) ≡ refused 20) ↔ (ruleThere h ≡ none)
+  pub open-10 : (n : ℕ) → (answerOf h (opens n) ≡ refused 10) ↔ ((ruleThere h ≡ none → ⊥) × ((n < 1) ⊎ (mostPlaces < n)))
   -- no board; no such place; too long a chunk; a foreign byte; the place is filled
   pub deliver-21 : (p : ℕ) (w : List ℕ) → (answerOf h (delivers p w) ≡ refused 21) ↔ (placesIn h ≡ 0)
   pub deliver-11 : (p : ℕ) (w : List ℕ) → (answerOf h (delivers p w) ≡ refused 11) ↔ ((0 < placesIn h) × (placesIn h ≤ p))

@@ -2,8 +2,10 @@
 -- (`Reads.Learnt`): any result that a function's contract does not rule out. `judgeLibrary` is what
 -- a customer's program gets that calls these functions.
 --
---   MayBegin .. MayJudge   what `new_judge`, `load`, `open`, `deliver`, `withdraw` and
---                          `ask_verdict` may return for their arguments
+--   MayBegin .. MayJudge   what `new_judge`, `install`, `open`, `deliver`, `withdraw` and
+--                          `ask_verdict` may return for their arguments; and `load`, which is no
+--                          call
+--   AsksLoad j f           what `load` asks before it is called
 --   AsksStep j c           what the function of the call c asks before it is called on the judge j
 --   MayStep j c a next     on the judge j the call c may be answered with a, in document 01's
 --                          numbers and values, and leave the judge next
@@ -15,17 +17,20 @@ use denote.Ref.{RefT, now}
 use denote.Triple.Clauses.{AtExit}
 use borrow.Fn.Kinds.{endedOf}
 use Rattle.executions.specs.Executions.{Library}
+use Rattle.automaton.specs.declared.Rule.{Rule}
 use Rattle.calls.specs.declared.Judge.{Judge}
-use Rattle.calls.specs.declared.LoadResult.{LoadResult}
+use Rattle.calls.specs.declared.InstallResult.{InstallResult}
 use Rattle.calls.specs.declared.OpenResult.{OpenResult}
 use Rattle.calls.specs.declared.DeliverResult.{DeliverResult}
 use Rattle.calls.specs.declared.WithdrawResult.{WithdrawResult}
 use Rattle.calls.specs.declared.Report.{Report}
 use Rattle.calls.specs.Replies.{Reply, judged, reportMeans}
-use Rattle.calls.specs.Calls.{Call, loads, opens, delivers, withdraws, asksVerdict}
-use Rattle.calls.specs.Steps.{Outcome, loadOutcome, openOutcome, deliverOutcome, withdrawOutcome}
+use Rattle.calls.specs.Calls.{Call, installs, opens, delivers, withdraws, asksVerdict}
+use Rattle.calls.specs.Steps.{installOutcome, openOutcome, deliverOutcome, withdrawOutcome}
 use Rattle.judge.proofs.new_judge.Reads as new-reads
 use Rattle.judge.proofs.new_judge.Kinds as new-kinds
+use Rattle.judge.proofs.install.Reads as install-reads
+use Rattle.judge.proofs.install.Kinds as install-kinds
 use Rattle.judge.proofs.load.Reads as load-reads
 use Rattle.judge.proofs.load.Kinds as load-kinds
 use Rattle.judge.proofs.open.Reads as open-reads
@@ -40,8 +45,11 @@ use Rattle.judge.proofs.ask_verdict.Kinds as verdict-kinds
 abbrev pub MayBegin : Judge → Type 0
 MayBegin j = (s : AtExit (endedOf 0 new-kinds.ps new-kinds.r) tt) × new-reads.Learnt tt tt j s
 
+abbrev pub MayInstall : Judge → Rule → InstallResult → Type 0
+MayInstall j rule r = (s : AtExit (endedOf 0 install-kinds.ps install-kinds.r) tt) × install-reads.Learnt tt (j, (rule, tt)) r s
+
 -- a file and a chunk are lent, as a reference to their bytes
-abbrev pub MayLoad : Judge → List ℕ → LoadResult → Type 0
+abbrev pub MayLoad : Judge → List ℕ → InstallResult → Type 0
 MayLoad j f r =
     (κs : Lfts 1) × (c : RefT (List ℕ)) × (s : AtExit (endedOf 1 load-kinds.ps load-kinds.r) κs) × (now c ≡ f) × load-reads.Learnt κs (j, (c, tt)) r s
 
@@ -61,14 +69,17 @@ MayJudge j r = (s : AtExit (endedOf 0 verdict-kinds.ps verdict-kinds.r) tt) × v
 
 -- what each asks before it is called
 abbrev pub AsksStep : Judge → Call → Type 0
-AsksStep j (loads f) = (κs : Lfts 1) (c : RefT (List ℕ)) → now c ≡ f → load-reads.Asked κs (j, (c, tt))
+AsksStep j (installs rule) = install-reads.Asked tt (j, (rule, tt))
 AsksStep j (opens n) = open-reads.Asked tt (j, (n, tt))
 AsksStep j (delivers p w) = (κs : Lfts 1) (c : RefT (List ℕ)) → now c ≡ w → deliver-reads.Asked κs (j, (p, (c, tt)))
 AsksStep j (withdraws p) = withdraw-reads.Asked tt (j, (p, tt))
 AsksStep j asksVerdict = verdict-reads.Asked tt (j, tt)
 
+abbrev pub AsksLoad : Judge → List ℕ → Type 0
+AsksLoad j f = (κs : Lfts 1) (c : RefT (List ℕ)) → now c ≡ f → load-reads.Asked κs (j, (c, tt))
+
 abbrev pub MayStep : Judge → Call → Reply → Judge → Type 0
-MayStep j (loads f) a next = (r : LoadResult) × MayLoad j f r × (record { reply = a; state = next } ≡ loadOutcome r)
+MayStep j (installs rule) a next = (r : InstallResult) × MayInstall j rule r × (record { reply = a; state = next } ≡ installOutcome r)
 MayStep j (opens n) a next = (r : OpenResult) × MayOpen j n r × (record { reply = a; state = next } ≡ openOutcome r)
 MayStep j (delivers p w) a next = (r : DeliverResult) × MayDeliver j p w r × (record { reply = a; state = next } ≡ deliverOutcome r)
 MayStep j (withdraws p) a next = (r : WithdrawResult) × MayWithdraw j p r × (record { reply = a; state = next } ≡ withdrawOutcome r)

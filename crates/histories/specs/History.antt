@@ -1,10 +1,11 @@
 -- Lists of calls, and what such a list says by itself (document 01, "The board and its calls"). A
 -- history has the LAST call first. Nothing here looks at a state.
 --
---   fileOf h, ruleIn h       the file of the last accepted load, and its rule
+--   ruleThere h, ruleIn h    the rule of the last accepted installation, if there is one; and it,
+--                            or zeros
 --   openNumber h n           the number with which an opening is refused: 20, 10
---   boardIn h                a board is there: the last accepted call among loads and openings is
---                            an opening
+--   boardIn h                a board is there: the last accepted call among installations and
+--                            openings is an opening
 --   placesIn h               its places; 0 where no board is there
 --   standing h p             the standing chunk at place p, or none
 --   endAt h p q, countAt h p, lengthAt h p   what place p holds: the end set of state q, the count,
@@ -25,6 +26,9 @@
 --   replyBy number a         refused with the number, or a where there is none
 --   answerOf h c             what document 01 answers to the call c after the calls h
 --   answersTo h              its answers to all calls of the list
+--   loading f                the calls that a load of the file f makes: its rule is installed, or
+--                            none where reading refuses it
+--   loadReply f              what document 01 answers to a load of the file f
 use mathlib.Core.Bool.{Bool, true, false, cond, _&&_}
 use mathlib.Core.List.{List, [], _∷_}
 use mathlib.Core.Option.{Option, none, some}
@@ -37,38 +41,39 @@ use Rattle.base.specs.Options.{isNone, isSome}
 use Rattle.base.specs.Totals.{total}
 use Rattle.marks.specs.Marks.{textOf}
 use Rattle.automaton.specs.declared.Rule.{Rule}
+use Rattle.ruleformat.specs.Refusals.{refusal}
 use Rattle.ruleformat.specs.Reader.{ruleOf, noRule}
 use Rattle.subsets.specs.Sets.{setsOf}
 use Rattle.delegates.specs.Claims.{startsIn}
 use Rattle.chunks.specs.Chunks.{runSet, endSet, chunkCount, looked}
 use Rattle.joins.specs.Joining.{yesOf}
 use Rattle.joins.specs.Claims.{delegateIn}
-use Rattle.calls.specs.Replies.{Judgement, Reported, Reply, accepted, loaded, judged, refused, delivered}
-use Rattle.calls.specs.Calls.{Call, loads, opens, delivers, withdraws, asksVerdict, loadNumber, openConditions, deliverConditions, withdrawConditions, verdictBy, reportBy}
+use Rattle.calls.specs.Replies.{Judgement, Reported, Reply, accepted, installed, judged, refused, delivered}
+use Rattle.calls.specs.Calls.{Call, installs, opens, delivers, withdraws, asksVerdict, installNumber, loadNumber, openConditions, deliverConditions, withdrawConditions, verdictBy, reportBy}
 
 -- ---- which rule is there
-unfoldable pub fileOf : List Call → Option (List ℕ)
-fileOf [] = none
-fileOf (loads f ∷ h) = cond (isNone (loadNumber f)) (some f) (fileOf h)
-fileOf (opens n ∷ h) = fileOf h
-fileOf (delivers p w ∷ h) = fileOf h
-fileOf (withdraws p ∷ h) = fileOf h
-fileOf (asksVerdict ∷ h) = fileOf h
+unfoldable pub ruleThere : List Call → Option Rule
+ruleThere [] = none
+ruleThere (installs r ∷ h) = cond (isNone (installNumber r)) (some r) (ruleThere h)
+ruleThere (opens n ∷ h) = ruleThere h
+ruleThere (delivers p w ∷ h) = ruleThere h
+ruleThere (withdraws p ∷ h) = ruleThere h
+ruleThere (asksVerdict ∷ h) = ruleThere h
 
-abbrev pub ruleFrom : Option (List ℕ) → Rule
+abbrev pub ruleFrom : Option Rule → Rule
 ruleFrom none = noRule
-ruleFrom (some f) = ruleOf f
+ruleFrom (some r) = r
 
 abbrev pub ruleIn : List Call → Rule
-ruleIn h = ruleFrom (fileOf h)
+ruleIn h = ruleFrom (ruleThere h)
 
 -- ---- which board is there
 abbrev pub openNumber : List Call → ℕ → Option ℕ
-openNumber h n = firstOf (openConditions (isNone (fileOf h)) n)
+openNumber h n = firstOf (openConditions (isNone (ruleThere h)) n)
 
 unfoldable pub boardIn : List Call → Bool
 boardIn [] = false
-boardIn (loads f ∷ h) = cond (isNone (loadNumber f)) false (boardIn h)
+boardIn (installs r ∷ h) = cond (isNone (installNumber r)) false (boardIn h)
 boardIn (opens n ∷ h) = cond (isNone (openNumber h n)) true (boardIn h)
 boardIn (delivers p w ∷ h) = boardIn h
 boardIn (withdraws p ∷ h) = boardIn h
@@ -76,7 +81,7 @@ boardIn (asksVerdict ∷ h) = boardIn h
 
 unfoldable pub placesIn : List Call → ℕ
 placesIn [] = 0
-placesIn (loads f ∷ h) = cond (isNone (loadNumber f)) 0 (placesIn h)
+placesIn (installs r ∷ h) = cond (isNone (installNumber r)) 0 (placesIn h)
 placesIn (opens n ∷ h) = cond (isNone (openNumber h n)) n (placesIn h)
 placesIn (delivers p w ∷ h) = placesIn h
 placesIn (withdraws p ∷ h) = placesIn h
@@ -91,7 +96,7 @@ withdrawCheck places at-p p = firstOf (withdrawConditions (eqb places 0) places 
 
 unfoldable pub standing : List Call → ℕ → Option (List ℕ)
 standing [] p = none
-standing (loads f ∷ h) p = cond (isNone (loadNumber f)) none (standing h p)
+standing (installs r ∷ h) p = cond (isNone (installNumber r)) none (standing h p)
 standing (opens n ∷ h) p = cond (isNone (openNumber h n)) none (standing h p)
 standing (delivers q w ∷ h) p = cond (eqb q p && isNone (deliverCheck (ruleIn h .k) (placesIn h) (standing h q) q w)) (some w) (standing h p)
 standing (withdraws q ∷ h) p = cond (eqb q p && isNone (withdrawCheck (placesIn h) (standing h q) q)) none (standing h p)
@@ -174,8 +179,12 @@ abbrev pub replyBy : Option ℕ → Reply → Reply
 replyBy none a = a
 replyBy (some number) a = refused number
 
+-- a rule that is installed: the number of its sets, and M
+abbrev pub withSets : Rule → Reply
+withSets r = installed (length (setsOf (r .targets) (r .n) (r .k))) (startsIn r .startcount)
+
 abbrev pub answerOf : List Call → Call → Reply
-answerOf h (loads f) = replyBy (loadNumber f) (loaded (length (setsOf (ruleOf f .targets) (ruleOf f .n) (ruleOf f .k))) (startsIn (ruleOf f) .startcount))
+answerOf h (installs r) = replyBy (installNumber r) (withSets r)
 answerOf h (opens n) = replyBy (openNumber h n) accepted
 answerOf h (delivers p w) = replyBy (deliverNumber h p w) (delivered (lookedOf (ruleIn h) p w))
 answerOf h (withdraws p) = replyBy (withdrawNumber h p) accepted
@@ -185,3 +194,11 @@ answerOf h asksVerdict = judged (reportIn h)
 unfoldable pub answersTo : List Call → List Reply
 answersTo [] = []
 answersTo (c ∷ h) = answerOf h c ∷ answersTo h
+
+-- ---- a load, which is no call: a file that reading refuses leaves all as it is
+abbrev pub loading : List ℕ → List Call
+loading f = cond (isNone (refusal f)) (installs (ruleOf f) ∷ []) []
+
+-- document 01's numbers 1 to 9, in one order
+abbrev pub loadReply : List ℕ → Reply
+loadReply f = replyBy (loadNumber f) (withSets (ruleOf f))

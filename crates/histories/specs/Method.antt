@@ -1,5 +1,6 @@
--- Demand 2 from the bytes of a file that a load accepts: what the built rule has is what documents
--- 000 and 004 give to the automaton that the bytes state. proofs/Method.antt proves it.
+-- Demand 2 of a rule that an installation accepts: what the built rule has is what documents 000
+-- and 004 give to the rule's automaton and, of a file that a load accepts, to the automaton that its
+-- bytes state. proofs/Method.antt proves both.
 --
 --   Leads a q w m   m is the set of the states to which a run over the text w leads from the state
 --                   q
@@ -9,8 +10,8 @@
 --   Origin, InOrder the first state and, from it, the first text that lead to a set; sets are
 --   numbered in the order of these
 --   TooMany a       more than 512 sets are reached: 513 distinct ones, none of them empty
---   Method f b      the sets, the next-set table, the delegates and M of b are those of the
---                   automaton in the bytes f
+--   Method a b      the sets, the next-set table, the delegates and M of b are those of the
+--                   automaton a
 use mathlib.Core.Path.{_≡_}
 use mathlib.Core.Logic.{_↔_, _⊎_}
 use mathlib.Core.List.{List}
@@ -19,7 +20,6 @@ use lib.ListN.{length, getD}
 use Rattle.limits.specs.Limits.{mostSymbols, mostSets, emptySet}
 use Rattle.masks.specs.Masks.{_∈_}
 use Rattle.automaton.specs.Automaton.{Automaton, Arc, Run}
-use Rattle.ruleformat.specs.Language.{automatonIn}
 use Rattle.numbering.specs.Texts.{Sooner, NoLater}
 use Rattle.numbering.specs.Claims.{Distinct}
 use Rattle.delegates.specs.Alike.{Merged}
@@ -61,17 +61,17 @@ TooMany a =
     (l : List ℕ) × (length l ≡ mostSets + 1) × Distinct l
     × ((i : ℕ) → i < mostSets + 1 → (getD l i 0 ≡ 0 → ⊥) × (q : ℕ) × (q < a .n) × (w : List ℕ) × Leads a q w (getD l i 0))
 
-pub record Method (f : List ℕ) (b : Built) : Type 0 where
+pub record Method (a : Automaton) (b : Built) : Type 0 where
   -- a set has a number exactly when it is not empty and some state and text lead to it, and then it
   -- has one number
-  pub sets : (m : ℕ) → numberedIn b m ↔ (m ≡ 0 → ⊥) × (q : ℕ) × (q < automatonIn f .n) × (w : List ℕ) × Leads (automatonIn f) q w m
+  pub sets : (m : ℕ) → numberedIn b m ↔ (m ≡ 0 → ⊥) × (q : ℕ) × (q < a .n) × (w : List ℕ) × Leads a q w m
   pub once : (i j : ℕ) → i < b .setcount → j < b .setcount → setAt b i ≡ setAt b j → i ≡ j
   -- sets are numbered in the order of their first states, and then of their first texts from these
-  pub order : InOrder (automatonIn f) b
+  pub order : InOrder a b
   -- a cell of the table is the number of the set to which the arcs by its symbol lead, or 512 where
   -- they lead nowhere
-  pub table : (i s : ℕ) → i < b .setcount → s < automatonIn f .k
-      → ((nextAt b i s < b .setcount) × Moves (automatonIn f) (setAt b i) s (setAt b (nextAt b i s))) ⊎ ((nextAt b i s ≡ emptySet) × Moves (automatonIn f) (setAt b i) s 0)
+  pub table : (i s : ℕ) → i < b .setcount → s < a .k
+      → ((nextAt b i s < b .setcount) × Moves a (setAt b i) s (setAt b (nextAt b i s))) ⊎ ((nextAt b i s ≡ emptySet) × Moves a (setAt b i) s 0)
   -- its delegates are, for each state, the lowest alike one, with zeros after them, and its number
   -- of starts is M
-  pub delegates : Merged (automatonIn f) (b .delegates) (b .startcount)
+  pub delegates : Merged a (b .delegates) (b .startcount)

@@ -2,8 +2,8 @@
 -- files, through the judge's calls. proofs/TableP.antt proves it.
 --
 --   Case          a rule file, what its load answers, and the result of the case
---   callsOf c     the calls of the case: a load; for a verdict also an opening, a delivery for each
---                 chunk and the question. The last first
+--   callsOf c     the calls of the case: those that a load of the file makes; for a verdict also an
+--                 opening, a delivery for each chunk and the question. The last first
 --   repliesOf c   what is answered to them
 --   AsTabled         what the case says of the replies that were given and of the state that is
 --                    left
@@ -11,15 +11,18 @@
 --   TableP        each case of the table holds so
 use mathlib.Core.Path.{_≡_}
 use mathlib.Core.List.{List, [], _∷_}
+use mathlib.Core.Option.{some}
 use Prim.Native.Nat.{ℕ, zero, suc, _*_}
 use lib.ListN.{length, getD}
 use Rattle.limits.specs.Limits.{mostSymbols, emptySet}
 use Rattle.base.specs.Lists.{listFrom}
 use Rattle.ruleformat.specs.Worked.{fileA, fileB, fileA-final-8}
+use Rattle.ruleformat.specs.Reader.{readOf}
 use Rattle.build.specs.declared.Built.{Built}
 use Rattle.calls.specs.declared.Judge.{Judge}
-use Rattle.calls.specs.Replies.{Judgement, yesWith, noWith, Reported, Reply, accepted, loaded, judged, refused, delivered}
-use Rattle.calls.specs.Calls.{Call, loads, opens, delivers, asksVerdict}
+use Rattle.calls.specs.Replies.{Judgement, yesWith, noWith, Reported, Reply, accepted, installed, judged, refused, delivered}
+use Rattle.calls.specs.Calls.{Call, opens, delivers, asksVerdict}
+use Rattle.histories.specs.History.{loading, loadReply}
 use Rattle.histories.specs.Claims.{judgeAfter, repliesTo}
 
 -- ---- a case
@@ -30,12 +33,12 @@ use Rattle.histories.specs.Claims.{judgeAfter, repliesTo}
 --   verdict chunks r       with the chunks at the places 0, 1, .. of a board that has a place for
 --                          each, the verdict reports r. Beside a chunk stands the number that its
 --                          delivery is answered (document 02, R-2)
---   turned-down            there is nothing more than the refusal of the load
+--   turned-down x          reading refuses the file with the number x, and no call is made
 pub data Result : Type 0 where
   sets : List ℕ → List (List ℕ) → Result
   delegates : List ℕ → Result
   verdict : List (List ℕ × ℕ) → Reported → Result
-  turned-down : Result
+  turned-down : ℕ → Result
 
 -- the file, the reply to its load, and the result
 pub data Case : Type 0 where
@@ -51,10 +54,10 @@ answering [] replies = replies
 answering (c ∷ chunks) replies = answering chunks (delivered (c .1) ∷ replies)
 
 abbrev pub callsFor : List ℕ → Result → List Call
-callsFor file (sets masks rows) = loads file ∷ []
-callsFor file (delegates ds) = loads file ∷ []
-callsFor file (verdict chunks r) = asksVerdict ∷ delivering 0 chunks (opens (length chunks) ∷ loads file ∷ [])
-callsFor file turned-down = loads file ∷ []
+callsFor file (sets masks rows) = loading file
+callsFor file (delegates ds) = loading file
+callsFor file (verdict chunks r) = asksVerdict ∷ delivering 0 chunks (opens (length chunks) ∷ loading file)
+callsFor file (turned-down x) = loading file
 
 abbrev pub callsOf : Case → List Call
 callsOf (case file load result) = callsFor file result
@@ -63,7 +66,7 @@ abbrev pub repliesFor : Reply → Result → List Reply
 repliesFor load (sets masks rows) = load ∷ []
 repliesFor load (delegates ds) = load ∷ []
 repliesFor load (verdict chunks r) = judged r ∷ answering chunks (accepted ∷ load ∷ [])
-repliesFor load turned-down = load ∷ []
+repliesFor load (turned-down x) = []
 
 abbrev pub repliesOf : Case → List Reply
 repliesOf (case file load result) = repliesFor load result
@@ -78,14 +81,14 @@ unfoldable pub rowsFrom : List ℕ → ℕ → ℕ → ℕ → List (List ℕ)
 rowsFrom next k i zero = []
 rowsFrom next k i (suc count) = cellsOf next (i * mostSymbols) k ∷ rowsFrom next k (suc i) count
 
-abbrev pub Shows : Result → Built → Type 0
-Shows (sets masks rows) b = (cellsOf (b .sets) 0 (b .setcount) ≡ masks) × (rowsFrom (b .next) (b .k) 0 (b .setcount) ≡ rows)
-Shows (delegates ds) b = cellsOf (b .delegates) 0 (b .n) ≡ ds
-Shows (verdict chunks r) b = Unit {0}
-Shows turned-down b = Unit {0}
+abbrev pub Shows : List ℕ → Result → Built → Type 0
+Shows file (sets masks rows) b = (cellsOf (b .sets) 0 (b .setcount) ≡ masks) × (rowsFrom (b .next) (b .k) 0 (b .setcount) ≡ rows)
+Shows file (delegates ds) b = cellsOf (b .delegates) 0 (b .n) ≡ ds
+Shows file (verdict chunks r) b = Unit {0}
+Shows file (turned-down x) b = readOf file .number ≡ some x
 
 abbrev pub ResultOf : Case → Built → Type 0
-ResultOf (case file load result) b = Shows result b
+ResultOf (case file load result) b = (loadReply file ≡ load) × Shows file result b
 
 abbrev pub AsTabled : Case → List Reply → Judge → Type 0
 AsTabled c replies j = (replies ≡ repliesOf c) × ResultOf c (j .built)
@@ -99,26 +102,26 @@ report v bytes quotient remainder = record { verdict = v; bytes = bytes; quotien
 abbrev pub table : List Case
 table =
     -- P1 A: the five sets, with the rows that are printed for them
-    case fileA (loaded 5 3)
+    case fileA (installed 5 3)
     (sets (1 ∷ 3 ∷ 5 ∷ 2 ∷ 4 ∷ []) ((1 ∷ 0 ∷ []) ∷ (1 ∷ 2 ∷ []) ∷ (1 ∷ 0 ∷ []) ∷ (emptySet ∷ 4 ∷ []) ∷ (emptySet ∷ emptySet ∷ []) ∷ [])) ∷
     -- P2 B: delegates 0 1 1
-    case fileB (loaded 4 2) (delegates (0 ∷ 1 ∷ 1 ∷ [])) ∷
+    case fileB (installed 4 2) (delegates (0 ∷ 1 ∷ 1 ∷ [])) ∷
     -- P3 A, chunks 0 and 1: yes, 3; 2 bytes, 1 each and 1 over
-    case fileA (loaded 5 3) (verdict ((0 ∷ [], 1) ∷ (1 ∷ [], 1) ∷ []) (report (yesWith 3) 2 1 1)) ∷
+    case fileA (installed 5 3) (verdict ((0 ∷ [], 1) ∷ (1 ∷ [], 1) ∷ []) (report (yesWith 3) 2 1 1)) ∷
     -- P4 A, chunks 1 and 0: no, 2; 2 bytes, 1 each
-    case fileA (loaded 5 3) (verdict ((1 ∷ [], 1) ∷ (0 ∷ [], 1) ∷ []) (report (noWith 2) 2 1 0)) ∷
+    case fileA (installed 5 3) (verdict ((1 ∷ [], 1) ∷ (0 ∷ [], 1) ∷ []) (report (noWith 2) 2 1 0)) ∷
     -- P5 A, one empty chunk: no, 0
-    case fileA (loaded 5 3) (verdict (([], 0) ∷ []) (report (noWith 0) 0 0 0)) ∷
+    case fileA (installed 5 3) (verdict (([], 0) ∷ []) (report (noWith 0) 0 0 0)) ∷
     -- P6 B, 0 then 0 0: yes, 5; 3 bytes, 1 each and 2 over
-    case fileB (loaded 4 2) (verdict ((0 ∷ [], 1) ∷ (0 ∷ 0 ∷ [], 2) ∷ []) (report (yesWith 5) 3 1 2)) ∷
+    case fileB (installed 4 2) (verdict ((0 ∷ [], 1) ∷ (0 ∷ 0 ∷ [], 2) ∷ []) (report (yesWith 5) 3 1 2)) ∷
     -- P7 B, 0 0 then 0: yes, 4; 3 bytes, 1 each and 1 over
-    case fileB (loaded 4 2) (verdict ((0 ∷ 0 ∷ [], 2) ∷ (0 ∷ [], 1) ∷ []) (report (yesWith 4) 3 1 1)) ∷
+    case fileB (installed 4 2) (verdict ((0 ∷ 0 ∷ [], 2) ∷ (0 ∷ [], 1) ∷ []) (report (yesWith 4) 3 1 1)) ∷
     -- P8 B, 0 0 0 in one place: yes, 3; 3 bytes, 1 each
-    case fileB (loaded 4 2) (verdict ((0 ∷ 0 ∷ 0 ∷ [], 3) ∷ []) (report (yesWith 3) 3 1 0)) ∷
+    case fileB (installed 4 2) (verdict ((0 ∷ 0 ∷ 0 ∷ [], 3) ∷ []) (report (yesWith 3) 3 1 0)) ∷
     -- P9 B, three empty chunks: no, 0
-    case fileB (loaded 4 2) (verdict (([], 0) ∷ ([], 0) ∷ ([], 0) ∷ []) (report (noWith 0) 0 0 0)) ∷
-    -- P10 A, final mask 8: 6
-    case fileA-final-8 (refused 6) turned-down ∷ []
+    case fileB (installed 4 2) (verdict (([], 0) ∷ ([], 0) ∷ ([], 0) ∷ []) (report (noWith 0) 0 0 0)) ∷
+    -- P10 A, final mask 8: 6, when it is read
+    case fileA-final-8 (refused 6) (turned-down 6) ∷ []
 
 abbrev pub Each : (Case → Type 0) → List Case → Type 0
 Each Says [] = Unit {0}

@@ -4,8 +4,10 @@ use mathlib.Core.List.{List}
 use Prim.Native.Nat.{ℕ}
 use contract.Lifetimes.{Lfts}
 use denote.Ref.{RefT}
+use Rattle.automaton.specs.declared.Rule.{Rule}
 use Rattle.calls.specs.declared.Judge.{Judge}
 use Rattle.judge.proofs.new_judge.Reads as new-judge
+use Rattle.judge.proofs.install.Reads as install
 use Rattle.judge.proofs.load.Reads as load
 use Rattle.judge.proofs.open.Reads as opening
 use Rattle.judge.proofs.deliver.Reads as deliver
@@ -14,6 +16,9 @@ use Rattle.judge.proofs.ask_verdict.Reads as verdict
 
 pub new-judge-asks-nothing : new-judge.Asked tt tt
 new-judge-asks-nothing = tt
+
+pub install-asks-nothing : (j : Judge) (r : Rule) → install.Asked tt (j, (r, tt))
+install-asks-nothing j r = tt
 
 pub load-asks-nothing : (κs : Lfts 1) (j : Judge) (c : RefT (List ℕ)) → load.Asked κs (j, (c, tt))
 load-asks-nothing κs j c = tt

@@ -1,4 +1,4 @@
-// The judge: five calls over one state.
+// The judge: five calls over one state; and load, which reads a file and makes one of them.
 ghost use mathlib.Core.Path.{_≡_};
 ghost use mathlib.Core.List.{List};
 ghost use Prim.Native.Nat.{ℕ, _≤_, _<_};
@@ -8,16 +8,17 @@ ghost use Rattle.marks.specs.Marks.{textOf};
 ghost use Rattle.chunks.specs.Walks.{runMask, runsOf};
 ghost use Rattle.calls.specs.Replies.{refused, verdictMeans, reportMeans};
 ghost use Rattle.calls.specs.Calls.{perByte, alone, reportBy};
-ghost use Rattle.calls.specs.Steps.{fresh, withBoard, loadOutcome, openOutcome, deliverOutcome, withdrawOutcome, loadOf, openOf, deliverOf, withdrawOf, verdictOf, reportOf};
+ghost use Rattle.calls.specs.Steps.{fresh, withBoard, installOutcome, openOutcome, deliverOutcome, withdrawOutcome, installOf, loadOf, openOf, deliverOf, withdrawOf, verdictOf, reportOf};
 ghost use Rattle.board.specs.Boards.{placesOf};
+use automaton::Rule;
 use board::Board;
 use build::BuildAnswer;
 use build::Built;
 use calls::DeliverAnswer;
 use calls::DeliverResult;
+use calls::InstallAnswer;
+use calls::InstallResult;
 use calls::Judge;
-use calls::LoadAnswer;
-use calls::LoadResult;
 use calls::OpenAnswer;
 use calls::OpenResult;
 use calls::Report;
@@ -25,6 +26,7 @@ use calls::Verdict;
 use calls::WithdrawAnswer;
 use calls::WithdrawResult;
 use chunks::Runs;
+use rulecheck::CheckAnswer;
 use ruleformat::ReadAnswer;
 
 // A judge with no rule and no board.
@@ -44,11 +46,11 @@ fn with_board(judge: Judge, board: Board) -> Judge
     Judge { built, board }
 }
 
-fn refuse_load(judge: Judge, number: u8) -> LoadResult
-    ensures { λ r. ⌜ loadOutcome r ≡ record { reply = refused number; state = judge } ⌝ }
+fn refuse_rule(judge: Judge, number: u8) -> InstallResult
+    ensures { λ r. ⌜ installOutcome r ≡ record { reply = refused number; state = judge } ⌝ }
 {
-    let answer = LoadAnswer::Refused(number);
-    LoadResult { answer, judge }
+    let answer = InstallAnswer::Refused(number);
+    InstallResult { answer, judge }
 }
 
 fn refuse_opening(judge: Judge, number: u8) -> OpenResult
@@ -85,29 +87,40 @@ fn run_at(built: Built, place: usize, text: &[u8]) -> Runs
     chunks::run_chunk(&sets, &next, &singles, mask, text)
 }
 
-// Checks and builds a rule. Accepted, it replaces the former rule and removes the board.
-pub fn load(judge: Judge, file: &[u8]) -> LoadResult
-    ensures { λ r. ⌜ loadOutcome r ≡ loadOf judge (now (file .entry)) ⌝ }
+// Checks and builds a rule, which may be any value. Accepted, it replaces the former rule and
+// removes the board.
+pub fn install(judge: Judge, rule: Rule) -> InstallResult
+    ensures { λ r. ⌜ installOutcome r ≡ installOf judge rule ⌝ }
+{
+    let checked = rulecheck::check_rule(rule);
+    match checked {
+        CheckAnswer::Refused(number) => refuse_rule(judge, number),
+        CheckAnswer::Passed => {
+            let building = build::build_rule(rule);
+            let answer = building.answer;
+            match answer {
+                BuildAnswer::Refused(number) => refuse_rule(judge, number),
+                BuildAnswer::Accepted(sets, starts) => {
+                    let built = building.built;
+                    let board = board::empty_board(0);
+                    let answer = InstallAnswer::Accepted(sets, starts);
+                    let judge = Judge { built, board };
+                    InstallResult { answer, judge }
+                }
+            }
+        }
+    }
+}
+
+// Reads a rule file and installs the rule.
+pub fn load(judge: Judge, file: &[u8]) -> InstallResult
+    ensures { λ r. ⌜ installOutcome r ≡ loadOf judge (now (file .entry)) ⌝ }
 {
     let reading = rulefile::read(file);
     let read = reading.answer;
     match read {
-        ReadAnswer::Refused(number) => refuse_load(judge, number),
-        ReadAnswer::Accepted => {
-            let rule = reading.rule;
-            let building = build::build_rule(rule);
-            let answer = building.answer;
-            match answer {
-                BuildAnswer::Refused(number) => refuse_load(judge, number),
-                BuildAnswer::Accepted(sets, starts) => {
-                    let built = building.built;
-                    let board = board::empty_board(0);
-                    let answer = LoadAnswer::Accepted(sets, starts);
-                    let judge = Judge { built, board };
-                    LoadResult { answer, judge }
-                }
-            }
-        }
+        ReadAnswer::Refused(number) => refuse_rule(judge, number),
+        ReadAnswer::Accepted => install(judge, reading.rule),
     }
 }
 

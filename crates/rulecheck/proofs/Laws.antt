@@ -7,20 +7,19 @@
 --   refused                 which number the rule has
 use mathlib.Core.Path.{_≡_, refl, sym}
 use mathlib.Core.Logic.{_↔_, _⊎_, inl, inr, ⊎-elim, Iff·trans}
-use mathlib.Core.Bool.{Bool, true, false, _||_}
+use mathlib.Core.Bool.{true, false}
 use mathlib.Core.List.{List, [], _∷_}
 use mathlib.Core.Option.{none, some}
 use Prim.Native.Nat.{ℕ, _^_, _≤_, _<_}
 use lib.Dec.{eqb}
-use lib.ListN.{length}
 use borrow.Author.Tests.{le-leb, lt-leb, leb-true, leb-false}
 use Rattle.base.specs.Conditions.{Condition, on, firstOf}
 use Rattle.base.proofs.Tests.{by-test, or-either, or-neither, or-left, or-right}
 use Rattle.base.proofs.Conditions.{outside-law, is-outside, none-law, first-law, named, first-here, first-past}
 use Rattle.automaton.specs.declared.Rule.{Rule}
-use Rattle.automaton.specs.Rules.{targetMask, WellFormed}
+use Rattle.automaton.specs.Rules.{WellFormed}
 use Rattle.rulecheck.specs.Checking.{badStateCount, badSymbolCount, beyond, badMasks, badTargets, ruleConditions, ruleNumber}
-use Rattle.rulecheck.specs.Claims.{StatesIn, SymbolsIn, MasksIn, Stray, Refused-exactly}
+use Rattle.rulecheck.specs.Claims.{StatesIn, SymbolsIn, MasksIn, Refused-exactly}
 use Rattle.rulecheck.proofs.Targets.{targets-law, stray-law}
 
 -- ---- the two masks
@@ -43,20 +42,19 @@ module _ (n i f : ℕ) where
   )
 
 -- ---- none holds
-pub passes : (r : Rule) → length (r .targets) ≡ 512 → (ruleNumber r ≡ none) ↔ WellFormed r
-passes r l = (
+pub passes : (r : Rule) → (ruleNumber r ≡ none) ↔ WellFormed r
+passes r = (
   (λ e.
       let x = none-law (ruleConditions r) .0 e in
       let masks = masks-law (r .n) (r .initials) (r .finals) .0 (x .1 .1 .0) in
-      let good = targets-law (r .targets) (r .n) (r .k) l .0 (x .1 .1 .1 .0) in
+      let good = targets-law (r .targets) (r .n) (r .k) .0 (x .1 .1 .1 .0) in
       record {
         states = outside-law 1 32 (r .n) .0 (x .0);
         symbols = outside-law 1 16 (r .k) .0 (x .1 .0);
         initials-below = masks .0;
         finals-below = masks .1;
-        cells = l;
-        targets-below = λ q s. good q s .0;
-        zero-outside = λ q s. good q s .1;
+        targets-below = λ q s l. good q s l .0;
+        zero-outside = λ q s l. good q s l .1;
       }),
   λ w.
       none-law (ruleConditions r) .1 (
@@ -66,8 +64,8 @@ passes r l = (
           (
             masks-law (r .n) (r .initials) (r .finals) .1 (w .initials-below, w .finals-below),
             (
-              targets-law (r .targets) (r .n) (r .k) l .1
-                  (λ q s. (w .targets-below q s, w .zero-outside q s)),
+              targets-law (r .targets) (r .n) (r .k) .1
+                  (λ q s l. (w .targets-below q s l, w .zero-outside q s l)),
               tt,
             ),
           ),

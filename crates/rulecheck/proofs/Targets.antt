@@ -7,17 +7,17 @@
 --   cell-mask             a cell is the target mask of its state and symbol
 --   targets-law           no cell is bad
 --   stray-law             some cell is bad
-use mathlib.Core.Path.{_≡_, refl, sym, ap, ap₂, _∙_, subst}
+use mathlib.Core.Path.{_≡_, refl, sym, ap, ap₂, _∙_}
 use mathlib.Core.Logic.{_↔_, _⊎_, inl, inr, ⊎-elim}
 use mathlib.Core.Bool.{Bool, true, false, not, _||_, _&&_}
 use mathlib.Core.List.{List}
 use Prim.Native.Nat.{ℕ, _+_, _*_, _/_, _%_, _^_, _≤_, _<_}
 use native.Mathlib.Omega.{arith}
 use lib.Dec.{ltb, leb, eqb}
-use lib.ListN.{length, getD, List·getD-eq-default}
+use lib.ListN.{getD}
 use lib.Pow.{pow-pos}
-use borrow.Author.Tests.{lt-ltb, le-ltb, ltb-true, ltb-false, le-leb, lt-leb, leb-true, leb-false, eq-eqb, ne-eqb, eqb-true, eqb-false, not-false}
-use Rattle.base.proofs.Tests.{by-test, not-both, or-either, or-neither, or-left, or-right}
+use borrow.Author.Tests.{lt-ltb, le-ltb, ltb-true, ltb-false, le-leb, lt-leb, leb-true, leb-false, eq-eqb, ne-eqb, eqb-true, not-false}
+use Rattle.base.proofs.Tests.{by-test, not-both, or-either, or-left}
 use Rattle.base.proofs.Conditions.{any-at, any-found, none-at, none-all}
 use Rattle.automaton.specs.declared.Rule.{Rule}
 use Rattle.automaton.specs.Rules.{cellOf, targetMask}
@@ -109,45 +109,30 @@ module _ (ts : List ℕ) where
       let col : (q * 16 + s) % 16 ≡ s = omega arith in
       ap₂ (λ (x y : ℕ). badTarget n k x y (getD ts (cellOf q s) 0)) row col ∙ rw (lt-ltb s 16 h)
 
-  -- past the table there is no target
+  -- past the symbols there is no target
   no-symbol : (q s : ℕ) → 16 ≤ s → targetMask ts q s ≡ 0
   no-symbol q s h = rw (le-ltb s 16 h)
 
-  no-state : (q s : ℕ) → length ts ≡ 512 → 32 ≤ q → targetMask ts q s ≡ 0
-  no-state q s e h =
-      by-test (ltb s 16)
-      (λ t. rw t (List·getD-eq-default ts 0 (omega arith)))
-      (λ t. rw t)
-
   module _ (n k : ℕ) where
-    good-at : badTargets n k ts ≡ false → length ts ≡ 512 → (q s : ℕ)
-        → Good n k q s (targetMask ts q s)
+    good-at : badTargets n k ts ≡ false → (q s : ℕ) → q < 32 → Good n k q s (targetMask ts q s)
     unfolding badTargets
-    good-at e l q s =
+    good-at e q s hq =
         by-test (ltb s 16)
         (λ t.
         let hs = ltb-true s 16 t in
-        by-test (ltb q 32)
-        (λ u.
-        let hq = ltb-true q 32 u in
         good-law n k q s (targetMask ts q s) .0
         (sym (cell-test n k q s hs) ∙ none-at (badCell n k ts) 512 (cellOf q s) e (omega arith)))
-        (λ u. none-there q s (no-state q s l (ltb-false q 32 u))))
-        (λ t. none-there q s (no-symbol q s (ltb-false s 16 t)))
-      where
-        none-there : (q s : ℕ) → targetMask ts q s ≡ 0 → Good n k q s (targetMask ts q s)
-        none-there q s z = (omega (arith, z, pow-pos n), λ o. z)
+        (λ t. let z = no-symbol q s (ltb-false s 16 t) in (omega (arith, z, pow-pos n), λ o. z))
 
-    all-good : ((q s : ℕ) → Good n k q s (targetMask ts q s)) → badTargets n k ts ≡ false
+    all-good : ((q s : ℕ) → q < 32 → Good n k q s (targetMask ts q s)) → badTargets n k ts ≡ false
     unfolding badTargets
     all-good g =
         none-all (badCell n k ts) 512 λ cell h.
         good-law n k (cell / 16) (cell % 16) (getD ts cell 0) .1
-        (rw (cell-mask cell) at (g (cell / 16) (cell % 16)))
+        (rw (cell-mask cell) at (g (cell / 16) (cell % 16) (omega arith)))
 
-    pub targets-law : length ts ≡ 512
-        → (badTargets n k ts ≡ false) ↔ ((q s : ℕ) → Good n k q s (targetMask ts q s))
-    targets-law l = (λ e. good-at e l, all-good)
+    pub targets-law : (badTargets n k ts ≡ false) ↔ ((q s : ℕ) → q < 32 → Good n k q s (targetMask ts q s))
+    targets-law = (good-at, all-good)
 
 -- some cell is bad
 pub stray-law : (r : Rule) → (badTargets (r .n) (r .k) (r .targets) ≡ true) ↔ Stray r

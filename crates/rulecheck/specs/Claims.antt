@@ -8,8 +8,7 @@ use mathlib.Core.Path.{_≡_}
 use mathlib.Core.Logic.{_↔_, _⊎_}
 use mathlib.Core.Option.{none, some}
 use Prim.Native.Nat.{ℕ, _^_, _≤_, _<_}
-use lib.ListN.{length}
-use Rattle.limits.specs.Limits.{mostStates, mostSymbols, targetCells}
+use Rattle.limits.specs.Limits.{mostStates, mostSymbols}
 use Rattle.automaton.specs.declared.Rule.{Rule}
 use Rattle.automaton.specs.Rules.{targetMask, WellFormed}
 use Rattle.rulecheck.specs.Checking.{ruleNumber}
@@ -49,7 +48,6 @@ pub record Refused-exactly (r : Rule) : Type 0 where
 pub record Claims : Type 0 where
   -- rules at the edges, some for each number, are answered as their list says
   pub answered : Answered rules
-  -- none of the conditions holds exactly where the rule is well formed; every value of the type has
-  -- 512 cells
-  pub passes : (r : Rule) → length (r .targets) ≡ targetCells → (ruleNumber r ≡ none) ↔ WellFormed r
+  -- none of the conditions holds exactly where the rule is well formed
+  pub passes : (r : Rule) → (ruleNumber r ≡ none) ↔ WellFormed r
   pub refused : (r : Rule) → Refused-exactly r

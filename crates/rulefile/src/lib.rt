@@ -9,7 +9,7 @@ ghost use lib.ListN.{length, getD};
 ghost use Rattle.limits.specs.Limits.{mostStates, mostSymbols, targetCells};
 ghost use Rattle.ruleformat.specs.Format.{byteAt, halfAt, wordAt, stateCount};
 ghost use Rattle.ruleformat.specs.Refusals.{badPairs, badSection, badArcs, refusal};
-ghost use Rattle.ruleformat.specs.Reader.{readMeans, targetsBy, ruleOf, noRule, Reads};
+ghost use Rattle.ruleformat.specs.Reader.{readMeans, targetsBy, ruleOf, noRule, readOutcome, readOf};
 use automaton::Rule;
 use masks::StateNumber;
 use ruleformat::ReadAnswer;
@@ -32,7 +32,7 @@ fn half(file: &[u8], at: usize) -> usize
 }
 
 // The 32-bit number at an index.
-fn word(file: &[u8], at: usize) -> u32
+pub fn word(file: &[u8], at: usize) -> u32
     requires { ⌜ at + 4 ≤ length (now file) ⌝ }
     ensures { λ r. ⌜ r ≡ wordAt (now (file .entry)) at ⌝ }
 {
@@ -206,9 +206,9 @@ fn no_rule() -> Rule
     }
 }
 
-// The rule in the file, or the first of the refusals 1 to 8 whose condition holds.
+// The rule in the file; or zeros, and the first of the refusals 1 to 8 whose condition holds.
 pub fn read(file: &[u8]) -> ReadResult
-    ensures { λ r. ⌜ Reads (now (file .entry)) r ⌝ }
+    ensures { λ r. ⌜ readOutcome r ≡ readOf (now (file .entry)) ⌝ }
 {
     let answer = check(file);
     match answer {

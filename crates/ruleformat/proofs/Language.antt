@@ -77,10 +77,9 @@ module _ (f : List ℕ) (a : Accepted f) where
     symbols = a .symbols;
     initials-below = a .initials;
     finals-below = a .finals;
-    cells = length-listFrom 0 512 (λ cell. targetsFrom f (cell / 16) (cell % 16));
-    targets-below = λ q s.
+    targets-below = λ q s _.
         below-of (stateCount f) (targetMask (ruleOf f .targets) q s) (λ t e. in-bounds q s t (of-mask q s t e) .1);
-    zero-outside = λ q s o.
+    zero-outside = λ q s _ o.
         empty-mask (targetMask (ruleOf f .targets) q s)
         (λ t e.
         let r = of-mask q s t e in

@@ -72,9 +72,8 @@ well-formed = record {
   symbols = (omega arith, omega arith);
   initials-below = omega arith;
   finals-below = omega arith;
-  cells = length-replicate {A = ℕ} 512 0xFFFFFFFF;
-  targets-below = mask-below;
-  zero-outside = λ q s. ⊎-elim (no-state q s) (no-symbol q s);
+  targets-below = λ q s _. mask-below q s;
+  zero-outside = λ q s _. ⊎-elim (no-state q s) (no-symbol q s);
 }
 
 section-full : (q : ℕ) → q < 32 → length (sectionOf 32 16 (masks q)) ≡ 1024

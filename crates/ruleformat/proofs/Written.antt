@@ -38,18 +38,18 @@ module _ (r : Rule) (good : WellFormed r) where
   few = omega (arith, good .states .1)
 
   -- the targets by a symbol of the section that is written are those of the mask
-  targets-are : (q s : ℕ) → targetsBy (sections q) s ≡ masks q s
-  targets-are q s =
+  targets-are : (q s : ℕ) → q < 32 → targetsBy (sections q) s ≡ masks q s
+  targets-are q s l =
       ext (targetsBy (sections q) s) (masks q s) λ t. (
         (λ e. arcs-of (r .n) (r .k) few (masks q) (targets-in (sections q) s t .0 e) .2),
-        λ e. targets-in (sections q) s t .1 (of-arcs (r .n) (r .k) few (masks q) (symbol-below s t e) (members-below (r .n) (masks q s) t (good .targets-below q s) e) e),
+        λ e. targets-in (sections q) s t .1 (of-arcs (r .n) (r .k) few (masks q) (symbol-below s t e) (members-below (r .n) (masks q s) t (good .targets-below q s l) e) e),
       )
     where
       symbol-below : (s t : ℕ) → t ∈ masks q s → s < r .k
       symbol-below s t e =
           by-test (ltb s (r .k))
           (λ h. ltb-true s (r .k) h)
-          (λ h. absurd (no-member t (rw (good .zero-outside q s (inr (ltb-false s (r .k) h))) at e)))
+          (λ h. absurd (no-member t (rw (good .zero-outside q s l (inr (ltb-false s (r .k) h))) at e)))
 
   short : (q : ℕ) → q < r .n → length (sections q) ≤ 1024
   short q l = section-size (r .n) (r .k) few (masks q) (good .states .1) (good .symbols .1)
@@ -80,14 +80,14 @@ module _ (r : Rule) (good : WellFormed r) where
       let q : c / 16 < r .n = ltb-true (c / 16) (r .n) t in
       sym (rw t
       (ap (λ (b : List ℕ). targetsBy b (c % 16)) (section-is (r .n) (r .k) (r .initials) (r .finals) sections (c / 16) q)
-      ∙ targets-are (c / 16) (c % 16)
+      ∙ targets-are (c / 16) (c % 16) (omega arith)
       ∙ here)))
-      (λ t. sym (rw t (sym (good .zero-outside (c / 16) (c % 16) (inl (ltb-false (c / 16) (r .n) t))) ∙ here)))
+      (λ t. sym (rw t (sym (good .zero-outside (c / 16) (c % 16) (omega arith) (inl (ltb-false (c / 16) (r .n) t))) ∙ here)))
 
-  pub rule-is : ruleOf (fileOf r) ≡ r
-  rule-is =
+  pub rule-is : length (r .targets) ≡ 512 → ruleOf (fileOf r) ≡ r
+  rule-is cells =
       let t : r .targets ≡ listFrom 0 512 (λ c. targetsFrom (fileOf r) (c / 16) (c % 16)) =
-      is-listFrom (r .targets) 512 (λ c. targetsFrom (fileOf r) (c / 16) (c % 16)) (good .cells) cell-is in
+      is-listFrom (r .targets) 512 (λ c. targetsFrom (fileOf r) (c / 16) (c % 16)) cells cell-is in
       same-rule (r .n) (r .k)
       (initial-is (r .n) (r .k) (r .initials) (r .finals) sections)
       (final-is (r .n) (r .k) (r .initials) (r .finals) sections)

@@ -45,7 +45,7 @@ module _ (r : Rule) (good : WellFormed r) where
   states = omega (arith, good .states)
 
   successor-outside : (m s : ℕ) → r .k ≤ s → successor (r .targets) m s ≡ 0
-  successor-outside m s h = lt-one (union-lt (λ q. targetMask (r .targets) q s) m 0 32 (λ q _. rw (good .zero-outside q s (inr h)) (lit< tt)))
+  successor-outside m s h = lt-one (union-lt (λ q. targetMask (r .targets) q s) m 0 32 (λ q l. rw (good .zero-outside q s l (inr h)) (lit< tt)))
 
   symbols-of : (m : ℕ) (w : List ℕ) → (after (r .targets) m w ≡ 0 → ⊥) → Symbols (r .k) w
   symbols-of m [] ne = none

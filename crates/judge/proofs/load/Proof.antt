@@ -1,5 +1,5 @@
 -- `load` meets its contract. Assumes nothing.
-use Rattle.calls.proofs.Ways.{load-unread, load-unbuilt, loaded}
+use Rattle.calls.proofs.Ways.{load-unread, load-read}
 use borrow.Author.Needs.{needs}
 use Rattle.judge.proofs.load.Statement.{statement}
 use Rattle.judge.proofs.load.Tie as tie
@@ -10,35 +10,20 @@ read-requires c κs = search needs
 enum-known-read : tie.Need-enum-known-read
 enum-known-read c = search needs
 
-refuse-load-requires : tie.Need-refuse-load-requires
-refuse-load-requires c κs = search needs
+refuse-rule-requires : tie.Need-refuse-rule-requires
+refuse-rule-requires c κs = search needs
 
 enum-told : tie.Need-enum-told
 enum-told c = search needs
 
-build-rule-requires : tie.Need-build-rule-requires
-build-rule-requires c κs = search needs
-
-enum-known-answer : tie.Need-enum-known-answer
-enum-known-answer c = search needs
-
-refuse-load-requires-2 : tie.Need-refuse-load-requires-2
-refuse-load-requires-2 c κs = search needs
-
-enum-known-answer-2 : tie.Need-enum-known-answer-2
-enum-known-answer-2 c = search needs
-
-empty-board-requires : tie.Need-empty-board-requires
-empty-board-requires c κs = search needs
+install-requires : tie.Need-install-requires
+install-requires c κs = search needs
 
 returns : tie.Need-returns
 returns c = search (needs, load-unread)
 
 returns-2 : tie.Need-returns-2
-returns-2 c = search (needs, load-unbuilt)
-
-returns-3 : tie.Need-returns-3
-returns-3 c = search (needs, loaded)
+returns-2 c = search (needs, load-read)
 
 pub load-spec : {M : Type 1} → statement M
 load-spec =
@@ -46,13 +31,8 @@ load-spec =
     (tie.spec
     read-requires
     enum-known-read
-    refuse-load-requires
+    refuse-rule-requires
     enum-told
-    build-rule-requires
-    enum-known-answer
-    refuse-load-requires-2
-    enum-known-answer-2
-    empty-board-requires
+    install-requires
     returns
-    returns-2
-    returns-3)
+    returns-2)

@@ -1,6 +1,6 @@
 -- `bad_masks` meets its contract. Assumes nothing.
 use mathlib.Core.Logic.{inl}
-use mathlib.Core.Path.{_≡_, sym, _∙_}
+use mathlib.Core.Path.{sym, _∙_}
 use borrow.Author.Needs.{needs}
 use Rattle.base.proofs.Tests.{or-either}
 use Rattle.rulecheck.specs.Checking.{beyond}

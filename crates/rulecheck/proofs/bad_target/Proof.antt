@@ -1,7 +1,7 @@
 -- `bad_target` meets its contract: a mask kept for a state or symbol outside n or k has to be 0,
 -- any other below 2 ^ n. Assumes nothing.
 use mathlib.Core.Logic.{inl, inr}
-use mathlib.Core.Path.{_≡_, sym, _∙_}
+use mathlib.Core.Path.{sym, _∙_}
 use borrow.Author.Needs.{needs}
 use Rattle.rulecheck.proofs.Targets.{kept-cell, own-cell}
 use Rattle.rulecheck.proofs.bad_target.Statement.{statement}

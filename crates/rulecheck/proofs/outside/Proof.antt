@@ -1,5 +1,4 @@
 -- `outside` meets its contract. Assumes nothing.
-use mathlib.Core.Path.{_≡_, sym}
 use borrow.Author.Tests.{lt-ltb, le-ltb}
 use Rattle.rulecheck.proofs.outside.Statement.{statement}
 use Rattle.rulecheck.proofs.outside.Tie as tie

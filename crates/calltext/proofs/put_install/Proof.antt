@@ -1,19 +1,19 @@
--- `put_load` meets its contract. Assumes nothing.
+-- `put_install` meets its contract. Assumes nothing.
 use borrow.Author.Needs.{needs}
-use Rattle.calltext.proofs.put_load.Statement.{statement}
-use Rattle.calltext.proofs.put_load.Tie as tie
+use Rattle.calltext.proofs.put_install.Statement.{statement}
+use Rattle.calltext.proofs.put_install.Tie as tie
 
 enum-known-answer : tie.Need-enum-known-answer
 enum-known-answer c = search needs
 
-cast-put-loaded : tie.Need-cast-put-loaded
-cast-put-loaded c = search needs
+cast-put-installed : tie.Need-cast-put-installed
+cast-put-installed c = search needs
 
-cast-put-loaded-2 : tie.Need-cast-put-loaded-2
-cast-put-loaded-2 c = search needs
+cast-put-installed-2 : tie.Need-cast-put-installed-2
+cast-put-installed-2 c = search needs
 
-put-loaded-requires : tie.Need-put-loaded-requires
-put-loaded-requires c κs = search needs
+put-installed-requires : tie.Need-put-installed-requires
+put-installed-requires c κs = search needs
 
 enum-known-answer-2 : tie.Need-enum-known-answer-2
 enum-known-answer-2 c = search needs
@@ -25,7 +25,7 @@ same-length : tie.Need-same-length
 same-length c = search needs
 
 returns : tie.Need-returns
-returns c = rw (c .before .before .before .before .before .answer .given .1) (c .before .before .put-loaded .ensures)
+returns c = rw (c .before .before .before .before .before .answer .given .1) (c .before .before .put-installed .ensures)
 
 same-length-2 : tie.Need-same-length-2
 same-length-2 c = search needs
@@ -33,14 +33,14 @@ same-length-2 c = search needs
 returns-2 : tie.Need-returns-2
 returns-2 c = rw (c .before .before .before .before .before .answer2 .given .1) (c .before .before .put-refused .ensures)
 
-pub put-load-spec : {M : Type 1} → statement M
-put-load-spec =
+pub put-install-spec : {M : Type 1} → statement M
+put-install-spec =
     tie.close
     (tie.spec
     enum-known-answer
-    cast-put-loaded
-    cast-put-loaded-2
-    put-loaded-requires
+    cast-put-installed
+    cast-put-installed-2
+    put-installed-requires
     enum-known-answer-2
     put-refused-requires
     same-length

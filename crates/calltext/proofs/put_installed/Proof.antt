@@ -1,10 +1,10 @@
--- `put_loaded` meets its contract. Assumes nothing.
+-- `put_installed` meets its contract. Assumes nothing.
 use native.Mathlib.Omega.{arith}
 use Rattle.text.proofs.Fitting.{put, _then_}
 use Rattle.calltext.proofs.Written.{behind-most}
 use borrow.Author.Needs.{needs}
-use Rattle.calltext.proofs.put_loaded.Statement.{statement}
-use Rattle.calltext.proofs.put_loaded.Tie as tie
+use Rattle.calltext.proofs.put_installed.Statement.{statement}
+use Rattle.calltext.proofs.put_installed.Tie as tie
 
 slice-aggregate-put-bytes : tie.Need-slice-aggregate-put-bytes
 slice-aggregate-put-bytes c = search needs
@@ -46,8 +46,8 @@ returns c =
     let y = put (omega (arith, s .pre, d, e, u, v, x)) (c .before .before .put-byte .ensures) in
     ((u then (v then x)) then y) .wrote
 
-pub put-loaded-spec : {M : Type 1} → statement M
-put-loaded-spec =
+pub put-installed-spec : {M : Type 1} → statement M
+put-installed-spec =
     tie.close
     (tie.spec
     slice-aggregate-put-bytes
