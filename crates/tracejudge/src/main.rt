@@ -81,21 +81,13 @@ fn run_block(
     }
 }
 
-// A proved loop ends, and nothing says that the input does. So the turns are counted down, from a
-// number that no run uses up.
-fn most_turns() -> u64
-    ensures { λ r. ⌜ r ≡ 18446744073709551615 ⌝ }
-{
-    u64::MAX
-}
-
 // All blocks, up to the end of the input.
 fn run_blocks(line: &mut [u8], bytes: &mut [u8], out: &mut [u8], block: &mut [u8]) -> Reading
     requires { ⌜ (lineRoom ≤ length (now line)) × (bytesRoom ≤ length (now bytes)) × (answerRoom ≤ length (now out)) ⌝ }
 {
     let mut judge = judge::new_judge();
     let mut held = linebuffer::nothing();
-    let mut turns = most_turns();
+    let mut turns = stdio::most_turns();
     while turns > 0 {
         let read = read_block(block);
         match read {
