@@ -149,7 +149,7 @@ BELLBADGER_RESULT bellbadger_install_result bellbadger_install(bellbadger_judge 
 BELLBADGER_RESULT bellbadger_load_result bellbadger_load(bellbadger_judge judge, const uint8_t *file, size_t length);
 
 /* A board of that many empty places; drops an earlier one. Refused with
- *   20 no rule is loaded      10 no number of places from 1 to 64 */
+ *   20 no rule is there      10 no number of places from 1 to 64 */
 BELLBADGER_RESULT bellbadger_open_result bellbadger_open(bellbadger_judge judge, size_t places);
 
 /* Runs a chunk and keeps its end sets, count and length at the place. Byte 255 is an idle mark: it is

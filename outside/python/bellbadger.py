@@ -62,7 +62,7 @@ _REASONS = {
     11: "the board has no such place",
     12: "the chunk has over 65,536 bytes",
     13: "a byte is no symbol of the rule and no idle mark",
-    20: "no rule is loaded",
+    20: "no rule is there",
     21: "no board is open",
     22: "the place has a chunk already",
     23: "the place has no chunk",
@@ -341,6 +341,8 @@ class Judge:
 
         Refused with 3, 4, 6, 8, 9.
         """
+        if not isinstance(rule, CheckedRule):
+            raise TypeError("a CheckedRule is installed")
         targets = (ctypes.c_uint32 * 512)(*rule.targets)
         value = _CheckedRule(rule.n, rule.k, rule.initials, rule.finals, targets)
         return self._loaded(_lib.bellbadger_install(self._state, value))

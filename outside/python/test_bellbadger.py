@@ -162,7 +162,7 @@ class Calls(Case):
         self.refused(22, judge.deliver, 0, b"\xff")
 
     def test_words_of_a_refusal(self):
-        with self.assertRaisesRegex(Refused, "^refused 20: no rule is loaded$"):
+        with self.assertRaisesRegex(Refused, "^refused 20: no rule is there$"):
             Judge().open(1)
 
     def test_answers_of_other_kinds_differ(self):

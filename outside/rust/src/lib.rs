@@ -188,7 +188,7 @@ impl Judge {
     /// A board of that many empty places; an earlier one is dropped.
     ///
     /// # Errors
-    /// 20 (no rule is loaded), 10 (no number of places from 1 to 64).
+    /// 20 (no rule is there), 10 (no number of places from 1 to 64).
     ///
     /// ```
     /// # use bellbadger::Judge;

@@ -182,7 +182,7 @@ fn a_refusal_is_an_error() {
     }
     assert_eq!(
         called().unwrap_err().to_string(),
-        "refused 20: no rule is loaded"
+        "refused 20: no rule is there"
     );
 }
 
