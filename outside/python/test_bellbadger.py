@@ -159,7 +159,7 @@ class Calls(Case):
         self.assertEqual(judged(ASTRAY, [0]), Yes(1, 1, 1, 0))
         self.assertEqual(judged(ASTRAY, [], [0], []), Yes(1, 1, 1, 0))
         # the run from 0 goes on among them; the next place is not run from them, nor from 0 in their place
-        self.assertEqual(judged(ASTRAY, [1, 1], [0, 1]), No(3, 4, 0, 3))
+        self.assertEqual(judged(ASTRAY, [1, 1], [0]), No(3, 3, 1, 0))
         # an initial state among them is not run, alone or beside another
         self.assertEqual(judged(ASTRAY[:2] + bytes([4]) + ASTRAY[3:], [0, 1]), No(0, 2, 0, 0))
         self.assertEqual(judged(ASTRAY[:2] + bytes([13]) + ASTRAY[3:], [0]), Yes(1, 1, 1, 0))

@@ -179,7 +179,7 @@ fn judged(rule: &CheckedRule, chunks: [&[u8]; 2]) -> Verdict {
 fn states_that_lead_nowhere() {
     assert_eq!(installed(&astray(1, 2)), Ok(Loaded { sets: 4, starts: 2 }));
     assert_eq!(judged(&astray(1, 2), [&[], &[0]]), Verdict::Yes(1));
-    assert_eq!(judged(&astray(1, 2), [&[1, 1], &[0, 1]]), Verdict::No(3));
+    assert_eq!(judged(&astray(1, 2), [&[1, 1], &[0]]), Verdict::No(3));
     assert_eq!(judged(&astray(4, 2), [&[0, 1], &[]]), Verdict::No(0));
     assert_eq!(judged(&astray(13, 2), [&[0], &[]]), Verdict::Yes(1));
 }
