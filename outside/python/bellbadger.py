@@ -44,7 +44,7 @@ from pathlib import Path
 __all__ = ["CheckedRule", "Judge", "Loaded", "Looked", "Waiting", "Yes", "No", "Refused", "Malformed", "read", "replay", "version"]
 
 # what this module was written for, as outside/c/bellbadger.h has it; a higher minor number fits too
-_MAJOR, _MINOR, _STATE_SIZE = 3, 2, 27316
+_MAJOR, _MINOR, _STATE_SIZE = 4, 0, 27316
 _WAITING, _YES, _NO, _MALFORMED = 1, 2, 3, 4
 _LARGEST_SIZE = 2**64 - 1
 
@@ -127,8 +127,11 @@ class CheckedRule:
 
 @dataclass(frozen=True)
 class Loaded:
-    """What an accepted load or installation tells of the rule: how many sets and starts (M) there
-    are."""
+    """What an accepted load or installation tells of the rule: how many sets and starts (M) there are.
+
+    Of the states from which a final state can be reached, those that accept the same texts have one
+    start together. M is 0 where the rule has no final state.
+    """
 
     sets: int
     starts: int
@@ -137,7 +140,8 @@ class Loaded:
 @dataclass(frozen=True)
 class Looked:
     """What an accepted delivery tells of the run: for how many bytes of the text any successor was
-    looked up, the least number of them after which every run has died, else all."""
+    looked up, the least number of them after which every run has died, else all; 0 where nothing is
+    run."""
 
     bytes: int
 

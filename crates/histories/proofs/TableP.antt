@@ -23,10 +23,9 @@ use Rattle.subsets.specs.Sets.{setsOf, tooMany, nextSet}
 use Rattle.delegates.specs.declared.Starts.{Starts}
 use Rattle.delegates.specs.Claims.{startsIn}
 use Rattle.build.specs.Building.{builtOf}
-use Rattle.delegates.specs.Alike.{startSet}
+use Rattle.delegates.specs.Alike.{delegateIn, startSet}
 use Rattle.chunks.specs.Chunks.{foreign, counted, runSet, looked}
 use Rattle.joins.specs.Joining.{joinOf, yesOf}
-use Rattle.joins.specs.Claims.{delegateIn}
 use Rattle.histories.specs.History.{ruleThere, ruleFrom, withSets, loading, loadReply, openNumber, placesIn, standingCount, standingEnd, deliverCheck, standing, deliverNumber, standingText, reportIn, answersTo, ruleIn, lookedOf, replyBy, answerOf}
 use Rattle.calls.specs.Replies.{Reported, Reply, accepted, installed, judged, refused, delivered}
 use Rattle.calls.specs.Calls.{Call, installs, opens, delivers, asksVerdict, installNumber, loadNumber, verdictBy, reportBy}
@@ -214,7 +213,7 @@ abbrev given-B : Starts
 given-B = record { delegates = listed 0 1 1; startcount = 2 }
 
 computed : Each Left table
-unfolding loadNumber refusal tooShort tooLong badStates badSymbols noRoom badMask badPairs badSection badArcs anyBelow targetsUpTo listFrom union indexOf numbered expandFrom closeFrom keysUpTo setsOf tooMany nextSet rowsFrom placesIn standing textOf foreign counted looked startSet total joinOf
+unfolding loadNumber refusal tooShort tooLong badStates badSymbols noRoom badMask badPairs badSection badArcs anyBelow targetsUpTo listFrom union indexOf numbered expandFrom closeFrom keysUpTo setsOf tooMany nextSet rowsFrom placesIn standing textOf foreign counted looked delegateIn startSet total joinOf
 computed =
     ((refl, rw starts-A), (refl, refl)) &
     ((refl, rw starts-B), rw starts-B) &

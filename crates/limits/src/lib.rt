@@ -8,6 +8,10 @@ pub const STATES: usize = 32;
 // The same, in the type in which a rule has it.
 pub const MOST_STATES: u8 = STATES as u8;
 
+// Stands for no state where the delegate of a state is due: the first number that no state can
+// have.
+pub const NO_DELEGATE: u8 = MOST_STATES;
+
 // The most symbols of a rule.
 pub const SYMBOLS: usize = 16;
 

@@ -1,4 +1,4 @@
--- `delegate` meets its contract. The loop's invariant: p is at most q, and the search from p on
+-- `lowest` meets its contract. The loop's invariant: p is at most q, and the search from p on
 -- finds what the whole search does. Assumes nothing.
 use mathlib.Core.Path.{_≡_, sym, ap, _∙_}
 use mathlib.Core.Bool.{Bool}
@@ -10,8 +10,8 @@ use lib.Dec.{eqb}
 use Rattle.delegates.specs.Classes.{firstFrom}
 use Rattle.delegates.specs.Refinement.{classOf, firstInClass}
 use Rattle.delegates.proofs.Tests.{first-here, first-past, first-end}
-use Rattle.delegates.proofs.delegate.Statement.{statement}
-use Rattle.delegates.proofs.delegate.Tie as tie
+use Rattle.delegates.proofs.lowest.Statement.{statement}
+use Rattle.delegates.proofs.lowest.Tie as tie
 
 abbrev Inv-loop : tie.InvT-loop
 Inv-loop own q j class p₀ p =
@@ -74,8 +74,8 @@ returns-2 c =
     let test : ℕ → Bool = λ u. eqb (classOf (a .own .now) u) (classOf (a .own .now) (a .q .0)) in
     first-end test (l .p) (a .q .0) (omega arith) ∙ sym (l .inv .1)
 
-pub delegate-spec : {M : Type 1} → statement M
-delegate-spec =
+pub lowest-spec : {M : Type 1} → statement M
+lowest-spec =
     tie.close
     (tie.spec
     Inv-loop
