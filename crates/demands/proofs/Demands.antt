@@ -11,6 +11,7 @@
 --      loadOf j f, LoadLaw            a load, of any state and file         calls/specs/Steps, Claims
 --   2  Accepts, Run, Arc              automata and their runs (000)         automaton/specs/Automaton
 --      automatonIn f, automatonOf r   of a file's bytes, and of a rule      ruleformat/specs/Language, Format; automaton/specs/Rules
+--      Fewest, Covers                 the fewest starts                     histories/, delegates/specs/Fewest
 --      after, shares                  the set after a text; sets that meet  automaton/specs/Successor, masks/specs/Masks
 --      fileConditions                 numbers 1 to 8                        ruleformat/specs/Refusals
 --      ruleConditions, WellFormed     3, 4, 6, 8 of a rule as a value       rulecheck/specs/Checking, automaton/specs/Rules
@@ -83,6 +84,7 @@ use Rattle.histories.specs.Conditions.{Accepted-exactly, Refused-exactly}
 use Rattle.histories.specs.Claims.{judgeMachine, judgeAfter, repliesTo, BuiltBy, LookedUp, LoadClauses, EveryList}
 use Rattle.histories.specs.CountBound.{CountBound}
 use Rattle.histories.specs.FormerStarts.{SameAnswer}
+use Rattle.histories.specs.Fewest.{BuildFewest, InstallFewest}
 use Rattle.histories.specs.Functions.{judgeLibrary, AsksLoad, MayLoad}
 use Rattle.histories.specs.TableP.{TableP, Each, table}
 use Rattle.histories.proofs.EveryList.{every-list}
@@ -91,6 +93,7 @@ use Rattle.histories.proofs.Refinement.{judge-meets, load-asks, load-may}
 use Rattle.histories.proofs.Steps.{accepted-rule}
 use Rattle.histories.proofs.CountBound as histories-bound
 use Rattle.histories.proofs.FormerStarts as histories-former
+use Rattle.histories.proofs.Fewest as histories-fewest
 use Rattle.histories.proofs.TableP as histories-table
 use Rattle.histories.proofs.TablePRuns.{Loads-so}
 use Rattle.histories.proofs.TablePRuns as histories-table-runs
@@ -148,6 +151,15 @@ built h = every-list h .after .rule
 
 pub method : (r : Rule) → installNumber r ≡ none → Method (automatonOf r) (builtOf r)
 method = histories-method.method
+
+-- No choice of starting states that gives each state with a reachable final state an alike one has
+-- fewer than M members, and one has M: the M that the build returned, by its own contract, for every
+-- well-formed rule, and that any accepted installation answered (document 02, R-12).
+pub fewest-built : BuildFewest
+fewest-built = histories-fewest.build-fewest
+
+pub fewest-starts : (h : List Call) → InstallFewest h
+fewest-starts = histories-fewest.install-fewest
 
 -- A text is accepted exactly when the automaton of source document 000 has an accepting run over it.
 pub acceptance : (r : Rule) → installNumber r ≡ none → (w : List ℕ)
