@@ -32,7 +32,7 @@ use Rattle.calls.specs.Replies.{delivered}
 use Rattle.calls.specs.Calls.{Call, installs, opens, delivers, withdraws, asksVerdict, installNumber, openConditions, deliverConditions}
 use Rattle.calls.specs.Steps.{lacksBoard, withBoard, outcomeBy, runsAt, deliverOf, stepOf}
 use Rattle.calls.proofs.Conditions.{orElse, first-append}
-use Rattle.histories.specs.History.{ruleThere, ruleFrom, ruleIn, openNumber, placesIn, runAt, countOf, lookedOf, withdrawCheck, standing, deliverNumber, summedIn, replyBy}
+use Rattle.histories.specs.History.{ruleThere, ruleFrom, ruleIn, openNumber, placesIn, runAt, countOf, lookedOf, withdrawCheck, lastRevision, standing, deliverNumber, summedIn, replyBy}
 use Rattle.histories.specs.Claims.{judgeAfter, repliesTo}
 use Rattle.histories.specs.CountBound.{formerNumber, formerOn, sumWith, formerStep, formerMachine, CountBound}
 use Rattle.histories.proofs.Agreement.{run-count}
@@ -124,7 +124,7 @@ module _ (h : List Call) where
 -- ---- of the state
 module _ (h : List Call) where
   held-sum : summedCount (judgeAfter h .board) ≡ summedIn h
-  held-sum = summed-same (ruleThere h) (placesIn h) (standing h) (judgeAfter h) (good h)
+  held-sum = summed-same (ruleThere h) (placesIn h) (standing h) (lastRevision h) (judgeAfter h) (good h)
 
   held-most : summedCount (judgeAfter h .board) ≤ 134217728
   held-most = omega (arith, held-sum, most h)
@@ -136,7 +136,7 @@ module _ (h : List Call) where
         arith,
         held-sum,
         by-run h j p w (λ present. runsAt j p w .count ≡ countOf (ruleFrom present) p (some w))
-            (λ r holds l text. run-count r (placesIn h) (standing h) j holds p l w text)
+            (λ r holds l text. run-count r (placesIn h) (standing h) (lastRevision h) j holds p l w text)
             (ruleThere h)
             (good h)
             e,
@@ -163,7 +163,7 @@ module _ (h : List Call) (p : ℕ) (w : List ℕ) where
   same-held : formerOn (judgeAfter h) p w ≡ deliverNumber h p w
   same-held =
       let j = judgeAfter h in
-      let number = deliver-number (ruleThere h) (placesIn h) (standing h) j (good h) p w in
+      let number = deliver-number (ruleThere h) (placesIn h) (standing h) (lastRevision h) j (good h) p w in
       idle (deliverConditions (lacksBoard j) (placesOf (j .board)) p w (j .built .k) (not (isEmpty (j .board) p)))
       (sumWith j p w)
       (λ e. held-most-with h p w (sym number ∙ e))
@@ -174,7 +174,7 @@ module _ (h : List Call) (p : ℕ) (w : List ℕ) where
   same-delivery =
       let j = judgeAfter h in
       ap (λ (o : Option ℕ). outcomeBy o (delivered (runsAt j p w .looked)) j (withBoard j (filledAt (j .board) p (runsAt j p w))))
-      (same-held ∙ sym (deliver-number (ruleThere h) (placesIn h) (standing h) j (good h) p w))
+      (same-held ∙ sym (deliver-number (ruleThere h) (placesIn h) (standing h) (lastRevision h) j (good h) p w))
 
 -- ---- the judge with the six conditions
 same-step : (h : List Call) (c : Call) → formerStep (judgeAfter h) c ≡ stepOf (judgeAfter h) c

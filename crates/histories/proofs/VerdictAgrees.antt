@@ -29,36 +29,36 @@ use Rattle.automaton.specs.declared.Rule.{Rule}
 use Rattle.calls.specs.declared.Judge.{Judge}
 use Rattle.calls.specs.Calls.{Call, verdictBy, reportBy}
 use Rattle.calls.specs.Steps.{lacksBoard, isYes, verdictOf, reportOf}
-use Rattle.histories.specs.History.{ruleThere, ruleFrom, placesIn, endOf, standing, emptiesIn, summedIn, yesIn, verdictIn, reportIn}
+use Rattle.histories.specs.History.{ruleThere, ruleFrom, placesIn, endOf, lastRevision, standing, emptiesIn, summedIn, yesIn, verdictIn, reportIn}
 use Rattle.histories.proofs.Running.{n-same, merged}
 use Rattle.histories.proofs.Agreement.{Agrees}
 use Rattle.histories.proofs.Numbers.{no-board, places-same, summed-same, bytes-same}
 use Rattle.histories.proofs.Steps.{AgreesWith}
 
-module _ (present : Option Rule) (places : ℕ) (at : ℕ → Option (List ℕ)) (j : Judge) (holds : Agrees present places at j) where
+module _ (present : Option Rule) (places : ℕ) (at : ℕ → Option (List ℕ)) (last : ℕ → Option ℕ) (j : Judge) (holds : Agrees present places at last j) where
   pub empties-same : emptyPlaces (j .board) ≡ total (λ p. cond (isNone (at p)) 1 0) places
   empties-same =
       empty-law (j .board) (λ p. isNone (at p)) (λ p l. holds .empty p (omega (arith, l)))
-      ∙ ap (total (λ p. cond (isNone (at p)) 1 0)) (places-same present places at j holds)
+      ∙ ap (total (λ p. cond (isNone (at p)) 1 0)) (places-same present places at last j holds)
 
-yes-same : (r : Rule) (places : ℕ) (at : ℕ → Option (List ℕ)) (j : Judge) → Agrees (some r) places at j
+yes-same : (r : Rule) (places : ℕ) (at : ℕ → Option (List ℕ)) (last : ℕ → Option ℕ) (j : Judge) → Agrees (some r) places at last j
     → isYes j
     ≡ yesOf (λ p q. endOf r p q (at p)) (delegateIn (startsIn r .delegates)) (r .n) (r .initials) (r .finals) places
-yes-same r places at j holds =
+yes-same r places at last j holds =
     let d = startsIn r .delegates in
     let states : (q : ℕ) → q < r .n → delegateIn d q < 32 =
     λ q b. omega (arith, merged r (holds .rule .1) (holds .rule .2) .delegates q b .state, holds .rule .1 .states) in
-    rw (places-same (some r) places at j holds, holds .rule .0, n-same r (holds .rule .1) (holds .rule .2))
+    rw (places-same (some r) places at last j holds, holds .rule .0, n-same r (holds .rule .1) (holds .rule .2))
     (ap (λ (c : ℕ). shares c (r .finals))
     (joins.claims .join-law (j .board .ends) d (r .n) (r .initials) places (holds .rule .1 .states .1) states
     ∙ joins.claims .join-same (heldIn (j .board .ends)) (λ p q. endOf r p q (at p)) (delegateIn d) (r .n) (r .initials) places
     (λ p q l b. holds .ends p (delegateIn d q) (omega (arith, l, holds .few)) (states q b))))
 
-pub by-rule : (present : Option Rule) (places : ℕ) (at : ℕ → Option (List ℕ)) (j : Judge) → Agrees present places at j → 0 < places
+pub by-rule : (present : Option Rule) (places : ℕ) (at : ℕ → Option (List ℕ)) (last : ℕ → Option ℕ) (j : Judge) → Agrees present places at last j → 0 < places
     → isYes j
     ≡ yesOf (λ p q. endOf (ruleFrom present) p q (at p)) (delegateIn (startsIn (ruleFrom present) .delegates)) (ruleFrom present .n) (ruleFrom present .initials) (ruleFrom present .finals) places
-by-rule none places at j holds h = not-both refl (holds .ruled h)
-by-rule (some r) places at j holds h = yes-same r places at j holds
+by-rule none places at last j holds h = not-both refl (holds .ruled h)
+by-rule (some r) places at last j holds h = yes-same r places at last j holds
 
 -- no board on either side, or the same numbers
 pub verdict-says : (h : List Call) (j : Judge) → AgreesWith h j → verdictOf j ≡ verdictIn h
@@ -82,4 +82,4 @@ verdict-says h j good =
     ap₄ f p q r s = cc
 
 pub report-says : (h : List Call) (j : Judge) → AgreesWith h j → reportOf j ≡ reportIn h
-report-says h j good = ap₂ reportBy (verdict-says h j good) (bytes-same (ruleThere h) (placesIn h) (standing h) j good)
+report-says h j good = ap₂ reportBy (verdict-says h j good) (bytes-same (ruleThere h) (placesIn h) (standing h) (lastRevision h) j good)

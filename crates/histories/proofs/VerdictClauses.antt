@@ -252,8 +252,8 @@ module _ (r : Rule) (good : WellFormed r) (fit : fits r) (places : ℕ) (at : �
       rw (count-is p (at p)) (joins.claims .place-most r good (startsIn r .delegates) (startsIn r .startcount) (merged r good fit) p (standingText (at p)))
 
 -- ---- for every list of calls
-module _ (places : ℕ) (at : ℕ → Option (List ℕ)) (j : Judge) where
-  most-by : (present : Option Rule) → Agrees present places at j
+module _ (places : ℕ) (at : ℕ → Option (List ℕ)) (last : ℕ → Option ℕ) (j : Judge) where
+  most-by : (present : Option Rule) → Agrees present places at last j
       → total (λ p. countOf (ruleFrom present) p (at p)) places ≤ startsIn (ruleFrom present) .startcount * length (joinedUpTo at places)
   unfolding total
   most-by none holds =
@@ -263,7 +263,7 @@ module _ (places : ℕ) (at : ℕ → Option (List ℕ)) (j : Judge) where
   most-by (some r) holds =
       sum-most r (holds .rule .1) (holds .rule .2) places at
 
-  place-by : (present : Option Rule) → Agrees present places at j → (p : ℕ)
+  place-by : (present : Option Rule) → Agrees present places at last j → (p : ℕ)
       → countOf (ruleFrom present) p (at p) ≤ startsIn (ruleFrom present) .startcount * length (standingText (at p))
   place-by none holds p =
       let free : places ≤ p = by-test (ltb 0 places)
@@ -272,7 +272,7 @@ module _ (places : ℕ) (at : ℕ → Option (List ℕ)) (j : Judge) where
       rw (holds .beyond p free) (omega arith)
   place-by (some r) holds p = place-most r (holds .rule .1) (holds .rule .2) places at p
 
-  accepts-by : (present : Option Rule) → Agrees present places at j → 0 < places
+  accepts-by : (present : Option Rule) → Agrees present places at last j → 0 < places
       → total (λ p. cond (isNone (at p)) 1 0) places ≡ 0
       → (yesOf (λ p q. endOf (ruleFrom present) p q (at p)) (delegateIn (startsIn (ruleFrom present) .delegates)) (ruleFrom present .n) (ruleFrom present .initials) (ruleFrom present .finals) places ≡ true)
       ↔ Accepts (automatonOf (ruleFrom present)) (joinedUpTo at places)

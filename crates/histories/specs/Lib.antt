@@ -4,5 +4,6 @@ pub mod Method
 pub mod Conditions
 pub mod Claims
 pub mod CountBound
+pub mod Orders
 pub mod Functions
 pub mod TableP
