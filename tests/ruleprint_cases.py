@@ -1,7 +1,8 @@
 """Rules with few and many sets and starts, and what ruleprint prints for a file, computed from the
-words of document 01 and sharing nothing with the Rattle code: sets are Python sets, numbered by the procedure of "Sets and their order";
+words of documents 01 and 02 and sharing nothing with the Rattle code: sets are Python sets, numbered by the procedure of "Sets and their order";
 two states are alike unless a search over the pairs of sets that the same text leads to finds a pair of
-which one accepts and the other does not. tests/rule_cases.py makes the cases of a program of them.
+which one accepts and the other does not; a state has a delegate when a walk along arcs from it comes to a final
+state (R-7). tests/rule_cases.py makes the cases of a program of them.
 """
 import random
 import struct
@@ -75,11 +76,28 @@ def alike(k, finals, targets, q, r):
     return True
 
 
+def live(k, finals, targets, q):
+    """Whether a final state can be reached from q, which may be one itself."""
+    found, waiting = {q}, [q]
+    while waiting:
+        p = waiting.pop()
+        new = {t for s in range(k) for t in targets.get((p, s), ())} - found
+        found |= new
+        waiting += new
+    return bool(found & finals)
+
+
 def parts(f):
-    """The sets and the delegates of a rule file."""
+    """The sets and the delegates of a rule file, None where a state has none."""
     n, k, finals, targets = read(f)
     sets = number_sets(n, k, targets)
-    return sets, [min(r for r in range(n) if alike(k, finals, targets, q, r)) for q in range(n)]
+
+    def delegate(q):
+        if not live(k, finals, targets, q):
+            return None
+        return min(r for r in range(n) if alike(k, finals, targets, q, r))
+
+    return sets, [delegate(q) for q in range(n)]
 
 
 def text(f):
@@ -93,7 +111,7 @@ def text(f):
     for i, m in enumerate(sets):
         cells = [numbers.get(successor(targets, m, s), "-") for s in range(k)]
         lines.append(" ".join([str(i), f"{sum(1 << q for q in m):08X}"] + cells))
-    lines.append(" ".join(["delegates"] + [str(d) for d in delegates]))
+    lines.append(" ".join(["delegates"] + ["-" if d is None else str(d) for d in delegates]))
     return "".join(line + "\n" for line in lines)
 
 
@@ -146,15 +164,19 @@ CASES = [
     ("A", A, 5, 3),
     ("B", B, 4, 2),
     ("one_state", rule(1, 1, 1, 1, [(0, 0, 0)]), 1, 1),
-    ("no_arcs", rule(3, 2, 1, 0b010, []), 3, 2),
+    ("no_arcs", rule(3, 2, 1, 0b010, []), 3, 1),
     ("no_initial_state", patched(A, 2, 0), 5, 3),
-    ("no_final_state", patched(A, 6, 0), 5, 1),
+    ("no_final_state", patched(A, 6, 0), 5, 0),
     ("all_alike", rule(6, 2, 1, 0b111111, [(q, s, (q + 1 + s) % 6) for q in range(6) for s in (0, 1)]), 6, 1),
     ("none_alike", rule(32, 1, 1, 1 << 31, LINE), 32, 32),
-    ("alike_by_sets_alone", rule(5, 1, 1, 0b00100, [(0, 0, 2), (1, 0, 2), (1, 0, 3), (4, 0, 4)]), 6, 3),
+    ("alike_by_sets_alone", rule(5, 1, 1, 0b00100, [(0, 0, 2), (1, 0, 2), (1, 0, 3), (4, 0, 4)]), 6, 2),
     ("told_apart_by_a_long_text", rule(32, 1, 1, 0b1, [(q, 0, (q + 1) % 32) for q in range(32)]), 32, 32),
     ("n_32_k_16", rule(32, 16, 1, 0x80000001, RING), 32, 32),
-    ("state_31", rule(32, 1, 1 << 31, 1 << 31, [(31, 0, 31), (31, 0, 0), (0, 0, 31)]), 33, 3),
+    ("state_31", rule(32, 1, 1 << 31, 1 << 31, [(31, 0, 31), (31, 0, 0), (0, 0, 31)]), 33, 2),
+    # 1 is final and has no arcs; 2 and 3 lead only to each other; 4 leads there too, and is alike to 0
+    ("dead_states", rule(5, 2, 0b10101, 0b00010, [(0, 0, 1), (2, 0, 2), (2, 1, 3), (3, 0, 2), (4, 0, 1), (4, 0, 2), (4, 1, 3)]), 6, 2),
+    # state 31 is the only one that leads somewhere, so that all before it have no delegate
+    ("one_live_state", rule(32, 1, 1, 1 << 31, [(q, 0, q - 1) for q in range(1, 31)]), 32, 1),
     ("sets_508", many_sets(0), 508, None),
     ("sets_512", many_sets(4), 512, None),
     ("sets_513", many_sets(5), 9, None),

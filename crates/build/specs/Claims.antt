@@ -11,7 +11,8 @@ use Rattle.delegates.specs.Alike.{Merged}
 use Rattle.build.specs.Building.{builtOf}
 
 pub record Claims : Type 0 where
-  -- its delegates are, for each state, the lowest alike one, and its number of starts is M
+  -- its delegates are, for each state from which a final state can be reached, the lowest alike
+  -- one, and none for any other; and its number of starts is M
   pub delegates : (r : Rule) → WellFormed r → fits r → Merged (automatonOf r) (builtOf r .delegates) (builtOf r .startcount)
   -- the number of {q} names the mask of {q}
   pub singles : (r : Rule) → WellFormed r → fits r → (q : ℕ) → q < r .n

@@ -5,7 +5,8 @@ use automaton::Rule;
 use subsets::Numbering;
 
 // A rule that is built. startcount is M; singles has the number of {q} for each state q. Any cell
-// of next or singles at or above 512 reads as the empty set.
+// of next or singles at or above 512 reads as the empty set, any cell of delegates at or above 32
+// as none.
 #[repr(C)]
 pub struct Built {
     pub n: u8,

@@ -22,6 +22,7 @@ claims = record {
   counted-most = counts.counted-most;
   chunk-most = counts.chunk-most;
   start-law = starts.start-law;
+  start-own = starts.start-own;
   delegate-law = starts.delegate-law;
   delegate-mask = starts.delegate-mask;
   run-mask = starts.run-mask;

@@ -4,7 +4,7 @@
 --   foreign w k            some byte of w is no symbol below k (13)
 --   counted ts m w         what a run over w counts that begins with the set m: one transition for
 --                          each successor that is not empty
---   delegateSet d n m      the delegates of the members of m
+--   delegateSet d n m      the delegates of the members of m; a member without one is passed over
 --   runSet d n m place     the states that a chunk is run from at a place, where m is the set of
 --                          initial states
 --   endSet ts run w q      the end set of state q for the chunk w; empty where q is not run
@@ -16,12 +16,11 @@ use mathlib.Core.Bool.{Bool, false, cond, _||_}
 use mathlib.Core.List.{List, [], _∷_}
 use Prim.Native.Nat.{ℕ, zero, suc, _+_}
 use lib.Dec.{eqb, leb}
-use lib.ListN.{getD}
 use Rattle.limits.specs.Limits.{mostStates}
 use Rattle.base.specs.Totals.{total}
 use Rattle.masks.specs.Masks.{has, single, union}
 use Rattle.automaton.specs.Successor.{successor, after}
-use Rattle.delegates.specs.Alike.{startSet}
+use Rattle.delegates.specs.Alike.{delegateIn, ofDelegate, startSet}
 
 unfoldable pub foreign : List ℕ → ℕ → Bool
 foreign [] k = false
@@ -32,7 +31,7 @@ counted ts m [] = 0
 counted ts m (s ∷ w) = cond (eqb (successor ts m s) 0) 0 1 + counted ts (successor ts m s) w
 
 abbrev pub delegateSet : List ℕ → ℕ → ℕ → ℕ
-delegateSet d n m = union (λ q. single (getD d q 0)) m n
+delegateSet d n m = union (λ q. ofDelegate single (delegateIn d q)) m n
 
 -- place 0 is run from the delegates of initial states, any other place from all starts
 abbrev pub runSet : List ℕ → ℕ → ℕ → ℕ → ℕ

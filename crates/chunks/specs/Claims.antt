@@ -4,6 +4,7 @@ use mathlib.Core.Path.{_≡_}
 use mathlib.Core.Logic.{_↔_}
 use mathlib.Core.Bool.{false}
 use mathlib.Core.List.{List}
+use mathlib.Core.Option.{some}
 use Prim.Native.Nat.{ℕ, _*_, _^_, _<_, _≤_}
 use lib.ListN.{length, getD, take}
 use Rattle.limits.specs.Limits.{mostStates}
@@ -14,7 +15,7 @@ use Rattle.automaton.specs.Rules.{WellFormed}
 use Rattle.automaton.specs.Successor.{after}
 use Rattle.subsets.specs.Claims.{fits}
 use Rattle.automaton.specs.Automaton.{Text}
-use Rattle.delegates.specs.Alike.{startCount, startSet}
+use Rattle.delegates.specs.Alike.{delegateIn, startCount, startSet}
 use Rattle.build.specs.Building.{builtOf}
 use Rattle.chunks.specs.Chunks.{foreign, counted, delegateSet, runSet, endSet, chunkCount, looked}
 use Rattle.chunks.specs.Walks.{walkEnd, walkCount, maskOf, runsOf, delegateMask, runMask}
@@ -54,9 +55,12 @@ pub record Claims : Type 0 where
   pub counted-most : (ts : List ℕ) (m : ℕ) (w : List ℕ) → counted ts m w ≤ length w
   pub chunk-most : (ts d : List ℕ) (n run : ℕ) → n ≤ mostStates → ((q : ℕ) → q ∈ run → q ∈ startSet d n) → (w : List ℕ)
       → chunkCount ts run w ≤ startCount d n * length w
-  -- the members of the starts and of a place's starts, by document 01's words
+  -- the members of the starts and of a place's starts, by document 01's words; of at most 32 states
+  -- the starts are those that the list of delegates says to be their own
   pub start-law : (d : List ℕ) (n q : ℕ) → q ∈ startSet d n ↔ (q < n) × (getD d q 0 ≡ q)
-  pub delegate-law : (d : List ℕ) (n m p : ℕ) → p ∈ delegateSet d n m ↔ (q : ℕ) × (q < n) × (q ∈ m) × (p ≡ getD d q 0)
-  -- where each delegate is a state, what the code takes them for is what they are
-  pub delegate-mask : (d : List ℕ) (n m : ℕ) → n ≤ mostStates → ((q : ℕ) → q < n → getD d q 0 < mostStates) → delegateMask d n m ≡ delegateSet d n m
-  pub run-mask : (d : List ℕ) (n m : ℕ) → n ≤ mostStates → ((q : ℕ) → q < n → getD d q 0 < mostStates) → (place : ℕ) → runMask d n m place ≡ runSet d n m place
+  pub start-own : (d : List ℕ) (n q : ℕ) → n ≤ mostStates → q ∈ startSet d n ↔ (q < n) × (delegateIn d q ≡ some q)
+  pub delegate-law : (d : List ℕ) (n m p : ℕ) → p ∈ delegateSet d n m ↔ (q : ℕ) × (q < n) × (q ∈ m) × (delegateIn d q ≡ some p)
+  -- of at most 32 states, what the code takes for the delegates and a place's starts is what they
+  -- are
+  pub delegate-mask : (d : List ℕ) (n m : ℕ) → n ≤ mostStates → delegateMask d n m ≡ delegateSet d n m
+  pub run-mask : (d : List ℕ) (n m : ℕ) → n ≤ mostStates → (place : ℕ) → runMask d n m place ≡ runSet d n m place

@@ -11,8 +11,8 @@
 --   runsOf ..             the end set of each state that is run, as an array, the sum of the
 --                         counts, the number of text bytes, and those for which any run looks a
 --                         successor up
---   delegateMask, runMask   delegateSet and runSet for at most 32 states; of a delegate the
---                           remainder by 32 is taken
+--   delegateMask, runMask   delegateSet and runSet for at most 32 states: a number above counts as
+--                           that
 use mathlib.Core.Bool.{cond}
 use mathlib.Core.List.{List, [], _∷_}
 use Prim.Native.Nat.{ℕ, zero, suc, _+_, _%_, min, max}
@@ -21,10 +21,10 @@ use lib.ListN.{length, getD}
 use Rattle.limits.specs.Limits.{mostStates, mostSymbols, emptySet}
 use Rattle.base.specs.Lists.{listFrom}
 use Rattle.base.specs.Totals.{total}
-use Rattle.masks.specs.Masks.{has, single, union}
+use Rattle.masks.specs.Masks.{has}
 use Rattle.delegates.specs.Classes.{follow}
 use Rattle.chunks.specs.declared.Runs.{Runs}
-use Rattle.delegates.specs.Alike.{startSet}
+use Rattle.chunks.specs.Chunks.{delegateSet, runSet}
 
 abbrev pub stepOf : List ℕ → ℕ → ℕ → ℕ
 stepOf next i b = follow next i (b % mostSymbols)
@@ -57,8 +57,7 @@ runsOf sets next singles run w = record {
 }
 
 abbrev pub delegateMask : List ℕ → ℕ → ℕ → ℕ
-delegateMask d n m = union (λ q. single (getD d q 0 % mostStates)) m (min n mostStates)
+delegateMask d n m = delegateSet d (min n mostStates) m
 
 abbrev pub runMask : List ℕ → ℕ → ℕ → ℕ → ℕ
-runMask d n m zero = delegateMask d n m
-runMask d n m (suc place) = startSet d (min n mostStates)
+runMask d n m place = runSet d (min n mostStates) m place

@@ -1,11 +1,13 @@
 // Runs a chunk over the next-set table of a built rule.
 ghost use mathlib.Core.Path.{_≡_};
-ghost use Prim.Native.Nat.{_≤_, min, max};
+ghost use Prim.Native.Nat.{_≤_, _<_, min, max};
 ghost use lib.ListN.{length};
 ghost use Rattle.limits.specs.Limits.{mostStates, longestChunk};
-ghost use Rattle.delegates.specs.Alike.{startSet};
+ghost use Rattle.masks.specs.Masks.{single};
+ghost use Rattle.delegates.specs.Alike.{delegateIn, ofDelegate, startSet};
 ghost use Rattle.chunks.specs.Chunks.{foreign};
 ghost use Rattle.chunks.specs.Walks.{walkEnd, walkCount, walkLooked, maskOf, runsOf, delegateMask, runMask};
+use delegates::DelegateAnswer;
 use masks::StateNumber;
 use subsets::SetNumber;
 
@@ -104,7 +106,18 @@ pub fn start_mask(delegates: [u8; limits::STATES], n: u8) -> u32
     starts
 }
 
-// The delegates of the set's members.
+// The delegate of state q, as a set, which is empty where it has none.
+fn delegate_single(delegates: &[u8; limits::STATES], q: StateNumber) -> u32
+    requires { ⌜ q .0 < mostStates ⌝ }
+    ensures { λ r. ⌜ r ≡ ofDelegate single (delegateIn (now (delegates .entry)) (q .0)) ⌝ }
+{
+    let DelegateAnswer::State(delegate) = delegates::delegate_at(delegates, q) else {
+        return 0;
+    };
+    masks::singleton(delegate)
+}
+
+// The delegates of the set's members; a member without one is passed over.
 pub fn delegate_mask(delegates: [u8; limits::STATES], n: u8, set: u32) -> u32
     ensures { λ r. ⌜ r ≡ delegateMask delegates n set ⌝ }
 {
@@ -113,11 +126,7 @@ pub fn delegate_mask(delegates: [u8; limits::STATES], n: u8, set: u32) -> u32
     let mut q: u8 = 0;
     while q < most {
         if masks::member(set, StateNumber(q)) {
-            let i = q as usize;
-            out = masks::union(
-                out,
-                masks::singleton(StateNumber(delegates[i] % limits::MOST_STATES)),
-            );
+            out = masks::union(out, delegate_single(&delegates, StateNumber(q)));
         }
         q += 1;
     }

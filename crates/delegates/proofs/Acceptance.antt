@@ -1,14 +1,16 @@
 -- Acceptance over the table of a rule is acceptance in its automaton, so alike sets {p} and {q} are
--- alike states, and `startsOf` has the delegates and the starts of the automaton. Assumes what
--- crates/subsets claims of the numbered sets, a well-formed rule and at most 512 sets.
+-- alike states, a state is live exactly where a text tells its set from the empty set, and
+-- `startsOf` has the delegates and the starts of the automaton. Assumes what crates/subsets claims
+-- of the numbered sets, a well-formed rule and at most 512 sets.
 --
 -- A text leads from set number i to the number of the successor of set i by that text, or to 512
 -- where it is empty; by induction over the text, one cell a symbol. The members of the successor of
 -- {q} are the states that runs from q lead to. And {q}, reached by the empty text, has a number.
 use mathlib.Core.Path.{_≡_, refl, sym, ap, _∙_, subst}
 use mathlib.Core.Logic.{_↔_}
-use mathlib.Core.Bool.{true, false}
+use mathlib.Core.Bool.{Bool, true, false, cond, not, false≢true}
 use mathlib.Core.List.{List, [], _∷_}
+use mathlib.Core.Option.{Option, none, some}
 use Prim.Native.Nat.{ℕ, _+_, _*_, _/_, _%_, _≤_, _<_, min, zero-le}
 use native.Mathlib.Omega.{arith}
 use borrow.Author.Tests.{ltb-false, eqb-true, eqb-false}
@@ -29,13 +31,13 @@ use Rattle.subsets.specs.Sets.{tooMany, nextSet, setCells, nextCells}
 use Rattle.subsets.specs.Claims.{Claims as SubsetsClaims, sets, next, fits}
 use Rattle.subsets.specs.Singles.{singletonNumber, singlesOf}
 use Rattle.subsets.proofs.Singles.{single-named}
-use Rattle.delegates.specs.Alike.{AcceptsFrom, Alike, Delegate, Merged}
-use Rattle.delegates.specs.Classes.{follow, singleAt, accepted, AlikeSets}
-use Rattle.delegates.specs.Claims.{startsIn}
+use Rattle.delegates.specs.Alike.{AcceptsFrom, Alike, Live, Lowest, Delegate, delegateCell, Merged}
+use Rattle.delegates.specs.Classes.{follow, singleAt, accepted, AlikeSets, alikeTo, liveOf, lowestOf, delegateOf}
+use Rattle.delegates.specs.Claims.{startsIn, liveIn}
 use Rattle.delegates.proofs.Tests.{Least, le-by}
-use Rattle.delegates.proofs.Classes.{final-set, final-empty, follow-set, follow-empty}
-use Rattle.delegates.proofs.Merged.{starts-meet}
-use Rattle.delegates.proofs.Alike.{alike-back}
+use Rattle.delegates.proofs.Classes.{final-set, final-empty, follow-set, follow-empty, telling, near-alike}
+use Rattle.delegates.proofs.Merged.{lowest, starts-meet}
+use Rattle.delegates.proofs.Alike.{alike-back, run-text}
 
 -- from the empty set nothing is accepted
 accepted-empty : (sets next : List ℕ) (finals : ℕ) (w : List ℕ) → accepted sets next finals 512 w ≡ false
@@ -168,10 +170,39 @@ module _ (given : SubsetsClaims) (r : Rule) (good : WellFormed r) (fit : fits r)
         (λ t. b .0 (h w x .0 (a .1 t)), λ t. a .0 (h w x .1 (b .1 t))),
   )
 
+  -- ---- live states
+  -- a test that two sets are not near, the second being empty, decides
+  tested : (q : ℕ) → q < r .n → (b : Bool) → alikeTo masks cells (r .finals) (r .k) 513 (numbered q) 512 ≡ b
+      → (not b ≡ true) ↔ Live (automatonOf r) q
+  unfolding numbered
+  tested q h true t = (
+    (λ e. absurd (false≢true e)),
+    λ l.
+        let x = run-text (automatonOf r) (l .accepts .run) in
+        let same = near-alike masks cells (r .finals) (r .k) (numbered q) 512 (omega arith) (omega arith) .0 t (l .text) x in
+        absurd (false≢true (sym (accepted-empty masks cells (r .finals) (l .text)) ∙ sym same ∙ state-law q h (l .text) x .0 (l .accepts))),
+  )
+  tested q h false t = (
+    (λ e.
+        let u = telling masks cells (r .finals) (r .k) 513 (numbered q) 512 t in
+        by-test (accepted masks cells (r .finals) (numbered q) (u .0))
+        (λ y. record { text = u .0; accepts = state-law q h (u .0) (u .1) .1 y })
+        (λ y. absurd (u .2 (y ∙ sym (accepted-empty masks cells (r .finals) (u .0)))))),
+    λ l. refl,
+  )
+
+  live-test : (q : ℕ) → q < r .n → (liveOf masks cells (r .finals) singles (r .k) q ≡ true) ↔ Live (automatonOf r) q
+  unfolding liveOf numbered
+  live-test q h = tested q h (alikeTo masks cells (r .finals) (r .k) 513 (numbered q) 512) refl
+
+  pub live-law : (q : ℕ) → q < r .n → (liveIn r q ≡ true) ↔ Live (automatonOf r) q
+  unfolding liveIn masks cells singles
+  live-law q h = live-test q h
+
   -- ---- the delegates
-  delegate-of : (q d : ℕ) → q < r .n → Least (λ p u. AlikeSets masks cells (r .finals) (r .k) (numbered p) (numbered u)) 0 q d
-      → Delegate (automatonOf r) q d
-  delegate-of q d h x =
+  lowest-of : (q d : ℕ) → q < r .n → Least (λ p u. AlikeSets masks cells (r .finals) (r .k) (numbered p) (numbered u)) 0 q d
+      → Lowest (automatonOf r) q d
+  lowest-of q d h x =
       let below : d < r .n = omega (arith, x .most) in
       record {
         state = below;
@@ -179,15 +210,42 @@ module _ (given : SubsetsClaims) (r : Rule) (good : WellFormed r) (fit : fits r)
         lowest = λ p l y. le-by d p (λ b. x .first p zero-le b (alike-law p q l h .1 (alike-back (automatonOf r) q p y)));
       }
 
+  symbols : min (r .k) 16 ≡ r .k
+  symbols = omega (arith, good .symbols)
+
+  lowest-is : (q : ℕ) → q < r .n → Lowest (automatonOf r) q (lowestOf masks cells (r .finals) singles (r .k) q)
+  unfolding numbered
+  lowest-is q h =
+      lowest-of q (lowestOf masks cells (r .finals) singles (r .k) q) h
+      (rw symbols at (lowest masks cells (r .finals) singles (r .n) (r .k) q))
+
+  pub lowest-law : (q : ℕ) → q < r .n
+      → Lowest (automatonOf r) q
+      (lowestOf (setCells (r .targets) (r .n) (r .k)) (nextCells (r .targets) (r .n) (r .k)) (r .finals)
+      (singlesOf (setCells (r .targets) (r .n) (r .k)) (length (sets r)))
+      (r .k)
+      q)
+  unfolding masks cells singles
+  lowest-law q h = lowest-is q h
+
+  delegate-is : (q : ℕ) → q < r .n
+      → (o : Option ℕ) × Delegate (automatonOf r) q o × (delegateOf masks cells (r .finals) singles (r .k) q ≡ delegateCell o)
+  unfolding delegateOf
+  delegate-is q h = one (liveOf masks cells (r .finals) singles (r .k) q) (live-test q h)
+    where
+      one : (b : Bool) → (b ≡ true) ↔ Live (automatonOf r) q
+          → (o : Option ℕ) × Delegate (automatonOf r) q o × (cond b (lowestOf masks cells (r .finals) singles (r .k) q) 32 ≡ delegateCell o)
+      one true law = (some (lowestOf masks cells (r .finals) singles (r .k) q), (law .0 refl, lowest-is q h), refl)
+      one false law = (none, (λ l. false≢true (law .1 l)), refl)
+
   pub merged : Merged (automatonOf r) (startsIn r .delegates) (startsIn r .startcount)
-  unfolding masks cells singles numbered startsIn
+  unfolding masks cells singles startsIn
   merged =
       let n : min (r .n) 32 ≡ r .n = omega (arith, good .states) in
-      let k : min (r .k) 16 ≡ r .k = omega (arith, good .symbols) in
       let m = starts-meet masks cells (r .finals) singles (r .n) (r .k) in
       record {
         cells = m .cells;
-        delegates = λ q h. delegate-of q (getD (startsIn r .delegates) q 0) h (rw k at (m .delegates q (omega arith)));
+        delegates = λ q h. let u = delegate-is q h in (u .0, u .1, (rw symbols at (m .delegates q (omega arith))) ∙ u .2);
         zeros = λ q h. m .zeros q (omega arith);
         starts = rw n at (m .starts);
       }

@@ -13,9 +13,16 @@ claims = record {
   alike-self = alike.alike-self;
   alike-back = alike.alike-back;
   alike-on = alike.alike-on;
+  final-live = alike.final-live;
+  none-live = alike.none-live;
+  none-start = alike.none-start;
+  live-alike = alike.live-alike;
+  dead-alike = alike.dead-alike;
+  live-law = acceptance.live-law subsets.claims;
   one-delegate = alike.one-delegate;
   same-delegate = alike.same-delegate;
   own-delegate = alike.own-delegate;
   delegates-start = alike.delegates-start;
+  delegates-in = alike.delegates-in;
   one-list = alike.one-list;
 }

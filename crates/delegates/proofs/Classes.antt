@@ -26,7 +26,7 @@ use Rattle.masks.specs.Masks.{shares}
 use Rattle.automaton.specs.Automaton.{Text}
 use Rattle.delegates.specs.Classes.{final, follow, accepted, AlikeSets, every, firstFrom, alikeTo}
 use Rattle.delegates.specs.Refinement.{classOf, sameIn, leastOf, roundOf, changes, classesOf}
-use Rattle.delegates.proofs.Tests.{Least, le-by, equal, every-law, found, least-by, one-least}
+use Rattle.delegates.proofs.Tests.{Least, le-by, equal, every-law, fails, found, least-by, one-least}
 use Rattle.delegates.proofs.Kept.{kept, kept-most, kept-less}
 
 -- ---- final, follow
@@ -128,6 +128,25 @@ module _ (sets next : List ℕ) (finals k : ℕ) where
 
   pub alike-near : (f s t : ℕ) → AlikeSets sets next finals k s t → Near f s t
   alike-near f s t h = same-near f s t (λ w x l. h w x)
+
+  -- sets that are not near are told apart by a text
+  pub telling : (f s t : ℕ) → alikeTo sets next finals k f s t ≡ false
+      → (w : List ℕ) × Text k w × (accepted sets next finals s w ≡ accepted sets next finals t w → ⊥)
+  unfolding alikeTo accepted
+  telling zero s t e = absurd (true≢false e)
+  telling (suc f) s t e = one (λ a. telling f (follow next s a) (follow next t a)) (Bool·beq (final sets finals s) (final sets finals t)) refl e
+    where
+      one : ((a : ℕ) → alikeTo sets next finals k f (follow next s a) (follow next t a) ≡ false
+          → (w : List ℕ) × Text k w × (accepted sets next finals (follow next s a) w ≡ accepted sets next finals (follow next t a) w → ⊥))
+          → (b : Bool) → Bool·beq (final sets finals s) (final sets finals t) ≡ b
+          → b && every k (λ a. alikeTo sets next finals k f (follow next s a) (follow next t a)) ≡ false
+          → (w : List ℕ) × Text k w × (accepted sets next finals s w ≡ accepted sets next finals t w → ⊥)
+      one before true z e =
+          let u = fails k (λ a. alikeTo sets next finals k f (follow next s a) (follow next t a)) e in
+          let v = before (u .0) (u .2) in
+          (u .0 ∷ v .0, (u .1, v .1), v .2)
+      one before false z e =
+          ([], tt, λ same. true≢false (sym (equal (final sets finals s) (final sets finals t) .1 same) ∙ z))
 
   -- ---- the classes at f, and at f + 1
   abbrev pub ClassesTo : ℕ → (ℕ → ℕ) → Type 0

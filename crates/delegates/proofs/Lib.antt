@@ -5,5 +5,6 @@ pub mod Classes
 pub mod Merged
 pub mod Merging
 pub mod Alike
+pub mod Answer
 pub mod Acceptance
 pub mod Claims

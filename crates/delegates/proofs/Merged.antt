@@ -1,5 +1,5 @@
--- `startsOf` by what it is: each state's delegate is the lowest state with a set alike to its own
--- (`MergedSets`). Assumes nothing.
+-- `startsOf` by what it is: its cells (`MergedSets`), and that `lowestOf` is the lowest state with
+-- a set alike to a state's own. Assumes nothing.
 use mathlib.Core.Path.{_≡_, refl, _∙_}
 use mathlib.Core.Bool.{Bool, true, cond}
 use mathlib.Core.List.{List}
@@ -13,7 +13,7 @@ use Rattle.base.proofs.Lists.{length-listFrom, cell-of}
 use Rattle.base.proofs.Tests.{by-test}
 use Rattle.delegates.specs.declared.Starts.{Starts}
 use Rattle.delegates.specs.Alike.{startCount}
-use Rattle.delegates.specs.Classes.{AlikeSets, firstFrom, alikeTo, singleAt, delegateOf, startsOf}
+use Rattle.delegates.specs.Classes.{AlikeSets, firstFrom, alikeTo, singleAt, lowestOf, delegateOf, startsOf}
 use Rattle.delegates.proofs.Tests.{Least, found, least-by}
 use Rattle.delegates.proofs.Classes.{near-alike, alike-near}
 
@@ -24,12 +24,12 @@ Kin sets next finals singles k p u = AlikeSets sets next finals k (singleAt sing
 module _ (sets next : List ℕ) (finals : ℕ) (singles : List ℕ) (n k : ℕ) where
   pub record MergedSets (r : Starts) : Type 0 where
     pub cells : length (r .delegates) ≡ 32
-    pub delegates : (q : ℕ) → q < min n 32 → Least (Kin sets next finals singles (min k 16)) 0 q (getD (r .delegates) q 0)
+    pub delegates : (q : ℕ) → q < min n 32 → getD (r .delegates) q 0 ≡ delegateOf sets next finals singles (min k 16) q
     pub zeros : (q : ℕ) → min n 32 ≤ q → getD (r .delegates) q 0 ≡ 0
     pub starts : r .startcount ≡ startCount (r .delegates) (min n 32)
 
-  lowest : (q : ℕ) → Least (Kin sets next finals singles (min k 16)) 0 q (delegateOf sets next finals singles (min k 16) q)
-  unfolding delegateOf
+  pub lowest : (q : ℕ) → Least (Kin sets next finals singles (min k 16)) 0 q (lowestOf sets next finals singles (min k 16) q)
+  unfolding lowestOf
   lowest q =
       let test : ℕ → Bool = λ p. alikeTo sets next finals (min k 16) 513 (singleAt singles p) (singleAt singles q) in
       least-by (λ p _. test p ≡ true) (Kin sets next finals singles (min k 16)) 0 q (firstFrom test 0 q)
@@ -44,10 +44,7 @@ module _ (sets next : List ℕ) (finals : ℕ) (singles : List ℕ) (n k : ℕ) 
   unfolding startsOf
   starts-meet = record {
     cells = length-listFrom 0 32 cell;
-    delegates = λ q h.
-        let e : getD (listFrom 0 32 cell) q 0 ≡ delegateOf sets next finals singles (min k 16) q =
-        cell-of 32 cell q 0 (omega arith) ∙ rw (lt-ltb q (min n 32) h) in
-        rw e (lowest q);
+    delegates = λ q h. cell-of 32 cell q 0 (omega arith) ∙ rw (lt-ltb q (min n 32) h);
     zeros = λ q h.
         by-test (ltb q 32)
         (λ t. cell-of 32 cell q 0 (ltb-true q 32 t) ∙ rw (le-ltb q (min n 32) h))

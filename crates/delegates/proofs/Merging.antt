@@ -2,9 +2,9 @@
 -- to. The states below q have the class of their set in `own` and their delegate in `delegates`,
 -- which has zeros from q on, and `starts` counts those that are their own delegate. States with
 -- sets of one class are those that no text tells apart, so the first state of a class is the
--- delegate. Assumes nothing.
+-- delegate; and a state in the class of the empty set has none. Assumes nothing.
 use mathlib.Core.Path.{_≡_, refl, sym, ap₂, _∙_}
-use mathlib.Core.Bool.{cond}
+use mathlib.Core.Bool.{Bool, true, false, cond, not}
 use mathlib.Core.List.{List}
 use Prim.Native.Nat.{ℕ, zero, suc, _+_, _≤_, _<_, min}
 use native.Mathlib.Numerals.{add-one}
@@ -18,8 +18,8 @@ use Rattle.base.specs.Lists.{listFrom}
 use Rattle.base.proofs.Lists.{is-listFrom, zero-cells, stored}
 use Rattle.base.proofs.Tests.{by-test, one-most}
 use Rattle.delegates.specs.Alike.{startCount}
-use Rattle.delegates.specs.Classes.{alikeTo, singleAt, delegateOf, startsOf}
-use Rattle.delegates.specs.Refinement.{classOf, firstInClass, classesOf}
+use Rattle.delegates.specs.Classes.{alikeTo, singleAt, liveOf, lowestOf, delegateOf, startsOf}
+use Rattle.delegates.specs.Refinement.{classOf, firstInClass, cellIn, classesOf}
 use Rattle.delegates.proofs.Tests.{first-same}
 use Rattle.delegates.proofs.Classes.{class-test}
 use Rattle.delegates.proofs.Merged.{cell}
@@ -34,6 +34,10 @@ module _ (sets next : List ℕ) (finals : ℕ) (singles : List ℕ) (k : ℕ) wh
   -- the class of the set {q}
   abbrev pub classAt : ℕ → ℕ
   classAt q = classOf (classesOf sets next finals k) (singleAt singles q)
+
+  -- the class of the empty set
+  abbrev pub emptyClass : ℕ
+  emptyClass = classOf (classesOf sets next finals k) 512
 
   pub record Merging (own delegates : List ℕ) (starts q : ℕ) : Type 0 where
     pub own-cells : length own ≡ 32
@@ -56,11 +60,11 @@ module _ (sets next : List ℕ) (finals : ℕ) (singles : List ℕ) (k : ℕ) wh
     few = omega arith;
   }
 
-  -- the lowest state in the class of q is its delegate
-  delegated : (own : List ℕ) (q : ℕ) → ((b : ℕ) → b < q + 1 → classOf own b ≡ classAt b)
-      → firstInClass own q ≡ delegateOf sets next finals singles k q
-  unfolding firstInClass delegateOf
-  delegated own q same =
+  -- the lowest state in the class of q
+  lowest-in : (own : List ℕ) (q : ℕ) → ((b : ℕ) → b < q + 1 → classOf own b ≡ classAt b)
+      → firstInClass own q ≡ lowestOf sets next finals singles k q
+  unfolding firstInClass lowestOf
+  lowest-in own q same =
       first-same
       (λ p. eqb (classOf own p) (classOf own q))
       (λ p. alikeTo sets next finals k 513 (singleAt singles p) (singleAt singles q))
@@ -69,8 +73,20 @@ module _ (sets next : List ℕ) (finals : ℕ) (singles : List ℕ) (k : ℕ) wh
       rw (same p (omega arith), same q (omega arith))
       (class-test sets next finals k (singleAt singles p) (singleAt singles q) (omega arith) (omega arith)))
 
+  -- by the classes it is the delegate, and there is none in the class of the empty set
+  delegated : (own : List ℕ) (q : ℕ) → ((b : ℕ) → b < q + 1 → classOf own b ≡ classAt b)
+      → cellIn own emptyClass q ≡ delegateOf sets next finals singles k q
+  unfolding cellIn delegateOf liveOf
+  delegated own q same =
+      rw (same q (omega arith), lowest-in own q same, class-test sets next finals k (singleAt singles q) 512 (omega arith) (omega arith))
+      (one (alikeTo sets next finals k 513 (singleAt singles q) 512))
+    where
+      one : (b : Bool) → cond b 32 (lowestOf sets next finals singles k q) ≡ cond (not b) (lowestOf sets next finals singles k q) 32
+      one true = refl
+      one false = refl
+
   module _ (own delegates : List ℕ) (starts q : ℕ) (before : Merging own delegates starts q) (h : q < 32)
-      (class d : ℕ) (is : class ≡ classAt q) (found : d ≡ firstInClass (set own q class) q) where
+      (class d : ℕ) (is : class ≡ classAt q) (found : d ≡ cellIn (set own q class) emptyClass q) where
     long : q < length delegates
     long = omega (arith, before .cells)
 

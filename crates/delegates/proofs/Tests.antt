@@ -5,7 +5,7 @@
 --   first-..         a loop that searches from lo up to n, one number at a time
 use mathlib.Core.Path.{_≡_, refl, sym, ap, _∙_}
 use mathlib.Core.Logic.{_↔_, ⊎-elim}
-use mathlib.Core.Bool.{Bool, true, false, not, Bool·beq, true≢false, false≢true, and-eq-true-iff, and-true, and-false}
+use mathlib.Core.Bool.{Bool, true, false, not, _&&_, Bool·beq, true≢false, false≢true, and-eq-true-iff, and-true, and-false}
 use Prim.Native.Nat.{ℕ, zero, suc, _+_, _-_, _≤_, _<_}
 use native.Mathlib.Nat.{le-antisymm, eq-or-lt-of-le}
 use native.Mathlib.Numerals.{add-one}
@@ -58,6 +58,17 @@ every-law (suc n) t = (
   (λ e a l. let x = and-eq-true-iff (every n t) (t n) .0 e in below-more (λ b. t b ≡ true) n (every-law n t .0 (x .0)) (x .1) a (omega arith)),
   λ h. and-eq-true-iff (every n t) (t n) .1 (every-law n t .1 (λ a l. h a (omega arith)), h n (omega arith)),
 )
+
+-- a test that not all pass fails somewhere
+pub fails : (n : ℕ) (t : ℕ → Bool) → every n t ≡ false → (a : ℕ) × (a < n) × (t a ≡ false)
+unfolding every
+fails zero t e = absurd (true≢false e)
+fails (suc n) t e = one (fails n t) (every n t) refl e
+  where
+    one : (every n t ≡ false → (a : ℕ) × (a < n) × (t a ≡ false)) → (b : Bool) → every n t ≡ b → b && t n ≡ false
+        → (a : ℕ) × (a < suc n) × (t a ≡ false)
+    one before true z e = (n, omega arith, e)
+    one before false z e = let u = before z in (u .0, omega (arith, u .1), u .2)
 
 -- one number more passes, or does not
 module _ (t : ℕ → Bool) (n : ℕ) where

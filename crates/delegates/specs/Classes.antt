@@ -13,18 +13,22 @@
 --   alikeTo .. k f s t    each text of fewer than f symbols below k is accepted from both sets or
 --                         from neither
 --   singleAt singles q    the set {q}
---   delegateOf .. q       the lowest state whose set no text of 512 symbols or fewer tells from
---                         that of q; a longer text is not needed (`alike-at` of specs/Claims.antt)
+--   liveOf .. q           some text of 512 symbols or fewer tells {q} from the empty set; a longer
+--                         text is not needed (`alike-at` of specs/Claims.antt)
+--   lowestOf .. q         the lowest state whose set no text of 512 symbols or fewer tells from
+--                         that of q
+--   delegateOf .. q       the delegate of q as a list of delegates says it: none where q is not
+--                         live, else the lowest such state
 --   startsOf ..           the delegate of each state, zeros after them, and how many states are
 --                         their own delegate; 32 states and 16 symbols are the most: a number above
 --                         counts as that
 use mathlib.Core.Path.{_≡_}
-use mathlib.Core.Bool.{Bool, true, false, cond, _&&_, Bool·beq}
+use mathlib.Core.Bool.{Bool, true, false, cond, not, _&&_, Bool·beq}
 use mathlib.Core.List.{List, [], _∷_}
 use Prim.Native.Nat.{ℕ, zero, suc, _+_, _*_, min}
 use lib.Dec.{ltb}
 use lib.ListN.{getD}
-use Rattle.limits.specs.Limits.{mostStates, mostSymbols, emptySet, mostClasses}
+use Rattle.limits.specs.Limits.{mostStates, noDelegate, mostSymbols, emptySet, mostClasses}
 use Rattle.base.specs.Lists.{listFrom}
 use Rattle.masks.specs.Masks.{shares}
 use Rattle.delegates.specs.declared.Starts.{Starts}
@@ -61,8 +65,14 @@ module _ (sets next : List ℕ) (finals : ℕ) where
   alikeTo k (suc f) s t =
       Bool·beq (final sets finals s) (final sets finals t) && every k (λ a. alikeTo k f (follow next s a) (follow next t a))
 
+  unfoldable pub liveOf : List ℕ → ℕ → ℕ → Bool
+  liveOf singles k q = not (alikeTo k mostClasses (singleAt singles q) emptySet)
+
+  unfoldable pub lowestOf : List ℕ → ℕ → ℕ → ℕ
+  lowestOf singles k q = firstFrom (λ p. alikeTo k mostClasses (singleAt singles p) (singleAt singles q)) 0 q
+
   unfoldable pub delegateOf : List ℕ → ℕ → ℕ → ℕ
-  delegateOf singles k q = firstFrom (λ p. alikeTo k mostClasses (singleAt singles p) (singleAt singles q)) 0 q
+  delegateOf singles k q = cond (liveOf singles k q) (lowestOf singles k q) noDelegate
 
   unfoldable pub startsOf : List ℕ → ℕ → ℕ → Starts
   startsOf singles n k =

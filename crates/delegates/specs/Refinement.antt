@@ -13,12 +13,15 @@
 --   classesOf .. k       the classes after all rounds: for each set and the empty set the lowest
 --                        set that no text of fewer than 513 symbols tells from it
 --   firstInClass own q   the lowest state in the class of state q; `own` has each state's class
-use mathlib.Core.Bool.{Bool, not, _&&_, Bool·beq}
+--   cellIn own c q       the delegate of q as a list of delegates says it, by the classes: none
+--                        where the class of q is c, that of the empty set, else the lowest state in
+--                        it
+use mathlib.Core.Bool.{Bool, cond, not, _&&_, Bool·beq}
 use mathlib.Core.List.{List}
 use Prim.Native.Nat.{ℕ, _-_}
 use lib.Dec.{eqb}
 use lib.ListN.{getD}
-use Rattle.limits.specs.Limits.{mostClasses}
+use Rattle.limits.specs.Limits.{noDelegate, mostClasses}
 use Rattle.base.specs.Lists.{listFrom}
 use Rattle.delegates.specs.Classes.{final, follow, every, firstFrom, alikeTo}
 
@@ -27,6 +30,9 @@ classOf c s = getD c s 0
 
 unfoldable pub firstInClass : List ℕ → ℕ → ℕ
 firstInClass own q = firstFrom (λ p. eqb (classOf own p) (classOf own q)) 0 q
+
+unfoldable pub cellIn : List ℕ → ℕ → ℕ → ℕ
+cellIn own c q = cond (eqb (classOf own q) c) noDelegate (firstInClass own q)
 
 module _ (sets next : List ℕ) (finals k : ℕ) where
   unfoldable pub sameIn : List ℕ → ℕ → ℕ → Bool

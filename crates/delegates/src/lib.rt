@@ -1,18 +1,42 @@
 // The delegates of states and the number of starts, by the classes of alike sets (Moore's
-// refinement). 512 stands for the empty set, and so does any number above it in the next-set table.
+// refinement): a state whose set is in the class of the empty set leads nowhere and has none. 512
+// stands for the empty set, and so does any number above it in the next-set table.
 ghost use mathlib.Core.Path.{_≡_};
 ghost use Prim.Native.Nat.{_≤_, _<_};
 ghost use lib.ListN.{length};
 ghost use Rattle.limits.specs.Limits.{mostStates, mostSymbols, emptySet, mostClasses};
+ghost use Rattle.delegates.specs.Alike.{delegateIn};
+ghost use Rattle.delegates.specs.Answer.{delegateMeans};
 ghost use Rattle.delegates.specs.Classes.{final, follow as followOf, singleAt, startsOf};
-ghost use Rattle.delegates.specs.Refinement.{sameIn, leastOf, roundOf, changes, classesOf, firstInClass};
+ghost use Rattle.delegates.specs.Refinement.{sameIn, leastOf, roundOf, changes, classesOf, firstInClass, cellIn};
 use masks::StateNumber;
 use subsets::SetNumber;
 
-// The delegate of each state, zeros after them, and how many states are their own delegate.
+// The delegate of each state, 32 where it has none, zeros after them, and how many states are their
+// own delegate.
 pub struct Starts {
     pub delegates: [u8; limits::STATES],
     pub startcount: u8,
+}
+
+// The delegate of a state, or that it has none.
+pub enum DelegateAnswer {
+    State(StateNumber),
+    None,
+}
+
+// The delegate of state q, in a list of delegates.
+pub fn delegate_at(delegates: &[u8; limits::STATES], q: StateNumber) -> DelegateAnswer
+    requires { ⌜ q .0 < mostStates ⌝ }
+    ensures { λ r. ⌜ delegateMeans r ≡ delegateIn (now (delegates .entry)) (q .0) ⌝ }
+{
+    let i = q.0 as usize;
+    let delegate = delegates[i];
+    if delegate < limits::NO_DELEGATE {
+        DelegateAnswer::State(StateNumber(delegate))
+    } else {
+        DelegateAnswer::None
+    }
 }
 
 // An array has its length: this only says so, and is compiled to nothing.
@@ -181,7 +205,7 @@ fn single(singles: &[u16; limits::STATES], q: StateNumber) -> SetNumber
 }
 
 // The lowest state in the class of q; own has the class of each state up to q.
-fn delegate(own: &[u16; limits::STATES], q: StateNumber) -> StateNumber
+fn lowest(own: &[u16; limits::STATES], q: StateNumber) -> StateNumber
     requires { ⌜ q .0 < mostStates ⌝ }
     ensures { λ r. ⌜ r .0 ≡ firstInClass (now (own .entry)) (q .0) ⌝ }
 {
@@ -196,6 +220,20 @@ fn delegate(own: &[u16; limits::STATES], q: StateNumber) -> StateNumber
         p += 1;
     }
     StateNumber(p)
+}
+
+// The delegate of q as a list of delegates says it: none where the class of q is that of the empty
+// set, from which no text is accepted.
+fn delegate_cell(own: &[u16; limits::STATES], empty: u16, q: StateNumber) -> u8
+    requires { ⌜ q .0 < mostStates ⌝ }
+    ensures { λ r. ⌜ r ≡ cellIn (now (own .entry)) empty (q .0) ⌝ }
+{
+    let i = q.0 as usize;
+    if own[i] == empty {
+        return limits::NO_DELEGATE;
+    }
+    let delegate = lowest(own, q);
+    delegate.0
 }
 
 // The delegates of n states, by the classes of their sets over k symbols; singles has the number of
@@ -213,6 +251,7 @@ pub fn merge_starts(
     let states = base::at_most_u8(n, limits::MOST_STATES) as usize;
     let symbols = base::at_most_u8(k, limits::MOST_SYMBOLS) as usize;
     let class = refine(sets, next, finals, symbols);
+    let empty = class[limits::SETS];
     let mut own: [u16; limits::STATES] = [0; limits::STATES];
     let mut delegates: [u8; limits::STATES] = [0; limits::STATES];
     let mut starts: u8 = 0;
@@ -221,9 +260,9 @@ pub fn merge_starts(
         let set = single(singles, StateNumber(q as u8));
         let x = set.0 as usize;
         own[q] = class[x];
-        let d = delegate(&own, StateNumber(q as u8));
-        delegates[q] = d.0;
-        if d.0 as usize == q {
+        let delegate = delegate_cell(&own, empty, StateNumber(q as u8));
+        delegates[q] = delegate;
+        if delegate as usize == q {
             starts += 1;
         }
         q += 1;

@@ -16,7 +16,7 @@
 --      mostStates ..                  the limits                            limits/specs/Limits
 --      FirstHolds                     the first condition that holds        base/specs/Conditions
 --      Method, InOrder, TooMany       sets, table, delegates, M, order      histories/specs/Method
---      Merged, Delegate, Alike        merged starts                         delegates/specs/Alike
+--      Merged, Delegate, Live, Alike  merged starts, of live states (R-7)   delegates/specs/Alike
 --   3  Execution l h rs j             calls made through functions          executions/specs/Executions
 --      judgeAfter h, repliesTo h      the outcome of a list of calls        histories/specs/Claims
 --      standing, verdictIn, answerOf  what 01 says of a list alone          histories/specs/History
@@ -28,6 +28,7 @@
 --      runSet, endSet, chunkCount     running a text                        chunks/specs/Chunks
 --      held, isEmpty, summedCount ..  what a board holds                    board/specs/Boards
 --      joinOf, yesOf                  joining                               joins/specs/Joining
+--      SameAnswer; formerYes ..       the former starts and their join      histories/specs/FormerStarts, joins/specs/Former
 --      reportBy; Divided, ThreeZeros  what is reported with a verdict       calls/specs/Calls, Claims
 --      TableP                         the table's cases                     histories/specs/TableP
 --      streamOf, rightText            a text of calls                       stream/specs/Texts
@@ -77,6 +78,7 @@ use Rattle.histories.specs.Method.{Method}
 use Rattle.histories.specs.Conditions.{Accepted-exactly, Refused-exactly}
 use Rattle.histories.specs.Claims.{judgeMachine, judgeAfter, repliesTo, BuiltBy, LookedUp, LoadClauses, EveryList}
 use Rattle.histories.specs.CountBound.{CountBound}
+use Rattle.histories.specs.FormerStarts.{SameAnswer}
 use Rattle.histories.specs.Functions.{judgeLibrary, MayLoad}
 use Rattle.histories.specs.TableP.{TableP}
 use Rattle.histories.proofs.EveryList.{every-list}
@@ -84,6 +86,7 @@ use Rattle.histories.proofs.Method as histories-method
 use Rattle.histories.proofs.Refinement.{judge-meets, load-may}
 use Rattle.histories.proofs.Steps.{accepted-rule}
 use Rattle.histories.proofs.CountBound as histories-bound
+use Rattle.histories.proofs.FormerStarts as histories-former
 use Rattle.histories.proofs.TableP as histories-table
 use Rattle.lines.specs.Splitting.{linesOf}
 use Rattle.linebuffer.specs.Holding.{lineBegin}
@@ -125,7 +128,8 @@ refusals = refusing.unchanged
 -- ---- 2. THE METHOD
 -- The rule that is there after a list of calls is that of the last accepted installation, built; and
 -- its sets, next-set table and merged starts are those of source document 004, numbered in document
--- 01's order: of the automaton of each rule that an installation accepts.
+-- 01's order: of the automaton of each rule that an installation accepts. (A state from which no
+-- final state can be reached has no delegate and is no start: document 02, R-7, narrows 004's so.)
 pub built : (h : List Call) → BuiltBy (ruleThere h) (judgeAfter h)
 built h = every-list h .after .rule
 
@@ -243,6 +247,11 @@ counts h = every-list h .after .counts
 -- the yes or no is 01's join of them;
 pub joined : (h : List Call) → boardIn h ≡ true → isYes (judgeAfter h) ≡ yesIn h
 joined h = every-list h .after .joined
+
+-- with the starts that document 01 had, also from states that lead nowhere, it was the same
+-- (document 02, R-7);
+pub same-yes-or-no : (h : List Call) → SameAnswer h
+same-yes-or-no = histories-former.same-answer
 
 -- the count is the sum of those counts and at most merged starts times bytes of the text, as at each
 -- place.

@@ -33,14 +33,14 @@ module _ (h : List Call) (j : Judge) (g : AgreesWith h j) where
   step-good : (c : Call) → AgreesWith (c ∷ h) (stepOf j c .state)
   step-good (installs r) = install-good h j g r
   step-good (opens n) = open-good h j g n
-  step-good (delivers p w) = deliver-good h j g p w
+  step-good (delivers p v w) = deliver-good h j g p v w
   step-good (withdraws p) = withdraw-good h j g p
   step-good asksVerdict = ask-good h j g
 
   step-right : (c : Call) → stepOf j c .reply ≡ answerOf h c
   step-right (installs r) = install-says h j g r
   step-right (opens n) = open-says h j g n
-  step-right (delivers p w) = deliver-says h j g p w
+  step-right (delivers p v w) = deliver-says h j g p v w
   step-right (withdraws p) = withdraw-says h j g p
   step-right asksVerdict = ap judged (report-says h j g)
 
@@ -63,9 +63,9 @@ few-run none places at last j holds l p = not-both refl (holds .ruled l)
 few-run (some r) places at last j holds l p =
     let good = holds .rule .1 in lt-of-lt-of-le (run-below r good (holds .rule .2) p) (pow-mono (good .states .1))
 
-looked-up : (h : List Call) (p : ℕ) (w : List ℕ) (n : ℕ) → answerOf h (delivers p w) ≡ delivered n → LookedUp h p (textOf w) n
-looked-up h p w n e =
-    let x = accepted-exactly h .delivery p w n .0 e in
+looked-up : (h : List Call) (p v : ℕ) (w : List ℕ) (n : ℕ) → answerOf h (delivers p v w) ≡ delivered n → LookedUp h p (textOf w) n
+looked-up h p v w n e =
+    let x = accepted-exactly h .delivery p v w n .0 e in
     let few = few-run (ruleThere h) (placesIn h) (standing h) (lastRevision h) (judgeAfter h) (good h) (x .0) p in
     let ts = ruleIn h .targets in
     let run = runAt (ruleIn h) p in
@@ -93,6 +93,7 @@ every-list h =
         ends = g .ends;
         counts = g .counts;
         lengths = g .lengths;
+        revisions = g .revisions;
         asked = verdict-says h (judgeAfter h) g;
         joined = λ b. by-rule (ruleThere h) (placesIn h) (standing h) (lastRevision h) (judgeAfter h) g (there h b);
         summed = summed-same (ruleThere h) (placesIn h) (standing h) (lastRevision h) (judgeAfter h) g;

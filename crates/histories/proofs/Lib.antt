@@ -14,6 +14,8 @@ pub mod Loads
 pub mod EveryList
 pub mod Refinement
 pub mod CountBound
+pub mod FormerStarts
+pub mod Orders
 pub mod TwoRules
 pub mod TableP
 pub mod TablePRuns

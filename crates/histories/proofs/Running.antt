@@ -2,6 +2,7 @@
 -- gives to it at its place, and the number of bytes of R-2. Assumes nothing.
 use mathlib.Core.Path.{_≡_, sym, ap, _∙_, subst}
 use mathlib.Core.List.{List}
+use mathlib.Core.Option.{some}
 use Prim.Native.Nat.{ℕ, zero, suc, _^_, _<_}
 use native.Mathlib.Omega.{arith}
 use lib.ListN.{getD}
@@ -11,7 +12,8 @@ use Rattle.automaton.specs.declared.Rule.{Rule}
 use Rattle.automaton.specs.Rules.{automatonOf, WellFormed}
 use Rattle.subsets.specs.Claims.{fits}
 use Rattle.automaton.specs.Automaton.{Text}
-use Rattle.delegates.specs.Alike.{Merged}
+use Rattle.delegates.specs.Alike.{Delegate, delegateIn, Merged}
+use Rattle.delegates.proofs.Claims as delegates
 use Rattle.delegates.specs.Claims.{startsIn}
 use Rattle.build.specs.Building.{builtOf}
 use Rattle.build.proofs.Claims as build
@@ -30,15 +32,19 @@ module _ (r : Rule) (good : WellFormed r) (fit : fits r) where
   pub merged : Merged (automatonOf r) (startsIn r .delegates) (startsIn r .startcount)
   merged = build.claims .delegates r good fit
 
-  delegate-below : (q : ℕ) → q < r .n → getD (startsIn r .delegates) q 0 < r .n
-  delegate-below q h = merged .delegates q h .state
+  pub delegate-below : (q x : ℕ) → q < r .n → delegateIn (startsIn r .delegates) q ≡ some x → x < r .n
+  delegate-below q x h e =
+      subst (Delegate (automatonOf r) q) e
+      (delegates.claims .delegates-in (automatonOf r) (good .states .1) (startsIn r .delegates) (startsIn r .startcount) merged q h)
+      .1
+      .state
 
   pub run-below : (p : ℕ) → runAt r p < 2 ^ r .n
   run-below zero =
       below-of (r .n) (runAt r 0)
       (λ q e.
       let u = chunks.claims .delegate-law (startsIn r .delegates) (r .n) (r .initials) q .0 e in
-      subst (λ (x : ℕ). x < r .n) (sym (u .3)) (delegate-below (u .0) (u .1)))
+      delegate-below (u .0) q (u .1) (u .3))
   run-below (suc p) =
       below-of (r .n) (runAt r (suc p))
       (λ q e. chunks.claims .start-law (startsIn r .delegates) (r .n) q .0 e .0)
@@ -47,8 +53,7 @@ module _ (r : Rule) (good : WellFormed r) (fit : fits r) where
   run-same : (p : ℕ) → runMask (startsIn r .delegates) (builtOf r .n) (r .initials) p ≡ runAt r p
   run-same p =
       rw n-same
-      (chunks.claims .run-mask (startsIn r .delegates) (r .n) (r .initials) (good .states .1)
-      (λ q h. omega (arith, delegate-below q h, good .states)) p)
+      (chunks.claims .run-mask (startsIn r .delegates) (r .n) (r .initials) (good .states .1) p)
 
   module _ (p : ℕ) (w : List ℕ) (text : Text (r .k) w) where
     pub count-same : runsOf (builtOf r .sets) (builtOf r .next) (builtOf r .singles) (runMask (startsIn r .delegates) (builtOf r .n) (r .initials) p) w .count

@@ -8,7 +8,7 @@
 use mathlib.Core.Path.{_≡_}
 use mathlib.Core.Logic.{_↔_, inl, inr, ⊎-elim, Iff·trans}
 use mathlib.Core.List.{List}
-use mathlib.Core.Option.{none}
+use mathlib.Core.Option.{Option, none, some}
 use Prim.Native.Nat.{ℕ}
 use lib.ListN.{getD}
 use Rattle.masks.specs.Masks.{_∈_}
@@ -20,7 +20,7 @@ use Rattle.ruleformat.specs.Refusals.{refusal}
 use Rattle.ruleformat.specs.Reader.{ruleOf}
 use Rattle.ruleformat.specs.Language.{ArcIn, automatonIn}
 use Rattle.ruleformat.proofs.Claims as rulefile
-use Rattle.delegates.specs.Alike.{AcceptsFrom, Alike, Delegate, Merged}
+use Rattle.delegates.specs.Alike.{AcceptsFrom, Alike, Live, Delegate, Merged}
 use Rattle.build.specs.declared.Built.{Built}
 use Rattle.histories.specs.Method.{Leads, Moves, setAt, nextAt, TooMany, Method}
 
@@ -49,19 +49,26 @@ module _ (n k : ℕ) (Initial Final : ℕ → Type 0) where
     λ t. from-map D E on q w (h w x .1 (from-map E D back r w t)),
   )
 
+  live-map : (D E : ℕ → ℕ → ℕ → Type 0) → ((q s r : ℕ) → D q s r → E q s r) → (q : ℕ) → Live (by D) q → Live (by E) q
+  live-map D E on q l = record { text = l .text; accepts = from-map D E on q (l .text) (l .accepts) }
+
   delegate-map : (D E : ℕ → ℕ → ℕ → Type 0) → ((q s r : ℕ) → D q s r → E q s r) → ((q s r : ℕ) → E q s r → D q s r)
-      → (q d : ℕ) → Delegate (by D) q d → Delegate (by E) q d
-  delegate-map D E on back q d g = record {
-    state = g .state;
-    alike = alike-map D E on back q d (g .alike);
-    lowest = λ r l h. g .lowest r l (alike-map E D back on q r h);
-  }
+      → (q : ℕ) (o : Option ℕ) → Delegate (by D) q o → Delegate (by E) q o
+  delegate-map D E on back q none g = λ l. g (live-map E D back q l)
+  delegate-map D E on back q (some d) g = (
+    live-map D E on q (g .0),
+    record {
+      state = g .1 .state;
+      alike = alike-map D E on back q d (g .1 .alike);
+      lowest = λ r l h. g .1 .lowest r l (alike-map E D back on q r h);
+    },
+  )
 
   merged-map : (D E : ℕ → ℕ → ℕ → Type 0) → ((q s r : ℕ) → D q s r → E q s r) → ((q s r : ℕ) → E q s r → D q s r)
       → (d : List ℕ) (m : ℕ) → Merged (by D) d m → Merged (by E) d m
   merged-map D E on back d m g = record {
     cells = g .cells;
-    delegates = λ q h. delegate-map D E on back q (getD d q 0) (g .delegates q h);
+    delegates = λ q h. let o = g .delegates q h in (o .0, delegate-map D E on back q (o .0) (o .1), o .2);
     zeros = g .zeros;
     starts = g .starts;
   }

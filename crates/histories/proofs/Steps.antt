@@ -41,8 +41,8 @@ good-fresh = fresh-holds
 transfer : {present present′ : Option Rule} {places places′ : ℕ} {at at′ : ℕ → Option (List ℕ)} {last last′ : ℕ → Option ℕ} (j : Judge)
     → present ≡ present′ → places ≡ places′ → ((p : ℕ) → at p ≡ at′ p) → ((p : ℕ) → last p ≡ last′ p)
     → Agrees present places at last j → Agrees present′ places′ at′ last′ j
-transfer {present′ = present′} {places′ = places′} {at′ = at′} j f p a l holds =
-    subst (λ z. Agrees present′ places′ at′ z j) (fun-ext l) (subst₃ (λ x y z. Agrees x y z _ j) f p (fun-ext a) holds)
+transfer {present′ = present′} {places′ = places′} {at′ = at′} {last = last} j f p a l holds =
+    subst (λ z. Agrees present′ places′ at′ z j) (fun-ext l) (subst₃ (λ x y z. Agrees x y z last j) f p (fun-ext a) holds)
 
 -- ---- install
 -- an accepted rule is well formed and has at most 512 sets

@@ -4,6 +4,7 @@
 use mathlib.Core.Path.{_≡_, refl, sym, ap, ap₂, _∙_}
 use mathlib.Core.Bool.{Bool, true, false, true≢false}
 use mathlib.Core.List.{List, [], _∷_}
+use mathlib.Core.Option.{some}
 use Prim.Native.Nat.{ℕ, zero, suc, _≤_, _<_}
 use native.Mathlib.Omega.{arith}
 use lib.Dec.{lit<}
@@ -23,7 +24,7 @@ use Rattle.numbering.specs.Numbering.{indexOf, numbered, expandFrom, closeFrom,
 use Rattle.subsets.specs.Sets.{setsOf, tooMany}
 use Rattle.subsets.specs.Claims.{fits}
 use Rattle.subsets.proofs.Claims as subsets
-use Rattle.delegates.specs.Alike.{Alike, Delegate, startCount, Merged}
+use Rattle.delegates.specs.Alike.{Alike, Live, Lowest, Delegate, delegateCell, startCount, Merged}
 use Rattle.delegates.proofs.Tests.{le-by}
 use Rattle.delegates.proofs.Alike.{alike-self, one-delegate}
 use Rattle.delegates.proofs.Acceptance.{from-law}
@@ -32,7 +33,7 @@ use Rattle.histories.proofs.Running.{merged}
 
 -- ---- delegates
 -- the lowest state alike to q
-lowest-alike : (a : Automaton) (q d : ℕ) → d < a .n → Alike a q d → ((p : ℕ) → p < d → Alike a q p → ⊥) → Delegate a q d
+lowest-alike : (a : Automaton) (q d : ℕ) → d < a .n → Alike a q d → ((p : ℕ) → p < d → Alike a q p → ⊥) → Lowest a q d
 lowest-alike a q d h alike apart = record { state = h; alike = alike; lowest = λ p l x. le-by d p (λ b. apart p b x) }
 
 -- some accepting run over w starts in q
@@ -45,6 +46,9 @@ module _ (r : Rule) (good : WellFormed r) (fit : fits r) where
   apart-by p q hp hq w x t f alike =
       let law = from-law subsets.claims r good fit in
       true≢false (sym (law q hq w .0 (alike w x .0 (law p hp w .1 t))) ∙ f)
+
+  live-by : (q : ℕ) → q < r .n → (w : List ℕ) → accepting r q w ≡ true → Live (automatonOf r) q
+  live-by q h w t = record { text = w; accepts = from-law subsets.claims r good fit q h w .1 t }
 
   alike-by : (p q : ℕ) → p < r .n → q < r .n → ((w : List ℕ) → Text (r .k) w → accepting r p w ≡ accepting r q w) → Alike (automatonOf r) p q
   alike-by p q hp hq same w x =
@@ -66,11 +70,11 @@ list-is d x y z len e0 e1 e2 zeros = ext-getD 0 d (listed x y z) len (λ c h. ce
     cell (suc (suc (suc c))) h = zeros (suc (suc (suc c))) (omega arith) ∙ sym (getD-replicate 29 c 0 0 (omega arith))
 
 -- of a rule with three states, with the delegates x, y, z
-only-listed : (a : Automaton) (x y z : ℕ) → a .n ≡ 3 → Delegate a 0 x → Delegate a 1 y → Delegate a 2 z
+only-listed : (a : Automaton) (x y z : ℕ) → a .n ≡ 3 → Delegate a 0 (some x) → Delegate a 1 (some y) → Delegate a 2 (some z)
     → (d : List ℕ) (m : ℕ) → Merged a d m → (d ≡ listed x y z) × (m ≡ startCount (listed x y z) 3)
 only-listed a x y z three dx dy dz d m given =
-    let known : (q e : ℕ) → q < 3 → Delegate a q e → getD d q 0 ≡ e =
-    λ q e h x. one-delegate a q (getD d q 0) e (given .delegates q (rw three h)) x in
+    let known : (q e : ℕ) → q < 3 → Delegate a q (some e) → getD d q 0 ≡ e =
+    λ q e h x. let o = given .delegates q (rw three h) in o .2 ∙ ap delegateCell (one-delegate a q (o .0) (some e) (o .1) x) in
     let e : d ≡ listed x y z =
     list-is d x y z (given .cells) (known 0 x (lit< tt) dx) (known 1 y (lit< tt) dy) (known 2 z (lit< tt) dz)
     (λ q h. given .zeros q (rw three h)) in
@@ -78,7 +82,7 @@ only-listed a x y z three dx dy dz d m given =
 
 -- so these are what the definition gives
 starts-are : (r : Rule) (x y z : ℕ) → WellFormed r → fits r → r .n ≡ 3
-    → Delegate (automatonOf r) 0 x × Delegate (automatonOf r) 1 y × Delegate (automatonOf r) 2 z
+    → Delegate (automatonOf r) 0 (some x) × Delegate (automatonOf r) 1 (some y) × Delegate (automatonOf r) 2 (some z)
     → startsIn r ≡ record { delegates = listed x y z; startcount = startCount (listed x y z) 3 }
 starts-are r x y z good fit three ds =
     let o = only-listed (automatonOf r) x y z three (ds .0) (ds .1) (ds .2) (startsIn r .delegates) (startsIn r .startcount) (merged r good fit) in
@@ -96,19 +100,27 @@ fits-A = rw sets-A
 good-A : WellFormed (ruleOf fileA)
 good-A = rulefile.claims .well-formed fileA (rulefile.claims .accepted-A)
 
--- over the text 1 an accepting run starts in 1 and not in 0; state 2 is final, and 0 and 1 are not
-delegates-A : Delegate (automatonOf (ruleOf fileA)) 0 0 × Delegate (automatonOf (ruleOf fileA)) 1 1 × Delegate (automatonOf (ruleOf fileA)) 2 2
+-- every state is live, by the texts 0 1, 1 and the empty one; over the text 1 an accepting run
+-- starts in 1 and not in 0; state 2 is final, and 0 and 1 are not
+delegates-A : Delegate (automatonOf (ruleOf fileA)) 0 (some 0) × Delegate (automatonOf (ruleOf fileA)) 1 (some 1) × Delegate (automatonOf (ruleOf fileA)) 2 (some 2)
 unfolding union listFrom targetsUpTo
 delegates-A =
     let a = automatonOf (ruleOf fileA) in
+    let live = live-by (ruleOf fileA) good-A fits-A in
     let apart = apart-by (ruleOf fileA) good-A fits-A in (
-      lowest-alike a 0 0 (lit< tt) (alike-self a 0) (below-none _),
-      lowest-alike a 1 1 (lit< tt) (alike-self a 1)
-          (below-more (λ p. Alike a 1 p → ⊥) 0 (below-none _) (apart 1 0 (lit< tt) (lit< tt) (1 ∷ []) (lit< tt, tt) refl refl)),
-      lowest-alike a 2 2 (lit< tt) (alike-self a 2)
-          (below-more (λ p. Alike a 2 p → ⊥) 1
-          (below-more (λ p. Alike a 2 p → ⊥) 0 (below-none _) (apart 2 0 (lit< tt) (lit< tt) [] tt refl refl))
-          (apart 2 1 (lit< tt) (lit< tt) [] tt refl refl)),
+      (live 0 (lit< tt) (0 ∷ 1 ∷ []) refl, lowest-alike a 0 0 (lit< tt) (alike-self a 0) (below-none _)),
+      (
+        live 1 (lit< tt) (1 ∷ []) refl,
+        lowest-alike a 1 1 (lit< tt) (alike-self a 1)
+            (below-more (λ p. Alike a 1 p → ⊥) 0 (below-none _) (apart 1 0 (lit< tt) (lit< tt) (1 ∷ []) (lit< tt, tt) refl refl)),
+      ),
+      (
+        live 2 (lit< tt) [] refl,
+        lowest-alike a 2 2 (lit< tt) (alike-self a 2)
+            (below-more (λ p. Alike a 2 p → ⊥) 1
+            (below-more (λ p. Alike a 2 p → ⊥) 0 (below-none _) (apart 2 0 (lit< tt) (lit< tt) [] tt refl refl))
+            (apart 2 1 (lit< tt) (lit< tt) [] tt refl refl)),
+      ),
     )
 
 pub starts-A : startsIn (ruleOf fileA) ≡ record { delegates = listed 0 1 2; startcount = 3 }
@@ -142,16 +154,24 @@ alike-2-1 = alike-by (ruleOf fileB) good-B fits-B 2 1 (lit< tt) (lit< tt) same
         let e = to-0 s (x .0) in
         ap (λ (m : ℕ). shares (after (ruleOf fileB .targets) m w) (ruleOf fileB .finals)) (e .0 ∙ sym (e .1))
 
--- state 0 is not final, and 1 and 2 are
-delegates-B : Delegate (automatonOf (ruleOf fileB)) 0 0 × Delegate (automatonOf (ruleOf fileB)) 1 1 × Delegate (automatonOf (ruleOf fileB)) 2 1
+-- every state is live, by the text 0 and the empty one; state 0 is not final, and 1 and 2 are
+delegates-B : Delegate (automatonOf (ruleOf fileB)) 0 (some 0) × Delegate (automatonOf (ruleOf fileB)) 1 (some 1) × Delegate (automatonOf (ruleOf fileB)) 2 (some 1)
+unfolding union listFrom targetsUpTo
 delegates-B =
     let b = automatonOf (ruleOf fileB) in
+    let live = live-by (ruleOf fileB) good-B fits-B in
     let apart = apart-by (ruleOf fileB) good-B fits-B in (
-      lowest-alike b 0 0 (lit< tt) (alike-self b 0) (below-none _),
-      lowest-alike b 1 1 (lit< tt) (alike-self b 1)
-          (below-more (λ p. Alike b 1 p → ⊥) 0 (below-none _) (apart 1 0 (lit< tt) (lit< tt) [] tt refl refl)),
-      lowest-alike b 2 1 (lit< tt) alike-2-1
-          (below-more (λ p. Alike b 2 p → ⊥) 0 (below-none _) (apart 2 0 (lit< tt) (lit< tt) [] tt refl refl)),
+      (live 0 (lit< tt) (0 ∷ []) refl, lowest-alike b 0 0 (lit< tt) (alike-self b 0) (below-none _)),
+      (
+        live 1 (lit< tt) [] refl,
+        lowest-alike b 1 1 (lit< tt) (alike-self b 1)
+            (below-more (λ p. Alike b 1 p → ⊥) 0 (below-none _) (apart 1 0 (lit< tt) (lit< tt) [] tt refl refl)),
+      ),
+      (
+        live 2 (lit< tt) [] refl,
+        lowest-alike b 2 1 (lit< tt) alike-2-1
+            (below-more (λ p. Alike b 2 p → ⊥) 0 (below-none _) (apart 2 0 (lit< tt) (lit< tt) [] tt refl refl)),
+      ),
     )
 
 pub starts-B : startsIn (ruleOf fileB) ≡ record { delegates = listed 0 1 1; startcount = 2 }

@@ -19,18 +19,18 @@ use Rattle.base.specs.Options.{isNone}
 use Rattle.base.specs.Totals.{total}
 use Rattle.base.proofs.Tests.{by-test, not-both}
 use Rattle.masks.specs.Masks.{shares}
+use Rattle.delegates.specs.Alike.{delegateIn}
 use Rattle.delegates.specs.Claims.{startsIn}
 use Rattle.board.specs.Boards.{emptyPlaces, summedCount}
 use Rattle.board.proofs.Laws.{empty-law}
 use Rattle.joins.specs.Joining.{yesOf, heldIn}
-use Rattle.joins.specs.Claims.{delegateIn}
 use Rattle.joins.proofs.Claims as joins
 use Rattle.automaton.specs.declared.Rule.{Rule}
 use Rattle.calls.specs.declared.Judge.{Judge}
 use Rattle.calls.specs.Calls.{Call, verdictBy, reportBy}
 use Rattle.calls.specs.Steps.{lacksBoard, isYes, verdictOf, reportOf}
 use Rattle.histories.specs.History.{ruleThere, ruleFrom, placesIn, endOf, lastRevision, standing, emptiesIn, summedIn, yesIn, verdictIn, reportIn}
-use Rattle.histories.proofs.Running.{n-same, merged}
+use Rattle.histories.proofs.Running.{n-same, delegate-below}
 use Rattle.histories.proofs.Agreement.{Agrees}
 use Rattle.histories.proofs.Numbers.{no-board, places-same, summed-same, bytes-same}
 use Rattle.histories.proofs.Steps.{AgreesWith}
@@ -46,13 +46,13 @@ yes-same : (r : Rule) (places : ℕ) (at : ℕ → Option (List ℕ)) (last : �
     ≡ yesOf (λ p q. endOf r p q (at p)) (delegateIn (startsIn r .delegates)) (r .n) (r .initials) (r .finals) places
 yes-same r places at last j holds =
     let d = startsIn r .delegates in
-    let states : (q : ℕ) → q < r .n → delegateIn d q < 32 =
-    λ q b. omega (arith, merged r (holds .rule .1) (holds .rule .2) .delegates q b .state, holds .rule .1 .states) in
     rw (places-same (some r) places at last j holds, holds .rule .0, n-same r (holds .rule .1) (holds .rule .2))
     (ap (λ (c : ℕ). shares c (r .finals))
-    (joins.claims .join-law (j .board .ends) d (r .n) (r .initials) places (holds .rule .1 .states .1) states
+    (joins.claims .join-law (j .board .ends) d (r .n) (r .initials) places (holds .rule .1 .states .1)
     ∙ joins.claims .join-same (heldIn (j .board .ends)) (λ p q. endOf r p q (at p)) (delegateIn d) (r .n) (r .initials) places
-    (λ p q l b. holds .ends p (delegateIn d q) (omega (arith, l, holds .few)) (states q b))))
+    (λ p q x l b e.
+    holds .ends p x (omega (arith, l, holds .few))
+    (omega (arith, delegate-below r (holds .rule .1) (holds .rule .2) q x b e, holds .rule .1 .states)))))
 
 pub by-rule : (present : Option Rule) (places : ℕ) (at : ℕ → Option (List ℕ)) (last : ℕ → Option ℕ) (j : Judge) → Agrees present places at last j → 0 < places
     → isYes j
@@ -65,14 +65,14 @@ pub verdict-says : (h : List Call) (j : Judge) → AgreesWith h j → verdictOf 
 unfolding verdictOf
 verdict-says h j good =
     let s = standing h in
-    let board = no-board (ruleThere h) (placesIn h) s j good in
+    let board = no-board (ruleThere h) (placesIn h) s (lastRevision h) j good in
     by-test (eqb (placesIn h) 0)
     (λ t. let none-there : lacksBoard j ≡ true = board ∙ t in rw (none-there, t))
     (λ t.
     let some-there : lacksBoard j ≡ false = board ∙ t in
-    let empties : emptyPlaces (j .board) ≡ emptiesIn h = empties-same (ruleThere h) (placesIn h) s j good in
-    let joined : isYes j ≡ yesIn h = by-rule (ruleThere h) (placesIn h) s j good (positive t) in
-    let sum : summedCount (j .board) ≡ summedIn h = summed-same (ruleThere h) (placesIn h) s j good in
+    let empties : emptyPlaces (j .board) ≡ emptiesIn h = empties-same (ruleThere h) (placesIn h) s (lastRevision h) j good in
+    let joined : isYes j ≡ yesIn h = by-rule (ruleThere h) (placesIn h) s (lastRevision h) j good (positive t) in
+    let sum : summedCount (j .board) ≡ summedIn h = summed-same (ruleThere h) (placesIn h) s (lastRevision h) j good in
     ap₄ verdictBy (some-there ∙ sym t) empties joined sum)
   where
     positive : eqb (placesIn h) 0 ≡ false → 0 < placesIn h

@@ -29,15 +29,15 @@ use Rattle.automaton.specs.declared.Rule.{Rule}
 use Rattle.automaton.specs.Automaton.{Accepts, Text}
 use Rattle.automaton.specs.Rules.{automatonOf, WellFormed}
 use Rattle.subsets.specs.Claims.{fits}
+use Rattle.delegates.specs.Alike.{delegateIn}
 use Rattle.delegates.specs.Claims.{startsIn}
 use Rattle.chunks.specs.Chunks.{counted, endSet, chunkCount}
 use Rattle.joins.specs.Joining.{yesOf}
-use Rattle.joins.specs.Claims.{delegateIn}
 use Rattle.joins.specs.Claims as joins-specs
 use Rattle.joins.proofs.Claims as joins
 use Rattle.calls.specs.declared.Judge.{Judge}
 use Rattle.calls.specs.Replies.{Judgement, waiting, yesWith, noWith, refusedWith}
-use Rattle.histories.specs.History.{ruleThere, ruleFrom, openNumber, boardIn, placesIn, runAt, countOf, endOf, standing, emptiesIn, summedIn, yesIn, standingText, joinedUpTo}
+use Rattle.histories.specs.History.{ruleThere, ruleFrom, openNumber, boardIn, placesIn, runAt, countOf, standingEnd, endOf, standing, emptiesIn, summedIn, yesIn, standingText, joinedUpTo}
 use Rattle.calls.specs.Calls.{Call, installs, opens, delivers, withdraws, asksVerdict, installNumber, verdictBy}
 use Rattle.histories.specs.Claims.{VerdictClauses}
 use Rattle.histories.proofs.Running.{merged}
@@ -143,7 +143,7 @@ module _ (places empties : ℕ) (t : Bool) (sum : ℕ) where
       to (says-no z w y v) x = absurd-reply (cc)
 
 -- ---- the texts of the standing chunks as a list
-chunksUpTo : (ℕ → Option (List ℕ)) → ℕ → List (List ℕ)
+unfoldable pub chunksUpTo : (ℕ → Option (List ℕ)) → ℕ → List (List ℕ)
 chunksUpTo at zero = []
 chunksUpTo at (suc p) = chunksUpTo at p ++ (standingText (at p) ∷ [])
 
@@ -153,12 +153,12 @@ flatten-more [] w = append-nil w
 flatten-more (v ∷ l) w = ap (λ (x : List ℕ). v ++ x) (flatten-more l w) ∙ sym (append-assoc v (flatten l) w)
 
 module _ (at : ℕ → Option (List ℕ)) where
-  chunks-length : (n : ℕ) → length (chunksUpTo at n) ≡ n
+  pub chunks-length : (n : ℕ) → length (chunksUpTo at n) ≡ n
   unfolding chunksUpTo
   chunks-length zero = refl
   chunks-length (suc n) = length-append (chunksUpTo at n) (standingText (at n) ∷ []) ∙ ap (λ (x : ℕ). x + 1) (chunks-length n) ∙ add-one n
 
-  chunk-at : (n p : ℕ) → p < n → getD (chunksUpTo at n) p [] ≡ standingText (at p)
+  pub chunk-at : (n p : ℕ) → p < n → getD (chunksUpTo at n) p [] ≡ standingText (at p)
   unfolding chunksUpTo
   chunk-at zero p h = absurd (let x = h in omega arith)
   chunk-at (suc n) p h =
@@ -183,7 +183,7 @@ text-of : (k : ℕ) (o : Option (List ℕ)) → ((w : List ℕ) → o ≡ some w
 text-of k none h = tt
 text-of k (some w) h = h w refl
 
-chunk-texts : (k : ℕ) (at : ℕ → Option (List ℕ)) → ((p : ℕ) (w : List ℕ) → at p ≡ some w → Text k (textOf w)) → (n : ℕ) → joins-specs.Texts k (chunksUpTo at n)
+pub chunk-texts : (k : ℕ) (at : ℕ → Option (List ℕ)) → ((p : ℕ) (w : List ℕ) → at p ≡ some w → Text k (textOf w)) → (n : ℕ) → joins-specs.Texts k (chunksUpTo at n)
 unfolding chunksUpTo
 chunk-texts k at h zero = tt
 chunk-texts k at h (suc n) = texts-more k (chunksUpTo at n) (standingText (at n)) (chunk-texts k at h n) (text-of k (at n) (h n))
@@ -202,6 +202,11 @@ empty-count ts run = total-none (λ q. cond (has run q) 0 0) 32 (λ q. same (has
     same true = refl
     same false = refl
 
+-- the end set of a chunk that stands
+pub filled : (ts : List ℕ) (run q : ℕ) (o : Option (List ℕ)) → isNone o ≡ false → standingEnd ts run q o ≡ endSet ts run (standingText o) q
+filled ts run q none e = zero-one cc
+filled ts run q (some w) e = refl
+
 -- ---- for a rule that is there
 module _ (r : Rule) (good : WellFormed r) (fit : fits r) (places : ℕ) (at : ℕ → Option (List ℕ)) where
   count-is : (p : ℕ) (o : Option (List ℕ)) → countOf r p o ≡ chunkCount (r .targets) (runAt r p) (standingText o)
@@ -217,11 +222,7 @@ module _ (r : Rule) (good : WellFormed r) (fit : fits r) (places : ℕ) (at : �
       ∙ ap (total (λ p. chunkCount (r .targets) (runAt r p) (getD ws p []))) (sym (chunks-length at places)) in
       rw (e, joined-is at places) (joins.claims .count-most r good (startsIn r .delegates) (startsIn r .startcount) (merged r good fit) ws)
 
-  filled : (p : ℕ) (o : Option (List ℕ)) → isNone o ≡ false → (q : ℕ) → endOf r p q o ≡ endSet (r .targets) (runAt r p) (standingText o) q
-  filled p none e q = zero-one cc
-  filled p (some w) e q = refl
-
-  none-empty : total (λ p. cond (isNone (at p)) 1 0) places ≡ 0 → (p : ℕ) → p < places → isNone (at p) ≡ false
+  pub none-empty : total (λ p. cond (isNone (at p)) 1 0) places ≡ 0 → (p : ℕ) → p < places → isNone (at p) ≡ false
   none-empty z p l = no-term (isNone (at p)) (omega (arith, z, term-most (λ i. cond (isNone (at i)) 1 0) places p l))
     where
       no-term : (t : Bool) → cond t 1 0 ≤ 0 → t ≡ false
@@ -241,7 +242,7 @@ module _ (r : Rule) (good : WellFormed r) (fit : fits r) (places : ℕ) (at : �
       let holds : joins-specs.HoldsEnds r d held-at ws =
       λ p l q b.
       let lp : p < places = rw (chunks-length at places) at l in
-      filled p (at p) (none-empty z p lp) q ∙ ap (λ (w : List ℕ). endSet (r .targets) (runAt r p) w q) (sym (chunk-at at places p lp)) in
+      filled (r .targets) (runAt r p) q (at p) (none-empty z p lp) ∙ ap (λ (w : List ℕ). endSet (r .targets) (runAt r p) w q) (sym (chunk-at at places p lp)) in
       subst₂ (λ (x : ℕ) (y : List ℕ). (yesOf held-at (delegateIn d) (r .n) (r .initials) (r .finals) x ≡ true) ↔ Accepts (automatonOf r) y)
       (chunks-length at places)
       (sym (joined-is at places))
@@ -297,7 +298,7 @@ board-law (opens n ∷ h) =
         let a = passed 20 (isNone (ruleThere h)) (cond (outside 1 64 n) (some 10) none) z in
         passed 10 (outside 1 64 n) none (a .1) .0
     accepted-opening (some x) z t = zero-one cc
-board-law (delivers p w ∷ h) = board-law h
+board-law (delivers p v w ∷ h) = board-law h
 board-law (withdraws p ∷ h) = board-law h
 board-law (asksVerdict ∷ h) = board-law h
 
@@ -323,12 +324,12 @@ words h j good =
       );
       counted = yes-count (placesIn h) (emptiesIn h) (yesIn h) (summedIn h);
       counted-no = no-count (placesIn h) (emptiesIn h) (yesIn h) (summedIn h);
-      most = most-by (placesIn h) s j (ruleThere h) good;
-      place-most = place-by (placesIn h) s j (ruleThere h) good;
+      most = most-by (placesIn h) s (lastRevision h) j (ruleThere h) good;
+      place-most = place-by (placesIn h) s (lastRevision h) j (ruleThere h) good;
       accepts = λ b e.
-          Iff·trans (yes-law (placesIn h) (emptiesIn h) (yesIn h) (summedIn h) (there h b) e) (accepts-by (placesIn h) s j (ruleThere h) good (there h b) e);
+          Iff·trans (yes-law (placesIn h) (emptiesIn h) (yesIn h) (summedIn h) (there h b) e) (accepts-by (placesIn h) s (lastRevision h) j (ruleThere h) good (there h b) e);
       rejects = λ b e.
           Iff·trans (no-law (placesIn h) (emptiesIn h) (yesIn h) (summedIn h) (there h b) e)
-          (not-true-false (yesIn h) (accepts-by (placesIn h) s j (ruleThere h) good (there h b) e));
+          (not-true-false (yesIn h) (accepts-by (placesIn h) s (lastRevision h) j (ruleThere h) good (there h b) e));
       joins = λ b e. yes-law (placesIn h) (emptiesIn h) (yesIn h) (summedIn h) (there h b) e;
     }

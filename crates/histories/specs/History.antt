@@ -48,10 +48,10 @@ use Rattle.automaton.specs.declared.Rule.{Rule}
 use Rattle.ruleformat.specs.Refusals.{refusal}
 use Rattle.ruleformat.specs.Reader.{ruleOf, noRule}
 use Rattle.subsets.specs.Sets.{setsOf}
+use Rattle.delegates.specs.Alike.{delegateIn}
 use Rattle.delegates.specs.Claims.{startsIn}
 use Rattle.chunks.specs.Chunks.{runSet, endSet, chunkCount, looked}
 use Rattle.joins.specs.Joining.{yesOf}
-use Rattle.joins.specs.Claims.{delegateIn}
 use Rattle.calls.specs.Replies.{Judgement, Reported, Reply, accepted, installed, judged, refused, delivered}
 use Rattle.calls.specs.Calls.{Call, installs, opens, delivers, withdraws, asksVerdict, installNumber, loadNumber, openConditions, deliverConditions, withdrawConditions, verdictBy, reportBy}
 

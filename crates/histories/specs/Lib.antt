@@ -5,5 +5,6 @@ pub mod Conditions
 pub mod Claims
 pub mod CountBound
 pub mod Orders
+pub mod FormerStarts
 pub mod Functions
 pub mod TableP

@@ -2,7 +2,7 @@
 use Rattle.chunks.proofs.Claims as chunks
 use Rattle.joins.specs.Claims.{Claims}
 use Rattle.joins.proofs.Clamped.{join-law, join-same}
-use Rattle.joins.proofs.Joined.{join-accepts}
+use Rattle.joins.proofs.Delegated.{join-accepts}
 use Rattle.joins.proofs.Counted.{place-most, count-most}
 
 pub claims : Claims

@@ -1,22 +1,20 @@
 -- The bound on the count: the summed count is at most M times the bytes of all chunks, since what
 -- is run at a place is a start. Assumes what crates/chunks claims of a chunk's count, a well-formed
 -- rule and its delegates.
-use mathlib.Core.Path.{sym, subst}
 use mathlib.Core.List.{List, [], _∷_, flatten}
-use Prim.Native.Nat.{ℕ, zero, suc, _*_, _≤_, _<_}
+use Prim.Native.Nat.{ℕ, suc, _*_, _≤_, _<_}
 use native.Mathlib.Nat.{mul-add, add-le-add}
 use native.Mathlib.Omega.{arith}
 use lib.ListN.{length, getD, length-append}
 use Rattle.base.specs.Totals.{total}
 use Rattle.base.proofs.Totals.{total-first}
-use Rattle.masks.specs.Masks.{_∈_}
 use Rattle.automaton.specs.declared.Rule.{Rule}
 use Rattle.automaton.specs.Rules.{automatonOf, WellFormed}
-use Rattle.delegates.specs.Alike.{Merged, startSet}
-use Rattle.delegates.proofs.Alike.{delegates-start}
+use Rattle.delegates.specs.Alike.{Merged}
 use Rattle.chunks.specs.Chunks.{runSet, chunkCount}
 use Rattle.chunks.specs.Claims.{Claims as ChunksClaims}
 use Rattle.joins.specs.Claims.{countOf}
+use Rattle.joins.proofs.Delegated.{run-start}
 
 -- a sum over chunks, each term at most most times the chunk's bytes
 flat-most : (most : ℕ) (ws : List (List ℕ)) (f : ℕ → ℕ) → ((p : ℕ) → p < length ws → f p ≤ most * length (getD ws p []))
@@ -28,19 +26,10 @@ flat-most most (w ∷ ws) f h =
     (add-le-add (h 0 (omega arith)) (flat-most most ws (λ p. f (suc p)) (λ p l. h (suc p) (omega arith))))
 
 module _ (given : ChunksClaims) (r : Rule) (good : WellFormed r) (d : List ℕ) (m : ℕ) (merged : Merged (automatonOf r) d m) where
-  -- what is run at a place is a start
-  run-start : (p q : ℕ) → q ∈ runSet d (r .n) (r .initials) p → q ∈ startSet d (r .n)
-  run-start zero q i =
-      let u = given .delegate-law d (r .n) (r .initials) q .0 i in
-      subst (λ (x : ℕ). x ∈ startSet d (r .n)) (sym (u .3))
-      (given .start-law d (r .n) (getD d (u .0) 0) .1
-      (merged .delegates (u .0) (u .1) .state, delegates-start (automatonOf r) d m merged (u .0) (u .1)))
-  run-start (suc p) q i = i
-
   pub place-most : (p : ℕ) (w : List ℕ) → chunkCount (r .targets) (runSet d (r .n) (r .initials) p) w ≤ m * length w
   place-most p w =
       rw (merged .starts)
-      (given .chunk-most (r .targets) d (r .n) (runSet d (r .n) (r .initials) p) (omega (arith, good .states)) (run-start p) w)
+      (given .chunk-most (r .targets) d (r .n) (runSet d (r .n) (r .initials) p) (good .states .1) (run-start given r good d m merged p) w)
 
   pub count-most : (ws : List (List ℕ)) → countOf r d ws ≤ m * length (flatten ws)
   count-most ws =

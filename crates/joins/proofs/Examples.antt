@@ -4,14 +4,13 @@ use mathlib.Core.Path.{_≡_, refl}
 use mathlib.Core.List.{List, [], _∷_, flatten}
 use Prim.Native.Nat.{ℕ}
 use lib.ListN.{getD}
-use Rattle.masks.specs.Masks.{union}
+use Rattle.masks.specs.Masks.{single, union}
 use Rattle.automaton.specs.declared.Rule.{Rule}
 use Rattle.automaton.specs.Successor.{after}
 use Rattle.subsets.proofs.Examples.{ruleB as targetsB}
-use Rattle.delegates.specs.Alike.{startSet}
+use Rattle.delegates.specs.Alike.{delegateIn, startSet}
 use Rattle.chunks.specs.Chunks.{runSet, endSet}
 use Rattle.joins.specs.Joining.{joinOf}
-use Rattle.joins.specs.Claims.{delegateIn}
 
 abbrev ruleB : Rule
 ruleB = record { n = 3; k = 1; initials = 1; finals = 6; targets = targetsB }
@@ -28,9 +27,15 @@ abbrev apart : List (List ℕ)
 apart = (0 ∷ []) ∷ [] ∷ []
 
 pub c-apart : joinOf (endsOf ruleB delegatesB apart) (delegateIn delegatesB) 3 1 2 ≡ 2
-unfolding union startSet joinOf
+unfolding union delegateIn startSet joinOf
 c-apart = refl
 
 pub reached-apart : after targetsB 1 (flatten apart) ≡ 6
 unfolding union flatten
 reached-apart = refl
+
+-- a member that has no delegate is passed over, and the others are joined: of {0, 1}, where 0 has
+-- none, the end set {0} of 1; of {0} alone nothing
+pub dead-passed : (joinOf (λ p q. single 0) (delegateIn (32 ∷ 1 ∷ [])) 2 3 1 ≡ 1) × (joinOf (λ p q. single 0) (delegateIn (32 ∷ 1 ∷ [])) 2 1 1 ≡ 0)
+unfolding union delegateIn joinOf
+dead-passed = (refl, refl)

@@ -3,7 +3,6 @@
 -- the automaton reaches: both accept the same texts, and no more is claimed.
 --
 --   Texts k ws         each chunk is a text of symbols below k
---   delegateIn d q     the delegate of q, in a list of delegates
 --   HoldsEnds r d e ws     each place holds, for each state, the end set that document 01 gives to
 --                          its chunk there
 --   countOf r d ws     the sum of the chunks' counts
@@ -11,6 +10,7 @@ use mathlib.Core.Path.{_≡_}
 use mathlib.Core.Logic.{_↔_}
 use mathlib.Core.Bool.{true}
 use mathlib.Core.List.{List, [], _∷_, flatten}
+use mathlib.Core.Option.{Option, some}
 use Prim.Native.Nat.{ℕ, _*_, _≤_, _<_}
 use lib.ListN.{length, getD}
 use Rattle.limits.specs.Limits.{mostStates}
@@ -18,16 +18,13 @@ use Rattle.base.specs.Totals.{total}
 use Rattle.automaton.specs.declared.Rule.{Rule}
 use Rattle.automaton.specs.Automaton.{Accepts, Text}
 use Rattle.automaton.specs.Rules.{automatonOf, WellFormed}
-use Rattle.delegates.specs.Alike.{Merged}
+use Rattle.delegates.specs.Alike.{delegateIn, Merged}
 use Rattle.chunks.specs.Chunks.{runSet, endSet, chunkCount}
 use Rattle.joins.specs.Joining.{joinOf, yesOf, heldIn, joinUpTo}
 
 abbrev pub Texts : ℕ → List (List ℕ) → Type 0
 Texts k [] = Unit {0}
 Texts k (w ∷ ws) = Text k w × Texts k ws
-
-abbrev pub delegateIn : List ℕ → ℕ → ℕ
-delegateIn d q = getD d q 0
 
 module _ (r : Rule) (d : List ℕ) where
   abbrev pub HoldsEnds : (ℕ → ℕ → ℕ) → List (List ℕ) → Type 0
@@ -44,12 +41,12 @@ pub record Claims : Type 0 where
   pub join : (r : Rule) → WellFormed r → (d : List ℕ) (m : ℕ) → Merged (automatonOf r) d m
       → (e : ℕ → ℕ → ℕ) (ws : List (List ℕ)) → Texts (r .k) ws → HoldsEnds r d e ws
       → (yesOf e (delegateIn d) (r .n) (r .initials) (r .finals) (length ws) ≡ true) ↔ Accepts (automatonOf r) (flatten ws)
-  -- where there are at most 32 states and each has one of them as its delegate, the code's join is
-  -- this join of what the array holds
-  pub join-law : (ends d : List ℕ) (n m p : ℕ) → n ≤ mostStates → ((q : ℕ) → q < n → delegateIn d q < mostStates)
+  -- of at most 32 states the code's join is this join of what the arrays hold
+  pub join-law : (ends d : List ℕ) (n m p : ℕ) → n ≤ mostStates
       → joinUpTo ends d n m p ≡ joinOf (heldIn ends) (delegateIn d) n m p
   -- it looks only at the end sets of delegates at the places that are joined
-  pub join-same : (e f : ℕ → ℕ → ℕ) (d : ℕ → ℕ) (n m p : ℕ) → ((i q : ℕ) → i < p → q < n → e i (d q) ≡ f i (d q))
+  pub join-same : (e f : ℕ → ℕ → ℕ) (d : ℕ → Option ℕ) (n m p : ℕ)
+      → ((i q x : ℕ) → i < p → q < n → d q ≡ some x → e i x ≡ f i x)
       → joinOf e d n m p ≡ joinOf f d n m p
   -- a chunk counts at most M times its bytes at its place, and so the summed count is at most M
   -- times the bytes

@@ -1,3 +1,4 @@
 -- In the order in which to read them.
 pub mod Joining
 pub mod Claims
+pub mod Former

@@ -1,35 +1,27 @@
 // The join of the end sets that a board holds, place by place. Any value is taken: a number of
 // states above 32 counts as 32.
 ghost use mathlib.Core.Path.{_≡_};
-ghost use Prim.Native.Nat.{_+_, _*_, _%_, _≤_, _<_};
-ghost use lib.ListN.{getD};
+ghost use Prim.Native.Nat.{_≤_, _<_};
 ghost use Rattle.limits.specs.Limits.{mostStates, mostPlaces};
 ghost use Rattle.masks.specs.Masks.{union};
+ghost use Rattle.delegates.specs.Alike.{delegateIn, ofDelegate};
 ghost use Rattle.board.specs.Boards.{placesOf};
-ghost use Rattle.joins.specs.Joining.{joinUpTo, saysYes};
+ghost use Rattle.joins.specs.Joining.{heldIn, joinUpTo, saysYes};
 use board::Board;
+use delegates::DelegateAnswer;
 use masks::StateNumber;
-
-// The delegate of state q.
-fn delegate_of(delegates: &[u8; limits::STATES], q: StateNumber) -> StateNumber
-    requires { ⌜ q .0 < mostStates ⌝ }
-    ensures { λ r. ⌜ r .0 ≡ getD (now (delegates .entry)) (q .0) 0 ⌝ }
-{
-    let i = q.0 as usize;
-    StateNumber(delegates[i])
-}
 
 // The end set of state q at a place.
 fn end_set(ends: &[u32; limits::ENDS], place: usize, q: StateNumber) -> u32
-    requires { ⌜ place < mostPlaces ⌝ }
-    ensures { λ r. ⌜ r ≡ getD (now (ends .entry)) (place * mostStates + q .0 % mostStates) 0 ⌝ }
+    requires { ⌜ (place < mostPlaces) × (q .0 < mostStates) ⌝ }
+    ensures { λ r. ⌜ r ≡ heldIn (now (ends .entry)) place (q .0) ⌝ }
 {
     let i = q.0 as usize;
-    ends[place * limits::STATES + i % limits::STATES]
+    ends[place * limits::STATES + i]
 }
 
-// The union of the end sets, at a place, of the delegates of the members of set; n is the number of
-// states.
+// The union of the end sets, at a place, of the delegates of the members of set; a member that has
+// none is passed over. n is the number of states.
 fn join_place(
     ends: &[u32; limits::ENDS],
     delegates: &[u8; limits::STATES],
@@ -38,17 +30,19 @@ fn join_place(
     place: usize,
 ) -> u32
     requires { ⌜ (n ≤ mostStates) × (place < mostPlaces) ⌝ }
-    ensures { λ r. ⌜ r ≡ union (λ q. getD (now (ends .entry)) (place * mostStates + getD (now (delegates .entry)) q 0 % mostStates) 0) set n ⌝ }
+    ensures { λ r. ⌜ r ≡ union (λ q. ofDelegate (heldIn (now (ends .entry)) place) (delegateIn (now (delegates .entry)) q)) set n ⌝ }
 {
     let mut joined: u32 = 0;
     let mut q: usize = 0;
     while q < n {
         let state = StateNumber(q as u8);
+        q += 1;
         if masks::member(set, state) {
-            let delegate = delegate_of(delegates, state);
+            let DelegateAnswer::State(delegate) = delegates::delegate_at(delegates, state) else {
+                continue;
+            };
             joined = masks::union(joined, end_set(ends, place, delegate));
         }
-        q += 1;
     }
     joined
 }

@@ -2,6 +2,8 @@
 -- that follow from them. src/lib.rt has them for code.
 --
 --   mostStates       the most states of a rule: a set of states is a 32-bit mask
+--   noDelegate       stands for no state where the delegate of a state is due: the first number
+--                    that no state can have
 --   mostSymbols      the most symbols of a rule
 --   mostSets         the most sets that get a number
 --   emptySet         stands for the empty set, which gets no number, where a set's number is due:
@@ -26,6 +28,9 @@ use Prim.Native.Nat.{ℕ, _+_, _*_}
 
 abbrev pub mostStates : ℕ
 mostStates = 32
+
+abbrev pub noDelegate : ℕ
+noDelegate = mostStates
 
 abbrev pub mostSymbols : ℕ
 mostSymbols = 16

@@ -8,6 +8,10 @@ pub const STATES: usize = 32;
 // The same, in the type in which a rule has it.
 pub const MOST_STATES: u8 = STATES as u8;
 
+// Stands for no state where the delegate of a state is due: the first number that no state can
+// have.
+pub const NO_DELEGATE: u8 = MOST_STATES;
+
 // The most symbols of a rule.
 pub const SYMBOLS: usize = 16;
 
@@ -44,6 +48,9 @@ pub const CHUNK: usize = 65536;
 
 // The most bytes of a rule file.
 pub const FILE: usize = 32906;
+
+// The bytes of a rule as a value on a line of calls: n, k, and 4 for each of its masks.
+pub const PACKED: usize = 2 + 4 * (2 + TARGETS);
 
 // Room for a rule file, with bytes to spare: a longer file fills more than FILE of it.
 pub const FILE_ROOM: usize = 33000;

@@ -1,6 +1,6 @@
 -- The proof of all that specs/Claims.antt claims. A file is refused with a number below 10. A rule
--- that is built is well formed: it has at most 32 states, no more starts than states, and each
--- delegate is a state. Assumes nothing.
+-- that is built is well formed: it has at most 32 states and no more starts than states. Assumes
+-- nothing.
 --
 --   low           the number with which a file is refused
 --   few-starts    M is at most the number of states
@@ -11,9 +11,8 @@ use mathlib.Core.List.{List, [], _∷_}
 use mathlib.Core.Option.{Option, none, some}
 use Prim.Native.Nat.{ℕ, zero, suc, _≤_, _<_}
 use native.Mathlib.Omega.{arith}
-use lib.Dec.{ltb, eqb}
+use lib.Dec.{eqb}
 use lib.ListN.{length, getD}
-use borrow.Author.Tests.{ltb-true, ltb-false}
 use Rattle.base.specs.Conditions.{Condition, on, FirstHolds}
 use Rattle.base.proofs.Conditions.{first-law}
 use Rattle.base.proofs.Tests.{by-test}
@@ -59,13 +58,6 @@ few-starts d zero = omega arith
 few-starts d (suc n) = let l = few-starts d n in by-test (eqb (getD d n 0) n) (λ e. rw e (omega arith)) (λ e. rw e (omega arith))
 
 module _ (r : Rule) (good : WellFormed r) (f : fits r) where
-  delegate-low : (q : ℕ) → getD (builtOf r .delegates) q 0 < 256
-  delegate-low q =
-      let m = build.claims .delegates r good f in
-      by-test (ltb q (r .n))
-      (λ e. omega (arith, good .states, m .delegates q (ltb-true q (r .n) e) .state))
-      (λ e. omega (arith, m .zeros q (ltb-false q (r .n) e)))
-
   starts-low : builtOf r .startcount < 256
   starts-low =
       let m = build.claims .delegates r good f in
@@ -73,7 +65,7 @@ module _ (r : Rule) (good : WellFormed r) (f : fits r) where
 
   whole-fits : length (builtText (buildOf r .answer) (buildOf r .built)) ≤ mostBytes
   unfolding buildOf
-  whole-fits = rw f (rule-most (builtOf r) starts-low delegate-low)
+  whole-fits = rw f (rule-most (builtOf r) starts-low)
 
 module _ (r : Rule) where
   over-fits : tooMany (r .targets) (r .n) (r .k) ≡ true → length (builtText (buildOf r .answer) (buildOf r .built)) ≤ mostBytes

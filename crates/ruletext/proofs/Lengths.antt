@@ -2,14 +2,16 @@
 --
 --   byte-most, number-most  3
 --   index-most, mask-most   3 and 8
---   field-most, cell-most   4
+--   field-most, cell-most, delegate-most   4
 --   row-most, cells-most    4 for each symbol, 64 for a row
 --   line-most               77
 --   fields-most, lines-most 4 for each state, 77 for each set
 --   head-most, last-most    20 and 138
 --   rule-most               39,582
 --   refused-most            12
+use mathlib.Core.Path.{_≡_, refl}
 use mathlib.Core.List.{List, [], _∷_, _++_}
+use mathlib.Core.Option.{Option, none, some}
 use Prim.Native.Nat.{ℕ, _+_, _*_, _≤_, _<_, min}
 use native.Mathlib.Omega.{arith}
 use lib.Dec.{ltb}
@@ -20,8 +22,10 @@ use Rattle.base.proofs.Lists.{joined-length}
 use Rattle.base.proofs.Tests.{by-test}
 use Rattle.text.specs.Numerals.{decimal, hex}
 use Rattle.text.proofs.Digits.{decimal-most, hex-length}
+use Rattle.delegates.specs.Alike.{delegateIn}
+use Rattle.delegates.proofs.Alike.{some-said}
 use Rattle.build.specs.declared.Built.{Built}
-use Rattle.ruletext.specs.RuleText.{field, cellText, rowText, setLine, headLine, delegatesLine, ruleText, refusedText, startsWord, space, lineFeed}
+use Rattle.ruletext.specs.RuleText.{field, cellText, rowText, setLine, headLine, delegateText, delegatesLine, ruleText, refusedText, startsWord, space, lineFeed}
 use Rattle.ruletext.specs.Printing.{mostBytes}
 
 pub byte-most : (n : ℕ) → n < 256 → length (decimal n) ≤ 3
@@ -66,8 +70,16 @@ line-most sets next k i hk hi =
       length-append (rowText next k i) (lineFeed ∷ []),
     )
 
-pub fields-most : (d : List ℕ) → ((q : ℕ) → getD d q 0 < 256) → (n : ℕ) → length (joined (λ q. field (getD d q 0)) n) ≤ n * 4
-fields-most d h n = joined-length (λ q. field (getD d q 0)) n 4 (λ q l. field-most (getD d q 0) (h q))
+-- a delegate that a list says is below 32
+pub delegate-most : (d : List ℕ) (q : ℕ) → length (delegateText (delegateIn d q)) ≤ 4
+delegate-most d q = of (delegateIn d q) refl
+  where
+    of : (o : Option ℕ) → delegateIn d q ≡ o → length (delegateText o) ≤ 4
+    of none e = omega arith
+    of (some x) e = field-most x (omega (arith, some-said d q x e .1))
+
+pub fields-most : (d : List ℕ) (n : ℕ) → length (joined (λ q. delegateText (delegateIn d q)) n) ≤ n * 4
+fields-most d n = joined-length (λ q. delegateText (delegateIn d q)) n 4 (λ q l. delegate-most d q)
 
 pub lines-most : (sets next : List ℕ) (k : ℕ) → k ≤ 16 → (n : ℕ) → n ≤ 512 → length (joined (setLine sets next k) n) ≤ n * 77
 lines-most sets next k hk n hn = joined-length (setLine sets next k) n 77 (λ i l. line-most sets next k i hk (omega arith))
@@ -82,18 +94,18 @@ head-most count starts hc hs =
       length-append (decimal starts) (lineFeed ∷ []),
     )
 
-pub last-most : (d : List ℕ) → ((q : ℕ) → getD d q 0 < 256) → (n : ℕ) → n ≤ 32 → length (delegatesLine d n) ≤ 138
-last-most d h n hn = omega (arith, fields-most d h n, length-append (joined (λ q. field (getD d q 0)) n) (lineFeed ∷ []))
+pub last-most : (d : List ℕ) (n : ℕ) → n ≤ 32 → length (delegatesLine d n) ≤ 138
+last-most d n hn = omega (arith, fields-most d n, length-append (joined (λ q. delegateText (delegateIn d q)) n) (lineFeed ∷ []))
 
-pub rule-most : (b : Built) → b .startcount < 256 → ((q : ℕ) → getD (b .delegates) q 0 < 256) → length (ruleText b) ≤ mostBytes
-rule-most b hs hd =
+pub rule-most : (b : Built) → b .startcount < 256 → length (ruleText b) ≤ mostBytes
+rule-most b hs =
     let count = min (b .setcount) 512 in
     let first = headLine count (b .startcount) in
     let lines = joined (setLine (b .sets) (b .next) (min (b .k) 16)) count in
     let last = delegatesLine (b .delegates) (min (b .n) 32) in
     let hf = head-most count (b .startcount) (omega arith) hs in
     let hl = lines-most (b .sets) (b .next) (min (b .k) 16) (omega arith) count (omega arith) in
-    let ht = last-most (b .delegates) hd (min (b .n) 32) (omega arith) in
+    let ht = last-most (b .delegates) (min (b .n) 32) (omega arith) in
     omega (arith, length-append first (lines ++ last), length-append lines last)
 
 pub refused-most : (x : ℕ) → x < 256 → length (refusedText x) ≤ 12

@@ -3,17 +3,19 @@
 --
 --   ruleText b      the number of sets and M; a line for each set: its number, its mask in 8 hex
 --                   digits and, for each symbol, the number of the successor or - for the empty
---                   set; and each state's delegate
+--                   set; and each state's delegate, or - where it has none (document 02, R-7)
 --   refusedText x   `refused` and the number
 --   textOf b        one or the other, by the answer of building
 use mathlib.Core.Bool.{cond}
 use mathlib.Core.List.{List, [], _∷_, _++_}
+use mathlib.Core.Option.{Option, none, some}
 use Prim.Native.Nat.{ℕ, _+_, _*_, min}
 use lib.Dec.{ltb}
 use lib.ListN.{getD}
 use Rattle.limits.specs.Limits.{mostStates, mostSymbols, mostSets, emptySet}
 use Rattle.base.specs.Lists.{joined}
 use Rattle.text.specs.Numerals.{decimal, hex}
+use Rattle.delegates.specs.Alike.{delegateIn}
 use Rattle.build.specs.declared.BuildAnswer.{BuildAnswer}
 use Rattle.build.specs.declared.BuildAnswer.the-variants.{Accepted, Refused}
 use Rattle.build.specs.declared.Built.{Built}
@@ -58,8 +60,13 @@ setLine sets next k i = decimal i ++ ((space ∷ []) ++ (hex 8 (getD sets i 0) +
 abbrev pub headLine : ℕ → ℕ → List ℕ
 headLine count starts = setsWord ++ (decimal count ++ (startsWord ++ (decimal starts ++ (lineFeed ∷ []))))
 
+-- a state's delegate, or - where it has none
+abbrev pub delegateText : Option ℕ → List ℕ
+delegateText none = space ∷ dash ∷ []
+delegateText (some d) = field d
+
 abbrev pub delegatesLine : List ℕ → ℕ → List ℕ
-delegatesLine d n = delegatesWord ++ (joined (λ q. field (getD d q 0)) n ++ (lineFeed ∷ []))
+delegatesLine d n = delegatesWord ++ (joined (λ q. delegateText (delegateIn d q)) n ++ (lineFeed ∷ []))
 
 -- at most 512 sets, 16 symbols and 32 states are printed, which is all that a built rule has
 abbrev pub ruleText : Built → List ℕ

@@ -1,15 +1,18 @@
 // Prints a built rule into a lent buffer.
 ghost use mathlib.Core.Path.{_≡_};
 ghost use Prim.Native.Nat.{_+_, _*_, _≤_, _<_};
-ghost use lib.ListN.{length, getD};
+ghost use lib.ListN.{length};
 ghost use Rattle.limits.specs.Limits.{mostStates, mostSymbols, mostSets};
 ghost use Rattle.base.specs.Lists.{joined};
 ghost use Rattle.text.specs.Writing.{Wrote};
-ghost use Rattle.ruletext.specs.RuleText.{field, cellText, rowText, setLine, headLine, delegatesLine, ruleText, refusedText, textOf};
+ghost use Rattle.delegates.specs.Alike.{delegateIn};
+ghost use Rattle.delegates.specs.Answer.{delegateMeans};
+ghost use Rattle.ruletext.specs.RuleText.{field, cellText, rowText, setLine, headLine, delegateText, delegatesLine, ruleText, refusedText, textOf};
 ghost use Rattle.ruletext.specs.Printing.{Prints, textFor, mostBytes};
 use build::BuildAnswer;
 use build::BuildResult;
 use build::Built;
+use delegates::DelegateAnswer;
 use masks::StateNumber;
 use ruleformat::ReadAnswer;
 use subsets::SetNumber;
@@ -112,16 +115,28 @@ fn put_sets(
     at
 }
 
+// A state's delegate with a space before it, or - where it has none.
+fn put_delegate(out: &mut [u8], at: usize, delegate: DelegateAnswer) -> usize
+    requires { ⌜ at + 4 ≤ length (now out) ⌝ }
+    ensures { λ r. ⌜ Wrote (now (out .entry)) at (delegateText (delegateMeans delegate)) (now (out .exit)) r ⌝ }
+{
+    match delegate {
+        DelegateAnswer::State(q) => put_field(out, at, q),
+        DelegateAnswer::None => text::put_bytes(out, at, b" -"),
+    }
+}
+
 // The delegates of the first n states.
-fn put_fields(out: &mut [u8], start: usize, delegates: &[u8], n: usize) -> usize
-    requires { ⌜ (n ≤ mostStates) × (n ≤ length (now delegates)) × (start + 4 * n ≤ length (now out)) ⌝ }
-    ensures { λ r. ⌜ (Wrote (now (out .entry)) start (joined (λ q. field (getD (now (delegates .entry)) q 0)) n) (now (out .exit)) r) × (r ≤ start + 4 * n) ⌝ }
+fn put_fields(out: &mut [u8], start: usize, delegates: &[u8; limits::STATES], n: usize) -> usize
+    requires { ⌜ (n ≤ mostStates) × (start + 4 * n ≤ length (now out)) ⌝ }
+    ensures { λ r. ⌜ (Wrote (now (out .entry)) start (joined (λ q. delegateText (delegateIn (now (delegates .entry)) q)) n) (now (out .exit)) r) × (r ≤ start + 4 * n) ⌝ }
 {
     let mut at = start;
     let mut q: usize = 0;
     while q < n {
-        let delegate = delegates[q];
-        at = put_field(out, at, StateNumber(delegate));
+        let state = StateNumber(q as u8);
+        let delegate = delegates::delegate_at(delegates, state);
+        at = put_delegate(out, at, delegate);
         q += 1;
     }
     at
@@ -132,8 +147,7 @@ fn put_delegates(out: &mut [u8], at: usize, delegates: &[u8; limits::STATES], n:
     ensures { λ r. ⌜ (Wrote (now (out .entry)) at (delegatesLine (now (delegates .entry)) n) (now (out .exit)) r) × (r ≤ at + 138) ⌝ }
 {
     let first = text::put_bytes(out, at, b"delegates");
-    let fields: &[u8] = delegates;
-    let end = put_fields(out, first, fields, n);
+    let end = put_fields(out, first, delegates, n);
     text::put_byte(out, end, b'\n')
 }
 

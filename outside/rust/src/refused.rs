@@ -2,7 +2,7 @@
 use std::error::Error;
 use std::fmt;
 
-/// A call was refused; the judge is as it was.
+/// A call was refused; the judge is as it was. Of reading: the file is no rule.
 ///
 /// ```
 /// # use bellbadger::Judge;
@@ -34,7 +34,7 @@ impl Refused {
             5 => "the file ends within the list of pairs",
             6 => "a mask names a state that there is not",
             7 => "a pair has a wrong offset or an odd length, or the sections do not end where the file does",
-            8 => "an arc has a symbol or a target that there is not, or arcs do not rise",
+            8 => "an arc has a state, a symbol or a target that there is not, or arcs do not rise",
             9 => "the rule has over 512 sets",
             10 => "no number of places from 1 to 64",
             11 => "the board has no such place",

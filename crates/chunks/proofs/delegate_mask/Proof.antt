@@ -2,18 +2,18 @@
 -- members below q. Assumes nothing.
 use mathlib.Core.Path.{_≡_, refl, sym, ap, ap₂, _∙_}
 use mathlib.Core.Logic.{⊎-elim}
-use Prim.Native.Nat.{_-_, _%_, _≤_, min}
+use Prim.Native.Nat.{_-_, _≤_, min}
 use native.Mathlib.Omega.{arith}
 use borrow.Author.Needs.{needs}
 use lib.Bits.{bitOr}
-use lib.ListN.{getD}
 use Rattle.masks.proofs.Laws.{union-member, union-other}
 use Rattle.masks.specs.Masks.{single, union}
+use Rattle.delegates.specs.Alike.{delegateIn, ofDelegate}
 use Rattle.chunks.proofs.delegate_mask.Statement.{statement}
 use Rattle.chunks.proofs.delegate_mask.Tie as tie
 
 abbrev Inv-loop : tie.InvT-loop
-Inv-loop n set delegates most out₀ q₀ out q = (q ≤ min n 32) × (out ≡ union (λ p. single (getD delegates p 0 % 32)) set q)
+Inv-loop n set delegates most out₀ q₀ out q = (q ≤ min n 32) × (out ≡ union (λ p. ofDelegate single (delegateIn delegates p)) set q)
 
 abbrev μ-loop : tie.MeasureT-loop
 μ-loop n set delegates most out₀ q₀ out q = min n 32 - q
@@ -28,14 +28,8 @@ loop-holds c = (omega arith, refl)
 member-requires : tie.Need-member-requires Inv-loop μ-loop
 member-requires c κs = search needs
 
-cast-i : tie.Need-cast-i Inv-loop μ-loop
-cast-i c = search needs
-
-array-read-t15 : tie.Need-array-read-t15 Inv-loop μ-loop
-array-read-t15 c = search needs
-
-singleton-requires : tie.Need-singleton-requires Inv-loop μ-loop
-singleton-requires c κs = search needs
+delegate-single-requires : tie.Need-delegate-single-requires Inv-loop μ-loop
+delegate-single-requires c κs = search needs
 
 union-requires : tie.Need-union-requires Inv-loop μ-loop
 union-requires c κs = search needs
@@ -54,11 +48,11 @@ loop-again c =
       search needs,
       ⊎-elim
           (λ w.
-          w .3
-          ∙ w .2 .ensures
-          ∙ ap₂ bitOr (l .inv .1) (w .1 .ensures)
-          ∙ union-member (λ p. single (getD d p 0 % 32)) (a .set) (l .q) (sym (c .before .member .ensures) ∙ w .0 .taken))
-          (λ w. w .1 ∙ l .inv .1 ∙ union-other (λ p. single (getD d p 0 % 32)) (a .set) (l .q) (sym (c .before .member .ensures) ∙ w .0 .left))
+          w .4
+          ∙ w .3 .ensures
+          ∙ ap₂ bitOr (l .inv .1) (w .2 .ensures)
+          ∙ union-member (λ p. ofDelegate single (delegateIn d p)) (a .set) (l .q) (sym (c .before .member .ensures) ∙ w .0 .taken))
+          (λ w. w .1 ∙ l .inv .1 ∙ union-other (λ p. ofDelegate single (delegateIn d p)) (a .set) (l .q) (sym (c .before .member .ensures) ∙ w .0 .left))
           (c .if1 .came),
     )
 
@@ -67,7 +61,7 @@ returns c =
     let l = c .before .loop in
     let a = c .before .before .before .args in
     let e : l .q ≡ min (a .n) 32 = omega arith in
-    l .inv .1 ∙ ap (union (λ p. single (getD (a .t1) p 0 % 32)) (a .set)) e
+    l .inv .1 ∙ ap (union (λ p. ofDelegate single (delegateIn (a .t1) p)) (a .set)) e
 
 pub delegate-mask-spec : {M : Type 1} → statement M
 delegate-mask-spec =
@@ -78,9 +72,7 @@ delegate-mask-spec =
     at-most-u8-requires
     loop-holds
     member-requires
-    cast-i
-    array-read-t15
-    singleton-requires
+    delegate-single-requires
     union-requires
     add-q
     loop-less

@@ -7,7 +7,7 @@ use native.Mathlib.Omega.{arith}
 use borrow.Author.Needs.{needs}
 use lib.Bits.{bitOr}
 use Rattle.delegates.specs.Alike.{startSet}
-use Rattle.chunks.proofs.Starts.{start-own, start-other}
+use Rattle.chunks.proofs.Starts.{start-more, start-other}
 use Rattle.chunks.proofs.start_mask.Statement.{statement}
 use Rattle.chunks.proofs.start_mask.Tie as tie
 
@@ -48,7 +48,7 @@ loop-again c =
     let d = c .before .before .before .before .args .t1 in (
       search needs,
       ⊎-elim
-          (λ w. w .3 ∙ w .2 .ensures ∙ ap₂ bitOr (l .inv .1) (w .1 .ensures) ∙ start-own d (l .q) (w .0 .taken))
+          (λ w. w .3 ∙ w .2 .ensures ∙ ap₂ bitOr (l .inv .1) (w .1 .ensures) ∙ start-more d (l .q) (w .0 .taken))
           (λ w. w .1 ∙ l .inv .1 ∙ start-other d (l .q) (w .0 .left))
           (c .if1 .came),
     )

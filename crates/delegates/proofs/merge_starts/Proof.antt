@@ -1,7 +1,8 @@
 -- `merge_starts` meets its contract. The loop's invariant is `Merging`. Assumes nothing.
-use mathlib.Core.Path.{_≡_, sym, _∙_}
+use mathlib.Core.Path.{_≡_, sym, ap, _∙_}
 use mathlib.Core.Logic.{⊎-elim}
 use mathlib.Core.Bool.{cond}
+use mathlib.Core.List.{List}
 use Prim.Native.Nat.{ℕ, _+_, _-_, _≤_, _<_, min, zero-le}
 use native.Mathlib.Nat.{add-zero, lt-of-lt-of-le, min-le-right}
 use native.Mathlib.Numerals.{add-one}
@@ -9,17 +10,18 @@ use native.Mathlib.Omega.{arith}
 use borrow.Author.Needs.{needs}
 use borrow.Author.Tests.{eq-eqb, ne-eqb}
 use lib.Dec.{eqb}
-use Rattle.delegates.specs.Refinement.{classOf}
+use lib.ListN.{set}
+use Rattle.delegates.specs.Refinement.{classOf, cellIn, classesOf}
 use Rattle.delegates.proofs.Merging.{Merging, classAt, begun, turned, all-merged}
 use Rattle.delegates.proofs.merge_starts.Statement.{statement}
 use Rattle.delegates.proofs.merge_starts.Tie as tie
 
 abbrev Inv-loop : tie.InvT-loop
-Inv-loop sets next singles finals n k states symbols class own₀ delegates₀ starts₀ q₀ own delegates starts q =
+Inv-loop sets next singles finals n k states symbols class empty own₀ delegates₀ starts₀ q₀ own delegates starts q =
     (q ≤ min n 32) × Merging sets next finals singles (min k 16) own delegates starts q
 
 abbrev μ-loop : tie.MeasureT-loop
-μ-loop sets next singles finals n k states symbols class own₀ delegates₀ starts₀ q₀ own delegates starts q = min n 32 - q
+μ-loop sets next singles finals n k states symbols class empty own₀ delegates₀ starts₀ q₀ own delegates starts q = min n 32 - q
 
 at-most-u8-requires : tie.Need-at-most-u8-requires Inv-loop μ-loop
 at-most-u8-requires c κs = search needs
@@ -36,13 +38,16 @@ cast-symbols c = search needs
 refine-requires : tie.Need-refine-requires Inv-loop μ-loop
 refine-requires c κs = search needs
 
+array-read-empty : tie.Need-array-read-empty Inv-loop μ-loop
+array-read-empty c = search needs
+
 loop-holds : tie.Need-loop-holds Inv-loop μ-loop
 loop-holds c =
     let a = c .before .before .before .args in
     (zero-le, begun (a .sets .now) (a .next .now) (a .finals) (a .singles .now) (min (a .k) 16))
 
-cast-t20 : tie.Need-cast-t20 Inv-loop μ-loop
-cast-t20 c = search needs
+cast-t24 : tie.Need-cast-t24 Inv-loop μ-loop
+cast-t24 c = search needs
 
 single-requires : tie.Need-single-requires Inv-loop μ-loop
 single-requires c κs = search needs
@@ -62,11 +67,11 @@ mul-own-2 c = search needs
 array-write-own : tie.Need-array-write-own Inv-loop μ-loop
 array-write-own c = search needs
 
-cast-t20-2 : tie.Need-cast-t20-2 Inv-loop μ-loop
-cast-t20-2 c = search needs
+cast-t24-2 : tie.Need-cast-t24-2 Inv-loop μ-loop
+cast-t24-2 c = search needs
 
-delegate-requires : tie.Need-delegate-requires Inv-loop μ-loop
-delegate-requires c κs = search needs
+delegate-cell-requires : tie.Need-delegate-cell-requires Inv-loop μ-loop
+delegate-cell-requires c κs = search needs
 
 array-write-delegates : tie.Need-array-write-delegates Inv-loop μ-loop
 array-write-delegates c = search needs
@@ -85,27 +90,29 @@ loop-less c = search needs
 
 loop-again : tie.Need-loop-again Inv-loop μ-loop
 loop-again c =
-    let y = c .before .before .before .before .before in
+    let y = c .before .before .before .before in
     let l = y .before .before .loop in
     let m = y .before .before .before in
     let a = m .before .before .before .args in
-    let d = c .before .before .delegate in
+    let d = c .before .delegate-cell in
     let x : ℕ = y .single .result .0 in
+    let all : m .refine .result ≡ classesOf (a .sets .now) (a .next .now) (a .finals) (min (a .k) 16) =
+    rw (← m .before .at-most-u82 .ensures) (m .refine .ensures) in
     let is : classOf (m .refine .result) x ≡ classAt (a .sets .now) (a .next .now) (a .finals) (a .singles .now) (min (a .k) 16) (l .q) =
-    rw (m .refine .ensures, m .before .at-most-u82 .ensures, y .single .ensures) in
+    rw (all, y .single .ensures) in
     let below : l .q < min (a .n) 32 = rw (m .before .before .at-most-u8 .ensures) at (y .before .loop-test .taken) in
-    let counted : c .if1 .starts ≡ l .starts + cond (eqb (d .result .0) (l .q)) 1 0 =
+    let counted : c .if1 .starts ≡ l .starts + cond (eqb (d .result) (l .q)) 1 0 =
     ⊎-elim
-    (λ w. w .1 ∙ rw (eq-eqb (d .result .0) (l .q) (w .0 .taken)))
-    (λ w. w .1 ∙ rw (ne-eqb (d .result .0) (l .q) (w .0 .left)) (sym (add-zero (l .starts))))
+    (λ w. w .1 ∙ rw (eq-eqb (d .result) (l .q) (w .0 .taken)))
+    (λ w. w .1 ∙ rw (ne-eqb (d .result) (l .q) (w .0 .left)) (sym (add-zero (l .starts))))
     (c .if1 .came) in (
       rw add-one below,
       turned (a .sets .now) (a .next .now) (a .finals) (a .singles .now) (min (a .k) 16) (l .own) (l .delegates) (l .starts) (l .q) (l .inv .1)
           (lt-of-lt-of-le below (min-le-right (a .n) 32))
           (classOf (m .refine .result) x)
-          (d .result .0)
+          (d .result)
           is
-          (d .ensures)
+          (d .ensures ∙ ap (λ (e : List ℕ). cellIn (set (l .own) (l .q) (classOf (m .refine .result) x)) (classOf e 512) (l .q)) all)
           (c .if1 .starts)
           counted,
     )
@@ -128,16 +135,17 @@ merge-starts-spec =
     at-most-u8-requires-2
     cast-symbols
     refine-requires
+    array-read-empty
     loop-holds
-    cast-t20
+    cast-t24
     single-requires
     cast-x
     mul-own
     array-read-own
     mul-own-2
     array-write-own
-    cast-t20-2
-    delegate-requires
+    cast-t24-2
+    delegate-cell-requires
     array-write-delegates
     cast-if1
     add-starts

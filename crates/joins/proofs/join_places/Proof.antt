@@ -1,10 +1,10 @@
 -- `join_places` meets its contract: the set is C after the places passed. Assumes nothing.
 use mathlib.Core.Path.{_≡_, refl}
-use Prim.Native.Nat.{ℕ, _-_, _≤_, min}
-use native.Mathlib.Numerals.{add-one}
+use Prim.Native.Nat.{_-_, _≤_}
 use native.Mathlib.Omega.{arith}
 use borrow.Author.Needs.{needs}
-use Rattle.joins.specs.Joining.{joinUpTo}
+use Rattle.joins.specs.Joining.{joinOf, joinUpTo}
+use Rattle.joins.proofs.Places.{place-more}
 use Rattle.joins.proofs.join_places.Statement.{statement}
 use Rattle.joins.proofs.join_places.Tie as tie
 
@@ -18,7 +18,7 @@ at-most-u8-requires : tie.Need-at-most-u8-requires Inv-loop μ-loop
 at-most-u8-requires c κs = search needs
 
 loop-holds : tie.Need-loop-holds Inv-loop μ-loop
-unfolding joinUpTo
+unfolding joinOf
 loop-holds c = (omega arith, refl)
 
 cast-join-place : tie.Need-cast-join-place Inv-loop μ-loop
@@ -34,12 +34,14 @@ loop-less : tie.Need-loop-less Inv-loop μ-loop
 loop-less c = omega arith
 
 loop-again : tie.Need-loop-again Inv-loop μ-loop
-unfolding joinUpTo
 loop-again c =
     let x = c .before .before .loop in
-    let s : ℕ = c .before .before .before .at-most-u8 .result in
-    let e : s ≡ min (c .before .before .before .before .args .n) 32 = c .before .before .before .at-most-u8 .ensures in
-    (omega arith, rw (add-one, ← e, ← x .inv .1) (c .join-place .ensures))
+    let s = c .before .before .before .at-most-u8 in
+    let a = c .before .before .before .before .args in (
+      omega arith,
+      place-more (a .ends .now) (a .delegates .now) (a .n) (a .initials) (x .place) (s .result) (x .set) (c .join-place .result) (s .ensures) (x .inv .1)
+          (c .join-place .ensures),
+    )
 
 returns : tie.Need-returns Inv-loop μ-loop
 returns c =

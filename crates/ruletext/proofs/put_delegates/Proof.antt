@@ -22,10 +22,10 @@ same-length c = search needs
 
 returns : tie.Need-returns
 returns c =
-    let pre = c .before .before .before .before .before .before .before .before .before .before .before .before .before .before .before .pre in
+    let pre = c .before .before .before .before .before .before .before .before .before .before .before .before .before .before .pre in
     let w = c .before .before .before .before .before .before .put-fields in
     let z = c .before .before .put-byte in
-    let u = put (omega (arith, pre)) (c .before .before .before .before .before .before .before .before .before .before .before .put-bytes .ensures) in
+    let u = put (omega (arith, pre)) (c .before .before .before .before .before .before .before .before .before .before .put-bytes .ensures) in
     let v = put (omega (arith, pre, u, w .ensures .1, w .ensures .0 .ends)) (w .ensures .0) in
     let x = put (omega (arith, pre, u, v, w .ensures .1)) (z .ensures) in
     ((u then v then x) .wrote, omega (arith, pre, u, w .ensures .1, z .ensures .ends))

@@ -1,0 +1,25 @@
+-- `delegate_at` meets its contract. Assumes nothing.
+use mathlib.Core.Path.{sym}
+use borrow.Author.Needs.{needs}
+use Rattle.delegates.proofs.Alike.{said-some, said-none}
+use Rattle.delegates.proofs.delegate_at.Statement.{statement}
+use Rattle.delegates.proofs.delegate_at.Tie as tie
+
+cast-i : tie.Need-cast-i
+cast-i c = search needs
+
+element-copy-out-delegate : tie.Need-element-copy-out-delegate
+element-copy-out-delegate c = search needs
+
+returns : tie.Need-returns
+returns c =
+    let a = c .before .before .before .args in
+    sym (said-some (a .delegates .now) (a .q .0) (c .if1 .taken))
+
+returns-2 : tie.Need-returns-2
+returns-2 c =
+    let a = c .before .before .before .args in
+    sym (said-none (a .delegates .now) (a .q .0) (c .if1 .left))
+
+pub delegate-at-spec : {M : Type 1} → statement M
+delegate-at-spec = tie.close (tie.spec cast-i element-copy-out-delegate returns returns-2)

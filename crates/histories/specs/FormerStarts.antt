@@ -1,0 +1,27 @@
+-- The starts that document 01 had (document 02, R-7): with the delegates that every state had, also
+-- one from which no final state can be reached, an owner saw the same yes or no. The former
+-- delegates, runs and join stand in crates/joins/specs/Former.antt; here they are those of a list of
+-- calls. proofs/FormerStarts.antt proves the claim of every list.
+--
+--   formerEndAt h p q   the end set of state q at place p, as it was held
+--   formerYesIn h       the yes or no that the former join gave
+--   SameAnswer h        after the calls h, with a board and no place empty, it is the yes or no that
+--                       the join gives
+use mathlib.Core.Path.{_≡_}
+use mathlib.Core.Bool.{Bool, true}
+use mathlib.Core.List.{List}
+use Prim.Native.Nat.{ℕ}
+use Rattle.joins.specs.Former.{formerDelegates, formerRunSet, formerYes}
+use Rattle.calls.specs.Calls.{Call}
+use Rattle.histories.specs.History.{ruleIn, boardIn, placesIn, standingEnd, standing, emptiesIn, yesIn}
+
+module _ (h : List Call) where
+  abbrev pub formerEndAt : ℕ → ℕ → ℕ
+  formerEndAt p q =
+      standingEnd (ruleIn h .targets) (formerRunSet (formerDelegates (ruleIn h)) (ruleIn h .n) (ruleIn h .initials) p) q (standing h p)
+
+  abbrev pub formerYesIn : Bool
+  formerYesIn = formerYes formerEndAt (formerDelegates (ruleIn h)) (ruleIn h .n) (ruleIn h .initials) (ruleIn h .finals) (placesIn h)
+
+  abbrev pub SameAnswer : Type 0
+  SameAnswer = boardIn h ≡ true → emptiesIn h ≡ 0 → formerYesIn ≡ yesIn h
