@@ -37,7 +37,7 @@ use Rattle.joins.specs.Claims as joins-specs
 use Rattle.joins.proofs.Claims as joins
 use Rattle.calls.specs.declared.Judge.{Judge}
 use Rattle.calls.specs.Replies.{Judgement, waiting, yesWith, noWith, refusedWith}
-use Rattle.histories.specs.History.{ruleThere, ruleFrom, openNumber, boardIn, placesIn, runAt, countOf, standingEnd, endOf, standing, emptiesIn, summedIn, yesIn, standingText, joinedUpTo}
+use Rattle.histories.specs.History.{ruleThere, ruleFrom, openNumber, boardIn, placesIn, runAt, countOf, standingEnd, endOf, lastRevision, standing, emptiesIn, summedIn, yesIn, standingText, joinedUpTo}
 use Rattle.calls.specs.Calls.{Call, installs, opens, delivers, withdraws, asksVerdict, installNumber, verdictBy}
 use Rattle.histories.specs.Claims.{VerdictClauses}
 use Rattle.histories.proofs.Running.{merged}
