@@ -87,17 +87,21 @@ def live(k, finals, targets, q):
     return bool(found & finals)
 
 
-def parts(f):
-    """The sets and the delegates of a rule file, None where a state has none."""
-    n, k, finals, targets = read(f)
-    sets = number_sets(n, k, targets)
-
+def delegates_of(n, k, finals, targets):
+    """The delegate of each state, None where it has none."""
     def delegate(q):
         if not live(k, finals, targets, q):
             return None
         return min(r for r in range(n) if alike(k, finals, targets, q, r))
 
-    return sets, [delegate(q) for q in range(n)]
+    return [delegate(q) for q in range(n)]
+
+
+def parts(f):
+    """The sets and the delegates of a rule file."""
+    n, k, finals, targets = read(f)
+    sets = number_sets(n, k, targets)
+    return sets, delegates_of(n, k, finals, targets)
 
 
 def text(f):

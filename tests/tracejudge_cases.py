@@ -3,8 +3,7 @@
 nothing and says whether they are what it would write.
 
 A case is a list of lines, ended by an empty line, which starts again with a fresh judge. What a line means is
-told here by patterns, and the answers are computed by a judge written straight from the words of documents 01 and 02:
-a text is accepted by following the automaton over the chunks joined, and the count is taken run by run.
+told here by patterns, and the answers are computed by the judge of tests/paper_judge.py.
 """
 import os
 import random
@@ -12,122 +11,11 @@ import re
 import struct
 import sys
 
-from ruleprint_cases import Refused, alike, many_sets, number_sets, random_rule, read, rule, successor
+from paper_judge import IDLE, Judge
+from ruleprint_cases import Refused, many_sets, random_rule, read, rule
 
 HERE = os.path.dirname(os.path.abspath(__file__))
 CRATE = os.path.join(HERE, "..", "crates", "tracejudge")
-
-
-IDLE = 255
-
-
-def states(n, mask):
-    return {q for q in range(n) if mask >> q & 1}
-
-
-def without_marks(chunk):
-    """The text of a chunk."""
-    return bytes(b for b in chunk if b != IDLE)
-
-
-class Judge:
-    def __init__(self):
-        self.rule = self.board = None
-
-    def keep(self, n, k, initials, finals, targets):
-        sets = number_sets(n, k, targets)
-        delegates = [min(r for r in range(n) if alike(k, finals, targets, q, r)) for q in range(n)]
-        self.rule = n, k, initials, finals, targets, delegates
-        self.board = None
-        return f"accepted {len(sets)} {len(set(delegates))}"
-
-    def load(self, f):
-        n, k, finals, targets = read(f)
-        return self.keep(n, k, states(n, int.from_bytes(f[2:6], "little")), finals, targets)
-
-    def install(self, value):
-        n, k, initials, finals = struct.unpack_from("<BBII", value)
-        masks = {divmod(i, 16): mask for i, mask in enumerate(struct.unpack_from("<512I", value, 10))}
-        if not 1 <= n <= 32:
-            raise Refused(3)
-        if not 1 <= k <= 16:
-            raise Refused(4)
-        if max(initials, finals) >= 2 ** n:
-            raise Refused(6)
-        if any(mask >= 2 ** n or mask and (q >= n or s >= k) for (q, s), mask in masks.items()):
-            raise Refused(8)
-        return self.keep(n, k, states(n, initials), states(n, finals), {cell: states(n, mask) for cell, mask in masks.items()})
-
-    def open(self, places):
-        if self.rule is None:
-            raise Refused(20)
-        if not 1 <= places <= 64:
-            raise Refused(10)
-        self.board = [None] * places
-        return "accepted"
-
-    def at(self, p):
-        if self.board is None:
-            raise Refused(21)
-        if p >= len(self.board):
-            raise Refused(11)
-
-    def count(self, p, text):
-        n, _, initials, _, targets, delegates = self.rule
-        starts = {delegates[q] for q in initials} if p == 0 else set(delegates)
-        total = 0
-        for d in starts:
-            members = frozenset({d})
-            for s in text:
-                members = successor(targets, members, s)
-                if not members:
-                    break
-                total += 1
-        return total
-
-    def looked(self, p, text):
-        """The least number of bytes after which the sets of all runs are empty, else all."""
-        _, _, initials, _, targets, delegates = self.rule
-        sets = {frozenset({d}) for d in ({delegates[q] for q in initials} if p == 0 else set(delegates))}
-        for i, s in enumerate(text):
-            if not any(sets):
-                return i
-            sets = {successor(targets, members, s) for members in sets}
-        return len(text)
-
-    def deliver(self, p, chunk):
-        self.at(p)
-        if len(chunk) > 65536:
-            raise Refused(12)
-        if any(b >= self.rule[1] and b != IDLE for b in chunk):
-            raise Refused(13)
-        if self.board[p] is not None:
-            raise Refused(22)
-        self.board[p] = chunk
-        return f"accepted {self.looked(p, without_marks(chunk))}"
-
-    def withdraw(self, p):
-        self.at(p)
-        if self.board[p] is None:
-            raise Refused(23)
-        self.board[p] = None
-        return "accepted"
-
-    def verdict(self):
-        if self.board is None:
-            raise Refused(21)
-        empty = sum(chunk is None for chunk in self.board)
-        if empty:
-            return f"waiting {empty}"
-        _, _, initials, finals, targets, _ = self.rule
-        members = frozenset(initials)
-        texts = [without_marks(chunk) for chunk in self.board]
-        whole = b"".join(texts)
-        for s in whole:
-            members = successor(targets, members, s)
-        count = sum(self.count(p, text) for p, text in enumerate(texts))
-        quotient, remainder = divmod(count, len(whole)) if whole else (0, 0)
-        return f"{'yes' if members & finals else 'no'} {count} {len(whole)} {quotient} {remainder}"
 
 
 HEX, NUMBER = rb"((?:[0-9a-fA-F]{2})+|-)", rb"([0-9]{1,20})"
@@ -183,6 +71,13 @@ DIES = rule(2, 2, 1, 1, [(0, 0, 1), (1, 0, 0)])
 CHAIN = rule(3, 1, 1, 4, [(0, 0, 1), (1, 0, 2)])
 # 16 symbols, of which only 0 leads anywhere
 ONLY_0 = rule(1, 16, 1, 1, [(0, 0, 0)])
+# by 0 from 0 to 1, which is final and has no arcs; by 1 from 0 to 2; 2 and 3 lead to each other and nowhere else
+ASTRAY_ARCS = [(0, 0, 1), (0, 1, 2), (2, 0, 3), (2, 1, 2), (3, 0, 2)]
+ASTRAY = rule(4, 2, 0b1, 0b10, ASTRAY_ARCS)
+# 0, 1 and 3 lead nowhere; 2 and 4 are final and alike, though 4 leads to 3 and 2 does not
+LOW_DEAD = rule(5, 2, 0b11111, 0b10100, [(0, 0, 1), (1, 0, 0), (2, 0, 2), (3, 0, 3), (4, 0, 2), (4, 0, 4), (4, 1, 3)])
+# 31 states that lead nowhere, round and round, and one that is final
+ALL_BUT_31 = rule(32, 1, 2 ** 32 - 1, 1 << 31, [(q, 0, (q + 1) % 31) for q in range(31)] + [(31, 0, 31), (31, 0, 0)])
 NO_RULE = A[:9]
 LARGEST = 2 ** 64 - 1
 # the bytes of a rule as a value
@@ -226,6 +121,9 @@ def random_calls(seed):
     rng = random.Random(seed)
     n, k = rng.randint(1, 6), rng.randint(1, 3)
     f = random_rule(seed, n, k, rng.choice([0.15, 0.3, 0.5]))
+    if seed >= 24:
+        # one final state alone, so that more of the others lead nowhere
+        f = f[:6] + struct.pack("<I", 1 << rng.randrange(n)) + f[10:]
     calls = [("load", f), ("open", rng.randint(1, 4))]
     for _ in range(30):
         p = rng.randint(0, 4)
@@ -330,12 +228,33 @@ CASES = [
     # one byte less and one more, half a byte more, a file; a value is no file; hex digits of either case
     [("load", A), ("open", 1), ("install", changed()[:-1]), ("install", changed() + b"\0"), line(("install", changed())) + b"0", ("install", A),
      ("install", b""), ("load", changed()), ("verdict",), b"install " + changed().hex().upper().encode(), ("verdict",)],
+    # states that lead nowhere: no start, no delegate. A run may go on in them and counts; what the next place runs, and C's members
+    # that have a delegate, begin anew. State 0 stands in for none of them: by 1 and then 0 the answer is no
+    judged(ASTRAY, b"\0"),
+    judged(ASTRAY, b"\1", b"\0"),
+    judged(ASTRAY, b"\1\1\0", b"\1\0\1", b"\0"),
+    judged(ASTRAY, b"", b"\0", b""),
+    # initial states that lead nowhere run nothing at place 0, alone or beside one that does lead somewhere
+    judged(rule(4, 2, 0b100, 0b10, ASTRAY_ARCS), b"\0\1", b"\0"),
+    judged(rule(4, 2, 0b1101, 0b10, ASTRAY_ARCS), b"", b"\0"),
+    judged(rule(4, 2, 0b1101, 0b10, ASTRAY_ARCS), b"\1\1", b""),
+    # the lowest members of C are passed over, and what comes after them counts
+    judged(LOW_DEAD, b"\0", b"\0\0"),
+    judged(LOW_DEAD, b"\0\1", b"\0"),
+    judged(value_of(LOW_DEAD), b"", b"", call="install"),
+    judged(ALL_BUT_31, b"\0\0\0", b"\0\0", b""),
+    # no final state: M is 0, nothing is run or counted, and the verdict is no; a final state without arcs is a start
+    judged(rule(4, 2, 0b1111, 0, ASTRAY_ARCS), b"\0\1", b"\1\1", b""),
+    judged(changed(finals=0), b"", b"\0\1", call="install"),
+    judged(rule(3, 1, 0b111, 0b110, []), b"", b""),
+    judged(rule(3, 1, 0b111, 0b110, []), b"\0\0", b""),
+    [("load", rule(4, 2, 0b1111, 0, ASTRAY_ARCS)), ("open", 1), ("deliver", 0, b"\0\2"), ("deliver", 0, b"\0\xff\0"), ("verdict",)],
     # n 33; hex digits of either case; the largest number of digits
     [("load", b"\x21" + A[1:]), b"load " + A.hex().upper().encode(), b"open 00000000000000000001", b"deliver 0 0001", ("verdict",)],
     # lines that are malformed, and lines that are very long
     judged(A, b"\0", b"\1") + [x for bad in MALFORMED for x in (bad, ("verdict",))],
     [("load", A), ("open", 1)] + LONGER + [("verdict",), ("deliver", 0, b"\0"), ("verdict",)],
-] + [random_calls(seed) for seed in range(24)]
+] + [random_calls(seed) for seed in range(32)]
 # the last line is ended by the end of the input
 LAST = [("load", A), ("open", 1), ("verdict",)]
 

@@ -25,8 +25,8 @@
  * bellbadger_version() == BELLBADGER_VERSION && bellbadger_state_size() == BELLBADGER_STATE_SIZE.
  * Another major number or size: the two do not fit. A higher minor number of the library: it can
  * more than this header says. */
-#define BELLBADGER_VERSION_MAJOR 3
-#define BELLBADGER_VERSION_MINOR 2
+#define BELLBADGER_VERSION_MAJOR 4
+#define BELLBADGER_VERSION_MINOR 0
 #define BELLBADGER_VERSION (BELLBADGER_VERSION_MAJOR * 65536 + BELLBADGER_VERSION_MINOR)
 #define BELLBADGER_STATE_SIZE 27316 /* the bytes of a bellbadger_judge */
 
@@ -51,9 +51,18 @@ typedef struct {
     uint32_t targets[512];
 } bellbadger_checked_rule;
 
+/* What stands in the place of a delegate where a state has none. It is no state: test for it before a
+ * delegate is used as an index. */
+#define BELLBADGER_NO_DELEGATE 32
+
 /* A rule as it was built: states, symbols, starts (M), sets; masks of initial and final states;
  * each state's delegate and the number of its own set; the sets' masks; 16 cells of next sets for
- * each set. n is 0 where no rule is there. */
+ * each set. n is 0 where no rule is there.
+ *
+ * The delegate of a state is the lowest state that accepts the same texts. A state from which no final
+ * state can be reached has none: its cell is BELLBADGER_NO_DELEGATE. From n on the cells are 0. The
+ * starts are the states that are their own delegate; there are none, and M is 0, where the mask of final
+ * states is 0. */
 typedef struct {
     uint8_t n, k, starts;
     uint16_t count;
@@ -63,8 +72,6 @@ typedef struct {
     uint32_t sets[512];
     uint16_t next[8192];
 } bellbadger_built_rule;
-
-typedef bellbadger_built_rule bellbadger_rule; /* its name up to version 3.1 */
 
 /* A board: how many places, which are filled, the counts and lengths of their texts, and 32 end sets
  * for each. places is 0 where no board is there. */
@@ -90,7 +97,7 @@ typedef struct {
 typedef struct {
     uint8_t accepted, refused;
     uint16_t sets;  /* the number of sets, and */
-    uint8_t starts; /* M, of an accepted rule */
+    uint8_t starts; /* M, of an accepted rule: 0 where it has no final state */
     bellbadger_judge judge;
 } bellbadger_install_result, bellbadger_load_result;
 
@@ -149,13 +156,13 @@ BELLBADGER_RESULT bellbadger_install_result bellbadger_install(bellbadger_judge 
 BELLBADGER_RESULT bellbadger_load_result bellbadger_load(bellbadger_judge judge, const uint8_t *file, size_t length);
 
 /* A board of that many empty places; drops an earlier one. Refused with
- *   20 no rule is loaded      10 no number of places from 1 to 64 */
+ *   20 no rule is there      10 no number of places from 1 to 64 */
 BELLBADGER_RESULT bellbadger_open_result bellbadger_open(bellbadger_judge judge, size_t places);
 
 /* Runs a chunk and keeps its end sets, count and length at the place. Byte 255 is an idle mark: it is
  * skipped and is no part of the text, but counts in the limit of 65,536 bytes. Once every run has died
  * no successor is looked up: looked is the least number of text bytes after which every set is empty,
- * else all of them. Refused with
+ * else all of them; 0 where nothing is run, as with a rule whose M is 0. Refused with
  *   21 no board is open      11 the board has no such place      12 the chunk has over 65,536 bytes
  *   13 a byte is no symbol and no idle mark                       22 the place has a chunk already */
 BELLBADGER_RESULT bellbadger_deliver_result bellbadger_deliver(bellbadger_judge judge, size_t place, const uint8_t *chunk, size_t length);

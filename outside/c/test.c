@@ -3,24 +3,10 @@
  * many checks were made; stops at the first that fails. */
 #define _POSIX_C_SOURCE 200809L
 #include <pthread.h>
-#include <stdio.h>
-#include <stdlib.h>
-#include <string.h>
 
-#include "bellbadger.h"
+#include "checks.h"
 
 enum { STACK = 512 * 1024 };
-
-static long checks;
-
-#define CHECK(fact)                                                  \
-    do {                                                             \
-        checks++;                                                    \
-        if (!(fact)) {                                               \
-            printf("%s:%d: %s\n", __FILE__, __LINE__, #fact);        \
-            exit(1);                                                 \
-        }                                                            \
-    } while (0)
 
 static const uint8_t rule_a[] = {
     0x03, 0x02, 0x01, 0x00, 0x00, 0x00, 0x04, 0x00, 0x00, 0x00, 0x16, 0x00, 0x06, 0x00, 0x1C,
@@ -28,92 +14,6 @@ static const uint8_t rule_a[] = {
 };
 
 static uint8_t big[65537];
-
-static int same(const bellbadger_judge *a, const bellbadger_judge *b) {
-    return a->rule.n == b->rule.n && a->rule.k == b->rule.k && a->rule.starts == b->rule.starts && a->rule.count == b->rule.count
-        && a->rule.initials == b->rule.initials && a->rule.finals == b->rule.finals
-        && !memcmp(a->rule.delegates, b->rule.delegates, sizeof a->rule.delegates)
-        && !memcmp(a->rule.singles, b->rule.singles, sizeof a->rule.singles)
-        && !memcmp(a->rule.sets, b->rule.sets, sizeof a->rule.sets) && !memcmp(a->rule.next, b->rule.next, sizeof a->rule.next)
-        && a->board.places == b->board.places && !memcmp(a->board.filled, b->board.filled, sizeof a->board.filled)
-        && !memcmp(a->board.counts, b->board.counts, sizeof a->board.counts)
-        && !memcmp(a->board.lengths, b->board.lengths, sizeof a->board.lengths) && !memcmp(a->board.ends, b->board.ends, sizeof a->board.ends);
-}
-
-/* every number of a checked rule is 0 */
-static int zeros(const bellbadger_checked_rule *r) {
-    for (int c = 0; c < 512; c++)
-        if (r->targets[c]) return 0;
-    return !r->n && !r->k && !r->initials && !r->finals;
-}
-
-/* reading answers as loading does but for 9, which it has not, and hands out zeros where it refuses */
-static bellbadger_checked_rule read_file(const uint8_t *file, size_t length, int refused) {
-    bellbadger_read_result r = bellbadger_read(file, length);
-    CHECK(r.accepted == (refused == 0) && (r.accepted || r.refused == refused));
-    CHECK(r.accepted || zeros(&r.rule));
-    return r.rule;
-}
-
-static void install(bellbadger_judge *j, bellbadger_checked_rule rule, int refused) {
-    bellbadger_install_result r = bellbadger_install(*j, rule);
-    CHECK(r.accepted == (refused == 0) && (r.accepted || r.refused == refused));
-    CHECK(r.accepted || (same(&r.judge, j) && r.sets == 0 && r.starts == 0));
-    *j = r.judge;
-}
-
-static void load(bellbadger_judge *j, const uint8_t *file, size_t length, int refused) {
-    bellbadger_load_result r = bellbadger_load(*j, file, length);
-    CHECK(r.accepted == (refused == 0) && (r.accepted || r.refused == refused));
-    CHECK(r.accepted || same(&r.judge, j));
-    if (refused != 9) read_file(file, length, refused);
-    *j = r.judge;
-}
-
-static void open(bellbadger_judge *j, size_t places, int refused) {
-    bellbadger_open_result r = bellbadger_open(*j, places);
-    CHECK(r.accepted == (refused == 0) && (r.accepted || r.refused == refused));
-    CHECK(r.accepted || same(&r.judge, j));
-    *j = r.judge;
-}
-
-static void deliver(bellbadger_judge *j, size_t place, const uint8_t *chunk, size_t length, int refused) {
-    bellbadger_deliver_result r = bellbadger_deliver(*j, place, chunk, length);
-    CHECK(r.accepted == (refused == 0) && (r.accepted || r.refused == refused));
-    CHECK(r.accepted || (same(&r.judge, j) && r.looked == 0));
-    *j = r.judge;
-}
-
-/* an accepted delivery, with the number of bytes for which it looked a successor up */
-static void looked(bellbadger_judge *j, size_t place, const uint8_t *chunk, size_t length, uint32_t bytes) {
-    bellbadger_deliver_result r = bellbadger_deliver(*j, place, chunk, length);
-    CHECK(r.accepted && r.looked == bytes);
-    *j = r.judge;
-}
-
-static void withdraw(bellbadger_judge *j, size_t place, int refused) {
-    bellbadger_withdraw_result r = bellbadger_withdraw(*j, place);
-    CHECK(r.accepted == (refused == 0) && (r.accepted || r.refused == refused));
-    CHECK(r.accepted || same(&r.judge, j));
-    *j = r.judge;
-}
-
-/* the quotient and the remainder fit the number and the bytes; no bytes beside waiting, a refusal and a
- * malformed line */
-static int divides(bellbadger_verdict_result r) {
-    if (r.bytes == 0) return r.quotient == 0 && r.remainder == 0;
-    return (r.kind == BELLBADGER_YES || r.kind == BELLBADGER_NO) && r.quotient == r.number / r.bytes && r.remainder == r.number % r.bytes;
-}
-
-static void verdict(const bellbadger_judge *j, int kind, uint64_t number, uint64_t bytes) {
-    bellbadger_verdict_result r = bellbadger_verdict(*j);
-    CHECK(r.kind == kind && r.number == number && r.bytes == bytes && divides(r));
-}
-
-static void replay(const char *text, int kind, uint64_t number, uint64_t bytes) {
-    bellbadger_replay_result r = bellbadger_replay((const uint8_t *)text, strlen(text));
-    CHECK(r.kind == kind && r.number == number && r.bytes == bytes && divides(r));
-}
 
 /* the library is the one that the header describes */
 static void built_with(void) {
@@ -248,6 +148,56 @@ static void dying(void) {
     verdict(&j, BELLBADGER_NO, 2, 65541);
 }
 
+/* by 0 from 0 to 1, which is final and has no arcs; by 1 from 0 to 2; 2 and 3 lead only to each other */
+static const uint8_t astray[] = {
+    4, 2, 1, 0, 0, 0, 2, 0, 0, 0, 26, 0, 4, 0, 30, 0, 0, 0, 30, 0, 4, 0, 34, 0, 2, 0, 0, 1, 1, 2, 0, 3, 1, 2, 0, 2,
+};
+
+/* states from which no final state can be reached have no delegate and are no starts; the first place
+ * is not run from them, and the join passes over them */
+static void leading_nowhere(void) {
+    static const uint8_t to_2[] = {1, 1}, chunk[] = {0, 1};
+    bellbadger_judge j = bellbadger_new();
+    load(&j, astray, sizeof astray, 0);
+    CHECK(j.rule.starts == 2 && j.rule.count == 4);
+    for (int q = 0; q < 32; q++) CHECK(j.rule.delegates[q] == (q < 2 ? q : q < 4 ? BELLBADGER_NO_DELEGATE : 0));
+    for (int q = 0; q < 4; q++) CHECK(j.rule.singles[q] == q);
+    open(&j, 2, 0);
+    looked(&j, 0, to_2, sizeof to_2, 2);
+    looked(&j, 1, chunk, 1, 1);
+    CHECK(j.board.ends[0] == 4 && j.board.ends[1] == 0 && j.board.ends[32] == 2);
+    for (int q = 1; q < 32; q++) CHECK(j.board.ends[32 + q] == 0);
+    verdict(&j, BELLBADGER_NO, 3, 3);
+    withdraw(&j, 0, 0);
+    looked(&j, 0, NULL, 0, 0);
+    verdict(&j, BELLBADGER_YES, 1, 1);
+    /* an initial state among them, alone */
+    bellbadger_checked_rule r = read_file(astray, sizeof astray, 0);
+    r.initials = 4;
+    install(&j, r, 0);
+    open(&j, 1, 0);
+    looked(&j, 0, chunk, sizeof chunk, 0);
+    verdict(&j, BELLBADGER_NO, 0, 2);
+}
+
+/* no final state: no start, nothing is run, and the verdict is no; a foreign byte is one all the same */
+static void no_final_state(void) {
+    static const uint8_t bad[] = {0, 2};
+    bellbadger_checked_rule r = read_file(astray, sizeof astray, 0);
+    bellbadger_judge j = bellbadger_new();
+    r.initials = 15, r.finals = 0;
+    bellbadger_install_result told = bellbadger_install(j, r);
+    CHECK(told.accepted && told.sets == 4 && told.starts == 0);
+    install(&j, r, 0);
+    for (int q = 0; q < 32; q++) CHECK(j.rule.delegates[q] == (q < 4 ? BELLBADGER_NO_DELEGATE : 0));
+    open(&j, 2, 0);
+    deliver(&j, 0, bad, sizeof bad, 13);
+    looked(&j, 0, big, 65536, 0);
+    looked(&j, 1, NULL, 0, 0);
+    for (int q = 0; q < 64; q++) CHECK(j.board.ends[q] == 0);
+    verdict(&j, BELLBADGER_NO, 0, 65536);
+}
+
 /* idle marks are skipped wherever they stand; the limit counts them */
 static void idle(void) {
     static const uint8_t first[] = {255, 0, 255}, second[] = {1, 255}, bad[] = {255, 255, 254}, no_symbol[] = {255, 2};
@@ -367,6 +317,8 @@ static void *all(void *states) {
     reading();
     installing();
     dying();
+    leading_nowhere();
+    no_final_state();
     idle();
     records();
     installations();

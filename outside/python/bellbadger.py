@@ -44,7 +44,7 @@ from pathlib import Path
 __all__ = ["CheckedRule", "Judge", "Loaded", "Looked", "Waiting", "Yes", "No", "Refused", "Malformed", "read", "replay", "version"]
 
 # what this module was written for, as outside/c/bellbadger.h has it; a higher minor number fits too
-_MAJOR, _MINOR, _STATE_SIZE = 3, 2, 27316
+_MAJOR, _MINOR, _STATE_SIZE = 4, 0, 27316
 _WAITING, _YES, _NO, _MALFORMED = 1, 2, 3, 4
 _LARGEST_SIZE = 2**64 - 1
 
@@ -62,7 +62,7 @@ _REASONS = {
     11: "the board has no such place",
     12: "the chunk has over 65,536 bytes",
     13: "a byte is no symbol of the rule and no idle mark",
-    20: "no rule is loaded",
+    20: "no rule is there",
     21: "no board is open",
     22: "the place has a chunk already",
     23: "the place has no chunk",
@@ -127,8 +127,11 @@ class CheckedRule:
 
 @dataclass(frozen=True)
 class Loaded:
-    """What an accepted load or installation tells of the rule: how many sets and starts (M) there
-    are."""
+    """What an accepted load or installation tells of the rule: how many sets and starts (M) there are.
+
+    Of the states from which a final state can be reached, those that accept the same texts have one
+    start together. M is 0 where the rule has no final state.
+    """
 
     sets: int
     starts: int
@@ -137,7 +140,8 @@ class Loaded:
 @dataclass(frozen=True)
 class Looked:
     """What an accepted delivery tells of the run: for how many bytes of the text any successor was
-    looked up, the least number of them after which every run has died, else all."""
+    looked up, the least number of them after which every run has died, else all; 0 where nothing is
+    run."""
 
     bytes: int
 
@@ -341,6 +345,8 @@ class Judge:
 
         Refused with 3, 4, 6, 8, 9.
         """
+        if not isinstance(rule, CheckedRule):
+            raise TypeError("a CheckedRule is installed")
         targets = (ctypes.c_uint32 * 512)(*rule.targets)
         value = _CheckedRule(rule.n, rule.k, rule.initials, rule.finals, targets)
         return self._loaded(_lib.bellbadger_install(self._state, value))

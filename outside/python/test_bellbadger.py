@@ -15,6 +15,8 @@ from bellbadger import CheckedRule, Judge, Loaded, Looked, Malformed, No, Refuse
 
 A = bytes.fromhex("03020100000004000000160006001C0002001E0000000000000101000102")
 B = bytes.fromhex("03010100000006000000160004001A0002001C0002000001000200000000")
+# by 0 from 0 to 1, which is final and has no arcs; by 1 from 0 to 2; 2 and 3 lead only to each other
+ASTRAY = bytes.fromhex("040201000000020000001A0004001E0000001E0004002200020000010102000301020002")
 
 
 def judged(rule, *chunks):
@@ -81,7 +83,7 @@ class Rules(Case):
         for targets in ((), (0,) * 511, (0,) * 513, (2**32,) * 512):
             self.assertRaises(ValueError, CheckedRule, 1, 1, 0, 0, targets)
         self.assertRaises(TypeError, CheckedRule, 1.0, 1, 0, 0)
-        self.assertEqual(Judge().install(CheckedRule(1, 1, 0, 0)), Loaded(1, 1))
+        self.assertEqual(Judge().install(CheckedRule(1, 1, 0, 0)), Loaded(1, 0))
 
     def test_a_recorded_installation(self):
         rule = read(A)
@@ -152,6 +154,25 @@ class Calls(Case):
         for place, (chunk, looked) in enumerate([("10", 1), ("010", 2), ("001", 3), ("000", 3), ("", 0)]):
             self.assertEqual(judge.deliver(place, bytes(int(s) for s in chunk)), Looked(looked))
 
+    def test_states_that_lead_nowhere(self):
+        self.assertEqual(Judge().load(ASTRAY), Loaded(4, 2))
+        self.assertEqual(judged(ASTRAY, [0]), Yes(1, 1, 1, 0))
+        self.assertEqual(judged(ASTRAY, [], [0], []), Yes(1, 1, 1, 0))
+        # the run from 0 goes on among them; the next place is not run from them, nor from 0 in their place
+        self.assertEqual(judged(ASTRAY, [1, 1], [0]), No(3, 3, 1, 0))
+        # an initial state among them is not run, alone or beside another
+        self.assertEqual(judged(ASTRAY[:2] + bytes([4]) + ASTRAY[3:], [0, 1]), No(0, 2, 0, 0))
+        self.assertEqual(judged(ASTRAY[:2] + bytes([13]) + ASTRAY[3:], [0]), Yes(1, 1, 1, 0))
+
+    def test_no_final_state(self):
+        judge = Judge()
+        self.assertEqual(judge.install(dataclasses.replace(read(ASTRAY), initials=15, finals=0)), Loaded(4, 0))
+        judge.open(2)
+        self.refused(13, judge.deliver, 0, bytes([0, 2]))
+        self.assertEqual(judge.deliver(0, bytes([0, 1])), Looked(0))
+        self.assertEqual(judge.deliver(1, bytes(65536)), Looked(0))
+        self.assertEqual(judge.verdict(), No(0, 65538, 0, 0))
+
     def test_idle_marks(self):
         self.assertEqual(judged(A, [255, 0, 255], [255] * 9, [1, 255]), Yes(3, 2, 1, 1))
         judge = self.opened(1)
@@ -162,7 +183,7 @@ class Calls(Case):
         self.refused(22, judge.deliver, 0, b"\xff")
 
     def test_words_of_a_refusal(self):
-        with self.assertRaisesRegex(Refused, "^refused 20: no rule is loaded$"):
+        with self.assertRaisesRegex(Refused, "^refused 20: no rule is there$"):
             Judge().open(1)
 
     def test_answers_of_other_kinds_differ(self):
@@ -232,7 +253,7 @@ class Module(unittest.TestCase):
         self.assertEqual(found.failed, 0)
 
     def test_version(self):
-        self.assertEqual(bellbadger.version(), (3, 2))
+        self.assertEqual(bellbadger.version(), (4, 0))
 
     def test_a_missing_library_names_the_command(self):
         run = subprocess.run(

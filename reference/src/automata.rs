@@ -60,7 +60,7 @@ fn sparse(r: &mut Random, n: usize, k: usize, degree: usize) -> Automaton {
 }
 
 /// States without arcs to them, without arcs from them, or with neither.
-fn with_dead_states(r: &mut Random, n: usize, k: usize) -> Automaton {
+fn with_loose_states(r: &mut Random, n: usize, k: usize) -> Automaton {
     let degree = r.range(80, 250);
     let mut a = sparse(r, n, k, degree);
     let (unreached, stuck) = (subset(r, n) & subset(r, n), subset(r, n) & subset(r, n));
@@ -164,6 +164,40 @@ fn beside(a: &Automaton, b: &Automaton) -> Automaton {
     both
 }
 
+/// States from which no final state can be reached, few or nearly all: arcs lead to them and among
+/// them, none from them to the others, so the texts that the others accept stay as they are. Now and
+/// then a final state has no arcs; initial states may be among the dead ones alone.
+fn with_dead_states(r: &mut Random, n: usize, k: usize) -> Automaton {
+    let dead = r.range(1, n - 1);
+    let (live, degree) = (n - dead, r.range(60, 200));
+    let mut leading = match r.below(3) {
+        0 => with_copies(r, live, k),
+        1 => deterministic(r, live, k),
+        _ => sparse(r, live, k, degree),
+    };
+    leading.finals |= 1 << r.below(live) | if r.one_in(2) { subset(r, live) } else { 0 };
+    let leading_nowhere = if r.one_in(2) { deterministic(r, dead, k) } else { sparse(r, dead, k, degree) };
+    let mut a = beside(&leading, &leading_nowhere);
+    let strays = r.pick(&[2, 4, 20]);
+    for q in 0..live {
+        for s in 0..k {
+            if r.one_in(strays) {
+                a.targets[q][s] |= 1 << (live + r.below(dead));
+            }
+        }
+    }
+    if r.one_in(3) {
+        let q = r.pick(&members(a.finals).collect::<Vec<usize>>());
+        a.targets[q].fill(0);
+    }
+    a.initial = match r.below(6) {
+        0 => 1 << (live + r.below(dead)),
+        1 | 2 => 1 << r.below(live) | 1 << (live + r.below(dead)),
+        _ => 0,
+    };
+    a
+}
+
 /// Single states without arcs, and perhaps one more with arcs to several of them by each of the
 /// first symbols: as many sets as wanted, if at most so many states are enough.
 fn padding(sets: usize, k: usize, most: usize) -> Option<Automaton> {
@@ -232,7 +266,7 @@ fn reordered(r: &mut Random, a: &Automaton) -> Automaton {
 fn any_kind(r: &mut Random) -> Automaton {
     let (n, k) = (size(r, 32), size(r, 16));
     let few = n.min(12);
-    match r.below(14) {
+    match r.below(17) {
         0 => {
             let degree = r.range(20, 100);
             sparse(r, n, k, degree)
@@ -247,9 +281,11 @@ fn any_kind(r: &mut Random) -> Automaton {
         }
         4 if r.one_in(12) => arcs(r, 32, 16, 1000),
         4 if r.one_in(6) => arcs(r, n, k, 1000),
-        4 | 5 => with_dead_states(r, few, k),
+        4 | 5 => with_loose_states(r, few, k),
         6 | 7 | 8 => with_copies(r, n, k.min(5)),
         9 | 10 => deterministic(r, n, k),
+        14 | 15 => with_dead_states(r, few.max(2), k.min(5)),
+        16 => with_dead_states(r, n.max(2), k.min(3)),
         11 => {
             let j = if r.one_in(5) { r.range(9, 31) } else { r.range(1, 8) };
             from_the_end(j, k)
@@ -278,10 +314,10 @@ pub fn automaton(r: &mut Random) -> Automaton {
     }
     match r.below(30) {
         0 => a.initial = 0,
-        1 => a.finals = 0,
-        2 => (a.initial, a.finals) = (0, 0),
-        3 => a.initial = all_states(a.n),
-        4 => a.finals = all_states(a.n),
+        1 | 2 => a.finals = 0,
+        3 => (a.initial, a.finals) = (0, 0),
+        4 => a.initial = all_states(a.n),
+        5 => a.finals = all_states(a.n),
         _ => (),
     }
     if r.one_in(4) { a } else { reordered(r, &a) }

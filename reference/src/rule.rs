@@ -18,8 +18,9 @@ pub struct Rule {
     pub automaton: Automaton,
     /// The set with number i is `sets[i]`.
     pub sets: Vec<u32>,
-    /// `delegates[q]` is the lowest state alike to q.
-    pub delegates: Vec<usize>,
+    /// `delegates[q]` is the lowest state alike to q, or none where no final state can be reached
+    /// from q.
+    pub delegates: Vec<Option<usize>>,
 }
 
 /// The states of a set, lowest first.
@@ -66,9 +67,21 @@ impl Automaton {
         (sets.len() <= limit).then_some(sets)
     }
 
-    /// The delegates, by refining a partition of the sets and the empty set until it is stable:
-    /// first by having a final state, then by the classes of the successors.
-    fn delegates(&self, sets: &[u32]) -> Vec<usize> {
+    /// Whether a final state can be reached from a state: it is one itself, or arcs lead to one.
+    pub fn live(&self, q: usize) -> bool {
+        let mut reached = 1 << q;
+        loop {
+            let further = (0..self.k).fold(reached, |set, s| set | self.successor(reached, s as u8));
+            if further == reached {
+                return reached & self.finals != 0;
+            }
+            reached = further;
+        }
+    }
+
+    /// The lowest state alike to each state, by refining a partition of the sets and the empty set
+    /// until it is stable: first by having a final state, then by the classes of the successors.
+    pub fn lowest_alike(&self, sets: &[u32]) -> Vec<usize> {
         let mut all = sets.to_vec();
         all.push(0);
         let index: BTreeMap<u32, usize> = all.iter().enumerate().map(|(i, &set)| (set, i)).collect();
@@ -95,6 +108,12 @@ impl Automaton {
         }
         let alike = |p: usize, q: usize| class[index[&(1 << p)]] == class[index[&(1 << q)]];
         (0..self.n).map(|q| (0..=q).find(|&p| alike(p, q)).unwrap()).collect()
+    }
+
+    /// The delegates: a state from which no final state can be reached has none.
+    fn delegates(&self, sets: &[u32]) -> Vec<Option<usize>> {
+        let lowest = self.lowest_alike(sets);
+        (0..self.n).map(|q| self.live(q).then_some(lowest[q])).collect()
     }
 }
 
@@ -124,12 +143,12 @@ impl Rule {
 
     /// The states that are their own delegate.
     pub fn starts(&self) -> Vec<usize> {
-        (0..self.automaton.n).filter(|&q| self.delegates[q] == q).collect()
+        (0..self.automaton.n).filter(|&q| self.delegates[q] == Some(q)).collect()
     }
 
     /// The starts that the chunk at a place is run from.
     pub fn starts_at(&self, place: usize) -> Vec<usize> {
-        let initial = |d: usize| members(self.automaton.initial).any(|q| self.delegates[q] == d);
+        let initial = |d: usize| members(self.automaton.initial).any(|q| self.delegates[q] == Some(d));
         self.starts().into_iter().filter(|&d| place != 0 || initial(d)).collect()
     }
 
@@ -178,8 +197,11 @@ impl Rule {
             text += "\n";
         }
         text += "delegates";
-        for d in &self.delegates {
-            text += &format!(" {d}");
+        for delegate in &self.delegates {
+            match delegate {
+                Some(d) => text += &format!(" {d}"),
+                None => text += " -",
+            }
         }
         text + "\n"
     }

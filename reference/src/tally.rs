@@ -4,6 +4,7 @@ use crate::automata::all_states;
 use crate::checked::{read, CheckedRule, BYTES};
 use crate::judge::Call;
 use crate::lines::call;
+use crate::rule::members;
 use std::collections::BTreeMap;
 
 #[derive(Default)]
@@ -129,6 +130,8 @@ impl Tally {
         if words[0] != "accepted" {
             return;
         }
+        let live = (0..a.n).filter(|&q| a.live(q)).fold(0, |set, q| set | 1 << q);
+        let without_arcs = |q: usize| a.targets[q].iter().all(|&targets| targets == 0);
         let checks = [
             ("rule: fewer starts than states", words[2] != a.n.to_string()),
             ("rule: 32 states", a.n == 32),
@@ -136,6 +139,11 @@ impl Tally {
             ("rule: no initial state", a.initial == 0),
             ("rule: no final state", a.finals == 0),
             ("rule: all states final", a.finals == all_states(a.n)),
+            ("rule: a final state without arcs", members(a.finals).any(without_arcs)),
+            ("rule: a dead state", live != all_states(a.n)),
+            ("rule: more dead states than live ones", 2 * live.count_ones() < a.n as u32),
+            ("rule: dead and live initial states", a.initial & live != 0 && a.initial & !live != 0),
+            ("rule: dead initial states alone", a.initial != 0 && a.initial & live == 0),
         ];
         for (what, holds) in checks {
             if holds {

@@ -1,15 +1,12 @@
-//! The parser, and checks of the reference against itself by other ways to the same result.
+//! The parser, the stored batch, and what makes a difference small and shows it.
 
-use reference::automata::{automaton, blank, file};
+use reference::automata::{blank, file};
 use reference::checked::CheckedRule;
-use reference::compare::answers_or_panic;
+use reference::compare::{answers_or_panic, first_difference};
 use reference::judge::Call;
 use reference::lines::{answer_line, answers, call, line, lines};
-use reference::random::Random;
-use reference::rule::{members, Automaton, Rule};
 use reference::shrink::shrink;
 use reference::table::table;
-use std::collections::BTreeSet;
 
 #[test]
 fn calls() {
@@ -62,70 +59,9 @@ fn an_empty_line_starts_afresh_and_a_malformed_one_changes_nothing() {
 
 #[test]
 fn the_stored_batch() {
-    assert_eq!(answers(include_bytes!("../batch.calls")), include_str!("../batch.answers"));
-}
-
-/// Whether some text tells two states apart, by search through the pairs of sets they lead to.
-fn told_apart(a: &Automaton, p: usize, q: usize) -> bool {
-    let mut seen = BTreeSet::from([(1u32 << p, 1u32 << q)]);
-    let mut open: Vec<(u32, u32)> = seen.iter().copied().collect();
-    while let Some((x, y)) = open.pop() {
-        if (x & a.finals != 0) != (y & a.finals != 0) {
-            return true;
-        }
-        for s in 0..a.k as u8 {
-            let next = (a.successor(x, s), a.successor(y, s));
-            if seen.insert(next) {
-                open.push(next);
-            }
-        }
-    }
-    false
-}
-
-/// Random rules with few sets.
-fn rules(seed: u64, count: usize) -> impl Iterator<Item = (Random, Rule)> {
-    let some = (0..).filter_map(move |index| {
-        let mut r = Random::new(seed, index);
-        let rule = Rule::load(&file(&automaton(&mut r))).ok()?;
-        (rule.sets.len() < 300).then_some((r, rule))
-    });
-    some.take(count)
-}
-
-#[test]
-fn delegates_agree_with_a_search_for_a_telling_text() {
-    for (_, rule) in rules(3, 150) {
-        let a = &rule.automaton;
-        for q in 0..a.n {
-            let lowest = (0..=q).find(|&p| !told_apart(a, p, q));
-            assert_eq!(Some(rule.delegates[q]), lowest);
-        }
-    }
-}
-
-/// The join as the paper has it: C becomes the union of the end sets of the delegates of C's
-/// members, a start that was not run having the empty end set.
-fn join(rule: &Rule, chunks: &[Vec<u8>]) -> bool {
-    let mut c = rule.automaton.initial;
-    for (place, chunk) in chunks.iter().enumerate() {
-        let run = rule.starts_at(place);
-        let end = |d: usize| if run.contains(&d) { rule.run(d, chunk).0 } else { 0 };
-        c = members(c).fold(0, |union, q| union | end(rule.delegates[q]));
-    }
-    c & rule.automaton.finals != 0
-}
-
-#[test]
-fn the_join_agrees_with_acceptance_of_the_joined_text() {
-    for (mut r, rule) in rules(4, 1000) {
-        let a = &rule.automaton;
-        for _ in 0..10 {
-            let mut chunk = || (0..r.below(6)).map(|_| r.below(a.k) as u8).collect::<Vec<u8>>();
-            let chunks = [chunk(), chunk(), chunk()];
-            assert_eq!(join(&rule, &chunks), a.accepts_from(a.initial, &chunks.concat()));
-        }
-    }
+    let ours = answers(include_bytes!("../batch.calls"));
+    let differs = first_difference(ours.as_bytes(), include_bytes!("../batch.answers"));
+    assert_eq!(differs, None, "the first line that differs, counted from 0");
 }
 
 #[test]

@@ -60,7 +60,7 @@ fn p1() {
 #[test]
 fn p2() {
     let rule = Rule::load(&b()).ok().unwrap();
-    assert_eq!((rule.sets.len(), rule.delegates), (4, vec![0, 1, 1]));
+    assert_eq!((rule.sets.len(), rule.delegates), (4, vec![Some(0), Some(1), Some(1)]));
 }
 
 #[test]
@@ -103,7 +103,7 @@ fn refused_2() {
     let mut all = blank(32, 16);
     all.targets = vec![vec![u32::MAX; 16]; 32];
     let mut file = file(&all);
-    assert_eq!((file.len(), load(&file)), (32_906, Installed(33, 1)));
+    assert_eq!((file.len(), load(&file)), (32_906, Installed(33, 0)));
     file.push(0);
     assert_eq!(load(&file), Refused(2));
 }
@@ -112,7 +112,7 @@ fn refused_2() {
 fn refused_3() {
     assert_eq!(load(&a_with(0, &[0])), Refused(3));
     assert_eq!(load(&a_with(0, &[33])), Refused(3));
-    assert_eq!(load(&file(&blank(32, 1))), Installed(32, 1));
+    assert_eq!(load(&file(&blank(32, 1))), Installed(32, 0));
 }
 
 #[test]

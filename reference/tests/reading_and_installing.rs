@@ -88,7 +88,7 @@ fn refused_3_and_4() {
         assert_eq!(installed(&a_with(|value| value.k = k)), Refused(4));
         assert_eq!(installed(&a_with(|value| (value.k, value.initial) = (k, 8))), Refused(4));
     }
-    assert_eq!(installed(&a_with(|value| value.n = 32)), Installed(34, 4));
+    assert_eq!(installed(&a_with(|value| value.n = 32)), Installed(34, 3));
     assert_eq!(installed(&a_with(|value| value.k = 16)), Installed(5, 3));
 }
 

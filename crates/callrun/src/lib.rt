@@ -55,7 +55,7 @@ fn run_load(judge: Judge, field: &[u8], buffer: &mut [u8]) -> LineRun
     }
 }
 
-// Bytes that state a rule are as many as state one.
+// Installs the rule that the bytes state; any other number of bytes than 2,058 is malformed.
 fn install_bytes(judge: Judge, bytes: &[u8]) -> LineRun
     ensures { λ r. ⌜ runOutcome r ≡ lineStep judge (installBy (some (now (bytes .entry)))) ⌝ }
 {
@@ -69,7 +69,7 @@ fn install_bytes(judge: Judge, bytes: &[u8]) -> LineRun
     LineRun { answer, judge }
 }
 
-// What is longer than the buffer has too many bytes.
+// What does not fit the buffer has more than 2,058 bytes and is malformed.
 fn run_install(judge: Judge, field: &[u8], buffer: &mut [u8]) -> LineRun
     requires { ⌜ bytesRoom ≤ length (now buffer) ⌝ }
     ensures { λ r. ⌜ runOutcome r ≡ lineStep judge (installBy (parseBytes (now (field .entry)))) ⌝ }

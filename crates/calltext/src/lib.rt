@@ -99,8 +99,8 @@ pub fn parse(line: &[u8]) -> Line
     Line::Malformed
 }
 
-// What a line is answered: where it records a call, what the call is answered. A load is answered
-// as the installation of its rule.
+// What a line is answered: where it records a call, what the call is answered. A load has the same
+// type of answer as an installation, with the numbers 1 to 9.
 pub enum LineAnswer {
     Began,
     Install(InstallAnswer),

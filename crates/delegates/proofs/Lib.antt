@@ -8,3 +8,4 @@ pub mod Alike
 pub mod Answer
 pub mod Acceptance
 pub mod Claims
+pub mod Fewest

@@ -3,4 +3,5 @@ pub mod Alike
 pub mod Answer
 pub mod Classes
 pub mod Claims
+pub mod Fewest
 pub mod Refinement

@@ -6,5 +6,6 @@ pub mod Claims
 pub mod CountBound
 pub mod Orders
 pub mod FormerStarts
+pub mod Fewest
 pub mod Functions
 pub mod TableP

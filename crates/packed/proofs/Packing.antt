@@ -4,10 +4,15 @@ use mathlib.Core.Path.{_≡_, refl, sym, ap, _∙_}
 use mathlib.Core.List.{List, [], _++_, append-assoc}
 use Prim.Native.Nat.{ℕ, _+_, _*_, _^_, _<_}
 use native.Mathlib.Omega.{arith}
-use lib.ListN.{length, getD, take, drop, length-append}
+use lib.ListN.{length, getD, take, drop, length-append, List·getD-eq-default}
 use Rattle.base.specs.Lists.{joined}
-use Rattle.base.proofs.Lists.{is-listFrom, length-exact, joined-split, part-at, part-byte}
+use lib.Dec.{ltb}
+use mathlib.Core.Bool.{true, cond}
+use borrow.Author.Tests.{lt-ltb, ltb-true, ltb-false}
+use Rattle.base.proofs.Tests.{by-test}
+use Rattle.base.proofs.Lists.{cell-of, length-listFrom, is-listFrom, length-exact, joined-split, part-at, part-byte}
 use Rattle.automaton.specs.declared.Rule.{Rule}
+use Rattle.automaton.specs.Rules.{targetMask}
 use Rattle.ruleformat.specs.Format.{wordAt}
 use Rattle.ruleformat.specs.Writing.{Bytes, word, header}
 use Rattle.ruleformat.proofs.Writing.{bytes-append, bytes-joined, bytes-word, bytes-header}
@@ -72,5 +77,32 @@ module _ (r : Rule) where
         (bytes-header (r .n) (r .k) (r .initials) (r .finals) (fits .states) (fits .symbols) (fits .initials) (fits .finals))
         (bytes-joined mask 512 (λ cell l. bytes-word (getD (r .targets) cell 0) (fits .masks cell)))
 
+module _ (b : List ℕ) (h : Bytes b) where
+  word-below : (i : ℕ) → wordAt b i < 2 ^ 32
+  word-below i = omega (arith, h i, h (i + 1), h (i + 2), h (i + 2 + 1))
+
+  mask-below : (cell : ℕ) → getD (ruleAt b .targets) cell 0 < 2 ^ 32
+  mask-below cell =
+      let g : ℕ → ℕ = λ c. wordAt b (10 + 4 * c) in
+      by-test (ltb cell 512)
+      (λ e. omega (arith, cell-of 512 g cell 0 (ltb-true cell 512 e), word-below (10 + 4 * cell)))
+      (λ e.
+      let past : getD (ruleAt b .targets) cell 0 ≡ 0 =
+      List·getD-eq-default (ruleAt b .targets) 0 (omega (arith, length-listFrom 0 512 g, ltb-false cell 512 e)) in
+      omega (arith, past))
+
+  stated-fits : Fits-rule (ruleAt b)
+  stated-fits = record {
+    states = h 0;
+    symbols = h 1;
+    initials = word-below 2;
+    finals = word-below 6;
+    cells = length-listFrom 0 512 (λ cell. wordAt b (10 + 4 * cell));
+    masks = mask-below;
+  }
+
+packed-mask : (r : Rule) → Fits-rule r → (q s : ℕ) → q < 32 → s < 16 → wordAt (packedOf r) (10 + 4 * (q * 16 + s)) ≡ targetMask (r .targets) q s
+packed-mask r fits q s l k = sym (mask-is r fits (q * 16 + s) (omega (arith, l, k))) ∙ rw (lt-ltb s 16 k)
+
 pub claims : Claims
-claims = record { packed-round-trip = round-trip; packed-size = size; packed-bytes = bytes }
+claims = record { packed-round-trip = round-trip; packed-size = size; packed-bytes = bytes; packed-mask = packed-mask; stated-fits = stated-fits }

@@ -62,7 +62,8 @@ pub fn version() -> (u32, u32) {
 pub struct Loaded {
     /// The number of sets, 1 to 512.
     pub sets: u16,
-    /// The number of starts (M).
+    /// The number of starts (M), 0 to 32: of the states from which a final state can be reached, those
+    /// that accept the same texts have one start together. 0 where the rule has no final state.
     pub starts: u8,
 }
 
@@ -71,7 +72,7 @@ pub struct Loaded {
 #[must_use]
 pub struct Looked {
     /// For how many bytes of the text any successor was looked up: the least number of them after
-    /// which every run has died, else all.
+    /// which every run has died, else all; 0 where nothing is run.
     pub bytes: u32,
 }
 
@@ -188,7 +189,7 @@ impl Judge {
     /// A board of that many empty places; an earlier one is dropped.
     ///
     /// # Errors
-    /// 20 (no rule is loaded), 10 (no number of places from 1 to 64).
+    /// 20 (no rule is there), 10 (no number of places from 1 to 64).
     ///
     /// ```
     /// # use bellbadger::Judge;

@@ -11,6 +11,7 @@ pub struct RawBuiltRule {
     pub count: u16,
     initials: u32,
     finals: u32,
+    /// 32 where a state has none.
     delegates: [u8; 32],
     singles: [u16; 32],
     sets: [u32; 512],
@@ -85,7 +86,7 @@ pub struct RawVerdict {
 }
 
 /// The major version that the declarations here are of.
-pub const MAJOR: u32 = 3;
+pub const MAJOR: u32 = 4;
 /// As the C header has it; outside/c/test.c reads every field of it.
 pub const STATE_SIZE: usize = 27316;
 const _: () = assert!(std::mem::size_of::<RawJudge>() == STATE_SIZE);

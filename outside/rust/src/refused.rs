@@ -8,7 +8,7 @@ use std::fmt;
 /// # use bellbadger::Judge;
 /// let refused = Judge::new().open(1).unwrap_err();
 /// assert_eq!(refused.number(), 20);
-/// assert_eq!(refused.to_string(), "refused 20: no rule is loaded");
+/// assert_eq!(refused.to_string(), "refused 20: no rule is there");
 /// ```
 #[derive(Clone, Copy, Debug, PartialEq, Eq, Hash)]
 #[must_use]
@@ -40,7 +40,7 @@ impl Refused {
             11 => "the board has no such place",
             12 => "the chunk has over 65,536 bytes",
             13 => "a byte is no symbol of the rule and no idle mark",
-            20 => "no rule is loaded",
+            20 => "no rule is there",
             21 => "no board is open",
             22 => "the place has a chunk already",
             23 => "the place has no chunk",

@@ -1,5 +1,5 @@
 //! Reading a rule file without a judge, and installing a rule by value.
-use bellbadger::{read, replay, CheckedRule, Judge, Loaded, Refused, Verdict};
+use bellbadger::{read, replay, CheckedRule, Judge, Loaded, Looked, Refused, Verdict};
 use std::fmt::Debug;
 
 const A: [u8; 30] = [
@@ -149,6 +149,54 @@ fn an_installation_takes_the_part_of_a_load() {
     );
     assert!(judge.install(&good).is_ok());
     assert_eq!(number(judge.verdict()), 21);
+}
+
+/// By 0 from 0 to 1, which is final and has no arcs; by 1 from 0 to 2; 2 and 3 lead only to each other.
+fn astray(initials: u32, finals: u32) -> CheckedRule {
+    let (n, k) = (4, 2);
+    let mut targets = [0; 512];
+    (targets[0], targets[1]) = (2, 4);
+    (targets[32], targets[33], targets[48]) = (8, 4, 4);
+    CheckedRule {
+        n,
+        k,
+        initials,
+        finals,
+        targets,
+    }
+}
+
+/// The verdict on a rule and two chunks, the second delivered first.
+fn judged(rule: &CheckedRule, chunks: [&[u8]; 2]) -> Verdict {
+    let mut judge = Judge::new();
+    assert!(judge.install(rule).is_ok() && judge.open(2).is_ok());
+    assert!(judge.deliver(1, chunks[1]).is_ok() && judge.deliver(0, chunks[0]).is_ok());
+    judge.verdict().expect("a verdict").verdict
+}
+
+/// They are no starts; an initial state among them is not run, and the join passes over them.
+#[test]
+fn states_that_lead_nowhere() {
+    assert_eq!(installed(&astray(1, 2)), Ok(Loaded { sets: 4, starts: 2 }));
+    assert_eq!(judged(&astray(1, 2), [&[], &[0]]), Verdict::Yes(1));
+    assert_eq!(judged(&astray(1, 2), [&[1, 1], &[0]]), Verdict::No(3));
+    assert_eq!(judged(&astray(4, 2), [&[0, 1], &[]]), Verdict::No(0));
+    assert_eq!(judged(&astray(13, 2), [&[0], &[]]), Verdict::Yes(1));
+}
+
+/// No start, nothing is run, and the verdict is no.
+#[test]
+fn no_final_state() {
+    let mut judge = Judge::new();
+    assert_eq!(
+        judge.install(&astray(15, 0)),
+        Ok(Loaded { sets: 4, starts: 0 })
+    );
+    assert_eq!(judge.open(1), Ok(()));
+    assert_eq!(number(judge.deliver(0, &[0, 2])), 13);
+    assert_eq!(judge.deliver(0, &[0, 1]), Ok(Looked { bytes: 0 }));
+    let report = judge.verdict().expect("a verdict");
+    assert_eq!((report.verdict, report.bytes), (Verdict::No(0), 2));
 }
 
 /// A rule by value as a line: n, k, then every mask in four bytes, the lowest first.

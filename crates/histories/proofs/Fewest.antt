@@ -1,0 +1,60 @@
+-- The M that the build returns, and that an installation answers, is the fewest starts (R-12): it is
+-- the number of starts of the built rule, which crates/delegates shows to be the least. Assumes
+-- nothing.
+use mathlib.Core.Path.{_≡_, refl, sym, ap, _∙_, subst}
+use mathlib.Core.Bool.{false}
+use mathlib.Core.List.{List}
+use mathlib.Core.Option.{Option, none, some}
+use Prim.Native.Nat.{ℕ}
+use lib.ListN.{length}
+use Rattle.base.proofs.Tests.{by-test, zero-one}
+use Rattle.automaton.specs.declared.Rule.{Rule}
+use Rattle.automaton.specs.Rules.{automatonOf, WellFormed}
+use Rattle.subsets.specs.Sets.{tooMany}
+use Rattle.subsets.specs.Claims.{fits}
+use Rattle.delegates.specs.Claims.{startsIn}
+use Rattle.delegates.specs.Fewest.{startList}
+use Rattle.delegates.proofs.Fewest.{fewest-claims}
+use Rattle.build.specs.Building.{accepted, refused, sets, builtOf, Outcome, buildOf}
+use Rattle.build.proofs.Claims as build
+use Rattle.calls.specs.Replies.{installed}
+use Rattle.calls.specs.Calls.{Call, installNumber}
+use Rattle.histories.specs.History.{replyBy, withSets}
+use Rattle.histories.specs.Fewest.{Fewest, BuildFewest, InstallFewest}
+use Rattle.histories.proofs.Steps.{accepted-rule}
+
+-- of a rule that is built
+least : (r : Rule) → WellFormed r → fits r → Fewest (automatonOf r) (startsIn r .startcount)
+least r good fit =
+    let merged = build.claims .delegates r good fit in
+    let a = automatonOf r in
+    record {
+      no-fewer = fewest-claims .fewest a (startsIn r .delegates) (startsIn r .startcount) merged;
+      attained = (
+        startList (startsIn r .delegates) (r .n),
+        fewest-claims .starts-cover a (startsIn r .delegates) (startsIn r .startcount) merged,
+        fewest-claims .start-count a (startsIn r .delegates) (startsIn r .startcount) merged,
+      );
+    }
+
+pub build-fewest : BuildFewest
+unfolding buildOf
+build-fewest rule good r may n m e =
+    by-test (tooMany (rule .targets) (rule .n) (rule .k))
+    (λ many.
+    let is : accepted n m ≡ refused 9 = sym e ∙ ap (λ (o : Outcome). o .answer) (may .1) ∙ rw many in
+    zero-one cc)
+    (λ few.
+    let is : accepted n m ≡ accepted (length (sets rule)) (startsIn rule .startcount) = sym e ∙ ap (λ (o : Outcome). o .answer) (may .1) ∙ rw few in
+    let same : startsIn rule .startcount ≡ m = cc in
+    subst (Fewest (automatonOf rule)) same (least rule good few))
+
+pub install-fewest : (h : List Call) → InstallFewest h
+install-fewest h r n m = by-number (installNumber r) refl
+  where
+    by-number : (o : Option ℕ) → installNumber r ≡ o → replyBy o (withSets r) ≡ installed n m → Fewest (automatonOf r) m
+    by-number none z e =
+        let same : startsIn r .startcount ≡ m = cc in
+        let x = accepted-rule r z in
+        subst (Fewest (automatonOf r)) same (least r (x .0) (x .1))
+    by-number (some y) z e = zero-one cc
