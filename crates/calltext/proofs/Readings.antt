@@ -37,9 +37,13 @@ module _ (field : List ℕ) (x : Number) (said : numberMeans x ≡ parseNumber f
   withdraw-malformed e = ap withdrawBy (sym (ap numberMeans e) ∙ said)
 
 -- ---- the fields of a delivery
-no-place : (v : List ℕ) (o : Option (List ℕ)) → malformed ≡ revisionFields none v o
+pub no-place : (v : List ℕ) (o : Option (List ℕ)) → revisionFields none v o ≡ malformed
 no-place v none = refl
 no-place v (some w) = refl
+
+pub bad-revision : (p : Option ℕ) (bytes : Option (List ℕ)) → deliverBy p none bytes ≡ malformed
+bad-revision none bytes = refl
+bad-revision (some p) bytes = refl
 
 -- `space` is the index of the first space from `from` on
 module _ (w : List ℕ) (from : ℕ) (long : from ≤ length w) (space : ℕ) (found : space ≡ from + length (upTo 32 (drop from w))) where
@@ -77,7 +81,7 @@ module _ (w : List ℕ) (from : ℕ) (long : from ≤ length w) (space : ℕ) (f
       deliver-on p e m l = rw (behind-is, says (some p) (ap numberMeans e)) l
 
       pub deliver-malformed : x ≡ number.Malformed → malformed ≡ deliverFields (upTo 32 (drop from w)) (past 32 (drop from w))
-      deliver-malformed e = rw (behind-is, says none (ap numberMeans e)) (no-place (upTo 32 (drop (space + 1) w)) (past 32 (drop (space + 1) w)))
+      deliver-malformed e = rw (behind-is, says none (ap numberMeans e)) (sym (no-place (upTo 32 (drop (space + 1) w)) (past 32 (drop (space + 1) w))))
 
       module _ (p : ℕ) where
         pub revision-malformed : x ≡ number.Malformed → malformed ≡ revisionFields (some p) (upTo 32 (drop from w)) (past 32 (drop from w))

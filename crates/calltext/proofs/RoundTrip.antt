@@ -2,7 +2,7 @@
 -- lines of deliveries that are malformed. Assumes nothing.
 use mathlib.Core.Path.{_≡_, refl, ap, _∙_}
 use mathlib.Core.List.{List, [], _∷_, _++_}
-use mathlib.Core.Option.{Option, none, some}
+use mathlib.Core.Option.{none}
 use Prim.Native.Nat.{ℕ, zero, suc, _+_, _/_, _%_, _≤_, _<_}
 use native.Mathlib.Omega.{arith}
 use borrow.Author.Needs.{needs}
@@ -23,6 +23,7 @@ use Rattle.fields.proofs.RoundTrip as fields
 use Rattle.calls.specs.Calls.{Call, installs, opens, delivers, withdraws, asksVerdict}
 use Rattle.calltext.specs.Meaning.{call, load, malformed, load-word, install-word, open-word, deliver-word, withdraw-word, loadBy, installBy, openBy, withdrawBy, revisionBy, deliverBy, revisionFields, callIn, lineIn}
 use Rattle.calltext.specs.Claims.{Fits, lineOf, Claims}
+use Rattle.calltext.proofs.Readings.{bad-revision}
 
 -- ---- the bytes of a field: a digit is over 47, and `-` is 45
 over-decimal : (places n : ℕ) → Over 47 (decimalBelow places n)
@@ -110,15 +111,11 @@ no-revision p w =
     ∙ place-line p (fieldOf w)
     ∙ rw (no-space (fieldOf w) (over-less 32 44 (fieldOf w) (omega arith) (over-field w)))
 
-large-by : (o : Option ℕ) (bytes : Option (List ℕ)) → deliverBy o none bytes ≡ malformed
-large-by none bytes = refl
-large-by (some p) bytes = refl
-
 revision-too-large : (p v : ℕ) (w : List ℕ) → 4294967295 < v → v ≤ 18446744073709551615 → lineIn (lineOf (delivers p v w)) ≡ malformed
 revision-too-large p v w large fits =
     not-empty (lineOf (delivers p v w)) (omega arith)
     ∙ delivery-line p v w
-    ∙ rw (fields.claims .number-round-trip v fits, lt-leb v 4294967295 large) (large-by (parseNumber (decimal p)) (parseBytes (fieldOf w)))
+    ∙ rw (fields.claims .number-round-trip v fits, lt-leb v 4294967295 large) (bad-revision (parseNumber (decimal p)) (parseBytes (fieldOf w)))
 
 -- ---- the calls
 all-bytes : (b : List ℕ) → Bytes b → AllBytes b
