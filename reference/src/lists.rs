@@ -6,6 +6,7 @@ use crate::faults::{likely_refused, likely_refused_value};
 use crate::malformed::malformed;
 use crate::random::Random;
 use crate::rule::Automaton;
+use std::collections::BTreeMap;
 
 const LONGEST: usize = 65_536;
 const IDLE: u8 = 255;
@@ -16,6 +17,8 @@ struct Maker {
     lines: Vec<Vec<u8>>,
     rule: Automaton,
     places: usize,
+    /// The highest revision written for each place since the opening.
+    revisions: BTreeMap<u64, u32>,
     /// How many more chunks may be long.
     long: usize,
 }
@@ -25,7 +28,7 @@ pub fn list(seed: u64, index: u64) -> Vec<Vec<u8>> {
     let mut r = Random::new(seed, index);
     let rule = automaton(&mut r);
     let long = if r.one_in(50) { 3 } else { 0 };
-    let mut maker = Maker { r, lines: Vec::new(), rule, places: 1, long };
+    let mut maker = Maker { r, lines: Vec::new(), rule, places: 1, revisions: BTreeMap::new(), long };
     if maker.r.one_in(40) {
         maker.lines.push(Vec::new());
     }
@@ -158,6 +161,7 @@ impl Maker {
             _ => self.r.range(1, 6),
         };
         self.open(self.places as u64);
+        self.revisions.clear();
     }
 
     fn open_refused(&mut self) {
@@ -166,9 +170,41 @@ impl Maker {
         self.open(places);
     }
 
+    /// A revision for a place: any where none was written yet, else most likely a greater one.
+    fn revision(&mut self, place: u64) -> u32 {
+        let any = self.r.next() as u32;
+        let Some(&last) = self.revisions.get(&place) else {
+            return self.r.pick(&[0, 0, 0, 1, 1, 2, 7, 255, 256, 65_536, 1 << 31, u32::MAX - 1, u32::MAX, any, any]);
+        };
+        let above = last.saturating_add(1);
+        match self.r.below(16) {
+            0 | 1 => last,
+            2 => last.saturating_sub(1),
+            3 => self.r.pick(&[0, 0, last / 2, any, last ^ 1 << 31]),
+            4 => u32::MAX,
+            5 => last.max(any),
+            _ => above,
+        }
+    }
+
     fn deliver(&mut self, place: u64, chunk: &[u8]) {
-        let (place, chunk) = (self.number(place), self.hex(chunk));
-        self.line(format!("deliver {place} {chunk}"));
+        let revision = self.revision(place);
+        self.revisions.entry(place).and_modify(|last| *last = revision.max(*last)).or_insert(revision);
+        let (place, revision, chunk) = (self.number(place), self.number(revision as u64), self.hex(chunk));
+        self.line(format!("deliver {place} {revision} {chunk}"));
+    }
+
+    /// A delivery whose revision is left out, too large or no number.
+    fn deliver_malformed(&mut self, place: u64, chunk: &[u8]) {
+        let large = (1u64 << 32) + self.r.pick(&[0, 0, 0, 1, 7, u32::MAX as u64]);
+        let (place, large, chunk) = (self.number(place), self.number(large), self.hex(chunk));
+        let line = match self.r.below(8) {
+            0..=2 => format!("deliver {place} {chunk}"),
+            3..=5 => format!("deliver {place} {large} {chunk}"),
+            6 => format!("deliver {place} {chunk} 0"),
+            _ => format!("deliver {place} - {chunk}"),
+        };
+        self.line(line);
     }
 
     fn withdraw(&mut self, place: u64) {
@@ -328,15 +364,35 @@ impl Maker {
                 self.some_calls(2);
             }
             self.deliver(place as u64, &chunks[place]);
+            if self.r.one_in(10) {
+                self.resend(place as u64, &chunks[place]);
+            }
         }
         self.verdict();
     }
 
-    /// Chunks are withdrawn and others delivered.
+    /// A chunk is sent again, after more of the buffer was read: longer, or another, or the same.
+    fn resend(&mut self, place: u64, chunk: &[u8]) {
+        let more = self.chunk();
+        let chunk = match self.r.below(4) {
+            0 => chunk.to_vec(),
+            1 => more,
+            _ if chunk.len() + more.len() > LONGEST => more,
+            _ => [chunk, &more].concat(),
+        };
+        self.deliver(place, &chunk);
+        if self.r.one_in(3) {
+            self.verdict();
+        }
+    }
+
+    /// Chunks are withdrawn or not, and others delivered.
     fn change(&mut self) {
         for _ in 0..self.r.range(1, 5) {
             let place = self.place();
-            self.withdraw(place);
+            if !self.r.one_in(3) {
+                self.withdraw(place);
+            }
             if self.r.one_in(3) {
                 self.some_calls(2);
             }
@@ -355,7 +411,7 @@ impl Maker {
     /// Any call, most likely out of place.
     fn any_call(&mut self) {
         let (place, no_place) = (self.place(), self.no_place());
-        match self.r.below(22) {
+        match self.r.below(23) {
             0..=3 => self.verdict(),
             4 | 5 => self.withdraw(place),
             6 => self.withdraw(no_place),
@@ -386,6 +442,10 @@ impl Maker {
             16 if self.r.one_in(4) => self.give_rule(),
             17 => self.install_refused(),
             18 if self.r.one_in(3) => self.value_out_of_place(),
+            19 => {
+                let chunk = self.chunk();
+                self.deliver_malformed(place, &chunk)
+            }
             _ => {
                 let line = malformed(&mut self.r, &self.lines);
                 self.lines.extend(line);
