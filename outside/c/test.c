@@ -72,7 +72,7 @@ static void calls(void) {
     verdict(&j, BELLBADGER_NO, 2, 1);
     withdraw(&j, 0, 0);
     CHECK(j.board.lengths[0] == 0 && j.board.lengths[1] == 1);
-    looked(&j, 0, 0, big, 65536, 65536);
+    looked(&j, 0, 2, big, 65536, 65536);
     verdict(&j, BELLBADGER_NO, 65538, 65537);
     load(&j, rule_a, 9, 1);
     verdict(&j, BELLBADGER_NO, 65538, 65537);
