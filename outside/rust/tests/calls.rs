@@ -79,7 +79,10 @@ fn refusals_of_the_calls() {
     assert_eq!(number(judge.deliver(63, 0, &[0; 65537])), 12);
     assert_eq!(number(judge.deliver(63, 0, &[0, 2])), 13);
     assert_eq!(number(judge.withdraw(63)), 23);
-    assert_eq!(judge.deliver(63, 0, &[0; 65536]), Ok(Looked { bytes: 65536 }));
+    assert_eq!(
+        judge.deliver(63, 0, &[0; 65536]),
+        Ok(Looked { bytes: 65536 })
+    );
     assert_eq!(number(judge.deliver(63, 0, &[])), 22);
     assert_eq!(judge.verdict(), Ok(waiting(63)));
     assert_eq!(number(judge.load(&A[..9])), 1);
@@ -168,14 +171,10 @@ fn a_later_recording_supersedes() {
     assert_eq!(judge.verdict(), yes);
     assert_eq!(judge.withdraw(0), Ok(()));
     let refused = judge.deliver(0, 6, &[0, 1]).unwrap_err();
-    let words =
-        "refused 22: the revision is not greater than the last one accepted at the place";
+    let words = "refused 22: the revision is not greater than the last one accepted at the place";
     assert_eq!(refused.to_string(), words);
     assert_eq!(judge.verdict(), Ok(waiting(1)));
-    assert_eq!(
-        judge.deliver(0, u32::MAX, &[0, 1]),
-        Ok(Looked { bytes: 2 })
-    );
+    assert_eq!(judge.deliver(0, u32::MAX, &[0, 1]), Ok(Looked { bytes: 2 }));
     assert_eq!(judge.verdict(), yes);
     assert_eq!(number(judge.deliver(0, u32::MAX, &[])), 22);
     assert!(judge.open(1).is_ok());
@@ -194,10 +193,7 @@ fn two_orders_of_deliveries_end_in_the_same_verdict() {
             let delivered = judge.deliver(place, revision, chunk);
             assert!(delivered.is_ok() || number(delivered) == 22);
         }
-        assert_eq!(
-            judge.verdict(),
-            Ok(reported(Verdict::Yes(3), [2, 1, 1]))
-        );
+        assert_eq!(judge.verdict(), Ok(reported(Verdict::Yes(3), [2, 1, 1])));
     }
 }
 

@@ -140,7 +140,9 @@ fn an_installation_takes_the_part_of_a_load() {
     assert_eq!(number(judge.install(&bad)), 8);
     assert_eq!(number(judge.open(1)), 20);
     assert!(
-        judge.install(&good).is_ok() && judge.open(1).is_ok() && judge.deliver(0, 0, &[0, 1]).is_ok()
+        judge.install(&good).is_ok()
+            && judge.open(1).is_ok()
+            && judge.deliver(0, 0, &[0, 1]).is_ok()
     );
     assert_eq!(number(judge.install(&bad)), 8);
     assert_eq!(
