@@ -28,12 +28,12 @@ def after(targets, members, text):
 
 class Judge:
     def __init__(self):
-        self.rule = self.board = None
+        self.rule = self.board = self.last = None
 
     def keep(self, n, k, initials, finals, targets):
         sets = number_sets(n, k, targets)
         self.rule = n, k, initials, finals, targets, delegates_of(n, k, finals, targets)
-        self.board = None
+        self.board = self.last = None
         return f"accepted {len(sets)} {len(self.starts(1))}"
 
     def starts(self, p):
@@ -64,6 +64,7 @@ class Judge:
         if not 1 <= places <= 64:
             raise Refused(10)
         self.board = [None] * places
+        self.last = [None] * places
         return "accepted"
 
     def at(self, p):
@@ -103,15 +104,15 @@ class Judge:
             c = {t for q in c if delegates[q] is not None for t in ends[delegates[q]]}
         return bool(c & finals)
 
-    def deliver(self, p, chunk):
+    def deliver(self, p, revision, chunk):
         self.at(p)
         if len(chunk) > 65536:
             raise Refused(12)
         if any(b >= self.rule[1] and b != IDLE for b in chunk):
             raise Refused(13)
-        if self.board[p] is not None:
+        if self.last[p] is not None and revision <= self.last[p]:
             raise Refused(22)
-        self.board[p] = chunk
+        self.board[p], self.last[p] = chunk, revision
         return f"accepted {self.looked(p, without_marks(chunk))}"
 
     def withdraw(self, p):

@@ -20,7 +20,7 @@ CRATE = os.path.join(HERE, "..", "crates", "tracejudge")
 
 HEX, NUMBER = rb"((?:[0-9a-fA-F]{2})+|-)", rb"([0-9]{1,20})"
 FORMS = [
-    ("load", rb"load " + HEX), ("install", rb"install " + HEX), ("open", rb"open " + NUMBER), ("deliver", rb"deliver " + NUMBER + b" " + HEX),
+    ("load", rb"load " + HEX), ("install", rb"install " + HEX), ("open", rb"open " + NUMBER), ("deliver", rb"deliver " + NUMBER + b" " + NUMBER + b" " + HEX),
     ("withdraw", rb"withdraw " + NUMBER), ("verdict", rb"verdict"),
 ]
 
@@ -34,6 +34,10 @@ def meaning(line):
             if word in ("open", "deliver", "withdraw"):
                 fields[0] = int(fields[0])
                 if fields[0] > LARGEST:
+                    return None
+            if word == "deliver":
+                fields[1] = int(fields[1])
+                if fields[1] > LARGEST_REVISION:
                     return None
             if word in ("load", "install", "deliver"):
                 fields[-1] = b"" if fields[-1] == b"-" else bytes.fromhex(fields[-1].decode())
@@ -80,6 +84,7 @@ LOW_DEAD = rule(5, 2, 0b11111, 0b10100, [(0, 0, 1), (1, 0, 0), (2, 0, 2), (3, 0,
 ALL_BUT_31 = rule(32, 1, 2 ** 32 - 1, 1 << 31, [(q, 0, (q + 1) % 31) for q in range(31)] + [(31, 0, 31), (31, 0, 0)])
 NO_RULE = A[:9]
 LARGEST = 2 ** 64 - 1
+LARGEST_REVISION = 2 ** 32 - 1
 # the bytes of a rule as a value
 VALUE = 2058
 
@@ -102,10 +107,10 @@ def changed(n=3, k=2, initials=1, finals=4, **masks):
 
 
 def judged(f, *chunks, call="load"):
-    """Load, open a place for each chunk, deliver the last first, and ask on the way and at the end."""
+    """Load, open a place for each chunk, deliver the last first, each as revision 0, and ask on the way and at the end."""
     calls = [(call, f), ("open", len(chunks)), ("verdict",)]
     for p in reversed(range(len(chunks))):
-        calls += [("deliver", p, chunks[p]), ("verdict",)]
+        calls += [("deliver", p, 0, chunks[p]), ("verdict",)]
     return calls
 
 
@@ -125,18 +130,21 @@ def random_calls(seed):
         # one final state alone, so that more of the others lead nowhere
         f = f[:6] + struct.pack("<I", 1 << rng.randrange(n)) + f[10:]
     calls = [("load", f), ("open", rng.randint(1, 4))]
-    for _ in range(30):
+    for i in range(30):
         p = rng.randint(0, 4)
+        v = LARGEST_REVISION if rng.random() < 0.03 else rng.randint(0, 2 * i)
         chunk = bytes(rng.randrange(k) for _ in range(rng.randint(0, 6)))
         if rng.random() < 0.3:
             chunk = marked(rng, chunk)
         calls.append(rng.choice([
-            ("deliver", p, chunk), ("deliver", p, chunk), ("deliver", p, chunk), ("withdraw", p), ("verdict",), ("verdict",),
-            ("deliver", p, chunk + bytes([k])), rng.choice([("open", rng.randint(0, 4)), ("load", f), ("load", NO_RULE), ("verdict",)]),
+            ("deliver", p, v, chunk), ("deliver", p, v, chunk), ("deliver", p, v, chunk), ("withdraw", p), ("verdict",), ("verdict",),
+            ("deliver", p, v, chunk + bytes([k])), rng.choice([("open", rng.randint(0, 4)), ("load", f), ("load", NO_RULE), ("verdict",)]),
         ]))
     return calls + [("verdict",)]
 
 
+# place, revision and chunk
+DELIVERIES = [(0, 0, b"\1"), (1, 5, b"\1"), (0, 2, b"\0\0"), (1, 4, b"\0"), (0, 1, b""), (1, 0, b"\1\1")]
 LONG = bytes([0, 1]) * 32768
 FULL = rule(32, 16, 1, 1, [(q, s, t) for q in range(32) for s in range(16) for t in range(32)])
 
@@ -146,19 +154,26 @@ MALFORMED = [
     b"load 00\r", b"install", b"install ", b"install -", b"install 00", b"installed 00", b"INSTALL 00",
     b"verdict ", b"verdict\r", b"verdictx", b"Verdict", b"verdic", b"open", b"open ", b"open 1 ", b"open  1", b"open -1", b"open +1",
     b"open 0x1", b"open 1\r", b"open 18446744073709551616", b"open 99999999999999999999", b"open 000000000000000000001", b"deliver", b"deliver 0",
-    b"deliver 0 ", b"deliver 0  00", b"deliver 0 00 ", b"deliver  0 00", b"deliver - 00", b"deliver 0 000", b"deliver 0 00\t", b"deliver 18446744073709551616 00",
+    b"deliver 0 ", b"deliver 0 0", b"deliver 0 0 ", b"deliver 0  0 00", b"deliver 0 0  00", b"deliver 0 0 00 ", b"deliver  0 0 00", b"deliver - 0 00",
+    b"deliver 0 0 000", b"deliver 0 0 00\t", b"deliver 0 0 00 00", b"deliver 18446744073709551616 0 00",
+    # no revision; none that is a number; one above 32 bits, above 64, and of 21 digits
+    b"deliver 0 00", b"deliver 0 -", b"deliver 0 0001", b"deliver 0  00", b"deliver 0 - 00", b"deliver 0 -1 00", b"deliver 0 +1 00", b"deliver 0 0x1 00",
+    b"deliver 0 4294967296 00", b"deliver 0 18446744073709551615 00", b"deliver 0 18446744073709551616 00", b"deliver 0 000000000000000000000 00",
     b"withdraw", b"withdraw ", b"withdraw 0 0", b"withdraw x", b"close", b" ", b"\r", b"\0", b"\xff\xfe", b"verdict verdict",
 ]
-# lines longer than any call that is accepted, whose beginnings are the same
-DIGITS = b"00" * 65552
+# lines longer than any call that is accepted, whose beginnings are the same; in the last two of the deliveries the fields before the bytes
+# have as many digits as they may have, and the bytes are one more than a chunk has
+DIGITS = b"00" * 65568
 LONGER = [
-    b"deliver 0 " + DIGITS, b"deliver 0 " + DIGITS + b"0", b"deliver 0 " + DIGITS + b"0g", b"deliver 0 " + DIGITS + b"\r", b"deliver 9 " + DIGITS,
+    b"deliver 0 0 " + DIGITS, b"deliver 0 0 " + DIGITS + b"0", b"deliver 0 0 " + DIGITS + b"0g", b"deliver 0 0 " + DIGITS + b"\r", b"deliver 9 0 " + DIGITS,
+    b"deliver 0 " + DIGITS, b"deliver 0 4294967296 " + DIGITS,
+    b"deliver " + b"0" * 20 + b" " + b"0" * 20 + b" " + b"00" * 65537, b"deliver " + b"0" * 20 + b" " + b"0" * 20 + b" " + b"00" * 65537 + b"0",
     b"load " + DIGITS, b"load " + DIGITS + b" ", b"verdict" + DIGITS, b"install " + DIGITS, b"install " + DIGITS + b"g",
 ]
 CASES = [
     # before a load, before an opening
-    [("verdict",), ("open", 1), ("open", 0), ("deliver", 0, b""), ("withdraw", 0), ("load", NO_RULE), ("open", 1), ("verdict",)],
-    [("load", A), ("verdict",), ("deliver", 0, b""), ("withdraw", 0), ("load", NO_RULE), ("verdict",), ("open", 1), ("verdict",)],
+    [("verdict",), ("open", 1), ("open", 0), ("deliver", 0, 0, b""), ("withdraw", 0), ("load", NO_RULE), ("open", 1), ("verdict",)],
+    [("load", A), ("verdict",), ("deliver", 0, 0, b""), ("withdraw", 0), ("load", NO_RULE), ("verdict",), ("open", 1), ("verdict",)],
     # table P and figure 1 of document 004
     judged(A, b"\0", b"\1"),
     judged(A, b"\1", b"\0"),
@@ -174,34 +189,35 @@ CASES = [
     judged(NO_INITIAL, b"\0\0"),
     judged(NO_INITIAL, b"\0", b"\0\0"),
     # places: N 0, 1, 64, 65 and the largest; place N - 1, N and the largest
-    [("load", A)] + [("open", n) for n in (0, 65, LARGEST, 1)] + [("verdict",), ("deliver", 0, b"\0\1"), ("verdict",)],
-    [("load", A), ("open", 64), ("deliver", 63, b""), ("deliver", 64, b""), ("deliver", LARGEST, b""), ("withdraw", 64), ("withdraw", LARGEST), ("verdict",)]
-    + [("deliver", p, b"\0") for p in range(63)] + [("verdict",), ("withdraw", 63), ("verdict",), ("deliver", 63, b"\1"), ("verdict",)],
+    [("load", A)] + [("open", n) for n in (0, 65, LARGEST, 1)] + [("verdict",), ("deliver", 0, 0, b"\0\1"), ("verdict",)],
+    [("load", A), ("open", 64), ("deliver", 63, 0, b""), ("deliver", 64, 0, b""), ("deliver", LARGEST, 0, b""), ("withdraw", 64), ("withdraw", LARGEST),
+     ("verdict",)]
+    + [("deliver", p, 0, b"\0") for p in range(63)] + [("verdict",), ("withdraw", 63), ("verdict",), ("deliver", 63, 1, b"\1"), ("verdict",)],
     # chunks of 65,536 and 65,537 bytes; byte k - 1 and k, first and last; 12 before 13 before 22
-    [("load", A), ("open", 2), ("deliver", 0, LONG + b"\2"), ("deliver", 0, LONG), ("verdict",), ("deliver", 1, b"\1\2"), ("deliver", 1, b"\2\1"),
-     ("deliver", 0, b"\2"), ("deliver", 0, b"\1"), ("deliver", 1, b"\1\1"), ("verdict",)],
+    [("load", A), ("open", 2), ("deliver", 0, 0, LONG + b"\2"), ("deliver", 0, 0, LONG), ("verdict",), ("deliver", 1, 0, b"\1\2"), ("deliver", 1, 0, b"\2\1"),
+     ("deliver", 0, 0, b"\2"), ("deliver", 0, 0, b"\1"), ("deliver", 1, 0, b"\1\1"), ("verdict",)],
     # a reload and a reopening drop the chunks; a refused load or opening keeps them; a withdrawn place is filled anew
-    judged(A, b"\0", b"\1") + [("load", NO_RULE), ("verdict",), ("open", 0), ("verdict",), ("open", 2), ("verdict",), ("deliver", 1, b"\1"), ("verdict",),
-                               ("load", B), ("verdict",), ("deliver", 0, b"\0"), ("open", 1), ("deliver", 0, b"\0"), ("deliver", 0, b"\0"), ("verdict",),
-                               ("withdraw", 0), ("withdraw", 0), ("verdict",), ("deliver", 0, b""), ("verdict",)],
+    judged(A, b"\0", b"\1") + [("load", NO_RULE), ("verdict",), ("open", 0), ("verdict",), ("open", 2), ("verdict",), ("deliver", 1, 0, b"\1"), ("verdict",),
+                               ("load", B), ("verdict",), ("deliver", 0, 0, b"\0"), ("open", 1), ("deliver", 0, 0, b"\0"), ("deliver", 0, 0, b"\0"),
+                               ("verdict",), ("withdraw", 0), ("withdraw", 0), ("verdict",), ("deliver", 0, 1, b""), ("verdict",)],
     # each call right after a reload, and right after a reopening
-    judged(A, b"\0") + [("load", A), ("withdraw", 0), ("deliver", 0, b""), ("verdict",), ("open", 1), ("withdraw", 0), ("verdict",), ("deliver", 0, b"\0\1"),
-                        ("open", 1), ("withdraw", 0), ("verdict",), ("deliver", 0, b"\1"), ("verdict",)],
+    judged(A, b"\0") + [("load", A), ("withdraw", 0), ("deliver", 0, 0, b""), ("verdict",), ("open", 1), ("withdraw", 0), ("verdict",),
+                        ("deliver", 0, 0, b"\0\1"), ("open", 1), ("withdraw", 0), ("verdict",), ("deliver", 0, 0, b"\1"), ("verdict",)],
     # 512 and 513 sets
-    [("load", many_sets(4)), ("open", 1), ("load", many_sets(5)), ("deliver", 0, b"\0\1\0"), ("verdict",)],
+    [("load", many_sets(4)), ("open", 1), ("load", many_sets(5)), ("deliver", 0, 0, b"\0\1\0"), ("verdict",)],
     # a file of 32,906 bytes, and one byte more
-    [("load", FULL), ("open", 1), ("deliver", 0, b"\x0f"), ("verdict",), ("load", FULL + b"\0"), ("verdict",)],
+    [("load", FULL), ("open", 1), ("deliver", 0, 0, b"\x0f"), ("verdict",), ("load", FULL + b"\0"), ("verdict",)],
     # every run dies: at the first byte, within, at the last, not at all; a bad byte further on is 13
-    [("load", DIES), ("open", 6)] + [("deliver", 0, chunk) for chunk in (b"\1\0\0\2", b"\0\1\1\xfe", b"\1" * 65535 + b"\2")]
-    + [("deliver", p, chunk) for p, chunk in enumerate([b"\1\0\0", b"\0\1\0", b"\0\0\1", b"\0\0\0", b"\1" * 65536, b""])] + [("verdict",)],
+    [("load", DIES), ("open", 6)] + [("deliver", 0, 0, chunk) for chunk in (b"\1\0\0\2", b"\0\1\1\xfe", b"\1" * 65535 + b"\2")]
+    + [("deliver", p, 0, chunk) for p, chunk in enumerate([b"\1\0\0", b"\0\1\0", b"\0\0\1", b"\0\0\0", b"\1" * 65536, b""])] + [("verdict",)],
     judged(DIES, b"\0\0", b"\1" + LONG[1:]),
     judged(CHAIN, b"\0\0\0\0", b"\0\0\0\0", b"\0\0"),
     # idle marks: before, between and behind the bytes of a text; alone; at the limit, which counts them; a bad byte behind them, and 254
     judged(A, b"\xff\0\xff\xff", b"\1\xff"),
     judged(A, b"\xff\xff", b"\0\xff\1", b"\xff"),
     judged(B, b"\xff\0\xff\0", b"\0\xff"),
-    [("load", A), ("open", 2)] + [("deliver", 0, chunk) for chunk in (b"\xff" * 65537, b"\xff\xff\2", b"\xfe", b"\xff\xfe\xff")]
-    + [("deliver", 0, b"\xff" * 65536), ("deliver", 0, b"\xff"), ("verdict",), ("deliver", 1, b"\0" * 32767 + b"\xff" * 32768 + b"\1"), ("verdict",)],
+    [("load", A), ("open", 2)] + [("deliver", 0, 0, chunk) for chunk in (b"\xff" * 65537, b"\xff\xff\2", b"\xfe", b"\xff\xfe\xff")]
+    + [("deliver", 0, 0, b"\xff" * 65536), ("deliver", 0, 0, b"\xff"), ("verdict",), ("deliver", 1, 0, b"\0" * 32767 + b"\xff" * 32768 + b"\1"), ("verdict",)],
     # 255 is 15 modulo 16: a mark is no symbol 15, which leads nowhere here; nor does it end a run, or count after its death
     judged(ONLY_0, b"\0\xff\0", b"\xff\0\0\xff"),
     judged(ONLY_0, b"\xff\x0f\xff\0\xff", b"\0\xff\x0f\xff\xff"),
@@ -220,11 +236,11 @@ CASES = [
     # 512 and 513 sets; 8 before 9
     [("install", value_of(many_sets(4))), ("open", 1)]
     + [("install", x) for x in (value_of(many_sets(5)), value_of(many_sets(5))[:1] + b"\x0f" + value_of(many_sets(5))[2:])]
-    + [("deliver", 0, b"\0\1\0"), ("verdict",)],
+    + [("deliver", 0, 0, b"\0\1\0"), ("verdict",)],
     # a refused installation keeps rule, board and chunks, an accepted one removes the board; loads and installations replace each other
     judged(A, b"\0", b"\1") + [("install", changed(finals=8)), ("verdict",), ("install", changed(q0s2=1)), ("verdict",), ("install", changed(finals=1)),
-                               ("verdict",), ("withdraw", 0), ("open", 1), ("deliver", 0, b"\1\0"), ("verdict",), ("load", NO_RULE), ("verdict",),
-                               ("load", A), ("verdict",), ("open", 1), ("deliver", 0, b"\1\0"), ("verdict",)],
+                               ("verdict",), ("withdraw", 0), ("open", 1), ("deliver", 0, 0, b"\1\0"), ("verdict",), ("load", NO_RULE), ("verdict",),
+                               ("load", A), ("verdict",), ("open", 1), ("deliver", 0, 0, b"\1\0"), ("verdict",)],
     # one byte less and one more, half a byte more, a file; a value is no file; hex digits of either case
     [("load", A), ("open", 1), ("install", changed()[:-1]), ("install", changed() + b"\0"), line(("install", changed())) + b"0", ("install", A),
      ("install", b""), ("load", changed()), ("verdict",), b"install " + changed().hex().upper().encode(), ("verdict",)],
@@ -248,12 +264,35 @@ CASES = [
     judged(changed(finals=0), b"", b"\0\1", call="install"),
     judged(rule(3, 1, 0b111, 0b110, []), b"", b""),
     judged(rule(3, 1, 0b111, 0b110, []), b"\0\0", b""),
-    [("load", rule(4, 2, 0b1111, 0, ASTRAY_ARCS)), ("open", 1), ("deliver", 0, b"\0\2"), ("deliver", 0, b"\0\xff\0"), ("verdict",)],
-    # n 33; hex digits of either case; the largest number of digits
-    [("load", b"\x21" + A[1:]), b"load " + A.hex().upper().encode(), b"open 00000000000000000001", b"deliver 0 0001", ("verdict",)],
+    [("load", rule(4, 2, 0b1111, 0, ASTRAY_ARCS)), ("open", 1), ("deliver", 0, 0, b"\0\2"), ("deliver", 0, 0, b"\0\xff\0"), ("verdict",)],
+    # revisions: 0 first and 2^32 - 1 last; an equal one and a lower one are refused; a greater one replaces: lengths, counts and verdict follow
+    [("load", A), ("open", 2), ("deliver", 0, 0, b"\0"), ("deliver", 1, 0, b"\0\0"), ("verdict",), ("deliver", 1, 0, b"\1"), ("verdict",),
+     ("deliver", 1, 1, b"\1"), ("verdict",), ("deliver", 1, 1, b""), ("deliver", 1, 0, b""), ("verdict",), ("deliver", 0, 2, b""), ("verdict",),
+     ("deliver", 1, LARGEST_REVISION, b"\xff\0\1\xff\0"), ("verdict",), ("deliver", 1, LARGEST_REVISION, b""), ("deliver", 1, LARGEST_REVISION - 1, b""),
+     ("verdict",), ("withdraw", 1), ("deliver", 1, LARGEST_REVISION, b""), ("deliver", 1, 0, b""), ("verdict",)],
+    # after a withdrawal too a revision that is not greater is refused, and the place stays empty
+    [("load", B), ("open", 1), ("deliver", 0, 7, b"\0"), ("withdraw", 0), ("deliver", 0, 6, b"\0"), ("deliver", 0, 7, b"\0"), ("verdict",), ("withdraw", 0),
+     ("deliver", 0, 8, b"\0\0"), ("verdict",), ("withdraw", 0), ("deliver", 0, 8, b"\0"), ("deliver", 0, 9, b""), ("verdict",)],
+    # a refused delivery (12, 13, 22) is not remembered, nor does it change what stands
+    [("load", A), ("open", 2), ("deliver", 0, 9, b"\2"), ("deliver", 0, 5, b"\0\1"), ("deliver", 0, 9, LONG + b"\0"), ("deliver", 0, 8, b"\2"),
+     ("deliver", 0, 5, b"\0"), ("deliver", 2, 9, b"\0"), ("deliver", 1, 0, b""), ("verdict",), ("deliver", 0, 6, b"\1\0"), ("verdict",),
+     ("withdraw", 0), ("deliver", 0, 9, b"\2"), ("deliver", 0, 7, b"\0\1"), ("verdict",)],
+    # each place has its own
+    [("load", A), ("open", 3)] + [("deliver", p, v, b"\0\1") for p, v in ((0, 3), (1, 2), (2, 1), (0, 2), (1, 2), (2, 2), (1, 3), (0, 3), (0, 4), (2, 2))]
+    + [("verdict",)],
+    # an opening, an installation and a load forget; refused ones do not
+    [("load", A), ("open", 1), ("deliver", 0, LARGEST_REVISION, b"\0\1"), ("open", 0), ("deliver", 0, 0, b""), ("load", NO_RULE), ("deliver", 0, 0, b""),
+     ("install", changed(finals=8)), ("deliver", 0, 0, b""), ("verdict",), ("open", 1), ("deliver", 0, 0, b"\1"), ("verdict",), ("deliver", 0, 3, b"\0\1"),
+     ("verdict",), ("install", changed()), ("deliver", 0, 9, b""), ("open", 1), ("deliver", 0, 3, b"\0"), ("deliver", 0, 3, b"\0\1"), ("verdict",),
+     ("load", A), ("open", 1), ("deliver", 0, 0, b"\0\0\1"), ("verdict",), ("open", 2), ("deliver", 0, 0, b""), ("deliver", 1, 0, b"\0\1"), ("verdict",)],
+    # two orders of the same deliveries come to the same
+    *([("load", A), ("open", 2)] + [("deliver", p, v, chunk) for p, v, chunk in order] + [("verdict",)] for order in (DELIVERIES, DELIVERIES[::-1])),
+    # n 33; hex digits of either case; the largest number of digits, in a place and in a revision
+    [("load", b"\x21" + A[1:]), b"load " + A.hex().upper().encode(), b"open 00000000000000000001",
+     b"deliver 00000000000000000000 00000000004294967295 0001", ("verdict",)],
     # lines that are malformed, and lines that are very long
     judged(A, b"\0", b"\1") + [x for bad in MALFORMED for x in (bad, ("verdict",))],
-    [("load", A), ("open", 1)] + LONGER + [("verdict",), ("deliver", 0, b"\0"), ("verdict",)],
+    [("load", A), ("open", 1)] + LONGER + [("verdict",), ("deliver", 0, 0, b"\0"), ("verdict",)],
 ] + [random_calls(seed) for seed in range(32)]
 # the last line is ended by the end of the input
 LAST = [("load", A), ("open", 1), ("verdict",)]

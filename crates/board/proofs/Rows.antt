@@ -63,7 +63,7 @@ module _ (ends : List ℕ) (p : ℕ) (g : ℕ → ℕ) where
   pub row-length : length (rowSet ends p g) ≡ 2048
   row-length = length-listFrom 0 2048 (cellOf ends p g)
 
-  row-cell : (c : ℕ) → c < 2048 → getD (rowSet ends p g) c 0 ≡ cellOf ends p g c
+  pub row-cell : (c : ℕ) → c < 2048 → getD (rowSet ends p g) c 0 ≡ cellOf ends p g c
   row-cell c h = cell-of 2048 (cellOf ends p g) c 0 h
 
   pub row-own : p < 64 → (q : ℕ) → q < 32 → getD (rowSet ends p g) (p * 32 + q) 0 ≡ g q

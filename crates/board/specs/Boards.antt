@@ -1,21 +1,26 @@
 -- The board (document 01, "The board and its calls"): for each place whether it is filled, the
--- count and the length of its chunk and the end set of each state. Any value of any field is a
--- board: a filled mark is a number, 0 for empty, and a number of places above 64 counts as 64.
+-- count and the length of its chunk, the end set of each state, and the last revision that was
+-- accepted there (document 02, R-11). Any value of any field is a board: a filled mark is a number,
+-- 0 for empty, a number of places above 64 counts as 64, and a revision is kept as one more than it
+-- is, so that 0 is none.
 --
 --   placesOf b         the number of places
 --   held b p q         the end set of state q at place p
 --   isEmpty b p        place p has no chunk
---   emptyBoard n       n places, all empty
---   filledAt b p s     place p holds the end sets, the count and the length s of a chunk, which may
---                      be empty
---   clearedAt b p      place p is empty, its end sets empty, its count and its length 0
+--   lastAt b p         one more than the last revision accepted at place p, 0 where there was none
+--   comesLate b p v    the revision v is not greater than the last one accepted at place p
+--   emptyBoard n       n places, all empty, no revision accepted anywhere
+--   filledAt b p v s   place p holds the end sets, the count and the length s of a chunk, which may
+--                      be empty, and its revision v
+--   clearedAt b p      place p is empty, its end sets empty, its count and its length 0; its
+--                      revision stays
 --   emptyPlaces b      how many places are empty
 --   summedCount b      the sum of the counts over all places
 --   summedBytes b      the sum of the lengths over all places
 use mathlib.Core.Bool.{Bool, cond}
 use mathlib.Core.List.{List}
 use Prim.Native.Nat.{ℕ, _+_, _*_, _/_, _%_, min}
-use lib.Dec.{eqb}
+use lib.Dec.{eqb, ltb}
 use lib.ListN.{getD, set, replicate}
 use Rattle.limits.specs.Limits.{mostStates, mostPlaces, endCells}
 use Rattle.base.specs.Lists.{listFrom}
@@ -32,12 +37,19 @@ held b p q = getD (b .ends) (p * mostStates + q) 0
 abbrev pub isEmpty : Board → ℕ → Bool
 isEmpty b p = eqb (getD (b .filled) p 0) 0
 
+abbrev pub lastAt : Board → ℕ → ℕ
+lastAt b p = getD (b .revisions) p 0
+
+abbrev pub comesLate : Board → ℕ → ℕ → Bool
+comesLate b p v = ltb v (lastAt b p)
+
 unfoldable pub emptyBoard : ℕ → Board
 emptyBoard n = record {
   places = n;
   filled = replicate mostPlaces 0;
   counts = replicate mostPlaces 0;
   lengths = replicate mostPlaces 0;
+  revisions = replicate mostPlaces 0;
   ends = replicate endCells 0;
 }
 
@@ -45,12 +57,13 @@ emptyBoard n = record {
 abbrev pub rowSet : List ℕ → ℕ → (ℕ → ℕ) → List ℕ
 rowSet ends p g = listFrom 0 endCells (λ cell. cond (eqb (cell / mostStates) p) (g (cell % mostStates)) (getD ends cell 0))
 
-unfoldable pub filledAt : Board → ℕ → Runs → Board
-filledAt b p s = record {
+unfoldable pub filledAt : Board → ℕ → ℕ → Runs → Board
+filledAt b p v s = record {
   places = b .places;
   filled = set (b .filled) p 1;
   counts = set (b .counts) p (s .count);
   lengths = set (b .lengths) p (s .bytes);
+  revisions = set (b .revisions) p (v + 1);
   ends = rowSet (b .ends) p (λ q. getD (s .ends) q 0);
 }
 
@@ -60,6 +73,7 @@ clearedAt b p = record {
   filled = set (b .filled) p 0;
   counts = set (b .counts) p 0;
   lengths = set (b .lengths) p 0;
+  revisions = b .revisions;
   ends = rowSet (b .ends) p (λ q. 0);
 }
 

@@ -7,17 +7,19 @@ ghost use lib.Dec.{eqb};
 ghost use lib.ListN.{length, getD};
 ghost use Rattle.limits.specs.Limits.{mostPlaces, endCells};
 ghost use Rattle.base.specs.Totals.{total};
-ghost use Rattle.board.specs.Boards.{placesOf, isEmpty, emptyBoard, rowSet, filledAt, clearedAt, emptyPlaces, summedCount, summedBytes};
+ghost use Rattle.board.specs.Boards.{placesOf, isEmpty, comesLate, emptyBoard, rowSet, filledAt, clearedAt, emptyPlaces, summedCount, summedBytes};
 use chunks::Runs;
 
 // For each of up to 64 places whether it is filled (0 for empty), the count and the length of its
-// chunk, and 32 end sets, one for each state. In a new board every cell is 0.
+// chunk, one more than the last revision accepted there, and 32 end sets, one for each state. In a
+// new board every cell is 0.
 #[repr(C)]
 pub struct Board {
     pub places: u8,
     pub filled: [u8; limits::PLACES],
     pub counts: [u32; limits::PLACES],
     pub lengths: [u32; limits::PLACES],
+    pub revisions: [u64; limits::PLACES],
     pub ends: [u32; limits::ENDS],
 }
 
@@ -43,12 +45,14 @@ pub fn empty_board(places: u8) -> Board
     let filled = [0u8; limits::PLACES];
     let counts = [0u32; limits::PLACES];
     let lengths = [0u32; limits::PLACES];
+    let revisions = [0u64; limits::PLACES];
     let ends = [0u32; limits::ENDS];
     Board {
         places,
         filled,
         counts,
         lengths,
+        revisions,
         ends,
     }
 }
@@ -66,20 +70,22 @@ fn set_row(ends: &mut [u32; limits::ENDS], place: usize, row: &[u32; limits::STA
     }
 }
 
-// The place holds the end sets, the count and the length of a chunk, which may be empty.
-pub fn fill(board: Board, place: usize, runs: Runs) -> Board
+// The place holds the end sets, the count and the length of a chunk, which may be empty, and its
+// revision. Of what it held before nothing is left.
+pub fn fill(board: Board, place: usize, revision: u32, runs: Runs) -> Board
     requires { ⌜ place < mostPlaces ⌝ }
-    ensures { λ r. ⌜ r ≡ filledAt board place runs ⌝ }
+    ensures { λ r. ⌜ r ≡ filledAt board place revision runs ⌝ }
 {
     let mut filled = board;
     filled.filled[place] = 1;
     filled.counts[place] = runs.count;
     filled.lengths[place] = runs.bytes;
+    filled.revisions[place] = (revision as u64) + 1;
     set_row(&mut filled.ends, place, &runs.ends);
     filled
 }
 
-// The place is empty, its end sets empty, its count and its length 0.
+// The place is empty, its end sets empty, its count and its length 0; its revision stays.
 pub fn clear(board: Board, place: usize) -> Board
     requires { ⌜ place < mostPlaces ⌝ }
     ensures { λ r. ⌜ r ≡ clearedAt board place ⌝ }
@@ -99,6 +105,14 @@ pub fn is_empty(board: Board, place: usize) -> bool
     ensures { λ r. ⌜ r ≡ isEmpty board place ⌝ }
 {
     board.filled[place] == 0
+}
+
+// Whether the revision is not greater than the last one accepted at the place.
+pub fn comes_late(board: Board, place: usize, revision: u32) -> bool
+    requires { ⌜ place < mostPlaces ⌝ }
+    ensures { λ r. ⌜ r ≡ comesLate board place revision ⌝ }
+{
+    (revision as u64) < board.revisions[place]
 }
 
 // How many of the first n marks say empty.

@@ -33,8 +33,8 @@ module _ (field before after : List ℕ) (x : Bytes) (took : Took field before x
     pub install-malformed : x ≡ Malformed → (o : LineOutcome) → o ≡ lineStep j malformed → o ≡ lineStep j (installBy (parseBytes field))
     install-malformed e o l = rw (not-bytes field before after x took e) l
 
-    pub deliver-malformed : (p : ℕ) → x ≡ Malformed → (o : LineOutcome) → o ≡ lineStep j malformed → o ≡ lineStep j (deliverBy (some p) (parseBytes field))
-    deliver-malformed p e o l = rw (not-bytes field before after x took e) l
+    pub deliver-malformed : (p v : ℕ) → x ≡ Malformed → (o : LineOutcome) → o ≡ lineStep j malformed → o ≡ lineStep j (deliverBy (some p) (some v) (parseBytes field))
+    deliver-malformed p v e o l = rw (not-bytes field before after x took e) l
 
     pub install-put : 65537 ≤ length before → (n : ℕ) → x ≡ Put n → (o : LineOutcome) → o ≡ lineStep j (installBy (some (take n after)))
         → o ≡ lineStep j (installBy (parseBytes field))
@@ -51,11 +51,11 @@ module _ (field before after : List ℕ) (x : Bytes) (took : Took field before x
           let whole = l ∙ ap (loadOf j) (k .is) ∙ loads-clip j (k .bytes) (length before) (omega arith) in
           rw (k .said) (ap replyOf whole)
 
-      pub deliver-put : (p : ℕ) → record { reply = a; state = next } ≡ deliverOf j p (take n after)
-          → record { response = replied a; state = next } ≡ lineStep j (deliverBy (some p) (parseBytes field))
-      deliver-put p l =
+      pub deliver-put : (p v : ℕ) → record { reply = a; state = next } ≡ deliverOf j p v (take n after)
+          → record { response = replied a; state = next } ≡ lineStep j (deliverBy (some p) (some v) (parseBytes field))
+      deliver-put p v l =
           let k = carries field before after x took n put in
-          let whole = l ∙ ap (deliverOf j p) (k .is) ∙ delivers-clip j p (k .bytes) (length before) (omega arith) in
+          let whole = l ∙ ap (deliverOf j p v) (k .is) ∙ delivers-clip j p v (k .bytes) (length before) (omega arith) in
           rw (k .said) (ap replyOf whole)
 
 module _ (j : Judge) (b : List ℕ) where

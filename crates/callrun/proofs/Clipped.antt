@@ -49,17 +49,17 @@ by-12 true b x y j next next′ = refl
 by-12 false true x y j next next′ = refl
 by-12 false false x y j next next′ = refl
 
-pub delivers-long : (j : Judge) (p : ℕ) (v w : List ℕ) → 65536 < length v → 65536 < length w → deliverOf j p v ≡ deliverOf j p w
+pub delivers-long : (j : Judge) (p v : ℕ) (f g : List ℕ) → 65536 < length f → 65536 < length g → deliverOf j p v f ≡ deliverOf j p v g
 unfolding deliverOf
-delivers-long j p v w hv hw = rw (lt-ltb 65536 (length v) hv, lt-ltb 65536 (length w) hw) (by-12 (lacksBoard j) (leb (placesOf (j .board)) p) _ _ j _ _)
+delivers-long j p v f g hf hg = rw (lt-ltb 65536 (length f) hf, lt-ltb 65536 (length g) hg) (by-12 (lacksBoard j) (leb (placesOf (j .board)) p) _ _ j _ _)
 
-pub delivers-clip : (j : Judge) (p : ℕ) (w : List ℕ) (n : ℕ) → 65537 ≤ n → deliverOf j p (take n w) ≡ deliverOf j p w
-delivers-clip j p w n h =
+pub delivers-clip : (j : Judge) (p v : ℕ) (w : List ℕ) (n : ℕ) → 65537 ≤ n → deliverOf j p v (take n w) ≡ deliverOf j p v w
+delivers-clip j p v w n h =
     by-test (ltb n (length w))
     (λ t.
     let more = ltb-true n (length w) t in
-    delivers-long j p (take n w) w (omega (arith, length-take-le n w (omega (arith, more)))) (omega (arith, more)))
-    (λ t. ap (deliverOf j p) (take-all n w (ltb-false n (length w) t)))
+    delivers-long j p v (take n w) w (omega (arith, length-take-le n w (omega (arith, more)))) (omega (arith, more)))
+    (λ t. ap (deliverOf j p v) (take-all n w (ltb-false n (length w) t)))
 
 -- ---- install
 pub installs-long : (b : List ℕ) → 2058 < length b → installBy (some b) ≡ malformed

@@ -29,16 +29,16 @@ install-asks : (bytes : Option (List ℕ)) → verdictAsked (installBy bytes) �
 install-asks none = refl
 install-asks (some b) = either (eqb (length b) 2058) (λ t. verdictAsked (cond t (call (installs (ruleAt b))) malformed) ≡ false) refl refl
 
-deliver-asks : (p : ℕ) (bytes : Option (List ℕ)) → verdictAsked (deliverBy (some p) bytes) ≡ false
-deliver-asks p none = refl
-deliver-asks p (some w) = refl
+deliver-asks : (p v : ℕ) (bytes : Option (List ℕ)) → verdictAsked (deliverBy (some p) (some v) bytes) ≡ false
+deliver-asks p v none = refl
+deliver-asks p v (some w) = refl
 
 abbrev isVerdict : Line → Bool
 isVerdict Empty = false
 isVerdict Load = false
 isVerdict Install = false
 isVerdict (Open n) = false
-isVerdict (Deliver p from) = false
+isVerdict (Deliver p v from) = false
 isVerdict (Withdraw p) = false
 isVerdict Verdict = true
 isVerdict Malformed = false
@@ -48,7 +48,7 @@ meant-asks w Empty = refl
 meant-asks w Load = sym (load-asks (parseBytes (drop 5 w)))
 meant-asks w Install = sym (install-asks (parseBytes (drop 8 w)))
 meant-asks w (Open n) = refl
-meant-asks w (Deliver p from) = sym (deliver-asks p (parseBytes (drop from w)))
+meant-asks w (Deliver p v from) = sym (deliver-asks p v (parseBytes (drop from w)))
 meant-asks w (Withdraw p) = refl
 meant-asks w Verdict = refl
 meant-asks w Malformed = refl
@@ -64,8 +64,8 @@ module _ (w : List ℕ) (x : Line) (parsed : Parsed w x) where
   pub install-inside : x ≡ Install → 8 ≤ length w
   install-inside e = subst (λ (y : Line). bytesFrom y ≤ length w) e (parsed .inside)
 
-  pub deliver-inside : (p from : ℕ) → x ≡ Deliver p from → from ≤ length w
-  deliver-inside p from e = subst (λ (y : Line). bytesFrom y ≤ length w) e (parsed .inside)
+  pub deliver-inside : (p v from : ℕ) → x ≡ Deliver p v from → from ≤ length w
+  deliver-inside p v from e = subst (λ (y : Line). bytesFrom y ≤ length w) e (parsed .inside)
 
   module _ (j : Judge) (o : LineOutcome) where
     by : (y : Line) → x ≡ y → o ≡ lineStep j (lineMeans w y) → o ≡ lineStep j (lineIn w)
@@ -83,9 +83,9 @@ module _ (w : List ℕ) (x : Line) (parsed : Parsed w x) where
     pub line-open : (n : ℕ) → x ≡ Open n → o ≡ lineStep j (call (opens n)) → o ≡ lineStep j (lineIn w)
     line-open n e = by (Open n) e
 
-    pub line-deliver : (p from : ℕ) → x ≡ Deliver p from
-        → o ≡ lineStep j (deliverBy (some p) (parseBytes (take (length w - from) (drop from w)))) → o ≡ lineStep j (lineIn w)
-    line-deliver p from e l = by (Deliver p from) e (l ∙ ap (λ (v : List ℕ). lineStep j (deliverBy (some p) (parseBytes v))) (to-the-end w from))
+    pub line-deliver : (p v from : ℕ) → x ≡ Deliver p v from
+        → o ≡ lineStep j (deliverBy (some p) (some v) (parseBytes (take (length w - from) (drop from w)))) → o ≡ lineStep j (lineIn w)
+    line-deliver p v from e l = by (Deliver p v from) e (l ∙ ap (λ (u : List ℕ). lineStep j (deliverBy (some p) (some v) (parseBytes u))) (to-the-end w from))
 
     pub line-withdraw : (p : ℕ) → x ≡ Withdraw p → o ≡ lineStep j (call (withdraws p)) → o ≡ lineStep j (lineIn w)
     line-withdraw p e = by (Withdraw p) e
@@ -100,7 +100,7 @@ module _ (w : List ℕ) (x : Line) (parsed : Parsed w x) where
 call-asks : (j : Judge) (c : Call) → isAsks c ≡ true → replyOf (stepOf j c) ≡ record { response = replied (judged (reportOf j)); state = j }
 call-asks j (installs r) e = not-both e refl
 call-asks j (opens n) e = not-both e refl
-call-asks j (delivers p w) e = not-both e refl
+call-asks j (delivers p v w) e = not-both e refl
 call-asks j (withdraws p) e = not-both e refl
 call-asks j asksVerdict e = refl
 

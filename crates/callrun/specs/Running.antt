@@ -39,7 +39,7 @@ lineStep j malformed = record { response = unread; state = j }
 abbrev pub isAsks : Call → Bool
 isAsks (installs r) = false
 isAsks (opens n) = false
-isAsks (delivers p w) = false
+isAsks (delivers p v w) = false
 isAsks (withdraws p) = false
 isAsks asksVerdict = true
 

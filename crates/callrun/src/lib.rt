@@ -92,16 +92,16 @@ fn run_open(judge: Judge, places: u64) -> LineRun
     LineRun { answer, judge }
 }
 
-fn run_deliver(judge: Judge, place: u64, field: &[u8], buffer: &mut [u8]) -> LineRun
+fn run_deliver(judge: Judge, place: u64, revision: u32, field: &[u8], buffer: &mut [u8]) -> LineRun
     requires { ⌜ bytesRoom ≤ length (now buffer) ⌝ }
-    ensures { λ r. ⌜ runOutcome r ≡ lineStep judge (deliverBy (some place) (parseBytes (now (field .entry)))) ⌝ }
+    ensures { λ r. ⌜ runOutcome r ≡ lineStep judge (deliverBy (some place) (some revision) (parseBytes (now (field .entry)))) ⌝ }
     ensures scratch { λ r. ⌜ Scratch (now (buffer .entry)) (now (buffer .exit)) ⌝ }
 {
     let bytes = fields::read_bytes(field, buffer);
     match bytes {
         Bytes::Malformed => run_malformed(judge),
         Bytes::Put(n) => {
-            let delivery = judge::deliver(judge, place as usize, &buffer[..n]);
+            let delivery = judge::deliver(judge, place as usize, revision, &buffer[..n]);
             let said = delivery.answer;
             let answer = LineAnswer::Deliver(said);
             let judge = delivery.judge;
@@ -140,7 +140,13 @@ pub fn run_line(judge: Judge, line: &[u8], buffer: &mut [u8]) -> LineRun
         Line::Load => run_load(judge, &line[5..], buffer),
         Line::Install => run_install(judge, &line[8..], buffer),
         Line::Open(places) => run_open(judge, places),
-        Line::Deliver(place, from) => run_deliver(judge, place, &line[from..], buffer),
+        Line::Deliver(place, revision, from) => run_deliver(
+            judge,
+            place,
+            revision,
+            &line[from..],
+            buffer,
+        ),
         Line::Withdraw(place) => run_withdraw(judge, place),
         Line::Verdict => run_verdict(judge),
         Line::Malformed => run_malformed(judge),
@@ -158,7 +164,7 @@ pub fn asks_verdict(line: &[u8]) -> bool
         Line::Load => false,
         Line::Install => false,
         Line::Open(_) => false,
-        Line::Deliver(_, _) => false,
+        Line::Deliver(_, _, _) => false,
         Line::Withdraw(_) => false,
         Line::Verdict => true,
         Line::Malformed => false,

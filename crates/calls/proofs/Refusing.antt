@@ -5,13 +5,12 @@
 --   unchanged, load-unchanged   the claims
 use mathlib.Core.Path.{_≡_, refl, ap, _∙_}
 use mathlib.Core.Logic.{_↔_, _⊎_, inl, inr, ⊎-elim}
-use mathlib.Core.Bool.{not}
 use mathlib.Core.Option.{Option, none, some}
 use Prim.Native.Nat.{ℕ}
 use Rattle.base.proofs.Options.{none-some}
 use Rattle.base.specs.Conditions.{firstOf}
 use Rattle.ruleformat.specs.Reader.{ruleOf}
-use Rattle.board.specs.Boards.{placesOf, isEmpty, emptyBoard, filledAt, clearedAt}
+use Rattle.board.specs.Boards.{placesOf, isEmpty, comesLate, emptyBoard, filledAt, clearedAt}
 use Rattle.calls.specs.declared.Judge.{Judge}
 use Rattle.calls.specs.Replies.{Judgement, waiting, yesWith, noWith, refusedWith, refusalIn, Reported, Reply, accepted, installed, judged, refused, refusalOf, delivered}
 use Rattle.calls.specs.Calls.{installs, opens, delivers, withdraws, asksVerdict, installNumber, loadNumber, openConditions, deliverConditions, withdrawConditions}
@@ -44,13 +43,13 @@ pub unchanged : Unchanged
 unfolding installOf openOf deliverOf withdrawOf
 unchanged j (installs r) = by-number (installNumber r) (installReply r) j (withRule r) refl
 unchanged j (opens n) = by-number (firstOf (openConditions (lacksRule j) n)) accepted j (withBoard j (emptyBoard n)) refl
-unchanged j (delivers p w) =
+unchanged j (delivers p v w) =
     by-number
     (firstOf
-    (deliverConditions (lacksBoard j) (placesOf (j .board)) p w (j .built .k) (not (isEmpty (j .board) p))))
+    (deliverConditions (lacksBoard j) (placesOf (j .board)) p w (j .built .k) (comesLate (j .board) p v)))
     (delivered (runsAt j p w .looked))
     j
-    (withBoard j (filledAt (j .board) p (runsAt j p w)))
+    (withBoard j (filledAt (j .board) p v (runsAt j p w)))
     refl
 unchanged j (withdraws p) =
     by-number (firstOf (withdrawConditions (lacksBoard j) (placesOf (j .board)) p (isEmpty (j .board) p))) accepted j

@@ -12,7 +12,7 @@
 --   install-unchecked, install-unbuilt, installed           installOf
 --   load-unread, load-read                                  loadOf
 use mathlib.Core.Path.{_≡_, sym, ap, _∙_}
-use mathlib.Core.Bool.{Bool, true, false, cond, not}
+use mathlib.Core.Bool.{Bool, true, false, cond}
 use mathlib.Core.List.{List}
 use mathlib.Core.Option.{none, some}
 use Prim.Native.Nat.{ℕ, _/_, _%_, _≤_, _<_}
@@ -35,7 +35,7 @@ use Rattle.marks.specs.Marks.{textOf}
 use Rattle.chunks.specs.Chunks.{foreign}
 use Rattle.chunks.specs.Walks.{runMask, runsOf}
 use Rattle.board.specs.declared.Board.{Board}
-use Rattle.board.specs.Boards.{placesOf, isEmpty, emptyBoard, filledAt, clearedAt, emptyPlaces, summedCount}
+use Rattle.board.specs.Boards.{placesOf, isEmpty, comesLate, emptyBoard, filledAt, clearedAt, emptyPlaces, summedCount}
 use Rattle.calls.specs.declared.Judge.{Judge}
 use Rattle.calls.specs.declared.Verdict.{Verdict}
 use Rattle.calls.specs.declared.Verdict.the-variants as verdict
@@ -96,37 +96,37 @@ pub runs-by : (b : Built) (p : ℕ) (w : List ℕ) (mask : ℕ) → mask ≡ run
     → r ≡ runsOf (b .sets) (b .next) (b .singles) (runMask (b .delegates) (b .n) (b .initials) p) w
 runs-by b p w mask is r e = rw is at e
 
-module _ (j : Judge) (p : ℕ) (w : List ℕ) where
-  pub deliver-21 : j .board .places ≡ 0 → (r : Outcome) → r ≡ record { reply = reply.refused 21; state = j } → r ≡ deliverOf j p w
+module _ (j : Judge) (p v : ℕ) (w : List ℕ) where
+  pub deliver-21 : j .board .places ≡ 0 → (r : Outcome) → r ≡ record { reply = reply.refused 21; state = j } → r ≡ deliverOf j p v w
   unfolding deliverOf
   deliver-21 a r e = e ∙ rw (eq-eqb _ _ a)
 
   module _ (a : j .board .places ≡ 0 → ⊥) (n : ℕ) (places : n ≡ placesOf (j .board)) where
-    pub deliver-11 : n ≤ p → (r : Outcome) → r ≡ record { reply = reply.refused 11; state = j } → r ≡ deliverOf j p w
+    pub deliver-11 : n ≤ p → (r : Outcome) → r ≡ record { reply = reply.refused 11; state = j } → r ≡ deliverOf j p v w
     unfolding deliverOf
     deliver-11 b r e = e ∙ rw (ne-eqb _ _ a, ← places, le-leb _ _ b)
 
     module _ (b : p < n) where
-      pub deliver-12 : 65536 < length w → (r : Outcome) → r ≡ record { reply = reply.refused 12; state = j } → r ≡ deliverOf j p w
+      pub deliver-12 : 65536 < length w → (r : Outcome) → r ≡ record { reply = reply.refused 12; state = j } → r ≡ deliverOf j p v w
       unfolding deliverOf
       deliver-12 c r e = e ∙ rw (ne-eqb _ _ a, ← places, lt-leb _ _ b, lt-ltb _ _ c)
 
-      -- from here on by the chunk's text v
-      module _ (c : length w ≤ 65536) (v : List ℕ) (text : textOf w ≡ v) (f : Bool) (has : f ≡ foreign v (j .built .k)) where
-        pub deliver-13 : f ≡ true → (r : Outcome) → r ≡ record { reply = reply.refused 13; state = j } → r ≡ deliverOf j p w
+      -- from here on by the chunk's text t
+      module _ (c : length w ≤ 65536) (t : List ℕ) (text : textOf w ≡ t) (f : Bool) (has : f ≡ foreign t (j .built .k)) where
+        pub deliver-13 : f ≡ true → (r : Outcome) → r ≡ record { reply = reply.refused 13; state = j } → r ≡ deliverOf j p v w
         unfolding deliverOf
         deliver-13 d r e = e ∙ rw (ne-eqb _ _ a, ← places, lt-leb _ _ b, le-ltb _ _ c, text, ← has, d)
 
-        module _ (d : f ≡ false) (x : Bool) (empty : x ≡ isEmpty (j .board) p) where
-          pub deliver-22 : not x ≡ true → (r : Outcome) → r ≡ record { reply = reply.refused 22; state = j } → r ≡ deliverOf j p w
+        module _ (d : f ≡ false) (x : Bool) (late : x ≡ comesLate (j .board) p v) where
+          pub deliver-22 : x ≡ true → (r : Outcome) → r ≡ record { reply = reply.refused 22; state = j } → r ≡ deliverOf j p v w
           unfolding deliverOf
-          deliver-22 g r e = e ∙ rw (ne-eqb _ _ a, ← places, lt-leb _ _ b, le-ltb _ _ c, text, ← has, d, ← empty, g)
+          deliver-22 g r e = e ∙ rw (ne-eqb _ _ a, ← places, lt-leb _ _ b, le-ltb _ _ c, text, ← has, d, ← late, g)
 
-          pub delivered : not x ≡ false → (runs : Runs)
-              → runs ≡ runsOf (j .built .sets) (j .built .next) (j .built .singles) (runMask (j .built .delegates) (j .built .n) (j .built .initials) p) v → (l : Board) → l ≡ filledAt (j .board) p runs → (s : Judge) → s ≡ withBoard j l
-              → record { reply = reply.delivered (runs .looked); state = s } ≡ deliverOf j p w
+          pub delivered : x ≡ false → (runs : Runs)
+              → runs ≡ runsOf (j .built .sets) (j .built .next) (j .built .singles) (runMask (j .built .delegates) (j .built .n) (j .built .initials) p) t → (l : Board) → l ≡ filledAt (j .board) p v runs → (s : Judge) → s ≡ withBoard j l
+              → record { reply = reply.delivered (runs .looked); state = s } ≡ deliverOf j p v w
           unfolding deliverOf
-          delivered g runs ran l is s e = rw (text, e, is, ran, ne-eqb _ _ a, ← places, lt-leb _ _ b, le-ltb _ _ c, ← has, d, ← empty, g)
+          delivered g runs ran l is s e = rw (text, e, is, ran, ne-eqb _ _ a, ← places, lt-leb _ _ b, le-ltb _ _ c, ← has, d, ← late, g)
 
 -- ---- verdict
 module _ (j : Judge) where

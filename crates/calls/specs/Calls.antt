@@ -39,7 +39,8 @@ use Rattle.calls.specs.Replies.{Judgement, waiting, yesWith, noWith, ref
 pub data Call : Type 0 where
   installs : Rule → Call
   opens : ℕ → Call
-  delivers : ℕ → List ℕ → Call
+  -- the place, the revision and the chunk
+  delivers : ℕ → ℕ → List ℕ → Call
   withdraws : ℕ → Call
   asksVerdict : Call
 
@@ -61,15 +62,16 @@ abbrev pub openConditions : Bool → ℕ → List Condition
 openConditions lacks n = on 20 lacks ∷ on 10 (outside 1 mostPlaces n) ∷ []
 
 -- no board is there; it has so many places; the chunk w for place p, whose length counts every byte
--- and whose text is without its idle marks; the rule has k symbols; a chunk stands at p. (Document
--- 01's last number, 24, went with R-4: crates/histories/specs/CountBound.antt)
+-- and whose text is without its idle marks; the rule has k symbols; the revision comes late: it is
+-- not greater than the last one accepted at p (document 02, R-11). (Document 01's last number, 24,
+-- went with R-4: crates/histories/specs/CountBound.antt)
 abbrev pub deliverConditions : Bool → ℕ → ℕ → List ℕ → ℕ → Bool → List Condition
-deliverConditions lacks places p w k filled =
+deliverConditions lacks places p w k late =
     on 21 lacks ∷
     on 11 (leb places p) ∷
     on 12 (ltb longestChunk (length w)) ∷
     on 13 (foreign (textOf w) k) ∷
-    on 22 filled ∷ []
+    on 22 late ∷ []
 
 -- no board is there; it has so many places; no chunk stands at place p
 abbrev pub withdrawConditions : Bool → ℕ → ℕ → Bool → List Condition

@@ -13,7 +13,7 @@
 --   verdictOf          what the verdict says
 --   reportOf           what the call verdict reports
 --   stepOf j c         the outcome of the call c on the state j
-use mathlib.Core.Bool.{Bool, not}
+use mathlib.Core.Bool.{Bool}
 use mathlib.Core.List.{List}
 use mathlib.Core.Option.{Option, none, some}
 use Prim.Native.Nat.{ℕ}
@@ -26,7 +26,7 @@ use Rattle.build.specs.Building.{builtOf, noBuilt}
 use Rattle.chunks.specs.declared.Runs.{Runs}
 use Rattle.chunks.specs.Walks.{runMask, runsOf}
 use Rattle.board.specs.declared.Board.{Board}
-use Rattle.board.specs.Boards.{placesOf, isEmpty, emptyBoard, filledAt, clearedAt, emptyPlaces, summedCount, summedBytes}
+use Rattle.board.specs.Boards.{placesOf, isEmpty, comesLate, emptyBoard, filledAt, clearedAt, emptyPlaces, summedCount, summedBytes}
 use Rattle.joins.specs.Joining.{saysYes}
 use Rattle.calls.specs.declared.Judge.{Judge}
 use Rattle.calls.specs.declared.InstallResult.{InstallResult}
@@ -97,14 +97,14 @@ abbrev pub runsAt : Judge → ℕ → List ℕ → Runs
 runsAt j p w =
     runsOf (j .built .sets) (j .built .next) (j .built .singles) (runMask (j .built .delegates) (j .built .n) (j .built .initials) p) (textOf w)
 
-unfoldable pub deliverOf : Judge → ℕ → List ℕ → Outcome
-deliverOf j p w =
+unfoldable pub deliverOf : Judge → ℕ → ℕ → List ℕ → Outcome
+deliverOf j p v w =
     outcomeBy
     (firstOf
-    (deliverConditions (lacksBoard j) (placesOf (j .board)) p w (j .built .k) (not (isEmpty (j .board) p))))
+    (deliverConditions (lacksBoard j) (placesOf (j .board)) p w (j .built .k) (comesLate (j .board) p v)))
     (delivered (runsAt j p w .looked))
     j
-    (withBoard j (filledAt (j .board) p (runsAt j p w)))
+    (withBoard j (filledAt (j .board) p v (runsAt j p w)))
 
 -- ---- withdraw
 unfoldable pub withdrawOf : Judge → ℕ → Outcome
@@ -129,6 +129,6 @@ reportOf j = reportBy (verdictOf j) (summedBytes (j .board))
 abbrev pub stepOf : Judge → Call → Outcome
 stepOf j (installs r) = installOf j r
 stepOf j (opens n) = openOf j n
-stepOf j (delivers p w) = deliverOf j p w
+stepOf j (delivers p v w) = deliverOf j p v w
 stepOf j (withdraws p) = withdrawOf j p
 stepOf j asksVerdict = record { reply = judged (reportOf j); state = j }

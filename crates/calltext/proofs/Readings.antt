@@ -1,11 +1,11 @@
 -- What the ways through `parse` come to. Assumes nothing.
-use mathlib.Core.Path.{_≡_, sym, ap, _∙_}
+use mathlib.Core.Path.{_≡_, refl, sym, ap, _∙_}
 use mathlib.Core.Bool.{Bool, true, false, true≢false}
 use mathlib.Core.List.{List}
-use mathlib.Core.Option.{Option, some}
+use mathlib.Core.Option.{Option, none, some}
 use Prim.Native.Nat.{ℕ, suc, _+_, _-_, _≤_, _<_}
 use native.Mathlib.Omega.{arith}
-use borrow.Author.Tests.{eq-eqb, ne-eqb, ltb-true, ltb-false}
+use borrow.Author.Tests.{eq-eqb, ne-eqb, ltb-true, ltb-false, le-leb, lt-leb}
 use lib.Dec.{ltb}
 use lib.ListN.{length, take, drop, length-drop}
 use lib.Seq.{take-all, drop-drop}
@@ -20,9 +20,9 @@ use Rattle.fields.specs.Bytes.{parseBytes}
 use Rattle.calls.specs.Calls.{opens, withdraws}
 use Rattle.calltext.specs.declared.Line.{Line}
 use Rattle.calltext.specs.declared.Line.the-variants.{Empty, Load, Install, Verdict, Malformed}
-use Rattle.calltext.specs.Meaning.{call, malformed, load-word, install-word, open-word, deliver-word, withdraw-word, verdict-word, openBy, withdrawBy, deliverBy, deliverFields, callIn, lineIn, lineMeans, bytesFrom, Parsed}
+use Rattle.calltext.specs.Meaning.{Meaning, call, malformed, load-word, install-word, open-word, deliver-word, withdraw-word, verdict-word, openBy, withdrawBy, deliverBy, revisionFields, deliverFields, callIn, lineIn, lineMeans, bytesFrom, Parsed}
 
--- ---- the number of an opening, a withdrawal and a delivery
+-- ---- the number of an opening and of a withdrawal
 module _ (field : List ℕ) (x : Number) (said : numberMeans x ≡ parseNumber field) where
   pub open-value : (n : ℕ) → x ≡ Value n → call (opens n) ≡ openBy (parseNumber field)
   open-value n e = ap openBy (sym (ap numberMeans e) ∙ said)
@@ -36,32 +36,63 @@ module _ (field : List ℕ) (x : Number) (said : numberMeans x ≡ parseNumber f
   pub withdraw-malformed : x ≡ number.Malformed → malformed ≡ withdrawBy (parseNumber field)
   withdraw-malformed e = ap withdrawBy (sym (ap numberMeans e) ∙ said)
 
--- `space` is the index of the first space from 8 on
-module _ (w : List ℕ) (long : 8 ≤ length w) (space : ℕ) (found : space ≡ 8 + length (upTo 32 (drop 8 w))) where
-  rest-length : length (drop 8 w) + 8 ≡ length w
-  rest-length = omega (arith, length-drop 8 w)
+-- ---- the fields of a delivery
+pub no-place : (v : List ℕ) (o : Option (List ℕ)) → revisionFields none v o ≡ malformed
+no-place v none = refl
+no-place v (some w) = refl
 
-  pub deliver-alone : length w ≤ space → malformed ≡ deliverFields (upTo 32 (drop 8 w)) (past 32 (drop 8 w))
-  deliver-alone l = rw (past-none 32 (drop 8 w) (omega (arith, rest-length)))
+pub bad-revision : (p : Option ℕ) (bytes : Option (List ℕ)) → deliverBy p none bytes ≡ malformed
+bad-revision none bytes = refl
+bad-revision (some p) bytes = refl
+
+-- `space` is the index of the first space from `from` on
+module _ (w : List ℕ) (from : ℕ) (long : from ≤ length w) (space : ℕ) (found : space ≡ from + length (upTo 32 (drop from w))) where
+  rest-length : length (drop from w) + from ≡ length w
+  rest-length = omega (arith, length-drop from w)
+
+  none-behind : length w ≤ space → past 32 (drop from w) ≡ none
+  none-behind l = past-none 32 (drop from w) (omega (arith, rest-length))
+
+  pub deliver-alone : length w ≤ space → malformed ≡ deliverFields (upTo 32 (drop from w)) (past 32 (drop from w))
+  deliver-alone l = rw (none-behind l)
+
+  pub revision-alone : (p : ℕ) → length w ≤ space → malformed ≡ revisionFields (some p) (upTo 32 (drop from w)) (past 32 (drop from w))
+  revision-alone p l = rw (none-behind l)
 
   module _ (here : space < length w) where
-    fields-are : deliverFields (upTo 32 (drop 8 w)) (past 32 (drop 8 w)) ≡ deliverBy (parseNumber (take (space - 8) (drop 8 w))) (parseBytes (drop (space + 1) w))
-    fields-are =
-        let m = length (upTo 32 (drop 8 w)) in
-        let next : 8 + suc m ≡ space + 1 = omega (arith, found) in
-        let size : space - 8 ≡ m = omega (arith, found) in
-        let part : take (space - 8) (drop 8 w) ≡ upTo 32 (drop 8 w) = ap (λ (x : ℕ). take x (drop 8 w)) size ∙ sym (up-take 32 (drop 8 w)) in
-        let rest : past 32 (drop 8 w) ≡ some (drop (space + 1) w) =
-        past-there 32 (drop 8 w) (omega (arith, rest-length))
-        ∙ ap (λ (l : List ℕ). some l) (drop-drop (suc m) 8 w ∙ ap (λ (x : ℕ). drop x w) next) in
-        rw (rest, part)
+    part-is : take (space - from) (drop from w) ≡ upTo 32 (drop from w)
+    part-is =
+        let size : space - from ≡ length (upTo 32 (drop from w)) = omega (arith, found) in
+        ap (λ (x : ℕ). take x (drop from w)) size ∙ sym (up-take 32 (drop from w))
 
-    module _ (x : Number) (said : numberMeans x ≡ parseNumber (take (space - 8) (drop 8 w))) where
-      pub deliver-value : (p : ℕ) → x ≡ Value p → deliverBy (some p) (parseBytes (drop (space + 1) w)) ≡ deliverFields (upTo 32 (drop 8 w)) (past 32 (drop 8 w))
-      deliver-value p e = ap (λ (o : Option ℕ). deliverBy o (parseBytes (drop (space + 1) w))) (sym (ap numberMeans e) ∙ said) ∙ sym fields-are
+    behind-is : past 32 (drop from w) ≡ some (drop (space + 1) w)
+    behind-is =
+        let m = length (upTo 32 (drop from w)) in
+        let next : from + suc m ≡ space + 1 = omega (arith, found) in
+        past-there 32 (drop from w) (omega (arith, rest-length))
+        ∙ ap (λ (l : List ℕ). some l) (drop-drop (suc m) from w ∙ ap (λ (x : ℕ). drop x w) next)
 
-      pub deliver-malformed : x ≡ number.Malformed → malformed ≡ deliverFields (upTo 32 (drop 8 w)) (past 32 (drop 8 w))
-      deliver-malformed e = ap (λ (o : Option ℕ). deliverBy o (parseBytes (drop (space + 1) w))) (sym (ap numberMeans e) ∙ said) ∙ sym fields-are
+    module _ (x : Number) (said : numberMeans x ≡ parseNumber (take (space - from) (drop from w))) where
+      says : (o : Option ℕ) → numberMeans x ≡ o → parseNumber (upTo 32 (drop from w)) ≡ o
+      says o e = sym (said ∙ ap parseNumber part-is) ∙ e
+
+      pub deliver-on : (p : ℕ) → x ≡ Value p → (m : Meaning) → m ≡ revisionFields (some p) (upTo 32 (drop (space + 1) w)) (past 32 (drop (space + 1) w))
+          → m ≡ deliverFields (upTo 32 (drop from w)) (past 32 (drop from w))
+      deliver-on p e m l = rw (behind-is, says (some p) (ap numberMeans e)) l
+
+      pub deliver-malformed : x ≡ number.Malformed → malformed ≡ deliverFields (upTo 32 (drop from w)) (past 32 (drop from w))
+      deliver-malformed e = rw (behind-is, says none (ap numberMeans e)) (sym (no-place (upTo 32 (drop (space + 1) w)) (past 32 (drop (space + 1) w))))
+
+      module _ (p : ℕ) where
+        pub revision-malformed : x ≡ number.Malformed → malformed ≡ revisionFields (some p) (upTo 32 (drop from w)) (past 32 (drop from w))
+        revision-malformed e = rw (behind-is, says none (ap numberMeans e))
+
+        pub revision-large : (v : ℕ) → x ≡ Value v → 4294967295 < v → malformed ≡ revisionFields (some p) (upTo 32 (drop from w)) (past 32 (drop from w))
+        revision-large v e h = rw (behind-is, says (some v) (ap numberMeans e), lt-leb v 4294967295 h)
+
+        pub revision-value : (v : ℕ) → x ≡ Value v → v ≤ 4294967295
+            → deliverBy (some p) (some v) (parseBytes (drop (space + 1) w)) ≡ revisionFields (some p) (upTo 32 (drop from w)) (past 32 (drop from w))
+        revision-value v e h = rw (behind-is, says (some v) (ap numberMeans e), le-leb v 4294967295 h)
 
 -- a part of a line up to its end
 pub to-the-end : (w : List ℕ) (from : ℕ) → take (length w - from) (drop from w) ≡ drop from w

@@ -1,6 +1,6 @@
--- What a line means: `install HEX`, `open N`, `deliver P HEX`, `withdraw P` and `verdict` record a
--- call, with exactly one space between the fields; `load HEX` has a rule file, and an empty line
--- means a fresh judge. Any other line is malformed.
+-- What a line means: `install HEX`, `open N`, `deliver P REVISION HEX`, `withdraw P` and `verdict`
+-- record a call, with exactly one space between the fields; `load HEX` has a rule file, and an empty
+-- line means a fresh judge. Any other line is malformed.
 --
 --   Meaning            of a line
 --     again            a fresh judge begins
@@ -8,7 +8,9 @@
 --     load f           the file f is to be read and its rule installed, which is no call by itself
 --     malformed        it means nothing
 --   …-word             the word with which a line begins
---   …By, deliverFields the meaning, from what the fields say
+--   revisionBy         the revision that a field says (document 02, R-11), from the number that it
+--                      says: that number, where 32 bits hold it
+--   …By, deliverFields, revisionFields   the meaning, from what the fields say
 --   callIn w           what the line w means, where it is not empty
 --   lineIn w           what the line w means
 --   lineMeans w r      what each case of the code's answer says of the line w
@@ -19,8 +21,9 @@ use mathlib.Core.Bool.{cond}
 use mathlib.Core.List.{List, [], _∷_}
 use mathlib.Core.Option.{Option, none, some}
 use Prim.Native.Nat.{ℕ, _≤_}
-use lib.Dec.{eqb}
+use lib.Dec.{eqb, leb}
 use lib.ListN.{length, drop}
+use Rattle.limits.specs.Limits.{largestRevision}
 use Rattle.packed.specs.Packed.{packedSize, ruleAt}
 use Rattle.lines.specs.Splitting.{begins, upTo, past}
 use Rattle.fields.specs.Numbers.{parseNumber}
@@ -72,15 +75,26 @@ abbrev pub withdrawBy : Option ℕ → Meaning
 withdrawBy none = malformed
 withdrawBy (some p) = call (withdraws p)
 
-abbrev pub deliverBy : Option ℕ → Option (List ℕ) → Meaning
-deliverBy none bytes = malformed
-deliverBy (some p) none = malformed
-deliverBy (some p) (some w) = call (delivers p w)
+abbrev pub revisionBy : Option ℕ → Option ℕ
+revisionBy none = none
+revisionBy (some v) = cond (leb v largestRevision) (some v) none
 
--- a place, and behind one space the bytes
+-- the place, the revision and the bytes
+abbrev pub deliverBy : Option ℕ → Option ℕ → Option (List ℕ) → Meaning
+deliverBy none revision bytes = malformed
+deliverBy (some p) none bytes = malformed
+deliverBy (some p) (some v) none = malformed
+deliverBy (some p) (some v) (some w) = call (delivers p v w)
+
+-- what the place says; a revision, and behind one space the bytes
+abbrev pub revisionFields : Option ℕ → List ℕ → Option (List ℕ) → Meaning
+revisionFields p v none = malformed
+revisionFields p v (some w) = deliverBy p (revisionBy (parseNumber v)) (parseBytes w)
+
+-- a place, and behind one space the revision and what follows it
 abbrev pub deliverFields : List ℕ → Option (List ℕ) → Meaning
 deliverFields p none = malformed
-deliverFields p (some w) = deliverBy (parseNumber p) (parseBytes w)
+deliverFields p (some w) = revisionFields (parseNumber p) (upTo 32 w) (past 32 w)
 
 -- the five calls and a load
 unfoldable pub callIn : List ℕ → Meaning
@@ -102,7 +116,7 @@ lineMeans w Empty = again
 lineMeans w Load = loadBy (parseBytes (drop 5 w))
 lineMeans w Install = installBy (parseBytes (drop 8 w))
 lineMeans w (Open n) = call (opens n)
-lineMeans w (Deliver p from) = deliverBy (some p) (parseBytes (drop from w))
+lineMeans w (Deliver p v from) = deliverBy (some p) (some v) (parseBytes (drop from w))
 lineMeans w (Withdraw p) = call (withdraws p)
 lineMeans w Verdict = call asksVerdict
 lineMeans w Malformed = malformed
@@ -112,7 +126,7 @@ bytesFrom Empty = 0
 bytesFrom Load = 5
 bytesFrom Install = 8
 bytesFrom (Open n) = 0
-bytesFrom (Deliver p from) = from
+bytesFrom (Deliver p v from) = from
 bytesFrom (Withdraw p) = 0
 bytesFrom Verdict = 0
 bytesFrom Malformed = 0

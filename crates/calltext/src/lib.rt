@@ -2,13 +2,14 @@
 // written.
 ghost use mathlib.Core.Path.{_≡_};
 ghost use mathlib.Core.List.{List, [], _∷_, _++_};
+ghost use mathlib.Core.Option.{some};
 ghost use Prim.Native.Nat.{ℕ, _+_, _≤_};
 ghost use lib.ListN.{length, drop};
 ghost use Rattle.limits.specs.Limits.{answerRoom};
 ghost use Rattle.text.specs.Writing.{Wrote};
 ghost use Rattle.fields.specs.Numbers.{parseNumber};
 ghost use Rattle.lines.specs.Splitting.{upTo, past};
-ghost use Rattle.calltext.specs.Meaning.{openBy, withdrawBy, deliverFields, lineMeans, bytesFrom, Parsed};
+ghost use Rattle.calltext.specs.Meaning.{openBy, withdrawBy, revisionFields, deliverFields, lineMeans, bytesFrom, Parsed};
 ghost use Rattle.calltext.specs.Answers.{behind, replied, responseText, answerMeans};
 ghost use Rattle.calls.specs.Replies.{accepted, installed, judged, refused, installMeans, openMeans, deliverMeans, withdrawMeans, reportMeans, delivered};
 use calls::DeliverAnswer;
@@ -20,13 +21,13 @@ use calls::WithdrawAnswer;
 use fields::Number;
 
 // A line. The bytes of a load begin at index 5, those of an installation at 8, those of a delivery
-// at the index beside its place.
+// at the index beside its place and its revision.
 pub enum Line {
     Empty,
     Load,
     Install,
     Open(u64),
-    Deliver(u64, usize),
+    Deliver(u64, u32, usize),
     Withdraw(u64),
     Verdict,
     Malformed,
@@ -52,7 +53,26 @@ fn withdrawal(field: &[u8]) -> Line
     }
 }
 
-// A place up to the next space, and bytes behind it.
+// A delivery at the place: from an index on a revision up to the next space, and bytes behind it.
+fn delivery_at(line: &[u8], place: u64, from: usize) -> Line
+    requires { ⌜ from ≤ length (now line) ⌝ }
+    ensures { λ r. ⌜ (bytesFrom r ≤ length (now (line .entry))) × (lineMeans (now (line .entry)) r ≡ revisionFields (some place) (upTo 32 (drop from (now (line .entry)))) (past 32 (drop from (now (line .entry))))) ⌝ }
+{
+    let space = lines::find(line, from, b' ');
+    if line.len() <= space {
+        return Line::Malformed;
+    }
+    let number = fields::read_number(&line[from..space]);
+    let Number::Value(revision) = number else {
+        return Line::Malformed;
+    };
+    if limits::REVISION < revision {
+        return Line::Malformed;
+    }
+    Line::Deliver(place, revision as u32, space + 1)
+}
+
+// A place up to the next space, and behind it a revision and bytes.
 fn delivery(line: &[u8]) -> Line
     requires { ⌜ 8 ≤ length (now line) ⌝ }
     ensures { λ r. ⌜ (bytesFrom r ≤ length (now (line .entry))) × (lineMeans (now (line .entry)) r ≡ deliverFields (upTo 32 (drop 8 (now (line .entry)))) (past 32 (drop 8 (now (line .entry))))) ⌝ }
@@ -63,7 +83,7 @@ fn delivery(line: &[u8]) -> Line
     }
     let number = fields::read_number(&line[8..space]);
     match number {
-        Number::Value(p) => Line::Deliver(p, space + 1),
+        Number::Value(p) => delivery_at(line, p, space + 1),
         Number::Malformed => Line::Malformed,
     }
 }

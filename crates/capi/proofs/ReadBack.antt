@@ -10,7 +10,7 @@ use Rattle.automaton.specs.declared.Rule.{Rule}
 use Rattle.ruleformat.specs.Refusals.{refusal}
 use Rattle.ruleformat.specs.Reader.{ruleOf, ruleBy, readOf}
 use Rattle.build.specs.Building.{builtOf}
-use Rattle.board.specs.Boards.{placesOf, isEmpty, emptyBoard, filledAt, clearedAt}
+use Rattle.board.specs.Boards.{placesOf, isEmpty, comesLate, emptyBoard, filledAt, clearedAt}
 use Rattle.calls.specs.declared.Judge.{Judge}
 use Rattle.calls.specs.Replies.{Judgement, waiting, yesWith, noWith, refusedWith, Reported, accepted, installed, delivered}
 use Rattle.calls.specs.Calls.{installNumber, loadNumber, openConditions, deliverConditions, withdrawConditions}
@@ -78,12 +78,12 @@ open-read-back : (j : Judge) (n : ℕ) → openReadBack (openShown (openOf j n))
 unfolding openOf
 open-read-back j n = taken-by j (withBoard j (emptyBoard n)) (firstOf (openConditions (lacksRule j) n))
 
-deliver-read-back : (j : Judge) (p : ℕ) (w : List ℕ) → deliverReadBack (deliverShown (deliverOf j p w)) ≡ deliverOf j p w
+deliver-read-back : (j : Judge) (p v : ℕ) (w : List ℕ) → deliverReadBack (deliverShown (deliverOf j p v w)) ≡ deliverOf j p v w
 unfolding deliverOf
-deliver-read-back j p w =
-    deliver-by j (withBoard j (filledAt (j .board) p (runsAt j p w)))
+deliver-read-back j p v w =
+    deliver-by j (withBoard j (filledAt (j .board) p v (runsAt j p w)))
     (firstOf
-    (deliverConditions (lacksBoard j) (placesOf (j .board)) p w (j .built .k) (not (isEmpty (j .board) p))))
+    (deliverConditions (lacksBoard j) (placesOf (j .board)) p w (j .built .k) (comesLate (j .board) p v)))
     (runsAt j p w .looked)
 
 withdraw-read-back : (j : Judge) (p : ℕ) → withdrawReadBack (withdrawShown (withdrawOf j p)) ≡ withdrawOf j p

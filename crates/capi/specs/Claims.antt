@@ -15,7 +15,7 @@ pub record Claims : Type 0 where
   pub install-read-back : (j : Judge) (r : Rule) → installReadBack (installShown (installOf j r)) ≡ installOf j r
   pub load-read-back : (j : Judge) (f : List ℕ) → installReadBack (installShown (loadOf j f)) ≡ loadOf j f
   pub open-read-back : (j : Judge) (n : ℕ) → openReadBack (openShown (openOf j n)) ≡ openOf j n
-  pub deliver-read-back : (j : Judge) (p : ℕ) (w : List ℕ) → deliverReadBack (deliverShown (deliverOf j p w)) ≡ deliverOf j p w
+  pub deliver-read-back : (j : Judge) (p v : ℕ) (w : List ℕ) → deliverReadBack (deliverShown (deliverOf j p v w)) ≡ deliverOf j p v w
   pub withdraw-read-back : (j : Judge) (p : ℕ) → withdrawReadBack (withdrawShown (withdrawOf j p)) ≡ withdrawOf j p
   pub verdict-read-back : (j : Judge) → verdictReadBack (verdictShown (reportOf j)) ≡ reportOf j
   pub replay-read-back : (so : Recorded) → replayReadBack (replayShown (replayOf so)) ≡ replayOf so

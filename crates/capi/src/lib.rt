@@ -87,7 +87,7 @@ const MAJOR: u32 = 4;
 
 const MINOR: u32 = 0;
 
-const STATE_SIZE: usize = 27316;
+const STATE_SIZE: usize = 27832;
 
 // The version that the library was built with: the major number times 65,536, and the minor one.
 #[no_mangle]
@@ -100,7 +100,7 @@ pub extern "C" fn bellbadger_version() -> u32
 // The size of the judge that the library was built with.
 #[no_mangle]
 pub extern "C" fn bellbadger_state_size() -> usize
-    ensures { λ r. ⌜ r ≡ 27316 ⌝ }
+    ensures { λ r. ⌜ r ≡ 27832 ⌝ }
 {
     STATE_SIZE
 }
@@ -194,10 +194,15 @@ pub extern "C" fn bellbadger_open(judge: Judge, places: usize) -> OpenNumbers
 }
 
 #[no_mangle]
-pub extern "C" fn bellbadger_deliver(judge: Judge, place: usize, chunk: &[u8]) -> DeliverNumbers
-    ensures { λ r. ⌜ r ≡ deliverShown (deliverOf judge place (now (chunk .entry))) ⌝ }
+pub extern "C" fn bellbadger_deliver(
+    judge: Judge,
+    place: usize,
+    revision: u32,
+    chunk: &[u8],
+) -> DeliverNumbers
+    ensures { λ r. ⌜ r ≡ deliverShown (deliverOf judge place revision (now (chunk .entry))) ⌝ }
 {
-    let delivery = judge::deliver(judge, place, chunk);
+    let delivery = judge::deliver(judge, place, revision, chunk);
     let answer = delivery.answer;
     let judge = delivery.judge;
     match answer {

@@ -25,6 +25,8 @@
 --      Accepted-exactly, Refused-..   which calls, with which number        histories/specs/Conditions
 --      loading, loadReply; LoadClauses  a load after a list of calls        histories/specs/History, Claims
 --      CountBound                     the sum's bound; the former 24        histories/specs/CountBound
+--      lastRevision, leastAfter       revisions at a place                  histories/specs/History, Claims
+--      Orders                         deliveries in any order               histories/specs/Orders
 --      LookedUp, AllEmpty             for how many bytes a set is looked up histories/, chunks/specs/Claims
 --      textOf; foreign, ForeignByte   a chunk without idle marks; 13        marks/, chunks/, calls/specs
 --      runSet, endSet, chunkCount     running a text                        chunks/specs/Chunks
@@ -67,7 +69,7 @@ use Rattle.ruleformat.proofs.Claims as rulefile
 use Rattle.ruleformat.specs.Language.{automatonIn}
 use Rattle.delegates.specs.Claims.{startsIn}
 use Rattle.build.specs.Building.{builtOf}
-use Rattle.board.specs.Boards.{held, isEmpty, summedCount, summedBytes}
+use Rattle.board.specs.Boards.{held, isEmpty, lastAt, summedCount, summedBytes}
 use Rattle.calls.specs.declared.Judge.{Judge}
 use Rattle.calls.specs.Replies.{waiting, yesWith, noWith, refusedWith, Reply, refusalOf, delivered}
 use Rattle.calls.specs.declared.InstallResult.{InstallResult}
@@ -78,13 +80,14 @@ use Rattle.chunks.specs.Chunks.{foreign}
 use Rattle.calls.proofs.Loading as calls-loading
 use Rattle.calls.proofs.Foreign as calls-foreign
 use Rattle.calls.proofs.Refusing as refusing
-use Rattle.histories.specs.History.{ruleThere, ruleIn, loading, boardIn, standing, standingText, endAt, countAt, lengthAt, emptiesIn, summedIn, bytesIn, yesIn, textIn, verdictIn, reportIn, answersTo, answerOf}
+use Rattle.histories.specs.History.{ruleThere, ruleIn, loading, boardIn, lastRevision, standing, standingText, endAt, countAt, lengthAt, emptiesIn, summedIn, bytesIn, yesIn, textIn, verdictIn, reportIn, answersTo, answerOf}
 use Rattle.histories.specs.Method.{Method}
 use Rattle.histories.specs.Conditions.{Accepted-exactly, Refused-exactly}
-use Rattle.histories.specs.Claims.{judgeMachine, judgeAfter, repliesTo, BuiltBy, LookedUp, LoadClauses, EveryList}
+use Rattle.histories.specs.Claims.{judgeMachine, judgeAfter, repliesTo, BuiltBy, leastAfter, LookedUp, LoadClauses, EveryList}
 use Rattle.histories.specs.CountBound.{CountBound}
 use Rattle.histories.specs.FormerStarts.{SameAnswer}
 use Rattle.histories.specs.Fewest.{BuildFewest, InstallFewest}
+use Rattle.histories.specs.Orders.{Orders}
 use Rattle.histories.specs.Functions.{judgeLibrary, AsksLoad, MayLoad}
 use Rattle.histories.specs.TableP.{TableP, Each, table}
 use Rattle.histories.proofs.EveryList.{every-list}
@@ -93,6 +96,7 @@ use Rattle.histories.proofs.Refinement.{judge-meets, load-asks, load-may}
 use Rattle.histories.proofs.Steps.{accepted-rule}
 use Rattle.histories.proofs.CountBound as histories-bound
 use Rattle.histories.proofs.FormerStarts as histories-former
+use Rattle.histories.proofs.Orders as histories-orders
 use Rattle.histories.proofs.Fewest as histories-fewest
 use Rattle.histories.proofs.TableP as histories-table
 use Rattle.histories.proofs.TablePRuns.{Loads-so}
@@ -242,7 +246,7 @@ pub foreign-bytes : (w : List ℕ) (k : ℕ) → (foreign (textOf w) k ≡ true)
 foreign-bytes = calls-foreign.foreign-exactly
 
 -- The summed count is at most 64 places times 65,536 bytes times 32 starts, with a chunk that can be
--- delivered too: so what document 01 numbered 24, a sum over 4,294,967,295, changed no answer, and a
+-- delivered in the place of what stands there too: so what document 01 numbered 24, a sum over 4,294,967,295, changed no answer, and a
 -- delivery has the other five conditions (document 02, R-4).
 pub bound-is : mostTransitions ≡ 134217728
 bound-is = refl
@@ -250,9 +254,21 @@ bound-is = refl
 pub count-bound : (h : List Call) → CountBound h
 count-bound = histories-bound.count-bound
 
+-- A delivery carries a revision (document 02, R-11). 22 is one that is not greater than the last one
+-- accepted at its place since the opening, also after a withdrawal (`refused-exactly`); a greater one
+-- replaces what stands, of which nothing is left (`ends`, `counts`, `lengths` below). Each place holds
+-- the last revision:
+pub revisions : (h : List Call) (p : ℕ) → p < mostPlaces → lastAt (judgeAfter h .board) p ≡ leastAfter (lastRevision h p)
+revisions h = every-list h .after .revisions
+
+-- and any two orders of the same deliveries, no revision twice at a place, leave the same judge, made
+-- after any calls, a fresh board's among others.
+pub any-order : (h : List Call) → Orders h
+any-order = histories-orders.orders
+
 -- An accepted delivery is answered for how many bytes of its text any successor is looked up: the
 -- least number of text bytes after which every run's set is empty, else all (document 02, R-2).
-pub looked-up : (h : List Call) (p : ℕ) (w : List ℕ) (n : ℕ) → answerOf h (delivers p w) ≡ delivered n → LookedUp h p (textOf w) n
+pub looked-up : (h : List Call) (p v : ℕ) (w : List ℕ) (n : ℕ) → answerOf h (delivers p v w) ≡ delivered n → LookedUp h p (textOf w) n
 looked-up h = every-list h .looked-up
 
 -- The verdict: refused with 21 unless the last accepted installation or opening is an opening;

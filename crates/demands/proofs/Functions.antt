@@ -25,9 +25,9 @@ use Rattle.demands.specs.Functions.{AsksStep, MayStep, MayRead, MayLoad,
 step-to : (j : Judge) (c : Call) (a : Reply) (next : Judge) → MayStep j c a next → (a ≡ stepOf j c .reply) × (next ≡ stepOf j c .state)
 step-to j (installs rule) a next m = parts a next (installOf j rule) (m .2 ∙ ap installReadBack (m .1 .1) ∙ capi.claims .install-read-back j rule)
 step-to j (opens n) a next m = parts a next (openOf j n) (m .2 ∙ ap openReadBack (m .1 .1) ∙ capi.claims .open-read-back j n)
-step-to j (delivers p w) a next m =
-    parts a next (deliverOf j p w)
-    (m .2 ∙ ap deliverReadBack (m .1 .4 ∙ ap (λ (x : List ℕ). deliverShown (deliverOf j p x)) (m .1 .3)) ∙ capi.claims .deliver-read-back j p w)
+step-to j (delivers p v w) a next m =
+    parts a next (deliverOf j p v w)
+    (m .2 ∙ ap deliverReadBack (m .1 .4 ∙ ap (λ (x : List ℕ). deliverShown (deliverOf j p v x)) (m .1 .3)) ∙ capi.claims .deliver-read-back j p v w)
 step-to j (withdraws p) a next m = parts a next (withdrawOf j p) (m .2 ∙ ap withdrawReadBack (m .1 .1) ∙ capi.claims .withdraw-read-back j p)
 step-to j asksVerdict a next m = (m .2 ∙ ap judged (ap verdictReadBack (m .1 .1) ∙ capi.claims .verdict-read-back j), m .3)
 
@@ -35,10 +35,10 @@ step-back : (j : Judge) (c : Call) (a : Reply) (next : Judge) → (a ≡ stepOf 
 step-back j (installs rule) a next e =
     (installShown (installOf j rule), ((j, (rule, tt)), refl), whole a next (installOf j rule) e ∙ sym (capi.claims .install-read-back j rule))
 step-back j (opens n) a next e = (openShown (openOf j n), ((j, (n, tt)), refl), whole a next (openOf j n) e ∙ sym (capi.claims .open-read-back j n))
-step-back j (delivers p w) a next e = (
-  deliverShown (deliverOf j p w),
-  (([], tt), lent w, (j, (p, (lent w, tt))), refl, refl),
-  whole a next (deliverOf j p w) e ∙ sym (capi.claims .deliver-read-back j p w),
+step-back j (delivers p v w) a next e = (
+  deliverShown (deliverOf j p v w),
+  (([], tt), lent w, (j, (p, (v, (lent w, tt)))), refl, refl),
+  whole a next (deliverOf j p v w) e ∙ sym (capi.claims .deliver-read-back j p v w),
 )
 step-back j (withdraws p) a next e =
     (withdrawShown (withdrawOf j p), ((j, (p, tt)), refl), whole a next (withdrawOf j p) e ∙ sym (capi.claims .withdraw-read-back j p))
@@ -47,7 +47,7 @@ step-back j asksVerdict a next e = (verdictShown (reportOf j), ((j, tt), refl), 
 asks-nothing : (j : Judge) (c : Call) → AsksStep j c
 asks-nothing j (installs rule) = install-asks-nothing j rule
 asks-nothing j (opens n) = open-asks-nothing j n
-asks-nothing j (delivers p w) = λ κs c e. deliver-asks-nothing κs j p c
+asks-nothing j (delivers p v w) = λ κs c e. deliver-asks-nothing κs j p v c
 asks-nothing j (withdraws p) = withdraw-asks-nothing j p
 asks-nothing j asksVerdict = verdict-asks-nothing j
 

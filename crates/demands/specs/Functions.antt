@@ -67,10 +67,10 @@ MayLoad j f r =
 abbrev pub MayOpen : Judge → ℕ → OpenNumbers → Type 0
 MayOpen j n r = (s : AtExit (endedOf 0 open-kinds.ps open-kinds.r) tt) × open-reads.Learnt tt (j, (n, tt)) r s
 
-abbrev pub MayDeliver : Judge → ℕ → List ℕ → DeliverNumbers → Type 0
-MayDeliver j p w r =
+abbrev pub MayDeliver : Judge → ℕ → ℕ → List ℕ → DeliverNumbers → Type 0
+MayDeliver j p v w r =
     (κs : Lfts 1) × (c : RefT (List ℕ)) × (s : AtExit (endedOf 1 deliver-kinds.ps deliver-kinds.r) κs) × (now c ≡ w)
-    × deliver-reads.Learnt κs (j, (p, (c, tt))) r s
+    × deliver-reads.Learnt κs (j, (p, (v, (c, tt)))) r s
 
 abbrev pub MayWithdraw : Judge → ℕ → WithdrawNumbers → Type 0
 MayWithdraw j p r = (s : AtExit (endedOf 0 withdraw-kinds.ps withdraw-kinds.r) tt) × withdraw-reads.Learnt tt (j, (p, tt)) r s
@@ -86,14 +86,14 @@ MayReplay text r =
 abbrev pub AsksStep : Judge → Call → Type 0
 AsksStep j (installs rule) = install-reads.Asked tt (j, (rule, tt))
 AsksStep j (opens n) = open-reads.Asked tt (j, (n, tt))
-AsksStep j (delivers p w) = (κs : Lfts 1) (c : RefT (List ℕ)) → now c ≡ w → deliver-reads.Asked κs (j, (p, (c, tt)))
+AsksStep j (delivers p v w) = (κs : Lfts 1) (c : RefT (List ℕ)) → now c ≡ w → deliver-reads.Asked κs (j, (p, (v, (c, tt))))
 AsksStep j (withdraws p) = withdraw-reads.Asked tt (j, (p, tt))
 AsksStep j asksVerdict = verdict-reads.Asked tt (j, tt)
 
 abbrev pub MayStep : Judge → Call → Reply → Judge → Type 0
 MayStep j (installs rule) a next = (r : InstallNumbers) × MayInstall j rule r × (record { reply = a; state = next } ≡ installReadBack r)
 MayStep j (opens n) a next = (r : OpenNumbers) × MayOpen j n r × (record { reply = a; state = next } ≡ openReadBack r)
-MayStep j (delivers p w) a next = (r : DeliverNumbers) × MayDeliver j p w r × (record { reply = a; state = next } ≡ deliverReadBack r)
+MayStep j (delivers p v w) a next = (r : DeliverNumbers) × MayDeliver j p v w r × (record { reply = a; state = next } ≡ deliverReadBack r)
 MayStep j (withdraws p) a next = (r : WithdrawNumbers) × MayWithdraw j p r × (record { reply = a; state = next } ≡ withdrawReadBack r)
 MayStep j asksVerdict a next = (v : VerdictNumbers) × MayJudge j v × (a ≡ judged (verdictReadBack v)) × (next ≡ j)
 

@@ -1,8 +1,8 @@
 -- The state agrees with a rule and with a chunk at each place, or none: `Agrees`. A fresh judge
 -- agrees with nothing, an installation brings a rule, an opening empties all places, a delivery changes one
 -- place and a withdrawal empties one. Assumes nothing.
-use mathlib.Core.Path.{_≡_, refl, sym, ap, _∙_, subst}
-use mathlib.Core.Bool.{false, cond}
+use mathlib.Core.Path.{_≡_, refl, sym, ap, _∙_, subst, fun-ext}
+use mathlib.Core.Bool.{true, false, cond}
 use mathlib.Core.List.{List}
 use mathlib.Core.Option.{Option, none, some}
 use Prim.Native.Nat.{ℕ, _≤_, _<_}
@@ -18,15 +18,15 @@ use Rattle.automaton.specs.declared.Rule.{Rule}
 use Rattle.automaton.specs.Automaton.{Text}
 use Rattle.build.specs.Building.{noBuilt}
 use Rattle.board.specs.declared.Board.{Board}
-use Rattle.board.specs.Boards.{held, isEmpty, emptyBoard, filledAt, clearedAt}
-use Rattle.board.proofs.Laws.{Sized, sized-empty, empty-all, empty-held, empty-count, empty-length, Changed, filled-at, cleared-at}
+use Rattle.board.specs.Boards.{held, isEmpty, lastAt, emptyBoard, filledAt, clearedAt}
+use Rattle.board.proofs.Laws.{Sized, sized-empty, empty-all, empty-held, empty-count, empty-length, empty-last, Changed, filled-at, cleared-at}
 use Rattle.calls.specs.declared.Judge.{Judge}
 use Rattle.histories.specs.History.{ruleFrom, countOf, endOf, standingText, lookedOf}
 use Rattle.calls.specs.Steps.{fresh, withBoard, runsAt}
-use Rattle.histories.specs.Claims.{BuiltBy}
+use Rattle.histories.specs.Claims.{BuiltBy, leastAfter}
 use Rattle.histories.proofs.Running.{count-same, looked-same, end-same}
 
-pub record Agrees (present : Option Rule) (places : ℕ) (at : ℕ → Option (List ℕ)) (j : Judge) : Type 0 where
+pub record Agrees (present : Option Rule) (places : ℕ) (at : ℕ → Option (List ℕ)) (last : ℕ → Option ℕ) (j : Judge) : Type 0 where
   pub rule : BuiltBy present j
   pub sized : Sized (j .board)
   pub places-are : j .board .places ≡ places
@@ -38,13 +38,14 @@ pub record Agrees (present : Option Rule) (places : ℕ) (at : ℕ → Option (L
   pub ends : (p q : ℕ) → p < 64 → q < 32 → held (j .board) p q ≡ endOf (ruleFrom present) p q (at p)
   pub counts : (p : ℕ) → p < 64 → getD (j .board .counts) p 0 ≡ countOf (ruleFrom present) p (at p)
   pub lengths : (p : ℕ) → p < 64 → getD (j .board .lengths) p 0 ≡ length (standingText (at p))
+  pub revisions : (p : ℕ) → p < 64 → lastAt (j .board) p ≡ leastAfter (last p)
 
 -- ---- all places empty
 nothing : ℕ → Option (List ℕ)
 nothing p = none
 
 module _ (present : Option Rule) (n : ℕ) (j : Judge) (rule : BuiltBy present j) (is : j .board ≡ emptyBoard n) (few : n ≤ 64) (ruled : 0 < n → isNone present ≡ false) where
-  pub all-empty : Agrees present n (λ p. none) j
+  pub all-empty : Agrees present n (λ p. none) (λ p. none) j
   unfolding emptyBoard
   all-empty = record {
     rule = rule;
@@ -58,18 +59,19 @@ module _ (present : Option Rule) (n : ℕ) (j : Judge) (rule : BuiltBy present j
     ends = λ p q hp hq. ap (λ b. held b p q) is ∙ empty-held n p q;
     counts = λ p h. ap (λ b. getD (b .counts) p 0) is ∙ empty-count n p;
     lengths = λ p h. ap (λ b. getD (b .lengths) p 0) is ∙ empty-length n p;
+    revisions = λ p h. ap (λ b. lastAt b p) is ∙ empty-last n p;
   }
 
-pub fresh-holds : Agrees none 0 (λ p. none) fresh
+pub fresh-holds : Agrees none 0 (λ p. none) (λ p. none) fresh
 unfolding fresh
 fresh-holds = all-empty none 0 (record { built = noBuilt; board = emptyBoard 0 }) refl refl (omega arith) (λ h. absurd (omega arith))
 
 -- ---- one place changed
 -- place p has the chunk `new`, or none; the others stay
-unfoldable pub placed : (ℕ → Option (List ℕ)) → ℕ → Option (List ℕ) → ℕ → Option (List ℕ)
+unfoldable pub placed : {A : Type 0} → (ℕ → A) → ℕ → A → ℕ → A
 placed at p new i = cond (eqb p i) new (at i)
 
-module _ (at : ℕ → Option (List ℕ)) (p : ℕ) (new : Option (List ℕ)) where
+module _ {A : Type 0} (at : ℕ → A) (p : ℕ) (new : A) where
   pub placed-own : placed at p new p ≡ new
   unfolding placed
   placed-own = rw (eq-eqb p p refl)
@@ -79,20 +81,20 @@ module _ (at : ℕ → Option (List ℕ)) (p : ℕ) (new : Option (List ℕ)) wh
   placed-other i ne = rw (ne-eqb p i (λ e. ne (sym e)))
 
   -- what holds at p and at every other place holds everywhere
-  each : (P : ℕ → Option (List ℕ) → Type 0) → P p new → ((i : ℕ) → (i ≡ p → ⊥) → P i (at i)) → (i : ℕ) → P i (placed at p new i)
+  each : (P : ℕ → A → Type 0) → P p new → ((i : ℕ) → (i ≡ p → ⊥) → P i (at i)) → (i : ℕ) → P i (placed at p new i)
   each P own other i =
       by-test (eqb i p)
       (λ e. let z = eqb-true i p e in subst (λ (x : ℕ). P x (placed at p new x)) (sym z) (subst (P p) (sym placed-own) own))
       (λ e. let ne = eqb-false i p e in subst (P i) (sym (placed-other i ne)) (other i ne))
 
-module _ (present : Option Rule) (places : ℕ) (at : ℕ → Option (List ℕ)) (j : Judge) (holds : Agrees present places at j) (p : ℕ) (h : p < places) where
+module _ (present : Option Rule) (places : ℕ) (at : ℕ → Option (List ℕ)) (last : ℕ → Option ℕ) (j : Judge) (holds : Agrees present places at last j) (p : ℕ) (h : p < places) where
   pub place-below : p < 64
   place-below = omega (arith, h, holds .few)
 
-  changed-holds : (new : Option (List ℕ)) (c : Board) → ((w : List ℕ) → new ≡ some w → Text (ruleFrom present .k) (textOf w))
-      → Changed (j .board) c p (isNone new) (countOf (ruleFrom present) p new) (length (standingText new)) (λ q. endOf (ruleFrom present) p q new)
-      → Agrees present places (placed at p new) (withBoard j c)
-  changed-holds new c text changed = record {
+  changed-holds : (new : Option (List ℕ)) (revision : Option ℕ) (c : Board) → ((w : List ℕ) → new ≡ some w → Text (ruleFrom present .k) (textOf w))
+      → Changed (j .board) c p (isNone new) (countOf (ruleFrom present) p new) (length (standingText new)) (leastAfter revision) (λ q. endOf (ruleFrom present) p q new)
+      → Agrees present places (placed at p new) (placed last p revision) (withBoard j c)
+  changed-holds new revision c text changed = record {
     rule = kept present (holds .rule);
     sized = changed .sized;
     places-are = changed .places-same ∙ holds .places-are;
@@ -117,18 +119,36 @@ module _ (present : Option Rule) (places : ℕ) (at : ℕ → Option (List ℕ))
         each at p new (λ i o. i < 64 → getD (c .lengths) i 0 ≡ length (standingText o))
         (λ b. changed .length-own)
         (λ i ne b. changed .length-other i ne ∙ holds .lengths i b);
+    revisions =
+        each last p revision (λ i o. i < 64 → lastAt c i ≡ leastAfter o)
+        (λ b. changed .last-own)
+        (λ i ne b. changed .last-other i ne ∙ holds .revisions i b);
   }
     where
       kept : (o : Option Rule) → BuiltBy o j → BuiltBy o (withBoard j c)
       kept none e = e
       kept (some r) e = e
 
-  pub cleared-holds : Agrees present places (placed at p none) (withBoard j (clearedAt (j .board) p))
+  -- the revision stays
+  pub cleared-holds : Agrees present places (placed at p none) last (withBoard j (clearedAt (j .board) p))
   cleared-holds =
-      changed-holds none (clearedAt (j .board) p) (λ w e. none-some refl e) (cleared-at (j .board) p (holds .sized) place-below)
+      subst (λ (l : ℕ → Option ℕ). Agrees present places (placed at p none) l (withBoard j (clearedAt (j .board) p))) kept-last
+      (changed-holds none (last p) (clearedAt (j .board) p) (λ w e. none-some refl e) changed)
+    where
+      changed : Changed (j .board) (clearedAt (j .board) p) p true 0 0 (leastAfter (last p)) (λ q. 0)
+      changed =
+          subst (λ (x : ℕ). Changed (j .board) (clearedAt (j .board) p) p true 0 0 x (λ q. 0)) (holds .revisions p place-below)
+          (cleared-at (j .board) p (holds .sized) place-below)
+
+      kept-last : placed last p (last p) ≡ last
+      kept-last =
+          fun-ext λ i.
+          by-test (eqb i p)
+          (λ e. let z = eqb-true i p e in subst (λ (x : ℕ). placed last p (last p) x ≡ last x) (sym z) (placed-own last p (last p)))
+          (λ e. placed-other last p (last p) i (eqb-false i p e))
 
 -- ---- the text of a chunk is run, and what comes of it kept
-module _ (r : Rule) (places : ℕ) (at : ℕ → Option (List ℕ)) (j : Judge) (holds : Agrees (some r) places at j) (p : ℕ) (h : p < places) (w : List ℕ) (text : Text (r .k) (textOf w)) where
+module _ (r : Rule) (places : ℕ) (at : ℕ → Option (List ℕ)) (last : ℕ → Option ℕ) (j : Judge) (holds : Agrees (some r) places at last j) (p : ℕ) (h : p < places) (v : ℕ) (w : List ℕ) (text : Text (r .k) (textOf w)) where
   pub run-count : runsAt j p w .count ≡ countOf r p (some w)
   run-count = rw (holds .rule .0) (count-same r (holds .rule .1) (holds .rule .2) p (textOf w) text)
 
@@ -138,10 +158,10 @@ module _ (r : Rule) (places : ℕ) (at : ℕ → Option (List ℕ)) (j : Judge) 
   run-end : (q : ℕ) → q < 32 → getD (runsAt j p w .ends) q 0 ≡ endOf r p q (some w)
   run-end q l = rw (holds .rule .0) (end-same r (holds .rule .1) (holds .rule .2) p (textOf w) text q l)
 
-  pub filled-holds : Agrees (some r) places (placed at p (some w)) (withBoard j (filledAt (j .board) p (runsAt j p w)))
+  pub filled-holds : Agrees (some r) places (placed at p (some w)) (placed last p (some v)) (withBoard j (filledAt (j .board) p v (runsAt j p w)))
   filled-holds =
-      let c = filled-at (j .board) p (holds .sized) (place-below (some r) places at j holds p h) (runsAt j p w) in
-      changed-holds (some r) places at j holds p h (some w) (filledAt (j .board) p (runsAt j p w))
+      let c = filled-at (j .board) p (holds .sized) (place-below (some r) places at last j holds p h) v (runsAt j p w) in
+      changed-holds (some r) places at last j holds p h (some w) (some v) (filledAt (j .board) p v (runsAt j p w))
       (λ v e. let z : w ≡ v = cc in subst (λ (x : List ℕ). Text (r .k) (textOf x)) z text)
       (record {
         sized = c .sized;
@@ -152,6 +172,8 @@ module _ (r : Rule) (places : ℕ) (at : ℕ → Option (List ℕ)) (j : Judge) 
         count-other = c .count-other;
         length-own = c .length-own;
         length-other = c .length-other;
+        last-own = c .last-own;
+        last-other = c .last-other;
         held-own = λ q l. c .held-own q l ∙ run-end q l;
         held-other = c .held-other;
       })

@@ -13,8 +13,8 @@ use native.Mathlib.Omega.{arith}
 use lib.Dec.{eqb, ltb, leb}
 use lib.ListN.{length}
 use borrow.Author.Tests.{eq-eqb, ne-eqb, eqb-true, eqb-false, lt-ltb, le-ltb, ltb-true, ltb-false, le-leb, lt-leb, leb-true, leb-false}
-use Rattle.base.specs.Options.{isNone, isSome}
-use Rattle.base.proofs.Options.{is-some, not-some}
+use Rattle.base.specs.Options.{isNone}
+use Rattle.base.proofs.Options.{none-some, is-some, not-some}
 use Rattle.base.proofs.Conditions.{none-law, outside-law, is-outside, named, not-named, first-here, first-past}
 use Rattle.base.specs.Conditions.{Condition, on, firstOf, NoneHolds, outside}
 use Rattle.base.proofs.Tests.{zero-one}
@@ -29,7 +29,7 @@ use Rattle.chunks.specs.Chunks.{foreign}
 use Rattle.calls.specs.Replies.{Reply, accepted, installed, delivered, refused}
 use Rattle.calls.specs.Calls.{Call, delivers, withdraws, installNumber, openConditions}
 use Rattle.calls.proofs.Conditions.{orElse, over, install-number}
-use Rattle.histories.specs.History.{ruleThere, ruleIn, placesIn, lookedOf, standing, replyBy, withSets, answerOf}
+use Rattle.histories.specs.History.{ruleThere, ruleIn, placesIn, lookedOf, notGreater, lastRevision, standing, replyBy, withSets, answerOf}
 use Rattle.histories.specs.Method.{TooMany}
 use Rattle.histories.specs.Conditions.{Accepted-exactly, Refused-exactly}
 use Rattle.histories.proofs.Method.{nine-law}
@@ -153,9 +153,20 @@ there (some x) = (
   λ e. zero-one cc,
 )
 
-filled : {A : Type 0} (o : Option A) → (isSome o ≡ true) ↔ (o ≡ none → ⊥)
-filled none = (λ e z. let y : _≡_ {A = ℕ} 0 1 = cc in omega arith, λ n. absurd (n refl))
-filled (some x) = (λ e z. let y : _≡_ {A = ℕ} 0 1 = cc in omega arith, λ n. refl)
+-- a revision that is not greater than the last one, and one that is
+late-words : (v : ℕ) (o : Option ℕ) → (notGreater v o ≡ true) ↔ (last : ℕ) × (o ≡ some last) × (v ≤ last)
+late-words v none = (λ e. zero-one cc, λ x. none-some refl (x .1))
+late-words v (some u) = (
+  (λ e. (u, refl, leb-true v u e)),
+  λ x. let same : u ≡ x .0 = cc in le-leb v u (omega (arith, same, x .2)),
+)
+
+greater-law : (v : ℕ) (o : Option ℕ) → (notGreater v o ≡ false) ↔ ((last : ℕ) → o ≡ some last → last < v)
+greater-law v none = (λ e last x. none-some refl x, λ x. refl)
+greater-law v (some u) = (
+  (λ e last x. let same : u ≡ last = cc in omega (arith, same, leb-false v u e)),
+  λ x. lt-leb v u (x u refl),
+)
 
 pub accepted-exactly : (h : List Call) → Accepted-exactly h
 accepted-exactly h = record {
@@ -166,13 +177,13 @@ accepted-exactly h = record {
         (λ e. let x = law .0 e in let b = outside-law 1 64 n .0 (x .1 .0) in (is-some (ruleThere h) .0 (x .0), b .0, b .1)),
         λ x. law .1 (is-some (ruleThere h) .1 (x .0), (outside-law 1 64 n .1 (x .1, x .2), tt)),
       );
-  delivery = λ p w n.
+  delivery = λ p v w n.
       let conditions =
       on 21 (eqb (placesIn h) 0) ∷
       on 11 (leb (placesIn h) p) ∷
       on 12 (ltb 65536 (length w)) ∷
       on 13 (foreign (textOf w) (ruleIn h .k)) ∷
-      on 22 (isSome (standing h p)) ∷ [] in
+      on 22 (notGreater v (lastRevision h p)) ∷ [] in
       let law = delivered-law (firstOf conditions) (lookedOf (ruleIn h) p w) n in (
         (λ e.
             let y = law .0 e in
@@ -181,7 +192,7 @@ accepted-exactly h = record {
               leb-false (placesIn h) p (x .1 .0),
               ltb-false 65536 (length w) (x .1 .1 .0),
               x .1 .1 .1 .0,
-              not-some (standing h p) .0 (x .1 .1 .1 .1 .0),
+              greater-law v (lastRevision h p) .0 (x .1 .1 .1 .1 .0),
               y .1,
             )),
         λ x.
@@ -192,7 +203,7 @@ accepted-exactly h = record {
                   lt-leb (placesIn h) p (x .1),
                   (
                     le-ltb 65536 (length w) (x .2),
-                    (x .3, (not-some (standing h p) .1 (x .4), tt)),
+                    (x .3, (greater-law v (lastRevision h p) .1 (x .4), tt)),
                   ),
                 ),
               ),
@@ -233,9 +244,9 @@ module _ (places p : ℕ) (cs : List Condition) where
         λ y. one .1 (places-some places (omega (arith, y .0)), two .1 (lt-leb places p (y .0), y .1)),
       )
 
-module _ (h : List Call) (p : ℕ) (w : List ℕ) where
+module _ (h : List Call) (p v : ℕ) (w : List ℕ) where
   abbrev from-22 : List Condition
-  from-22 = on 22 (isSome (standing h p)) ∷ []
+  from-22 = on 22 (notGreater v (lastRevision h p)) ∷ []
 
   abbrev from-13 : List Condition
   from-13 = on 13 (foreign (textOf w) (ruleIn h .k)) ∷ from-22
@@ -243,13 +254,13 @@ module _ (h : List Call) (p : ℕ) (w : List ℕ) where
   abbrev from-12 : List Condition
   from-12 = on 12 (ltb 65536 (length w)) ∷ from-13
 
-  delivery-law : (x : ℕ) → (answerOf h (delivers p w) ≡ refused x) ↔ (firstOf (board-first (placesIn h) p from-12) ≡ some x)
+  delivery-law : (x : ℕ) → (answerOf h (delivers p v w) ≡ refused x) ↔ (firstOf (board-first (placesIn h) p from-12) ≡ some x)
   delivery-law x =
       refused-law (firstOf (board-first (placesIn h) p from-12)) (delivered (lookedOf (ruleIn h) p w)) x (λ e. zero-one cc)
 
   -- past 21, 11 and 12
   past-12 : (x : ℕ) → eqb 21 x ≡ false → eqb 11 x ≡ false → eqb 12 x ≡ false
-      → (answerOf h (delivers p w) ≡ refused x) ↔ ((p < placesIn h) × (length w ≤ 65536) × (firstOf from-13 ≡ some x))
+      → (answerOf h (delivers p v w) ≡ refused x) ↔ ((p < placesIn h) × (length w ≤ 65536) × (firstOf from-13 ≡ some x))
   past-12 x a b c =
       let one = Iff·trans (delivery-law x) (board-past (placesIn h) p from-12 x a b) in
       let two = first-past 12 x (ltb 65536 (length w)) from-13 c in (
@@ -257,22 +268,23 @@ module _ (h : List Call) (p : ℕ) (w : List ℕ) where
         λ y. one .1 (y .0, two .1 (le-ltb 65536 (length w) (y .1), y .2)),
       )
 
-  delivery-13 : (answerOf h (delivers p w) ≡ refused 13) ↔ ((p < placesIn h) × (length w ≤ 65536) × (foreign (textOf w) (ruleIn h .k) ≡ true))
+  delivery-13 : (answerOf h (delivers p v w) ≡ refused 13) ↔ ((p < placesIn h) × (length w ≤ 65536) × (foreign (textOf w) (ruleIn h .k) ≡ true))
   unfolding named
   delivery-13 =
       let one = past-12 13 refl refl refl in
       let here = first-here 13 (foreign (textOf w) (ruleIn h .k)) from-22 refl in
       ((λ e. let y = one .0 e in (y .0, y .1, here .0 (y .2))), λ y. one .1 (y .0, y .1, here .1 (y .2)))
 
-  delivery-22 : (answerOf h (delivers p w) ≡ refused 22)
-      ↔ ((p < placesIn h) × (length w ≤ 65536) × (foreign (textOf w) (ruleIn h .k) ≡ false) × (standing h p ≡ none → ⊥))
+  delivery-22 : (answerOf h (delivers p v w) ≡ refused 22)
+      ↔ ((p < placesIn h) × (length w ≤ 65536) × (foreign (textOf w) (ruleIn h .k) ≡ false)
+      × (last : ℕ) × (lastRevision h p ≡ some last) × (v ≤ last))
   unfolding named
   delivery-22 =
       let one = past-12 22 refl refl refl in
       let two = first-past 13 22 (foreign (textOf w) (ruleIn h .k)) from-22 refl in
-      let here = Iff·trans (first-here 22 (isSome (standing h p)) [] refl) (filled (standing h p)) in (
-        (λ e. let y = one .0 e in let z = two .0 (y .2) in (y .0, y .1, z .0, here .0 (z .1))),
-        λ y. one .1 (y .0, y .1, two .1 (y .2, here .1 (y .3))),
+      let here = Iff·trans (first-here 22 (notGreater v (lastRevision h p)) [] refl) (late-words v (lastRevision h p)) in (
+        (λ e. let y = one .0 e in let z = two .0 (y .2) in let l = here .0 (z .1) in (y .0, y .1, z .0, l .0, l .1, l .2)),
+        λ y. one .1 (y .0, y .1, two .1 (y .2, here .1 (y .3, y .4, y .5))),
       )
 
 -- a number of the rule
@@ -298,11 +310,11 @@ refused-exactly h = record {
         (λ e. let y = one .0 e in (is-some (ruleThere h) .0 (y .0), here .0 (y .1))),
         λ y. one .1 (is-some (ruleThere h) .1 (y .0), here .1 (y .1)),
       );
-  deliver-21 = λ p w. Iff·trans (delivery-law h p w 21) (board-21 (placesIn h) p (from-12 h p w) refl);
-  deliver-11 = λ p w. Iff·trans (delivery-law h p w 11) (board-11 (placesIn h) p (from-12 h p w) refl);
-  deliver-12 = λ p w.
-      let one = Iff·trans (delivery-law h p w 12) (board-past (placesIn h) p (from-12 h p w) 12 refl refl) in
-      let here = Iff·trans (first-here 12 (ltb 65536 (length w)) (from-13 h p w) refl) (is-less 65536 (length w)) in
+  deliver-21 = λ p v w. Iff·trans (delivery-law h p v w 21) (board-21 (placesIn h) p (from-12 h p v w) refl);
+  deliver-11 = λ p v w. Iff·trans (delivery-law h p v w 11) (board-11 (placesIn h) p (from-12 h p v w) refl);
+  deliver-12 = λ p v w.
+      let one = Iff·trans (delivery-law h p v w 12) (board-past (placesIn h) p (from-12 h p v w) 12 refl refl) in
+      let here = Iff·trans (first-here 12 (ltb 65536 (length w)) (from-13 h p v w) refl) (is-less 65536 (length w)) in
       ((λ e. let y = one .0 e in (y .0, here .0 (y .1))), λ y. one .1 (y .0, here .1 (y .1)));
   deliver-13 = delivery-13 h;
   deliver-22 = delivery-22 h;

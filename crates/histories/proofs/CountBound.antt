@@ -5,38 +5,38 @@
 -- most 64 places. A delivery that can be accepted finds its place empty, so that its chunk's count
 -- is one of 64 still.
 use mathlib.Core.Path.{_≡_, refl, sym, ap, ap₂, _∙_}
-use mathlib.Core.Bool.{Bool, true, false, cond, not, _&&_, and-eq-true-iff}
+use mathlib.Core.Bool.{Bool, true, false, cond, _&&_, and-eq-true-iff}
 use mathlib.Core.List.{List, [], _∷_, _++_}
 use mathlib.Core.Option.{Option, none, some}
 use Prim.Native.Nat.{ℕ, _+_, _*_, _≤_, _<_}
 use native.Mathlib.Omega.{arith}
 use lib.Dec.{eqb, ltb}
-use lib.ListN.{length}
-use borrow.Author.Tests.{le-ltb}
+use lib.ListN.{length, getD}
+use borrow.Author.Tests.{le-ltb, eq-eqb}
 use Rattle.base.specs.Conditions.{Condition, on, firstOf}
-use Rattle.base.specs.Options.{isNone, isSome}
+use Rattle.base.specs.Options.{isNone}
 use Rattle.base.proofs.Conditions.{none-law, outside-law}
 use Rattle.base.proofs.Options.{is-none}
-use Rattle.base.proofs.Tests.{by-test, zero-one}
-use Rattle.base.proofs.Totals.{total-most, total-but-one}
+use Rattle.base.proofs.Tests.{by-test, zero-one, either-most}
+use Rattle.base.proofs.Totals.{total-most, total-but-one, total-same}
 use Rattle.masks.specs.Masks.{single, has}
 use Rattle.executions.specs.Executions.{stateAfter, repliesTo as machineReplies}
 use Rattle.marks.specs.Marks.{textOf}
 use Rattle.marks.proofs.Claims as marks
 use Rattle.automaton.specs.declared.Rule.{Rule}
-use Rattle.chunks.specs.Chunks.{foreign, counted, chunkCount}
+use Rattle.chunks.specs.Chunks.{counted, chunkCount}
 use Rattle.chunks.proofs.Claims as chunks
-use Rattle.board.specs.Boards.{placesOf, isEmpty, filledAt, summedCount}
+use Rattle.board.specs.Boards.{placesOf, comesLate, filledAt, summedCount}
 use Rattle.calls.specs.declared.Judge.{Judge}
 use Rattle.calls.specs.Replies.{delivered}
 use Rattle.calls.specs.Calls.{Call, installs, opens, delivers, withdraws, asksVerdict, installNumber, openConditions, deliverConditions}
 use Rattle.calls.specs.Steps.{lacksBoard, withBoard, outcomeBy, runsAt, deliverOf, stepOf}
 use Rattle.calls.proofs.Conditions.{orElse, first-append}
-use Rattle.histories.specs.History.{ruleThere, ruleFrom, ruleIn, openNumber, placesIn, runAt, countOf, lookedOf, withdrawCheck, standing, deliverNumber, summedIn, replyBy}
+use Rattle.histories.specs.History.{ruleThere, ruleFrom, ruleIn, openNumber, placesIn, runAt, countOf, lookedOf, withdrawCheck, notGreater, lastRevision, standing, countAt, deliverNumber, summedIn, replyBy}
 use Rattle.histories.specs.Claims.{judgeAfter, repliesTo}
-use Rattle.histories.specs.CountBound.{formerNumber, formerOn, sumWith, formerStep, formerMachine, CountBound}
+use Rattle.histories.specs.CountBound.{sumBut, sumInWith, formerNumber, formerOn, sumWith, formerStep, formerMachine, CountBound}
 use Rattle.histories.proofs.Agreement.{run-count}
-use Rattle.histories.proofs.Numbers.{deliver-number, summed-same}
+use Rattle.histories.proofs.Numbers.{deliver-number, places-same, summed-same}
 use Rattle.histories.proofs.Steps.{by-run}
 use Rattle.histories.proofs.Conditions.{accepted-exactly}
 use Rattle.histories.proofs.EveryList.{good}
@@ -51,11 +51,11 @@ chunk-most ts run w =
     one false q = omega arith
 
 -- ---- a delivery that can be accepted
-module _ (h : List Call) (p : ℕ) (w : List ℕ) (e : deliverNumber h p w ≡ none) where
-  passes : (0 < placesIn h) × (p < placesIn h) × (length w ≤ 65536) × (foreign (textOf w) (ruleIn h .k) ≡ false) × (standing h p ≡ none)
-      × (lookedOf (ruleIn h) p w ≡ lookedOf (ruleIn h) p w)
+module _ (h : List Call) (p v : ℕ) (w : List ℕ) (e : deliverNumber h p v w ≡ none) where
+  passes : (p < placesIn h) × (length w ≤ 65536)
   passes =
-      accepted-exactly h .delivery p w (lookedOf (ruleIn h) p w) .0 (ap (λ (o : Option ℕ). replyBy o (delivered (lookedOf (ruleIn h) p w))) e)
+      let x = accepted-exactly h .delivery p v w (lookedOf (ruleIn h) p w) .0 (ap (λ (o : Option ℕ). replyBy o (delivered (lookedOf (ruleIn h) p w))) e) in
+      (x .1, x .2)
 
 -- ---- a standing chunk has at most 65,536 bytes
 kept : (t : Bool) (o : Option (List ℕ)) (w : List ℕ) → cond t none o ≡ some w → o ≡ some w
@@ -67,13 +67,13 @@ unfolding standing
 standing-short [] p w e = zero-one cc
 standing-short (installs r ∷ h) p w e = standing-short h p w (kept (isNone (installNumber r)) (standing h p) w e)
 standing-short (opens n ∷ h) p w e = standing-short h p w (kept (isNone (openNumber h n)) (standing h p) w e)
-standing-short (delivers q v ∷ h) p w e =
-    by-test (eqb q p && isNone (deliverNumber h q v))
+standing-short (delivers q v x ∷ h) p w e =
+    by-test (eqb q p && isNone (deliverNumber h q v x))
     (λ t.
-    let same : some v ≡ some w = rw t at e in
-    let is : v ≡ w = cc in
+    let same : some x ≡ some w = rw t at e in
+    let is : x ≡ w = cc in
     rw (sym is)
-    (passes h q v (is-none (deliverNumber h q v) .0 (and-eq-true-iff (eqb q p) (isNone (deliverNumber h q v)) .0 t .1)) .2))
+    (passes h q v x (is-none (deliverNumber h q v x) .0 (and-eq-true-iff (eqb q p) (isNone (deliverNumber h q v x)) .0 t .1)) .1))
     (λ t. standing-short h p w (rw t at e))
 standing-short (withdraws q ∷ h) p w e =
     standing-short h p w (kept (eqb q p && isNone (withdrawCheck (placesIn h) (standing h q) q)) (standing h p) w e)
@@ -95,7 +95,7 @@ places-few (opens n ∷ h) =
     let x = none-law (openConditions (isNone (ruleThere h)) n) .0 (is-none (openNumber h n) .0 t) in
     rw t (outside-law 1 64 n .0 (x .1 .0) .1))
     (λ t. rw t (places-few h))
-places-few (delivers p w ∷ h) = places-few h
+places-few (delivers p v w ∷ h) = places-few h
 places-few (withdraws p ∷ h) = places-few h
 places-few (asksVerdict ∷ h) = places-few h
 
@@ -107,40 +107,49 @@ module _ (h : List Call) where
   most : summedIn h ≤ 134217728
   most = omega (arith, places-few h, total-most (λ p. countOf (ruleIn h) p (standing h p)) 2097152 (placesIn h) few-at)
 
-  module _ (p : ℕ) (w : List ℕ) (e : deliverNumber h p w ≡ none) where
-    most-with : summedIn h + countOf (ruleIn h) p (some w) ≤ 134217728
+  module _ (p v : ℕ) (w : List ℕ) (e : deliverNumber h p v w ≡ none) where
+    most-with : sumInWith h p w ≤ 134217728
     most-with =
-        let x = passes h p w e in
+        let x = passes h p v w e in
         omega (
           arith,
           places-few h,
-          total-but-one (λ i. countOf (ruleIn h) i (standing h i)) 2097152 (placesIn h) p (x .1)
-              (ap (countOf (ruleIn h) p) (x .4))
-              few-at,
+          total-but-one (λ i. cond (eqb i p) 0 (countAt h i)) 2097152 (placesIn h) p (x .0)
+              (rw (eq-eqb p p refl))
+              (λ i l. either-most (eqb i p) (omega arith) (few-at i l)),
           chunk-most (ruleIn h .targets) (runAt (ruleIn h) p) w,
-          x .2,
+          x .1,
         )
 
 -- ---- of the state
 module _ (h : List Call) where
   held-sum : summedCount (judgeAfter h .board) ≡ summedIn h
-  held-sum = summed-same (ruleThere h) (placesIn h) (standing h) (judgeAfter h) (good h)
+  held-sum = summed-same (ruleThere h) (placesIn h) (standing h) (lastRevision h) (judgeAfter h) (good h)
 
   held-most : summedCount (judgeAfter h .board) ≤ 134217728
   held-most = omega (arith, held-sum, most h)
 
-  held-most-with : (p : ℕ) (w : List ℕ) → deliverNumber h p w ≡ none → sumWith (judgeAfter h) p w ≤ 134217728
-  held-most-with p w e =
+  -- the sum of the counts that the other places hold
+  held-others : (p : ℕ) → sumBut (λ i. getD (judgeAfter h .board .counts) i 0) p (placesOf (judgeAfter h .board)) ≡ sumBut (countAt h) p (placesIn h)
+  held-others p =
+      let g = good h in
+      let j = judgeAfter h in
+      ap (sumBut (λ i. getD (j .board .counts) i 0) p) (places-same (ruleThere h) (placesIn h) (standing h) (lastRevision h) j g)
+      ∙ total-same (λ i. cond (eqb i p) 0 (getD (j .board .counts) i 0)) (λ i. cond (eqb i p) 0 (countAt h i)) (placesIn h)
+      (λ i l. ap (λ (x : ℕ). cond (eqb i p) 0 x) (g .counts i (omega (arith, l, places-few h))))
+
+  held-most-with : (p v : ℕ) (w : List ℕ) → deliverNumber h p v w ≡ none → sumWith (judgeAfter h) p w ≤ 134217728
+  held-most-with p v w e =
       let j = judgeAfter h in
       omega (
         arith,
-        held-sum,
-        by-run h j p w (λ present. runsAt j p w .count ≡ countOf (ruleFrom present) p (some w))
-            (λ r holds l text. run-count r (placesIn h) (standing h) j holds p l w text)
+        held-others p,
+        by-run h j p v w (λ present. runsAt j p w .count ≡ countOf (ruleFrom present) p (some w))
+            (λ r holds l text. run-count r (placesIn h) (standing h) (lastRevision h) j holds p l v w text)
             (ruleThere h)
             (good h)
             e,
-        most-with h p w e,
+        most-with h p v w e,
       )
 
 -- ---- a last condition that fails wherever it is looked at
@@ -153,34 +162,34 @@ idle cs sum small =
     by-number none fails = rw (fails refl)
     by-number (some x) fails = refl
 
-module _ (h : List Call) (p : ℕ) (w : List ℕ) where
-  same-number : formerNumber h p w ≡ deliverNumber h p w
+module _ (h : List Call) (p v : ℕ) (w : List ℕ) where
+  same-number : formerNumber h p v w ≡ deliverNumber h p v w
   same-number =
-      idle (deliverConditions (eqb (placesIn h) 0) (placesIn h) p w (ruleIn h .k) (isSome (standing h p)))
-      (summedIn h + countOf (ruleIn h) p (some w))
-      (most-with h p w)
+      idle (deliverConditions (eqb (placesIn h) 0) (placesIn h) p w (ruleIn h .k) (notGreater v (lastRevision h p)))
+      (sumInWith h p w)
+      (most-with h p v w)
 
-  same-held : formerOn (judgeAfter h) p w ≡ deliverNumber h p w
+  same-held : formerOn (judgeAfter h) p v w ≡ deliverNumber h p v w
   same-held =
       let j = judgeAfter h in
-      let number = deliver-number (ruleThere h) (placesIn h) (standing h) j (good h) p w in
-      idle (deliverConditions (lacksBoard j) (placesOf (j .board)) p w (j .built .k) (not (isEmpty (j .board) p)))
+      let number = deliver-number (ruleThere h) (placesIn h) (standing h) (lastRevision h) j (good h) p v w in
+      idle (deliverConditions (lacksBoard j) (placesOf (j .board)) p w (j .built .k) (comesLate (j .board) p v))
       (sumWith j p w)
-      (λ e. held-most-with h p w (sym number ∙ e))
+      (λ e. held-most-with h p v w (sym number ∙ e))
       ∙ number
 
-  same-delivery : formerStep (judgeAfter h) (delivers p w) ≡ stepOf (judgeAfter h) (delivers p w)
+  same-delivery : formerStep (judgeAfter h) (delivers p v w) ≡ stepOf (judgeAfter h) (delivers p v w)
   unfolding deliverOf
   same-delivery =
       let j = judgeAfter h in
-      ap (λ (o : Option ℕ). outcomeBy o (delivered (runsAt j p w .looked)) j (withBoard j (filledAt (j .board) p (runsAt j p w))))
-      (same-held ∙ sym (deliver-number (ruleThere h) (placesIn h) (standing h) j (good h) p w))
+      ap (λ (o : Option ℕ). outcomeBy o (delivered (runsAt j p w .looked)) j (withBoard j (filledAt (j .board) p v (runsAt j p w))))
+      (same-held ∙ sym (deliver-number (ruleThere h) (placesIn h) (standing h) (lastRevision h) j (good h) p v w))
 
 -- ---- the judge with the six conditions
 same-step : (h : List Call) (c : Call) → formerStep (judgeAfter h) c ≡ stepOf (judgeAfter h) c
 same-step h (installs r) = refl
 same-step h (opens n) = refl
-same-step h (delivers p w) = same-delivery h p w
+same-step h (delivers p v w) = same-delivery h p v w
 same-step h (withdraws p) = refl
 same-step h asksVerdict = refl
 

@@ -15,7 +15,7 @@ use Rattle.calls.specs.declared.Judge.{Judge}
 use Rattle.calls.specs.Replies.{delivered, judged}
 use Rattle.calls.specs.Calls.{Call, installs, opens, delivers, withdraws, asksVerdict}
 use Rattle.calls.specs.Steps.{reportOf, stepOf}
-use Rattle.histories.specs.History.{ruleThere, placesIn, standing, reportIn, answerOf, answersTo, ruleFrom, ruleIn, runAt}
+use Rattle.histories.specs.History.{ruleThere, placesIn, lastRevision, standing, reportIn, answerOf, answersTo, ruleFrom, ruleIn, runAt}
 use Rattle.histories.specs.Claims.{judgeAfter, repliesTo, EveryList, LookedUp}
 use Rattle.histories.proofs.Method.{method}
 use Rattle.histories.proofs.Running.{run-below}
@@ -33,14 +33,14 @@ module _ (h : List Call) (j : Judge) (g : AgreesWith h j) where
   step-good : (c : Call) → AgreesWith (c ∷ h) (stepOf j c .state)
   step-good (installs r) = install-good h j g r
   step-good (opens n) = open-good h j g n
-  step-good (delivers p w) = deliver-good h j g p w
+  step-good (delivers p v w) = deliver-good h j g p v w
   step-good (withdraws p) = withdraw-good h j g p
   step-good asksVerdict = ask-good h j g
 
   step-right : (c : Call) → stepOf j c .reply ≡ answerOf h c
   step-right (installs r) = install-says h j g r
   step-right (opens n) = open-says h j g n
-  step-right (delivers p w) = deliver-says h j g p w
+  step-right (delivers p v w) = deliver-says h j g p v w
   step-right (withdraws p) = withdraw-says h j g p
   step-right asksVerdict = ap judged (report-says h j g)
 
@@ -57,16 +57,16 @@ correct (c ∷ h) = ap₂ _∷_ (step-right h (judgeAfter h) (good h) c) (correc
 
 -- ---- what an accepted delivery is answered
 -- the states that are run are below 32, since a board is there only with a rule
-few-run : (present : Option Rule) (places : ℕ) (at : ℕ → Option (List ℕ)) (j : Judge) → Agrees present places at j → 0 < places
+few-run : (present : Option Rule) (places : ℕ) (at : ℕ → Option (List ℕ)) (last : ℕ → Option ℕ) (j : Judge) → Agrees present places at last j → 0 < places
     → (p : ℕ) → runAt (ruleFrom present) p < 2 ^ 32
-few-run none places at j holds l p = not-both refl (holds .ruled l)
-few-run (some r) places at j holds l p =
+few-run none places at last j holds l p = not-both refl (holds .ruled l)
+few-run (some r) places at last j holds l p =
     let good = holds .rule .1 in lt-of-lt-of-le (run-below r good (holds .rule .2) p) (pow-mono (good .states .1))
 
-looked-up : (h : List Call) (p : ℕ) (w : List ℕ) (n : ℕ) → answerOf h (delivers p w) ≡ delivered n → LookedUp h p (textOf w) n
-looked-up h p w n e =
-    let x = accepted-exactly h .delivery p w n .0 e in
-    let few = few-run (ruleThere h) (placesIn h) (standing h) (judgeAfter h) (good h) (x .0) p in
+looked-up : (h : List Call) (p v : ℕ) (w : List ℕ) (n : ℕ) → answerOf h (delivers p v w) ≡ delivered n → LookedUp h p (textOf w) n
+looked-up h p v w n e =
+    let x = accepted-exactly h .delivery p v w n .0 e in
+    let few = few-run (ruleThere h) (placesIn h) (standing h) (lastRevision h) (judgeAfter h) (good h) (x .0) p in
     let ts = ruleIn h .targets in
     let run = runAt (ruleIn h) p in
     let v = textOf w in
@@ -93,11 +93,12 @@ every-list h =
         ends = g .ends;
         counts = g .counts;
         lengths = g .lengths;
+        revisions = g .revisions;
         asked = verdict-says h (judgeAfter h) g;
-        joined = λ b. by-rule (ruleThere h) (placesIn h) (standing h) (judgeAfter h) g (there h b);
-        summed = summed-same (ruleThere h) (placesIn h) (standing h) (judgeAfter h) g;
+        joined = λ b. by-rule (ruleThere h) (placesIn h) (standing h) (lastRevision h) (judgeAfter h) g (there h b);
+        summed = summed-same (ruleThere h) (placesIn h) (standing h) (lastRevision h) (judgeAfter h) g;
         reported = report-says h (judgeAfter h) g;
-        summed-bytes = bytes-same (ruleThere h) (placesIn h) (standing h) (judgeAfter h) g;
+        summed-bytes = bytes-same (ruleThere h) (placesIn h) (standing h) (lastRevision h) (judgeAfter h) g;
       };
       verdict = words h (judgeAfter h) g;
       report = report-words h;

@@ -23,7 +23,7 @@ use Rattle.joins.specs.Former.{formerDelegates, formerRunSet, formerYes, Former
 use Rattle.joins.proofs.Former.{former-claims}
 use Rattle.calls.specs.declared.Judge.{Judge}
 use Rattle.calls.specs.Calls.{Call}
-use Rattle.histories.specs.History.{ruleThere, ruleFrom, placesIn, standingEnd, standing, runAt}
+use Rattle.histories.specs.History.{ruleThere, ruleFrom, placesIn, standingEnd, lastRevision, standing, runAt}
 use Rattle.histories.specs.Claims.{judgeAfter}
 use Rattle.histories.specs.FormerStarts.{SameAnswer}
 use Rattle.histories.proofs.Running.{merged}
@@ -61,10 +61,10 @@ module _ (r : Rule) (places : ℕ) (at : ℕ → Option (List ℕ)) where
         (startsIn r .delegates) (startsIn r .startcount) (merged r well fit) (endsBy (runAt r)) (holds (runAt r)))
 
 -- a board is there only with a rule
-by-rule : (present : Option Rule) (places : ℕ) (at : ℕ → Option (List ℕ)) (j : Judge) → Agrees present places at j → 0 < places
+by-rule : (present : Option Rule) (places : ℕ) (at : ℕ → Option (List ℕ)) (last : ℕ → Option ℕ) (j : Judge) → Agrees present places at last j → 0 < places
     → total (λ p. cond (isNone (at p)) 1 0) places ≡ 0 → bothSay (ruleFrom present) places at places
-by-rule none places at j agrees l full = not-both refl (agrees .ruled l)
-by-rule (some r) places at j agrees l full = both-say r places at (agrees .rule .1) (agrees .rule .2) (agrees .texts) full
+by-rule none places at last j agrees l full = not-both refl (agrees .ruled l)
+by-rule (some r) places at last j agrees l full = both-say r places at (agrees .rule .1) (agrees .rule .2) (agrees .texts) full
 
 pub same-answer : (h : List Call) → SameAnswer h
-same-answer h board full = by-rule (ruleThere h) (placesIn h) (standing h) (judgeAfter h) (good h) (there h board) full
+same-answer h board full = by-rule (ruleThere h) (placesIn h) (standing h) (lastRevision h) (judgeAfter h) (good h) (there h board) full

@@ -15,6 +15,7 @@ pub mod EveryList
 pub mod Refinement
 pub mod CountBound
 pub mod FormerStarts
+pub mod Orders
 pub mod Fewest
 pub mod TwoRules
 pub mod TableP

@@ -6,7 +6,6 @@
 -- each answer type has a value that says what the definition wants.
 use mathlib.Core.Path.{_≡_, refl, sym, ap, ap₂, _∙_}
 use mathlib.Core.Logic.{_↔_}
-use mathlib.Core.Bool.{not}
 use mathlib.Core.List.{List, []}
 use mathlib.Core.Option.{Option, none, some}
 use Prim.Native.Nat.{ℕ}
@@ -17,7 +16,7 @@ use Rattle.executions.proofs.Executions.{execution-law}
 use Rattle.automaton.specs.declared.Rule.{Rule}
 use Rattle.ruleformat.specs.Reader.{ruleOf}
 use Rattle.build.specs.Building.{builtOf}
-use Rattle.board.specs.Boards.{placesOf, isEmpty, emptyBoard, filledAt, clearedAt}
+use Rattle.board.specs.Boards.{placesOf, isEmpty, comesLate, emptyBoard, filledAt, clearedAt}
 use Rattle.calls.specs.declared.Judge.{Judge}
 use Rattle.calls.specs.declared.InstallResult.{InstallResult}
 use Rattle.calls.specs.declared.InstallAnswer.the-variants as installation
@@ -82,12 +81,12 @@ module _ (j : Judge) where
   unfolding openOf
   opening-of n = an-opening j (withBoard j (emptyBoard n)) (firstOf (openConditions (lacksRule j) n))
 
-  delivery-of : (p : ℕ) (w : List ℕ) → (r : DeliverResult) × (deliverOutcome r ≡ deliverOf j p w)
+  delivery-of : (p v : ℕ) (w : List ℕ) → (r : DeliverResult) × (deliverOutcome r ≡ deliverOf j p v w)
   unfolding deliverOf
-  delivery-of p w =
-      a-delivery j (withBoard j (filledAt (j .board) p (runsAt j p w)))
+  delivery-of p v w =
+      a-delivery j (withBoard j (filledAt (j .board) p v (runsAt j p w)))
       (firstOf
-      (deliverConditions (lacksBoard j) (placesOf (j .board)) p w (j .built .k) (not (isEmpty (j .board) p))))
+      (deliverConditions (lacksBoard j) (placesOf (j .board)) p w (j .built .k) (comesLate (j .board) p v)))
       (runsAt j p w .looked)
 
   withdrawal-of : (p : ℕ) → (r : WithdrawResult) × (withdrawOutcome r ≡ withdrawOf j p)
@@ -111,7 +110,7 @@ whole a next o e = ap₂ (λ (x : Reply) (y : Judge). record { reply = x; state 
 step-to : (j : Judge) (c : Call) (a : Reply) (next : Judge) → MayStep j c a next → (a ≡ stepOf j c .reply) × (next ≡ stepOf j c .state)
 step-to j (installs rule) a next m = parts a next (installOf j rule) (m .2 ∙ m .1 .1)
 step-to j (opens n) a next m = parts a next (openOf j n) (m .2 ∙ m .1 .1)
-step-to j (delivers p w) a next m = parts a next (deliverOf j p w) (m .2 ∙ m .1 .4 ∙ ap (deliverOf j p) (m .1 .3))
+step-to j (delivers p v w) a next m = parts a next (deliverOf j p v w) (m .2 ∙ m .1 .4 ∙ ap (deliverOf j p v) (m .1 .3))
 step-to j (withdraws p) a next m = parts a next (withdrawOf j p) (m .2 ∙ m .1 .1)
 step-to j asksVerdict a next m = (m .2 ∙ ap judged (m .1 .1), m .3)
 
@@ -122,9 +121,9 @@ step-back j (installs rule) a next e =
 step-back j (opens n) a next e =
     let r = opening-of j n in
     (r .0, ((j, (n, tt)), r .1), whole a next (openOf j n) e ∙ sym (r .1))
-step-back j (delivers p w) a next e =
-    let r = delivery-of j p w in
-    (r .0, (([], tt), lent w, (j, (p, (lent w, tt))), refl, r .1), whole a next (deliverOf j p w) e ∙ sym (r .1))
+step-back j (delivers p v w) a next e =
+    let r = delivery-of j p v w in
+    (r .0, (([], tt), lent w, (j, (p, (v, (lent w, tt)))), refl, r .1), whole a next (deliverOf j p v w) e ∙ sym (r .1))
 step-back j (withdraws p) a next e =
     let r = withdrawal-of j p in
     (r .0, ((j, (p, tt)), r .1), whole a next (withdrawOf j p) e ∙ sym (r .1))
@@ -133,7 +132,7 @@ step-back j asksVerdict a next e = let r = a-report (reportOf j) in (r .0, ((j, 
 asks-nothing : (j : Judge) (c : Call) → AsksStep j c
 asks-nothing j (installs rule) = install-asks-nothing j rule
 asks-nothing j (opens n) = open-asks-nothing j n
-asks-nothing j (delivers p w) = λ κs c e. deliver-asks-nothing κs j p c
+asks-nothing j (delivers p v w) = λ κs c e. deliver-asks-nothing κs j p v c
 asks-nothing j (withdraws p) = withdraw-asks-nothing j p
 asks-nothing j asksVerdict = verdict-asks-nothing j
 

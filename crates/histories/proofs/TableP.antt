@@ -26,7 +26,7 @@ use Rattle.build.specs.Building.{builtOf}
 use Rattle.delegates.specs.Alike.{delegateIn, startSet}
 use Rattle.chunks.specs.Chunks.{foreign, counted, runSet, looked}
 use Rattle.joins.specs.Joining.{joinOf, yesOf}
-use Rattle.histories.specs.History.{ruleThere, ruleFrom, withSets, loading, loadReply, openNumber, placesIn, standingCount, standingEnd, deliverCheck, standing, deliverNumber, standingText, reportIn, answersTo, ruleIn, lookedOf, replyBy, answerOf}
+use Rattle.histories.specs.History.{ruleThere, ruleFrom, withSets, loading, loadReply, openNumber, placesIn, standingCount, standingEnd, deliverCheck, lastRevision, standing, deliverNumber, standingText, reportIn, answersTo, ruleIn, lookedOf, replyBy, answerOf}
 use Rattle.calls.specs.Replies.{Reported, Reply, accepted, installed, judged, refused, delivered}
 use Rattle.calls.specs.Calls.{Call, installs, opens, delivers, asksVerdict, installNumber, loadNumber, verdictBy, reportBy}
 use Rattle.calls.proofs.Conditions.{load-number, load-accepted}
@@ -50,40 +50,46 @@ module _ (r : Rule) (d : List ℕ) (places : ℕ) (at : ℕ → Option (List ℕ
 
 -- ---- the calls of a verdict, one by one: the rule is r, and the board has these places
 -- and standing chunks
-record Stage (r : Rule) (h : List Call) (places : ℕ) (at : ℕ → Option (List ℕ)) : Type 0 where
+record Stage (r : Rule) (h : List Call) (places : ℕ) (at : ℕ → Option (List ℕ)) (last : ℕ → Option ℕ) : Type 0 where
   rule : ruleThere h ≡ some r
   board : placesIn h ≡ places
   stands : standing h ≡ at
+  revisions : lastRevision h ≡ last
 
-abbrev put : (ℕ → Option (List ℕ)) → ℕ → List ℕ → ℕ → Option (List ℕ)
-put at p w i = cond (eqb p i) (some w) (at i)
+abbrev put : {A : Type 0} → (ℕ → Option A) → ℕ → A → ℕ → Option A
+put at p x i = cond (eqb p i) (some x) (at i)
 
 abbrev putAll : ℕ → List (List ℕ × ℕ) → (ℕ → Option (List ℕ)) → ℕ → Option (List ℕ)
 putAll p [] at = at
 putAll p (c ∷ cs) at = putAll (suc p) cs (put at p (c .0))
 
+-- revision 0 at the places of the chunks
+abbrev lastAll : ℕ → List (List ℕ × ℕ) → (ℕ → Option ℕ) → ℕ → Option ℕ
+lastAll p [] last = last
+lastAll p (c ∷ cs) last = lastAll (suc p) cs (put last p 0)
+
 -- each delivery meets no condition, and a successor is looked up for as many bytes as stand beside
 -- its chunk; with the delegates d put in
-abbrev Checked : Rule → List ℕ → ℕ → ℕ → List (List ℕ × ℕ) → (ℕ → Option (List ℕ)) → Type 0
-Checked r d places p [] at = Unit {0}
-Checked r d places p (c ∷ cs) at =
-    (deliverCheck (r .k) places (at p) p (c .0) ≡ none) × (looked (r .targets) (runSet d (r .n) (r .initials) p) (textOf (c .0)) ≡ c .1)
-    × Checked r d places (suc p) cs (put at p (c .0))
+abbrev Checked : Rule → List ℕ → ℕ → ℕ → List (List ℕ × ℕ) → (ℕ → Option ℕ) → Type 0
+Checked r d places p [] last = Unit {0}
+Checked r d places p (c ∷ cs) last =
+    (deliverCheck (r .k) places (last p) p 0 (c .0) ≡ none) × (looked (r .targets) (runSet d (r .n) (r .initials) p) (textOf (c .0)) ≡ c .1)
+    × Checked r d places (suc p) cs (put last p 0)
 
 opened : (r : Rule) (n : ℕ) → installNumber r ≡ none → outside 1 64 n ≡ false
-    → (openNumber (installs r ∷ []) n ≡ none) × Stage r (opens n ∷ installs r ∷ []) n (λ _. none)
-unfolding ruleThere placesIn standing
-opened r n taken fine = (rw (taken, fine), record { rule = rw taken; board = rw (taken, fine); stands = fun-ext (λ i. rw (taken, fine)) })
+    → (openNumber (installs r ∷ []) n ≡ none) × Stage r (opens n ∷ installs r ∷ []) n (λ _. none) (λ _. none)
+unfolding ruleThere placesIn standing lastRevision
+opened r n taken fine = (rw (taken, fine), record { rule = rw taken; board = rw (taken, fine); stands = fun-ext (λ i. rw (taken, fine)); revisions = fun-ext (λ i. rw (taken, fine)) })
 
 module _ (r : Rule) (places : ℕ) (d : List ℕ) (is : startsIn r .delegates ≡ d) where
-  one-delivered : (h : List Call) (at : ℕ → Option (List ℕ)) (p : ℕ) (w : List ℕ) (n : ℕ) → Stage r h places at
-      → deliverCheck (r .k) places (at p) p w ≡ none
+  one-delivered : (h : List Call) (at : ℕ → Option (List ℕ)) (last : ℕ → Option ℕ) (p : ℕ) (w : List ℕ) (n : ℕ) → Stage r h places at last
+      → deliverCheck (r .k) places (last p) p 0 w ≡ none
       → looked (r .targets) (runSet d (r .n) (r .initials) p) (textOf w) ≡ n
-      → (answerOf h (delivers p w) ≡ delivered n) × Stage r (delivers p w ∷ h) places (put at p w)
-  unfolding ruleThere placesIn standing
-  one-delivered h at p w n s e looks =
-      let there : deliverNumber h p w ≡ none =
-      subst₃ (λ (x : Option Rule) (y : ℕ) (z : ℕ → Option (List ℕ)). deliverCheck (ruleFrom x .k) y (z p) p w ≡ none) (sym (s .rule)) (sym (s .board)) (sym (s .stands)) e in
+      → (answerOf h (delivers p 0 w) ≡ delivered n) × Stage r (delivers p 0 w ∷ h) places (put at p w) (put last p 0)
+  unfolding ruleThere placesIn standing lastRevision
+  one-delivered h at last p w n s e looks =
+      let there : deliverNumber h p 0 w ≡ none =
+      subst₃ (λ (x : Option Rule) (y : ℕ) (z : ℕ → Option ℕ). deliverCheck (ruleFrom x .k) y (z p) p 0 w ≡ none) (sym (s .rule)) (sym (s .board)) (sym (s .revisions)) e in
       let number : lookedOf (ruleIn h) p w ≡ n =
       ap (λ (x : Option Rule). lookedOf (ruleFrom x) p w) (s .rule)
       ∙ ap (λ (x : List ℕ). looked (r .targets) (runSet x (r .n) (r .initials) p) (textOf w)) is
@@ -95,20 +101,23 @@ module _ (r : Rule) (places : ℕ) (d : List ℕ) (is : startsIn r .delegates �
           stands = fun-ext (λ i.
               ap (λ (t : Bool). cond t (some w) (standing h i)) (ap (λ (u : Bool). eqb p i && u) (ap isNone there) ∙ and-true (eqb p i))
               ∙ ap (λ (z : ℕ → Option (List ℕ)). put z p w i) (s .stands));
+          revisions = fun-ext (λ i.
+              ap (λ (t : Bool). cond t (some 0) (lastRevision h i)) (ap (λ (u : Bool). eqb p i && u) (ap isNone there) ∙ and-true (eqb p i))
+              ∙ ap (λ (z : ℕ → Option ℕ). put z p 0 i) (s .revisions));
         },
       )
 
-  all-delivered : (cs : List (List ℕ × ℕ)) (h : List Call) (at : ℕ → Option (List ℕ)) (p : ℕ) → Stage r h places at → Checked r d places p cs at
-      → (answersTo (delivering p cs h) ≡ answering cs (answersTo h)) × Stage r (delivering p cs h) places (putAll p cs at)
+  all-delivered : (cs : List (List ℕ × ℕ)) (h : List Call) (at : ℕ → Option (List ℕ)) (last : ℕ → Option ℕ) (p : ℕ) → Stage r h places at last → Checked r d places p cs last
+      → (answersTo (delivering p cs h) ≡ answering cs (answersTo h)) × Stage r (delivering p cs h) places (putAll p cs at) (lastAll p cs last)
   unfolding answersTo
-  all-delivered [] h at p s x = (refl, s)
-  all-delivered (c ∷ cs) h at p s x =
-      let one = one-delivered h at p (c .0) (c .1) s (x .0) (x .1) in
-      let rest = all-delivered cs (delivers p (c .0) ∷ h) (put at p (c .0)) (suc p) (one .1) (x .2) in
+  all-delivered [] h at last p s x = (refl, s)
+  all-delivered (c ∷ cs) h at last p s x =
+      let one = one-delivered h at last p (c .0) (c .1) s (x .0) (x .1) in
+      let rest = all-delivered cs (delivers p 0 (c .0) ∷ h) (put at p (c .0)) (put last p 0) (suc p) (one .1) (x .2) in
       (rest .0 ∙ ap (λ (a : Reply). answering cs (a ∷ answersTo h)) (one .0), rest .1)
 
-  asked : (h : List Call) (at : ℕ → Option (List ℕ)) → Stage r h places at → reportIn h ≡ reportWith r d places at
-  asked h at s =
+  asked : (h : List Call) (at : ℕ → Option (List ℕ)) (last : ℕ → Option ℕ) → Stage r h places at last → reportIn h ≡ reportWith r d places at
+  asked h at last s =
       subst₃ (λ (x : Option Rule) (y : ℕ) (z : ℕ → Option (List ℕ)). reportWith (ruleFrom x) (startsIn (ruleFrom x) .delegates) y z ≡ reportWith r d places at)
       (sym (s .rule)) (sym (s .board)) (sym (s .stands))
       (ap (λ (x : List ℕ). reportWith r x places at) is)
@@ -161,11 +170,11 @@ verdict-answers f load x chunks v is t =
     let o = opened r n taken (t .2) in
     let same = ap (λ (s : Starts). s .delegates) is in
     let h = opens n ∷ installs r ∷ [] in
-    let d = all-delivered r n (x .delegates) same chunks h (λ _. none) 0 (o .1) (t .3) in
+    let d = all-delivered r n (x .delegates) same chunks h (λ _. none) (λ _. none) 0 (o .1) (t .3) in
     let first : answersTo h ≡ accepted ∷ load ∷ [] = rw (o .0, taken, is, t .1) in
     ap (λ (l : List Call). answersTo (asksVerdict ∷ delivering 0 chunks (opens n ∷ l))) (makes f (t .0))
     ∙ ap₂ _∷_
-    (ap judged (asked r n (x .delegates) same (delivering 0 chunks h) (putAll 0 chunks (λ _. none)) (d .1) ∙ t .4))
+    (ap judged (asked r n (x .delegates) same (delivering 0 chunks h) (putAll 0 chunks (λ _. none)) (lastAll 0 chunks (λ _. none)) (d .1) ∙ t .4))
     (d .0 ∙ ap (answering chunks) first)
 
 -- a file that is not read makes no call
@@ -213,7 +222,7 @@ abbrev given-B : Starts
 given-B = record { delegates = listed 0 1 1; startcount = 2 }
 
 computed : Each Left table
-unfolding loadNumber refusal tooShort tooLong badStates badSymbols noRoom badMask badPairs badSection badArcs anyBelow targetsUpTo listFrom union indexOf numbered expandFrom closeFrom keysUpTo setsOf tooMany nextSet rowsFrom placesIn standing textOf foreign counted looked delegateIn startSet total joinOf
+unfolding loadNumber refusal tooShort tooLong badStates badSymbols noRoom badMask badPairs badSection badArcs anyBelow targetsUpTo listFrom union indexOf numbered expandFrom closeFrom keysUpTo setsOf tooMany nextSet rowsFrom placesIn standing lastRevision textOf foreign counted looked delegateIn startSet total joinOf
 computed =
     ((refl, rw starts-A), (refl, refl)) &
     ((refl, rw starts-B), rw starts-B) &

@@ -37,7 +37,7 @@ use Rattle.joins.specs.Claims as joins-specs
 use Rattle.joins.proofs.Claims as joins
 use Rattle.calls.specs.declared.Judge.{Judge}
 use Rattle.calls.specs.Replies.{Judgement, waiting, yesWith, noWith, refusedWith}
-use Rattle.histories.specs.History.{ruleThere, ruleFrom, openNumber, boardIn, placesIn, runAt, countOf, standingEnd, endOf, standing, emptiesIn, summedIn, yesIn, standingText, joinedUpTo}
+use Rattle.histories.specs.History.{ruleThere, ruleFrom, openNumber, boardIn, placesIn, runAt, countOf, standingEnd, endOf, lastRevision, standing, emptiesIn, summedIn, yesIn, standingText, joinedUpTo}
 use Rattle.calls.specs.Calls.{Call, installs, opens, delivers, withdraws, asksVerdict, installNumber, verdictBy}
 use Rattle.histories.specs.Claims.{VerdictClauses}
 use Rattle.histories.proofs.Running.{merged}
@@ -253,8 +253,8 @@ module _ (r : Rule) (good : WellFormed r) (fit : fits r) (places : ℕ) (at : �
       rw (count-is p (at p)) (joins.claims .place-most r good (startsIn r .delegates) (startsIn r .startcount) (merged r good fit) p (standingText (at p)))
 
 -- ---- for every list of calls
-module _ (places : ℕ) (at : ℕ → Option (List ℕ)) (j : Judge) where
-  most-by : (present : Option Rule) → Agrees present places at j
+module _ (places : ℕ) (at : ℕ → Option (List ℕ)) (last : ℕ → Option ℕ) (j : Judge) where
+  most-by : (present : Option Rule) → Agrees present places at last j
       → total (λ p. countOf (ruleFrom present) p (at p)) places ≤ startsIn (ruleFrom present) .startcount * length (joinedUpTo at places)
   unfolding total
   most-by none holds =
@@ -264,7 +264,7 @@ module _ (places : ℕ) (at : ℕ → Option (List ℕ)) (j : Judge) where
   most-by (some r) holds =
       sum-most r (holds .rule .1) (holds .rule .2) places at
 
-  place-by : (present : Option Rule) → Agrees present places at j → (p : ℕ)
+  place-by : (present : Option Rule) → Agrees present places at last j → (p : ℕ)
       → countOf (ruleFrom present) p (at p) ≤ startsIn (ruleFrom present) .startcount * length (standingText (at p))
   place-by none holds p =
       let free : places ≤ p = by-test (ltb 0 places)
@@ -273,7 +273,7 @@ module _ (places : ℕ) (at : ℕ → Option (List ℕ)) (j : Judge) where
       rw (holds .beyond p free) (omega arith)
   place-by (some r) holds p = place-most r (holds .rule .1) (holds .rule .2) places at p
 
-  accepts-by : (present : Option Rule) → Agrees present places at j → 0 < places
+  accepts-by : (present : Option Rule) → Agrees present places at last j → 0 < places
       → total (λ p. cond (isNone (at p)) 1 0) places ≡ 0
       → (yesOf (λ p q. endOf (ruleFrom present) p q (at p)) (delegateIn (startsIn (ruleFrom present) .delegates)) (ruleFrom present .n) (ruleFrom present .initials) (ruleFrom present .finals) places ≡ true)
       ↔ Accepts (automatonOf (ruleFrom present)) (joinedUpTo at places)
@@ -298,7 +298,7 @@ board-law (opens n ∷ h) =
         let a = passed 20 (isNone (ruleThere h)) (cond (outside 1 64 n) (some 10) none) z in
         passed 10 (outside 1 64 n) none (a .1) .0
     accepted-opening (some x) z t = zero-one cc
-board-law (delivers p w ∷ h) = board-law h
+board-law (delivers p v w ∷ h) = board-law h
 board-law (withdraws p ∷ h) = board-law h
 board-law (asksVerdict ∷ h) = board-law h
 
@@ -324,12 +324,12 @@ words h j good =
       );
       counted = yes-count (placesIn h) (emptiesIn h) (yesIn h) (summedIn h);
       counted-no = no-count (placesIn h) (emptiesIn h) (yesIn h) (summedIn h);
-      most = most-by (placesIn h) s j (ruleThere h) good;
-      place-most = place-by (placesIn h) s j (ruleThere h) good;
+      most = most-by (placesIn h) s (lastRevision h) j (ruleThere h) good;
+      place-most = place-by (placesIn h) s (lastRevision h) j (ruleThere h) good;
       accepts = λ b e.
-          Iff·trans (yes-law (placesIn h) (emptiesIn h) (yesIn h) (summedIn h) (there h b) e) (accepts-by (placesIn h) s j (ruleThere h) good (there h b) e);
+          Iff·trans (yes-law (placesIn h) (emptiesIn h) (yesIn h) (summedIn h) (there h b) e) (accepts-by (placesIn h) s (lastRevision h) j (ruleThere h) good (there h b) e);
       rejects = λ b e.
           Iff·trans (no-law (placesIn h) (emptiesIn h) (yesIn h) (summedIn h) (there h b) e)
-          (not-true-false (yesIn h) (accepts-by (placesIn h) s j (ruleThere h) good (there h b) e));
+          (not-true-false (yesIn h) (accepts-by (placesIn h) s (lastRevision h) j (ruleThere h) good (there h b) e));
       joins = λ b e. yes-law (placesIn h) (emptiesIn h) (yesIn h) (summedIn h) (there h b) e;
     }

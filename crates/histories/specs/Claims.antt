@@ -7,6 +7,7 @@
 --   BuiltBy present j   the rule that is there, if there is one, is built in j; no rule is zeros
 --   loadAfter h f       the outcome of a load of the file f after the calls h
 --   LoadClauses h f     what a load is (document 02, R-3)
+--   leastAfter last     the least revision that is accepted after the last one
 --   Invariant h j       what holds of the state j after the calls h
 --   VerdictClauses      the words of demand 3 for the verdict asked after h
 --   ReportClauses       what is reported with it (document 02, R-1)
@@ -18,7 +19,7 @@ use mathlib.Core.Logic.{_↔_, _⊎_}
 use mathlib.Core.Bool.{true, false}
 use mathlib.Core.List.{List, _++_}
 use mathlib.Core.Option.{Option, none, some}
-use Prim.Native.Nat.{ℕ, _*_, _≤_, _<_}
+use Prim.Native.Nat.{ℕ, _+_, _*_, _≤_, _<_}
 use lib.ListN.{length, getD, take}
 use Rattle.limits.specs.Limits.{mostStates, mostPlaces}
 use Rattle.base.specs.Conditions.{NoneHolds, FirstHolds}
@@ -34,10 +35,10 @@ use Rattle.ruleformat.specs.Language.{automatonIn}
 use Rattle.subsets.specs.Claims.{fits}
 use Rattle.delegates.specs.Claims.{startsIn}
 use Rattle.build.specs.Building.{builtOf, noBuilt}
-use Rattle.board.specs.Boards.{held, isEmpty, summedCount, summedBytes}
+use Rattle.board.specs.Boards.{held, isEmpty, lastAt, summedCount, summedBytes}
 use Rattle.calls.specs.declared.Judge.{Judge}
 use Rattle.calls.specs.Replies.{Reply, waiting, yesWith, noWith, refusedWith, refused, delivered}
-use Rattle.histories.specs.History.{ruleThere, ruleIn, withSets, loading, loadReply, boardIn, placesIn, standing, endAt, countAt, lengthAt, emptiesIn, summedIn, bytesIn, yesIn, standingText, textIn, verdictIn, reportIn, answersTo, runAt, answerOf}
+use Rattle.histories.specs.History.{ruleThere, ruleIn, withSets, loading, loadReply, boardIn, placesIn, lastRevision, standing, endAt, countAt, lengthAt, emptiesIn, summedIn, bytesIn, yesIn, standingText, textIn, verdictIn, reportIn, answersTo, runAt, answerOf}
 use Rattle.histories.specs.Method.{TooMany, Method}
 use Rattle.histories.specs.Conditions.{Accepted-exactly, Refused-exactly}
 use Rattle.calls.specs.Calls.{Call, installNumber, loadNumber, delivers}
@@ -59,6 +60,11 @@ abbrev pub BuiltBy : Option Rule → Judge → Type 0
 BuiltBy none j = j .built ≡ noBuilt
 BuiltBy (some r) j = (j .built ≡ builtOf r) × WellFormed r × fits r
 
+-- one more than the last revision, 0 where there is none
+abbrev pub leastAfter : Option ℕ → ℕ
+leastAfter none = 0
+leastAfter (some v) = v + 1
+
 -- the state: the rule that is there is built, and each place holds the end sets, the count and the
 -- length of its standing chunk's text, or nothing
 pub record Invariant (h : List Call) (j : Judge) : Type 0 where
@@ -68,6 +74,8 @@ pub record Invariant (h : List Call) (j : Judge) : Type 0 where
   pub ends : (p q : ℕ) → p < mostPlaces → q < mostStates → held (j .board) p q ≡ endAt h p q
   pub counts : (p : ℕ) → p < mostPlaces → getD (j .board .counts) p 0 ≡ countAt h p
   pub lengths : (p : ℕ) → p < mostPlaces → getD (j .board .lengths) p 0 ≡ lengthAt h p
+  -- and it holds the last revision accepted there, as the least that is greater
+  pub revisions : (p : ℕ) → p < mostPlaces → lastAt (j .board) p ≡ leastAfter (lastRevision h p)
   -- a verdict asked now is the one that the list says; its yes or no is the join of the end sets
   -- held, its count the sum of the counts held
   pub asked : verdictOf j ≡ verdictIn h
@@ -154,7 +162,7 @@ pub record EveryList (h : List Call) : Type 0 where
   pub accepted-exactly : Accepted-exactly h
   pub refused-exactly : Refused-exactly h
   -- an accepted delivery is answered for how many bytes of its text a successor is looked up
-  pub looked-up : (p : ℕ) (w : List ℕ) (n : ℕ) → answerOf h (delivers p w) ≡ delivered n → LookedUp h p (textOf w) n
+  pub looked-up : (p v : ℕ) (w : List ℕ) (n : ℕ) → answerOf h (delivers p v w) ≡ delivered n → LookedUp h p (textOf w) n
   pub after : Invariant h (judgeAfter h)
   pub verdict : VerdictClauses h
   pub report : ReportClauses h

@@ -5,7 +5,7 @@ use mathlib.Core.Path.{_≡_}
 use mathlib.Core.Logic.{_↔_, _⊎_}
 use mathlib.Core.Bool.{true, false}
 use mathlib.Core.List.{List}
-use mathlib.Core.Option.{none}
+use mathlib.Core.Option.{none, some}
 use Prim.Native.Nat.{ℕ, _^_, _≤_, _<_}
 use lib.ListN.{length}
 use Rattle.limits.specs.Limits.{mostStates, mostSymbols, mostPlaces, longestChunk}
@@ -17,7 +17,7 @@ use Rattle.build.specs.Building.{builtOf}
 use Rattle.chunks.specs.Chunks.{foreign}
 use Rattle.calls.specs.Replies.{accepted, installed, delivered, refused}
 use Rattle.calls.specs.Calls.{Call, installs, opens, delivers, withdraws}
-use Rattle.histories.specs.History.{ruleThere, ruleIn, placesIn, lookedOf, standing, answerOf}
+use Rattle.histories.specs.History.{ruleThere, ruleIn, placesIn, lookedOf, lastRevision, standing, answerOf}
 use Rattle.histories.specs.Method.{TooMany}
 
 pub record Accepted-exactly (h : List Call) : Type 0 where
@@ -29,11 +29,13 @@ pub record Accepted-exactly (h : List Call) : Type 0 where
   -- a rule is there, and 1 to 64 places are asked for
   pub opening : (n : ℕ) → (answerOf h (opens n) ≡ accepted) ↔ ((ruleThere h ≡ none → ⊥) × (1 ≤ n) × (n ≤ mostPlaces))
   -- a board is there with that place, the chunk is within the limit and its text, which is without
-  -- its idle marks, within the alphabet, and the place is empty; it is answered for how many bytes
-  -- a successor is looked up, which `LookedUp` of specs/Claims.antt says in document 02's words
-  pub delivery : (p : ℕ) (w : List ℕ) (n : ℕ)
-      → (answerOf h (delivers p w) ≡ delivered n)
-      ↔ ((0 < placesIn h) × (p < placesIn h) × (length w ≤ longestChunk) × (foreign (textOf w) (ruleIn h .k) ≡ false) × (standing h p ≡ none)
+  -- its idle marks, within the alphabet, and its revision is greater than the last one accepted
+  -- there, if there was one; it is answered for how many bytes a successor is looked up, which
+  -- `LookedUp` of specs/Claims.antt says in document 02's words
+  pub delivery : (p v : ℕ) (w : List ℕ) (n : ℕ)
+      → (answerOf h (delivers p v w) ≡ delivered n)
+      ↔ ((0 < placesIn h) × (p < placesIn h) × (length w ≤ longestChunk) × (foreign (textOf w) (ruleIn h .k) ≡ false)
+      × ((last : ℕ) → lastRevision h p ≡ some last → last < v)
       × (n ≡ lookedOf (ruleIn h) p w))
   -- a board is there with that place, and a chunk stands there
   pub withdrawal : (p : ℕ) → (answerOf h (withdraws p) ≡ accepted) ↔ ((0 < placesIn h) × (p < placesIn h) × (standing h p ≡ none → ⊥))
@@ -51,15 +53,17 @@ pub record Refused-exactly (h : List Call) : Type 0 where
   -- no rule; with a rule, no number of places from 1 to 64
   pub open-20 : (n : ℕ) → (answerOf h (opens n) ≡ refused 20) ↔ (ruleThere h ≡ none)
   pub open-10 : (n : ℕ) → (answerOf h (opens n) ≡ refused 10) ↔ ((ruleThere h ≡ none → ⊥) × ((n < 1) ⊎ (mostPlaces < n)))
-  -- no board; no such place; too long a chunk; a foreign byte; the place is filled
-  pub deliver-21 : (p : ℕ) (w : List ℕ) → (answerOf h (delivers p w) ≡ refused 21) ↔ (placesIn h ≡ 0)
-  pub deliver-11 : (p : ℕ) (w : List ℕ) → (answerOf h (delivers p w) ≡ refused 11) ↔ ((0 < placesIn h) × (placesIn h ≤ p))
-  pub deliver-12 : (p : ℕ) (w : List ℕ) → (answerOf h (delivers p w) ≡ refused 12) ↔ ((p < placesIn h) × (longestChunk < length w))
-  pub deliver-13 : (p : ℕ) (w : List ℕ)
-      → (answerOf h (delivers p w) ≡ refused 13) ↔ ((p < placesIn h) × (length w ≤ longestChunk) × (foreign (textOf w) (ruleIn h .k) ≡ true))
-  pub deliver-22 : (p : ℕ) (w : List ℕ)
-      → (answerOf h (delivers p w) ≡ refused 22)
-      ↔ ((p < placesIn h) × (length w ≤ longestChunk) × (foreign (textOf w) (ruleIn h .k) ≡ false) × (standing h p ≡ none → ⊥))
+  -- no board; no such place; too long a chunk; a foreign byte; a revision that is not greater than
+  -- the last one accepted at the place
+  pub deliver-21 : (p v : ℕ) (w : List ℕ) → (answerOf h (delivers p v w) ≡ refused 21) ↔ (placesIn h ≡ 0)
+  pub deliver-11 : (p v : ℕ) (w : List ℕ) → (answerOf h (delivers p v w) ≡ refused 11) ↔ ((0 < placesIn h) × (placesIn h ≤ p))
+  pub deliver-12 : (p v : ℕ) (w : List ℕ) → (answerOf h (delivers p v w) ≡ refused 12) ↔ ((p < placesIn h) × (longestChunk < length w))
+  pub deliver-13 : (p v : ℕ) (w : List ℕ)
+      → (answerOf h (delivers p v w) ≡ refused 13) ↔ ((p < placesIn h) × (length w ≤ longestChunk) × (foreign (textOf w) (ruleIn h .k) ≡ true))
+  pub deliver-22 : (p v : ℕ) (w : List ℕ)
+      → (answerOf h (delivers p v w) ≡ refused 22)
+      ↔ ((p < placesIn h) × (length w ≤ longestChunk) × (foreign (textOf w) (ruleIn h .k) ≡ false)
+      × (last : ℕ) × (lastRevision h p ≡ some last) × (v ≤ last))
   -- no board; no such place; the place is empty
   pub withdraw-21 : (p : ℕ) → (answerOf h (withdraws p) ≡ refused 21) ↔ (placesIn h ≡ 0)
   pub withdraw-11 : (p : ℕ) → (answerOf h (withdraws p) ≡ refused 11) ↔ ((0 < placesIn h) × (placesIn h ≤ p))

@@ -56,10 +56,10 @@ MayLoad j f r =
 abbrev pub MayOpen : Judge → ℕ → OpenResult → Type 0
 MayOpen j n r = (s : AtExit (endedOf 0 open-kinds.ps open-kinds.r) tt) × open-reads.Learnt tt (j, (n, tt)) r s
 
-abbrev pub MayDeliver : Judge → ℕ → List ℕ → DeliverResult → Type 0
-MayDeliver j p w r =
+abbrev pub MayDeliver : Judge → ℕ → ℕ → List ℕ → DeliverResult → Type 0
+MayDeliver j p v w r =
     (κs : Lfts 1) × (c : RefT (List ℕ)) × (s : AtExit (endedOf 1 deliver-kinds.ps deliver-kinds.r) κs) × (now c ≡ w)
-    × deliver-reads.Learnt κs (j, (p, (c, tt))) r s
+    × deliver-reads.Learnt κs (j, (p, (v, (c, tt)))) r s
 
 abbrev pub MayWithdraw : Judge → ℕ → WithdrawResult → Type 0
 MayWithdraw j p r = (s : AtExit (endedOf 0 withdraw-kinds.ps withdraw-kinds.r) tt) × withdraw-reads.Learnt tt (j, (p, tt)) r s
@@ -71,7 +71,7 @@ MayJudge j r = (s : AtExit (endedOf 0 verdict-kinds.ps verdict-kinds.r) tt) × v
 abbrev pub AsksStep : Judge → Call → Type 0
 AsksStep j (installs rule) = install-reads.Asked tt (j, (rule, tt))
 AsksStep j (opens n) = open-reads.Asked tt (j, (n, tt))
-AsksStep j (delivers p w) = (κs : Lfts 1) (c : RefT (List ℕ)) → now c ≡ w → deliver-reads.Asked κs (j, (p, (c, tt)))
+AsksStep j (delivers p v w) = (κs : Lfts 1) (c : RefT (List ℕ)) → now c ≡ w → deliver-reads.Asked κs (j, (p, (v, (c, tt))))
 AsksStep j (withdraws p) = withdraw-reads.Asked tt (j, (p, tt))
 AsksStep j asksVerdict = verdict-reads.Asked tt (j, tt)
 
@@ -81,7 +81,7 @@ AsksLoad j f = (κs : Lfts 1) (c : RefT (List ℕ)) → now c ≡ f → load-rea
 abbrev pub MayStep : Judge → Call → Reply → Judge → Type 0
 MayStep j (installs rule) a next = (r : InstallResult) × MayInstall j rule r × (record { reply = a; state = next } ≡ installOutcome r)
 MayStep j (opens n) a next = (r : OpenResult) × MayOpen j n r × (record { reply = a; state = next } ≡ openOutcome r)
-MayStep j (delivers p w) a next = (r : DeliverResult) × MayDeliver j p w r × (record { reply = a; state = next } ≡ deliverOutcome r)
+MayStep j (delivers p v w) a next = (r : DeliverResult) × MayDeliver j p v w r × (record { reply = a; state = next } ≡ deliverOutcome r)
 MayStep j (withdraws p) a next = (r : WithdrawResult) × MayWithdraw j p r × (record { reply = a; state = next } ≡ withdrawOutcome r)
 MayStep j asksVerdict a next = (r : Report) × MayJudge j r × (a ≡ judged (reportMeans r)) × (next ≡ j)
 

@@ -7,6 +7,8 @@
 --   boardIn h                a board is there: the last accepted call among installations and
 --                            openings is an opening
 --   placesIn h               its places; 0 where no board is there
+--   lastRevision h p         the last revision accepted at place p since the board was opened, or
+--                            none (document 02, R-11)
 --   standing h p             the standing chunk at place p, or none
 --   endAt h p q, countAt h p, lengthAt h p   what place p holds: the end set of state q, the count,
 --                                            and the length of the chunk's text
@@ -15,8 +17,10 @@
 --                                          standingCount and standingEnd, of its text
 --   lookedOf r p w           for how many bytes of the text of the chunk w a successor is looked up
 --                            at place p, by the rule r (document 02, R-2)
+--   notGreater v last              the revision v is not greater than the last one, if there is one
 --   deliverCheck, withdrawCheck    the number with which a delivery and a withdrawal at place p are
---                                  refused, by the places and what stands at p
+--                                  refused, by the places and the last revision or what stands
+--                                  at p
 --   deliverNumber, withdrawNumber  they after the calls h: 21, 11, 12, 13, 22 and 21, 11, 23
 --   emptiesIn h, summedIn h, bytesIn h   how many places are empty, the sum of the counts, and that
 --                                        of the lengths
@@ -34,11 +38,11 @@ use mathlib.Core.Bool.{Bool, true, false, cond, _&&_}
 use mathlib.Core.List.{List, [], _∷_}
 use mathlib.Core.Option.{Option, none, some}
 use Prim.Native.Nat.{ℕ}
-use lib.Dec.{eqb}
+use lib.Dec.{eqb, leb}
 use lib.ListN.{length}
 use Rattle.base.specs.Conditions.{firstOf}
 use Rattle.base.specs.Lists.{joined}
-use Rattle.base.specs.Options.{isNone, isSome}
+use Rattle.base.specs.Options.{isNone}
 use Rattle.base.specs.Totals.{total}
 use Rattle.marks.specs.Marks.{textOf}
 use Rattle.automaton.specs.declared.Rule.{Rule}
@@ -57,7 +61,7 @@ unfoldable pub ruleThere : List Call → Option Rule
 ruleThere [] = none
 ruleThere (installs r ∷ h) = cond (isNone (installNumber r)) (some r) (ruleThere h)
 ruleThere (opens n ∷ h) = ruleThere h
-ruleThere (delivers p w ∷ h) = ruleThere h
+ruleThere (delivers p v w ∷ h) = ruleThere h
 ruleThere (withdraws p ∷ h) = ruleThere h
 ruleThere (asksVerdict ∷ h) = ruleThere h
 
@@ -76,7 +80,7 @@ unfoldable pub boardIn : List Call → Bool
 boardIn [] = false
 boardIn (installs r ∷ h) = cond (isNone (installNumber r)) false (boardIn h)
 boardIn (opens n ∷ h) = cond (isNone (openNumber h n)) true (boardIn h)
-boardIn (delivers p w ∷ h) = boardIn h
+boardIn (delivers p v w ∷ h) = boardIn h
 boardIn (withdraws p ∷ h) = boardIn h
 boardIn (asksVerdict ∷ h) = boardIn h
 
@@ -84,22 +88,38 @@ unfoldable pub placesIn : List Call → ℕ
 placesIn [] = 0
 placesIn (installs r ∷ h) = cond (isNone (installNumber r)) 0 (placesIn h)
 placesIn (opens n ∷ h) = cond (isNone (openNumber h n)) n (placesIn h)
-placesIn (delivers p w ∷ h) = placesIn h
+placesIn (delivers p v w ∷ h) = placesIn h
 placesIn (withdraws p ∷ h) = placesIn h
 placesIn (asksVerdict ∷ h) = placesIn h
 
 -- ---- which chunk stands where. `at-p` is what stands at place p, `k` the rule's number of symbols
-abbrev pub deliverCheck : ℕ → ℕ → Option (List ℕ) → ℕ → List ℕ → Option ℕ
-deliverCheck k places at-p p w = firstOf (deliverConditions (eqb places 0) places p w k (isSome at-p))
+-- the revision v is not greater than the last one; any is greater where there is none
+abbrev pub notGreater : ℕ → Option ℕ → Bool
+notGreater v none = false
+notGreater v (some last) = leb v last
+
+abbrev pub deliverCheck : ℕ → ℕ → Option ℕ → ℕ → ℕ → List ℕ → Option ℕ
+deliverCheck k places last p v w = firstOf (deliverConditions (eqb places 0) places p w k (notGreater v last))
 
 abbrev pub withdrawCheck : ℕ → Option (List ℕ) → ℕ → Option ℕ
 withdrawCheck places at-p p = firstOf (withdrawConditions (eqb places 0) places p (isNone at-p))
+
+-- an accepted installation or opening forgets it, a withdrawal does not
+unfoldable pub lastRevision : List Call → ℕ → Option ℕ
+lastRevision [] p = none
+lastRevision (installs r ∷ h) p = cond (isNone (installNumber r)) none (lastRevision h p)
+lastRevision (opens n ∷ h) p = cond (isNone (openNumber h n)) none (lastRevision h p)
+lastRevision (delivers q v w ∷ h) p =
+    cond (eqb q p && isNone (deliverCheck (ruleIn h .k) (placesIn h) (lastRevision h q) q v w)) (some v) (lastRevision h p)
+lastRevision (withdraws q ∷ h) p = lastRevision h p
+lastRevision (asksVerdict ∷ h) p = lastRevision h p
 
 unfoldable pub standing : List Call → ℕ → Option (List ℕ)
 standing [] p = none
 standing (installs r ∷ h) p = cond (isNone (installNumber r)) none (standing h p)
 standing (opens n ∷ h) p = cond (isNone (openNumber h n)) none (standing h p)
-standing (delivers q w ∷ h) p = cond (eqb q p && isNone (deliverCheck (ruleIn h .k) (placesIn h) (standing h q) q w)) (some w) (standing h p)
+standing (delivers q v w ∷ h) p =
+    cond (eqb q p && isNone (deliverCheck (ruleIn h .k) (placesIn h) (lastRevision h q) q v w)) (some w) (standing h p)
 standing (withdraws q ∷ h) p = cond (eqb q p && isNone (withdrawCheck (placesIn h) (standing h q) q)) none (standing h p)
 standing (asksVerdict ∷ h) p = standing h p
 
@@ -133,8 +153,8 @@ module _ (r : Rule) where
   lookedOf p w = looked (r .targets) (runAt p) (textOf w)
 
 module _ (h : List Call) where
-  abbrev pub deliverNumber : ℕ → List ℕ → Option ℕ
-  deliverNumber p w = deliverCheck (ruleIn h .k) (placesIn h) (standing h p) p w
+  abbrev pub deliverNumber : ℕ → ℕ → List ℕ → Option ℕ
+  deliverNumber p v w = deliverCheck (ruleIn h .k) (placesIn h) (lastRevision h p) p v w
 
   abbrev pub withdrawNumber : ℕ → Option ℕ
   withdrawNumber p = withdrawCheck (placesIn h) (standing h p) p
@@ -187,7 +207,7 @@ withSets r = installed (length (setsOf (r .targets) (r .n) (r .k))) (startsIn r 
 abbrev pub answerOf : List Call → Call → Reply
 answerOf h (installs r) = replyBy (installNumber r) (withSets r)
 answerOf h (opens n) = replyBy (openNumber h n) accepted
-answerOf h (delivers p w) = replyBy (deliverNumber h p w) (delivered (lookedOf (ruleIn h) p w))
+answerOf h (delivers p v w) = replyBy (deliverNumber h p v w) (delivered (lookedOf (ruleIn h) p w))
 answerOf h (withdraws p) = replyBy (withdrawNumber h p) accepted
 answerOf h asksVerdict = judged (reportIn h)
 

@@ -4,6 +4,7 @@ pub mod Method
 pub mod Conditions
 pub mod Claims
 pub mod CountBound
+pub mod Orders
 pub mod FormerStarts
 pub mod Fewest
 pub mod Functions

@@ -31,7 +31,7 @@ use Rattle.histories.specs.Claims.{judgeAfter, repliesTo}
 --                          the empty set
 --   delegates ds           the delegate of each state
 --   verdict chunks r       with the chunks at the places 0, 1, .. of a board that has a place for
---                          each, the verdict reports r. Beside a chunk stands the number that its
+--                          each, delivered with revision 0, the verdict reports r. Beside a chunk stands the number that its
 --                          delivery is answered (document 02, R-2)
 --   turned-down x          reading refuses the file with the number x, and no call is made
 pub data Result : Type 0 where
@@ -47,7 +47,7 @@ pub data Case : Type 0 where
 -- ---- its calls and their replies
 abbrev pub delivering : ℕ → List (List ℕ × ℕ) → List Call → List Call
 delivering p [] h = h
-delivering p (c ∷ chunks) h = delivering (suc p) chunks (delivers p (c .0) ∷ h)
+delivering p (c ∷ chunks) h = delivering (suc p) chunks (delivers p 0 (c .0) ∷ h)
 
 abbrev pub answering : List (List ℕ × ℕ) → List Reply → List Reply
 answering [] replies = replies

@@ -26,8 +26,8 @@ load-asks-nothing κs j c = tt
 pub open-asks-nothing : (j : Judge) (n : ℕ) → opening.Asked tt (j, (n, tt))
 open-asks-nothing j n = tt
 
-pub deliver-asks-nothing : (κs : Lfts 1) (j : Judge) (p : ℕ) (c : RefT (List ℕ)) → deliver.Asked κs (j, (p, (c, tt)))
-deliver-asks-nothing κs j p c = tt
+pub deliver-asks-nothing : (κs : Lfts 1) (j : Judge) (p v : ℕ) (c : RefT (List ℕ)) → deliver.Asked κs (j, (p, (v, (c, tt))))
+deliver-asks-nothing κs j p v c = tt
 
 pub withdraw-asks-nothing : (j : Judge) (p : ℕ) → withdraw.Asked tt (j, (p, tt))
 withdraw-asks-nothing j p = tt

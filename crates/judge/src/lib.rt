@@ -144,39 +144,39 @@ pub fn open(judge: Judge, places: usize) -> OpenResult
 }
 
 // What a delivery comes to from 13 on, of any chunk that has this text.
-fn deliver_text(judge: Judge, place: usize, text: &[u8]) -> DeliverResult
+fn deliver_text(judge: Judge, place: usize, revision: u32, text: &[u8]) -> DeliverResult
     requires { ⌜ (judge .board .places ≡ 0 → ⊥) × (place < placesOf (judge .board)) × (length (now text) ≤ longestChunk) ⌝ }
-    ensures { λ r. ⌜ ((w : List ℕ) → length w ≤ longestChunk → textOf w ≡ now (text .entry) → deliverOutcome r ≡ deliverOf judge place w) ⌝ }
+    ensures { λ r. ⌜ ((w : List ℕ) → length w ≤ longestChunk → textOf w ≡ now (text .entry) → deliverOutcome r ≡ deliverOf judge place revision w) ⌝ }
 {
     let built = judge.built;
     if chunks::has_foreign(text, built.k) {
         return refuse_delivery(judge, 13);
     }
     let board = judge.board;
-    if !board::is_empty(board, place) {
+    if board::comes_late(board, place, revision) {
         return refuse_delivery(judge, 22);
     }
     let runs = run_at(built, place, text);
     let answer = DeliverAnswer::Accepted(runs.looked);
-    let judge = with_board(judge, board::fill(board, place, runs));
+    let judge = with_board(judge, board::fill(board, place, revision, runs));
     DeliverResult { answer, judge }
 }
 
 // The same of a chunk with idle marks: its text is packed once, and run from there.
-fn deliver_marked(judge: Judge, place: usize, chunk: &[u8]) -> DeliverResult
+fn deliver_marked(judge: Judge, place: usize, revision: u32, chunk: &[u8]) -> DeliverResult
     requires { ⌜ (judge .board .places ≡ 0 → ⊥) × (place < placesOf (judge .board)) × (length (now chunk) ≤ longestChunk) ⌝ }
-    ensures { λ r. ⌜ deliverOutcome r ≡ deliverOf judge place (now (chunk .entry)) ⌝ }
+    ensures { λ r. ⌜ deliverOutcome r ≡ deliverOf judge place revision (now (chunk .entry)) ⌝ }
 {
     let mut buffer = [0u8; limits::CHUNK];
     let n = marks::pack(chunk, &mut buffer);
-    deliver_text(judge, place, &buffer[..n])
+    deliver_text(judge, place, revision, &buffer[..n])
 }
 
 // Runs the text of a chunk, which is the chunk without its idle marks, and keeps its end sets,
-// count and length at the place. Accepted, it answers for how many bytes of the text a successor
+// count, length and revision at the place, instead of what stood there. Accepted, it answers for how many bytes of the text a successor
 // was looked up.
-pub fn deliver(judge: Judge, place: usize, chunk: &[u8]) -> DeliverResult
-    ensures { λ r. ⌜ deliverOutcome r ≡ deliverOf judge place (now (chunk .entry)) ⌝ }
+pub fn deliver(judge: Judge, place: usize, revision: u32, chunk: &[u8]) -> DeliverResult
+    ensures { λ r. ⌜ deliverOutcome r ≡ deliverOf judge place revision (now (chunk .entry)) ⌝ }
 {
     let board = judge.board;
     if board.places == 0 {
@@ -189,9 +189,9 @@ pub fn deliver(judge: Judge, place: usize, chunk: &[u8]) -> DeliverResult
         return refuse_delivery(judge, 12);
     }
     if marks::has_marks(chunk) {
-        return deliver_marked(judge, place, chunk);
+        return deliver_marked(judge, place, revision, chunk);
     }
-    deliver_text(judge, place, chunk)
+    deliver_text(judge, place, revision, chunk)
 }
 
 // Empties the place.

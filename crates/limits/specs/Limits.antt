@@ -19,10 +19,13 @@
 --   longestFile      the most bytes of a rule file
 --   largestNumber    the largest number on a line of calls: the largest of 64 bits
 --   mostDigits       the most digits of a number on a line of calls
+--   largestRevision  the largest revision of a delivery (document 02, R-11): the largest number of
+--                    32 bits
 --   bytesRoom        room for the bytes of a chunk on a line, with one to spare: a longer chunk
 --                    fills it
 --   lineRoom         room for what is kept of a line: `deliver `, the digits of a place, a
---                    space, two hex digits for each of bytesRoom bytes, and one byte more
+--                    space, the digits of a revision, a space, two hex digits for each of
+--                    bytesRoom bytes, and one byte more
 --   answerRoom       room for the answer to a line: of a word and four numbers, each behind a space
 use Prim.Native.Nat.{ℕ, _+_, _*_}
 
@@ -71,11 +74,14 @@ largestNumber = 18446744073709551615
 abbrev pub mostDigits : ℕ
 mostDigits = 20
 
+abbrev pub largestRevision : ℕ
+largestRevision = 4294967295
+
 abbrev pub bytesRoom : ℕ
 bytesRoom = longestChunk + 1
 
 abbrev pub lineRoom : ℕ
-lineRoom = 8 + mostDigits + 1 + 2 * bytesRoom + 1
+lineRoom = 8 + mostDigits + 1 + mostDigits + 1 + 2 * bytesRoom + 1
 
 abbrev pub answerRoom : ℕ
 answerRoom = 96

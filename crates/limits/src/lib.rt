@@ -61,12 +61,15 @@ pub const NUMBER: u64 = 18446744073709551615;
 // The most digits of a number on a line of calls.
 pub const DIGITS: usize = 20;
 
+// The largest revision of a delivery (document 02, R-11): the largest number of 32 bits.
+pub const REVISION: u64 = 4294967295;
+
 // Room for the bytes of a chunk on a line, with one to spare: a longer chunk fills it.
 pub const BYTES: usize = CHUNK + 1;
 
-// Room for what is kept of a line: `deliver `, the digits of a place, a space, two hex digits
-// for each of BYTES bytes, and one byte more.
-pub const LINE: usize = 8 + DIGITS + 1 + 2 * BYTES + 1;
+// Room for what is kept of a line: `deliver `, the digits of a place, a space, the digits of a
+// revision, a space, two hex digits for each of BYTES bytes, and one byte more.
+pub const LINE: usize = 8 + DIGITS + 1 + DIGITS + 1 + 2 * BYTES + 1;
 
 // Room for the answer to a line: of a word and four numbers, each behind a space.
 pub const ANSWER: usize = 96;

@@ -26,7 +26,8 @@ use Rattle.fields.proofs.Digits.{said-long}
 use Rattle.fields.proofs.Pairs.{hex-append, pairs-length}
 use Rattle.calls.specs.declared.Judge.{Judge}
 use Rattle.calls.specs.Calls.{delivers, asksVerdict}
-use Rattle.calltext.specs.Meaning.{Meaning, call, load, malformed, load-word, install-word, open-word, deliver-word, withdraw-word, verdict-word, loadBy, installBy, openBy, withdrawBy, deliverBy, deliverFields, callIn, lineIn}
+use Rattle.calltext.specs.Meaning.{Meaning, call, load, malformed, load-word, install-word, open-word, deliver-word, withdraw-word, verdict-word, loadBy, installBy, openBy, withdrawBy, revisionBy, deliverBy, revisionFields, deliverFields, callIn, lineIn}
+use Rattle.calltext.proofs.Readings.{no-place, bad-revision}
 use Rattle.callrun.specs.Running.{replyOf, lineStep}
 use Rattle.callrun.proofs.Clipped.{loads-long, delivers-long, installs-long}
 
@@ -103,13 +104,18 @@ module _ (v t : List ℕ) (two : 2 ≤ length v) where
         (λ e. rw (bytes-odd v two e, bytes-odd (v ++ t) more-two (rw parity e)) neither)
 
 -- ---- fields that are malformed
-deliver-none : (p : List ℕ) (o : Option (List ℕ)) → parseNumber p ≡ none → deliverFields p o ≡ malformed
-deliver-none p none e = refl
-deliver-none p (some u) e = rw e
+place-none : (f : List ℕ) (o : Option (List ℕ)) → parseNumber f ≡ none → deliverFields f o ≡ malformed
+place-none f none e = refl
+place-none f (some u) e = rw e (no-place (upTo 32 u) (past 32 u))
 
-deliver-stray : (o : Option ℕ) → deliverBy o none ≡ malformed
-deliver-stray none = refl
-deliver-stray (some p) = refl
+revision-none : (p : Option ℕ) (f : List ℕ) (o : Option (List ℕ)) → parseNumber f ≡ none → revisionFields p f o ≡ malformed
+revision-none p f none e = refl
+revision-none p f (some u) e = rw e (bad-revision p (parseBytes u))
+
+deliver-stray : (p v : Option ℕ) → deliverBy p v none ≡ malformed
+deliver-stray none v = refl
+deliver-stray (some p) none = refl
+deliver-stray (some p) (some v) = refl
 
 verdict-long : (u : List ℕ) → 7 < length u → cond (eqb (length u) 7) (call asksVerdict) malformed ≡ malformed
 verdict-long u h = rw (ne-eqb (length u) 7 (λ e. omega arith))
@@ -142,28 +148,119 @@ cond-malformed false x y t e = e
 tells-loads : (f g : List ℕ) → 65537 ≤ length f → 65537 ≤ length g → Tells (load f) (load g)
 tells-loads f g hf hg = record { steps = λ j. ap replyOf (loads-long j f g (omega arith) (omega arith)) }
 
-tells-delivers : (p : ℕ) (f g : List ℕ) → 65537 ≤ length f → 65537 ≤ length g → Tells (call (delivers p f)) (call (delivers p g))
-tells-delivers p f g hf hg = record { steps = λ j. ap replyOf (delivers-long j p f g (omega arith) (omega arith)) }
+tells-delivers : (p v : ℕ) (f g : List ℕ) → 65537 ≤ length f → 65537 ≤ length g → Tells (call (delivers p v f)) (call (delivers p v g))
+tells-delivers p v f g hf hg = record { steps = λ j. ap replyOf (delivers-long j p v f g (omega arith) (omega arith)) }
 
 -- ---- the fields of a delivery
-abbrev place : List ℕ → List ℕ
-place w = upTo 32 (drop 8 w)
-
+-- what stands behind the first space
 abbrev behind : List ℕ → List ℕ
-behind w = drop (suc (length (place w))) (drop 8 w)
+behind u = drop (suc (length (upTo 32 u))) u
 
-abbrev delivery : List ℕ → Meaning
-delivery w = deliverFields (place w) (past 32 (drop 8 w))
+-- the meaning from the place on, and from the revision on where the place says p
+abbrev fromPlace : List ℕ → Meaning
+fromPlace u = deliverFields (upTo 32 u) (past 32 u)
+
+abbrev fromRevision : Option ℕ → List ℕ → Meaning
+fromRevision p u = revisionFields p (upTo 32 u) (past 32 u)
+
+-- the first field of u is too long for a number, or near enough to its beginning
+far-or-near : (u : List ℕ) (P : Type 0) → (20 < length (upTo 32 u) → P) → (length (upTo 32 u) ≤ 20 → P) → P
+far-or-near u P far near =
+    by-test (ltb 20 (length (upTo 32 u)))
+    (λ b. far (ltb-true 20 (length (upTo 32 u)) b))
+    (λ b. near (ltb-false 20 (length (upTo 32 u)) b))
+
+-- u goes on with t
+module _ (u t : List ℕ) where
+  module _ (far : 20 < length (upTo 32 u)) where
+    far-number : parseNumber (upTo 32 (u ++ t)) ≡ none
+    far-number = said-long (upTo 32 (u ++ t)) (omega (arith, far, up-more 32 u t))
+
+    place-far : fromPlace u ≡ malformed
+    place-far = place-none (upTo 32 u) (past 32 u) (said-long (upTo 32 u) far)
+
+    place-far-more : fromPlace (u ++ t) ≡ malformed
+    place-far-more = place-none (upTo 32 (u ++ t)) (past 32 (u ++ t)) far-number
+
+    revision-far : (p : Option ℕ) → fromRevision p u ≡ malformed
+    revision-far p = revision-none p (upTo 32 u) (past 32 u) (said-long (upTo 32 u) far)
+
+    revision-far-more : (p : Option ℕ) → fromRevision p (u ++ t) ≡ malformed
+    revision-far-more p = revision-none p (upTo 32 (u ++ t)) (past 32 (u ++ t)) far-number
+
+  -- m bytes at least are behind a field that is near
+  module _ (m : ℕ) (long : 21 + m ≤ length u) (near : length (upTo 32 u) ≤ 20) where
+    inside : length (upTo 32 u) < length u
+    inside = omega (arith, near, long)
+
+    behind-long : m ≤ length (behind u)
+    behind-long = rw (length-drop (suc (length (upTo 32 u))) u) (omega (arith, near, long))
+
+    place-near : fromPlace u ≡ fromRevision (parseNumber (upTo 32 u)) (behind u)
+    place-near = rw (past-there 32 u inside)
+
+    place-near-more : fromPlace (u ++ t) ≡ fromRevision (parseNumber (upTo 32 u)) (behind u ++ t)
+    place-near-more = rw (past-append 32 u t inside, up-append 32 u t inside)
+
+    revision-near : (p : Option ℕ) → fromRevision p u ≡ deliverBy p (revisionBy (parseNumber (upTo 32 u))) (parseBytes (behind u))
+    revision-near p = rw (past-there 32 u inside)
+
+    revision-near-more : (p : Option ℕ) → fromRevision p (u ++ t) ≡ deliverBy p (revisionBy (parseNumber (upTo 32 u))) (parseBytes (behind u ++ t))
+    revision-near-more p = rw (past-append 32 u t inside, up-append 32 u t inside)
+
+-- t is not hex digits: from the revision on, and from the place on
+module _ (t : List ℕ) (stray : allHex t ≡ false) where
+  stray-revision : (p : Option ℕ) (u : List ℕ) → 131095 ≤ length u → fromRevision p (u ++ t) ≡ malformed
+  stray-revision p u long =
+      far-or-near u (fromRevision p (u ++ t) ≡ malformed)
+      (λ far. revision-far-more u t far p)
+      (λ near.
+      let v = revisionBy (parseNumber (upTo 32 u)) in
+      let l = behind-long u t 131074 long near in
+      revision-near-more u t 131074 long near p ∙ ap (deliverBy p v) (tail-stray (behind u) t (omega (arith, l)) stray) ∙ deliver-stray p v)
+
+  stray-place : (u : List ℕ) → 131116 ≤ length u → fromPlace (u ++ t) ≡ malformed
+  stray-place u long =
+      far-or-near u (fromPlace (u ++ t) ≡ malformed)
+      (λ far. place-far-more u t far)
+      (λ near. place-near-more u t 131095 long near ∙ stray-revision (parseNumber (upTo 32 u)) (behind u) (behind-long u t 131095 long near))
+
+-- t is hex digits, even in number
+module _ (t : List ℕ) (hex : allHex t ≡ true) (even : length t % 2 ≡ 0) where
+  hex-bytes : (p v : Option ℕ) (u : List ℕ) → 131074 ≤ length u → Tells (deliverBy p v (parseBytes u)) (deliverBy p v (parseBytes (u ++ t)))
+  hex-bytes none v u l = tells-malformed refl refl
+  hex-bytes (some p) none u l = tells-malformed refl refl
+  hex-bytes (some p) (some v) u l =
+      tail-bytes u t (omega arith) hex even 65537 (omega arith)
+      (λ a b. Tells (deliverBy (some p) (some v) a) (deliverBy (some p) (some v) b))
+      (tells-malformed refl refl)
+      (tells-delivers p v)
+
+  hex-revision : (p : Option ℕ) (u : List ℕ) → 131095 ≤ length u → Tells (fromRevision p u) (fromRevision p (u ++ t))
+  hex-revision p u long =
+      far-or-near u (Tells (fromRevision p u) (fromRevision p (u ++ t)))
+      (λ far. tells-malformed (revision-far u t far p) (revision-far-more u t far p))
+      (λ near.
+      rw (revision-near u t 131074 long near p, revision-near-more u t 131074 long near p)
+      (hex-bytes p (revisionBy (parseNumber (upTo 32 u))) (behind u) (behind-long u t 131074 long near)))
+
+  hex-place : (u : List ℕ) → 131116 ≤ length u → Tells (fromPlace u) (fromPlace (u ++ t))
+  hex-place u long =
+      far-or-near u (Tells (fromPlace u) (fromPlace (u ++ t)))
+      (λ far. tells-malformed (place-far u t far) (place-far-more u t far))
+      (λ near.
+      rw (place-near u t 131095 long near, place-near-more u t 131095 long near)
+      (hex-revision (parseNumber (upTo 32 u)) (behind u) (behind-long u t 131095 long near)))
 
 -- ---- the line v ++ t
-module _ (v t : List ℕ) (long : 131103 ≤ length v) where
+module _ (v t : List ℕ) (long : 131124 ≤ length v) where
   rest : (k : ℕ) → k ≤ 9 → drop k (v ++ t) ≡ drop k v ++ t
   rest k h = drop-append-le k v t (omega arith)
 
-  rest-long : (k : ℕ) → k ≤ 9 → 131103 - k ≤ length (drop k v)
+  rest-long : (k : ℕ) → k ≤ 9 → 131124 - k ≤ length (drop k v)
   rest-long k h = rw (length-drop k v) (omega arith)
 
-  more-long : (k : ℕ) → k ≤ 9 → 131103 - k ≤ length (drop k (v ++ t))
+  more-long : (k : ℕ) → k ≤ 9 → 131124 - k ≤ length (drop k (v ++ t))
   more-long k h = rw (rest k h, length-append (drop k v) t) (omega (arith, rest-long k h))
 
   word : (h : List ℕ) → length h ≤ 9 → begins h (v ++ t) ≡ begins h v
@@ -199,40 +296,12 @@ module _ (v t : List ℕ) (long : 131103 ≤ length v) where
   withdraw-more : withdrawBy (parseNumber (drop 9 (v ++ t))) ≡ malformed
   withdraw-more = withdraw-long (drop 9 (v ++ t)) (omega (arith, more-long 9 (omega arith)))
 
-  -- the place of a delivery is too long for a number, or the bytes behind it are long enough
-  module _ (far : 20 < length (place v)) where
-    far-v : delivery v ≡ malformed
-    far-v = deliver-none (place v) (past 32 (drop 8 v)) (said-long (place v) far)
-
-    far-more : delivery (v ++ t) ≡ malformed
-    far-more =
-        deliver-none (place (v ++ t)) (past 32 (drop 8 (v ++ t)))
-        (said-long (place (v ++ t)) (rw (rest 8 (omega arith)) (omega (arith, far, up-more 32 (drop 8 v) t))))
-
-  module _ (near : length (place v) ≤ 20) where
-    inside : length (place v) < length (drop 8 v)
-    inside = omega (arith, near, rest-long 8 (omega arith))
-
-    behind-long : 131074 ≤ length (behind v)
-    behind-long = rw (length-drop (suc (length (place v))) (drop 8 v)) (omega (arith, near, rest-long 8 (omega arith)))
-
-    near-v : delivery v ≡ deliverBy (parseNumber (place v)) (parseBytes (behind v))
-    near-v = rw (past-there 32 (drop 8 v) inside)
-
-    near-more : delivery (v ++ t) ≡ deliverBy (parseNumber (place v)) (parseBytes (behind v ++ t))
-    near-more = rw (rest 8 (omega arith), past-append 32 (drop 8 v) t inside, up-append 32 (drop 8 v) t inside)
-
   module _ (stray : allHex t ≡ false) where
     stray-load : loadBy (parseBytes (drop 5 (v ++ t))) ≡ malformed
     stray-load = rw (rest 5 (omega arith), tail-stray (drop 5 v) t (omega (arith, rest-long 5 (omega arith))) stray)
 
-    stray-deliver : delivery (v ++ t) ≡ malformed
-    stray-deliver =
-        by-test (ltb 20 (length (place v)))
-        (λ b. far-more (ltb-true 20 (length (place v)) b))
-        (λ b.
-        let near = ltb-false 20 (length (place v)) b in
-        near-more near ∙ ap (deliverBy (parseNumber (place v))) (tail-stray (behind v) t (omega (arith, behind-long near)) stray) ∙ deliver-stray (parseNumber (place v)))
+    stray-deliver : fromPlace (drop 8 (v ++ t)) ≡ malformed
+    stray-deliver = rw (rest 8 (omega arith)) (stray-place t stray (drop 8 v) (omega (arith, rest-long 8 (omega arith))))
 
     stray-call : callIn (v ++ t) ≡ malformed
     unfolding callIn
@@ -251,18 +320,8 @@ module _ (v t : List ℕ) (long : 131103 ≤ length v) where
         rw (rest 5 (omega arith))
         (tail-bytes (drop 5 v) t (omega (arith, l)) hex even 65537 (omega (arith, l)) (λ a b. Tells (loadBy a) (loadBy b)) (tells-malformed refl refl) tells-loads)
 
-    hex-bytes : (o : Option ℕ) (u : List ℕ) → 131074 ≤ length u → Tells (deliverBy o (parseBytes u)) (deliverBy o (parseBytes (u ++ t)))
-    hex-bytes none u l = tells-malformed refl refl
-    hex-bytes (some p) u l =
-        tail-bytes u t (omega arith) hex even 65537 (omega arith) (λ a b. Tells (deliverBy (some p) a) (deliverBy (some p) b)) (tells-malformed refl refl) (tells-delivers p)
-
-    hex-deliver : Tells (delivery v) (delivery (v ++ t))
-    hex-deliver =
-        by-test (ltb 20 (length (place v)))
-        (λ b. let far = ltb-true 20 (length (place v)) b in tells-malformed (far-v far) (far-more far))
-        (λ b.
-        let near = ltb-false 20 (length (place v)) b in
-        rw (near-v near, near-more near) (hex-bytes (parseNumber (place v)) (behind v) (behind-long near)))
+    hex-deliver : Tells (fromPlace (drop 8 v)) (fromPlace (drop 8 (v ++ t)))
+    hex-deliver = rw (rest 8 (omega arith)) (hex-place t hex even (drop 8 v) (omega (arith, rest-long 8 (omega arith))))
 
     hex-call : Tells (callIn v) (callIn (v ++ t))
     unfolding callIn
@@ -279,8 +338,8 @@ module _ (v t : List ℕ) (long : 131103 ≤ length v) where
     hex-line = rw (some-bytes, more-bytes) hex-call
 
 -- ---- the line w
-module _ (w : List ℕ) (n : ℕ) (long : 131103 ≤ n) (within : n ≤ length w) where
-  first-long : 131103 ≤ length (take n w)
+module _ (w : List ℕ) (n : ℕ) (long : 131124 ≤ n) (within : n ≤ length w) where
+  first-long : 131124 ≤ length (take n w)
   first-long = rw (length-take-le n w within) long
 
   pub stray-tail : allHex (drop n w) ≡ false → lineIn w ≡ malformed

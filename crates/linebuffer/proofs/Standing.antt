@@ -73,7 +73,7 @@ part w n k h =
     ∙ take-take k k (drop n w) (omega arith)
 
 -- the line w is kept, and n of the bytes that are kept stand for it
-module _ (buffer : List ℕ) (held : Held) (w : List ℕ) (kept : Keeps buffer held w) (big : 131104 ≤ length buffer) (len n : ℕ)
+module _ (buffer : List ℕ) (held : Held) (w : List ℕ) (kept : Keeps buffer held w) (big : 131125 ≤ length buffer) (len n : ℕ)
     (len-is : len ≡ keptLength buffer held) (n-is : n ≡ standing (held .odd) len)
     (hex : Bool) (hex-is : hex ≡ held .hex && allHex (take (len - n) (drop n buffer))) where
   -- the buffer has all of the line
@@ -104,7 +104,7 @@ module _ (buffer : List ℕ) (held : Held) (w : List ℕ) (kept : Keeps buffer h
     least : n ≤ length buffer
     least = omega (arith, stands-within (held .odd) len n n-is, len-is)
 
-    n-long : 131103 ≤ n
+    n-long : 131124 ≤ n
     n-long =
         by-test (held .odd)
         (λ o. let e : n ≡ len - 1 = n-is ∙ ap (λ (b : Bool). standing b len) o in omega (arith, e, len-is, full, big))
@@ -152,7 +152,7 @@ module _ (buffer : List ℕ) (held : Held) (w : List ℕ) (kept : Keeps buffer h
       let whole = ltb-false (length buffer) (length w) t in
       rw (whole-hex whole, whole-is whole))
 
-pub held-step : (buffer : List ℕ) (held : Held) (w : List ℕ) → 131104 ≤ length buffer → Keeps buffer held w
+pub held-step : (buffer : List ℕ) (held : Held) (w : List ℕ) → 131125 ≤ length buffer → Keeps buffer held w
     → (j : Judge) → lineStep j (heldMeaning buffer held) ≡ lineStep j (lineIn w)
 unfolding heldMeaning
 held-step buffer held w big kept j = step-is buffer held w kept big (keptLength buffer held) _ refl refl _ refl j

@@ -84,9 +84,9 @@ fn stands(length: usize, odd: bool) -> usize
 }
 
 // How many bytes of the buffer stand for the line that is held, and whether those that they leave
-// out are hex digits. Beginnings of 131,103 bytes tell all lines apart that differ in their
-// answers: `deliver `, 20 digits, a space and the digits of 65,537 bytes. One byte more makes an
-// odd rest even.
+// out are hex digits. Beginnings of 131,124 bytes tell all lines apart that differ in their
+// answers: `deliver `, 20 digits, a space, 20 digits, a space and the digits of 65,537 bytes. One
+// byte more makes an odd rest even.
 fn look(buffer: &[u8], held: Held) -> Seen
     ensures { λ r. ⌜ heldMeaning (now (buffer .entry)) held ≡ meaningBy (now (buffer .entry)) (r .length) (r .hex) ⌝ }
     ensures within { λ r. ⌜ (r .length ≤ length (now (buffer .entry))) × (r .length ≡ length (take (r .length) (now (buffer .entry)))) ⌝ }

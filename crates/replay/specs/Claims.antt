@@ -1,8 +1,8 @@
 -- Every list of calls has a record, and reading the record gives the list again; and what the line
 -- of a file adds to one. proofs/RoundTrip.antt proves it.
 --
---   AllFit h      each call of h has numbers of 64 bits, bytes that are bytes, and a rule whose
---                 numbers the type holds
+--   AllFit h      each call of h has numbers of 64 bits, a revision of 32, bytes that are bytes,
+--                 and a rule whose numbers the type holds
 --   recordOf h    the record of the calls h, of which the last is first: a line each, in the order
 --                 in which they are made
 use mathlib.Core.Path.{_≡_}

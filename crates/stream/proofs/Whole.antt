@@ -125,7 +125,7 @@ whole-by blocks s w holds =
     ∙ ap (λ (t : TextOutcome). then t (linesStep (t .state) (linesFrom (lineBegun w ps) []))) (f .ran)
     ∙ sym (ap (linesStep (s .judge)) (blocks-split blocks w) ∙ step-append (linesEnded w ps) (linesFrom (lineBegun w ps) []) (s .judge))
 
-pub whole : (blocks : List (List ℕ)) (line : List ℕ) → 131104 ≤ length line
+pub whole : (blocks : List (List ℕ)) (line : List ℕ) → 131125 ≤ length line
     → streamOf (stateOf fresh lineBegin line) blocks ≡ linesStep fresh (linesFrom [] (flatten blocks))
 whole blocks line large = whole-by blocks _ [] (record { large = large; keeps = linebuffer.claims .begins line })
 
@@ -156,7 +156,7 @@ unfolding stateAfter
 right ls = right-by ls []
 
 -- ---- all that is written
-pub written-right : {room : ℕ} {s′ : State} {blocks : List (List ℕ)} {line text : List ℕ} → 131104 ≤ length line
+pub written-right : {room : ℕ} {s′ : State} {blocks : List (List ℕ)} {line text : List ℕ} → 131125 ≤ length line
     → Blocks room (stateOf fresh lineBegin line) blocks s′ text → text ++ finishOf s′ .text ≡ rightText [] (linesFrom [] (flatten blocks))
 written-right {room} {s′} {blocks} {line} {text} large b =
     let are = blocks-are b in

@@ -1,7 +1,7 @@
 -- `delivery` meets its contract. Assumes nothing.
 use native.Mathlib.Omega.{arith}
 use borrow.Author.Needs.{needs}
-use Rattle.calltext.proofs.Readings.{deliver-alone, deliver-value, deliver-malformed}
+use Rattle.calltext.proofs.Readings.{deliver-alone, deliver-on, deliver-malformed}
 use Rattle.calltext.proofs.delivery.Statement.{statement}
 use Rattle.calltext.proofs.delivery.Tie as tie
 
@@ -26,14 +26,17 @@ read-number-requires c κs = search needs
 enum-known-number : tie.Need-enum-known-number
 enum-known-number c = search needs
 
-add-t11 : tie.Need-add-t11
-add-t11 c = search needs
+add-delivery-at : tie.Need-add-delivery-at
+add-delivery-at c = search needs
+
+delivery-at-requires : tie.Need-delivery-at-requires
+delivery-at-requires c κs = search needs
 
 enum-told : tie.Need-enum-told
 enum-told c = search needs
 
 returns-2 : tie.Need-returns-2
-returns-2 c = (search needs, search (needs, deliver-value))
+returns-2 c = (search needs, search (needs, deliver-on))
 
 returns-3 : tie.Need-returns-3
 returns-3 c = (omega arith, search (needs, deliver-malformed))
@@ -49,7 +52,8 @@ delivery-spec =
     part-read-number-end
     read-number-requires
     enum-known-number
-    add-t11
+    add-delivery-at
+    delivery-at-requires
     enum-told
     returns-2
     returns-3)

@@ -17,23 +17,23 @@ returns c =
     let foreign = c .before .before in
     let start = foreign .before .before .before in
     λ w short is.
-    deliver-13 _ _ w (start .pre .0) _ refl (start .pre .1) short _ is _ (foreign .has-foreign .ensures) (c .before .if1 .taken)
+    deliver-13 _ _ _ w (start .pre .0) _ refl (start .pre .1) short _ is _ (foreign .has-foreign .ensures) (c .before .if1 .taken)
     _ (c .refuse-delivery .ensures)
 
-is-empty-requires : tie.Need-is-empty-requires
-is-empty-requires c κs = search needs
+comes-late-requires : tie.Need-comes-late-requires
+comes-late-requires c κs = search needs
 
 refuse-delivery-requires-2 : tie.Need-refuse-delivery-requires-2
 refuse-delivery-requires-2 c κs = search needs
 
 returns-2 : tie.Need-returns-2
 returns-2 c =
-    let empty = c .before .before in
-    let foreign = empty .before .before .before in
+    let late = c .before .before in
+    let foreign = late .before .before .before in
     let start = foreign .before .before .before in
     λ w short is.
-    deliver-22 _ _ w (start .pre .0) _ refl (start .pre .1) short _ is _ (foreign .has-foreign .ensures) (empty .before .before .if1 .left)
-    _ (empty .is-empty .ensures) (c .before .if2 .taken)
+    deliver-22 _ _ _ w (start .pre .0) _ refl (start .pre .1) short _ is _ (foreign .has-foreign .ensures) (late .before .before .if1 .left)
+    _ (late .comes-late .ensures) (c .before .if2 .taken)
     _ (c .refuse-delivery2 .ensures)
 
 run-at-requires : tie.Need-run-at-requires
@@ -48,12 +48,12 @@ with-board-requires c κs = search needs
 returns-3 : tie.Need-returns-3
 returns-3 c =
     let ran = c .before .before in
-    let empty = ran .before .before in
-    let foreign = empty .before .before .before in
+    let late = ran .before .before in
+    let foreign = late .before .before .before in
     let start = foreign .before .before .before in
     λ w short is.
-    delivered _ _ w (start .pre .0) _ refl (start .pre .1) short _ is _ (foreign .has-foreign .ensures) (empty .before .before .if1 .left)
-    _ (empty .is-empty .ensures) (ran .before .if2 .left)
+    delivered _ _ _ w (start .pre .0) _ refl (start .pre .1) short _ is _ (foreign .has-foreign .ensures) (late .before .before .if1 .left)
+    _ (late .comes-late .ensures) (ran .before .if2 .left)
     _ (ran .run-at .ensures) _ (c .before .fill .ensures) _ (c .with-board .ensures)
 
 pub deliver-text-spec : {M : Type 1} → statement M
@@ -63,7 +63,7 @@ deliver-text-spec =
     has-foreign-requires
     refuse-delivery-requires
     returns
-    is-empty-requires
+    comes-late-requires
     refuse-delivery-requires-2
     returns-2
     run-at-requires

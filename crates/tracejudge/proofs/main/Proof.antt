@@ -15,7 +15,7 @@ returns : tie.Need-returns
 returns c = search needs
 
 slice-aggregate-run : tie.Need-slice-aggregate-run
-slice-aggregate-run c = sym (made 131104)
+slice-aggregate-run c = sym (made 131125)
 
 slice-aggregate-run-2 : tie.Need-slice-aggregate-run-2
 slice-aggregate-run-2 c = sym (made 65537)
@@ -27,7 +27,7 @@ slice-aggregate-run-4 : tie.Need-slice-aggregate-run-4
 slice-aggregate-run-4 c = sym (made 65536)
 
 run-requires : tie.Need-run-requires
-run-requires c κs = (has-room 131104 0 (made 131104), has-room 65537 0 (made 65537), has-room 96 393120 (made 393216))
+run-requires c κs = (has-room 131125 0 (made 131125), has-room 65537 0 (made 65537), has-room 96 393120 (made 393216))
 
 returns-2 : tie.Need-returns-2
 returns-2 c = search needs
