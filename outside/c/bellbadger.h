@@ -28,7 +28,7 @@
 #define BELLBADGER_VERSION_MAJOR 4
 #define BELLBADGER_VERSION_MINOR 0
 #define BELLBADGER_VERSION (BELLBADGER_VERSION_MAJOR * 65536 + BELLBADGER_VERSION_MINOR)
-#define BELLBADGER_STATE_SIZE 27316 /* the bytes of a bellbadger_judge */
+#define BELLBADGER_STATE_SIZE 27832 /* the bytes of a bellbadger_judge */
 
 /* A result that is dropped is a call without effect, or a refusal that nobody sees. */
 #if defined(__GNUC__)
@@ -73,13 +73,15 @@ typedef struct {
     uint16_t next[8192];
 } bellbadger_built_rule;
 
-/* A board: how many places, which are filled, the counts and lengths of their texts, and 32 end sets
- * for each. places is 0 where no board is there. */
+/* A board: how many places, which are filled, the counts and lengths of their texts, one more than the
+ * last revision accepted at each since the opening (0 where there was none; a withdrawal leaves it), and
+ * 32 end sets for each. places is 0 where no board is there. */
 typedef struct {
     uint8_t places;
     uint8_t filled[64];
     uint32_t counts[64];
     uint32_t lengths[64];
+    uint64_t revisions[64];
     uint32_t ends[2048];
 } bellbadger_board;
 
@@ -159,13 +161,17 @@ BELLBADGER_RESULT bellbadger_load_result bellbadger_load(bellbadger_judge judge,
  *   20 no rule is there      10 no number of places from 1 to 64 */
 BELLBADGER_RESULT bellbadger_open_result bellbadger_open(bellbadger_judge judge, size_t places);
 
-/* Runs a chunk and keeps its end sets, count and length at the place. Byte 255 is an idle mark: it is
+/* Runs a chunk and keeps its end sets, count, length and revision at the place. A controller that sends
+ * a chunk again, after reading more of its buffer, gives it a greater revision: it replaces what stands
+ * there. A place that had no accepted delivery since the opening takes any revision. Byte 255 is an idle mark: it is
  * skipped and is no part of the text, but counts in the limit of 65,536 bytes. Once every run has died
  * no successor is looked up: looked is the least number of text bytes after which every set is empty,
  * else all of them; 0 where nothing is run, as with a rule whose M is 0. Refused with
  *   21 no board is open      11 the board has no such place      12 the chunk has over 65,536 bytes
- *   13 a byte is no symbol and no idle mark                       22 the place has a chunk already */
-BELLBADGER_RESULT bellbadger_deliver_result bellbadger_deliver(bellbadger_judge judge, size_t place, const uint8_t *chunk, size_t length);
+ *   13 a byte is no symbol and no idle mark
+ *   22 the revision is not greater than the last one accepted there, even if that was withdrawn */
+BELLBADGER_RESULT bellbadger_deliver_result bellbadger_deliver(bellbadger_judge judge, size_t place, uint32_t revision, const uint8_t *chunk,
+                                                              size_t length);
 
 /* Empties a place. Refused with
  *   21 no board is open      11 the board has no such place      23 the place has no chunk */
@@ -176,13 +182,13 @@ BELLBADGER_RESULT bellbadger_verdict_result bellbadger_verdict(bellbadger_judge 
 
 /* Runs the calls that a text records on a fresh judge, and answers the verdict after them. A line
  * is
- *   load HEX        deliver P HEX      verdict
- *   install HEX     withdraw P         or empty: a fresh judge begins
+ *   load HEX        deliver P REVISION HEX      verdict
+ *   install HEX     withdraw P                  or empty: a fresh judge begins
  *   open N
  * with exactly one space between fields. HEX is pairs of hex digits of either case, or - for no
  * bytes. That of an installation is of 2,058 bytes: n and k, then the two masks and the 512 target
- * masks, each of four bytes, the lowest first (a bellbadger_checked_rule without the gap behind k). N
- * and P are 1 to 20 decimal digits with a value below 2^64. A line ends with a line feed alone (a
+ * masks, each of four bytes, the lowest first (a bellbadger_checked_rule without the gap behind k). N,
+ * P and REVISION are 1 to 20 decimal digits with a value below 2^64, that of REVISION below 2^32. A line ends with a line feed alone (a
  * carriage return belongs to the line, which is then malformed); the last may end with the text. A
  * call that is refused changes nothing, and the next line is run. Any other line is malformed: the
  * answer is BELLBADGER_MALFORMED with the number of the first such line. */

@@ -93,8 +93,8 @@ static uint64_t walk(const bellbadger_built_rule *rule, unsigned q, const uint8_
 
 static double delivery(const bellbadger_judge *j, size_t place, size_t length) {
     double t;
-    if (!bellbadger_deliver(*j, place, text, length).accepted) exit(1);
-    MEASURE(t, sink += bellbadger_deliver(*j, place, text, length).accepted);
+    if (!bellbadger_deliver(*j, place, 0, text, length).accepted) exit(1);
+    MEASURE(t, sink += bellbadger_deliver(*j, place, 0, text, length).accepted);
     return t;
 }
 
@@ -126,7 +126,7 @@ int main(void) {
     double base, t;
     MEASURE(base, for (int i = 0; i < 100; i++) memcpy(copy, &j, sizeof j), sink += copy->board.places);
     printf("a call on an empty chunk, beside one copy of the state (%zu bytes, %.2f us)\n", sizeof j, base / 100);
-    MEASURE(t, for (int i = 0; i < 100; i++) sink += bellbadger_deliver(j, 1, text, 0).accepted);
+    MEASURE(t, for (int i = 0; i < 100; i++) sink += bellbadger_deliver(j, 1, 0, text, 0).accepted);
     printf("  deliver  %.1f copies\n", t / base);
     MEASURE(t, for (int i = 0; i < 100; i++) sink += bellbadger_withdraw(j, 1).accepted);
     printf("  withdraw %.1f copies (refused)\n", t / base);
@@ -143,7 +143,7 @@ int main(void) {
     first = 0;
     for (int n = 1; n <= 64; n *= 4) {
         j = cycle(8, n);
-        for (int p = 0; p < n; p++) j = bellbadger_deliver(j, (size_t)p, text, 100).judge;
+        for (int p = 0; p < n; p++) j = bellbadger_deliver(j, (size_t)p, 0, text, 100).judge;
         MEASURE(t, for (int i = 0; i < 100; i++) sink += bellbadger_verdict(j).number);
         if (first == 0) first = t;
         printf(" %.1f", t / first);

@@ -28,7 +28,8 @@ static int same(const bellbadger_judge *a, const bellbadger_judge *b) {
         && !memcmp(a->rule.sets, b->rule.sets, sizeof a->rule.sets) && !memcmp(a->rule.next, b->rule.next, sizeof a->rule.next)
         && a->board.places == b->board.places && !memcmp(a->board.filled, b->board.filled, sizeof a->board.filled)
         && !memcmp(a->board.counts, b->board.counts, sizeof a->board.counts)
-        && !memcmp(a->board.lengths, b->board.lengths, sizeof a->board.lengths) && !memcmp(a->board.ends, b->board.ends, sizeof a->board.ends);
+        && !memcmp(a->board.lengths, b->board.lengths, sizeof a->board.lengths)
+        && !memcmp(a->board.revisions, b->board.revisions, sizeof a->board.revisions) && !memcmp(a->board.ends, b->board.ends, sizeof a->board.ends);
 }
 
 /* every number of a checked rule is 0 */
@@ -68,17 +69,17 @@ static void open(bellbadger_judge *j, size_t places, int refused) {
     *j = r.judge;
 }
 
-static void deliver(bellbadger_judge *j, size_t place, const uint8_t *chunk, size_t length, int refused) {
-    bellbadger_deliver_result r = bellbadger_deliver(*j, place, chunk, length);
+static void deliver(bellbadger_judge *j, size_t place, uint32_t revision, const uint8_t *chunk, size_t length, int refused) {
+    bellbadger_deliver_result r = bellbadger_deliver(*j, place, revision, chunk, length);
     CHECK(r.accepted == (refused == 0) && (r.accepted || r.refused == refused));
     CHECK(r.accepted || (same(&r.judge, j) && r.looked == 0));
     *j = r.judge;
 }
 
 /* an accepted delivery, with the number of bytes for which it looked a successor up */
-static void looked(bellbadger_judge *j, size_t place, const uint8_t *chunk, size_t length, uint32_t bytes) {
-    bellbadger_deliver_result r = bellbadger_deliver(*j, place, chunk, length);
-    CHECK(r.accepted && r.looked == bytes);
+static void looked(bellbadger_judge *j, size_t place, uint32_t revision, const uint8_t *chunk, size_t length, uint32_t bytes) {
+    bellbadger_deliver_result r = bellbadger_deliver(*j, place, revision, chunk, length);
+    CHECK(r.accepted && r.looked == bytes && r.judge.board.revisions[place] == (uint64_t)revision + 1);
     *j = r.judge;
 }
 

@@ -39,8 +39,8 @@ static bellbadger_judge open_board(bellbadger_judge judge, size_t places) {
     return r.judge;
 }
 
-static bellbadger_judge deliver(bellbadger_judge judge, size_t place, uint8_t event) {
-    bellbadger_deliver_result r = bellbadger_deliver(judge, place, &event, 1);
+static bellbadger_judge deliver(bellbadger_judge judge, size_t place, uint32_t revision, uint8_t event) {
+    bellbadger_deliver_result r = bellbadger_deliver(judge, place, revision, &event, 1);
     expect_accepted("deliver", r.accepted, r.refused);
     printf("%" PRIu32 " looked up\n", r.looked);
     return r.judge;
@@ -74,12 +74,16 @@ int main(void) {
     bellbadger_judge judge = install(bellbadger_new(), rule);
     judge = open_board(judge, 2);
     ask(judge);
-    judge = deliver(judge, 1, 1);
-    judge = deliver(judge, 0, 0);
+    judge = deliver(judge, 1, 0, 1);
+    judge = deliver(judge, 0, 0, 0);
     ask(judge);
-    bellbadger_deliver_result again = bellbadger_deliver(judge, 0, (const uint8_t[]){1}, 1);
+    /* the same revision again is refused, even after a withdrawal; a greater one is taken */
+    bellbadger_deliver_result again = bellbadger_deliver(judge, 0, 0, (const uint8_t[]){1}, 1);
     printf("%s %d\n", again.accepted ? "accepted" : "refused", again.refused);
-    judge = deliver(withdraw(again.judge, 0), 0, 1);
+    judge = deliver(withdraw(again.judge, 0), 0, 1, 1);
+    ask(judge);
+    /* a later recording supersedes what stands */
+    judge = deliver(judge, 0, 2, 0);
     ask(judge);
     return 0;
 }

@@ -17,7 +17,7 @@ static bool right() {
     bellbadger_install_result installed = bellbadger_install(bellbadger_new(), read.rule);
     bellbadger_load_result loaded = bellbadger_load(bellbadger_new(), rule_a, sizeof rule_a);
     bellbadger_open_result opened = bellbadger_open(installed.judge, 1);
-    bellbadger_deliver_result delivered = bellbadger_deliver(opened.judge, 0, text, sizeof text);
+    bellbadger_deliver_result delivered = bellbadger_deliver(opened.judge, 0, 0, text, sizeof text);
     bellbadger_verdict_result verdict = bellbadger_verdict(delivered.judge);
     bellbadger_withdraw_result withdrawn = bellbadger_withdraw(opened.judge, 0);
     bellbadger_replay_result replayed = bellbadger_replay(reinterpret_cast<const uint8_t *>(record), std::strlen(record));

@@ -41,7 +41,7 @@ static void calls(void) {
     bellbadger_judge j = bellbadger_new();
     verdict(&j, BELLBADGER_REFUSED, 21, 0);
     open(&j, 1, 20);
-    deliver(&j, 0, zero, 1, 21);
+    deliver(&j, 0, 0, zero, 1, 21);
     withdraw(&j, 0, 21);
     load(&j, rule_a, 9, 1);
     load(&j, big, sizeof big, 2);
@@ -53,25 +53,26 @@ static void calls(void) {
     open(&j, SIZE_MAX, 10);
     open(&j, 2, 0);
     verdict(&j, BELLBADGER_WAITING, 2, 0);
-    deliver(&j, 2, zero, 1, 11);
-    deliver(&j, SIZE_MAX, zero, 1, 11);
-    deliver(&j, 0, big, 65537, 12);
-    deliver(&j, 0, two, 1, 13);
-    looked(&j, 1, one, 1, 1);
-    deliver(&j, 1, one, 1, 22);
+    deliver(&j, 2, 0, zero, 1, 11);
+    deliver(&j, SIZE_MAX, 0, zero, 1, 11);
+    deliver(&j, 0, 0, big, 65537, 12);
+    deliver(&j, 0, 0, two, 1, 13);
+    looked(&j, 1, 0, one, 1, 1);
+    deliver(&j, 1, 0, one, 1, 22);
     withdraw(&j, 0, 23);
-    looked(&j, 0, zero, 1, 1);
+    looked(&j, 0, 0, zero, 1, 1);
     verdict(&j, BELLBADGER_YES, 3, 2);
     CHECK(j.board.places == 2 && j.board.filled[0] && j.board.filled[1] && !j.board.filled[2]);
     CHECK(j.board.counts[0] == 1 && j.board.counts[1] == 2 && j.board.counts[2] == 0);
     CHECK(j.board.lengths[0] == 1 && j.board.lengths[1] == 1 && j.board.lengths[2] == 0);
     CHECK(j.board.ends[0] == 3 && j.board.ends[1] == 0 && j.board.ends[32] == 1 && j.board.ends[33] == 4 && j.board.ends[34] == 0);
     withdraw(&j, 0, 0);
-    looked(&j, 0, NULL, 0, 0);
+    deliver(&j, 0, 0, NULL, 0, 22);
+    looked(&j, 0, 1, NULL, 0, 0);
     verdict(&j, BELLBADGER_NO, 2, 1);
     withdraw(&j, 0, 0);
     CHECK(j.board.lengths[0] == 0 && j.board.lengths[1] == 1);
-    looked(&j, 0, big, 65536, 65536);
+    looked(&j, 0, 2, big, 65536, 65536);
     verdict(&j, BELLBADGER_NO, 65538, 65537);
     load(&j, rule_a, 9, 1);
     verdict(&j, BELLBADGER_NO, 65538, 65537);
@@ -104,7 +105,7 @@ static void installing(void) {
     open(&j, 1, 20);
     install(&j, a, 0);
     open(&j, 1, 0);
-    looked(&j, 0, text, sizeof text, 2);
+    looked(&j, 0, 0, text, sizeof text, 2);
     verdict(&j, BELLBADGER_YES, 2, 2);
     static const uint8_t bad_n[] = {0, 33, 40, 255}, bad_k[] = {0, 17, 255};
     for (size_t i = 0; i < sizeof bad_n; i++) r = a, r.n = bad_n[i], r.k = 0, install(&j, r, 3);
@@ -141,10 +142,10 @@ static void dying(void) {
     bellbadger_judge j = bellbadger_new();
     load(&j, rule, sizeof rule, 0);
     open(&j, 3, 0);
-    looked(&j, 0, chunk, sizeof chunk, 3);
-    looked(&j, 1, chunk + 2, 1, 1);
-    deliver(&j, 2, bad, sizeof bad, 13);
-    looked(&j, 2, big + 1, 65535, 1);
+    looked(&j, 0, 0, chunk, sizeof chunk, 3);
+    looked(&j, 1, 0, chunk + 2, 1, 1);
+    deliver(&j, 2, 0, bad, sizeof bad, 13);
+    looked(&j, 2, 0, big + 1, 65535, 1);
     verdict(&j, BELLBADGER_NO, 2, 65541);
 }
 
@@ -163,20 +164,21 @@ static void leading_nowhere(void) {
     for (int q = 0; q < 32; q++) CHECK(j.rule.delegates[q] == (q < 2 ? q : q < 4 ? BELLBADGER_NO_DELEGATE : 0));
     for (int q = 0; q < 4; q++) CHECK(j.rule.singles[q] == q);
     open(&j, 2, 0);
-    looked(&j, 0, to_2, sizeof to_2, 2);
-    looked(&j, 1, chunk, 1, 1);
+    looked(&j, 0, 0, to_2, sizeof to_2, 2);
+    looked(&j, 1, 0, chunk, 1, 1);
     CHECK(j.board.ends[0] == 4 && j.board.ends[1] == 0 && j.board.ends[32] == 2);
     for (int q = 1; q < 32; q++) CHECK(j.board.ends[32 + q] == 0);
     verdict(&j, BELLBADGER_NO, 3, 3);
     withdraw(&j, 0, 0);
-    looked(&j, 0, NULL, 0, 0);
+    deliver(&j, 0, 0, NULL, 0, 22);
+    looked(&j, 0, 1, NULL, 0, 0);
     verdict(&j, BELLBADGER_YES, 1, 1);
     /* an initial state among them, alone */
     bellbadger_checked_rule r = read_file(astray, sizeof astray, 0);
     r.initials = 4;
     install(&j, r, 0);
     open(&j, 1, 0);
-    looked(&j, 0, chunk, sizeof chunk, 0);
+    looked(&j, 0, 0, chunk, sizeof chunk, 0);
     verdict(&j, BELLBADGER_NO, 0, 2);
 }
 
@@ -191,9 +193,9 @@ static void no_final_state(void) {
     install(&j, r, 0);
     for (int q = 0; q < 32; q++) CHECK(j.rule.delegates[q] == (q < 4 ? BELLBADGER_NO_DELEGATE : 0));
     open(&j, 2, 0);
-    deliver(&j, 0, bad, sizeof bad, 13);
-    looked(&j, 0, big, 65536, 0);
-    looked(&j, 1, NULL, 0, 0);
+    deliver(&j, 0, 0, bad, sizeof bad, 13);
+    looked(&j, 0, 0, big, 65536, 0);
+    looked(&j, 1, 0, NULL, 0, 0);
     for (int q = 0; q < 64; q++) CHECK(j.board.ends[q] == 0);
     verdict(&j, BELLBADGER_NO, 0, 65536);
 }
@@ -206,31 +208,93 @@ static void idle(void) {
     bellbadger_judge j = bellbadger_new();
     load(&j, rule_a, sizeof rule_a, 0);
     open(&j, 3, 0);
-    deliver(&j, 1, marks, 65537, 12);
-    deliver(&j, 1, bad, sizeof bad, 13);
-    deliver(&j, 1, no_symbol, sizeof no_symbol, 13);
-    looked(&j, 1, marks, 65536, 0);
+    deliver(&j, 1, 0, marks, 65537, 12);
+    deliver(&j, 1, 0, bad, sizeof bad, 13);
+    deliver(&j, 1, 0, no_symbol, sizeof no_symbol, 13);
+    looked(&j, 1, 0, marks, 65536, 0);
     CHECK(j.board.filled[1] && j.board.counts[1] == 0 && j.board.ends[32] == 1 && j.board.ends[33] == 2 && j.board.ends[34] == 4);
-    deliver(&j, 1, first, sizeof first, 22);
-    looked(&j, 0, first, sizeof first, 1);
-    looked(&j, 2, second, sizeof second, 1);
+    deliver(&j, 1, 0, first, sizeof first, 22);
+    looked(&j, 0, 0, first, sizeof first, 1);
+    looked(&j, 2, 0, second, sizeof second, 1);
     CHECK(j.board.lengths[0] == 1 && j.board.lengths[1] == 0 && j.board.lengths[2] == 1);
     verdict(&j, BELLBADGER_YES, 3, 2);
+}
+
+/* a greater revision replaces what stands; another is refused, also after a withdrawal; an opening forgets */
+static void revisions(void) {
+    static const uint8_t zero[] = {0}, text[] = {0, 1}, two[] = {2};
+    bellbadger_judge j = bellbadger_new();
+    load(&j, rule_a, sizeof rule_a, 0);
+    open(&j, 2, 0);
+    CHECK(j.board.revisions[0] == 0 && j.board.revisions[63] == 0);
+    looked(&j, 1, UINT32_MAX, NULL, 0, 0);
+    CHECK(j.board.revisions[0] == 0 && j.board.revisions[1] == UINT64_C(4294967296) && j.board.revisions[2] == 0);
+    deliver(&j, 1, UINT32_MAX, zero, 1, 22);
+    looked(&j, 0, 5, zero, 1, 1);
+    verdict(&j, BELLBADGER_NO, 1, 1);
+    deliver(&j, 0, 5, text, sizeof text, 22);
+    deliver(&j, 0, 4, text, sizeof text, 22);
+    deliver(&j, 0, 9, two, 1, 13);
+    deliver(&j, 0, 0, two, 1, 13);
+    looked(&j, 0, 6, text, sizeof text, 2);
+    CHECK(j.board.filled[0] && j.board.counts[0] == 2 && j.board.lengths[0] == 2 && j.board.ends[0] == 5);
+    verdict(&j, BELLBADGER_YES, 2, 2);
+    withdraw(&j, 0, 0);
+    CHECK(!j.board.filled[0] && j.board.revisions[0] == 7);
+    deliver(&j, 0, 6, text, sizeof text, 22);
+    verdict(&j, BELLBADGER_WAITING, 1, 0);
+    looked(&j, 0, 7, text, sizeof text, 2);
+    verdict(&j, BELLBADGER_YES, 2, 2);
+    open(&j, 2, 0);
+    CHECK(j.board.revisions[0] == 0 && j.board.revisions[1] == 0);
+    looked(&j, 0, 0, text, sizeof text, 2);
+    install(&j, read_file(rule_a, sizeof rule_a, 0), 0);
+    open(&j, 2, 0);
+    looked(&j, 0, 0, text, sizeof text, 2);
+}
+
+/* two orders of the same deliveries end in the same board */
+static void any_order(void) {
+    static const uint8_t text[] = {0, 1, 1, 0, 1};
+    static const struct { size_t place; uint32_t revision; size_t length; } given[] = {
+        {0, 3, 1}, {1, 0, 2}, {0, 7, 5}, {1, UINT32_MAX, 0}, {0, 0, 4}, {1, 9, 3},
+    };
+    const int n = sizeof given / sizeof *given;
+    static bellbadger_judge ends[36];
+    for (int way = 0; way < 36; way++) {
+        bellbadger_judge *j = &ends[way];
+        *j = bellbadger_new();
+        load(j, rule_a, sizeof rule_a, 0);
+        open(j, 2, 0);
+        /* from any of them on, by a step that has no divisor with their number, then two exchanged */
+        for (int i = 0; i < n; i++) {
+            int at = (way % 6 + i * (way / 6 % 2 ? 5 : 1)) % n;
+            at = way / 12 && at < 2 ? 1 - at : way / 24 && at < 4 && at > 1 ? 5 - at : at;
+            *j = bellbadger_deliver(*j, given[at].place, given[at].revision, text, given[at].length).judge;
+        }
+        CHECK(j->board.lengths[0] == 5 && j->board.lengths[1] == 0 && j->board.revisions[0] == 8);
+        CHECK(same(j, &ends[0]));
+    }
+    verdict(&ends[0], BELLBADGER_YES, 5, 5);
 }
 
 static void records(void) {
 #define LOAD_A "load 03020100000004000000160006001C0002001E0000000000000101000102\n"
     replay("", BELLBADGER_REFUSED, 21, 0);
     replay(LOAD_A "open 2\n", BELLBADGER_WAITING, 2, 0);
-    replay(LOAD_A "open 2\ndeliver 1 01\ndeliver 0 00\n", BELLBADGER_YES, 3, 2);
-    replay(LOAD_A "open 2\ndeliver 1 00\ndeliver 0 01", BELLBADGER_NO, 2, 2);
-    replay(LOAD_A "open 2\ndeliver 1 FF01\ndeliver 0 00ffFF\n", BELLBADGER_YES, 3, 2);
+    replay(LOAD_A "open 2\ndeliver 1 0 01\ndeliver 0 0 00\n", BELLBADGER_YES, 3, 2);
+    replay(LOAD_A "open 2\ndeliver 1 0 00\ndeliver 0 0 01", BELLBADGER_NO, 2, 2);
+    replay(LOAD_A "open 2\ndeliver 1 0 FF01\ndeliver 0 0 00ffFF\n", BELLBADGER_YES, 3, 2);
+    replay(LOAD_A "open 1\ndeliver 0 7 00\ndeliver 0 0000000008 0001\ndeliver 0 8 -\n", BELLBADGER_YES, 2, 2);
+    replay(LOAD_A "open 1\ndeliver 0 4294967295 0001\nwithdraw 0\ndeliver 0 0 01", BELLBADGER_WAITING, 1, 0);
+    replay(LOAD_A "open 1\ndeliver 0 4294967296 0001\n", BELLBADGER_MALFORMED, 3, 0);
+    replay(LOAD_A "open 1\ndeliver 0 0001\n", BELLBADGER_MALFORMED, 3, 0);
     replay(LOAD_A "open 2\n\n", BELLBADGER_REFUSED, 21, 0);
     replay(LOAD_A "open  2\nverdict\n", BELLBADGER_MALFORMED, 2, 0);
     replay(LOAD_A "open 2\r\n", BELLBADGER_MALFORMED, 2, 0);
     replay("verdict\nverdict\nx", BELLBADGER_MALFORMED, 3, 0);
-    replay("open 1\n" LOAD_A "open 99\nopen 1\nwithdraw 0\ndeliver 00 0001\nverdict\n", BELLBADGER_YES, 2, 2);
-    replay(LOAD_A "open 00000000000000000001\ndeliver 0 -", BELLBADGER_NO, 0, 0);
+    replay("open 1\n" LOAD_A "open 99\nopen 1\nwithdraw 0\ndeliver 00 0 0001\nverdict\n", BELLBADGER_YES, 2, 2);
+    replay(LOAD_A "open 00000000000000000001\ndeliver 0 0 -", BELLBADGER_NO, 0, 0);
 }
 
 /* the line that installs bytes, and what follows it */
@@ -244,7 +308,7 @@ static const char *installation(const uint8_t *bytes, size_t length, const char 
 
 /* rule A in the 2,058 bytes of an installation; a byte less or more is malformed */
 static void installations(void) {
-    const char *rest = "open 1\ndeliver 0 0001\n";
+    const char *rest = "open 1\ndeliver 0 0 0001\n";
     uint8_t bytes[2059] = {3, 2, 1, 0, 0, 0, 4, 0, 0, 0, 3, 0, 0, 0, 1};
     bytes[10 + 4 * 17] = 4;
     replay(installation(bytes, 2058, rest), BELLBADGER_YES, 2, 2);
@@ -299,7 +363,7 @@ static void garbage(int states) {
         CHECK(bellbadger_load(j, rule_a, sizeof rule_a).accepted);
         bellbadger_open_result o = bellbadger_open(j, place);
         CHECK(o.accepted || same(&o.judge, &j));
-        bellbadger_deliver_result d = bellbadger_deliver(j, place, chunk, i % 7 ? sizeof chunk : 0);
+        bellbadger_deliver_result d = bellbadger_deliver(j, place, (uint32_t)random_number(), chunk, i % 7 ? sizeof chunk : 0);
         CHECK(d.accepted || (same(&d.judge, &j) && d.looked == 0));
         CHECK(d.looked <= sizeof chunk);
         bellbadger_withdraw_result w = bellbadger_withdraw(d.judge, place);
@@ -320,6 +384,8 @@ static void *all(void *states) {
     leading_nowhere();
     no_final_state();
     idle();
+    revisions();
+    any_order();
     records();
     installations();
     garbage(*(int *)states);

@@ -4,18 +4,25 @@
     >>> judge.load(bytes.fromhex("03020100000004000000160006001C0002001E0000000000000101000102"))
     Loaded(sets=5, starts=3)
     >>> judge.open(2)
-    >>> judge.deliver(1, bytes([1]))
+    >>> judge.deliver(1, 0, bytes([1]))
     Looked(bytes=1)
     >>> judge.verdict()
     Waiting(places=1)
-    >>> judge.deliver(0, bytes([0]))
+    >>> judge.deliver(0, 0, bytes([0]))
     Looked(bytes=1)
     >>> judge.verdict()
     Yes(count=3, bytes=2, quotient=1, remainder=1)
-    >>> judge.deliver(0, bytes([1]))
+    >>> judge.deliver(0, 0, bytes([1]))
     Traceback (most recent call last):
     ...
-    bellbadger.Refused: refused 22: the place has a chunk already
+    bellbadger.Refused: refused 22: the revision is not greater than the last one accepted at the place
+
+A later recording, with a greater revision, supersedes what stands:
+
+    >>> judge.deliver(0, 1, bytes([1]))
+    Looked(bytes=1)
+    >>> judge.verdict()
+    No(count=3, bytes=2, quotient=1, remainder=1)
 
 A rule file can be read without a judge, and the rule that comes of it installed:
 
@@ -44,7 +51,7 @@ from pathlib import Path
 __all__ = ["CheckedRule", "Judge", "Loaded", "Looked", "Waiting", "Yes", "No", "Refused", "Malformed", "read", "replay", "version"]
 
 # what this module was written for, as outside/c/bellbadger.h has it; a higher minor number fits too
-_MAJOR, _MINOR, _STATE_SIZE = 4, 0, 27316
+_MAJOR, _MINOR, _STATE_SIZE = 4, 0, 27832
 _WAITING, _YES, _NO, _MALFORMED = 1, 2, 3, 4
 _LARGEST_SIZE = 2**64 - 1
 
@@ -64,7 +71,7 @@ _REASONS = {
     13: "a byte is no symbol of the rule and no idle mark",
     20: "no rule is there",
     21: "no board is open",
-    22: "the place has a chunk already",
+    22: "the revision is not greater than the last one accepted at the place",
     23: "the place has no chunk",
 }
 
@@ -208,6 +215,7 @@ class _Board(ctypes.Structure):
         ("filled", ctypes.c_uint8 * 64),
         ("counts", ctypes.c_uint32 * 64),
         ("lengths", ctypes.c_uint32 * 64),
+        ("revisions", ctypes.c_uint64 * 64),
         ("ends", ctypes.c_uint32 * 2048),
     ]
 
@@ -278,7 +286,7 @@ def _library(path):
     _declare(library, "install", _Install, _State, _CheckedRule)
     _declare(library, "load", _Install, _State, *data)
     _declare(library, "open", _Change, _State, size)
-    _declare(library, "deliver", _Delivery, _State, size, *data)
+    _declare(library, "deliver", _Delivery, _State, size, ctypes.c_uint32, *data)
     _declare(library, "withdraw", _Change, _State, size)
     _declare(library, "verdict", _Verdict, _State)
     _declare(library, "replay", _Verdict, *data)
@@ -293,7 +301,7 @@ def _members(mask):
 
 
 def _fits(number, bits):
-    """Sees to it that C does not cut a number of a rule."""
+    """Sees to it that C does not cut a number of a rule, or a revision."""
     if not 0 <= operator.index(number) < 2**bits:
         raise ValueError(f"{number} does not fit {bits} bits")
 
@@ -360,14 +368,19 @@ class Judge:
         """A board of that many empty places; an earlier one is dropped. Refused with 20, 10."""
         self._change(_lib.bellbadger_open(self._state, _size(places)))
 
-    def deliver(self, place, chunk):
-        """Runs a chunk and keeps its end sets, count and length at the place, counted from 0.
+    def deliver(self, place, revision, chunk):
+        """Runs a chunk and keeps its end sets, count, length and revision at the place, counted from 0.
+
+        The revision is a number below 2**32, else ValueError is raised. A greater one than the last
+        accepted at the place replaces what stands there; any other is refused with 22, even after a
+        withdrawal. A place that had none since the opening takes any.
 
         Byte 255 is an idle mark: it is skipped and is no part of the text, but counts in the
         limit of 65,536 bytes. Refused with 21, 11, 12, 13, 22.
         """
         data = _bytes(chunk)
-        result = _lib.bellbadger_deliver(self._state, _size(place), data, len(data))
+        _fits(revision, 32)
+        result = _lib.bellbadger_deliver(self._state, _size(place), operator.index(revision), data, len(data))
         self._change(result)
         return Looked(result.looked)
 
@@ -402,8 +415,8 @@ def read(file):
 def replay(text):
     """Runs the calls that a text of bytes records on a fresh judge: the verdict after them.
 
-    A line is `load HEX`, `install HEX`, `open N`, `deliver P HEX`, `withdraw P` or `verdict`, with
-    exactly one space between fields; an empty line begins a fresh judge. HEX of an installation is
+    A line is `load HEX`, `install HEX`, `open N`, `deliver P REVISION HEX`, `withdraw P` or
+    `verdict`, with exactly one space between fields; an empty line begins a fresh judge. HEX of an installation is
     the 2,058 bytes of a rule by value. A recorded call that is refused changes nothing, and the next
     line is run. Raises Malformed for the first line that is no call,
     Refused with 21 where no board is open at the end.

@@ -4,6 +4,7 @@ lists."""
 import array
 import dataclasses
 import doctest
+import itertools
 import os
 import subprocess
 import sys
@@ -26,7 +27,7 @@ def judged(rule, *chunks):
     judge.open(len(chunks))
     for place in reversed(range(len(chunks))):
         assert judge.verdict() == Waiting(place + 1)
-        judge.deliver(place, bytes(chunks[place]))
+        judge.deliver(place, 0, bytes(chunks[place]))
     return judge.verdict()
 
 
@@ -59,7 +60,7 @@ class Rules(Case):
         self.refused(20, judge.open, 1)
         self.assertEqual(judge.install(rule), Loaded(5, 3))
         judge.open(1)
-        judge.deliver(0, bytes([0, 1]))
+        judge.deliver(0, 0, bytes([0, 1]))
         change = dataclasses.replace
         for n in (0, 33, 40, 255):
             self.refused(3, judge.install, change(rule, n=n, k=0))
@@ -89,7 +90,7 @@ class Rules(Case):
         rule = read(A)
         masks = (rule.initials, rule.finals, *rule.targets)
         value = bytes([rule.n, rule.k]) + b"".join(mask.to_bytes(4, "little") for mask in masks)
-        rest = b"\nopen 2\ndeliver 1 01\ndeliver 0 00\n"
+        rest = b"\nopen 2\ndeliver 1 0 01\ndeliver 0 0 00\n"
         self.assertEqual(replay(b"install " + value.hex().encode() + rest), Yes(3, 2, 1, 1))
         for other in (value[:-1], value + b"\0", A):
             self.assertRaises(Malformed, replay, b"install " + other.hex().encode() + rest)
@@ -118,16 +119,16 @@ class Calls(Case):
         judge = Judge()
         self.refused(21, judge.verdict)
         self.refused(20, judge.open, 1)
-        self.refused(21, judge.deliver, 0, b"")
+        self.refused(21, judge.deliver, 0, 0, b"")
         self.refused(21, judge.withdraw, 0)
         judge = self.opened(64)
         self.refused(10, judge.open, 65)
-        self.refused(11, judge.deliver, 64, b"")
-        self.refused(12, judge.deliver, 63, bytes(65537))
-        self.refused(13, judge.deliver, 63, bytes([0, 2]))
+        self.refused(11, judge.deliver, 64, 0, b"")
+        self.refused(12, judge.deliver, 63, 0, bytes(65537))
+        self.refused(13, judge.deliver, 63, 0, bytes([0, 2]))
         self.refused(23, judge.withdraw, 63)
-        self.assertEqual(judge.deliver(63, bytes(65536)), Looked(65536))
-        self.refused(22, judge.deliver, 63, b"")
+        self.assertEqual(judge.deliver(63, 0, bytes(65536)), Looked(65536))
+        self.refused(22, judge.deliver, 63, 0, b"")
         self.refused(1, judge.load, A[:9])
         self.refused(2, judge.load, bytes(32907))
         self.assertEqual(judge.verdict(), Waiting(63))
@@ -143,7 +144,7 @@ class Calls(Case):
         self.assertEqual(judge.load(ring), Loaded(32, 32))
         judge.open(64)
         for place in range(64):
-            judge.deliver(place, bytes(65536))
+            judge.deliver(place, 0, bytes(65536))
         self.assertEqual(judge.verdict(), Yes(64 * 65536 * 32, 64 * 65536, 32, 0))
 
     def test_bytes_looked_up(self):
@@ -152,7 +153,7 @@ class Calls(Case):
         judge.load(dies)
         judge.open(5)
         for place, (chunk, looked) in enumerate([("10", 1), ("010", 2), ("001", 3), ("000", 3), ("", 0)]):
-            self.assertEqual(judge.deliver(place, bytes(int(s) for s in chunk)), Looked(looked))
+            self.assertEqual(judge.deliver(place, 0, bytes(int(s) for s in chunk)), Looked(looked))
 
     def test_states_that_lead_nowhere(self):
         self.assertEqual(Judge().load(ASTRAY), Loaded(4, 2))
@@ -168,19 +169,52 @@ class Calls(Case):
         judge = Judge()
         self.assertEqual(judge.install(dataclasses.replace(read(ASTRAY), initials=15, finals=0)), Loaded(4, 0))
         judge.open(2)
-        self.refused(13, judge.deliver, 0, bytes([0, 2]))
-        self.assertEqual(judge.deliver(0, bytes([0, 1])), Looked(0))
-        self.assertEqual(judge.deliver(1, bytes(65536)), Looked(0))
+        self.refused(13, judge.deliver, 0, 0, bytes([0, 2]))
+        self.assertEqual(judge.deliver(0, 0, bytes([0, 1])), Looked(0))
+        self.assertEqual(judge.deliver(1, 0, bytes(65536)), Looked(0))
         self.assertEqual(judge.verdict(), No(0, 65538, 0, 0))
 
     def test_idle_marks(self):
         self.assertEqual(judged(A, [255, 0, 255], [255] * 9, [1, 255]), Yes(3, 2, 1, 1))
         judge = self.opened(1)
-        self.refused(12, judge.deliver, 0, b"\xff" * 65537)
-        self.refused(13, judge.deliver, 0, b"\xff\xfe")
-        self.refused(13, judge.deliver, 0, b"\xff\2")
-        self.assertEqual(judge.deliver(0, b"\xff" * 65536), Looked(0))
-        self.refused(22, judge.deliver, 0, b"\xff")
+        self.refused(12, judge.deliver, 0, 0, b"\xff" * 65537)
+        self.refused(13, judge.deliver, 0, 0, b"\xff\xfe")
+        self.refused(13, judge.deliver, 0, 0, b"\xff\2")
+        self.assertEqual(judge.deliver(0, 0, b"\xff" * 65536), Looked(0))
+        self.refused(22, judge.deliver, 0, 0, b"\xff")
+
+    def test_a_later_recording_supersedes(self):
+        judge = self.opened(1)
+        self.assertEqual(judge.deliver(0, 5, bytes([0])), Looked(1))
+        self.refused(22, judge.deliver, 0, 5, bytes([0, 1]))
+        self.refused(13, judge.deliver, 0, 9, bytes([2]))
+        self.assertEqual(judge.deliver(0, 6, bytes([0, 1])), Looked(2))
+        self.assertEqual(judge.verdict(), Yes(2, 2, 1, 0))
+        judge.withdraw(0)
+        self.refused(22, judge.deliver, 0, 6, bytes([0, 1]))
+        self.assertEqual(judge.verdict(), Waiting(1))
+        self.assertEqual(judge.deliver(0, 2**32 - 1, bytes([0, 1])), Looked(2))
+        self.refused(22, judge.deliver, 0, 2**32 - 1, b"")
+        judge.open(1)
+        self.assertEqual(judge.deliver(0, 0, b""), Looked(0))
+
+    def test_two_orders_of_deliveries(self):
+        given = [(0, 3, b"\1\1"), (1, 0, b""), (0, 7, b"\0"), (1, 9, b"\1")]
+        for order in itertools.permutations(given):
+            judge = self.opened(2)
+            for delivery in order:
+                try:
+                    judge.deliver(*delivery)
+                except Refused as refused:
+                    self.assertEqual(refused.number, 22)
+            self.assertEqual(judge.verdict(), Yes(3, 2, 1, 1))
+
+    def test_revisions_that_c_would_cut(self):
+        judge = self.opened(1)
+        for revision in (2**32, 2**32 + 1, 2**64, -1):
+            self.assertRaises(ValueError, judge.deliver, 0, revision, b"")
+        self.assertRaises(TypeError, judge.deliver, 0, 0.0, b"")
+        self.assertEqual(judge.verdict(), Waiting(1))
 
     def test_words_of_a_refusal(self):
         with self.assertRaisesRegex(Refused, "^refused 20: no rule is there$"):
@@ -193,7 +227,7 @@ class Calls(Case):
     def test_numbers_that_c_would_cut(self):
         judge = self.opened(2)
         for number in (2**64, 2**64 + 1, 2**65, -1, -(2**64)):
-            self.refused(11, judge.deliver, number, b"")
+            self.refused(11, judge.deliver, number, 0, b"")
             self.refused(11, judge.withdraw, number)
             self.refused(10, judge.open, number)
         self.assertEqual(judge.verdict(), Waiting(2))
@@ -201,19 +235,19 @@ class Calls(Case):
     def test_arguments_that_are_no_bytes(self):
         judge = self.opened(1)
         for chunk in (5, "01", [0, 1], None, array.array("H", [0, 1])):
-            self.assertRaises(TypeError, judge.deliver, 0, chunk)
-        self.assertRaises(TypeError, judge.deliver, 0.0, b"")
-        judge.deliver(0, bytearray([0, 1]))
+            self.assertRaises(TypeError, judge.deliver, 0, 0, chunk)
+        self.assertRaises(TypeError, judge.deliver, 0.0, 0, b"")
+        judge.deliver(0, 0, bytearray([0, 1]))
         self.assertEqual(judge.verdict(), Yes(2, 2, 1, 0))
 
     def test_a_judge_shows_its_sizes(self):
         judge = self.opened(2)
-        judge.deliver(1, b"")
+        judge.deliver(1, 0, b"")
         self.assertEqual(repr(judge), "<Judge: states 3, symbols 2, sets 5, starts 3, places 2, filled 1>")
 
     def test_a_small_stack(self):
         verdicts = []
-        record = b"load " + A.hex().encode() + b"\nopen 1\ndeliver 0 -\n"
+        record = b"load " + A.hex().encode() + b"\nopen 1\ndeliver 0 0 -\n"
 
         def calls():
             verdicts.extend([judged(A, [0], [1]), replay(record), Judge().install(read(A))])
@@ -232,8 +266,14 @@ class Records(unittest.TestCase):
     def test_replay(self):
         load = b"load " + A.hex().encode() + b"\n"
         self.assertEqual(replay(load + b"open 2\n"), Waiting(2))
-        self.assertEqual(replay(load + b"open 2\ndeliver 1 01\ndeliver 0 00\n"), Yes(3, 2, 1, 1))
-        self.assertEqual(replay(load + b"open 2\ndeliver 1 00\ndeliver 0 01"), No(2, 2, 1, 0))
+        self.assertEqual(replay(load + b"open 2\ndeliver 1 0 01\ndeliver 0 0 00\n"), Yes(3, 2, 1, 1))
+        self.assertEqual(replay(load + b"open 2\ndeliver 1 0 00\ndeliver 0 0 01"), No(2, 2, 1, 0))
+
+    def test_revisions(self):
+        begin = b"load " + A.hex().encode() + b"\nopen 1\n"
+        self.assertEqual(replay(begin + b"deliver 0 7 00\ndeliver 0 8 0001\ndeliver 0 8 -"), Yes(2, 2, 1, 0))
+        for line in (b"deliver 0 0001", b"deliver 0 4294967296 0001"):
+            self.assertRaises(Malformed, replay, begin + line)
 
     def test_malformed(self):
         with self.assertRaisesRegex(Malformed, "^line 2 is malformed$") as caught:

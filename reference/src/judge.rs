@@ -10,7 +10,8 @@ pub enum Call {
     Load(Vec<u8>),
     Install(Box<CheckedRule>),
     Open(u64),
-    Deliver(u64, Vec<u8>),
+    /// A place, the revision of the recording, and the chunk.
+    Deliver(u64, u32, Vec<u8>),
     Withdraw(u64),
     Verdict,
 }
@@ -54,8 +55,15 @@ fn text(chunk: &[u8]) -> Vec<u8> {
     chunk.iter().copied().filter(|&byte| byte != IDLE).collect()
 }
 
-/// A place has its standing chunk, or none.
-type Board = Vec<Option<Vec<u8>>>;
+/// A place has the last revision accepted there since the opening, if there was one, and its standing
+/// chunk, or none.
+#[derive(Clone, Debug, Default, PartialEq)]
+pub struct Place {
+    pub last: Option<u32>,
+    pub chunk: Option<Vec<u8>>,
+}
+
+pub type Board = Vec<Place>;
 
 #[derive(Default)]
 pub struct Judge {
@@ -65,7 +73,7 @@ pub struct Judge {
 
 /// The sum of the counts of the standing chunks.
 fn total(rule: &Rule, board: &Board) -> u64 {
-    let count = |(place, chunk): (usize, &Option<Vec<u8>>)| match chunk {
+    let count = |(place, held): (usize, &Place)| match &held.chunk {
         Some(chunk) => rule.count(place, &text(chunk)),
         None => 0,
     };
@@ -78,10 +86,15 @@ impl Judge {
             Call::Load(file) => self.take(Rule::load(file)),
             Call::Install(value) => self.take(Rule::install(value)),
             Call::Open(places) => self.open(*places),
-            Call::Deliver(place, chunk) => self.deliver(*place, chunk),
+            Call::Deliver(place, revision, chunk) => self.deliver(*place, *revision, chunk),
             Call::Withdraw(place) => self.withdraw(*place),
             Call::Verdict => self.verdict(),
         }
+    }
+
+    /// The board, where there is one.
+    pub fn board(&self) -> Option<&Board> {
+        self.board.as_ref()
     }
 
     /// A rule that is accepted replaces the former one and removes the board.
@@ -100,19 +113,19 @@ impl Judge {
     fn open(&mut self, places: u64) -> Answer {
         if self.rule.is_none() { return Refused(20); }
         if places < 1 || places > 64 { return Refused(10); }
-        self.board = Some(vec![None; places as usize]);
+        self.board = Some(vec![Place::default(); places as usize]);
         Accepted
     }
 
-    fn deliver(&mut self, place: u64, chunk: &[u8]) -> Answer {
+    fn deliver(&mut self, place: u64, revision: u32, chunk: &[u8]) -> Answer {
         let (Some(rule), Some(board)) = (&self.rule, &mut self.board) else { return Refused(21) };
         if place >= board.len() as u64 { return Refused(11); }
         if chunk.len() > 65_536 { return Refused(12); }
         let foreign = |&byte: &u8| byte != IDLE && byte as usize >= rule.automaton.k;
         if chunk.iter().any(foreign) { return Refused(13); }
         let place = place as usize;
-        if board[place].is_some() { return Refused(22); }
-        board[place] = Some(chunk.to_vec());
+        if board[place].last.is_some_and(|last| revision <= last) { return Refused(22); }
+        board[place] = Place { last: Some(revision), chunk: Some(chunk.to_vec()) };
         Delivered(rule.looked(place, &text(chunk)))
     }
 
@@ -120,19 +133,19 @@ impl Judge {
         let Some(board) = &mut self.board else { return Refused(21) };
         if place >= board.len() as u64 { return Refused(11); }
         let place = place as usize;
-        if board[place].is_none() { return Refused(23); }
-        board[place] = None;
+        if board[place].chunk.is_none() { return Refused(23); }
+        board[place].chunk = None;
         Accepted
     }
 
     /// Whether the automaton accepts the chunks, without their idle marks, joined to one text.
     fn verdict(&self) -> Answer {
         let (Some(rule), Some(board)) = (&self.rule, &self.board) else { return Refused(21) };
-        let empty = board.iter().filter(|chunk| chunk.is_none()).count();
+        let empty = board.iter().filter(|place| place.chunk.is_none()).count();
         if empty > 0 {
             return Waiting(empty);
         }
-        let whole: Vec<u8> = board.iter().flatten().flat_map(|chunk| text(chunk)).collect();
+        let whole: Vec<u8> = board.iter().flat_map(|place| &place.chunk).flat_map(|chunk| text(chunk)).collect();
         let work = Work::new(total(rule, board), whole.len() as u64);
         if rule.automaton.accepts_from(rule.automaton.initial, &whole) {
             Yes(work)

@@ -3,6 +3,7 @@
 
 pub mod automata;
 pub mod checked;
+pub mod chunks;
 pub mod compare;
 pub mod faults;
 pub mod judge;

@@ -24,6 +24,11 @@ fn number(field: &[u8]) -> Option<u64> {
     u64::try_from(value).ok()
 }
 
+/// 1 to 20 decimal digits with a value below 2^32.
+fn small(field: &[u8]) -> Option<u32> {
+    u32::try_from(number(field)?).ok()
+}
+
 /// The call that a line records, or none if the line is malformed.
 pub fn call(line: &[u8]) -> Option<Call> {
     let fields: Vec<&[u8]> = line.split(|&c| c == b' ').collect();
@@ -31,7 +36,7 @@ pub fn call(line: &[u8]) -> Option<Call> {
         [b"load", file] => Some(Call::Load(bytes(file)?)),
         [b"install", value] => Some(Call::Install(Box::new(CheckedRule::from_bytes(&bytes(value)?)?))),
         [b"open", places] => Some(Call::Open(number(places)?)),
-        [b"deliver", place, chunk] => Some(Call::Deliver(number(place)?, bytes(chunk)?)),
+        [b"deliver", place, revision, chunk] => Some(Call::Deliver(number(place)?, small(revision)?, bytes(chunk)?)),
         [b"withdraw", place] => Some(Call::Withdraw(number(place)?)),
         [b"verdict"] => Some(Call::Verdict),
         _ => None,
@@ -48,7 +53,7 @@ pub fn line(call: &Call) -> Vec<u8> {
         Call::Load(file) => format!("load {}", hex(file)),
         Call::Install(value) => format!("install {}", hex(&value.bytes())),
         Call::Open(places) => format!("open {places}"),
-        Call::Deliver(place, chunk) => format!("deliver {place} {}", hex(chunk)),
+        Call::Deliver(place, revision, chunk) => format!("deliver {place} {revision} {}", hex(chunk)),
         Call::Withdraw(place) => format!("withdraw {place}"),
         Call::Verdict => "verdict".to_string(),
     };

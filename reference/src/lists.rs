@@ -2,22 +2,23 @@
 
 use crate::automata::{automaton, file};
 use crate::checked::{CheckedRule, BYTES};
+use crate::chunks::LONGEST;
 use crate::faults::{likely_refused, likely_refused_value};
 use crate::malformed::malformed;
 use crate::random::Random;
 use crate::rule::Automaton;
-
-const LONGEST: usize = 65_536;
-const IDLE: u8 = 255;
+use std::collections::BTreeMap;
 
 /// A list of calls in the making. What it remembers only guides the choice of the next call.
-struct Maker {
-    r: Random,
+pub struct Maker {
+    pub(crate) r: Random,
     lines: Vec<Vec<u8>>,
-    rule: Automaton,
-    places: usize,
+    pub(crate) rule: Automaton,
+    pub(crate) places: usize,
+    /// The highest revision written for each place since the opening.
+    revisions: BTreeMap<u64, u32>,
     /// How many more chunks may be long.
-    long: usize,
+    pub(crate) long: usize,
 }
 
 /// The list with a number under a seed.
@@ -25,7 +26,7 @@ pub fn list(seed: u64, index: u64) -> Vec<Vec<u8>> {
     let mut r = Random::new(seed, index);
     let rule = automaton(&mut r);
     let long = if r.one_in(50) { 3 } else { 0 };
-    let mut maker = Maker { r, lines: Vec::new(), rule, places: 1, long };
+    let mut maker = Maker { r, lines: Vec::new(), rule, places: 1, revisions: BTreeMap::new(), long };
     if maker.r.one_in(40) {
         maker.lines.push(Vec::new());
     }
@@ -158,6 +159,7 @@ impl Maker {
             _ => self.r.range(1, 6),
         };
         self.open(self.places as u64);
+        self.revisions.clear();
     }
 
     fn open_refused(&mut self) {
@@ -166,9 +168,41 @@ impl Maker {
         self.open(places);
     }
 
+    /// A revision for a place: any where none was written yet, else most likely a greater one.
+    fn revision(&mut self, place: u64) -> u32 {
+        let any = self.r.next() as u32;
+        let Some(&last) = self.revisions.get(&place) else {
+            return self.r.pick(&[0, 0, 0, 1, 1, 2, 7, 255, 256, 65_536, 1 << 31, u32::MAX - 1, u32::MAX, any, any]);
+        };
+        let above = last.saturating_add(1);
+        match self.r.below(16) {
+            0 | 1 => last,
+            2 => last.saturating_sub(1),
+            3 => self.r.pick(&[0, 0, last / 2, any, last ^ 1 << 31]),
+            4 => u32::MAX,
+            5 => last.max(any),
+            _ => above,
+        }
+    }
+
     fn deliver(&mut self, place: u64, chunk: &[u8]) {
-        let (place, chunk) = (self.number(place), self.hex(chunk));
-        self.line(format!("deliver {place} {chunk}"));
+        let revision = self.revision(place);
+        self.revisions.entry(place).and_modify(|last| *last = revision.max(*last)).or_insert(revision);
+        let (place, revision, chunk) = (self.number(place), self.number(revision as u64), self.hex(chunk));
+        self.line(format!("deliver {place} {revision} {chunk}"));
+    }
+
+    /// A delivery whose revision is left out, too large or no number.
+    fn deliver_malformed(&mut self, place: u64, chunk: &[u8]) {
+        let large = (1u64 << 32) + self.r.pick(&[0, 0, 0, 1, 7, u32::MAX as u64]);
+        let (place, large, chunk) = (self.number(place), self.number(large), self.hex(chunk));
+        let line = match self.r.below(8) {
+            0..=2 => format!("deliver {place} {chunk}"),
+            3..=5 => format!("deliver {place} {large} {chunk}"),
+            6 => format!("deliver {place} {chunk} 0"),
+            _ => format!("deliver {place} - {chunk}"),
+        };
+        self.line(line);
     }
 
     fn withdraw(&mut self, place: u64) {
@@ -190,107 +224,6 @@ impl Maker {
         let large = self.large(low);
         let places = self.places as u64;
         self.r.pick(&[places, places, places + 1, large, large])
-    }
-
-    fn length(&mut self) -> usize {
-        if self.long > 0 && self.r.one_in(2) {
-            self.long -= 1;
-            return self.r.pick(&[LONGEST - 1, LONGEST, LONGEST, LONGEST, 256, 4095, 4096, 20_000]);
-        }
-        match self.r.below(20) {
-            0 => self.r.range(0, 300),
-            1..=4 => self.r.range(0, 40),
-            5..=7 => 0,
-            _ => self.r.range(0, 8),
-        }
-    }
-
-    /// A text: mostly of symbols that keep the set from a start, or from the initial states, alive.
-    fn walk(&mut self, from: u32, length: usize) -> Vec<u8> {
-        let (mut set, stray) = (from, self.r.pick(&[2, 10, 1000]));
-        let mut text = Vec::new();
-        for _ in 0..length {
-            let mut s = self.r.below(self.rule.k) as u8;
-            for _ in 0..self.rule.k {
-                if self.rule.successor(set, s) != 0 || self.r.one_in(stray) {
-                    break;
-                }
-                s = (s + 1) % self.rule.k as u8;
-            }
-            set = self.rule.successor(set, s);
-            text.push(s);
-        }
-        text
-    }
-
-    /// A chunk with that text, now and then with idle marks, a row of them or some here and there;
-    /// none beyond the limit.
-    fn marked(&mut self, text: Vec<u8>) -> Vec<u8> {
-        let spare = LONGEST.saturating_sub(text.len());
-        let mut chunk = text;
-        if spare == 0 || !self.r.one_in(3) {
-            return chunk;
-        }
-        if self.r.one_in(2) {
-            let marks = self.r.pick(&[1, 2, 8, chunk.len() + 2]).min(spare);
-            let at = self.r.below(chunk.len() + 1);
-            chunk.splice(at..at, vec![IDLE; marks]);
-            return chunk;
-        }
-        for _ in 0..self.r.range(1, 8).min(spare) {
-            let at = self.r.below(chunk.len() + 1);
-            chunk.insert(at, IDLE);
-        }
-        chunk
-    }
-
-    fn chunk(&mut self) -> Vec<u8> {
-        let from = 1 << self.r.below(self.rule.n);
-        let length = self.length();
-        let text = self.walk(from, length);
-        self.marked(text)
-    }
-
-    /// A chunk with a byte at or above k: the first, the last or any.
-    fn bad_chunk(&mut self) -> Vec<u8> {
-        let mut chunk = self.chunk();
-        chunk.push(0);
-        let at = self.r.below(chunk.len());
-        let at = self.r.pick(&[0, chunk.len() - 1, at]);
-        chunk[at] = self.r.pick(&[self.rule.k as u8, self.rule.k as u8, 16, 127, 128, 254]);
-        chunk
-    }
-
-    fn too_long_chunk(&mut self) -> Vec<u8> {
-        let length = LONGEST + self.r.pick(&[1, 1, 1, 1, 2, 1000, 300_000]);
-        let mut chunk = self.walk(self.rule.initial, length);
-        match self.r.below(6) {
-            0 | 1 => chunk[LONGEST] = IDLE,
-            2 => chunk.fill(IDLE),
-            _ => (),
-        }
-        chunk
-    }
-
-    /// Chunks for all places whose text is, if luck will have it, accepted or not as wished, with
-    /// idle marks.
-    fn chunks(&mut self) -> Vec<Vec<u8>> {
-        let wish = !self.r.one_in(3);
-        let mut chunks: Vec<Vec<u8>> = Vec::new();
-        for _ in 0..if self.long > 0 { 1 } else { 8 } {
-            let lengths: Vec<usize> = (0..self.places).map(|_| self.length()).collect();
-            let text = self.walk(self.rule.initial, lengths.iter().sum());
-            let mut rest = &text[..];
-            chunks.clear();
-            for length in lengths {
-                chunks.push(rest[..length].to_vec());
-                rest = &rest[length..];
-            }
-            if self.rule.accepts_from(self.rule.initial, &text) == wish {
-                break;
-            }
-        }
-        chunks.into_iter().map(|chunk| self.marked(chunk)).collect()
     }
 
     /// A rule, an opening, chunks for the places in any order, verdicts, and changes afterwards.
@@ -328,15 +261,35 @@ impl Maker {
                 self.some_calls(2);
             }
             self.deliver(place as u64, &chunks[place]);
+            if self.r.one_in(10) {
+                self.resend(place as u64, &chunks[place]);
+            }
         }
         self.verdict();
     }
 
-    /// Chunks are withdrawn and others delivered.
+    /// A chunk is sent again, after more of the buffer was read: longer, or another, or the same.
+    fn resend(&mut self, place: u64, chunk: &[u8]) {
+        let more = self.chunk();
+        let chunk = match self.r.below(4) {
+            0 => chunk.to_vec(),
+            1 => more,
+            _ if chunk.len() + more.len() > LONGEST => more,
+            _ => [chunk, &more].concat(),
+        };
+        self.deliver(place, &chunk);
+        if self.r.one_in(3) {
+            self.verdict();
+        }
+    }
+
+    /// Chunks are withdrawn or not, and others delivered.
     fn change(&mut self) {
         for _ in 0..self.r.range(1, 5) {
             let place = self.place();
-            self.withdraw(place);
+            if !self.r.one_in(3) {
+                self.withdraw(place);
+            }
             if self.r.one_in(3) {
                 self.some_calls(2);
             }
@@ -355,7 +308,7 @@ impl Maker {
     /// Any call, most likely out of place.
     fn any_call(&mut self) {
         let (place, no_place) = (self.place(), self.no_place());
-        match self.r.below(22) {
+        match self.r.below(23) {
             0..=3 => self.verdict(),
             4 | 5 => self.withdraw(place),
             6 => self.withdraw(no_place),
@@ -386,6 +339,10 @@ impl Maker {
             16 if self.r.one_in(4) => self.give_rule(),
             17 => self.install_refused(),
             18 if self.r.one_in(3) => self.value_out_of_place(),
+            19 => {
+                let chunk = self.chunk();
+                self.deliver_malformed(place, &chunk)
+            }
             _ => {
                 let line = malformed(&mut self.r, &self.lines);
                 self.lines.extend(line);

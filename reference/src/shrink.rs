@@ -7,6 +7,7 @@ use crate::checked::{read, CheckedRule};
 use crate::judge::Call;
 use crate::lines::{call, line};
 use crate::rule::{members, Automaton};
+use std::collections::BTreeSet;
 
 /// The lines of a list of calls.
 pub type Lines = Vec<Vec<u8>>;
@@ -26,6 +27,7 @@ pub fn shrink(list: &Lines, differs: Test<Lines>) -> Lines {
             list = fewer_bytes(&list, i, differs);
             list = smaller_call(&list, i, differs);
         }
+        list = smaller_revisions(&list, differs);
         list = fewer(list, differs, places, without_place);
         list = fewer(list, differs, symbols, without_symbol);
         if list == before {
@@ -138,15 +140,36 @@ fn smaller_call(list: &Lines, i: usize, differs: Test<Lines>) -> Lines {
         Call::Load(_) | Call::Install(_) => smaller_giving(&whole, &shows),
         Call::Open(places) => Call::Open(smaller_number(places, &|places| shows(&Call::Open(places)))),
         Call::Withdraw(place) => Call::Withdraw(smaller_number(place, &|place| shows(&Call::Withdraw(place)))),
-        Call::Deliver(place, chunk) => {
-            let place = smaller_number(place, &|place| shows(&Call::Deliver(place, chunk.clone())));
-            let chunk = smaller_bytes(&chunk, &|chunk| shows(&Call::Deliver(place, chunk.to_vec())));
-            Call::Deliver(place, chunk)
+        Call::Deliver(place, revision, chunk) => {
+            let place = smaller_number(place, &|place| shows(&Call::Deliver(place, revision, chunk.clone())));
+            let with = |revision: u64| Call::Deliver(place, revision as u32, chunk.clone());
+            let revision = smaller_number(revision as u64, &|revision| shows(&with(revision))) as u32;
+            let chunk = smaller_bytes(&chunk, &|chunk| shows(&Call::Deliver(place, revision, chunk.to_vec())));
+            Call::Deliver(place, revision, chunk)
         }
         Call::Verdict => Call::Verdict,
     };
     // the same call is written anew only where that is enough to show the difference
     if smaller == whole && !shows(&whole) { list.clone() } else { with(&smaller) }
+}
+
+/// Makes all revisions smaller at once, in the same order: the lowest becomes 0, the next one 1. So two
+/// that are equal stay so.
+fn smaller_revisions(list: &Lines, differs: Test<Lines>) -> Lines {
+    let of = |line: &Vec<u8>| match call(line) {
+        Some(Call::Deliver(_, revision, _)) => Some(revision),
+        _ => None,
+    };
+    let all: BTreeSet<u32> = list.iter().filter_map(of).collect();
+    let ranked = |old: &Vec<u8>| match call(old) {
+        Some(Call::Deliver(place, revision, chunk)) => {
+            let rank = all.range(..revision).count() as u32;
+            if rank == revision { old.clone() } else { line(&Call::Deliver(place, rank, chunk)) }
+        }
+        _ => old.clone(),
+    };
+    let smaller: Lines = list.iter().map(ranked).collect();
+    if smaller != *list && differs(&smaller) { smaller } else { list.clone() }
 }
 
 /// The rule that a call loads or installs, where the file or the value is one.
@@ -306,7 +329,7 @@ fn without_place(list: &Lines, i: usize, place: usize) -> Lines {
     let Some(Call::Open(places)) = call(&list[i]) else { return list.clone() };
     let mut less = with_line(list, i, line(&Call::Open(places - 1)));
     later(&mut less, i, |call| match call {
-        Call::Deliver(at, chunk) => moved(at, place).map(|at| Call::Deliver(at, chunk)),
+        Call::Deliver(at, revision, chunk) => moved(at, place).map(|at| Call::Deliver(at, revision, chunk)),
         Call::Withdraw(at) => moved(at, place).map(Call::Withdraw),
         other => Some(other),
     });
@@ -319,9 +342,9 @@ fn without_symbol(list: &Lines, i: usize, symbol: usize) -> Lines {
     let Some(rule) = given(&whole).and_then(|rule| less_symbol(&rule, symbol)) else { return list.clone() };
     let mut less = with_line(list, i, line(&giving(&whole, &rule)));
     later(&mut less, i, |call| match call {
-        Call::Deliver(place, chunk) => {
+        Call::Deliver(place, revision, chunk) => {
             let chunk = chunk.iter().filter_map(|&s| moved(s as u64, symbol)).map(|s| s as u8).collect();
-            Some(Call::Deliver(place, chunk))
+            Some(Call::Deliver(place, revision, chunk))
         }
         other => Some(other),
     });

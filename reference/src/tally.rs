@@ -11,6 +11,8 @@ use std::collections::BTreeMap;
 pub struct Tally {
     pub calls: usize,
     counts: BTreeMap<String, usize>,
+    /// The last revision accepted at each place that had one, and whether a chunk stands there.
+    places: BTreeMap<u64, (u32, bool)>,
 }
 
 impl Tally {
@@ -21,7 +23,7 @@ impl Tally {
     /// Counts a line and its answer.
     pub fn line(&mut self, line: &[u8], answer: &str) {
         if line.is_empty() {
-            return;
+            return self.places.clear();
         }
         self.calls += 1;
         let Some(call) = call(line) else {
@@ -35,6 +37,9 @@ impl Tally {
         self.add(&format!("{} {kind}", String::from_utf8_lossy(verb)));
         match call {
             Call::Load(file) => {
+                if accepted {
+                    self.places.clear();
+                }
                 if file.len() == 32_907 || accepted && file.len() == 32_906 {
                     self.add(&format!("edge: file of {} bytes", file.len()));
                 }
@@ -42,10 +47,28 @@ impl Tally {
                     self.rule(&read(&file).unwrap(), &words);
                 }
             }
-            Call::Install(value) if accepted || answer == "refused 9" => self.rule(&value, &words),
+            Call::Install(value) if accepted || answer == "refused 9" => {
+                if accepted {
+                    self.places.clear();
+                }
+                self.rule(&value, &words)
+            }
             Call::Install(value) => self.refused_value(&value, answer),
-            Call::Open(places) if places == 64 || places == 65 => self.add(&format!("edge: open {places}")),
-            Call::Deliver(_, chunk) => {
+            Call::Open(places) => {
+                if accepted {
+                    self.places.clear();
+                }
+                if places == 64 || places == 65 {
+                    self.add(&format!("edge: open {places}"));
+                }
+            }
+            Call::Withdraw(place) if accepted => {
+                self.places.entry(place).and_modify(|(_, stands)| *stands = false);
+            }
+            Call::Deliver(place, revision, chunk) => {
+                if accepted || answer == "refused 22" {
+                    self.revision(place, revision, accepted);
+                }
                 let length = chunk.len();
                 if accepted && (length == 0 || length == 65_536) || length == 65_537 {
                     self.add(&format!("edge: chunk of {length} bytes"));
@@ -57,6 +80,29 @@ impl Tally {
                 }
             }
             _ => (),
+        }
+    }
+
+    /// Counts a delivery that only its revision can refuse: how it is beside the last one accepted
+    /// there, and whether that one still stands.
+    fn revision(&mut self, place: u64, revision: u32, accepted: bool) {
+        let what = match self.places.get(&place) {
+            None => "the first at its place".to_string(),
+            Some(&(last, stands)) => {
+                let beside = match revision.cmp(&last) {
+                    std::cmp::Ordering::Less => "lower",
+                    std::cmp::Ordering::Equal => "equal",
+                    std::cmp::Ordering::Greater => "greater",
+                };
+                format!("{beside}, {}", if stands { "a chunk stands" } else { "after a withdrawal" })
+            }
+        };
+        self.add(&format!("revision: {what}"));
+        if accepted && (revision == 0 || revision == u32::MAX) {
+            self.add(&format!("edge: revision {revision}"));
+        }
+        if accepted {
+            self.places.insert(place, (revision, true));
         }
     }
 

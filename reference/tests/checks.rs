@@ -14,26 +14,29 @@ fn calls() {
     assert_eq!(call(b"load -"), Some(Call::Load(vec![])));
     assert_eq!(call(b"open 00000000000000000064"), Some(Call::Open(64)));
     assert_eq!(call(b"open 18446744073709551615"), Some(Call::Open(u64::MAX)));
-    assert_eq!(call(b"deliver 7 -"), Some(Call::Deliver(7, vec![])));
-    assert_eq!(call(b"deliver 0 0001"), Some(Call::Deliver(0, vec![0, 1])));
+    assert_eq!(call(b"deliver 7 0 -"), Some(Call::Deliver(7, 0, vec![])));
+    assert_eq!(call(b"deliver 0 9 0001"), Some(Call::Deliver(0, 9, vec![0, 1])));
+    assert_eq!(call(b"deliver 0 00000000004294967295 -"), Some(Call::Deliver(0, u32::MAX, vec![])));
     assert_eq!(call(b"withdraw 0"), Some(Call::Withdraw(0)));
     assert_eq!(call(b"verdict"), Some(Call::Verdict));
 }
 
 #[test]
 fn a_call_is_read_as_it_was_written() {
-    for plain in [&b"load 0AFF"[..], b"load -", b"open 64", b"deliver 7 -", b"deliver 0 0001", b"withdraw 0", b"verdict"] {
+    for plain in [&b"load 0AFF"[..], b"load -", b"open 64", b"deliver 7 0 -", b"deliver 0 9 0001", b"withdraw 0", b"verdict"] {
         assert_eq!(line(&call(plain).unwrap()), plain);
     }
 }
 
 #[test]
 fn malformed_lines() {
-    let malformed: [&[u8]; 32] = [
+    let malformed: [&[u8]; 41] = [
         b" ", b"load", b"load ", b"load 0", b"load 000", b"load 0g", b"load --", b"load -00", b"load 00 00",
         b"load  00", b" load 00", b"load 00 ", b"load 00\r", b"Load 00", b"open", b"open ", b"open +1",
         b"open -1", b"open 18446744073709551616", b"open 99999999999999999999", b"open 000000000000000000001",
-        b"open 1\r", b"open 1 1", b"deliver 0", b"deliver 0 ", b"deliver  0 00", b"deliver - 00",
+        b"open 1\r", b"open 1 1", b"deliver 0", b"deliver 0 ", b"deliver  0 0 00", b"deliver - 0 00",
+        b"deliver 0 00", b"deliver 0 -", b"deliver 0 4294967296 00", b"deliver 0 18446744073709551616 00", b"deliver 0 - 00",
+        b"deliver 0 000000000000000000000 00", b"deliver 0 0 00 00", b"deliver 0 0", b"deliver 0 0 ",
         b"withdraw", b"withdraw a", b"verdict ", b"verdict\r", b"\xFF",
     ];
     for line in malformed {
@@ -53,7 +56,7 @@ fn ends_of_lines() {
 #[test]
 fn an_empty_line_starts_afresh_and_a_malformed_one_changes_nothing() {
     let rule = "load 010101000000010000000e000000";
-    let text = format!("{rule}\nopen 1\nopen 1 \ndeliver 0 -\nverdict\n\nverdict\n");
+    let text = format!("{rule}\nopen 1\nopen 1 \ndeliver 0 0 -\nverdict\n\nverdict\n");
     assert_eq!(answers(text.as_bytes()), "accepted 1 1\naccepted\nmalformed\naccepted 0\nyes 0 0 0 0\n\nrefused 21\n");
 }
 
@@ -66,12 +69,12 @@ fn the_stored_batch() {
 
 #[test]
 fn shrinking_leaves_what_matters() {
-    let list: Vec<Vec<u8>> = (0..40).map(|i| format!("deliver {i} 00010203{i:02}05").into_bytes()).collect();
+    let list: Vec<Vec<u8>> = (0..40).map(|i| format!("deliver {i} 5 00010203{i:02}05").into_bytes()).collect();
     let wrong = |list: &Vec<Vec<u8>>| {
         let has = |line: &Vec<u8>, part: &[u8]| line.windows(part.len()).any(|window| window == part);
-        list.iter().any(|line| has(line, b"deliver 7 ") && has(line, b"03")) && list.iter().any(|line| has(line, b"23 "))
+        list.iter().any(|line| has(line, b"deliver 7 ") && has(line, b"03")) && list.iter().any(|line| has(line, b"deliver 23 "))
     };
-    assert_eq!(shrink(&list, &wrong), vec![b"deliver 7 03".to_vec(), b"deliver 23 -".to_vec()]);
+    assert_eq!(shrink(&list, &wrong), vec![b"deliver 7 0 03".to_vec(), b"deliver 23 0 -".to_vec()]);
 }
 
 /// A line that installs bytes.
@@ -108,6 +111,20 @@ fn shrinking_makes_numbers_smaller() {
     assert_eq!(shrink(&list("withdraw 00000000000000000107"), &large), list("withdraw 100"));
 }
 
+/// Two revisions that have to be equal, or one greater, come down together.
+#[test]
+fn shrinking_makes_revisions_smaller() {
+    let load = String::from_utf8(line(&Call::Load(file(&blank(1, 1))))).unwrap();
+    let refused = |list: &Vec<Vec<u8>>| answers(&list.join(&b'\n')).contains("refused 22");
+    let text = format!("{load}\nopen 1\ndeliver 0 70 00\ndeliver 0 70 -");
+    let least = format!("{load}\nopen 1\ndeliver 0 0 -\ndeliver 0 0 -");
+    assert_eq!(shrink(&list(&text), &refused), list(&least));
+    let replaced = |list: &Vec<Vec<u8>>| answers(&list.join(&b'\n')).matches("accepted 0").count() == 2;
+    let text = format!("{load}\nopen 1\ndeliver 0 70 00\ndeliver 0 4294967295 -");
+    let least = format!("{load}\nopen 1\ndeliver 0 0 -\ndeliver 0 1 -");
+    assert_eq!(shrink(&list(&text), &replaced), list(&least));
+}
+
 /// Five places and a rule of six states and four symbols, of which one of each is enough for a yes
 /// with a count: whatever place, state and symbol it is, what is left has number 0.
 #[test]
@@ -116,7 +133,7 @@ fn shrinking_makes_places_symbols_and_rules_smaller() {
     (rule.initial, rule.finals) = (0b111000, 0b011100);
     rule.targets.iter_mut().flatten().for_each(|targets| *targets = 0b111111);
     let load = String::from_utf8(line(&Call::Load(file(&rule)))).unwrap();
-    let text = format!("{load}\nopen 5\ndeliver 4 -\ndeliver 3 03\ndeliver 2 010203\ndeliver 1 -\ndeliver 0 -\nverdict");
+    let text = format!("{load}\nopen 5\ndeliver 4 0 -\ndeliver 3 7 03\ndeliver 2 1 010203\ndeliver 1 0 -\ndeliver 0 9 -\nverdict");
     let counted = |list: &Vec<Vec<u8>>| {
         let answers = answers(&list.join(&b'\n'));
         answers.lines().any(|answer| answer.starts_with("yes ") && !answer.starts_with("yes 0 "))
@@ -124,7 +141,7 @@ fn shrinking_makes_places_symbols_and_rules_smaller() {
     let mut least = blank(1, 1);
     (least.initial, least.finals, least.targets[0][0]) = (1, 1, 1);
     let least = String::from_utf8(line(&Call::Load(file(&least)))).unwrap();
-    assert_eq!(shrink(&list(&text), &counted), list(&format!("{least}\nopen 1\ndeliver 0 00\nverdict")));
+    assert_eq!(shrink(&list(&text), &counted), list(&format!("{least}\nopen 1\ndeliver 0 0 00\nverdict")));
 }
 
 /// Where an installation is not what differs, a load of the same rule is plainer; where it is, the

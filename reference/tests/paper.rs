@@ -27,8 +27,9 @@ fn opened(rule: &[u8], places: u64) -> Judge {
     judge
 }
 
+/// A delivery with revision 0.
 fn deliver(judge: &mut Judge, place: u64, chunk: &[u8]) -> Answer {
-    judge.call(&Call::Deliver(place, chunk.to_vec()))
+    judge.call(&Call::Deliver(place, 0, chunk.to_vec()))
 }
 
 /// The verdict on chunks, the last delivered first.
@@ -267,7 +268,8 @@ fn refused_22_and_23() {
     assert_eq!(judge.call(&Call::Withdraw(0)), Accepted);
     assert_eq!(judge.call(&Call::Withdraw(0)), Refused(23));
     assert_eq!(judge.call(&Call::Verdict), Waiting(2));
-    assert_eq!(deliver(&mut judge, 0, &[0]), Delivered(1));
+    assert_eq!(deliver(&mut judge, 0, &[0]), Refused(22));
+    assert_eq!(judge.call(&Call::Deliver(0, 1, vec![0])), Delivered(1));
 }
 
 #[test]

@@ -158,7 +158,7 @@ fn an_installation_takes_the_part_of_a_load() {
     let install = |value: CheckedRule| Call::Install(Box::new(value));
     let (good, bad) = (a_with(|_| ()), a_with(|value| value.targets[3][0] = 1));
     assert_eq!(
-        calls(vec![install(bad.clone()), Call::Open(1), install(good.clone()), Call::Open(1), Call::Deliver(0, vec![0, 1])]),
+        calls(vec![install(bad.clone()), Call::Open(1), install(good.clone()), Call::Open(1), Call::Deliver(0, 0, vec![0, 1])]),
         [Refused(8), Refused(20), Installed(5, 3), Accepted, Delivered(2)]
     );
     let yes = Yes(Work { count: 2, bytes: 2, quotient: 1, remainder: 0 });

@@ -178,7 +178,7 @@ fn the_same_yes_or_no_as_before() {
 fn judged(a: &Automaton, chunks: &[&[u8]]) -> Vec<Answer> {
     let mut judge = Judge::default();
     let mut calls = vec![Call::Load(file(a)), Call::Open(chunks.len() as u64)];
-    calls.extend(chunks.iter().enumerate().map(|(place, chunk)| Call::Deliver(place as u64, chunk.to_vec())));
+    calls.extend(chunks.iter().enumerate().map(|(place, chunk)| Call::Deliver(place as u64, 0, chunk.to_vec())));
     calls.push(Call::Verdict);
     calls.iter().map(|call| judge.call(call)).collect()
 }

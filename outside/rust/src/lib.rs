@@ -13,14 +13,17 @@
 //! let loaded = judge.load(&rule_a)?;
 //! assert_eq!((loaded.sets, loaded.starts), (5, 3));
 //! judge.open(2)?;
-//! let looked = judge.deliver(1, &[1])?; // chunks come out of turn
+//! let looked = judge.deliver(1, 0, &[1])?; // chunks come out of turn
 //! assert_eq!(looked.bytes, 1);
 //! assert_eq!(judge.verdict()?.verdict, Verdict::Waiting(1));
-//! let _looked = judge.deliver(0, &[0])?;
+//! let _looked = judge.deliver(0, 0, &[0])?;
 //! let report = judge.verdict()?;
 //! assert_eq!(report.verdict, Verdict::Yes(3));
 //! // 2 bytes of text, for each 1 transition and 1 over
 //! assert_eq!((report.bytes, report.quotient, report.remainder), (2, 1, 1));
+//! // a later recording, with a greater revision, supersedes what stands at place 0
+//! let _looked = judge.deliver(0, 1, &[1])?;
+//! assert_eq!(judge.verdict()?.verdict, Verdict::No(3));
 //! # Ok::<(), Refused>(())
 //! ```
 //!
@@ -31,7 +34,7 @@
 //!
 //! ```compile_fail
 //! #![deny(unused_must_use)]
-//! bellbadger::Judge::new().deliver(0, &[1]);
+//! bellbadger::Judge::new().deliver(0, 0, &[1]);
 //! ```
 //!
 //! # Threads and stack
@@ -201,20 +204,29 @@ impl Judge {
         self.changed(r)
     }
 
-    /// Runs a chunk and keeps its end sets, count and length at the place, which are counted from 0.
-    /// Byte 255 is an idle mark: it is skipped and is no part of the text, but counts in the limit.
+    /// Runs a chunk and keeps its end sets, count, length and revision at the place, which are counted
+    /// from 0. A greater revision than the last one accepted there replaces what stands; a place that
+    /// had none since the opening takes any. Byte 255 is an idle mark: it is skipped and is no part of
+    /// the text, but counts in the limit.
     ///
     /// # Errors
     /// 21 (no board is open), 11 (no such place), 12 (over 65,536 bytes), 13 (a byte is no symbol
-    /// and no idle mark), 22 (the place has a chunk already).
+    /// and no idle mark), 22 (the revision is not greater than the last one accepted there, even if
+    /// that was withdrawn).
     ///
     /// ```
     /// # use bellbadger::Judge;
-    /// assert_eq!(Judge::new().deliver(0, &[1]).unwrap_err().number(), 21);
+    /// assert_eq!(Judge::new().deliver(0, 0, &[1]).unwrap_err().number(), 21);
     /// ```
-    pub fn deliver(&mut self, place: usize, chunk: &[u8]) -> Result<Looked, Refused> {
+    pub fn deliver(
+        &mut self,
+        place: usize,
+        revision: u32,
+        chunk: &[u8],
+    ) -> Result<Looked, Refused> {
+        let (data, length) = (chunk.as_ptr(), chunk.len());
         // SAFETY: the pointer leads to as many bytes as the length says, and they are only read.
-        let r = unsafe { raw::bellbadger_deliver(*self.0, place, chunk.as_ptr(), chunk.len()) };
+        let r = unsafe { raw::bellbadger_deliver(*self.0, place, revision, data, length) };
         *self.0 = r.judge;
         let bytes = r.looked;
         accepted(r.accepted, r.refused).map(|()| Looked { bytes })
@@ -263,8 +275,8 @@ impl Judge {
 
 /// Runs the calls that a text records on a fresh judge: the report on the verdict after them.
 ///
-/// A line is `load HEX`, `install HEX`, `open N`, `deliver P HEX`, `withdraw P` or `verdict`, with
-/// exactly one space between fields; an empty line begins a fresh judge. HEX is pairs of hex digits, or
+/// A line is `load HEX`, `install HEX`, `open N`, `deliver P REVISION HEX`, `withdraw P` or
+/// `verdict`, with exactly one space between fields; an empty line begins a fresh judge. HEX is pairs of hex digits, or
 /// `-` for no bytes; that of an installation is the 2,058 bytes of a rule by value. A recorded call that
 /// is refused changes nothing, and the next line is run.
 ///
@@ -275,7 +287,7 @@ impl Judge {
 /// use bellbadger::{replay, ReplayError, Verdict};
 ///
 /// let rule_a = "load 03020100000004000000160006001C0002001E0000000000000101000102";
-/// let text = format!("{rule_a}\nopen 2\ndeliver 1 01\ndeliver 0 00\n");
+/// let text = format!("{rule_a}\nopen 2\ndeliver 1 0 01\ndeliver 0 0 00\n");
 /// assert_eq!(replay(text.as_bytes())?.verdict, Verdict::Yes(3));
 /// assert_eq!(replay(b"verdict\nopen  2\n"), Err(ReplayError::Malformed { line: 2 }));
 /// # Ok::<(), ReplayError>(())

@@ -25,6 +25,8 @@ pub struct RawBoard {
     pub filled: [u8; 64],
     counts: [u32; 64],
     lengths: [u32; 64],
+    /// One more than the last revision accepted at each place since the opening, 0 for none.
+    revisions: [u64; 64],
     ends: [u32; 2048],
 }
 
@@ -88,7 +90,7 @@ pub struct RawVerdict {
 /// The major version that the declarations here are of.
 pub const MAJOR: u32 = 4;
 /// As the C header has it; outside/c/test.c reads every field of it.
-pub const STATE_SIZE: usize = 27316;
+pub const STATE_SIZE: usize = 27832;
 const _: () = assert!(std::mem::size_of::<RawJudge>() == STATE_SIZE);
 const _: () = assert!(std::mem::size_of::<RawRead>() == 2064);
 
@@ -103,6 +105,7 @@ extern "C" {
     pub fn bellbadger_deliver(
         judge: RawJudge,
         place: usize,
+        revision: u32,
         chunk: *const u8,
         length: usize,
     ) -> RawDelivery;

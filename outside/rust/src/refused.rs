@@ -42,7 +42,7 @@ impl Refused {
             13 => "a byte is no symbol of the rule and no idle mark",
             20 => "no rule is there",
             21 => "no board is open",
-            22 => "the place has a chunk already",
+            22 => "the revision is not greater than the last one accepted at the place",
             23 => "the place has no chunk",
             _ => "for a reason that this wrapper does not know",
         }

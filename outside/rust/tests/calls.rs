@@ -39,7 +39,7 @@ fn judged(rule: &[u8], chunks: &[&[u8]]) -> Result<Report, Refused> {
     judge.open(chunks.len())?;
     for (place, chunk) in chunks.iter().enumerate().rev() {
         assert_eq!(judge.verdict()?, waiting(place as u64 + 1));
-        let _looked = judge.deliver(place, chunk)?;
+        let _looked = judge.deliver(place, 0, chunk)?;
     }
     judge.verdict()
 }
@@ -67,20 +67,23 @@ fn refusals_of_the_calls() {
     let mut judge = Judge::new();
     assert_eq!(number(judge.verdict()), 21);
     assert_eq!(number(judge.open(1)), 20);
-    assert_eq!(number(judge.deliver(0, &[])), 21);
+    assert_eq!(number(judge.deliver(0, 0, &[])), 21);
     assert_eq!(number(judge.withdraw(0)), 21);
     assert!(judge.load(&A).is_ok());
     for places in [0, 65, usize::MAX] {
         assert_eq!(number(judge.open(places)), 10);
     }
     assert_eq!(judge.open(64), Ok(()));
-    assert_eq!(number(judge.deliver(64, &[])), 11);
+    assert_eq!(number(judge.deliver(64, 0, &[])), 11);
     assert_eq!(number(judge.withdraw(usize::MAX)), 11);
-    assert_eq!(number(judge.deliver(63, &[0; 65537])), 12);
-    assert_eq!(number(judge.deliver(63, &[0, 2])), 13);
+    assert_eq!(number(judge.deliver(63, 0, &[0; 65537])), 12);
+    assert_eq!(number(judge.deliver(63, 0, &[0, 2])), 13);
     assert_eq!(number(judge.withdraw(63)), 23);
-    assert_eq!(judge.deliver(63, &[0; 65536]), Ok(Looked { bytes: 65536 }));
-    assert_eq!(number(judge.deliver(63, &[])), 22);
+    assert_eq!(
+        judge.deliver(63, 0, &[0; 65536]),
+        Ok(Looked { bytes: 65536 })
+    );
+    assert_eq!(number(judge.deliver(63, 0, &[])), 22);
     assert_eq!(judge.verdict(), Ok(waiting(63)));
     assert_eq!(number(judge.load(&A[..9])), 1);
     assert_eq!(number(judge.load(&[0; 32907])), 2);
@@ -109,7 +112,7 @@ fn the_sum_of_the_counts() {
     assert_eq!(judge.open(64), Ok(()));
     for place in 0..64 {
         assert_eq!(
-            judge.deliver(place, &[0; 65536]),
+            judge.deliver(place, 0, &[0; 65536]),
             Ok(Looked { bytes: 65536 })
         );
     }
@@ -137,7 +140,7 @@ fn looked_up() {
     ] {
         let mut judge = Judge::new();
         assert!(judge.load(rule).is_ok() && judge.open(1).is_ok());
-        assert_eq!(judge.deliver(0, chunk), Ok(Looked { bytes }));
+        assert_eq!(judge.deliver(0, 0, chunk), Ok(Looked { bytes }));
     }
 }
 
@@ -149,20 +152,64 @@ fn idle_marks() {
     );
     let mut judge = Judge::new();
     assert!(judge.load(&A).is_ok() && judge.open(1).is_ok());
-    assert_eq!(number(judge.deliver(0, &[255; 65537])), 12);
-    assert_eq!(number(judge.deliver(0, &[255, 254])), 13);
-    assert_eq!(number(judge.deliver(0, &[255, 2])), 13);
-    assert_eq!(judge.deliver(0, &[255; 65536]), Ok(Looked { bytes: 0 }));
-    assert_eq!(number(judge.deliver(0, &[255])), 22);
+    assert_eq!(number(judge.deliver(0, 0, &[255; 65537])), 12);
+    assert_eq!(number(judge.deliver(0, 0, &[255, 254])), 13);
+    assert_eq!(number(judge.deliver(0, 0, &[255, 2])), 13);
+    assert_eq!(judge.deliver(0, 0, &[255; 65536]), Ok(Looked { bytes: 0 }));
+    assert_eq!(number(judge.deliver(0, 0, &[255])), 22);
+}
+
+#[test]
+fn a_later_recording_supersedes() {
+    let mut judge = Judge::new();
+    assert!(judge.load(&A).is_ok() && judge.open(1).is_ok());
+    assert_eq!(judge.deliver(0, 5, &[0]), Ok(Looked { bytes: 1 }));
+    assert_eq!(number(judge.deliver(0, 5, &[0, 1])), 22);
+    assert_eq!(number(judge.deliver(0, 9, &[2])), 13);
+    assert_eq!(judge.deliver(0, 6, &[0, 1]), Ok(Looked { bytes: 2 }));
+    let yes = Ok(reported(Verdict::Yes(2), [2, 1, 0]));
+    assert_eq!(judge.verdict(), yes);
+    assert_eq!(judge.withdraw(0), Ok(()));
+    let refused = judge.deliver(0, 6, &[0, 1]).unwrap_err();
+    let words = "refused 22: the revision is not greater than the last one accepted at the place";
+    assert_eq!(refused.to_string(), words);
+    assert_eq!(judge.verdict(), Ok(waiting(1)));
+    assert_eq!(judge.deliver(0, u32::MAX, &[0, 1]), Ok(Looked { bytes: 2 }));
+    assert_eq!(judge.verdict(), yes);
+    assert_eq!(number(judge.deliver(0, u32::MAX, &[])), 22);
+    assert!(judge.open(1).is_ok());
+    assert_eq!(judge.deliver(0, 0, &[]), Ok(Looked { bytes: 0 }));
+}
+
+#[test]
+fn two_orders_of_deliveries_end_in_the_same_verdict() {
+    let given: [(usize, u32, &[u8]); 4] =
+        [(0, 3, &[1, 1]), (1, 0, &[]), (0, 7, &[0]), (1, 9, &[1])];
+    for order in [[0, 1, 2, 3], [3, 2, 1, 0], [2, 0, 3, 1], [1, 3, 0, 2]] {
+        let mut judge = Judge::new();
+        assert!(judge.load(&A).is_ok() && judge.open(2).is_ok());
+        for i in order {
+            let (place, revision, chunk) = given[i];
+            let delivered = judge.deliver(place, revision, chunk);
+            assert!(delivered.is_ok() || number(delivered) == 22);
+        }
+        assert_eq!(judge.verdict(), Ok(reported(Verdict::Yes(3), [2, 1, 1])));
+    }
 }
 
 #[test]
 fn recorded_lists() {
-    let text = "load 03020100000004000000160006001C0002001E0000000000000101000102\nopen 2\ndeliver 1 01\ndeliver 0 00";
+    let text = "load 03020100000004000000160006001C0002001E0000000000000101000102\nopen 2\ndeliver 1 0 01\ndeliver 0 0 00";
     assert_eq!(
         replay(text.as_bytes()),
         Ok(reported(Verdict::Yes(3), [2, 1, 1]))
     );
+    let later = text.replace("deliver 0 0 00", "deliver 0 0 01\ndeliver 0 1 00");
+    assert_eq!(replay(later.as_bytes()), replay(text.as_bytes()));
+    for wrong in ["deliver 0 00", "deliver 0 4294967296 00"] {
+        let malformed = replay(text.replace("deliver 0 0 00", wrong).as_bytes());
+        assert_eq!(malformed, Err(ReplayError::Malformed { line: 4 }));
+    }
     assert!(matches!(replay(b""), Err(ReplayError::Refused(refused)) if refused.number() == 21));
     assert_eq!(
         replay(b"").unwrap_err().to_string(),
@@ -189,7 +236,7 @@ fn a_refusal_is_an_error() {
 #[test]
 fn what_a_judge_shows() {
     let mut judge = Judge::new();
-    assert!(judge.load(&A).is_ok() && judge.open(2).is_ok() && judge.deliver(1, &[]).is_ok());
+    assert!(judge.load(&A).is_ok() && judge.open(2).is_ok() && judge.deliver(1, 0, &[]).is_ok());
     let shown = "Judge { states: 3, symbols: 2, sets: 5, starts: 3, places: 2, filled: 1, .. }";
     assert_eq!(format!("{judge:?}"), shown);
     assert_eq!(version(), (4, 0));

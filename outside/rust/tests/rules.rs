@@ -140,7 +140,9 @@ fn an_installation_takes_the_part_of_a_load() {
     assert_eq!(number(judge.install(&bad)), 8);
     assert_eq!(number(judge.open(1)), 20);
     assert!(
-        judge.install(&good).is_ok() && judge.open(1).is_ok() && judge.deliver(0, &[0, 1]).is_ok()
+        judge.install(&good).is_ok()
+            && judge.open(1).is_ok()
+            && judge.deliver(0, 0, &[0, 1]).is_ok()
     );
     assert_eq!(number(judge.install(&bad)), 8);
     assert_eq!(
@@ -170,7 +172,7 @@ fn astray(initials: u32, finals: u32) -> CheckedRule {
 fn judged(rule: &CheckedRule, chunks: [&[u8]; 2]) -> Verdict {
     let mut judge = Judge::new();
     assert!(judge.install(rule).is_ok() && judge.open(2).is_ok());
-    assert!(judge.deliver(1, chunks[1]).is_ok() && judge.deliver(0, chunks[0]).is_ok());
+    assert!(judge.deliver(1, 0, chunks[1]).is_ok() && judge.deliver(0, 0, chunks[0]).is_ok());
     judge.verdict().expect("a verdict").verdict
 }
 
@@ -193,8 +195,8 @@ fn no_final_state() {
         Ok(Loaded { sets: 4, starts: 0 })
     );
     assert_eq!(judge.open(1), Ok(()));
-    assert_eq!(number(judge.deliver(0, &[0, 2])), 13);
-    assert_eq!(judge.deliver(0, &[0, 1]), Ok(Looked { bytes: 0 }));
+    assert_eq!(number(judge.deliver(0, 0, &[0, 2])), 13);
+    assert_eq!(judge.deliver(0, 0, &[0, 1]), Ok(Looked { bytes: 0 }));
     let report = judge.verdict().expect("a verdict");
     assert_eq!((report.verdict, report.bytes), (Verdict::No(0), 2));
 }
@@ -210,7 +212,7 @@ fn recorded_installations() {
         .collect();
     let text = |bytes: &[u8]| {
         let hex: String = bytes.iter().map(|byte| format!("{byte:02x}")).collect();
-        format!("install {hex}\nopen 1\ndeliver 0 0001\n")
+        format!("install {hex}\nopen 1\ndeliver 0 0 0001\n")
     };
     let report = replay(text(&bytes).as_bytes()).expect("a verdict");
     assert_eq!((bytes.len(), report.verdict), (2058, Verdict::Yes(2)));
