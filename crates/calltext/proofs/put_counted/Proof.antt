@@ -1,7 +1,6 @@
 -- `put_counted` meets its contract. Assumes nothing.
 use native.Mathlib.Omega.{arith}
-use Rattle.text.proofs.Fitting.{put, _then_}
-use Rattle.calltext.proofs.Written.{behind-most}
+use Rattle.calltext.proofs.Written.{behind-most, four-behind}
 use borrow.Author.Needs.{needs}
 use Rattle.calltext.proofs.put_counted.Statement.{statement}
 use Rattle.calltext.proofs.put_counted.Tie as tie
@@ -52,17 +51,13 @@ same-length c = search needs
 returns : tie.Need-returns
 returns c =
     let s = c .before .before .before .before .before .before .before .before .before .before .before .before .before .before .before .before .before .before .before .before .before .before .before .before .before .before in
-    let d1 = behind-most (s .args .count) (s .fits .count .fits) in
-    let d2 = behind-most (s .args .bytes) (s .fits .bytes .fits) in
-    let d3 = behind-most (s .args .quotient) (s .fits .quotient .fits) in
-    let d4 = behind-most (s .args .remainder) (s .fits .remainder .fits) in
-    let u = put (omega (arith, s .pre)) (c .before .before .before .before .before .before .before .before .before .before .before .before .before .before .before .before .before .before .before .before .before .before .put-bytes .ensures) in
-    let v1 = put (omega (arith, s .pre, d1, d2, d3, d4, u)) (c .before .before .before .before .before .before .before .before .before .before .before .before .before .before .before .before .before .before .put-behind .ensures) in
-    let v2 = put (omega (arith, s .pre, d1, d2, d3, d4, u, v1)) (c .before .before .before .before .before .before .before .before .before .before .before .before .before .before .put-behind2 .ensures) in
-    let v3 = put (omega (arith, s .pre, d1, d2, d3, d4, u, v1, v2)) (c .before .before .before .before .before .before .before .before .before .before .put-behind3 .ensures) in
-    let v4 = put (omega (arith, s .pre, d1, d2, d3, d4, u, v1, v2, v3)) (c .before .before .before .before .before .before .put-behind4 .ensures) in
-    let y = put (omega (arith, s .pre, d1, d2, d3, d4, u, v1, v2, v3, v4)) (c .before .before .put-byte .ensures) in
-    ((u then (v1 then (v2 then (v3 then v4)))) then y) .wrote
+    four-behind (s .args .count) (s .args .bytes) (s .args .quotient) (s .args .remainder) (s .fits .count .fits) (s .fits .bytes .fits) (s .fits .quotient .fits) (s .fits .remainder .fits) (s .pre)
+    (c .before .before .before .before .before .before .before .before .before .before .before .before .before .before .before .before .before .before .before .before .before .before .put-bytes .ensures)
+    (c .before .before .before .before .before .before .before .before .before .before .before .before .before .before .before .before .before .before .put-behind .ensures)
+    (c .before .before .before .before .before .before .before .before .before .before .before .before .before .before .put-behind2 .ensures)
+    (c .before .before .before .before .before .before .before .before .before .before .put-behind3 .ensures)
+    (c .before .before .before .before .before .before .put-behind4 .ensures)
+    (c .before .before .put-byte .ensures)
 
 pub put-counted-spec : {M : Type 1} → statement M
 put-counted-spec =

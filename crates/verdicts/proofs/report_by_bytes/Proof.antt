@@ -1,8 +1,8 @@
 -- `report_by_bytes` meets its contract. Assumes nothing.
 use Rattle.calls.proofs.Ways.{bytes-none, bytes-some}
 use borrow.Author.Needs.{needs}
-use Rattle.judge.proofs.report_by_bytes.Statement.{statement}
-use Rattle.judge.proofs.report_by_bytes.Tie as tie
+use Rattle.verdicts.proofs.report_by_bytes.Statement.{statement}
+use Rattle.verdicts.proofs.report_by_bytes.Tie as tie
 
 returns : tie.Need-returns
 returns c = search (needs, bytes-none)

@@ -1,8 +1,8 @@
 -- `report_on` meets its contract. Assumes nothing.
 use Rattle.calls.proofs.Ways.{report-waiting, report-yes, report-no, report-refused}
 use borrow.Author.Needs.{needs}
-use Rattle.judge.proofs.report_on.Statement.{statement}
-use Rattle.judge.proofs.report_on.Tie as tie
+use Rattle.verdicts.proofs.report_on.Statement.{statement}
+use Rattle.verdicts.proofs.report_on.Tie as tie
 
 enum-told : tie.Need-enum-told
 enum-told c = search needs

@@ -1,8 +1,8 @@
 -- `find_verdict` meets its contract. Assumes nothing.
 use Rattle.calls.proofs.Ways.{verdict-21, verdict-waiting, verdict-yes, verdict-no}
 use borrow.Author.Needs.{needs}
-use Rattle.judge.proofs.find_verdict.Statement.{statement}
-use Rattle.judge.proofs.find_verdict.Tie as tie
+use Rattle.verdicts.proofs.find_verdict.Statement.{statement}
+use Rattle.verdicts.proofs.find_verdict.Tie as tie
 
 returns : tie.Need-returns
 returns c = search (needs, verdict-21)

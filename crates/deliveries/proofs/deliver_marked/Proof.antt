@@ -11,8 +11,8 @@ use Rattle.text.proofs.Rooms.{whole-within}
 use Rattle.marks.specs.Marks.{textOf}
 use Rattle.marks.proofs.Claims as marks
 use borrow.Author.Needs.{needs}
-use Rattle.judge.proofs.deliver_marked.Statement.{statement}
-use Rattle.judge.proofs.deliver_marked.Tie as tie
+use Rattle.deliveries.proofs.deliver_marked.Statement.{statement}
+use Rattle.deliveries.proofs.deliver_marked.Tie as tie
 
 short : (w : List ℕ) → length w ≤ 65536 → length (textOf w) ≤ 65536
 short w h = omega (arith, marks.claims .no-longer w)

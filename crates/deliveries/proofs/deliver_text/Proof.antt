@@ -3,8 +3,8 @@
 use mathlib.Core.Path.{refl}
 use Rattle.calls.proofs.Ways.{deliver-13, deliver-22, delivered}
 use borrow.Author.Needs.{needs}
-use Rattle.judge.proofs.deliver_text.Statement.{statement}
-use Rattle.judge.proofs.deliver_text.Tie as tie
+use Rattle.deliveries.proofs.deliver_text.Statement.{statement}
+use Rattle.deliveries.proofs.deliver_text.Tie as tie
 
 has-foreign-requires : tie.Need-has-foreign-requires
 has-foreign-requires c κs = search needs

@@ -1,8 +1,8 @@
 -- `run_at` meets its contract. Assumes nothing.
 use Rattle.calls.proofs.Ways.{runs-by}
 use borrow.Author.Needs.{needs}
-use Rattle.judge.proofs.run_at.Statement.{statement}
-use Rattle.judge.proofs.run_at.Tie as tie
+use Rattle.deliveries.proofs.run_at.Statement.{statement}
+use Rattle.deliveries.proofs.run_at.Tie as tie
 
 run-mask-requires : tie.Need-run-mask-requires
 run-mask-requires c κs = search needs
