@@ -5,6 +5,7 @@
 --   is-listFrom, same-list    an array with those cells is that list; the same cells, the same list
 --   zero-cells                every cell of a list of zeros
 --   stored, cell-stored       one cell more: what holds of each cell passed, and what each has
+--   each-stored               one cell changed: what holds of every cell
 --   joined-none, joined-suc, joined-more      no part, and one part more
 --   joined-same               equal parts make equal lists
 --   joined-length, length-exact, length-joined   the length, by that of each part
@@ -21,8 +22,11 @@ use native.Mathlib.Omega.{arith}
 use lib.ListN.{length, getD, set, take, drop, replicate, length-append}
 use lib.Seq.{ext-getD, getD-set-same, getD-set-other, take-at, drop-at, getD-take, getD-drop}
 use borrow.Author.Count.{below-more}
+use borrow.Author.Tests.{eqb-true, eqb-false}
+use lib.Dec.{eqb}
 use Rattle.base.specs.Lists.{listFrom, joined}
 use Rattle.base.specs.Totals.{total}
+use Rattle.base.proofs.Tests.{by-test}
 
 -- ---- cell by cell
 pub length-listFrom : (i len : ℕ) (g : ℕ → ℕ) → length (listFrom i len g) ≡ len
@@ -64,6 +68,12 @@ stored P l i v h all here =
 pub cell-stored : (t : List ℕ) (g : ℕ → ℕ) (i x : ℕ) → i < length t → x ≡ g i → ((c : ℕ) → c < i → getD t c 0 ≡ g c)
     → (c : ℕ) → c < i + 1 → getD (set t i x) c 0 ≡ g c
 cell-stored t g i x h e f = stored (λ c y. y ≡ g c) t i x h f e
+
+pub each-stored : (P : ℕ → Type 0) (l : List ℕ) (i v : ℕ) → i < length l → ((b : ℕ) → P (getD l b 0)) → P v → (b : ℕ) → P (getD (set l i v) b 0)
+each-stored P l i v h all here b =
+    by-test (eqb b i)
+    (λ t. let e = eqb-true b i t in rw (e, getD-set-same l i v 0 h) here)
+    (λ t. rw (getD-set-other l i b v 0 (eqb-false b i t)) (all b))
 
 -- ---- part by part
 pub joined-same : (p p′ : ℕ → List ℕ) (n : ℕ) → ((i : ℕ) → i < n → p i ≡ p′ i) → joined p n ≡ joined p′ n

@@ -120,15 +120,15 @@ fn living(lane: &[usize]) -> usize
     LANES
 }
 
-// Eight runs over the bytes, to their end or to the byte after which all eight are empty; answers
-// for how many bytes a successor is looked up. The first leads. When it has died its lane is lent
-// to one that lives, which leads on, until none is left.
-pub fn walk_eight(t: &[u16], part: &[u8], lane: &mut [usize]) -> usize
-    requires { ⌜ RowTable (now t) × Rows (now lane) × (length (now lane) ≡ laneCount) ⌝ }
+// Eight runs over the bytes, of which the first looks nothing up: its lane is lent to one that
+// lives, which leads until it dies, and then to another, until none is left. Answers for how many
+// bytes a successor is looked up.
+fn follow(t: &[u16], part: &[u8], lane: &mut [usize]) -> usize
+    requires { ⌜ RowTable (now t) × Rows (now lane) × (length (now lane) ≡ laneCount) × (rowLooked (now t) (now part) (getD (now lane) 0 0) ≡ 0) ⌝ }
     ensures { λ r. ⌜ (r ≡ rowsLooked (now (t .entry)) (now (part .entry)) (now (lane .entry)) laneCount) × (now (lane .exit) ≡ rowsEnd (now (t .entry)) (now (part .entry)) (now (lane .entry)) laneCount) ⌝ }
 {
-    let mut i = lead(t, part, lane);
     let first = lane[0];
+    let mut i: usize = 0;
     while i < part.len() {
         let k = living(lane);
         if k == LANES {
@@ -140,4 +140,14 @@ pub fn walk_eight(t: &[u16], part: &[u8], lane: &mut [usize]) -> usize
     }
     lane[0] = first;
     i
+}
+
+// Eight runs over the bytes, to their end or to the byte after which all eight are empty; answers
+// for how many bytes a successor is looked up.
+pub fn walk_eight(t: &[u16], part: &[u8], lane: &mut [usize]) -> usize
+    requires { ⌜ RowTable (now t) × Rows (now lane) × (length (now lane) ≡ laneCount) ⌝ }
+    ensures { λ r. ⌜ (r ≡ rowsLooked (now (t .entry)) (now (part .entry)) (now (lane .entry)) laneCount) × (now (lane .exit) ≡ rowsEnd (now (t .entry)) (now (part .entry)) (now (lane .entry)) laneCount) ⌝ }
+{
+    let i = lead(t, part, lane);
+    i + follow(t, &part[i..], lane)
 }

@@ -6,7 +6,8 @@
 --   looked-most, looked-empty, looked-some  what is looked up: at most each byte; nothing from the
 --                                           empty set; else the first byte
 --   looked-next, looked-left                what is left to be looked up
---   looked-within                           no more than the bytes after which the set is empty
+--   looked-within, looked-take              no more than the bytes after which the set is empty, and
+--                                           as much of so many bytes alone
 --   end-through, count-through, looked-through   a walk by other numbers for the same sets
 --
 -- Where the step leads to no number above `empty`, and from `empty` nowhere else:
@@ -15,7 +16,7 @@
 --   count-empty, count-alive            it counts nothing; a walk that is alive in the end counted
 --                                       each byte
 --   looked-append, looked-alive, looked-from    what is looked up over two parts
---   end-looked                          what is not looked up changes nothing
+--   end-looked, end-still               what is not looked up changes nothing
 use mathlib.Core.Path.{_≡_, refl, sym, ap, _∙_}
 use mathlib.Core.Bool.{false, cond}
 use mathlib.Core.List.{List, [], _∷_, _++_}
@@ -99,6 +100,14 @@ module _ (f : ℕ → ℕ → ℕ) (empty : ℕ) where
       by-test (ltb i empty)
       (λ t. rw t (omega (arith, looked-within (f i b) n w h)))
       (λ t. rw t (omega arith))
+
+  pub looked-take : (i : ℕ) (w : List ℕ) → lookedBy f empty i (take (lookedBy f empty i w) w) ≡ lookedBy f empty i w
+  unfolding lookedBy
+  looked-take i [] = refl
+  looked-take i (b ∷ w) =
+      by-test (ltb i empty)
+      (λ t. rw (t, t) (ap suc (looked-take (f i b) w)))
+      (λ t. rw t)
 
 -- g i is the number of the set i for the step h, where the empty set has another number too
 module _ (f h : ℕ → ℕ → ℕ) (empty none : ℕ) (g : ℕ → ℕ) (steps : (i b : ℕ) → h (g i) b ≡ g (f i b)) (tests : (i : ℕ) → ltb (g i) none ≡ ltb i empty) where
@@ -186,3 +195,7 @@ module _ (f : ℕ → ℕ → ℕ) (empty : ℕ) (low : (i b : ℕ) → f i b �
       by-test (ltb i empty)
       (λ t. rw t (end-looked (f i b) w (low i b)))
       (λ t. rw (t, none-left i (b ∷ w) h t) (omega (arith, ltb-false i empty t)))
+
+  pub end-still : (i : ℕ) (w : List ℕ) → i ≤ empty → lookedBy f empty i w ≡ 0 → endBy f i w ≡ i
+  unfolding endBy
+  end-still i w h none = sym (end-looked i w h) ∙ ap (λ (n : ℕ). endBy f i (take n w)) none
