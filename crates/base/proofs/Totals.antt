@@ -5,8 +5,8 @@
 --   total-most, term-most     a bound of the sum; a term is at most the sum
 --   total-but-one             a bound where one term is 0: room for one more is left
 --   total-rest                numbers that add nothing
---   greatest-more, greatest-same, greatest-most, term-greatest, greatest-rest   the same of the
---                             greatest
+--   greatest-more, greatest-same, greatest-most, term-greatest, greatest-split, greatest-rest   the
+--                             same of the greatest; the numbers from n on apart
 --   greatest-sum              the greatest of sums, where a number is added only to a full one
 use mathlib.Core.Path.{_≡_, refl, ap, ap₂}
 use mathlib.Core.Logic.{⊎-elim}
@@ -85,6 +85,11 @@ unfolding greatest
 term-greatest f zero p h = absurd (omega arith)
 term-greatest f (suc n) p h =
     ⊎-elim (λ e. rw e (omega arith)) (λ l. omega (arith, term-greatest f n p l)) (eq-or-lt-of-le (le-of-suc-le-suc h))
+
+pub greatest-split : (f : ℕ → ℕ) (n k : ℕ) → greatest f (n + k) ≡ max (greatest f n) (greatest (λ q. f (n + q)) k)
+unfolding greatest
+greatest-split f n zero = let e : n + 0 ≡ n = omega arith in rw e (omega arith)
+greatest-split f n (suc k) = let e : n + suc k ≡ suc (n + k) = omega arith in rw e (omega (arith, greatest-split f n k))
 
 -- from n on they are 0
 pub greatest-rest : (f : ℕ → ℕ) (k n : ℕ) → ((q : ℕ) → n ≤ q → q < k + n → f q ≡ 0) → greatest f (k + n) ≡ greatest f n

@@ -1,2 +1,3 @@
 -- In the order in which they build on each other.
-pub mod Sharing
+pub mod Lanes
+pub mod Parts

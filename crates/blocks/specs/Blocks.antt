@@ -44,5 +44,5 @@ pub record Shared (rows lane of : List ℕ) (used : ℕ) : Type 0 where
   pub most : used ≤ laneRoom
   pub within : (j : ℕ) → j < mostStates → getD of j 0 < laneRoom
   pub same : (j : ℕ) → j < mostStates → getD lane (getD of j 0) 0 ≡ getD rows j 0
-  pub some : (k : ℕ) → (getD lane k 0 ≡ emptyRow) ⊎ (j : ℕ) × (j < mostStates) × (getD lane k 0 ≡ getD rows j 0)
+  pub some : (k : ℕ) → k < laneRoom → (getD lane k 0 ≡ emptyRow) ⊎ (j : ℕ) × (j < mostStates) × (getD lane k 0 ≡ getD rows j 0)
   pub rest : (k : ℕ) → used ≤ k → k < laneRoom → getD lane k 0 ≡ emptyRow

@@ -79,7 +79,7 @@ module _ (t : List ℕ) (table : RowTable t) (w from : List ℕ) (low : Rows fro
       behind-more = record {
         within = omega (arith, leads, looked-most (hopOf t) 8192 (getD lane k 0) (drop n w), length-drop n w);
         size = ap length ends ∙ length-listFrom 0 8 (λ q. rowEnd t (take r (drop n w)) (getD lent q 0));
-        low = rw ends (rows-low t table (take r (drop n w)) lent 8 (each-stored (λ x. x ≤ 8192) lane 0 (getD lane k 0) (omega (arith, behind .size)) (behind .low) (behind .low k)));
+        low = rw ends (rows-low t table (take r (drop n w)) lent 8 (each-stored (λ b x. x ≤ 8192) lane 0 (getD lane k 0) (omega (arith, behind .size)) (behind .low) (behind .low k)));
         on = moved;
         far = further;
       }

@@ -57,7 +57,7 @@ lead-requires c κs =
     let k = c .before .before .before .before .living .result in
     let row = getD (l .lane) k 0 in (
       c .before .before .before .before .before .before .before .before .before .before .before .before .pre .0,
-      each-stored (λ x. x ≤ 8192) (l .lane) 0 row (omega (arith, l .inv .size)) (l .inv .low) (l .inv .low k),
+      each-stored (λ b x. x ≤ 8192) (l .lane) 0 row (omega (arith, l .inv .size)) (l .inv .low) (l .inv .low k),
       length-set (l .lane) 0 row ∙ l .inv .size,
     )
 
