@@ -1,57 +1,65 @@
+-- `pick` meets its contract. Assumes nothing.
+use mathlib.Core.Path.{_≡_, refl, _∙_}
+use Prim.Native.Nat.{ℕ, _-_, _≤_, _<_}
+use native.Mathlib.Omega.{arith}
+use borrow.Author.Needs.{needs}
+use lib.ListN.{length, getD, length-set, length-replicate}
+use Rattle.base.proofs.Lists.{is-listFrom, cell-stored}
 use Rattle.blocks.proofs.pick.Statement.{statement}
 use Rattle.blocks.proofs.pick.Tie as tie
 use Rattle.blocks.proofs.pick.Reads as reads
 use Rattle.blocks.proofs.pick.Lts as lts
 
 abbrev Inv-loop : tie.InvT-loop
-Inv-loop of list out₀ j₀ out j = ?
+Inv-loop of list out₀ j₀ out j = (j ≤ 32) × (length out ≡ 32) × ((b : ℕ) → b < j → getD out b 0 ≡ getD list (getD of b 0) 0)
 
 abbrev μ-loop : tie.MeasureT-loop
-μ-loop of list out₀ j₀ out j = ?
+μ-loop of list out₀ j₀ out j = 32 - j
 
--- src/lib.rt:156:5
 loop-holds : tie.Need-loop-holds Inv-loop μ-loop
-loop-holds c = ?
+loop-holds c = (omega arith, length-replicate {A = ℕ} 32 0, λ b h. absurd (omega arith))
 
--- src/lib.rt:157:17
 mul-k : tie.Need-mul-k Inv-loop μ-loop
-mul-k c = ?
+mul-k c = search needs
 
--- src/lib.rt:157:17
 element-copy-out-k : tie.Need-element-copy-out-k Inv-loop μ-loop
-element-copy-out-k c = ?
+element-copy-out-k c = search needs
 
--- src/lib.rt:158:18
 mul-out : tie.Need-mul-out Inv-loop μ-loop
-mul-out c = ?
+mul-out c = omega (arith, c .before .before .before .pre (c .before .before .loop .j) (c .before .loop-test .taken))
 
--- src/lib.rt:158:18
 element-copy-out-out : tie.Need-element-copy-out-out Inv-loop μ-loop
-element-copy-out-out c = ?
+element-copy-out-out c = c .before .before .before .pre (c .before .before .loop .j) (c .before .loop-test .taken)
 
--- src/lib.rt:158:9
 mul-out-2 : tie.Need-mul-out-2 Inv-loop μ-loop
-mul-out-2 c = ?
+mul-out-2 c = search needs
 
--- src/lib.rt:158:9
 array-write-out : tie.Need-array-write-out Inv-loop μ-loop
-array-write-out c = ?
+array-write-out c = search needs
 
--- src/lib.rt:159:9
 add-j : tie.Need-add-j Inv-loop μ-loop
-add-j c = ?
+add-j c = search needs
 
--- src/lib.rt:156:5
 loop-less : tie.Need-loop-less Inv-loop μ-loop
-loop-less c = ?
+loop-less c = search needs
 
--- src/lib.rt:156:5
 loop-again : tie.Need-loop-again Inv-loop μ-loop
-loop-again c = ?
+loop-again c =
+    let l = c .before .before .before .loop in
+    let of = c .before .before .before .before .args .of .now in
+    let list = c .before .before .before .before .args .list .now in
+    let v = getD list (getD of (l .j) 0) 0 in (
+      omega arith,
+      length-set (l .out) (l .j) v ∙ l .inv .1,
+      cell-stored (l .out) (λ b. getD list (getD of b 0) 0) (l .j) v (omega (arith, l .inv .1)) refl (l .inv .2),
+    )
 
--- src/lib.rt:150:1
 returns : tie.Need-returns Inv-loop μ-loop
-returns c = ?
+returns c =
+    let l = c .before .loop in
+    let of = c .before .before .args .of .now in
+    let list = c .before .before .args .list .now in
+    is-listFrom (l .out) 32 (λ b. getD list (getD of b 0) 0) (l .inv .1) (λ b h. l .inv .2 b (omega arith))
 
 pub pick-spec : {M : Type 1} → statement M
 pick-spec =
