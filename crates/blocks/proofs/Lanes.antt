@@ -3,6 +3,7 @@
 --   Held                      the first j runs have their lanes
 --   held-none, held-old, held-new   none has; the next takes a lane in use, or a new one
 --   shared                    all have
+--   lanes-low                 a lane has a row offset
 --   ends-picked, counts-picked      what the runs take from their lanes is theirs
 --   looked-shared             what is looked up for the lanes is what is looked up for the runs
 use mathlib.Core.Path.{_≡_, refl, sym, ap, _∙_}
@@ -11,13 +12,16 @@ use mathlib.Core.List.{List}
 use Prim.Native.Nat.{ℕ, _+_, _≤_, _<_}
 use native.Mathlib.Omega.{arith}
 use borrow.Author.Count.{below-more}
-use lib.ListN.{length, getD, set, replicate, length-set, length-replicate, getD-replicate}
+use borrow.Author.Tests.{ltb-true, ltb-false}
+use lib.Dec.{ltb}
+use lib.ListN.{length, getD, set, replicate, length-set, length-replicate, getD-replicate, List·getD-eq-default}
 use lib.Seq.{getD-set-same, getD-set-other}
 use Rattle.base.specs.Lists.{listFrom}
 use Rattle.base.proofs.Lists.{cell-of, same-list, each-stored}
+use Rattle.base.proofs.Tests.{by-test}
 use Rattle.base.proofs.Totals.{greatest-most, term-greatest}
 use Rattle.walks.proofs.Steps.{looked-empty}
-use Rattle.lanes.specs.Offsets.{hopOf, rowEnd, rowCount, rowLooked, rowsEnd, rowsCount, rowsLooked}
+use Rattle.lanes.specs.Offsets.{hopOf, rowEnd, rowCount, rowLooked, rowsEnd, rowsCount, rowsLooked, Rows}
 use Rattle.lanes.proofs.Rows.{rows-at}
 use Rattle.blocks.specs.Blocks.{pickOf, Shared}
 
@@ -95,6 +99,12 @@ shared rows lane of used j held e = record {
   some = λ k h. ⊎-elim (λ z. inl z) (λ x. inr (x .0, omega (arith, x .1), x .2)) (held .some k h);
   rest = held .rest;
 }
+
+pub lanes-low : (rows lane of : List ℕ) (used : ℕ) → Shared rows lane of used → Rows rows → Rows lane
+lanes-low rows lane of used sharing low k =
+    by-test (ltb k 40)
+    (λ b. ⊎-elim (λ e. omega (arith, e)) (λ x. rw (x .2) (low (x .0))) (sharing .some k (ltb-true k 40 b)))
+    (λ b. let past = ltb-false k 40 b in omega (arith, List·getD-eq-default lane 0 {n = k} (omega (arith, sharing .lanes))))
 
 -- ---- what the runs have of their lanes
 module _ (t w rows lane of : List ℕ) (used : ℕ) (sharing : Shared rows lane of used) where

@@ -5,14 +5,17 @@
 --   walked-none            over no bytes the runs stand where they stood, and have counted nothing
 --   all-empty              where a part looks nothing up every run has died
 --   walked-idle            from there on nothing changes
---   walked-small           no count, and no number of bytes looked up, is above the text's length
+--   counts-small, looked-small   no count, and no number of bytes looked up, is above the text's
+--                          length
+--   block-on, block-last   one block more, and one that looked nothing up
 use mathlib.Core.Path.{_≡_, refl, sym, ap, _∙_}
 use mathlib.Core.List.{List, [], _++_}
 use Prim.Native.Nat.{ℕ, _+_, _-_, _≤_, _<_}
 use native.Mathlib.Omega.{arith}
 use borrow.Author.Tests.{ltb-true, ltb-false}
 use lib.Dec.{ltb}
-use lib.ListN.{length, getD, take, drop, replicate, length-replicate, List·getD-eq-default}
+use lib.ListN.{length, getD, take, drop, replicate, length-take, length-drop, length-replicate, take-append-drop, List·getD-eq-default}
+use lib.Seq.{take-add, take-length}
 use Rattle.base.specs.Lists.{listFrom}
 use Rattle.base.specs.Totals.{greatest}
 use Rattle.base.proofs.Lists.{length-listFrom, cell-of, is-listFrom, same-list, zero-cells}
@@ -21,7 +24,7 @@ use Rattle.base.proofs.Totals.{greatest-most, term-greatest}
 use Rattle.walks.specs.Steps.{endBy, countBy, lookedBy}
 use Rattle.walks.proofs.Steps.{end-empty, count-empty, count-most, looked-most, looked-empty, looked-some}
 use Rattle.lanes.specs.Offsets.{hopOf, rowEnd, rowCount, rowLooked, rowsEnd, rowsCount, rowsLooked, RowTable, Rows}
-use Rattle.lanes.proofs.Offsets.{hop-low, hop-stays}
+use Rattle.lanes.proofs.Offsets.{hop-low, hop-stays, rows-low}
 use Rattle.lanes.proofs.Rows.{rows-at, ends-append, counts-append, looked-append}
 use Rattle.blocks.specs.declared.Walked.{Walked}
 use Rattle.blocks.specs.Blocks.{walkedOf, thenOf}
@@ -83,3 +86,29 @@ module _ (t w rows : List ℕ) (most : ℕ) (few : length w ≤ most) where
 
   pub looked-small : rowsLooked t w rows 32 ≤ most
   looked-small = greatest-most (λ j. rowLooked t w (getD rows j 0)) most 32 (λ j h. omega (arith, looked-most (hopOf t) 8192 (getD rows j 0) w))
+
+-- ---- a text of which x has gone over i bytes, and b goes over those from i to e
+module _ (t : List ℕ) (table : RowTable t) (text rows : List ℕ) (low : Rows rows) (i e : ℕ) (h : i < e) (within : e ≤ length text)
+    (x b : Walked) (before : x ≡ walkedOf t (take i text) rows) (block : b ≡ walkedOf t (take (e - i) (drop i text)) (x .rows)) where
+  abbrev part : List ℕ
+  part = take (e - i) (drop i text)
+
+  joined : take e text ≡ take i text ++ part
+  joined = let d : e ≡ i + (e - i) = omega arith in ap (λ (k : ℕ). take k text) d ∙ take-add i (e - i) text
+
+  then-is : thenOf x b ≡ thenOf (walkedOf t (take i text) rows) (walkedOf t part (rowsEnd t (take i text) rows 32))
+  then-is = rw (block, before)
+
+  pub block-on : thenOf x b ≡ walkedOf t (take e text) rows
+  block-on = then-is ∙ rw joined (then-walked t table (take i text) part rows low)
+
+  pub block-last : b .looked ≡ 0 → thenOf x b ≡ walkedOf t (take (length text) text) rows
+  block-last none =
+      let from = rowsEnd t (take i text) rows 32 in
+      let quiet : rowsLooked t part from 32 ≡ 0 = sym (rw (block, before)) ∙ none in
+      let some : 0 < length part = omega (arith, length-take (e - i) (drop i text), length-drop i text) in
+      let dead = all-empty t table part from some (rows-low t table (take i text) rows 32 low) quiet in
+      let all : take i text ++ drop i text ≡ take (length text) text = take-append-drop i text ∙ sym (take-length text) in
+      let idle : walkedOf t (take i text) rows ≡ walkedOf t (take (length text) text) rows = rw all at (walked-idle t table (take i text) (drop i text) rows low dead) in
+      let same : walkedOf t (take i text) rows ≡ walkedOf t (take i text ++ part) rows = walked-idle t table (take i text) part rows low dead in
+      then-is ∙ then-walked t table (take i text) part rows low ∙ sym same ∙ idle

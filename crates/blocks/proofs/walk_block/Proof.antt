@@ -1,4 +1,12 @@
+-- `walk_block` meets its contract: the runs get lanes, the lanes walk, and each run takes its lane's
+-- end and count. Assumes nothing.
+use mathlib.Core.Path.{_≡_, refl, sym, ap, _∙_}
+use Prim.Native.Nat.{ℕ, _≤_, _<_}
+use native.Mathlib.Omega.{arith}
 use borrow.Author.Needs.{needs}
+use Rattle.blocks.specs.Blocks.{pickOf}
+use Rattle.blocks.proofs.Lanes.{lanes-low, ends-picked, counts-picked, looked-shared}
+use Rattle.blocks.proofs.Parts.{walked-is}
 use Rattle.blocks.proofs.walk_block.Statement.{statement}
 use Rattle.blocks.proofs.walk_block.Tie as tie
 use Rattle.blocks.proofs.walk_block.Reads as reads
@@ -8,33 +16,44 @@ use Rattle.blocks.proofs.share.Reads as share-reads
 use Rattle.blocks.proofs.tally.Reads as tally-reads
 use Rattle.blocks.proofs.walk_lanes.Reads as walk-lanes-reads
 
--- src/lib.rt:169:9
 share-requires : tie.Need-share-requires
 share-requires c κs = search needs
 
--- src/lib.rt:174:38
 slice-aggregate-walk-lanes : tie.Need-slice-aggregate-walk-lanes
 slice-aggregate-walk-lanes c = search needs
 
--- src/lib.rt:174:9
 walk-lanes-requires : tie.Need-walk-lanes-requires
-walk-lanes-requires c κs = ?
+walk-lanes-requires c κs =
+    let s = c .before .before .before .before .before .before in
+    let h = c .before .before .before .share in
+    let r = h .result in
+    (s .pre .0, lanes-low (s .args .rows) (r .lane) (r .of) (r .used) (h .ensures) (s .pre .1), h .ensures .lanes, h .ensures .most, h .ensures .rest)
 
--- src/lib.rt:175:17
 tally-requires : tie.Need-tally-requires
-tally-requires c κs = ?
+tally-requires c κs =
+    let s = c .before .before .before .before .before .before .before .before .before .before in
+    let h = c .before .before .before .before .before .before .before .share in
+    let r = h .result in
+    (s .pre .0, lanes-low (s .args .rows) (r .lane) (r .of) (r .used) (h .ensures) (s .pre .1), h .ensures .most, c .before .before .before .walk-lanes .ensures .1, h .ensures .rest)
 
--- src/lib.rt:176:9
 pick-requires : tie.Need-pick-requires
 pick-requires c κs = search needs
 
--- src/lib.rt:177:9
 pick-requires-2 : tie.Need-pick-requires-2
 pick-requires-2 c κs = search needs
 
--- src/lib.rt:165:1
 returns : tie.Need-returns
-returns c = ?
+returns c =
+    let s = c .before .before .before .before .before .before .before .before .before .before .before .before .before .before .before .before .before in
+    let h = c .before .before .before .before .before .before .before .before .before .before .before .before .before .before .share in
+    let r = h .result in
+    let t = s .args .t .now in
+    let w = s .args .part .now in
+    let walk = c .before .before .before .before .before .before .before .before .before .before .walk-lanes in
+    walked-is
+    (c .before .before .before .pick .ensures ∙ ap (pickOf (r .of)) (walk .ensures .1) ∙ ends-picked t w (s .args .rows) (r .lane) (r .of) (r .used) (h .ensures))
+    (c .pick2 .ensures ∙ ap (pickOf (r .of)) (c .before .before .before .before .before .before .tally .ensures) ∙ counts-picked t w (s .args .rows) (r .lane) (r .of) (r .used) (h .ensures))
+    (walk .ensures .0 ∙ looked-shared t w (s .args .rows) (r .lane) (r .of) (r .used) (h .ensures))
 
 pub walk-block-spec : {M : Type 1} → statement M
 walk-block-spec =
