@@ -16,8 +16,6 @@ use borrow.Author.Tests.{ltb-true, ltb-false}
 use lib.Dec.{ltb}
 use lib.ListN.{length, getD, take, drop, replicate, length-take, length-drop, length-replicate, take-append-drop, List·getD-eq-default}
 use lib.Seq.{take-add, take-length}
-use Rattle.base.specs.Lists.{listFrom}
-use Rattle.base.specs.Totals.{greatest}
 use Rattle.base.proofs.Lists.{length-listFrom, cell-of, is-listFrom, same-list, zero-cells}
 use Rattle.base.proofs.Tests.{by-test}
 use Rattle.base.proofs.Totals.{greatest-most, term-greatest}

@@ -133,7 +133,13 @@ fn spent(t: &[u16], part: &[u8], from: usize, end: usize) -> usize
 }
 
 // What each lane counts over the bytes that lead it from `from` to `end`.
-fn tally(t: &[u16], part: &[u8], from: &[usize; ROOM], end: &[usize; ROOM], used: usize) -> [usize; ROOM]
+fn tally(
+    t: &[u16],
+    part: &[u8],
+    from: &[usize; ROOM],
+    end: &[usize; ROOM],
+    used: usize,
+) -> [usize; ROOM]
     requires { ⌜ RowTable (now t) × Rows (now from) × (used ≤ laneRoom) × (now end ≡ rowsEnd (now t) (now part) (now from) laneRoom) × ((k : ℕ) → used ≤ k → k < laneRoom → getD (now from) k 0 ≡ emptyRow) ⌝ }
     ensures { λ r. ⌜ r ≡ rowsCount (now (t .entry)) (now (part .entry)) (now (from .entry)) laneRoom ⌝ }
 {
@@ -205,6 +211,7 @@ fn then(x: Walked, y: Walked) -> Walked
 
 // The bytes of the first block, and of the longest: each next block is as long as all before it.
 const FIRST: usize = 64;
+
 const LONGEST: usize = 512;
 
 // Where the block from byte i on ends, in a text of n bytes. Any choice within the contract is

@@ -10,16 +10,16 @@
 use mathlib.Core.Path.{_≡_, refl, sym, ap, ap₂, _∙_}
 use mathlib.Core.Bool.{Bool, true, false, cond}
 use mathlib.Core.List.{List, [], _∷_}
-use Prim.Native.Nat.{ℕ, zero, suc, _+_, _^_, _≤_, _<_, max}
+use Prim.Native.Nat.{ℕ, zero, suc, _^_, _≤_, _<_, max}
 use native.Mathlib.Omega.{arith}
-use borrow.Author.Tests.{eqb-true, eqb-false, eq-eqb, ne-eqb}
+use borrow.Author.Tests.{eqb-true, eqb-false, ne-eqb}
 use lib.Bits.{bitOr, or-zero-l, or-zero-r}
 use lib.Dec.{eqb}
 use lib.ListN.{length, take}
 use Rattle.base.specs.Totals.{greatest}
 use Rattle.base.proofs.Tests.{by-test}
 use Rattle.masks.specs.Masks.{_∈_, has, single, union}
-use Rattle.masks.proofs.Laws.{ext, no-member, member-of, has-member, members-below, single-law, part-of, in-union, or-left, or-right, or-cases, empty-mask, union-or}
+use Rattle.masks.proofs.Laws.{ext, no-member, member-of, has-member, members-below, single-law, part-of, in-union, or-left, or-right, empty-mask, union-or}
 use Rattle.automaton.specs.Rules.{targetMask}
 use Rattle.automaton.specs.Successor.{successor, after}
 use Rattle.automaton.proofs.Laws.{after-or, after-empty}

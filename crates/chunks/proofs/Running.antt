@@ -3,22 +3,21 @@
 --   start-low             the rows from which a chunk is run are row offsets
 --   ends, counted, looks  the end set of each state, the sum of the counts and the bytes looked up
 --   runs-are              a value with these fields is `runsOf`
-use mathlib.Core.Path.{_≡_, refl, sym, ap, _∙_}
-use mathlib.Core.Bool.{Bool, true, false, cond}
+use mathlib.Core.Path.{_≡_, ap, _∙_}
+use mathlib.Core.Bool.{cond}
 use mathlib.Core.List.{List}
 use Prim.Native.Nat.{ℕ, _/_, _≤_, _<_}
 use native.Mathlib.Omega.{arith}
-use borrow.Author.Tests.{lt-ltb, le-ltb, ltb-true, ltb-false}
+use borrow.Author.Tests.{ltb-true, ltb-false}
 use lib.Dec.{ltb}
-use lib.ListN.{length, getD, List·getD-eq-default}
-use Rattle.base.specs.Lists.{listFrom}
+use lib.ListN.{getD, List·getD-eq-default}
 use Rattle.base.specs.Totals.{total}
 use Rattle.base.proofs.Lists.{length-listFrom, cell-of, same-list}
 use Rattle.base.proofs.Tests.{by-test, either}
 use Rattle.base.proofs.Totals.{total-same, greatest-same}
 use Rattle.masks.specs.Masks.{has}
 use Rattle.walks.proofs.Steps as walks
-use Rattle.lanes.specs.Offsets.{emptyRow, rowOf, offsetsOf, hopOf, rowEnd, rowCount, rowLooked, rowsEnd, rowsCount, rowsLooked, Rows}
+use Rattle.lanes.specs.Offsets.{rowOf, offsetsOf, hopOf, rowEnd, rowCount, rowLooked, rowsEnd, rowsCount, rowsLooked, Rows}
 use Rattle.lanes.proofs.Offsets.{row-table, hop-low, hop-stays}
 use Rattle.lanes.proofs.Rows.{rows-at}
 use Rattle.chunks.specs.declared.Runs.{Runs}

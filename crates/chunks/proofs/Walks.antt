@@ -4,13 +4,13 @@
 --   end-empty, count-empty, looked-empty   the empty set stays empty, and counts and reads nothing
 --   count-most                             at most one step is counted for a byte
 --   row-end, row-count, row-looked         a walk over row offsets is a walk over sets' numbers
-use mathlib.Core.Path.{_≡_, refl, sym, ap, _∙_}
+use mathlib.Core.Path.{_≡_, sym, _∙_}
 use mathlib.Core.List.{List}
-use Prim.Native.Nat.{ℕ, _*_, _%_, _≤_, _<_}
+use Prim.Native.Nat.{ℕ, _%_, _≤_}
 use native.Mathlib.Omega.{arith}
 use borrow.Author.Tests.{lt-ltb, le-ltb, ltb-true, ltb-false}
 use lib.Dec.{ltb}
-use lib.ListN.{length, getD}
+use lib.ListN.{length}
 use Rattle.base.proofs.Tests.{by-test}
 use Rattle.delegates.proofs.Classes.{follow-set, follow-empty, follow-within}
 use Rattle.walks.proofs.Steps as walks

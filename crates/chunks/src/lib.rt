@@ -132,10 +132,7 @@ fn start_rows(singles: &[u16; limits::STATES], mask: u32) -> [usize; limits::STA
 }
 
 // The masks of the sets where the runs end.
-fn end_masks(
-    sets: &[u32; limits::SETS],
-    rows: [usize; limits::STATES],
-) -> [u32; limits::STATES]
+fn end_masks(sets: &[u32; limits::SETS], rows: [usize; limits::STATES]) -> [u32; limits::STATES]
     requires { ⌜ Rows rows ⌝ }
     ensures { λ r. ⌜ r ≡ endMasks (now (sets .entry)) rows ⌝ }
 {

@@ -12,7 +12,6 @@ use borrow.Author.Tests.{eqb-true, eqb-false}
 use lib.Dec.{eqb}
 use lib.ListN.{length, getD, take, drop, set, length-set, length-drop, length-take, take-append-drop}
 use lib.Seq.{take-all, take-add, getD-set-same, getD-set-other}
-use Rattle.base.specs.Lists.{listFrom}
 use Rattle.base.proofs.Lists.{length-listFrom, is-listFrom, each-stored}
 use Rattle.base.proofs.Tests.{by-test}
 use Rattle.base.proofs.Totals.{greatest-most, term-greatest}

@@ -8,12 +8,11 @@
 use mathlib.Core.Path.{_≡_, sym, _∙_}
 use mathlib.Core.Bool.{cond}
 use mathlib.Core.List.{List}
-use Prim.Native.Nat.{ℕ, _+_, _*_, _%_, _≤_, _<_, min}
+use Prim.Native.Nat.{ℕ, _+_, _*_, _%_, _≤_, _<_}
 use native.Mathlib.Omega.{arith}
 use borrow.Author.Tests.{lt-ltb, le-ltb, ltb-true, ltb-false}
 use lib.Dec.{ltb}
 use lib.ListN.{length, getD, List·getD-eq-default}
-use Rattle.base.specs.Lists.{listFrom}
 use Rattle.base.proofs.Lists.{length-listFrom, cell-of, is-listFrom}
 use Rattle.base.proofs.Tests.{by-test}
 use Rattle.walks.proofs.Steps.{end-low}

@@ -1,7 +1,7 @@
 -- `count_of` meets its contract: i is what was counted, and the rest is counted from where the run
 -- stands. Assumes nothing.
-use mathlib.Core.Path.{_≡_, refl, sym, ap, _∙_}
-use Prim.Native.Nat.{ℕ, _+_, _-_, _≤_, _<_, _%_}
+use mathlib.Core.Path.{_≡_, ap}
+use Prim.Native.Nat.{_+_, _-_, _≤_, _<_}
 use native.Mathlib.Omega.{arith}
 use borrow.Author.Needs.{needs}
 use lib.ListN.{length, getD, drop}
@@ -10,9 +10,6 @@ use Rattle.lanes.specs.Offsets.{hopOf, rowCount}
 use Rattle.lanes.proofs.Offsets.{hop-low, hop-stays}
 use Rattle.blocks.proofs.count_of.Statement.{statement}
 use Rattle.blocks.proofs.count_of.Tie as tie
-use Rattle.blocks.proofs.count_of.Reads as reads
-use Rattle.blocks.proofs.count_of.Lts as lts
-use Rattle.blocks.proofs.offset.Reads as offset-reads
 
 abbrev Inv-loop : tie.InvT-loop
 Inv-loop t part from row₀ i₀ row i = (i ≤ length part) × (row ≤ 8192) × (i + rowCount t (drop i part) row ≡ rowCount t part from)

@@ -7,8 +7,6 @@ use lib.ListN.{length, getD, length-set, length-replicate}
 use Rattle.base.proofs.Lists.{is-listFrom, cell-stored}
 use Rattle.blocks.proofs.pick.Statement.{statement}
 use Rattle.blocks.proofs.pick.Tie as tie
-use Rattle.blocks.proofs.pick.Reads as reads
-use Rattle.blocks.proofs.pick.Lts as lts
 
 abbrev Inv-loop : tie.InvT-loop
 Inv-loop of list out₀ j₀ out j = (j ≤ 32) × (length out ≡ 32) × ((b : ℕ) → b < j → getD out b 0 ≡ getD list (getD of b 0) 0)

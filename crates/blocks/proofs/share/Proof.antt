@@ -1,5 +1,5 @@
 -- `share` meets its contract. The loop's invariant is `Held`. Assumes nothing.
-use mathlib.Core.Path.{_≡_, refl, sym, ap, _∙_}
+use mathlib.Core.Path.{_≡_, _∙_}
 use mathlib.Core.Logic.{⊎-elim}
 use Prim.Native.Nat.{ℕ, _-_, _/_, _≤_, _<_}
 use native.Mathlib.Omega.{arith}
@@ -8,10 +8,6 @@ use lib.ListN.{length, getD, length-set, length-replicate}
 use Rattle.blocks.proofs.Lanes.{Held, held-none, held-old, held-new, shared}
 use Rattle.blocks.proofs.share.Statement.{statement}
 use Rattle.blocks.proofs.share.Tie as tie
-use Rattle.blocks.proofs.share.Reads as reads
-use Rattle.blocks.proofs.share.Lts as lts
-use Rattle.blocks.proofs.hinted.Reads as hinted-reads
-use Rattle.blocks.proofs.small.Reads as small-reads
 
 abbrev Inv-loop : tie.InvT-loop
 Inv-loop rows lane₀ of₀ hints₀ used₀ j₀ lane of hints used j = (j ≤ 32) × Held rows lane of used j × (length hints ≡ 513)

@@ -1,17 +1,13 @@
 -- `spent` meets its contract: one lemma for each way out. Assumes nothing.
-use mathlib.Core.Path.{_≡_, refl, sym, ap, _∙_}
-use Prim.Native.Nat.{ℕ, _≤_, _<_}
+use mathlib.Core.Path.{_≡_, sym}
+use Prim.Native.Nat.{_<_}
 use native.Mathlib.Omega.{arith}
 use borrow.Author.Needs.{needs}
-use lib.ListN.{length}
 use Rattle.walks.proofs.Steps.{count-alive, count-empty}
-use Rattle.lanes.specs.Offsets.{hopOf, rowEnd, rowCount}
+use Rattle.lanes.specs.Offsets.{hopOf, rowEnd}
 use Rattle.lanes.proofs.Offsets.{hop-low, hop-stays}
 use Rattle.blocks.proofs.spent.Statement.{statement}
 use Rattle.blocks.proofs.spent.Tie as tie
-use Rattle.blocks.proofs.spent.Reads as reads
-use Rattle.blocks.proofs.spent.Lts as lts
-use Rattle.blocks.proofs.count_of.Reads as count-of-reads
 
 returns : tie.Need-returns
 returns c =

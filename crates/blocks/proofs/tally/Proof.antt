@@ -1,5 +1,5 @@
 -- `tally` meets its contract. The lanes from `used` on are empty, and count nothing. Assumes nothing.
-use mathlib.Core.Path.{_≡_, refl, sym, ap, _∙_}
+use mathlib.Core.Path.{_≡_, sym, _∙_}
 use Prim.Native.Nat.{ℕ, _-_, _≤_, _<_}
 use native.Mathlib.Omega.{arith}
 use borrow.Author.Needs.{needs}
@@ -10,14 +10,11 @@ use lib.Seq.{getD-set-other}
 use Rattle.base.proofs.Lists.{is-listFrom, cell-stored, zero-cells}
 use Rattle.base.proofs.Tests.{by-test}
 use Rattle.walks.proofs.Steps.{count-empty}
-use Rattle.lanes.specs.Offsets.{hopOf, rowEnd, rowCount}
+use Rattle.lanes.specs.Offsets.{hopOf, rowCount}
 use Rattle.lanes.proofs.Offsets.{hop-low, hop-stays}
 use Rattle.lanes.proofs.Rows.{rows-at}
 use Rattle.blocks.proofs.tally.Statement.{statement}
 use Rattle.blocks.proofs.tally.Tie as tie
-use Rattle.blocks.proofs.tally.Reads as reads
-use Rattle.blocks.proofs.tally.Lts as lts
-use Rattle.blocks.proofs.spent.Reads as spent-reads
 
 abbrev Inv-loop : tie.InvT-loop
 Inv-loop t part from end used counts₀ k₀ counts k =

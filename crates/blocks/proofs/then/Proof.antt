@@ -8,8 +8,6 @@ use Rattle.base.proofs.Lists.{is-listFrom, cell-stored}
 use Rattle.blocks.proofs.Parts.{walked-is}
 use Rattle.blocks.proofs.then.Statement.{statement}
 use Rattle.blocks.proofs.then.Tie as tie
-use Rattle.blocks.proofs.then.Reads as reads
-use Rattle.blocks.proofs.then.Lts as lts
 
 abbrev Inv-loop : tie.InvT-loop
 Inv-loop x y rows first second counts₀ j₀ counts j = (j ≤ 32) × (length counts ≡ 32) × ((b : ℕ) → b < j → getD counts b 0 ≡ getD first b 0 + getD second b 0)

@@ -1,20 +1,12 @@
 -- `walk_block` meets its contract: the runs get lanes, the lanes walk, and each run takes its lane's
 -- end and count. Assumes nothing.
-use mathlib.Core.Path.{_≡_, refl, sym, ap, _∙_}
-use Prim.Native.Nat.{ℕ, _≤_, _<_}
-use native.Mathlib.Omega.{arith}
+use mathlib.Core.Path.{ap, _∙_}
 use borrow.Author.Needs.{needs}
 use Rattle.blocks.specs.Blocks.{pickOf}
 use Rattle.blocks.proofs.Lanes.{lanes-low, ends-picked, counts-picked, looked-shared}
 use Rattle.blocks.proofs.Parts.{walked-is}
 use Rattle.blocks.proofs.walk_block.Statement.{statement}
 use Rattle.blocks.proofs.walk_block.Tie as tie
-use Rattle.blocks.proofs.walk_block.Reads as reads
-use Rattle.blocks.proofs.walk_block.Lts as lts
-use Rattle.blocks.proofs.pick.Reads as pick-reads
-use Rattle.blocks.proofs.share.Reads as share-reads
-use Rattle.blocks.proofs.tally.Reads as tally-reads
-use Rattle.blocks.proofs.walk_lanes.Reads as walk-lanes-reads
 
 share-requires : tie.Need-share-requires
 share-requires c κs = search needs

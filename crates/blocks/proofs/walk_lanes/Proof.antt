@@ -1,19 +1,14 @@
 -- `walk_lanes` meets its contract. The lanes before `from` have walked, and `looked` is the greatest
 -- number of bytes that one of them looked up; the others stand where they stood. Assumes nothing.
-use mathlib.Core.Path.{_≡_, refl, sym, ap, _∙_}
-use mathlib.Core.List.{List}
-use Prim.Native.Nat.{ℕ, _+_, _-_, _%_, _≤_, _<_, max}
+use mathlib.Core.Path.{_≡_, sym, _∙_}
+use Prim.Native.Nat.{ℕ, _+_, _-_, _≤_, _<_}
 use native.Mathlib.Omega.{arith}
 use borrow.Author.Needs.{needs}
-use lib.ListN.{length, getD, take, drop, length-take, length-drop}
-use Rattle.lanes.specs.Offsets.{rowEnd, rowsEnd, rowsLooked}
+use lib.ListN.{getD, take, drop, length-take, length-drop}
+use Rattle.lanes.specs.Offsets.{rowsEnd, rowsLooked}
 use Rattle.blocks.proofs.Eights.{Walking, walking-start, walking-low, walking-more, walking-ends, walking-looked}
 use Rattle.blocks.proofs.walk_lanes.Statement.{statement}
 use Rattle.blocks.proofs.walk_lanes.Tie as tie
-use Rattle.blocks.proofs.walk_lanes.Reads as reads
-use Rattle.blocks.proofs.walk_lanes.Lts as lts
-use Rattle.blocks.proofs.greater.Reads as greater-reads
-use Rattle.lanes.proofs.walk_eight.Reads as walk-eight-reads
 
 abbrev Inv-loop : tie.InvT-loop
 Inv-loop t part lane₀ used looked₀ from₀ lane looked from = Walking t part lane₀ lane looked from

@@ -1,22 +1,16 @@
 -- `walk_text` meets its contract: after i bytes the runs stand where these lead. Assumes nothing.
-use mathlib.Core.Path.{_≡_, refl, sym, ap, _∙_}
-use Prim.Native.Nat.{ℕ, _-_, _≤_, _<_}
+use mathlib.Core.Path.{_≡_, _∙_}
+use Prim.Native.Nat.{_-_, _≤_}
 use native.Mathlib.Omega.{arith}
 use borrow.Author.Needs.{needs}
-use lib.ListN.{length, getD, take, drop, length-take, length-drop}
+use lib.ListN.{length, take, drop, length-take, length-drop}
 use lib.Seq.{take-all}
-use Rattle.lanes.specs.Offsets.{rowsEnd, RowTable, Rows}
+use Rattle.lanes.specs.Offsets.{RowTable}
 use Rattle.lanes.proofs.Offsets.{row-table, rows-low}
 use Rattle.blocks.specs.Blocks.{walkedOf}
 use Rattle.blocks.proofs.Parts.{walked-none, counts-small, looked-small, block-on, block-last}
 use Rattle.blocks.proofs.walk_text.Statement.{statement}
 use Rattle.blocks.proofs.walk_text.Tie as tie
-use Rattle.blocks.proofs.walk_text.Reads as reads
-use Rattle.blocks.proofs.walk_text.Lts as lts
-use Rattle.blocks.proofs.block_end.Reads as block-end-reads
-use Rattle.blocks.proofs.then.Reads as then-reads
-use Rattle.blocks.proofs.walk_block.Reads as walk-block-reads
-use Rattle.lanes.proofs.row_offsets.Reads as row-offsets-reads
 
 abbrev Inv-loop : tie.InvT-loop
 Inv-loop next text t walked₀ i₀ walked i = (i ≤ length text) × (walked ≡ walkedOf t (take i text) (walked₀ .rows))

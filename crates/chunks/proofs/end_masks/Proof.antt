@@ -1,5 +1,5 @@
 -- `end_masks` meets its contract. Assumes nothing.
-use mathlib.Core.Path.{_≡_, refl, sym, ap, _∙_}
+use mathlib.Core.Path.{_≡_, ap, _∙_}
 use Prim.Native.Nat.{ℕ, _-_, _/_, _≤_, _<_}
 use native.Mathlib.Omega.{arith}
 use borrow.Author.Needs.{needs}
@@ -8,10 +8,6 @@ use Rattle.base.proofs.Lists.{is-listFrom, cell-stored}
 use Rattle.chunks.specs.Walks.{maskOf}
 use Rattle.chunks.proofs.end_masks.Statement.{statement}
 use Rattle.chunks.proofs.end_masks.Tie as tie
-use Rattle.chunks.proofs.end_masks.Reads as reads
-use Rattle.chunks.proofs.end_masks.Lts as lts
-use Rattle.chunks.proofs.mask_of.Reads as mask-of-reads
-use Rattle.chunks.proofs.set_of.Reads as set-of-reads
 
 abbrev Inv-loop : tie.InvT-loop
 Inv-loop sets rows ends₀ q₀ ends q = (q ≤ 32) × (length ends ≡ 32) × ((p : ℕ) → p < q → getD ends p 0 ≡ maskOf sets (getD rows p 0 / 16))

@@ -1,13 +1,12 @@
 -- `run_chunk` meets its contract: the runs over row offsets are those of `runsOf`. Assumes nothing.
-use mathlib.Core.Path.{_≡_, refl, sym, ap, _∙_}
-use Prim.Native.Nat.{ℕ, _≤_, _<_}
+use mathlib.Core.Path.{_≡_, ap, _∙_}
+use Prim.Native.Nat.{ℕ, _≤_}
 use native.Mathlib.Omega.{arith}
 use borrow.Author.Needs.{needs}
-use lib.ListN.{length, getD}
-use mathlib.Core.List.{List}
+use lib.ListN.{getD}
 use Rattle.base.specs.Totals.{total}
 use Rattle.base.proofs.Totals.{total-most}
-use Rattle.lanes.specs.Offsets.{offsetsOf, rowsCount}
+use Rattle.lanes.specs.Offsets.{offsetsOf}
 use Rattle.lanes.proofs.Offsets.{row-table, rows-low}
 use Rattle.blocks.specs.declared.Walked.{Walked}
 use Rattle.blocks.specs.Blocks.{walkedOf}
@@ -16,12 +15,6 @@ use Rattle.chunks.specs.Walks.{startRows, endMasks}
 use Rattle.chunks.proofs.Running.{start-low, ends, counted, looks, runs-are}
 use Rattle.chunks.proofs.run_chunk.Statement.{statement}
 use Rattle.chunks.proofs.run_chunk.Tie as tie
-use Rattle.chunks.proofs.run_chunk.Reads as reads
-use Rattle.chunks.proofs.run_chunk.Lts as lts
-use Rattle.blocks.proofs.walk_text.Reads as walk-text-reads
-use Rattle.chunks.proofs.end_masks.Reads as end-masks-reads
-use Rattle.chunks.proofs.start_rows.Reads as start-rows-reads
-use Rattle.chunks.proofs.summed.Reads as summed-reads
 
 start-rows-requires : tie.Need-start-rows-requires
 start-rows-requires c κs = search needs

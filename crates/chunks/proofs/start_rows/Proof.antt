@@ -1,5 +1,5 @@
 -- `start_rows` meets its contract. The cells from q on are still the empty set's. Assumes nothing.
-use mathlib.Core.Path.{_≡_, refl, sym, ap, _∙_}
+use mathlib.Core.Path.{_≡_, sym, _∙_}
 use mathlib.Core.Logic.{⊎-elim}
 use Prim.Native.Nat.{ℕ, _-_, _≤_, _<_}
 use native.Mathlib.Omega.{arith}
@@ -11,10 +11,6 @@ use Rattle.base.proofs.Lists.{is-listFrom, cell-stored}
 use Rattle.chunks.proofs.Running.{startRow}
 use Rattle.chunks.proofs.start_rows.Statement.{statement}
 use Rattle.chunks.proofs.start_rows.Tie as tie
-use Rattle.chunks.proofs.start_rows.Reads as reads
-use Rattle.chunks.proofs.start_rows.Lts as lts
-use Rattle.chunks.proofs.row_of.Reads as row-of-reads
-use Rattle.masks.proofs.member.Reads as member-reads
 
 abbrev Inv-loop : tie.InvT-loop
 Inv-loop singles mask rows₀ q₀ rows q =

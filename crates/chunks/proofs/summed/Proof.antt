@@ -1,6 +1,6 @@
 -- `summed` meets its contract. Assumes nothing.
-use mathlib.Core.Path.{_≡_, refl, sym, ap, _∙_}
-use Prim.Native.Nat.{ℕ, _-_, _≤_, _<_}
+use mathlib.Core.Path.{_≡_, refl, ap, _∙_}
+use Prim.Native.Nat.{_-_, _≤_}
 use native.Mathlib.Omega.{arith}
 use borrow.Author.Needs.{needs}
 use lib.ListN.{getD}
@@ -8,8 +8,6 @@ use Rattle.base.specs.Totals.{total}
 use Rattle.base.proofs.Totals.{total-more, total-most}
 use Rattle.chunks.proofs.summed.Statement.{statement}
 use Rattle.chunks.proofs.summed.Tie as tie
-use Rattle.chunks.proofs.summed.Reads as reads
-use Rattle.chunks.proofs.summed.Lts as lts
 
 abbrev Inv-loop : tie.InvT-loop
 Inv-loop counts count₀ q₀ count q = (q ≤ 32) × (count ≡ total (λ p. getD counts p 0) q)

@@ -11,10 +11,6 @@ use Rattle.lanes.specs.Offsets.{rowLooked, rowsEnd}
 use Rattle.lanes.proofs.Following.{Behind, rest-is, behind-start, goes-on, behind-more, all-passed, all-dead, behind-ends, behind-looked}
 use Rattle.lanes.proofs.follow.Statement.{statement}
 use Rattle.lanes.proofs.follow.Tie as tie
-use Rattle.lanes.proofs.follow.Reads as reads
-use Rattle.lanes.proofs.follow.Lts as lts
-use Rattle.lanes.proofs.lead.Reads as lead-reads
-use Rattle.lanes.proofs.living.Reads as living-reads
 
 abbrev Inv-loop : tie.InvT-loop
 Inv-loop t part lane₀ first i₀ lane i = Behind t part lane₀ lane i

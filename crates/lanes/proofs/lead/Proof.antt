@@ -1,5 +1,5 @@
 -- `lead` meets its contract. Each of the eight is on its run, and the first leads. Assumes nothing.
-use Prim.Native.Nat.{ℕ, _+_, _-_, _≤_, _<_, _%_}
+use Prim.Native.Nat.{_-_, _<_}
 use native.Mathlib.Omega.{arith}
 use borrow.Author.Needs.{needs}
 use lib.ListN.{length, getD, take, length-set, length-take, length-drop}
@@ -7,10 +7,6 @@ use Rattle.lanes.specs.Offsets.{rowEnd}
 use Rattle.lanes.proofs.Leading.{On, Leads, on-start, on-more, leads-start, leads-on, leads-off, leads-end, eight}
 use Rattle.lanes.proofs.lead.Statement.{statement}
 use Rattle.lanes.proofs.lead.Tie as tie
-use Rattle.lanes.proofs.lead.Reads as reads
-use Rattle.lanes.proofs.lead.Lts as lts
-use Rattle.lanes.proofs.hop.Reads as hop-reads
-use Rattle.lanes.proofs.span.Reads as span-reads
 
 abbrev Inv-loop : tie.InvT-loop
 Inv-loop t part lane r0₀ r1₀ r2₀ r3₀ r4₀ r5₀ r6₀ r7₀ i₀ end₀ r0 r1 r2 r3 r4 r5 r6 r7 i end =

@@ -3,11 +3,9 @@ use Prim.Native.Nat.{ℕ, _-_, _≤_, _<_}
 use native.Mathlib.Omega.{arith}
 use borrow.Author.Needs.{needs}
 use borrow.Author.Count.{below-more}
-use lib.ListN.{length, getD}
+use lib.ListN.{getD}
 use Rattle.lanes.proofs.living.Statement.{statement}
 use Rattle.lanes.proofs.living.Tie as tie
-use Rattle.lanes.proofs.living.Reads as reads
-use Rattle.lanes.proofs.living.Lts as lts
 
 abbrev Inv-loop : tie.InvT-loop
 Inv-loop lane k₀ k = (k ≤ 8) × (1 ≤ k) × ((b : ℕ) → b < k → 1 ≤ b → 8192 ≤ getD lane b 0)

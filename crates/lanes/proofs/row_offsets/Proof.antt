@@ -4,16 +4,13 @@ use mathlib.Core.Path.{_≡_, _∙_}
 use Prim.Native.Nat.{ℕ, _-_, _≤_, _<_}
 use native.Mathlib.Omega.{arith}
 use borrow.Author.Needs.{needs}
-use lib.ListN.{length, getD, set, length-set, length-replicate, getD-replicate}
+use lib.ListN.{length, getD, length-set, length-replicate, getD-replicate}
 use lib.Seq.{getD-set-other}
 use Rattle.base.proofs.Lists.{cell-stored}
 use Rattle.lanes.specs.Offsets.{rowOf}
 use Rattle.lanes.proofs.Offsets.{filled-table}
 use Rattle.lanes.proofs.row_offsets.Statement.{statement}
 use Rattle.lanes.proofs.row_offsets.Tie as tie
-use Rattle.lanes.proofs.row_offsets.Reads as reads
-use Rattle.lanes.proofs.row_offsets.Lts as lts
-use Rattle.lanes.proofs.row_of.Reads as row-of-reads
 
 abbrev Inv-loop : tie.InvT-loop
 Inv-loop next t₀ c₀ t c =

@@ -2,10 +2,10 @@
 -- bytes. Assumes nothing.
 use mathlib.Core.Path.{_≡_, sym, ap, _∙_}
 use mathlib.Core.List.{List}
-use Prim.Native.Nat.{ℕ, _-_, _≤_, _<_}
+use Prim.Native.Nat.{ℕ, _-_, _≤_}
 use native.Mathlib.Omega.{arith}
 use borrow.Author.Needs.{needs}
-use lib.ListN.{length, getD, take, drop, length-drop, length-take}
+use lib.ListN.{length, getD, take, drop}
 use Rattle.base.proofs.Lists.{length-listFrom}
 use Rattle.base.proofs.Totals.{greatest-most}
 use Rattle.walks.proofs.Steps.{looked-most}
@@ -13,10 +13,6 @@ use Rattle.lanes.specs.Offsets.{hopOf, rowEnd, rowLooked, rowsEnd, rowsL
 use Rattle.lanes.proofs.Following.{rest-is, led-low, led-size, led-first, led-ends, led-looked}
 use Rattle.lanes.proofs.walk_eight.Statement.{statement}
 use Rattle.lanes.proofs.walk_eight.Tie as tie
-use Rattle.lanes.proofs.walk_eight.Reads as reads
-use Rattle.lanes.proofs.walk_eight.Lts as lts
-use Rattle.lanes.proofs.follow.Reads as follow-reads
-use Rattle.lanes.proofs.lead.Reads as lead-reads
 
 lead-requires : tie.Need-lead-requires
 lead-requires c κs = search needs
