@@ -4,6 +4,7 @@
 --   Leads t w n end from r  the same of the first run, which leads: it is alive before byte `end`,
 --                          and that is the last byte or has led it to the empty set; what it looks
 --                          up is n bytes and what it looks up from there
+--   in-column              a row offset is within the table from a column on
 --   eight                  eight stores, one for each lane
 use mathlib.Core.Path.{_≡_, refl, sym, ap, _∙_}
 use mathlib.Core.List.{List, [], _∷_}
@@ -12,7 +13,7 @@ use native.Mathlib.Omega.{arith}
 use mathlib.Core.List.{append-nil}
 use borrow.Author.Tests.{ltb-true, ltb-false}
 use lib.Dec.{ltb}
-use lib.ListN.{length, getD, take, drop, drop-of-length-le}
+use lib.ListN.{length, getD, take, drop, length-take, length-drop, drop-of-length-le}
 use lib.Seq.{getD-take, getD-drop, sets, sets-eq}
 use Rattle.base.specs.Lists.{listFrom}
 use Rattle.base.proofs.Tests.{by-test}
@@ -42,6 +43,10 @@ module _ (t : List ℕ) (table : RowTable t) (w : List ℕ) where
   hopped b r s low e =
       let l : r < length t - b % 16 = omega (arith, table .size) in
       e ∙ getD-take (length t - b % 16) (drop (b % 16) t) r 0 l ∙ getD-drop (b % 16) t r 0
+
+  -- each row offset has its place in the column
+  pub in-column : (b r : ℕ) → r ≤ 8192 → r < length (column t b)
+  in-column b r low = simp (length-take, length-drop) (omega (arith, table .size))
 
   pub on-start : {from : ℕ} → from ≤ 8192 → On t w 0 from from
   unfolding endBy

@@ -2,9 +2,9 @@
 use Prim.Native.Nat.{_-_, _<_}
 use native.Mathlib.Omega.{arith}
 use borrow.Author.Needs.{needs}
-use lib.ListN.{length, getD, take, length-set, length-take, length-drop}
+use lib.ListN.{length, getD, take, length-set}
 use Rattle.lanes.specs.Offsets.{rowEnd}
-use Rattle.lanes.proofs.Leading.{On, Leads, on-start, on-more, leads-start, leads-on, leads-off, leads-end, eight}
+use Rattle.lanes.proofs.Leading.{On, Leads, in-column, on-start, on-more, leads-start, leads-on, leads-off, leads-end, eight}
 use Rattle.lanes.proofs.lead.Statement.{statement}
 use Rattle.lanes.proofs.lead.Tie as tie
 
@@ -86,28 +86,52 @@ part-column-end : tie.Need-part-column-end Inv-loop μ-loop
 part-column-end c = search needs
 
 hop-requires : tie.Need-hop-requires Inv-loop μ-loop
-hop-requires c κs = simp (length-take, length-drop) (omega arith)
+hop-requires c κs =
+    let l = c .before .before .before .loop in
+    let s = c .before .before .before .before .before .before .before .before .before .before .before .before .before .before .before .before in
+    in-column (s .args .t .now) (s .pre .0) (s .args .part .now) (getD (s .args .part .now) (l .i) 0) (l .r0) (l .inv .1 .low)
 
 hop-requires-2 : tie.Need-hop-requires-2 Inv-loop μ-loop
-hop-requires-2 c κs = simp (length-take, length-drop) (omega arith)
+hop-requires-2 c κs =
+    let l = c .before .before .before .before .loop in
+    let s = c .before .before .before .before .before .before .before .before .before .before .before .before .before .before .before .before .before in
+    in-column (s .args .t .now) (s .pre .0) (s .args .part .now) (getD (s .args .part .now) (l .i) 0) (l .r1) (l .inv .2 .low)
 
 hop-requires-3 : tie.Need-hop-requires-3 Inv-loop μ-loop
-hop-requires-3 c κs = simp (length-take, length-drop) (omega arith)
+hop-requires-3 c κs =
+    let l = c .before .before .before .before .before .loop in
+    let s = c .before .before .before .before .before .before .before .before .before .before .before .before .before .before .before .before .before .before in
+    in-column (s .args .t .now) (s .pre .0) (s .args .part .now) (getD (s .args .part .now) (l .i) 0) (l .r2) (l .inv .3 .low)
 
 hop-requires-4 : tie.Need-hop-requires-4 Inv-loop μ-loop
-hop-requires-4 c κs = simp (length-take, length-drop) (omega arith)
+hop-requires-4 c κs =
+    let l = c .before .before .before .before .before .before .loop in
+    let s = c .before .before .before .before .before .before .before .before .before .before .before .before .before .before .before .before .before .before .before in
+    in-column (s .args .t .now) (s .pre .0) (s .args .part .now) (getD (s .args .part .now) (l .i) 0) (l .r3) (l .inv .4 .low)
 
 hop-requires-5 : tie.Need-hop-requires-5 Inv-loop μ-loop
-hop-requires-5 c κs = simp (length-take, length-drop) (omega arith)
+hop-requires-5 c κs =
+    let l = c .before .before .before .before .before .before .before .loop in
+    let s = c .before .before .before .before .before .before .before .before .before .before .before .before .before .before .before .before .before .before .before .before in
+    in-column (s .args .t .now) (s .pre .0) (s .args .part .now) (getD (s .args .part .now) (l .i) 0) (l .r4) (l .inv .5 .low)
 
 hop-requires-6 : tie.Need-hop-requires-6 Inv-loop μ-loop
-hop-requires-6 c κs = simp (length-take, length-drop) (omega arith)
+hop-requires-6 c κs =
+    let l = c .before .before .before .before .before .before .before .before .loop in
+    let s = c .before .before .before .before .before .before .before .before .before .before .before .before .before .before .before .before .before .before .before .before .before in
+    in-column (s .args .t .now) (s .pre .0) (s .args .part .now) (getD (s .args .part .now) (l .i) 0) (l .r5) (l .inv .6 .low)
 
 hop-requires-7 : tie.Need-hop-requires-7 Inv-loop μ-loop
-hop-requires-7 c κs = simp (length-take, length-drop) (omega arith)
+hop-requires-7 c κs =
+    let l = c .before .before .before .before .before .before .before .before .before .loop in
+    let s = c .before .before .before .before .before .before .before .before .before .before .before .before .before .before .before .before .before .before .before .before .before .before in
+    in-column (s .args .t .now) (s .pre .0) (s .args .part .now) (getD (s .args .part .now) (l .i) 0) (l .r6) (l .inv .7 .low)
 
 hop-requires-8 : tie.Need-hop-requires-8 Inv-loop μ-loop
-hop-requires-8 c κs = simp (length-take, length-drop) (omega arith)
+hop-requires-8 c κs =
+    let l = c .before .before .before .before .before .before .before .before .before .before .loop in
+    let s = c .before .before .before .before .before .before .before .before .before .before .before .before .before .before .before .before .before .before .before .before .before .before .before in
+    in-column (s .args .t .now) (s .pre .0) (s .args .part .now) (getD (s .args .part .now) (l .i) 0) (l .r7) (l .inv .8 .low)
 
 add-i : tie.Need-add-i Inv-loop μ-loop
 add-i c = search needs
