@@ -3,7 +3,6 @@
 --   Held                      the first j runs have their lanes
 --   held-none, held-old, held-new   none has; the next takes a lane in use, or a new one
 --   shared                    all have
---   lanes-low                 a lane has a row offset
 --   ends-picked, counts-picked      what the runs take from their lanes is theirs
 --   looked-shared             what is looked up for the lanes is what is looked up for the runs
 use mathlib.Core.Path.{_≡_, refl, ap, _∙_}
@@ -89,21 +88,21 @@ module _ (rows lane of : List ℕ) (used j : ℕ) (held : Held rows lane of used
         rest = λ q a b. getD-set-other lane used q row 0 (λ z. omega arith) ∙ held .rest q (omega arith) b;
       }
 
-pub shared : (rows lane of : List ℕ) (used j : ℕ) → Held rows lane of used j → j ≡ 32 → Shared rows lane of used
-shared rows lane of used j held e = record {
-  lanes = held .lanes;
-  most = omega (arith, held .most);
-  within = λ i h. omega (arith, held .within i (omega arith), held .most);
-  same = λ i h. held .same i (omega arith);
-  some = λ k h. ⊎-elim (λ z. inl z) (λ x. inr (x .0, omega (arith, x .1), x .2)) (held .some k h);
-  rest = held .rest;
-}
+-- ---- all have
+module _ (rows lane of : List ℕ) (used j : ℕ) (held : Held rows lane of used j) (all : j ≡ 32) (low : Rows rows) where
+  lanes-low : Rows lane
+  lanes-low k =
+      by-test (ltb k 40)
+      (λ b. ⊎-elim (λ e. omega (arith, e)) (λ x. rw (x .2) (low (x .0))) (held .some k (ltb-true k 40 b)))
+      (λ b. let past = ltb-false k 40 b in omega (arith, List·getD-eq-default lane 0 {n = k} (omega (arith, held .lanes))))
 
-pub lanes-low : (rows lane of : List ℕ) (used : ℕ) → Shared rows lane of used → Rows rows → Rows lane
-lanes-low rows lane of used sharing low k =
-    by-test (ltb k 40)
-    (λ b. ⊎-elim (λ e. omega (arith, e)) (λ x. rw (x .2) (low (x .0))) (sharing .some k (ltb-true k 40 b)))
-    (λ b. let past = ltb-false k 40 b in omega (arith, List·getD-eq-default lane 0 {n = k} (omega (arith, sharing .lanes))))
+  pub shared : Shared rows lane of used
+  shared = record {
+    lanes = record { size = held .lanes; rows = lanes-low; most = omega (arith, held .most); rest = held .rest };
+    within = λ i h. omega (arith, held .within i (omega arith), held .most);
+    same = λ i h. held .same i (omega arith);
+    some = λ k h. ⊎-elim (λ z. inl z) (λ x. inr (x .0, omega (arith, x .1), x .2)) (held .some k h);
+  }
 
 -- ---- what the runs have of their lanes
 module _ (t w rows lane of : List ℕ) (used : ℕ) (sharing : Shared rows lane of used) where

@@ -7,16 +7,18 @@
 --                       and bytes looked up are summed
 --   laneRoom            the most lanes: eight that stay empty, and one for each run
 --   pickOf of l         for each run what the list l has for its lane
---   Shared rows ..      run j stands in lane `of` j; each lane is some run's or empty; from `used`
---                       on all are empty
+--   InUse lane used     the lanes have row offsets, and from `used` on they are empty
+--   Shared rows ..      lane `of` j has the row offset of run j, and no lane has any but those of
+--                       runs and the empty set's
+--   Small x             no number of x is above the length of the longest chunk
 use mathlib.Core.Path.{_≡_}
 use mathlib.Core.Logic.{_⊎_}
 use mathlib.Core.List.{List}
 use Prim.Native.Nat.{ℕ, _+_, _≤_, _<_}
 use lib.ListN.{length, getD}
-use Rattle.limits.specs.Limits.{mostStates}
+use Rattle.limits.specs.Limits.{mostStates, longestChunk}
 use Rattle.base.specs.Lists.{listFrom}
-use Rattle.lanes.specs.Offsets.{emptyRow, laneCount, rowsEnd, rowsCount, rowsLooked}
+use Rattle.lanes.specs.Offsets.{emptyRow, laneCount, rowsEnd, rowsCount, rowsLooked, Rows}
 use Rattle.blocks.specs.declared.Walked.{Walked}
 
 abbrev pub walkedOf : List ℕ → List ℕ → List ℕ → Walked
@@ -39,10 +41,18 @@ laneRoom = laneCount + mostStates
 abbrev pub pickOf : List ℕ → List ℕ → List ℕ
 pickOf of l = listFrom 0 mostStates (λ j. getD l (getD of j 0) 0)
 
-pub record Shared (rows lane of : List ℕ) (used : ℕ) : Type 0 where
-  pub lanes : length lane ≡ laneRoom
+pub record InUse (lane : List ℕ) (used : ℕ) : Type 0 where
+  pub size : length lane ≡ laneRoom
+  pub rows : Rows lane
   pub most : used ≤ laneRoom
+  pub rest : (k : ℕ) → used ≤ k → k < laneRoom → getD lane k 0 ≡ emptyRow
+
+pub record Shared (rows lane of : List ℕ) (used : ℕ) : Type 0 where
+  pub lanes : InUse lane used
   pub within : (j : ℕ) → j < mostStates → getD of j 0 < laneRoom
   pub same : (j : ℕ) → j < mostStates → getD lane (getD of j 0) 0 ≡ getD rows j 0
   pub some : (k : ℕ) → k < laneRoom → (getD lane k 0 ≡ emptyRow) ⊎ (j : ℕ) × (j < mostStates) × (getD lane k 0 ≡ getD rows j 0)
-  pub rest : (k : ℕ) → used ≤ k → k < laneRoom → getD lane k 0 ≡ emptyRow
+
+pub record Small (x : Walked) : Type 0 where
+  pub looked : x .looked ≤ longestChunk
+  pub counts : (j : ℕ) → getD (x .counts) j 0 ≤ longestChunk

@@ -4,7 +4,7 @@ ghost use Prim.Native.Nat.{ℕ, _<_, _≤_, max};
 ghost use lib.ListN.{length, getD};
 ghost use Rattle.limits.specs.Limits.{mostStates, longestChunk};
 ghost use Rattle.lanes.specs.Offsets.{emptyRow, offsetsOf, rowEnd, rowCount, rowsEnd, rowsCount, rowsLooked, RowTable, Rows};
-ghost use Rattle.blocks.specs.Blocks.{walkedOf, thenOf, laneRoom, pickOf, Shared};
+ghost use Rattle.blocks.specs.Blocks.{walkedOf, thenOf, laneRoom, pickOf, InUse, Shared, Small};
 
 // Where 32 runs stand, as row offsets, what each of them has counted, and for how many bytes any of
 // them looked a successor up.
@@ -17,6 +17,13 @@ pub struct Walked {
 // The most lanes: eight that stay empty, the first of them for all runs that have died, and one for
 // each run.
 const ROOM: usize = lanes::LANES + limits::STATES;
+
+// The bytes of the first block; up to the longest, each block is as long as all before it. Runs meet
+// soon where blocks are short, and long ones leave the least to do between them.
+const FIRST: usize = 64;
+
+// The bytes of the longest block.
+const LONGEST: usize = 512;
 
 // The row offset of each lane, the lane of each run, and how many lanes are in use.
 struct Sharing {
@@ -79,8 +86,9 @@ fn greater(a: usize, b: usize) -> usize
 // The lanes in use over the bytes, eight at a time; answers for how many bytes a successor is
 // looked up.
 fn walk_lanes(t: &[u16], part: &[u8], lane: &mut [usize], used: usize) -> usize
-    requires { ⌜ RowTable (now t) × Rows (now lane) × (length (now lane) ≡ laneRoom) × (used ≤ laneRoom) × ((k : ℕ) → used ≤ k → k < laneRoom → getD (now lane) k 0 ≡ emptyRow) ⌝ }
-    ensures { λ r. ⌜ (r ≡ rowsLooked (now (t .entry)) (now (part .entry)) (now (lane .entry)) laneRoom) × (now (lane .exit) ≡ rowsEnd (now (t .entry)) (now (part .entry)) (now (lane .entry)) laneRoom) ⌝ }
+    requires { ⌜ RowTable (now t) × InUse (now lane) used ⌝ }
+    ensures { λ r. ⌜ r ≡ rowsLooked (now (t .entry)) (now (part .entry)) (now (lane .entry)) laneRoom ⌝ }
+    ensures { λ r. ⌜ now (lane .exit) ≡ rowsEnd (now (t .entry)) (now (part .entry)) (now (lane .entry)) laneRoom ⌝ }
 {
     let mut looked: usize = 0;
     let mut from: usize = 0;
@@ -102,19 +110,13 @@ fn count_of(t: &[u16], part: &[u8], from: usize) -> usize
     let mut i: usize = 0;
     while i < part.len() {
         let symbol = (part[i] % limits::MOST_SYMBOLS) as usize;
-        row = offset(t[symbol + row]);
+        row = lanes::offset(t[symbol + row]);
         if row >= lanes::EMPTY_ROW {
             return i;
         }
         i += 1;
     }
     i
-}
-
-fn offset(cell: u16) -> usize
-    ensures { λ r. ⌜ r ≡ cell ⌝ }
-{
-    cell as usize
 }
 
 // What a run counts over the bytes that lead it to the row offset `end`: each of them where it
@@ -140,7 +142,7 @@ fn tally(
     end: &[usize; ROOM],
     used: usize,
 ) -> [usize; ROOM]
-    requires { ⌜ RowTable (now t) × Rows (now from) × (used ≤ laneRoom) × (now end ≡ rowsEnd (now t) (now part) (now from) laneRoom) × ((k : ℕ) → used ≤ k → k < laneRoom → getD (now from) k 0 ≡ emptyRow) ⌝ }
+    requires { ⌜ RowTable (now t) × InUse (now from) used × (now end ≡ rowsEnd (now t) (now part) (now from) laneRoom) ⌝ }
     ensures { λ r. ⌜ r ≡ rowsCount (now (t .entry)) (now (part .entry)) (now (from .entry)) laneRoom ⌝ }
 {
     let mut counts = [0usize; ROOM];
@@ -190,7 +192,7 @@ fn walk_block(t: &[u16], part: &[u8], rows: [usize; limits::STATES]) -> Walked
 
 // Two parts of a text, one after the other.
 fn then(x: Walked, y: Walked) -> Walked
-    requires { ⌜ (x .looked ≤ longestChunk) × (y .looked ≤ longestChunk) × ((j : ℕ) → getD (x .counts) j 0 ≤ longestChunk) × ((j : ℕ) → getD (y .counts) j 0 ≤ longestChunk) ⌝ }
+    requires { ⌜ Small x × Small y ⌝ }
     ensures { λ r. ⌜ r ≡ thenOf x y ⌝ }
 {
     let rows = y.rows;
@@ -209,13 +211,8 @@ fn then(x: Walked, y: Walked) -> Walked
     }
 }
 
-// The bytes of the first block, and of the longest: each next block is as long as all before it.
-const FIRST: usize = 64;
-
-const LONGEST: usize = 512;
-
 // Where the block from byte i on ends, in a text of n bytes. Any choice within the contract is
-// right; in short blocks runs meet soon, long ones have the least to do between them.
+// right.
 fn block_end(i: usize, n: usize) -> usize
     requires { ⌜ i < n ⌝ }
     ensures { λ r. ⌜ (i < r) × (r ≤ n) ⌝ }

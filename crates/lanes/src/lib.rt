@@ -38,7 +38,8 @@ pub fn row_offsets(next: &[u16; limits::CELLS]) -> [u16; OFFSETS]
     t
 }
 
-fn offset(cell: u16) -> usize
+// The same, as a place in the table.
+pub fn offset(cell: u16) -> usize
     ensures { λ r. ⌜ r ≡ cell ⌝ }
 {
     cell as usize
@@ -66,7 +67,8 @@ fn span(row: usize, n: usize) -> usize
 // The first alone is tested at each byte.
 fn lead(t: &[u16], part: &[u8], lane: &mut [usize]) -> usize
     requires { ⌜ RowTable (now t) × Rows (now lane) × (length (now lane) ≡ laneCount) ⌝ }
-    ensures { λ r. ⌜ (r ≡ rowLooked (now (t .entry)) (now (part .entry)) (getD (now (lane .entry)) 0 0)) × (now (lane .exit) ≡ rowsEnd (now (t .entry)) (take r (now (part .entry))) (now (lane .entry)) laneCount) ⌝ }
+    ensures { λ r. ⌜ r ≡ rowLooked (now (t .entry)) (now (part .entry)) (getD (now (lane .entry)) 0 0) ⌝ }
+    ensures { λ r. ⌜ now (lane .exit) ≡ rowsEnd (now (t .entry)) (take r (now (part .entry))) (now (lane .entry)) laneCount ⌝ }
 {
     let mut r0 = lane[0];
     let mut r1 = lane[1];
@@ -125,7 +127,8 @@ fn living(lane: &[usize]) -> usize
 // bytes a successor is looked up.
 fn follow(t: &[u16], part: &[u8], lane: &mut [usize]) -> usize
     requires { ⌜ RowTable (now t) × Rows (now lane) × (length (now lane) ≡ laneCount) × (rowLooked (now t) (now part) (getD (now lane) 0 0) ≡ 0) ⌝ }
-    ensures { λ r. ⌜ (r ≡ rowsLooked (now (t .entry)) (now (part .entry)) (now (lane .entry)) laneCount) × (now (lane .exit) ≡ rowsEnd (now (t .entry)) (now (part .entry)) (now (lane .entry)) laneCount) ⌝ }
+    ensures { λ r. ⌜ r ≡ rowsLooked (now (t .entry)) (now (part .entry)) (now (lane .entry)) laneCount ⌝ }
+    ensures { λ r. ⌜ now (lane .exit) ≡ rowsEnd (now (t .entry)) (now (part .entry)) (now (lane .entry)) laneCount ⌝ }
 {
     let first = lane[0];
     let mut i: usize = 0;
@@ -146,7 +149,8 @@ fn follow(t: &[u16], part: &[u8], lane: &mut [usize]) -> usize
 // for how many bytes a successor is looked up.
 pub fn walk_eight(t: &[u16], part: &[u8], lane: &mut [usize]) -> usize
     requires { ⌜ RowTable (now t) × Rows (now lane) × (length (now lane) ≡ laneCount) ⌝ }
-    ensures { λ r. ⌜ (r ≡ rowsLooked (now (t .entry)) (now (part .entry)) (now (lane .entry)) laneCount) × (now (lane .exit) ≡ rowsEnd (now (t .entry)) (now (part .entry)) (now (lane .entry)) laneCount) ⌝ }
+    ensures { λ r. ⌜ r ≡ rowsLooked (now (t .entry)) (now (part .entry)) (now (lane .entry)) laneCount ⌝ }
+    ensures { λ r. ⌜ now (lane .exit) ≡ rowsEnd (now (t .entry)) (now (part .entry)) (now (lane .entry)) laneCount ⌝ }
 {
     let i = lead(t, part, lane);
     i + follow(t, &part[i..], lane)

@@ -81,7 +81,7 @@ loop-again c =
 returns : tie.Need-returns Inv-loop μ-loop
 returns c =
     let l = c .before .loop in
-    shared (c .before .before .args .t1) (l .lane) (l .of) (l .used) (l .j) (l .inv .1) (omega arith)
+    shared (c .before .before .args .t1) (l .lane) (l .of) (l .used) (l .j) (l .inv .1) (omega arith) (c .before .before .pre)
 
 pub share-spec : {M : Type 1} → statement M
 share-spec =

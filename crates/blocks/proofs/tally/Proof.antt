@@ -46,15 +46,15 @@ spent-requires c κs =
     let l = c .before .before .before .loop in
     let s = c .before .before .before .before .before .before in (
       s .pre .0,
-      s .pre .1 (l .k),
-      rw (s .pre .3) (rows-at (s .args .t .now) (s .args .part .now) (s .args .from .now) 40 (l .k) (omega arith)),
+      s .pre .1 .rows (l .k),
+      rw (s .pre .2) (rows-at (s .args .t .now) (s .args .part .now) (s .args .from .now) 40 (l .k) (omega arith)),
     )
 
 mul-counts : tie.Need-mul-counts Inv-loop μ-loop
 mul-counts c = search needs
 
 array-write-counts : tie.Need-array-write-counts Inv-loop μ-loop
-array-write-counts c = omega (arith, c .before .before .before .before .loop .inv .1, c .before .before .before .before .before .before .before .pre .2)
+array-write-counts c = omega (arith, c .before .before .before .before .loop .inv .1, c .before .before .before .before .before .before .before .pre .1 .most)
 
 add-k : tie.Need-add-k Inv-loop μ-loop
 add-k c = search needs
@@ -69,7 +69,7 @@ loop-again c =
     let v = c .spent in (
       omega arith,
       length-set (l .counts) (l .k) (v .result) ∙ l .inv .1,
-      cell-stored (l .counts) (λ b. rowCount (s .args .t .now) (s .args .part .now) (getD (s .args .from .now) b 0)) (l .k) (v .result) (omega (arith, l .inv .1, s .pre .2)) (v .ensures) (l .inv .2),
+      cell-stored (l .counts) (λ b. rowCount (s .args .t .now) (s .args .part .now) (getD (s .args .from .now) b 0)) (l .k) (v .result) (omega (arith, l .inv .1, s .pre .1 .most)) (v .ensures) (l .inv .2),
       λ b h. getD-set-other (l .counts) (l .k) b (v .result) 0 (λ e. omega arith) ∙ l .inv .3 b (omega arith),
     )
 
@@ -86,7 +86,7 @@ returns c =
     (λ e. l .inv .2 b (ltb-true b (l .k) e))
     (λ e.
     let past = ltb-false b (l .k) e in
-    let dead = s .pre .4 b (omega arith) h in
+    let dead = s .pre .1 .rest b (omega arith) h in
     l .inv .3 b past ∙ rw dead (sym (count-empty (hopOf t) 8192 (hop-low t (s .pre .0)) (hop-stays t (s .pre .0)) w))))
 
 pub tally-spec : {M : Type 1} → statement M

@@ -31,7 +31,7 @@ array-read-counts-2 : tie.Need-array-read-counts-2 Inv-loop μ-loop
 array-read-counts-2 c = search needs
 
 add-counts : tie.Need-add-counts Inv-loop μ-loop
-add-counts c = omega (arith, c .before .before .before .before .before .pre .2 (c .before .loop .j), c .before .before .before .before .before .pre .3 (c .before .loop .j))
+add-counts c = omega (arith, c .before .before .before .before .before .pre .0 .counts (c .before .loop .j), c .before .before .before .before .before .pre .1 .counts (c .before .loop .j))
 
 mul-counts-3 : tie.Need-mul-counts-3 Inv-loop μ-loop
 mul-counts-3 c = search needs

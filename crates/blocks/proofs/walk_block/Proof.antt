@@ -3,7 +3,7 @@
 use mathlib.Core.Path.{ap, _∙_}
 use borrow.Author.Needs.{needs}
 use Rattle.blocks.specs.Blocks.{pickOf}
-use Rattle.blocks.proofs.Lanes.{lanes-low, ends-picked, counts-picked, looked-shared}
+use Rattle.blocks.proofs.Lanes.{ends-picked, counts-picked, looked-shared}
 use Rattle.blocks.proofs.Parts.{walked-is}
 use Rattle.blocks.proofs.walk_block.Statement.{statement}
 use Rattle.blocks.proofs.walk_block.Tie as tie
@@ -19,14 +19,14 @@ walk-lanes-requires c κs =
     let s = c .before .before .before .before .before .before in
     let h = c .before .before .before .share in
     let r = h .result in
-    (s .pre .0, lanes-low (s .args .rows) (r .lane) (r .of) (r .used) (h .ensures) (s .pre .1), h .ensures .lanes, h .ensures .most, h .ensures .rest)
+    (s .pre .0, h .ensures .lanes)
 
 tally-requires : tie.Need-tally-requires
 tally-requires c κs =
     let s = c .before .before .before .before .before .before .before .before .before .before in
     let h = c .before .before .before .before .before .before .before .share in
     let r = h .result in
-    (s .pre .0, lanes-low (s .args .rows) (r .lane) (r .of) (r .used) (h .ensures) (s .pre .1), h .ensures .most, c .before .before .before .walk-lanes .ensures .1, h .ensures .rest)
+    (s .pre .0, h .ensures .lanes, c .before .before .before .walk-lanes .ensures .1)
 
 pick-requires : tie.Need-pick-requires
 pick-requires c κs = search needs

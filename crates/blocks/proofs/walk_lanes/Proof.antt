@@ -19,7 +19,7 @@ abbrev μ-loop : tie.MeasureT-loop
 loop-holds : tie.Need-loop-holds Inv-loop μ-loop
 loop-holds c =
     let s = c .before .before .before in
-    walking-start (s .args .t .now) (s .args .part .now) (s .args .lane .now) (s .pre .2)
+    walking-start (s .args .t .now) (s .args .part .now) (s .args .lane .now) (s .pre .1 .size)
 
 add-end : tie.Need-add-end Inv-loop μ-loop
 add-end c = search needs
@@ -34,22 +34,22 @@ part-walk-eight-start : tie.Need-part-walk-eight-start Inv-loop μ-loop
 part-walk-eight-start c = search needs
 
 part-walk-eight-end : tie.Need-part-walk-eight-end Inv-loop μ-loop
-part-walk-eight-end c = omega (arith, c .before .loop .inv .eights, c .before .loop .inv .size, c .before .before .before .before .before .pre .3)
+part-walk-eight-end c = omega (arith, c .before .loop .inv .eights, c .before .loop .inv .size, c .before .before .before .before .before .pre .1 .most)
 
 walk-eight-requires : tie.Need-walk-eight-requires Inv-loop μ-loop
 walk-eight-requires c κs =
     let s = c .before .before .before .before .before .before in
     let l = c .before .before .loop in (
       s .pre .0,
-      walking-low (s .args .t .now) (s .args .part .now) (s .args .lane .now) (l .lane) (l .looked) (l .from) (l .inv) (s .pre .1) (l .from + 8 - l .from),
-      simp (length-take, length-drop) (omega (arith, l .inv .eights, l .inv .size, s .pre .3)),
+      walking-low (s .args .t .now) (s .args .part .now) (s .args .lane .now) (l .lane) (l .looked) (l .from) (l .inv) (s .pre .1 .rows) (l .from + 8 - l .from),
+      simp (length-take, length-drop) (omega (arith, l .inv .eights, l .inv .size, s .pre .1 .most)),
     )
 
 greater-requires : tie.Need-greater-requires Inv-loop μ-loop
 greater-requires c κs = search needs
 
 loop-less : tie.Need-loop-less Inv-loop μ-loop
-loop-less c = omega (arith, c .before .before .before .before .before .before .loop .inv .eights, c .before .before .before .before .before .before .before .before .before .before .pre .3)
+loop-less c = omega (arith, c .before .before .before .before .before .before .loop .inv .eights, c .before .before .before .before .before .before .before .before .before .before .pre .1 .most)
 
 loop-again : tie.Need-loop-again Inv-loop μ-loop
 loop-again c =
@@ -61,16 +61,16 @@ loop-again c =
     let ends : w .last .1 .1 .0 ≡ rowsEnd (s .args .t .now) (s .args .part .now) (take 8 (drop (l .from) (l .lane))) 8 = rw eight at (w .ensures .1) in
     rw eight
     (walking-more (s .args .t .now) (s .args .part .now) (s .args .lane .now) (l .lane) (l .looked) (l .from) (l .inv)
-    (omega (arith, l .inv .eights, s .pre .3)) (w .result) (w .last .1 .1 .0) (c .greater .result) n ends (c .greater .ensures))
+    (omega (arith, l .inv .eights, s .pre .1 .most)) (w .result) (w .last .1 .1 .0) (c .greater .result) n ends (c .greater .ensures))
 
 same-length : tie.Need-same-length Inv-loop μ-loop
-same-length c = c .before .loop .inv .size ∙ sym (c .before .before .before .before .before .pre .2)
+same-length c = c .before .loop .inv .size ∙ sym (c .before .before .before .before .before .pre .1 .size)
 
 returns : tie.Need-returns Inv-loop μ-loop
 returns c =
     let s = c .before .before .before .before .before in
     let l = c .before .loop in
-    let rest : (k : ℕ) → l .from ≤ k → k < 40 → getD (s .args .lane .now) k 0 ≡ 8192 = λ k h b. s .pre .4 k (omega arith) b in (
+    let rest : (k : ℕ) → l .from ≤ k → k < 40 → getD (s .args .lane .now) k 0 ≡ 8192 = λ k h b. s .pre .1 .rest k (omega arith) b in (
       walking-looked (s .args .t .now) (s .pre .0) (s .args .part .now) (s .args .lane .now) (l .lane) (l .looked) (l .from) (l .inv) rest,
       walking-ends (s .args .t .now) (s .pre .0) (s .args .part .now) (s .args .lane .now) (l .lane) (l .looked) (l .from) (l .inv) rest,
     )

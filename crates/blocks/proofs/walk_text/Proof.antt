@@ -60,10 +60,14 @@ then-requires c κs =
     let part = take (e - l .i) (drop (l .i) text) in
     let first : length (take (l .i) text) ≤ 65536 = omega (arith, length-take (l .i) text, s .pre .1) in
     let second : length part ≤ 65536 = omega (arith, length-take (e - l .i) (drop (l .i) text), length-drop (l .i) text, s .pre .1) in (
-      rw (l .inv .1) (looked-small t (take (l .i) text) (s .args .rows) 65536 first),
-      rw (b .ensures) (looked-small t part (l .walked .rows) 65536 second),
-      λ j. rw (l .inv .1) (counts-small t (take (l .i) text) (s .args .rows) 65536 first j),
-      λ j. rw (b .ensures) (counts-small t part (l .walked .rows) 65536 second j),
+      record {
+        looked = rw (l .inv .1) (looked-small t (take (l .i) text) (s .args .rows) 65536 first);
+        counts = λ j. rw (l .inv .1) (counts-small t (take (l .i) text) (s .args .rows) 65536 first j);
+      },
+      record {
+        looked = rw (b .ensures) (looked-small t part (l .walked .rows) 65536 second);
+        counts = λ j. rw (b .ensures) (counts-small t part (l .walked .rows) 65536 second j);
+      },
     )
 
 loop-less : tie.Need-loop-less Inv-loop μ-loop
