@@ -2,14 +2,14 @@
 --
 --   walked-is              a value with these three fields is `walkedOf`
 --   then-walked            one part and then another is both, joined
---   walked-none            over no bytes the runs stand where they stood, and have counted nothing
+--   walked-none, walked-empty   over no bytes the runs stand where they stood, and have counted nothing
 --   all-empty              where a part looks nothing up every run has died
 --   walked-idle            from there on nothing changes
 --   counts-small, looked-small   no count, and no number of bytes looked up, is above the text's
 --                          length
 --   block-on, block-last   one block more, and one that looked nothing up
 use mathlib.Core.Path.{_≡_, refl, sym, ap, _∙_}
-use mathlib.Core.List.{List, [], _++_}
+use mathlib.Core.List.{List, [], _∷_, _++_}
 use Prim.Native.Nat.{ℕ, _+_, _-_, _≤_, _<_}
 use native.Mathlib.Omega.{arith}
 use borrow.Author.Tests.{ltb-true, ltb-false}
@@ -43,6 +43,10 @@ walked-none t rows size =
     (is-listFrom rows 32 (λ j. rowEnd t [] (getD rows j 0)) size (λ j h. refl))
     (is-listFrom (replicate 32 0) 32 (λ j. rowCount t [] (getD rows j 0)) (length-replicate {A = ℕ} 32 0) (λ j h. zero-cells 32 j))
     (let none = greatest-most (λ j. rowLooked t [] (getD rows j 0)) 0 32 (λ j h. omega arith) in omega arith)
+
+pub walked-empty : (t w rows : List ℕ) → length rows ≡ 32 → length w ≡ 0 → record { rows = rows; counts = replicate 32 0; looked = 0 } ≡ walkedOf t w rows
+walked-empty t [] rows size none = walked-none t rows size
+walked-empty t (b ∷ w) rows size none = absurd (omega arith)
 
 -- ---- every run has died
 module _ (t : List ℕ) (table : RowTable t) where

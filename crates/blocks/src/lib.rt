@@ -1,7 +1,7 @@
 // Up to 32 runs over a text: block by block, in lanes, so that runs which meet are walked once.
 ghost use mathlib.Core.Path.{_≡_};
 ghost use Prim.Native.Nat.{ℕ, _<_, _≤_, max};
-ghost use lib.ListN.{length, getD};
+ghost use lib.ListN.{length, getD, replicate};
 ghost use Rattle.limits.specs.Limits.{mostStates, longestChunk};
 ghost use Rattle.lanes.specs.Offsets.{emptyRow, offsetsOf, rowEnd, rowCount, rowsEnd, rowsCount, rowsLooked, RowTable, Rows};
 ghost use Rattle.blocks.specs.Blocks.{walkedOf, thenOf, laneRoom, pickOf, InUse, Shared, Small};
@@ -237,22 +237,28 @@ fn clipped(i: usize, d: usize, n: usize) -> usize
     n
 }
 
-// The runs over the text. Once a block looks nothing up, every run has died.
-pub fn walk_text(next: &[u16; limits::CELLS], rows: [usize; limits::STATES], text: &[u8]) -> Walked
-    requires { ⌜ Rows rows × (length (now text) ≤ longestChunk) ⌝ }
-    ensures { λ r. ⌜ r ≡ walkedOf (offsetsOf (now (next .entry))) (now (text .entry)) rows ⌝ }
+// The runs before the first byte.
+fn unwalked(rows: [usize; limits::STATES]) -> Walked
+    ensures { λ r. ⌜ r ≡ record { rows = rows; counts = replicate mostStates 0; looked = 0 } ⌝ }
 {
-    let t = lanes::row_offsets(next);
-    let mut walked = Walked {
+    Walked {
         rows,
         counts: [0usize; limits::STATES],
         looked: 0,
-    };
+    }
+}
+
+// The runs over the text. Once a block looks nothing up, every run has died.
+fn walk_blocks(t: &[u16], rows: [usize; limits::STATES], text: &[u8]) -> Walked
+    requires { ⌜ RowTable (now t) × Rows rows × (length (now text) ≤ longestChunk) ⌝ }
+    ensures { λ r. ⌜ r ≡ walkedOf (now (t .entry)) (now (text .entry)) rows ⌝ }
+{
+    let mut walked = unwalked(rows);
     let mut i: usize = 0;
     while i < text.len() {
         let end = block_end(i, text.len());
         let from = walked.rows;
-        let block = walk_block(&t, &text[i..end], from);
+        let block = walk_block(t, &text[i..end], from);
         walked = then(walked, block);
         i = end;
         if block.looked == 0 {
@@ -260,4 +266,17 @@ pub fn walk_text(next: &[u16; limits::CELLS], rows: [usize; limits::STATES], tex
         }
     }
     walked
+}
+
+// The runs over the text, by a next-set table. For an empty text no table of row offsets is made.
+pub fn walk_text(next: &[u16; limits::CELLS], rows: [usize; limits::STATES], text: &[u8]) -> Walked
+    requires { ⌜ Rows rows × (length (now text) ≤ longestChunk) ⌝ }
+    ensures { λ r. ⌜ r ≡ walkedOf (offsetsOf (now (next .entry))) (now (text .entry)) rows ⌝ }
+{
+    if text.len() == 0 {
+        return unwalked(rows);
+    }
+    let mut t = [lanes::EMPTY_CELL; lanes::OFFSETS];
+    lanes::fill_offsets(next, &mut t);
+    walk_blocks(&t, rows, text)
 }

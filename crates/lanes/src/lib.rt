@@ -2,8 +2,8 @@
 // not for the processor, so eight of them take as long as one.
 ghost use mathlib.Core.Path.{_≡_};
 ghost use Prim.Native.Nat.{ℕ, _<_, _≤_};
-ghost use lib.ListN.{length, getD, take};
-ghost use Rattle.lanes.specs.Offsets.{emptyRow, laneCount, rowOf, offsetsOf, rowLooked, rowsEnd, rowsLooked, RowTable, Rows, Living};
+ghost use lib.ListN.{length, getD, take, replicate};
+ghost use Rattle.lanes.specs.Offsets.{emptyRow, offsetCells, laneCount, rowOf, offsetsOf, rowLooked, rowsEnd, rowsLooked, RowTable, Rows, Living};
 
 // How many runs walk together.
 pub const LANES: usize = 8;
@@ -11,38 +11,41 @@ pub const LANES: usize = 8;
 // The row offset of the empty set, whose row follows those of the sets with a number.
 pub const EMPTY_ROW: usize = limits::CELLS;
 
+// The same, as a cell of a table of row offsets.
+pub const EMPTY_CELL: u16 = EMPTY_ROW as u16;
+
 // The cells of a table of row offsets: a row for each set, and one for the empty set.
 pub const OFFSETS: usize = limits::CELLS + limits::SYMBOLS;
 
-// The row offset of the set that a cell names.
+// The row offset of the set that a cell of a next-set table names.
 pub fn row_of(cell: u16) -> u16
     ensures { λ r. ⌜ r ≡ rowOf cell ⌝ }
 {
     if cell < limits::EMPTY {
         cell * limits::SYMBOLS as u16
     } else {
-        EMPTY_ROW as u16
+        EMPTY_CELL
     }
 }
 
-// The table of row offsets for a next-set table.
-pub fn row_offsets(next: &[u16; limits::CELLS]) -> [u16; OFFSETS]
-    ensures { λ r. ⌜ r ≡ offsetsOf (now (next .entry)) ⌝ }
+// A cell of a table of row offsets, as a place in it.
+pub fn offset(cell: u16) -> usize
+    ensures { λ r. ⌜ r ≡ cell ⌝ }
 {
-    let mut t = [EMPTY_ROW as u16; OFFSETS];
+    cell as usize
+}
+
+// Fills the table of row offsets for a next-set table, which begins with the empty set's in every
+// cell.
+pub fn fill_offsets(next: &[u16; limits::CELLS], t: &mut [u16; OFFSETS])
+    requires { ⌜ now t ≡ replicate offsetCells emptyRow ⌝ }
+    ensures { λ r. ⌜ now (t .exit) ≡ offsetsOf (now (next .entry)) ⌝ }
+{
     let mut c: usize = 0;
     while c < limits::CELLS {
         t[c] = row_of(next[c]);
         c += 1;
     }
-    t
-}
-
-// The same, as a place in the table.
-pub fn offset(cell: u16) -> usize
-    ensures { λ r. ⌜ r ≡ cell ⌝ }
-{
-    cell as usize
 }
 
 // One step from the row offset, in the table from the symbol's column on.

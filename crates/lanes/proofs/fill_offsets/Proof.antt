@@ -1,6 +1,6 @@
--- `row_offsets` meets its contract. The cells before c have the row offsets, those from c on are still
--- the empty set's. Assumes nothing.
-use mathlib.Core.Path.{_≡_, _∙_}
+-- `fill_offsets` meets its contract. The cells before c have the row offsets, those from c on are
+-- still the empty set's. Assumes nothing.
+use mathlib.Core.Path.{_≡_, ap, _∙_}
 use Prim.Native.Nat.{ℕ, _-_, _≤_, _<_}
 use native.Mathlib.Omega.{arith}
 use borrow.Author.Needs.{needs}
@@ -9,8 +9,8 @@ use lib.Seq.{getD-set-other}
 use Rattle.base.proofs.Lists.{cell-stored}
 use Rattle.lanes.specs.Offsets.{rowOf}
 use Rattle.lanes.proofs.Offsets.{filled-table}
-use Rattle.lanes.proofs.row_offsets.Statement.{statement}
-use Rattle.lanes.proofs.row_offsets.Tie as tie
+use Rattle.lanes.proofs.fill_offsets.Statement.{statement}
+use Rattle.lanes.proofs.fill_offsets.Tie as tie
 
 abbrev Inv-loop : tie.InvT-loop
 Inv-loop next t₀ c₀ t c =
@@ -22,11 +22,13 @@ Inv-loop next t₀ c₀ t c =
 abbrev μ-loop : tie.MeasureT-loop
 μ-loop next t₀ c₀ t c = 8192 - c
 
-cast-t : tie.Need-cast-t Inv-loop μ-loop
-cast-t c = search needs
-
 loop-holds : tie.Need-loop-holds Inv-loop μ-loop
-loop-holds c = (omega arith, length-replicate {A = ℕ} 8208 8192, λ b h. absurd (omega arith), λ b h l. getD-replicate {A = ℕ} 8208 b 8192 0 l)
+loop-holds c = (
+  omega arith,
+  ap length (c .pre) ∙ length-replicate {A = ℕ} 8208 8192,
+  λ b h. absurd (omega arith),
+  λ b h l. rw (c .pre) (getD-replicate {A = ℕ} 8208 b 8192 0 l),
+)
 
 mul-row-of : tie.Need-mul-row-of Inv-loop μ-loop
 mul-row-of c = search needs
@@ -40,8 +42,8 @@ row-of-requires c κs = search needs
 mul-t : tie.Need-mul-t Inv-loop μ-loop
 mul-t c = search needs
 
-array-write-t : tie.Need-array-write-t Inv-loop μ-loop
-array-write-t c = search needs
+element-write-t : tie.Need-element-write-t Inv-loop μ-loop
+element-write-t c = omega (arith, c .before .before .before .loop .inv .1)
 
 add-c : tie.Need-add-c Inv-loop μ-loop
 add-c c = search needs
@@ -65,19 +67,18 @@ returns c =
     let l = c .before .loop in
     filled-table (c .before .before .args .next .now) (l .t) (l .inv .1) (λ b h. l .inv .2 b (omega arith)) (λ b h k. l .inv .3 b (omega arith) k)
 
-pub row-offsets-spec : {M : Type 1} → statement M
-row-offsets-spec =
+pub fill-offsets-spec : {M : Type 1} → statement M
+fill-offsets-spec =
     tie.close
     (tie.spec
     Inv-loop
     μ-loop
-    cast-t
     loop-holds
     mul-row-of
     element-copy-out-row-of
     row-of-requires
     mul-t
-    array-write-t
+    element-write-t
     add-c
     loop-less
     loop-again
