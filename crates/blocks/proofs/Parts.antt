@@ -2,7 +2,7 @@
 --
 --   walked-is              a value with these three fields is `walkedOf`
 --   then-walked            one part and then another is both, joined
---   walked-none, walked-empty   over no bytes the runs stand where they stood, and have counted nothing
+--   walked-none, walked-empty   over no bytes the runs stand where they stood, and count nothing
 --   all-empty              where a part looks nothing up every run has died
 --   walked-idle            from there on nothing changes
 --   counts-small, looked-small   no count, and no number of bytes looked up, is above the text's

@@ -18,8 +18,8 @@ pub struct Walked {
 // each run.
 const ROOM: usize = lanes::LANES + limits::STATES;
 
-// The bytes of the first block; up to the longest, each block is as long as all before it. Runs meet
-// soon where blocks are short, and long ones leave the least to do between them.
+// The bytes of the first block. Each next one is as long as all before it, up to the longest: runs
+// meet soon where blocks are short, and long ones leave the least to do between them.
 const FIRST: usize = 64;
 
 // The bytes of the longest block.

@@ -10,8 +10,8 @@
 --   runsOf ..             the end set of each state that is run, as an array, the sum of the
 --                         counts, the number of text bytes, and those for which any run looks a
 --                         successor up
---   startRows singles run the row offset of {q} for each state q that is run; the empty set's for the
---                         others
+--   startRows singles run   the row offset of {q} for each state q that is run; the empty set's for
+--                         the others
 --   endMasks sets rows    the masks of the sets that the row offsets stand for
 --   delegateMask, runMask   delegateSet and runSet for at most 32 states: a number above counts as
 --                           that

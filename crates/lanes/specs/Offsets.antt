@@ -11,16 +11,16 @@
 --   rowOf i             the row offset of set i; any number from 512 on stands for the empty set
 --   offsetsOf next      the next-set table with row offsets, and with the empty set's row
 --   hopOf t r b         the row offset to which the byte b leads from the row offset r
---   rowEnd, rowCount, rowLooked    a walk over the bytes w: where it ends, how many of its steps
---                       lead to a set that is not empty, and for how many bytes a cell of a set is
---                       read that is not empty
+--   rowEnd, rowCount, rowLooked    a walk over the bytes w from the row offset r: where it ends, how
+--                       many of its steps lead to a set that is not empty, and for how many bytes
+--                       it looks a successor up
 --   rowsEnd, rowsCount  the same of each of n row offsets, as an array
---   rowsLooked          for how many bytes any of these walks reads such a cell
---   RowTable t          t has as many cells; none leads past the empty set's row, which leads to
---                       itself
+--   rowsLooked          for how many bytes any of these walks looks a successor up
+--   RowTable t          t is a table of row offsets: no cell leads past the empty set's row, which
+--                       leads to itself
 --   Rows rows           each of them is the empty set's row offset or less
---   Living lane r       r is one of eight lanes, the first excepted, that is not empty; 8 where none
---                       is
+--   Living lane r       r is one of eight lanes that is not empty, and not the first; it is 8 where
+--                       there is none
 use mathlib.Core.Path.{_≡_}
 use mathlib.Core.Bool.{cond}
 use mathlib.Core.List.{List}

@@ -1,7 +1,7 @@
 // Runs over a table of row offsets, eight at a time in lock step: a walk waits for its table and
 // not for the processor, so eight of them take as long as one.
 ghost use mathlib.Core.Path.{_≡_};
-ghost use Prim.Native.Nat.{ℕ, _<_, _≤_};
+ghost use Prim.Native.Nat.{_<_, _≤_};
 ghost use lib.ListN.{length, getD, take, replicate};
 ghost use Rattle.lanes.specs.Offsets.{emptyRow, offsetCells, laneCount, rowOf, offsetsOf, rowLooked, rowsEnd, rowsLooked, RowTable, Rows, Living};
 

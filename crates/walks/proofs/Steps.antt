@@ -2,12 +2,12 @@
 --
 --   end-append, end-split, end-more         over two parts, and one byte more
 --   count-append, count-most, count-left    the same of what is counted; at most one for a byte
---   count-on, count-off                     what is left to be counted, by where the next step leads
+--   count-on, count-off                     what is left to be counted, by the next step
 --   looked-most, looked-empty, looked-some  what is looked up: at most each byte; nothing from the
 --                                           empty set; else the first byte
 --   looked-next, looked-left                what is left to be looked up
---   looked-within, looked-take              no more than the bytes after which the set is empty, and
---                                           as much of so many bytes alone
+--   looked-within, looked-take              no more than the bytes after which the set is empty; as
+--                                           much of so many bytes alone
 --   end-through, count-through, looked-through   a walk by other numbers for the same sets
 --
 -- Where the step leads to no number above `empty`, and from `empty` nowhere else:
