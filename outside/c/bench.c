@@ -13,9 +13,10 @@ enum { BYTES = 65536, ROUNDS = 31 };
 static uint8_t text[BYTES];
 static volatile uint64_t sink;
 
+/* the processor's time for this thread, so that what else the machine does counts little */
 static double now(void) {
     struct timespec t;
-    clock_gettime(CLOCK_MONOTONIC, &t);
+    clock_gettime(CLOCK_THREAD_CPUTIME_ID, &t);
     return (double)t.tv_sec * 1e6 + (double)t.tv_nsec / 1e3;
 }
 
