@@ -1,6 +1,6 @@
 /* What the judge costs, as ratios: each figure is the median of several runs, taken side by side in one process.
- * Chunks are run at place 1, from all starts; beside them a plain walk of the rule's own next-set table on the
- * same text, once for each start. */
+ * A chunk is delivered, and beside it the rule's own next-set table is walked over the same text: once, from one
+ * set, with no test and no count, which is what a ratio is to; and run by run, as long as each run lives. */
 #define _POSIX_C_SOURCE 200809L /* clock_gettime */
 #include <stdio.h>
 #include <stdlib.h>
@@ -13,9 +13,10 @@ enum { BYTES = 65536, ROUNDS = 31 };
 static uint8_t text[BYTES];
 static volatile uint64_t sink;
 
+/* the processor's time for this thread, so that what else the machine does counts little */
 static double now(void) {
     struct timespec t;
-    clock_gettime(CLOCK_MONOTONIC, &t);
+    clock_gettime(CLOCK_THREAD_CPUTIME_ID, &t);
     return (double)t.tv_sec * 1e6 + (double)t.tv_nsec / 1e3;
 }
 
@@ -66,11 +67,19 @@ static bellbadger_judge cycle(int n, int places) {
     return opened(n, 2, 1, to, places);
 }
 
-/* symbol 0 leads every state to state 0: runs meet at once, symbol 1 tells the states apart */
+/* symbols lead anywhere, at random: runs meet soon */
 static bellbadger_judge meeting(int n) {
     int to[32][16];
-    for (int q = 0; q < n; q++) to[q][0] = 0, to[q][1] = (q + 1) % n;
-    return opened(n, 2, 1, to, 2);
+    for (int q = 0; q < n; q++)
+        for (int s = 0; s < 4; s++) to[q][s] = (rand() >> 7) % n;
+    return opened(n, 4, 0x5a3c96e1, to, 2);
+}
+
+/* round and round by three symbols; the fourth kills a run in state 0, and leaves the others where they are */
+static bellbadger_judge mortal(int n) {
+    int to[32][16];
+    for (int q = 0; q < n; q++) to[q][0] = (q + 1) % n, to[q][1] = q, to[q][2] = (q + 3) % n, to[q][3] = q ? q : -1;
+    return opened(n, 4, 1, to, 2);
 }
 
 /* a path: every run dies after n bytes at most */
@@ -78,6 +87,37 @@ static bellbadger_judge path(int n) {
     int to[32][16];
     for (int q = 0; q < n; q++) to[q][0] = to[q][1] = q + 1 < n ? q + 1 : -1;
     return opened(n, 2, 1u << (n - 1), to, 2);
+}
+
+/* a text of symbols below k, at random */
+static void texts(int k) {
+    for (size_t i = 0; i < BYTES; i++) text[i] = (uint8_t)((rand() >> 7) % k);
+}
+
+/* one over which each run dies, at a place of its own */
+static void deaths(int n) {
+    int place[32], state[32];
+    for (int q = 0; q < n; q++) place[q] = (int)((unsigned)rand() % BYTES), state[q] = q;
+    for (int i = 0; i < BYTES; i++) {
+        text[i] = (uint8_t)((rand() >> 7) % 3);
+        for (int q = 0; q < n; q++)
+            if (state[q] == 0 && place[q] <= i) text[i] = 3;
+        for (int q = 0; q < n; q++)
+            if (state[q] >= 0) state[q] = text[i] == 0 ? (state[q] + 1) % n : text[i] == 2 ? (state[q] + 3) % n : text[i] == 3 && state[q] == 0 ? -1 : state[q];
+    }
+}
+
+/* after how many bytes all runs are in one set */
+static size_t met(const bellbadger_built_rule *rule) {
+    unsigned s[32];
+    size_t i = 0;
+    for (unsigned q = 0; q < rule->n; q++) s[q] = rule->singles[q];
+    for (;; i++) {
+        unsigned q = 1;
+        while (q < rule->n && s[q] == s[0]) q++;
+        if (q == rule->n || i == BYTES) return i;
+        for (q = 0; q < rule->n; q++) s[q] = rule->next[s[q] * 16 + text[i]];
+    }
 }
 
 static uint64_t walk(const bellbadger_built_rule *rule, unsigned q, const uint8_t *w, size_t length) {
@@ -91,6 +131,14 @@ static uint64_t walk(const bellbadger_built_rule *rule, unsigned q, const uint8_
     return count;
 }
 
+/* the next-set table with a row for the empty set, in cells of 16 bits */
+static uint16_t cells[513 * 16];
+
+static unsigned serial(unsigned s, size_t length) {
+    for (size_t i = 0; i < length; i++) s = cells[s * 16 + text[i]];
+    return s;
+}
+
 static double delivery(const bellbadger_judge *j, size_t place, size_t length) {
     double t;
     if (!bellbadger_deliver(*j, place, 0, text, length).accepted) exit(1);
@@ -98,31 +146,69 @@ static double delivery(const bellbadger_judge *j, size_t place, size_t length) {
     return t;
 }
 
-static double plain(const bellbadger_judge *j, size_t length) {
-    double t;
-    MEASURE(t, for (unsigned q = 0; q < j->rule.n; q++) if (j->rule.delegates[q] == q) sink += walk(&j->rule, q, text, length));
-    return t;
+/* the states that a chunk is run from: the rules here have one initial state, which is its own delegate */
+static unsigned runs(const bellbadger_judge *j, size_t place, unsigned q) {
+    return j->rule.delegates[q] == q && (place > 0 || j->rule.initials >> q & 1);
 }
 
-static void beside(const char *name, bellbadger_judge j) {
-    double a = delivery(&j, 1, BYTES), b = plain(&j, BYTES);
-    printf("  %-26s M %2d: %9.1f us, plain walk %9.1f us, ratio %.2f\n", name, j.rule.starts, a, b, a / b);
+static void beside(const char *name, bellbadger_judge j, size_t place) {
+    double delivered[ROUNDS], each[ROUNDS], micros[ROUNDS];
+    unsigned m = 0;
+    for (unsigned q = 0; q < j.rule.n; q++) m += runs(&j, place, q);
+    memcpy(cells, j.rule.next, sizeof j.rule.next);
+    for (int i = 8192; i < 513 * 16; i++) cells[i] = 512;
+    for (int round = 0; round < ROUNDS; round++) {
+        double a = now();
+        sink += serial(j.rule.singles[0], BYTES);
+        double b = now();
+        sink += bellbadger_deliver(j, place, 0, text, BYTES).accepted;
+        double c = now();
+        for (unsigned q = 0; q < j.rule.n; q++)
+            if (runs(&j, place, q)) sink += walk(&j.rule, q, text, BYTES);
+        double d = now();
+        micros[round] = c - b, delivered[round] = (c - b) / (b - a), each[round] = (d - c) / (b - a);
+    }
+    qsort(micros, ROUNDS, sizeof micros[0], rising);
+    qsort(delivered, ROUNDS, sizeof delivered[0], rising);
+    qsort(each, ROUNDS, sizeof each[0], rising);
+    printf("  %-34s M %2u: %8.1f us, ratio %5.2f; run by run %5.2f\n", name, m, micros[ROUNDS / 2], delivered[ROUNDS / 2], each[ROUNDS / 2]);
+}
+
+/* a chunk with idle marks, beside its text alone */
+static void marks(bellbadger_judge j) {
+    static uint8_t marked[BYTES];
+    double ratios[ROUNDS];
+    size_t length = 0;
+    for (size_t i = 0; i < BYTES; i++) marked[i] = rand() >> 7 & 15 ? text[length++] : 255;
+    for (int round = 0; round < ROUNDS; round++) {
+        double a = now();
+        sink += bellbadger_deliver(j, 1, 0, text, length).accepted;
+        double b = now();
+        sink += bellbadger_deliver(j, 1, 0, marked, BYTES).accepted;
+        ratios[round] = (now() - b) / (b - a);
+    }
+    qsort(ratios, ROUNDS, sizeof ratios[0], rising);
+    printf("  one byte in 16 an idle mark, beside the same text without: %.2f\n", ratios[ROUNDS / 2]);
 }
 
 int main(void) {
-    for (size_t i = 0; i < BYTES; i++) text[i] = (uint8_t)(rand() >> 7 & 1);
-    printf("a chunk of 65,536 bytes at place 1, beside a plain table walk in C\n");
-    beside("runs die", path(1));
-    beside("runs die", path(8));
-    beside("runs die", path(32));
-    beside("runs meet", meeting(1));
-    beside("runs meet", meeting(8));
-    beside("runs meet", meeting(32));
-    beside("runs never meet", cycle(1, 2));
-    beside("runs never meet", cycle(8, 2));
-    beside("runs never meet", cycle(32, 2));
+    bellbadger_judge j = meeting(32);
+    printf("a chunk of 65,536 bytes, beside one plain table walk in C over the same text\n");
+    texts(2);
+    beside("one run", cycle(32, 2), 0);
+    beside("runs never meet", cycle(8, 2), 1);
+    beside("runs never meet", cycle(32, 2), 1);
+    marks(cycle(8, 2));
+    texts(4);
+    if (j.rule.starts != 32 || met(&j.rule) > 1024) exit(1);
+    beside("runs meet within 1,024 bytes", j, 1);
+    deaths(8);
+    beside("runs die one after the other", mortal(8), 1);
+    texts(2);
+    beside("runs die within 32 bytes", path(32), 1);
 
-    bellbadger_judge j = cycle(8, 64), *copy = malloc(sizeof j);
+    bellbadger_judge *copy = malloc(sizeof j);
+    j = cycle(8, 64);
     double base, t;
     MEASURE(base, for (int i = 0; i < 100; i++) memcpy(copy, &j, sizeof j), sink += copy->board.places);
     printf("a call on an empty chunk, beside one copy of the state (%zu bytes, %.2f us)\n", sizeof j, base / 100);

@@ -5,24 +5,29 @@
 --   is-listFrom, same-list    an array with those cells is that list; the same cells, the same list
 --   zero-cells                every cell of a list of zeros
 --   stored, cell-stored       one cell more: what holds of each cell passed, and what each has
+--   each-stored               one cell changed: what holds of every cell
 --   joined-none, joined-suc, joined-more      no part, and one part more
 --   joined-same               equal parts make equal lists
 --   joined-length, length-exact, length-joined   the length, by that of each part
 --   joined-split              part i stands after those before it
 --   cut                       a list that is cut at some places is its parts, joined, and the rest
 --   part-at, part-byte        the part that stands after another, and its members
+--   before-part, in-part, after-part, length-replaced   a list of which a part is replaced
 use mathlib.Core.Path.{_≡_, refl, sym, ap, ap₂, _∙_}
 use mathlib.Core.Logic.{⊎-elim}
 use mathlib.Core.List.{List, [], _++_, append-assoc, append-nil}
-use Prim.Native.Nat.{ℕ, zero, suc, _+_, _*_, _≤_, _<_}
+use Prim.Native.Nat.{ℕ, zero, suc, _+_, _-_, _*_, _≤_, _<_}
 use native.Mathlib.Nat.{eq-or-lt-of-le, le-of-suc-le-suc, suc-mul}
 use native.Mathlib.Numerals.{add-one}
 use native.Mathlib.Omega.{arith}
-use lib.ListN.{length, getD, set, take, drop, replicate, length-append}
-use lib.Seq.{ext-getD, getD-set-same, getD-set-other, take-at, drop-at, getD-take, getD-drop}
+use lib.ListN.{length, getD, set, take, drop, replicate, length-append, length-drop, List·getD-append}
+use lib.Seq.{ext-getD, getD-set-same, getD-set-other, take-at, drop-at, getD-take, getD-drop, getD-append-add, length-take-le}
 use borrow.Author.Count.{below-more}
+use borrow.Author.Tests.{eqb-true, eqb-false}
+use lib.Dec.{eqb}
 use Rattle.base.specs.Lists.{listFrom, joined}
 use Rattle.base.specs.Totals.{total}
+use Rattle.base.proofs.Tests.{by-test}
 
 -- ---- cell by cell
 pub length-listFrom : (i len : ℕ) (g : ℕ → ℕ) → length (listFrom i len g) ≡ len
@@ -64,6 +69,13 @@ stored P l i v h all here =
 pub cell-stored : (t : List ℕ) (g : ℕ → ℕ) (i x : ℕ) → i < length t → x ≡ g i → ((c : ℕ) → c < i → getD t c 0 ≡ g c)
     → (c : ℕ) → c < i + 1 → getD (set t i x) c 0 ≡ g c
 cell-stored t g i x h e f = stored (λ c y. y ≡ g c) t i x h f e
+
+pub each-stored : (P : ℕ → ℕ → Type 0) (l : List ℕ) (i v : ℕ) → i < length l → ((b : ℕ) → P b (getD l b 0)) → P i v
+    → (b : ℕ) → P b (getD (set l i v) b 0)
+each-stored P l i v h all here b =
+    by-test (eqb b i)
+    (λ t. let e = eqb-true b i t in rw (e, getD-set-same l i v 0 h) here)
+    (λ t. rw (getD-set-other l i b v 0 (eqb-false b i t)) (all b))
 
 -- ---- part by part
 pub joined-same : (p p′ : ℕ → List ℕ) (n : ℕ) → ((i : ℕ) → i < n → p i ≡ p′ i) → joined p n ≡ joined p′ n
@@ -131,3 +143,36 @@ part-at f a b c m e l =
 pub part-byte : (f b : List ℕ) (m j : ℕ) → take (length b) (drop m f) ≡ b → j < length b → getD f (m + j) 0 ≡ getD b j 0
 part-byte f b m j e l =
     sym (getD-drop m f j 0) ∙ sym (getD-take (length b) (drop m f) j 0 l) ∙ ap (λ (x : List ℕ). getD x j 0) e
+
+-- n members from i on are replaced by those of b
+module _ (l b : List ℕ) (i n : ℕ) (fits : i + n ≤ length l) (size : length b ≡ n) where
+  abbrev replaced : List ℕ
+  replaced = take i l ++ (b ++ drop n (drop i l))
+
+  head : length (take i l) ≡ i
+  head = length-take-le i l (omega arith)
+
+  -- what stands k places behind the first i
+  behind : (k : ℕ) → getD replaced (i + k) 0 ≡ getD (b ++ drop n (drop i l)) k 0
+  behind k = ap (λ (x : ℕ). getD replaced (x + k) 0) (sym head) ∙ getD-append-add (take i l) (b ++ drop n (drop i l)) k 0
+
+  pub before-part : (k : ℕ) → k < i → getD replaced k 0 ≡ getD l k 0
+  before-part k h = List·getD-append (take i l) (b ++ drop n (drop i l)) 0 k (omega (arith, head)) ∙ getD-take i l k 0 h
+
+  pub in-part : (k : ℕ) → k < n → getD replaced (i + k) 0 ≡ getD b k 0
+  in-part k h = behind k ∙ List·getD-append b (drop n (drop i l)) 0 k (omega arith)
+
+  pub after-part : (k : ℕ) → i + n ≤ k → getD replaced k 0 ≡ getD l k 0
+  after-part k h =
+      let here : k ≡ i + (n + (k - (i + n))) = omega arith in
+      let there : length b + (k - (i + n)) ≡ n + (k - (i + n)) = omega arith in
+      ap (λ (x : ℕ). getD replaced x 0) here
+      ∙ behind (n + (k - (i + n)))
+      ∙ ap (λ (x : ℕ). getD (b ++ drop n (drop i l)) x 0) (sym there)
+      ∙ getD-append-add b (drop n (drop i l)) (k - (i + n)) 0
+      ∙ getD-drop n (drop i l) (k - (i + n)) 0
+      ∙ getD-drop i l (n + (k - (i + n))) 0
+      ∙ ap (λ (x : ℕ). getD l x 0) (sym here)
+
+  pub length-replaced : length replaced ≡ length l
+  length-replaced = simp (length-append, length-drop) (omega (arith, head))

@@ -10,8 +10,9 @@
 --   lastAt b p         one more than the last revision accepted at place p, 0 where there was none
 --   comesLate b p v    the revision v is not greater than the last one accepted at place p
 --   emptyBoard n       n places, all empty, no revision accepted anywhere
---   filledAt b p v s   place p holds the end sets, the count and the length s of a chunk, which may
---                      be empty, and its revision v
+--   rowSet ends p g    the end sets with those of place p as g has them
+--   filledAt b p v s   place p holds the end sets, the count and the length that the runs s have,
+--                      which may be those of an empty chunk, and the revision v
 --   clearedAt b p      place p is empty, its end sets empty, its count and its length 0; its
 --                      revision stays
 --   emptyPlaces b      how many places are empty

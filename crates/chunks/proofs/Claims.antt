@@ -12,6 +12,7 @@ claims = record {
   text-law = texts.text-law;
   run-end = ends.run-end;
   run-count = ends.run-count;
+  own-count = walks.row-count;
   run-most = walks.count-most;
   ends = ends.ends;
   count = ends.count;

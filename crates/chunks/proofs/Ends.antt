@@ -14,7 +14,7 @@ use lib.ListN.{length, getD}
 use Rattle.base.specs.Lists.{listFrom}
 use Rattle.base.proofs.Lists.{same-list}
 use Rattle.base.proofs.Tests.{by-test}
-use Rattle.base.proofs.Totals.{total-same}
+use Rattle.base.proofs.Totals.{total-same, greatest-same}
 use Rattle.masks.specs.Masks.{has, single}
 use Rattle.masks.proofs.Laws.{member-of, members-below, below-of}
 use Rattle.automaton.specs.declared.Rule.{Rule}
@@ -30,10 +30,11 @@ use Rattle.delegates.proofs.Acceptance.{mask-at, follow-law}
 use Rattle.build.specs.Building.{builtOf}
 use Rattle.build.proofs.Claims as build
 use Rattle.chunks.specs.Chunks.{counted, endSet, chunkCount, looked}
-use Rattle.chunks.specs.Walks.{stepOf, walkEnd, walkCount, walkLooked, maskOf, greatest, runsOf}
+use Rattle.walks.specs.Steps.{endBy, countBy, lookedBy}
+use Rattle.chunks.specs.Walks.{stepOf, walkEnd, walkCount, walkLooked, maskOf, runsOf}
 use Rattle.chunks.proofs.Walks.{end-empty, count-empty, looked-empty}
 use Rattle.chunks.proofs.Counts.{counted-empty}
-use Rattle.chunks.proofs.Looked.{greatest-same, looked-none, looked-step, looked-runs}
+use Rattle.chunks.proofs.Looked.{looked-none, looked-step, looked-runs}
 
 same-either : (b : Bool) (x y : ℕ) → (b ≡ true → x ≡ y) → cond b x 0 ≡ cond b y 0
 same-either true x y h = h refl
@@ -62,14 +63,14 @@ module _ (r : Rule) (good : WellFormed r) (fit : fits r) where
   from-empty : (w : List ℕ) → Walked 0 512 w
   from-empty w = record {
     end = rw (end-empty table w) (sym (after-empty (r .targets) w));
-    steps = count-empty table 512 w (omega arith) ∙ sym (counted-empty (r .targets) w);
-    reads = looked-empty table 512 w (omega arith) ∙ sym (looked-none (r .targets) w);
+    steps = count-empty table w ∙ sym (counted-empty (r .targets) w);
+    reads = looked-empty table w ∙ sym (looked-none (r .targets) w);
   }
 
   one-more : (m i j s : ℕ) (w : List ℕ) → (m ≡ 0 → ⊥) → i < 512 → stepOf table i s ≡ j
       → _≡_ {A = ℕ} (cond (ltb j 512) 1 0) (cond (eqb (successor (r .targets) m s) 0) 0 1)
       → Walked (successor (r .targets) m s) j w → Walked m i (s ∷ w)
-  unfolding walkEnd walkCount walkLooked counted
+  unfolding endBy countBy lookedBy counted
   one-more m i j s w some low to one rest = record {
     end = ap (λ (x : ℕ). maskOf masks (walkEnd table x w)) to ∙ rest .end;
     steps =
@@ -82,7 +83,7 @@ module _ (r : Rule) (good : WellFormed r) (fit : fits r) where
   }
 
   walked : (w : List ℕ) → Text (r .k) w → (i : ℕ) → i < length (sets r) → Walked (getD (sets r) i 0) i w
-  unfolding walkEnd walkCount walkLooked counted looked
+  unfolding endBy countBy lookedBy counted looked
   walked [] x i h = record { end = rw (lt-ltb i 512 (omega (arith, few))) (mask-at subsets.claims r good fit i h); steps = refl; reads = refl }
   walked (s ∷ w) x i h =
       let m : ℕ = successor (r .targets) (getD (sets r) i 0) s in

@@ -1,6 +1,5 @@
 -- The bytes for which a successor is looked up. Assumes nothing.
 --
---   greatest-more, greatest-same, greatest-most   the greatest of some numbers
 --   looked-or       the number for the union of two sets is the greater of their numbers
 --   looked-runs     so it is the greatest over the runs
 --   all-empty-law   every run's set is empty exactly when the successor of the set that is run is
@@ -11,33 +10,21 @@
 use mathlib.Core.Path.{_≡_, refl, sym, ap, ap₂, _∙_}
 use mathlib.Core.Bool.{Bool, true, false, cond}
 use mathlib.Core.List.{List, [], _∷_}
-use Prim.Native.Nat.{ℕ, zero, suc, _+_, _^_, _≤_, _<_, max}
-use native.Mathlib.Numerals.{add-one}
+use Prim.Native.Nat.{ℕ, zero, suc, _^_, _≤_, _<_, max}
 use native.Mathlib.Omega.{arith}
-use borrow.Author.Tests.{eqb-true, eqb-false, eq-eqb, ne-eqb}
+use borrow.Author.Tests.{eqb-true, eqb-false, ne-eqb}
 use lib.Bits.{bitOr, or-zero-l, or-zero-r}
 use lib.Dec.{eqb}
 use lib.ListN.{length, take}
-use Rattle.base.proofs.Tests.{by-test, zero-one}
+use Rattle.base.specs.Totals.{greatest}
+use Rattle.base.proofs.Tests.{by-test}
 use Rattle.masks.specs.Masks.{_∈_, has, single, union}
-use Rattle.masks.proofs.Laws.{ext, no-member, member-of, has-member, members-below, single-law, part-of, in-union, or-left, or-right, or-cases, empty-mask, union-or}
+use Rattle.masks.proofs.Laws.{ext, no-member, member-of, has-member, members-below, single-law, part-of, in-union, or-left, or-right, empty-mask, union-or}
 use Rattle.automaton.specs.Rules.{targetMask}
 use Rattle.automaton.specs.Successor.{successor, after}
 use Rattle.automaton.proofs.Laws.{after-or, after-empty}
 use Rattle.chunks.specs.Chunks.{looked}
-use Rattle.chunks.specs.Walks.{greatest}
 use Rattle.chunks.specs.Claims.{AllEmpty}
-
--- ---- the greatest of some numbers
-pub greatest-more : (f : ℕ → ℕ) (q : ℕ) → greatest f (q + 1) ≡ max (greatest f q) (f q)
-unfolding greatest
-greatest-more f q = rw add-one
-
-pub greatest-same : (f g : ℕ → ℕ) (n : ℕ) → ((q : ℕ) → q < n → f q ≡ g q) → greatest f n ≡ greatest g n
-unfolding greatest
-greatest-same f g zero h = refl
-greatest-same f g (suc n) h =
-    ap₂ max (greatest-same f g n (λ q l. h q (omega arith))) (h n (omega arith))
 
 -- ---- nothing is looked up from the empty set
 pub looked-none : (ts : List ℕ) (w : List ℕ) → looked ts 0 w ≡ 0

@@ -1,111 +1,60 @@
--- The laws of a walk over any next-set table: one byte more, no byte left, the empty set stays
--- empty and reads nothing, and at most one step is counted for a byte. Assumes nothing.
-use mathlib.Core.Path.{_≡_, refl, ap, _∙_}
-use mathlib.Core.List.{List, [], _∷_}
-use Prim.Native.Nat.{ℕ, suc, _+_, _*_, _%_, _≤_, _<_}
-use native.Mathlib.Numerals.{add-one}
+-- The laws of a walk over any next-set table, and that the table of row offsets walks the same way.
+-- Assumes nothing.
+--
+--   end-empty, count-empty, looked-empty   the empty set stays empty, and counts and reads nothing
+--   count-most                             at most one step is counted for a byte
+--   row-end, row-count, row-looked         a walk over row offsets is a walk over sets' numbers
+use mathlib.Core.Path.{_≡_, sym, _∙_}
+use mathlib.Core.List.{List}
+use Prim.Native.Nat.{ℕ, _%_, _≤_}
 use native.Mathlib.Omega.{arith}
-use borrow.Author.Tests.{lt-ltb, le-ltb}
+use borrow.Author.Tests.{lt-ltb, le-ltb, ltb-true, ltb-false}
 use lib.Dec.{ltb}
-use lib.ListN.{length, getD, drop, drop-of-length-le}
-use lib.Seq.{drop-cons}
-use Rattle.base.proofs.Tests.{one-most}
-use Rattle.delegates.proofs.Classes.{follow-set, follow-empty}
+use lib.ListN.{length}
+use Rattle.base.proofs.Tests.{by-test}
+use Rattle.delegates.proofs.Classes.{follow-set, follow-empty, follow-within}
+use Rattle.walks.proofs.Steps as walks
+use Rattle.lanes.specs.Offsets.{rowOf, offsetsOf, hopOf, rowEnd, rowCount, rowLooked}
+use Rattle.lanes.proofs.Offsets.{hop-set, hop-empty}
 use Rattle.chunks.specs.Walks.{stepOf, walkEnd, walkCount, walkLooked}
 
 module _ (next : List ℕ) where
-  pub count-most : (s : ℕ) (w : List ℕ) → walkCount next s w ≤ length w
-  unfolding walkCount
-  count-most s [] = omega arith
-  count-most s (b ∷ w) = omega (arith, one-most (ltb (stepOf next s b) 512), count-most (stepOf next s b) w)
+  low : (i b : ℕ) → stepOf next i b ≤ 512
+  low i b = follow-within next i (b % 16)
 
-  -- ---- over no byte
-  pub end-nothing : (s : ℕ) (w : List ℕ) → length w ≡ 0 → walkEnd next s w ≡ s
-  unfolding walkEnd
-  end-nothing s [] h = refl
-  end-nothing s (b ∷ w) h = absurd (omega arith)
+  stays : (b : ℕ) → stepOf next 512 b ≡ 512
+  stays b = follow-empty next 512 (b % 16) (omega arith)
 
-  pub count-nothing : (s : ℕ) (w : List ℕ) → length w ≡ 0 → walkCount next s w ≡ 0
-  count-nothing s w h = omega (arith, count-most s w)
-
-  -- ---- from the empty set
   pub end-empty : (w : List ℕ) → walkEnd next 512 w ≡ 512
-  unfolding walkEnd
-  end-empty [] = refl
-  end-empty (b ∷ w) = rw (follow-empty next 512 (b % 16) (omega arith)) (end-empty w)
+  end-empty w = walks.end-empty (stepOf next) 512 low stays w
 
-  pub count-empty : (s : ℕ) (w : List ℕ) → 512 ≤ s → walkCount next s w ≡ 0
-  unfolding walkCount
-  count-empty s [] h = refl
-  count-empty s (b ∷ w) h = rw (follow-empty next s (b % 16) h) (omega (arith, count-empty 512 w (omega arith)))
+  pub count-empty : (w : List ℕ) → walkCount next 512 w ≡ 0
+  count-empty w = walks.count-empty (stepOf next) 512 low stays w
 
-  pub end-from-empty : (s : ℕ) (w : List ℕ) → 512 ≤ s → (length w ≡ 0 → ⊥) → walkEnd next s w ≡ 512
-  unfolding walkEnd
-  end-from-empty s [] h some = absurd (some refl)
-  end-from-empty s (b ∷ w) h some = rw (follow-empty next s (b % 16) h) (end-empty w)
+  pub looked-empty : (w : List ℕ) → walkLooked next 512 w ≡ 0
+  looked-empty w = walks.looked-empty (stepOf next) 512 512 w (omega arith)
 
-  pub looked-nothing : (s : ℕ) (w : List ℕ) → length w ≡ 0 → walkLooked next s w ≡ 0
-  unfolding walkLooked
-  looked-nothing s [] h = refl
-  looked-nothing s (b ∷ w) h = absurd (omega arith)
+  pub count-most : (i : ℕ) (w : List ℕ) → walkCount next i w ≤ length w
+  count-most i w = walks.count-most (stepOf next) 512 i w
 
-  pub looked-empty : (s : ℕ) (w : List ℕ) → 512 ≤ s → walkLooked next s w ≡ 0
-  unfolding walkLooked
-  looked-empty s [] h = refl
-  looked-empty s (b ∷ w) h = rw (le-ltb s 512 h)
+  -- ---- over row offsets
+  same-step : (i b : ℕ) → hopOf (offsetsOf next) (rowOf i) b ≡ rowOf (stepOf next i b)
+  same-step i b =
+      by-test (ltb i 512)
+      (λ t. let l = ltb-true i 512 t in hop-set next i b l ∙ omega (arith, follow-set next i (b % 16) l))
+      (λ t. let l = ltb-false i 512 t in hop-empty next i b l ∙ omega (arith, follow-empty next i (b % 16) l))
 
-  -- ---- what is left of a walk from byte i on
-  module _ (s i : ℕ) (w : List ℕ) where
-    pub end-none : length w ≤ i → walkEnd next s (drop i w) ≡ s
-    unfolding walkEnd
-    end-none h = rw (drop-of-length-le w h)
+  same-test : (i : ℕ) → ltb (rowOf i) 8192 ≡ ltb i 512
+  same-test i =
+      by-test (ltb i 512)
+      (λ t. lt-ltb (rowOf i) 8192 (omega (arith, ltb-true i 512 t)) ∙ sym t)
+      (λ t. le-ltb (rowOf i) 8192 (omega (arith, ltb-false i 512 t)) ∙ sym t)
 
-    pub count-none : length w ≤ i → walkCount next s (drop i w) ≡ 0
-    unfolding walkCount
-    count-none h = rw (drop-of-length-le w h)
+  pub row-end : (i : ℕ) (w : List ℕ) → rowEnd (offsetsOf next) w (rowOf i) ≡ rowOf (walkEnd next i w)
+  row-end = walks.end-through (stepOf next) (hopOf (offsetsOf next)) 512 8192 rowOf same-step same-test
 
-    pub looked-left : length w ≤ i → walkLooked next s (drop i w) ≡ 0
-    unfolding walkLooked
-    looked-left h = rw (drop-of-length-le w h)
+  pub row-count : (i : ℕ) (w : List ℕ) → rowCount (offsetsOf next) w (rowOf i) ≡ walkCount next i w
+  row-count = walks.count-through (stepOf next) (hopOf (offsetsOf next)) 512 8192 rowOf same-step same-test
 
-    module _ (h : i < length w) (low : s < 512) where
-      looked-next : walkLooked next s (drop i w) ≡ suc (walkLooked next (stepOf next s (getD w i 0)) (drop (i + 1) w))
-      unfolding walkLooked
-      looked-next = rw (add-one, drop-cons w i 0 h, lt-ltb s 512 low)
-
-      end-next : walkEnd next s (drop i w) ≡ walkEnd next (stepOf next s (getD w i 0)) (drop (i + 1) w)
-      unfolding walkEnd
-      end-next = rw (add-one, drop-cons w i 0 h)
-
-      -- a cell below 512 is the next set
-      module _ (on : getD next (s * 16 + getD w i 0 % 16) 0 < 512) where
-        step-on : stepOf next s (getD w i 0) ≡ getD next (s * 16 + getD w i 0 % 16) 0
-        step-on = follow-set next s (getD w i 0 % 16) low ∙ omega arith
-
-        pub end-on : walkEnd next s (drop i w) ≡ walkEnd next (getD next (s * 16 + getD w i 0 % 16) 0) (drop (i + 1) w)
-        end-on = end-next ∙ ap (λ (x : ℕ). walkEnd next x (drop (i + 1) w)) step-on
-
-        pub looked-on : walkLooked next s (drop i w) ≡ suc (walkLooked next (getD next (s * 16 + getD w i 0 % 16) 0) (drop (i + 1) w))
-        looked-on = looked-next ∙ ap (λ (x : ℕ). suc (walkLooked next x (drop (i + 1) w))) step-on
-
-        pub count-on : walkCount next s (drop i w) ≡ 1 + walkCount next (getD next (s * 16 + getD w i 0 % 16) 0) (drop (i + 1) w)
-        unfolding walkCount
-        count-on = rw (add-one, drop-cons w i 0 h, step-on, lt-ltb (getD next (s * 16 + getD w i 0 % 16) 0) 512 on)
-
-      -- any other is the empty set
-      module _ (off : 512 ≤ getD next (s * 16 + getD w i 0 % 16) 0) where
-        step-off : stepOf next s (getD w i 0) ≡ 512
-        step-off = follow-set next s (getD w i 0 % 16) low ∙ omega arith
-
-        pub end-off : walkEnd next s (drop i w) ≡ 512
-        end-off = end-next ∙ ap (λ (x : ℕ). walkEnd next x (drop (i + 1) w)) step-off ∙ end-empty (drop (i + 1) w)
-
-        pub looked-off : walkLooked next s (drop i w) ≡ 1
-        looked-off =
-            looked-next
-            ∙ ap (λ (x : ℕ). suc (walkLooked next x (drop (i + 1) w))) step-off
-            ∙ ap suc (looked-empty 512 (drop (i + 1) w) (omega arith))
-
-        pub count-off : walkCount next s (drop i w) ≡ 0
-        unfolding walkCount
-        count-off = rw (drop-cons w i 0 h, step-off) (omega (arith, count-empty 512 (drop (suc i) w) (omega arith)))
+  pub row-looked : (i : ℕ) (w : List ℕ) → rowLooked (offsetsOf next) w (rowOf i) ≡ walkLooked next i w
+  row-looked = walks.looked-through (stepOf next) (hopOf (offsetsOf next)) 512 8192 rowOf same-step same-test

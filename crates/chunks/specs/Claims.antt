@@ -17,6 +17,7 @@ use Rattle.subsets.specs.Claims.{fits}
 use Rattle.automaton.specs.Automaton.{Text}
 use Rattle.delegates.specs.Alike.{delegateIn, startCount, startSet}
 use Rattle.build.specs.Building.{builtOf}
+use Rattle.lanes.specs.Offsets.{rowOf, offsetsOf, rowCount}
 use Rattle.chunks.specs.Chunks.{foreign, counted, delegateSet, runSet, endSet, chunkCount, looked}
 use Rattle.chunks.specs.Walks.{walkEnd, walkCount, maskOf, runsOf, delegateMask, runMask}
 
@@ -28,12 +29,14 @@ pub record Claims : Type 0 where
   -- no byte is foreign exactly in a text of symbols below k
   pub text-law : (w : List ℕ) (k : ℕ) → foreign w k ≡ false ↔ Text k w
   -- a run from a state of the rule over a text of its symbols ends with the set after the text, and
-  -- counts one transition for each successor that is not empty, which is at most one for each byte,
-  -- on any table
+  -- counts one transition for each successor that is not empty
   pub run-end : (r : Rule) → WellFormed r → fits r → (q : ℕ) → q < r .n → (w : List ℕ) → Text (r .k) w
       → maskOf (builtOf r .sets) (walkEnd (builtOf r .next) (getD (builtOf r .singles) q 0) w) ≡ after (r .targets) (single q) w
   pub run-count : (r : Rule) → WellFormed r → fits r → (q : ℕ) → q < r .n → (w : List ℕ) → Text (r .k) w
       → walkCount (builtOf r .next) (getD (builtOf r .singles) q 0) w ≡ counted (r .targets) (single q) w
+  -- on any table, that is the count which the runner keeps for each run by itself, over row offsets
+  -- (`Walked` of the crate blocks), and it is at most one for each byte
+  pub own-count : (next : List ℕ) (i : ℕ) (w : List ℕ) → rowCount (offsetsOf next) w (rowOf i) ≡ walkCount next i w
   pub run-most : (next : List ℕ) (i : ℕ) (w : List ℕ) → walkCount next i w ≤ length w
   -- over a text of the rule's symbols, run from states of the rule: each end set is the set after
   -- the text, and the count is document 01's

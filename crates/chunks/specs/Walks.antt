@@ -7,46 +7,43 @@
 --                         a set that is not empty
 --   walkLooked            for how many of the bytes w a cell of the table is read
 --   maskOf sets i         the mask of set i
---   greatest f n          the greatest of f 0, f 1, .. f (n − 1); 0 where n is 0
 --   runsOf ..             the end set of each state that is run, as an array, the sum of the
 --                         counts, the number of text bytes, and those for which any run looks a
 --                         successor up
+--   startRows singles run   the row offset of {q} for each state q that is run; the empty set's for
+--                         the others
+--   endMasks sets rows    the masks of the sets that the row offsets stand for
 --   delegateMask, runMask   delegateSet and runSet for at most 32 states: a number above counts as
 --                           that
 use mathlib.Core.Bool.{cond}
-use mathlib.Core.List.{List, [], _∷_}
-use Prim.Native.Nat.{ℕ, zero, suc, _+_, _%_, min, max}
+use mathlib.Core.List.{List}
+use Prim.Native.Nat.{ℕ, _/_, _%_, min}
 use lib.Dec.{ltb}
 use lib.ListN.{length, getD}
 use Rattle.limits.specs.Limits.{mostStates, mostSymbols, emptySet}
 use Rattle.base.specs.Lists.{listFrom}
-use Rattle.base.specs.Totals.{total}
+use Rattle.base.specs.Totals.{total, greatest}
 use Rattle.masks.specs.Masks.{has}
 use Rattle.delegates.specs.Classes.{follow}
+use Rattle.walks.specs.Steps.{endBy, countBy, lookedBy}
+use Rattle.lanes.specs.Offsets.{emptyRow, rowOf}
 use Rattle.chunks.specs.declared.Runs.{Runs}
 use Rattle.chunks.specs.Chunks.{delegateSet, runSet}
 
 abbrev pub stepOf : List ℕ → ℕ → ℕ → ℕ
 stepOf next i b = follow next i (b % mostSymbols)
 
-unfoldable pub walkEnd : List ℕ → ℕ → List ℕ → ℕ
-walkEnd next i [] = i
-walkEnd next i (b ∷ w) = walkEnd next (stepOf next i b) w
+abbrev pub walkEnd : List ℕ → ℕ → List ℕ → ℕ
+walkEnd next i w = endBy (stepOf next) i w
 
-unfoldable pub walkCount : List ℕ → ℕ → List ℕ → ℕ
-walkCount next i [] = 0
-walkCount next i (b ∷ w) = cond (ltb (stepOf next i b) emptySet) 1 0 + walkCount next (stepOf next i b) w
+abbrev pub walkCount : List ℕ → ℕ → List ℕ → ℕ
+walkCount next i w = countBy (stepOf next) emptySet i w
 
-unfoldable pub walkLooked : List ℕ → ℕ → List ℕ → ℕ
-walkLooked next i [] = 0
-walkLooked next i (b ∷ w) = cond (ltb i emptySet) (suc (walkLooked next (stepOf next i b) w)) 0
+abbrev pub walkLooked : List ℕ → ℕ → List ℕ → ℕ
+walkLooked next i w = lookedBy (stepOf next) emptySet i w
 
 abbrev pub maskOf : List ℕ → ℕ → ℕ
 maskOf sets i = cond (ltb i emptySet) (getD sets i 0) 0
-
-unfoldable pub greatest : (ℕ → ℕ) → ℕ → ℕ
-greatest f zero = 0
-greatest f (suc q) = max (greatest f q) (f q)
 
 abbrev pub runsOf : List ℕ → List ℕ → List ℕ → ℕ → List ℕ → Runs
 runsOf sets next singles run w = record {
@@ -55,6 +52,12 @@ runsOf sets next singles run w = record {
   bytes = length w;
   looked = greatest (λ q. cond (has run q) (walkLooked next (getD singles q 0) w) 0) mostStates;
 }
+
+abbrev pub startRows : List ℕ → ℕ → List ℕ
+startRows singles run = listFrom 0 mostStates (λ q. cond (has run q) (rowOf (getD singles q 0)) emptyRow)
+
+abbrev pub endMasks : List ℕ → List ℕ → List ℕ
+endMasks sets rows = listFrom 0 mostStates (λ q. maskOf sets (getD rows q 0 / mostSymbols))
 
 abbrev pub delegateMask : List ℕ → ℕ → ℕ → ℕ
 delegateMask d n m = delegateSet d (min n mostStates) m

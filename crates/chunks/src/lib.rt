@@ -1,23 +1,17 @@
 // Runs a chunk over the next-set table of a built rule.
 ghost use mathlib.Core.Path.{_≡_};
-ghost use Prim.Native.Nat.{_≤_, _<_, min, max};
-ghost use lib.ListN.{length};
-ghost use Rattle.limits.specs.Limits.{mostStates, longestChunk};
+ghost use Prim.Native.Nat.{ℕ, _/_, _≤_, _<_, min};
+ghost use lib.ListN.{length, getD};
+ghost use Rattle.limits.specs.Limits.{mostStates, mostSymbols, longestChunk};
+ghost use Rattle.base.specs.Totals.{total};
 ghost use Rattle.masks.specs.Masks.{single};
 ghost use Rattle.delegates.specs.Alike.{delegateIn, ofDelegate, startSet};
 ghost use Rattle.chunks.specs.Chunks.{foreign};
-ghost use Rattle.chunks.specs.Walks.{walkEnd, walkCount, walkLooked, maskOf, runsOf, delegateMask, runMask};
+ghost use Rattle.lanes.specs.Offsets.{emptyRow, rowOf, Rows};
+ghost use Rattle.chunks.specs.Walks.{maskOf, runsOf, startRows, endMasks, delegateMask, runMask};
 use delegates::DelegateAnswer;
 use masks::StateNumber;
 use subsets::SetNumber;
-
-// Where a run ends, how many of its transitions led to a set that is not empty, and for how many
-// bytes it looked a successor up.
-pub struct Run {
-    pub end: SetNumber,
-    pub count: u32,
-    pub looked: u32,
-}
 
 // The end set of each state, empty where it was not run, the sum of what the runs count, how many
 // bytes of text the chunk has, and for how many of them any run looked a successor up.
@@ -41,52 +35,6 @@ pub fn has_foreign(chunk: &[u8], k: u8) -> bool
         i += 1;
     }
     found
-}
-
-// Where the chunk leads from the set, how many of its steps lead to a set that is not empty, all of
-// them or those before the first that does not, and for how many bytes the table is read: one for
-// each turn of the loop, which ends with the step into the empty set.
-pub fn walk(next: &[u16; limits::CELLS], from: SetNumber, chunk: &[u8]) -> Run
-    requires { ⌜ length (now chunk) ≤ longestChunk ⌝ }
-    ensures { λ r. ⌜ r .end .0 ≡ walkEnd (now (next .entry)) (from .0) (now (chunk .entry)) ⌝ }
-    ensures { λ r. ⌜ r .count ≡ walkCount (now (next .entry)) (from .0) (now (chunk .entry)) ⌝ }
-    ensures { λ r. ⌜ r .looked ≡ walkLooked (now (next .entry)) (from .0) (now (chunk .entry)) ⌝ }
-{
-    if chunk.len() == 0 {
-        return Run {
-            end: from,
-            count: 0,
-            looked: 0,
-        };
-    }
-    let mut set = from.0;
-    if limits::EMPTY <= set {
-        return Run {
-            end: SetNumber(limits::EMPTY),
-            count: 0,
-            looked: 0,
-        };
-    }
-    let mut i: usize = 0;
-    while i < chunk.len() {
-        let row = set as usize;
-        let symbol = (chunk[i] % limits::MOST_SYMBOLS) as usize;
-        let to = next[row * limits::SYMBOLS + symbol];
-        i += 1;
-        if limits::EMPTY <= to {
-            return Run {
-                end: SetNumber(limits::EMPTY),
-                count: (i - 1) as u32,
-                looked: i as u32,
-            };
-        }
-        set = to;
-    }
-    Run {
-        end: SetNumber(set),
-        count: i as u32,
-        looked: i as u32,
-    }
 }
 
 // The starts, as a set: the states that are their own delegate.
@@ -153,11 +101,62 @@ fn mask_of(sets: &[u32; limits::SETS], set: SetNumber) -> u32
     if i < limits::SETS { sets[i] } else { 0 }
 }
 
-// The greater of two numbers.
-fn greater(a: u32, b: u32) -> u32
-    ensures { λ r. ⌜ r ≡ max a b ⌝ }
+// The row offset of the set.
+fn row_of(set: SetNumber) -> usize
+    ensures { λ r. ⌜ r ≡ rowOf (set .0) ⌝ }
 {
-    if a < b { b } else { a }
+    lanes::row_of(set.0) as usize
+}
+
+// The set that a row offset stands for.
+fn set_of(row: usize) -> SetNumber
+    requires { ⌜ row ≤ emptyRow ⌝ }
+    ensures { λ r. ⌜ r .0 ≡ row / mostSymbols ⌝ }
+{
+    SetNumber((row / limits::SYMBOLS) as u16)
+}
+
+// Where each run begins: at the set {q} of each state q of the mask; the others are empty.
+fn start_rows(singles: &[u16; limits::STATES], mask: u32) -> [usize; limits::STATES]
+    ensures { λ r. ⌜ r ≡ startRows (now (singles .entry)) mask ⌝ }
+{
+    let mut rows = [lanes::EMPTY_ROW; limits::STATES];
+    let mut q: usize = 0;
+    while q < limits::STATES {
+        if masks::member(mask, StateNumber(q as u8)) {
+            rows[q] = row_of(SetNumber(singles[q]));
+        }
+        q += 1;
+    }
+    rows
+}
+
+// The masks of the sets where the runs end.
+fn end_masks(sets: &[u32; limits::SETS], rows: [usize; limits::STATES]) -> [u32; limits::STATES]
+    requires { ⌜ Rows rows ⌝ }
+    ensures { λ r. ⌜ r ≡ endMasks (now (sets .entry)) rows ⌝ }
+{
+    let mut ends = [0u32; limits::STATES];
+    let mut q: usize = 0;
+    while q < limits::STATES {
+        ends[q] = mask_of(sets, set_of(rows[q]));
+        q += 1;
+    }
+    ends
+}
+
+// The sum of what the runs count.
+fn summed(counts: [usize; limits::STATES]) -> usize
+    requires { ⌜ ((q : ℕ) → getD counts q 0 ≤ longestChunk) ⌝ }
+    ensures { λ r. ⌜ r ≡ total (λ q. getD counts q 0) mostStates ⌝ }
+{
+    let mut count: usize = 0;
+    let mut q: usize = 0;
+    while q < limits::STATES {
+        count += counts[q];
+        q += 1;
+    }
+    count
 }
 
 // The chunk run from each state of the mask.
@@ -171,24 +170,13 @@ pub fn run_chunk(
     requires { ⌜ length (now chunk) ≤ longestChunk ⌝ }
     ensures { λ r. ⌜ r ≡ runsOf (now (sets .entry)) (now (next .entry)) (now (singles .entry)) mask (now (chunk .entry)) ⌝ }
 {
-    let mut ends = [0u32; limits::STATES];
-    let mut count: u32 = 0;
-    let mut looked: u32 = 0;
-    let mut q: usize = 0;
-    while q < limits::STATES {
-        if masks::member(mask, StateNumber(q as u8)) {
-            let run = walk(next, SetNumber(singles[q]), chunk);
-            ends[q] = mask_of(sets, run.end);
-            count += run.count;
-            looked = greater(looked, run.looked);
-        }
-        q += 1;
-    }
-    let bytes = chunk.len() as u32;
+    let walked = blocks::walk_text(next, start_rows(singles, mask), chunk);
+    let rows = walked.rows;
+    let counts = walked.counts;
     Runs {
-        ends,
-        count,
-        bytes,
-        looked,
+        ends: end_masks(sets, rows),
+        count: summed(counts) as u32,
+        bytes: chunk.len() as u32,
+        looked: walked.looked as u32,
     }
 }

@@ -26,13 +26,13 @@
 --      loading, loadReply; LoadClauses  a load after a list of calls        histories/specs/History, Claims
 --      CountBound                     the sum's bound; the former 24        histories/specs/CountBound
 --      lastRevision, leastAfter       revisions at a place                  histories/specs/History, Claims
---      Orders                         deliveries in any order               histories/specs/Orders
+--      Orders; Revisions              deliveries in any order; in words     histories/specs/Orders, Revisions
 --      LookedUp, AllEmpty             for how many bytes a set is looked up histories/, chunks/specs/Claims
 --      textOf; foreign, ForeignByte   a chunk without idle marks; 13        marks/, chunks/, calls/specs
 --      runSet, endSet, chunkCount     running a text                        chunks/specs/Chunks
 --      held, isEmpty, summedCount ..  what a board holds                    board/specs/Boards
 --      joinOf, yesOf                  joining                               joins/specs/Joining
---      SameAnswer; formerYes ..       the former starts and their join      histories/specs/FormerStarts, joins/specs/Former
+--      SameAnswer; FormerMerged ..    the former starts and their join      histories/specs/FormerStarts, joins/specs/Former
 --      reportBy; Divided, ThreeZeros  what is reported with a verdict       calls/specs/Calls, Claims
 --      TableP                         the table's cases                     histories/specs/TableP
 --      streamOf, rightText            a text of calls                       stream/specs/Texts
@@ -67,7 +67,10 @@ use Rattle.ruleformat.specs.Reader.{ruleOf, readOf}
 use Rattle.ruleformat.specs.Claims.{ReadLaw}
 use Rattle.ruleformat.proofs.Claims as rulefile
 use Rattle.ruleformat.specs.Language.{automatonIn}
+use Rattle.delegates.specs.Alike.{startCount}
 use Rattle.delegates.specs.Claims.{startsIn}
+use Rattle.joins.specs.Former.{FormerMerged, formerDelegates}
+use Rattle.joins.proofs.Former.{former-claims}
 use Rattle.build.specs.Building.{builtOf}
 use Rattle.board.specs.Boards.{held, isEmpty, lastAt, summedCount, summedBytes}
 use Rattle.calls.specs.declared.Judge.{Judge}
@@ -86,7 +89,8 @@ use Rattle.histories.specs.Conditions.{Accepted-exactly, Refused-exactly}
 use Rattle.histories.specs.Claims.{judgeMachine, judgeAfter, repliesTo, BuiltBy, leastAfter, LookedUp, LoadClauses, EveryList}
 use Rattle.histories.specs.CountBound.{CountBound}
 use Rattle.histories.specs.FormerStarts.{SameAnswer}
-use Rattle.histories.specs.Fewest.{BuildFewest, InstallFewest}
+use Rattle.histories.specs.Fewest.{BuildFewest, InstallFewest, LoadFewest}
+use Rattle.histories.specs.Revisions.{Revisions}
 use Rattle.histories.specs.Orders.{Orders}
 use Rattle.histories.specs.Functions.{judgeLibrary, AsksLoad, MayLoad}
 use Rattle.histories.specs.TableP.{TableP, Each, table}
@@ -97,6 +101,7 @@ use Rattle.histories.proofs.Steps.{accepted-rule}
 use Rattle.histories.proofs.CountBound as histories-bound
 use Rattle.histories.proofs.FormerStarts as histories-former
 use Rattle.histories.proofs.Orders as histories-orders
+use Rattle.histories.proofs.Revisions as histories-revisions
 use Rattle.histories.proofs.Fewest as histories-fewest
 use Rattle.histories.proofs.TableP as histories-table
 use Rattle.histories.proofs.TablePRuns.{Loads-so}
@@ -164,6 +169,9 @@ fewest-built = histories-fewest.build-fewest
 
 pub fewest-starts : (h : List Call) → InstallFewest h
 fewest-starts = histories-fewest.install-fewest
+
+pub fewest-of-bytes : LoadFewest
+fewest-of-bytes = histories-fewest.load-fewest
 
 -- A text is accepted exactly when the automaton of source document 000 has an accepting run over it.
 pub acceptance : (r : Rule) → installNumber r ≡ none → (w : List ℕ)
@@ -245,17 +253,17 @@ load-from-C = load-fixed
 pub foreign-bytes : (w : List ℕ) (k : ℕ) → (foreign (textOf w) k ≡ true) ↔ ForeignByte w k
 foreign-bytes = calls-foreign.foreign-exactly
 
--- The summed count is at most 64 places times 65,536 bytes times 32 starts, with a chunk that can be
--- delivered in the place of what stands there too: so what document 01 numbered 24, a sum over 4,294,967,295, changed no answer, and a
--- delivery has the other five conditions (document 02, R-4).
+-- The sum of the counts is at most 64 places times 65,536 bytes times 32 starts; so it is with a chunk
+-- that can be delivered, counted instead of what it replaces. So what document 01 numbered 24, a sum
+-- over 4,294,967,295, changed no answer, and a delivery has the other five conditions (document 02, R-4).
 pub bound-is : mostTransitions ≡ 134217728
 bound-is = refl
 
 pub count-bound : (h : List Call) → CountBound h
 count-bound = histories-bound.count-bound
 
--- A delivery carries a revision (document 02, R-11). 22 is one that is not greater than the last one
--- accepted at its place since the opening, also after a withdrawal (`refused-exactly`); a greater one
+-- A delivery carries a revision (document 02, R-11). It gets 22 when its revision is not greater than
+-- the last one accepted at its place since the opening (`refused-exactly`); a greater one
 -- replaces what stands, of which nothing is left (`ends`, `counts`, `lengths` below). Each place holds
 -- the last revision:
 pub revisions : (h : List Call) (p : ℕ) → p < mostPlaces → lastAt (judgeAfter h .board) p ≡ leastAfter (lastRevision h p)
@@ -265,6 +273,11 @@ revisions h = every-list h .after .revisions
 -- after any calls, a fresh board's among others.
 pub any-order : (h : List Call) → Orders h
 any-order = histories-orders.orders
+
+-- In the request's words: not greater gets 22 even after a withdrawal, an opening forgets, a greater
+-- one replaces what stands and is the last one, and where none was accepted nothing stands.
+pub revisions-say : (h : List Call) → Revisions h
+revisions-say = histories-revisions.revisions
 
 -- An accepted delivery is answered for how many bytes of its text any successor is looked up: the
 -- least number of text bytes after which every run's set is empty, else all (document 02, R-2).
@@ -304,8 +317,12 @@ counts h = every-list h .after .counts
 pub joined : (h : List Call) → boardIn h ≡ true → isYes (judgeAfter h) ≡ yesIn h
 joined h = every-list h .after .joined
 
--- with the starts that document 01 had, also from states that lead nowhere, it was the same
--- (document 02, R-7);
+-- with the starts that document 01 had, of every state the lowest alike one, also of states that lead
+-- nowhere, it was the same (document 02, R-7);
+pub former-starts : (r : Rule) → installNumber r ≡ none
+    → FormerMerged (automatonOf r) (formerDelegates r) (startCount (formerDelegates r) (r .n))
+former-starts r e = let x = accepted-rule r e in former-claims .former-merged r (x .0) (x .1)
+
 pub same-yes-or-no : (h : List Call) → SameAnswer h
 same-yes-or-no = histories-former.same-answer
 

@@ -35,7 +35,7 @@ use Rattle.histories.specs.Conditions.{Accepted-exactly, Refused-exactly
 use Rattle.histories.proofs.Method.{nine-law}
 
 -- ---- accepted where no condition holds
-reply-law : (o : Option ℕ) → (replyBy o accepted ≡ accepted) ↔ (o ≡ none)
+pub reply-law : (o : Option ℕ) → (replyBy o accepted ≡ accepted) ↔ (o ≡ none)
 reply-law none = (λ e. refl, λ e. refl)
 reply-law (some x) = (
   (λ e. zero-one cc),
@@ -49,7 +49,7 @@ none-hold cs = (
 )
 
 -- and what is answered then
-delivered-law : (o : Option ℕ) (m n : ℕ) → (replyBy o (delivered m) ≡ delivered n) ↔ ((o ≡ none) × (n ≡ m))
+pub delivered-law : (o : Option ℕ) (m n : ℕ) → (replyBy o (delivered m) ≡ delivered n) ↔ ((o ≡ none) × (n ≡ m))
 delivered-law none m n = ((λ e. (refl, cc)), λ e. ap delivered (sym (e .1)))
 delivered-law (some x) m n = ((λ e. zero-one cc), λ e. let y = e .0 in zero-one cc)
 

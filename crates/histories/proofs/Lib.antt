@@ -16,6 +16,7 @@ pub mod Refinement
 pub mod CountBound
 pub mod FormerStarts
 pub mod Orders
+pub mod Revisions
 pub mod Fewest
 pub mod TwoRules
 pub mod TableP

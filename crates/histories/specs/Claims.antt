@@ -7,7 +7,8 @@
 --   BuiltBy present j   the rule that is there, if there is one, is built in j; no rule is zeros
 --   loadAfter h f       the outcome of a load of the file f after the calls h
 --   LoadClauses h f     what a load is (document 02, R-3)
---   leastAfter last     the least revision that is accepted after the last one
+--   leastAfter last     one more than the last revision, 0 where there is none: a revision is
+--                       greater than the last one exactly when it is at least that
 --   Invariant h j       what holds of the state j after the calls h
 --   VerdictClauses      the words of demand 3 for the verdict asked after h
 --   ReportClauses       what is reported with it (document 02, R-1)
@@ -74,7 +75,7 @@ pub record Invariant (h : List Call) (j : Judge) : Type 0 where
   pub ends : (p q : ℕ) → p < mostPlaces → q < mostStates → held (j .board) p q ≡ endAt h p q
   pub counts : (p : ℕ) → p < mostPlaces → getD (j .board .counts) p 0 ≡ countAt h p
   pub lengths : (p : ℕ) → p < mostPlaces → getD (j .board .lengths) p 0 ≡ lengthAt h p
-  -- and it holds the last revision accepted there, as the least that is greater
+  -- and it holds the last revision accepted there, kept as one more than it is, 0 for none
   pub revisions : (p : ℕ) → p < mostPlaces → lastAt (j .board) p ≡ leastAfter (lastRevision h p)
   -- a verdict asked now is the one that the list says; its yes or no is the join of the end sets
   -- held, its count the sum of the counts held

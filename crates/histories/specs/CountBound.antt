@@ -7,6 +7,8 @@
 --   formerConditions   the conditions of a delivery as document 01 had them: the five, then 24 by
 --                      the sum of the counts with that of the chunk. A chunk that it replaces is no
 --                      longer in the sum (document 02, R-11)
+--   sumInWith, sumWith the sum of the counts at the other places with that of the chunk, by what a
+--                      list says and by what a state holds
 --   formerNumber h     the number with which they refuse a delivery after the calls h
 --   formerOn j         and on the state j
 --   formerMachine      the judge with these conditions

@@ -2,10 +2,11 @@
 -- claims.
 --
 --   MayBuild rule r    what `build_rule` may return for the rule, by its own contract
---   Fewest a m         no choice of starting states that gives each state from which a final state
---                      can be reached an alike one has fewer than m members, and one has m
+--   Fewest a m         every list that has an alike state for each state from which a final state can
+--                      be reached has at least m members, and some such list has exactly m
 --   BuildFewest        so it is with the M that the build returns, of every well-formed rule
 --   InstallFewest h    and with the M that an accepted installation answers after the calls h
+--   LoadFewest         and with the M that an accepted load answers, of the automaton in the bytes
 use mathlib.Core.Path.{_≡_}
 use mathlib.Core.List.{List}
 use Prim.Native.Nat.{ℕ, _≤_}
@@ -15,6 +16,7 @@ use borrow.Fn.Kinds.{endedOf}
 use Rattle.automaton.specs.declared.Rule.{Rule}
 use Rattle.automaton.specs.Automaton.{Automaton}
 use Rattle.automaton.specs.Rules.{automatonOf, WellFormed}
+use Rattle.ruleformat.specs.Language.{automatonIn}
 use Rattle.delegates.specs.Fewest.{Covers}
 use Rattle.build.specs.declared.BuildResult.{BuildResult}
 use Rattle.build.specs.Building.{accepted, buildMeans}
@@ -22,7 +24,7 @@ use Rattle.build.proofs.build_rule.Reads as build-reads
 use Rattle.build.proofs.build_rule.Kinds as build-kinds
 use Rattle.calls.specs.Replies.{installed}
 use Rattle.calls.specs.Calls.{Call, installs}
-use Rattle.histories.specs.History.{answerOf}
+use Rattle.histories.specs.History.{answerOf, loadReply}
 
 abbrev pub MayBuild : Rule → BuildResult → Type 0
 MayBuild rule r = (s : AtExit (endedOf 0 build-kinds.ps build-kinds.r) tt) × build-reads.Learnt tt (rule, tt) r s
@@ -39,3 +41,6 @@ BuildFewest =
 
 abbrev pub InstallFewest : List Call → Type 0
 InstallFewest h = (r : Rule) (sets m : ℕ) → answerOf h (installs r) ≡ installed sets m → Fewest (automatonOf r) m
+
+abbrev pub LoadFewest : Type 0
+LoadFewest = (f : List ℕ) (sets m : ℕ) → loadReply f ≡ installed sets m → Fewest (automatonIn f) m

@@ -92,7 +92,9 @@ placesIn (delivers p v w ∷ h) = placesIn h
 placesIn (withdraws p ∷ h) = placesIn h
 placesIn (asksVerdict ∷ h) = placesIn h
 
--- ---- which chunk stands where. `at-p` is what stands at place p, `k` the rule's number of symbols
+-- ---- which chunk stands where. `last` is the last revision accepted at place p, `at-p` what stands
+-- there, `k` the rule's number of symbols
+
 -- the revision v is not greater than the last one; any is greater where there is none
 abbrev pub notGreater : ℕ → Option ℕ → Bool
 notGreater v none = false

@@ -5,6 +5,7 @@ pub mod Conditions
 pub mod Claims
 pub mod CountBound
 pub mod Orders
+pub mod Revisions
 pub mod FormerStarts
 pub mod Fewest
 pub mod Functions

@@ -72,6 +72,6 @@ pub record Method (a : Automaton) (b : Built) : Type 0 where
   -- they lead nowhere
   pub table : (i s : ℕ) → i < b .setcount → s < a .k
       → ((nextAt b i s < b .setcount) × Moves a (setAt b i) s (setAt b (nextAt b i s))) ⊎ ((nextAt b i s ≡ emptySet) × Moves a (setAt b i) s 0)
-  -- its delegates are, for each state, the lowest alike one, with zeros after them, and its number
-  -- of starts is M
+  -- its delegates are, for each state from which a final state can be reached, the lowest alike
+  -- one, and none for any other, with zeros after them; its number of starts is M
   pub delegates : Merged a (b .delegates) (b .startcount)

@@ -8,6 +8,7 @@
 --   delivering ds h   the calls h, and then the deliveries ds, of which the last is first
 --   Reordered ds es   es has the deliveries ds in some order
 --   Apart d e         d and e have not one revision at one place
+--   ApartFrom d ds    d and each of ds have not
 --   NoneTwice ds      no place has a revision twice among ds
 --   Orders h          the claim, after the calls h
 use mathlib.Core.Path.{_≡_}

@@ -1,127 +1,96 @@
--- `run_chunk` meets its contract. The loop's invariant is `Running`. Assumes nothing.
-use mathlib.Core.Path.{sym, ap, _∙_}
-use mathlib.Core.Logic.{⊎-elim}
-use lib.ListN.{getD}
-use Prim.Native.Nat.{_-_, _≤_, max}
+-- `run_chunk` meets its contract: the runs over row offsets are those of `runsOf`. Assumes nothing.
+use mathlib.Core.Path.{_≡_, ap, _∙_}
+use Prim.Native.Nat.{ℕ, _≤_}
 use native.Mathlib.Omega.{arith}
 use borrow.Author.Needs.{needs}
-use Rattle.chunks.specs.Walks.{maskOf}
-use Rattle.chunks.proofs.Walks.{count-most}
-use Rattle.chunks.proofs.Running.{Running, begun, few, passed-over, run-more, all-run}
+use lib.ListN.{getD}
+use Rattle.base.specs.Totals.{total}
+use Rattle.base.proofs.Totals.{total-most}
+use Rattle.lanes.specs.Offsets.{offsetsOf}
+use Rattle.lanes.proofs.Offsets.{row-table, rows-low}
+use Rattle.blocks.specs.declared.Walked.{Walked}
+use Rattle.blocks.specs.Blocks.{walkedOf}
+use Rattle.blocks.proofs.Parts.{counts-small, looked-small}
+use Rattle.chunks.specs.Walks.{startRows, endMasks}
+use Rattle.chunks.proofs.Running.{start-low, ends, counted, looks, runs-are}
 use Rattle.chunks.proofs.run_chunk.Statement.{statement}
 use Rattle.chunks.proofs.run_chunk.Tie as tie
 
-abbrev Inv-loop : tie.InvT-loop
-Inv-loop sets next singles mask chunk ends₀ count₀ looked₀ q₀ ends count looked q = (q ≤ 32) × Running sets next singles mask chunk ends count looked q
+start-rows-requires : tie.Need-start-rows-requires
+start-rows-requires c κs = search needs
 
-abbrev μ-loop : tie.MeasureT-loop
-μ-loop sets next singles mask chunk ends₀ count₀ looked₀ q₀ ends count looked q = 32 - q
+walk-text-requires : tie.Need-walk-text-requires
+walk-text-requires c κs =
+    let s = c .before .before in
+    (rw (c .start-rows .ensures) (start-low (s .args .singles .now) (s .args .mask)), s .pre)
 
-loop-holds : tie.Need-loop-holds Inv-loop μ-loop
-loop-holds c =
-    let a = c .before .args in
-    (omega arith, begun (a .sets .now) (a .next .now) (a .singles .now) (a .mask) (a .chunk .now))
+end-masks-requires : tie.Need-end-masks-requires
+end-masks-requires c κs =
+    let s = c .before .before .before .before .before in
+    let t = offsetsOf (s .args .next .now) in
+    let w = s .args .chunk .now in
+    let from = c .before .before .before .start-rows in
+    let walk = c .before .before .walk-text in
+    rw (walk .ensures, from .ensures)
+    (rows-low t (row-table (s .args .next .now)) w (startRows (s .args .singles .now) (s .args .mask)) 32 (start-low (s .args .singles .now) (s .args .mask)))
 
-cast-t14 : tie.Need-cast-t14 Inv-loop μ-loop
+summed-requires : tie.Need-summed-requires
+summed-requires c κs =
+    let s = c .before .before .before .before .before .before in
+    let t = offsetsOf (s .args .next .now) in
+    let w = s .args .chunk .now in
+    let from = c .before .before .before .before .start-rows in
+    let walk = c .before .before .before .walk-text in
+    λ q. rw (walk .ensures) (counts-small t w (from .result) 65536 (s .pre) q)
+
+cast-t12 : tie.Need-cast-t12
+cast-t12 c =
+    let s = c .before .before .before .before .before .before .before in
+    let t = offsetsOf (s .args .next .now) in
+    let w = s .args .chunk .now in
+    let from = c .before .before .before .before .before .start-rows in
+    let walk = c .before .before .before .before .walk-text in
+    let few : (q : ℕ) → getD (walk .result .counts) q 0 ≤ 65536 = λ q. rw (walk .ensures) (counts-small t w (from .result) 65536 (s .pre) q) in
+    omega (arith, c .summed .ensures, total-most (λ q. getD (walk .result .counts) q 0) 65536 32 (λ q h. few q))
+
+cast-t14 : tie.Need-cast-t14
 cast-t14 c = search needs
 
-member-requires : tie.Need-member-requires Inv-loop μ-loop
-member-requires c κs = search needs
+cast-t15 : tie.Need-cast-t15
+cast-t15 c =
+    let s = c .before .before .before .before .before .before .before .before in
+    let t = offsetsOf (s .args .next .now) in
+    let w = s .args .chunk .now in
+    let from = c .before .before .before .before .before .before .start-rows in
+    let walk = c .before .before .before .before .before .walk-text in
+    let few : walk .result .looked ≤ 65536 = rw (walk .ensures) (looked-small t w (from .result) 65536 (s .pre)) in
+    omega (arith, few)
 
-mul-t16 : tie.Need-mul-t16 Inv-loop μ-loop
-mul-t16 c = search needs
-
-element-copy-out-t19 : tie.Need-element-copy-out-t19 Inv-loop μ-loop
-element-copy-out-t19 c = search needs
-
-walk-requires : tie.Need-walk-requires Inv-loop μ-loop
-walk-requires c κs = search needs
-
-mask-of-requires : tie.Need-mask-of-requires Inv-loop μ-loop
-mask-of-requires c κs = search needs
-
-mul-ends : tie.Need-mul-ends Inv-loop μ-loop
-mul-ends c = search needs
-
-array-write-ends : tie.Need-array-write-ends Inv-loop μ-loop
-array-write-ends c = search needs
-
-add-count : tie.Need-add-count Inv-loop μ-loop
-add-count c =
-    let y = c .before .before .before .before .before .before .before in
-    let l = y .loop in
-    let a = y .before .before .args in
-    let w = c .before .before .walk in
-    let p = y .before .before .pre in
-    omega (
-      arith,
-      few (a .sets .now) (a .next .now) (a .singles .now) (a .mask) (a .chunk .now) (l .ends) (l .count) (l .looked) (l .q) (l .inv .1) p (l .inv .0),
-      w .ensures .1 .0,
-      count-most (a .next .now) (getD (a .singles .now) (l .q) 0) (a .chunk .now),
-    )
-
-greater-requires : tie.Need-greater-requires Inv-loop μ-loop
-greater-requires c κs = search needs
-
-add-q : tie.Need-add-q Inv-loop μ-loop
-add-q c = search needs
-
-loop-less : tie.Need-loop-less Inv-loop μ-loop
-loop-less c = search needs
-
-loop-again : tie.Need-loop-again Inv-loop μ-loop
-loop-again c =
-    let l = c .before .before .before .loop in
-    let a = c .before .before .before .before .before .args in
-    let m = c .before .member in (
-      search needs,
-      ⊎-elim
-          (λ w.
-          rw (w .6, w .7, w .8)
-          (run-more (a .sets .now) (a .next .now) (a .singles .now) (a .mask) (a .chunk .now) (l .ends) (l .count) (l .looked) (l .q) (l .inv .1)
-          (omega arith)
-          (sym (m .ensures) ∙ w .0 .taken)
-          (w .3 .result)
-          (w .2 .result .count)
-          (w .5 .result)
-          (w .3 .ensures ∙ ap (maskOf (a .sets .now)) (w .2 .ensures .0))
-          (w .2 .ensures .1 .0)
-          (w .5 .ensures ∙ ap (max (l .looked)) (w .2 .ensures .1 .1))))
-          (λ w.
-          rw (w .1, w .2, w .3)
-          (passed-over (a .sets .now) (a .next .now) (a .singles .now) (a .mask) (a .chunk .now) (l .ends) (l .count) (l .looked) (l .q) (l .inv .1)
-          (sym (m .ensures) ∙ w .0 .left)))
-          (c .if1 .came),
-    )
-
-cast-bytes : tie.Need-cast-bytes Inv-loop μ-loop
-cast-bytes c = search needs
-
-returns : tie.Need-returns Inv-loop μ-loop
+returns : tie.Need-returns
 returns c =
-    let l = c .before .loop in
-    let a = c .before .before .before .args in
-    all-run (a .sets .now) (a .next .now) (a .singles .now) (a .mask) (a .chunk .now) (l .ends) (l .count) (l .looked) (l .q) (l .inv .1) (omega arith)
+    let s = c .before .before .before .before .before .before .before .before in
+    let t = offsetsOf (s .args .next .now) in
+    let w = s .args .chunk .now in
+    let from = c .before .before .before .before .before .before .start-rows in
+    let walk = c .before .before .before .before .before .walk-text in
+    let sets = s .args .sets .now in
+    let next = s .args .next .now in
+    let singles = s .args .singles .now in
+    let is : walk .result ≡ walkedOf t w (startRows singles (s .args .mask)) = walk .ensures ∙ ap (walkedOf t w) (from .ensures) in
+    runs-are
+    (c .before .before .end-masks .ensures ∙ ap (λ (x : Walked). endMasks sets (x .rows)) is ∙ ends sets next singles (s .args .mask) w)
+    (c .before .summed .ensures ∙ ap (λ (x : Walked). total (λ q. getD (x .counts) q 0) 32) is ∙ counted sets next singles (s .args .mask) w)
+    (ap (λ (x : Walked). x .looked) is ∙ looks sets next singles (s .args .mask) w)
 
 pub run-chunk-spec : {M : Type 1} → statement M
 run-chunk-spec =
     tie.close
     (tie.spec
-    Inv-loop
-    μ-loop
-    loop-holds
+    start-rows-requires
+    walk-text-requires
+    end-masks-requires
+    summed-requires
+    cast-t12
     cast-t14
-    member-requires
-    mul-t16
-    element-copy-out-t19
-    walk-requires
-    mask-of-requires
-    mul-ends
-    array-write-ends
-    add-count
-    greater-requires
-    add-q
-    loop-less
-    loop-again
-    cast-bytes
+    cast-t15
     returns)

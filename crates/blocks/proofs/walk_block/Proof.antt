@@ -1,0 +1,60 @@
+-- `walk_block` meets its contract: the runs get lanes, the lanes walk, and each run takes its lane's
+-- end and count. Assumes nothing.
+use mathlib.Core.Path.{ap, _∙_}
+use borrow.Author.Needs.{needs}
+use Rattle.blocks.specs.Blocks.{pickOf}
+use Rattle.blocks.proofs.Lanes.{ends-picked, counts-picked, looked-shared}
+use Rattle.blocks.proofs.Parts.{walked-is}
+use Rattle.blocks.proofs.walk_block.Statement.{statement}
+use Rattle.blocks.proofs.walk_block.Tie as tie
+
+share-requires : tie.Need-share-requires
+share-requires c κs = search needs
+
+slice-aggregate-walk-lanes : tie.Need-slice-aggregate-walk-lanes
+slice-aggregate-walk-lanes c = search needs
+
+walk-lanes-requires : tie.Need-walk-lanes-requires
+walk-lanes-requires c κs =
+    let s = c .before .before .before .before .before .before in
+    let h = c .before .before .before .share in
+    let r = h .result in
+    (s .pre .0, h .ensures .lanes)
+
+tally-requires : tie.Need-tally-requires
+tally-requires c κs =
+    let s = c .before .before .before .before .before .before .before .before .before .before in
+    let h = c .before .before .before .before .before .before .before .share in
+    let r = h .result in
+    (s .pre .0, h .ensures .lanes, c .before .before .before .walk-lanes .ensures .1)
+
+pick-requires : tie.Need-pick-requires
+pick-requires c κs = search needs
+
+pick-requires-2 : tie.Need-pick-requires-2
+pick-requires-2 c κs = search needs
+
+returns : tie.Need-returns
+returns c =
+    let s = c .before .before .before .before .before .before .before .before .before .before .before .before .before .before .before .before .before in
+    let h = c .before .before .before .before .before .before .before .before .before .before .before .before .before .before .share in
+    let r = h .result in
+    let t = s .args .t .now in
+    let w = s .args .part .now in
+    let walk = c .before .before .before .before .before .before .before .before .before .before .walk-lanes in
+    walked-is
+    (c .before .before .before .pick .ensures ∙ ap (pickOf (r .of)) (walk .ensures .1) ∙ ends-picked t w (s .args .rows) (r .lane) (r .of) (r .used) (h .ensures))
+    (c .pick2 .ensures ∙ ap (pickOf (r .of)) (c .before .before .before .before .before .before .tally .ensures) ∙ counts-picked t w (s .args .rows) (r .lane) (r .of) (r .used) (h .ensures))
+    (walk .ensures .0 ∙ looked-shared t w (s .args .rows) (r .lane) (r .of) (r .used) (h .ensures))
+
+pub walk-block-spec : {M : Type 1} → statement M
+walk-block-spec =
+    tie.close
+    (tie.spec
+    share-requires
+    slice-aggregate-walk-lanes
+    walk-lanes-requires
+    tally-requires
+    pick-requires
+    pick-requires-2
+    returns)

@@ -1,0 +1,265 @@
+-- `lead` meets its contract. Each of the eight is on its run, and the first leads. Assumes nothing.
+use Prim.Native.Nat.{_-_, _<_}
+use native.Mathlib.Omega.{arith}
+use borrow.Author.Needs.{needs}
+use lib.ListN.{length, getD, take, length-set}
+use Rattle.lanes.specs.Offsets.{rowEnd}
+use Rattle.lanes.proofs.Leading.{On, Leads, in-column, on-start, on-more, leads-start, leads-on, leads-off, leads-end, eight}
+use Rattle.lanes.proofs.lead.Statement.{statement}
+use Rattle.lanes.proofs.lead.Tie as tie
+
+abbrev Inv-loop : tie.InvT-loop
+Inv-loop t part lane r0₀ r1₀ r2₀ r3₀ r4₀ r5₀ r6₀ r7₀ i₀ end₀ r0 r1 r2 r3 r4 r5 r6 r7 i end =
+    Leads t part i end r0₀ r0
+    × On t part i r0₀ r0
+    × On t part i r1₀ r1
+    × On t part i r2₀ r2
+    × On t part i r3₀ r3
+    × On t part i r4₀ r4
+    × On t part i r5₀ r5
+    × On t part i r6₀ r6
+    × On t part i r7₀ r7
+
+abbrev μ-loop : tie.MeasureT-loop
+μ-loop t part lane r0₀ r1₀ r2₀ r3₀ r4₀ r5₀ r6₀ r7₀ i₀ end₀ r0 r1 r2 r3 r4 r5 r6 r7 i end = end - i
+
+slice-read-r0 : tie.Need-slice-read-r0 Inv-loop μ-loop
+slice-read-r0 c = omega arith
+
+slice-read-r1 : tie.Need-slice-read-r1 Inv-loop μ-loop
+slice-read-r1 c = omega arith
+
+slice-read-r2 : tie.Need-slice-read-r2 Inv-loop μ-loop
+slice-read-r2 c = omega arith
+
+slice-read-r3 : tie.Need-slice-read-r3 Inv-loop μ-loop
+slice-read-r3 c = omega arith
+
+slice-read-r4 : tie.Need-slice-read-r4 Inv-loop μ-loop
+slice-read-r4 c = omega arith
+
+slice-read-r5 : tie.Need-slice-read-r5 Inv-loop μ-loop
+slice-read-r5 c = omega arith
+
+slice-read-r6 : tie.Need-slice-read-r6 Inv-loop μ-loop
+slice-read-r6 c = omega arith
+
+slice-read-r7 : tie.Need-slice-read-r7 Inv-loop μ-loop
+slice-read-r7 c = omega arith
+
+span-requires : tie.Need-span-requires Inv-loop μ-loop
+span-requires c κs = search needs
+
+loop-holds : tie.Need-loop-holds Inv-loop μ-loop
+loop-holds c =
+    let s = c .before .before .before .before .before .before .before .before .before .before .before .before in
+    let t = s .args .t .now in
+    let w = s .args .part .now in
+    let r = c .span .ensures in (
+      leads-start t (s .pre .0) w (r .0) (r .1) (r .2),
+      on-start t (s .pre .0) w (s .pre .1 0),
+      on-start t (s .pre .0) w (s .pre .1 1),
+      on-start t (s .pre .0) w (s .pre .1 2),
+      on-start t (s .pre .0) w (s .pre .1 3),
+      on-start t (s .pre .0) w (s .pre .1 4),
+      on-start t (s .pre .0) w (s .pre .1 5),
+      on-start t (s .pre .0) w (s .pre .1 6),
+      on-start t (s .pre .0) w (s .pre .1 7),
+    )
+
+shared-slice-read-symbol : tie.Need-shared-slice-read-symbol Inv-loop μ-loop
+shared-slice-read-symbol c = omega (arith, c .before .before .loop .inv .0 .within, c .before .loop-test .taken)
+
+cast-symbol : tie.Need-cast-symbol Inv-loop μ-loop
+cast-symbol c = search needs
+
+mul-column : tie.Need-mul-column Inv-loop μ-loop
+mul-column c = search needs
+
+sub-column : tie.Need-sub-column Inv-loop μ-loop
+sub-column c = search needs
+
+part-column-start : tie.Need-part-column-start Inv-loop μ-loop
+part-column-start c = search needs
+
+part-column-end : tie.Need-part-column-end Inv-loop μ-loop
+part-column-end c = search needs
+
+hop-requires : tie.Need-hop-requires Inv-loop μ-loop
+hop-requires c κs =
+    let l = c .before .before .before .loop in
+    let s = c .before .before .before .before .before .before .before .before .before .before .before .before .before .before .before .before in
+    in-column (s .args .t .now) (s .pre .0) (s .args .part .now) (getD (s .args .part .now) (l .i) 0) (l .r0) (l .inv .1 .low)
+
+hop-requires-2 : tie.Need-hop-requires-2 Inv-loop μ-loop
+hop-requires-2 c κs =
+    let l = c .before .before .before .before .loop in
+    let s = c .before .before .before .before .before .before .before .before .before .before .before .before .before .before .before .before .before in
+    in-column (s .args .t .now) (s .pre .0) (s .args .part .now) (getD (s .args .part .now) (l .i) 0) (l .r1) (l .inv .2 .low)
+
+hop-requires-3 : tie.Need-hop-requires-3 Inv-loop μ-loop
+hop-requires-3 c κs =
+    let l = c .before .before .before .before .before .loop in
+    let s = c .before .before .before .before .before .before .before .before .before .before .before .before .before .before .before .before .before .before in
+    in-column (s .args .t .now) (s .pre .0) (s .args .part .now) (getD (s .args .part .now) (l .i) 0) (l .r2) (l .inv .3 .low)
+
+hop-requires-4 : tie.Need-hop-requires-4 Inv-loop μ-loop
+hop-requires-4 c κs =
+    let l = c .before .before .before .before .before .before .loop in
+    let s = c .before .before .before .before .before .before .before .before .before .before .before .before .before .before .before .before .before .before .before in
+    in-column (s .args .t .now) (s .pre .0) (s .args .part .now) (getD (s .args .part .now) (l .i) 0) (l .r3) (l .inv .4 .low)
+
+hop-requires-5 : tie.Need-hop-requires-5 Inv-loop μ-loop
+hop-requires-5 c κs =
+    let l = c .before .before .before .before .before .before .before .loop in
+    let s = c .before .before .before .before .before .before .before .before .before .before .before .before .before .before .before .before .before .before .before .before in
+    in-column (s .args .t .now) (s .pre .0) (s .args .part .now) (getD (s .args .part .now) (l .i) 0) (l .r4) (l .inv .5 .low)
+
+hop-requires-6 : tie.Need-hop-requires-6 Inv-loop μ-loop
+hop-requires-6 c κs =
+    let l = c .before .before .before .before .before .before .before .before .loop in
+    let s = c .before .before .before .before .before .before .before .before .before .before .before .before .before .before .before .before .before .before .before .before .before in
+    in-column (s .args .t .now) (s .pre .0) (s .args .part .now) (getD (s .args .part .now) (l .i) 0) (l .r5) (l .inv .6 .low)
+
+hop-requires-7 : tie.Need-hop-requires-7 Inv-loop μ-loop
+hop-requires-7 c κs =
+    let l = c .before .before .before .before .before .before .before .before .before .loop in
+    let s = c .before .before .before .before .before .before .before .before .before .before .before .before .before .before .before .before .before .before .before .before .before .before in
+    in-column (s .args .t .now) (s .pre .0) (s .args .part .now) (getD (s .args .part .now) (l .i) 0) (l .r6) (l .inv .7 .low)
+
+hop-requires-8 : tie.Need-hop-requires-8 Inv-loop μ-loop
+hop-requires-8 c κs =
+    let l = c .before .before .before .before .before .before .before .before .before .before .loop in
+    let s = c .before .before .before .before .before .before .before .before .before .before .before .before .before .before .before .before .before .before .before .before .before .before .before in
+    in-column (s .args .t .now) (s .pre .0) (s .args .part .now) (getD (s .args .part .now) (l .i) 0) (l .r7) (l .inv .8 .low)
+
+add-i : tie.Need-add-i Inv-loop μ-loop
+add-i c = search needs
+
+loop-less : tie.Need-loop-less Inv-loop μ-loop
+loop-less c = search needs
+
+loop-again : tie.Need-loop-again Inv-loop μ-loop
+loop-again c =
+    let o = c .before .before .before .before .before .before .before .before .before .before .before .before .loop in
+    let h = c .before .before .before .before .before .before .before .before .before .before .before .loop-test .taken in
+    let s = c .before .before .before .before .before .before .before .before .before .before .before .before .before .before .before .before .before .before .before .before .before .before .before .before .before in
+    let t = s .args .t .now in
+    let w = s .args .part .now in
+    let table = s .pre .0 in
+    let l : o .i < length w = omega (arith, h, o .inv .0 .within) in (
+      leads-off t table w h (o .inv .1) (o .inv .0) (c .before .before .before .before .before .before .before .before .hop .ensures) (c .if1 .taken),
+      on-more t table w l (o .inv .1) (c .before .before .before .before .before .before .before .before .hop .ensures),
+      on-more t table w l (o .inv .2) (c .before .before .before .before .before .before .before .hop2 .ensures),
+      on-more t table w l (o .inv .3) (c .before .before .before .before .before .before .hop3 .ensures),
+      on-more t table w l (o .inv .4) (c .before .before .before .before .before .hop4 .ensures),
+      on-more t table w l (o .inv .5) (c .before .before .before .before .hop5 .ensures),
+      on-more t table w l (o .inv .6) (c .before .before .before .hop6 .ensures),
+      on-more t table w l (o .inv .7) (c .before .before .hop7 .ensures),
+      on-more t table w l (o .inv .8) (c .before .hop8 .ensures),
+    )
+
+loop-less-2 : tie.Need-loop-less-2 Inv-loop μ-loop
+loop-less-2 c = search needs
+
+loop-again-2 : tie.Need-loop-again-2 Inv-loop μ-loop
+loop-again-2 c =
+    let o = c .before .before .before .before .before .before .before .before .before .before .before .before .loop in
+    let h = c .before .before .before .before .before .before .before .before .before .before .before .loop-test .taken in
+    let s = c .before .before .before .before .before .before .before .before .before .before .before .before .before .before .before .before .before .before .before .before .before .before .before .before .before in
+    let t = s .args .t .now in
+    let w = s .args .part .now in
+    let table = s .pre .0 in
+    let l : o .i < length w = omega (arith, h, o .inv .0 .within) in (
+      leads-on t table w h (o .inv .1) (o .inv .0) (c .before .before .before .before .before .before .before .before .hop .ensures) (c .if1 .left),
+      on-more t table w l (o .inv .1) (c .before .before .before .before .before .before .before .before .hop .ensures),
+      on-more t table w l (o .inv .2) (c .before .before .before .before .before .before .before .hop2 .ensures),
+      on-more t table w l (o .inv .3) (c .before .before .before .before .before .before .hop3 .ensures),
+      on-more t table w l (o .inv .4) (c .before .before .before .before .before .hop4 .ensures),
+      on-more t table w l (o .inv .5) (c .before .before .before .before .hop5 .ensures),
+      on-more t table w l (o .inv .6) (c .before .before .before .hop6 .ensures),
+      on-more t table w l (o .inv .7) (c .before .before .hop7 .ensures),
+      on-more t table w l (o .inv .8) (c .before .hop8 .ensures),
+    )
+
+slice-write-lane : tie.Need-slice-write-lane Inv-loop μ-loop
+slice-write-lane c = omega arith
+
+slice-write-lane-2 : tie.Need-slice-write-lane-2 Inv-loop μ-loop
+slice-write-lane-2 c = simp length-set (omega arith)
+
+slice-write-lane-3 : tie.Need-slice-write-lane-3 Inv-loop μ-loop
+slice-write-lane-3 c = simp length-set (omega arith)
+
+slice-write-lane-4 : tie.Need-slice-write-lane-4 Inv-loop μ-loop
+slice-write-lane-4 c = simp length-set (omega arith)
+
+slice-write-lane-5 : tie.Need-slice-write-lane-5 Inv-loop μ-loop
+slice-write-lane-5 c = simp length-set (omega arith)
+
+slice-write-lane-6 : tie.Need-slice-write-lane-6 Inv-loop μ-loop
+slice-write-lane-6 c = simp length-set (omega arith)
+
+slice-write-lane-7 : tie.Need-slice-write-lane-7 Inv-loop μ-loop
+slice-write-lane-7 c = simp length-set (omega arith)
+
+slice-write-lane-8 : tie.Need-slice-write-lane-8 Inv-loop μ-loop
+slice-write-lane-8 c = simp length-set (omega arith)
+
+same-length : tie.Need-same-length Inv-loop μ-loop
+same-length c = simp length-set
+
+returns : tie.Need-returns Inv-loop μ-loop
+returns c =
+    let o = c .before .loop in
+    let s = c .before .before .before .before .before .before .before .before .before .before .before .before .before .before in
+    let t = s .args .t .now in
+    let w = s .args .part .now in
+    let n = leads-end t (s .pre .0) w (c .loop-test .left) (o .inv .0) in
+    (n, eight (λ k. rowEnd t (take (o .i) w) (getD (s .args .lane .now) k 0)) (s .args .lane .now) (s .pre .2) (o .inv .1 .is) (o .inv .2 .is) (o .inv .3 .is) (o .inv .4 .is) (o .inv .5 .is) (o .inv .6 .is) (o .inv .7 .is) (o .inv .8 .is))
+
+pub lead-spec : {M : Type 1} → statement M
+lead-spec =
+    tie.close
+    (tie.spec
+    Inv-loop
+    μ-loop
+    slice-read-r0
+    slice-read-r1
+    slice-read-r2
+    slice-read-r3
+    slice-read-r4
+    slice-read-r5
+    slice-read-r6
+    slice-read-r7
+    span-requires
+    loop-holds
+    shared-slice-read-symbol
+    cast-symbol
+    mul-column
+    sub-column
+    part-column-start
+    part-column-end
+    hop-requires
+    hop-requires-2
+    hop-requires-3
+    hop-requires-4
+    hop-requires-5
+    hop-requires-6
+    hop-requires-7
+    hop-requires-8
+    add-i
+    loop-less
+    loop-again
+    loop-less-2
+    loop-again-2
+    slice-write-lane
+    slice-write-lane-2
+    slice-write-lane-3
+    slice-write-lane-4
+    slice-write-lane-5
+    slice-write-lane-6
+    slice-write-lane-7
+    slice-write-lane-8
+    same-length
+    returns)
