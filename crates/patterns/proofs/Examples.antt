@@ -1,4 +1,5 @@
--- Worked examples: the trees of a|b*, (a|b)*a and of nothing, and what their rules are. Each is computed. Assumes nothing.
+-- Worked examples: the trees of a|b*, a*b and of nothing, and what their rules are. Each is
+-- computed. Assumes nothing.
 use mathlib.Core.Path.{_≡_, refl}
 use mathlib.Core.List.{[], _∷_}
 use lib.Dec.{lit<}

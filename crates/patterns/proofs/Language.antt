@@ -1,4 +1,6 @@
--- The rule of a pattern's positions accepts exactly the pattern's texts, and is well formed. Assumes at most 31 letters, each below 16.
+-- The rule of a pattern's positions accepts exactly the pattern's texts, and is well formed. A run
+-- from a position has a label that may follow it (`residual-of`), and what may follow it is the label
+-- of a run to a final state (`run-of`). Assumes at most 31 letters, each below 16.
 use mathlib.Core.Path.{_≡_, refl, sym, ap, _∙_, subst}
 use mathlib.Core.Logic.{_↔_, _⊎_, inl, inr, ⊎-elim}
 use mathlib.Core.Bool.{true, cond}

@@ -1,5 +1,5 @@
--- The letters of a pattern from the left: the letter at a place is the one with its number, and each
--- letter of a pattern that bytes stand for is a symbol. Assumes nothing.
+-- The letters of a pattern from the left: the letter at a place is the one with its number, and
+-- each letter of a pattern that bytes stand for is a symbol. Assumes nothing.
 use mathlib.Core.Path.{_≡_, refl, sym, ap, ap₂, _∙_}
 use mathlib.Core.Logic.{inl, inr}
 use mathlib.Core.List.{List, _++_}

@@ -5,6 +5,9 @@
 // The most bytes of a pattern.
 pub const PATTERN: usize = 128;
 
+// The same, in the type in which a reading counts open brackets.
+pub const DEPTH: u8 = PATTERN as u8;
+
 // The most letters of a pattern: a rule has 32 states, and one of them is the start.
 pub const LETTERS: usize = 31;
 

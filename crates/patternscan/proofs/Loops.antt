@@ -1,4 +1,5 @@
--- What a loop over the bytes says of the bytes that are left: one byte more, and at the end. Assumes nothing.
+-- What a loop over the bytes says of the bytes that are left: one byte more, and at the end.
+-- Assumes nothing.
 use mathlib.Core.Path.{_≡_, sym, ap, _∙_}
 use mathlib.Core.Bool.{Bool, true, false}
 use mathlib.Core.List.{List, _∷_}
@@ -17,7 +18,7 @@ use Rattle.patternscan.specs.Scanning.{step, scan, whole}
 use Rattle.patternscan.proofs.Decision.{scan-lost}
 
 -- the bytes from i on
-rest : (bs : List ℕ) (i : ℕ) → i < length bs → drop i bs ≡ getD bs i 0 ∷ drop (i + 1) bs
+pub rest : (bs : List ℕ) (i : ℕ) → i < length bs → drop i bs ≡ getD bs i 0 ∷ drop (i + 1) bs
 rest bs i h = rw (add-one, drop-cons bs i 0)
 
 module _ (bs : List ℕ) (i : ℕ) where

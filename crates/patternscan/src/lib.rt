@@ -1,5 +1,5 @@
-// The bytes of a pattern: what each byte is, whether they are a pattern at all, and how many letters
-// they have.
+// The bytes of a pattern: what each byte is, whether they are a pattern at all, and how many
+// letters they have.
 ghost use mathlib.Core.Path.{_≡_};
 ghost use Prim.Native.Nat.{_<_, _≤_};
 ghost use lib.ListN.{length};

@@ -1,4 +1,5 @@
--- `count_letters` meets its contract: the letters counted, with those from i on, are all. Assumes nothing.
+-- `count_letters` meets its contract: the letters counted, with those from i on, are all. Assumes
+-- nothing.
 use mathlib.Core.Path.{_≡_}
 use Prim.Native.Nat.{_+_, _-_, _≤_}
 use native.Mathlib.Omega.{arith}

@@ -1,4 +1,5 @@
--- `grammatical` meets its contract: the test of the bytes from i on is the test of all. Assumes nothing.
+-- `grammatical` meets its contract: the test of the bytes from i on is the test of all. Assumes
+-- nothing.
 use mathlib.Core.Path.{_≡_, refl}
 use Prim.Native.Nat.{_-_, _≤_}
 use native.Mathlib.Omega.{arith}
