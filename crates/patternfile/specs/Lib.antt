@@ -1,0 +1,2 @@
+-- In the order in which to read them.
+pub mod Answers
