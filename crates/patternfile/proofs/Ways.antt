@@ -45,11 +45,10 @@ use Rattle.patternfile.specs.Answers.{
 }
 
 -- the number decides the whole outcome
-outcome-by : Option ℕ → List ℕ → Writing
+abbrev pub outcome-by : Option ℕ → List ℕ → Writing
 outcome-by o b = record { number = o; length = length (patternFileBy o b); bytes = padded longestPatternFile (patternFileBy o b) }
 
-refuses : (b : List ℕ) {x : ℕ} → patternNumber b ≡ some x → refusedWith x ≡ patternOf b
-unfolding outcome-by
+pub refuses : (b : List ℕ) {x : ℕ} → patternNumber b ≡ some x → refusedWith x ≡ patternOf b
 refuses b e = ap (λ (o : Option ℕ). outcome-by o b) (sym e)
 
 module _ (b : List ℕ) where
@@ -107,6 +106,5 @@ same p q = cc
 pub written : (b : List ℕ) → patternNumber b ≡ none → {after : List ℕ} {end : ℕ}
     → Wrote (replicate longestPatternFile 0) 0 (fileOf (ruleRead b)) after end
     → record { number = none; length = end; bytes = after } ≡ patternOf b
-unfolding outcome-by
 written b e w =
     same (length-is longestPatternFile w) (padded-is longestPatternFile w) ∙ ap (λ (o : Option ℕ). outcome-by o b) (sym e)
