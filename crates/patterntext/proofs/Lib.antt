@@ -3,3 +3,4 @@ pub mod Answers
 pub mod Feeding
 pub mod Right
 pub mod Claims
+pub mod Rounds
