@@ -3,13 +3,12 @@
 use mathlib.Core.Path.{_≡_, refl, sym, ap, ap₂, _∙_, subst}
 use mathlib.Core.Logic.{_↔_, _⊎_, inl, inr}
 use mathlib.Core.Bool.{Bool, true, false, not}
-use mathlib.Core.List.{List, [], _∷_}
+use mathlib.Core.List.{List, []}
 use mathlib.Core.Option.{Option, none, some}
 use Prim.Native.Nat.{ℕ, zero, suc, _≤_, _<_}
 use native.Mathlib.Omega.{arith}
 use lib.ListN.{length, getD}
 use borrow.Author.Tests.{lt-ltb, le-ltb, ltb-true, ltb-false, not-true, not-false}
-use Rattle.base.specs.Conditions.{Condition, on}
 use Rattle.base.proofs.Tests.{not-both}
 use Rattle.base.proofs.Conditions.{named, first-law, none-law, first-here, first-past}
 use Rattle.masks.specs.Masks.{_∈_, single}
@@ -49,7 +48,7 @@ use Rattle.patternfile.specs.Answers.{
   fileIn,
 }
 use Rattle.patternfile.specs.Claims.{LetterIn, States, Refused-exactly, Accepted-for, Claims}
-use Rattle.patternfile.proofs.Ways.{refuses}
+use Rattle.patternfile.proofs.Ways.{from-31, from-32, refuses}
 use Rattle.patternfile.proofs.Examples.{answered}
 
 -- ---- the tests in the words of the grammar
@@ -90,28 +89,22 @@ module _ (b : List ℕ) where
       ((λ t. omega (arith, ltb-false 31 (length (lettersIn b)) t)), λ h. le-ltb 31 (length (lettersIn b)) (omega arith))
 
   -- ---- the numbers
-  abbrev from-31 : List Condition
-  from-31 = on 31 (noPattern b) ∷ on 32 (tooManyLetters b) ∷ []
-
-  abbrev from-32 : List Condition
-  from-32 = on 32 (tooManyLetters b) ∷ []
-
   is-30 : (patternNumber b ≡ some 30) ↔ (tooLong b ≡ true)
   unfolding named
-  is-30 = first-here 30 (tooLong b) from-31 refl
+  is-30 = first-here 30 (tooLong b) (from-31 b) refl
 
   is-31 : (patternNumber b ≡ some 31) ↔ ((tooLong b ≡ false) × (noPattern b ≡ true))
   unfolding named
   is-31 =
-      let a = first-past 30 31 (tooLong b) from-31 refl in
-      let c = first-here 31 (noPattern b) from-32 refl in
+      let a = first-past 30 31 (tooLong b) (from-31 b) refl in
+      let c = first-here 31 (noPattern b) (from-32 b) refl in
       ((λ e. (a .0 e .0, c .0 (a .0 e .1))), λ x. a .1 (x .0, c .1 (x .1)))
 
   is-32 : (patternNumber b ≡ some 32) ↔ ((tooLong b ≡ false) × (noPattern b ≡ false) × (tooManyLetters b ≡ true))
   unfolding named
   is-32 =
-      let a = first-past 30 32 (tooLong b) from-31 refl in
-      let c = first-past 31 32 (noPattern b) from-32 refl in
+      let a = first-past 30 32 (tooLong b) (from-31 b) refl in
+      let c = first-past 31 32 (noPattern b) (from-32 b) refl in
       let d = first-here 32 (tooManyLetters b) [] refl in (
         (λ e. let x = a .0 e in let y = c .0 (x .1) in (x .0, y .0, d .0 (y .1))),
         λ x. a .1 (x .0, c .1 (x .1, d .1 (x .2))),

@@ -8,12 +8,12 @@
 --   written               the file, by value
 use mathlib.Core.Path.{_≡_, sym, ap, _∙_, subst}
 use mathlib.Core.Bool.{true, false, not}
-use mathlib.Core.List.{List, [], _∷_}
+use mathlib.Core.List.{List}
 use mathlib.Core.Option.{Option, none, some}
 use Prim.Native.Nat.{ℕ, _≤_, _<_}
-use lib.ListN.{length, replicate}
+use lib.ListN.{length, drop, replicate}
 use borrow.Author.Tests.{lt-ltb, le-ltb}
-use Rattle.base.specs.Conditions.{firstOf, on}
+use Rattle.base.specs.Conditions.{Condition, firstOf}
 use Rattle.base.proofs.Conditions.{holds, skips}
 use Rattle.automaton.specs.declared.Rule.{Rule}
 use Rattle.text.specs.Writing.{Wrote}
@@ -37,6 +37,7 @@ use Rattle.patternfile.specs.Answers.{
   tooLong,
   noPattern,
   tooManyLetters,
+  patternConditions,
   patternNumber,
   patternFileBy,
   patternFile,
@@ -51,21 +52,28 @@ outcome-by o b = record { number = o; length = length (patternFileBy o b); bytes
 pub refuses : (b : List ℕ) {x : ℕ} → patternNumber b ≡ some x → refusedWith x ≡ patternOf b
 refuses b e = ap (λ (o : Option ℕ). outcome-by o b) (sym e)
 
+-- the conditions behind the first, and behind the second
+abbrev pub from-31 : List ℕ → List Condition
+from-31 b = drop 1 (patternConditions b)
+
+abbrev pub from-32 : List ℕ → List Condition
+from-32 b = drop 2 (patternConditions b)
+
 module _ (b : List ℕ) where
   pub on-30 : 128 < length b → refusedWith 30 ≡ patternOf b
   on-30 h =
-      refuses b (holds 30 (tooLong b) (firstOf (on 31 (noPattern b) ∷ on 32 (tooManyLetters b) ∷ [])) (lt-ltb 128 (length b) h))
+      refuses b (holds 30 (tooLong b) (firstOf (from-31 b)) (lt-ltb 128 (length b) h))
 
   module _ (short : length b ≤ 128) where
-    past-30 : patternNumber b ≡ firstOf (on 31 (noPattern b) ∷ on 32 (tooManyLetters b) ∷ [])
-    past-30 = skips 30 (tooLong b) (firstOf (on 31 (noPattern b) ∷ on 32 (tooManyLetters b) ∷ [])) (le-ltb 128 (length b) short)
+    past-30 : patternNumber b ≡ firstOf (from-31 b)
+    past-30 = skips 30 (tooLong b) (firstOf (from-31 b)) (le-ltb 128 (length b) short)
 
     pub on-31 : grammatical b ≡ false → refusedWith 31 ≡ patternOf b
-    on-31 e = refuses b (past-30 ∙ holds 31 (noPattern b) (firstOf (on 32 (tooManyLetters b) ∷ [])) (ap not e))
+    on-31 e = refuses b (past-30 ∙ holds 31 (noPattern b) (firstOf (from-32 b)) (ap not e))
 
     module _ (is : grammatical b ≡ true) where
-      past-31 : patternNumber b ≡ firstOf (on 32 (tooManyLetters b) ∷ [])
-      past-31 = past-30 ∙ skips 31 (noPattern b) (firstOf (on 32 (tooManyLetters b) ∷ [])) (ap not is)
+      past-31 : patternNumber b ≡ firstOf (from-32 b)
+      past-31 = past-30 ∙ skips 31 (noPattern b) (firstOf (from-32 b)) (ap not is)
 
       pub on-32 : 31 < length (lettersIn b) → refusedWith 32 ≡ patternOf b
       on-32 h = refuses b (past-31 ∙ holds 32 (tooManyLetters b) none (lt-ltb 31 (length (lettersIn b)) h))
