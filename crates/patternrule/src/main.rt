@@ -110,7 +110,9 @@ fn run(out: &mut [u8], block: &mut [u8])
 }
 
 fn main() {
-    if stdio::has_arguments(b"usage: patternrule < PATTERNS   (takes no arguments; see README.md)\n") {
+    if stdio::has_arguments(
+        b"usage: patternrule < PATTERNS   (takes no arguments; see README.md)\n",
+    ) {
         return;
     }
     let mut out = [0u8; ANSWERS];

@@ -53,8 +53,7 @@ loop-again : tie.Need-loop-again Inv-loop μ-loop
 loop-again c =
     let x = c .before .before .before .before .before .before .before .before .before .loop in
     let s = c .before .before .before .before .before .before .before .before .before .before .before .before in
-    let f = c .before .before .before .before .before .before .feed in
-    (
+    let f = c .before .before .before .before .before .before .feed in (
       f .kept .1 .0 ∙ x .inv .0,
       λ l′ text r.
           let t = a-round (length (s .args .out .now)) (x .at) (s .args .block .now) (x .line) (rw (x .inv .0) at (f .ensures)) r in
