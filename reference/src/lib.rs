@@ -7,6 +7,7 @@ pub mod faults;
 pub mod judge;
 pub mod lines;
 pub mod lists;
+pub mod patterns;
 pub mod random;
 pub mod rule;
 pub mod shrink;
