@@ -1,0 +1,40 @@
+// Reading a pattern, for C and Rust: the answer in numbers.
+ghost use mathlib.Core.Path.{_≡_};
+ghost use Rattle.patternfile.specs.Answers.{patternOf};
+ghost use Rattle.c_patterns.specs.Numbers.{patternShown};
+use patternfile::PatternAnswer;
+
+// Accepted is 1 or 0; where it is 0, refused has the number. The rule file has so many bytes, and
+// zeros after them; where the pattern is refused, none.
+#[repr(C)]
+pub struct PatternNumbers {
+    pub accepted: u8,
+    pub refused: u8,
+    pub length: u16,
+    pub bytes: [u8; patterns::FILE],
+}
+
+// The rule file of a pattern.
+#[no_mangle]
+pub extern "C" fn bellbadger_pattern(pattern: &[u8]) -> PatternNumbers
+    ensures { λ r. ⌜ r ≡ patternShown (patternOf (now (pattern .entry))) ⌝ }
+{
+    let result = patternfile::write_pattern(pattern);
+    let answer = result.answer;
+    let length = result.length as u16;
+    let bytes = result.bytes;
+    match answer {
+        PatternAnswer::Accepted => PatternNumbers {
+            accepted: 1,
+            refused: 0,
+            length,
+            bytes,
+        },
+        PatternAnswer::Refused(refused) => PatternNumbers {
+            accepted: 0,
+            refused,
+            length,
+            bytes,
+        },
+    }
+}

@@ -1,0 +1,79 @@
+-- `fill_targets` meets its contract: the cells before c are stored. Assumes nothing.
+use mathlib.Core.Path.{_≡_, refl, _∙_}
+use Prim.Native.Nat.{ℕ, _/_, _%_, _-_, _≤_, _<_}
+use native.Mathlib.Omega.{arith}
+use lib.ListN.{length, getD, length-set}
+use lib.Bits.{bitAnd}
+use borrow.Author.Needs.{needs}
+use Rattle.base.proofs.Lists.{cell-stored, is-listFrom}
+use Rattle.patternreader.proofs.fill_targets.Statement.{statement}
+use Rattle.patternreader.proofs.fill_targets.Tie as tie
+
+abbrev Inv-loop : tie.InvT-loop
+Inv-loop rows positionsOf t₀ c₀ t c = (c ≤ 512) × (length t ≡ 512) × ((k : ℕ) → k < c → getD t k 0 ≡ bitAnd (getD rows (k / 16) 0) (getD positionsOf (k % 16) 0))
+
+abbrev μ-loop : tie.MeasureT-loop
+μ-loop rows positionsOf t₀ c₀ t c = 512 - c
+
+loop-holds : tie.Need-loop-holds Inv-loop μ-loop
+loop-holds c = (omega arith, refl, λ k h. absurd (omega arith))
+
+mul-t : tie.Need-mul-t Inv-loop μ-loop
+mul-t c = omega arith
+
+array-read-t : tie.Need-array-read-t Inv-loop μ-loop
+array-read-t c = search needs
+
+mul-t-2 : tie.Need-mul-t-2 Inv-loop μ-loop
+mul-t-2 c = omega arith
+
+array-read-t-2 : tie.Need-array-read-t-2 Inv-loop μ-loop
+array-read-t-2 c = search needs
+
+mul-t-3 : tie.Need-mul-t-3 Inv-loop μ-loop
+mul-t-3 c = omega arith
+
+array-write-t : tie.Need-array-write-t Inv-loop μ-loop
+array-write-t c = search needs
+
+add-c : tie.Need-add-c Inv-loop μ-loop
+add-c c = omega arith
+
+loop-less : tie.Need-loop-less Inv-loop μ-loop
+loop-less c = omega arith
+
+loop-again : tie.Need-loop-again Inv-loop μ-loop
+loop-again c =
+    let x = c .before .loop in
+    let a = c .before .before .args in (
+      omega arith,
+      length-set (x .t) (x .c) (bitAnd (getD (a .t1) (x .c / 16) 0) (getD (a .t2) (x .c % 16) 0)) ∙ x .inv .1,
+      cell-stored (x .t) (λ k. bitAnd (getD (a .t1) (k / 16) 0) (getD (a .t2) (k % 16) 0)) (x .c) (bitAnd (getD (a .t1) (x .c / 16) 0) (getD (a .t2) (x .c % 16) 0))
+          (omega (arith, x .inv .1))
+          refl
+          (x .inv .2),
+    )
+
+returns : tie.Need-returns Inv-loop μ-loop
+returns c =
+    let x = c .before .loop in
+    let a = c .before .before .args in
+    is-listFrom (x .t) 512 (λ k. bitAnd (getD (a .t1) (k / 16) 0) (getD (a .t2) (k % 16) 0)) (x .inv .1) (λ k h. x .inv .2 k (omega arith))
+
+pub fill-targets-spec : {M : Type 1} → statement M
+fill-targets-spec =
+    tie.close
+    (tie.spec
+    Inv-loop
+    μ-loop
+    loop-holds
+    mul-t
+    array-read-t
+    mul-t-2
+    array-read-t-2
+    mul-t-3
+    array-write-t
+    add-c
+    loop-less
+    loop-again
+    returns)

@@ -1,0 +1,85 @@
+-- The proof of all that specs/Claims.antt claims. Assumes nothing.
+use mathlib.Core.Path.{_≡_, sym, ap, ap₂, _∙_, subst}
+use mathlib.Core.Logic.{_↔_, ⊎-elim}
+use mathlib.Core.Bool.{true}
+use mathlib.Core.List.{List, []}
+use mathlib.Core.Option.{Option, none}
+use Prim.Native.Nat.{ℕ, suc, _+_, _/_, _%_}
+use native.Mathlib.Omega.{arith}
+use lib.Bits.{bitAnd}
+use lib.ListN.{length}
+use Rattle.base.proofs.Lists.{length-listFrom}
+use Rattle.masks.proofs.Laws.{single-law}
+use Rattle.automaton.specs.declared.Rule.{Rule}
+use Rattle.automaton.specs.Automaton.{Arc, Accepts}
+use Rattle.automaton.specs.Rules.{automatonOf}
+use Rattle.ruleformat.specs.Refusals.{refusal}
+use Rattle.ruleformat.specs.Reader.{ruleOf, ruleBy, readOf}
+use Rattle.ruleformat.specs.Language.{automatonIn}
+use Rattle.ruleformat.specs.Writing.{fileOf}
+use Rattle.ruleformat.proofs.Written.{file-accepted, rule-is}
+use Rattle.ruleformat.proofs.Claims as format
+use Rattle.patterns.specs.Patterns.{Pattern, Matches}
+use Rattle.patterns.specs.Grammar.{StandsFor}
+use Rattle.patterns.specs.Positions.{nullable, nextStates, positionsOf, positionRule}
+use Rattle.patterns.specs.Claims.{Few, Letter, Claims}
+use Rattle.patterns.proofs.Theory.{letterAt, began-empty, begins}
+use Rattle.patterns.proofs.Numbers.{positions-of}
+use Rattle.patterns.proofs.Language as theory
+use Rattle.patterns.proofs.Letters.{Numbered, counted, numbered, lettered}
+use Rattle.patterns.proofs.Size.{small-file}
+
+empty-text : (p : Pattern) → (nullable p ≡ true) ↔ Matches p []
+empty-text p = (began-empty p, λ m. ⊎-elim (λ h. h .0) (λ e. absurd (theory.cons-not-nil (sym (e .shape)))) (begins p [] m))
+
+language : (p : Pattern) (b : List ℕ) → StandsFor p b → Few p → (w : List ℕ) → Accepts (automatonOf (positionRule p)) w ↔ Matches p w
+language p b s few w = theory.language p few (lettered s) w
+
+letter-at : (p : Pattern) {i s : ℕ} → Numbered p 0 i s → Letter p i s
+letter-at p {s = s} n =
+    let e : suc (n .index) ≡ suc (0 + n .index) = omega arith in
+    subst (λ (i : ℕ). Letter p i s) (e ∙ sym (n .is)) (n .within, n .there)
+
+arc-letter : (p : Pattern) → Few p → (q s i : ℕ) → Arc (automatonOf (positionRule p)) q s i → Letter p i s
+arc-letter p few q s i a =
+    let m = positions-of p 0 s i (theory.target-of p q s i (omega (arith, a .source)) (a .symbol) (a .there) .1) in
+    let n : Numbered p 0 i (letterAt p (m .at)) =
+    subst (λ (x : ℕ). Numbered p 0 x (letterAt p (m .at))) (m .is) (numbered p 0 (m .at)) in
+    letter-at p (subst (λ (x : ℕ). Numbered p 0 i x) (m .holds) n)
+
+module _ (p : Pattern) (few : Few p) where
+  accepted : refusal (fileOf (positionRule p)) ≡ none
+  accepted = file-accepted (positionRule p) (theory.well-formed p few)
+
+  cells : length (positionRule p .targets) ≡ 512
+  cells = length-listFrom 0 512 (λ c. bitAnd (nextStates p (c / 16)) (positionsOf p 0 (c % 16)))
+
+  holds : ruleOf (fileOf (positionRule p)) ≡ positionRule p
+  holds = rule-is (positionRule p) (theory.well-formed p few) cells
+
+  file-read : readOf (fileOf (positionRule p)) ≡ record { number = none; rule = positionRule p }
+  file-read =
+      ap₂ (λ (o : Option ℕ) (x : Rule). record { number = o; rule = x }) accepted
+      (ap (λ (o : Option ℕ). ruleBy o (fileOf (positionRule p))) accepted ∙ holds)
+
+-- from the file's automaton to that of its rule, which is the pattern's
+file-language : (p : Pattern) (b : List ℕ) → StandsFor p b → Few p → (w : List ℕ)
+    → Accepts (automatonIn (fileOf (positionRule p))) w ↔ Matches p w
+file-language p b s few w =
+    let e = format.claims .language (fileOf (positionRule p)) (accepted p few) w in
+    let m : Accepts (automatonOf (ruleOf (fileOf (positionRule p)))) w ↔ Matches p w =
+    subst (λ (x : Rule). Accepts (automatonOf x) w ↔ Matches p w) (sym (holds p few)) (language p b s few w) in
+    ((λ a. m .0 (e .0 a)), λ a. e .1 (m .1 a))
+
+pub claims : Claims
+claims = record {
+  empty-text = empty-text;
+  counted = counted;
+  well-formed = theory.well-formed;
+  language = language;
+  initial = λ p q. single-law 0 q;
+  arc-letter = arc-letter;
+  small-file = small-file;
+  file-read = file-read;
+  file-language = file-language;
+}

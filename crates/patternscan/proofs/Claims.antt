@@ -1,0 +1,7 @@
+-- The proof of all that specs/Claims.antt claims. Assumes nothing.
+use Rattle.patternscan.specs.Claims.{Claims}
+use Rattle.patternscan.proofs.Decision.{decides}
+use Rattle.patternscan.proofs.Letters as letters
+
+pub claims : Claims
+claims = record { decides = decides; lettered = λ p b s. letters.lettered s }

@@ -1,0 +1,4 @@
+-- In the order in which to read them.
+pub mod Answers
+pub mod Lines
+pub mod Claims
