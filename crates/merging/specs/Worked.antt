@@ -48,14 +48,14 @@ abbrev pub merges : List Case
 merges =
     -- the pairs are (0, 0), (0, 1), (0, 2), (1, 0), (1, 1), (1, 2)
     case Both ruleE ruleA
-        (merged (rule 6 2 1 4 (table mostStates (24 ∷ 1 ∷ 0 ∷ 4 ∷ 0 ∷ 0 ∷ 3 ∷ 8 ∷ 0 ∷ 32 ∷ [])))) ∷
+    (merged (rule 6 2 1 4 (table mostStates (24 ∷ 1 ∷ 0 ∷ 4 ∷ 0 ∷ 0 ∷ 3 ∷ 8 ∷ 0 ∷ 32 ∷ [])))) ∷
     case Interleaving ruleE ruleA
-        (merged
-        (rule 6 2 1 4
-        (table mostStates (11 ∷ 1 ∷ 16 ∷ 6 ∷ 32 ∷ 4 ∷ 25 ∷ 8 ∷ 2 ∷ 48 ∷ 4 ∷ 32 ∷ [])))) ∷
+    (merged
+    (rule 6 2 1 4
+    (table mostStates (11 ∷ 1 ∷ 16 ∷ 6 ∷ 32 ∷ 4 ∷ 25 ∷ 8 ∷ 2 ∷ 48 ∷ 4 ∷ 32 ∷ [])))) ∷
     -- the states are E's 0 and 1, and A's 0, 1 and 2 after them
     case Either ruleE ruleA
-        (merged (rule 5 2 5 17 (table mostStates (2 ∷ 1 ∷ 1 ∷ 2 ∷ 12 ∷ 4 ∷ 0 ∷ 16 ∷ [])))) ∷
+    (merged (rule 5 2 5 17 (table mostStates (2 ∷ 1 ∷ 1 ∷ 2 ∷ 12 ∷ 4 ∷ 0 ∷ 16 ∷ [])))) ∷
     -- 32 states in the result
     case Both (noArcs 4 1) (noArcs 8 1) (merged (noArcs 32 1)) ∷
     case Interleaving (noArcs 32 16) (noArcs 1 16) (merged (noArcs 32 16)) ∷
@@ -72,7 +72,7 @@ merges =
     case Both ruleA (noArcs 32 17) (refused 4) ∷
     case Either ruleA (rule 3 1 1 8 noTargets) (refused 6) ∷
     case Interleaving (rule 32 2 1 1 (table mostStates (0 ∷ 1 ∷ []))) (rule 2 1 1 1 (table mostStates (0 ∷ 1 ∷ [])))
-        (refused 8) ∷
+    (refused 8) ∷
     case Both (noArcs 32 17) (noArcs 33 1) (refused 4) ∷
     case Either (rule 3 1 1 8 noTargets) (noArcs 0 0) (refused 6) ∷ []
 
