@@ -1,0 +1,37 @@
+-- `put_header` meets its contract. Assumes nothing.
+use Rattle.rulewriter.proofs.Parts.{both}
+use borrow.Author.Needs.{needs}
+use Rattle.rulewriter.proofs.put_header.Statement.{statement}
+use Rattle.rulewriter.proofs.put_header.Tie as tie
+
+put-byte-requires : tie.Need-put-byte-requires
+put-byte-requires c κs = search needs
+
+put-byte-requires-2 : tie.Need-put-byte-requires-2
+put-byte-requires-2 c κs = search needs
+
+put-word-requires : tie.Need-put-word-requires
+put-word-requires c κs = search needs
+
+put-word-requires-2 : tie.Need-put-word-requires-2
+put-word-requires-2 c κs = search needs
+
+same-length : tie.Need-same-length
+same-length c = search needs
+
+returns : tie.Need-returns
+returns c =
+    both (c .before .before .before .before .before .before .before .before .before .before .before .before .before .before .before .before .before .pre) (c .before .before .before .before .before .before .before .before .before .before .before .before .before .before .put-byte .ensures) λ r.
+    both r (c .before .before .before .before .before .before .before .before .before .before .put-byte2 .ensures) λ s.
+    both s (c .before .before .before .before .before .before .put-word .ensures) λ _. c .before .before .put-word2 .ensures
+
+pub put-header-spec : {M : Type 1} → statement M
+put-header-spec =
+    tie.close
+    (tie.spec
+    put-byte-requires
+    put-byte-requires-2
+    put-word-requires
+    put-word-requires-2
+    same-length
+    returns)
