@@ -55,7 +55,7 @@ pub enum Bytes {
 }
 
 // The value of a hex digit of either case; 16 for any other byte.
-fn hex_value(c: u8) -> u8
+pub fn hex_value(c: u8) -> u8
     ensures { λ r. ⌜ r ≡ hexValue c ⌝ }
 {
     if c < 48 {

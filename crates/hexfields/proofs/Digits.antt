@@ -1,0 +1,36 @@
+-- Bytes as hex digits: one more byte, and how many digits there are. Assumes nothing.
+use mathlib.Core.Path.{_≡_, refl, ap, _∙_}
+use mathlib.Core.List.{List, [], _∷_, _++_, append-assoc, append-nil}
+use Prim.Native.Nat.{ℕ, _+_, _*_, _<_}
+use native.Mathlib.Numerals.{add-one}
+use native.Mathlib.Omega.{arith}
+use lib.ListN.{length, getD, take, length-append}
+use lib.Seq.{take-suc}
+use Rattle.text.specs.Numerals.{hex}
+use Rattle.text.proofs.Digits.{hex-length}
+use Rattle.fields.specs.Claims.{digitsOf}
+
+pub digits-length : (b : List ℕ) → length (digitsOf b) ≡ 2 * length b
+unfolding digitsOf
+digits-length [] = refl
+digits-length (x ∷ b) =
+    let e = digits-length b in
+    length-append (hex 2 x) (digitsOf b) ∙ omega (arith, hex-length 2 x)
+
+digits-append : (u v : List ℕ) → digitsOf (u ++ v) ≡ digitsOf u ++ digitsOf v
+unfolding digitsOf
+digits-append [] v = refl
+digits-append (x ∷ u) v = rw (digits-append u v, append-assoc)
+
+digits-one : (x : ℕ) → digitsOf (x ∷ []) ≡ hex 2 x
+unfolding digitsOf
+digits-one x = append-nil (hex 2 x)
+
+pub digits-none : (b : List ℕ) → digitsOf (take 0 b) ≡ []
+unfolding digitsOf
+digits-none b = refl
+
+pub digits-more : (b : List ℕ) (i : ℕ) → i < length b
+    → digitsOf (take (i + 1) b) ≡ digitsOf (take i b) ++ hex 2 (getD b i 0)
+digits-more b i h =
+    rw (add-one, take-suc b i 0 h) (digits-append (take i b) (getD b i 0 ∷ []) ∙ ap (λ (x : List ℕ). digitsOf (take i b) ++ x) (digits-one (getD b i 0)))

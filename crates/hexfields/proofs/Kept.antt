@@ -1,0 +1,163 @@
+-- What the code keeps of a field. Assumes nothing.
+--
+--   kept-none, kept-room, kept-full   no byte; one more where there is room, and where there is none
+--   dash-ends, even-ends, ..          the field ends, by what was kept
+--   from-nothing, ..                  it goes on
+use mathlib.Core.Path.{_≡_, refl, sym, ap, _∙_, subst}
+use mathlib.Core.Bool.{true, false}
+use mathlib.Core.List.{List, [], _∷_, _++_}
+use mathlib.Core.Option.{none, some}
+use Prim.Native.Nat.{ℕ, suc, _+_, _*_, _%_, _<_, _≤_}
+use native.Mathlib.Nat.{mod-eq-of-lt}
+use native.Mathlib.Numerals.{add-one}
+use native.Mathlib.Omega.{arith}
+use borrow.Author.Tests.{lt-ltb, le-ltb, eq-eqb, ne-eqb}
+use lib.ListN.{length, take, set, length-append, length-set, length-take}
+use lib.Seq.{take-all, take-append-le, take-suc-set, length-take-le}
+use Rattle.fields.specs.Bytes.{hexValue}
+use Rattle.hexfields.specs.declared.Part.{Part}
+use Rattle.hexfields.specs.declared.Part.the-variants as part
+use Rattle.hexfields.specs.Fields.{Begun, nothing, dash, even, odd, stray, isDigit, goesOn, saysNow}
+use Rattle.hexfields.specs.Reading.{Kept, PutsPair, Keeps, keeps-nothing, keeps-dash, keeps-even, keeps-odd, keeps-stray, ReadsOn, Tells}
+
+-- ---- the bytes
+pub kept-none : (buffer : List ℕ) → Kept [] 0 buffer
+kept-none buffer =
+    let e : take (length buffer) [] ≡ [] = take-all {A = ℕ} (length buffer) [] (omega arith) in
+    record { size = sym (ap length e); is = sym e }
+
+module _ (before : List ℕ) (at high low : ℕ) where
+  abbrev byte : ℕ
+  byte = 16 * (high % 16) + low % 16
+
+  pub kept-room : at < length before → PutsPair before at high low (set before at byte) (at + 1)
+  kept-room l = record {
+    same-size = length-set before at byte;
+    one-more = λ bytes h1 h2 k.
+        let v : ℕ = 16 * high + low in
+        let same : byte ≡ v = omega arith in
+        let size : length bytes ≡ at = omega (arith, k .size, length-take (length before) bytes) in
+        let longer : length (bytes ++ (v ∷ [])) ≡ at + 1 = length-append bytes (v ∷ []) ∙ omega arith in
+        let room = length-set before at byte in
+        let whole : take (length (set before at byte)) (bytes ++ (v ∷ [])) ≡ bytes ++ (v ∷ []) =
+        take-all (length (set before at byte)) (bytes ++ (v ∷ [])) (omega arith) in
+        let front : take at before ≡ bytes = k .is ∙ take-all (length before) bytes (omega arith) in
+        record {
+          size = sym longer ∙ sym (ap length whole);
+          is =
+              rw add-one (take-suc-set before at byte l)
+              ∙ ap (λ (x : List ℕ). x ++ (byte ∷ [])) front
+              ∙ ap (λ (x : ℕ). bytes ++ (x ∷ [])) same
+              ∙ sym whole;
+        };
+  }
+
+  pub kept-full : length before ≤ at → PutsPair before at high low before at
+  kept-full l = record {
+    same-size = refl;
+    one-more = λ bytes h1 h2 k.
+        let v : ℕ = 16 * high + low in
+        let long : length before ≤ length bytes = omega (arith, k .size, length-take (length before) bytes) in
+        let same : take (length before) (bytes ++ (v ∷ [])) ≡ take (length before) bytes = take-append-le (length before) bytes (v ∷ []) long in
+        record { size = k .size ∙ sym (ap length same); is = k .is ∙ sym same };
+  }
+
+-- ---- the end, by what was kept
+module _ (p : Part) where
+  pub dash-ends : p ≡ part.Dash → (b : Begun) (buffer : List ℕ) → Keeps b p buffer → Tells (saysNow b) (some 0) buffer
+  dash-ends e b buffer k = by-case b (subst (λ (x : Part). Keeps b x buffer) e k)
+    where
+      by-case : (b : Begun) → Keeps b part.Dash buffer → Tells (saysNow b) (some 0) buffer
+      by-case b keeps-dash = (0, refl, kept-none buffer)
+
+  pub even-ends : (n : ℕ) → p ≡ part.Even n → (b : Begun) (buffer : List ℕ) → Keeps b p buffer → Tells (saysNow b) (some n) buffer
+  even-ends n e b buffer k = by-case b (subst (λ (x : Part). Keeps b x buffer) e k)
+    where
+      by-case : (b : Begun) → Keeps b (part.Even n) buffer → Tells (saysNow b) (some n) buffer
+      by-case b (keeps-even k) = (n, refl, k)
+
+  pub nothing-ends : p ≡ part.Nothing → (b : Begun) (buffer : List ℕ) → Keeps b p buffer → Tells (saysNow b) none buffer
+  nothing-ends e b buffer k = by-case b (subst (λ (x : Part). Keeps b x buffer) e k)
+    where
+      by-case : (b : Begun) → Keeps b part.Nothing buffer → Tells (saysNow b) none buffer
+      by-case b keeps-nothing = refl
+
+  pub odd-ends : (n high : ℕ) → p ≡ part.Odd n high → (b : Begun) (buffer : List ℕ) → Keeps b p buffer → Tells (saysNow b) none buffer
+  odd-ends n high e b buffer k = by-case b (subst (λ (x : Part). Keeps b x buffer) e k)
+    where
+      by-case : (b : Begun) → Keeps b (part.Odd n high) buffer → Tells (saysNow b) none buffer
+      by-case b (keeps-odd h k) = refl
+
+  pub stray-ends : p ≡ part.Stray → (b : Begun) (buffer : List ℕ) → Keeps b p buffer → Tells (saysNow b) none buffer
+  stray-ends e b buffer k = by-case b (subst (λ (x : Part). Keeps b x buffer) e k)
+    where
+      by-case : (b : Begun) → Keeps b part.Stray buffer → Tells (saysNow b) none buffer
+      by-case b keeps-stray = refl
+
+-- ---- a byte more, by what was kept
+module _ (before : List ℕ) (p : Part) (c v : ℕ) (is : v ≡ hexValue c) where
+  digit : v < 16 → isDigit c ≡ true
+  digit h = lt-ltb (hexValue c) 16 (rw is at h)
+
+  other : 16 ≤ v → isDigit c ≡ false
+  other h = le-ltb (hexValue c) 16 (rw is at h)
+
+  -- the buffer stays as it is
+  stays : (o r : Part) → p ≡ o → ((b : Begun) → Keeps b o before → Keeps (goesOn b c) r before) → ReadsOn before p c before r
+  stays o r e law = record { same-size = refl; goes-on = λ b k. law b (subst (λ (x : Part). Keeps b x before) e k) }
+
+  pub nothing-digit : p ≡ part.Nothing → v < 16 → ReadsOn before p c before (part.Odd 0 v)
+  nothing-digit e h = stays part.Nothing (part.Odd 0 v) e by-case
+    where
+      by-case : (b : Begun) → Keeps b part.Nothing before → Keeps (goesOn b c) (part.Odd 0 v) before
+      by-case b keeps-nothing = rw (digit h, ← is) (keeps-odd h (kept-none before))
+
+  pub nothing-dash : p ≡ part.Nothing → 16 ≤ v → c ≡ 45 → ReadsOn before p c before part.Dash
+  nothing-dash e h d = stays part.Nothing part.Dash e by-case
+    where
+      by-case : (b : Begun) → Keeps b part.Nothing before → Keeps (goesOn b c) part.Dash before
+      by-case b keeps-nothing = rw (other h, eq-eqb c 45 d) keeps-dash
+
+  pub nothing-stray : p ≡ part.Nothing → 16 ≤ v → (c ≡ 45 → ⊥) → ReadsOn before p c before part.Stray
+  nothing-stray e h d = stays part.Nothing part.Stray e by-case
+    where
+      by-case : (b : Begun) → Keeps b part.Nothing before → Keeps (goesOn b c) part.Stray before
+      by-case b keeps-nothing = rw (other h, ne-eqb c 45 d) keeps-stray
+
+  pub even-digit : (n : ℕ) → p ≡ part.Even n → v < 16 → ReadsOn before p c before (part.Odd n v)
+  even-digit n e h = stays (part.Even n) (part.Odd n v) e by-case
+    where
+      by-case : (b : Begun) → Keeps b (part.Even n) before → Keeps (goesOn b c) (part.Odd n v) before
+      by-case b (keeps-even k) = rw (digit h, ← is) (keeps-odd h k)
+
+  pub even-stray : (n : ℕ) → p ≡ part.Even n → 16 ≤ v → ReadsOn before p c before part.Stray
+  even-stray n e h = stays (part.Even n) part.Stray e by-case
+    where
+      by-case : (b : Begun) → Keeps b (part.Even n) before → Keeps (goesOn b c) part.Stray before
+      by-case b (keeps-even k) = rw (other h) keeps-stray
+
+  pub odd-digit : (n high : ℕ) → p ≡ part.Odd n high → v < 16 → (after : List ℕ) (m : ℕ) → PutsPair before n high v after m
+      → ReadsOn before p c after (part.Even m)
+  odd-digit n high e h after m puts =
+      record { same-size = puts .same-size; goes-on = λ b k. by-case b (subst (λ (x : Part). Keeps b x before) e k) }
+    where
+      by-case : (b : Begun) → Keeps b (part.Odd n high) before → Keeps (goesOn b c) (part.Even m) after
+      by-case b (keeps-odd {bytes} l k) = rw (digit h, ← is) (keeps-even (puts .one-more bytes l h k))
+
+  pub odd-stray : (n high : ℕ) → p ≡ part.Odd n high → 16 ≤ v → ReadsOn before p c before part.Stray
+  odd-stray n high e h = stays (part.Odd n high) part.Stray e by-case
+    where
+      by-case : (b : Begun) → Keeps b (part.Odd n high) before → Keeps (goesOn b c) part.Stray before
+      by-case b (keeps-odd l k) = rw (other h) keeps-stray
+
+  pub dash-stray : p ≡ part.Dash → ReadsOn before p c before part.Stray
+  dash-stray e = stays part.Dash part.Stray e by-case
+    where
+      by-case : (b : Begun) → Keeps b part.Dash before → Keeps (goesOn b c) part.Stray before
+      by-case b keeps-dash = keeps-stray
+
+  pub stray-stray : p ≡ part.Stray → ReadsOn before p c before part.Stray
+  stray-stray e = stays part.Stray part.Stray e by-case
+    where
+      by-case : (b : Begun) → Keeps b part.Stray before → Keeps (goesOn b c) part.Stray before
+      by-case b keeps-stray = keeps-stray

@@ -1,0 +1,50 @@
+-- `end` meets its contract. Assumes nothing.
+use borrow.Author.Needs.{needs}
+use Rattle.hexfields.proofs.Kept.{dash-ends, even-ends, nothing-ends, odd-ends, stray-ends}
+use Rattle.hexfields.proofs.end.Statement.{statement}
+use Rattle.hexfields.proofs.end.Tie as tie
+
+enum-told : tie.Need-enum-told
+enum-told c = search needs
+
+enum-known-part : tie.Need-enum-known-part
+enum-known-part c = search needs
+
+enum-told-2 : tie.Need-enum-told-2
+enum-told-2 c = search needs
+
+enum-told-3 : tie.Need-enum-told-3
+enum-told-3 c = search needs
+
+enum-told-4 : tie.Need-enum-told-4
+enum-told-4 c = search needs
+
+returns : tie.Need-returns
+returns c = search (needs, dash-ends)
+
+returns-2 : tie.Need-returns-2
+returns-2 c = search (needs, even-ends)
+
+returns-3 : tie.Need-returns-3
+returns-3 c = search (needs, nothing-ends)
+
+returns-4 : tie.Need-returns-4
+returns-4 c = search (needs, odd-ends)
+
+returns-5 : tie.Need-returns-5
+returns-5 c = search (needs, stray-ends)
+
+pub end-spec : {M : Type 1} → statement M
+end-spec =
+    tie.close
+    (tie.spec
+    enum-told
+    enum-known-part
+    enum-told-2
+    enum-told-3
+    enum-told-4
+    returns
+    returns-2
+    returns-3
+    returns-4
+    returns-5)

@@ -1,0 +1,47 @@
+-- What the code keeps of a field that it reads into a lent buffer: of the bytes, as many as the
+-- buffer has room for, at its start.
+--
+--   Kept bytes n buffer       the first n bytes of the buffer are the bytes, as many as fit
+--   PutsPair before at ..     whatever bytes it kept, it keeps the one of a pair of digits after them
+--   Keeps b part buffer       `part` and the buffer keep what was read
+--   ReadsOn before part c ..  whatever they kept, with the byte c more they keep it; the buffer
+--                             keeps its length
+--   Tells o said buffer       the bytes o, if there are any, stand at the start of the buffer
+--   Ends part said            whatever they kept, the field that ends here says so
+use mathlib.Core.Path.{_≡_}
+use mathlib.Core.List.{List, [], _∷_, _++_}
+use mathlib.Core.Option.{Option, none, some}
+use Prim.Native.Nat.{ℕ, _+_, _*_, _<_}
+use lib.ListN.{length, take}
+use Rattle.fields.specs.declared.Bytes.{Bytes}
+use Rattle.fields.specs.Bytes.{bytesMeans}
+use Rattle.hexfields.specs.declared.Part.{Part}
+use Rattle.hexfields.specs.declared.Part.the-variants as part
+use Rattle.hexfields.specs.Fields.{Begun, nothing, dash, even, odd, stray, goesOn, saysNow}
+
+pub record Kept (bytes : List ℕ) (n : ℕ) (buffer : List ℕ) : Type 0 where
+  pub size : n ≡ length (take (length buffer) bytes)
+  pub is : take n buffer ≡ take (length buffer) bytes
+
+pub data Keeps : Begun → Part → List ℕ → Type 0 where
+  keeps-nothing : {buffer : List ℕ} → Keeps nothing part.Nothing buffer
+  keeps-dash : {buffer : List ℕ} → Keeps dash part.Dash buffer
+  keeps-even : {bytes buffer : List ℕ} {n : ℕ} → Kept bytes n buffer → Keeps (even bytes) (part.Even n) buffer
+  keeps-odd : {bytes buffer : List ℕ} {n high : ℕ} → high < 16 → Kept bytes n buffer → Keeps (odd bytes high) (part.Odd n high) buffer
+  keeps-stray : {buffer : List ℕ} → Keeps stray part.Stray buffer
+
+pub record PutsPair (before : List ℕ) (at high low : ℕ) (after : List ℕ) (end : ℕ) : Type 0 where
+  pub same-size : length after ≡ length before
+  pub one-more : (bytes : List ℕ) → high < 16 → low < 16 → Kept bytes at before
+      → Kept (bytes ++ ((16 * high + low) ∷ [])) end after
+
+pub record ReadsOn (before : List ℕ) (p : Part) (c : ℕ) (after : List ℕ) (r : Part) : Type 0 where
+  pub same-size : length after ≡ length before
+  pub goes-on : (b : Begun) → Keeps b p before → Keeps (goesOn b c) r after
+
+abbrev pub Tells : Option (List ℕ) → Option ℕ → List ℕ → Type 0
+Tells none said buffer = said ≡ none
+Tells (some bytes) said buffer = (n : ℕ) × (said ≡ some n) × Kept bytes n buffer
+
+abbrev pub Ends : Part → Bytes → Type 0
+Ends p said = (b : Begun) (buffer : List ℕ) → Keeps b p buffer → Tells (saysNow b) (bytesMeans said) buffer
