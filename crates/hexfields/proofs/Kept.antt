@@ -1,8 +1,8 @@
 -- What the code keeps of a field. Assumes nothing.
 --
 --   kept-none, kept-room, kept-full   no byte; one more where there is room, and where there is none
---   dash-ends, even-ends, ..          the field ends, by what was kept
---   from-nothing, ..                  it goes on
+--   told, end-nothing, ..             the field ends here
+--   nothing-digit, ..                 it goes on
 use mathlib.Core.Path.{_≡_, refl, sym, ap, _∙_, subst}
 use mathlib.Core.Bool.{true, false}
 use mathlib.Core.List.{List, [], _∷_, _++_}
@@ -18,7 +18,7 @@ use Rattle.fields.specs.Bytes.{hexValue}
 use Rattle.hexfields.specs.declared.Part.{Part}
 use Rattle.hexfields.specs.declared.Part.the-variants as part
 use Rattle.hexfields.specs.Fields.{Begun, nothing, dash, even, odd, stray, isDigit, goesOn, saysNow}
-use Rattle.hexfields.specs.Reading.{Kept, PutsPair, Keeps, keeps-nothing, keeps-dash, keeps-even, keeps-odd, keeps-stray, ReadsOn, Tells}
+use Rattle.hexfields.specs.Reading.{Kept, PutsPair, Keeps, keeps-nothing, keeps-dash, keeps-even, keeps-odd, keeps-stray, ReadsOn, endOf, Tells}
 
 -- ---- the bytes
 pub kept-none : (buffer : List ℕ) → Kept [] 0 buffer
@@ -62,37 +62,30 @@ module _ (before : List ℕ) (at high low : ℕ) where
         record { size = k .size ∙ sym (ap length same); is = k .is ∙ sym same };
   }
 
--- ---- the end, by what was kept
+-- ---- the end
+pub told : (b : Begun) (p : Part) (buffer : List ℕ) → Keeps b p buffer → Tells (saysNow b) (endOf p) buffer
+told b p buffer keeps-nothing = refl
+told b p buffer keeps-dash = (0, refl, kept-none buffer)
+told b p buffer (keeps-even {n} k) = (n, refl, k)
+told b p buffer (keeps-odd h k) = refl
+told b p buffer keeps-stray = refl
+
+-- `end`, by the case
 module _ (p : Part) where
-  pub dash-ends : p ≡ part.Dash → (b : Begun) (buffer : List ℕ) → Keeps b p buffer → Tells (saysNow b) (some 0) buffer
-  dash-ends e b buffer k = by-case b (subst (λ (x : Part). Keeps b x buffer) e k)
-    where
-      by-case : (b : Begun) → Keeps b part.Dash buffer → Tells (saysNow b) (some 0) buffer
-      by-case b keeps-dash = (0, refl, kept-none buffer)
+  pub end-nothing : p ≡ part.Nothing → none ≡ endOf p
+  end-nothing e = rw e
 
-  pub even-ends : (n : ℕ) → p ≡ part.Even n → (b : Begun) (buffer : List ℕ) → Keeps b p buffer → Tells (saysNow b) (some n) buffer
-  even-ends n e b buffer k = by-case b (subst (λ (x : Part). Keeps b x buffer) e k)
-    where
-      by-case : (b : Begun) → Keeps b (part.Even n) buffer → Tells (saysNow b) (some n) buffer
-      by-case b (keeps-even k) = (n, refl, k)
+  pub end-dash : p ≡ part.Dash → some 0 ≡ endOf p
+  end-dash e = rw e
 
-  pub nothing-ends : p ≡ part.Nothing → (b : Begun) (buffer : List ℕ) → Keeps b p buffer → Tells (saysNow b) none buffer
-  nothing-ends e b buffer k = by-case b (subst (λ (x : Part). Keeps b x buffer) e k)
-    where
-      by-case : (b : Begun) → Keeps b part.Nothing buffer → Tells (saysNow b) none buffer
-      by-case b keeps-nothing = refl
+  pub end-even : (n : ℕ) → p ≡ part.Even n → some n ≡ endOf p
+  end-even n e = rw e
 
-  pub odd-ends : (n high : ℕ) → p ≡ part.Odd n high → (b : Begun) (buffer : List ℕ) → Keeps b p buffer → Tells (saysNow b) none buffer
-  odd-ends n high e b buffer k = by-case b (subst (λ (x : Part). Keeps b x buffer) e k)
-    where
-      by-case : (b : Begun) → Keeps b (part.Odd n high) buffer → Tells (saysNow b) none buffer
-      by-case b (keeps-odd h k) = refl
+  pub end-odd : (n high : ℕ) → p ≡ part.Odd n high → none ≡ endOf p
+  end-odd n high e = rw e
 
-  pub stray-ends : p ≡ part.Stray → (b : Begun) (buffer : List ℕ) → Keeps b p buffer → Tells (saysNow b) none buffer
-  stray-ends e b buffer k = by-case b (subst (λ (x : Part). Keeps b x buffer) e k)
-    where
-      by-case : (b : Begun) → Keeps b part.Stray buffer → Tells (saysNow b) none buffer
-      by-case b keeps-stray = refl
+  pub end-stray : p ≡ part.Stray → none ≡ endOf p
+  end-stray e = rw e
 
 -- ---- a byte more, by what was kept
 module _ (before : List ℕ) (p : Part) (c v : ℕ) (is : v ≡ hexValue c) where

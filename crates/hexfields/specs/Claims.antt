@@ -1,14 +1,14 @@
--- What is claimed of fields that are read byte by byte, and of those that are written;
--- proofs/Claims.antt proves it.
+-- What is claimed of fields that are read byte by byte; proofs/Claims.antt proves it.
 use mathlib.Core.Path.{_≡_}
-use mathlib.Core.List.{List}
-use mathlib.Core.Option.{Option}
-use Prim.Native.Nat.{ℕ, _*_, _<_}
-use lib.ListN.{length}
+use mathlib.Core.List.{List, []}
+use Prim.Native.Nat.{ℕ}
 use Rattle.fields.specs.Bytes.{parseBytes}
-use Rattle.fields.specs.Claims.{digitsOf}
-use Rattle.hexfields.specs.Fields.{nothing, begunBy, saysNow}
+use Rattle.hexfields.specs.declared.Part.{Part}
+use Rattle.hexfields.specs.Fields.{Begun, nothing, begunBy, saysNow}
+use Rattle.hexfields.specs.Reading.{Keeps, endOf, Tells}
 
 pub record Claims : Type 0 where
   -- byte by byte a field says what it says as a whole
   pub whole : (w : List ℕ) → saysNow (begunBy nothing w) ≡ parseBytes w
+  -- what is kept of a field tells its bytes where it ends
+  pub told : (b : Begun) (p : Part) (buffer : List ℕ) → Keeps b p buffer → Tells (saysNow b) (endOf p) buffer

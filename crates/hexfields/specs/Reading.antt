@@ -6,18 +6,17 @@
 --   Keeps b part buffer       `part` and the buffer keep what was read
 --   ReadsOn before part c ..  whatever they kept, with the byte c more they keep it; the buffer
 --                             keeps its length
+--   endOf part                how many bytes stand in the buffer where the field ends here, if it
+--                             is one
 --   Tells o said buffer       the bytes o, if there are any, stand at the start of the buffer
---   Ends part said            whatever they kept, the field that ends here says so
 use mathlib.Core.Path.{_≡_}
 use mathlib.Core.List.{List, [], _∷_, _++_}
 use mathlib.Core.Option.{Option, none, some}
 use Prim.Native.Nat.{ℕ, _+_, _*_, _<_}
 use lib.ListN.{length, take}
-use Rattle.fields.specs.declared.Bytes.{Bytes}
-use Rattle.fields.specs.Bytes.{bytesMeans}
 use Rattle.hexfields.specs.declared.Part.{Part}
 use Rattle.hexfields.specs.declared.Part.the-variants as part
-use Rattle.hexfields.specs.Fields.{Begun, nothing, dash, even, odd, stray, goesOn, saysNow}
+use Rattle.hexfields.specs.Fields.{Begun, nothing, dash, even, odd, stray, goesOn}
 
 pub record Kept (bytes : List ℕ) (n : ℕ) (buffer : List ℕ) : Type 0 where
   pub size : n ≡ length (take (length buffer) bytes)
@@ -39,9 +38,13 @@ pub record ReadsOn (before : List ℕ) (p : Part) (c : ℕ) (after : List ℕ) (
   pub same-size : length after ≡ length before
   pub goes-on : (b : Begun) → Keeps b p before → Keeps (goesOn b c) r after
 
+abbrev pub endOf : Part → Option ℕ
+endOf part.Nothing = none
+endOf part.Dash = some 0
+endOf (part.Even n) = some n
+endOf (part.Odd n high) = none
+endOf part.Stray = none
+
 abbrev pub Tells : Option (List ℕ) → Option ℕ → List ℕ → Type 0
 Tells none said buffer = said ≡ none
 Tells (some bytes) said buffer = (n : ℕ) × (said ≡ some n) × Kept bytes n buffer
-
-abbrev pub Ends : Part → Bytes → Type 0
-Ends p said = (b : Begun) (buffer : List ℕ) → Keeps b p buffer → Tells (saysNow b) (bytesMeans said) buffer

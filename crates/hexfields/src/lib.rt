@@ -1,9 +1,11 @@
 // Bytes as hex digits: a field that is read byte by byte, of any length, and one that is written.
+ghost use mathlib.Core.Path.{_≡_};
 ghost use Prim.Native.Nat.{_+_, _*_, _≤_};
 ghost use lib.ListN.{length};
 ghost use Rattle.text.specs.Writing.{Wrote};
+ghost use Rattle.fields.specs.Bytes.{bytesMeans};
 ghost use Rattle.fields.specs.Claims.{digitsOf};
-ghost use Rattle.hexfields.specs.Reading.{PutsPair, ReadsOn, Ends};
+ghost use Rattle.hexfields.specs.Reading.{PutsPair, ReadsOn, endOf};
 use fields::Bytes;
 
 // What of a field has been read: nothing, the `-` for no bytes, pairs of digits, pairs and a digit
@@ -62,7 +64,7 @@ pub fn read_on(buffer: &mut [u8], part: Part, c: u8) -> Part
 
 // The field ends: how many bytes stand in the buffer, or that it is none.
 pub fn end(part: Part) -> Bytes
-    ensures { λ r. ⌜ Ends part r ⌝ }
+    ensures { λ r. ⌜ bytesMeans r ≡ endOf part ⌝ }
 {
     match part {
         Part::Dash => Bytes::Put(0),

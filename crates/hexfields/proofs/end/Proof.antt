@@ -1,6 +1,6 @@
 -- `end` meets its contract. Assumes nothing.
 use borrow.Author.Needs.{needs}
-use Rattle.hexfields.proofs.Kept.{dash-ends, even-ends, nothing-ends, odd-ends, stray-ends}
+use Rattle.hexfields.proofs.Kept.{end-nothing, end-dash, end-even, end-odd, end-stray}
 use Rattle.hexfields.proofs.end.Statement.{statement}
 use Rattle.hexfields.proofs.end.Tie as tie
 
@@ -20,19 +20,19 @@ enum-told-4 : tie.Need-enum-told-4
 enum-told-4 c = search needs
 
 returns : tie.Need-returns
-returns c = search (needs, dash-ends)
+returns c = search (needs, end-dash)
 
 returns-2 : tie.Need-returns-2
-returns-2 c = search (needs, even-ends)
+returns-2 c = search (needs, end-even)
 
 returns-3 : tie.Need-returns-3
-returns-3 c = search (needs, nothing-ends)
+returns-3 c = search (needs, end-nothing)
 
 returns-4 : tie.Need-returns-4
-returns-4 c = search (needs, odd-ends)
+returns-4 c = search (needs, end-odd)
 
 returns-5 : tie.Need-returns-5
-returns-5 c = search (needs, stray-ends)
+returns-5 c = search (needs, end-stray)
 
 pub end-spec : {M : Type 1} → statement M
 end-spec =
