@@ -2,7 +2,6 @@
 --
 --   begin-both, ..              the ways out of `begin`, `letter`, `word_on` and `end_first`
 --   from-start, from-word, ..   a byte more, by what was kept
---   scanned-none, scanned-more  no byte of a piece, and one more
 --   second-merges, ..           the line has ended
 use mathlib.Core.Path.{_≡_, refl, sym, ap, _∙_, subst}
 use mathlib.Core.Logic.{⊎-elim}
@@ -15,7 +14,7 @@ use native.Mathlib.Omega.{arith}
 use borrow.Author.Tests.{eq-eqb, ne-eqb, eqb-true, eqb-false, lt-ltb, le-ltb, ltb-true, ltb-false}
 use lib.Dec.{eqb, ltb}
 use lib.ListN.{length, getD, take, drop, length-drop}
-use lib.Seq.{take-suc, take-all, drop-cons}
+use lib.Seq.{take-all, drop-cons}
 use Rattle.base.proofs.Tests.{by-test}
 use Rattle.text.specs.Writing.{Wrote}
 use Rattle.answers.specs.Answers.{malformedText}
@@ -33,9 +32,8 @@ use Rattle.mergetext.specs.Lines.{wordOf, Meaning}
 use Rattle.mergetext.specs.Answers.{mergedFiles, responseIn, responseText}
 use Rattle.mergescan.specs.declared.Scan.{Scan}
 use Rattle.mergescan.specs.declared.Scan.the-variants as scan
-use Rattle.mergescan.specs.Lines.{Seen, start, inWord, inFirst, inSecond, stray, firstByte, wordGoesOn, afterFirst, seenWith, seenBy}
-use Rattle.mergescan.specs.Scanning.{beginOf, wordAfter, secondAfter, KeepsLine, keeps-start, keeps-word, keeps-first, keeps-second, keeps-stray, ScansOn, Scans, secondHeld, heldMeaning}
-use Rattle.mergescan.proofs.Lines.{pieces}
+use Rattle.mergescan.specs.Lines.{Seen, start, inWord, inFirst, inSecond, stray, firstByte, wordGoesOn, afterFirst, seenWith}
+use Rattle.mergescan.specs.Scanning.{beginOf, wordAfter, secondAfter, KeepsLine, keeps-start, keeps-word, keeps-first, keeps-second, keeps-stray, ScansOn, secondHeld, heldMeaning}
 
 -- as many as there are
 take-most : (n : ℕ) (l : List ℕ) → take (min n (length l)) l ≡ take n l
@@ -188,63 +186,46 @@ module _ (one two : List ℕ) where
         by-case : (seen : Seen) → KeepsLine seen (scan.Second way n p) one two → KeepsLine (seenWith seen c) (scan.Second way n q) one after
         by-case seen (keeps-second {b} kf k) = keeps-second kf (reads .goes-on b k)
 
--- ---- a piece
-pub scanned-none : (one two : List ℕ) (s : Scan) (piece : List ℕ) → Scans one two s (take 0 piece) one two s
-scanned-none one two s piece = record { size-one = refl; size-two = refl; goes-on = λ seen k. k }
-
-one-seen : (seen : Seen) (piece : List ℕ) (i : ℕ) → i < length piece
-    → seenBy seen (take (i + 1) piece) ≡ seenWith (seenBy seen (take i piece)) (getD piece i 0)
-one-seen seen piece i h = rw (add-one, take-suc piece i 0 h) (pieces seen (take i piece) (getD piece i 0 ∷ []))
-
-pub scanned-more : (one two : List ℕ) (s : Scan) (piece : List ℕ) (i : ℕ) → i < length piece → (one′ two′ : List ℕ) (r : Scan)
-    → Scans one two s (take i piece) one′ two′ r → (one″ two″ : List ℕ) (q : Scan) → ScansOn one′ two′ r (getD piece i 0) one″ two″ q
-    → Scans one two s (take (i + 1) piece) one″ two″ q
-scanned-more one two s piece i h one′ two′ r before one″ two″ q next = record {
-  size-one = next .size-one ∙ before .size-one;
-  size-two = next .size-two ∙ before .size-two;
-  goes-on = λ seen k. rw (one-seen seen piece i h) (next .goes-on (seenBy seen (take i piece)) (before .goes-on seen k));
-}
-
 -- ---- the line has ended
-module _ (way : Way) (n : ℕ) (p : Part) (one two before after : List ℕ) (end : ℕ) (x : Bytes) (says : bytesMeans x ≡ endOf p) where
+module _ (way : Way) (n : ℕ) (p : Part) (one two before after : List ℕ) (at end : ℕ) (x : Bytes) (says : bytesMeans x ≡ endOf p) where
   abbrev held : Meaning
   held = secondHeld way (take n one) (endOf p) two
 
-  pub second-malformed : x ≡ Malformed → Wrote before 0 malformedText after end → Wrote before 0 (responseText (responseIn held)) after end
+  pub second-malformed : x ≡ Malformed → Wrote before at malformedText after end → Wrote before at (responseText (responseIn held)) after end
   second-malformed e w =
       let none-there : endOf p ≡ none = sym says ∙ ap bytesMeans e in
-      subst (λ (o : Option ℕ). Wrote before 0 (responseText (responseIn (secondHeld way (take n one) o two))) after end) (sym none-there) w
+      subst (λ (o : Option ℕ). Wrote before at (responseText (responseIn (secondHeld way (take n one) o two))) after end) (sym none-there) w
 
   pub second-merges : (m : ℕ) → x ≡ Put m → (k l : ℕ) → k ≡ min n (length one) → l ≡ min m (length two)
-      → Wrote before 0 (responseText (mergedFiles way (take k one) (take l two))) after end → Wrote before 0 (responseText (responseIn held)) after end
+      → Wrote before at (responseText (mergedFiles way (take k one) (take l two))) after end → Wrote before at (responseText (responseIn held)) after end
   second-merges m e k l ek el w =
       let there : endOf p ≡ some m = sym says ∙ ap bytesMeans e in
       let first : take k one ≡ take n one = ap (λ (i : ℕ). take i one) ek ∙ take-most n one in
       let second : take l two ≡ take m two = ap (λ (i : ℕ). take i two) el ∙ take-most m two in
-      subst (λ (o : Option ℕ). Wrote before 0 (responseText (responseIn (secondHeld way (take n one) o two))) after end) (sym there)
-      (subst (λ (f : List ℕ). Wrote before 0 (responseText (mergedFiles way f (take m two))) after end) first
-      (subst (λ (g : List ℕ). Wrote before 0 (responseText (mergedFiles way (take k one) g)) after end) second w))
+      subst (λ (o : Option ℕ). Wrote before at (responseText (responseIn (secondHeld way (take n one) o two))) after end) (sym there)
+      (subst (λ (f : List ℕ). Wrote before at (responseText (mergedFiles way f (take m two))) after end) first
+      (subst (λ (g : List ℕ). Wrote before at (responseText (mergedFiles way (take k one) g)) after end) second w))
 
-module _ (s : Scan) (one two before after : List ℕ) (end : ℕ) where
-  at-line : (o : Scan) → s ≡ o → Wrote before 0 (responseText (responseIn (heldMeaning o one two))) after end
-      → Wrote before 0 (responseText (responseIn (heldMeaning s one two))) after end
-  at-line o e w = subst (λ (x : Scan). Wrote before 0 (responseText (responseIn (heldMeaning x one two))) after end) (sym e) w
+module _ (s : Scan) (one two before after : List ℕ) (at end : ℕ) where
+  at-line : (o : Scan) → s ≡ o → Wrote before at (responseText (responseIn (heldMeaning o one two))) after end
+      → Wrote before at (responseText (responseIn (heldMeaning s one two))) after end
+  at-line o e w = subst (λ (x : Scan). Wrote before at (responseText (responseIn (heldMeaning x one two))) after end) (sym e) w
 
-  pub ends-start : s ≡ scan.Start → Wrote before 0 malformedText after end → Wrote before 0 (responseText (responseIn (heldMeaning s one two))) after end
+  pub ends-start : s ≡ scan.Start → Wrote before at malformedText after end → Wrote before at (responseText (responseIn (heldMeaning s one two))) after end
   ends-start e w = at-line scan.Start e w
 
-  pub ends-word : (way : Way) (at : ℕ) → s ≡ scan.Word way at → Wrote before 0 malformedText after end
-      → Wrote before 0 (responseText (responseIn (heldMeaning s one two))) after end
-  ends-word way at e w = at-line (scan.Word way at) e w
+  pub ends-word : (way : Way) (read : ℕ) → s ≡ scan.Word way read → Wrote before at malformedText after end
+      → Wrote before at (responseText (responseIn (heldMeaning s one two))) after end
+  ends-word way read e w = at-line (scan.Word way read) e w
 
-  pub ends-first : (way : Way) (p : Part) → s ≡ scan.First way p → Wrote before 0 malformedText after end
-      → Wrote before 0 (responseText (responseIn (heldMeaning s one two))) after end
+  pub ends-first : (way : Way) (p : Part) → s ≡ scan.First way p → Wrote before at malformedText after end
+      → Wrote before at (responseText (responseIn (heldMeaning s one two))) after end
   ends-first way p e w = at-line (scan.First way p) e w
 
-  pub ends-stray : s ≡ scan.Stray → Wrote before 0 malformedText after end → Wrote before 0 (responseText (responseIn (heldMeaning s one two))) after end
+  pub ends-stray : s ≡ scan.Stray → Wrote before at malformedText after end → Wrote before at (responseText (responseIn (heldMeaning s one two))) after end
   ends-stray e w = at-line scan.Stray e w
 
   pub ends-second : (way : Way) (n : ℕ) (p : Part) → s ≡ scan.Second way n p
-      → Wrote before 0 (responseText (responseIn (secondHeld way (take n one) (endOf p) two))) after end
-      → Wrote before 0 (responseText (responseIn (heldMeaning s one two))) after end
+      → Wrote before at (responseText (responseIn (secondHeld way (take n one) (endOf p) two))) after end
+      → Wrote before at (responseText (responseIn (heldMeaning s one two))) after end
   ends-second way n p e w = at-line (scan.Second way n p) e w

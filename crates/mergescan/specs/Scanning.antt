@@ -6,7 +6,6 @@
 --   KeepsLine s scan one two the value and the buffers keep what was read
 --   ScansOn one two ..       whatever they kept, with the byte c more they keep it; the buffers
 --                            keep their lengths
---   Scans one two ..         the same with a piece more
 --   heldMeaning scan one two what a line means that ends here: of any value and any buffers, whether
 --                            they fit each other or not
 use mathlib.Core.Path.{_≡_}
@@ -25,7 +24,7 @@ use Rattle.merging.specs.declared.Way.the-variants.{Both, Either, Interleaving}
 use Rattle.mergetext.specs.Lines.{wordOf, Meaning, merges, malformed}
 use Rattle.mergescan.specs.declared.Scan.{Scan}
 use Rattle.mergescan.specs.declared.Scan.the-variants as scan
-use Rattle.mergescan.specs.Lines.{Seen, start, inWord, inFirst, inSecond, stray, seenWith, seenBy}
+use Rattle.mergescan.specs.Lines.{Seen, start, inWord, inFirst, inSecond, stray, seenWith}
 
 -- ---- the code's steps
 abbrev pub beginOf : ℕ → Scan
@@ -58,11 +57,6 @@ pub record ScansOn (one two : List ℕ) (s : Scan) (c : ℕ) (one-after two-afte
   pub size-one : length one-after ≡ length one
   pub size-two : length two-after ≡ length two
   pub goes-on : (seen : Seen) → KeepsLine seen s one two → KeepsLine (seenWith seen c) r one-after two-after
-
-pub record Scans (one two : List ℕ) (s : Scan) (piece one-after two-after : List ℕ) (r : Scan) : Type 0 where
-  pub size-one : length one-after ≡ length one
-  pub size-two : length two-after ≡ length two
-  pub goes-on : (seen : Seen) → KeepsLine seen s one two → KeepsLine (seenBy seen piece) r one-after two-after
 
 -- ---- the line has ended
 abbrev pub secondHeld : Way → List ℕ → Option ℕ → List ℕ → Meaning

@@ -1,4 +1,4 @@
-// A line of rulemerge that comes in pieces, of any length in all, and its answer.
+// A line of rulemerge that is read byte by byte, of any length, and its answer.
 ghost use mathlib.Core.Path.{_≡_};
 ghost use Prim.Native.Nat.{_+_, _≤_};
 ghost use lib.ListN.{length, getD, take};
@@ -6,7 +6,7 @@ ghost use Rattle.text.specs.Writing.{Wrote};
 ghost use Rattle.mergetext.specs.Lines.{wordOf};
 ghost use Rattle.mergetext.specs.Answers.{mostAnswer, responseIn, responseText};
 ghost use Rattle.hexfields.specs.Reading.{endOf};
-ghost use Rattle.mergescan.specs.Scanning.{beginOf, wordAfter, secondAfter, ScansOn, Scans, secondHeld, heldMeaning};
+ghost use Rattle.mergescan.specs.Scanning.{beginOf, wordAfter, secondAfter, ScansOn, secondHeld, heldMeaning};
 use fields::Bytes;
 use hexfields::Part;
 use merging::Way;
@@ -94,8 +94,8 @@ fn end_first(way: Way, part: Part) -> Scan
     }
 }
 
-// One byte more of the line.
-fn scan_on(one: &mut [u8], two: &mut [u8], scan: Scan, c: u8) -> Scan
+// One byte more of the line. The bytes of the two files go into two buffers, as many as fit.
+pub fn scan_on(one: &mut [u8], two: &mut [u8], scan: Scan, c: u8) -> Scan
     ensures { λ r. ⌜ ScansOn (now (one .entry)) (now (two .entry)) scan c (now (one .exit)) (now (two .exit)) r ⌝ }
 {
     match scan {
@@ -112,45 +112,40 @@ fn scan_on(one: &mut [u8], two: &mut [u8], scan: Scan, c: u8) -> Scan
     }
 }
 
-// A piece more of the line. The bytes of the two files go into two buffers, as many as fit.
-pub fn scan_piece(one: &mut [u8], two: &mut [u8], scan: Scan, piece: &[u8]) -> Scan
-    ensures { λ r. ⌜ Scans (now (one .entry)) (now (two .entry)) scan (now (piece .entry)) (now (one .exit)) (now (two .exit)) r ⌝ }
-{
-    let mut scan = scan;
-    let mut i: usize = 0;
-    while i < piece.len() {
-        scan = scan_on(one, two, scan, piece[i]);
-        i += 1;
-    }
-    scan
-}
-
 // The answer to a line that ends in its second field.
-fn put_second(way: Way, n: usize, part: Part, one: &[u8], two: &[u8], out: &mut [u8]) -> usize
-    requires { ⌜ mostAnswer ≤ length (now out) ⌝ }
-    ensures { λ r. ⌜ Wrote (now (out .entry)) 0 (responseText (responseIn (secondHeld way (take n (now (one .entry))) (endOf part) (now (two .entry))))) (now (out .exit)) r ⌝ }
+fn put_second(
+    way: Way,
+    n: usize,
+    part: Part,
+    one: &[u8],
+    two: &[u8],
+    out: &mut [u8],
+    at: usize,
+) -> usize
+    requires { ⌜ at + mostAnswer ≤ length (now out) ⌝ }
+    ensures { λ r. ⌜ Wrote (now (out .entry)) at (responseText (responseIn (secondHeld way (take n (now (one .entry))) (endOf part) (now (two .entry))))) (now (out .exit)) r ⌝ }
 {
     let said = hexfields::end(part);
     match said {
         Bytes::Put(m) => {
             let first = base::at_most(n, one.len());
             let second = base::at_most(m, two.len());
-            mergetext::put_merged(way, &one[..first], &two[..second], out)
+            mergetext::put_merged(way, &one[..first], &two[..second], out, at)
         }
-        Bytes::Malformed => answers::put_malformed(out, 0),
+        Bytes::Malformed => answers::put_malformed(out, at),
     }
 }
 
 // The answer to a line that has ended.
-pub fn put_answer(scan: Scan, one: &[u8], two: &[u8], out: &mut [u8]) -> usize
-    requires { ⌜ mostAnswer ≤ length (now out) ⌝ }
-    ensures { λ r. ⌜ Wrote (now (out .entry)) 0 (responseText (responseIn (heldMeaning scan (now (one .entry)) (now (two .entry))))) (now (out .exit)) r ⌝ }
+pub fn put_answer(scan: Scan, one: &[u8], two: &[u8], out: &mut [u8], at: usize) -> usize
+    requires { ⌜ at + mostAnswer ≤ length (now out) ⌝ }
+    ensures { λ r. ⌜ Wrote (now (out .entry)) at (responseText (responseIn (heldMeaning scan (now (one .entry)) (now (two .entry))))) (now (out .exit)) r ⌝ }
 {
     match scan {
-        Scan::Second(way, n, part) => put_second(way, n, part, one, two, out),
-        Scan::Start => answers::put_malformed(out, 0),
-        Scan::Word(_, _) => answers::put_malformed(out, 0),
-        Scan::First(_, _) => answers::put_malformed(out, 0),
-        Scan::Stray => answers::put_malformed(out, 0),
+        Scan::Second(way, n, part) => put_second(way, n, part, one, two, out, at),
+        Scan::Start => answers::put_malformed(out, at),
+        Scan::Word(_, _) => answers::put_malformed(out, at),
+        Scan::First(_, _) => answers::put_malformed(out, at),
+        Scan::Stray => answers::put_malformed(out, at),
     }
 }

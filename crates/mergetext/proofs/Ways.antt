@@ -7,7 +7,7 @@
 use mathlib.Core.Path.{_≡_, refl, sym, ap, ap₂, _∙_, subst}
 use mathlib.Core.List.{List, [], _∷_, _++_}
 use mathlib.Core.Option.{Option, none, some}
-use Prim.Native.Nat.{ℕ, _≤_, _<_}
+use Prim.Native.Nat.{ℕ, _+_, _≤_, _<_}
 use native.Mathlib.Omega.{arith}
 use lib.ListN.{length, take}
 use lib.Seq.{take-at, length-take-le}
@@ -58,8 +58,8 @@ written-file r w e passed =
     }
 
 -- its digits leave room for the line feed, and with it they are the line
-module _ (r : Rule) (w : WriteResult) (f : Written r w) (before mid : List ℕ) (e : ℕ) (room : 65813 ≤ length before) (wrote : Wrote before 0 (digitsOf (take (w .length) (w .bytes))) mid e) where
-  digits-put : Put before 0 (digitsOf (take (w .length) (w .bytes))) mid e
+module _ (r : Rule) (w : WriteResult) (f : Written r w) (before mid : List ℕ) (at e : ℕ) (room : at + 65813 ≤ length before) (wrote : Wrote before at (digitsOf (take (w .length) (w .bytes))) mid e) where
+  digits-put : Put before at (digitsOf (take (w .length) (w .bytes))) mid e
   digits-put =
       let n = digits-length (take (w .length) (w .bytes)) in
       let m = length-take-le (w .length) (w .bytes) (f .within) in
@@ -72,10 +72,10 @@ module _ (r : Rule) (w : WriteResult) (f : Written r w) (before mid : List ℕ) 
       omega (arith, f .most, digits-put .kept, wrote .ends)
 
   pub rule-line : (after : List ℕ) (end : ℕ) → Wrote mid e (10 ∷ []) after end
-      → Wrote before 0 (digitsOf (fileOf r) ++ (10 ∷ [])) after end
+      → Wrote before at (digitsOf (fileOf r) ++ (10 ∷ [])) after end
   rule-line after end wrote2 =
       let whole = digits-put then put (omega (arith, room-left)) wrote2 in
-      subst (λ (b : List ℕ). Wrote before 0 (digitsOf b ++ (10 ∷ [])) after end) (f .is) (whole .wrote)
+      subst (λ (b : List ℕ). Wrote before at (digitsOf b ++ (10 ∷ [])) after end) (f .is) (whole .wrote)
 
 -- ---- two files
 number-in : (f : List ℕ) (x : ReadResult) → readOutcome x ≡ readOf f → refusal f ≡ readMeans (x .answer)
@@ -134,25 +134,25 @@ module _ (way : Way) (f g : List ℕ) (x : ReadResult) (reads : readOutcome x �
         answer-file = rw third-none (ap (λ (r : Rule). file (fileOf r)) (sym rule-made))
 
 -- ---- what is written then
-module _ (way : Way) (f g before after : List ℕ) (end : ℕ) where
-  told : (s : Response) → mergedFiles way f g ≡ s → Wrote before 0 (responseText s) after end → Wrote before 0 (responseText (mergedFiles way f g)) after end
-  told s e w = subst (λ (x : Response). Wrote before 0 (responseText x) after end) (sym e) w
+module _ (way : Way) (f g before after : List ℕ) (at end : ℕ) where
+  told : (s : Response) → mergedFiles way f g ≡ s → Wrote before at (responseText s) after end → Wrote before at (responseText (mergedFiles way f g)) after end
+  told s e w = subst (λ (x : Response). Wrote before at (responseText x) after end) (sym e) w
 
   module _ (x : ReadResult) (reads : readOutcome x ≡ readOf f) where
-    pub told-first : (n : ℕ) → x .answer ≡ reading.Refused n → Wrote before 0 (refusedText n) after end
-        → Wrote before 0 (responseText (mergedFiles way f g)) after end
+    pub told-first : (n : ℕ) → x .answer ≡ reading.Refused n → Wrote before at (refusedText n) after end
+        → Wrote before at (responseText (mergedFiles way f g)) after end
     told-first n e w = told (refused n) (answer-first way f g x reads n e) w
 
     module _ (accepted : x .answer ≡ reading.Accepted) (y : ReadResult) (reads2 : readOutcome y ≡ readOf g) where
-      pub told-second : (n : ℕ) → y .answer ≡ reading.Refused n → Wrote before 0 (refusedText n) after end
-          → Wrote before 0 (responseText (mergedFiles way f g)) after end
+      pub told-second : (n : ℕ) → y .answer ≡ reading.Refused n → Wrote before at (refusedText n) after end
+          → Wrote before at (responseText (mergedFiles way f g)) after end
       told-second n e w = told (refused n) (answer-second way f g x reads accepted y reads2 n e) w
 
       module _ (accepted2 : y .answer ≡ reading.Accepted) (z : MergeResult) (merges : mergeOutcome z ≡ mergeOf way (x .rule) (y .rule)) where
-        pub told-third : (n : ℕ) → z .answer ≡ merge.Refused n → Wrote before 0 (refusedText n) after end
-            → Wrote before 0 (responseText (mergedFiles way f g)) after end
+        pub told-third : (n : ℕ) → z .answer ≡ merge.Refused n → Wrote before at (refusedText n) after end
+            → Wrote before at (responseText (mergedFiles way f g)) after end
         told-third n e w = told (refused n) (answer-third way f g x reads accepted y reads2 accepted2 z merges n e) w
 
-        pub told-file : z .answer ≡ merge.Accepted → Wrote before 0 (digitsOf (fileOf (z .rule)) ++ (10 ∷ [])) after end
-            → Wrote before 0 (responseText (mergedFiles way f g)) after end
+        pub told-file : z .answer ≡ merge.Accepted → Wrote before at (digitsOf (fileOf (z .rule)) ++ (10 ∷ [])) after end
+            → Wrote before at (responseText (mergedFiles way f g)) after end
         told-file e w = told (file (fileOf (z .rule))) (answer-file way f g x reads accepted y reads2 accepted2 z merges e) w

@@ -2,7 +2,7 @@
 ghost use mathlib.Core.Path.{_≡_};
 ghost use mathlib.Core.List.{[], _∷_, _++_};
 ghost use mathlib.Core.Option.{none};
-ghost use Prim.Native.Nat.{_≤_};
+ghost use Prim.Native.Nat.{_+_, _≤_};
 ghost use lib.ListN.{length};
 ghost use Rattle.text.specs.Writing.{Wrote};
 ghost use Rattle.fields.specs.Claims.{digitsOf};
@@ -15,36 +15,36 @@ use merging::Way;
 use ruleformat::ReadAnswer;
 
 // The file of a rule that passes, in hex digits.
-fn put_rule(out: &mut [u8], rule: Rule) -> usize
-    requires { ⌜ (ruleNumber rule ≡ none) × (mostAnswer ≤ length (now out)) ⌝ }
-    ensures { λ r. ⌜ Wrote (now (out .entry)) 0 (digitsOf (fileOf rule) ++ (10 ∷ [])) (now (out .exit)) r ⌝ }
+fn put_rule(out: &mut [u8], at: usize, rule: Rule) -> usize
+    requires { ⌜ (ruleNumber rule ≡ none) × (at + mostAnswer ≤ length (now out)) ⌝ }
+    ensures { λ r. ⌜ Wrote (now (out .entry)) at (digitsOf (fileOf rule) ++ (10 ∷ [])) (now (out .exit)) r ⌝ }
 {
     let written = rulewriter::write_rule(rule);
     let n = written.length;
     let bytes = written.bytes;
-    let end = hexfields::put_digits(out, 0, &bytes[..n]);
+    let end = hexfields::put_digits(out, at, &bytes[..n]);
     text::put_byte(out, end, b'\n')
 }
 
 // Reads the first file, then the second, merges them and writes what comes of it.
-pub fn put_merged(way: Way, one: &[u8], two: &[u8], out: &mut [u8]) -> usize
-    requires { ⌜ mostAnswer ≤ length (now out) ⌝ }
-    ensures { λ r. ⌜ Wrote (now (out .entry)) 0 (responseText (mergedFiles way (now (one .entry)) (now (two .entry)))) (now (out .exit)) r ⌝ }
+pub fn put_merged(way: Way, one: &[u8], two: &[u8], out: &mut [u8], at: usize) -> usize
+    requires { ⌜ at + mostAnswer ≤ length (now out) ⌝ }
+    ensures { λ r. ⌜ Wrote (now (out .entry)) at (responseText (mergedFiles way (now (one .entry)) (now (two .entry)))) (now (out .exit)) r ⌝ }
 {
     let first = rulefile::read(one);
     let answer = first.answer;
     if let ReadAnswer::Refused(number) = answer {
-        return answers::put_refused(out, 0, number);
+        return answers::put_refused(out, at, number);
     }
     let second = rulefile::read(two);
     let answer = second.answer;
     if let ReadAnswer::Refused(number) = answer {
-        return answers::put_refused(out, 0, number);
+        return answers::put_refused(out, at, number);
     }
     let merging = merge::merge(way, first.rule, second.rule);
     let answer = merging.answer;
     if let MergeAnswer::Refused(number) = answer {
-        return answers::put_refused(out, 0, number);
+        return answers::put_refused(out, at, number);
     }
-    put_rule(out, merging.rule)
+    put_rule(out, at, merging.rule)
 }

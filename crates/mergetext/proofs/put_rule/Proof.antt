@@ -36,7 +36,7 @@ put-byte-requires c κs =
     let w = c .before .before .before .before .before .before .before .write-rule in
     let f = written-file (s .args .rule) (w .result) (w .ensures) (s .pre .0) in
     let d = c .before .before .before .put-digits in
-    room-left (s .args .rule) (w .result) f (s .args .out .now) (d .last .0) (d .result) (s .pre .1) (d .ensures)
+    room-left (s .args .rule) (w .result) f (s .args .out .now) (d .last .0) (s .args .at) (d .result) (s .pre .1) (d .ensures)
 
 same-length : tie.Need-same-length
 same-length c = search needs
@@ -48,7 +48,7 @@ returns c =
     let f = written-file (s .args .rule) (w .result) (w .ensures) (s .pre .0) in
     let d = c .before .before .before .before .before .before .put-digits in
     let b = c .before .before .put-byte in
-    rule-line (s .args .rule) (w .result) f (s .args .out .now) (d .last .0) (d .result) (s .pre .1) (d .ensures) (b .last .0) (b .result) (b .ensures)
+    rule-line (s .args .rule) (w .result) f (s .args .out .now) (d .last .0) (s .args .at) (d .result) (s .pre .1) (d .ensures) (b .last .0) (b .result) (b .ensures)
 
 pub put-rule-spec : {M : Type 1} → statement M
 put-rule-spec =

@@ -1,0 +1,5 @@
+-- In the order in which they build on each other.
+pub mod Texts
+pub mod Feeding
+pub mod Ends
+pub mod Claims
