@@ -1,96 +1,80 @@
+-- `run_block` meets its contract: the bytes before `at` were fed (`Ran`). Assumes nothing.
+use mathlib.Core.Path.{refl, _∙_}
+use Prim.Native.Nat.{_-_}
+use native.Mathlib.Omega.{arith}
+use lib.ListN.{length}
+use borrow.Author.Needs.{needs}
+use Rattle.base.proofs.Tests.{not-both}
+use Rattle.mergestream.proofs.Rounds.{Ran, ran-none, ran-more, ran-all, prefix}
 use Rattle.rulemerge.proofs.run_block.Statement.{statement}
 use Rattle.rulemerge.proofs.run_block.Tie as tie
-use Rattle.rulemerge.proofs.run_block.Reads as reads
-use Rattle.rulemerge.proofs.run_block.Lts as lts
-use Rattle.lines.proofs.find.Reads as find-reads
-use Rattle.mergescan.proofs.scan_piece.Reads as scan-piece-reads
-use Rattle.rulemerge.proofs.answer.Reads as answer-reads
 
 abbrev Inv-loop : tie.InvT-loop
-Inv-loop one₀ two₀ out₀ block scan₀ at₀ one two out scan at = ?
+Inv-loop one₀ two₀ out₀ block scan₀ at₀ one two out scan at = Ran one₀ two₀ out₀ block scan₀ one two out scan at
 
 abbrev μ-loop : tie.MeasureT-loop
-μ-loop one₀ two₀ out₀ block scan₀ at₀ one two out scan at = ?
+μ-loop one₀ two₀ out₀ block scan₀ at₀ one two out scan at = length block - at
 
--- src/main.rt:38:5
 loop-holds : tie.Need-loop-holds Inv-loop μ-loop
-loop-holds c = ?
+loop-holds c = let a = c .before .before .before .before .args in ran-none (a .one .now) (a .two .now) (a .out .now) (a .block .now) (a .scan)
 
--- src/main.rt:39:13
-find-requires : tie.Need-find-requires Inv-loop μ-loop
-find-requires c κs = ?
+feed-requires : tie.Need-feed-requires Inv-loop μ-loop
+feed-requires c κs = search needs
 
--- src/main.rt:40:54
-sub-scan-piece : tie.Need-sub-scan-piece Inv-loop μ-loop
-sub-scan-piece c = ?
+slice-reshare-prefix-write-answers : tie.Need-slice-reshare-prefix-write-answers Inv-loop μ-loop
+slice-reshare-prefix-write-answers c =
+    let f = c .before .before .before .before .before .before .feed in
+    omega (arith, f .ensures .within, f .kept .1 .1 .1 .0)
 
--- src/main.rt:40:54
-part-scan-piece-start : tie.Need-part-scan-piece-start Inv-loop μ-loop
-part-scan-piece-start c = ?
+slice-aggregate-write-answers : tie.Need-slice-aggregate-write-answers Inv-loop μ-loop
+slice-aggregate-write-answers c =
+    let f = c .before .before .before .before .before .before .before .feed in
+    prefix (f .result .written) (f .last .1 .1 .1 .0) (omega (arith, f .ensures .within, f .kept .1 .1 .1 .0))
 
--- src/main.rt:40:54
-part-scan-piece-end : tie.Need-part-scan-piece-end Inv-loop μ-loop
-part-scan-piece-end c = ?
+write-answers-requires : tie.Need-write-answers-requires Inv-loop μ-loop
+write-answers-requires c κs = search needs
 
--- src/main.rt:40:9
-scan-piece-requires : tie.Need-scan-piece-requires Inv-loop μ-loop
-scan-piece-requires c κs = ?
-
--- src/main.rt:43:17
-answer-requires : tie.Need-answer-requires Inv-loop μ-loop
-answer-requires c κs = ?
-
--- src/main.rt:45:17
 same-length : tie.Need-same-length Inv-loop μ-loop
-same-length c = ?
+same-length c = let f = c .before .before .before .before .before .before .before .before .before .feed in f .kept .1 .0 ∙ c .before .before .before .before .before .before .before .before .before .before .before .before .before .before .loop .inv .size-one
 
--- src/main.rt:45:17
 same-length-2 : tie.Need-same-length-2 Inv-loop μ-loop
-same-length-2 c = ?
+same-length-2 c = let f = c .before .before .before .before .before .before .before .before .before .feed in f .kept .1 .1 .0 ∙ c .before .before .before .before .before .before .before .before .before .before .before .before .before .before .loop .inv .size-two
 
--- src/main.rt:45:17
 same-length-3 : tie.Need-same-length-3 Inv-loop μ-loop
-same-length-3 c = ?
+same-length-3 c = let f = c .before .before .before .before .before .before .before .before .before .feed in f .kept .1 .1 .1 .0 ∙ c .before .before .before .before .before .before .before .before .before .before .before .before .before .before .loop .inv .size-out
 
--- src/main.rt:45:17
 returns : tie.Need-returns Inv-loop μ-loop
-returns c = ?
+returns c = λ v k e. not-both refl e
 
--- src/main.rt:48:18
-add-at : tie.Need-add-at Inv-loop μ-loop
-add-at c = ?
-
--- src/main.rt:38:5
 loop-less : tie.Need-loop-less Inv-loop μ-loop
-loop-less c = ?
+loop-less c =
+    let x = c .before .before .before .before .before .before .before .before .before .before .before .before .before .before .loop in
+    let f = c .before .before .before .before .before .before .before .before .before .feed in
+    let s = c .before .before .before .before .before .before .before .before .before .before .before .before .before .before .before .before .before .before .before in
+    let on = f .ensures .forward (omega (arith, x .inv .size-out, s .pre)) (c .before .before .before .before .before .before .before .before .before .before .before .before .before .loop-test .taken) in
+    omega (arith, c .before .before .before .before .before .before .before .before .before .before .before .before .before .loop-test .taken)
 
--- src/main.rt:38:5
 loop-again : tie.Need-loop-again Inv-loop μ-loop
-loop-again c = ?
+loop-again c =
+    let x = c .before .before .before .before .before .before .before .before .before .before .before .before .before .before .loop in
+    let f = c .before .before .before .before .before .before .before .before .before .feed in
+    let a = c .before .before .before .before .before .before .before .before .before .before .before .before .before .before .before .before .before .before .before .args in
+    ran-more (a .one .now) (a .two .now) (a .out .now) (a .block .now) (a .scan) (x .one) (x .two) (x .out) (x .scan) (x .at) (x .inv) (f .last .1 .0) (f .last .1 .1 .0) (f .last .1 .1 .1 .0) (f .result) (f .ensures) (f .kept .1 .1 .1 .0)
 
--- src/main.rt:38:5
-loop-less-2 : tie.Need-loop-less-2 Inv-loop μ-loop
-loop-less-2 c = ?
-
--- src/main.rt:38:5
-loop-again-2 : tie.Need-loop-again-2 Inv-loop μ-loop
-loop-again-2 c = ?
-
--- src/main.rt:33:1
 same-length-4 : tie.Need-same-length-4 Inv-loop μ-loop
-same-length-4 c = ?
+same-length-4 c = c .before .loop .inv .size-one
 
--- src/main.rt:33:1
 same-length-5 : tie.Need-same-length-5 Inv-loop μ-loop
-same-length-5 c = ?
+same-length-5 c = c .before .loop .inv .size-two
 
--- src/main.rt:33:1
 same-length-6 : tie.Need-same-length-6 Inv-loop μ-loop
-same-length-6 c = ?
+same-length-6 c = c .before .loop .inv .size-out
 
--- src/main.rt:33:1
 returns-2 : tie.Need-returns-2 Inv-loop μ-loop
-returns-2 c = ?
+returns-2 c =
+    let x = c .before .loop in
+    let a = c .before .before .before .before .before .before .args in
+    λ v k e. ran-all (a .one .now) (a .two .now) (a .out .now) (a .block .now) (a .scan) (x .one) (x .two) (x .out) (x .scan) (x .at) (x .inv) (c .loop-test .left) v k
 
 pub run-block-spec : {M : Type 1} → statement M
 run-block-spec =
@@ -99,21 +83,16 @@ run-block-spec =
     Inv-loop
     μ-loop
     loop-holds
-    find-requires
-    sub-scan-piece
-    part-scan-piece-start
-    part-scan-piece-end
-    scan-piece-requires
-    answer-requires
+    feed-requires
+    slice-reshare-prefix-write-answers
+    slice-aggregate-write-answers
+    write-answers-requires
     same-length
     same-length-2
     same-length-3
     returns
-    add-at
     loop-less
     loop-again
-    loop-less-2
-    loop-again-2
     same-length-4
     same-length-5
     same-length-6
