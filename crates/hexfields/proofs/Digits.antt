@@ -1,14 +1,18 @@
--- Bytes as hex digits: one more byte, and how many digits there are. Assumes nothing.
+-- Bytes as hex digits: one more byte, how many digits there are, and that no field has a space in
+-- it. Assumes nothing.
 use mathlib.Core.Path.{_≡_, refl, ap, _∙_}
 use mathlib.Core.List.{List, [], _∷_, _++_, append-assoc, append-nil}
-use Prim.Native.Nat.{ℕ, _+_, _*_, _<_}
+use Prim.Native.Nat.{ℕ, _+_, _*_, _/_, _%_, _<_}
 use native.Mathlib.Numerals.{add-one}
 use native.Mathlib.Omega.{arith}
+use lib.Dec.{ltb}
 use lib.ListN.{length, getD, take, length-append}
 use lib.Seq.{take-suc}
-use Rattle.text.specs.Numerals.{hex}
+use Rattle.base.proofs.Tests.{by-test}
+use Rattle.text.specs.Numerals.{hexDigit, hex}
 use Rattle.text.proofs.Digits.{hex-length}
-use Rattle.fields.specs.Claims.{digitsOf}
+use Rattle.lines.proofs.Over.{Over}
+use Rattle.fields.specs.Claims.{digitsOf, fieldOf}
 
 pub digits-length : (b : List ℕ) → length (digitsOf b) ≡ 2 * length b
 unfolding digitsOf
@@ -34,3 +38,16 @@ pub digits-more : (b : List ℕ) (i : ℕ) → i < length b
     → digitsOf (take (i + 1) b) ≡ digitsOf (take i b) ++ hex 2 (getD b i 0)
 digits-more b i h =
     rw (add-one, take-suc b i 0 h) (digits-append (take i b) (getD b i 0 ∷ []) ∙ ap (λ (x : List ℕ). digitsOf (take i b) ++ x) (digits-one (getD b i 0)))
+
+-- ---- a digit is over 47, and `-` is 45
+digit-over : (d : ℕ) → 32 < hexDigit d
+digit-over d = by-test (ltb d 10) (λ e. rw e (omega arith)) (λ e. rw e (omega arith))
+
+digits-over : (b : List ℕ) → Over 32 (digitsOf b)
+unfolding digitsOf hex
+digits-over [] = tt
+digits-over (x ∷ b) = (digit-over (x / 16 % 16), (digit-over (x % 16), digits-over b))
+
+pub field-over : (b : List ℕ) → Over 32 (fieldOf b)
+field-over [] = (omega arith, tt)
+field-over (x ∷ b) = digits-over (x ∷ b)

@@ -193,7 +193,7 @@ fn build(file: &[u8]) -> Rule
 }
 
 // Zeros in every field.
-fn no_rule() -> Rule
+pub fn no_rule() -> Rule
     ensures { λ r. ⌜ r ≡ noRule ⌝ }
 {
     let targets = [0u32; limits::TARGETS];

@@ -1,0 +1,7 @@
+-- The one proof of all that specs/Claims.antt claims. Assumes nothing.
+use Rattle.mergescan.specs.Claims.{Claims}
+use Rattle.mergescan.proofs.Lines.{whole, pieces}
+use Rattle.mergescan.proofs.Clipped.{answered}
+
+pub claims : Claims
+claims = record { whole = whole; pieces = pieces; answered = answered }

@@ -1,0 +1,5 @@
+-- In the order in which they build on each other.
+pub mod Lines
+pub mod Kept
+pub mod Clipped
+pub mod Claims

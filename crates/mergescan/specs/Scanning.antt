@@ -1,0 +1,71 @@
+-- What the code keeps of a line, in a value and two buffers: of each file, as many bytes as its
+-- buffer has room for, at its start.
+--
+--   beginOf, wordAfter, secondAfter   what the code makes of the first byte of a line, of a byte
+--                            more of the word, and of the space behind the first field
+--   KeepsLine s scan one two the value and the buffers keep what was read
+--   ScansOn one two ..       whatever they kept, with the byte c more they keep it; the buffers
+--                            keep their lengths
+--   heldMeaning scan one two what a line means that ends here: of any value and any buffers, whether
+--                            they fit each other or not
+use mathlib.Core.Path.{_≡_}
+use mathlib.Core.Bool.{cond}
+use mathlib.Core.List.{List, _∷_}
+use mathlib.Core.Option.{Option, none, some}
+use Prim.Native.Nat.{ℕ, _+_}
+use lib.Dec.{eqb, ltb}
+use lib.ListN.{length, getD, take, drop}
+use Rattle.hexfields.specs.declared.Part.{Part}
+use Rattle.hexfields.specs.declared.Part.the-variants as part
+use Rattle.hexfields.specs.Fields.{Begun}
+use Rattle.hexfields.specs.Reading.{Kept, Keeps, endOf}
+use Rattle.merging.specs.declared.Way.{Way}
+use Rattle.merging.specs.declared.Way.the-variants.{Both, Either, Interleaving}
+use Rattle.mergetext.specs.Lines.{wordOf, Meaning, merges, malformed}
+use Rattle.mergescan.specs.declared.Scan.{Scan}
+use Rattle.mergescan.specs.declared.Scan.the-variants as scan
+use Rattle.mergescan.specs.Lines.{Seen, start, inWord, inFirst, inSecond, stray, seenWith}
+
+-- ---- the code's steps
+abbrev pub beginOf : ℕ → Scan
+beginOf c =
+    cond (eqb c 98) (scan.Word Both 1)
+    (cond (eqb c 101) (scan.Word Either 1) (cond (eqb c 105) (scan.Word Interleaving 1) scan.Stray))
+
+abbrev pub wordAfter : Way → ℕ → ℕ → Scan
+wordAfter way at c =
+    cond (eqb c (getD (wordOf way) at 0))
+    (cond (ltb (at + 1) (length (wordOf way))) (scan.Word way (at + 1)) (scan.First way part.Nothing))
+    scan.Stray
+
+abbrev pub secondAfter : Way → Option ℕ → Scan
+secondAfter way none = scan.Stray
+secondAfter way (some n) = scan.Second way n part.Nothing
+
+-- ---- what they keep
+pub data KeepsLine : Seen → Scan → List ℕ → List ℕ → Type 0 where
+  keeps-start : {one two : List ℕ} → KeepsLine start scan.Start one two
+  keeps-word : {way : Way} {at x : ℕ} {rest one two : List ℕ} → drop at (wordOf way) ≡ x ∷ rest
+      → KeepsLine (inWord way x rest) (scan.Word way at) one two
+  keeps-first : {way : Way} {b : Begun} {p : Part} {one two : List ℕ} → Keeps b p one
+      → KeepsLine (inFirst way b) (scan.First way p) one two
+  keeps-second : {way : Way} {f : List ℕ} {n : ℕ} {b : Begun} {p : Part} {one two : List ℕ} → Kept f n one → Keeps b p two
+      → KeepsLine (inSecond way f b) (scan.Second way n p) one two
+  keeps-stray : {one two : List ℕ} → KeepsLine stray scan.Stray one two
+
+pub record ScansOn (one two : List ℕ) (s : Scan) (c : ℕ) (one-after two-after : List ℕ) (r : Scan) : Type 0 where
+  pub size-one : length one-after ≡ length one
+  pub size-two : length two-after ≡ length two
+  pub goes-on : (seen : Seen) → KeepsLine seen s one two → KeepsLine (seenWith seen c) r one-after two-after
+
+-- ---- the line has ended
+abbrev pub secondHeld : Way → List ℕ → Option ℕ → List ℕ → Meaning
+secondHeld way f none two = malformed
+secondHeld way f (some m) two = merges way f (take m two)
+
+abbrev pub heldMeaning : Scan → List ℕ → List ℕ → Meaning
+heldMeaning scan.Start one two = malformed
+heldMeaning (scan.Word way at) one two = malformed
+heldMeaning (scan.First way p) one two = malformed
+heldMeaning (scan.Second way n p) one two = secondHeld way (take n one) (endOf p) two
+heldMeaning scan.Stray one two = malformed

@@ -1,0 +1,5 @@
+-- In the order in which they build on each other.
+pub mod Files
+pub mod Ways
+pub mod RoundTrip
+pub mod Claims

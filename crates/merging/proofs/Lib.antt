@@ -1,0 +1,7 @@
+-- In the order in which they build on each other.
+pub mod Sets
+pub mod Tables
+pub mod Languages
+pub mod Conditions
+pub mod Examples
+pub mod Claims

@@ -1,0 +1,4 @@
+-- In the order in which to read them.
+pub mod Interleavings
+pub mod Products
+pub mod Claims
