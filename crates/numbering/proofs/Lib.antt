@@ -6,4 +6,7 @@ pub mod Pigeonhole
 pub mod Reached
 pub mod Found
 pub mod Order
+pub mod Arrays
+pub mod Table
+pub mod Turns
 pub mod Claims
