@@ -2,6 +2,7 @@
 pub mod Texts
 pub mod Numbers
 pub mod Closure
+pub mod OneSeed
 pub mod Pigeonhole
 pub mod Reached
 pub mod Found
