@@ -5,7 +5,7 @@
 --   cells-..                        the keys as an array
 --   keys-long, count-is             how long the array is, and the list of its first cells
 --   read-back                       the keys are read off the array again
---   nothing-there, there-first      what a search among the first cells says of a key's number
+--   found-..                        a search among the first cells
 --   entered-..                      a key's turn
 --   stepped-..                      a key is expanded by a symbol
 use mathlib.Core.Path.{_≡_, refl, sym, ap, _∙_, subst}
@@ -21,7 +21,7 @@ use borrow.Author.Tests.{lt-ltb, le-ltb, eqb-true, eqb-false, ltb-true, ltb-fals
 use Rattle.base.proofs.Lists.{length-listFrom, cell-of, is-listFrom}
 use Rattle.base.proofs.Tests.{by-test, zero-one}
 use Rattle.numbering.specs.Numbering.{indexOf, numbered}
-use Rattle.numbering.specs.Arrays.{limited, keyCells, turnOf, Entered, target, afterStep, Stepped}
+use Rattle.numbering.specs.Arrays.{limited, foundIn, keyCells, turnOf, Entered, target, afterStep, Stepped}
 use Rattle.numbering.proofs.Numbers.{Has, nowhere, number-is, number-taken, numbered-skipped, numbered-kept, numbered-taken}
 
 -- ---- at most 512
@@ -51,18 +51,33 @@ module _ (keys : List ℕ) (count m most : ℕ) (is : most ≡ min count (length
   first-long : length (take count keys) ≡ most
   first-long = length-take count keys ∙ sym is
 
-  pub nothing-there : ((j : ℕ) → j < most → getD keys j 0 ≡ m → ⊥) → length (take count keys) ≤ indexOf (take count keys) m
-  nothing-there h =
-      nowhere (take count keys) m
-      (λ j b e. let d : j < most = omega (arith, first-long) in h j d (sym (getD-take count keys j 0 (omega arith)) ∙ e))
+  pub found-none : ((j : ℕ) → j < most → getD keys j 0 ≡ m → ⊥) → none ≡ foundIn (take count keys) m
+  found-none h =
+      let b : length (take count keys) ≤ indexOf (take count keys) m =
+      nowhere (take count keys) m (λ j b e. let d : j < most = omega (arith, first-long) in h j d (sym (getD-take count keys j 0 (omega arith)) ∙ e)) in
+      rw (le-ltb (indexOf (take count keys) m) (length (take count keys)) b)
 
-  pub there-first : (i : ℕ) → i < most → getD keys i 0 ≡ m → ((j : ℕ) → j < i → getD keys j 0 ≡ m → ⊥)
-      → (indexOf (take count keys) m ≡ i) × Has (take count keys) m
-  there-first i b e h =
+  pub found-at : (i : ℕ) → i < most → getD keys i 0 ≡ m → ((j : ℕ) → j < i → getD keys j 0 ≡ m → ⊥) → some i ≡ foundIn (take count keys) m
+  found-at i b e h =
       let l = take count keys in
       let n : indexOf l m ≡ i =
       number-is l m i (rw first-long b) (getD-take count keys i 0 (omega arith) ∙ e) (λ j c d. h j c (sym (getD-take count keys j 0 (omega arith)) ∙ d)) in
-      (n, rw n (rw first-long b))
+      rw (n, first-long, lt-ltb i most b)
+
+-- what it said
+pub found-has : (l : List ℕ) (m j : ℕ) → foundIn l m ≡ some j → Has l m × (j ≡ indexOf l m)
+found-has l m j e = go (ltb (indexOf l m) (length l)) refl e
+  where
+    go : (b : Bool) → ltb (indexOf l m) (length l) ≡ b → cond b (some (indexOf l m)) none ≡ some j → Has l m × (j ≡ indexOf l m)
+    go true t h = (ltb-true (indexOf l m) (length l) t, cc)
+    go false t h = zero-one cc
+
+pub found-not : (l : List ℕ) (m : ℕ) → foundIn l m ≡ none → length l ≤ indexOf l m
+found-not l m e = go (ltb (indexOf l m) (length l)) refl e
+  where
+    go : (b : Bool) → ltb (indexOf l m) (length l) ≡ b → cond b (some (indexOf l m)) none ≡ none → length l ≤ indexOf l m
+    go true t h = zero-one cc
+    go false t h = ltb-false (indexOf l m) (length l) t
 
 -- ---- the keys as an array
 pub cells-long : (l : List ℕ) → length (keyCells l) ≡ 512
@@ -110,21 +125,25 @@ module _ (keys : List ℕ) (count : ℕ) (most : count ≤ 512) (are : keys ≡ 
     abbrev l : List ℕ
     l = take count keys
 
-    pub entered-kept : Has l m → Entered skips l m (some (indexOf l m, count)) keys
-    entered-kept h =
-        let k : numbered skips l m ≡ l = numbered-kept skips l m ne h in
-        record { number = rw (k, count-is, le-ltb 512 count most); keys-are = λ _. rw k are }
+    pub entered-kept : (j : ℕ) → foundIn l m ≡ some j → Entered skips l m (some (j, count)) keys
+    entered-kept j e =
+        let h = found-has l m j e in
+        let k : numbered skips l m ≡ l = numbered-kept skips l m ne (h .0) in
+        record { number = rw (k, count-is, le-ltb 512 count most, h .1); keys-are = λ _. rw k are }
 
-    module _ (h : length l ≤ indexOf l m) where
+    module _ (missing : foundIn l m ≡ none) where
+      no-number : length l ≤ indexOf l m
+      no-number = found-not l m missing
+
       taken : numbered skips l m ≡ l ++ (m ∷ [])
-      taken = numbered-taken skips l m ne h
+      taken = numbered-taken skips l m ne no-number
 
       one-more : length (l ++ (m ∷ [])) ≡ count + 1
       one-more = length-append l (m ∷ []) ∙ omega (arith, count-is)
 
       pub entered-taken : count < 512 → Entered skips l m (some (count, count + 1)) (set keys count m)
       entered-taken b = record {
-        number = rw (taken, one-more, number-taken l m h, count-is, le-ltb 512 (count + 1) (omega arith));
+        number = rw (taken, one-more, number-taken l m no-number, count-is, le-ltb 512 (count + 1) (omega arith));
         keys-are = λ _.
             ap (λ (x : List ℕ). set x count m) are
             ∙ ap (λ (c : ℕ). set (keyCells l) c m) (sym count-is)

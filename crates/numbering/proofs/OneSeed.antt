@@ -2,7 +2,7 @@
 --
 --   from-one              the procedure from the seed alone
 --   first-key, some-key   the seed has the number 0
-use mathlib.Core.Path.{_≡_, sym, ap, _∙_}
+use mathlib.Core.Path.{_≡_, ap, _∙_}
 use mathlib.Core.Bool.{false}
 use mathlib.Core.List.{List, [], _∷_}
 use Prim.Native.Nat.{ℕ, _<_}

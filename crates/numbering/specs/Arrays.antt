@@ -6,6 +6,7 @@
 --   limited l         how many the keys l are; none where there are more than 512
 --   turnOf skips l m  the turn of the key m after the keys l: its number and how many keys there
 --                     are then; none where it is the 513th
+--   foundIn l m       the number of the key m among the keys l, or none
 --   keyCells l        the keys l as an array
 --   Entered           the key m had its turn
 --   Cleared           nothing is numbered
@@ -26,6 +27,9 @@ use Rattle.numbering.specs.Begins.{Begins}
 
 abbrev pub limited : List ℕ → Option ℕ
 limited l = cond (ltb mostSets (length l)) none (some (length l))
+
+abbrev pub foundIn : List ℕ → ℕ → Option ℕ
+foundIn l m = cond (ltb (indexOf l m) (length l)) (some (indexOf l m)) none
 
 abbrev pub keyCells : List ℕ → List ℕ
 keyCells l = listFrom 0 mostSets (λ i. getD l i 0)

@@ -1,30 +1,28 @@
 -- The laws of numbering (its proofs/Arrays.antt), where keys are sets: one lemma over plain lists
--- for each way out of `find`, `number` and `step`. Assumes nothing.
+-- for each way out of `number` and `step`. Assumes nothing.
 --
 --   told-..        what is told of so many sets
---   found-..       the search
 --   entered-..     a set's turn
 --   stepped-..     a set is expanded by a symbol
-use mathlib.Core.Path.{_≡_, refl, sym, ap, _∙_}
+use mathlib.Core.Path.{_≡_, refl, ap, _∙_}
 use mathlib.Core.Bool.{Bool, true, false, cond}
 use mathlib.Core.List.{List}
 use mathlib.Core.Option.{none, some}
-use Prim.Native.Nat.{ℕ, _+_, _*_, _≤_, _<_, min}
+use Prim.Native.Nat.{ℕ, _+_, _*_, _≤_, _<_}
 use native.Mathlib.Omega.{arith}
 use lib.Dec.{ltb}
-use lib.ListN.{length, getD, take, set}
-use borrow.Author.Tests.{eq-eqb, ne-eqb, lt-ltb, le-ltb, ltb-true, ltb-false}
+use lib.ListN.{getD, take, set}
+use borrow.Author.Tests.{eq-eqb, ne-eqb, ltb-true, ltb-false}
 use Rattle.base.proofs.Tests.{by-test, zero-one}
 use Rattle.automaton.specs.Successor.{successor}
 use Rattle.automaton.proofs.Laws.{successor-foreign}
-use Rattle.numbering.proofs.Numbers.{Has}
+use Rattle.numbering.specs.Arrays.{foundIn}
 use Rattle.numbering.proofs.Arrays as keys
 use Rattle.subsets.specs.declared.SetNumber.{SetNumber}
 use Rattle.subsets.specs.declared.Numbered.{Numbered}
 use Rattle.subsets.specs.declared.Numbered.the-variants.{As, Full}
 use Rattle.subsets.specs.declared.Numbering.the-variants.{Whole, Over}
-use Rattle.subsets.specs.Sets.{isEmpty, indexOf}
-use Rattle.subsets.specs.Singles.{foundIn}
+use Rattle.subsets.specs.Sets.{isEmpty}
 use Rattle.subsets.specs.Answer.{counted, refused, turnMeans}
 use Rattle.subsets.specs.Steps.{turnTold, cellsOf, Entered, Stepped}
 
@@ -38,46 +36,19 @@ pub told-refused : (over : Bool) (count : ℕ) → refused 9 ≡ cond over (refu
 told-refused true count e = refl
 told-refused false count e = zero-one cc
 
--- ---- the search
-module _ (sets : List ℕ) (count m most : ℕ) (is : most ≡ min count (length sets)) where
-  pub found-none : ((j : ℕ) → j < most → getD sets j 0 ≡ m → ⊥) → none ≡ foundIn (take count sets) m
-  found-none h = rw (le-ltb (indexOf (take count sets) m) (length (take count sets)) (keys.nothing-there sets count m most is h))
-
-  pub found-at : (i : ℕ) → i < most → getD sets i 0 ≡ m → ((j : ℕ) → j < i → getD sets j 0 ≡ m → ⊥) → some i ≡ foundIn (take count sets) m
-  found-at i b e h =
-      let f = keys.there-first sets count m most is i b e h in
-      ap some (sym (f .0)) ∙ rw (lt-ltb (indexOf (take count sets) m) (length (take count sets)) (f .1))
-
--- what it said
-pub found-has : (l : List ℕ) (m j : ℕ) → foundIn l m ≡ some j → Has l m × (j ≡ indexOf l m)
-found-has l m j e = go (ltb (indexOf l m) (length l)) refl e
-  where
-    go : (b : Bool) → ltb (indexOf l m) (length l) ≡ b → cond b (some (indexOf l m)) none ≡ some j → Has l m × (j ≡ indexOf l m)
-    go true t h = (ltb-true (indexOf l m) (length l) t, cc)
-    go false t h = zero-one cc
-
-pub found-not : (l : List ℕ) (m : ℕ) → foundIn l m ≡ none → length l ≤ indexOf l m
-found-not l m e = go (ltb (indexOf l m) (length l)) refl e
-  where
-    go : (b : Bool) → ltb (indexOf l m) (length l) ≡ b → cond b (some (indexOf l m)) none ≡ none → length l ≤ indexOf l m
-    go true t h = zero-one cc
-    go false t h = ltb-false (indexOf l m) (length l) t
-
 -- ---- a set's turn
 module _ (sets : List ℕ) (count : ℕ) (most : count ≤ 512) (are : sets ≡ cellsOf (take count sets)) (m : ℕ) (ne : m ≡ 0 → ⊥) where
   kept : isEmpty m ≡ false
   kept = ne-eqb m 0 ne
 
   pub entered-kept : (j : SetNumber) → foundIn (take count sets) m ≡ some (j .0) → Entered (take count sets) m (As j count) sets
-  entered-kept j e =
-      let h = found-has (take count sets) m (j .0) e in
-      rw (h .1) (keys.entered-kept sets count most are isEmpty m kept (h .0))
+  entered-kept j e = keys.entered-kept sets count most are isEmpty m kept (j .0) e
 
   pub entered-taken : count < 512 → foundIn (take count sets) m ≡ none → Entered (take count sets) m (As (record { 0 = count }) (count + 1)) (set sets count m)
-  entered-taken b e = keys.entered-taken sets count most are isEmpty m kept (found-not (take count sets) m e) b
+  entered-taken b e = keys.entered-taken sets count most are isEmpty m kept e b
 
   pub entered-full : 512 ≤ count → foundIn (take count sets) m ≡ none → Entered (take count sets) m Full sets
-  entered-full b e = keys.entered-full sets count most are isEmpty m kept (found-not (take count sets) m e) b
+  entered-full b e = keys.entered-full sets count most are isEmpty m kept e b
 
 -- ---- a set is expanded by a symbol
 -- no cell of another row is written
