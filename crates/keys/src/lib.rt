@@ -142,7 +142,15 @@ fn expand(
             break 'expand Numbering::Whole(count);
         }
         for symbol in 0..k {
-            match step(targets, kind, keys, next, count, KeyNumber(i as u16), symbol) {
+            match step(
+                targets,
+                kind,
+                keys,
+                next,
+                count,
+                KeyNumber(i as u16),
+                symbol,
+            ) {
                 Numbering::Whole(after) => {
                     count = after;
                 }

@@ -2,20 +2,19 @@
 -- nothing.
 use mathlib.Core.Path.{_≡_, refl, sym, ap, _∙_}
 use mathlib.Core.Logic.{_↔_}
-use mathlib.Core.Bool.{true, cond}
+use mathlib.Core.Bool.{cond}
 use mathlib.Core.List.{List, [], _∷_, _++_}
 use Prim.Native.Nat.{ℕ, _^_, _≤_, _<_}
-use native.Mathlib.Nat.{lt-of-lt-of-le}
 use native.Mathlib.Omega.{arith}
 use lib.Dec.{ltb, lit<}
-use lib.ListN.{length, getD}
-use lib.Pow.{pow-lt, pow-mono}
-use borrow.Author.Tests.{lt-ltb, le-ltb, ltb-true, ltb-false}
+use lib.ListN.{getD}
+use lib.Pow.{pow-lt}
+use borrow.Author.Tests.{lt-ltb, ltb-false}
 use Rattle.base.specs.Lists.{listFrom}
 use Rattle.base.proofs.Lists.{length-listFrom, cell-of, is-listFrom, same-list}
 use Rattle.base.proofs.Tests.{by-test}
-use Rattle.masks.specs.Masks.{_∈_, single, union}
-use Rattle.masks.proofs.Laws.{part-of, in-union, members-below, union-lt, union-same, union-empty, union-all}
+use Rattle.masks.specs.Masks.{_∈_, single}
+use Rattle.masks.proofs.Laws.{part-of, in-union, union-lt, union-same, union-empty, union-all}
 use Rattle.mappings.specs.Mappings.{Value, Within, image, compose, identity, Bracketed, leaf, both, valueOf, leaves, composedFrom, composed}
 use Rattle.mappings.proofs.Unions.{union-union, union-single, union-of-single}
 

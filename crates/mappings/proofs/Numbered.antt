@@ -3,7 +3,7 @@
 use mathlib.Core.Path.{_≡_, refl, sym, ap, _∙_, subst}
 use mathlib.Core.Logic.{_↔_, _⊎_, ⊎-elim}
 use mathlib.Core.List.{List, [], _∷_, _++_, append-nil, append-assoc}
-use Prim.Native.Nat.{ℕ, _+_, _≤_, _<_}
+use Prim.Native.Nat.{ℕ, _+_, _<_}
 use native.Mathlib.Omega.{arith}
 use lib.Dec.{ltb}
 use lib.ListN.{length, getD}
@@ -13,14 +13,14 @@ use Rattle.base.proofs.Lists.{length-listFrom, cell-of}
 use Rattle.base.proofs.Tests.{by-test}
 use Rattle.automaton.specs.declared.Rule.{Rule}
 use Rattle.automaton.specs.Automaton.{Text}
-use Rattle.numbering.specs.Numbering.{Walk, keysUpTo, nextOf}
-use Rattle.numbering.specs.Texts.{follow, Symbols, none, more, Sooner}
+use Rattle.numbering.specs.Numbering.{Walk, nextOf}
+use Rattle.numbering.specs.Texts.{follow, Symbols, none, more}
 use Rattle.numbering.specs.Claims as keys
 use Rattle.numbering.proofs.OneSeed.{first-key}
 use Rattle.numbering.proofs.Claims as numbering
-use Rattle.mappings.specs.Mappings.{Value, compose, identity, letter}
+use Rattle.mappings.specs.Mappings.{compose, identity, letter}
 use Rattle.mappings.specs.Packing.{pack, unpack, mappingWalk}
-use Rattle.mappings.specs.Claims.{Small, mappingAfter, keysOf, mappingAt, few, many, First, InOrder}
+use Rattle.mappings.specs.Claims.{Small, mappingAfter, keysOf, mappingAt, few, many, InOrder}
 use Rattle.mappings.proofs.Composing.{identity-value}
 use Rattle.mappings.proofs.Packing.{unpacked}
 use Rattle.mappings.proofs.Rules.{is-value, of-one-more}

@@ -1,5 +1,5 @@
 -- A mapping as one number, and back. Assumes nothing.
-use mathlib.Core.Path.{_≡_, refl, sym, ap, _∙_}
+use mathlib.Core.Path.{_≡_, sym, ap, _∙_}
 use mathlib.Core.List.{List, [], _∷_}
 use Prim.Native.Nat.{ℕ, zero, suc, _+_, _*_, _-_, _/_, _%_, _^_, _≤_, _<_}
 use native.Mathlib.Nat.{lt-of-lt-of-le}
@@ -9,7 +9,7 @@ use lib.ListN.{length, getD, drop, length-drop, drop-of-length-le}
 use lib.Pow.{pow-add, pow-mono, shr-shr, high, low}
 use lib.Seq.{drop-cons, getD-drop}
 use Rattle.base.specs.Lists.{listFrom}
-use Rattle.base.proofs.Lists.{length-listFrom, cell-of, is-listFrom}
+use Rattle.base.proofs.Lists.{is-listFrom}
 use Rattle.mappings.specs.Mappings.{Value}
 use Rattle.mappings.specs.Packing.{pack, unpack}
 

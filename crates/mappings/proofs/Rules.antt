@@ -4,18 +4,17 @@ use mathlib.Core.Path.{_≡_, refl, sym, ap, _∙_, subst}
 use mathlib.Core.Logic.{_↔_, inl}
 use mathlib.Core.Bool.{true, cond}
 use mathlib.Core.List.{List, [], _∷_, _++_}
-use Prim.Native.Nat.{ℕ, _%_, _^_, _≤_, _<_}
+use Prim.Native.Nat.{ℕ, _%_, _^_, _<_}
 use native.Mathlib.Nat.{lt-of-lt-of-le, mod-eq-of-lt}
 use native.Mathlib.Omega.{arith}
-use lib.Dec.{ltb, lit<}
-use lib.ListN.{length, getD}
+use lib.Dec.{ltb}
+use lib.ListN.{getD}
 use lib.Pow.{pow-lt, pow-mono, pow-pos}
 use borrow.Author.Tests.{lt-ltb, ltb-true, ltb-false}
-use Rattle.base.specs.Lists.{listFrom}
 use Rattle.base.proofs.Lists.{length-listFrom, cell-of, same-list}
 use Rattle.base.proofs.Tests.{by-test}
 use Rattle.masks.specs.Masks.{_∈_, single, union, shares}
-use Rattle.masks.proofs.Laws.{single-law, members-below, union-all, union-same, union-empty}
+use Rattle.masks.proofs.Laws.{single-law, union-all, union-same, union-empty}
 use Rattle.automaton.specs.declared.Rule.{Rule}
 use Rattle.automaton.specs.Automaton.{Run, Accepts}
 use Rattle.automaton.specs.Rules.{targetMask, automatonOf}
@@ -24,7 +23,6 @@ use Rattle.automaton.proofs.Laws.{after-or, after-append, after-empty, after-be
 use Rattle.mappings.specs.Mappings.{Value, Within, image, compose, identity, letter, mappingOf}
 use Rattle.mappings.specs.Claims.{Small, mappingAfter}
 use Rattle.mappings.proofs.Unions.{union-single, union-of-single, union-through}
-use Rattle.mappings.proofs.Composing.{compose-at}
 
 -- a set's successor by a text is the union of those of its members
 after-union : (ts : List ℕ) (m n : ℕ) (w : List ℕ) → m < 2 ^ n → union (λ q. after ts (single q) w) m n ≡ after ts m w

@@ -15,12 +15,10 @@ use mathlib.Core.List.{List, [], _∷_, _++_}
 use Prim.Native.Nat.{ℕ, _+_, _^_, _≤_, _<_}
 use lib.ListN.{length, getD}
 use Rattle.limits.specs.Limits.{mostSets}
-use Rattle.base.specs.Lists.{joined}
 use Rattle.masks.specs.Masks.{_∈_, shares}
 use Rattle.automaton.specs.declared.Rule.{Rule}
 use Rattle.automaton.specs.Automaton.{Text, Run, Accepts}
 use Rattle.automaton.specs.Rules.{automatonOf, WellFormed}
-use Rattle.automaton.specs.Successor.{after}
 use Rattle.numbering.specs.Numbering.{nextOf}
 use Rattle.numbering.specs.Texts.{Sooner, NoLater}
 use Rattle.mappings.specs.Mappings.{mappedStates, Value, Within, image, compose, identity, Bracketed, valueOf, leaves, composed, letter, mappingOf}

@@ -3,7 +3,8 @@
 -- step of a key that is not left out goes to a cell of the key's own row (`column`), and nothing
 -- else.
 --
---   turn-..                   key i is expanded by the next symbol
+--   turn-whole                key i is expanded by the next symbol
+--   row-done, row-over        all its symbols are passed, or the 513th key turns up
 --   grown-whole, grown-over   the ways out of the expansion
 --   grown-read                the keys are read off the array again
 --   begin                     nothing is numbered yet
@@ -16,11 +17,11 @@ use native.Mathlib.Omega.{arith}
 use lib.ListN.{length, getD, take}
 use borrow.Author.Tests.{le-ltb}
 use Rattle.base.proofs.Lists.{length-listFrom, cell-of}
-use Rattle.numbering.specs.Numbering.{Walk, expandFrom}
+use Rattle.numbering.specs.Numbering.{Walk, expandFrom, closeFrom}
 use Rattle.numbering.specs.Begins.{Begins}
 use Rattle.numbering.specs.Arrays.{target, afterStep, Stepped, Cleared, ArraysHold, Grown}
 use Rattle.numbering.proofs.Numbers.{begins-trans, begins-length, begins-at, numbered-begins}
-use Rattle.numbering.proofs.Closure.{expand-begins, symbols-more}
+use Rattle.numbering.proofs.Closure.{expand-begins, close-begins, symbols-more, symbols-end, keys-more}
 use Rattle.numbering.proofs.Arrays.{count-is, read-back, limited-whole, limited-over, whole-of, over-of}
 use Rattle.numbering.proofs.Table.{step-holds}
 
@@ -62,8 +63,24 @@ module _ (a : Walk) (free : ℕ) where
           step-expanded ∙ ap (expanded a i (s + 1)) (sym read),
         )
 
-      pub turn-over : r ≡ none → (w : List ℕ) → Begins (expanded a i s l) w → 512 < length w
+      turn-over : r ≡ none → (w : List ℕ) → Begins (expanded a i s l) w → 512 < length w
       turn-over over w b = omega (arith, over-of after (sym over ∙ st .count), begins-length (begins-trans step-begins b))
+
+  -- ---- the turns of key i, which began with the keys l₀ and come to l at symbol s
+  module _ (top i s : ℕ) (l₀ l : List ℕ) (first : i < length l₀) (left : i < top) (so-far : expanded a i 0 l₀ ≡ expanded a i s l) where
+    row-rest : closeFrom a (top - i) i l₀ ≡ closeFrom a (top - (i + 1)) (i + 1) (expanded a i s l)
+    row-rest = keys-more a top i l₀ first left ∙ ap (closeFrom a (top - (i + 1)) (i + 1)) so-far
+
+    -- all symbols are passed
+    pub row-done : a .k ≤ s → closeFrom a (top - i) i l₀ ≡ closeFrom a (top - (i + 1)) (i + 1) l
+    row-done h = row-rest ∙ ap (closeFrom a (top - (i + 1)) (i + 1)) (symbols-end a (getD l i 0) s l h)
+
+    -- the 513th key turns up
+    pub row-over : i < length l → s < a .k → {r : Option ℕ} {keys′ next next′ : List ℕ} → Stepped (a .step) (a .skips) l i s r keys′ next next′ → r ≡ none
+        → 512 < length (closeFrom a (top - i) i l₀)
+    row-over below symbol st over =
+        rw row-rest
+        (turn-over l i s below symbol st over (closeFrom a (top - (i + 1)) (i + 1) (expanded a i s l)) (close-begins a (top - (i + 1)) (i + 1) (expanded a i s l)))
 
   -- ---- the ways out
   pub grown-whole : (f keys next : List ℕ) (count : ℕ) → count ≤ 512 → f ≡ take count keys → ArraysHold a free (take count keys) (count * 16) keys next

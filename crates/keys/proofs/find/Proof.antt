@@ -1,54 +1,58 @@
+-- `find` meets its contract. The loop's invariant: the key stands at none of the places passed. So
+-- the place where it is found is the first, and where all are passed it has no number. Assumes
+-- nothing.
+use mathlib.Core.Path.{_≡_}
+use Prim.Native.Nat.{ℕ, _-_, _≤_, _<_}
+use native.Mathlib.Omega.{arith}
+use lib.ListN.{getD}
+use borrow.Author.Count.{below-more}
+use borrow.Author.Needs.{needs}
+use Rattle.numbering.proofs.Arrays.{found-at, found-none}
 use Rattle.keys.proofs.find.Statement.{statement}
 use Rattle.keys.proofs.find.Tie as tie
-use Rattle.keys.proofs.find.Reads as reads
-use Rattle.keys.proofs.find.Lts as lts
-use Rattle.base.proofs.at_most.Reads as at-most-reads
 
 abbrev Inv-loop : tie.InvT-loop
-Inv-loop keys count key cells most i₀ i = ?
+Inv-loop keys count key cells most i₀ i = (i ≤ most) × ((j : ℕ) → j < i → getD keys j 0 ≡ key → ⊥)
 
 abbrev μ-loop : tie.MeasureT-loop
-μ-loop keys count key cells most i₀ i = ?
+μ-loop keys count key cells most i₀ i = most - i
 
--- src/lib.rt:70:9
 at-most-requires : tie.Need-at-most-requires Inv-loop μ-loop
-at-most-requires c κs = ?
+at-most-requires c κs = search needs
 
--- src/lib.rt:72:9
 loop-holds : tie.Need-loop-holds Inv-loop μ-loop
-loop-holds c = ?
+loop-holds c = (omega arith, λ j b e. omega arith)
 
--- src/lib.rt:74:13
 returns : tie.Need-returns Inv-loop μ-loop
-returns c = ?
+returns c =
+    let a = c .before .before .before .before .args in
+    let m = c .before .before .at-most in
+    found-none (a .keys .now) (a .count) (a .key) (m .result) (omega arith) (rw (c .if1 .taken) at (c .before .loop .inv .1))
 
--- src/lib.rt:76:12
 mul-if2 : tie.Need-mul-if2 Inv-loop μ-loop
-mul-if2 c = ?
+mul-if2 c = omega arith
 
--- src/lib.rt:76:12
 shared-slice-read-if2 : tie.Need-shared-slice-read-if2 Inv-loop μ-loop
-shared-slice-read-if2 c = ?
+shared-slice-read-if2 c = omega arith
 
--- src/lib.rt:79:9
 add-i : tie.Need-add-i Inv-loop μ-loop
-add-i c = ?
+add-i c = omega arith
 
--- src/lib.rt:72:9
 loop-less : tie.Need-loop-less Inv-loop μ-loop
-loop-less c = ?
+loop-less c = omega arith
 
--- src/lib.rt:72:9
 loop-again : tie.Need-loop-again Inv-loop μ-loop
-loop-again c = ?
+loop-again c = (omega arith, below-more _ _ (c .before .before .before .loop .inv .1) (c .if2 .left))
 
--- src/lib.rt:81:25
 cast-t14 : tie.Need-cast-t14 Inv-loop μ-loop
-cast-t14 c = ?
+cast-t14 c = omega arith
 
--- src/lib.rt:66:1
 returns-2 : tie.Need-returns-2 Inv-loop μ-loop
-returns-2 c = ?
+returns-2 c =
+    let x = c .before .before .before .loop in
+    let a = c .before .before .before .before .before .before .args in
+    let m = c .before .before .before .before .at-most in
+    found-at (a .keys .now) (a .count) (a .key) (m .result) (omega arith) (x .i) (omega arith) (c .if2 .taken) (x .inv .1)
 
 pub find-spec : {M : Type 1} → statement M
 find-spec =

@@ -7,8 +7,7 @@ use Prim.Native.Nat.{ℕ, _*_, _+_, _-_, _^_, _≤_, _<_}
 use native.Mathlib.Omega.{arith}
 use lib.ListN.{getD, drop}
 use lib.ListN.{drop}
-use lib.ListN.{length, getD, drop}
-use lib.Seq.{drop-cons}
+use lib.ListN.{getD, drop}
 use borrow.Author.Needs.{needs}
 use Rattle.mappings.specs.Mappings.{Value}
 use Rattle.mappings.specs.Packing.{pack}

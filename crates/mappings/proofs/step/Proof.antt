@@ -1,7 +1,5 @@
 -- `step` meets its contract. Assumes nothing.
-use mathlib.Core.Path.{_≡_, ap, ap₂, _∙_}
-use mathlib.Core.List.{List}
-use Prim.Native.Nat.{ℕ}
+use mathlib.Core.Path.{ap, ap₂, _∙_}
 use borrow.Author.Needs.{needs}
 use Rattle.mappings.specs.Mappings.{compose}
 use Rattle.mappings.specs.Packing.{pack}

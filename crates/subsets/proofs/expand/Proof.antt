@@ -9,14 +9,14 @@ use Prim.Native.Nat.{ℕ, _+_, _-_, _*_, _≤_, _<_, min}
 use native.Mathlib.Omega.{arith}
 use lib.ListN.{length, getD, take}
 use borrow.Author.Needs.{needs}
-use Rattle.numbering.proofs.Closure.{close-begins, symbols-end, keys-more, keys-end}
+use Rattle.numbering.proofs.Closure.{keys-end}
 use Rattle.subsets.specs.Sets.{setWalk, closeFrom}
 use Rattle.subsets.specs.declared.Numbering.{Numbering}
 use Rattle.subsets.specs.Answer.{numberingMeans}
 use Rattle.subsets.specs.Steps.{told, ArraysHold}
 use Rattle.numbering.proofs.Arrays.{count-is}
 use Rattle.numbering.proofs.Table.{row-begins, row-ends}
-use Rattle.numbering.proofs.Turns.{expanded, turn-whole, turn-over, grown-whole, grown-over}
+use Rattle.numbering.proofs.Turns.{expanded, turn-whole, row-done, row-over, grown-whole, grown-over}
 use Rattle.subsets.proofs.Turns.{column}
 use Rattle.subsets.proofs.expand.Statement.{statement}
 use Rattle.subsets.proofs.expand.Tie as tie
@@ -97,17 +97,14 @@ expand-again c =
     let e = c .before .loop in
     let x = c .before .before .before .expand in
     let a = c .before .before .before .before .before .args in
-    let top : ℕ = 512 + a .first .0 in
-    let l = take (x .count) (x .sets) in
-    let n : length l ≡ x .count = count-is (x .sets) (x .count) (x .inv .0) (x .inv .3 .keys-are) in (
+    let l₀ = take (x .count) (x .sets) in
+    let n : length l₀ ≡ x .count = count-is (x .sets) (x .count) (x .inv .0) (x .inv .3 .keys-are) in (
       e .inv .0,
       omega arith,
       omega arith,
       row-ends (setWalk (a .targets .now) (a .k)) 512 (x .i) (e .symbol) (c .loop-test .left) (e .inv .3),
       x .inv .4
-          ∙ keys-more (setWalk (a .targets .now) (a .k)) top (x .i) l (omega arith) (omega arith)
-          ∙ ap (closeFrom (a .targets .now) (a .k) (top - (x .i + 1)) (x .i + 1))
-          (e .inv .4 ∙ symbols-end (setWalk (a .targets .now) (a .k)) (getD (take (e .count) (e .sets)) (x .i) 0) (e .symbol) (take (e .count) (e .sets)) (c .loop-test .left)),
+          ∙ row-done (setWalk (a .targets .now) (a .k)) 512 (512 + a .first .0) (x .i) (e .symbol) l₀ (take (e .count) (e .sets)) (omega arith) (omega arith) (e .inv .4) (c .loop-test .left),
     )
 
 returns : tie.Need-returns Inv-loop μ-loop Inv-expand μ-expand
@@ -127,20 +124,15 @@ returns-2 c =
     let x = c .before .before .before .before .before .before .before .before .expand in
     let a = c .before .before .before .before .before .before .before .before .before .before .args in
     let w = c .before .before .step in
-    let top : ℕ = 512 + a .first .0 in
     let l₀ = take (x .count) (x .sets) in
     let n₀ : length l₀ ≡ x .count = count-is (x .sets) (x .count) (x .inv .0) (x .inv .3 .keys-are) in
     let l = take (e .count) (e .sets) in
-    let below : x .i < length l = rw (count-is (e .sets) (e .count) (e .inv .0) (e .inv .3 .keys-are)) (e .inv .1) in
-    let f = closeFrom (a .targets .now) (a .k) (top - (x .i + 1)) (x .i + 1) (expanded (setWalk (a .targets .now) (a .k)) (x .i) (e .symbol) l) in
-    let same : closeFrom (a .targets .now) (a .k) 512 (a .first .0) (take (a .from) (a .sets .now)) ≡ f =
-    x .inv .4
-    ∙ keys-more (setWalk (a .targets .now) (a .k)) top (x .i) l₀ (omega arith) (omega arith)
-    ∙ ap (closeFrom (a .targets .now) (a .k) (top - (x .i + 1)) (x .i + 1)) (e .inv .4) in
+    let n : length l ≡ e .count = count-is (e .sets) (e .count) (e .inv .0) (e .inv .3 .keys-are) in
+    let f = closeFrom (a .targets .now) (a .k) (512 + a .first .0 - x .i) (x .i) l₀ in
     let long : 512 < length f =
-    turn-over (setWalk (a .targets .now) (a .k)) 512 l (x .i) (e .symbol) below (omega arith) (w .ensures) (ap (λ (x : Numbering). told (numberingMeans x)) (c .enum-told .given .1)) f
-    (close-begins (setWalk (a .targets .now) (a .k)) (top - (x .i + 1)) (x .i + 1) (expanded (setWalk (a .targets .now) (a .k)) (x .i) (e .symbol) l)) in
-    rw same (grown-over (setWalk (a .targets .now) (a .k)) 512 f (w .last .1 .0) (w .last .1 .1 .0) long)
+    row-over (setWalk (a .targets .now) (a .k)) 512 (512 + a .first .0) (x .i) (e .symbol) l₀ l (omega arith) (omega arith) (e .inv .4) (omega arith) (omega arith) (w .ensures)
+    (ap (λ (y : Numbering). told (numberingMeans y)) (c .enum-told .given .1)) in
+    rw (x .inv .4) (grown-over (setWalk (a .targets .now) (a .k)) 512 f (w .last .1 .0) (w .last .1 .1 .0) long)
 
 pub expand-spec : {M : Type 1} → statement M
 expand-spec =
