@@ -1,12 +1,16 @@
 -- The first key alone is numbered, which is what `expand` asks for; and what `expand` leaves is the
 -- table. Assumes nothing.
 use mathlib.Core.Path.{_≡_, refl, sym, ap, _∙_}
+use mathlib.Core.Bool.{Bool, true, false, cond}
 use mathlib.Core.List.{List, [], _∷_}
-use Prim.Native.Nat.{ℕ, _*_, _/_, _%_, min}
+use mathlib.Core.Option.{some}
+use Prim.Native.Nat.{ℕ, _*_, _/_, _%_, _≤_, min}
 use native.Mathlib.Omega.{arith}
+use lib.Dec.{ltb}
 use lib.ListN.{length, take, set}
-use borrow.Author.Tests.{lt-ltb, le-ltb}
+use borrow.Author.Tests.{lt-ltb, le-ltb, ltb-false}
 use Rattle.base.proofs.Lists.{same-list}
+use Rattle.base.proofs.Options.{none-some}
 use Rattle.numbering.specs.Numbering.{Walk}
 use Rattle.numbering.specs.Arrays.{keyCells, Cleared, cellTo, ArraysHold, Grown}
 use Rattle.numbering.proofs.Arrays.{cells-snoc, read-back, whole-of, over-of}
@@ -18,7 +22,7 @@ use Rattle.keys.specs.declared.KeyTable.{KeyTable}
 use Rattle.keys.specs.declared.Numbering.{Numbering}
 use Rattle.keys.specs.declared.Numbering.the-variants.{Whole, Over}
 use Rattle.keys.specs.Kinds.{walkOf}
-use Rattle.keys.specs.Tables.{countMeans, tableOutcome, keysOf, cellOf, cellsOf, noTable, tableOf}
+use Rattle.keys.specs.Tables.{countMeans, Table, tableOutcome, keysOf, cellOf, cellsOf, noTable, tableOf}
 use Rattle.keys.specs.Steps.{closedFrom}
 
 module _ (m : ℕ) (zeros next : List ℕ) (h : Cleared 0 zeros next) where
@@ -60,3 +64,16 @@ module _ (kind : Kind) (ts : List ℕ) (k m : ℕ) where
     pub table-over : r ≡ Over → (t : KeyTable) → tableOutcome t ≡ noTable → tableOutcome t ≡ tableOf kind ts k m
     unfolding tableOf
     table-over e t is = is ∙ rw (lt-ltb 512 (length l) (over-of l (sym (ap countMeans e) ∙ told .count)))
+
+-- ---- what an answer tells
+count-of : (b : Bool) (n : ℕ) (keys next : List ℕ) (t : Table) → t ≡ cond b noTable (record { count = some n; keys = keys; next = next })
+    → (c : ℕ) → t .count ≡ some c → (b ≡ false) × (c ≡ n)
+count-of true n keys next t is c e = none-some (ap (λ (x : Table). x .count) is) e
+count-of false n keys next t is c e = (refl, let f : some c ≡ some n = sym e ∙ ap (λ (x : Table). x .count) is in cc)
+
+pub most-keys : (kind : Kind) (ts : List ℕ) (k m : ℕ) (t : KeyTable) → tableOutcome t ≡ tableOf kind ts k m → (c : ℕ) → t .answer ≡ Whole c → c ≤ 512
+unfolding tableOf
+most-keys kind ts k m t is c e =
+    let n : ℕ = length (keysOf kind ts k m) in
+    let x = count-of (ltb 512 n) n (keyCells (keysOf kind ts k m)) (cellsOf (walkOf kind ts (min k 16)) (keysOf kind ts k m)) (tableOutcome t) is c (ap countMeans e) in
+    omega (arith, ltb-false 512 n (x .0), x .1)

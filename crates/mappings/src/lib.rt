@@ -21,7 +21,7 @@ pub struct Mapping {
 }
 
 // Every state that a member of the set is mapped to.
-fn image(masks: &[u8; STATES], set: u8) -> u8
+pub fn image(masks: &[u8; STATES], set: u8) -> u8
     ensures { λ r. ⌜ r ≡ imageOf (now (masks .entry)) set ⌝ }
 {
     let cells: &[u8] = masks;

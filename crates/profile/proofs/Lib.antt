@@ -1,0 +1,2 @@
+-- In the order in which they build on each other.
+pub mod Ways
