@@ -23,6 +23,7 @@ claims = record {
   of-nothing = rules.of-nothing;
   of-one-more = rules.of-one-more;
   of-both = rules.of-both;
+  of-all = rules.of-all;
   says = rules.says;
   start = numbered.start;
   sound = numbered.sound;

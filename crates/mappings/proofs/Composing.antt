@@ -7,7 +7,7 @@ use mathlib.Core.List.{List, [], _∷_, _++_}
 use Prim.Native.Nat.{ℕ, _^_, _≤_, _<_}
 use native.Mathlib.Omega.{arith}
 use lib.Dec.{ltb, lit<}
-use lib.ListN.{getD}
+use lib.ListN.{length, getD}
 use lib.Pow.{pow-lt}
 use borrow.Author.Tests.{lt-ltb, ltb-false}
 use Rattle.base.specs.Lists.{listFrom}
@@ -118,6 +118,9 @@ leaves-of (both x y) =
       are = rw (a .are, b .are);
       value = rw (a .value, b .value) (sym (append-composed (a .first) (a .others) (b .first) (b .others)));
     }
+
+pub some-leaf : (t : Bracketed) → 0 < length (leaves t)
+some-leaf t = omega (arith, ap length (leaves-of t .are))
 
 pub brackets : (t : Bracketed) → valueOf t ≡ composed (leaves t)
 brackets t = let a = leaves-of t in a .value ∙ sym (ap composed (a .are))

@@ -3,7 +3,7 @@
 use mathlib.Core.Path.{_≡_, refl, sym, ap, _∙_, subst}
 use mathlib.Core.Logic.{_↔_, inl}
 use mathlib.Core.Bool.{true, cond}
-use mathlib.Core.List.{List, [], _∷_, _++_}
+use mathlib.Core.List.{List, [], _∷_, _++_, append-nil, map, flatten}
 use Prim.Native.Nat.{ℕ, _%_, _^_, _<_}
 use native.Mathlib.Nat.{lt-of-lt-of-le, mod-eq-of-lt}
 use native.Mathlib.Omega.{arith}
@@ -20,7 +20,7 @@ use Rattle.automaton.specs.Automaton.{Run, Accepts}
 use Rattle.automaton.specs.Rules.{targetMask, automatonOf}
 use Rattle.automaton.specs.Successor.{successor, after}
 use Rattle.automaton.proofs.Laws.{after-or, after-append, after-empty, after-below, after-law, accepts-law}
-use Rattle.mappings.specs.Mappings.{Value, Within, image, compose, identity, letter, mappingOf}
+use Rattle.mappings.specs.Mappings.{Value, Within, image, compose, identity, composedFrom, letter, mappingOf}
 use Rattle.mappings.specs.Claims.{Small, mappingAfter}
 use Rattle.mappings.proofs.Unions.{union-single, union-of-single, union-through}
 
@@ -100,3 +100,9 @@ module _ (r : Rule) (small : Small r) where
 
   pub says : (w : List ℕ) → Accepts (automatonOf r) w ↔ (shares (image (mappingAfter r w) (r .initials)) (r .finals) ≡ true)
   says w = rw (image-after w (r .initials) (small .good .initials-below)) (accepts-law r (small .good) w)
+
+  -- ---- texts one behind the other
+  pub of-all : (w : List ℕ) (ws : List (List ℕ)) → composedFrom (mappingAfter r w) (map (mappingAfter r) ws) ≡ mappingAfter r (flatten (w ∷ ws))
+  unfolding composedFrom flatten
+  of-all w [] = ap (mappingAfter r) (sym (append-nil w))
+  of-all w (v ∷ ws) = ap (compose (mappingAfter r w)) (of-all v ws) ∙ sym (of-both w (flatten (v ∷ ws)))

@@ -11,7 +11,7 @@
 use mathlib.Core.Path.{_≡_}
 use mathlib.Core.Logic.{_↔_}
 use mathlib.Core.Bool.{true}
-use mathlib.Core.List.{List, [], _∷_, _++_}
+use mathlib.Core.List.{List, [], _∷_, _++_, map, flatten}
 use Prim.Native.Nat.{ℕ, _+_, _^_, _≤_, _<_}
 use lib.ListN.{length, getD}
 use Rattle.limits.specs.Limits.{mostSets}
@@ -80,6 +80,8 @@ pub record Claims : Type 0 where
   pub of-nothing : (r : Rule) → mappingAfter r [] ≡ identity (r .n)
   pub of-one-more : (r : Rule) → Small r → (w : List ℕ) (s : ℕ) → mappingAfter r (w ++ (s ∷ [])) ≡ compose (mappingAfter r w) (letter (r .targets) s)
   pub of-both : (r : Rule) → Small r → (v w : List ℕ) → mappingAfter r (v ++ w) ≡ compose (mappingAfter r v) (mappingAfter r w)
+  -- and of texts one behind the other
+  pub of-all : (r : Rule) → Small r → (w : List ℕ) (ws : List (List ℕ)) → composed (map (mappingAfter r) (w ∷ ws)) ≡ mappingAfter r (flatten (w ∷ ws))
   -- a text is accepted exactly where its mapping leads from an initial state to a final one
   pub says : (r : Rule) → Small r → (w : List ℕ)
       → Accepts (automatonOf r) w ↔ (shares (image (mappingAfter r w) (r .initials)) (r .finals) ≡ true)
