@@ -5,3 +5,4 @@ pub mod Packing
 pub mod Rules
 pub mod Numbered
 pub mod Claims
+pub mod Examples

@@ -1,19 +1,19 @@
 -- What the verdict says of a mapping, and of chunks whose mappings are composed. Assumes that
 -- building accepts the rule, and nothing else.
-use mathlib.Core.Path.{_≡_, refl, sym, ap, ap₂, _∙_}
+use mathlib.Core.Path.{_≡_, refl, ap, ap₂, _∙_}
 use mathlib.Core.Logic.{_↔_}
 use mathlib.Core.Bool.{true}
 use mathlib.Core.List.{List, [], _∷_, map, flatten}
 use mathlib.Core.Option.{none}
-use Prim.Native.Nat.{ℕ, zero, suc, _≤_, _<_}
+use Prim.Native.Nat.{ℕ, suc, _≤_, _<_}
 use native.Mathlib.Omega.{arith}
 use lib.ListN.{length, getD}
 use Rattle.base.proofs.Tests.{same-truth}
-use Rattle.masks.specs.Masks.{_∈_, shares}
+use Rattle.masks.specs.Masks.{_∈_}
 use Rattle.masks.proofs.Laws.{part-of, in-union, members-below, shares-law}
 use Rattle.marks.specs.Marks.{textOf}
 use Rattle.automaton.specs.declared.Rule.{Rule}
-use Rattle.automaton.specs.Automaton.{Text, Accepts}
+use Rattle.automaton.specs.Automaton.{Accepts}
 use Rattle.automaton.specs.Rules.{automatonOf}
 use Rattle.chunks.proofs.Claims as chunks
 use Rattle.mappings.specs.Mappings.{image, Bracketed, valueOf, leaves, composed}

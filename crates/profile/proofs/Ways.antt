@@ -4,18 +4,16 @@
 --   build-..     the rule is refused by its check, with 33, with 34, or it is built
 --   run-..       the chunk is refused with 12, with 13, or it is run
 --   walk-..      a byte more, and none left
-use mathlib.Core.Path.{_≡_, refl, sym, ap, _∙_}
-use mathlib.Core.Bool.{Bool, true, false, cond}
-use mathlib.Core.List.{List, [], _∷_}
+use mathlib.Core.Path.{_≡_, sym, ap, _∙_}
+use mathlib.Core.Bool.{true, false, cond}
+use mathlib.Core.List.{List}
 use mathlib.Core.Option.{none, some}
 use Prim.Native.Nat.{ℕ, _+_, _*_, _%_, _≤_, _<_, min}
 use native.Mathlib.Numerals.{add-one}
 use native.Mathlib.Omega.{arith}
-use lib.Dec.{ltb}
 use lib.ListN.{length, getD, drop, drop-of-length-le}
 use lib.Seq.{drop-cons}
 use borrow.Author.Tests.{lt-ltb, le-ltb}
-use Rattle.base.specs.Conditions.{Condition, on, firstOf}
 use Rattle.base.proofs.Options.{none-some}
 use Rattle.base.proofs.Tests.{by-test}
 use Rattle.automaton.specs.declared.Rule.{Rule}
@@ -25,7 +23,7 @@ use Rattle.rulecheck.proofs.Claims as check
 use Rattle.marks.specs.Marks.{textOf}
 use Rattle.chunks.specs.Chunks.{foreign}
 use Rattle.mappings.specs.Mappings.{identity}
-use Rattle.mappings.specs.Packing.{pack, mappingKeys}
+use Rattle.mappings.specs.Packing.{pack}
 use Rattle.mappings.specs.Claims.{Small, keysOf}
 use Rattle.keys.specs.declared.KeyTable.{KeyTable}
 use Rattle.keys.specs.declared.Kind.the-variants.{Mappings}
@@ -33,7 +31,7 @@ use Rattle.keys.specs.declared.Numbering.the-variants.{Whole, Over}
 use Rattle.keys.specs.Tables.{countMeans, Table, tableOutcome, tableOf, noTable}
 use Rattle.profile.specs.declared.Profile.{Profile}
 use Rattle.profile.specs.Profiles.{manyMappings, ownConditions, buildNumber, accepted, Building, profileOf, refusedBuild, buildBy, buildOf}
-use Rattle.profile.specs.Runs.{walkTo, mappingIn, Ran, refusedRun, runBy, runOf}
+use Rattle.profile.specs.Runs.{walkTo, mappingIn, Ran, refusedRun, runOf}
 
 -- ---- building
 module _ (r : Rule) (o : Building) where

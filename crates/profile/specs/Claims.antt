@@ -10,8 +10,8 @@
 --   Runs-exactly p w  what a run of the chunk w on the profile p answers, condition by condition
 use mathlib.Core.Path.{_≡_}
 use mathlib.Core.Logic.{_↔_, _⊎_}
-use mathlib.Core.Bool.{true, false}
-use mathlib.Core.List.{List, [], _∷_, map, flatten}
+use mathlib.Core.Bool.{true}
+use mathlib.Core.List.{List, [], map, flatten}
 use mathlib.Core.Option.{none, some}
 use Prim.Native.Nat.{ℕ, _+_, _*_, _≤_, _<_}
 use lib.ListN.{length, getD, replicate}
@@ -28,7 +28,7 @@ use Rattle.mappings.specs.Mappings.{mappedStates, compose, identity, Bracketed,
 use Rattle.mappings.specs.Claims.{Small, mappingAfter, First}
 use Rattle.profile.specs.declared.Profile.{Profile}
 use Rattle.profile.specs.Profiles.{buildNumber, profileOf}
-use Rattle.profile.specs.Runs.{mappingIn, Ran, runOf, verdictOf}
+use Rattle.profile.specs.Runs.{mappingIn, runOf, verdictOf}
 
 module _ (r : Rule) where
   abbrev pub Takes : Type 0

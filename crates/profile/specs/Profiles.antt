@@ -13,10 +13,10 @@
 --   Building, buildOutcome   the answer and the profile; and what the code's result stands for
 --   refusedBuild x       refused with the number x
 --   buildOf r            what building the rule r answers
-use mathlib.Core.Bool.{Bool, cond, _&&_}
+use mathlib.Core.Bool.{Bool}
 use mathlib.Core.List.{List, [], _∷_, _++_}
 use mathlib.Core.Option.{Option, none, some}
-use Prim.Native.Nat.{ℕ, _/_, _%_}
+use Prim.Native.Nat.{ℕ}
 use lib.Dec.{ltb}
 use lib.ListN.{length, replicate}
 use Rattle.limits.specs.Limits.{mostSets, tableCells}

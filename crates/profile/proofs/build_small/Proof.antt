@@ -1,12 +1,11 @@
 -- `build_small` meets its contract: the table of the mappings is the profile, or there are more than
 -- 512. Assumes nothing.
-use mathlib.Core.Path.{_≡_, refl, sym, ap, _∙_}
-use Prim.Native.Nat.{ℕ, _^_, _≤_, _<_}
+use mathlib.Core.Path.{refl, ap, _∙_}
+use Prim.Native.Nat.{_<_}
 use native.Mathlib.Nat.{lt-of-lt-of-le}
 use native.Mathlib.Omega.{arith}
 use lib.Pow.{pow-mono}
 use borrow.Author.Needs.{needs}
-use Rattle.automaton.specs.declared.Rule.{Rule}
 use Rattle.mappings.specs.Packing.{pack}
 use Rattle.keys.specs.declared.Kind.the-variants.{Mappings}
 use Rattle.keys.specs.Tables.{tableOf}

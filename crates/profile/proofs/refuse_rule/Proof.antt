@@ -2,7 +2,7 @@
 use mathlib.Core.Path.{ap}
 use borrow.Author.Needs.{needs}
 use Rattle.profile.specs.declared.Profile.{Profile}
-use Rattle.profile.specs.Profiles.{refused, Building}
+use Rattle.profile.specs.Profiles.{refused}
 use Rattle.profile.proofs.refuse_rule.Statement.{statement}
 use Rattle.profile.proofs.refuse_rule.Tie as tie
 

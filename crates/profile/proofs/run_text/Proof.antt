@@ -1,10 +1,9 @@
 -- `run_text` meets its contract, from 13 on. Assumes nothing.
-use mathlib.Core.Path.{_≡_, sym, ap, _∙_}
+use mathlib.Core.Path.{sym, ap, _∙_}
 use mathlib.Core.List.{List}
 use mathlib.Core.Option.{none}
 use Prim.Native.Nat.{ℕ}
 use borrow.Author.Needs.{needs}
-use Rattle.profile.specs.Runs.{Ran}
 use Rattle.profile.proofs.Ways.{run-13, run-whole}
 use Rattle.profile.proofs.run_text.Statement.{statement}
 use Rattle.profile.proofs.run_text.Tie as tie
