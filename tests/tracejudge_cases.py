@@ -3,21 +3,26 @@
 nothing and says whether they are what it would write.
 
 A case is a list of lines, ended by an empty line, which starts again with a fresh judge. What a line means is
-told here by patterns, and the answers are computed by a judge written straight from the words of document 01:
+told here by patterns, and the answers are computed by a judge written straight from the words of documents 01 and 02:
 a text is accepted by following the automaton over the chunks joined, and the count is taken run by run.
 """
 import os
 import random
 import re
+import struct
 import sys
 
-from ruleprint_cases import Refused, many_sets, parts, random_rule, read, rule, successor
+from ruleprint_cases import Refused, alike, many_sets, number_sets, random_rule, read, rule, successor
 
 HERE = os.path.dirname(os.path.abspath(__file__))
 CRATE = os.path.join(HERE, "..", "crates", "tracejudge")
 
 
 IDLE = 255
+
+
+def states(n, mask):
+    return {q for q in range(n) if mask >> q & 1}
 
 
 def without_marks(chunk):
@@ -29,13 +34,29 @@ class Judge:
     def __init__(self):
         self.rule = self.board = None
 
-    def load(self, f):
-        n, k, finals, targets = read(f)
-        sets, delegates = parts(f)
-        initials = int.from_bytes(f[2:6], "little")
-        self.rule = n, k, {q for q in range(n) if initials >> q & 1}, finals, targets, delegates
+    def keep(self, n, k, initials, finals, targets):
+        sets = number_sets(n, k, targets)
+        delegates = [min(r for r in range(n) if alike(k, finals, targets, q, r)) for q in range(n)]
+        self.rule = n, k, initials, finals, targets, delegates
         self.board = None
         return f"accepted {len(sets)} {len(set(delegates))}"
+
+    def load(self, f):
+        n, k, finals, targets = read(f)
+        return self.keep(n, k, states(n, int.from_bytes(f[2:6], "little")), finals, targets)
+
+    def install(self, value):
+        n, k, initials, finals = struct.unpack_from("<BBII", value)
+        masks = {divmod(i, 16): mask for i, mask in enumerate(struct.unpack_from("<512I", value, 10))}
+        if not 1 <= n <= 32:
+            raise Refused(3)
+        if not 1 <= k <= 16:
+            raise Refused(4)
+        if max(initials, finals) >= 2 ** n:
+            raise Refused(6)
+        if any(mask >= 2 ** n or mask and (q >= n or s >= k) for (q, s), mask in masks.items()):
+            raise Refused(8)
+        return self.keep(n, k, states(n, initials), states(n, finals), {cell: states(n, mask) for cell, mask in masks.items()})
 
     def open(self, places):
         if self.rule is None:
@@ -111,7 +132,7 @@ class Judge:
 
 HEX, NUMBER = rb"((?:[0-9a-fA-F]{2})+|-)", rb"([0-9]{1,20})"
 FORMS = [
-    ("load", rb"load " + HEX), ("open", rb"open " + NUMBER), ("deliver", rb"deliver " + NUMBER + b" " + HEX),
+    ("load", rb"load " + HEX), ("install", rb"install " + HEX), ("open", rb"open " + NUMBER), ("deliver", rb"deliver " + NUMBER + b" " + HEX),
     ("withdraw", rb"withdraw " + NUMBER), ("verdict", rb"verdict"),
 ]
 
@@ -126,8 +147,10 @@ def meaning(line):
                 fields[0] = int(fields[0])
                 if fields[0] > LARGEST:
                     return None
-            if word in ("load", "deliver"):
+            if word in ("load", "install", "deliver"):
                 fields[-1] = b"" if fields[-1] == b"-" else bytes.fromhex(fields[-1].decode())
+            if word == "install" and len(fields[-1]) != VALUE:
+                return None
             return word, *fields
     return None
 
@@ -162,11 +185,30 @@ CHAIN = rule(3, 1, 1, 4, [(0, 0, 1), (1, 0, 2)])
 ONLY_0 = rule(1, 16, 1, 1, [(0, 0, 0)])
 NO_RULE = A[:9]
 LARGEST = 2 ** 64 - 1
+# the bytes of a rule as a value
+VALUE = 2058
 
 
-def judged(f, *chunks):
+def value(n, k, initials, finals, masks):
+    """A rule as a value, from the target masks that are not 0, by state and symbol."""
+    return struct.pack("<BBII512I", n, k, initials, finals, *(masks.get(divmod(i, 16), 0) for i in range(512)))
+
+
+def value_of(f):
+    """The value in a rule file."""
+    n, k, _, targets = read(f)
+    return value(n, k, *struct.unpack_from("<II", f, 2), {cell: sum(1 << t for t in ts) for cell, ts in targets.items()})
+
+
+def changed(n=3, k=2, initials=1, finals=4, **masks):
+    """Rule A as a value, with some numbers changed; `q1s15=m` is the mask of state 1 and symbol 15."""
+    cells = {(0, 0): 3, (0, 1): 1, (1, 1): 4}
+    return value(n, k, initials, finals, cells | {tuple(map(int, re.findall("[0-9]+", cell))): m for cell, m in masks.items()})
+
+
+def judged(f, *chunks, call="load"):
     """Load, open a place for each chunk, deliver the last first, and ask on the way and at the end."""
-    calls = [("load", f), ("open", len(chunks)), ("verdict",)]
+    calls = [(call, f), ("open", len(chunks)), ("verdict",)]
     for p in reversed(range(len(chunks))):
         calls += [("deliver", p, chunks[p]), ("verdict",)]
     return calls
@@ -203,7 +245,8 @@ FULL = rule(32, 16, 1, 1, [(q, s, t) for q in range(32) for s in range(16) for t
 # lines that say no call; between them the judge keeps what it has
 MALFORMED = [
     b"load", b"load ", b"load  00", b" load 00", b"load 0", b"load 0g", b"load 00 ", b"load 00 00", b"LOAD 00", b"load --", b"load -00",
-    b"load 00\r", b"verdict ", b"verdict\r", b"verdictx", b"Verdict", b"verdic", b"open", b"open ", b"open 1 ", b"open  1", b"open -1", b"open +1",
+    b"load 00\r", b"install", b"install ", b"install -", b"install 00", b"installed 00", b"INSTALL 00",
+    b"verdict ", b"verdict\r", b"verdictx", b"Verdict", b"verdic", b"open", b"open ", b"open 1 ", b"open  1", b"open -1", b"open +1",
     b"open 0x1", b"open 1\r", b"open 18446744073709551616", b"open 99999999999999999999", b"open 000000000000000000001", b"deliver", b"deliver 0",
     b"deliver 0 ", b"deliver 0  00", b"deliver 0 00 ", b"deliver  0 00", b"deliver - 00", b"deliver 0 000", b"deliver 0 00\t", b"deliver 18446744073709551616 00",
     b"withdraw", b"withdraw ", b"withdraw 0 0", b"withdraw x", b"close", b" ", b"\r", b"\0", b"\xff\xfe", b"verdict verdict",
@@ -212,7 +255,7 @@ MALFORMED = [
 DIGITS = b"00" * 65552
 LONGER = [
     b"deliver 0 " + DIGITS, b"deliver 0 " + DIGITS + b"0", b"deliver 0 " + DIGITS + b"0g", b"deliver 0 " + DIGITS + b"\r", b"deliver 9 " + DIGITS,
-    b"load " + DIGITS, b"load " + DIGITS + b" ", b"verdict" + DIGITS,
+    b"load " + DIGITS, b"load " + DIGITS + b" ", b"verdict" + DIGITS, b"install " + DIGITS, b"install " + DIGITS + b"g",
 ]
 CASES = [
     # before a load, before an opening
@@ -264,6 +307,29 @@ CASES = [
     # 255 is 15 modulo 16: a mark is no symbol 15, which leads nowhere here; nor does it end a run, or count after its death
     judged(ONLY_0, b"\0\xff\0", b"\xff\0\0\xff"),
     judged(ONLY_0, b"\xff\x0f\xff\0\xff", b"\0\xff\x0f\xff\xff"),
+    # a rule as a value: the same answers as from its file
+    judged(changed(), b"\0", b"\1", call="install"),
+    judged(value_of(B), b"\0", b"\0\0", call="install"),
+    judged(value_of(FIGURE_1), b"\0\0\1", b"\2\0\1", call="install"),
+    judged(value_of(FULL), b"\x0f", call="install"),
+    judged(value(1, 16, 1, 1, {(0, 0): 1}), b"\0\xff\0", b"\xff\0\0\xff", call="install"),
+    # n 0, 32 and 33, k 0, 16 and 17; a bit at n in the initial, the final and a target mask; masks kept for a state from n on and for a
+    # symbol from k on, the last of all among them; 3 before 4 before 6 before 8 before 9
+    [("install", x) for x in (
+        changed(n=0), changed(n=33), changed(n=32), changed(n=255, k=0), changed(k=0), changed(k=17), changed(k=16), changed(k=17, finals=8),
+        changed(initials=8), changed(finals=8), changed(initials=2 ** 31), changed(initials=8, q0s0=8), changed(q2s1=8), changed(q1s0=2 ** 31),
+        changed(q2s1=7), changed(q3s0=1), changed(q31s1=1), changed(q0s2=1), changed(q2s15=1), changed(q31s15=2 ** 31), changed(n=32, q31s1=2 ** 31))],
+    # 512 and 513 sets; 8 before 9
+    [("install", value_of(many_sets(4))), ("open", 1)]
+    + [("install", x) for x in (value_of(many_sets(5)), value_of(many_sets(5))[:1] + b"\x0f" + value_of(many_sets(5))[2:])]
+    + [("deliver", 0, b"\0\1\0"), ("verdict",)],
+    # a refused installation keeps rule, board and chunks, an accepted one removes the board; loads and installations replace each other
+    judged(A, b"\0", b"\1") + [("install", changed(finals=8)), ("verdict",), ("install", changed(q0s2=1)), ("verdict",), ("install", changed(finals=1)),
+                               ("verdict",), ("withdraw", 0), ("open", 1), ("deliver", 0, b"\1\0"), ("verdict",), ("load", NO_RULE), ("verdict",),
+                               ("load", A), ("verdict",), ("open", 1), ("deliver", 0, b"\1\0"), ("verdict",)],
+    # one byte less and one more, half a byte more, a file; a value is no file; hex digits of either case
+    [("load", A), ("open", 1), ("install", changed()[:-1]), ("install", changed() + b"\0"), line(("install", changed())) + b"0", ("install", A),
+     ("install", b""), ("load", changed()), ("verdict",), b"install " + changed().hex().upper().encode(), ("verdict",)],
     # n 33; hex digits of either case; the largest number of digits
     [("load", b"\x21" + A[1:]), b"load " + A.hex().upper().encode(), b"open 00000000000000000001", b"deliver 0 0001", ("verdict",)],
     # lines that are malformed, and lines that are very long

@@ -7,6 +7,10 @@
  * chunks and texts are only read; a pointer must lead to as many bytes as the length beside it
  * says, and may be anything where that is 0.
  *
+ * A rule comes as a file, which bellbadger_load reads and installs. Who has no judge reads the file
+ * alone (bellbadger_read): what comes of it is a checked rule, a value to look at, to keep, and to
+ * install into any number of judges (bellbadger_install).
+ *
  * Threads: no function keeps anything, they work on values only; any number of threads may call at
  * once. Stack: a judge goes by value, and a chunk with idle marks is packed on the stack; for a thread
  * that calls these functions a stack of 512 KB is enough, 128 KB is not.
@@ -22,7 +26,7 @@
  * Another major number or size: the two do not fit. A higher minor number of the library: it can
  * more than this header says. */
 #define BELLBADGER_VERSION_MAJOR 3
-#define BELLBADGER_VERSION_MINOR 1
+#define BELLBADGER_VERSION_MINOR 2
 #define BELLBADGER_VERSION (BELLBADGER_VERSION_MAJOR * 65536 + BELLBADGER_VERSION_MINOR)
 #define BELLBADGER_STATE_SIZE 27316 /* the bytes of a bellbadger_judge */
 
@@ -37,6 +41,16 @@
 extern "C" {
 #endif
 
+/* A checked rule: n states, k symbols, the masks of initial and final states, bit q for state q, and
+ * for each state and symbol the mask of the targets: that of state q and symbol s stands at q * 16 + s.
+ * So bellbadger_read answers it. In one that comes from elsewhere any numbers may stand: it is checked
+ * again where it is installed. */
+typedef struct {
+    uint8_t n, k;
+    uint32_t initials, finals;
+    uint32_t targets[512];
+} bellbadger_checked_rule;
+
 /* A rule as it was built: states, symbols, starts (M), sets; masks of initial and final states;
  * each state's delegate and the number of its own set; the sets' masks; 16 cells of next sets for
  * each set. n is 0 where no rule is there. */
@@ -48,7 +62,9 @@ typedef struct {
     uint16_t singles[32];
     uint32_t sets[512];
     uint16_t next[8192];
-} bellbadger_rule;
+} bellbadger_built_rule;
+
+typedef bellbadger_built_rule bellbadger_rule; /* its name up to version 3.1 */
 
 /* A board: how many places, which are filled, the counts and lengths of their texts, and 32 end sets
  * for each. places is 0 where no board is there. */
@@ -61,17 +77,22 @@ typedef struct {
 } bellbadger_board;
 
 typedef struct {
-    bellbadger_rule rule;
+    bellbadger_built_rule rule;
     bellbadger_board board;
 } bellbadger_judge;
 
-/* accepted is 1 or 0; where it is 0, refused has the number. */
+/* Wherever accepted stands: it is 1 or 0; where it is 0, refused has the number. */
+typedef struct {
+    uint8_t accepted, refused;
+    bellbadger_checked_rule rule; /* every number in it is 0 where refused */
+} bellbadger_read_result;
+
 typedef struct {
     uint8_t accepted, refused;
     uint16_t sets;  /* the number of sets, and */
     uint8_t starts; /* M, of an accepted rule */
     bellbadger_judge judge;
-} bellbadger_load_result;
+} bellbadger_install_result, bellbadger_load_result;
 
 typedef struct {
     uint8_t accepted, refused;
@@ -108,17 +129,27 @@ BELLBADGER_RESULT size_t bellbadger_state_size(void);
 /* A judge with no rule and no board. */
 BELLBADGER_RESULT bellbadger_judge bellbadger_new(void);
 
-/* Checks and builds a rule; replaces the former one and removes the board. Refused with
+/* Reads a rule file and answers the rule in it. Refused with
  *   1 too short for a head (10 bytes)      2 longer than any rule (32,906 bytes)
  *   3 no number of states from 1 to 32     4 no number of symbols from 1 to 16
  *   5 too short for the list of pairs      6 a mask names a state that there is not
  *   7 a pair has a wrong offset or an odd length, or the sections do not end where the file does
- *   8 an arc has a symbol or a target that there is not, or the arcs of a section do not rise
+ *   8 an arc has a symbol or a target that there is not, or the arcs of a section do not rise */
+BELLBADGER_RESULT bellbadger_read_result bellbadger_read(const uint8_t *file, size_t length);
+
+/* Checks and builds a rule, whatever stands in it; replaces the former one and removes the board.
+ * Refused with
+ *   3, 4, 6 as above
+ *   8 a target mask names a state that there is not, or one kept for a state or a symbol that there is
+ *     not (a state from n on, a symbol from k on) is not 0
  *   9 the rule has over 512 sets */
+BELLBADGER_RESULT bellbadger_install_result bellbadger_install(bellbadger_judge judge, bellbadger_checked_rule rule);
+
+/* Reads a rule file and installs the rule in it. Refused with 1 to 8 as bellbadger_read is, then with 9. */
 BELLBADGER_RESULT bellbadger_load_result bellbadger_load(bellbadger_judge judge, const uint8_t *file, size_t length);
 
 /* A board of that many empty places; drops an earlier one. Refused with
- *   20 no rule is loaded      10 no number of places from 1 to 64 */
+ *   20 no rule is there      10 no number of places from 1 to 64 */
 BELLBADGER_RESULT bellbadger_open_result bellbadger_open(bellbadger_judge judge, size_t places);
 
 /* Runs a chunk and keeps its end sets, count and length at the place. Byte 255 is an idle mark: it is
@@ -139,12 +170,15 @@ BELLBADGER_RESULT bellbadger_verdict_result bellbadger_verdict(bellbadger_judge 
 /* Runs the calls that a text records on a fresh judge, and answers the verdict after them. A line
  * is
  *   load HEX        deliver P HEX      verdict
- *   open N          withdraw P         or empty: a fresh judge begins
+ *   install HEX     withdraw P         or empty: a fresh judge begins
+ *   open N
  * with exactly one space between fields. HEX is pairs of hex digits of either case, or - for no
- * bytes; N and P are 1 to 20 decimal digits with a value below 2^64. A line ends with a line feed
- * alone (a carriage return belongs to the line, which is then malformed); the last may end with the
- * text. A call that is refused changes nothing, and the next line is run. Any other line is
- * malformed: the answer is BELLBADGER_MALFORMED with the number of the first such line. */
+ * bytes. That of an installation is of 2,058 bytes: n and k, then the two masks and the 512 target
+ * masks, each of four bytes, the lowest first (a bellbadger_checked_rule without the gap behind k). N
+ * and P are 1 to 20 decimal digits with a value below 2^64. A line ends with a line feed alone (a
+ * carriage return belongs to the line, which is then malformed); the last may end with the text. A
+ * call that is refused changes nothing, and the next line is run. Any other line is malformed: the
+ * answer is BELLBADGER_MALFORMED with the number of the first such line. */
 BELLBADGER_RESULT bellbadger_replay_result bellbadger_replay(const uint8_t *text, size_t length);
 
 #ifdef __cplusplus

@@ -80,7 +80,7 @@ static bellbadger_judge path(int n) {
     return opened(n, 2, 1u << (n - 1), to, 2);
 }
 
-static uint64_t walk(const bellbadger_rule *rule, unsigned q, const uint8_t *w, size_t length) {
+static uint64_t walk(const bellbadger_built_rule *rule, unsigned q, const uint8_t *w, size_t length) {
     uint64_t count = 0;
     unsigned s = rule->singles[q];
     for (size_t i = 0; i < length; i++) {

@@ -1,5 +1,6 @@
-/* Two controllers deliver out of turn; rule A accepts the texts that end in 0 1. Every answer is
- * looked at: a refused call hands back the judge that came, and only `accepted` tells. */
+/* A rule file is read and the rule installed; then two controllers deliver out of turn. Rule A accepts
+ * the texts that end in 0 1. Every answer is looked at: a refused call hands back the judge that came,
+ * and only `accepted` tells. */
 #include <inttypes.h>
 #include <stdio.h>
 #include <stdlib.h>
@@ -18,9 +19,16 @@ static void expect_accepted(const char *call, uint8_t accepted, uint8_t refused)
     exit(1);
 }
 
-static bellbadger_judge load(bellbadger_judge judge, const uint8_t *file, size_t length) {
-    bellbadger_load_result r = bellbadger_load(judge, file, length);
-    expect_accepted("load", r.accepted, r.refused);
+static bellbadger_checked_rule read_rule(const uint8_t *file, size_t length) {
+    bellbadger_read_result r = bellbadger_read(file, length);
+    expect_accepted("read", r.accepted, r.refused);
+    printf("%d states, %d symbols\n", r.rule.n, r.rule.k);
+    return r.rule;
+}
+
+static bellbadger_judge install(bellbadger_judge judge, bellbadger_checked_rule rule) {
+    bellbadger_install_result r = bellbadger_install(judge, rule);
+    expect_accepted("install", r.accepted, r.refused);
     printf("%d sets, %d starts\n", r.sets, r.starts);
     return r.judge;
 }
@@ -58,7 +66,12 @@ int main(void) {
         printf("the library is not the one that bellbadger.h describes\n");
         return 1;
     }
-    bellbadger_judge judge = load(bellbadger_new(), rule_a, sizeof rule_a);
+    /* an editor checks files and has no judge: this one was cut off, the next is a rule */
+    bellbadger_read_result cut = bellbadger_read(rule_a, sizeof rule_a - 1);
+    printf("%s %d\n", cut.accepted ? "accepted" : "refused", cut.refused);
+    bellbadger_checked_rule rule = read_rule(rule_a, sizeof rule_a);
+    /* bellbadger_load(bellbadger_new(), rule_a, sizeof rule_a) comes to the same */
+    bellbadger_judge judge = install(bellbadger_new(), rule);
     judge = open_board(judge, 2);
     ask(judge);
     judge = deliver(judge, 1, 1);

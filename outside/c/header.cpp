@@ -13,13 +13,16 @@ static bool right() {
     static_assert(sizeof(bellbadger_judge) == BELLBADGER_STATE_SIZE, "the size that the header says");
     const uint8_t text[] = {0, 1};
     const char *record = "verdict\nopen\n";
+    bellbadger_read_result read = bellbadger_read(rule_a, sizeof rule_a);
+    bellbadger_install_result installed = bellbadger_install(bellbadger_new(), read.rule);
     bellbadger_load_result loaded = bellbadger_load(bellbadger_new(), rule_a, sizeof rule_a);
-    bellbadger_open_result opened = bellbadger_open(loaded.judge, 1);
+    bellbadger_open_result opened = bellbadger_open(installed.judge, 1);
     bellbadger_deliver_result delivered = bellbadger_deliver(opened.judge, 0, text, sizeof text);
     bellbadger_verdict_result verdict = bellbadger_verdict(delivered.judge);
     bellbadger_withdraw_result withdrawn = bellbadger_withdraw(opened.judge, 0);
     bellbadger_replay_result replayed = bellbadger_replay(reinterpret_cast<const uint8_t *>(record), std::strlen(record));
     return bellbadger_version() == BELLBADGER_VERSION && bellbadger_state_size() == sizeof(bellbadger_judge)
+        && read.accepted && read.rule.n == 3 && read.rule.targets[17] == 4 && installed.accepted && installed.sets == 5
         && loaded.accepted && loaded.sets == 5 && opened.accepted && delivered.accepted && delivered.looked == 2
         && verdict.kind == BELLBADGER_YES && verdict.number == 2 && verdict.bytes == 2 && verdict.quotient == 1
         && verdict.remainder == 0 && !withdrawn.accepted && withdrawn.refused == 23

@@ -40,10 +40,33 @@ static int same(const bellbadger_judge *a, const bellbadger_judge *b) {
         && !memcmp(a->board.lengths, b->board.lengths, sizeof a->board.lengths) && !memcmp(a->board.ends, b->board.ends, sizeof a->board.ends);
 }
 
+/* every number of a checked rule is 0 */
+static int zeros(const bellbadger_checked_rule *r) {
+    for (int c = 0; c < 512; c++)
+        if (r->targets[c]) return 0;
+    return !r->n && !r->k && !r->initials && !r->finals;
+}
+
+/* reading answers as loading does but for 9, which it has not, and hands out zeros where it refuses */
+static bellbadger_checked_rule read_file(const uint8_t *file, size_t length, int refused) {
+    bellbadger_read_result r = bellbadger_read(file, length);
+    CHECK(r.accepted == (refused == 0) && (r.accepted || r.refused == refused));
+    CHECK(r.accepted || zeros(&r.rule));
+    return r.rule;
+}
+
+static void install(bellbadger_judge *j, bellbadger_checked_rule rule, int refused) {
+    bellbadger_install_result r = bellbadger_install(*j, rule);
+    CHECK(r.accepted == (refused == 0) && (r.accepted || r.refused == refused));
+    CHECK(r.accepted || (same(&r.judge, j) && r.sets == 0 && r.starts == 0));
+    *j = r.judge;
+}
+
 static void load(bellbadger_judge *j, const uint8_t *file, size_t length, int refused) {
     bellbadger_load_result r = bellbadger_load(*j, file, length);
     CHECK(r.accepted == (refused == 0) && (r.accepted || r.refused == refused));
     CHECK(r.accepted || same(&r.judge, j));
+    if (refused != 9) read_file(file, length, refused);
     *j = r.judge;
 }
 
@@ -98,13 +121,14 @@ static void built_with(void) {
     CHECK(bellbadger_version() >> 16 == BELLBADGER_VERSION_MAJOR && (bellbadger_version() & 65535) == BELLBADGER_VERSION_MINOR);
     CHECK(sizeof(bellbadger_judge) == BELLBADGER_STATE_SIZE);
     CHECK(bellbadger_state_size() == sizeof(bellbadger_judge));
+    CHECK(sizeof(bellbadger_checked_rule) == 2060 && sizeof(bellbadger_read_result) == 2064);
 }
 
 /* every field of rule A as it was built, so that the header's struct is the library's */
 static void layout(const bellbadger_judge *j) {
     static const uint32_t sets[] = {1, 3, 5, 2, 4};
     static const uint16_t next[][2] = {{1, 0}, {1, 2}, {1, 0}, {512, 4}, {512, 512}}, singles[] = {0, 3, 4};
-    const bellbadger_rule *r = &j->rule;
+    const bellbadger_built_rule *r = &j->rule;
     CHECK(r->n == 3 && r->k == 2 && r->starts == 3 && r->count == 5 && r->initials == 1 && r->finals == 4);
     for (int q = 0; q < 32; q++) CHECK(r->delegates[q] == (q < 3 ? q : 0) && (q >= 3 || r->singles[q] == singles[q]));
     for (int s = 0; s < 512; s++) CHECK(r->sets[s] == (s < 5 ? sets[s] : 0));
@@ -153,6 +177,61 @@ static void calls(void) {
     verdict(&j, BELLBADGER_NO, 65538, 65537);
     load(&j, rule_a, sizeof rule_a, 0);
     verdict(&j, BELLBADGER_REFUSED, 21, 0);
+}
+
+/* the fields of a checked rule: a file read, and the same rule installed */
+static void reading(void) {
+    bellbadger_checked_rule r = read_file(rule_a, sizeof rule_a, 0);
+    CHECK(r.n == 3 && r.k == 2 && r.initials == 1 && r.finals == 4);
+    for (int c = 0; c < 512; c++) CHECK(r.targets[c] == (c == 0 ? 3 : c == 1 ? 1 : c == 17 ? 4 : 0));
+    for (size_t length = 0; length < sizeof rule_a; length++) read_file(rule_a, length, length < 10 ? 1 : length < 22 ? 5 : 7);
+    bellbadger_judge loaded = bellbadger_new(), installed = bellbadger_new();
+    load(&loaded, rule_a, sizeof rule_a, 0);
+    install(&installed, r, 0);
+    layout(&installed);
+    CHECK(same(&loaded, &installed));
+    bellbadger_install_result told = bellbadger_install(bellbadger_new(), r);
+    CHECK(told.accepted && told.refused == 0 && told.sets == 5 && told.starts == 3);
+}
+
+/* a value that is refused leaves the rule and the board as they are */
+static void installing(void) {
+    const uint8_t text[] = {0, 1};
+    bellbadger_checked_rule a = read_file(rule_a, sizeof rule_a, 0), r = a;
+    bellbadger_judge j = bellbadger_new();
+    r.k = 0;
+    install(&j, r, 4);
+    open(&j, 1, 20);
+    install(&j, a, 0);
+    open(&j, 1, 0);
+    looked(&j, 0, text, sizeof text, 2);
+    verdict(&j, BELLBADGER_YES, 2, 2);
+    static const uint8_t bad_n[] = {0, 33, 40, 255}, bad_k[] = {0, 17, 255};
+    for (size_t i = 0; i < sizeof bad_n; i++) r = a, r.n = bad_n[i], r.k = 0, install(&j, r, 3);
+    for (size_t i = 0; i < sizeof bad_k; i++) r = a, r.k = bad_k[i], r.finals = 8, install(&j, r, 4);
+    r = a, r.initials = 8, install(&j, r, 6);
+    r = a, r.finals = 0x80000000, install(&j, r, 6);
+    r = a, r.targets[0] = 8, install(&j, r, 8);          /* a target that there is not */
+    r = a, r.targets[2 * 16 + 1] = 8, install(&j, r, 8);
+    r = a, r.targets[2] = 1, install(&j, r, 8);          /* a symbol that there is not */
+    r = a, r.targets[3 * 16] = 1, install(&j, r, 8);     /* a state that there is not */
+    r = a, r.targets[511] = 1, install(&j, r, 8);
+    /* the tenth symbol from the end is 1: more than 512 sets */
+    memset(&r, 0, sizeof r);
+    r.n = 11, r.k = 2, r.initials = 1, r.finals = 1 << 10, r.targets[0] = 1, r.targets[1] = 3;
+    for (int q = 1; q < 10; q++) r.targets[16 * q] = r.targets[16 * q + 1] = 1u << (q + 1);
+    install(&j, r, 9);
+    verdict(&j, BELLBADGER_YES, 2, 2);
+    /* 32 states and 16 symbols: nothing is outside */
+    memset(r.targets, 255, sizeof r.targets);
+    r.n = 32, r.k = 16, r.initials = r.finals = 0xFFFFFFFF;
+    install(&j, r, 0);
+    CHECK(j.rule.count == 33 && j.rule.starts == 1);
+    verdict(&j, BELLBADGER_REFUSED, 21, 0);
+    r.k = 15;
+    install(&j, r, 8);
+    r.n = 31;
+    install(&j, r, 6);
 }
 
 /* two states that lead nowhere by symbol 1: the runs die at their first 1, which is looked up */
@@ -204,6 +283,28 @@ static void records(void) {
     replay(LOAD_A "open 00000000000000000001\ndeliver 0 -", BELLBADGER_NO, 0, 0);
 }
 
+/* the line that installs bytes, and what follows it */
+static const char *installation(const uint8_t *bytes, size_t length, const char *rest) {
+    static char text[8192];
+    size_t at = (size_t)sprintf(text, "install ");
+    for (size_t i = 0; i < length; i++) at += (size_t)sprintf(text + at, "%02x", bytes[i]);
+    sprintf(text + at, "\n%s", rest);
+    return text;
+}
+
+/* rule A in the 2,058 bytes of an installation; a byte less or more is malformed */
+static void installations(void) {
+    const char *rest = "open 1\ndeliver 0 0001\n";
+    uint8_t bytes[2059] = {3, 2, 1, 0, 0, 0, 4, 0, 0, 0, 3, 0, 0, 0, 1};
+    bytes[10 + 4 * 17] = 4;
+    replay(installation(bytes, 2058, rest), BELLBADGER_YES, 2, 2);
+    replay(installation(bytes, 2057, rest), BELLBADGER_MALFORMED, 1, 0);
+    replay(installation(bytes, 2059, rest), BELLBADGER_MALFORMED, 1, 0);
+    replay(installation(rule_a, sizeof rule_a, rest), BELLBADGER_MALFORMED, 1, 0);
+    bytes[2057] = 1;
+    replay(installation(bytes, 2058, rest), BELLBADGER_REFUSED, 21, 0);
+}
+
 /* xorshift */
 static uint64_t seed = 88172645463325252u;
 static uint64_t random_number(void) {
@@ -211,6 +312,22 @@ static uint64_t random_number(void) {
     seed ^= seed >> 7;
     seed ^= seed << 17;
     return seed;
+}
+
+/* random numbers in every field of a checked rule, made more and more sensible */
+static void garbage_rule(const bellbadger_judge *j, int i) {
+    static bellbadger_checked_rule r;
+    uint8_t *bytes = (uint8_t *)&r;
+    for (size_t b = 0; b < sizeof r; b++) bytes[b] = (uint8_t)(random_number() >> 32);
+    if (i % 8 > 0) r.n = 1 + r.n % 32;
+    if (i % 8 > 1) r.k = 1 + r.k % 16;
+    uint32_t states = r.n < 32 ? (1u << r.n % 32) - 1 : 0xFFFFFFFF;
+    if (i % 8 > 2) r.initials &= states, r.finals &= states;
+    for (int c = 0; i % 8 > 3 && c < 512; c++) r.targets[c] = c / 16 < r.n && c % 16 < r.k ? r.targets[c] & states : 0;
+    bellbadger_install_result l = bellbadger_install(*j, r);
+    CHECK(l.accepted || (same(&l.judge, j) && l.sets == 0 && l.starts == 0));
+    CHECK(!l.accepted || (r.n >= 1 && r.n <= 32 && r.k >= 1 && r.k <= 16 && !(r.initials & ~states) && !(r.finals & ~states)));
+    CHECK(i % 8 < 4 || l.accepted || l.refused == 9);
 }
 
 /* random numbers in every field; some states half sensible, so that deeper code is reached */
@@ -228,6 +345,7 @@ static void garbage(int states) {
         size_t place = i % 5 ? random_number() % 64 : (size_t)random_number();
         bellbadger_load_result l = bellbadger_load(j, chunk, sizeof chunk);
         CHECK(l.accepted || same(&l.judge, &j));
+        garbage_rule(&j, i);
         CHECK(bellbadger_load(j, rule_a, sizeof rule_a).accepted);
         bellbadger_open_result o = bellbadger_open(j, place);
         CHECK(o.accepted || same(&o.judge, &j));
@@ -246,9 +364,12 @@ static void garbage(int states) {
 static void *all(void *states) {
     built_with();
     calls();
+    reading();
+    installing();
     dying();
     idle();
     records();
+    installations();
     garbage(*(int *)states);
     return NULL;
 }

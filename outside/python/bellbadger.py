@@ -17,6 +17,16 @@
     ...
     bellbadger.Refused: refused 22: the place has a chunk already
 
+A rule file can be read without a judge, and the rule that comes of it installed:
+
+    >>> rule = read(bytes.fromhex("03020100000004000000160006001C0002001E0000000000000101000102"))
+    >>> rule
+    <CheckedRule: states 3, symbols 2, initial 1, final 1, arcs 4>
+    >>> rule.target_mask(0, 0)
+    3
+    >>> Judge().install(rule)
+    Loaded(sets=5, starts=3)
+
 A refused call raises Refused, which has the number, and leaves the judge as it was. Any number of
 threads may call at once, each with a judge of its own. For a thread that calls a stack of 512 KB
 is enough, 128 KB is not (threading.stack_size).
@@ -31,10 +41,10 @@ import os
 from dataclasses import dataclass
 from pathlib import Path
 
-__all__ = ["Judge", "Loaded", "Looked", "Waiting", "Yes", "No", "Refused", "Malformed", "replay", "version"]
+__all__ = ["CheckedRule", "Judge", "Loaded", "Looked", "Waiting", "Yes", "No", "Refused", "Malformed", "read", "replay", "version"]
 
-# what this module was written for, as outside/c/bellbadger.h has it
-_MAJOR, _STATE_SIZE = 3, 27316
+# what this module was written for, as outside/c/bellbadger.h has it; a higher minor number fits too
+_MAJOR, _MINOR, _STATE_SIZE = 3, 2, 27316
 _WAITING, _YES, _NO, _MALFORMED = 1, 2, 3, 4
 _LARGEST_SIZE = 2**64 - 1
 
@@ -46,13 +56,13 @@ _REASONS = {
     5: "the file ends within the list of pairs",
     6: "a mask names a state that there is not",
     7: "a pair has a wrong offset or an odd length, or the sections do not end where the file does",
-    8: "an arc has a symbol or a target that there is not, or arcs do not rise",
+    8: "an arc has a state, a symbol or a target that there is not, or arcs do not rise",
     9: "the rule has over 512 sets",
     10: "no number of places from 1 to 64",
     11: "the board has no such place",
     12: "the chunk has over 65,536 bytes",
     13: "a byte is no symbol of the rule and no idle mark",
-    20: "no rule is loaded",
+    20: "no rule is there",
     21: "no board is open",
     22: "the place has a chunk already",
     23: "the place has no chunk",
@@ -60,7 +70,7 @@ _REASONS = {
 
 
 class Refused(Exception):
-    """A call was refused; the judge is as it was."""
+    """A call was refused; the judge is as it was. Of reading: the file is no rule."""
 
     def __init__(self, number):
         super().__init__(number)
@@ -81,9 +91,44 @@ class Malformed(ValueError):
         return f"line {self.line} is malformed"
 
 
+@dataclass(frozen=True, repr=False)
+class CheckedRule:
+    """A rule by value: what read answers and Judge.install takes.
+
+    n states and k symbols; the masks of initial and final states, bit q for state q; and the mask of
+    the targets of state q and symbol s at targets[q * 16 + s], 0 for a state or a symbol that there is
+    not. Any numbers that fit 8 and 32 bits may stand in a rule that is made by hand: it is checked
+    again where it is installed.
+    """
+
+    n: int
+    k: int
+    initials: int
+    finals: int
+    targets: tuple = (0,) * 512
+
+    def __post_init__(self):
+        object.__setattr__(self, "targets", tuple(self.targets))
+        if len(self.targets) != 512:
+            raise ValueError("a rule has 512 target masks")
+        for number in (self.n, self.k):
+            _fits(number, 8)
+        for mask in (self.initials, self.finals, *self.targets):
+            _fits(mask, 32)
+
+    def __repr__(self):
+        initial, final, arcs = _members(self.initials), _members(self.finals), sum(map(_members, self.targets))
+        return f"<CheckedRule: states {self.n}, symbols {self.k}, initial {initial}, final {final}, arcs {arcs}>"
+
+    def target_mask(self, state, symbol):
+        """The mask of the states that a symbol leads to from a state."""
+        return self.targets[state * 16 + symbol] if 0 <= state < 32 and 0 <= symbol < 16 else 0
+
+
 @dataclass(frozen=True)
 class Loaded:
-    """What an accepted load tells of the rule: how many sets and starts (M) there are."""
+    """What an accepted load or installation tells of the rule: how many sets and starts (M) there
+    are."""
 
     sets: int
     starts: int
@@ -124,7 +169,21 @@ class No(_Counted):
     """A verdict: the trace does not keep to the rule; the numbers are as for Yes."""
 
 
-class _Rule(ctypes.Structure):
+class _CheckedRule(ctypes.Structure):
+    _fields_ = [
+        ("n", ctypes.c_uint8),
+        ("k", ctypes.c_uint8),
+        ("initials", ctypes.c_uint32),
+        ("finals", ctypes.c_uint32),
+        ("targets", ctypes.c_uint32 * 512),
+    ]
+
+
+class _Read(ctypes.Structure):
+    _fields_ = [("accepted", ctypes.c_uint8), ("refused", ctypes.c_uint8), ("rule", _CheckedRule)]
+
+
+class _BuiltRule(ctypes.Structure):
     _fields_ = [
         ("n", ctypes.c_uint8),
         ("k", ctypes.c_uint8),
@@ -150,10 +209,10 @@ class _Board(ctypes.Structure):
 
 
 class _State(ctypes.Structure):
-    _fields_ = [("rule", _Rule), ("board", _Board)]
+    _fields_ = [("rule", _BuiltRule), ("board", _Board)]
 
 
-class _Load(ctypes.Structure):
+class _Install(ctypes.Structure):
     _fields_ = [
         ("accepted", ctypes.c_uint8),
         ("refused", ctypes.c_uint8),
@@ -205,21 +264,34 @@ def _library(path):
     size, data = ctypes.c_size_t, (ctypes.c_char_p, ctypes.c_size_t)
     _declare(library, "version", ctypes.c_uint32)
     _declare(library, "state_size", size)
+    major, minor = divmod(library.bellbadger_version(), 65536)
+    if major != _MAJOR or minor < _MINOR:
+        raise ImportError(f"{path} has another version than this module")
+    if not library.bellbadger_state_size() == ctypes.sizeof(_State) == _STATE_SIZE:
+        raise ImportError(f"{path} has another state than this module")
     _declare(library, "new", _State)
-    _declare(library, "load", _Load, _State, *data)
+    _declare(library, "read", _Read, *data)
+    _declare(library, "install", _Install, _State, _CheckedRule)
+    _declare(library, "load", _Install, _State, *data)
     _declare(library, "open", _Change, _State, size)
     _declare(library, "deliver", _Delivery, _State, size, *data)
     _declare(library, "withdraw", _Change, _State, size)
     _declare(library, "verdict", _Verdict, _State)
     _declare(library, "replay", _Verdict, *data)
-    if library.bellbadger_version() >> 16 != _MAJOR:
-        raise ImportError(f"{path} has another version than this module")
-    if not library.bellbadger_state_size() == ctypes.sizeof(_State) == _STATE_SIZE:
-        raise ImportError(f"{path} has another state than this module")
     return library
 
 
 _lib = _library(_path())
+
+
+def _members(mask):
+    return bin(mask).count("1")
+
+
+def _fits(number, bits):
+    """Sees to it that C does not cut a number of a rule."""
+    if not 0 <= operator.index(number) < 2**bits:
+        raise ValueError(f"{number} does not fit {bits} bits")
 
 
 def _size(number):
@@ -264,15 +336,21 @@ class Judge:
             f"places {board.places}, filled {filled}>"
         )
 
-    def load(self, file):
+    def install(self, rule):
         """Checks and builds a rule; accepted, it replaces the former one and removes the board.
 
-        Refused with 1 to 9.
+        Refused with 3, 4, 6, 8, 9.
         """
+        if not isinstance(rule, CheckedRule):
+            raise TypeError("a CheckedRule is installed")
+        targets = (ctypes.c_uint32 * 512)(*rule.targets)
+        value = _CheckedRule(rule.n, rule.k, rule.initials, rule.finals, targets)
+        return self._loaded(_lib.bellbadger_install(self._state, value))
+
+    def load(self, file):
+        """Reads a rule file and installs the rule in it. Refused with 1 to 8, then with 9."""
         data = _bytes(file)
-        result = _lib.bellbadger_load(self._state, data, len(data))
-        self._change(result)
-        return Loaded(result.sets, result.starts)
+        return self._loaded(_lib.bellbadger_load(self._state, data, len(data)))
 
     def open(self, places):
         """A board of that many empty places; an earlier one is dropped. Refused with 20, 10."""
@@ -297,18 +375,33 @@ class Judge:
         """Waiting, Yes or No; changes nothing. Refused with 21."""
         return _verdict(_lib.bellbadger_verdict(self._state))
 
+    def _loaded(self, result):
+        self._change(result)
+        return Loaded(result.sets, result.starts)
+
     def _change(self, result):
         if not result.accepted:
             raise Refused(result.refused)
         self._state = result.state
 
 
+def read(file):
+    """The rule in a rule file. Refused with 1 to 8."""
+    data = _bytes(file)
+    result = _lib.bellbadger_read(data, len(data))
+    if not result.accepted:
+        raise Refused(result.refused)
+    rule = result.rule
+    return CheckedRule(rule.n, rule.k, rule.initials, rule.finals, tuple(rule.targets))
+
+
 def replay(text):
     """Runs the calls that a text of bytes records on a fresh judge: the verdict after them.
 
-    A line is `load HEX`, `open N`, `deliver P HEX`, `withdraw P` or `verdict`, with exactly one
-    space between fields; an empty line begins a fresh judge. A recorded call that is refused
-    changes nothing, and the next line is run. Raises Malformed for the first line that is no call,
+    A line is `load HEX`, `install HEX`, `open N`, `deliver P HEX`, `withdraw P` or `verdict`, with
+    exactly one space between fields; an empty line begins a fresh judge. HEX of an installation is
+    the 2,058 bytes of a rule by value. A recorded call that is refused changes nothing, and the next
+    line is run. Raises Malformed for the first line that is no call,
     Refused with 21 where no board is open at the end.
     """
     data = _bytes(text)

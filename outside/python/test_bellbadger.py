@@ -1,6 +1,8 @@
-"""The judge from Python: table P, refusals, arguments that C would misread, recorded lists."""
+"""The judge from Python: table P, rules by value, refusals, arguments that C would misread, recorded
+lists."""
 
 import array
+import dataclasses
 import doctest
 import os
 import subprocess
@@ -9,7 +11,7 @@ import threading
 import unittest
 
 import bellbadger
-from bellbadger import Judge, Loaded, Looked, Malformed, No, Refused, Waiting, Yes, replay
+from bellbadger import CheckedRule, Judge, Loaded, Looked, Malformed, No, Refused, Waiting, Yes, read, replay
 
 A = bytes.fromhex("03020100000004000000160006001C0002001E0000000000000101000102")
 B = bytes.fromhex("03010100000006000000160004001A0002001C0002000001000200000000")
@@ -26,12 +28,72 @@ def judged(rule, *chunks):
     return judge.verdict()
 
 
-class Calls(unittest.TestCase):
+class Case(unittest.TestCase):
     def refused(self, number, call, *arguments):
         with self.assertRaises(Refused) as caught:
             call(*arguments)
         self.assertEqual(caught.exception.number, number)
 
+
+def with_target(rule, cell, mask):
+    """The rule with another target mask in a cell."""
+    return dataclasses.replace(rule, targets=rule.targets[:cell] + (mask,) + rule.targets[cell + 1 :])
+
+
+class Rules(Case):
+    def test_reading(self):
+        rule = read(A)
+        targets = {0: 3, 1: 1, 17: 4}
+        self.assertEqual(rule, CheckedRule(3, 2, 1, 4, (targets.get(cell, 0) for cell in range(512))))
+        self.assertEqual([rule.target_mask(*at) for at in ((1, 1), (1, 0), (32, 0), (0, 16), (-1, 17))], [4, 0, 0, 0, 0])
+        for at, byte, number in ((0, 33, 3), (1, 17, 4), (6, 8, 6), (10, 24, 7), (29, 3, 8)):
+            self.refused(number, read, A[:at] + bytes([byte]) + A[at + 1 :])
+        for length, number in ((9, 1), (21, 5), (29, 7)):
+            self.refused(number, read, A[:length])
+        self.refused(2, read, bytes(32907))
+
+    def test_installing(self):
+        rule, judge = read(A), Judge()
+        self.refused(20, judge.open, 1)
+        self.assertEqual(judge.install(rule), Loaded(5, 3))
+        judge.open(1)
+        judge.deliver(0, bytes([0, 1]))
+        change = dataclasses.replace
+        for n in (0, 33, 40, 255):
+            self.refused(3, judge.install, change(rule, n=n, k=0))
+        for k in (0, 17, 255):
+            self.refused(4, judge.install, change(rule, k=k, finals=8))
+        self.refused(6, judge.install, change(rule, initials=8))
+        self.refused(6, judge.install, change(rule, finals=2**31))
+        for cell, mask in ((17, 8), (2, 1), (48, 1), (511, 1)):
+            self.refused(8, judge.install, with_target(rule, cell, mask))
+        late = {0: 1, 1: 3, **{16 * q + s: 2 << q for q in range(1, 10) for s in (0, 1)}}
+        self.refused(9, judge.install, CheckedRule(11, 2, 1, 1 << 10, (late.get(cell, 0) for cell in range(512))))
+        self.assertEqual(judge.verdict(), Yes(2, 2, 1, 0))
+        full = CheckedRule(32, 16, 2**32 - 1, 2**32 - 1, (2**32 - 1,) * 512)
+        self.assertEqual(judge.install(full), Loaded(33, 1))
+        self.refused(21, judge.verdict)
+        self.refused(8, judge.install, change(full, k=15))
+
+    def test_numbers_that_c_would_cut(self):
+        for numbers in ((256, 1, 0, 0), (-1, 1, 0, 0), (1, 257, 0, 0), (1, 1, 2**32, 0), (1, 1, 0, -1)):
+            self.assertRaises(ValueError, CheckedRule, *numbers)
+        for targets in ((), (0,) * 511, (0,) * 513, (2**32,) * 512):
+            self.assertRaises(ValueError, CheckedRule, 1, 1, 0, 0, targets)
+        self.assertRaises(TypeError, CheckedRule, 1.0, 1, 0, 0)
+        self.assertEqual(Judge().install(CheckedRule(1, 1, 0, 0)), Loaded(1, 1))
+
+    def test_a_recorded_installation(self):
+        rule = read(A)
+        masks = (rule.initials, rule.finals, *rule.targets)
+        value = bytes([rule.n, rule.k]) + b"".join(mask.to_bytes(4, "little") for mask in masks)
+        rest = b"\nopen 2\ndeliver 1 01\ndeliver 0 00\n"
+        self.assertEqual(replay(b"install " + value.hex().encode() + rest), Yes(3, 2, 1, 1))
+        for other in (value[:-1], value + b"\0", A):
+            self.assertRaises(Malformed, replay, b"install " + other.hex().encode() + rest)
+
+
+class Calls(Case):
     def opened(self, places):
         judge = Judge()
         judge.load(A)
@@ -100,7 +162,7 @@ class Calls(unittest.TestCase):
         self.refused(22, judge.deliver, 0, b"\xff")
 
     def test_words_of_a_refusal(self):
-        with self.assertRaisesRegex(Refused, "^refused 20: no rule is loaded$"):
+        with self.assertRaisesRegex(Refused, "^refused 20: no rule is there$"):
             Judge().open(1)
 
     def test_answers_of_other_kinds_differ(self):
@@ -133,7 +195,7 @@ class Calls(unittest.TestCase):
         record = b"load " + A.hex().encode() + b"\nopen 1\ndeliver 0 -\n"
 
         def calls():
-            verdicts.extend([judged(A, [0], [1]), replay(record)])
+            verdicts.extend([judged(A, [0], [1]), replay(record), Judge().install(read(A))])
 
         before = threading.stack_size(512 * 1024)
         try:
@@ -142,7 +204,7 @@ class Calls(unittest.TestCase):
             thread.join()
         finally:
             threading.stack_size(before)
-        self.assertEqual(verdicts, [Yes(3, 2, 1, 1), No(0, 0, 0, 0)])
+        self.assertEqual(verdicts, [Yes(3, 2, 1, 1), No(0, 0, 0, 0), Loaded(5, 3)])
 
 
 class Records(unittest.TestCase):
@@ -170,7 +232,7 @@ class Module(unittest.TestCase):
         self.assertEqual(found.failed, 0)
 
     def test_version(self):
-        self.assertEqual(bellbadger.version(), (3, 1))
+        self.assertEqual(bellbadger.version(), (3, 2))
 
     def test_a_missing_library_names_the_command(self):
         run = subprocess.run(

@@ -1,6 +1,7 @@
-//! Files that a load refuses.
+//! Files that a load refuses, and values that an installation refuses.
 
-use crate::automata::{automaton, exactly, file};
+use crate::automata::{automaton, blank, exactly, file};
+use crate::checked::CheckedRule;
 use crate::random::Random;
 use crate::rule::Automaton;
 
@@ -134,6 +135,85 @@ pub fn likely_refused(r: &mut Random) -> Vec<u8> {
         _ => {
             let (length, bound) = (r.below(60), r.pick(&[3, 33, 256]));
             (0..length).map(|_| r.below(bound) as u8).collect()
+        }
+    }
+}
+
+/// A number from the first on, below the end: the first itself as often as any.
+fn from(r: &mut Random, first: usize, end: usize) -> usize {
+    if r.one_in(2) { first } else { r.range(first, end - 1) }
+}
+
+/// A value in which all of the given conditions, of 3, 4, 6, 8 and 9, hold; others may hold too.
+pub fn faulty_value(r: &mut Random, numbers: &[u32]) -> CheckedRule {
+    let wanted = |number: u32| numbers.contains(&number);
+    let a = base(r, wanted(9));
+    let mut value = CheckedRule::of(&a);
+    if wanted(8) {
+        spoil_target(r, &mut value, a.n, a.k);
+    }
+    if wanted(6) {
+        let bit = 1 << from(r, a.n, 32);
+        *if r.one_in(2) { &mut value.initial } else { &mut value.finals } |= bit;
+    }
+    if wanted(4) {
+        value.k = r.pick(&[0, 17, 18, 32, 255]);
+    }
+    if wanted(3) {
+        value.n = r.pick(&[0, 33, 34, 40, 64, 255]);
+    }
+    value
+}
+
+/// A bit at n or above, or a mask of states that there are where the state or the symbol is outside.
+fn spoil_target(r: &mut Random, value: &mut CheckedRule, n: usize, k: usize) {
+    let (mut q, mut s, mut mask) = (r.below(n), r.below(k), 1 << r.below(n));
+    match r.below(4) {
+        0 if k < 16 => s = from(r, k, 16),
+        1 if n < 32 => q = from(r, n, 32),
+        2 if k < 16 && n < 32 => (q, s) = (from(r, n, 32), from(r, k, 16)),
+        _ if n < 32 => mask = 1 << from(r, n, 32),
+        _ => s = from(r, k, 16),
+    }
+    value.targets[q][s] |= mask;
+}
+
+/// A value that is most likely refused: one or two faults, one fault at 32 states, a good value with a
+/// bit changed or with one state or symbol more or less, or numbers by chance.
+pub fn likely_refused_value(r: &mut Random) -> CheckedRule {
+    match r.below(10) {
+        0..=3 => {
+            let number = r.pick(&[3, 4, 6, 8, 8, 9]);
+            faulty_value(r, &[number])
+        }
+        4 | 5 => {
+            let numbers = [r.pick(&[3, 4, 6, 8, 9]), r.pick(&[3, 4, 6, 8, 9])];
+            faulty_value(r, &numbers)
+        }
+        6 => {
+            let k = r.range(1, 15);
+            let mut value = CheckedRule::of(&blank(32, k));
+            spoil_target(r, &mut value, 32, k);
+            value
+        }
+        7 => {
+            let mut bytes = CheckedRule::of(&base(r, false)).bytes();
+            let at = if r.one_in(2) { r.below(10) } else { r.below(bytes.len()) };
+            bytes[at] ^= 1 << r.below(8);
+            CheckedRule::from_bytes(&bytes).unwrap()
+        }
+        8 => {
+            let mut value = CheckedRule::of(&base(r, false));
+            let number = if r.one_in(2) { &mut value.n } else { &mut value.k };
+            *number = if r.one_in(2) { *number - 1 } else { *number + 1 };
+            value
+        }
+        _ => {
+            let (n, k) = (r.pick(&[1, 8, 31, 32, 32]), r.pick(&[1, 15, 16, 16]));
+            let few = r.next() as u32;
+            let mut mask = || (r.next() & r.next()) as u32 & few;
+            let targets = [[0; 16]; 32].map(|row| row.map(|_: u32| mask()));
+            CheckedRule { n, k, initial: mask(), finals: mask(), targets }
         }
     }
 }

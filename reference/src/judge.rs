@@ -1,11 +1,14 @@
-//! The judge and its five calls. The board keeps the chunks themselves; counts and the verdict
-//! are worked out anew whenever they are due.
+//! The judge and its five calls, of which load has two forms: a file that is read and installed, or
+//! a checked rule that is installed. The board keeps the chunks themselves; counts and the verdict are
+//! worked out anew whenever they are due.
 
+use crate::checked::CheckedRule;
 use crate::rule::Rule;
 
 #[derive(Clone, Debug, PartialEq)]
 pub enum Call {
     Load(Vec<u8>),
+    Install(Box<CheckedRule>),
     Open(u64),
     Deliver(u64, Vec<u8>),
     Withdraw(u64),
@@ -14,7 +17,8 @@ pub enum Call {
 
 #[derive(Clone, Debug, PartialEq)]
 pub enum Answer {
-    Loaded(usize, usize),
+    /// A rule was loaded or installed: the number of its sets, and M.
+    Installed(usize, usize),
     /// A delivery was accepted: for so many bytes of its text a successor is looked up.
     Delivered(usize),
     Accepted,
@@ -40,7 +44,7 @@ impl Work {
     }
 }
 
-use Answer::{Accepted, Delivered, Loaded, No, Refused, Waiting, Yes};
+use Answer::{Accepted, Delivered, Installed, No, Refused, Waiting, Yes};
 
 /// What a controller writes while no valve moves.
 const IDLE: u8 = 255;
@@ -71,7 +75,8 @@ fn total(rule: &Rule, board: &Board) -> u64 {
 impl Judge {
     pub fn call(&mut self, call: &Call) -> Answer {
         match call {
-            Call::Load(file) => self.load(file),
+            Call::Load(file) => self.take(Rule::load(file)),
+            Call::Install(value) => self.take(Rule::install(value)),
             Call::Open(places) => self.open(*places),
             Call::Deliver(place, chunk) => self.deliver(*place, chunk),
             Call::Withdraw(place) => self.withdraw(*place),
@@ -79,11 +84,12 @@ impl Judge {
         }
     }
 
-    fn load(&mut self, file: &[u8]) -> Answer {
-        match Rule::build(file) {
+    /// A rule that is accepted replaces the former one and removes the board.
+    fn take(&mut self, rule: Result<Rule, u32>) -> Answer {
+        match rule {
             Err(number) => Refused(number),
             Ok(rule) => {
-                let answer = Loaded(rule.sets.len(), rule.starts().len());
+                let answer = Installed(rule.sets.len(), rule.starts().len());
                 self.rule = Some(rule);
                 self.board = None;
                 answer

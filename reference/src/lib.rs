@@ -2,11 +2,13 @@
 //! to be compared with `tracejudge` on lists of calls.
 
 pub mod automata;
+pub mod checked;
 pub mod compare;
 pub mod faults;
 pub mod judge;
 pub mod lines;
 pub mod lists;
+pub mod malformed;
 pub mod random;
 pub mod rule;
 pub mod shrink;

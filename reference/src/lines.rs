@@ -1,5 +1,6 @@
 //! Lists of calls as text: one call a line, one answer a line.
 
+use crate::checked::CheckedRule;
 use crate::judge::{Answer, Call, Judge, Work};
 
 /// One or more pairs of hex digits, or `-` for no bytes.
@@ -28,6 +29,7 @@ pub fn call(line: &[u8]) -> Option<Call> {
     let fields: Vec<&[u8]> = line.split(|&c| c == b' ').collect();
     match fields.as_slice() {
         [b"load", file] => Some(Call::Load(bytes(file)?)),
+        [b"install", value] => Some(Call::Install(Box::new(CheckedRule::from_bytes(&bytes(value)?)?))),
         [b"open", places] => Some(Call::Open(number(places)?)),
         [b"deliver", place, chunk] => Some(Call::Deliver(number(place)?, bytes(chunk)?)),
         [b"withdraw", place] => Some(Call::Withdraw(number(place)?)),
@@ -44,6 +46,7 @@ pub fn line(call: &Call) -> Vec<u8> {
     };
     let line = match call {
         Call::Load(file) => format!("load {}", hex(file)),
+        Call::Install(value) => format!("install {}", hex(&value.bytes())),
         Call::Open(places) => format!("open {places}"),
         Call::Deliver(place, chunk) => format!("deliver {place} {}", hex(chunk)),
         Call::Withdraw(place) => format!("withdraw {place}"),
@@ -59,7 +62,7 @@ fn numbers(work: Work) -> String {
 
 fn answer(answer: Answer) -> String {
     match answer {
-        Answer::Loaded(sets, starts) => format!("accepted {sets} {starts}"),
+        Answer::Installed(sets, starts) => format!("accepted {sets} {starts}"),
         Answer::Delivered(looked) => format!("accepted {looked}"),
         Answer::Accepted => "accepted".to_string(),
         Answer::Waiting(empty) => format!("waiting {empty}"),

@@ -1,7 +1,9 @@
 //! Random lists of calls, as lines.
 
 use crate::automata::{automaton, file};
-use crate::faults::likely_refused;
+use crate::checked::{CheckedRule, BYTES};
+use crate::faults::{likely_refused, likely_refused_value};
+use crate::malformed::malformed;
 use crate::random::Random;
 use crate::rule::Automaton;
 
@@ -87,17 +89,31 @@ impl Maker {
         self.line(format!("load {file}"));
     }
 
-    /// Loads a rule, rarely one with too many sets.
-    fn load_rule(&mut self) {
+    fn install(&mut self, bytes: &[u8]) {
+        let value = self.hex(bytes);
+        self.line(format!("install {value}"));
+    }
+
+    /// Loads the file of a rule, or installs its value.
+    fn give(&mut self, rule: &Automaton) {
+        if self.r.one_in(3) {
+            self.install(&CheckedRule::of(rule).bytes());
+        } else {
+            self.load(&file(rule));
+        }
+    }
+
+    /// Loads or installs a rule, rarely one with too many sets.
+    fn give_rule(&mut self) {
         loop {
             let rule = automaton(&mut self.r);
             let large = file(&rule).len() > 2000 && !self.r.one_in(10);
             let many = rule.sets(512).is_none();
             if many && self.r.one_in(4) {
-                self.load(&file(&rule));
+                self.give(&rule);
             }
             if !many && !large {
-                self.load(&file(&rule));
+                self.give(&rule);
                 self.rule = rule;
                 return;
             }
@@ -107,6 +123,26 @@ impl Maker {
     fn load_refused(&mut self) {
         let file = likely_refused(&mut self.r);
         self.load(&file);
+    }
+
+    fn install_refused(&mut self) {
+        let value = likely_refused_value(&mut self.r);
+        self.install(&value.bytes());
+    }
+
+    /// Bytes that are no value, since they are too few or too many, or are those of a file; or the bytes
+    /// of a value where those of a file are due.
+    fn value_out_of_place(&mut self) {
+        let mut bytes = CheckedRule::of(&self.rule).bytes();
+        let length = match self.r.below(12) {
+            0 | 1 => return self.install(&file(&self.rule)),
+            2 | 3 => return self.load(&bytes),
+            4 => self.r.pick(&[0, 1, 10, BYTES / 2, 2 * BYTES, LONGEST, LONGEST + 1000]),
+            5 => self.r.pick(&[BYTES - 2, BYTES + 2, BYTES - 4, BYTES + 4]),
+            _ => self.r.pick(&[BYTES - 1, BYTES + 1]),
+        };
+        bytes.resize(length, 0);
+        self.install(&bytes);
     }
 
     fn open(&mut self, places: u64) {
@@ -257,12 +293,15 @@ impl Maker {
         chunks.into_iter().map(|chunk| self.marked(chunk)).collect()
     }
 
-    /// A load, an opening, chunks for the places in any order, verdicts, and changes afterwards.
+    /// A rule, an opening, chunks for the places in any order, verdicts, and changes afterwards.
     fn round(&mut self) {
         if self.r.one_in(3) {
             self.load_refused();
         }
-        self.load_rule();
+        if self.r.one_in(6) {
+            self.install_refused();
+        }
+        self.give_rule();
         if self.r.one_in(5) {
             self.some_calls(3);
         }
@@ -316,7 +355,7 @@ impl Maker {
     /// Any call, most likely out of place.
     fn any_call(&mut self) {
         let (place, no_place) = (self.place(), self.no_place());
-        match self.r.below(20) {
+        match self.r.below(22) {
             0..=3 => self.verdict(),
             4 | 5 => self.withdraw(place),
             6 => self.withdraw(no_place),
@@ -344,53 +383,13 @@ impl Maker {
             13 | 14 => self.open_refused(),
             15 => self.load_refused(),
             16 if self.r.one_in(4) => self.open_board(),
-            16 if self.r.one_in(4) => self.load_rule(),
-            _ => self.malformed(),
-        }
-    }
-
-    /// A line that is most likely malformed, without a line feed.
-    fn malformed(&mut self) {
-        let fixed: &[&[u8]] = &[
-            b" ", b"load", b"load ", b"open", b"open ", b"deliver", b"deliver 0", b"deliver 0 ",
-            b"withdraw", b"withdraw ", b"verdict ", b" verdict", b"verdict\r", b"\r", b"\t", b"\0",
-            b"Verdict", b"VERDICT", b"verdicts", b"verdic", b"verdict 0", b"verdict -", b"judge",
-            b"open -", b"open -1", b"open +1", b"open 0x1", b"open 1.", b"open 1 ", b"open  1",
-            b"open 1 1", b"open\t1", b"open 1\r", b"open 18446744073709551616", b"open one",
-            b"open 99999999999999999999", b"open 000000000000000000001", b"open 36893488147419103233",
-            b"open 184467440737095516150", b"deliver 0 0", b"deliver 0 000", b"deliver 0 0g",
-            b"deliver 0 --", b"deliver 0 -00", b"deliver 0 00-", b"deliver 0 00 00", b"deliver  0 00",
-            b"deliver 0  00", b"deliver - 00", b"deliver 00", b"deliver 0 00 ", b"deliver 0 -\r",
-            b"deliver 18446744073709551616 -", b"deliver 0 0x00", b"deliver 0 0:", b"deliver 0 0@",
-            b"deliver 0 0`", b"deliver 0 0G", b"deliver 0 /0", b"withdraw 0 0", b"withdraw a",
-            b"withdraw 0/", b"withdraw 0:", b"withdraw 0\0", b"load --", b"load - ", b"load -\0",
-            b"load 0", b"load 00 00", b"load zz", b"load\xA000", b"\xFF\xFE", b"load \xC3\xA9",
-            b"withdraw \xD9\xA0", b"loa", b"loadd -", b"open1", b"deliver0 -", b"verdict\0", b"#", b"\x1A",
-        ];
-        if self.lines.is_empty() || self.r.one_in(2) {
-            let line = self.r.pick(fixed).to_vec();
-            self.lines.push(line);
-            return;
-        }
-        if self.r.one_in(20) {
-            let zeros = self.r.range(20, 5000);
-            return self.line(format!("open {:0>zeros$}1", ""));
-        }
-        let mut line = self.lines[self.r.below(self.lines.len())].clone();
-        if line.is_empty() || line.len() > 3000 && !self.r.one_in(10) {
-            return;
-        }
-        let at = self.r.below(line.len());
-        let byte = self.r.pick(b" -09afAFgG\r\t\0\x7F\x80\xFFdv");
-        match self.r.below(4) {
-            0 => line[at] = byte,
-            1 => line.insert(at, byte),
-            2 => line.push(byte),
-            _ if line.len() > 1 => {
-                line.remove(at);
+            16 if self.r.one_in(4) => self.give_rule(),
+            17 => self.install_refused(),
+            18 if self.r.one_in(3) => self.value_out_of_place(),
+            _ => {
+                let line = malformed(&mut self.r, &self.lines);
+                self.lines.extend(line);
             }
-            _ => line[0] = byte,
         }
-        self.lines.push(line);
     }
 }

@@ -1,5 +1,6 @@
-//! A rule: its file, its numbered sets, its delegates.
+//! A rule as it is built: its numbered sets, its delegates, its runs.
 
+use crate::checked::{read, CheckedRule};
 use std::collections::BTreeMap;
 
 /// A nondeterministic automaton. A set of states is a mask, bit q for state q.
@@ -105,45 +106,17 @@ fn number(set: u32, sets: &mut Vec<u32>, numbers: &mut BTreeMap<u32, usize>) {
     }
 }
 
-/// The automaton in a file, or the number of the first condition that holds, 1 to 8.
-pub fn read(file: &[u8]) -> Result<Automaton, u32> {
-    let two = |at: usize| file[at] as usize + 256 * file[at + 1] as usize;
-    let four = |at: usize| two(at) as u64 + 65_536 * two(at + 2) as u64;
-
-    if file.len() < 10 { return Err(1); }
-    if file.len() > 32_906 { return Err(2); }
-    let (n, k) = (file[0] as usize, file[1] as usize);
-    if n < 1 || n > 32 { return Err(3); }
-    if k < 1 || k > 16 { return Err(4); }
-    if file.len() < 10 + 4 * n { return Err(5); }
-    let (initial, finals) = (four(2), four(6));
-    if initial >> n != 0 || finals >> n != 0 { return Err(6); }
-    let offset = |q: usize| two(10 + 4 * q);
-    let length = |q: usize| two(12 + 4 * q);
-    let end = |q: usize| offset(q) + length(q);
-    let due = |q: usize| if q == 0 { 10 + 4 * n } else { end(q - 1) };
-    let ill_paired = |q: usize| offset(q) != due(q) || length(q) % 2 != 0;
-    if (0..n).any(ill_paired) || end(n - 1) != file.len() { return Err(7); }
-    let arcs = |q: usize| -> Vec<(u8, u8)> {
-        file[offset(q)..end(q)].chunks(2).map(|arc| (arc[0], arc[1])).collect()
-    };
-    let too_large = |q: usize| arcs(q).iter().any(|&(s, t)| s as usize >= k || t as usize >= n);
-    let out_of_order = |q: usize| arcs(q).windows(2).any(|two| two[1] <= two[0]);
-    if (0..n).any(|q| too_large(q) || out_of_order(q)) { return Err(8); }
-
-    let mut targets = vec![vec![0; k]; n];
-    for q in 0..n {
-        for (s, t) in arcs(q) {
-            targets[q][s as usize] |= 1 << t;
-        }
-    }
-    Ok(Automaton { n, k, initial: initial as u32, finals: finals as u32, targets })
-}
-
 impl Rule {
-    /// Checks and builds a rule, or gives the number of the first condition that holds, 1 to 9.
-    pub fn build(file: &[u8]) -> Result<Rule, u32> {
-        let automaton = read(file)?;
+    /// Reads a file and installs the rule in it; or the number of the first condition that holds,
+    /// 1 to 9.
+    pub fn load(file: &[u8]) -> Result<Rule, u32> {
+        Rule::install(&read(file)?)
+    }
+
+    /// Checks and builds a rule that is given by value; or the number of the first condition that
+    /// holds: 3, 4, 6, 8 or 9.
+    pub fn install(value: &CheckedRule) -> Result<Rule, u32> {
+        let automaton = value.automaton()?;
         let Some(sets) = automaton.sets(512) else { return Err(9) };
         let delegates = automaton.delegates(&sets);
         Ok(Rule { automaton, sets, delegates })

@@ -3,9 +3,10 @@
 //! makes the list smaller or a line plainer, so it ends.
 
 use crate::automata::file;
+use crate::checked::{read, CheckedRule};
 use crate::judge::Call;
 use crate::lines::{call, line};
-use crate::rule::{members, read, Automaton};
+use crate::rule::{members, Automaton};
 
 /// The lines of a list of calls.
 pub type Lines = Vec<Vec<u8>>;
@@ -134,7 +135,7 @@ fn smaller_call(list: &Lines, i: usize, differs: Test<Lines>) -> Lines {
     let with = |call: &Call| with_line(list, i, line(call));
     let shows = |call: &Call| differs(&with(call));
     let smaller = match whole.clone() {
-        Call::Load(file) => Call::Load(smaller_file(&file, &|file| shows(&Call::Load(file.to_vec())))),
+        Call::Load(_) | Call::Install(_) => smaller_giving(&whole, &shows),
         Call::Open(places) => Call::Open(smaller_number(places, &|places| shows(&Call::Open(places)))),
         Call::Withdraw(place) => Call::Withdraw(smaller_number(place, &|place| shows(&Call::Withdraw(place)))),
         Call::Deliver(place, chunk) => {
@@ -148,11 +149,38 @@ fn smaller_call(list: &Lines, i: usize, differs: Test<Lines>) -> Lines {
     if smaller == whole && !shows(&whole) { list.clone() } else { with(&smaller) }
 }
 
-/// A file that is a rule stays one; of any other the bytes are made smaller.
-fn smaller_file(bytes: &[u8], test: &dyn Fn(&[u8]) -> bool) -> Vec<u8> {
-    match read(bytes) {
-        Ok(rule) => file(&smaller_rule(&rule, &|rule| test(&file(rule)))),
-        Err(_) => smaller_bytes(bytes, test),
+/// The rule that a call loads or installs, where the file or the value is one.
+fn given(call: &Call) -> Option<Automaton> {
+    match call {
+        Call::Load(bytes) => read(bytes).ok()?.automaton().ok(),
+        Call::Install(value) => value.automaton().ok(),
+        _ => None,
+    }
+}
+
+/// The call with another rule.
+fn giving(call: &Call, rule: &Automaton) -> Call {
+    match call {
+        Call::Install(_) => Call::Install(Box::new(CheckedRule::of(rule))),
+        _ => Call::Load(file(rule)),
+    }
+}
+
+/// A file or a value that is a rule stays one, and the shorter file takes the place of a value; of any
+/// other the bytes are made smaller.
+fn smaller_giving(call: &Call, test: Test<Call>) -> Call {
+    if let Some(rule) = given(call) {
+        let rule = smaller_rule(&rule, &|rule| test(&giving(call, rule)));
+        let (same, load) = (giving(call, &rule), Call::Load(file(&rule)));
+        return if line(&load).len() < line(&same).len() && test(&load) { load } else { same };
+    }
+    match call {
+        Call::Load(bytes) => Call::Load(smaller_bytes(bytes, &|bytes| test(&Call::Load(bytes.to_vec())))),
+        Call::Install(value) => {
+            let with = |bytes: &[u8]| Call::Install(Box::new(CheckedRule::from_bytes(bytes).unwrap()));
+            with(&smaller_bytes(&value.bytes(), &|bytes| test(&with(bytes))))
+        }
+        other => other.clone(),
     }
 }
 
@@ -258,12 +286,10 @@ fn places(line: &[u8]) -> usize {
     }
 }
 
-/// How many symbols a load's rule could do without.
+/// How many symbols a rule that is loaded or installed could do without.
 fn symbols(line: &[u8]) -> usize {
-    match call(line) {
-        Some(Call::Load(bytes)) => read(&bytes).ok().filter(|rule| rule.k > 1).map_or(0, |rule| rule.k),
-        _ => 0,
-    }
+    let rule = call(line).and_then(|call| given(&call));
+    rule.filter(|rule| rule.k > 1).map_or(0, |rule| rule.k)
 }
 
 /// What becomes of a number when one is left out: nothing of that one, and those above move down.
@@ -289,9 +315,9 @@ fn without_place(list: &Lines, i: usize, place: usize) -> Lines {
 
 /// The list with a rule of one symbol less in line i, which is left out of the chunks too.
 fn without_symbol(list: &Lines, i: usize, symbol: usize) -> Lines {
-    let Some(Call::Load(bytes)) = call(&list[i]) else { return list.clone() };
-    let Some(rule) = read(&bytes).ok().and_then(|rule| less_symbol(&rule, symbol)) else { return list.clone() };
-    let mut less = with_line(list, i, line(&Call::Load(file(&rule))));
+    let Some(whole) = call(&list[i]) else { return list.clone() };
+    let Some(rule) = given(&whole).and_then(|rule| less_symbol(&rule, symbol)) else { return list.clone() };
+    let mut less = with_line(list, i, line(&giving(&whole, &rule)));
     later(&mut less, i, |call| match call {
         Call::Deliver(place, chunk) => {
             let chunk = chunk.iter().filter_map(|&s| moved(s as u64, symbol)).map(|s| s as u8).collect();

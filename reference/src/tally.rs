@@ -1,9 +1,9 @@
 //! What the compared lists reached: how often each call had each kind of answer, and the edges.
 
 use crate::automata::all_states;
+use crate::checked::{read, CheckedRule, BYTES};
 use crate::judge::Call;
 use crate::lines::call;
-use crate::rule::read;
 use std::collections::BTreeMap;
 
 #[derive(Default)]
@@ -23,15 +23,26 @@ impl Tally {
             return;
         }
         self.calls += 1;
-        let Some(call) = call(line) else { return self.add(answer) };
+        let Some(call) = call(line) else {
+            self.value_of_another_size(line);
+            return self.add(answer);
+        };
         let words: Vec<&str> = answer.split(' ').collect();
         let kind = if words[0] == "refused" { answer } else { words[0] };
         let accepted = words[0] == "accepted";
         let verb = line.split(|&c| c == b' ').next().unwrap();
         self.add(&format!("{} {kind}", String::from_utf8_lossy(verb)));
         match call {
-            Call::Load(file) if accepted || answer == "refused 9" => self.rule(&file, &words),
-            Call::Load(file) if file.len() == 32_907 => self.add("edge: file of 32907 bytes"),
+            Call::Load(file) => {
+                if file.len() == 32_907 || accepted && file.len() == 32_906 {
+                    self.add(&format!("edge: file of {} bytes", file.len()));
+                }
+                if accepted || answer == "refused 9" {
+                    self.rule(&read(&file).unwrap(), &words);
+                }
+            }
+            Call::Install(value) if accepted || answer == "refused 9" => self.rule(&value, &words),
+            Call::Install(value) => self.refused_value(&value, answer),
             Call::Open(places) if places == 64 || places == 65 => self.add(&format!("edge: open {places}")),
             Call::Deliver(_, chunk) => {
                 let length = chunk.len();
@@ -67,13 +78,47 @@ impl Tally {
         }
     }
 
-    /// Counts what is noteworthy in a rule that was built or has more than 512 sets.
-    fn rule(&mut self, file: &[u8], words: &[&str]) {
-        let a = read(file).unwrap();
-        let sets = a.sets(1000).map_or(1001, |sets| sets.len());
-        if file.len() == 32_906 {
-            self.add("edge: file of 32906 bytes");
+    /// Counts a malformed line whose value has a byte more or less than is due.
+    fn value_of_another_size(&mut self, line: &[u8]) {
+        let Some(hex) = line.strip_prefix(b"install ") else { return };
+        if hex.len() == 2 * BYTES - 2 || hex.len() == 2 * BYTES + 2 {
+            self.add(&format!("edge: value of {} bytes", hex.len() / 2));
         }
+    }
+
+    /// Counts what is noteworthy in a value that was refused: which number of states is too large by
+    /// far, and which target masks are wrong where they alone are.
+    fn refused_value(&mut self, value: &CheckedRule, answer: &str) {
+        let (n, k) = (value.n as usize, value.k as usize);
+        if n == 40 {
+            self.add("value: 40 states");
+        }
+        if answer != "refused 8" {
+            return;
+        }
+        let mut wrong = [0; 3];
+        for (q, by_symbol) in value.targets.iter().enumerate() {
+            for (s, &mask) in by_symbol.iter().enumerate() {
+                let faults = [mask & !all_states(n) != 0, q >= n && mask != 0, s >= k && mask != 0];
+                (0..3).filter(|&i| faults[i]).for_each(|i| wrong[i] += 1);
+            }
+        }
+        let what = match wrong {
+            [_, 0, 0] => "value: a target at n or above and no other fault",
+            [0, _, 0] => "value: a mask for no state and no other fault",
+            [0, 0, _] => "value: a mask for no symbol and no other fault",
+            _ => return,
+        };
+        self.add(what);
+        if n == 32 {
+            self.add("value: a mask for no symbol of 32 states");
+        }
+    }
+
+    /// Counts what is noteworthy in a rule that was built or has more than 512 sets.
+    fn rule(&mut self, value: &CheckedRule, words: &[&str]) {
+        let a = value.automaton().unwrap();
+        let sets = a.sets(1000).map_or(1001, |sets| sets.len());
         match sets {
             400..=509 => self.add("sets 400 to 509"),
             510..=514 => self.add(&format!("sets {sets}")),

@@ -1,6 +1,7 @@
 //! The parser, and checks of the reference against itself by other ways to the same result.
 
 use reference::automata::{automaton, blank, file};
+use reference::checked::CheckedRule;
 use reference::compare::answers_or_panic;
 use reference::judge::Call;
 use reference::lines::{answer_line, answers, call, line, lines};
@@ -86,7 +87,7 @@ fn told_apart(a: &Automaton, p: usize, q: usize) -> bool {
 fn rules(seed: u64, count: usize) -> impl Iterator<Item = (Random, Rule)> {
     let some = (0..).filter_map(move |index| {
         let mut r = Random::new(seed, index);
-        let rule = Rule::build(&file(&automaton(&mut r))).ok()?;
+        let rule = Rule::load(&file(&automaton(&mut r))).ok()?;
         (rule.sets.len() < 300).then_some((r, rule))
     });
     some.take(count)
@@ -137,6 +138,28 @@ fn shrinking_leaves_what_matters() {
     assert_eq!(shrink(&list, &wrong), vec![b"deliver 7 03".to_vec(), b"deliver 23 -".to_vec()]);
 }
 
+/// A line that installs bytes.
+fn install(bytes: &[u8]) -> String {
+    format!("install {}", bytes.iter().map(|byte| format!("{byte:02X}")).collect::<String>())
+}
+
+#[test]
+fn a_value_has_2058_bytes() {
+    let value = CheckedRule::of(&blank(1, 1));
+    let mut bytes = value.bytes();
+    let plain = install(&bytes);
+    assert_eq!(call(plain.as_bytes()), Some(Call::Install(Box::new(value))));
+    assert_eq!(line(&call(plain.to_lowercase().as_bytes()).unwrap()), plain.as_bytes());
+    for other in [plain.clone() + " ", plain.clone() + "0", plain.replace(' ', "  "), plain[..plain.len() - 1].to_string()] {
+        assert_eq!(call(other.as_bytes()), None);
+    }
+    bytes.pop();
+    assert_eq!(call(install(&bytes).as_bytes()), None);
+    bytes.extend([0, 0]);
+    assert_eq!(call(install(&bytes).as_bytes()), None);
+    assert_eq!((call(b"install -"), call(b"install 00"), call(b"install")), (None, None, None));
+}
+
 /// The lines of a text.
 fn list(text: &str) -> Vec<Vec<u8>> {
     text.lines().map(|line| line.as_bytes().to_vec()).collect()
@@ -166,6 +189,28 @@ fn shrinking_makes_places_symbols_and_rules_smaller() {
     (least.initial, least.finals, least.targets[0][0]) = (1, 1, 1);
     let least = String::from_utf8(line(&Call::Load(file(&least)))).unwrap();
     assert_eq!(shrink(&list(&text), &counted), list(&format!("{least}\nopen 1\ndeliver 0 00\nverdict")));
+}
+
+/// Where an installation is not what differs, a load of the same rule is plainer; where it is, the
+/// smallest value is left.
+#[test]
+fn shrinking_makes_installations_smaller() {
+    let mut rule = blank(6, 4);
+    (rule.initial, rule.finals) = (0b111000, 0b011100);
+    rule.targets.iter_mut().flatten().for_each(|targets| *targets = 0b111111);
+    let installation = install(&CheckedRule::of(&rule).bytes());
+    let accepted = |list: &Vec<Vec<u8>>| answers(&list.join(&b'\n')).contains("accepted");
+    let least = String::from_utf8(line(&Call::Load(file(&blank(1, 1))))).unwrap();
+    assert_eq!(shrink(&list(&installation), &accepted), list(&least));
+    let of_a_value = |list: &Vec<Vec<u8>>| accepted(list) && list.iter().any(|line| line.starts_with(b"install"));
+    assert_eq!(shrink(&list(&installation), &of_a_value), list(&install(&CheckedRule::of(&blank(1, 1)).bytes())));
+    let mut value = CheckedRule::of(&rule);
+    (value.targets[5][3], value.targets[31][15]) = (0xFFFF_FFFF, 0xFFFF_FFFF);
+    let refused_8 = |list: &Vec<Vec<u8>>| answers(&list.join(&b'\n')).contains("refused 8");
+    let shrunk = shrink(&list(&install(&value.bytes())), &refused_8);
+    let Some(Call::Install(left)) = call(&shrunk[0]) else { panic!("no value is left") };
+    let bits: u32 = left.targets.into_iter().flatten().map(u32::count_ones).sum();
+    assert_eq!((left.n, left.k, left.initial, left.finals, bits), (1, 1, 0, 0, 1));
 }
 
 #[test]

@@ -22,7 +22,7 @@ fn b() -> Vec<u8> {
 /// A judge with the rule and a board of so many places.
 fn opened(rule: &[u8], places: u64) -> Judge {
     let mut judge = Judge::default();
-    assert!(matches!(judge.call(&Call::Load(rule.to_vec())), Loaded(_, _)));
+    assert!(matches!(judge.call(&Call::Load(rule.to_vec())), Installed(_, _)));
     assert_eq!(judge.call(&Call::Open(places)), Accepted);
     judge
 }
@@ -54,12 +54,12 @@ fn load(file: &[u8]) -> Answer {
 fn p1() {
     let printed = "sets 5 starts 3\n0 00000001 1 0\n1 00000003 1 2\n2 00000005 1 0\n\
                    3 00000002 - 4\n4 00000004 - -\ndelegates 0 1 2\n";
-    assert_eq!(Rule::build(&A).ok().unwrap().print(), printed);
+    assert_eq!(Rule::load(&A).ok().unwrap().print(), printed);
 }
 
 #[test]
 fn p2() {
-    let rule = Rule::build(&b()).ok().unwrap();
+    let rule = Rule::load(&b()).ok().unwrap();
     assert_eq!((rule.sets.len(), rule.delegates), (4, vec![0, 1, 1]));
 }
 
@@ -103,7 +103,7 @@ fn refused_2() {
     let mut all = blank(32, 16);
     all.targets = vec![vec![u32::MAX; 16]; 32];
     let mut file = file(&all);
-    assert_eq!((file.len(), load(&file)), (32_906, Loaded(33, 1)));
+    assert_eq!((file.len(), load(&file)), (32_906, Installed(33, 1)));
     file.push(0);
     assert_eq!(load(&file), Refused(2));
 }
@@ -112,14 +112,14 @@ fn refused_2() {
 fn refused_3() {
     assert_eq!(load(&a_with(0, &[0])), Refused(3));
     assert_eq!(load(&a_with(0, &[33])), Refused(3));
-    assert_eq!(load(&file(&blank(32, 1))), Loaded(32, 1));
+    assert_eq!(load(&file(&blank(32, 1))), Installed(32, 1));
 }
 
 #[test]
 fn refused_4() {
     assert_eq!(load(&a_with(1, &[0])), Refused(4));
     assert_eq!(load(&a_with(1, &[17])), Refused(4));
-    assert_eq!(load(&a_with(1, &[16])), Loaded(5, 3));
+    assert_eq!(load(&a_with(1, &[16])), Installed(5, 3));
 }
 
 #[test]
@@ -160,7 +160,7 @@ fn refused_9() {
     let mut r = Random::new(9, 9);
     for _ in 0..20 {
         let (fits, exceeds) = (reference::automata::exactly(&mut r, 512), reference::automata::exactly(&mut r, 513));
-        assert!(matches!(load(&file(&fits)), Loaded(512, _)));
+        assert!(matches!(load(&file(&fits)), Installed(512, _)));
         assert_eq!(load(&file(&exceeds)), Refused(9));
     }
 }
@@ -253,7 +253,7 @@ fn refused_21() {
         assert_eq!(judge.call(&Call::Withdraw(99)), Refused(21));
         assert_eq!(judge.call(&Call::Verdict), Refused(21));
         judge = opened(&A, 1);
-        assert_eq!(judge.call(&Call::Load(A.to_vec())), Loaded(5, 3));
+        assert_eq!(judge.call(&Call::Load(A.to_vec())), Installed(5, 3));
     }
 }
 

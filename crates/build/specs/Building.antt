@@ -1,5 +1,5 @@
 -- What building a rule answers (document 01, "Load: check and build a rule", of which this is the
--- part after the file is read).
+-- part after the rule is checked).
 --
 --   BuildReply, buildMeans   document 01's answer: accepted with the number of sets and M, or
 --                            refused with a number; and what each case of the code's answer says

@@ -1,17 +1,18 @@
--- A file or a chunk that is too long is refused by its length alone, so its first bytes stand for
--- it. Assumes nothing.
+-- A file or a chunk that is too long is refused by its length alone, and bytes that are too many
+-- for a rule are malformed, so the first of them stand for all. Assumes nothing.
 --
 --   long-load                    the number is 2
 --   loads-long, delivers-long    one that is too long has the outcome of any other
---   loads-clip, delivers-clip    the first bytes, one more than the limit at least, come to what
---                                all of them come to
-use mathlib.Core.Path.{_≡_, refl, ap}
+--   installs-long                one that is too long for a rule is malformed
+--   loads-clip, delivers-clip, installs-clip   the first bytes, one more than the limit at least,
+--                                come to what all of them come to
+use mathlib.Core.Path.{_≡_, refl, sym, ap, _∙_}
 use mathlib.Core.Bool.{Bool, true, false, cond}
 use mathlib.Core.List.{List}
 use mathlib.Core.Option.{some}
 use Prim.Native.Nat.{ℕ, _≤_, _<_}
 use native.Mathlib.Omega.{arith}
-use borrow.Author.Tests.{lt-ltb, le-ltb, ltb-true, ltb-false}
+use borrow.Author.Tests.{lt-ltb, le-ltb, ne-eqb, ltb-true, ltb-false}
 use lib.Dec.{ltb, leb}
 use lib.ListN.{length, take}
 use lib.Seq.{take-all, length-take-le}
@@ -22,6 +23,7 @@ use Rattle.calls.specs.declared.Judge.{Judge}
 use Rattle.calls.specs.Replies.{Reply}
 use Rattle.calls.specs.Calls.{loadNumber}
 use Rattle.calls.specs.Steps.{outcomeBy, lacksBoard, loadOf, deliverOf}
+use Rattle.calltext.specs.Meaning.{malformed, installBy}
 
 pub long-load : (f : List ℕ) → 32906 < length f → loadNumber f ≡ some 2
 unfolding loadNumber tooShort tooLong
@@ -58,3 +60,15 @@ delivers-clip j p w n h =
     let more = ltb-true n (length w) t in
     delivers-long j p (take n w) w (omega (arith, length-take-le n w (omega (arith, more)))) (omega (arith, more)))
     (λ t. ap (deliverOf j p) (take-all n w (ltb-false n (length w) t)))
+
+-- ---- install
+pub installs-long : (b : List ℕ) → 2058 < length b → installBy (some b) ≡ malformed
+installs-long b h = rw (ne-eqb (length b) 2058 (λ e. omega arith))
+
+pub installs-clip : (b : List ℕ) (n : ℕ) → 2059 ≤ n → installBy (some (take n b)) ≡ installBy (some b)
+installs-clip b n h =
+    by-test (ltb n (length b))
+    (λ t.
+    let more = ltb-true n (length b) t in
+    installs-long (take n b) (omega (arith, length-take-le n b (omega (arith, more)))) ∙ sym (installs-long b (omega (arith, more))))
+    (λ t. ap (λ (w : List ℕ). installBy (some w)) (take-all n b (ltb-false n (length b) t)))

@@ -1,19 +1,21 @@
 -- The ways through `run_line` and `asks_verdict`, by what the line was parsed as. Assumes nothing.
 use mathlib.Core.Path.{_≡_, refl, sym, ap, _∙_, subst}
-use mathlib.Core.Bool.{Bool, true, false}
+use mathlib.Core.Bool.{Bool, true, false, cond}
 use mathlib.Core.List.{List}
 use mathlib.Core.Option.{Option, none, some}
 use Prim.Native.Nat.{ℕ, _-_, _≤_}
 use lib.ListN.{length, take, drop}
-use Rattle.base.proofs.Tests.{not-both}
+use lib.Dec.{eqb}
+use Rattle.base.proofs.Tests.{either, not-both}
+use Rattle.packed.specs.Packed.{ruleAt}
 use Rattle.fields.specs.Bytes.{parseBytes}
 use Rattle.calls.specs.declared.Judge.{Judge}
-use Rattle.calls.specs.Calls.{Call, loads, opens, delivers, withdraws, asksVerdict}
+use Rattle.calls.specs.Calls.{Call, installs, opens, delivers, withdraws, asksVerdict}
 use Rattle.calls.specs.Replies.{judged}
 use Rattle.calls.specs.Steps.{stepOf, reportOf}
 use Rattle.calltext.specs.declared.Line.{Line}
-use Rattle.calltext.specs.declared.Line.the-variants.{Empty, Load, Open, Deliver, Withdraw, Verdict, Malformed}
-use Rattle.calltext.specs.Meaning.{Meaning, again, call, malformed, loadBy, deliverBy, lineIn, lineMeans, bytesFrom, Parsed}
+use Rattle.calltext.specs.declared.Line.the-variants.{Empty, Load, Install, Open, Deliver, Withdraw, Verdict, Malformed}
+use Rattle.calltext.specs.Meaning.{Meaning, again, call, load, malformed, loadBy, installBy, deliverBy, lineIn, lineMeans, bytesFrom, Parsed}
 use Rattle.calltext.proofs.Readings.{to-the-end}
 use Rattle.calltext.specs.Answers.{replied}
 use Rattle.callrun.specs.Running.{LineOutcome, replyOf, lineStep, isAsks, verdictAsked}
@@ -23,6 +25,10 @@ load-asks : (bytes : Option (List ℕ)) → verdictAsked (loadBy bytes) ≡ fals
 load-asks none = refl
 load-asks (some f) = refl
 
+install-asks : (bytes : Option (List ℕ)) → verdictAsked (installBy bytes) ≡ false
+install-asks none = refl
+install-asks (some b) = either (eqb (length b) 2058) (λ t. verdictAsked (cond t (call (installs (ruleAt b))) malformed) ≡ false) refl refl
+
 deliver-asks : (p : ℕ) (bytes : Option (List ℕ)) → verdictAsked (deliverBy (some p) bytes) ≡ false
 deliver-asks p none = refl
 deliver-asks p (some w) = refl
@@ -30,6 +36,7 @@ deliver-asks p (some w) = refl
 abbrev isVerdict : Line → Bool
 isVerdict Empty = false
 isVerdict Load = false
+isVerdict Install = false
 isVerdict (Open n) = false
 isVerdict (Deliver p from) = false
 isVerdict (Withdraw p) = false
@@ -39,6 +46,7 @@ isVerdict Malformed = false
 meant-asks : (w : List ℕ) (x : Line) → isVerdict x ≡ verdictAsked (lineMeans w x)
 meant-asks w Empty = refl
 meant-asks w Load = sym (load-asks (parseBytes (drop 5 w)))
+meant-asks w Install = sym (install-asks (parseBytes (drop 8 w)))
 meant-asks w (Open n) = refl
 meant-asks w (Deliver p from) = sym (deliver-asks p (parseBytes (drop from w)))
 meant-asks w (Withdraw p) = refl
@@ -53,6 +61,9 @@ module _ (w : List ℕ) (x : Line) (parsed : Parsed w x) where
   pub load-inside : x ≡ Load → 5 ≤ length w
   load-inside e = subst (λ (y : Line). bytesFrom y ≤ length w) e (parsed .inside)
 
+  pub install-inside : x ≡ Install → 8 ≤ length w
+  install-inside e = subst (λ (y : Line). bytesFrom y ≤ length w) e (parsed .inside)
+
   pub deliver-inside : (p from : ℕ) → x ≡ Deliver p from → from ≤ length w
   deliver-inside p from e = subst (λ (y : Line). bytesFrom y ≤ length w) e (parsed .inside)
 
@@ -65,6 +76,9 @@ module _ (w : List ℕ) (x : Line) (parsed : Parsed w x) where
 
     pub line-load : x ≡ Load → o ≡ lineStep j (loadBy (parseBytes (take (length w - 5) (drop 5 w)))) → o ≡ lineStep j (lineIn w)
     line-load e l = by Load e (l ∙ ap (λ (v : List ℕ). lineStep j (loadBy (parseBytes v))) (to-the-end w 5))
+
+    pub line-install : x ≡ Install → o ≡ lineStep j (installBy (parseBytes (take (length w - 8) (drop 8 w)))) → o ≡ lineStep j (lineIn w)
+    line-install e l = by Install e (l ∙ ap (λ (v : List ℕ). lineStep j (installBy (parseBytes v))) (to-the-end w 8))
 
     pub line-open : (n : ℕ) → x ≡ Open n → o ≡ lineStep j (call (opens n)) → o ≡ lineStep j (lineIn w)
     line-open n e = by (Open n) e
@@ -84,7 +98,7 @@ module _ (w : List ℕ) (x : Line) (parsed : Parsed w x) where
 
 -- ---- a line that asks for the verdict changes nothing
 call-asks : (j : Judge) (c : Call) → isAsks c ≡ true → replyOf (stepOf j c) ≡ record { response = replied (judged (reportOf j)); state = j }
-call-asks j (loads f) e = not-both e refl
+call-asks j (installs r) e = not-both e refl
 call-asks j (opens n) e = not-both e refl
 call-asks j (delivers p w) e = not-both e refl
 call-asks j (withdraws p) e = not-both e refl
@@ -93,4 +107,5 @@ call-asks j asksVerdict e = refl
 pub asks-step : (j : Judge) (m : Meaning) → verdictAsked m ≡ true → lineStep j m ≡ record { response = replied (judged (reportOf j)); state = j }
 asks-step j again e = not-both e refl
 asks-step j (call c) e = call-asks j c e
+asks-step j (load f) e = not-both e refl
 asks-step j malformed e = not-both e refl

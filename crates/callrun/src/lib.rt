@@ -1,4 +1,4 @@
-// Runs the call that a line records on a judge.
+// Runs the call that a line records on a judge, or loads the file that it has.
 ghost use mathlib.Core.Path.{_≡_};
 ghost use mathlib.Core.Option.{some};
 ghost use Prim.Native.Nat.{_≤_};
@@ -6,7 +6,7 @@ ghost use lib.ListN.{length};
 ghost use Rattle.limits.specs.Limits.{bytesRoom};
 ghost use Rattle.fields.specs.Bytes.{parseBytes};
 ghost use Rattle.calls.specs.Calls.{opens, withdraws, asksVerdict};
-ghost use Rattle.calltext.specs.Meaning.{again, call, malformed, loadBy, deliverBy, lineIn};
+ghost use Rattle.calltext.specs.Meaning.{again, call, malformed, loadBy, installBy, deliverBy, lineIn};
 ghost use Rattle.callrun.specs.Running.{lineStep, verdictAsked, runOutcome, Scratch};
 use calls::Judge;
 use calltext::Line;
@@ -48,10 +48,37 @@ fn run_load(judge: Judge, field: &[u8], buffer: &mut [u8]) -> LineRun
         Bytes::Put(n) => {
             let loading = judge::load(judge, &buffer[..n]);
             let said = loading.answer;
-            let answer = LineAnswer::Load(said);
+            let answer = LineAnswer::Install(said);
             let judge = loading.judge;
             LineRun { answer, judge }
         }
+    }
+}
+
+// Installs the rule that the bytes state; any other number of bytes than 2,058 is malformed.
+fn install_bytes(judge: Judge, bytes: &[u8]) -> LineRun
+    ensures { λ r. ⌜ runOutcome r ≡ lineStep judge (installBy (some (now (bytes .entry)))) ⌝ }
+{
+    if bytes.len() != limits::PACKED {
+        return run_malformed(judge);
+    }
+    let installing = judge::install(judge, packed::unpack(bytes));
+    let said = installing.answer;
+    let answer = LineAnswer::Install(said);
+    let judge = installing.judge;
+    LineRun { answer, judge }
+}
+
+// What does not fit the buffer has more than 2,058 bytes and is malformed.
+fn run_install(judge: Judge, field: &[u8], buffer: &mut [u8]) -> LineRun
+    requires { ⌜ bytesRoom ≤ length (now buffer) ⌝ }
+    ensures { λ r. ⌜ runOutcome r ≡ lineStep judge (installBy (parseBytes (now (field .entry)))) ⌝ }
+    ensures scratch { λ r. ⌜ Scratch (now (buffer .entry)) (now (buffer .exit)) ⌝ }
+{
+    let bytes = fields::read_bytes(field, buffer);
+    match bytes {
+        Bytes::Malformed => run_malformed(judge),
+        Bytes::Put(n) => install_bytes(judge, &buffer[..n]),
     }
 }
 
@@ -111,6 +138,7 @@ pub fn run_line(judge: Judge, line: &[u8], buffer: &mut [u8]) -> LineRun
     match parsed {
         Line::Empty => run_empty(judge),
         Line::Load => run_load(judge, &line[5..], buffer),
+        Line::Install => run_install(judge, &line[8..], buffer),
         Line::Open(places) => run_open(judge, places),
         Line::Deliver(place, from) => run_deliver(judge, place, &line[from..], buffer),
         Line::Withdraw(place) => run_withdraw(judge, place),
@@ -128,6 +156,7 @@ pub fn asks_verdict(line: &[u8]) -> bool
     match parsed {
         Line::Empty => false,
         Line::Load => false,
+        Line::Install => false,
         Line::Open(_) => false,
         Line::Deliver(_, _) => false,
         Line::Withdraw(_) => false,

@@ -10,8 +10,8 @@ use Rattle.ruleformat.specs.Reader.{ruleOf}
 use Rattle.calls.specs.declared.Judge.{Judge}
 use Rattle.calls.specs.Calls.{loadNumber}
 use Rattle.calls.specs.Steps.{outcomeBy, withRule, installReply, installOf, loadOf}
-use Rattle.calls.specs.Claims.{LoadLaw}
-use Rattle.calls.proofs.Conditions.{load-number, load-installs}
+use Rattle.calls.specs.Claims.{As-installing, LoadLaw}
+use Rattle.calls.proofs.Conditions.{install-number, load-number, load-installs}
 
 module _ (j : Judge) (f : List ℕ) where
   read-first : (x : ℕ) → refusal f ≡ some x → loadNumber f ≡ some x
@@ -25,3 +25,7 @@ module _ (j : Judge) (f : List ℕ) where
         ap (λ (o : Option ℕ). outcomeBy o (installReply (ruleOf f)) j (withRule (ruleOf f))) (load-installs f e)
         ∙ rw e;
   }
+
+-- the check of a rule as a value gives the number that installing gives
+pub as-installing : As-installing
+as-installing r x e = install-number r ∙ rw e

@@ -1,8 +1,8 @@
 -- A refusal leaves the state as it was, on any state whatever (demand 1). Assumes nothing.
 --
---   refusal-law   a reply has the number of a refusal exactly where it is that refusal, of the
---                 verdict or of another call
---   unchanged     the claim
+--   refusal-law                 a reply has the number of a refusal exactly where it is that
+--                               refusal, of the verdict or of another call
+--   unchanged, load-unchanged   the claims
 use mathlib.Core.Path.{_≡_, refl, ap, _∙_}
 use mathlib.Core.Logic.{_↔_, _⊎_, inl, inr, ⊎-elim}
 use mathlib.Core.Bool.{not}
@@ -10,12 +10,13 @@ use mathlib.Core.Option.{Option, none, some}
 use Prim.Native.Nat.{ℕ}
 use Rattle.base.proofs.Options.{none-some}
 use Rattle.base.specs.Conditions.{firstOf}
+use Rattle.ruleformat.specs.Reader.{ruleOf}
 use Rattle.board.specs.Boards.{placesOf, isEmpty, emptyBoard, filledAt, clearedAt}
 use Rattle.calls.specs.declared.Judge.{Judge}
 use Rattle.calls.specs.Replies.{Judgement, waiting, yesWith, noWith, refusedWith, refusalIn, Reported, Reply, accepted, installed, judged, refused, refusalOf, delivered}
-use Rattle.calls.specs.Calls.{installs, opens, delivers, withdraws, asksVerdict, installNumber, openConditions, deliverConditions, withdrawConditions}
-use Rattle.calls.specs.Steps.{lacksRule, lacksBoard, withBoard, runsAt, outcomeBy, withRule, installReply, installOf, openOf, deliverOf, withdrawOf}
-use Rattle.calls.specs.Claims.{Unchanged}
+use Rattle.calls.specs.Calls.{installs, opens, delivers, withdraws, asksVerdict, installNumber, loadNumber, openConditions, deliverConditions, withdrawConditions}
+use Rattle.calls.specs.Steps.{lacksRule, lacksBoard, withBoard, runsAt, outcomeBy, withRule, installReply, installOf, loadOf, openOf, deliverOf, withdrawOf}
+use Rattle.calls.specs.Claims.{Unchanged, Unchanged-load}
 
 refused-in : (v : Judgement) (x : ℕ) → refusalIn v ≡ some x → v ≡ refusedWith x
 refused-in (waiting empty) x e = none-some refl e
@@ -56,3 +57,8 @@ unchanged j (withdraws p) =
     (withBoard j (clearedAt (j .board) p))
     refl
 unchanged j asksVerdict = λ x e. refl
+
+-- nor does a load that is refused, which is no call
+pub load-unchanged : Unchanged-load
+unfolding loadOf
+load-unchanged j f = by-number (loadNumber f) (installReply (ruleOf f)) j (withRule (ruleOf f)) refl

@@ -5,6 +5,7 @@
 -- calls.
 --
 --   Call               install, open, deliver, withdraw and verdict, with what they are given
+--   manySets r         9: more than 512 sets are reached
 --   installNumber r    the number with which the installation of the rule r is refused, 3, 4, 6, 8
 --                      or 9, or none where it is accepted
 --   loadNumber f       the number with which a load of the file f is refused, document 01's 1 to 9

@@ -7,6 +7,7 @@
 --   Outcome            the outcome of a call: its reply, and the state that it leaves
 --   installOutcome, openOutcome, deliverOutcome, withdrawOutcome   the outcome that the code's
 --                                                                  result stands for
+--   withRule r, installReply r   the judge with the rule r and no board, and what is answered
 --   installOf, openOf, deliverOf, withdrawOf   the outcomes of the calls that may change the state
 --   loadOf             the outcome of a load, by document 01's numbers; it is no call
 --   verdictOf          what the verdict says

@@ -19,8 +19,8 @@ use Rattle.fields.specs.Numbers.{parseNumber, numberMeans}
 use Rattle.fields.specs.Bytes.{parseBytes}
 use Rattle.calls.specs.Calls.{opens, withdraws}
 use Rattle.calltext.specs.declared.Line.{Line}
-use Rattle.calltext.specs.declared.Line.the-variants.{Empty, Load, Verdict, Malformed}
-use Rattle.calltext.specs.Meaning.{call, malformed, load-word, open-word, deliver-word, withdraw-word, verdict-word, openBy, withdrawBy, deliverBy, deliverFields, callIn, lineIn, lineMeans, bytesFrom, Parsed}
+use Rattle.calltext.specs.declared.Line.the-variants.{Empty, Load, Install, Verdict, Malformed}
+use Rattle.calltext.specs.Meaning.{call, malformed, load-word, install-word, open-word, deliver-word, withdraw-word, verdict-word, openBy, withdrawBy, deliverBy, deliverFields, callIn, lineIn, lineMeans, bytesFrom, Parsed}
 
 -- ---- the number of an opening, a withdrawal and a delivery
 module _ (field : List ℕ) (x : Number) (said : numberMeans x ≡ parseNumber field) where
@@ -110,25 +110,30 @@ module _ (w : List ℕ) where
       parsed-load is = record { means = line-is ∙ rw (no-verdict, is); inside = begins-long load-word w is }
 
       module _ (no-load : begins load-word w ≡ false) where
-        pub parsed-open : begins open-word w ≡ true → (r : Line) → bytesFrom r ≡ 0 → lineMeans w r ≡ openBy (parseNumber (take (length w - 5) (drop 5 w))) → Parsed w r
+        pub parsed-install : begins install-word w ≡ true → Parsed w Install
         unfolding callIn
-        parsed-open is r from e = record { means = line-is ∙ rw (no-verdict, no-load, is) (sym (rw (to-the-end w 5) at e)); inside = omega (arith, from) }
+        parsed-install is = record { means = line-is ∙ rw (no-verdict, no-load, is); inside = begins-long install-word w is }
 
-        module _ (no-open : begins open-word w ≡ false) where
-          pub parsed-delivery : begins deliver-word w ≡ true → (r : Line) → bytesFrom r ≤ length w
-              → lineMeans w r ≡ deliverFields (upTo 32 (drop 8 w)) (past 32 (drop 8 w)) → Parsed w r
+        module _ (no-install : begins install-word w ≡ false) where
+          pub parsed-open : begins open-word w ≡ true → (r : Line) → bytesFrom r ≡ 0 → lineMeans w r ≡ openBy (parseNumber (take (length w - 5) (drop 5 w))) → Parsed w r
           unfolding callIn
-          parsed-delivery is r from e = record { means = line-is ∙ rw (no-verdict, no-load, no-open, is) (sym e); inside = from }
+          parsed-open is r from e = record { means = line-is ∙ rw (no-verdict, no-load, no-install, is) (sym (rw (to-the-end w 5) at e)); inside = omega (arith, from) }
 
-          module _ (no-deliver : begins deliver-word w ≡ false) where
-            pub parsed-withdrawal : begins withdraw-word w ≡ true → (r : Line) → bytesFrom r ≡ 0
-                → lineMeans w r ≡ withdrawBy (parseNumber (take (length w - 9) (drop 9 w))) → Parsed w r
+          module _ (no-open : begins open-word w ≡ false) where
+            pub parsed-delivery : begins deliver-word w ≡ true → (r : Line) → bytesFrom r ≤ length w
+                → lineMeans w r ≡ deliverFields (upTo 32 (drop 8 w)) (past 32 (drop 8 w)) → Parsed w r
             unfolding callIn
-            parsed-withdrawal is r from e = record {
-              means = line-is ∙ rw (no-verdict, no-load, no-open, no-deliver, is) (sym (rw (to-the-end w 9) at e));
-              inside = omega (arith, from);
-            }
+            parsed-delivery is r from e = record { means = line-is ∙ rw (no-verdict, no-load, no-install, no-open, is) (sym e); inside = from }
 
-            pub parsed-other : begins withdraw-word w ≡ false → Parsed w Malformed
-            unfolding callIn
-            parsed-other is = record { means = line-is ∙ rw (no-verdict, no-load, no-open, no-deliver, is); inside = omega arith }
+            module _ (no-deliver : begins deliver-word w ≡ false) where
+              pub parsed-withdrawal : begins withdraw-word w ≡ true → (r : Line) → bytesFrom r ≡ 0
+                  → lineMeans w r ≡ withdrawBy (parseNumber (take (length w - 9) (drop 9 w))) → Parsed w r
+              unfolding callIn
+              parsed-withdrawal is r from e = record {
+                means = line-is ∙ rw (no-verdict, no-load, no-install, no-open, no-deliver, is) (sym (rw (to-the-end w 9) at e));
+                inside = omega (arith, from);
+              }
+
+              pub parsed-other : begins withdraw-word w ≡ false → Parsed w Malformed
+              unfolding callIn
+              parsed-other is = record { means = line-is ∙ rw (no-verdict, no-load, no-install, no-open, no-deliver, is); inside = omega arith }

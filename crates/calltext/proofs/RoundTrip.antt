@@ -1,20 +1,24 @@
--- Reading the line of a call gives the call again. Assumes nothing.
-use mathlib.Core.Path.{_≡_, refl, ap}
+-- Reading the line of a call gives the call again; and the lines of files and of rules in bytes.
+-- Assumes nothing.
+use mathlib.Core.Path.{_≡_, refl, ap, _∙_}
 use mathlib.Core.List.{List, [], _∷_, _++_}
 use Prim.Native.Nat.{ℕ, zero, suc, _+_, _/_, _%_, _≤_, _<_}
 use native.Mathlib.Omega.{arith}
 use borrow.Author.Needs.{needs}
-use borrow.Author.Tests.{ne-eqb}
+use borrow.Author.Tests.{eq-eqb, ne-eqb}
 use lib.Dec.{ltb}
 use lib.ListN.{length}
 use Rattle.base.proofs.Tests.{by-test}
 use Rattle.text.specs.Numerals.{decimalBelow, decimal, hexDigit, hex}
 use Rattle.lines.specs.Splitting.{begins}
 use Rattle.lines.proofs.Over.{Over, over-append, over-less, over-up, over-past}
-use Rattle.fields.specs.Claims.{digitsOf, fieldOf}
+use Rattle.ruleformat.specs.Writing.{Bytes}
+use Rattle.packed.specs.Packed.{packedOf}
+use Rattle.packed.proofs.Packing as packed
+use Rattle.fields.specs.Claims.{AllBytes, digitsOf, fieldOf}
 use Rattle.fields.proofs.RoundTrip as fields
-use Rattle.calls.specs.Calls.{Call, loads, opens, delivers, withdraws, asksVerdict}
-use Rattle.calltext.specs.Meaning.{call, load-word, open-word, deliver-word, withdraw-word, loadBy, openBy, withdrawBy, callIn, lineIn}
+use Rattle.calls.specs.Calls.{Call, installs, opens, delivers, withdraws, asksVerdict}
+use Rattle.calltext.specs.Meaning.{call, load, malformed, load-word, install-word, open-word, deliver-word, withdraw-word, loadBy, installBy, openBy, withdrawBy, callIn, lineIn}
 use Rattle.calltext.specs.Claims.{Fits, lineOf, Claims}
 
 -- ---- the bytes of a field: a digit is over 47, and `-` is 45
@@ -51,16 +55,35 @@ field-10 : (b : List ℕ) → Over 10 (fieldOf b)
 field-10 b = over-less 10 44 (fieldOf b) (omega arith) (over-field b)
 
 pub over-call : (c : Call) → Over 10 (lineOf c)
-over-call (loads f) = over-append 10 load-word (fieldOf f) (search needs) (field-10 f)
+over-call (installs r) = over-append 10 install-word (fieldOf (packedOf r)) (search needs) (field-10 (packedOf r))
 over-call (opens n) = over-append 10 open-word (decimal n) (search needs) (number-10 n)
 over-call (delivers p w) =
     over-append 10 deliver-word (decimal p ++ (32 ∷ fieldOf w)) (search needs) (over-append 10 (decimal p) (32 ∷ fieldOf w) (number-10 p) (omega arith, field-10 w))
 over-call (withdraws p) = over-append 10 withdraw-word (decimal p) (search needs) (number-10 p)
 over-call asksVerdict = search needs
 
+not-empty : (w : List ℕ) → 1 ≤ length w → lineIn w ≡ callIn w
+not-empty w h = rw (ne-eqb (length w) 0 (λ e. omega arith))
+
+-- ---- files, and bytes that are no rule
+load-line : (f : List ℕ) → AllBytes f → lineIn (load-word ++ fieldOf f) ≡ load f
+unfolding begins callIn
+load-line f a = not-empty (load-word ++ fieldOf f) (omega arith) ∙ ap loadBy (fields.claims .bytes-round-trip f a)
+
+other-size : (b : List ℕ) → AllBytes b → (length b ≡ 2058 → ⊥) → lineIn (install-word ++ fieldOf b) ≡ malformed
+unfolding begins callIn
+other-size b a other =
+    not-empty (install-word ++ fieldOf b) (omega arith)
+    ∙ ap installBy (fields.claims .bytes-round-trip b a)
+    ∙ rw (ne-eqb (length b) 2058 other)
+
 -- ---- the calls
+all-bytes : (b : List ℕ) → Bytes b → AllBytes b
+all-bytes [] h = tt
+all-bytes (x ∷ b) h = (h 0, all-bytes b (λ i. h (suc i)))
+
 some-byte : (c : Call) → 1 ≤ length (lineOf c)
-some-byte (loads f) = omega arith
+some-byte (installs r) = omega arith
 some-byte (opens n) = omega arith
 some-byte (delivers p w) = omega arith
 some-byte (withdraws p) = omega arith
@@ -68,7 +91,9 @@ some-byte asksVerdict = omega arith
 
 call-again : (c : Call) → Fits c → callIn (lineOf c) ≡ call c
 unfolding begins callIn
-call-again (loads f) a = ap loadBy (fields.claims .bytes-round-trip f a)
+call-again (installs r) a =
+    ap installBy (fields.claims .bytes-round-trip (packedOf r) (all-bytes (packedOf r) (packed.claims .packed-bytes r a)))
+    ∙ rw (eq-eqb (length (packedOf r)) 2058 (packed.claims .packed-size r), packed.claims .packed-round-trip r a)
 call-again (opens n) a = ap openBy (fields.claims .number-round-trip n a)
 call-again (delivers p w) a =
     let space = over-less 32 47 (decimal p) (omega arith) (over-decimal 20 p) in
@@ -77,7 +102,7 @@ call-again (withdraws p) a = ap withdrawBy (fields.claims .number-round-trip p a
 call-again asksVerdict a = refl
 
 line-round-trip : (c : Call) → Fits c → lineIn (lineOf c) ≡ call c
-line-round-trip c a = rw (ne-eqb (length (lineOf c)) 0 (λ e. omega (arith, some-byte c))) (call-again c a)
+line-round-trip c a = not-empty (lineOf c) (some-byte c) ∙ call-again c a
 
 pub claims : Claims
-claims = record { line-round-trip = line-round-trip }
+claims = record { line-round-trip = line-round-trip; load-line = load-line; other-size = other-size }

@@ -13,9 +13,9 @@ use mathlib.Core.Bool.{Bool, true, false}
 use mathlib.Core.List.{List, [], _∷_, _++_}
 use Prim.Native.Nat.{ℕ}
 use Rattle.text.specs.Numerals.{decimal}
-use Rattle.calls.specs.Replies.{Judgement, waiting, yesWith, noWith, refusedWith, Reported, Reply, accepted, loaded, judged, refused, installMeans, openMeans, deliverMeans, withdrawMeans, reportMeans, delivered}
+use Rattle.calls.specs.Replies.{Judgement, waiting, yesWith, noWith, refusedWith, Reported, Reply, accepted, installed, judged, refused, installMeans, openMeans, deliverMeans, withdrawMeans, reportMeans, delivered}
 use Rattle.calltext.specs.declared.LineAnswer.{LineAnswer}
-use Rattle.calltext.specs.declared.LineAnswer.the-variants.{Began, Load, Open, Deliver, Withdraw, Verdict, Malformed}
+use Rattle.calltext.specs.declared.LineAnswer.the-variants.{Began, Install, Open, Deliver, Withdraw, Verdict, Malformed}
 
 pub data Response : Type 0 where
   began : Response
@@ -60,7 +60,7 @@ reportText r = judgementText (r .verdict) (behind (r .bytes) ++ (behind (r .quot
 
 abbrev pub replyText : Reply → List ℕ
 replyText accepted = accepted-word
-replyText (loaded sets starts) = accepted-word ++ (behind sets ++ behind starts)
+replyText (installed sets starts) = accepted-word ++ (behind sets ++ behind starts)
 replyText (delivered looked) = accepted-word ++ behind looked
 replyText (judged r) = reportText r
 replyText (refused number) = refused-word ++ behind number
@@ -72,7 +72,7 @@ responseText unread = malformed-word ++ (10 ∷ [])
 
 abbrev pub answerMeans : LineAnswer → Response
 answerMeans Began = began
-answerMeans (Load a) = replied (installMeans a)
+answerMeans (Install a) = replied (installMeans a)
 answerMeans (Open a) = replied (openMeans a)
 answerMeans (Deliver a) = replied (deliverMeans a)
 answerMeans (Withdraw a) = replied (withdrawMeans a)

@@ -1,10 +1,18 @@
--- What a line that records a call means: `load HEX`, `open N`, `deliver P HEX`, `withdraw P` or
--- `verdict`, with exactly one space between the fields. An empty line means a fresh judge; any
--- other line is malformed.
+-- What a line means: `install HEX`, `open N`, `deliver P HEX`, `withdraw P` and `verdict` record a
+-- call, with exactly one space between the fields; `load HEX` has a rule file, and an empty line
+-- means a fresh judge. Any other line is malformed.
 --
 --   Meaning            of a line
+--     again            a fresh judge begins
+--     call c           the call c is made
+--     load f           the file f is to be read and its rule installed, which is no call by itself
+--     malformed        it means nothing
+--   …-word             the word with which a line begins
+--   …By, deliverFields the meaning, from what the fields say
+--   callIn w           what the line w means, where it is not empty
 --   lineIn w           what the line w means
---   lineMeans w r          what each case of the code's answer says of the line w
+--   lineMeans w r      what each case of the code's answer says of the line w
+--   bytesFrom r        the index from which on the bytes are still to be read
 --   Parsed w r         r is the right answer for the line w
 use mathlib.Core.Path.{_≡_}
 use mathlib.Core.Bool.{cond}
@@ -13,21 +21,26 @@ use mathlib.Core.Option.{Option, none, some}
 use Prim.Native.Nat.{ℕ, _≤_}
 use lib.Dec.{eqb}
 use lib.ListN.{length, drop}
+use Rattle.packed.specs.Packed.{packedSize, ruleAt}
 use Rattle.lines.specs.Splitting.{begins, upTo, past}
 use Rattle.fields.specs.Numbers.{parseNumber}
 use Rattle.fields.specs.Bytes.{parseBytes}
-use Rattle.calls.specs.Calls.{Call, loads, opens, delivers, withdraws, asksVerdict}
+use Rattle.calls.specs.Calls.{Call, installs, opens, delivers, withdraws, asksVerdict}
 use Rattle.calltext.specs.declared.Line.{Line}
-use Rattle.calltext.specs.declared.Line.the-variants.{Empty, Load, Open, Deliver, Withdraw, Verdict, Malformed}
+use Rattle.calltext.specs.declared.Line.the-variants.{Empty, Load, Install, Open, Deliver, Withdraw, Verdict, Malformed}
 
 pub data Meaning : Type 0 where
   again : Meaning
   call : Call → Meaning
+  load : List ℕ → Meaning
   malformed : Meaning
 
 -- ---- the words, each with the space behind it where a field follows
 abbrev pub load-word : List ℕ
 load-word = 108 ∷ 111 ∷ 97 ∷ 100 ∷ 32 ∷ []
+
+abbrev pub install-word : List ℕ
+install-word = 105 ∷ 110 ∷ 115 ∷ 116 ∷ 97 ∷ 108 ∷ 108 ∷ 32 ∷ []
 
 abbrev pub open-word : List ℕ
 open-word = 111 ∷ 112 ∷ 101 ∷ 110 ∷ 32 ∷ []
@@ -41,10 +54,15 @@ withdraw-word = 119 ∷ 105 ∷ 116 ∷ 104 ∷ 100 ∷ 114 ∷ 97 ∷ 119 ∷ 3
 abbrev pub verdict-word : List ℕ
 verdict-word = 118 ∷ 101 ∷ 114 ∷ 100 ∷ 105 ∷ 99 ∷ 116 ∷ []
 
--- ---- the call, from what its fields say
+-- ---- the meaning, from what the fields say
 abbrev pub loadBy : Option (List ℕ) → Meaning
 loadBy none = malformed
-loadBy (some f) = call (loads f)
+loadBy (some f) = load f
+
+-- exactly as many bytes as state a rule
+abbrev pub installBy : Option (List ℕ) → Meaning
+installBy none = malformed
+installBy (some b) = cond (eqb (length b) packedSize) (call (installs (ruleAt b))) malformed
 
 abbrev pub openBy : Option ℕ → Meaning
 openBy none = malformed
@@ -64,23 +82,25 @@ abbrev pub deliverFields : List ℕ → Option (List ℕ) → Meaning
 deliverFields p none = malformed
 deliverFields p (some w) = deliverBy (parseNumber p) (parseBytes w)
 
--- the five calls
+-- the five calls and a load
 unfoldable pub callIn : List ℕ → Meaning
 callIn w =
     cond (begins verdict-word w) (cond (eqb (length w) 7) (call asksVerdict) malformed)
     (cond (begins load-word w) (loadBy (parseBytes (drop 5 w)))
+    (cond (begins install-word w) (installBy (parseBytes (drop 8 w)))
     (cond (begins open-word w) (openBy (parseNumber (drop 5 w)))
     (cond (begins deliver-word w) (deliverFields (upTo 32 (drop 8 w)) (past 32 (drop 8 w)))
-    (cond (begins withdraw-word w) (withdrawBy (parseNumber (drop 9 w))) malformed))))
+    (cond (begins withdraw-word w) (withdrawBy (parseNumber (drop 9 w))) malformed)))))
 
 abbrev pub lineIn : List ℕ → Meaning
 lineIn w = cond (eqb (length w) 0) again (callIn w)
 
--- ---- what the code answers. The bytes of a load and of a delivery are still to be read, from an
--- index on
+-- ---- what the code answers. The bytes of a load, an installation and a delivery are still to be
+-- read, from an index on
 abbrev pub lineMeans : List ℕ → Line → Meaning
 lineMeans w Empty = again
 lineMeans w Load = loadBy (parseBytes (drop 5 w))
+lineMeans w Install = installBy (parseBytes (drop 8 w))
 lineMeans w (Open n) = call (opens n)
 lineMeans w (Deliver p from) = deliverBy (some p) (parseBytes (drop from w))
 lineMeans w (Withdraw p) = call (withdraws p)
@@ -90,6 +110,7 @@ lineMeans w Malformed = malformed
 abbrev pub bytesFrom : Line → ℕ
 bytesFrom Empty = 0
 bytesFrom Load = 5
+bytesFrom Install = 8
 bytesFrom (Open n) = 0
 bytesFrom (Deliver p from) = from
 bytesFrom (Withdraw p) = 0

@@ -10,7 +10,7 @@ ghost use Rattle.fields.specs.Numbers.{parseNumber};
 ghost use Rattle.lines.specs.Splitting.{upTo, past};
 ghost use Rattle.calltext.specs.Meaning.{openBy, withdrawBy, deliverFields, lineMeans, bytesFrom, Parsed};
 ghost use Rattle.calltext.specs.Answers.{behind, replied, responseText, answerMeans};
-ghost use Rattle.calls.specs.Replies.{accepted, loaded, judged, refused, installMeans, openMeans, deliverMeans, withdrawMeans, reportMeans, delivered};
+ghost use Rattle.calls.specs.Replies.{accepted, installed, judged, refused, installMeans, openMeans, deliverMeans, withdrawMeans, reportMeans, delivered};
 use calls::DeliverAnswer;
 use calls::InstallAnswer;
 use calls::OpenAnswer;
@@ -19,10 +19,12 @@ use calls::Verdict;
 use calls::WithdrawAnswer;
 use fields::Number;
 
-// A line. The bytes of a load begin at index 5, those of a delivery at the index beside its place.
+// A line. The bytes of a load begin at index 5, those of an installation at 8, those of a delivery
+// at the index beside its place.
 pub enum Line {
     Empty,
     Load,
+    Install,
     Open(u64),
     Deliver(u64, usize),
     Withdraw(u64),
@@ -82,6 +84,9 @@ pub fn parse(line: &[u8]) -> Line
     if lines::begins_with(line, b"load ") {
         return Line::Load;
     }
+    if lines::begins_with(line, b"install ") {
+        return Line::Install;
+    }
     if lines::begins_with(line, b"open ") {
         return opening(&line[5..]);
     }
@@ -94,10 +99,11 @@ pub fn parse(line: &[u8]) -> Line
     Line::Malformed
 }
 
-// What a line is answered: where it records a call, what the call is answered.
+// What a line is answered: where it records a call, what the call is answered. A load has the same
+// type of answer as an installation, with the numbers 1 to 9.
 pub enum LineAnswer {
     Began,
-    Load(InstallAnswer),
+    Install(InstallAnswer),
     Open(OpenAnswer),
     Deliver(DeliverAnswer),
     Withdraw(WithdrawAnswer),
@@ -167,10 +173,10 @@ fn put_refused(out: &mut [u8], number: u8) -> usize
     put_numbered(out, b"refused", number as u64)
 }
 
-// The answer to a load that was accepted.
-fn put_loaded(out: &mut [u8], sets: u64, starts: u64) -> usize
+// The answer where a rule was installed.
+fn put_installed(out: &mut [u8], sets: u64, starts: u64) -> usize
     requires { ⌜ 51 ≤ length (now out) ⌝ }
-    ensures { λ r. ⌜ Wrote (now (out .entry)) 0 (responseText (replied (loaded sets starts))) (now (out .exit)) r ⌝ }
+    ensures { λ r. ⌜ Wrote (now (out .entry)) 0 (responseText (replied (installed sets starts))) (now (out .exit)) r ⌝ }
 {
     let first = text::put_bytes(out, 0, b"accepted");
     let second = put_behind(out, first, sets);
@@ -187,12 +193,12 @@ fn put_delivered(out: &mut [u8], looked: u32) -> usize
 }
 
 // What a call is answered, a function for each type of answer.
-fn put_load(out: &mut [u8], answer: InstallAnswer) -> usize
+fn put_install(out: &mut [u8], answer: InstallAnswer) -> usize
     requires { ⌜ answerRoom ≤ length (now out) ⌝ }
     ensures { λ r. ⌜ Wrote (now (out .entry)) 0 (responseText (replied (installMeans answer))) (now (out .exit)) r ⌝ }
 {
     match answer {
-        InstallAnswer::Accepted(sets, starts) => put_loaded(out, sets as u64, starts as u64),
+        InstallAnswer::Accepted(sets, starts) => put_installed(out, sets as u64, starts as u64),
         InstallAnswer::Refused(number) => put_refused(out, number),
     }
 }
@@ -261,7 +267,7 @@ pub fn put_answer(out: &mut [u8], answer: LineAnswer) -> usize
 {
     match answer {
         LineAnswer::Began => text::put_byte(out, 0, b'\n'),
-        LineAnswer::Load(said) => put_load(out, said),
+        LineAnswer::Install(said) => put_install(out, said),
         LineAnswer::Open(said) => put_open(out, said),
         LineAnswer::Deliver(said) => put_deliver(out, said),
         LineAnswer::Withdraw(said) => put_withdraw(out, said),

@@ -4,8 +4,11 @@ use mathlib.Core.List.{List}
 use Prim.Native.Nat.{ℕ}
 use contract.Lifetimes.{Lfts}
 use denote.Ref.{RefT}
+use Rattle.automaton.specs.declared.Rule.{Rule}
 use Rattle.calls.specs.declared.Judge.{Judge}
 use Rattle.capi.proofs.bellbadger_new.Reads as bellbadger-new
+use Rattle.capi.proofs.bellbadger_read.Reads as bellbadger-read
+use Rattle.capi.proofs.bellbadger_install.Reads as bellbadger-install
 use Rattle.capi.proofs.bellbadger_load.Reads as bellbadger-load
 use Rattle.capi.proofs.bellbadger_open.Reads as bellbadger-open
 use Rattle.capi.proofs.bellbadger_deliver.Reads as bellbadger-deliver
@@ -15,6 +18,12 @@ use Rattle.capi.proofs.bellbadger_replay.Reads as bellbadger-replay
 
 pub new-asks-nothing : bellbadger-new.Asked tt tt
 new-asks-nothing = tt
+
+pub read-asks-nothing : (κs : Lfts 1) (c : RefT (List ℕ)) → bellbadger-read.Asked κs (c, tt)
+read-asks-nothing κs c = tt
+
+pub install-asks-nothing : (j : Judge) (r : Rule) → bellbadger-install.Asked tt (j, (r, tt))
+install-asks-nothing j r = tt
 
 pub load-asks-nothing : (κs : Lfts 1) (j : Judge) (c : RefT (List ℕ)) → bellbadger-load.Asked κs (j, (c, tt))
 load-asks-nothing κs j c = tt

@@ -1,8 +1,13 @@
 -- The numbers of each case of an answer are those of what it says. Assumes nothing.
 use mathlib.Core.Path.{_≡_, sym, ap, _∙_}
 use Prim.Native.Nat.{ℕ}
+use Rattle.automaton.specs.declared.Rule.{Rule}
+use Rattle.ruleformat.specs.declared.ReadAnswer.{ReadAnswer}
+use Rattle.ruleformat.specs.declared.ReadAnswer.the-variants as reading
+use Rattle.ruleformat.specs.declared.ReadResult.{ReadResult}
+use Rattle.ruleformat.specs.Reader.{Reading, readMeans, readOutcome}
 use Rattle.calls.specs.declared.InstallAnswer.{InstallAnswer}
-use Rattle.calls.specs.declared.InstallAnswer.the-variants as load
+use Rattle.calls.specs.declared.InstallAnswer.the-variants as install
 use Rattle.calls.specs.declared.OpenAnswer.{OpenAnswer}
 use Rattle.calls.specs.declared.OpenAnswer.the-variants as opening
 use Rattle.calls.specs.declared.DeliverAnswer.{DeliverAnswer}
@@ -20,17 +25,25 @@ use Rattle.replay.specs.declared.ReplayAnswer.{ReplayAnswer}
 use Rattle.replay.specs.declared.ReplayAnswer.the-variants as replay
 use Rattle.replay.specs.Records.{ReplayReply, replayMeans}
 use Rattle.capi.specs.declared.VerdictNumbers.{VerdictNumbers}
-use Rattle.capi.specs.Numbers.{loadShown, openShown, deliverShown, withdrawShown, verdictShown, replayShown}
+use Rattle.capi.specs.Numbers.{readShown, installShown, openShown, deliverShown, withdrawShown, verdictShown, replayShown}
+
+module _ (r : ReadResult) (o : Reading) (is : readOutcome r ≡ o) where
+  pub read-accepted : r .answer ≡ reading.Accepted → record { accepted = 1; refused = 0; rule = r .rule } ≡ readShown o
+  read-accepted e = ap readShown (sym (ap (λ (a : ReadAnswer). record { number = readMeans a; rule = r .rule }) e) ∙ is)
+
+  pub read-refused : (x : ℕ) → r .answer ≡ reading.Refused x → record { accepted = 0; refused = x; rule = r .rule } ≡ readShown o
+  read-refused x e = ap readShown (sym (ap (λ (a : ReadAnswer). record { number = readMeans a; rule = r .rule }) e) ∙ is)
+
+module _ (r : InstallResult) where
+  pub install-accepted : (sets starts : ℕ) → r .answer ≡ install.Accepted sets starts
+      → record { accepted = 1; refused = 0; sets = sets; starts = starts; judge = r .judge } ≡ installShown (installOutcome r)
+  install-accepted sets starts e = ap (λ (a : InstallAnswer). installShown (record { reply = installMeans a; state = r .judge })) (sym e)
+
+  pub install-refused : (x : ℕ) → r .answer ≡ install.Refused x
+      → record { accepted = 0; refused = x; sets = 0; starts = 0; judge = r .judge } ≡ installShown (installOutcome r)
+  install-refused x e = ap (λ (a : InstallAnswer). installShown (record { reply = installMeans a; state = r .judge })) (sym e)
 
 module _ (o : Outcome) where
-  module _ (r : InstallResult) (is : installOutcome r ≡ o) where
-    pub load-accepted : (sets starts : ℕ) → r .answer ≡ load.Accepted sets starts
-        → record { accepted = 1; refused = 0; sets = sets; starts = starts; judge = r .judge } ≡ loadShown o
-    load-accepted sets starts e = ap loadShown (sym (ap (λ (a : InstallAnswer). record { reply = installMeans a; state = r .judge }) e) ∙ is)
-
-    pub load-refused : (x : ℕ) → r .answer ≡ load.Refused x → record { accepted = 0; refused = x; sets = 0; starts = 0; judge = r .judge } ≡ loadShown o
-    load-refused x e = ap loadShown (sym (ap (λ (a : InstallAnswer). record { reply = installMeans a; state = r .judge }) e) ∙ is)
-
   module _ (r : OpenResult) (is : openOutcome r ≡ o) where
     pub open-accepted : r .answer ≡ opening.Accepted → record { accepted = 1; refused = 0; judge = r .judge } ≡ openShown o
     open-accepted e = ap openShown (sym (ap (λ (a : OpenAnswer). record { reply = openMeans a; state = r .judge }) e) ∙ is)

@@ -6,22 +6,31 @@ use mathlib.Core.Option.{Option, none, some}
 use Prim.Native.Nat.{ℕ}
 use lib.Dec.{eqb}
 use Rattle.base.specs.Conditions.{firstOf}
-use Rattle.ruleformat.specs.Reader.{ruleOf}
+use Rattle.automaton.specs.declared.Rule.{Rule}
+use Rattle.ruleformat.specs.Refusals.{refusal}
+use Rattle.ruleformat.specs.Reader.{ruleOf, ruleBy, readOf}
 use Rattle.build.specs.Building.{builtOf}
 use Rattle.board.specs.Boards.{placesOf, isEmpty, emptyBoard, filledAt, clearedAt}
 use Rattle.calls.specs.declared.Judge.{Judge}
-use Rattle.calls.specs.Replies.{Judgement, waiting, yesWith, noWith, refusedWith, Reported, accepted, loaded, delivered}
-use Rattle.calls.specs.Calls.{loadNumber, openConditions, deliverConditions, withdrawConditions}
-use Rattle.calls.specs.Steps.{lacksRule, lacksBoard, withBoard, outcomeBy, runsAt, loadOf, openOf, deliverOf, withdrawOf, reportOf}
+use Rattle.calls.specs.Replies.{Judgement, waiting, yesWith, noWith, refusedWith, Reported, accepted, installed, delivered}
+use Rattle.calls.specs.Calls.{installNumber, loadNumber, openConditions, deliverConditions, withdrawConditions}
+use Rattle.calls.specs.Steps.{lacksRule, lacksBoard, withBoard, outcomeBy, withRule, runsAt, installOf, loadOf, openOf, deliverOf, withdrawOf, reportOf}
 use Rattle.histories.specs.History.{reportIn}
 use Rattle.replay.specs.Records.{Recorded, calls, malformedAt, verdict, replayOf}
-use Rattle.capi.specs.Numbers.{loadShown, openShown, deliverShown, withdrawShown, kindOf, numberOf, verdictShown, replayShown, loadReadBack, openReadBack, deliverReadBack, withdrawReadBack, judgementBack, verdictReadBack, replayReadBack}
+use Rattle.capi.specs.Numbers.{readShown, installShown, openShown, deliverShown, withdrawShown, kindOf, numberOf, verdictShown, replayShown, readReadBack, installReadBack, openReadBack, deliverReadBack, withdrawReadBack, judgementBack, verdictReadBack, replayReadBack}
 use Rattle.capi.specs.Claims.{Claims}
 
+-- of whatever number and rule a reading answers
+read-by : (number : Option ℕ) (r : Rule) → readReadBack (readShown (record { number = number; rule = r })) ≡ record { number = number; rule = r }
+read-by none r = refl
+read-by (some x) r = refl
+
 module _ (j next : Judge) where
-  load-by : (number : Option ℕ) (sets m : ℕ) → loadReadBack (loadShown (outcomeBy number (loaded sets m) j next)) ≡ outcomeBy number (loaded sets m) j next
-  load-by none sets m = refl
-  load-by (some x) sets m = refl
+  -- of an installation and a load
+  install-by : (number : Option ℕ) (sets m : ℕ)
+      → installReadBack (installShown (outcomeBy number (installed sets m) j next)) ≡ outcomeBy number (installed sets m) j next
+  install-by none sets m = refl
+  install-by (some x) sets m = refl
 
   deliver-by : (number : Option ℕ) (looked : ℕ) → deliverReadBack (deliverShown (outcomeBy number (delivered looked) j next)) ≡ outcomeBy number (delivered looked) j next
   deliver-by none looked = refl
@@ -53,10 +62,17 @@ replay-by r = rw (not-4 (r .verdict)) (ap verdict (verdict-by r))
     not-4 (noWith count) = refl
     not-4 (refusedWith number) = refl
 
-load-read-back : (j : Judge) (f : List ℕ) → loadReadBack (loadShown (loadOf j f)) ≡ loadOf j f
+read-read-back : (f : List ℕ) → readReadBack (readShown (readOf f)) ≡ readOf f
+read-read-back f = read-by (refusal f) (ruleBy (refusal f) f)
+
+install-read-back : (j : Judge) (r : Rule) → installReadBack (installShown (installOf j r)) ≡ installOf j r
+unfolding installOf
+install-read-back j r = install-by j (withRule r) (installNumber r) (builtOf r .setcount) (builtOf r .startcount)
+
+load-read-back : (j : Judge) (f : List ℕ) → installReadBack (installShown (loadOf j f)) ≡ loadOf j f
 unfolding loadOf
 load-read-back j f =
-    let b = builtOf (ruleOf f) in load-by j (record { built = b; board = emptyBoard 0 }) (loadNumber f) (b .setcount) (b .startcount)
+    let r = ruleOf f in install-by j (withRule r) (loadNumber f) (builtOf r .setcount) (builtOf r .startcount)
 
 open-read-back : (j : Judge) (n : ℕ) → openReadBack (openShown (openOf j n)) ≡ openOf j n
 unfolding openOf
@@ -85,6 +101,8 @@ replay-read-back (malformedAt i) = refl
 
 pub claims : Claims
 claims = record {
+  read-read-back = read-read-back;
+  install-read-back = install-read-back;
   load-read-back = load-read-back;
   open-read-back = open-read-back;
   deliver-read-back = deliver-read-back;

@@ -1,15 +1,19 @@
--- The outcome of a call or of a recorded list can be read back from the numbers that C is given;
--- proofs/ReadBack.antt proves it.
+-- What reading a file answers, and the outcome of a call or of a recorded list, can be read back
+-- from the numbers that C is given; proofs/ReadBack.antt proves it.
 use mathlib.Core.Path.{_≡_}
 use mathlib.Core.List.{List}
 use Prim.Native.Nat.{ℕ}
+use Rattle.automaton.specs.declared.Rule.{Rule}
+use Rattle.ruleformat.specs.Reader.{readOf}
 use Rattle.calls.specs.declared.Judge.{Judge}
-use Rattle.calls.specs.Steps.{loadOf, openOf, deliverOf, withdrawOf, reportOf}
+use Rattle.calls.specs.Steps.{installOf, loadOf, openOf, deliverOf, withdrawOf, reportOf}
 use Rattle.replay.specs.Records.{Recorded, replayOf}
-use Rattle.capi.specs.Numbers.{loadShown, openShown, deliverShown, withdrawShown, verdictShown, replayShown, loadReadBack, openReadBack, deliverReadBack, withdrawReadBack, verdictReadBack, replayReadBack}
+use Rattle.capi.specs.Numbers.{readShown, installShown, openShown, deliverShown, withdrawShown, verdictShown, replayShown, readReadBack, installReadBack, openReadBack, deliverReadBack, withdrawReadBack, verdictReadBack, replayReadBack}
 
 pub record Claims : Type 0 where
-  pub load-read-back : (j : Judge) (f : List ℕ) → loadReadBack (loadShown (loadOf j f)) ≡ loadOf j f
+  pub read-read-back : (f : List ℕ) → readReadBack (readShown (readOf f)) ≡ readOf f
+  pub install-read-back : (j : Judge) (r : Rule) → installReadBack (installShown (installOf j r)) ≡ installOf j r
+  pub load-read-back : (j : Judge) (f : List ℕ) → installReadBack (installShown (loadOf j f)) ≡ loadOf j f
   pub open-read-back : (j : Judge) (n : ℕ) → openReadBack (openShown (openOf j n)) ≡ openOf j n
   pub deliver-read-back : (j : Judge) (p : ℕ) (w : List ℕ) → deliverReadBack (deliverShown (deliverOf j p w)) ≡ deliverOf j p w
   pub withdraw-read-back : (j : Judge) (p : ℕ) → withdrawReadBack (withdrawShown (withdrawOf j p)) ≡ withdrawOf j p

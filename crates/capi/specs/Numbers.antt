@@ -1,50 +1,65 @@
 -- The numbers that C is given for the outcome of a call. Every field is fixed: what a result has no
 -- use for is 0.
 --
---   flagOf a, refusedOf a        the fields `accepted` and `refused` for the reply a: 1 and 0, or 0
---                                and the number of the refusal
+--   flagBy x, refusedBy x        the fields `accepted` and `refused` for the number x of a refusal,
+--                                or none: 0 and the number, or 1 and 0
+--   flagOf a, refusedOf a        the same for the reply a
 --   setsField a, startsField a, lookedField a   the fields `sets`, `starts` and `looked`
---   loadShown .. withdrawShown   an outcome as a result
+--   readShown r                  what reading answers: the rule is all zeros where it is refused
+--   installShown .. withdrawShown   an outcome as a result; that of a load is an installation's
 --   kindOf v, numberOf v         a verdict: kind 0 refused, 1 waiting, 2 yes, 3 no, each with its
 --                                number
 --   verdictShown r               what the call verdict reports: its kind and number, and the bytes,
 --                                the quotient and the remainder beside them
 --   replayShown t                the same for a recorded list; kind 4: the line of that number is
 --                                malformed
---   loadReadBack .. replayReadBack       what such a result says, read back from its numbers
+--   readReadBack .. replayReadBack       what such a result says, read back from its numbers
 -- No other reply is given to these calls; the lines for others are there so that every case has a
 -- value.
 use mathlib.Core.Bool.{cond}
-use mathlib.Core.Option.{Option·getD}
+use mathlib.Core.Option.{Option, none, some, Option·getD}
 use Prim.Native.Nat.{ℕ}
 use lib.Dec.{eqb}
 use Rattle.base.specs.Options.{isNone}
-use Rattle.calls.specs.Replies.{Judgement, waiting, yesWith, noWith, refusedWith, Reported, Reply, accepted, loaded, judged, refused, refusalOf, delivered}
+use Rattle.ruleformat.specs.Reader.{Reading}
+use Rattle.calls.specs.Replies.{Judgement, waiting, yesWith, noWith, refusedWith, Reported, Reply, accepted, installed, judged, refused, refusalOf, delivered}
 use Rattle.calls.specs.Steps.{Outcome}
 use Rattle.replay.specs.Records.{ReplayReply, verdict, malformedLine}
-use Rattle.capi.specs.declared.LoadNumbers.{LoadNumbers}
+use Rattle.capi.specs.declared.ReadNumbers.{ReadNumbers}
+use Rattle.capi.specs.declared.InstallNumbers.{InstallNumbers}
 use Rattle.capi.specs.declared.OpenNumbers.{OpenNumbers}
 use Rattle.capi.specs.declared.DeliverNumbers.{DeliverNumbers}
 use Rattle.capi.specs.declared.WithdrawNumbers.{WithdrawNumbers}
 use Rattle.capi.specs.declared.VerdictNumbers.{VerdictNumbers}
 use Rattle.capi.specs.declared.ReplayNumbers.{ReplayNumbers}
 
+-- ---- accepted or refused
+abbrev pub flagBy : Option ℕ → ℕ
+flagBy number = cond (isNone number) 1 0
+
+abbrev pub refusedBy : Option ℕ → ℕ
+refusedBy number = Option·getD number 0
+
+-- ---- reading
+abbrev pub readShown : Reading → ReadNumbers
+readShown r = record { accepted = flagBy (r .number); refused = refusedBy (r .number); rule = r .rule }
+
 -- ---- the calls that may change the state
 abbrev pub flagOf : Reply → ℕ
-flagOf a = cond (isNone (refusalOf a)) 1 0
+flagOf a = flagBy (refusalOf a)
 
 abbrev pub refusedOf : Reply → ℕ
-refusedOf a = Option·getD (refusalOf a) 0
+refusedOf a = refusedBy (refusalOf a)
 
 abbrev pub setsField : Reply → ℕ
-setsField (loaded sets starts) = sets
+setsField (installed sets starts) = sets
 setsField accepted = 0
 setsField (delivered looked) = 0
 setsField (judged v) = 0
 setsField (refused number) = 0
 
 abbrev pub startsField : Reply → ℕ
-startsField (loaded sets starts) = starts
+startsField (installed sets starts) = starts
 startsField accepted = 0
 startsField (delivered looked) = 0
 startsField (judged v) = 0
@@ -53,12 +68,12 @@ startsField (refused number) = 0
 abbrev pub lookedField : Reply → ℕ
 lookedField (delivered looked) = looked
 lookedField accepted = 0
-lookedField (loaded sets starts) = 0
+lookedField (installed sets starts) = 0
 lookedField (judged v) = 0
 lookedField (refused number) = 0
 
-abbrev pub loadShown : Outcome → LoadNumbers
-loadShown o = record {
+abbrev pub installShown : Outcome → InstallNumbers
+installShown o = record {
   accepted = flagOf (o .reply);
   refused = refusedOf (o .reply);
   sets = setsField (o .reply);
@@ -113,12 +128,15 @@ replayShown (verdict r) = record {
 replayShown (malformedLine i) = record { kind = 4; number = i; bytes = 0; quotient = 0; remainder = 0 }
 
 -- ---- read back: what the header says of the numbers
+abbrev pub readReadBack : ReadNumbers → Reading
+readReadBack r = record { number = cond (eqb (r .accepted) 1) none (some (r .refused)); rule = r .rule }
+
 -- `a` is the reply of a call that was accepted
 abbrev pub readBackBy : ℕ → ℕ → Reply → Reply
 readBackBy flag number a = cond (eqb flag 1) a (refused number)
 
-abbrev pub loadReadBack : LoadNumbers → Outcome
-loadReadBack r = record { reply = readBackBy (r .accepted) (r .refused) (loaded (r .sets) (r .starts)); state = r .judge }
+abbrev pub installReadBack : InstallNumbers → Outcome
+installReadBack r = record { reply = readBackBy (r .accepted) (r .refused) (installed (r .sets) (r .starts)); state = r .judge }
 
 abbrev pub openReadBack : OpenNumbers → Outcome
 openReadBack r = record { reply = readBackBy (r .accepted) (r .refused) accepted; state = r .judge }

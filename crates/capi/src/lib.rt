@@ -1,23 +1,35 @@
 // The judge for C and Rust. Answers are numbers; the state is a value that the caller keeps, hands
 // in and gets back.
 ghost use mathlib.Core.Path.{_≡_};
-ghost use Rattle.calls.specs.Replies.{verdictMeans, reportMeans};
 ghost use Prim.Native.Nat.{_+_, _*_};
-ghost use Rattle.calls.specs.Steps.{fresh, loadOf, openOf, deliverOf, withdrawOf, reportOf};
+ghost use Rattle.ruleformat.specs.Reader.{readOf};
+ghost use Rattle.calls.specs.Replies.{verdictMeans, reportMeans};
+ghost use Rattle.calls.specs.Steps.{fresh, installOutcome, installOf, loadOf, openOf, deliverOf, withdrawOf, reportOf};
 ghost use Rattle.replay.specs.Records.{recordIn, replayOf};
-ghost use Rattle.capi.specs.Numbers.{loadShown, openShown, deliverShown, withdrawShown, kindOf, numberOf, verdictShown, replayShown};
+ghost use Rattle.capi.specs.Numbers.{readShown, installShown, openShown, deliverShown, withdrawShown, kindOf, numberOf, verdictShown, replayShown};
+use automaton::Rule;
 use calls::DeliverAnswer;
-use calls::Judge;
 use calls::InstallAnswer;
+use calls::InstallResult;
+use calls::Judge;
 use calls::OpenAnswer;
 use calls::Report;
 use calls::Verdict;
 use calls::WithdrawAnswer;
 use replay::ReplayAnswer;
+use ruleformat::ReadAnswer;
 
-// Accepted is 1 or 0; where it is 0, refused has the number.
+// Accepted is 1 or 0; where it is 0, refused has the number, and every number of the rule is 0.
 #[repr(C)]
-pub struct LoadNumbers {
+pub struct ReadNumbers {
+    pub accepted: u8,
+    pub refused: u8,
+    pub rule: Rule,
+}
+
+// Of an installation and of a load.
+#[repr(C)]
+pub struct InstallNumbers {
     pub accepted: u8,
     pub refused: u8,
     pub sets: u16,
@@ -73,14 +85,14 @@ pub struct ReplayNumbers {
 // The version of these functions, and how many bytes a judge has as C lays it out.
 const MAJOR: u32 = 3;
 
-const MINOR: u32 = 1;
+const MINOR: u32 = 2;
 
 const STATE_SIZE: usize = 27316;
 
 // The version that the library was built with: the major number times 65,536, and the minor one.
 #[no_mangle]
 pub extern "C" fn bellbadger_version() -> u32
-    ensures { λ r. ⌜ r ≡ 3 * 65536 + 1 ⌝ }
+    ensures { λ r. ⌜ r ≡ 3 * 65536 + 2 ⌝ }
 {
     MAJOR * 65536 + MINOR
 }
@@ -100,22 +112,43 @@ pub extern "C" fn bellbadger_new() -> Judge
     judge::new_judge()
 }
 
+// The rule in a file, by value; no judge is asked for.
 #[no_mangle]
-pub extern "C" fn bellbadger_load(judge: Judge, file: &[u8]) -> LoadNumbers
-    ensures { λ r. ⌜ r ≡ loadShown (loadOf judge (now (file .entry))) ⌝ }
+pub extern "C" fn bellbadger_read(file: &[u8]) -> ReadNumbers
+    ensures { λ r. ⌜ r ≡ readShown (readOf (now (file .entry))) ⌝ }
 {
-    let loading = judge::load(judge, file);
-    let answer = loading.answer;
-    let judge = loading.judge;
+    let reading = rulefile::read(file);
+    let answer = reading.answer;
+    let rule = reading.rule;
     match answer {
-        InstallAnswer::Accepted(sets, starts) => LoadNumbers {
+        ReadAnswer::Accepted => ReadNumbers {
+            accepted: 1,
+            refused: 0,
+            rule,
+        },
+        ReadAnswer::Refused(refused) => ReadNumbers {
+            accepted: 0,
+            refused,
+            rule,
+        },
+    }
+}
+
+// What an installation comes to, in the numbers that C is given.
+fn install_numbers(result: InstallResult) -> InstallNumbers
+    ensures { λ r. ⌜ r ≡ installShown (installOutcome result) ⌝ }
+{
+    let answer = result.answer;
+    let judge = result.judge;
+    match answer {
+        InstallAnswer::Accepted(sets, starts) => InstallNumbers {
             accepted: 1,
             refused: 0,
             sets,
             starts,
             judge,
         },
-        InstallAnswer::Refused(refused) => LoadNumbers {
+        InstallAnswer::Refused(refused) => InstallNumbers {
             accepted: 0,
             refused,
             sets: 0,
@@ -123,6 +156,20 @@ pub extern "C" fn bellbadger_load(judge: Judge, file: &[u8]) -> LoadNumbers
             judge,
         },
     }
+}
+
+#[no_mangle]
+pub extern "C" fn bellbadger_install(judge: Judge, rule: Rule) -> InstallNumbers
+    ensures { λ r. ⌜ r ≡ installShown (installOf judge rule) ⌝ }
+{
+    install_numbers(judge::install(judge, rule))
+}
+
+#[no_mangle]
+pub extern "C" fn bellbadger_load(judge: Judge, file: &[u8]) -> InstallNumbers
+    ensures { λ r. ⌜ r ≡ installShown (loadOf judge (now (file .entry))) ⌝ }
+{
+    install_numbers(judge::load(judge, file))
 }
 
 #[no_mangle]

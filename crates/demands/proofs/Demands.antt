@@ -5,11 +5,12 @@
 --      Reply, Call; installNumber ..  01's answers, calls and numbers       calls/specs/Replies, Calls
 --      judgeLibrary, cLibrary         what contracts ask and allow          histories/, demands/specs/Functions
 --      installMeans .. reportMeans    what an answer of the code means      calls/specs/Replies
---      installReadBack .., readShown  what C's numbers mean                 capi/specs/Numbers
---      readOf f, readOutcome          reading a file                        ruleformat/specs/Reader
---      loadOf j f                     a load, of any state and file         calls/specs/Steps
+--      installReadBack .., readShown,  what C's numbers mean                capi/specs/Numbers
+--      installShown, replayShown
+--      readOf f, ReadLaw              reading a file                        ruleformat/specs/Reader, Claims
+--      loadOf j f, LoadLaw            a load, of any state and file         calls/specs/Steps, Claims
 --   2  Accepts, Run, Arc              automata and their runs (000)         automaton/specs/Automaton
---      automatonIn f                  the automaton in a file's bytes       ruleformat/specs/Language, Format
+--      automatonIn f, automatonOf r   of a file's bytes, and of a rule      ruleformat/specs/Language, Format; automaton/specs/Rules
 --      after, shares                  the set after a text; sets that meet  automaton/specs/Successor, masks/specs/Masks
 --      fileConditions                 numbers 1 to 8                        ruleformat/specs/Refusals
 --      ruleConditions, WellFormed     3, 4, 6, 8 of a rule as a value       rulecheck/specs/Checking, automaton/specs/Rules
@@ -21,7 +22,7 @@
 --      judgeAfter h, repliesTo h      the outcome of a list of calls        histories/specs/Claims
 --      standing, verdictIn, answerOf  what 01 says of a list alone          histories/specs/History
 --      Accepted-exactly, Refused-..   which calls, with which number        histories/specs/Conditions
---      loading, loadReply             a load after a list of calls          histories/specs/History
+--      loading, loadReply; LoadClauses  a load after a list of calls        histories/specs/History, Claims
 --      CountBound                     the sum's bound; the former 24        histories/specs/CountBound
 --      LookedUp, AllEmpty             for how many bytes a set is looked up histories/, chunks/specs/Claims
 --      textOf; foreign, ForeignByte   a chunk without idle marks; 13        marks/, chunks/, calls/specs
@@ -53,11 +54,14 @@ use Rattle.masks.specs.Masks.{shares}
 use Rattle.executions.specs.Executions.{Execution}
 use Rattle.executions.proofs.Executions.{execution-law}
 use Rattle.automaton.specs.declared.Rule.{Rule}
-use Rattle.automaton.specs.Automaton.{Accepts, Equivalent}
+use Rattle.automaton.specs.Automaton.{Accepts}
 use Rattle.automaton.specs.Rules.{automatonOf}
 use Rattle.automaton.specs.Successor.{after}
 use Rattle.automaton.proofs.Claims as automaton
+use Rattle.rulecheck.specs.Checking.{ruleNumber}
 use Rattle.ruleformat.specs.Reader.{ruleOf, readOf}
+use Rattle.ruleformat.specs.Claims.{ReadLaw}
+use Rattle.ruleformat.proofs.Claims as rulefile
 use Rattle.ruleformat.specs.Language.{automatonIn}
 use Rattle.delegates.specs.Claims.{startsIn}
 use Rattle.build.specs.Building.{builtOf}
@@ -72,26 +76,30 @@ use Rattle.chunks.specs.Chunks.{foreign}
 use Rattle.calls.proofs.Loading as calls-loading
 use Rattle.calls.proofs.Foreign as calls-foreign
 use Rattle.calls.proofs.Refusing as refusing
-use Rattle.histories.specs.History.{ruleThere, ruleIn, boardIn, standing, standingText, endAt, countAt, lengthAt, emptiesIn, summedIn, bytesIn, yesIn, textIn, verdictIn, reportIn, answersTo, answerOf}
+use Rattle.histories.specs.History.{ruleThere, ruleIn, loading, boardIn, standing, standingText, endAt, countAt, lengthAt, emptiesIn, summedIn, bytesIn, yesIn, textIn, verdictIn, reportIn, answersTo, answerOf}
 use Rattle.histories.specs.Method.{Method}
 use Rattle.histories.specs.Conditions.{Accepted-exactly, Refused-exactly}
 use Rattle.histories.specs.Claims.{judgeMachine, judgeAfter, repliesTo, BuiltBy, LookedUp, LoadClauses, EveryList}
 use Rattle.histories.specs.CountBound.{CountBound}
-use Rattle.histories.specs.Functions.{judgeLibrary, MayLoad}
-use Rattle.histories.specs.TableP.{TableP}
+use Rattle.histories.specs.Functions.{judgeLibrary, AsksLoad, MayLoad}
+use Rattle.histories.specs.TableP.{TableP, Each, table}
 use Rattle.histories.proofs.EveryList.{every-list}
 use Rattle.histories.proofs.Method as histories-method
-use Rattle.histories.proofs.Refinement.{judge-meets, load-may}
+use Rattle.histories.proofs.Refinement.{judge-meets, load-asks, load-may}
 use Rattle.histories.proofs.Steps.{accepted-rule}
 use Rattle.histories.proofs.CountBound as histories-bound
 use Rattle.histories.proofs.TableP as histories-table
+use Rattle.histories.proofs.TablePRuns.{Loads-so}
+use Rattle.histories.proofs.TablePRuns as histories-table-runs
 use Rattle.lines.specs.Splitting.{linesOf}
 use Rattle.linebuffer.specs.Holding.{lineBegin}
 use Rattle.stream.specs.Feeding.{State, stateOf, finishOf}
 use Rattle.stream.specs.Texts.{streamOf, rightText}
 use Rattle.stream.specs.Claims.{Blocks}
 use Rattle.stream.proofs.Claimed as stream
-use Rattle.replay.specs.Records.{calls, recordIn, replayOf}
+use Rattle.fields.specs.Claims.{AllBytes, fieldOf}
+use Rattle.calltext.specs.Meaning.{load-word}
+use Rattle.replay.specs.Records.{calls, readLine, recordIn, replayOf}
 use Rattle.replay.specs.Claims.{AllFit, recordOf}
 use Rattle.replay.proofs.RoundTrip as replay
 use Rattle.capi.specs.declared.ReadNumbers.{ReadNumbers}
@@ -99,12 +107,14 @@ use Rattle.capi.specs.declared.InstallNumbers.{InstallNumbers}
 use Rattle.capi.specs.declared.ReplayNumbers.{ReplayNumbers}
 use Rattle.capi.specs.Numbers.{readShown, installShown, replayShown}
 use Rattle.capi.proofs.Asks as capi-asks
+use Rattle.capi.proofs.bellbadger_read.Reads as read-reads
+use Rattle.capi.proofs.bellbadger_load.Reads as load-reads
 use Rattle.capi.proofs.bellbadger_replay.Reads as replay-reads
 use Rattle.demands.specs.Functions.{cLibrary, MayRead, MayLoad as MayLoadC, MayReplay}
 use Rattle.demands.proofs.Functions.{c-meets, read-fixed, load-fixed, replay-fixed}
 
 -- ---- 1. ANY INPUT
--- Any bytes, any place number, any state: the call ends with the result that document 01 gives.
+-- Any rule, any bytes, any place number, any state: the call ends with the result that document 01 gives.
 -- (What it gives after a list of calls is demand 3; what the code does on any other state stands
 -- in stepOf.) It asks nothing, and allows that and nothing else. Of the judge's functions, and of
 -- those that C links:
@@ -117,10 +127,13 @@ any-call = judge-meets .steps
 pub any-call-from-C : (j : Judge) (c : Call) (a : Reply) (next : Judge) → cLibrary .May j c a next ↔ (a ≡ stepOf j c .reply) × (next ≡ stepOf j c .state)
 any-call-from-C = c-meets .steps
 
--- A refusal leaves the state unchanged. (Its number is the first condition's that holds: demand 3.
+-- A refusal leaves the state unchanged, and so does a load that is refused. (Its number is the first condition's that holds: demand 3.
 -- A file and a chunk are lent as `&[u8]`, which no function can write.)
 pub refusals : (j : Judge) (c : Call) (x : ℕ) → refusalOf (stepOf j c .reply) ≡ some x → stepOf j c .state ≡ j
 refusals = refusing.unchanged
+
+pub refused-loads : (j : Judge) (f : List ℕ) (x : ℕ) → refusalOf (loadOf j f .reply) ≡ some x → loadOf j f .state ≡ j
+refused-loads = refusing.load-unchanged
 
 -- ---- 2. THE METHOD
 -- The rule that is there after a list of calls is that of the last accepted installation, built; and
@@ -137,11 +150,8 @@ pub acceptance : (r : Rule) → installNumber r ≡ none → (w : List ℕ)
     → Accepts (automatonOf r) w ↔ (shares (after (r .targets) (r .initials) w) (r .finals) ≡ true)
 acceptance r e = automaton.claims .accepts-law r (accepted-rule r e .0)
 
--- From the bytes of a file that a load accepts: the rule that is read accepts the texts that the
--- automaton in the bytes accepts, and is built by that automaton (document 02, R-3).
-pub language-of-bytes : (f : List ℕ) → loadNumber f ≡ none → Equivalent (automatonIn f) (automatonOf (ruleOf f))
-language-of-bytes f = every-list [] .loads f .language
-
+-- From the bytes of a file that a load accepts: what is built of it is what 004 gives to the automaton
+-- in the bytes. (That the rule which is read accepts the same texts stands in `reading`.)
 pub method-of-bytes : (f : List ℕ) → loadNumber f ≡ none → Method (automatonIn f) (builtOf (ruleOf f))
 method-of-bytes = histories-method.method-bytes
 
@@ -180,12 +190,30 @@ loading-law = calls-loading.load-law
 pub loads : (h : List Call) (f : List ℕ) → LoadClauses h f
 loads h = every-list h .loads
 
+-- Reading gives 1 to 8 in order, zeros where it refuses, and else the rule in the file, which passes
+-- the check of a rule as a value and accepts the texts that the automaton in the bytes accepts. Any
+-- call that takes such a value first gives 3, 4, 6 or 8 as installing would.
+pub reading : (f : List ℕ) → ReadLaw f
+reading = rulefile.claims .reading
+
+pub as-installing : (r : Rule) (x : ℕ) → ruleNumber r ≡ some x → installNumber r ≡ some x
+as-installing = calls-loading.as-installing
+
 -- What the contract of the judge's `load` allows is that outcome, and of it nothing is asked.
+pub load-asks-nothing : (j : Judge) (f : List ℕ) → AsksLoad j f
+load-asks-nothing = load-asks
+
 pub load-allowed : (j : Judge) (f : List ℕ) (o : Outcome) → ((r : InstallResult) × MayLoad j f r × (o ≡ installOutcome r)) ↔ (o ≡ loadOf j f)
 load-allowed = load-may
 
 -- Of what C links: reading answers the number and the rule, zeros where it is refused; a load the
 -- same outcome. Nothing is asked of either.
+pub read-from-C-asks-nothing : (κs : Lfts 1) (c : RefT (List ℕ)) → read-reads.Asked κs (c, tt)
+read-from-C-asks-nothing = capi-asks.read-asks-nothing
+
+pub load-from-C-asks-nothing : (κs : Lfts 1) (j : Judge) (c : RefT (List ℕ)) → load-reads.Asked κs (j, (c, tt))
+load-from-C-asks-nothing = capi-asks.load-asks-nothing
+
 pub read-from-C : (f : List ℕ) (r : ReadNumbers) → MayRead f r ↔ r ≡ readShown (readOf f)
 read-from-C = read-fixed
 
@@ -277,9 +305,13 @@ divided h = every-list h .report .divided
 pub zeros : (h : List Call) (x : ℕ) → (verdictIn h ≡ waiting x) ⊎ (verdictIn h ≡ refusedWith x) → ThreeZeros (reportIn h)
 zeros h = every-list h .report .zeros
 
--- Table P, over one list of cases, through the calls.
+-- Table P, over one list of cases, from the bytes of the files, through the calls; and each load of
+-- a case is answered as the table says, by what the contract of `load` allows.
 pub table-P : TableP
 table-P = histories-table.table-P
+
+pub table-P-loads : Each Loads-so table
+table-P-loads = histories-table-runs.table-P-loads
 
 -- ---- CALLS AS TEXT
 -- The answers to a text of calls are right line by line, however it is cut into blocks.
@@ -294,7 +326,8 @@ pub texts-written : {room : ℕ} {s′ : State} {blocks : List (List ℕ)} {line
 texts-written = stream.claims .written
 
 -- What C is given for a recorded list, of which nothing is asked, is the verdict after it, or its
--- first malformed line; and every list of calls has a record.
+-- first malformed line; and every list of calls has a record, in which a load may stand for the calls
+-- that it makes.
 pub replay-asks-nothing : (κs : Lfts 1) (c : RefT (List ℕ)) → replay-reads.Asked κs (c, tt)
 replay-asks-nothing = capi-asks.replay-asks-nothing
 
@@ -303,3 +336,6 @@ replayed = replay-fixed
 
 pub records : (h : List Call) → AllFit h → recordIn (recordOf h) ≡ calls h
 records = replay.claims .record-round-trip
+
+pub recorded-loads : (i : ℕ) (h : List Call) (f : List ℕ) → AllBytes f → readLine (calls h) i (load-word ++ fieldOf f) ≡ calls (loading f ++ h)
+recorded-loads = replay.claims .load-read

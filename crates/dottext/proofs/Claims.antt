@@ -7,10 +7,10 @@ use lib.ListN.{length}
 use Rattle.automaton.specs.declared.Rule.{Rule}
 use Rattle.ruleformat.specs.Refusals.{refusal}
 use Rattle.ruleformat.specs.Reader.{ruleOf}
-use Rattle.dottext.specs.DotText.{mostBytes}
+use Rattle.dotgraph.specs.DotText.{mostBytes}
 use Rattle.dottext.specs.Answers.{drawingBy}
 use Rattle.dottext.specs.Claims.{Claims}
-use Rattle.dottext.proofs.Lengths.{dot-most}
+use Rattle.dotgraph.proofs.Lengths.{dot-most}
 
 by-number : (o : Option ℕ) (r : Rule) → length (drawingBy o r) ≤ mostBytes
 by-number none r = dot-most r

@@ -20,7 +20,7 @@ use Rattle.ruleformat.specs.Reader.{ruleOf}
 use Rattle.dottext.specs.declared.Drawing.{Drawing}
 use Rattle.dottext.specs.declared.Drawing.the-variants.{Bytes, Refused}
 use Rattle.dottext.specs.declared.Fitting.the-variants.{Done, Short}
-use Rattle.dottext.specs.DotText.{dotText, mostBytes}
+use Rattle.dotgraph.specs.DotText.{dotText, mostBytes}
 use Rattle.dottext.specs.Answers.{
   drawn,
   drawingMeans,

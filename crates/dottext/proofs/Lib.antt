@@ -1,8 +1,4 @@
 -- In the order in which they build on each other.
-pub mod Rows
-pub mod Labels
-pub mod Whole
-pub mod Lengths
 pub mod Claims
 pub mod Drawn
 pub mod Examples

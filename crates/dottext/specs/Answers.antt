@@ -24,7 +24,7 @@ use Rattle.dottext.specs.declared.Drawing.{Drawing}
 use Rattle.dottext.specs.declared.Drawing.the-variants.{Bytes, Refused}
 use Rattle.dottext.specs.declared.Fitting.{Fitting}
 use Rattle.dottext.specs.declared.Fitting.the-variants.{Done, Short}
-use Rattle.dottext.specs.DotText.{dotText}
+use Rattle.dotgraph.specs.DotText.{dotText}
 
 pub data DrawingReply : Type 0 where
   drawn : ℕ → DrawingReply

@@ -2,7 +2,7 @@
 use mathlib.Core.List.{List}
 use Prim.Native.Nat.{ℕ, _≤_}
 use lib.ListN.{length}
-use Rattle.dottext.specs.DotText.{mostBytes}
+use Rattle.dotgraph.specs.DotText.{mostBytes}
 use Rattle.dottext.specs.Answers.{drawingFor}
 
 pub record Claims : Type 0 where

@@ -1,5 +1,3 @@
 -- In the order in which to read them.
-pub mod Words
-pub mod DotText
 pub mod Answers
 pub mod Claims

@@ -1,5 +1,5 @@
 -- The state agrees with a rule and with a chunk at each place, or none: `Agrees`. A fresh judge
--- agrees with nothing, a load brings a rule, an opening empties all places, a delivery changes one
+-- agrees with nothing, an installation brings a rule, an opening empties all places, a delivery changes one
 -- place and a withdrawal empties one. Assumes nothing.
 use mathlib.Core.Path.{_≡_, refl, sym, ap, _∙_, subst}
 use mathlib.Core.Bool.{false, cond}

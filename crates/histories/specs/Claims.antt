@@ -130,7 +130,7 @@ pub record LoadClauses (h : List Call) (f : List ℕ) : Type 0 where
   -- where reading refuses the file
   pub state : loadAfter h f .state ≡ judgeAfter (loading f ++ h)
   -- and where it is accepted that rule is there, which accepts the texts that the automaton in the
-  -- file's bytes accepts, and is built by that automaton
+  -- file's bytes accepts; what is built of it is what 004 gives to that automaton
   pub rule : loadNumber f ≡ none → ruleThere (loading f ++ h) ≡ some (ruleOf f)
   pub language : loadNumber f ≡ none → Equivalent (automatonIn f) (automatonOf (ruleOf f))
   pub method : loadNumber f ≡ none → Method (automatonIn f) (builtOf (ruleOf f))

@@ -23,6 +23,7 @@
 --   yesIn h, verdictIn h, reportIn h     the join of the end sets says yes; the verdict; what is
 --                                        reported with it
 --   textIn h                 the standing chunks without their idle marks, joined by place
+--   withSets r               what is answered where the rule r is installed
 --   replyBy number a         refused with the number, or a where there is none
 --   answerOf h c             what document 01 answers to the call c after the calls h
 --   answersTo h              its answers to all calls of the list

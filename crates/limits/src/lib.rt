@@ -45,6 +45,9 @@ pub const CHUNK: usize = 65536;
 // The most bytes of a rule file.
 pub const FILE: usize = 32906;
 
+// The bytes of a rule as a value on a line of calls: n, k, and 4 for each of its masks.
+pub const PACKED: usize = 2 + 4 * (2 + TARGETS);
+
 // Room for a rule file, with bytes to spare: a longer file fills more than FILE of it.
 pub const FILE_ROOM: usize = 33000;
 

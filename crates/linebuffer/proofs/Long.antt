@@ -1,6 +1,6 @@
 -- A line that is longer than any accepted call needs is told by its first bytes and by whether
--- the rest is hex digits, even in number: its last field is then too long for a number, a file
--- and a chunk alike. Assumes nothing.
+-- the rest is hex digits, even in number: its last field is then too long for a number, a rule, a
+-- file and a chunk alike. Assumes nothing.
 --
 --   …-append       a text that goes on with t, where its first bytes v decide
 --   Tells a b      a line of the meaning a has the outcome of a line of the meaning b
@@ -25,10 +25,10 @@ use Rattle.fields.specs.Bytes.{allHex, pairs, parseBytes}
 use Rattle.fields.proofs.Digits.{said-long}
 use Rattle.fields.proofs.Pairs.{hex-append, pairs-length}
 use Rattle.calls.specs.declared.Judge.{Judge}
-use Rattle.calls.specs.Calls.{loads, delivers, asksVerdict}
-use Rattle.calltext.specs.Meaning.{Meaning, call, malformed, load-word, open-word, deliver-word, withdraw-word, verdict-word, loadBy, openBy, withdrawBy, deliverBy, deliverFields, callIn, lineIn}
+use Rattle.calls.specs.Calls.{delivers, asksVerdict}
+use Rattle.calltext.specs.Meaning.{Meaning, call, load, malformed, load-word, install-word, open-word, deliver-word, withdraw-word, verdict-word, loadBy, installBy, openBy, withdrawBy, deliverBy, deliverFields, callIn, lineIn}
 use Rattle.callrun.specs.Running.{replyOf, lineStep}
-use Rattle.callrun.proofs.Clipped.{loads-long, delivers-long}
+use Rattle.callrun.proofs.Clipped.{loads-long, delivers-long, installs-long}
 
 -- ---- a text that goes on
 begins-append : (h v t : List ℕ) → length h ≤ length v → begins h (v ++ t) ≡ begins h v
@@ -68,6 +68,13 @@ module _ (v : List ℕ) (two : 2 ≤ length v) where
   bytes-even : eqb (length v % 2) 0 ≡ true → allHex v ≡ true → parseBytes v ≡ some (pairs v)
   unfolding parseBytes
   bytes-even e a = rw (ne-eqb (length v) 1 (λ o. omega arith), e, a, le-leb 1 (length v) (omega arith))
+
+  -- it says no bytes, or some
+  bytes-either : (P : Option (List ℕ) → Type 0) → P none → P (some (pairs v)) → P (parseBytes v)
+  bytes-either P neither some-bytes =
+      by-test (eqb (length v % 2) 0)
+      (λ e. by-test (allHex v) (λ a. rw (bytes-even e a) some-bytes) (λ a. rw (bytes-stray a) neither))
+      (λ e. rw (bytes-odd e) neither)
 
 module _ (v t : List ℕ) (two : 2 ≤ length v) where
   more-two : 2 ≤ length (v ++ t)
@@ -113,6 +120,10 @@ open-long u h = ap openBy (said-long u h)
 withdraw-long : (u : List ℕ) → 20 < length u → withdrawBy (parseNumber u) ≡ malformed
 withdraw-long u h = ap withdrawBy (said-long u h)
 
+install-long : (u : List ℕ) → 4118 ≤ length u → installBy (parseBytes u) ≡ malformed
+install-long u h =
+    bytes-either u (omega arith) (λ o. installBy o ≡ malformed) refl (installs-long (pairs u) (omega (arith, pairs-length u)))
+
 -- ---- what a line comes to
 record Tells (a b : Meaning) : Type 0 where
   steps : (j : Judge) → lineStep j a ≡ lineStep j b
@@ -128,7 +139,7 @@ cond-malformed : (b : Bool) (x y : Meaning) → x ≡ malformed → y ≡ malfor
 cond-malformed true x y t e = t
 cond-malformed false x y t e = e
 
-tells-loads : (f g : List ℕ) → 65537 ≤ length f → 65537 ≤ length g → Tells (call (loads f)) (call (loads g))
+tells-loads : (f g : List ℕ) → 65537 ≤ length f → 65537 ≤ length g → Tells (load f) (load g)
 tells-loads f g hf hg = record { steps = λ j. ap replyOf (loads-long j f g (omega arith) (omega arith)) }
 
 tells-delivers : (p : ℕ) (f g : List ℕ) → 65537 ≤ length f → 65537 ≤ length g → Tells (call (delivers p f)) (call (delivers p g))
@@ -176,6 +187,12 @@ module _ (v t : List ℕ) (long : 131103 ≤ length v) where
   open-more : openBy (parseNumber (drop 5 (v ++ t))) ≡ malformed
   open-more = open-long (drop 5 (v ++ t)) (omega (arith, more-long 5 (omega arith)))
 
+  install-v : installBy (parseBytes (drop 8 v)) ≡ malformed
+  install-v = install-long (drop 8 v) (omega (arith, rest-long 8 (omega arith)))
+
+  install-more : installBy (parseBytes (drop 8 (v ++ t))) ≡ malformed
+  install-more = install-long (drop 8 (v ++ t)) (omega (arith, more-long 8 (omega arith)))
+
   withdraw-v : withdrawBy (parseNumber (drop 9 v)) ≡ malformed
   withdraw-v = withdraw-long (drop 9 v) (omega (arith, rest-long 9 (omega arith)))
 
@@ -222,9 +239,10 @@ module _ (v t : List ℕ) (long : 131103 ≤ length v) where
     stray-call =
         cond-malformed (begins verdict-word (v ++ t)) _ _ verdict-more
         (cond-malformed (begins load-word (v ++ t)) _ _ stray-load
+        (cond-malformed (begins install-word (v ++ t)) _ _ install-more
         (cond-malformed (begins open-word (v ++ t)) _ _ open-more
         (cond-malformed (begins deliver-word (v ++ t)) _ _ stray-deliver
-        (cond-malformed (begins withdraw-word (v ++ t)) _ _ withdraw-more refl))))
+        (cond-malformed (begins withdraw-word (v ++ t)) _ _ withdraw-more refl)))))
 
   module _ (hex : allHex t ≡ true) (even : length t % 2 ≡ 0) where
     hex-load : Tells (loadBy (parseBytes (drop 5 v))) (loadBy (parseBytes (drop 5 (v ++ t))))
@@ -249,12 +267,13 @@ module _ (v t : List ℕ) (long : 131103 ≤ length v) where
     hex-call : Tells (callIn v) (callIn (v ++ t))
     unfolding callIn
     hex-call =
-        rw (word verdict-word (omega arith), word load-word (omega arith), word open-word (omega arith), word deliver-word (omega arith), word withdraw-word (omega arith))
+        rw (word verdict-word (omega arith), word load-word (omega arith), word install-word (omega arith), word open-word (omega arith), word deliver-word (omega arith), word withdraw-word (omega arith))
         (tells-cond (begins verdict-word v) _ _ _ _ (tells-malformed verdict-v verdict-more)
         (tells-cond (begins load-word v) _ _ _ _ hex-load
+        (tells-cond (begins install-word v) _ _ _ _ (tells-malformed install-v install-more)
         (tells-cond (begins open-word v) _ _ _ _ (tells-malformed open-v open-more)
         (tells-cond (begins deliver-word v) _ _ _ _ hex-deliver
-        (tells-cond (begins withdraw-word v) _ _ _ _ (tells-malformed withdraw-v withdraw-more) (tells-malformed refl refl))))))
+        (tells-cond (begins withdraw-word v) _ _ _ _ (tells-malformed withdraw-v withdraw-more) (tells-malformed refl refl)))))))
 
     hex-line : Tells (lineIn v) (lineIn (v ++ t))
     hex-line = rw (some-bytes, more-bytes) hex-call

@@ -1,6 +1,7 @@
 -- What a buffer and a value keep of a line, whatever its length; proofs/Claimed.antt proves the
--- claims. A call whose line is longer than the buffer is told by its beginning, and by whether
--- the rest is hex digits and how many: such a file or chunk is refused by its length alone.
+-- claims. A line that is longer than the buffer is told by its beginning, and by whether the rest
+-- is hex digits and how many: such a file or chunk is refused by its length alone, and so many
+-- bytes state no rule.
 --
 --   Keeps buffer h w    the buffer and h keep the line w: as much of it as the buffer takes, and
 --                       of the rest whether each byte is a hex digit and whether there is an odd

@@ -6,11 +6,13 @@ use lib.ListN.{length}
 use Rattle.lines.specs.Splitting.{linesFrom}
 use Rattle.lines.proofs.Over.{over-line}
 use Rattle.calls.specs.Calls.{Call}
-use Rattle.calltext.specs.Meaning.{Meaning}
+use Rattle.histories.specs.History.{loading}
+use Rattle.fields.specs.Claims.{AllBytes, fieldOf}
+use Rattle.calltext.specs.Meaning.{Meaning, load-word}
 use Rattle.calltext.specs.Claims.{lineOf}
 use Rattle.calltext.proofs.RoundTrip.{over-call}
 use Rattle.calltext.proofs.RoundTrip as calltext
-use Rattle.replay.specs.Records.{calls, readOn, readLines, recordIn}
+use Rattle.replay.specs.Records.{calls, readOn, readLine, readLines, recordIn}
 use Rattle.replay.specs.Claims.{AllFit, recordOf, Claims}
 
 -- the lines of the call c and of the text y behind it
@@ -34,5 +36,8 @@ record-round-trip : (h : List Call) → AllFit h → recordIn (recordOf h) ≡ c
 unfolding linesFrom readLines
 record-round-trip h a = rw append-nil at (read-record h [] a)
 
+load-read : (i : ℕ) (h : List Call) (f : List ℕ) → AllBytes f → readLine (calls h) i (load-word ++ fieldOf f) ≡ calls (loading f ++ h)
+load-read i h f a = ap (readOn i h) (calltext.claims .load-line f a)
+
 pub claims : Claims
-claims = record { record-round-trip = record-round-trip }
+claims = record { record-round-trip = record-round-trip; load-read = load-read }

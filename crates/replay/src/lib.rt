@@ -20,7 +20,7 @@ fn is_malformed(answer: LineAnswer) -> bool
 {
     match answer {
         LineAnswer::Began => false,
-        LineAnswer::Load(_) => false,
+        LineAnswer::Install(_) => false,
         LineAnswer::Open(_) => false,
         LineAnswer::Deliver(_) => false,
         LineAnswer::Withdraw(_) => false,

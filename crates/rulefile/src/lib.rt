@@ -32,7 +32,7 @@ fn half(file: &[u8], at: usize) -> usize
 }
 
 // The 32-bit number at an index.
-fn word(file: &[u8], at: usize) -> u32
+pub fn word(file: &[u8], at: usize) -> u32
     requires { ⌜ at + 4 ≤ length (now file) ⌝ }
     ensures { λ r. ⌜ r ≡ wordAt (now (file .entry)) at ⌝ }
 {

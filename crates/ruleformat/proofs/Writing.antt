@@ -112,12 +112,12 @@ module _ (n k i f : ℕ) (sections : ℕ → List ℕ) where
         )
 
 -- ---- that it is a list of bytes
-bytes-append : (a b : List ℕ) → Bytes a → Bytes b → Bytes (a ++ b)
+pub bytes-append : (a b : List ℕ) → Bytes a → Bytes b → Bytes (a ++ b)
 bytes-append [] b ha hb i = hb i
 bytes-append (x ∷ a) b ha hb zero = ha 0
 bytes-append (x ∷ a) b ha hb (suc i) = bytes-append a b (λ j. ha (suc j)) hb i
 
-bytes-joined : (p : ℕ → List ℕ) (n : ℕ) → ((i : ℕ) → i < n → Bytes (p i)) → Bytes (joined p n)
+pub bytes-joined : (p : ℕ → List ℕ) (n : ℕ) → ((i : ℕ) → i < n → Bytes (p i)) → Bytes (joined p n)
 unfolding joined
 bytes-joined p zero h i = omega arith
 bytes-joined p (suc n) h i = bytes-append (joined p n) (p n) (bytes-joined p n (λ j l. h j (omega arith))) (h n (omega arith)) i
@@ -127,10 +127,10 @@ bytes-half x h zero = omega arith
 bytes-half x h (suc zero) = omega arith
 bytes-half x h (suc (suc i)) = omega arith
 
-bytes-word : (x : ℕ) → x < 4294967296 → Bytes (word x)
+pub bytes-word : (x : ℕ) → x < 4294967296 → Bytes (word x)
 bytes-word x h = bytes-append (half (x % 65536)) (half (x / 65536)) (bytes-half (x % 65536) (omega arith)) (bytes-half (x / 65536) (omega arith))
 
-bytes-header : (n k i f : ℕ) → n < 256 → k < 256 → i < 4294967296 → f < 4294967296 → Bytes (header n k i f)
+pub bytes-header : (n k i f : ℕ) → n < 256 → k < 256 → i < 4294967296 → f < 4294967296 → Bytes (header n k i f)
 bytes-header n k i f hn hk hi hf zero = hn
 bytes-header n k i f hn hk hi hf (suc zero) = hk
 bytes-header n k i f hn hk hi hf (suc (suc j)) = bytes-append (word i) (word f) (bytes-word i hi) (bytes-word f hf) j

@@ -2,6 +2,7 @@
 // interrupts, or that would have to wait on a descriptor that does not wait, is tried again; any
 // other failure is told on standard error. Which bytes are read and written is no promise, since
 // the C library's `read` and `write` make none: a test holds it.
+ghost use mathlib.Core.Path.{_≡_};
 ghost use Prim.Native.Nat.{_≤_, _<_};
 ghost use lib.ListN.{length};
 ghost use Rattle.stdio.specs.Blocks.{Within, Whole};
@@ -157,6 +158,14 @@ pub fn read_block(program: &[u8], block: &mut [u8]) -> Block
     }
     tell(program, b": cannot read");
     Block::Failed
+}
+
+// A proved loop ends, and nothing says that the input does. So a program that reads up to
+// the end counts its turns down, from a number that no run uses up.
+pub fn most_turns() -> u64
+    ensures { λ r. ⌜ r ≡ 18446744073709551615 ⌝ }
+{
+    u64::MAX
 }
 
 // The whole input, up to the buffer's length; a failure is told.

@@ -20,7 +20,8 @@ use Rattle.calls.specs.Calls.{Call}
 use Rattle.calls.specs.Steps.{fresh}
 use Rattle.histories.specs.Claims.{judgeAfter}
 use Rattle.histories.proofs.EveryList.{answer-after}
-use Rattle.calltext.specs.Meaning.{Meaning, again, call, malformed, lineIn}
+use Rattle.histories.proofs.Loads.{load-reply, load-state}
+use Rattle.calltext.specs.Meaning.{Meaning, again, call, load, malformed, lineIn}
 use Rattle.calltext.specs.Answers.{Response, replied, responseText}
 use Rattle.callrun.specs.Running.{LineOutcome, lineStep}
 use Rattle.linebuffer.specs.Holding.{lineBegin, heldMeaning}
@@ -132,12 +133,14 @@ whole blocks line large = whole-by blocks _ [] (record { large = large; keeps = 
 response-right : (h : List Call) (m : Meaning) → lineStep (judgeAfter h) m .response ≡ rightResponse h m
 response-right h again = refl
 response-right h (call c) = ap replied (answer-after h c)
+response-right h (load f) = ap replied (load-reply f h)
 response-right h malformed = refl
 
 judge-after : (h : List Call) (m : Meaning) → lineStep (judgeAfter h) m .state ≡ judgeAfter (historyAfter h m)
 unfolding stateAfter
 judge-after h again = refl
 judge-after h (call c) = refl
+judge-after h (load f) = load-state f h
 judge-after h malformed = refl
 
 right-by : (ls : List (List ℕ)) (h : List Call) → linesStep (judgeAfter h) ls .text ≡ rightText h ls

@@ -8,15 +8,16 @@
 --   partsText s ps      all that is answered to them
 --   partsIn blocks      the parts of the blocks, one block after the other
 --   streamOf s blocks   the outcome of feeding the blocks and then finishing
---   historyAfter h m    the calls since the last empty line: h, and then a line of the meaning m
+--   historyAfter h m    the calls since the last empty line: h, and then a line of the meaning m; a
+--                       load makes the installation of its rule, or no call
 --   rightResponse h m   the right answer to a line of the meaning m after the calls h
 --   rightText h ls      the right answer to each line, after the calls h and the lines before it
 use mathlib.Core.List.{List, [], _∷_, _++_}
 use Prim.Native.Nat.{ℕ}
 use Rattle.calls.specs.declared.Judge.{Judge}
 use Rattle.calls.specs.Calls.{Call}
-use Rattle.histories.specs.History.{answerOf}
-use Rattle.calltext.specs.Meaning.{Meaning, again, call, malformed, lineIn}
+use Rattle.histories.specs.History.{answerOf, loading, loadReply}
+use Rattle.calltext.specs.Meaning.{Meaning, again, call, load, malformed, lineIn}
 use Rattle.calltext.specs.Answers.{Response, began, replied, unread, responseText}
 use Rattle.callrun.specs.Running.{lineStep}
 use Rattle.stream.specs.Feeding.{State, Part, partsOf, feedPart, finishOf}
@@ -55,11 +56,13 @@ streamOf s blocks =
 abbrev pub historyAfter : List Call → Meaning → List Call
 historyAfter h again = []
 historyAfter h (call c) = c ∷ h
+historyAfter h (load f) = loading f ++ h
 historyAfter h malformed = h
 
 abbrev pub rightResponse : List Call → Meaning → Response
 rightResponse h again = began
 rightResponse h (call c) = replied (answerOf h c)
+rightResponse h (load f) = replied (loadReply f)
 rightResponse h malformed = unread
 
 unfoldable pub rightText : List Call → List (List ℕ) → List ℕ

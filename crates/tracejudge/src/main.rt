@@ -1,7 +1,7 @@
 // Reads a list of calls from standard input, one a line, and prints an answer a line: `load HEX`,
-// `open N`, `deliver P HEX`, `withdraw P`, `verdict`. HEX is `-` for no bytes. An empty line
-// starts again with a fresh judge. What a line means and how it is answered is proved in the
-// crates below; this program only reads and writes. The answers to a block that was read are
+// `install HEX`, `open N`, `deliver P HEX`, `withdraw P`, `verdict`. HEX is `-` for no bytes. An
+// empty line starts again with a fresh judge. What a line means and how it is answered is proved in
+// the crates below; this program only reads and writes. The answers to a block that was read are
 // written before the next is read, all at once where their buffer holds them. Where it cannot read
 // or write it says so on standard error and stops. What it prints is no promise, since the C
 // library's `write` makes none: a test holds it.
@@ -81,21 +81,13 @@ fn run_block(
     }
 }
 
-// A proved loop ends, and nothing says that the input does. So the turns are counted down, from a
-// number that no run uses up.
-fn most_turns() -> u64
-    ensures { λ r. ⌜ r ≡ 18446744073709551615 ⌝ }
-{
-    u64::MAX
-}
-
 // All blocks, up to the end of the input.
 fn run_blocks(line: &mut [u8], bytes: &mut [u8], out: &mut [u8], block: &mut [u8]) -> Reading
     requires { ⌜ (lineRoom ≤ length (now line)) × (bytesRoom ≤ length (now bytes)) × (answerRoom ≤ length (now out)) ⌝ }
 {
     let mut judge = judge::new_judge();
     let mut held = linebuffer::nothing();
-    let mut turns = most_turns();
+    let mut turns = stdio::most_turns();
     while turns > 0 {
         let read = read_block(block);
         match read {

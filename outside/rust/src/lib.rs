@@ -24,6 +24,9 @@
 //! # Ok::<(), Refused>(())
 //! ```
 //!
+//! A rule file can be read without a judge ([`read`]); what comes of it is a [`CheckedRule`], to look at
+//! and to install into any number of judges.
+//!
 //! A refusal that nobody looks at is told by the compiler:
 //!
 //! ```compile_fail
@@ -37,10 +40,12 @@
 //! that calls it a stack of 512 KB is enough, 128 KB is not (Rust's own threads have 2 MB).
 mod raw;
 mod refused;
+mod rule;
 
 pub use refused::{Refused, ReplayError};
+pub use rule::{read, CheckedRule};
 
-use raw::{RawChange, RawJudge, RawVerdict};
+use raw::{RawChange, RawInstall, RawJudge, RawVerdict};
 use std::fmt;
 
 /// The version of the library that is linked: major and minor number.
@@ -51,7 +56,7 @@ pub fn version() -> (u32, u32) {
     (version >> 16, version & 0xFFFF)
 }
 
-/// What an accepted load tells of the rule.
+/// What an accepted load or installation tells of the rule.
 #[derive(Clone, Copy, Debug, PartialEq, Eq)]
 #[must_use]
 pub struct Loaded {
@@ -141,10 +146,32 @@ impl Judge {
         Judge(Box::new(unsafe { raw::bellbadger_new() }))
     }
 
-    /// Checks and builds a rule; accepted, it replaces the former one and removes the board.
+    /// Checks and builds a rule, whatever stands in it; accepted, it replaces the former one and
+    /// removes the board.
     ///
     /// # Errors
-    /// 1 to 9: the file is no rule.
+    /// 3 (no number of states from 1 to 32), 4 (no number of symbols from 1 to 16), 6 (a mask names a
+    /// state that there is not), 8 (so does a target mask, or one kept for a state or a symbol that
+    /// there is not is not 0), 9 (over 512 sets).
+    ///
+    /// ```
+    /// # use bellbadger::{CheckedRule, Judge};
+    /// let mut rule = CheckedRule { n: 2, k: 1, initials: 1, finals: 2, targets: [0; 512] };
+    /// rule.targets[0] = 0b10; // from state 0 by symbol 0 to state 1
+    /// assert_eq!(Judge::new().install(&rule).map(|loaded| loaded.sets), Ok(2));
+    /// rule.targets[1] = 0b10; // a symbol 1 that there is not
+    /// assert_eq!(Judge::new().install(&rule).unwrap_err().number(), 8);
+    /// ```
+    pub fn install(&mut self, rule: &CheckedRule) -> Result<Loaded, Refused> {
+        // SAFETY: plain numbers.
+        let r = unsafe { raw::bellbadger_install(*self.0, *rule) };
+        self.loaded(&r)
+    }
+
+    /// Reads a rule file and installs the rule in it.
+    ///
+    /// # Errors
+    /// 1 to 8: the file is no rule; 9: the rule has over 512 sets.
     ///
     /// ```
     /// # use bellbadger::Judge;
@@ -155,15 +182,13 @@ impl Judge {
     pub fn load(&mut self, file: &[u8]) -> Result<Loaded, Refused> {
         // SAFETY: the pointer leads to as many bytes as the length says, and they are only read.
         let r = unsafe { raw::bellbadger_load(*self.0, file.as_ptr(), file.len()) };
-        *self.0 = r.judge;
-        let (sets, starts) = (r.sets, r.starts);
-        accepted(r.accepted, r.refused).map(|()| Loaded { sets, starts })
+        self.loaded(&r)
     }
 
     /// A board of that many empty places; an earlier one is dropped.
     ///
     /// # Errors
-    /// 20 (no rule is loaded), 10 (no number of places from 1 to 64).
+    /// 20 (no rule is there), 10 (no number of places from 1 to 64).
     ///
     /// ```
     /// # use bellbadger::Judge;
@@ -223,6 +248,12 @@ impl Judge {
         report(&unsafe { raw::bellbadger_verdict(*self.0) })
     }
 
+    fn loaded(&mut self, r: &RawInstall) -> Result<Loaded, Refused> {
+        *self.0 = r.judge;
+        let (sets, starts) = (r.sets, r.starts);
+        accepted(r.accepted, r.refused).map(|()| Loaded { sets, starts })
+    }
+
     fn changed(&mut self, r: RawChange) -> Result<(), Refused> {
         *self.0 = r.judge;
         accepted(r.accepted, r.refused)
@@ -231,9 +262,10 @@ impl Judge {
 
 /// Runs the calls that a text records on a fresh judge: the report on the verdict after them.
 ///
-/// A line is `load HEX`, `open N`, `deliver P HEX`, `withdraw P` or `verdict`, with exactly one
-/// space between fields; an empty line begins a fresh judge. HEX is pairs of hex digits, or `-` for
-/// no bytes. A recorded call that is refused changes nothing, and the next line is run.
+/// A line is `load HEX`, `install HEX`, `open N`, `deliver P HEX`, `withdraw P` or `verdict`, with
+/// exactly one space between fields; an empty line begins a fresh judge. HEX is pairs of hex digits, or
+/// `-` for no bytes; that of an installation is the 2,058 bytes of a rule by value. A recorded call that
+/// is refused changes nothing, and the next line is run.
 ///
 /// # Errors
 /// The verdict is refused (21: no board is open), or a line is malformed.

@@ -1,8 +1,10 @@
 //! The library's own types and functions, as outside/c/bellbadger.h has them.
+use crate::rule::CheckedRule;
 
+/// A rule as it was built.
 #[repr(C)]
 #[derive(Clone, Copy)]
-pub struct RawRule {
+pub struct RawBuiltRule {
     pub n: u8,
     pub k: u8,
     pub starts: u8,
@@ -28,12 +30,20 @@ pub struct RawBoard {
 #[repr(C)]
 #[derive(Clone, Copy)]
 pub struct RawJudge {
-    pub rule: RawRule,
+    pub rule: RawBuiltRule,
     pub board: RawBoard,
 }
 
 #[repr(C)]
-pub struct RawLoad {
+pub struct RawRead {
+    pub accepted: u8,
+    pub refused: u8,
+    pub rule: CheckedRule,
+}
+
+/// Of an installation and a load.
+#[repr(C)]
+pub struct RawInstall {
     pub accepted: u8,
     pub refused: u8,
     pub sets: u16,
@@ -79,12 +89,15 @@ pub const MAJOR: u32 = 3;
 /// As the C header has it; outside/c/test.c reads every field of it.
 pub const STATE_SIZE: usize = 27316;
 const _: () = assert!(std::mem::size_of::<RawJudge>() == STATE_SIZE);
+const _: () = assert!(std::mem::size_of::<RawRead>() == 2064);
 
 extern "C" {
     pub fn bellbadger_version() -> u32;
     pub fn bellbadger_state_size() -> usize;
     pub fn bellbadger_new() -> RawJudge;
-    pub fn bellbadger_load(judge: RawJudge, file: *const u8, length: usize) -> RawLoad;
+    pub fn bellbadger_read(file: *const u8, length: usize) -> RawRead;
+    pub fn bellbadger_install(judge: RawJudge, rule: CheckedRule) -> RawInstall;
+    pub fn bellbadger_load(judge: RawJudge, file: *const u8, length: usize) -> RawInstall;
     pub fn bellbadger_open(judge: RawJudge, places: usize) -> RawChange;
     pub fn bellbadger_deliver(
         judge: RawJudge,

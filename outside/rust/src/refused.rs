@@ -2,13 +2,13 @@
 use std::error::Error;
 use std::fmt;
 
-/// A call was refused; the judge is as it was.
+/// A call was refused; the judge is as it was. Of reading: the file is no rule.
 ///
 /// ```
 /// # use bellbadger::Judge;
 /// let refused = Judge::new().open(1).unwrap_err();
 /// assert_eq!(refused.number(), 20);
-/// assert_eq!(refused.to_string(), "refused 20: no rule is loaded");
+/// assert_eq!(refused.to_string(), "refused 20: no rule is there");
 /// ```
 #[derive(Clone, Copy, Debug, PartialEq, Eq, Hash)]
 #[must_use]
@@ -34,13 +34,13 @@ impl Refused {
             5 => "the file ends within the list of pairs",
             6 => "a mask names a state that there is not",
             7 => "a pair has a wrong offset or an odd length, or the sections do not end where the file does",
-            8 => "an arc has a symbol or a target that there is not, or arcs do not rise",
+            8 => "an arc has a state, a symbol or a target that there is not, or arcs do not rise",
             9 => "the rule has over 512 sets",
             10 => "no number of places from 1 to 64",
             11 => "the board has no such place",
             12 => "the chunk has over 65,536 bytes",
             13 => "a byte is no symbol of the rule and no idle mark",
-            20 => "no rule is loaded",
+            20 => "no rule is there",
             21 => "no board is open",
             22 => "the place has a chunk already",
             23 => "the place has no chunk",

@@ -182,7 +182,7 @@ fn a_refusal_is_an_error() {
     }
     assert_eq!(
         called().unwrap_err().to_string(),
-        "refused 20: no rule is loaded"
+        "refused 20: no rule is there"
     );
 }
 
@@ -192,5 +192,5 @@ fn what_a_judge_shows() {
     assert!(judge.load(&A).is_ok() && judge.open(2).is_ok() && judge.deliver(1, &[]).is_ok());
     let shown = "Judge { states: 3, symbols: 2, sets: 5, starts: 3, places: 2, filled: 1, .. }";
     assert_eq!(format!("{judge:?}"), shown);
-    assert_eq!(version(), (3, 1));
+    assert_eq!(version(), (3, 2));
 }

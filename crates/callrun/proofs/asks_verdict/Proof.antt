@@ -1,6 +1,6 @@
 -- `asks_verdict` meets its contract. Assumes nothing.
-use Rattle.callrun.proofs.Ways.{asks-by}
 use borrow.Author.Needs.{needs}
+use Rattle.callrun.proofs.Ways.{asks-by}
 use Rattle.callrun.proofs.asks_verdict.Statement.{statement}
 use Rattle.callrun.proofs.asks_verdict.Tie as tie
 
@@ -28,6 +28,9 @@ enum-told-6 c = search needs
 enum-told-7 : tie.Need-enum-told-7
 enum-told-7 c = search needs
 
+enum-told-8 : tie.Need-enum-told-8
+enum-told-8 c = search needs
+
 returns : tie.Need-returns
 returns c = rw (c .enum-told .given .1) at (asks-by _ _ (c .before .before .parse .ensures))
 
@@ -49,6 +52,9 @@ returns-6 c = rw (c .enum-told6 .given .1) at (asks-by _ _ (c .before .before .p
 returns-7 : tie.Need-returns-7
 returns-7 c = rw (c .enum-told7 .given .1) at (asks-by _ _ (c .before .before .parse .ensures))
 
+returns-8 : tie.Need-returns-8
+returns-8 c = rw (c .enum-told8 .given .1) at (asks-by _ _ (c .before .before .parse .ensures))
+
 pub asks-verdict-spec : {M : Type 1} → statement M
 asks-verdict-spec =
     tie.close
@@ -61,10 +67,12 @@ asks-verdict-spec =
     enum-told-5
     enum-told-6
     enum-told-7
+    enum-told-8
     returns
     returns-2
     returns-3
     returns-4
     returns-5
     returns-6
-    returns-7)
+    returns-7
+    returns-8)

@@ -1,6 +1,6 @@
 -- `run_line` meets its contract. Assumes nothing.
 use borrow.Author.Needs.{needs}
-use Rattle.callrun.proofs.Ways.{load-inside, deliver-inside, line-empty, line-load, line-open, line-deliver, line-withdraw, line-verdict, line-malformed}
+use Rattle.callrun.proofs.Ways.{load-inside, install-inside, deliver-inside, line-empty, line-load, line-install, line-open, line-deliver, line-withdraw, line-verdict, line-malformed}
 use Rattle.callrun.proofs.run_line.Statement.{statement}
 use Rattle.callrun.proofs.run_line.Tie as tie
 
@@ -27,6 +27,21 @@ part-run-load-end c = search needs
 
 run-load-requires : tie.Need-run-load-requires
 run-load-requires c κs = search needs
+
+enum-told-3 : tie.Need-enum-told-3
+enum-told-3 c = search needs
+
+sub-run-install : tie.Need-sub-run-install
+sub-run-install c = search (needs, install-inside)
+
+part-run-install-start : tie.Need-part-run-install-start
+part-run-install-start c = search (needs, install-inside)
+
+part-run-install-end : tie.Need-part-run-install-end
+part-run-install-end c = search needs
+
+run-install-requires : tie.Need-run-install-requires
+run-install-requires c κs = search needs
 
 enum-known-parsed : tie.Need-enum-known-parsed
 enum-known-parsed c = search needs
@@ -55,14 +70,14 @@ enum-known-parsed-3 c = search needs
 run-withdraw-requires : tie.Need-run-withdraw-requires
 run-withdraw-requires c κs = search needs
 
-enum-told-3 : tie.Need-enum-told-3
-enum-told-3 c = search needs
+enum-told-4 : tie.Need-enum-told-4
+enum-told-4 c = search needs
 
 run-verdict-requires : tie.Need-run-verdict-requires
 run-verdict-requires c κs = search needs
 
-enum-told-4 : tie.Need-enum-told-4
-enum-told-4 c = search needs
+enum-told-5 : tie.Need-enum-told-5
+enum-told-5 c = search needs
 
 run-malformed-requires : tie.Need-run-malformed-requires
 run-malformed-requires c κs = search needs
@@ -76,23 +91,29 @@ same-length c = search needs
 returns-2 : tie.Need-returns-2
 returns-2 c = search (needs, line-load)
 
-returns-3 : tie.Need-returns-3
-returns-3 c = search (needs, line-open)
-
 same-length-2 : tie.Need-same-length-2
 same-length-2 c = search needs
 
+returns-3 : tie.Need-returns-3
+returns-3 c = search (needs, line-install)
+
 returns-4 : tie.Need-returns-4
-returns-4 c = search (needs, line-deliver)
+returns-4 c = search (needs, line-open)
+
+same-length-3 : tie.Need-same-length-3
+same-length-3 c = search needs
 
 returns-5 : tie.Need-returns-5
-returns-5 c = search (needs, line-withdraw)
+returns-5 c = search (needs, line-deliver)
 
 returns-6 : tie.Need-returns-6
-returns-6 c = search (needs, line-verdict)
+returns-6 c = search (needs, line-withdraw)
 
 returns-7 : tie.Need-returns-7
-returns-7 c = search (needs, line-malformed)
+returns-7 c = search (needs, line-verdict)
+
+returns-8 : tie.Need-returns-8
+returns-8 c = search (needs, line-malformed)
 
 pub run-line-spec : {M : Type 1} → statement M
 run-line-spec =
@@ -106,6 +127,11 @@ run-line-spec =
     part-run-load-start
     part-run-load-end
     run-load-requires
+    enum-told-3
+    sub-run-install
+    part-run-install-start
+    part-run-install-end
+    run-install-requires
     enum-known-parsed
     run-open-requires
     enum-known-parsed-2
@@ -115,16 +141,18 @@ run-line-spec =
     run-deliver-requires
     enum-known-parsed-3
     run-withdraw-requires
-    enum-told-3
-    run-verdict-requires
     enum-told-4
+    run-verdict-requires
+    enum-told-5
     run-malformed-requires
     returns
     same-length
     returns-2
-    returns-3
     same-length-2
+    returns-3
     returns-4
+    same-length-3
     returns-5
     returns-6
-    returns-7)
+    returns-7
+    returns-8)

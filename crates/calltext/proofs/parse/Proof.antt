@@ -1,6 +1,6 @@
 -- `parse` meets its contract. Assumes nothing.
 use borrow.Author.Needs.{needs}
-use Rattle.calltext.proofs.Readings.{told, long-open, long-deliver, long-withdraw, parsed-empty, parsed-verdict, parsed-more, parsed-load, parsed-open, parsed-delivery, parsed-withdrawal, parsed-other}
+use Rattle.calltext.proofs.Readings.{told, long-open, long-deliver, long-withdraw, parsed-empty, parsed-verdict, parsed-more, parsed-load, parsed-install, parsed-open, parsed-delivery, parsed-withdrawal, parsed-other}
 use Rattle.calltext.proofs.parse.Statement.{statement}
 use Rattle.calltext.proofs.parse.Tie as tie
 
@@ -34,6 +34,15 @@ slice-aggregate-begins-with-3 c = search needs
 begins-with-requires-3 : tie.Need-begins-with-requires-3
 begins-with-requires-3 c κs = search needs
 
+returns-5 : tie.Need-returns-5
+returns-5 c = search (needs, told, parsed-install)
+
+slice-aggregate-begins-with-4 : tie.Need-slice-aggregate-begins-with-4
+slice-aggregate-begins-with-4 c = search needs
+
+begins-with-requires-4 : tie.Need-begins-with-requires-4
+begins-with-requires-4 c κs = search needs
+
 sub-opening : tie.Need-sub-opening
 sub-opening c = search (needs, told, long-open)
 
@@ -46,27 +55,27 @@ part-opening-end c = search needs
 opening-requires : tie.Need-opening-requires
 opening-requires c κs = search needs
 
-returns-5 : tie.Need-returns-5
-returns-5 c =
-    parsed-open _ (search needs) (search (needs, told)) (search (needs, told)) (search (needs, told)) _ (c .opening .ensures .0) (c .opening .ensures .1 _)
-
-slice-aggregate-begins-with-4 : tie.Need-slice-aggregate-begins-with-4
-slice-aggregate-begins-with-4 c = search needs
-
-begins-with-requires-4 : tie.Need-begins-with-requires-4
-begins-with-requires-4 c κs = search needs
-
-delivery-requires : tie.Need-delivery-requires
-delivery-requires c κs = search (needs, told, long-deliver)
-
 returns-6 : tie.Need-returns-6
-returns-6 c = search (needs, told, parsed-delivery)
+returns-6 c =
+    parsed-open _ (search needs) (search (needs, told)) (search (needs, told)) (search (needs, told)) (search (needs, told)) _ (c .opening .ensures .0) (c .opening .ensures .1 _)
 
 slice-aggregate-begins-with-5 : tie.Need-slice-aggregate-begins-with-5
 slice-aggregate-begins-with-5 c = search needs
 
 begins-with-requires-5 : tie.Need-begins-with-requires-5
 begins-with-requires-5 c κs = search needs
+
+delivery-requires : tie.Need-delivery-requires
+delivery-requires c κs = search (needs, told, long-deliver)
+
+returns-7 : tie.Need-returns-7
+returns-7 c = search (needs, told, parsed-delivery)
+
+slice-aggregate-begins-with-6 : tie.Need-slice-aggregate-begins-with-6
+slice-aggregate-begins-with-6 c = search needs
+
+begins-with-requires-6 : tie.Need-begins-with-requires-6
+begins-with-requires-6 c κs = search needs
 
 sub-withdrawal : tie.Need-sub-withdrawal
 sub-withdrawal c = search (needs, told, long-withdraw)
@@ -80,12 +89,12 @@ part-withdrawal-end c = search needs
 withdrawal-requires : tie.Need-withdrawal-requires
 withdrawal-requires c κs = search needs
 
-returns-7 : tie.Need-returns-7
-returns-7 c =
-    parsed-withdrawal _ (search needs) (search (needs, told)) (search (needs, told)) (search (needs, told)) (search (needs, told)) (search (needs, told)) _ (c .withdrawal .ensures .0) (c .withdrawal .ensures .1 _)
-
 returns-8 : tie.Need-returns-8
-returns-8 c = search (needs, told, parsed-other)
+returns-8 c =
+    parsed-withdrawal _ (search needs) (search (needs, told)) (search (needs, told)) (search (needs, told)) (search (needs, told)) (search (needs, told)) (search (needs, told)) _ (c .withdrawal .ensures .0) (c .withdrawal .ensures .1 _)
+
+returns-9 : tie.Need-returns-9
+returns-9 c = search (needs, told, parsed-other)
 
 pub parse-spec : {M : Type 1} → statement M
 parse-spec =
@@ -101,20 +110,23 @@ parse-spec =
     returns-4
     slice-aggregate-begins-with-3
     begins-with-requires-3
+    returns-5
+    slice-aggregate-begins-with-4
+    begins-with-requires-4
     sub-opening
     part-opening-start
     part-opening-end
     opening-requires
-    returns-5
-    slice-aggregate-begins-with-4
-    begins-with-requires-4
-    delivery-requires
     returns-6
     slice-aggregate-begins-with-5
     begins-with-requires-5
+    delivery-requires
+    returns-7
+    slice-aggregate-begins-with-6
+    begins-with-requires-6
     sub-withdrawal
     part-withdrawal-start
     part-withdrawal-end
     withdrawal-requires
-    returns-7
-    returns-8)
+    returns-8
+    returns-9)

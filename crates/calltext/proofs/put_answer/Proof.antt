@@ -12,8 +12,8 @@ put-byte-requires c κs = search needs
 enum-known-answer : tie.Need-enum-known-answer
 enum-known-answer c = search needs
 
-put-load-requires : tie.Need-put-load-requires
-put-load-requires c κs = search needs
+put-install-requires : tie.Need-put-install-requires
+put-install-requires c κs = search needs
 
 enum-known-answer-2 : tie.Need-enum-known-answer-2
 enum-known-answer-2 c = search needs
@@ -58,7 +58,7 @@ same-length-2 : tie.Need-same-length-2
 same-length-2 c = search needs
 
 returns-2 : tie.Need-returns-2
-returns-2 c = rw (c .before .before .before .before .before .answer .given .1) (c .before .before .put-load .ensures)
+returns-2 c = rw (c .before .before .before .before .before .answer .given .1) (c .before .before .put-install .ensures)
 
 same-length-3 : tie.Need-same-length-3
 same-length-3 c = search needs
@@ -97,7 +97,7 @@ put-answer-spec =
     enum-told
     put-byte-requires
     enum-known-answer
-    put-load-requires
+    put-install-requires
     enum-known-answer-2
     put-open-requires
     enum-known-answer-3

@@ -21,7 +21,7 @@ bytes-of-requires c κs = search needs
 returns : tie.Need-returns
 returns c =
     let d = c .before .before .before .print-whole .ensures in
-    short d (rw (bytes-are d (c .before .bytes-of .ensures)) at (c .if1 .taken))
+    short d (omega (arith, bytes-are d (c .before .bytes-of .ensures), c .if1 .taken))
 
 array-share-prefix-text : tie.Need-array-share-prefix-text
 array-share-prefix-text c =
@@ -38,7 +38,7 @@ put-bytes-requires : tie.Need-put-bytes-requires
 put-bytes-requires c κs =
     let d = c .before .before .before .before .before .print-whole .ensures in
     let b = c .before .before .before .bytes-of .ensures in
-    rw (read-back d b) (omega (arith, rw (bytes-are d b) at (c .before .before .if1 .left)))
+    rw (read-back d b) (omega (arith, bytes-are d b, c .before .before .if1 .left))
 
 same-length : tie.Need-same-length
 same-length c = search needs
@@ -47,7 +47,7 @@ returns-2 : tie.Need-returns-2
 returns-2 c =
     let d = c .before .before .before .before .before .before .before .before .print-whole .ensures in
     let b = c .before .before .before .before .before .before .bytes-of .ensures in
-    copied d (rw (bytes-are d b) at (c .before .before .before .before .before .if1 .left)) (rw (read-back d b) at (c .before .before .put-bytes .ensures))
+    copied d (omega (arith, bytes-are d b, c .before .before .before .before .before .if1 .left)) (rw (read-back d b) at (c .before .before .put-bytes .ensures))
 
 pub print-dot-spec : {M : Type 1} → statement M
 print-dot-spec =

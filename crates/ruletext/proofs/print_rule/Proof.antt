@@ -4,7 +4,7 @@ use mathlib.Core.Option.{Option, none}
 use Prim.Native.Nat.{ℕ}
 use Rattle.ruleformat.specs.declared.ReadAnswer.the-variants.{Accepted, Refused}
 use Rattle.ruleformat.specs.Refusals.{refusal}
-use Rattle.ruleformat.specs.Reader.{readMeans, ruleBy, ruleOf}
+use Rattle.ruleformat.specs.Reader.{Reading, readMeans, ruleBy, ruleOf}
 use Rattle.build.specs.Building.{buildOf}
 use Rattle.ruletext.proofs.ForFile.{text-for, text-unread}
 use borrow.Author.Needs.{needs}
@@ -38,8 +38,8 @@ returns c =
     let g = c .before .before .before .before .before .before .before .before .read in
     let a = c .before .before .before .before .build-rule in
     let e : g .result .answer ≡ Accepted = c .before .before .before .before .before .enum-told .given .1 in
-    let n : refusal f ≡ none = sym (g .ensures .answer) ∙ ap readMeans e in
-    let r : g .result .rule ≡ ruleOf f = g .ensures .rule ∙ ap (λ (o : Option ℕ). ruleBy o f) n in
+    let n : refusal f ≡ none = ap (λ (x : Reading). x .number) (sym (g .ensures)) ∙ ap readMeans e in
+    let r : g .result .rule ≡ ruleOf f = ap (λ (x : Reading). x .rule) (g .ensures) ∙ ap (λ (o : Option ℕ). ruleBy o f) n in
     rw (← text-for f n (a .result) (a .ensures ∙ ap buildOf r)) (c .before .before .print-building .ensures)
 
 same-length-2 : tie.Need-same-length-2
@@ -51,7 +51,7 @@ returns-2 c =
     let g = c .before .before .before .before .before .before .before .before .read in
     let x = c .before .before .before .before .before .answer .given in
     let e : g .result .answer ≡ Refused (x .0 .0) = x .1 in
-    rw (← text-unread f (x .0 .0) (sym (g .ensures .answer) ∙ ap readMeans e)) (c .before .before .print-refused .ensures)
+    rw (← text-unread f (x .0 .0) (ap (λ (x : Reading). x .number) (sym (g .ensures)) ∙ ap readMeans e)) (c .before .before .print-refused .ensures)
 
 pub print-rule-spec : {M : Type 1} → statement M
 print-rule-spec =

@@ -1,5 +1,6 @@
 -- `main` meets its contract. Assumes nothing.
 use Rattle.text.proofs.Rooms.{made, has-room}
+use mathlib.Core.Path.{sym}
 use borrow.Author.Needs.{needs}
 use Rattle.tracejudge.proofs.main.Statement.{statement}
 use Rattle.tracejudge.proofs.main.Tie as tie
@@ -14,16 +15,16 @@ returns : tie.Need-returns
 returns c = search needs
 
 slice-aggregate-run : tie.Need-slice-aggregate-run
-slice-aggregate-run c = search needs
+slice-aggregate-run c = sym (made 131104)
 
 slice-aggregate-run-2 : tie.Need-slice-aggregate-run-2
-slice-aggregate-run-2 c = search needs
+slice-aggregate-run-2 c = sym (made 65537)
 
 slice-aggregate-run-3 : tie.Need-slice-aggregate-run-3
-slice-aggregate-run-3 c = search needs
+slice-aggregate-run-3 c = sym (made 393216)
 
 slice-aggregate-run-4 : tie.Need-slice-aggregate-run-4
-slice-aggregate-run-4 c = search needs
+slice-aggregate-run-4 c = sym (made 65536)
 
 run-requires : tie.Need-run-requires
 run-requires c κs = (has-room 131104 0 (made 131104), has-room 65537 0 (made 65537), has-room 96 393120 (made 393216))

@@ -1,0 +1,48 @@
+-- `put_line` meets its contract. Assumes nothing.
+use native.Mathlib.Omega.{arith}
+use Rattle.text.proofs.Rooms.{exact, two}
+use borrow.Author.Needs.{needs}
+use Rattle.dotgraph.proofs.put_line.Statement.{statement}
+use Rattle.dotgraph.proofs.put_line.Tie as tie
+
+put-arrow-requires : tie.Need-put-arrow-requires
+put-arrow-requires c κs = search needs
+
+slice-aggregate-put-bytes : tie.Need-slice-aggregate-put-bytes
+slice-aggregate-put-bytes c = search needs
+
+put-bytes-requires : tie.Need-put-bytes-requires
+put-bytes-requires c κs = search needs
+
+put-label-requires : tie.Need-put-label-requires
+put-label-requires c κs = search needs
+
+slice-aggregate-put-bytes-2 : tie.Need-slice-aggregate-put-bytes-2
+slice-aggregate-put-bytes-2 c = search needs
+
+put-bytes-requires-2 : tie.Need-put-bytes-requires-2
+put-bytes-requires-2 c κs = search needs
+
+same-length : tie.Need-same-length
+same-length c = search needs
+
+returns : tie.Need-returns
+returns c =
+    let h = c .before .before .before .before .before .before .before .before .before .before .before .before .before .before .before .before .before .before .before .pre in
+    let w = c .before .before .before .before .before .before .before .put-label .ensures in
+    two 8 61 (h .3) (c .before .before .before .before .before .before .before .before .before .before .before .before .before .before .before .before .put-arrow .ensures)
+    (λ h0. two 9 52 h0 (exact (c .before .before .before .before .before .before .before .before .before .before .before .put-bytes .ensures))
+    (λ h1. two 48 4 h1 (w .0, omega (arith, h .0, w .1)) (λ h2. exact (c .before .before .put-bytes2 .ensures))))
+
+pub put-line-spec : {M : Type 1} → statement M
+put-line-spec =
+    tie.close
+    (tie.spec
+    put-arrow-requires
+    slice-aggregate-put-bytes
+    put-bytes-requires
+    put-label-requires
+    slice-aggregate-put-bytes-2
+    put-bytes-requires-2
+    same-length
+    returns)
