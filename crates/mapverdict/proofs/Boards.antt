@@ -17,7 +17,7 @@ use Rattle.base.specs.Lists.{joined}
 use Rattle.base.specs.Options.{isNone}
 use Rattle.base.specs.Totals.{total}
 use Rattle.base.proofs.Conditions.{outside-law}
-use Rattle.base.proofs.Lists.{joined-same}
+use Rattle.base.proofs.Lists.{joined-same, joined-first}
 use Rattle.base.proofs.Tests.{zero-one}
 use Rattle.base.proofs.Totals.{total-most, term-most}
 use Rattle.marks.specs.Marks.{textOf}
@@ -82,11 +82,6 @@ filled h r rule board empty =
     )
 
 -- ---- its text
-joined-first : (p : ℕ → List ℕ) (n : ℕ) → joined p (suc n) ≡ p 0 ++ joined (λ i. p (suc i)) n
-unfolding joined
-joined-first p zero = sym (append-nil (p 0))
-joined-first p (suc n) = ap (λ (x : List ℕ). x ++ p (suc n)) (joined-first p n) ∙ append-assoc (p 0) (joined (λ i. p (suc i)) n) (p (suc n))
-
 joined-list : (ws : List (List ℕ)) → joined (λ p. textOf (getD ws p [])) (length ws) ≡ flatten (map textOf ws)
 unfolding joined flatten
 joined-list [] = refl
