@@ -69,7 +69,8 @@ pub fn nothing_built() -> Profile
     }
 }
 
-fn refuse_rule(number: u8) -> BuildResult
+// Refused with that number.
+pub fn refuse_rule(number: u8) -> BuildResult
     ensures { λ r. ⌜ buildOutcome r ≡ refusedBuild number ⌝ }
 {
     let answer = BuildAnswer::Refused(number);
