@@ -7,6 +7,7 @@
 --   stored, cell-stored       one cell more: what holds of each cell passed, and what each has
 --   each-stored               one cell changed: what holds of every cell
 --   joined-none, joined-suc, joined-more      no part, and one part more
+--   joined-first              one part more before the others
 --   joined-same               equal parts make equal lists
 --   joined-length, length-exact, length-joined   the length, by that of each part
 --   joined-split              part i stands after those before it
@@ -94,6 +95,12 @@ module _ (p : ℕ → List ℕ) where
 
   pub joined-more : (i : ℕ) → joined p (i + 1) ≡ joined p i ++ p i
   joined-more i = rw add-one (joined-suc i)
+
+  pub joined-first : (n : ℕ) → joined p (suc n) ≡ p 0 ++ joined (λ i. p (suc i)) n
+  unfolding joined
+  joined-first zero = sym (append-nil (p 0))
+  joined-first (suc n) =
+      ap (λ (x : List ℕ). x ++ p (suc n)) (joined-first n) ∙ append-assoc (p 0) (joined (λ i. p (suc i)) n) (p (suc n))
 
   -- parts of c members each
   pub length-exact : (n c : ℕ) → ((i : ℕ) → i < n → length (p i) ≡ c) → length (joined p n) ≡ n * c

@@ -62,7 +62,7 @@ kept : (t : Bool) (o : Option (List ℕ)) (w : List ℕ) → cond t none o ≡ s
 kept true o w e = zero-one cc
 kept false o w e = e
 
-standing-short : (h : List Call) (p : ℕ) (w : List ℕ) → standing h p ≡ some w → length w ≤ 65536
+pub standing-short : (h : List Call) (p : ℕ) (w : List ℕ) → standing h p ≡ some w → length w ≤ 65536
 unfolding standing
 standing-short [] p w e = zero-one cc
 standing-short (installs r ∷ h) p w e = standing-short h p w (kept (isNone (installNumber r)) (standing h p) w e)

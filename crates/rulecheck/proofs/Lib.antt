@@ -2,4 +2,5 @@
 pub mod Targets
 pub mod Laws
 pub mod Examples
+pub mod First
 pub mod Claims

@@ -1,8 +1,6 @@
 -- In the order in which they build on each other.
-pub mod Numbers
 pub mod Arrays
 pub mod Singles
-pub mod Table
 pub mod Turns
 pub mod Tables
 pub mod Claims

@@ -12,9 +12,10 @@ use lib.Seq.{getD-take}
 use Rattle.base.proofs.Tests.{by-test}
 use Rattle.masks.specs.Masks.{single}
 use Rattle.subsets.specs.Sets.{indexOf}
-use Rattle.subsets.specs.Singles.{foundIn, singletonNumber}
+use Rattle.numbering.specs.Arrays.{foundIn}
+use Rattle.subsets.specs.Singles.{singletonNumber}
 use Rattle.numbering.proofs.Numbers.{Has, number-le, number-at, stands}
-use Rattle.subsets.proofs.Arrays.{found-has, found-not}
+use Rattle.numbering.proofs.Arrays.{found-has, found-not}
 
 module _ (sets : List ℕ) (count q : ℕ) where
   abbrev among : List ℕ

@@ -1,87 +1,42 @@
--- The loops of `expand` and `fill`, turn by turn and way out by way out, over plain lists: what is
--- left to do comes to the same list after each turn, and the arrays hold the sets so far. Assumes
--- nothing.
+-- The loop of `fill`, turn by turn and way out by way out, over plain lists: what is left to do
+-- comes to the same list after each turn, and the arrays hold the sets so far. That of `expand` is
+-- numbering's (its proofs/Turns.antt). Assumes nothing.
 --
---   turn-..                   set i is expanded by the next symbol
---   grown-whole, grown-over   the ways out of `expand`
+--   column                    a step goes to a cell of the set's own row
 --   state-..                  the turn of {q}
 --   states-.., answered-..    the loop over the states, and its ways out
-use mathlib.Core.Path.{_≡_, sym, ap, _∙_, subst}
-use mathlib.Core.List.{List, []}
-use Prim.Native.Nat.{ℕ, _+_, _-_, _*_, _≤_, _<_, min}
+use mathlib.Core.Path.{_≡_, refl, sym, ap, _∙_, subst}
+use mathlib.Core.Bool.{false}
+use mathlib.Core.List.{List}
+use Prim.Native.Nat.{ℕ, _+_, _*_, _/_, _%_, _≤_, _<_, min}
 use native.Mathlib.Numerals.{add-one}
 use native.Mathlib.Omega.{arith}
-use lib.ListN.{length, getD, take}
-use borrow.Author.Tests.{lt-ltb, le-ltb, ltb-false}
-use Rattle.base.proofs.Lists.{length-listFrom, cell-of}
+use lib.ListN.{length, take}
+use borrow.Author.Tests.{eqb-false, lt-ltb, le-ltb, ltb-false}
+use Rattle.base.proofs.Lists.{same-list}
 use Rattle.masks.specs.Masks.{single}
+use Rattle.automaton.specs.Successor.{successor}
 use Rattle.numbering.specs.Numbering.{keysUpTo}
-use Rattle.numbering.specs.Begins.{Begins}
-use Rattle.numbering.proofs.Numbers.{begins-trans, begins-length, begins-at}
-use Rattle.numbering.proofs.Closure.{expand-begins, close-begins, upTo-begins, symbols-more}
+use Rattle.numbering.specs.Arrays.{cellTo}
+use Rattle.numbering.proofs.Numbers.{begins-length, numbered-begins}
+use Rattle.numbering.proofs.Closure.{close-begins, upTo-begins}
+use Rattle.numbering.proofs.Arrays as arrays
+use Rattle.numbering.proofs.Table.{holds-more, next-whole, row-test}
+use Rattle.numbering.proofs.Turns.{grown-over, grown-read}
 use Rattle.subsets.specs.declared.SetNumber.{SetNumber}
 use Rattle.subsets.specs.declared.Numbered.{Numbered}
 use Rattle.subsets.specs.declared.Numbered.the-variants.{As, Full}
 use Rattle.subsets.specs.declared.Numbering.{Numbering}
 use Rattle.subsets.specs.declared.Numbering.the-variants.{Whole, Over}
-use Rattle.subsets.specs.Sets.{setWalk, indexOf, numbered, expandFrom, setsUpTo, setsOf, tooMany}
-use Rattle.subsets.specs.Answer.{counted}
-use Rattle.subsets.specs.Steps.{Entered, target, afterStep, Stepped, ArraysHold, Grown, closedFrom, grownBy, Cleared, Answered}
-use Rattle.subsets.proofs.Numbers.{numbered-begins}
-use Rattle.subsets.proofs.Arrays.{count-is, limited-whole, limited-over, whole-of, over-of, entered-as, entered-over}
-use Rattle.subsets.proofs.Table.{read-back, step-holds, holds-more, next-whole}
+use Rattle.subsets.specs.Sets.{isEmpty, setWalk, indexOf, numbered, setsUpTo, setsOf, tooMany, nextSet, nextCells}
+use Rattle.subsets.specs.Answer.{numberingMeans, turnMeans}
+use Rattle.subsets.specs.Steps.{told, turnTold, Entered, ArraysHold, Grown, closedFrom, grownBy, Answered}
+use Rattle.subsets.proofs.Arrays.{symbol-lt}
+
+pub column : (ts : List ℕ) (m s : ℕ) → isEmpty (successor ts m s) ≡ false → s < 16
+column ts m s ne = symbol-lt ts (successor ts m s) m s refl (eqb-false (successor ts m s) 0 ne)
 
 module _ (ts : List ℕ) (k : ℕ) where
-  -- the sets l after set i is expanded from symbol s on
-  abbrev pub expanded : ℕ → ℕ → List ℕ → List ℕ
-  expanded i s l = expandFrom ts k (getD l i 0) s (k - s) l
-
-  -- ---- a step within set i, at symbol s
-  module _ (l : List ℕ) (i s : ℕ) (below : i < length l) (symbol : s < k) where
-    step-expanded : expanded i s l ≡ expanded i (s + 1) (afterStep ts l i s)
-    step-expanded =
-        symbols-more (setWalk ts k) (getD l i 0) s l symbol
-        ∙ ap (λ (x : ℕ). expandFrom ts k x (s + 1) (k - (s + 1)) (afterStep ts l i s)) (sym (begins-at (numbered-begins l (target ts l i s)) i below))
-
-    step-begins : Begins (afterStep ts l i s) (expanded i s l)
-    step-begins =
-        subst (Begins (afterStep ts l i s)) (sym step-expanded) (expand-begins (setWalk ts k) (getD (afterStep ts l i s) i 0) (s + 1) (k - (s + 1)) (afterStep ts l i s))
-
-    module _ {r : Numbering} {sets′ next next′ : List ℕ} (st : Stepped ts l i s r sets′ next next′) where
-      module _ {sets : List ℕ} (h : ArraysHold ts k l (i * 16 + min s 16) sets next) (c : ℕ) (whole : r ≡ Whole c) where
-        after : (length (afterStep ts l i s) ≤ 512) × (c ≡ length (afterStep ts l i s))
-        after = whole-of (afterStep ts l i s) r c (st .count) whole
-
-        read : take c sets′ ≡ afterStep ts l i s
-        read = read-back (afterStep ts l i s) sets′ c (after .0) (after .1) (st .sets-are (after .0))
-
-        pub turn-whole : (c ≤ 512) × (i < c) × ArraysHold ts k (take c sets′) (i * 16 + min (s + 1) 16) sets′ next′
-            × (expanded i s l ≡ expanded i (s + 1) (take c sets′))
-        turn-whole = (
-          omega (arith, after),
-          omega (arith, after, begins-length (numbered-begins l (target ts l i s))),
-          rw read (step-holds ts k l i s below symbol h st (after .0)),
-          step-expanded ∙ ap (expanded i (s + 1)) (sym read),
-        )
-
-      pub turn-over : r ≡ Over → (w : List ℕ) → Begins (expanded i s l) w → 512 < length w
-      turn-over over w b =
-          let o = over-of (afterStep ts l i s) r (st .count) over in
-          omega (arith, begins-length (begins-trans step-begins b))
-
-  -- ---- the ways out
-  pub grown-whole : (f sets next : List ℕ) (count : ℕ) → count ≤ 512 → f ≡ take count sets → ArraysHold ts k (take count sets) (count * 16) sets next
-      → Grown ts k f (Whole count) sets next
-  grown-whole f sets next count most e h =
-      let n : length f ≡ count = ap length e ∙ count-is sets count most (h .sets-are) in
-      record {
-        count = ap counted (sym n) ∙ limited-whole f (omega arith);
-        held = λ _. rw (n, e) h;
-      }
-
-  pub grown-over : (f sets next : List ℕ) → 512 < length f → Grown ts k f Over sets next
-  grown-over f sets next b = record { count = limited-over f b; held = λ h. absurd (omega arith) }
-
   -- ---- the turn of {q}
   module _ (sets next : List ℕ) (count q m : ℕ) (most : count ≤ 512) (h : ArraysHold ts k (take count sets) (count * 16) sets next) (is : m ≡ single q)
       (r : Numbered) (sets′ : List ℕ) (entered : Entered (take count sets) m r sets′) where
@@ -89,22 +44,22 @@ module _ (ts : List ℕ) (k : ℕ) where
     before = take count sets
 
     before-is : length before ≡ count
-    before-is = count-is sets count most (h .sets-are)
+    before-is = arrays.count-is sets count most (h .keys-are)
 
     module _ (j : SetNumber) (c : ℕ) (known : r ≡ As j c) where
       a : (length (numbered before m) ≤ 512) × (j .0 ≡ indexOf (numbered before m) m) × (c ≡ length (numbered before m))
-      a = entered-as before m r sets′ entered j c known
+      a = arrays.entered-as isEmpty before m (j .0) c (sym (ap (λ (x : Numbered). turnTold (turnMeans x)) known) ∙ entered .number)
 
       read-state : take c sets′ ≡ numbered before m
-      read-state = read-back (numbered before m) sets′ c (a .0) (a .2) (entered .sets-are (a .0))
+      read-state = arrays.read-back (numbered before m) sets′ c (a .0) (a .2) (entered .keys-are (a .0))
 
       pub state-asked : (c ≤ 512) × (count ≤ c) × ArraysHold ts k (take c sets′) (count * 16) sets′ next
       state-asked =
-          let b = begins-length (numbered-begins before m) in
+          let b = begins-length (numbered-begins isEmpty before m) in
           let n = before-is in (
             omega (arith, a),
             omega (arith, a),
-            rw read-state (holds-more ts k h (numbered before m) sets′ (numbered-begins before m) (entered .sets-are (a .0))),
+            rw read-state (holds-more (setWalk ts k) 512 h (numbered before m) sets′ (numbered-begins isEmpty before m) (entered .keys-are (a .0))),
           )
 
       pub state-grown : (r₂ : Numbering) (sets₂ next₂ : List ℕ) → Grown ts k (closedFrom ts k count (take c sets′)) r₂ sets₂ next₂
@@ -116,21 +71,12 @@ module _ (ts : List ℕ) (k : ℕ) where
 
     pub state-over : (next₂ : List ℕ) → r ≡ Full → Grown ts k (grownBy ts k q before) Over sets′ next₂
     state-over next₂ e =
-        let o : 512 < length (numbered before (single q)) = subst (λ (x : ℕ). 512 < length (numbered before x)) is (entered-over before m r sets′ entered e) in
-        grown-over (grownBy ts k q before) sets′ next₂
+        let o : 512 < length (numbered before (single q)) =
+        subst (λ (x : ℕ). 512 < length (numbered before x)) is (arrays.entered-over isEmpty before m (sym (ap (λ (x : Numbered). turnTold (turnMeans x)) e) ∙ entered .number)) in
+        grown-over (setWalk ts k) 512 (grownBy ts k q before) sets′ next₂
         (omega (arith, begins-length (close-begins (setWalk ts k) 512 (length before) (numbered before (single q)))))
 
   -- ---- the states
-  pub begin : (sets next : List ℕ) → Cleared sets next → ArraysHold ts k [] 0 sets next
-  begin sets next h = record {
-    sets-are = h .sets-are;
-    next-long = ap length (h .next-are) ∙ length-listFrom 0 8192 (λ _. 512);
-    cells = λ f g c b.
-        ap (λ (x : List ℕ). getD x c 0) (h .next-are)
-        ∙ cell-of 8192 (λ _. 512) c 0 b
-        ∙ rw (le-ltb c 0 (omega arith));
-  }
-
   module _ (q : ℕ) (l : List ℕ) (is : l ≡ setsUpTo ts k q) (r : Numbering) (sets next : List ℕ) (g : Grown ts k (grownBy ts k q l) r sets next) where
     grown-is : grownBy ts k q l ≡ setsUpTo ts k (q + 1)
     unfolding keysUpTo
@@ -138,13 +84,11 @@ module _ (ts : List ℕ) (k : ℕ) where
 
     pub states-more : (c : ℕ) → r ≡ Whole c → (c ≤ 512) × (take c sets ≡ setsUpTo ts k (q + 1)) × ArraysHold ts k (take c sets) (c * 16) sets next
     states-more c e =
-        let f = grownBy ts k q l in
-        let a = whole-of f r c (g .count) e in
-        let read : take c sets ≡ f = read-back f sets c (a .0) (a .1) (g .held (a .0) .sets-are) in
-        (omega arith, read ∙ grown-is, rw (read, a .1) (g .held (a .0)))
+        let x = grown-read (setWalk ts k) 512 c (subst (λ (y : Numbering). Grown ts k (grownBy ts k q l) y sets next) e g) in
+        (x .0, x .1 ∙ grown-is, x .2)
 
     pub states-over : r ≡ Over → 512 < length (setsUpTo ts k (q + 1))
-    states-over e = rw grown-is at (over-of (grownBy ts k q l) r (g .count) e)
+    states-over e = rw grown-is at (arrays.over-of (grownBy ts k q l) (sym (ap (λ (x : Numbering). told (numberingMeans x)) e) ∙ g .count))
 
   module _ (n : ℕ) (sets next : List ℕ) where
     pub answered-over : (q : ℕ) → q < min n 32 → 512 < length (setsUpTo ts k (q + 1)) → Answered ts n k Over sets next
@@ -158,14 +102,22 @@ module _ (ts : List ℕ) (k : ℕ) where
           next-are = λ e. absurd (omega (arith, ltb-false 512 (length f) e));
         }
 
+    -- the cells are those of the table
+    cells-are : ArraysHold ts k (setsOf ts n k) (length (setsOf ts n k) * 16) sets next → next ≡ nextCells ts n k
+    unfolding nextSet
+    cells-are h =
+        let f = setsOf ts n k in
+        next-whole (setWalk ts k) 512 f sets next h
+        ∙ same-list 8192 (cellTo (setWalk ts k) 512 f (length f * 16)) (λ c. nextSet ts n k (c / 16) (c % 16)) (λ c b. rw (row-test (length f) c))
+
     pub answered-whole : (c : ℕ) → c ≤ 512 → take c sets ≡ setsUpTo ts k (min n 32) → ArraysHold ts k (take c sets) (c * 16) sets next → Answered ts n k (Whole c) sets next
     unfolding tooMany setsOf
     answered-whole c most e h =
         let f = setsUpTo ts k (min n 32) in
-        let l : length f ≡ c = sym (ap length e) ∙ count-is sets c most (h .sets-are) in
+        let l : length f ≡ c = sym (ap length e) ∙ arrays.count-is sets c most (h .keys-are) in
         let held : ArraysHold ts k f (length f * 16) sets next = rw (l, ← e) h in
         record {
           count = rw (le-ltb 512 (length f) (omega arith), l);
-          sets-are = λ _. held .sets-are;
-          next-are = λ _. next-whole ts n k sets next held;
+          sets-are = λ _. held .keys-are;
+          next-are = λ _. cells-are held;
         }

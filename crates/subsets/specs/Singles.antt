@@ -2,8 +2,7 @@
 -- 01, "Sets and their order"). `sets` is the array of numbered sets, of which the first `count`
 -- cells are in use.
 --
---   foundIn l m                    the number of the set m among the sets l, or none
---   foundMeans                        what each case of the search's answer says: a number, or none
+--   foundMeans                     what each case of the search's answer says: a number, or none
 --   singletonNumber sets count q   the number of {q}, or 512, which stands for the empty set
 --   singlesOf sets count           that number for each of the 32 states
 use mathlib.Core.Bool.{cond}
@@ -11,16 +10,13 @@ use mathlib.Core.List.{List}
 use mathlib.Core.Option.{Option, none, some}
 use Prim.Native.Nat.{ℕ}
 use lib.Dec.{ltb}
-use lib.ListN.{length, take}
+use lib.ListN.{take}
 use Rattle.limits.specs.Limits.{mostStates, emptySet}
 use Rattle.base.specs.Lists.{listFrom}
 use Rattle.masks.specs.Masks.{single}
 use Rattle.subsets.specs.declared.Found.{Found}
 use Rattle.subsets.specs.declared.Found.the-variants.{At, Nothing}
 use Rattle.subsets.specs.Sets.{indexOf}
-
-abbrev pub foundIn : List ℕ → ℕ → Option ℕ
-foundIn l m = cond (ltb (indexOf l m) (length l)) (some (indexOf l m)) none
 
 abbrev pub foundMeans : Found → Option ℕ
 foundMeans (At number) = some (number .0)

@@ -14,7 +14,7 @@ number-requires : tie.Need-number-requires
 number-requires c κs =
     let s = c .before .before in
     let a = s .args in
-    (s .pre .1, s .pre .2 .sets-are, λ z. omega (arith, c .singleton .ensures, pow-pos (a .q .0)))
+    (s .pre .1, s .pre .2 .keys-are, λ z. omega (arith, c .singleton .ensures, pow-pos (a .q .0)))
 
 enum-known-after : tie.Need-enum-known-after
 enum-known-after c = search needs

@@ -9,19 +9,22 @@ use Prim.Native.Nat.{ℕ, _+_, _-_, _*_, _≤_, _<_, min}
 use native.Mathlib.Omega.{arith}
 use lib.ListN.{length, getD, take}
 use borrow.Author.Needs.{needs}
-use Rattle.numbering.proofs.Closure.{close-begins, symbols-end, keys-more, keys-end}
+use Rattle.numbering.proofs.Closure.{keys-end}
 use Rattle.subsets.specs.Sets.{setWalk, closeFrom}
-use Rattle.subsets.specs.Steps.{ArraysHold}
-use Rattle.subsets.proofs.Arrays.{count-is}
-use Rattle.subsets.proofs.Table.{row-begins, row-ends}
-use Rattle.subsets.proofs.Turns.{expanded, turn-whole, turn-over, grown-whole, grown-over}
+use Rattle.subsets.specs.declared.Numbering.{Numbering}
+use Rattle.subsets.specs.Answer.{numberingMeans}
+use Rattle.subsets.specs.Steps.{told, ArraysHold}
+use Rattle.numbering.proofs.Arrays.{count-is}
+use Rattle.numbering.proofs.Table.{row-begins, row-ends}
+use Rattle.numbering.proofs.Turns.{expanded, turn-whole, row-done, row-over, grown-whole, grown-over}
+use Rattle.subsets.proofs.Turns.{column}
 use Rattle.subsets.proofs.expand.Statement.{statement}
 use Rattle.subsets.proofs.expand.Tie as tie
 
 abbrev Inv-loop : tie.InvT-loop
 Inv-loop targets k sets₀ next₀ from count₀ i symbol₀ sets next count symbol =
     (count ≤ 512) × (i < count) × (symbol ≤ k) × ArraysHold targets k (take count sets) (i * 16 + min symbol 16) sets next
-    × (expanded targets k i 0 (take count₀ sets₀) ≡ expanded targets k i symbol (take count sets))
+    × (expanded (setWalk targets k) i 0 (take count₀ sets₀) ≡ expanded (setWalk targets k) i symbol (take count sets))
 
 abbrev μ-loop : tie.MeasureT-loop
 μ-loop targets k sets₀ next₀ from count₀ i symbol₀ sets next count symbol = k - symbol
@@ -48,7 +51,7 @@ loop-holds : tie.Need-loop-holds Inv-loop μ-loop Inv-expand μ-expand
 loop-holds c =
     let x = c .before .expand in
     let a = c .before .before .before .args in
-    (x .inv .0, omega arith, omega arith, row-begins (a .targets .now) (a .k) (x .i) (x .inv .3), refl)
+    (x .inv .0, omega arith, omega arith, row-begins (setWalk (a .targets .now) (a .k)) 512 (x .i) (x .inv .3), refl)
 
 cast-t18 : tie.Need-cast-t18 Inv-loop μ-loop Inv-expand μ-expand
 cast-t18 c = omega arith
@@ -56,7 +59,7 @@ cast-t18 c = omega arith
 step-requires : tie.Need-step-requires Inv-loop μ-loop Inv-expand μ-expand
 step-requires c κs =
     let e = c .before .before .before .loop in
-    (e .inv .0, e .inv .3 .sets-are, e .inv .1)
+    (e .inv .0, e .inv .3 .keys-are, e .inv .1)
 
 enum-known-after : tie.Need-enum-known-after Inv-loop μ-loop Inv-expand μ-expand
 enum-known-after c = search needs
@@ -77,10 +80,10 @@ loop-again c =
     let a = c .before .before .before .before .before .before .before .before .before .before .before .args in
     let w = c .before .before .before .step in
     let l = take (e .count) (e .sets) in
-    let below : i < length l = rw (count-is (e .sets) (e .count) (e .inv .0) (e .inv .3 .sets-are)) (e .inv .1) in
+    let below : i < length l = rw (count-is (e .sets) (e .count) (e .inv .0) (e .inv .3 .keys-are)) (e .inv .1) in
     let symbol : e .symbol < a .k = omega arith in
     let v = c .before .after .given in
-    let m = turn-whole (a .targets .now) (a .k) l i (e .symbol) below symbol (w .ensures) (e .inv .3) (v .0 .0) (v .1) in
+    let m = turn-whole (setWalk (a .targets .now) (a .k)) 512 l i (e .symbol) below symbol (w .ensures) (column (a .targets .now) (getD l i 0) (e .symbol)) (e .inv .3) (v .0 .0) (ap (λ (x : Numbering). told (numberingMeans x)) (v .1)) in
     (m .0, m .1, omega arith, m .2, e .inv .4 ∙ m .3)
 
 add-i : tie.Need-add-i Inv-loop μ-loop Inv-expand μ-expand
@@ -94,17 +97,14 @@ expand-again c =
     let e = c .before .loop in
     let x = c .before .before .before .expand in
     let a = c .before .before .before .before .before .args in
-    let top : ℕ = 512 + a .first .0 in
-    let l = take (x .count) (x .sets) in
-    let n : length l ≡ x .count = count-is (x .sets) (x .count) (x .inv .0) (x .inv .3 .sets-are) in (
+    let l₀ = take (x .count) (x .sets) in
+    let n : length l₀ ≡ x .count = count-is (x .sets) (x .count) (x .inv .0) (x .inv .3 .keys-are) in (
       e .inv .0,
       omega arith,
       omega arith,
-      row-ends (a .targets .now) (a .k) (x .i) (e .symbol) (c .loop-test .left) (e .inv .3),
+      row-ends (setWalk (a .targets .now) (a .k)) 512 (x .i) (e .symbol) (c .loop-test .left) (e .inv .3),
       x .inv .4
-          ∙ keys-more (setWalk (a .targets .now) (a .k)) top (x .i) l (omega arith) (omega arith)
-          ∙ ap (closeFrom (a .targets .now) (a .k) (top - (x .i + 1)) (x .i + 1))
-          (e .inv .4 ∙ symbols-end (setWalk (a .targets .now) (a .k)) (getD (take (e .count) (e .sets)) (x .i) 0) (e .symbol) (take (e .count) (e .sets)) (c .loop-test .left)),
+          ∙ row-done (setWalk (a .targets .now) (a .k)) 512 (512 + a .first .0) (x .i) (e .symbol) l₀ (take (e .count) (e .sets)) (omega arith) (omega arith) (e .inv .4) (c .loop-test .left),
     )
 
 returns : tie.Need-returns Inv-loop μ-loop Inv-expand μ-expand
@@ -112,8 +112,8 @@ returns c =
     let x = c .before .expand in
     let a = c .before .before .before .args in
     let l = take (x .count) (x .sets) in
-    let n : length l ≡ x .count = count-is (x .sets) (x .count) (x .inv .0) (x .inv .3 .sets-are) in
-    grown-whole (a .targets .now) (a .k) (closeFrom (a .targets .now) (a .k) 512 (a .first .0) (take (a .from) (a .sets .now))) (x .sets) (x .next) (x .count)
+    let n : length l ≡ x .count = count-is (x .sets) (x .count) (x .inv .0) (x .inv .3 .keys-are) in
+    grown-whole (setWalk (a .targets .now) (a .k)) 512 (closeFrom (a .targets .now) (a .k) 512 (a .first .0) (take (a .from) (a .sets .now))) (x .sets) (x .next) (x .count)
     (x .inv .0)
     (x .inv .4 ∙ keys-end (setWalk (a .targets .now) (a .k)) (512 + a .first .0 - x .i) (x .i) l (omega arith))
     (rw (c .if1 .taken) at (x .inv .3))
@@ -124,20 +124,15 @@ returns-2 c =
     let x = c .before .before .before .before .before .before .before .before .expand in
     let a = c .before .before .before .before .before .before .before .before .before .before .args in
     let w = c .before .before .step in
-    let top : ℕ = 512 + a .first .0 in
     let l₀ = take (x .count) (x .sets) in
-    let n₀ : length l₀ ≡ x .count = count-is (x .sets) (x .count) (x .inv .0) (x .inv .3 .sets-are) in
+    let n₀ : length l₀ ≡ x .count = count-is (x .sets) (x .count) (x .inv .0) (x .inv .3 .keys-are) in
     let l = take (e .count) (e .sets) in
-    let below : x .i < length l = rw (count-is (e .sets) (e .count) (e .inv .0) (e .inv .3 .sets-are)) (e .inv .1) in
-    let f = closeFrom (a .targets .now) (a .k) (top - (x .i + 1)) (x .i + 1) (expanded (a .targets .now) (a .k) (x .i) (e .symbol) l) in
-    let same : closeFrom (a .targets .now) (a .k) 512 (a .first .0) (take (a .from) (a .sets .now)) ≡ f =
-    x .inv .4
-    ∙ keys-more (setWalk (a .targets .now) (a .k)) top (x .i) l₀ (omega arith) (omega arith)
-    ∙ ap (closeFrom (a .targets .now) (a .k) (top - (x .i + 1)) (x .i + 1)) (e .inv .4) in
+    let n : length l ≡ e .count = count-is (e .sets) (e .count) (e .inv .0) (e .inv .3 .keys-are) in
+    let f = closeFrom (a .targets .now) (a .k) (512 + a .first .0 - x .i) (x .i) l₀ in
     let long : 512 < length f =
-    turn-over (a .targets .now) (a .k) l (x .i) (e .symbol) below (omega arith) (w .ensures) (c .enum-told .given .1) f
-    (close-begins (setWalk (a .targets .now) (a .k)) (top - (x .i + 1)) (x .i + 1) (expanded (a .targets .now) (a .k) (x .i) (e .symbol) l)) in
-    rw same (grown-over (a .targets .now) (a .k) f (w .last .1 .0) (w .last .1 .1 .0) long)
+    row-over (setWalk (a .targets .now) (a .k)) 512 (512 + a .first .0) (x .i) (e .symbol) l₀ l (omega arith) (omega arith) (e .inv .4) (omega arith) (omega arith) (w .ensures)
+    (ap (λ (y : Numbering). told (numberingMeans y)) (c .enum-told .given .1)) in
+    rw (x .inv .4) (grown-over (setWalk (a .targets .now) (a .k)) 512 f (w .last .1 .0) (w .last .1 .1 .0) long)
 
 pub expand-spec : {M : Type 1} → statement M
 expand-spec =

@@ -7,9 +7,10 @@ use native.Mathlib.Omega.{arith}
 use lib.ListN.{take}
 use borrow.Author.Needs.{needs}
 use Rattle.numbering.specs.Numbering.{keysUpTo}
-use Rattle.subsets.specs.Sets.{setsUpTo}
+use Rattle.numbering.proofs.Turns.{begin}
+use Rattle.subsets.specs.Sets.{setWalk, setsUpTo}
 use Rattle.subsets.specs.Steps.{ArraysHold}
-use Rattle.subsets.proofs.Turns.{begin, states-more, states-over, answered-over, answered-whole}
+use Rattle.subsets.proofs.Turns.{states-more, states-over, answered-over, answered-whole}
 use Rattle.subsets.proofs.fill.Statement.{statement}
 use Rattle.subsets.proofs.fill.Tie as tie
 
@@ -29,7 +30,7 @@ unfolding keysUpTo
 loop-holds c =
     let s = c .before in
     let a = s .args in
-    (c .at-most-u8 .ensures, omega arith, omega arith, refl, begin (a .targets .now) (a .k) (a .sets .now) (a .next .now) (s .pre))
+    (c .at-most-u8 .ensures, omega arith, omega arith, refl, begin (setWalk (a .targets .now) (a .k)) 512 (a .sets .now) (a .next .now) (s .pre))
 
 add-state-requires : tie.Need-add-state-requires Inv-loop μ-loop
 add-state-requires c κs =

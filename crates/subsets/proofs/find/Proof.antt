@@ -7,7 +7,7 @@ use native.Mathlib.Omega.{arith}
 use lib.ListN.{getD}
 use borrow.Author.Count.{below-more}
 use borrow.Author.Needs.{needs}
-use Rattle.subsets.proofs.Arrays.{found-at, found-none}
+use Rattle.numbering.proofs.Arrays.{found-at, found-none}
 use Rattle.subsets.proofs.find.Statement.{statement}
 use Rattle.subsets.proofs.find.Tie as tie
 

@@ -9,7 +9,7 @@ use Rattle.subsets.proofs.number_sets.Tie as tie
 
 fill-requires : tie.Need-fill-requires
 unfolding listFrom
-fill-requires c κs = record { sets-are = refl; next-are = refl }
+fill-requires c κs = record { keys-are = refl; next-are = refl }
 
 enum-known-count : tie.Need-enum-known-count
 enum-known-count c = search needs

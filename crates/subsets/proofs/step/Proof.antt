@@ -50,7 +50,7 @@ element-write-next c =
     let s = y .before .before .before in
     let a = s .args in
     let is : y .successor .result ≡ successor (a .targets .now) (getD (a .sets .now) (a .i .0) 0) (a .symbol) = y .successor .ensures in
-    omega (arith, s .pre, symbol-lt (a .targets .now) (a .sets .now) (a .next .now) (a .count) (a .i .0) (a .symbol) (y .successor .result) (s .pre .0) (s .pre .1) (s .pre .2) is (c .before .before .before .before .before .if1 .left))
+    omega (arith, s .pre, symbol-lt (a .targets .now) (y .successor .result) (getD (a .sets .now) (a .i .0) 0) (a .symbol) is (c .before .before .before .before .before .if1 .left))
 
 enum-told : tie.Need-enum-told
 enum-told c = search needs

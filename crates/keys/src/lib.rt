@@ -1,0 +1,197 @@
+// Keys numbered in the order in which the search from one key finds them, and the table of the
+// numbers that each leads to: one loop for two kinds of keys.
+ghost use mathlib.Core.Path.{_≡_};
+ghost use Prim.Native.Nat.{_≤_, _<_};
+ghost use lib.ListN.{take};
+ghost use Rattle.limits.specs.Limits.{mostSymbols, mostSets};
+ghost use Rattle.automaton.specs.Successor.{successor as successorOf};
+ghost use Rattle.numbering.specs.Arrays.{foundIn, keyCells, Entered, Stepped, ArraysHold, Grown};
+ghost use Rattle.keys.specs.Kinds.{stepOf, nothing, walkOf};
+ghost use Rattle.keys.specs.Tables.{countMeans, noTable, tableOutcome, tableOf};
+ghost use Rattle.keys.specs.Steps.{foundMeans, turnMeans, closedFrom};
+
+// What a key stands for: a set of states, as a mask; a mapping, as a number of 64 bits.
+pub enum Kind {
+    Sets,
+    Mappings,
+}
+
+// The number of a key.
+pub struct KeyNumber(pub u16);
+
+// Where a search ends.
+pub enum Found {
+    At(KeyNumber),
+    Nothing,
+}
+
+// A key's number with the number of keys there are then, or the key would be the 513th.
+pub enum Turn {
+    As(KeyNumber, usize),
+    Full,
+}
+
+// The number of keys, or the 513th turned up.
+pub enum Numbering {
+    Whole(usize),
+    Over,
+}
+
+// The keys in number order and the table, zeros in every cell that is not in use, beside the
+// answer; zeros alone where there are more than 512 keys.
+pub struct KeyTable {
+    pub answer: Numbering,
+    pub keys: [u64; limits::SETS],
+    pub next: [u16; limits::CELLS],
+}
+
+// The set that a set leads to by the symbol.
+fn step_set(targets: &[u32; limits::TARGETS], key: u64, symbol: u8) -> u64
+    ensures { λ r. ⌜ r ≡ successorOf (now (targets .entry)) key symbol ⌝ }
+{
+    automaton::successor(targets, (key % 4294967296) as u32, symbol) as u64
+}
+
+// The key that a key leads to by the symbol.
+fn step_key(targets: &[u32; limits::TARGETS], kind: Kind, key: u64, symbol: u8) -> u64
+    ensures { λ r. ⌜ r ≡ stepOf kind (now (targets .entry)) key symbol ⌝ }
+{
+    match kind {
+        Kind::Sets => step_set(targets, key, symbol),
+        Kind::Mappings => mappings::step(targets, key, symbol),
+    }
+}
+
+// The number of a key among the first count; a count above 512 is taken for 512.
+fn find(keys: &[u64; limits::SETS], count: usize, key: u64) -> Found
+    ensures { λ r. ⌜ foundMeans r ≡ foundIn (take count (now (keys .entry))) key ⌝ }
+{
+    let cells: &[u64] = keys;
+    let most = base::at_most(count, limits::SETS);
+    let mut i: usize = 0;
+    let found = loop {
+        if i == most {
+            return Found::Nothing;
+        }
+        if cells[i] == key {
+            break i;
+        }
+        i += 1;
+    };
+    Found::At(KeyNumber(found as u16))
+}
+
+// A key keeps the number it has among the first count, else it takes the next.
+fn number(keys: &mut [u64; limits::SETS], count: usize, key: u64) -> Turn
+    requires { ⌜ (count ≤ mostSets) × (now keys ≡ keyCells (take count (now keys))) ⌝ }
+    ensures { λ r. ⌜ Entered nothing (take count (now (keys .entry))) key (turnMeans r) (now (keys .exit)) ⌝ }
+{
+    match find(keys, count, key) {
+        Found::At(number) => Turn::As(number, count),
+        Found::Nothing => {
+            if count < limits::SETS {
+                keys[count] = key;
+                Turn::As(KeyNumber(count as u16), count + 1)
+            } else {
+                Turn::Full
+            }
+        }
+    }
+}
+
+// Key i is expanded by one symbol.
+fn step(
+    targets: &[u32; limits::TARGETS],
+    kind: Kind,
+    keys: &mut [u64; limits::SETS],
+    next: &mut [u16; limits::CELLS],
+    count: usize,
+    i: KeyNumber,
+    symbol: u8,
+) -> Numbering
+    requires { ⌜ (count ≤ mostSets) × (now keys ≡ keyCells (take count (now keys))) × (i .0 < count) × (symbol < mostSymbols) ⌝ }
+    ensures { λ r. ⌜ Stepped (stepOf kind (now (targets .entry))) nothing (take count (now (keys .entry))) (i .0) symbol (countMeans r) (now (keys .exit)) (now (next .entry)) (now (next .exit)) ⌝ }
+{
+    let row = i.0 as usize;
+    let key = step_key(targets, kind, keys[row], symbol);
+    match number(keys, count, key) {
+        Turn::As(number, after) => {
+            next[row * limits::SYMBOLS + symbol as usize] = number.0;
+            Numbering::Whole(after)
+        }
+        Turn::Full => Numbering::Over,
+    }
+}
+
+// The keys from number first on are expanded in number order, those that turn up on the way too.
+fn expand(
+    targets: &[u32; limits::TARGETS],
+    kind: Kind,
+    k: u8,
+    keys: &mut [u64; limits::SETS],
+    next: &mut [u16; limits::CELLS],
+    from: usize,
+) -> Numbering
+    requires { ⌜ (k ≤ mostSymbols) × (from ≤ mostSets) × ArraysHold (walkOf kind (now targets) k) 0 (take from (now keys)) 0 (now keys) (now next) ⌝ }
+    ensures { λ r. ⌜ Grown (walkOf kind (now (targets .entry)) k) 0 (closedFrom (walkOf kind (now (targets .entry)) k) (take from (now (keys .entry)))) (countMeans r) (now (keys .exit)) (now (next .exit)) ⌝ }
+{
+    let mut count = from;
+    let mut i: usize = 0;
+    let answer = 'expand: loop {
+        if i == count {
+            break 'expand Numbering::Whole(count);
+        }
+        for symbol in 0..k {
+            match step(
+                targets,
+                kind,
+                keys,
+                next,
+                count,
+                KeyNumber(i as u16),
+                symbol,
+            ) {
+                Numbering::Whole(after) => {
+                    count = after;
+                }
+                Numbering::Over => {
+                    break 'expand Numbering::Over;
+                }
+            }
+        }
+        i += 1;
+    };
+    answer
+}
+
+// More than 512 keys.
+fn no_table() -> KeyTable
+    ensures { λ r. ⌜ tableOutcome r ≡ noTable ⌝ }
+{
+    let keys = [0u64; limits::SETS];
+    let next = [0u16; limits::CELLS];
+    KeyTable {
+        answer: Numbering::Over,
+        keys,
+        next,
+    }
+}
+
+// The keys that texts of symbols below k lead to from the key start, in the order in which they are
+// found, and the table of what each leads to; a value of k above 16 is taken for 16.
+pub fn number_keys(targets: &[u32; limits::TARGETS], kind: Kind, k: u8, start: u64) -> KeyTable
+    ensures { λ r. ⌜ tableOutcome r ≡ tableOf kind (now (targets .entry)) k start ⌝ }
+{
+    let mut keys = [0u64; limits::SETS];
+    let mut next = [0u16; limits::CELLS];
+    keys[0] = start;
+    let symbols = base::at_most_u8(k, limits::MOST_SYMBOLS);
+    match expand(targets, kind, symbols, &mut keys, &mut next, 1) {
+        Numbering::Whole(count) => KeyTable {
+            answer: Numbering::Whole(count),
+            keys,
+            next,
+        },
+        Numbering::Over => no_table(),
+    }
+}

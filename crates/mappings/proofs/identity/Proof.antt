@@ -1,0 +1,61 @@
+-- `identity` meets its contract, mask by mask. Assumes nothing.
+use mathlib.Core.Path.{_≡_, refl, _∙_}
+use mathlib.Core.Bool.{cond}
+use Prim.Native.Nat.{ℕ, _-_, _≤_, _<_}
+use native.Mathlib.Omega.{arith}
+use lib.ListN.{length, getD, length-set}
+use lib.Dec.{ltb}
+use Rattle.base.proofs.Lists.{cell-stored, is-listFrom}
+use Rattle.masks.specs.Masks.{single}
+use Rattle.mappings.proofs.identity.Statement.{statement}
+use Rattle.mappings.proofs.identity.Tie as tie
+
+abbrev Inv-loop : tie.InvT-loop
+Inv-loop n masks₀ q₀ masks q = (q ≤ 8) × (length masks ≡ 8) × ((i : ℕ) → i < q → getD masks i 0 ≡ cond (ltb i n) (single i) 0)
+
+abbrev μ-loop : tie.MeasureT-loop
+μ-loop n masks₀ q₀ masks q = 8 - q
+
+loop-holds : tie.Need-loop-holds Inv-loop μ-loop
+loop-holds c = (omega arith, refl, λ i b. absurd (omega arith))
+
+own-set-requires : tie.Need-own-set-requires Inv-loop μ-loop
+own-set-requires c κs = omega arith
+
+array-write-masks : tie.Need-array-write-masks Inv-loop μ-loop
+array-write-masks c = omega arith
+
+add-q : tie.Need-add-q Inv-loop μ-loop
+add-q c = omega arith
+
+loop-less : tie.Need-loop-less Inv-loop μ-loop
+loop-less c = omega arith
+
+loop-again : tie.Need-loop-again Inv-loop μ-loop
+loop-again c =
+    let x = c .before .before .loop in
+    let a = c .before .before .before .args in (
+      omega arith,
+      length-set (x .masks) (x .q) (c .own-set .result) ∙ x .inv .1,
+      cell-stored (x .masks) (λ i. cond (ltb i (a .n)) (single i) 0) (x .q) (c .own-set .result) (omega (arith, x .inv .1)) (c .own-set .ensures) (x .inv .2),
+    )
+
+returns : tie.Need-returns Inv-loop μ-loop
+returns c =
+    let x = c .before .loop in
+    let a = c .before .before .args in
+    is-listFrom (x .masks) 8 (λ i. cond (ltb i (a .n)) (single i) 0) (x .inv .1) (λ i b. x .inv .2 i (omega arith))
+
+pub identity-spec : {M : Type 1} → statement M
+identity-spec =
+    tie.close
+    (tie.spec
+    Inv-loop
+    μ-loop
+    loop-holds
+    own-set-requires
+    array-write-masks
+    add-q
+    loop-less
+    loop-again
+    returns)

@@ -1,0 +1,4 @@
+-- In the order in which to read them.
+pub mod Mappings
+pub mod Packing
+pub mod Claims

@@ -1,0 +1,2 @@
+pub mod MappingText
+pub mod Claims

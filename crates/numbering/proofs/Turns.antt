@@ -1,0 +1,114 @@
+-- The loops that number keys, turn by turn and way out by way out, over plain lists: what is left
+-- to do comes to the same list after each turn, and the arrays hold the keys so far. Assumes that a
+-- step of a key that is not left out goes to a cell of the key's own row (`column`), and nothing
+-- else.
+--
+--   turn-whole                key i is expanded by the next symbol
+--   row-done, row-over        all its symbols are passed, or the 513th key turns up
+--   grown-whole, grown-over   the ways out of the expansion
+--   grown-read                the keys are read off the array again
+--   begin                     nothing is numbered yet
+use mathlib.Core.Path.{_≡_, sym, ap, _∙_, subst}
+use mathlib.Core.Bool.{false}
+use mathlib.Core.List.{List, []}
+use mathlib.Core.Option.{Option, none, some}
+use Prim.Native.Nat.{ℕ, _+_, _-_, _*_, _≤_, _<_, min}
+use native.Mathlib.Omega.{arith}
+use lib.ListN.{length, getD, take}
+use borrow.Author.Tests.{le-ltb}
+use Rattle.base.proofs.Lists.{length-listFrom, cell-of}
+use Rattle.numbering.specs.Numbering.{Walk, expandFrom, closeFrom}
+use Rattle.numbering.specs.Begins.{Begins}
+use Rattle.numbering.specs.Arrays.{target, afterStep, Stepped, Cleared, ArraysHold, Grown}
+use Rattle.numbering.proofs.Numbers.{begins-trans, begins-length, begins-at, numbered-begins}
+use Rattle.numbering.proofs.Closure.{expand-begins, close-begins, symbols-more, symbols-end, keys-more}
+use Rattle.numbering.proofs.Arrays.{count-is, read-back, limited-whole, limited-over, whole-of, over-of}
+use Rattle.numbering.proofs.Table.{step-holds}
+
+-- the keys l after key i is expanded from symbol s on
+abbrev pub expanded : Walk → ℕ → ℕ → List ℕ → List ℕ
+expanded a i s l = expandFrom a (getD l i 0) s (a .k - s) l
+
+module _ (a : Walk) (free : ℕ) where
+  -- ---- a step within key i, at symbol s
+  module _ (l : List ℕ) (i s : ℕ) (below : i < length l) (symbol : s < a .k) where
+    abbrev after : List ℕ
+    after = afterStep (a .step) (a .skips) l i s
+
+    grows : Begins l after
+    grows = numbered-begins (a .skips) l (target (a .step) (a .skips) l i s)
+
+    step-expanded : expanded a i s l ≡ expanded a i (s + 1) after
+    step-expanded =
+        symbols-more a (getD l i 0) s l symbol ∙ ap (λ (x : ℕ). expandFrom a x (s + 1) (a .k - (s + 1)) after) (sym (begins-at grows i below))
+
+    step-begins : Begins after (expanded a i s l)
+    step-begins = subst (Begins after) (sym step-expanded) (expand-begins a (getD after i 0) (s + 1) (a .k - (s + 1)) after)
+
+    module _ {r : Option ℕ} {keys′ next next′ : List ℕ} (st : Stepped (a .step) (a .skips) l i s r keys′ next next′) where
+      module _ (column : a .skips (target (a .step) (a .skips) l i s) ≡ false → s < 16) {keys : List ℕ}
+          (h : ArraysHold a free l (i * 16 + min s 16) keys next) (c : ℕ) (whole : r ≡ some c) where
+        fits : (length after ≤ 512) × (c ≡ length after)
+        fits = whole-of after c (sym whole ∙ st .count)
+
+        read : take c keys′ ≡ after
+        read = read-back after keys′ c (fits .0) (fits .1) (st .keys-are (fits .0))
+
+        pub turn-whole : (c ≤ 512) × (i < c) × ArraysHold a free (take c keys′) (i * 16 + min (s + 1) 16) keys′ next′
+            × (expanded a i s l ≡ expanded a i (s + 1) (take c keys′))
+        turn-whole = (
+          omega (arith, fits),
+          omega (arith, fits, begins-length grows),
+          rw read (step-holds a free l i s below symbol column h st (fits .0)),
+          step-expanded ∙ ap (expanded a i (s + 1)) (sym read),
+        )
+
+      turn-over : r ≡ none → (w : List ℕ) → Begins (expanded a i s l) w → 512 < length w
+      turn-over over w b = omega (arith, over-of after (sym over ∙ st .count), begins-length (begins-trans step-begins b))
+
+  -- ---- the turns of key i, which began with the keys l₀ and come to l at symbol s
+  module _ (top i s : ℕ) (l₀ l : List ℕ) (first : i < length l₀) (left : i < top) (so-far : expanded a i 0 l₀ ≡ expanded a i s l) where
+    row-rest : closeFrom a (top - i) i l₀ ≡ closeFrom a (top - (i + 1)) (i + 1) (expanded a i s l)
+    row-rest = keys-more a top i l₀ first left ∙ ap (closeFrom a (top - (i + 1)) (i + 1)) so-far
+
+    -- all symbols are passed
+    pub row-done : a .k ≤ s → closeFrom a (top - i) i l₀ ≡ closeFrom a (top - (i + 1)) (i + 1) l
+    row-done h = row-rest ∙ ap (closeFrom a (top - (i + 1)) (i + 1)) (symbols-end a (getD l i 0) s l h)
+
+    -- the 513th key turns up
+    pub row-over : i < length l → s < a .k → {r : Option ℕ} {keys′ next next′ : List ℕ} → Stepped (a .step) (a .skips) l i s r keys′ next next′ → r ≡ none
+        → 512 < length (closeFrom a (top - i) i l₀)
+    row-over below symbol st over =
+        rw row-rest
+        (turn-over l i s below symbol st over (closeFrom a (top - (i + 1)) (i + 1) (expanded a i s l)) (close-begins a (top - (i + 1)) (i + 1) (expanded a i s l)))
+
+  -- ---- the ways out
+  pub grown-whole : (f keys next : List ℕ) (count : ℕ) → count ≤ 512 → f ≡ take count keys → ArraysHold a free (take count keys) (count * 16) keys next
+      → Grown a free f (some count) keys next
+  grown-whole f keys next count most e h =
+      let n : length f ≡ count = ap length e ∙ count-is keys count most (h .keys-are) in
+      record {
+        count = ap some (sym n) ∙ limited-whole f (omega arith);
+        held = λ _. rw (n, e) h;
+      }
+
+  pub grown-over : (f keys next : List ℕ) → 512 < length f → Grown a free f none keys next
+  grown-over f keys next b = record { count = limited-over f b; held = λ h. absurd (omega arith) }
+
+  pub grown-read : {f keys next : List ℕ} (c : ℕ) → Grown a free f (some c) keys next
+      → (c ≤ 512) × (take c keys ≡ f) × ArraysHold a free (take c keys) (c * 16) keys next
+  grown-read {f} {keys} {next} c g =
+      let x = whole-of f c (g .count) in
+      let read : take c keys ≡ f = read-back f keys c (x .0) (x .1) (g .held (x .0) .keys-are) in
+      (omega arith, read, rw (read, x .1) (g .held (x .0)))
+
+  -- ---- nothing is numbered yet
+  pub begin : (keys next : List ℕ) → Cleared free keys next → ArraysHold a free [] 0 keys next
+  begin keys next h = record {
+    keys-are = h .keys-are;
+    next-long = ap length (h .next-are) ∙ length-listFrom 0 8192 (λ _. free);
+    cells = λ f g c b.
+        ap (λ (x : List ℕ). getD x c 0) (h .next-are)
+        ∙ cell-of 8192 (λ _. free) c 0 b
+        ∙ rw (le-ltb c 0 (omega arith));
+  }

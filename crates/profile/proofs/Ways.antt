@@ -1,0 +1,128 @@
+-- One lemma over plain variables for each way out of `build` and `run`, and the walk's turns.
+-- Assumes nothing.
+--
+--   build-..     the rule is refused by its check, with 33, with 34, or it is built
+--   run-..       the chunk is refused with 12, with 13, or it is run
+--   walk-..      a byte more, and none left
+use mathlib.Core.Path.{_≡_, sym, ap, _∙_}
+use mathlib.Core.Bool.{true, false, cond}
+use mathlib.Core.List.{List}
+use mathlib.Core.Option.{none, some}
+use Prim.Native.Nat.{ℕ, _+_, _*_, _%_, _≤_, _<_, min}
+use native.Mathlib.Numerals.{add-one}
+use native.Mathlib.Omega.{arith}
+use lib.ListN.{length, getD, drop, drop-of-length-le}
+use lib.Seq.{drop-cons}
+use borrow.Author.Tests.{lt-ltb, le-ltb}
+use Rattle.base.proofs.Options.{none-some}
+use Rattle.base.proofs.Tests.{by-test}
+use Rattle.automaton.specs.declared.Rule.{Rule}
+use Rattle.rulecheck.specs.Checking.{ruleNumber}
+use Rattle.rulecheck.proofs.First.{checked-first, checked-then}
+use Rattle.rulecheck.proofs.Claims as check
+use Rattle.marks.specs.Marks.{textOf}
+use Rattle.chunks.specs.Chunks.{foreign}
+use Rattle.mappings.specs.Mappings.{identity}
+use Rattle.mappings.specs.Packing.{pack}
+use Rattle.mappings.specs.Claims.{Small, keysOf}
+use Rattle.keys.specs.declared.KeyTable.{KeyTable}
+use Rattle.keys.specs.declared.Kind.the-variants.{Mappings}
+use Rattle.keys.specs.declared.Numbering.the-variants.{Whole, Over}
+use Rattle.keys.specs.Tables.{countMeans, Table, tableOutcome, tableOf, noTable}
+use Rattle.profile.specs.declared.Profile.{Profile}
+use Rattle.profile.specs.Profiles.{manyMappings, ownConditions, buildNumber, accepted, Building, profileOf, refusedBuild, buildBy, buildOf}
+use Rattle.profile.specs.Runs.{walkTo, mappingIn, Ran, refusedRun, runOf}
+
+-- ---- building
+module _ (r : Rule) (o : Building) where
+  by-number : (x : ℕ) → buildNumber r ≡ some x → o ≡ refusedBuild x → o ≡ buildOf r
+  by-number x e is = is ∙ sym (ap (λ n. buildBy n r) e)
+
+  pub build-unchecked : (x : ℕ) → ruleNumber r ≡ some x → o ≡ refusedBuild x → o ≡ buildOf r
+  unfolding buildNumber
+  build-unchecked x e is = by-number x (checked-first r (ownConditions r) x e) is
+
+  pub build-33 : ruleNumber r ≡ none → 8 < r .n → o ≡ refusedBuild 33 → o ≡ buildOf r
+  unfolding buildNumber
+  build-33 e b is = by-number 33 (checked-then r (ownConditions r) e ∙ rw (lt-ltb 8 (r .n) b)) is
+
+  module _ (small : Small r) where
+    number-is : buildNumber r ≡ cond (manyMappings r) (some 34) none
+    unfolding buildNumber
+    number-is = checked-then r (ownConditions r) (check.claims .passes r .1 (small .good)) ∙ rw (le-ltb 8 (r .n) (small .states))
+
+    abbrev table : Table
+    table = tableOf Mappings (r .targets) (r .k) (pack (identity (r .n)))
+
+    abbrev whole : Table
+    whole = record { count = some (length (keysOf r)); keys = profileOf r .mappings; next = profileOf r .next }
+
+    table-is : table ≡ cond (manyMappings r) noTable whole
+    unfolding tableOf
+    table-is = let e : min (r .k) 16 ≡ r .k = omega (arith, small .good .symbols) in rw e
+
+    module _ (t : KeyTable) (are : tableOutcome t ≡ table) where
+      few : manyMappings r ≡ false → tableOutcome t ≡ whole
+      few m = are ∙ table-is ∙ rw m
+
+      many : manyMappings r ≡ true → tableOutcome t ≡ noTable
+      many m = are ∙ table-is ∙ rw m
+
+      pub build-34 : t .answer ≡ Over → o ≡ refusedBuild 34 → o ≡ buildOf r
+      build-34 e is =
+          by-number 34
+          (number-is
+          ∙ by-test (manyMappings r) (λ m. rw m)
+          (λ m. none-some (ap countMeans e) (ap (λ (x : Table). x .count) (few m))))
+          is
+
+      pub build-whole : (c : ℕ) → t .answer ≡ Whole c
+          → o ≡ record {
+            reply = accepted c;
+            profile = record {
+              n = r .n;
+              k = r .k;
+              initials = r .initials;
+              finals = r .finals;
+              count = c;
+              mappings = t .keys;
+              next = t .next;
+            };
+          }
+          → o ≡ buildOf r
+      build-whole c e is =
+          by-test (manyMappings r)
+          (λ m. none-some (ap (λ (x : Table). x .count) (many m)) (ap countMeans e))
+          (λ m.
+          let n : c ≡ length (keysOf r) = let f : some c ≡ some (length (keysOf r)) = sym (ap countMeans e) ∙ ap (λ (x : Table). x .count) (few m) in cc in
+          let keys : t .keys ≡ profileOf r .mappings = ap (λ (x : Table). x .keys) (few m) in
+          let next : t .next ≡ profileOf r .next = ap (λ (x : Table). x .next) (few m) in
+          is ∙ rw (number-is, m, n, keys, next))
+
+-- ---- running
+module _ (p : Profile) (w : List ℕ) (o : Ran) where
+  pub run-12 : 65536 < length w → o ≡ refusedRun 12 → o ≡ runOf p w
+  unfolding runOf
+  run-12 b is = is ∙ rw (lt-ltb 65536 (length w) b)
+
+  module _ (short : length w ≤ 65536) (text : List ℕ) (is-text : textOf w ≡ text) where
+    pub run-13 : foreign text (p .k) ≡ true → o ≡ refusedRun 13 → o ≡ runOf p w
+    unfolding runOf
+    run-13 e is = is ∙ rw (le-ltb 65536 (length w) short, is-text, e)
+
+    pub run-whole : foreign text (p .k) ≡ false → (number : ℕ) → number ≡ walkTo (p .next) 0 text
+        → o ≡ record { refusal = none; masks = mappingIn p number }
+        → o ≡ runOf p w
+    unfolding runOf
+    run-whole e number n is = is ∙ rw (le-ltb 65536 (length w) short, is-text, e, n)
+
+-- ---- the walk
+module _ (next text : List ℕ) (i number : ℕ) where
+  pub walk-more : i < length text
+      → walkTo next number (drop i text) ≡ walkTo next (getD next (number % 512 * 16 + getD text i 0 % 16) 0) (drop (i + 1) text)
+  unfolding walkTo
+  walk-more b = rw (drop-cons text i 0 b, add-one)
+
+  pub walk-done : length text ≤ i → walkTo next number (drop i text) ≡ number
+  unfolding walkTo
+  walk-done b = rw (drop-of-length-le text b)

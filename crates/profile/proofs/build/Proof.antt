@@ -1,0 +1,62 @@
+-- `build` meets its contract: each way out by its lemma. Assumes nothing.
+use mathlib.Core.Path.{sym, ap, _∙_}
+use borrow.Author.Needs.{needs}
+use Rattle.rulecheck.specs.Checking.{checkMeans}
+use Rattle.rulecheck.proofs.Claims as check
+use Rattle.profile.proofs.Ways.{build-unchecked, build-33}
+use Rattle.profile.proofs.build.Statement.{statement}
+use Rattle.profile.proofs.build.Tie as tie
+
+check-rule-requires : tie.Need-check-rule-requires
+check-rule-requires c κs = search needs
+
+enum-known-checked : tie.Need-enum-known-checked
+enum-known-checked c = search needs
+
+refuse-rule-requires : tie.Need-refuse-rule-requires
+refuse-rule-requires c κs = search needs
+
+enum-told : tie.Need-enum-told
+enum-told c = search needs
+
+cast-if1 : tie.Need-cast-if1
+cast-if1 c = search needs
+
+refuse-rule-requires-2 : tie.Need-refuse-rule-requires-2
+refuse-rule-requires-2 c κs = search needs
+
+returns : tie.Need-returns
+returns c =
+    let y = c .before .before .before .before .before in
+    build-33 (y .before .args .rule) _ (sym (y .check-rule .ensures) ∙ ap checkMeans (c .before .before .before .enum-told .given .1)) (c .before .if1 .taken) (c .refuse-rule2 .ensures)
+
+build-small-requires : tie.Need-build-small-requires
+build-small-requires c κs =
+    let y = c .before .before .before .before in
+    record {
+      good = check.claims .passes (y .before .args .rule) .0 (sym (y .check-rule .ensures) ∙ ap checkMeans (c .before .before .enum-told .given .1));
+      states = c .if1 .left;
+    }
+
+returns-2 : tie.Need-returns-2
+returns-2 c =
+    let y = c .before .before .before .before in
+    build-unchecked (y .before .args .rule) _ _ (sym (y .check-rule .ensures) ∙ ap checkMeans (c .before .before .checked .given .1)) (c .refuse-rule .ensures)
+
+returns-3 : tie.Need-returns-3
+returns-3 c = search needs
+
+pub build-spec : {M : Type 1} → statement M
+build-spec =
+    tie.close
+    (tie.spec
+    check-rule-requires
+    enum-known-checked
+    refuse-rule-requires
+    enum-told
+    cast-if1
+    refuse-rule-requires-2
+    returns
+    build-small-requires
+    returns-2
+    returns-3)

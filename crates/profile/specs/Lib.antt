@@ -1,0 +1,4 @@
+-- In the order in which to read them.
+pub mod Profiles
+pub mod Runs
+pub mod Claims

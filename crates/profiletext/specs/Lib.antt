@@ -1,0 +1,2 @@
+pub mod ProfileText
+pub mod Claims
