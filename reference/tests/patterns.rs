@@ -1,8 +1,9 @@
 //! Patterns: the request's words, and the rule's texts against those of the pattern.
 
+use reference::checked::read;
 use reference::patterns::{answer, parse, rule_file};
 use reference::random::Random;
-use reference::rule::{read, Rule};
+use reference::rule::Rule;
 
 /// All texts of the symbols, up to a length.
 fn texts(symbols: &[u8], most: usize) -> Vec<Vec<u8>> {
@@ -18,7 +19,7 @@ fn texts(symbols: &[u8], most: usize) -> Vec<Vec<u8>> {
 /// The rule of a pattern accepts what the pattern matches.
 fn same_texts(bytes: &[u8], symbols: &[u8], most: usize) {
     let (pattern, _) = parse(bytes).unwrap();
-    let automaton = read(&rule_file(bytes).unwrap()).unwrap();
+    let automaton = read(&rule_file(bytes).unwrap()).unwrap().automaton().unwrap();
     for text in texts(symbols, most) {
         let accepted = automaton.accepts_from(automaton.initial, &text);
         assert_eq!(accepted, pattern.matches(&text), "{:?} {text:?}", String::from_utf8_lossy(bytes));
@@ -36,7 +37,7 @@ fn bindings() {
 fn letters_and_states() {
     assert_eq!(answer(b""), "011001000000010000000E000000");
     assert_eq!(answer(b"p"), "021001000000020000001200020014000000" .to_string() + "0F01");
-    let rule = Rule::build(&rule_file(b"(a|b)*abb").unwrap()).ok().unwrap();
+    let rule = Rule::load(&rule_file(b"(a|b)*abb").unwrap()).ok().unwrap();
     assert_eq!((rule.automaton.n, rule.automaton.k, rule.automaton.initial, rule.automaton.finals), (6, 16, 1, 32));
 }
 
