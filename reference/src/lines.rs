@@ -4,7 +4,7 @@ use crate::checked::CheckedRule;
 use crate::judge::{Answer, Call, Judge, Work};
 
 /// One or more pairs of hex digits, or `-` for no bytes.
-fn bytes(field: &[u8]) -> Option<Vec<u8>> {
+pub fn bytes(field: &[u8]) -> Option<Vec<u8>> {
     if field == b"-" {
         return Some(Vec::new());
     }
