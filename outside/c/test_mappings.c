@@ -92,14 +92,16 @@ static void refusals(void) {
     r = a, r.n = 9, r.targets[0] = 1 << 9, build(r, 8);
     r = a, r.n = 9, build(r, 33);
     r = a, r.n = 8, build(r, 0);
-    /* a cycle of eight states, a merger and a swap: more than 512 mappings; one state more: 33 */
+    /* each symbol leads each state to itself, and one of the first three to one of the next three too: nine
+     * symbols, 512 mappings; a tenth that leads nowhere, 513; a ninth state, 33 */
     memset(&r, 0, sizeof r);
-    r.n = 8, r.k = 3;
-    for (int q = 0; q < 8; q++) r.targets[16 * q] = 1u << (q + 1) % 8, r.targets[16 * q + 1] = 1u << q, r.targets[16 * q + 2] = 1u << q;
-    r.targets[1] = 2, r.targets[17] = 1, r.targets[2] = 2;
-    build(r, 34);
+    r.n = 8, r.k = 9;
+    for (int q = 0; q < 8; q++)
+        for (int s = 0; s < 9; s++) r.targets[16 * q + s] = 1u << q | (s / 3 == q ? 8u << s % 3 : 0);
+    CHECK(build(r, 0).count == 512);
+    r.k = 10, build(r, 34);
     r.n = 9, build(r, 33);
-    r.targets[0] = 0x400, build(r, 8);
+    r.targets[0] = 1 << 9, build(r, 8);
 }
 
 /* any values: brackets do not matter, and the identity of eight states changes nothing */

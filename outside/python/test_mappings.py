@@ -64,10 +64,12 @@ class Mappings(unittest.TestCase):
         self.refused(33, Profile, change(rule, n=9))
         self.assertEqual(len(Profile(change(rule, n=8))), 5)
 
-    def test_too_many_mappings(self):
-        cells = {16 * q + s: 1 << (q + (s == 0)) % 8 for q in range(8) for s in range(3)}
-        cells.update({1: 2, 17: 1, 2: 2})
-        rule = CheckedRule(8, 3, 1, 1, (cells.get(cell, 0) for cell in range(512)))
+    def test_as_many_mappings_as_there_may_be(self):
+        # each symbol leads each state to itself, and one of the first three to one of the next three too
+        cells = {16 * q + s: 1 << q | (8 << s % 3 if s // 3 == q else 0) for q in range(8) for s in range(9)}
+        rule = CheckedRule(8, 9, 1, 1, (cells.get(cell, 0) for cell in range(512)))
+        self.assertEqual(len(Profile(rule)), 512)
+        rule = dataclasses.replace(rule, k=10)
         self.refused(34, Profile, rule)
         self.refused(33, Profile, dataclasses.replace(rule, n=9))
 

@@ -70,12 +70,14 @@ fn refusals() {
     assert_eq!(profile.run(&[255; 65_536]), Ok([1, 2, 4, 0, 0, 0, 0, 0]));
     assert_eq!(built(&blank(8, 1)).map(|profile| profile.mappings.len()).ok(), Some(2));
     assert_eq!(built(&blank(9, 1)).err(), Some(33));
-    // a cycle of eight states, a swap and a merger
-    let mut many = blank(8, 3);
+    // each symbol leads each state to itself, and one of the first three to one of the next three too
+    let mut many = blank(8, 9);
     for q in 0..8 {
-        many.targets[q] = vec![1 << ((q + 1) % 8), 1 << q, 1 << q];
+        many.targets[q] = (0..9).map(|s| 1 << q | if s / 3 == q { 8 << (s % 3) } else { 0 }).collect();
     }
-    (many.targets[0][1], many.targets[1][1], many.targets[0][2]) = (2, 1, 2);
+    assert_eq!(built(&many).map(|profile| profile.mappings.len()).ok(), Some(512));
+    many.k = 10;
+    many.targets.iter_mut().for_each(|row| row.push(0));
     assert_eq!(built(&many).err(), Some(34));
     let mut wrong = CheckedRule::of(&a());
     wrong.initial = 8;
