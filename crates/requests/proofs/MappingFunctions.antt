@@ -69,7 +69,7 @@ masksOf f = f .masks
 
 each-run : {p : Profile} {ws : List (List ℕ)} {fs : List Mapping} → RunEach p ws fs → map masksOf fs ≡ map (λ w. runOf p w .masks) ws
 each-run all-run = refl
-each-run {p} (one-more w r may _ rest) =
+each-run {p} (one-more w r may rest) =
     ap₂ (λ (f : List ℕ) (fs : List (List ℕ)). f ∷ fs) (ap (λ (n : RunNumbers). n .mapping .masks) (run-fixed p w r .0 may)) (each-run rest)
 
 -- the brackets in which they were composed

@@ -3,8 +3,7 @@
 --
 --   MayBuild, MayRun, MayCompose, MaySay   what `bellbadger_profile_build`, `_profile_run`,
 --                       `_compose` and `_profile_verdict` may return for their arguments
---   RunEach p ws fs     the chunks ws were run on the profile p, each in a call that was accepted,
---                       and answered the mappings fs
+--   RunEach p ws fs     the chunks ws were run on the profile p, and the mappings fs answered
 --   ComposedTo fs f     the mappings fs, in this order, were composed two at a time, in any way, and
 --                       came to f
 --   SameAnswer x v      the verdict x of the mapping machine and v of the judge say the same: 1 and
@@ -48,8 +47,7 @@ MaySay p f x = (s : AtExit (endedOf 0 verdict-kinds.ps verdict-kinds.r) tt) × v
 
 pub data RunEach (p : Profile) : List (List ℕ) → List Mapping → Type 0 where
   all-run : RunEach p [] []
-  one-more : {ws : List (List ℕ)} {fs : List Mapping} (w : List ℕ) (r : RunNumbers) → MayRun p w r → r .accepted ≡ 1 → RunEach p ws fs
-      → RunEach p (w ∷ ws) (r .mapping ∷ fs)
+  one-more : {ws : List (List ℕ)} {fs : List Mapping} (w : List ℕ) (r : RunNumbers) → MayRun p w r → RunEach p ws fs → RunEach p (w ∷ ws) (r .mapping ∷ fs)
 
 pub data ComposedTo : List Mapping → Mapping → Type 0 where
   alone : (f : Mapping) → ComposedTo (f ∷ []) f
