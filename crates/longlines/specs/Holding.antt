@@ -10,9 +10,11 @@
 --                             buffer then
 --   standing odd n            of n bytes, how many stand for the line: one less where the bytes
 --                             left out are odd in number
---   meaningBy buffer n hex    the meaning of the first n bytes, where all others are hex digits;
---                             else the line is malformed
---   heldMeaning buffer h      what the line that is held means: its bytes that stand for it
+--   seenOf buffer h           how many bytes of the buffer stand for the line that is held, and
+--                             whether those that they leave out are hex digits
+--   meaningBy f bad buffer n hex   the meaning of the first n bytes, where f says what a line means
+--                             and all others are hex digits; else it is `bad`
+--   heldMeaning f bad buffer h     what the line that is held means so: the bytes that stand for it
 --                             decide, and what the others are
 use mathlib.Core.Bool.{Bool, true, false, cond, not, _&&_}
 use mathlib.Core.List.{List}
@@ -21,8 +23,8 @@ use lib.Dec.{eqb}
 use lib.ListN.{length, take, drop}
 use Rattle.text.specs.Writing.{written}
 use Rattle.fields.specs.Bytes.{allHex}
-use Rattle.calltext.specs.Meaning.{Meaning, malformed, lineIn}
-use Rattle.linebuffer.specs.declared.Held.{Held}
+use Rattle.longlines.specs.declared.Held.{Held}
+use Rattle.longlines.specs.declared.Seen.{Seen}
 
 abbrev pub lineBegin : Held
 lineBegin = record { length = 0; hex = true; odd = false }
@@ -51,11 +53,15 @@ bufferAfter buffer h piece = written buffer (keptLength buffer h) (take (taken b
 abbrev pub standing : Bool → ℕ → ℕ
 standing odd n = cond odd (n - 1) n
 
-abbrev pub meaningBy : List ℕ → ℕ → Bool → Meaning
-meaningBy buffer n hex = cond hex (lineIn (take n buffer)) malformed
-
-unfoldable pub heldMeaning : List ℕ → Held → Meaning
-heldMeaning buffer h =
+unfoldable pub seenOf : List ℕ → Held → Seen
+seenOf buffer h =
     let len = keptLength buffer h in
     let n = standing (h .odd) len in
-    meaningBy buffer n (h .hex && allHex (take (len - n) (drop n buffer)))
+    record { length = n; hex = h .hex && allHex (take (len - n) (drop n buffer)) }
+
+module _ {A : Type 0} (f : List ℕ → A) (bad : A) (buffer : List ℕ) where
+  abbrev pub meaningBy : ℕ → Bool → A
+  meaningBy n hex = cond hex (f (take n buffer)) bad
+
+  abbrev pub heldMeaning : Held → A
+  heldMeaning h = let s = seenOf buffer h in meaningBy (s .length) (s .hex)

@@ -1,8 +1,8 @@
 -- `stands` meets its contract. Assumes nothing.
 use borrow.Author.Needs.{needs}
-use Rattle.linebuffer.proofs.Kept.{stands-less, stands-none}
-use Rattle.linebuffer.proofs.stands.Statement.{statement}
-use Rattle.linebuffer.proofs.stands.Tie as tie
+use Rattle.longlines.proofs.Kept.{stands-less, stands-none}
+use Rattle.longlines.proofs.stands.Statement.{statement}
+use Rattle.longlines.proofs.stands.Tie as tie
 
 sub-result : tie.Need-sub-result
 sub-result c = search needs

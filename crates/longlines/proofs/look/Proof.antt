@@ -1,8 +1,8 @@
 -- `look` meets its contract. Assumes nothing.
-use Rattle.linebuffer.proofs.Standing.{stands-within, stands-inside, stands-prefix, meaning-is}
+use Rattle.longlines.proofs.Standing.{stands-within, stands-inside, stands-prefix, seen-is}
 use borrow.Author.Needs.{needs}
-use Rattle.linebuffer.proofs.look.Statement.{statement}
-use Rattle.linebuffer.proofs.look.Tie as tie
+use Rattle.longlines.proofs.look.Statement.{statement}
+use Rattle.longlines.proofs.look.Tie as tie
 
 at-most-requires : tie.Need-at-most-requires
 at-most-requires c κs = search needs
@@ -23,7 +23,7 @@ hex-with-requires : tie.Need-hex-with-requires
 hex-with-requires c κs = search needs
 
 returns : tie.Need-returns
-returns c = search (needs, stands-inside, stands-prefix, meaning-is)
+returns c = search (needs, stands-inside, stands-prefix, seen-is)
 
 pub look-spec : {M : Type 1} → statement M
 look-spec =

@@ -1,8 +1,8 @@
 -- `hex_with` meets its contract. Assumes nothing.
 use borrow.Author.Needs.{needs}
-use Rattle.linebuffer.proofs.Kept.{hex-both}
-use Rattle.linebuffer.proofs.hex_with.Statement.{statement}
-use Rattle.linebuffer.proofs.hex_with.Tie as tie
+use Rattle.longlines.proofs.Kept.{hex-both}
+use Rattle.longlines.proofs.hex_with.Statement.{statement}
+use Rattle.longlines.proofs.hex_with.Tie as tie
 
 all-hex-requires : tie.Need-all-hex-requires
 all-hex-requires c κs = search needs

@@ -1,8 +1,8 @@
 -- `odd_with` meets its contract. Assumes nothing.
 use borrow.Author.Needs.{needs}
-use Rattle.linebuffer.proofs.Kept.{odd-so, odd-not}
-use Rattle.linebuffer.proofs.odd_with.Statement.{statement}
-use Rattle.linebuffer.proofs.odd_with.Tie as tie
+use Rattle.longlines.proofs.Kept.{odd-so, odd-not}
+use Rattle.longlines.proofs.odd_with.Statement.{statement}
+use Rattle.longlines.proofs.odd_with.Tie as tie
 
 returns : tie.Need-returns
 returns c = search (needs, odd-so)

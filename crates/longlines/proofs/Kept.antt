@@ -20,10 +20,9 @@ use Rattle.text.specs.Writing.{written, Wrote}
 use Rattle.text.proofs.Pieces.{wrote-length}
 use Rattle.fields.specs.Bytes.{allHex}
 use Rattle.fields.proofs.Pairs.{hex-append}
-use Rattle.calltext.proofs.Readings.{to-the-end}
-use Rattle.linebuffer.specs.declared.Held.{Held}
-use Rattle.linebuffer.specs.Holding.{lineBegin, keptLength, taken, oddWith, heldAfter, bufferAfter, standing}
-use Rattle.linebuffer.specs.Claims.{Keeps}
+use Rattle.longlines.specs.declared.Held.{Held}
+use Rattle.longlines.specs.Holding.{lineBegin, keptLength, taken, oddWith, heldAfter, bufferAfter, standing}
+use Rattle.longlines.specs.Claims.{Keeps}
 
 -- ---- tests
 pub hex-both : (h r : Bool) (m : List ℕ) → h ≡ true → r ≡ allHex m → r ≡ h && allHex m
@@ -197,7 +196,7 @@ module _ (before : List ℕ) (held : Held) (piece : List ℕ) (at fits : ℕ) (a
     holds-held hex odd hex-is odd-is =
         let size : end ≡ keptLength before held + taken before held piece = omega (arith, wrote .ends, at-is, fits-taken, fits-length) in
         let digits : hex ≡ held .hex && allHex (drop (taken before held piece) piece) =
-        hex-is ∙ ap (λ (v : List ℕ). held .hex && allHex v) (to-the-end piece fits ∙ ap (λ (n : ℕ). drop n piece) fits-taken) in
+        hex-is ∙ ap (λ (v : List ℕ). held .hex && allHex v) (take-all (length piece - fits) (drop fits piece) (omega (arith, length-drop fits piece)) ∙ ap (λ (n : ℕ). drop n piece) fits-taken) in
         let rest : odd ≡ oddWith (held .odd) (length piece - taken before held piece) =
         odd-is ∙ ap (λ (n : ℕ). oddWith (held .odd) (length piece - n)) fits-taken in
         rw (size, digits, rest)

@@ -4,9 +4,9 @@
 -- none. The first part goes behind what is kept (`holds-buffer`); of the rest only two facts are
 -- kept, and each is the old fact with that of the rest (`holds-held`).
 use borrow.Author.Needs.{needs}
-use Rattle.linebuffer.proofs.Kept.{fits-prefix, fits-room, holds-buffer, holds-held}
-use Rattle.linebuffer.proofs.hold.Statement.{statement}
-use Rattle.linebuffer.proofs.hold.Tie as tie
+use Rattle.longlines.proofs.Kept.{fits-prefix, fits-room, holds-buffer, holds-held}
+use Rattle.longlines.proofs.hold.Statement.{statement}
+use Rattle.longlines.proofs.hold.Tie as tie
 
 at-most-requires : tie.Need-at-most-requires
 at-most-requires c κs = search needs
