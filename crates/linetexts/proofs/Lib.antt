@@ -6,4 +6,5 @@ pub mod Turns
 pub mod Rounds
 pub mod Fed
 pub mod Whole
+pub mod Ends
 pub mod Claimed
