@@ -17,6 +17,8 @@
 --   MayBuild .. MaySay, RunEach,      what the contracts of C's functions    requests/specs/MappingFunctions
 --   ComposedTo, SameAnswer; MayJudge  allow                                  demands/specs/Functions
 --   buildShown, runShown ..           C's numbers                            c_mappings/specs/Numbers
+--   rightText; lastBuilt              the answers to lines; what is built    mapstream/specs/Texts, mapcalls/specs/Histories
+--   lineIn, replyText; Blocks         lines and answers as text; blocks      maplines/specs, linetexts/specs/Claims
 --
 -- r is any value, in which any numbers may stand, and so is a mapping. A proved function ends and
 -- stays within its bounds. Assumes nothing.
@@ -25,7 +27,7 @@ use mathlib.Core.Logic.{_↔_, _⊎_}
 use mathlib.Core.Bool.{true, false}
 use mathlib.Core.List.{List, [], _++_, map, flatten}
 use mathlib.Core.Option.{none, some}
-use Prim.Native.Nat.{ℕ, _≤_, _<_}
+use Prim.Native.Nat.{ℕ, _+_, _≤_, _<_}
 use lib.ListN.{length, getD}
 use contract.Lifetimes.{Lfts}
 use denote.Ref.{RefT}
@@ -62,6 +64,17 @@ use Rattle.c_mappings.proofs.bellbadger_profile_build.Reads as build-reads
 use Rattle.c_mappings.proofs.bellbadger_profile_run.Reads as run-reads
 use Rattle.c_mappings.proofs.bellbadger_compose.Reads as compose-reads
 use Rattle.c_mappings.proofs.bellbadger_profile_verdict.Reads as verdict-reads
+use Rattle.ruleformat.specs.Reader.{ruleOf}
+use Rattle.lines.specs.Splitting.{linesOf}
+use Rattle.longlines.specs.Holding.{lineBegin}
+use Rattle.linetexts.specs.Feeding.{State, stateOf, finishOf}
+use Rattle.linetexts.specs.Claims.{Blocks}
+use Rattle.mapcalls.specs.declared.MapState.{MapState}
+use Rattle.mapcalls.specs.Calls.{Call as MapCall, noneYet}
+use Rattle.mapcalls.specs.Histories.{lastBuilt}
+use Rattle.mapcalls.proofs.Histories as mapcalls
+use Rattle.mapstream.specs.Texts.{mapRoom, mapLines, rightText}
+use Rattle.mapstream.proofs.Claimed as mapstream
 use Rattle.capi.specs.declared.VerdictNumbers.{VerdictNumbers}
 use Rattle.demands.specs.Functions.{MayJudge}
 use Rattle.requests.specs.MappingFunctions.{MayBuild, MayRun, MayCompose, MaySay, RunEach, ComposedTo, SameAnswer}
@@ -228,3 +241,15 @@ pub same-answer : (r : Rule) (b : BuildNumbers) → MayBuild r b → b .accepted
     → (fs : List Mapping) → RunEach (b .profile) ws fs → (f : Mapping) → ComposedTo fs f
     → (x : ℕ) → MaySay (b .profile) f x → (v : VerdictNumbers) → MayJudge (judgeAfter h) v → SameAnswer x v
 same-answer = functions.same-answer
+
+-- ---- LINES
+-- All that `mapjudge` writes, in whatever rounds the blocks of its input are fed, is right line by line. (A
+-- round is what the contract of `gather` promises, and the end what that of `finish` does:
+-- mapstream/src/lib.rt.)
+pub lines-written : {room : ℕ} {s′ : State MapState} {blocks : List (List ℕ)} {line text : List ℕ} → mapRoom + 1 ≤ length line
+    → Blocks mapLines room (stateOf noneYet lineBegin line) blocks s′ text → text ++ finishOf mapLines s′ .text ≡ rightText [] (linesOf (flatten blocks))
+lines-written = mapstream.claims .written
+
+-- The profile that is there is that of the last accepted build: all that is said above holds of it.
+pub last-built : (h : List MapCall) (f : List ℕ) → lastBuilt h ≡ some f → Takes (ruleOf f)
+last-built = mapcalls.claims .takes
