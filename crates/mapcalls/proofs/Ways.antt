@@ -18,7 +18,8 @@ use Rattle.profile.specs.declared.BuildAnswer.the-variants as build
 use Rattle.profile.specs.declared.RunResult.{RunResult}
 use Rattle.profile.specs.declared.RunAnswer.the-variants as run
 use Rattle.profile.specs.Profiles.{Building, noProfile, Reply as Answer, accepted, refused as turnedDown, buildMeans, buildOutcome}
-use Rattle.profile.specs.Runs.{Ran, runMeans, runOutcome, runOf, verdictOf}
+use Rattle.profile.specs.Runs.{Ran, runMeans, runOutcome, runOf, Lends, verdictOf}
+use Rattle.profile.proofs.Ways.{lent-all}
 use Rattle.profilefile.specs.Files.{profileIn}
 use Rattle.mapcalls.specs.declared.MapState.{MapState}
 use Rattle.mapcalls.specs.declared.MapAnswer.{MapAnswer}
@@ -75,10 +76,11 @@ module _ (s : MapState) (w : List ℕ) where
   unfolding replyOf
   run-lacks e r a = by-answer r Lacking a ∙ ap (λ (b : Bool). cond b (ranReply (runOf (s .profile) w)) lacking) (sym (not-there (s .there) e))
 
-  module _ (e : not (s .there) ≡ false) (ran : RunResult) (is : runOutcome ran ≡ runOf (s .profile) w) where
+  module _ (e : not (s .there) ≡ false) (ran : RunResult)
+      (is : (p : Profile) → Lends p (s .profile .k) (s .profile .next) (s .profile .mappings) → runOutcome ran ≡ runOf p w) where
     by-run : ranReply (runOutcome ran) ≡ replyOf s (runs w)
     unfolding replyOf
-    by-run = ap ranReply is ∙ ap (λ (b : Bool). cond b (ranReply (runOf (s .profile) w)) lacking) (sym (there (s .there) e))
+    by-run = ap ranReply (is (s .profile) (lent-all (s .profile))) ∙ ap (λ (b : Bool). cond b (ranReply (runOf (s .profile) w)) lacking) (sym (there (s .there) e))
 
     pub run-mapped : ran .answer ≡ run.Accepted → mapped (ran .mapping .masks) ≡ replyOf s (runs w)
     run-mapped a = ap (λ x. ranReply (record { refusal = runMeans x; masks = ran .mapping .masks })) (sym a) ∙ by-run

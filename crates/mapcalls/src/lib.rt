@@ -82,7 +82,12 @@ pub fn run(state: MapState, chunk: &[u8]) -> MapReply
     if !state.there {
         return plain(MapAnswer::Lacking);
     }
-    let ran = profile::run(state.profile, chunk);
+    let ran = profile::run_lent(
+        state.profile.k,
+        &state.profile.next,
+        &state.profile.mappings,
+        chunk,
+    );
     let answer = ran.answer;
     match answer {
         RunAnswer::Accepted => {

@@ -10,8 +10,8 @@ plain-requires c κs = search needs
 returns : tie.Need-returns
 returns c = search (needs, run-lacks)
 
-run-requires : tie.Need-run-requires
-run-requires c κs = search needs
+run-lent-requires : tie.Need-run-lent-requires
+run-lent-requires c κs = search needs
 
 enum-told : tie.Need-enum-told
 enum-told c = search needs
@@ -34,7 +34,7 @@ run-spec =
     (tie.spec
     plain-requires
     returns
-    run-requires
+    run-lent-requires
     enum-told
     enum-known-answer
     plain-requires-2
