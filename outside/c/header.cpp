@@ -21,12 +21,18 @@ static bool right() {
     bellbadger_verdict_result verdict = bellbadger_verdict(delivered.judge);
     bellbadger_withdraw_result withdrawn = bellbadger_withdraw(opened.judge, 0);
     bellbadger_replay_result replayed = bellbadger_replay(reinterpret_cast<const uint8_t *>(record), std::strlen(record));
+    static_assert(sizeof(bellbadger_profile) == BELLBADGER_PROFILE_SIZE, "the size that the header says");
+    bellbadger_profile_build_result built = bellbadger_profile_build(read.rule);
+    bellbadger_profile_run_result ran = bellbadger_profile_run(built.profile, text, sizeof text);
+    bellbadger_mapping twice = bellbadger_compose(ran.mapping, ran.mapping);
     return bellbadger_version() == BELLBADGER_VERSION && bellbadger_state_size() == sizeof(bellbadger_judge)
         && read.accepted && read.rule.n == 3 && read.rule.targets[17] == 4 && installed.accepted && installed.sets == 5
         && loaded.accepted && loaded.sets == 5 && opened.accepted && delivered.accepted && delivered.looked == 2
         && verdict.kind == BELLBADGER_YES && verdict.number == 2 && verdict.bytes == 2 && verdict.quotient == 1
         && verdict.remainder == 0 && !withdrawn.accepted && withdrawn.refused == 23
-        && replayed.kind == BELLBADGER_MALFORMED && replayed.number == 2;
+        && replayed.kind == BELLBADGER_MALFORMED && replayed.number == 2
+        && bellbadger_profile_size() == sizeof(bellbadger_profile) && built.accepted && built.profile.count == 5 && ran.accepted
+        && ran.mapping.masks[0] == 5 && twice.masks[0] == 5 && bellbadger_profile_verdict(built.profile, twice) == 1;
 }
 
 int main() {

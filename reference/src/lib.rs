@@ -10,6 +10,7 @@ pub mod judge;
 pub mod lines;
 pub mod lists;
 pub mod malformed;
+pub mod mappings;
 pub mod merges;
 pub mod patterns;
 pub mod random;

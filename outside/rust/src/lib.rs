@@ -30,6 +30,9 @@
 //! A rule file can be read without a judge ([`read`]); what comes of it is a [`CheckedRule`], to look at
 //! and to install into any number of judges.
 //!
+//! For small rules there is a mapping machine ([`mappings`]): chunks are run on whatever machines, and what
+//! comes of them, eight bytes each, is put together afterwards.
+//!
 //! A refusal that nobody looks at is told by the compiler:
 //!
 //! ```compile_fail
@@ -41,6 +44,7 @@
 //!
 //! No call keeps anything outside its judge. A judge goes by value within the library: for a thread
 //! that calls it a stack of 512 KB is enough, 128 KB is not (Rust's own threads have 2 MB).
+pub mod mappings;
 mod raw;
 mod refused;
 mod rule;

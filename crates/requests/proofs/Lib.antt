@@ -1,0 +1,3 @@
+-- A page for each request.
+pub mod MappingFunctions
+pub mod Mappings
