@@ -1,0 +1,11 @@
+-- The one proof of all that specs/Claims.antt claims. Assumes nothing.
+use Rattle.samples.specs.Claims.{Claims}
+use Rattle.samples.proofs.Answers as answers
+
+pub claims : Claims
+claims = record {
+  exactly = answers.exactly;
+  short = answers.short;
+  told = answers.told;
+  refused-alike = answers.refused-alike;
+}
