@@ -38,11 +38,11 @@ module _ (a : Walk) (m : ℕ) (columns : a .k ≤ 16) (kept : (x : ℕ) → a .s
   abbrev pub Came : ℕ → ℕ → List ℕ → Type 0
   Came j q w = Found a (λ _. m) keys j q w
 
-  cell-is : (c : ℕ) → c < 8192 → getD cells c 0 ≡ cellOf a keys (c / 16) (c % 16)
+  pub cell-is : (c : ℕ) → c < 8192 → getD cells c 0 ≡ cellOf a keys (c / 16) (c % 16)
   cell-is c b = cell-of 8192 (λ x. cellOf a keys (x / 16) (x % 16)) c 0 b
 
   -- a cell that holds a number above 0 is in use
-  used : (i s j : ℕ) → 0 < j → cellOf a keys i s ≡ j → (i < length keys) × (s < a .k) × (indexOf keys (a .step (key i) s) ≡ j)
+  pub used : (i s j : ℕ) → 0 < j → cellOf a keys i s ≡ j → (i < length keys) × (s < a .k) × (indexOf keys (a .step (key i) s) ≡ j)
   used i s j some e =
       by-test (ltb i (length keys))
       (λ t.
