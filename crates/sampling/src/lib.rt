@@ -146,7 +146,8 @@ fn search_sets(rule: Rule, wish: Wish) -> SampleResult
     requires { ⌜ WellFormed rule ⌝ }
     ensures { λ r. ⌜ sampleOutcome r ≡ outcomeOf (sampleOf rule wish) ⌝ }
 {
-    let table = keys::number_keys(&rule.targets, Kind::Sets, rule.k, rule.initials as u64);
+    let k = rule.k;
+    let table = keys::number_keys(&rule.targets, Kind::Sets, k, rule.initials as u64);
     let numbered = table.answer;
     match numbered {
         Numbering::Over => give_none(SampleAnswer::Refused(35)),
@@ -155,7 +156,8 @@ fn search_sets(rule: Rule, wish: Wish) -> SampleResult
             let first = first_meeting(&sets, count, rule.finals, wish);
             if first < count {
                 let next = table.next;
-                return spell(&next, rule.k as usize, KeyNumber(first as u16));
+                let number = first as u16;
+                return spell(&next, k as usize, KeyNumber(number));
             }
             give_none(SampleAnswer::Nothing)
         }

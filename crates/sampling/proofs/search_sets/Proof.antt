@@ -28,15 +28,15 @@ first-meeting-requires c κs =
     let v = c .before .before .before .numbered .given in
     most (s .args .t1) (s .args .wish) (s .pre) (t .result) (t .ensures) (v .0 .0) (v .1)
 
+cast-number : tie.Need-cast-number
+cast-number c =
+    let s = c .before .before .before .before .before .before .before .before .before .before .before in
+    let t = c .before .before .before .before .before .before .before .before .number-keys in
+    let v = c .before .before .before .before .before .before .numbered .given in
+    omega (arith, c .before .if1 .taken, most (s .args .t1) (s .args .wish) (s .pre) (t .result) (t .ensures) (v .0 .0) (v .1))
+
 cast-spell : tie.Need-cast-spell
 cast-spell c = search needs
-
-cast-t23 : tie.Need-cast-t23
-cast-t23 c =
-    let s = c .before .before .before .before .before .before .before .before .before .before .before .before in
-    let t = c .before .before .before .before .before .before .before .before .before .number-keys in
-    let v = c .before .before .before .before .before .before .before .numbered .given in
-    omega (arith, c .before .before .if1 .taken, most (s .args .t1) (s .args .wish) (s .pre) (t .result) (t .ensures) (v .0 .0) (v .1))
 
 spell-requires : tie.Need-spell-requires
 spell-requires c κs =
@@ -81,8 +81,8 @@ search-sets-spec =
     give-none-requires
     enum-known-numbered
     first-meeting-requires
+    cast-number
     cast-spell
-    cast-t23
     spell-requires
     returns
     give-none-requires-2
