@@ -28,7 +28,8 @@
 //! ```
 //!
 //! A rule file can be read without a judge ([`read`]); what comes of it is a [`CheckedRule`], to look at
-//! and to install into any number of judges.
+//! and to install into any number of judges. The first text that a rule accepts, or the first that it
+//! rejects, is its sample ([`samples::sample`]).
 //!
 //! A refusal that nobody looks at is told by the compiler:
 //!
@@ -44,6 +45,7 @@
 mod raw;
 mod refused;
 mod rule;
+pub mod samples;
 
 pub use refused::{Refused, ReplayError};
 pub use rule::{read, CheckedRule};
