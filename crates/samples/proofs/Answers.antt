@@ -7,7 +7,7 @@ use mathlib.Core.Option.{Option, none, some}
 use Prim.Native.Nat.{ℕ, _≤_, _<_}
 use native.Mathlib.Omega.{arith}
 use lib.Dec.{ltb}
-use lib.ListN.{length, getD, take}
+use lib.ListN.{length, getD, take, List·getD-eq-default}
 use lib.Seq.{ext-getD, getD-take, length-take-le}
 use borrow.Author.Tests.{lt-ltb, ltb-true, ltb-false}
 use Rattle.base.specs.Lists.{listFrom}
@@ -27,10 +27,26 @@ use Rattle.mappings.proofs.Numbered.{text-of}
 use Rattle.samples.specs.declared.Wish.{Wish}
 use Rattle.samples.specs.Samples.{Wished, First, setAfter, ManySets, Searched, Sample, text, nothing, refused, Due}
 use Rattle.samples.specs.Values.{textCells, outcomeOf, sampleIn}
+use Rattle.samples.specs.Claims.{Refused-exactly, Carried}
 use Rattle.samples.specs.Search.{setWalk, reachedSets, reachedTable, manySets, ownConditions, searchNumber, meets, wordTo, foundFirst, sampleBy, sampleOf}
 use Rattle.samples.proofs.Order.{one-text}
 use Rattle.samples.proofs.Firsts.{where-meets, where-before}
 use Rattle.samples.proofs.Wishes.{follow-after, reach, first-text, no-text, short-text}
+
+-- ---- a text by value
+pub carried : (w : List ℕ) → length w ≤ 511 → Carried w
+carried w b =
+    let long : length (textCells w) ≡ 511 = length-listFrom 0 511 (λ c. getD w c 0) in
+    let n : length (take (length w) (textCells w)) ≡ length w = length-take-le (length w) (textCells w) (omega arith) in
+    record {
+      size = long;
+      text = ext-getD 0 (take (length w) (textCells w)) w n
+          (λ i c. getD-take (length w) (textCells w) i 0 (omega arith) ∙ cell-of 511 (λ c. getD w c 0) i 0 (omega arith));
+      zeros = λ c h.
+          by-test (ltb c 511)
+          (λ t. cell-of 511 (λ x. getD w x 0) c 0 (ltb-true c 511 t) ∙ List·getD-eq-default w 0 {n = c} h)
+          (λ t. List·getD-eq-default (textCells w) 0 {n = c} (omega (arith, ltb-false c 511 t)));
+    }
 
 module _ (r : Rule) where
   abbrev count : ℕ
@@ -175,18 +191,30 @@ module _ (r : Rule) where
       by-number (some x),
     )
 
+    -- ---- number by number
+    low : (x : ℕ) → ruleNumber r ≡ some x → x ≤ 8
+    low x e =
+        ⊎-elim (λ z. omega arith) (⊎-elim (λ z. omega arith) (⊎-elim (λ z. omega arith) (λ z. omega arith)))
+        (check.claims .refused r .no-other x e)
+
+    pub numbers : Refused-exactly r wish
+    numbers = record {
+      checked = λ x b. (
+        (λ e. ⊎-elim (λ h. h) (λ h. absurd (omega (arith, h .2))) (exactly (refused x) .0 e)),
+        λ e. exactly (refused x) .1 (inl e),
+      );
+      number-35 = (
+        (λ e. ⊎-elim (λ h. absurd (omega (arith, low 35 h))) (λ h. (check.claims .passes r .0 (h .0), h .1)) (exactly (refused 35) .0 e)),
+        λ h. exactly (refused 35) .1 (inr (check.claims .passes r .1 (h .0), h .1, refl)),
+      );
+      no-other = λ x e. ⊎-elim (λ h. inl (low x h)) (λ h. inr (h .2)) (exactly (refused x) .0 e);
+    }
+
     -- ---- by value
     pub told : sampleIn (outcomeOf (sampleOf r wish)) ≡ sampleOf r wish
     told = go (sampleOf r wish) (λ w e. short w e)
       where
         go : (a : Sample) → ((w : List ℕ) → a ≡ text w → length w ≤ 511) → sampleIn (outcomeOf a) ≡ a
-        go (text w) h = ap text (taken w (h w refl))
-          where
-            taken : (w : List ℕ) → length w ≤ 511 → take (length w) (textCells w) ≡ w
-            taken w b =
-                let long : length (textCells w) ≡ 511 = length-listFrom 0 511 (λ c. getD w c 0) in
-                let n : length (take (length w) (textCells w)) ≡ length w = length-take-le (length w) (textCells w) (omega arith) in
-                ext-getD 0 (take (length w) (textCells w)) w n
-                (λ i c. getD-take (length w) (textCells w) i 0 (omega arith) ∙ cell-of 511 (λ c. getD w c 0) i 0 (omega arith))
+        go (text w) h = ap text (carried w (h w refl) .text)
         go nothing h = refl
         go (refused x) h = refl

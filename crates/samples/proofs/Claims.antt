@@ -5,7 +5,9 @@ use Rattle.samples.proofs.Answers as answers
 pub claims : Claims
 claims = record {
   exactly = answers.exactly;
+  numbers = answers.numbers;
   short = answers.short;
+  carried = answers.carried;
   told = answers.told;
   refused-alike = answers.refused-alike;
 }
