@@ -20,14 +20,13 @@
 -- r is any value, in which any numbers may stand. What sampleOf does need not be believed: `due` says
 -- that it is the answer of the words, and no other is. A proved function ends and stays within its
 -- bounds. Assumes nothing.
-use mathlib.Core.Path.{_≡_, refl, sym, ap, _∙_, subst}
-use mathlib.Core.Logic.{_↔_, _⊎_, ⊎-elim}
+use mathlib.Core.Path.{_≡_, sym, ap, _∙_, subst}
+use mathlib.Core.Logic.{_↔_, _⊎_, inl, inr, ⊎-elim}
 use mathlib.Core.Bool.{true}
 use mathlib.Core.List.{List}
-use mathlib.Core.Option.{none, some}
-use Prim.Native.Nat.{ℕ, _^_, _≤_, _<_}
-use native.Mathlib.Omega.{arith}
-use lib.ListN.{length, getD, take}
+use mathlib.Core.Option.{some}
+use Prim.Native.Nat.{ℕ, _≤_, _<_}
+use lib.ListN.{length}
 use Rattle.masks.specs.Masks.{_∈_}
 use Rattle.automaton.specs.declared.Rule.{Rule}
 use Rattle.automaton.specs.Automaton.{Accepts}
@@ -45,7 +44,7 @@ use Rattle.samples.specs.declared.Wish.{Wish}
 use Rattle.samples.specs.declared.Wish.the-variants as wish
 use Rattle.samples.specs.declared.SampleResult.{SampleResult}
 use Rattle.samples.specs.Samples.{Wished, First, setAfter, ManySets, Searched, Sample, text, nothing, refused, Due}
-use Rattle.samples.specs.Values.{longestSample, none-there, noText, Outcome, sampleOutcome, outcomeOf, sampleIn}
+use Rattle.samples.specs.Values.{longestSample, none-there, noText, sampleOutcome, outcomeOf, sampleIn}
 use Rattle.samples.specs.Values as value
 use Rattle.samples.specs.Search.{sampleOf}
 use Rattle.samples.specs.Claims.{Refused-exactly, Carried}

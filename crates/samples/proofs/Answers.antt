@@ -1,7 +1,6 @@
 -- The answer is the one that is due, and no other is. Assumes nothing.
 use mathlib.Core.Path.{_≡_, refl, sym, ap, _∙_, subst}
 use mathlib.Core.Logic.{_↔_, _⊎_, inl, inr, ⊎-elim}
-use mathlib.Core.Bool.{Bool, true, false, cond}
 use mathlib.Core.List.{List, []}
 use mathlib.Core.Option.{Option, none, some}
 use Prim.Native.Nat.{ℕ, _≤_, _<_}
@@ -11,7 +10,6 @@ use lib.ListN.{length, getD, take, List·getD-eq-default}
 use lib.Seq.{ext-getD, getD-take, length-take-le}
 use borrow.Author.Tests.{lt-ltb, ltb-true, ltb-false}
 use Rattle.base.specs.Lists.{listFrom}
-use Rattle.base.specs.Conditions.{firstOf}
 use Rattle.base.proofs.Lists.{length-listFrom, cell-of}
 use Rattle.base.proofs.Options.{none-some}
 use Rattle.base.proofs.Tests.{zero-one, by-test}
@@ -25,7 +23,7 @@ use Rattle.numbering.specs.Claims.{Reach}
 use Rattle.numbering.proofs.Claims as numbering
 use Rattle.mappings.proofs.Numbered.{text-of}
 use Rattle.samples.specs.declared.Wish.{Wish}
-use Rattle.samples.specs.Samples.{Wished, First, setAfter, ManySets, Searched, Sample, text, nothing, refused, Due}
+use Rattle.samples.specs.Samples.{setAfter, ManySets, Searched, Sample, text, nothing, refused, Due}
 use Rattle.samples.specs.Values.{textCells, outcomeOf, sampleIn}
 use Rattle.samples.specs.Claims.{Refused-exactly, Carried}
 use Rattle.samples.specs.Search.{setWalk, reachedSets, reachedTable, manySets, ownConditions, searchNumber, meets, wordTo, foundFirst, sampleBy, sampleOf}

@@ -17,7 +17,6 @@ use borrow.Author.Tests.{eq-eqb, ne-eqb, lt-ltb, ltb-true, ltb-false}
 use Rattle.base.proofs.Lists.{length-listFrom, cell-of}
 use Rattle.base.proofs.Tests.{by-test}
 use Rattle.numbering.specs.Numbering.{Walk, indexOf, keysUpTo}
-use Rattle.numbering.specs.Texts.{NoLater}
 use Rattle.numbering.proofs.Numbers.{number-is}
 use Rattle.numbering.proofs.OneSeed.{first-key, some-key}
 use Rattle.numbering.proofs.Reached.{own, once}

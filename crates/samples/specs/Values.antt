@@ -8,7 +8,7 @@
 --   outcomeOf a          the answer a by value: the text with its length; where there is none,
 --                        the length 0 and zeros
 --   sampleIn o           the answer that a value tells
-use mathlib.Core.List.{List, []}
+use mathlib.Core.List.{List}
 use Prim.Native.Nat.{ℕ, _-_}
 use lib.ListN.{length, getD, take, replicate}
 use Rattle.limits.specs.Limits.{mostSets}

@@ -16,7 +16,7 @@ use Rattle.samples.specs.declared.Wish.the-variants.{Accepted, Rejected}
 use Rattle.samples.specs.Samples.{Sample, text, nothing, refused}
 use Rattle.samples.specs.Search.{sampleOf}
 use Rattle.samples.proofs.Claims as samples
-use Rattle.sampletext.specs.SampleText.{acceptsWord, rejectsWord, lineFor, linesBy, samplesText, textBy}
+use Rattle.sampletext.specs.SampleText.{acceptsWord, rejectsWord, lineFor, linesBy, textBy}
 use Rattle.sampletext.specs.Claims.{Claims}
 use Rattle.sampletext.proofs.Lines.{field-most}
 

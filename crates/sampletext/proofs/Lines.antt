@@ -8,8 +8,8 @@
 --   file-..      the text for a file
 use mathlib.Core.Path.{_≡_, refl, sym, ap, _∙_}
 use mathlib.Core.List.{List, [], _∷_, _++_}
-use mathlib.Core.Option.{Option, none, some}
-use Prim.Native.Nat.{ℕ, _+_, _*_, _≤_, _<_, min}
+use mathlib.Core.Option.{Option}
+use Prim.Native.Nat.{ℕ, _+_, _≤_, _<_, min}
 use native.Mathlib.Omega.{arith}
 use lib.Dec.{ltb}
 use lib.ListN.{length, take, length-append}
@@ -31,7 +31,7 @@ use Rattle.samples.specs.declared.SampleResult.{SampleResult}
 use Rattle.samples.specs.declared.Wish.{Wish}
 use Rattle.samples.specs.declared.Wish.the-variants as wish
 use Rattle.samples.specs.Values.{answerMeans, Reply, sampleBy, sampleOutcome, outcomeOf, sampleIn}
-use Rattle.samples.specs.Samples.{Sample, text, nothing, refused}
+use Rattle.samples.specs.Samples.{Sample, text}
 use Rattle.samples.specs.Search.{sampleOf}
 use Rattle.samples.proofs.Claims.{claims}
 use Rattle.sampletext.specs.SampleText.{noneWord, lineFor, acceptsWord, rejectsWord, linesBy, samplesText, textBy, textFor}

@@ -17,7 +17,6 @@ use borrow.Author.Tests.{ltb-true, ltb-false}
 use Rattle.base.proofs.Lists.{length-listFrom}
 use Rattle.base.proofs.Tests.{by-test}
 use Rattle.automaton.specs.declared.Rule.{Rule}
-use Rattle.numbering.specs.Numbering.{indexOf}
 use Rattle.numbering.proofs.Numbers.{number-at, number-is}
 use Rattle.keys.specs.Tables.{cellOf}
 use Rattle.samples.specs.Search.{setWalk, reachedSets, reachedTable, firstWhere, firstCell, wordTo}

@@ -1,7 +1,6 @@
 -- `give_text` meets its contract: the array has the text before c, and zeros from there on. Assumes
 -- nothing.
 use native.Mathlib.Omega.{arith}
-use borrow.Author.Needs.{needs}
 use Prim.Native.Nat.{_-_}
 use lib.ListN.{length}
 use Rattle.sampling.proofs.Ways.{Copied, copy-begins, copy-more, copied}

@@ -1,6 +1,5 @@
 -- `meets` meets its contract, wish by wish. Assumes nothing.
 use mathlib.Core.Path.{sym, ap, _∙_}
-use mathlib.Core.Bool.{Bool}
 use lib.Bits.{bitAnd}
 use lib.Dec.{eqb}
 use borrow.Author.Needs.{needs}

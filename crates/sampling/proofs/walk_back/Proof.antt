@@ -4,8 +4,7 @@ use mathlib.Core.Path.{refl, sym, subst}
 use Prim.Native.Nat.{ℕ, _-_, _/_, _%_, _<_}
 use native.Mathlib.Omega.{arith}
 use lib.ListN.{set}
-use borrow.Author.Needs.{needs}
-use Rattle.sampling.proofs.Cells.{below-most, lower}
+use Rattle.sampling.proofs.Cells.{lower}
 use Rattle.sampling.proofs.Back.{Back, back-begins, room, back-more, back-ends}
 use Rattle.sampling.proofs.walk_back.Statement.{statement}
 use Rattle.sampling.proofs.walk_back.Tie as tie
