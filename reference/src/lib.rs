@@ -15,6 +15,7 @@ pub mod merges;
 pub mod patterns;
 pub mod random;
 pub mod rule;
+pub mod samples;
 pub mod shrink;
 pub mod table;
 pub mod tally;

@@ -1,3 +1,4 @@
 -- A page for each request.
 pub mod MappingFunctions
 pub mod Mappings
+pub mod Samples

@@ -1,2 +1,3 @@
 -- What the functions that C links for a request allow, request by request.
 pub mod MappingFunctions
+pub mod SampleFunctions

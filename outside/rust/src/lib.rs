@@ -28,7 +28,8 @@
 //! ```
 //!
 //! A rule file can be read without a judge ([`read`]); what comes of it is a [`CheckedRule`], to look at
-//! and to install into any number of judges.
+//! and to install into any number of judges. The first text that a rule accepts, or the first that it
+//! rejects, is its sample ([`samples::sample`]).
 //!
 //! For small rules there is a mapping machine ([`mappings`]): chunks are run on whatever machines, and what
 //! comes of them, eight bytes each, is put together afterwards.
@@ -48,6 +49,7 @@ pub mod mappings;
 mod raw;
 mod refused;
 mod rule;
+pub mod samples;
 
 pub use refused::{Refused, ReplayError};
 pub use rule::{read, CheckedRule};
