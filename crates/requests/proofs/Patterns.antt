@@ -43,7 +43,7 @@ use Rattle.ruleformat.specs.Writing.{fileOf}
 use Rattle.ruleformat.proofs.Claims as format
 use Rattle.rulewriter.specs.Written.{padded, Writing, writeOf}
 use Rattle.rulewriter.proofs.Claims as writer
-use Rattle.calls.specs.Replies.{yesWith}
+use Rattle.calls.specs.Replies.{yesWith, noWith}
 use Rattle.calls.specs.Calls.{Call}
 use Rattle.histories.specs.History.{ruleIn, boardIn, emptiesIn, summedIn, textIn, verdictIn}
 use Rattle.histories.proofs.EveryList.{every-list}
@@ -129,18 +129,23 @@ accepted = patternfile.claims .accepted
 
 -- ---- FROM A PATTERN TO A VERDICT
 -- Where the rule of the judge is the one in a pattern's file, and no place is empty, the verdict is yes
--- exactly when the standing chunks, without their idle marks, are one of the pattern's texts:
-pub judged : (p : Pattern) (b : List ℕ) → StandsFor p b → patternNumber b ≡ none
-    → (h : List Call) → ruleIn h ≡ ruleOf (fileIn (patternOf b)) → boardIn h ≡ true → emptiesIn h ≡ 0
-    → (verdictIn h ≡ yesWith (summedIn h)) ↔ Matches p (textIn h)
-judged p b s e h rule board full =
-    let yes-is = every-list h .verdict .accepts board full in
-    let same = format.claims .language (fileIn (patternOf b)) (ap (λ (r : Reading). r .number) (read p b s e)) (textIn h) in
-    let text = language p b s e (textIn h) in
-    let accepts : Rule → Type 0 = λ r. Accepts (automatonOf r) (textIn h) in (
-      (λ v. text .0 (same .1 (subst accepts rule (yes-is .0 v)))),
-      λ m. yes-is .1 (subst accepts (sym rule) (same .0 (text .1 m))),
-    )
+-- exactly when the standing chunks, without their idle marks, are one of the pattern's texts, and else
+-- no:
+module _ (p : Pattern) (b : List ℕ) (s : StandsFor p b) (e : patternNumber b ≡ none) (h : List Call) (rule : ruleIn h ≡ ruleOf (fileIn (patternOf b))) where
+  judges : Accepts (automatonOf (ruleIn h)) (textIn h) ↔ Matches p (textIn h)
+  judges =
+      let same = format.claims .language (fileIn (patternOf b)) (ap (λ (r : Reading). r .number) (read p b s e)) (textIn h) in
+      let text = language p b s e (textIn h) in
+      subst (λ (r : Rule). Accepts (automatonOf r) (textIn h) ↔ Matches p (textIn h)) (sym rule)
+      ((λ a. text .0 (same .1 a)), λ m. same .0 (text .1 m))
+
+  pub judged-yes : boardIn h ≡ true → emptiesIn h ≡ 0 → (verdictIn h ≡ yesWith (summedIn h)) ↔ Matches p (textIn h)
+  judged-yes board full =
+      let v = every-list h .verdict .accepts board full in ((λ y. judges .0 (v .0 y)), λ m. v .1 (judges .1 m))
+
+  pub judged-no : boardIn h ≡ true → emptiesIn h ≡ 0 → (verdictIn h ≡ noWith (summedIn h)) ↔ (Matches p (textIn h) → ⊥)
+  judged-no board full =
+      let v = every-list h .verdict .rejects board full in ((λ n m. v .0 n (judges .1 m)), λ n. v .1 (λ a. n (judges .0 a)))
 
 -- ---- WRITING A RULE FILE
 -- For a well-formed rule the bytes that reading turns back into that rule; a value of the type has 512
