@@ -56,6 +56,7 @@ use Rattle.patterns.specs.Positions.{first, last, follow, positionRule}
 use Rattle.patterns.specs.Marked.{Begins, Ends, Comes}
 use Rattle.patterns.specs.Claims.{Few}
 use Rattle.patterns.proofs.Claims as patterns
+use Rattle.patternscan.proofs.Claims as scan
 use Rattle.patternfile.specs.Answers.{patternNumber, patternOf, refusedWith, fileIn}
 use Rattle.patternfile.specs.Worked.{Answered}
 use Rattle.patternfile.specs.Worked as worked
@@ -97,7 +98,11 @@ positions p i j = (patterns.claims .firsts p j, patterns.claims .lasts p i, patt
 
 -- "Letters a to p are symbols 0 to 15; there are juxtaposition, `|`, `*` and round brackets; an empty
 -- alternative, pattern or bracket means the empty text."
--- That is StandsFor, rule by rule. Patterns worked by hand are answered as their list says:
+-- That is StandsFor, rule by rule. It leaves no choice, since no bytes stand for two patterns:
+pub one-tree : (p q : Pattern) (b : List ℕ) → StandsFor p b → StandsFor q b → p ≡ q
+one-tree = scan.claims .one-tree
+
+-- Patterns worked by hand are answered as their list says:
 pub by-hand : Answered worked.patterns
 by-hand = patternfile.claims .answered
 
