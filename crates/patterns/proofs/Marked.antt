@@ -5,18 +5,16 @@
 -- on (`reached`, `some-rest`). Assumes nothing.
 use mathlib.Core.Path.{_≡_, refl, sym, ap, _∙_, subst}
 use mathlib.Core.Logic.{_↔_, inl, inr}
-use mathlib.Core.Bool.{true, cond}
 use mathlib.Core.List.{List, [], _∷_, _++_, append-assoc}
-use Prim.Native.Nat.{ℕ, suc, _+_}
-use lib.Bits.{bitOr}
-use Rattle.masks.specs.Masks.{_∈_, has}
-use Rattle.patterns.specs.Patterns.{Pattern, empty, letter, then, or, star, Matches, Joined, Times, none, more, count}
+use Prim.Native.Nat.{ℕ, _+_}
+use Rattle.masks.specs.Masks.{_∈_}
+use Rattle.patterns.specs.Patterns.{Pattern, empty, letter, then, or, star, Matches, Times, none, more, count}
 use Rattle.patterns.specs.Positions.{nullable, first, last, follow}
 use Rattle.patterns.specs.Marked as spec
 use Rattle.patterns.specs.Marked.{marked}
 use Rattle.patterns.proofs.Theory.{Position, letterAt, First, Last, Follow, Residual, Enters, Begins, GoesOn, began-at, ended, went-on, begins, goes-on}
 use Rattle.patterns.proofs.Numbers.{number, first-of, last-of, follow-of, in-first, in-last, in-follow}
-use Rattle.patterns.proofs.Language.{cons-not-nil}
+use Rattle.patterns.proofs.Language.{cons-not-nil, rest-is}
 
 -- ---- marking changes no set
 same-count : (p : Pattern) (o : ℕ) → count (marked p o) ≡ count p
@@ -140,9 +138,6 @@ reached (star p) x =
 -- ---- a letter in a text stands at a place
 head-is : {a b : ℕ} {v w : List ℕ} → a ∷ v ≡ b ∷ w → a ≡ b
 head-is e = cc
-
-rest-is : {a b : ℕ} {v w : List ℕ} → a ∷ v ≡ b ∷ w → v ≡ w
-rest-is e = cc
 
 -- a place with the letter a and the property P, after which the text w may come
 pub record At (p : Pattern) (P : Position p → Type 0) (a : ℕ) (w : List ℕ) : Type 0 where

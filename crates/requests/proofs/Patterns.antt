@@ -26,8 +26,6 @@ use mathlib.Core.Option.{none, some}
 use Prim.Native.Nat.{ℕ, _≤_}
 use lib.ListN.{length, take, replicate}
 use lib.Dec.{eqb}
-use contract.Lifetimes.{Lfts}
-use denote.Ref.{RefT}
 use Rattle.base.specs.Conditions.{NoneHolds}
 use Rattle.limits.specs.Limits.{longestFile, targetCells}
 use Rattle.masks.specs.Masks.{_∈_}
