@@ -9,6 +9,9 @@
 
 #include "bellbadger.h"
 
+/* a test may use some of them */
+#pragma GCC diagnostic ignored "-Wunused-function"
+
 static long checks;
 
 /* A test need not use all that follows. (Not inline: a judge in each would take too large a stack.) */

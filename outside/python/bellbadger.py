@@ -51,7 +51,7 @@ from pathlib import Path
 __all__ = ["CheckedRule", "Judge", "Loaded", "Looked", "Waiting", "Yes", "No", "Refused", "Malformed", "read", "replay", "version"]
 
 # what this module was written for, as outside/c/bellbadger.h has it; a higher minor number fits too
-_MAJOR, _MINOR, _STATE_SIZE = 4, 2, 27832
+_MAJOR, _MINOR, _STATE_SIZE = 4, 3, 27832
 _WAITING, _YES, _NO, _MALFORMED = 1, 2, 3, 4
 _LARGEST_SIZE = 2**64 - 1
 
@@ -73,6 +73,9 @@ _REASONS = {
     21: "no board is open",
     22: "the revision is not greater than the last one accepted at the place",
     23: "the place has no chunk",
+    30: "the pattern has over 128 bytes",
+    31: "the bytes are no pattern",
+    32: "the pattern has more than 31 letters",
     33: "the rule has more than eight states",
     34: "the rule has more than 512 mappings",
     35: "more than 512 sets are reached from the set of initial states",
@@ -80,7 +83,7 @@ _REASONS = {
 
 
 class Refused(Exception):
-    """A call was refused; the judge is as it was. Of reading: the file is no rule."""
+    """A call was refused; the judge is as it was. Of reading: the file is no rule, the pattern none."""
 
     def __init__(self, number):
         super().__init__(number)

@@ -2,3 +2,4 @@
 pub mod MappingFunctions
 pub mod Mappings
 pub mod Samples
+pub mod Patterns
