@@ -3,5 +3,6 @@ pub mod Sets
 pub mod Tables
 pub mod Languages
 pub mod Conditions
+pub mod Law
 pub mod Examples
 pub mod Claims
