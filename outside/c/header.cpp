@@ -20,12 +20,14 @@ static bool right() {
     bellbadger_deliver_result delivered = bellbadger_deliver(opened.judge, 0, 0, text, sizeof text);
     bellbadger_verdict_result verdict = bellbadger_verdict(delivered.judge);
     bellbadger_withdraw_result withdrawn = bellbadger_withdraw(opened.judge, 0);
+    bellbadger_merge_result merged = bellbadger_merge(BELLBADGER_EITHER, read.rule, read.rule);
     bellbadger_replay_result replayed = bellbadger_replay(reinterpret_cast<const uint8_t *>(record), std::strlen(record));
     return bellbadger_version() == BELLBADGER_VERSION && bellbadger_state_size() == sizeof(bellbadger_judge)
         && read.accepted && read.rule.n == 3 && read.rule.targets[17] == 4 && installed.accepted && installed.sets == 5
         && loaded.accepted && loaded.sets == 5 && opened.accepted && delivered.accepted && delivered.looked == 2
         && verdict.kind == BELLBADGER_YES && verdict.number == 2 && verdict.bytes == 2 && verdict.quotient == 1
         && verdict.remainder == 0 && !withdrawn.accepted && withdrawn.refused == 23
+        && merged.accepted && merged.rule.n == 6 && merged.rule.targets[4 * 16 + 1] == 32
         && replayed.kind == BELLBADGER_MALFORMED && replayed.number == 2;
 }
 

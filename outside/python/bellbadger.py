@@ -51,7 +51,7 @@ from pathlib import Path
 __all__ = ["CheckedRule", "Judge", "Loaded", "Looked", "Waiting", "Yes", "No", "Refused", "Malformed", "read", "replay", "version"]
 
 # what this module was written for, as outside/c/bellbadger.h has it; a higher minor number fits too
-_MAJOR, _MINOR, _STATE_SIZE = 4, 0, 27832
+_MAJOR, _MINOR, _STATE_SIZE = 4, 4, 27832
 _WAITING, _YES, _NO, _MALFORMED = 1, 2, 3, 4
 _LARGEST_SIZE = 2**64 - 1
 
@@ -73,6 +73,8 @@ _REASONS = {
     21: "no board is open",
     22: "the revision is not greater than the last one accepted at the place",
     23: "the place has no chunk",
+    36: "the rules have different numbers of symbols",
+    37: "the result has more than 32 states",
 }
 
 

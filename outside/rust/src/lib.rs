@@ -28,7 +28,7 @@
 //! ```
 //!
 //! A rule file can be read without a judge ([`read`]); what comes of it is a [`CheckedRule`], to look at
-//! and to install into any number of judges.
+//! and to install into any number of judges. Two rules can be made one ([`merge::merge`]).
 //!
 //! A refusal that nobody looks at is told by the compiler:
 //!
@@ -41,6 +41,7 @@
 //!
 //! No call keeps anything outside its judge. A judge goes by value within the library: for a thread
 //! that calls it a stack of 512 KB is enough, 128 KB is not (Rust's own threads have 2 MB).
+pub mod merge;
 mod raw;
 mod refused;
 mod rule;
