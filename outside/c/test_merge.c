@@ -136,6 +136,24 @@ static void languages(int rounds) {
     }
 }
 
+/* the symbol is the n-th from the end: n + 1 states */
+static bellbadger_checked_rule from_the_end(int n, int symbol) {
+    bellbadger_checked_rule r = plain(n + 1, 2);
+    r.finals = 1u << n;
+    set(&r, 0, symbol == 0 ? 3 : 1, symbol == 1 ? 3 : 1);
+    for (int q = 1; q < n; q++) set(&r, q, 2u << q, 2u << q);
+    return r;
+}
+
+/* more than 512 sets in the result: that is for its installation to say */
+static void many_sets(void) {
+    bellbadger_judge j = bellbadger_new();
+    install(&j, from_the_end(4, 0), 0);
+    install(&j, from_the_end(5, 1), 0);
+    install(&j, merge(BELLBADGER_BOTH, from_the_end(4, 0), from_the_end(5, 1), 0), 0);
+    install(&j, merge(BELLBADGER_INTERLEAVING, from_the_end(4, 0), from_the_end(5, 1), 0), 9);
+}
+
 /* random numbers in every field, made more and more sensible: the number is what installing gives to
  * the first rule that is none */
 static void garbage(int rounds) {
@@ -172,6 +190,7 @@ int main(int argc, char **argv) {
     set(&e, 0, 2, 1), set(&e, 1, 1, 2);
     worked();
     refusals();
+    many_sets();
     languages(rounds / 3);
     garbage(rounds);
     printf("C, two rules made one: %ld checks\n", checks);
