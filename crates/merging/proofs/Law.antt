@@ -6,6 +6,7 @@ use mathlib.Core.Option.{Option, none, some}
 use Prim.Native.Nat.{ℕ, _+_, _*_, _<_}
 use Rattle.base.specs.Conditions.{NoneHolds, FirstHolds}
 use Rattle.base.proofs.Conditions.{none-law, first-law}
+use Rattle.base.proofs.Lists.{length-listFrom}
 use Rattle.automaton.specs.declared.Rule.{Rule}
 use Rattle.automaton.specs.Automaton.{Automaton, Accepts}
 use Rattle.automaton.specs.Rules.{targetMask, automatonOf}
@@ -18,11 +19,12 @@ use Rattle.products.proofs.Words.{in-pairs, side-by-side}
 use Rattle.merging.specs.declared.Way.{Way}
 use Rattle.merging.specs.declared.Way.the-variants.{Both, Either, Interleaving}
 use Rattle.merging.specs.Languages.{mergedBy, Merges, MadeBy, Same}
-use Rattle.merging.specs.Merged.{statesOf, targetsOf, mergedOf}
+use Rattle.merging.specs.Merged.{statesOf, targetsOf, cellIn, mergedOf}
 use Rattle.merging.specs.Merging.{mergeConditions, mergeNumber, mergingBy, mergeOf}
 use Rattle.merging.specs.Claims.{Mergeable, MergeLaw}
 use Rattle.merging.proofs.Conditions.{refused-exactly}
 use Rattle.merging.proofs.Tables.{table-law}
+use Rattle.merging.proofs.Only.{one-value}
 use Rattle.merging.proofs.Languages.{well-formed, automaton-law, language}
 
 -- ---- the words hold of every automaton with the same states, arcs and marks
@@ -92,6 +94,9 @@ module _ (way : Way) (one two : Rule) where
   rule-is : mergeOf way one two .number ≡ none → mergeOf way one two .rule ≡ result
   rule-is e = rule-of number result (given e)
 
+  made : Mergeable way one two → MadeBy way (automatonOf one) (automatonOf two) (automatonOf result)
+  made m = made-by (automatonOf one) (automatonOf two) (m .same) (automatonOf result) way (automaton-law way one two m)
+
   accepted-law : (number ≡ none) ↔ NoneHolds (mergeConditions way one two)
   unfolding mergeNumber
   accepted-law = none-law (mergeConditions way one two)
@@ -118,7 +123,13 @@ module _ (way : Way) (one two : Rule) where
         subst
         (λ (r : Rule). MadeBy way (automatonOf one) (automatonOf two) (automatonOf r))
         (sym (rule-is e))
-        (made-by (automatonOf one) (automatonOf two) (taken (given e) .same) (automatonOf result) way (automaton-law way one two (taken (given e))));
+        (made (taken (given e)));
+    only = λ e r long good so.
+        one-value way (automatonOf one) (automatonOf two) r result good (well-formed way one two (taken (given e))) long
+        (length-listFrom 0 512 (cellIn way (one .n) (two .n) (one .targets) (two .targets)))
+        so
+        (made (taken (given e)))
+        ∙ sym (rule-is e);
     language = λ e w.
         subst
         (λ (r : Rule). Accepts (automatonOf r) w ↔ Merges way (automatonOf one) (automatonOf two) w)

@@ -73,7 +73,10 @@ pub record MergeLaw (way : Way) (one two : Rule) : Type 0 where
   -- its automaton is made of those of the two rules as the request says
   pub made : mergeOf way one two .number ≡ none
       → MadeBy way (automatonOf one) (automatonOf two) (automatonOf (mergeOf way one two .rule))
-  -- and accepts a text exactly when the way says so
+  -- and no other value is so made: the request's words fix every number of it
+  pub only : mergeOf way one two .number ≡ none → (r : Rule) → length (r .targets) ≡ targetCells → WellFormed r
+      → MadeBy way (automatonOf one) (automatonOf two) (automatonOf r) → r ≡ mergeOf way one two .rule
+  -- it accepts a text exactly when the way says so
   pub language : mergeOf way one two .number ≡ none → (w : List ℕ)
       → Accepts (automatonOf (mergeOf way one two .rule)) w ↔ Merges way (automatonOf one) (automatonOf two) w
 

@@ -8,6 +8,7 @@
 --   NoneHolds, FirstHolds       no condition; the first that holds      base/specs/Conditions
 --   mergedOf way one two        the value, number by number             merging/specs/Merged
 --   InPairs, SideBySide         pairs and states, in words              products/specs/Words
+--   MadeBy, Merges              each way's states, and its texts        merging/specs/Languages
 --   Interleaving u v w          w is an interleaving of u and v         products/specs/Interleavings
 --   TwoRuns way .., Woven       two runs along one text                 products/specs/Claims
 --   Accepts, Run, Arc           automata and their runs (000)           automaton/specs/Automaton
@@ -28,10 +29,10 @@ use mathlib.Core.Option.{none, some}
 use Prim.Native.Nat.{ℕ, _≤_, _<_}
 use lib.ListN.{length}
 use Rattle.base.specs.Conditions.{NoneHolds, FirstHolds}
-use Rattle.limits.specs.Limits.{longestFile}
+use Rattle.limits.specs.Limits.{longestFile, targetCells}
 use Rattle.automaton.specs.declared.Rule.{Rule}
 use Rattle.automaton.specs.Automaton.{Automaton, Run, Accepts}
-use Rattle.automaton.specs.Rules.{automatonOf}
+use Rattle.automaton.specs.Rules.{automatonOf, WellFormed}
 use Rattle.rulecheck.specs.Checking.{ruleNumber}
 use Rattle.ruleformat.specs.Refusals.{refusal}
 use Rattle.ruleformat.specs.Reader.{ruleOf}
@@ -51,7 +52,7 @@ use Rattle.products.proofs.Claims as products
 use Rattle.merging.specs.declared.Way.{Way}
 use Rattle.merging.specs.declared.Way.the-variants as way
 use Rattle.merging.specs.declared.MergeResult.{MergeResult}
-use Rattle.merging.specs.Languages.{Merges}
+use Rattle.merging.specs.Languages.{Merges, MadeBy}
 use Rattle.merging.specs.Merged.{mergedOf}
 use Rattle.merging.specs.Merging.{mergeConditions, mergeOutcome, mergeOf, wayOf}
 use Rattle.merging.specs.Worked.{merges, Answered}
@@ -123,6 +124,11 @@ pairs-move-one one two = merging-law way.Interleaving one two .made
 pub own-states : (one two : Rule) → mergeOf way.Either one two .number ≡ none
     → SideBySide (automatonOf one) (automatonOf two) (automatonOf (mergeOf way.Either one two .rule))
 own-states one two = merging-law way.Either one two .made
+
+-- The words leave nothing open: any well-formed value of the type that is so made is the one answered.
+pub only : (w : Way) (one two : Rule) → mergeOf w one two .number ≡ none → (r : Rule) → length (r .targets) ≡ targetCells → WellFormed r
+    → MadeBy w (automatonOf one) (automatonOf two) (automatonOf r) → r ≡ mergeOf w one two .rule
+only w one two = merging-law w one two .only
 
 -- "both and interleaving share the facts on pairs": one theorem on runs, for either way of moving, of
 -- any two automata with the same symbols.
