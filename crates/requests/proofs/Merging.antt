@@ -68,6 +68,7 @@ use Rattle.mergestream.proofs.Claims as mergestream
 use Rattle.c_merge.specs.declared.MergeNumbers.{MergeNumbers}
 use Rattle.c_merge.specs.Numbers.{mergeShown, mergeReadBack}
 use Rattle.c_merge.proofs.ReadBack as c-merge
+use Rattle.c_merge.proofs.Asks as c-asks
 use Rattle.requests.specs.MergeFunction.{AsksMerge, MayMerge, AsksMergeC, MayMergeC}
 
 -- ---- THE CALL
@@ -168,7 +169,7 @@ allowed w one two r = ((λ m. m .1), λ e. ((w, (one, (two, tt))), e))
 -- and so may the function that C links, in numbers of which nothing is lost. Every number names a way:
 -- 0 both, 1 either, any other interleaving.
 pub asks-nothing-from-C : (x : ℕ) (one two : Rule) → AsksMergeC x one two
-asks-nothing-from-C x one two = tt
+asks-nothing-from-C = c-asks.merge-asks-nothing
 
 pub from-C : (x : ℕ) (one two : Rule) (r : MergeNumbers) → MayMergeC x one two r ↔ (r ≡ mergeShown (mergeOf (wayOf x) one two))
 from-C x one two r = ((λ m. m .1), λ e. ((x, (one, (two, tt))), e))
