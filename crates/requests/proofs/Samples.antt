@@ -9,9 +9,9 @@
 --   Accepts, Run                 automata and their runs (000)           automaton/specs/Automaton
 --   Reached a m w p              some member of m has a run over w to p  automaton/specs/Successor
 --   ruleNumber r, WellFormed     3, 4, 6, 8 of a rule as a value (R-3)   rulecheck/specs/Checking, automaton/specs/Rules
---   outcomeOf a, textCells w     an answer by value                      samples/specs/Values
+--   Carries a o; outcomeOf a     a value that carries the answer a       samples/specs/Values
 --   sampleOf r wish              the answer that the code gives          samples/specs/Search
---   Refused-exactly, Carried     number by number; a text by value       samples/specs/Claims
+--   Refused-exactly              number by number                        samples/specs/Claims
 --   MaySample, MaySampleC        what the functions' contracts allow     requests/specs/SampleFunctions
 --   wishOf x, sampleShown        C's numbers                             c_samples/specs/Numbers
 --   textFor f                    what `rulesample` prints                sampletext/specs/SampleText
@@ -20,7 +20,7 @@
 -- r is any value, in which any numbers may stand. What sampleOf does need not be believed: `due` says
 -- that it is the answer of the words, and no other is. A proved function ends and stays within its
 -- bounds. Assumes nothing.
-use mathlib.Core.Path.{_≡_, sym, ap, _∙_, subst}
+use mathlib.Core.Path.{_≡_, refl, sym, ap, _∙_, subst}
 use mathlib.Core.Logic.{_↔_, _⊎_, inl, inr, ⊎-elim}
 use mathlib.Core.Bool.{true}
 use mathlib.Core.List.{List}
@@ -44,10 +44,10 @@ use Rattle.samples.specs.declared.Wish.{Wish}
 use Rattle.samples.specs.declared.Wish.the-variants as wish
 use Rattle.samples.specs.declared.SampleResult.{SampleResult}
 use Rattle.samples.specs.Samples.{Wished, First, setAfter, ManySets, Searched, Sample, text, nothing, refused, Due}
-use Rattle.samples.specs.Values.{longestSample, none-there, noText, sampleOutcome, outcomeOf, sampleIn}
-use Rattle.samples.specs.Values as value
+use Rattle.samples.specs.Values.{longestSample, none-there, noText, Outcome, sampleOutcome, Carries, outcomeOf, sampleIn}
+use Rattle.samples.specs.Values as values
 use Rattle.samples.specs.Search.{sampleOf}
-use Rattle.samples.specs.Claims.{Refused-exactly, Carried}
+use Rattle.samples.specs.Claims.{Refused-exactly}
 use Rattle.samples.proofs.Claims as samples
 use Rattle.sampletext.specs.SampleText.{textFor, mostBytes}
 use Rattle.sampletext.proofs.Claims as sampletext
@@ -60,8 +60,12 @@ use Rattle.requests.specs.SampleFunctions.{AsksSample, MaySample, AsksSa
 -- "Owners want to see a trace that their rule accepts, or one that it rejects." "One argument should
 -- serve both wishes": all below is one proof, in which the wish is a parameter. The whole request in one
 -- line: the answer is the one that is due, and none but that is due.
-pub due : (r : Rule) (w : Wish) (a : Sample) → (sampleOf r w ≡ a) ↔ Due r w a
+pub due : (r : Rule) (wished : Wish) (a : Sample) → (sampleOf r wished ≡ a) ↔ Due r wished a
 due = samples.claims .exactly
+
+-- By value: a value is the one that is answered exactly where it carries an answer that is due.
+pub value : (r : Rule) (wished : Wish) (o : Outcome) → (o ≡ outcomeOf (sampleOf r wished)) ↔ (a : Sample) × Due r wished a × Carries a o
+value = samples.claims .value
 
 -- ---- THE TEXT
 -- "From a checked rule give .. the shortest such text .., and among the shortest the first by symbols":
@@ -76,14 +80,15 @@ shortest r wished w e v h =
     (⊎-elim (λ z. inl z) (λ z. inr (z .0, inr (z .1))))
     (first r wished w .0 e .1 .no-sooner v h)
 
--- "(at most 511 bytes)", "by value with its length and zeros after it":
+-- "(at most 511 bytes)":
 pub at-most : (r : Rule) (wished : Wish) (w : List ℕ) → sampleOf r wished ≡ text w → length w ≤ longestSample
 at-most = samples.claims .short
 
-pub by-value : (r : Rule) (wished : Wish) (w : List ℕ) → sampleOf r wished ≡ text w
-    → Carried w × (outcomeOf (sampleOf r wished) .length ≡ length w) × (outcomeOf (sampleOf r wished) .text ≡ value.textCells w)
-by-value r wished w e =
-    (samples.claims .carried w (at-most r wished w e), ap (λ (a : Sample). outcomeOf a .length) e, ap (λ (a : Sample). outcomeOf a .text) e)
+-- "by value with its length and zeros after it":
+pub by-value : (r : Rule) (wished : Wish) → Carries (sampleOf r wished) (outcomeOf (sampleOf r wished))
+by-value r wished =
+    let v = value r wished (outcomeOf (sampleOf r wished)) .0 refl in
+    subst (λ (a : Sample). Carries a (outcomeOf (sampleOf r wished))) (sym (due r wished (v .0) .1 (v .1))) (v .2)
 
 -- "say none, with length 0 and zeros, exactly when there is none." (Where the rule is not refused: a
 -- refusal comes first.)
@@ -93,7 +98,7 @@ no-text r wished = due r wished nothing
 pub none-by-value : (r : Rule) (wished : Wish) → sampleOf r wished ≡ nothing → outcomeOf (sampleOf r wished) ≡ noText none-there
 none-by-value r wished = ap outcomeOf
 
--- The value tells the answer; none and the empty text are told apart.
+-- The value tells the answer: none and the empty text are told apart.
 pub told : (r : Rule) (wished : Wish) → sampleIn (outcomeOf (sampleOf r wished)) ≡ sampleOf r wished
 told = samples.claims .told
 
@@ -115,16 +120,17 @@ pub as-installing : (r : Rule) (x : ℕ) → ruleNumber r ≡ some x → install
 as-installing = calls-loading.as-installing
 
 -- R-3: "a refused call .. carries zeros":
-pub zeros : (r : Rule) (wished : Wish) (x : ℕ) → sampleOf r wished ≡ refused x → outcomeOf (sampleOf r wished) ≡ noText (value.refused x)
+pub zeros : (r : Rule) (wished : Wish) (x : ℕ) → sampleOf r wished ≡ refused x → outcomeOf (sampleOf r wished) ≡ noText (values.refused x)
 zeros r wished x = ap outcomeOf
 
 -- ---- THE FUNCTIONS
--- `find_sample` asks nothing, and may return that answer and no other:
+-- `find_sample` asks nothing, and may return what carries the answer that is due, and nothing else:
 pub asks-nothing : (r : Rule) (wished : Wish) → AsksSample r wished
 asks-nothing r wished = tt
 
-pub allowed : (r : Rule) (wished : Wish) (s : SampleResult) → MaySample r wished s ↔ (sampleOutcome s ≡ outcomeOf (sampleOf r wished))
-allowed r wished s = ((λ m. m .1), λ e. ((r, (wished, tt)), e))
+pub allowed : (r : Rule) (wished : Wish) (s : SampleResult)
+    → MaySample r wished s ↔ (a : Sample) × Due r wished a × Carries a (sampleOutcome s)
+allowed r wished s = ((λ m. value r wished (sampleOutcome s) .0 (m .1)), λ h. ((r, (wished, tt)), value r wished (sampleOutcome s) .1 h))
 
 -- and so may the function that C links, in numbers of which nothing is lost. Every number names a wish:
 -- 0 accepted, any other rejected.

@@ -6,8 +6,7 @@ use mathlib.Core.Option.{Option, none, some}
 use Prim.Native.Nat.{ℕ, _≤_, _<_}
 use native.Mathlib.Omega.{arith}
 use lib.Dec.{ltb}
-use lib.ListN.{length, getD, take, List·getD-eq-default}
-use lib.Seq.{ext-getD, getD-take, length-take-le}
+use lib.ListN.{length, getD}
 use borrow.Author.Tests.{lt-ltb, ltb-true, ltb-false}
 use Rattle.base.specs.Lists.{listFrom}
 use Rattle.base.proofs.Lists.{length-listFrom, cell-of}
@@ -24,27 +23,13 @@ use Rattle.numbering.proofs.Claims as numbering
 use Rattle.mappings.proofs.Numbered.{text-of}
 use Rattle.samples.specs.declared.Wish.{Wish}
 use Rattle.samples.specs.Samples.{setAfter, ManySets, Searched, Sample, text, nothing, refused, Due}
-use Rattle.samples.specs.Values.{textCells, outcomeOf, sampleIn}
-use Rattle.samples.specs.Claims.{Refused-exactly, Carried}
+use Rattle.samples.specs.Values.{Outcome, Carries, outcomeOf, sampleIn}
+use Rattle.samples.specs.Claims.{Refused-exactly}
 use Rattle.samples.specs.Search.{setWalk, reachedSets, reachedTable, manySets, ownConditions, searchNumber, meets, wordTo, foundFirst, sampleBy, sampleOf}
 use Rattle.samples.proofs.Order.{one-text}
+use Rattle.samples.proofs.Values.{outcome-tells, outcome-carries, carries-one}
 use Rattle.samples.proofs.Firsts.{where-meets, where-before}
 use Rattle.samples.proofs.Wishes.{follow-after, reach, first-text, no-text, short-text}
-
--- ---- a text by value
-pub carried : (w : List ℕ) → length w ≤ 511 → Carried w
-carried w b =
-    let long : length (textCells w) ≡ 511 = length-listFrom 0 511 (λ c. getD w c 0) in
-    let n : length (take (length w) (textCells w)) ≡ length w = length-take-le (length w) (textCells w) (omega arith) in
-    record {
-      size = long;
-      text = ext-getD 0 (take (length w) (textCells w)) w n
-          (λ i c. getD-take (length w) (textCells w) i 0 (omega arith) ∙ cell-of 511 (λ c. getD w c 0) i 0 (omega arith));
-      zeros = λ c h.
-          by-test (ltb c 511)
-          (λ t. cell-of 511 (λ x. getD w x 0) c 0 (ltb-true c 511 t) ∙ List·getD-eq-default w 0 {n = c} h)
-          (λ t. List·getD-eq-default (textCells w) 0 {n = c} (omega (arith, ltb-false c 511 t)));
-    }
 
 module _ (r : Rule) where
   abbrev count : ℕ
@@ -209,10 +194,14 @@ module _ (r : Rule) where
     }
 
     -- ---- by value
-    pub told : sampleIn (outcomeOf (sampleOf r wish)) ≡ sampleOf r wish
-    told = go (sampleOf r wish) (λ w e. short w e)
-      where
-        go : (a : Sample) → ((w : List ℕ) → a ≡ text w → length w ≤ 511) → sampleIn (outcomeOf a) ≡ a
-        go (text w) h = ap text (carried w (h w refl) .text)
-        go nothing h = refl
-        go (refused x) h = refl
+    abbrev answer : Sample
+    answer = sampleOf r wish
+
+    pub told : sampleIn (outcomeOf answer) ≡ answer
+    told = outcome-tells answer short
+
+    pub value : (o : Outcome) → (o ≡ outcomeOf answer) ↔ (a : Sample) × Due r wish a × Carries a o
+    value o = (
+      (λ e. (answer, exactly answer .0 refl, subst (Carries answer) (sym e) (outcome-carries answer short))),
+      λ h. carries-one (h .0) o (h .2) ∙ ap outcomeOf (sym (exactly (h .0) .1 (h .1))),
+    )

@@ -7,7 +7,7 @@ claims = record {
   exactly = answers.exactly;
   numbers = answers.numbers;
   short = answers.short;
-  carried = answers.carried;
+  value = answers.value;
   told = answers.told;
   refused-alike = answers.refused-alike;
 }

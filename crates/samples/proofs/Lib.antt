@@ -3,5 +3,6 @@ pub mod Order
 pub mod WayBack
 pub mod Firsts
 pub mod Wishes
+pub mod Values
 pub mod Answers
 pub mod Claims

@@ -1,8 +1,8 @@
 -- `put_reply` meets its contract. Assumes nothing.
-use Rattle.maplines.proofs.Writing.{forgotten-text, built-text, mapped-text, yes-text, no-text, lacking-text, refused-text}
+use Rattle.mapreplies.proofs.Writing.{forgotten-text, built-text, mapped-text, yes-text, no-text, lacking-text, refused-text}
 use borrow.Author.Needs.{needs}
-use Rattle.maplines.proofs.put_reply.Statement.{statement}
-use Rattle.maplines.proofs.put_reply.Tie as tie
+use Rattle.mapreplies.proofs.put_reply.Statement.{statement}
+use Rattle.mapreplies.proofs.put_reply.Tie as tie
 
 enum-told : tie.Need-enum-told
 enum-told c = search needs

@@ -19,7 +19,7 @@ use Rattle.mapcalls.specs.declared.MapAnswer.{MapAnswer}
 use Rattle.mapcalls.specs.declared.MapAnswer.the-variants.{Forgotten, Built, Mapped, Yes, No, Lacking, Refused}
 use Rattle.mapcalls.specs.declared.MapReply.{MapReply}
 use Rattle.mapcalls.specs.Calls.{built, mapped, answerMeans, replyMeans}
-use Rattle.maplines.specs.Answers.{no-profile, saidText, replyText}
+use Rattle.mapreplies.specs.Replies.{no-profile, saidText, replyText}
 
 pub count-most : (n : ℕ) → n < 65536 → length (decimal n) ≤ 5
 count-most n h = decimal-most 4 n (omega arith)

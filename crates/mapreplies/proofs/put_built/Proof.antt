@@ -1,10 +1,10 @@
 -- `put_built` meets its contract. Assumes nothing.
 use Rattle.text.proofs.Rooms.{exact, most, left, fits, more, two}
-use Rattle.maplines.proofs.Writing.{count-most}
+use Rattle.mapreplies.proofs.Writing.{count-most}
 use native.Mathlib.Omega.{arith}
 use borrow.Author.Needs.{needs}
-use Rattle.maplines.proofs.put_built.Statement.{statement}
-use Rattle.maplines.proofs.put_built.Tie as tie
+use Rattle.mapreplies.proofs.put_built.Statement.{statement}
+use Rattle.mapreplies.proofs.put_built.Tie as tie
 
 slice-aggregate-put-bytes : tie.Need-slice-aggregate-put-bytes
 slice-aggregate-put-bytes c = search needs

@@ -1,8 +1,8 @@
 -- `put_mapped` meets its contract. Assumes nothing.
-use Rattle.maplines.proofs.Writing.{mapped-room, mapped-whole}
+use Rattle.mapreplies.proofs.Writing.{mapped-room, mapped-whole}
 use borrow.Author.Needs.{needs}
-use Rattle.maplines.proofs.put_mapped.Statement.{statement}
-use Rattle.maplines.proofs.put_mapped.Tie as tie
+use Rattle.mapreplies.proofs.put_mapped.Statement.{statement}
+use Rattle.mapreplies.proofs.put_mapped.Tie as tie
 
 put-mapping-requires : tie.Need-put-mapping-requires
 put-mapping-requires c κs = search needs
