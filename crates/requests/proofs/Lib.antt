@@ -3,3 +3,4 @@ pub mod MappingFunctions
 pub mod Mappings
 pub mod Samples
 pub mod Patterns
+pub mod Merging

@@ -2,3 +2,4 @@
 pub mod MappingFunctions
 pub mod SampleFunctions
 pub mod PatternFunction
+pub mod MergeFunction
