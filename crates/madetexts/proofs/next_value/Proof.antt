@@ -1,4 +1,4 @@
--- `shift` meets its contract. Assumes nothing.
+-- `next_value` meets its contract. Assumes nothing.
 use borrow.Author.Needs.{needs}
 use Rattle.madetexts.specs.Values.{nextValue}
 use Rattle.madetexts.proofs.next_value.Statement.{statement}
