@@ -25,10 +25,10 @@ answered (one-more {h = h} {block = block} {blocks = blocks} b) =
     ∙ sym (shortlines.claims .answers-parts answerHeld 62 h block (flatten blocks))
 
 written : {blocks : List (List ℕ)} {h : Option (List ℕ)} {text : List ℕ} → Blocks (some []) blocks h text
-  → text ++ lastAnswer answerHeld h ≡ answersTo answerTo (linesOf (flatten blocks))
+    → text ++ lastAnswer answerHeld h ≡ answersTo answerTo (linesOf (flatten blocks))
 written {blocks = blocks} b =
-  ap₂ (λ (t : List ℕ) (h : Option (List ℕ)). t ++ lastAnswer answerHeld h) (answered b) (kept b)
-  ∙ shortlines.claims .whole answerHeld answerTo 62 (maketextlines.claims .decides) (flatten blocks)
+    ap₂ (λ (t : List ℕ) (h : Option (List ℕ)). t ++ lastAnswer answerHeld h) (answered b) (kept b)
+    ∙ shortlines.claims .whole answerHeld answerTo 62 (maketextlines.claims .decides) (flatten blocks)
 
 pub claims : Claims
 claims = record { written = written }
