@@ -9,6 +9,9 @@
 
 #include "bellbadger.h"
 
+/* a test may use some of them */
+#pragma GCC diagnostic ignored "-Wunused-function"
+
 static long checks;
 
 #define CHECK(fact)                                                  \

@@ -73,6 +73,7 @@ _REASONS = {
     21: "no board is open",
     22: "the revision is not greater than the last one accepted at the place",
     23: "the place has no chunk",
+    41: "the seed is 0",
 }
 
 

@@ -19,7 +19,8 @@ impl Refused {
         Refused(number)
     }
 
-    /// Why: 1 to 13 for what is wrong with the input, 20 to 23 for what stands in the way.
+    /// Why: 1 to 13 for what is wrong with the input, 20 to 23 for what stands in the way, 41
+    /// for a seed that makes no text.
     #[must_use]
     pub fn number(self) -> u8 {
         self.0
@@ -44,6 +45,7 @@ impl Refused {
             21 => "no board is open",
             22 => "the revision is not greater than the last one accepted at the place",
             23 => "the place has no chunk",
+            41 => "the seed is 0",
             _ => "for a reason that this wrapper does not know",
         }
     }
@@ -95,11 +97,11 @@ mod tests {
     /// Each of the paper's numbers has words of its own.
     #[test]
     fn every_number_has_its_words() {
-        let numbers = (1..=13).chain(20..=23);
+        let numbers = (1..=13).chain(20..=23).chain([41]);
         let words: BTreeSet<&str> = numbers
             .chain([99])
             .map(|number| Refused::new(number).reason())
             .collect();
-        assert_eq!(words.len(), 17 + 1);
+        assert_eq!(words.len(), 18 + 1);
     }
 }
