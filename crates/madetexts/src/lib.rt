@@ -35,7 +35,8 @@ fn fill(k: u8, seed: u64, text: &mut [u8])
     }
 }
 
-// The made text of k symbols fills the buffer, or the call is refused and the buffer stays as it is.
+// The made text of k symbols fills the buffer; where the call is refused, the buffer stays as it
+// is.
 pub fn make_text(k: u8, seed: u64, text: &mut [u8]) -> MadeAnswer
     ensures { λ r. ⌜ Makes k seed (now (text .entry)) r (now (text .exit)) ⌝ }
 {

@@ -1,9 +1,9 @@
-// Makes test texts: each line of standard input is `K SEED LENGTH`, and is answered by one line, the
-// made text in hex digits, `refused` with a number, or `malformed`. What a line means and how it is
-// answered is proved in the crates below; this program only reads and writes. The answers to a block
-// that was read are written before the next is read. Where it cannot read or write it says so on
-// standard error and stops. What it prints is no promise, since the C library's `write` makes none: a
-// test holds it.
+// Makes test texts: each line of standard input is `K SEED LENGTH`, and is answered by one line,
+// the made text in hex digits, `refused` with a number, or `malformed`. What a line means and how
+// it is answered is proved in the crates below; this program only reads and writes. The answers to
+// a block that was read are written before the next is read. Where it cannot read or write it says
+// so on standard error and stops. What it prints is no promise, since the C library's `write` makes
+// none: a test holds it.
 ghost use mathlib.Core.Path.{_≡_};
 ghost use mathlib.Core.Bool.{false};
 ghost use Prim.Native.Nat.{_≤_};

@@ -2,7 +2,6 @@
 --
 --   field-none, field-some   the ways out of `put_field`
 --   field-most               the most bytes of the field of a text
---   prefix                   the length of a part that begins a buffer
 --   byte-left, made-line     the line feed behind the field of a text that was made: its room, and the
 --                            line
 --   refused-line             the line of a refusal
@@ -14,8 +13,7 @@ use mathlib.Core.Option.{Option, none, some}
 use Prim.Native.Nat.{ℕ, _+_, _*_, _≤_, _<_}
 use native.Mathlib.Omega.{arith}
 use lib.Dec.{leb}
-use lib.ListN.{length, take}
-use lib.Seq.{length-take-le}
+use lib.ListN.{length}
 use borrow.Author.Tests.{leb-true}
 use Rattle.base.proofs.Tests.{by-test, zero-one}
 use Rattle.text.specs.Writing.{Wrote}
@@ -46,9 +44,6 @@ module _ {before : List ℕ} {at : ℕ} {after : List ℕ} {end : ℕ} where
 pub field-most : (b : List ℕ) → length b ≤ 65536 → length (fieldOf b) ≤ 131072
 field-most [] h = omega arith
 field-most (x ∷ b) h = omega (arith, digits-length (x ∷ b))
-
-pub prefix : (n : ℕ) (w : List ℕ) → n ≤ length w → n ≡ length (take n w)
-prefix n w h = sym (length-take-le n w h)
 
 -- ---- `put_made`
 module _ (b : List ℕ) {before : List ℕ} {at : ℕ} {mid : List ℕ} {e : ℕ} (room : at + 131073 ≤ length before) (short : length b ≤ 65536)

@@ -3,7 +3,7 @@ use native.Mathlib.Omega.{arith}
 use borrow.Author.Needs.{needs}
 use Rattle.maketextlines.specs.Lines.{lineMeans}
 use Rattle.maketextlines.proofs.Readings.{no-space, one-space, two-spaces}
-use Rattle.maketextlines.proofs.Writing.{prefix}
+use Rattle.shortlines.proofs.Rounds.{prefix}
 use Rattle.maketextlines.proofs.parse.Statement.{statement}
 use Rattle.maketextlines.proofs.parse.Tie as tie
 
