@@ -81,6 +81,7 @@ _REASONS = {
     35: "more than 512 sets are reached from the set of initial states",
     36: "the rules have different numbers of symbols",
     37: "the result has more than 32 states",
+    41: "the seed is 0",
 }
 
 

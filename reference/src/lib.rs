@@ -9,6 +9,7 @@ pub mod faults;
 pub mod judge;
 pub mod lines;
 pub mod lists;
+pub mod made;
 pub mod malformed;
 pub mod mappings;
 pub mod merges;

@@ -31,6 +31,7 @@
 //! and to install into any number of judges. The first text that a rule accepts, or the first that it
 //! rejects, is its sample ([`samples::sample`]). A shop owner writes a pattern, from which
 //! [`patterns::rule_file`] makes the file. Two rules can be made one ([`merge::merge`]).
+//! [`texts::make_text`] makes test texts.
 //!
 //! For small rules there is a mapping machine ([`mappings`]): chunks are run on whatever machines, and what
 //! comes of them, eight bytes each, is put together afterwards.
@@ -53,6 +54,7 @@ mod raw;
 mod refused;
 mod rule;
 pub mod samples;
+pub mod texts;
 
 pub use refused::{Refused, ReplayError};
 pub use rule::{read, CheckedRule};
