@@ -3,7 +3,7 @@
 --
 --   foreign-text, late-text, text-run   attemptOf
 --   refused-attempt, kept-attempt       deliverOf, once 21, 11 and 12 do not hold
-use mathlib.Core.Path.{_≡_, refl, sym, ap, _∙_}
+use mathlib.Core.Path.{_≡_, refl, _∙_}
 use mathlib.Core.Bool.{Bool, true, false}
 use mathlib.Core.List.{List}
 use Prim.Native.Nat.{ℕ, _+_, _≤_, _<_}
@@ -14,10 +14,9 @@ use Rattle.chunks.specs.Chunks.{foreign}
 use Rattle.chunks.specs.Walks.{runMask, runsOf}
 use Rattle.marks.specs.Marks.{textOf}
 use Rattle.board.specs.Boards.{placesOf, comesLate, rowSet, filledAt}
-use Rattle.calls.specs.declared.DeliverAnswer.{DeliverAnswer}
 use Rattle.calls.specs.declared.DeliverAnswer.the-variants.{Accepted, Refused}
 use Rattle.calls.specs.declared.Judge.{Judge}
-use Rattle.calls.specs.Replies.{refused, delivered, deliverMeans}
+use Rattle.calls.specs.Replies.{refused, deliverMeans}
 use Rattle.calls.specs.Steps.{withBoard, Outcome, deliverOf}
 use Rattle.calls.proofs.Ways as ways
 use Rattle.deliveries.specs.declared.Attempt.{Attempt}
