@@ -1,0 +1,7 @@
+pub mod Picking
+pub mod Masks
+pub mod Failure
+pub mod Accepting
+pub mod Trip
+pub mod Reading
+pub mod Claims
