@@ -13,7 +13,7 @@ use lib.Seq.{getD-set-same, getD-set-other}
 use borrow.Author.Tests.{eq-eqb, ne-eqb, lt-ltb, le-ltb, eqb-true, eqb-false, ltb-true, ltb-false}
 use Rattle.base.specs.Lists.{listFrom}
 use Rattle.base.proofs.Tests.{by-test}
-use Rattle.limits.specs.Limits.{mostSets, tableCells}
+use Rattle.limits.specs.Limits.{tableCells}
 use Rattle.masks.specs.Masks.{single}
 use Rattle.forms.specs.Form.{cell, howMany, picked, maskOf, equalCells, bestBelow, failureOf, keepsFrom, keeps}
 use Rattle.forms.proofs.Picking.{many-le, many-step, many-skip, picked-skip, picked-last, picked-before, picked-past}
@@ -115,24 +115,3 @@ module _ (p : ℕ → Bool) (g : ℕ → ℕ) where
         rw (add-one c, x .1) (same-more c cells t h),
       ))
       o
-
--- ---- a number for each set: those below t have it, the others 0
-module _ (g : ℕ → ℕ) where
-  abbrev pub Marked : ℕ → List ℕ → Type 0
-  Marked t l = (i : ℕ) → i < mostSets → getD l i 0 ≡ cond (ltb i t) (g i) 0
-
-  pub marked-none : (l : List ℕ) → ((i : ℕ) → getD l i 0 ≡ 0) → Marked 0 l
-  marked-none l h i b = h i ∙ rw (le-ltb i 0 (omega arith))
-
-  pub mark-more : (t v : ℕ) (l : List ℕ) → v ≡ g t → t < length l → Marked t l → Marked (t + 1) (set l t v)
-  mark-more t v l e n h i b =
-      by-test (eqb i t)
-      (λ q.
-      let z : i ≡ t = eqb-true i t q in
-      rw (lt-ltb i (t + 1) (omega arith), z) (getD-set-same l t v 0 n ∙ e))
-      (λ q.
-      getD-set-other l t i v 0 (eqb-false i t q)
-      ∙ h i b
-      ∙ by-test (ltb i t)
-      (λ u. rw (u, lt-ltb i (t + 1) (omega (arith, ltb-true i t u))))
-      (λ u. rw (u, le-ltb i (t + 1) (omega (arith, ltb-false i t u, eqb-false i t q)))))

@@ -117,10 +117,10 @@ module _ (f : Form) where
   unfolding backNumber
   none-or-40 =
       five (badNumbers (f .sets) (f .symbols))
-      (someNotBelow (f .sets) (f .symbols) (f .failure) (f .kept) (f .cells))
-      (firstLacks (f .sets) (f .symbols) (f .failure) (f .kept) (f .cells))
-      (strayBits (f .sets) (f .symbols) (f .failure) (f .kept) (f .cells))
-      (someLacking (f .sets) (f .symbols) (f .failure) (f .kept) (f .cells))
+      (someNotBelow (f .sets) (f .failure))
+      (firstLacks (f .symbols) (f .kept))
+      (strayBits (f .sets) (f .symbols) (f .kept))
+      (someLacking (f .sets) (keptCount f) (f .cells))
 
   pub no-other : (x : ℕ) → backNumber f ≡ some x → x ≡ 40
   no-other x e = ⊎-elim (λ n. none-some n e) (λ s. let z : some x ≡ some 40 = sym e ∙ s in cc) none-or-40
@@ -144,24 +144,24 @@ module _ (f : Form) where
       (λ t. let g : outside 1 mostSymbols (f .symbols) ≡ true = rw t at e in
       ⊎-elim (λ h. nothing-to-read (omega arith)) many-symbols (is-outside 1 mostSymbols (f .symbols) .0 g))
 
-  failures : someNotBelow (f .sets) (f .symbols) (f .failure) (f .kept) (f .cells) ≡ true → Wrong f
+  failures : someNotBelow (f .sets) (f .failure) ≡ true → Wrong f
   failures e =
       let x = any-found (notBelow (f .failure)) (f .sets) e in
       let b = and-eq-true-iff (not (eqb (x .0) 0)) (leb (x .0) (getD (f .failure) (x .0) 0)) .0 (x .2) in
       not-below (x .0) (omega (arith, eqb-false (x .0) 0 (not-true (eqb (x .0) 0) (b .0)))) (x .1) (leb-true (x .0) (getD (f .failure) (x .0) 0) (b .1))
 
-  first : firstLacks (f .sets) (f .symbols) (f .failure) (f .kept) (f .cells) ≡ true → Wrong f
+  first : firstLacks (f .symbols) (f .kept) ≡ true → Wrong f
   first e =
       let x = any-found (λ s. not (has (getD (f .kept) 0 0) s)) (f .symbols) e in
       left-out (x .0) (x .1) (not-true (has (getD (f .kept) 0 0) (x .0)) (x .2))
 
-  bits : strayBits (f .sets) (f .symbols) (f .failure) (f .kept) (f .cells) ≡ true → Wrong f
+  bits : strayBits (f .sets) (f .symbols) (f .kept) ≡ true → Wrong f
   bits e =
       let x = any-found (λ t. leb (2 ^ f .symbols) (getD (f .kept) t 0)) (f .sets) e in
       let b = high-member (f .symbols) (getD (f .kept) (x .0) 0) (leb-true (2 ^ f .symbols) (getD (f .kept) (x .0) 0) (x .2)) in
       no-symbol (x .0) (b .0) (x .1) (b .1) (b .2)
 
-  cells : someLacking (f .sets) (f .symbols) (f .failure) (f .kept) (f .cells) ≡ true → Wrong f
+  cells : someLacking (f .sets) (keptCount f) (f .cells) ≡ true → Wrong f
   cells e =
       let x = any-found (λ i. lacking (f .sets) (getD (f .cells) i 0)) (keptCount f) e in
       let c = getD (f .cells) (x .0) 0 in

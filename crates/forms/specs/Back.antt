@@ -56,32 +56,28 @@ lacking n x = not (eqb x emptySet) && leb n x
 abbrev pub badNumbers : ℕ → ℕ → Bool
 badNumbers n k = outside 1 mostSets n || outside 1 mostSymbols k
 
-module _ (n k : ℕ) (failure kept cells : List ℕ) where
-  abbrev pub someNotBelow : Bool
-  someNotBelow = anyBelow (notBelow failure) n
+abbrev pub someNotBelow : ℕ → List ℕ → Bool
+someNotBelow n failure = anyBelow (notBelow failure) n
 
-  -- a cell is left out of set 0
-  abbrev pub firstLacks : Bool
-  firstLacks = anyBelow (λ s. not (has (getD kept 0 0) s)) k
+-- a cell is left out of set 0
+abbrev pub firstLacks : ℕ → List ℕ → Bool
+firstLacks k kept = anyBelow (λ s. not (has (getD kept 0 0) s)) k
 
-  -- a mask has a bit for no symbol: it is not below 2 ^ k
-  abbrev pub strayBits : Bool
-  strayBits = anyBelow (λ t. leb (2 ^ k) (getD kept t 0)) n
+-- a mask has a bit for no symbol: it is not below 2 ^ k
+abbrev pub strayBits : ℕ → ℕ → List ℕ → Bool
+strayBits n k kept = anyBelow (λ t. leb (2 ^ k) (getD kept t 0)) n
 
-  -- a kept cell names a set that the table lacks
-  abbrev pub someLacking : Bool
-  someLacking = anyBelow (λ i. lacking n (getD cells i 0)) (howMany (keptAt kept) (n * mostSymbols))
-
-  abbrev pub partsConditions : List Condition
-  partsConditions =
-      on 40 (badNumbers n k) ∷
-      on 40 someNotBelow ∷
-      on 40 firstLacks ∷
-      on 40 strayBits ∷
-      on 40 someLacking ∷ []
+-- one of so many kept cells names a set that the table lacks
+abbrev pub someLacking : ℕ → ℕ → List ℕ → Bool
+someLacking n count cells = anyBelow (λ i. lacking n (getD cells i 0)) count
 
 abbrev pub backConditions : Form → List Condition
-backConditions f = partsConditions (f .sets) (f .symbols) (f .failure) (f .kept) (f .cells)
+backConditions f =
+    on 40 (badNumbers (f .sets) (f .symbols)) ∷
+    on 40 (someNotBelow (f .sets) (f .failure)) ∷
+    on 40 (firstLacks (f .symbols) (f .kept)) ∷
+    on 40 (strayBits (f .sets) (f .symbols) (f .kept)) ∷
+    on 40 (someLacking (f .sets) (keptCount f) (f .cells)) ∷ []
 
 unfoldable pub backNumber : Form → Option ℕ
 backNumber f = firstOf (backConditions f)

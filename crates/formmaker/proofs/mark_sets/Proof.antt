@@ -6,14 +6,14 @@ use native.Mathlib.Omega.{arith}
 use borrow.Author.Needs.{needs}
 use lib.Dec.{ltb}
 use lib.ListN.{length, getD, length-set, length-replicate}
-use Rattle.base.proofs.Lists.{is-listFrom, zero-cells}
+use Rattle.base.proofs.Lists.{is-listFrom}
 use Rattle.forms.specs.Form.{failureOf, keptMask}
-use Rattle.formmaker.proofs.Turns.{Marked, marked-none, mark-more}
+use Rattle.forms.proofs.Filling.{Filled, filled-none, fill-more}
 use Rattle.formmaker.proofs.mark_sets.Statement.{statement}
 use Rattle.formmaker.proofs.mark_sets.Tie as tie
 
 abbrev Inv-loop : tie.InvT-loop
-Inv-loop next sets k failure₀ kept₀ t₀ failure kept t = (t ≤ sets) × (length failure ≡ 512) × (length kept ≡ 512) × Marked (failureOf next k) t failure × Marked (keptMask next k) t kept
+Inv-loop next sets k failure₀ kept₀ t₀ failure kept t = (t ≤ sets) × (length failure ≡ 512) × (length kept ≡ 512) × Filled 512 0 (failureOf next k) t failure × Filled 512 0 (keptMask next k) t kept
 
 abbrev μ-loop : tie.MeasureT-loop
 μ-loop next sets k failure₀ kept₀ t₀ failure kept t = sets - t
@@ -26,8 +26,8 @@ loop-holds c =
       omega arith,
       ap length e ∙ length-replicate {A = ℕ} 512 0,
       ap length d ∙ length-replicate {A = ℕ} 512 0,
-      marked-none (failureOf (a .next .now) (a .k)) (a .failure .now) (λ i. ap (λ l. getD l i 0) e ∙ zero-cells 512 i),
-      marked-none (keptMask (a .next .now) (a .k)) (a .kept .now) (λ i. ap (λ l. getD l i 0) d ∙ zero-cells 512 i),
+      filled-none 512 0 (failureOf (a .next .now) (a .k)) (a .failure .now) e,
+      filled-none 512 0 (keptMask (a .next .now) (a .k)) (a .kept .now) d,
     )
 
 failure-of-requires : tie.Need-failure-of-requires Inv-loop μ-loop
@@ -66,8 +66,8 @@ loop-again c =
       omega arith,
       length-set (l .failure) (l .t) (f .result) ∙ l .inv .1,
       length-set (l .kept) (l .t) (m .result) ∙ l .inv .2,
-      mark-more (failureOf (a .next .now) (a .k)) (l .t) (f .result) (l .failure) (f .ensures .1) (omega arith) (l .inv .3),
-      mark-more (keptMask (a .next .now) (a .k)) (l .t) (m .result) (l .kept) (m .ensures) (omega arith) (l .inv .4),
+      fill-more 512 0 (failureOf (a .next .now) (a .k)) (l .t) (f .result) (l .failure) (f .ensures .1) (omega arith) (l .inv .3),
+      fill-more 512 0 (keptMask (a .next .now) (a .k)) (l .t) (m .result) (l .kept) (m .ensures) (omega arith) (l .inv .4),
     )
 
 returns : tie.Need-returns Inv-loop μ-loop
