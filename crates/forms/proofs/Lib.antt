@@ -5,4 +5,5 @@ pub mod Failure
 pub mod Accepting
 pub mod Trip
 pub mod Reading
+pub mod Examples
 pub mod Claims
