@@ -140,7 +140,7 @@ fn to_form(next: &[u16; limits::CELLS], sets: u16, symbols: u8) -> Form
 }
 
 // Zeros in every field.
-fn no_form() -> Form
+pub fn no_form() -> Form
     ensures { λ r. ⌜ r ≡ noForm ⌝ }
 {
     let failure = [0u16; limits::SETS];
