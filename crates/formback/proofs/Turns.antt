@@ -1,12 +1,10 @@
 -- A turn of each loop that looks for a reason to refuse, and the ways out of the tests, over plain
 -- variables. Assumes nothing.
 use mathlib.Core.Path.{_≡_, refl, sym, ap, _∙_}
-use mathlib.Core.Logic.{_⊎_, inl, inr, ⊎-elim}
 use mathlib.Core.Bool.{Bool, true, false, cond, not, _||_}
 use mathlib.Core.List.{List}
 use mathlib.Core.Option.{none, some}
 use Prim.Native.Nat.{ℕ, _+_, _*_, _≤_, _<_}
-use native.Mathlib.Numerals.{add-one}
 use native.Mathlib.Omega.{arith}
 use lib.Dec.{eqb, leb}
 use lib.ListN.{getD}
@@ -16,9 +14,7 @@ use Rattle.base.proofs.Conditions.{any-at, none-yet, none-more, outside-law}
 use Rattle.base.proofs.Tests.{or-left, or-right}
 use Rattle.limits.specs.Limits.{mostSymbols, mostSets, emptySet}
 use Rattle.forms.specs.declared.Form.{Form}
-use Rattle.forms.specs.Form.{howMany}
 use Rattle.forms.specs.Back.{keptCount, notBelow, lacking, badNumbers, someNotBelow, firstLacks, strayBits, someLacking, backNumber}
-use Rattle.forms.proofs.Picking.{many-step, many-skip}
 
 -- ---- no reason among the numbers passed
 module _ (p : ℕ → Bool) (n : ℕ) where
@@ -55,15 +51,6 @@ first-bad a b r e t = let z : a ≡ true = sym e ∙ t in rw z
 
 pub second-bad : (a b r q : Bool) → r ≡ a → r ≡ false → q ≡ b → q ≡ (a || b)
 second-bad a b r q e f h = let z : a ≡ false = sym e ∙ f in rw z h
-
--- ---- how many are kept
-pub count-on : (p : ℕ → Bool) (c n m : ℕ) (r : Bool) → r ≡ p c → n ≤ c → n ≡ howMany p c
-    → ((r ≡ true) × (m ≡ n + 1)) ⊎ ((r ≡ false) × (m ≡ n)) → (m ≤ c + 1) × (m ≡ howMany p (c + 1))
-count-on p c n m r e b q o =
-    ⊎-elim
-    (λ x. let s = many-step p c (sym e ∙ x .0) in (omega (arith, x .1), rw (add-one c) (omega (arith, x .1))))
-    (λ x. let s = many-skip p c (sym e ∙ x .0) in (omega (arith, x .1), rw (add-one c) (omega (arith, x .1))))
-    o
 
 -- ---- the numbers of an answer, by the tests on the way
 pub few : (n k : ℕ) (r : Bool) → r ≡ badNumbers n k → r ≡ false → (n ≤ mostSets) × (k ≤ mostSymbols)

@@ -3,6 +3,7 @@
 --
 --   below-suc              a number below n + 1 is n, or below n
 --   many-step, many-skip   one number more that passes, or does not
+--   count-on               a turn of a loop that counts them
 --   many-le, many-mono, many-lt, many-same   bounds of how many pass, and equal tests
 --   picked-length          as many are picked as pass
 --   picked-at              what is picked by a number stands behind those before it
@@ -10,9 +11,11 @@
 --   picked-past            behind the last there are zeros
 --   picked-each            what holds of each one that is picked
 use mathlib.Core.Path.{_≡_, refl, sym, ap, _∙_}
+use mathlib.Core.Logic.{_⊎_, ⊎-elim}
 use mathlib.Core.Bool.{Bool, true, false, cond}
 use mathlib.Core.List.{List, [], _∷_, _++_, append-nil}
 use Prim.Native.Nat.{ℕ, zero, suc, _+_, _≤_, _<_}
+use native.Mathlib.Numerals.{add-one}
 use native.Mathlib.Omega.{arith}
 use lib.Dec.{eqb}
 use lib.ListN.{length, getD, List·getD-append, List·getD-eq-default}
@@ -57,6 +60,14 @@ module _ (p : ℕ → Bool) where
 
   pub many-lt : (a b : ℕ) → a < b → p a ≡ true → howMany p a < howMany p b
   many-lt a b h e = omega (arith, many-step a e, many-mono (suc a) b h)
+
+pub count-on : (p : ℕ → Bool) (c n m : ℕ) (r : Bool) → r ≡ p c → n ≤ c → n ≡ howMany p c
+    → ((r ≡ true) × (m ≡ n + 1)) ⊎ ((r ≡ false) × (m ≡ n)) → (m ≤ c + 1) × (m ≡ howMany p (c + 1))
+count-on p c n m r e b q o =
+    ⊎-elim
+    (λ x. let s = many-step p c (sym e ∙ x .0) in (omega (arith, x .1), rw (add-one c) (omega (arith, x .1))))
+    (λ x. let s = many-skip p c (sym e ∙ x .0) in (omega (arith, x .1), rw (add-one c) (omega (arith, x .1))))
+    o
 
 pub many-same : (p q : ℕ → Bool) (n : ℕ) → ((c : ℕ) → c < n → p c ≡ q c) → howMany p n ≡ howMany q n
 many-same p q n h = total-same (λ i. cond (p i) 1 0) (λ i. cond (q i) 1 0) n (λ i l. ap (λ (b : Bool). cond b 1 0) (h i l))

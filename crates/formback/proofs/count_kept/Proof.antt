@@ -6,7 +6,7 @@ use native.Mathlib.Omega.{arith}
 use Rattle.base.specs.Totals.{total}
 use borrow.Author.Needs.{needs}
 use Rattle.forms.specs.Form.{howMany, keptAt}
-use Rattle.formback.proofs.Turns.{count-on}
+use Rattle.forms.proofs.Picking.{count-on}
 use Rattle.formback.proofs.count_kept.Statement.{statement}
 use Rattle.formback.proofs.count_kept.Tie as tie
 
