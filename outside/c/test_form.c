@@ -1,8 +1,12 @@
-/* The failure form from C: a form number by number, the form and the way back on random rules against a
- * second computation, each reason for 40, what is not read, and forms in which any numbers stand. Prints
- * how many checks were made; stops at the first that fails. */
+/* The failure form from C, on a thread with the stack that the header says is enough: a form number by
+ * number, the form and the way back on random rules against a second computation, each reason for 40, what
+ * is not read, and forms in which any numbers stand. Prints how many checks were made; stops at the first
+ * that fails. */
+#include <pthread.h>
+
 #include "checks.h"
 
+enum { STACK = 512 * 1024 };
 enum { SETS = 512, SYMBOLS = 16, CELLS = 8192, EMPTY = BELLBADGER_EMPTY_SET };
 
 typedef bellbadger_failure_form form;
@@ -181,11 +185,19 @@ static void garbage(int rounds) {
     }
 }
 
+static void *all(void *rounds) {
+    worked();
+    random_rules(*(int *)rounds);
+    garbage(2 * *(int *)rounds);
+    return NULL;
+}
+
 int main(int argc, char **argv) {
     int rounds = argc > 1 ? atoi(argv[1]) : 300;
-    worked();
-    random_rules(rounds);
-    garbage(2 * rounds);
-    printf("C, the failure form: %ld checks\n", checks);
+    pthread_attr_t small;
+    pthread_t thread;
+    CHECK(!pthread_attr_init(&small) && !pthread_attr_setstacksize(&small, STACK));
+    CHECK(!pthread_create(&thread, &small, all, &rounds) && !pthread_join(thread, NULL));
+    printf("C, the failure form: %ld checks on a stack of %d KB\n", checks, STACK / 1024);
     return 0;
 }
