@@ -5,3 +5,4 @@ pub mod Samples
 pub mod Patterns
 pub mod Merging
 pub mod MadeTexts
+pub mod Forms

@@ -4,3 +4,4 @@ pub mod SampleFunctions
 pub mod PatternFunction
 pub mod MergeFunction
 pub mod TextFunction
+pub mod FormFunctions
