@@ -175,6 +175,6 @@ pub fn print_form(file: &[u8], out: &mut [u8]) -> usize
     let answer = made.answer;
     match answer {
         FormAnswer::Made => put_form(out, made.form),
-        FormAnswer::Refused(number) => ruletext::put_refused(out, 0, number),
+        FormAnswer::Refused(number) => answers::put_refused(out, 0, number),
     }
 }
