@@ -56,11 +56,18 @@ pub record Claims : Type 0 where
   pub below : (k t : ℕ) (l : List ℕ) → 0 < t → failureOf l k t < t
   pub most : (k t u : ℕ) (l : List ℕ) → u < t → equalCells l k t u ≤ equalCells l k t (failureOf l k t)
   pub lowest : (k t u : ℕ) (l : List ℕ) → u < failureOf l k t → equalCells l k t u < equalCells l k t (failureOf l k t)
+  -- set 0's is 0
+  pub first-failure : (k : ℕ) (l : List ℕ) → failureOf l k 0 ≡ 0
   -- set 0 keeps all its cells, and another set exactly those that are not equal to its failure
   -- set's; no mask has a bit for no symbol
   pub first-keeps : (k s : ℕ) (l : List ℕ) → s < k → s ∈ keptMask l k 0
   pub kept : (k t s : ℕ) (l : List ℕ) → 0 < t → s < k → (s ∈ keptMask l k t) ↔ (cell l t s ≡ cell l (failureOf l k t) s → ⊥)
   pub only-symbols : (k t s : ℕ) (l : List ℕ) → s ∈ keptMask l k t → s < k
+  -- the form has the failure set and the mask of each set, and zeros for what is no set
+  pub failure-of : (n k t : ℕ) (l : List ℕ) → n ≤ mostSets → t < n → getD (formOf n k l .failure) t 0 ≡ failureOf l k t
+  pub mask-of : (n k t : ℕ) (l : List ℕ) → n ≤ mostSets → t < n → getD (formOf n k l .kept) t 0 ≡ keptMask l k t
+  pub no-set : (n k t : ℕ) (l : List ℕ) → n ≤ t
+      → (getD (formOf n k l .failure) t 0 ≡ 0) × (getD (formOf n k l .kept) t 0 ≡ 0)
   -- the kept cell of set t and symbol s stands behind those before it, and zeros behind the last
   pub packed : (n k t s : ℕ) (l : List ℕ) → n ≤ mostSets → k ≤ mostSymbols → t < n → s < k → s ∈ keptMask l k t
       → getD (formOf n k l .cells) (rank (formOf n k l) t s) 0 ≡ cell l t s
