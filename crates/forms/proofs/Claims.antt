@@ -3,6 +3,7 @@ use mathlib.Core.Path.{_≡_, refl, sym, ap, _∙_}
 use mathlib.Core.Logic.{_↔_}
 use mathlib.Core.Bool.{Bool, true, false, not, _||_}
 use mathlib.Core.List.{List}
+use mathlib.Core.Option.{Option}
 use Prim.Native.Nat.{ℕ, _+_, _*_, _≤_, _<_}
 use native.Mathlib.Omega.{arith}
 use lib.Dec.{eqb, ltb}
@@ -13,7 +14,7 @@ use Rattle.base.proofs.Tests.{by-test, not-both}
 use Rattle.limits.specs.Limits.{mostSymbols, mostSets, tableCells}
 use Rattle.masks.specs.Masks.{_∈_}
 use Rattle.forms.specs.Form.{cell, keptAt, keptMask, keeps, bestBelow, failureOf, picked, masks, formOf}
-use Rattle.forms.specs.Back.{keptCount}
+use Rattle.forms.specs.Back.{keptCount, backBy, tableOf}
 use Rattle.forms.specs.Claims.{Claims}
 use Rattle.forms.proofs.Picking.{picked-past}
 use Rattle.forms.proofs.Masks.{mask-in, mask-of}
@@ -63,6 +64,7 @@ claims = record {
   round-trip = trip.round-trip;
   refused-exactly = refused-exactly;
   no-other = no-other;
+  zeros-refused = λ f x e. ap (λ (o : Option ℕ). backBy o (tableOf f) .table) e;
   looked-up = λ f e. reading.looked-up f (parts f e);
   a-table = λ f e. reading.a-table f (parts f e);
   not-read = reading.not-read;

@@ -15,7 +15,7 @@ use Rattle.limits.specs.Limits.{mostSymbols, mostSets, emptySet, tableCells}
 use Rattle.masks.specs.Masks.{_∈_, has}
 use Rattle.forms.specs.declared.Form.{Form}
 use Rattle.forms.specs.Form.{cell, equalCells, failureOf, keptMask, formOf}
-use Rattle.forms.specs.Back.{rank, keptCount, cellOf, backNumber, tableOf, backOf}
+use Rattle.forms.specs.Back.{rank, keptCount, cellOf, backNumber, tableOf, noTable, backOf}
 
 pub record Numbered (n k : ℕ) (l : List ℕ) : Type 0 where
   pub some-set : 1 ≤ n
@@ -78,6 +78,8 @@ pub record Claims : Type 0 where
   -- 40 exactly for the five reasons; there is no other number
   pub refused-exactly : (f : Form) → (backNumber f ≡ some 40) ↔ Wrong f
   pub no-other : (f : Form) (x : ℕ) → backNumber f ≡ some x → x ≡ 40
+  -- a refusal carries zeros
+  pub zeros-refused : (f : Form) (x : ℕ) → backNumber f ≡ some x → backOf f .table ≡ noTable
   -- of an accepted form each cell is the kept one, or that of the failure set; it is empty or names
   -- a set of the table
   pub looked-up : (f : Form) → backNumber f ≡ none → (t s : ℕ) → t < f .sets → s < f .symbols
