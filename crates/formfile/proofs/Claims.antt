@@ -53,6 +53,7 @@ as-load f (some x) e = ap (λ (o : Option ℕ). formBy o f .number) e ∙ sym e
 pub claims : Claims
 claims = record {
   as-load = λ f. as-load f (loadNumber f) refl;
+  zeros = λ f x e. ap (λ (o : Option ℕ). formBy o f .form) e;
   form = λ f e. ap (λ (m : Made). m .form) (made-is f e ∙ form-is f e);
   round-trip = λ f e. ap (λ (m : Made). backOf (m .form)) (made-is f e) ∙ back-is f e;
 }

@@ -3,6 +3,7 @@ pub mod Filling
 pub mod Masks
 pub mod Failure
 pub mod Accepting
+pub mod PerSet
 pub mod Trip
 pub mod Reading
 pub mod Examples

@@ -2,14 +2,14 @@
 -- so each cell of the table comes back. Assumes nothing.
 use mathlib.Core.Path.{_≡_, sym, ap, _∙_}
 use mathlib.Core.Logic.{_⊎_, inl, inr}
-use mathlib.Core.Bool.{Bool, true, cond, _&&_}
+use mathlib.Core.Bool.{Bool, true, _&&_}
 use mathlib.Core.List.{List}
 use mathlib.Core.Option.{none}
 use Prim.Native.Nat.{ℕ, zero, suc, _+_, _*_, _/_, _%_, _≤_, _<_}
 use native.Mathlib.Omega.{arith}
 use lib.Dec.{ltb}
 use lib.ListN.{getD}
-use borrow.Author.Tests.{lt-ltb, ltb-true, ltb-false}
+use borrow.Author.Tests.{ltb-true, ltb-false}
 use Rattle.base.specs.Lists.{listFrom}
 use Rattle.base.proofs.Lists.{cell-of, is-listFrom}
 use Rattle.base.proofs.Tests.{by-test}
@@ -22,6 +22,7 @@ use Rattle.forms.specs.Claims.{Numbered, IsTable}
 use Rattle.forms.proofs.Picking as picking
 use Rattle.forms.proofs.Masks.{mask-in, mask-has, mask-lt}
 use Rattle.forms.proofs.Failure.{best-below, first-keeps, left-out}
+use Rattle.forms.proofs.PerSet.{of-set}
 use Rattle.forms.proofs.Accepting.{Accepted, accepted-of}
 
 -- the place of a cell says its set and symbol
@@ -34,10 +35,10 @@ module _ (n k : ℕ) (l : List ℕ) (few : n ≤ mostSets) (narrow : k ≤ mostS
   kept = masks n k l
 
   pub failure-at : (t : ℕ) → t < n → getD (failures n k l) t 0 ≡ failureOf l k t
-  failure-at t h = cell-of mostSets (λ u. cond (ltb u n) (failureOf l k u) 0) t 0 (omega arith) ∙ rw (lt-ltb t n h)
+  failure-at t h = of-set n (failureOf l k) few t h
 
   pub mask-at : (t : ℕ) → t < n → getD kept t 0 ≡ keptMask l k t
-  mask-at t h = cell-of mostSets (λ u. cond (ltb u n) (keptMask l k u) 0) t 0 (omega arith) ∙ rw (lt-ltb t n h)
+  mask-at t h = of-set n (keptMask l k) few t h
 
   pub kept-at : (t s : ℕ) → t < n → s < k → has (getD kept t 0) s ≡ keeps l k t s
   kept-at t s h b = rw (mask-at t h) (mask-has (keeps l k t) k s b)

@@ -15,7 +15,7 @@ use Rattle.limits.specs.Limits.{mostSymbols, mostSets, emptySet, tableCells}
 use Rattle.masks.specs.Masks.{_∈_, has}
 use Rattle.forms.specs.declared.Form.{Form}
 use Rattle.forms.specs.Form.{cell, equalCells, failureOf, keptMask, formOf}
-use Rattle.forms.specs.Back.{rank, keptCount, cellOf, backNumber, tableOf, backOf}
+use Rattle.forms.specs.Back.{rank, keptCount, cellOf, backNumber, tableOf, noTable, backOf}
 
 pub record Numbered (n k : ℕ) (l : List ℕ) : Type 0 where
   pub some-set : 1 ≤ n
@@ -56,11 +56,18 @@ pub record Claims : Type 0 where
   pub below : (k t : ℕ) (l : List ℕ) → 0 < t → failureOf l k t < t
   pub most : (k t u : ℕ) (l : List ℕ) → u < t → equalCells l k t u ≤ equalCells l k t (failureOf l k t)
   pub lowest : (k t u : ℕ) (l : List ℕ) → u < failureOf l k t → equalCells l k t u < equalCells l k t (failureOf l k t)
+  -- set 0's is 0
+  pub first-failure : (k : ℕ) (l : List ℕ) → failureOf l k 0 ≡ 0
   -- set 0 keeps all its cells, and another set exactly those that are not equal to its failure
   -- set's; no mask has a bit for no symbol
   pub first-keeps : (k s : ℕ) (l : List ℕ) → s < k → s ∈ keptMask l k 0
   pub kept : (k t s : ℕ) (l : List ℕ) → 0 < t → s < k → (s ∈ keptMask l k t) ↔ (cell l t s ≡ cell l (failureOf l k t) s → ⊥)
   pub only-symbols : (k t s : ℕ) (l : List ℕ) → s ∈ keptMask l k t → s < k
+  -- the form has the failure set and the mask of each set, and zeros for what is no set
+  pub failure-of : (n k t : ℕ) (l : List ℕ) → n ≤ mostSets → t < n → getD (formOf n k l .failure) t 0 ≡ failureOf l k t
+  pub mask-of : (n k t : ℕ) (l : List ℕ) → n ≤ mostSets → t < n → getD (formOf n k l .kept) t 0 ≡ keptMask l k t
+  pub no-set : (n k t : ℕ) (l : List ℕ) → n ≤ t
+      → (getD (formOf n k l .failure) t 0 ≡ 0) × (getD (formOf n k l .kept) t 0 ≡ 0)
   -- the kept cell of set t and symbol s stands behind those before it, and zeros behind the last
   pub packed : (n k t s : ℕ) (l : List ℕ) → n ≤ mostSets → k ≤ mostSymbols → t < n → s < k → s ∈ keptMask l k t
       → getD (formOf n k l .cells) (rank (formOf n k l) t s) 0 ≡ cell l t s
@@ -71,6 +78,8 @@ pub record Claims : Type 0 where
   -- 40 exactly for the five reasons; there is no other number
   pub refused-exactly : (f : Form) → (backNumber f ≡ some 40) ↔ Wrong f
   pub no-other : (f : Form) (x : ℕ) → backNumber f ≡ some x → x ≡ 40
+  -- a refusal carries zeros
+  pub zeros-refused : (f : Form) (x : ℕ) → backNumber f ≡ some x → backOf f .table ≡ noTable
   -- of an accepted form each cell is the kept one, or that of the failure set; it is empty or names
   -- a set of the table
   pub looked-up : (f : Form) → backNumber f ≡ none → (t s : ℕ) → t < f .sets → s < f .symbols

@@ -13,6 +13,7 @@
 --   keptMask l k t      the kept cells of set t as a mask, bit s for symbol s
 --   keptAt kept c       by these masks the cell c, of set c / 16 and symbol c % 16, is kept
 --   packedCells         the kept cells, packed by set and symbol, and zeros after them
+--   forSet n g t        g of the set t; 0 where there is no such set among n
 --   formOf n k l        the form; zeros for what is no set of the table
 use mathlib.Core.Bool.{Bool, cond, not, _||_}
 use mathlib.Core.List.{List, [], _∷_}
@@ -73,12 +74,15 @@ packedCells kept l n =
     listFrom 0 tableCells (λ i. getD (picked (keptAt kept) (λ c. getD l c 0) (n * mostSymbols)) i 0)
 
 -- ---- the form
+abbrev pub forSet : ℕ → (ℕ → ℕ) → ℕ → ℕ
+forSet n g t = cond (ltb t n) (g t) 0
+
 module _ (n k : ℕ) (l : List ℕ) where
   abbrev pub failures : List ℕ
-  failures = listFrom 0 mostSets (λ t. cond (ltb t n) (failureOf l k t) 0)
+  failures = listFrom 0 mostSets (forSet n (failureOf l k))
 
   abbrev pub masks : List ℕ
-  masks = listFrom 0 mostSets (λ t. cond (ltb t n) (keptMask l k t) 0)
+  masks = listFrom 0 mostSets (forSet n (keptMask l k))
 
   abbrev pub formOf : Form
   formOf = record {
