@@ -1,8 +1,9 @@
 -- What the functions answer is what the definitions say, a lemma for each way out. Assumes nothing.
 --
 --   fresh-is              no profile
---   built-all, kept-all   a build that is accepted, and one that is refused
---   run-lacks, ran-all, run-refused   a chunk without a profile, one that is run, one that is refused
+--   beside                zeros stand beside a reply that has no mapping
+--   built-reply, built-state, kept-reply, kept-state   a build that is accepted, one that is refused
+--   run-lacks, run-mapped, run-refused   a chunk without a profile, one that is run, one refused
 --   composed              a composition
 --   ask-lacks, asked-yes, asked-no    the verdict without a profile, yes and no
 use mathlib.Core.Path.{_≡_, refl, sym, ap, ap₂, _∙_}
@@ -10,8 +11,9 @@ use mathlib.Core.Bool.{Bool, true, false, not, cond}
 use mathlib.Core.List.{List}
 use mathlib.Core.Option.{none, some}
 use Prim.Native.Nat.{ℕ}
+use lib.ListN.{replicate}
 use Rattle.mappings.specs.declared.Mapping.{Mapping}
-use Rattle.mappings.specs.Mappings.{compose}
+use Rattle.mappings.specs.Mappings.{mappedStates, compose}
 use Rattle.profile.specs.declared.Profile.{Profile}
 use Rattle.profile.specs.declared.BuildResult.{BuildResult}
 use Rattle.profile.specs.declared.BuildAnswer.the-variants as build
@@ -23,9 +25,9 @@ use Rattle.profile.proofs.Ways.{lent-all}
 use Rattle.profilefile.specs.Files.{profileIn}
 use Rattle.mapcalls.specs.declared.MapState.{MapState}
 use Rattle.mapcalls.specs.declared.MapAnswer.{MapAnswer}
-use Rattle.mapcalls.specs.declared.MapAnswer.the-variants.{Built, Mapped, Yes, No, Lacking, Refused}
+use Rattle.mapcalls.specs.declared.MapAnswer.the-variants.{Forgotten, Built, Mapped, Yes, No, Lacking, Refused}
 use Rattle.mapcalls.specs.declared.MapReply.{MapReply}
-use Rattle.mapcalls.specs.Calls.{Reply, built, mapped, said, lacking, refused, builds, runs, composes, asks, noneYet, builtReply, keptBy, ranReply, replyOf, nextOf, answerMeans, replyMeans}
+use Rattle.mapcalls.specs.Calls.{Reply, built, mapped, said, lacking, refused, builds, runs, composes, asks, noneYet, builtReply, keptBy, ranReply, replyOf, nextOf, answerMeans, replyMeans, masksBy}
 
 not-there : (b : Bool) → not b ≡ true → b ≡ false
 not-there true e = sym e
@@ -38,6 +40,18 @@ there false e = sym e
 -- ---- an answer without a mapping
 by-answer : (r : MapReply) (a : MapAnswer) → r .answer ≡ a → replyMeans r ≡ answerMeans a (r .mapping .masks)
 by-answer r a e = ap (λ (x : MapAnswer). answerMeans x (r .mapping .masks)) e
+
+beside-by : (a : MapAnswer) (f : List ℕ) → f ≡ replicate mappedStates 0 → f ≡ masksBy (answerMeans a f)
+beside-by Forgotten f e = e
+beside-by (Built count) f e = e
+beside-by Mapped f e = refl
+beside-by Yes f e = e
+beside-by No f e = e
+beside-by Lacking f e = e
+beside-by (Refused x) f e = e
+
+pub beside : (r : MapReply) → r .mapping .masks ≡ replicate mappedStates 0 → r .mapping .masks ≡ masksBy (replyMeans r)
+beside r = beside-by (r .answer) (r .mapping .masks)
 
 pub fresh-is : (p : Profile) → p ≡ noProfile → record { there = false; profile = p } ≡ noneYet
 fresh-is p e = ap (λ (x : Profile). record { there = false; profile = x }) e

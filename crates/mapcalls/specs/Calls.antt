@@ -20,12 +20,14 @@
 --   nextOf s c          the state that it leaves
 --   mapMachine          both, from no profile on
 --   answerMeans, replyMeans   what each case of the code's answer says, with the mapping beside it
+--   masksBy a           the masks that stand beside the reply a: the mapping's, else zeros (R-3)
 use mathlib.Core.Bool.{Bool, true, false, cond}
 use mathlib.Core.List.{List}
 use mathlib.Core.Option.{Option, none, some}
 use Prim.Native.Nat.{ℕ}
+use lib.ListN.{replicate}
 use Rattle.executions.specs.Executions.{Machine}
-use Rattle.mappings.specs.Mappings.{compose}
+use Rattle.mappings.specs.Mappings.{mappedStates, compose}
 use Rattle.profile.specs.Profiles.{Building, noProfile, Reply as Answer, accepted, refused as turnedDown}
 use Rattle.profile.specs.Runs.{Ran, runOf, verdictOf}
 use Rattle.profilefile.specs.Files.{profileIn}
@@ -100,3 +102,11 @@ answerMeans (Refused x) f = refused x
 
 abbrev pub replyMeans : MapReply → Reply
 replyMeans r = answerMeans (r .answer) (r .mapping .masks)
+
+abbrev pub masksBy : Reply → List ℕ
+masksBy forgotten = replicate mappedStates 0
+masksBy (built count) = replicate mappedStates 0
+masksBy (mapped f) = f
+masksBy (said b) = replicate mappedStates 0
+masksBy lacking = replicate mappedStates 0
+masksBy (refused x) = replicate mappedStates 0

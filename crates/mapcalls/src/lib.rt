@@ -1,7 +1,9 @@
 // The calls of a mapping judge: one profile at most is held, by value. A call that does not change it
 // answers from the value at hand and returns none.
 ghost use mathlib.Core.Path.{_≡_};
-ghost use Rattle.mapcalls.specs.Calls.{builds, runs, composes, asks, forgets, noneYet, replyOf, nextOf, answerMeans, replyMeans};
+ghost use lib.ListN.{replicate};
+ghost use Rattle.mappings.specs.Mappings.{mappedStates};
+ghost use Rattle.mapcalls.specs.Calls.{builds, runs, composes, asks, forgets, noneYet, replyOf, nextOf, replyMeans, masksBy};
 use mappings::Mapping;
 use profile::BuildAnswer;
 use profile::Profile;
@@ -45,9 +47,10 @@ pub fn fresh() -> MapState
     MapState { there, profile }
 }
 
-// An answer that has no mapping.
+// An answer that has no mapping: zeros.
 fn plain(answer: MapAnswer) -> MapReply
-    ensures { λ r. ⌜ (r .answer ≡ answer) ⌝ }
+    ensures { λ r. ⌜ r .answer ≡ answer ⌝ }
+    ensures masks { λ r. ⌜ r .mapping .masks ≡ replicate mappedStates 0 ⌝ }
 {
     let masks = [0u8; mappings::STATES];
     let mapping = Mapping { masks };
@@ -57,6 +60,7 @@ fn plain(answer: MapAnswer) -> MapReply
 // Builds the profile of the rule in a file; a refused build keeps the former profile.
 pub fn build(state: MapState, file: &[u8]) -> MapBuilding
     ensures { λ r. ⌜ (replyMeans (r .reply) ≡ replyOf state (builds (now (file .entry)))) × (r .state ≡ nextOf state (builds (now (file .entry)))) ⌝ }
+    ensures masks { λ r. ⌜ r .reply .mapping .masks ≡ masksBy (replyMeans (r .reply)) ⌝ }
 {
     let built = profilefile::build_file(file);
     let answer = built.answer;
@@ -78,6 +82,7 @@ pub fn build(state: MapState, file: &[u8]) -> MapBuilding
 // Runs a chunk on the profile.
 pub fn run(state: MapState, chunk: &[u8]) -> MapReply
     ensures { λ r. ⌜ replyMeans r ≡ replyOf state (runs (now (chunk .entry))) ⌝ }
+    ensures masks { λ r. ⌜ r .mapping .masks ≡ masksBy (replyMeans r) ⌝ }
 {
     if !state.there {
         return plain(MapAnswer::Lacking);
@@ -102,6 +107,7 @@ pub fn run(state: MapState, chunk: &[u8]) -> MapReply
 // The mapping of two chunks, one behind the other, from those of each.
 pub fn compose(earlier: Mapping, later: Mapping) -> MapReply
     ensures { λ r. ⌜ ((s : MapState) → replyMeans r ≡ replyOf s (composes (earlier .masks) (later .masks))) ⌝ }
+    ensures masks { λ r. ⌜ r .mapping .masks ≡ masksBy (replyMeans r) ⌝ }
 {
     let answer = MapAnswer::Mapped;
     let mapping = mappings::compose(earlier, later);
@@ -111,6 +117,7 @@ pub fn compose(earlier: Mapping, later: Mapping) -> MapReply
 // Whether the mapping says yes.
 pub fn ask(state: MapState, mapping: Mapping) -> MapReply
     ensures { λ r. ⌜ replyMeans r ≡ replyOf state (asks (mapping .masks)) ⌝ }
+    ensures masks { λ r. ⌜ r .mapping .masks ≡ masksBy (replyMeans r) ⌝ }
 {
     if !state.there {
         return plain(MapAnswer::Lacking);

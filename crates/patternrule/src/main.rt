@@ -59,20 +59,12 @@ fn run_block(line: Line, out: &mut [u8], block: &[u8]) -> Reading
     Reading { line, failed }
 }
 
-// A proved loop ends, and nothing says that the input does. So the turns are counted down, from a
-// number that no run uses up.
-fn most_turns() -> u64
-    ensures { λ r. ⌜ r ≡ 18446744073709551615 ⌝ }
-{
-    u64::MAX
-}
-
 // All blocks, up to the end of the input.
 fn run_blocks(out: &mut [u8], block: &mut [u8]) -> Reading
     requires { ⌜ answerRoom ≤ length (now out) ⌝ }
 {
     let mut line = patterntext::begin_line();
-    let mut turns = most_turns();
+    let mut turns = stdio::most_turns();
     while turns > 0 {
         let read = read_block(block);
         match read {

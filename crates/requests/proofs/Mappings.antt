@@ -17,8 +17,10 @@
 --   MayBuild .. MaySay, RunEach,      what the contracts of C's functions    requests/specs/MappingFunctions
 --   ComposedTo, SameAnswer; MayJudge  allow                                  demands/specs/Functions
 --   buildShown, runShown ..           C's numbers                            c_mappings/specs/Numbers
+--   textFor f                         what `profileprint` prints             profiletext/specs/ProfileText
 --   rightText; lastBuilt              the answers to lines; what is built    mapstream/specs/Texts, mapcalls/specs/Histories
---   lineIn, replyText; Blocks         lines and answers as text; blocks      maplines/specs, linetexts/specs/Claims
+--   lineIn, replyText                 lines and replies as text              maplines/specs/Lines, mapreplies/specs/Replies
+--   Blocks                            a text that comes in blocks            linetexts/specs/Claims
 --
 -- r is any value, in which any numbers may stand, and so is a mapping. A proved function ends and
 -- stays within its bounds. Assumes nothing.
@@ -64,6 +66,8 @@ use Rattle.c_mappings.proofs.bellbadger_profile_build.Reads as build-reads
 use Rattle.c_mappings.proofs.bellbadger_profile_run.Reads as run-reads
 use Rattle.c_mappings.proofs.bellbadger_compose.Reads as compose-reads
 use Rattle.c_mappings.proofs.bellbadger_profile_verdict.Reads as verdict-reads
+use Rattle.profiletext.specs.ProfileText.{textFor, mostBytes}
+use Rattle.profiletext.proofs.Claims as profiletext
 use Rattle.ruleformat.specs.Reader.{ruleOf}
 use Rattle.lines.specs.Splitting.{linesOf}
 use Rattle.longlines.specs.Holding.{lineBegin}
@@ -241,6 +245,11 @@ pub same-answer : (r : Rule) (b : BuildNumbers) → MayBuild r b → b .accepted
     → (fs : List Mapping) → RunEach (b .profile) ws fs → (f : Mapping) → ComposedTo fs f
     → (x : ℕ) → MaySay (b .profile) f x → (v : VerdictNumbers) → MayJudge (judgeAfter h) v → SameAnswer x v
 same-answer = functions.same-answer
+
+-- ---- FROM A FILE, BY A PROGRAM
+-- `profileprint` prints the text for its file (`print_profile` promises it), for which its buffer has room:
+pub printed-fits : (f : List ℕ) → length (textFor f) ≤ mostBytes
+printed-fits = profiletext.claims .fits
 
 -- ---- LINES
 -- All that `mapjudge` writes, in whatever rounds the blocks of its input are fed, is right line by line. (A

@@ -38,7 +38,7 @@ use Rattle.ruleformat.specs.Refusals.{refusal}
 use Rattle.ruleformat.specs.Reader.{ruleOf}
 use Rattle.ruleformat.specs.Claims.{AllZero}
 use Rattle.ruleformat.specs.Language.{automatonIn}
-use Rattle.calls.specs.Replies.{yesWith}
+use Rattle.calls.specs.Replies.{yesWith, noWith}
 use Rattle.calls.specs.Calls.{Call, installNumber}
 use Rattle.calls.proofs.Loading as calls-loading
 use Rattle.histories.specs.History.{ruleIn, boardIn, emptiesIn, summedIn, textIn, verdictIn}
@@ -182,17 +182,23 @@ ways = (c-merge.claims .way-0, c-merge.claims .way-1, c-merge.claims .way-other)
 
 -- ---- FROM TWO RULES TO A VERDICT
 -- A machine with two heads: where the rule of the judge is the two made one, and no place is empty, the
--- verdict is yes exactly when the standing chunks, without their idle marks, are such a text.
-pub judged : (w : Way) (one two : Rule) → mergeOf w one two .number ≡ none
-    → (h : List Call) → ruleIn h ≡ mergeOf w one two .rule → boardIn h ≡ true → emptiesIn h ≡ 0
-    → (verdictIn h ≡ yesWith (summedIn h)) ↔ Merges w (automatonOf one) (automatonOf two) (textIn h)
-judged w one two e h rule board full =
-    let yes-is = every-list h .verdict .accepts board full in
-    let text = merging-law w one two .language e (textIn h) in
-    let to : Rule → Type 0 = λ (r : Rule). Accepts (automatonOf r) (textIn h) in (
-      (λ v. text .0 (subst to rule (yes-is .0 v))),
-      λ m. yes-is .1 (subst to (sym rule) (text .1 m)),
-    )
+-- verdict is yes exactly when the standing chunks, without their idle marks, are such a text, and no
+-- exactly when they are not.
+module _ (w : Way) (one two : Rule) (e : mergeOf w one two .number ≡ none) (h : List Call) (rule : ruleIn h ≡ mergeOf w one two .rule) where
+  judges : Accepts (automatonOf (ruleIn h)) (textIn h) ↔ Merges w (automatonOf one) (automatonOf two) (textIn h)
+  judges =
+      subst (λ (r : Rule). Accepts (automatonOf r) (textIn h) ↔ Merges w (automatonOf one) (automatonOf two) (textIn h)) (sym rule)
+      (merging-law w one two .language e (textIn h))
+
+  pub judged-yes : boardIn h ≡ true → emptiesIn h ≡ 0
+      → (verdictIn h ≡ yesWith (summedIn h)) ↔ Merges w (automatonOf one) (automatonOf two) (textIn h)
+  judged-yes board full =
+      let v = every-list h .verdict .accepts board full in ((λ y. judges .0 (v .0 y)), λ m. v .1 (judges .1 m))
+
+  pub judged-no : boardIn h ≡ true → emptiesIn h ≡ 0
+      → (verdictIn h ≡ noWith (summedIn h)) ↔ (Merges w (automatonOf one) (automatonOf two) (textIn h) → ⊥)
+  judged-no board full =
+      let v = every-list h .verdict .rejects board full in ((λ n m. v .0 n (judges .1 m)), λ n. v .1 (λ a. n (judges .0 a)))
 
 -- ---- FROM FILES, BY THE PROGRAM
 -- The first file is read, then the second, then they are merged. From the bytes of the three files:

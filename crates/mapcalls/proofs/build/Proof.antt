@@ -1,5 +1,5 @@
 -- `build` meets its contract. Assumes nothing.
-use Rattle.mapcalls.proofs.Ways.{built-reply, built-state, kept-reply, kept-state}
+use Rattle.mapcalls.proofs.Ways.{beside, built-reply, built-state, kept-reply, kept-state}
 use borrow.Author.Needs.{needs}
 use Rattle.mapcalls.proofs.build.Statement.{statement}
 use Rattle.mapcalls.proofs.build.Tie as tie
@@ -20,10 +20,10 @@ plain-requires-2 : tie.Need-plain-requires-2
 plain-requires-2 c κs = search needs
 
 returns : tie.Need-returns
-returns c = search (needs, built-reply, built-state)
+returns c = search (needs, beside, built-reply, built-state)
 
 returns-2 : tie.Need-returns-2
-returns-2 c = search (needs, kept-reply, kept-state)
+returns-2 c = search (needs, beside, kept-reply, kept-state)
 
 pub build-spec : {M : Type 1} → statement M
 build-spec =

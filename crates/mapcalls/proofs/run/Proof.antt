@@ -1,5 +1,5 @@
 -- `run` meets its contract. Assumes nothing.
-use Rattle.mapcalls.proofs.Ways.{run-lacks, run-mapped, run-refused}
+use Rattle.mapcalls.proofs.Ways.{beside, run-lacks, run-mapped, run-refused}
 use borrow.Author.Needs.{needs}
 use Rattle.mapcalls.proofs.run.Statement.{statement}
 use Rattle.mapcalls.proofs.run.Tie as tie
@@ -8,7 +8,7 @@ plain-requires : tie.Need-plain-requires
 plain-requires c κs = search needs
 
 returns : tie.Need-returns
-returns c = search (needs, run-lacks)
+returns c = search (needs, beside, run-lacks)
 
 run-lent-requires : tie.Need-run-lent-requires
 run-lent-requires c κs = search needs
@@ -26,7 +26,7 @@ returns-2 : tie.Need-returns-2
 returns-2 c = search (needs, run-mapped)
 
 returns-3 : tie.Need-returns-3
-returns-3 c = search (needs, run-refused)
+returns-3 c = search (needs, beside, run-refused)
 
 pub run-spec : {M : Type 1} → statement M
 run-spec =
