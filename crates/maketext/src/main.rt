@@ -12,6 +12,7 @@ ghost use Rattle.limits.specs.Limits.{longestChunk};
 ghost use Rattle.stdio.specs.Blocks.{Within};
 ghost use Rattle.shortlines.specs.Keeping.{heldIn};
 ghost use Rattle.shortlines.specs.Feeding.{heldAfter};
+ghost use Rattle.maketextlines.specs.Lines.{longestLine};
 ghost use Rattle.maketextlines.specs.Answers.{mostAnswer};
 use shortlines::Line;
 use stdio::Block;
@@ -40,7 +41,8 @@ fn write_answers(answers: &[u8]) -> bool {
 
 // The lines of a block.
 fn run_block(line: Line, kept: &mut [u8], text: &mut [u8], out: &mut [u8], block: &[u8]) -> Reading
-    requires { ⌜ (longestChunk ≤ length (now text)) × (mostAnswer ≤ length (now out)) ⌝ }
+    requires { ⌜ (longestLine ≤ length (now kept)) × (longestChunk ≤ length (now text))
+        × (mostAnswer ≤ length (now out)) ⌝ }
     ensures { λ r. ⌜ (r .failed ≡ false → heldIn (r .line) (now (kept .exit))
         ≡ heldAfter (length (now (kept .entry))) (heldIn line (now (kept .entry))) (now (block .entry))) ⌝ }
 {
@@ -62,7 +64,8 @@ fn run_block(line: Line, kept: &mut [u8], text: &mut [u8], out: &mut [u8], block
 
 // All blocks, up to the end of the input.
 fn run_blocks(kept: &mut [u8], text: &mut [u8], out: &mut [u8], block: &mut [u8]) -> Reading
-    requires { ⌜ (longestChunk ≤ length (now text)) × (mostAnswer ≤ length (now out)) ⌝ }
+    requires { ⌜ (longestLine ≤ length (now kept)) × (longestChunk ≤ length (now text))
+        × (mostAnswer ≤ length (now out)) ⌝ }
 {
     let mut line = Line::Short(0);
     let mut turns = stdio::most_turns();
@@ -92,7 +95,8 @@ fn run_blocks(kept: &mut [u8], text: &mut [u8], out: &mut [u8], block: &mut [u8]
 }
 
 fn run(kept: &mut [u8], text: &mut [u8], out: &mut [u8], block: &mut [u8])
-    requires { ⌜ (longestChunk ≤ length (now text)) × (mostAnswer ≤ length (now out)) ⌝ }
+    requires { ⌜ (longestLine ≤ length (now kept)) × (longestChunk ≤ length (now text))
+        × (mostAnswer ≤ length (now out)) ⌝ }
 {
     let reading = run_blocks(kept, text, out, block);
     if reading.failed {

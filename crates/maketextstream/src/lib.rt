@@ -5,6 +5,7 @@ ghost use Rattle.limits.specs.Limits.{longestChunk};
 ghost use Rattle.text.specs.Writing.{Wrote};
 ghost use Rattle.shortlines.specs.Keeping.{heldIn};
 ghost use Rattle.shortlines.specs.Feeding.{Feeds, lastAnswer};
+ghost use Rattle.maketextlines.specs.Lines.{longestLine};
 ghost use Rattle.maketextlines.specs.Answers.{mostAnswer, answerHeld};
 use shortlines::Fed;
 use shortlines::Line;
@@ -25,8 +26,8 @@ fn answer_line(line: Line, kept: &[u8], text: &mut [u8], out: &mut [u8], at: usi
 }
 
 // A block from an index on, as far as there is room for the answers to the lines that end in it,
-// which stand one behind the other at the start of `out`. `kept` is for a line that goes on, `text`
-// for the text that is made.
+// which stand one behind the other at the start of `out`. `kept` is for a line that goes on, with
+// room for the longest of the grammar; `text` is for the text that is made.
 pub fn feed(
     line: Line,
     kept: &mut [u8],
@@ -35,7 +36,7 @@ pub fn feed(
     block: &[u8],
     from: usize,
 ) -> Fed
-    requires { ⌜ longestChunk ≤ length (now text) ⌝ }
+    requires { ⌜ (longestLine ≤ length (now kept)) × (longestChunk ≤ length (now text)) ⌝ }
     ensures { λ r. ⌜ Feeds answerHeld mostAnswer (now (kept .entry)) line (now (out .entry))
         (now (block .entry)) from (now (kept .exit)) (now (out .exit)) r ⌝ }
 {
@@ -59,7 +60,8 @@ pub fn feed(
 
 // The end of the text: a last line that is not empty is answered.
 pub fn finish(line: Line, kept: &[u8], text: &mut [u8], out: &mut [u8]) -> usize
-    requires { ⌜ (longestChunk ≤ length (now text)) × (mostAnswer ≤ length (now out)) ⌝ }
+    requires { ⌜ (longestLine ≤ length (now kept)) × (longestChunk ≤ length (now text))
+        × (mostAnswer ≤ length (now out)) ⌝ }
     ensures { λ r. ⌜ Wrote (now (out .entry)) 0 (lastAnswer answerHeld (heldIn line (now (kept .entry))))
         (now (out .exit)) r ⌝ }
 {

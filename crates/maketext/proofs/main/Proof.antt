@@ -27,7 +27,7 @@ slice-aggregate-run-4 : tie.Need-slice-aggregate-run-4
 slice-aggregate-run-4 c = sym (made 65536)
 
 run-requires : tie.Need-run-requires
-run-requires c κs = (has-room 65536 0 (made 65536), has-room 131073 393219 (made 524292))
+run-requires c κs = (has-room 62 0 (made 62), has-room 65536 0 (made 65536), has-room 131073 393219 (made 524292))
 
 returns-2 : tie.Need-returns-2
 returns-2 c = search needs

@@ -21,7 +21,7 @@ loop-holds : tie.Need-loop-holds Inv-loop μ-loop
 loop-holds c = let a = c .before .before .before .before .args in (refl, ran-none (a .kept .now) (a .line) (a .out .now) (a .block .now))
 
 feed-requires : tie.Need-feed-requires Inv-loop μ-loop
-feed-requires c κs = omega (arith, c .before .before .before .before .before .before .before .before .before .pre .0, c .before .before .before .before .loop .inv .0)
+feed-requires c κs = omega (arith, c .before .before .before .before .before .before .before .before .before .pre, c .before .before .before .before .loop .inv .0)
 
 slice-reshare-prefix-write-answers : tie.Need-slice-reshare-prefix-write-answers Inv-loop μ-loop
 slice-reshare-prefix-write-answers c = let f = c .before .before .before .before .before .before .feed in omega (arith, f .ensures .within, f .kept .1 .1 .1 .0)
@@ -50,7 +50,7 @@ loop-less : tie.Need-loop-less Inv-loop μ-loop
 loop-less c =
     let x = c .before .before .before .before .before .before .before .before .before .before .before .before .before .before .loop in
     let f = c .before .before .before .before .before .before .before .before .before .feed in
-    let on = f .ensures .forward (omega (arith, x .inv .1 .size-out, c .before .before .before .before .before .before .before .before .before .before .before .before .before .before .before .before .before .before .before .pre .1)) (c .before .before .before .before .before .before .before .before .before .before .before .before .before .loop-test .taken) in
+    let on = f .ensures .forward (omega (arith, x .inv .1 .size-out, c .before .before .before .before .before .before .before .before .before .before .before .before .before .before .before .before .before .before .before .pre .2)) (c .before .before .before .before .before .before .before .before .before .before .before .before .before .loop-test .taken) in
     omega (arith, c .before .before .before .before .before .before .before .before .before .before .before .before .before .loop-test .taken)
 
 loop-again : tie.Need-loop-again Inv-loop μ-loop
