@@ -16,16 +16,18 @@
 --   MayForm .. MayTableC          what the functions' contracts allow      requests/specs/FormFunctions
 --   formShown, tableShown         C's numbers                              c_form/specs/Numbers
 --   formFor f, textFor f          of a rule file, and as `ruleform` prints it   formfile/specs/Files, formtext/specs/FormText
+--   lineIn w, backText b          a line of `formtable`, and the answer    formline/specs/Lines, tabletext/specs/Answers
+--   answersAfter, answersTo       the answers to a part, and to lines      formstream/specs/Texts
 --
 -- l is any list of cells, f and g any value of the form, in which any numbers may stand. A list of calls
 -- has the last call first. A proved function ends and stays within its bounds. Assumes nothing.
 use mathlib.Core.Path.{_≡_, ap, _∙_}
 use mathlib.Core.Logic.{_↔_}
 use mathlib.Core.Bool.{cond}
-use mathlib.Core.List.{List, _∷_}
+use mathlib.Core.List.{List, [], _∷_, _++_}
 use mathlib.Core.Option.{none, some}
 use Prim.Native.Nat.{ℕ, _≤_, _<_}
-use lib.ListN.{getD}
+use lib.ListN.{length, getD}
 use Rattle.limits.specs.Limits.{mostSymbols, mostSets}
 use Rattle.masks.specs.Masks.{_∈_, has}
 use Rattle.automaton.specs.declared.Rule.{Rule}
@@ -49,6 +51,13 @@ use Rattle.formfile.specs.Files.{formFor}
 use Rattle.formfile.proofs.Claims as formfile
 use Rattle.formtext.specs.FormText.{firstCell}
 use Rattle.formtext.proofs.Claims as formtext
+use Rattle.answers.specs.Answers.{malformedText}
+use Rattle.lines.specs.Splitting.{linesOf}
+use Rattle.formline.specs.Lines.{lineIn, longestLine}
+use Rattle.formline.proofs.Claims as formline
+use Rattle.tabletext.specs.Answers.{backText, answerText}
+use Rattle.formstream.specs.Texts.{answerTo, answersTo, lineAfter, answersAfter, lastAnswer}
+use Rattle.formstream.proofs.Claims as formstream
 use Rattle.c_form.specs.declared.FormNumbers.{FormNumbers}
 use Rattle.c_form.specs.declared.TableNumbers.{TableNumbers}
 use Rattle.c_form.specs.Numbers.{formShown, formReadBack, tableShown, tableReadBack}
@@ -201,7 +210,7 @@ there-and-back h r there m made b back =
     ∙ ap (λ (n : FormNumbers). tableShown (backOf (n .form))) (from-C (judgeAfter h) m .0 made)
     ∙ ap tableShown (after-any-calls h r there)
 
--- ---- FROM A FILE, BY THE PROGRAM
+-- ---- FROM A FILE AND FROM LINES, BY THE PROGRAMS
 -- `ruleform` refuses a rule file as the load does, and else prints the form of the rule's table, from
 -- which this table can be made again; the kept cells of a line are the set's.
 pub file-refused : (f : List ℕ) → formFor f .number ≡ loadNumber f
@@ -225,3 +234,24 @@ line-cells = formtext.claims .first-is
 
 pub all-cells : (f : Form) → firstCell (f .kept) (f .sets) ≡ keptCount f
 all-cells = formtext.claims .count-is
+
+-- `formtable` answers lines, each of which says a form or nothing: with the table of the form, `refused`
+-- and the number, or `malformed`. No line that says a form is longer than the program keeps of a line.
+pub line-answer : (w : List ℕ) (f : Form) → lineIn w ≡ some f → answerTo w ≡ backText (backOf f)
+line-answer w f e = ap answerText e
+
+pub malformed-line : (w : List ℕ) → lineIn w ≡ none → answerTo w ≡ malformedText
+malformed-line w e = ap answerText e
+
+pub longest : (w : List ℕ) (f : Form) → lineIn w ≡ some f → length w ≤ longestLine
+longest = formline.claims .bounded
+
+-- A text of lines, cut into parts anywhere: what is answered part by part, and at the end, are the
+-- answers to its lines.
+pub lines : (w : List ℕ) → answersAfter [] w ++ lastAnswer (lineAfter [] w) ≡ answersTo (linesOf w)
+lines = formstream.claims .whole
+
+pub in-parts : (v w u : List ℕ)
+    → (lineAfter v (w ++ u) ≡ lineAfter (lineAfter v w) u)
+    × (answersAfter v (w ++ u) ≡ answersAfter v w ++ answersAfter (lineAfter v w) u)
+in-parts v w u = (formstream.claims .lines-parts v w u, formstream.claims .answers-parts v w u)
