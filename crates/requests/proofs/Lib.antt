@@ -4,3 +4,5 @@ pub mod Mappings
 pub mod Samples
 pub mod Patterns
 pub mod Merging
+pub mod MadeTexts
+pub mod Forms

@@ -3,3 +3,5 @@ pub mod MappingFunctions
 pub mod SampleFunctions
 pub mod PatternFunction
 pub mod MergeFunction
+pub mod TextFunction
+pub mod FormFunctions
