@@ -5,3 +5,4 @@ pub mod Replies
 pub mod Calls
 pub mod Boards
 pub mod Steps
+pub mod Claims

@@ -10,6 +10,7 @@
 --     judged v           a verdict was asked for: it is v
 --     refused x          a call other than the verdict was refused with the number x
 --   refusalIn v, refusalOf a   the number of the refusal, or none where v or a is none
+--   replyBy number a     refused with the number, or a where there is none
 --   installMeans, callMeans, verdictMeans   what each case of the code's answers says
 use mathlib.Core.Option.{Option, none, some}
 use Prim.Native.Nat.{ℕ}
@@ -43,6 +44,10 @@ refusalOf accepted = none
 refusalOf (installed sets starts) = none
 refusalOf (judged v) = refusalIn v
 refusalOf (refused number) = some number
+
+abbrev pub replyBy : Option ℕ → Reply → Reply
+replyBy none a = a
+replyBy (some number) a = refused number
 
 abbrev pub installMeans : InstallAnswer → Reply
 installMeans (install.Accepted sets starts) = installed sets starts

@@ -5,6 +5,7 @@
 --   Outcome            the outcome of a call: its reply, and the state that it leaves
 --   installOutcome, callOutcome   the outcome that the code's result stands for
 --   installReply r     what is answered where the rule r is installed: the number of sets and M
+--   installAnswer r    what is answered to an installation of the rule r, in any state
 --   withRow t r, withColumn t r   the tray with r as that rule, the other rule as it was and no board
 --   installRowOf, installColumnOf, openOf, deliverOf, withdrawOf   the outcomes of the calls that may
 --                                                                  change the state
@@ -26,7 +27,7 @@ use Rattle.trays.specs.declared.Tray.{Tray}
 use Rattle.trays.specs.declared.InstallResult.{InstallResult}
 use Rattle.trays.specs.declared.CallResult.{CallResult}
 use Rattle.trays.specs.Rows.{passes}
-use Rattle.trays.specs.Replies.{Judgement, Reply, accepted, installed, judged, refused, installMeans, callMeans}
+use Rattle.trays.specs.Replies.{Judgement, Reply, accepted, installed, judged, refused, replyBy, installMeans, callMeans}
 use Rattle.trays.specs.Calls.{Call, installsRow, installsColumn, opens, delivers, withdraws, asksVerdict, openConditions, deliverConditions, withdrawConditions, verdictBy}
 use Rattle.trays.specs.Boards.{widthOf, bandsOf, isEmpty, emptyBoard, filledAt, clearedAt, emptyBands, rowsHeld}
 
@@ -68,6 +69,9 @@ withColumn t r = record { row = t .row; column = r; board = emptyBoard 0 0 }
 
 abbrev pub installReply : Rule → Reply
 installReply r = installed (builtOf r .setcount) (builtOf r .startcount)
+
+unfoldable pub installAnswer : Rule → Reply
+installAnswer r = replyBy (installNumber r) (installReply r)
 
 unfoldable pub installRowOf : Tray → Rule → Outcome
 installRowOf t r = outcomeBy (installNumber r) (installReply r) t (withRow t r)

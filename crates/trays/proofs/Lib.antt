@@ -1,0 +1,7 @@
+-- In the order in which they build on each other.
+pub mod Rows
+pub mod Bands
+pub mod Refusing
+pub mod Verdicts
+pub mod Claims
+pub mod Ways
