@@ -7,7 +7,7 @@
 --   sized-empty, empty-all, empty-rows   a new board: all bands empty, no rows
 --   Changed                  one band has been changed, and the others are as before
 --   filled-at, cleared-at    filling and clearing change their band alone, and to what
---   within                   a band that 39 lets pass fits
+--   few-rows, rows-fit       a band that 39 lets pass has at most 64 rows, and these fit its cells
 --   empty-law, held-law      the empty bands and the rows held, from what is known of each band
 use mathlib.Core.Path.{_≡_, refl, sym, ap, _∙_}
 use mathlib.Core.Bool.{Bool, true, false, cond, not}
@@ -26,7 +26,7 @@ use Rattle.base.proofs.Totals.{total-same}
 use Rattle.trays.specs.declared.TrayBoard.{TrayBoard}
 use Rattle.trays.specs.Rows.{rowsOf, rowsIn, rowsUpTo}
 use Rattle.trays.specs.Calls.{notRows}
-use Rattle.trays.specs.Boards.{widthOf, bandsOf, rowCount, bandRows, isEmpty, emptyBoard, bandSet, filledAt, clearedAt, emptyBands, rowsHeld}
+use Rattle.trays.specs.Boards.{widthOf, bandsOf, countIn, bandRows, isEmpty, emptyBoard, bandSet, filledAt, clearedAt, emptyBands, rowsHeld}
 use Rattle.trays.proofs.Rows.{rows-none, rows-same, up-to-same}
 
 -- ---- the cells of bands
@@ -72,6 +72,10 @@ module _ (w n : ℕ) where
   empty-rows p =
       let e : min (getD (replicate 8 0) p 0) 64 ≡ 0 = omega (arith, zero-cells 8 p) in
       rw e (rows-none _ _)
+
+-- a band that 39 lets pass has at most 64 rows
+pub few-rows : (w : ℕ) (bytes : List ℕ) → notRows w bytes ≡ false → length bytes / w ≤ 64
+few-rows w bytes whole = ltb-false 64 (length bytes / w) (or-right (not (eqb (length bytes % w) 0)) (ltb 64 (length bytes / w)) whole)
 
 -- the rows of a band are within its cells
 pub rows-fit : (n w : ℕ) → n ≤ 64 → w ≤ 16 → n * w ≤ 1024
@@ -123,9 +127,9 @@ module _ (b : TrayBoard) (p : ℕ) (sized : Sized b) (h : p < 8) where
             (rows-same w count (drop (p * 1024) after) bytes (omega (arith, fit, room after size p h)) long
             (λ i l. getD-drop (p * 1024) after i 0 ∙ band-own (b .cells) p bytes h i (omega (arith, fit, l))));
         rows-other = λ q m ne.
-            let fit = rows-fit (rowCount b q) w (omega arith) narrow in
+            let fit = rows-fit (countIn (b .rows) q) w (omega arith) narrow in
             rw (getD-set-other (b .rows) p q count 0 ne)
-            (rows-same w (rowCount b q) (drop (q * 1024) after) (drop (q * 1024) (b .cells))
+            (rows-same w (countIn (b .rows) q) (drop (q * 1024) after) (drop (q * 1024) (b .cells))
             (omega (arith, fit, room after size q m)) (omega (arith, fit, room (b .cells) (sized .cells-cells) q m))
             (λ i l.
             getD-drop (q * 1024) after i 0 ∙ band-other (b .cells) p bytes q i m (omega (arith, fit, l)) ne
@@ -137,7 +141,7 @@ module _ (b : TrayBoard) (p : ℕ) (sized : Sized b) (h : p < 8) where
   unfolding filledAt
   filled-at bytes whole =
       changed-at 1 (length bytes / widthOf b) bytes
-      (ltb-false 64 (length bytes / widthOf b) (or-right (not (eqb (length bytes % widthOf b) 0)) (ltb 64 (length bytes / widthOf b)) whole))
+      (few-rows (widthOf b) bytes whole)
       (div-mul-le-self (length bytes) (widthOf b))
 
   pub cleared-at : Changed b (clearedAt b p) p true []

@@ -4,7 +4,8 @@
 -- of these. So a row is never cut off, and nothing is read beyond the cells.
 --
 --   widthOf b, bandsOf b   how many events a row has, and how many bands there are
---   rowCount b p           how many rows band p has
+--   countIn rows p         how many rows band p has, by the array of these numbers
+--   bandIn w rows cells p  the rows of band p, by the board's arrays
 --   bandRows b p           the rows of band p
 --   isEmpty b p            band p is not there
 --   emptyBoard w n         n bands of rows of w events, all empty; `emptyBoard 0 0` is no board
@@ -30,11 +31,14 @@ widthOf b = max 1 (min (b .width) mostWidth)
 abbrev pub bandsOf : TrayBoard → ℕ
 bandsOf b = min (b .bands) mostBands
 
-abbrev pub rowCount : TrayBoard → ℕ → ℕ
-rowCount b p = min (getD (b .rows) p 0) mostRows
+abbrev pub countIn : List ℕ → ℕ → ℕ
+countIn rows p = min (getD rows p 0) mostRows
+
+abbrev pub bandIn : ℕ → List ℕ → List ℕ → ℕ → List (List ℕ)
+bandIn w rows cells p = rowsOf w (countIn rows p) (drop (p * bandCells) cells)
 
 abbrev pub bandRows : TrayBoard → ℕ → List (List ℕ)
-bandRows b p = rowsOf (widthOf b) (rowCount b p) (drop (p * bandCells) (b .cells))
+bandRows b p = bandIn (widthOf b) (b .rows) (b .cells) p
 
 abbrev pub isEmpty : TrayBoard → ℕ → Bool
 isEmpty b p = eqb (getD (b .filled) p 0) 0

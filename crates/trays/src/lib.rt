@@ -11,6 +11,9 @@ pub const BANDS: usize = 8;
 // The most rows of a band.
 pub const ROWS: usize = 64;
 
+// The same, in the type in which a board has it.
+pub const MOST_ROWS: u8 = ROWS as u8;
+
 // The most bytes of a band, and the cells that are kept for each.
 pub const BAND: usize = ROWS * WIDTH;
 
