@@ -62,11 +62,11 @@ pub fn empty_board(width: u8, bands: u8) -> TrayBoard
     }
 }
 
-// Whether the bytes are not whole rows of that width, or over 64 of them (39).
-pub fn not_rows(bytes: &[u8], width: usize) -> bool
-    requires { ⌜ 1 ≤ width ⌝ }
-    ensures { λ r. ⌜ r ≡ notRows width (now (bytes .entry)) ⌝ }
+// Whether the bytes are not whole rows of the board's width, or over 64 of them (39).
+pub fn not_rows(board: TrayBoard, bytes: &[u8]) -> bool
+    ensures { λ r. ⌜ r ≡ notRows (widthOf board) (now (bytes .entry)) ⌝ }
 {
+    let width = width_of(board);
     if bytes.len() % width != 0 {
         return true;
     }

@@ -9,13 +9,13 @@
 --   withdraw-21, withdraw-11, withdraw-23, withdrawn      withdrawOf
 --   verdict-21, verdict-waiting, verdict-yes, verdict-no  verdictOf
 use mathlib.Core.Path.{_≡_, refl, sym, ap, _∙_}
-use mathlib.Core.Bool.{Bool, true, false, cond, _||_}
+use mathlib.Core.Bool.{Bool, true, false, cond, not}
 use mathlib.Core.List.{List}
 use mathlib.Core.Option.{Option, none, some}
 use Prim.Native.Nat.{ℕ, _≤_, _<_}
 use lib.ListN.{length}
 use lib.Dec.{eqb}
-use borrow.Author.Tests.{le-leb, lt-leb, eq-eqb, ne-eqb}
+use borrow.Author.Tests.{le-leb, lt-leb, eq-eqb, ne-eqb, not-true, not-false}
 use Rattle.base.specs.Conditions.{outside}
 use Rattle.base.proofs.Tests.{by-test, zero-one}
 use Rattle.automaton.specs.declared.Rule.{Rule}
@@ -37,9 +37,10 @@ use Rattle.trays.specs.Calls.{notRows, foreignTo}
 use Rattle.trays.specs.Boards.{widthOf, bandsOf, isEmpty, emptyBoard, filledAt, clearedAt, emptyBands}
 use Rattle.trays.specs.Steps.{fresh, lacksRule, withBoard, withRow, withColumn, Outcome, installReply, installAnswer, installRowOf, installColumnOf, openOf, deliverOf, withdrawOf, isYes, verdictOf}
 
-pub fresh-by : (r : Rule) → r ≡ noRule → (b : TrayBoard) → b ≡ emptyBoard 0 0 → record { row = r; column = r; board = b } ≡ fresh
+pub fresh-by : (r : Rule) → r ≡ noRule → (c : Rule) → c ≡ noRule → (b : TrayBoard) → b ≡ emptyBoard 0 0
+    → record { row = r; column = c; board = b } ≡ fresh
 unfolding fresh
-fresh-by r zeros b empty = rw (zeros, empty)
+fresh-by r row c column b empty = rw (row, column, empty)
 
 -- ---- what an installation answers
 module _ (r : Rule) (a : CheckAnswer) (checked : checkMeans a ≡ ruleNumber r) where
@@ -107,26 +108,26 @@ module _ (t : Tray) (r : Rule) (a : InstallAnswer) (answers : reply.installMeans
     unfolding installAnswer
     number-refused = by-refusal (installNumber r) (builtOf r .setcount) (builtOf r .startcount) x (sym (ap reply.installMeans told) ∙ answers)
 
-    pub row-refused : record { reply = reply.refused x; state = t } ≡ installRowOf t r
+    pub row-refused : record { reply = reply.installMeans a; state = t } ≡ installRowOf t r
     unfolding installRowOf
-    row-refused = rw number-refused
+    row-refused = rw (told, number-refused)
 
-    pub column-refused : record { reply = reply.refused x; state = t } ≡ installColumnOf t r
+    pub column-refused : record { reply = reply.installMeans a; state = t } ≡ installColumnOf t r
     unfolding installColumnOf
-    column-refused = rw number-refused
+    column-refused = rw (told, number-refused)
 
   module _ (m starts : ℕ) (told : a ≡ install.Accepted m starts) (s : Tray) where
     number-accepted : (installNumber r ≡ none) × (m ≡ builtOf r .setcount) × (starts ≡ builtOf r .startcount)
     unfolding installAnswer
     number-accepted = by-acceptance (installNumber r) (builtOf r .setcount) (builtOf r .startcount) m starts (sym (ap reply.installMeans told) ∙ answers)
 
-    pub row-installed : s ≡ withRow t r → record { reply = reply.installed m starts; state = s } ≡ installRowOf t r
+    pub row-installed : s ≡ withRow t r → record { reply = reply.installMeans a; state = s } ≡ installRowOf t r
     unfolding installRowOf
-    row-installed e = rw (number-accepted .0, number-accepted .1, number-accepted .2, e)
+    row-installed e = rw (told, number-accepted .0, number-accepted .1, number-accepted .2, e)
 
-    pub column-installed : s ≡ withColumn t r → record { reply = reply.installed m starts; state = s } ≡ installColumnOf t r
+    pub column-installed : s ≡ withColumn t r → record { reply = reply.installMeans a; state = s } ≡ installColumnOf t r
     unfolding installColumnOf
-    column-installed e = rw (number-accepted .0, number-accepted .1, number-accepted .2, e)
+    column-installed e = rw (told, number-accepted .0, number-accepted .1, number-accepted .2, e)
 
 -- ---- open
 module _ (t : Tray) (w n : ℕ) (l : Bool) (lacks : l ≡ lacksRule t) where
@@ -171,14 +172,14 @@ module _ (t : Tray) (p : ℕ) (bytes : List ℕ) where
         deliver-13 d r e = e ∙ rw (ne-eqb _ _ a, ← bands, lt-leb _ _ b, ← parts, c, ← has, d)
 
         module _ (d : f ≡ false) (y : Bool) (empty : y ≡ isEmpty (t .board) p) where
-          pub deliver-22 : y ≡ false → (r : Outcome) → r ≡ record { reply = reply.refused 22; state = t } → r ≡ deliverOf t p bytes
+          pub deliver-22 : not y ≡ true → (r : Outcome) → r ≡ record { reply = reply.refused 22; state = t } → r ≡ deliverOf t p bytes
           unfolding deliverOf
-          deliver-22 g r e = e ∙ rw (ne-eqb _ _ a, ← bands, lt-leb _ _ b, ← parts, c, ← has, d, ← empty, g)
+          deliver-22 g r e = e ∙ rw (ne-eqb _ _ a, ← bands, lt-leb _ _ b, ← parts, c, ← has, d, ← empty, not-true y g)
 
-          pub delivered : y ≡ true → (l : TrayBoard) → l ≡ filledAt (t .board) p bytes → (s : Tray) → s ≡ withBoard t l
+          pub delivered : not y ≡ false → (l : TrayBoard) → l ≡ filledAt (t .board) p bytes → (s : Tray) → s ≡ withBoard t l
               → (r : Outcome) → r ≡ record { reply = reply.accepted; state = s } → r ≡ deliverOf t p bytes
           unfolding deliverOf
-          delivered g l is s leaves r e = e ∙ rw (leaves, is, ne-eqb _ _ a, ← bands, lt-leb _ _ b, ← parts, c, ← has, d, ← empty, g)
+          delivered g l is s leaves r e = e ∙ rw (leaves, is, ne-eqb _ _ a, ← bands, lt-leb _ _ b, ← parts, c, ← has, d, ← empty, not-false y g)
 
 -- ---- withdraw
 module _ (t : Tray) (p : ℕ) where
