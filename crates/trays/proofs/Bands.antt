@@ -12,16 +12,16 @@
 use mathlib.Core.Path.{_≡_, refl, sym, ap, _∙_}
 use mathlib.Core.Bool.{Bool, true, false, cond, not}
 use mathlib.Core.List.{List, []}
-use Prim.Native.Nat.{ℕ, _+_, _*_, _/_, _%_, _≤_, _<_, min, max}
+use Prim.Native.Nat.{ℕ, _+_, _*_, _/_, _%_, _≤_, _<_, min}
 use native.Mathlib.Nat.{mul-le-mul, div-mul-le-self}
 use native.Mathlib.Omega.{arith}
 use lib.Dec.{eqb, ltb}
-use lib.ListN.{length, getD, set, replicate, drop, length-set, length-replicate, length-drop, List·getD-eq-default}
+use lib.ListN.{length, getD, set, replicate, drop, length-set, length-replicate, length-drop}
 use lib.Seq.{getD-set-same, getD-set-other, getD-drop}
-use borrow.Author.Tests.{eq-eqb, ne-eqb, eqb-true, ltb-false}
+use borrow.Author.Tests.{eq-eqb, ne-eqb, ltb-false}
 use Rattle.base.specs.Totals.{total}
 use Rattle.base.proofs.Lists.{cell-of, length-listFrom, zero-cells}
-use Rattle.base.proofs.Tests.{or-left, or-right}
+use Rattle.base.proofs.Tests.{or-right}
 use Rattle.base.proofs.Totals.{total-same}
 use Rattle.trays.specs.declared.TrayBoard.{TrayBoard}
 use Rattle.trays.specs.Rows.{rowsOf, rowsIn, rowsUpTo}

@@ -5,4 +5,5 @@ pub mod Replies
 pub mod Calls
 pub mod Boards
 pub mod Steps
+pub mod Worked
 pub mod Claims

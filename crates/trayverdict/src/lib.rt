@@ -1,9 +1,8 @@
 // Whether every row and every column of a tray is accepted. A row and a column is walked from the
 // set of initial states, successor by successor; a column goes on from band to band.
 ghost use mathlib.Core.Path.{_≡_};
-ghost use Prim.Native.Nat.{ℕ, _+_, _*_, _≤_, _<_};
+ghost use Prim.Native.Nat.{_+_, _*_, _≤_, _<_};
 ghost use lib.ListN.{length, drop};
-ghost use Rattle.masks.specs.Masks.{shares};
 ghost use Rattle.automaton.specs.Successor.{after};
 ghost use Rattle.trays.specs.Sizes.{mostWidth, mostBands, trayCells};
 ghost use Rattle.trays.specs.Rows.{rowsOf, rowsUpTo, columnOf, rowsPass, columnsPass, passes};

@@ -1,11 +1,10 @@
 -- `columns_pass` meets its contract: the columns before c pass. Assumes nothing.
-use mathlib.Core.Path.{_≡_, refl, sym, ap, _∙_}
+use mathlib.Core.Path.{_≡_, refl, sym}
 use mathlib.Core.Bool.{true}
-use Prim.Native.Nat.{ℕ, _-_, _≤_}
+use Prim.Native.Nat.{_-_, _≤_}
 use native.Mathlib.Omega.{arith}
 use borrow.Author.Needs.{needs}
 use borrow.Author.Tests.{not-true, not-false}
-use Rattle.masks.specs.Masks.{shares}
 use Rattle.trays.specs.Rows.{rowsUpTo, columnsPass}
 use Rattle.trays.specs.Boards.{bandIn}
 use Rattle.trayverdict.proofs.Walks.{columns-more, columns-fail}
