@@ -107,7 +107,7 @@ use Rattle.histories.proofs.TableP as histories-table
 use Rattle.histories.proofs.TablePRuns.{Loads-so}
 use Rattle.histories.proofs.TablePRuns as histories-table-runs
 use Rattle.lines.specs.Splitting.{linesOf}
-use Rattle.linebuffer.specs.Holding.{lineBegin}
+use Rattle.longlines.specs.Holding.{lineBegin}
 use Rattle.stream.specs.Feeding.{State, stateOf, finishOf}
 use Rattle.stream.specs.Texts.{streamOf, rightText}
 use Rattle.stream.specs.Claims.{Blocks}

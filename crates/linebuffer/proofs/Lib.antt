@@ -1,5 +1,4 @@
 -- In the order in which they build on each other.
-pub mod Kept
 pub mod Long
 pub mod Standing
 pub mod Claimed

@@ -2,106 +2,36 @@
 -- the rest is hex digits, even in number: its last field is then too long for a number, a rule, a
 -- file and a chunk alike. Assumes nothing.
 --
---   …-append       a text that goes on with t, where its first bytes v decide
 --   Tells a b      a line of the meaning a has the outcome of a line of the meaning b
---   stray-tail     the rest is not hex digits: the line is malformed
---   hex-tail       the rest is hex digits, even in number: the line comes to what its first bytes
+--   stray-call     the rest is not hex digits: the line is malformed
+--   hex-line       the rest is hex digits, even in number: the line comes to what its first bytes
 --                  come to
-use mathlib.Core.Path.{_≡_, refl, ap, _∙_, subst}
-use mathlib.Core.Bool.{Bool, true, false, cond, _&&_, and-true, and-false}
+--   told           so 131,124 bytes tell lines apart
+use mathlib.Core.Path.{_≡_, refl, ap, _∙_}
+use mathlib.Core.Bool.{Bool, true, false, cond}
 use mathlib.Core.List.{List, [], _∷_, _++_}
 use mathlib.Core.Option.{Option, none, some}
 use Prim.Native.Nat.{ℕ, suc, _+_, _-_, _%_, _≤_, _<_}
 use native.Mathlib.Omega.{arith}
-use borrow.Author.Tests.{le-leb, ne-eqb, ltb-true, ltb-false}
+use borrow.Author.Tests.{ne-eqb, ltb-true, ltb-false}
 use lib.Dec.{eqb, ltb}
-use lib.ListN.{length, take, drop, length-append, length-drop, take-append-drop}
-use lib.Seq.{drop-append-le, length-take-le}
-use Rattle.base.proofs.Tests.{by-test, either}
+use lib.ListN.{length, drop, length-append, length-drop}
+use lib.Seq.{drop-append-le}
+use Rattle.base.proofs.Tests.{by-test}
 use Rattle.lines.specs.Splitting.{begins, upTo, past}
 use Rattle.lines.proofs.Splits.{up-append, past-there}
 use Rattle.fields.specs.Numbers.{parseNumber}
 use Rattle.fields.specs.Bytes.{allHex, pairs, parseBytes}
 use Rattle.fields.proofs.Digits.{said-long}
-use Rattle.fields.proofs.Pairs.{hex-append, pairs-length}
+use Rattle.fields.proofs.Pairs.{pairs-length}
+use Rattle.longlines.specs.Claims.{TellsWithin}
+use Rattle.longlines.proofs.Tails.{begins-append, up-more, past-append, bytes-either, tail-stray, tail-bytes}
 use Rattle.calls.specs.declared.Judge.{Judge}
 use Rattle.calls.specs.Calls.{delivers, asksVerdict}
 use Rattle.calltext.specs.Meaning.{Meaning, call, load, malformed, load-word, install-word, open-word, deliver-word, withdraw-word, verdict-word, loadBy, installBy, openBy, withdrawBy, revisionBy, deliverBy, revisionFields, deliverFields, callIn, lineIn}
 use Rattle.calltext.proofs.Readings.{no-place, bad-revision}
 use Rattle.callrun.specs.Running.{replyOf, lineStep}
 use Rattle.callrun.proofs.Clipped.{loads-long, delivers-long, installs-long}
-
--- ---- a text that goes on
-begins-append : (h v t : List ℕ) → length h ≤ length v → begins h (v ++ t) ≡ begins h v
-unfolding begins
-begins-append [] v t l = refl
-begins-append (c ∷ h) [] t l = absurd (omega arith)
-begins-append (c ∷ h) (x ∷ v) t l = ap (λ (b : Bool). eqb x c && b) (begins-append h v t (omega arith))
-
-module _ (c : ℕ) where
-  up-more : (v t : List ℕ) → length (upTo c v) ≤ length (upTo c (v ++ t))
-  unfolding upTo
-  up-more [] t = omega arith
-  up-more (x ∷ v) t =
-      either (eqb x c)
-      (λ b. length (cond b [] (x ∷ upTo c v)) ≤ length (cond b [] (x ∷ upTo c (v ++ t))))
-      (omega arith)
-      (omega (arith, up-more v t))
-
-  past-append : (v t : List ℕ) → length (upTo c v) < length v → past c (v ++ t) ≡ some (drop (suc (length (upTo c v))) v ++ t)
-  past-append v t h =
-      let m = length (upTo c v) in
-      let e = up-append c v t h in
-      past-there c (v ++ t) (rw (e, length-append v t) (omega arith))
-      ∙ rw (e, drop-append-le (suc m) v t (omega arith))
-
--- ---- bytes in a field of two bytes at least
-module _ (v : List ℕ) (two : 2 ≤ length v) where
-  bytes-stray : allHex v ≡ false → parseBytes v ≡ none
-  unfolding parseBytes
-  bytes-stray e =
-      rw (ne-eqb (length v) 1 (λ o. omega arith), e, and-false (eqb (length v % 2) 0), le-leb 1 (length v) (omega arith))
-
-  bytes-odd : eqb (length v % 2) 0 ≡ false → parseBytes v ≡ none
-  unfolding parseBytes
-  bytes-odd e = rw (ne-eqb (length v) 1 (λ o. omega arith), e, le-leb 1 (length v) (omega arith))
-
-  bytes-even : eqb (length v % 2) 0 ≡ true → allHex v ≡ true → parseBytes v ≡ some (pairs v)
-  unfolding parseBytes
-  bytes-even e a = rw (ne-eqb (length v) 1 (λ o. omega arith), e, a, le-leb 1 (length v) (omega arith))
-
-  -- it says no bytes, or some
-  bytes-either : (P : Option (List ℕ) → Type 0) → P none → P (some (pairs v)) → P (parseBytes v)
-  bytes-either P neither some-bytes =
-      by-test (eqb (length v % 2) 0)
-      (λ e. by-test (allHex v) (λ a. rw (bytes-even e a) some-bytes) (λ a. rw (bytes-stray a) neither))
-      (λ e. rw (bytes-odd e) neither)
-
-module _ (v t : List ℕ) (two : 2 ≤ length v) where
-  more-two : 2 ≤ length (v ++ t)
-  more-two = rw (length-append v t) (omega arith)
-
-  tail-stray : allHex t ≡ false → parseBytes (v ++ t) ≡ none
-  tail-stray e = bytes-stray (v ++ t) more-two (rw (hex-append v t, e) (and-false (allHex v)))
-
-  module _ (hex : allHex t ≡ true) (even : length t % 2 ≡ 0) where
-    parity : length (v ++ t) % 2 ≡ length v % 2
-    parity = rw (length-append v t) (omega arith)
-
-    hex-same : allHex (v ++ t) ≡ allHex v
-    hex-same = rw (hex-append v t, hex) (and-true (allHex v))
-
-    -- both say no bytes, or both say at least m
-    tail-bytes : (m : ℕ) → m + m ≤ length v → (P : Option (List ℕ) → Option (List ℕ) → Type 0) → P none none
-        → ((f g : List ℕ) → m ≤ length f → m ≤ length g → P (some f) (some g)) → P (parseBytes v) (parseBytes (v ++ t))
-    tail-bytes m l P neither both =
-        by-test (eqb (length v % 2) 0)
-        (λ e. by-test (allHex v)
-        (λ a.
-        rw (bytes-even v two e a, bytes-even (v ++ t) more-two (rw parity e) (rw hex-same a))
-        (both (pairs v) (pairs (v ++ t)) (omega (arith, pairs-length v)) (omega (arith, pairs-length (v ++ t), length-append v t))))
-        (λ a. rw (bytes-stray v two a, bytes-stray (v ++ t) more-two (rw hex-same a)) neither))
-        (λ e. rw (bytes-odd v two e, bytes-odd (v ++ t) more-two (rw parity e)) neither)
 
 -- ---- fields that are malformed
 place-none : (f : List ℕ) (o : Option (List ℕ)) → parseNumber f ≡ none → deliverFields f o ≡ malformed
@@ -337,17 +267,9 @@ module _ (v t : List ℕ) (long : 131124 ≤ length v) where
     hex-line : Tells (lineIn v) (lineIn (v ++ t))
     hex-line = rw (some-bytes, more-bytes) hex-call
 
--- ---- the line w
-module _ (w : List ℕ) (n : ℕ) (long : 131124 ≤ n) (within : n ≤ length w) where
-  first-long : 131124 ≤ length (take n w)
-  first-long = rw (length-take-le n w within) long
-
-  pub stray-tail : allHex (drop n w) ≡ false → lineIn w ≡ malformed
-  stray-tail stray =
-      subst (λ (u : List ℕ). lineIn u ≡ malformed) (take-append-drop n w)
-      (more-bytes (take n w) (drop n w) first-long ∙ stray-call (take n w) (drop n w) first-long stray)
-
-  pub hex-tail : allHex (drop n w) ≡ true → (length w - n) % 2 ≡ 0 → (j : Judge) → lineStep j (lineIn (take n w)) ≡ lineStep j (lineIn w)
-  hex-tail hex even j =
-      subst (λ (u : List ℕ). lineStep j (lineIn (take n w)) ≡ lineStep j (lineIn u)) (take-append-drop n w)
-      (hex-line (take n w) (drop n w) first-long hex (rw (length-drop n w) even) .steps j)
+-- ---- so lines are told apart, on every judge
+pub told : (j : Judge) → TellsWithin 131124 (λ (w : List ℕ). lineStep j (lineIn w)) (lineStep j malformed)
+told j = record {
+  stray = λ v t long stray. ap (lineStep j) (more-bytes v t long ∙ stray-call v t long stray);
+  hex = λ v t long hex even. hex-line v t long hex even .steps j;
+}

@@ -1,3 +1,3 @@
 -- In the order in which to read them.
-pub mod Holding
+pub mod Meanings
 pub mod Claims

@@ -2,9 +2,10 @@
 -- Assumes nothing.
 --
 --   build-..     the rule is refused by its check, with 33, with 34, or it is built
---   run-..       the chunk is refused with 12, with 13, or it is run
+--   run-..       the chunk is refused with 12, with 13, or it is run; lent-.. the same where what a
+--                run reads of the profile is lent
 --   walk-..      a byte more, and none left
-use mathlib.Core.Path.{_≡_, sym, ap, _∙_}
+use mathlib.Core.Path.{_≡_, refl, sym, ap, _∙_}
 use mathlib.Core.Bool.{true, false, cond}
 use mathlib.Core.List.{List}
 use mathlib.Core.Option.{none, some}
@@ -23,7 +24,7 @@ use Rattle.rulecheck.proofs.Claims as check
 use Rattle.marks.specs.Marks.{textOf}
 use Rattle.chunks.specs.Chunks.{foreign}
 use Rattle.mappings.specs.Mappings.{identity}
-use Rattle.mappings.specs.Packing.{pack}
+use Rattle.mappings.specs.Packing.{pack, unpack}
 use Rattle.mappings.specs.Claims.{Small, keysOf}
 use Rattle.keys.specs.declared.KeyTable.{KeyTable}
 use Rattle.keys.specs.declared.Kind.the-variants.{Mappings}
@@ -31,7 +32,7 @@ use Rattle.keys.specs.declared.Numbering.the-variants.{Whole, Over}
 use Rattle.keys.specs.Tables.{countMeans, Table, tableOutcome, tableOf, noTable}
 use Rattle.profile.specs.declared.Profile.{Profile}
 use Rattle.profile.specs.Profiles.{manyMappings, ownConditions, buildNumber, accepted, Building, profileOf, refusedBuild, buildBy, buildOf}
-use Rattle.profile.specs.Runs.{walkTo, mappingIn, Ran, refusedRun, runOf}
+use Rattle.profile.specs.Runs.{walkTo, mappingIn, Ran, refusedRun, runOf, Lends}
 
 -- ---- building
 module _ (r : Rule) (o : Building) where
@@ -115,6 +116,23 @@ module _ (p : Profile) (w : List ℕ) (o : Ran) where
         → o ≡ runOf p w
     unfolding runOf
     run-whole e number n is = is ∙ rw (le-ltb 65536 (length w) short, is-text, e, n)
+
+-- the same, where what a run reads of the profile is lent
+module _ (k : ℕ) (next packed text : List ℕ) (o : Ran) (p : Profile) (w : List ℕ) (lends : Lends p k next packed)
+    (short : length w ≤ 65536) (is-text : textOf w ≡ text) where
+  pub lent-13 : foreign text k ≡ true → o ≡ refusedRun 13 → o ≡ runOf p w
+  lent-13 e is = run-13 p w o short text is-text (ap (foreign text) (lends .symbols) ∙ e) is
+
+  pub lent-whole : foreign text k ≡ false → (number : ℕ) → number ≡ walkTo next 0 text
+      → o ≡ record { refusal = none; masks = unpack (getD packed (number % 512) 0) }
+      → o ≡ runOf p w
+  lent-whole e number n is =
+      run-whole p w o short text is-text (ap (foreign text) (lends .symbols) ∙ e) number
+      (n ∙ ap (λ (t : List ℕ). walkTo t 0 text) (sym (lends .table)))
+      (is ∙ ap (λ (t : List ℕ). record { refusal = none; masks = unpack (getD t (number % 512) 0) }) (sym (lends .numbered)))
+
+pub lent-all : (p : Profile) → Lends p (p .k) (p .next) (p .mappings)
+lent-all p = record { symbols = refl; table = refl; numbered = refl }
 
 -- ---- the walk
 module _ (next text : List ℕ) (i number : ℕ) where

@@ -11,8 +11,11 @@
 --   refusedRun x          refused with the number x: zeros
 --   runOf p w             what a run of the chunk w answers: the mapping that its text, without its
 --                         idle marks, leads to
+--   Lends p k next packed  the profile p has k symbols, the table next and the mappings packed: all
+--                         that a run reads of it
 --   verdictOf p f         the verdict of the mapping f: yes where it leads from an initial state to
 --                         a final one
+use mathlib.Core.Path.{_≡_}
 use mathlib.Core.Bool.{Bool}
 use mathlib.Core.List.{List, [], _∷_}
 use mathlib.Core.Option.{Option, none, some}
@@ -61,6 +64,11 @@ runBy (some number) masks = refusedRun number
 
 unfoldable pub runOf : Profile → List ℕ → Ran
 runOf p w = runBy (firstOf (chunkConditions (p .k) w)) (mappingIn p (walkTo (p .next) 0 (textOf w)))
+
+pub record Lends (p : Profile) (k : ℕ) (next packed : List ℕ) : Type 0 where
+  pub symbols : p .k ≡ k
+  pub table : p .next ≡ next
+  pub numbered : p .mappings ≡ packed
 
 abbrev pub verdictOf : Profile → List ℕ → Bool
 verdictOf p f = shares (image f (p .initials)) (p .finals)

@@ -8,7 +8,7 @@ ghost use Rattle.limits.specs.Limits.{longestChunk};
 ghost use Rattle.marks.specs.Marks.{textOf};
 ghost use Rattle.mappings.specs.Claims.{Small};
 ghost use Rattle.profile.specs.Profiles.{noProfile, refusedBuild, buildOutcome, buildOf};
-ghost use Rattle.profile.specs.Runs.{walkTo, refusedRun, runOutcome, runOf, verdictOf};
+ghost use Rattle.profile.specs.Runs.{walkTo, refusedRun, runOutcome, runOf, Lends, verdictOf};
 use automaton::Rule;
 use keys::Kind;
 use keys::Numbering;
@@ -149,42 +149,65 @@ fn walk(next: &[u16; limits::CELLS], text: &[u8]) -> u16
     number
 }
 
-// What a run comes to from 13 on, of any chunk that has this text.
-fn run_text(profile: Profile, text: &[u8]) -> RunResult
-    ensures { λ r. ⌜ ((w : List ℕ) → length w ≤ longestChunk → textOf w ≡ now (text .entry) → runOutcome r ≡ runOf profile w) ⌝ }
+// What a run comes to from 13 on, of any chunk that has this text, on any profile that has this
+// number of symbols, this table and these mappings.
+fn run_text<'a>(
+    k: u8,
+    next: &'a [u16; limits::CELLS],
+    packed: &'a [u64; limits::SETS],
+    text: &[u8],
+) -> RunResult
+    ensures { λ r. ⌜ ((p : Profile) (w : List ℕ) → Lends p k (now (next .entry)) (now (packed .entry)) → length w ≤ longestChunk → textOf w ≡ now (text .entry) → runOutcome r ≡ runOf p w) ⌝ }
 {
-    if chunks::has_foreign(text, profile.k) {
+    if chunks::has_foreign(text, k) {
         return refuse_chunk(13);
     }
-    let next = profile.next;
-    let mappings = profile.mappings;
-    let number = walk(&next, text) as usize;
+    let cells: &[u64] = packed;
+    let number = walk(next, text) as usize;
     let answer = RunAnswer::Accepted;
-    let mapping = mappings::unpack(mappings[number % limits::SETS]);
+    let mapping = mappings::unpack(cells[number % limits::SETS]);
     RunResult { answer, mapping }
 }
 
 // The same of a chunk with idle marks: its text is packed once, and run from there.
-fn run_marked(profile: Profile, chunk: &[u8]) -> RunResult
+fn run_marked<'a>(
+    k: u8,
+    next: &'a [u16; limits::CELLS],
+    packed: &'a [u64; limits::SETS],
+    chunk: &[u8],
+) -> RunResult
     requires { ⌜ length (now chunk) ≤ longestChunk ⌝ }
-    ensures { λ r. ⌜ runOutcome r ≡ runOf profile (now (chunk .entry)) ⌝ }
+    ensures { λ r. ⌜ ((p : Profile) → Lends p k (now (next .entry)) (now (packed .entry)) → runOutcome r ≡ runOf p (now (chunk .entry))) ⌝ }
 {
     let mut buffer = [0u8; limits::CHUNK];
     let n = marks::pack(chunk, &mut buffer);
-    run_text(profile, &buffer[..n])
+    run_text(k, next, packed, &buffer[..n])
 }
 
-// The mapping of a chunk's text, which is the chunk without its idle marks.
-pub fn run(profile: Profile, chunk: &[u8]) -> RunResult
-    ensures { λ r. ⌜ runOutcome r ≡ runOf profile (now (chunk .entry)) ⌝ }
+// The mapping of a chunk's text, which is the chunk without its idle marks, on a profile that is not
+// copied: its number of symbols, its table and its mappings are lent.
+pub fn run_lent<'a>(
+    k: u8,
+    next: &'a [u16; limits::CELLS],
+    packed: &'a [u64; limits::SETS],
+    chunk: &[u8],
+) -> RunResult
+    ensures { λ r. ⌜ ((p : Profile) → Lends p k (now (next .entry)) (now (packed .entry)) → runOutcome r ≡ runOf p (now (chunk .entry))) ⌝ }
 {
     if limits::CHUNK < chunk.len() {
         return refuse_chunk(12);
     }
     if marks::has_marks(chunk) {
-        return run_marked(profile, chunk);
+        return run_marked(k, next, packed, chunk);
     }
-    run_text(profile, chunk)
+    run_text(k, next, packed, chunk)
+}
+
+// The same on a profile by value.
+pub fn run(profile: Profile, chunk: &[u8]) -> RunResult
+    ensures { λ r. ⌜ runOutcome r ≡ runOf profile (now (chunk .entry)) ⌝ }
+{
+    run_lent(profile.k, &profile.next, &profile.mappings, chunk)
 }
 
 // Whether the mapping leads from an initial state to a final one.

@@ -25,8 +25,9 @@ use Rattle.calls.specs.Steps.{reportOf}
 use Rattle.calltext.specs.Answers.{replied, responseText, answerMeans}
 use Rattle.callrun.specs.declared.LineRun.{LineRun}
 use Rattle.callrun.specs.Running.{LineOutcome, lineStep, runOutcome}
-use Rattle.linebuffer.specs.declared.Held.{Held}
-use Rattle.linebuffer.specs.Holding.{lineBegin, heldAfter, bufferAfter, heldMeaning}
+use Rattle.longlines.specs.declared.Held.{Held}
+use Rattle.longlines.specs.Holding.{lineBegin, heldAfter, bufferAfter}
+use Rattle.linebuffer.specs.Meanings.{heldMeaning}
 use Rattle.stream.specs.declared.Answered.{Answered}
 use Rattle.stream.specs.Feeding.{State, stateOf, answerHeld, Part, ends, goesOn, partAt, finishOf, TookPart}
 use Rattle.stream.proofs.Parts.{part-ended, part-on}

@@ -19,7 +19,7 @@ use lib.Seq.{take-all, drop-drop}
 use Rattle.text.specs.Writing.{written, Wrote}
 use Rattle.text.proofs.Pieces.{wrote-none, wrote-more}
 use Rattle.calls.specs.declared.Judge.{Judge}
-use Rattle.linebuffer.specs.declared.Held.{Held}
+use Rattle.longlines.specs.declared.Held.{Held}
 use Rattle.stream.specs.Feeding.{State, Step, stateOf, Part, partsOf, firstOf, partAt, partSize, feedPart, Gathering, stop, onward, gatherParts, gatherAt, Gathers}
 use Rattle.stream.specs.Claims.{FirstPart}
 use Rattle.stream.proofs.Parts.{first-part}

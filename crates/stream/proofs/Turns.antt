@@ -20,8 +20,9 @@ use Rattle.calls.specs.Steps.{reportOf}
 use Rattle.calltext.specs.Answers.{replied, responseText}
 use Rattle.callrun.specs.Running.{LineOutcome, verdictAsked}
 use Rattle.callrun.proofs.Ways.{asks-step}
-use Rattle.linebuffer.specs.declared.Held.{Held}
-use Rattle.linebuffer.specs.Holding.{lineBegin, heldMeaning}
+use Rattle.longlines.specs.declared.Held.{Held}
+use Rattle.longlines.specs.Holding.{lineBegin}
+use Rattle.linebuffer.specs.Meanings.{heldMeaning}
 use Rattle.stream.specs.declared.Answered.{Answered}
 use Rattle.stream.specs.declared.Taken.{Taken}
 use Rattle.stream.specs.Feeding.{State, Step, stateOf, goOn, quiet, answeredBy, answerHeld, Part, ends, goesOn, partAt, partBytes, partEnds, partSize, feedPart, TookPart}

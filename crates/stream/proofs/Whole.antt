@@ -24,7 +24,9 @@ use Rattle.histories.proofs.Loads.{load-reply, load-state}
 use Rattle.calltext.specs.Meaning.{Meaning, again, call, load, malformed, lineIn}
 use Rattle.calltext.specs.Answers.{Response, replied, responseText}
 use Rattle.callrun.specs.Running.{LineOutcome, lineStep}
-use Rattle.linebuffer.specs.Holding.{lineBegin, heldMeaning}
+use Rattle.longlines.specs.Holding.{lineBegin}
+use Rattle.linebuffer.specs.Meanings.{heldMeaning}
+use Rattle.longlines.proofs.Claimed as longlines
 use Rattle.linebuffer.proofs.Claimed as linebuffer
 use Rattle.stream.specs.Feeding.{State, Step, Part, ends, goesOn, stateOf, goOn, answerHeld, partsOf, finishOf}
 use Rattle.stream.specs.Texts.{TextOutcome, after, linesStep, feedParts, partsText, partsIn, streamOf, historyAfter, rightResponse, rightText}
@@ -60,12 +62,12 @@ module _ (s : State) (w : List ℕ) (holds : KeepsLine s w) where
 
   next-holds : KeepsLine (answerHeld s .state) []
   unfolding answerHeld
-  next-holds = record { large = holds .large; keeps = linebuffer.claims .begins (s .line) }
+  next-holds = record { large = holds .large; keeps = longlines.claims .begins (s .line) }
 
   on-holds : (p : List ℕ) → KeepsLine (goOn s p) (w ++ p)
   on-holds p = record {
-    large = omega (arith, holds .large, linebuffer.claims .same-size (s .line) (s .held) p);
-    keeps = linebuffer.claims .goes-on (s .line) (s .held) w p (holds .keeps);
+    large = omega (arith, holds .large, longlines.claims .same-size (s .line) (s .held) p);
+    keeps = longlines.claims .goes-on (s .line) (s .held) w p (holds .keeps);
   }
 
 -- ---- the parts of a block
@@ -127,7 +129,7 @@ whole-by blocks s w holds =
 
 pub whole : (blocks : List (List ℕ)) (line : List ℕ) → 131125 ≤ length line
     → streamOf (stateOf fresh lineBegin line) blocks ≡ linesStep fresh (linesFrom [] (flatten blocks))
-whole blocks line large = whole-by blocks _ [] (record { large = large; keeps = linebuffer.claims .begins line })
+whole blocks line large = whole-by blocks _ [] (record { large = large; keeps = longlines.claims .begins line })
 
 -- ---- the right answers
 response-right : (h : List Call) (m : Meaning) → lineStep (judgeAfter h) m .response ≡ rightResponse h m

@@ -20,8 +20,8 @@ use lib.ListN.{length, take, drop}
 use Rattle.limits.specs.Limits.{lineRoom, answerRoom}
 use Rattle.lines.specs.Splitting.{linesFrom, linesOf}
 use Rattle.calls.specs.Steps.{fresh}
-use Rattle.linebuffer.specs.Holding.{lineBegin}
-use Rattle.linebuffer.specs.Claims.{Keeps}
+use Rattle.longlines.specs.Holding.{lineBegin}
+use Rattle.longlines.specs.Claims.{Keeps}
 use Rattle.stream.specs.declared.Gathered.{Gathered}
 use Rattle.stream.specs.Feeding.{State, Part, ends, goesOn, stateOf, partsOf, firstOf, partSize, finishOf, gatherParts, gatherAt, Gathers}
 use Rattle.stream.specs.Texts.{linesStep, feedParts, partsText, streamOf, rightText}

@@ -41,8 +41,9 @@ use Rattle.text.specs.Writing.{Wrote}
 use Rattle.calls.specs.declared.Judge.{Judge}
 use Rattle.calltext.specs.Answers.{responseText}
 use Rattle.callrun.specs.Running.{LineOutcome, lineStep}
-use Rattle.linebuffer.specs.declared.Held.{Held}
-use Rattle.linebuffer.specs.Holding.{lineBegin, heldAfter, bufferAfter, heldMeaning}
+use Rattle.longlines.specs.declared.Held.{Held}
+use Rattle.longlines.specs.Holding.{lineBegin, heldAfter, bufferAfter}
+use Rattle.linebuffer.specs.Meanings.{heldMeaning}
 use Rattle.stream.specs.declared.Taken.{Taken}
 use Rattle.stream.specs.declared.Gathered.{Gathered}
 

@@ -8,11 +8,11 @@ ghost use Rattle.calls.specs.Replies.{judged};
 ghost use Rattle.calls.specs.Steps.{reportOf};
 ghost use Rattle.calltext.specs.Answers.{replied, responseText};
 ghost use Rattle.callrun.specs.Running.{Scratch};
-ghost use Rattle.linebuffer.specs.Holding.{lineBegin};
+ghost use Rattle.longlines.specs.Holding.{lineBegin};
 ghost use Rattle.stream.specs.Feeding.{stateOf, answerHeld, partAt, finishOf, gatherAt, TookPart, Gathers};
 use calls::Judge;
 use calltext::LineAnswer;
-use linebuffer::Held;
+use longlines::Held;
 
 // The judge that a line leaves, and how many bytes its answer has.
 pub struct Answered {
@@ -65,7 +65,7 @@ fn take_part(held: Held, line: &mut [u8], block: &[u8], at: usize) -> Taken
     ensures { λ r. ⌜ TookPart held (now (line .entry)) at (partAt (now (block .entry)) at) r (now (line .exit)) ⌝ }
 {
     let end = lines::find(block, at, b'\n');
-    let held = linebuffer::hold(line, held, &block[at..end]);
+    let held = longlines::hold(line, held, &block[at..end]);
     if end < block.len() {
         let at = end + 1;
         let ends = true;
@@ -108,13 +108,13 @@ pub fn gather(
         }
         if linebuffer::asks_verdict(line, held) {
             written += answer_verdict(judge, &mut out[written..]);
-            held = linebuffer::nothing();
+            held = longlines::nothing();
             continue;
         }
         let answered = answer(judge, line, held, bytes, &mut out[written..]);
         judge = answered.judge;
         written += answered.written;
-        held = linebuffer::nothing();
+        held = longlines::nothing();
     }
     Gathered {
         judge,

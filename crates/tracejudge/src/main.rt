@@ -15,7 +15,7 @@ ghost use Rattle.stdio.specs.Blocks.{Within};
 ghost use Rattle.stream.specs.Feeding.{stateOf, partsOf};
 ghost use Rattle.stream.specs.Texts.{feedParts};
 use calls::Judge;
-use linebuffer::Held;
+use longlines::Held;
 use stdio::Block;
 
 // How many bytes are read at once.
@@ -86,7 +86,7 @@ fn run_blocks(line: &mut [u8], bytes: &mut [u8], out: &mut [u8], block: &mut [u8
     requires { ⌜ (lineRoom ≤ length (now line)) × (bytesRoom ≤ length (now bytes)) × (answerRoom ≤ length (now out)) ⌝ }
 {
     let mut judge = judge::new_judge();
-    let mut held = linebuffer::nothing();
+    let mut held = longlines::nothing();
     let mut turns = stdio::most_turns();
     while turns > 0 {
         let read = read_block(block);

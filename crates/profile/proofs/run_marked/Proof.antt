@@ -38,7 +38,7 @@ run-text-requires : tie.Need-run-text-requires
 run-text-requires c κs = search needs
 
 returns : tie.Need-returns
-returns c = c .run-text .ensures _ (c .before .before .before .before .before .before .pre) (sym (taken (c .before .before .before .pack .ensures)))
+returns c = λ p lends. c .run-text .ensures p _ lends (c .before .before .before .before .before .before .pre) (sym (taken (c .before .before .before .pack .ensures)))
 
 pub run-marked-spec : {M : Type 1} → statement M
 run-marked-spec =

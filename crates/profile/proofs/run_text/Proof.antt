@@ -3,8 +3,8 @@ use mathlib.Core.Path.{sym, ap, _∙_}
 use mathlib.Core.List.{List}
 use mathlib.Core.Option.{none}
 use Prim.Native.Nat.{ℕ}
+use Rattle.profile.proofs.Ways.{lent-13, lent-whole}
 use borrow.Author.Needs.{needs}
-use Rattle.profile.proofs.Ways.{run-13, run-whole}
 use Rattle.profile.proofs.run_text.Statement.{statement}
 use Rattle.profile.proofs.run_text.Tie as tie
 
@@ -17,8 +17,8 @@ refuse-chunk-requires c κs = search needs
 returns : tie.Need-returns
 returns c =
     let s = c .before .before .before .before in
-    λ w short is.
-    run-13 (s .args .profile) w _ short (s .args .text .now) is (sym (c .before .before .has-foreign .ensures) ∙ c .before .if1 .taken) (c .refuse-chunk .ensures)
+    λ p w lends short is.
+    lent-13 (s .args .k) (s .args .next .now) (s .args .packed .now) (s .args .text .now) _ p w lends short is (sym (c .before .before .has-foreign .ensures) ∙ c .before .if1 .taken) (c .refuse-chunk .ensures)
 
 walk-requires : tie.Need-walk-requires
 walk-requires c κs = search needs
@@ -29,18 +29,18 @@ cast-number c = search needs
 mul-unpack : tie.Need-mul-unpack
 mul-unpack c = search needs
 
-array-read-unpack : tie.Need-array-read-unpack
-array-read-unpack c = search needs
+shared-slice-read-unpack : tie.Need-shared-slice-read-unpack
+shared-slice-read-unpack c = search needs
 
 unpack-requires : tie.Need-unpack-requires
 unpack-requires c κs = search needs
 
 returns-2 : tie.Need-returns-2
 returns-2 c =
-    let y = c .before .before .before .before .before .before in
-    let s = y .before .before in
-    λ w short is.
-    run-whole (s .args .profile) w _ short (s .args .text .now) is (sym (y .has-foreign .ensures) ∙ c .before .before .before .before .before .if1 .left) (c .before .walk .result) (c .before .walk .ensures)
+    let s = c .before .before .before .before .before .before .before in
+    let walked = c .before .before .walk in
+    λ p w lends short is.
+    lent-whole (s .args .k) (s .args .next .now) (s .args .packed .now) (s .args .text .now) _ p w lends short is (sym (c .before .before .before .before .before .has-foreign .ensures) ∙ c .before .before .before .before .if1 .left) (walked .result) (walked .ensures)
     (ap (λ (f : List ℕ). record { refusal = none; masks = f }) (c .unpack .ensures))
 
 pub run-text-spec : {M : Type 1} → statement M
@@ -53,6 +53,6 @@ run-text-spec =
     walk-requires
     cast-number
     mul-unpack
-    array-read-unpack
+    shared-slice-read-unpack
     unpack-requires
     returns-2)

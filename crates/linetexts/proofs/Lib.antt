@@ -1,0 +1,10 @@
+-- In the order in which they build on each other.
+pub mod Parts
+pub mod Taking
+pub mod Gathering
+pub mod Turns
+pub mod Rounds
+pub mod Fed
+pub mod Whole
+pub mod Ends
+pub mod Claimed

@@ -1,0 +1,24 @@
+-- `changes_held` meets its contract. Assumes nothing.
+use Rattle.mapstream.proofs.Held.{changes-call, changes-stray}
+use borrow.Author.Needs.{needs}
+use Rattle.mapstream.proofs.changes_held.Statement.{statement}
+use Rattle.mapstream.proofs.changes_held.Tie as tie
+
+look-requires : tie.Need-look-requires
+look-requires c κs = search needs
+
+slice-aggregate-changes : tie.Need-slice-aggregate-changes
+slice-aggregate-changes c = search needs
+
+changes-requires : tie.Need-changes-requires
+changes-requires c κs = search needs
+
+returns : tie.Need-returns
+returns c = search (needs, changes-call)
+
+returns-2 : tie.Need-returns-2
+returns-2 c = search (needs, changes-stray)
+
+pub changes-held-spec : {M : Type 1} → statement M
+changes-held-spec =
+    tie.close (tie.spec look-requires slice-aggregate-changes changes-requires returns returns-2)
