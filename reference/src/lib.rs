@@ -17,3 +17,4 @@ pub mod rule;
 pub mod shrink;
 pub mod table;
 pub mod tally;
+pub mod trays;
