@@ -28,7 +28,7 @@
 //! ```
 //!
 //! A rule file can be read without a judge ([`read`]); what comes of it is a [`CheckedRule`], to look at
-//! and to install into any number of judges.
+//! and to install into any number of judges, or into a tray ([`trays`]), which judges rows and columns.
 //!
 //! A refusal that nobody looks at is told by the compiler:
 //!
@@ -44,6 +44,7 @@
 mod raw;
 mod refused;
 mod rule;
+pub mod trays;
 
 pub use refused::{Refused, ReplayError};
 pub use rule::{read, CheckedRule};
