@@ -20,12 +20,25 @@ static bool right() {
     bellbadger_deliver_result delivered = bellbadger_deliver(opened.judge, 0, 0, text, sizeof text);
     bellbadger_verdict_result verdict = bellbadger_verdict(delivered.judge);
     bellbadger_withdraw_result withdrawn = bellbadger_withdraw(opened.judge, 0);
+    bellbadger_sample_result sample = bellbadger_sample(BELLBADGER_ACCEPTED_TEXT, read.rule);
+    const uint8_t ends_in_0_1[] = {'(', 'a', '|', 'b', ')', '*', 'a', 'b'};
+    bellbadger_pattern_result pattern = bellbadger_pattern(ends_in_0_1, sizeof ends_in_0_1);
+    bellbadger_merge_result merged = bellbadger_merge(BELLBADGER_EITHER, read.rule, read.rule);
     bellbadger_replay_result replayed = bellbadger_replay(reinterpret_cast<const uint8_t *>(record), std::strlen(record));
+    static_assert(sizeof(bellbadger_profile) == BELLBADGER_PROFILE_SIZE, "the size that the header says");
+    bellbadger_profile_build_result built = bellbadger_profile_build(read.rule);
+    bellbadger_profile_run_result ran = bellbadger_profile_run(built.profile, text, sizeof text);
+    bellbadger_mapping twice = bellbadger_compose(ran.mapping, ran.mapping);
     return bellbadger_version() == BELLBADGER_VERSION && bellbadger_state_size() == sizeof(bellbadger_judge)
         && read.accepted && read.rule.n == 3 && read.rule.targets[17] == 4 && installed.accepted && installed.sets == 5
         && loaded.accepted && loaded.sets == 5 && opened.accepted && delivered.accepted && delivered.looked == 2
         && verdict.kind == BELLBADGER_YES && verdict.number == 2 && verdict.bytes == 2 && verdict.quotient == 1
         && verdict.remainder == 0 && !withdrawn.accepted && withdrawn.refused == 23
+        && bellbadger_profile_size() == sizeof(bellbadger_profile) && built.accepted && built.profile.count == 5 && ran.accepted
+        && ran.mapping.masks[0] == 5 && twice.masks[0] == 5 && bellbadger_profile_verdict(built.profile, twice) == 1
+        && sample.kind == BELLBADGER_SAMPLE && sample.length == 2 && sample.text[0] == 0 && sample.text[1] == 1
+        && pattern.accepted && pattern.length == 50 && pattern.bytes[0] == 5
+        && merged.accepted && merged.rule.n == 6 && merged.rule.targets[4 * 16 + 1] == 32
         && replayed.kind == BELLBADGER_MALFORMED && replayed.number == 2;
 }
 

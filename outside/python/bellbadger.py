@@ -51,7 +51,7 @@ from pathlib import Path
 __all__ = ["CheckedRule", "Judge", "Loaded", "Looked", "Waiting", "Yes", "No", "Refused", "Malformed", "read", "replay", "version"]
 
 # what this module was written for, as outside/c/bellbadger.h has it; a higher minor number fits too
-_MAJOR, _MINOR, _STATE_SIZE = 4, 0, 27832
+_MAJOR, _MINOR, _STATE_SIZE = 4, 4, 27832
 _WAITING, _YES, _NO, _MALFORMED = 1, 2, 3, 4
 _LARGEST_SIZE = 2**64 - 1
 
@@ -73,11 +73,19 @@ _REASONS = {
     21: "no board is open",
     22: "the revision is not greater than the last one accepted at the place",
     23: "the place has no chunk",
+    30: "the pattern has over 128 bytes",
+    31: "the bytes are no pattern",
+    32: "the pattern has more than 31 letters",
+    33: "the rule has more than eight states",
+    34: "the rule has more than 512 mappings",
+    35: "more than 512 sets are reached from the set of initial states",
+    36: "the rules have different numbers of symbols",
+    37: "the result has more than 32 states",
 }
 
 
 class Refused(Exception):
-    """A call was refused; the judge is as it was. Of reading: the file is no rule."""
+    """A call was refused; the judge is as it was. Of reading: the file is no rule, the pattern none."""
 
     def __init__(self, number):
         super().__init__(number)
@@ -320,6 +328,12 @@ def _bytes(data):
     return view.tobytes()
 
 
+def _value(rule):
+    """A checked rule for C."""
+    targets = (ctypes.c_uint32 * 512)(*rule.targets)
+    return _CheckedRule(rule.n, rule.k, rule.initials, rule.finals, targets)
+
+
 def _verdict(result):
     if result.kind == _WAITING:
         return Waiting(result.number)
@@ -355,9 +369,7 @@ class Judge:
         """
         if not isinstance(rule, CheckedRule):
             raise TypeError("a CheckedRule is installed")
-        targets = (ctypes.c_uint32 * 512)(*rule.targets)
-        value = _CheckedRule(rule.n, rule.k, rule.initials, rule.finals, targets)
-        return self._loaded(_lib.bellbadger_install(self._state, value))
+        return self._loaded(_lib.bellbadger_install(self._state, _value(rule)))
 
     def load(self, file):
         """Reads a rule file and installs the rule in it. Refused with 1 to 8, then with 9."""

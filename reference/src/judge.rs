@@ -48,10 +48,10 @@ impl Work {
 use Answer::{Accepted, Delivered, Installed, No, Refused, Waiting, Yes};
 
 /// What a controller writes while no valve moves.
-const IDLE: u8 = 255;
+pub const IDLE: u8 = 255;
 
 /// The text of a chunk: idle marks are skipped.
-fn text(chunk: &[u8]) -> Vec<u8> {
+pub fn text(chunk: &[u8]) -> Vec<u8> {
     chunk.iter().copied().filter(|&byte| byte != IDLE).collect()
 }
 

@@ -1,12 +1,17 @@
--- What merging answers can be read back from the numbers that C is given, and every way has a
--- number; proofs/ReadBack.antt proves it.
+-- What merging answers can be read back from the numbers that C is given, and every number names a
+-- way; proofs/ReadBack.antt proves it.
 use mathlib.Core.Path.{_≡_}
-use Prim.Native.Nat.{ℕ}
+use Prim.Native.Nat.{ℕ, _≤_}
 use Rattle.automaton.specs.declared.Rule.{Rule}
 use Rattle.merging.specs.declared.Way.{Way}
+use Rattle.merging.specs.declared.Way.the-variants.{Both, Either, Interleaving}
 use Rattle.merging.specs.Merging.{wayOf, mergeOf}
 use Rattle.c_merge.specs.Numbers.{mergeShown, mergeReadBack}
 
 pub record Claims : Type 0 where
+  -- nothing of the answer is lost
   pub merge-read-back : (way : Way) (one two : Rule) → mergeReadBack (mergeShown (mergeOf way one two)) ≡ mergeOf way one two
-  pub way-number : (way : Way) → (x : ℕ) × (wayOf x ≡ way)
+  -- 0 is both, 1 either, any other number interleaving
+  pub way-0 : wayOf 0 ≡ Both
+  pub way-1 : wayOf 1 ≡ Either
+  pub way-other : (x : ℕ) → 2 ≤ x → wayOf x ≡ Interleaving

@@ -1,4 +1,3 @@
 -- In the order in which they build on each other.
 pub mod Long
-pub mod Writing
 pub mod Ways

@@ -30,7 +30,8 @@ use Rattle.mapcalls.specs.declared.MapState.{MapState}
 use Rattle.mapcalls.specs.declared.MapReply.{MapReply}
 use Rattle.mapcalls.specs.Calls.{Call, Reply, forgets, builds, runs, composes, asks, noneYet, replyOf, nextOf, replyMeans}
 use Rattle.maplines.specs.Lines.{build-word, run-word, compose-word, verdict-word, buildBy, runBy, askBy, composeBy, composeFields, askIn, lineIn, changes}
-use Rattle.maplines.specs.Answers.{replyText, answerTo, leftBy}
+use Rattle.mapreplies.specs.Replies.{replyText}
+use Rattle.maplines.specs.Answers.{answerTo, leftBy}
 use Rattle.maplines.proofs.Long.{builds-long, left-long, runs-long, clip}
 
 by-text : {before after t u : List ℕ} {e : ℕ} → t ≡ u → Wrote before 0 t after e → Wrote before 0 u after e

@@ -1,66 +1,22 @@
 // Answers a line of `mapjudge`: the call that it means is made, and its answer written.
 ghost use mathlib.Core.Path.{_≡_};
-ghost use mathlib.Core.Bool.{false};
-ghost use mathlib.Core.List.{List};
-ghost use Prim.Native.Nat.{ℕ, _+_, _≤_};
+ghost use Prim.Native.Nat.{_≤_};
 ghost use lib.ListN.{length, drop};
 ghost use Rattle.limits.specs.Limits.{bytesRoom};
 ghost use Rattle.text.specs.Writing.{Wrote};
 ghost use Rattle.lines.specs.Splitting.{upTo, past};
 ghost use Rattle.fields.specs.Bytes.{parseBytes};
-ghost use Rattle.maptext.specs.MappingText.{mappingText, parseMapping};
-ghost use Rattle.mapcalls.specs.Calls.{built, mapped, replyMeans};
+ghost use Rattle.maptext.specs.MappingText.{parseMapping};
+ghost use Rattle.mapreplies.specs.Replies.{mostAnswer};
 ghost use Rattle.maplines.specs.Lines.{runBy, buildBy, askBy, composeFields, askIn, lineIn, changes as changesBy};
-ghost use Rattle.maplines.specs.Answers.{mostAnswer, replyText, answerTo, leftBy, Scratch};
+ghost use Rattle.maplines.specs.Answers.{answerTo, leftBy, Scratch};
 use fields::Bytes;
-use mapcalls::MapAnswer;
-use mapcalls::MapReply;
 use mapcalls::MapState;
-use mappings::Mapping;
-
-// Room for any answer: sixteen digits and a line feed.
-pub const ANSWER: usize = 17;
 
 // The state that a line leaves, and how many bytes its answer has.
 pub struct Answered {
     pub state: MapState,
     pub written: usize,
-}
-
-// The line of a profile that was built.
-fn put_built(out: &mut [u8], count: u16) -> usize
-    requires { ⌜ mostAnswer ≤ length (now out) ⌝ }
-    ensures { λ r. ⌜ Wrote (now (out .entry)) 0 (replyText (built count)) (now (out .exit)) r ⌝ }
-{
-    let a = text::put_bytes(out, 0, b"accepted ");
-    let b = text::put_decimal(out, a, count as u64);
-    text::put_byte(out, b, b'\n')
-}
-
-// The line of a mapping.
-fn put_mapped(out: &mut [u8], mapping: Mapping) -> usize
-    requires { ⌜ mostAnswer ≤ length (now out) ⌝ }
-    ensures { λ r. ⌜ Wrote (now (out .entry)) 0 (replyText (mapped (mapping .masks))) (now (out .exit)) r ⌝ }
-{
-    let end = maptext::put_mapping(out, 0, mapping);
-    text::put_byte(out, end, b'\n')
-}
-
-// The line of any reply.
-fn put_reply(out: &mut [u8], reply: MapReply) -> usize
-    requires { ⌜ mostAnswer ≤ length (now out) ⌝ }
-    ensures { λ r. ⌜ Wrote (now (out .entry)) 0 (replyText (replyMeans reply)) (now (out .exit)) r ⌝ }
-{
-    let answer = reply.answer;
-    match answer {
-        MapAnswer::Forgotten => text::put_byte(out, 0, b'\n'),
-        MapAnswer::Built(count) => put_built(out, count),
-        MapAnswer::Mapped => put_mapped(out, reply.mapping),
-        MapAnswer::Yes => text::put_bytes(out, 0, b"yes\n"),
-        MapAnswer::No => text::put_bytes(out, 0, b"no\n"),
-        MapAnswer::Lacking => text::put_bytes(out, 0, b"no profile\n"),
-        MapAnswer::Refused(number) => answers::put_refused(out, 0, number),
-    }
 }
 
 // A field that says a chunk. The bytes go through the lent buffer; what is longer than the buffer is
@@ -73,7 +29,7 @@ fn answer_run(state: MapState, field: &[u8], bytes: &mut [u8], out: &mut [u8]) -
     let read = fields::read_bytes(field, bytes);
     match read {
         Bytes::Malformed => answers::put_malformed(out, 0),
-        Bytes::Put(n) => put_reply(out, mapcalls::run(state, &bytes[..n])),
+        Bytes::Put(n) => mapreplies::put_reply(out, mapcalls::run(state, &bytes[..n])),
     }
 }
 
@@ -95,7 +51,7 @@ fn answer_compose(line: &[u8], out: &mut [u8]) -> usize
     if !later.found {
         return answers::put_malformed(out, 0);
     }
-    put_reply(out, mapcalls::compose(earlier.mapping, later.mapping))
+    mapreplies::put_reply(out, mapcalls::compose(earlier.mapping, later.mapping))
 }
 
 // A field that says a mapping.
@@ -107,7 +63,7 @@ fn answer_verdict(state: MapState, field: &[u8], out: &mut [u8]) -> usize
     if !read.found {
         return answers::put_malformed(out, 0);
     }
-    put_reply(out, mapcalls::ask(state, read.mapping))
+    mapreplies::put_reply(out, mapcalls::ask(state, read.mapping))
 }
 
 // A field that says a rule file.
@@ -126,7 +82,7 @@ fn answer_build(state: MapState, field: &[u8], bytes: &mut [u8], out: &mut [u8])
         Bytes::Put(n) => {
             let building = mapcalls::build(state, &bytes[..n]);
             let reply = building.reply;
-            let written = put_reply(out, reply);
+            let written = mapreplies::put_reply(out, reply);
             let state = building.state;
             Answered { state, written }
         }

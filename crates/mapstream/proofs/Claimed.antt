@@ -11,7 +11,8 @@ use Rattle.mapcalls.specs.declared.MapState.{MapState}
 use Rattle.mapcalls.specs.Calls.{Call, noneYet, mapMachine}
 use Rattle.mapcalls.proofs.Histories as mapcalls
 use Rattle.maplines.specs.Lines.{lineIn}
-use Rattle.maplines.specs.Answers.{replyText, answerTo, leftBy}
+use Rattle.mapreplies.specs.Replies.{replyText}
+use Rattle.maplines.specs.Answers.{answerTo, leftBy}
 use Rattle.mapstream.specs.Texts.{mapLines, callsAfter, rightAnswer, rightText}
 use Rattle.mapstream.specs.Claims.{Claims}
 use Rattle.mapstream.proofs.Long.{told}

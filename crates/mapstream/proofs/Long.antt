@@ -26,7 +26,8 @@ use Rattle.linetexts.specs.Claims.{Told}
 use Rattle.mapcalls.specs.declared.MapState.{MapState}
 use Rattle.mapcalls.specs.Calls.{Call, Reply, builds, runs, replyOf, nextOf}
 use Rattle.maplines.specs.Lines.{build-word, run-word, compose-word, verdict-word, buildBy, runBy, askBy, composeBy, composeFields, askIn, lineIn}
-use Rattle.maplines.specs.Answers.{replyText, answerTo, leftBy}
+use Rattle.mapreplies.specs.Replies.{replyText}
+use Rattle.maplines.specs.Answers.{answerTo, leftBy}
 use Rattle.maplines.proofs.Long.{builds-long, left-long, runs-long}
 use Rattle.mapstream.specs.Texts.{stepOf, mapLines}
 

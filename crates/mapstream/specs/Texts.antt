@@ -21,7 +21,8 @@ use Rattle.mapcalls.specs.declared.MapState.{MapState}
 use Rattle.mapcalls.specs.Calls.{Call}
 use Rattle.mapcalls.specs.Histories.{rightReply}
 use Rattle.maplines.specs.Lines.{lineIn, changes}
-use Rattle.maplines.specs.Answers.{mostAnswer, replyText, answerTo, leftBy}
+use Rattle.mapreplies.specs.Replies.{mostAnswer, replyText}
+use Rattle.maplines.specs.Answers.{answerTo, leftBy}
 
 abbrev pub mapRoom : ℕ
 mapRoom = 4 + 2 * bytesRoom

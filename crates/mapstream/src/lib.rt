@@ -7,7 +7,8 @@ ghost use Rattle.limits.specs.Limits.{bytesRoom};
 ghost use Rattle.text.specs.Writing.{Wrote};
 ghost use Rattle.longlines.specs.Holding.{lineBegin};
 ghost use Rattle.linetexts.specs.Feeding.{stateOf, heldStep, finishOf, gatherAt, Gathers};
-ghost use Rattle.maplines.specs.Answers.{mostAnswer, Scratch};
+ghost use Rattle.mapreplies.specs.Replies.{mostAnswer};
+ghost use Rattle.maplines.specs.Answers.{Scratch};
 ghost use Rattle.mapstream.specs.Texts.{mapRoom, mapLines, changesHeld};
 use longlines::Held;
 use mapcalls::MapState;
@@ -89,7 +90,7 @@ pub fn gather(
     let mut at = from;
     let mut written: usize = 0;
     while at < block.len() {
-        if out.len() - written < maplines::ANSWER {
+        if out.len() - written < mapreplies::ANSWER {
             break;
         }
         let part = linetexts::take_part(held, line, block, at);

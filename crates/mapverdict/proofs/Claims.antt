@@ -23,6 +23,7 @@ use Rattle.histories.proofs.EveryList.{every-list}
 use Rattle.mapverdict.specs.Filled.{Filled, RunsAll, mappingsOf, Claims}
 use Rattle.mapverdict.proofs.FewSets as sets
 use Rattle.mapverdict.proofs.Boards as boards
+use Rattle.mapverdict.proofs.Refusals as refusals
 
 runs : (h : List Call) (r : Rule) (ws : List (List ℕ)) → Takes r → Filled h r ws → RunsAll r ws
 runs h r ws takes is i b = answers.runs-when (profileOf r) _ (boards.short h r ws is i b) (boards.known h r ws is i b)
@@ -52,4 +53,6 @@ claims = record {
   installs = sets.installs;
   fillings = λ r takes ws one most ok.
       boards.fillings r (sets.installs r takes) ws one most (λ i b. let x = answers.ran (profileOf r) _ (ok i b) in (x .0, x .1));
+  as-installed = refusals.as-installed;
+  as-delivered = refusals.as-delivered;
 }

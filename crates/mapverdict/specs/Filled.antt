@@ -6,7 +6,7 @@
 --   RunsAll r ws       the profile of the rule r runs each of the chunks ws
 --   mappingsOf r ws    the mappings that these runs answer, in order of place
 use mathlib.Core.Path.{_≡_}
-use mathlib.Core.Logic.{_↔_}
+use mathlib.Core.Logic.{_↔_, _⊎_}
 use mathlib.Core.Bool.{true, false}
 use mathlib.Core.List.{List, [], map}
 use mathlib.Core.Option.{none, some}
@@ -15,12 +15,12 @@ use lib.ListN.{length, getD}
 use Rattle.limits.specs.Limits.{mostPlaces}
 use Rattle.automaton.specs.declared.Rule.{Rule}
 use Rattle.mappings.specs.Mappings.{Bracketed, valueOf, leaves}
-use Rattle.profile.specs.Profiles.{profileOf}
+use Rattle.profile.specs.Profiles.{buildNumber, profileOf}
 use Rattle.profile.specs.Runs.{runOf, verdictOf}
 use Rattle.profile.specs.Claims.{Takes}
-use Rattle.calls.specs.Replies.{yesWith, noWith}
-use Rattle.calls.specs.Calls.{Call, installNumber}
-use Rattle.histories.specs.History.{ruleThere, boardIn, placesIn, standing, emptiesIn, summedIn, verdictIn}
+use Rattle.calls.specs.Replies.{yesWith, noWith, refused}
+use Rattle.calls.specs.Calls.{Call, delivers, installNumber}
+use Rattle.histories.specs.History.{ruleThere, boardIn, placesIn, standing, emptiesIn, summedIn, verdictIn, answerOf}
 
 pub record Filled (h : List Call) (r : Rule) (ws : List (List ℕ)) : Type 0 where
   pub rule : ruleThere h ≡ some r
@@ -50,3 +50,8 @@ pub record Claims : Type 0 where
   -- chunks that it runs fill a board
   pub installs : (r : Rule) → Takes r → installNumber r ≡ none
   pub fillings : (r : Rule) → Takes r → (ws : List (List ℕ)) → 1 ≤ length ws → length ws ≤ mostPlaces → RunsAll r ws → (h : List Call) × Filled h r ws
+  -- building is refused with 3, 4, 6 or 8 exactly where installing is, and a run with 12 or 13
+  -- exactly where a delivery of the chunk to a place of a board with that rule is
+  pub as-installed : (r : Rule) (x : ℕ) → x ≤ 8 → (buildNumber r ≡ some x) ↔ (installNumber r ≡ some x)
+  pub as-delivered : (h : List Call) (r : Rule) → ruleThere h ≡ some r → (p v : ℕ) → p < placesIn h → (w : List ℕ)
+      → (x : ℕ) → (x ≡ 12) ⊎ (x ≡ 13) → (runOf (profileOf r) w .refusal ≡ some x) ↔ (answerOf h (delivers p v w) ≡ refused x)

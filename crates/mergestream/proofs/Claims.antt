@@ -4,6 +4,7 @@ use Rattle.mergescan.specs.Scanning.{keeps-start}
 use Rattle.mergestream.specs.Claims.{Claims}
 use Rattle.mergestream.proofs.Texts.{whole-from, lines-parts, answers-parts}
 use Rattle.mergestream.proofs.Ends.{finishes}
+use Rattle.mergestream.proofs.Written.{written}
 
 pub claims : Claims
 claims = record {
@@ -12,4 +13,5 @@ claims = record {
   answers-parts = answers-parts;
   begins = λ one two. keeps-start;
   finishes = finishes;
+  written = written;
 }

@@ -3,4 +3,5 @@ pub mod Texts
 pub mod Feeding
 pub mod Rounds
 pub mod Ends
+pub mod Written
 pub mod Claims

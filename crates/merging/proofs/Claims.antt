@@ -1,19 +1,18 @@
 -- The one proof of all that specs/Claims.antt claims. Assumes nothing.
-use mathlib.Core.Path.{_≡_, refl}
 use Rattle.base.proofs.Lists.{length-listFrom}
 use Rattle.merging.specs.Merged.{cellIn}
-use Rattle.merging.specs.Merging.{mergeNumber, mergeOf}
 use Rattle.merging.specs.Claims.{Claims}
 use Rattle.merging.proofs.Sets.{pairs-law}
 use Rattle.merging.proofs.Languages.{well-formed, automaton-law, language}
 use Rattle.merging.proofs.Conditions.{refused-exactly}
+use Rattle.merging.proofs.Law.{merge-law}
 use Rattle.merging.proofs.Examples.{answered}
 
 pub claims : Claims
 claims = record {
   answered = answered;
+  merging = merge-law;
   refused = refused-exactly;
-  zeros = λ way one two x e. rw e refl;
   pair-members = pairs-law;
   well-formed = well-formed;
   cells = λ way one two.

@@ -65,6 +65,15 @@ module _ (k1 k2 n : ℕ) where
       inl (same, eqb-false k1 k2 e))
 
 -- a rule's number is none of these
+abbrev Known : ℕ → Type 0
+Known x = (x ≡ 3) ⊎ (x ≡ 4) ⊎ (x ≡ 6) ⊎ (x ≡ 8) ⊎ (x ≡ 36) ⊎ (x ≡ 37)
+
+rule-known : (r : Rule) (x : ℕ) → ruleNumber r ≡ some x → Known x
+rule-known r x e =
+    ⊎-elim (λ i. inl i)
+    (λ i. ⊎-elim (λ j. inr (inl j)) (λ j. ⊎-elim (λ k. inr (inr (inl k))) (λ k. inr (inr (inr (inl k)))) j) i)
+    (refused r .no-other x e)
+
 rule-small : (r : Rule) (x : ℕ) → ruleNumber r ≡ some x → x ≤ 8
 rule-small r x e =
     ⊎-elim (λ i. omega arith)
@@ -178,14 +187,14 @@ module _ (way : Way) (one two : Rule) where
     );
     no-other = λ x z.
         ⊎-elim
-        (λ e. omega (arith, rule-small one x e))
+        (λ e. rule-known one x e)
         (λ e.
         ⊎-elim
-        (λ f. omega (arith, rule-small two x f))
+        (λ f. rule-known two x f)
         (λ f.
         ⊎-elim
-        (λ y. omega (arith, y .0))
-        (λ y. omega (arith, y .0))
+        (λ y. inr (inr (inr (inr (inl (y .0))))))
+        (λ y. inr (inr (inr (inr (inr (y .0))))))
         (last-some (one .k) (two .k) (statesOf way (one .n) (two .n)) x (f .1)))
         (e .1))
         (from-where x .0 z);

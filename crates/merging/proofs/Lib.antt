@@ -3,5 +3,7 @@ pub mod Sets
 pub mod Tables
 pub mod Languages
 pub mod Conditions
+pub mod Only
+pub mod Law
 pub mod Examples
 pub mod Claims

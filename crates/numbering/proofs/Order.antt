@@ -31,10 +31,10 @@ use Rattle.numbering.proofs.Closure.{upTo-seed}
 use Rattle.numbering.proofs.Found.{Prior, TurnsBelow, SeedsBelow, Found, seeded, turned, upTo-found}
 
 -- the text v from seed p comes before the text w from seed q; or is not after it
-abbrev Earlier : ℕ → List ℕ → ℕ → List ℕ → Type 0
+abbrev pub Earlier : ℕ → List ℕ → ℕ → List ℕ → Type 0
 Earlier p v q w = (p < q) ⊎ (p ≡ q) × Sooner v w
 
-abbrev NotAfter : ℕ → List ℕ → ℕ → List ℕ → Type 0
+abbrev pub NotAfter : ℕ → List ℕ → ℕ → List ℕ → Type 0
 NotAfter p v q w = (p < q) ⊎ (p ≡ q) × NoLater v w
 
 -- two turns
@@ -69,15 +69,15 @@ module _ (a : Walk) (seed : ℕ → ℕ) (n : ℕ) (sinks : Sinks a) (most : len
   key j = getD keys j 0
 
   -- key j came from seed q over the text w
-  abbrev Came : ℕ → ℕ → List ℕ → Type 0
+  abbrev pub Came : ℕ → ℕ → List ℕ → Type 0
   Came j q w = Found a seed keys j q w
 
-  came-leads : {j q : ℕ} {w : List ℕ} → Came j q w → follow a (seed q) w ≡ key j
+  pub came-leads : {j q : ℕ} {w : List ℕ} → Came j q w → follow a (seed q) w ≡ key j
   came-leads (seeded e x y) = e
   came-leads {j} {q} (turned {w = w} i s h low c e x y) =
       follow-append a (seed q) w (s ∷ []) ∙ ap (λ (m : ℕ). a .step m s) (came-leads h) ∙ e
 
-  came-symbols : {j q : ℕ} {w : List ℕ} → Came j q w → Symbols (a .k) w
+  pub came-symbols : {j q : ℕ} {w : List ℕ} → Came j q w → Symbols (a .k) w
   came-symbols (seeded e x y) = none
   came-symbols (turned i s h low c e x y) = symbols-append (came-symbols h) (more c none)
 
@@ -156,7 +156,7 @@ module _ (a : Walk) (seed : ℕ → ℕ) (n : ℕ) (sinks : Sinks a) (most : len
       (eq-or-lt-of-le (ltb-false q p t))))
   before-seed e low b (turned i s h low′ c f x y) = before-seed e (omega arith) b h
 
-  rises : {i j q p : ℕ} {w v : List ℕ} → i < j → j < length keys → Came i q w → Came j p v → Earlier q w p v
+  pub rises : {i j q p : ℕ} {w v : List ℕ} → i < j → j < length keys → Came i q w → Came j p v → Earlier q w p v
   rises {i} {j} {q} {p} {w} low b h (seeded e x y) = inl (before-seed e low b h)
   rises {i} {j} {q} {p} {w} low b h (turned {w = v} i′ s h′ low′ c e x y) =
       ⊎-elim
@@ -238,7 +238,7 @@ module _ (a : Walk) (seed : ℕ → ℕ) (n : ℕ) (sinks : Sinks a) (most : len
       ne
 
   -- the key was found no later than over any text that leads to it
-  first : {j q : ℕ} {w : List ℕ} → j < length keys → Came j q w → (p : ℕ) (v : List ℕ) → p < n → Symbols (a .k) v → follow a (seed p) v ≡ key j → NotAfter q w p v
+  pub first : {j q : ℕ} {w : List ℕ} → j < length keys → Came j q w → (p : ℕ) (v : List ℕ) → p < n → Symbols (a .k) v → follow a (seed p) v ≡ key j → NotAfter q w p v
   first {j} {q} {w} b h p v c d e =
       let o = ends p v c d (ap (a .skips) e ∙ sound a seed n j b .counts) in
       let k : o .number ≡ j = once a seed n (o .number) j (o .below) b (o .is ∙ e) in

@@ -212,7 +212,7 @@ module _ (p : Pattern) (b : List ℕ) (s : StandsFor p b) (e : patternNumber b �
   accepted-for : Accepted-for p b
   accepted-for = record {
     file = outcome;
-    read = subst (λ (f : List ℕ). refusal f ≡ none) (sym held) accepts;
+    read = ap readOf held ∙ reads;
     language = λ w.
         subst (λ (f : List ℕ). Accepts (automatonIn f) w ↔ Matches p w) (sym held)
         (patterns.claims .file-language p b s few-letters w);

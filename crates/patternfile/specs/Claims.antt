@@ -18,7 +18,7 @@ use Prim.Native.Nat.{ℕ, zero, suc, _≤_, _<_}
 use lib.ListN.{length, getD}
 use Rattle.limits.specs.Limits.{mostSymbols}
 use Rattle.automaton.specs.Automaton.{Automaton, Arc, Accepts}
-use Rattle.ruleformat.specs.Refusals.{refusal}
+use Rattle.ruleformat.specs.Reader.{readOf}
 use Rattle.ruleformat.specs.Language.{automatonIn}
 use Rattle.ruleformat.specs.Writing.{fileOf}
 use Rattle.rulewriter.specs.Written.{padded}
@@ -62,8 +62,8 @@ pub record Accepted-for (p : Pattern) (b : List ℕ) : Type 0 where
     length = length (fileOf (positionRule p));
     bytes = padded longestPatternFile (fileOf (positionRule p));
   }
-  -- none of 1 to 8 holds of it
-  pub read : refusal (fileIn (patternOf b)) ≡ none
+  -- none of 1 to 8 holds of it, and reading it gives this rule
+  pub read : readOf (fileIn (patternOf b)) ≡ record { number = none; rule = positionRule p }
   -- it accepts exactly the pattern's texts
   pub language : (w : List ℕ) → Accepts (automatonFor b) w ↔ Matches p w
   -- and its states are the letters

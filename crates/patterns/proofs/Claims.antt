@@ -27,6 +27,7 @@ use Rattle.patterns.proofs.Theory.{letterAt, began-empty, begins}
 use Rattle.patterns.proofs.Numbers.{positions-of}
 use Rattle.patterns.proofs.Language as theory
 use Rattle.patterns.proofs.Letters.{Numbered, counted, numbered, lettered}
+use Rattle.patterns.proofs.Marked.{first-law, last-law, follow-law}
 use Rattle.patterns.proofs.Size.{small-file}
 
 empty-text : (p : Pattern) → (nullable p ≡ true) ↔ Matches p []
@@ -75,6 +76,9 @@ pub claims : Claims
 claims = record {
   empty-text = empty-text;
   counted = counted;
+  firsts = first-law;
+  lasts = last-law;
+  follows = follow-law;
   well-formed = theory.well-formed;
   language = language;
   initial = λ p q. single-law 0 q;

@@ -1,4 +1,4 @@
--- Worked examples: the trees of a|b*, a*b and of nothing, and what their rules are. Each is
+-- Worked examples: the trees of a|b*, a*b, ab*c and of nothing, and what their rules are. Each is
 -- computed. Assumes nothing.
 use mathlib.Core.Path.{_≡_, refl}
 use mathlib.Core.List.{[], _∷_}
@@ -37,6 +37,18 @@ skipped = then (then empty (star (letter 0))) (letter 1)
 skips : targetMask (positionRule skipped .targets) 0 1 ≡ 4
 unfolding skipped listFrom
 skips = refl
+
+-- ab*c: c can come after each b, and right after a
+passed : Pattern
+passed = then (then (then empty (letter 0)) (star (letter 1))) (letter 2)
+
+after-a : targetMask (positionRule passed .targets) 1 2 ≡ 8
+unfolding passed listFrom
+after-a = refl
+
+after-b : targetMask (positionRule passed .targets) 2 2 ≡ 8
+unfolding passed listFrom
+after-b = refl
 
 -- nothing at all, and an empty bracket, are the empty text
 nothing-at-all : Parses alternatives [] empty

@@ -43,7 +43,7 @@ lettered-at (star p) h x = lettered-at p h x
 pub cons-not-nil : {a : ℕ} {w : List ℕ} → a ∷ w ≡ [] → ⊥
 cons-not-nil e = zero-one cc
 
-rest-is : {a b : ℕ} {v w : List ℕ} → a ∷ v ≡ b ∷ w → v ≡ w
+pub rest-is : {a b : ℕ} {v w : List ℕ} → a ∷ v ≡ b ∷ w → v ≡ w
 rest-is e = cc
 
 -- ---- the table

@@ -2,6 +2,7 @@
 pub mod Theory
 pub mod Numbers
 pub mod Language
+pub mod Marked
 pub mod Size
 pub mod Letters
 pub mod Examples

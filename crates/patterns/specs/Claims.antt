@@ -19,7 +19,8 @@ use Rattle.ruleformat.specs.Writing.{fileOf}
 use Rattle.patterns.specs.Limits.{mostLetters, longestPatternFile}
 use Rattle.patterns.specs.Patterns.{Pattern, Matches, letters, count}
 use Rattle.patterns.specs.Grammar.{StandsFor}
-use Rattle.patterns.specs.Positions.{nullable, positionRule}
+use Rattle.patterns.specs.Positions.{nullable, first, last, follow, positionRule}
+use Rattle.patterns.specs.Marked.{Begins, Ends, Comes}
 
 abbrev pub Few : Pattern → Type 0
 Few p = count p ≤ mostLetters
@@ -32,6 +33,10 @@ pub record Claims : Type 0 where
   -- the empty text, and how many letters there are
   pub empty-text : (p : Pattern) → (nullable p ≡ true) ↔ Matches p []
   pub counted : (p : Pattern) → length (letters p) ≡ count p
+  -- the sets of positions are those that the texts of the marked pattern show
+  pub firsts : (p : Pattern) (j : ℕ) → (j ∈ first p 0) ↔ Begins p j
+  pub lasts : (p : Pattern) (i : ℕ) → (i ∈ last p 0) ↔ Ends p i
+  pub follows : (p : Pattern) (i j : ℕ) → (j ∈ follow p 0 i) ↔ Comes p i j
   -- the positions' rule is well formed and accepts exactly the pattern's texts
   pub well-formed : (p : Pattern) → Few p → WellFormed (positionRule p)
   pub language : (p : Pattern) (b : List ℕ) → StandsFor p b → Few p → (w : List ℕ)

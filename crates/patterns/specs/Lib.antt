@@ -3,4 +3,5 @@ pub mod Limits
 pub mod Patterns
 pub mod Grammar
 pub mod Positions
+pub mod Marked
 pub mod Claims

@@ -14,3 +14,5 @@ pub record Claims : Type 0 where
   pub decides : (b : List ℕ) → (grammatical b ≡ true) ↔ (p : Pattern) × StandsFor p b
   -- and then the letters of the pattern are those among the bytes
   pub lettered : (p : Pattern) (b : List ℕ) → StandsFor p b → lettersIn b ≡ letters p
+  -- and there is one pattern: `*` and `|` bind one way only
+  pub one-tree : (p q : Pattern) (b : List ℕ) → StandsFor p b → StandsFor q b → p ≡ q

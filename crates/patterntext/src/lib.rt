@@ -44,7 +44,7 @@ fn put_answer(out: &mut [u8], at: usize, pattern: &[u8]) -> usize
             let end = hexfields::put_digits(out, at, &file[..n]);
             text::put_byte(out, end, b'\n')
         }
-        PatternAnswer::Refused(number) => ruletext::put_refused(out, at, number),
+        PatternAnswer::Refused(number) => answers::put_refused(out, at, number),
     }
 }
 

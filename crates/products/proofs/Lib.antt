@@ -3,4 +3,5 @@ pub mod Interleavings
 pub mod Numbers
 pub mod Pairs
 pub mod Sums
+pub mod Words
 pub mod Claims

@@ -78,13 +78,13 @@ module _ (a b : Automaton) (same : a .k ≡ b .k) where
       (two-of way t)
 
   -- ---- two runs put together
-  pair-in : (x y : ℕ) → x < a .n → y < b .n → pairOf (b .n) x y < a .n * b .n
+  pub pair-in : (x y : ℕ) → x < a .n → y < b .n → pairOf (b .n) x y < a .n * b .n
   pair-in x y l1 l2 =
       pair-below (a .n) (b .n) (pairOf (b .n) x y)
       (rw (left-of (b .n) x y l2) l1)
       (rw (right-of (b .n) x y l2) l2)
 
-  arc-in : (way : Moving) (q1 q2 s r1 r2 : ℕ) → q1 < a .n → q2 < b .n → s < a .k → r1 < a .n → r2 < b .n → Moves way a b q1 q2 s r1 r2
+  pub arc-in : (way : Moving) (q1 q2 s r1 r2 : ℕ) → q1 < a .n → q2 < b .n → s < a .k → r1 < a .n → r2 < b .n → Moves way a b q1 q2 s r1 r2
       → Arc (product way a b) (pairOf (b .n) q1 q2) s (pairOf (b .n) r1 r2)
   arc-in way q1 q2 s r1 r2 l1 l2 l m1 m2 m = record {
     source = pair-in q1 q2 l1 l2;

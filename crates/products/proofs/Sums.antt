@@ -12,13 +12,13 @@ use Rattle.automaton.specs.Automaton.{Automaton, Arc, Run, stay, move, Accepts}
 use Rattle.products.specs.Products.{Own, sum}
 use Rattle.products.proofs.Pairs.{starts-below, ends-below}
 
-past : (n q : ℕ) → n + q - n ≡ q
+pub past : (n q : ℕ) → n + q - n ≡ q
 past n q = omega arith
 
-own-left : (n q : ℕ) (P R : ℕ → Type 0) → q < n → Own n P R q → P q
+pub own-left : (n q : ℕ) (P R : ℕ → Type 0) → q < n → Own n P R q → P q
 own-left n q P R l o = ⊎-elim (λ x. x .1) (λ x. absurd (omega (arith, x .0))) o
 
-own-right : (n q : ℕ) (P R : ℕ → Type 0) → n ≤ q → Own n P R q → R (q - n)
+pub own-right : (n q : ℕ) (P R : ℕ → Type 0) → n ≤ q → Own n P R q → R (q - n)
 own-right n q P R l o = ⊎-elim (λ x. absurd (omega (arith, x .0))) (λ x. x .1) o
 
 module _ (a b : Automaton) (same : a .k ≡ b .k) where

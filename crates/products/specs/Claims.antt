@@ -14,6 +14,7 @@ use lib.ListN.{length}
 use Rattle.automaton.specs.Automaton.{Automaton, Run, Accepts}
 use Rattle.products.specs.Interleavings.{Interleaving, marked}
 use Rattle.products.specs.Products.{Moving, together, alone, pairOf, firstIn, secondIn, product, sum}
+use Rattle.products.specs.Words.{InPairs, SideBySide}
 
 abbrev pub Woven : Moving → List ℕ → List ℕ → List ℕ → Type 0
 Woven together u v w = (u ≡ w) × (v ≡ w)
@@ -48,6 +49,9 @@ pub record Claims : Type 1 where
   -- the members of the pair that the state q1 × n2 + q2 is
   pub members : (n2 q1 q2 : ℕ) → q2 < n2
       → (firstIn n2 (pairOf n2 q1 q2) ≡ q1) × (secondIn n2 (pairOf n2 q1 q2) ≡ q2)
+  -- both automata are what the request's words say
+  pub in-pairs : (a b : Automaton) → a .k ≡ b .k → (way : Moving) → InPairs way a b (product way a b)
+  pub side-by-side : (a b : Automaton) → a .k ≡ b .k → SideBySide a b (sum a b)
   -- a run over pairs is a run of each automaton, whichever way a pair moves
   pub runs : (a b : Automaton) → a .k ≡ b .k → (way : Moving) (q1 q2 p1 p2 : ℕ) (w : List ℕ) → q2 < b .n → p2 < b .n
       → Run (product way a b) (pairOf (b .n) q1 q2) w (pairOf (b .n) p1 p2) ↔ TwoRuns way a b q1 q2 w p1 p2

@@ -1,4 +1,5 @@
 -- In the order in which to read them.
 pub mod Interleavings
 pub mod Products
+pub mod Words
 pub mod Claims

@@ -2,17 +2,20 @@
 -- profile; and a walk over the table leads to the mapping of the text. Assumes that building accepts
 -- the rule, and nothing else.
 use mathlib.Core.Path.{_≡_, refl, sym, ap, _∙_, subst}
+use mathlib.Core.Logic.{_⊎_, ⊎-elim}
 use mathlib.Core.List.{List, [], _∷_, _++_, append-nil, append-assoc}
 use Prim.Native.Nat.{ℕ, _+_, _*_, _/_, _%_, _≤_, _<_}
 use native.Mathlib.Nat.{mod-eq-of-lt}
 use native.Mathlib.Omega.{arith}
-use lib.ListN.{length, getD}
-use borrow.Author.Tests.{lt-ltb}
-use Rattle.base.proofs.Lists.{cell-of}
+use lib.Dec.{ltb}
+use lib.ListN.{length, getD, List·getD-eq-default}
+use borrow.Author.Tests.{lt-ltb, le-ltb, ltb-true, ltb-false}
+use Rattle.base.proofs.Lists.{length-listFrom, cell-of}
+use Rattle.base.proofs.Tests.{by-test}
 use Rattle.automaton.specs.declared.Rule.{Rule}
 use Rattle.automaton.specs.Automaton.{Text}
 use Rattle.numbering.specs.Numbering.{nextOf}
-use Rattle.numbering.proofs.Arrays.{cells-at}
+use Rattle.numbering.proofs.Arrays.{cells-long, cells-at}
 use Rattle.numbering.proofs.OneSeed.{some-key}
 use Rattle.mappings.specs.Mappings.{compose, identity, letter}
 use Rattle.mappings.specs.Packing.{pack, unpack, mappingWalk}
@@ -61,8 +64,33 @@ module _ (r : Rule) (small : Small r) (few : length (keysOf r) ≤ 512) where
   begins : 0 < count
   begins = some-key (mappingWalk (r .targets) (r .k)) (pack (identity (r .n))) refl
 
+  -- ---- zeros elsewhere
+  no-mapping : (i : ℕ) → count ≤ i → getD (p .mappings) i 0 ≡ 0
+  no-mapping i b =
+      by-test (ltb i 512)
+      (λ t. cells-at (keysOf r) i (ltb-true i 512 t) ∙ List·getD-eq-default (keysOf r) 0 b)
+      (λ t. List·getD-eq-default (p .mappings) 0 (omega (arith, cells-long (keysOf r), ltb-false i 512 t)))
+
+  -- the table's cell for the key i and the symbol s
+  abbrev cell : ℕ → ℕ → ℕ
+  cell i s = cellOf (mappingWalk (r .targets) (r .k)) (keysOf r) i s
+
+  no-key : (i s : ℕ) → (count ≤ i) ⊎ (r .k ≤ s) → cell i s ≡ 0
+  no-key i s = ⊎-elim (λ b. rw (le-ltb i count b)) (λ b. by-test (ltb i count) (λ t. rw (t, le-ltb s (r .k) b)) (λ t. rw t))
+
+  no-cell : (i s : ℕ) → s < 16 → (count ≤ i) ⊎ (r .k ≤ s) → nextIn p i s ≡ 0
+  no-cell i s c out =
+      let d : (i * 16 + s) / 16 ≡ i = omega arith in
+      let m : (i * 16 + s) % 16 ≡ s = omega arith in
+      by-test (ltb (i * 16 + s) 8192)
+      (λ t. cell-of 8192 (λ x. cell (x / 16) (x % 16)) (i * 16 + s) 0 (ltb-true (i * 16 + s) 8192 t) ∙ rw (d, m) (no-key i s out))
+      (λ t.
+      List·getD-eq-default (p .next) 0
+      (omega (arith, length-listFrom 0 8192 (λ x. cell (x / 16) (x % 16)), ltb-false (i * 16 + s) 8192 t)))
+
   pub machine : Machine r p
   machine = record {
+    head = (refl, refl, refl, refl);
     most = few;
     start = (begins, in-profile 0 begins ∙ mappings.claims .start r small);
     sound = λ i b. let w = mappings.claims .sound r small i b in (w .0, w .1, in-profile i b ∙ w .2);
@@ -70,6 +98,8 @@ module _ (r : Rule) (small : Small r) (few : length (keysOf r) ≤ 512) where
     once = λ i j b c e. mappings.claims .once r small i j b c (sym (in-profile i b) ∙ e ∙ in-profile j c);
     order = in-order;
     table = table;
+    no-mapping = no-mapping;
+    no-cell = no-cell;
   }
 
   -- ---- the walk, from the mapping of the text v

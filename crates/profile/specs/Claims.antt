@@ -60,6 +60,8 @@ module _ (r : Rule) (p : Profile) where
     pub rises : (i j : ℕ) → i < j → j < p .count → Sooner (text i) (text j)
 
   pub record Machine : Type 0 where
+    -- the rule's own numbers; at most 512 mappings
+    pub head : (p .n ≡ r .n) × (p .k ≡ r .k) × (p .initials ≡ r .initials) × (p .finals ≡ r .finals)
     pub most : p .count ≤ mostSets
     -- number 0 is the identity; each is the mapping of a text; that of each text has a number, and
     -- no two are the same
@@ -71,6 +73,9 @@ module _ (r : Rule) (p : Profile) where
     -- a cell is the number of the mapping that its symbol leads to
     pub table : (i s : ℕ) → i < p .count → s < r .k
         → (nextIn p i s < p .count) × (mappingIn p (nextIn p i s) ≡ compose (mappingIn p i) (letter (r .targets) s))
+    -- zeros elsewhere: past the last mapping, and in a cell of no mapping or no symbol
+    pub no-mapping : (i : ℕ) → p .count ≤ i → getD (p .mappings) i 0 ≡ 0
+    pub no-cell : (i s : ℕ) → s < mostSymbols → (p .count ≤ i) ⊎ (r .k ≤ s) → nextIn p i s ≡ 0
 
 -- on any profile
 pub record Runs-exactly (p : Profile) (w : List ℕ) : Type 0 where

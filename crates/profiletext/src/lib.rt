@@ -118,6 +118,6 @@ pub fn print_profile(file: &[u8], out: &mut [u8]) -> usize
     let answer = building.answer;
     match answer {
         BuildAnswer::Accepted(_) => put_profile(out, building.profile),
-        BuildAnswer::Refused(number) => ruletext::put_refused(out, 0, number),
+        BuildAnswer::Refused(number) => answers::put_refused(out, 0, number),
     }
 }

@@ -7,7 +7,7 @@ use stdio::Input;
 
 fn write_refused(number: u8) {
     let mut line = [0u8; 12];
-    let length = ruletext::put_refused(&mut line, 0, number);
+    let length = answers::put_refused(&mut line, 0, number);
     io::write_all(STDERR_FILENO, &line[..length]);
 }
 

@@ -22,14 +22,12 @@ use Rattle.base.proofs.Lists.{joined-length}
 use Rattle.base.proofs.Tests.{by-test}
 use Rattle.text.specs.Numerals.{decimal, hex}
 use Rattle.text.proofs.Digits.{decimal-most, hex-length}
+pub use Rattle.answers.proofs.Lengths.{byte-most}
 use Rattle.delegates.specs.Alike.{delegateIn}
 use Rattle.delegates.proofs.Alike.{some-said}
 use Rattle.build.specs.declared.Built.{Built}
 use Rattle.ruletext.specs.RuleText.{field, cellText, rowText, setLine, headLine, delegateText, delegatesLine, ruleText, refusedText, startsWord, space, lineFeed}
 use Rattle.ruletext.specs.Printing.{mostBytes}
-
-pub byte-most : (n : ℕ) → n < 256 → length (decimal n) ≤ 3
-byte-most n h = decimal-most 2 n (omega arith)
 
 pub number-most : (n : ℕ) → n ≤ 512 → length (decimal n) ≤ 3
 number-most n h = decimal-most 2 n (omega arith)

@@ -4,7 +4,7 @@
 --   ruleText b      the number of sets and M; a line for each set: its number, its mask in 8 hex
 --                   digits and, for each symbol, the number of the successor or - for the empty
 --                   set; and each state's delegate, or - where it has none (document 02, R-7)
---   refusedText x   `refused` and the number
+--   refusedText x   `refused` and the number (crates/answers)
 --   textOf b        one or the other, by the answer of building
 use mathlib.Core.Bool.{cond}
 use mathlib.Core.List.{List, [], _∷_, _++_}
@@ -15,6 +15,7 @@ use lib.ListN.{getD}
 use Rattle.limits.specs.Limits.{mostStates, mostSymbols, mostSets, emptySet}
 use Rattle.base.specs.Lists.{joined}
 use Rattle.text.specs.Numerals.{decimal, hex}
+pub use Rattle.answers.specs.Answers.{refusedText}
 use Rattle.delegates.specs.Alike.{delegateIn}
 use Rattle.build.specs.declared.BuildAnswer.{BuildAnswer}
 use Rattle.build.specs.declared.BuildAnswer.the-variants.{Accepted, Refused}
@@ -30,7 +31,7 @@ lineFeed = 10
 abbrev pub dash : ℕ
 dash = 45
 
--- `sets `, ` starts `, `delegates`, `refused `
+-- `sets `, ` starts `, `delegates`
 abbrev pub setsWord : List ℕ
 setsWord = 115 ∷ 101 ∷ 116 ∷ 115 ∷ 32 ∷ []
 
@@ -39,9 +40,6 @@ startsWord = 32 ∷ 115 ∷ 116 ∷ 97 ∷ 114 ∷ 116 ∷ 115 ∷ 32 ∷ []
 
 abbrev pub delegatesWord : List ℕ
 delegatesWord = 100 ∷ 101 ∷ 108 ∷ 101 ∷ 103 ∷ 97 ∷ 116 ∷ 101 ∷ 115 ∷ []
-
-abbrev pub refusedWord : List ℕ
-refusedWord = 114 ∷ 101 ∷ 102 ∷ 117 ∷ 115 ∷ 101 ∷ 100 ∷ 32 ∷ []
 
 -- a number with a space before it
 abbrev pub field : ℕ → List ℕ
@@ -73,9 +71,6 @@ abbrev pub ruleText : Built → List ℕ
 ruleText b =
     headLine (min (b .setcount) mostSets) (b .startcount)
     ++ (joined (setLine (b .sets) (b .next) (min (b .k) mostSymbols)) (min (b .setcount) mostSets) ++ delegatesLine (b .delegates) (min (b .n) mostStates))
-
-abbrev pub refusedText : ℕ → List ℕ
-refusedText x = refusedWord ++ (decimal x ++ (lineFeed ∷ []))
 
 abbrev pub answerText : BuildAnswer → Built → List ℕ
 answerText (Accepted sets starts) b = ruleText b

@@ -5,9 +5,10 @@ ghost use lib.ListN.{length};
 ghost use Rattle.limits.specs.Limits.{mostStates, mostSymbols, mostSets};
 ghost use Rattle.base.specs.Lists.{joined};
 ghost use Rattle.text.specs.Writing.{Wrote};
+ghost use Rattle.answers.specs.Answers.{refusedText};
 ghost use Rattle.delegates.specs.Alike.{delegateIn};
 ghost use Rattle.delegates.specs.Answer.{delegateMeans};
-ghost use Rattle.ruletext.specs.RuleText.{field, cellText, rowText, setLine, headLine, delegateText, delegatesLine, ruleText, refusedText, textOf};
+ghost use Rattle.ruletext.specs.RuleText.{field, cellText, rowText, setLine, headLine, delegateText, delegatesLine, ruleText, textOf};
 ghost use Rattle.ruletext.specs.Printing.{Prints, textFor, mostBytes};
 use build::BuildAnswer;
 use build::BuildResult;
@@ -162,16 +163,6 @@ fn put_head(out: &mut [u8], at: usize, count: usize, starts: u8) -> usize
     text::put_byte(out, d, b'\n')
 }
 
-// The line of a refusal.
-pub fn put_refused(out: &mut [u8], at: usize, number: u8) -> usize
-    requires { ⌜ at + 12 ≤ length (now out) ⌝ }
-    ensures { λ r. ⌜ Wrote (now (out .entry)) at (refusedText number) (now (out .exit)) r ⌝ }
-{
-    let a = text::put_bytes(out, at, b"refused ");
-    let b = text::put_decimal(out, a, number as u64);
-    text::put_byte(out, b, b'\n')
-}
-
 // The text of a built rule, from the start.
 fn put_rule(out: &mut [u8], built: Built) -> usize
     requires { ⌜ mostBytes ≤ length (now out) ⌝ }
@@ -211,7 +202,7 @@ fn print_refused(number: u8, out: &mut [u8]) -> Printed
     ensures { λ r. ⌜ Prints (refusedText number) (now (out .entry)) (now (out .exit)) r ⌝ }
 {
     let mut text = [0u8; 12];
-    let length = put_refused(&mut text, 0, number);
+    let length = answers::put_refused(&mut text, 0, number);
     print_text(&text[..length], out)
 }
 

@@ -4,15 +4,12 @@ use mathlib.Core.List.{flatten}
 use Rattle.lines.specs.Splitting.{linesOf}
 use Rattle.stream.specs.Texts.{TextOutcome}
 use Rattle.stream.specs.Claims.{Claims}
-use Rattle.stream.proofs.Parts.{first-part, lines-split}
 use Rattle.stream.proofs.Rounds.{forward, within, rounds}
 use Rattle.stream.proofs.Fed.{gathered, fed}
 use Rattle.stream.proofs.Whole.{feeds, finishes, whole, right, written-right}
 
 pub claims : Claims
 claims = record {
-  first = first-part;
-  split = lines-split;
   feeds = feeds;
   finishes = finishes;
   whole = whole;

@@ -7,7 +7,8 @@ use lib.ListN.{length, take, drop, length-drop}
 use lib.Seq.{drop-drop}
 use Rattle.text.proofs.Fitting.{taken}
 use Rattle.stream.specs.declared.Gathered.{Gathered}
-use Rattle.stream.specs.Feeding.{State, stateOf, partsOf, gatherParts, gatherAt, Gathers}
+use Rattle.linetexts.specs.Parts.{partsOf}
+use Rattle.stream.specs.Feeding.{State, stateOf, gatherParts, gatherAt, Gathers}
 use Rattle.stream.specs.Claims.{Rounds, over, round, Blocks, no-block, one-more}
 use Rattle.stream.proofs.Rounds.{forward}
 

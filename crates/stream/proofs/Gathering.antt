@@ -20,9 +20,9 @@ use Rattle.text.specs.Writing.{written, Wrote}
 use Rattle.text.proofs.Pieces.{wrote-none, wrote-more}
 use Rattle.calls.specs.declared.Judge.{Judge}
 use Rattle.longlines.specs.declared.Held.{Held}
-use Rattle.stream.specs.Feeding.{State, Step, stateOf, Part, partsOf, firstOf, partAt, partSize, feedPart, Gathering, stop, onward, gatherParts, gatherAt, Gathers}
-use Rattle.stream.specs.Claims.{FirstPart}
-use Rattle.stream.proofs.Parts.{first-part}
+use Rattle.linetexts.specs.Parts.{Part, partsOf, firstOf, partAt, partSize, FirstPart}
+use Rattle.stream.specs.Feeding.{State, Step, stateOf, feedPart, Gathering, stop, onward, gatherParts, gatherAt, Gathers}
+use Rattle.linetexts.proofs.Parts.{first-part}
 
 -- ---- the first part, and the others
 pub gather-on : (room : ℕ) (s : State) (block : List ℕ) → 0 < length block → 96 ≤ room

@@ -1,5 +1,4 @@
 -- In the order in which they build on each other.
-pub mod Parts
 pub mod Calls
 pub mod Gathering
 pub mod Turns

@@ -16,10 +16,11 @@ use lib.ListN.{length, drop, length-drop, drop-of-length-le}
 use lib.Seq.{drop-drop}
 use Rattle.base.proofs.Tests.{by-test}
 use Rattle.stream.specs.declared.Gathered.{Gathered}
-use Rattle.stream.specs.Feeding.{State, Step, stateOf, Part, partsOf, firstOf, partSize, feedPart, Gathering, stop, onward, gatherParts, gatherAt, Gathers}
-use Rattle.stream.specs.Texts.{feedParts, partsText, partsIn}
-use Rattle.stream.specs.Claims.{FirstPart, Rounds, over, round, Blocks, no-block, one-more}
-use Rattle.stream.proofs.Parts.{first-part}
+use Rattle.linetexts.specs.Parts.{Part, partsOf, firstOf, partSize, partsIn, FirstPart}
+use Rattle.stream.specs.Feeding.{State, Step, stateOf, feedPart, Gathering, stop, onward, gatherParts, gatherAt, Gathers}
+use Rattle.stream.specs.Texts.{feedParts, partsText}
+use Rattle.stream.specs.Claims.{Rounds, over, round, Blocks, no-block, one-more}
+use Rattle.linetexts.proofs.Parts.{first-part}
 use Rattle.stream.proofs.Gathering.{gather-on, gather-short, gather-over}
 
 -- a round that comes to g, and what it leaves of the block

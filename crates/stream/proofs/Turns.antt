@@ -24,10 +24,10 @@ use Rattle.longlines.specs.declared.Held.{Held}
 use Rattle.longlines.specs.Holding.{lineBegin}
 use Rattle.linebuffer.specs.Meanings.{heldMeaning}
 use Rattle.stream.specs.declared.Answered.{Answered}
-use Rattle.stream.specs.declared.Taken.{Taken}
-use Rattle.stream.specs.Feeding.{State, Step, stateOf, goOn, quiet, answeredBy, answerHeld, Part, ends, goesOn, partAt, partBytes, partEnds, partSize, feedPart, TookPart}
-use Rattle.stream.specs.Claims.{FirstPart}
-use Rattle.stream.proofs.Parts.{first-part}
+use Rattle.linetexts.specs.declared.Taken.{Taken}
+use Rattle.linetexts.specs.Parts.{Part, ends, goesOn, partAt, partBytes, partEnds, partSize, TookPart, FirstPart}
+use Rattle.stream.specs.Feeding.{State, Step, stateOf, goOn, quiet, answeredBy, answerHeld, feedPart}
+use Rattle.linetexts.proofs.Parts.{first-part}
 use Rattle.stream.proofs.Gathering.{SoFar, gone-on, placed, placed-size, placed-within}
 
 feed-on : (s : State) (p : Part) → partEnds p ≡ false → feedPart s p ≡ quiet (goOn s (partBytes p))

@@ -28,10 +28,11 @@ use Rattle.longlines.specs.Holding.{lineBegin}
 use Rattle.linebuffer.specs.Meanings.{heldMeaning}
 use Rattle.longlines.proofs.Claimed as longlines
 use Rattle.linebuffer.proofs.Claimed as linebuffer
-use Rattle.stream.specs.Feeding.{State, Step, Part, ends, goesOn, stateOf, goOn, answerHeld, partsOf, finishOf}
-use Rattle.stream.specs.Texts.{TextOutcome, after, linesStep, feedParts, partsText, partsIn, streamOf, historyAfter, rightResponse, rightText}
-use Rattle.stream.specs.Claims.{KeepsLine, linesEnded, lineBegun, Feeds, Blocks}
-use Rattle.stream.proofs.Parts.{lines-split}
+use Rattle.linetexts.specs.Parts.{Part, ends, goesOn, partsOf, partsIn, linesEnded, lineBegun}
+use Rattle.stream.specs.Feeding.{State, Step, stateOf, goOn, answerHeld, finishOf}
+use Rattle.stream.specs.Texts.{TextOutcome, after, linesStep, feedParts, partsText, streamOf, historyAfter, rightResponse, rightText}
+use Rattle.stream.specs.Claims.{KeepsLine, Feeds, Blocks}
+use Rattle.linetexts.proofs.Parts.{lines-split}
 use Rattle.stream.proofs.Rounds.{blocks-are}
 
 -- ---- lines and then others

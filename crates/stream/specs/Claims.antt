@@ -1,12 +1,9 @@
 -- Every text is answered right, however it is cut into blocks, and in however many rounds a block
--- is fed; proofs/Claimed.antt proves the claims.
+-- is fed; proofs/Claimed.antt proves the claims. What the parts of a block are, and the lines that
+-- they end, is said in `linetexts`.
 --
 --   KeepsLine s w      the line's buffer is large enough, and it keeps w, the beginning of a line
 --                      that earlier parts brought
---   linesEnded w ps    the lines that the parts end, where w is the beginning of the first
---   lineBegun w ps     the beginning of the line that goes on behind them
---   FirstPart block p  p is the first part of the block: it takes some of it, no more than there
---                      is, and the others are the parts of the rest
 --   Feeds s w ps       feeding the parts ps to s: the lines that they end were run and answered,
 --                      and the beginning of the next is held
 --   Rounds room s block s′ texts     the block is fed to s in rounds, each as far as the room for
@@ -22,28 +19,14 @@ use Rattle.lines.specs.Splitting.{linesFrom, linesOf}
 use Rattle.calls.specs.Steps.{fresh}
 use Rattle.longlines.specs.Holding.{lineBegin}
 use Rattle.longlines.specs.Claims.{Keeps}
+use Rattle.linetexts.specs.Parts.{Part, partsOf, linesEnded, lineBegun}
 use Rattle.stream.specs.declared.Gathered.{Gathered}
-use Rattle.stream.specs.Feeding.{State, Part, ends, goesOn, stateOf, partsOf, firstOf, partSize, finishOf, gatherParts, gatherAt, Gathers}
+use Rattle.stream.specs.Feeding.{State, stateOf, finishOf, gatherParts, gatherAt, Gathers}
 use Rattle.stream.specs.Texts.{linesStep, feedParts, partsText, streamOf, rightText}
 
 pub record KeepsLine (s : State) (w : List ℕ) : Type 0 where
   pub large : lineRoom ≤ length (s .line)
   pub keeps : Keeps (s .line) (s .held) w
-
-unfoldable pub linesEnded : List ℕ → List Part → List (List ℕ)
-linesEnded w [] = []
-linesEnded w (ends p ∷ ps) = (w ++ p) ∷ linesEnded [] ps
-linesEnded w (goesOn p ∷ ps) = linesEnded (w ++ p) ps
-
-unfoldable pub lineBegun : List ℕ → List Part → List ℕ
-lineBegun w [] = w
-lineBegun w (ends p ∷ ps) = lineBegun [] ps
-lineBegun w (goesOn p ∷ ps) = lineBegun (w ++ p) ps
-
-pub record FirstPart (block : List ℕ) (p : Part) : Type 0 where
-  pub forward : 0 < partSize p
-  pub within : partSize p ≤ length block
-  pub rest : partsOf block ≡ p ∷ partsOf (drop (partSize p) block)
 
 pub record Feeds (s : State) (w : List ℕ) (ps : List Part) : Type 0 where
   pub ran : record { text = partsText s ps; state = feedParts s ps .judge } ≡ linesStep (s .judge) (linesEnded w ps)
@@ -62,10 +45,6 @@ pub data Blocks (room : ℕ) : State → List (List ℕ) → State → List ℕ 
       → Rounds room s block s′ texts → Blocks room s′ blocks s″ text → Blocks room s (block ∷ blocks) s″ (flatten texts ++ text)
 
 pub record Claims : Type 0 where
-  -- a block is its parts, and the lines of a text are those that the parts of a block end, and
-  -- those of what follows; `more` is what later blocks bring
-  pub first : (block : List ℕ) → 0 < length block → FirstPart block (firstOf (partsOf block))
-  pub split : (block w more : List ℕ) → linesFrom w (block ++ more) ≡ linesEnded w (partsOf block) ++ linesFrom (lineBegun w (partsOf block)) more
   -- the parts of a block, or any others, and the end of the text
   pub feeds : (ps : List Part) (s : State) (w : List ℕ) → KeepsLine s w → Feeds s w ps
   pub finishes : (s : State) (w : List ℕ) → KeepsLine s w

@@ -6,7 +6,6 @@
 --   linesStep j ls      the outcome of the lines ls, one after the other, from the judge j on
 --   feedParts s ps      the state after feeding the parts ps
 --   partsText s ps      all that is answered to them
---   partsIn blocks      the parts of the blocks, one block after the other
 --   streamOf s blocks   the outcome of feeding the blocks and then finishing
 --   historyAfter h m    the calls since the last empty line: h, and then a line of the meaning m; a
 --                       load makes the installation of its rule, or no call
@@ -20,7 +19,8 @@ use Rattle.histories.specs.History.{answerOf, loading, loadReply}
 use Rattle.calltext.specs.Meaning.{Meaning, again, call, load, malformed, lineIn}
 use Rattle.calltext.specs.Answers.{Response, began, replied, unread, responseText}
 use Rattle.callrun.specs.Running.{lineStep}
-use Rattle.stream.specs.Feeding.{State, Part, partsOf, feedPart, finishOf}
+use Rattle.linetexts.specs.Parts.{Part, partsIn}
+use Rattle.stream.specs.Feeding.{State, feedPart, finishOf}
 
 pub record TextOutcome : Type 0 where
   pub text : List ℕ
@@ -42,10 +42,6 @@ feedParts s (p ∷ ps) = feedParts (feedPart s p .state) ps
 unfoldable pub partsText : State → List Part → List ℕ
 partsText s [] = []
 partsText s (p ∷ ps) = feedPart s p .text ++ partsText (feedPart s p .state) ps
-
-unfoldable pub partsIn : List (List ℕ) → List Part
-partsIn [] = []
-partsIn (block ∷ blocks) = partsOf block ++ partsIn blocks
 
 abbrev pub streamOf : State → List (List ℕ) → TextOutcome
 streamOf s blocks =

@@ -1,6 +1,6 @@
 // Runs the calls of a text that comes in blocks, cut anywhere, and writes their answers.
 ghost use mathlib.Core.Path.{_≡_};
-ghost use Prim.Native.Nat.{_≤_, _<_};
+ghost use Prim.Native.Nat.{_≤_};
 ghost use lib.ListN.{length};
 ghost use Rattle.limits.specs.Limits.{bytesRoom, lineRoom, answerRoom};
 ghost use Rattle.text.specs.Writing.{Wrote};
@@ -9,7 +9,7 @@ ghost use Rattle.calls.specs.Steps.{reportOf};
 ghost use Rattle.calltext.specs.Answers.{replied, responseText};
 ghost use Rattle.callrun.specs.Running.{Scratch};
 ghost use Rattle.longlines.specs.Holding.{lineBegin};
-ghost use Rattle.stream.specs.Feeding.{stateOf, answerHeld, partAt, finishOf, gatherAt, TookPart, Gathers};
+ghost use Rattle.stream.specs.Feeding.{stateOf, answerHeld, finishOf, gatherAt, Gathers};
 use calls::Judge;
 use calltext::LineAnswer;
 use longlines::Held;
@@ -18,13 +18,6 @@ use longlines::Held;
 pub struct Answered {
     pub judge: Judge,
     pub written: usize,
-}
-
-// A line with a part of a block behind it, where the next part begins, and whether the line ends.
-pub struct Taken {
-    pub held: Held,
-    pub at: usize,
-    pub ends: bool,
 }
 
 // The judge that some parts of a block leave, what is kept of a line that goes on, where the next
@@ -59,23 +52,6 @@ fn answer_verdict(judge: Judge, out: &mut [u8]) -> usize
     calltext::put_answer(out, answer)
 }
 
-// A part of a block: up to the next line feed, or to the block's end. `line` keeps the line.
-fn take_part(held: Held, line: &mut [u8], block: &[u8], at: usize) -> Taken
-    requires { ⌜ at < length (now block) ⌝ }
-    ensures { λ r. ⌜ TookPart held (now (line .entry)) at (partAt (now (block .entry)) at) r (now (line .exit)) ⌝ }
-{
-    let end = lines::find(block, at, b'\n');
-    let held = longlines::hold(line, held, &block[at..end]);
-    if end < block.len() {
-        let at = end + 1;
-        let ends = true;
-        return Taken { held, at, ends };
-    }
-    let at = end;
-    let ends = false;
-    Taken { held, at, ends }
-}
-
 // The parts of a block from an index on, while there is room for their answers, which stand one
 // behind the other at the start of `out`. `line` keeps the line, `bytes` is for the bytes that it
 // carries. A line that asks for the verdict leaves the judge where it is: nothing is copied.
@@ -100,7 +76,7 @@ pub fn gather(
         if out.len() - written < limits::ANSWER {
             break;
         }
-        let part = take_part(held, line, block, at);
+        let part = linetexts::take_part(held, line, block, at);
         at = part.at;
         held = part.held;
         if !part.ends {

@@ -28,7 +28,14 @@
 //! ```
 //!
 //! A rule file can be read without a judge ([`read`]); what comes of it is a [`CheckedRule`], to look at
-//! and to install into any number of judges, or into a tray ([`trays`]), which judges rows and columns.
+//! and to install into any number of judges. The first text that a rule accepts, or the first that it
+//! rejects, is its sample ([`samples::sample`]). A shop owner writes a pattern, from which
+//! [`patterns::rule_file`] makes the file. Two rules can be made one ([`merge::merge`]).
+//!
+//! For small rules there is a mapping machine ([`mappings`]): chunks are run on whatever machines, and what
+//! comes of them, eight bytes each, is put together afterwards.
+//!
+//! A tray ([`trays`]) judges rows by one rule and columns by another.
 //!
 //! A refusal that nobody looks at is told by the compiler:
 //!
@@ -41,9 +48,13 @@
 //!
 //! No call keeps anything outside its judge. A judge goes by value within the library: for a thread
 //! that calls it a stack of 512 KB is enough, 128 KB is not (Rust's own threads have 2 MB).
+pub mod mappings;
+pub mod merge;
+pub mod patterns;
 mod raw;
 mod refused;
 mod rule;
+pub mod samples;
 pub mod trays;
 
 pub use refused::{Refused, ReplayError};

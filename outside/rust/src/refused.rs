@@ -2,7 +2,7 @@
 use std::error::Error;
 use std::fmt;
 
-/// A call was refused; the judge is as it was. Of reading: the file is no rule.
+/// A call was refused; the judge is as it was. Of reading: the file is no rule, the pattern none.
 ///
 /// ```
 /// # use bellbadger::Judge;
@@ -19,7 +19,7 @@ impl Refused {
         Refused(number)
     }
 
-    /// Why: 1 to 13 for what is wrong with the input, 20 to 23 for what stands in the way.
+    /// Why: 1 to 13 and 30 to 37 for what is wrong with the input, 20 to 23 for what stands in the way.
     #[must_use]
     pub fn number(self) -> u8 {
         self.0
@@ -44,6 +44,14 @@ impl Refused {
             21 => "no board is open",
             22 => "the revision is not greater than the last one accepted at the place",
             23 => "the place has no chunk",
+            30 => "the pattern has over 128 bytes",
+            31 => "the bytes are no pattern",
+            32 => "the pattern has more than 31 letters",
+            33 => "the rule has more than eight states",
+            34 => "the rule has more than 512 mappings",
+            35 => "more than 512 sets are reached from the set of initial states",
+            36 => "the rules have different numbers of symbols",
+            37 => "the result has more than 32 states",
             _ => "for a reason that this wrapper does not know",
         }
     }
@@ -95,11 +103,11 @@ mod tests {
     /// Each of the paper's numbers has words of its own.
     #[test]
     fn every_number_has_its_words() {
-        let numbers = (1..=13).chain(20..=23);
+        let numbers = (1..=13).chain(20..=23).chain(30..=37);
         let words: BTreeSet<&str> = numbers
             .chain([99])
             .map(|number| Refused::new(number).reason())
             .collect();
-        assert_eq!(words.len(), 17 + 1);
+        assert_eq!(words.len(), 25 + 1);
     }
 }

@@ -1,5 +1,5 @@
 -- `run` meets its contract. Assumes nothing.
-use Rattle.stream.proofs.Calls.{wrote-within, room-prefix}
+use Rattle.linetexts.proofs.Ends.{wrote-within, room-prefix}
 use borrow.Author.Needs.{needs}
 use Rattle.tracejudge.proofs.run.Statement.{statement}
 use Rattle.tracejudge.proofs.run.Tie as tie

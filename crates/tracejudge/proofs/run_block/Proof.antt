@@ -1,8 +1,9 @@
 -- `run_block` meets its contract. Assumes nothing.
 use Rattle.stream.proofs.Rounds.{round-forward, round-on, rounds-over}
-use Rattle.stream.proofs.Calls.{wrote-within, room-prefix}
+use Rattle.linetexts.proofs.Ends.{wrote-within, room-prefix}
 use Rattle.stream.specs.Texts.{feedParts}
-use Rattle.stream.specs.Feeding.{stateOf, partsOf}
+use Rattle.linetexts.specs.Parts.{partsOf}
+use Rattle.stream.specs.Feeding.{stateOf}
 use Rattle.base.proofs.Tests.{not-both}
 use lib.ListN.{length, drop}
 use native.Mathlib.Omega.{arith}

@@ -1,0 +1,37 @@
+-- The numbers that C is given, read back: by cases of the answer. Assumes nothing.
+use mathlib.Core.Path.{_≡_, refl}
+use mathlib.Core.Bool.{Bool, true, false}
+use mathlib.Core.List.{List}
+use mathlib.Core.Option.{Option, none, some}
+use Prim.Native.Nat.{ℕ}
+use Rattle.base.specs.Conditions.{firstOf}
+use Rattle.marks.specs.Marks.{textOf}
+use Rattle.automaton.specs.declared.Rule.{Rule}
+use Rattle.profile.specs.declared.Profile.{Profile}
+use Rattle.profile.specs.Profiles.{buildNumber, buildBy}
+use Rattle.profile.specs.Runs.{chunkConditions, walkTo, mappingIn, runBy, runOf}
+use Rattle.c_mappings.specs.Numbers.{buildShown, runShown, verdictShown, buildReadBack, runReadBack, verdictReadBack}
+use Rattle.c_mappings.specs.Claims.{Claims}
+
+build-by : (number : Option ℕ) (r : Rule) → buildReadBack (buildShown (buildBy number r)) ≡ buildBy number r
+build-by none r = refl
+build-by (some x) r = refl
+
+run-by : (number : Option ℕ) (masks : List ℕ) → runReadBack (runShown (runBy number masks)) ≡ runBy number masks
+run-by none masks = refl
+run-by (some x) masks = refl
+
+run-back : (p : Profile) (w : List ℕ) → runReadBack (runShown (runOf p w)) ≡ runOf p w
+unfolding runOf
+run-back p w = run-by (firstOf (chunkConditions (p .k) w)) (mappingIn p (walkTo (p .next) 0 (textOf w)))
+
+verdict-back : (answer : Bool) → verdictReadBack (verdictShown answer) ≡ answer
+verdict-back true = refl
+verdict-back false = refl
+
+pub claims : Claims
+claims = record {
+  build-read-back = λ r. build-by (buildNumber r) r;
+  run-read-back = run-back;
+  verdict-read-back = verdict-back;
+}

@@ -1,0 +1,6 @@
+-- A page for each request.
+pub mod MappingFunctions
+pub mod Mappings
+pub mod Samples
+pub mod Patterns
+pub mod Merging

@@ -1,0 +1,212 @@
+-- R-10, TWO RULES MADE ONE, sentence by sentence. Under each stands the theorem that meets it; its
+-- proof only cites the file that has it. To believe them, read the definitions that they name:
+--
+--   Way                         both, either, interleaving              merging/src/lib.rt
+--   mergeOf way one two         what merging two values answers         merging/specs/Merging
+--   mergeConditions way ..      the numbers, in order                   merging/specs/Merging
+--   ruleConditions r            3, 4, 6, 8 of a rule as a value (R-3)   rulecheck/specs/Checking
+--   NoneHolds, FirstHolds       no condition; the first that holds      base/specs/Conditions
+--   mergedOf way one two        the value, number by number             merging/specs/Merged
+--   InPairs, SideBySide         pairs and states, in words              products/specs/Words
+--   MadeBy, Merges              each way's states, and its texts        merging/specs/Languages
+--   Interleaving u v w          w is an interleaving of u and v         products/specs/Interleavings
+--   TwoRuns way .., Woven       two runs along one text                 products/specs/Claims
+--   Accepts, Run, Arc           automata and their runs (000)           automaton/specs/Automaton
+--   automatonOf r, automatonIn f  of a rule, and of a file's bytes      automaton/specs/Rules, ruleformat/specs/Language
+--   MergeLaw, Refused-exactly   all of the call; number by number       merging/specs/Claims
+--   MayMerge, MayMergeC         what the functions' contracts allow     requests/specs/MergeFunction
+--   wayOf x, mergeShown         C's numbers                             merging/specs/Merging, c_merge/specs/Numbers
+--   mergedFiles, answersTo      what `rulemerge` answers                mergetext/specs/Answers, mergestream/specs/Texts
+--   verdictIn h, textIn h       what 01 says of a list of calls         histories/specs/History
+--
+-- one and two are any values, in which any numbers may stand. A proved function ends and stays within
+-- its bounds. Assumes nothing.
+use mathlib.Core.Path.{_≡_, sym, ap, _∙_, subst}
+use mathlib.Core.Logic.{_↔_, _⊎_}
+use mathlib.Core.Bool.{Bool, true, false}
+use mathlib.Core.List.{List, _++_, flatten}
+use mathlib.Core.Option.{none, some}
+use Prim.Native.Nat.{ℕ, _≤_, _<_}
+use lib.ListN.{length}
+use Rattle.base.specs.Conditions.{NoneHolds, FirstHolds}
+use Rattle.limits.specs.Limits.{longestFile, targetCells}
+use Rattle.automaton.specs.declared.Rule.{Rule}
+use Rattle.automaton.specs.Automaton.{Automaton, Run, Accepts}
+use Rattle.automaton.specs.Rules.{automatonOf, WellFormed}
+use Rattle.rulecheck.specs.Checking.{ruleNumber}
+use Rattle.ruleformat.specs.Refusals.{refusal}
+use Rattle.ruleformat.specs.Reader.{ruleOf}
+use Rattle.ruleformat.specs.Claims.{AllZero}
+use Rattle.ruleformat.specs.Language.{automatonIn}
+use Rattle.calls.specs.Replies.{yesWith}
+use Rattle.calls.specs.Calls.{Call, installNumber}
+use Rattle.calls.proofs.Loading as calls-loading
+use Rattle.histories.specs.History.{ruleIn, boardIn, emptiesIn, summedIn, textIn, verdictIn}
+use Rattle.histories.proofs.EveryList.{every-list}
+use Rattle.lines.specs.Splitting.{linesOf}
+use Rattle.products.specs.Interleavings.{Interleaving, marked}
+use Rattle.products.specs.Products.{Moving, together, alone, pairOf, product}
+use Rattle.products.specs.Words.{InPairs, SideBySide}
+use Rattle.products.specs.Claims.{Interleaved, TwoRuns}
+use Rattle.products.proofs.Claims as products
+use Rattle.merging.specs.declared.Way.{Way}
+use Rattle.merging.specs.declared.Way.the-variants as way
+use Rattle.merging.specs.declared.MergeResult.{MergeResult}
+use Rattle.merging.specs.Languages.{Merges, MadeBy}
+use Rattle.merging.specs.Merged.{mergedOf}
+use Rattle.merging.specs.Merging.{mergeConditions, mergeOutcome, mergeOf, wayOf}
+use Rattle.merging.specs.Worked.{merges, Answered}
+use Rattle.merging.specs.Claims.{Refused-exactly, MergeLaw}
+use Rattle.merging.proofs.Claims as merging
+use Rattle.mergetext.specs.Answers.{filesNumber, resultFile}
+use Rattle.mergetext.proofs.Claims as mergetext
+use Rattle.mergescan.specs.declared.Scan.the-variants as scan
+use Rattle.mergestream.specs.Texts.{answersTo}
+use Rattle.mergestream.specs.Feeding.{finishText}
+use Rattle.mergestream.specs.Claims.{State, Blocks}
+use Rattle.mergestream.proofs.Claims as mergestream
+use Rattle.c_merge.specs.declared.MergeNumbers.{MergeNumbers}
+use Rattle.c_merge.specs.Numbers.{mergeShown, mergeReadBack}
+use Rattle.c_merge.proofs.ReadBack as c-merge
+use Rattle.c_merge.proofs.Asks as c-asks
+use Rattle.requests.specs.MergeFunction.{AsksMerge, MayMerge, AsksMergeC, MayMergeC}
+
+-- ---- THE CALL
+-- "From two checked rules of R-3 with n1 and n2 states build a third in three ways."
+-- All that is promised of it, in one place; the sentences below are its parts:
+pub merging-law : (w : Way) (one two : Rule) → MergeLaw w one two
+merging-law = merging.claims .merging
+
+-- where it is accepted, every number of the value is fixed, and the value passes the check of R-3, so
+-- that it can be installed, merged again, or written as a file:
+pub value : (w : Way) (one two : Rule) → mergeOf w one two .number ≡ none → mergeOf w one two .rule ≡ mergedOf w one two
+value w one two = merging-law w one two .rule
+
+pub checked : (w : Way) (one two : Rule) → mergeOf w one two .number ≡ none → ruleNumber (mergeOf w one two .rule) ≡ none
+checked w one two = merging-law w one two .checked
+
+-- and rules worked by hand come to what stands beside them:
+pub by-hand : Answered merges
+by-hand = merging.claims .answered
+
+-- ---- THE THREE LANGUAGES
+-- "a text both accept, a text either accepts, and a text that is an interleaving of one from each."
+-- "Each way's language is proved":
+pub both : (one two : Rule) → mergeOf way.Both one two .number ≡ none → (w : List ℕ)
+    → Accepts (automatonOf (mergeOf way.Both one two .rule)) w ↔ (Accepts (automatonOf one) w × Accepts (automatonOf two) w)
+both one two = merging-law way.Both one two .language
+
+pub either : (one two : Rule) → mergeOf way.Either one two .number ≡ none → (w : List ℕ)
+    → Accepts (automatonOf (mergeOf way.Either one two .rule)) w ↔ (Accepts (automatonOf one) w ⊎ Accepts (automatonOf two) w)
+either one two = merging-law way.Either one two .language
+
+pub interleaving : (one two : Rule) → mergeOf way.Interleaving one two .number ≡ none → (w : List ℕ)
+    → Accepts (automatonOf (mergeOf way.Interleaving one two .rule)) w ↔ Interleaved (automatonOf one) (automatonOf two) w
+interleaving one two = merging-law way.Interleaving one two .language
+
+-- what an interleaving is, a second way: each symbol of w is marked as one of u or one of v
+pub marks : (u v w : List ℕ) → Interleaving u v w
+    ↔ (marks : List Bool) × (length marks ≡ length w) × (u ≡ marked true marks w) × (v ≡ marked false marks w)
+marks = products.claims .by-marks
+
+-- ---- STATES AND ARCS
+-- "The pair (q1, q2) is state q1 × n2 + q2" .. "A pair is initial or final when both its members are,
+-- and an arc moves both, for interleaving one alone":
+pub pairs-move-both : (one two : Rule) → mergeOf way.Both one two .number ≡ none
+    → InPairs together (automatonOf one) (automatonOf two) (automatonOf (mergeOf way.Both one two .rule))
+pairs-move-both one two = merging-law way.Both one two .made
+
+pub pairs-move-one : (one two : Rule) → mergeOf way.Interleaving one two .number ≡ none
+    → InPairs alone (automatonOf one) (automatonOf two) (automatonOf (mergeOf way.Interleaving one two .rule))
+pairs-move-one one two = merging-law way.Interleaving one two .made
+
+-- "for either, the second rule's states follow the first's" .. "a state is what it is in its own rule,
+-- arcs included":
+pub own-states : (one two : Rule) → mergeOf way.Either one two .number ≡ none
+    → SideBySide (automatonOf one) (automatonOf two) (automatonOf (mergeOf way.Either one two .rule))
+own-states one two = merging-law way.Either one two .made
+
+-- The words leave nothing open: any well-formed value of the type that is so made is the one answered.
+pub only : (w : Way) (one two : Rule) → mergeOf w one two .number ≡ none → (r : Rule) → length (r .targets) ≡ targetCells → WellFormed r
+    → MadeBy w (automatonOf one) (automatonOf two) (automatonOf r) → r ≡ mergeOf w one two .rule
+only w one two = merging-law w one two .only
+
+-- "both and interleaving share the facts on pairs": one theorem on runs, for either way of moving, of
+-- any two automata with the same symbols.
+pub runs : (a b : Automaton) → a .k ≡ b .k → (m : Moving) (q1 q2 p1 p2 : ℕ) (w : List ℕ) → q2 < b .n → p2 < b .n
+    → Run (product m a b) (pairOf (b .n) q1 q2) w (pairOf (b .n) p1 p2) ↔ TwoRuns m a b q1 q2 w p1 p2
+runs = products.claims .runs
+
+-- ---- THE NUMBERS
+-- "After the first rule's numbers of R-3 and then the second's it refuses with 36 two rules with
+-- different k, then with 37 more than 32 states in the result." Accepted exactly when no condition
+-- holds, refused with a number exactly when that one is the first that holds; number by number below:
+pub accepted : (w : Way) (one two : Rule) → (mergeOf w one two .number ≡ none) ↔ NoneHolds (mergeConditions w one two)
+accepted w one two = merging-law w one two .accepted
+
+pub refused : (w : Way) (one two : Rule) (x : ℕ) → (mergeOf w one two .number ≡ some x) ↔ FirstHolds x (mergeConditions w one two)
+refused w one two = merging-law w one two .refused
+
+pub number-by-number : (w : Way) (one two : Rule) → Refused-exactly w one two
+number-by-number = merging.claims .refused
+
+-- R-3: "A later call that takes a checked rule first gives 3, 4, 6 or 8 as installing would" (the
+-- conditions of a rule are installing's), and "a refused call .. carries zeros":
+pub as-installing : (r : Rule) (x : ℕ) → ruleNumber r ≡ some x → installNumber r ≡ some x
+as-installing = calls-loading.as-installing
+
+pub zeros : (w : Way) (one two : Rule) (x : ℕ) → mergeOf w one two .number ≡ some x → AllZero (mergeOf w one two .rule)
+zeros w one two = merging-law w one two .zeros
+
+-- ---- THE FUNCTIONS
+-- `merge` asks nothing, and may return that answer and no other:
+pub asks-nothing : (w : Way) (one two : Rule) → AsksMerge w one two
+asks-nothing w one two = tt
+
+pub allowed : (w : Way) (one two : Rule) (r : MergeResult) → MayMerge w one two r ↔ (mergeOutcome r ≡ mergeOf w one two)
+allowed w one two r = ((λ m. m .1), λ e. ((w, (one, (two, tt))), e))
+
+-- and so may the function that C links, in numbers of which nothing is lost. Every number names a way:
+-- 0 both, 1 either, any other interleaving.
+pub asks-nothing-from-C : (x : ℕ) (one two : Rule) → AsksMergeC x one two
+asks-nothing-from-C = c-asks.merge-asks-nothing
+
+pub from-C : (x : ℕ) (one two : Rule) (r : MergeNumbers) → MayMergeC x one two r ↔ (r ≡ mergeShown (mergeOf (wayOf x) one two))
+from-C x one two r = ((λ m. m .1), λ e. ((x, (one, (two, tt))), e))
+
+pub read-back : (x : ℕ) (one two : Rule) (r : MergeNumbers) → MayMergeC x one two r → mergeReadBack r ≡ mergeOf (wayOf x) one two
+read-back x one two r m = ap mergeReadBack (from-C x one two r .0 m) ∙ c-merge.claims .merge-read-back (wayOf x) one two
+
+pub ways : (wayOf 0 ≡ way.Both) × (wayOf 1 ≡ way.Either) × ((x : ℕ) → 2 ≤ x → wayOf x ≡ way.Interleaving)
+ways = (c-merge.claims .way-0, c-merge.claims .way-1, c-merge.claims .way-other)
+
+-- ---- FROM TWO RULES TO A VERDICT
+-- A machine with two heads: where the rule of the judge is the two made one, and no place is empty, the
+-- verdict is yes exactly when the standing chunks, without their idle marks, are such a text.
+pub judged : (w : Way) (one two : Rule) → mergeOf w one two .number ≡ none
+    → (h : List Call) → ruleIn h ≡ mergeOf w one two .rule → boardIn h ≡ true → emptiesIn h ≡ 0
+    → (verdictIn h ≡ yesWith (summedIn h)) ↔ Merges w (automatonOf one) (automatonOf two) (textIn h)
+judged w one two e h rule board full =
+    let yes-is = every-list h .verdict .accepts board full in
+    let text = merging-law w one two .language e (textIn h) in
+    let to : Rule → Type 0 = λ (r : Rule). Accepts (automatonOf r) (textIn h) in (
+      (λ v. text .0 (subst to rule (yes-is .0 v))),
+      λ m. yes-is .1 (subst to (sym rule) (text .1 m)),
+    )
+
+-- ---- FROM FILES, BY THE PROGRAM
+-- The first file is read, then the second, then they are merged. From the bytes of the three files:
+pub file-read : (w : Way) (f g : List ℕ) → filesNumber w f g ≡ none
+    → (refusal (resultFile w f g) ≡ none) × (ruleOf (resultFile w f g) ≡ mergedOf w (ruleOf f) (ruleOf g))
+file-read = mergetext.claims .result-read
+
+pub file-language : (way : Way) (f g : List ℕ) → filesNumber way f g ≡ none → (w : List ℕ)
+    → Accepts (automatonIn (resultFile way f g)) w ↔ Merges way (automatonIn f) (automatonIn g) w
+file-language = mergetext.claims .language
+
+-- A text of lines, cut into blocks anywhere: `rulemerge` is to write, block by block and at the end, the
+-- answers to its lines. Its buffers can tell a file that is too long.
+pub lines : (one two : List ℕ) → longestFile < length one → longestFile < length two
+    → {blocks : List (List ℕ)} {s : State} {text : List ℕ} → Blocks (record { scan = scan.Start; one = one; two = two }) blocks s text
+    → text ++ finishText (s .scan) (s .one) (s .two) ≡ answersTo (linesOf (flatten blocks))
+lines = mergestream.claims .written

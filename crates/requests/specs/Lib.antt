@@ -1,0 +1,5 @@
+-- What the functions that C links for a request allow, request by request.
+pub mod MappingFunctions
+pub mod SampleFunctions
+pub mod PatternFunction
+pub mod MergeFunction

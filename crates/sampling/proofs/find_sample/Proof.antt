@@ -1,0 +1,45 @@
+-- `find_sample` meets its contract: the check refuses the rule, or it is searched. Assumes nothing.
+use mathlib.Core.Path.{sym, ap, _∙_}
+use borrow.Author.Needs.{needs}
+use Rattle.rulecheck.specs.Checking.{checkMeans}
+use Rattle.rulecheck.proofs.Claims as check
+use Rattle.sampling.proofs.Ways.{find-refused}
+use Rattle.sampling.proofs.find_sample.Statement.{statement}
+use Rattle.sampling.proofs.find_sample.Tie as tie
+
+check-rule-requires : tie.Need-check-rule-requires
+check-rule-requires c κs = search needs
+
+enum-known-checked : tie.Need-enum-known-checked
+enum-known-checked c = search needs
+
+give-none-requires : tie.Need-give-none-requires
+give-none-requires c κs = search needs
+
+enum-told : tie.Need-enum-told
+enum-told c = search needs
+
+search-sets-requires : tie.Need-search-sets-requires
+search-sets-requires c κs =
+    let y = c .before .before in
+    check.claims .passes (y .before .args .rule) .0 (sym (y .check-rule .ensures) ∙ ap checkMeans (c .enum-told .given .1))
+
+returns : tie.Need-returns
+returns c =
+    let y = c .before .before .before .before in
+    find-refused (y .before .args .rule) (y .before .args .wish) _ _ (sym (y .check-rule .ensures) ∙ ap checkMeans (c .before .before .checked .given .1)) (c .give-none .ensures)
+
+returns-2 : tie.Need-returns-2
+returns-2 c = search needs
+
+pub find-sample-spec : {M : Type 1} → statement M
+find-sample-spec =
+    tie.close
+    (tie.spec
+    check-rule-requires
+    enum-known-checked
+    give-none-requires
+    enum-told
+    search-sets-requires
+    returns
+    returns-2)

@@ -1,0 +1,40 @@
+/* Two rules made one, for a machine with two heads. bellbadger.h includes this.
+ *
+ * The result is a checked rule as bellbadger_read answers it: it can be installed, merged again, or kept.
+ * It may have more than 512 sets: that is told where it is installed, with 9.
+ */
+#ifndef BELLBADGER_MERGE_H
+#define BELLBADGER_MERGE_H
+
+#include "bellbadger.h"
+
+#ifdef __cplusplus
+extern "C" {
+#endif
+
+/* Which texts the result accepts. Any other number means BELLBADGER_INTERLEAVING too. */
+enum {
+    BELLBADGER_BOTH = 0,        /* those that both rules accept */
+    BELLBADGER_EITHER = 1,      /* those that either rule accepts */
+    BELLBADGER_INTERLEAVING = 2 /* the interleavings of one from each */
+};
+
+/* accepted is 1 or 0; where it is 0, refused has the number, and every number of the rule is 0. */
+typedef struct {
+    uint8_t accepted, refused;
+    bellbadger_checked_rule rule;
+} bellbadger_merge_result;
+
+/* Makes one rule of two, with n1 and n2 states, whatever stands in them.
+ *   both, interleaving   the pair (q1, q2) is state q1 * n2 + q2, initial or final where both its members
+ *                        are; an arc moves both, or for interleaving one alone
+ *   either               the second rule's states follow the first's, and each is what it was, arcs included
+ * Refused with 3, 4, 6, 8 as bellbadger_install is, for the first rule, then for the second; then with
+ *   36 the rules have different numbers of symbols      37 the result has more than 32 states */
+BELLBADGER_RESULT bellbadger_merge_result bellbadger_merge(uint8_t way, bellbadger_checked_rule one, bellbadger_checked_rule two);
+
+#ifdef __cplusplus
+}
+#endif
+
+#endif

@@ -1,0 +1,123 @@
+"""The mapping machine: chunks run one by one, on whatever machines, and put together afterwards.
+
+It is for rules of at most eight states with at most 512 mappings. A profile is built once from a rule that
+bellbadger.read answers; a run answers the chunk's mapping, eight bytes, the set of states to which the
+chunk's text leads from each state; mappings compose in order of the chunks, in any bracketing; and the
+last one has the yes or no that a filled board with these chunks has.
+
+    >>> from bellbadger import read
+    >>> rule = read(bytes.fromhex("03020100000004000000160006001C0002001E0000000000000101000102"))
+    >>> profile = Profile(rule)
+    >>> profile
+    <Profile: states 3, symbols 2, mappings 5>
+    >>> later = profile.run(bytes([1]))
+    >>> earlier = profile.run(bytes([0, 255]))
+    >>> compose(earlier, later).hex()
+    '0500000000000000'
+    >>> profile.accepts(compose(earlier, later))
+    True
+    >>> profile.accepts(compose(later, earlier))
+    False
+    >>> profile.run(bytes([2]))
+    Traceback (most recent call last):
+    ...
+    bellbadger.Refused: refused 13: a byte is no symbol of the rule and no idle mark
+
+A mapping is eight bytes, and any eight bytes are one: byte q is the mask of the states that state q is
+mapped to. That of a chunk is 0 from the rule's n on.
+"""
+
+import ctypes
+
+import bellbadger
+from bellbadger import CheckedRule, Refused
+
+__all__ = ["Profile", "compose"]
+
+# as outside/c/bellbadger_mappings.h has it
+_PROFILE_SIZE = 20488
+
+
+class _Mapping(ctypes.Structure):
+    _fields_ = [("masks", ctypes.c_uint8 * 8)]
+
+
+class _Profile(ctypes.Structure):
+    _fields_ = [
+        ("n", ctypes.c_uint8),
+        ("k", ctypes.c_uint8),
+        ("initials", ctypes.c_uint8),
+        ("finals", ctypes.c_uint8),
+        ("count", ctypes.c_uint16),
+        ("mappings", ctypes.c_uint64 * 512),
+        ("next", ctypes.c_uint16 * 8192),
+    ]
+
+
+class _Build(ctypes.Structure):
+    _fields_ = [("accepted", ctypes.c_uint8), ("refused", ctypes.c_uint8), ("profile", _Profile)]
+
+
+class _Run(ctypes.Structure):
+    _fields_ = [("accepted", ctypes.c_uint8), ("refused", ctypes.c_uint8), ("mapping", _Mapping)]
+
+
+def _declared(library):
+    """The functions of the library, seen to be the ones that this module was written for."""
+    size = ctypes.c_size_t
+    bellbadger._declare(library, "profile_size", size)
+    if not library.bellbadger_profile_size() == ctypes.sizeof(_Profile) == _PROFILE_SIZE:
+        raise ImportError("the library has another profile than this module")
+    bellbadger._declare(library, "profile_build", _Build, bellbadger._CheckedRule)
+    bellbadger._declare(library, "profile_run", _Run, _Profile, ctypes.c_char_p, size)
+    bellbadger._declare(library, "compose", _Mapping, _Mapping, _Mapping)
+    bellbadger._declare(library, "profile_verdict", ctypes.c_uint8, _Profile, _Mapping)
+    return library
+
+
+_lib = _declared(bellbadger._lib)
+
+
+def _mapping(data):
+    masks = bellbadger._bytes(data)
+    if len(masks) != 8:
+        raise ValueError("a mapping has eight bytes")
+    return _Mapping((ctypes.c_uint8 * 8)(*masks))
+
+
+def compose(earlier, later):
+    """The mapping of two chunks, one behind the other, from those of each. Any two values compose."""
+    return bytes(_lib.bellbadger_compose(_mapping(earlier), _mapping(later)).masks)
+
+
+class Profile:
+    """The mapping machine of a rule, which is checked and built. Refused with 3, 4, 6, 8, 33, 34."""
+
+    def __init__(self, rule):
+        if not isinstance(rule, CheckedRule):
+            raise TypeError("a profile is built from a CheckedRule")
+        built = _lib.bellbadger_profile_build(bellbadger._value(rule))
+        if not built.accepted:
+            raise Refused(built.refused)
+        self._profile = built.profile
+
+    def __repr__(self):
+        profile = self._profile
+        return f"<Profile: states {profile.n}, symbols {profile.k}, mappings {profile.count}>"
+
+    def __len__(self):
+        """How many mappings the texts of the rule have, 1 to 512."""
+        return self._profile.count
+
+    def run(self, chunk):
+        """The mapping of a chunk. Byte 255 is an idle mark, as in a delivery. Refused with 12, 13."""
+        data = bellbadger._bytes(chunk)
+        ran = _lib.bellbadger_profile_run(self._profile, data, len(data))
+        if not ran.accepted:
+            raise Refused(ran.refused)
+        return bytes(ran.mapping.masks)
+
+    def accepts(self, mapping):
+        """The verdict: whether the mapping leads from an initial state to a final one. Bits for states
+        that there are not mean nothing."""
+        return _lib.bellbadger_profile_verdict(self._profile, _mapping(mapping)) == 1

@@ -1,0 +1,67 @@
+//! Two rules made one, for a machine with two heads.
+use crate::{accepted, fits, CheckedRule, Refused};
+
+/// Which texts the result accepts.
+#[derive(Clone, Copy, Debug, PartialEq, Eq, Hash)]
+pub enum Way {
+    /// Those that both rules accept.
+    Both = 0,
+    /// Those that either rule accepts.
+    Either = 1,
+    /// The interleavings of one from each.
+    Interleaving = 2,
+}
+
+#[repr(C)]
+struct RawMerge {
+    accepted: u8,
+    refused: u8,
+    rule: CheckedRule,
+}
+
+const _: () = assert!(std::mem::size_of::<RawMerge>() == 2064);
+
+extern "C" {
+    fn bellbadger_merge(way: u8, one: CheckedRule, two: CheckedRule) -> RawMerge;
+}
+
+/// Makes one rule of two, with n1 and n2 states, whatever stands in them.
+///
+/// For both and interleaving the pair (q1, q2) is state q1 × n2 + q2, initial or final where both its
+/// members are; an arc moves both, or for interleaving one alone. For either the second rule's states
+/// follow the first's, and each is what it was, arcs included. A result with more than 512 sets is
+/// refused where it is installed, with 9.
+///
+/// # Errors
+/// 3, 4, 6, 8 as for [`Judge::install`](crate::Judge::install), of the first rule, then of the second;
+/// then 36 (different numbers of symbols), 37 (more than 32 states in the result).
+///
+/// ```
+/// use bellbadger::merge::{merge, Way};
+/// use bellbadger::{read, Judge, Verdict};
+///
+/// let ends_in_0_1 = read(&[
+///     3, 2, 1, 0, 0, 0, 4, 0, 0, 0, 22, 0, 6, 0, 28, 0, 2, 0, 30, 0, 0, 0, 0, 0, 0, 1, 1, 0, 1, 2,
+/// ])?;
+/// let even_0s = read(&[
+///     2, 2, 1, 0, 0, 0, 1, 0, 0, 0, 18, 0, 4, 0, 22, 0, 4, 0, 0, 1, 1, 0, 0, 0, 1, 1,
+/// ])?;
+/// let rule = merge(Way::Both, &even_0s, &ends_in_0_1)?;
+/// let mut judge = Judge::new();
+/// let _loaded = judge.install(&rule)?;
+/// judge.open(1)?;
+/// let _looked = judge.deliver(0, 0, &[0, 0, 1])?;
+/// assert!(matches!(judge.verdict()?.verdict, Verdict::Yes(_)));
+/// let _looked = judge.deliver(0, 1, &[0, 1])?; // one 0
+/// assert!(matches!(judge.verdict()?.verdict, Verdict::No(_)));
+/// # Ok::<(), bellbadger::Refused>(())
+/// ```
+///
+/// # Panics
+/// Where the library that is linked has another version or state than this wrapper was written for.
+pub fn merge(way: Way, one: &CheckedRule, two: &CheckedRule) -> Result<CheckedRule, Refused> {
+    fits();
+    // SAFETY: plain numbers.
+    let r = unsafe { bellbadger_merge(way as u8, *one, *two) };
+    accepted(r.accepted, r.refused).map(|()| r.rule)
+}
