@@ -1,0 +1,6 @@
+-- In the order in which they build on each other.
+pub mod Agreement
+pub mod Numbers
+pub mod Steps
+pub mod Installing
+pub mod Conditions

@@ -1,0 +1,5 @@
+-- In the order in which to read them.
+pub mod History
+pub mod Conditions
+pub mod Claims
+pub mod Functions
