@@ -4,9 +4,9 @@
 -- An answer is told by the first condition of its call's list that holds; each list is taken apart
 -- condition by condition, and each test is turned into what it tests. Bytes are counted in rows of a
 -- board's width, which is at least 1.
-use mathlib.Core.Path.{_≡_, refl, sym, ap, _∙_}
+use mathlib.Core.Path.{_≡_, refl, ap}
 use mathlib.Core.Logic.{_↔_, _⊎_, inl, inr, ⊎-elim, Iff·trans}
-use mathlib.Core.Bool.{Bool, true, false, cond, _||_}
+use mathlib.Core.Bool.{true, false, _||_}
 use mathlib.Core.List.{List, [], _∷_}
 use mathlib.Core.Option.{Option, none, some}
 use Prim.Native.Nat.{ℕ, zero, suc, _≤_, _<_}
@@ -21,11 +21,11 @@ use Rattle.base.proofs.Options.{is-none, is-some, not-some, none-some}
 use Rattle.base.proofs.Tests.{by-test, zero-one, or-either, or-neither, or-left, or-right, not-both}
 use Rattle.automaton.specs.Automaton.{Text}
 use Rattle.chunks.specs.Chunks.{foreign}
-use Rattle.histories.proofs.Conditions.{not-true, both}
+use Rattle.histories.proofs.Conditions.{both}
 use Rattle.trays.specs.Replies.{accepted, refused, replyBy}
-use Rattle.trays.specs.Calls.{Call, opens, delivers, withdraws, notRows, foreignTo, openConditions, deliverConditions, withdrawConditions}
+use Rattle.trays.specs.Calls.{Call, opens, delivers, withdraws, notRows, foreignTo, openConditions}
 use Rattle.trays.proofs.Passing.{whole-rows, both-texts}
-use Rattle.trayhistories.specs.History.{rowThere, columnThere, rowIn, columnIn, lacksRuleIn, Size, boardThere, widthFrom, bandsFrom, widthIn, bandsIn, standing, answerOf}
+use Rattle.trayhistories.specs.History.{rowThere, columnThere, rowIn, columnIn, lacksRuleIn, Size, boardThere, bandsFrom, widthIn, bandsIn, standing, answerOf}
 use Rattle.trayhistories.specs.Conditions.{RulesIn, WholeRows, AtOrAbove, Accepted-exactly, Refused-exactly}
 
 -- ---- an answer by its number
@@ -43,9 +43,6 @@ accepted-none cs = Iff·trans (reply-law (firstOf cs)) (none-law cs)
 -- ---- what a test tests
 is-most : (m n : ℕ) → (leb m n ≡ true) ↔ (m ≤ n)
 is-most m n = (leb-true m n, le-leb m n)
-
-is-less : (m n : ℕ) → (leb m n ≡ false) ↔ (n < m)
-is-less m n = (leb-false m n, lt-leb m n)
 
 -- either rule is absent, and neither
 one-absent : {A : Type 0} (o u : Option A) → (isNone o || isNone u ≡ true) ↔ ((o ≡ none) ⊎ (u ≡ none))

@@ -1,6 +1,6 @@
 -- The installations of either rule answer as the judge's, as specs/Conditions.antt says: the judge's
 -- own theorem over every list of calls, of the empty list, carried over. Assumes nothing.
-use mathlib.Core.Path.{_≡_, refl, ap}
+use mathlib.Core.Path.{_≡_}
 use mathlib.Core.Logic.{_↔_, Iff·trans}
 use mathlib.Core.List.{[]}
 use mathlib.Core.Option.{Option, none, some}
@@ -14,7 +14,7 @@ use Rattle.calls.specs.Replies as judge
 use Rattle.calls.specs.Calls.{installNumber}
 use Rattle.histories.specs.History as judge-history
 use Rattle.histories.proofs.Conditions as judge-conditions
-use Rattle.trays.specs.Replies.{Reply, installed, refused, replyBy}
+use Rattle.trays.specs.Replies.{installed, refused, replyBy}
 use Rattle.trayhistories.specs.History.{withSets}
 use Rattle.trayhistories.specs.Conditions.{Installation}
 

@@ -4,3 +4,7 @@ pub mod Numbers
 pub mod Steps
 pub mod Installing
 pub mod Conditions
+pub mod Clauses
+pub mod Refusing
+pub mod EveryList
+pub mod Refinement

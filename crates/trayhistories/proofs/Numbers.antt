@@ -1,7 +1,7 @@
 -- The number that a call is refused with, read off the state, is the one that the list of calls
 -- says, and so are the empty bands, the rows held and the verdict: each test of the state is the test
 -- of the list, as far as the earlier ones fail. Assumes nothing.
-use mathlib.Core.Path.{_≡_, refl, sym, ap, ap₂, _∙_}
+use mathlib.Core.Path.{_≡_, ap, _∙_}
 use mathlib.Core.Bool.{Bool, true, false, cond, not, _||_}
 use mathlib.Core.List.{List, [], _∷_}
 use mathlib.Core.Option.{Option, none, some}
@@ -20,7 +20,7 @@ use Rattle.histories.proofs.Numbers.{same-test}
 use Rattle.trays.specs.declared.Tray.{Tray}
 use Rattle.trays.specs.Rows.{rowsUpTo, passes}
 use Rattle.trays.specs.Calls.{notRows, foreignTo, openConditions, deliverConditions, withdrawConditions, verdictBy}
-use Rattle.trays.specs.Boards.{widthOf, bandsOf, bandRows, isEmpty, emptyBands, rowsHeld}
+use Rattle.trays.specs.Boards.{widthOf, bandsOf, isEmpty, emptyBands, rowsHeld}
 use Rattle.trays.specs.Steps.{lacksRule, lacksBoard, isYes, verdictOf}
 use Rattle.trays.proofs.Bands.{empty-law, held-law}
 use Rattle.trayhistories.specs.History.{Size, widthFrom, bandsFrom, deliverCheck, withdrawCheck, rowsFrom}

@@ -1,13 +1,12 @@
 -- After every call the state agrees with the list of calls, and the call's answer is the one that
 -- the list says. `AgreesWith h t` is the invariant; one lemma a call. Assumes nothing.
 use mathlib.Core.Path.{_≡_, refl, sym, ap, _∙_, subst, subst₂, fun-ext}
-use mathlib.Core.Bool.{Bool, true, false, cond, not, _&&_, and-true, and-false}
+use mathlib.Core.Bool.{Bool, cond, _&&_, and-true, and-false}
 use mathlib.Core.List.{List, [], _∷_}
 use mathlib.Core.Option.{Option, none, some}
 use Prim.Native.Nat.{ℕ}
-use lib.Dec.{eqb, leb}
+use lib.Dec.{eqb}
 use borrow.Author.Tests.{leb-false}
-use Rattle.base.specs.Conditions.{firstOf}
 use Rattle.base.specs.Options.{isNone, isSome}
 use Rattle.base.proofs.Conditions.{none-law}
 use Rattle.base.proofs.Options.{none-some}
