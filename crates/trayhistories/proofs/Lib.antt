@@ -8,3 +8,4 @@ pub mod Clauses
 pub mod Refusing
 pub mod EveryList
 pub mod Refinement
+pub mod Examples

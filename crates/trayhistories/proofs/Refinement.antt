@@ -4,7 +4,7 @@
 --
 -- A contract is an equation for what the result says, which gives the one direction. For the other,
 -- each answer type has a value that says what the definition wants.
-use mathlib.Core.Path.{_≡_, refl, sym, ap, ap₂, _∙_}
+use mathlib.Core.Path.{_≡_, refl, sym, ap, ap₂, _∙_, subst}
 use mathlib.Core.Logic.{_↔_}
 use mathlib.Core.Bool.{not}
 use mathlib.Core.List.{List, []}
@@ -29,8 +29,9 @@ use Rattle.trays.specs.Calls.{Call, installsRow, installsColumn, opens, deliver
 use Rattle.trays.specs.Boards.{widthOf, bandsOf, isEmpty, emptyBoard, filledAt, clearedAt}
 use Rattle.trays.specs.Steps.{Outcome, lacksRule, lacksBoard, withBoard, installOutcome, callOutcome, outcomeBy, withRow, withColumn, installRowOf, installColumnOf, openOf, deliverOf, withdrawOf, verdictOf, stepOf}
 use Rattle.traycalls.proofs.Asks.{new-tray-asks-nothing, install-row-asks-nothing, install-column-asks-nothing, open-asks-nothing, deliver-asks-nothing, withdraw-asks-nothing, verdict-asks-nothing}
-use Rattle.trayhistories.specs.Claims.{trayMachine, trayAfter, repliesTo}
-use Rattle.trayhistories.specs.Functions.{AsksStep, MayStep, trayLibrary}
+use Rattle.trayhistories.specs.Claims.{trayMachine, trayAfter, repliesTo, Invariant}
+use Rattle.trayhistories.specs.Functions.{AsksStep, MayStep, trayLibrary, EveryRun}
+use Rattle.trayhistories.proofs.EveryList.{every-list}
 
 -- ---- the outcome of a call, as a value of its answer type
 module _ (t next : Tray) where
@@ -128,3 +129,11 @@ tray-meets = record {
 pub after-any-list : (h : List Call) (replies : List Reply) (t : Tray)
     → Execution trayLibrary h replies t ↔ (replies ≡ repliesTo h) × (t ≡ trayAfter h)
 after-any-list = execution-law trayLibrary trayMachine tray-meets
+
+pub every-run : (h : List Call) → EveryRun h
+every-run h = record {
+  made = after-any-list h _ _ .1 (sym (every-list h .correct), refl);
+  asks-nothing = asks-nothing (trayAfter h);
+  replies = λ rs t ran. after-any-list h rs t .0 ran .0 ∙ every-list h .correct;
+  state = λ rs t ran. subst (Invariant h) (sym (after-any-list h rs t .0 ran .1)) (every-list h .after);
+}

@@ -7,6 +7,8 @@
 --   AsksStep t c           what the function of the call c asks before it is called on the tray t
 --   MayStep t c a next     on the tray t the call c may be answered with a, in document 02's numbers
 --                          and values, and leave the tray next
+--   EveryRun h             the calls h made through the functions, one after the other.
+--                          proofs/Refinement.antt proves it of every list
 use mathlib.Core.Path.{_≡_}
 use mathlib.Core.List.{List}
 use Prim.Native.Nat.{ℕ}
@@ -14,7 +16,7 @@ use contract.Lifetimes.{Lfts}
 use denote.Ref.{RefT, now}
 use denote.Triple.Clauses.{AtExit}
 use borrow.Fn.Kinds.{endedOf}
-use Rattle.executions.specs.Executions.{Library}
+use Rattle.executions.specs.Executions.{Library, Execution}
 use Rattle.automaton.specs.declared.Rule.{Rule}
 use Rattle.trays.specs.declared.Tray.{Tray}
 use Rattle.trays.specs.declared.InstallResult.{InstallResult}
@@ -23,6 +25,8 @@ use Rattle.trays.specs.declared.TrayVerdict.{TrayVerdict}
 use Rattle.trays.specs.Replies.{Reply, judged, verdictMeans}
 use Rattle.trays.specs.Calls.{Call, installsRow, installsColumn, opens, delivers, withdraws, asksVerdict}
 use Rattle.trays.specs.Steps.{installOutcome, callOutcome}
+use Rattle.trayhistories.specs.History.{answersTo}
+use Rattle.trayhistories.specs.Claims.{trayAfter, Invariant}
 use Rattle.traycalls.proofs.new_tray.Reads as new-reads
 use Rattle.traycalls.proofs.new_tray.Kinds as new-kinds
 use Rattle.traycalls.proofs.install_row.Reads as row-reads
@@ -81,3 +85,11 @@ MayStep t asksVerdict a next = (v : TrayVerdict) × MayJudge t v × (a ≡ judge
 
 abbrev pub trayLibrary : Library Tray Call Reply
 trayLibrary = record { NewAsks = new-reads.Asked tt tt; Begins = MayBegin; Asks = AsksStep; May = MayStep }
+
+pub record EveryRun (h : List Call) : Type 0 where
+  -- they can be made, and any other call after them: nothing is asked of the caller
+  pub made : Execution trayLibrary h (answersTo h) (trayAfter h)
+  pub asks-nothing : (c : Call) → AsksStep (trayAfter h) c
+  -- and whenever they were, the replies were the list's own answers, and the tray is as it says
+  pub replies : (rs : List Reply) (t : Tray) → Execution trayLibrary h rs t → rs ≡ answersTo h
+  pub state : (rs : List Reply) (t : Tray) → Execution trayLibrary h rs t → Invariant h t

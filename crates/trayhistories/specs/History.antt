@@ -137,7 +137,7 @@ module _ (h : List Call) where
   rowsAt p = rowsFrom (widthIn h) (standing h p)
 
   abbrev pub rowsThere : List (List ℕ)
-  rowsThere = rowsUpTo rowsAt (bandsIn h)
+  rowsThere = rowsUpTo (λ p. rowsFrom (widthIn h) (standing h p)) (bandsIn h)
 
   abbrev pub yesIn : Bool
   yesIn = passes (rowIn h) (columnIn h) (widthIn h) rowsThere

@@ -3,3 +3,4 @@ pub mod History
 pub mod Conditions
 pub mod Claims
 pub mod Functions
+pub mod Worked
