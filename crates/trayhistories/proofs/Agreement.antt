@@ -2,11 +2,11 @@
 -- tray agrees with nothing, an opening or an installation empties all bands, a delivery fills one
 -- and a withdrawal empties one. Assumes nothing.
 --
---   Band                     what holds of one band
+--   Rules, Band              what holds of the rules, and of one band
 --   Agrees                   what holds of the state
 --   Opened, opened-law       what an opening that met no condition has
 --   no-rule, few, no-board, bands-same, width-same   what the state's tests test
---   all-empty                a board with all bands empty, or none
+--   all-empty, all-removed   a board with all bands empty, and none
 --   cleared-holds, filled-holds   one band changed
 use mathlib.Core.Path.{_≡_, refl, sym, ap, ap₂, _∙_, subst}
 use mathlib.Core.Bool.{Bool, false, _||_}
@@ -35,22 +35,38 @@ use Rattle.trays.specs.Steps.{fresh, lacksRule, lacksBoard, withBoard}
 use Rattle.trays.proofs.Bands.{Sized, sized-empty, empty-all, empty-rows, Changed, filled-at, cleared-at}
 use Rattle.trayhistories.specs.History.{Size, widthFrom, bandsFrom, rowsFrom}
 
+-- the bytes b pass 39 and 13
+abbrev pub Passes : ℕ → ℕ → ℕ → List ℕ → Type 0
+Passes w kr kc b = (notRows w b ≡ false) × (foreignTo kr kc b ≡ false)
+
 -- band p of the board c has the bytes o, which passed 39 and 13, or none
 pub record Band (w kr kc : ℕ) (c : TrayBoard) (p : ℕ) (o : Option (List ℕ)) : Type 0 where
   pub empty : isEmpty c p ≡ isNone o
   pub rows : bandRows c p ≡ rowsFrom w o
-  pub passed : (b : List ℕ) → o ≡ some b → (notRows w b ≡ false) × (foreignTo kr kc b ≡ false)
+  pub passed : (b : List ℕ) → o ≡ some b → Passes w kr kc b
 
-pub record Agrees (row column : Option Rule) (board : Option Size) (at : ℕ → Option (List ℕ)) (t : Tray) : Type 0 where
+-- the rules are those, each accepted by its installation, or zeros
+pub record Rules (row column : Option Rule) (t : Tray) : Type 0 where
   pub row-is : t .row ≡ ruleFrom row
   pub column-is : t .column ≡ ruleFrom column
   pub row-good : (r : Rule) → row ≡ some r → installNumber r ≡ none
   pub column-good : (r : Rule) → column ≡ some r → installNumber r ≡ none
+
+-- another board does not touch them
+pub kept-rules : (row column : Option Rule) (t : Tray) (c : TrayBoard) → Rules row column t → Rules row column (withBoard t c)
+kept-rules row column t c r = record { row-is = r .row-is; column-is = r .column-is; row-good = r .row-good; column-good = r .column-good }
+
+-- the number with which an opening is refused, by the rules that are there
+abbrev opening : Option Rule → Option Rule → Size → Option ℕ
+opening row column s = firstOf (openConditions (isNone row || isNone column) (s .width) (s .bands))
+
+pub record Agrees (row column : Option Rule) (board : Option Size) (at : ℕ → Option (List ℕ)) (t : Tray) : Type 0 where
+  pub rules : Rules row column t
   pub sized : Sized (t .board)
   pub width-is : t .board .width ≡ widthFrom board
   pub bands-are : t .board .bands ≡ bandsFrom board
   -- the opening met no condition
-  pub opened : (s : Size) → board ≡ some s → firstOf (openConditions (isNone row || isNone column) (s .width) (s .bands)) ≡ none
+  pub opened : (s : Size) → board ≡ some s → opening row column s ≡ none
   pub beyond : (p : ℕ) → bandsFrom board ≤ p → at p ≡ none
   pub bands-hold : (p : ℕ) → p < 8 → Band (widthFrom board) (ruleFrom row .k) (ruleFrom column .k) (t .board) p (at p)
 
@@ -69,7 +85,7 @@ pub record Opened (row column : Option Rule) (s : Size) : Type 0 where
   pub wide : (1 ≤ s .width) × (s .width ≤ 16)
   pub many : (1 ≤ s .bands) × (s .bands ≤ 8)
 
-pub opened-law : (row column : Option Rule) (s : Size) → firstOf (openConditions (isNone row || isNone column) (s .width) (s .bands)) ≡ none → Opened row column s
+pub opened-law : (row column : Option Rule) (s : Size) → opening row column s ≡ none → Opened row column s
 opened-law row column s e =
     let x = none-law (openConditions (isNone row || isNone column) (s .width) (s .bands)) .0 e in record {
       row-there = or-left (isNone row) (isNone column) (x .0);
@@ -81,8 +97,8 @@ opened-law row column s e =
 module _ (row column : Option Rule) (board : Option Size) (at : ℕ → Option (List ℕ)) (t : Tray) (holds : Agrees row column board at t) where
   pub no-rule : lacksRule t ≡ (isNone row || isNone column)
   no-rule =
-      ap₂ (λ (x y : Bool). x || y) (lacks-law row (t .row) (holds .row-is) (holds .row-good))
-      (lacks-law column (t .column) (holds .column-is) (holds .column-good))
+      ap₂ (λ (x y : Bool). x || y) (lacks-law row (t .row) (holds .rules .row-is) (holds .rules .row-good))
+      (lacks-law column (t .column) (holds .rules .column-is) (holds .rules .column-good))
 
   pub few : bandsFrom board ≤ 8
   few = by-board board (λ s e. opened-law row column s (holds .opened s e) .many .1)
@@ -112,16 +128,14 @@ module _ (row column : Option Rule) (board : Option Size) (at : ℕ → Option (
       by-board (some s) e f = let x = f s refl in omega (arith, x .0, x .1)
 
 -- ---- all bands empty
-module _ (row column : Option Rule) (board : Option Size) (t : Tray) (row-is : t .row ≡ ruleFrom row) (column-is : t .column ≡ ruleFrom column) (row-good : (r : Rule) → row ≡ some r → installNumber r ≡ none) (column-good : (r : Rule) → column ≡ some r → installNumber r ≡ none) (is : t .board ≡ emptyBoard (widthFrom board) (bandsFrom board)) (opened : (s : Size) → board ≡ some s → firstOf (openConditions (isNone row || isNone column) (s .width) (s .bands)) ≡ none) where
-  pub all-empty : Agrees row column board (λ p. none) t
+module _ (row column : Option Rule) (board : Option Size) (t : Tray) (rules : Rules row column t) where
+  pub all-empty : t .board ≡ emptyBoard (widthFrom board) (bandsFrom board)
+      → ((s : Size) → board ≡ some s → opening row column s ≡ none) → Agrees row column board (λ p. none) t
   unfolding emptyBoard
-  all-empty =
+  all-empty is opened =
       let w : ℕ = widthFrom board in
       let n : ℕ = bandsFrom board in record {
-        row-is = row-is;
-        column-is = column-is;
-        row-good = row-good;
-        column-good = column-good;
+        rules = rules;
         sized = subst Sized (sym is) (sized-empty w n);
         width-is = ap (λ (b : TrayBoard). b .width) is;
         bands-are = ap (λ (b : TrayBoard). b .bands) is;
@@ -134,13 +148,16 @@ module _ (row column : Option Rule) (board : Option Size) (t : Tray) (row-is : t
         };
       }
 
--- no rule at all
-none-good : (r : Rule) → none ≡ some r → installNumber r ≡ none
-none-good r e = none-some refl e
+-- no board on it
+pub all-removed : (row column : Option Rule) (t : Tray) → Rules row column t → t .board ≡ emptyBoard 0 0 → Agrees row column none (λ p. none) t
+all-removed row column t rules is = all-empty row column none t rules is (λ s e. none-some refl e)
 
 pub fresh-holds : Agrees none none none (λ p. none) fresh
 unfolding fresh
-fresh-holds = all-empty none none none fresh refl refl none-good none-good refl (λ s e. none-some refl e)
+fresh-holds = all-removed none none fresh no-rules refl
+  where
+    no-rules : Rules none none fresh
+    no-rules = record { row-is = refl; column-is = refl; row-good = λ r e. none-some refl e; column-good = λ r e. none-some refl e }
 
 -- ---- one band changed
 module _ (row column : Option Rule) (board : Option Size) (at : ℕ → Option (List ℕ)) (t : Tray) (holds : Agrees row column board at t) (p : ℕ) (h : p < bandsFrom board) where
@@ -148,14 +165,11 @@ module _ (row column : Option Rule) (board : Option Size) (at : ℕ → Option (
   band-below = omega (arith, h, few row column board at t holds)
 
   changed-holds : (new : Option (List ℕ)) (c : TrayBoard)
-      → ((b : List ℕ) → new ≡ some b → (notRows (widthFrom board) b ≡ false) × (foreignTo (ruleFrom row .k) (ruleFrom column .k) b ≡ false))
+      → ((b : List ℕ) → new ≡ some b → Passes (widthFrom board) (ruleFrom row .k) (ruleFrom column .k) b)
       → Changed (t .board) c p (isNone new) (rowsFrom (widthFrom board) new)
       → Agrees row column board (placed at p new) (withBoard t c)
   changed-holds new c passed changed = record {
-    row-is = holds .row-is;
-    column-is = holds .column-is;
-    row-good = holds .row-good;
-    column-good = holds .column-good;
+    rules = kept-rules row column t c (holds .rules);
     sized = changed .sized;
     width-is = changed .width-same ∙ holds .width-is;
     bands-are = changed .bands-same ∙ holds .bands-are;
@@ -185,13 +199,11 @@ module _ (row column : Option Rule) (board : Option Size) (at : ℕ → Option (
   pub cleared-holds : Agrees row column board (placed at p none) (withBoard t (clearedAt (t .board) p))
   cleared-holds = changed-holds none (clearedAt (t .board) p) (λ b e. none-some refl e) (cleared-at (t .board) p (holds .sized) band-below)
 
-  -- with bytes that pass 39 and 13
-  pub filled-holds : (b : List ℕ) → isNone board ≡ false → notRows (widthFrom board) b ≡ false
-      → foreignTo (ruleFrom row .k) (ruleFrom column .k) b ≡ false
+  pub filled-holds : (b : List ℕ) → isNone board ≡ false → Passes (widthFrom board) (ruleFrom row .k) (ruleFrom column .k) b
       → Agrees row column board (placed at p (some b)) (withBoard t (filledAt (t .board) p b))
-  filled-holds b there whole texts =
+  filled-holds b there passed =
       let w : widthOf (t .board) ≡ widthFrom board = width-same row column board at t holds there in
       changed-holds (some b) (filledAt (t .board) p b)
-      (λ c e. let z : b ≡ c = cc in subst (λ (x : List ℕ). (notRows (widthFrom board) x ≡ false) × (foreignTo (ruleFrom row .k) (ruleFrom column .k) x ≡ false)) z (whole, texts))
+      (λ c e. let z : b ≡ c = cc in subst (Passes (widthFrom board) (ruleFrom row .k) (ruleFrom column .k)) z passed)
       (subst (λ (x : ℕ). Changed (t .board) (filledAt (t .board) p b) p false (rowsIn x b)) w
-      (filled-at (t .board) p (holds .sized) band-below b (rw w whole)))
+      (filled-at (t .board) p (holds .sized) band-below b (rw w (passed .0))))

@@ -76,8 +76,8 @@ module _ (h : List Call) (t : Tray) (good : AgreesWith h t) where
 
   pub board-words : BoardClauses h
   board-words = record {
-    row = good .row-good;
-    column = good .column-good;
+    row = good .rules .row-good;
+    column = good .rules .column-good;
     rules = λ s e. (is-some (rowThere h) .0 (opened s e .row-there), is-some (columnThere h) .0 (opened s e .column-there));
     width = wide;
     bands = λ s e. rw e (opened s e .many);
@@ -107,8 +107,8 @@ module _ (h : List Call) (t : Tray) (good : AgreesWith h t) where
   decides =
       with-board
       (λ s e.
-      passes-law (rowIn h) (columnIn h) (well-formed (rowThere h) (opened s e .row-there) (good .row-good))
-      (well-formed (columnThere h) (opened s e .column-there) (good .column-good))
+      passes-law (rowIn h) (columnIn h) (well-formed (rowThere h) (opened s e .row-there) (good .rules .row-good))
+      (well-formed (columnThere h) (opened s e .column-there) (good .rules .column-good))
       (widthIn h)
       (rowsThere h))
 

@@ -66,7 +66,7 @@ module _ (row column : Option Rule) (board : Option Size) (at : ℕ → Option (
       (λ l.
       let filled : not (isEmpty (t .board) p) ≡ isSome (at p) =
       ap not (holds .bands-hold p (omega (arith, leb-false (bandsFrom board) p l, few row column board at t holds)) .empty) ∙ not-none (at p) in
-      rw (width-same row column board at t holds there, holds .row-is, holds .column-is, filled)))
+      rw (width-same row column board at t holds there, holds .rules .row-is, holds .rules .column-is, filled)))
     where
       from-39 : ℕ → ℕ → ℕ → Bool → List Condition
       from-39 w x y filled = on 39 (notRows w b) ∷ on 13 (foreignTo x y b) ∷ on 22 filled ∷ []
@@ -85,7 +85,7 @@ module _ (row column : Option Rule) (board : Option Size) (at : ℕ → Option (
   yes-same : isNone board ≡ false
       → isYes t ≡ passes (ruleFrom row) (ruleFrom column) (widthFrom board) (rowsUpTo (λ p. rowsFrom (widthFrom board) (at p)) (bandsFrom board))
   yes-same there =
-      same-passes (holds .row-is) (holds .column-is) (width-same row column board at t holds there) held-same
+      same-passes (holds .rules .row-is) (holds .rules .column-is) (width-same row column board at t holds there) held-same
     where
       same-passes : {a x : Rule} {b y : Rule} {v w : ℕ} {f g : List (List ℕ)} → a ≡ x → b ≡ y → v ≡ w → f ≡ g → passes a b v f ≡ passes x y w g
       same-passes p q r s = rw (p, q, r, s)

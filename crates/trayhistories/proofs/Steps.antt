@@ -9,7 +9,6 @@ use lib.Dec.{eqb}
 use borrow.Author.Tests.{leb-false}
 use Rattle.base.specs.Options.{isNone, isSome}
 use Rattle.base.proofs.Conditions.{none-law}
-use Rattle.base.proofs.Options.{none-some}
 use Rattle.automaton.specs.declared.Rule.{Rule}
 use Rattle.calls.specs.Calls.{installNumber}
 use Rattle.histories.proofs.Agreement.{placed}
@@ -19,7 +18,7 @@ use Rattle.trays.specs.Calls.{Call, installsRow, installsColumn, opens, deliver
 use Rattle.trays.specs.Boards.{emptyBoard, filledAt, clearedAt}
 use Rattle.trays.specs.Steps.{fresh, withBoard, outcomeBy, withRow, withColumn, installReply, installRowOf, installColumnOf, openOf, deliverOf, withdrawOf, verdictOf}
 use Rattle.trayhistories.specs.History.{rowThere, columnThere, rowIn, columnIn, openNumber, Size, boardThere, bandsIn, widthIn, standing, deliverNumber, withdrawNumber, verdictIn, withSets}
-use Rattle.trayhistories.proofs.Agreement.{Agrees, all-empty, fresh-holds, cleared-holds, filled-holds}
+use Rattle.trayhistories.proofs.Agreement.{Agrees, kept-rules, all-empty, all-removed, fresh-holds, cleared-holds, filled-holds}
 use Rattle.trayhistories.proofs.Numbers.{open-number, withdraw-number, deliver-number, verdict-same}
 
 abbrev pub AgreesWith : List Call → Tray → Type 0
@@ -52,7 +51,12 @@ module _ (h : List Call) (t : Tray) (good : AgreesWith h t) where
     unfolding rowThere columnThere boardThere standing
     row-installed none e =
         transfer (withRow t r) (sym (rw e)) refl (sym (rw e)) (λ p. sym (rw e))
-        (all-empty (some r) (columnThere h) none (withRow t r) refl (good .column-is) (only-rule r e) (good .column-good) refl (λ s x. none-some refl x))
+        (all-removed (some r) (columnThere h) (withRow t r) (record {
+          row-is = refl;
+          column-is = good .rules .column-is;
+          row-good = only-rule r e;
+          column-good = good .rules .column-good;
+        }) refl)
     row-installed (some x) e = transfer t (sym (rw e)) refl (sym (rw e)) (λ p. sym (rw e)) good
 
     column-installed : (number : Option ℕ) → installNumber r ≡ number
@@ -60,7 +64,12 @@ module _ (h : List Call) (t : Tray) (good : AgreesWith h t) where
     unfolding rowThere columnThere boardThere standing
     column-installed none e =
         transfer (withColumn t r) refl (sym (rw e)) (sym (rw e)) (λ p. sym (rw e))
-        (all-empty (rowThere h) (some r) none (withColumn t r) (good .row-is) refl (good .row-good) (only-rule r e) refl (λ s x. none-some refl x))
+        (all-removed (rowThere h) (some r) (withColumn t r) (record {
+          row-is = good .rules .row-is;
+          column-is = refl;
+          row-good = good .rules .row-good;
+          column-good = only-rule r e;
+        }) refl)
     column-installed (some x) e = transfer t refl (sym (rw e)) (sym (rw e)) (λ p. sym (rw e)) good
 
     pub install-row-good : AgreesWith (installsRow r ∷ h) (installRowOf t r .state)
@@ -94,7 +103,7 @@ module _ (h : List Call) (t : Tray) (good : AgreesWith h t) where
     unfolding rowThere columnThere boardThere standing
     opened-good none e =
         transfer opened-tray refl refl (sym (rw e)) (λ p. sym (rw e))
-        (all-empty (rowThere h) (columnThere h) (some (record { width = w; bands = n })) opened-tray (good .row-is) (good .column-is) (good .row-good) (good .column-good) refl
+        (all-empty (rowThere h) (columnThere h) (some (record { width = w; bands = n })) opened-tray (kept-rules (rowThere h) (columnThere h) t (emptyBoard w n) (good .rules)) refl
         (λ s x. let z : record { width = w; bands = n } ≡ s = cc in subst (λ (y : Size). openNumber h (y .width) (y .bands) ≡ none) z e))
     opened-good (some x) e = transfer t refl refl (sym (rw e)) (λ p. sym (rw e)) good
 
@@ -150,7 +159,7 @@ module _ (h : List Call) (t : Tray) (good : AgreesWith h t) where
         let passes = none-law (deliverConditions (isNone (boardThere h)) (bandsIn h) (widthIn h) (rowIn h .k) (columnIn h .k) (isSome (standing h p)) p b) .0 e in
         transfer kept refl refl refl
         (λ i. sym (ap (λ (x : Bool). cond x (some b) (standing h i)) (ap (λ (u : Bool). eqb p i && u) (ap isNone e) ∙ and-true (eqb p i))))
-        (filled-holds (rowThere h) (columnThere h) (boardThere h) (standing h) t good p (leb-false (bandsIn h) p (passes .1 .0)) b (passes .0) (passes .1 .1 .0) (passes .1 .1 .1 .0))
+        (filled-holds (rowThere h) (columnThere h) (boardThere h) (standing h) t good p (leb-false (bandsIn h) p (passes .1 .0)) b (passes .0) (passes .1 .1 .0, passes .1 .1 .1 .0))
     delivered-good (some x) e =
         transfer t refl refl refl
         (λ i. sym (ap (λ (x : Bool). cond x (some b) (standing h i)) (ap (λ (u : Bool). eqb p i && u) (ap isNone e) ∙ and-false (eqb p i))))

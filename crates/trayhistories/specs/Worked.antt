@@ -29,11 +29,14 @@ pub data Case : Type 0 where
 abbrev pub lists : List Case
 lists =
     -- two bands of a row 0 1, the second first: each column has two events
-    case (asksVerdict ∷ delivers 0 (0 ∷ 1 ∷ []) ∷ delivers 1 (0 ∷ 1 ∷ []) ∷ opened 2 2) (judged saysYes ∷ accepted ∷ accepted ∷ accepted ∷ []) ∷
+    case (asksVerdict ∷ delivers 0 (0 ∷ 1 ∷ []) ∷ delivers 1 (0 ∷ 1 ∷ []) ∷ opened 2 2)
+    (judged saysYes ∷ accepted ∷ accepted ∷ accepted ∷ []) ∷
     -- one row: each column has one event
-    case (asksVerdict ∷ delivers 0 (0 ∷ 1 ∷ []) ∷ opened 2 1) (judged saysNo ∷ accepted ∷ accepted ∷ []) ∷
+    case (asksVerdict ∷ delivers 0 (0 ∷ 1 ∷ []) ∷ opened 2 1)
+    (judged saysNo ∷ accepted ∷ accepted ∷ []) ∷
     -- two of three bands are empty
-    case (asksVerdict ∷ delivers 1 (0 ∷ 1 ∷ []) ∷ opened 2 3) (judged (waiting 2) ∷ accepted ∷ accepted ∷ []) ∷
+    case (asksVerdict ∷ delivers 1 (0 ∷ 1 ∷ []) ∷ opened 2 3)
+    (judged (waiting 2) ∷ accepted ∷ accepted ∷ []) ∷
     -- a band of no rows stands; each column is the empty text
     case (asksVerdict ∷ delivers 0 [] ∷ opened 2 1) (judged saysYes ∷ accepted ∷ accepted ∷ []) ∷
     -- a withdrawn band is empty, and can be filled anew
@@ -42,12 +45,16 @@ lists =
     case (withdraws 0 ∷ asksVerdict ∷ withdraws 0 ∷ delivers 0 [] ∷ opened 2 1)
     (refused 23 ∷ judged (waiting 1) ∷ accepted ∷ accepted ∷ accepted ∷ []) ∷
     -- a filled band stays as it is
-    case (asksVerdict ∷ delivers 0 [] ∷ delivers 0 (0 ∷ 1 ∷ []) ∷ opened 2 1) (judged saysNo ∷ refused 22 ∷ accepted ∷ accepted ∷ []) ∷
+    case (asksVerdict ∷ delivers 0 [] ∷ delivers 0 (0 ∷ 1 ∷ []) ∷ opened 2 1)
+    (judged saysNo ∷ refused 22 ∷ accepted ∷ accepted ∷ []) ∷
     -- an installation of either rule removes the board
-    case (asksVerdict ∷ installsRow ruleA ∷ opened 2 1) (judged (refusedWith 21) ∷ withSets ruleA ∷ accepted ∷ []) ∷
-    case (asksVerdict ∷ installsColumn evenRule ∷ opened 2 1) (judged (refusedWith 21) ∷ withSets evenRule ∷ accepted ∷ []) ∷
+    case (asksVerdict ∷ installsRow ruleA ∷ opened 2 1)
+    (judged (refusedWith 21) ∷ withSets ruleA ∷ accepted ∷ []) ∷
+    case (asksVerdict ∷ installsColumn evenRule ∷ opened 2 1)
+    (judged (refusedWith 21) ∷ withSets evenRule ∷ accepted ∷ []) ∷
     -- the widths and bands at their ends
-    case (opens 16 8 ∷ opens 16 9 ∷ opens 16 0 ∷ opens 17 1 ∷ opens 0 9 ∷ ruled) (accepted ∷ refused 10 ∷ refused 10 ∷ refused 38 ∷ refused 38 ∷ []) ∷
+    case (opens 16 8 ∷ opens 16 9 ∷ opens 16 0 ∷ opens 17 1 ∷ opens 0 9 ∷ ruled)
+    (accepted ∷ refused 10 ∷ refused 10 ∷ refused 38 ∷ refused 38 ∷ []) ∷
     -- bytes that are no whole row, a foreign one, the mark 255 of idle valves, a band that is not there
     case (delivers 0 (0 ∷ []) ∷ delivers 0 (0 ∷ 2 ∷ []) ∷ delivers 0 (0 ∷ 255 ∷ []) ∷ delivers 1 [] ∷ opened 2 1)
     (refused 39 ∷ refused 13 ∷ refused 13 ∷ refused 11 ∷ accepted ∷ []) ∷ []
