@@ -38,7 +38,7 @@ A refused call raises Refused, which has the number, and leaves the judge as it 
 threads may call at once, each with a judge of its own. For a thread that calls a stack of 512 KB
 is enough, 128 KB is not (threading.stack_size).
 
-The module needs target/sharedlib/libbellbadger.so, which tests/outside makes, on x86-64; the
+The module needs target/sharedlib/libbellbadger.so, which outside/build makes, on x86-64; the
 variable BELLBADGER_LIB of the environment names another folder for it.
 """
 

@@ -1,4 +1,4 @@
-// Links libcapi.a, which `rt staticlib capi` writes; BELLBADGER_LIB names another folder for it.
+// Links libbellbadger.a, which outside/build writes; BELLBADGER_LIB names another folder for it.
 use std::{env, path::PathBuf};
 
 fn folder() -> PathBuf {
@@ -10,17 +10,17 @@ fn folder() -> PathBuf {
 
 fn main() {
     let folder = folder();
-    let library = folder.join("libcapi.a");
+    let library = folder.join("libbellbadger.a");
     println!("cargo:rerun-if-env-changed=BELLBADGER_LIB");
     println!("cargo:rerun-if-changed={}", library.display());
     if !library.is_file() {
         eprintln!(
-            "{} is not there. Make it, at the top of the repository, with:\n    rt staticlib capi\n\
+            "{} is not there. Make it, at the top of the repository, with:\n    outside/build\n\
              or name the folder that has it in BELLBADGER_LIB.",
             library.display()
         );
         std::process::exit(1);
     }
     println!("cargo:rustc-link-search=native={}", folder.display());
-    println!("cargo:rustc-link-lib=static=capi");
+    println!("cargo:rustc-link-lib=static=bellbadger");
 }

@@ -312,7 +312,7 @@ fn fits() {
     assert_eq!(
         (version().0, size),
         (raw::MAJOR, raw::STATE_SIZE),
-        "libcapi.a has another version or state than this wrapper"
+        "libbellbadger.a has another version or state than this wrapper"
     );
 }
 
