@@ -5,14 +5,14 @@
 -- agreement with the list keeps. Which of the four a verdict is, is told by `by-cases` of
 -- crates/trays; yes is a test, and the test decides acceptance of well-formed rules (`passes-law`).
 use mathlib.Core.Path.{_≡_, refl, sym, ap, _∙_, subst}
-use mathlib.Core.Logic.{_↔_, Iff·trans}
+use mathlib.Core.Logic.{_↔_, inl, Iff·trans}
 use mathlib.Core.Bool.{Bool, true, false, cond}
 use mathlib.Core.List.{List, []}
 use mathlib.Core.Option.{Option, none, some}
 use Prim.Native.Nat.{ℕ, zero, suc, _≤_, _<_}
 use native.Mathlib.Omega.{arith}
 use lib.Dec.{leb}
-use lib.ListN.{length}
+use lib.ListN.{length, getD}
 use borrow.Author.Tests.{leb-true, leb-false}
 use Rattle.base.specs.Options.{isNone}
 use Rattle.base.specs.Totals.{total}
@@ -36,6 +36,7 @@ use Rattle.trayhistories.specs.History.{rowThere, columnThere, rowIn, co
 use Rattle.trayhistories.specs.Claims.{BoardClauses, AllStandingAccepted, VerdictClauses}
 use Rattle.trayhistories.proofs.Agreement.{Opened, opened-law, few}
 use Rattle.trayhistories.proofs.Steps.{AgreesWith}
+use Rattle.trayhistories.proofs.Conditions.{refused-exactly}
 
 -- ---- an empty band
 -- some term is not 0
@@ -74,6 +75,11 @@ module _ (h : List Call) (t : Tray) (good : AgreesWith h t) where
   pub wide : (s : Size) → boardThere h ≡ some s → (1 ≤ widthIn h) × (widthIn h ≤ 16)
   wide s e = rw e (opened s e .wide)
 
+  -- ---- the rules are well formed where a board is there
+  well-formed : (o : Option Rule) → isNone o ≡ false → ((r : Rule) → o ≡ some r → installNumber r ≡ none) → WellFormed (ruleFrom o)
+  well-formed none e f = not-both refl e
+  well-formed (some r) e f = accepted-rule r (f r refl) .0
+
   pub board-words : BoardClauses h
   board-words = record {
     row = good .rules .row-good;
@@ -89,19 +95,25 @@ module _ (h : List Call) (t : Tray) (good : AgreesWith h t) where
         let fits : p < 8 = omega (arith, below, few (rowThere h) (columnThere h) (boardThere h) (standing h) t good) in
         let passed = good .bands-hold p fits .passed b e in
         (below, whole-rows (widthIn h) b (width-1 p below) .0 (passed .0), both-texts (rowIn h .k) (columnIn h .k) b .0 (passed .1)));
+    no-marks = λ p b l whole i m e.
+        let above : rowIn h .k ≤ getD b i 0 = omega (arith, e, symbols p l) in
+        refused-exactly h (λ s x. wide s x .0) .deliver-13 p b .1 (l, whole, inl (i, m, above));
   }
     where
+      -- no rule has as many symbols as the mark's number
+      symbols : (p : ℕ) → p < bandsIn h → rowIn h .k ≤ 16
+      symbols p l = by-board (boardThere h) refl
+        where
+          by-board : (o : Option Size) → boardThere h ≡ o → rowIn h .k ≤ 16
+          by-board none e = let none-there : bandsIn h ≡ 0 = ap bandsFrom e in absurd (omega (arith, l, none-there))
+          by-board (some s) e = well-formed (rowThere h) (opened s e .row-there) (good .rules .row-good) .symbols .1
+
       width-1 : (p : ℕ) → p < bandsIn h → 1 ≤ widthIn h
       width-1 p l = by-board (boardThere h) refl
         where
           by-board : (o : Option Size) → boardThere h ≡ o → 1 ≤ widthIn h
           by-board none e = let none-there : bandsIn h ≡ 0 = ap bandsFrom e in absurd (omega (arith, l, none-there))
           by-board (some s) e = wide s e .0
-
-  -- ---- the rules are well formed where a board is there
-  well-formed : (o : Option Rule) → isNone o ≡ false → ((r : Rule) → o ≡ some r → installNumber r ≡ none) → WellFormed (ruleFrom o)
-  well-formed none e f = not-both refl e
-  well-formed (some r) e f = accepted-rule r (f r refl) .0
 
   decides : (boardThere h ≡ none → ⊥) → (yesIn h ≡ true) ↔ AllStandingAccepted h
   decides =

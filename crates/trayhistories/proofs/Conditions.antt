@@ -29,7 +29,7 @@ use Rattle.trayhistories.specs.History.{rowThere, columnThere, rowIn, co
 use Rattle.trayhistories.specs.Conditions.{RulesIn, WholeRows, AtOrAbove, Accepted-exactly, Refused-exactly}
 
 -- ---- an answer by its number
-reply-law : (o : Option ℕ) → (replyBy o accepted ≡ accepted) ↔ (o ≡ none)
+pub reply-law : (o : Option ℕ) → (replyBy o accepted ≡ accepted) ↔ (o ≡ none)
 reply-law none = (λ e. refl, λ e. refl)
 reply-law (some x) = (λ e. zero-one cc, λ e. zero-one cc)
 

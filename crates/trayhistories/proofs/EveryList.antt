@@ -20,6 +20,7 @@ use Rattle.trayhistories.proofs.Installing.{installation}
 use Rattle.trayhistories.proofs.Conditions.{accepted-exactly, refused-exactly}
 use Rattle.trayhistories.proofs.Clauses.{wide, board-words, verdict-words}
 use Rattle.trayhistories.proofs.Refusing.{refused-same}
+use Rattle.trayhistories.proofs.Changing.{changes, any-order}
 
 -- ---- one call
 module _ (h : List Call) (t : Tray) (g : AgreesWith h t) where
@@ -65,6 +66,10 @@ unchanged h c x e =
       bands = same .bands;
     }
 
+unchanged-asked : (h : List Call) → Unchanged h asksVerdict
+unfolding stateAfter rowThere columnThere boardThere standing
+unchanged-asked h = record { tray = refl; row = refl; column = refl; board = refl; bands = λ p. refl }
+
 -- THE THEOREM
 pub every-list : (h : List Call) → EveryList h
 every-list h =
@@ -76,6 +81,8 @@ every-list h =
       method = method;
       accepted-exactly = accepted-exactly h (λ s e. wide h t g s e .0);
       refused-exactly = refused-exactly h (λ s e. wide h t g s e .0);
+      changes = changes h (unchanged-asked h);
+      any-order = any-order h;
       unchanged = unchanged h;
       after = record {
         row = g .rules .row-is;

@@ -6,6 +6,7 @@ pub mod Installing
 pub mod Conditions
 pub mod Clauses
 pub mod Refusing
+pub mod Changing
 pub mod EveryList
 pub mod Refinement
 pub mod Examples

@@ -9,14 +9,18 @@
 --   BoardClauses h      what holds of the rules, the board and the bands that a list says are there
 --   VerdictClauses h    R-13's words for the verdict asked after h
 --   Unchanged h c       nothing has changed by the call c
+--   Changes h           what an accepted call changes, and that it changes nothing else
+--   AnyOrder h p q b c  the bands p and q may come in any order
 --   EveryList h         R-13, one claim over a whole list
 use mathlib.Core.Path.{_≡_}
 use mathlib.Core.Logic.{_↔_}
 use mathlib.Core.List.{List, [], _∷_}
-use mathlib.Core.Option.{none, some}
+use mathlib.Core.Option.{Option, none, some}
 use Prim.Native.Nat.{ℕ, _≤_, _<_}
+use lib.ListN.{length, getD}
 use Rattle.base.specs.Options.{isNone}
 use Rattle.executions.specs.Executions.{Machine, stateAfter, repliesTo as machineReplies}
+use Rattle.marks.specs.Marks.{idleMark}
 use Rattle.automaton.specs.declared.Rule.{Rule}
 use Rattle.automaton.specs.Automaton.{Accepts, Text}
 use Rattle.automaton.specs.Rules.{automatonOf}
@@ -26,8 +30,8 @@ use Rattle.histories.specs.Method.{Method}
 use Rattle.trays.specs.declared.Tray.{Tray}
 use Rattle.trays.specs.Sizes.{mostWidth, mostBands}
 use Rattle.trays.specs.Rows.{columnOf, AllAccepted}
-use Rattle.trays.specs.Replies.{Reply, waiting, saysYes, saysNo, refusedWith, refusalOf}
-use Rattle.trays.specs.Calls.{Call, installsRow, installsColumn}
+use Rattle.trays.specs.Replies.{Reply, accepted, refused, waiting, saysYes, saysNo, refusedWith, refusalOf}
+use Rattle.trays.specs.Calls.{Call, installsRow, installsColumn, opens, delivers, withdraws, asksVerdict}
 use Rattle.trays.specs.Boards.{bandRows, isEmpty, emptyBands, rowsHeld}
 use Rattle.trays.specs.Steps.{fresh, lacksRule, lacksBoard, verdictOf, stepOf}
 use Rattle.trayhistories.specs.History.{rowThere, columnThere, rowIn, columnIn, lacksRuleIn, Size, boardThere, widthIn, bandsIn, standing, emptiesIn, rowsAt, rowsThere, verdictIn, answerOf, answersTo}
@@ -68,6 +72,9 @@ pub record BoardClauses (h : List Call) : Type 0 where
   -- what stands, stands at a band of the board and is whole rows, at most 64, of symbols of both rules
   pub stands : (p : ℕ) (b : List ℕ) → standing h p ≡ some b
       → (p < bandsIn h) × WholeRows (widthIn h) b × (Text (rowIn h .k) b × Text (columnIn h .k) b)
+  -- idle marks are not allowed: each is at or above either rule's k
+  pub no-marks : (p : ℕ) (b : List ℕ) → p < bandsIn h → WholeRows (widthIn h) b
+      → (i : ℕ) → i < length b → getD b i 0 ≡ idleMark → answerOf h (delivers p b) ≡ refused 13
 
 -- every row of the standing bands in order is accepted by the row rule, every column by the other
 abbrev pub AllStandingAccepted : List Call → Type 0
@@ -94,6 +101,41 @@ pub record Unchanged (h : List Call) (c : Call) : Type 0 where
   pub board : boardThere (c ∷ h) ≡ boardThere h
   pub bands : (p : ℕ) → standing (c ∷ h) p ≡ standing h p
 
+-- no board is there, and no band
+abbrev pub NoBoard : List Call → Type 0
+NoBoard h = (boardThere h ≡ none) × ((p : ℕ) → standing h p ≡ none)
+
+abbrev pub RulesKept : List Call → Call → Type 0
+RulesKept h c = (rowThere (c ∷ h) ≡ rowThere h) × (columnThere (c ∷ h) ≡ columnThere h)
+
+-- band p has the bytes o, or none, and the board and the other bands are as they were
+abbrev pub OneBand : List Call → Call → ℕ → Option (List ℕ) → Type 0
+OneBand h c p o = (boardThere (c ∷ h) ≡ boardThere h) × (standing (c ∷ h) p ≡ o) × ((q : ℕ) → (q ≡ p → ⊥) → standing (c ∷ h) q ≡ standing h q)
+
+pub record Changes (h : List Call) : Type 0 where
+  -- an installation replaces its rule, keeps the other one and removes the board
+  pub row-installed : (r : Rule) → installNumber r ≡ none
+      → (rowThere (installsRow r ∷ h) ≡ some r) × (columnThere (installsRow r ∷ h) ≡ columnThere h) × NoBoard (installsRow r ∷ h)
+  pub column-installed : (r : Rule) → installNumber r ≡ none
+      → (rowThere (installsColumn r ∷ h) ≡ rowThere h) × (columnThere (installsColumn r ∷ h) ≡ some r) × NoBoard (installsColumn r ∷ h)
+  -- an opening drops an earlier board; all bands are empty
+  pub opened : (w n : ℕ) → answerOf h (opens w n) ≡ accepted
+      → RulesKept h (opens w n) × (boardThere (opens w n ∷ h) ≡ some (record { width = w; bands = n }))
+      × ((p : ℕ) → standing (opens w n ∷ h) p ≡ none)
+  -- a delivery and a withdrawal change their band alone
+  pub delivered : (p : ℕ) (b : List ℕ) → answerOf h (delivers p b) ≡ accepted
+      → RulesKept h (delivers p b) × OneBand h (delivers p b) p (some b)
+  pub withdrawn : (p : ℕ) → answerOf h (withdraws p) ≡ accepted → RulesKept h (withdraws p) × OneBand h (withdraws p) p none
+  -- a verdict changes nothing
+  pub asked : Unchanged h asksVerdict
+
+-- the bytes b for band p and c for band q: each delivery is answered as without the other, and in
+-- either order they leave the same bands and the same verdict
+pub record AnyOrder (h : List Call) (p q : ℕ) (b c : List ℕ) : Type 0 where
+  pub answered : answerOf (delivers q c ∷ h) (delivers p b) ≡ answerOf h (delivers p b)
+  pub bands : (i : ℕ) → standing (delivers p b ∷ delivers q c ∷ h) i ≡ standing (delivers q c ∷ delivers p b ∷ h) i
+  pub verdict : verdictIn (delivers p b ∷ delivers q c ∷ h) ≡ verdictIn (delivers q c ∷ delivers p b ∷ h)
+
 -- ONE CLAIM over a list of calls h
 pub record EveryList (h : List Call) : Type 0 where
   -- each reply is document 02's answer after the calls before it
@@ -107,7 +149,9 @@ pub record EveryList (h : List Call) : Type 0 where
   -- exactly when that one is the first that holds
   pub accepted-exactly : Accepted-exactly h
   pub refused-exactly : Refused-exactly h
-  -- a refused call changes nothing
+  -- an accepted call changes what it says, a refused call nothing; bands may come in any order
+  pub changes : Changes h
+  pub any-order : (p q : ℕ) → (p ≡ q → ⊥) → (b c : List ℕ) → AnyOrder h p q b c
   pub unchanged : (c : Call) (x : ℕ) → refusalOf (answerOf h c) ≡ some x → Unchanged h c
   pub after : Invariant h (trayAfter h)
   pub board : BoardClauses h
