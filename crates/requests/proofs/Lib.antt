@@ -1,0 +1,2 @@
+-- A page for each request.
+pub mod Trays
