@@ -10,17 +10,18 @@ use borrow.Author.Tests.{eq-eqb, ne-eqb, eqb-true}
 use Rattle.base.specs.Options.{isNone}
 use Rattle.base.specs.Totals.{total}
 use Rattle.base.proofs.Tests.{by-test, not-both}
-use Rattle.trays.specs.Rows.{rowsUpTo, passes}
+use Rattle.trays.specs.Rows.{passes}
 use Rattle.trays.specs.Replies.{Judgement, accepted, replyBy}
 use Rattle.trays.specs.Calls.{Call, delivers, asksVerdict, verdictBy}
-use Rattle.trayhistories.specs.History.{rowThere, columnThere, rowIn, columnIn, openNumber, boardThere, widthIn, bandsIn, deliverCheck, standing, rowsFrom, deliverNumber, withdrawNumber}
+use Rattle.trayhistories.specs.History.{rowThere, columnThere, rowIn, columnIn, openNumber, boardThere, widthIn, bandsIn, deliverCheck, standing, joinedRows, deliverNumber, withdrawNumber}
 use Rattle.trayhistories.specs.Claims.{Unchanged, Changes, AnyOrder}
+use Rattle.trayhistories.proofs.Steps.{accepted-band}
 use Rattle.trayhistories.proofs.Conditions.{reply-law}
 
 -- ---- one band, by whether it is the call's
 module _ {A : Type 0} (p : ℕ) (o : Option ℕ) (new : A) where
   own : (old : A) → o ≡ none → cond (eqb p p && isNone o) new old ≡ new
-  own old e = rw (eq-eqb p p refl, e)
+  own old e = accepted-band (eqb p p) o new old e ∙ rw (eq-eqb p p refl)
 
   other : (q : ℕ) → (q ≡ p → ⊥) → (old : A) → cond (eqb p q && isNone o) new old ≡ old
   other q ne old = rw (ne-eqb p q (λ e. ne (sym e)))
@@ -94,4 +95,4 @@ module _ (h : List Call) (p q : ℕ) (ne : p ≡ q → ⊥) (b c : List ℕ) whe
       verdictWith : (ℕ → Option (List ℕ)) → Judgement
       verdictWith at =
           verdictBy (isNone (boardThere h)) (total (λ i. cond (isNone (at i)) 1 0) (bandsIn h))
-          (passes (rowIn h) (columnIn h) (widthIn h) (rowsUpTo (λ i. rowsFrom (widthIn h) (at i)) (bandsIn h)))
+          (passes (rowIn h) (columnIn h) (widthIn h) (joinedRows (widthIn h) at (bandsIn h)))

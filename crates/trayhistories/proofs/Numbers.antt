@@ -18,12 +18,12 @@ use Rattle.automaton.specs.declared.Rule.{Rule}
 use Rattle.histories.specs.History.{ruleFrom}
 use Rattle.histories.proofs.Numbers.{same-test}
 use Rattle.trays.specs.declared.Tray.{Tray}
-use Rattle.trays.specs.Rows.{rowsUpTo, passes}
+use Rattle.trays.specs.Rows.{passes}
 use Rattle.trays.specs.Calls.{notRows, foreignTo, openConditions, deliverConditions, withdrawConditions, verdictBy}
 use Rattle.trays.specs.Boards.{widthOf, bandsOf, isEmpty, emptyBands, rowsHeld}
 use Rattle.trays.specs.Steps.{lacksRule, lacksBoard, isYes, verdictOf}
 use Rattle.trays.proofs.Bands.{empty-law, held-law}
-use Rattle.trayhistories.specs.History.{Size, widthFrom, bandsFrom, deliverCheck, withdrawCheck, rowsFrom}
+use Rattle.trayhistories.specs.History.{Size, widthFrom, bandsFrom, deliverCheck, withdrawCheck, rowsFrom, joinedRows}
 use Rattle.trayhistories.proofs.Agreement.{Agrees, few, no-rule, no-board, bands-same, width-same}
 
 module _ (row column : Option Rule) (board : Option Size) (at : ℕ → Option (List ℕ)) (t : Tray) (holds : Agrees row column board at t) where
@@ -77,13 +77,13 @@ module _ (row column : Option Rule) (board : Option Size) (at : ℕ → Option (
       empty-law (t .board) (λ p. isNone (at p)) (λ p l. holds .bands-hold p (omega (arith, l)) .empty)
       ∙ ap (total (λ p. cond (isNone (at p)) 1 0)) (bands-same row column board at t holds)
 
-  pub held-same : rowsHeld (t .board) ≡ rowsUpTo (λ p. rowsFrom (widthFrom board) (at p)) (bandsFrom board)
+  pub held-same : rowsHeld (t .board) ≡ joinedRows (widthFrom board) at (bandsFrom board)
   held-same =
       held-law (t .board) (λ p. rowsFrom (widthFrom board) (at p)) (λ p l. holds .bands-hold p (omega (arith, l)) .rows)
-      ∙ ap (rowsUpTo (λ p. rowsFrom (widthFrom board) (at p))) (bands-same row column board at t holds)
+      ∙ ap (joinedRows (widthFrom board) at) (bands-same row column board at t holds)
 
   yes-same : isNone board ≡ false
-      → isYes t ≡ passes (ruleFrom row) (ruleFrom column) (widthFrom board) (rowsUpTo (λ p. rowsFrom (widthFrom board) (at p)) (bandsFrom board))
+      → isYes t ≡ passes (ruleFrom row) (ruleFrom column) (widthFrom board) (joinedRows (widthFrom board) at (bandsFrom board))
   yes-same there =
       same-passes (holds .rules .row-is) (holds .rules .column-is) (width-same row column board at t holds there) held-same
     where
@@ -93,7 +93,7 @@ module _ (row column : Option Rule) (board : Option Size) (at : ℕ → Option (
   -- without a board it is 21 on both sides
   pub verdict-same : verdictOf t
       ≡ verdictBy (isNone board) (total (λ p. cond (isNone (at p)) 1 0) (bandsFrom board))
-      (passes (ruleFrom row) (ruleFrom column) (widthFrom board) (rowsUpTo (λ p. rowsFrom (widthFrom board) (at p)) (bandsFrom board)))
+      (passes (ruleFrom row) (ruleFrom column) (widthFrom board) (joinedRows (widthFrom board) at (bandsFrom board)))
   unfolding verdictOf
   verdict-same =
       by-test (isNone board)

@@ -1,7 +1,7 @@
 -- A refused call changes nothing: what the list says is there after it is what was there before.
 -- Assumes nothing.
-use mathlib.Core.Path.{_≡_, refl, ap, _∙_}
-use mathlib.Core.Bool.{Bool, false, cond, _&&_, and-false}
+use mathlib.Core.Path.{_≡_, refl}
+use mathlib.Core.Bool.{false}
 use mathlib.Core.List.{List, _∷_}
 use mathlib.Core.Option.{Option, none, some}
 use Prim.Native.Nat.{ℕ}
@@ -12,6 +12,7 @@ use Rattle.calls.specs.Calls.{installNumber}
 use Rattle.trays.specs.Replies.{Reply, accepted, refusalOf, replyBy}
 use Rattle.trays.specs.Calls.{Call, installsRow, installsColumn, opens, delivers, withdraws, asksVerdict}
 use Rattle.trayhistories.specs.History.{rowThere, columnThere, openNumber, boardThere, standing, deliverNumber, withdrawNumber, withSets, answerOf}
+use Rattle.trayhistories.proofs.Steps.{refused-band}
 
 -- what a list says is there, before and after the call c
 pub record Same (h : List Call) (c : Call) : Type 0 where
@@ -24,10 +25,6 @@ pub record Same (h : List Call) (c : Call) : Type 0 where
 numbered : (o : Option ℕ) (a : Reply) → refusalOf a ≡ none → (x : ℕ) → refusalOf (replyBy o a) ≡ some x → isNone o ≡ false
 numbered none a taken x e = none-some taken e
 numbered (some y) a taken x e = refl
-
--- a call on band q that has a number leaves band p
-kept : {A : Type 0} (t u : Bool) (new old : A) → u ≡ false → cond (t && u) new old ≡ old
-kept t u new old e = ap (λ (x : Bool). cond x new old) (ap (λ (y : Bool). t && y) e ∙ and-false t)
 
 pub refused-same : (h : List Call) (c : Call) (x : ℕ) → refusalOf (answerOf h c) ≡ some x → Same h c
 unfolding rowThere columnThere boardThere standing
@@ -42,8 +39,8 @@ refused-same h (opens w m) x e =
     record { row = refl; column = refl; board = rw n; bands = λ p. rw n }
 refused-same h (delivers q b) x e =
     let n = numbered (deliverNumber h q b) accepted refl x e in
-    record { row = refl; column = refl; board = refl; bands = λ p. kept (eqb q p) (isNone (deliverNumber h q b)) (some b) (standing h p) n }
+    record { row = refl; column = refl; board = refl; bands = λ p. refused-band (eqb q p) (deliverNumber h q b) (some b) (standing h p) n }
 refused-same h (withdraws q) x e =
     let n = numbered (withdrawNumber h q) accepted refl x e in
-    record { row = refl; column = refl; board = refl; bands = λ p. kept (eqb q p) (isNone (withdrawNumber h q)) none (standing h p) n }
+    record { row = refl; column = refl; board = refl; bands = λ p. refused-band (eqb q p) (withdrawNumber h q) none (standing h p) n }
 refused-same h asksVerdict x e = record { row = refl; column = refl; board = refl; bands = λ p. refl }

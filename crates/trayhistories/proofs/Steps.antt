@@ -1,7 +1,7 @@
 -- After every call the state agrees with the list of calls, and the call's answer is the one that
 -- the list says. `AgreesWith h t` is the invariant; one lemma a call. Assumes nothing.
 use mathlib.Core.Path.{_≡_, refl, sym, ap, _∙_, subst, subst₂, fun-ext}
-use mathlib.Core.Bool.{Bool, cond, _&&_, and-true, and-false}
+use mathlib.Core.Bool.{Bool, false, cond, _&&_, and-true, and-false}
 use mathlib.Core.List.{List, [], _∷_}
 use mathlib.Core.Option.{Option, none, some}
 use Prim.Native.Nat.{ℕ}
@@ -38,6 +38,14 @@ transfer {row′ = row′} {column′ = column′} {board = board} {at = at} t r
 by-says : (number : Option ℕ) (a : Reply) (t next : Tray) → outcomeBy number a t next .reply ≡ replyBy number a
 by-says none a t next = refl
 by-says (some x) a t next = refl
+
+-- what a band has after a call on band p, where `t` says that it is that band
+module _ {A : Type 0} (t : Bool) (o : Option ℕ) (new old : A) where
+  pub accepted-band : o ≡ none → cond (t && isNone o) new old ≡ cond t new old
+  accepted-band e = ap (λ (x : Bool). cond x new old) (ap (λ (u : Bool). t && u) (ap isNone e) ∙ and-true t)
+
+  pub refused-band : isNone o ≡ false → cond (t && isNone o) new old ≡ old
+  refused-band e = ap (λ (x : Bool). cond x new old) (ap (λ (u : Bool). t && u) e ∙ and-false t)
 
 -- the one rule of an accepted installation
 only-rule : (r : Rule) → installNumber r ≡ none → (x : Rule) → some r ≡ some x → installNumber x ≡ none
@@ -129,11 +137,11 @@ module _ (h : List Call) (t : Tray) (good : AgreesWith h t) where
     withdrawn-good none e =
         let passes = none-law (withdrawConditions (isNone (boardThere h)) (bandsIn h) (isNone (standing h p)) p) .0 e in
         transfer cleared refl refl refl
-        (λ i. sym (ap (λ (x : Bool). cond x none (standing h i)) (ap (λ (u : Bool). eqb p i && u) (ap isNone e) ∙ and-true (eqb p i))))
+        (λ i. sym (accepted-band (eqb p i) (withdrawNumber h p) none (standing h i) e))
         (cleared-holds (rowThere h) (columnThere h) (boardThere h) (standing h) t good p (leb-false (bandsIn h) p (passes .1 .0)))
     withdrawn-good (some x) e =
         transfer t refl refl refl
-        (λ i. sym (ap (λ (x : Bool). cond x none (standing h i)) (ap (λ (u : Bool). eqb p i && u) (ap isNone e) ∙ and-false (eqb p i))))
+        (λ i. sym (refused-band (eqb p i) (withdrawNumber h p) none (standing h i) (ap isNone e)))
         good
 
     pub withdraw-good : AgreesWith (withdraws p ∷ h) (withdrawOf t p .state)
@@ -155,15 +163,16 @@ module _ (h : List Call) (t : Tray) (good : AgreesWith h t) where
 
     delivered-good : (o : Option ℕ) → deliverNumber h p b ≡ o → AgreesWith (delivers p b ∷ h) (outcomeBy o accepted t kept .state)
     unfolding rowThere columnThere boardThere standing placed
+    -- refused, the band is as it was
+    delivered-good (some x) e =
+        transfer t refl refl refl
+        (λ i. sym (refused-band (eqb p i) (deliverNumber h p b) (some b) (standing h i) (ap isNone e)))
+        good
     delivered-good none e =
         let passes = none-law (deliverConditions (isNone (boardThere h)) (bandsIn h) (widthIn h) (rowIn h .k) (columnIn h .k) (isSome (standing h p)) p b) .0 e in
         transfer kept refl refl refl
-        (λ i. sym (ap (λ (x : Bool). cond x (some b) (standing h i)) (ap (λ (u : Bool). eqb p i && u) (ap isNone e) ∙ and-true (eqb p i))))
+        (λ i. sym (accepted-band (eqb p i) (deliverNumber h p b) (some b) (standing h i) e))
         (filled-holds (rowThere h) (columnThere h) (boardThere h) (standing h) t good p (leb-false (bandsIn h) p (passes .1 .0)) b (passes .0) (passes .1 .1 .0, passes .1 .1 .1 .0))
-    delivered-good (some x) e =
-        transfer t refl refl refl
-        (λ i. sym (ap (λ (x : Bool). cond x (some b) (standing h i)) (ap (λ (u : Bool). eqb p i && u) (ap isNone e) ∙ and-false (eqb p i))))
-        good
 
     pub deliver-good : AgreesWith (delivers p b ∷ h) (deliverOf t p b .state)
     deliver-good = subst (λ o. AgreesWith (delivers p b ∷ h) (o .state)) (sym deliver-is) (delivered-good (deliverNumber h p b) refl)

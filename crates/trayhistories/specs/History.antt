@@ -123,6 +123,10 @@ abbrev pub rowsFrom : ℕ → Option (List ℕ) → List (List ℕ)
 rowsFrom w none = []
 rowsFrom w (some b) = rowsIn w b
 
+-- of what stands at the first n bands, one band after the other
+abbrev pub joinedRows : ℕ → (ℕ → Option (List ℕ)) → ℕ → List (List ℕ)
+joinedRows w at n = rowsUpTo (λ p. rowsFrom w (at p)) n
+
 module _ (h : List Call) where
   abbrev pub deliverNumber : ℕ → List ℕ → Option ℕ
   deliverNumber p b = deliverCheck (rowIn h .k) (columnIn h .k) (boardThere h) (standing h p) p b
@@ -137,7 +141,7 @@ module _ (h : List Call) where
   rowsAt p = rowsFrom (widthIn h) (standing h p)
 
   abbrev pub rowsThere : List (List ℕ)
-  rowsThere = rowsUpTo (λ p. rowsFrom (widthIn h) (standing h p)) (bandsIn h)
+  rowsThere = joinedRows (widthIn h) (standing h) (bandsIn h)
 
   abbrev pub yesIn : Bool
   yesIn = passes (rowIn h) (columnIn h) (widthIn h) rowsThere
