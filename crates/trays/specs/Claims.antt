@@ -3,6 +3,7 @@
 --   RowsLaw w n b       which event of the bytes b stands where in the n rows
 --   ColumnLaw c rows    which event stands where in column c
 --   Unchanged           a refusal changes nothing
+--   RulesAlone t row column   the tray has these rules and no board
 --   InstallLaw t r      an accepted installation replaces its rule, keeps the other one and removes
 --                       the board
 --   VerdictLaw t        what the verdict says in the state t: with every band there, yes exactly
@@ -42,11 +43,13 @@ pub record ColumnLaw (c : ℕ) (rows : List (List ℕ)) : Type 0 where
 abbrev pub Unchanged : Type 0
 Unchanged = (t : Tray) (c : Call) (x : ℕ) → refusalOf (stepOf t c .reply) ≡ some x → stepOf t c .state ≡ t
 
+-- the rules of the tray t, and that it has no board
+abbrev pub RulesAlone : Tray → Rule → Rule → Type 0
+RulesAlone t row column = (t .row ≡ row) × (t .column ≡ column) × (lacksBoard t ≡ true)
+
 pub record InstallLaw (t : Tray) (r : Rule) : Type 0 where
-  pub row : installNumber r ≡ none
-      → (installRowOf t r .state .row ≡ r) × (installRowOf t r .state .column ≡ t .column) × (lacksBoard (installRowOf t r .state) ≡ true)
-  pub column : installNumber r ≡ none
-      → (installColumnOf t r .state .row ≡ t .row) × (installColumnOf t r .state .column ≡ r) × (lacksBoard (installColumnOf t r .state) ≡ true)
+  pub row : installNumber r ≡ none → RulesAlone (installRowOf t r .state) r (t .column)
+  pub column : installNumber r ≡ none → RulesAlone (installColumnOf t r .state) (t .row) r
 
 abbrev pub AllHeldAccepted : Tray → Type 0
 AllHeldAccepted t = AllAccepted (t .row) (t .column) (widthOf (t .board)) (rowsHeld (t .board))
@@ -71,7 +74,8 @@ pub record Claims : Type 0 where
   pub passes-law : (row column : Rule) → WellFormed row → WellFormed column
       → (w : ℕ) (rows : List (List ℕ)) → (passes row column w rows ≡ true) ↔ AllAccepted row column w rows
   -- 39: bytes are let pass that are whole rows, at most 64
-  pub whole-rows : (w : ℕ) (b : List ℕ) → 1 ≤ w → (notRows w b ≡ false) ↔ ((n : ℕ) × (n ≤ mostRows) × (length b ≡ n * w))
+  pub whole-rows : (w : ℕ) (b : List ℕ) → 1 ≤ w
+      → (notRows w b ≡ false) ↔ ((n : ℕ) × (n ≤ mostRows) × (length b ≡ n * w))
   -- 13: bytes are let pass that are a text over the symbols of both rules
   pub both-texts : (kr kc : ℕ) (b : List ℕ) → (foreignTo kr kc b ≡ false) ↔ (Text kr b × Text kc b)
   pub unchanged : Unchanged
