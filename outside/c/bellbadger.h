@@ -202,5 +202,6 @@ BELLBADGER_RESULT bellbadger_replay_result bellbadger_replay(const uint8_t *text
 #include "bellbadger_samples.h"
 #include "bellbadger_patterns.h"
 #include "bellbadger_merge.h"
+#include "bellbadger_trays.h"
 
 #endif

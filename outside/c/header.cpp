@@ -23,6 +23,7 @@ static bool right() {
     bellbadger_sample_result sample = bellbadger_sample(BELLBADGER_ACCEPTED_TEXT, read.rule);
     const uint8_t ends_in_0_1[] = {'(', 'a', '|', 'b', ')', '*', 'a', 'b'};
     bellbadger_pattern_result pattern = bellbadger_pattern(ends_in_0_1, sizeof ends_in_0_1);
+    bellbadger_tray_install_result tray = bellbadger_tray_install_row(bellbadger_tray_new(), read.rule);
     bellbadger_merge_result merged = bellbadger_merge(BELLBADGER_EITHER, read.rule, read.rule);
     bellbadger_replay_result replayed = bellbadger_replay(reinterpret_cast<const uint8_t *>(record), std::strlen(record));
     static_assert(sizeof(bellbadger_profile) == BELLBADGER_PROFILE_SIZE, "the size that the header says");
@@ -38,6 +39,7 @@ static bool right() {
         && ran.mapping.masks[0] == 5 && twice.masks[0] == 5 && bellbadger_profile_verdict(built.profile, twice) == 1
         && sample.kind == BELLBADGER_SAMPLE && sample.length == 2 && sample.text[0] == 0 && sample.text[1] == 1
         && pattern.accepted && pattern.length == 50 && pattern.bytes[0] == 5
+        && tray.accepted && tray.tray.row.n == 3 && bellbadger_tray_verdict(tray.tray).number == 21
         && merged.accepted && merged.rule.n == 6 && merged.rule.targets[4 * 16 + 1] == 32
         && replayed.kind == BELLBADGER_MALFORMED && replayed.number == 2;
 }

@@ -19,3 +19,4 @@ pub mod samples;
 pub mod shrink;
 pub mod table;
 pub mod tally;
+pub mod trays;

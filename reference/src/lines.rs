@@ -16,7 +16,7 @@ pub fn bytes(field: &[u8]) -> Option<Vec<u8>> {
 }
 
 /// 1 to 20 decimal digits with a value below 2^64.
-fn number(field: &[u8]) -> Option<u64> {
+pub fn number(field: &[u8]) -> Option<u64> {
     if field.is_empty() || field.len() > 20 || !field.iter().all(u8::is_ascii_digit) {
         return None;
     }

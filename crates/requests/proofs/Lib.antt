@@ -4,3 +4,4 @@ pub mod Mappings
 pub mod Samples
 pub mod Patterns
 pub mod Merging
+pub mod Trays

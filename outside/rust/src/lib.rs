@@ -35,6 +35,8 @@
 //! For small rules there is a mapping machine ([`mappings`]): chunks are run on whatever machines, and what
 //! comes of them, eight bytes each, is put together afterwards.
 //!
+//! A tray ([`trays`]) judges rows by one rule and columns by another.
+//!
 //! A refusal that nobody looks at is told by the compiler:
 //!
 //! ```compile_fail
@@ -53,6 +55,7 @@ mod raw;
 mod refused;
 mod rule;
 pub mod samples;
+pub mod trays;
 
 pub use refused::{Refused, ReplayError};
 pub use rule::{read, CheckedRule};

@@ -1,0 +1,177 @@
+-- R-13, TRAYS, sentence by sentence. Under each stands the theorem that meets it; its proof only cites
+-- the file that has it. To believe them, read the definitions that they name:
+--
+--   Call; Reply, Judgement        a tray's calls; what is answered to them  trays/specs/Calls, Replies
+--   rowsOf w n b, columnOf c rows rows out of bytes, and columns           trays/specs/Rows
+--   AllAccepted                   every row and every column is accepted   trays/specs/Rows
+--   rowThere h, columnThere h     the rules that a list of calls leaves    trayhistories/specs/History
+--   boardThere h, widthIn h, ..   its board; what stands at each band      trayhistories/specs/History
+--   rowsThere h                   the rows of the standing bands in order  trayhistories/specs/History
+--   verdictIn h, answerOf h c     the verdict; what is answered to a call  trayhistories/specs/History
+--   Installation, WholeRows,      the numbers, one by one                  trayhistories/specs/Conditions
+--   AtOrAbove, Accepted-exactly, Refused-exactly
+--   Changes, AnyOrder, Unchanged, what a call changes; the whole theorem   trayhistories/specs/Claims
+--   VerdictClauses, EveryList
+--   trayLibrary, EveryRun         what the functions' contracts allow      trayhistories/specs/Functions
+--   Accepts; automatonOf r        automata and their runs (000)            automaton/specs/Automaton, Rules
+--
+-- h is any list of calls, the last first. A proved function ends and stays within its bounds. Assumes
+-- nothing.
+use mathlib.Core.Path.{_≡_}
+use mathlib.Core.Logic.{_↔_, _⊎_}
+use mathlib.Core.List.{List, [], _∷_}
+use mathlib.Core.Option.{none, some}
+use Prim.Native.Nat.{ℕ, _*_, _≤_, _<_}
+use lib.ListN.{length, getD}
+use Rattle.executions.specs.Executions.{Execution, Meets}
+use Rattle.marks.specs.Marks.{idleMark}
+use Rattle.automaton.specs.declared.Rule.{Rule}
+use Rattle.automaton.specs.Automaton.{Accepts}
+use Rattle.automaton.specs.Rules.{automatonOf}
+use Rattle.build.specs.Building.{builtOf}
+use Rattle.calls.specs.Calls.{installNumber}
+use Rattle.histories.specs.Method.{Method}
+use Rattle.trays.specs.declared.Tray.{Tray}
+use Rattle.trays.specs.Sizes.{mostWidth, mostBands}
+use Rattle.trays.specs.Rows.{columnOf, AllAccepted}
+use Rattle.trays.specs.Replies.{Reply, refused, waiting, saysYes, saysNo, refusedWith, refusalOf}
+use Rattle.trays.specs.Calls.{Call, installsRow, installsColumn, opens, delivers}
+use Rattle.trays.specs.Claims.{RowsLaw, ColumnLaw}
+use Rattle.trays.proofs.Claims as trays
+use Rattle.trayhistories.specs.History.{rowThere, columnThere, rowIn, columnIn, Size, boardThere, widthIn, bandsIn, standing, emptiesIn, rowsThere, verdictIn, answerOf, answersTo}
+use Rattle.trayhistories.specs.Conditions.{Installation, WholeRows, AtOrAbove, Accepted-exactly, Refused-exactly}
+use Rattle.trayhistories.specs.Claims.{trayMachine, NoBoard, Changes, AnyOrder, Unchanged, EveryList}
+use Rattle.trayhistories.specs.Functions.{trayLibrary, EveryRun}
+use Rattle.trayhistories.specs.Worked.{lists, Answered}
+use Rattle.trayhistories.proofs.EveryList as tray-lists
+use Rattle.trayhistories.proofs.Refinement as tray-functions
+use Rattle.trayhistories.proofs.Examples as tray-examples
+
+-- ---- ALL OF IT
+-- "Over every list of a tray's calls the verdict is this one, with bands in the part of chunks; revisions
+-- and R-2's number do not apply." All that is promised of every list, in one place, over the definitions;
+-- the sentences below are its parts. A delivery has no revision, and is answered only that it was accepted.
+pub every-list : (h : List Call) → EveryList h
+every-list = tray-lists.every-list
+
+-- and about the functions: however the calls of a list were made through `new_tray`, `install_row`,
+-- `install_column`, `open`, `deliver`, `withdraw` and `ask_verdict`, by what their own contracts allow,
+-- the replies were the list's own answers and the tray is as the list says; they ask nothing.
+pub every-run : (h : List Call) → EveryRun h
+every-run = tray-functions.every-run
+
+pub functions-meet : Meets trayLibrary trayMachine
+functions-meet = tray-functions.tray-meets
+
+pub replies : (h : List Call) (rs : List Reply) (t : Tray) → Execution trayLibrary h rs t → rs ≡ answersTo h
+replies h = every-run h .replies
+
+-- lists worked by hand are answered with what stands beside them:
+pub by-hand : Answered lists
+by-hand = tray-examples.answered
+
+-- ---- ROWS AND COLUMNS
+-- "The tray machine writes a row of 1 to 16 valve events for each tick."
+pub width : (h : List Call) (s : Size) → boardThere h ≡ some s → (1 ≤ widthIn h) × (widthIn h ≤ mostWidth)
+width h = every-list h .board .width
+
+pub rows : (w n : ℕ) (b : List ℕ) → n * w ≤ length b → RowsLaw w n b
+rows = trays.claims .rows-law
+
+-- "A row is judged by one rule and each column, from the first tick to the last, by another."
+pub columns : (c : ℕ) (rows : List (List ℕ)) → ColumnLaw c rows
+columns = trays.claims .column-law
+
+-- ---- THE RULES
+-- "A tray installs its row rule and its column rule as R-3 does": answered as the judge answers, with the
+-- same numbers, and the number of sets and M are those of the rule's automaton;
+pub row-installation : (h : List Call) → Installation (λ r. answerOf h (installsRow r))
+row-installation h = every-list h .row-installation
+
+pub column-installation : (h : List Call) → Installation (λ r. answerOf h (installsColumn r))
+column-installation h = every-list h .column-installation
+
+pub sets-and-starts : (r : Rule) → installNumber r ≡ none → Method (automatonOf r) (builtOf r)
+sets-and-starts = every-list [] .method
+
+-- "either installation removes its board."
+pub row-removes : (h : List Call) (r : Rule) → installNumber r ≡ none
+    → (rowThere (installsRow r ∷ h) ≡ some r) × (columnThere (installsRow r ∷ h) ≡ columnThere h) × NoBoard (installsRow r ∷ h)
+row-removes h = every-list h .changes .row-installed
+
+pub column-removes : (h : List Call) (r : Rule) → installNumber r ≡ none
+    → (rowThere (installsColumn r ∷ h) ≡ rowThere h) × (columnThere (installsColumn r ∷ h) ≡ some r) × NoBoard (installsColumn r ∷ h)
+column-removes h = every-list h .changes .column-installed
+
+-- ---- THE BANDS
+-- "Rows arrive in up to 8 bands of 0 to 64 whole rows, in any order, each withdrawable."
+pub bands : (h : List Call) (s : Size) → boardThere h ≡ some s → (1 ≤ bandsIn h) × (bandsIn h ≤ mostBands)
+bands h = every-list h .board .bands
+
+pub taken : (h : List Call) → Accepted-exactly h
+taken h = every-list h .accepted-exactly
+
+pub changed : (h : List Call) → Changes h
+changed h = every-list h .changes
+
+pub any-order : (h : List Call) (p q : ℕ) → (p ≡ q → ⊥) → (b c : List ℕ) → AnyOrder h p q b c
+any-order h = every-list h .any-order
+
+-- ---- THE VERDICT
+-- "The tray's verdict is yes exactly when every row and every column is accepted, without a count":
+-- of the rows of the standing bands, in the order of the bands, and no otherwise.
+pub says-yes : (h : List Call) → (boardThere h ≡ none → ⊥) → emptiesIn h ≡ 0
+    → (verdictIn h ≡ saysYes) ↔ AllAccepted (rowIn h) (columnIn h) (widthIn h) (rowsThere h)
+says-yes h = every-list h .verdict .accepts
+
+pub says-no : (h : List Call) → (boardThere h ≡ none → ⊥) → emptiesIn h ≡ 0
+    → (verdictIn h ≡ saysNo) ↔ (AllAccepted (rowIn h) (columnIn h) (widthIn h) (rowsThere h) → ⊥)
+says-no h = every-list h .verdict .rejects
+
+-- "waiting as on a board": with the number of empty bands, exactly when one is empty.
+pub waits : (h : List Call) (e : ℕ) → (verdictIn h ≡ waiting e) ↔ ((boardThere h ≡ none → ⊥) × (0 < e) × (e ≡ emptiesIn h))
+waits h = every-list h .verdict .waits
+
+pub one-empty : (h : List Call) → (0 < emptiesIn h) ↔ ((p : ℕ) × (p < bandsIn h) × (standing h p ≡ none))
+one-empty h = every-list h .verdict .one-empty
+
+-- "With no rows at all, each column is the empty text."
+pub no-rows : (h : List Call) → rowsThere h ≡ [] → (c : ℕ) → columnOf c (rowsThere h) ≡ []
+no-rows h = every-list h .verdict .no-rows
+
+pub no-rows-verdict : (h : List Call) → (boardThere h ≡ none → ⊥) → emptiesIn h ≡ 0 → rowsThere h ≡ []
+    → (verdictIn h ≡ saysYes) ↔ Accepts (automatonOf (columnIn h)) []
+no-rows-verdict h = every-list h .verdict .no-rows-verdict
+
+-- ---- THE NUMBERS
+-- "Idle marks are not allowed, and 13 is a byte at or above either rule's k."
+pub no-marks : (h : List Call) (p : ℕ) (b : List ℕ) → p < bandsIn h → WholeRows (widthIn h) b
+    → (i : ℕ) → i < length b → getD b i 0 ≡ idleMark → answerOf h (delivers p b) ≡ refused 13
+no-marks h = every-list h .board .no-marks
+
+pub refused-13 : (h : List Call) (p : ℕ) (b : List ℕ)
+    → (answerOf h (delivers p b) ≡ refused 13)
+    ↔ ((p < bandsIn h) × WholeRows (widthIn h) b × (AtOrAbove (rowIn h .k) b ⊎ AtOrAbove (columnIn h .k) b))
+refused-13 h = every-list h .refused-exactly .deliver-13
+
+-- "New are 38, a width outside 1 to 16, and 39, a band that is not whole rows or has over 64":
+pub refused-38 : (h : List Call) (w n : ℕ)
+    → (answerOf h (opens w n) ≡ refused 38)
+    ↔ (((rowThere h ≡ none → ⊥) × (columnThere h ≡ none → ⊥)) × ((w < 1) ⊎ (mostWidth < w)))
+refused-38 h = every-list h .refused-exactly .open-38
+
+pub refused-39 : (h : List Call) (p : ℕ) (b : List ℕ)
+    → (answerOf h (delivers p b) ≡ refused 39) ↔ ((p < bandsIn h) × (WholeRows (widthIn h) b → ⊥))
+refused-39 h = every-list h .refused-exactly .deliver-39
+
+-- "opening gives 20 (either rule absent), 38, 10 (bands outside 1 to 8); delivering 21, 11, 39, 13, 22;
+-- withdrawing 21, 11, 23; verdict 21." Number by number, each by what holds when it is the first:
+pub refusals : (h : List Call) → Refused-exactly h
+refusals h = every-list h .refused-exactly
+
+pub refused-21 : (h : List Call) → (verdictIn h ≡ refusedWith 21) ↔ (boardThere h ≡ none)
+refused-21 h = every-list h .verdict .none-there
+
+-- and a refused call changes nothing.
+pub unchanged : (h : List Call) (c : Call) (x : ℕ) → refusalOf (answerOf h c) ≡ some x → Unchanged h c
+unchanged h = every-list h .unchanged
