@@ -1,2 +1,3 @@
 -- A page for each request.
+pub mod TrayFunctions
 pub mod Trays
