@@ -198,4 +198,6 @@ BELLBADGER_RESULT bellbadger_replay_result bellbadger_replay(const uint8_t *text
 }
 #endif
 
+#include "bellbadger_trays.h"
+
 #endif

@@ -9,7 +9,13 @@
 
 #include "bellbadger.h"
 
+/* a test may use some of them */
+#pragma GCC diagnostic ignored "-Wunused-function"
+
 static long checks;
+
+/* A test need not use all that follows. (Not inline: a judge in each would take too large a stack.) */
+#define HELPER static __attribute__((unused))
 
 #define CHECK(fact)                                                  \
     do {                                                             \
@@ -20,7 +26,7 @@ static long checks;
         }                                                            \
     } while (0)
 
-static int same(const bellbadger_judge *a, const bellbadger_judge *b) {
+HELPER int same(const bellbadger_judge *a, const bellbadger_judge *b) {
     return a->rule.n == b->rule.n && a->rule.k == b->rule.k && a->rule.starts == b->rule.starts && a->rule.count == b->rule.count
         && a->rule.initials == b->rule.initials && a->rule.finals == b->rule.finals
         && !memcmp(a->rule.delegates, b->rule.delegates, sizeof a->rule.delegates)
@@ -33,28 +39,28 @@ static int same(const bellbadger_judge *a, const bellbadger_judge *b) {
 }
 
 /* every number of a checked rule is 0 */
-static int zeros(const bellbadger_checked_rule *r) {
+HELPER int zeros(const bellbadger_checked_rule *r) {
     for (int c = 0; c < 512; c++)
         if (r->targets[c]) return 0;
     return !r->n && !r->k && !r->initials && !r->finals;
 }
 
 /* reading answers as loading does but for 9, which it has not, and hands out zeros where it refuses */
-static bellbadger_checked_rule read_file(const uint8_t *file, size_t length, int refused) {
+HELPER bellbadger_checked_rule read_file(const uint8_t *file, size_t length, int refused) {
     bellbadger_read_result r = bellbadger_read(file, length);
     CHECK(r.accepted == (refused == 0) && (r.accepted || r.refused == refused));
     CHECK(r.accepted || zeros(&r.rule));
     return r.rule;
 }
 
-static void install(bellbadger_judge *j, bellbadger_checked_rule rule, int refused) {
+HELPER void install(bellbadger_judge *j, bellbadger_checked_rule rule, int refused) {
     bellbadger_install_result r = bellbadger_install(*j, rule);
     CHECK(r.accepted == (refused == 0) && (r.accepted || r.refused == refused));
     CHECK(r.accepted || (same(&r.judge, j) && r.sets == 0 && r.starts == 0));
     *j = r.judge;
 }
 
-static void load(bellbadger_judge *j, const uint8_t *file, size_t length, int refused) {
+HELPER void load(bellbadger_judge *j, const uint8_t *file, size_t length, int refused) {
     bellbadger_load_result r = bellbadger_load(*j, file, length);
     CHECK(r.accepted == (refused == 0) && (r.accepted || r.refused == refused));
     CHECK(r.accepted || same(&r.judge, j));
@@ -62,14 +68,14 @@ static void load(bellbadger_judge *j, const uint8_t *file, size_t length, int re
     *j = r.judge;
 }
 
-static void open(bellbadger_judge *j, size_t places, int refused) {
+HELPER void open(bellbadger_judge *j, size_t places, int refused) {
     bellbadger_open_result r = bellbadger_open(*j, places);
     CHECK(r.accepted == (refused == 0) && (r.accepted || r.refused == refused));
     CHECK(r.accepted || same(&r.judge, j));
     *j = r.judge;
 }
 
-static void deliver(bellbadger_judge *j, size_t place, uint32_t revision, const uint8_t *chunk, size_t length, int refused) {
+HELPER void deliver(bellbadger_judge *j, size_t place, uint32_t revision, const uint8_t *chunk, size_t length, int refused) {
     bellbadger_deliver_result r = bellbadger_deliver(*j, place, revision, chunk, length);
     CHECK(r.accepted == (refused == 0) && (r.accepted || r.refused == refused));
     CHECK(r.accepted || (same(&r.judge, j) && r.looked == 0));
@@ -77,13 +83,13 @@ static void deliver(bellbadger_judge *j, size_t place, uint32_t revision, const 
 }
 
 /* an accepted delivery, with the number of bytes for which it looked a successor up */
-static void looked(bellbadger_judge *j, size_t place, uint32_t revision, const uint8_t *chunk, size_t length, uint32_t bytes) {
+HELPER void looked(bellbadger_judge *j, size_t place, uint32_t revision, const uint8_t *chunk, size_t length, uint32_t bytes) {
     bellbadger_deliver_result r = bellbadger_deliver(*j, place, revision, chunk, length);
     CHECK(r.accepted && r.looked == bytes && r.judge.board.revisions[place] == (uint64_t)revision + 1);
     *j = r.judge;
 }
 
-static void withdraw(bellbadger_judge *j, size_t place, int refused) {
+HELPER void withdraw(bellbadger_judge *j, size_t place, int refused) {
     bellbadger_withdraw_result r = bellbadger_withdraw(*j, place);
     CHECK(r.accepted == (refused == 0) && (r.accepted || r.refused == refused));
     CHECK(r.accepted || same(&r.judge, j));
@@ -92,17 +98,17 @@ static void withdraw(bellbadger_judge *j, size_t place, int refused) {
 
 /* the quotient and the remainder fit the number and the bytes; no bytes beside waiting, a refusal and a
  * malformed line */
-static int divides(bellbadger_verdict_result r) {
+HELPER int divides(bellbadger_verdict_result r) {
     if (r.bytes == 0) return r.quotient == 0 && r.remainder == 0;
     return (r.kind == BELLBADGER_YES || r.kind == BELLBADGER_NO) && r.quotient == r.number / r.bytes && r.remainder == r.number % r.bytes;
 }
 
-static void verdict(const bellbadger_judge *j, int kind, uint64_t number, uint64_t bytes) {
+HELPER void verdict(const bellbadger_judge *j, int kind, uint64_t number, uint64_t bytes) {
     bellbadger_verdict_result r = bellbadger_verdict(*j);
     CHECK(r.kind == kind && r.number == number && r.bytes == bytes && divides(r));
 }
 
-static void replay(const char *text, int kind, uint64_t number, uint64_t bytes) {
+HELPER void replay(const char *text, int kind, uint64_t number, uint64_t bytes) {
     bellbadger_replay_result r = bellbadger_replay((const uint8_t *)text, strlen(text));
     CHECK(r.kind == kind && r.number == number && r.bytes == bytes && divides(r));
 }

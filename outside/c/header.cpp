@@ -20,12 +20,22 @@ static bool right() {
     bellbadger_deliver_result delivered = bellbadger_deliver(opened.judge, 0, 0, text, sizeof text);
     bellbadger_verdict_result verdict = bellbadger_verdict(delivered.judge);
     bellbadger_withdraw_result withdrawn = bellbadger_withdraw(opened.judge, 0);
+    static_assert(sizeof(bellbadger_tray) == BELLBADGER_TRAY_SIZE, "the size that the header says");
+    bellbadger_tray_install_result row = bellbadger_tray_install_row(bellbadger_tray_new(), read.rule);
+    bellbadger_tray_install_result column = bellbadger_tray_install_column(row.tray, read.rule);
+    bellbadger_tray_open_result tray = bellbadger_tray_open(column.tray, 2, 1);
+    bellbadger_tray_deliver_result band = bellbadger_tray_deliver(tray.tray, 0, text, sizeof text);
+    bellbadger_tray_withdraw_result no_band = bellbadger_tray_withdraw(tray.tray, 0);
+    bellbadger_tray_verdict_result of_tray = bellbadger_tray_verdict(band.tray);
     bellbadger_replay_result replayed = bellbadger_replay(reinterpret_cast<const uint8_t *>(record), std::strlen(record));
     return bellbadger_version() == BELLBADGER_VERSION && bellbadger_state_size() == sizeof(bellbadger_judge)
         && read.accepted && read.rule.n == 3 && read.rule.targets[17] == 4 && installed.accepted && installed.sets == 5
         && loaded.accepted && loaded.sets == 5 && opened.accepted && delivered.accepted && delivered.looked == 2
         && verdict.kind == BELLBADGER_YES && verdict.number == 2 && verdict.bytes == 2 && verdict.quotient == 1
         && verdict.remainder == 0 && !withdrawn.accepted && withdrawn.refused == 23
+        && bellbadger_tray_size() == sizeof(bellbadger_tray) && row.accepted && row.sets == 5 && column.accepted && tray.accepted
+        && band.accepted && band.tray.board.rows[0] == 1 && !no_band.accepted && no_band.refused == 23
+        && of_tray.kind == BELLBADGER_NO && of_tray.number == 0
         && replayed.kind == BELLBADGER_MALFORMED && replayed.number == 2;
 }
 
