@@ -73,6 +73,8 @@ _REASONS = {
     21: "no board is open",
     22: "the revision is not greater than the last one accepted at the place",
     23: "the place has no chunk",
+    38: "no width from 1 to 16",
+    39: "the band is no whole rows, or over 64 of them",
 }
 
 
@@ -320,6 +322,12 @@ def _bytes(data):
     return view.tobytes()
 
 
+def _value(rule):
+    """A checked rule for C."""
+    targets = (ctypes.c_uint32 * 512)(*rule.targets)
+    return _CheckedRule(rule.n, rule.k, rule.initials, rule.finals, targets)
+
+
 def _verdict(result):
     if result.kind == _WAITING:
         return Waiting(result.number)
@@ -355,9 +363,7 @@ class Judge:
         """
         if not isinstance(rule, CheckedRule):
             raise TypeError("a CheckedRule is installed")
-        targets = (ctypes.c_uint32 * 512)(*rule.targets)
-        value = _CheckedRule(rule.n, rule.k, rule.initials, rule.finals, targets)
-        return self._loaded(_lib.bellbadger_install(self._state, value))
+        return self._loaded(_lib.bellbadger_install(self._state, _value(rule)))
 
     def load(self, file):
         """Reads a rule file and installs the rule in it. Refused with 1 to 8, then with 9."""

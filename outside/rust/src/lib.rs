@@ -30,6 +30,8 @@
 //! A rule file can be read without a judge ([`read`]); what comes of it is a [`CheckedRule`], to look at
 //! and to install into any number of judges.
 //!
+//! Rows of events whose columns keep to a rule too are judged by a tray ([`trays`]).
+//!
 //! A refusal that nobody looks at is told by the compiler:
 //!
 //! ```compile_fail
@@ -44,6 +46,7 @@
 mod raw;
 mod refused;
 mod rule;
+pub mod trays;
 
 pub use refused::{Refused, ReplayError};
 pub use rule::{read, CheckedRule};
