@@ -81,6 +81,8 @@ _REASONS = {
     35: "more than 512 sets are reached from the set of initial states",
     36: "the rules have different numbers of symbols",
     37: "the result has more than 32 states",
+    38: "no width from 1 to 16",
+    39: "the band is no whole rows, or over 64 of them",
 }
 
 

@@ -1,4 +1,3 @@
--- In the order in which they build on each other.
 pub mod Numbers
 pub mod ReadBack
 pub mod Asks

@@ -12,60 +12,58 @@ use Rattle.trays.specs.declared.Tray.{Tray}
 use Rattle.trays.specs.Replies.{Judgement, waiting, saysYes, saysNo, refusedWith, accepted, installed}
 use Rattle.trays.specs.Calls.{openConditions, deliverConditions, withdrawConditions}
 use Rattle.trays.specs.Boards.{widthOf, bandsOf, isEmpty, emptyBoard, filledAt, clearedAt}
-use Rattle.trays.specs.Steps.{lacksRule, lacksBoard, withBoard, outcomeBy, withRow, withColumn, installRowOf, installColumnOf, openOf, deliverOf, withdrawOf, verdictOf}
+use Rattle.trays.specs.Steps.{lacksRule, lacksBoard, withBoard, outcomeBy, withRow, withColumn, installRowOf, installColumnOf, openOf, deliverOf, withdrawOf}
 use Rattle.c_trays.specs.Numbers.{installShown, callShown, verdictShown, installReadBack, callReadBack, verdictReadBack}
 use Rattle.c_trays.specs.Claims.{Claims}
 
 module _ (t next : Tray) where
-  -- of an installation
   install-by : (number : Option ℕ) (sets m : ℕ)
       → installReadBack (installShown (outcomeBy number (installed sets m) t next)) ≡ outcomeBy number (installed sets m) t next
   install-by none sets m = refl
   install-by (some x) sets m = refl
 
-  -- of an opening, a delivery and a withdrawal
   call-by : (number : Option ℕ) → callReadBack (callShown (outcomeBy number accepted t next)) ≡ outcomeBy number accepted t next
   call-by none = refl
   call-by (some x) = refl
 
--- of whatever a verdict says
-verdict-by : (v : Judgement) → verdictReadBack (verdictShown v) ≡ v
-verdict-by (waiting empty) = refl
-verdict-by saysYes = refl
-verdict-by saysNo = refl
-verdict-by (refusedWith number) = refl
+module _ (t : Tray) where
+  row-back : (r : Rule) → installReadBack (installShown (installRowOf t r)) ≡ installRowOf t r
+  unfolding installRowOf
+  row-back r = install-by t (withRow t r) (installNumber r) (builtOf r .setcount) (builtOf r .startcount)
 
-row-read-back : (t : Tray) (r : Rule) → installReadBack (installShown (installRowOf t r)) ≡ installRowOf t r
-unfolding installRowOf
-row-read-back t r = install-by t (withRow t r) (installNumber r) (builtOf r .setcount) (builtOf r .startcount)
+  column-back : (r : Rule) → installReadBack (installShown (installColumnOf t r)) ≡ installColumnOf t r
+  unfolding installColumnOf
+  column-back r = install-by t (withColumn t r) (installNumber r) (builtOf r .setcount) (builtOf r .startcount)
 
-column-read-back : (t : Tray) (r : Rule) → installReadBack (installShown (installColumnOf t r)) ≡ installColumnOf t r
-unfolding installColumnOf
-column-read-back t r = install-by t (withColumn t r) (installNumber r) (builtOf r .setcount) (builtOf r .startcount)
+  open-back : (w n : ℕ) → callReadBack (callShown (openOf t w n)) ≡ openOf t w n
+  unfolding openOf
+  open-back w n = call-by t (withBoard t (emptyBoard w n)) (firstOf (openConditions (lacksRule t) w n))
 
-open-read-back : (t : Tray) (w n : ℕ) → callReadBack (callShown (openOf t w n)) ≡ openOf t w n
-unfolding openOf
-open-read-back t w n = call-by t (withBoard t (emptyBoard w n)) (firstOf (openConditions (lacksRule t) w n))
+  deliver-back : (p : ℕ) (b : List ℕ) → callReadBack (callShown (deliverOf t p b)) ≡ deliverOf t p b
+  unfolding deliverOf
+  deliver-back p b =
+      call-by t (withBoard t (filledAt (t .board) p b))
+      (firstOf
+      (deliverConditions (lacksBoard t) (bandsOf (t .board)) (widthOf (t .board)) (t .row .k) (t .column .k) (not (isEmpty (t .board) p)) p b))
 
-deliver-read-back : (t : Tray) (p : ℕ) (b : List ℕ) → callReadBack (callShown (deliverOf t p b)) ≡ deliverOf t p b
-unfolding deliverOf
-deliver-read-back t p b =
-    call-by t (withBoard t (filledAt (t .board) p b))
-    (firstOf
-    (deliverConditions (lacksBoard t) (bandsOf (t .board)) (widthOf (t .board)) (t .row .k) (t .column .k) (not (isEmpty (t .board) p)) p b))
+  withdraw-back : (p : ℕ) → callReadBack (callShown (withdrawOf t p)) ≡ withdrawOf t p
+  unfolding withdrawOf
+  withdraw-back p =
+      call-by t (withBoard t (clearedAt (t .board) p))
+      (firstOf (withdrawConditions (lacksBoard t) (bandsOf (t .board)) (isEmpty (t .board) p) p))
 
-withdraw-read-back : (t : Tray) (p : ℕ) → callReadBack (callShown (withdrawOf t p)) ≡ withdrawOf t p
-unfolding withdrawOf
-withdraw-read-back t p =
-    call-by t (withBoard t (clearedAt (t .board) p))
-    (firstOf (withdrawConditions (lacksBoard t) (bandsOf (t .board)) (isEmpty (t .board) p) p))
+verdict-back : (v : Judgement) → verdictReadBack (verdictShown v) ≡ v
+verdict-back (waiting empty) = refl
+verdict-back saysYes = refl
+verdict-back saysNo = refl
+verdict-back (refusedWith number) = refl
 
 pub claims : Claims
 claims = record {
-  row-read-back = row-read-back;
-  column-read-back = column-read-back;
-  open-read-back = open-read-back;
-  deliver-read-back = deliver-read-back;
-  withdraw-read-back = withdraw-read-back;
-  verdict-read-back = λ t. verdict-by (verdictOf t);
+  row-read-back = row-back;
+  column-read-back = column-back;
+  open-read-back = open-back;
+  deliver-read-back = deliver-back;
+  withdraw-read-back = withdraw-back;
+  verdict-read-back = verdict-back;
 }

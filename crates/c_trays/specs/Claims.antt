@@ -1,11 +1,12 @@
--- The outcome of a tray's call can be read back from the numbers that C is given; proofs/ReadBack.antt
--- proves it.
+-- The outcome of each call of a tray can be read back from the numbers that C is given;
+-- proofs/ReadBack.antt proves it.
 use mathlib.Core.Path.{_≡_}
 use mathlib.Core.List.{List}
 use Prim.Native.Nat.{ℕ}
 use Rattle.automaton.specs.declared.Rule.{Rule}
 use Rattle.trays.specs.declared.Tray.{Tray}
-use Rattle.trays.specs.Steps.{installRowOf, installColumnOf, openOf, deliverOf, withdrawOf, verdictOf}
+use Rattle.trays.specs.Replies.{Judgement}
+use Rattle.trays.specs.Steps.{installRowOf, installColumnOf, openOf, deliverOf, withdrawOf}
 use Rattle.c_trays.specs.Numbers.{installShown, callShown, verdictShown, installReadBack, callReadBack, verdictReadBack}
 
 pub record Claims : Type 0 where
@@ -14,4 +15,5 @@ pub record Claims : Type 0 where
   pub open-read-back : (t : Tray) (w n : ℕ) → callReadBack (callShown (openOf t w n)) ≡ openOf t w n
   pub deliver-read-back : (t : Tray) (p : ℕ) (b : List ℕ) → callReadBack (callShown (deliverOf t p b)) ≡ deliverOf t p b
   pub withdraw-read-back : (t : Tray) (p : ℕ) → callReadBack (callShown (withdrawOf t p)) ≡ withdrawOf t p
-  pub verdict-read-back : (t : Tray) → verdictReadBack (verdictShown (verdictOf t)) ≡ verdictOf t
+  -- of whatever a verdict says
+  pub verdict-read-back : (v : Judgement) → verdictReadBack (verdictShown v) ≡ v

@@ -1,15 +1,15 @@
 -- The numbers that C is given for the outcome of a tray's call. Every field is fixed: what a result
 -- has no use for is 0.
 --
---   flagOf a, refusedOf a        the fields `accepted` and `refused` for the reply a: 1 and 0, or 0 and
---                                the number of the refusal
+--   flagOf a, refusedOf a        the fields `accepted` and `refused` for the reply a: 1 and 0, or 0
+--                                and the number of the refusal
 --   setsField a, startsField a   the fields `sets` and `starts`
---   installShown, callShown      an outcome as a result
---   kindOf v, numberOf v         a verdict: kind 0 refused, 1 waiting, 2 yes, 3 no, the first two with
---                                their numbers
---   verdictShown v               both of them
---   installReadBack, callReadBack, verdictReadBack   what such a result says, read back from its
---                                numbers
+--   installShown o               the outcome of either installation as a result
+--   callShown o                  that of an opening, a delivery or a withdrawal
+--   kindOf v, numberOf v         a verdict: kind 0 refused with its number, 1 waiting with so many
+--                                empty bands, 2 yes and 3 no with 0
+--   verdictShown v               what the verdict says as a result
+--   installReadBack .. verdictReadBack   what such a result says, read back from its numbers
 -- No other reply is given to these calls; the lines for others are there so that every case has a
 -- value.
 use mathlib.Core.Bool.{cond}
@@ -19,10 +19,11 @@ use lib.Dec.{eqb}
 use Rattle.base.specs.Options.{isNone}
 use Rattle.trays.specs.Replies.{Judgement, waiting, saysYes, saysNo, refusedWith, Reply, accepted, installed, judged, refused, refusalOf}
 use Rattle.trays.specs.Steps.{Outcome}
-use Rattle.c_trays.specs.declared.TrayInstallNumbers.{TrayInstallNumbers}
-use Rattle.c_trays.specs.declared.TrayCallNumbers.{TrayCallNumbers}
-use Rattle.c_trays.specs.declared.TrayVerdictNumbers.{TrayVerdictNumbers}
+use Rattle.c_trays.specs.declared.InstallNumbers.{InstallNumbers}
+use Rattle.c_trays.specs.declared.CallNumbers.{CallNumbers}
+use Rattle.c_trays.specs.declared.VerdictNumbers.{VerdictNumbers}
 
+-- ---- the calls that may change the tray
 abbrev pub flagOf : Reply → ℕ
 flagOf a = cond (isNone (refusalOf a)) 1 0
 
@@ -41,7 +42,7 @@ startsField accepted = 0
 startsField (judged v) = 0
 startsField (refused number) = 0
 
-abbrev pub installShown : Outcome → TrayInstallNumbers
+abbrev pub installShown : Outcome → InstallNumbers
 installShown o = record {
   accepted = flagOf (o .reply);
   refused = refusedOf (o .reply);
@@ -50,7 +51,7 @@ installShown o = record {
   tray = o .state;
 }
 
-abbrev pub callShown : Outcome → TrayCallNumbers
+abbrev pub callShown : Outcome → CallNumbers
 callShown o = record { accepted = flagOf (o .reply); refused = refusedOf (o .reply); tray = o .state }
 
 -- ---- the verdict
@@ -66,19 +67,20 @@ numberOf (waiting empty) = empty
 numberOf saysYes = 0
 numberOf saysNo = 0
 
-abbrev pub verdictShown : Judgement → TrayVerdictNumbers
+abbrev pub verdictShown : Judgement → VerdictNumbers
 verdictShown v = record { kind = kindOf v; number = numberOf v }
 
--- ---- read back: what the header says of the numbers. `a` is the reply of a call that was accepted
+-- ---- read back: what the header says of the numbers
+-- `a` is the reply of a call that was accepted
 abbrev pub readBackBy : ℕ → ℕ → Reply → Reply
 readBackBy flag number a = cond (eqb flag 1) a (refused number)
 
-abbrev pub installReadBack : TrayInstallNumbers → Outcome
+abbrev pub installReadBack : InstallNumbers → Outcome
 installReadBack r = record { reply = readBackBy (r .accepted) (r .refused) (installed (r .sets) (r .starts)); state = r .tray }
 
-abbrev pub callReadBack : TrayCallNumbers → Outcome
+abbrev pub callReadBack : CallNumbers → Outcome
 callReadBack r = record { reply = readBackBy (r .accepted) (r .refused) accepted; state = r .tray }
 
-abbrev pub verdictReadBack : TrayVerdictNumbers → Judgement
+abbrev pub verdictReadBack : VerdictNumbers → Judgement
 verdictReadBack r =
     cond (eqb (r .kind) 0) (refusedWith (r .number)) (cond (eqb (r .kind) 1) (waiting (r .number)) (cond (eqb (r .kind) 2) saysYes saysNo))

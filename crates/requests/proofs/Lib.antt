@@ -4,4 +4,5 @@ pub mod Mappings
 pub mod Samples
 pub mod Patterns
 pub mod Merging
+pub mod TrayFunctions
 pub mod Trays

@@ -13,6 +13,9 @@
 --   Changes, AnyOrder, Unchanged, what a call changes; the whole theorem   trayhistories/specs/Claims
 --   VerdictClauses, EveryList
 --   trayLibrary, EveryRun         what the functions' contracts allow      trayhistories/specs/Functions
+--   installShown, callShown,      the numbers that C is given              c_trays/specs/Numbers
+--   verdictShown
+--   trayLibraryOfC                what the functions for C allow           specs/TrayFunctions
 --   Accepts; automatonOf r        automata and their runs (000)            automaton/specs/Automaton, Rules
 --
 -- h is any list of calls, the last first. A proved function ends and stays within its bounds. Assumes
@@ -36,16 +39,25 @@ use Rattle.trays.specs.Sizes.{mostWidth, mostBands}
 use Rattle.trays.specs.Rows.{columnOf, AllAccepted}
 use Rattle.trays.specs.Replies.{Reply, refused, waiting, saysYes, saysNo, refusedWith, refusalOf}
 use Rattle.trays.specs.Calls.{Call, installsRow, installsColumn, opens, delivers}
+use Rattle.trays.specs.Steps.{installRowOf, installColumnOf, openOf, deliverOf, withdrawOf, verdictOf}
 use Rattle.trays.specs.Claims.{RowsLaw, ColumnLaw}
 use Rattle.trays.proofs.Claims as trays
 use Rattle.trayhistories.specs.History.{rowThere, columnThere, rowIn, columnIn, Size, boardThere, widthIn, bandsIn, standing, emptiesIn, rowsThere, verdictIn, answerOf, answersTo}
 use Rattle.trayhistories.specs.Conditions.{Installation, WholeRows, AtOrAbove, Accepted-exactly, Refused-exactly}
-use Rattle.trayhistories.specs.Claims.{trayMachine, NoBoard, Changes, AnyOrder, Unchanged, EveryList}
+use Rattle.trayhistories.specs.Claims.{trayMachine, trayAfter, Invariant, NoBoard, Changes, AnyOrder, Unchanged, EveryList}
 use Rattle.trayhistories.specs.Functions.{trayLibrary, EveryRun}
 use Rattle.trayhistories.specs.Worked.{lists, Answered}
 use Rattle.trayhistories.proofs.EveryList as tray-lists
 use Rattle.trayhistories.proofs.Refinement as tray-functions
 use Rattle.trayhistories.proofs.Examples as tray-examples
+use Rattle.c_trays.specs.declared.InstallNumbers.{InstallNumbers}
+use Rattle.c_trays.specs.declared.CallNumbers.{CallNumbers}
+use Rattle.c_trays.specs.declared.VerdictNumbers.{VerdictNumbers}
+use Rattle.c_trays.specs.Numbers.{installShown, callShown, verdictShown}
+use Rattle.c_trays.specs.Claims as c-claims
+use Rattle.c_trays.proofs.ReadBack as c-trays
+use Rattle.requests.specs.TrayFunctions.{MayInstallRow, MayInstallColumn, MayOpen, MayDeliver, MayWithdraw, MayJudge, trayLibraryOfC}
+use Rattle.requests.proofs.TrayFunctions as functions
 
 -- ---- ALL OF IT
 -- "Over every list of a tray's calls the verdict is this one, with bands in the part of chunks; revisions
@@ -175,3 +187,42 @@ refused-21 h = every-list h .verdict .none-there
 -- and a refused call changes nothing.
 pub unchanged : (h : List Call) (c : Call) (x : ℕ) → refusalOf (answerOf h c) ≡ some x → Unchanged h c
 unchanged h = every-list h .unchanged
+
+-- ---- FROM C
+-- The functions that C links ask nothing; what their numbers say, and the tray that they leave, is what
+-- the definitions give, for any tray whatever.
+pub c-functions-meet : Meets trayLibraryOfC trayMachine
+c-functions-meet = functions.c-meets
+
+-- Each allows these numbers and no others, and nothing of an outcome is lost in them:
+pub any-row : (t : Tray) (rule : Rule) (r : InstallNumbers) → MayInstallRow t rule r ↔ r ≡ installShown (installRowOf t rule)
+any-row = functions.row-fixed
+
+pub any-column : (t : Tray) (rule : Rule) (r : InstallNumbers) → MayInstallColumn t rule r ↔ r ≡ installShown (installColumnOf t rule)
+any-column = functions.column-fixed
+
+pub any-opening : (t : Tray) (w n : ℕ) (r : CallNumbers) → MayOpen t w n r ↔ r ≡ callShown (openOf t w n)
+any-opening = functions.open-fixed
+
+pub any-delivery : (t : Tray) (p : ℕ) (b : List ℕ) (r : CallNumbers) → MayDeliver t p b r ↔ r ≡ callShown (deliverOf t p b)
+any-delivery = functions.deliver-fixed
+
+pub any-withdrawal : (t : Tray) (p : ℕ) (r : CallNumbers) → MayWithdraw t p r ↔ r ≡ callShown (withdrawOf t p)
+any-withdrawal = functions.withdraw-fixed
+
+pub any-verdict : (t : Tray) (v : VerdictNumbers) → MayJudge t v ↔ v ≡ verdictShown (verdictOf t)
+any-verdict = functions.verdict-fixed
+
+pub read-back : c-claims.Claims
+read-back = c-trays.claims
+
+-- So a list of calls can be made through them, and whenever it was, their numbers said the list's own
+-- answers, and the tray is as the list says.
+pub made-from-C : (h : List Call) → Execution trayLibraryOfC h (answersTo h) (trayAfter h)
+made-from-C = functions.made
+
+pub replies-from-C : (h : List Call) (rs : List Reply) (t : Tray) → Execution trayLibraryOfC h rs t → rs ≡ answersTo h
+replies-from-C = functions.replies
+
+pub state-from-C : (h : List Call) (rs : List Reply) (t : Tray) → Execution trayLibraryOfC h rs t → Invariant h t
+state-from-C = functions.state

@@ -3,3 +3,4 @@ pub mod MappingFunctions
 pub mod SampleFunctions
 pub mod PatternFunction
 pub mod MergeFunction
+pub mod TrayFunctions

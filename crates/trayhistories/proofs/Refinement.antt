@@ -77,10 +77,10 @@ module _ (t : Tray) where
 
 -- ---- the library meets the machine
 -- an outcome is its reply and its state
-parts : (a : Reply) (next : Tray) (o : Outcome) → record { reply = a; state = next } ≡ o → (a ≡ o .reply) × (next ≡ o .state)
+pub parts : (a : Reply) (next : Tray) (o : Outcome) → record { reply = a; state = next } ≡ o → (a ≡ o .reply) × (next ≡ o .state)
 parts a next o e = (ap (λ (x : Outcome). x .reply) e, ap (λ (x : Outcome). x .state) e)
 
-whole : (a : Reply) (next : Tray) (o : Outcome) → (a ≡ o .reply) × (next ≡ o .state) → record { reply = a; state = next } ≡ o
+pub whole : (a : Reply) (next : Tray) (o : Outcome) → (a ≡ o .reply) × (next ≡ o .state) → record { reply = a; state = next } ≡ o
 whole a next o e = ap₂ (λ (x : Reply) (y : Tray). record { reply = x; state = y }) (e .0) (e .1)
 
 step-to : (t : Tray) (c : Call) (a : Reply) (next : Tray) → MayStep t c a next → (a ≡ stepOf t c .reply) × (next ≡ stepOf t c .state)

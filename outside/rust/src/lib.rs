@@ -35,7 +35,7 @@
 //! For small rules there is a mapping machine ([`mappings`]): chunks are run on whatever machines, and what
 //! comes of them, eight bytes each, is put together afterwards.
 //!
-//! A tray ([`trays`]) judges rows by one rule and columns by another.
+//! Rows of events whose columns keep to a rule too are judged by a tray ([`trays`]).
 //!
 //! A refusal that nobody looks at is told by the compiler:
 //!

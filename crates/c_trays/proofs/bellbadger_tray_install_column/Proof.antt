@@ -1,7 +1,7 @@
 -- `bellbadger_tray_install_column` meets its contract. Assumes nothing.
 use mathlib.Core.Path.{ap, _∙_}
-use Rattle.c_trays.specs.Numbers.{installShown}
 use borrow.Author.Needs.{needs}
+use Rattle.c_trays.specs.Numbers.{installShown}
 use Rattle.c_trays.proofs.bellbadger_tray_install_column.Statement.{statement}
 use Rattle.c_trays.proofs.bellbadger_tray_install_column.Tie as tie
 
@@ -15,5 +15,4 @@ returns : tie.Need-returns
 returns c = c .install-numbers .ensures ∙ ap installShown (c .before .install-column .ensures)
 
 pub bellbadger-tray-install-column-spec : {M : Type 1} → statement M
-bellbadger-tray-install-column-spec =
-    tie.close (tie.spec install-column-requires install-numbers-requires returns)
+bellbadger-tray-install-column-spec = tie.close (tie.spec install-column-requires install-numbers-requires returns)

@@ -1,7 +1,7 @@
 -- `bellbadger_tray_verdict` meets its contract. Assumes nothing.
 use mathlib.Core.Path.{ap}
-use Rattle.c_trays.specs.Numbers.{verdictShown}
 use borrow.Author.Needs.{needs}
+use Rattle.c_trays.specs.Numbers.{verdictShown}
 use Rattle.c_trays.proofs.bellbadger_tray_verdict.Statement.{statement}
 use Rattle.c_trays.proofs.bellbadger_tray_verdict.Tie as tie
 

@@ -1,7 +1,7 @@
 -- `bellbadger_tray_withdraw` meets its contract. Assumes nothing.
 use mathlib.Core.Path.{ap, _∙_}
-use Rattle.c_trays.specs.Numbers.{callShown}
 use borrow.Author.Needs.{needs}
+use Rattle.c_trays.specs.Numbers.{callShown}
 use Rattle.c_trays.proofs.bellbadger_tray_withdraw.Statement.{statement}
 use Rattle.c_trays.proofs.bellbadger_tray_withdraw.Tie as tie
 
@@ -15,5 +15,4 @@ returns : tie.Need-returns
 returns c = c .call-numbers .ensures ∙ ap callShown (c .before .withdraw .ensures)
 
 pub bellbadger-tray-withdraw-spec : {M : Type 1} → statement M
-bellbadger-tray-withdraw-spec =
-    tie.close (tie.spec withdraw-requires call-numbers-requires returns)
+bellbadger-tray-withdraw-spec = tie.close (tie.spec withdraw-requires call-numbers-requires returns)

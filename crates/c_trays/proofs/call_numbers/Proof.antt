@@ -1,6 +1,6 @@
 -- `call_numbers` meets its contract. Assumes nothing.
-use Rattle.c_trays.proofs.Numbers.{call-accepted, call-refused}
 use borrow.Author.Needs.{needs}
+use Rattle.c_trays.proofs.Numbers.{call-accepted, call-refused}
 use Rattle.c_trays.proofs.call_numbers.Statement.{statement}
 use Rattle.c_trays.proofs.call_numbers.Tie as tie
 

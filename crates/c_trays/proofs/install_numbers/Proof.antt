@@ -1,6 +1,6 @@
 -- `install_numbers` meets its contract. Assumes nothing.
-use Rattle.c_trays.proofs.Numbers.{install-accepted, install-refused}
 use borrow.Author.Needs.{needs}
+use Rattle.c_trays.proofs.Numbers.{install-accepted, install-refused}
 use Rattle.c_trays.proofs.install_numbers.Statement.{statement}
 use Rattle.c_trays.proofs.install_numbers.Tie as tie
 
