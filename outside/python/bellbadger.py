@@ -82,7 +82,7 @@ _REASONS = {
     36: "the rules have different numbers of symbols",
     37: "the result has more than 32 states",
     38: "no width from 1 to 16",
-    39: "the band is no whole rows, or over 64 of them",
+    39: "the band is not whole rows, or has over 64",
 }
 
 

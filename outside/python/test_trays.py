@@ -142,7 +142,7 @@ class Trays(unittest.TestCase):
         }
         due = {
             38: "no width from 1 to 16",
-            39: "the band is no whole rows, or over 64 of them",
+            39: "the band is not whole rows, or has over 64",
             10: "no number of bands from 1 to 8",
             23: "the band is empty",
         }

@@ -12,8 +12,8 @@ use trays::InstallResult;
 use trays::Tray;
 use trays::TrayVerdict;
 
-// Of either installation. Accepted is 1 or 0; where it is 0, refused has the number, sets and starts
-// are 0, and the tray is the one that came.
+// Of either installation. Accepted is 1 or 0; where it is 0, refused has the number, sets and
+// starts are 0, and the tray is the one that came.
 #[repr(C)]
 pub struct InstallNumbers {
     pub accepted: u8,

@@ -3,23 +3,24 @@
 use mathlib.Core.Path.{_≡_, refl, sym, ap, _∙_, subst}
 use mathlib.Core.Logic.{_↔_}
 use mathlib.Core.List.{List, []}
+use mathlib.Core.Option.{none}
 use Prim.Native.Nat.{ℕ}
 use Rattle.executions.specs.Executions.{Execution, Meets}
 use Rattle.executions.proofs.Executions.{execution-law}
 use Rattle.automaton.specs.declared.Rule.{Rule}
 use Rattle.histories.proofs.Refinement.{lent}
 use Rattle.trays.specs.declared.Tray.{Tray}
-use Rattle.trays.specs.Replies.{Reply, judged}
+use Rattle.trays.specs.Replies.{Judgement, Reply, judged}
 use Rattle.trays.specs.Calls.{Call, installsRow, installsColumn, opens, delivers, withdraws, asksVerdict}
 use Rattle.trays.specs.Steps.{installRowOf, installColumnOf, openOf, deliverOf, withdrawOf, verdictOf, stepOf}
-use Rattle.trayhistories.specs.History.{answersTo}
-use Rattle.trayhistories.specs.Claims.{trayMachine, trayAfter, repliesTo, Invariant}
+use Rattle.trayhistories.specs.History.{boardThere, emptiesIn, verdictIn, answersTo}
+use Rattle.trayhistories.specs.Claims.{trayMachine, trayAfter, repliesTo, Invariant, AllStandingAccepted}
 use Rattle.trayhistories.proofs.EveryList.{every-list}
 use Rattle.trayhistories.proofs.Refinement.{parts, whole}
 use Rattle.c_trays.specs.declared.InstallNumbers.{InstallNumbers}
 use Rattle.c_trays.specs.declared.CallNumbers.{CallNumbers}
 use Rattle.c_trays.specs.declared.VerdictNumbers.{VerdictNumbers}
-use Rattle.c_trays.specs.Numbers.{installShown, callShown, verdictShown, installReadBack, callReadBack, verdictReadBack}
+use Rattle.c_trays.specs.Numbers.{installShown, callShown, kindOf, numberOf, verdictShown, installReadBack, callReadBack, verdictReadBack}
 use Rattle.c_trays.proofs.ReadBack as c-trays
 use Rattle.c_trays.proofs.Asks.{new-asks-nothing, install-row-asks-nothing, install-column-asks-nothing, open-asks-nothing, deliver-asks-nothing, withdraw-asks-nothing, verdict-asks-nothing}
 use Rattle.requests.specs.TrayFunctions.{MayInstallRow, MayInstallColumn, MayOpen, MayDeliver, MayWithdraw, MayJudge, AsksStep, MayStep, trayLibraryOfC}
@@ -99,6 +100,11 @@ c-meets = record {
 }
 
 -- ---- lists of calls
+-- what a verdict of the kind k says
+kind-says : (j : Judgement) (k : ℕ) → kindOf j ≡ k → j ≡ verdictReadBack (record { kind = k; number = numberOf j })
+kind-says j k e =
+    sym (c-trays.claims .verdict-read-back j) ∙ ap (λ (x : ℕ). verdictReadBack (record { kind = x; number = numberOf j })) e
+
 after-any-list : (h : List Call) (rs : List Reply) (t : Tray)
     → Execution trayLibraryOfC h rs t ↔ (rs ≡ repliesTo h) × (t ≡ trayAfter h)
 after-any-list = execution-law trayLibraryOfC trayMachine c-meets
@@ -112,3 +118,24 @@ module _ (h : List Call) (rs : List Reply) (t : Tray) (ran : Execution trayLibra
 
   pub state : Invariant h t
   state = subst (Invariant h) (sym (after-any-list h rs t .0 ran .1)) (every-list h .after)
+
+  module _ (v : VerdictNumbers) where
+    pub asked : MayJudge t v ↔ v ≡ verdictShown (verdictIn h)
+    asked = (
+      (λ m. verdict-fixed t v .0 m ∙ ap verdictShown (state .asked)),
+      λ e. verdict-fixed t v .1 (e ∙ ap verdictShown (sym (state .asked))),
+    )
+
+    module _ (m : MayJudge t v) (there : boardThere h ≡ none → ⊥) (full : emptiesIn h ≡ 0) where
+      told : v .kind ≡ kindOf (verdictIn h)
+      told = ap (λ (x : VerdictNumbers). x .kind) (asked .0 m)
+
+      pub yes : (v .kind ≡ 2) ↔ AllStandingAccepted h
+      yes =
+          let law = every-list h .verdict .accepts there full in
+          ((λ e. law .0 (kind-says (verdictIn h) 2 (sym told ∙ e))), λ all. told ∙ ap kindOf (law .1 all))
+
+      pub no : (v .kind ≡ 3) ↔ (AllStandingAccepted h → ⊥)
+      no =
+          let law = every-list h .verdict .rejects there full in
+          ((λ e. law .0 (kind-says (verdictIn h) 3 (sym told ∙ e))), λ not-all. told ∙ ap kindOf (law .1 not-all))

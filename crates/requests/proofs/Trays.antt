@@ -13,9 +13,10 @@
 --   Changes, AnyOrder, Unchanged, what a call changes; the whole theorem   trayhistories/specs/Claims
 --   VerdictClauses, EveryList
 --   trayLibrary, EveryRun         what the functions' contracts allow      trayhistories/specs/Functions
---   installShown, callShown,      the numbers that C is given              c_trays/specs/Numbers
+--   installRowOf, openOf, ..      the outcome of a call on any tray        trays/specs/Steps
+--   installShown, callShown,      the numbers that C is given for it       c_trays/specs/Numbers
 --   verdictShown
---   trayLibraryOfC                what the functions for C allow           specs/TrayFunctions
+--   MayOpen, ..; trayLibraryOfC   what the functions for C allow           specs/TrayFunctions
 --   Accepts; automatonOf r        automata and their runs (000)            automaton/specs/Automaton, Rules
 --
 -- h is any list of calls, the last first. A proved function ends and stays within its bounds. Assumes
@@ -226,3 +227,17 @@ replies-from-C = functions.replies
 
 pub state-from-C : (h : List Call) (rs : List Reply) (t : Tray) → Execution trayLibraryOfC h rs t → Invariant h t
 state-from-C = functions.state
+
+-- and what `bellbadger_tray_verdict` then returns is the list's verdict: with a board and no empty band,
+-- yes (kind 2) exactly when every row and every column is accepted, and no (kind 3) otherwise.
+module _ (h : List Call) (rs : List Reply) (t : Tray) (ran : Execution trayLibraryOfC h rs t) (v : VerdictNumbers) where
+  pub verdict-from-C : MayJudge t v ↔ v ≡ verdictShown (verdictIn h)
+  verdict-from-C = functions.asked h rs t ran v
+
+  pub yes-from-C : MayJudge t v → (boardThere h ≡ none → ⊥) → emptiesIn h ≡ 0
+      → (v .kind ≡ 2) ↔ AllAccepted (rowIn h) (columnIn h) (widthIn h) (rowsThere h)
+  yes-from-C = functions.yes h rs t ran v
+
+  pub no-from-C : MayJudge t v → (boardThere h ≡ none → ⊥) → emptiesIn h ≡ 0
+      → (v .kind ≡ 3) ↔ (AllAccepted (rowIn h) (columnIn h) (widthIn h) (rowsThere h) → ⊥)
+  no-from-C = functions.no h rs t ran v

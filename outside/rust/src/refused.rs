@@ -53,7 +53,7 @@ impl Refused {
             36 => "the rules have different numbers of symbols",
             37 => "the result has more than 32 states",
             38 => "no width from 1 to 16",
-            39 => "the band is no whole rows, or over 64 of them",
+            39 => "the band is not whole rows, or has over 64",
             _ => "for a reason that this wrapper does not know",
         }
     }

@@ -187,7 +187,7 @@ fn words() {
         ),
         (
             tray.deliver(0, &[1]),
-            "refused 39: the band is no whole rows, or over 64 of them",
+            "refused 39: the band is not whole rows, or has over 64",
         ),
         (tray.deliver(0, &[]), "refused 22: the band is filled"),
     ] {
