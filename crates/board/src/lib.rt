@@ -1,14 +1,13 @@
 // The board: what stands at each place. Any value of any field is taken: a number of places above
 // 64 counts as 64.
 ghost use mathlib.Core.Path.{_≡_};
-ghost use Prim.Native.Nat.{_≤_, _<_};
+ghost use Prim.Native.Nat.{_+_, _≤_, _<_};
 ghost use mathlib.Core.Bool.{cond};
-ghost use lib.Dec.{eqb};
-ghost use lib.ListN.{length, getD};
+ghost use lib.Dec.{eqb, ltb};
+ghost use lib.ListN.{length, getD, set};
 ghost use Rattle.limits.specs.Limits.{mostPlaces, endCells};
 ghost use Rattle.base.specs.Totals.{total};
-ghost use Rattle.board.specs.Boards.{placesOf, isEmpty, comesLate, emptyBoard, rowSet, filledAt, clearedAt, emptyPlaces, summedCount, summedBytes};
-use chunks::Runs;
+ghost use Rattle.board.specs.Boards.{placesOf, isEmpty, emptyBoard, rowSet, clearedAt, emptyPlaces, summedCount, summedBytes};
 
 // For each of up to 64 places whether it is filled (0 for empty), the count and the length of its
 // chunk, one more than the last revision accepted there, and 32 end sets, one for each state. In a
@@ -58,7 +57,7 @@ pub fn empty_board(places: u8) -> Board
 }
 
 // The place holds the end sets of the row.
-fn set_row(ends: &mut [u32; limits::ENDS], place: usize, row: &[u32; limits::STATES])
+pub fn set_row(ends: &mut [u32; limits::ENDS], place: usize, row: &[u32; limits::STATES])
     requires { ⌜ place < mostPlaces ⌝ }
     ensures { λ r. ⌜ now (ends .exit) ≡ rowSet (now (ends .entry)) place (λ q. getD (now (row .entry)) q 0) ⌝ }
 {
@@ -70,19 +69,28 @@ fn set_row(ends: &mut [u32; limits::ENDS], place: usize, row: &[u32; limits::STA
     }
 }
 
-// The place holds the end sets, the count and the length of a chunk, which may be empty, and its
-// revision. Of what it held before nothing is left.
-pub fn fill(board: Board, place: usize, revision: u32, runs: Runs) -> Board
+// The mark of the place is set.
+pub fn set_mark(filled: &mut [u8; limits::PLACES], place: usize, mark: u8)
     requires { ⌜ place < mostPlaces ⌝ }
-    ensures { λ r. ⌜ r ≡ filledAt board place revision runs ⌝ }
+    ensures { λ r. ⌜ now (filled .exit) ≡ set (now (filled .entry)) place mark ⌝ }
 {
-    let mut filled = board;
-    filled.filled[place] = 1;
-    filled.counts[place] = runs.count;
-    filled.lengths[place] = runs.bytes;
-    filled.revisions[place] = (revision as u64) + 1;
-    set_row(&mut filled.ends, place, &runs.ends);
-    filled
+    filled[place] = mark;
+}
+
+// A number of the place, its count or its length, is set.
+pub fn set_number(numbers: &mut [u32; limits::PLACES], place: usize, number: u32)
+    requires { ⌜ place < mostPlaces ⌝ }
+    ensures { λ r. ⌜ now (numbers .exit) ≡ set (now (numbers .entry)) place number ⌝ }
+{
+    numbers[place] = number;
+}
+
+// The last revision accepted at the place is set.
+pub fn set_revision(revisions: &mut [u64; limits::PLACES], place: usize, revision: u32)
+    requires { ⌜ place < mostPlaces ⌝ }
+    ensures { λ r. ⌜ now (revisions .exit) ≡ set (now (revisions .entry)) place (revision + 1) ⌝ }
+{
+    revisions[place] = (revision as u64) + 1;
 }
 
 // The place is empty, its end sets empty, its count and its length 0; its revision stays.
@@ -107,12 +115,13 @@ pub fn is_empty(board: Board, place: usize) -> bool
     board.filled[place] == 0
 }
 
-// Whether the revision is not greater than the last one accepted at the place.
-pub fn comes_late(board: Board, place: usize, revision: u32) -> bool
+// Whether the revision is not greater than the last one accepted at the place, where the board keeps
+// one more than that.
+pub fn comes_late(revisions: &[u64; limits::PLACES], place: usize, revision: u32) -> bool
     requires { ⌜ place < mostPlaces ⌝ }
-    ensures { λ r. ⌜ r ≡ comesLate board place revision ⌝ }
+    ensures { λ r. ⌜ r ≡ ltb revision (getD (now (revisions .entry)) place 0) ⌝ }
 {
-    (revision as u64) < board.revisions[place]
+    (revision as u64) < revisions[place]
 }
 
 // How many of the first n marks say empty.

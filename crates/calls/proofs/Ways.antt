@@ -4,7 +4,6 @@
 --   fresh-by                                                fresh
 --   open-20, open-few, open-many, opened                    openOf
 --   withdraw-21, withdraw-11, withdraw-23, withdrawn        withdrawOf
---   runs-by                                                 the runs at a place, from their mask
 --   deliver-21, -11, -12, -13, -22, delivered               deliverOf
 --   verdict-21, verdict-waiting, verdict-yes, verdict-no    verdictOf
 --   bytes-none, bytes-some                                  perByte
@@ -91,11 +90,6 @@ module _ (j : Judge) (p : ℕ) where
       withdrawn c d is s e = rw (e, is, ne-eqb _ _ a, ← places, lt-leb _ _ b, ← empty, c)
 
 -- ---- deliver
-pub runs-by : (b : Built) (p : ℕ) (w : List ℕ) (mask : ℕ) → mask ≡ runMask (b .delegates) (b .n) (b .initials) p
-    → (r : Runs) → r ≡ runsOf (b .sets) (b .next) (b .singles) mask w
-    → r ≡ runsOf (b .sets) (b .next) (b .singles) (runMask (b .delegates) (b .n) (b .initials) p) w
-runs-by b p w mask is r e = rw is at e
-
 module _ (j : Judge) (p v : ℕ) (w : List ℕ) where
   pub deliver-21 : j .board .places ≡ 0 → (r : Outcome) → r ≡ record { reply = reply.refused 21; state = j } → r ≡ deliverOf j p v w
   unfolding deliverOf

@@ -159,11 +159,12 @@ fn summed(counts: [usize; limits::STATES]) -> usize
     count
 }
 
-// The chunk run from each state of the mask.
-pub fn run_chunk(
-    sets: &[u32; limits::SETS],
-    next: &[u16; limits::CELLS],
-    singles: &[u16; limits::STATES],
+// The chunk run from each state of the mask. One lifetime for the three tables, so that they can be
+// lent from within one value.
+pub fn run_chunk<'a>(
+    sets: &'a [u32; limits::SETS],
+    next: &'a [u16; limits::CELLS],
+    singles: &'a [u16; limits::STATES],
     mask: u32,
     chunk: &[u8],
 ) -> Runs

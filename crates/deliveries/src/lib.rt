@@ -1,75 +1,92 @@
-// What a delivery comes to once its place and its length are known: the text of the chunk is run, and
-// kept at the place.
+// What a delivery comes to once its place and its length are known: the text of the chunk is
+// checked and run. It is given the tables of the rule, and copies none.
 ghost use mathlib.Core.Path.{_≡_};
-ghost use mathlib.Core.List.{List};
-ghost use Prim.Native.Nat.{ℕ, _≤_, _<_};
+ghost use Prim.Native.Nat.{_≤_};
 ghost use lib.ListN.{length};
 ghost use Rattle.limits.specs.Limits.{longestChunk};
 ghost use Rattle.marks.specs.Marks.{textOf};
-ghost use Rattle.chunks.specs.Walks.{runMask, runsOf};
-ghost use Rattle.calls.specs.Replies.{refused};
-ghost use Rattle.calls.specs.Steps.{withBoard, deliverOutcome, deliverOf};
-ghost use Rattle.board.specs.Boards.{placesOf};
-use board::Board;
-use build::Built;
+ghost use Rattle.deliveries.specs.Attempts.{refusedWith, attemptOf};
 use calls::DeliverAnswer;
-use calls::DeliverResult;
-use calls::Judge;
 use chunks::Runs;
 
-// The same rule with another board.
-pub fn with_board(judge: Judge, board: Board) -> Judge
-    ensures { λ r. ⌜ r ≡ withBoard judge board ⌝ }
-{
-    let built = judge.built;
-    Judge { built, board }
+// The answer, and the runs: zeros where it is a refusal.
+pub struct Attempt {
+    pub answer: DeliverAnswer,
+    pub runs: Runs,
 }
 
-pub fn refuse_delivery(judge: Judge, number: u8) -> DeliverResult
-    ensures { λ r. ⌜ deliverOutcome r ≡ record { reply = refused number; state = judge } ⌝ }
+fn refuse_text(number: u8) -> Attempt
+    ensures { λ r. ⌜ r ≡ refusedWith number ⌝ }
 {
     let answer = DeliverAnswer::Refused(number);
-    DeliverResult { answer, judge }
+    let ends = [0u32; limits::STATES];
+    let runs = Runs {
+        ends,
+        count: 0,
+        bytes: 0,
+        looked: 0,
+    };
+    Attempt { answer, runs }
 }
 
-// The runs of a text at a place.
-fn run_at(built: Built, place: usize, text: &[u8]) -> Runs
+// A text, run from the states of the mask, where each of its bytes is below k and its revision does
+// not come late.
+fn run_text<'a>(
+    sets: &'a [u32; limits::SETS],
+    next: &'a [u16; limits::CELLS],
+    singles: &'a [u16; limits::STATES],
+    mask: u32,
+    k: u8,
+    late: bool,
+    text: &[u8],
+) -> Attempt
     requires { ⌜ length (now text) ≤ longestChunk ⌝ }
-    ensures { λ r. ⌜ r ≡ runsOf (built .sets) (built .next) (built .singles) (runMask (built .delegates) (built .n) (built .initials) place) (now (text .entry)) ⌝ }
+    ensures { λ r. ⌜ r ≡ attemptOf (now (sets .entry)) (now (next .entry)) (now (singles .entry)) mask k late (now (text .entry)) ⌝ }
 {
-    let delegates = built.delegates;
-    let sets = built.sets;
-    let next = built.next;
-    let singles = built.singles;
-    let mask = chunks::run_mask(delegates, built.n, built.initials, place);
-    chunks::run_chunk(&sets, &next, &singles, mask, text)
-}
-
-// What a delivery comes to from 13 on, of any chunk that has this text.
-pub fn deliver_text(judge: Judge, place: usize, revision: u32, text: &[u8]) -> DeliverResult
-    requires { ⌜ (judge .board .places ≡ 0 → ⊥) × (place < placesOf (judge .board)) × (length (now text) ≤ longestChunk) ⌝ }
-    ensures { λ r. ⌜ ((w : List ℕ) → length w ≤ longestChunk → textOf w ≡ now (text .entry) → deliverOutcome r ≡ deliverOf judge place revision w) ⌝ }
-{
-    let built = judge.built;
-    if chunks::has_foreign(text, built.k) {
-        return refuse_delivery(judge, 13);
+    if chunks::has_foreign(text, k) {
+        return refuse_text(13);
     }
-    let board = judge.board;
-    if board::comes_late(board, place, revision) {
-        return refuse_delivery(judge, 22);
+    if late {
+        return refuse_text(22);
     }
-    let runs = run_at(built, place, text);
+    let runs = chunks::run_chunk(sets, next, singles, mask, text);
     let answer = DeliverAnswer::Accepted(runs.looked);
-    let judge = with_board(judge, board::fill(board, place, revision, runs));
-    DeliverResult { answer, judge }
+    Attempt { answer, runs }
 }
 
-// The same of a chunk with idle marks: its text is packed once, and run from there.
-pub fn deliver_marked(judge: Judge, place: usize, revision: u32, chunk: &[u8]) -> DeliverResult
-    requires { ⌜ (judge .board .places ≡ 0 → ⊥) × (place < placesOf (judge .board)) × (length (now chunk) ≤ longestChunk) ⌝ }
-    ensures { λ r. ⌜ deliverOutcome r ≡ deliverOf judge place revision (now (chunk .entry)) ⌝ }
+// The text of a chunk with idle marks: it is packed once, and run from there.
+fn run_marked<'a>(
+    sets: &'a [u32; limits::SETS],
+    next: &'a [u16; limits::CELLS],
+    singles: &'a [u16; limits::STATES],
+    mask: u32,
+    k: u8,
+    late: bool,
+    chunk: &[u8],
+) -> Attempt
+    requires { ⌜ length (now chunk) ≤ longestChunk ⌝ }
+    ensures { λ r. ⌜ r ≡ attemptOf (now (sets .entry)) (now (next .entry)) (now (singles .entry)) mask k late (textOf (now (chunk .entry))) ⌝ }
 {
     let mut buffer = [0u8; limits::CHUNK];
     let n = marks::pack(chunk, &mut buffer);
-    deliver_text(judge, place, revision, &buffer[..n])
+    run_text(sets, next, singles, mask, k, late, &buffer[..n])
+}
+
+// The text of any chunk: one without marks is its own text.
+pub fn run_delivery<'a>(
+    sets: &'a [u32; limits::SETS],
+    next: &'a [u16; limits::CELLS],
+    singles: &'a [u16; limits::STATES],
+    mask: u32,
+    k: u8,
+    late: bool,
+    chunk: &[u8],
+) -> Attempt
+    requires { ⌜ length (now chunk) ≤ longestChunk ⌝ }
+    ensures { λ r. ⌜ r ≡ attemptOf (now (sets .entry)) (now (next .entry)) (now (singles .entry)) mask k late (textOf (now (chunk .entry))) ⌝ }
+{
+    if marks::has_marks(chunk) {
+        return run_marked(sets, next, singles, mask, k, late, chunk);
+    }
+    run_text(sets, next, singles, mask, k, late, chunk)
 }

@@ -2,9 +2,11 @@
 ghost use mathlib.Core.Path.{_≡_};
 ghost use Prim.Native.Nat.{_<_};
 ghost use Rattle.calls.specs.Replies.{refused, reportMeans};
-ghost use Rattle.calls.specs.Steps.{fresh, installOutcome, openOutcome, deliverOutcome, withdrawOutcome, installOf, loadOf, openOf, deliverOf, withdrawOf, reportOf};
+ghost use Rattle.calls.specs.Steps.{fresh, withBoard, installOutcome, openOutcome, deliverOutcome, withdrawOutcome, installOf, loadOf, openOf, deliverOf, withdrawOf, reportOf};
 use automaton::Rule;
+use board::Board;
 use build::BuildAnswer;
+use calls::DeliverAnswer;
 use calls::DeliverResult;
 use calls::InstallAnswer;
 use calls::InstallResult;
@@ -27,6 +29,14 @@ pub fn new_judge() -> Judge
     Judge { built, board }
 }
 
+// The same rule with another board.
+fn with_board(judge: Judge, board: Board) -> Judge
+    ensures { λ r. ⌜ r ≡ withBoard judge board ⌝ }
+{
+    let built = judge.built;
+    Judge { built, board }
+}
+
 fn refuse_rule(judge: Judge, number: u8) -> InstallResult
     ensures { λ r. ⌜ installOutcome r ≡ record { reply = refused number; state = judge } ⌝ }
 {
@@ -39,6 +49,13 @@ fn refuse_opening(judge: Judge, number: u8) -> OpenResult
 {
     let answer = OpenAnswer::Refused(number);
     OpenResult { answer, judge }
+}
+
+fn refuse_delivery(judge: Judge, number: u8) -> DeliverResult
+    ensures { λ r. ⌜ deliverOutcome r ≡ record { reply = refused number; state = judge } ⌝ }
+{
+    let answer = DeliverAnswer::Refused(number);
+    DeliverResult { answer, judge }
 }
 
 fn refuse_withdrawal(judge: Judge, number: u8) -> WithdrawResult
@@ -100,30 +117,49 @@ pub fn open(judge: Judge, places: usize) -> OpenResult
         return refuse_opening(judge, 10);
     }
     let answer = OpenAnswer::Accepted;
-    let judge = deliveries::with_board(judge, board::empty_board(places as u8));
+    let judge = with_board(judge, board::empty_board(places as u8));
     OpenResult { answer, judge }
 }
 
 // Runs the text of a chunk, which is the chunk without its idle marks, and keeps its end sets,
-// count, length and revision at the place, instead of what stood there. Accepted, it answers for how many bytes of the text a successor
-// was looked up.
-pub fn deliver(judge: Judge, place: usize, revision: u32, chunk: &[u8]) -> DeliverResult
+// count, length and revision at the place, instead of what stood there; the place is filled within
+// the judge that came, since a board that goes through a function is copied. Accepted, it answers
+// for how many bytes of the text a successor was looked up.
+pub fn deliver(mut judge: Judge, place: usize, revision: u32, chunk: &[u8]) -> DeliverResult
     ensures { λ r. ⌜ deliverOutcome r ≡ deliverOf judge place revision (now (chunk .entry)) ⌝ }
 {
-    let board = judge.board;
-    if board.places == 0 {
-        return deliveries::refuse_delivery(judge, 21);
+    if judge.board.places == 0 {
+        return refuse_delivery(judge, 21);
     }
-    if board::places_of(board) <= place {
-        return deliveries::refuse_delivery(judge, 11);
+    if board::places_of(judge.board) <= place {
+        return refuse_delivery(judge, 11);
     }
     if limits::CHUNK < chunk.len() {
-        return deliveries::refuse_delivery(judge, 12);
+        return refuse_delivery(judge, 12);
     }
-    if marks::has_marks(chunk) {
-        return deliveries::deliver_marked(judge, place, revision, chunk);
+    let n = judge.built.n;
+    let mask = chunks::run_mask(judge.built.delegates, n, judge.built.initials, place);
+    let late = board::comes_late(&judge.board.revisions, place, revision);
+    let attempt = deliveries::run_delivery(
+        &judge.built.sets,
+        &judge.built.next,
+        &judge.built.singles,
+        mask,
+        judge.built.k,
+        late,
+        chunk,
+    );
+    let answer = attempt.answer;
+    if let DeliverAnswer::Refused(number) = answer {
+        return refuse_delivery(judge, number);
     }
-    deliveries::deliver_text(judge, place, revision, chunk)
+    let runs = attempt.runs;
+    board::set_mark(&mut judge.board.filled, place, 1);
+    board::set_number(&mut judge.board.counts, place, runs.count);
+    board::set_number(&mut judge.board.lengths, place, runs.bytes);
+    board::set_revision(&mut judge.board.revisions, place, revision);
+    board::set_row(&mut judge.board.ends, place, &runs.ends);
+    DeliverResult { answer, judge }
 }
 
 // Empties the place.
@@ -141,7 +177,7 @@ pub fn withdraw(judge: Judge, place: usize) -> WithdrawResult
         return refuse_withdrawal(judge, 23);
     }
     let answer = WithdrawAnswer::Accepted;
-    let judge = deliveries::with_board(judge, board::clear(board, place));
+    let judge = with_board(judge, board::clear(board, place));
     WithdrawResult { answer, judge }
 }
 

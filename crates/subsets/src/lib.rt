@@ -1,7 +1,10 @@
 // The sets of states that get a number, in the order of their numbers, and the next-set table.
 ghost use mathlib.Core.Path.{_≡_};
-ghost use Prim.Native.Nat.{_*_, _≤_, _<_};
-ghost use lib.ListN.{length, take};
+ghost use mathlib.Core.Bool.{cond};
+ghost use Prim.Native.Nat.{ℕ, _+_, _*_, _≤_, _<_};
+ghost use lib.Dec.{eqb};
+ghost use lib.ListN.{length, getD, take};
+ghost use Rattle.base.specs.Totals.{total};
 ghost use Rattle.limits.specs.Limits.{mostStates, mostSymbols, mostSets};
 ghost use Rattle.numbering.specs.Arrays.{foundIn};
 ghost use Rattle.subsets.specs.Singles.{foundMeans, singletonNumber, singlesOf};
@@ -39,13 +42,47 @@ pub struct SetTable {
     pub singles: [u16; limits::STATES],
 }
 
+// How many sets are compared at once.
+const BLOCK: usize = 32;
+
+// How many cells of a block are the set. Without a way out of the loop they are compared side by side.
+fn hits(sets: &[u32; limits::SETS], from: usize, set: u32) -> u32
+    requires { ⌜ from + 32 ≤ mostSets ⌝ }
+    ensures { λ r. ⌜ r ≡ total (λ j. cond (eqb (getD (now (sets .entry)) (from + j) 0) set) 1 0) 32 ⌝ }
+{
+    let mut found: u32 = 0;
+    let mut j: usize = 0;
+    while j < BLOCK {
+        if sets[from + j] == set {
+            found += 1;
+        }
+        j += 1;
+    }
+    found
+}
+
+// Whole blocks that a search among the first cells can pass, since the set is not in them.
+fn passed(sets: &[u32; limits::SETS], most: usize, set: u32) -> usize
+    requires { ⌜ most ≤ mostSets ⌝ }
+    ensures { λ r. ⌜ (r ≤ most) × ((j : ℕ) → j < r → getD (now (sets .entry)) j 0 ≡ set → ⊥) ⌝ }
+{
+    let mut i: usize = 0;
+    while BLOCK <= most - i {
+        if hits(sets, i, set) != 0 {
+            return i;
+        }
+        i += BLOCK;
+    }
+    i
+}
+
 // The number of a set among the first count; a count above 512 is taken for 512.
 pub fn find(sets: &[u32; limits::SETS], count: usize, set: u32) -> Found
     ensures { λ r. ⌜ foundMeans r ≡ foundIn (take count (now (sets .entry))) set ⌝ }
 {
-    let cells: &[u32] = sets;
     let most = base::at_most(count, limits::SETS);
-    let mut i: usize = 0;
+    let mut i = passed(sets, most, set);
+    let cells: &[u32] = sets;
     let found = loop {
         if i == most {
             return Found::Nothing;
