@@ -16,7 +16,7 @@ use Rattle.calls.specs.Calls.{installNumber}
 use Rattle.trays.specs.Rows.{rowsOf, rowsUpTo, columnOf, rowsPass, columnsPass}
 use Rattle.trays.specs.Worked.{evenRule}
 use Rattle.trayhistories.specs.History.{rowThere, columnThere, boardThere, standing, withSets, answersTo}
-use Rattle.trayhistories.specs.Worked.{Case, case, lists, Answered}
+use Rattle.trayhistories.specs.Worked.{ruled, Case, case, lists, Answered}
 use Rattle.trayhistories.proofs.EveryList.{every-list}
 
 A-installs : installNumber ruleA ≡ none
@@ -30,15 +30,16 @@ even-installs = refl
 -- the list's own answers
 abbrev Told : List Case → Type 0
 Told [] = Unit {0}
-Told (case calls more ∷ cases) = (answersTo calls ≡ more ++ (withSets evenRule ∷ withSets ruleA ∷ [])) × Told cases
+Told (case row column calls more ∷ cases) =
+    (answersTo (calls ++ ruled row column) ≡ more ++ (withSets column ∷ withSets row ∷ [])) × Told cases
 
 told : Told lists
 unfolding rowThere columnThere boardThere standing answersTo union total foreign rowsOf rowsUpTo columnOf rowsPass columnsPass
-told = rw (A-installs, even-installs) (refl, (refl, (refl, (refl, (refl, (refl, (refl, (refl, (refl, (refl, (refl, tt)))))))))))
+told = rw (A-installs, even-installs) (refl, (refl, (refl, (refl, (refl, (refl, (refl, (refl, (refl, (refl, (refl, (refl, (refl, tt)))))))))))))
 
 one-by-one : (cases : List Case) → Told cases → Answered cases
 one-by-one [] e = tt
-one-by-one (case calls more ∷ cases) e = (every-list calls .correct ∙ e .0, one-by-one cases (e .1))
+one-by-one (case row column calls more ∷ cases) e = (every-list (calls ++ ruled row column) .correct ∙ e .0, one-by-one cases (e .1))
 
 pub answered : Answered lists
 answered = one-by-one lists told
