@@ -6,7 +6,8 @@
 --   AllAccepted                   every row and every column is accepted   trays/specs/Rows
 --   rowThere h, columnThere h     the rules that a list of calls leaves    trayhistories/specs/History
 --   boardThere h, widthIn h, ..   its board; what stands at each band      trayhistories/specs/History
---   rowsThere h                   the rows of the standing bands in order  trayhistories/specs/History
+--   rowsAt h p, rowsThere h       the rows of a standing band, of all       trayhistories/specs/History
+--   rowsBelow at p                how many rows the bands below p have     trays/specs/Claims
 --   verdictIn h, answerOf h c     the verdict; what is answered to a call  trayhistories/specs/History
 --   Installation, WholeRows,      the numbers, one by one                  trayhistories/specs/Conditions
 --   AtOrAbove, Accepted-exactly, Refused-exactly
@@ -21,7 +22,7 @@ use mathlib.Core.Path.{_≡_}
 use mathlib.Core.Logic.{_↔_, _⊎_}
 use mathlib.Core.List.{List, [], _∷_}
 use mathlib.Core.Option.{none, some}
-use Prim.Native.Nat.{ℕ, _*_, _≤_, _<_}
+use Prim.Native.Nat.{ℕ, _+_, _*_, _≤_, _<_}
 use lib.ListN.{length, getD}
 use Rattle.executions.specs.Executions.{Execution, Meets}
 use Rattle.marks.specs.Marks.{idleMark}
@@ -36,9 +37,9 @@ use Rattle.trays.specs.Sizes.{mostWidth, mostBands}
 use Rattle.trays.specs.Rows.{columnOf, AllAccepted}
 use Rattle.trays.specs.Replies.{Reply, refused, waiting, saysYes, saysNo, refusedWith, refusalOf}
 use Rattle.trays.specs.Calls.{Call, installsRow, installsColumn, opens, delivers}
-use Rattle.trays.specs.Claims.{RowsLaw, ColumnLaw}
+use Rattle.trays.specs.Claims.{RowsLaw, ColumnLaw, rowsBelow}
 use Rattle.trays.proofs.Claims as trays
-use Rattle.trayhistories.specs.History.{rowThere, columnThere, rowIn, columnIn, Size, boardThere, widthIn, bandsIn, standing, emptiesIn, rowsThere, verdictIn, answerOf, answersTo}
+use Rattle.trayhistories.specs.History.{rowThere, columnThere, rowIn, columnIn, Size, boardThere, widthIn, bandsIn, standing, emptiesIn, rowsAt, rowsThere, verdictIn, answerOf, answersTo}
 use Rattle.trayhistories.specs.Conditions.{Installation, WholeRows, AtOrAbove, Accepted-exactly, Refused-exactly}
 use Rattle.trayhistories.specs.Claims.{trayMachine, NoBoard, Changes, AnyOrder, Unchanged, EveryList}
 use Rattle.trayhistories.specs.Functions.{trayLibrary, EveryRun}
@@ -116,6 +117,15 @@ changed h = every-list h .changes
 
 pub any-order : (h : List Call) (p q : ℕ) → (p ≡ q → ⊥) → (b c : List ℕ) → AnyOrder h p q b c
 any-order h = every-list h .any-order
+
+-- The rows of all standing bands are in the order of the bands' numbers, however they came: row i of
+-- band p is behind all rows of the bands below p, and there are no others.
+pub in-order : (h : List Call) (p i : ℕ) → p < bandsIn h → i < length (rowsAt h p)
+    → getD (rowsThere h) (rowsBelow (rowsAt h) p + i) [] ≡ getD (rowsAt h p) i []
+in-order h = trays.claims .bands-law (rowsAt h) (bandsIn h) .row
+
+pub no-others : (h : List Call) → length (rowsThere h) ≡ rowsBelow (rowsAt h) (bandsIn h)
+no-others h = trays.claims .bands-law (rowsAt h) (bandsIn h) .rows
 
 -- ---- THE VERDICT
 -- "The tray's verdict is yes exactly when every row and every column is accepted, without a count":
