@@ -2,6 +2,7 @@
 -- the file that has it. To believe them, read the definitions that they name:
 --
 --   Call; Reply, Judgement        a tray's calls; what is answered to them  trays/specs/Calls, Replies
+--   stepOf t c                    reply and state of a call on any state   trays/specs/Steps
 --   rowsOf w n b, columnOf c rows rows out of bytes, and columns           trays/specs/Rows
 --   AllAccepted                   every row and every column is accepted   trays/specs/Rows
 --   rowThere h, columnThere h     the rules that a list of calls leaves    trayhistories/specs/History
@@ -37,6 +38,7 @@ use Rattle.trays.specs.Sizes.{mostWidth, mostBands}
 use Rattle.trays.specs.Rows.{columnOf, AllAccepted}
 use Rattle.trays.specs.Replies.{Reply, refused, waiting, saysYes, saysNo, refusedWith, refusalOf}
 use Rattle.trays.specs.Calls.{Call, installsRow, installsColumn, opens, delivers}
+use Rattle.trays.specs.Steps.{stepOf}
 use Rattle.trays.specs.Claims.{RowsLaw, ColumnLaw, rowsBelow}
 use Rattle.trays.proofs.Claims as trays
 use Rattle.trayhistories.specs.History.{rowThere, columnThere, rowIn, columnIn, Size, boardThere, widthIn, bandsIn, standing, emptiesIn, rowsAt, rowsThere, verdictIn, answerOf, answersTo}
@@ -182,6 +184,10 @@ refusals h = every-list h .refused-exactly
 pub refused-21 : (h : List Call) → (verdictIn h ≡ refusedWith 21) ↔ (boardThere h ≡ none)
 refused-21 h = every-list h .verdict .none-there
 
--- and a refused call changes nothing.
+-- and a refused call changes nothing, after every list of calls,
 pub unchanged : (h : List Call) (c : Call) (x : ℕ) → refusalOf (answerOf h c) ≡ some x → Unchanged h c
 unchanged h = every-list h .unchanged
+
+-- and on any state whatever, also one that no list of calls leaves.
+pub unchanged-in-any-state : (t : Tray) (c : Call) (x : ℕ) → refusalOf (stepOf t c .reply) ≡ some x → stepOf t c .state ≡ t
+unchanged-in-any-state = trays.claims .unchanged
