@@ -2,11 +2,13 @@
 -- the file that has it. To believe them, read the definitions that they name:
 --
 --   Call; Reply, Judgement        a tray's calls; what is answered to them  trays/specs/Calls, Replies
+--   stepOf t c                    reply and state of a call on any state   trays/specs/Steps
 --   rowsOf w n b, columnOf c rows rows out of bytes, and columns           trays/specs/Rows
 --   AllAccepted                   every row and every column is accepted   trays/specs/Rows
 --   rowThere h, columnThere h     the rules that a list of calls leaves    trayhistories/specs/History
 --   boardThere h, widthIn h, ..   its board; what stands at each band      trayhistories/specs/History
---   rowsThere h                   the rows of the standing bands in order  trayhistories/specs/History
+--   rowsAt h p, rowsThere h       the rows of a standing band, of all       trayhistories/specs/History
+--   rowsBelow at p                how many rows the bands below p have     trays/specs/Claims
 --   verdictIn h, answerOf h c     the verdict; what is answered to a call  trayhistories/specs/History
 --   Installation, WholeRows,      the numbers, one by one                  trayhistories/specs/Conditions
 --   AtOrAbove, Accepted-exactly, Refused-exactly
@@ -17,17 +19,22 @@
 --   installShown, callShown,      the numbers that C is given for it       c_trays/specs/Numbers
 --   verdictShown
 --   MayOpen, ..; trayLibraryOfC   what the functions for C allow           specs/TrayFunctions
+--   Blocks; rightText             what is written for lines, and is right  linetexts/specs/Claims, traystream/specs/Texts
 --   Accepts; automatonOf r        automata and their runs (000)            automaton/specs/Automaton, Rules
 --
 -- h is any list of calls, the last first. A proved function ends and stays within its bounds. Assumes
 -- nothing.
 use mathlib.Core.Path.{_≡_}
 use mathlib.Core.Logic.{_↔_, _⊎_}
-use mathlib.Core.List.{List, [], _∷_}
+use mathlib.Core.List.{List, [], _∷_, _++_, flatten}
 use mathlib.Core.Option.{none, some}
-use Prim.Native.Nat.{ℕ, _*_, _≤_, _<_}
+use Prim.Native.Nat.{ℕ, _+_, _*_, _≤_, _<_}
 use lib.ListN.{length, getD}
 use Rattle.executions.specs.Executions.{Execution, Meets}
+use Rattle.lines.specs.Splitting.{linesOf}
+use Rattle.longlines.specs.Holding.{lineBegin}
+use Rattle.linetexts.specs.Feeding.{State, stateOf, finishOf}
+use Rattle.linetexts.specs.Claims.{Blocks}
 use Rattle.marks.specs.Marks.{idleMark}
 use Rattle.automaton.specs.declared.Rule.{Rule}
 use Rattle.automaton.specs.Automaton.{Accepts}
@@ -40,10 +47,10 @@ use Rattle.trays.specs.Sizes.{mostWidth, mostBands}
 use Rattle.trays.specs.Rows.{columnOf, AllAccepted}
 use Rattle.trays.specs.Replies.{Reply, refused, waiting, saysYes, saysNo, refusedWith, refusalOf}
 use Rattle.trays.specs.Calls.{Call, installsRow, installsColumn, opens, delivers}
-use Rattle.trays.specs.Steps.{installRowOf, installColumnOf, openOf, deliverOf, withdrawOf, verdictOf}
-use Rattle.trays.specs.Claims.{RowsLaw, ColumnLaw}
+use Rattle.trays.specs.Steps.{fresh, installRowOf, installColumnOf, openOf, deliverOf, withdrawOf, verdictOf, stepOf}
+use Rattle.trays.specs.Claims.{RowsLaw, ColumnLaw, rowsBelow}
 use Rattle.trays.proofs.Claims as trays
-use Rattle.trayhistories.specs.History.{rowThere, columnThere, rowIn, columnIn, Size, boardThere, widthIn, bandsIn, standing, emptiesIn, rowsThere, verdictIn, answerOf, answersTo}
+use Rattle.trayhistories.specs.History.{rowThere, columnThere, rowIn, columnIn, Size, boardThere, widthIn, bandsIn, standing, emptiesIn, rowsAt, rowsThere, verdictIn, answerOf, answersTo}
 use Rattle.trayhistories.specs.Conditions.{Installation, WholeRows, AtOrAbove, Accepted-exactly, Refused-exactly}
 use Rattle.trayhistories.specs.Claims.{trayMachine, trayAfter, Invariant, NoBoard, Changes, AnyOrder, Unchanged, EveryList}
 use Rattle.trayhistories.specs.Functions.{trayLibrary, EveryRun}
@@ -51,6 +58,8 @@ use Rattle.trayhistories.specs.Worked.{lists, Answered}
 use Rattle.trayhistories.proofs.EveryList as tray-lists
 use Rattle.trayhistories.proofs.Refinement as tray-functions
 use Rattle.trayhistories.proofs.Examples as tray-examples
+use Rattle.traystream.specs.Texts.{trayRoom, trayLines, rightText}
+use Rattle.traystream.proofs.Claimed as traystream
 use Rattle.c_trays.specs.declared.InstallNumbers.{InstallNumbers}
 use Rattle.c_trays.specs.declared.CallNumbers.{CallNumbers}
 use Rattle.c_trays.specs.declared.VerdictNumbers.{VerdictNumbers}
@@ -130,6 +139,15 @@ changed h = every-list h .changes
 pub any-order : (h : List Call) (p q : ℕ) → (p ≡ q → ⊥) → (b c : List ℕ) → AnyOrder h p q b c
 any-order h = every-list h .any-order
 
+-- The rows of all standing bands are in the order of the bands' numbers, however they came: row i of
+-- band p is behind all rows of the bands below p, and there are no others.
+pub in-order : (h : List Call) (p i : ℕ) → p < bandsIn h → i < length (rowsAt h p)
+    → getD (rowsThere h) (rowsBelow (rowsAt h) p + i) [] ≡ getD (rowsAt h p) i []
+in-order h = trays.claims .bands-law (rowsAt h) (bandsIn h) .row
+
+pub no-others : (h : List Call) → length (rowsThere h) ≡ rowsBelow (rowsAt h) (bandsIn h)
+no-others h = trays.claims .bands-law (rowsAt h) (bandsIn h) .rows
+
 -- ---- THE VERDICT
 -- "The tray's verdict is yes exactly when every row and every column is accepted, without a count":
 -- of the rows of the standing bands, in the order of the bands, and no otherwise.
@@ -185,9 +203,13 @@ refusals h = every-list h .refused-exactly
 pub refused-21 : (h : List Call) → (verdictIn h ≡ refusedWith 21) ↔ (boardThere h ≡ none)
 refused-21 h = every-list h .verdict .none-there
 
--- and a refused call changes nothing.
+-- and a refused call changes nothing, after every list of calls,
 pub unchanged : (h : List Call) (c : Call) (x : ℕ) → refusalOf (answerOf h c) ≡ some x → Unchanged h c
 unchanged h = every-list h .unchanged
+
+-- and on any state whatever, also one that no list of calls leaves.
+pub unchanged-in-any-state : (t : Tray) (c : Call) (x : ℕ) → refusalOf (stepOf t c .reply) ≡ some x → stepOf t c .state ≡ t
+unchanged-in-any-state = trays.claims .unchanged
 
 -- ---- FROM C
 -- The functions that C links ask nothing; what their numbers say, and the tray that they leave, is what
@@ -241,3 +263,12 @@ module _ (h : List Call) (rs : List Reply) (t : Tray) (ran : Execution trayLibra
   pub no-from-C : MayJudge t v → (boardThere h ≡ none → ⊥) → emptiesIn h ≡ 0
       → (v .kind ≡ 3) ↔ (AllAccepted (rowIn h) (columnIn h) (widthIn h) (rowsThere h) → ⊥)
   no-from-C = functions.no h rs t ran v
+
+-- ---- LINES
+-- All that `trayjudge` writes, in whatever rounds the blocks of its input are fed, is right line by line:
+-- the answer that is due after the calls of the lines before it. (A round is what the contract of
+-- `gather` promises, and the end what that of `finish` does: traystream/src/lib.rt.)
+pub lines-written : {room : ℕ} {s′ : State Tray} {blocks : List (List ℕ)} {line text : List ℕ} → trayRoom + 1 ≤ length line
+    → Blocks trayLines room (stateOf fresh lineBegin line) blocks s′ text
+    → text ++ finishOf trayLines s′ .text ≡ rightText [] (linesOf (flatten blocks))
+lines-written = traystream.claims .written

@@ -11,6 +11,7 @@ claims = record {
   answered = examples.answered;
   rows-law = rows.rows-law;
   column-law = rows.column-law;
+  bands-law = rows.bands-law;
   passes-law = rows.passes-law;
   whole-rows = passing.whole-rows;
   both-texts = passing.both-texts;

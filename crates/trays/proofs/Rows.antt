@@ -3,6 +3,7 @@
 --
 --   rows-none, rows-more    no row, and one row more at the front
 --   rows-law, column-law    the claims: where each event stands
+--   bands-law               and where each row of a band stands among those of all bands
 --   rows-same               rows depend on their bytes alone
 --   up-to-same              the rows of bands, from those of each
 --   rows-pass, columns-pass, passes-law   the tests decide it
@@ -13,14 +14,15 @@ use mathlib.Core.List.{List, [], _∷_, _++_}
 use Prim.Native.Nat.{ℕ, zero, suc, _+_, _*_, _≤_, _<_}
 use native.Mathlib.Nat.{suc-mul, eq-or-lt-of-le, le-of-suc-le-suc}
 use native.Mathlib.Omega.{arith}
-use lib.ListN.{length, getD, take, drop, length-drop}
-use lib.Seq.{length-take-le, getD-take, getD-drop, ext-getD}
+use lib.ListN.{length, getD, take, drop, length-drop, length-append, List·getD-append}
+use lib.Seq.{length-take-le, getD-take, getD-drop, getD-append-add, ext-getD}
+use Rattle.base.specs.Totals.{total}
 use Rattle.automaton.specs.declared.Rule.{Rule}
 use Rattle.automaton.specs.Automaton.{Accepts}
 use Rattle.automaton.specs.Rules.{automatonOf, WellFormed}
 use Rattle.automaton.proofs.Claims as automaton
 use Rattle.trays.specs.Rows.{rowsOf, rowsUpTo, columnOf, accepted, rowsPass, columnsPass, passes, AllAccepted}
-use Rattle.trays.specs.Claims.{RowsLaw, ColumnLaw}
+use Rattle.trays.specs.Claims.{RowsLaw, ColumnLaw, rowsBelow, BandsLaw}
 
 pub rows-none : (w : ℕ) (b : List ℕ) → rowsOf w 0 b ≡ []
 unfolding rowsOf
@@ -75,6 +77,46 @@ column-event c (row ∷ rows) (suc i) l = column-event c rows i (le-of-suc-le-su
 
 pub column-law : (c : ℕ) (rows : List (List ℕ)) → ColumnLaw c rows
 column-law c rows = record { events = column-count c rows; event = column-event c rows }
+
+-- ---- which row stands where
+rows-below : (at : ℕ → List (List ℕ)) (n : ℕ) → length (rowsUpTo at n) ≡ rowsBelow at n
+unfolding rowsUpTo total
+rows-below at zero = refl
+rows-below at (suc n) = length-append (rowsUpTo at n) (at n) ∙ ap (λ (x : ℕ). x + length (at n)) (rows-below at n)
+
+-- a band's rows end before those of the bands above it begin
+before-next : (at : ℕ → List (List ℕ)) (n p i : ℕ) → p < n → i < length (at p) → rowsBelow at p + i < rowsBelow at n
+unfolding total
+before-next at zero p i l m = absurd (omega arith)
+before-next at (suc n) p i l m =
+    ⊎-elim
+    (λ e. omega (arith, ap (rowsBelow at) e, ap (λ (q : ℕ). length (at q)) e))
+    (λ b. omega (arith, before-next at n p i b m))
+    (eq-or-lt-of-le (le-of-suc-le-suc l))
+
+-- a row of the last band, and one of a band below it
+module _ (at : ℕ → List (List ℕ)) (n : ℕ) where
+  in-last : (i : ℕ) → getD (rowsUpTo at n ++ at n) (rowsBelow at n + i) [] ≡ getD (at n) i []
+  in-last i =
+      ap (λ (x : ℕ). getD (rowsUpTo at n ++ at n) (x + i) []) (sym (rows-below at n)) ∙ getD-append-add (rowsUpTo at n) (at n) i []
+
+  in-lower : (p i : ℕ) → p < n → i < length (at p)
+      → getD (rowsUpTo at n ++ at n) (rowsBelow at p + i) [] ≡ getD (rowsUpTo at n) (rowsBelow at p + i) []
+  in-lower p i l m =
+      List·getD-append (rowsUpTo at n) (at n) [] (rowsBelow at p + i) (rw (rows-below at n) (before-next at n p i l m))
+
+row-of-band : (at : ℕ → List (List ℕ)) (n p i : ℕ) → p < n → i < length (at p)
+    → getD (rowsUpTo at n) (rowsBelow at p + i) [] ≡ getD (at p) i []
+unfolding rowsUpTo
+row-of-band at zero p i l m = absurd (omega arith)
+row-of-band at (suc n) p i l m =
+    ⊎-elim
+    (λ e. rw e (in-last at n i))
+    (λ b. in-lower at n p i b m ∙ row-of-band at n p i b m)
+    (eq-or-lt-of-le (le-of-suc-le-suc l))
+
+pub bands-law : (at : ℕ → List (List ℕ)) (n : ℕ) → BandsLaw at n
+bands-law at n = record { rows = rows-below at n; row = row-of-band at n }
 
 -- ---- rows with the same bytes
 pub rows-same : (w n : ℕ) (a b : List ℕ) → n * w ≤ length a → n * w ≤ length b

@@ -2,6 +2,9 @@
 --
 --   RowsLaw w n b       which event of the bytes b stands where in the n rows
 --   ColumnLaw c rows    which event stands where in column c
+--   rowsBelow at p      how many rows the bands below band p have
+--   BandsLaw at n       which row of which band stands where in all rows of n bands: the bands follow
+--                       each other by their numbers
 --   Unchanged           a refusal changes nothing
 --   RulesAlone t row column   the tray has these rules and no board
 --   InstallLaw t r      an accepted installation replaces its rule, keeps the other one and removes
@@ -16,13 +19,14 @@ use mathlib.Core.List.{List, []}
 use mathlib.Core.Option.{none, some}
 use Prim.Native.Nat.{ℕ, _+_, _*_, _<_, _≤_}
 use lib.ListN.{length, getD}
+use Rattle.base.specs.Totals.{total}
 use Rattle.automaton.specs.declared.Rule.{Rule}
 use Rattle.automaton.specs.Automaton.{Text}
 use Rattle.automaton.specs.Rules.{WellFormed}
 use Rattle.calls.specs.Calls.{installNumber}
 use Rattle.trays.specs.declared.Tray.{Tray}
 use Rattle.trays.specs.Sizes.{mostRows}
-use Rattle.trays.specs.Rows.{rowsOf, columnOf, passes, AllAccepted}
+use Rattle.trays.specs.Rows.{rowsOf, rowsUpTo, columnOf, passes, AllAccepted}
 use Rattle.trays.specs.Worked.{trays, Answered}
 use Rattle.trays.specs.Replies.{waiting, saysYes, saysNo, refusedWith, refusalOf}
 use Rattle.trays.specs.Calls.{Call, notRows, foreignTo}
@@ -39,6 +43,14 @@ pub record RowsLaw (w n : ℕ) (b : List ℕ) : Type 0 where
 pub record ColumnLaw (c : ℕ) (rows : List (List ℕ)) : Type 0 where
   pub events : length (columnOf c rows) ≡ length rows
   pub event : (i : ℕ) → i < length rows → getD (columnOf c rows) i 0 ≡ getD (getD rows i []) c 0
+
+abbrev pub rowsBelow : (ℕ → List (List ℕ)) → ℕ → ℕ
+rowsBelow at p = total (λ q. length (at q)) p
+
+-- as many rows as the n bands have; row i of band p is behind all rows of the bands below p
+pub record BandsLaw (at : ℕ → List (List ℕ)) (n : ℕ) : Type 0 where
+  pub rows : length (rowsUpTo at n) ≡ rowsBelow at n
+  pub row : (p i : ℕ) → p < n → i < length (at p) → getD (rowsUpTo at n) (rowsBelow at p + i) [] ≡ getD (at p) i []
 
 abbrev pub Unchanged : Type 0
 Unchanged = (t : Tray) (c : Call) (x : ℕ) → refusalOf (stepOf t c .reply) ≡ some x → stepOf t c .state ≡ t
@@ -70,6 +82,7 @@ pub record Claims : Type 0 where
   pub answered : Answered trays
   pub rows-law : (w n : ℕ) (b : List ℕ) → n * w ≤ length b → RowsLaw w n b
   pub column-law : (c : ℕ) (rows : List (List ℕ)) → ColumnLaw c rows
+  pub bands-law : (at : ℕ → List (List ℕ)) (n : ℕ) → BandsLaw at n
   -- the test decides whether every row and every column is accepted
   pub passes-law : (row column : Rule) → WellFormed row → WellFormed column
       → (w : ℕ) (rows : List (List ℕ)) → (passes row column w rows ≡ true) ↔ AllAccepted row column w rows
