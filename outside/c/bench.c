@@ -89,17 +89,21 @@ static bellbadger_judge path(int n) {
     return opened(n, 2, 1u << (n - 1), to, 2);
 }
 
-/* a text of symbols below k, at random */
+/* a made text of symbols below k */
+static void made(uint8_t *buffer, int k, uint64_t seed) {
+    if (!bellbadger_make_text((uint8_t)k, seed, buffer, BYTES).accepted) exit(1);
+}
+
 static void texts(int k) {
-    for (size_t i = 0; i < BYTES; i++) text[i] = (uint8_t)((rand() >> 7) % k);
+    made(text, k, 1);
 }
 
 /* one over which each run dies, at a place of its own */
 static void deaths(int n) {
     int place[32], state[32];
     for (int q = 0; q < n; q++) place[q] = (int)((unsigned)rand() % BYTES), state[q] = q;
+    made(text, 3, 2);
     for (int i = 0; i < BYTES; i++) {
-        text[i] = (uint8_t)((rand() >> 7) % 3);
         for (int q = 0; q < n; q++)
             if (state[q] == 0 && place[q] <= i) text[i] = 3;
         for (int q = 0; q < n; q++)
@@ -179,7 +183,8 @@ static void marks(bellbadger_judge j) {
     static uint8_t marked[BYTES];
     double ratios[ROUNDS];
     size_t length = 0;
-    for (size_t i = 0; i < BYTES; i++) marked[i] = rand() >> 7 & 15 ? text[length++] : 255;
+    made(marked, 16, 3);
+    for (size_t i = 0; i < BYTES; i++) marked[i] = marked[i] ? text[length++] : 255;
     for (int round = 0; round < ROUNDS; round++) {
         double a = now();
         sink += bellbadger_deliver(j, 1, 0, text, length).accepted;

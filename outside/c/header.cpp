@@ -36,6 +36,10 @@ static bool right() {
     bellbadger_profile_build_result built = bellbadger_profile_build(read.rule);
     bellbadger_profile_run_result ran = bellbadger_profile_run(built.profile, text, sizeof text);
     bellbadger_mapping twice = bellbadger_compose(ran.mapping, ran.mapping);
+    uint8_t made[4];
+    bellbadger_made_result made_result = bellbadger_make_text(16, 1, made, sizeof made);
+    bellbadger_form_result formed = bellbadger_form(loaded.judge);
+    bellbadger_table_result table = bellbadger_form_back(formed.form);
     return bellbadger_version() == BELLBADGER_VERSION && bellbadger_state_size() == sizeof(bellbadger_judge)
         && read.accepted && read.rule.n == 3 && read.rule.targets[17] == 4 && installed.accepted && installed.sets == 5
         && loaded.accepted && loaded.sets == 5 && opened.accepted && delivered.accepted && delivered.looked == 2
@@ -49,7 +53,9 @@ static bool right() {
         && bellbadger_tray_size() == sizeof(bellbadger_tray) && row.accepted && row.sets == 5 && column.accepted && tray.accepted
         && band.accepted && band.tray.board.rows[0] == 1 && !no_band.accepted && no_band.refused == 23
         && of_tray.kind == BELLBADGER_NO && of_tray.number == 0
-        && replayed.kind == BELLBADGER_MALFORMED && replayed.number == 2;
+        && replayed.kind == BELLBADGER_MALFORMED && replayed.number == 2 && made_result.accepted && made[0] == 1 && made[2] == 9
+        && formed.accepted && formed.form.sets == 5 && formed.form.failure[4] == 3 && formed.form.cells[3] == BELLBADGER_EMPTY_SET
+        && table.accepted && table.table.next[16] == 1;
 }
 
 int main() {

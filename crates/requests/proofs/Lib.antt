@@ -4,5 +4,7 @@ pub mod Mappings
 pub mod Samples
 pub mod Patterns
 pub mod Merging
+pub mod MadeTexts
+pub mod Forms
 pub mod TrayFunctions
 pub mod Trays

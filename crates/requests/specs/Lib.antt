@@ -3,4 +3,6 @@ pub mod MappingFunctions
 pub mod SampleFunctions
 pub mod PatternFunction
 pub mod MergeFunction
+pub mod TextFunction
+pub mod FormFunctions
 pub mod TrayFunctions

@@ -34,7 +34,7 @@ fn put_field(out: &mut [u8], at: usize, q: StateNumber) -> usize
 }
 
 // A cell of the next-set table.
-fn put_cell(out: &mut [u8], at: usize, to: SetNumber) -> usize
+pub fn put_cell(out: &mut [u8], at: usize, to: SetNumber) -> usize
     requires { ⌜ at + 4 ≤ length (now out) ⌝ }
     ensures { λ r. ⌜ Wrote (now (out .entry)) at (cellText (to .0)) (now (out .exit)) r ⌝ }
 {

@@ -31,6 +31,8 @@
 //! and to install into any number of judges. The first text that a rule accepts, or the first that it
 //! rejects, is its sample ([`samples::sample`]). A shop owner writes a pattern, from which
 //! [`patterns::rule_file`] makes the file. Two rules can be made one ([`merge::merge`]).
+//! [`texts::make_text`] makes test texts. For a smaller table on a nozzle board there is the failure form
+//! ([`form::form`]).
 //!
 //! For small rules there is a mapping machine ([`mappings`]): chunks are run on whatever machines, and what
 //! comes of them, eight bytes each, is put together afterwards.
@@ -48,6 +50,7 @@
 //!
 //! No call keeps anything outside its judge. A judge goes by value within the library: for a thread
 //! that calls it a stack of 512 KB is enough, 128 KB is not (Rust's own threads have 2 MB).
+pub mod form;
 pub mod mappings;
 pub mod merge;
 pub mod patterns;
@@ -55,6 +58,7 @@ mod raw;
 mod refused;
 mod rule;
 pub mod samples;
+pub mod texts;
 pub mod trays;
 
 pub use refused::{Refused, ReplayError};

@@ -1,0 +1,70 @@
+// The failure form of a judge's table, and the way back, for C and Rust. The answers are numbers.
+ghost use mathlib.Core.Path.{_≡_};
+ghost use Rattle.forms.specs.Back.{backOf};
+ghost use Rattle.formmaker.specs.Making.{madeOf};
+ghost use Rattle.c_form.specs.Numbers.{formShown, tableShown};
+use calls::Judge;
+use forms::BackAnswer;
+use forms::Form;
+use forms::FormAnswer;
+use forms::Table;
+
+// Accepted is 1 or 0; where it is 0, refused has the number, and every number of the form is 0.
+#[repr(C)]
+pub struct FormNumbers {
+    pub accepted: u8,
+    pub refused: u8,
+    pub form: Form,
+}
+
+// The same with a table.
+#[repr(C)]
+pub struct TableNumbers {
+    pub accepted: u8,
+    pub refused: u8,
+    pub table: Table,
+}
+
+// The failure form of the judge's next-set table; 20 without a rule.
+#[no_mangle]
+pub extern "C" fn bellbadger_form(judge: Judge) -> FormNumbers
+    ensures { λ r. ⌜ r ≡ formShown (madeOf judge) ⌝ }
+{
+    let made = formmaker::make_form(judge);
+    let answer = made.answer;
+    let form = made.form;
+    match answer {
+        FormAnswer::Made => FormNumbers {
+            accepted: 1,
+            refused: 0,
+            form,
+        },
+        FormAnswer::Refused(refused) => FormNumbers {
+            accepted: 0,
+            refused,
+            form,
+        },
+    }
+}
+
+// The table of a form, whatever numbers stand in it; 40 where it is none.
+#[no_mangle]
+pub extern "C" fn bellbadger_form_back(form: Form) -> TableNumbers
+    ensures { λ r. ⌜ r ≡ tableShown (backOf form) ⌝ }
+{
+    let back = formback::table_of(form);
+    let answer = back.answer;
+    let table = back.table;
+    match answer {
+        BackAnswer::Accepted => TableNumbers {
+            accepted: 1,
+            refused: 0,
+            table,
+        },
+        BackAnswer::Refused(refused) => TableNumbers {
+            accepted: 0,
+            refused,
+            table,
+        },
+    }
+}

@@ -1,0 +1,61 @@
+-- The lines of `formtable`: `SETS SYMBOLS FAILURE MASKS CELLS`, with exactly one space between the
+-- fields. SETS is below 65,536 and SYMBOLS below 256; the others are 16-bit numbers, at most 512, 512
+-- and 8,192 of them, zeros after them. Any other line is malformed, an empty one too.
+--
+--   parseBelow limit w   the number that the field w says, if it is below the limit
+--   fieldThen o rest next   a field that says o, a space, and what next makes of what follows it;
+--                           none where the field says nothing or no space follows it
+--   lineIn w             the form that the line w says, if it is no malformed one
+--   longestLine          no line that says a form is longer (specs/Claims.antt)
+--   lineMeans r          what the code's result says
+use mathlib.Core.Bool.{cond}
+use mathlib.Core.List.{List}
+use mathlib.Core.Option.{Option, none, some}
+use Prim.Native.Nat.{ℕ, _+_, _*_}
+use lib.Dec.{ltb}
+use Rattle.limits.specs.Limits.{mostSets, tableCells, mostDigits}
+use Rattle.lines.specs.Splitting.{upTo, past}
+use Rattle.fields.specs.Numbers.{parseNumber}
+use Rattle.wordfields.specs.Words.{parseWords}
+use Rattle.forms.specs.declared.Form.{Form}
+use Rattle.formline.specs.declared.FormLine.{FormLine}
+
+abbrev pub belowBy : ℕ → Option ℕ → Option ℕ
+belowBy limit none = none
+belowBy limit (some n) = cond (ltb n limit) (some n) none
+
+abbrev pub parseBelow : ℕ → List ℕ → Option ℕ
+parseBelow limit w = belowBy limit (parseNumber w)
+
+abbrev pub fieldThen : {A : Type 0} → Option A → Option (List ℕ) → (A → List ℕ → Option Form) → Option Form
+fieldThen none rest next = none
+fieldThen (some a) none next = none
+fieldThen (some a) (some w) next = next a w
+
+-- the last field, then from each field on, from the last to the first; 32 is a space
+abbrev pub cellsBy : ℕ → ℕ → List ℕ → List ℕ → Option (List ℕ) → Option Form
+cellsBy n k failure kept none = none
+cellsBy n k failure kept (some cells) =
+    some (record { sets = n; symbols = k; failure = failure; kept = kept; cells = cells })
+
+abbrev pub cellsIn : ℕ → ℕ → List ℕ → List ℕ → List ℕ → Option Form
+cellsIn n k failure kept w = cellsBy n k failure kept (parseWords tableCells w)
+
+unfoldable pub masksIn : ℕ → ℕ → List ℕ → List ℕ → Option Form
+masksIn n k failure w = fieldThen (parseWords mostSets (upTo 32 w)) (past 32 w) (cellsIn n k failure)
+
+unfoldable pub failureIn : ℕ → ℕ → List ℕ → Option Form
+failureIn n k w = fieldThen (parseWords mostSets (upTo 32 w)) (past 32 w) (masksIn n k)
+
+unfoldable pub symbolsIn : ℕ → List ℕ → Option Form
+symbolsIn n w = fieldThen (parseBelow 256 (upTo 32 w)) (past 32 w) (failureIn n)
+
+unfoldable pub lineIn : List ℕ → Option Form
+lineIn w = fieldThen (parseBelow 65536 (upTo 32 w)) (past 32 w) symbolsIn
+
+-- two numbers, four hex digits for each 16-bit number, and four spaces
+abbrev pub longestLine : ℕ
+longestLine = mostDigits + mostDigits + 4 * mostSets + 4 * mostSets + 4 * tableCells + 4
+
+abbrev pub lineMeans : FormLine → Option Form
+lineMeans r = cond (r .known) (some (r .form)) none

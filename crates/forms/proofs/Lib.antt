@@ -1,0 +1,10 @@
+pub mod Picking
+pub mod Filling
+pub mod Masks
+pub mod Failure
+pub mod Accepting
+pub mod PerSet
+pub mod Trip
+pub mod Reading
+pub mod Examples
+pub mod Claims

@@ -1,0 +1,4 @@
+pub mod Texts
+pub mod Feeding
+pub mod Rounds
+pub mod Claims

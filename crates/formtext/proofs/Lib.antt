@@ -1,0 +1,4 @@
+pub mod Lengths
+pub mod Counting
+pub mod Whole
+pub mod Claims

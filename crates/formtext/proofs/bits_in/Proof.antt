@@ -1,0 +1,63 @@
+-- `bits_in` meets its contract. The loop's invariant: the bits of the symbols passed are counted.
+-- Assumes nothing.
+use mathlib.Core.Path.{_≡_, refl, ap, _∙_}
+use mathlib.Core.Logic.{_⊎_, inl, inr, ⊎-elim}
+use Prim.Native.Nat.{ℕ, _-_, _≤_}
+use native.Mathlib.Omega.{arith}
+use Rattle.base.specs.Totals.{total}
+use Rattle.masks.specs.Masks.{has}
+use Rattle.forms.specs.Form.{howMany}
+use Rattle.forms.proofs.Picking.{count-on}
+use borrow.Author.Needs.{needs}
+use Rattle.formtext.proofs.bits_in.Statement.{statement}
+use Rattle.formtext.proofs.bits_in.Tie as tie
+
+abbrev Inv-loop : tie.InvT-loop
+Inv-loop mask n₀ s₀ n s = (s ≤ 16) × (n ≤ s) × (n ≡ howMany (has mask) s)
+
+abbrev μ-loop : tie.MeasureT-loop
+μ-loop mask n₀ s₀ n s = 16 - s
+
+loop-holds : tie.Need-loop-holds Inv-loop μ-loop
+unfolding total
+loop-holds c = (omega arith, omega arith, refl)
+
+has-symbol-requires : tie.Need-has-symbol-requires Inv-loop μ-loop
+has-symbol-requires c κs = search needs
+
+add-n : tie.Need-add-n Inv-loop μ-loop
+add-n c = search needs
+
+add-s : tie.Need-add-s Inv-loop μ-loop
+add-s c = search needs
+
+loop-less : tie.Need-loop-less Inv-loop μ-loop
+loop-less c = search needs
+
+loop-again : tie.Need-loop-again Inv-loop μ-loop
+loop-again c =
+    let l = c .before .before .before .loop in
+    let e = c .before .has-symbol in
+    let r = count-on (has (c .before .before .before .before .args .mask)) (l .s) (l .n) (c .if1 .n) (e .result) (e .ensures) (l .inv .1) (l .inv .2)
+    (⊎-elim (λ x. inl (x .0 .taken, x .1)) (λ x. inr (x .0 .left, x .1)) (c .if1 .came)) in
+    (omega arith, r .0, r .1)
+
+returns : tie.Need-returns Inv-loop μ-loop
+returns c =
+    let l = c .before .loop in
+    let q : l .s ≡ 16 = omega arith in
+    (omega arith, l .inv .2 ∙ ap (howMany (has (c .before .before .args .mask))) q)
+
+pub bits-in-spec : {M : Type 1} → statement M
+bits-in-spec =
+    tie.close
+    (tie.spec
+    Inv-loop
+    μ-loop
+    loop-holds
+    has-symbol-requires
+    add-n
+    add-s
+    loop-less
+    loop-again
+    returns)

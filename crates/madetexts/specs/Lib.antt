@@ -1,0 +1,4 @@
+-- In the order in which to read them.
+pub mod Values
+pub mod Making
+pub mod Claims

@@ -1,0 +1,5 @@
+-- In the order in which they build on each other.
+pub mod Readings
+pub mod Writing
+pub mod Long
+pub mod Claims

@@ -1,0 +1,28 @@
+-- What is claimed of the lines of `maketext` and their answers; proofs/Claims.antt proves it.
+--
+--   lineOf k seed n   the line that makes such a text, without its line feed
+use mathlib.Core.Path.{_≡_}
+use mathlib.Core.List.{List, [], _∷_, _++_}
+use mathlib.Core.Option.{Option}
+use Prim.Native.Nat.{ℕ, _≤_, _<_}
+use lib.ListN.{length}
+use Rattle.limits.specs.Limits.{largestNumber, longestChunk}
+use Rattle.text.specs.Numerals.{decimal}
+use Rattle.shortlines.specs.Keeping.{cut}
+use Rattle.maketextlines.specs.Lines.{mostSymbolField, longestLine, makes, malformed, lineIn}
+use Rattle.maketextlines.specs.Answers.{mostAnswer, answerTo, answerHeld}
+
+abbrev pub lineOf : ℕ → ℕ → ℕ → List ℕ
+lineOf k seed n = decimal k ++ (32 ∷ (decimal seed ++ (32 ∷ decimal n)))
+
+pub record Claims : Type 0 where
+  -- every k of a byte, seed of 64 bits and length that is not too long have a line
+  pub line-round-trip : (k seed n : ℕ) → k ≤ mostSymbolField → seed ≤ largestNumber → n ≤ longestChunk
+      → lineIn (lineOf k seed n) ≡ makes k seed n
+  -- an empty line is malformed, and so is one that is longer than any in the grammar
+  pub empty : lineIn [] ≡ malformed
+  pub too-long : (w : List ℕ) → longestLine < length w → lineIn w ≡ malformed
+  -- so what is kept of a line decides its answer
+  pub decides : (w : List ℕ) → answerHeld (cut longestLine w) ≡ answerTo w
+  -- an answer has room
+  pub fits : (h : Option (List ℕ)) → length (answerHeld h) ≤ mostAnswer

@@ -1,0 +1,34 @@
+-- The one proof of all that specs/Claims.antt claims. Assumes nothing.
+use mathlib.Core.Path.{_≡_, refl, sym, ap, ap₂, _∙_}
+use mathlib.Core.List.{List, [], _∷_, _++_, append-assoc, flatten}
+use mathlib.Core.Option.{Option, some}
+use Prim.Native.Nat.{ℕ}
+use Rattle.lines.specs.Splitting.{linesOf}
+use Rattle.shortlines.specs.Feeding.{heldAfter, answersAfter, lastAnswer, answersTo}
+use Rattle.shortlines.proofs.Claims as shortlines
+use Rattle.maketextlines.specs.Answers.{answerTo, answerHeld}
+use Rattle.maketextlines.proofs.Claims as maketextlines
+use Rattle.maketextstream.specs.Claims.{Blocks, no-block, one-more, Claims}
+
+kept : {h h′ : Option (List ℕ)} {blocks : List (List ℕ)} {text : List ℕ} → Blocks h blocks h′ text → h′ ≡ heldAfter 62 h (flatten blocks)
+unfolding heldAfter flatten
+kept no-block = refl
+kept (one-more {h = h} {block = block} {blocks = blocks} b) =
+    kept b ∙ sym (shortlines.claims .held-parts 62 h block (flatten blocks))
+
+answered : {h h′ : Option (List ℕ)} {blocks : List (List ℕ)} {text : List ℕ} → Blocks h blocks h′ text
+    → text ≡ answersAfter answerHeld 62 h (flatten blocks)
+unfolding answersAfter flatten
+answered no-block = refl
+answered (one-more {h = h} {block = block} {blocks = blocks} b) =
+    ap (λ (t : List ℕ). answersAfter answerHeld 62 h block ++ t) (answered b)
+    ∙ sym (shortlines.claims .answers-parts answerHeld 62 h block (flatten blocks))
+
+written : {blocks : List (List ℕ)} {h : Option (List ℕ)} {text : List ℕ} → Blocks (some []) blocks h text
+    → text ++ lastAnswer answerHeld h ≡ answersTo answerTo (linesOf (flatten blocks))
+written {blocks = blocks} b =
+    ap₂ (λ (t : List ℕ) (h : Option (List ℕ)). t ++ lastAnswer answerHeld h) (answered b) (kept b)
+    ∙ shortlines.claims .whole answerHeld answerTo 62 (maketextlines.claims .decides) (flatten blocks)
+
+pub claims : Claims
+claims = record { written = written }

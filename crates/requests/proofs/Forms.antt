@@ -1,0 +1,232 @@
+-- R-14, COMPACT TABLES, sentence by sentence: the part of the request about the failure form. Under each
+-- stands the theorem that meets it; its proof only cites the file that has it. To believe them, read the
+-- definitions that they name:
+--
+--   Form, Table                   the form and the table as values         forms/src/lib.rt
+--   cell, equalCells              a cell; in how many symbols two sets agree   forms/specs/Form
+--   failureOf, keptMask, formOf   the failure set, the mask, the form      forms/specs/Form
+--   rank, keptCount               where a kept cell stands; how many       forms/specs/Back
+--   backNumber, tableOf, backOf   what the way back answers                forms/specs/Back
+--   IsTable, Wrong, Alike         a table; the five reasons; what is read  forms/specs/Claims
+--   madeOf j, noForm              the form of a judge's table; zeros       formmaker/specs/Making
+--   ruleThere h, judgeAfter h     after a list of calls                    histories/specs/History, Claims
+--   tableIn j                     the judge's table with its numbers       formtrip/specs/Claims
+--   builtOf r, has, _∈_           the built rule; a bit of a mask          build/specs/Building, masks/specs/Masks
+--   MayForm .. MayTableC          what the functions' contracts allow      requests/specs/FormFunctions
+--   formShown, tableShown         C's numbers                              c_form/specs/Numbers
+--   formFor f, textFor f          of a rule file, and as `ruleform` prints it   formfile/specs/Files, formtext/specs/FormText
+--   lineIn w, backText b          a line of `formtable`, and the answer    formline/specs/Lines, tabletext/specs/Answers
+--   answersAfter, answersTo       the answers to a part, and to lines      formstream/specs/Texts
+--
+-- l is any list of cells, f and g any value of the form, in which any numbers may stand. A list of calls
+-- has the last call first. A proved function ends and stays within its bounds. Assumes nothing.
+use mathlib.Core.Path.{_≡_, ap, _∙_}
+use mathlib.Core.Logic.{_↔_}
+use mathlib.Core.Bool.{cond}
+use mathlib.Core.List.{List, [], _∷_, _++_}
+use mathlib.Core.Option.{none, some}
+use Prim.Native.Nat.{ℕ, _≤_, _<_}
+use lib.ListN.{length, getD}
+use Rattle.limits.specs.Limits.{mostSymbols, mostSets}
+use Rattle.masks.specs.Masks.{_∈_, has}
+use Rattle.automaton.specs.declared.Rule.{Rule}
+use Rattle.ruleformat.specs.Reader.{ruleOf}
+use Rattle.build.specs.Building.{builtOf}
+use Rattle.calls.specs.declared.Judge.{Judge}
+use Rattle.calls.specs.Calls.{Call, installs, installNumber, loadNumber}
+use Rattle.histories.specs.History.{ruleThere}
+use Rattle.histories.specs.Claims.{judgeAfter}
+use Rattle.forms.specs.declared.Form.{Form}
+use Rattle.forms.specs.declared.FormResult.{FormResult}
+use Rattle.forms.specs.declared.BackResult.{BackResult}
+use Rattle.forms.specs.Form.{cell, equalCells, failureOf, keptMask, formOf}
+use Rattle.forms.specs.Back.{rank, keptCount, backNumber, tableOf, backOutcome, backOf}
+use Rattle.forms.specs.Claims.{IsTable, Wrong, Alike}
+use Rattle.forms.proofs.Claims as forms
+use Rattle.formmaker.specs.Making.{noForm, madeOutcome, madeOf}
+use Rattle.formtrip.specs.Claims.{tableIn}
+use Rattle.formtrip.proofs.Claims as formtrip
+use Rattle.formfile.specs.Files.{formFor}
+use Rattle.formfile.proofs.Claims as formfile
+use Rattle.formtext.specs.FormText.{firstCell}
+use Rattle.formtext.proofs.Claims as formtext
+use Rattle.answers.specs.Answers.{malformedText}
+use Rattle.lines.specs.Splitting.{linesOf}
+use Rattle.formline.specs.Lines.{lineIn, longestLine}
+use Rattle.formline.proofs.Claims as formline
+use Rattle.tabletext.specs.Answers.{backText, answerText}
+use Rattle.formstream.specs.Texts.{answerTo, answersTo, lineAfter, answersAfter, lastAnswer}
+use Rattle.formstream.proofs.Claims as formstream
+use Rattle.c_form.specs.declared.FormNumbers.{FormNumbers}
+use Rattle.c_form.specs.declared.TableNumbers.{TableNumbers}
+use Rattle.c_form.specs.Numbers.{formShown, formReadBack, tableShown, tableReadBack}
+use Rattle.c_form.proofs.ReadBack as c-form
+use Rattle.c_form.proofs.Asks as c-asks
+use Rattle.requests.specs.FormFunctions.{AsksForm, MayForm, AsksTable, MayTable, AsksFormC, MayFormC, AsksTableC, MayTableC}
+
+-- ---- THE FORM
+-- "Convert the judge's next-set table (20 without a rule) to a failure form". After any list of calls
+-- 20 exactly where no rule is there, and then zeros; else the form of the judge's own table, which has 1
+-- to 512 sets and 1 to 16 symbols, and of which nothing is cut:
+pub without-a-rule : (h : List Call) → (madeOf (judgeAfter h) .number ≡ some 20) ↔ (ruleThere h ≡ none)
+without-a-rule = formtrip.claims .no-rule
+
+pub zeros-without : (h : List Call) → ruleThere h ≡ none → madeOf (judgeAfter h) .form ≡ noForm
+zeros-without = formtrip.claims .zeros
+
+pub of-the-judge : (h : List Call) (r : Rule) → ruleThere h ≡ some r
+    → madeOf (judgeAfter h) ≡ record { number = none; form = formOf (judgeAfter h .built .setcount) (judgeAfter h .built .k) (judgeAfter h .built .next) }
+of-the-judge = formtrip.claims .form
+
+pub a-table : (h : List Call) (r : Rule) → ruleThere h ≡ some r
+    → IsTable (judgeAfter h .built .setcount) (judgeAfter h .built .k) (judgeAfter h .built .next)
+a-table = formtrip.claims .a-table
+
+-- "set t > 0 gets as failure set the lower-numbered set with most equal cells, lowest on ties":
+pub lower-numbered : (k t : ℕ) (l : List ℕ) → 0 < t → failureOf l k t < t
+lower-numbered = forms.claims .below
+
+pub most-equal : (k t u : ℕ) (l : List ℕ) → u < t → equalCells l k t u ≤ equalCells l k t (failureOf l k t)
+most-equal = forms.claims .most
+
+pub lowest-on-ties : (k t u : ℕ) (l : List ℕ) → u < failureOf l k t → equalCells l k t u < equalCells l k t (failureOf l k t)
+lowest-on-ties = forms.claims .lowest
+
+-- "equal cells, empty ones too, are left out and looked up there. Set 0 keeps all" .. "a 16-bit mask of
+-- kept cells (bit s for symbol s)". Exactly the cells that are not equal are kept, an empty one being a
+-- cell like another, and no mask has a bit for no symbol:
+pub left-out : (k t s : ℕ) (l : List ℕ) → 0 < t → s < k → (s ∈ keptMask l k t) ↔ (cell l t s ≡ cell l (failureOf l k t) s → ⊥)
+left-out = forms.claims .kept
+
+pub set-0-keeps-all : (k s : ℕ) (l : List ℕ) → s < k → s ∈ keptMask l k 0
+set-0-keeps-all = forms.claims .first-keeps
+
+pub bits-for-symbols : (k t s : ℕ) (l : List ℕ) → s ∈ keptMask l k t → s < k
+bits-for-symbols = forms.claims .only-symbols
+
+-- "then the kept cells as 16-bit numbers packed by set and symbol, 512 for an empty one; the rest is 0".
+-- The kept cell of a set and a symbol stands behind as many as are kept before it; zeros follow the last:
+pub packed : (n k t s : ℕ) (l : List ℕ) → n ≤ mostSets → k ≤ mostSymbols → t < n → s < k → s ∈ keptMask l k t
+    → getD (formOf n k l .cells) (rank (formOf n k l) t s) 0 ≡ cell l t s
+packed = forms.claims .packed
+
+pub rest-is-0 : (n k i : ℕ) (l : List ℕ) → keptCount (formOf n k l) ≤ i → getD (formOf n k l .cells) i 0 ≡ 0
+rest-is-0 = forms.claims .zeros
+
+-- ---- THE WAY BACK
+-- "The back conversion gives the same table." Of every table; of the judge's after any list of calls; and
+-- of every rule that can be installed: the cells and both numbers.
+pub same-table : (n k : ℕ) (l : List ℕ) → IsTable n k l
+    → backOf (formOf n k l) ≡ record { number = none; table = record { sets = n; symbols = k; next = l } }
+same-table = forms.claims .round-trip
+
+pub after-any-calls : (h : List Call) (r : Rule) → ruleThere h ≡ some r
+    → backOf (madeOf (judgeAfter h) .form) ≡ record { number = none; table = tableIn (judgeAfter h) }
+after-any-calls = formtrip.claims .round-trip
+
+pub of-every-rule : (h : List Call) (r : Rule) → installNumber r ≡ none
+    → backOf (madeOf (judgeAfter (installs r ∷ h)) .form)
+    ≡ record { number = none; table = record { sets = builtOf r .setcount; symbols = builtOf r .k; next = builtOf r .next } }
+of-every-rule = formtrip.claims .installed
+
+-- "The back conversion refuses with 40 a set above 0 whose failure set is not below it, a cell left out
+-- of set 0, a mask bit for no symbol, a cell naming a set the table lacks, or a table without 1 to 512
+-- sets and 1 to 16 symbols". Exactly then (`Wrong` has these five), and with no other number:
+pub refused-40 : (f : Form) → (backNumber f ≡ some 40) ↔ Wrong f
+refused-40 = forms.claims .refused-exactly
+
+pub no-other-number : (f : Form) (x : ℕ) → backNumber f ≡ some x → x ≡ 40
+no-other-number = forms.claims .no-other
+
+-- Any other form, made by whomever, is accepted: it gives a table, in which each cell is the kept one or
+-- that of the failure set.
+pub gives-a-table : (f : Form) → backNumber f ≡ none → IsTable (f .sets) (f .symbols) (tableOf f .next)
+gives-a-table = forms.claims .a-table
+
+pub looked-up : (f : Form) → backNumber f ≡ none → (t s : ℕ) → t < f .sets → s < f .symbols
+    → cell (tableOf f .next) t s
+    ≡ cond (has (getD (f .kept) t 0) s) (getD (f .cells) (rank f t s) 0) (cell (tableOf f .next) (getD (f .failure) t 0) s)
+looked-up = forms.claims .looked-up
+
+-- "its failure set is 0 and isn't read", "the rest is 0 and isn't read". Forms that have the same in all
+-- that is read have the same answer: the number, and the table too.
+pub not-read : (f g : Form) → Alike f g → backOf f ≡ backOf g
+not-read = forms.claims .not-read
+
+-- ---- THE FUNCTIONS
+-- Both ask nothing, and may return those answers and no others:
+pub asks-nothing : (j : Judge) (f : Form) → AsksForm j × AsksTable f
+asks-nothing j f = (tt, tt)
+
+pub allowed : (j : Judge) (r : FormResult) → MayForm j r ↔ (madeOutcome r ≡ madeOf j)
+allowed j r = ((λ m. m .1), λ e. ((j, tt), e))
+
+pub allowed-back : (f : Form) (r : BackResult) → MayTable f r ↔ (backOutcome r ≡ backOf f)
+allowed-back f r = ((λ m. m .1), λ e. ((f, tt), e))
+
+-- and so may the functions that C links, in numbers of which nothing is lost:
+pub asks-nothing-from-C : (j : Judge) (f : Form) → AsksFormC j × AsksTableC f
+asks-nothing-from-C j f = (c-asks.form-asks-nothing j, c-asks.back-asks-nothing f)
+
+pub from-C : (j : Judge) (r : FormNumbers) → MayFormC j r ↔ (r ≡ formShown (madeOf j))
+from-C j r = ((λ m. m .1), λ e. ((j, tt), e))
+
+pub back-from-C : (f : Form) (r : TableNumbers) → MayTableC f r ↔ (r ≡ tableShown (backOf f))
+back-from-C f r = ((λ m. m .1), λ e. ((f, tt), e))
+
+pub read-back : (j : Judge) (r : FormNumbers) → MayFormC j r → formReadBack r ≡ madeOf j
+read-back j r m = ap formReadBack (from-C j r .0 m) ∙ c-form.claims .form-read-back j
+
+pub table-read-back : (f : Form) (r : TableNumbers) → MayTableC f r → tableReadBack r ≡ backOf f
+table-read-back f r m = ap tableReadBack (back-from-C f r .0 m) ∙ c-form.claims .table-read-back f
+
+-- Who makes the form of a judge's table through them, and the table of this form, gets the judge's table:
+pub there-and-back : (h : List Call) (r : Rule) → ruleThere h ≡ some r
+    → (m : FormNumbers) → MayFormC (judgeAfter h) m → (b : TableNumbers) → MayTableC (m .form) b
+    → b ≡ record { accepted = 1; refused = 0; table = tableIn (judgeAfter h) }
+there-and-back h r there m made b back =
+    back-from-C (m .form) b .0 back
+    ∙ ap (λ (n : FormNumbers). tableShown (backOf (n .form))) (from-C (judgeAfter h) m .0 made)
+    ∙ ap tableShown (after-any-calls h r there)
+
+-- ---- FROM A FILE AND FROM LINES, BY THE PROGRAMS
+-- `ruleform` refuses a rule file as the load does, and else prints the form of the rule's table, from
+-- which this table can be made again; the kept cells of a line are the set's.
+pub file-refused : (f : List ℕ) → formFor f .number ≡ loadNumber f
+file-refused = formfile.claims .as-load
+
+pub file-form : (f : List ℕ) → loadNumber f ≡ none
+    → formFor f .form ≡ formOf (builtOf (ruleOf f) .setcount) (builtOf (ruleOf f) .k) (builtOf (ruleOf f) .next)
+file-form = formfile.claims .form
+
+pub file-back : (f : List ℕ) → loadNumber f ≡ none
+    → backOf (formFor f .form)
+    ≡ record { number = none; table = record { sets = builtOf (ruleOf f) .setcount; symbols = builtOf (ruleOf f) .k; next = builtOf (ruleOf f) .next } }
+file-back = formfile.claims .round-trip
+
+pub line-cells : (f : Form) (t : ℕ) → firstCell (f .kept) t ≡ rank f t 0
+line-cells = formtext.claims .first-is
+
+pub all-cells : (f : Form) → firstCell (f .kept) (f .sets) ≡ keptCount f
+all-cells = formtext.claims .count-is
+
+-- `formtable` answers lines, each of which says a form or nothing: with the table of the form, `refused`
+-- and the number, or `malformed`. No line that says a form is longer than the program keeps of a line.
+pub line-answer : (w : List ℕ) (f : Form) → lineIn w ≡ some f → answerTo w ≡ backText (backOf f)
+line-answer w f e = ap answerText e
+
+pub malformed-line : (w : List ℕ) → lineIn w ≡ none → answerTo w ≡ malformedText
+malformed-line w e = ap answerText e
+
+pub longest : (w : List ℕ) (f : Form) → lineIn w ≡ some f → length w ≤ longestLine
+longest = formline.claims .bounded
+
+-- A text of lines, cut into parts anywhere: what is answered part by part, and at the end, are the
+-- answers to its lines.
+pub lines : (w : List ℕ) → answersAfter [] w ++ lastAnswer (lineAfter [] w) ≡ answersTo (linesOf w)
+lines = formstream.claims .whole
+
+pub in-parts : (v w u : List ℕ)
+    → (lineAfter v (w ++ u) ≡ lineAfter (lineAfter v w) u)
+    × (answersAfter v (w ++ u) ≡ answersAfter v w ++ answersAfter (lineAfter v w) u)
+in-parts v w u = (formstream.claims .lines-parts v w u, formstream.claims .answers-parts v w u)

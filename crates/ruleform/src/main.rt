@@ -1,0 +1,17 @@
+// Reads a rule file from standard input and prints the failure form of its rule, or the number with
+// which it is refused. Where it cannot read or write it says so on standard error.
+use stdio::Input;
+
+fn main() {
+    if stdio::has_arguments(b"usage: ruleform < RULE   (takes no arguments; see README.md)\n") {
+        return;
+    }
+    let mut file = [0u8; limits::FILE_ROOM];
+    let read = ruleinput::read_rule(b"ruleform", &mut file);
+    let Input::Bytes(n) = read else {
+        return;
+    };
+    let mut text = [0u8; formtext::ROOM];
+    let length = formtext::print_form(&file[..n], &mut text);
+    stdio::write_all(b"ruleform", &text[..length]);
+}

@@ -1,0 +1,114 @@
+"""The failure form of a rule's next-set table: a smaller table for a nozzle board.
+
+    >>> from bellbadger import Judge
+    >>> judge = Judge()
+    >>> judge.load(bytes.fromhex("03020100000004000000160006001C0002001E0000000000000101000102"))
+    Loaded(sets=5, starts=3)
+    >>> made = form(judge)
+    >>> made
+    Form(symbols=2, failure=(0, 0, 0, 0, 3), kept=(3, 2, 0, 3, 2), cells=(1, 0, 2, None, 4, None))
+    >>> table(made)
+    ((1, 0), (1, 2), (1, 0), (None, 4), (None, None))
+    >>> table(Form(2, (0, 1), (3, 0), (0, 0)))
+    Traceback (most recent call last):
+    ...
+    bellbadger.Refused: refused 40: the form is of no table
+"""
+
+import ctypes
+from dataclasses import dataclass
+
+from bellbadger import Refused, _declare, _fits, _lib, _members, _State
+
+__all__ = ["Form", "form", "table"]
+
+_SETS, _CELLS, _EMPTY = 512, 8192, 512
+
+
+class _Form(ctypes.Structure):
+    _fields_ = [
+        ("sets", ctypes.c_uint16),
+        ("symbols", ctypes.c_uint8),
+        ("failure", ctypes.c_uint16 * _SETS),
+        ("kept", ctypes.c_uint16 * _SETS),
+        ("cells", ctypes.c_uint16 * _CELLS),
+    ]
+
+
+class _Table(ctypes.Structure):
+    _fields_ = [("sets", ctypes.c_uint16), ("symbols", ctypes.c_uint8), ("next", ctypes.c_uint16 * _CELLS)]
+
+
+class _FormResult(ctypes.Structure):
+    _fields_ = [("accepted", ctypes.c_uint8), ("refused", ctypes.c_uint8), ("form", _Form)]
+
+
+class _TableResult(ctypes.Structure):
+    _fields_ = [("accepted", ctypes.c_uint8), ("refused", ctypes.c_uint8), ("table", _Table)]
+
+
+_declare(_lib, "form", _FormResult, _State)
+_declare(_lib, "form_back", _TableResult, _Form)
+
+
+@dataclass(frozen=True)
+class Form:
+    """A next-set table in which a cell that is equal to that of the failure set is left out.
+
+    For each set its failure set and the mask of its kept cells, bit s for symbol s; then the kept cells,
+    packed by set and symbol: a set, or None for the empty one. One that is made by hand may have any
+    numbers that fit 16 bits, and 8 for the symbols; there is a failure set and a mask for each set.
+    """
+
+    symbols: int
+    failure: tuple
+    kept: tuple
+    cells: tuple
+
+    def __post_init__(self):
+        for name in ("failure", "kept", "cells"):
+            object.__setattr__(self, name, tuple(getattr(self, name)))
+        _fits(self.symbols, 8)
+        for number in (*self.failure, *self.kept, *(cell for cell in self.cells if cell is not None)):
+            _fits(number, 16)
+        if len(self.failure) != len(self.kept):
+            raise ValueError("a set has a failure set and a mask")
+        if len(self.kept) > _SETS or len(self.cells) > _CELLS:
+            raise ValueError("a form has at most 512 sets and 8,192 cells")
+        if len(self.cells) < sum(map(_members, self.kept)):
+            raise ValueError("a kept cell is not there")
+
+
+def form(judge):
+    """The failure form of a judge's table. Refused with 20 where it has no rule.
+
+    The failure set of a set above 0 is, of the lower-numbered sets, the one with most equal cells, empty
+    ones too, and of several the lowest; exactly the equal cells are left out. Set 0 keeps all.
+    """
+    result = _lib.bellbadger_form(judge._state)
+    if not result.accepted:
+        raise Refused(result.refused)
+    made = result.form
+    kept = made.kept[: made.sets]
+    cells = made.cells[: sum(map(_members, kept))]
+    return Form(made.symbols, made.failure[: made.sets], kept, (None if cell == _EMPTY else cell for cell in cells))
+
+
+def table(form):
+    """The table of a form: for each set a tuple of its cells, a set or None for the empty one.
+
+    Refused with 40: there are not 1 to 512 sets and 1 to 16 symbols, a set above 0 has a failure set that
+    is not below it, a cell of set 0 is left out, a mask has a bit for no symbol, or a kept cell names a set
+    that there is not.
+    """
+    if not isinstance(form, Form):
+        raise TypeError("a Form is expected")
+    value = _Form(len(form.kept), form.symbols)
+    value.failure[: len(form.failure)] = form.failure
+    value.kept[: len(form.kept)] = form.kept
+    value.cells[: len(form.cells)] = [_EMPTY if cell is None else cell for cell in form.cells]
+    result = _lib.bellbadger_form_back(value)
+    if not result.accepted:
+        raise Refused(result.refused)
+    rows = (result.table.next[16 * t : 16 * t + form.symbols] for t in range(result.table.sets))
+    return tuple(tuple(None if cell == _EMPTY else cell for cell in row) for row in rows)
