@@ -1,8 +1,8 @@
 // A text of lines of formtable that comes in blocks, cut anywhere, and its answers.
-ghost use Prim.Native.Nat.{_+_, _≤_};
+ghost use Prim.Native.Nat.{_+_, _≤_, _<_};
 ghost use lib.ListN.{length, take};
 ghost use Rattle.text.specs.Writing.{Wrote};
-ghost use Rattle.formline.specs.Lines.{lineIn};
+ghost use Rattle.formline.specs.Lines.{lineIn, longestLine};
 ghost use Rattle.tabletext.specs.Answers.{answerText, mostAnswer};
 ghost use Rattle.formstream.specs.Feeding.{KeepsOn, Feeds, finishText};
 
@@ -43,6 +43,7 @@ fn put_line(line: &[u8], kept: usize, out: &mut [u8], at: usize) -> usize
 // A block from an index on, as far as there is room for the answers to the lines that end in it,
 // which stand one behind the other at the start of `out`. `line` keeps the beginning of a line.
 pub fn feed(kept: usize, line: &mut [u8], out: &mut [u8], block: &[u8], from: usize) -> Fed
+    requires { ⌜ longestLine < length (now line) ⌝ }
     ensures { λ r. ⌜ Feeds (now (line .entry)) (now (out .entry)) (now (block .entry)) from kept (now (line .exit)) (now (out .exit)) r ⌝ }
 {
     let mut kept = kept;
@@ -67,7 +68,7 @@ pub fn feed(kept: usize, line: &mut [u8], out: &mut [u8], block: &[u8], from: us
 
 // The end of the text: a last line that is not empty is answered.
 pub fn finish(kept: usize, line: &[u8], out: &mut [u8]) -> usize
-    requires { ⌜ mostAnswer ≤ length (now out) ⌝ }
+    requires { ⌜ (longestLine < length (now line)) × (mostAnswer ≤ length (now out)) ⌝ }
     ensures { λ r. ⌜ Wrote (now (out .entry)) 0 (finishText kept (now (line .entry))) (now (out .exit)) r ⌝ }
 {
     if kept == 0 {

@@ -7,10 +7,11 @@
 ghost use mathlib.Core.Path.{_≡_};
 ghost use mathlib.Core.Bool.{false};
 ghost use mathlib.Core.List.{List};
-ghost use Prim.Native.Nat.{ℕ, _≤_};
+ghost use Prim.Native.Nat.{ℕ, _≤_, _<_};
 ghost use lib.ListN.{length};
 ghost use Rattle.stdio.specs.Blocks.{Within};
 ghost use Rattle.hexfields.specs.Reading.{Kept};
+ghost use Rattle.formline.specs.Lines.{longestLine};
 ghost use Rattle.tabletext.specs.Answers.{mostAnswer};
 ghost use Rattle.formstream.specs.Texts.{lineAfter};
 use stdio::Block;
@@ -39,7 +40,7 @@ fn write_answers(answers: &[u8]) -> bool {
 
 // The lines of a block. `line` keeps the beginning of a line that goes on.
 fn run_block(kept: usize, line: &mut [u8], out: &mut [u8], block: &[u8]) -> Reading
-    requires { ⌜ mostAnswer ≤ length (now out) ⌝ }
+    requires { ⌜ (longestLine < length (now line)) × (mostAnswer ≤ length (now out)) ⌝ }
     ensures { λ r. ⌜ ((v : List ℕ) → Kept v kept (now (line .entry)) → r .failed ≡ false → Kept (lineAfter v (now (block .entry))) (r .kept) (now (line .exit))) ⌝ }
 {
     let mut kept = kept;
@@ -60,7 +61,7 @@ fn run_block(kept: usize, line: &mut [u8], out: &mut [u8], block: &[u8]) -> Read
 
 // All blocks, up to the end of the input.
 fn run_blocks(line: &mut [u8], out: &mut [u8], block: &mut [u8]) -> Reading
-    requires { ⌜ mostAnswer ≤ length (now out) ⌝ }
+    requires { ⌜ (longestLine < length (now line)) × (mostAnswer ≤ length (now out)) ⌝ }
 {
     let mut kept: usize = 0;
     let mut turns = stdio::most_turns();
@@ -90,7 +91,7 @@ fn run_blocks(line: &mut [u8], out: &mut [u8], block: &mut [u8]) -> Reading
 }
 
 fn run(line: &mut [u8], out: &mut [u8], block: &mut [u8])
-    requires { ⌜ mostAnswer ≤ length (now out) ⌝ }
+    requires { ⌜ (longestLine < length (now line)) × (mostAnswer ≤ length (now out)) ⌝ }
 {
     let reading = run_blocks(line, out, block);
     if reading.failed {

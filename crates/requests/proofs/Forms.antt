@@ -7,6 +7,7 @@
 --   failureOf, keptMask, formOf   the failure set, the mask, the form      forms/specs/Form
 --   rank, keptCount               where a kept cell stands; how many       forms/specs/Back
 --   backNumber, tableOf, backOf   what the way back answers                forms/specs/Back
+--   noTable                       zeros                                    forms/specs/Back
 --   IsTable, Wrong, Alike         a table; the five reasons; what is read  forms/specs/Claims
 --   madeOf j, noForm              the form of a judge's table; zeros       formmaker/specs/Making
 --   ruleThere h, judgeAfter h     after a list of calls                    histories/specs/History, Claims
@@ -40,7 +41,7 @@ use Rattle.forms.specs.declared.Form.{Form}
 use Rattle.forms.specs.declared.FormResult.{FormResult}
 use Rattle.forms.specs.declared.BackResult.{BackResult}
 use Rattle.forms.specs.Form.{cell, equalCells, failureOf, keptMask, formOf}
-use Rattle.forms.specs.Back.{rank, keptCount, backNumber, tableOf, backOutcome, backOf}
+use Rattle.forms.specs.Back.{rank, keptCount, backNumber, tableOf, noTable, backOutcome, backOf}
 use Rattle.forms.specs.Claims.{IsTable, Wrong, Alike}
 use Rattle.forms.proofs.Claims as forms
 use Rattle.formmaker.specs.Making.{noForm, madeOutcome, madeOf}
@@ -92,6 +93,10 @@ most-equal = forms.claims .most
 pub lowest-on-ties : (k t u : ℕ) (l : List ℕ) → u < failureOf l k t → equalCells l k t u < equalCells l k t (failureOf l k t)
 lowest-on-ties = forms.claims .lowest
 
+-- The form has this failure set for each set:
+pub failure-in-form : (n k t : ℕ) (l : List ℕ) → n ≤ mostSets → t < n → getD (formOf n k l .failure) t 0 ≡ failureOf l k t
+failure-in-form = forms.claims .failure-of
+
 -- "equal cells, empty ones too, are left out and looked up there. Set 0 keeps all" .. "a 16-bit mask of
 -- kept cells (bit s for symbol s)". Exactly the cells that are not equal are kept, an empty one being a
 -- cell like another, and no mask has a bit for no symbol:
@@ -104,6 +109,13 @@ set-0-keeps-all = forms.claims .first-keeps
 pub bits-for-symbols : (k t s : ℕ) (l : List ℕ) → s ∈ keptMask l k t → s < k
 bits-for-symbols = forms.claims .only-symbols
 
+pub mask-in-form : (n k t : ℕ) (l : List ℕ) → n ≤ mostSets → t < n → getD (formOf n k l .kept) t 0 ≡ keptMask l k t
+mask-in-form = forms.claims .mask-of
+
+-- "Set 0 keeps all; its failure set is 0":
+pub failure-of-set-0 : (k : ℕ) (l : List ℕ) → failureOf l k 0 ≡ 0
+failure-of-set-0 = forms.claims .first-failure
+
 -- "then the kept cells as 16-bit numbers packed by set and symbol, 512 for an empty one; the rest is 0".
 -- The kept cell of a set and a symbol stands behind as many as are kept before it; zeros follow the last:
 pub packed : (n k t s : ℕ) (l : List ℕ) → n ≤ mostSets → k ≤ mostSymbols → t < n → s < k → s ∈ keptMask l k t
@@ -112,6 +124,11 @@ packed = forms.claims .packed
 
 pub rest-is-0 : (n k i : ℕ) (l : List ℕ) → keptCount (formOf n k l) ≤ i → getD (formOf n k l .cells) i 0 ≡ 0
 rest-is-0 = forms.claims .zeros
+
+-- and what is no set has 0 as failure set and as mask:
+pub no-set-is-0 : (n k t : ℕ) (l : List ℕ) → n ≤ t
+    → (getD (formOf n k l .failure) t 0 ≡ 0) × (getD (formOf n k l .kept) t 0 ≡ 0)
+no-set-is-0 = forms.claims .no-set
 
 -- ---- THE WAY BACK
 -- "The back conversion gives the same table." Of every table; of the judge's after any list of calls; and
@@ -137,6 +154,10 @@ refused-40 = forms.claims .refused-exactly
 
 pub no-other-number : (f : Form) (x : ℕ) → backNumber f ≡ some x → x ≡ 40
 no-other-number = forms.claims .no-other
+
+-- A refusal carries zeros:
+pub zeros-refused : (f : Form) (x : ℕ) → backNumber f ≡ some x → backOf f .table ≡ noTable
+zeros-refused = forms.claims .zeros-refused
 
 -- Any other form, made by whomever, is accepted: it gives a table, in which each cell is the kept one or
 -- that of the failure set.
@@ -194,6 +215,10 @@ there-and-back h r there m made b back =
 -- which this table can be made again; the kept cells of a line are the set's.
 pub file-refused : (f : List ℕ) → formFor f .number ≡ loadNumber f
 file-refused = formfile.claims .as-load
+
+-- The form beside a refusal is zeros:
+pub file-zeros : (f : List ℕ) (x : ℕ) → loadNumber f ≡ some x → formFor f .form ≡ noForm
+file-zeros = formfile.claims .zeros
 
 pub file-form : (f : List ℕ) → loadNumber f ≡ none
     → formFor f .form ≡ formOf (builtOf (ruleOf f) .setcount) (builtOf (ruleOf f) .k) (builtOf (ruleOf f) .next)

@@ -19,7 +19,7 @@ loop-holds : tie.Need-loop-holds Inv-loop μ-loop
 loop-holds c = let a = c .before .before .before .args in ran-none (a .line .now) (a .out .now) (a .block .now) (a .kept)
 
 feed-requires : tie.Need-feed-requires Inv-loop μ-loop
-feed-requires c κs = search needs
+feed-requires c κs = omega (arith, c .before .before .before .before .before .before .before .pre .0, c .before .before .before .loop .inv .size-line)
 
 slice-reshare-prefix-write-answers : tie.Need-slice-reshare-prefix-write-answers Inv-loop μ-loop
 slice-reshare-prefix-write-answers c =
@@ -48,7 +48,7 @@ loop-less c =
     let x = c .before .before .before .before .before .before .before .before .before .before .before .loop in
     let f = c .before .before .before .before .before .before .before .feed in
     let s = c .before .before .before .before .before .before .before .before .before .before .before .before .before .before .before in
-    let on = f .ensures .forward (omega (arith, x .inv .size-out, s .pre)) (c .before .before .before .before .before .before .before .before .before .before .loop-test .taken) in
+    let on = f .ensures .forward (omega (arith, x .inv .size-out, s .pre .1)) (c .before .before .before .before .before .before .before .before .before .before .loop-test .taken) in
     omega (arith, c .before .before .before .before .before .before .before .before .before .before .loop-test .taken)
 
 loop-again : tie.Need-loop-again Inv-loop μ-loop
