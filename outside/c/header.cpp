@@ -24,6 +24,13 @@ static bool right() {
     const uint8_t ends_in_0_1[] = {'(', 'a', '|', 'b', ')', '*', 'a', 'b'};
     bellbadger_pattern_result pattern = bellbadger_pattern(ends_in_0_1, sizeof ends_in_0_1);
     bellbadger_merge_result merged = bellbadger_merge(BELLBADGER_EITHER, read.rule, read.rule);
+    static_assert(sizeof(bellbadger_tray) == BELLBADGER_TRAY_SIZE, "the size that the header says");
+    bellbadger_tray_install_result row = bellbadger_tray_install_row(bellbadger_tray_new(), read.rule);
+    bellbadger_tray_install_result column = bellbadger_tray_install_column(row.tray, read.rule);
+    bellbadger_tray_open_result tray = bellbadger_tray_open(column.tray, 2, 1);
+    bellbadger_tray_deliver_result band = bellbadger_tray_deliver(tray.tray, 0, text, sizeof text);
+    bellbadger_tray_withdraw_result no_band = bellbadger_tray_withdraw(tray.tray, 0);
+    bellbadger_tray_verdict_result of_tray = bellbadger_tray_verdict(band.tray);
     bellbadger_replay_result replayed = bellbadger_replay(reinterpret_cast<const uint8_t *>(record), std::strlen(record));
     static_assert(sizeof(bellbadger_profile) == BELLBADGER_PROFILE_SIZE, "the size that the header says");
     bellbadger_profile_build_result built = bellbadger_profile_build(read.rule);
@@ -43,6 +50,9 @@ static bool right() {
         && sample.kind == BELLBADGER_SAMPLE && sample.length == 2 && sample.text[0] == 0 && sample.text[1] == 1
         && pattern.accepted && pattern.length == 50 && pattern.bytes[0] == 5
         && merged.accepted && merged.rule.n == 6 && merged.rule.targets[4 * 16 + 1] == 32
+        && bellbadger_tray_size() == sizeof(bellbadger_tray) && row.accepted && row.sets == 5 && column.accepted && tray.accepted
+        && band.accepted && band.tray.board.rows[0] == 1 && !no_band.accepted && no_band.refused == 23
+        && of_tray.kind == BELLBADGER_NO && of_tray.number == 0
         && replayed.kind == BELLBADGER_MALFORMED && replayed.number == 2 && made_result.accepted && made[0] == 1 && made[2] == 9
         && formed.accepted && formed.form.sets == 5 && formed.form.failure[4] == 3 && formed.form.cells[3] == BELLBADGER_EMPTY_SET
         && table.accepted && table.table.next[16] == 1;

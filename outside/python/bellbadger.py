@@ -51,7 +51,7 @@ from pathlib import Path
 __all__ = ["CheckedRule", "Judge", "Loaded", "Looked", "Waiting", "Yes", "No", "Refused", "Malformed", "read", "replay", "version"]
 
 # what this module was written for, as outside/c/bellbadger.h has it; a higher minor number fits too
-_MAJOR, _MINOR, _STATE_SIZE = 4, 5, 27832
+_MAJOR, _MINOR, _STATE_SIZE = 4, 6, 27832
 _WAITING, _YES, _NO, _MALFORMED = 1, 2, 3, 4
 _LARGEST_SIZE = 2**64 - 1
 
@@ -81,6 +81,8 @@ _REASONS = {
     35: "more than 512 sets are reached from the set of initial states",
     36: "the rules have different numbers of symbols",
     37: "the result has more than 32 states",
+    38: "no width from 1 to 16",
+    39: "the band is not whole rows, or has over 64",
     40: "the form is of no table",
     41: "the seed is 0",
 }

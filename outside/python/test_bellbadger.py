@@ -293,7 +293,7 @@ class Module(unittest.TestCase):
         self.assertEqual(found.failed, 0)
 
     def test_version(self):
-        self.assertEqual(bellbadger.version(), (4, 5))
+        self.assertEqual(bellbadger.version(), (4, 6))
 
     def test_a_missing_library_names_the_command(self):
         run = subprocess.run(

@@ -21,3 +21,4 @@ pub mod samples;
 pub mod shrink;
 pub mod table;
 pub mod tally;
+pub mod trays;

@@ -6,3 +6,5 @@ pub mod Patterns
 pub mod Merging
 pub mod MadeTexts
 pub mod Forms
+pub mod TrayFunctions
+pub mod Trays

@@ -5,3 +5,4 @@ pub mod PatternFunction
 pub mod MergeFunction
 pub mod TextFunction
 pub mod FormFunctions
+pub mod TrayFunctions

@@ -37,6 +37,8 @@
 //! For small rules there is a mapping machine ([`mappings`]): chunks are run on whatever machines, and what
 //! comes of them, eight bytes each, is put together afterwards.
 //!
+//! Rows of events whose columns keep to a rule too are judged by a tray ([`trays`]).
+//!
 //! A refusal that nobody looks at is told by the compiler:
 //!
 //! ```compile_fail
@@ -57,6 +59,7 @@ mod refused;
 mod rule;
 pub mod samples;
 pub mod texts;
+pub mod trays;
 
 pub use refused::{Refused, ReplayError};
 pub use rule::{read, CheckedRule};

@@ -19,13 +19,13 @@ impl Refused {
         Refused(number)
     }
 
-    /// Why: 1 to 13, 30 to 37, 40 and 41 for what is wrong with the input, 20 to 23 for what stands in the way.
+    /// Why: 1 to 13 and 30 to 41 for what is wrong with the input, 20 to 23 for what stands in the way.
     #[must_use]
     pub fn number(self) -> u8 {
         self.0
     }
 
-    fn reason(self) -> &'static str {
+    pub(crate) fn reason(self) -> &'static str {
         match self.0 {
             1 => "the file is too short for a head of 10 bytes",
             2 => "the file is longer than any rule (32,906 bytes)",
@@ -52,6 +52,8 @@ impl Refused {
             35 => "more than 512 sets are reached from the set of initial states",
             36 => "the rules have different numbers of symbols",
             37 => "the result has more than 32 states",
+            38 => "no width from 1 to 16",
+            39 => "the band is not whole rows, or has over 64",
             40 => "the form is of no table",
             41 => "the seed is 0",
             _ => "for a reason that this wrapper does not know",
@@ -105,11 +107,11 @@ mod tests {
     /// Each of the paper's numbers has words of its own.
     #[test]
     fn every_number_has_its_words() {
-        let numbers = (1..=13).chain(20..=23).chain(30..=37).chain(40..=41);
+        let numbers = (1..=13).chain(20..=23).chain(30..=41);
         let words: BTreeSet<&str> = numbers
             .chain([99])
             .map(|number| Refused::new(number).reason())
             .collect();
-        assert_eq!(words.len(), 27 + 1);
+        assert_eq!(words.len(), 29 + 1);
     }
 }

@@ -1,0 +1,6 @@
+-- In the order in which to read them.
+pub mod History
+pub mod Conditions
+pub mod Claims
+pub mod Functions
+pub mod Worked

@@ -1,0 +1,59 @@
+-- A rule file is read, and its rule installed. Assumes nothing.
+--
+--   unread, installs          a file that reading refuses, and one whose rule is installed: whatever
+--                             an installation leaves
+--   row-unread, row-read      for the rows
+--   column-unread, column-read    for the columns
+use mathlib.Core.Path.{_≡_, sym, ap, _∙_}
+use mathlib.Core.List.{List}
+use mathlib.Core.Option.{Option, none, some}
+use Prim.Native.Nat.{ℕ}
+use Rattle.automaton.specs.declared.Rule.{Rule}
+use Rattle.ruleformat.specs.declared.ReadAnswer.the-variants as reading
+use Rattle.ruleformat.specs.declared.ReadResult.{ReadResult}
+use Rattle.ruleformat.specs.Refusals.{refusal}
+use Rattle.ruleformat.specs.Reader.{ruleOf, ruleBy, readMeans, Reading, readOutcome, readOf}
+use Rattle.calls.specs.Calls.{installNumber, loadNumber}
+use Rattle.calls.proofs.Conditions.{load-number, load-installs}
+use Rattle.trays.specs.declared.Tray.{Tray}
+use Rattle.trays.specs.Replies.{refused}
+use Rattle.trays.specs.Steps.{Outcome, outcomeBy, withRow, withColumn, installReply, installRowOf, installColumnOf}
+use Rattle.traylines.specs.Running.{loadRowOf, loadColumnOf}
+
+module _ (t : Tray) (f : List ℕ) (read : ReadResult) (reads : readOutcome read ≡ readOf f) where
+  number-is : readMeans (read .answer) ≡ refusal f
+  number-is = ap (λ (x : Reading). x .number) reads
+
+  -- with `next r` the tray that the rule r leaves
+  module _ (next : Rule → Tray) where
+    unread : (number : ℕ) → read .answer ≡ reading.Refused number
+        → record { reply = refused number; state = t } ≡ outcomeBy (loadNumber f) (installReply (ruleOf f)) t (next (ruleOf f))
+    unread number told =
+        let refused-by : refusal f ≡ some number = sym number-is ∙ ap readMeans told in
+        rw (load-number f, refused-by)
+
+    installs : read .answer ≡ reading.Accepted
+        → outcomeBy (installNumber (read .rule)) (installReply (read .rule)) t (next (read .rule))
+        ≡ outcomeBy (loadNumber f) (installReply (ruleOf f)) t (next (ruleOf f))
+    installs told =
+        let passes : refusal f ≡ none = sym number-is ∙ ap readMeans told in
+        let rule : read .rule ≡ ruleOf f = ap (λ (x : Reading). x .rule) reads ∙ ap (λ (o : Option ℕ). ruleBy o f) passes in
+        ap (λ (r : Rule). outcomeBy (installNumber r) (installReply r) t (next r)) rule
+        ∙ ap (λ (o : Option ℕ). outcomeBy o (installReply (ruleOf f)) t (next (ruleOf f))) (sym (load-installs f passes))
+
+  module _ (o : Outcome) where
+    pub row-unread : (number : ℕ) → read .answer ≡ reading.Refused number → o ≡ record { reply = refused number; state = t } → o ≡ loadRowOf t f
+    unfolding loadRowOf
+    row-unread number told e = e ∙ unread (withRow t) number told
+
+    pub row-read : read .answer ≡ reading.Accepted → o ≡ installRowOf t (read .rule) → o ≡ loadRowOf t f
+    unfolding loadRowOf installRowOf
+    row-read told e = e ∙ installs (withRow t) told
+
+    pub column-unread : (number : ℕ) → read .answer ≡ reading.Refused number → o ≡ record { reply = refused number; state = t } → o ≡ loadColumnOf t f
+    unfolding loadColumnOf
+    column-unread number told e = e ∙ unread (withColumn t) number told
+
+    pub column-read : read .answer ≡ reading.Accepted → o ≡ installColumnOf t (read .rule) → o ≡ loadColumnOf t f
+    unfolding loadColumnOf installColumnOf
+    column-read told e = e ∙ installs (withColumn t) told

@@ -1,0 +1,38 @@
+-- `load_row` meets its contract. Assumes nothing.
+use Rattle.traylines.proofs.Loading.{row-unread, row-read}
+use borrow.Author.Needs.{needs}
+use Rattle.traylines.proofs.load_row.Statement.{statement}
+use Rattle.traylines.proofs.load_row.Tie as tie
+
+read-requires : tie.Need-read-requires
+read-requires c κs = search needs
+
+enum-known-read : tie.Need-enum-known-read
+enum-known-read c = search needs
+
+refuse-file-requires : tie.Need-refuse-file-requires
+refuse-file-requires c κs = search needs
+
+enum-told : tie.Need-enum-told
+enum-told c = search needs
+
+install-row-requires : tie.Need-install-row-requires
+install-row-requires c κs = search needs
+
+returns : tie.Need-returns
+returns c = search (needs, row-unread)
+
+returns-2 : tie.Need-returns-2
+returns-2 c = search (needs, row-read)
+
+pub load-row-spec : {M : Type 1} → statement M
+load-row-spec =
+    tie.close
+    (tie.spec
+    read-requires
+    enum-known-read
+    refuse-file-requires
+    enum-told
+    install-row-requires
+    returns
+    returns-2)

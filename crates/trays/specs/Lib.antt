@@ -1,0 +1,9 @@
+-- In the order in which to read them.
+pub mod Sizes
+pub mod Rows
+pub mod Replies
+pub mod Calls
+pub mod Boards
+pub mod Steps
+pub mod Worked
+pub mod Claims

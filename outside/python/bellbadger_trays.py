@@ -1,0 +1,194 @@
+"""A tray: rows of 1 to 16 events, each judged by one rule, and each column of them by another.
+
+    >>> from bellbadger import read
+    >>> ends_in_0_1 = read(bytes.fromhex("03020100000004000000160006001C0002001E0000000000000101000102"))
+    >>> even_0s = read(bytes.fromhex("0202010000000100000012000400160004000001010000000101"))
+    >>> tray = Tray()
+    >>> tray.install_row(ends_in_0_1)
+    Loaded(sets=5, starts=3)
+    >>> tray.install_column(even_0s)
+    Loaded(sets=2, starts=2)
+
+Rows of two events, in two bands, which come in any order:
+
+    >>> tray.open(2, 2)
+    >>> tray.deliver(1, bytes([0, 1, 1, 1]))
+    >>> tray.verdict()
+    TrayWaiting(bands=1)
+    >>> tray.deliver(0, bytes([0, 1]))
+    >>> tray.verdict()
+    TrayNo()
+    >>> tray.deliver(1, bytes([0, 1]))
+    Traceback (most recent call last):
+    ...
+    bellbadger_trays.TrayRefused: refused 22: the band is filled
+    >>> tray.withdraw(1)
+    >>> tray.deliver(1, bytes([0, 1]))
+    >>> tray.verdict()
+    TrayYes()
+
+The columns are 0 0 and 1 1. With no rows at all each column is the empty text. A refused call raises
+TrayRefused, which is a Refused with the words for a tray, and leaves the tray as it was.
+"""
+
+import ctypes
+from dataclasses import dataclass
+
+import bellbadger
+from bellbadger import CheckedRule, Loaded, Refused
+
+__all__ = ["Tray", "TrayWaiting", "TrayYes", "TrayNo", "TrayRefused"]
+
+# as outside/c/bellbadger_trays.h has it
+_TRAY_SIZE = 12332
+_WAITING, _YES, _NO = 1, 2, 3
+
+# where a tray has other words than a judge
+_REASONS = {
+    10: "no number of bands from 1 to 8",
+    11: "the board has no such band",
+    13: "a byte is no symbol of the row rule, or none of the column rule",
+    20: "the row rule or the column rule is not there",
+    22: "the band is filled",
+    23: "the band is empty",
+}
+
+
+class TrayRefused(Refused):
+    """A call of a tray was refused; the tray is as it was."""
+
+    def __str__(self):
+        reason = _REASONS.get(self.number)
+        return f"refused {self.number}: {reason}" if reason else super().__str__()
+
+
+@dataclass(frozen=True)
+class TrayWaiting:
+    """A verdict: so many bands are empty."""
+
+    bands: int
+
+
+@dataclass(frozen=True)
+class TrayYes:
+    """A verdict: every row and every column is accepted."""
+
+
+@dataclass(frozen=True)
+class TrayNo:
+    """A verdict: some row or some column is not accepted."""
+
+
+class _Board(ctypes.Structure):
+    _fields_ = [
+        ("width", ctypes.c_uint8),
+        ("bands", ctypes.c_uint8),
+        ("filled", ctypes.c_uint8 * 8),
+        ("rows", ctypes.c_uint8 * 8),
+        ("cells", ctypes.c_uint8 * 8192),
+    ]
+
+
+class _Tray(ctypes.Structure):
+    _fields_ = [("row", bellbadger._CheckedRule), ("column", bellbadger._CheckedRule), ("board", _Board)]
+
+
+class _Install(ctypes.Structure):
+    _fields_ = [
+        ("accepted", ctypes.c_uint8),
+        ("refused", ctypes.c_uint8),
+        ("sets", ctypes.c_uint16),
+        ("starts", ctypes.c_uint8),
+        ("tray", _Tray),
+    ]
+
+
+class _Change(ctypes.Structure):
+    _fields_ = [("accepted", ctypes.c_uint8), ("refused", ctypes.c_uint8), ("tray", _Tray)]
+
+
+class _Verdict(ctypes.Structure):
+    _fields_ = [("kind", ctypes.c_uint8), ("number", ctypes.c_uint8)]
+
+
+def _declared(library):
+    """The functions of the library, seen to be the ones that this module was written for."""
+    size = ctypes.c_size_t
+    bellbadger._declare(library, "tray_size", size)
+    if not library.bellbadger_tray_size() == ctypes.sizeof(_Tray) == _TRAY_SIZE:
+        raise ImportError("the library has another tray than this module")
+    bellbadger._declare(library, "tray_new", _Tray)
+    bellbadger._declare(library, "tray_install_row", _Install, _Tray, bellbadger._CheckedRule)
+    bellbadger._declare(library, "tray_install_column", _Install, _Tray, bellbadger._CheckedRule)
+    bellbadger._declare(library, "tray_open", _Change, _Tray, size, size)
+    bellbadger._declare(library, "tray_deliver", _Change, _Tray, size, ctypes.c_char_p, size)
+    bellbadger._declare(library, "tray_withdraw", _Change, _Tray, size)
+    bellbadger._declare(library, "tray_verdict", _Verdict, _Tray)
+    return library
+
+
+_lib = _declared(bellbadger._lib)
+
+
+def _rule(rule):
+    if not isinstance(rule, CheckedRule):
+        raise TypeError("a CheckedRule is installed")
+    return bellbadger._value(rule)
+
+
+class Tray:
+    """A row rule, a column rule and a board of bands; at first none of them."""
+
+    def __init__(self):
+        self._tray = _lib.bellbadger_tray_new()
+
+    def __repr__(self):
+        tray, board = self._tray, self._tray.board
+        filled = sum(1 for mark in board.filled if mark)
+        return (
+            f"<Tray: row states {tray.row.n}, column states {tray.column.n}, width {board.width}, "
+            f"bands {board.bands}, filled {filled}>"
+        )
+
+    def install_row(self, rule):
+        """Checks and builds a rule for the rows; accepted, it replaces the former one and removes the
+        board. Refused with 3, 4, 6, 8, 9."""
+        return self._loaded(_lib.bellbadger_tray_install_row(self._tray, _rule(rule)))
+
+    def install_column(self, rule):
+        """The same for the columns."""
+        return self._loaded(_lib.bellbadger_tray_install_column(self._tray, _rule(rule)))
+
+    def open(self, width, bands):
+        """A board of that many empty bands, for rows of that width; an earlier one is dropped. Refused
+        with 20 (either rule is absent), 38, 10."""
+        self._change(_lib.bellbadger_tray_open(self._tray, bellbadger._size(width), bellbadger._size(bands)))
+
+    def deliver(self, band, rows):
+        """Keeps rows, one behind the other, as a band, counted from 0; there may be none, and at most 64.
+        There are no idle marks. Refused with 21, 11, 39, 13, 22."""
+        data = bellbadger._bytes(rows)
+        self._change(_lib.bellbadger_tray_deliver(self._tray, bellbadger._size(band), data, len(data)))
+
+    def withdraw(self, band):
+        """Empties a band. Refused with 21, 11, 23."""
+        self._change(_lib.bellbadger_tray_withdraw(self._tray, bellbadger._size(band)))
+
+    def verdict(self):
+        """TrayWaiting, TrayYes or TrayNo; changes nothing. Refused with 21."""
+        result = _lib.bellbadger_tray_verdict(self._tray)
+        if result.kind == _WAITING:
+            return TrayWaiting(result.number)
+        said = {_YES: TrayYes, _NO: TrayNo}
+        if result.kind not in said:
+            raise TrayRefused(result.number)
+        return said[result.kind]()
+
+    def _loaded(self, result):
+        self._change(result)
+        return Loaded(result.sets, result.starts)
+
+    def _change(self, result):
+        if not result.accepted:
+            raise TrayRefused(result.refused)
+        self._tray = result.tray

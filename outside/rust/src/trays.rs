@@ -1,0 +1,285 @@
+//! A tray: rows of 1 to 16 events, each judged by one rule, and each column of them by another.
+//!
+//! Rows arrive in up to 8 bands of 0 to 64 whole rows, in any order. The verdict is yes exactly when
+//! every row and every column, from the first row of the first band to the last of the last, is accepted;
+//! it has no count. With no rows at all each column is the empty text.
+//!
+//! ```
+//! use bellbadger::read;
+//! use bellbadger::trays::{Tray, TrayRefused, TrayVerdict};
+//!
+//! let ends_in_0_1 = read(&[
+//!     3, 2, 1, 0, 0, 0, 4, 0, 0, 0, 22, 0, 6, 0, 28, 0, 2, 0, 30, 0, 0, 0, 0, 0, 0, 1, 1, 0, 1, 2,
+//! ])?;
+//! let even_0s = read(&[
+//!     2, 2, 1, 0, 0, 0, 1, 0, 0, 0, 18, 0, 4, 0, 22, 0, 4, 0, 0, 1, 1, 0, 0, 0, 1, 1,
+//! ])?;
+//! let mut tray = Tray::new();
+//! let loaded = tray.install_row(&ends_in_0_1)?;
+//! assert_eq!((loaded.sets, loaded.starts), (5, 3));
+//! let _loaded = tray.install_column(&even_0s)?;
+//! tray.open(2, 2)?; // rows of two events, in two bands
+//! tray.deliver(1, &[0, 1, 1, 1])?; // two rows; 1 1 does not end in 0 1
+//! assert_eq!(tray.verdict()?, TrayVerdict::Waiting(1));
+//! tray.deliver(0, &[0, 1])?;
+//! assert_eq!(tray.verdict()?, TrayVerdict::No);
+//! tray.withdraw(1)?;
+//! tray.deliver(1, &[0, 1])?;
+//! assert_eq!(tray.verdict()?, TrayVerdict::Yes); // the columns are 0 0 and 1 1
+//! # Ok::<(), TrayRefused>(())
+//! ```
+use crate::{fits, CheckedRule, Loaded, Refused};
+use std::error::Error;
+use std::fmt;
+
+/// What is to be said of a tray.
+#[derive(Clone, Copy, Debug, PartialEq, Eq)]
+#[must_use]
+pub enum TrayVerdict {
+    /// So many bands are empty.
+    Waiting(u8),
+    /// Every row and every column is accepted.
+    Yes,
+    /// Some row or some column is not.
+    No,
+}
+
+/// A call of a tray was refused; the tray is as it was.
+///
+/// ```
+/// # use bellbadger::trays::Tray;
+/// let refused = Tray::new().open(1, 1).unwrap_err();
+/// assert_eq!(refused.to_string(), "refused 20: the row rule or the column rule is not there");
+/// ```
+#[derive(Clone, Copy, Debug, PartialEq, Eq, Hash)]
+#[must_use]
+pub struct TrayRefused(Refused);
+
+impl TrayRefused {
+    /// Why, by the same numbers as [`Refused::number`].
+    #[must_use]
+    pub fn number(self) -> u8 {
+        self.0.number()
+    }
+
+    fn reason(self) -> &'static str {
+        match self.number() {
+            10 => "no number of bands from 1 to 8",
+            11 => "the board has no such band",
+            13 => "a byte is no symbol of the row rule, or none of the column rule",
+            20 => "the row rule or the column rule is not there",
+            22 => "the band is filled",
+            23 => "the band is empty",
+            _ => self.0.reason(),
+        }
+    }
+}
+
+impl fmt::Display for TrayRefused {
+    fn fmt(&self, f: &mut fmt::Formatter<'_>) -> fmt::Result {
+        write!(f, "refused {}: {}", self.number(), self.reason())
+    }
+}
+
+impl Error for TrayRefused {}
+
+/// So that a rule can be read and installed with `?` alike.
+impl From<Refused> for TrayRefused {
+    fn from(refused: Refused) -> Self {
+        TrayRefused(refused)
+    }
+}
+
+/// A row rule, a column rule and a board of bands.
+#[derive(Clone, PartialEq, Eq)]
+pub struct Tray(Box<RawTray>);
+
+#[repr(C)]
+#[derive(Clone, Copy, PartialEq, Eq)]
+struct RawBoard {
+    width: u8,
+    bands: u8,
+    filled: [u8; 8],
+    rows: [u8; 8],
+    cells: [u8; 8192],
+}
+
+#[repr(C)]
+#[derive(Clone, Copy, PartialEq, Eq)]
+struct RawTray {
+    row: CheckedRule,
+    column: CheckedRule,
+    board: RawBoard,
+}
+
+#[repr(C)]
+struct RawInstall {
+    accepted: u8,
+    refused: u8,
+    sets: u16,
+    starts: u8,
+    tray: RawTray,
+}
+
+/// Of an opening, a delivery and a withdrawal.
+#[repr(C)]
+struct RawChange {
+    accepted: u8,
+    refused: u8,
+    tray: RawTray,
+}
+
+#[repr(C)]
+struct RawVerdict {
+    kind: u8,
+    number: u8,
+}
+
+/// As the C header has it; outside/c/test_trays.c reads every field of it.
+const TRAY_SIZE: usize = 12332;
+const _: () = assert!(std::mem::size_of::<RawTray>() == TRAY_SIZE);
+const _: () = assert!(std::mem::size_of::<RawInstall>() == TRAY_SIZE + 8);
+const _: () = assert!(std::mem::size_of::<RawChange>() == TRAY_SIZE + 4);
+
+extern "C" {
+    fn bellbadger_tray_size() -> usize;
+    fn bellbadger_tray_new() -> RawTray;
+    fn bellbadger_tray_install_row(tray: RawTray, rule: CheckedRule) -> RawInstall;
+    fn bellbadger_tray_install_column(tray: RawTray, rule: CheckedRule) -> RawInstall;
+    fn bellbadger_tray_open(tray: RawTray, width: usize, bands: usize) -> RawChange;
+    fn bellbadger_tray_deliver(
+        tray: RawTray,
+        band: usize,
+        rows: *const u8,
+        length: usize,
+    ) -> RawChange;
+    fn bellbadger_tray_withdraw(tray: RawTray, band: usize) -> RawChange;
+    fn bellbadger_tray_verdict(tray: RawTray) -> RawVerdict;
+}
+
+impl Default for Tray {
+    fn default() -> Self {
+        Tray::new()
+    }
+}
+
+impl Tray {
+    /// A tray with no rules and no board.
+    ///
+    /// ```
+    /// # use bellbadger::trays::Tray;
+    /// assert_eq!(Tray::new().verdict().unwrap_err().number(), 21);
+    /// ```
+    ///
+    /// # Panics
+    /// Where the library that is linked has another version or tray than this wrapper was written for.
+    #[must_use]
+    pub fn new() -> Tray {
+        fits();
+        // SAFETY: the function takes nothing and returns a number.
+        let size = unsafe { bellbadger_tray_size() };
+        assert_eq!(
+            size, TRAY_SIZE,
+            "libbellbadger.a has another tray than this wrapper"
+        );
+        // SAFETY: the function takes nothing and returns plain numbers.
+        Tray(Box::new(unsafe { bellbadger_tray_new() }))
+    }
+
+    /// Checks and builds a rule for the rows, whatever stands in it; accepted, it replaces the former one
+    /// and removes the board.
+    ///
+    /// # Errors
+    /// 3, 4, 6, 8, 9 as [`Judge::install`](crate::Judge::install) has them.
+    pub fn install_row(&mut self, rule: &CheckedRule) -> Result<Loaded, TrayRefused> {
+        // SAFETY: plain numbers.
+        let r = unsafe { bellbadger_tray_install_row(*self.0, *rule) };
+        self.loaded(&r)
+    }
+
+    /// The same for the columns.
+    ///
+    /// # Errors
+    /// 3, 4, 6, 8, 9 as [`Judge::install`](crate::Judge::install) has them.
+    pub fn install_column(&mut self, rule: &CheckedRule) -> Result<Loaded, TrayRefused> {
+        // SAFETY: plain numbers.
+        let r = unsafe { bellbadger_tray_install_column(*self.0, *rule) };
+        self.loaded(&r)
+    }
+
+    /// A board of that many empty bands, for rows of that width; an earlier one is dropped.
+    ///
+    /// # Errors
+    /// 20 (either rule is absent), 38 (no width from 1 to 16), 10 (no number of bands from 1 to 8).
+    pub fn open(&mut self, width: usize, bands: usize) -> Result<(), TrayRefused> {
+        // SAFETY: plain numbers.
+        let r = unsafe { bellbadger_tray_open(*self.0, width, bands) };
+        self.changed(&r)
+    }
+
+    /// Keeps rows, one behind the other, as a band; there may be none. Bands are counted from 0. There are
+    /// no idle marks.
+    ///
+    /// # Errors
+    /// 21 (no board is open), 11 (no such band), 39 (no whole rows, or over 64), 13 (a byte is no symbol
+    /// of the row rule, or none of the column rule), 22 (the band is filled).
+    pub fn deliver(&mut self, band: usize, rows: &[u8]) -> Result<(), TrayRefused> {
+        // SAFETY: the pointer leads to as many bytes as the length says, and they are only read.
+        let r = unsafe { bellbadger_tray_deliver(*self.0, band, rows.as_ptr(), rows.len()) };
+        self.changed(&r)
+    }
+
+    /// Empties a band.
+    ///
+    /// # Errors
+    /// 21 (no board is open), 11 (no such band), 23 (the band is empty).
+    pub fn withdraw(&mut self, band: usize) -> Result<(), TrayRefused> {
+        // SAFETY: plain numbers.
+        let r = unsafe { bellbadger_tray_withdraw(*self.0, band) };
+        self.changed(&r)
+    }
+
+    /// Waiting, yes or no; changes nothing.
+    ///
+    /// # Errors
+    /// 21 (no board is open).
+    pub fn verdict(&self) -> Result<TrayVerdict, TrayRefused> {
+        // SAFETY: plain numbers.
+        let r = unsafe { bellbadger_tray_verdict(*self.0) };
+        match r.kind {
+            crate::raw::WAITING => Ok(TrayVerdict::Waiting(r.number)),
+            crate::raw::YES => Ok(TrayVerdict::Yes),
+            crate::raw::NO => Ok(TrayVerdict::No),
+            _ => Err(TrayRefused(Refused::new(r.number))),
+        }
+    }
+
+    fn loaded(&mut self, r: &RawInstall) -> Result<Loaded, TrayRefused> {
+        *self.0 = r.tray;
+        let (sets, starts) = (r.sets, r.starts);
+        accepted(r.accepted, r.refused).map(|()| Loaded { sets, starts })
+    }
+
+    fn changed(&mut self, r: &RawChange) -> Result<(), TrayRefused> {
+        *self.0 = r.tray;
+        accepted(r.accepted, r.refused)
+    }
+}
+
+fn accepted(accepted: u8, refused: u8) -> Result<(), TrayRefused> {
+    Ok(crate::accepted(accepted, refused)?)
+}
+
+/// The states of its rules and the sizes of its board; 0 states: no such rule, 0 bands: no board.
+impl fmt::Debug for Tray {
+    fn fmt(&self, f: &mut fmt::Formatter<'_>) -> fmt::Result {
+        let RawTray { row, column, board } = &*self.0;
+        f.debug_struct("Tray")
+            .field("row_states", &row.n)
+            .field("column_states", &column.n)
+            .field("width", &board.width)
+            .field("bands", &board.bands)
+            .field("filled", &board.filled.iter().filter(|&&x| x != 0).count())
+            .finish_non_exhaustive()
+    }
+}
