@@ -4,6 +4,7 @@ use Rattle.hexfields.proofs.Kept.{kept-none}
 use Rattle.formstream.specs.Claims.{Claims}
 use Rattle.formstream.proofs.Texts.{whole-from, lines-parts, answers-parts}
 use Rattle.formstream.proofs.Feeding.{says, finishes}
+use Rattle.formstream.proofs.Written.{written}
 
 pub claims : Claims
 claims = record {
@@ -13,4 +14,5 @@ claims = record {
   begins = kept-none;
   says = says;
   finishes = finishes;
+  written = written;
 }
