@@ -18,13 +18,14 @@
 --   formFor f, textFor f          of a rule file, and as `ruleform` prints it   formfile/specs/Files, formtext/specs/FormText
 --   lineIn w, backText b          a line of `formtable`, and the answer    formline/specs/Lines, tabletext/specs/Answers
 --   answersAfter, answersTo       the answers to a part, and to lines      formstream/specs/Texts
+--   Blocks; finishText            what is written for blocks, and at the end  formstream/specs/Claims, Feeding
 --
 -- l is any list of cells, f and g any value of the form, in which any numbers may stand. A list of calls
 -- has the last call first. A proved function ends and stays within its bounds. Assumes nothing.
 use mathlib.Core.Path.{_≡_, ap, _∙_}
 use mathlib.Core.Logic.{_↔_}
 use mathlib.Core.Bool.{cond}
-use mathlib.Core.List.{List, [], _∷_, _++_}
+use mathlib.Core.List.{List, [], _∷_, _++_, flatten}
 use mathlib.Core.Option.{none, some}
 use Prim.Native.Nat.{ℕ, _≤_, _<_}
 use lib.ListN.{length, getD}
@@ -57,6 +58,8 @@ use Rattle.formline.specs.Lines.{lineIn, longestLine}
 use Rattle.formline.proofs.Claims as formline
 use Rattle.tabletext.specs.Answers.{backText, answerText}
 use Rattle.formstream.specs.Texts.{answerTo, answersTo, lineAfter, answersAfter, lastAnswer}
+use Rattle.formstream.specs.Feeding.{finishText}
+use Rattle.formstream.specs.Claims.{State, Blocks}
 use Rattle.formstream.proofs.Claims as formstream
 use Rattle.c_form.specs.declared.FormNumbers.{FormNumbers}
 use Rattle.c_form.specs.declared.TableNumbers.{TableNumbers}
@@ -255,3 +258,11 @@ pub in-parts : (v w u : List ℕ)
     → (lineAfter v (w ++ u) ≡ lineAfter (lineAfter v w) u)
     × (answersAfter v (w ++ u) ≡ answersAfter v w ++ answersAfter (lineAfter v w) u)
 in-parts v w u = (formstream.claims .lines-parts v w u, formstream.claims .answers-parts v w u)
+
+-- All that `formtable` writes, in whatever rounds the blocks of its input are fed, is right line by line.
+-- (A round is what the contract of `feed` promises, and the end what that of `finish` does:
+-- formstream/src/lib.rt.)
+pub lines-written : (line : List ℕ) → longestLine < length line → {blocks : List (List ℕ)} {s : State} {text : List ℕ}
+    → Blocks (record { kept = 0; line = line }) blocks s text
+    → text ++ finishText (s .kept) (s .line) ≡ answersTo (linesOf (flatten blocks))
+lines-written = formstream.claims .written
