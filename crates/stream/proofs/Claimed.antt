@@ -2,24 +2,30 @@
 use mathlib.Core.Path.{ap, _∙_}
 use mathlib.Core.List.{flatten}
 use Rattle.lines.specs.Splitting.{linesOf}
-use Rattle.stream.specs.Texts.{TextOutcome}
+use Rattle.calls.specs.declared.Judge.{Judge}
+use Rattle.calls.specs.Steps.{fresh}
+use Rattle.linebuffer.proofs.Long as linebuffer
+use Rattle.linetexts.specs.Feeding.{Outcome}
+use Rattle.linetexts.specs.Claims.{Told}
+use Rattle.linetexts.proofs.Claimed as linetexts
+use Rattle.stream.specs.Texts.{toldAs, callLines}
 use Rattle.stream.specs.Claims.{Claims}
-use Rattle.stream.proofs.Rounds.{forward, within, rounds}
-use Rattle.stream.proofs.Fed.{gathered, fed}
-use Rattle.stream.proofs.Whole.{feeds, finishes, whole, right, written-right}
+use Rattle.stream.proofs.Right.{right}
+
+told : Told callLines
+told j =
+    let t = linebuffer.told j in record {
+      stray = λ v w long stray. ap toldAs (t .stray v w long stray);
+      hex = λ v w long hex even. ap toldAs (t .hex v w long hex even);
+    }
 
 pub claims : Claims
 claims = record {
-  feeds = feeds;
-  finishes = finishes;
-  whole = whole;
+  told = told;
   right = right;
   answered = λ blocks line large.
-      ap (λ (t : TextOutcome). t .text) (whole blocks line large) ∙ right (linesOf (flatten blocks));
-  forward = forward;
-  within = within;
-  rounds = rounds;
-  gathered = gathered;
-  fed = fed;
-  written = written-right;
+      ap (λ (o : Outcome Judge). o .text) (linetexts.claims callLines told .whole blocks fresh line large)
+      ∙ right (linesOf (flatten blocks));
+  written = λ {room} {s′} {blocks} {line} {text} large b.
+      linetexts.claims callLines told .written large b ∙ right (linesOf (flatten blocks));
 }

@@ -1,4 +1,3 @@
 -- In the order in which to read them.
-pub mod Feeding
 pub mod Texts
 pub mod Claims

@@ -8,8 +8,8 @@ ghost use Rattle.calls.specs.Replies.{judged};
 ghost use Rattle.calls.specs.Steps.{reportOf};
 ghost use Rattle.calltext.specs.Answers.{replied, responseText};
 ghost use Rattle.callrun.specs.Running.{Scratch};
-ghost use Rattle.longlines.specs.Holding.{lineBegin};
-ghost use Rattle.stream.specs.Feeding.{stateOf, answerHeld, finishOf, gatherAt, Gathers};
+ghost use Rattle.linetexts.specs.Feeding.{stateOf, heldStep, finishOf, gatherAt, Gathers};
+ghost use Rattle.stream.specs.Texts.{callLines};
 use calls::Judge;
 use calltext::LineAnswer;
 use longlines::Held;
@@ -31,8 +31,8 @@ pub struct Gathered {
 
 fn answer(judge: Judge, line: &[u8], held: Held, bytes: &mut [u8], out: &mut [u8]) -> Answered
     requires { ⌜ (lineRoom ≤ length (now line)) × (bytesRoom ≤ length (now bytes)) × (answerRoom ≤ length (now out)) ⌝ }
-    ensures { λ r. ⌜ stateOf (r .judge) lineBegin (now (line .entry)) ≡ answerHeld (stateOf judge held (now (line .entry))) .state ⌝ }
-    ensures text { λ r. ⌜ Wrote (now (out .entry)) 0 (answerHeld (stateOf judge held (now (line .entry))) .text) (now (out .exit)) (r .written) ⌝ }
+    ensures { λ r. ⌜ r .judge ≡ heldStep callLines judge (now (line .entry)) held .state ⌝ }
+    ensures text { λ r. ⌜ Wrote (now (out .entry)) 0 (heldStep callLines judge (now (line .entry)) held .text) (now (out .exit)) (r .written) ⌝ }
     ensures scratch { λ r. ⌜ Scratch (now (bytes .entry)) (now (bytes .exit)) ⌝ }
 {
     let run = linebuffer::run_held(judge, line, held, bytes);
@@ -65,7 +65,7 @@ pub fn gather(
     from: usize,
 ) -> Gathered
     requires { ⌜ (lineRoom ≤ length (now line)) × (bytesRoom ≤ length (now bytes)) ⌝ }
-    ensures { λ r. ⌜ Gathers (gatherAt (now (block .entry)) from (length (now (out .entry))) (stateOf judge held (now (line .entry)))) from r (now (line .exit)) (now (out .entry)) (now (out .exit)) ⌝ }
+    ensures { λ r. ⌜ Gathers (gatherAt callLines (now (block .entry)) from (length (now (out .entry))) (stateOf judge held (now (line .entry)))) from (stateOf (r .judge) (r .held) (now (line .exit))) (r .at) (r .written) (now (out .entry)) (now (out .exit)) ⌝ }
     ensures scratch { λ r. ⌜ Scratch (now (bytes .entry)) (now (bytes .exit)) ⌝ }
 {
     let mut judge = judge;
@@ -101,15 +101,14 @@ pub fn gather(
 }
 
 // The end of the text.
-pub fn finish(judge: Judge, held: Held, line: &[u8], bytes: &mut [u8], out: &mut [u8]) -> Answered
+pub fn finish(judge: Judge, held: Held, line: &[u8], bytes: &mut [u8], out: &mut [u8]) -> usize
     requires { ⌜ (lineRoom ≤ length (now line)) × (bytesRoom ≤ length (now bytes)) × (answerRoom ≤ length (now out)) ⌝ }
-    ensures { λ r. ⌜ stateOf (r .judge) lineBegin (now (line .entry)) ≡ finishOf (stateOf judge held (now (line .entry))) .state ⌝ }
-    ensures text { λ r. ⌜ Wrote (now (out .entry)) 0 (finishOf (stateOf judge held (now (line .entry))) .text) (now (out .exit)) (r .written) ⌝ }
+    ensures { λ r. ⌜ Wrote (now (out .entry)) 0 (finishOf callLines (stateOf judge held (now (line .entry))) .text) (now (out .exit)) r ⌝ }
     ensures scratch { λ r. ⌜ Scratch (now (bytes .entry)) (now (bytes .exit)) ⌝ }
 {
     if held.length == 0 {
-        let written: usize = 0;
-        return Answered { judge, written };
+        return 0;
     }
-    answer(judge, line, held, bytes, out)
+    let last = answer(judge, line, held, bytes, out);
+    last.written
 }

@@ -13,8 +13,8 @@ ghost use Rattle.limits.specs.Limits.{bytesRoom, lineRoom, answerRoom};
 ghost use Rattle.callrun.specs.Running.{Scratch};
 ghost use Rattle.stdio.specs.Blocks.{Within};
 ghost use Rattle.linetexts.specs.Parts.{partsOf};
-ghost use Rattle.stream.specs.Feeding.{stateOf};
-ghost use Rattle.stream.specs.Texts.{feedParts};
+ghost use Rattle.linetexts.specs.Feeding.{stateOf, feedParts};
+ghost use Rattle.stream.specs.Texts.{callLines};
 use calls::Judge;
 use longlines::Held;
 use stdio::Block;
@@ -53,7 +53,7 @@ fn run_block(
     block: &[u8],
 ) -> Reading
     requires { ⌜ (lineRoom ≤ length (now line)) × (bytesRoom ≤ length (now bytes)) × (answerRoom ≤ length (now out)) ⌝ }
-    ensures { λ r. ⌜ (r .failed ≡ false → stateOf (r .judge) (r .held) (now (line .exit)) ≡ feedParts (stateOf judge held (now (line .entry))) (partsOf (now (block .entry)))) ⌝ }
+    ensures { λ r. ⌜ (r .failed ≡ false → stateOf (r .judge) (r .held) (now (line .exit)) ≡ feedParts callLines (stateOf judge held (now (line .entry))) (partsOf (now (block .entry)))) ⌝ }
     ensures scratch { λ r. ⌜ Scratch (now (bytes .entry)) (now (bytes .exit)) ⌝ }
 {
     let mut judge = judge;
@@ -134,8 +134,7 @@ fn run(line: &mut [u8], bytes: &mut [u8], out: &mut [u8], block: &mut [u8])
     if reading.failed {
         return;
     }
-    let last = stream::finish(reading.judge, reading.held, line, bytes, out);
-    let written = last.written;
+    let written = stream::finish(reading.judge, reading.held, line, bytes, out);
     write_answers(&out[..written]);
 }
 

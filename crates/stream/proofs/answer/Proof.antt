@@ -1,5 +1,5 @@
 -- `answer` meets its contract. Assumes nothing.
-use Rattle.stream.proofs.Calls.{answered-state, answered-text}
+use Rattle.stream.proofs.Held.{held-state, held-text}
 use borrow.Author.Needs.{needs}
 use Rattle.stream.proofs.answer.Statement.{statement}
 use Rattle.stream.proofs.answer.Tie as tie
@@ -17,7 +17,7 @@ same-length-2 : tie.Need-same-length-2
 same-length-2 c = search needs
 
 returns : tie.Need-returns
-returns c = search (needs, answered-state, answered-text)
+returns c = search (needs, held-state, held-text)
 
 pub answer-spec : {M : Type 1} → statement M
 answer-spec =
