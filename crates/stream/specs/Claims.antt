@@ -2,7 +2,9 @@
 -- fed; proofs/Claimed.antt proves the claims. What feeding, rounds and blocks are is said of any
 -- machine in `linetexts`.
 use mathlib.Core.Path.{_≡_}
+use mathlib.Core.Bool.{false}
 use mathlib.Core.List.{List, [], _++_, flatten}
+use mathlib.Core.Option.{some}
 use Prim.Native.Nat.{ℕ, _≤_}
 use lib.ListN.{length}
 use Rattle.limits.specs.Limits.{lineRoom}
@@ -11,19 +13,22 @@ use Rattle.calls.specs.declared.Judge.{Judge}
 use Rattle.calls.specs.Steps.{fresh}
 use Rattle.longlines.specs.Holding.{lineBegin}
 use Rattle.linetexts.specs.Feeding.{State, stateOf, finishOf}
+use Rattle.linetexts.specs.Lists.{Listed, listOf, Ends}
 use Rattle.linetexts.specs.Claims.{Told, linesStep, streamOf, Blocks}
-use Rattle.stream.specs.Texts.{callLines, rightText}
+use Rattle.stream.specs.Texts.{callLines, rightAnswer, callsAfter, rightText}
 
 pub record Claims : Type 0 where
   -- a longer line is told by its beginning, and by whether the rest is hex digits and how many
   pub told : Told callLines
   -- every answer is the right one after the calls before it
-  pub right : (ls : List (List ℕ)) → linesStep callLines fresh ls .text ≡ rightText [] ls
+  pub right : (ls : List (List ℕ)) → linesStep callLines (listOf fresh false) ls .text ≡ rightText (some []) ls
+  -- after a malformed line no call is made and no verdict given until an empty line
+  pub ended : Ends [] rightAnswer callsAfter
   -- what is answered to the blocks, fed one after the other, and to the end is right for the lines of
   -- the blocks joined
   pub answered : (blocks : List (List ℕ)) (line : List ℕ) → lineRoom ≤ length line
-      → streamOf callLines (stateOf fresh lineBegin line) blocks .text ≡ rightText [] (linesOf (flatten blocks))
+      → streamOf callLines (stateOf (listOf fresh false) lineBegin line) blocks .text ≡ rightText (some []) (linesOf (flatten blocks))
   -- ALL THAT IS WRITTEN, round by round, block by block, and at the end, is right
-  pub written : {room : ℕ} {s′ : State Judge} {blocks : List (List ℕ)} {line text : List ℕ} → lineRoom ≤ length line
-      → Blocks callLines room (stateOf fresh lineBegin line) blocks s′ text
-      → text ++ finishOf callLines s′ .text ≡ rightText [] (linesOf (flatten blocks))
+  pub written : {room : ℕ} {s′ : State (Listed Judge)} {blocks : List (List ℕ)} {line text : List ℕ} → lineRoom ≤ length line
+      → Blocks callLines room (stateOf (listOf fresh false) lineBegin line) blocks s′ text
+      → text ++ finishOf callLines s′ .text ≡ rightText (some []) (linesOf (flatten blocks))

@@ -6,9 +6,11 @@
 -- (`turn-answered`). The loop ends where the block is used up or the room is short.
 use Rattle.linetexts.proofs.Turns.{turn-forward, turn-on, turn-answered}
 use Rattle.linetexts.proofs.Gathering.{SoFar, begun, ended, at-over, gather-short, placed-within}
+use Rattle.linetexts.proofs.Ends.{came}
 use Rattle.linetexts.specs.Feeding.{stateOf}
+use Rattle.linetexts.specs.Lists.{listOf}
 use Rattle.stream.specs.Texts.{callLines}
-use Rattle.stream.proofs.Held.{came, came-asked}
+use Rattle.stream.proofs.Held.{came-asked}
 use lib.ListN.{length}
 use Prim.Native.Nat.{_+_, _-_, _≤_, _<_}
 use native.Mathlib.Omega.{arith}
@@ -18,12 +20,12 @@ use Rattle.stream.proofs.gather.Statement.{statement}
 use Rattle.stream.proofs.gather.Tie as tie
 
 abbrev Inv-loop : tie.InvT-loop
-Inv-loop line₀ bytes₀ out₀ block from judge₀ held₀ at₀ written₀ line bytes out judge held at written =
+Inv-loop line₀ bytes₀ out₀ block from judge₀ held₀ ended₀ at₀ written₀ line bytes out judge held ended at written =
     (length line ≡ length line₀) × (length bytes ≡ length bytes₀)
-    × SoFar callLines block from (stateOf judge₀ held₀ line₀) out₀ at (stateOf judge held line) out written
+    × SoFar callLines block from (stateOf (listOf judge₀ ended₀) held₀ line₀) out₀ at (stateOf (listOf judge ended) held line) out written
 
 abbrev μ-loop : tie.MeasureT-loop
-μ-loop line₀ bytes₀ out₀ block from judge₀ held₀ at₀ written₀ line bytes out judge held at written = length block - at
+μ-loop line₀ bytes₀ out₀ block from judge₀ held₀ ended₀ at₀ written₀ line bytes out judge held ended at written = length block - at
 
 -- ---- where a part was taken
 module _ (p : tie.After-take-part Inv-loop μ-loop) where
@@ -73,7 +75,7 @@ add-written : tie.Need-add-written Inv-loop μ-loop
 add-written c =
     let loop = c .before .before .before .before .before .before .before .before .before .before .before .before .before .before .before .before .loop in
     let said = c .before .before .answer-verdict in
-    omega (arith, loop .inv .2 .size, c .before .before .before .before .before .before .before .before .before .before .before .before .before .before .before .before .before .before .before .before .before .good .1 .1 .1 .1 .0 .0, placed-within (loop .out) (said .last .1 .0) _ (loop .written) (said .result) (loop .inv .2 .within) (said .kept .1 .0) (said .ensures))
+    omega (arith, loop .inv .2 .size, c .before .before .before .before .before .before .before .before .before .before .before .before .before .before .before .before .before .before .before .before .before .before .good .1 .1 .1 .1 .0 .0, placed-within (loop .out) (said .last .1 .0) _ (loop .written) (said .result) (loop .inv .2 .within) (said .kept .1 .0) (said .ensures))
 
 nothing-requires : tie.Need-nothing-requires Inv-loop μ-loop
 nothing-requires c κs = search needs
@@ -90,7 +92,7 @@ loop-again-2 c =
     let took = p .take-part in
     let verdictAsked = c .before .before .before .before .before .before .asks-verdict in
     let said = c .before .before .before .answer-verdict in
-    (took .kept .1 .0 ∙ loop .inv .0, loop .inv .1, turn-answered callLines _ _ _ _ _ _ _ _ _ _ here (took .result) _ (took .ensures) (loop .inv .2) enough (c .before .before .before .before .before .before .before .before .if2 .left) _ _ (said .kept .1 .0) _ (c .nothing .ensures) _ _ (came-asked _ _ _ (sym (verdictAsked .ensures) ∙ c .before .before .before .before .before .if3 .taken)) (said .ensures))
+    (took .kept .1 .0 ∙ loop .inv .0, loop .inv .1, turn-answered callLines _ _ _ _ _ _ _ _ _ _ here (took .result) _ (took .ensures) (loop .inv .2) enough (c .before .before .before .before .before .before .before .before .if2 .left) _ _ (said .kept .1 .0) _ (c .nothing .ensures) _ _ (came-asked _ _ _ _ (sym (verdictAsked .ensures) ∙ c .before .before .before .before .before .if3 .taken)) (said .ensures))
 
 sub-answer : tie.Need-sub-answer Inv-loop μ-loop
 sub-answer c = search needs
@@ -108,7 +110,7 @@ add-written-2 : tie.Need-add-written-2 Inv-loop μ-loop
 add-written-2 c =
     let loop = c .before .before .before .before .before .before .before .before .before .before .before .before .before .before .before .before .before .before .before .before .before .before .loop in
     let said = c .before .before .before .before .before .before .answer in
-    omega (arith, loop .inv .2 .size, c .before .before .before .before .before .before .before .before .before .before .before .before .before .before .before .before .before .before .before .before .before .before .before .before .before .before .before .good .1 .1 .1 .1 .0 .0, placed-within (loop .out) (said .last .1 .1 .1 .1 .0) _ (loop .written) (said .result .written) (loop .inv .2 .within) (said .kept .1 .1 .1 .1 .0) (said .ensures .1 .0))
+    omega (arith, loop .inv .2 .size, c .before .before .before .before .before .before .before .before .before .before .before .before .before .before .before .before .before .before .before .before .before .before .before .before .before .before .before .before .good .1 .1 .1 .1 .0 .0, placed-within (loop .out) (said .last .1 .1 .1 .1 .1 .0) _ (loop .written) (said .result .written) (loop .inv .2 .within) (said .kept .1 .1 .1 .1 .1 .0) (said .ensures .1 .0))
 
 nothing-requires-2 : tie.Need-nothing-requires-2 Inv-loop μ-loop
 nothing-requires-2 c κs = search needs
@@ -124,7 +126,7 @@ loop-again-3 c =
     let enough = p .before .before .if1 .left in
     let took = p .take-part in
     let said = c .before .before .before .before .before .before .before .answer in
-    (took .kept .1 .0 ∙ loop .inv .0, said .kept .1 .1 .1 .0 ∙ loop .inv .1, turn-answered callLines _ _ _ _ _ _ _ _ _ _ here (took .result) _ (took .ensures) (loop .inv .2) enough (c .before .before .before .before .before .before .before .before .before .before .before .before .before .before .if2 .left) _ _ (said .kept .1 .1 .1 .1 .0) _ (c .nothing2 .ensures) _ _ (came _ _ _ _ (said .ensures .0)) (said .ensures .1 .0))
+    (took .kept .1 .0 ∙ loop .inv .0, said .kept .1 .1 .1 .1 .0 ∙ loop .inv .1, turn-answered callLines _ _ _ _ _ (listOf (loop .judge) (loop .ended)) _ _ _ _ here (took .result) _ (took .ensures) (loop .inv .2) enough (c .before .before .before .before .before .before .before .before .before .before .before .before .before .before .if2 .left) _ _ (said .kept .1 .1 .1 .1 .1 .0) _ (c .nothing2 .ensures) (listOf (said .result .judge) (said .result .ended)) _ (came callLines (listOf (loop .judge) (loop .ended)) _ _ _ (said .ensures .0)) (said .ensures .1 .0))
 
 same-length : tie.Need-same-length Inv-loop μ-loop
 same-length c = search needs
