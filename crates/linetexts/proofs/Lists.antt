@@ -2,11 +2,12 @@
 --
 --   told-lists              the lines of lists are told apart where each list's are
 --   skips-not, skips-look   what `skips` answers
---   skip-held, run-held     a line that is held is skipped, or comes to what it does in its list
+--   skipped-state, skipped-text   a line that is held is skipped
+--   run-held                it comes to what it does in its list
 --   Agrees, Follows         what a machine's state has to do with what is known of the list
 --   lists-right             a machine that answers each line of a list rightly answers texts rightly
 --   ends-list               what a malformed line does
-use mathlib.Core.Path.{_≡_, refl, sym, ap, ap₂, _∙_}
+use mathlib.Core.Path.{_≡_, refl, sym, ap, ap₂, _∙_, subst}
 use mathlib.Core.Bool.{Bool, true, false, cond, not, _&&_}
 use mathlib.Core.List.{List, [], _∷_, _++_, append-nil}
 use mathlib.Core.Option.{Option, none, some}
@@ -16,6 +17,7 @@ use borrow.Author.Tests.{lt-ltb, le-ltb}
 use lib.Dec.{ltb}
 use lib.ListN.{length, take}
 use Rattle.base.proofs.Tests.{not-both}
+use Rattle.text.specs.Writing.{Wrote}
 use Rattle.answers.specs.Answers.{skippedText}
 use Rattle.longlines.specs.declared.Held.{Held}
 use Rattle.longlines.specs.declared.Seen.{Seen}
@@ -89,14 +91,22 @@ module _ {A : Type 0} (f : List ℕ → A) (bad none-run : A) where
   run-by true false w e = not-both refl e
   run-by false hex w e = refl
 
-module _ {J : Type 0} (m : ListMachine J) (j : J) (ended : Bool) (line : List ℕ) (held : Held) where
-  pub skip-held : skipsHeld ended line held ≡ true → heldStep (listLines m) (listOf j ended) line held ≡ skip (listOf j ended)
-  skip-held e =
-      skipped-by (m .step j) (m .stray j) (skip (listOf j ended)) ended (seenOf line held .hex) (take (seenOf line held .length) line) e
+-- `b` is what `skips` answered
+module _ {J : Type 0} (m : ListMachine J) (j : J) (ended : Bool) (line : List ℕ) (held : Held) (b : Bool) (tested : b ≡ skipsHeld ended line held) where
+  skip-held : b ≡ true → skip (listOf j ended) ≡ heldStep (listLines m) (listOf j ended) line held
+  skip-held taken =
+      sym (skipped-by (m .step j) (m .stray j) (skip (listOf j ended)) ended (seenOf line held .hex) (take (seenOf line held .length) line) (sym tested ∙ taken))
 
-  pub run-held : skipsHeld ended line held ≡ false → heldStep (listLines m) (listOf j ended) line held ≡ heldMeaning (m .step j) (m .stray j) line held
-  run-held e =
-      run-by (m .step j) (m .stray j) (skip (listOf j ended)) ended (seenOf line held .hex) (take (seenOf line held .length) line) e
+  pub skipped-state : b ≡ true → listOf j ended ≡ heldStep (listLines m) (listOf j ended) line held .state
+  skipped-state taken = ap (λ (o : Outcome (Listed J)). o .state) (skip-held taken)
+
+  pub skipped-text : b ≡ true → (before after : List ℕ) (end : ℕ) → Wrote before 0 skippedText after end
+      → Wrote before 0 (heldStep (listLines m) (listOf j ended) line held .text) after end
+  skipped-text taken before after end wrote = subst (λ (o : Outcome (Listed J)). Wrote before 0 (o .text) after end) (skip-held taken) wrote
+
+  pub run-held : b ≡ false → heldMeaning (m .step j) (m .stray j) line held ≡ heldStep (listLines m) (listOf j ended) line held
+  run-held left =
+      sym (run-by (m .step j) (m .stray j) (skip (listOf j ended)) ended (seenOf line held .hex) (take (seenOf line held .length) line) (sym tested ∙ left))
 
 -- ---- the right answers
 module _ {H J : Type 0} (state : H → J) where

@@ -1,7 +1,6 @@
 -- What the functions do with a line that is held is what the definitions say. Assumes nothing.
 --
 --   held-as                  a line that is held comes to what its meaning comes to
---   skipped-state, skipped-text   a line that is skipped
 --   held-state, held-text    the judge that a line leaves and whether the list has ended, and its answer
 --   is-asked                 whether a line asks for the verdict
 --   asked-text, came-asked   one that does
@@ -11,7 +10,6 @@ use mathlib.Core.List.{List}
 use Prim.Native.Nat.{ℕ}
 use Rattle.base.proofs.Tests.{not-both}
 use Rattle.text.specs.Writing.{Wrote}
-use Rattle.answers.specs.Answers.{skippedText}
 use Rattle.calls.specs.declared.Judge.{Judge}
 use Rattle.calls.specs.declared.Report.{Report}
 use Rattle.calls.specs.Replies.{Reported, judged, reportMeans}
@@ -27,38 +25,24 @@ use Rattle.longlines.proofs.Standing.{meaning-on}
 use Rattle.linebuffer.specs.Meanings.{heldMeaning}
 use Rattle.linetexts.specs.Feeding.{Outcome, heldStep}
 use Rattle.linetexts.specs.Lists.{Listed, listOf, skipsHeld}
-use Rattle.linetexts.proofs.Lists.{skip-held, run-held}
+use Rattle.linetexts.proofs.Lists.{run-held}
 use Rattle.stream.specs.Texts.{toldAs, callList, callLines}
 
 held-as : (j : Judge) (line : List ℕ) (held : Held) → toldAs (lineStep j (heldMeaning line held)) ≡ heldBy (callList .step j) (callList .stray j) line held
 held-as j line held = meaning-on (λ (m : Meaning). toldAs (lineStep j m)) lineIn malformed line held
 
-module _ (j : Judge) (ended : Bool) (line : List ℕ) (held : Held) where
-  -- ---- a line that is skipped
-  module _ (b : Bool) (tested : b ≡ skipsHeld ended line held) (taken : b ≡ true) where
-    skips : skipsHeld ended line held ≡ true
-    skips = sym tested ∙ taken
+-- ---- a line that was run
+module _ (j : Judge) (ended : Bool) (line : List ℕ) (held : Held) (b : Bool) (tested : b ≡ skipsHeld ended line held) (left : b ≡ false)
+    (run : LineRun) (is : runOutcome run ≡ lineStep j (heldMeaning line held)) where
+  told-as : toldAs (runOutcome run) ≡ heldStep callLines (listOf j ended) line held
+  told-as = ap toldAs is ∙ held-as j line held ∙ run-held callList j ended line held b tested left
 
-    pub skipped-state : listOf j ended ≡ heldStep callLines (listOf j ended) line held .state
-    skipped-state = sym (ap (λ (o : Outcome (Listed Judge)). o .state) (skip-held callList j ended line held skips))
+  pub held-state : (after : Bool) → after ≡ isMalformed (answerMeans (run .answer)) → listOf (run .judge) after ≡ heldStep callLines (listOf j ended) line held .state
+  held-state after e = ap (listOf (run .judge)) e ∙ ap (λ (o : Outcome (Listed Judge)). o .state) told-as
 
-    pub skipped-text : (before after : List ℕ) (end : ℕ) → Wrote before 0 skippedText after end
-        → Wrote before 0 (heldStep callLines (listOf j ended) line held .text) after end
-    skipped-text before after end wrote =
-        subst (λ (o : Outcome (Listed Judge)). Wrote before 0 (o .text) after end) (sym (skip-held callList j ended line held skips)) wrote
-
-  -- ---- one that was run
-  module _ (b : Bool) (tested : b ≡ skipsHeld ended line held) (left : b ≡ false) (run : LineRun)
-      (is : runOutcome run ≡ lineStep j (heldMeaning line held)) where
-    told-as : toldAs (runOutcome run) ≡ heldStep callLines (listOf j ended) line held
-    told-as = ap toldAs is ∙ held-as j line held ∙ sym (run-held callList j ended line held (sym tested ∙ left))
-
-    pub held-state : (after : Bool) → after ≡ isMalformed (answerMeans (run .answer)) → listOf (run .judge) after ≡ heldStep callLines (listOf j ended) line held .state
-    held-state after e = ap (listOf (run .judge)) e ∙ ap (λ (o : Outcome (Listed Judge)). o .state) told-as
-
-    pub held-text : (before after : List ℕ) (end : ℕ) → Wrote before 0 (responseText (answerMeans (run .answer))) after end
-        → Wrote before 0 (heldStep callLines (listOf j ended) line held .text) after end
-    held-text before after end wrote = subst (λ (o : Outcome (Listed Judge)). Wrote before 0 (o .text) after end) told-as wrote
+  pub held-text : (before after : List ℕ) (end : ℕ) → Wrote before 0 (responseText (answerMeans (run .answer))) after end
+      → Wrote before 0 (heldStep callLines (listOf j ended) line held .text) after end
+  held-text before after end wrote = subst (λ (o : Outcome (Listed Judge)). Wrote before 0 (o .text) after end) told-as wrote
 
 -- ---- one that asks for the verdict
 pub is-asked : (ended a b : Bool) → ended ≡ false → a ≡ b → a ≡ (not ended && b)

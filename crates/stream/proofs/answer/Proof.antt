@@ -1,5 +1,7 @@
 -- `answer` meets its contract. Assumes nothing.
-use Rattle.stream.proofs.Held.{skipped-state, skipped-text, held-state, held-text}
+use Rattle.linetexts.proofs.Lists.{skipped-state, skipped-text}
+use Rattle.stream.specs.Texts.{callList}
+use Rattle.stream.proofs.Held.{held-state, held-text}
 use borrow.Author.Needs.{needs}
 use Rattle.stream.proofs.answer.Statement.{statement}
 use Rattle.stream.proofs.answer.Tie as tie
@@ -14,7 +16,7 @@ same-length : tie.Need-same-length
 same-length c = search needs
 
 returns : tie.Need-returns
-returns c = search (needs, skipped-state, skipped-text)
+returns c = search (needs, skipped-state callList, skipped-text callList)
 
 run-held-requires : tie.Need-run-held-requires
 run-held-requires c κs = search needs
