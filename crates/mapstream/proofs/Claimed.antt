@@ -1,14 +1,15 @@
 -- The claims of specs/Claims.antt. Assumes nothing.
 use mathlib.Core.Path.{_≡_, refl, ap, _∙_}
 use mathlib.Core.Bool.{false}
-use mathlib.Core.List.{List, [], flatten}
+use mathlib.Core.List.{List, [], _∷_, _++_, flatten}
 use mathlib.Core.Option.{Option, none, some}
 use Prim.Native.Nat.{ℕ}
 use Rattle.executions.specs.Executions.{stateAfter}
 use Rattle.lines.specs.Splitting.{linesOf}
-use Rattle.linetexts.specs.Lists.{listOf}
+use Rattle.answers.specs.Answers.{malformedText}
+use Rattle.linetexts.specs.Lists.{listOf, skippedLines}
 use Rattle.linetexts.specs.Claims.{linesStep}
-use Rattle.linetexts.proofs.Lists.{Agrees, Follows, lists-right, ends-list}
+use Rattle.linetexts.proofs.Lists.{Agrees, Follows, lists-right, ends-list as ends}
 use Rattle.linetexts.proofs.Claimed as linetexts
 use Rattle.mapcalls.specs.Calls.{Call, noneYet, mapMachine, replyOf, nextOf}
 use Rattle.mapcalls.proofs.Histories as mapcalls
@@ -40,11 +41,18 @@ right : (ls : List (List ℕ)) → linesStep mapLines (listOf noneYet false) ls 
 unfolding stateAfter
 right ls = lists-right mapList (stateAfter mapMachine) [] rightAnswer callsAfter follows ls (listOf noneYet false) (some []) refl
 
+-- what a malformed line is answered
+said : (h : List Call) (l : List ℕ) → lineIn l ≡ none → rightAnswer h l ≡ malformedText
+said h l e = ap (rightReplyTo h) e
+
 pub claims : Claims
 claims = record {
   told = told;
   right = right;
-  ended = ends-list [] rightAnswer callsAfter;
+  ends-list = λ h l ls e n. ends [] rightAnswer callsAfter .rest h l ls (ap (historyAfter h) e) n ∙ ap (λ (t : List ℕ). t ++ skippedLines ls) (said h l e);
+  afresh = λ h l ls more e n.
+      ends [] rightAnswer callsAfter .afresh h l ls more (ap (historyAfter h) e) n
+      ∙ ap (λ (t : List ℕ). t ++ (skippedLines ls ++ ((10 ∷ []) ++ rightText (some []) more))) (said h l e);
   written = λ {room} {s′} {blocks} {line} {text} large b.
       linetexts.claims mapLines told .written large b ∙ right (linesOf (flatten blocks));
 }

@@ -1,18 +1,23 @@
 -- The claims of specs/Claims.antt. Assumes nothing.
-use mathlib.Core.Path.{ap, _∙_}
+use mathlib.Core.Path.{_≡_, ap, _∙_}
 use mathlib.Core.Bool.{false}
-use mathlib.Core.List.{[], flatten}
+use mathlib.Core.List.{List, [], _∷_, _++_, flatten}
+use mathlib.Core.Option.{some}
+use Prim.Native.Nat.{ℕ}
 use native.Mathlib.Omega.{arith}
 use Rattle.lines.specs.Splitting.{linesOf}
 use Rattle.calls.specs.declared.Judge.{Judge}
 use Rattle.calls.specs.Steps.{fresh}
 use Rattle.linebuffer.proofs.Long as linebuffer
 use Rattle.linetexts.specs.Feeding.{Outcome}
-use Rattle.linetexts.specs.Lists.{Listed, listOf}
+use Rattle.linetexts.specs.Lists.{Listed, listOf, skippedLines}
 use Rattle.linetexts.specs.Claims.{Told}
-use Rattle.linetexts.proofs.Lists.{told-lists, ends-list}
+use Rattle.calltext.specs.Meaning.{Meaning, malformed, lineIn}
+use Rattle.calltext.specs.Answers.{unread, responseText}
+use Rattle.calls.specs.Calls.{Call}
+use Rattle.linetexts.proofs.Lists.{told-lists, ends-list as ends}
 use Rattle.linetexts.proofs.Claimed as linetexts
-use Rattle.stream.specs.Texts.{toldAs, callList, callLines, rightAnswer, callsAfter}
+use Rattle.stream.specs.Texts.{toldAs, callList, callLines, historyAfter, rightResponse, rightAnswer, callsAfter, rightText}
 use Rattle.stream.specs.Claims.{Claims}
 use Rattle.stream.proofs.Right.{right}
 
@@ -25,11 +30,18 @@ told =
       hex = λ v w long hex even. ap toldAs (t .hex v w long hex even);
     })
 
+-- what a malformed line is answered
+said : (h : List Call) (l : List ℕ) → lineIn l ≡ malformed → rightAnswer h l ≡ responseText unread
+said h l e = ap (λ (m : Meaning). responseText (rightResponse h m)) e
+
 pub claims : Claims
 claims = record {
   told = told;
   right = right;
-  ended = ends-list [] rightAnswer callsAfter;
+  ends-list = λ h l ls e n. ends [] rightAnswer callsAfter .rest h l ls (ap (historyAfter h) e) n ∙ ap (λ (t : List ℕ). t ++ skippedLines ls) (said h l e);
+  afresh = λ h l ls more e n.
+      ends [] rightAnswer callsAfter .afresh h l ls more (ap (historyAfter h) e) n
+      ∙ ap (λ (t : List ℕ). t ++ (skippedLines ls ++ ((10 ∷ []) ++ rightText (some []) more))) (said h l e);
   answered = λ blocks line large.
       ap (λ (o : Outcome (Listed Judge)). o .text) (linetexts.claims callLines told .whole blocks (listOf fresh false) line large)
       ∙ right (linesOf (flatten blocks));

@@ -3,27 +3,34 @@
 -- machine in `linetexts`.
 use mathlib.Core.Path.{_≡_}
 use mathlib.Core.Bool.{false}
-use mathlib.Core.List.{List, [], _++_, flatten}
+use mathlib.Core.List.{List, [], _∷_, _++_, flatten}
 use mathlib.Core.Option.{some}
 use Prim.Native.Nat.{ℕ, _≤_}
 use lib.ListN.{length}
 use Rattle.limits.specs.Limits.{lineRoom}
 use Rattle.lines.specs.Splitting.{linesOf}
 use Rattle.calls.specs.declared.Judge.{Judge}
+use Rattle.calls.specs.Calls.{Call}
 use Rattle.calls.specs.Steps.{fresh}
 use Rattle.longlines.specs.Holding.{lineBegin}
 use Rattle.linetexts.specs.Feeding.{State, stateOf, finishOf}
-use Rattle.linetexts.specs.Lists.{Listed, listOf, Ends}
+use Rattle.linetexts.specs.Lists.{Listed, listOf, NoneEmpty, skippedLines}
 use Rattle.linetexts.specs.Claims.{Told, linesStep, streamOf, Blocks}
-use Rattle.stream.specs.Texts.{callLines, rightAnswer, callsAfter, rightText}
+use Rattle.calltext.specs.Meaning.{malformed, lineIn}
+use Rattle.calltext.specs.Answers.{unread, responseText}
+use Rattle.stream.specs.Texts.{callLines, rightText}
 
 pub record Claims : Type 0 where
   -- a longer line is told by its beginning, and by whether the rest is hex digits and how many
   pub told : Told callLines
   -- every answer is the right one after the calls before it
   pub right : (ls : List (List ℕ)) → linesStep callLines (listOf fresh false) ls .text ≡ rightText (some []) ls
-  -- after a malformed line no call is made and no verdict given until an empty line
-  pub ended : Ends [] rightAnswer callsAfter
+  -- after a malformed line no call is made and no verdict given: each line is answered `skipped`, up to
+  -- an empty line, which begins afresh
+  pub ends-list : (h : List Call) (l : List ℕ) (ls : List (List ℕ)) → lineIn l ≡ malformed → NoneEmpty ls
+      → rightText (some h) (l ∷ ls) ≡ responseText unread ++ skippedLines ls
+  pub afresh : (h : List Call) (l : List ℕ) (ls more : List (List ℕ)) → lineIn l ≡ malformed → NoneEmpty ls
+      → rightText (some h) ((l ∷ ls) ++ ([] ∷ more)) ≡ responseText unread ++ (skippedLines ls ++ ((10 ∷ []) ++ rightText (some []) more))
   -- what is answered to the blocks, fed one after the other, and to the end is right for the lines of
   -- the blocks joined
   pub answered : (blocks : List (List ℕ)) (line : List ℕ) → lineRoom ≤ length line
