@@ -104,7 +104,9 @@ fn run(one: &mut [u8], two: &mut [u8], out: &mut [u8], block: &mut [u8])
 }
 
 fn main() {
-    if stdio::has_arguments(b"usage: rulemerge < LINES   (takes no arguments; see README.md)\n") {
+    if stdio::has_arguments(
+        b"usage: rulemerge < LINES   (takes no arguments; see docs/PROGRAMS.md)\n",
+    ) {
         return;
     }
     let mut one = [0u8; limits::FILE_ROOM];
