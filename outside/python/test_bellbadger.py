@@ -292,6 +292,16 @@ class Module(unittest.TestCase):
         self.assertGreater(found.attempted, 0)
         self.assertEqual(found.failed, 0)
 
+    def test_one_package(self):
+        """What `import bellbadger` gives, and a module for each subject."""
+        names = "CheckedRule Judge Loaded Looked Malformed No Refused Waiting Yes read replay version".split()
+        self.assertEqual(sorted(bellbadger.__all__), names)
+        self.assertTrue(all(hasattr(bellbadger, name) for name in names))
+        for subject in "judge rules mappings samples patterns merge trays form texts".split():
+            module = getattr(bellbadger, subject)
+            self.assertEqual(module.__name__, "bellbadger." + subject)
+            self.assertTrue(module.__doc__ and module.__all__)
+
     def test_version(self):
         self.assertEqual(bellbadger.version(), (4, 6))
 

@@ -6,9 +6,9 @@ import doctest
 import random
 import unittest
 
-import bellbadger_mappings
+import bellbadger.mappings
 from bellbadger import CheckedRule, Judge, Refused, Yes, read
-from bellbadger_mappings import Profile, compose
+from bellbadger.mappings import Profile, compose
 
 A = bytes.fromhex("03020100000004000000160006001C0002001E0000000000000101000102")
 
@@ -104,7 +104,7 @@ class Mappings(unittest.TestCase):
         self.assertGreater(min(said), 30)
 
     def test_examples(self):
-        found = doctest.testmod(bellbadger_mappings)
+        found = doctest.testmod(bellbadger.mappings)
         self.assertGreater(found.attempted, 0)
         self.assertEqual(found.failed, 0)
 

@@ -3,9 +3,9 @@
 import doctest
 import unittest
 
-import bellbadger_patterns
+import bellbadger.patterns
 from bellbadger import Judge, Refused, Yes, read
-from bellbadger_patterns import LONGEST_FILE, rule_file
+from bellbadger.patterns import LONGEST_FILE, rule_file
 
 
 def accepts(pattern, text):
@@ -55,7 +55,7 @@ class Patterns(unittest.TestCase):
         self.assertEqual((read(file).n, read(file).k), (32, 16))
 
     def test_examples(self):
-        found = doctest.testmod(bellbadger_patterns)
+        found = doctest.testmod(bellbadger.patterns)
         self.assertGreater(found.attempted, 0)
         self.assertEqual(found.failed, 0)
 

@@ -7,9 +7,9 @@ import itertools
 import random
 import unittest
 
-import bellbadger_samples
+import bellbadger.samples
 from bellbadger import CheckedRule, Judge, Refused, Yes
-from bellbadger_samples import ACCEPTED, REJECTED, sample
+from bellbadger.samples import ACCEPTED, REJECTED, sample
 
 
 def rule(initials, finals, *rows, k=2):
@@ -89,7 +89,7 @@ class Samples(unittest.TestCase):
         self.assertRaises(TypeError, sample, ACCEPTED, b"")
 
     def test_examples(self):
-        found = doctest.testmod(bellbadger_samples)
+        found = doctest.testmod(bellbadger.samples)
         self.assertGreater(found.attempted, 0)
         self.assertEqual(found.failed, 0)
 

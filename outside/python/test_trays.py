@@ -6,9 +6,9 @@ import doctest
 import random
 import unittest
 
-import bellbadger_trays
+import bellbadger.trays
 from bellbadger import CheckedRule, Refused
-from bellbadger_trays import Tray, TrayNo, TrayWaiting, TrayYes
+from bellbadger.trays import Tray, TrayNo, TrayWaiting, TrayYes
 
 
 def rule(k, initials, finals, *rows):
@@ -181,7 +181,7 @@ class Trays(unittest.TestCase):
         self.assertGreater(min(said), 40)
 
     def test_examples(self):
-        found = doctest.testmod(bellbadger_trays)
+        found = doctest.testmod(bellbadger.trays)
         self.assertGreater(found.attempted, 0)
         self.assertEqual(found.failed, 0)
 

@@ -5,13 +5,15 @@
     >>> make_text(16, 0, 8)
     Traceback (most recent call last):
     ...
-    bellbadger.Refused: refused 41: the seed is 0
+    bellbadger.refusals.Refused: refused 41: the seed is 0
 """
 
 import ctypes
 import operator
 
-from bellbadger import Refused, _declare, _fits, _lib
+from ._arguments import fits
+from ._library import DATA, declare, lib
+from .refusals import Refused
 
 __all__ = ["make_text"]
 
@@ -20,7 +22,7 @@ class _Made(ctypes.Structure):
     _fields_ = [("accepted", ctypes.c_uint8), ("refused", ctypes.c_uint8)]
 
 
-_declare(_lib, "make_text", _Made, ctypes.c_uint8, ctypes.c_uint64, ctypes.c_char_p, ctypes.c_size_t)
+declare("make_text", _Made, ctypes.c_uint8, ctypes.c_uint64, *DATA)
 
 
 def make_text(k, seed, length):
@@ -30,10 +32,10 @@ def make_text(k, seed, length):
     Refused with 4 (k is not 1 to 16), then with 41 (the seed is 0). A k over 8 bits and a seed over 64
     bits are a ValueError.
     """
-    _fits(k, 8)
-    _fits(seed, 64)
+    fits(k, 8)
+    fits(seed, 64)
     text = ctypes.create_string_buffer(operator.index(length))
-    result = _lib.bellbadger_make_text(k, seed, text, len(text))
+    result = lib.bellbadger_make_text(k, seed, text, len(text))
     if not result.accepted:
         raise Refused(result.refused)
     return text.raw

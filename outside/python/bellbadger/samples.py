@@ -10,7 +10,9 @@
 
 import ctypes
 
-from bellbadger import CheckedRule, Refused, _CheckedRule, _declare, _lib
+from ._library import declare, lib
+from .refusals import Refused
+from .rules import RawRule, raw
 
 __all__ = ["ACCEPTED", "REJECTED", "sample"]
 
@@ -29,7 +31,7 @@ class _Sample(ctypes.Structure):
     ]
 
 
-_declare(_lib, "sample", _Sample, ctypes.c_uint8, _CheckedRule)
+declare("sample", _Sample, ctypes.c_uint8, RawRule)
 
 
 def sample(wish, rule):
@@ -41,10 +43,7 @@ def sample(wish, rule):
     """
     if wish not in (ACCEPTED, REJECTED):
         raise ValueError("a wish is ACCEPTED or REJECTED")
-    if not isinstance(rule, CheckedRule):
-        raise TypeError("a sample is that of a CheckedRule")
-    value = _CheckedRule(rule.n, rule.k, rule.initials, rule.finals, (ctypes.c_uint32 * 512)(*rule.targets))
-    result = _lib.bellbadger_sample(wish, value)
+    result = lib.bellbadger_sample(wish, raw(rule))
     if result.kind == _REFUSED:
         raise Refused(result.refused)
     return bytes(result.text[: result.length]) if result.kind == _TEXT else None
