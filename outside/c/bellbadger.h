@@ -18,6 +18,7 @@
 #ifndef BELLBADGER_H
 #define BELLBADGER_H
 
+#include <stdbool.h>
 #include <stddef.h>
 #include <stdint.h>
 
@@ -114,6 +115,9 @@ typedef struct {
     bellbadger_judge judge;
 } bellbadger_deliver_result;
 
+/* The kind of a verdict is no truth value: 0 is a refusal, so that a result full of zeros is no verdict,
+ * and all that follows, waiting and no too, holds in an `if`. There is no shorter form for "ship it" than
+ * bellbadger_is_yes, below; of a tray, bellbadger_tray_is_yes. */
 enum {
     BELLBADGER_REFUSED = 0,   /* number: why */
     BELLBADGER_WAITING = 1,   /* number: how many places are empty */
@@ -130,6 +134,12 @@ typedef struct {
     uint64_t number;
     uint64_t bytes, quotient, remainder;
 } bellbadger_verdict_result, bellbadger_replay_result;
+
+/* Whether the trace keeps to the rule: not where places are empty, the call was refused or a line is
+ * malformed. */
+BELLBADGER_RESULT static inline bool bellbadger_is_yes(bellbadger_verdict_result verdict) {
+    return verdict.kind == BELLBADGER_YES;
+}
 
 /* What the library was built with: its version, major * 65536 + minor, and the bytes of a judge. */
 BELLBADGER_RESULT uint32_t bellbadger_version(void);
