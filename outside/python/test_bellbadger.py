@@ -224,6 +224,21 @@ class Calls(Case):
         self.assertNotEqual(Yes(3, 2, 1, 1), No(3, 2, 1, 1))
         self.assertNotEqual(No(0, 0, 0, 0), Waiting(0))
 
+    def test_only_is_yes_is_a_truth_value(self):
+        """A program that ships on `if judge.verdict()` would ship on a no and on an empty board."""
+        for said, yes in ((Waiting(1), False), (No(3, 2, 1, 1), False), (Yes(3, 2, 1, 1), True)):
+            self.assertIs(said.is_yes, yes)
+            for asked in (bool, lambda v: not v, lambda v: v and 1, lambda v: 1 if v else 0, lambda v: any([v])):
+                with self.assertRaisesRegex(TypeError, rf"\b{type(said).__name__}\b.*\.is_yes"):
+                    asked(said)
+            with self.assertRaises(AttributeError):
+                said.is_yes = True
+        self.assertEqual([judged(A, *chunks).is_yes for chunks in ([[0, 1]], [[1, 0]])], [True, False])
+        self.assertIs(self.opened(1).verdict().is_yes, False)
+        begin = b"load " + A.hex().encode() + b"\nopen 1\n"
+        self.assertEqual([replay(begin + rest).is_yes for rest in (b"deliver 0 0 0001", b"deliver 0 0 01", b"")], [True, False, False])
+        self.assertRaises(TypeError, bool, replay(begin))
+
     def test_numbers_that_c_would_cut(self):
         judge = self.opened(2)
         for number in (2**64, 2**64 + 1, 2**65, -1, -(2**64)):

@@ -7,7 +7,7 @@ import itertools
 import unittest
 
 import bellbadger.merge
-from bellbadger import CheckedRule, Judge, Refused, Yes
+from bellbadger import CheckedRule, Judge, Refused
 from bellbadger.merge import BOTH, EITHER, INTERLEAVING, merge
 
 WAYS = (BOTH, EITHER, INTERLEAVING)
@@ -49,7 +49,7 @@ def due(way, text):
 def accepts(judge, text):
     judge.open(1)
     judge.deliver(0, 0, bytes(text))
-    return isinstance(judge.verdict(), Yes)
+    return judge.verdict().is_yes
 
 
 class Merging(unittest.TestCase):

@@ -4,7 +4,7 @@ import doctest
 import unittest
 
 import bellbadger.patterns
-from bellbadger import Judge, Refused, Yes, read
+from bellbadger import Judge, Refused, read
 from bellbadger.patterns import LONGEST_FILE, rule_file
 
 
@@ -14,7 +14,7 @@ def accepts(pattern, text):
     judge.load(rule_file(pattern))
     judge.open(1)
     judge.deliver(0, 0, bytes(ord(letter) - ord("a") for letter in text))
-    return isinstance(judge.verdict(), Yes)
+    return judge.verdict().is_yes
 
 
 class Patterns(unittest.TestCase):

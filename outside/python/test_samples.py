@@ -8,7 +8,7 @@ import random
 import unittest
 
 import bellbadger.samples
-from bellbadger import CheckedRule, Judge, Refused, Yes
+from bellbadger import CheckedRule, Judge, Refused
 from bellbadger.samples import ACCEPTED, REJECTED, sample
 
 
@@ -73,7 +73,7 @@ class Samples(unittest.TestCase):
                 judge.install(r)
                 judge.open(1)
                 judge.deliver(0, 0, sample(wish, r))
-                self.assertEqual(isinstance(judge.verdict(), Yes), wish == ACCEPTED)
+                self.assertEqual(judge.verdict().is_yes, wish == ACCEPTED)
 
     def test_refusals(self):
         self.refused(35, from_the_end(10))

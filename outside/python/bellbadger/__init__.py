@@ -12,6 +12,8 @@
     Looked(bytes=1)
     >>> judge.verdict()
     Yes(count=3, bytes=2, quotient=1, remainder=1)
+    >>> judge.verdict().is_yes
+    True
     >>> judge.deliver(0, 0, bytes([1]))
     Traceback (most recent call last):
     ...
@@ -23,6 +25,14 @@ A later recording, with a greater revision, supersedes what stands:
     Looked(bytes=1)
     >>> judge.verdict()
     No(count=3, bytes=2, quotient=1, remainder=1)
+
+A verdict is no truth value, so that a No or a Waiting cannot pass for a yes:
+
+    >>> if judge.verdict():
+    ...     print("ship")
+    Traceback (most recent call last):
+    ...
+    TypeError: a verdict, here No, is no truth value: write .is_yes behind it
 
 A rule file can be read without a judge, and the rule that comes of it installed:
 

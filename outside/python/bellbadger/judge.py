@@ -6,6 +6,7 @@ from dataclasses import dataclass
 
 from ._arguments import as_bytes, fits, size
 from ._library import DATA, declare, expect_size, lib
+from ._verdicts import Verdict
 from .refusals import Malformed, Refused
 from .rules import RawRule, raw
 
@@ -38,14 +39,14 @@ class Looked:
 
 
 @dataclass(frozen=True)
-class Waiting:
+class Waiting(Verdict):
     """A verdict: so many places are empty."""
 
     places: int
 
 
 @dataclass(frozen=True)
-class _Counted:
+class _Counted(Verdict):
     count: int
     bytes: int
     quotient: int
@@ -58,6 +59,10 @@ class Yes(_Counted):
     count == quotient * bytes + remainder, where bytes is the length of the text and the remainder is
     below it; quotient and remainder are 0 for a text of 0 bytes.
     """
+
+    @property
+    def is_yes(self):
+        return True
 
 
 class No(_Counted):
@@ -198,7 +203,7 @@ class Judge:
         self._change(lib.bellbadger_withdraw(self._state, size(place)))
 
     def verdict(self):
-        """Waiting, Yes or No; changes nothing. Refused with 21."""
+        """Waiting, Yes or No; changes nothing. Refused with 21. In an `if` write verdict().is_yes."""
         return _verdict(lib.bellbadger_verdict(self._state))
 
     def _loaded(self, result):
@@ -218,7 +223,7 @@ def replay(text):
     `verdict`, with exactly one space between fields; an empty line begins a fresh judge. HEX of an installation is
     the 2,058 bytes of a rule by value. A recorded call that is refused changes nothing, and the next
     line is run. Raises Malformed for the first line that is no call,
-    Refused with 21 where no board is open at the end.
+    Refused with 21 where no board is open at the end. In an `if` write replay(text).is_yes.
     """
     data = as_bytes(text)
     result = lib.bellbadger_replay(data, len(data))

@@ -36,7 +36,7 @@ declare("sample", _Sample, ctypes.c_uint8, RawRule)
 
 def sample(wish, rule):
     """The shortest text that is as it is wished, and among the shortest the first by symbols; None where
-    there is none. wish is ACCEPTED or REJECTED. The text has at most 511 bytes.
+    there is none. The empty text is one, and false in an `if`: ask `is None`. wish is ACCEPTED or REJECTED. The text has at most 511 bytes.
 
     Refused with 3, 4, 6, 8 as Judge.install is, then 35 (texts lead to more than 512 sets from the set of
     initial states, the empty set counted if reached). Another wish raises ValueError.

@@ -36,6 +36,7 @@ from dataclasses import dataclass
 
 from ._arguments import as_bytes, size
 from ._library import DATA, declare, expect_size, lib
+from ._verdicts import Verdict
 from .judge import Loaded
 from .refusals import Refused
 from .rules import RawRule, raw
@@ -66,19 +67,23 @@ class TrayRefused(Refused):
 
 
 @dataclass(frozen=True)
-class TrayWaiting:
+class TrayWaiting(Verdict):
     """A verdict: so many bands are empty."""
 
     bands: int
 
 
 @dataclass(frozen=True)
-class TrayYes:
+class TrayYes(Verdict):
     """A verdict: every row and every column is accepted."""
+
+    @property
+    def is_yes(self):
+        return True
 
 
 @dataclass(frozen=True)
-class TrayNo:
+class TrayNo(Verdict):
     """A verdict: some row or some column is not accepted."""
 
 
@@ -163,7 +168,8 @@ class Tray:
         self._change(lib.bellbadger_tray_withdraw(self._tray, size(band)))
 
     def verdict(self):
-        """TrayWaiting, TrayYes or TrayNo; changes nothing. Refused with 21."""
+        """TrayWaiting, TrayYes or TrayNo; changes nothing. Refused with 21. In an `if` write
+        verdict().is_yes."""
         result = lib.bellbadger_tray_verdict(self._tray)
         if result.kind == _WAITING:
             return TrayWaiting(result.number)
