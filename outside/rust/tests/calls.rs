@@ -90,6 +90,28 @@ fn refusals_of_the_calls() {
     assert_eq!(judge.verdict(), Ok(waiting(63)));
 }
 
+/// `Ok` is no yes, and neither is waiting nor no: this would catch a verdict that passes for one.
+#[test]
+fn only_yes_is_yes() {
+    let said = |verdict: Verdict| (verdict.is_yes(), reported(verdict, [2, 1, 1]).is_yes());
+    assert_eq!(said(Verdict::Yes(3)), (true, true));
+    for other in [Verdict::No(3), Verdict::Waiting(1), Verdict::Waiting(64)] {
+        assert_eq!(said(other), (false, false));
+    }
+    for (chunks, yes) in [(&[0, 1], true), (&[1, 0], false)] {
+        assert_eq!(judged(&A, &[chunks]).map(|report| report.is_yes()), Ok(yes));
+    }
+    let text =
+        "load 03020100000004000000160006001C0002001E0000000000000101000102\nopen 1\ndeliver 0 0 ";
+    for (chunk, yes) in [("0001", true), ("0100", false)] {
+        let record = format!("{text}{chunk}");
+        assert_eq!(
+            replay(record.as_bytes()).map(|report| report.is_yes()),
+            Ok(yes)
+        );
+    }
+}
+
 /// 32 states that lead round and accept different texts each: 32 starts, each of which counts every byte.
 #[test]
 fn the_sum_of_the_counts() {
