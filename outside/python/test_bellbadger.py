@@ -8,6 +8,7 @@ import itertools
 import os
 import subprocess
 import sys
+import tempfile
 import threading
 import unittest
 
@@ -320,16 +321,28 @@ class Module(unittest.TestCase):
     def test_version(self):
         self.assertEqual(bellbadger.version(), (4, 6))
 
-    def test_a_missing_library_names_the_command(self):
+    def imported_from(self, folder):
         run = subprocess.run(
             [sys.executable, "-c", "import bellbadger"],
             cwd=os.path.dirname(os.path.abspath(__file__)),
-            env={**os.environ, "BELLBADGER_LIB": "/nonexistent"},
+            env={**os.environ, "BELLBADGER_LIB": folder},
             capture_output=True,
             text=True,
         )
         self.assertNotEqual(run.returncode, 0)
-        self.assertIn("tests/outside", run.stderr)
+        return run.stderr.splitlines()[-1]
+
+    def test_a_missing_library(self):
+        """What is said names the file that was tried, the command that makes it, and the variable."""
+        help = "Make it, at the top of the repository, with: outside/build, or name the folder that has it in BELLBADGER_LIB."
+        said = self.imported_from("/nonexistent")
+        self.assertEqual(said, f"ImportError: /nonexistent/libbellbadger.so is not there. {help}")
+        with tempfile.TemporaryDirectory() as folder:
+            path = os.path.join(folder, "libbellbadger.so")
+            with open(path, "w", encoding="ascii") as file:
+                file.write("no library\n")
+            said = self.imported_from(folder)
+            self.assertTrue(said.startswith(f"ImportError: {path} cannot be loaded (") and said.endswith(help), said)
 
 
 if __name__ == "__main__":

@@ -50,8 +50,8 @@ is enough, 128 KB is not (threading.stack_size).
 
 Each further subject is a module: mappings, samples, patterns, merge, trays, form, texts.
 
-The package needs target/sharedlib/libbellbadger.so, which outside/build makes, on x86-64; the
-variable BELLBADGER_LIB of the environment names another folder for it.
+The package needs target/lib/libbellbadger.so, which outside/build makes, on x86-64; the variable
+BELLBADGER_LIB of the environment names another folder for it.
 """
 
 from . import form, mappings, merge, patterns, samples, texts, trays
