@@ -18,9 +18,9 @@
 import ctypes
 from dataclasses import dataclass
 
-from ._arguments import fits
+from ._arguments import all_fitting, expect, fitting
 from ._library import declare, lib
-from .judge import RawState
+from .judge import Judge, RawState
 from .refusals import Refused
 from .rules import members
 
@@ -70,17 +70,16 @@ class Form:
     cells: tuple
 
     def __post_init__(self):
+        object.__setattr__(self, "symbols", fitting("Form", "symbols", self.symbols, 8))
         for name in ("failure", "kept", "cells"):
-            object.__setattr__(self, name, tuple(getattr(self, name)))
-        fits(self.symbols, 8)
-        for number in (*self.failure, *self.kept, *(cell for cell in self.cells if cell is not None)):
-            fits(number, 16)
-        if len(self.failure) != len(self.kept):
-            raise ValueError("a set has a failure set and a mask")
-        if len(self.kept) > _SETS or len(self.cells) > _CELLS:
-            raise ValueError("a form has at most 512 sets and 8,192 cells")
-        if len(self.cells) < sum(map(members, self.kept)):
-            raise ValueError("a kept cell is not there")
+            object.__setattr__(self, name, all_fitting("Form", name, getattr(self, name), 16, or_none=name == "cells"))
+        failure, kept, cells = map(len, (self.failure, self.kept, self.cells))
+        if failure != kept:
+            raise ValueError(f"Form: failure and kept must be as long as each other, not {failure} and {kept}")
+        if kept > _SETS:
+            raise ValueError(f"Form: kept must be at most {_SETS} masks, not {kept}")
+        if not sum(map(members, self.kept)) <= cells <= _CELLS:
+            raise ValueError(f"Form: cells must be the kept ones, {sum(map(members, self.kept))}, and at most {_CELLS}, not {cells}")
 
 
 def form(judge):
@@ -89,7 +88,7 @@ def form(judge):
     The failure set of a set above 0 is, of the lower-numbered sets, the one with most equal cells, empty
     ones too, and of several the lowest; exactly the equal cells are left out. Set 0 keeps all.
     """
-    result = lib.bellbadger_form(judge._state)
+    result = lib.bellbadger_form(expect("form", "judge", judge, Judge)._state)
     if not result.accepted:
         raise Refused(result.refused)
     made = result.form
@@ -105,8 +104,7 @@ def table(form):
     is not below it, a cell of set 0 is left out, a mask has a bit for no symbol, or a kept cell names a set
     that there is not.
     """
-    if not isinstance(form, Form):
-        raise TypeError("a Form is expected")
+    expect("table", "form", form, Form)
     value = _Form(len(form.kept), form.symbols)
     value.failure[: len(form.failure)] = form.failure
     value.kept[: len(form.kept)] = form.kept

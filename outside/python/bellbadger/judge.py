@@ -1,10 +1,9 @@
 """A judge: one rule and one board."""
 
 import ctypes
-import operator
 from dataclasses import dataclass
 
-from ._arguments import as_bytes, fits, size
+from ._arguments import as_bytes, fitting, size
 from ._library import DATA, declare, expect_size, lib
 from ._verdicts import Verdict
 from .refusals import Malformed, Refused
@@ -171,16 +170,16 @@ class Judge:
 
         Refused with 3, 4, 6, 8, 9.
         """
-        return self._loaded(lib.bellbadger_install(self._state, raw(rule)))
+        return self._loaded(lib.bellbadger_install(self._state, raw("install", "rule", rule)))
 
     def load(self, file):
         """Reads a rule file and installs the rule in it. Refused with 1 to 8, then with 9."""
-        data = as_bytes(file)
+        data = as_bytes("load", "file", file)
         return self._loaded(lib.bellbadger_load(self._state, data, len(data)))
 
     def open(self, places):
         """A board of that many empty places; an earlier one is dropped. Refused with 20, 10."""
-        self._change(lib.bellbadger_open(self._state, size(places)))
+        self._change(lib.bellbadger_open(self._state, size("open", "places", places)))
 
     def deliver(self, place, revision, chunk):
         """Runs a chunk and keeps its end sets, count, length and revision at the place, counted from 0.
@@ -192,15 +191,15 @@ class Judge:
         Byte 255 is an idle mark: it is skipped and is no part of the text, but counts in the
         limit of 65,536 bytes. Refused with 21, 11, 12, 13, 22.
         """
-        data = as_bytes(chunk)
-        fits(revision, 32)
-        result = lib.bellbadger_deliver(self._state, size(place), operator.index(revision), data, len(data))
+        data = as_bytes("deliver", "chunk", chunk)
+        place, revision = size("deliver", "place", place), fitting("deliver", "revision", revision, 32)
+        result = lib.bellbadger_deliver(self._state, place, revision, data, len(data))
         self._change(result)
         return Looked(result.looked)
 
     def withdraw(self, place):
         """Empties a place. Refused with 21, 11, 23."""
-        self._change(lib.bellbadger_withdraw(self._state, size(place)))
+        self._change(lib.bellbadger_withdraw(self._state, size("withdraw", "place", place)))
 
     def verdict(self):
         """Waiting, Yes or No; changes nothing. Refused with 21. In an `if` write verdict().is_yes."""
@@ -225,7 +224,7 @@ def replay(text):
     line is run. Raises Malformed for the first line that is no call,
     Refused with 21 where no board is open at the end. In an `if` write replay(text).is_yes.
     """
-    data = as_bytes(text)
+    data = as_bytes("replay", "text", text)
     result = lib.bellbadger_replay(data, len(data))
     if result.kind == _MALFORMED:
         raise Malformed(result.number)

@@ -71,23 +71,24 @@ declare("compose", _Mapping, _Mapping, _Mapping)
 declare("profile_verdict", ctypes.c_uint8, _Profile, _Mapping)
 
 
-def _mapping(data):
-    masks = as_bytes(data)
+def _mapping(call, name, value):
+    masks = as_bytes(call, name, value)
     if len(masks) != 8:
-        raise ValueError("a mapping has eight bytes")
+        raise ValueError(f"{call}: {name} must be eight bytes, not {len(masks)}")
     return _Mapping((ctypes.c_uint8 * 8)(*masks))
 
 
 def compose(earlier, later):
     """The mapping of two chunks, one behind the other, from those of each. Any two values compose."""
-    return bytes(lib.bellbadger_compose(_mapping(earlier), _mapping(later)).masks)
+    earlier, later = _mapping("compose", "earlier", earlier), _mapping("compose", "later", later)
+    return bytes(lib.bellbadger_compose(earlier, later).masks)
 
 
 class Profile:
     """The mapping machine of a rule, which is checked and built. Refused with 3, 4, 6, 8, 33, 34."""
 
     def __init__(self, rule):
-        built = lib.bellbadger_profile_build(raw(rule))
+        built = lib.bellbadger_profile_build(raw("Profile", "rule", rule))
         if not built.accepted:
             raise Refused(built.refused)
         self._profile = built.profile
@@ -102,7 +103,7 @@ class Profile:
 
     def run(self, chunk):
         """The mapping of a chunk. Byte 255 is an idle mark, as in a delivery. Refused with 12, 13."""
-        data = as_bytes(chunk)
+        data = as_bytes("run", "chunk", chunk)
         ran = lib.bellbadger_profile_run(self._profile, data, len(data))
         if not ran.accepted:
             raise Refused(ran.refused)
@@ -111,4 +112,4 @@ class Profile:
     def accepts(self, mapping):
         """The verdict: whether the mapping leads from an initial state to a final one. Bits for states
         that there are not mean nothing."""
-        return lib.bellbadger_profile_verdict(self._profile, _mapping(mapping)) == 1
+        return lib.bellbadger_profile_verdict(self._profile, _mapping("accepts", "mapping", mapping)) == 1

@@ -22,6 +22,7 @@
 
 import ctypes
 
+from ._arguments import one_of
 from ._library import declare, lib
 from .rules import RawRule, RawRuleResult, raw
 
@@ -46,6 +47,5 @@ def merge(way, one, two):
     Refused with 3, 4, 6, 8 for the first rule, then for the second, then 36 (different numbers of
     symbols), 37 (more than 32 states in the result). Another way raises ValueError.
     """
-    if way not in (BOTH, EITHER, INTERLEAVING):
-        raise ValueError("a way is BOTH, EITHER or INTERLEAVING")
-    return lib.bellbadger_merge(way, raw(one), raw(two)).checked_rule()
+    one_of("merge", "way", way, "BOTH, EITHER or INTERLEAVING", (BOTH, EITHER, INTERLEAVING))
+    return lib.bellbadger_merge(way, raw("merge", "one", one), raw("merge", "two", two)).checked_rule()

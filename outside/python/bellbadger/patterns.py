@@ -50,7 +50,8 @@ def rule_file(pattern):
     the left, and it has 16 symbols. Refused with 30 (over 128 bytes; those of a str are of its UTF-8),
     31 (no pattern), 32 (more than 31 letters).
     """
-    data = pattern.encode() if isinstance(pattern, str) else as_bytes(pattern)
+    text = pattern.encode("utf-8", "surrogatepass") if isinstance(pattern, str) else pattern
+    data = as_bytes("rule_file", "pattern", text, "str or bytes")
     result = lib.bellbadger_pattern(data, len(data))
     if not result.accepted:
         raise Refused(result.refused)

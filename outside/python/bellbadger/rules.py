@@ -3,7 +3,7 @@
 import ctypes
 from dataclasses import dataclass
 
-from ._arguments import as_bytes, fits
+from ._arguments import all_fitting, as_bytes, expect, fitting, whole
 from ._library import DATA, declare, lib
 from .refusals import Refused
 
@@ -32,20 +32,19 @@ class CheckedRule:
     targets: tuple = (0,) * 512
 
     def __post_init__(self):
-        object.__setattr__(self, "targets", tuple(self.targets))
+        for name, bits in (("n", 8), ("k", 8), ("initials", 32), ("finals", 32)):
+            object.__setattr__(self, name, fitting("CheckedRule", name, getattr(self, name), bits))
+        object.__setattr__(self, "targets", all_fitting("CheckedRule", "targets", self.targets, 32))
         if len(self.targets) != 512:
-            raise ValueError("a rule has 512 target masks")
-        for number in (self.n, self.k):
-            fits(number, 8)
-        for mask in (self.initials, self.finals, *self.targets):
-            fits(mask, 32)
+            raise ValueError(f"CheckedRule: targets must be 512 masks, not {len(self.targets)}")
 
     def __repr__(self):
         initial, final, arcs = members(self.initials), members(self.finals), sum(map(members, self.targets))
         return f"<CheckedRule: states {self.n}, symbols {self.k}, initial {initial}, final {final}, arcs {arcs}>"
 
     def target_mask(self, state, symbol):
-        """The mask of the states that a symbol leads to from a state."""
+        """The mask of the states that a symbol leads to from a state; 0 for one that there is not."""
+        state, symbol = whole("target_mask", "state", state), whole("target_mask", "symbol", symbol)
         return self.targets[state * 16 + symbol] if 0 <= state < 32 and 0 <= symbol < 16 else 0
 
 
@@ -76,14 +75,13 @@ class RawRuleResult(ctypes.Structure):
 declare("read", RawRuleResult, *DATA)
 
 
-def raw(rule):
+def raw(call, name, rule):
     """A checked rule for C."""
-    if not isinstance(rule, CheckedRule):
-        raise TypeError("a CheckedRule is expected")
+    expect(call, name, rule, CheckedRule)
     return RawRule(rule.n, rule.k, rule.initials, rule.finals, (ctypes.c_uint32 * 512)(*rule.targets))
 
 
 def read(file):
     """The rule in a rule file. Refused with 1 to 8."""
-    data = as_bytes(file)
+    data = as_bytes("read", "file", file)
     return lib.bellbadger_read(data, len(data)).checked_rule()

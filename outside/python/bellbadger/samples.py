@@ -10,6 +10,7 @@
 
 import ctypes
 
+from ._arguments import one_of
 from ._library import declare, lib
 from .refusals import Refused
 from .rules import RawRule, raw
@@ -41,9 +42,8 @@ def sample(wish, rule):
     Refused with 3, 4, 6, 8 as Judge.install is, then 35 (texts lead to more than 512 sets from the set of
     initial states, the empty set counted if reached). Another wish raises ValueError.
     """
-    if wish not in (ACCEPTED, REJECTED):
-        raise ValueError("a wish is ACCEPTED or REJECTED")
-    result = lib.bellbadger_sample(wish, raw(rule))
+    one_of("sample", "wish", wish, "ACCEPTED or REJECTED", (ACCEPTED, REJECTED))
+    result = lib.bellbadger_sample(wish, raw("sample", "rule", rule))
     if result.kind == _REFUSED:
         raise Refused(result.refused)
     return bytes(result.text[: result.length]) if result.kind == _TEXT else None

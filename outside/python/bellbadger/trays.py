@@ -146,26 +146,27 @@ class Tray:
     def install_row(self, rule):
         """Checks and builds a rule for the rows; accepted, it replaces the former one and removes the
         board. Refused with 3, 4, 6, 8, 9."""
-        return self._loaded(lib.bellbadger_tray_install_row(self._tray, raw(rule)))
+        return self._loaded(lib.bellbadger_tray_install_row(self._tray, raw("install_row", "rule", rule)))
 
     def install_column(self, rule):
         """The same for the columns."""
-        return self._loaded(lib.bellbadger_tray_install_column(self._tray, raw(rule)))
+        return self._loaded(lib.bellbadger_tray_install_column(self._tray, raw("install_column", "rule", rule)))
 
     def open(self, width, bands):
         """A board of that many empty bands, for rows of that width; an earlier one is dropped. Refused
         with 20 (either rule is absent), 38, 10."""
-        self._change(lib.bellbadger_tray_open(self._tray, size(width), size(bands)))
+        width, bands = size("open", "width", width), size("open", "bands", bands)
+        self._change(lib.bellbadger_tray_open(self._tray, width, bands))
 
     def deliver(self, band, rows):
         """Keeps rows, one behind the other, as a band, counted from 0; there may be none, and at most 64.
         There are no idle marks. Refused with 21, 11, 39, 13, 22."""
-        data = as_bytes(rows)
-        self._change(lib.bellbadger_tray_deliver(self._tray, size(band), data, len(data)))
+        data = as_bytes("deliver", "rows", rows)
+        self._change(lib.bellbadger_tray_deliver(self._tray, size("deliver", "band", band), data, len(data)))
 
     def withdraw(self, band):
         """Empties a band. Refused with 21, 11, 23."""
-        self._change(lib.bellbadger_tray_withdraw(self._tray, size(band)))
+        self._change(lib.bellbadger_tray_withdraw(self._tray, size("withdraw", "band", band)))
 
     def verdict(self):
         """TrayWaiting, TrayYes or TrayNo; changes nothing. Refused with 21. In an `if` write
