@@ -12,8 +12,17 @@
  * install into any number of judges (bellbadger_install).
  *
  * Threads: no function keeps anything, they work on values only; any number of threads may call at
- * once. Stack: a judge goes by value, and a chunk with idle marks is packed on the stack; for a thread
- * that calls these functions a stack of 512 KB is enough, 128 KB is not.
+ * once.
+ *
+ * Stack: judges and their like go by value, and a chunk with idle marks is packed on the stack. A thread
+ * that calls these functions should have 1 MB. Beside what the caller keeps, a judge of 28 KB and results
+ * with one in them, a call takes at most, with the copies of its arguments,
+ *   400 KB  bellbadger_replay
+ *   230 KB  bellbadger_load, bellbadger_install
+ *   210 KB  bellbadger_deliver
+ *   140 KB  bellbadger_tray_install_row, bellbadger_tray_install_column
+ *   120 KB  bellbadger_profile_run
+ *   90 KB  any other function
  */
 #ifndef BELLBADGER_H
 #define BELLBADGER_H

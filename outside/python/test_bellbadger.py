@@ -262,20 +262,36 @@ class Calls(Case):
         self.assertEqual(repr(judge), "<Judge: states 3, symbols 2, sets 5, starts 3, places 2, filled 1>")
 
     def test_a_small_stack(self):
+        """Every call on the stack that is asked for: on too small a one Python ends by a signal."""
         verdicts = []
-        record = b"load " + A.hex().encode() + b"\nopen 1\ndeliver 0 0 -\n"
+        record = b"load " + A.hex().encode() + b"\nopen 1\ndeliver 0 0 FF\n"
 
         def calls():
-            verdicts.extend([judged(A, [0], [1]), replay(record), Judge().install(read(A))])
+            judge, rule, tray = self.opened(1), read(A), bellbadger.trays.Tray()
+            judge.deliver(0, 0, b"\xff\0\1" * 9)
+            verdicts.extend([judge.verdict(), replay(record), judge.install(rule)])
+            profile = bellbadger.mappings.Profile(rule)
+            verdicts.append(profile.accepts(bellbadger.mappings.compose(profile.run(b"\xff\0"), profile.run(b"\1"))))
+            verdicts.append(bellbadger.samples.sample(bellbadger.samples.ACCEPTED, rule))
+            verdicts.append(len(bellbadger.patterns.rule_file("(a|b)*ab")))
+            verdicts.append(bellbadger.merge.merge(bellbadger.merge.EITHER, rule, rule).n)
+            verdicts.append(len(bellbadger.form.table(bellbadger.form.form(judge))))
+            tray.install_row(rule)
+            tray.install_column(rule)
+            tray.open(2, 1)
+            tray.deliver(0, bytes([0, 1]))
+            verdicts.append(tray.verdict())
+            tray.withdraw(0)
 
-        before = threading.stack_size(512 * 1024)
+        before = threading.stack_size(1024 * 1024)
         try:
             thread = threading.Thread(target=calls)
             thread.start()
             thread.join()
         finally:
             threading.stack_size(before)
-        self.assertEqual(verdicts, [Yes(3, 2, 1, 1), No(0, 0, 0, 0), Loaded(5, 3)])
+        due = [Yes(18, 18, 1, 0), No(0, 0, 0, 0), Loaded(5, 3), True, bytes([0, 1]), 50, 6, 5, bellbadger.trays.TrayNo()]
+        self.assertEqual(verdicts, due)
 
 
 class Records(unittest.TestCase):

@@ -49,8 +49,8 @@
 //!
 //! # Threads and stack
 //!
-//! No call keeps anything outside its judge. A judge goes by value within the library: for a thread
-//! that calls it a stack of 512 KB is enough, 128 KB is not (Rust's own threads have 2 MB).
+//! No call keeps anything outside its judge. A judge goes by value within the library: a thread that
+//! calls it should have a stack of 1 MB (Rust's own threads have 2 MB).
 pub mod form;
 pub mod mappings;
 pub mod merge;
