@@ -46,7 +46,7 @@ A rule file can be read without a judge, and the rule that comes of it installed
 
 A refused call raises Refused, which has the number, and leaves the judge as it was. Any number of
 threads may call at once, each with a judge of its own. A thread that calls should have a stack of
-1 MB (threading.stack_size; what a thread has without it is more).
+1 MB (threading.stack_size).
 
 Each further subject is a module: mappings, samples, patterns, merge, trays, form, texts.
 
