@@ -2,6 +2,8 @@
 #ifndef BELLBADGER_TEXTS_H
 #define BELLBADGER_TEXTS_H
 
+#include "bellbadger.h"
+
 #ifdef __cplusplus
 extern "C" {
 #endif

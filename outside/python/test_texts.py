@@ -3,9 +3,9 @@
 import doctest
 import unittest
 
-import bellbadger_texts
+import bellbadger.texts
 from bellbadger import CheckedRule, Judge, Refused, Yes
-from bellbadger_texts import make_text
+from bellbadger.texts import make_text
 
 
 class Texts(unittest.TestCase):
@@ -46,7 +46,7 @@ class Texts(unittest.TestCase):
 
 
 def load_tests(loader, tests, pattern):
-    tests.addTests(doctest.DocTestSuite(bellbadger_texts))
+    tests.addTests(doctest.DocTestSuite(bellbadger.texts))
     return tests
 
 
