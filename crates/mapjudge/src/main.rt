@@ -1,7 +1,7 @@
 // A mapping judge on standard input and output, a line for each call and an answer a line: `build
 // HEX`, `run HEX`, `compose F G`, `verdict F`. HEX is `-` for no bytes; F and G are mappings, sixteen
-// hex digits each. An empty line forgets the profile. What a line means and how it is answered is
-// proved in the crates below; this program only reads and writes. The answers to a block that was
+// hex digits each. An empty line forgets the profile; a malformed line ends its list, and up to an
+// empty line nothing is run. What a line means and how it is answered is proved in the crates below; this program only reads and writes. The answers to a block that was
 // read are written before the next is read, all at once where their buffer holds them. Where it
 // cannot read or write it says so on standard error and stops. What it prints is no promise, since
 // the C library's `write` makes none: a test holds it.
@@ -141,7 +141,7 @@ fn run(line: &mut [u8], bytes: &mut [u8], out: &mut [u8], block: &mut [u8])
 }
 
 fn main() {
-    if stdio::has_arguments(b"usage: mapjudge < CALLS   (takes no arguments; see README.md)\n") {
+    if stdio::has_arguments(b"usage: mapjudge < CALLS   (takes no arguments; see docs/MAPPINGS.md)\n") {
         return;
     }
     let mut line = [0u8; mapstream::LINE];

@@ -53,7 +53,14 @@ fn say_skipped(out: &mut [u8], ended: bool) -> Said
 
 // The answer to a line that has ended and leaves the profile as it is, and whether the list has
 // ended.
-fn answer_held(state: MapState, ended: bool, line: &[u8], held: Held, bytes: &mut [u8], out: &mut [u8]) -> Said
+fn answer_held(
+    state: MapState,
+    ended: bool,
+    line: &[u8],
+    held: Held,
+    bytes: &mut [u8],
+    out: &mut [u8],
+) -> Said
     requires { ⌜ (changesHeld (now line) held ≡ false) × (bytesRoom ≤ length (now bytes)) × (mostAnswer ≤ length (now out)) ⌝ }
     ensures { λ r. ⌜ listOf state (r .ended) ≡ heldStep mapLines (listOf state ended) (now (line .entry)) held .state ⌝ }
     ensures text { λ r. ⌜ Wrote (now (out .entry)) 0 (heldStep mapLines (listOf state ended) (now (line .entry)) held .text) (now (out .exit)) (r .written) ⌝ }
@@ -71,7 +78,14 @@ fn answer_held(state: MapState, ended: bool, line: &[u8], held: Held, bytes: &mu
 }
 
 // Any line that has ended: its answer, the state that it leaves, and whether the list has ended.
-fn run_held(state: MapState, ended: bool, line: &[u8], held: Held, bytes: &mut [u8], out: &mut [u8]) -> Answered
+fn run_held(
+    state: MapState,
+    ended: bool,
+    line: &[u8],
+    held: Held,
+    bytes: &mut [u8],
+    out: &mut [u8],
+) -> Answered
     requires { ⌜ (bytesRoom ≤ length (now bytes)) × (mostAnswer ≤ length (now out)) ⌝ }
     ensures { λ r. ⌜ listOf (r .state) (r .said .ended) ≡ heldStep mapLines (listOf state ended) (now (line .entry)) held .state ⌝ }
     ensures text { λ r. ⌜ Wrote (now (out .entry)) 0 (heldStep mapLines (listOf state ended) (now (line .entry)) held .text) (now (out .exit)) (r .said .written) ⌝ }
@@ -144,7 +158,13 @@ pub fn gather(
 }
 
 // The end of the text.
-pub fn finish(state: MapState, pending: Pending, line: &[u8], bytes: &mut [u8], out: &mut [u8]) -> usize
+pub fn finish(
+    state: MapState,
+    pending: Pending,
+    line: &[u8],
+    bytes: &mut [u8],
+    out: &mut [u8],
+) -> usize
     requires { ⌜ (mapRoom + 1 ≤ length (now line)) × (bytesRoom ≤ length (now bytes)) × (mostAnswer ≤ length (now out)) ⌝ }
     ensures { λ r. ⌜ Wrote (now (out .entry)) 0 (finishOf mapLines (textState state pending (now (line .entry))) .text) (now (out .exit)) r ⌝ }
     ensures scratch { λ r. ⌜ Scratch (now (bytes .entry)) (now (bytes .exit)) ⌝ }

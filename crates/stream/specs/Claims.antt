@@ -18,6 +18,7 @@ use Rattle.linetexts.specs.Lists.{Listed, listOf, NoneEmpty, skippedLines}
 use Rattle.linetexts.specs.Claims.{Told, linesStep, streamOf, Blocks}
 use Rattle.calltext.specs.Meaning.{malformed, lineIn}
 use Rattle.calltext.specs.Answers.{unread, responseText}
+use Rattle.stream.specs.Worked.{cutText, cutAnswers}
 use Rattle.stream.specs.Texts.{callLines, rightText}
 
 pub record Claims : Type 0 where
@@ -31,6 +32,7 @@ pub record Claims : Type 0 where
       → rightText (some h) (l ∷ ls) ≡ responseText unread ++ skippedLines ls
   pub afresh : (h : List Call) (l : List ℕ) (ls more : List (List ℕ)) → lineIn l ≡ malformed → NoneEmpty ls
       → rightText (some h) ((l ∷ ls) ++ ([] ∷ more)) ≡ responseText unread ++ (skippedLines ls ++ ((10 ∷ []) ++ rightText (some []) more))
+  pub worked : rightText (some []) (linesOf cutText) ≡ cutAnswers
   -- what is answered to the blocks, fed one after the other, and to the end is right for the lines of
   -- the blocks joined
   pub answered : (blocks : List (List ℕ)) (line : List ℕ) → lineRoom ≤ length line

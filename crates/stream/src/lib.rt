@@ -36,7 +36,14 @@ pub struct Gathered {
 
 // A line that has ended, with its answer at the start of `out`. `bytes` is for the bytes that it
 // carries.
-fn answer(judge: Judge, ended: bool, line: &[u8], held: Held, bytes: &mut [u8], out: &mut [u8]) -> Answered
+fn answer(
+    judge: Judge,
+    ended: bool,
+    line: &[u8],
+    held: Held,
+    bytes: &mut [u8],
+    out: &mut [u8],
+) -> Answered
     requires { ⌜ (lineRoom ≤ length (now line)) × (bytesRoom ≤ length (now bytes)) × (answerRoom ≤ length (now out)) ⌝ }
     ensures { λ r. ⌜ listOf (r .judge) (r .ended) ≡ heldStep callLines (listOf judge ended) (now (line .entry)) held .state ⌝ }
     ensures text { λ r. ⌜ Wrote (now (out .entry)) 0 (heldStep callLines (listOf judge ended) (now (line .entry)) held .text) (now (out .exit)) (r .written) ⌝ }
@@ -134,7 +141,13 @@ pub fn gather(
 }
 
 // The end of the text.
-pub fn finish(judge: Judge, pending: Pending, line: &[u8], bytes: &mut [u8], out: &mut [u8]) -> usize
+pub fn finish(
+    judge: Judge,
+    pending: Pending,
+    line: &[u8],
+    bytes: &mut [u8],
+    out: &mut [u8],
+) -> usize
     requires { ⌜ (lineRoom ≤ length (now line)) × (bytesRoom ≤ length (now bytes)) × (answerRoom ≤ length (now out)) ⌝ }
     ensures { λ r. ⌜ Wrote (now (out .entry)) 0 (finishOf callLines (textState judge pending (now (line .entry))) .text) (now (out .exit)) r ⌝ }
     ensures scratch { λ r. ⌜ Scratch (now (bytes .entry)) (now (bytes .exit)) ⌝ }

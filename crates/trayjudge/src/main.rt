@@ -1,7 +1,7 @@
 // A tray on standard input and output, a line for each call and an answer a line: `row HEX` and
 // `column HEX` (rule files), `open W N`, `deliver B HEX`, `withdraw B`, `verdict`. HEX is `-` for no
-// bytes. An empty line begins with a fresh tray. What a line means and how it is answered is proved in
-// the crates below; this program only reads and writes. The answers to a block that was read are
+// bytes. An empty line begins with a fresh tray; a malformed line ends its list, and up to an empty
+// line nothing is run. What a line means and how it is answered is proved in the crates below; this program only reads and writes. The answers to a block that was read are
 // written before the next is read, all at once where their buffer holds them. Where it cannot read or
 // write it says so on standard error and stops. What it prints is no promise, since the C library's
 // `write` makes none: a test holds it.
@@ -68,11 +68,19 @@ fn run_block(
         let written = round.written;
         if !write_answers(&out[..written]) {
             let failed = true;
-            return Reading { tray, pending, failed };
+            return Reading {
+                tray,
+                pending,
+                failed,
+            };
         }
     }
     let failed = false;
-    Reading { tray, pending, failed }
+    Reading {
+        tray,
+        pending,
+        failed,
+    }
 }
 
 // All blocks, up to the end of the input.
@@ -95,17 +103,29 @@ fn run_blocks(line: &mut [u8], bytes: &mut [u8], out: &mut [u8], block: &mut [u8
             }
             Block::End => {
                 let failed = false;
-                return Reading { tray, pending, failed };
+                return Reading {
+                    tray,
+                    pending,
+                    failed,
+                };
             }
             Block::Failed => {
                 let failed = true;
-                return Reading { tray, pending, failed };
+                return Reading {
+                    tray,
+                    pending,
+                    failed,
+                };
             }
         }
         turns -= 1;
     }
     let failed = false;
-    Reading { tray, pending, failed }
+    Reading {
+        tray,
+        pending,
+        failed,
+    }
 }
 
 fn run(line: &mut [u8], bytes: &mut [u8], out: &mut [u8], block: &mut [u8])
@@ -120,7 +140,7 @@ fn run(line: &mut [u8], bytes: &mut [u8], out: &mut [u8], block: &mut [u8])
 }
 
 fn main() {
-    if stdio::has_arguments(b"usage: trayjudge < CALLS   (takes no arguments; see README.md)\n") {
+    if stdio::has_arguments(b"usage: trayjudge < CALLS   (takes no arguments; see docs/PROGRAMS.md)\n") {
         return;
     }
     let mut line = [0u8; traystream::LINE];

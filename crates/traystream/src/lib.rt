@@ -49,7 +49,14 @@ fn run_held(tray: Tray, line: &[u8], held: Held, bytes: &mut [u8]) -> LineRun
 }
 
 // A line that has ended, with its answer at the start of `out`.
-fn answer_held(tray: Tray, ended: bool, line: &[u8], held: Held, bytes: &mut [u8], out: &mut [u8]) -> Answered
+fn answer_held(
+    tray: Tray,
+    ended: bool,
+    line: &[u8],
+    held: Held,
+    bytes: &mut [u8],
+    out: &mut [u8],
+) -> Answered
     requires { ⌜ (bytesRoom ≤ length (now bytes)) × (mostAnswer ≤ length (now out)) ⌝ }
     ensures { λ r. ⌜ listOf (r .tray) (r .ended) ≡ heldStep trayLines (listOf tray ended) (now (line .entry)) held .state ⌝ }
     ensures text { λ r. ⌜ Wrote (now (out .entry)) 0 (heldStep trayLines (listOf tray ended) (now (line .entry)) held .text) (now (out .exit)) (r .written) ⌝ }
