@@ -112,7 +112,6 @@ WRONG_VALUES = (
     (sample, [0.0, A], "sample: wish must be ACCEPTED or REJECTED, not 0.0"),
     (merge, [3, A, A], "merge: way must be BOTH, EITHER or INTERLEAVING, not 3"),
     (merge, [1.0, A, A], "merge: way must be BOTH, EITHER or INTERLEAVING, not 1.0"),
-    (make_text, [256, 1, 1], "make_text: k must be 0 to 255, not 256"),
     (make_text, [1, 2**64, 1], "make_text: seed must be 0 to 18446744073709551615, not 18446744073709551616"),
     (make_text, [1, 1, -1], "make_text: length must be 0 to 9223372036854775807, not -1"),
     (Form, [256, (0,), (1,), (0,)], "Form: symbols must be 0 to 255, not 256"),
