@@ -63,7 +63,9 @@ fn a_rule_takes_them() {
         };
         let mut judge = Judge::new();
         assert!(judge.install(&rule).is_ok() && judge.open(1).is_ok());
-        assert!(judge.deliver(0, 0, &made(usize::from(k), 41, 65536)).is_ok());
+        assert!(judge
+            .deliver(0, 0, &made(usize::from(k), 41, 65536))
+            .is_ok());
         let verdict = judge.verdict().expect("a board").verdict;
         assert_eq!(verdict, Verdict::Yes(65536));
     }
