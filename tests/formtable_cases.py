@@ -106,6 +106,10 @@ def forms():
     yield sets, symbols, failure, masks, [511] + cells[1:]
     for n, k in [(0, 2), (513, 2), (65535, 2), (5, 0), (5, 17), (5, 255)]:
         yield n, k, failure, masks, cells
+    # 5 sets and 2 symbols where the numbers are cut to 16 and 8 bits, or to 32
+    for n, k in [(65536, 2), (65541, 2), (2 ** 32 + 5, 2), (2 ** 64 - 1, 2), (5, 256), (5, 258), (5, 2 ** 32 + 2),
+                 (5, 2 ** 64 - 1), (65541, 258), (2 ** 64 - 1, 2 ** 64 - 1)]:
+        yield n, k, failure, masks, cells
     yield 512, 16, [], [65535], [512] * 16
     yield 1, 16, [], [65535], []
     for _ in range(40):
@@ -129,8 +133,16 @@ def malformed():
     yield good.rsplit(" ", 1)[0]
     yield good + "0"
     yield good + "00"
-    yield good.replace("5 ", "65536 ", 1)
-    yield good.replace("5 2 ", "5 256 ", 1)
+    yield good.replace("5 ", f"{2 ** 64} ", 1)
+    yield good.replace("5 2 ", f"5 {2 ** 64} ", 1)
+    # malformed comes before 40, whatever the numbers
+    for numbers in ["65541 2 ", "5 258 ", f"{2 ** 64 - 1} {2 ** 64 - 1} "]:
+        great = good.replace("5 2 ", numbers, 1)
+        yield from [great + " ", great + "0", great + "00", great.rsplit(" ", 1)[0]]
+        yield numbers + "0G00 0300 00000000"
+        yield line_of(*numbers.split(), [0] * 513, [3], [0, 0])
+        yield line_of(*numbers.split(), [0], [3] * 513, [0, 0])
+        yield line_of(*numbers.split(), [0], [1], [0] * 8193)
     yield good.replace("5 ", "-5 ", 1)
     yield good.replace("5 ", "000000000000000000005 ", 1)
     yield line_of(5, 2, [0] * 513, [3], [0, 0])

@@ -29,7 +29,7 @@ def answer(line):
     if not re.fullmatch(rb"[0-9]{1,20} [0-9]{1,20} [0-9]{1,20}", line, re.DOTALL):
         return "malformed"
     k, seed, length = map(int, line.split(b" "))
-    if k >= 256 or seed >= 2 ** BITS or length > 65536:
+    if k >= 2 ** BITS or seed >= 2 ** BITS or length > 65536:
         return "malformed"
     if not 1 <= k <= 16:
         return "refused 4"
@@ -41,13 +41,15 @@ def answer(line):
 
 def cases():
     seeds = [0, 1, 2, 127, 128, 2 ** 63, 2 ** 64 - 1, 2 ** 64]
-    for k in [0, 1, 2, 3, 15, 16, 17, 255, 256]:
+    # 256 and more: what is 0, 1 or 16 where K is cut to fewer bits
+    for k in [0, 1, 2, 3, 15, 16, 17, 255, 256, 257, 272, 65537, 2 ** 32 + 1, 2 ** 64 - 1, 2 ** 64]:
         for seed in seeds:
             yield f"{k} {seed} 5"
     for length in [0, 1, 2, 63, 64, 65, 255, 256, 65536, 65537, 2 ** 64 - 1, 2 ** 64]:
         yield f"7 1 {length}"
     # malformed comes before every refusal
-    yield from ["0 0 65537", "17 0 65537", "256 0 0", "0 18446744073709551616 0"]
+    yield from ["0 0 65537", "17 0 65537", "256 0 65537", "0 18446744073709551616 0", "18446744073709551616 0 0"]
+    yield from ["256 1 8", "18446744073709551615 1 8"]
     # fields of the most digits, and of one more
     yield from ["16 00000000000000000001 00000000000000000003", "0" * 18 + "16 " + "0" * 19 + "1 " + "0" * 19 + "3"]
     yield from ["16 000000000000000000001 3", "0" * 19 + "16 1 3", "16 1 " + "0" * 20 + "3"]

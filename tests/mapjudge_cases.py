@@ -2,7 +2,8 @@
 """Writes the cases of the program mapjudge: crates/mapjudge/stdin and stdout. With --check it writes
 nothing and says whether they are what it would write.
 
-A case is a line. Its answer is computed here from the words of document 02, R-8 and R-5, and shares
+A case is a line; one that is malformed ends its list, and what follows is skipped up to an empty line.
+Each answer is computed here from the words of document 02, R-8 and R-5, and shares
 nothing with the Rattle code: a mapping is a tuple of sets, the mapping of a chunk follows each state
 over the chunk's text and looks nothing up in a profile, and a verdict asks for an initial state that
 is mapped to a set with a final one. tests/ruleprint_cases.py has the reader of rule files.
@@ -56,7 +57,7 @@ def mappings_of(n, k, targets):
 
 class MapJudge:
     def __init__(self):
-        self.rule = None
+        self.rule, self.ended = None, False
 
     def build(self, file):
         n, k, _, targets = read(file)
@@ -82,11 +83,14 @@ class MapJudge:
 
     def answer(self, line):
         if line == "":
-            self.rule = None
+            self.rule, self.ended = None, False
             return ""
+        if self.ended:
+            return "skipped"
         word, *fields = line.split(" ")
         grammar = {"build": [BYTES], "run": [BYTES], "compose": [MAPPING] * 2, "verdict": [MAPPING]}.get(word)
         if not grammar or len(fields) != len(grammar) or not all(g.fullmatch(f) for g, f in zip(grammar, fields)):
+            self.ended = True
             return "malformed"
         try:
             if word == "build":
@@ -142,8 +146,8 @@ def made(seed, count):
 
 
 IDENTITY, SOME = "0102040810204080", "FF00FF0012345678"
-ALONE = ["run 00", "run 000", "verdict " + IDENTITY, "verdict x", f"compose {SOME} {IDENTITY}", f"compose {IDENTITY} {SOME}",
-         f"compose 0204000000000000 0400010000000000", "build", "build ", "build -", "build " + RULE_A.hex(),
+ALONE = ["run 00", "verdict " + IDENTITY, f"compose {SOME} {IDENTITY}", f"compose {IDENTITY} {SOME}",
+         f"compose 0204000000000000 0400010000000000", "build -", "build " + RULE_A.hex(),
          "run -", "run 00", "run 0001", "run 01FF00", "run ffFF", "run 02", "run ff02", "run FE", "run fe",
          "verdict 0500000000000000", "verdict 0300000000000000", "verdict 04fffFffffffffff", "verdict 00FFFFFFFFFFFFFF",
          # a refused build keeps the former profile
@@ -151,9 +155,9 @@ ALONE = ["run 00", "run 000", "verdict " + IDENTITY, "verdict x", f"compose {SOM
          "build " + shift_rule(8).hex(), "run 0001", "build " + RULE_B.hex(), "run 00", "run 0000", "run 01",
          "verdict 0600000000000000",
          # an empty line forgets it
-         "", "run 00", "verdict " + IDENTITY, f"compose {IDENTITY} {IDENTITY}", "", "", "build " + RULE_B.hex(), "run 00"]
-# malformed lines, which change nothing, with a profile and without
-OUTSIDE = [" ", "  ", " run 00", "run  00", "run 00 ", "run 00 00", "run", "run ", "run 0", "run 0g", "run --", "run -0", "Run 00",
+         "", "run 00", "verdict " + IDENTITY, f"compose {IDENTITY} {IDENTITY}", "", "", "build " + RULE_B.hex(), "run 00", ""]
+# malformed lines
+OUTSIDE = ["build", "build ", "run 000", "verdict x", " ", "  ", " run 00", "run  00", "run 00 ", "run 00 00", "run", "run ", "run 0", "run 0g", "run --", "run -0", "Run 00",
            "runs 00", "run\t00", "run 00\r", "verdict", "verdict ", "verdict -", "verdict " + IDENTITY[:-1], "verdict " + IDENTITY + "0",
            "verdict " + IDENTITY[:-1] + "g", "verdict " + IDENTITY + " ", f"verdict {IDENTITY} {IDENTITY}", "compose", "compose ",
            f"compose {IDENTITY}", f"compose {IDENTITY} ", f"compose  {IDENTITY} {IDENTITY}", f"compose {IDENTITY}  {IDENTITY}",
@@ -164,13 +168,21 @@ OUTSIDE = [" ", "  ", " run 00", "run  00", "run 00 ", "run 00 00", "run", "run 
 LONG = ["run " + "00" * 65536, "run " + "ff" * 65536, "run " + "ff" * 65537, "run " + "02" * 65537, "run " + "00" * 65537 + "0",
         "run " + "00" * 65538, "run " + "00" * 70000 + "g0", "run " + "00" * 70000 + " ", "build " + "00" * 32906, "build " + "00" * 32907,
         "build " + "00" * 70000, "build " + "00" * 70000 + "0", f"compose {IDENTITY} " + "0" * 140000, "verdict " + "0" * 140001,
-        "runs" + "0" * 140000, "run 00"]
+        "runs" + "0" * 140000]
+# what follows a malformed line is skipped, whatever it says, and does nothing; the verdict too
+ENDED = ["build " + RULE_A.hex(), "run 0001", "verdict", "verdict 0500000000000000", f"compose {IDENTITY} {SOME}", "build " + RULE_B.hex(), "run 00", "run 0",
+         LONG[0], LONG[4], "no profile", "", "run 00", "build " + RULE_B.hex(), "run 00", "x", "", "", "verdict " + IDENTITY, "x", "build " + RULE_A.hex(), "",
+         "run 00", "build " + RULE_A.hex(), "run 0001", "verdict 0500000000000000", ""]
 
 
 def main():
-    lines = ALONE + OUTSIDE + ["build " + RULE_A.hex()] + OUTSIDE + LONG + made(8, 40) + ["", *LONG[2:4]]
+    lines = ALONE + ENDED + made(8, 40) + ["", *LONG[2:4], ""]
+    for outside in OUTSIDE:
+        lines += [outside, f"compose {SOME} {IDENTITY}", "", "build " + RULE_A.hex(), outside, "run 0001", ""]
+    for long in LONG:
+        lines += ["build " + RULE_A.hex(), long, "run 00", ""]
     # the last line may end with the input
-    lines.append("run 0")
+    lines += ["run 0", "run 0"]
     judge = MapJudge()
     expected = "".join(judge.answer(line) + "\n" for line in lines)
     for name, content in (("stdin", "\n".join(lines)), ("stdout", expected)):

@@ -3,7 +3,9 @@
 nothing and says whether they are what it would write.
 
 A case is a list of lines, ended by an empty line, which starts again with a fresh judge. What a line means is
-told here by patterns, and the answers are computed by the judge of tests/paper_judge.py.
+told here by patterns, and the answers are computed by the judge of tests/paper_judge.py. A line without meaning ends
+its list: what follows in it is skipped. This would catch a program that goes on behind such a line, or that does not
+begin afresh after the empty one.
 """
 import os
 import random
@@ -55,6 +57,15 @@ def answer(judge, line):
         return getattr(judge, call[0])(*call[1:])
     except Refused as refused:
         return f"refused {refused}"
+
+
+def answers(lines):
+    """The answers to the lines of a list."""
+    judge, ended = Judge(), False
+    for each in lines:
+        said = "skipped" if ended else answer(judge, each)
+        ended = ended or said == "malformed"
+        yield said
 
 
 def line(call):
@@ -148,7 +159,7 @@ DELIVERIES = [(0, 0, b"\1"), (1, 5, b"\1"), (0, 2, b"\0\0"), (1, 4, b"\0"), (0, 
 LONG = bytes([0, 1]) * 32768
 FULL = rule(32, 16, 1, 1, [(q, s, t) for q in range(32) for s in range(16) for t in range(32)])
 
-# lines that say no call; between them the judge keeps what it has
+# lines that say no call
 MALFORMED = [
     b"load", b"load ", b"load  00", b" load 00", b"load 0", b"load 0g", b"load 00 ", b"load 00 00", b"LOAD 00", b"load --", b"load -00",
     b"load 00\r", b"install", b"install ", b"install -", b"install 00", b"installed 00", b"INSTALL 00",
@@ -161,6 +172,8 @@ MALFORMED = [
     b"deliver 0 4294967296 00", b"deliver 0 18446744073709551615 00", b"deliver 0 18446744073709551616 00", b"deliver 0 000000000000000000000 00",
     b"withdraw", b"withdraw ", b"withdraw 0 0", b"withdraw x", b"close", b" ", b"\r", b"\0", b"\xff\xfe", b"verdict verdict",
 ]
+# the digits of a trace as `xxd -p` breaks them, after 30 bytes; its fault, a last event 0, is in the second line
+WRAPPED = [("load", A), ("open", 1), b"deliver 0 0 " + b"00" * 29 + b"01", b"00", ("verdict",)]
 # lines longer than any call that is accepted, whose beginnings are the same; in the last two of the deliveries the fields before the bytes
 # have as many digits as they may have, and the bytes are one more than a chunk has
 DIGITS = b"00" * 65568
@@ -242,8 +255,9 @@ CASES = [
                                ("verdict",), ("withdraw", 0), ("open", 1), ("deliver", 0, 0, b"\1\0"), ("verdict",), ("load", NO_RULE), ("verdict",),
                                ("load", A), ("verdict",), ("open", 1), ("deliver", 0, 0, b"\1\0"), ("verdict",)],
     # one byte less and one more, half a byte more, a file; a value is no file; hex digits of either case
-    [("load", A), ("open", 1), ("install", changed()[:-1]), ("install", changed() + b"\0"), line(("install", changed())) + b"0", ("install", A),
-     ("install", b""), ("load", changed()), ("verdict",), b"install " + changed().hex().upper().encode(), ("verdict",)],
+    *([("load", A), ("open", 1), bad, ("verdict",)] for bad in (
+        ("install", changed()[:-1]), ("install", changed() + b"\0"), line(("install", changed())) + b"0", ("install", A), ("install", b""))),
+    [("load", A), ("open", 1), ("load", changed()), ("verdict",), b"install " + changed().hex().upper().encode(), ("verdict",)],
     # states that lead nowhere: no start, no delegate. A run may go on in them and counts; what the next place runs, and C's members
     # that have a delegate, begin anew. State 0 stands in for none of them: by 1 and then 0 the answer is no
     judged(ASTRAY, b"\0"),
@@ -290,25 +304,36 @@ CASES = [
     # n 33; hex digits of either case; the largest number of digits, in a place and in a revision
     [("load", b"\x21" + A[1:]), b"load " + A.hex().upper().encode(), b"open 00000000000000000001",
      b"deliver 00000000000000000000 00000000004294967295 0001", ("verdict",)],
-    # lines that are malformed, and lines that are very long
-    judged(A, b"\0", b"\1") + [x for bad in MALFORMED for x in (bad, ("verdict",))],
-    [("load", A), ("open", 1)] + LONGER + [("verdict",), ("deliver", 0, 0, b"\0"), ("verdict",)],
+    # lines that are malformed, and lines that are very long, each in a list of its own
+    *(judged(A, b"\0", b"\1") + [bad, ("verdict",)] for bad in MALFORMED),
+    *([bad] for bad in MALFORMED),
+    *([("load", A), ("open", 1), long, ("deliver", 0, 0, b"\0"), ("verdict",)] for long in LONGER),
+    # what follows a malformed line is skipped: each call, another malformed line, lines that are very long, the wrapped rest of a delivery;
+    # two empty lines are as good as one, and nothing of what was skipped is there then
+    WRAPPED,
+    [],
+    judged(A, b"\0\1") + [b"verdict ", ("load", B), ("install", changed()), ("open", 2), ("deliver", 0, 1, b""), ("withdraw", 0), ("verdict",), b"verdict ",
+                          ("verdict",)],
+    [("verdict",), ("open", 1)],
+    [b"load", ("load", A), ("open", 1)],
+    [("open", 1), ("load", A), ("open", 1), ("verdict",), b"x", b"skipped", b"malformed"],
+    [("load", A), ("open", 1), b"x", LONGER[0], ("verdict",), LONGER[1], LONGER[-1], ("verdict",)],
+    judged(B, b"\0"),
 ] + [random_calls(seed) for seed in range(32)]
 # the last line is ended by the end of the input
 LAST = [("load", A), ("open", 1), ("verdict",)]
 
 
 def main():
-    calls, answers = b"", ""
+    calls, due = b"", ""
     for case in CASES + [LAST]:
-        judge = Judge()
-        for call in case:
-            calls += line(call) + b"\n"
-            answers += answer(judge, line(call)) + "\n"
+        lines = [line(call) for call in case]
+        calls += b"".join(each + b"\n" for each in lines)
+        due += "".join(said + "\n" for said in answers(lines))
         if case is not LAST:
             calls += b"\n"
-            answers += "\n"
-    for name, text in (("stdin", calls[:-1]), ("stdout", answers.encode())):
+            due += "\n"
+    for name, text in (("stdin", calls[:-1]), ("stdout", due.encode())):
         path = os.path.join(CRATE, name)
         if sys.argv[1:] == ["--check"]:
             if open(path, "rb").read() != text:

@@ -2,7 +2,8 @@
 """Writes the cases of the program trayjudge: crates/trayjudge/stdin and stdout. With --check it writes
 nothing and says whether they are what it would write.
 
-A case is a line. Its answer is computed here from the words of document 02, R-13, and shares nothing
+A case is a line; one that is malformed ends its list, and what follows is skipped up to an empty line.
+Each answer is computed here from the words of document 02, R-13, and shares nothing
 with the Rattle code: the rows of all bands are cut out of the joined bytes, a column is every
 width-th byte of them, and each is accepted by following the automaton over it. tests/ruleprint_cases.py
 has the reader of rule files, the numbering of sets and the starts.
@@ -112,13 +113,16 @@ def meaning(line):
 
 
 def answers(lines):
-    tray = Tray()
+    tray, ended = Tray(), False
     for line in lines:
         call = meaning(line)
         if line == "":
-            tray = Tray()
+            tray, ended = Tray(), False
             yield ""
+        elif ended:
+            yield "skipped"
         elif call is None:
+            ended = True
             yield "malformed"
         else:
             try:
@@ -183,7 +187,7 @@ FILES = ["row -", "column 00", "row " + "00" * 32906, "row " + "00" * 32907, "co
          "row " + (ANY[:2] + b"\2" + ANY[3:]).hex(), "column " + (ANY[:10] + b"\0" + ANY[11:]).hex(), "row " + (ANY[:-1] + b"\1").hex(),
          "row " + many_sets(4).hex(), "row " + many_sets(5).hex(), "column " + many_sets(5).hex().upper(), "column " + many_sets(4).hex().upper(),
          "open 2 1", "deliver 0 0001", "verdict", ""]
-# malformed lines, which change nothing
+# malformed lines
 OUTSIDE = [" ", "row", "row ", "row  00", " row 00", "row 0", "row 0g", "row 00 ", "row 00 00", "row --", "row -0", "Row 00", "rows 00", "row\t00", "row 00\r",
            "column", "column ", "column 0", "column 00 ", "column -00", "columns 00", "COLUMN 00", "open", "open ", "open 1", "open 1 ", "open  1 1", "open 1  1",
            "open 1 1 ", "open 1 1 1", "open -1 1", "open 1 +1", "open 0x1 1", "open 1 1\r", "open 1 18446744073709551616", "open 18446744073709551616 1",
@@ -195,7 +199,12 @@ LONG = ["deliver 0 " + "00" * 1025, "deliver 00000000000000000000 " + "00" * 329
         "deliver 0 " + "00" * 33000 + "g0", "deliver 9 " + "00" * 33000, "deliver " + "0" * 66000, "deliver 000000000000000000000 " + "00" * 33000,
         "row " + "00" * 33000, "row " + "00" * 33000 + "0", "row " + "00" * 33000 + "-", "column " + "00" * 33000, "column " + "00" * 32908,
         "column " + "00" * 32907 + "0", "column " + "00" * 32907 + " ", "open 1 " + "0" * 66000, "open " + "0" * 66000 + " 1", "withdraw " + "0" * 66001,
-        "verdict" + "0" * 66000, "rows" + "0" * 66000, "verdict"]
+        "verdict" + "0" * 66000, "rows" + "0" * 66000]
+BOARD = [*rules(EVEN, EVEN), "open 2 2", "deliver 1 0001"]
+# what follows a malformed line is skipped, whatever it says, and does nothing; the verdict too
+ENDED = [*BOARD, "deliver 0 0100", "verdict", "0100", "verdict", "withdraw 1", "deliver 0 0100", "open 1 1", *rules(ANY, ANY), "verdict ", *LONG[2:4], "verdict", "",
+         "verdict", "open 1 1", "", *BOARD, "deliver 0 01", "verdict", "deliver 0 0", "verdict", "", "", "row", *BOARD, "", "verdict", *BOARD, "verdict",
+         "deliver 0 0100", "verdict", "x", ""]
 
 
 def made(seed):
@@ -220,8 +229,13 @@ def made(seed):
 
 
 def main():
-    lines = STARTING + VERDICTS + NUMBERS + FILES + OUTSIDE
-    lines += [*rules(EVEN, EVEN), "open 2 2", "deliver 1 0001", *OUTSIDE, "verdict", *LONG, "deliver 0 0100", "verdict", "", *LONG[:6], ""]
+    lines = STARTING + VERDICTS + NUMBERS + FILES + ENDED
+    for outside in OUTSIDE:
+        lines += [outside, "verdict", "", *BOARD, outside, "verdict", ""]
+    for long in LONG:
+        lines += [*BOARD, long, "deliver 0 0100", "verdict", ""]
+    for long in LONG[:6]:
+        lines += [long, ""]
     for seed in range(40):
         lines += made(seed)
     # a refusal, and then a line outside the grammar; the last line may end with the input

@@ -1,4 +1,4 @@
-/* The valve trace judge, for x86-64. Link target/staticlib/libbellbadger.a, which outside/build makes.
+/* The valve trace judge, for x86-64, from C99 or C++11 on. Link target/lib/libbellbadger.a, which outside/build makes.
  *
  * The caller keeps the judge and hands it in by value; each call that may change it hands the next
  * one back. A refused call hands back the judge that came: look at `accepted` after every call. Any
@@ -12,12 +12,22 @@
  * install into any number of judges (bellbadger_install).
  *
  * Threads: no function keeps anything, they work on values only; any number of threads may call at
- * once. Stack: a judge goes by value, and a chunk with idle marks is packed on the stack; for a thread
- * that calls these functions a stack of 512 KB is enough, 128 KB is not.
+ * once.
+ *
+ * Stack: judges and their like go by value, and a chunk with idle marks is packed on the stack. A thread
+ * that calls these functions should have 1 MB. Beside what the caller keeps, a judge of 28 KB and results
+ * with one in them, a call takes at most, with the copies of its arguments,
+ *   400 KB  bellbadger_replay
+ *   230 KB  bellbadger_load, bellbadger_install
+ *   210 KB  bellbadger_deliver
+ *   140 KB  bellbadger_tray_install_row, bellbadger_tray_install_column
+ *   120 KB  bellbadger_profile_run
+ *   90 KB  any other function
  */
 #ifndef BELLBADGER_H
 #define BELLBADGER_H
 
+#include <stdbool.h>
 #include <stddef.h>
 #include <stdint.h>
 
@@ -25,8 +35,8 @@
  * bellbadger_version() == BELLBADGER_VERSION && bellbadger_state_size() == BELLBADGER_STATE_SIZE.
  * Another major number or size: the two do not fit. A higher minor number of the library: it can
  * more than this header says. */
-#define BELLBADGER_VERSION_MAJOR 4
-#define BELLBADGER_VERSION_MINOR 6
+#define BELLBADGER_VERSION_MAJOR 5
+#define BELLBADGER_VERSION_MINOR 0
 #define BELLBADGER_VERSION (BELLBADGER_VERSION_MAJOR * 65536 + BELLBADGER_VERSION_MINOR)
 #define BELLBADGER_STATE_SIZE 27832 /* the bytes of a bellbadger_judge */
 
@@ -114,6 +124,9 @@ typedef struct {
     bellbadger_judge judge;
 } bellbadger_deliver_result;
 
+/* The kind of a verdict is no truth value: 0 is a refusal, so that a result full of zeros is no verdict,
+ * and all that follows, waiting and no too, holds in an `if`. There is no shorter form for "ship it" than
+ * bellbadger_is_yes, below; of a tray, bellbadger_tray_is_yes. */
 enum {
     BELLBADGER_REFUSED = 0,   /* number: why */
     BELLBADGER_WAITING = 1,   /* number: how many places are empty */
@@ -130,6 +143,12 @@ typedef struct {
     uint64_t number;
     uint64_t bytes, quotient, remainder;
 } bellbadger_verdict_result, bellbadger_replay_result;
+
+/* Whether the trace keeps to the rule: not where places are empty, the call was refused or a line is
+ * malformed. */
+BELLBADGER_RESULT static inline bool bellbadger_is_yes(bellbadger_verdict_result verdict) {
+    return verdict.kind == BELLBADGER_YES;
+}
 
 /* What the library was built with: its version, major * 65536 + minor, and the bytes of a judge. */
 BELLBADGER_RESULT uint32_t bellbadger_version(void);

@@ -14,7 +14,7 @@ enum {
     BELLBADGER_REJECTED_TEXT = 1  /* one of the rule's symbols that it does not accept */
 };
 
-/* What kind of answer it is; BELLBADGER_REFUSED, 0, is a refusal. */
+/* What kind of answer it is; BELLBADGER_REFUSED, 0, is a refusal. It is no truth value: compare it. */
 enum {
     BELLBADGER_SAMPLE = 1,   /* a text, of length bytes; the empty text has length 0 */
     BELLBADGER_NO_SAMPLE = 2 /* there is no such text */

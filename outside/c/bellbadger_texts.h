@@ -2,6 +2,8 @@
 #ifndef BELLBADGER_TEXTS_H
 #define BELLBADGER_TEXTS_H
 
+#include "bellbadger.h"
+
 #ifdef __cplusplus
 extern "C" {
 #endif
@@ -17,7 +19,7 @@ typedef struct {
  * chunk, if it has no more bytes than a chunk may have. Refused with
  *   4 k is not 1 to 16      41 the seed is 0
  * in this order; the buffer is then as it was. */
-BELLBADGER_RESULT bellbadger_made_result bellbadger_make_text(uint8_t k, uint64_t seed, uint8_t *text, size_t length);
+BELLBADGER_RESULT bellbadger_made_result bellbadger_make_text(size_t k, uint64_t seed, uint8_t *text, size_t length);
 
 #ifdef __cplusplus
 }

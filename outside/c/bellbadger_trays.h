@@ -55,6 +55,12 @@ typedef struct {
     uint8_t kind, number;
 } bellbadger_tray_verdict_result;
 
+/* Whether every row and every column is accepted: not where bands are empty or the call was refused. The
+ * kind is no truth value. */
+BELLBADGER_RESULT static inline bool bellbadger_tray_is_yes(bellbadger_tray_verdict_result verdict) {
+    return verdict.kind == BELLBADGER_YES;
+}
+
 /* What the library was built with: the bytes of a tray. */
 BELLBADGER_RESULT size_t bellbadger_tray_size(void);
 

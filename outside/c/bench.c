@@ -91,7 +91,7 @@ static bellbadger_judge path(int n) {
 
 /* a made text of symbols below k */
 static void made(uint8_t *buffer, int k, uint64_t seed) {
-    if (!bellbadger_make_text((uint8_t)k, seed, buffer, BYTES).accepted) exit(1);
+    if (!bellbadger_make_text((size_t)k, seed, buffer, BYTES).accepted) exit(1);
 }
 
 static void texts(int k) {

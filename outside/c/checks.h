@@ -105,11 +105,13 @@ HELPER int divides(bellbadger_verdict_result r) {
 
 HELPER void verdict(const bellbadger_judge *j, int kind, uint64_t number, uint64_t bytes) {
     bellbadger_verdict_result r = bellbadger_verdict(*j);
+    CHECK(bellbadger_is_yes(r) == (kind == BELLBADGER_YES));
     CHECK(r.kind == kind && r.number == number && r.bytes == bytes && divides(r));
 }
 
 HELPER void replay(const char *text, int kind, uint64_t number, uint64_t bytes) {
     bellbadger_replay_result r = bellbadger_replay((const uint8_t *)text, strlen(text));
+    CHECK(bellbadger_is_yes(r) == (kind == BELLBADGER_YES));
     CHECK(r.kind == kind && r.number == number && r.bytes == bytes && divides(r));
 }
 

@@ -44,7 +44,7 @@ static bool right() {
         && read.accepted && read.rule.n == 3 && read.rule.targets[17] == 4 && installed.accepted && installed.sets == 5
         && loaded.accepted && loaded.sets == 5 && opened.accepted && delivered.accepted && delivered.looked == 2
         && verdict.kind == BELLBADGER_YES && verdict.number == 2 && verdict.bytes == 2 && verdict.quotient == 1
-        && verdict.remainder == 0 && !withdrawn.accepted && withdrawn.refused == 23
+        && verdict.remainder == 0 && bellbadger_is_yes(verdict) && !bellbadger_is_yes(replayed) && !withdrawn.accepted && withdrawn.refused == 23
         && bellbadger_profile_size() == sizeof(bellbadger_profile) && built.accepted && built.profile.count == 5 && ran.accepted
         && ran.mapping.masks[0] == 5 && twice.masks[0] == 5 && bellbadger_profile_verdict(built.profile, twice) == 1
         && sample.kind == BELLBADGER_SAMPLE && sample.length == 2 && sample.text[0] == 0 && sample.text[1] == 1
@@ -52,7 +52,7 @@ static bool right() {
         && merged.accepted && merged.rule.n == 6 && merged.rule.targets[4 * 16 + 1] == 32
         && bellbadger_tray_size() == sizeof(bellbadger_tray) && row.accepted && row.sets == 5 && column.accepted && tray.accepted
         && band.accepted && band.tray.board.rows[0] == 1 && !no_band.accepted && no_band.refused == 23
-        && of_tray.kind == BELLBADGER_NO && of_tray.number == 0
+        && of_tray.kind == BELLBADGER_NO && of_tray.number == 0 && !bellbadger_tray_is_yes(of_tray)
         && replayed.kind == BELLBADGER_MALFORMED && replayed.number == 2 && made_result.accepted && made[0] == 1 && made[2] == 9
         && formed.accepted && formed.form.sets == 5 && formed.form.failure[4] == 3 && formed.form.cells[3] == BELLBADGER_EMPTY_SET
         && table.accepted && table.table.next[16] == 1;

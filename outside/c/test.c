@@ -297,6 +297,14 @@ static void records(void) {
     replay(LOAD_A "open 00000000000000000001\ndeliver 0 0 -", BELLBADGER_NO, 0, 0);
 }
 
+/* whatever stands in a verdict, the kind of yes alone is one */
+static void only_yes_is_yes(void) {
+    for (int kind = 0; kind < 256; kind++) {
+        bellbadger_verdict_result r = {.kind = (uint8_t)kind, .number = 3, .bytes = 2, .quotient = 1, .remainder = 1};
+        CHECK(bellbadger_is_yes(r) == (kind == BELLBADGER_YES));
+    }
+}
+
 /* the line that installs bytes, and what follows it */
 static const char *installation(const uint8_t *bytes, size_t length, const char *rest) {
     static char text[8192];
@@ -387,6 +395,7 @@ static void *all(void *states) {
     revisions();
     any_order();
     records();
+    only_yes_is_yes();
     installations();
     garbage(*(int *)states);
     return NULL;

@@ -4,7 +4,7 @@
 
 static uint8_t text[65536 + 16];
 
-static void make(uint8_t k, uint64_t seed, size_t length, int refused) {
+static void make(size_t k, uint64_t seed, size_t length, int refused) {
     bellbadger_made_result r = bellbadger_make_text(k, seed, text, length);
     CHECK(r.accepted == (refused == 0) && r.refused == refused);
 }
@@ -19,7 +19,7 @@ static void known(uint8_t k, uint64_t seed, const char *symbols) {
 }
 
 /* a refused call writes nothing, whatever the length */
-static void refused(uint8_t k, uint64_t seed, int number) {
+static void refused(size_t k, uint64_t seed, int number) {
     static uint8_t before[sizeof text];
     memset(before, 0xEE, sizeof text), memset(text, 0xEE, sizeof text);
     for (size_t n = 0; n <= 65536; n = 4 * n + 1) make(k, seed, n, number);
@@ -51,8 +51,11 @@ int main(void) {
     known(16, 88172645463325252, "0B052D17E1543BED");
     known(7, 1, "");
     CHECK(bellbadger_make_text(7, 1, NULL, 0).accepted);
-    for (int k = 0; k < 256; k++)
-        if (k < 1 || k > 16) refused((uint8_t)k, 0, 4), refused((uint8_t)k, 1, 4);
+    for (size_t k = 0; k < 256; k++)
+        if (k < 1 || k > 16) refused(k, 0, 4), refused(k, 1, 4);
+    /* 1 and 16 where k is cut to 8, 16 or 32 bits */
+    const size_t cut[] = {257, 272, 65537, 0x100000001, 0x100000010, SIZE_MAX};
+    for (size_t i = 0; i < sizeof cut / sizeof *cut; i++) refused(cut[i], 0, 4), refused(cut[i], 1, 4);
     for (int k = 1; k <= 16; k++) refused((uint8_t)k, 0, 41), delivered((uint8_t)k, (uint64_t)k * 0x9E3779B97F4A7C15);
     printf("C made texts: %ld checks\n", checks);
     return 0;

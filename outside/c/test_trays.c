@@ -89,7 +89,7 @@ static void tray_withdraw(bellbadger_tray *t, size_t band, int refused) {
 
 static void tray_verdict(const bellbadger_tray *t, int kind, int number) {
     bellbadger_tray_verdict_result r = bellbadger_tray_verdict(*t);
-    CHECK(r.kind == kind && r.number == number);
+    CHECK(r.kind == kind && r.number == number && bellbadger_tray_is_yes(r) == (kind == BELLBADGER_YES));
 }
 
 static bellbadger_tray with(bellbadger_checked_rule row, bellbadger_checked_rule column, size_t width, size_t bands) {
@@ -319,6 +319,14 @@ static void as_due(int trays) {
     CHECK(said[0] > trays / 10 && said[1] > trays / 10);
 }
 
+/* ---- whatever stands in a verdict, the kind of yes alone is one */
+static void only_yes_is_yes(void) {
+    for (int kind = 0; kind < 256; kind++) {
+        bellbadger_tray_verdict_result r = {.kind = (uint8_t)kind, .number = 1};
+        CHECK(bellbadger_tray_is_yes(r) == (kind == BELLBADGER_YES));
+    }
+}
+
 /* ---- random numbers in every field; some trays half sensible, so that deeper code is reached */
 static int refused_by(int number, int first, int second, int third) { return number == first || number == second || number == third; }
 
@@ -369,6 +377,7 @@ static void *all(void *trays) {
     refused_rules();
     refusals();
     foreign_bytes();
+    only_yes_is_yes();
     as_due(*(int *)trays);
     garbage(*(int *)trays);
     return NULL;

@@ -8,6 +8,7 @@ import itertools
 import os
 import subprocess
 import sys
+import tempfile
 import threading
 import unittest
 
@@ -224,6 +225,21 @@ class Calls(Case):
         self.assertNotEqual(Yes(3, 2, 1, 1), No(3, 2, 1, 1))
         self.assertNotEqual(No(0, 0, 0, 0), Waiting(0))
 
+    def test_only_is_yes_is_a_truth_value(self):
+        """A program that ships on `if judge.verdict()` would ship on a no and on an empty board."""
+        for said, yes in ((Waiting(1), False), (No(3, 2, 1, 1), False), (Yes(3, 2, 1, 1), True)):
+            self.assertIs(said.is_yes, yes)
+            for asked in (bool, lambda v: not v, lambda v: v and 1, lambda v: 1 if v else 0, lambda v: any([v])):
+                with self.assertRaisesRegex(TypeError, rf"\b{type(said).__name__}\b.*\.is_yes"):
+                    asked(said)
+            with self.assertRaises(AttributeError):
+                said.is_yes = True
+        self.assertEqual([judged(A, *chunks).is_yes for chunks in ([[0, 1]], [[1, 0]])], [True, False])
+        self.assertIs(self.opened(1).verdict().is_yes, False)
+        begin = b"load " + A.hex().encode() + b"\nopen 1\n"
+        self.assertEqual([replay(begin + rest).is_yes for rest in (b"deliver 0 0 0001", b"deliver 0 0 01", b"")], [True, False, False])
+        self.assertRaises(TypeError, bool, replay(begin))
+
     def test_numbers_that_c_would_cut(self):
         judge = self.opened(2)
         for number in (2**64, 2**64 + 1, 2**65, -1, -(2**64)):
@@ -246,20 +262,36 @@ class Calls(Case):
         self.assertEqual(repr(judge), "<Judge: states 3, symbols 2, sets 5, starts 3, places 2, filled 1>")
 
     def test_a_small_stack(self):
+        """Every call on the stack that is asked for: on too small a one Python ends by a signal."""
         verdicts = []
-        record = b"load " + A.hex().encode() + b"\nopen 1\ndeliver 0 0 -\n"
+        record = b"load " + A.hex().encode() + b"\nopen 1\ndeliver 0 0 FF\n"
 
         def calls():
-            verdicts.extend([judged(A, [0], [1]), replay(record), Judge().install(read(A))])
+            judge, rule, tray = self.opened(1), read(A), bellbadger.trays.Tray()
+            judge.deliver(0, 0, b"\xff\0\1" * 9)
+            verdicts.extend([judge.verdict(), replay(record), judge.install(rule)])
+            profile = bellbadger.mappings.Profile(rule)
+            verdicts.append(profile.accepts(bellbadger.mappings.compose(profile.run(b"\xff\0"), profile.run(b"\1"))))
+            verdicts.append(bellbadger.samples.sample(bellbadger.samples.ACCEPTED, rule))
+            verdicts.append(len(bellbadger.patterns.rule_file("(a|b)*ab")))
+            verdicts.append(bellbadger.merge.merge(bellbadger.merge.EITHER, rule, rule).n)
+            verdicts.append(len(bellbadger.form.table(bellbadger.form.form(judge))))
+            tray.install_row(rule)
+            tray.install_column(rule)
+            tray.open(2, 1)
+            tray.deliver(0, bytes([0, 1]))
+            verdicts.append(tray.verdict())
+            tray.withdraw(0)
 
-        before = threading.stack_size(512 * 1024)
+        before = threading.stack_size(1024 * 1024)
         try:
             thread = threading.Thread(target=calls)
             thread.start()
             thread.join()
         finally:
             threading.stack_size(before)
-        self.assertEqual(verdicts, [Yes(3, 2, 1, 1), No(0, 0, 0, 0), Loaded(5, 3)])
+        due = [Yes(18, 18, 1, 0), No(0, 0, 0, 0), Loaded(5, 3), True, bytes([0, 1]), 50, 6, 5, bellbadger.trays.TrayNo()]
+        self.assertEqual(verdicts, due)
 
 
 class Records(unittest.TestCase):
@@ -292,19 +324,41 @@ class Module(unittest.TestCase):
         self.assertGreater(found.attempted, 0)
         self.assertEqual(found.failed, 0)
 
-    def test_version(self):
-        self.assertEqual(bellbadger.version(), (4, 6))
+    def test_one_package(self):
+        """What `import bellbadger` gives, and a module for each subject."""
+        names = "CheckedRule Judge Loaded Looked Malformed No Refused Waiting Yes read replay version".split()
+        self.assertEqual(sorted(bellbadger.__all__), names)
+        self.assertTrue(all(hasattr(bellbadger, name) for name in names))
+        for subject in "judge rules mappings samples patterns merge trays form texts".split():
+            module = getattr(bellbadger, subject)
+            self.assertEqual(module.__name__, "bellbadger." + subject)
+            self.assertTrue(module.__doc__ and module.__all__)
 
-    def test_a_missing_library_names_the_command(self):
+    def test_version(self):
+        self.assertEqual(bellbadger.version(), (5, 0))
+
+    def imported_from(self, folder):
         run = subprocess.run(
             [sys.executable, "-c", "import bellbadger"],
             cwd=os.path.dirname(os.path.abspath(__file__)),
-            env={**os.environ, "BELLBADGER_LIB": "/nonexistent"},
+            env={**os.environ, "BELLBADGER_LIB": folder},
             capture_output=True,
             text=True,
         )
         self.assertNotEqual(run.returncode, 0)
-        self.assertIn("tests/outside", run.stderr)
+        return run.stderr.splitlines()[-1]
+
+    def test_a_missing_library(self):
+        """What is said names the file that was tried, the command that makes it, and the variable."""
+        help = "Make it, at the top of the repository, with: outside/build, or name the folder that has it in BELLBADGER_LIB."
+        said = self.imported_from("/nonexistent")
+        self.assertEqual(said, f"ImportError: /nonexistent/libbellbadger.so is not there. {help}")
+        with tempfile.TemporaryDirectory() as folder:
+            path = os.path.join(folder, "libbellbadger.so")
+            with open(path, "w", encoding="ascii") as file:
+                file.write("no library\n")
+            said = self.imported_from(folder)
+            self.assertTrue(said.startswith(f"ImportError: {path} cannot be loaded (") and said.endswith(help), said)
 
 
 if __name__ == "__main__":

@@ -6,9 +6,9 @@ import doctest
 import random
 import unittest
 
-import bellbadger_form
+import bellbadger.form
 from bellbadger import CheckedRule, Judge, Refused
-from bellbadger_form import Form, form, table
+from bellbadger.form import Form, form, table
 
 A = bytes.fromhex("03020100000004000000160006001C0002001E0000000000000101000102")
 
@@ -91,7 +91,7 @@ class Forms(unittest.TestCase):
         self.assertRaises(TypeError, table, b"")
 
     def test_examples(self):
-        found = doctest.testmod(bellbadger_form)
+        found = doctest.testmod(bellbadger.form)
         self.assertGreater(found.attempted, 0)
         self.assertEqual(found.failed, 0)
 

@@ -6,9 +6,9 @@ import doctest
 import random
 import unittest
 
-import bellbadger_mappings
-from bellbadger import CheckedRule, Judge, Refused, Yes, read
-from bellbadger_mappings import Profile, compose
+import bellbadger.mappings
+from bellbadger import CheckedRule, Judge, Refused, read
+from bellbadger.mappings import Profile, compose
 
 A = bytes.fromhex("03020100000004000000160006001C0002001E0000000000000101000102")
 
@@ -99,12 +99,12 @@ class Mappings(unittest.TestCase):
             for place, chunk in enumerate(chunks):
                 judge.deliver(place, 0, chunk)
             yes = profile.accepts(in_any_bracketing(chance, [profile.run(chunk) for chunk in chunks]))
-            self.assertEqual(yes, isinstance(judge.verdict(), Yes))
+            self.assertIs(yes, judge.verdict().is_yes)
             said[yes] += 1
         self.assertGreater(min(said), 30)
 
     def test_examples(self):
-        found = doctest.testmod(bellbadger_mappings)
+        found = doctest.testmod(bellbadger.mappings)
         self.assertGreater(found.attempted, 0)
         self.assertEqual(found.failed, 0)
 

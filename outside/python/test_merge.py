@@ -6,9 +6,9 @@ import doctest
 import itertools
 import unittest
 
-import bellbadger_merge
-from bellbadger import CheckedRule, Judge, Refused, Yes
-from bellbadger_merge import BOTH, EITHER, INTERLEAVING, merge
+import bellbadger.merge
+from bellbadger import CheckedRule, Judge, Refused
+from bellbadger.merge import BOTH, EITHER, INTERLEAVING, merge
 
 WAYS = (BOTH, EITHER, INTERLEAVING)
 
@@ -49,7 +49,7 @@ def due(way, text):
 def accepts(judge, text):
     judge.open(1)
     judge.deliver(0, 0, bytes(text))
-    return isinstance(judge.verdict(), Yes)
+    return judge.verdict().is_yes
 
 
 class Merging(unittest.TestCase):
@@ -92,7 +92,7 @@ class Merging(unittest.TestCase):
         self.assertRaises(TypeError, merge, BOTH, A, b"")
 
     def test_examples(self):
-        found = doctest.testmod(bellbadger_merge)
+        found = doctest.testmod(bellbadger.merge)
         self.assertGreater(found.attempted, 0)
         self.assertEqual(found.failed, 0)
 

@@ -3,9 +3,9 @@
 import doctest
 import unittest
 
-import bellbadger_patterns
-from bellbadger import Judge, Refused, Yes, read
-from bellbadger_patterns import LONGEST_FILE, rule_file
+import bellbadger.patterns
+from bellbadger import Judge, Refused, read
+from bellbadger.patterns import LONGEST_FILE, rule_file
 
 
 def accepts(pattern, text):
@@ -14,7 +14,7 @@ def accepts(pattern, text):
     judge.load(rule_file(pattern))
     judge.open(1)
     judge.deliver(0, 0, bytes(ord(letter) - ord("a") for letter in text))
-    return isinstance(judge.verdict(), Yes)
+    return judge.verdict().is_yes
 
 
 class Patterns(unittest.TestCase):
@@ -55,7 +55,7 @@ class Patterns(unittest.TestCase):
         self.assertEqual((read(file).n, read(file).k), (32, 16))
 
     def test_examples(self):
-        found = doctest.testmod(bellbadger_patterns)
+        found = doctest.testmod(bellbadger.patterns)
         self.assertGreater(found.attempted, 0)
         self.assertEqual(found.failed, 0)
 

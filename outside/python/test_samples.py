@@ -7,9 +7,9 @@ import itertools
 import random
 import unittest
 
-import bellbadger_samples
-from bellbadger import CheckedRule, Judge, Refused, Yes
-from bellbadger_samples import ACCEPTED, REJECTED, sample
+import bellbadger.samples
+from bellbadger import CheckedRule, Judge, Refused
+from bellbadger.samples import ACCEPTED, REJECTED, sample
 
 
 def rule(initials, finals, *rows, k=2):
@@ -73,7 +73,7 @@ class Samples(unittest.TestCase):
                 judge.install(r)
                 judge.open(1)
                 judge.deliver(0, 0, sample(wish, r))
-                self.assertEqual(isinstance(judge.verdict(), Yes), wish == ACCEPTED)
+                self.assertEqual(judge.verdict().is_yes, wish == ACCEPTED)
 
     def test_refusals(self):
         self.refused(35, from_the_end(10))
@@ -89,7 +89,7 @@ class Samples(unittest.TestCase):
         self.assertRaises(TypeError, sample, ACCEPTED, b"")
 
     def test_examples(self):
-        found = doctest.testmod(bellbadger_samples)
+        found = doctest.testmod(bellbadger.samples)
         self.assertGreater(found.attempted, 0)
         self.assertEqual(found.failed, 0)
 

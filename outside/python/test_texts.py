@@ -3,9 +3,9 @@
 import doctest
 import unittest
 
-import bellbadger_texts
+import bellbadger.texts
 from bellbadger import CheckedRule, Judge, Refused, Yes
-from bellbadger_texts import make_text
+from bellbadger.texts import make_text
 
 
 class Texts(unittest.TestCase):
@@ -23,14 +23,15 @@ class Texts(unittest.TestCase):
 
     def test_refusals(self):
         for length in (0, 1, 100):
-            for k in (0, 17, 255):
+            # 257 and 2**64 + 1 are 1 where k is cut to fewer bits
+            for k in (0, 17, 255, 256, 257, 2**32 + 1, 2**64 - 1, 2**64, 2**64 + 1, -1):
                 for seed in (0, 1):
                     self.refused(4, k, seed, length)
             for k in (1, 16):
                 self.refused(41, k, 0, length)
 
     def test_numbers_that_do_not_fit(self):
-        for k, seed, length in ((256, 1, 1), (-1, 1, 1), (1, 2**64, 1), (1, -1, 1), (1, 1, -1)):
+        for k, seed, length in ((1, 2**64, 1), (1, -1, 1), (1, 1, -1)):
             with self.assertRaises(ValueError):
                 make_text(k, seed, length)
         for k, seed, length in (("1", 1, 1), (1, 1.0, 1), (1, 1, None)):
@@ -46,7 +47,7 @@ class Texts(unittest.TestCase):
 
 
 def load_tests(loader, tests, pattern):
-    tests.addTests(doctest.DocTestSuite(bellbadger_texts))
+    tests.addTests(doctest.DocTestSuite(bellbadger.texts))
     return tests
 
 

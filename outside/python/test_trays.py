@@ -6,9 +6,9 @@ import doctest
 import random
 import unittest
 
-import bellbadger_trays
+import bellbadger.trays
 from bellbadger import CheckedRule, Refused
-from bellbadger_trays import Tray, TrayNo, TrayWaiting, TrayYes
+from bellbadger.trays import Tray, TrayNo, TrayWaiting, TrayYes
 
 
 def rule(k, initials, finals, *rows):
@@ -75,6 +75,22 @@ class Trays(unittest.TestCase):
         tray.deliver(0, b"")  # a band of no rows
         self.assertEqual(tray.verdict(), TrayYes())
         self.assertEqual(repr(tray), "<Tray: row states 3, column states 2, width 2, bands 2, filled 2>")
+
+    def test_only_is_yes_is_a_truth_value(self):
+        """A program that ships on `if tray.verdict()` would ship on a no and on an empty board."""
+        tray = tray_with(A, E, 2, 1)
+        for rows, yes in ((None, False), ([0, 1], False), ([0, 1, 0, 1], True)):
+            if rows:
+                tray.open(2, 1)
+                tray.deliver(0, bytes(rows))
+            said = tray.verdict()
+            self.assertIs(said.is_yes, yes)
+            for asked in (bool, lambda v: not v, lambda v: v or 1):
+                with self.assertRaisesRegex(TypeError, rf"\b{type(said).__name__}\b.*\.is_yes"):
+                    asked(said)
+            with self.assertRaises(AttributeError):
+                said.is_yes = True
+        self.assertEqual(said, TrayYes())
 
     def test_no_rows_at_all(self):
         for column, due in ((E, TrayYes()), (A, TrayNo())):
@@ -181,7 +197,7 @@ class Trays(unittest.TestCase):
         self.assertGreater(min(said), 40)
 
     def test_examples(self):
-        found = doctest.testmod(bellbadger_trays)
+        found = doctest.testmod(bellbadger.trays)
         self.assertGreater(found.attempted, 0)
         self.assertEqual(found.failed, 0)
 

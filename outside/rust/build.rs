@@ -1,10 +1,10 @@
-// Links libbellbadger.a, which outside/build writes; BELLBADGER_LIB names another folder for it.
+// Links libbellbadger.a of target/lib, which outside/build writes; BELLBADGER_LIB names another folder.
 use std::{env, path::PathBuf};
 
 fn folder() -> PathBuf {
     match env::var_os("BELLBADGER_LIB") {
         Some(folder) => PathBuf::from(folder),
-        None => PathBuf::from(env!("CARGO_MANIFEST_DIR")).join("../../target/staticlib"),
+        None => PathBuf::from(env!("CARGO_MANIFEST_DIR")).join("../../target/lib"),
     }
 }
 

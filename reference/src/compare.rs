@@ -30,15 +30,15 @@ pub fn program_answers(program: &str, text: &[u8]) -> Vec<u8> {
 
 /// What the reference answers to a text. If it panics, that is its last answer.
 pub fn reference_answers(text: &[u8]) -> Vec<u8> {
-    answers_or_panic(text, lines::answer_line)
+    answers_or_panic(text, lines::said)
 }
 
 /// The answers to the lines of a text, up to the first on which the judge panics.
-pub fn answers_or_panic(text: &[u8], answer: fn(&mut Judge, &[u8]) -> String) -> Vec<u8> {
-    let mut judge = Judge::default();
+pub fn answers_or_panic(text: &[u8], said: fn(&mut Judge, &[u8]) -> Option<String>) -> Vec<u8> {
+    let mut list = lines::List::default();
     let mut answers = Vec::new();
     for line in lines::lines(text) {
-        match catch_unwind(AssertUnwindSafe(|| answer(&mut judge, line))) {
+        match catch_unwind(AssertUnwindSafe(|| list.answer(line, said))) {
             Ok(answer) => answers.extend((answer + "\n").into_bytes()),
             Err(_) => {
                 answers.extend(b"(panic)\n");

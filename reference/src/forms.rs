@@ -130,7 +130,7 @@ fn parse(line: &[u8]) -> Option<Numbers> {
     let [sets, symbols, failure, masks, cells] = fields.as_slice() else { return None };
     let (sets, symbols) = (number(sets)?, number(symbols)?);
     let (failure, masks, cells) = (words(failure, 512)?, words(masks, 512)?, words(cells, 8192)?);
-    (sets < 65_536 && symbols < 256).then_some(Numbers { sets, symbols, failure, masks, cells })
+    Some(Numbers { sets, symbols, failure, masks, cells })
 }
 
 /// The answer to a line of `formtable`.

@@ -86,17 +86,42 @@ pub fn lines(text: &[u8]) -> Vec<&[u8]> {
     lines
 }
 
-/// The answer to a line; an empty one has an empty answer, and a fresh judge begins.
-pub fn answer_line(judge: &mut Judge, line: &[u8]) -> String {
-    if line.is_empty() {
-        *judge = Judge::default();
-        return String::new();
+/// Lines that follow one another, from a fresh state; and whether a malformed one has ended them.
+#[derive(Default)]
+pub struct List<State> {
+    state: State,
+    ended: bool,
+}
+
+impl<State: Default> List<State> {
+    /// The answer to a line, of which `said` is what the state says, none if the line is malformed. That ends
+    /// the list, and what follows is skipped; an empty line has an empty answer, and all begins afresh.
+    pub fn answer(&mut self, line: &[u8], said: impl FnOnce(&mut State, &[u8]) -> Option<String>) -> String {
+        if line.is_empty() {
+            *self = List::default();
+            return String::new();
+        }
+        if self.ended {
+            return "skipped".to_string();
+        }
+        let said = said(&mut self.state, line);
+        self.ended = said.is_none();
+        said.unwrap_or("malformed".to_string())
     }
-    call(line).map_or("malformed".to_string(), |call| answer(judge.call(&call)))
+}
+
+/// The answers to the lines of a text, of which `said` is what the state says to each.
+pub fn answers_by<State: Default>(text: &[u8], said: fn(&mut State, &[u8]) -> Option<String>) -> String {
+    let mut list = List::default();
+    lines(text).into_iter().map(|line| list.answer(line, said) + "\n").collect()
+}
+
+/// What the judge says to a line, or none if the line is malformed.
+pub fn said(judge: &mut Judge, line: &[u8]) -> Option<String> {
+    Some(answer(judge.call(&call(line)?)))
 }
 
 /// The answers to the lines of a text.
 pub fn answers(text: &[u8]) -> String {
-    let mut judge = Judge::default();
-    lines(text).iter().map(|line| answer_line(&mut judge, line) + "\n").collect()
+    answers_by(text, said)
 }

@@ -136,7 +136,10 @@ impl Maker {
     fn value_out_of_place(&mut self) {
         let mut bytes = CheckedRule::of(&self.rule).bytes();
         let length = match self.r.below(12) {
-            0 | 1 => return self.install(&file(&self.rule)),
+            0 | 1 => {
+                self.install(&file(&self.rule));
+                return self.ended();
+            }
             2 | 3 => return self.load(&bytes),
             4 => self.r.pick(&[0, 1, 10, BYTES / 2, 2 * BYTES, LONGEST, LONGEST + 1000]),
             5 => self.r.pick(&[BYTES - 2, BYTES + 2, BYTES - 4, BYTES + 4]),
@@ -144,6 +147,7 @@ impl Maker {
         };
         bytes.resize(length, 0);
         self.install(&bytes);
+        self.ended();
     }
 
     fn open(&mut self, places: u64) {
@@ -203,6 +207,43 @@ impl Maker {
             _ => format!("deliver {place} - {chunk}"),
         };
         self.line(line);
+        self.ended();
+    }
+
+    /// A delivery that was broken into lines, as `xxd -p` breaks digits or anywhere: the first may well be a
+    /// delivery of fewer bytes, and the next says no call.
+    fn deliver_broken(&mut self, place: u64, chunk: &[u8]) {
+        let digits = self.hex(chunk);
+        let anywhere = self.r.range(1, digits.len());
+        let (first, rest) = digits.split_at(self.r.pick(&[60, anywhere]).min(digits.len()));
+        let (place, revision) = (self.number(place), self.revision(place));
+        self.line(format!("deliver {place} {revision} {first}"));
+        rest.as_bytes().chunks(60).take(3).for_each(|part| self.lines.push(part.to_vec()));
+        self.ended();
+    }
+
+    /// What follows a line that says no call: lines that are skipped, whatever they say, and mostly an empty one
+    /// or two, after which the rule is given and a board opened anew.
+    fn ended(&mut self) {
+        for _ in 0..self.r.below(4) {
+            match self.r.below(3) {
+                0 => self.verdict(),
+                1 => self.lines.push(self.lines[self.r.below(self.lines.len())].clone()),
+                _ => self.lines.extend(malformed(&mut self.r, &self.lines)),
+            }
+        }
+        if self.r.one_in(8) {
+            return;
+        }
+        for _ in 0..self.r.pick(&[1, 1, 1, 2]) {
+            self.lines.push(Vec::new());
+        }
+        if self.r.one_in(8) {
+            return;
+        }
+        self.give(&self.rule.clone());
+        self.open(self.places as u64);
+        self.revisions.clear();
     }
 
     fn withdraw(&mut self, place: u64) {
@@ -343,9 +384,16 @@ impl Maker {
                 let chunk = self.chunk();
                 self.deliver_malformed(place, &chunk)
             }
+            20 => {
+                let chunk = self.chunk();
+                let times = if chunk.len() < 100 { self.r.pick(&[1, 10, 40]) } else { 1 };
+                self.deliver_broken(place, &chunk.repeat(times))
+            }
             _ => {
-                let line = malformed(&mut self.r, &self.lines);
-                self.lines.extend(line);
+                if let Some(line) = malformed(&mut self.r, &self.lines) {
+                    self.lines.push(line);
+                    self.ended();
+                }
             }
         }
     }

@@ -23,7 +23,7 @@ fn parse(line: &[u8]) -> Option<(u64, u64, u64)> {
     let fields: Vec<&[u8]> = line.split(|&c| c == b' ').collect();
     let [k, seed, length] = fields.as_slice() else { return None };
     let (k, seed, length) = (number(k)?, number(seed)?, number(length)?);
-    (k < 256 && length <= 65_536).then_some((k, seed, length))
+    (length <= 65_536).then_some((k, seed, length))
 }
 
 /// The answer to a line.

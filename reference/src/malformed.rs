@@ -1,4 +1,4 @@
-//! Lines that say no call.
+//! Lines that say no call, which end their list.
 
 use crate::random::Random;
 

@@ -2,7 +2,7 @@
 
 use crate::checked::{read, CheckedRule};
 use crate::judge::{text, IDLE};
-use crate::lines::bytes;
+use crate::lines::{answers_by, bytes};
 use crate::rule::{members, Automaton};
 
 /// From each of eight states to a set, as a mask: the mask of state q stands at q.
@@ -121,26 +121,27 @@ fn refused(number: u32) -> String {
     format!("refused {number}")
 }
 
-/// The answer to a line of `mapjudge`, which keeps the profile of the last accepted build.
-pub fn answer(profile: &mut Option<Profile>, line: &[u8]) -> String {
-    if line.is_empty() {
-        *profile = None;
-        return String::new();
-    }
+/// What is said to a line of `mapjudge`, which keeps the profile of the last accepted build; or none if the
+/// line is malformed.
+fn said(profile: &mut Option<Profile>, line: &[u8]) -> Option<String> {
     let no_profile = || "no profile".to_string();
-    match asked(line) {
-        None => "malformed".to_string(),
-        Some(Asked::Build(file)) => match read(&file).and_then(|rule| Profile::build(&rule)) {
+    Some(match asked(line)? {
+        Asked::Build(file) => match read(&file).and_then(|rule| Profile::build(&rule)) {
             Ok(built) => format!("accepted {}", profile.insert(built).mappings.len()),
             Err(number) => refused(number),
         },
-        Some(Asked::Run(chunk)) => profile.as_ref().map_or_else(no_profile, |profile| match profile.run(&chunk) {
+        Asked::Run(chunk) => profile.as_ref().map_or_else(no_profile, |profile| match profile.run(&chunk) {
             Ok(mapping) => digits(&mapping),
             Err(number) => refused(number),
         }),
-        Some(Asked::Compose(f, g)) => digits(&compose(&f, &g)),
-        Some(Asked::Verdict(f)) => profile.as_ref().map_or_else(no_profile, |profile| {
+        Asked::Compose(f, g) => digits(&compose(&f, &g)),
+        Asked::Verdict(f) => profile.as_ref().map_or_else(no_profile, |profile| {
             if profile.verdict(&f) { "yes".to_string() } else { "no".to_string() }
         }),
-    }
+    })
+}
+
+/// The answers to the lines of a text.
+pub fn answers(text: &[u8]) -> String {
+    answers_by(text, said)
 }

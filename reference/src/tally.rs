@@ -26,7 +26,11 @@ impl Tally {
             return self.places.clear();
         }
         self.calls += 1;
-        let Some(call) = call(line) else {
+        let call = call(line);
+        if answer == "skipped" {
+            return self.add(if call.is_some() { "skipped: a call" } else { "skipped: no call" });
+        }
+        let Some(call) = call else {
             self.value_of_another_size(line);
             return self.add(answer);
         };

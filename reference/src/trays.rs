@@ -2,7 +2,7 @@
 //! chance. The bands keep their bytes; rows and columns are cut out of them whenever a verdict is due.
 
 use crate::automata::{all_states, automaton, blank, file};
-use crate::lines::{bytes, lines, number};
+use crate::lines::{answers_by, bytes, number};
 use crate::random::Random;
 use crate::rule::{Automaton, Rule};
 
@@ -100,24 +100,15 @@ impl Tray {
         })
     }
 
-    /// The answer to a line; an empty one has an empty answer, and a fresh tray begins.
-    pub fn answer(&mut self, line: &[u8]) -> String {
-        if line.is_empty() {
-            *self = Tray::default();
-            return String::new();
-        }
-        match self.call(line) {
-            None => "malformed".to_string(),
-            Some(Ok(answer)) => answer,
-            Some(Err(number)) => format!("refused {number}"),
-        }
+    /// What the tray says to a line, or none if the line is malformed.
+    fn said(&mut self, line: &[u8]) -> Option<String> {
+        Some(self.call(line)?.unwrap_or_else(|number| format!("refused {number}")))
     }
 }
 
 /// The answers to the lines of a text.
 pub fn answers(text: &[u8]) -> String {
-    let mut tray = Tray::default();
-    lines(text).into_iter().map(|line| tray.answer(line) + "\n").collect()
+    answers_by(text, Tray::said)
 }
 
 fn hex(bytes: &[u8]) -> String {
@@ -165,6 +156,23 @@ fn some_band(r: &mut Random, width: usize, k: usize) -> Vec<u8> {
     events
 }
 
+/// A line that says no call, lines behind it, which are skipped, and mostly an empty line or two and what a list
+/// begins with.
+fn ended(r: &mut Random, afresh: &str) -> String {
+    let outside = ["open 1", "verdict ", "deliver 0", "deliver 0 0", "row", "withdraw 0 0", "0001", " "];
+    let mut text = r.pick(&outside).to_string() + "\n";
+    for _ in 0..r.below(4) {
+        text += r.pick(&["verdict", "verdict", "deliver 0 -", "withdraw 0", "open 1 1", "row", "0001"]);
+        text += "\n";
+    }
+    match r.below(8) {
+        0 => text,
+        1 => text + "\n\n" + afresh,
+        2 => text + "\n",
+        _ => text + "\n" + afresh,
+    }
+}
+
 /// A list of lines, ended by an empty one.
 pub fn list(seed: u64, index: u64) -> String {
     let mut r = Random::new(seed, index);
@@ -174,6 +182,7 @@ pub fn list(seed: u64, index: u64) -> String {
         text += &format!("{word} {}\n", hex(&some_file(&mut r)));
     }
     text += &format!("open {width} {bands}\n");
+    let afresh = text.clone();
     for _ in 0..30 {
         let band = r.below(bands + 1);
         text += &match r.below(16) {
@@ -182,7 +191,7 @@ pub fn list(seed: u64, index: u64) -> String {
             2 if r.one_in(4) => format!("open {} {}\n", r.below(18), r.below(10)),
             3 => format!("withdraw {band}\n"),
             4..=6 => "verdict\n".to_string(),
-            7 => r.pick(&["open 1\n", "verdict \n", "deliver 0\n", "deliver 0 0\n", "row\n", "withdraw 0 0\n"]).to_string(),
+            7 => ended(&mut r, &afresh),
             _ => format!("deliver {band} {}\n", hex(&some_band(&mut r, width, k))),
         };
     }

@@ -4,7 +4,7 @@ use reference::automata::{blank, file};
 use reference::checked::CheckedRule;
 use reference::compare::{answers_or_panic, first_difference};
 use reference::judge::Call;
-use reference::lines::{answer_line, answers, call, line, lines};
+use reference::lines::{answers, call, line, lines, said};
 use reference::shrink::shrink;
 use reference::table::table;
 
@@ -53,11 +53,55 @@ fn ends_of_lines() {
     assert_eq!(answers(b"verdict\n\nverdict"), "refused 21\n\nrefused 21\n");
 }
 
+const RULE: &str = "load 010101000000010000000e000000";
+
 #[test]
-fn an_empty_line_starts_afresh_and_a_malformed_one_changes_nothing() {
-    let rule = "load 010101000000010000000e000000";
-    let text = format!("{rule}\nopen 1\nopen 1 \ndeliver 0 0 -\nverdict\n\nverdict\n");
-    assert_eq!(answers(text.as_bytes()), "accepted 1 1\naccepted\nmalformed\naccepted 0\nyes 0 0 0 0\n\nrefused 21\n");
+fn an_empty_line_starts_afresh() {
+    let text = format!("{RULE}\nopen 1\ndeliver 0 0 -\nverdict\n\nverdict\n");
+    assert_eq!(answers(text.as_bytes()), "accepted 1 1\naccepted\naccepted 0\nyes 0 0 0 0\n\nrefused 21\n");
+}
+
+/// Whatever stands behind it is skipped, calls, verdicts and other malformed lines, and does nothing; of what
+/// stands before it nothing is left after the empty line.
+#[test]
+fn a_malformed_line_ends_its_list() {
+    let text = format!("{RULE}\nopen 1\ndeliver 0 0 -\nverdict \nverdict\n{RULE}\nopen 1\nverdict \nverdict\n\n\nverdict\n");
+    let due = "accepted 1 1\naccepted\naccepted 0\nmalformed\nskipped\nskipped\nskipped\nskipped\nskipped\n\n\nrefused 21\n";
+    assert_eq!(answers(text.as_bytes()), due);
+    let text = format!("x\n{RULE}\n\n{RULE}\nx\n\nopen 1\nx\nx\n\n{RULE}\nx");
+    assert_eq!(
+        answers(text.as_bytes()),
+        "malformed\nskipped\n\naccepted 1 1\nmalformed\n\nrefused 20\nmalformed\nskipped\n\naccepted 1 1\nmalformed\n"
+    );
+}
+
+/// The digits of a delivery, broken after thirty bytes: the first line is a delivery, and no verdict is on it.
+#[test]
+fn a_delivery_in_two_lines_has_no_verdict() {
+    let text = format!("{RULE}\nopen 1\ndeliver 0 0 {}\n{}\nverdict\n", "00".repeat(30), "00".repeat(2));
+    assert_eq!(answers(text.as_bytes()), "accepted 1 1\naccepted\naccepted 1\nmalformed\nskipped\n");
+}
+
+/// The lists that are made have malformed lines with calls, verdicts and malformed lines behind them, and empty
+/// lines, one and two, after which it goes on.
+#[test]
+fn lists_are_ended_and_begun_afresh() {
+    let all: Vec<Vec<u8>> = (0..400).flat_map(|index| reference::lists::list(7, index)).collect();
+    let said = answers(&all.iter().flat_map(|line| [line, &b"\n"[..]].concat()).collect::<Vec<u8>>());
+    let said: Vec<&str> = said.lines().collect();
+    assert_eq!(said.len(), all.len());
+    let count = |due: [&str; 2]| said.windows(2).filter(|two| two[0] == due[0] && two[1].starts_with(due[1])).count();
+    for two in [["malformed", "skipped"], ["skipped", "skipped"], ["", "accepted "]] {
+        assert!(count(two) > 100, "{two:?} {}", count(two));
+    }
+    for two in [["skipped", ""], ["malformed", ""], ["", ""]] {
+        assert!(count(two) > 30, "{two:?} {}", count(two));
+    }
+    let lines = |said_of: &dyn Fn(usize) -> bool, of: &dyn Fn(&[u8]) -> bool| (0..all.len()).filter(|&i| said_of(i) && of(&all[i])).count();
+    let skipped = |i: usize| said[i] == "skipped";
+    assert!(lines(&skipped, &|line| line == b"verdict") > 100 && lines(&skipped, &|line| call(line).is_none()) > 100);
+    let broken = |i: usize| said[i].starts_with("accepted") && said.get(i + 1) == Some(&"malformed");
+    assert!(lines(&broken, &|line| matches!(call(line), Some(Call::Deliver(_, _, chunk)) if chunk.len() == 30)) > 3);
 }
 
 #[test]
@@ -109,6 +153,13 @@ fn shrinking_makes_numbers_smaller() {
     let large = |list: &Vec<Vec<u8>>| list.iter().any(|line| matches!(call(line), Some(Call::Withdraw(100..))));
     assert_eq!(shrink(&list("withdraw 18446744073709551615"), &large), list("withdraw 100"));
     assert_eq!(shrink(&list("withdraw 00000000000000000107"), &large), list("withdraw 100"));
+}
+
+/// Of a line that ends the list a byte is left, and of what is skipped a line.
+#[test]
+fn shrinking_makes_an_ended_list_smaller() {
+    let skipped = |list: &Vec<Vec<u8>>| answers(&list.join(&b'\n')).contains("skipped");
+    assert_eq!(shrink(&list("open 1\nwithdraw 0 \nopen 2\n\nverdict\nopen 1 1\nverdict"), &skipped), list("1\nverdict"));
 }
 
 /// Two revisions that have to be equal, or one greater, come down together.
@@ -174,12 +225,12 @@ fn the_bytes_of_a_file_that_is_no_rule_are_made_smaller() {
 
 #[test]
 fn a_panic_is_an_answer_and_the_last() {
-    let answer = |judge: &mut _, line: &[u8]| {
+    let or_panic = |judge: &mut _, line: &[u8]| {
         assert!(line != b"open 7", "planted");
-        answer_line(judge, line)
+        said(judge, line)
     };
-    assert_eq!(answers_or_panic(b"open 1\n\nopen 7\nopen 1\n", answer), b"refused 20\n\n(panic)\n");
-    assert_eq!(answers_or_panic(b"open 1\nopen 1", answer), b"refused 20\nrefused 20\n");
+    assert_eq!(answers_or_panic(b"open 1\n\nopen 7\nopen 1\n", or_panic), b"refused 20\n\n(panic)\n");
+    assert_eq!(answers_or_panic(b"open 1\nopen 1", or_panic), b"refused 20\nrefused 20\n");
 }
 
 #[test]

@@ -3,7 +3,7 @@
 use reference::automata::{blank, file};
 use reference::checked::CheckedRule;
 use reference::judge::{Answer, Call, Judge};
-use reference::mappings::{answer, compose, digits, printed, Mapping, Profile};
+use reference::mappings::{answers, compose, digits, printed, Mapping, Profile};
 use reference::random::Random;
 use reference::rule::Automaton;
 
@@ -165,13 +165,13 @@ fn as_a_filled_board() {
 
 #[test]
 fn lines_of_mapjudge() {
-    let mut profile = None;
     let rule: String = file(&a()).iter().map(|byte| format!("{byte:02x}")).collect();
-    for (line, due) in [
+    let build = format!("build {rule}");
+    let cases = [
         ("run 00", "no profile"),
         ("verdict 0500000000000000", "no profile"),
         ("compose 0300000000000000 0104000000000000", "0500000000000000"),
-        (&format!("build {rule}"), "accepted 5"),
+        (&build, "accepted 5"),
         ("run 00FF01", "0500000000000000"),
         ("run -", "0102040000000000"),
         ("run 02", "refused 13"),
@@ -179,14 +179,22 @@ fn lines_of_mapjudge() {
         ("build 00", "refused 1"),
         ("verdict fb00000000000000", "no"),
         ("verdict 05000000000000", "malformed"),
-        ("verdict -", "malformed"),
-        ("run 0", "malformed"),
-        ("compose 0300000000000000", "malformed"),
-        (" run 00", "malformed"),
+        ("verdict 0500000000000000", "skipped"),
+        ("compose 0300000000000000 0104000000000000", "skipped"),
+        ("run 0", "skipped"),
         ("", ""),
         ("run 00", "no profile"),
+        (&build, "accepted 5"),
+        ("verdict 0500000000000000", "yes"),
+        ("", ""),
+        ("", ""),
         ("run 0g", "malformed"),
-    ] {
-        assert_eq!(answer(&mut profile, line.as_bytes()), due, "{line}");
+        (&build, "skipped"),
+    ];
+    let text: String = cases.iter().map(|(line, _)| format!("{line}\n")).collect();
+    let due: String = cases.iter().map(|(_, answer)| format!("{answer}\n")).collect();
+    assert_eq!(answers(text.as_bytes()), due);
+    for line in ["verdict -", "run 0", "compose 0300000000000000", " run 00", "run 00 ", "load 00", "Run 00"] {
+        assert_eq!(answers(format!("{build}\n{line}\nrun 00").as_bytes()), "accepted 5\nmalformed\nskipped\n", "{line}");
     }
 }

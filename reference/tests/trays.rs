@@ -57,3 +57,12 @@ fn numbers() {
     let due = ["refused 38", "refused 38", "refused 10", "refused 21", "accepted", "refused 11", "refused 39", "refused 39", "refused 13", "refused 23", "waiting 8"];
     assert_eq!(after(&any(), &any(), &calls), due);
 }
+
+#[test]
+fn a_malformed_line_ends_its_list() {
+    for line in ["open 1", "verdict ", "deliver 0 0", "row", "0001", " "] {
+        let calls = format!("open 1 1\ndeliver 0 -\n{line}\nverdict\n{line}\nrow {}\nverdict\n\nverdict\n\n\nopen 1 1\n", hex(&any()));
+        let due = ["accepted", "accepted", "malformed", "skipped", "skipped", "skipped", "skipped", "", "refused 21", "", "", "refused 20"];
+        assert_eq!(after(&any(), &any(), &calls), due, "{line}");
+    }
+}

@@ -1,8 +1,9 @@
-// The lines that every program answers with: a refusal, and that a line is malformed.
+// The lines that every program answers with: a refusal, that a line is malformed, and that it is
+// skipped.
 ghost use Prim.Native.Nat.{_+_, _≤_};
 ghost use lib.ListN.{length};
 ghost use Rattle.text.specs.Writing.{Wrote};
-ghost use Rattle.answers.specs.Answers.{refusedText, malformedText};
+ghost use Rattle.answers.specs.Answers.{refusedText, malformedText, skippedText};
 
 // The line of a refusal.
 pub fn put_refused(out: &mut [u8], at: usize, number: u8) -> usize
@@ -20,4 +21,12 @@ pub fn put_malformed(out: &mut [u8], at: usize) -> usize
     ensures { λ r. ⌜ Wrote (now (out .entry)) at malformedText (now (out .exit)) r ⌝ }
 {
     text::put_bytes(out, at, b"malformed\n")
+}
+
+// The answer to a line behind a malformed one.
+pub fn put_skipped(out: &mut [u8], at: usize) -> usize
+    requires { ⌜ at + 8 ≤ length (now out) ⌝ }
+    ensures { λ r. ⌜ Wrote (now (out .entry)) at skippedText (now (out .exit)) r ⌝ }
+{
+    text::put_bytes(out, at, b"skipped\n")
 }

@@ -11,7 +11,7 @@ pub struct MadeNumbers {
 
 // The made text of k symbols fills the buffer; where it is refused, the buffer stays as it is.
 #[no_mangle]
-pub extern "C" fn bellbadger_make_text(k: u8, seed: u64, text: &mut [u8]) -> MadeNumbers
+pub extern "C" fn bellbadger_make_text(k: usize, seed: u64, text: &mut [u8]) -> MadeNumbers
     ensures { λ r. ⌜ MakesShown k seed (now (text .entry)) r (now (text .exit)) ⌝ }
 {
     let answer = madetexts::make_text(k, seed, text);

@@ -10,7 +10,7 @@ ghost use Rattle.text.specs.Writing.{Wrote};
 ghost use Rattle.fields.specs.Numbers.{parseNumber};
 ghost use Rattle.lines.specs.Splitting.{upTo, past};
 ghost use Rattle.calltext.specs.Meaning.{openBy, withdrawBy, revisionFields, deliverFields, lineMeans, bytesFrom, Parsed};
-ghost use Rattle.calltext.specs.Answers.{behind, replied, responseText, answerMeans};
+ghost use Rattle.calltext.specs.Answers.{behind, replied, isMalformed, responseText, answerMeans};
 ghost use Rattle.calls.specs.Replies.{accepted, installed, judged, refused, installMeans, openMeans, deliverMeans, withdrawMeans, reportMeans, delivered};
 use calls::DeliverAnswer;
 use calls::InstallAnswer;
@@ -293,5 +293,20 @@ pub fn put_answer(out: &mut [u8], answer: LineAnswer) -> usize
         LineAnswer::Withdraw(said) => put_withdraw(out, said),
         LineAnswer::Verdict(said) => put_report(out, said),
         LineAnswer::Malformed => put_word(out, b"malformed"),
+    }
+}
+
+// Whether an answer says that the line is malformed.
+pub fn is_malformed(answer: LineAnswer) -> bool
+    ensures { λ r. ⌜ r ≡ isMalformed (answerMeans answer) ⌝ }
+{
+    match answer {
+        LineAnswer::Began => false,
+        LineAnswer::Install(_) => false,
+        LineAnswer::Open(_) => false,
+        LineAnswer::Deliver(_) => false,
+        LineAnswer::Withdraw(_) => false,
+        LineAnswer::Verdict(_) => false,
+        LineAnswer::Malformed => true,
     }
 }

@@ -35,9 +35,10 @@
 --      SameAnswer; FormerMerged ..    the former starts and their join      histories/specs/FormerStarts, joins/specs/Former
 --      reportBy; Divided, ThreeZeros  what is reported with a verdict       calls/specs/Calls, Claims
 --      TableP                         the table's cases                     histories/specs/TableP
---      streamOf, rightText            a text of calls                       stream/specs/Texts
+--      rightText; callLines           a text of calls; the lines' machine   stream/specs/Texts
+--      listText; listOf, skippedLines lists that a malformed line ends      linetexts/specs/Lists
 --      linesOf; lineIn, responseText  lines, calls and answers as text      lines/, calltext/specs
---      Blocks; finishOf               what is written for blocks            stream/specs/Claims, Feeding
+--      streamOf, Blocks; finishOf     what is written for blocks            linetexts/specs/Claims, Feeding
 --      recordIn, replayOf             a recorded list                       replay/specs/Records
 --
 -- A list of calls has the last call first. A proved function ends and stays within its bounds.
@@ -45,7 +46,7 @@
 use mathlib.Core.Path.{_≡_, refl, _∙_}
 use mathlib.Core.Logic.{_↔_, _⊎_, ⊎-elim}
 use mathlib.Core.Bool.{true, false}
-use mathlib.Core.List.{List, [], _++_, flatten}
+use mathlib.Core.List.{List, [], _∷_, _++_, flatten}
 use mathlib.Core.Option.{none, some}
 use Prim.Native.Nat.{ℕ, _*_, _≤_, _<_}
 use lib.ListN.{length, getD}
@@ -108,12 +109,14 @@ use Rattle.histories.proofs.TablePRuns.{Loads-so}
 use Rattle.histories.proofs.TablePRuns as histories-table-runs
 use Rattle.lines.specs.Splitting.{linesOf}
 use Rattle.longlines.specs.Holding.{lineBegin}
-use Rattle.stream.specs.Feeding.{State, stateOf, finishOf}
-use Rattle.stream.specs.Texts.{streamOf, rightText}
-use Rattle.stream.specs.Claims.{Blocks}
+use Rattle.linetexts.specs.Feeding.{State, stateOf, finishOf}
+use Rattle.linetexts.specs.Lists.{Listed, listOf, NoneEmpty, skippedLines}
+use Rattle.linetexts.specs.Claims.{streamOf, Blocks}
+use Rattle.stream.specs.Texts.{callLines, rightText}
 use Rattle.stream.proofs.Claimed as stream
 use Rattle.fields.specs.Claims.{AllBytes, fieldOf}
-use Rattle.calltext.specs.Meaning.{load-word}
+use Rattle.calltext.specs.Meaning.{malformed, load-word, lineIn}
+use Rattle.answers.specs.Answers.{malformedText}
 use Rattle.replay.specs.Records.{calls, readLine, recordIn, replayOf}
 use Rattle.replay.specs.Claims.{AllFit, recordOf}
 use Rattle.replay.proofs.RoundTrip as replay
@@ -370,14 +373,25 @@ table-P-loads = histories-table-runs.table-P-loads
 -- ---- CALLS AS TEXT
 -- The answers to a text of calls are right line by line, however it is cut into blocks.
 pub texts : (blocks : List (List ℕ)) (line : List ℕ) → lineRoom ≤ length line
-    → streamOf (stateOf fresh lineBegin line) blocks .text ≡ rightText [] (linesOf (flatten blocks))
+    → streamOf callLines (stateOf (listOf fresh false) lineBegin line) blocks .text ≡ rightText (some []) (linesOf (flatten blocks))
 texts = stream.claims .answered
 
 -- So is all that is written, in whatever rounds the blocks are fed. (A round is what the contract of
 -- `gather` promises, and the end what that of `finish` does: stream/src/lib.rt.)
-pub texts-written : {room : ℕ} {s′ : State} {blocks : List (List ℕ)} {line text : List ℕ} → lineRoom ≤ length line
-    → Blocks room (stateOf fresh lineBegin line) blocks s′ text → text ++ finishOf s′ .text ≡ rightText [] (linesOf (flatten blocks))
+pub texts-written : {room : ℕ} {s′ : State (Listed Judge)} {blocks : List (List ℕ)} {line text : List ℕ} → lineRoom ≤ length line
+    → Blocks callLines room (stateOf (listOf fresh false) lineBegin line) blocks s′ text
+    → text ++ finishOf callLines s′ .text ≡ rightText (some []) (linesOf (flatten blocks))
 texts-written = stream.claims .written
+
+-- After a malformed line no call is made and no verdict given until an empty line: each line is
+-- answered `skipped`, whatever it says. The empty line begins afresh.
+pub malformed-ends : (h : List Call) (l : List ℕ) (ls : List (List ℕ)) → lineIn l ≡ malformed → NoneEmpty ls
+    → rightText (some h) (l ∷ ls) ≡ malformedText ++ skippedLines ls
+malformed-ends = stream.claims .ends-list
+
+pub begins-afresh : (h : List Call) (l : List ℕ) (ls more : List (List ℕ)) → lineIn l ≡ malformed → NoneEmpty ls
+    → rightText (some h) ((l ∷ ls) ++ ([] ∷ more)) ≡ malformedText ++ (skippedLines ls ++ ((10 ∷ []) ++ rightText (some []) more))
+begins-afresh = stream.claims .afresh
 
 -- What C is given for a recorded list, of which nothing is asked, is the verdict after it, or its
 -- first malformed line; and every list of calls has a record, in which a load may stand for the calls

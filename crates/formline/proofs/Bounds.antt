@@ -1,7 +1,7 @@
 -- A line that says a form is no longer than its fields can be. Assumes nothing.
 --
 --   split         a line is a field, a space and what follows it
---   number-most, words-most   how long a field can be
+--   digits-most, words-most   how long a field can be
 --   bounded       the line
 use mathlib.Core.Path.{_≡_, refl, sym, ap, _∙_}
 use mathlib.Core.Logic.{_⊎_, inl, inr, ⊎-elim}
@@ -22,7 +22,7 @@ use Rattle.fields.specs.Bytes.{allHex, pairs, isBytes, isNoBytes, parseBytes}
 use Rattle.fields.proofs.Pairs.{pairs-length}
 use Rattle.wordfields.specs.Words.{wordsBy, parseWords}
 use Rattle.forms.specs.declared.Form.{Form}
-use Rattle.formline.specs.Lines.{belowBy, parseBelow, fieldThen, cellsBy, cellsIn, masksIn, failureIn, symbolsIn, lineIn, longestLine}
+use Rattle.formline.specs.Lines.{fieldThen, cellsBy, cellsIn, masksIn, failureIn, symbolsIn, lineIn, longestLine}
 
 -- ---- a field and what follows it
 pub record Split {A : Type 0} (o : Option A) (rest : Option (List ℕ)) (next : A → List ℕ → Option Form) (f : Form) : Type 0 where
@@ -50,7 +50,7 @@ joined-length w v e =
     (λ t. none-some (past-none 32 w (ltb-false (length (upTo 32 w)) (length w) t)) e)
 
 -- ---- a number
-digits-most : (w : List ℕ) (n : ℕ) → parseNumber w ≡ some n → length w ≤ 20
+pub digits-most : (w : List ℕ) (n : ℕ) → parseNumber w ≡ some n → length w ≤ 20
 digits-most w n e =
     by-test (isNumber w)
     (λ t.
@@ -58,13 +58,6 @@ digits-most w n e =
     let b = and-eq-true-iff (leb (length w) 20) (allDigits w && leb (valueOf w) 18446744073709551615) .0 (a .1) in
     leb-true (length w) 20 (b .0))
     (λ t. let z : none ≡ some n = rw t at e in none-some refl z)
-
-number-by : (limit n : ℕ) (w : List ℕ) (o : Option ℕ) → parseNumber w ≡ o → belowBy limit o ≡ some n → length w ≤ 20
-number-by limit n w none e b = none-some refl b
-number-by limit n w (some m) e b = digits-most w m e
-
-pub number-most : (limit n : ℕ) (w : List ℕ) → parseBelow limit w ≡ some n → length w ≤ 20
-number-most limit n w e = number-by limit n w (parseNumber w) refl e
 
 -- ---- 16-bit numbers
 bytes-most : (w b : List ℕ) → parseBytes w ≡ some b → (length w ≡ 1) ⊎ (length w ≤ 2 * length b)
@@ -117,13 +110,13 @@ module _ (f : Form) where
   symbols-most : (n : ℕ) (w : List ℕ) → symbolsIn n w ≡ some f → length w ≤ 36887
   unfolding symbolsIn
   symbols-most n w e =
-      let s = split (parseBelow 256 (upTo 32 w)) (past 32 w) (failureIn n) f e in
+      let s = split (parseNumber (upTo 32 w)) (past 32 w) (failureIn n) f e in
       let c = failure-most n (s .value) (s .behind) (s .made) in
-      omega (arith, joined-length w (s .behind) (s .there), number-most 256 (s .value) (upTo 32 w) (s .said))
+      omega (arith, joined-length w (s .behind) (s .there), digits-most (upTo 32 w) (s .value) (s .said))
 
 pub bounded : (w : List ℕ) (f : Form) → lineIn w ≡ some f → length w ≤ longestLine
 unfolding lineIn
 bounded w f e =
-    let s = split (parseBelow 65536 (upTo 32 w)) (past 32 w) symbolsIn f e in
+    let s = split (parseNumber (upTo 32 w)) (past 32 w) symbolsIn f e in
     let c = symbols-most f (s .value) (s .behind) (s .made) in
-    omega (arith, joined-length w (s .behind) (s .there), number-most 65536 (s .value) (upTo 32 w) (s .said))
+    omega (arith, joined-length w (s .behind) (s .there), digits-most (upTo 32 w) (s .value) (s .said))

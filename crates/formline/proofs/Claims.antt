@@ -1,6 +1,7 @@
 -- The one proof of all that specs/Claims.antt claims. Assumes nothing.
 use Rattle.formline.specs.Claims.{Claims}
 use Rattle.formline.proofs.Bounds.{bounded}
+use Rattle.formline.proofs.Numbers.{any-numbers}
 
 pub claims : Claims
-claims = record { bounded = bounded }
+claims = record { bounded = bounded; any-numbers = any-numbers }

@@ -1,3 +1,4 @@
 pub mod Fields
 pub mod Bounds
+pub mod Numbers
 pub mod Claims

@@ -1,14 +1,18 @@
 -- The lines of `formtable`: `SETS SYMBOLS FAILURE MASKS CELLS`, with exactly one space between the
--- fields. SETS is below 65,536 and SYMBOLS below 256; the others are 16-bit numbers, at most 512, 512
+-- fields. SETS and SYMBOLS are numbers below 2 ^ 64; the others are 16-bit numbers, at most 512, 512
 -- and 8,192 of them, zeros after them. Any other line is malformed, an empty one too.
 --
---   parseBelow limit w   the number that the field w says, if it is below the limit
 --   fieldThen o rest next   a field that says o, a space, and what next makes of what follows it;
 --                           none where the field says nothing or no space follows it
---   lineIn w             the form that the line w says, if it is no malformed one
+--   lineIn w             the form that the line w says, if it is no malformed one: its numbers of sets
+--                        and symbols are those of the line, however great
 --   longestLine          no line that says a form is longer (specs/Claims.antt)
+--   Held                 what the code has of a line: the form; or that one of the two numbers is too
+--                        great for a form as a value, 16 bits for sets and 8 for symbols; or that the
+--                        line is malformed
+--   heldOf o             that, where the line says the form o, if it says one
 --   lineMeans r          what the code's result says
-use mathlib.Core.Bool.{cond}
+use mathlib.Core.Bool.{cond, _&&_}
 use mathlib.Core.List.{List}
 use mathlib.Core.Option.{Option, none, some}
 use Prim.Native.Nat.{ℕ, _+_, _*_}
@@ -18,14 +22,9 @@ use Rattle.lines.specs.Splitting.{upTo, past}
 use Rattle.fields.specs.Numbers.{parseNumber}
 use Rattle.wordfields.specs.Words.{parseWords}
 use Rattle.forms.specs.declared.Form.{Form}
+use Rattle.formline.specs.declared.LineKind.{LineKind}
+use Rattle.formline.specs.declared.LineKind.the-variants.{Says, TooGreat, Malformed}
 use Rattle.formline.specs.declared.FormLine.{FormLine}
-
-abbrev pub belowBy : ℕ → Option ℕ → Option ℕ
-belowBy limit none = none
-belowBy limit (some n) = cond (ltb n limit) (some n) none
-
-abbrev pub parseBelow : ℕ → List ℕ → Option ℕ
-parseBelow limit w = belowBy limit (parseNumber w)
 
 abbrev pub fieldThen : {A : Type 0} → Option A → Option (List ℕ) → (A → List ℕ → Option Form) → Option Form
 fieldThen none rest next = none
@@ -48,14 +47,29 @@ unfoldable pub failureIn : ℕ → ℕ → List ℕ → Option Form
 failureIn n k w = fieldThen (parseWords mostSets (upTo 32 w)) (past 32 w) (masksIn n k)
 
 unfoldable pub symbolsIn : ℕ → List ℕ → Option Form
-symbolsIn n w = fieldThen (parseBelow 256 (upTo 32 w)) (past 32 w) (failureIn n)
+symbolsIn n w = fieldThen (parseNumber (upTo 32 w)) (past 32 w) (failureIn n)
 
 unfoldable pub lineIn : List ℕ → Option Form
-lineIn w = fieldThen (parseBelow 65536 (upTo 32 w)) (past 32 w) symbolsIn
+lineIn w = fieldThen (parseNumber (upTo 32 w)) (past 32 w) symbolsIn
 
 -- two numbers, four hex digits for each 16-bit number, and four spaces
 abbrev pub longestLine : ℕ
 longestLine = mostDigits + mostDigits + 4 * mostSets + 4 * mostSets + 4 * tableCells + 4
 
-abbrev pub lineMeans : FormLine → Option Form
-lineMeans r = cond (r .known) (some (r .form)) none
+-- ---- the code's result
+pub data Held : Type 0 where
+  says : Form → Held
+  tooGreat : Held
+  malformed : Held
+
+abbrev pub heldOf : Option Form → Held
+heldOf none = malformed
+heldOf (some f) = cond (ltb (f .sets) 65536 && ltb (f .symbols) 256) (says f) tooGreat
+
+abbrev pub heldBy : LineKind → Form → Held
+heldBy Says f = says f
+heldBy TooGreat f = tooGreat
+heldBy Malformed f = malformed
+
+abbrev pub lineMeans : FormLine → Held
+lineMeans r = heldBy (r .kind) (r .form)

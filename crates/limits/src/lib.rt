@@ -52,8 +52,8 @@ pub const FILE: usize = 32906;
 // The bytes of a rule as a value on a line of calls: n, k, and 4 for each of its masks.
 pub const PACKED: usize = 2 + 4 * (2 + TARGETS);
 
-// Room for a rule file, with bytes to spare: a longer file fills more than FILE of it.
-pub const FILE_ROOM: usize = 33000;
+// Room for a rule file, with a byte to spare: a longer file fills it.
+pub const FILE_ROOM: usize = FILE + 1;
 
 // The largest number on a line of calls: the largest of 64 bits.
 pub const NUMBER: u64 = 18446744073709551615;

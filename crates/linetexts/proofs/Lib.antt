@@ -1,4 +1,5 @@
 -- In the order in which they build on each other.
+pub mod Lists
 pub mod Parts
 pub mod Taking
 pub mod Gathering

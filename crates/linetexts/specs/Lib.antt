@@ -1,4 +1,5 @@
 -- In the order in which to read them.
 pub mod Parts
 pub mod Feeding
+pub mod Lists
 pub mod Claims

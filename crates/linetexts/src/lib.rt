@@ -1,7 +1,12 @@
-// Takes a block of text apart, part by part, each up to the next line feed.
+// Takes a block of text apart, part by part, each up to the next line feed; and says which lines are
+// skipped.
+ghost use mathlib.Core.Path.{_≡_};
+ghost use mathlib.Core.Bool.{false};
 ghost use Prim.Native.Nat.{_<_};
 ghost use lib.ListN.{length};
+ghost use Rattle.longlines.specs.Holding.{lineBegin};
 ghost use Rattle.linetexts.specs.Parts.{partAt, TookPart};
+ghost use Rattle.linetexts.specs.Lists.{skipsHeld};
 use longlines::Held;
 
 // A line with a part of a block behind it, where the next part begins, and whether the line ends.
@@ -9,6 +14,36 @@ pub struct Taken {
     pub held: Held,
     pub at: usize,
     pub ends: bool,
+}
+
+// What is left between the blocks of a text: a line that goes on, and whether a malformed line ended
+// its list.
+pub struct Pending {
+    pub held: Held,
+    pub ended: bool,
+}
+
+// The beginning of a text.
+pub fn nothing_yet() -> Pending
+    ensures { λ r. ⌜ r ≡ record { held = lineBegin; ended = false } ⌝ }
+{
+    let held = longlines::nothing();
+    let ended = false;
+    Pending { held, ended }
+}
+
+// Whether a line that has ended is skipped: a malformed line ended its list, and it is not empty.
+pub fn skips(ended: bool, line: &[u8], held: Held) -> bool
+    ensures { λ r. ⌜ r ≡ skipsHeld ended (now (line .entry)) held ⌝ }
+{
+    if !ended {
+        return false;
+    }
+    let seen = longlines::look(line, held);
+    if seen.hex {
+        return 0 < seen.length;
+    }
+    true
 }
 
 // A part of a block: up to the next line feed, or to the block's end. `line` keeps the line.

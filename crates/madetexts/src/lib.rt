@@ -21,7 +21,7 @@ fn next_value(x: u64) -> u64
 }
 
 // Fills the buffer with the symbols of the values after the seed.
-fn fill(k: u8, seed: u64, text: &mut [u8])
+fn fill(k: usize, seed: u64, text: &mut [u8])
     requires { ⌜ (1 ≤ k) × (k ≤ 16) ⌝ }
     ensures { λ _. ⌜ now (text .exit) ≡ madeText k seed (length (now (text .entry))) ⌝ }
 {
@@ -37,13 +37,13 @@ fn fill(k: u8, seed: u64, text: &mut [u8])
 
 // The made text of k symbols fills the buffer; where the call is refused, the buffer stays as it
 // is.
-pub fn make_text(k: u8, seed: u64, text: &mut [u8]) -> MadeAnswer
+pub fn make_text(k: usize, seed: u64, text: &mut [u8]) -> MadeAnswer
     ensures { λ r. ⌜ Makes k seed (now (text .entry)) r (now (text .exit)) ⌝ }
 {
     if k < 1 {
         return MadeAnswer::Refused(4);
     }
-    if limits::MOST_SYMBOLS < k {
+    if limits::SYMBOLS < k {
         return MadeAnswer::Refused(4);
     }
     if seed == 0 {

@@ -108,7 +108,9 @@ fn run(kept: &mut [u8], text: &mut [u8], out: &mut [u8], block: &mut [u8])
 }
 
 fn main() {
-    if stdio::has_arguments(b"usage: maketext < LINES   (takes no arguments; see README.md)\n") {
+    if stdio::has_arguments(
+        b"usage: maketext < LINES   (takes no arguments; see docs/PROGRAMS.md)\n",
+    ) {
         return;
     }
     let mut kept = [0u8; maketextlines::LINE];

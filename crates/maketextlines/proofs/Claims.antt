@@ -35,11 +35,11 @@ over-decimal (suc places) n =
 number-32 : (n : ℕ) → Over 32 (decimal n)
 number-32 n = over-less 32 47 (decimal n) (omega arith) (over-decimal 20 n)
 
-line-round-trip : (k seed n : ℕ) → k ≤ 255 → seed ≤ 18446744073709551615 → n ≤ 65536 → lineIn (lineOf k seed n) ≡ makes k seed n
+line-round-trip : (k seed n : ℕ) → k ≤ 18446744073709551615 → seed ≤ 18446744073709551615 → n ≤ 65536 → lineIn (lineOf k seed n) ≡ makes k seed n
 unfolding lineIn
 line-round-trip k seed n h l m =
     let rest = decimal seed ++ (32 ∷ decimal n) in
-    rw (over-up 32 rest (decimal k) (number-32 k), over-past 32 rest (decimal k) (number-32 k), over-up 32 (decimal n) (decimal seed) (number-32 seed), over-past 32 (decimal n) (decimal seed) (number-32 seed), fields.claims .number-round-trip k (omega arith), fields.claims .number-round-trip seed l, fields.claims .number-round-trip n (omega arith), le-leb k 255 h, le-leb n 65536 m)
+    rw (over-up 32 rest (decimal k) (number-32 k), over-past 32 rest (decimal k) (number-32 k), over-up 32 (decimal n) (decimal seed) (number-32 seed), over-past 32 (decimal n) (decimal seed) (number-32 seed), fields.claims .number-round-trip k h, fields.claims .number-round-trip seed l, fields.claims .number-round-trip n (omega arith), le-leb n 65536 m)
 
 -- ---- the length of an answer
 digits-most : (places n : ℕ) → length (decimalBelow places n) ≤ places

@@ -55,8 +55,8 @@ length-long k seed (some w) h =
     by-test (leb (length seed) 20)
     (λ t.
     let short = leb-true (length seed) 20 t in
-    rw (long-number w (omega arith)) (no-length (upToMost 255 (parseNumber k)) (parseNumber seed)))
-    (λ t. rw (long-number seed (leb-false (length seed) 20 t)) (no-seed (upToMost 255 (parseNumber k)) (upToMost 65536 (parseNumber w))))
+    rw (long-number w (omega arith)) (no-length (parseNumber k) (parseNumber seed)))
+    (λ t. rw (long-number seed (leb-false (length seed) 20 t)) (no-seed (parseNumber k) (upToMost 65536 (parseNumber w))))
 
 first-long : (k seed : List ℕ) (o : Option (List ℕ)) → 20 < length k → lengthFields k seed o ≡ malformed
 first-long k seed none h = refl

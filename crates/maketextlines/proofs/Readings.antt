@@ -17,31 +17,28 @@ use Rattle.maketextlines.specs.Lines.{Meaning, makes, malformed, upToMos
 -- ---- the three numbers
 module _ (k s n : List ℕ) (x : Number) (said : numberMeans x ≡ parseNumber k) where
   abbrev meant : Meaning
-  meant = makesBy (upToMost 255 (parseNumber k)) (parseNumber s) (upToMost 65536 (parseNumber n))
+  meant = makesBy (parseNumber k) (parseNumber s) (upToMost 65536 (parseNumber n))
 
   pub no-symbols : x ≡ Malformed → malformed ≡ meant
   no-symbols e = rw (sym said ∙ ap numberMeans e)
 
   module _ (v : ℕ) (e : x ≡ Value v) where
-    pub many-symbols : 255 < v → malformed ≡ meant
-    many-symbols h = rw (sym said ∙ ap numberMeans e, lt-leb v 255 h)
-
-    module _ (h : v ≤ 255) (y : Number) (says : numberMeans y ≡ parseNumber s) where
+    module _ (y : Number) (says : numberMeans y ≡ parseNumber s) where
       pub no-seed : y ≡ Malformed → malformed ≡ meant
-      no-seed d = rw (sym said ∙ ap numberMeans e, le-leb v 255 h, sym says ∙ ap numberMeans d)
+      no-seed d = rw (sym said ∙ ap numberMeans e, sym says ∙ ap numberMeans d)
 
       module _ (u : ℕ) (d : y ≡ Value u) (z : Number) (tells : numberMeans z ≡ parseNumber n) where
         pub no-length : z ≡ Malformed → malformed ≡ meant
         no-length f =
-            rw (sym said ∙ ap numberMeans e, le-leb v 255 h, sym says ∙ ap numberMeans d, sym tells ∙ ap numberMeans f)
+            rw (sym said ∙ ap numberMeans e, sym says ∙ ap numberMeans d, sym tells ∙ ap numberMeans f)
 
         pub great-length : (m : ℕ) → z ≡ Value m → 65536 < m → malformed ≡ meant
         great-length m f l =
-            rw (sym said ∙ ap numberMeans e, le-leb v 255 h, sym says ∙ ap numberMeans d, sym tells ∙ ap numberMeans f, lt-leb m 65536 l)
+            rw (sym said ∙ ap numberMeans e, sym says ∙ ap numberMeans d, sym tells ∙ ap numberMeans f, lt-leb m 65536 l)
 
         pub all-three : (m : ℕ) → z ≡ Value m → m ≤ 65536 → makes v u m ≡ meant
         all-three m f l =
-            rw (sym said ∙ ap numberMeans e, le-leb v 255 h, sym says ∙ ap numberMeans d, sym tells ∙ ap numberMeans f, le-leb m 65536 l)
+            rw (sym said ∙ ap numberMeans e, sym says ∙ ap numberMeans d, sym tells ∙ ap numberMeans f, le-leb m 65536 l)
 
 -- ---- `space` is the index of the first space from `from` on
 module _ (w : List ℕ) (from space : ℕ) (long : from ≤ length w) (found : space ≡ from + length (upTo 32 (drop from w))) where
@@ -75,7 +72,7 @@ module _ (w : List ℕ) (first : ℕ) (found : first ≡ 0 + length (upTo 32 (dr
         rw (behind-is w 0 first (omega arith) found here, none-behind w (first + 1) second (omega arith) next l)
 
     pub two-spaces : second < length w → (m : Meaning)
-        → m ≡ makesBy (upToMost 255 (parseNumber (take first w))) (parseNumber (take (second - (first + 1)) (drop (first + 1) w)))
+        → m ≡ makesBy (parseNumber (take first w)) (parseNumber (take (second - (first + 1)) (drop (first + 1) w)))
         (upToMost 65536 (parseNumber (take (length w - (second + 1)) (drop (second + 1) w))))
         → m ≡ lineIn w
     unfolding lineIn

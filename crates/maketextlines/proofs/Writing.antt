@@ -83,7 +83,7 @@ most-by (some k) (some seed) (some m) x y n e =
 
 most-fields : (k seed : List ℕ) (o : Option (List ℕ)) (x y n : ℕ) → lengthFields k seed o ≡ makes x y n → n ≤ 65536
 most-fields k seed none x y n e = zero-one cc
-most-fields k seed (some w) x y n e = most-by (upToMost 255 (parseNumber k)) (parseNumber seed) (parseNumber w) x y n e
+most-fields k seed (some w) x y n e = most-by (parseNumber k) (parseNumber seed) (parseNumber w) x y n e
 
 pub most-rest : (k : List ℕ) (o : Option (List ℕ)) (x y n : ℕ) → seedFields k o ≡ makes x y n → n ≤ 65536
 most-rest k none x y n e = zero-one cc

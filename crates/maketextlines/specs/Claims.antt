@@ -9,15 +9,15 @@ use lib.ListN.{length}
 use Rattle.limits.specs.Limits.{largestNumber, longestChunk}
 use Rattle.text.specs.Numerals.{decimal}
 use Rattle.shortlines.specs.Keeping.{cut}
-use Rattle.maketextlines.specs.Lines.{mostSymbolField, longestLine, makes, malformed, lineIn}
+use Rattle.maketextlines.specs.Lines.{longestLine, makes, malformed, lineIn}
 use Rattle.maketextlines.specs.Answers.{mostAnswer, answerTo, answerHeld}
 
 abbrev pub lineOf : ℕ → ℕ → ℕ → List ℕ
 lineOf k seed n = decimal k ++ (32 ∷ (decimal seed ++ (32 ∷ decimal n)))
 
 pub record Claims : Type 0 where
-  -- every k of a byte, seed of 64 bits and length that is not too long have a line
-  pub line-round-trip : (k seed n : ℕ) → k ≤ mostSymbolField → seed ≤ largestNumber → n ≤ longestChunk
+  -- every k and seed of 64 bits and length that is not too long have a line
+  pub line-round-trip : (k seed n : ℕ) → k ≤ largestNumber → seed ≤ largestNumber → n ≤ longestChunk
       → lineIn (lineOf k seed n) ≡ makes k seed n
   -- an empty line is malformed, and so is one that is longer than any in the grammar
   pub empty : lineIn [] ≡ malformed

@@ -1,7 +1,6 @@
 -- The lines of `maketext`: `K SEED LENGTH`, three numbers with exactly one space between each two; K
--- below 256, SEED below 2 ^ 64, LENGTH at most 65,536. Any other line is malformed, an empty one too.
+-- and SEED below 2 ^ 64, LENGTH at most 65,536. Any other line is malformed, an empty one too.
 --
---   mostSymbolField     the greatest K
 --   longestLine         the most bytes of such a line
 --   Meaning             of a line: a text to make, from k, the seed and the length; or malformed
 --   upToMost most o     the number o, if it is no greater than that
@@ -18,9 +17,6 @@ use Rattle.lines.specs.Splitting.{upTo, past}
 use Rattle.fields.specs.Numbers.{parseNumber}
 use Rattle.maketextlines.specs.declared.TextLine.{TextLine}
 use Rattle.maketextlines.specs.declared.TextLine.the-variants.{Makes, Malformed}
-
-abbrev pub mostSymbolField : ℕ
-mostSymbolField = 255
 
 abbrev pub longestLine : ℕ
 longestLine = 3 * mostDigits + 2
@@ -43,7 +39,7 @@ makesBy (some k) (some seed) (some n) = makes k seed n
 abbrev pub lengthFields : List ℕ → List ℕ → Option (List ℕ) → Meaning
 lengthFields k seed none = malformed
 lengthFields k seed (some w) =
-    makesBy (upToMost mostSymbolField (parseNumber k)) (parseNumber seed) (upToMost longestChunk (parseNumber w))
+    makesBy (parseNumber k) (parseNumber seed) (upToMost longestChunk (parseNumber w))
 
 -- the field of k, and the text behind the first space, if there is one
 abbrev pub seedFields : List ℕ → Option (List ℕ) → Meaning

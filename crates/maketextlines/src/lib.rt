@@ -6,7 +6,7 @@ ghost use Rattle.limits.specs.Limits.{longestChunk};
 ghost use Rattle.text.specs.Writing.{Wrote};
 ghost use Rattle.fields.specs.Numbers.{parseNumber};
 ghost use Rattle.fields.specs.Claims.{fieldOf};
-ghost use Rattle.maketextlines.specs.Lines.{mostSymbolField, upToMost, makesBy, lineIn, lineMeans};
+ghost use Rattle.maketextlines.specs.Lines.{upToMost, makesBy, lineIn, lineMeans};
 ghost use Rattle.maketextlines.specs.Answers.{mostAnswer, madeAnswer, answerTo};
 use fields::Number;
 use madetexts::MadeAnswer;
@@ -17,31 +17,25 @@ pub const LINE: usize = 3 * limits::DIGITS + 2;
 // Room for an answer: two hex digits for each byte of the longest text, and a line feed.
 pub const ANSWER: usize = 2 * limits::CHUNK + 1;
 
-// The greatest number of the first field: that of a byte.
-const SYMBOL_FIELD: u64 = 255;
-
 // The greatest length of a text.
 const TEXT: u64 = limits::CHUNK as u64;
 
 // A line: k, the seed and the length of a text to make.
 pub enum TextLine {
-    Makes(u8, u64, usize),
+    Makes(usize, u64, usize),
     Malformed,
 }
 
 // The line of three fields.
 fn numbers(k: &[u8], seed: &[u8], length: &[u8]) -> TextLine
     ensures { λ r. ⌜ lineMeans r
-        ≡ makesBy (upToMost mostSymbolField (parseNumber (now (k .entry)))) (parseNumber (now (seed .entry)))
+        ≡ makesBy (parseNumber (now (k .entry))) (parseNumber (now (seed .entry)))
         (upToMost longestChunk (parseNumber (now (length .entry)))) ⌝ }
 {
     let number = fields::read_number(k);
     let Number::Value(symbols) = number else {
         return TextLine::Malformed;
     };
-    if SYMBOL_FIELD < symbols {
-        return TextLine::Malformed;
-    }
     let number = fields::read_number(seed);
     let Number::Value(from) = number else {
         return TextLine::Malformed;
@@ -53,7 +47,7 @@ fn numbers(k: &[u8], seed: &[u8], length: &[u8]) -> TextLine
     if TEXT < n {
         return TextLine::Malformed;
     }
-    TextLine::Makes(symbols as u8, from, n as usize)
+    TextLine::Makes(symbols as usize, from, n as usize)
 }
 
 // Takes a line apart at its first two spaces.
@@ -85,7 +79,7 @@ fn put_field(out: &mut [u8], at: usize, bytes: &[u8]) -> usize
 }
 
 // Makes a text in the buffer that is lent for it, and writes what comes of it.
-fn put_made(k: u8, seed: u64, text: &mut [u8], out: &mut [u8], at: usize) -> usize
+fn put_made(k: usize, seed: u64, text: &mut [u8], out: &mut [u8], at: usize) -> usize
     requires { ⌜ (length (now text) ≤ longestChunk) × (at + mostAnswer ≤ length (now out)) ⌝ }
     ensures { λ r. ⌜ Wrote (now (out .entry)) at (madeAnswer k seed (length (now (text .entry))))
         (now (out .exit)) r ⌝ }

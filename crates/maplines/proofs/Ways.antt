@@ -23,7 +23,6 @@ use Rattle.fields.specs.declared.Bytes.{Bytes}
 use Rattle.fields.specs.declared.Bytes.the-variants.{Put, Malformed}
 use Rattle.fields.specs.Bytes.{parseBytes, Took}
 use Rattle.fields.proofs.Taking.{carries, not-bytes}
-use Rattle.answers.specs.Answers.{malformedText}
 use Rattle.maptext.specs.declared.MappingField.{MappingField}
 use Rattle.maptext.specs.MappingText.{parseMapping, fieldBy, Read}
 use Rattle.mapcalls.specs.declared.MapState.{MapState}
@@ -31,37 +30,46 @@ use Rattle.mapcalls.specs.declared.MapReply.{MapReply}
 use Rattle.mapcalls.specs.Calls.{Call, Reply, forgets, builds, runs, composes, asks, noneYet, replyOf, nextOf, replyMeans}
 use Rattle.maplines.specs.Lines.{build-word, run-word, compose-word, verdict-word, buildBy, runBy, askBy, composeBy, composeFields, askIn, lineIn, changes}
 use Rattle.mapreplies.specs.Replies.{replyText}
-use Rattle.maplines.specs.Answers.{answerTo, leftBy}
+use Rattle.maplines.specs.Answers.{leftBy, Says, Replies}
+use Rattle.maplines.specs.declared.Said.{Said}
 use Rattle.maplines.proofs.Long.{builds-long, left-long, runs-long, clip}
 
-by-text : {before after t u : List ℕ} {e : ℕ} → t ≡ u → Wrote before 0 t after e → Wrote before 0 u after e
-by-text {before} {after} {t} {u} {e} same w = subst (λ (x : List ℕ). Wrote before 0 x after e) same w
+by-call : {s : MapState} {o p : Option Call} {before after : List ℕ} {r : Said} → o ≡ p → Says s o before after r → Says s p before after r
+by-call {s} {o} {p} {before} {after} {r} same w = subst (λ (x : Option Call). Says s x before after r) same w
+
+-- a call that was replied to as it must be
+replied : {s : MapState} (c : Call) {a : Reply} {before after : List ℕ} {r : Said} → a ≡ replyOf s c → Replies a before after r
+    → Says s (some c) before after r
+replied {s} c {a} {before} {after} {r} is w = record {
+  text = subst (λ (x : Reply). Wrote before 0 (replyText x) after (r .written)) is (w .text);
+  ended = w .goes-on;
+}
 
 -- ---- a file and a chunk
 module _ (field before after : List ℕ) (x : Bytes) (took : Took field before x after) (s : MapState) where
-  module _ (e : x ≡ Malformed) (b a : List ℕ) (end : ℕ) (wrote : Wrote b 0 malformedText a end) where
-    pub run-malformed : Wrote b 0 (answerTo s (runBy (parseBytes field))) a end
-    run-malformed = rw (not-bytes field before after x took e) wrote
+  module _ (e : x ≡ Malformed) (b a : List ℕ) (said : Said) (wrote : (t : MapState) → Says t none b a said) where
+    pub run-malformed : Says s (runBy (parseBytes field)) b a said
+    run-malformed = rw (not-bytes field before after x took e) (wrote s)
 
-    pub build-malformed : Wrote b 0 (answerTo s (buildBy (parseBytes field))) a end
-    build-malformed = rw (not-bytes field before after x took e) wrote
+    pub build-malformed : Says s (buildBy (parseBytes field)) b a said
+    build-malformed = rw (not-bytes field before after x took e) (wrote s)
 
   pub build-stays : x ≡ Malformed → s ≡ leftBy s (buildBy (parseBytes field))
   build-stays e = rw (not-bytes field before after x took e)
 
   module _ (room : 65537 ≤ length before) (n : ℕ) (put : x ≡ Put n) where
-    module _ (r : MapReply) (b a : List ℕ) (end : ℕ) (wrote : Wrote b 0 (replyText (replyMeans r)) a end) where
-      pub run-put : replyMeans r ≡ replyOf s (runs (take n after)) → Wrote b 0 (answerTo s (runBy (parseBytes field))) a end
+    module _ (r : MapReply) (b a : List ℕ) (said : Said) (wrote : Replies (replyMeans r) b a said) where
+      pub run-put : replyMeans r ≡ replyOf s (runs (take n after)) → Says s (runBy (parseBytes field)) b a said
       run-put is =
           let k = carries field before after x took n put in
           let whole = is ∙ ap (λ (w : List ℕ). replyOf s (runs w)) (k .is) ∙ clip 65536 (λ (w : List ℕ). replyOf s (runs w)) (runs-long s) (k .bytes) (length before) (omega arith) in
-          rw (k .said) (by-text (ap replyText whole) wrote)
+          rw (k .said) (replied _ whole wrote)
 
-      pub build-put : replyMeans r ≡ replyOf s (builds (take n after)) → Wrote b 0 (answerTo s (buildBy (parseBytes field))) a end
+      pub build-put : replyMeans r ≡ replyOf s (builds (take n after)) → Says s (buildBy (parseBytes field)) b a said
       build-put is =
           let k = carries field before after x took n put in
           let whole = is ∙ ap (λ (w : List ℕ). replyOf s (builds w)) (k .is) ∙ clip 32906 (λ (w : List ℕ). replyOf s (builds w)) (builds-long s) (k .bytes) (length before) (omega arith) in
-          rw (k .said) (by-text (ap replyText whole) wrote)
+          rw (k .said) (replied _ whole wrote)
 
     pub build-left : (t : MapState) → t ≡ nextOf s (builds (take n after)) → t ≡ leftBy s (buildBy (parseBytes field))
     build-left t is =
@@ -85,14 +93,13 @@ module _ (field : List ℕ) (r : MappingField) (read : Read field r) where
   says-some : not (r .found) ≡ false → parseMapping field ≡ some (r .mapping .masks)
   says-some e = sym (read .says) ∙ ap (λ (b : Bool). fieldBy b (r .mapping .masks)) (was-found (r .found) e)
 
-  module _ (s : MapState) (b a : List ℕ) (end : ℕ) where
-    pub ask-malformed : not (r .found) ≡ true → Wrote b 0 malformedText a end → Wrote b 0 (answerTo s (askBy (parseMapping field))) a end
-    ask-malformed e wrote = by-text (ap (λ (o : Option (List ℕ)). answerTo s (askBy o)) (sym (says-none e))) wrote
+  module _ (s : MapState) (b a : List ℕ) (said : Said) where
+    pub ask-malformed : not (r .found) ≡ true → ((t : MapState) → Says t none b a said) → Says s (askBy (parseMapping field)) b a said
+    ask-malformed e wrote = by-call (ap askBy (sym (says-none e))) (wrote s)
 
-    pub ask-put : not (r .found) ≡ false → (said : MapReply) → replyMeans said ≡ replyOf s (asks (r .mapping .masks))
-        → Wrote b 0 (replyText (replyMeans said)) a end → Wrote b 0 (answerTo s (askBy (parseMapping field))) a end
-    ask-put e said is wrote =
-        by-text (ap replyText is ∙ ap (λ (o : Option (List ℕ)). answerTo s (askBy o)) (sym (says-some e))) wrote
+    pub ask-put : not (r .found) ≡ false → (reply : MapReply) → replyMeans reply ≡ replyOf s (asks (r .mapping .masks))
+        → Replies (replyMeans reply) b a said → Says s (askBy (parseMapping field)) b a said
+    ask-put e reply is wrote = by-call (ap askBy (sym (says-some e))) (replied (asks (r .mapping .masks)) is wrote)
 
 -- a part of a line up to its end
 to-the-end : (w : List ℕ) (from : ℕ) → take (length w - from) (drop from w) ≡ drop from w
@@ -103,17 +110,17 @@ no-second : (o : Option (List ℕ)) → composeBy o none ≡ none
 no-second none = refl
 no-second (some f) = refl
 
-module _ (w : List ℕ) (long : 8 ≤ length w) (space : ℕ) (found : space ≡ 8 + length (upTo 32 (drop 8 w))) (b a : List ℕ) (end : ℕ) where
+module _ (w : List ℕ) (long : 8 ≤ length w) (space : ℕ) (found : space ≡ 8 + length (upTo 32 (drop 8 w))) (b a : List ℕ) (said : Said) where
   abbrev fields : Option Call
   fields = composeFields (upTo 32 (drop 8 w)) (past 32 (drop 8 w))
 
   rest-length : length (drop 8 w) + 8 ≡ length w
   rest-length = omega (arith, length-drop 8 w)
 
-  malformed-by : fields ≡ none → Wrote b 0 malformedText a end → (s : MapState) → Wrote b 0 (answerTo s fields) a end
-  malformed-by e wrote s = by-text (ap (answerTo s) (sym e)) wrote
+  malformed-by : fields ≡ none → ((t : MapState) → Says t none b a said) → (s : MapState) → Says s fields b a said
+  malformed-by e wrote s = by-call (sym e) (wrote s)
 
-  pub compose-alone : length w ≤ space → Wrote b 0 malformedText a end → (s : MapState) → Wrote b 0 (answerTo s fields) a end
+  pub compose-alone : length w ≤ space → ((t : MapState) → Says t none b a said) → (s : MapState) → Says s fields b a said
   compose-alone l wrote s =
       malformed-by (ap (composeFields (upTo 32 (drop 8 w))) (past-none 32 (drop 8 w) (omega (arith, rest-length)))) wrote s
 
@@ -135,7 +142,7 @@ module _ (w : List ℕ) (long : 8 ≤ length w) (space : ℕ) (found : space ≡
         ap (composeFields (upTo 32 (drop 8 w))) behind-is
         ∙ ap (λ (v : List ℕ). composeBy (parseMapping v) (parseMapping (drop (space + 1) w))) (sym part-is)
 
-    pub compose-first : not (r .found) ≡ true → Wrote b 0 malformedText a end → (s : MapState) → Wrote b 0 (answerTo s fields) a end
+    pub compose-first : not (r .found) ≡ true → ((t : MapState) → Says t none b a said) → (s : MapState) → Says s fields b a said
     compose-first e wrote s =
         malformed-by (fields-are ∙ ap (λ (o : Option (List ℕ)). composeBy o (parseMapping (drop (space + 1) w))) (says-none _ r read e)) wrote s
 
@@ -146,13 +153,13 @@ module _ (w : List ℕ) (long : 8 ≤ length w) (space : ℕ) (found : space ≡
           ∙ ap (λ (x : Option (List ℕ)). composeBy x (parseMapping (drop (space + 1) w))) (says-some _ r read e)
           ∙ ap (composeBy (some (r .mapping .masks))) (ap parseMapping (sym (to-the-end w (space + 1))) ∙ is)
 
-      pub compose-second : not (q .found) ≡ true → Wrote b 0 malformedText a end → (s : MapState) → Wrote b 0 (answerTo s fields) a end
+      pub compose-second : not (q .found) ≡ true → ((t : MapState) → Says t none b a said) → (s : MapState) → Says s fields b a said
       compose-second f wrote s = malformed-by (both-are none (says-none _ q read-2 f)) wrote s
 
-      pub compose-put : not (q .found) ≡ false → (said : MapReply) → ((s : MapState) → replyMeans said ≡ replyOf s (composes (r .mapping .masks) (q .mapping .masks)))
-          → Wrote b 0 (replyText (replyMeans said)) a end → (s : MapState) → Wrote b 0 (answerTo s fields) a end
-      compose-put f said is wrote s =
-          by-text (ap replyText (is s) ∙ ap (answerTo s) (sym (both-are (some (q .mapping .masks)) (says-some _ q read-2 f)))) wrote
+      pub compose-put : not (q .found) ≡ false → (reply : MapReply) → ((s : MapState) → replyMeans reply ≡ replyOf s (composes (r .mapping .masks) (q .mapping .masks)))
+          → Replies (replyMeans reply) b a said → (s : MapState) → Says s fields b a said
+      compose-put f reply is wrote s =
+          by-call (sym (both-are (some (q .mapping .masks)) (says-some _ q read-2 f))) (replied (composes (r .mapping .masks) (q .mapping .masks)) (is s) wrote)
 
 -- ---- the word with which a line begins
 pub told : {b t x : Bool} → b ≡ x → b ≡ t → x ≡ t
@@ -177,28 +184,28 @@ module _ (w : List ℕ) where
   pub verdict-inside : begins verdict-word w ≡ true → 8 ≤ length w
   verdict-inside e = begins-long verdict-word w e
 
-  module _ (s : MapState) (b a : List ℕ) (end : ℕ) where
-    pub line-run : begins run-word w ≡ true → Wrote b 0 (answerTo s (runBy (parseBytes (take (length w - 4) (drop 4 w))))) a end
-        → Wrote b 0 (answerTo s (askIn w)) a end
+  module _ (s : MapState) (b a : List ℕ) (said : Said) where
+    pub line-run : begins run-word w ≡ true → Says s (runBy (parseBytes (take (length w - 4) (drop 4 w)))) b a said
+        → Says s (askIn w) b a said
     unfolding askIn
-    line-run e wrote = by-text (ap (λ (v : List ℕ). answerTo s (runBy (parseBytes v))) (to-the-end w 4) ∙ rw e) wrote
+    line-run e wrote = by-call (ap (λ (v : List ℕ). runBy (parseBytes v)) (to-the-end w 4) ∙ rw e) wrote
 
     module _ (not-run : begins run-word w ≡ false) where
       pub line-compose : begins compose-word w ≡ true
-          → ((t : MapState) → Wrote b 0 (answerTo t (composeFields (upTo 32 (drop 8 w)) (past 32 (drop 8 w)))) a end)
-          → Wrote b 0 (answerTo s (askIn w)) a end
+          → ((t : MapState) → Says t (composeFields (upTo 32 (drop 8 w)) (past 32 (drop 8 w))) b a said)
+          → Says s (askIn w) b a said
       unfolding askIn
       line-compose e wrote = rw (not-run, e) (wrote s)
 
       module _ (not-compose : begins compose-word w ≡ false) where
-        pub line-verdict : begins verdict-word w ≡ true → Wrote b 0 (answerTo s (askBy (parseMapping (take (length w - 8) (drop 8 w))))) a end
-            → Wrote b 0 (answerTo s (askIn w)) a end
+        pub line-verdict : begins verdict-word w ≡ true → Says s (askBy (parseMapping (take (length w - 8) (drop 8 w)))) b a said
+            → Says s (askIn w) b a said
         unfolding askIn
-        line-verdict e wrote = by-text (ap (λ (v : List ℕ). answerTo s (askBy (parseMapping v))) (to-the-end w 8) ∙ rw (not-run, not-compose, e)) wrote
+        line-verdict e wrote = by-call (ap (λ (v : List ℕ). askBy (parseMapping v)) (to-the-end w 8) ∙ rw (not-run, not-compose, e)) wrote
 
-        pub line-other : begins verdict-word w ≡ false → Wrote b 0 malformedText a end → Wrote b 0 (answerTo s (askIn w)) a end
+        pub line-other : begins verdict-word w ≡ false → ((t : MapState) → Says t none b a said) → Says s (askIn w) b a said
         unfolding askIn
-        line-other e wrote = rw (not-run, not-compose, e) wrote
+        line-other e wrote = rw (not-run, not-compose, e) (wrote s)
 
   -- ---- any line
   empty-is : length w ≡ 0 → lineIn w ≡ some forgets
@@ -245,18 +252,18 @@ module _ (w : List ℕ) where
       (cond-stays s (begins compose-word w) _ _ (compose-stays s (upTo 32 (drop 8 w)) (past 32 (drop 8 w)))
       (cond-stays s (begins verdict-word w) _ _ (ask-stays s (parseMapping (drop 8 w))) refl))
 
-  module _ (s : MapState) (b a : List ℕ) (end : ℕ) where
-    pub empty-text : length w ≡ 0 → Wrote b 0 (10 ∷ []) a end → Wrote b 0 (answerTo s (lineIn w)) a end
+  module _ (s : MapState) (b a : List ℕ) (said : Said) where
+    pub empty-text : length w ≡ 0 → Wrote b 0 (10 ∷ []) a (said .written) → said .ended ≡ false → Says s (lineIn w) b a said
     unfolding replyOf
-    empty-text e wrote = by-text (ap (answerTo s) (sym (empty-is e))) wrote
+    empty-text e wrote going = by-call (sym (empty-is e)) (record { text = wrote; ended = going })
 
     module _ (some-byte : length w ≡ 0 → ⊥) where
-      pub build-text : begins build-word w ≡ true → Wrote b 0 (answerTo s (buildBy (parseBytes (take (length w - 6) (drop 6 w))))) a end
-          → Wrote b 0 (answerTo s (lineIn w)) a end
-      build-text e wrote = by-text (ap (answerTo s) (sym (build-is some-byte e))) wrote
+      pub build-text : begins build-word w ≡ true → Says s (buildBy (parseBytes (take (length w - 6) (drop 6 w)))) b a said
+          → Says s (lineIn w) b a said
+      build-text e wrote = by-call (sym (build-is some-byte e)) wrote
 
-      pub other-text : begins build-word w ≡ false → Wrote b 0 (answerTo s (askIn w)) a end → Wrote b 0 (answerTo s (lineIn w)) a end
-      other-text e wrote = by-text (ap (answerTo s) (sym (other-is some-byte e))) wrote
+      pub other-text : begins build-word w ≡ false → Says s (askIn w) b a said → Says s (lineIn w) b a said
+      other-text e wrote = by-call (sym (other-is some-byte e)) wrote
 
   module _ (s : MapState) where
     pub empty-left : length w ≡ 0 → (t : MapState) → t ≡ noneYet → t ≡ leftBy s (lineIn w)

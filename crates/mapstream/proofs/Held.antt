@@ -1,87 +1,94 @@
 -- What the functions do with a line that is held is what the definitions say. Assumes nothing.
 --
 --   changes-call, changes-stray   whether it may change the profile
---   asked-text, stray-text        the answer to one that does not
---   ran-text, ran-state, stray-state   the answer to any, and the state that it leaves
---   stays                         one that does not change it
---   none-written, last-written    the end of the text
-use mathlib.Core.Path.{_≡_, refl, sym, ap, _∙_, subst}
-use mathlib.Core.Bool.{Bool, true, false}
-use mathlib.Core.List.{List, []}
+--   skipped-ended                 one that is skipped leaves the list ended
+--   stray-state, stray-text       one with a stray byte beyond the buffer
+--   ran-state, ran-text           the state that a line leaves and whether the list has ended, and its
+--                                 answer
+--   asked-state, asked-text       the same of one that does not change the profile
+--   not-changed                   what the test showed
+use mathlib.Core.Path.{_≡_, refl, sym, ap, ap₂, _∙_, subst}
+use mathlib.Core.Bool.{Bool, true, false, not}
+use mathlib.Core.List.{List}
 use mathlib.Core.Option.{Option, none}
 use Prim.Native.Nat.{ℕ}
-use borrow.Author.Tests.{eq-eqb, ne-eqb}
 use lib.ListN.{length, take}
-use Rattle.base.proofs.Tests.{by-test}
 use Rattle.text.specs.Writing.{Wrote}
-use Rattle.text.proofs.Pieces.{wrote-none}
-use Rattle.answers.specs.Answers.{malformedText}
 use Rattle.longlines.specs.declared.Held.{Held}
 use Rattle.longlines.specs.declared.Seen.{Seen}
 use Rattle.longlines.specs.Holding.{seenOf}
 use Rattle.longlines.proofs.Standing.{by-bytes, by-stray}
-use Rattle.linetexts.specs.Feeding.{Outcome, stateOf, heldStep, answerHeld, finishOf}
+use Rattle.linetexts.specs.Feeding.{Outcome, heldStep}
+use Rattle.linetexts.specs.Lists.{Listed, listOf, skipsHeld}
+use Rattle.linetexts.proofs.Lists.{skipped-state, run-held}
 use Rattle.mapcalls.specs.declared.MapState.{MapState}
+use Rattle.mapcalls.specs.Calls.{Call}
+use Rattle.maplines.specs.declared.Said.{Said}
 use Rattle.maplines.specs.Lines.{askIn, lineIn, changes}
-use Rattle.maplines.specs.Answers.{answerTo, leftBy}
+use Rattle.maplines.specs.Answers.{answerTo, leftBy, isMalformed, Says}
 use Rattle.maplines.proofs.Ways.{unchanged, stays as ask-stays}
-use Rattle.mapstream.specs.Texts.{stepOf, mapLines, changesHeld}
+use Rattle.mapstream.specs.Texts.{stepOf, mapList, mapLines, changesHeld}
 
-by-text : {before after t u : List ℕ} {e : ℕ} → t ≡ u → Wrote before 0 t after e → Wrote before 0 u after e
-by-text {before} {after} {t} {u} {e} same w = subst (λ (x : List ℕ). Wrote before 0 x after e) same w
-
+-- ---- what may change, as it is tested
 module _ (line : List ℕ) (held : Held) (seen : Seen) (is : seen ≡ seenOf line held) where
-  -- what may change, as it is tested
   pub changes-call : seen .hex ≡ true → (r : Bool) → r ≡ changes (take (seen .length) line) → r ≡ changesHeld line held
   changes-call e r l = l ∙ by-bytes changes false line held seen is e
 
   pub changes-stray : seen .hex ≡ false → false ≡ changesHeld line held
   changes-stray e = by-stray changes false line held seen is e
 
-  module _ (s : MapState) where
-    by-line : seen .hex ≡ true → stepOf s (lineIn (take (seen .length) line)) ≡ heldStep mapLines s line held
-    by-line e = by-bytes (λ (w : List ℕ). stepOf s (lineIn w)) (stepOf s none) line held seen is e
+-- what a test on `!changes_held` shows
+not-true : (b : Bool) → not b ≡ true → b ≡ false
+not-true true e = sym e
+not-true false e = refl
 
-    by-none : seen .hex ≡ false → stepOf s none ≡ heldStep mapLines s line held
-    by-none e = by-stray (λ (w : List ℕ). stepOf s (lineIn w)) (stepOf s none) line held seen is e
+pub not-changed : {b c : Bool} → b ≡ c → not b ≡ true → c ≡ false
+not-changed {b} {c} is e = sym is ∙ not-true b e
 
-    pub stray-state : seen .hex ≡ false → s ≡ heldStep mapLines s line held .state
-    stray-state e = ap (λ (o : Outcome MapState). o .state) (by-none e)
+-- ---- `b` is what `skips` answered
+module _ (s : MapState) (ended : Bool) (line : List ℕ) (held : Held) (b : Bool) (tested : b ≡ skipsHeld ended line held) where
+  pub skipped-ended : b ≡ true → (r : Bool) → r ≡ ended → listOf s r ≡ heldStep mapLines (listOf s ended) line held .state
+  skipped-ended taken r is = ap (listOf s) is ∙ skipped-state mapList s ended line held b tested taken
 
-    pub ran-state : seen .hex ≡ true → (t : MapState) → t ≡ leftBy s (lineIn (take (seen .length) line)) → t ≡ heldStep mapLines s line held .state
-    ran-state e t l = l ∙ ap (λ (o : Outcome MapState). o .state) (by-line e)
+  module _ (left : b ≡ false) (seen : Seen) (is : seen ≡ seenOf line held) where
+    by-line : seen .hex ≡ true → stepOf s (lineIn (take (seen .length) line)) ≡ heldStep mapLines (listOf s ended) line held
+    by-line e = by-bytes (mapList .step s) (mapList .stray s) line held seen is e ∙ run-held mapList s ended line held b tested left
 
-    module _ (b a : List ℕ) (end : ℕ) where
-      pub stray-text : seen .hex ≡ false → Wrote b 0 malformedText a end → Wrote b 0 (heldStep mapLines s line held .text) a end
-      stray-text e wrote = by-text (ap (λ (o : Outcome MapState). o .text) (by-none e)) wrote
+    by-none : seen .hex ≡ false → stepOf s none ≡ heldStep mapLines (listOf s ended) line held
+    by-none e = by-stray (mapList .step s) (mapList .stray s) line held seen is e ∙ run-held mapList s ended line held b tested left
 
-      pub ran-text : seen .hex ≡ true → Wrote b 0 (answerTo s (lineIn (take (seen .length) line))) a end
-          → Wrote b 0 (heldStep mapLines s line held .text) a end
-      ran-text e wrote = by-text (ap (λ (o : Outcome MapState). o .text) (by-line e)) wrote
+    pub stray-state : seen .hex ≡ false → (r : Bool) → r ≡ true → listOf s r ≡ heldStep mapLines (listOf s ended) line held .state
+    stray-state e r is = ap (listOf s) is ∙ ap (λ (x : Outcome (Listed MapState)). x .state) (by-none e)
 
-      pub asked-text : changesHeld line held ≡ false → seen .hex ≡ true → Wrote b 0 (answerTo s (askIn (take (seen .length) line))) a end
-          → Wrote b 0 (heldStep mapLines s line held .text) a end
-      asked-text quiet e wrote =
-          let same = unchanged (take (seen .length) line) (by-bytes changes false line held seen is e ∙ quiet) in
-          ran-text e (by-text (ap (answerTo s) (sym same)) wrote)
+    module _ (before after : List ℕ) (r : Said) where
+      -- of the meaning o, which the line has
+      module _ (o : Option Call) (same : stepOf s o ≡ heldStep mapLines (listOf s ended) line held) where
+        state-by : Says s o before after r → (t : MapState) → t ≡ leftBy s o → listOf t (r .ended) ≡ heldStep mapLines (listOf s ended) line held .state
+        state-by says t l = ap₂ listOf l (says .ended) ∙ ap (λ (x : Outcome (Listed MapState)). x .state) same
 
--- a line that does not change the profile leaves the state
-pub stays : (s : MapState) (line : List ℕ) (held : Held) → changesHeld line held ≡ false → s ≡ heldStep mapLines s line held .state
-stays s line held quiet =
-    let seen = seenOf line held in
-    by-test (seen .hex)
-    (λ e.
-    let w = take (seen .length) line in
-    let same = unchanged w (by-bytes changes false line held seen refl e ∙ quiet) in
-    ran-state line held seen refl s e s (sym (ap (leftBy s) same ∙ ask-stays w s)))
-    (λ e. stray-state line held seen refl s e)
+        text-by : Says s o before after r → Wrote before 0 (heldStep mapLines (listOf s ended) line held .text) after (r .written)
+        text-by says = subst (λ (x : Outcome (Listed MapState)). Wrote before 0 (x .text) after (r .written)) same (says .text)
 
--- ---- the end of the text
-module _ (s : MapState) (held : Held) (line : List ℕ) where
-  pub none-written : held .length ≡ 0 → (out : List ℕ) → Wrote out 0 (finishOf mapLines (stateOf s held line) .text) out 0
-  none-written e out = rw (eq-eqb (held .length) 0 e) (wrote-none out 0)
+      pub stray-text : seen .hex ≡ false → ((t : MapState) → Says t none before after r)
+          → Wrote before 0 (heldStep mapLines (listOf s ended) line held .text) after (r .written)
+      stray-text e says = text-by none (by-none e) (says s)
 
-  pub last-written : (held .length ≡ 0 → ⊥) → (b a : List ℕ) (end : ℕ) → Wrote b 0 (heldStep mapLines s line held .text) a end
-      → Wrote b 0 (finishOf mapLines (stateOf s held line) .text) a end
-  unfolding answerHeld
-  last-written e b a end wrote = rw (ne-eqb (held .length) 0 e) wrote
+      module _ (e : seen .hex ≡ true) where
+        pub ran-state : (t : MapState) → t ≡ leftBy s (lineIn (take (seen .length) line)) → Says s (lineIn (take (seen .length) line)) before after r
+            → listOf t (r .ended) ≡ heldStep mapLines (listOf s ended) line held .state
+        ran-state t l says = state-by (lineIn (take (seen .length) line)) (by-line e) says t l
+
+        pub ran-text : Says s (lineIn (take (seen .length) line)) before after r
+            → Wrote before 0 (heldStep mapLines (listOf s ended) line held .text) after (r .written)
+        ran-text says = text-by (lineIn (take (seen .length) line)) (by-line e) says
+
+        -- one that does not change the profile
+        module _ (quiet : changesHeld line held ≡ false) (says : Says s (askIn (take (seen .length) line)) before after r) where
+          asked : stepOf s (askIn (take (seen .length) line)) ≡ heldStep mapLines (listOf s ended) line held
+          asked = ap (stepOf s) (sym (unchanged (take (seen .length) line) (by-bytes changes false line held seen is e ∙ quiet))) ∙ by-line e
+
+          pub asked-state : listOf s (r .ended) ≡ heldStep mapLines (listOf s ended) line held .state
+          asked-state = state-by (askIn (take (seen .length) line)) asked says s (sym (ask-stays (take (seen .length) line) s))
+
+          pub asked-text : Wrote before 0 (heldStep mapLines (listOf s ended) line held .text) after (r .written)
+          asked-text = text-by (askIn (take (seen .length) line)) asked says

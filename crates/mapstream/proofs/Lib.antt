@@ -2,4 +2,3 @@
 pub mod Long
 pub mod Claimed
 pub mod Held
-pub mod Turns

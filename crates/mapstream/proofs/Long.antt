@@ -21,15 +21,16 @@ use Rattle.fields.specs.Bytes.{allHex, parseBytes}
 use Rattle.maptext.specs.MappingText.{parseMapping}
 use Rattle.longlines.specs.Claims.{TellsWithin}
 use Rattle.longlines.proofs.Tails.{begins-append, up-more, past-append, tail-stray, tail-bytes}
-use Rattle.linetexts.specs.Feeding.{Outcome}
+use Rattle.linetexts.specs.Lists.{listOf}
 use Rattle.linetexts.specs.Claims.{Told}
+use Rattle.linetexts.proofs.Lists.{told-lists}
 use Rattle.mapcalls.specs.declared.MapState.{MapState}
 use Rattle.mapcalls.specs.Calls.{Call, Reply, builds, runs, replyOf, nextOf}
 use Rattle.maplines.specs.Lines.{build-word, run-word, compose-word, verdict-word, buildBy, runBy, askBy, composeBy, composeFields, askIn, lineIn}
 use Rattle.mapreplies.specs.Replies.{replyText}
 use Rattle.maplines.specs.Answers.{answerTo, leftBy}
 use Rattle.maplines.proofs.Long.{builds-long, left-long, runs-long}
-use Rattle.mapstream.specs.Texts.{stepOf, mapLines}
+use Rattle.mapstream.specs.Texts.{stepOf, mapList, mapLines}
 
 -- ---- fields that are malformed
 mapping-long : (u : List ℕ) → 16 < length u → parseMapping u ≡ none
@@ -78,14 +79,14 @@ module _ (s : MapState) where
   tells-builds : (f g : List ℕ) → 65536 ≤ length f → 65536 ≤ length g → Tells s (some (builds f)) (some (builds g))
   tells-builds f g hf hg = record {
     steps =
-        ap₂ (λ (a : Reply) (t : MapState). record { text = replyText a; state = t })
+        ap₂ (λ (a : Reply) (t : MapState). record { text = replyText a; state = listOf t false })
         (builds-long s f g (omega arith) (omega arith)) (left-long s f g (omega arith) (omega arith));
   }
 
   tells-runs : (f g : List ℕ) → 65537 ≤ length f → 65537 ≤ length g → Tells s (some (runs f)) (some (runs g))
   unfolding nextOf
   tells-runs f g hf hg = record {
-    steps = ap (λ (a : Reply). record { text = replyText a; state = s }) (runs-long s f g (omega arith) (omega arith));
+    steps = ap (λ (a : Reply). record { text = replyText a; state = listOf s false }) (runs-long s f g (omega arith) (omega arith));
   }
 
 -- ---- the line v ++ t
@@ -166,7 +167,9 @@ module _ (v t : List ℕ) (long : 131078 ≤ length v) where
         (tells-cond s (begins build-word v) _ _ _ _ hex-build hex-ask)
 
 pub told : Told mapLines
-told s = record {
-  stray = λ v t long stray. ap (stepOf s) (stray-line v t long stray);
-  hex = λ v t long hex even. hex-line v t long s hex even .steps;
-}
+told =
+    told-lists mapList (omega arith)
+    (λ s. record {
+      stray = λ v t long stray. ap (stepOf s) (stray-line v t long stray);
+      hex = λ v t long hex even. hex-line v t long s hex even .steps;
+    })

@@ -2,15 +2,21 @@
 -- fed; proofs/Claimed.antt proves the claims. What feeding, rounds and blocks are is said of any
 -- machine in `linetexts`.
 use mathlib.Core.Path.{_≡_}
-use mathlib.Core.List.{List, [], _++_, flatten}
+use mathlib.Core.Bool.{false}
+use mathlib.Core.List.{List, [], _∷_, _++_, flatten}
+use mathlib.Core.Option.{none, some}
 use Prim.Native.Nat.{ℕ, _+_, _≤_}
 use lib.ListN.{length}
 use Rattle.lines.specs.Splitting.{linesOf}
 use Rattle.longlines.specs.Holding.{lineBegin}
 use Rattle.linetexts.specs.Feeding.{State, stateOf, finishOf}
+use Rattle.linetexts.specs.Lists.{Listed, listOf, NoneEmpty, skippedLines}
 use Rattle.linetexts.specs.Claims.{Told, linesStep, Blocks}
 use Rattle.mapcalls.specs.declared.MapState.{MapState}
-use Rattle.mapcalls.specs.Calls.{noneYet}
+use Rattle.mapcalls.specs.Calls.{Call, noneYet}
+use Rattle.answers.specs.Answers.{malformedText}
+use Rattle.maplines.specs.Lines.{lineIn}
+use Rattle.mapstream.specs.Worked.{cutText, cutAnswers}
 use Rattle.mapstream.specs.Texts.{mapRoom, mapLines, rightText}
 
 pub record Claims : Type 0 where
@@ -19,7 +25,15 @@ pub record Claims : Type 0 where
   pub told : Told mapLines
   -- lines one after the other, from no profile on: every answer is the right one after the calls
   -- before it
-  pub right : (ls : List (List ℕ)) → linesStep mapLines noneYet ls .text ≡ rightText [] ls
+  pub right : (ls : List (List ℕ)) → linesStep mapLines (listOf noneYet false) ls .text ≡ rightText (some []) ls
+  -- after a malformed line no call is made and no verdict given: each line is answered `skipped`, up to
+  -- an empty line, which begins afresh
+  pub ends-list : (h : List Call) (l : List ℕ) (ls : List (List ℕ)) → lineIn l ≡ none → NoneEmpty ls
+      → rightText (some h) (l ∷ ls) ≡ malformedText ++ skippedLines ls
+  pub afresh : (h : List Call) (l : List ℕ) (ls more : List (List ℕ)) → lineIn l ≡ none → NoneEmpty ls
+      → rightText (some h) ((l ∷ ls) ++ ([] ∷ more)) ≡ malformedText ++ (skippedLines ls ++ ((10 ∷ []) ++ rightText (some []) more))
+  pub worked : rightText (some []) (linesOf cutText) ≡ cutAnswers
   -- ALL THAT IS WRITTEN, round by round, block by block, and at the end, is right
-  pub written : {room : ℕ} {s′ : State MapState} {blocks : List (List ℕ)} {line text : List ℕ} → mapRoom + 1 ≤ length line
-      → Blocks mapLines room (stateOf noneYet lineBegin line) blocks s′ text → text ++ finishOf mapLines s′ .text ≡ rightText [] (linesOf (flatten blocks))
+  pub written : {room : ℕ} {s′ : State (Listed MapState)} {blocks : List (List ℕ)} {line text : List ℕ} → mapRoom + 1 ≤ length line
+      → Blocks mapLines room (stateOf (listOf noneYet false) lineBegin line) blocks s′ text
+      → text ++ finishOf mapLines s′ .text ≡ rightText (some []) (linesOf (flatten blocks))

@@ -1,6 +1,7 @@
 // A text of lines of rulemerge that comes in blocks, cut anywhere, and its answers.
-ghost use Prim.Native.Nat.{_≤_};
+ghost use Prim.Native.Nat.{_≤_, _<_};
 ghost use lib.ListN.{length};
+ghost use Rattle.limits.specs.Limits.{longestFile};
 ghost use Rattle.text.specs.Writing.{Wrote};
 ghost use Rattle.mergetext.specs.Answers.{mostAnswer};
 ghost use Rattle.mergestream.specs.Feeding.{Feeds, finishText};
@@ -19,7 +20,7 @@ pub struct Fed {
 
 // A block from an index on, as far as there is room for the answers to the lines that end in it,
 // which stand one behind the other at the start of `out`. `one` and `two` are for the bytes of the
-// two files of a line.
+// two files of a line, each with room for one more than a file may have.
 pub fn feed(
     scan: Scan,
     one: &mut [u8],
@@ -28,6 +29,7 @@ pub fn feed(
     block: &[u8],
     from: usize,
 ) -> Fed
+    requires { ⌜ (longestFile < length (now one)) × (longestFile < length (now two)) ⌝ }
     ensures { λ r. ⌜ Feeds (now (one .entry)) (now (two .entry)) (now (out .entry)) (now (block .entry)) from scan (now (one .exit)) (now (two .exit)) (now (out .exit)) r ⌝ }
 {
     let mut scan = scan;
@@ -52,7 +54,7 @@ pub fn feed(
 
 // The end of the text: a last line that is not empty is answered.
 pub fn finish(scan: Scan, one: &[u8], two: &[u8], out: &mut [u8]) -> usize
-    requires { ⌜ mostAnswer ≤ length (now out) ⌝ }
+    requires { ⌜ (longestFile < length (now one)) × (longestFile < length (now two)) × (mostAnswer ≤ length (now out)) ⌝ }
     ensures { λ r. ⌜ Wrote (now (out .entry)) 0 (finishText scan (now (one .entry)) (now (two .entry))) (now (out .exit)) r ⌝ }
 {
     match scan {

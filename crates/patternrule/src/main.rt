@@ -103,7 +103,7 @@ fn run(out: &mut [u8], block: &mut [u8])
 
 fn main() {
     if stdio::has_arguments(
-        b"usage: patternrule < PATTERNS   (takes no arguments; see README.md)\n",
+        b"usage: patternrule < PATTERNS   (takes no arguments; see docs/PROGRAMS.md)\n",
     ) {
         return;
     }

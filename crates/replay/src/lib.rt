@@ -3,30 +3,14 @@ ghost use mathlib.Core.Path.{_≡_};
 ghost use Prim.Native.Nat.{_+_, _≤_, min};
 ghost use lib.ListN.{length};
 ghost use Rattle.limits.specs.Limits.{bytesRoom};
-ghost use Rattle.calltext.specs.Answers.{answerMeans, isMalformed};
 ghost use Rattle.callrun.specs.Running.{Scratch};
 ghost use Rattle.replay.specs.Records.{recordIn, replayMeans, replayOf};
 use calls::Report;
-use calltext::LineAnswer;
 
 // The verdict, or the number of the first malformed line.
 pub enum ReplayAnswer {
     Verdict(Report),
     Malformed(usize),
-}
-
-fn is_malformed(answer: LineAnswer) -> bool
-    ensures { λ r. ⌜ r ≡ isMalformed (answerMeans answer) ⌝ }
-{
-    match answer {
-        LineAnswer::Began => false,
-        LineAnswer::Install(_) => false,
-        LineAnswer::Open(_) => false,
-        LineAnswer::Deliver(_) => false,
-        LineAnswer::Withdraw(_) => false,
-        LineAnswer::Verdict(_) => false,
-        LineAnswer::Malformed => true,
-    }
 }
 
 // Where the line after the one that ends there begins, within the text.
@@ -50,7 +34,7 @@ fn replay_by(text: &[u8], buffer: &mut [u8]) -> ReplayAnswer
         let run = callrun::run_line(judge, &text[at..end], buffer);
         line += 1;
         let answer = run.answer;
-        if is_malformed(answer) {
+        if calltext::is_malformed(answer) {
             return ReplayAnswer::Malformed(line);
         }
         judge = run.judge;

@@ -23,10 +23,10 @@
 -- l is any list of cells, f and g any value of the form, in which any numbers may stand. A list of calls
 -- has the last call first. A proved function ends and stays within its bounds. Assumes nothing.
 use mathlib.Core.Path.{_≡_, ap, _∙_}
-use mathlib.Core.Logic.{_↔_}
+use mathlib.Core.Logic.{_↔_, _⊎_, ⊎-elim}
 use mathlib.Core.Bool.{cond}
 use mathlib.Core.List.{List, [], _∷_, _++_, flatten}
-use mathlib.Core.Option.{none, some}
+use mathlib.Core.Option.{Option, none, some}
 use Prim.Native.Nat.{ℕ, _≤_, _<_}
 use lib.ListN.{length, getD}
 use Rattle.limits.specs.Limits.{mostSymbols, mostSets}
@@ -42,8 +42,8 @@ use Rattle.forms.specs.declared.Form.{Form}
 use Rattle.forms.specs.declared.FormResult.{FormResult}
 use Rattle.forms.specs.declared.BackResult.{BackResult}
 use Rattle.forms.specs.Form.{cell, equalCells, failureOf, keptMask, formOf}
-use Rattle.forms.specs.Back.{rank, keptCount, backNumber, tableOf, noTable, backOutcome, backOf}
-use Rattle.forms.specs.Claims.{IsTable, Wrong, Alike}
+use Rattle.forms.specs.Back.{rank, keptCount, backNumber, tableOf, noTable, backBy, backOutcome, backOf}
+use Rattle.forms.specs.Claims.{IsTable, Wrong, many-sets, many-symbols, Alike}
 use Rattle.forms.proofs.Claims as forms
 use Rattle.formmaker.specs.Making.{noForm, madeOutcome, madeOf}
 use Rattle.formtrip.specs.Claims.{tableIn}
@@ -52,9 +52,9 @@ use Rattle.formfile.specs.Files.{formFor}
 use Rattle.formfile.proofs.Claims as formfile
 use Rattle.formtext.specs.FormText.{firstCell}
 use Rattle.formtext.proofs.Claims as formtext
-use Rattle.answers.specs.Answers.{malformedText}
+use Rattle.answers.specs.Answers.{refusedText, malformedText}
 use Rattle.lines.specs.Splitting.{linesOf}
-use Rattle.formline.specs.Lines.{lineIn, longestLine}
+use Rattle.formline.specs.Lines.{failureIn, lineIn, longestLine}
 use Rattle.formline.proofs.Claims as formline
 use Rattle.tabletext.specs.Answers.{backText, answerText}
 use Rattle.formstream.specs.Texts.{answerTo, answersTo, lineAfter, answersAfter, lastAnswer}
@@ -245,6 +245,17 @@ line-answer w f e = ap answerText e
 
 pub malformed-line : (w : List ℕ) → lineIn w ≡ none → answerTo w ≡ malformedText
 malformed-line w e = ap answerText e
+
+-- SETS and SYMBOLS may be any numbers below 2 ^ 64: those of no table are refused as in every form, and
+-- they do not decide whether what follows them is malformed.
+pub no-table : (w : List ℕ) (f : Form) → lineIn w ≡ some f → (mostSets < f .sets) ⊎ (mostSymbols < f .symbols)
+    → answerTo w ≡ refusedText 40
+no-table w f e h =
+    let n : backNumber f ≡ some 40 = forms.claims .refused-exactly f .1 (⊎-elim many-sets many-symbols h) in
+    line-answer w f e ∙ ap (λ (o : Option ℕ). backText (backBy o (tableOf f))) n
+
+pub any-numbers : (n k m l : ℕ) (w : List ℕ) → failureIn n k w ≡ none → failureIn m l w ≡ none
+any-numbers = formline.claims .any-numbers
 
 pub longest : (w : List ℕ) (f : Form) → lineIn w ≡ some f → length w ≤ longestLine
 longest = formline.claims .bounded

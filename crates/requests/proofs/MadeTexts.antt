@@ -35,7 +35,7 @@ use Rattle.c_texts.specs.declared.MadeNumbers.{MadeNumbers}
 use Rattle.c_texts.specs.Numbers.{madeShown, madeReadBack}
 use Rattle.c_texts.proofs.ReadBack as c-texts
 use Rattle.shortlines.specs.Feeding.{lastAnswer, answersTo}
-use Rattle.maketextlines.specs.Lines.{mostSymbolField, longestLine, makes, malformed, lineIn}
+use Rattle.maketextlines.specs.Lines.{longestLine, makes, malformed, lineIn}
 use Rattle.maketextlines.specs.Answers.{answerTo, answerHeld}
 use Rattle.maketextlines.specs.Claims.{lineOf}
 use Rattle.maketextlines.proofs.Claims as maketextlines
@@ -112,9 +112,9 @@ pub read-back : (k seed : ℕ) (before : List ℕ) (r : MadeNumbers) (after : Li
 read-back k seed before r after m = ap madeReadBack (from-C k seed before r after .0 m .0) ∙ c-texts.claims .made-read-back (madeNumber k seed)
 
 -- ---- FROM A PROGRAM
--- Every k of a byte, seed of 64 bits and length up to a chunk's have a line of `maketext`; an empty line
--- and one that is longer than any of these are malformed.
-pub lines : (k seed n : ℕ) → k ≤ mostSymbolField → seed ≤ largestNumber → n ≤ longestChunk → lineIn (lineOf k seed n) ≡ makes k seed n
+-- Every k and seed of 64 bits and length up to a chunk's have a line of `maketext`; an empty line and one
+-- that is longer than any of these are malformed.
+pub lines : (k seed n : ℕ) → k ≤ largestNumber → seed ≤ largestNumber → n ≤ longestChunk → lineIn (lineOf k seed n) ≡ makes k seed n
 lines = maketextlines.claims .line-round-trip
 
 pub malformed-lines : (lineIn [] ≡ malformed) × ((w : List ℕ) → longestLine < length w → lineIn w ≡ malformed)

@@ -21,13 +21,14 @@
 --   rightText; lastBuilt              the answers to lines; what is built    mapstream/specs/Texts, mapcalls/specs/Histories
 --   lineIn, replyText                 lines and replies as text              maplines/specs/Lines, mapreplies/specs/Replies
 --   Blocks                            a text that comes in blocks            linetexts/specs/Claims
+--   listText; listOf, skippedLines    lists that a malformed line ends       linetexts/specs/Lists
 --
 -- r is any value, in which any numbers may stand, and so is a mapping. A proved function ends and
 -- stays within its bounds. Assumes nothing.
 use mathlib.Core.Path.{_≡_, ap}
 use mathlib.Core.Logic.{_↔_, _⊎_}
 use mathlib.Core.Bool.{true, false}
-use mathlib.Core.List.{List, [], _++_, map, flatten}
+use mathlib.Core.List.{List, [], _∷_, _++_, map, flatten}
 use mathlib.Core.Option.{none, some}
 use Prim.Native.Nat.{ℕ, _+_, _≤_, _<_}
 use lib.ListN.{length, getD}
@@ -72,6 +73,7 @@ use Rattle.ruleformat.specs.Reader.{ruleOf}
 use Rattle.lines.specs.Splitting.{linesOf}
 use Rattle.longlines.specs.Holding.{lineBegin}
 use Rattle.linetexts.specs.Feeding.{State, stateOf, finishOf}
+use Rattle.linetexts.specs.Lists.{Listed, listOf, NoneEmpty, skippedLines}
 use Rattle.linetexts.specs.Claims.{Blocks}
 use Rattle.mapcalls.specs.declared.MapState.{MapState}
 use Rattle.mapcalls.specs.Calls.{Call as MapCall, noneYet}
@@ -79,6 +81,8 @@ use Rattle.mapcalls.specs.Histories.{lastBuilt}
 use Rattle.mapcalls.proofs.Histories as mapcalls
 use Rattle.mapstream.specs.Texts.{mapRoom, mapLines, rightText}
 use Rattle.mapstream.proofs.Claimed as mapstream
+use Rattle.maplines.specs.Lines.{lineIn}
+use Rattle.answers.specs.Answers.{malformedText}
 use Rattle.capi.specs.declared.VerdictNumbers.{VerdictNumbers}
 use Rattle.demands.specs.Functions.{MayJudge}
 use Rattle.requests.specs.MappingFunctions.{MayBuild, MayRun, MayCompose, MaySay, RunEach, ComposedTo, SameAnswer}
@@ -255,9 +259,20 @@ printed-fits = profiletext.claims .fits
 -- All that `mapjudge` writes, in whatever rounds the blocks of its input are fed, is right line by line. (A
 -- round is what the contract of `gather` promises, and the end what that of `finish` does:
 -- mapstream/src/lib.rt.)
-pub lines-written : {room : ℕ} {s′ : State MapState} {blocks : List (List ℕ)} {line text : List ℕ} → mapRoom + 1 ≤ length line
-    → Blocks mapLines room (stateOf noneYet lineBegin line) blocks s′ text → text ++ finishOf mapLines s′ .text ≡ rightText [] (linesOf (flatten blocks))
+pub lines-written : {room : ℕ} {s′ : State (Listed MapState)} {blocks : List (List ℕ)} {line text : List ℕ} → mapRoom + 1 ≤ length line
+    → Blocks mapLines room (stateOf (listOf noneYet false) lineBegin line) blocks s′ text
+    → text ++ finishOf mapLines s′ .text ≡ rightText (some []) (linesOf (flatten blocks))
 lines-written = mapstream.claims .written
+
+-- After a malformed line no call is made and no verdict given until an empty line: each line is
+-- answered `skipped`, whatever it says. The empty line begins afresh.
+pub malformed-ends : (h : List MapCall) (l : List ℕ) (ls : List (List ℕ)) → lineIn l ≡ none → NoneEmpty ls
+    → rightText (some h) (l ∷ ls) ≡ malformedText ++ skippedLines ls
+malformed-ends = mapstream.claims .ends-list
+
+pub begins-afresh : (h : List MapCall) (l : List ℕ) (ls more : List (List ℕ)) → lineIn l ≡ none → NoneEmpty ls
+    → rightText (some h) ((l ∷ ls) ++ ([] ∷ more)) ≡ malformedText ++ (skippedLines ls ++ ((10 ∷ []) ++ rightText (some []) more))
+begins-afresh = mapstream.claims .afresh
 
 -- The profile that is there is that of the last accepted build: all that is said above holds of it.
 pub last-built : (h : List MapCall) (f : List ℕ) → lastBuilt h ≡ some f → Takes (ruleOf f)

@@ -20,12 +20,14 @@
 --   verdictShown
 --   MayOpen, ..; trayLibraryOfC   what the functions for C allow           specs/TrayFunctions
 --   Blocks; rightText             what is written for lines, and is right  linetexts/specs/Claims, traystream/specs/Texts
+--   listText; listOf, skippedLines   lists that a malformed line ends      linetexts/specs/Lists
 --   Accepts; automatonOf r        automata and their runs (000)            automaton/specs/Automaton, Rules
 --
 -- h is any list of calls, the last first. A proved function ends and stays within its bounds. Assumes
 -- nothing.
 use mathlib.Core.Path.{_≡_}
 use mathlib.Core.Logic.{_↔_, _⊎_}
+use mathlib.Core.Bool.{false}
 use mathlib.Core.List.{List, [], _∷_, _++_, flatten}
 use mathlib.Core.Option.{none, some}
 use Prim.Native.Nat.{ℕ, _+_, _*_, _≤_, _<_}
@@ -34,6 +36,7 @@ use Rattle.executions.specs.Executions.{Execution, Meets}
 use Rattle.lines.specs.Splitting.{linesOf}
 use Rattle.longlines.specs.Holding.{lineBegin}
 use Rattle.linetexts.specs.Feeding.{State, stateOf, finishOf}
+use Rattle.linetexts.specs.Lists.{Listed, listOf, NoneEmpty, skippedLines}
 use Rattle.linetexts.specs.Claims.{Blocks}
 use Rattle.marks.specs.Marks.{idleMark}
 use Rattle.automaton.specs.declared.Rule.{Rule}
@@ -60,6 +63,8 @@ use Rattle.trayhistories.proofs.Refinement as tray-functions
 use Rattle.trayhistories.proofs.Examples as tray-examples
 use Rattle.traystream.specs.Texts.{trayRoom, trayLines, rightText}
 use Rattle.traystream.proofs.Claimed as traystream
+use Rattle.traytext.specs.Lines.{malformed, lineIn}
+use Rattle.answers.specs.Answers.{malformedText}
 use Rattle.c_trays.specs.declared.InstallNumbers.{InstallNumbers}
 use Rattle.c_trays.specs.declared.CallNumbers.{CallNumbers}
 use Rattle.c_trays.specs.declared.VerdictNumbers.{VerdictNumbers}
@@ -268,7 +273,17 @@ module _ (h : List Call) (rs : List Reply) (t : Tray) (ran : Execution trayLibra
 -- All that `trayjudge` writes, in whatever rounds the blocks of its input are fed, is right line by line:
 -- the answer that is due after the calls of the lines before it. (A round is what the contract of
 -- `gather` promises, and the end what that of `finish` does: traystream/src/lib.rt.)
-pub lines-written : {room : ℕ} {s′ : State Tray} {blocks : List (List ℕ)} {line text : List ℕ} → trayRoom + 1 ≤ length line
-    → Blocks trayLines room (stateOf fresh lineBegin line) blocks s′ text
-    → text ++ finishOf trayLines s′ .text ≡ rightText [] (linesOf (flatten blocks))
+pub lines-written : {room : ℕ} {s′ : State (Listed Tray)} {blocks : List (List ℕ)} {line text : List ℕ} → trayRoom + 1 ≤ length line
+    → Blocks trayLines room (stateOf (listOf fresh false) lineBegin line) blocks s′ text
+    → text ++ finishOf trayLines s′ .text ≡ rightText (some []) (linesOf (flatten blocks))
 lines-written = traystream.claims .written
+
+-- After a malformed line no call is made and no verdict given until an empty line: each line is
+-- answered `skipped`, whatever it says. The empty line begins afresh.
+pub malformed-ends : (h : List Call) (l : List ℕ) (ls : List (List ℕ)) → lineIn l ≡ malformed → NoneEmpty ls
+    → rightText (some h) (l ∷ ls) ≡ malformedText ++ skippedLines ls
+malformed-ends = traystream.claims .ends-list
+
+pub begins-afresh : (h : List Call) (l : List ℕ) (ls more : List (List ℕ)) → lineIn l ≡ malformed → NoneEmpty ls
+    → rightText (some h) ((l ∷ ls) ++ ([] ∷ more)) ≡ malformedText ++ (skippedLines ls ++ ((10 ∷ []) ++ rightText (some []) more))
+begins-afresh = traystream.claims .afresh

@@ -7,8 +7,9 @@
 ghost use mathlib.Core.Path.{_≡_};
 ghost use mathlib.Core.Bool.{false};
 ghost use mathlib.Core.List.{List};
-ghost use Prim.Native.Nat.{ℕ, _≤_};
+ghost use Prim.Native.Nat.{ℕ, _≤_, _<_};
 ghost use lib.ListN.{length};
+ghost use Rattle.limits.specs.Limits.{longestFile};
 ghost use Rattle.stdio.specs.Blocks.{Within};
 ghost use Rattle.mergetext.specs.Answers.{mostAnswer};
 ghost use Rattle.mergescan.specs.Lines.{start, seenBy};
@@ -41,7 +42,7 @@ fn write_answers(answers: &[u8]) -> bool {
 
 // The lines of a block. `one` and `two` keep the files of a line that goes on.
 fn run_block(scan: Scan, one: &mut [u8], two: &mut [u8], out: &mut [u8], block: &[u8]) -> Reading
-    requires { ⌜ mostAnswer ≤ length (now out) ⌝ }
+    requires { ⌜ (longestFile < length (now one)) × (longestFile < length (now two)) × (mostAnswer ≤ length (now out)) ⌝ }
     ensures { λ r. ⌜ ((v : List ℕ) → KeepsLine (seenBy start v) scan (now (one .entry)) (now (two .entry)) → r .failed ≡ false → KeepsLine (seenBy start (lineAfter v (now (block .entry)))) (r .scan) (now (one .exit)) (now (two .exit))) ⌝ }
 {
     let mut scan = scan;
@@ -62,7 +63,7 @@ fn run_block(scan: Scan, one: &mut [u8], two: &mut [u8], out: &mut [u8], block: 
 
 // All blocks, up to the end of the input.
 fn run_blocks(one: &mut [u8], two: &mut [u8], out: &mut [u8], block: &mut [u8]) -> Reading
-    requires { ⌜ mostAnswer ≤ length (now out) ⌝ }
+    requires { ⌜ (longestFile < length (now one)) × (longestFile < length (now two)) × (mostAnswer ≤ length (now out)) ⌝ }
 {
     let mut scan = Scan::Start;
     let mut turns = stdio::most_turns();
@@ -92,7 +93,7 @@ fn run_blocks(one: &mut [u8], two: &mut [u8], out: &mut [u8], block: &mut [u8]) 
 }
 
 fn run(one: &mut [u8], two: &mut [u8], out: &mut [u8], block: &mut [u8])
-    requires { ⌜ mostAnswer ≤ length (now out) ⌝ }
+    requires { ⌜ (longestFile < length (now one)) × (longestFile < length (now two)) × (mostAnswer ≤ length (now out)) ⌝ }
 {
     let reading = run_blocks(one, two, out, block);
     if reading.failed {
@@ -104,7 +105,9 @@ fn run(one: &mut [u8], two: &mut [u8], out: &mut [u8], block: &mut [u8])
 }
 
 fn main() {
-    if stdio::has_arguments(b"usage: rulemerge < LINES   (takes no arguments; see README.md)\n") {
+    if stdio::has_arguments(
+        b"usage: rulemerge < LINES   (takes no arguments; see docs/PROGRAMS.md)\n",
+    ) {
         return;
     }
     let mut one = [0u8; limits::FILE_ROOM];

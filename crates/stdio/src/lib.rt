@@ -1,6 +1,6 @@
 // Standard input and output for the programs: nothing is lost in silence. A call that a signal
-// interrupts, or that would have to wait on a descriptor that does not wait, is tried again; any
-// other failure is told on standard error. Which bytes are read and written is no promise, since
+// interrupts, or that would have to wait on a descriptor that does not wait, is tried again, for as
+// long as it takes; any other failure is told on standard error. Which bytes are read and written is no promise, since
 // the C library's `read` and `write` make none: a test holds it.
 ghost use mathlib.Core.Path.{_≡_};
 ghost use Prim.Native.Nat.{_≤_, _<_};
@@ -9,6 +9,7 @@ ghost use Rattle.stdio.specs.Blocks.{Within, Whole};
 use libc::STDERR_FILENO;
 use libc::STDIN_FILENO;
 use libc::STDOUT_FILENO;
+use libc::types::timespec;
 
 // What a read brought: so many bytes at the start of the buffer, the end of the input, or nothing,
 // since it failed.
@@ -24,43 +25,23 @@ pub enum Input {
     Failed,
 }
 
-// How long a call is tried again: the second by the clock, how many more seconds may begin, and
-// how many more times it may be tried, a number that no run uses up.
-struct Patience {
-    second: i64,
-    seconds: u32,
-    tries: u64,
-}
+// How many times a call is tried again: as a proved loop ends, a number, which no run uses up.
+const TRIES: u64 = u64::MAX;
 
-// For how many seconds nothing may be taken from a program's output, or come to its input.
-const OUTPUT_SECONDS: u32 = 30;
+// The first so many tries come as soon as others have run, and each further one after a nap.
+const SOON: u64 = 10;
 
-const INPUT_SECONDS: u32 = 3600;
-
-fn this_second() -> i64 {
-    let mut second: i64 = 0;
-    libc::time(&mut second);
-    second
-}
-
-fn begin(seconds: u32) -> Patience {
-    let second = this_second();
-    let tries = u64::MAX;
-    Patience {
-        second,
-        seconds,
-        tries,
-    }
-}
-
-fn no_patience() -> Patience
-    ensures { λ r. ⌜ r .tries ≤ 0 ⌝ }
-{
-    Patience {
-        second: 0,
-        seconds: 0,
-        tries: 0,
-    }
+// Two milliseconds. The checker does not cover references to structs, so the proof is by hand.
+fn nap() {
+    let asked = timespec {
+        tv_sec: 0,
+        tv_nsec: 2000000,
+    };
+    let mut left = timespec {
+        tv_sec: 0,
+        tv_nsec: 0,
+    };
+    libc::nanosleep(&asked, &mut left);
 }
 
 // Whether the call that just failed may succeed later.
@@ -72,36 +53,20 @@ fn is_early() -> bool {
     why == libc::EINTR
 }
 
-// After a call that failed: no more tries where it would fail again, or where the last second has
-// passed. Else others may run before the next try, in the place of a sleep: C's `nanosleep` takes
-// references to structs, which the checker does not cover.
-fn wait(patience: Patience) -> Patience
-    requires { ⌜ 0 < patience .tries ⌝ }
-    ensures { λ r. ⌜ r .tries < patience .tries ⌝ }
+// After a call that failed: how many tries are left, none where it would fail again.
+fn wait(tries: u64) -> u64
+    requires { ⌜ 0 < tries ⌝ }
+    ensures { λ r. ⌜ r < tries ⌝ }
 {
     if !is_early() {
-        return no_patience();
+        return 0;
     }
-    libc::sched_yield();
-    let seconds = patience.seconds;
-    let tries = patience.tries - 1;
-    let second = this_second();
-    if second == patience.second {
-        return Patience {
-            second,
-            seconds,
-            tries,
-        };
+    if TRIES - tries < SOON {
+        libc::sched_yield();
+    } else {
+        nap();
     }
-    if seconds == 0 {
-        return no_patience();
-    }
-    let seconds = seconds - 1;
-    Patience {
-        second,
-        seconds,
-        tries,
-    }
+    tries - 1
 }
 
 // A line on standard error: the program, what it could not do, and why the last call failed.
@@ -114,14 +79,14 @@ fn tell(program: &[u8], what: &[u8]) {
 fn write_some(program: &[u8], bytes: &[u8]) -> usize
     ensures { λ r. ⌜ r ≤ length (now (bytes .entry)) ⌝ }
 {
-    let mut patience = begin(OUTPUT_SECONDS);
-    while patience.tries > 0 {
+    let mut tries = TRIES;
+    while tries > 0 {
         let put = libc::write(STDOUT_FILENO, bytes);
         let n = io::count(put, bytes);
         if n > 0 {
             return n;
         }
-        patience = wait(patience);
+        tries = wait(tries);
     }
     tell(program, b": cannot write");
     0
@@ -144,8 +109,8 @@ pub fn write_all(program: &[u8], bytes: &[u8]) -> bool {
 pub fn read_block(program: &[u8], block: &mut [u8]) -> Block
     ensures { λ r. ⌜ Within r (now (block .exit)) ⌝ }
 {
-    let mut patience = begin(INPUT_SECONDS);
-    while patience.tries > 0 {
+    let mut tries = TRIES;
+    while tries > 0 {
         let got = libc::read(STDIN_FILENO, block);
         let n = io::count(got, block);
         if n > 0 {
@@ -154,7 +119,7 @@ pub fn read_block(program: &[u8], block: &mut [u8]) -> Block
         if got == 0 {
             return Block::End;
         }
-        patience = wait(patience);
+        tries = wait(tries);
     }
     tell(program, b": cannot read");
     Block::Failed

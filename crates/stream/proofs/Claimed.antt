@@ -1,25 +1,58 @@
 -- The claims of specs/Claims.antt. Assumes nothing.
-use mathlib.Core.Path.{ap, _∙_}
-use mathlib.Core.List.{flatten}
-use Rattle.lines.specs.Splitting.{linesOf}
-use Rattle.stream.specs.Texts.{TextOutcome}
+use mathlib.Core.Path.{_≡_, refl, ap, _∙_}
+use mathlib.Core.Bool.{false}
+use mathlib.Core.List.{List, [], _∷_, _++_, flatten}
+use mathlib.Core.Option.{some}
+use Prim.Native.Nat.{ℕ}
+use native.Mathlib.Omega.{arith}
+use Rattle.text.specs.Numerals.{decimalBelow}
+use Rattle.lines.specs.Splitting.{begins, linesFrom, linesOf}
+use Rattle.calls.specs.declared.Judge.{Judge}
+use Rattle.calls.specs.Steps.{fresh}
+use Rattle.linebuffer.proofs.Long as linebuffer
+use Rattle.linetexts.specs.Feeding.{Outcome}
+use Rattle.linetexts.specs.Lists.{Listed, listOf, listText, skippedLines}
+use Rattle.linetexts.specs.Claims.{Told}
+use Rattle.calltext.specs.Meaning.{Meaning, malformed, callIn, lineIn}
+use Rattle.calltext.specs.Answers.{unread, responseText}
+use Rattle.calls.specs.Calls.{Call}
+use Rattle.linetexts.proofs.Lists.{told-lists, ends-list as ends}
+use Rattle.linetexts.proofs.Claimed as linetexts
+use Rattle.histories.specs.History.{boardIn, placesIn}
+use Rattle.stream.specs.Worked.{cutText, cutAnswers}
+use Rattle.stream.specs.Texts.{toldAs, callList, callLines, historyAfter, rightResponse, rightAnswer, callsAfter, rightText}
 use Rattle.stream.specs.Claims.{Claims}
-use Rattle.stream.proofs.Rounds.{forward, within, rounds}
-use Rattle.stream.proofs.Fed.{gathered, fed}
-use Rattle.stream.proofs.Whole.{feeds, finishes, whole, right, written-right}
+use Rattle.stream.proofs.Right.{right}
+
+told : Told callLines
+told =
+    told-lists callList (omega arith)
+    (λ j.
+    let t = linebuffer.told j in record {
+      stray = λ v w long stray. ap toldAs (t .stray v w long stray);
+      hex = λ v w long hex even. ap toldAs (t .hex v w long hex even);
+    })
+
+worked : rightText (some []) (linesOf cutText) ≡ cutAnswers
+unfolding listText linesFrom callIn begins boardIn placesIn decimalBelow
+worked = refl
+
+-- what a malformed line is answered
+said : (h : List Call) (l : List ℕ) → lineIn l ≡ malformed → rightAnswer h l ≡ responseText unread
+said h l e = ap (λ (m : Meaning). responseText (rightResponse h m)) e
 
 pub claims : Claims
 claims = record {
-  feeds = feeds;
-  finishes = finishes;
-  whole = whole;
+  told = told;
   right = right;
+  ends-list = λ h l ls e n. ends [] rightAnswer callsAfter .rest h l ls (ap (historyAfter h) e) n ∙ ap (λ (t : List ℕ). t ++ skippedLines ls) (said h l e);
+  afresh = λ h l ls more e n.
+      ends [] rightAnswer callsAfter .afresh h l ls more (ap (historyAfter h) e) n
+      ∙ ap (λ (t : List ℕ). t ++ (skippedLines ls ++ ((10 ∷ []) ++ rightText (some []) more))) (said h l e);
+  worked = worked;
   answered = λ blocks line large.
-      ap (λ (t : TextOutcome). t .text) (whole blocks line large) ∙ right (linesOf (flatten blocks));
-  forward = forward;
-  within = within;
-  rounds = rounds;
-  gathered = gathered;
-  fed = fed;
-  written = written-right;
+      ap (λ (o : Outcome (Listed Judge)). o .text) (linetexts.claims callLines told .whole blocks (listOf fresh false) line large)
+      ∙ right (linesOf (flatten blocks));
+  written = λ {room} {s′} {blocks} {line} {text} large b.
+      linetexts.claims callLines told .written large b ∙ right (linesOf (flatten blocks));
 }

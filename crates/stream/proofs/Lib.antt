@@ -1,8 +1,4 @@
--- In the order in which they build on each other.
-pub mod Calls
-pub mod Gathering
-pub mod Turns
-pub mod Rounds
-pub mod Fed
-pub mod Whole
+-- In the order in which to read them.
+pub mod Held
+pub mod Right
 pub mod Claimed

@@ -9,6 +9,7 @@ ghost use Rattle.text.specs.Writing.{Wrote};
 ghost use Rattle.forms.specs.Back.{backOf};
 ghost use Rattle.formline.specs.Lines.{lineIn};
 ghost use Rattle.tabletext.specs.Answers.{bareCell, cellText, cellsText, tableLine, backText, answerText, mostAnswer};
+use formline::LineKind;
 use forms::BackAnswer;
 use forms::Form;
 use forms::Table;
@@ -84,14 +85,17 @@ fn put_back(out: &mut [u8], at: usize, form: Form) -> usize
     }
 }
 
-// The answer to a line.
+// The answer to a line. A number of sets or of symbols that is too great for a form as a value is
+// too great for a table.
 pub fn put_answer(out: &mut [u8], at: usize, line: &[u8]) -> usize
     requires { ⌜ at + mostAnswer ≤ length (now out) ⌝ }
     ensures { λ r. ⌜ Wrote (now (out .entry)) at (answerText (lineIn (now (line .entry)))) (now (out .exit)) r ⌝ }
 {
     let read = formline::read_line(line);
-    if read.known {
-        return put_back(out, at, read.form);
+    let kind = read.kind;
+    match kind {
+        LineKind::Says => put_back(out, at, read.form),
+        LineKind::TooGreat => answers::put_refused(out, at, 40),
+        LineKind::Malformed => answers::put_malformed(out, at),
     }
-    answers::put_malformed(out, at)
 }

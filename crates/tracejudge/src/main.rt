@@ -1,7 +1,7 @@
 // Reads a list of calls from standard input, one a line, and prints an answer a line: `load HEX`,
 // `install HEX`, `open N`, `deliver P REVISION HEX`, `withdraw P`, `verdict`. HEX is `-` for no
-// bytes. An empty line starts again with a fresh judge. What a line means and how it is answered is
-// proved in the crates below; this program only reads and writes. The answers to a block that was
+// bytes. An empty line starts again with a fresh judge; a malformed line ends its list, and up to an
+// empty line nothing is run. What a line means and how it is answered is proved in the crates below; this program only reads and writes. The answers to a block that was
 // read are written before the next is read, all at once where their buffer holds them. Where it
 // cannot read or write it says so on standard error and stops. What it prints is no promise, since
 // the C library's `write` makes none: a test holds it.
@@ -13,10 +13,11 @@ ghost use Rattle.limits.specs.Limits.{bytesRoom, lineRoom, answerRoom};
 ghost use Rattle.callrun.specs.Running.{Scratch};
 ghost use Rattle.stdio.specs.Blocks.{Within};
 ghost use Rattle.linetexts.specs.Parts.{partsOf};
-ghost use Rattle.stream.specs.Feeding.{stateOf};
-ghost use Rattle.stream.specs.Texts.{feedParts};
+ghost use Rattle.linetexts.specs.Feeding.{feedParts};
+ghost use Rattle.linetexts.specs.Lists.{textState};
+ghost use Rattle.stream.specs.Texts.{callLines};
 use calls::Judge;
-use longlines::Held;
+use linetexts::Pending;
 use stdio::Block;
 
 // How many bytes are read at once.
@@ -26,10 +27,10 @@ const BLOCK: usize = 65536;
 // and no line with more than five for each of its bytes.
 const ANSWERS: usize = 6 * BLOCK;
 
-// The judge, what is held of a line, and whether the input or the output failed, which was told.
+// The judge, what is left between blocks, and whether the input or the output failed, which was told.
 struct Reading {
     judge: Judge,
-    held: Held,
+    pending: Pending,
     failed: bool,
 }
 
@@ -46,30 +47,30 @@ fn write_answers(answers: &[u8]) -> bool {
 // The lines of a block. `line` keeps a line that goes on.
 fn run_block(
     judge: Judge,
-    held: Held,
+    pending: Pending,
     line: &mut [u8],
     bytes: &mut [u8],
     out: &mut [u8],
     block: &[u8],
 ) -> Reading
     requires { ⌜ (lineRoom ≤ length (now line)) × (bytesRoom ≤ length (now bytes)) × (answerRoom ≤ length (now out)) ⌝ }
-    ensures { λ r. ⌜ (r .failed ≡ false → stateOf (r .judge) (r .held) (now (line .exit)) ≡ feedParts (stateOf judge held (now (line .entry))) (partsOf (now (block .entry)))) ⌝ }
+    ensures { λ r. ⌜ (r .failed ≡ false → textState (r .judge) (r .pending) (now (line .exit)) ≡ feedParts callLines (textState judge pending (now (line .entry))) (partsOf (now (block .entry)))) ⌝ }
     ensures scratch { λ r. ⌜ Scratch (now (bytes .entry)) (now (bytes .exit)) ⌝ }
 {
     let mut judge = judge;
-    let mut held = held;
+    let mut pending = pending;
     let mut at: usize = 0;
     while at < block.len() {
-        let round = stream::gather(judge, held, line, bytes, out, block, at);
+        let round = stream::gather(judge, pending, line, bytes, out, block, at);
         judge = round.judge;
-        held = round.held;
+        pending = round.pending;
         at = round.at;
         let written = round.written;
         if !write_answers(&out[..written]) {
             let failed = true;
             return Reading {
                 judge,
-                held,
+                pending,
                 failed,
             };
         }
@@ -77,7 +78,7 @@ fn run_block(
     let failed = false;
     Reading {
         judge,
-        held,
+        pending,
         failed,
     }
 }
@@ -87,24 +88,24 @@ fn run_blocks(line: &mut [u8], bytes: &mut [u8], out: &mut [u8], block: &mut [u8
     requires { ⌜ (lineRoom ≤ length (now line)) × (bytesRoom ≤ length (now bytes)) × (answerRoom ≤ length (now out)) ⌝ }
 {
     let mut judge = judge::new_judge();
-    let mut held = longlines::nothing();
+    let mut pending = linetexts::nothing_yet();
     let mut turns = stdio::most_turns();
     while turns > 0 {
         let read = read_block(block);
         match read {
             Block::Bytes(n) => {
-                let reading = run_block(judge, held, line, bytes, out, &block[..n]);
+                let reading = run_block(judge, pending, line, bytes, out, &block[..n]);
                 if reading.failed {
                     return reading;
                 }
                 judge = reading.judge;
-                held = reading.held;
+                pending = reading.pending;
             }
             Block::End => {
                 let failed = false;
                 return Reading {
                     judge,
-                    held,
+                    pending,
                     failed,
                 };
             }
@@ -112,7 +113,7 @@ fn run_blocks(line: &mut [u8], bytes: &mut [u8], out: &mut [u8], block: &mut [u8
                 let failed = true;
                 return Reading {
                     judge,
-                    held,
+                    pending,
                     failed,
                 };
             }
@@ -122,7 +123,7 @@ fn run_blocks(line: &mut [u8], bytes: &mut [u8], out: &mut [u8], block: &mut [u8
     let failed = false;
     Reading {
         judge,
-        held,
+        pending,
         failed,
     }
 }
@@ -134,8 +135,7 @@ fn run(line: &mut [u8], bytes: &mut [u8], out: &mut [u8], block: &mut [u8])
     if reading.failed {
         return;
     }
-    let last = stream::finish(reading.judge, reading.held, line, bytes, out);
-    let written = last.written;
+    let written = stream::finish(reading.judge, reading.pending, line, bytes, out);
     write_answers(&out[..written]);
 }
 

@@ -1,11 +1,12 @@
 -- Every line is answered by the calls before it. Assumes nothing.
 --
 --   row-file, column-file   the line of a file, on any tray: its rule is installed, or nothing is done
---   Follows h m             after the calls h the answer to a line of the meaning m is the right one, and
+--   FollowsLine h m         after the calls h the answer to a line of the meaning m is the right one, and
 --                           the tray that it leaves is the one after the calls with the line's own
 --   right                   so are all answers to lines
-use mathlib.Core.Path.{_≡_, refl, ap, ap₂, _∙_}
-use mathlib.Core.List.{List, [], _∷_, _++_}
+use mathlib.Core.Path.{_≡_, refl, ap, _∙_}
+use mathlib.Core.Bool.{false}
+use mathlib.Core.List.{List, []}
 use mathlib.Core.Option.{Option, none, some}
 use Prim.Native.Nat.{ℕ}
 use Rattle.automaton.specs.declared.Rule.{Rule}
@@ -14,7 +15,9 @@ use Rattle.ruleformat.specs.Refusals.{refusal}
 use Rattle.ruleformat.specs.Reader.{ruleOf}
 use Rattle.calls.specs.Calls.{installNumber, loadNumber}
 use Rattle.calls.proofs.Conditions.{load-number, load-installs}
+use Rattle.linetexts.specs.Lists.{Listed, listOf}
 use Rattle.linetexts.specs.Claims.{linesStep}
+use Rattle.linetexts.proofs.Lists.{Agrees, Follows, lists-right}
 use Rattle.trays.specs.declared.Tray.{Tray}
 use Rattle.trays.specs.Replies.{refused}
 use Rattle.trays.specs.Calls.{Call, installsRow, installsColumn}
@@ -23,9 +26,9 @@ use Rattle.trayhistories.specs.History.{answerOf}
 use Rattle.trayhistories.specs.Claims.{trayMachine, trayAfter}
 use Rattle.trayhistories.proofs.EveryList.{answer-after}
 use Rattle.traytext.specs.Lines.{Meaning, again, call, rowFile, columnFile, malformed, lineIn}
-use Rattle.traytext.specs.Answers.{Response, replied, responseText}
+use Rattle.traytext.specs.Answers.{replied, responseText}
 use Rattle.traylines.specs.Running.{loadRowOf, loadColumnOf, lineStep}
-use Rattle.traystream.specs.Texts.{trayLines, fileCall, fileResponse, callsAfter, rightResponse, rightText}
+use Rattle.traystream.specs.Texts.{toldAs, trayList, trayLines, fileCall, fileResponse, historyAfter, rightResponse, rightAnswer, callsAfter, rightText}
 
 -- ---- a file: where reading refuses it, nothing is done; else its rule is installed
 abbrev fileOutcome : Option ℕ → Outcome → Tray → Outcome
@@ -47,9 +50,9 @@ unfolding loadColumnOf installColumnOf
 column-file f t = file-by f t (withColumn t) (refusal f) refl
 
 -- ---- one line
-record Follows (h : List Call) (m : Meaning) : Type 0 where
+record FollowsLine (h : List Call) (m : Meaning) : Type 0 where
   response : lineStep (trayAfter h) m .response ≡ rightResponse h m
-  state : lineStep (trayAfter h) m .state ≡ trayAfter (callsAfter h m)
+  state : Agrees trayAfter (toldAs (lineStep (trayAfter h) m) .state) (historyAfter h m)
 
 -- of a file, by the number with which reading refuses it
 module _ (h : List Call) (c : Call) where
@@ -62,29 +65,32 @@ module _ (h : List Call) (c : Call) where
   left none = refl
   left (some number) = refl
 
-follows : (h : List Call) (m : Meaning) → Follows h m
+abbrev going-on : Tray → Listed Tray
+going-on t = listOf t false
+
+follows-line : (h : List Call) (m : Meaning) → FollowsLine h m
 unfolding stateAfter
-follows h again = record { response = refl; state = refl }
-follows h (call c) = record { response = ap replied (answer-after h c); state = refl }
-follows h (rowFile f) = record {
+follows-line h again = record { response = refl; state = refl }
+follows-line h (call c) = record { response = ap replied (answer-after h c); state = refl }
+follows-line h (rowFile f) = record {
   response = ap (λ (o : Outcome). replied (o .reply)) (row-file f (trayAfter h)) ∙ said h (installsRow (ruleOf f)) (refusal f);
-  state = ap (λ (o : Outcome). o .state) (row-file f (trayAfter h)) ∙ left h (installsRow (ruleOf f)) (refusal f);
+  state = ap going-on (ap (λ (o : Outcome). o .state) (row-file f (trayAfter h)) ∙ left h (installsRow (ruleOf f)) (refusal f));
 }
-follows h (columnFile f) = record {
+follows-line h (columnFile f) = record {
   response = ap (λ (o : Outcome). replied (o .reply)) (column-file f (trayAfter h)) ∙ said h (installsColumn (ruleOf f)) (refusal f);
-  state = ap (λ (o : Outcome). o .state) (column-file f (trayAfter h)) ∙ left h (installsColumn (ruleOf f)) (refusal f);
+  state = ap going-on (ap (λ (o : Outcome). o .state) (column-file f (trayAfter h)) ∙ left h (installsColumn (ruleOf f)) (refusal f));
 }
-follows h malformed = record { response = refl; state = refl }
+follows-line h malformed = record { response = refl; state = refl }
 
 -- ---- all lines
-right-by : (ls : List (List ℕ)) (h : List Call) → linesStep trayLines (trayAfter h) ls .text ≡ rightText h ls
-unfolding linesStep rightText
-right-by [] h = refl
-right-by (l ∷ ls) h =
-    let f = follows h (lineIn l) in
-    ap₂ (λ (a : Response) (t : Tray). responseText a ++ linesStep trayLines t ls .text) (f .response) (f .state)
-    ∙ ap (λ (t : List ℕ). responseText (rightResponse h (lineIn l)) ++ t) (right-by ls (callsAfter h (lineIn l)))
-
-pub right : (ls : List (List ℕ)) → linesStep trayLines fresh ls .text ≡ rightText [] ls
+follows : Follows trayList trayAfter [] rightAnswer callsAfter
 unfolding stateAfter
-right ls = right-by ls []
+follows = record {
+  afresh = λ t. refl;
+  answers = λ h l. ap responseText (follows-line h (lineIn l) .response);
+  leaves = λ h l. follows-line h (lineIn l) .state;
+}
+
+pub right : (ls : List (List ℕ)) → linesStep trayLines (listOf fresh false) ls .text ≡ rightText (some []) ls
+unfolding stateAfter
+right ls = lists-right trayList trayAfter [] rightAnswer callsAfter follows ls (listOf fresh false) (some []) refl

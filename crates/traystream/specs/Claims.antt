@@ -2,15 +2,22 @@
 -- fed; proofs/Claimed.antt proves the claims. What feeding, rounds and blocks are is said of any
 -- machine in `linetexts`.
 use mathlib.Core.Path.{_≡_}
-use mathlib.Core.List.{List, [], _++_, flatten}
+use mathlib.Core.Bool.{false}
+use mathlib.Core.List.{List, [], _∷_, _++_, flatten}
+use mathlib.Core.Option.{some}
 use Prim.Native.Nat.{ℕ, _+_, _≤_}
 use lib.ListN.{length}
 use Rattle.lines.specs.Splitting.{linesOf}
 use Rattle.longlines.specs.Holding.{lineBegin}
 use Rattle.linetexts.specs.Feeding.{State, stateOf, finishOf}
+use Rattle.linetexts.specs.Lists.{Listed, listOf, NoneEmpty, skippedLines}
 use Rattle.linetexts.specs.Claims.{Told, linesStep, Blocks}
 use Rattle.trays.specs.declared.Tray.{Tray}
+use Rattle.trays.specs.Calls.{Call}
 use Rattle.trays.specs.Steps.{fresh}
+use Rattle.traytext.specs.Lines.{malformed, lineIn}
+use Rattle.traytext.specs.Answers.{unread, responseText}
+use Rattle.traystream.specs.Worked.{cutText, cutAnswers}
 use Rattle.traystream.specs.Texts.{trayRoom, trayLines, rightText}
 
 pub record Claims : Type 0 where
@@ -19,8 +26,15 @@ pub record Claims : Type 0 where
   pub told : Told trayLines
   -- lines one after the other, from a fresh tray on: every answer is the right one after the calls
   -- before it
-  pub right : (ls : List (List ℕ)) → linesStep trayLines fresh ls .text ≡ rightText [] ls
+  pub right : (ls : List (List ℕ)) → linesStep trayLines (listOf fresh false) ls .text ≡ rightText (some []) ls
+  -- after a malformed line no call is made and no verdict given: each line is answered `skipped`, up to
+  -- an empty line, which begins afresh
+  pub ends-list : (h : List Call) (l : List ℕ) (ls : List (List ℕ)) → lineIn l ≡ malformed → NoneEmpty ls
+      → rightText (some h) (l ∷ ls) ≡ responseText unread ++ skippedLines ls
+  pub afresh : (h : List Call) (l : List ℕ) (ls more : List (List ℕ)) → lineIn l ≡ malformed → NoneEmpty ls
+      → rightText (some h) ((l ∷ ls) ++ ([] ∷ more)) ≡ responseText unread ++ (skippedLines ls ++ ((10 ∷ []) ++ rightText (some []) more))
+  pub worked : rightText (some []) (linesOf cutText) ≡ cutAnswers
   -- ALL THAT IS WRITTEN, round by round, block by block, and at the end, is right
-  pub written : {room : ℕ} {s′ : State Tray} {blocks : List (List ℕ)} {line text : List ℕ} → trayRoom + 1 ≤ length line
-      → Blocks trayLines room (stateOf fresh lineBegin line) blocks s′ text
-      → text ++ finishOf trayLines s′ .text ≡ rightText [] (linesOf (flatten blocks))
+  pub written : {room : ℕ} {s′ : State (Listed Tray)} {blocks : List (List ℕ)} {line text : List ℕ} → trayRoom + 1 ≤ length line
+      → Blocks trayLines room (stateOf (listOf fresh false) lineBegin line) blocks s′ text
+      → text ++ finishOf trayLines s′ .text ≡ rightText (some []) (linesOf (flatten blocks))

@@ -2,11 +2,13 @@
 --
 --   Response          what a line is answered: a fresh tray began, a call was replied to, or the line
 --                     is malformed
+--   isMalformed s     the line is malformed
 --   judgementText v   the line of a verdict: `waiting E`, `yes`, `no`, `refused N`
 --   replyText a       the line of a reply: `accepted`, `accepted SETS M`, a verdict, `refused N`
 --   responseText s    the line of any answer: an empty one where a fresh tray began
 --   mostAnswer        the most bytes of an answer: `accepted`, a number of 16 bits and one of 8
 --   answerMeans r     what each case of the code's answer says
+use mathlib.Core.Bool.{Bool, true, false}
 use mathlib.Core.List.{List, [], _∷_, _++_}
 use Prim.Native.Nat.{ℕ}
 use Rattle.text.specs.Numerals.{decimal}
@@ -19,6 +21,11 @@ pub data Response : Type 0 where
   began : Response
   replied : Reply → Response
   unread : Response
+
+abbrev pub isMalformed : Response → Bool
+isMalformed began = false
+isMalformed (replied a) = false
+isMalformed unread = true
 
 -- `accepted` and `waiting`, with the space behind them
 abbrev pub accepted-word : List ℕ

@@ -9,7 +9,7 @@ ghost use Rattle.lines.specs.Splitting.{upTo, past};
 ghost use Rattle.fields.specs.Numbers.{parseNumber};
 ghost use Rattle.trays.specs.Replies.{installed, waiting, judged, installMeans, callMeans, verdictMeans};
 ghost use Rattle.traytext.specs.Lines.{withdrawBy, openFields, deliverFields, lineMeans, bytesFrom, Parsed};
-ghost use Rattle.traytext.specs.Answers.{mostAnswer, replied, replyText, responseText, answerMeans};
+ghost use Rattle.traytext.specs.Answers.{mostAnswer, replied, isMalformed, replyText, responseText, answerMeans};
 use fields::Number;
 use trays::CallAnswer;
 use trays::InstallAnswer;
@@ -185,5 +185,18 @@ pub fn put_answer(out: &mut [u8], answer: LineAnswer) -> usize
         LineAnswer::Call(said) => put_call(out, said),
         LineAnswer::Verdict(said) => put_verdict(out, said),
         LineAnswer::Malformed => answers::put_malformed(out, 0),
+    }
+}
+
+// Whether an answer says that the line is malformed.
+pub fn is_malformed(answer: LineAnswer) -> bool
+    ensures { λ r. ⌜ r ≡ isMalformed (answerMeans answer) ⌝ }
+{
+    match answer {
+        LineAnswer::Began => false,
+        LineAnswer::Install(_) => false,
+        LineAnswer::Call(_) => false,
+        LineAnswer::Verdict(_) => false,
+        LineAnswer::Malformed => true,
     }
 }

@@ -19,6 +19,7 @@
 //! let _looked = judge.deliver(0, 0, &[0])?;
 //! let report = judge.verdict()?;
 //! assert_eq!(report.verdict, Verdict::Yes(3));
+//! assert!(report.is_yes());
 //! // 2 bytes of text, for each 1 transition and 1 over
 //! assert_eq!((report.bytes, report.quotient, report.remainder), (2, 1, 1));
 //! // a later recording, with a greater revision, supersedes what stands at place 0
@@ -48,8 +49,8 @@
 //!
 //! # Threads and stack
 //!
-//! No call keeps anything outside its judge. A judge goes by value within the library: for a thread
-//! that calls it a stack of 512 KB is enough, 128 KB is not (Rust's own threads have 2 MB).
+//! No call keeps anything outside its judge. A judge goes by value within the library: a thread that
+//! calls it should have a stack of 1 MB (Rust's own threads have 2 MB).
 pub mod form;
 pub mod mappings;
 pub mod merge;
@@ -107,6 +108,28 @@ pub enum Verdict {
     No(u64),
 }
 
+impl Verdict {
+    /// Whether the trace keeps to the rule: not where it does not, and not where places are empty. That
+    /// there is a verdict, `Ok(..)`, says nothing of that.
+    ///
+    /// ```
+    /// # use bellbadger::Verdict;
+    /// assert!(Verdict::Yes(3).is_yes());
+    /// assert!(!Verdict::No(3).is_yes() && !Verdict::Waiting(1).is_yes());
+    /// ```
+    ///
+    /// Asking is not enough; an answer that is dropped is told by the compiler:
+    ///
+    /// ```compile_fail
+    /// #![deny(unused_must_use)]
+    /// bellbadger::Verdict::Yes(3).is_yes();
+    /// ```
+    #[must_use]
+    pub fn is_yes(&self) -> bool {
+        matches!(self, Verdict::Yes(_))
+    }
+}
+
 /// A verdict, and how much work the trace costs.
 ///
 /// Beside yes or no `bytes` is the number of text bytes, and count = quotient × bytes + remainder with
@@ -122,6 +145,14 @@ pub struct Report {
     pub quotient: u64,
     /// What is over.
     pub remainder: u64,
+}
+
+impl Report {
+    /// Whether the verdict is yes, as [`Verdict::is_yes`] has it.
+    #[must_use]
+    pub fn is_yes(&self) -> bool {
+        self.verdict.is_yes()
+    }
 }
 
 /// One rule and one board.

@@ -38,7 +38,7 @@ extern "C" {
 ///
 /// ```
 /// use bellbadger::merge::{merge, Way};
-/// use bellbadger::{read, Judge, Verdict};
+/// use bellbadger::{read, Judge};
 ///
 /// let ends_in_0_1 = read(&[
 ///     3, 2, 1, 0, 0, 0, 4, 0, 0, 0, 22, 0, 6, 0, 28, 0, 2, 0, 30, 0, 0, 0, 0, 0, 0, 1, 1, 0, 1, 2,
@@ -51,9 +51,9 @@ extern "C" {
 /// let _loaded = judge.install(&rule)?;
 /// judge.open(1)?;
 /// let _looked = judge.deliver(0, 0, &[0, 0, 1])?;
-/// assert!(matches!(judge.verdict()?.verdict, Verdict::Yes(_)));
+/// assert!(judge.verdict()?.is_yes());
 /// let _looked = judge.deliver(0, 1, &[0, 1])?; // one 0
-/// assert!(matches!(judge.verdict()?.verdict, Verdict::No(_)));
+/// assert!(!judge.verdict()?.is_yes());
 /// # Ok::<(), bellbadger::Refused>(())
 /// ```
 ///

@@ -31,7 +31,7 @@ extern "C" {
 /// 30 (over 128 bytes), 31 (the bytes are no pattern), 32 (more than 31 letters).
 ///
 /// ```
-/// use bellbadger::{patterns::rule_file, Judge, Verdict};
+/// use bellbadger::{patterns::rule_file, Judge};
 ///
 /// // any number of times 0 1, and then 2
 /// let file = rule_file(b"(ab)*c")?;
@@ -39,7 +39,7 @@ extern "C" {
 /// let _loaded = judge.load(&file)?;
 /// judge.open(1)?;
 /// let _looked = judge.deliver(0, 0, &[0, 1, 0, 1, 2])?;
-/// assert!(matches!(judge.verdict()?.verdict, Verdict::Yes(_)));
+/// assert!(judge.verdict()?.is_yes());
 /// assert_eq!(rule_file(b"*c").unwrap_err().to_string(), "refused 31: the bytes are no pattern");
 /// # Ok::<(), bellbadger::Refused>(())
 /// ```

@@ -88,7 +88,7 @@ pub struct RawVerdict {
 }
 
 /// The major version that the declarations here are of.
-pub const MAJOR: u32 = 4;
+pub const MAJOR: u32 = 5;
 /// As the C header has it; outside/c/test.c reads every field of it.
 pub const STATE_SIZE: usize = 27832;
 const _: () = assert!(std::mem::size_of::<RawJudge>() == STATE_SIZE);

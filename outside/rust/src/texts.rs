@@ -8,7 +8,7 @@ struct RawMade {
 }
 
 extern "C" {
-    fn bellbadger_make_text(k: u8, seed: u64, text: *mut u8, length: usize) -> RawMade;
+    fn bellbadger_make_text(k: usize, seed: u64, text: *mut u8, length: usize) -> RawMade;
 }
 
 /// Fills the buffer with a text of symbols below k, by Marsaglia's 64-bit xorshift with shifts 13 left, 7
@@ -30,7 +30,7 @@ extern "C" {
 ///
 /// # Panics
 /// Where the library that is linked has another version or state than this wrapper was written for.
-pub fn make_text(k: u8, seed: u64, text: &mut [u8]) -> Result<(), Refused> {
+pub fn make_text(k: usize, seed: u64, text: &mut [u8]) -> Result<(), Refused> {
     fits();
     // SAFETY: the pointer leads to as many bytes as the length says, and nobody else has them.
     let r = unsafe { bellbadger_make_text(k, seed, text.as_mut_ptr(), text.len()) };

@@ -44,6 +44,28 @@ pub enum TrayVerdict {
     No,
 }
 
+impl TrayVerdict {
+    /// Whether every row and every column is accepted: not where bands are empty. That there is a
+    /// verdict, `Ok(..)`, says nothing of that.
+    ///
+    /// ```
+    /// # use bellbadger::trays::TrayVerdict;
+    /// assert!(TrayVerdict::Yes.is_yes());
+    /// assert!(!TrayVerdict::No.is_yes() && !TrayVerdict::Waiting(1).is_yes());
+    /// ```
+    ///
+    /// Asking is not enough; an answer that is dropped is told by the compiler:
+    ///
+    /// ```compile_fail
+    /// #![deny(unused_must_use)]
+    /// bellbadger::trays::TrayVerdict::Yes.is_yes();
+    /// ```
+    #[must_use]
+    pub fn is_yes(&self) -> bool {
+        matches!(self, TrayVerdict::Yes)
+    }
+}
+
 /// A call of a tray was refused; the tray is as it was.
 ///
 /// ```

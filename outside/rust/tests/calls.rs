@@ -1,6 +1,9 @@
 //! The judge through the wrapper: table P, refusals and their words, the largest count, recorded
 //! lists, and what a judge shows of itself.
-use bellbadger::{replay, version, Judge, Loaded, Looked, Refused, ReplayError, Report, Verdict};
+use bellbadger::{form, mappings, merge, patterns, samples, trays};
+use bellbadger::{
+    read, replay, version, Judge, Loaded, Looked, Refused, ReplayError, Report, Verdict,
+};
 use std::fmt::Debug;
 
 const A: [u8; 30] = [
@@ -88,6 +91,64 @@ fn refusals_of_the_calls() {
     assert_eq!(number(judge.load(&A[..9])), 1);
     assert_eq!(number(judge.load(&[0; 32907])), 2);
     assert_eq!(judge.verdict(), Ok(waiting(63)));
+}
+
+/// `Ok` is no yes, and neither is waiting nor no: this would catch a verdict that passes for one.
+#[test]
+fn only_yes_is_yes() {
+    let said = |verdict: Verdict| (verdict.is_yes(), reported(verdict, [2, 1, 1]).is_yes());
+    assert_eq!(said(Verdict::Yes(3)), (true, true));
+    for other in [Verdict::No(3), Verdict::Waiting(1), Verdict::Waiting(64)] {
+        assert_eq!(said(other), (false, false));
+    }
+    for (chunks, yes) in [(&[0, 1], true), (&[1, 0], false)] {
+        assert_eq!(judged(&A, &[chunks]).map(|report| report.is_yes()), Ok(yes));
+    }
+    let text =
+        "load 03020100000004000000160006001C0002001E0000000000000101000102\nopen 1\ndeliver 0 0 ";
+    for (chunk, yes) in [("0001", true), ("0100", false)] {
+        let record = format!("{text}{chunk}");
+        assert_eq!(
+            replay(record.as_bytes()).map(|report| report.is_yes()),
+            Ok(yes)
+        );
+    }
+}
+
+/// Every call on the stack that is asked for: on too small a one the process ends by a signal.
+#[test]
+fn on_a_stack_of_1_mb() {
+    let record = b"load 03020100000004000000160006001C0002001E0000000000000101000102\nopen 1\ndeliver 0 0 FF";
+    let calls = move || {
+        let mut judge = Judge::new();
+        let rule = read(&A)?;
+        assert_eq!(judge.load(&A), judge.install(&rule));
+        judge.open(1)?;
+        assert_eq!(judge.deliver(0, 0, &[255, 0, 1]), Ok(Looked { bytes: 2 }));
+        assert!(judge.verdict()?.is_yes());
+        judge.withdraw(0)?;
+        assert_eq!(replay(record).map(|report| report.is_yes()), Ok(false));
+        let profile = mappings::Profile::build(&rule)?;
+        assert!(profile.accepts(profile.run(&[255, 0])?.then(profile.run(&[1])?)));
+        assert_eq!(
+            samples::sample(samples::Wish::Accepted, &rule)?,
+            Some(vec![0, 1])
+        );
+        assert_eq!(patterns::rule_file(b"(a|b)*ab")?.len(), 50);
+        assert_eq!(merge::merge(merge::Way::Either, &rule, &rule)?.n, 6);
+        let made = form::form(&judge)?;
+        assert_eq!(form::table(&made)?.sets, 5);
+        let mut tray = trays::Tray::new();
+        for answer in [tray.install_row(&rule), tray.install_column(&rule)] {
+            assert!(answer.is_ok());
+        }
+        assert!(tray.open(2, 1).is_ok() && tray.deliver(0, &[0, 1]).is_ok());
+        assert_eq!(tray.verdict(), Ok(trays::TrayVerdict::No));
+        assert!(tray.withdraw(0).is_ok());
+        Ok::<(), Refused>(())
+    };
+    let thread = std::thread::Builder::new().stack_size(1 << 20).spawn(calls);
+    assert_eq!(thread.expect("a thread").join().expect("no panic"), Ok(()));
 }
 
 /// 32 states that lead round and accept different texts each: 32 starts, each of which counts every byte.
@@ -239,5 +300,5 @@ fn what_a_judge_shows() {
     assert!(judge.load(&A).is_ok() && judge.open(2).is_ok() && judge.deliver(1, 0, &[]).is_ok());
     let shown = "Judge { states: 3, symbols: 2, sets: 5, starts: 3, places: 2, filled: 1, .. }";
     assert_eq!(format!("{judge:?}"), shown);
-    assert_eq!(version(), (4, 6));
+    assert_eq!(version(), (5, 0));
 }

@@ -1,7 +1,7 @@
 //! Two rules made one, through the wrapper: the results worked by hand, refusals in their order, and
 //! what the judge says with the result installed.
 use bellbadger::merge::{merge, Way};
-use bellbadger::{CheckedRule, Judge, Verdict};
+use bellbadger::{CheckedRule, Judge};
 
 const WAYS: [Way; 3] = [Way::Both, Way::Either, Way::Interleaving];
 
@@ -44,7 +44,7 @@ fn accepts(rule: &CheckedRule, text: &[u8]) -> bool {
     let _loaded = judge.install(rule).expect("the rule is installed");
     judge.open(1).expect("a board of one place");
     let _looked = judge.deliver(0, 0, text).expect("the chunk is taken");
-    matches!(judge.verdict(), Ok(report) if matches!(report.verdict, Verdict::Yes(_)))
+    judge.verdict().is_ok_and(|report| report.is_yes())
 }
 
 #[test]

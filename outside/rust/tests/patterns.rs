@@ -1,6 +1,6 @@
 //! A pattern becomes a rule file, and the rule judges texts as the pattern says.
 use bellbadger::patterns::{rule_file, LONGEST_FILE};
-use bellbadger::{read, Judge, Verdict};
+use bellbadger::{read, Judge};
 
 fn number(pattern: &[u8]) -> u8 {
     rule_file(pattern).unwrap_err().number()
@@ -12,7 +12,7 @@ fn accepts(pattern: &str, text: &[u8]) -> bool {
     let file = rule_file(pattern.as_bytes()).expect("a pattern");
     assert!(judge.load(&file).is_ok() && judge.open(1).is_ok());
     assert!(judge.deliver(0, 0, text).is_ok());
-    matches!(judge.verdict().expect("a board").verdict, Verdict::Yes(_))
+    judge.verdict().expect("a board").is_yes()
 }
 
 #[test]

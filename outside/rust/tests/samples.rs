@@ -1,7 +1,7 @@
 //! A sample trace of a rule, through the wrapper: texts worked by hand, the longest there can be,
 //! refusals in their order, and what the judge says of a sample.
 use bellbadger::samples::{sample, Wish};
-use bellbadger::{CheckedRule, Judge, Verdict};
+use bellbadger::{CheckedRule, Judge};
 
 /// A rule over 0 and 1, with the targets of each state by both.
 fn rule(initials: u32, finals: u32, rows: &[[u32; 2]]) -> CheckedRule {
@@ -125,7 +125,7 @@ fn what_the_judge_says_of_a_sample() {
             judge.open(1).expect("a board of one place");
             let _looked = judge.deliver(0, 0, &chunk).expect("the chunk is taken");
             let said = judge.verdict().expect("a verdict").verdict;
-            assert_eq!(matches!(said, Verdict::Yes(_)), due, "{rule:?} {chunk:?}");
+            assert_eq!(said.is_yes(), due, "{rule:?} {chunk:?}");
         }
     }
 }

@@ -2,7 +2,7 @@
 use bellbadger::texts::make_text;
 use bellbadger::{CheckedRule, Judge, Verdict};
 
-fn made(k: u8, seed: u64, length: usize) -> Vec<u8> {
+fn made(k: usize, seed: u64, length: usize) -> Vec<u8> {
     let mut text = vec![0xEE; length];
     assert!(make_text(k, seed, &mut text).is_ok());
     text
@@ -30,7 +30,8 @@ fn beginnings() {
 
 #[test]
 fn refusals() {
-    for k in 0..=u8::MAX {
+    // 257, 272, 2^32 + 1: 1 and 16 where k is cut to fewer bits
+    for k in (0..=272).chain([65537, (1 << 32) + 1, usize::MAX]) {
         for seed in [0, 1, u64::MAX] {
             let number = if !(1..=16).contains(&k) {
                 4
@@ -49,7 +50,7 @@ fn refusals() {
 /// A rule with k symbols that accepts every text takes the text as a chunk.
 #[test]
 fn a_rule_takes_them() {
-    for k in 1..=16 {
+    for k in 1..=16_u8 {
         let mut targets = [0; 512];
         targets[..usize::from(k)].fill(1);
         let (n, initials, finals) = (1, 1, 1);
@@ -62,7 +63,9 @@ fn a_rule_takes_them() {
         };
         let mut judge = Judge::new();
         assert!(judge.install(&rule).is_ok() && judge.open(1).is_ok());
-        assert!(judge.deliver(0, 0, &made(k, 41, 65536)).is_ok());
+        assert!(judge
+            .deliver(0, 0, &made(usize::from(k), 41, 65536))
+            .is_ok());
         let verdict = judge.verdict().expect("a board").verdict;
         assert_eq!(verdict, Verdict::Yes(65536));
     }

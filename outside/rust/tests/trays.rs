@@ -75,6 +75,19 @@ fn bands_in_any_order() {
     assert_eq!(tray.verdict(), Ok(TrayVerdict::No));
 }
 
+/// `Ok` is no yes, and neither is waiting nor no: this would catch a verdict that passes for one.
+#[test]
+fn only_yes_is_yes() {
+    let mut tray = with(&a(), &e(), 2, 1);
+    let yes = |tray: &Tray| tray.verdict().map(|verdict| verdict.is_yes());
+    assert_eq!(yes(&tray), Ok(false));
+    assert_eq!(tray.deliver(0, &[0, 1]), Ok(()));
+    assert_eq!(yes(&tray), Ok(false));
+    assert_eq!(tray.withdraw(0), Ok(()));
+    assert_eq!(tray.deliver(0, &[0, 1, 0, 1]), Ok(()));
+    assert_eq!(yes(&tray), Ok(true));
+}
+
 #[test]
 fn no_rows_at_all() {
     for (column, due) in [(e(), TrayVerdict::Yes), (a(), TrayVerdict::No)] {

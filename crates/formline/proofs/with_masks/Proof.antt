@@ -1,33 +1,68 @@
 -- `with_masks` meets its contract. Assumes nothing.
 use borrow.Author.Needs.{needs}
-use mathlib.Core.Path.{_≡_, refl, sym, ap, _∙_}
-use mathlib.Core.List.{List}
-use mathlib.Core.Option.{Option}
-use Prim.Native.Nat.{ℕ}
-use Rattle.forms.specs.declared.Form.{Form}
-use Rattle.formline.specs.Lines.{cellsBy}
-use Rattle.formline.proofs.Fields.{not-known, words-known, words-unknown}
+use mathlib.Core.Path.{_≡_, sym, _∙_}
+use native.Mathlib.Omega.{arith}
+use Rattle.formline.proofs.Fields.{no-cells, many-sets, many-symbols, all-held, words-known, words-unknown}
 use Rattle.formline.proofs.with_masks.Statement.{statement}
 use Rattle.formline.proofs.with_masks.Tie as tie
 
 read-cells-requires : tie.Need-read-cells-requires
 read-cells-requires c κs = search needs
 
+without-requires : tie.Need-without-requires
+without-requires c κs = search needs
+
 returns : tie.Need-returns
 returns c =
-    let a = c .before .before .before .before .args in
-    let r = c .before .before .read-cells in
-    ap (cellsBy (a .sets) (a .symbols) (a .failure) (a .kept)) (sym (words-known (r .result .known) (r .result .words) (c .before .if1 .taken)) ∙ r .ensures)
+    let a = c .before .before .before .before .before .args in
+    let r = c .before .before .before .read-cells in
+    let e = sym (r .ensures) ∙ words-known (r .result .known) (r .result .words) (c .before .before .if1 .taken) in
+    many-sets (a .sets) (a .symbols) (a .failure) (a .kept) _ (r .result .words) e (omega arith) (c .without .result) (c .without .ensures)
 
-malformed-requires : tie.Need-malformed-requires
-malformed-requires c κs = search needs
+without-requires-2 : tie.Need-without-requires-2
+without-requires-2 c κs = search needs
 
 returns-2 : tie.Need-returns-2
 returns-2 c =
+    let a = c .before .before .before .before .before .before .args in
+    let r = c .before .before .before .before .read-cells in
+    let e = sym (r .ensures) ∙ words-known (r .result .known) (r .result .words) (c .before .before .before .if1 .taken) in
+    many-symbols (a .sets) (a .symbols) (a .failure) (a .kept) _ (r .result .words) e (omega arith) (omega arith) (c .without2 .result) (c .without2 .ensures)
+
+cast-t14 : tie.Need-cast-t14
+cast-t14 c = search needs
+
+cast-t15 : tie.Need-cast-t15
+cast-t15 c = search needs
+
+returns-3 : tie.Need-returns-3
+returns-3 c =
+    let a = c .before .before .before .before .before .before .args in
+    let r = c .before .before .before .before .read-cells in
+    let e = sym (r .ensures) ∙ words-known (r .result .known) (r .result .words) (c .before .before .before .if1 .taken) in
+    all-held (a .sets) (a .symbols) (a .failure) (a .kept) _ (r .result .words) e (omega arith) (omega arith)
+
+without-requires-3 : tie.Need-without-requires-3
+without-requires-3 c κs = search needs
+
+returns-4 : tie.Need-returns-4
+returns-4 c =
     let a = c .before .before .before .before .args in
     let r = c .before .before .read-cells in
-    not-known (c .malformed .result) (c .malformed .ensures)
-    ∙ ap (cellsBy (a .sets) (a .symbols) (a .failure) (a .kept)) (sym (words-unknown (r .result .known) (r .result .words) (c .before .if1 .left)) ∙ r .ensures)
+    let e = sym (r .ensures) ∙ words-unknown (r .result .known) (r .result .words) (c .before .if1 .left) in
+    no-cells (a .sets) (a .symbols) (a .failure) (a .kept) _ e (c .without3 .result) (c .without3 .ensures)
 
 pub with-masks-spec : {M : Type 1} → statement M
-with-masks-spec = tie.close (tie.spec read-cells-requires returns malformed-requires returns-2)
+with-masks-spec =
+    tie.close
+    (tie.spec
+    read-cells-requires
+    without-requires
+    returns
+    without-requires-2
+    returns-2
+    cast-t14
+    cast-t15
+    returns-3
+    without-requires-3
+    returns-4)

@@ -1,6 +1,6 @@
 -- `numbers` meets its contract. Assumes nothing.
 use borrow.Author.Needs.{needs}
-use Rattle.maketextlines.proofs.Readings.{no-symbols, many-symbols, no-seed, no-length, great-length, all-three}
+use Rattle.maketextlines.proofs.Readings.{no-symbols, no-seed, no-length, great-length, all-three}
 use Rattle.maketextlines.proofs.numbers.Statement.{statement}
 use Rattle.maketextlines.proofs.numbers.Tie as tie
 
@@ -16,9 +16,6 @@ enum-told c = search needs
 returns : tie.Need-returns
 returns c = search (needs, no-symbols)
 
-returns-2 : tie.Need-returns-2
-returns-2 c = search (needs, many-symbols)
-
 read-number-requires-2 : tie.Need-read-number-requires-2
 read-number-requires-2 c κs = search needs
 
@@ -28,8 +25,8 @@ enum-known-number-2 c = search needs
 enum-told-2 : tie.Need-enum-told-2
 enum-told-2 c = search needs
 
-returns-3 : tie.Need-returns-3
-returns-3 c = search (needs, no-seed)
+returns-2 : tie.Need-returns-2
+returns-2 c = search (needs, no-seed)
 
 read-number-requires-3 : tie.Need-read-number-requires-3
 read-number-requires-3 c κs = search needs
@@ -40,17 +37,14 @@ enum-known-number-3 c = search needs
 enum-told-3 : tie.Need-enum-told-3
 enum-told-3 c = search needs
 
+returns-3 : tie.Need-returns-3
+returns-3 c = search (needs, no-length)
+
 returns-4 : tie.Need-returns-4
-returns-4 c = search (needs, no-length)
+returns-4 c = search (needs, great-length)
 
 returns-5 : tie.Need-returns-5
-returns-5 c = search (needs, great-length)
-
-cast-t11 : tie.Need-cast-t11
-cast-t11 c = search needs
-
-returns-6 : tie.Need-returns-6
-returns-6 c = search (needs, all-three)
+returns-5 c = search (needs, all-three)
 
 pub numbers-spec : {M : Type 1} → statement M
 numbers-spec =
@@ -60,15 +54,13 @@ numbers-spec =
     enum-known-number
     enum-told
     returns
-    returns-2
     read-number-requires-2
     enum-known-number-2
     enum-told-2
-    returns-3
+    returns-2
     read-number-requires-3
     enum-known-number-3
     enum-told-3
+    returns-3
     returns-4
-    returns-5
-    cast-t11
-    returns-6)
+    returns-5)

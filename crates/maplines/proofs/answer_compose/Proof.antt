@@ -7,8 +7,8 @@ use Rattle.maplines.proofs.answer_compose.Tie as tie
 find-requires : tie.Need-find-requires
 find-requires c κs = search needs
 
-put-malformed-requires : tie.Need-put-malformed-requires
-put-malformed-requires c κs = search needs
+say-malformed-requires : tie.Need-say-malformed-requires
+say-malformed-requires c κs = search needs
 
 same-length : tie.Need-same-length
 same-length c = search needs
@@ -28,8 +28,8 @@ part-read-mapping-end c = search needs
 read-mapping-requires : tie.Need-read-mapping-requires
 read-mapping-requires c κs = search needs
 
-put-malformed-requires-2 : tie.Need-put-malformed-requires-2
-put-malformed-requires-2 c κs = search needs
+say-malformed-requires-2 : tie.Need-say-malformed-requires-2
+say-malformed-requires-2 c κs = search needs
 
 same-length-2 : tie.Need-same-length-2
 same-length-2 c = search needs
@@ -52,8 +52,8 @@ part-read-mapping-end-2 c = search needs
 read-mapping-requires-2 : tie.Need-read-mapping-requires-2
 read-mapping-requires-2 c κs = search needs
 
-put-malformed-requires-3 : tie.Need-put-malformed-requires-3
-put-malformed-requires-3 c κs = search needs
+say-malformed-requires-3 : tie.Need-say-malformed-requires-3
+say-malformed-requires-3 c κs = search needs
 
 same-length-3 : tie.Need-same-length-3
 same-length-3 c = search needs
@@ -64,8 +64,8 @@ returns-3 c = search (needs, compose-second)
 compose-requires : tie.Need-compose-requires
 compose-requires c κs = search needs
 
-put-reply-requires : tie.Need-put-reply-requires
-put-reply-requires c κs = search needs
+say-reply-requires : tie.Need-say-reply-requires
+say-reply-requires c κs = search needs
 
 same-length-4 : tie.Need-same-length-4
 same-length-4 c = search needs
@@ -78,14 +78,14 @@ answer-compose-spec =
     tie.close
     (tie.spec
     find-requires
-    put-malformed-requires
+    say-malformed-requires
     same-length
     returns
     sub-read-mapping
     part-read-mapping-start
     part-read-mapping-end
     read-mapping-requires
-    put-malformed-requires-2
+    say-malformed-requires-2
     same-length-2
     returns-2
     add-from
@@ -93,10 +93,10 @@ answer-compose-spec =
     part-read-mapping-start-2
     part-read-mapping-end-2
     read-mapping-requires-2
-    put-malformed-requires-3
+    say-malformed-requires-3
     same-length-3
     returns-3
     compose-requires
-    put-reply-requires
+    say-reply-requires
     same-length-4
     returns-4)

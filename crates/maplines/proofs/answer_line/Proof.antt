@@ -70,8 +70,8 @@ same-length-4 c = search needs
 returns-3 : tie.Need-returns-3
 returns-3 c = search (needs, told, line-verdict)
 
-put-malformed-requires : tie.Need-put-malformed-requires
-put-malformed-requires c κs = search needs
+say-malformed-requires : tie.Need-say-malformed-requires
+say-malformed-requires c κs = search needs
 
 same-length-5 : tie.Need-same-length-5
 same-length-5 c = search needs
@@ -105,6 +105,6 @@ answer-line-spec =
     answer-verdict-requires
     same-length-4
     returns-3
-    put-malformed-requires
+    say-malformed-requires
     same-length-5
     returns-4)

@@ -7,8 +7,8 @@ use Rattle.maplines.proofs.answer_verdict.Tie as tie
 read-mapping-requires : tie.Need-read-mapping-requires
 read-mapping-requires c κs = search needs
 
-put-malformed-requires : tie.Need-put-malformed-requires
-put-malformed-requires c κs = search needs
+say-malformed-requires : tie.Need-say-malformed-requires
+say-malformed-requires c κs = search needs
 
 same-length : tie.Need-same-length
 same-length c = search needs
@@ -19,8 +19,8 @@ returns c = search (needs, ask-malformed)
 ask-requires : tie.Need-ask-requires
 ask-requires c κs = search needs
 
-put-reply-requires : tie.Need-put-reply-requires
-put-reply-requires c κs = search needs
+say-reply-requires : tie.Need-say-reply-requires
+say-reply-requires c κs = search needs
 
 same-length-2 : tie.Need-same-length-2
 same-length-2 c = search needs
@@ -33,10 +33,10 @@ answer-verdict-spec =
     tie.close
     (tie.spec
     read-mapping-requires
-    put-malformed-requires
+    say-malformed-requires
     same-length
     returns
     ask-requires
-    put-reply-requires
+    say-reply-requires
     same-length-2
     returns-2)

@@ -41,7 +41,11 @@ same-length-3 : tie.Need-same-length-3
 same-length-3 c = search needs
 
 returns-2 : tie.Need-returns-2
-returns-2 c = search (needs, told, build-text, build-state)
+returns-2 c =
+    let built = c .before .before .before .before .answer-build in
+    let word = told (c .before .before .before .before .before .before .before .before .before .begins-with .ensures) (c .before .before .before .before .before .before .before .before .if2 .taken) in
+    let some-byte = c .before .before .before .before .before .before .before .before .before .before .before .if1 .left in
+    (build-state _ _ some-byte word _ (built .ensures .0), (build-text _ _ _ _ _ some-byte word (built .ensures .1 .0), built .ensures .1 .1))
 
 answer-line-requires : tie.Need-answer-line-requires
 answer-line-requires c κs = search needs

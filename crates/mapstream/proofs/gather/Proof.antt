@@ -6,9 +6,11 @@
 -- is run (`turn-answered`). The loop ends where the block is used up or the room is short.
 use Rattle.linetexts.proofs.Turns.{turn-forward, turn-on, turn-answered}
 use Rattle.linetexts.proofs.Gathering.{SoFar, begun, ended, at-over, gather-short, placed-within}
+use Rattle.linetexts.proofs.Ends.{came}
 use Rattle.linetexts.specs.Feeding.{stateOf}
+use Rattle.linetexts.specs.Lists.{listOf}
 use Rattle.mapstream.specs.Texts.{mapLines}
-use Rattle.mapstream.proofs.Turns.{not-changed, came-ran, came-asked}
+use Rattle.mapstream.proofs.Held.{not-changed}
 use lib.ListN.{length}
 use Prim.Native.Nat.{_+_, _-_, _≤_, _<_}
 use native.Mathlib.Omega.{arith}
@@ -18,12 +20,12 @@ use Rattle.mapstream.proofs.gather.Statement.{statement}
 use Rattle.mapstream.proofs.gather.Tie as tie
 
 abbrev Inv-loop : tie.InvT-loop
-Inv-loop line₀ bytes₀ out₀ block from state₀ held₀ at₀ written₀ line bytes out state held at written =
+Inv-loop line₀ bytes₀ out₀ block from state₀ held₀ ended₀ at₀ written₀ line bytes out state held ended at written =
     (length line ≡ length line₀) × (length bytes ≡ length bytes₀)
-    × SoFar mapLines block from (stateOf state₀ held₀ line₀) out₀ at (stateOf state held line) out written
+    × SoFar mapLines block from (stateOf (listOf state₀ ended₀) held₀ line₀) out₀ at (stateOf (listOf state ended) held line) out written
 
 abbrev μ-loop : tie.MeasureT-loop
-μ-loop line₀ bytes₀ out₀ block from state₀ held₀ at₀ written₀ line bytes out state held at written = length block - at
+μ-loop line₀ bytes₀ out₀ block from state₀ held₀ ended₀ at₀ written₀ line bytes out state held ended at written = length block - at
 
 -- ---- where a part was taken
 module _ (p : tie.After-take-part Inv-loop μ-loop) where
@@ -72,26 +74,25 @@ answer-held-requires c κs =
 
 add-written : tie.Need-add-written Inv-loop μ-loop
 add-written c =
-    let loop = c .before .before .before .before .before .before .before .before .before .before .before .before .before .before .before .before .before .before .before .before .loop in
-    let said = c .before .before .before .before .answer-held in
-    omega (arith, loop .inv .2 .size, c .before .before .before .before .before .before .before .before .before .before .before .before .before .before .before .before .before .before .before .before .before .before .before .before .before .good .1 .1 .1 .1 .0 .0, placed-within (loop .out) (said .last .1 .1 .1 .1 .0) _ (loop .written) (said .result) (loop .inv .2 .within) (said .kept .1 .1 .1 .1 .0) (said .ensures .0))
+    let loop = c .before .before .before .before .before .before .before .before .before .before .before .before .before .before .before .before .before .before .before .before .before .loop in
+    let said = c .before .before .before .before .before .answer-held in
+    omega (arith, loop .inv .2 .size, c .before .before .before .before .before .before .before .before .before .before .before .before .before .before .before .before .before .before .before .before .before .before .before .before .before .before .before .good .1 .1 .1 .1 .0 .0, placed-within (loop .out) (said .last .1 .1 .1 .1 .1 .0) _ (loop .written) (said .result .written) (loop .inv .2 .within) (said .kept .1 .1 .1 .1 .1 .0) (said .ensures .1 .0))
 
 nothing-requires : tie.Need-nothing-requires Inv-loop μ-loop
 nothing-requires c κs = search needs
 
 loop-less-2 : tie.Need-loop-less-2 Inv-loop μ-loop
-loop-less-2 c = omega (arith, forward (c .before .before .before .before .before .before .before .before .before .before .before .before .before .before .before .before .before), c .before .before .before .before .before .before .before .before .before .before .before .before .before .before .before .before .before .before .before .before .loop-test .taken)
+loop-less-2 c = omega (arith, forward (c .before .before .before .before .before .before .before .before .before .before .before .before .before .before .before .before .before .before), c .before .before .before .before .before .before .before .before .before .before .before .before .before .before .before .before .before .before .before .before .before .loop-test .taken)
 
 loop-again-2 : tie.Need-loop-again-2 Inv-loop μ-loop
 loop-again-2 c =
-    let p = c .before .before .before .before .before .before .before .before .before .before .before .before .before .before .before .before .before in
+    let p = c .before .before .before .before .before .before .before .before .before .before .before .before .before .before .before .before .before .before in
     let here = p .before .before .before .loop-test .taken in
     let loop = p .before .before .before .before .loop in
     let enough = p .before .before .if1 .left in
     let took = p .take-part in
-    let said = c .before .before .before .before .before .answer-held in
-    let quiet = not-changed (c .before .before .before .before .before .before .before .before .before .before .changes-held .ensures) (c .before .before .before .before .before .before .before .before .before .if3 .taken) in
-    (took .kept .1 .0 ∙ loop .inv .0, said .kept .1 .1 .1 .0 ∙ loop .inv .1, turn-answered mapLines _ _ _ _ _ _ _ _ _ _ here (took .result) _ (took .ensures) (loop .inv .2) enough (c .before .before .before .before .before .before .before .before .before .before .before .before .if2 .left) _ _ (said .kept .1 .1 .1 .1 .0) _ (c .nothing .ensures) _ _ (came-asked _ _ _ quiet) (said .ensures .0))
+    let said = c .before .before .before .before .before .before .answer-held in
+    (took .kept .1 .0 ∙ loop .inv .0, said .kept .1 .1 .1 .1 .0 ∙ loop .inv .1, turn-answered mapLines _ _ _ _ _ (listOf (loop .state) (loop .ended)) _ _ _ _ here (took .result) _ (took .ensures) (loop .inv .2) enough (c .before .before .before .before .before .before .before .before .before .before .before .before .before .if2 .left) _ _ (said .kept .1 .1 .1 .1 .1 .0) _ (c .nothing .ensures) (listOf (loop .state) (said .result .ended)) _ (came mapLines (listOf (loop .state) (loop .ended)) _ _ _ (said .ensures .0)) (said .ensures .1 .0))
 
 sub-run-held : tie.Need-sub-run-held Inv-loop μ-loop
 sub-run-held c = search needs
@@ -109,7 +110,7 @@ add-written-2 : tie.Need-add-written-2 Inv-loop μ-loop
 add-written-2 c =
     let loop = c .before .before .before .before .before .before .before .before .before .before .before .before .before .before .before .before .before .before .before .before .before .before .loop in
     let said = c .before .before .before .before .before .before .run-held in
-    omega (arith, loop .inv .2 .size, c .before .before .before .before .before .before .before .before .before .before .before .before .before .before .before .before .before .before .before .before .before .before .before .before .before .before .before .good .1 .1 .1 .1 .0 .0, placed-within (loop .out) (said .last .1 .1 .1 .1 .0) _ (loop .written) (said .result .written) (loop .inv .2 .within) (said .kept .1 .1 .1 .1 .0) (said .ensures .1 .0))
+    omega (arith, loop .inv .2 .size, c .before .before .before .before .before .before .before .before .before .before .before .before .before .before .before .before .before .before .before .before .before .before .before .before .before .before .before .before .good .1 .1 .1 .1 .0 .0, placed-within (loop .out) (said .last .1 .1 .1 .1 .1 .0) _ (loop .written) (said .result .said .written) (loop .inv .2 .within) (said .kept .1 .1 .1 .1 .1 .0) (said .ensures .1 .0))
 
 nothing-requires-2 : tie.Need-nothing-requires-2 Inv-loop μ-loop
 nothing-requires-2 c κs = search needs
@@ -125,7 +126,7 @@ loop-again-3 c =
     let enough = p .before .before .if1 .left in
     let took = p .take-part in
     let said = c .before .before .before .before .before .before .before .run-held in
-    (took .kept .1 .0 ∙ loop .inv .0, said .kept .1 .1 .1 .0 ∙ loop .inv .1, turn-answered mapLines _ _ _ _ _ _ _ _ _ _ here (took .result) _ (took .ensures) (loop .inv .2) enough (c .before .before .before .before .before .before .before .before .before .before .before .before .before .before .if2 .left) _ _ (said .kept .1 .1 .1 .1 .0) _ (c .nothing2 .ensures) _ _ (came-ran _ _ _ _ (said .ensures .0)) (said .ensures .1 .0))
+    (took .kept .1 .0 ∙ loop .inv .0, said .kept .1 .1 .1 .1 .0 ∙ loop .inv .1, turn-answered mapLines _ _ _ _ _ (listOf (loop .state) (loop .ended)) _ _ _ _ here (took .result) _ (took .ensures) (loop .inv .2) enough (c .before .before .before .before .before .before .before .before .before .before .before .before .before .before .if2 .left) _ _ (said .kept .1 .1 .1 .1 .1 .0) _ (c .nothing2 .ensures) (listOf (said .result .state) (said .result .said .ended)) _ (came mapLines (listOf (loop .state) (loop .ended)) _ _ _ (said .ensures .0)) (said .ensures .1 .0))
 
 same-length : tie.Need-same-length Inv-loop μ-loop
 same-length c = search needs

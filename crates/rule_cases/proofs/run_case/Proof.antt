@@ -35,7 +35,7 @@ part-read-bytes-end : tie.Need-part-read-bytes-end
 part-read-bytes-end c = search needs
 
 slice-aggregate-read-bytes : tie.Need-slice-aggregate-read-bytes
-slice-aggregate-read-bytes c = sym (made 33000)
+slice-aggregate-read-bytes c = sym (made 32907)
 
 read-bytes-requires : tie.Need-read-bytes-requires
 read-bytes-requires c κs = search needs

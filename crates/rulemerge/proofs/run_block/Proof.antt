@@ -51,7 +51,7 @@ loop-less c =
     let x = c .before .before .before .before .before .before .before .before .before .before .before .before .before .before .loop in
     let f = c .before .before .before .before .before .before .before .before .before .feed in
     let s = c .before .before .before .before .before .before .before .before .before .before .before .before .before .before .before .before .before .before .before in
-    let on = f .ensures .forward (omega (arith, x .inv .size-out, s .pre)) (c .before .before .before .before .before .before .before .before .before .before .before .before .before .loop-test .taken) in
+    let on = f .ensures .forward (omega (arith, x .inv .size-out, s .pre .2)) (c .before .before .before .before .before .before .before .before .before .before .before .before .before .loop-test .taken) in
     omega (arith, c .before .before .before .before .before .before .before .before .before .before .before .before .before .loop-test .taken)
 
 loop-again : tie.Need-loop-again Inv-loop μ-loop

@@ -6,13 +6,10 @@ use Rattle.stdio.proofs.read_block.Statement.{statement}
 use Rattle.stdio.proofs.read_block.Tie as tie
 
 abbrev Inv-loop : tie.InvT-loop
-Inv-loop program block₀ patience₀ t6 block patience = (length block ≡ length block₀) × (13 ≡ length t6)
+Inv-loop program block₀ tries₀ t6 block tries = (length block ≡ length block₀) × (13 ≡ length t6)
 
 abbrev μ-loop : tie.MeasureT-loop
-μ-loop program block₀ patience₀ t6 block patience = patience .tries
-
-begin-requires : tie.Need-begin-requires Inv-loop μ-loop
-begin-requires c κs = search needs
+μ-loop program block₀ tries₀ t6 block tries = tries
 
 loop-holds : tie.Need-loop-holds Inv-loop μ-loop
 loop-holds c = search needs
@@ -62,7 +59,6 @@ read-block-spec =
     (tie.spec
     Inv-loop
     μ-loop
-    begin-requires
     loop-holds
     read-requires
     count-requires

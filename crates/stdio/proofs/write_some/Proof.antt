@@ -6,13 +6,10 @@ use Rattle.stdio.proofs.write_some.Statement.{statement}
 use Rattle.stdio.proofs.write_some.Tie as tie
 
 abbrev Inv-loop : tie.InvT-loop
-Inv-loop program bytes patience₀ t6 patience = 14 ≡ length t6
+Inv-loop program bytes tries₀ t6 tries = 14 ≡ length t6
 
 abbrev μ-loop : tie.MeasureT-loop
-μ-loop program bytes patience₀ t6 patience = patience .tries
-
-begin-requires : tie.Need-begin-requires Inv-loop μ-loop
-begin-requires c κs = search needs
+μ-loop program bytes tries₀ t6 tries = tries
 
 loop-holds : tie.Need-loop-holds Inv-loop μ-loop
 loop-holds c = search needs
@@ -50,7 +47,6 @@ write-some-spec =
     (tie.spec
     Inv-loop
     μ-loop
-    begin-requires
     loop-holds
     write-requires
     count-requires

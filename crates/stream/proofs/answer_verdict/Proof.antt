@@ -1,5 +1,5 @@
 -- `answer_verdict` meets its contract. Assumes nothing.
-use Rattle.stream.proofs.Calls.{asked-text}
+use Rattle.stream.proofs.Held.{asked-text}
 use borrow.Author.Needs.{needs}
 use Rattle.stream.proofs.answer_verdict.Statement.{statement}
 use Rattle.stream.proofs.answer_verdict.Tie as tie

@@ -1,11 +1,12 @@
 -- `finish` meets its contract. Assumes nothing.
-use Rattle.stream.proofs.Calls.{finished-none, none-written, finished-last, last-written}
+use Rattle.linetexts.proofs.Ends.{none-written, last-written}
+use Rattle.stream.specs.Texts.{callLines}
 use borrow.Author.Needs.{needs}
 use Rattle.stream.proofs.finish.Statement.{statement}
 use Rattle.stream.proofs.finish.Tie as tie
 
 returns : tie.Need-returns
-returns c = search (needs, finished-none, none-written)
+returns c = search (needs, none-written callLines)
 
 answer-requires : tie.Need-answer-requires
 answer-requires c κs = search needs
@@ -17,7 +18,7 @@ same-length-2 : tie.Need-same-length-2
 same-length-2 c = search needs
 
 returns-2 : tie.Need-returns-2
-returns-2 c = search (needs, finished-last, last-written)
+returns-2 c = search (needs, last-written callLines)
 
 pub finish-spec : {M : Type 1} → statement M
 finish-spec = tie.close (tie.spec returns answer-requires same-length same-length-2 returns-2)

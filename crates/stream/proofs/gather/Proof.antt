@@ -2,11 +2,15 @@
 --
 -- The route: the loop's invariant, `SoFar`, says that what was gathered with what is gathered from
 -- here on is what the whole block gives. A turn feeds one part: a line that goes on is kept
--- (`turn-on`), one that asks for the verdict is answered from the judge at hand (`turn-verdict`), any
--- other is run (`turn-answered`). The loop ends where the block is used up or the room is short.
-use Rattle.stream.proofs.Turns.{turn-forward, turn-on, turn-verdict, turn-answered}
-use Rattle.stream.proofs.Gathering.{SoFar, begun, ended, at-over, gather-short, placed-within}
-use Rattle.stream.specs.Feeding.{stateOf}
+-- (`turn-on`), one that asks for the verdict is answered from the judge at hand, any other is run
+-- (`turn-answered`). The loop ends where the block is used up or the room is short.
+use Rattle.linetexts.proofs.Turns.{turn-forward, turn-on, turn-answered}
+use Rattle.linetexts.proofs.Gathering.{SoFar, begun, ended, at-over, gather-short, placed-within}
+use Rattle.linetexts.proofs.Ends.{came}
+use Rattle.linetexts.specs.Feeding.{stateOf}
+use Rattle.linetexts.specs.Lists.{listOf}
+use Rattle.stream.specs.Texts.{callLines}
+use Rattle.stream.proofs.Held.{came-asked}
 use lib.ListN.{length}
 use Prim.Native.Nat.{_+_, _-_, _≤_, _<_}
 use native.Mathlib.Omega.{arith}
@@ -16,12 +20,12 @@ use Rattle.stream.proofs.gather.Statement.{statement}
 use Rattle.stream.proofs.gather.Tie as tie
 
 abbrev Inv-loop : tie.InvT-loop
-Inv-loop line₀ bytes₀ out₀ block from judge₀ held₀ at₀ written₀ line bytes out judge held at written =
+Inv-loop line₀ bytes₀ out₀ block from judge₀ held₀ ended₀ at₀ written₀ line bytes out judge held ended at written =
     (length line ≡ length line₀) × (length bytes ≡ length bytes₀)
-    × SoFar block from (stateOf judge₀ held₀ line₀) out₀ at (stateOf judge held line) out written
+    × SoFar callLines block from (stateOf (listOf judge₀ ended₀) held₀ line₀) out₀ at (stateOf (listOf judge ended) held line) out written
 
 abbrev μ-loop : tie.MeasureT-loop
-μ-loop line₀ bytes₀ out₀ block from judge₀ held₀ at₀ written₀ line bytes out judge held at written = length block - at
+μ-loop line₀ bytes₀ out₀ block from judge₀ held₀ ended₀ at₀ written₀ line bytes out judge held ended at written = length block - at
 
 -- ---- where a part was taken
 module _ (p : tie.After-take-part Inv-loop μ-loop) where
@@ -32,7 +36,7 @@ module _ (p : tie.After-take-part Inv-loop μ-loop) where
   forward = turn-forward _ _ (p .before .before .before .loop-test .taken) _ _ _ _ (p .take-part .ensures)
 
 loop-holds : tie.Need-loop-holds Inv-loop μ-loop
-loop-holds c = (refl, refl, begun _ _ _ _)
+loop-holds c = (refl, refl, begun _ _ _ _ _)
 
 sub-if1 : tie.Need-sub-if1 Inv-loop μ-loop
 sub-if1 c = search needs
@@ -50,7 +54,7 @@ loop-again c =
     let loop = p .before .before .before .before .loop in
     let enough = p .before .before .if1 .left in
     let took = p .take-part in
-    (took .kept .1 .0 ∙ loop .inv .0, loop .inv .1, turn-on _ _ _ _ _ _ _ _ _ _ here (took .result) _ (took .ensures) (loop .inv .2) enough (c .if2 .taken))
+    (took .kept .1 .0 ∙ loop .inv .0, loop .inv .1, turn-on callLines _ _ _ _ _ _ _ _ _ _ here (took .result) _ (took .ensures) (loop .inv .2) enough (c .if2 .taken))
 
 asks-verdict-requires : tie.Need-asks-verdict-requires Inv-loop μ-loop
 asks-verdict-requires c κs = search needs
@@ -71,7 +75,7 @@ add-written : tie.Need-add-written Inv-loop μ-loop
 add-written c =
     let loop = c .before .before .before .before .before .before .before .before .before .before .before .before .before .before .before .before .loop in
     let said = c .before .before .answer-verdict in
-    omega (arith, loop .inv .2 .size, c .before .before .before .before .before .before .before .before .before .before .before .before .before .before .before .before .before .before .before .before .before .good .1 .1 .1 .1 .0 .0, placed-within (loop .out) (said .last .1 .0) _ (loop .written) (said .result) (loop .inv .2 .within) (said .kept .1 .0) (said .ensures))
+    omega (arith, loop .inv .2 .size, c .before .before .before .before .before .before .before .before .before .before .before .before .before .before .before .before .before .before .before .before .before .before .good .1 .1 .1 .1 .0 .0, placed-within (loop .out) (said .last .1 .0) _ (loop .written) (said .result) (loop .inv .2 .within) (said .kept .1 .0) (said .ensures))
 
 nothing-requires : tie.Need-nothing-requires Inv-loop μ-loop
 nothing-requires c κs = search needs
@@ -88,7 +92,7 @@ loop-again-2 c =
     let took = p .take-part in
     let verdictAsked = c .before .before .before .before .before .before .asks-verdict in
     let said = c .before .before .before .answer-verdict in
-    (took .kept .1 .0 ∙ loop .inv .0, loop .inv .1, turn-verdict _ _ _ _ _ _ _ _ _ _ here (took .result) _ (took .ensures) (loop .inv .2) enough (c .before .before .before .before .before .before .before .before .if2 .left) _ _ (said .kept .1 .0) _ (c .nothing .ensures) (sym (verdictAsked .ensures) ∙ c .before .before .before .before .before .if3 .taken) (said .ensures))
+    (took .kept .1 .0 ∙ loop .inv .0, loop .inv .1, turn-answered callLines _ _ _ _ _ _ _ _ _ _ here (took .result) _ (took .ensures) (loop .inv .2) enough (c .before .before .before .before .before .before .before .before .if2 .left) _ _ (said .kept .1 .0) _ (c .nothing .ensures) _ _ (came-asked _ _ _ _ (sym (verdictAsked .ensures) ∙ c .before .before .before .before .before .if3 .taken)) (said .ensures))
 
 sub-answer : tie.Need-sub-answer Inv-loop μ-loop
 sub-answer c = search needs
@@ -106,7 +110,7 @@ add-written-2 : tie.Need-add-written-2 Inv-loop μ-loop
 add-written-2 c =
     let loop = c .before .before .before .before .before .before .before .before .before .before .before .before .before .before .before .before .before .before .before .before .before .before .loop in
     let said = c .before .before .before .before .before .before .answer in
-    omega (arith, loop .inv .2 .size, c .before .before .before .before .before .before .before .before .before .before .before .before .before .before .before .before .before .before .before .before .before .before .before .before .before .before .before .good .1 .1 .1 .1 .0 .0, placed-within (loop .out) (said .last .1 .1 .1 .1 .0) _ (loop .written) (said .result .written) (loop .inv .2 .within) (said .kept .1 .1 .1 .1 .0) (said .ensures .1 .0))
+    omega (arith, loop .inv .2 .size, c .before .before .before .before .before .before .before .before .before .before .before .before .before .before .before .before .before .before .before .before .before .before .before .before .before .before .before .before .good .1 .1 .1 .1 .0 .0, placed-within (loop .out) (said .last .1 .1 .1 .1 .1 .0) _ (loop .written) (said .result .written) (loop .inv .2 .within) (said .kept .1 .1 .1 .1 .1 .0) (said .ensures .1 .0))
 
 nothing-requires-2 : tie.Need-nothing-requires-2 Inv-loop μ-loop
 nothing-requires-2 c κs = search needs
@@ -122,7 +126,7 @@ loop-again-3 c =
     let enough = p .before .before .if1 .left in
     let took = p .take-part in
     let said = c .before .before .before .before .before .before .before .answer in
-    (took .kept .1 .0 ∙ loop .inv .0, said .kept .1 .1 .1 .0 ∙ loop .inv .1, turn-answered _ _ _ _ _ _ _ _ _ _ here (took .result) _ (took .ensures) (loop .inv .2) enough (c .before .before .before .before .before .before .before .before .before .before .before .before .before .before .if2 .left) _ _ (said .kept .1 .1 .1 .1 .0) _ (c .nothing2 .ensures) _ (said .ensures .0) (said .ensures .1 .0))
+    (took .kept .1 .0 ∙ loop .inv .0, said .kept .1 .1 .1 .1 .0 ∙ loop .inv .1, turn-answered callLines _ _ _ _ _ (listOf (loop .judge) (loop .ended)) _ _ _ _ here (took .result) _ (took .ensures) (loop .inv .2) enough (c .before .before .before .before .before .before .before .before .before .before .before .before .before .before .if2 .left) _ _ (said .kept .1 .1 .1 .1 .1 .0) _ (c .nothing2 .ensures) (listOf (said .result .judge) (said .result .ended)) _ (came callLines (listOf (loop .judge) (loop .ended)) _ _ _ (said .ensures .0)) (said .ensures .1 .0))
 
 same-length : tie.Need-same-length Inv-loop μ-loop
 same-length c = search needs
@@ -136,7 +140,7 @@ same-length-3 c = search needs
 returns : tie.Need-returns Inv-loop μ-loop
 returns c =
     let loop = c .before .loop in
-    (ended _ _ _ _ _ _ _ _ (loop .inv .2) (at-over _ _ _ _ (c .loop-test .left)) _ _ _ refl, loop .inv .1)
+    (ended callLines _ _ _ _ _ _ _ _ (loop .inv .2) (at-over callLines _ _ _ _ (c .loop-test .left)), loop .inv .1)
 
 same-length-4 : tie.Need-same-length-4 Inv-loop μ-loop
 same-length-4 c = search needs
@@ -150,7 +154,7 @@ same-length-6 c = search needs
 returns-2 : tie.Need-returns-2 Inv-loop μ-loop
 returns-2 c =
     let loop = c .before .before .loop in
-    (ended _ _ _ _ _ _ _ _ (loop .inv .2) (gather-short _ _ _ (c .if1 .taken)) _ _ _ refl, loop .inv .1)
+    (ended callLines _ _ _ _ _ _ _ _ (loop .inv .2) (gather-short callLines _ _ _ (c .if1 .taken)), loop .inv .1)
 
 pub gather-spec : {M : Type 1} → statement M
 gather-spec =

@@ -1,9 +1,10 @@
 -- `run_block` meets its contract. Assumes nothing.
-use Rattle.stream.proofs.Rounds.{round-forward, round-on, rounds-over}
+use Rattle.linetexts.proofs.Rounds.{round-forward, round-on, rounds-over}
 use Rattle.linetexts.proofs.Ends.{wrote-within, room-prefix}
-use Rattle.stream.specs.Texts.{feedParts}
 use Rattle.linetexts.specs.Parts.{partsOf}
-use Rattle.stream.specs.Feeding.{stateOf}
+use Rattle.linetexts.specs.Feeding.{feedParts}
+use Rattle.linetexts.specs.Lists.{textState}
+use Rattle.stream.specs.Texts.{callLines}
 use Rattle.base.proofs.Tests.{not-both}
 use lib.ListN.{length, drop}
 use native.Mathlib.Omega.{arith}
@@ -15,18 +16,18 @@ use Rattle.tracejudge.proofs.run_block.Statement.{statement}
 use Rattle.tracejudge.proofs.run_block.Tie as tie
 
 abbrev Inv-loop : tie.InvT-loop
-Inv-loop line₀ bytes₀ out₀ block judge₀ held₀ at₀ line bytes out judge held at =
+Inv-loop line₀ bytes₀ out₀ block judge₀ pending₀ at₀ line bytes out judge pending at =
     (length line ≡ length line₀) × (length bytes ≡ length bytes₀) × (length out ≡ length out₀)
-    × (feedParts (stateOf judge₀ held₀ line₀) (partsOf block) ≡ feedParts (stateOf judge held line) (partsOf (drop at block)))
+    × (feedParts callLines (textState judge₀ pending₀ line₀) (partsOf block) ≡ feedParts callLines (textState judge pending line) (partsOf (drop at block)))
 
 abbrev μ-loop : tie.MeasureT-loop
-μ-loop line₀ bytes₀ out₀ block judge₀ held₀ at₀ line bytes out judge held at = length block - at
+μ-loop line₀ bytes₀ out₀ block judge₀ pending₀ at₀ line bytes out judge pending at = length block - at
 
 -- ---- where a round was gathered
 module _ (p : tie.After-gather Inv-loop μ-loop) where
   forward : p .before .before .before .before .before .loop .at < p .gather .result .at
   forward =
-      round-forward _ _ _ (p .before .before .before .before .loop-test .taken) _ _ _ _ _ (p .gather .ensures .0)
+      round-forward callLines _ _ _ (p .before .before .before .before .loop-test .taken) _ _ _ _ _ _ (p .gather .ensures .0)
       (omega (arith, p .before .before .before .before .before .loop .inv .2, p .before .before .before .before .before .before .before .before .before .before .pre .2))
 
 loop-holds : tie.Need-loop-holds Inv-loop μ-loop
@@ -66,7 +67,7 @@ loop-again c =
       round .kept .1 .1 .0 ∙ loop .inv .0,
       round .kept .1 .1 .1 .0 ∙ loop .inv .1,
       round .kept .1 .1 .1 .1 .0 ∙ loop .inv .2,
-      loop .inv .3 ∙ round-on _ _ _ (c .before .before .before .before .before .before .before .before .before .before .before .before .before .before .before .loop-test .taken) _ _ _ _ _ (round .ensures .0),
+      loop .inv .3 ∙ round-on callLines _ _ _ (c .before .before .before .before .before .before .before .before .before .before .before .before .before .before .before .loop-test .taken) _ _ _ _ _ _ (round .ensures .0),
     )
 
 same-length-4 : tie.Need-same-length-4 Inv-loop μ-loop
@@ -79,7 +80,7 @@ same-length-6 : tie.Need-same-length-6 Inv-loop μ-loop
 same-length-6 c = search needs
 
 returns-2 : tie.Need-returns-2 Inv-loop μ-loop
-returns-2 c = ((λ e. rounds-over _ _ _ (c .loop-test .left) ∙ sym (c .before .loop .inv .3)), c .before .loop .inv .1)
+returns-2 c = ((λ e. rounds-over callLines _ _ _ (c .loop-test .left) ∙ sym (c .before .loop .inv .3)), c .before .loop .inv .1)
 
 pub run-block-spec : {M : Type 1} → statement M
 run-block-spec =

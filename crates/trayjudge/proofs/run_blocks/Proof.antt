@@ -1,5 +1,6 @@
 -- `run_blocks` meets its contract. Assumes nothing.
 use Rattle.stdio.proofs.Filling.{block-within, block-prefix}
+use native.Mathlib.Omega.{arith}
 use lib.ListN.{length}
 use mathlib.Core.Path.{_≡_, refl, _∙_}
 use borrow.Author.Needs.{needs}
@@ -7,17 +8,17 @@ use Rattle.trayjudge.proofs.run_blocks.Statement.{statement}
 use Rattle.trayjudge.proofs.run_blocks.Tie as tie
 
 abbrev Inv-loop : tie.InvT-loop
-Inv-loop line₀ bytes₀ out₀ block₀ tray₀ held₀ turns₀ line bytes out block tray held turns =
+Inv-loop line₀ bytes₀ out₀ block₀ tray₀ pending₀ turns₀ line bytes out block tray pending turns =
     (length line ≡ length line₀) × (length bytes ≡ length bytes₀) × (length out ≡ length out₀) × (length block ≡ length block₀)
 
 abbrev μ-loop : tie.MeasureT-loop
-μ-loop line₀ bytes₀ out₀ block₀ tray₀ held₀ turns₀ line bytes out block tray held turns = turns
+μ-loop line₀ bytes₀ out₀ block₀ tray₀ pending₀ turns₀ line bytes out block tray pending turns = turns
 
 new-tray-requires : tie.Need-new-tray-requires Inv-loop μ-loop
 new-tray-requires c κs = search needs
 
-nothing-requires : tie.Need-nothing-requires Inv-loop μ-loop
-nothing-requires c κs = search needs
+nothing-yet-requires : tie.Need-nothing-yet-requires Inv-loop μ-loop
+nothing-yet-requires c κs = search needs
 
 most-turns-requires : tie.Need-most-turns-requires Inv-loop μ-loop
 most-turns-requires c κs = search needs
@@ -92,10 +93,10 @@ returns-3 : tie.Need-returns-3 Inv-loop μ-loop
 returns-3 c = search needs
 
 sub-turns : tie.Need-sub-turns Inv-loop μ-loop
-sub-turns c = search needs
+sub-turns c = omega (arith, c .before .before .before .before .before .before .before .before .before .before .before .before .before .before .before .before .before .before .before .before .before .loop-test .taken)
 
 loop-less : tie.Need-loop-less Inv-loop μ-loop
-loop-less c = search needs
+loop-less c = omega (arith, c .before .before .before .before .before .before .before .before .before .before .before .before .before .before .before .before .before .before .before .before .before .loop-test .taken)
 
 loop-again : tie.Need-loop-again Inv-loop μ-loop
 loop-again c =
@@ -125,7 +126,7 @@ run-blocks-spec =
     Inv-loop
     μ-loop
     new-tray-requires
-    nothing-requires
+    nothing-yet-requires
     most-turns-requires
     loop-holds
     read-block-requires

@@ -6,9 +6,10 @@
 -- or the room is short.
 use Rattle.linetexts.proofs.Turns.{turn-forward, turn-on, turn-answered}
 use Rattle.linetexts.proofs.Gathering.{SoFar, begun, ended, at-over, gather-short, placed-within}
+use Rattle.linetexts.proofs.Ends.{came}
 use Rattle.linetexts.specs.Feeding.{stateOf}
+use Rattle.linetexts.specs.Lists.{listOf}
 use Rattle.traystream.specs.Texts.{trayLines}
-use Rattle.traystream.proofs.Held.{came}
 use lib.ListN.{length}
 use Prim.Native.Nat.{_-_, _<_}
 use native.Mathlib.Omega.{arith}
@@ -18,12 +19,12 @@ use Rattle.traystream.proofs.gather.Statement.{statement}
 use Rattle.traystream.proofs.gather.Tie as tie
 
 abbrev Inv-loop : tie.InvT-loop
-Inv-loop line₀ bytes₀ out₀ block from tray₀ held₀ at₀ written₀ line bytes out tray held at written =
+Inv-loop line₀ bytes₀ out₀ block from tray₀ held₀ ended₀ at₀ written₀ line bytes out tray held ended at written =
     (length line ≡ length line₀) × (length bytes ≡ length bytes₀)
-    × SoFar trayLines block from (stateOf tray₀ held₀ line₀) out₀ at (stateOf tray held line) out written
+    × SoFar trayLines block from (stateOf (listOf tray₀ ended₀) held₀ line₀) out₀ at (stateOf (listOf tray ended) held line) out written
 
 abbrev μ-loop : tie.MeasureT-loop
-μ-loop line₀ bytes₀ out₀ block from tray₀ held₀ at₀ written₀ line bytes out tray held at written = length block - at
+μ-loop line₀ bytes₀ out₀ block from tray₀ held₀ ended₀ at₀ written₀ line bytes out tray held ended at written = length block - at
 
 -- ---- where a part was taken
 module _ (p : tie.After-take-part Inv-loop μ-loop) where
@@ -70,7 +71,7 @@ add-written : tie.Need-add-written Inv-loop μ-loop
 add-written c =
     let loop = c .before .before .before .before .before .before .before .before .before .before .before .before .before .before .before .before .before .before .before .loop in
     let said = c .before .before .before .before .before .before .answer-held in
-    omega (arith, loop .inv .2 .size, c .before .before .before .before .before .before .before .before .before .before .before .before .before .before .before .before .before .before .before .before .before .before .before .before .good .1 .1 .1 .1 .0 .0, placed-within (loop .out) (said .last .1 .1 .1 .1 .0) _ (loop .written) (said .result .written) (loop .inv .2 .within) (said .kept .1 .1 .1 .1 .0) (said .ensures .1 .0))
+    omega (arith, loop .inv .2 .size, c .before .before .before .before .before .before .before .before .before .before .before .before .before .before .before .before .before .before .before .before .before .before .before .before .before .good .1 .1 .1 .1 .0 .0, placed-within (loop .out) (said .last .1 .1 .1 .1 .1 .0) _ (loop .written) (said .result .written) (loop .inv .2 .within) (said .kept .1 .1 .1 .1 .1 .0) (said .ensures .1 .0))
 
 nothing-requires : tie.Need-nothing-requires Inv-loop μ-loop
 nothing-requires c κs = search needs
@@ -86,7 +87,7 @@ loop-again-2 c =
     let enough = p .before .before .if1 .left in
     let took = p .take-part in
     let said = c .before .before .before .before .before .before .before .answer-held in
-    (took .kept .1 .0 ∙ loop .inv .0, said .kept .1 .1 .1 .0 ∙ loop .inv .1, turn-answered trayLines _ _ _ _ _ _ _ _ _ _ here (took .result) _ (took .ensures) (loop .inv .2) enough (c .before .before .before .before .before .before .before .before .before .before .before .if2 .left) _ _ (said .kept .1 .1 .1 .1 .0) _ (c .nothing .ensures) _ _ (came _ _ _ _ (said .ensures .0)) (said .ensures .1 .0))
+    (took .kept .1 .0 ∙ loop .inv .0, said .kept .1 .1 .1 .1 .0 ∙ loop .inv .1, turn-answered trayLines _ _ _ _ _ (listOf (loop .tray) (loop .ended)) _ _ _ _ here (took .result) _ (took .ensures) (loop .inv .2) enough (c .before .before .before .before .before .before .before .before .before .before .before .if2 .left) _ _ (said .kept .1 .1 .1 .1 .1 .0) _ (c .nothing .ensures) (listOf (said .result .tray) (said .result .ended)) _ (came trayLines (listOf (loop .tray) (loop .ended)) _ _ _ (said .ensures .0)) (said .ensures .1 .0))
 
 same-length : tie.Need-same-length Inv-loop μ-loop
 same-length c = search needs

@@ -12,13 +12,17 @@
     >>> table(Form(2, (0, 1), (3, 0), (0, 0)))
     Traceback (most recent call last):
     ...
-    bellbadger.Refused: refused 40: the form is of no table
+    bellbadger.refusals.Refused: refused 40: the form is of no table
 """
 
 import ctypes
 from dataclasses import dataclass
 
-from bellbadger import Refused, _declare, _fits, _lib, _members, _State
+from ._arguments import all_fitting, expect, fitting
+from ._library import declare, lib
+from .judge import Judge, RawState
+from .refusals import Refused
+from .rules import members
 
 __all__ = ["Form", "form", "table"]
 
@@ -47,8 +51,8 @@ class _TableResult(ctypes.Structure):
     _fields_ = [("accepted", ctypes.c_uint8), ("refused", ctypes.c_uint8), ("table", _Table)]
 
 
-_declare(_lib, "form", _FormResult, _State)
-_declare(_lib, "form_back", _TableResult, _Form)
+declare("form", _FormResult, RawState)
+declare("form_back", _TableResult, _Form)
 
 
 @dataclass(frozen=True)
@@ -66,17 +70,16 @@ class Form:
     cells: tuple
 
     def __post_init__(self):
+        object.__setattr__(self, "symbols", fitting("Form", "symbols", self.symbols, 8))
         for name in ("failure", "kept", "cells"):
-            object.__setattr__(self, name, tuple(getattr(self, name)))
-        _fits(self.symbols, 8)
-        for number in (*self.failure, *self.kept, *(cell for cell in self.cells if cell is not None)):
-            _fits(number, 16)
-        if len(self.failure) != len(self.kept):
-            raise ValueError("a set has a failure set and a mask")
-        if len(self.kept) > _SETS or len(self.cells) > _CELLS:
-            raise ValueError("a form has at most 512 sets and 8,192 cells")
-        if len(self.cells) < sum(map(_members, self.kept)):
-            raise ValueError("a kept cell is not there")
+            object.__setattr__(self, name, all_fitting("Form", name, getattr(self, name), 16, or_none=name == "cells"))
+        failure, kept, cells = map(len, (self.failure, self.kept, self.cells))
+        if failure != kept:
+            raise ValueError(f"Form: failure and kept must be as long as each other, not {failure} and {kept}")
+        if kept > _SETS:
+            raise ValueError(f"Form: kept must be at most {_SETS} masks, not {kept}")
+        if not sum(map(members, self.kept)) <= cells <= _CELLS:
+            raise ValueError(f"Form: cells must be the kept ones, {sum(map(members, self.kept))}, and at most {_CELLS}, not {cells}")
 
 
 def form(judge):
@@ -85,12 +88,12 @@ def form(judge):
     The failure set of a set above 0 is, of the lower-numbered sets, the one with most equal cells, empty
     ones too, and of several the lowest; exactly the equal cells are left out. Set 0 keeps all.
     """
-    result = _lib.bellbadger_form(judge._state)
+    result = lib.bellbadger_form(expect("form", "judge", judge, Judge)._state)
     if not result.accepted:
         raise Refused(result.refused)
     made = result.form
     kept = made.kept[: made.sets]
-    cells = made.cells[: sum(map(_members, kept))]
+    cells = made.cells[: sum(map(members, kept))]
     return Form(made.symbols, made.failure[: made.sets], kept, (None if cell == _EMPTY else cell for cell in cells))
 
 
@@ -101,13 +104,12 @@ def table(form):
     is not below it, a cell of set 0 is left out, a mask has a bit for no symbol, or a kept cell names a set
     that there is not.
     """
-    if not isinstance(form, Form):
-        raise TypeError("a Form is expected")
+    expect("table", "form", form, Form)
     value = _Form(len(form.kept), form.symbols)
     value.failure[: len(form.failure)] = form.failure
     value.kept[: len(form.kept)] = form.kept
     value.cells[: len(form.cells)] = [_EMPTY if cell is None else cell for cell in form.cells]
-    result = _lib.bellbadger_form_back(value)
+    result = lib.bellbadger_form_back(value)
     if not result.accepted:
         raise Refused(result.refused)
     rows = (result.table.next[16 * t : 16 * t + form.symbols] for t in range(result.table.sets))

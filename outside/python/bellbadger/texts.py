@@ -5,13 +5,14 @@
     >>> make_text(16, 0, 8)
     Traceback (most recent call last):
     ...
-    bellbadger.Refused: refused 41: the seed is 0
+    bellbadger.refusals.Refused: refused 41: the seed is 0
 """
 
 import ctypes
-import operator
 
-from bellbadger import Refused, _declare, _fits, _lib
+from ._arguments import fitting, size
+from ._library import DATA, declare, lib
+from .refusals import Refused
 
 __all__ = ["make_text"]
 
@@ -20,20 +21,19 @@ class _Made(ctypes.Structure):
     _fields_ = [("accepted", ctypes.c_uint8), ("refused", ctypes.c_uint8)]
 
 
-_declare(_lib, "make_text", _Made, ctypes.c_uint8, ctypes.c_uint64, ctypes.c_char_p, ctypes.c_size_t)
+declare("make_text", _Made, ctypes.c_size_t, ctypes.c_uint64, *DATA)
 
 
 def make_text(k, seed, length):
     """A text of so many symbols below k, by Marsaglia's 64-bit xorshift with shifts 13 left, 7 right, 17
     left from the seed; each new value modulo k is a symbol.
 
-    Refused with 4 (k is not 1 to 16), then with 41 (the seed is 0). A k over 8 bits and a seed over 64
-    bits are a ValueError.
+    Refused with 4 (k is not 1 to 16), then with 41 (the seed is 0). A seed over 64 bits and a length
+    below 0 or over 63 bits are a ValueError.
     """
-    _fits(k, 8)
-    _fits(seed, 64)
-    text = ctypes.create_string_buffer(operator.index(length))
-    result = _lib.bellbadger_make_text(k, seed, text, len(text))
+    k, seed = size("make_text", "k", k), fitting("make_text", "seed", seed, 64)
+    text = ctypes.create_string_buffer(fitting("make_text", "length", length, 63))
+    result = lib.bellbadger_make_text(k, seed, text, len(text))
     if not result.accepted:
         raise Refused(result.refused)
     return text.raw

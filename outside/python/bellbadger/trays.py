@@ -21,7 +21,7 @@ Rows of two events, in two bands, which come in any order:
     >>> tray.deliver(1, bytes([0, 1]))
     Traceback (most recent call last):
     ...
-    bellbadger_trays.TrayRefused: refused 22: the band is filled
+    bellbadger.trays.TrayRefused: refused 22: the band is filled
     >>> tray.withdraw(1)
     >>> tray.deliver(1, bytes([0, 1]))
     >>> tray.verdict()
@@ -34,8 +34,12 @@ TrayRefused, which is a Refused with the words for a tray, and leaves the tray a
 import ctypes
 from dataclasses import dataclass
 
-import bellbadger
-from bellbadger import CheckedRule, Loaded, Refused
+from ._arguments import as_bytes, size
+from ._library import DATA, declare, expect_size, lib
+from ._verdicts import Verdict
+from .judge import Loaded
+from .refusals import Refused
+from .rules import RawRule, raw
 
 __all__ = ["Tray", "TrayWaiting", "TrayYes", "TrayNo", "TrayRefused"]
 
@@ -63,19 +67,23 @@ class TrayRefused(Refused):
 
 
 @dataclass(frozen=True)
-class TrayWaiting:
+class TrayWaiting(Verdict):
     """A verdict: so many bands are empty."""
 
     bands: int
 
 
 @dataclass(frozen=True)
-class TrayYes:
+class TrayYes(Verdict):
     """A verdict: every row and every column is accepted."""
+
+    @property
+    def is_yes(self):
+        return True
 
 
 @dataclass(frozen=True)
-class TrayNo:
+class TrayNo(Verdict):
     """A verdict: some row or some column is not accepted."""
 
 
@@ -90,7 +98,7 @@ class _Board(ctypes.Structure):
 
 
 class _Tray(ctypes.Structure):
-    _fields_ = [("row", bellbadger._CheckedRule), ("column", bellbadger._CheckedRule), ("board", _Board)]
+    _fields_ = [("row", RawRule), ("column", RawRule), ("board", _Board)]
 
 
 class _Install(ctypes.Structure):
@@ -111,36 +119,21 @@ class _Verdict(ctypes.Structure):
     _fields_ = [("kind", ctypes.c_uint8), ("number", ctypes.c_uint8)]
 
 
-def _declared(library):
-    """The functions of the library, seen to be the ones that this module was written for."""
-    size = ctypes.c_size_t
-    bellbadger._declare(library, "tray_size", size)
-    if not library.bellbadger_tray_size() == ctypes.sizeof(_Tray) == _TRAY_SIZE:
-        raise ImportError("the library has another tray than this module")
-    bellbadger._declare(library, "tray_new", _Tray)
-    bellbadger._declare(library, "tray_install_row", _Install, _Tray, bellbadger._CheckedRule)
-    bellbadger._declare(library, "tray_install_column", _Install, _Tray, bellbadger._CheckedRule)
-    bellbadger._declare(library, "tray_open", _Change, _Tray, size, size)
-    bellbadger._declare(library, "tray_deliver", _Change, _Tray, size, ctypes.c_char_p, size)
-    bellbadger._declare(library, "tray_withdraw", _Change, _Tray, size)
-    bellbadger._declare(library, "tray_verdict", _Verdict, _Tray)
-    return library
-
-
-_lib = _declared(bellbadger._lib)
-
-
-def _rule(rule):
-    if not isinstance(rule, CheckedRule):
-        raise TypeError("a CheckedRule is installed")
-    return bellbadger._value(rule)
+expect_size("tray_size", _Tray, _TRAY_SIZE)
+declare("tray_new", _Tray)
+declare("tray_install_row", _Install, _Tray, RawRule)
+declare("tray_install_column", _Install, _Tray, RawRule)
+declare("tray_open", _Change, _Tray, ctypes.c_size_t, ctypes.c_size_t)
+declare("tray_deliver", _Change, _Tray, ctypes.c_size_t, *DATA)
+declare("tray_withdraw", _Change, _Tray, ctypes.c_size_t)
+declare("tray_verdict", _Verdict, _Tray)
 
 
 class Tray:
     """A row rule, a column rule and a board of bands; at first none of them."""
 
     def __init__(self):
-        self._tray = _lib.bellbadger_tray_new()
+        self._tray = lib.bellbadger_tray_new()
 
     def __repr__(self):
         tray, board = self._tray, self._tray.board
@@ -153,30 +146,32 @@ class Tray:
     def install_row(self, rule):
         """Checks and builds a rule for the rows; accepted, it replaces the former one and removes the
         board. Refused with 3, 4, 6, 8, 9."""
-        return self._loaded(_lib.bellbadger_tray_install_row(self._tray, _rule(rule)))
+        return self._loaded(lib.bellbadger_tray_install_row(self._tray, raw("install_row", "rule", rule)))
 
     def install_column(self, rule):
         """The same for the columns."""
-        return self._loaded(_lib.bellbadger_tray_install_column(self._tray, _rule(rule)))
+        return self._loaded(lib.bellbadger_tray_install_column(self._tray, raw("install_column", "rule", rule)))
 
     def open(self, width, bands):
         """A board of that many empty bands, for rows of that width; an earlier one is dropped. Refused
         with 20 (either rule is absent), 38, 10."""
-        self._change(_lib.bellbadger_tray_open(self._tray, bellbadger._size(width), bellbadger._size(bands)))
+        width, bands = size("open", "width", width), size("open", "bands", bands)
+        self._change(lib.bellbadger_tray_open(self._tray, width, bands))
 
     def deliver(self, band, rows):
         """Keeps rows, one behind the other, as a band, counted from 0; there may be none, and at most 64.
         There are no idle marks. Refused with 21, 11, 39, 13, 22."""
-        data = bellbadger._bytes(rows)
-        self._change(_lib.bellbadger_tray_deliver(self._tray, bellbadger._size(band), data, len(data)))
+        data = as_bytes("deliver", "rows", rows)
+        self._change(lib.bellbadger_tray_deliver(self._tray, size("deliver", "band", band), data, len(data)))
 
     def withdraw(self, band):
         """Empties a band. Refused with 21, 11, 23."""
-        self._change(_lib.bellbadger_tray_withdraw(self._tray, bellbadger._size(band)))
+        self._change(lib.bellbadger_tray_withdraw(self._tray, size("withdraw", "band", band)))
 
     def verdict(self):
-        """TrayWaiting, TrayYes or TrayNo; changes nothing. Refused with 21."""
-        result = _lib.bellbadger_tray_verdict(self._tray)
+        """TrayWaiting, TrayYes or TrayNo; changes nothing. Refused with 21. In an `if` write
+        verdict().is_yes."""
+        result = lib.bellbadger_tray_verdict(self._tray)
         if result.kind == _WAITING:
             return TrayWaiting(result.number)
         said = {_YES: TrayYes, _NO: TrayNo}

@@ -10,7 +10,10 @@
 
 import ctypes
 
-from bellbadger import CheckedRule, Refused, _CheckedRule, _declare, _lib
+from ._arguments import one_of
+from ._library import declare, lib
+from .refusals import Refused
+from .rules import RawRule, raw
 
 __all__ = ["ACCEPTED", "REJECTED", "sample"]
 
@@ -29,22 +32,18 @@ class _Sample(ctypes.Structure):
     ]
 
 
-_declare(_lib, "sample", _Sample, ctypes.c_uint8, _CheckedRule)
+declare("sample", _Sample, ctypes.c_uint8, RawRule)
 
 
 def sample(wish, rule):
     """The shortest text that is as it is wished, and among the shortest the first by symbols; None where
-    there is none. wish is ACCEPTED or REJECTED. The text has at most 511 bytes.
+    there is none. The empty text is one, and false in an `if`: ask `is None`. wish is ACCEPTED or REJECTED. The text has at most 511 bytes.
 
     Refused with 3, 4, 6, 8 as Judge.install is, then 35 (texts lead to more than 512 sets from the set of
     initial states, the empty set counted if reached). Another wish raises ValueError.
     """
-    if wish not in (ACCEPTED, REJECTED):
-        raise ValueError("a wish is ACCEPTED or REJECTED")
-    if not isinstance(rule, CheckedRule):
-        raise TypeError("a sample is that of a CheckedRule")
-    value = _CheckedRule(rule.n, rule.k, rule.initials, rule.finals, (ctypes.c_uint32 * 512)(*rule.targets))
-    result = _lib.bellbadger_sample(wish, value)
+    one_of("sample", "wish", wish, "ACCEPTED or REJECTED", (ACCEPTED, REJECTED))
+    result = lib.bellbadger_sample(wish, raw("sample", "rule", rule))
     if result.kind == _REFUSED:
         raise Refused(result.refused)
     return bytes(result.text[: result.length]) if result.kind == _TEXT else None

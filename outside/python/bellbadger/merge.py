@@ -17,12 +17,14 @@
     >>> merge(BOTH, rule, rule)
     Traceback (most recent call last):
     ...
-    bellbadger.Refused: refused 37: the result has more than 32 states
+    bellbadger.refusals.Refused: refused 37: the result has more than 32 states
 """
 
 import ctypes
 
-from bellbadger import CheckedRule, Refused, _CheckedRule, _declare, _lib
+from ._arguments import one_of
+from ._library import declare, lib
+from .rules import RawRule, RawRuleResult, raw
 
 __all__ = ["BOTH", "EITHER", "INTERLEAVING", "merge"]
 
@@ -31,17 +33,7 @@ __all__ = ["BOTH", "EITHER", "INTERLEAVING", "merge"]
 BOTH, EITHER, INTERLEAVING = 0, 1, 2
 
 
-class _Merge(ctypes.Structure):
-    _fields_ = [("accepted", ctypes.c_uint8), ("refused", ctypes.c_uint8), ("rule", _CheckedRule)]
-
-
-_declare(_lib, "merge", _Merge, ctypes.c_uint8, _CheckedRule, _CheckedRule)
-
-
-def _value(rule):
-    if not isinstance(rule, CheckedRule):
-        raise TypeError("two CheckedRules are merged")
-    return _CheckedRule(rule.n, rule.k, rule.initials, rule.finals, (ctypes.c_uint32 * 512)(*rule.targets))
+declare("merge", RawRuleResult, ctypes.c_uint8, RawRule, RawRule)
 
 
 def merge(way, one, two):
@@ -55,10 +47,5 @@ def merge(way, one, two):
     Refused with 3, 4, 6, 8 for the first rule, then for the second, then 36 (different numbers of
     symbols), 37 (more than 32 states in the result). Another way raises ValueError.
     """
-    if way not in (BOTH, EITHER, INTERLEAVING):
-        raise ValueError("a way is BOTH, EITHER or INTERLEAVING")
-    result = _lib.bellbadger_merge(way, _value(one), _value(two))
-    if not result.accepted:
-        raise Refused(result.refused)
-    rule = result.rule
-    return CheckedRule(rule.n, rule.k, rule.initials, rule.finals, tuple(rule.targets))
+    one_of("merge", "way", way, "BOTH, EITHER or INTERLEAVING", (BOTH, EITHER, INTERLEAVING))
+    return lib.bellbadger_merge(way, raw("merge", "one", one), raw("merge", "two", two)).checked_rule()

@@ -12,7 +12,7 @@
     >>> rule_file("*c")
     Traceback (most recent call last):
     ...
-    bellbadger.Refused: refused 31: the bytes are no pattern
+    bellbadger.refusals.Refused: refused 31: the bytes are no pattern
 
 A letter a to p is the symbol 0 to 15; what stands side by side follows each other; x|y is x or y; x*
 is x any number of times; brackets join. `|` binds loosest and `*` tightest. An empty alternative,
@@ -21,7 +21,9 @@ pattern or bracket is the empty text.
 
 import ctypes
 
-from bellbadger import Refused, _bytes, _declare, _lib
+from ._arguments import as_bytes
+from ._library import DATA, declare, lib
+from .refusals import Refused
 
 __all__ = ["LONGEST_FILE", "rule_file"]
 
@@ -38,7 +40,7 @@ class _Pattern(ctypes.Structure):
     ]
 
 
-_declare(_lib, "pattern", _Pattern, ctypes.c_char_p, ctypes.c_size_t)
+declare("pattern", _Pattern, *DATA)
 
 
 def rule_file(pattern):
@@ -48,8 +50,9 @@ def rule_file(pattern):
     the left, and it has 16 symbols. Refused with 30 (over 128 bytes; those of a str are of its UTF-8),
     31 (no pattern), 32 (more than 31 letters).
     """
-    data = pattern.encode() if isinstance(pattern, str) else _bytes(pattern)
-    result = _lib.bellbadger_pattern(data, len(data))
+    text = pattern.encode("utf-8", "surrogatepass") if isinstance(pattern, str) else pattern
+    data = as_bytes("rule_file", "pattern", text, "str or bytes")
+    result = lib.bellbadger_pattern(data, len(data))
     if not result.accepted:
         raise Refused(result.refused)
     return bytes(result.bytes[: result.length])

@@ -21,7 +21,7 @@ last one has the yes or no that a filled board with these chunks has.
     >>> profile.run(bytes([2]))
     Traceback (most recent call last):
     ...
-    bellbadger.Refused: refused 13: a byte is no symbol of the rule and no idle mark
+    bellbadger.refusals.Refused: refused 13: a byte is no symbol of the rule and no idle mark
 
 A mapping is eight bytes, and any eight bytes are one: byte q is the mask of the states that state q is
 mapped to. That of a chunk is 0 from the rule's n on.
@@ -29,8 +29,10 @@ mapped to. That of a chunk is 0 from the rule's n on.
 
 import ctypes
 
-import bellbadger
-from bellbadger import CheckedRule, Refused
+from ._arguments import as_bytes
+from ._library import DATA, declare, expect_size, lib
+from .refusals import Refused
+from .rules import RawRule, raw
 
 __all__ = ["Profile", "compose"]
 
@@ -62,41 +64,31 @@ class _Run(ctypes.Structure):
     _fields_ = [("accepted", ctypes.c_uint8), ("refused", ctypes.c_uint8), ("mapping", _Mapping)]
 
 
-def _declared(library):
-    """The functions of the library, seen to be the ones that this module was written for."""
-    size = ctypes.c_size_t
-    bellbadger._declare(library, "profile_size", size)
-    if not library.bellbadger_profile_size() == ctypes.sizeof(_Profile) == _PROFILE_SIZE:
-        raise ImportError("the library has another profile than this module")
-    bellbadger._declare(library, "profile_build", _Build, bellbadger._CheckedRule)
-    bellbadger._declare(library, "profile_run", _Run, _Profile, ctypes.c_char_p, size)
-    bellbadger._declare(library, "compose", _Mapping, _Mapping, _Mapping)
-    bellbadger._declare(library, "profile_verdict", ctypes.c_uint8, _Profile, _Mapping)
-    return library
+expect_size("profile_size", _Profile, _PROFILE_SIZE)
+declare("profile_build", _Build, RawRule)
+declare("profile_run", _Run, _Profile, *DATA)
+declare("compose", _Mapping, _Mapping, _Mapping)
+declare("profile_verdict", ctypes.c_uint8, _Profile, _Mapping)
 
 
-_lib = _declared(bellbadger._lib)
-
-
-def _mapping(data):
-    masks = bellbadger._bytes(data)
+def _mapping(call, name, value):
+    masks = as_bytes(call, name, value)
     if len(masks) != 8:
-        raise ValueError("a mapping has eight bytes")
+        raise ValueError(f"{call}: {name} must be eight bytes, not {len(masks)}")
     return _Mapping((ctypes.c_uint8 * 8)(*masks))
 
 
 def compose(earlier, later):
     """The mapping of two chunks, one behind the other, from those of each. Any two values compose."""
-    return bytes(_lib.bellbadger_compose(_mapping(earlier), _mapping(later)).masks)
+    earlier, later = _mapping("compose", "earlier", earlier), _mapping("compose", "later", later)
+    return bytes(lib.bellbadger_compose(earlier, later).masks)
 
 
 class Profile:
     """The mapping machine of a rule, which is checked and built. Refused with 3, 4, 6, 8, 33, 34."""
 
     def __init__(self, rule):
-        if not isinstance(rule, CheckedRule):
-            raise TypeError("a profile is built from a CheckedRule")
-        built = _lib.bellbadger_profile_build(bellbadger._value(rule))
+        built = lib.bellbadger_profile_build(raw("Profile", "rule", rule))
         if not built.accepted:
             raise Refused(built.refused)
         self._profile = built.profile
@@ -111,8 +103,8 @@ class Profile:
 
     def run(self, chunk):
         """The mapping of a chunk. Byte 255 is an idle mark, as in a delivery. Refused with 12, 13."""
-        data = bellbadger._bytes(chunk)
-        ran = _lib.bellbadger_profile_run(self._profile, data, len(data))
+        data = as_bytes("run", "chunk", chunk)
+        ran = lib.bellbadger_profile_run(self._profile, data, len(data))
         if not ran.accepted:
             raise Refused(ran.refused)
         return bytes(ran.mapping.masks)
@@ -120,4 +112,4 @@ class Profile:
     def accepts(self, mapping):
         """The verdict: whether the mapping leads from an initial state to a final one. Bits for states
         that there are not mean nothing."""
-        return _lib.bellbadger_profile_verdict(self._profile, _mapping(mapping)) == 1
+        return lib.bellbadger_profile_verdict(self._profile, _mapping("accepts", "mapping", mapping)) == 1

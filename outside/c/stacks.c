@@ -1,0 +1,194 @@
+/* How much stack each function takes: it runs in a thread on a painted stack, and what lost its paint is
+ * counted. A line for each function: its name and the most bytes that a call of it took beside what the
+ * caller keeps, with the copies that are made of the arguments. tests/stacks holds the pages to it. */
+#define _GNU_SOURCE
+#include <pthread.h>
+#include <stdio.h>
+#include <stdlib.h>
+#include <string.h>
+#include <sys/mman.h>
+
+#include "bellbadger.h"
+
+#define STACK ((size_t)4 << 20)
+#define PAINT 0xA5
+
+static const uint8_t rule_a[] = {
+    0x03, 0x02, 0x01, 0x00, 0x00, 0x00, 0x04, 0x00, 0x00, 0x00, 0x16, 0x00, 0x06, 0x00, 0x1C,
+    0x00, 0x02, 0x00, 0x1E, 0x00, 0x00, 0x00, 0x00, 0x00, 0x00, 0x01, 0x01, 0x00, 0x01, 0x02,
+};
+static const char *const record = "load 03020100000004000000160006001C0002001E0000000000000101000102\n"
+                                  "open 2\ndeliver 1 0 FF01FF\ndeliver 0 0 00\nverdict\nwithdraw 0\ndeliver 0 1 02\ndeliver 0 2 -\n";
+static const uint8_t pattern[] = "(a|b)*ab";
+
+static uint8_t plain[65536], idle[65536], made[65536];
+static char installation[8 + 2 * 2058 + 64];
+static bellbadger_checked_rule a, ring, many, none;
+static bellbadger_judge fresh, ruled, opened, filled;
+static bellbadger_profile profile;
+static bellbadger_mapping mapping;
+static bellbadger_failure_form form;
+static bellbadger_tray tray, tray_opened, tray_filled;
+
+/* A call, by which its result is kept: how many bytes that has. */
+#define CALL(at, type, call)                              \
+    static __attribute__((noinline)) size_t at(void) {    \
+        type kept = call;                                 \
+        __asm__ volatile("" : : "m"(kept) : "memory");    \
+        return sizeof kept;                               \
+    }
+#define TEXT(text) (const uint8_t *)(text), strlen(text)
+
+CALL(version, uint32_t, bellbadger_version())
+CALL(state_size, size_t, bellbadger_state_size())
+CALL(new, bellbadger_judge, bellbadger_new())
+CALL(read_a, bellbadger_read_result, bellbadger_read(rule_a, sizeof rule_a))
+CALL(read_cut, bellbadger_read_result, bellbadger_read(rule_a, sizeof rule_a - 1))
+CALL(install_a, bellbadger_install_result, bellbadger_install(fresh, a))
+CALL(install_ring, bellbadger_install_result, bellbadger_install(filled, ring))
+CALL(install_many, bellbadger_install_result, bellbadger_install(filled, many))
+CALL(load_a, bellbadger_load_result, bellbadger_load(fresh, rule_a, sizeof rule_a))
+CALL(load_cut, bellbadger_load_result, bellbadger_load(filled, rule_a, sizeof rule_a - 1))
+CALL(open_2, bellbadger_open_result, bellbadger_open(ruled, 2))
+CALL(open_0, bellbadger_open_result, bellbadger_open(ruled, 0))
+CALL(deliver_plain, bellbadger_deliver_result, bellbadger_deliver(opened, 1, 0, plain, sizeof plain))
+CALL(deliver_idle, bellbadger_deliver_result, bellbadger_deliver(opened, 0, 0, idle, sizeof idle))
+CALL(deliver_late, bellbadger_deliver_result, bellbadger_deliver(filled, 0, 0, idle, sizeof idle))
+CALL(deliver_no_board, bellbadger_deliver_result, bellbadger_deliver(ruled, 0, 0, idle, sizeof idle))
+CALL(withdraw_0, bellbadger_withdraw_result, bellbadger_withdraw(filled, 0))
+CALL(withdraw_9, bellbadger_withdraw_result, bellbadger_withdraw(filled, 9))
+CALL(verdict_filled, bellbadger_verdict_result, bellbadger_verdict(filled))
+CALL(verdict_opened, bellbadger_verdict_result, bellbadger_verdict(opened))
+CALL(replay_record, bellbadger_replay_result, bellbadger_replay(TEXT(record)))
+CALL(replay_installation, bellbadger_replay_result, bellbadger_replay(TEXT(installation)))
+CALL(profile_size, size_t, bellbadger_profile_size())
+CALL(profile_build_a, bellbadger_profile_build_result, bellbadger_profile_build(a))
+CALL(profile_build_ring, bellbadger_profile_build_result, bellbadger_profile_build(ring))
+CALL(profile_run_plain, bellbadger_profile_run_result, bellbadger_profile_run(profile, plain, sizeof plain))
+CALL(profile_run_idle, bellbadger_profile_run_result, bellbadger_profile_run(profile, idle, sizeof idle))
+CALL(compose, bellbadger_mapping, bellbadger_compose(mapping, mapping))
+CALL(profile_verdict, uint8_t, bellbadger_profile_verdict(profile, mapping))
+CALL(sample_accepted, bellbadger_sample_result, bellbadger_sample(BELLBADGER_ACCEPTED_TEXT, a))
+CALL(sample_rejected, bellbadger_sample_result, bellbadger_sample(BELLBADGER_REJECTED_TEXT, ring))
+CALL(sample_many, bellbadger_sample_result, bellbadger_sample(BELLBADGER_REJECTED_TEXT, many))
+CALL(pattern_right, bellbadger_pattern_result, bellbadger_pattern(pattern, sizeof pattern - 1))
+CALL(pattern_wrong, bellbadger_pattern_result, bellbadger_pattern(pattern, 1))
+CALL(merge_both, bellbadger_merge_result, bellbadger_merge(BELLBADGER_BOTH, a, a))
+CALL(merge_either, bellbadger_merge_result, bellbadger_merge(BELLBADGER_EITHER, a, a))
+CALL(merge_interleaving, bellbadger_merge_result, bellbadger_merge(BELLBADGER_INTERLEAVING, a, a))
+CALL(merge_none, bellbadger_merge_result, bellbadger_merge(BELLBADGER_BOTH, a, none))
+CALL(make_text, bellbadger_made_result, bellbadger_make_text(16, 1, made, sizeof made))
+CALL(form_a, bellbadger_form_result, bellbadger_form(ruled))
+CALL(form_fresh, bellbadger_form_result, bellbadger_form(fresh))
+CALL(form_back, bellbadger_table_result, bellbadger_form_back(form))
+CALL(tray_size, size_t, bellbadger_tray_size())
+CALL(tray_new, bellbadger_tray, bellbadger_tray_new())
+CALL(tray_install_row, bellbadger_tray_install_result, bellbadger_tray_install_row(tray, a))
+CALL(tray_install_column, bellbadger_tray_install_result, bellbadger_tray_install_column(tray, many))
+CALL(tray_open, bellbadger_tray_open_result, bellbadger_tray_open(tray, 2, 1))
+CALL(tray_deliver, bellbadger_tray_deliver_result, bellbadger_tray_deliver(tray_opened, 0, plain, 128))
+CALL(tray_deliver_late, bellbadger_tray_deliver_result, bellbadger_tray_deliver(tray_filled, 0, plain, 128))
+CALL(tray_withdraw, bellbadger_tray_withdraw_result, bellbadger_tray_withdraw(tray_filled, 0))
+CALL(tray_verdict, bellbadger_tray_verdict_result, bellbadger_tray_verdict(tray_filled))
+
+static const struct {
+    const char *function;
+    size_t (*call)(void);
+} calls[] = {
+    {"version", version}, {"state_size", state_size}, {"new", new},
+    {"read", read_a}, {"read", read_cut},
+    {"install", install_a}, {"install", install_ring}, {"install", install_many},
+    {"load", load_a}, {"load", load_cut},
+    {"open", open_2}, {"open", open_0},
+    {"deliver", deliver_plain}, {"deliver", deliver_idle}, {"deliver", deliver_late}, {"deliver", deliver_no_board},
+    {"withdraw", withdraw_0}, {"withdraw", withdraw_9},
+    {"verdict", verdict_filled}, {"verdict", verdict_opened},
+    {"replay", replay_record}, {"replay", replay_installation},
+    {"profile_size", profile_size},
+    {"profile_build", profile_build_a}, {"profile_build", profile_build_ring},
+    {"profile_run", profile_run_plain}, {"profile_run", profile_run_idle},
+    {"compose", compose}, {"profile_verdict", profile_verdict},
+    {"sample", sample_accepted}, {"sample", sample_rejected}, {"sample", sample_many},
+    {"pattern", pattern_right}, {"pattern", pattern_wrong},
+    {"merge", merge_both}, {"merge", merge_either}, {"merge", merge_interleaving}, {"merge", merge_none},
+    {"make_text", make_text},
+    {"form", form_a}, {"form", form_fresh}, {"form_back", form_back},
+    {"tray_size", tray_size}, {"tray_new", tray_new},
+    {"tray_install_row", tray_install_row}, {"tray_install_column", tray_install_column},
+    {"tray_open", tray_open},
+    {"tray_deliver", tray_deliver}, {"tray_deliver", tray_deliver_late},
+    {"tray_withdraw", tray_withdraw}, {"tray_verdict", tray_verdict},
+};
+enum { CALLS = sizeof calls / sizeof calls[0] };
+
+static uint8_t *begins; /* where the stack of the call begins */
+static size_t kept;
+
+static void *at_work(void *call) {
+    begins = __builtin_frame_address(0);
+    kept = calls[*(int *)call].call();
+    return NULL;
+}
+
+static void expect(int fact, const char *what) {
+    if (fact) return;
+    fprintf(stderr, "stacks: %s\n", what);
+    exit(1);
+}
+
+static size_t taken_by(uint8_t *stack, int call) {
+    pthread_attr_t on_stack;
+    pthread_t thread;
+    size_t at = 0;
+    memset(stack, PAINT, STACK);
+    expect(!pthread_attr_init(&on_stack) && !pthread_attr_setstack(&on_stack, stack, STACK), "no such stack");
+    expect(!pthread_create(&thread, &on_stack, at_work, &call) && !pthread_join(thread, NULL), "no thread");
+    while (stack[at] == PAINT) at++;
+    expect(at > 0, "the stack was too small");
+    return (size_t)(begins - (stack + at)) - kept;
+}
+
+static void prepare(void) {
+    size_t at = (size_t)sprintf(installation, "install 0302%08x%08x", 0x01000000, 0x04000000);
+    a = bellbadger_read(rule_a, sizeof rule_a).rule;
+    for (int c = 0; c < 512; c++) {
+        uint32_t mask = a.targets[c];
+        at += (size_t)sprintf(installation + at, "%02x000000", mask);
+        ring.targets[c] = 1u << (c / 16 + 1 + c % 16) % 32;
+    }
+    sprintf(installation + at, "\nopen 1\ndeliver 0 0 00FF01\n");
+    ring.n = 32, ring.k = 16, ring.initials = ring.finals = 1;
+    many.n = 11, many.k = 2, many.initials = 1, many.finals = 1u << 10; /* the tenth from the end is 1 */
+    many.targets[0] = 1, many.targets[1] = 3;
+    for (int q = 1; q < 10; q++) many.targets[16 * q] = many.targets[16 * q + 1] = 2u << q;
+    for (size_t i = 0; i < sizeof plain; i++) plain[i] = i % 2, idle[i] = i % 3 ? i % 2 : 255;
+    fresh = bellbadger_new();
+    ruled = bellbadger_install(fresh, a).judge;
+    opened = bellbadger_open(ruled, 2).judge;
+    filled = bellbadger_deliver(bellbadger_deliver(opened, 0, 0, idle, 99).judge, 1, 0, plain, 99).judge;
+    profile = bellbadger_profile_build(a).profile;
+    mapping = bellbadger_profile_run(profile, plain, 2).mapping;
+    form = bellbadger_form(ruled).form;
+    tray = bellbadger_tray_install_column(bellbadger_tray_install_row(bellbadger_tray_new(), a).tray, a).tray;
+    tray_opened = bellbadger_tray_open(tray, 2, 1).tray;
+    tray_filled = bellbadger_tray_deliver(tray_opened, 0, plain, 128).tray;
+    expect(bellbadger_verdict(filled).kind >= BELLBADGER_YES && bellbadger_tray_verdict(tray_filled).kind >= BELLBADGER_YES, "not filled");
+    expect(bellbadger_replay(TEXT(installation)).kind == BELLBADGER_YES, "no installation");
+    expect(bellbadger_replay(TEXT(record)).kind >= BELLBADGER_YES, "no record");
+    expect(bellbadger_install(fresh, many).refused == 9 && bellbadger_install(fresh, ring).accepted, "other rules");
+}
+
+int main(void) {
+    uint8_t *stack = mmap(NULL, STACK, PROT_READ | PROT_WRITE, MAP_PRIVATE | MAP_ANONYMOUS | MAP_STACK, -1, 0);
+    expect(stack != MAP_FAILED, "no memory");
+    prepare();
+    for (int call = 0, next; call < CALLS; call = next) {
+        size_t most = 0;
+        for (next = call; next < CALLS && !strcmp(calls[next].function, calls[call].function); next++) {
+            size_t taken = taken_by(stack, next);
+            if (taken > most) most = taken;
+        }
+        printf("bellbadger_%s %zu\n", calls[call].function, most);
+    }
+    return 0;
+}

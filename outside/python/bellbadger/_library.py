@@ -1,0 +1,53 @@
+"""The shared library, seen to be the one that this package was written for."""
+
+import ctypes
+import os
+from pathlib import Path
+
+# what this package was written for, as outside/c/bellbadger.h has it; a higher minor number fits too
+_MAJOR, _MINOR = 5, 0
+
+_HELP = "Make it, at the top of the repository, with: outside/build, or name the folder that has it in BELLBADGER_LIB."
+
+# bytes and how many there are
+DATA = (ctypes.c_char_p, ctypes.c_size_t)
+
+
+def _path():
+    folder = os.environ.get("BELLBADGER_LIB")
+    top = Path(__file__).resolve().parents[3]
+    return (Path(folder) if folder else top / "target" / "lib") / "libbellbadger.so"
+
+
+def _library(path):
+    if not path.is_file():
+        raise ImportError(f"{path} is not there. {_HELP}")
+    try:
+        library = ctypes.CDLL(str(path))
+    except OSError as error:
+        raise ImportError(f"{path} cannot be loaded ({error}). {_HELP}") from None
+    library.bellbadger_version.restype = ctypes.c_uint32
+    major, minor = divmod(library.bellbadger_version(), 65536)
+    if major != _MAJOR or minor < _MINOR:
+        raise ImportError(f"{path} has version {major}.{minor}, and not {_MAJOR}.{_MINOR}, which this package needs. {_HELP}")
+    return library
+
+
+lib = _library(_path())
+
+
+def declare(name, result, *arguments):
+    function = getattr(lib, "bellbadger_" + name)
+    function.restype, function.argtypes = result, arguments
+
+
+def expect_size(name, value, size):
+    """Sees to it that a value has the size that the library has, and the headers say."""
+    declare(name, ctypes.c_size_t)
+    if not getattr(lib, "bellbadger_" + name)() == ctypes.sizeof(value) == size:
+        raise ImportError(f"the library has another {name} than this package")
+
+
+def version():
+    """The version of the library: major and minor number."""
+    return divmod(lib.bellbadger_version(), 65536)

@@ -1,0 +1,231 @@
+"""A judge: one rule and one board."""
+
+import ctypes
+from dataclasses import dataclass
+
+from ._arguments import as_bytes, fitting, size
+from ._library import DATA, declare, expect_size, lib
+from ._verdicts import Verdict
+from .refusals import Malformed, Refused
+from .rules import RawRule, raw
+
+__all__ = ["Judge", "Loaded", "Looked", "Waiting", "Yes", "No", "replay"]
+
+# as outside/c/bellbadger.h has it
+_STATE_SIZE = 27832
+_WAITING, _YES, _NO, _MALFORMED = 1, 2, 3, 4
+
+
+@dataclass(frozen=True)
+class Loaded:
+    """What an accepted load or installation tells of the rule: how many sets and starts (M) there are.
+
+    Of the states from which a final state can be reached, those that accept the same texts have one
+    start together. M is 0 where the rule has no final state.
+    """
+
+    sets: int
+    starts: int
+
+
+@dataclass(frozen=True)
+class Looked:
+    """What an accepted delivery tells of the run: for how many bytes of the text any successor was
+    looked up, the least number of them after which every run has died, else all; 0 where nothing is
+    run."""
+
+    bytes: int
+
+
+@dataclass(frozen=True)
+class Waiting(Verdict):
+    """A verdict: so many places are empty."""
+
+    places: int
+
+
+@dataclass(frozen=True)
+class _Counted(Verdict):
+    count: int
+    bytes: int
+    quotient: int
+    remainder: int
+
+
+class Yes(_Counted):
+    """A verdict: the trace keeps to the rule.
+
+    count == quotient * bytes + remainder, where bytes is the length of the text and the remainder is
+    below it; quotient and remainder are 0 for a text of 0 bytes.
+    """
+
+    @property
+    def is_yes(self):
+        return True
+
+
+class No(_Counted):
+    """A verdict: the trace does not keep to the rule; the numbers are as for Yes."""
+
+
+class _BuiltRule(ctypes.Structure):
+    _fields_ = [
+        ("n", ctypes.c_uint8),
+        ("k", ctypes.c_uint8),
+        ("starts", ctypes.c_uint8),
+        ("count", ctypes.c_uint16),
+        ("initials", ctypes.c_uint32),
+        ("finals", ctypes.c_uint32),
+        ("delegates", ctypes.c_uint8 * 32),
+        ("singles", ctypes.c_uint16 * 32),
+        ("sets", ctypes.c_uint32 * 512),
+        ("next", ctypes.c_uint16 * 8192),
+    ]
+
+
+class _Board(ctypes.Structure):
+    _fields_ = [
+        ("places", ctypes.c_uint8),
+        ("filled", ctypes.c_uint8 * 64),
+        ("counts", ctypes.c_uint32 * 64),
+        ("lengths", ctypes.c_uint32 * 64),
+        ("revisions", ctypes.c_uint64 * 64),
+        ("ends", ctypes.c_uint32 * 2048),
+    ]
+
+
+class RawState(ctypes.Structure):
+    _fields_ = [("rule", _BuiltRule), ("board", _Board)]
+
+
+class _Install(ctypes.Structure):
+    _fields_ = [
+        ("accepted", ctypes.c_uint8),
+        ("refused", ctypes.c_uint8),
+        ("sets", ctypes.c_uint16),
+        ("starts", ctypes.c_uint8),
+        ("state", RawState),
+    ]
+
+
+class _Change(ctypes.Structure):
+    _fields_ = [("accepted", ctypes.c_uint8), ("refused", ctypes.c_uint8), ("state", RawState)]
+
+
+class _Delivery(ctypes.Structure):
+    _fields_ = [
+        ("accepted", ctypes.c_uint8),
+        ("refused", ctypes.c_uint8),
+        ("looked", ctypes.c_uint32),
+        ("state", RawState),
+    ]
+
+
+class _Verdict(ctypes.Structure):
+    _fields_ = [
+        ("kind", ctypes.c_uint8),
+        ("number", ctypes.c_uint64),
+        ("bytes", ctypes.c_uint64),
+        ("quotient", ctypes.c_uint64),
+        ("remainder", ctypes.c_uint64),
+    ]
+
+
+expect_size("state_size", RawState, _STATE_SIZE)
+declare("new", RawState)
+declare("install", _Install, RawState, RawRule)
+declare("load", _Install, RawState, *DATA)
+declare("open", _Change, RawState, ctypes.c_size_t)
+declare("deliver", _Delivery, RawState, ctypes.c_size_t, ctypes.c_uint32, *DATA)
+declare("withdraw", _Change, RawState, ctypes.c_size_t)
+declare("verdict", _Verdict, RawState)
+declare("replay", _Verdict, *DATA)
+
+
+def _verdict(result):
+    if result.kind == _WAITING:
+        return Waiting(result.number)
+    counted = {_YES: Yes, _NO: No}
+    if result.kind not in counted:
+        raise Refused(result.number)
+    return counted[result.kind](result.number, result.bytes, result.quotient, result.remainder)
+
+
+class Judge:
+    """One rule and one board; at first none."""
+
+    def __init__(self):
+        self._state = lib.bellbadger_new()
+
+    def __repr__(self):
+        rule, board = self._state.rule, self._state.board
+        filled = sum(1 for mark in board.filled if mark)
+        return (
+            f"<Judge: states {rule.n}, symbols {rule.k}, sets {rule.count}, starts {rule.starts}, "
+            f"places {board.places}, filled {filled}>"
+        )
+
+    def install(self, rule):
+        """Checks and builds a rule; accepted, it replaces the former one and removes the board.
+
+        Refused with 3, 4, 6, 8, 9.
+        """
+        return self._loaded(lib.bellbadger_install(self._state, raw("install", "rule", rule)))
+
+    def load(self, file):
+        """Reads a rule file and installs the rule in it. Refused with 1 to 8, then with 9."""
+        data = as_bytes("load", "file", file)
+        return self._loaded(lib.bellbadger_load(self._state, data, len(data)))
+
+    def open(self, places):
+        """A board of that many empty places; an earlier one is dropped. Refused with 20, 10."""
+        self._change(lib.bellbadger_open(self._state, size("open", "places", places)))
+
+    def deliver(self, place, revision, chunk):
+        """Runs a chunk and keeps its end sets, count, length and revision at the place, counted from 0.
+
+        The revision is a number below 2**32, else ValueError is raised. A greater one than the last
+        accepted at the place replaces what stands there; any other is refused with 22, even after a
+        withdrawal. A place that had none since the opening takes any.
+
+        Byte 255 is an idle mark: it is skipped and is no part of the text, but counts in the
+        limit of 65,536 bytes. Refused with 21, 11, 12, 13, 22.
+        """
+        data = as_bytes("deliver", "chunk", chunk)
+        place, revision = size("deliver", "place", place), fitting("deliver", "revision", revision, 32)
+        result = lib.bellbadger_deliver(self._state, place, revision, data, len(data))
+        self._change(result)
+        return Looked(result.looked)
+
+    def withdraw(self, place):
+        """Empties a place. Refused with 21, 11, 23."""
+        self._change(lib.bellbadger_withdraw(self._state, size("withdraw", "place", place)))
+
+    def verdict(self):
+        """Waiting, Yes or No; changes nothing. Refused with 21. In an `if` write verdict().is_yes."""
+        return _verdict(lib.bellbadger_verdict(self._state))
+
+    def _loaded(self, result):
+        self._change(result)
+        return Loaded(result.sets, result.starts)
+
+    def _change(self, result):
+        if not result.accepted:
+            raise Refused(result.refused)
+        self._state = result.state
+
+
+def replay(text):
+    """Runs the calls that a text of bytes records on a fresh judge: the verdict after them.
+
+    A line is `load HEX`, `install HEX`, `open N`, `deliver P REVISION HEX`, `withdraw P` or
+    `verdict`, with exactly one space between fields; an empty line begins a fresh judge. HEX of an installation is
+    the 2,058 bytes of a rule by value. A recorded call that is refused changes nothing, and the next
+    line is run. Raises Malformed for the first line that is no call,
+    Refused with 21 where no board is open at the end. In an `if` write replay(text).is_yes.
+    """
+    data = as_bytes("replay", "text", text)
+    result = lib.bellbadger_replay(data, len(data))
+    if result.kind == _MALFORMED:
+        raise Malformed(result.number)
+    return _verdict(result)
