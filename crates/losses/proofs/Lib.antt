@@ -1,0 +1,7 @@
+-- In the order in which they build on each other.
+pub mod Continuing
+pub mod Diagnosing
+pub mod Staying
+pub mod Spotting
+pub mod Claims
+pub mod Functions
