@@ -1,87 +1,52 @@
--- `find_spot` meets its contract: what is found from byte i on is what is found. Assumes nothing.
-use mathlib.Core.Path.{_≡_, refl, sym, _∙_}
-use Prim.Native.Nat.{_-_, _≤_}
-use native.Mathlib.Omega.{arith}
+-- `find_spot` meets its contract: the runs over the pruned table say it. Assumes nothing.
 use borrow.Author.Needs.{needs}
-use lib.ListN.{length, drop}
-use Rattle.locating.specs.Locating.{successorBy, noneLive, stuckFrom, spotIn}
-use Rattle.locating.proofs.Spotting.{stops, goes-on, ends}
+use Rattle.locating.proofs.Spotting.{found-nowhere, found-after}
 use Rattle.locating.proofs.find_spot.Statement.{statement}
 use Rattle.locating.proofs.find_spot.Tie as tie
 
-abbrev Inv-loop : tie.InvT-loop
-Inv-loop sets next singles delegates n from text set₀ i₀ set i =
-    (i ≤ length text)
-    × (stuckFrom (noneLive delegates n) (successorBy sets next singles) set i (drop i text) ≡ spotIn sets next singles delegates n from text)
+live-mask-requires : tie.Need-live-mask-requires
+live-mask-requires c κs = search needs
 
-abbrev μ-loop : tie.MeasureT-loop
-μ-loop sets next singles delegates n from text set₀ i₀ set i = length text - i
+prune-requires : tie.Need-prune-requires
+prune-requires c κs = search needs
 
-loop-holds : tie.Need-loop-holds Inv-loop μ-loop
-loop-holds c = (omega arith, refl)
+delegate-mask-requires : tie.Need-delegate-mask-requires
+delegate-mask-requires c κs = search needs
 
-none-live-requires : tie.Need-none-live-requires Inv-loop μ-loop
-none-live-requires c κs = search needs
+run-chunk-requires : tie.Need-run-chunk-requires
+run-chunk-requires c κs = search needs
 
-cast-t13 : tie.Need-cast-t13 Inv-loop μ-loop
-cast-t13 c = omega arith
+some-left-requires : tie.Need-some-left-requires
+some-left-requires c κs = search needs
 
-returns : tie.Need-returns Inv-loop μ-loop
-returns c = let x = c .before .before .before .loop in stops _ _ _ (x .i) (x .set) _ (x .inv .1) (sym (c .before .none-live .ensures) ∙ c .if1 .taken)
+returns : tie.Need-returns
+returns c =
+    let ran = c .before .before .before in
+    let from = ran .before .before in
+    let cut = from .before in
+    let live = cut .before in
+    let a = live .before .before .args in
+    found-nowhere (a .sets .now) (a .next .now) (a .singles .now) (a .delegates) (a .n) (a .from) (a .text .now) _ (live .live-mask .ensures) _ (cut .prune .ensures) _ (from .delegate-mask .ensures) _ (ran .run-chunk .ensures) _
+    (c .before .some-left .ensures) (c .if1 .taken)
 
-shared-slice-read-step-set : tie.Need-shared-slice-read-step-set Inv-loop μ-loop
-shared-slice-read-step-set c = omega arith
-
-step-set-requires : tie.Need-step-set-requires Inv-loop μ-loop
-step-set-requires c κs = search needs
-
-add-i : tie.Need-add-i Inv-loop μ-loop
-add-i c = omega arith
-
-loop-less : tie.Need-loop-less Inv-loop μ-loop
-loop-less c = omega arith
-
-loop-again : tie.Need-loop-again Inv-loop μ-loop
-loop-again c =
-    let t = c .before .before in
-    let x = t .before .before .before .loop in (
-      omega arith,
-      goes-on _ _ _ (x .i) (x .set) _ (x .inv .1) (sym (t .before .none-live .ensures) ∙ t .if1 .left)
-          (t .before .before .loop-test .taken)
-          (c .step-set .result)
-          (c .step-set .ensures),
-    )
-
-none-live-requires-2 : tie.Need-none-live-requires-2 Inv-loop μ-loop
-none-live-requires-2 c κs = search needs
-
-cast-t17 : tie.Need-cast-t17 Inv-loop μ-loop
-cast-t17 c = omega arith
-
-returns-2 : tie.Need-returns-2 Inv-loop μ-loop
-returns-2 c = let x = c .before .before .before .loop in stops _ _ _ (x .i) (x .set) _ (x .inv .1) (sym (c .before .none-live2 .ensures) ∙ c .if2 .taken)
-
-returns-3 : tie.Need-returns-3 Inv-loop μ-loop
-returns-3 c =
-    let x = c .before .before .before .loop in
-    ends _ _ _ (x .i) (x .set) _ (x .inv .1) (sym (c .before .none-live2 .ensures) ∙ c .if2 .left) (c .before .before .loop-test .left)
+returns-2 : tie.Need-returns-2
+returns-2 c =
+    let ran = c .before .before .before in
+    let from = ran .before .before in
+    let cut = from .before in
+    let live = cut .before in
+    let a = live .before .before .args in
+    found-after (a .sets .now) (a .next .now) (a .singles .now) (a .delegates) (a .n) (a .from) (a .text .now) _ (live .live-mask .ensures) _ (cut .prune .ensures) _ (from .delegate-mask .ensures) _ (ran .run-chunk .ensures) _
+    (c .before .some-left .ensures) (c .if1 .left)
 
 pub find-spot-spec : {M : Type 1} → statement M
 find-spot-spec =
     tie.close
     (tie.spec
-    Inv-loop
-    μ-loop
-    loop-holds
-    none-live-requires
-    cast-t13
+    live-mask-requires
+    prune-requires
+    delegate-mask-requires
+    run-chunk-requires
+    some-left-requires
     returns
-    shared-slice-read-step-set
-    step-set-requires
-    add-i
-    loop-less
-    loop-again
-    none-live-requires-2
-    cast-t17
-    returns-2
-    returns-3)
+    returns-2)

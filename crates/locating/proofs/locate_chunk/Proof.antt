@@ -1,7 +1,7 @@
 -- `locate_chunk` meets its contract: a chunk without marks is its own text. Assumes nothing.
 use mathlib.Core.Path.{sym, _∙_}
-use Rattle.marks.proofs.Claims as marks
 use borrow.Author.Needs.{needs}
+use Rattle.locating.proofs.Spotting.{unmarked-text}
 use Rattle.locating.proofs.locate_chunk.Statement.{statement}
 use Rattle.locating.proofs.locate_chunk.Tie as tie
 
@@ -19,7 +19,8 @@ locate-text-requires c κs = search needs
 
 returns-2 : tie.Need-returns-2
 returns-2 c =
-    c .locate-text .ensures ∙ rw (marks.claims .unmarked _ (sym (c .before .before .has-marks .ensures) ∙ c .before .if1 .left))
+    c .locate-text .ensures
+    ∙ unmarked-text _ _ _ _ _ _ _ _ _ (sym (c .before .before .has-marks .ensures) ∙ c .before .if1 .left)
 
 pub locate-chunk-spec : {M : Type 1} → statement M
 locate-chunk-spec =

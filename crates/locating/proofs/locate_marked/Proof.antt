@@ -11,6 +11,8 @@ use Rattle.text.proofs.Rooms.{whole-within}
 use Rattle.marks.specs.Marks.{textOf}
 use Rattle.marks.proofs.Claims as marks
 use borrow.Author.Needs.{needs}
+use Rattle.locating.specs.Locating.{textSpot}
+use Rattle.locating.proofs.Spotting.{marked-found}
 use Rattle.locating.proofs.locate_marked.Statement.{statement}
 use Rattle.locating.proofs.locate_marked.Tie as tie
 
@@ -38,8 +40,15 @@ locate-text-requires : tie.Need-locate-text-requires
 locate-text-requires c κs =
     rw (taken (c .before .before .pack .ensures)) (short _ (c .before .before .before .before .before .pre))
 
+in-chunk-requires : tie.Need-in-chunk-requires
+in-chunk-requires c κs = search needs
+
 returns : tie.Need-returns
-returns c = c .locate-text .ensures ∙ rw (taken (c .before .before .before .pack .ensures))
+returns c =
+    let a = c .before .before .before .before .before .before .before .args in
+    marked-found _ _ _ (textSpot (a .sets .now) (a .next .now) (a .singles .now) (a .delegates) (a .n) (a .k) (a .gap) (a .from) (textOf (a .chunk .now)))
+    (c .in-chunk .ensures)
+    (c .before .locate-text .ensures ∙ rw (taken (c .before .before .before .before .pack .ensures)))
 
 pub locate-marked-spec : {M : Type 1} → statement M
 locate-marked-spec =
@@ -50,4 +59,5 @@ locate-marked-spec =
     array-share-prefix-buffer
     slice-aggregate-locate-text
     locate-text-requires
+    in-chunk-requires
     returns)
