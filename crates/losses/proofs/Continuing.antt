@@ -1,5 +1,5 @@
--- C after the first places, and a text u behind them: a state reached from C by u has a delegate
--- exactly where some text can follow. Assumes a well-formed rule with at most 512 sets, and that the
+-- C after the first places, and a text u behind them: a live state is reached from the delegates of
+-- C's members by u exactly where some text can follow. Assumes a well-formed rule with at most 512 sets, and that the
 -- places are filled.
 --
 -- The theorem of the join is used as it stands, for one place more, at which the text stands that
@@ -20,16 +20,16 @@ use Rattle.base.specs.Options.{isNone}
 use Rattle.base.proofs.Tests.{either}
 use Rattle.marks.specs.Marks.{textOf}
 use Rattle.masks.specs.Masks.{_∈_, has, single, union, shares}
-use Rattle.masks.proofs.Laws.{no-member, has-member, some-member, members-below, part-of, in-union, union-lt, shares-law}
+use Rattle.masks.proofs.Laws.{no-member, has-member, some-member, members-below, below-of, single-law, part-of, in-union, union-lt, shares-law}
 use Rattle.automaton.specs.declared.Rule.{Rule}
 use Rattle.automaton.specs.Automaton.{Accepts, Text}
 use Rattle.automaton.specs.Rules.{automatonOf, WellFormed}
 use Rattle.automaton.specs.Successor.{after}
-use Rattle.automaton.proofs.Laws.{after-append, after-below}
+use Rattle.automaton.proofs.Laws.{after-below}
 use Rattle.subsets.specs.Claims.{fits}
-use Rattle.delegates.specs.Alike.{AcceptsFrom, Live, Delegate, delegateIn, ofDelegate}
+use Rattle.delegates.specs.Alike.{AcceptsFrom, Delegate, delegateIn, ofDelegate}
 use Rattle.delegates.specs.Claims.{startsIn}
-use Rattle.delegates.proofs.Alike.{run-text, merged-some, delegates-in, delegates-start}
+use Rattle.delegates.proofs.Alike.{run-text, live-alike, merged-some, delegates-start}
 use Rattle.chunks.specs.Chunks.{delegateSet, endSet}
 use Rattle.chunks.proofs.Claims as chunks
 use Rattle.joins.specs.Joining.{joinOf, yesOf}
@@ -39,6 +39,7 @@ use Rattle.histories.specs.History.{runAt, endOf, standingText, joinedUpTo}
 use Rattle.histories.proofs.Running.{merged, delegate-below}
 use Rattle.histories.proofs.VerdictClauses.{chunksUpTo, chunks-length, chunk-at, chunk-texts, texts-more, flatten-more, joined-is, filled}
 use Rattle.losses.specs.Losses.{Continued}
+use Rattle.losses.proofs.Living.{has-delegate, lives, lives-law, alive-text, alive-by, accepting-on, accepting-back}
 
 text-append : (k : ℕ) (u v : List ℕ) → Text k u → Text k v → Text k (u ++ v)
 text-append k [] v t s = s
@@ -80,14 +81,6 @@ module _ (r : Rule) (good : WellFormed r) (fit : fits r) (at : ℕ → Option (L
         delegates-start (automatonOf r) delegates (startsIn r .startcount) (merged r good fit) (l .from) x (l .below) (l .told),
       )
 
-  -- a live state has one
-  has-delegate : (q : ℕ) → q < r .n → Live (automatonOf r) q → (x : ℕ) × (delegateIn delegates q ≡ some x)
-  has-delegate q l live = told (delegateIn delegates q) refl (delegates-in (automatonOf r) (good .states .1) delegates (startsIn r .startcount) (merged r good fit) q l)
-    where
-      told : (o : Option ℕ) → delegateIn delegates q ≡ o → Delegate (automatonOf r) q o → (x : ℕ) × (delegateIn delegates q ≡ some x)
-      told none z f = absurd (f live)
-      told (some x) z f = (x, z)
-
   -- C is a set of states
   end-below : (p q : ℕ) (o : Option (List ℕ)) → q < r .n → endOf r p q o < 2 ^ r .n
   end-below p q none l = pow-pos (r .n)
@@ -103,6 +96,24 @@ module _ (r : Rule) (good : WellFormed r) (fit : fits r) (at : ℕ → Option (L
   joined-below zero = good .initials-below
   joined-below (suc m) =
       union-lt (λ q. ofDelegate (λ x. endOf r m x (at m)) (delegateIn delegates q)) (joinedAt m) (r .n) (r .n) (λ q l. adds-below m q l (delegateIn delegates q) refl)
+
+  -- a delegate of a member, which is a live state
+  delegated : (m x : ℕ) → x ∈ liveAt m → Lives m x
+  delegated m x i =
+      let l = chunks.claims .delegate-law delegates (r .n) (joinedAt m) x .0 i in
+      record { from = l .0; below = l .1; member = l .2; told = l .3 }
+
+  pub live-below : (m : ℕ) → liveAt m < 2 ^ r .n
+  live-below m = below-of (r .n) (liveAt m) (λ x i. let l = delegated m x i in delegate-below r good fit (l .from) x (l .below) (l .told))
+
+  run-lives : (m x : ℕ) → x ∈ liveAt m → x ∈ lives r good fit
+  run-lives m x i =
+      let l = delegated m x i in
+      let d = delegate-of m x l in
+      lives-law r good fit x .1 (d .1 .state, live-alike (automatonOf r) (l .from) x (d .1 .alike) (d .0))
+
+  pub all-live : (m x : ℕ) → x ∈ liveAt m → shares (single x) (lives r good fit) ≡ true
+  all-live m x i = shares-law (single x) (lives r good fit) .1 (x, single-law x x .1 refl, run-lives m x i)
 
   module _ (texts : (p : ℕ) (w : List ℕ) → at p ≡ some w → Text (r .k) (textOf w)) (m : ℕ) (full : (i : ℕ) → i < m → isNone (at i) ≡ false) where
     -- ---- with the text v at one place more
@@ -195,7 +206,7 @@ module _ (r : Rule) (good : WellFormed r) (fit : fits r) (at : ℕ → Option (L
         (λ y.
             let u = accepting-law r good (joinedAt m) v (joined-below m) .0 y in
             let l = members-below (r .n) (joinedAt m) (u .0) (joined-below m) (u .1) in
-            let x = has-delegate (u .0) l (record { text = v; accepts = u .2 }) in
+            let x = has-delegate r good fit (u .0) l (record { text = v; accepts = u .2 }) in
             let lives : Lives m (x .0) = record { from = u .0; below = l; member = u .1; told = x .1 } in
             law .0 (says-yes (x .0) lives (delegate-of m (x .0) lives .1 .alike v text .0 (u .2)))),
         λ t.
@@ -205,43 +216,59 @@ module _ (r : Rule) (good : WellFormed r) (fit : fits r) (at : ℕ → Option (L
             (p .from, p .member, one (p .from) (p .below) (p .member) (u .0) (p .there) (u .2) (delegateIn delegates (p .from)) refl),
       )
 
+    -- so do the delegates of its members
+    pub run-law : (v : List ℕ) → Text (r .k) v → Accepting r (liveAt m) v ↔ Accepts (automatonOf r) (joinedUpTo at m ++ v)
+    run-law v text = (
+      (λ y.
+          let u = accepting-law r good (liveAt m) v (live-below m) .0 y in
+          let l = delegated m (u .0) (u .1) in
+          rest-law v text .0 (accepting-law r good (joinedAt m) v (joined-below m) .1 (l .from, l .member, delegate-of m (u .0) l .1 .alike v text .1 (u .2)))),
+      λ t.
+          let u = accepting-law r good (joinedAt m) v (joined-below m) .0 (rest-law v text .1 t) in
+          let l = members-below (r .n) (joinedAt m) (u .0) (joined-below m) (u .1) in
+          let x = has-delegate r good fit (u .0) l (record { text = v; accepts = u .2 }) in
+          let lives : Lives m (x .0) = record { from = u .0; below = l; member = u .1; told = x .1 } in
+          accepting-law r good (liveAt m) v (live-below m) .1 (
+            x .0,
+            chunks.claims .delegate-law delegates (r .n) (joinedAt m) (x .0) .1 (u .0, l, u .1, x .1),
+            delegate-of m (x .0) lives .1 .alike v text .0 (u .2),
+          ),
+    )
+
     -- ---- with the text u behind the first m places
     module _ (u : List ℕ) (text : Text (r .k) u) where
       abbrev reached : ℕ
-      reached = after (r .targets) (joinedAt m) u
+      reached = after (r .targets) (liveAt m) u
 
       reached-below : reached < 2 ^ r .n
-      reached-below = after-below r good (joinedAt m) u (joined-below m)
+      reached-below = after-below r good (liveAt m) u (live-below m)
 
-      pub continues : eqb (delegateSet delegates (r .n) reached) 0 ≡ false → Continued (automatonOf r) (joinedUpTo at m ++ u)
-      continues ne =
-          let x = some-member (delegateSet delegates (r .n) reached) (eqb-false (delegateSet delegates (r .n) reached) 0 ne) in
-          let l = chunks.claims .delegate-law delegates (r .n) reached (x .0) .0 (x .1) in
-          let live = merged-some (automatonOf r) delegates (startsIn r .startcount) (merged r good fit) (l .0) (x .0) (l .1) (l .3) .0 in
-          let v = live .text in
-          let rest = run-text (automatonOf r) (live .accepts .run) in
-          let y = accepting-law r good reached v reached-below .1 (l .0, l .2, live .accepts) in
-          let z : Accepting r (joinedAt m) (u ++ v) =
-          subst (λ (s : ℕ). shares s (r .finals) ≡ true) (sym (after-append (r .targets) (joinedAt m) u v)) y in
+      pub continues : shares reached (lives r good fit) ≡ true → Continued (automatonOf r) (joinedUpTo at m ++ u)
+      continues e =
+          let x = alive-text r good fit reached reached-below e in
+          let v = x .0 in
           record {
             rest = v;
-            accepts = subst (Accepts (automatonOf r)) (sym (append-assoc (joinedUpTo at m) u v)) (rest-law (u ++ v) (text-append (r .k) u v text rest) .0 z);
+            accepts =
+                subst (Accepts (automatonOf r)) (sym (append-assoc (joinedUpTo at m) u v))
+                (run-law (u ++ v) (text-append (r .k) u v text (x .1)) .0 (accepting-on r good fit (liveAt m) u v (x .2)));
           }
 
-      pub live-left : Continued (automatonOf r) (joinedUpTo at m ++ u) → eqb (delegateSet delegates (r .n) reached) 0 ≡ false
+      pub live-left : Continued (automatonOf r) (joinedUpTo at m ++ u) → shares reached (lives r good fit) ≡ true
       live-left c =
           let v = c .rest in
           let rest = text-end (r .k) (joinedUpTo at m ++ u) v (run-text (automatonOf r) (c .accepts .run)) in
-          let y = rest-law (u ++ v) (text-append (r .k) u v text rest) .1 (subst (Accepts (automatonOf r)) (append-assoc (joinedUpTo at m) u v) (c .accepts)) in
-          let t = accepting-law r good reached v reached-below .0 (subst (λ (s : ℕ). shares s (r .finals) ≡ true) (after-append (r .targets) (joinedAt m) u v) y) in
-          let l = members-below (r .n) reached (t .0) reached-below (t .1) in
-          let x = has-delegate (t .0) l (record { text = v; accepts = t .2 }) in
-          let i = chunks.claims .delegate-law delegates (r .n) reached (x .0) .1 (t .0, l, t .1, x .1) in
-          ne-eqb (delegateSet delegates (r .n) reached) 0 (λ z. no-member (x .0) (subst (λ (s : ℕ). x .0 ∈ s) z i))
+          let y = run-law (u ++ v) (text-append (r .k) u v text rest) .1 (subst (Accepts (automatonOf r)) (append-assoc (joinedUpTo at m) u v) (c .accepts)) in
+          alive-by r good fit reached reached-below v (accepting-back r good fit (liveAt m) u v y)
 
     -- ---- with none behind them
     pub continues-all : eqb (liveAt m) 0 ≡ false → Continued (automatonOf r) (joinedUpTo at m)
-    continues-all ne = subst (Continued (automatonOf r)) (append-nil (joinedUpTo at m)) (continues [] tt ne)
+    continues-all ne =
+        let x = some-member (liveAt m) (eqb-false (liveAt m) 0 ne) in
+        subst (Continued (automatonOf r)) (append-nil (joinedUpTo at m)) (continues [] tt (shares-law (liveAt m) (lives r good fit) .1 (x .0, x .1, run-lives m (x .0) (x .1))))
 
     pub live-all : Continued (automatonOf r) (joinedUpTo at m) → eqb (liveAt m) 0 ≡ false
-    live-all c = live-left [] tt (subst (Continued (automatonOf r)) (sym (append-nil (joinedUpTo at m))) c)
+    live-all c =
+        let e = live-left [] tt (subst (Continued (automatonOf r)) (sym (append-nil (joinedUpTo at m))) c) in
+        let u = shares-law (liveAt m) (lives r good fit) .0 e in
+        ne-eqb (liveAt m) 0 (λ z. no-member (u .0) (subst (λ (y : ℕ). u .0 ∈ y) z (u .1)))

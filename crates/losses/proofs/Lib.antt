@@ -1,4 +1,5 @@
 -- In the order in which they build on each other.
+pub mod Living
 pub mod Continuing
 pub mod Diagnosing
 pub mod Staying

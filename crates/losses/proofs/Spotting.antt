@@ -1,18 +1,18 @@
 -- specs/Spots.antt proved. Assumes nothing.
 --
--- The route: the search finds the least number of bytes after which the set of the code is dead
--- (`found-in`). After a list of calls that set is what the automaton reaches from C (`walk-is`), and
--- so dead means that nothing can follow (Continuing.antt).
+-- The route: after a list of calls the runs over the pruned table are those of Living.antt, and a live
+-- state is left exactly where something can follow (Continuing.antt); so what is found says it in
+-- bytes of the text (`in-words`), and its position says it in bytes of the chunk (`of-chunk`).
 use mathlib.Core.Path.{_≡_, refl, sym, ap, ap₂, _∙_, subst}
 use mathlib.Core.Logic.{_↔_}
-use mathlib.Core.Bool.{Bool, true, false, _||_, _&&_}
+use mathlib.Core.Bool.{Bool, true, false, cond, _||_, _&&_}
 use mathlib.Core.List.{List, [], _∷_, _++_, append-nil}
 use mathlib.Core.Option.{Option, none, some}
-use Prim.Native.Nat.{ℕ, zero, suc, _+_, _^_, _≤_, _<_}
+use Prim.Native.Nat.{ℕ, zero, suc, _≤_, _<_, min}
 use native.Mathlib.Omega.{arith}
 use lib.Dec.{eqb, ltb, leb}
-use lib.ListN.{length, getD, take}
-use lib.Seq.{take-length}
+use lib.ListN.{length, take, drop, length-append, take-append-drop}
+use lib.Seq.{take-length, take-append-seam}
 use borrow.Author.Tests.{ne-eqb, ltb-false, lt-leb, le-ltb, leb-false}
 use Rattle.base.specs.Conditions.{Condition, on, firstOf, anyBelow}
 use Rattle.base.specs.Options.{isNone}
@@ -20,21 +20,20 @@ use Rattle.base.proofs.Conditions.{passed, none-at, none-all}
 use Rattle.base.proofs.Lists.{joined-suc}
 use Rattle.base.proofs.Options.{none-some}
 use Rattle.base.proofs.Tests.{by-test, not-both, zero-one}
-use Rattle.masks.specs.Masks.{_∈_, single}
-use Rattle.masks.proofs.Laws.{ext, members-below, part-of, in-union, single-law}
+use Rattle.masks.specs.Masks.{shares}
 use Rattle.marks.specs.Marks.{textOf}
+use Rattle.marks.proofs.Claims as marks
 use Rattle.automaton.specs.declared.Rule.{Rule}
 use Rattle.automaton.specs.Automaton.{Automaton, Text}
 use Rattle.automaton.specs.Rules.{automatonOf, WellFormed}
-use Rattle.automaton.specs.Successor.{successor, after}
-use Rattle.automaton.proofs.Laws.{successor-law, successor-below}
+use Rattle.automaton.specs.Successor.{after}
 use Rattle.subsets.specs.Claims.{fits}
-use Rattle.walks.specs.Steps.{endBy}
 use Rattle.delegates.specs.Alike.{delegateIn}
 use Rattle.delegates.specs.Claims.{startsIn}
 use Rattle.build.specs.Building.{builtOf}
+use Rattle.chunks.specs.declared.Runs.{Runs}
 use Rattle.chunks.specs.Chunks.{foreign, delegateSet}
-use Rattle.chunks.specs.Walks.{stepOf, maskOf}
+use Rattle.chunks.specs.Walks.{runsOf}
 use Rattle.chunks.proofs.Claims as chunks
 use Rattle.board.specs.Boards.{placesOf, isEmpty}
 use Rattle.joins.specs.Joining.{heldIn, joinUpTo}
@@ -42,7 +41,11 @@ use Rattle.joins.proofs.Claims as joins
 use Rattle.calls.specs.declared.Judge.{Judge}
 use Rattle.calls.specs.Calls.{Call, installs, opens, delivers, withdraws, asksVerdict, installNumber}
 use Rattle.calls.specs.Steps.{lacksBoard}
-use Rattle.locating.specs.Locating.{Spot, refusedFor, stuckAfter, nowhere, successorBy, noneLive, stuckFrom, spotIn, locateConditions, spotBy, spotOf}
+use Rattle.locating.specs.Positions.{positionOf}
+use Rattle.locating.specs.Pruning.{liveSet, pruned}
+use Rattle.locating.specs.Locating.{Spot, refusedFor, stuckAfter, nowhere, someLeft, foundBy, spotIn, inChunk, locateConditions, spotBy, spotOf}
+use Rattle.locating.proofs.Positions.{position-claims}
+use Rattle.locating.proofs.Spotting.{looked-within}
 use Rattle.histories.specs.History.{ruleThere, ruleFrom, ruleIn, placesIn, lastRevision, standing, standingText, deliverCheck, withdrawCheck, openNumber, endOf, joinedUpTo}
 use Rattle.histories.specs.Claims.{judgeAfter}
 use Rattle.histories.proofs.Running.{n-same, delegate-below}
@@ -51,89 +54,49 @@ use Rattle.histories.proofs.Numbers.{same-test, no-board, places-same, symbols-
 use Rattle.histories.proofs.EveryList.{good}
 use Rattle.losses.specs.Losses.{Continued, textUpTo, Lost}
 use Rattle.losses.specs.Spots.{spotNumber, textWith, StuckAfter, Spotted, SpotClaims}
-use Rattle.losses.proofs.Continuing.{joinedAt, joined-below, continues, live-left}
+use Rattle.losses.proofs.Living.{text-take, lives, cut, alive-before, left-alive, needed, dies}
+use Rattle.losses.proofs.Continuing.{joinedAt, liveAt, live-below, all-live, continues, live-left}
 use Rattle.losses.proofs.Diagnosing.{three-ways}
 
--- ---- what the search finds, by any step and any test
-module _ (stuck : ℕ → Bool) (f : ℕ → ℕ → ℕ) where
-  -- the test after i bytes of the text t, from m
-  abbrev pub deadAt : ℕ → List ℕ → ℕ → Bool
-  deadAt m t i = stuck (endBy f m (take i t))
-
-  abbrev pub FoundIn : ℕ → ℕ → List ℕ → Spot → Type 0
-  FoundIn m b t (refusedFor x) = ⊥
-  FoundIn m b t (stuckAfter x) = (k : ℕ) × (x ≡ b + k) × (k ≤ length t) × (deadAt m t k ≡ true) × ((i : ℕ) → i < k → deadAt m t i ≡ false)
-  FoundIn m b t nowhere = (i : ℕ) → i ≤ length t → deadAt m t i ≡ false
-
-  one-more : (m c : ℕ) (t : List ℕ) (k : ℕ) → stuck m ≡ false → ((i : ℕ) → i < k → deadAt (f m c) t i ≡ false) → (i : ℕ) → i < suc k → deadAt m (c ∷ t) i ≡ false
-  unfolding endBy
-  one-more m c t k e h zero l = e
-  one-more m c t k e h (suc i) l = h i (omega arith)
-
-  passed-byte : (m b c : ℕ) (t : List ℕ) → stuck m ≡ false → (s : Spot) → FoundIn (f m c) (suc b) t s → FoundIn m b (c ∷ t) s
-  unfolding endBy
-  passed-byte m b c t e (refusedFor x) w = w
-  passed-byte m b c t e (stuckAfter x) w = (suc (w .0), omega (arith, w .1), omega (arith, w .2), w .3, one-more m c t (w .0) e (w .4))
-  passed-byte m b c t e nowhere w = λ i l. one-more m c t (suc (length t)) e (λ k b. w k (omega arith)) i (omega arith)
-
-  pub found-in : (t : List ℕ) (m b : ℕ) → FoundIn m b t (stuckFrom stuck f m b t)
-  unfolding stuckFrom endBy
-  found-in [] m b =
-      by-test (stuck m)
-      (λ e. rw e (0, omega arith, omega arith, e, λ i l. absurd (omega arith)))
-      (λ e. rw e (λ i l. let z : i ≡ 0 = omega arith in rw z e))
-  found-in (c ∷ t) m b =
-      by-test (stuck m)
-      (λ e. rw e (0, omega arith, omega arith, e, λ i l. absurd (omega arith)))
-      (λ e. rw e (passed-byte m b c t e (stuckFrom stuck f (f m c) (suc b) t) (found-in t (f m c) (suc b))))
-
--- ---- the set of the code is what the automaton reaches
-module _ (r : Rule) (wf : WellFormed r) (fit : fits r) where
-  abbrev step : ℕ → ℕ → ℕ
-  step m s = successorBy (builtOf r .sets) (builtOf r .next) (builtOf r .singles) m s
-
-  leads : ℕ → ℕ → ℕ
-  leads s q = maskOf (builtOf r .sets) (stepOf (builtOf r .next) (getD (builtOf r .singles) q 0) s)
-
-  leads-is : (s q : ℕ) → s < r .k → q < r .n → leads s q ≡ successor (r .targets) (single q) s
-  unfolding leads endBy
-  leads-is s q l b = chunks.claims .run-end r wf fit q b (s ∷ []) (l, tt)
-
-  step-is : (m s : ℕ) → m < 2 ^ r .n → s < r .k → step m s ≡ successor (r .targets) m s
-  unfolding leads
-  step-is m s small l =
-      ext (step m s) (successor (r .targets) m s) λ p. (
-        (λ i.
-            let u = part-of (leads s) m p 32 i in
-            let b = members-below (r .n) m (u .from) small (u .member) in
-            let a = successor-law r wf (single (u .from)) s p .0 (subst (λ (z : ℕ). p ∈ z) (leads-is s (u .from) l b) (u .there)) in
-            let e = single-law (u .from) (a .0) .0 (a .1) in
-            successor-law r wf m s p .1 (a .0, subst (λ (q : ℕ). q ∈ m) (sym e) (u .member), a .2)),
-        λ i.
-            let a = successor-law r wf m s p .0 i in
-            let b = members-below (r .n) m (a .0) small (a .1) in
-            let t = successor-law r wf (single (a .0)) s p .1 (a .0, single-law (a .0) (a .0) .1 refl, a .2) in
-            in-union (leads s) m p 32 (a .0) (omega (arith, b, wf .states)) (a .1) (subst (λ (z : ℕ). p ∈ z) (sym (leads-is s (a .0) l b)) t),
-      )
-
-  walk-is : (u : List ℕ) (m : ℕ) → m < 2 ^ r .n → Text (r .k) u → endBy step m u ≡ after (r .targets) m u
-  unfolding endBy
-  walk-is [] m small text = refl
-  walk-is (s ∷ u) m small text =
-      ap (λ (x : ℕ). endBy step x u) (step-is m s small (text .0)) ∙ walk-is u (successor (r .targets) m s) (successor-below r wf m s) (text .1)
-
-text-take : (k : ℕ) (t : List ℕ) (i : ℕ) → Text k t → Text k (take i t)
-text-take k t zero x = tt
-text-take k [] (suc i) x = tt
-text-take k (s ∷ t) (suc i) x = (x .0, text-take k t i (x .1))
-
--- ---- in words
-module _ (a : Automaton) (before t : List ℕ) where
-  abbrev SpotSays : Spot → Type 0
-  SpotSays (refusedFor x) = ⊥
-  SpotSays (stuckAfter b) =
+-- ---- in words, for a text and for a chunk
+module _ (a : Automaton) (before : List ℕ) where
+  abbrev TextSays : List ℕ → Spot → Type 0
+  TextSays t (refusedFor x) = ⊥
+  TextSays t (stuckAfter b) =
       (b ≤ length t) × (Continued a (before ++ take b t) → ⊥) × ((i : ℕ) → i < b → Continued a (before ++ take i t))
-  SpotSays nowhere = (i : ℕ) → i ≤ length t → Continued a (before ++ take i t)
+  TextSays t nowhere = (i : ℕ) → i ≤ length t → Continued a (before ++ take i t)
+
+  abbrev SpotSays : List ℕ → Spot → Type 0
+  SpotSays w (refusedFor x) = ⊥
+  SpotSays w (stuckAfter b) =
+      (b ≤ length w) × (Continued a (before ++ textOf (take b w)) → ⊥) × ((i : ℕ) → i < b → Continued a (before ++ textOf (take i w)))
+  SpotSays w nowhere = (i : ℕ) → i ≤ length w → Continued a (before ++ textOf (take i w))
+
+  module _ (w : List ℕ) where
+    -- the text of the first bytes is the first of the text
+    begins : (i : ℕ) → textOf (take i w) ≡ take (length (textOf (take i w))) (textOf w)
+    begins i =
+        sym (take-append-seam (textOf (take i w)) (textOf (drop i w)))
+        ∙ ap (take (length (textOf (take i w)))) (sym (marks.claims .text-append (take i w) (drop i w)) ∙ ap textOf (take-append-drop i w))
+
+    no-more : (i : ℕ) → length (textOf (take i w)) ≤ length (textOf w)
+    no-more i =
+        let e = ap length (sym (marks.claims .text-append (take i w) (drop i w)) ∙ ap textOf (take-append-drop i w)) in
+        omega (arith, e, length-append (textOf (take i w)) (textOf (drop i w)))
+
+    shown : (i : ℕ) → Continued a (before ++ take (length (textOf (take i w))) (textOf w)) → Continued a (before ++ textOf (take i w))
+    shown i c = subst (λ (u : List ℕ). Continued a (before ++ u)) (sym (begins i)) c
+
+    of-chunk : (s : Spot) → TextSays (textOf w) s → SpotSays w (inChunk w s)
+    of-chunk (refusedFor x) y = y
+    of-chunk (stuckAfter b) y =
+        let c = positionOf w b in
+        let there = position-claims .there w b (y .0) in (
+          position-claims .within w b,
+          (λ z. y .1 (subst (λ (u : List ℕ). Continued a (before ++ u)) (begins c ∙ ap (λ (n : ℕ). take n (textOf w)) there) z)),
+          λ i l. shown i (y .2 (length (textOf (take i w))) (position-claims .least w b i l)),
+        )
+    of-chunk nowhere y = λ i l. shown i (y (length (textOf (take i w))) (no-more i))
 
 -- ---- for a rule that is there
 module _ (r : Rule) (places : ℕ) (at : ℕ → Option (List ℕ)) (last : ℕ → Option ℕ) (j : Judge) (holds : Agrees (some r) places at last j) where
@@ -148,50 +111,59 @@ module _ (r : Rule) (places : ℕ) (at : ℕ → Option (List ℕ)) (last : ℕ 
       (omega (arith, delegate-below r (holds .rule .1) (holds .rule .2) q x s e, holds .rule .1 .states)))
 
   module _ (p : ℕ) (within : p < places) (full : (i : ℕ) → i < p → isNone (at i) ≡ false) (t : List ℕ) (text : Text (r .k) t) where
-    abbrev from : ℕ
-    from = joinedAt r (holds .rule .1) (holds .rule .2) at p
+    abbrev wf : WellFormed r
+    wf = holds .rule .1
 
-    abbrev walk : ℕ → ℕ → ℕ
-    walk = step r (holds .rule .1) (holds .rule .2)
+    abbrev fit : fits r
+    fit = holds .rule .2
 
-    abbrev dead : ℕ → Bool
-    dead = noneLive (startsIn r .delegates) (r .n)
+    abbrev run : ℕ
+    run = liveAt r wf fit at p
+
+    abbrev runs : Runs
+    runs = runsOf (builtOf r .sets) (cut r wf fit) (builtOf r .singles) run t
+
+    abbrev d : List ℕ
+    d = startsIn r .delegates
 
     spot-is : spotIn (j .built .sets) (j .built .next) (j .built .singles) (j .built .delegates) (j .built .n)
         (joinUpTo (j .board .ends) (j .built .delegates) (j .built .n) (j .built .initials) p)
         t
-        ≡ stuckFrom dead walk from 0 t
+        ≡ foundBy runs
     spot-is =
-        rw (holds .rule .0, n-same r (holds .rule .1) (holds .rule .2)) (ap (λ (c : ℕ). stuckFrom dead walk c 0 t) (from-is p within))
+        let e : min (r .n) 32 ≡ r .n = omega (arith, wf .states) in
+        rw (holds .rule .0, n-same r wf fit)
+        (ap foundBy
+        (ap₂ (λ (x : ℕ) (s : ℕ). runsOf (builtOf r .sets) (pruned (builtOf r .sets) (builtOf r .next) (liveSet d x)) (builtOf r .singles) s t)
+        e
+        (chunks.claims .delegate-mask d (r .n) (joinUpTo (j .board .ends) d (r .n) (r .initials) p) (wf .states .1)
+        ∙ ap (delegateSet d (r .n)) (from-is p within))))
 
-    dead-is : (i : ℕ) → deadAt dead walk from t i ≡ eqb (delegateSet (startsIn r .delegates) (r .n) (after (r .targets) from (take i t))) 0
-    dead-is i =
-        ap dead (walk-is r (holds .rule .1) (holds .rule .2) (take i t) from (joined-below r (holds .rule .1) (holds .rule .2) at p) (text-take (r .k) t i text))
-        ∙ ap (λ (m : ℕ). eqb m 0) (chunks.claims .delegate-mask (startsIn r .delegates) (r .n) (after (r .targets) from (take i t)) (holds .rule .1 .states .1))
+    alive : (i : ℕ) → shares (after (r .targets) run (take i t)) (lives r wf fit) ≡ true → Continued (automatonOf r) (joinedUpTo at p ++ take i t)
+    alive i e = continues r wf fit at (holds .texts) p full (take i t) (text-take (r .k) t i text) e
 
-    alive : (i : ℕ) → deadAt dead walk from t i ≡ false → Continued (automatonOf r) (joinedUpTo at p ++ take i t)
-    alive i e = continues r (holds .rule .1) (holds .rule .2) at (holds .texts) p full (take i t) (text-take (r .k) t i text) (sym (dead-is i) ∙ e)
+    not-dead : (i : ℕ) → Continued (automatonOf r) (joinedUpTo at p ++ take i t) → shares (after (r .targets) run (take i t)) (lives r wf fit) ≡ true
+    not-dead i c = live-left r wf fit at (holds .texts) p full (take i t) (text-take (r .k) t i text) c
 
-    not-dead : (i : ℕ) → Continued (automatonOf r) (joinedUpTo at p ++ take i t) → deadAt dead walk from t i ≡ false
-    not-dead i c = dead-is i ∙ live-left r (holds .rule .1) (holds .rule .2) at (holds .texts) p full (take i t) (text-take (r .k) t i text) c
+    -- alive after the whole text, so after each part
+    part-alive : (i : ℕ) → shares (after (r .targets) run t) (lives r wf fit) ≡ true → shares (after (r .targets) run (take i t)) (lives r wf fit) ≡ true
+    part-alive i e =
+        alive-before r wf fit run (take i t) (drop i t) (live-below r wf fit at p)
+        (subst (λ (u : List ℕ). shares (after (r .targets) run u) (lives r wf fit) ≡ true) (sym (take-append-drop i t)) e)
 
-    in-words : (s : Spot) → FoundIn dead walk from 0 t s → SpotSays (automatonOf r) (joinedUpTo at p) t s
-    in-words (refusedFor x) w = w
-    in-words (stuckAfter b) w =
-        let e : w .0 ≡ b = omega (arith, w .1) in (
-          omega (arith, e, w .2),
-          (λ c. not-both (subst (λ (k : ℕ). deadAt dead walk from t k ≡ true) e (w .3)) (not-dead b c)),
-          λ i l. alive i (w .4 i (omega (arith, l, e))),
-        )
-    in-words nowhere w = λ i l. alive i (w i l)
+    in-words : (left : Bool) → someLeft (runs .ends) ≡ left → TextSays (automatonOf r) (joinedUpTo at p) t (cond left nowhere (stuckAfter (runs .looked)))
+    in-words true e = λ i l. alive i (part-alive i (left-alive r wf fit run (live-below r wf fit at p) (all-live r wf fit at p) t text e))
+    in-words false e = (
+      looked-within (builtOf r .sets) (cut r wf fit) (builtOf r .singles) run t,
+      (λ c. not-both (not-dead (runs .looked) c) (dies r wf fit run (live-below r wf fit at p) (all-live r wf fit at p) t text e)),
+      λ i l. alive i (needed r wf fit run (live-below r wf fit at p) (all-live r wf fit at p) t text i l),
+    )
 
-    says : SpotSays (automatonOf r) (joinedUpTo at p) t
+    says : TextSays (automatonOf r) (joinedUpTo at p) t
         (spotIn (j .built .sets) (j .built .next) (j .built .singles) (j .built .delegates) (j .built .n)
         (joinUpTo (j .board .ends) (j .built .delegates) (j .built .n) (j .built .initials) p)
         t)
-    says =
-        subst (SpotSays (automatonOf r) (joinedUpTo at p) t) (sym spot-is)
-        (in-words (stuckFrom dead walk from 0 t) (found-in dead walk t from 0))
+    says = subst (TextSays (automatonOf r) (joinedUpTo at p) t) (sym spot-is) (in-words (someLeft (runs .ends)) refl)
 
 -- ---- the number by the state is the number by the list
 any-same : (f g : ℕ → Bool) (n : ℕ) → ((i : ℕ) → i < n → f i ≡ g i) → anyBelow f n ≡ anyBelow g n
@@ -238,7 +210,7 @@ module _ (present : Option Rule) (places : ℕ) (at : ℕ → Option (List ℕ))
 
 says-by : (present : Option Rule) (places : ℕ) (at : ℕ → Option (List ℕ)) (last : ℕ → Option ℕ) (j : Judge) → Agrees present places at last j
     → (p : ℕ) → p < places → ((i : ℕ) → i < p → isNone (at i) ≡ false) → (t : List ℕ) → Text (ruleFrom present .k) t
-    → SpotSays (automatonOf (ruleFrom present)) (joinedUpTo at p) t
+    → TextSays (automatonOf (ruleFrom present)) (joinedUpTo at p) t
     (spotIn (j .built .sets) (j .built .next) (j .built .singles) (j .built .delegates) (j .built .n)
     (joinUpTo (j .board .ends) (j .built .delegates) (j .built .n) (j .built .initials) p)
     t)
@@ -253,21 +225,23 @@ module _ (h : List Call) (p : ℕ) (w : List ℕ) where
       (joinUpTo (judgeAfter h .board .ends) (judgeAfter h .built .delegates) (judgeAfter h .built .n) (judgeAfter h .built .initials) p)
       (textOf w)
 
-  given : (s : Spot) → spotNumber h p w ≡ none → SpotSays (automatonOf (ruleIn h)) (textUpTo h p) (textOf w) s → Spotted h p w s
+  given : (s : Spot) → spotNumber h p w ≡ none → SpotSays (automatonOf (ruleIn h)) (textUpTo h p) w s → Spotted h p w s
   given (refusedFor x) e s = absurd s
   given (stuckAfter b) e s = (e, record { most = s .0; stuck = s .1; least = s .2 })
   given nowhere e s = (e, s)
 
-  by-spot : (number : Option ℕ) → spotNumber h p w ≡ number → Spotted h p w (spotBy number answer)
+  by-spot : (number : Option ℕ) → spotNumber h p w ≡ number → Spotted h p w (spotBy number (inChunk w answer))
   by-spot (some x) e = e
   by-spot none e =
       let x = number-none (ruleThere h) (placesIn h) (standing h) (lastRevision h) (judgeAfter h) (good h) p w e in
-      given answer e (says-by (ruleThere h) (placesIn h) (standing h) (lastRevision h) (judgeAfter h) (good h) p (x .0) (x .2) (textOf w) (x .1))
+      given (inChunk w answer) e
+      (of-chunk (automatonOf (ruleIn h)) (textUpTo h p) w answer
+      (says-by (ruleThere h) (placesIn h) (standing h) (lastRevision h) (judgeAfter h) (good h) p (x .0) (x .2) (textOf w) (x .1)))
 
   pub spotted : Spotted h p w (spotOf (judgeAfter h) p w)
   unfolding spotOf
   spotted =
-      subst (λ (o : Option ℕ). Spotted h p w (spotBy o answer))
+      subst (λ (o : Option ℕ). Spotted h p w (spotBy o (inChunk w answer)))
       (sym (number-same (ruleThere h) (placesIn h) (standing h) (lastRevision h) (judgeAfter h) (good h) p w))
       (by-spot (spotNumber h p w) refl)
 
@@ -332,9 +306,13 @@ module _ (h : List Call) (p : ℕ) (w : List ℕ) (lost : Lost h p) (here : stan
         none-all (λ i. isNone (standing h i)) p (λ i l. lost .filled i (omega arith)),
       )
 
-  whole : textWith h p w (length (textOf w)) ≡ textUpTo h (suc p)
+  whole : textWith h p w (length w) ≡ textUpTo h (suc p)
   whole =
-      ap (λ (t : List ℕ). textUpTo h p ++ t) (take-length (textOf w) ∙ sym (ap standingText here)) ∙ sym (joined-suc (λ i. standingText (standing h i)) p)
+      ap (λ (t : List ℕ). textUpTo h p ++ t) (ap textOf (take-length w) ∙ sym (ap standingText here)) ∙ sym (joined-suc (λ i. standingText (standing h i)) p)
+
+  text-none : textWith h p w 0 ≡ textUpTo h p
+  unfolding textOf
+  text-none = append-nil (textUpTo h p)
 
   no-zero : (b : ℕ) → StuckAfter h p w b → 0 < p → 0 < b
   no-zero b x l = later p refl l b x
@@ -343,14 +321,14 @@ module _ (h : List Call) (p : ℕ) (w : List ℕ) (lost : Lost h p) (here : stan
       later zero e l b x = absurd (omega arith)
       later (suc q) e l zero x =
           absurd (x .stuck
-          (subst (Continued (automatonOf (ruleIn h))) (sym (append-nil (textUpTo h p)))
+          (subst (Continued (automatonOf (ruleIn h))) (sym text-none)
           (subst (λ (m : ℕ). Continued (automatonOf (ruleIn h)) (textUpTo h m)) e (lost .least q (omega (arith, e))))))
       later (suc q) e l (suc b) x = omega arith
 
   told : (s : Spot) → spotOf (judgeAfter h) p w ≡ s → Spotted h p w s → (b : ℕ) × (spotOf (judgeAfter h) p w ≡ stuckAfter b) × StuckAfter h p w b × (0 < p → 0 < b)
   told (refusedFor x) e s = none-some nothing-wrong s
   told (stuckAfter b) e s = (b, e, s .1, no-zero b (s .1))
-  told nowhere e s = absurd (lost .stuck (subst (Continued (automatonOf (ruleIn h))) whole (s .1 (length (textOf w)) (omega arith))))
+  told nowhere e s = absurd (lost .stuck (subst (Continued (automatonOf (ruleIn h))) whole (s .1 (length w) (omega arith))))
 
   lost-spot : (b : ℕ) × (spotOf (judgeAfter h) p w ≡ stuckAfter b) × StuckAfter h p w b × (0 < p → 0 < b)
   lost-spot = told (spotOf (judgeAfter h) p w) refl (spotted h p w)

@@ -1,8 +1,9 @@
--- After how many bytes of a chunk's text a trace is lost, by a list of calls alone.
+-- After how many bytes of a chunk a trace is lost, by a list of calls alone. Idle marks count as
+-- bytes: a position is one of the caller's buffer.
 --
 --   spotNumber h p w      the number with which it is refused to say: 21, 11, 12, 13, or 23 where a
 --                         place before p is empty
---   textWith h p w i      the text of the places before p, with the first i bytes of the text of the
+--   textWith h p w i      the text of the places before p, with that of the first i bytes of the
 --                         chunk w behind it
 --   StuckAfter h p w b    nothing can follow the first b bytes, and something can follow fewer
 --   Spotted h p w s       s is what the list says
@@ -29,17 +30,17 @@ module _ (h : List Call) (p : ℕ) (w : List ℕ) where
   spotNumber = firstOf (locateConditions (eqb (placesIn h) 0) (placesIn h) p w (ruleIn h .k) (anyBelow (λ i. isNone (standing h i)) p))
 
   abbrev pub textWith : ℕ → List ℕ
-  textWith i = textUpTo h p ++ take i (textOf w)
+  textWith i = textUpTo h p ++ textOf (take i w)
 
   pub record StuckAfter (b : ℕ) : Type 0 where
-    pub most : b ≤ length (textOf w)
+    pub most : b ≤ length w
     pub stuck : Continued (automatonOf (ruleIn h)) (textWith b) → ⊥
     pub least : (i : ℕ) → i < b → Continued (automatonOf (ruleIn h)) (textWith i)
 
   abbrev pub Spotted : Spot → Type 0
   Spotted (refusedFor x) = spotNumber ≡ some x
   Spotted (stuckAfter b) = (spotNumber ≡ none) × StuckAfter b
-  Spotted nowhere = (spotNumber ≡ none) × ((i : ℕ) → i ≤ length (textOf w) → Continued (automatonOf (ruleIn h)) (textWith i))
+  Spotted nowhere = (spotNumber ≡ none) × ((i : ℕ) → i ≤ length w → Continued (automatonOf (ruleIn h)) (textWith i))
 
 pub record SpotClaims : Type 0 where
   -- after every list of calls, what is answered is what the list says, and there is only one
