@@ -211,7 +211,7 @@ module _ (r : Rule) (good : WellFormed r) (fit : fits r) where
           x .0,
           x .1,
           alive-by (after (r .targets) (single (x .0)) u) (after-below r good (single (x .0)) u (pow-lt h)) (v .0)
-          (accepting-back (single (x .0)) u (v .0) (accepting-single r good (x .0) (u ++ v .0) h .1 (x .2))),
+              (accepting-back (single (x .0)) u (v .0) (accepting-single r good (x .0) (u ++ v .0) h .1 (x .2))),
         )
 
     alive-one : (u : List ℕ) (q : ℕ) → q ∈ run → shares (after (r .targets) (single q) u) lives ≡ true → shares (after (r .targets) run u) lives ≡ true
@@ -274,15 +274,18 @@ module _ (r : Rule) (good : WellFormed r) (fit : fits r) where
       needed i l =
           by-test (shares (after (r .targets) run (take i t)) lives) (λ a. a)
           (λ d.
-          absurd (omega (arith, l,
-          greatest-most bytes i 32
-          (λ q b.
-          by-test (has run q)
-          (λ h.
-          let m = member-of run q h in
-          let z = ends-of q m (take i t) (text-take (r .k) t i text) .dead (all-dead (take i t) d q m) in
-          rw h (walks.looked-within (stepOf cut) 512 (begin q) i t (omega (arith, z))))
-          (λ h. rw h (omega arith))))))
+          absurd (omega (
+            arith,
+            l,
+            greatest-most bytes i 32
+                (λ q b.
+                by-test (has run q)
+                (λ h.
+                let m = member-of run q h in
+                let z = ends-of q m (take i t) (text-take (r .k) t i text) .dead (all-dead (take i t) d q m) in
+                rw h (walks.looked-within (stepOf cut) 512 (begin q) i t (omega (arith, z))))
+                (λ h. rw h (omega arith))),
+          )))
 
       -- and after so many every run is dead, where none is left in the end
       pub dies : left ≡ false → shares (after (r .targets) run (take lookedUp t)) lives ≡ false
