@@ -2,7 +2,7 @@
 use mathlib.Core.Logic.{inr}
 use Rattle.losses.specs.Claims.{Claims}
 use Rattle.losses.proofs.Diagnosing.{diagnosis}
-use Rattle.losses.proofs.Staying.{stays, stays-on, which, no-yes, no-yes-reply, yes-open}
+use Rattle.losses.proofs.Staying.{stays, stays-on, which, no-yes, no-yes-reply, yes-open, nothing-open, nothing-lost}
 
 pub claims : Claims
 claims = record {
@@ -13,4 +13,6 @@ claims = record {
   no-yes-reply = no-yes-reply;
   explained = λ h c n. which h c (inr n);
   yes-open = yes-open;
+  nothing-open = nothing-open;
+  nothing-lost = λ h w n e. nothing-lost h n w e;
 }

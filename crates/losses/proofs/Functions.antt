@@ -8,7 +8,7 @@ use Rattle.locating.specs.Locating.{locatedMeans, spotOf}
 use Rattle.histories.proofs.Refinement.{after-any-list}
 use Rattle.losses.specs.Functions.{FunctionClaims}
 use Rattle.losses.proofs.Diagnosing.{diagnosis}
-use Rattle.losses.proofs.Spotting.{spot-claims}
+use Rattle.losses.proofs.Spots.{spot-claims}
 
 pub function-claims : FunctionClaims
 function-claims = record {

@@ -4,5 +4,6 @@ pub mod Continuing
 pub mod Diagnosing
 pub mod Staying
 pub mod Spotting
+pub mod Spots
 pub mod Claims
 pub mod Functions

@@ -1,4 +1,4 @@
--- specs/Spots.antt proved. Assumes nothing.
+-- What is answered of a chunk is what a list of calls says. Assumes nothing.
 --
 -- The route: after a list of calls the runs over the pruned table are those of Living.antt, and a live
 -- state is left exactly where something can follow (Continuing.antt); so what is found says it in
@@ -53,7 +53,7 @@ use Rattle.histories.proofs.Agreement.{Agrees}
 use Rattle.histories.proofs.Numbers.{same-test, no-board, places-same, symbols-there}
 use Rattle.histories.proofs.EveryList.{good}
 use Rattle.losses.specs.Losses.{Continued, textUpTo, Lost}
-use Rattle.losses.specs.Spots.{spotNumber, textWith, StuckAfter, Spotted, SpotClaims}
+use Rattle.losses.specs.Spots.{spotNumber, textWith, StuckAfter, Spotted}
 use Rattle.losses.proofs.Living.{text-take, lives, cut, alive-before, left-alive, needed, dies}
 use Rattle.losses.proofs.Continuing.{joinedAt, liveAt, live-below, all-live, continues, live-left}
 use Rattle.losses.proofs.Diagnosing.{three-ways}
@@ -260,7 +260,7 @@ module _ (h : List Call) (p : ℕ) (w : List ℕ) where
   one-spot nowhere (stuckAfter c) a b = absurd (b .1 .stuck (a .1 c (b .1 .most)))
   one-spot nowhere nowhere a b = refl
 
-  spot : (s : Spot) → (spotOf (judgeAfter h) p w ≡ s) ↔ Spotted h p w s
+  pub spot : (s : Spot) → (spotOf (judgeAfter h) p w ≡ s) ↔ Spotted h p w s
   spot s = ((λ e. subst (Spotted h p w) e spotted), λ x. one-spot (spotOf (judgeAfter h) p w) s spotted x)
 
 -- ---- a standing chunk is not too long
@@ -330,8 +330,5 @@ module _ (h : List Call) (p : ℕ) (w : List ℕ) (lost : Lost h p) (here : stan
   told (stuckAfter b) e s = (b, e, s .1, no-zero b (s .1))
   told nowhere e s = absurd (lost .stuck (subst (Continued (automatonOf (ruleIn h))) whole (s .1 (length w) (omega arith))))
 
-  lost-spot : (b : ℕ) × (spotOf (judgeAfter h) p w ≡ stuckAfter b) × StuckAfter h p w b × (0 < p → 0 < b)
+  pub lost-spot : (b : ℕ) × (spotOf (judgeAfter h) p w ≡ stuckAfter b) × StuckAfter h p w b × (0 < p → 0 < b)
   lost-spot = told (spotOf (judgeAfter h) p w) refl (spotted h p w)
-
-pub spot-claims : SpotClaims
-spot-claims = record { spot = spot; lost-spot = lost-spot }

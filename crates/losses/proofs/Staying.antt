@@ -1,10 +1,10 @@
 -- A lost trace stays lost while its rule and the chunks up to its place stay, and no verdict on it is
--- yes; and what a diagnosis says beside a verdict. Assumes nothing.
+-- yes; what a diagnosis says beside a verdict; and of a rule that accepts nothing. Assumes nothing.
 use mathlib.Core.Path.{_≡_, refl, sym, ap, _∙_, subst}
 use mathlib.Core.Logic.{_⊎_, inl, inr}
 use mathlib.Core.Bool.{Bool, true, false, cond}
 use mathlib.Core.List.{List, [], _∷_, _++_, append-assoc}
-use mathlib.Core.Option.{none}
+use mathlib.Core.Option.{none, some}
 use Prim.Native.Nat.{ℕ, suc, _≤_, _<_}
 use native.Mathlib.Omega.{arith}
 use lib.Dec.{eqb, ltb}
@@ -25,7 +25,7 @@ use Rattle.diagnoses.specs.Diagnosing.{Finding, refusedAs, lostAt, openWith, di
 use Rattle.histories.specs.History.{ruleThere, ruleFrom, ruleIn, boardIn, placesIn, standing, standingText, emptiesIn, textIn, verdictIn, reportIn}
 use Rattle.histories.specs.Claims.{judgeAfter}
 use Rattle.histories.proofs.EveryList.{good, every-list, answer-after}
-use Rattle.losses.specs.Losses.{Continued, textUpTo, Hopeful, Lost, Open, Diagnosed, AllElsewhere}
+use Rattle.losses.specs.Losses.{Continued, textUpTo, FilledAt, Hopeful, Lost, Open, Diagnosed, AcceptsNothing, AllElsewhere}
 use Rattle.losses.proofs.Diagnosing.{diagnosed, clash}
 
 -- ---- stays lost
@@ -145,3 +145,26 @@ module _ (h : List Call) where
       pick : ((p : ℕ) × Lost h p) ⊎ Open h (placesIn h) → Open h (placesIn h)
       pick (inl l) = absurd (no-yes (l .0) c (l .1) y)
       pick (inr o) = o
+
+-- ---- of a rule that accepts nothing
+module _ (h : List Call) (nothing : AcceptsNothing h) where
+  pub nothing-open : boardIn h ≡ true → standing h 0 ≡ none → Open h 0
+  nothing-open b e = record {
+    board = b;
+    within = omega arith;
+    filled = λ i l. absurd (omega arith);
+    then-empty = λ l. e;
+    not-lost = λ i l. absurd (omega arith);
+  }
+
+  pub nothing-lost : (w : List ℕ) → standing h 0 ≡ some w → Lost h 0
+  nothing-lost w e =
+      let there : isNone (standing h 0) ≡ false = ap isNone e in
+      let room : 0 < placesIn h = by-test (ltb 0 (placesIn h)) (λ l. ltb-true 0 (placesIn h) l) (λ l. clash h 0 there (good h .beyond 0 (ltb-false 0 (placesIn h) l))) in
+      record {
+        board = every-list h .verdict .board .1 room;
+        within = room;
+        filled = λ i l. let z : i ≡ 0 = omega arith in subst (FilledAt h) (sym z) there;
+        stuck = λ c. nothing (textUpTo h 1 ++ c .rest) (c .accepts);
+        least = λ i l. absurd (omega arith);
+      }

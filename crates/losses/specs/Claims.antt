@@ -2,15 +2,17 @@
 -- it.
 use mathlib.Core.Path.{_≡_}
 use mathlib.Core.Logic.{_↔_, _⊎_}
+use mathlib.Core.Bool.{true}
 use mathlib.Core.List.{List, _++_}
+use mathlib.Core.Option.{none, some}
 use Prim.Native.Nat.{ℕ, _≤_}
 use Rattle.calls.specs.Replies.{Reported, judged, yesWith, noWith}
 use Rattle.calls.specs.Calls.{Call, asksVerdict}
 use Rattle.calls.specs.Steps.{stepOf}
-use Rattle.histories.specs.History.{ruleIn, placesIn, standing, verdictIn}
+use Rattle.histories.specs.History.{ruleIn, boardIn, placesIn, standing, verdictIn}
 use Rattle.histories.specs.Claims.{judgeAfter}
 use Rattle.diagnoses.specs.Diagnosing.{Finding, diagnosisOf}
-use Rattle.losses.specs.Losses.{Lost, Open, Diagnosed, AllElsewhere}
+use Rattle.losses.specs.Losses.{Lost, Open, Diagnosed, AcceptsNothing, AllElsewhere}
 
 pub record Claims : Type 0 where
   -- after every list of calls the diagnosis is the one that the list says, and there is only one
@@ -27,3 +29,7 @@ pub record Claims : Type 0 where
   -- too early; a yes is open with all places
   pub explained : (h : List Call) (c : ℕ) → verdictIn h ≡ noWith c → ((p : ℕ) × Lost h p) ⊎ Open h (placesIn h)
   pub yes-open : (h : List Call) (c : ℕ) → verdictIn h ≡ yesWith c → Open h (placesIn h)
+  -- of a rule that accepts nothing the trace is lost at place 0, once a chunk stands there; before, it
+  -- is open with 0 places
+  pub nothing-open : (h : List Call) → AcceptsNothing h → boardIn h ≡ true → standing h 0 ≡ none → Open h 0
+  pub nothing-lost : (h : List Call) (w : List ℕ) → AcceptsNothing h → standing h 0 ≡ some w → Lost h 0

@@ -9,6 +9,7 @@
 --                     follow their text, and something can follow that of fewer of them
 --   Open h m          it is not lost, and m is the number of places before the first empty one
 --   Diagnosed h f     the finding f is the list's: 21 without a board, else lost or open
+--   AcceptsNothing h  the rule of the list accepts no text
 --   Elsewhere p c     the call c leaves the rule, the board and the places 0 .. p alone: it asks for
 --                     the verdict, or delivers to a later place, or withdraws from one
 --   AllElsewhere p cs each call of the list does
@@ -57,6 +58,9 @@ module _ (h : List Call) where
   Diagnosed (refusedAs x) = (boardIn h ≡ false) × (x ≡ 21)
   Diagnosed (lostAt p) = Lost p
   Diagnosed (openWith m) = Open m
+
+  abbrev pub AcceptsNothing : Type 0
+  AcceptsNothing = (w : List ℕ) → Accepts (automatonOf (ruleIn h)) w → ⊥
 
 abbrev pub Elsewhere : ℕ → Call → Type 0
 Elsewhere p (installs r) = ⊥
