@@ -16,13 +16,12 @@ use lib.Dec.{eqb, ltb}
 use lib.ListN.{length, getD, take}
 use lib.Pow.{pow-lt}
 use borrow.Author.Tests.{lt-ltb, ltb-true, ltb-false, eqb-true, eqb-false}
-use Rattle.base.specs.Totals.{greatest}
 use Rattle.base.proofs.Conditions.{any-found, none-at}
 use Rattle.base.proofs.Lists.{cell-of}
 use Rattle.base.proofs.Tests.{by-test, not-both}
 use Rattle.base.proofs.Totals.{greatest-most, term-greatest}
 use Rattle.masks.specs.Masks.{_∈_, has, single, shares}
-use Rattle.masks.proofs.Laws.{no-member, has-member, member-of, members-below, single-law, shares-law}
+use Rattle.masks.proofs.Laws.{no-member, has-member, member-of, members-below, shares-law}
 use Rattle.automaton.specs.declared.Rule.{Rule}
 use Rattle.automaton.specs.Automaton.{Text}
 use Rattle.automaton.specs.Rules.{automatonOf, WellFormed}

@@ -24,7 +24,7 @@
 -- h is any list of calls, the last one first. diagnosisOf and spotOf, what the code does on any state,
 -- need not be believed: `diagnosed` and `spotted` say that after every list they are the words', and
 -- no other answer is. A proved function ends and stays within its bounds. Assumes nothing.
-use mathlib.Core.Path.{_≡_, refl, sym, ap, _∙_, subst}
+use mathlib.Core.Path.{_≡_, refl, sym, ap, _∙_}
 use mathlib.Core.Logic.{_↔_, _⊎_}
 use mathlib.Core.Bool.{true, false}
 use mathlib.Core.List.{List, [], _++_}
