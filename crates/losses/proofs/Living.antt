@@ -122,7 +122,7 @@ module _ (r : Rule) (good : WellFormed r) (fit : fits r) where
   table = nextCells (r .targets) (r .n) (r .k)
 
   abbrev pub cut : List ℕ
-  cut = pruned masks table lives
+  cut = pruned masks table lives (length (sets r))
 
   few : length (sets r) ≤ 512
   unfolding tooMany
@@ -144,7 +144,7 @@ module _ (r : Rule) (good : WellFormed r) (fit : fits r) where
   step-is i s h l =
       let low : s % 16 ≡ s = omega (arith, l, good .symbols) in
       ap (follow cut i) low
-      ∙ pruned-step masks table lives i s (omega (arith, h, few)) (omega (arith, l, good .symbols))
+      ∙ pruned-step masks table lives (length (sets r)) i s (omega (arith, h, few)) h (omega (arith, l, good .symbols))
       ∙ ap (λ (m : ℕ). cond (shares m lives) (follow table i s) 512) (mask-is i s h l)
 
   -- ---- a walk over it
