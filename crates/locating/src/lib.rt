@@ -7,12 +7,12 @@ ghost use lib.ListN.{length, getD};
 ghost use Rattle.limits.specs.Limits.{mostStates, mostSymbols, tableCells, mostPlaces, longestChunk};
 ghost use Rattle.base.specs.Conditions.{anyBelow};
 ghost use Rattle.marks.specs.Marks.{textOf};
-ghost use Rattle.chunks.specs.Walks.{maskOf};
 ghost use Rattle.locating.specs.Positions.{positionOf};
 ghost use Rattle.locating.specs.Pruning.{liveSet, keptCell, pruned};
 ghost use Rattle.locating.specs.Locating.{locatedMeans, someLeft, textSpot, inChunk, spotOf};
 use calls::Judge;
 use masks::StateNumber;
+use subsets::SetNumber;
 
 // The least number of bytes of the chunk, idle marks counted, after which nothing can follow, or that
 // there is none.
@@ -39,19 +39,11 @@ fn live_mask(delegates: [u8; limits::STATES], n: u8) -> u32
     live
 }
 
-// The mask of the set, which is empty from 512 on.
-fn mask_of(sets: &[u32; limits::SETS], set: u16) -> u32
-    ensures { λ r. ⌜ r ≡ maskOf (now (sets .entry)) set ⌝ }
-{
-    let i = set as usize;
-    if i < limits::SETS { sets[i] } else { 0 }
-}
-
 // The set that a cell names, where it has a live state; else the empty set.
 fn kept_cell(sets: &[u32; limits::SETS], live: u32, cell: u16) -> u16
     ensures { λ r. ⌜ r ≡ keptCell (now (sets .entry)) live cell ⌝ }
 {
-    if masks::meets(mask_of(sets, cell), live) {
+    if masks::meets(chunks::mask_of(sets, SetNumber(cell)), live) {
         cell
     } else {
         limits::EMPTY
@@ -150,7 +142,7 @@ fn position(chunk: &[u8], bytes: u32) -> u32
     i as u32
 }
 
-// The same where the bytes of the chunk are counted and not those of its text.
+// What was found in the text, in bytes of the chunk.
 fn in_chunk(found: Located, chunk: &[u8]) -> Located
     requires { ⌜ length (now chunk) ≤ longestChunk ⌝ }
     ensures { λ r. ⌜ locatedMeans r ≡ inChunk (now (chunk .entry)) (locatedMeans found) ⌝ }
