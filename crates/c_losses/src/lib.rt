@@ -15,7 +15,8 @@ pub struct DiagnosisNumbers {
     pub number: u8,
 }
 
-// Kind 0: refused with the number; 1: lost after that many bytes of the text; 2: nowhere in it.
+// Kind 0: refused with the number; 1: lost after that many bytes of the chunk, idle marks counted; 2:
+// nowhere in it.
 #[repr(C)]
 pub struct SpotNumbers {
     pub kind: u8,

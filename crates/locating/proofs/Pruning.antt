@@ -10,8 +10,9 @@ use native.Mathlib.Omega.{arith}
 use borrow.Author.Tests.{lt-ltb, le-ltb, ltb-true, ltb-false}
 use lib.Bits.{bitOr, or-zero-r}
 use lib.Dec.{ltb}
-use lib.ListN.{getD}
-use Rattle.base.proofs.Lists.{cell-of}
+use lib.ListN.{length, getD, set, length-set}
+use lib.Seq.{getD-set-other}
+use Rattle.base.proofs.Lists.{cell-of, is-listFrom, cell-stored}
 use Rattle.base.proofs.Tests.{by-test}
 use Rattle.masks.specs.Masks.{_∈_, single, shares}
 use Rattle.masks.proofs.Laws.{no-member, or-cases, or-left, or-right, single-law}
@@ -81,10 +82,37 @@ module _ (sets : List ℕ) (live c m : ℕ) (is : m ≡ maskOf sets c) where
   cell-dropped e = kept-by false e
 
 -- a step over the pruned table is the step over the table, to the empty set where no live state is
-pub pruned-step : (sets next : List ℕ) (live i s : ℕ) → i < 512 → s < 16
-    → follow (pruned sets next live) i s ≡ cond (shares (maskOf sets (follow next i s)) live) (follow next i s) 512
-pruned-step sets next live i s h l =
-    follow-set (pruned sets next live) i s h
-    ∙ ap (λ (x : ℕ). min x 512) (cell-of 8192 (λ c. keptCell sets live (getD next c 0)) (i * 16 + s) 0 (omega arith))
+pub pruned-step : (sets next : List ℕ) (live count i s : ℕ) → i < 512 → i < count → s < 16
+    → follow (pruned sets next live count) i s ≡ cond (shares (maskOf sets (follow next i s)) live) (follow next i s) 512
+pruned-step sets next live count i s h b l =
+    follow-set (pruned sets next live count) i s h
+    ∙ ap (λ (x : ℕ). min x 512)
+    (cell-of 8192 (λ c. cond (ltb c (count * 16)) (keptCell sets live (getD next c 0)) 512) (i * 16 + s) 0 (omega arith)
+    ∙ ap (λ (t : Bool). cond t (keptCell sets live (getD next (i * 16 + s) 0)) 512) (lt-ltb (i * 16 + s) (count * 16) (omega arith)))
     ∙ kept-min sets live (getD next (i * 16 + s) 0)
     ∙ ap (λ (x : ℕ). cond (shares (maskOf sets x) live) x 512) (sym (follow-set next i s h))
+
+-- ---- the table, cell by cell
+module _ (sets next : List ℕ) (live c : ℕ) (out : List ℕ) where
+  -- what holds once the cells below c are kept
+  pub record Kept : Type 0 where
+    pub size : length out ≡ 8192
+    pub below : (p : ℕ) → p < c → getD out p 0 ≡ keptCell sets live (getD next p 0)
+    pub rest : (p : ℕ) → c ≤ p → p < 8192 → getD out p 0 ≡ 512
+
+  pub one-kept : Kept → c < 8192 → (x : ℕ) → x ≡ keptCell sets live (getD next c 0)
+      → (length (set out c x) ≡ 8192) × ((p : ℕ) → p < c + 1 → getD (set out c x) p 0 ≡ keptCell sets live (getD next p 0))
+      × ((p : ℕ) → c + 1 ≤ p → p < 8192 → getD (set out c x) p 0 ≡ 512)
+  one-kept k l x e = (
+    length-set out c x ∙ k .size,
+    cell-stored out (λ p. keptCell sets live (getD next p 0)) c x (omega (arith, k .size)) e (k .below),
+    λ p a b. getD-set-other out c p x 0 (λ z. absurd (omega arith)) ∙ k .rest p (omega arith) b,
+  )
+
+  pub all-kept : Kept → (count : ℕ) → c ≡ min (count * 16) 8192 → out ≡ pruned sets next live count
+  all-kept k count e =
+      is-listFrom out 8192 (λ p. cond (ltb p (count * 16)) (keptCell sets live (getD next p 0)) 512) (k .size)
+      (λ p l.
+      by-test (ltb p (count * 16))
+      (λ t. rw t (k .below p (omega (arith, l, e, ltb-true p (count * 16) t))))
+      (λ t. rw t (k .rest p (omega (arith, e, ltb-false p (count * 16) t)) l)))

@@ -40,44 +40,34 @@ unmarked-found w e false b l = ap stuckAfter (sym (position-claims .unmarked w b
 pub marked-found : (w : List ℕ) (r s u : Spot) → r ≡ inChunk w s → s ≡ u → r ≡ inChunk w u
 marked-found w r s u a b = a ∙ ap (inChunk w) b
 
--- ---- what the runs over the pruned table say
-module _ (sets next singles d : List ℕ) (n m : ℕ) (t : List ℕ) (live : ℕ) (lives : live ≡ liveSet d (min n 32))
-    (cut : List ℕ) (cuts : cut ≡ pruned sets next live) (starts : ℕ) (are : starts ≡ delegateMask d n m)
-    (runs : Runs) (ran : runs ≡ runsOf sets cut singles starts t) (left : Bool) (is : left ≡ someLeft (runs .ends)) where
-  found-by : cond left nowhere (stuckAfter (runs .looked)) ≡ spotIn sets next singles d n m t
-  found-by =
-      ap (λ (b : Bool). cond b nowhere (stuckAfter (runs .looked))) is
-      ∙ ap foundBy
-      (ran
-      ∙ ap₂ (λ (c : List ℕ) (s : ℕ). runsOf sets c singles s t) (cuts ∙ ap (pruned sets next) lives) are)
-
-  pub found-nowhere : left ≡ true → nowhere ≡ spotIn sets next singles d n m t
-  found-nowhere e = ap (λ (b : Bool). cond b nowhere (stuckAfter (runs .looked))) (sym e) ∙ found-by
-
-  pub found-after : left ≡ false → stuckAfter (runs .looked) ≡ spotIn sets next singles d n m t
-  found-after e = ap (λ (b : Bool). cond b nowhere (stuckAfter (runs .looked))) (sym e) ∙ found-by
-
 -- ---- a text
-module _ (sets next singles d : List ℕ) (n k : ℕ) (gap : Bool) (m : ℕ) (t : List ℕ) where
-  pub text-13 : foreign t k ≡ true → refusedFor 13 ≡ textSpot sets next singles d n k gap m t
+module _ (sets next singles : List ℕ) (run k : ℕ) (gap : Bool) (t : List ℕ) where
+  pub text-13 : foreign t k ≡ true → refusedFor 13 ≡ textSpot sets next singles run k gap t
   unfolding textSpot
   text-13 e = rw e
 
-  pub text-23 : foreign t k ≡ false → gap ≡ true → refusedFor 23 ≡ textSpot sets next singles d n k gap m t
+  pub text-23 : foreign t k ≡ false → gap ≡ true → refusedFor 23 ≡ textSpot sets next singles run k gap t
   unfolding textSpot
   text-23 e g = rw (e, g)
 
-  pub text-found : foreign t k ≡ false → gap ≡ false → (s : Spot) → s ≡ spotIn sets next singles d n m t → s ≡ textSpot sets next singles d n k gap m t
-  unfolding textSpot
-  text-found e g s is = rw (e, g) is
+  module _ (e : foreign t k ≡ false) (g : gap ≡ false) (runs : Runs) (ran : runs ≡ runsOf sets next singles run t) (left : Bool) (is : left ≡ someLeft (runs .ends)) where
+    found-by : cond left nowhere (stuckAfter (runs .looked)) ≡ textSpot sets next singles run k gap t
+    unfolding textSpot
+    found-by = rw (e, g) (ap (λ (b : Bool). cond b nowhere (stuckAfter (runs .looked))) is ∙ ap foundBy ran)
+
+    pub text-nowhere : left ≡ true → nowhere ≡ textSpot sets next singles run k gap t
+    text-nowhere z = ap (λ (b : Bool). cond b nowhere (stuckAfter (runs .looked))) (sym z) ∙ found-by
+
+    pub text-after : left ≡ false → stuckAfter (runs .looked) ≡ textSpot sets next singles run k gap t
+    text-after z = ap (λ (b : Bool). cond b nowhere (stuckAfter (runs .looked))) (sym z) ∙ found-by
 
   -- ---- the same of a chunk without marks
-  text-chunk : marked t ≡ false → textSpot sets next singles d n k gap m t ≡ inChunk t (textSpot sets next singles d n k gap m t)
+  text-chunk : marked t ≡ false → textSpot sets next singles run k gap t ≡ inChunk t (textSpot sets next singles run k gap t)
   unfolding textSpot
   text-chunk e =
-      let runs = runsOf sets (pruned sets next (liveSet d (min n 32))) singles (delegateMask d n m) t in
+      let runs = runsOf sets next singles run t in
       refused-same (foreign t k) gap (foundBy runs)
-      (unmarked-found t e (someLeft (runs .ends)) (runs .looked) (looked-within sets (pruned sets next (liveSet d (min n 32))) singles (delegateMask d n m) t))
+      (unmarked-found t e (someLeft (runs .ends)) (runs .looked) (looked-within sets next singles run t))
     where
       refused-same : (f g : Bool) (s : Spot) → s ≡ inChunk t s
           → cond f (refusedFor 13) (cond g (refusedFor 23) s) ≡ inChunk t (cond f (refusedFor 13) (cond g (refusedFor 23) s))
@@ -85,8 +75,8 @@ module _ (sets next singles d : List ℕ) (n k : ℕ) (gap : Bool) (m : ℕ) (t 
       refused-same false true s e = refl
       refused-same false false s e = e
 
-  pub unmarked-text : marked t ≡ false → textSpot sets next singles d n k gap m t ≡ inChunk t (textSpot sets next singles d n k gap m (textOf t))
-  unmarked-text e = text-chunk e ∙ ap (λ (u : List ℕ). inChunk t (textSpot sets next singles d n k gap m u)) (sym (marks.claims .unmarked t e))
+  pub unmarked-text : marked t ≡ false → textSpot sets next singles run k gap t ≡ inChunk t (textSpot sets next singles run k gap (textOf t))
+  unmarked-text e = text-chunk e ∙ ap (λ (u : List ℕ). inChunk t (textSpot sets next singles run k gap u)) (sym (marks.claims .unmarked t e))
 
 -- ---- the ways out of `locate`
 by-number : (w : List ℕ) (f g : Bool) (s : Spot) → inChunk w (cond f (refusedFor 13) (cond g (refusedFor 23) s)) ≡ spotBy (cond f (some 13) (cond g (some 23) none)) (inChunk w s)
@@ -99,19 +89,29 @@ module _ (j : Judge) (p : ℕ) (w : List ℕ) where
   unfolding spotOf
   locate-21 a = rw (eq-eqb _ _ a)
 
-  module _ (a : j .board .places ≡ 0 → ⊥) (places : ℕ) (are : places ≡ placesOf (j .board)) where
+  module _ (a : j .board .places ≡ 0 → ⊥) (places : ℕ) (are-places : places ≡ placesOf (j .board)) where
     pub locate-11 : places ≤ p → refusedFor 11 ≡ spotOf j p w
     unfolding spotOf
-    locate-11 b = rw (ne-eqb _ _ a, ← are, le-leb _ _ b)
+    locate-11 b = rw (ne-eqb _ _ a, ← are-places, le-leb _ _ b)
 
     pub locate-12 : p < places → 65536 < length w → refusedFor 12 ≡ spotOf j p w
     unfolding spotOf
-    locate-12 b c = rw (ne-eqb _ _ a, ← are, lt-leb _ _ b, lt-ltb _ _ c)
+    locate-12 b c = rw (ne-eqb _ _ a, ← are-places, lt-leb _ _ b, lt-ltb _ _ c)
 
     pub located : p < places → length w ≤ 65536 → (gap : Bool) → gap ≡ anyBelow (isEmpty (j .board)) p
         → (from : ℕ) → from ≡ joinUpTo (j .board .ends) (j .built .delegates) (j .built .n) (j .built .initials) p
-        → (s : Spot) → s ≡ inChunk w (textSpot (j .built .sets) (j .built .next) (j .built .singles) (j .built .delegates) (j .built .n) (j .built .k) gap from (textOf w))
+        → (starts : ℕ) → starts ≡ delegateMask (j .built .delegates) (j .built .n) from
+        → (live : ℕ) → live ≡ liveSet (j .built .delegates) (min (j .built .n) 32)
+        → (cut : List ℕ) → cut ≡ pruned (j .built .sets) (j .built .next) live (j .built .setcount)
+        → (s : Spot) → s ≡ inChunk w (textSpot (j .built .sets) cut (j .built .singles) starts (j .built .k) gap (textOf w))
         → s ≡ spotOf j p w
     unfolding spotOf textSpot
-    located b c gap is from joined s e =
-        rw (ne-eqb _ _ a, ← are, lt-leb _ _ b, le-ltb _ _ c, ← is, ← joined) (e ∙ by-number w (foreign (textOf w) (j .built .k)) gap _)
+    located within c gap is from joined starts are live lives cut cuts s e =
+        let b = j .built in
+        let found : Spot = foundBy (runsOf (b .sets) cut (b .singles) starts (textOf w)) in
+        let same : found ≡ spotIn b (joinUpTo (j .board .ends) (b .delegates) (b .n) (b .initials) p) (textOf w) =
+        ap₂ (λ (x : List ℕ) (y : ℕ). foundBy (runsOf (b .sets) x (b .singles) y (textOf w)))
+        (cuts ∙ ap (λ (x : ℕ). pruned (b .sets) (b .next) x (b .setcount)) lives)
+        (are ∙ ap (delegateMask (b .delegates) (b .n)) joined) in
+        rw (ne-eqb _ _ a, ← are-places, lt-leb _ _ within, le-ltb _ _ c, ← is)
+        (e ∙ by-number w (foreign (textOf w) (b .k)) gap found ∙ ap (λ (x : Spot). spotBy (cond (foreign (textOf w) (b .k)) (some 13) (cond gap (some 23) none)) (inChunk w x)) same)

@@ -10,9 +10,10 @@
 --   someLeft ends            some end set is not empty
 --   foundBy x                what the runs x over a text say: where none is left, the bytes for which
 --                            they looked a successor up
---   spotIn .. m t            the same for the runs over the text t, by the pruned table, from the
---                            delegates of the set m: in bytes of the text
---   textSpot .. k gap m t    13 and 23 before it: gap says whether a place before is empty
+--   textSpot .. k gap t      the same for the runs over the text t, in bytes of it, with 13 and 23
+--                            before it: gap says whether a place before is empty
+--   cutOf b                  the pruned table of the built rule b
+--   spotIn b m t             what the runs over it say, from the delegates of the set m
 --   inChunk w s              the same in bytes of the chunk w, idle marks counted
 --   locateConditions         21, 11, 12, 13, 23
 --   spotOf j p w             what is answered on the state j for the chunk w at place p
@@ -25,6 +26,7 @@ use lib.ListN.{length, getD}
 use Rattle.limits.specs.Limits.{mostStates, longestChunk}
 use Rattle.base.specs.Conditions.{Condition, on, firstOf, anyBelow}
 use Rattle.marks.specs.Marks.{textOf}
+use Rattle.build.specs.declared.Built.{Built}
 use Rattle.chunks.specs.declared.Runs.{Runs}
 use Rattle.chunks.specs.Chunks.{foreign}
 use Rattle.chunks.specs.Walks.{runsOf, delegateMask}
@@ -53,12 +55,14 @@ someLeft ends = anyBelow (λ q. ltb 0 (getD ends q 0)) mostStates
 abbrev pub foundBy : Runs → Spot
 foundBy x = cond (someLeft (x .ends)) nowhere (stuckAfter (x .looked))
 
-module _ (sets next singles d : List ℕ) (n : ℕ) where
-  abbrev pub spotIn : ℕ → List ℕ → Spot
-  spotIn m t = foundBy (runsOf sets (pruned sets next (liveSet d (min n mostStates))) singles (delegateMask d n m) t)
+unfoldable pub textSpot : List ℕ → List ℕ → List ℕ → ℕ → ℕ → Bool → List ℕ → Spot
+textSpot sets next singles run k gap t = cond (foreign t k) (refusedFor 13) (cond gap (refusedFor 23) (foundBy (runsOf sets next singles run t)))
 
-  unfoldable pub textSpot : ℕ → Bool → ℕ → List ℕ → Spot
-  textSpot k gap m t = cond (foreign t k) (refusedFor 13) (cond gap (refusedFor 23) (spotIn m t))
+abbrev pub cutOf : Built → List ℕ
+cutOf b = pruned (b .sets) (b .next) (liveSet (b .delegates) (min (b .n) mostStates)) (b .setcount)
+
+abbrev pub spotIn : Built → ℕ → List ℕ → Spot
+spotIn b m t = foundBy (runsOf (b .sets) (cutOf b) (b .singles) (delegateMask (b .delegates) (b .n) m) t)
 
 abbrev pub inChunk : List ℕ → Spot → Spot
 inChunk w (refusedFor x) = refusedFor x
@@ -80,7 +84,4 @@ spotBy (some number) s = refusedFor number
 unfoldable pub spotOf : Judge → ℕ → List ℕ → Spot
 spotOf j p w =
     spotBy (firstOf (locateConditions (lacksBoard j) (placesOf (j .board)) p w (j .built .k) (anyBelow (isEmpty (j .board)) p)))
-    (inChunk w
-    (spotIn (j .built .sets) (j .built .next) (j .built .singles) (j .built .delegates) (j .built .n)
-    (joinUpTo (j .board .ends) (j .built .delegates) (j .built .n) (j .built .initials) p)
-    (textOf w)))
+    (inChunk w (spotIn (j .built) (joinUpTo (j .board .ends) (j .built .delegates) (j .built .n) (j .built .initials) p) (textOf w)))

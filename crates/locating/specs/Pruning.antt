@@ -4,14 +4,15 @@
 --
 --   liveSet d n            the states below n that have a delegate, as a set
 --   keptCell sets live c   the cell c where its set has a state of `live`, else the empty set
---   pruned sets next live  the table whose cells are kept so
+--   pruned sets next live count   the table whose cells are kept so in the rows of the first sets, so
+--                          many as count says; the others are empty
 use mathlib.Core.Bool.{cond}
 use mathlib.Core.List.{List}
-use Prim.Native.Nat.{ℕ, zero, suc}
+use Prim.Native.Nat.{ℕ, zero, suc, _*_}
 use lib.Bits.{bitOr}
 use lib.Dec.{ltb}
 use lib.ListN.{getD}
-use Rattle.limits.specs.Limits.{mostStates, emptySet, tableCells}
+use Rattle.limits.specs.Limits.{mostStates, mostSymbols, emptySet, tableCells}
 use Rattle.base.specs.Lists.{listFrom}
 use Rattle.masks.specs.Masks.{single, shares}
 use Rattle.chunks.specs.Walks.{maskOf}
@@ -23,5 +24,5 @@ liveSet d (suc q) = bitOr (liveSet d q) (cond (ltb (getD d q 0) mostStates) (sin
 abbrev pub keptCell : List ℕ → ℕ → ℕ → ℕ
 keptCell sets live c = cond (shares (maskOf sets c) live) c emptySet
 
-abbrev pub pruned : List ℕ → List ℕ → ℕ → List ℕ
-pruned sets next live = listFrom 0 tableCells (λ i. keptCell sets live (getD next i 0))
+abbrev pub pruned : List ℕ → List ℕ → ℕ → ℕ → List ℕ
+pruned sets next live count = listFrom 0 tableCells (λ i. cond (ltb i (count * mostSymbols)) (keptCell sets live (getD next i 0)) emptySet)

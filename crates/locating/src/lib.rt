@@ -1,18 +1,18 @@
 // After how many bytes of a chunk a trace is lost, where the chunk is handed over once more. Nothing
 // is changed.
 ghost use mathlib.Core.Path.{_≡_};
-ghost use Prim.Native.Nat.{_≤_, min};
+ghost use Prim.Native.Nat.{_*_, _≤_, min};
 ghost use lib.Dec.{eqb};
 ghost use lib.ListN.{length, getD};
-ghost use Rattle.limits.specs.Limits.{mostStates, mostPlaces, longestChunk};
+ghost use Rattle.limits.specs.Limits.{mostStates, mostSymbols, tableCells, mostPlaces, longestChunk};
 ghost use Rattle.base.specs.Conditions.{anyBelow};
 ghost use Rattle.marks.specs.Marks.{textOf};
-ghost use Rattle.chunks.specs.Walks.{maskOf};
 ghost use Rattle.locating.specs.Positions.{positionOf};
 ghost use Rattle.locating.specs.Pruning.{liveSet, keptCell, pruned};
-ghost use Rattle.locating.specs.Locating.{locatedMeans, someLeft, spotIn, textSpot, inChunk, spotOf};
+ghost use Rattle.locating.specs.Locating.{locatedMeans, someLeft, textSpot, inChunk, spotOf};
 use calls::Judge;
 use masks::StateNumber;
+use subsets::SetNumber;
 
 // The least number of bytes of the chunk, idle marks counted, after which nothing can follow, or that
 // there is none.
@@ -39,22 +39,26 @@ fn live_mask(delegates: [u8; limits::STATES], n: u8) -> u32
     live
 }
 
-// The mask of the set, which is empty from 512 on.
-fn mask_of(sets: &[u32; limits::SETS], set: u16) -> u32
-    ensures { λ r. ⌜ r ≡ maskOf (now (sets .entry)) set ⌝ }
-{
-    let i = set as usize;
-    if i < limits::SETS { sets[i] } else { 0 }
-}
-
 // The set that a cell names, where it has a live state; else the empty set.
 fn kept_cell(sets: &[u32; limits::SETS], live: u32, cell: u16) -> u16
     ensures { λ r. ⌜ r ≡ keptCell (now (sets .entry)) live cell ⌝ }
 {
-    if masks::meets(mask_of(sets, cell), live) {
+    if masks::meets(chunks::mask_of(sets, SetNumber(cell)), live) {
         cell
     } else {
         limits::EMPTY
+    }
+}
+
+// The cells of the table that the rows of so many sets have.
+fn cells_of(count: u16) -> usize
+    ensures { λ r. ⌜ r ≡ min (count * mostSymbols) tableCells ⌝ }
+{
+    let cells = (count as usize) * limits::SYMBOLS;
+    if cells < limits::CELLS {
+        cells
+    } else {
+        limits::CELLS
     }
 }
 
@@ -64,12 +68,14 @@ fn prune<'a>(
     sets: &'a [u32; limits::SETS],
     next: &'a [u16; limits::CELLS],
     live: u32,
+    count: u16,
 ) -> [u16; limits::CELLS]
-    ensures { λ r. ⌜ r ≡ pruned (now (sets .entry)) (now (next .entry)) live ⌝ }
+    ensures { λ r. ⌜ r ≡ pruned (now (sets .entry)) (now (next .entry)) live count ⌝ }
 {
+    let end = cells_of(count);
     let mut out = [limits::EMPTY; limits::CELLS];
     let mut c: usize = 0;
-    while c < limits::CELLS {
+    while c < end {
         out[c] = kept_cell(sets, live, next[c]);
         c += 1;
     }
@@ -90,43 +96,18 @@ fn some_left(ends: [u32; limits::STATES]) -> bool
     false
 }
 
-// Over the text, from the delegates of the set's members: the bytes of the text.
-fn find_spot<'a>(
-    sets: &'a [u32; limits::SETS],
-    next: &'a [u16; limits::CELLS],
-    singles: &'a [u16; limits::STATES],
-    delegates: [u8; limits::STATES],
-    n: u8,
-    from: u32,
-    text: &[u8],
-) -> Located
-    requires { ⌜ length (now text) ≤ longestChunk ⌝ }
-    ensures { λ r. ⌜ locatedMeans r ≡ spotIn (now (sets .entry)) (now (next .entry)) (now (singles .entry)) delegates n from (now (text .entry)) ⌝ }
-{
-    let cut = prune(sets, next, live_mask(delegates, n));
-    let starts = chunks::delegate_mask(delegates, n, from);
-    let runs = chunks::run_chunk(sets, &cut, singles, starts, text);
-    let ends = runs.ends;
-    if some_left(ends) {
-        return Located::Nowhere;
-    }
-    Located::After(runs.looked)
-}
-
-// The same where each byte of the text is below k and no place before is empty.
+// What the runs over the text say, in bytes of it, where each is below k and no place before is empty.
 fn locate_text<'a>(
     sets: &'a [u32; limits::SETS],
     next: &'a [u16; limits::CELLS],
     singles: &'a [u16; limits::STATES],
-    delegates: [u8; limits::STATES],
-    n: u8,
+    starts: u32,
     k: u8,
     gap: bool,
-    from: u32,
     text: &[u8],
 ) -> Located
     requires { ⌜ length (now text) ≤ longestChunk ⌝ }
-    ensures { λ r. ⌜ locatedMeans r ≡ textSpot (now (sets .entry)) (now (next .entry)) (now (singles .entry)) delegates n k gap from (now (text .entry)) ⌝ }
+    ensures { λ r. ⌜ locatedMeans r ≡ textSpot (now (sets .entry)) (now (next .entry)) (now (singles .entry)) starts k gap (now (text .entry)) ⌝ }
 {
     if chunks::has_foreign(text, k) {
         return Located::Refused(13);
@@ -134,7 +115,12 @@ fn locate_text<'a>(
     if gap {
         return Located::Refused(23);
     }
-    find_spot(sets, next, singles, delegates, n, from, text)
+    let runs = chunks::run_chunk(sets, next, singles, starts, text);
+    let ends = runs.ends;
+    if some_left(ends) {
+        return Located::Nowhere;
+    }
+    Located::After(runs.looked)
 }
 
 // How many bytes of the chunk, idle marks counted, hold so many bytes of its text.
@@ -156,7 +142,7 @@ fn position(chunk: &[u8], bytes: u32) -> u32
     i as u32
 }
 
-// The same where the bytes of the chunk are counted and not those of its text.
+// What was found in the text, in bytes of the chunk.
 fn in_chunk(found: Located, chunk: &[u8]) -> Located
     requires { ⌜ length (now chunk) ≤ longestChunk ⌝ }
     ensures { λ r. ⌜ locatedMeans r ≡ inChunk (now (chunk .entry)) (locatedMeans found) ⌝ }
@@ -173,29 +159,17 @@ fn locate_marked<'a>(
     sets: &'a [u32; limits::SETS],
     next: &'a [u16; limits::CELLS],
     singles: &'a [u16; limits::STATES],
-    delegates: [u8; limits::STATES],
-    n: u8,
+    starts: u32,
     k: u8,
     gap: bool,
-    from: u32,
     chunk: &[u8],
 ) -> Located
     requires { ⌜ length (now chunk) ≤ longestChunk ⌝ }
-    ensures { λ r. ⌜ locatedMeans r ≡ inChunk (now (chunk .entry)) (textSpot (now (sets .entry)) (now (next .entry)) (now (singles .entry)) delegates n k gap from (textOf (now (chunk .entry)))) ⌝ }
+    ensures { λ r. ⌜ locatedMeans r ≡ inChunk (now (chunk .entry)) (textSpot (now (sets .entry)) (now (next .entry)) (now (singles .entry)) starts k gap (textOf (now (chunk .entry)))) ⌝ }
 {
     let mut buffer = [0u8; limits::CHUNK];
     let len = marks::pack(chunk, &mut buffer);
-    let found = locate_text(
-        sets,
-        next,
-        singles,
-        delegates,
-        n,
-        k,
-        gap,
-        from,
-        &buffer[..len],
-    );
+    let found = locate_text(sets, next, singles, starts, k, gap, &buffer[..len]);
     in_chunk(found, chunk)
 }
 
@@ -204,20 +178,18 @@ fn locate_chunk<'a>(
     sets: &'a [u32; limits::SETS],
     next: &'a [u16; limits::CELLS],
     singles: &'a [u16; limits::STATES],
-    delegates: [u8; limits::STATES],
-    n: u8,
+    starts: u32,
     k: u8,
     gap: bool,
-    from: u32,
     chunk: &[u8],
 ) -> Located
     requires { ⌜ length (now chunk) ≤ longestChunk ⌝ }
-    ensures { λ r. ⌜ locatedMeans r ≡ inChunk (now (chunk .entry)) (textSpot (now (sets .entry)) (now (next .entry)) (now (singles .entry)) delegates n k gap from (textOf (now (chunk .entry)))) ⌝ }
+    ensures { λ r. ⌜ locatedMeans r ≡ inChunk (now (chunk .entry)) (textSpot (now (sets .entry)) (now (next .entry)) (now (singles .entry)) starts k gap (textOf (now (chunk .entry)))) ⌝ }
 {
     if marks::has_marks(chunk) {
-        return locate_marked(sets, next, singles, delegates, n, k, gap, from, chunk);
+        return locate_marked(sets, next, singles, starts, k, gap, chunk);
     }
-    locate_text(sets, next, singles, delegates, n, k, gap, from, chunk)
+    locate_text(sets, next, singles, starts, k, gap, chunk)
 }
 
 // Whether one of the first places is empty.
@@ -258,15 +230,21 @@ pub fn locate(judge: Judge, place: usize, chunk: &[u8]) -> Located
         judge.built.initials,
         place,
     );
-    locate_chunk(
+    let starts = chunks::delegate_mask(delegates, n, from);
+    let live = live_mask(delegates, n);
+    let cut = prune(
         &judge.built.sets,
         &judge.built.next,
+        live,
+        judge.built.setcount,
+    );
+    locate_chunk(
+        &judge.built.sets,
+        &cut,
         &judge.built.singles,
-        delegates,
-        n,
+        starts,
         judge.built.k,
         gap,
-        from,
         chunk,
     )
 }

@@ -16,13 +16,12 @@ use lib.Dec.{eqb, ltb}
 use lib.ListN.{length, getD, take}
 use lib.Pow.{pow-lt}
 use borrow.Author.Tests.{lt-ltb, ltb-true, ltb-false, eqb-true, eqb-false}
-use Rattle.base.specs.Totals.{greatest}
 use Rattle.base.proofs.Conditions.{any-found, none-at}
 use Rattle.base.proofs.Lists.{cell-of}
 use Rattle.base.proofs.Tests.{by-test, not-both}
 use Rattle.base.proofs.Totals.{greatest-most, term-greatest}
 use Rattle.masks.specs.Masks.{_∈_, has, single, shares}
-use Rattle.masks.proofs.Laws.{no-member, has-member, member-of, members-below, single-law, shares-law}
+use Rattle.masks.proofs.Laws.{no-member, has-member, member-of, members-below, shares-law}
 use Rattle.automaton.specs.declared.Rule.{Rule}
 use Rattle.automaton.specs.Automaton.{Text}
 use Rattle.automaton.specs.Rules.{automatonOf, WellFormed}
@@ -123,7 +122,7 @@ module _ (r : Rule) (good : WellFormed r) (fit : fits r) where
   table = nextCells (r .targets) (r .n) (r .k)
 
   abbrev pub cut : List ℕ
-  cut = pruned masks table lives
+  cut = pruned masks table lives (length (sets r))
 
   few : length (sets r) ≤ 512
   unfolding tooMany
@@ -145,7 +144,7 @@ module _ (r : Rule) (good : WellFormed r) (fit : fits r) where
   step-is i s h l =
       let low : s % 16 ≡ s = omega (arith, l, good .symbols) in
       ap (follow cut i) low
-      ∙ pruned-step masks table lives i s (omega (arith, h, few)) (omega (arith, l, good .symbols))
+      ∙ pruned-step masks table lives (length (sets r)) i s (omega (arith, h, few)) h (omega (arith, l, good .symbols))
       ∙ ap (λ (m : ℕ). cond (shares m lives) (follow table i s) 512) (mask-is i s h l)
 
   -- ---- a walk over it

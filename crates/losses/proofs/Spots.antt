@@ -1,19 +1,19 @@
 -- specs/Spots.antt proved: which number it is refused with, that no idle mark is the byte by which a
 -- trace is lost, and a rule that accepts nothing; the rest is in Spotting.antt. Assumes nothing.
 use mathlib.Core.Path.{_≡_, refl, sym, ap, _∙_, subst}
-use mathlib.Core.Logic.{_↔_, _⊎_, inl, inr, ⊎-elim}
+use mathlib.Core.Logic.{_↔_, _⊎_, inl, inr}
 use mathlib.Core.Bool.{Bool, true, false}
 use mathlib.Core.List.{List, [], _∷_, _++_, append-nil}
 use mathlib.Core.Option.{none, some}
-use Prim.Native.Nat.{ℕ, suc, _≤_, _<_}
+use Prim.Native.Nat.{ℕ, suc, _<_}
 use native.Mathlib.Omega.{arith}
 use lib.Dec.{eqb, ltb, leb}
 use lib.ListN.{length, getD, take}
 use lib.Seq.{take-suc}
-use borrow.Author.Tests.{eq-eqb, ne-eqb, eqb-true, eqb-false, lt-ltb, le-ltb, ltb-true, ltb-false, le-leb, lt-leb, leb-true, leb-false}
+use borrow.Author.Tests.{eq-eqb, ne-eqb, eqb-true, lt-ltb, le-ltb, ltb-true, ltb-false, le-leb, lt-leb, leb-true, leb-false}
 use Rattle.base.specs.Conditions.{Condition, on, firstOf, anyBelow}
 use Rattle.base.specs.Options.{isNone}
-use Rattle.base.proofs.Conditions.{any-at, none-at, any-found, none-all, passed, named, first-here, first-past, first-law, none-law}
+use Rattle.base.proofs.Conditions.{any-at, none-at, any-found, none-all, passed, named, first-here, first-past, first-law}
 use Rattle.base.proofs.Options.{is-none}
 use Rattle.base.proofs.Tests.{by-test, not-both}
 use Rattle.marks.specs.Marks.{textOf}
@@ -27,7 +27,7 @@ use Rattle.locating.specs.Locating.{refusedFor, stuckAfter, spotOf}
 use Rattle.histories.specs.History.{ruleIn, boardIn, placesIn, standing}
 use Rattle.histories.specs.Claims.{judgeAfter}
 use Rattle.histories.proofs.EveryList.{every-list}
-use Rattle.losses.specs.Losses.{Continued, textUpTo, FilledAt, AcceptsNothing}
+use Rattle.losses.specs.Losses.{Continued, textUpTo, AcceptsNothing}
 use Rattle.losses.specs.Spots.{spotNumber, textWith, StuckAfter, Refused-so, SpotClaims}
 use Rattle.losses.proofs.Spotting.{spot, lost-spot}
 

@@ -126,15 +126,12 @@ module _ (r : Rule) (places : ℕ) (at : ℕ → Option (List ℕ)) (last : ℕ 
     abbrev d : List ℕ
     d = startsIn r .delegates
 
-    spot-is : spotIn (j .built .sets) (j .built .next) (j .built .singles) (j .built .delegates) (j .built .n)
-        (joinUpTo (j .board .ends) (j .built .delegates) (j .built .n) (j .built .initials) p)
-        t
-        ≡ foundBy runs
+    spot-is : spotIn (j .built) (joinUpTo (j .board .ends) (j .built .delegates) (j .built .n) (j .built .initials) p) t ≡ foundBy runs
     spot-is =
         let e : min (r .n) 32 ≡ r .n = omega (arith, wf .states) in
         rw (holds .rule .0, n-same r wf fit)
         (ap foundBy
-        (ap₂ (λ (x : ℕ) (s : ℕ). runsOf (builtOf r .sets) (pruned (builtOf r .sets) (builtOf r .next) (liveSet d x)) (builtOf r .singles) s t)
+        (ap₂ (λ (x : ℕ) (s : ℕ). runsOf (builtOf r .sets) (pruned (builtOf r .sets) (builtOf r .next) (liveSet d x) (builtOf r .setcount)) (builtOf r .singles) s t)
         e
         (chunks.claims .delegate-mask d (r .n) (joinUpTo (j .board .ends) d (r .n) (r .initials) p) (wf .states .1)
         ∙ ap (delegateSet d (r .n)) (from-is p within))))
@@ -160,9 +157,7 @@ module _ (r : Rule) (places : ℕ) (at : ℕ → Option (List ℕ)) (last : ℕ 
     )
 
     says : TextSays (automatonOf r) (joinedUpTo at p) t
-        (spotIn (j .built .sets) (j .built .next) (j .built .singles) (j .built .delegates) (j .built .n)
-        (joinUpTo (j .board .ends) (j .built .delegates) (j .built .n) (j .built .initials) p)
-        t)
+        (spotIn (j .built) (joinUpTo (j .board .ends) (j .built .delegates) (j .built .n) (j .built .initials) p) t)
     says = subst (TextSays (automatonOf r) (joinedUpTo at p) t) (sym spot-is) (in-words (someLeft (runs .ends)) refl)
 
 -- ---- the number by the state is the number by the list
@@ -211,9 +206,7 @@ module _ (present : Option Rule) (places : ℕ) (at : ℕ → Option (List ℕ))
 says-by : (present : Option Rule) (places : ℕ) (at : ℕ → Option (List ℕ)) (last : ℕ → Option ℕ) (j : Judge) → Agrees present places at last j
     → (p : ℕ) → p < places → ((i : ℕ) → i < p → isNone (at i) ≡ false) → (t : List ℕ) → Text (ruleFrom present .k) t
     → TextSays (automatonOf (ruleFrom present)) (joinedUpTo at p) t
-    (spotIn (j .built .sets) (j .built .next) (j .built .singles) (j .built .delegates) (j .built .n)
-    (joinUpTo (j .board .ends) (j .built .delegates) (j .built .n) (j .built .initials) p)
-    t)
+    (spotIn (j .built) (joinUpTo (j .board .ends) (j .built .delegates) (j .built .n) (j .built .initials) p) t)
 says-by none places at last j holds p l full t text = not-both refl (holds .ruled (omega arith))
 says-by (some r) places at last j holds p l full t text = says r places at last j holds p l full t text
 
@@ -221,7 +214,7 @@ says-by (some r) places at last j holds p l full t text = says r places at last 
 module _ (h : List Call) (p : ℕ) (w : List ℕ) where
   abbrev answer : Spot
   answer =
-      spotIn (judgeAfter h .built .sets) (judgeAfter h .built .next) (judgeAfter h .built .singles) (judgeAfter h .built .delegates) (judgeAfter h .built .n)
+      spotIn (judgeAfter h .built)
       (joinUpTo (judgeAfter h .board .ends) (judgeAfter h .built .delegates) (judgeAfter h .built .n) (judgeAfter h .built .initials) p)
       (textOf w)
 

@@ -27,18 +27,31 @@ has-gap-requires c κs = search needs
 join-places-requires : tie.Need-join-places-requires
 join-places-requires c κs = search needs
 
+delegate-mask-requires : tie.Need-delegate-mask-requires
+delegate-mask-requires c κs = search needs
+
+live-mask-requires : tie.Need-live-mask-requires
+live-mask-requires c κs = search needs
+
+prune-requires : tie.Need-prune-requires
+prune-requires c κs = search needs
+
 locate-chunk-requires : tie.Need-locate-chunk-requires
 locate-chunk-requires c κs = search needs
 
 returns-4 : tie.Need-returns-4
 returns-4 c =
-    let joined = c .before .before .before .before .before in
+    let cut = c .before .before .before .before .before in
+    let live = cut .before .before .before .before in
+    let starts = live .before in
+    let joined = starts .before in
     let looked = joined .before .before .before .before .before in
     let short = looked .before .before .before in
     let within = short .before in
     let places = within .before in
     located _ _ _ (places .before .before .if1 .left) _ (places .places-of .ensures) (within .if2 .left) (short .if3 .left)
-    _ (looked .has-gap .ensures) _ (joined .join-places .ensures) _ (c .locate-chunk .ensures)
+    _ (looked .has-gap .ensures) _ (joined .join-places .ensures) _ (starts .delegate-mask .ensures)
+    _ (live .live-mask .ensures) _ (cut .prune .ensures) _ (c .locate-chunk .ensures)
 
 pub locate-spec : {M : Type 1} → statement M
 locate-spec =
@@ -50,5 +63,8 @@ locate-spec =
     returns-3
     has-gap-requires
     join-places-requires
+    delegate-mask-requires
+    live-mask-requires
+    prune-requires
     locate-chunk-requires
     returns-4)

@@ -20,7 +20,7 @@ locate-text-requires c κs = search needs
 returns-2 : tie.Need-returns-2
 returns-2 c =
     c .locate-text .ensures
-    ∙ unmarked-text _ _ _ _ _ _ _ _ _ (sym (c .before .before .has-marks .ensures) ∙ c .before .if1 .left)
+    ∙ unmarked-text _ _ _ _ _ _ _ (sym (c .before .before .has-marks .ensures) ∙ c .before .if1 .left)
 
 pub locate-chunk-spec : {M : Type 1} → statement M
 locate-chunk-spec =

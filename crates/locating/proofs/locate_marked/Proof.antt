@@ -46,7 +46,7 @@ in-chunk-requires c κs = search needs
 returns : tie.Need-returns
 returns c =
     let a = c .before .before .before .before .before .before .before .args in
-    marked-found _ _ _ (textSpot (a .sets .now) (a .next .now) (a .singles .now) (a .delegates) (a .n) (a .k) (a .gap) (a .from) (textOf (a .chunk .now)))
+    marked-found _ _ _ (textSpot (a .sets .now) (a .next .now) (a .singles .now) (a .starts) (a .k) (a .gap) (textOf (a .chunk .now)))
     (c .in-chunk .ensures)
     (c .before .locate-text .ensures ∙ rw (taken (c .before .before .before .before .pack .ensures)))
 

@@ -1,10 +1,9 @@
 -- `position` meets its contract: what is passed and what is left to pass make the whole. Assumes
 -- nothing.
-use mathlib.Core.Path.{_≡_, refl, sym, ap, _∙_}
+use mathlib.Core.Path.{_≡_, sym, ap, _∙_}
 use mathlib.Core.Logic.{⊎-elim}
 use Prim.Native.Nat.{ℕ, _+_, _-_, _≤_}
 use native.Mathlib.Omega.{arith}
-use borrow.Author.Needs.{needs}
 use lib.ListN.{length, drop}
 use Rattle.locating.specs.Positions.{positionOf}
 use Rattle.locating.proofs.Positions.{found-here, at-end, past-mark, past-byte}

@@ -1,23 +1,27 @@
--- `prune` meets its contract: each cell below c is kept as it must be. Assumes nothing.
-use mathlib.Core.Path.{_≡_, _∙_}
-use Prim.Native.Nat.{ℕ, _-_, _≤_, _<_}
+-- `prune` meets its contract: each cell below c is kept as it must be, and the others are empty.
+-- Assumes nothing.
+use Prim.Native.Nat.{ℕ, _-_, _≤_}
 use native.Mathlib.Omega.{arith}
 use borrow.Author.Needs.{needs}
-use lib.ListN.{length, getD, length-set, length-replicate}
-use Rattle.base.proofs.Lists.{is-listFrom, cell-stored}
-use Rattle.locating.specs.Pruning.{keptCell}
+use lib.ListN.{length-replicate, getD-replicate}
+use Rattle.locating.proofs.Pruning.{Kept, one-kept, all-kept}
 use Rattle.locating.proofs.prune.Statement.{statement}
 use Rattle.locating.proofs.prune.Tie as tie
 
 abbrev Inv-loop : tie.InvT-loop
-Inv-loop sets next live out₀ c₀ out c =
-    (c ≤ 8192) × (length out ≡ 8192) × ((p : ℕ) → p < c → getD out p 0 ≡ keptCell sets live (getD next p 0))
+Inv-loop sets next live count end out₀ c₀ out c = (c ≤ end) × Kept sets next live c out
 
 abbrev μ-loop : tie.MeasureT-loop
-μ-loop sets next live out₀ c₀ out c = 8192 - c
+μ-loop sets next live count end out₀ c₀ out c = end - c
+
+cells-of-requires : tie.Need-cells-of-requires Inv-loop μ-loop
+cells-of-requires c κs = search needs
 
 loop-holds : tie.Need-loop-holds Inv-loop μ-loop
-loop-holds c = (omega arith, length-replicate {A = ℕ} 8192 512, λ p h. absurd (omega arith))
+loop-holds c = (
+  omega arith,
+  record { size = length-replicate {A = ℕ} 8192 512; below = λ p h. absurd (omega arith); rest = λ p a b. getD-replicate {A = ℕ} 8192 p 512 0 b },
+)
 
 mul-kept-cell : tie.Need-mul-kept-cell Inv-loop μ-loop
 mul-kept-cell c = search needs
@@ -43,18 +47,16 @@ loop-less c = search needs
 loop-again : tie.Need-loop-again Inv-loop μ-loop
 loop-again c =
     let l = c .before .before .before .loop in
-    let a = c .before .before .before .before .args in
-    let v = c .kept-cell in (
-      omega arith,
-      length-set (l .out) (l .c) (v .result) ∙ l .inv .1,
-      cell-stored (l .out) (λ p. keptCell (a .sets .now) (a .live) (getD (a .next .now) p 0)) (l .c) (v .result) (omega (arith, l .inv .1)) (v .ensures) (l .inv .2),
-    )
+    let a = c .before .before .before .before .before .args in
+    let v = c .kept-cell in
+    let k = one-kept (a .sets .now) (a .next .now) (a .live) (l .c) (l .out) (l .inv .1) (omega arith) (v .result) (v .ensures) in
+    (omega arith, record { size = k .0; below = k .1; rest = k .2 })
 
 returns : tie.Need-returns Inv-loop μ-loop
 returns c =
     let l = c .before .loop in
-    let a = c .before .before .args in
-    is-listFrom (l .out) 8192 (λ p. keptCell (a .sets .now) (a .live) (getD (a .next .now) p 0)) (l .inv .1) (λ p h. l .inv .2 p (omega arith))
+    let a = c .before .before .before .args in
+    all-kept (a .sets .now) (a .next .now) (a .live) (l .c) (l .out) (l .inv .1) (a .count) (omega arith)
 
 pub prune-spec : {M : Type 1} → statement M
 prune-spec =
@@ -62,6 +64,7 @@ prune-spec =
     (tie.spec
     Inv-loop
     μ-loop
+    cells-of-requires
     loop-holds
     mul-kept-cell
     element-copy-out-kept-cell
