@@ -1,4 +1,4 @@
-/* The valve trace judge, for x86-64. Link target/lib/libbellbadger.a, which outside/build makes.
+/* The valve trace judge, for x86-64, from C99 or C++11 on. Link target/lib/libbellbadger.a, which outside/build makes.
  *
  * The caller keeps the judge and hands it in by value; each call that may change it hands the next
  * one back. A refused call hands back the judge that came: look at `accepted` after every call. Any

@@ -116,7 +116,7 @@ use Rattle.stream.specs.Texts.{callLines, rightText}
 use Rattle.stream.proofs.Claimed as stream
 use Rattle.fields.specs.Claims.{AllBytes, fieldOf}
 use Rattle.calltext.specs.Meaning.{malformed, load-word, lineIn}
-use Rattle.calltext.specs.Answers.{unread, responseText}
+use Rattle.answers.specs.Answers.{malformedText}
 use Rattle.replay.specs.Records.{calls, readLine, recordIn, replayOf}
 use Rattle.replay.specs.Claims.{AllFit, recordOf}
 use Rattle.replay.proofs.RoundTrip as replay
@@ -386,11 +386,11 @@ texts-written = stream.claims .written
 -- After a malformed line no call is made and no verdict given until an empty line: each line is
 -- answered `skipped`, whatever it says. The empty line begins afresh.
 pub malformed-ends : (h : List Call) (l : List ℕ) (ls : List (List ℕ)) → lineIn l ≡ malformed → NoneEmpty ls
-    → rightText (some h) (l ∷ ls) ≡ responseText unread ++ skippedLines ls
+    → rightText (some h) (l ∷ ls) ≡ malformedText ++ skippedLines ls
 malformed-ends = stream.claims .ends-list
 
 pub begins-afresh : (h : List Call) (l : List ℕ) (ls more : List (List ℕ)) → lineIn l ≡ malformed → NoneEmpty ls
-    → rightText (some h) ((l ∷ ls) ++ ([] ∷ more)) ≡ responseText unread ++ (skippedLines ls ++ ((10 ∷ []) ++ rightText (some []) more))
+    → rightText (some h) ((l ∷ ls) ++ ([] ∷ more)) ≡ malformedText ++ (skippedLines ls ++ ((10 ∷ []) ++ rightText (some []) more))
 begins-afresh = stream.claims .afresh
 
 -- What C is given for a recorded list, of which nothing is asked, is the verdict after it, or its

@@ -141,7 +141,9 @@ fn run(line: &mut [u8], bytes: &mut [u8], out: &mut [u8], block: &mut [u8])
 }
 
 fn main() {
-    if stdio::has_arguments(b"usage: mapjudge < CALLS   (takes no arguments; see docs/MAPPINGS.md)\n") {
+    if stdio::has_arguments(
+        b"usage: mapjudge < CALLS   (takes no arguments; see docs/MAPPINGS.md)\n",
+    ) {
         return;
     }
     let mut line = [0u8; mapstream::LINE];

@@ -5,17 +5,20 @@ use mathlib.Core.List.{List, [], _∷_, _++_, flatten}
 use mathlib.Core.Option.{Option, none, some}
 use Prim.Native.Nat.{ℕ}
 use Rattle.executions.specs.Executions.{stateAfter}
-use Rattle.lines.specs.Splitting.{linesOf}
+use Rattle.fields.specs.Bytes.{hexValue, allHex, parseBytes}
+use Rattle.lines.specs.Splitting.{begins, linesFrom, linesOf}
 use Rattle.answers.specs.Answers.{malformedText}
-use Rattle.linetexts.specs.Lists.{listOf, skippedLines}
+use Rattle.linetexts.specs.Lists.{listOf, listText, skippedLines}
 use Rattle.linetexts.specs.Claims.{linesStep}
 use Rattle.linetexts.proofs.Lists.{Agrees, Follows, lists-right, ends-list as ends}
 use Rattle.linetexts.proofs.Claimed as linetexts
 use Rattle.mapcalls.specs.Calls.{Call, noneYet, mapMachine, replyOf, nextOf}
+use Rattle.mapcalls.specs.Histories.{lastBuilt, rightReply}
 use Rattle.mapcalls.proofs.Histories as mapcalls
-use Rattle.maplines.specs.Lines.{lineIn}
+use Rattle.maplines.specs.Lines.{askIn, lineIn}
 use Rattle.mapreplies.specs.Replies.{replyText}
 use Rattle.maplines.specs.Answers.{answerTo}
+use Rattle.mapstream.specs.Worked.{cutText, cutAnswers}
 use Rattle.mapstream.specs.Texts.{stepOf, mapList, mapLines, historyAfter, rightReplyTo, rightAnswer, callsAfter, rightText}
 use Rattle.mapstream.specs.Claims.{Claims}
 use Rattle.mapstream.proofs.Long.{told}
@@ -41,6 +44,10 @@ right : (ls : List (List ℕ)) → linesStep mapLines (listOf noneYet false) ls 
 unfolding stateAfter
 right ls = lists-right mapList (stateAfter mapMachine) [] rightAnswer callsAfter follows ls (listOf noneYet false) (some []) refl
 
+worked : rightText (some []) (linesOf cutText) ≡ cutAnswers
+unfolding listText linesFrom lineIn askIn begins rightReply lastBuilt parseBytes allHex hexValue
+worked = refl
+
 -- what a malformed line is answered
 said : (h : List Call) (l : List ℕ) → lineIn l ≡ none → rightAnswer h l ≡ malformedText
 said h l e = ap (rightReplyTo h) e
@@ -53,6 +60,7 @@ claims = record {
   afresh = λ h l ls more e n.
       ends [] rightAnswer callsAfter .afresh h l ls more (ap (historyAfter h) e) n
       ∙ ap (λ (t : List ℕ). t ++ (skippedLines ls ++ ((10 ∷ []) ++ rightText (some []) more))) (said h l e);
+  worked = worked;
   written = λ {room} {s′} {blocks} {line} {text} large b.
       linetexts.claims mapLines told .written large b ∙ right (linesOf (flatten blocks));
 }

@@ -64,7 +64,7 @@ use Rattle.trayhistories.proofs.Examples as tray-examples
 use Rattle.traystream.specs.Texts.{trayRoom, trayLines, rightText}
 use Rattle.traystream.proofs.Claimed as traystream
 use Rattle.traytext.specs.Lines.{malformed, lineIn}
-use Rattle.traytext.specs.Answers.{unread, responseText}
+use Rattle.answers.specs.Answers.{malformedText}
 use Rattle.c_trays.specs.declared.InstallNumbers.{InstallNumbers}
 use Rattle.c_trays.specs.declared.CallNumbers.{CallNumbers}
 use Rattle.c_trays.specs.declared.VerdictNumbers.{VerdictNumbers}
@@ -281,9 +281,9 @@ lines-written = traystream.claims .written
 -- After a malformed line no call is made and no verdict given until an empty line: each line is
 -- answered `skipped`, whatever it says. The empty line begins afresh.
 pub malformed-ends : (h : List Call) (l : List ℕ) (ls : List (List ℕ)) → lineIn l ≡ malformed → NoneEmpty ls
-    → rightText (some h) (l ∷ ls) ≡ responseText unread ++ skippedLines ls
+    → rightText (some h) (l ∷ ls) ≡ malformedText ++ skippedLines ls
 malformed-ends = traystream.claims .ends-list
 
 pub begins-afresh : (h : List Call) (l : List ℕ) (ls more : List (List ℕ)) → lineIn l ≡ malformed → NoneEmpty ls
-    → rightText (some h) ((l ∷ ls) ++ ([] ∷ more)) ≡ responseText unread ++ (skippedLines ls ++ ((10 ∷ []) ++ rightText (some []) more))
+    → rightText (some h) ((l ∷ ls) ++ ([] ∷ more)) ≡ malformedText ++ (skippedLines ls ++ ((10 ∷ []) ++ rightText (some []) more))
 begins-afresh = traystream.claims .afresh

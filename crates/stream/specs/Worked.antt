@@ -4,7 +4,6 @@
 --   cutAnswers   `refused 21`, `malformed`, `skipped`, `skipped`, an empty line, `refused 21`
 use mathlib.Core.List.{List, [], _∷_, _++_}
 use Prim.Native.Nat.{ℕ}
-use Rattle.answers.specs.Answers.{malformedText, skippedText}
 use Rattle.calltext.specs.Meaning.{verdict-word}
 
 -- 10 is a line feed
@@ -20,5 +19,6 @@ cutText =
 abbrev pub cutAnswers : List ℕ
 cutAnswers =
     (114 ∷ 101 ∷ 102 ∷ 117 ∷ 115 ∷ 101 ∷ 100 ∷ 32 ∷ 50 ∷ 49 ∷ 10 ∷ [])
-    ++ malformedText ++ skippedText ++ skippedText
+    ++ (109 ∷ 97 ∷ 108 ∷ 102 ∷ 111 ∷ 114 ∷ 109 ∷ 101 ∷ 100 ∷ 10 ∷ [])
+    ++ (115 ∷ 107 ∷ 105 ∷ 112 ∷ 112 ∷ 101 ∷ 100 ∷ 10 ∷ 115 ∷ 107 ∷ 105 ∷ 112 ∷ 112 ∷ 101 ∷ 100 ∷ 10 ∷ [])
     ++ (10 ∷ 114 ∷ 101 ∷ 102 ∷ 117 ∷ 115 ∷ 101 ∷ 100 ∷ 32 ∷ 50 ∷ 49 ∷ 10 ∷ [])

@@ -140,7 +140,9 @@ fn run(line: &mut [u8], bytes: &mut [u8], out: &mut [u8], block: &mut [u8])
 }
 
 fn main() {
-    if stdio::has_arguments(b"usage: trayjudge < CALLS   (takes no arguments; see docs/PROGRAMS.md)\n") {
+    if stdio::has_arguments(
+        b"usage: trayjudge < CALLS   (takes no arguments; see docs/PROGRAMS.md)\n",
+    ) {
         return;
     }
     let mut line = [0u8; traystream::LINE];

@@ -1,19 +1,26 @@
 -- The claims of specs/Claims.antt. Assumes nothing.
-use mathlib.Core.Path.{_≡_, ap, _∙_}
+use mathlib.Core.Path.{_≡_, refl, ap, _∙_}
 use mathlib.Core.List.{List, [], _∷_, _++_, flatten}
 use mathlib.Core.Option.{some}
 use Prim.Native.Nat.{ℕ}
-use Rattle.lines.specs.Splitting.{linesOf}
-use Rattle.traytext.specs.Lines.{Meaning, malformed, lineIn}
+use Rattle.text.specs.Numerals.{decimalBelow}
+use Rattle.lines.specs.Splitting.{begins, linesFrom, linesOf}
+use Rattle.traytext.specs.Lines.{Meaning, malformed, callIn, lineIn}
 use Rattle.traytext.specs.Answers.{unread, responseText}
 use Rattle.trays.specs.Calls.{Call}
-use Rattle.linetexts.specs.Lists.{skippedLines}
+use Rattle.linetexts.specs.Lists.{listText, skippedLines}
 use Rattle.linetexts.proofs.Lists.{ends-list as ends}
 use Rattle.linetexts.proofs.Claimed as linetexts
+use Rattle.trayhistories.specs.History.{boardThere}
+use Rattle.traystream.specs.Worked.{cutText, cutAnswers}
 use Rattle.traystream.specs.Texts.{trayLines, historyAfter, rightResponse, rightAnswer, callsAfter, rightText}
 use Rattle.traystream.specs.Claims.{Claims}
 use Rattle.traystream.proofs.Long.{told}
 use Rattle.traystream.proofs.Right.{right}
+
+worked : rightText (some []) (linesOf cutText) ≡ cutAnswers
+unfolding listText linesFrom callIn begins boardThere decimalBelow
+worked = refl
 
 -- what a malformed line is answered
 said : (h : List Call) (l : List ℕ) → lineIn l ≡ malformed → rightAnswer h l ≡ responseText unread
@@ -27,6 +34,7 @@ claims = record {
   afresh = λ h l ls more e n.
       ends [] rightAnswer callsAfter .afresh h l ls more (ap (historyAfter h) e) n
       ∙ ap (λ (t : List ℕ). t ++ (skippedLines ls ++ ((10 ∷ []) ++ rightText (some []) more))) (said h l e);
+  worked = worked;
   written = λ {room} {s′} {blocks} {line} {text} large b.
       linetexts.claims trayLines told .written large b ∙ right (linesOf (flatten blocks));
 }

@@ -17,6 +17,7 @@ use Rattle.trays.specs.Calls.{Call}
 use Rattle.trays.specs.Steps.{fresh}
 use Rattle.traytext.specs.Lines.{malformed, lineIn}
 use Rattle.traytext.specs.Answers.{unread, responseText}
+use Rattle.traystream.specs.Worked.{cutText, cutAnswers}
 use Rattle.traystream.specs.Texts.{trayRoom, trayLines, rightText}
 
 pub record Claims : Type 0 where
@@ -32,6 +33,7 @@ pub record Claims : Type 0 where
       → rightText (some h) (l ∷ ls) ≡ responseText unread ++ skippedLines ls
   pub afresh : (h : List Call) (l : List ℕ) (ls more : List (List ℕ)) → lineIn l ≡ malformed → NoneEmpty ls
       → rightText (some h) ((l ∷ ls) ++ ([] ∷ more)) ≡ responseText unread ++ (skippedLines ls ++ ((10 ∷ []) ++ rightText (some []) more))
+  pub worked : rightText (some []) (linesOf cutText) ≡ cutAnswers
   -- ALL THAT IS WRITTEN, round by round, block by block, and at the end, is right
   pub written : {room : ℕ} {s′ : State (Listed Tray)} {blocks : List (List ℕ)} {line text : List ℕ} → trayRoom + 1 ≤ length line
       → Blocks trayLines room (stateOf (listOf fresh false) lineBegin line) blocks s′ text
