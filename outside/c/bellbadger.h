@@ -20,6 +20,7 @@
  *   400 KB  bellbadger_replay
  *   230 KB  bellbadger_load, bellbadger_install
  *   210 KB  bellbadger_deliver
+ *   170 KB  bellbadger_locate
  *   140 KB  bellbadger_tray_install_row, bellbadger_tray_install_column
  *   120 KB  bellbadger_profile_run
  *   90 KB  any other function
@@ -36,7 +37,7 @@
  * Another major number or size: the two do not fit. A higher minor number of the library: it can
  * more than this header says. */
 #define BELLBADGER_VERSION_MAJOR 5
-#define BELLBADGER_VERSION_MINOR 0
+#define BELLBADGER_VERSION_MINOR 1
 #define BELLBADGER_VERSION (BELLBADGER_VERSION_MAJOR * 65536 + BELLBADGER_VERSION_MINOR)
 #define BELLBADGER_STATE_SIZE 27832 /* the bytes of a bellbadger_judge */
 
@@ -217,6 +218,7 @@ BELLBADGER_RESULT bellbadger_replay_result bellbadger_replay(const uint8_t *text
 }
 #endif
 
+#include "bellbadger_losses.h"
 #include "bellbadger_mappings.h"
 #include "bellbadger_samples.h"
 #include "bellbadger_patterns.h"

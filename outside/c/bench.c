@@ -67,6 +67,15 @@ static bellbadger_judge cycle(int n, int places) {
     return opened(n, 2, 1, to, places);
 }
 
+/* the same from every state, so that place 0 has all runs; a third symbol leads nowhere */
+static bellbadger_judge cycle_from_all(int n) {
+    bellbadger_checked_rule r = {.n = (uint8_t)n, .k = 3, .initials = UINT32_MAX >> (32 - n), .finals = 1};
+    for (int q = 0; q < n; q++) r.targets[16 * q] = 1u << (q + 1) % n, r.targets[16 * q + 1] = 1u << q;
+    bellbadger_install_result installed = bellbadger_install(bellbadger_new(), r);
+    if (!installed.accepted) exit(1);
+    return bellbadger_open(installed.judge, 2).judge;
+}
+
 /* symbols lead anywhere, at random: runs meet soon */
 static bellbadger_judge meeting(int n) {
     int to[32][16];
@@ -196,6 +205,21 @@ static void marks(bellbadger_judge j) {
     printf("  one byte in 16 an idle mark, beside the same text without: %.2f\n", ratios[ROUNDS / 2]);
 }
 
+/* looking for a loss in a chunk, beside a delivery of it */
+static void losses(const char *name, bellbadger_judge j, const uint8_t *chunk, int kind) {
+    double ratios[ROUNDS];
+    if (bellbadger_locate(j, 0, chunk, BYTES).kind != kind) exit(1);
+    for (int round = 0; round < ROUNDS; round++) {
+        double a = now();
+        sink += bellbadger_deliver(j, 0, 0, chunk, BYTES).accepted;
+        double b = now();
+        sink += bellbadger_locate(j, 0, chunk, BYTES).kind;
+        ratios[round] = (now() - b) / (b - a);
+    }
+    qsort(ratios, ROUNDS, sizeof ratios[0], rising);
+    printf("  %-48s %.2f\n", name, ratios[ROUNDS / 2]);
+}
+
 int main(void) {
     bellbadger_judge j = meeting(32);
     printf("a chunk of 65,536 bytes, beside one plain table walk in C over the same text\n");
@@ -211,6 +235,17 @@ int main(void) {
     beside("runs die one after the other", mortal(8), 1);
     texts(2);
     beside("runs die within 32 bytes", path(32), 1);
+
+    static uint8_t marked[BYTES];
+    made(marked, 16, 3);
+    for (size_t i = 0; i < BYTES; i++) marked[i] = marked[i] ? text[i] : 255;
+    printf("looking for a loss in a chunk of 65,536 bytes, beside a delivery of it\n");
+    losses("one run", cycle(32, 2), text, BELLBADGER_NOWHERE);
+    losses("8 runs never meet", cycle_from_all(8), text, BELLBADGER_NOWHERE);
+    losses("32 runs never meet", cycle_from_all(32), text, BELLBADGER_NOWHERE);
+    losses("the same, one byte in 16 an idle mark", cycle_from_all(32), marked, BELLBADGER_NOWHERE);
+    marked[BYTES - 1] = 2;
+    losses("8 runs, idle marks, lost by the last byte", cycle_from_all(8), marked, BELLBADGER_LOST_AFTER);
 
     bellbadger_judge *copy = malloc(sizeof j);
     j = cycle(8, 64);
@@ -239,7 +274,10 @@ int main(void) {
         if (first == 0) first = t;
         printf(" %.1f", t / first);
     }
-    printf("\n");
+    double diagnosed;
+    if (bellbadger_diagnose(j).number != 64) exit(1);
+    MEASURE(diagnosed, for (int i = 0; i < 100; i++) sink += bellbadger_diagnose(j).number);
+    printf("\na diagnosis of a full board of 64 places, beside a verdict on it: %.2f (%.1f us)\n", diagnosed / t, diagnosed / 100);
     free(copy);
     return 0;
 }

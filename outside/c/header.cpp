@@ -19,6 +19,8 @@ static bool right() {
     bellbadger_open_result opened = bellbadger_open(installed.judge, 1);
     bellbadger_deliver_result delivered = bellbadger_deliver(opened.judge, 0, 0, text, sizeof text);
     bellbadger_verdict_result verdict = bellbadger_verdict(delivered.judge);
+    bellbadger_diagnose_result diagnosed = bellbadger_diagnose(delivered.judge);
+    bellbadger_locate_result located = bellbadger_locate(delivered.judge, 0, text, sizeof text);
     bellbadger_withdraw_result withdrawn = bellbadger_withdraw(opened.judge, 0);
     bellbadger_sample_result sample = bellbadger_sample(BELLBADGER_ACCEPTED_TEXT, read.rule);
     const uint8_t ends_in_0_1[] = {'(', 'a', '|', 'b', ')', '*', 'a', 'b'};
@@ -45,6 +47,7 @@ static bool right() {
         && loaded.accepted && loaded.sets == 5 && opened.accepted && delivered.accepted && delivered.looked == 2
         && verdict.kind == BELLBADGER_YES && verdict.number == 2 && verdict.bytes == 2 && verdict.quotient == 1
         && verdict.remainder == 0 && bellbadger_is_yes(verdict) && !bellbadger_is_yes(replayed) && !withdrawn.accepted && withdrawn.refused == 23
+        && diagnosed.kind == BELLBADGER_OPEN && diagnosed.number == 1 && located.kind == BELLBADGER_NOWHERE && located.number == 0
         && bellbadger_profile_size() == sizeof(bellbadger_profile) && built.accepted && built.profile.count == 5 && ran.accepted
         && ran.mapping.masks[0] == 5 && twice.masks[0] == 5 && bellbadger_profile_verdict(built.profile, twice) == 1
         && sample.kind == BELLBADGER_SAMPLE && sample.length == 2 && sample.text[0] == 0 && sample.text[1] == 1

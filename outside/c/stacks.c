@@ -61,6 +61,12 @@ CALL(verdict_filled, bellbadger_verdict_result, bellbadger_verdict(filled))
 CALL(verdict_opened, bellbadger_verdict_result, bellbadger_verdict(opened))
 CALL(replay_record, bellbadger_replay_result, bellbadger_replay(TEXT(record)))
 CALL(replay_installation, bellbadger_replay_result, bellbadger_replay(TEXT(installation)))
+CALL(diagnose_filled, bellbadger_diagnose_result, bellbadger_diagnose(filled))
+CALL(diagnose_no_board, bellbadger_diagnose_result, bellbadger_diagnose(ruled))
+CALL(locate_plain, bellbadger_locate_result, bellbadger_locate(filled, 1, plain, sizeof plain))
+CALL(locate_idle, bellbadger_locate_result, bellbadger_locate(filled, 1, idle, sizeof idle))
+CALL(locate_gap, bellbadger_locate_result, bellbadger_locate(opened, 1, idle, sizeof idle))
+CALL(locate_no_board, bellbadger_locate_result, bellbadger_locate(ruled, 0, idle, sizeof idle))
 CALL(profile_size, size_t, bellbadger_profile_size())
 CALL(profile_build_a, bellbadger_profile_build_result, bellbadger_profile_build(a))
 CALL(profile_build_ring, bellbadger_profile_build_result, bellbadger_profile_build(ring))
@@ -104,6 +110,8 @@ static const struct {
     {"withdraw", withdraw_0}, {"withdraw", withdraw_9},
     {"verdict", verdict_filled}, {"verdict", verdict_opened},
     {"replay", replay_record}, {"replay", replay_installation},
+    {"diagnose", diagnose_filled}, {"diagnose", diagnose_no_board},
+    {"locate", locate_plain}, {"locate", locate_idle}, {"locate", locate_gap}, {"locate", locate_no_board},
     {"profile_size", profile_size},
     {"profile_build", profile_build_a}, {"profile_build", profile_build_ring},
     {"profile_run", profile_run_plain}, {"profile_run", profile_run_idle},

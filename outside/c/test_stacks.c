@@ -27,6 +27,8 @@ static void *caller(void *unused) {
     bellbadger_open_result opened = bellbadger_open(installed.judge, 1);
     bellbadger_deliver_result delivered = bellbadger_deliver(opened.judge, 0, 0, chunk, sizeof chunk);
     bellbadger_verdict_result verdict = bellbadger_verdict(delivered.judge);
+    bellbadger_diagnose_result diagnosed = bellbadger_diagnose(delivered.judge);
+    bellbadger_locate_result located = bellbadger_locate(delivered.judge, 0, chunk, sizeof chunk);
     bellbadger_withdraw_result withdrawn = bellbadger_withdraw(delivered.judge, 0);
     bellbadger_replay_result replayed = bellbadger_replay((const uint8_t *)record, sizeof record - 1);
     bellbadger_profile_build_result built = bellbadger_profile_build(read.rule);
@@ -49,6 +51,7 @@ static void *caller(void *unused) {
     CHECK(read.accepted && loaded.accepted && installed.accepted && opened.accepted && delivered.accepted && withdrawn.accepted);
     CHECK(same(&loaded.judge, &installed.judge) && withdrawn.judge.board.lengths[0] == 0 && judge.rule.n == 0);
     CHECK(bellbadger_is_yes(verdict) && bellbadger_is_yes(replayed) && replayed.bytes == 2);
+    CHECK(diagnosed.kind == BELLBADGER_OPEN && diagnosed.number == 1 && located.kind == BELLBADGER_NOWHERE);
     CHECK(built.accepted && ran.accepted && bellbadger_profile_verdict(built.profile, composed) == 1);
     CHECK(sample.kind == BELLBADGER_SAMPLE && file.accepted && merged.accepted && text.accepted && form.accepted && table.accepted);
     CHECK(row.accepted && column.accepted && tray.accepted && band.accepted && no_band.accepted);

@@ -17,7 +17,7 @@ from bellbadger.texts import make_text
 from bellbadger.trays import Tray
 
 A = read(bytes.fromhex("03020100000004000000160006001C0002001E0000000000000101000102"))
-SUBJECTS = ("judge", "rules", "mappings", "samples", "patterns", "merge", "trays", "form", "texts")
+SUBJECTS = ("judge", "rules", "losses", "mappings", "samples", "patterns", "merge", "trays", "form", "texts")
 WIDE = array.array("H", [0, 1])
 
 
@@ -56,6 +56,8 @@ WRONG_TYPES = [
         (JUDGE.deliver, [0, 0, b""], 1, "revision", "a whole number", NO_NUMBER),
         (JUDGE.deliver, [0, 0, b""], 2, "chunk", "bytes", NO_BYTES),
         (JUDGE.withdraw, [0], 0, "place", "a whole number", NO_NUMBER),
+        (JUDGE.locate, [0, b""], 0, "place", "a whole number", NO_NUMBER),
+        (JUDGE.locate, [0, b""], 1, "chunk", "bytes", NO_BYTES),
         (CheckedRule, [1, 1, 0, 0], 0, "n", "a whole number", NO_NUMBER),
         (CheckedRule, [1, 1, 0, 0], 1, "k", "a whole number", NO_NUMBER),
         (CheckedRule, [1, 1, 0, 0], 2, "initials", "a whole number", NO_NUMBER),
@@ -129,6 +131,7 @@ NO_SIZES = (
     (JUDGE.open, [None], 10),
     (JUDGE.deliver, [None, 0, b""], 11),
     (JUDGE.withdraw, [None], 11),
+    (JUDGE.locate, [None, b""], 11),
     (TRAY.open, [None, 1], 38),
     (TRAY.open, [1, None], 10),
     (TRAY.deliver, [None, b""], 11),
@@ -136,8 +139,8 @@ NO_SIZES = (
 )
 
 # what takes no arguments, and what the package alone makes
-WITHOUT = {"version", "Judge", "Tray", "Judge.verdict", "Tray.verdict"}
-ANSWERS = {"Loaded", "Looked", "Waiting", "Yes", "No", "TrayWaiting", "TrayYes", "TrayNo", "TrayRefused", "Refused", "Malformed"}
+WITHOUT = {"version", "Judge", "Tray", "Judge.verdict", "Judge.diagnose", "Tray.verdict"}
+ANSWERS = {"Loaded", "Looked", "Waiting", "Yes", "No", "TrayWaiting", "TrayYes", "TrayNo", "TrayRefused", "Lost", "Open", "Refused", "Malformed"}
 
 
 def public_functions():

@@ -92,6 +92,11 @@ impl Judge {
         }
     }
 
+    /// The rule, where there is one.
+    pub fn rule(&self) -> Option<&Rule> {
+        self.rule.as_ref()
+    }
+
     /// The board, where there is one.
     pub fn board(&self) -> Option<&Board> {
         self.board.as_ref()

@@ -10,6 +10,7 @@ pub mod forms;
 pub mod judge;
 pub mod lines;
 pub mod lists;
+pub mod losses;
 pub mod made;
 pub mod malformed;
 pub mod mappings;

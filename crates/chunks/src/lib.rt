@@ -94,7 +94,7 @@ pub fn run_mask(delegates: [u8; limits::STATES], n: u8, initials: u32, place: us
 }
 
 // The mask of the set, which is empty from 512 on.
-fn mask_of(sets: &[u32; limits::SETS], set: SetNumber) -> u32
+pub fn mask_of(sets: &[u32; limits::SETS], set: SetNumber) -> u32
     ensures { λ r. ⌜ r ≡ maskOf (now (sets .entry)) (set .0) ⌝ }
 {
     let i = set.0 as usize;

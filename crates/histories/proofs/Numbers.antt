@@ -48,7 +48,7 @@ rule-there none j e = ap (λ b. eqb (b .n) 0) e
 rule-there (some r) j e =
     ne-eqb (j .built .n) 0 (λ z. absurd (omega (arith, z, ap (λ (b : Built). b .n) (e .0), n-same r (e .1) (e .2), e .1 .states)))
 
-symbols-there : (present : Option Rule) (j : Judge) → BuiltBy present j → j .built .k ≡ ruleFrom present .k
+pub symbols-there : (present : Option Rule) (j : Judge) → BuiltBy present j → j .built .k ≡ ruleFrom present .k
 symbols-there none j e = ap (λ (b : Built). b .k) e
 symbols-there (some r) j e = ap (λ (b : Built). b .k) (e .0) ∙ k-same r (e .1) (e .2)
 

@@ -147,7 +147,7 @@ unfoldable pub chunksUpTo : (ℕ → Option (List ℕ)) → ℕ → List (List �
 chunksUpTo at zero = []
 chunksUpTo at (suc p) = chunksUpTo at p ++ (standingText (at p) ∷ [])
 
-flatten-more : (l : List (List ℕ)) (w : List ℕ) → flatten (l ++ (w ∷ [])) ≡ flatten l ++ w
+pub flatten-more : (l : List (List ℕ)) (w : List ℕ) → flatten (l ++ (w ∷ [])) ≡ flatten l ++ w
 unfolding flatten
 flatten-more [] w = append-nil w
 flatten-more (v ∷ l) w = ap (λ (x : List ℕ). v ++ x) (flatten-more l w) ∙ sym (append-assoc v (flatten l) w)
@@ -170,12 +170,12 @@ module _ (at : ℕ → Option (List ℕ)) where
       subst (λ (x : ℕ). getD (chunksUpTo at n ++ (standingText (at n) ∷ [])) x [] ≡ standingText (at x)) e
       (getD-at (chunksUpTo at n) (standingText (at n)) [] [] n (chunks-length n)))
 
-  joined-is : (n : ℕ) → joinedUpTo at n ≡ flatten (chunksUpTo at n)
+  pub joined-is : (n : ℕ) → joinedUpTo at n ≡ flatten (chunksUpTo at n)
   unfolding chunksUpTo joined flatten
   joined-is zero = refl
   joined-is (suc n) = ap (λ (x : List ℕ). x ++ standingText (at n)) (joined-is n) ∙ sym (flatten-more (chunksUpTo at n) (standingText (at n)))
 
-texts-more : (k : ℕ) (l : List (List ℕ)) (w : List ℕ) → joins-specs.Texts k l → Text k w → joins-specs.Texts k (l ++ (w ∷ []))
+pub texts-more : (k : ℕ) (l : List (List ℕ)) (w : List ℕ) → joins-specs.Texts k l → Text k w → joins-specs.Texts k (l ++ (w ∷ []))
 texts-more k [] w t u = (u, tt)
 texts-more k (v ∷ l) w t u = (t .0, texts-more k l w (t .1) u)
 

@@ -22,7 +22,7 @@ fn end_set(ends: &[u32; limits::ENDS], place: usize, q: StateNumber) -> u32
 
 // The union of the end sets, at a place, of the delegates of the members of set; a member that has
 // none is passed over. n is the number of states.
-fn join_place(
+pub fn join_place(
     ends: &[u32; limits::ENDS],
     delegates: &[u8; limits::STATES],
     n: usize,
@@ -48,7 +48,7 @@ fn join_place(
 }
 
 // C after the first places.
-fn join_places(
+pub fn join_places(
     ends: &[u32; limits::ENDS],
     delegates: &[u8; limits::STATES],
     n: u8,

@@ -8,3 +8,4 @@ pub mod MadeTexts
 pub mod Forms
 pub mod TrayFunctions
 pub mod Trays
+pub mod Losses

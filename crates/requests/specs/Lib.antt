@@ -6,3 +6,4 @@ pub mod MergeFunction
 pub mod TextFunction
 pub mod FormFunctions
 pub mod TrayFunctions
+pub mod LossFunctions

@@ -6,6 +6,7 @@ from dataclasses import dataclass
 from ._arguments import as_bytes, fitting, size
 from ._library import DATA, declare, expect_size, lib
 from ._verdicts import Verdict
+from .losses import RawDiagnosis, RawSpot, diagnosis, spot
 from .refusals import Malformed, Refused
 from .rules import RawRule, raw
 
@@ -139,6 +140,8 @@ declare("open", _Change, RawState, ctypes.c_size_t)
 declare("deliver", _Delivery, RawState, ctypes.c_size_t, ctypes.c_uint32, *DATA)
 declare("withdraw", _Change, RawState, ctypes.c_size_t)
 declare("verdict", _Verdict, RawState)
+declare("diagnose", RawDiagnosis, RawState)
+declare("locate", RawSpot, RawState, ctypes.c_size_t, *DATA)
 declare("replay", _Verdict, *DATA)
 
 
@@ -204,6 +207,25 @@ class Judge:
     def verdict(self):
         """Waiting, Yes or No; changes nothing. Refused with 21. In an `if` write verdict().is_yes."""
         return _verdict(lib.bellbadger_verdict(self._state))
+
+    def diagnose(self):
+        """losses.Lost with the place at which the trace is lost, or losses.Open with how many places have
+        chunks before the first that has none; changes nothing. Refused with 21."""
+        return diagnosis(lib.bellbadger_diagnose(self._state))
+
+    def locate(self, place, chunk):
+        """The least number of the chunk's bytes after which the trace is lost, were this the chunk at the
+        place; None, which is no yes, where it is lost after none of them. Changes nothing.
+
+        Idle marks are counted: a position is one of the bytes that are handed in. A number b above 0 says
+        that by chunk[b - 1], an event and no idle mark, the trace was lost; 0 that it is lost before the
+        chunk begins, at an earlier place or because the rule accepts nothing. 0 is false in an `if`, as
+        None is: ask `is None`.
+
+        Refused with 21, 11, 12, 13, and 23 where a place before it has no chunk.
+        """
+        data = as_bytes("locate", "chunk", chunk)
+        return spot(lib.bellbadger_locate(self._state, size("locate", "place", place), data, len(data)))
 
     def _loaded(self, result):
         self._change(result)

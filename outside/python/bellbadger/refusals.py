@@ -19,7 +19,7 @@ _REASONS = {
     20: "no rule is there",
     21: "no board is open",
     22: "the revision is not greater than the last one accepted at the place",
-    23: "the place has no chunk",
+    23: "the place, or to locate a loss one before it, has no chunk",
     30: "the pattern has over 128 bytes",
     31: "the bytes are no pattern",
     32: "the pattern has more than 31 letters",

@@ -35,6 +35,9 @@
 //! [`texts::make_text`] makes test texts. For a smaller table on a nozzle board there is the failure form
 //! ([`form::form`]).
 //!
+//! Where a trace went wrong is told before all chunks are there: the place ([`Judge::diagnose`]) and the
+//! byte ([`Judge::locate`]).
+//!
 //! For small rules there is a mapping machine ([`mappings`]): chunks are run on whatever machines, and what
 //! comes of them, eight bytes each, is put together afterwards.
 //!
@@ -52,6 +55,7 @@
 //! No call keeps anything outside its judge. A judge goes by value within the library: a thread that
 //! calls it should have a stack of 1 MB (Rust's own threads have 2 MB).
 pub mod form;
+pub mod losses;
 pub mod mappings;
 pub mod merge;
 pub mod patterns;

@@ -1,0 +1,27 @@
+-- `locate_chunk` meets its contract: a chunk without marks is its own text. Assumes nothing.
+use mathlib.Core.Path.{sym, _∙_}
+use borrow.Author.Needs.{needs}
+use Rattle.locating.proofs.Spotting.{unmarked-text}
+use Rattle.locating.proofs.locate_chunk.Statement.{statement}
+use Rattle.locating.proofs.locate_chunk.Tie as tie
+
+has-marks-requires : tie.Need-has-marks-requires
+has-marks-requires c κs = search needs
+
+locate-marked-requires : tie.Need-locate-marked-requires
+locate-marked-requires c κs = search needs
+
+returns : tie.Need-returns
+returns c = search needs
+
+locate-text-requires : tie.Need-locate-text-requires
+locate-text-requires c κs = search needs
+
+returns-2 : tie.Need-returns-2
+returns-2 c =
+    c .locate-text .ensures
+    ∙ unmarked-text _ _ _ _ _ _ _ (sym (c .before .before .has-marks .ensures) ∙ c .before .if1 .left)
+
+pub locate-chunk-spec : {M : Type 1} → statement M
+locate-chunk-spec =
+    tie.close (tie.spec has-marks-requires locate-marked-requires returns locate-text-requires returns-2)

@@ -1,0 +1,63 @@
+-- `locate_marked` meets its contract: what stands at the start of the buffer is the chunk's text, which
+-- is no longer than the chunk. Assumes nothing.
+use mathlib.Core.Path.{sym, _∙_}
+use mathlib.Core.List.{List}
+use Prim.Native.Nat.{ℕ, _≤_}
+use native.Mathlib.Omega.{arith}
+use lib.ListN.{length, length-replicate}
+use lib.Seq.{length-take-le}
+use Rattle.text.proofs.Fitting.{taken}
+use Rattle.text.proofs.Rooms.{whole-within}
+use Rattle.marks.specs.Marks.{textOf}
+use Rattle.marks.proofs.Claims as marks
+use borrow.Author.Needs.{needs}
+use Rattle.locating.specs.Locating.{textSpot}
+use Rattle.locating.proofs.Spotting.{marked-found}
+use Rattle.locating.proofs.locate_marked.Statement.{statement}
+use Rattle.locating.proofs.locate_marked.Tie as tie
+
+short : (w : List ℕ) → length w ≤ 65536 → length (textOf w) ≤ 65536
+short w h = omega (arith, marks.claims .no-longer w)
+
+slice-aggregate-pack : tie.Need-slice-aggregate-pack
+slice-aggregate-pack c = search needs
+
+pack-requires : tie.Need-pack-requires
+pack-requires c κs = search needs
+
+array-share-prefix-buffer : tie.Need-array-share-prefix-buffer
+array-share-prefix-buffer c =
+    let packed = c .before .pack in
+    whole-within (packed .ensures) (packed .kept .1 .0) 65536 (short _ (c .before .before .before .before .pre)) (simp length-replicate (omega arith))
+
+slice-aggregate-locate-text : tie.Need-slice-aggregate-locate-text
+slice-aggregate-locate-text c =
+    let packed = c .before .before .pack in
+    sym (length-take-le (packed .result) (packed .last .1 .0)
+    (whole-within (packed .ensures) (packed .kept .1 .0) 65536 (short _ (c .before .before .before .before .before .pre)) (simp length-replicate (omega arith))))
+
+locate-text-requires : tie.Need-locate-text-requires
+locate-text-requires c κs =
+    rw (taken (c .before .before .pack .ensures)) (short _ (c .before .before .before .before .before .pre))
+
+in-chunk-requires : tie.Need-in-chunk-requires
+in-chunk-requires c κs = search needs
+
+returns : tie.Need-returns
+returns c =
+    let a = c .before .before .before .before .before .before .before .args in
+    marked-found _ _ _ (textSpot (a .sets .now) (a .next .now) (a .singles .now) (a .starts) (a .k) (a .gap) (textOf (a .chunk .now)))
+    (c .in-chunk .ensures)
+    (c .before .locate-text .ensures ∙ rw (taken (c .before .before .before .before .pack .ensures)))
+
+pub locate-marked-spec : {M : Type 1} → statement M
+locate-marked-spec =
+    tie.close
+    (tie.spec
+    slice-aggregate-pack
+    pack-requires
+    array-share-prefix-buffer
+    slice-aggregate-locate-text
+    locate-text-requires
+    in-chunk-requires
+    returns)

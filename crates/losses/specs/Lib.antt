@@ -1,0 +1,5 @@
+-- In the order in which to read them.
+pub mod Losses
+pub mod Claims
+pub mod Spots
+pub mod Functions
