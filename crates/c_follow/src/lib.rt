@@ -1,0 +1,91 @@
+// Following a trace that comes in order, for C, Rust and Python. The answer is numbers.
+ghost use mathlib.Core.Path.{_≡_};
+ghost use Rattle.follow.specs.Following.{lostMeans, answerMeans, followOf};
+ghost use Rattle.c_follow.specs.Numbers.{flagBy, refusedBy, bitBy, lostFlag, atBy, followShown};
+use automaton::Rule;
+use follow::FollowAnswer;
+use follow::Lost;
+
+// Accepted is 1 or 0; where it is 0, refused has the number, and every other field is 0. Ends is 1
+// where a final state is in the set. Lost is 1 where no final state can be reached any more, and at has
+// the least number of bytes of the chunk, idle marks counted, after which that is so. Expected has bit s
+// for symbol s: what could have stood at byte at - 1, or what could come next.
+#[repr(C)]
+pub struct FollowNumbers {
+    pub accepted: u8,
+    pub refused: u8,
+    pub ends: u8,
+    pub lost: u8,
+    pub at: u32,
+    pub set: u32,
+    pub expected: u16,
+}
+
+fn accepted_of(answer: FollowAnswer) -> u8
+    ensures { λ r. ⌜ r ≡ flagBy (answerMeans answer) ⌝ }
+{
+    match answer {
+        FollowAnswer::Accepted => 1,
+        FollowAnswer::Refused(_) => 0,
+    }
+}
+
+fn refused_of(answer: FollowAnswer) -> u8
+    ensures { λ r. ⌜ r ≡ refusedBy (answerMeans answer) ⌝ }
+{
+    match answer {
+        FollowAnswer::Accepted => 0,
+        FollowAnswer::Refused(number) => number,
+    }
+}
+
+fn lost_flag(lost: Lost) -> u8
+    ensures { λ r. ⌜ r ≡ lostFlag (lostMeans lost) ⌝ }
+{
+    match lost {
+        Lost::Never => 0,
+        Lost::At(_) => 1,
+    }
+}
+
+fn lost_at(lost: Lost) -> u32
+    ensures { λ r. ⌜ r ≡ atBy (lostMeans lost) ⌝ }
+{
+    match lost {
+        Lost::Never => 0,
+        Lost::At(at) => at,
+    }
+}
+
+fn bit(test: bool) -> u8
+    ensures { λ r. ⌜ r ≡ bitBy test ⌝ }
+{
+    if test {
+        return 1;
+    }
+    0
+}
+
+// Follows a chunk, which may be any bytes, from a set of states of a rule, which may be any value.
+#[no_mangle]
+pub extern "C" fn bellbadger_follow(rule: Rule, set: u32, chunk: &[u8]) -> FollowNumbers
+    ensures { λ r. ⌜ r ≡ followShown (followOf rule set (now (chunk .entry))) ⌝ }
+{
+    let followed = follow::follow(rule, set, chunk);
+    let answer = followed.answer;
+    let way = followed.lost;
+    let accepted = accepted_of(answer);
+    let refused = refused_of(answer);
+    let ends = bit(followed.ends);
+    let lost = lost_flag(way);
+    let at = lost_at(way);
+    FollowNumbers {
+        accepted,
+        refused,
+        ends,
+        lost,
+        at,
+        set: followed.set,
+        expected: followed.expected,
+    }
+}

@@ -1,0 +1,9 @@
+pub mod Steps
+pub mod Ways
+pub mod Rounds
+pub mod Hope
+pub mod Numbers
+pub mod Lists
+pub mod Cuts
+pub mod Examples
+pub mod Claims

@@ -1,0 +1,31 @@
+/* A trace that comes in order, followed chunk by chunk. bellbadger.h includes this. */
+#ifndef BELLBADGER_FOLLOW_H
+#define BELLBADGER_FOLLOW_H
+
+#include "bellbadger.h"
+
+#ifdef __cplusplus
+extern "C" {
+#endif
+
+/* Where refused, every other field is 0. */
+typedef struct {
+    uint8_t accepted, refused;
+    uint8_t ends;      /* 1: a final state is in the set, so the rule accepts what came */
+    uint8_t lost;      /* 1: no final state can be reached any more, whatever comes */
+    uint32_t at;       /* the least number of bytes of this chunk, idle marks counted, after which that is so; 0: before it */
+    uint32_t set;      /* the states after the chunk, to be handed in with the next one */
+    uint16_t expected; /* bit s: symbol s could have stood at byte at - 1; where not lost, could come next */
+} bellbadger_follow_result;
+
+/* Follows a chunk from a set of states: rule.initials first, then the set of the answer before. After a refusal
+ * the caller keeps the set that it had. Bits for states that there are not mean nothing. Refused with
+ *   3, 4, 6, 8 as bellbadger_install is
+ *   12 the chunk has over 65,536 bytes      13 a byte is no symbol and no idle mark */
+BELLBADGER_RESULT bellbadger_follow_result bellbadger_follow(bellbadger_checked_rule rule, uint32_t set, const uint8_t *chunk, size_t length);
+
+#ifdef __cplusplus
+}
+#endif
+
+#endif
