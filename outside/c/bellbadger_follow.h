@@ -16,6 +16,7 @@ typedef struct {
     uint32_t at;       /* the least number of bytes of this chunk, idle marks counted, after which that is so; 0: before it */
     uint32_t set;      /* the states after the chunk, to be handed in with the next one */
     uint16_t expected; /* bit s: symbol s could have stood at byte at - 1; where not lost, could come next */
+    uint8_t complete;  /* 1: the trace could have ended before that byte; where not lost, can end here (as ends) */
 } bellbadger_follow_result;
 
 /* Follows a chunk from a set of states: rule.initials first, then the set of the answer before. After a refusal

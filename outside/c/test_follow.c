@@ -36,14 +36,14 @@ static uint32_t step(const bellbadger_checked_rule *r, uint32_t set, int s) {
     return out;
 }
 
-static void due(bellbadger_checked_rule r, uint32_t from, const uint8_t *chunk, size_t length, uint8_t ends, uint8_t lost, uint32_t at, uint32_t set, uint16_t expected) {
+static void due(bellbadger_checked_rule r, uint32_t from, const uint8_t *chunk, size_t length, uint8_t ends, uint8_t lost, uint32_t at, uint32_t set, uint16_t expected, uint8_t complete) {
     bellbadger_follow_result f = bellbadger_follow(r, from, chunk, length);
-    CHECK(f.accepted == 1 && f.refused == 0 && f.ends == ends && f.lost == lost && f.at == at && f.set == set && f.expected == expected);
+    CHECK(f.accepted == 1 && f.refused == 0 && f.ends == ends && f.lost == lost && f.at == at && f.set == set && f.expected == expected && f.complete == complete);
 }
 
 static void refused(bellbadger_checked_rule r, const uint8_t *chunk, size_t length, uint8_t number) {
     bellbadger_follow_result f = bellbadger_follow(r, 1, chunk, length);
-    CHECK(f.accepted == 0 && f.refused == number && f.ends == 0 && f.lost == 0 && f.at == 0 && f.set == 0 && f.expected == 0);
+    CHECK(f.accepted == 0 && f.refused == number && f.ends == 0 && f.lost == 0 && f.at == 0 && f.set == 0 && f.expected == 0 && f.complete == 0);
 }
 
 static void worked(void) {
@@ -52,13 +52,13 @@ static void worked(void) {
     CHECK(sizeof(bellbadger_follow_result) == 16);
     a.targets[0] = 3, a.targets[1] = 1, a.targets[17] = 4; /* what ends in 0 1 */
     once.targets[0] = 2, once.targets[17] = 4;             /* 0 1 and no other */
-    due(a, 1, (const uint8_t[]){0, 1}, 2, 1, 0, 0, 5, 3);
-    due(a, 1, most, 65536, 0, 0, 0, 3, 3);
-    due(once, 1, (const uint8_t[]){255, 0, 255, 0, 1}, 5, 0, 1, 4, 0, 2);
-    due(once, 1, (const uint8_t[]){0, 1, 1}, 3, 0, 1, 3, 0, 0);
-    due(once, 1, NULL, 0, 0, 0, 0, 1, 1);
-    due(once, 0, NULL, 0, 0, 1, 0, 0, 0);
-    due(once, 0xfffffff8u, (const uint8_t[]){0}, 1, 0, 1, 0, 0, 0); /* bits for no state */
+    due(a, 1, (const uint8_t[]){0, 1}, 2, 1, 0, 0, 5, 3, 1);
+    due(a, 1, most, 65536, 0, 0, 0, 3, 3, 0);
+    due(once, 1, (const uint8_t[]){255, 0, 255, 0, 1}, 5, 0, 1, 4, 0, 2, 0);
+    due(once, 1, (const uint8_t[]){0, 1, 1}, 3, 0, 1, 3, 0, 0, 1);
+    due(once, 1, NULL, 0, 0, 0, 0, 1, 1, 0);
+    due(once, 0, NULL, 0, 0, 1, 0, 0, 0, 0);
+    due(once, 0xfffffff8u, (const uint8_t[]){0}, 1, 0, 1, 0, 0, 0, 0); /* bits for no state */
     refused(a, most, 65537, 12);
     refused(a, (const uint8_t[]){2}, 1, 13);
     refused(a, (const uint8_t[]){254}, 1, 13);
@@ -102,7 +102,10 @@ static void followed(bellbadger_checked_rule r) {
         for (int s = 0; s < r.k; s++)
             if (hope(&r, step(&r, before, s))) expected |= (uint16_t)(1u << s);
         yes = (now & r.finals) != 0;
-        due(r, set, chunk, length, (uint8_t)yes, (uint8_t)lost, at, now, expected);
+        uint8_t complete = (before & r.finals) != 0;
+        due(r, set, chunk, length, (uint8_t)yes, (uint8_t)lost, at, now, expected, complete);
+        CHECK(lost || complete == yes);
+        if (lost && at == 0) CHECK(!complete);
         if (gone) CHECK(lost && at == 0 && expected == 0 && !yes);
         gone = lost, set = now;
         judge = bellbadger_deliver(judge, (size_t)c, 0, chunk, length).judge;

@@ -3,20 +3,21 @@ use mathlib.Core.Path.{_≡_, refl}
 use mathlib.Core.Bool.{Bool, true, false}
 use mathlib.Core.Option.{Option, none, some}
 use Prim.Native.Nat.{ℕ}
-use Rattle.c_follow.specs.Numbers.{followShown, followReadBack}
+use lib.Dec.{eqb}
+use Rattle.c_follow.specs.Numbers.{bitBy, followShown, followReadBack}
 use Rattle.c_follow.specs.Claims.{Claims}
 
-back : (refusal lost : Option ℕ) (ends : Bool) (set expected : ℕ)
-    → followReadBack (followShown (record { refusal = refusal; set = set; ends = ends; lost = lost; expected = expected }))
-    ≡ record { refusal = refusal; set = set; ends = ends; lost = lost; expected = expected }
-back none none true set expected = refl
-back none none false set expected = refl
-back none (some b) true set expected = refl
-back none (some b) false set expected = refl
-back (some x) none true set expected = refl
-back (some x) none false set expected = refl
-back (some x) (some b) true set expected = refl
-back (some x) (some b) false set expected = refl
+is-bit : (t : Bool) → eqb (bitBy t) 1 ≡ t
+is-bit true = refl
+is-bit false = refl
+
+back : (refusal lost : Option ℕ) (ends complete : Bool) (set expected : ℕ)
+    → followReadBack (followShown (record { refusal = refusal; set = set; ends = ends; lost = lost; expected = expected; complete = complete }))
+    ≡ record { refusal = refusal; set = set; ends = ends; lost = lost; expected = expected; complete = complete }
+back none none ends complete set expected = rw (is-bit ends, is-bit complete)
+back none (some b) ends complete set expected = rw (is-bit ends, is-bit complete)
+back (some x) none ends complete set expected = rw (is-bit ends, is-bit complete)
+back (some x) (some b) ends complete set expected = rw (is-bit ends, is-bit complete)
 
 pub claims : Claims
-claims = record { read-back = λ o. back (o .refusal) (o .lost) (o .ends) (o .set) (o .expected) }
+claims = record { read-back = λ o. back (o .refusal) (o .lost) (o .ends) (o .complete) (o .set) (o .expected) }

@@ -39,6 +39,7 @@ followShown o = record {
   at = atBy (o .lost);
   set = o .set;
   expected = o .expected;
+  complete = bitBy (o .complete);
 }
 
 abbrev pub followReadBack : FollowNumbers → Outcome
@@ -48,4 +49,5 @@ followReadBack n = record {
   ends = eqb (n .ends) 1;
   lost = cond (eqb (n .lost) 0) none (some (n .at));
   expected = n .expected;
+  complete = eqb (n .complete) 1;
 }

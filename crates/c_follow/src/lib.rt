@@ -9,7 +9,8 @@ use follow::Lost;
 // Accepted is 1 or 0; where it is 0, refused has the number, and every other field is 0. Ends is 1
 // where a final state is in the set. Lost is 1 where no final state can be reached any more, and at has
 // the least number of bytes of the chunk, idle marks counted, after which that is so. Expected has bit s
-// for symbol s: what could have stood at byte at - 1, or what could come next.
+// for symbol s: what could have stood at byte at - 1, or what could come next. Complete is 1 where the
+// end could have stood there, or can stand here.
 #[repr(C)]
 pub struct FollowNumbers {
     pub accepted: u8,
@@ -19,6 +20,7 @@ pub struct FollowNumbers {
     pub at: u32,
     pub set: u32,
     pub expected: u16,
+    pub complete: u8,
 }
 
 fn accepted_of(answer: FollowAnswer) -> u8
@@ -77,6 +79,7 @@ pub extern "C" fn bellbadger_follow(rule: Rule, set: u32, chunk: &[u8]) -> Follo
     let accepted = accepted_of(answer);
     let refused = refused_of(answer);
     let ends = bit(followed.ends);
+    let complete = bit(followed.complete);
     let lost = lost_flag(way);
     let at = lost_at(way);
     FollowNumbers {
@@ -87,5 +90,6 @@ pub extern "C" fn bellbadger_follow(rule: Rule, set: u32, chunk: &[u8]) -> Follo
         at,
         set: followed.set,
         expected: followed.expected,
+        complete,
     }
 }

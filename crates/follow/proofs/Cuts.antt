@@ -76,46 +76,48 @@ module _ (r : Rule) (good : WellFormed r) (m : ℕ) (u w : List ℕ) where
 
   expects : (x y : ℕ) (v z : List ℕ) (o p : Option ℕ) → law x v o → law y z p
       → setAfter (r .targets) x (take (placeOf o v) v) ≡ setAfter (r .targets) y (take (placeOf p z) z)
-      → walkOf r x v .expected ≡ walkOf r y z .expected
+      → (walkOf r x v .expected ≡ walkOf r y z .expected) × (walkOf r x v .complete ≡ walkOf r y z .complete)
   expects x y v z o p e f is =
-      ap (λ (q : Option ℕ). nextBy (r .targets) (liveOf r) (r .k) (setAfter (r .targets) x (take (placeOf q v) v))) e
-      ∙ ap (nextBy (r .targets) (liveOf r) (r .k)) is
-      ∙ sym (ap (λ (q : Option ℕ). nextBy (r .targets) (liveOf r) (r .k) (setAfter (r .targets) y (take (placeOf q z) z))) f)
+      let same : setAfter (r .targets) x (take (placeOf (lostBy (r .targets) (liveOf r) x v) v) v)
+      ≡ setAfter (r .targets) y (take (placeOf (lostBy (r .targets) (liveOf r) y z) z) z) =
+      ap (λ (q : Option ℕ). setAfter (r .targets) x (take (placeOf q v) v)) e ∙ is ∙ sym (ap (λ (q : Option ℕ). setAfter (r .targets) y (take (placeOf q z) z)) f) in
+      (ap (nextBy (r .targets) (liveOf r) (r .k)) same, ap (λ (q : ℕ). shares q (r .finals)) same)
 
   sets : setAfter (r .targets) m (u ++ w) ≡ setAfter (r .targets) (setAfter (r .targets) m u) w
   sets = set-append (r .targets) m u w
 
-  in-first : (b : ℕ) → law m u (some b) → (law m (u ++ w) (some b)) × (walkOf r m (u ++ w) .expected ≡ walkOf r m u .expected)
+  in-first : (b : ℕ) → law m u (some b)
+      → (law m (u ++ w) (some b)) × (walkOf r m (u ++ w) .expected ≡ walkOf r m u .expected) × (walkOf r m (u ++ w) .complete ≡ walkOf r m u .complete)
   in-first b e =
       let x = lost-law r good m u b .0 e in
       let f = lost-law r good m (u ++ w) b .1 (first b x) in
-      (f, expects m m (u ++ w) u (some b) (some b) f e (ap (setAfter (r .targets) m) (take-append-le (b - 1) u w (omega (arith, x .within)))))
+      let g = expects m m (u ++ w) u (some b) (some b) f e (ap (setAfter (r .targets) m) (take-append-le (b - 1) u w (omega (arith, x .within)))) in
+      (f, g .0, g .1)
 
   in-second : (c : ℕ) → law m u none → law (setAfter (r .targets) m u) w (some c)
       → (0 < c) × (law m (u ++ w) (some (length u + c))) × (walkOf r m (u ++ w) .expected ≡ walkOf r (setAfter (r .targets) m u) w .expected)
+      × (walkOf r m (u ++ w) .complete ≡ walkOf r (setAfter (r .targets) m u) w .complete)
   in-second c e f =
       let k = kept-law r good m u .0 e in
       let x = lost-law r good (setAfter (r .targets) m u) w c .0 f in
       let some-byte = later c k x in
       let g = lost-law r good m (u ++ w) (length u + c) .1 (second c k x) in
-      let z : length u + c - 1 ≡ length u + (c - 1) = omega arith in (
-        some-byte,
-        g,
-        expects m (setAfter (r .targets) m u) (u ++ w) w (some (length u + c)) (some c) g f
-            (ap (λ (i : ℕ). setAfter (r .targets) m (take i (u ++ w))) z
-            ∙ ap (setAfter (r .targets) m) (take-append-add u w (c - 1))
-            ∙ set-append (r .targets) m u (take (c - 1) w)),
-      )
+      let z : length u + c - 1 ≡ length u + (c - 1) = omega arith in
+      let h = expects m (setAfter (r .targets) m u) (u ++ w) w (some (length u + c)) (some c) g f
+      (ap (λ (i : ℕ). setAfter (r .targets) m (take i (u ++ w))) z
+      ∙ ap (setAfter (r .targets) m) (take-append-add u w (c - 1))
+      ∙ set-append (r .targets) m u (take (c - 1) w)) in
+      (some-byte, g, h .0, h .1)
 
   in-neither : law m u none → law (setAfter (r .targets) m u) w none
       → (law m (u ++ w) none) × (walkOf r m (u ++ w) .expected ≡ walkOf r (setAfter (r .targets) m u) w .expected)
+      × (walkOf r m (u ++ w) .complete ≡ walkOf r (setAfter (r .targets) m u) w .complete)
   in-neither e f =
       let k = kept-law r good (setAfter (r .targets) m u) w .0 f in
-      let g = kept-law r good m (u ++ w) .1 (subst (CanEnd r m) (sym (marks.claims .text-append u w)) (on (textOf w) k)) in (
-        g,
-        expects m (setAfter (r .targets) m u) (u ++ w) w none none g f
-            (ap (setAfter (r .targets) m) (take-length (u ++ w)) ∙ sets ∙ sym (ap (setAfter (r .targets) (setAfter (r .targets) m u)) (take-length w))),
-      )
+      let g = kept-law r good m (u ++ w) .1 (subst (CanEnd r m) (sym (marks.claims .text-append u w)) (on (textOf w) k)) in
+      let h = expects m (setAfter (r .targets) m u) (u ++ w) w none none g f
+      (ap (setAfter (r .targets) m) (take-length (u ++ w)) ∙ sets ∙ sym (ap (setAfter (r .targets) (setAfter (r .targets) m u)) (take-length w))) in
+      (g, h .0, h .1)
 
   pub cut : Cut r m u w
   cut = record {

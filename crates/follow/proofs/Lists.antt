@@ -92,6 +92,35 @@ module _ (r : Rule) (m : ℕ) (w : List ℕ) (ok : followNumber r w ≡ none) wh
     only-end z =
         ended (textOf (take b w)) (λ s c. no-member s (subst (λ (y : ℕ). s ∈ y) z (there s .1 c))) (at .before b (omega arith))
 
+  -- the set before the byte at which it is lost
+  complete-is : (o : Option ℕ) → followOf r m w .lost ≡ o → followOf r m w .complete ≡ shares (setAfter (r .targets) m (take (placeOf o w) w)) (r .finals)
+  complete-is o e =
+      ap (λ x. x .complete) is
+      ∙ ap (λ (x : Option ℕ). shares (setAfter (r .targets) m (take (placeOf x w) w)) (r .finals)) (sym lost-is ∙ e)
+
+  complete-there : (b : ℕ) → followOf r m w .lost ≡ some (suc b) → (followOf r m w .complete ≡ true) ↔ AcceptsIn r m (textOf (take b w))
+  complete-there b e =
+      let z : suc b - 1 ≡ b = omega arith in
+      rw (complete-is (some (suc b)) e, z) (ends-law r good m (textOf (take b w)))
+
+  complete-here : followOf r m w .lost ≡ none → followOf r m w .complete ≡ followOf r m w .ends
+  complete-here e =
+      complete-is none e
+      ∙ ap (λ (x : List ℕ). shares (setAfter (r .targets) m x) (r .finals)) (take-length w)
+      ∙ sym (ap (λ o. o .ends) is)
+
+  -- what is accepted can be continued, by nothing
+  as-it-is : (v : List ℕ) → AcceptsIn r m v → CanEnd r m v
+  as-it-is v a = record { rest = []; accepts = subst (AcceptsIn r m) (sym (append-nil v)) a }
+
+  complete-never : followOf r m w .lost ≡ some 0 → followOf r m w .complete ≡ false
+  complete-never e =
+      let at = lost-law r good m w 0 .0 (sym lost-is ∙ e) in
+      complete-is (some 0) e
+      ∙ by-test (shares (setAfter (r .targets) m (take 0 w)) (r .finals))
+      (λ t. absurd (at .lost (as-it-is (textOf (take 0 w)) (ends-law r good m (textOf (take 0 w)) .0 t))))
+      (λ f. f)
+
   only-end-next : followOf r m w .lost ≡ none → followOf r m w .expected ≡ 0 → followOf r m w .ends ≡ true
   only-end-next e z =
       let is-next : followOf r m w .expected ≡ nextBy (r .targets) (liveOf r) (r .k) (after (r .targets) m (textOf w)) =
@@ -104,6 +133,9 @@ module _ (r : Rule) (m : ℕ) (w : List ℕ) (ok : followNumber r w ≡ none) wh
   pub one : One r m w
   one = record {
     culprit = culprit;
+    complete-there = complete-there;
+    complete-here = complete-here;
+    complete-never = complete-never;
     only-end = only-end;
     only-end-next = only-end-next;
     set = λ h p. rw is (after-law r good m p (textOf w) h);
@@ -213,6 +245,14 @@ module _ (r : Rule) where
               let x = call .expected-next s e in
               let y = continues-too (textOf w ++ (s ∷ [])) in
               ((λ i. y .0 (x .0 i)), λ c. x .1 (y .1 c));
+          complete-there = λ b e.
+              let x = call .complete-there b e in
+              let y = accepts-too (textOf (take b w)) in
+              ((λ t. y .0 (x .0 t)), λ a. x .1 (y .1 a));
+          complete-here = λ e.
+              let x = call .complete-here e in
+              let y = accepts-too (textOf w) in
+              ((λ t. y .0 (call .ends .0 (sym x ∙ t))), λ a. x ∙ call .ends .1 (y .1 a));
         }
 
 -- ---- lost for good
@@ -242,13 +282,14 @@ module _ (r : Rule) (good : WellFormed r) (m : ℕ) (dead : shares m (liveOf r) 
       absurd (nothing-in (textOf x) (record { rest = []; accepts = subst (AcceptsIn r m) (sym (append-nil (textOf x))) a })))
       (λ f. f)
 
-  pub dead-call : (followOf r m x .lost ≡ some 0) × (followOf r m x .expected ≡ 0) × (followOf r m x .ends ≡ false)
-  dead-call = (dead-lost, dead-expected, dead-ends)
+  pub dead-call : (followOf r m x .lost ≡ some 0) × (followOf r m x .expected ≡ 0) × (followOf r m x .ends ≡ false) × (followOf r m x .complete ≡ false)
+  dead-call = (dead-lost, dead-expected, dead-ends, one r m x ok .complete-never dead-lost)
 
 pub for-good : (r : Rule) (m : ℕ) (w : List ℕ) (b : ℕ) → followOf r m w .lost ≡ some b → (ws : List (List ℕ)) (x : List ℕ) → followNumber r x ≡ none
     → (followOf r (handed r (followOf r m w .set) ws) x .lost ≡ some 0)
     × (followOf r (handed r (followOf r m w .set) ws) x .expected ≡ 0)
     × (followOf r (handed r (followOf r m w .set) ws) x .ends ≡ false)
+    × (followOf r (handed r (followOf r m w .set) ws) x .complete ≡ false)
 for-good r m w b e ws x ok =
     let fine = checked-rule r x ok in
     let taken : followNumber r w ≡ none = lost-followed r m w b (followNumber r w) refl e in
@@ -319,7 +360,7 @@ module _ (r : Rule) (l m : ℕ) (same : (q : ℕ) → q < r .n → (q ∈ l) ↔
   abbrev Alike : List ℕ → Type 0
   Alike w =
       (followOf r l w .ends ≡ followOf r m w .ends) × (followOf r l w .lost ≡ followOf r m w .lost)
-      × (followOf r l w .expected ≡ followOf r m w .expected)
+      × (followOf r l w .expected ≡ followOf r m w .expected) × (followOf r l w .complete ≡ followOf r m w .complete)
       × ((q : ℕ) → q < r .n → (q ∈ followOf r l w .set) ↔ (q ∈ followOf r m w .set))
 
   alike : (w : List ℕ) (o : Option ℕ) → followNumber r w ≡ o → Alike w
@@ -330,9 +371,11 @@ module _ (r : Rule) (l m : ℕ) (same : (q : ℕ) → q < r .n → (q ∈ l) ↔
         same-lost fine w,
         ap (λ (o : Option ℕ). nextBy (r .targets) (liveOf r) (r .k) (setAfter (r .targets) l (take (placeOf o w) w))) (same-lost fine w)
             ∙ same-next fine (textOf (take (placeOf (lostBy (r .targets) (liveOf r) m w) w) w)),
+        ap (λ (o : Option ℕ). shares (setAfter (r .targets) l (take (placeOf o w) w)) (r .finals)) (same-lost fine w)
+            ∙ same-end fine (textOf (take (placeOf (lostBy (r .targets) (liveOf r) m w) w) w)),
         same-set fine (textOf w),
       )
-  alike w (some x) e = rw (refused-is r w l x e, refused-is r w m x e) (refl, refl, refl, λ q h. (λ y. y, λ y. y))
+  alike w (some x) e = rw (refused-is r w l x e, refused-is r w m x e) (refl, refl, refl, refl, λ q h. (λ y. y, λ y. y))
 
   pub means-nothing : (w : List ℕ) → Alike w
   means-nothing w = alike w (followNumber r w) refl

@@ -35,10 +35,11 @@ module _ (r : Rule) (m : ℕ) (w : List ℕ) (live : ℕ) (is-live : live ≡ li
   is-way : y ≡ wayOf (r .targets) (liveOf r) m w
   is-way = is ∙ ap (λ (x : ℕ). wayOf (r .targets) x m w) is-live
 
-  pub known : (last expected : ℕ) (ends : Bool) → last ≡ setAfter (r .targets) (y .set) (take (length w - y .at) (drop (y .at) w))
+  pub known : (last expected : ℕ) (ends complete : Bool) → last ≡ setAfter (r .targets) (y .set) (take (length w - y .at) (drop (y .at) w))
       → expected ≡ nextBy (r .targets) live (r .k) (y .before) → ends ≡ shares last (r .finals)
-      → record { refusal = none; set = last; ends = ends; lost = y .lost; expected = expected } ≡ walkOf r m w
-  known last expected ends is-last is-expected is-ends =
+      → complete ≡ shares (y .before) (r .finals)
+      → record { refusal = none; set = last; ends = ends; lost = y .lost; expected = expected; complete = complete } ≡ walkOf r m w
+  known last expected ends complete is-last is-expected is-ends is-complete =
       let ts = r .targets in
       let o = lostBy ts (liveOf r) m w in
       let e : last ≡ setAfter ts m w =
@@ -52,7 +53,9 @@ module _ (r : Rule) (m : ℕ) (w : List ℕ) (live : ℕ) (is-live : live ≡ li
       is-expected
       ∙ ap (λ (z : ℕ). nextBy ts z (r .k) (y .before)) is-live
       ∙ ap (λ (z : Walk). nextBy ts (liveOf r) (r .k) (z .before)) is-way in
-      rw (e, f, l, x)
+      let g : complete ≡ shares (setAfter ts m (take (placeOf o w) w)) (r .finals) =
+      is-complete ∙ ap (λ (z : Walk). shares (z .before) (r .finals)) is-way in
+      rw (e, f, l, x, g)
 
 module _ (r : Rule) (m : ℕ) (w : List ℕ) (o : Outcome) where
   by-number : (n : Option ℕ) → followNumber r w ≡ n → o ≡ followBy n r m w → o ≡ followOf r m w

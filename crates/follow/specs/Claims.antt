@@ -74,6 +74,11 @@ pub record One (r : Rule) (m : ℕ) (w : List ℕ) : Type 0 where
   -- the byte at which it is lost is no idle mark, and is not among the expected symbols
   pub culprit : (b : ℕ) → followOf r m w .lost ≡ some (suc b)
       → (b < length w) × (getD w b 0 ≡ idleMark → ⊥) × (getD w b 0 ∈ followOf r m w .expected → ⊥)
+  -- the trace could have ended before that byte: the text up to there is accepted. Where it is not lost,
+  -- the text so far; where it was lost before the chunk, never
+  pub complete-there : (b : ℕ) → followOf r m w .lost ≡ some (suc b) → (followOf r m w .complete ≡ true) ↔ AcceptsIn r m (textOf (take b w))
+  pub complete-here : followOf r m w .lost ≡ none → followOf r m w .complete ≡ followOf r m w .ends
+  pub complete-never : followOf r m w .lost ≡ some 0 → followOf r m w .complete ≡ false
   -- where nothing is expected, though it is not lost before, the text ends there: it is accepted
   pub only-end : (b : ℕ) → followOf r m w .lost ≡ some (suc b) → followOf r m w .expected ≡ 0 → AcceptsIn r m (textOf (take b w))
   pub only-end-next : followOf r m w .lost ≡ none → followOf r m w .expected ≡ 0 → followOf r m w .ends ≡ true
@@ -116,6 +121,11 @@ module _ (r : Rule) where
           → s ∈ followOf r (handed (r .initials) ws) w .expected ↔ Continues (takenText ws ++ (textOf (take (b - 1) w) ++ (s ∷ [])))
       pub expected-next : (s : ℕ) → followOf r (handed (r .initials) ws) w .lost ≡ none
           → s ∈ followOf r (handed (r .initials) ws) w .expected ↔ Continues (takenText ws ++ (textOf w ++ (s ∷ [])))
+      -- the end could have stood there, and can stand here
+      pub complete-there : (b : ℕ) → followOf r (handed (r .initials) ws) w .lost ≡ some (suc b)
+          → (followOf r (handed (r .initials) ws) w .complete ≡ true) ↔ Accepts (automatonOf r) (takenText ws ++ textOf (take b w))
+      pub complete-here : followOf r (handed (r .initials) ws) w .lost ≡ none
+          → (followOf r (handed (r .initials) ws) w .complete ≡ true) ↔ Accepts (automatonOf r) (takenText ws ++ textOf w)
 
 -- ---- where the trace is cut does not matter
 -- `walkOf` is the answer to a chunk of any length: a chunk u ++ w is followed as u and then w
@@ -125,10 +135,13 @@ pub record Cut (r : Rule) (m : ℕ) (u w : List ℕ) : Type 0 where
   -- lost in the first part, in the second, in neither
   pub in-first : (b : ℕ) → walkOf r m u .lost ≡ some b
       → (walkOf r m (u ++ w) .lost ≡ some b) × (walkOf r m (u ++ w) .expected ≡ walkOf r m u .expected)
+      × (walkOf r m (u ++ w) .complete ≡ walkOf r m u .complete)
   pub in-second : (c : ℕ) → walkOf r m u .lost ≡ none → walkOf r (walkOf r m u .set) w .lost ≡ some c
       → (0 < c) × (walkOf r m (u ++ w) .lost ≡ some (length u + c)) × (walkOf r m (u ++ w) .expected ≡ walkOf r (walkOf r m u .set) w .expected)
+      × (walkOf r m (u ++ w) .complete ≡ walkOf r (walkOf r m u .set) w .complete)
   pub in-neither : walkOf r m u .lost ≡ none → walkOf r (walkOf r m u .set) w .lost ≡ none
       → (walkOf r m (u ++ w) .lost ≡ none) × (walkOf r m (u ++ w) .expected ≡ walkOf r (walkOf r m u .set) w .expected)
+      × (walkOf r m (u ++ w) .complete ≡ walkOf r (walkOf r m u .set) w .complete)
 
 pub record Claims : Type 0 where
   -- chunks worked by hand
@@ -145,16 +158,17 @@ pub record Claims : Type 0 where
   pub one : (r : Rule) (m : ℕ) (w : List ℕ) → followNumber r w ≡ none → One r m w
   pub followed : (r : Rule) (ws : List (List ℕ)) (w : List ℕ) → followNumber r w ≡ none → Followed-so r ws w
   -- once lost, lost for good: whatever comes after, the next chunk is lost at its byte 0, nothing is
-  -- expected, and there is no final state
+  -- expected, there is no final state, and the trace could not have ended there
   pub for-good : (r : Rule) (m : ℕ) (w : List ℕ) (b : ℕ) → followOf r m w .lost ≡ some b → (ws : List (List ℕ)) (x : List ℕ) → followNumber r x ≡ none
       → (followOf r (handed r (followOf r m w .set) ws) x .lost ≡ some 0)
       × (followOf r (handed r (followOf r m w .set) ws) x .expected ≡ 0)
       × (followOf r (handed r (followOf r m w .set) ws) x .ends ≡ false)
+      × (followOf r (handed r (followOf r m w .set) ws) x .complete ≡ false)
   -- bits at n and above mean nothing: two sets with the same states are followed alike, and lead to
   -- sets with the same states
   pub means-nothing : (r : Rule) (l m : ℕ) (w : List ℕ) → ((q : ℕ) → q < r .n → (q ∈ l) ↔ (q ∈ m))
       → (followOf r l w .ends ≡ followOf r m w .ends) × (followOf r l w .lost ≡ followOf r m w .lost)
-      × (followOf r l w .expected ≡ followOf r m w .expected)
+      × (followOf r l w .expected ≡ followOf r m w .expected) × (followOf r l w .complete ≡ followOf r m w .complete)
       × ((q : ℕ) → q < r .n → (q ∈ followOf r l w .set) ↔ (q ∈ followOf r m w .set))
   -- where no chunk is refused, the text is the chunks' texts joined
   pub all-taken : (r : Rule) (ws : List (List ℕ)) → ((i : ℕ) → i < length ws → followNumber r (getD ws i []) ≡ none)

@@ -19,7 +19,8 @@
 --   Outcome, followOutcome   the answer, every field; and what the code's result stands for
 --   refusedFollow x        refused with the number x: zeros
 --   walkOf r m w           accepted: the set after the chunk, whether a final state is in it, where it
---                          is lost, and the symbols expected there, or next
+--                          is lost, the symbols expected there, or next, and whether the trace could
+--                          have ended there, or can here: the set before that byte has a final state
 --   followOf r m w         what following the chunk w from the set m answers
 use mathlib.Core.Bool.{Bool, false, cond, not}
 use mathlib.Core.List.{List, [], _∷_, _++_}
@@ -107,6 +108,7 @@ pub record Outcome : Type 0 where
   pub ends : Bool
   pub lost : Option ℕ
   pub expected : ℕ
+  pub complete : Bool
 
 abbrev pub answerMeans : FollowAnswer → Option ℕ
 answerMeans Accepted = none
@@ -119,10 +121,11 @@ followOutcome f = record {
   ends = f .ends;
   lost = lostMeans (f .lost);
   expected = f .expected;
+  complete = f .complete;
 }
 
 abbrev pub refusedFollow : ℕ → Outcome
-refusedFollow number = record { refusal = some number; set = 0; ends = false; lost = none; expected = 0 }
+refusedFollow number = record { refusal = some number; set = 0; ends = false; lost = none; expected = 0; complete = false }
 
 abbrev pub walkOf : Rule → ℕ → List ℕ → Outcome
 walkOf r m w =
@@ -133,6 +136,7 @@ walkOf r m w =
       ends = shares (setAfter (r .targets) m w) (r .finals);
       lost = o;
       expected = nextBy (r .targets) (liveOf r) (r .k) (setAfter (r .targets) m (take (placeOf o w) w));
+      complete = shares (setAfter (r .targets) m (take (placeOf o w) w)) (r .finals);
     }
 
 abbrev pub followBy : Option ℕ → Rule → ℕ → List ℕ → Outcome

@@ -33,16 +33,16 @@ pub data Case : Type 0 where
 abbrev pub cases : List Case
 cases =
     -- the text is accepted, and either symbol could come next
-    case ruleA 1 (0 ∷ 1 ∷ []) (record { refusal = none; set = 5; ends = true; lost = none; expected = 3 }) ∷
+    case ruleA 1 (0 ∷ 1 ∷ []) (record { refusal = none; set = 5; ends = true; lost = none; expected = 3; complete = true }) ∷
     -- lost by the second 0, the fourth byte: only a 1 could have stood there
-    case once 1 (255 ∷ 0 ∷ 255 ∷ 0 ∷ 1 ∷ []) (record { refusal = none; set = 0; ends = false; lost = some 4; expected = 2 }) ∷
-    -- lost though a state is left: no final one can be reached from it
-    case trap 1 (0 ∷ 0 ∷ []) (record { refusal = none; set = 4; ends = false; lost = some 2; expected = 2 }) ∷
+    case once 1 (255 ∷ 0 ∷ 255 ∷ 0 ∷ 1 ∷ []) (record { refusal = none; set = 0; ends = false; lost = some 4; expected = 2; complete = false }) ∷
+    -- lost though a state is left: no final one can be reached from it; the text before is accepted
+    case trap 1 (0 ∷ 0 ∷ []) (record { refusal = none; set = 4; ends = false; lost = some 2; expected = 2; complete = true }) ∷
     -- lost behind the accepted text: nothing but the end could have stood there
-    case once 1 (0 ∷ 1 ∷ 1 ∷ []) (record { refusal = none; set = 0; ends = false; lost = some 3; expected = 0 }) ∷
+    case once 1 (0 ∷ 1 ∷ 1 ∷ []) (record { refusal = none; set = 0; ends = false; lost = some 3; expected = 0; complete = true }) ∷
     -- nothing came yet, only a 0 can come; nothing came and nothing can
-    case once 1 [] (record { refusal = none; set = 1; ends = false; lost = none; expected = 1 }) ∷
-    case once 0 [] (record { refusal = none; set = 0; ends = false; lost = some 0; expected = 0 }) ∷
+    case once 1 [] (record { refusal = none; set = 1; ends = false; lost = none; expected = 1; complete = false }) ∷
+    case once 0 [] (record { refusal = none; set = 0; ends = false; lost = some 0; expected = 0; complete = false }) ∷
     -- a byte that is no symbol and no idle mark
     case once 1 (2 ∷ []) (refusedFollow 13) ∷ []
 

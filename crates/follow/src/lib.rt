@@ -28,15 +28,17 @@ pub enum Lost {
     At(u32),
 }
 
-// The set of states after the chunk, whether a final state is in it, where the trace is lost, and a
-// mask of the symbols after which a final state can still be reached: from the set before the byte
-// at which it is lost, or from the set after the chunk. Zeros beside a refusal.
+// The set of states after the chunk, whether a final state is in it, where the trace is lost, and of
+// the set before the byte at which it is lost, or after the chunk where it is not: a mask of the
+// symbols after which a final state can still be reached, and whether one is in it, so that the trace
+// could have ended there. Zeros beside a refusal.
 pub struct Followed {
     pub answer: FollowAnswer,
     pub set: u32,
     pub ends: bool,
     pub lost: Lost,
     pub expected: u16,
+    pub complete: bool,
 }
 
 // How far a trace is not lost: where it is, the set before that byte, and the number of bytes passed
@@ -200,6 +202,7 @@ fn refuse(number: u8) -> Followed
         ends: false,
         lost: Lost::Never,
         expected: 0,
+        complete: false,
     }
 }
 
@@ -214,6 +217,7 @@ fn follow_known(rule: Rule, set: u32, chunk: &[u8]) -> Followed
     let last = set_after(&rule.targets, way.set, &chunk[at..]);
     let expected = next_symbols(&rule.targets, live, rule.k as usize, way.before);
     let ends = masks::meets(last, rule.finals);
+    let complete = masks::meets(way.before, rule.finals);
     let lost = way.lost;
     Followed {
         answer: FollowAnswer::Accepted,
@@ -221,6 +225,7 @@ fn follow_known(rule: Rule, set: u32, chunk: &[u8]) -> Followed
         ends,
         lost,
         expected,
+        complete,
     }
 }
 

@@ -16,6 +16,9 @@ refused-of-requires c κs = search needs
 bit-requires : tie.Need-bit-requires
 bit-requires c κs = search needs
 
+bit-requires-2 : tie.Need-bit-requires-2
+bit-requires-2 c κs = search needs
+
 lost-flag-requires : tie.Need-lost-flag-requires
 lost-flag-requires c κs = search needs
 
@@ -24,9 +27,10 @@ lost-at-requires c κs = search needs
 
 returns : tie.Need-returns
 returns c =
-    let f = c .before .before .before .before .before .follow in
-    shown (f .result) _ (f .ensures) _ _ _ _ _ (c .before .before .before .before .accepted-of .ensures) (c .before .before .before .refused-of .ensures)
-    (c .before .before .bit .ensures) (c .before .lost-flag .ensures) (c .lost-at .ensures)
+    let f = c .before .before .before .before .before .before .follow in
+    shown (f .result) _ (f .ensures) _ _ _ _ _ _ (c .before .before .before .before .before .accepted-of .ensures)
+    (c .before .before .before .before .refused-of .ensures) (c .before .before .before .bit .ensures) (c .before .lost-flag .ensures)
+    (c .lost-at .ensures) (c .before .before .bit2 .ensures)
 
 pub bellbadger-follow-spec : {M : Type 1} → statement M
 bellbadger-follow-spec =
@@ -36,6 +40,7 @@ bellbadger-follow-spec =
     accepted-of-requires
     refused-of-requires
     bit-requires
+    bit-requires-2
     lost-flag-requires
     lost-at-requires
     returns)

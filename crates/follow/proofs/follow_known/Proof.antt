@@ -39,15 +39,19 @@ next-symbols-requires c κs = search needs
 meets-requires : tie.Need-meets-requires
 meets-requires c κs = search needs
 
+meets-requires-2 : tie.Need-meets-requires-2
+meets-requires-2 c κs = search needs
+
 returns : tie.Need-returns
 returns c =
-    let live = c .before .before .before .before .before .before .before .before .before .before .before .live-states in
-    let s = c .before .before .before .before .before .before .before .before .before .before .before .before .before .before .before in
-    let y = c .before .before .before .before .before .before .before .before .follow-live in
-    let last = c .before .before .before .before .set-after in
-    let next = c .before .next-symbols in
-    known (s .args .t1) (s .args .set) (s .args .chunk .now) (live .result) (live .ensures) (wayOutcome (y .result)) (y .ensures)
-    (last .result) (next .result) (c .meets .result) (last .ensures) (next .ensures) (c .meets .ensures)
+    let y = c .before in
+    let live = y .before .before .before .before .before .before .before .before .before .before .before .live-states in
+    let s = y .before .before .before .before .before .before .before .before .before .before .before .before .before .before .before in
+    let way = y .before .before .before .before .before .before .before .before .follow-live in
+    let last = y .before .before .before .before .set-after in
+    let next = y .before .next-symbols in
+    known (s .args .t1) (s .args .set) (s .args .chunk .now) (live .result) (live .ensures) (wayOutcome (way .result)) (way .ensures)
+    (last .result) (next .result) (y .meets .result) (c .meets2 .result) (last .ensures) (next .ensures) (y .meets .ensures) (c .meets2 .ensures)
 
 pub follow-known-spec : {M : Type 1} → statement M
 follow-known-spec =
@@ -62,4 +66,5 @@ follow-known-spec =
     cast-next-symbols
     next-symbols-requires
     meets-requires
+    meets-requires-2
     returns)
