@@ -26,7 +26,7 @@ use Rattle.automaton.specs.Automaton.{Run, stay, move}
 use Rattle.automaton.specs.Rules.{automatonOf, WellFormed}
 use Rattle.automaton.specs.Successor.{successor, after}
 use Rattle.automaton.proofs.Laws.{successor-law, after-append}
-use Rattle.forms.proofs.Masks.{mask-in, mask-of}
+use Rattle.masks.proofs.Passing.{mask-in, mask-of}
 use Rattle.follow.specs.Live.{liveOf}
 use Rattle.follow.specs.Following.{setAfter, lostBy, nextBy}
 use Rattle.follow.specs.Claims.{AcceptsIn, CanEnd, LostAt}

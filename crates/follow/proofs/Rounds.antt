@@ -18,15 +18,14 @@ use Rattle.base.specs.Totals.{total}
 use Rattle.base.proofs.Tests.{by-test}
 use Rattle.base.proofs.Totals.{total-most}
 use Rattle.base.proofs.Conditions.{any-at, any-found}
-use Rattle.masks.specs.Masks.{bit, _∈_, shares}
+use Rattle.masks.specs.Masks.{bit, _∈_, shares, maskOf}
 use Rattle.masks.proofs.Laws.{or-cases, or-left, or-right, members-below, shares-law, ext}
 use Rattle.automaton.specs.declared.Rule.{Rule}
 use Rattle.automaton.specs.Automaton.{Run, stay, move}
 use Rattle.automaton.specs.Rules.{targetMask, automatonOf, WellFormed}
 use Rattle.automaton.proofs.Laws.{arc-of}
 use Rattle.delegates.specs.Alike.{Live}
-use Rattle.forms.specs.Form.{maskOf}
-use Rattle.forms.proofs.Masks.{mask-in, mask-of}
+use Rattle.masks.proofs.Passing.{mask-in, mask-of}
 use Rattle.follow.specs.Live.{leads, backTo, within, liveOf}
 use Rattle.follow.proofs.Steps.{within-still}
 

@@ -1,7 +1,6 @@
 -- One step of each loop, and what the search for the least number finds. Assumes nothing.
 --
 --   cell                     a cell of the table is a target mask
---   mask-add, mask-skip      the mask of the numbers that pass a test, one number more
 --   stray-one, stray-here, stray-on   a byte that is foreign, and one that is not
 --   step-idle, step-symbol   the set after one byte
 --   after-next, after-rest   the set after one byte more, and after the rest of the chunk
@@ -17,36 +16,24 @@ use Prim.Native.Nat.{ℕ, zero, suc, _+_, _-_, _*_, _≤_, _<_}
 use native.Mathlib.Nat.{eq-or-lt-of-le, le-of-suc-le-suc}
 use native.Mathlib.Numerals.{add-one}
 use native.Mathlib.Omega.{arith}
-use lib.Bits.{bitOr, or-zero-r}
 use lib.Dec.{leb}
 use lib.ListN.{length, getD, take, drop, drop-of-length-le, take-append-drop}
 use lib.Seq.{drop-cons, take-suc}
 use borrow.Author.Tests.{lt-ltb, eq-eqb, ne-eqb}
 use Rattle.base.proofs.Options.{none-some}
 use Rattle.base.proofs.Tests.{by-test}
-use Rattle.masks.specs.Masks.{single, shares}
+use Rattle.masks.specs.Masks.{shares}
 use Rattle.marks.specs.Marks.{textOf}
 use Rattle.marks.proofs.Claims as marks
 use Rattle.automaton.specs.Rules.{targetMask}
 use Rattle.automaton.specs.Successor.{successor, after}
 use Rattle.automaton.proofs.Claims as automaton
 use Rattle.chunks.specs.Chunks.{foreign}
-use Rattle.forms.specs.Form.{maskOf}
 use Rattle.follow.specs.Live.{backTo, within}
 use Rattle.follow.specs.Following.{setAfter, orHere, leastBelow, lostBy, placeOf, passedOf, wayOf}
 
 pub cell : (ts : List ℕ) (q s : ℕ) → s < 16 → getD ts (q * 16 + s) 0 ≡ targetMask ts q s
 cell ts q s h = rw (lt-ltb s 16 h)
-
--- ---- the numbers that pass a test
-module _ (p : ℕ → Bool) (s mask : ℕ) (is : mask ≡ maskOf p s) where
-  pub mask-add : p s ≡ true → bitOr mask (single s) ≡ maskOf p (s + 1)
-  unfolding maskOf
-  mask-add e = rw (add-one, e, is)
-
-  pub mask-skip : p s ≡ false → mask ≡ maskOf p (s + 1)
-  unfolding maskOf
-  mask-skip e = rw (add-one, e, or-zero-r) is
 
 -- ---- rounds backwards
 module _ (ts : List ℕ) (m : ℕ) where

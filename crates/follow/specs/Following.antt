@@ -30,13 +30,12 @@ use lib.Dec.{ltb}
 use lib.ListN.{length, take}
 use Rattle.limits.specs.Limits.{longestChunk}
 use Rattle.base.specs.Conditions.{Condition, on, firstOf}
-use Rattle.masks.specs.Masks.{shares}
+use Rattle.masks.specs.Masks.{shares, maskOf}
 use Rattle.marks.specs.Marks.{textOf}
 use Rattle.automaton.specs.declared.Rule.{Rule}
 use Rattle.automaton.specs.Successor.{successor, after}
 use Rattle.rulecheck.specs.Checking.{ruleConditions}
 use Rattle.chunks.specs.Chunks.{foreign}
-use Rattle.forms.specs.Form.{maskOf}
 use Rattle.follow.specs.declared.FollowAnswer.{FollowAnswer}
 use Rattle.follow.specs.declared.FollowAnswer.the-variants.{Accepted, Refused}
 use Rattle.follow.specs.declared.Lost.{Lost}

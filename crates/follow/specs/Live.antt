@@ -12,8 +12,7 @@ use Prim.Native.Nat.{ℕ, zero, suc}
 use lib.Bits.{bitOr}
 use Rattle.limits.specs.Limits.{mostStates, mostSymbols}
 use Rattle.base.specs.Conditions.{anyBelow}
-use Rattle.masks.specs.Masks.{shares}
-use Rattle.forms.specs.Form.{maskOf}
+use Rattle.masks.specs.Masks.{shares, maskOf}
 use Rattle.automaton.specs.declared.Rule.{Rule}
 use Rattle.automaton.specs.Rules.{targetMask}
 

@@ -109,7 +109,7 @@ fn next_symbols(targets: &[u32; limits::TARGETS], live: u32, k: usize, set: u32)
     while s < k {
         let reached = automaton::successor(targets, set, s as u8);
         if masks::meets(reached, live) {
-            mask = mask | forms::only_symbol(s);
+            mask = mask | masks::only_symbol(s);
         }
         s += 1;
     }

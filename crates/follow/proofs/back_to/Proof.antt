@@ -6,9 +6,9 @@ use Prim.Native.Nat.{_≤_, _-_}
 use native.Mathlib.Omega.{arith}
 use borrow.Author.Needs.{needs}
 use lib.Bits.{bitOr}
-use Rattle.forms.specs.Form.{maskOf}
+use Rattle.masks.specs.Masks.{maskOf}
 use Rattle.follow.specs.Live.{leads}
-use Rattle.follow.proofs.Steps.{mask-add, mask-skip}
+use Rattle.masks.proofs.Passing.{mask-add, mask-skip}
 use Rattle.follow.proofs.back_to.Statement.{statement}
 use Rattle.follow.proofs.back_to.Tie as tie
 

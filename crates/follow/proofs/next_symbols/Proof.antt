@@ -6,11 +6,10 @@ use Prim.Native.Nat.{ℕ, _≤_, _-_}
 use native.Mathlib.Omega.{arith}
 use borrow.Author.Needs.{needs}
 use lib.Bits.{bitOr}
-use Rattle.masks.specs.Masks.{shares}
+use Rattle.masks.specs.Masks.{shares, maskOf}
 use Rattle.automaton.specs.Successor.{successor}
-use Rattle.forms.specs.Form.{maskOf}
 use Rattle.follow.specs.Following.{nextBy}
-use Rattle.follow.proofs.Steps.{mask-add, mask-skip}
+use Rattle.masks.proofs.Passing.{mask-add, mask-skip}
 use Rattle.follow.proofs.next_symbols.Statement.{statement}
 use Rattle.follow.proofs.next_symbols.Tie as tie
 
