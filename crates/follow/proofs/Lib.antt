@@ -1,8 +1,8 @@
 pub mod Steps
+pub mod Numbers
 pub mod Ways
 pub mod Rounds
 pub mod Hope
-pub mod Numbers
 pub mod Lists
 pub mod Cuts
 pub mod Examples

@@ -12,15 +12,16 @@ use Prim.Native.Nat.{ℕ, suc, _-_, _≤_, _<_}
 use native.Mathlib.Omega.{arith}
 use lib.ListN.{length, take, drop, length-drop}
 use lib.Seq.{take-all}
-use borrow.Author.Tests.{lt-ltb, le-ltb}
 use Rattle.masks.specs.Masks.{shares}
 use Rattle.marks.specs.Marks.{textOf}
 use Rattle.automaton.specs.declared.Rule.{Rule}
 use Rattle.rulecheck.specs.Checking.{ruleNumber}
-use Rattle.rulecheck.proofs.First.{checked-first, checked-then}
 use Rattle.chunks.specs.Chunks.{foreign}
+use Rattle.chunks.specs.Taking.{chunkNumber}
+use Rattle.chunks.proofs.Claims as chunks
 use Rattle.follow.specs.Live.{liveOf}
-use Rattle.follow.specs.Following.{setAfter, lostBy, placeOf, passedOf, nextBy, Walk, wayOf, followConditions, followNumber, Outcome, refusedFollow, walkOf, followBy, followOf}
+use Rattle.follow.specs.Following.{setAfter, lostBy, placeOf, passedOf, nextBy, Walk, wayOf, followNumber, Outcome, refusedFollow, walkOf, followBy, followOf}
+use Rattle.follow.proofs.Numbers.{first-is, then-is}
 use Rattle.follow.proofs.Steps.{after-rest, least-found}
 
 most-of : (ts : List ℕ) (live m : ℕ) (w : List ℕ) (o : Option ℕ) → lostBy ts live m w ≡ o → passedOf o w ≤ length w
@@ -63,18 +64,17 @@ module _ (r : Rule) (m : ℕ) (w : List ℕ) (o : Outcome) where
   by-number n e is = is ∙ sym (ap (λ (x : Option ℕ). followBy x r m w) e)
 
   pub unchecked : (x : ℕ) → ruleNumber r ≡ some x → o ≡ refusedFollow x → o ≡ followOf r m w
-  unfolding followNumber
-  unchecked x e is = by-number (some x) (checked-first r (followConditions (r .k) w) x e) is
+  unchecked x e is = by-number (some x) (first-is r w x e) is
 
   module _ (passes : ruleNumber r ≡ none) where
+    by-chunk : (n : Option ℕ) → chunkNumber (r .k) w ≡ n → o ≡ followBy n r m w → o ≡ followOf r m w
+    by-chunk n e is = by-number n (then-is r w passes ∙ e) is
+
     pub long : 65536 < length w → o ≡ refusedFollow 12 → o ≡ followOf r m w
-    unfolding followNumber
-    long h is = by-number (some 12) (checked-then r (followConditions (r .k) w) passes ∙ rw (lt-ltb 65536 (length w) h)) is
+    long h is = by-chunk (some 12) (chunks.claims .taking (r .k) w .number-12 .1 h) is
 
     pub strange : length w ≤ 65536 → foreign (textOf w) (r .k) ≡ true → o ≡ refusedFollow 13 → o ≡ followOf r m w
-    unfolding followNumber
-    strange h f is = by-number (some 13) (checked-then r (followConditions (r .k) w) passes ∙ rw (le-ltb 65536 (length w) h, f)) is
+    strange h f is = by-chunk (some 13) (chunks.claims .taking (r .k) w .number-13 .1 (h, f)) is
 
     pub whole : length w ≤ 65536 → foreign (textOf w) (r .k) ≡ false → o ≡ walkOf r m w → o ≡ followOf r m w
-    unfolding followNumber
-    whole h f is = by-number none (checked-then r (followConditions (r .k) w) passes ∙ rw (le-ltb 65536 (length w) h, f)) is
+    whole h f is = by-chunk none (chunks.claims .taking (r .k) w .taken .1 (h, f)) is

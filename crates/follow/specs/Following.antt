@@ -12,10 +12,8 @@
 --   Walk, wayOf, wayOutcome   as far as the chunk is not lost: where it is, the set before that
 --                          byte, the bytes passed and the set after them. Nothing here needs to be
 --                          believed
---   followConditions k w   the conditions of the chunk w, in order: 12, over 65,536 bytes; 13, a byte
---                          of its text at or above k
 --   followNumber r w       the number with which following is refused: those of a checked rule (3, 4,
---                          6, 8), then 12, then 13
+--                          6, 8), then those of a chunk (12, 13)
 --   Outcome, followOutcome   the answer, every field; and what the code's result stands for
 --   refusedFollow x        refused with the number x: zeros
 --   walkOf r m w           accepted: the set after the chunk, whether a final state is in it, where it
@@ -23,19 +21,17 @@
 --                          have ended there, or can here: the set before that byte has a final state
 --   followOf r m w         what following the chunk w from the set m answers
 use mathlib.Core.Bool.{Bool, false, cond, not}
-use mathlib.Core.List.{List, [], _∷_, _++_}
+use mathlib.Core.List.{List, _++_}
 use mathlib.Core.Option.{Option, none, some}
 use Prim.Native.Nat.{ℕ, zero, suc, _-_}
-use lib.Dec.{ltb}
 use lib.ListN.{length, take}
-use Rattle.limits.specs.Limits.{longestChunk}
-use Rattle.base.specs.Conditions.{Condition, on, firstOf}
+use Rattle.base.specs.Conditions.{firstOf}
 use Rattle.masks.specs.Masks.{shares, maskOf}
 use Rattle.marks.specs.Marks.{textOf}
 use Rattle.automaton.specs.declared.Rule.{Rule}
 use Rattle.automaton.specs.Successor.{successor, after}
 use Rattle.rulecheck.specs.Checking.{ruleConditions}
-use Rattle.chunks.specs.Chunks.{foreign}
+use Rattle.chunks.specs.Taking.{chunkConditions}
 use Rattle.follow.specs.declared.FollowAnswer.{FollowAnswer}
 use Rattle.follow.specs.declared.FollowAnswer.the-variants.{Accepted, Refused}
 use Rattle.follow.specs.declared.Lost.{Lost}
@@ -95,11 +91,8 @@ abbrev pub wayOutcome : Way → Walk
 wayOutcome y = record { lost = lostMeans (y .lost); before = y .before; at = y .at; set = y .set }
 
 -- ---- the answer
-abbrev pub followConditions : ℕ → List ℕ → List Condition
-followConditions k w = on 12 (ltb longestChunk (length w)) ∷ on 13 (foreign (textOf w) k) ∷ []
-
 unfoldable pub followNumber : Rule → List ℕ → Option ℕ
-followNumber r w = firstOf (ruleConditions r ++ followConditions (r .k) w)
+followNumber r w = firstOf (ruleConditions r ++ chunkConditions (r .k) w)
 
 pub record Outcome : Type 0 where
   pub refusal : Option ℕ
