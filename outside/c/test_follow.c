@@ -1,5 +1,6 @@
-/* Following a trace from C: chunks worked by hand, refusals in their order with their zeros, and random rules and
- * chunks against single runs searched forward and against a filled board with the same chunks.
+/* Following a trace from C: chunks worked by hand, refusals in their order with their zeros, random rules and
+ * chunks against single runs searched forward and against a filled board with the same chunks, each chunk by the
+ * rule and by its follower, and followers in which any numbers stand.
  * Prints how many checks were made; stops at the first that fails. */
 #pragma GCC diagnostic ignored "-Wunused-function" /* not all of checks.h is used */
 #include "checks.h"
@@ -36,13 +37,32 @@ static uint32_t step(const bellbadger_checked_rule *r, uint32_t set, int s) {
     return out;
 }
 
+static int same_rule(bellbadger_checked_rule a, bellbadger_checked_rule b) {
+    return a.n == b.n && a.k == b.k && a.initials == b.initials && a.finals == b.finals && memcmp(a.targets, b.targets, sizeof a.targets) == 0;
+}
+
+static bellbadger_follow_result both(bellbadger_checked_rule r, uint32_t from, const uint8_t *chunk, size_t length) {
+    bellbadger_follow_result f = bellbadger_follow(r, from, chunk, length), g;
+    bellbadger_follower_result p = bellbadger_follower(r);
+    if (!p.accepted) {
+        static const bellbadger_checked_rule zeros;
+        CHECK(f.refused == p.refused && same_rule(p.follower.rule, zeros) && p.follower.live == 0);
+        return f;
+    }
+    CHECK(p.refused == 0 && same_rule(p.follower.rule, r));
+    g = bellbadger_follow_by(p.follower, from, chunk, length);
+    CHECK(f.accepted == g.accepted && f.refused == g.refused && f.ends == g.ends && f.lost == g.lost && f.at == g.at && f.set == g.set &&
+          f.expected == g.expected && f.complete == g.complete);
+    return f;
+}
+
 static void due(bellbadger_checked_rule r, uint32_t from, const uint8_t *chunk, size_t length, uint8_t ends, uint8_t lost, uint32_t at, uint32_t set, uint16_t expected, uint8_t complete) {
-    bellbadger_follow_result f = bellbadger_follow(r, from, chunk, length);
+    bellbadger_follow_result f = both(r, from, chunk, length);
     CHECK(f.accepted == 1 && f.refused == 0 && f.ends == ends && f.lost == lost && f.at == at && f.set == set && f.expected == expected && f.complete == complete);
 }
 
 static void refused(bellbadger_checked_rule r, const uint8_t *chunk, size_t length, uint8_t number) {
-    bellbadger_follow_result f = bellbadger_follow(r, 1, chunk, length);
+    bellbadger_follow_result f = both(r, 1, chunk, length);
     CHECK(f.accepted == 0 && f.refused == number && f.ends == 0 && f.lost == 0 && f.at == 0 && f.set == 0 && f.expected == 0 && f.complete == 0);
 }
 
@@ -50,6 +70,7 @@ static void worked(void) {
     static uint8_t most[65537];
     bellbadger_checked_rule a = {.n = 3, .k = 2, .initials = 1, .finals = 4}, once = a, bad;
     CHECK(sizeof(bellbadger_follow_result) == 16);
+    CHECK(sizeof(bellbadger_follower_value) == bellbadger_follower_size());
     a.targets[0] = 3, a.targets[1] = 1, a.targets[17] = 4; /* what ends in 0 1 */
     once.targets[0] = 2, once.targets[17] = 4;             /* 0 1 and no other */
     due(a, 1, (const uint8_t[]){0, 1}, 2, 1, 0, 0, 5, 3, 1);
@@ -113,8 +134,24 @@ static void followed(bellbadger_checked_rule r) {
     CHECK(bellbadger_verdict(judge).kind == (yes ? BELLBADGER_YES : BELLBADGER_NO));
 }
 
+/* the call ends, within its bounds, and refuses as k says, whatever the follower has */
+static void any_numbers(void) {
+    static uint8_t chunk[4096];
+    bellbadger_follower_value f;
+    for (size_t i = 0; i < sizeof f; i++) ((uint8_t *)&f)[i] = (uint8_t)any();
+    for (size_t i = 0; i < sizeof chunk; i++) chunk[i] = (uint8_t)(any() % 3 ? any() % 16 : any());
+    int stray = 0;
+    for (size_t i = 0; i < sizeof chunk; i++) stray |= chunk[i] >= f.rule.k && chunk[i] != 255;
+    bellbadger_follow_result r = bellbadger_follow_by(f, any(), chunk, sizeof chunk);
+    CHECK(r.accepted == !stray && r.refused == (stray ? 13 : 0));
+    f.rule.k = 255;
+    r = bellbadger_follow_by(f, any(), chunk, sizeof chunk);
+    CHECK(r.accepted == 1 && r.at <= sizeof chunk);
+}
+
 int main(void) {
     worked();
+    for (int i = 0; i < 300; i++) any_numbers();
     for (int i = 0; i < RULES; i++) followed(any_rule());
     printf("follow: %ld checks\n", checks);
     return 0;

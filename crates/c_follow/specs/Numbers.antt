@@ -6,14 +6,16 @@
 --   lostFlag x, atBy x   the fields `lost` and `at` for the place x where it is lost, or none: 1 and the
 --                    place, or 0 and 0
 --   followShown o    the answer o
---   followReadBack   what such numbers say, read back
+--   prepareShown p   what preparing answers: the follower is all zeros where it is refused
+--   followReadBack, prepareReadBack   what such numbers say, read back
 use mathlib.Core.Bool.{Bool, cond}
 use mathlib.Core.Option.{Option, none, some, Option·getD}
 use Prim.Native.Nat.{ℕ}
 use lib.Dec.{eqb}
 use Rattle.base.specs.Options.{isNone}
-use Rattle.follow.specs.Following.{Outcome}
+use Rattle.follow.specs.Following.{Outcome, Prepared}
 use Rattle.c_follow.specs.declared.FollowNumbers.{FollowNumbers}
+use Rattle.c_follow.specs.declared.FollowerNumbers.{FollowerNumbers}
 
 abbrev pub flagBy : Option ℕ → ℕ
 flagBy number = cond (isNone number) 1 0
@@ -42,6 +44,9 @@ followShown o = record {
   complete = bitBy (o .complete);
 }
 
+abbrev pub prepareShown : Prepared → FollowerNumbers
+prepareShown p = record { accepted = flagBy (p .refusal); refused = refusedBy (p .refusal); follower = p .follower }
+
 abbrev pub followReadBack : FollowNumbers → Outcome
 followReadBack n = record {
   refusal = cond (eqb (n .accepted) 1) none (some (n .refused));
@@ -51,3 +56,6 @@ followReadBack n = record {
   expected = n .expected;
   complete = eqb (n .complete) 1;
 }
+
+abbrev pub prepareReadBack : FollowerNumbers → Prepared
+prepareReadBack n = record { refusal = cond (eqb (n .accepted) 1) none (some (n .refused)); follower = n .follower }

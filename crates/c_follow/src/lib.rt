@@ -1,9 +1,12 @@
-// Following a trace that comes in order, for C, Rust and Python. The answer is numbers.
+// Following a trace that comes in order, for C, Rust and Python. Answers are numbers; a follower is a
+// value that the caller keeps and hands in.
 ghost use mathlib.Core.Path.{_≡_};
-ghost use Rattle.follow.specs.Following.{lostMeans, answerMeans, followOf};
-ghost use Rattle.c_follow.specs.Numbers.{flagBy, refusedBy, bitBy, lostFlag, atBy, followShown};
+ghost use Rattle.follow.specs.Following.{lostMeans, answerMeans, followOutcome, followOf, followByOf, prepareOf};
+ghost use Rattle.c_follow.specs.Numbers.{flagBy, refusedBy, bitBy, lostFlag, atBy, followShown, prepareShown};
 use automaton::Rule;
 use follow::FollowAnswer;
+use follow::Followed;
+use follow::Follower;
 use follow::Lost;
 
 // Accepted is 1 or 0; where it is 0, refused has the number, and every other field is 0. Ends is 1
@@ -22,6 +25,17 @@ pub struct FollowNumbers {
     pub expected: u16,
     pub complete: u8,
 }
+
+// Accepted is 1 or 0; where it is 0, refused has the number, and every number of the follower is 0.
+#[repr(C)]
+pub struct FollowerNumbers {
+    pub accepted: u8,
+    pub refused: u8,
+    pub follower: Follower,
+}
+
+// How many bytes a follower has as C lays it out.
+const FOLLOWER_SIZE: usize = 2064;
 
 fn accepted_of(answer: FollowAnswer) -> u8
     ensures { λ r. ⌜ r ≡ flagBy (answerMeans answer) ⌝ }
@@ -68,12 +82,10 @@ fn bit(test: bool) -> u8
     0
 }
 
-// Follows a chunk, which may be any bytes, from a set of states of a rule, which may be any value.
-#[no_mangle]
-pub extern "C" fn bellbadger_follow(rule: Rule, set: u32, chunk: &[u8]) -> FollowNumbers
-    ensures { λ r. ⌜ r ≡ followShown (followOf rule set (now (chunk .entry))) ⌝ }
+// What following answered, in numbers.
+fn in_numbers(followed: Followed) -> FollowNumbers
+    ensures { λ r. ⌜ r ≡ followShown (followOutcome followed) ⌝ }
 {
-    let followed = follow::follow(rule, set, chunk);
     let answer = followed.answer;
     let way = followed.lost;
     let accepted = accepted_of(answer);
@@ -92,4 +104,45 @@ pub extern "C" fn bellbadger_follow(rule: Rule, set: u32, chunk: &[u8]) -> Follo
         expected: followed.expected,
         complete,
     }
+}
+
+// Follows a chunk, which may be any bytes, from a set of states of a rule, which may be any value.
+#[no_mangle]
+pub extern "C" fn bellbadger_follow(rule: Rule, set: u32, chunk: &[u8]) -> FollowNumbers
+    ensures { λ r. ⌜ r ≡ followShown (followOf rule set (now (chunk .entry))) ⌝ }
+{
+    in_numbers(follow::follow(rule, set, chunk))
+}
+
+// The size of the follower that the library was built with.
+#[no_mangle]
+pub extern "C" fn bellbadger_follower_size() -> usize
+    ensures { λ r. ⌜ r ≡ 2064 ⌝ }
+{
+    FOLLOWER_SIZE
+}
+
+// Checks a rule, which may be any value, to follow many chunks by it.
+#[no_mangle]
+pub extern "C" fn bellbadger_follower(rule: Rule) -> FollowerNumbers
+    ensures { λ r. ⌜ r ≡ prepareShown (prepareOf rule) ⌝ }
+{
+    let prepared = follow::prepare(rule);
+    let answer = prepared.answer;
+    let follower = prepared.follower;
+    let accepted = accepted_of(answer);
+    let refused = refused_of(answer);
+    FollowerNumbers {
+        accepted,
+        refused,
+        follower,
+    }
+}
+
+// Follows a chunk by a follower, in which any numbers may stand.
+#[no_mangle]
+pub extern "C" fn bellbadger_follow_by(follower: Follower, set: u32, chunk: &[u8]) -> FollowNumbers
+    ensures { λ r. ⌜ r ≡ followShown (followByOf follower set (now (chunk .entry))) ⌝ }
+{
+    in_numbers(follow::follow_by(follower, set, chunk))
 }

@@ -4,6 +4,7 @@ use Rattle.follow.proofs.Examples.{answered}
 use Rattle.follow.proofs.Rounds.{live-law}
 use Rattle.follow.proofs.Numbers as numbers
 use Rattle.follow.proofs.Lists as lists
+use Rattle.follow.proofs.Ways as ways
 use Rattle.follow.proofs.Cuts.{cut}
 
 pub claims : Claims
@@ -13,6 +14,8 @@ claims = record {
   numbers = numbers.numbers;
   refused = λ r m w x. numbers.refused r w m x;
   accepted = λ r m w. numbers.follow-is r w m;
+  prepared = ways.prepared;
+  by-any = ways.by-any;
   cut = cut;
   one = lists.one;
   followed = lists.followed;

@@ -1,12 +1,12 @@
 -- One step of each loop, and what the search for the least number finds. Assumes nothing.
 --
 --   cell                     a cell of the table is a target mask
---   stray-one, stray-here, stray-on   a byte that is foreign, and one that is not
+--   stray-more               what is foreign in the bytes passed, one byte more
 --   step-idle, step-symbol   the set after one byte
 --   after-next, after-rest   the set after one byte more, and after the rest of the chunk
 --   least-none, least-at     the least number that passes a test; and back: least-nothing, least-found
 --   Going, begun, next       as far as a chunk is not lost
---   at-end, lost-here        it is not lost; it is lost here
+--   at-end, lost-here        it is not lost; it is lost here, and the set after the rest
 use mathlib.Core.Path.{_≡_, refl, sym, ap, _∙_}
 use mathlib.Core.Logic.{_⊎_, inl, inr, ⊎-elim}
 use mathlib.Core.Bool.{Bool, true, false, not, _||_, or-false}
@@ -18,7 +18,7 @@ use native.Mathlib.Numerals.{add-one}
 use native.Mathlib.Omega.{arith}
 use lib.Dec.{leb}
 use lib.ListN.{length, getD, take, drop, drop-of-length-le, take-append-drop}
-use lib.Seq.{drop-cons, take-suc}
+use lib.Seq.{drop-cons, take-suc, take-length, take-all}
 use borrow.Author.Tests.{lt-ltb, eq-eqb, ne-eqb}
 use Rattle.base.proofs.Options.{none-some}
 use Rattle.base.proofs.Tests.{by-test}
@@ -30,7 +30,7 @@ use Rattle.automaton.specs.Successor.{successor, after}
 use Rattle.automaton.proofs.Claims as automaton
 use Rattle.chunks.specs.Chunks.{foreign}
 use Rattle.follow.specs.Live.{backTo, within}
-use Rattle.follow.specs.Following.{setAfter, orHere, leastBelow, lostBy, placeOf, passedOf, wayOf}
+use Rattle.follow.specs.Following.{setAfter, orHere, leastBelow, lostBy, placeOf, wayOf}
 
 pub cell : (ts : List ℕ) (q s : ℕ) → s < 16 → getD ts (q * 16 + s) 0 ≡ targetMask ts q s
 cell ts q s h = rw (lt-ltb s 16 h)
@@ -68,22 +68,21 @@ unfolding foreign
 foreign-append [] w k = refl
 foreign-append (b ∷ v) w k = by-test (leb k b) (λ e. rw e) (λ e. rw e (foreign-append v w k))
 
-module _ (w : List ℕ) (k i : ℕ) (h : i < length w) where
-  stray-split : foreign (textOf (drop i w)) k ≡ foreign (textOf (getD w i 0 ∷ [])) k || foreign (textOf (drop (i + 1) w)) k
-  stray-split =
-      ap (λ (x : List ℕ). foreign (textOf x) k) (rw (add-one, drop-cons w i 0 h))
-      ∙ ap (λ (x : List ℕ). foreign x k) (marks.claims .text-append (getD w i 0 ∷ []) (drop (i + 1) w))
-      ∙ foreign-append (textOf (getD w i 0 ∷ [])) (textOf (drop (i + 1) w)) k
+-- what is foreign in the bytes passed, one byte more
+pub stray-more : (w : List ℕ) (k i : ℕ) → i < length w
+    → foreign (textOf (take (i + 1) w)) k ≡ foreign (textOf (take i w)) k || foreign (textOf (getD w i 0 ∷ [])) k
+stray-more w k i h =
+    ap (λ (x : List ℕ). foreign (textOf x) k) (rw (add-one, take-suc w i 0 h))
+    ∙ ap (λ (x : List ℕ). foreign x k) (marks.claims .text-append (take i w) (getD w i 0 ∷ []))
+    ∙ foreign-append (textOf (take i w)) (textOf (getD w i 0 ∷ [])) k
 
-  pub stray-here : foreign (textOf (getD w i 0 ∷ [])) k ≡ true → foreign (textOf (drop i w)) k ≡ true
-  stray-here e = stray-split ∙ rw e
-
-  pub stray-on : foreign (textOf (getD w i 0 ∷ [])) k ≡ false → foreign (textOf (drop i w)) k ≡ foreign (textOf (drop (i + 1) w)) k
-  stray-on e = stray-split ∙ rw e
-
-pub stray-none : (w : List ℕ) (k i : ℕ) → length w ≤ i → foreign (textOf (drop i w)) k ≡ false
+pub stray-none : (k : ℕ) → foreign (textOf []) k ≡ false
 unfolding textOf foreign
-stray-none w k i h = rw (drop-of-length-le w h)
+stray-none k = refl
+
+pub stray-found : (b : Bool) → b || true ≡ true
+stray-found true = refl
+stray-found false = refl
 
 -- ---- the set after one byte, and after one more
 pub step-idle : (ts : List ℕ) (m b : ℕ) → b ≡ 255 → m ≡ after ts m (textOf (b ∷ []))
@@ -174,14 +173,16 @@ module _ (ts : List ℕ) (live m : ℕ) (w : List ℕ) (before reached i : ℕ) 
         (eq-or-lt-of-le (le-of-suc-le-suc (rw add-one at b)));
   }
 
+  -- the answer where it is lost at o
   way-is : (o : Option ℕ) → lostBy ts live m w ≡ o
-      → record { lost = o; before = setAfter ts m (take (placeOf o w) w); at = passedOf o w; set = setAfter ts m (take (passedOf o w) w) } ≡ wayOf ts live m w
+      → record { lost = o; before = setAfter ts m (take (placeOf o w) w); set = setAfter ts m w } ≡ wayOf ts live m w
   way-is o e = rw e
 
-  pub at-end : length w ≤ i → shares reached live ≡ true → record { lost = none; before = reached; at = i; set = reached } ≡ wayOf ts live m w
+  pub at-end : length w ≤ i → shares reached live ≡ true → record { lost = none; before = reached; set = reached } ≡ wayOf ts live m w
   at-end h l =
       let z : i ≡ length w = omega (arith, g .most) in
       let is : reached ≡ setAfter ts m (take (length w) w) = g .here ∙ ap (λ (y : ℕ). setAfter ts m (take y w)) z in
+      let whole : setAfter ts m (take (length w) w) ≡ setAfter ts m w = ap (setAfter ts m) (take-length w) in
       let none-lost : lostBy ts live m w ≡ none =
       least-none (λ j. not (shares (setAfter ts m (take j w)) live)) (suc (length w))
       (λ j b. ap not
@@ -189,12 +190,14 @@ module _ (ts : List ℕ) (live m : ℕ) (w : List ℕ) (before reached i : ℕ) 
       (λ y. ap (λ (x : ℕ). shares (setAfter ts m (take x w)) live) (y ∙ sym z) ∙ ap (λ (x : ℕ). shares x live) (sym (g .here)) ∙ l)
       (λ c. g .alive j (omega arith))
       (eq-or-lt-of-le (le-of-suc-le-suc b)))) in
-      rw (is, z) (way-is none none-lost)
+      ap (λ (x : ℕ). record { lost = none; before = reached; set = x }) (is ∙ whole)
+      ∙ ap (λ (x : ℕ). record { lost = none; before = x; set = setAfter ts m w }) is
+      ∙ way-is none none-lost
 
-  pub lost-here : shares reached live ≡ false → record { lost = some i; before = before; at = i; set = reached } ≡ wayOf ts live m w
-  lost-here l =
+  pub lost-here : shares reached live ≡ false → (last : ℕ) → last ≡ setAfter ts m w → record { lost = some i; before = before; set = last } ≡ wayOf ts live m w
+  lost-here l last e =
       let lost : lostBy ts live m w ≡ some i =
       least-at (λ j. not (shares (setAfter ts m (take j w)) live)) (suc (length w)) i (omega (arith, g .most))
       (ap not (ap (λ (x : ℕ). shares x live) (sym (g .here)) ∙ l))
       (λ j b. ap not (g .alive j b)) in
-      rw (g .here, g .back) (way-is (some i) lost)
+      rw (g .back, e) (way-is (some i) lost)

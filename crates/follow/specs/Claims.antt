@@ -13,6 +13,7 @@
 --   keptText, takenText   the text of the chunks that were not refused, joined
 --   Continues r v         some text continues v to one that the rule accepts
 --   Cut r m u w           the chunk u ++ w is followed as u and then w
+--   Prepared-so r         what preparing the rule r answers, and following by it
 --   Followed-so r ws w    what the answer for chunk w says after the chunks ws, begun with the initial
 --                         states
 use mathlib.Core.Path.{_≡_}
@@ -31,10 +32,12 @@ use Rattle.automaton.specs.Automaton.{Text, Accepts}
 use Rattle.automaton.specs.Rules.{automatonOf, WellFormed}
 use Rattle.automaton.specs.Successor.{Reached}
 use Rattle.rulecheck.specs.Checking.{ruleNumber}
+use Rattle.chunks.specs.Taking.{chunkNumber}
 use Rattle.delegates.specs.Alike.{AcceptsFrom, Live}
 use Rattle.follow.specs.Live.{liveOf}
 use Rattle.follow.specs.Worked.{cases, Answered}
-use Rattle.follow.specs.Following.{followNumber, refusedFollow, walkOf, followOf}
+use Rattle.follow.specs.declared.Follower.{Follower}
+use Rattle.follow.specs.Following.{followNumber, refusedFollow, walkOf, followOf, noFollower, prepareOf, followByOf}
 
 -- ---- one call
 module _ (r : Rule) (m : ℕ) where
@@ -143,6 +146,17 @@ pub record Cut (r : Rule) (m : ℕ) (u w : List ℕ) : Type 0 where
       → (walkOf r m (u ++ w) .lost ≡ none) × (walkOf r m (u ++ w) .expected ≡ walkOf r (walkOf r m u .set) w .expected)
       × (walkOf r m (u ++ w) .complete ≡ walkOf r (walkOf r m u .set) w .complete)
 
+-- ---- a rule that is checked once
+pub record Prepared-so (r : Rule) : Type 0 where
+  -- refused with 3, 4, 6 or 8 as installing is, and then zeros
+  pub refused : (x : ℕ) → (prepareOf r .refusal ≡ some x) ↔ (ruleNumber r ≡ some x)
+  pub zeros : (x : ℕ) → prepareOf r .refusal ≡ some x → prepareOf r .follower ≡ noFollower
+  -- accepted exactly where the rule is well-formed: its follower has the rule itself
+  pub accepted : (prepareOf r .refusal ≡ none) ↔ WellFormed r
+  pub carries : prepareOf r .refusal ≡ none → prepareOf r .follower .rule ≡ r
+  -- following by it is following by the rule, in every answer
+  pub same : prepareOf r .refusal ≡ none → (m : ℕ) (w : List ℕ) → followByOf (prepareOf r .follower) m w ≡ followOf r m w
+
 pub record Claims : Type 0 where
   -- chunks worked by hand
   pub answered : Answered cases
@@ -152,6 +166,9 @@ pub record Claims : Type 0 where
   pub numbers : (r : Rule) (w : List ℕ) → Refused-exactly r w
   pub refused : (r : Rule) (m : ℕ) (w : List ℕ) (x : ℕ) → (followOf r m w ≡ refusedFollow x) ↔ (followNumber r w ≡ some x)
   pub accepted : (r : Rule) (m : ℕ) (w : List ℕ) → followNumber r w ≡ none → followOf r m w ≡ walkOf r m w
+  -- a rule that is checked once; by any follower, the chunk is refused as its k says
+  pub prepared : (r : Rule) → Prepared-so r
+  pub by-any : (f : Follower) (m : ℕ) (w : List ℕ) → followByOf f m w .refusal ≡ chunkNumber (f .rule .k) w
   -- where the trace is cut does not matter
   pub cut : (r : Rule) → WellFormed r → (m : ℕ) (u w : List ℕ) → Cut r m u w
   -- one call, from any set; from chunk to chunk

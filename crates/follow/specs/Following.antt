@@ -9,17 +9,23 @@
 --                          where it is not
 --   nextBy ts live k m     the mask of the symbols below k by which the set m leads to a state of
 --                          `live`
---   Walk, wayOf, wayOutcome   as far as the chunk is not lost: where it is, the set before that
---                          byte, the bytes passed and the set after them. Nothing here needs to be
---                          believed
+--   Walk, wayOf, wayOutcome   where a chunk is lost, the set before that byte and the set after all;
+--                          and what the code's value stands for
 --   followNumber r w       the number with which following is refused: those of a checked rule (3, 4,
 --                          6, 8), then those of a chunk (12, 13)
 --   Outcome, followOutcome   the answer, every field; and what the code's result stands for
 --   refusedFollow x        refused with the number x: zeros
---   walkOf r m w           accepted: the set after the chunk, whether a final state is in it, where it
---                          is lost, the symbols expected there, or next, and whether the trace could
---                          have ended there, or can here: the set before that byte has a final state
+--   walkBy ts finals live k m w   accepted: the set after the chunk, whether a final state is in it,
+--                          where it is lost, the symbols expected there, or next, and whether the
+--                          trace could have ended there, or can here: the set before that byte has a
+--                          final state
+--   walkOf r m w           the same by the rule r
 --   followOf r m w         what following the chunk w from the set m answers
+--   followerOf r           the follower of the rule r: the rule, and its mask of live states
+--   prepareOf r            what preparing the rule r answers: refused with 3, 4, 6 or 8, and zeros
+--                          (noFollower); or its follower
+--   followByOf f m w       what following by the follower f answers, in which any numbers may stand:
+--                          refused with 12 or 13 by its k, or walkBy of its numbers
 use mathlib.Core.Bool.{Bool, false, cond, not}
 use mathlib.Core.List.{List, _++_}
 use mathlib.Core.Option.{Option, none, some}
@@ -30,13 +36,16 @@ use Rattle.masks.specs.Masks.{shares, maskOf}
 use Rattle.marks.specs.Marks.{textOf}
 use Rattle.automaton.specs.declared.Rule.{Rule}
 use Rattle.automaton.specs.Successor.{successor, after}
-use Rattle.rulecheck.specs.Checking.{ruleConditions}
-use Rattle.chunks.specs.Taking.{chunkConditions}
+use Rattle.rulecheck.specs.Checking.{ruleConditions, ruleNumber}
+use Rattle.ruleformat.specs.Reader.{noRule}
+use Rattle.chunks.specs.Taking.{chunkConditions, chunkNumber}
 use Rattle.follow.specs.declared.FollowAnswer.{FollowAnswer}
 use Rattle.follow.specs.declared.FollowAnswer.the-variants.{Accepted, Refused}
 use Rattle.follow.specs.declared.Lost.{Lost}
 use Rattle.follow.specs.declared.Lost.the-variants.{Never, At}
 use Rattle.follow.specs.declared.Followed.{Followed}
+use Rattle.follow.specs.declared.Follower.{Follower}
+use Rattle.follow.specs.declared.PrepareResult.{PrepareResult}
 use Rattle.follow.specs.declared.Way.{Way}
 use Rattle.follow.specs.Live.{liveOf}
 
@@ -62,7 +71,7 @@ placeOf (some b) w = b - 1
 abbrev pub nextBy : List ℕ → ℕ → ℕ → ℕ → ℕ
 nextBy ts live k m = maskOf (λ s. shares (successor ts m s) live) k
 
--- ---- as far as it is not lost
+-- ---- where it is lost, and the sets
 abbrev pub lostMeans : Lost → Option ℕ
 lostMeans Never = none
 lostMeans (At b) = some b
@@ -70,25 +79,15 @@ lostMeans (At b) = some b
 pub record Walk : Type 0 where
   pub lost : Option ℕ
   pub before : ℕ
-  pub at : ℕ
   pub set : ℕ
-
-abbrev pub passedOf : Option ℕ → List ℕ → ℕ
-passedOf none w = length w
-passedOf (some b) w = b
 
 abbrev pub wayOf : List ℕ → ℕ → ℕ → List ℕ → Walk
 wayOf ts live m w =
     let o = lostBy ts live m w in
-    record {
-      lost = o;
-      before = setAfter ts m (take (placeOf o w) w);
-      at = passedOf o w;
-      set = setAfter ts m (take (passedOf o w) w);
-    }
+    record { lost = o; before = setAfter ts m (take (placeOf o w) w); set = setAfter ts m w }
 
 abbrev pub wayOutcome : Way → Walk
-wayOutcome y = record { lost = lostMeans (y .lost); before = y .before; at = y .at; set = y .set }
+wayOutcome y = record { lost = lostMeans (y .lost); before = y .before; set = y .set }
 
 -- ---- the answer
 unfoldable pub followNumber : Rule → List ℕ → Option ℕ
@@ -119,21 +118,51 @@ followOutcome f = record {
 abbrev pub refusedFollow : ℕ → Outcome
 refusedFollow number = record { refusal = some number; set = 0; ends = false; lost = none; expected = 0; complete = false }
 
-abbrev pub walkOf : Rule → ℕ → List ℕ → Outcome
-walkOf r m w =
-    let o = lostBy (r .targets) (liveOf r) m w in
+abbrev pub walkBy : List ℕ → ℕ → ℕ → ℕ → ℕ → List ℕ → Outcome
+walkBy ts finals live k m w =
+    let y = wayOf ts live m w in
     record {
       refusal = none;
-      set = setAfter (r .targets) m w;
-      ends = shares (setAfter (r .targets) m w) (r .finals);
-      lost = o;
-      expected = nextBy (r .targets) (liveOf r) (r .k) (setAfter (r .targets) m (take (placeOf o w) w));
-      complete = shares (setAfter (r .targets) m (take (placeOf o w) w)) (r .finals);
+      set = y .set;
+      ends = shares (y .set) finals;
+      lost = y .lost;
+      expected = nextBy ts live k (y .before);
+      complete = shares (y .before) finals;
     }
 
-abbrev pub followBy : Option ℕ → Rule → ℕ → List ℕ → Outcome
-followBy none r m w = walkOf r m w
-followBy (some number) r m w = refusedFollow number
+abbrev pub walkOf : Rule → ℕ → List ℕ → Outcome
+walkOf r m w = walkBy (r .targets) (r .finals) (liveOf r) (r .k) m w
+
+abbrev pub takenBy : Option ℕ → Outcome → Outcome
+takenBy none o = o
+takenBy (some number) o = refusedFollow number
 
 unfoldable pub followOf : Rule → ℕ → List ℕ → Outcome
-followOf r m w = followBy (followNumber r w) r m w
+followOf r m w = takenBy (followNumber r w) (walkOf r m w)
+
+-- ---- a rule that is checked once
+abbrev pub followerOf : Rule → Follower
+followerOf r = record { rule = r; live = liveOf r }
+
+abbrev pub noFollower : Follower
+noFollower = record { rule = noRule; live = 0 }
+
+pub record Prepared : Type 0 where
+  pub refusal : Option ℕ
+  pub follower : Follower
+
+abbrev pub prepareOutcome : PrepareResult → Prepared
+prepareOutcome p = record { refusal = answerMeans (p .answer); follower = p .follower }
+
+abbrev pub prepareBy : Option ℕ → Rule → Prepared
+prepareBy none r = record { refusal = none; follower = followerOf r }
+prepareBy (some number) r = record { refusal = some number; follower = noFollower }
+
+abbrev pub prepareOf : Rule → Prepared
+prepareOf r = prepareBy (ruleNumber r) r
+
+abbrev pub lentOf : List ℕ → ℕ → ℕ → ℕ → ℕ → List ℕ → Outcome
+lentOf ts finals live k m w = takenBy (chunkNumber k w) (walkBy ts finals live k m w)
+
+unfoldable pub followByOf : Follower → ℕ → List ℕ → Outcome
+followByOf f m w = lentOf (f .rule .targets) (f .rule .finals) (f .live) (f .rule .k) m w

@@ -5,12 +5,12 @@ ghost use mathlib.Core.Path.{_≡_};
 ghost use mathlib.Core.List.{_∷_, []};
 ghost use Prim.Native.Nat.{_≤_, _<_};
 ghost use lib.ListN.{length};
-ghost use Rattle.limits.specs.Limits.{mostStates, mostSymbols, longestChunk};
+ghost use Rattle.limits.specs.Limits.{mostStates, longestChunk};
 ghost use Rattle.marks.specs.Marks.{textOf};
 ghost use Rattle.automaton.specs.Successor.{after};
 ghost use Rattle.chunks.specs.Chunks.{foreign};
 ghost use Rattle.follow.specs.Live.{leads as leadsTo, backTo, within};
-ghost use Rattle.follow.specs.Following.{nextBy, wayOf, wayOutcome, refusedFollow, followOutcome, followOf, walkOf};
+ghost use Rattle.follow.specs.Following.{nextBy, wayOf, wayOutcome, refusedFollow, followOutcome, followOf, lentOf, followByOf, prepareOutcome, prepareOf};
 use automaton::Rule;
 use masks::StateNumber;
 use rulecheck::CheckAnswer;
@@ -41,12 +41,24 @@ pub struct Followed {
     pub complete: bool,
 }
 
-// How far a trace is not lost: where it is, the set before that byte, and the number of bytes passed
-// with the set after them.
+// A checked rule with the mask of its live states, to follow many chunks by.
+#[repr(C)]
+pub struct Follower {
+    pub rule: Rule,
+    pub live: u32,
+}
+
+// The answer, with the follower beside it: zeros where the rule is refused.
+pub struct PrepareResult {
+    pub answer: FollowAnswer,
+    pub follower: Follower,
+}
+
+// Where a chunk is lost, the set before that byte, or after the chunk where it is not, and the set
+// after the chunk.
 struct Way {
     lost: Lost,
     before: u32,
-    at: usize,
     set: u32,
 }
 
@@ -99,17 +111,18 @@ fn live_states(targets: &[u32; limits::TARGETS], finals: u32) -> u32
     live
 }
 
-// The symbols below k after which a state of the mask `live` is reached from the set.
-fn next_symbols(targets: &[u32; limits::TARGETS], live: u32, k: usize, set: u32) -> u16
-    requires { ⌜ k ≤ mostSymbols ⌝ }
+// The symbols below k after which a state of the mask `live` is reached from the set. None leads
+// anywhere that is not below 16.
+fn next_symbols(targets: &[u32; limits::TARGETS], live: u32, k: u8, set: u32) -> u16
     ensures { λ r. ⌜ r ≡ nextBy (now (targets .entry)) live k set ⌝ }
 {
+    let most = base::at_most_u8(k, limits::MOST_SYMBOLS);
     let mut mask: u16 = 0;
-    let mut s: usize = 0;
-    while s < k {
-        let reached = automaton::successor(targets, set, s as u8);
+    let mut s: u8 = 0;
+    while s < most {
+        let reached = automaton::successor(targets, set, s);
         if masks::meets(reached, live) {
-            mask = mask | masks::only_symbol(s);
+            mask = mask | masks::only_symbol(s as usize);
         }
         s += 1;
     }
@@ -130,14 +143,15 @@ fn is_stray(byte: u8, k: u8) -> bool
 fn has_stray(chunk: &[u8], k: u8) -> bool
     ensures { λ r. ⌜ r ≡ foreign (textOf (now (chunk .entry))) k ⌝ }
 {
+    let mut found = false;
     let mut i: usize = 0;
     while i < chunk.len() {
         if is_stray(chunk[i], k) {
-            return true;
+            found = true;
         }
         i += 1;
     }
-    false
+    found
 }
 
 // The set after one byte, which may be an idle mark.
@@ -150,21 +164,8 @@ fn step(targets: &[u32; limits::TARGETS], set: u32, byte: u8) -> u32
     automaton::successor(targets, set, byte)
 }
 
-// The set after the text of the chunk.
-fn set_after(targets: &[u32; limits::TARGETS], set: u32, chunk: &[u8]) -> u32
-    ensures { λ r. ⌜ r ≡ after (now (targets .entry)) set (textOf (now (chunk .entry))) ⌝ }
-{
-    let mut reached = set;
-    let mut i: usize = 0;
-    while i < chunk.len() {
-        reached = step(targets, reached, chunk[i]);
-        i += 1;
-    }
-    reached
-}
-
-// Follows the chunk until no state of the mask `live` is left, or to its end.
-fn follow_live(targets: &[u32; limits::TARGETS], live: u32, set: u32, chunk: &[u8]) -> Way
+// Walks the chunk until no state of the mask `live` is left, and from there to its end.
+fn walk(targets: &[u32; limits::TARGETS], live: u32, set: u32, chunk: &[u8]) -> Way
     requires { ⌜ length (now chunk) ≤ longestChunk ⌝ }
     ensures { λ r. ⌜ wayOutcome r ≡ wayOf (now (targets .entry)) live set (now (chunk .entry)) ⌝ }
 {
@@ -176,7 +177,6 @@ fn follow_live(targets: &[u32; limits::TARGETS], live: u32, set: u32, chunk: &[u
             return Way {
                 lost: Lost::Never,
                 before: reached,
-                at: i,
                 set: reached,
             };
         }
@@ -184,10 +184,14 @@ fn follow_live(targets: &[u32; limits::TARGETS], live: u32, set: u32, chunk: &[u
         reached = step(targets, reached, chunk[i]);
         i += 1;
     }
+    let at = i as u32;
+    while i < chunk.len() {
+        reached = step(targets, reached, chunk[i]);
+        i += 1;
+    }
     Way {
-        lost: Lost::At(i as u32),
+        lost: Lost::At(at),
         before,
-        at: i,
         set: reached,
     }
 }
@@ -206,22 +210,32 @@ fn refuse(number: u8) -> Followed
     }
 }
 
-// Follows a chunk of a checked rule's symbols and idle marks.
-fn follow_known(rule: Rule, set: u32, chunk: &[u8]) -> Followed
-    requires { ⌜ (length (now chunk) ≤ longestChunk) × (rule .k ≤ mostSymbols) ⌝ }
-    ensures { λ r. ⌜ followOutcome r ≡ walkOf rule set (now (chunk .entry)) ⌝ }
+// Follows a chunk by a rule's targets, final states, live states and number of symbols, whatever
+// these are: 12, 13, or the answer.
+fn follow_lent(
+    targets: &[u32; limits::TARGETS],
+    finals: u32,
+    live: u32,
+    k: u8,
+    set: u32,
+    chunk: &[u8],
+) -> Followed
+    ensures { λ r. ⌜ followOutcome r ≡ lentOf (now (targets .entry)) finals live k set (now (chunk .entry)) ⌝ }
 {
-    let live = live_states(&rule.targets, rule.finals);
-    let way = follow_live(&rule.targets, live, set, chunk);
-    let at = way.at;
-    let last = set_after(&rule.targets, way.set, &chunk[at..]);
-    let expected = next_symbols(&rule.targets, live, rule.k as usize, way.before);
-    let ends = masks::meets(last, rule.finals);
-    let complete = masks::meets(way.before, rule.finals);
+    if limits::CHUNK < chunk.len() {
+        return refuse(12);
+    }
+    if has_stray(chunk, k) {
+        return refuse(13);
+    }
+    let way = walk(targets, live, set, chunk);
+    let expected = next_symbols(targets, live, k, way.before);
+    let ends = masks::meets(way.set, finals);
+    let complete = masks::meets(way.before, finals);
     let lost = way.lost;
     Followed {
         answer: FollowAnswer::Accepted,
-        set: last,
+        set: way.set,
         ends,
         lost,
         expected,
@@ -237,13 +251,47 @@ pub fn follow(rule: Rule, set: u32, chunk: &[u8]) -> Followed
     match checked {
         CheckAnswer::Refused(number) => refuse(number),
         CheckAnswer::Passed => {
-            if limits::CHUNK < chunk.len() {
-                return refuse(12);
-            }
-            if has_stray(chunk, rule.k) {
-                return refuse(13);
-            }
-            follow_known(rule, set, chunk)
+            let live = live_states(&rule.targets, rule.finals);
+            follow_lent(&rule.targets, rule.finals, live, rule.k, set, chunk)
         }
     }
+}
+
+// Checks a rule, which may be any value, to follow many chunks by it.
+pub fn prepare(rule: Rule) -> PrepareResult
+    ensures { λ r. ⌜ prepareOutcome r ≡ prepareOf rule ⌝ }
+{
+    let checked = rulecheck::check_rule(rule);
+    match checked {
+        CheckAnswer::Refused(number) => {
+            let answer = FollowAnswer::Refused(number);
+            let nothing = rulefile::no_rule();
+            let follower = Follower {
+                rule: nothing,
+                live: 0,
+            };
+            PrepareResult { answer, follower }
+        }
+        CheckAnswer::Passed => {
+            let answer = FollowAnswer::Accepted;
+            let live = live_states(&rule.targets, rule.finals);
+            let follower = Follower { rule, live };
+            PrepareResult { answer, follower }
+        }
+    }
+}
+
+// Follows a chunk by what `prepare` answered, or by any other numbers.
+pub fn follow_by(follower: Follower, set: u32, chunk: &[u8]) -> Followed
+    ensures { λ r. ⌜ followOutcome r ≡ followByOf follower set (now (chunk .entry)) ⌝ }
+{
+    let rule = follower.rule;
+    follow_lent(
+        &rule.targets,
+        rule.finals,
+        follower.live,
+        rule.k,
+        set,
+        chunk,
+    )
 }

@@ -1,46 +1,18 @@
 -- `bellbadger_follow` meets its contract. Assumes nothing.
+use mathlib.Core.Path.{ap, _∙_}
 use borrow.Author.Needs.{needs}
-use Rattle.c_follow.proofs.Numbers.{shown}
+use Rattle.c_follow.specs.Numbers.{followShown}
 use Rattle.c_follow.proofs.bellbadger_follow.Statement.{statement}
 use Rattle.c_follow.proofs.bellbadger_follow.Tie as tie
 
 follow-requires : tie.Need-follow-requires
 follow-requires c κs = search needs
 
-accepted-of-requires : tie.Need-accepted-of-requires
-accepted-of-requires c κs = search needs
-
-refused-of-requires : tie.Need-refused-of-requires
-refused-of-requires c κs = search needs
-
-bit-requires : tie.Need-bit-requires
-bit-requires c κs = search needs
-
-bit-requires-2 : tie.Need-bit-requires-2
-bit-requires-2 c κs = search needs
-
-lost-flag-requires : tie.Need-lost-flag-requires
-lost-flag-requires c κs = search needs
-
-lost-at-requires : tie.Need-lost-at-requires
-lost-at-requires c κs = search needs
+in-numbers-requires : tie.Need-in-numbers-requires
+in-numbers-requires c κs = search needs
 
 returns : tie.Need-returns
-returns c =
-    let f = c .before .before .before .before .before .before .follow in
-    shown (f .result) _ (f .ensures) _ _ _ _ _ _ (c .before .before .before .before .before .accepted-of .ensures)
-    (c .before .before .before .before .refused-of .ensures) (c .before .before .before .bit .ensures) (c .before .lost-flag .ensures)
-    (c .lost-at .ensures) (c .before .before .bit2 .ensures)
+returns c = c .in-numbers .ensures ∙ ap followShown (c .before .follow .ensures)
 
 pub bellbadger-follow-spec : {M : Type 1} → statement M
-bellbadger-follow-spec =
-    tie.close
-    (tie.spec
-    follow-requires
-    accepted-of-requires
-    refused-of-requires
-    bit-requires
-    bit-requires-2
-    lost-flag-requires
-    lost-at-requires
-    returns)
+bellbadger-follow-spec = tie.close (tie.spec follow-requires in-numbers-requires returns)
