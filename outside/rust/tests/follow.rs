@@ -72,6 +72,34 @@ fn worked_by_hand() {
     assert_eq!(format!("{:?}", lost.expected), "{1}");
 }
 
+/// From each state any symbol leads to the next one, and from the last nowhere.
+#[test]
+fn every_symbol_and_state() {
+    let mut rule = CheckedRule {
+        n: 32,
+        k: 16,
+        initials: 1,
+        finals: 1 << 31,
+        targets: [0; 512],
+    };
+    for cell in 0..31 * 16 {
+        rule.targets[cell] = 2 << (cell / 16);
+    }
+    let (mut follower, all) = (fresh(&rule), (0..16).collect());
+    assert_eq!(
+        told(follower.follow(&[0; 30]).unwrap()),
+        (false, None, all, false)
+    );
+    assert_eq!(
+        told(follower.follow(&[15]).unwrap()),
+        (true, None, vec![], true)
+    );
+    assert_eq!(
+        told(follower.follow(&[15]).unwrap()),
+        (false, Some(1), vec![], true)
+    );
+}
+
 /// A refused chunk is no part of the trace, which goes on as if it had not come.
 #[test]
 fn refused_chunks() {
