@@ -178,24 +178,6 @@ static void beside(const char *name, bellbadger_judge j, size_t place) {
     printf("  %-34s M %2u: %8.1f us, ratio %5.2f; run by run %5.2f\n", name, m, micros[ROUNDS / 2], delivered[ROUNDS / 2], each[ROUNDS / 2]);
 }
 
-/* a chunk with idle marks, beside its text alone */
-static void marks(bellbadger_judge j) {
-    static uint8_t marked[BYTES];
-    double ratios[ROUNDS];
-    size_t length = 0;
-    made(marked, 16, 3);
-    for (size_t i = 0; i < BYTES; i++) marked[i] = marked[i] ? text[length++] : 255;
-    for (int round = 0; round < ROUNDS; round++) {
-        double a = now();
-        sink += bellbadger_deliver(j, 1, 0, text, length).accepted;
-        double b = now();
-        sink += bellbadger_deliver(j, 1, 0, marked, BYTES).accepted;
-        ratios[round] = (now() - b) / (b - a);
-    }
-    qsort(ratios, ROUNDS, sizeof ratios[0], rising);
-    printf("  one byte in 16 an idle mark, beside the same text without: %.2f\n", ratios[ROUNDS / 2]);
-}
-
 /* a chunk followed, by the rule and by its follower, beside a delivery of it that is run from one start */
 static void following(const char *name, bellbadger_checked_rule r) {
     double by_rule[ROUNDS], by_follower[ROUNDS];
@@ -229,6 +211,24 @@ static void followings(void) {
     following("rule A", a);
     following("32 states, in one at a time", one);
     following("32 states, in all at once", all);
+}
+
+/* a chunk with idle marks, beside its text alone */
+static void marks(bellbadger_judge j) {
+    static uint8_t marked[BYTES];
+    double ratios[ROUNDS];
+    size_t length = 0;
+    made(marked, 16, 3);
+    for (size_t i = 0; i < BYTES; i++) marked[i] = marked[i] ? text[length++] : 255;
+    for (int round = 0; round < ROUNDS; round++) {
+        double a = now();
+        sink += bellbadger_deliver(j, 1, 0, text, length).accepted;
+        double b = now();
+        sink += bellbadger_deliver(j, 1, 0, marked, BYTES).accepted;
+        ratios[round] = (now() - b) / (b - a);
+    }
+    qsort(ratios, ROUNDS, sizeof ratios[0], rising);
+    printf("  one byte in 16 an idle mark, beside the same text without: %.2f\n", ratios[ROUNDS / 2]);
 }
 
 int main(void) {
