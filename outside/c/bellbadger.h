@@ -221,6 +221,7 @@ BELLBADGER_RESULT bellbadger_replay_result bellbadger_replay(const uint8_t *text
 #include "bellbadger_losses.h"
 #include "bellbadger_mappings.h"
 #include "bellbadger_samples.h"
+#include "bellbadger_follow.h"
 #include "bellbadger_patterns.h"
 #include "bellbadger_merge.h"
 #include "bellbadger_texts.h"

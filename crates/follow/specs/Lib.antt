@@ -1,0 +1,5 @@
+-- In the order in which to read them.
+pub mod Live
+pub mod Following
+pub mod Worked
+pub mod Claims
