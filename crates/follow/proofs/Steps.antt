@@ -104,6 +104,14 @@ module _ (ts : List ℕ) (m : ℕ) where
   pub after-next : (w : List ℕ) (i : ℕ) → i < length w → setAfter ts m (take (i + 1) w) ≡ setAfter ts (setAfter ts m (take i w)) (getD w i 0 ∷ [])
   after-next w i h = ap (setAfter ts m) (rw (add-one, take-suc w i 0 h)) ∙ set-append (take i w) (getD w i 0 ∷ [])
 
+  -- where no state is left, none comes
+  pub empty-rest : (w : List ℕ) (i : ℕ) → setAfter ts m (take i w) ≡ 0 → 0 ≡ setAfter ts m w
+  empty-rest w i e =
+      sym (automaton.claims .after-empty ts (textOf (drop i w)))
+      ∙ ap (λ (x : ℕ). setAfter ts x (drop i w)) (sym e)
+      ∙ sym (set-append (take i w) (drop i w))
+      ∙ ap (setAfter ts m) (take-append-drop i w)
+
   pub after-rest : (w : List ℕ) (i : ℕ) → setAfter ts (setAfter ts m (take i w)) (drop i w) ≡ setAfter ts m w
   after-rest w i = sym (set-append (take i w) (drop i w)) ∙ ap (setAfter ts m) (take-append-drop i w)
 
