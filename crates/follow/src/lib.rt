@@ -141,14 +141,12 @@ fn next_symbols(targets: &[u32; limits::TARGETS], live: u32, k: u8, set: u32) ->
     mask
 }
 
-// Whether the byte is neither an idle mark nor a symbol below k.
+// Whether the byte is neither an idle mark nor a symbol below k. With one more the idle mark, which
+// is the highest byte, wraps to 0.
 fn is_stray(byte: u8, k: u8) -> bool
     ensures { λ r. ⌜ r ≡ foreign (textOf (byte ∷ [])) k ⌝ }
 {
-    if byte == marks::IDLE {
-        return false;
-    }
-    k <= byte
+    k < std::num::wrapping_add_u8(byte, 1)
 }
 
 // Whether some byte is neither an idle mark nor a symbol below k (13).
