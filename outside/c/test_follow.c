@@ -43,7 +43,7 @@ static int same_rule(bellbadger_checked_rule a, bellbadger_checked_rule b) {
 
 static bellbadger_follow_result both(bellbadger_checked_rule r, uint32_t from, const uint8_t *chunk, size_t length) {
     bellbadger_follow_result f = bellbadger_follow(r, from, chunk, length), g;
-    bellbadger_follower_result p = bellbadger_follower(r);
+    bellbadger_follower_result p = bellbadger_follower_prepare(r);
     if (!p.accepted) {
         static const bellbadger_checked_rule zeros;
         CHECK(f.refused == p.refused && same_rule(p.follower.rule, zeros) && p.follower.live == 0);
@@ -70,7 +70,7 @@ static void worked(void) {
     static uint8_t most[65537];
     bellbadger_checked_rule a = {.n = 3, .k = 2, .initials = 1, .finals = 4}, once = a, bad;
     CHECK(sizeof(bellbadger_follow_result) == 16);
-    CHECK(sizeof(bellbadger_follower_value) == bellbadger_follower_size());
+    CHECK(sizeof(bellbadger_follower) == bellbadger_follower_size());
     a.targets[0] = 3, a.targets[1] = 1, a.targets[17] = 4; /* what ends in 0 1 */
     once.targets[0] = 2, once.targets[17] = 4;             /* 0 1 and no other */
     due(a, 1, (const uint8_t[]){0, 1}, 2, 1, 0, 0, 5, 3, 1);
@@ -137,7 +137,7 @@ static void followed(bellbadger_checked_rule r) {
 /* the call ends, within its bounds, and refuses as k says, whatever the follower has */
 static void any_numbers(void) {
     static uint8_t chunk[4096];
-    bellbadger_follower_value f;
+    bellbadger_follower f;
     for (size_t i = 0; i < sizeof f; i++) ((uint8_t *)&f)[i] = (uint8_t)any();
     for (size_t i = 0; i < sizeof chunk; i++) chunk[i] = (uint8_t)(any() % 3 ? any() % 16 : any());
     int stray = 0;
