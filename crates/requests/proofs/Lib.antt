@@ -1,4 +1,4 @@
--- A page for each request.
+-- A page for each request, and one for following a trace in order.
 pub mod MappingFunctions
 pub mod Mappings
 pub mod Samples
@@ -8,3 +8,5 @@ pub mod MadeTexts
 pub mod Forms
 pub mod TrayFunctions
 pub mod Trays
+pub mod FollowFunctions
+pub mod Following
