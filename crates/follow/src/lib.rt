@@ -62,8 +62,8 @@ struct Way {
     set: u32,
 }
 
-// How many rows a cache of successors has, of 16 cells each. The sets of single states have a row
-// each: the powers of 2 below 2^60 have different remainders by 61.
+// A cache of successors has 61 rows of 16 cells. The sets of single states have a row each: the powers
+// of 2 below 2^60 have different remainders by 61.
 const ROWS: u32 = 61;
 
 const CACHE: usize = 976;
@@ -171,8 +171,8 @@ fn row_of(set: u32) -> u8
     (set % ROWS) as u8
 }
 
-// The set after one byte, which may be an idle mark: from the cache where it is there, else it is put
-// there.
+// The set after one byte, which may be an idle mark. In cell c of the cache: by symbol c % 16 the set
+// from[c] leads to the set to[c], whose row is rows[c]. Where the cell is another set's it is written.
 fn step(
     targets: &[u32; limits::TARGETS],
     from: &mut [u32; CACHE],

@@ -1,6 +1,5 @@
 -- `is_stray` meets its contract. Assumes nothing.
 use mathlib.Core.Path.{ap, _∙_}
-use Prim.Native.Nat.{ℕ}
 use borrow.Author.Needs.{needs}
 use lib.Dec.{ltb}
 use Rattle.follow.proofs.Steps.{stray-one}

@@ -1,6 +1,4 @@
 -- `step` meets its contract: each way out by its lemma. Assumes nothing.
-use mathlib.Core.Path.{sym, _∙_}
-use native.Mathlib.Omega.{arith}
 use borrow.Author.Needs.{needs}
 use Rattle.follow.proofs.Caching.{stepped-idle, stepped-beyond, stepped-known, stepped-new}
 use Rattle.follow.proofs.step.Statement.{statement}
