@@ -196,6 +196,26 @@ static void marks(bellbadger_judge j) {
     printf("  one byte in 16 an idle mark, beside the same text without: %.2f\n", ratios[ROUNDS / 2]);
 }
 
+/* the same chunk followed by a follower, from a set of the states of a cycle */
+static void followed(const char *name, uint32_t set) {
+    static uint8_t file[32906];
+    int to[32][16];
+    double ratios[ROUNDS];
+    for (int q = 0; q < 32; q++) to[q][0] = (q + 1) % 32, to[q][1] = q;
+    bellbadger_follower follower = bellbadger_follower_prepare(bellbadger_read(file, rule(file, 32, 2, 1, to)).rule).follower;
+    bellbadger_judge j = cycle(32, 2);
+    memcpy(cells, j.rule.next, sizeof j.rule.next);
+    for (int round = 0; round < ROUNDS; round++) {
+        double a = now();
+        sink += serial(j.rule.singles[0], BYTES);
+        double b = now();
+        sink += bellbadger_follow_by(follower, set, text, BYTES).set;
+        ratios[round] = (now() - b) / (b - a);
+    }
+    qsort(ratios, ROUNDS, sizeof ratios[0], rising);
+    printf("  followed from %s: %.2f\n", name, ratios[ROUNDS / 2]);
+}
+
 int main(void) {
     bellbadger_judge j = meeting(32);
     printf("a chunk of 65,536 bytes, beside one plain table walk in C over the same text\n");
@@ -204,6 +224,8 @@ int main(void) {
     beside("runs never meet", cycle(8, 2), 1);
     beside("runs never meet", cycle(32, 2), 1);
     marks(cycle(8, 2));
+    followed("one state", 1);
+    followed("32 states", ~0u);
     texts(4);
     if (j.rule.starts != 32 || met(&j.rule) > 1024) exit(1);
     beside("runs meet within 1,024 bytes", j, 1);
