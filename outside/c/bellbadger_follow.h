@@ -29,23 +29,23 @@ BELLBADGER_RESULT bellbadger_follow_result bellbadger_follow(bellbadger_checked_
 typedef struct {
     bellbadger_checked_rule rule;
     uint32_t live; /* the states from which a final state can be reached */
-} bellbadger_follower_value;
+} bellbadger_follower;
 
 /* Where refused, every other field is 0, those of the follower too. */
 typedef struct {
     uint8_t accepted, refused;
-    bellbadger_follower_value follower;
+    bellbadger_follower follower;
 } bellbadger_follower_result;
 
-/* sizeof(bellbadger_follower_value) in the library that is linked */
+/* sizeof(bellbadger_follower) in the library that is linked */
 BELLBADGER_RESULT size_t bellbadger_follower_size(void);
 
 /* Checks a rule once. Refused with 3, 4, 6 and 8 as bellbadger_install is. */
-BELLBADGER_RESULT bellbadger_follower_result bellbadger_follower(bellbadger_checked_rule rule);
+BELLBADGER_RESULT bellbadger_follower_result bellbadger_follower_prepare(bellbadger_checked_rule rule);
 
 /* What bellbadger_follow answers with the rule, which is not checked anew: refused with 12 and 13 alone. On a
- * follower that no accepted bellbadger_follower returned the call ends and stays within its bounds; its answer is free. */
-BELLBADGER_RESULT bellbadger_follow_result bellbadger_follow_by(bellbadger_follower_value follower, uint32_t set, const uint8_t *chunk, size_t length);
+ * follower that no accepted bellbadger_follower_prepare returned the call ends and stays within its bounds; its answer is free. */
+BELLBADGER_RESULT bellbadger_follow_result bellbadger_follow_by(bellbadger_follower follower, uint32_t set, const uint8_t *chunk, size_t length);
 
 #ifdef __cplusplus
 }

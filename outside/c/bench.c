@@ -191,7 +191,7 @@ static void beside(const char *name, bellbadger_judge j, size_t place) {
 static void following(const char *name, bellbadger_checked_rule r) {
     double by_rule[ROUNDS], by_follower[ROUNDS];
     bellbadger_judge j = bellbadger_open(bellbadger_install(bellbadger_new(), r).judge, 1).judge;
-    bellbadger_follower_result p = bellbadger_follower(r);
+    bellbadger_follower_result p = bellbadger_follower_prepare(r);
     if (!p.accepted || bellbadger_deliver(j, 0, 0, text, BYTES).looked != BYTES) exit(1);
     for (int round = 0; round < ROUNDS; round++) {
         double a = now();

@@ -1,11 +1,12 @@
 /* Following a trace from C: chunks worked by hand, refusals in their order with their zeros, random rules and
  * chunks against single runs searched forward and against a filled board with the same chunks, each chunk by the
- * rule and by its follower, and followers in which any numbers stand.
+ * rule and by its follower, long chunks of rules with up to 32 states, whole and cut, and followers in which any
+ * numbers stand.
  * Prints how many checks were made; stops at the first that fails. */
 #pragma GCC diagnostic ignored "-Wunused-function" /* not all of checks.h is used */
 #include "checks.h"
 
-enum { RULES = 3000, CHUNKS = 4, MOST = 8 };
+enum { RULES = 3000, CHUNKS = 4, MOST = 8, LONG_RULES = 150, LONG = 6000 };
 
 static uint64_t state = 88172645463325252u;
 
@@ -43,7 +44,7 @@ static int same_rule(bellbadger_checked_rule a, bellbadger_checked_rule b) {
 
 static bellbadger_follow_result both(bellbadger_checked_rule r, uint32_t from, const uint8_t *chunk, size_t length) {
     bellbadger_follow_result f = bellbadger_follow(r, from, chunk, length), g;
-    bellbadger_follower_result p = bellbadger_follower(r);
+    bellbadger_follower_result p = bellbadger_follower_prepare(r);
     if (!p.accepted) {
         static const bellbadger_checked_rule zeros;
         CHECK(f.refused == p.refused && same_rule(p.follower.rule, zeros) && p.follower.live == 0);
@@ -70,7 +71,7 @@ static void worked(void) {
     static uint8_t most[65537];
     bellbadger_checked_rule a = {.n = 3, .k = 2, .initials = 1, .finals = 4}, once = a, bad;
     CHECK(sizeof(bellbadger_follow_result) == 16);
-    CHECK(sizeof(bellbadger_follower_value) == bellbadger_follower_size());
+    CHECK(sizeof(bellbadger_follower) == bellbadger_follower_size());
     a.targets[0] = 3, a.targets[1] = 1, a.targets[17] = 4; /* what ends in 0 1 */
     once.targets[0] = 2, once.targets[17] = 4;             /* 0 1 and no other */
     due(a, 1, (const uint8_t[]){0, 1}, 2, 1, 0, 0, 5, 3, 1);
@@ -134,10 +135,47 @@ static void followed(bellbadger_checked_rule r) {
     CHECK(bellbadger_verdict(judge).kind == (yes ? BELLBADGER_YES : BELLBADGER_NO));
 }
 
+/* many sets and long chunks: what is remembered of one set is not taken for another's */
+static void long_chunk(void) {
+    static uint8_t chunk[LONG];
+    bellbadger_checked_rule r = {.n = (uint8_t)(1 + any() % 32), .k = (uint8_t)(1 + any() % 16)};
+    uint32_t all = r.n == 32 ? ~0u : (1u << r.n) - 1, live, now, before, at = 0, arcs = 1 + any() % 3;
+    r.initials = any() & all, r.finals = any() & all;
+    for (int q = 0; q < r.n; q++)
+        for (int s = 0; s < r.k; s++)
+            for (uint32_t i = 0; i < arcs; i++)
+                if (any() % 8) r.targets[16 * q + s] |= 1u << any() % r.n;
+    live = r.finals;
+    for (int round = 0; round < 32; round++)
+        for (int q = 0; q < r.n; q++)
+            for (int s = 0; s < r.k; s++)
+                if (r.targets[16 * q + s] & live) live |= 1u << q;
+    for (size_t i = 0; i < LONG; i++) chunk[i] = (uint8_t)(any() % 9 ? any() % r.k : 255);
+    now = before = r.initials;
+    int lost = !(now & live);
+    for (size_t i = 0; i < LONG; i++) {
+        uint32_t then = now;
+        if (chunk[i] != 255) now = step(&r, now, chunk[i]);
+        if (!lost && !(now & live)) lost = 1, at = (uint32_t)i + 1, before = then;
+    }
+    if (!lost) before = now;
+    uint16_t expected = 0;
+    for (int s = 0; s < r.k; s++)
+        if (step(&r, before, s) & live) expected |= (uint16_t)(1u << s);
+    due(r, r.initials, chunk, LONG, (now & r.finals) != 0, (uint8_t)lost, at, now, expected, (before & r.finals) != 0);
+    uint32_t set = r.initials;
+    for (size_t i = 0, size; i < LONG; i += size) {
+        size = any() % 700 + 1;
+        if (LONG - i < size) size = LONG - i;
+        set = bellbadger_follow(r, set, chunk + i, size).set;
+    }
+    CHECK(set == now);
+}
+
 /* the call ends, within its bounds, and refuses as k says, whatever the follower has */
 static void any_numbers(void) {
     static uint8_t chunk[4096];
-    bellbadger_follower_value f;
+    bellbadger_follower f;
     for (size_t i = 0; i < sizeof f; i++) ((uint8_t *)&f)[i] = (uint8_t)any();
     for (size_t i = 0; i < sizeof chunk; i++) chunk[i] = (uint8_t)(any() % 3 ? any() % 16 : any());
     int stray = 0;
@@ -151,6 +189,7 @@ static void any_numbers(void) {
 
 int main(void) {
     worked();
+    for (int i = 0; i < LONG_RULES; i++) long_chunk();
     for (int i = 0; i < 300; i++) any_numbers();
     for (int i = 0; i < RULES; i++) followed(any_rule());
     printf("follow: %ld checks\n", checks);

@@ -124,7 +124,7 @@ pub extern "C" fn bellbadger_follower_size() -> usize
 
 // Checks a rule, which may be any value, to follow many chunks by it.
 #[no_mangle]
-pub extern "C" fn bellbadger_follower(rule: Rule) -> FollowerNumbers
+pub extern "C" fn bellbadger_follower_prepare(rule: Rule) -> FollowerNumbers
     ensures { λ r. ⌜ r ≡ prepareShown (prepareOf rule) ⌝ }
 {
     let prepared = follow::prepare(rule);

@@ -1,4 +1,5 @@
 pub mod Steps
+pub mod Caching
 pub mod Numbers
 pub mod Ways
 pub mod Rounds

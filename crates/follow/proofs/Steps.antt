@@ -1,6 +1,7 @@
 -- One step of each loop, and what the search for the least number finds. Assumes nothing.
 --
 --   cell                     a cell of the table is a target mask
+--   stray-one                a byte that is neither an idle mark nor below k, by one comparison
 --   stray-more               what is foreign in the bytes passed, one byte more
 --   step-idle, step-symbol   the set after one byte
 --   after-next, after-rest   the set after one byte more, and after the rest of the chunk
@@ -12,14 +13,14 @@ use mathlib.Core.Logic.{_⊎_, inl, inr, ⊎-elim}
 use mathlib.Core.Bool.{Bool, true, false, not, _||_, or-false}
 use mathlib.Core.List.{List, [], _∷_, _++_}
 use mathlib.Core.Option.{Option, none, some}
-use Prim.Native.Nat.{ℕ, zero, suc, _+_, _-_, _*_, _≤_, _<_}
+use Prim.Native.Nat.{ℕ, zero, suc, _+_, _-_, _*_, _%_, _≤_, _<_}
 use native.Mathlib.Nat.{eq-or-lt-of-le, le-of-suc-le-suc}
 use native.Mathlib.Numerals.{add-one}
 use native.Mathlib.Omega.{arith}
-use lib.Dec.{leb}
-use lib.ListN.{length, getD, take, drop, drop-of-length-le, take-append-drop}
-use lib.Seq.{drop-cons, take-suc, take-length, take-all}
-use borrow.Author.Tests.{lt-ltb, eq-eqb, ne-eqb}
+use lib.Dec.{eqb, ltb, leb}
+use lib.ListN.{length, getD, take, drop, take-append-drop}
+use lib.Seq.{take-suc, take-length}
+use borrow.Author.Tests.{lt-ltb, le-ltb, leb-true, leb-false, eq-eqb, ne-eqb, eqb-true, eqb-false}
 use Rattle.base.proofs.Options.{none-some}
 use Rattle.base.proofs.Tests.{by-test}
 use Rattle.masks.specs.Masks.{shares}
@@ -55,13 +56,28 @@ module _ (ts : List ℕ) (m : ℕ) where
       is ∙ sym (within-still i (32 - i) (ap (backTo ts) (sym is) ∙ e ∙ is)) ∙ ap (within ts m) z
 
 -- ---- foreign bytes
-pub stray-idle : (b k : ℕ) → b ≡ 255 → foreign (textOf (b ∷ [])) k ≡ false
+stray-idle : (b k : ℕ) → b ≡ 255 → foreign (textOf (b ∷ [])) k ≡ false
 unfolding textOf foreign
 stray-idle b k e = rw (eq-eqb b 255 e)
 
-pub stray-symbol : (b k : ℕ) → (b ≡ 255 → ⊥) → foreign (textOf (b ∷ [])) k ≡ leb k b
+stray-symbol : (b k : ℕ) → (b ≡ 255 → ⊥) → foreign (textOf (b ∷ [])) k ≡ leb k b
 unfolding textOf foreign
 stray-symbol b k n = rw (ne-eqb b 255 n) (or-false (leb k b))
+
+pub stray-one : (b k : ℕ) → b < 256 → ltb k ((b + 1) % 256) ≡ foreign (textOf (b ∷ [])) k
+stray-one b k h =
+    by-test (eqb b 255)
+    (λ t.
+    let e : b ≡ 255 = eqb-true b 255 t in
+    let z : (b + 1) % 256 ≡ 0 = omega arith in
+    rw z (le-ltb k 0 (omega arith) ∙ sym (stray-idle b k e)))
+    (λ f.
+    let n : b ≡ 255 → ⊥ = eqb-false b 255 f in
+    let z : (b + 1) % 256 ≡ b + 1 = omega (arith, n) in
+    rw z
+    (by-test (leb k b)
+    (λ t. lt-ltb k (b + 1) (omega (arith, leb-true k b t)) ∙ sym t ∙ sym (stray-symbol b k n))
+    (λ g. le-ltb k (b + 1) (omega (arith, leb-false k b g)) ∙ sym g ∙ sym (stray-symbol b k n))))
 
 foreign-append : (v w : List ℕ) (k : ℕ) → foreign (v ++ w) k ≡ foreign v k || foreign w k
 unfolding foreign
@@ -103,6 +119,14 @@ module _ (ts : List ℕ) (m : ℕ) where
 
   pub after-next : (w : List ℕ) (i : ℕ) → i < length w → setAfter ts m (take (i + 1) w) ≡ setAfter ts (setAfter ts m (take i w)) (getD w i 0 ∷ [])
   after-next w i h = ap (setAfter ts m) (rw (add-one, take-suc w i 0 h)) ∙ set-append (take i w) (getD w i 0 ∷ [])
+
+  -- where no state is left, none comes
+  pub empty-rest : (w : List ℕ) (i : ℕ) → setAfter ts m (take i w) ≡ 0 → 0 ≡ setAfter ts m w
+  empty-rest w i e =
+      sym (automaton.claims .after-empty ts (textOf (drop i w)))
+      ∙ ap (λ (x : ℕ). setAfter ts x (drop i w)) (sym e)
+      ∙ sym (set-append (take i w) (drop i w))
+      ∙ ap (setAfter ts m) (take-append-drop i w)
 
   pub after-rest : (w : List ℕ) (i : ℕ) → setAfter ts (setAfter ts m (take i w)) (drop i w) ≡ setAfter ts m w
   after-rest w i = sym (set-append (take i w) (drop i w)) ∙ ap (setAfter ts m) (take-append-drop i w)

@@ -5,20 +5,18 @@
 --   long, strange, whole   the chunk is refused with 12, with 13, or it is followed
 --   unchecked, checked     the rule is refused by its check, or passes
 --   prepared, by-any       what specs/Claims.antt says of a rule that is checked once
-use mathlib.Core.Path.{_≡_, refl, sym, ap, _∙_, subst}
-use mathlib.Core.Logic.{_↔_}
+use mathlib.Core.Path.{_≡_, refl, sym, ap, _∙_}
 use mathlib.Core.Bool.{Bool, true, false}
 use mathlib.Core.List.{List}
 use mathlib.Core.Option.{Option, none, some}
 use Prim.Native.Nat.{ℕ, zero, suc, _+_, _-_, _≤_, _<_, min}
-use native.Mathlib.Numerals.{add-one}
 use native.Mathlib.Omega.{arith}
 use lib.Dec.{leb}
 use lib.ListN.{length}
 use borrow.Author.Tests.{leb-true, leb-false}
 use Rattle.base.proofs.Options.{none-some}
 use Rattle.base.proofs.Tests.{by-test}
-use Rattle.masks.specs.Masks.{shares, maskOf}
+use Rattle.masks.specs.Masks.{shares}
 use Rattle.masks.proofs.Passing.{mask-skip}
 use Rattle.marks.specs.Marks.{textOf}
 use Rattle.automaton.specs.declared.Rule.{Rule}
@@ -32,7 +30,7 @@ use Rattle.chunks.specs.Taking.{chunkNumber}
 use Rattle.chunks.proofs.Claims as chunks
 use Rattle.follow.specs.declared.Follower.{Follower}
 use Rattle.follow.specs.Live.{liveOf}
-use Rattle.follow.specs.Following.{nextBy, Walk, wayOf, Outcome, refusedFollow, walkBy, walkOf, takenBy, lentOf, followNumber, followOf, followerOf, noFollower, Prepared, prepareBy, prepareOf, followByOf}
+use Rattle.follow.specs.Following.{nextBy, Walk, wayOf, Outcome, refusedFollow, walkBy, walkOf, takenBy, lentOf, followOf, followerOf, noFollower, Prepared, prepareBy, prepareOf, followByOf}
 use Rattle.follow.specs.Claims.{Prepared-so}
 use Rattle.follow.proofs.Numbers.{first-is, then-is}
 

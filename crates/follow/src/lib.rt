@@ -7,9 +7,9 @@ ghost use Prim.Native.Nat.{_≤_, _<_};
 ghost use lib.ListN.{length};
 ghost use Rattle.limits.specs.Limits.{mostStates, longestChunk};
 ghost use Rattle.marks.specs.Marks.{textOf};
-ghost use Rattle.automaton.specs.Successor.{after};
 ghost use Rattle.chunks.specs.Chunks.{foreign};
 ghost use Rattle.follow.specs.Live.{leads as leadsTo, backTo, within};
+ghost use Rattle.follow.specs.Cache.{cacheRows, Cached, Stepped};
 ghost use Rattle.follow.specs.Following.{nextBy, wayOf, wayOutcome, refusedFollow, followOutcome, followOf, lentOf, followByOf, prepareOutcome, prepareOf};
 use automaton::Rule;
 use masks::StateNumber;
@@ -60,6 +60,18 @@ struct Way {
     lost: Lost,
     before: u32,
     set: u32,
+}
+
+// A cache of successors has 61 rows of 16 cells. The sets of single states have a row each: the powers
+// of 2 below 2^60 have different remainders by 61.
+const ROWS: u32 = 61;
+
+const CACHE: usize = 976;
+
+// A set on the way, and the row of the cache in which its successors are looked for.
+struct Here {
+    set: u32,
+    row: u8,
 }
 
 // Whether some arc leads from the state to a member of the set.
@@ -129,14 +141,12 @@ fn next_symbols(targets: &[u32; limits::TARGETS], live: u32, k: u8, set: u32) ->
     mask
 }
 
-// Whether the byte is neither an idle mark nor a symbol below k.
+// Whether the byte is neither an idle mark nor a symbol below k. With one more the idle mark, which
+// is the highest byte, wraps to 0.
 fn is_stray(byte: u8, k: u8) -> bool
     ensures { λ r. ⌜ r ≡ foreign (textOf (byte ∷ [])) k ⌝ }
 {
-    if byte == marks::IDLE {
-        return false;
-    }
-    k <= byte
+    k < std::num::wrapping_add_u8(byte, 1)
 }
 
 // Whether some byte is neither an idle mark nor a symbol below k (13).
@@ -154,45 +164,91 @@ fn has_stray(chunk: &[u8], k: u8) -> bool
     found
 }
 
-// The set after one byte, which may be an idle mark.
-fn step(targets: &[u32; limits::TARGETS], set: u32, byte: u8) -> u32
-    ensures { λ r. ⌜ r ≡ after (now (targets .entry)) set (textOf (byte ∷ [])) ⌝ }
+// The row of the cache in which a set's successors are looked for.
+fn row_of(set: u32) -> u8
+    ensures { λ r. ⌜ r < cacheRows ⌝ }
 {
-    if byte == marks::IDLE {
-        return set;
-    }
-    automaton::successor(targets, set, byte)
+    (set % ROWS) as u8
 }
 
-// Walks the chunk until no state of the mask `live` is left, and from there to its end.
+// The set after one byte, which may be an idle mark. In cell c of the cache: by symbol c % 16 the set
+// from[c] leads to the set to[c], whose row is rows[c]. Where the cell is another set's it is written.
+fn step(
+    targets: &[u32; limits::TARGETS],
+    from: &mut [u32; CACHE],
+    to: &mut [u32; CACHE],
+    rows: &mut [u8; CACHE],
+    here: Here,
+    byte: u8,
+) -> Here
+    requires { ⌜ Cached (now targets) (now from) (now to) (now rows) × (here .row < cacheRows) ⌝ }
+    ensures { λ r. ⌜ Stepped (now (targets .entry)) (here .set) byte r (now (from .exit)) (now (to .exit)) (now (rows .exit)) ⌝ }
+{
+    if limits::MOST_SYMBOLS <= byte {
+        if byte == marks::IDLE {
+            return here;
+        }
+        return Here { set: 0, row: 0 };
+    }
+    let set = here.set;
+    let cell = here.row as usize * limits::SYMBOLS + byte as usize;
+    if from[cell] == set {
+        return Here {
+            set: to[cell],
+            row: rows[cell],
+        };
+    }
+    let next = automaton::successor(targets, set, byte);
+    let row = row_of(next);
+    from[cell] = set;
+    to[cell] = next;
+    rows[cell] = row;
+    Here { set: next, row }
+}
+
+// Walks the chunk until no state of the mask `live` is left, and from there to its end, or until
+// there is no state at all.
 fn walk(targets: &[u32; limits::TARGETS], live: u32, set: u32, chunk: &[u8]) -> Way
     requires { ⌜ length (now chunk) ≤ longestChunk ⌝ }
     ensures { λ r. ⌜ wayOutcome r ≡ wayOf (now (targets .entry)) live set (now (chunk .entry)) ⌝ }
 {
+    let mut from = [0u32; CACHE];
+    let mut to = [0u32; CACHE];
+    let mut rows = [0u8; CACHE];
     let mut before = set;
-    let mut reached = set;
+    let mut here = Here {
+        set,
+        row: row_of(set),
+    };
     let mut i: usize = 0;
-    while masks::meets(reached, live) {
+    while masks::meets(here.set, live) {
         if chunk.len() <= i {
             return Way {
                 lost: Lost::Never,
-                before: reached,
-                set: reached,
+                before: here.set,
+                set: here.set,
             };
         }
-        before = reached;
-        reached = step(targets, reached, chunk[i]);
+        before = here.set;
+        here = step(targets, &mut from, &mut to, &mut rows, here, chunk[i]);
         i += 1;
     }
     let at = i as u32;
     while i < chunk.len() {
-        reached = step(targets, reached, chunk[i]);
+        if here.set == 0 {
+            return Way {
+                lost: Lost::At(at),
+                before,
+                set: 0,
+            };
+        }
+        here = step(targets, &mut from, &mut to, &mut rows, here, chunk[i]);
         i += 1;
     }
     Way {
         lost: Lost::At(at),
         before,
-        set: reached,
+        set: here.set,
     }
 }
 

@@ -141,11 +141,11 @@ by-zeros (some y) masks x e = refl
 module _ (p : Profile) (w : List ℕ) where
   refusal-is : runOf p w .refusal ≡ chunkNumber (p .k) w
   unfolding runOf
-  refusal-is = by-refusal (chunkNumber (p .k) w) (mappingIn p (walkTo (p .next) 0 (textOf w)))
+  refusal-is = by-refusal (chunkNumber (p .k) w) _
 
   zeros : (x : ℕ) → chunkNumber (p .k) w ≡ some x → runOf p w .masks ≡ replicate 8 0
   unfolding runOf
-  zeros x e = by-zeros (chunkNumber (p .k) w) (mappingIn p (walkTo (p .next) 0 (textOf w))) x e
+  zeros x e = by-zeros (chunkNumber (p .k) w) _ x e
 
   pub runs : Runs-exactly p w
   runs =

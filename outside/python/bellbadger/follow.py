@@ -102,7 +102,7 @@ class Follower:
     3, 4, 6, 8. A rule of over 512 sets is taken. Each trace has a follower of its own."""
 
     def __init__(self, rule):
-        prepared = lib.bellbadger_follower(raw("Follower", "rule", rule))
+        prepared = lib.bellbadger_follower_prepare(raw("Follower", "rule", rule))
         if not prepared.accepted:
             raise Refused(prepared.refused)
         self._follower, self._set = prepared.follower, rule.initials

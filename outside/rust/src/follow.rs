@@ -64,7 +64,7 @@ const _: () = assert!(std::mem::size_of::<RawFollowed>() == 16);
 
 extern "C" {
     fn bellbadger_follower_size() -> usize;
-    fn bellbadger_follower(rule: CheckedRule) -> RawPrepared;
+    fn bellbadger_follower_prepare(rule: CheckedRule) -> RawPrepared;
     fn bellbadger_follow_by(
         follower: RawFollower,
         set: u32,
@@ -175,7 +175,7 @@ impl Follower {
             "libbellbadger.a has another follower than this wrapper"
         );
         // SAFETY: plain numbers.
-        let r = unsafe { bellbadger_follower(*rule) };
+        let r = unsafe { bellbadger_follower_prepare(*rule) };
         accepted(r.accepted, r.refused)?;
         Ok(Follower {
             set: rule.initials,
