@@ -23,7 +23,7 @@ static bool right() {
     bellbadger_locate_result located = bellbadger_locate(delivered.judge, 0, text, sizeof text);
     bellbadger_withdraw_result withdrawn = bellbadger_withdraw(opened.judge, 0);
     bellbadger_sample_result sample = bellbadger_sample(BELLBADGER_ACCEPTED_TEXT, read.rule);
-    bellbadger_follower_result follower = bellbadger_follower(read.rule);
+    bellbadger_follower_result follower = bellbadger_follower_prepare(read.rule);
     bellbadger_follow_result followed = bellbadger_follow(read.rule, read.rule.initials, text, 1);
     bellbadger_follow_result followed_by = bellbadger_follow_by(follower.follower, followed.set, text + 1, 1);
     const uint8_t ends_in_0_1[] = {'(', 'a', '|', 'b', ')', '*', 'a', 'b'};

@@ -129,7 +129,7 @@ static long yes, no, lost_later, boards, large;
 static void followed(bellbadger_checked_rule r) {
     static bellbadger_judge judge;
     size_t cuts[CHUNKS + 1], length = any_trace(&r), chunks = 1 + below(CHUNKS);
-    bellbadger_follower_result p = bellbadger_follower(r);
+    bellbadger_follower_result p = bellbadger_follower_prepare(r);
     uint32_t set = r.initials, whole = r.initials;
     CHECK(p.accepted == 1 && p.follower.rule.n == r.n);
     cuts[0] = 0, cuts[chunks] = length;

@@ -35,7 +35,7 @@ static void *caller(void *unused) {
     bellbadger_profile_run_result ran = bellbadger_profile_run(built.profile, chunk, sizeof chunk);
     bellbadger_mapping composed = bellbadger_compose(ran.mapping, ran.mapping);
     bellbadger_sample_result sample = bellbadger_sample(BELLBADGER_ACCEPTED_TEXT, read.rule);
-    bellbadger_follower_result follower = bellbadger_follower(read.rule);
+    bellbadger_follower_result follower = bellbadger_follower_prepare(read.rule);
     bellbadger_follow_result followed = bellbadger_follow(read.rule, read.rule.initials, chunk, sizeof chunk);
     bellbadger_follow_result followed_by = bellbadger_follow_by(follower.follower, followed.set, chunk, sizeof chunk);
     bellbadger_pattern_result file = bellbadger_pattern(pattern, sizeof pattern - 1);
