@@ -19,6 +19,11 @@ typedef struct {
     uint8_t complete;  /* 1: the trace could have ended before that byte; where not lost, can end here (as ends) */
 } bellbadger_follow_result;
 
+/* Whether the rule accepts what came so far. That the chunk was taken (`accepted`) says nothing of it. */
+BELLBADGER_RESULT static inline bool bellbadger_is_accepted_so_far(bellbadger_follow_result followed) {
+    return followed.accepted && followed.ends;
+}
+
 /* Follows a chunk from a set of states: rule.initials first, then the set of the answer before. After a refusal
  * the caller keeps the set that it had. Bits for states that there are not mean nothing. Refused with
  *   3, 4, 6, 8 as bellbadger_install is

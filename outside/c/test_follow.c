@@ -60,11 +60,14 @@ static bellbadger_follow_result both(bellbadger_checked_rule r, uint32_t from, c
 static void due(bellbadger_checked_rule r, uint32_t from, const uint8_t *chunk, size_t length, uint8_t ends, uint8_t lost, uint32_t at, uint32_t set, uint16_t expected, uint8_t complete) {
     bellbadger_follow_result f = both(r, from, chunk, length);
     CHECK(f.accepted == 1 && f.refused == 0 && f.ends == ends && f.lost == lost && f.at == at && f.set == set && f.expected == expected && f.complete == complete);
+    CHECK(bellbadger_is_accepted_so_far(f) == (ends == 1));
 }
 
 static void refused(bellbadger_checked_rule r, const uint8_t *chunk, size_t length, uint8_t number) {
     bellbadger_follow_result f = both(r, 1, chunk, length);
     CHECK(f.accepted == 0 && f.refused == number && f.ends == 0 && f.lost == 0 && f.at == 0 && f.set == 0 && f.expected == 0 && f.complete == 0);
+    f.ends = 1; /* as nothing that the library answers has it */
+    CHECK(!bellbadger_is_accepted_so_far(f));
 }
 
 static void worked(void) {
