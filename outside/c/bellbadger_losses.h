@@ -3,7 +3,7 @@
  * A trace is lost at place p when all places up to p have chunks and their texts, one behind the other,
  * cannot be continued by any text to one that the rule accepts; p is the first such place. No chunk at a
  * later place, and no number of them, can mend it: from then on no verdict is yes, until a chunk at place p
- * or before it is withdrawn or superseded. Of a rule that accepts no text at all the trace is lost at
+ * or before it is withdrawn or superseded, or a board is opened or a rule installed anew. Of a rule that accepts no text at all the trace is lost at
  * place 0, as soon as a chunk stands there.
  *
  * bellbadger_diagnose tells the place, without the chunks; bellbadger_locate tells the byte, where the
@@ -18,22 +18,24 @@
 extern "C" {
 #endif
 
-/* What a diagnosis finds; BELLBADGER_REFUSED, 0, is a refusal. It is no truth value: compare it. Neither is
+/* What a diagnosis finds; BELLBADGER_REFUSED, 0, is a refusal. It is no truth value: compare it. No kind is
+ * one of a verdict. Neither is
  * a yes: a trace that is open may be lost by the next chunk, and one that is open with all its places may
  * have stopped too early. Whether to ship is for bellbadger_verdict to say. */
 enum {
-    BELLBADGER_LOST = 1, /* number: the place, counted from 0, at which the trace is lost */
-    BELLBADGER_OPEN = 2  /* number: how many places have chunks before the first that has none */
+    BELLBADGER_LOST = 5, /* number: the place, counted from 0, at which the trace is lost */
+    BELLBADGER_OPEN = 6  /* number: how many places have chunks before the first that has none */
 };
 
 typedef struct {
     uint8_t kind, number; /* of a refusal: why */
 } bellbadger_diagnose_result;
 
-/* Where in a chunk a trace is lost; BELLBADGER_REFUSED, 0, is a refusal. It is no truth value: compare it. */
+/* Where in a chunk a trace is lost; BELLBADGER_REFUSED, 0, is a refusal. It is no truth value: compare it.
+ * Nowhere is no yes either: the trace may stop too early. */
 enum {
-    BELLBADGER_LOST_AFTER = 1, /* number: after how many bytes of the chunk, idle marks counted */
-    BELLBADGER_NOWHERE = 2     /* after none of them; number: 0 */
+    BELLBADGER_LOST_AFTER = 5, /* number: after how many bytes of the chunk, idle marks counted */
+    BELLBADGER_NOWHERE = 6     /* after none of them; number: 0 */
 };
 
 typedef struct {

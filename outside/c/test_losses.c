@@ -177,9 +177,9 @@ static void any_numbers(int states) {
         if (i % 4 == 3) memset(j.board.filled, 1, sizeof j.board.filled);
         for (size_t b = 0; b < sizeof chunk; b++) chunk[b] = below(9) ? (uint8_t)below(i % 3 ? 2 : 256) : IDLE;
         bellbadger_diagnose_result d = bellbadger_diagnose(j);
-        CHECK(d.kind <= BELLBADGER_OPEN && (d.kind == BELLBADGER_REFUSED ? d.number == 21 && !j.board.places : d.number <= 64));
+        CHECK((d.kind == BELLBADGER_REFUSED || d.kind == BELLBADGER_LOST || d.kind == BELLBADGER_OPEN) && (d.kind == BELLBADGER_REFUSED ? d.number == 21 && !j.board.places : d.number <= 64));
         bellbadger_locate_result l = bellbadger_locate(j, i % 5 ? below(64) : below(UINT32_MAX), chunk, i % 7 ? sizeof chunk : 0);
-        CHECK(l.kind <= BELLBADGER_NOWHERE && l.number <= sizeof chunk && (l.kind != BELLBADGER_NOWHERE || l.number == 0));
+        CHECK((l.kind == BELLBADGER_REFUSED || l.kind == BELLBADGER_LOST_AFTER || l.kind == BELLBADGER_NOWHERE) && l.number <= sizeof chunk && (l.kind != BELLBADGER_NOWHERE || l.number == 0));
     }
 }
 

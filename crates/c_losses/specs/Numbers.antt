@@ -1,7 +1,8 @@
 -- The numbers that C is given for a loss. Every field is fixed: what an answer has no use for is 0.
+-- A kind is none of a verdict's, 1 to 4, so that none passes for a yes.
 --
---   diagnosisShown f      kind 0 refused, 1 lost, 2 open, each with its number
---   spotShown s           kind 0 refused, 1 lost after so many bytes, 2 nowhere
+--   diagnosisShown f      kind 0 refused, 5 lost, 6 open, each with its number
+--   spotShown s           kind 0 refused, 5 lost after so many bytes, 6 nowhere
 --   diagnosisReadBack, spotReadBack   what such a result says, read back from its numbers
 --   Claims                nothing is lost by it; proofs/Numbers.antt proves it
 use mathlib.Core.Path.{_≡_}
@@ -14,19 +15,19 @@ use Rattle.c_losses.specs.declared.SpotNumbers.{SpotNumbers}
 
 abbrev pub diagnosisShown : Finding → DiagnosisNumbers
 diagnosisShown (refusedAs x) = record { kind = 0; number = x }
-diagnosisShown (lostAt p) = record { kind = 1; number = p }
-diagnosisShown (openWith m) = record { kind = 2; number = m }
+diagnosisShown (lostAt p) = record { kind = 5; number = p }
+diagnosisShown (openWith m) = record { kind = 6; number = m }
 
 abbrev pub spotShown : Spot → SpotNumbers
 spotShown (refusedFor x) = record { kind = 0; number = x }
-spotShown (stuckAfter b) = record { kind = 1; number = b }
-spotShown nowhere = record { kind = 2; number = 0 }
+spotShown (stuckAfter b) = record { kind = 5; number = b }
+spotShown nowhere = record { kind = 6; number = 0 }
 
 abbrev pub diagnosisReadBack : DiagnosisNumbers → Finding
-diagnosisReadBack r = cond (eqb (r .kind) 0) (refusedAs (r .number)) (cond (eqb (r .kind) 1) (lostAt (r .number)) (openWith (r .number)))
+diagnosisReadBack r = cond (eqb (r .kind) 0) (refusedAs (r .number)) (cond (eqb (r .kind) 5) (lostAt (r .number)) (openWith (r .number)))
 
 abbrev pub spotReadBack : SpotNumbers → Spot
-spotReadBack r = cond (eqb (r .kind) 0) (refusedFor (r .number)) (cond (eqb (r .kind) 1) (stuckAfter (r .number)) nowhere)
+spotReadBack r = cond (eqb (r .kind) 0) (refusedFor (r .number)) (cond (eqb (r .kind) 5) (stuckAfter (r .number)) nowhere)
 
 pub record Claims : Type 0 where
   pub diagnosis-back : (f : Finding) → diagnosisReadBack (diagnosisShown f) ≡ f

@@ -7,7 +7,7 @@ use calls::Judge;
 use diagnoses::Diagnosis;
 use locating::Located;
 
-// Kind 0: refused with the number; 1: lost at the place of that number; 2: open, with that many
+// Kind 0: refused with the number; 5: lost at the place of that number; 6: open, with that many
 // places.
 #[repr(C)]
 pub struct DiagnosisNumbers {
@@ -15,7 +15,7 @@ pub struct DiagnosisNumbers {
     pub number: u8,
 }
 
-// Kind 0: refused with the number; 1: lost after that many bytes of the chunk, idle marks counted; 2:
+// Kind 0: refused with the number; 5: lost after that many bytes of the chunk, idle marks counted; 6:
 // nowhere in it.
 #[repr(C)]
 pub struct SpotNumbers {
@@ -37,8 +37,8 @@ pub extern "C" fn bellbadger_diagnose(judge: Judge) -> DiagnosisNumbers
     let answer = diagnoses::diagnose(judge);
     match answer {
         Diagnosis::Refused(number) => DiagnosisNumbers { kind: 0, number },
-        Diagnosis::Lost(number) => DiagnosisNumbers { kind: 1, number },
-        Diagnosis::Open(number) => DiagnosisNumbers { kind: 2, number },
+        Diagnosis::Lost(number) => DiagnosisNumbers { kind: 5, number },
+        Diagnosis::Open(number) => DiagnosisNumbers { kind: 6, number },
     }
 }
 
@@ -52,7 +52,7 @@ pub extern "C" fn bellbadger_locate(judge: Judge, place: usize, chunk: &[u8]) ->
             kind: 0,
             number: wide(number),
         },
-        Located::After(number) => SpotNumbers { kind: 1, number },
-        Located::Nowhere => SpotNumbers { kind: 2, number: 0 },
+        Located::After(number) => SpotNumbers { kind: 5, number },
+        Located::Nowhere => SpotNumbers { kind: 6, number: 0 },
     }
 }

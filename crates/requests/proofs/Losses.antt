@@ -57,6 +57,8 @@ use Rattle.locating.specs.Locating.{Spot, refusedFor, stuckAfter, nowhere, loca
 use Rattle.losses.specs.Losses.{Continued, Lost, Open, Diagnosed, AcceptsNothing, AllElsewhere}
 use Rattle.losses.specs.Spots.{spotNumber, textWith, StuckAfter, Spotted, Refused-so}
 use Rattle.losses.specs.Functions.{MayDiagnose, MayLocate}
+use Rattle.diagnoses.proofs.diagnose.Reads as diagnose-reads
+use Rattle.locating.proofs.locate.Reads as locate-reads
 use Rattle.losses.proofs.Claims as losses
 use Rattle.losses.proofs.Spots as spots
 use Rattle.losses.proofs.Functions as functions
@@ -173,6 +175,12 @@ diagnose-says = functions.function-claims .diagnose
 pub locate-says : (h : List Call) (rs : List Reply) (j : Judge) → Execution judgeLibrary h rs j
     → (p : ℕ) (w : List ℕ) (r : Located) → MayLocate j p w r → Spotted h p w (locatedMeans r)
 locate-says = functions.function-claims .locate
+
+pub diagnose-asks : (j : Judge) → diagnose-reads.Asked tt (j, tt)
+diagnose-asks = functions.function-claims .diagnose-asks
+
+pub locate-asks : (κs : Lfts 1) (j : Judge) (p : ℕ) (c : RefT (List ℕ)) → locate-reads.Asked κs (j, (p, (c, tt)))
+locate-asks = functions.function-claims .locate-asks
 
 -- Those that C links fix every number of their results, on any judge whatever,
 pub any-diagnosis : (j : Judge) (r : DiagnosisNumbers) → MayDiagnoseC j r ↔ (r ≡ diagnosisShown (diagnosisOf j))

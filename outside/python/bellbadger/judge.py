@@ -215,7 +215,7 @@ class Judge:
 
     def locate(self, place, chunk):
         """The least number of the chunk's bytes after which the trace is lost, were this the chunk at the
-        place; None where it is lost after none of them. Changes nothing.
+        place; None, which is no yes, where it is lost after none of them. Changes nothing.
 
         Idle marks are counted: a position is one of the bytes that are handed in. A number b above 0 says
         that by chunk[b - 1], an event and no idle mark, the trace was lost; 0 that it is lost before the

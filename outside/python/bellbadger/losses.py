@@ -2,7 +2,8 @@
 
 A trace is lost at a place when all places up to it have chunks and their texts, one behind the other, cannot
 be continued by any text to one that the rule accepts; at the first such place. No chunk at a later place can
-mend it: no verdict is yes until a chunk at that place or before it is withdrawn or superseded.
+mend it: no verdict is yes until a chunk at that place or before it is withdrawn or superseded, or a board is
+opened or a rule installed anew.
 
     >>> from bellbadger import Judge
     >>> judge = Judge()
@@ -46,7 +47,7 @@ from .refusals import Refused
 
 __all__ = ["Lost", "Open"]
 
-_REFUSED, _LOST = 0, 1
+_REFUSED, _LOST = 0, 5
 
 
 class _Diagnosis:

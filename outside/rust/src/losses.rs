@@ -2,7 +2,8 @@
 //!
 //! A trace is lost at a place when all places up to it have chunks and their texts, one behind the other,
 //! cannot be continued by any text to one that the rule accepts; at the first such place. No chunk at a later
-//! place can mend it: no verdict is yes until a chunk at that place or before it is withdrawn or superseded.
+//! place can mend it: no verdict is yes until a chunk at that place or before it is withdrawn or superseded,
+//! or a board is opened or a rule installed anew.
 //!
 //! ```
 //! use bellbadger::losses::Diagnosis;
@@ -65,7 +66,7 @@ const _: () = assert!(std::mem::size_of::<RawSpot>() == 8);
 
 const REFUSED: u8 = 0;
 /// The kind of an answer that tells a loss, of both functions.
-const LOST: u8 = 1;
+const LOST: u8 = 5;
 
 extern "C" {
     fn bellbadger_diagnose(judge: RawJudge) -> RawDiagnosis;
@@ -95,7 +96,7 @@ impl Judge {
     }
 
     /// The least number of the chunk's bytes after which the trace is lost, were this the chunk at the
-    /// place; `None` where it is lost after none of them. What stands at the place, or at later ones, is not
+    /// place; `None`, which is no yes, where it is lost after none of them. What stands at the place, or at later ones, is not
     /// looked at; changes nothing.
     ///
     /// Idle marks are counted: a position is one of the slice. `Some(b)` with b above 0 says that by
