@@ -16,16 +16,18 @@ typedef struct {
     uint32_t at;       /* the least number of bytes of this chunk, idle marks counted, after which that is so; 0: before it */
     uint32_t set;      /* the states after the chunk, to be handed in with the next one */
     uint16_t expected; /* bit s: symbol s could have stood at byte at - 1; where not lost, could come next */
-    uint8_t complete;  /* 1: the trace could have ended before that byte; where not lost, can end here (as ends) */
+    uint8_t complete;  /* 1: the trace could have ended before that byte; where not lost, as ends. It is no verdict */
 } bellbadger_follow_result;
 
-/* Whether the rule accepts what came so far. That the chunk was taken (`accepted`) says nothing of it. */
+/* Whether the rule accepts what came so far, which is the text of the chunks that were taken: a trace of which a
+ * chunk was refused and not handed in anew is not good, whatever later answers say. That a chunk was taken
+ * (`accepted`) says nothing of it. */
 BELLBADGER_RESULT static inline bool bellbadger_is_accepted_so_far(bellbadger_follow_result followed) {
     return followed.accepted && followed.ends;
 }
 
-/* Follows a chunk from a set of states: rule.initials first, then the set of the answer before. After a refusal
- * the caller keeps the set that it had. Bits for states that there are not mean nothing. Refused with
+/* Follows a chunk from a set of states: rule.initials first, then the set of the answer before. A chunk
+ * that is refused is no part of the trace, and the caller keeps the set that it had. Bits for states that there are not mean nothing. Refused with
  *   3, 4, 6, 8 as bellbadger_install is
  *   12 the chunk has over 65,536 bytes      13 a byte is no symbol and no idle mark */
 BELLBADGER_RESULT bellbadger_follow_result bellbadger_follow(bellbadger_checked_rule rule, uint32_t set, const uint8_t *chunk, size_t length);

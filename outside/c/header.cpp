@@ -54,7 +54,7 @@ static bool right() {
         && bellbadger_profile_size() == sizeof(bellbadger_profile) && built.accepted && built.profile.count == 5 && ran.accepted
         && ran.mapping.masks[0] == 5 && twice.masks[0] == 5 && bellbadger_profile_verdict(built.profile, twice) == 1
         && sample.kind == BELLBADGER_SAMPLE && sample.length == 2 && sample.text[0] == 0 && sample.text[1] == 1
-        && bellbadger_follower_size() == sizeof(bellbadger_follower_value) && follower.accepted && followed.accepted && followed.set == 3
+        && bellbadger_follower_size() == sizeof(bellbadger_follower) && follower.accepted && followed.accepted && followed.set == 3
         && !followed.ends && followed_by.accepted && followed_by.ends && !followed_by.lost && followed_by.expected == 3
         && pattern.accepted && pattern.length == 50 && pattern.bytes[0] == 5
         && merged.accepted && merged.rule.n == 6 && merged.rule.targets[4 * 16 + 1] == 32

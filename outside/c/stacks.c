@@ -127,7 +127,7 @@ static const struct {
     {"compose", compose}, {"profile_verdict", profile_verdict},
     {"sample", sample_accepted}, {"sample", sample_rejected}, {"sample", sample_many},
     {"follow", follow_plain}, {"follow", follow_ring}, {"follow", follow_none}, {"follower_size", follower_size},
-    {"follower", follower_ring}, {"follower", follower_none}, {"follow_by", follow_by_ring}, {"follow_by", follow_by_none},
+    {"follower_prepare", follower_ring}, {"follower_prepare", follower_none}, {"follow_by", follow_by_ring}, {"follow_by", follow_by_none},
     {"pattern", pattern_right}, {"pattern", pattern_wrong},
     {"merge", merge_both}, {"merge", merge_either}, {"merge", merge_interleaving}, {"merge", merge_none},
     {"make_text", make_text},

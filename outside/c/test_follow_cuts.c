@@ -112,7 +112,7 @@ static size_t any_trace(const bellbadger_checked_rule *r) {
 }
 
 /* what is due for the chunk from byte a up to b of the trace; 1 where it is lost in it */
-static int piece(bellbadger_checked_rule r, bellbadger_follower_value by, uint32_t *set, size_t a, size_t b) {
+static int piece(bellbadger_checked_rule r, bellbadger_follower by, uint32_t *set, size_t a, size_t b) {
     size_t lost = a, before = b;
     bellbadger_follow_result f = bellbadger_follow_by(by, *set, trace + a, b - a);
     while (lost <= b && hope[lost]) lost++;

@@ -197,6 +197,10 @@ prepare-zeros r = follow.claims .prepared r .zeros
 pub prepare-accepted : (r : Rule) → (prepareOf r .refusal ≡ none) ↔ WellFormed r
 prepare-accepted r = follow.claims .prepared r .accepted
 
+-- The follower carries the rule, and the mask of the states from which a final state can be reached.
+pub follower-rule : (r : Rule) → prepareOf r .refusal ≡ none → prepareOf r .follower .rule ≡ r
+follower-rule r = follow.claims .prepared r .carries
+
 -- Following by the follower that it answers is following by the rule, in every field of every answer.
 pub prepared : (r : Rule) → prepareOf r .refusal ≡ none → (m : ℕ) (w : List ℕ) → followByOf (prepareOf r .follower) m w ≡ followOf r m w
 prepared r = follow.claims .prepared r .same

@@ -64,7 +64,7 @@ class _Followed(ctypes.Structure):
 
 
 expect_size("follower_size", _Follower, _FOLLOWER_SIZE)
-declare("follower", _Prepared, RawRule)
+declare("follower_prepare", _Prepared, RawRule)
 declare("follow_by", _Followed, _Follower, ctypes.c_uint32, *DATA)
 
 
