@@ -197,7 +197,7 @@ prepare-zeros r = follow.claims .prepared r .zeros
 pub prepare-accepted : (r : Rule) → (prepareOf r .refusal ≡ none) ↔ WellFormed r
 prepare-accepted r = follow.claims .prepared r .accepted
 
--- The follower carries the rule, and the mask of the states from which a final state can be reached.
+-- The follower carries the rule itself.
 pub follower-rule : (r : Rule) → prepareOf r .refusal ≡ none → prepareOf r .follower .rule ≡ r
 follower-rule r = follow.claims .prepared r .carries
 
