@@ -37,7 +37,7 @@
  * Another major number or size: the two do not fit. A higher minor number of the library: it can
  * more than this header says. */
 #define BELLBADGER_VERSION_MAJOR 5
-#define BELLBADGER_VERSION_MINOR 1
+#define BELLBADGER_VERSION_MINOR 2
 #define BELLBADGER_VERSION (BELLBADGER_VERSION_MAJOR * 65536 + BELLBADGER_VERSION_MINOR)
 #define BELLBADGER_STATE_SIZE 27832 /* the bytes of a bellbadger_judge */
 
@@ -127,7 +127,8 @@ typedef struct {
 
 /* The kind of a verdict is no truth value: 0 is a refusal, so that a result full of zeros is no verdict,
  * and all that follows, waiting and no too, holds in an `if`. There is no shorter form for "ship it" than
- * bellbadger_is_yes, below; of a tray, bellbadger_tray_is_yes. */
+ * bellbadger_is_yes, below; of a tray, bellbadger_tray_is_yes; of a trace that is followed,
+ * bellbadger_is_accepted_so_far. */
 enum {
     BELLBADGER_REFUSED = 0,   /* number: why */
     BELLBADGER_WAITING = 1,   /* number: how many places are empty */
@@ -221,6 +222,7 @@ BELLBADGER_RESULT bellbadger_replay_result bellbadger_replay(const uint8_t *text
 #include "bellbadger_losses.h"
 #include "bellbadger_mappings.h"
 #include "bellbadger_samples.h"
+#include "bellbadger_follow.h"
 #include "bellbadger_patterns.h"
 #include "bellbadger_merge.h"
 #include "bellbadger_texts.h"

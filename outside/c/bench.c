@@ -187,6 +187,41 @@ static void beside(const char *name, bellbadger_judge j, size_t place) {
     printf("  %-34s M %2u: %8.1f us, ratio %5.2f; run by run %5.2f\n", name, m, micros[ROUNDS / 2], delivered[ROUNDS / 2], each[ROUNDS / 2]);
 }
 
+/* a chunk followed, by the rule and by its follower, beside a delivery of it that is run from one start */
+static void following(const char *name, bellbadger_checked_rule r) {
+    double by_rule[ROUNDS], by_follower[ROUNDS];
+    bellbadger_judge j = bellbadger_open(bellbadger_install(bellbadger_new(), r).judge, 1).judge;
+    bellbadger_follower_result p = bellbadger_follower_prepare(r);
+    if (!p.accepted || bellbadger_deliver(j, 0, 0, text, BYTES).looked != BYTES) exit(1);
+    for (int round = 0; round < ROUNDS; round++) {
+        double a = now();
+        sink += bellbadger_deliver(j, 0, 0, text, BYTES).accepted;
+        double b = now();
+        sink += bellbadger_follow(r, r.initials, text, BYTES).set;
+        double c = now();
+        sink += bellbadger_follow_by(p.follower, r.initials, text, BYTES).set;
+        double d = now();
+        by_rule[round] = (c - b) / (b - a), by_follower[round] = (d - c) / (b - a);
+    }
+    qsort(by_rule, ROUNDS, sizeof by_rule[0], rising);
+    qsort(by_follower, ROUNDS, sizeof by_follower[0], rising);
+    printf("  %-34s by the rule %.2f, by its follower %.2f\n", name, by_rule[ROUNDS / 2], by_follower[ROUNDS / 2]);
+}
+
+static void followings(void) {
+    bellbadger_checked_rule a = {.n = 3, .k = 2, .initials = 1, .finals = 4}, one = {.n = 32, .k = 2, .initials = 1, .finals = 1}, all = one;
+    a.targets[0] = 3, a.targets[1] = 1, a.targets[17] = 4;
+    for (int q = 0; q < 32; q++) {
+        one.targets[16 * q] = 1u << (q + 1) % 32, one.targets[16 * q + 1] = 1u << q;
+        all.targets[16 * q] = all.targets[16 * q + 1] = 0xffffffffu;
+    }
+    printf("a chunk of 65,536 bytes followed, beside a delivery of it from one start\n");
+    texts(2);
+    following("rule A", a);
+    following("32 states, in one at a time", one);
+    following("32 states, in all at once", all);
+}
+
 /* a chunk with idle marks, beside its text alone */
 static void marks(bellbadger_judge j) {
     static uint8_t marked[BYTES];
@@ -235,6 +270,7 @@ int main(void) {
     beside("runs die one after the other", mortal(8), 1);
     texts(2);
     beside("runs die within 32 bytes", path(32), 1);
+    followings();
 
     static uint8_t marked[BYTES];
     made(marked, 16, 3);

@@ -23,6 +23,9 @@ static bool right() {
     bellbadger_locate_result located = bellbadger_locate(delivered.judge, 0, text, sizeof text);
     bellbadger_withdraw_result withdrawn = bellbadger_withdraw(opened.judge, 0);
     bellbadger_sample_result sample = bellbadger_sample(BELLBADGER_ACCEPTED_TEXT, read.rule);
+    bellbadger_follower_result follower = bellbadger_follower_prepare(read.rule);
+    bellbadger_follow_result followed = bellbadger_follow(read.rule, read.rule.initials, text, 1);
+    bellbadger_follow_result followed_by = bellbadger_follow_by(follower.follower, followed.set, text + 1, 1);
     const uint8_t ends_in_0_1[] = {'(', 'a', '|', 'b', ')', '*', 'a', 'b'};
     bellbadger_pattern_result pattern = bellbadger_pattern(ends_in_0_1, sizeof ends_in_0_1);
     bellbadger_merge_result merged = bellbadger_merge(BELLBADGER_EITHER, read.rule, read.rule);
@@ -51,6 +54,8 @@ static bool right() {
         && bellbadger_profile_size() == sizeof(bellbadger_profile) && built.accepted && built.profile.count == 5 && ran.accepted
         && ran.mapping.masks[0] == 5 && twice.masks[0] == 5 && bellbadger_profile_verdict(built.profile, twice) == 1
         && sample.kind == BELLBADGER_SAMPLE && sample.length == 2 && sample.text[0] == 0 && sample.text[1] == 1
+        && bellbadger_follower_size() == sizeof(bellbadger_follower) && follower.accepted && followed.accepted && followed.set == 3
+        && !followed.ends && followed_by.accepted && followed_by.ends && !followed_by.lost && followed_by.expected == 3
         && pattern.accepted && pattern.length == 50 && pattern.bytes[0] == 5
         && merged.accepted && merged.rule.n == 6 && merged.rule.targets[4 * 16 + 1] == 32
         && bellbadger_tray_size() == sizeof(bellbadger_tray) && row.accepted && row.sets == 5 && column.accepted && tray.accepted

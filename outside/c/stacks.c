@@ -28,6 +28,7 @@ static bellbadger_judge fresh, ruled, opened, filled;
 static bellbadger_profile profile;
 static bellbadger_mapping mapping;
 static bellbadger_failure_form form;
+static bellbadger_follower follower, no_follower;
 static bellbadger_tray tray, tray_opened, tray_filled;
 
 /* A call, by which its result is kept: how many bytes that has. */
@@ -77,6 +78,14 @@ CALL(profile_verdict, uint8_t, bellbadger_profile_verdict(profile, mapping))
 CALL(sample_accepted, bellbadger_sample_result, bellbadger_sample(BELLBADGER_ACCEPTED_TEXT, a))
 CALL(sample_rejected, bellbadger_sample_result, bellbadger_sample(BELLBADGER_REJECTED_TEXT, ring))
 CALL(sample_many, bellbadger_sample_result, bellbadger_sample(BELLBADGER_REJECTED_TEXT, many))
+CALL(follow_plain, bellbadger_follow_result, bellbadger_follow(a, a.initials, plain, sizeof plain))
+CALL(follow_ring, bellbadger_follow_result, bellbadger_follow(ring, ring.initials, idle, sizeof idle))
+CALL(follow_none, bellbadger_follow_result, bellbadger_follow(none, 1, idle, sizeof idle))
+CALL(follower_size, size_t, bellbadger_follower_size())
+CALL(follower_ring, bellbadger_follower_result, bellbadger_follower_prepare(ring))
+CALL(follower_none, bellbadger_follower_result, bellbadger_follower_prepare(none))
+CALL(follow_by_ring, bellbadger_follow_result, bellbadger_follow_by(follower, ring.initials, idle, sizeof idle))
+CALL(follow_by_none, bellbadger_follow_result, bellbadger_follow_by(no_follower, 1, idle, sizeof idle))
 CALL(pattern_right, bellbadger_pattern_result, bellbadger_pattern(pattern, sizeof pattern - 1))
 CALL(pattern_wrong, bellbadger_pattern_result, bellbadger_pattern(pattern, 1))
 CALL(merge_both, bellbadger_merge_result, bellbadger_merge(BELLBADGER_BOTH, a, a))
@@ -117,6 +126,8 @@ static const struct {
     {"profile_run", profile_run_plain}, {"profile_run", profile_run_idle},
     {"compose", compose}, {"profile_verdict", profile_verdict},
     {"sample", sample_accepted}, {"sample", sample_rejected}, {"sample", sample_many},
+    {"follow", follow_plain}, {"follow", follow_ring}, {"follow", follow_none}, {"follower_size", follower_size},
+    {"follower_prepare", follower_ring}, {"follower_prepare", follower_none}, {"follow_by", follow_by_ring}, {"follow_by", follow_by_none},
     {"pattern", pattern_right}, {"pattern", pattern_wrong},
     {"merge", merge_both}, {"merge", merge_either}, {"merge", merge_interleaving}, {"merge", merge_none},
     {"make_text", make_text},
@@ -177,10 +188,12 @@ static void prepare(void) {
     profile = bellbadger_profile_build(a).profile;
     mapping = bellbadger_profile_run(profile, plain, 2).mapping;
     form = bellbadger_form(ruled).form;
+    follower = bellbadger_follower_prepare(ring).follower;
     tray = bellbadger_tray_install_column(bellbadger_tray_install_row(bellbadger_tray_new(), a).tray, a).tray;
     tray_opened = bellbadger_tray_open(tray, 2, 1).tray;
     tray_filled = bellbadger_tray_deliver(tray_opened, 0, plain, 128).tray;
     expect(bellbadger_verdict(filled).kind >= BELLBADGER_YES && bellbadger_tray_verdict(tray_filled).kind >= BELLBADGER_YES, "not filled");
+    expect(bellbadger_follow_by(follower, 1, idle, sizeof idle).accepted && bellbadger_follower_prepare(none).refused, "no follower");
     expect(bellbadger_replay(TEXT(installation)).kind == BELLBADGER_YES, "no installation");
     expect(bellbadger_replay(TEXT(record)).kind >= BELLBADGER_YES, "no record");
     expect(bellbadger_install(fresh, many).refused == 9 && bellbadger_install(fresh, ring).accepted, "other rules");

@@ -35,6 +35,9 @@ static void *caller(void *unused) {
     bellbadger_profile_run_result ran = bellbadger_profile_run(built.profile, chunk, sizeof chunk);
     bellbadger_mapping composed = bellbadger_compose(ran.mapping, ran.mapping);
     bellbadger_sample_result sample = bellbadger_sample(BELLBADGER_ACCEPTED_TEXT, read.rule);
+    bellbadger_follower_result follower = bellbadger_follower_prepare(read.rule);
+    bellbadger_follow_result followed = bellbadger_follow(read.rule, read.rule.initials, chunk, sizeof chunk);
+    bellbadger_follow_result followed_by = bellbadger_follow_by(follower.follower, followed.set, chunk, sizeof chunk);
     bellbadger_pattern_result file = bellbadger_pattern(pattern, sizeof pattern - 1);
     bellbadger_merge_result merged = bellbadger_merge(BELLBADGER_INTERLEAVING, read.rule, read.rule);
     bellbadger_made_result text = bellbadger_make_text(16, 1, made, sizeof made);
@@ -53,6 +56,7 @@ static void *caller(void *unused) {
     CHECK(bellbadger_is_yes(verdict) && bellbadger_is_yes(replayed) && replayed.bytes == 2);
     CHECK(diagnosed.kind == BELLBADGER_OPEN && diagnosed.number == 1 && located.kind == BELLBADGER_NOWHERE);
     CHECK(built.accepted && ran.accepted && bellbadger_profile_verdict(built.profile, composed) == 1);
+    CHECK(bellbadger_follower_size() == sizeof follower.follower && follower.accepted && followed.accepted && followed_by.ends);
     CHECK(sample.kind == BELLBADGER_SAMPLE && file.accepted && merged.accepted && text.accepted && form.accepted && table.accepted);
     CHECK(row.accepted && column.accepted && tray.accepted && band.accepted && no_band.accepted);
     CHECK(of_tray.kind == BELLBADGER_NO && !bellbadger_tray_is_yes(of_tray));

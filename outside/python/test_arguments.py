@@ -8,6 +8,7 @@ import unittest
 
 import bellbadger
 from bellbadger import CheckedRule, Judge, Refused, read, replay
+from bellbadger.follow import Follower
 from bellbadger.form import Form, form, table
 from bellbadger.mappings import Profile, compose
 from bellbadger.merge import BOTH, merge
@@ -17,7 +18,7 @@ from bellbadger.texts import make_text
 from bellbadger.trays import Tray
 
 A = read(bytes.fromhex("03020100000004000000160006001C0002001E0000000000000101000102"))
-SUBJECTS = ("judge", "rules", "losses", "mappings", "samples", "patterns", "merge", "trays", "form", "texts")
+SUBJECTS = ("judge", "rules", "losses", "follow", "mappings", "samples", "patterns", "merge", "trays", "form", "texts")
 WIDE = array.array("H", [0, 1])
 
 
@@ -37,6 +38,7 @@ def opened_tray():
 
 
 JUDGE, TRAY, PROFILE, FORM = opened(), opened_tray(), Profile(A), Form(1, (0,), (1,), (0,))
+FOLLOWER = Follower(A)
 
 NO_BYTES = ((5, "int"), ("01", "str"), ([0, 2], "list"), (None, "NoneType"), (WIDE, "items of 2 bytes"))
 NO_NUMBER = ((0.0, "float"), ("0", "str"), (None, "NoneType"), (b"\0", "bytes"))
@@ -68,6 +70,8 @@ WRONG_TYPES = [
         (Profile, [A], 0, "rule", "a CheckedRule", NO_RULE),
         (PROFILE.run, [b""], 0, "chunk", "bytes", NO_BYTES),
         (PROFILE.accepts, [bytes(8)], 0, "mapping", "bytes", NO_BYTES),
+        (Follower, [A], 0, "rule", "a CheckedRule", NO_RULE),
+        (FOLLOWER.follow, [b""], 0, "chunk", "bytes", NO_BYTES),
         (compose, [bytes(8), bytes(8)], 0, "earlier", "bytes", NO_BYTES),
         (compose, [bytes(8), bytes(8)], 1, "later", "bytes", NO_BYTES),
         (sample, [ACCEPTED, A], 1, "rule", "a CheckedRule", NO_RULE),
@@ -140,7 +144,7 @@ NO_SIZES = (
 
 # what takes no arguments, and what the package alone makes
 WITHOUT = {"version", "Judge", "Tray", "Judge.verdict", "Judge.diagnose", "Tray.verdict"}
-ANSWERS = {"Loaded", "Looked", "Waiting", "Yes", "No", "TrayWaiting", "TrayYes", "TrayNo", "TrayRefused", "Lost", "Open", "Refused", "Malformed"}
+ANSWERS = {"Loaded", "Looked", "Waiting", "Yes", "No", "TrayWaiting", "TrayYes", "TrayNo", "TrayRefused", "Lost", "Open", "Followed", "Refused", "Malformed"}
 
 
 def public_functions():
@@ -182,6 +186,7 @@ class Arguments(unittest.TestCase):
     def test_nothing_changed(self):
         self.assertEqual(JUDGE.verdict(), bellbadger.Waiting(2))
         self.assertEqual(TRAY.verdict(), bellbadger.trays.TrayWaiting(2))
+        self.assertEqual(FOLLOWER.follow(b""), Follower(A).follow(b""))
 
     def test_a_pattern_that_has_no_utf_8(self):
         self.assertEqual(self.raised(Refused, rule_file, ["\ud800"]).number, 31)

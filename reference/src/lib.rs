@@ -6,6 +6,7 @@ pub mod checked;
 pub mod chunks;
 pub mod compare;
 pub mod faults;
+pub mod follow;
 pub mod forms;
 pub mod judge;
 pub mod lines;

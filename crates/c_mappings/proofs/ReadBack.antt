@@ -4,12 +4,12 @@ use mathlib.Core.Bool.{Bool, true, false}
 use mathlib.Core.List.{List}
 use mathlib.Core.Option.{Option, none, some}
 use Prim.Native.Nat.{ℕ}
-use Rattle.base.specs.Conditions.{firstOf}
 use Rattle.marks.specs.Marks.{textOf}
 use Rattle.automaton.specs.declared.Rule.{Rule}
+use Rattle.chunks.specs.Taking.{chunkNumber}
 use Rattle.profile.specs.declared.Profile.{Profile}
 use Rattle.profile.specs.Profiles.{buildNumber, buildBy}
-use Rattle.profile.specs.Runs.{chunkConditions, walkTo, mappingIn, runBy, runOf}
+use Rattle.profile.specs.Runs.{walkTo, mappingIn, runBy, runOf}
 use Rattle.c_mappings.specs.Numbers.{buildShown, runShown, verdictShown, buildReadBack, runReadBack, verdictReadBack}
 use Rattle.c_mappings.specs.Claims.{Claims}
 
@@ -23,7 +23,7 @@ run-by (some x) masks = refl
 
 run-back : (p : Profile) (w : List ℕ) → runReadBack (runShown (runOf p w)) ≡ runOf p w
 unfolding runOf
-run-back p w = run-by (firstOf (chunkConditions (p .k) w)) (mappingIn p (walkTo (p .next) 0 (textOf w)))
+run-back p w = run-by (chunkNumber (p .k) w) (mappingIn p (walkTo (p .next) 0 (textOf w)))
 
 verdict-back : (answer : Bool) → verdictReadBack (verdictShown answer) ≡ answer
 verdict-back true = refl

@@ -1,6 +1,7 @@
 -- The one proof of all that specs/Claims.antt claims. Assumes nothing.
 use Rattle.chunks.specs.Claims.{Claims}
 use Rattle.chunks.proofs.Texts as texts
+use Rattle.chunks.proofs.Taking.{taking}
 use Rattle.chunks.proofs.Starts as starts
 use Rattle.chunks.proofs.Counts as counts
 use Rattle.chunks.proofs.Walks as walks
@@ -10,6 +11,7 @@ use Rattle.chunks.proofs.Ends as ends
 pub claims : Claims
 claims = record {
   text-law = texts.text-law;
+  taking = taking;
   run-end = ends.run-end;
   run-count = ends.run-count;
   own-count = walks.row-count;

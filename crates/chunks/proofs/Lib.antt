@@ -1,5 +1,6 @@
 -- In the order in which they build on each other.
 pub mod Texts
+pub mod Taking
 pub mod Walks
 pub mod Looked
 pub mod Running

@@ -19,6 +19,7 @@ use Rattle.delegates.specs.Alike.{delegateIn, startCount, startSet}
 use Rattle.build.specs.Building.{builtOf}
 use Rattle.lanes.specs.Offsets.{rowOf, offsetsOf, rowCount}
 use Rattle.chunks.specs.Chunks.{foreign, counted, delegateSet, runSet, endSet, chunkCount, looked}
+use Rattle.chunks.specs.Taking.{Taken-exactly}
 use Rattle.chunks.specs.Walks.{walkEnd, walkCount, maskOf, runsOf, delegateMask, runMask}
 
 -- every run's set is empty after the text w
@@ -28,6 +29,8 @@ AllEmpty ts run w = (q : ℕ) → q ∈ run → after ts (single q) w ≡ 0
 pub record Claims : Type 0 where
   -- no byte is foreign exactly in a text of symbols below k
   pub text-law : (w : List ℕ) (k : ℕ) → foreign w k ≡ false ↔ Text k w
+  -- which chunks are taken
+  pub taking : (k : ℕ) (w : List ℕ) → Taken-exactly k w
   -- a run from a state of the rule over a text of its symbols ends with the set after the text, and
   -- counts one transition for each successor that is not empty
   pub run-end : (r : Rule) → WellFormed r → fits r → (q : ℕ) → q < r .n → (w : List ℕ) → Text (r .k) w

@@ -1,4 +1,5 @@
 -- In the order in which to read them.
 pub mod Chunks
+pub mod Taking
 pub mod Walks
 pub mod Claims

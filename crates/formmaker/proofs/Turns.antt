@@ -14,8 +14,8 @@ use borrow.Author.Tests.{eq-eqb, ne-eqb, lt-ltb, le-ltb, eqb-true, eqb-false, lt
 use Rattle.base.specs.Lists.{listFrom}
 use Rattle.base.proofs.Tests.{by-test}
 use Rattle.limits.specs.Limits.{tableCells}
-use Rattle.masks.specs.Masks.{single}
-use Rattle.forms.specs.Form.{cell, howMany, picked, maskOf, equalCells, bestBelow, failureOf, keepsFrom, keeps}
+use Rattle.masks.specs.Masks.{single, maskOf}
+use Rattle.forms.specs.Form.{cell, howMany, picked, equalCells, bestBelow, failureOf, keepsFrom, keeps}
 use Rattle.forms.proofs.Picking.{many-le, many-step, many-skip, picked-skip, picked-last, picked-before, picked-past}
 
 -- ---- counting and choosing

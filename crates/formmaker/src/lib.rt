@@ -65,7 +65,7 @@ fn kept_mask(next: &[u16; limits::CELLS], k: usize, t: usize, failure: usize) ->
     let mut s: usize = 0;
     while s < k {
         if keep(next, t, failure, s) {
-            mask = mask | forms::only_symbol(s);
+            mask = mask | masks::only_symbol(s);
         }
         s += 1;
     }

@@ -17,7 +17,7 @@ use Rattle.forms.specs.Form.{cell, keptAt, keptMask, keeps, bestBelow, f
 use Rattle.forms.specs.Back.{keptCount, backBy, tableOf}
 use Rattle.forms.specs.Claims.{Claims}
 use Rattle.forms.proofs.Picking.{picked-past}
-use Rattle.forms.proofs.Masks.{mask-in, mask-of}
+use Rattle.masks.proofs.Passing.{mask-in, mask-of}
 use Rattle.forms.proofs.Failure.{best-below, best-most, best-lowest, first-keeps, left-out}
 use Rattle.forms.proofs.Accepting.{parts, refused-exactly, no-other}
 use Rattle.forms.proofs.PerSet.{of-set, of-no-set}

@@ -7,7 +7,8 @@ use Prim.Native.Nat.{ℕ}
 use lib.ListN.{getD, replicate}
 use Rattle.base.specs.Lists.{listFrom, joined}
 use Rattle.base.specs.Totals.{total}
-use Rattle.forms.specs.Form.{maskOf, bestBelow, failureOf, keeps, keptAt, keptMask, picked}
+use Rattle.masks.specs.Masks.{maskOf}
+use Rattle.forms.specs.Form.{bestBelow, failureOf, keeps, keptAt, keptMask, picked}
 
 -- a set's 16 cells, of which two are in use
 row : ℕ → ℕ → List ℕ

@@ -1,6 +1,5 @@
 pub mod Picking
 pub mod Filling
-pub mod Masks
 pub mod Failure
 pub mod Accepting
 pub mod PerSet

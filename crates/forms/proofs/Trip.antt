@@ -20,7 +20,7 @@ use Rattle.forms.specs.Form.{cell, howMany, picked, keeps, keptAt, keptM
 use Rattle.forms.specs.Back.{rank, keptCount, lookup, cellOf, lacking, backNumber, backBy, backOf, backCell, tableOf}
 use Rattle.forms.specs.Claims.{Numbered, IsTable}
 use Rattle.forms.proofs.Picking as picking
-use Rattle.forms.proofs.Masks.{mask-in, mask-has, mask-lt}
+use Rattle.masks.proofs.Passing.{mask-in, mask-has, mask-lt}
 use Rattle.forms.proofs.Failure.{best-below, first-keeps, left-out}
 use Rattle.forms.proofs.PerSet.{of-set}
 use Rattle.forms.proofs.Accepting.{Accepted, accepted-of}

@@ -4,7 +4,6 @@
 --   cell l t s          the cell of set t and symbol s
 --   howMany p n         how many numbers below n pass the test p
 --   picked p g n        the list of g over the numbers below n that pass the test p, in order
---   maskOf p n          the mask of the numbers below n that pass the test p
 --   equalCells l k t u  in how many symbols the sets t and u have equal cells, empty ones too
 --   failureOf l k t     the failure set: the lower-numbered set with most equal cells, the lowest on
 --                       ties; 0 for set 0
@@ -18,13 +17,12 @@
 use mathlib.Core.Bool.{Bool, cond, not, _||_}
 use mathlib.Core.List.{List, [], _∷_}
 use Prim.Native.Nat.{ℕ, zero, suc, _+_, _*_, _/_, _%_}
-use lib.Bits.{bitOr}
 use lib.Dec.{eqb, ltb}
 use lib.ListN.{getD}
 use Rattle.base.specs.Lists.{listFrom, joined}
 use Rattle.base.specs.Totals.{total}
 use Rattle.limits.specs.Limits.{mostSymbols, mostSets, tableCells}
-use Rattle.masks.specs.Masks.{has, single}
+use Rattle.masks.specs.Masks.{has, maskOf}
 use Rattle.forms.specs.declared.Form.{Form}
 
 -- ---- the numbers that pass a test
@@ -33,10 +31,6 @@ howMany p n = total (λ i. cond (p i) 1 0) n
 
 abbrev pub picked : (ℕ → Bool) → (ℕ → ℕ) → ℕ → List ℕ
 picked p g n = joined (λ i. cond (p i) (g i ∷ []) []) n
-
-unfoldable pub maskOf : (ℕ → Bool) → ℕ → ℕ
-maskOf p zero = 0
-maskOf p (suc s) = bitOr (maskOf p s) (cond (p s) (single s) 0)
 
 -- ---- the failure set
 abbrev pub cell : List ℕ → ℕ → ℕ → ℕ

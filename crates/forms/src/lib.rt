@@ -3,7 +3,7 @@
 ghost use mathlib.Core.Path.{_≡_};
 ghost use Prim.Native.Nat.{_<_};
 ghost use Rattle.limits.specs.Limits.{mostSymbols};
-ghost use Rattle.masks.specs.Masks.{has, single};
+ghost use Rattle.masks.specs.Masks.{has};
 
 // For each set its failure set and the mask of its kept cells, bit s for symbol s; then the kept
 // cells, packed by set and symbol, 512 for an empty one. The rest is 0.
@@ -54,12 +54,4 @@ pub fn has_symbol(mask: u16, symbol: usize) -> bool
     ensures { λ r. ⌜ r ≡ has mask symbol ⌝ }
 {
     (mask >> symbol) & 1 == 1
-}
-
-// The mask with the bit of that symbol alone.
-pub fn only_symbol(symbol: usize) -> u16
-    requires { ⌜ symbol < mostSymbols ⌝ }
-    ensures { λ r. ⌜ r ≡ single symbol ⌝ }
-{
-    1u16 << symbol
 }

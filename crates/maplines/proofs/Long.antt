@@ -20,6 +20,7 @@ use Rattle.ruleformat.specs.Refusals.{tooShort, tooLong, refusal}
 use Rattle.profile.specs.declared.Profile.{Profile}
 use Rattle.profile.specs.Profiles.{Building, refusedBuild}
 use Rattle.profile.specs.Runs.{Ran, refusedRun, runOf}
+use Rattle.profile.proofs.Ways.{run-12}
 use Rattle.profilefile.specs.Files.{profileBy, profileIn}
 use Rattle.mapcalls.specs.declared.MapState.{MapState}
 use Rattle.mapcalls.specs.Calls.{builds, runs, lacking, builtReply, keptBy, ranReply, replyOf, nextOf}
@@ -33,8 +34,7 @@ unfolding profileIn
 file-long f h = ap (λ (o : Option ℕ). profileBy o f) (number-2 f h)
 
 chunk-long : (p : Profile) (w : List ℕ) → 65536 < length w → runOf p w ≡ refusedRun 12
-unfolding runOf
-chunk-long p w h = rw (lt-ltb 65536 (length w) h)
+chunk-long p w h = sym (run-12 p w (refusedRun 12) h refl)
 
 module _ (s : MapState) (f g : List ℕ) where
   module _ (hf : 32906 < length f) (hg : 32906 < length g) where

@@ -1,6 +1,6 @@
 -- Which number building is refused with, and what a run answers, condition by condition. Assumes
 -- nothing.
-use mathlib.Core.Path.{_≡_, refl, _∙_}
+use mathlib.Core.Path.{_≡_, refl, sym, _∙_}
 use mathlib.Core.Logic.{_↔_, _⊎_, inl, inr, ⊎-elim}
 use mathlib.Core.Bool.{Bool, true, false, cond}
 use mathlib.Core.List.{List}
@@ -12,7 +12,7 @@ use lib.ListN.{length, replicate}
 use borrow.Author.Tests.{lt-ltb, le-ltb, ltb-true, ltb-false}
 use Rattle.base.specs.Conditions.{firstOf}
 use Rattle.base.proofs.Options.{none-some}
-use Rattle.base.proofs.Tests.{by-test, not-both}
+use Rattle.base.proofs.Tests.{by-test}
 use Rattle.automaton.specs.declared.Rule.{Rule}
 use Rattle.automaton.specs.Rules.{WellFormed}
 use Rattle.rulecheck.specs.Checking.{ruleNumber}
@@ -20,11 +20,13 @@ use Rattle.rulecheck.proofs.First.{checked-first, checked-then}
 use Rattle.rulecheck.proofs.Claims as check
 use Rattle.marks.specs.Marks.{textOf}
 use Rattle.chunks.specs.Chunks.{foreign}
+use Rattle.chunks.specs.Taking.{chunkNumber}
+use Rattle.chunks.proofs.Claims as chunks
 use Rattle.mappings.specs.Claims.{Small, keysOf}
 use Rattle.mappings.proofs.Claims as mappings
 use Rattle.profile.specs.declared.Profile.{Profile}
 use Rattle.profile.specs.Profiles.{manyMappings, ownConditions, buildNumber}
-use Rattle.profile.specs.Runs.{walkTo, mappingIn, Ran, runBy, runOf}
+use Rattle.profile.specs.Runs.{walkTo, mappingIn, runBy, runOf}
 use Rattle.profile.specs.Claims.{Takes, ManyMappings, Refused-exactly, Runs-exactly}
 
 -- ---- building
@@ -127,73 +129,42 @@ module _ (r : Rule) where
   }
 
 -- ---- running
-data Ways (long strange : Bool) (masks : List ℕ) : Ran → Type 0 where
-  is-long : long ≡ true → Ways long strange masks (record { refusal = some 12; masks = replicate 8 0 })
-  is-strange : long ≡ false → strange ≡ true → Ways long strange masks (record { refusal = some 13; masks = replicate 8 0 })
-  is-run : long ≡ false → strange ≡ false → Ways long strange masks (record { refusal = none; masks = masks })
+-- the number of the run's refusal is the chunk's
+by-refusal : (o : Option ℕ) (masks : List ℕ) → runBy o masks .refusal ≡ o
+by-refusal none masks = refl
+by-refusal (some x) masks = refl
 
-ways : (long strange : Bool) (masks : List ℕ) → Ways long strange masks (runBy (cond long (some 12) (cond strange (some 13) none)) masks)
-ways true strange masks = is-long refl
-ways false true masks = is-strange refl refl
-ways false false masks = is-run refl refl
+by-zeros : (o : Option ℕ) (masks : List ℕ) (x : ℕ) → o ≡ some x → runBy o masks .masks ≡ replicate 8 0
+by-zeros none masks x e = none-some refl e
+by-zeros (some y) masks x e = refl
 
 module _ (p : Profile) (w : List ℕ) where
-  abbrev found : Ran → Type 0
-  found = Ways (ltb 65536 (length w)) (foreign (textOf w) (p .k)) (mappingIn p (walkTo (p .next) 0 (textOf w)))
-
-  way : found (runOf p w)
+  refusal-is : runOf p w .refusal ≡ chunkNumber (p .k) w
   unfolding runOf
-  way = ways (ltb 65536 (length w)) (foreign (textOf w) (p .k)) (mappingIn p (walkTo (p .next) 0 (textOf w)))
+  refusal-is = by-refusal (chunkNumber (p .k) w) _
 
-  from-12 : {o : Ran} → found o → o .refusal ≡ some 12 → 65536 < length w
-  from-12 (is-long l) e = ltb-true 65536 (length w) l
-  from-12 (is-strange l s) e = let z : _≡_ {A = ℕ} 13 12 = cc in absurd (omega arith)
-  from-12 (is-run l s) e = none-some refl e
-
-  to-12 : {o : Ran} → found o → 65536 < length w → o .refusal ≡ some 12
-  to-12 (is-long l) h = refl
-  to-12 (is-strange l s) h = absurd (omega (arith, ltb-false 65536 (length w) l))
-  to-12 (is-run l s) h = absurd (omega (arith, ltb-false 65536 (length w) l))
-
-  from-13 : {o : Ran} → found o → o .refusal ≡ some 13 → (length w ≤ 65536) × (foreign (textOf w) (p .k) ≡ true)
-  from-13 (is-long l) e = let z : _≡_ {A = ℕ} 12 13 = cc in absurd (omega arith)
-  from-13 (is-strange l s) e = (ltb-false 65536 (length w) l, s)
-  from-13 (is-run l s) e = none-some refl e
-
-  to-13 : {o : Ran} → found o → (length w ≤ 65536) × (foreign (textOf w) (p .k) ≡ true) → o .refusal ≡ some 13
-  to-13 (is-long l) h = absurd (omega (arith, ltb-true 65536 (length w) l, h .0))
-  to-13 (is-strange l s) h = refl
-  to-13 (is-run l s) h = not-both (h .1) s
-
-  other : {o : Ran} (x : ℕ) → found o → o .refusal ≡ some x → (x ≡ 12) ⊎ (x ≡ 13)
-  other x (is-long l) e = inl cc
-  other x (is-strange l s) e = inr cc
-  other x (is-run l s) e = none-some refl e
-
-  zeros : {o : Ran} (x : ℕ) → found o → o .refusal ≡ some x → o .masks ≡ replicate 8 0
-  zeros x (is-long l) e = refl
-  zeros x (is-strange l s) e = refl
-  zeros x (is-run l s) e = none-some refl e
+  zeros : (x : ℕ) → chunkNumber (p .k) w ≡ some x → runOf p w .masks ≡ replicate 8 0
+  unfolding runOf
+  zeros x e = by-zeros (chunkNumber (p .k) w) _ x e
 
   pub runs : Runs-exactly p w
-  runs = record {
-    refused-12 = (from-12 way, to-12 way);
-    refused-13 = (from-13 way, to-13 way);
-    no-other = λ x. other x way;
-    zeros = λ x. zeros x way;
-  }
-
-  accepted : {o : Ran} → found o → o .refusal ≡ none
-      → (length w ≤ 65536) × (foreign (textOf w) (p .k) ≡ false) × (o .masks ≡ mappingIn p (walkTo (p .next) 0 (textOf w)))
-  accepted (is-long l) e = none-some e refl
-  accepted (is-strange l s) e = none-some e refl
-  accepted (is-run l s) e = (ltb-false 65536 (length w) l, s, refl)
+  runs =
+      let law = chunks.claims .taking (p .k) w in
+      record {
+        refused-12 = rw refusal-is (law .number-12);
+        refused-13 = rw refusal-is (law .number-13);
+        no-other = λ x e. law .no-other x (sym refusal-is ∙ e);
+        zeros = λ x e. zeros x (sym refusal-is ∙ e);
+      }
 
   -- a run that is accepted
   pub ran : runOf p w .refusal ≡ none
       → (length w ≤ 65536) × (foreign (textOf w) (p .k) ≡ false) × (runOf p w .masks ≡ mappingIn p (walkTo (p .next) 0 (textOf w)))
-  ran e = accepted way e
+  unfolding runOf
+  ran e =
+      let n : chunkNumber (p .k) w ≡ none = sym refusal-is ∙ e in
+      let x = chunks.claims .taking (p .k) w .taken .0 n in
+      (x .0, x .1, rw n)
 
   pub runs-when : length w ≤ 65536 → foreign (textOf w) (p .k) ≡ false → runOf p w .refusal ≡ none
-  unfolding runOf
-  runs-when l s = rw (le-ltb 65536 (length w) l, s)
+  runs-when l s = refusal-is ∙ chunks.claims .taking (p .k) w .taken .1 (l, s)

@@ -6,7 +6,7 @@
 --                run reads of the profile is lent
 --   walk-..      a byte more, and none left
 use mathlib.Core.Path.{_≡_, refl, sym, ap, _∙_}
-use mathlib.Core.Bool.{true, false, cond}
+use mathlib.Core.Bool.{Bool, true, false, cond}
 use mathlib.Core.List.{List}
 use mathlib.Core.Option.{none, some}
 use Prim.Native.Nat.{ℕ, _+_, _*_, _%_, _≤_, _<_, min}
@@ -23,6 +23,8 @@ use Rattle.rulecheck.proofs.First.{checked-first, checked-then}
 use Rattle.rulecheck.proofs.Claims as check
 use Rattle.marks.specs.Marks.{textOf}
 use Rattle.chunks.specs.Chunks.{foreign}
+use Rattle.chunks.specs.Taking.{chunkNumber}
+use Rattle.chunks.proofs.Claims as chunks
 use Rattle.mappings.specs.Mappings.{identity}
 use Rattle.mappings.specs.Packing.{pack, unpack}
 use Rattle.mappings.specs.Claims.{Small, keysOf}
@@ -104,18 +106,25 @@ module _ (r : Rule) (o : Building) where
 module _ (p : Profile) (w : List ℕ) (o : Ran) where
   pub run-12 : 65536 < length w → o ≡ refusedRun 12 → o ≡ runOf p w
   unfolding runOf
-  run-12 b is = is ∙ rw (lt-ltb 65536 (length w) b)
+  run-12 b is = let e : chunkNumber (p .k) w ≡ some 12 = chunks.claims .taking (p .k) w .number-12 .1 b in is ∙ rw e
 
   module _ (short : length w ≤ 65536) (text : List ℕ) (is-text : textOf w ≡ text) where
+    same-text : (b : Bool) → foreign text (p .k) ≡ b → foreign (textOf w) (p .k) ≡ b
+    same-text b e = ap (λ (v : List ℕ). foreign v (p .k)) is-text ∙ e
+
     pub run-13 : foreign text (p .k) ≡ true → o ≡ refusedRun 13 → o ≡ runOf p w
     unfolding runOf
-    run-13 e is = is ∙ rw (le-ltb 65536 (length w) short, is-text, e)
+    run-13 e is =
+        let n : chunkNumber (p .k) w ≡ some 13 = chunks.claims .taking (p .k) w .number-13 .1 (short, same-text true e) in
+        is ∙ rw n
 
     pub run-whole : foreign text (p .k) ≡ false → (number : ℕ) → number ≡ walkTo (p .next) 0 text
         → o ≡ record { refusal = none; masks = mappingIn p number }
         → o ≡ runOf p w
     unfolding runOf
-    run-whole e number n is = is ∙ rw (le-ltb 65536 (length w) short, is-text, e, n)
+    run-whole e number n is =
+        let taken : chunkNumber (p .k) w ≡ none = chunks.claims .taking (p .k) w .taken .1 (short, same-text false e) in
+        is ∙ rw (taken, is-text, n)
 
 -- the same, where what a run reads of the profile is lent
 module _ (k : ℕ) (next packed text : List ℕ) (o : Ran) (p : Profile) (w : List ℕ) (lends : Lends p k next packed)

@@ -2,15 +2,13 @@
 -- profile that a build returned specs/Claims.antt says what this comes to; of any other the answer
 -- is free, and this is what it is.
 --
---   chunkConditions k w   the conditions of the chunk w, in order: 12, over 65,536 bytes; 13, a
---                         byte of its text at or above k
 --   walkTo next i w       where the text w leads from number i over the table
 --   mappingIn p i         mapping number i
 --   Ran, runOutcome       the answer, none or the number of a refusal, and the mapping; and what
 --                         the code's result stands for
 --   refusedRun x          refused with the number x: zeros
---   runOf p w             what a run of the chunk w answers: the mapping that its text, without its
---                         idle marks, leads to
+--   runOf p w             what a run of the chunk w answers: refused with 12 or 13 (chunks' chunkNumber), or the
+--                         mapping that its text, without its idle marks, leads to
 --   Lends p k next packed  the profile p has k symbols, the table next and the mappings packed: all
 --                         that a run reads of it
 --   verdictOf p f         the verdict of the mapping f: yes where it leads from an initial state to
@@ -20,22 +18,17 @@ use mathlib.Core.Bool.{Bool}
 use mathlib.Core.List.{List, [], _∷_}
 use mathlib.Core.Option.{Option, none, some}
 use Prim.Native.Nat.{ℕ, _+_, _*_, _%_}
-use lib.Dec.{ltb}
-use lib.ListN.{length, getD, replicate}
-use Rattle.limits.specs.Limits.{mostSymbols, mostSets, longestChunk}
-use Rattle.base.specs.Conditions.{Condition, on, firstOf}
+use lib.ListN.{getD, replicate}
+use Rattle.limits.specs.Limits.{mostSymbols, mostSets}
 use Rattle.masks.specs.Masks.{shares}
 use Rattle.marks.specs.Marks.{textOf}
-use Rattle.chunks.specs.Chunks.{foreign}
+use Rattle.chunks.specs.Taking.{chunkNumber}
 use Rattle.mappings.specs.Mappings.{mappedStates, image}
 use Rattle.mappings.specs.Packing.{unpack}
 use Rattle.profile.specs.declared.Profile.{Profile}
 use Rattle.profile.specs.declared.RunAnswer.{RunAnswer}
 use Rattle.profile.specs.declared.RunAnswer.the-variants.{Accepted, Refused}
 use Rattle.profile.specs.declared.RunResult.{RunResult}
-
-abbrev pub chunkConditions : ℕ → List ℕ → List Condition
-chunkConditions k w = on 12 (ltb longestChunk (length w)) ∷ on 13 (foreign (textOf w) k) ∷ []
 
 unfoldable pub walkTo : List ℕ → ℕ → List ℕ → ℕ
 walkTo next i [] = i
@@ -63,7 +56,7 @@ runBy none masks = record { refusal = none; masks = masks }
 runBy (some number) masks = refusedRun number
 
 unfoldable pub runOf : Profile → List ℕ → Ran
-runOf p w = runBy (firstOf (chunkConditions (p .k) w)) (mappingIn p (walkTo (p .next) 0 (textOf w)))
+runOf p w = runBy (chunkNumber (p .k) w) (mappingIn p (walkTo (p .next) 0 (textOf w)))
 
 pub record Lends (p : Profile) (k : ℕ) (next packed : List ℕ) : Type 0 where
   pub symbols : p .k ≡ k

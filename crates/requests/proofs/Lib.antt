@@ -1,4 +1,4 @@
--- A page for each request.
+-- A page for each request, and one for following a trace in order.
 pub mod MappingFunctions
 pub mod Mappings
 pub mod Samples
@@ -9,3 +9,5 @@ pub mod Forms
 pub mod TrayFunctions
 pub mod Trays
 pub mod Losses
+pub mod FollowFunctions
+pub mod Following

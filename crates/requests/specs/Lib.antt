@@ -1,4 +1,4 @@
--- What the functions that C links for a request allow, request by request.
+-- What the functions that C links allow, page by page.
 pub mod MappingFunctions
 pub mod SampleFunctions
 pub mod PatternFunction
@@ -7,3 +7,4 @@ pub mod TextFunction
 pub mod FormFunctions
 pub mod TrayFunctions
 pub mod LossFunctions
+pub mod FollowFunctions

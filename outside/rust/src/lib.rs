@@ -41,6 +41,9 @@
 //! For small rules there is a mapping machine ([`mappings`]): chunks are run on whatever machines, and what
 //! comes of them, eight bytes each, is put together afterwards.
 //!
+//! A trace that comes in order, of any length, is followed chunk by chunk ([`follow`]): where it was lost, and
+//! what could come next.
+//!
 //! Rows of events whose columns keep to a rule too are judged by a tray ([`trays`]).
 //!
 //! A refusal that nobody looks at is told by the compiler:
@@ -54,6 +57,7 @@
 //!
 //! No call keeps anything outside its judge. A judge goes by value within the library: a thread that
 //! calls it should have a stack of 1 MB (Rust's own threads have 2 MB).
+pub mod follow;
 pub mod form;
 pub mod losses;
 pub mod mappings;

@@ -5,7 +5,8 @@ use Prim.Native.Nat.{ℕ, _≤_, _-_, _<_, _*_}
 use native.Mathlib.Omega.{arith}
 use borrow.Author.Needs.{needs}
 use lib.Bits.{bitOr}
-use Rattle.forms.specs.Form.{keeps, maskOf}
+use Rattle.masks.specs.Masks.{maskOf}
+use Rattle.forms.specs.Form.{keeps}
 use Rattle.formmaker.proofs.Turns.{mask-more}
 use Rattle.formmaker.proofs.kept_mask.Statement.{statement}
 use Rattle.formmaker.proofs.kept_mask.Tie as tie

@@ -1,14 +1,16 @@
--- The mask of the numbers that pass a test: its members, its bits and its bound. Assumes nothing.
+-- The mask of the numbers that pass a test: its members, its bits and its bound, and one number more,
+-- which passes (mask-add) or does not (mask-skip). Assumes nothing.
 use mathlib.Core.Path.{_≡_, refl, sym, ap, _∙_}
 use mathlib.Core.Logic.{⊎-elim}
 use mathlib.Core.Bool.{Bool, true, false, cond}
-use Prim.Native.Nat.{ℕ, zero, suc, _<_, _^_}
+use Prim.Native.Nat.{ℕ, zero, suc, _+_, _<_, _^_}
+use native.Mathlib.Nat.{eq-or-lt-of-le, le-of-suc-le-suc}
+use native.Mathlib.Numerals.{add-one}
 use native.Mathlib.Omega.{arith}
+use lib.Bits.{bitOr, or-zero-r}
 use Rattle.base.proofs.Tests.{same-truth}
-use Rattle.masks.specs.Masks.{_∈_, has, single}
+use Rattle.masks.specs.Masks.{_∈_, has, single, maskOf}
 use Rattle.masks.proofs.Laws.{no-member, has-member, member-of, or-cases, or-left, or-right, single-law, below-law}
-use Rattle.forms.specs.Form.{maskOf}
-use Rattle.forms.proofs.Picking.{below-suc}
 
 last-bit : (k s : ℕ) (b : Bool) → s ∈ cond b (single k) 0 → (s ≡ k) × (b ≡ true)
 last-bit k s true e = (single-law k s .0 e, refl)
@@ -28,11 +30,12 @@ module _ (p : ℕ → Bool) where
   unfolding maskOf
   mask-of zero s h e = absurd (omega arith)
   mask-of (suc k) s h e =
-      below-suc s k h
+      ⊎-elim
       (λ q.
       let t : p k ≡ true = ap p (sym q) ∙ e in
       or-right (maskOf p k) (cond (p k) (single k) 0) s (rw t (single-law k s .1 q)))
       (λ b. or-left (maskOf p k) (cond (p k) (single k) 0) s (mask-of k s b e))
+      (eq-or-lt-of-le (le-of-suc-le-suc h))
 
   pub mask-has : (k s : ℕ) → s < k → has (maskOf p k) s ≡ p s
   mask-has k s h =
@@ -41,3 +44,13 @@ module _ (p : ℕ → Bool) where
 
   pub mask-lt : (k : ℕ) → maskOf p k < 2 ^ k
   mask-lt k = below-law k (maskOf p k) .1 (λ q e. mask-in k q e .0)
+
+-- one number more
+module _ (p : ℕ → Bool) (s mask : ℕ) (is : mask ≡ maskOf p s) where
+  pub mask-add : p s ≡ true → bitOr mask (single s) ≡ maskOf p (s + 1)
+  unfolding maskOf
+  mask-add e = rw (add-one, e, is)
+
+  pub mask-skip : p s ≡ false → mask ≡ maskOf p (s + 1)
+  unfolding maskOf
+  mask-skip e = rw (add-one, e, or-zero-r) is

@@ -6,8 +6,8 @@ use native.Mathlib.Omega.{arith}
 use lib.Dec.{lit<}
 use lib.Pow.{shl-exact}
 use borrow.Author.Needs.{needs}
-use Rattle.forms.proofs.only_symbol.Statement.{statement}
-use Rattle.forms.proofs.only_symbol.Tie as tie
+use Rattle.masks.proofs.only_symbol.Statement.{statement}
+use Rattle.masks.proofs.only_symbol.Tie as tie
 
 cast-result : tie.Need-cast-result
 cast-result c = search needs

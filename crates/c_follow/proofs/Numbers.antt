@@ -1,0 +1,16 @@
+-- The numbers of an answer are those of what it says. Assumes nothing.
+use mathlib.Core.Path.{_≡_, ap}
+use Prim.Native.Nat.{ℕ}
+use Rattle.follow.specs.declared.Followed.{Followed}
+use Rattle.follow.specs.declared.PrepareResult.{PrepareResult}
+use Rattle.follow.specs.Following.{lostMeans, answerMeans, Outcome, followOutcome, Prepared, prepareOutcome}
+use Rattle.c_follow.specs.Numbers.{flagBy, refusedBy, bitBy, lostFlag, atBy, followShown, prepareShown}
+
+pub shown : (f : Followed) (o : Outcome) → followOutcome f ≡ o → (a b c d e g : ℕ) → a ≡ flagBy (answerMeans (f .answer)) → b ≡ refusedBy (answerMeans (f .answer))
+    → c ≡ bitBy (f .ends) → d ≡ lostFlag (lostMeans (f .lost)) → e ≡ atBy (lostMeans (f .lost)) → g ≡ bitBy (f .complete)
+    → record { accepted = a; refused = b; ends = c; lost = d; at = e; set = f .set; expected = f .expected; complete = g } ≡ followShown o
+shown f o is a b c d e g ia ib ic id ie ig = rw (ia, ib, ic, id, ie, ig) (ap followShown is)
+
+pub prepared-shown : (p : PrepareResult) (o : Prepared) → prepareOutcome p ≡ o → (a b : ℕ) → a ≡ flagBy (answerMeans (p .answer)) → b ≡ refusedBy (answerMeans (p .answer))
+    → record { accepted = a; refused = b; follower = p .follower } ≡ prepareShown o
+prepared-shown p o is a b ia ib = rw (ia, ib) (ap prepareShown is)

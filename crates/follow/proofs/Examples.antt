@@ -1,0 +1,14 @@
+-- The chunks worked by hand are answered as their list says: antt computes it. Assumes nothing.
+use mathlib.Core.Path.{refl}
+use Rattle.base.specs.Conditions.{anyBelow}
+use Rattle.masks.specs.Masks.{union, maskOf}
+use Rattle.marks.specs.Marks.{textOf}
+use Rattle.rulecheck.specs.Checking.{badTargets}
+use Rattle.chunks.specs.Chunks.{foreign}
+use Rattle.follow.specs.Live.{within}
+use Rattle.follow.specs.Following.{leastBelow, followNumber, followOf}
+use Rattle.follow.specs.Worked.{cases, Answered}
+
+pub answered : Answered cases
+unfolding anyBelow union textOf badTargets foreign maskOf within leastBelow followNumber followOf
+answered = (refl, (refl, (refl, (refl, (refl, (refl, (refl, tt)))))))

@@ -1,0 +1,10 @@
+pub mod Steps
+pub mod Caching
+pub mod Numbers
+pub mod Ways
+pub mod Rounds
+pub mod Hope
+pub mod Lists
+pub mod Cuts
+pub mod Examples
+pub mod Claims

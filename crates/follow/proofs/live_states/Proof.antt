@@ -1,0 +1,61 @@
+-- `live_states` meets its contract. Where a round adds nothing, no later one does. Assumes nothing.
+use mathlib.Core.Path.{_≡_, refl, sym, ap, _∙_}
+use Prim.Native.Nat.{_≤_, _-_}
+use native.Mathlib.Omega.{arith}
+use borrow.Author.Needs.{needs}
+use Rattle.follow.specs.Live.{within}
+use Rattle.follow.proofs.Steps.{within-more, within-whole}
+use Rattle.follow.proofs.live_states.Statement.{statement}
+use Rattle.follow.proofs.live_states.Tie as tie
+
+abbrev Inv-loop : tie.InvT-loop
+Inv-loop targets finals live₀ i₀ live i = (i ≤ 32) × (live ≡ within targets finals i)
+
+abbrev μ-loop : tie.MeasureT-loop
+μ-loop targets finals live₀ i₀ live i = 32 - i
+
+loop-holds : tie.Need-loop-holds Inv-loop μ-loop
+unfolding within
+loop-holds c = (omega arith, refl)
+
+back-to-requires : tie.Need-back-to-requires Inv-loop μ-loop
+back-to-requires c κs = search needs
+
+returns : tie.Need-returns Inv-loop μ-loop
+returns c =
+    let l = c .before .before .before .loop in
+    let a = c .before .before .before .before .args in
+    within-whole (a .targets .now) (a .finals) (l .i) (l .live) (l .inv .1) (l .inv .0) (sym (c .before .back-to .ensures) ∙ c .if1 .taken)
+
+add-i : tie.Need-add-i Inv-loop μ-loop
+add-i c = search needs
+
+loop-less : tie.Need-loop-less Inv-loop μ-loop
+loop-less c = search needs
+
+loop-again : tie.Need-loop-again Inv-loop μ-loop
+loop-again c =
+    let l = c .before .before .before .loop in
+    let a = c .before .before .before .before .args in
+    (omega arith, c .before .back-to .ensures ∙ within-more (a .targets .now) (a .finals) (l .i) (l .live) (l .inv .1))
+
+returns-2 : tie.Need-returns-2 Inv-loop μ-loop
+returns-2 c =
+    let l = c .before .loop in
+    let a = c .before .before .args in
+    let e : l .i ≡ 32 = omega arith in
+    l .inv .1 ∙ ap (within (a .targets .now) (a .finals)) e
+
+pub live-states-spec : {M : Type 1} → statement M
+live-states-spec =
+    tie.close
+    (tie.spec
+    Inv-loop
+    μ-loop
+    loop-holds
+    back-to-requires
+    returns
+    add-i
+    loop-less
+    loop-again
+    returns-2)

@@ -1,0 +1,192 @@
+-- What following says, for every checked rule, every set, every chunk and every list of chunks;
+-- proofs/Claims.antt proves it.
+--
+--   AcceptsIn r m v       an accepting run over v starts in a state of the set m
+--   CanEnd r m v          some text continues v to one over which such a run starts
+--   LostAt r m w b        b is the least number of bytes of the chunk w, idle marks counted, after
+--                         which there is none
+--   Refused-exactly r w   which number following is refused with, condition by condition
+--   One r m w             what an accepted call answers, from any set m
+--   keptSet r m w         the set that the caller holds after a call: the answer's; the old one where
+--                         the chunk is refused
+--   handed r m ws         the set that is handed on from chunk to chunk, oldest first
+--   keptText, takenText   the text of the chunks that were not refused, joined
+--   Continues r v         some text continues v to one that the rule accepts
+--   Cut r m u w           the chunk u ++ w is followed as u and then w
+--   Prepared-so r         what preparing the rule r answers, and following by it
+--   Followed-so r ws w    what the answer for chunk w says after the chunks ws, begun with the initial
+--                         states
+use mathlib.Core.Path.{_≡_}
+use mathlib.Core.Logic.{_↔_, _⊎_}
+use mathlib.Core.Bool.{true, false, cond}
+use mathlib.Core.List.{List, [], _∷_, _++_, map, flatten}
+use mathlib.Core.Option.{none, some}
+use Prim.Native.Nat.{ℕ, suc, _+_, _-_, _^_, _≤_, _<_}
+use lib.ListN.{length, getD, take}
+use Rattle.limits.specs.Limits.{longestChunk}
+use Rattle.base.specs.Options.{isNone}
+use Rattle.masks.specs.Masks.{_∈_}
+use Rattle.marks.specs.Marks.{idleMark, textOf}
+use Rattle.automaton.specs.declared.Rule.{Rule}
+use Rattle.automaton.specs.Automaton.{Text, Accepts}
+use Rattle.automaton.specs.Rules.{automatonOf, WellFormed}
+use Rattle.automaton.specs.Successor.{Reached}
+use Rattle.rulecheck.specs.Checking.{ruleNumber}
+use Rattle.chunks.specs.Taking.{chunkNumber}
+use Rattle.delegates.specs.Alike.{AcceptsFrom, Live}
+use Rattle.follow.specs.Live.{liveOf}
+use Rattle.follow.specs.Worked.{cases, Answered}
+use Rattle.follow.specs.declared.Follower.{Follower}
+use Rattle.follow.specs.Following.{followNumber, refusedFollow, walkOf, followOf, noFollower, prepareOf, followByOf}
+
+-- ---- one call
+module _ (r : Rule) (m : ℕ) where
+  pub record AcceptsIn (v : List ℕ) : Type 0 where
+    pub from : ℕ
+    pub member : from ∈ m
+    pub accepts : AcceptsFrom (automatonOf r) from v
+
+  pub record CanEnd (v : List ℕ) : Type 0 where
+    pub rest : List ℕ
+    pub accepts : AcceptsIn (v ++ rest)
+
+  pub record LostAt (w : List ℕ) (b : ℕ) : Type 0 where
+    pub within : b ≤ length w
+    pub lost : CanEnd (textOf (take b w)) → ⊥
+    pub before : (i : ℕ) → i < b → CanEnd (textOf (take i w))
+
+pub record Refused-exactly (r : Rule) (w : List ℕ) : Type 0 where
+  -- 3, 4, 6 and 8 as installing gives them
+  pub checked : (x : ℕ) → x ≤ 8 → (followNumber r w ≡ some x) ↔ (ruleNumber r ≡ some x)
+  pub number-12 : (followNumber r w ≡ some 12) ↔ (WellFormed r × (longestChunk < length w))
+  pub number-13 : (followNumber r w ≡ some 13) ↔ (WellFormed r × (length w ≤ longestChunk) × (Text (r .k) (textOf w) → ⊥))
+  pub accepted : (followNumber r w ≡ none) ↔ (WellFormed r × (length w ≤ longestChunk) × Text (r .k) (textOf w))
+  pub no-other : (x : ℕ) → followNumber r w ≡ some x → (x ≤ 8) ⊎ (x ≡ 12) ⊎ (x ≡ 13)
+
+pub record One (r : Rule) (m : ℕ) (w : List ℕ) : Type 0 where
+  -- the set of the states that runs over the chunk's text from a state of m lead to
+  pub set : m < 2 ^ r .n → (p : ℕ) → p ∈ followOf r m w .set ↔ Reached (automatonOf r) m (textOf w) p
+  pub ends : (followOf r m w .ends ≡ true) ↔ AcceptsIn r m (textOf w)
+  -- lost, and where; not lost
+  pub lost : (b : ℕ) → (followOf r m w .lost ≡ some b) ↔ LostAt r m w b
+  pub not-lost : (followOf r m w .lost ≡ none) ↔ CanEnd r m (textOf w)
+  -- what could have stood there, before byte b; what could come next
+  pub expected-there : (b s : ℕ) → followOf r m w .lost ≡ some b
+      → s ∈ followOf r m w .expected ↔ CanEnd r m (textOf (take (b - 1) w) ++ (s ∷ []))
+  pub expected-next : (s : ℕ) → followOf r m w .lost ≡ none → s ∈ followOf r m w .expected ↔ CanEnd r m (textOf w ++ (s ∷ []))
+  -- the byte at which it is lost is no idle mark, and is not among the expected symbols
+  pub culprit : (b : ℕ) → followOf r m w .lost ≡ some (suc b)
+      → (b < length w) × (getD w b 0 ≡ idleMark → ⊥) × (getD w b 0 ∈ followOf r m w .expected → ⊥)
+  -- the trace could have ended before that byte: the text up to there is accepted. Where it is not lost,
+  -- the text so far; where it was lost before the chunk, never
+  pub complete-there : (b : ℕ) → followOf r m w .lost ≡ some (suc b) → (followOf r m w .complete ≡ true) ↔ AcceptsIn r m (textOf (take b w))
+  pub complete-here : followOf r m w .lost ≡ none → followOf r m w .complete ≡ followOf r m w .ends
+  pub complete-never : followOf r m w .lost ≡ some 0 → followOf r m w .complete ≡ false
+  -- where nothing is expected, though it is not lost before, the text ends there: it is accepted
+  pub only-end : (b : ℕ) → followOf r m w .lost ≡ some (suc b) → followOf r m w .expected ≡ 0 → AcceptsIn r m (textOf (take b w))
+  pub only-end-next : followOf r m w .lost ≡ none → followOf r m w .expected ≡ 0 → followOf r m w .ends ≡ true
+
+-- ---- from chunk to chunk
+module _ (r : Rule) where
+  abbrev pub keptSet : ℕ → List ℕ → ℕ
+  keptSet m w = cond (isNone (followNumber r w)) (followOf r m w .set) m
+
+  abbrev pub handed : ℕ → List (List ℕ) → ℕ
+  handed m [] = m
+  handed m (w ∷ ws) = handed (keptSet m w) ws
+
+  abbrev pub keptText : List ℕ → List ℕ
+  keptText w = cond (isNone (followNumber r w)) (textOf w) []
+
+  abbrev pub takenText : List (List ℕ) → List ℕ
+  takenText ws = flatten (map keptText ws)
+
+  pub record Continues (v : List ℕ) : Type 0 where
+    pub rest : List ℕ
+    pub accepted : Accepts (automatonOf r) (v ++ rest)
+
+  module _ (ws : List (List ℕ)) (w : List ℕ) where
+    pub record Followed-so : Type 0 where
+      -- the set is the reached one over the joined text, and it has a final state exactly where the
+      -- rule accepts that text
+      pub set : (p : ℕ) → p ∈ followOf r (handed (r .initials) ws) w .set ↔ Reached (automatonOf r) (r .initials) (takenText ws ++ textOf w) p
+      pub ends : (followOf r (handed (r .initials) ws) w .ends ≡ true) ↔ Accepts (automatonOf r) (takenText ws ++ textOf w)
+      -- lost at b: the text up to there has no continuation that the rule accepts, and each that is
+      -- shorter by bytes of this chunk has one
+      pub lost : (b : ℕ) → (followOf r (handed (r .initials) ws) w .lost ≡ some b)
+          ↔ ((b ≤ length w) × (Continues (takenText ws ++ textOf (take b w)) → ⊥) × ((i : ℕ) → i < b → Continues (takenText ws ++ textOf (take i w))))
+      pub not-lost : (followOf r (handed (r .initials) ws) w .lost ≡ none) ↔ Continues (takenText ws ++ textOf w)
+      -- and so does each shorter text from the very beginning, where it is lost by a byte of this chunk
+      pub every-shorter : (b : ℕ) → followOf r (handed (r .initials) ws) w .lost ≡ some (suc b)
+          → (v u : List ℕ) → takenText ws ++ textOf (take b w) ≡ v ++ u → Continues v
+      -- symbol s could have stood there, and could come next
+      pub expected-there : (b s : ℕ) → followOf r (handed (r .initials) ws) w .lost ≡ some b
+          → s ∈ followOf r (handed (r .initials) ws) w .expected ↔ Continues (takenText ws ++ (textOf (take (b - 1) w) ++ (s ∷ [])))
+      pub expected-next : (s : ℕ) → followOf r (handed (r .initials) ws) w .lost ≡ none
+          → s ∈ followOf r (handed (r .initials) ws) w .expected ↔ Continues (takenText ws ++ (textOf w ++ (s ∷ [])))
+      -- the end could have stood there, and can stand here
+      pub complete-there : (b : ℕ) → followOf r (handed (r .initials) ws) w .lost ≡ some (suc b)
+          → (followOf r (handed (r .initials) ws) w .complete ≡ true) ↔ Accepts (automatonOf r) (takenText ws ++ textOf (take b w))
+      pub complete-here : followOf r (handed (r .initials) ws) w .lost ≡ none
+          → (followOf r (handed (r .initials) ws) w .complete ≡ true) ↔ Accepts (automatonOf r) (takenText ws ++ textOf w)
+
+-- ---- where the trace is cut does not matter
+-- `walkOf` is the answer to a chunk of any length: a chunk u ++ w is followed as u and then w
+pub record Cut (r : Rule) (m : ℕ) (u w : List ℕ) : Type 0 where
+  pub set : walkOf r m (u ++ w) .set ≡ walkOf r (walkOf r m u .set) w .set
+  pub ends : walkOf r m (u ++ w) .ends ≡ walkOf r (walkOf r m u .set) w .ends
+  -- lost in the first part, in the second, in neither
+  pub in-first : (b : ℕ) → walkOf r m u .lost ≡ some b
+      → (walkOf r m (u ++ w) .lost ≡ some b) × (walkOf r m (u ++ w) .expected ≡ walkOf r m u .expected)
+      × (walkOf r m (u ++ w) .complete ≡ walkOf r m u .complete)
+  pub in-second : (c : ℕ) → walkOf r m u .lost ≡ none → walkOf r (walkOf r m u .set) w .lost ≡ some c
+      → (0 < c) × (walkOf r m (u ++ w) .lost ≡ some (length u + c)) × (walkOf r m (u ++ w) .expected ≡ walkOf r (walkOf r m u .set) w .expected)
+      × (walkOf r m (u ++ w) .complete ≡ walkOf r (walkOf r m u .set) w .complete)
+  pub in-neither : walkOf r m u .lost ≡ none → walkOf r (walkOf r m u .set) w .lost ≡ none
+      → (walkOf r m (u ++ w) .lost ≡ none) × (walkOf r m (u ++ w) .expected ≡ walkOf r (walkOf r m u .set) w .expected)
+      × (walkOf r m (u ++ w) .complete ≡ walkOf r (walkOf r m u .set) w .complete)
+
+-- ---- a rule that is checked once
+pub record Prepared-so (r : Rule) : Type 0 where
+  -- refused with 3, 4, 6 or 8 as installing is, and then zeros
+  pub refused : (x : ℕ) → (prepareOf r .refusal ≡ some x) ↔ (ruleNumber r ≡ some x)
+  pub zeros : (x : ℕ) → prepareOf r .refusal ≡ some x → prepareOf r .follower ≡ noFollower
+  -- accepted exactly where the rule is well-formed: its follower has the rule itself
+  pub accepted : (prepareOf r .refusal ≡ none) ↔ WellFormed r
+  pub carries : prepareOf r .refusal ≡ none → prepareOf r .follower .rule ≡ r
+  -- following by it is following by the rule, in every answer
+  pub same : prepareOf r .refusal ≡ none → (m : ℕ) (w : List ℕ) → followByOf (prepareOf r .follower) m w ≡ followOf r m w
+
+pub record Claims : Type 0 where
+  -- chunks worked by hand
+  pub answered : Answered cases
+  -- the mask of live states has those from which a final state can be reached
+  pub live : (r : Rule) → WellFormed r → (q : ℕ) → q ∈ liveOf r ↔ Live (automatonOf r) q
+  -- refusals: which number; it carries zeros
+  pub numbers : (r : Rule) (w : List ℕ) → Refused-exactly r w
+  pub refused : (r : Rule) (m : ℕ) (w : List ℕ) (x : ℕ) → (followOf r m w ≡ refusedFollow x) ↔ (followNumber r w ≡ some x)
+  pub accepted : (r : Rule) (m : ℕ) (w : List ℕ) → followNumber r w ≡ none → followOf r m w ≡ walkOf r m w
+  -- a rule that is checked once; by any follower, the chunk is refused as its k says
+  pub prepared : (r : Rule) → Prepared-so r
+  pub by-any : (f : Follower) (m : ℕ) (w : List ℕ) → followByOf f m w .refusal ≡ chunkNumber (f .rule .k) w
+  -- where the trace is cut does not matter
+  pub cut : (r : Rule) → WellFormed r → (m : ℕ) (u w : List ℕ) → Cut r m u w
+  -- one call, from any set; from chunk to chunk
+  pub one : (r : Rule) (m : ℕ) (w : List ℕ) → followNumber r w ≡ none → One r m w
+  pub followed : (r : Rule) (ws : List (List ℕ)) (w : List ℕ) → followNumber r w ≡ none → Followed-so r ws w
+  -- once lost, lost for good: whatever comes after, the next chunk is lost at its byte 0, nothing is
+  -- expected, there is no final state, and the trace could not have ended there
+  pub for-good : (r : Rule) (m : ℕ) (w : List ℕ) (b : ℕ) → followOf r m w .lost ≡ some b → (ws : List (List ℕ)) (x : List ℕ) → followNumber r x ≡ none
+      → (followOf r (handed r (followOf r m w .set) ws) x .lost ≡ some 0)
+      × (followOf r (handed r (followOf r m w .set) ws) x .expected ≡ 0)
+      × (followOf r (handed r (followOf r m w .set) ws) x .ends ≡ false)
+      × (followOf r (handed r (followOf r m w .set) ws) x .complete ≡ false)
+  -- bits at n and above mean nothing: two sets with the same states are followed alike, and lead to
+  -- sets with the same states
+  pub means-nothing : (r : Rule) (l m : ℕ) (w : List ℕ) → ((q : ℕ) → q < r .n → (q ∈ l) ↔ (q ∈ m))
+      → (followOf r l w .ends ≡ followOf r m w .ends) × (followOf r l w .lost ≡ followOf r m w .lost)
+      × (followOf r l w .expected ≡ followOf r m w .expected) × (followOf r l w .complete ≡ followOf r m w .complete)
+      × ((q : ℕ) → q < r .n → (q ∈ followOf r l w .set) ↔ (q ∈ followOf r m w .set))
+  -- where no chunk is refused, the text is the chunks' texts joined
+  pub all-taken : (r : Rule) (ws : List (List ℕ)) → ((i : ℕ) → i < length ws → followNumber r (getD ws i []) ≡ none)
+      → takenText r ws ≡ flatten (map textOf ws)

@@ -1,0 +1,6 @@
+-- In the order in which to read them.
+pub mod Live
+pub mod Following
+pub mod Cache
+pub mod Worked
+pub mod Claims

@@ -1,0 +1,124 @@
+"""A trace that comes in order, of any length, followed chunk by chunk: whether it keeps to the rule so far,
+where it was lost, and what could come next.
+
+    >>> from bellbadger import read
+    >>> from bellbadger.patterns import rule_file
+    >>> rule = read(rule_file("ab*c"))
+    >>> follower = Follower(rule)
+    >>> follower.follow(bytes([0, 255, 1]))  # 255 is an idle mark
+    Followed(is_accepted_so_far=False, lost_at=None, expected=(1, 2), complete=False)
+    >>> follower.follow(bytes([2])).is_accepted_so_far
+    True
+
+What comes behind the end loses the trace, and whatever follows then, it stays so:
+
+    >>> lost = follower.follow(bytes([255, 1, 2]))
+    >>> lost.is_lost, lost.lost_at, lost.expected, lost.complete
+    (True, 2, (), True)
+    >>> follower.follow(bytes([2])).lost_at
+    0
+
+A trace is good exactly where no chunk of it was refused and the last answer says is_accepted_so_far. That a
+chunk was taken says nothing of that, so an answer is no truth value:
+
+    >>> if follower.follow(b""):
+    ...     print("ship")
+    Traceback (most recent call last):
+    ...
+    TypeError: a followed chunk is no truth value: write .is_accepted_so_far behind it
+"""
+
+import ctypes
+from dataclasses import dataclass
+
+from ._arguments import as_bytes
+from ._library import DATA, declare, expect_size, lib
+from .refusals import Refused
+from .rules import RawRule, members, raw
+
+__all__ = ["Followed", "Follower"]
+
+# as outside/c/bellbadger_follow.h has it
+_FOLLOWER_SIZE = 2064
+
+
+class _Follower(ctypes.Structure):
+    _fields_ = [("rule", RawRule), ("live", ctypes.c_uint32)]
+
+
+class _Prepared(ctypes.Structure):
+    _fields_ = [("accepted", ctypes.c_uint8), ("refused", ctypes.c_uint8), ("follower", _Follower)]
+
+
+class _Followed(ctypes.Structure):
+    _fields_ = [
+        ("accepted", ctypes.c_uint8),
+        ("refused", ctypes.c_uint8),
+        ("ends", ctypes.c_uint8),
+        ("lost", ctypes.c_uint8),
+        ("at", ctypes.c_uint32),
+        ("set", ctypes.c_uint32),
+        ("expected", ctypes.c_uint16),
+        ("complete", ctypes.c_uint8),
+    ]
+
+
+expect_size("follower_size", _Follower, _FOLLOWER_SIZE)
+declare("follower_prepare", _Prepared, RawRule)
+declare("follow_by", _Followed, _Follower, ctypes.c_uint32, *DATA)
+
+
+@dataclass(frozen=True)
+class Followed:
+    """What a chunk that was taken tells of the trace.
+
+    is_accepted_so_far: whether the rule accepts all that came, up to the end of this chunk; the yes or no of a
+    filled board with the same chunks. Chunks that were refused are no part of it.
+    lost_at: None, or the least number of bytes of this chunk, idle marks counted, after which the rule will not
+    accept the trace whatever comes. It is 0, which is false in an `if`, where that was so before the chunk: ask
+    is_lost.
+    expected: the symbols that could come next, the lowest first; of a lost trace those that could have stood in
+    the place of the byte by which it was lost.
+    complete: whether the trace could have ended before that byte, or can end here where it is not lost. It is no
+    verdict: a lost trace has it too.
+    """
+
+    is_accepted_so_far: bool
+    lost_at: object
+    expected: tuple
+    complete: bool
+
+    @property
+    def is_lost(self):
+        """Whether the rule will not accept the trace, whatever comes."""
+        return self.lost_at is not None
+
+    def __bool__(self):
+        raise TypeError("a followed chunk is no truth value: write .is_accepted_so_far behind it")
+
+
+class Follower:
+    """A rule that is checked once, and the states that the trace has led to, first the initial ones. Refused with
+    3, 4, 6, 8. A rule of over 512 sets is taken. Each trace has a follower of its own."""
+
+    def __init__(self, rule):
+        prepared = lib.bellbadger_follower_prepare(raw("Follower", "rule", rule))
+        if not prepared.accepted:
+            raise Refused(prepared.refused)
+        self._follower, self._set = prepared.follower, rule.initials
+
+    def __repr__(self):
+        rule = self._follower.rule
+        return f"<Follower: states {rule.n}, symbols {rule.k}, reached {members(self._set)}>"
+
+    def follow(self, chunk):
+        """Follows the next chunk: a Followed. Byte 255 is an idle mark, as in a delivery. An empty chunk changes
+        nothing, and is answered too. Refused with 12, 13: the follower is then as it was, and the chunk is no
+        part of the trace."""
+        data = as_bytes("follow", "chunk", chunk)
+        result = lib.bellbadger_follow_by(self._follower, self._set, data, len(data))
+        if not result.accepted:
+            raise Refused(result.refused)
+        self._set = result.set
+        expected = tuple(symbol for symbol in range(16) if result.expected >> symbol & 1)
+        return Followed(result.ends == 1, result.at if result.lost else None, expected, result.complete == 1)

@@ -1,0 +1,224 @@
+//! A trace that comes in order, of any length, followed chunk by chunk: whether it keeps to the rule so
+//! far, where it was lost, and what could come next.
+//!
+//! A trace is good exactly where no chunk of it was refused and the last answer says
+//! [`is_accepted_so_far`](Followed::is_accepted_so_far). That a chunk was taken, `Ok(..)`, says nothing
+//! of that.
+//!
+//! ```
+//! use bellbadger::follow::Follower;
+//! use bellbadger::{CheckedRule, Refused};
+//!
+//! // 0 and then 1, and nothing else
+//! let mut rule = CheckedRule { n: 3, k: 2, initials: 0b001, finals: 0b100, targets: [0; 512] };
+//! rule.targets[0] = 0b010; // from state 0 by symbol 0
+//! rule.targets[17] = 0b100; // from state 1 by symbol 1
+//! let mut follower = Follower::new(&rule)?;
+//! let fresh = follower.clone();
+//!
+//! let first = follower.follow(&[0, 255])?; // 255 is an idle mark
+//! assert!(!first.is_accepted_so_far() && first.lost.is_none());
+//! assert_eq!(first.expected.to_vec(), [1]);
+//! assert!(follower.follow(&[1])?.is_accepted_so_far());
+//!
+//! // another trace: it is lost by the second byte of its second chunk, where 1 would have been right
+//! let mut follower = fresh;
+//! let _empty = follower.follow(&[])?;
+//! let lost = follower.follow(&[0, 0, 1])?;
+//! assert_eq!((lost.lost, lost.expected.to_vec(), lost.complete), (Some(2), vec![1], false));
+//! # Ok::<(), Refused>(())
+//! ```
+use crate::{accepted, fits, CheckedRule, Refused};
+use std::fmt;
+
+#[repr(C)]
+#[derive(Clone, Copy, PartialEq, Eq)]
+struct RawFollower {
+    rule: CheckedRule,
+    live: u32,
+}
+
+#[repr(C)]
+struct RawPrepared {
+    accepted: u8,
+    refused: u8,
+    follower: RawFollower,
+}
+
+#[repr(C)]
+struct RawFollowed {
+    accepted: u8,
+    refused: u8,
+    ends: u8,
+    lost: u8,
+    at: u32,
+    set: u32,
+    expected: u16,
+    complete: u8,
+}
+
+/// As the C header has them; outside/c/test_follow.c reads every field.
+const FOLLOWER_SIZE: usize = 2064;
+const _: () = assert!(std::mem::size_of::<RawFollower>() == FOLLOWER_SIZE);
+const _: () = assert!(std::mem::size_of::<RawFollowed>() == 16);
+
+extern "C" {
+    fn bellbadger_follower_size() -> usize;
+    fn bellbadger_follower_prepare(rule: CheckedRule) -> RawPrepared;
+    fn bellbadger_follow_by(
+        follower: RawFollower,
+        set: u32,
+        chunk: *const u8,
+        length: usize,
+    ) -> RawFollowed;
+}
+
+/// Some of the symbols 0 to 15.
+#[derive(Clone, Copy, PartialEq, Eq, Hash, Default)]
+#[must_use]
+pub struct Symbols(u16);
+
+impl Symbols {
+    /// Whether the symbol is one of them.
+    #[must_use]
+    pub fn contains(self, symbol: u8) -> bool {
+        symbol < 16 && self.0 >> symbol & 1 == 1
+    }
+
+    /// Whether there is none.
+    #[must_use]
+    pub fn is_empty(self) -> bool {
+        self.0 == 0
+    }
+
+    /// The symbols, the lowest first.
+    pub fn iter(self) -> impl Iterator<Item = u8> {
+        (0..16).filter(move |&symbol| self.contains(symbol))
+    }
+
+    /// The same as a list.
+    #[must_use]
+    pub fn to_vec(self) -> Vec<u8> {
+        self.iter().collect()
+    }
+}
+
+impl fmt::Debug for Symbols {
+    fn fmt(&self, f: &mut fmt::Formatter<'_>) -> fmt::Result {
+        f.debug_set().entries(self.iter()).finish()
+    }
+}
+
+/// What a chunk that was taken tells of the trace.
+#[derive(Clone, Copy, Debug, PartialEq, Eq)]
+#[must_use]
+pub struct Followed {
+    accepted_so_far: bool,
+    /// Whether the trace is lost: whatever comes, the rule will not accept it. The least number of bytes
+    /// of this chunk, idle marks counted, after which that is so; 0 where it was so before the chunk.
+    pub lost: Option<usize>,
+    /// The symbols that could come next, so that the rule can still accept the trace. Where it is lost,
+    /// those that could have stood in the place of the byte by which it was; none where that was before
+    /// this chunk.
+    pub expected: Symbols,
+    /// Whether the trace could have ended before the byte by which it was lost; where it is not lost,
+    /// whether it can end here. It is no verdict: a lost trace has it too.
+    pub complete: bool,
+}
+
+impl Followed {
+    /// Whether the rule accepts all that came, up to the end of this chunk: the yes or no of a filled
+    /// board with the same chunks. Chunks that were refused are no part of it.
+    ///
+    /// Asking is not enough; an answer that is dropped is told by the compiler:
+    ///
+    /// ```compile_fail
+    /// #![deny(unused_must_use)]
+    /// fn ship(followed: bellbadger::follow::Followed) {
+    ///     followed.is_accepted_so_far();
+    /// }
+    /// ```
+    #[must_use]
+    pub fn is_accepted_so_far(&self) -> bool {
+        self.accepted_so_far
+    }
+}
+
+/// A rule that was checked, and the set of states that the trace has led to. A clone of a fresh one
+/// begins another trace.
+#[derive(Clone, PartialEq, Eq)]
+pub struct Follower {
+    by: Box<RawFollower>,
+    set: u32,
+}
+
+impl Follower {
+    /// Checks a rule, whatever stands in it, and begins a trace with its initial states.
+    ///
+    /// # Errors
+    /// 3, 4, 6, 8 as [`Judge::install`](crate::Judge::install) has them. A rule of over 512 sets is taken.
+    ///
+    /// ```
+    /// # use bellbadger::{follow::Follower, CheckedRule};
+    /// let rule = CheckedRule { n: 2, k: 1, initials: 4, finals: 2, targets: [0; 512] };
+    /// assert_eq!(Follower::new(&rule).unwrap_err().number(), 6);
+    /// ```
+    ///
+    /// # Panics
+    /// Where the library that is linked has another version or follower than this wrapper was written for.
+    pub fn new(rule: &CheckedRule) -> Result<Follower, Refused> {
+        fits();
+        // SAFETY: the function takes nothing and returns a number.
+        let size = unsafe { bellbadger_follower_size() };
+        assert_eq!(
+            size, FOLLOWER_SIZE,
+            "libbellbadger.a has another follower than this wrapper"
+        );
+        // SAFETY: plain numbers.
+        let r = unsafe { bellbadger_follower_prepare(*rule) };
+        accepted(r.accepted, r.refused)?;
+        Ok(Follower {
+            set: rule.initials,
+            by: Box::new(r.follower),
+        })
+    }
+
+    /// Follows the next chunk. Byte 255 is an idle mark: it is skipped and is no part of the text, but
+    /// counts in the limit and in places. An empty chunk changes nothing, and is answered too.
+    ///
+    /// # Errors
+    /// 12 (over 65,536 bytes), 13 (a byte is no symbol and no idle mark). The follower is then as it was,
+    /// and the chunk is no part of the trace.
+    ///
+    /// ```compile_fail
+    /// #![deny(unused_must_use)]
+    /// fn next(follower: &mut bellbadger::follow::Follower) -> Result<(), bellbadger::Refused> {
+    ///     follower.follow(&[1])?;
+    ///     Ok(())
+    /// }
+    /// ```
+    pub fn follow(&mut self, chunk: &[u8]) -> Result<Followed, Refused> {
+        let (data, length) = (chunk.as_ptr(), chunk.len());
+        // SAFETY: the pointer leads to as many bytes as the length says, and they are only read.
+        let r = unsafe { bellbadger_follow_by(*self.by, self.set, data, length) };
+        accepted(r.accepted, r.refused)?;
+        self.set = r.set;
+        Ok(Followed {
+            accepted_so_far: r.ends == 1,
+            lost: (r.lost == 1).then_some(r.at as usize),
+            expected: Symbols(r.expected),
+            complete: r.complete == 1,
+        })
+    }
+}
+
+/// Its sizes, and in how many states the trace is.
+impl fmt::Debug for Follower {
+    fn fmt(&self, f: &mut fmt::Formatter<'_>) -> fmt::Result {
+        f.debug_struct("Follower")
+            .field("states", &self.by.rule.n)
+            .field("symbols", &self.by.rule.k)
+            .field("reached", &self.set.count_ones())
+            .finish_non_exhaustive()
+    }
+}
