@@ -127,8 +127,8 @@ typedef struct {
 
 /* The kind of a verdict is no truth value: 0 is a refusal, so that a result full of zeros is no verdict,
  * and all that follows, waiting and no too, holds in an `if`. There is no shorter form for "ship it" than
- * bellbadger_is_yes, below; of a tray, bellbadger_tray_is_yes; of a trace that is followed,
- * bellbadger_is_accepted_so_far. */
+ * bellbadger_is_yes, below; of a tray, bellbadger_tray_is_yes; of a trace that is followed, and of which no chunk was
+ * refused, bellbadger_is_accepted_so_far. */
 enum {
     BELLBADGER_REFUSED = 0,   /* number: why */
     BELLBADGER_WAITING = 1,   /* number: how many places are empty */

@@ -19,17 +19,20 @@ typedef struct {
     uint8_t complete;  /* 1: the trace could have ended before that byte; where not lost, as ends. It is no verdict */
 } bellbadger_follow_result;
 
-/* Whether the rule accepts what came so far, which is the text of the chunks that were taken: a trace of which a
- * chunk was refused and not handed in anew is not good, whatever later answers say. That a chunk was taken
- * (`accepted`) says nothing of it. */
+/* Whether the rule accepts what came so far, which is the text of the chunks that were taken. That a chunk was taken
+ * (`accepted`) says nothing of it; and where a chunk before was refused and left out, neither does a yes: see below. */
 BELLBADGER_RESULT static inline bool bellbadger_is_accepted_so_far(bellbadger_follow_result followed) {
     return followed.accepted && followed.ends;
 }
 
-/* Follows a chunk from a set of states: rule.initials first, then the set of the answer before. A chunk
- * that is refused is no part of the trace, and the caller keeps the set that it had. Bits for states that there are not mean nothing. Refused with
+/* Follows a chunk from a set of states: rule.initials first, then the set of the answer before. Bits for states that
+ * there are not mean nothing. Refused with
  *   3, 4, 6, 8 as bellbadger_install is
- *   12 the chunk has over 65,536 bytes      13 a byte is no symbol and no idle mark */
+ *   12 the chunk has over 65,536 bytes      13 a byte is no symbol and no idle mark
+ *
+ * Stop at a refusal. The library keeps nothing of a trace, and the chunk that was refused is no part of it: whoever
+ * goes on with the next one, from the set before, follows a trace with a hole, and no later answer tells of it, a yes
+ * neither. Hand the chunk in anew, from the set before, as it was meant; or the trace is not good. */
 BELLBADGER_RESULT bellbadger_follow_result bellbadger_follow(bellbadger_checked_rule rule, uint32_t set, const uint8_t *chunk, size_t length);
 
 /* A rule that was checked once, to follow many chunks by. */

@@ -240,19 +240,59 @@ static void marks(bellbadger_judge j) {
     printf("  one byte in 16 an idle mark, beside the same text without: %.2f\n", ratios[ROUNDS / 2]);
 }
 
-/* looking for a loss in a chunk, beside a delivery of it */
-static void losses(const char *name, bellbadger_judge j, const uint8_t *chunk, int kind) {
+/* 506 sets of 30 states, from the initial ones: of four parts, in each of which the symbol that came m + 1 before the
+ * last tells whether it ends; a third symbol leads nowhere */
+static bellbadger_judge many_sets(uint32_t initials) {
+    static const int first[] = {0, 9, 17, 24, 30};
+    bellbadger_checked_rule r = {.n = 30, .k = 3, .initials = initials};
+    for (int part = 0; part < 4; part++) {
+        r.finals |= 1u << (first[part + 1] - 1);
+        r.targets[16 * first[part]] = 3u << first[part], r.targets[16 * first[part] + 1] = 1u << first[part];
+        for (int q = first[part] + 1; q + 1 < first[part + 1]; q++) r.targets[16 * q] = r.targets[16 * q + 1] = 2u << q;
+    }
+    bellbadger_install_result installed = bellbadger_install(bellbadger_new(), r);
+    if (!installed.accepted || installed.sets != 506) exit(1);
+    return bellbadger_open(installed.judge, 64).judge;
+}
+
+/* looking for a loss in a chunk, beside a delivery of it to the same place */
+static void losses_at(const char *name, bellbadger_judge j, size_t place, const uint8_t *chunk, size_t length, int kind) {
     double ratios[ROUNDS];
-    if (bellbadger_locate(j, 0, chunk, BYTES).kind != kind) exit(1);
+    int times = length < 4096 ? 50 : 1;
+    if (bellbadger_locate(j, place, chunk, length).kind != kind) exit(1);
     for (int round = 0; round < ROUNDS; round++) {
         double a = now();
-        sink += bellbadger_deliver(j, 0, 0, chunk, BYTES).accepted;
+        for (int i = 0; i < times; i++) sink += bellbadger_deliver(j, place, 0, chunk, length).accepted;
         double b = now();
-        sink += bellbadger_locate(j, 0, chunk, BYTES).kind;
+        for (int i = 0; i < times; i++) sink += bellbadger_locate(j, place, chunk, length).kind;
         ratios[round] = (now() - b) / (b - a);
     }
     qsort(ratios, ROUNDS, sizeof ratios[0], rising);
     printf("  %-48s %.2f\n", name, ratios[ROUNDS / 2]);
+}
+
+static void losses(const char *name, bellbadger_judge j, const uint8_t *chunk, int kind) {
+    losses_at(name, j, 0, chunk, BYTES, kind);
+}
+
+/* the same of short chunks: at place 0, lost by the last byte there, and at place 63 behind 63 others */
+static void short_losses(const char *name, uint32_t initials) {
+    static const size_t lengths[] = {0, 16, 256, 1024};
+    static uint8_t lost[1024];
+    char row[64];
+    bellbadger_judge j = many_sets(initials), full = j;
+    for (size_t p = 0; p < 63; p++) full = bellbadger_deliver(full, p, 0, text, 3).judge;
+    for (int i = 0; i < 4; i++) {
+        size_t n = lengths[i];
+        snprintf(row, sizeof row, "%s, %zu bytes", name, n);
+        losses_at(row, j, 0, text, n, BELLBADGER_NOWHERE);
+        snprintf(row, sizeof row, "%s, %zu bytes, at place 63", name, n);
+        losses_at(row, full, 63, text, n, BELLBADGER_NOWHERE);
+        if (n == 0) continue;
+        memcpy(lost, text, n), lost[n - 1] = 2;
+        snprintf(row, sizeof row, "%s, lost by the last of %zu", name, n);
+        losses_at(row, j, 0, lost, n, BELLBADGER_LOST_AFTER);
+    }
 }
 
 int main(void) {
@@ -282,6 +322,9 @@ int main(void) {
     losses("the same, one byte in 16 an idle mark", cycle_from_all(32), marked, BELLBADGER_NOWHERE);
     marked[BYTES - 1] = 2;
     losses("8 runs, idle marks, lost by the last byte", cycle_from_all(8), marked, BELLBADGER_LOST_AFTER);
+    printf("the same of short chunks, by a rule of 506 sets\n");
+    short_losses("one run", 1);
+    short_losses("12 runs", UINT32_MAX >> 2);
 
     bellbadger_judge *copy = malloc(sizeof j);
     j = cycle(8, 64);

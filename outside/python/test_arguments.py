@@ -143,7 +143,7 @@ NO_SIZES = (
 )
 
 # what takes no arguments, and what the package alone makes
-WITHOUT = {"version", "Judge", "Tray", "Judge.verdict", "Judge.diagnose", "Tray.verdict"}
+WITHOUT = {"version", "Judge", "Tray", "Judge.verdict", "Judge.diagnose", "Tray.verdict", "Follower.begin", "Follower.drop_refused"}
 ANSWERS = {"Loaded", "Looked", "Waiting", "Yes", "No", "TrayWaiting", "TrayYes", "TrayNo", "TrayRefused", "Lost", "Open", "Followed", "Refused", "Malformed"}
 
 

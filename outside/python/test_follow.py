@@ -1,4 +1,4 @@
-"""Following a trace from Python: chunks worked by hand, refusals that leave the follower as it was, answers that are
+"""Following a trace from Python: chunks worked by hand, refusals that stand until they are dropped, answers that are
 no truth value, and random rules of up to 32 states against plain runs and against a filled board."""
 
 import dataclasses
@@ -99,16 +99,39 @@ class Follow(unittest.TestCase):
                     ask(answer)
 
     def test_refused(self):
-        follower, change = Follower(ONCE), dataclasses.replace
-        follower.follow(b"\0")
-        for number, chunk in ((13, bytes([1, 2])), (13, bytes([254])), (12, bytes([255]) * 65537)):
-            self.refused(number, follower.follow, chunk)
-        self.assertFalse(follower.follow(bytes([255]) * 65536).is_lost)
-        self.assertTrue(follower.follow(b"\1").is_accepted_so_far)
+        change = dataclasses.replace
         self.refused(3, Follower, change(A, n=33, k=0))
         self.refused(4, Follower, change(A, k=17, finals=8))
         self.refused(6, Follower, change(A, initials=8))
         self.refused(8, Follower, change(A, targets=(8,) + A.targets[1:]))
+
+    def test_a_refusal_stands(self):
+        # without the refused chunk 0 and 1 came, which would be accepted
+        follower = Follower(ONCE)
+        for number, chunk in ((13, bytes([1, 2])), (13, bytes([254])), (12, bytes([255]) * 65537)):
+            follower.begin()
+            self.assertIsNone(follower.refused)
+            self.assertFalse(follower.follow(b"\0").is_accepted_so_far)
+            self.refused(number, follower.follow, chunk)
+            for later in (b"\1", b"", bytes([254])):
+                self.refused(number, follower.follow, later)
+            self.assertEqual(follower.refused, number)
+            self.assertEqual(repr(follower), f"<Follower: states 3, symbols 2, reached 1, refused {number}>")
+        follower.drop_refused()
+        self.assertIsNone(follower.refused)
+        self.assertFalse(follower.follow(bytes([255]) * 65536).is_lost)
+        self.assertTrue(follower.follow(b"\1").is_accepted_so_far)
+        follower.drop_refused()
+        self.assertTrue(follower.follow(b"").is_accepted_so_far)
+
+    def test_begun_anew(self):
+        follower = Follower(ONCE)
+        for lost in (b"\1", b"\0\0"):
+            self.assertTrue(follower.follow(lost).is_lost)
+            follower.begin()
+            self.assertEqual(repr(follower), repr(Follower(ONCE)))
+            self.assertTrue(follower.follow(b"\0\1").is_accepted_so_far)
+            follower.begin()
 
     def test_as_plain_runs_and_a_filled_board(self):
         chance, said, lost_later = random.Random(5), [0, 0], 0

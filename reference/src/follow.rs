@@ -4,6 +4,7 @@
 use crate::automata::automaton;
 use crate::checked::CheckedRule;
 use crate::judge::{text, IDLE};
+use crate::lines::hex;
 use crate::random::Random;
 use crate::rule::{members, Automaton};
 
@@ -63,13 +64,6 @@ impl Follower {
     }
 }
 
-fn hex(bytes: &[u8]) -> String {
-    match bytes {
-        [] => "-".to_string(),
-        _ => bytes.iter().map(|byte| format!("{byte:02X}")).collect(),
-    }
-}
-
 /// An answer in words: yes or no to what came; at how many bytes it was lost, or -; the symbols that could
 /// have stood there; whether it was complete there.
 fn said(answer: &Result<Followed, u32>) -> String {
@@ -84,7 +78,7 @@ fn said(answer: &Result<Followed, u32>) -> String {
 }
 
 /// A rule by value; now and then one number in it is another.
-fn any_rule(r: &mut Random) -> CheckedRule {
+pub fn any_rule(r: &mut Random) -> CheckedRule {
     let mut rule = CheckedRule::of(&automaton(r));
     match r.below(40) {
         0 => rule.n = r.below(40) as u8,

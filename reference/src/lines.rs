@@ -43,12 +43,16 @@ pub fn call(line: &[u8]) -> Option<Call> {
     }
 }
 
-/// The plainest line that records a call.
-pub fn line(call: &Call) -> Vec<u8> {
-    let hex = |bytes: &[u8]| match bytes {
+/// The bytes in hex digits, or `-` where there are none.
+pub fn hex(bytes: &[u8]) -> String {
+    match bytes {
         [] => "-".to_string(),
         bytes => bytes.iter().map(|byte| format!("{byte:02X}")).collect(),
-    };
+    }
+}
+
+/// The plainest line that records a call.
+pub fn line(call: &Call) -> Vec<u8> {
     let line = match call {
         Call::Load(file) => format!("load {}", hex(file)),
         Call::Install(value) => format!("install {}", hex(&value.bytes())),
@@ -65,7 +69,8 @@ fn numbers(work: Work) -> String {
     format!("{} {} {} {}", work.count, work.bytes, work.quotient, work.remainder)
 }
 
-fn answer(answer: Answer) -> String {
+/// What a call answered.
+pub fn answer(answer: Answer) -> String {
     match answer {
         Answer::Installed(sets, starts) => format!("accepted {sets} {starts}"),
         Answer::Delivered(looked) => format!("accepted {looked}"),

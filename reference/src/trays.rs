@@ -2,7 +2,7 @@
 //! chance. The bands keep their bytes; rows and columns are cut out of them whenever a verdict is due.
 
 use crate::automata::{all_states, automaton, blank, file};
-use crate::lines::{answers_by, bytes, number};
+use crate::lines::{answers_by, bytes, hex, number};
 use crate::random::Random;
 use crate::rule::{Automaton, Rule};
 
@@ -109,13 +109,6 @@ impl Tray {
 /// The answers to the lines of a text.
 pub fn answers(text: &[u8]) -> String {
     answers_by(text, Tray::said)
-}
-
-fn hex(bytes: &[u8]) -> String {
-    match bytes {
-        [] => "-".to_string(),
-        bytes => bytes.iter().map(|byte| format!("{byte:02X}")).collect(),
-    }
 }
 
 /// A rule of a few states and symbols, of which most are final and most have arcs, so that not every verdict

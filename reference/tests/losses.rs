@@ -115,10 +115,13 @@ fn a_lost_trace_stays_lost() {
         if judge.call(&Call::Install(Box::new(CheckedRule::of(&a)))) == Answer::Refused(9) { continue; }
         let places = r.range(1, 4) as u64;
         judge.call(&Call::Open(places));
-        let mut last = Open(0);
+        let (mut last, mut before) = (Open(0), Vec::new());
         for place in 0..places {
             let chunk: Vec<u8> = (0..r.below(6)).map(|_| if r.one_in(5) { 255 } else { r.below(a.k) as u8 }).collect();
             let found = locate(&judge, place, &chunk).unwrap();
+            let stuck = |&bytes: &usize| !continued(&a, &[before.clone(), text(&chunk[..bytes])].concat());
+            assert_eq!(found, (0..=chunk.len()).find(stuck));
+            before.extend(text(&chunk));
             deliver(&mut judge, place, 0, &chunk);
             let now = diagnose(&judge).unwrap();
             match last {

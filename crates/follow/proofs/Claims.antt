@@ -1,11 +1,17 @@
 -- The one proof of all that specs/Claims.antt claims. Assumes nothing.
+use mathlib.Core.Path.{sym, subst}
+use mathlib.Core.Logic.{_↔_}
+use Rattle.masks.specs.Masks.{_∈_}
+use Rattle.automaton.specs.Rules.{automatonOf}
+use Rattle.delegates.specs.Alike.{Live}
+use Rattle.follow.specs.declared.Follower.{Follower}
 use Rattle.follow.specs.Claims.{Claims}
 use Rattle.follow.proofs.Examples.{answered}
 use Rattle.follow.proofs.Rounds.{live-law}
 use Rattle.follow.proofs.Numbers as numbers
 use Rattle.follow.proofs.Lists as lists
 use Rattle.follow.proofs.Ways as ways
-use Rattle.follow.proofs.Cuts.{cut}
+use Rattle.follow.proofs.Cuts.{cut, followed-cut}
 
 pub claims : Claims
 claims = record {
@@ -16,6 +22,9 @@ claims = record {
   accepted = λ r m w. numbers.follow-is r w m;
   prepared = ways.prepared;
   by-any = ways.by-any;
+  lives = λ r e q.
+      subst (λ (f : Follower). q ∈ f .live ↔ Live (automatonOf r) q) (sym (ways.follower-is r e)) (live-law r (ways.prepared r .accepted .0 e) q);
+  followed-cut = followed-cut;
   cut = cut;
   one = lists.one;
   followed = lists.followed;

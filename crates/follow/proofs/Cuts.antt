@@ -1,7 +1,7 @@
--- Where the trace is cut does not matter: a chunk u ++ w is followed as u and then w. Assumes a
--- well-formed rule.
+-- Where the trace is cut does not matter: a chunk u ++ w is followed as u and then w. Assumes
+-- nothing.
 use mathlib.Core.Path.{_≡_, refl, sym, ap, _∙_, subst}
-use mathlib.Core.List.{List, [], _++_, append-nil}
+use mathlib.Core.List.{List, [], _∷_, _++_, append-nil}
 use mathlib.Core.Option.{Option, none, some}
 use Prim.Native.Nat.{ℕ, zero, suc, _+_, _-_, _≤_, _<_}
 use native.Mathlib.Omega.{arith}
@@ -14,12 +14,14 @@ use Rattle.masks.specs.Masks.{shares}
 use Rattle.marks.specs.Marks.{textOf}
 use Rattle.marks.proofs.Claims as marks
 use Rattle.automaton.specs.declared.Rule.{Rule}
+use Rattle.automaton.specs.Automaton.{Text}
 use Rattle.automaton.specs.Rules.{WellFormed}
 use Rattle.follow.specs.Live.{liveOf}
-use Rattle.follow.specs.Following.{setAfter, lostBy, placeOf, nextBy, walkOf}
+use Rattle.follow.specs.Following.{setAfter, lostBy, placeOf, nextBy, followNumber, walkOf, followOf}
 use Rattle.follow.specs.Claims.{CanEnd, LostAt, Cut}
 use Rattle.follow.proofs.Steps.{set-append}
 use Rattle.follow.proofs.Hope.{shorter, moved, lost-law, kept-law}
+use Rattle.follow.proofs.Numbers as numbers
 
 no-text : textOf [] ≡ []
 unfolding textOf
@@ -119,7 +121,7 @@ module _ (r : Rule) (good : WellFormed r) (m : ℕ) (u w : List ℕ) where
       (ap (setAfter (r .targets) m) (take-length (u ++ w)) ∙ sets ∙ sym (ap (setAfter (r .targets) (setAfter (r .targets) m u)) (take-length w))) in
       (g, h .0, h .1)
 
-  pub cut : Cut r m u w
+  pub cut : Cut (length u) (walkOf r m u) (walkOf r (walkOf r m u .set) w) (walkOf r m (u ++ w))
   cut = record {
     set = sets;
     ends = ap (λ (x : ℕ). shares x (r .finals)) sets;
@@ -127,3 +129,20 @@ module _ (r : Rule) (good : WellFormed r) (m : ℕ) (u w : List ℕ) where
     in-second = in-second;
     in-neither = in-neither;
   }
+
+-- ---- the same of a chunk that is not refused: its parts are not either
+text-parts : (k : ℕ) (u v : List ℕ) → Text k (u ++ v) → Text k u × Text k v
+text-parts k [] v t = (tt, t)
+text-parts k (s ∷ u) v t = let x = text-parts k u v (t .1) in ((t .0, x .0), x .1)
+
+pub followed-cut : (r : Rule) (m : ℕ) (u w : List ℕ) → followNumber r (u ++ w) ≡ none
+    → Cut (length u) (followOf r m u) (followOf r (followOf r m u .set) w) (followOf r m (u ++ w))
+followed-cut r m u w ok =
+    let x = numbers.numbers r (u ++ w) .accepted .0 ok in
+    let y = text-parts (r .k) (textOf u) (textOf w) (subst (Text (r .k)) (marks.claims .text-append u w) (x .2)) in
+    let few : length u + length w ≤ 65536 = omega (arith, x .1, length-append u w) in
+    let a : followOf r m u ≡ walkOf r m u = numbers.follow-is r u m (numbers.numbers r u .accepted .1 (x .0, omega arith, y .0)) in
+    let b : followOf r (walkOf r m u .set) w ≡ walkOf r (walkOf r m u .set) w =
+    numbers.follow-is r w (walkOf r m u .set) (numbers.numbers r w .accepted .1 (x .0, omega arith, y .1)) in
+    let c : followOf r m (u ++ w) ≡ walkOf r m (u ++ w) = numbers.follow-is r (u ++ w) m ok in
+    rw (a, b, c) (cut r (x .0) m u w)

@@ -118,6 +118,9 @@ by-follower : (n : Option ℕ) (r : Rule) → prepareBy n r .refusal ≡ none �
 by-follower none r e = refl
 by-follower (some y) r e = none-some e refl
 
+pub follower-is : (r : Rule) → prepareOf r .refusal ≡ none → prepareOf r .follower ≡ followerOf r
+follower-is r = by-follower (ruleNumber r) r
+
 pub prepared : (r : Rule) → Prepared-so r
 unfolding followByOf
 prepared r =
@@ -126,9 +129,9 @@ prepared r =
       refused = λ x. ((λ e. sym is ∙ e), λ e. is ∙ e);
       zeros = by-zeros (ruleNumber r) r;
       accepted = ((λ e. check.claims .passes r .0 (sym is ∙ e)), λ good. is ∙ check.claims .passes r .1 good);
-      carries = λ e. ap (λ (f : Follower). f .rule) (by-follower (ruleNumber r) r e);
+      carries = λ e. ap (λ (f : Follower). f .rule) (follower-is r e);
       same = λ e m w.
-          ap (λ (f : Follower). lentOf (f .rule .targets) (f .rule .finals) (f .live) (f .rule .k) m w) (by-follower (ruleNumber r) r e)
+          ap (λ (f : Follower). lentOf (f .rule .targets) (f .rule .finals) (f .live) (f .rule .k) m w) (follower-is r e)
           ∙ checked r m w (sym is ∙ e) (liveOf r) refl;
     }
 

@@ -12,7 +12,8 @@
 --   handed r m ws         the set that is handed on from chunk to chunk, oldest first
 --   keptText, takenText   the text of the chunks that were not refused, joined
 --   Continues r v         some text continues v to one that the rule accepts
---   Cut r m u w           the chunk u ++ w is followed as u and then w
+--   Cut n first second whole   `whole` says of a chunk what `first` says of its first n bytes and `second`
+--                         of the others, from the set after those
 --   Prepared-so r         what preparing the rule r answers, and following by it
 --   Followed-so r ws w    what the answer for chunk w says after the chunks ws, begun with the initial
 --                         states
@@ -37,7 +38,7 @@ use Rattle.delegates.specs.Alike.{AcceptsFrom, Live}
 use Rattle.follow.specs.Live.{liveOf}
 use Rattle.follow.specs.Worked.{cases, Answered}
 use Rattle.follow.specs.declared.Follower.{Follower}
-use Rattle.follow.specs.Following.{followNumber, refusedFollow, walkOf, followOf, noFollower, prepareOf, followByOf}
+use Rattle.follow.specs.Following.{followNumber, Outcome, refusedFollow, walkOf, followOf, noFollower, prepareOf, followByOf}
 
 -- ---- one call
 module _ (r : Rule) (m : ℕ) where
@@ -131,20 +132,16 @@ module _ (r : Rule) where
           → (followOf r (handed (r .initials) ws) w .complete ≡ true) ↔ Accepts (automatonOf r) (takenText ws ++ textOf w)
 
 -- ---- where the trace is cut does not matter
--- `walkOf` is the answer to a chunk of any length: a chunk u ++ w is followed as u and then w
-pub record Cut (r : Rule) (m : ℕ) (u w : List ℕ) : Type 0 where
-  pub set : walkOf r m (u ++ w) .set ≡ walkOf r (walkOf r m u .set) w .set
-  pub ends : walkOf r m (u ++ w) .ends ≡ walkOf r (walkOf r m u .set) w .ends
+pub record Cut (n : ℕ) (first second whole : Outcome) : Type 0 where
+  pub set : whole .set ≡ second .set
+  pub ends : whole .ends ≡ second .ends
   -- lost in the first part, in the second, in neither
-  pub in-first : (b : ℕ) → walkOf r m u .lost ≡ some b
-      → (walkOf r m (u ++ w) .lost ≡ some b) × (walkOf r m (u ++ w) .expected ≡ walkOf r m u .expected)
-      × (walkOf r m (u ++ w) .complete ≡ walkOf r m u .complete)
-  pub in-second : (c : ℕ) → walkOf r m u .lost ≡ none → walkOf r (walkOf r m u .set) w .lost ≡ some c
-      → (0 < c) × (walkOf r m (u ++ w) .lost ≡ some (length u + c)) × (walkOf r m (u ++ w) .expected ≡ walkOf r (walkOf r m u .set) w .expected)
-      × (walkOf r m (u ++ w) .complete ≡ walkOf r (walkOf r m u .set) w .complete)
-  pub in-neither : walkOf r m u .lost ≡ none → walkOf r (walkOf r m u .set) w .lost ≡ none
-      → (walkOf r m (u ++ w) .lost ≡ none) × (walkOf r m (u ++ w) .expected ≡ walkOf r (walkOf r m u .set) w .expected)
-      × (walkOf r m (u ++ w) .complete ≡ walkOf r (walkOf r m u .set) w .complete)
+  pub in-first : (b : ℕ) → first .lost ≡ some b
+      → (whole .lost ≡ some b) × (whole .expected ≡ first .expected) × (whole .complete ≡ first .complete)
+  pub in-second : (c : ℕ) → first .lost ≡ none → second .lost ≡ some c
+      → (0 < c) × (whole .lost ≡ some (n + c)) × (whole .expected ≡ second .expected) × (whole .complete ≡ second .complete)
+  pub in-neither : first .lost ≡ none → second .lost ≡ none
+      → (whole .lost ≡ none) × (whole .expected ≡ second .expected) × (whole .complete ≡ second .complete)
 
 -- ---- a rule that is checked once
 pub record Prepared-so (r : Rule) : Type 0 where
@@ -169,8 +166,13 @@ pub record Claims : Type 0 where
   -- a rule that is checked once; by any follower, the chunk is refused as its k says
   pub prepared : (r : Rule) → Prepared-so r
   pub by-any : (f : Follower) (m : ℕ) (w : List ℕ) → followByOf f m w .refusal ≡ chunkNumber (f .rule .k) w
-  -- where the trace is cut does not matter
-  pub cut : (r : Rule) → WellFormed r → (m : ℕ) (u w : List ℕ) → Cut r m u w
+  -- its follower has the states from which a final state can be reached
+  pub lives : (r : Rule) → prepareOf r .refusal ≡ none → (q : ℕ) → q ∈ prepareOf r .follower .live ↔ Live (automatonOf r) q
+  -- where the trace is cut does not matter: a chunk u ++ w is followed as u and then w, and so is one of
+  -- any length, which `walkOf` answers
+  pub followed-cut : (r : Rule) (m : ℕ) (u w : List ℕ) → followNumber r (u ++ w) ≡ none
+      → Cut (length u) (followOf r m u) (followOf r (followOf r m u .set) w) (followOf r m (u ++ w))
+  pub cut : (r : Rule) → WellFormed r → (m : ℕ) (u w : List ℕ) → Cut (length u) (walkOf r m u) (walkOf r (walkOf r m u .set) w) (walkOf r m (u ++ w))
   -- one call, from any set; from chunk to chunk
   pub one : (r : Rule) (m : ℕ) (w : List ℕ) → followNumber r w ≡ none → One r m w
   pub followed : (r : Rule) (ws : List (List ℕ)) (w : List ℕ) → followNumber r w ≡ none → Followed-so r ws w

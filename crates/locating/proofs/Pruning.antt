@@ -13,7 +13,7 @@ use lib.Dec.{ltb}
 use lib.ListN.{length, getD, set, length-set}
 use lib.Seq.{getD-set-other}
 use Rattle.base.proofs.Lists.{cell-of, is-listFrom, cell-stored}
-use Rattle.base.proofs.Tests.{by-test}
+use Rattle.base.proofs.Tests.{by-test, either-most}
 use Rattle.masks.specs.Masks.{_∈_, single, shares}
 use Rattle.masks.proofs.Laws.{no-member, or-cases, or-left, or-right, single-law}
 use Rattle.delegates.specs.Classes.{follow}
@@ -81,16 +81,38 @@ module _ (sets : List ℕ) (live c m : ℕ) (is : m ≡ maskOf sets c) where
   pub cell-dropped : shares m live ≡ false → 512 ≡ keptCell sets live c
   cell-dropped e = kept-by false e
 
--- a step over the pruned table is the step over the table, to the empty set where no live state is
+-- a step over the pruned table, by its cell
+row-cell : (sets next : List ℕ) (live count i s : ℕ) → i < 512 → s < 16
+    → follow (pruned sets next live count) i s ≡ min (cond (ltb (i * 16 + s) (count * 16)) (keptCell sets live (getD next (i * 16 + s) 0)) 512) 512
+row-cell sets next live count i s h l =
+    follow-set (pruned sets next live count) i s h
+    ∙ ap (λ (x : ℕ). min x 512)
+    (cell-of 8192 (λ c. cond (ltb c (count * 16)) (keptCell sets live (getD next c 0)) 512) (i * 16 + s) 0 (omega arith))
+
+-- it is the step over the table, to the empty set where no live state is
 pub pruned-step : (sets next : List ℕ) (live count i s : ℕ) → i < 512 → i < count → s < 16
     → follow (pruned sets next live count) i s ≡ cond (shares (maskOf sets (follow next i s)) live) (follow next i s) 512
 pruned-step sets next live count i s h b l =
-    follow-set (pruned sets next live count) i s h
-    ∙ ap (λ (x : ℕ). min x 512)
-    (cell-of 8192 (λ c. cond (ltb c (count * 16)) (keptCell sets live (getD next c 0)) 512) (i * 16 + s) 0 (omega arith)
-    ∙ ap (λ (t : Bool). cond t (keptCell sets live (getD next (i * 16 + s) 0)) 512) (lt-ltb (i * 16 + s) (count * 16) (omega arith)))
-    ∙ kept-min sets live (getD next (i * 16 + s) 0)
+    row-cell sets next live count i s h l
+    ∙ rw (lt-ltb (i * 16 + s) (count * 16) (omega arith)) (kept-min sets live (getD next (i * 16 + s) 0))
     ∙ ap (λ (x : ℕ). cond (shares (maskOf sets x) live) x 512) (sym (follow-set next i s h))
+
+-- it is the kept cell itself; and to the empty set from a set without a row
+kept-low : (sets : List ℕ) (live c : ℕ) → keptCell sets live c ≤ 512
+kept-low sets live c =
+    by-test (ltb c 512)
+    (λ t. either-most (shares (maskOf sets c) live) (omega (arith, ltb-true c 512 t)) (omega arith))
+    (λ t. rw t (omega arith))
+
+pub step-kept : (sets next : List ℕ) (live count i s : ℕ) → i < 512 → i < count → s < 16
+    → keptCell sets live (getD next (i * 16 + s) 0) ≡ follow (pruned sets next live count) i s
+step-kept sets next live count i s h b l =
+    sym (row-cell sets next live count i s h l
+    ∙ rw (lt-ltb (i * 16 + s) (count * 16) (omega arith)) (omega (arith, kept-low sets live (getD next (i * 16 + s) 0))))
+
+pub step-past : (sets next : List ℕ) (live count i s : ℕ) → i < 512 → count ≤ i → s < 16 → 512 ≡ follow (pruned sets next live count) i s
+step-past sets next live count i s h b l =
+    sym (row-cell sets next live count i s h l ∙ rw (le-ltb (i * 16 + s) (count * 16) (omega arith)))
 
 -- ---- the table, cell by cell
 module _ (sets next : List ℕ) (live c : ℕ) (out : List ℕ) where

@@ -30,6 +30,19 @@ looked-within sets next singles run t =
     greatest-most (λ q. cond (has run q) (walkLooked next (getD singles q 0) t) 0) (length t) 32
     (λ q l. either-most (has run q) (walks.looked-most (stepOf next) 512 (getD singles q 0) t) (omega arith))
 
+-- ---- all runs together, by a table
+module _ (sets next singles : List ℕ) (run : ℕ) (t cut : List ℕ) (cuts : cut ≡ next) (runs : Runs) (ran : runs ≡ runsOf sets cut singles run t) (left : Bool) (is : left ≡ someLeft (runs .ends)) where
+  by-table : cond left nowhere (stuckAfter (runs .looked)) ≡ foundBy (runsOf sets next singles run t)
+  by-table =
+      ap (λ (b : Bool). cond b nowhere (stuckAfter (runs .looked))) is
+      ∙ ap foundBy (ran ∙ ap (λ (x : List ℕ). runsOf sets x singles run t) cuts)
+
+  pub table-nowhere : left ≡ true → nowhere ≡ foundBy (runsOf sets next singles run t)
+  table-nowhere z = ap (λ (b : Bool). cond b nowhere (stuckAfter (runs .looked))) (sym z) ∙ by-table
+
+  pub table-after : left ≡ false → stuckAfter (runs .looked) ≡ foundBy (runsOf sets next singles run t)
+  table-after z = ap (λ (b : Bool). cond b nowhere (stuckAfter (runs .looked))) (sym z) ∙ by-table
+
 -- a chunk without marks is its own text
 unmarked-found : (w : List ℕ) → marked w ≡ false → (left : Bool) (b : ℕ) → b ≤ length w
     → cond left nowhere (stuckAfter b) ≡ inChunk w (cond left nowhere (stuckAfter b))
@@ -50,16 +63,9 @@ module _ (sets next singles : List ℕ) (run k : ℕ) (gap : Bool) (t : List ℕ
   unfolding textSpot
   text-23 e g = rw (e, g)
 
-  module _ (e : foreign t k ≡ false) (g : gap ≡ false) (runs : Runs) (ran : runs ≡ runsOf sets next singles run t) (left : Bool) (is : left ≡ someLeft (runs .ends)) where
-    found-by : cond left nowhere (stuckAfter (runs .looked)) ≡ textSpot sets next singles run k gap t
-    unfolding textSpot
-    found-by = rw (e, g) (ap (λ (b : Bool). cond b nowhere (stuckAfter (runs .looked))) is ∙ ap foundBy ran)
-
-    pub text-nowhere : left ≡ true → nowhere ≡ textSpot sets next singles run k gap t
-    text-nowhere z = ap (λ (b : Bool). cond b nowhere (stuckAfter (runs .looked))) (sym z) ∙ found-by
-
-    pub text-after : left ≡ false → stuckAfter (runs .looked) ≡ textSpot sets next singles run k gap t
-    text-after z = ap (λ (b : Bool). cond b nowhere (stuckAfter (runs .looked))) (sym z) ∙ found-by
+  pub text-found : foreign t k ≡ false → gap ≡ false → (s : Spot) → s ≡ foundBy (runsOf sets next singles run t) → s ≡ textSpot sets next singles run k gap t
+  unfolding textSpot
+  text-found e g s is = rw (e, g) is
 
   -- ---- the same of a chunk without marks
   text-chunk : marked t ≡ false → textSpot sets next singles run k gap t ≡ inChunk t (textSpot sets next singles run k gap t)
@@ -102,16 +108,16 @@ module _ (j : Judge) (p : ℕ) (w : List ℕ) where
         → (from : ℕ) → from ≡ joinUpTo (j .board .ends) (j .built .delegates) (j .built .n) (j .built .initials) p
         → (starts : ℕ) → starts ≡ delegateMask (j .built .delegates) (j .built .n) from
         → (live : ℕ) → live ≡ liveSet (j .built .delegates) (min (j .built .n) 32)
-        → (cut : List ℕ) → cut ≡ pruned (j .built .sets) (j .built .next) live (j .built .setcount)
-        → (s : Spot) → s ≡ inChunk w (textSpot (j .built .sets) cut (j .built .singles) starts (j .built .k) gap (textOf w))
+        → (s : Spot)
+        → s ≡ inChunk w (textSpot (j .built .sets) (pruned (j .built .sets) (j .built .next) live (j .built .setcount)) (j .built .singles) starts (j .built .k) gap (textOf w))
         → s ≡ spotOf j p w
     unfolding spotOf textSpot
-    located within c gap is from joined starts are live lives cut cuts s e =
+    located within c gap is from joined starts are live lives s e =
         let b = j .built in
-        let found : Spot = foundBy (runsOf (b .sets) cut (b .singles) starts (textOf w)) in
+        let found : Spot = foundBy (runsOf (b .sets) (pruned (b .sets) (b .next) live (b .setcount)) (b .singles) starts (textOf w)) in
         let same : found ≡ spotIn b (joinUpTo (j .board .ends) (b .delegates) (b .n) (b .initials) p) (textOf w) =
-        ap₂ (λ (x : List ℕ) (y : ℕ). foundBy (runsOf (b .sets) x (b .singles) y (textOf w)))
-        (cuts ∙ ap (λ (x : ℕ). pruned (b .sets) (b .next) x (b .setcount)) lives)
+        ap₂ (λ (x : ℕ) (y : ℕ). foundBy (runsOf (b .sets) (pruned (b .sets) (b .next) x (b .setcount)) (b .singles) y (textOf w)))
+        lives
         (are ∙ ap (delegateMask (b .delegates) (b .n)) joined) in
         rw (ne-eqb _ _ a, ← are-places, lt-leb _ _ within, le-ltb _ _ c, ← is)
         (e ∙ by-number w (foreign (textOf w) (b .k)) gap found ∙ ap (λ (x : Spot). spotBy (cond (foreign (textOf w) (b .k)) (some 13) (cond gap (some 23) none)) (inChunk w x)) same)

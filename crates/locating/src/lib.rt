@@ -1,15 +1,16 @@
 // After how many bytes of a chunk a trace is lost, where the chunk is handed over once more. Nothing
 // is changed.
 ghost use mathlib.Core.Path.{_≡_};
-ghost use Prim.Native.Nat.{_*_, _≤_, min};
+ghost use Prim.Native.Nat.{_*_, _≤_, _<_, min, max};
 ghost use lib.Dec.{eqb};
 ghost use lib.ListN.{length, getD};
-ghost use Rattle.limits.specs.Limits.{mostStates, mostSymbols, tableCells, mostPlaces, longestChunk};
+ghost use Rattle.limits.specs.Limits.{mostStates, mostSymbols, emptySet, tableCells, mostPlaces, longestChunk};
 ghost use Rattle.base.specs.Conditions.{anyBelow};
 ghost use Rattle.marks.specs.Marks.{textOf};
+ghost use Rattle.chunks.specs.Walks.{maskOf, stepOf, walkEnd, walkLooked, runsOf};
 ghost use Rattle.locating.specs.Positions.{positionOf};
 ghost use Rattle.locating.specs.Pruning.{liveSet, keptCell, pruned};
-ghost use Rattle.locating.specs.Locating.{locatedMeans, someLeft, textSpot, inChunk, spotOf};
+ghost use Rattle.locating.specs.Locating.{locatedMeans, someLeft, foundBy, textSpot, inChunk, spotOf};
 use calls::Judge;
 use masks::StateNumber;
 use subsets::SetNumber;
@@ -21,6 +22,9 @@ pub enum Located {
     After(u32),
     Nowhere,
 }
+
+// So many steps of runs take less time than the pruned table of 512 sets.
+const FEW_STEPS: usize = 4096;
 
 // The states that have a delegate, as a set.
 fn live_mask(delegates: [u8; limits::STATES], n: u8) -> u32
@@ -96,18 +100,149 @@ fn some_left(ends: [u32; limits::STATES]) -> bool
     false
 }
 
-// What the runs over the text say, in bytes of it, where each is below k and no place before is empty.
+// The set to which the byte leads, by the pruned table, of which nothing is made.
+fn kept_step<'a>(
+    sets: &'a [u32; limits::SETS],
+    next: &'a [u16; limits::CELLS],
+    live: u32,
+    count: u16,
+    set: SetNumber,
+    byte: u8,
+) -> SetNumber
+    requires { ⌜ set .0 < emptySet ⌝ }
+    ensures { λ r. ⌜ r .0 ≡ stepOf (pruned (now (sets .entry)) (now (next .entry)) live count) (set .0) byte ⌝ }
+{
+    if count <= set.0 {
+        return SetNumber(limits::EMPTY);
+    }
+    let symbol = (byte % limits::MOST_SYMBOLS) as usize;
+    let cell = (set.0 as usize) * limits::SYMBOLS + symbol;
+    SetNumber(kept_cell(sets, live, next[cell]))
+}
+
+// The mask of the set where a run ends, and for how many bytes it looks a successor up.
+struct Run {
+    mask: u32,
+    looked: u32,
+}
+
+// One run over the text by the pruned table, of which nothing is made.
+fn run_kept<'a>(
+    sets: &'a [u32; limits::SETS],
+    next: &'a [u16; limits::CELLS],
+    live: u32,
+    count: u16,
+    from: SetNumber,
+    text: &[u8],
+) -> Run
+    requires { ⌜ length (now text) ≤ longestChunk ⌝ }
+    ensures { λ r. ⌜ r .mask ≡ maskOf (now (sets .entry)) (walkEnd (pruned (now (sets .entry)) (now (next .entry)) live count) (from .0) (now (text .entry))) ⌝ }
+    ensures { λ r. ⌜ r .looked ≡ walkLooked (pruned (now (sets .entry)) (now (next .entry)) live count) (from .0) (now (text .entry)) ⌝ }
+{
+    let mut set = from.0;
+    if limits::EMPTY <= set {
+        return Run { mask: 0, looked: 0 };
+    }
+    let mut i: usize = 0;
+    while i < text.len() {
+        let after = kept_step(sets, next, live, count, SetNumber(set), text[i]);
+        set = after.0;
+        i += 1;
+        if limits::EMPTY <= set {
+            return Run {
+                mask: 0,
+                looked: i as u32,
+            };
+        }
+    }
+    Run {
+        mask: chunks::mask_of(sets, SetNumber(set)),
+        looked: i as u32,
+    }
+}
+
+// The greater of two numbers.
+fn greater(a: u32, b: u32) -> u32
+    ensures { λ r. ⌜ r ≡ max a b ⌝ }
+{
+    if a < b { b } else { a }
+}
+
+// What the runs over the text say, one after the other.
+fn find_by_run<'a>(
+    sets: &'a [u32; limits::SETS],
+    next: &'a [u16; limits::CELLS],
+    singles: &'a [u16; limits::STATES],
+    starts: u32,
+    live: u32,
+    count: u16,
+    text: &[u8],
+) -> Located
+    requires { ⌜ length (now text) ≤ longestChunk ⌝ }
+    ensures { λ r. ⌜ locatedMeans r ≡ foundBy (runsOf (now (sets .entry)) (pruned (now (sets .entry)) (now (next .entry)) live count) (now (singles .entry)) starts (now (text .entry))) ⌝ }
+{
+    let mut looked: u32 = 0;
+    let mut q: usize = 0;
+    while q < limits::STATES {
+        if masks::member(starts, StateNumber(q as u8)) {
+            let run = run_kept(sets, next, live, count, SetNumber(singles[q]), text);
+            if 0 < run.mask {
+                return Located::Nowhere;
+            }
+            looked = greater(looked, run.looked);
+        }
+        q += 1;
+    }
+    Located::After(looked)
+}
+
+// What the runs over the text say, all together, by the pruned table.
+fn find_by_table<'a>(
+    sets: &'a [u32; limits::SETS],
+    next: &'a [u16; limits::CELLS],
+    singles: &'a [u16; limits::STATES],
+    starts: u32,
+    live: u32,
+    count: u16,
+    text: &[u8],
+) -> Located
+    requires { ⌜ length (now text) ≤ longestChunk ⌝ }
+    ensures { λ r. ⌜ locatedMeans r ≡ foundBy (runsOf (now (sets .entry)) (pruned (now (sets .entry)) (now (next .entry)) live count) (now (singles .entry)) starts (now (text .entry))) ⌝ }
+{
+    let cut = prune(sets, next, live, count);
+    let runs = chunks::run_chunk(sets, &cut, singles, starts, text);
+    let ends = runs.ends;
+    if some_left(ends) {
+        return Located::Nowhere;
+    }
+    Located::After(runs.looked)
+}
+
+// How many states the set has.
+fn size_of(set: u32) -> u32 {
+    u32::count_ones(set)
+}
+
+// Up to how many bytes of text runs from these states have few steps. Any number is right.
+fn few_bytes(starts: u32) -> usize {
+    FEW_STEPS / (size_of(starts) as usize + 1)
+}
+
+// What the runs over the text say, in bytes of it, where each is below k and no place before is
+// empty. Where the runs have few steps, no table is made: either way is right.
 fn locate_text<'a>(
     sets: &'a [u32; limits::SETS],
     next: &'a [u16; limits::CELLS],
     singles: &'a [u16; limits::STATES],
     starts: u32,
+    live: u32,
+    count: u16,
     k: u8,
     gap: bool,
     text: &[u8],
 ) -> Located
     requires { ⌜ length (now text) ≤ longestChunk ⌝ }
-    ensures { λ r. ⌜ locatedMeans r ≡ textSpot (now (sets .entry)) (now (next .entry)) (now (singles .entry)) starts k gap (now (text .entry)) ⌝ }
+    ensures { λ r. ⌜ locatedMeans r ≡ textSpot (now (sets .entry)) (pruned (now (sets .entry)) (now (next .entry)) live count) (now (singles .entry)) starts k gap (now (text .entry)) ⌝ }
 {
     if chunks::has_foreign(text, k) {
         return Located::Refused(13);
@@ -115,12 +250,10 @@ fn locate_text<'a>(
     if gap {
         return Located::Refused(23);
     }
-    let runs = chunks::run_chunk(sets, next, singles, starts, text);
-    let ends = runs.ends;
-    if some_left(ends) {
-        return Located::Nowhere;
+    if text.len() <= few_bytes(starts) {
+        return find_by_run(sets, next, singles, starts, live, count, text);
     }
-    Located::After(runs.looked)
+    find_by_table(sets, next, singles, starts, live, count, text)
 }
 
 // How many bytes of the chunk, idle marks counted, hold so many bytes of its text.
@@ -160,16 +293,28 @@ fn locate_marked<'a>(
     next: &'a [u16; limits::CELLS],
     singles: &'a [u16; limits::STATES],
     starts: u32,
+    live: u32,
+    count: u16,
     k: u8,
     gap: bool,
     chunk: &[u8],
 ) -> Located
     requires { ⌜ length (now chunk) ≤ longestChunk ⌝ }
-    ensures { λ r. ⌜ locatedMeans r ≡ inChunk (now (chunk .entry)) (textSpot (now (sets .entry)) (now (next .entry)) (now (singles .entry)) starts k gap (textOf (now (chunk .entry)))) ⌝ }
+    ensures { λ r. ⌜ locatedMeans r ≡ inChunk (now (chunk .entry)) (textSpot (now (sets .entry)) (pruned (now (sets .entry)) (now (next .entry)) live count) (now (singles .entry)) starts k gap (textOf (now (chunk .entry)))) ⌝ }
 {
     let mut buffer = [0u8; limits::CHUNK];
     let len = marks::pack(chunk, &mut buffer);
-    let found = locate_text(sets, next, singles, starts, k, gap, &buffer[..len]);
+    let found = locate_text(
+        sets,
+        next,
+        singles,
+        starts,
+        live,
+        count,
+        k,
+        gap,
+        &buffer[..len],
+    );
     in_chunk(found, chunk)
 }
 
@@ -179,17 +324,19 @@ fn locate_chunk<'a>(
     next: &'a [u16; limits::CELLS],
     singles: &'a [u16; limits::STATES],
     starts: u32,
+    live: u32,
+    count: u16,
     k: u8,
     gap: bool,
     chunk: &[u8],
 ) -> Located
     requires { ⌜ length (now chunk) ≤ longestChunk ⌝ }
-    ensures { λ r. ⌜ locatedMeans r ≡ inChunk (now (chunk .entry)) (textSpot (now (sets .entry)) (now (next .entry)) (now (singles .entry)) starts k gap (textOf (now (chunk .entry)))) ⌝ }
+    ensures { λ r. ⌜ locatedMeans r ≡ inChunk (now (chunk .entry)) (textSpot (now (sets .entry)) (pruned (now (sets .entry)) (now (next .entry)) live count) (now (singles .entry)) starts k gap (textOf (now (chunk .entry)))) ⌝ }
 {
     if marks::has_marks(chunk) {
-        return locate_marked(sets, next, singles, starts, k, gap, chunk);
+        return locate_marked(sets, next, singles, starts, live, count, k, gap, chunk);
     }
-    locate_text(sets, next, singles, starts, k, gap, chunk)
+    locate_text(sets, next, singles, starts, live, count, k, gap, chunk)
 }
 
 // Whether one of the first places is empty.
@@ -232,17 +379,13 @@ pub fn locate(judge: Judge, place: usize, chunk: &[u8]) -> Located
     );
     let starts = chunks::delegate_mask(delegates, n, from);
     let live = live_mask(delegates, n);
-    let cut = prune(
-        &judge.built.sets,
-        &judge.built.next,
-        live,
-        judge.built.setcount,
-    );
     locate_chunk(
         &judge.built.sets,
-        &cut,
+        &judge.built.next,
         &judge.built.singles,
         starts,
+        live,
+        judge.built.setcount,
         judge.built.k,
         gap,
         chunk,

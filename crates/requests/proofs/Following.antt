@@ -9,10 +9,12 @@
 --   Continues r v                some text continues v to an accepted one  follow/specs/Claims
 --   One, AcceptsIn, CanEnd, LostAt   the same from any set                 follow/specs/Claims
 --   Cut; Refused-exactly         a chunk cut in two; number by number      follow/specs/Claims
+--   cases, Answered              chunks worked by hand                     follow/specs/Worked
 --   prepareOf r, followByOf f m w, noFollower   a rule that is checked once   follow/specs/Following
 --   chunkNumber k w              12, 13                                    chunks/specs/Taking
 --   Accepts, Run; Text           automata and their runs (000)             automaton/specs/Automaton
 --   Reached a m w p              some member of m has a run over w to p    automaton/specs/Successor
+--   Live a q                     some text is accepted from state q        delegates/specs/Alike
 --   WellFormed r; ruleNumber r   3, 4, 6, 8 of a rule as a value (R-3)     automaton/specs/Rules, rulecheck/specs/Checking
 --   textOf w                     a chunk without its idle marks            marks/specs/Marks
 --   Filled h r ws                a filled board with the chunks ws         mapverdict/specs/Filled
@@ -40,6 +42,7 @@ use Rattle.automaton.specs.Automaton.{Accepts}
 use Rattle.automaton.specs.Rules.{automatonOf, WellFormed}
 use Rattle.automaton.specs.Successor.{Reached}
 use Rattle.rulecheck.specs.Checking.{ruleNumber}
+use Rattle.delegates.specs.Alike.{Live}
 use Rattle.chunks.specs.Taking.{chunkNumber}
 use Rattle.calls.specs.Replies.{yesWith, noWith, refused}
 use Rattle.calls.specs.Calls.{Call, delivers, installNumber}
@@ -48,6 +51,7 @@ use Rattle.mapverdict.specs.Filled.{Filled}
 use Rattle.follow.specs.declared.Follower.{Follower}
 use Rattle.follow.specs.Following.{followNumber, Outcome, refusedFollow, walkOf, followOf, noFollower, prepareOf, followByOf}
 use Rattle.follow.specs.Claims.{Refused-exactly, One, handed, takenText, Continues, Cut}
+use Rattle.follow.specs.Worked.{cases, Answered}
 use Rattle.follow.proofs.Claims as follow
 use Rattle.followverdict.specs.Boards.{FollowsAll}
 use Rattle.followverdict.proofs.Claims as followverdict
@@ -111,6 +115,16 @@ module _ (r : Rule) (ws : List (List ℕ)) (w : List ℕ) where
     pub could-end-never : answer .lost ≡ some 0 → answer .complete ≡ false
     could-end-never = follow.claims .one r (handed r (r .initials) ws) w ok .complete-never
 
+    -- Where nothing is expected, though it was not lost before, the trace could only have ended there, or
+    -- can only end here.
+    pub only-end : (b : ℕ) → answer .lost ≡ some (suc b) → answer .expected ≡ 0 → Accepts (automatonOf r) (takenText r ws ++ textOf (take b w))
+    only-end b e z =
+        let from-there = follow.claims .one r (handed r (r .initials) ws) w ok in
+        could-end-there b e .0 (from-there .complete-there b e .1 (from-there .only-end b e z))
+
+    pub only-end-next : answer .lost ≡ none → answer .expected ≡ 0 → Accepts (automatonOf r) (takenText r ws ++ textOf w)
+    only-end-next e z = final .0 (follow.claims .one r (handed r (r .initials) ws) w ok .only-end-next e z)
+
 -- The joined text: where no chunk is refused, the chunks' texts, which are without their idle marks.
 pub joined : (r : Rule) (ws : List (List ℕ)) → ((i : ℕ) → i < length ws → followNumber r (getD ws i []) ≡ none) → takenText r ws ≡ flatten (map textOf ws)
 joined = follow.claims .all-taken
@@ -125,13 +139,23 @@ pub for-good : (r : Rule) (m : ℕ) (w : List ℕ) (b : ℕ) → followOf r m w 
 for-good = follow.claims .for-good
 
 -- ---- WHERE THE TRACE IS CUT
--- does not matter. A chunk that is not refused is answered by walkOf, which is there for every length;
--- u ++ w is answered as u, and then w from the set after u.
+-- does not matter: a chunk u ++ w that is not refused is answered as u, and then w from the set after u.
+pub followed-cut : (r : Rule) (m : ℕ) (u w : List ℕ) → followNumber r (u ++ w) ≡ none
+    → Cut (length u) (followOf r m u) (followOf r (followOf r m u .set) w) (followOf r m (u ++ w))
+followed-cut = follow.claims .followed-cut
+
+-- A chunk that is not refused is answered by walkOf, which is there for every length, so that this is said
+-- of a trace longer than a chunk may be.
 pub as-walked : (r : Rule) (m : ℕ) (w : List ℕ) → followNumber r w ≡ none → followOf r m w ≡ walkOf r m w
 as-walked = follow.claims .accepted
 
-pub cut : (r : Rule) → WellFormed r → (m : ℕ) (u w : List ℕ) → Cut r m u w
+pub cut : (r : Rule) → WellFormed r → (m : ℕ) (u w : List ℕ) → Cut (length u) (walkOf r m u) (walkOf r (walkOf r m u .set) w) (walkOf r m (u ++ w))
 cut = follow.claims .cut
+
+-- ---- WORKED BY HAND
+-- Chunks by rule A, by a rule for one text alone and by one with a trap: every field of each answer.
+pub worked : Answered cases
+worked = follow.claims .answered
 
 -- ---- FROM ANY SET
 -- The same of runs from the states of any set that is handed in; bits for states that there are not mean
@@ -197,9 +221,13 @@ prepare-zeros r = follow.claims .prepared r .zeros
 pub prepare-accepted : (r : Rule) → (prepareOf r .refusal ≡ none) ↔ WellFormed r
 prepare-accepted r = follow.claims .prepared r .accepted
 
--- The follower carries the rule itself.
+-- The follower carries the rule itself,
 pub follower-rule : (r : Rule) → prepareOf r .refusal ≡ none → prepareOf r .follower .rule ≡ r
 follower-rule r = follow.claims .prepared r .carries
+
+-- and the states from which a final state can be reached.
+pub follower-live : (r : Rule) → prepareOf r .refusal ≡ none → (q : ℕ) → q ∈ prepareOf r .follower .live ↔ Live (automatonOf r) q
+follower-live = follow.claims .lives
 
 -- Following by the follower that it answers is following by the rule, in every field of every answer.
 pub prepared : (r : Rule) → prepareOf r .refusal ≡ none → (m : ℕ) (w : List ℕ) → followByOf (prepareOf r .follower) m w ≡ followOf r m w

@@ -155,8 +155,8 @@ module _ (h : List Call) (p : ℕ) (w : List ℕ) where
   pub no-mark : (b : ℕ) → StuckAfter h p w (suc b) → getD w b 0 ≡ idleMark → ⊥
   no-mark = spots.spot-claims .no-mark h p w
 
-  -- Of the chunk that stands where the trace is lost it says a byte, the first or a later one at any
-  -- place but the first.
+  -- Of the chunk that stands where the trace is lost it says a number of bytes, which is above 0 at any
+  -- place but the first. At place 0 it is 0 where the rule accepts nothing (`nothing-spot`).
   pub of-the-lost-chunk : Lost h p → standing h p ≡ some w
       → (b : ℕ) × (spotOf (judgeAfter h) p w ≡ stuckAfter b) × StuckAfter h p w b × (0 < p → 0 < b)
   of-the-lost-chunk = spots.spot-claims .lost-spot h p w

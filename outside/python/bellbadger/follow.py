@@ -18,6 +18,26 @@ What comes behind the end loses the trace, and whatever follows then, it stays s
     >>> follower.follow(bytes([2])).lost_at
     0
 
+A chunk that is refused leaves a hole, and what comes behind a hole may well look good. So a refusal stands: every
+later chunk is refused with the same number, until the chunk is dropped, or another trace begun.
+
+    >>> follower.begin()
+    >>> follower.follow(bytes([0])).is_accepted_so_far
+    False
+    >>> follower.follow(bytes([1, 16]))
+    Traceback (most recent call last):
+    ...
+    bellbadger.refusals.Refused: refused 13: a byte is no symbol of the rule and no idle mark
+    >>> follower.follow(bytes([2]))
+    Traceback (most recent call last):
+    ...
+    bellbadger.refusals.Refused: refused 13: a byte is no symbol of the rule and no idle mark
+    >>> follower.refused
+    13
+    >>> follower.drop_refused()
+    >>> follower.follow(bytes([1, 2])).is_accepted_so_far  # the chunk as it was meant
+    True
+
 A trace is good exactly where no chunk of it was refused and the last answer says is_accepted_so_far. That a
 chunk was taken says nothing of that, so an answer is no truth value:
 
@@ -73,7 +93,7 @@ class Followed:
     """What a chunk that was taken tells of the trace.
 
     is_accepted_so_far: whether the rule accepts all that came, up to the end of this chunk; the yes or no of a
-    filled board with the same chunks. Chunks that were refused are no part of it.
+    filled board with the same chunks. Chunks that were refused and dropped are no part of it.
     lost_at: None, or the least number of bytes of this chunk, idle marks counted, after which the rule will not
     accept the trace whatever comes. It is 0, which is false in an `if`, where that was so before the chunk: ask
     is_lost.
@@ -99,25 +119,44 @@ class Followed:
 
 class Follower:
     """A rule that is checked once, and the states that the trace has led to, first the initial ones. Refused with
-    3, 4, 6, 8. A rule of over 512 sets is taken. Each trace has a follower of its own."""
+    3, 4, 6, 8. A rule of over 512 sets is taken. Each trace has a follower of its own, or begins it anew."""
 
     def __init__(self, rule):
         prepared = lib.bellbadger_follower_prepare(raw("Follower", "rule", rule))
         if not prepared.accepted:
             raise Refused(prepared.refused)
-        self._follower, self._set = prepared.follower, rule.initials
+        self._follower = prepared.follower
+        self.begin()
 
     def __repr__(self):
         rule = self._follower.rule
-        return f"<Follower: states {rule.n}, symbols {rule.k}, reached {members(self._set)}>"
+        refused = "" if self._refused is None else f", refused {self._refused}"
+        return f"<Follower: states {rule.n}, symbols {rule.k}, reached {members(self._set)}{refused}>"
+
+    def begin(self):
+        """Begins another trace, with the initial states; a refusal stands no more."""
+        self._set, self._refused = self._follower.rule.initials, None
+
+    @property
+    def refused(self):
+        """The number with which a chunk was refused, and with it each later one; None where none was."""
+        return self._refused
+
+    def drop_refused(self):
+        """Leaves the refused chunk out, so that the trace goes on behind the last one that was taken. Where the
+        chunk was a part of the trace, hand it in as it was meant, or the trace has a hole that nobody sees."""
+        self._refused = None
 
     def follow(self, chunk):
         """Follows the next chunk: a Followed. Byte 255 is an idle mark, as in a delivery. An empty chunk changes
-        nothing, and is answered too. Refused with 12, 13: the follower is then as it was, and the chunk is no
-        part of the trace."""
+        nothing, and is answered too. Refused with 12, 13: the chunk is then no part of the trace, and every later
+        one is refused with the same number, until drop_refused or begin."""
         data = as_bytes("follow", "chunk", chunk)
+        if self._refused is not None:
+            raise Refused(self._refused)
         result = lib.bellbadger_follow_by(self._follower, self._set, data, len(data))
         if not result.accepted:
+            self._refused = result.refused
             raise Refused(result.refused)
         self._set = result.set
         expected = tuple(symbol for symbol in range(16) if result.expected >> symbol & 1)

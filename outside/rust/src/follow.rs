@@ -1,9 +1,11 @@
 //! A trace that comes in order, of any length, followed chunk by chunk: whether it keeps to the rule so
 //! far, where it was lost, and what could come next.
 //!
-//! A trace is good exactly where no chunk of it was refused and the last answer says
-//! [`is_accepted_so_far`](Followed::is_accepted_so_far). That a chunk was taken, `Ok(..)`, says nothing
-//! of that.
+//! A chunk that is refused leaves a hole, and what comes behind a hole may well look good. So a refusal
+//! stands: every later chunk is refused with the same number, until the chunk is dropped
+//! ([`Follower::drop_refused`]), or another trace begun ([`Follower::begin`]). A trace is good exactly where
+//! no chunk of it was refused and the last answer says [`is_accepted_so_far`](Followed::is_accepted_so_far).
+//! That a chunk was taken, `Ok(..)`, says nothing of that.
 //!
 //! ```
 //! use bellbadger::follow::Follower;
@@ -14,7 +16,6 @@
 //! rule.targets[0] = 0b010; // from state 0 by symbol 0
 //! rule.targets[17] = 0b100; // from state 1 by symbol 1
 //! let mut follower = Follower::new(&rule)?;
-//! let fresh = follower.clone();
 //!
 //! let first = follower.follow(&[0, 255])?; // 255 is an idle mark
 //! assert!(!first.is_accepted_so_far() && first.lost.is_none());
@@ -22,10 +23,18 @@
 //! assert!(follower.follow(&[1])?.is_accepted_so_far());
 //!
 //! // another trace: it is lost by the second byte of its second chunk, where 1 would have been right
-//! let mut follower = fresh;
+//! follower.begin();
 //! let _empty = follower.follow(&[])?;
 //! let lost = follower.follow(&[0, 0, 1])?;
 //! assert_eq!((lost.lost, lost.expected.to_vec(), lost.complete), (Some(2), vec![1], false));
+//!
+//! // a third: 2 is no symbol, so the second chunk is refused, and the third would pass for it
+//! follower.begin();
+//! let _first = follower.follow(&[0])?;
+//! assert_eq!(follower.follow(&[1, 2]).unwrap_err().number(), 13);
+//! assert_eq!(follower.follow(&[1]).unwrap_err().number(), 13);
+//! follower.drop_refused();
+//! assert!(follower.follow(&[1])?.is_accepted_so_far());
 //! # Ok::<(), Refused>(())
 //! ```
 use crate::{accepted, fits, CheckedRule, Refused};
@@ -128,7 +137,7 @@ pub struct Followed {
 
 impl Followed {
     /// Whether the rule accepts all that came, up to the end of this chunk: the yes or no of a filled
-    /// board with the same chunks. Chunks that were refused are no part of it.
+    /// board with the same chunks. Chunks that were refused and dropped are no part of it.
     ///
     /// Asking is not enough; an answer that is dropped is told by the compiler:
     ///
@@ -144,12 +153,13 @@ impl Followed {
     }
 }
 
-/// A rule that was checked, and the set of states that the trace has led to. A clone of a fresh one
-/// begins another trace.
+/// A rule that was checked, and the set of states that the trace has led to; or the refusal of a chunk,
+/// which stands. Each trace has a follower of its own, or begins it anew.
 #[derive(Clone, PartialEq, Eq)]
 pub struct Follower {
     by: Box<RawFollower>,
     set: u32,
+    refused: Option<Refused>,
 }
 
 impl Follower {
@@ -180,15 +190,34 @@ impl Follower {
         Ok(Follower {
             set: rule.initials,
             by: Box::new(r.follower),
+            refused: None,
         })
+    }
+
+    /// Begins another trace, with the initial states; a refusal stands no more.
+    pub fn begin(&mut self) {
+        (self.set, self.refused) = (self.by.rule.initials, None);
+    }
+
+    /// The refusal of a chunk, with which each later one is refused too, where there was one.
+    #[must_use]
+    pub fn refused(&self) -> Option<Refused> {
+        self.refused
+    }
+
+    /// Leaves the refused chunk out, so that the trace goes on behind the last one that was taken. Where the
+    /// chunk was a part of the trace, hand it in as it was meant, or the trace has a hole that nobody sees.
+    pub fn drop_refused(&mut self) {
+        self.refused = None;
     }
 
     /// Follows the next chunk. Byte 255 is an idle mark: it is skipped and is no part of the text, but
     /// counts in the limit and in places. An empty chunk changes nothing, and is answered too.
     ///
     /// # Errors
-    /// 12 (over 65,536 bytes), 13 (a byte is no symbol and no idle mark). The follower is then as it was,
-    /// and the chunk is no part of the trace.
+    /// 12 (over 65,536 bytes), 13 (a byte is no symbol and no idle mark). The chunk is then no part of the
+    /// trace, and every later one is refused with the same number, until [`drop_refused`](Self::drop_refused)
+    /// or [`begin`](Self::begin).
     ///
     /// ```compile_fail
     /// #![deny(unused_must_use)]
@@ -198,10 +227,16 @@ impl Follower {
     /// }
     /// ```
     pub fn follow(&mut self, chunk: &[u8]) -> Result<Followed, Refused> {
+        if let Some(refused) = self.refused {
+            return Err(refused);
+        }
         let (data, length) = (chunk.as_ptr(), chunk.len());
         // SAFETY: the pointer leads to as many bytes as the length says, and they are only read.
         let r = unsafe { bellbadger_follow_by(*self.by, self.set, data, length) };
-        accepted(r.accepted, r.refused)?;
+        if let Err(refused) = accepted(r.accepted, r.refused) {
+            self.refused = Some(refused);
+            return Err(refused);
+        }
         self.set = r.set;
         Ok(Followed {
             accepted_so_far: r.ends == 1,
@@ -212,13 +247,14 @@ impl Follower {
     }
 }
 
-/// Its sizes, and in how many states the trace is.
+/// Its sizes, in how many states the trace is, and the refusal that stands.
 impl fmt::Debug for Follower {
     fn fmt(&self, f: &mut fmt::Formatter<'_>) -> fmt::Result {
         f.debug_struct("Follower")
             .field("states", &self.by.rule.n)
             .field("symbols", &self.by.rule.k)
             .field("reached", &self.set.count_ones())
+            .field("refused", &self.refused.map(Refused::number))
             .finish_non_exhaustive()
     }
 }

@@ -1,4 +1,4 @@
-//! Following a trace: chunks worked by hand, refusals that leave the follower as it was, and random rules of
+//! Following a trace: chunks worked by hand, refusals that stand until they are dropped, and random rules of
 //! up to 32 states against plain runs and against a filled board with the same chunks.
 use bellbadger::follow::{Followed, Follower};
 use bellbadger::{read, CheckedRule, Judge};
@@ -49,7 +49,7 @@ fn worked_by_hand() {
     assert_eq!(told(a.follow(&[]).unwrap()), (true, None, vec![0, 1], true));
     assert_eq!(
         format!("{a:?}"),
-        "Follower { states: 3, symbols: 2, reached: 2, .. }"
+        "Follower { states: 3, symbols: 2, reached: 2, refused: None, .. }"
     );
     let mut late = fresh(&once());
     assert_eq!(
@@ -100,18 +100,42 @@ fn every_symbol_and_state() {
     );
 }
 
-/// A refused chunk is no part of the trace, which goes on as if it had not come.
+/// Without the refused chunk 0 and 1 came, which would be accepted: so nothing is followed behind it.
 #[test]
-fn refused_chunks() {
+fn a_refusal_stands() {
     let mut follower = fresh(&once());
-    let _first = follower.follow(&[0]).unwrap();
-    let before = follower.clone();
     for (chunk, number) in [(vec![1, 2], 13), (vec![254], 13), (vec![255; 65537], 12)] {
-        assert_eq!(follower.follow(&chunk).unwrap_err().number(), number);
-        assert!(follower == before);
+        follower.begin();
+        assert!(!follower.follow(&[0]).unwrap().is_accepted_so_far());
+        let before = follower.clone();
+        for later in [&chunk[..], &[1], &[], &[254]] {
+            assert_eq!(follower.follow(later).unwrap_err().number(), number);
+            assert!(follower != before);
+        }
+        assert_eq!(follower.refused().map(|r| r.number()), Some(number));
+        assert_eq!(
+            format!("{follower:?}"),
+            format!(
+                "Follower {{ states: 3, symbols: 2, reached: 1, refused: Some({number}), .. }}"
+            )
+        );
+        follower.drop_refused();
+        assert!(follower == before && follower.refused().is_none());
     }
+    assert!(follower.follow(&[255; 65536]).unwrap().lost.is_none());
     assert!(follower.follow(&[1]).unwrap().is_accepted_so_far());
-    assert!(before.clone().follow(&[255; 65536]).unwrap().lost.is_none());
+    follower.drop_refused();
+    assert!(follower.follow(&[]).unwrap().is_accepted_so_far());
+}
+
+#[test]
+fn begun_anew() {
+    let mut follower = fresh(&once());
+    assert!(follower.follow(&[0, 0]).unwrap().lost.is_some());
+    assert_eq!(follower.follow(&[2]).unwrap_err().number(), 13);
+    follower.begin();
+    assert!(follower == fresh(&once()));
+    assert!(follower.follow(&[0, 1]).unwrap().is_accepted_so_far());
 }
 
 #[test]

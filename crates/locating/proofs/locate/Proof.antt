@@ -33,16 +33,12 @@ delegate-mask-requires c κs = search needs
 live-mask-requires : tie.Need-live-mask-requires
 live-mask-requires c κs = search needs
 
-prune-requires : tie.Need-prune-requires
-prune-requires c κs = search needs
-
 locate-chunk-requires : tie.Need-locate-chunk-requires
 locate-chunk-requires c κs = search needs
 
 returns-4 : tie.Need-returns-4
 returns-4 c =
-    let cut = c .before .before .before .before .before in
-    let live = cut .before .before .before .before in
+    let live = c .before .before .before .before .before in
     let starts = live .before in
     let joined = starts .before in
     let looked = joined .before .before .before .before .before in
@@ -51,7 +47,7 @@ returns-4 c =
     let places = within .before in
     located _ _ _ (places .before .before .if1 .left) _ (places .places-of .ensures) (within .if2 .left) (short .if3 .left)
     _ (looked .has-gap .ensures) _ (joined .join-places .ensures) _ (starts .delegate-mask .ensures)
-    _ (live .live-mask .ensures) _ (cut .prune .ensures) _ (c .locate-chunk .ensures)
+    _ (live .live-mask .ensures) _ (c .locate-chunk .ensures)
 
 pub locate-spec : {M : Type 1} → statement M
 locate-spec =
@@ -65,6 +61,5 @@ locate-spec =
     join-places-requires
     delegate-mask-requires
     live-mask-requires
-    prune-requires
     locate-chunk-requires
     returns-4)

@@ -11,6 +11,7 @@ use Rattle.text.proofs.Rooms.{whole-within}
 use Rattle.marks.specs.Marks.{textOf}
 use Rattle.marks.proofs.Claims as marks
 use borrow.Author.Needs.{needs}
+use Rattle.locating.specs.Pruning.{pruned}
 use Rattle.locating.specs.Locating.{textSpot}
 use Rattle.locating.proofs.Spotting.{marked-found}
 use Rattle.locating.proofs.locate_marked.Statement.{statement}
@@ -46,7 +47,8 @@ in-chunk-requires c κs = search needs
 returns : tie.Need-returns
 returns c =
     let a = c .before .before .before .before .before .before .before .args in
-    marked-found _ _ _ (textSpot (a .sets .now) (a .next .now) (a .singles .now) (a .starts) (a .k) (a .gap) (textOf (a .chunk .now)))
+    marked-found _ _ _
+    (textSpot (a .sets .now) (pruned (a .sets .now) (a .next .now) (a .live) (a .count)) (a .singles .now) (a .starts) (a .k) (a .gap) (textOf (a .chunk .now)))
     (c .in-chunk .ensures)
     (c .before .locate-text .ensures ∙ rw (taken (c .before .before .before .before .pack .ensures)))
 
