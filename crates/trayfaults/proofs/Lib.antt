@@ -5,4 +5,6 @@ pub mod Same
 pub mod Faulting
 pub mod Verdicts
 pub mod Staying
+pub mod Examples
 pub mod Claims
+pub mod Functions

@@ -12,7 +12,6 @@ use Prim.Native.Nat.{ℕ, _≤_, _<_, min, max}
 use native.Mathlib.Omega.{arith}
 use lib.Dec.{eqb}
 use Rattle.base.specs.Options.{isNone}
-use Rattle.base.proofs.Options.{is-some}
 use Rattle.base.proofs.Tests.{by-test, not-both}
 use Rattle.automaton.specs.declared.Rule.{Rule}
 use Rattle.automaton.specs.Successor.{after}
@@ -23,11 +22,11 @@ use Rattle.trays.specs.Calls.{Call}
 use Rattle.trays.specs.Boards.{widthOf, bandsOf, bandRows, isEmpty}
 use Rattle.trays.specs.Steps.{lacksBoard}
 use Rattle.trays.proofs.Rows.{up-to-same}
-use Rattle.trayhistories.specs.History.{rowIn, columnIn, Size, boardThere, widthIn, bandsIn, standing, rowsAt}
+use Rattle.trayhistories.specs.History.{rowIn, columnIn, Size, boardThere, widthIn, bandsIn, rowsAt}
 use Rattle.trayhistories.specs.Claims.{trayAfter}
 use Rattle.trayhistories.proofs.EveryList.{every-list}
-use Rattle.faults.specs.First.{orElse, orThen, firstFound}
-use Rattle.faults.specs.Faulting.{Finding, refusedAs, shortAt, openWith, bandWrong, rowsWrong, bandStuck, bandOn, columnStuck, columnsStuck, columnShort, columnsShort, emptyAt, beforeEmpty, columnsBy, beyondRows, faultBy, faultOf}
+use Rattle.faults.specs.First.{orElse, orThen}
+use Rattle.faults.specs.Faulting.{Finding, shortAt, openWith, bandWrong, rowsWrong, bandStuck, bandOn, columnStuck, columnShort, emptyAt, beforeEmpty, columnsBy, beyondRows, faultBy, faultOf}
 use Rattle.faults.proofs.First.{first-same}
 use Rattle.trayfaults.proofs.Searching.{emptyIn, before-is}
 

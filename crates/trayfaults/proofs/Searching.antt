@@ -7,7 +7,7 @@
 --   all-accepted, one-short, short-one     the first that is not accepted
 --   before-is, before-once                 the bands before the first empty one
 use mathlib.Core.Path.{_≡_, refl, sym, ap, _∙_, subst}
-use mathlib.Core.Logic.{_↔_, _⊎_, inl, inr, ⊎-elim}
+use mathlib.Core.Logic.{_↔_, inl, inr}
 use mathlib.Core.Bool.{Bool, true, false, cond}
 use mathlib.Core.List.{List, []}
 use mathlib.Core.Option.{Option, none, some}
@@ -20,10 +20,9 @@ use borrow.Author.Tests.{ltb-true, ltb-false}
 use Rattle.base.specs.Options.{isNone}
 use Rattle.base.specs.Totals.{total}
 use Rattle.base.proofs.Options.{is-none, is-some, none-some}
-use Rattle.base.proofs.Tests.{by-test, not-both, zero-one}
+use Rattle.base.proofs.Tests.{by-test, not-both}
 use Rattle.masks.specs.Masks.{shares}
-use Rattle.automaton.specs.declared.Rule.{Rule}
-use Rattle.automaton.specs.Automaton.{Automaton, Accepts}
+use Rattle.automaton.specs.Automaton.{Automaton}
 use Rattle.automaton.specs.Rules.{automatonOf, WellFormed}
 use Rattle.automaton.specs.Successor.{after}
 use Rattle.automaton.proofs.Claims as automaton
@@ -38,7 +37,7 @@ use Rattle.trays.proofs.Rows.{accepted-law}
 use Rattle.trayverdict.proofs.Walks.{column-append}
 use Rattle.trayhistories.specs.History.{rowIn, columnIn, widthIn, bandsIn, standing, joinedRows, rowsAt}
 use Rattle.faults.specs.First.{orThen, firstFound}
-use Rattle.faults.specs.Faulting.{Finding, rowAt, columnAt, shortAt, bandWrong, rowsWrong, rowStuck, bandStuck, bandOn, columnStuck, columnsStuck, columnShort, columnsShort, rowWrong, emptyAt, beforeEmpty}
+use Rattle.faults.specs.Faulting.{Finding, rowAt, columnAt, shortAt, bandWrong, rowsWrong, rowStuck, bandOn, columnStuck, columnsStuck, columnShort, columnsShort, rowWrong, emptyAt, beforeEmpty}
 use Rattle.faults.proofs.First.{none-found, one-found}
 use Rattle.trayfaults.specs.Faults.{RowAccepted, RowFault, RowsRight, Before, columnText, wholeColumn, Hopeful, ColumnAccepted, LostWith, ColumnLost}
 use Rattle.trayfaults.proofs.Texts.{below-fits, take-up, column-less, column-part}

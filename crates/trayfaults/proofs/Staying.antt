@@ -1,7 +1,7 @@
 -- A lost column stays lost while the column rule, the board and the bands up to the one by which it is
 -- lost are the same, and no row fault comes up. Assumes nothing.
 use mathlib.Core.Path.{_≡_, refl, sym, ap, ap₂, _∙_, subst}
-use mathlib.Core.Logic.{_⊎_, inl, inr}
+use mathlib.Core.Logic.{inl, inr}
 use mathlib.Core.List.{List, _++_}
 use mathlib.Core.Option.{Option, none, some}
 use Prim.Native.Nat.{ℕ, suc, _+_, _≤_, _<_}
@@ -15,7 +15,7 @@ use Rattle.base.proofs.Totals.{total-same}
 use Rattle.automaton.specs.declared.Rule.{Rule}
 use Rattle.automaton.specs.Rules.{automatonOf, WellFormed}
 use Rattle.live.specs.Continued.{Continued}
-use Rattle.trays.specs.Rows.{rowsUpTo, columnOf}
+use Rattle.trays.specs.Rows.{columnOf}
 use Rattle.trays.specs.Calls.{Call}
 use Rattle.trays.specs.Claims.{rowsBelow}
 use Rattle.trays.proofs.Rows.{up-to-same}
@@ -24,7 +24,7 @@ use Rattle.trayhistories.specs.Claims.{trayAfter}
 use Rattle.faults.specs.Faulting.{Finding, refusedAs, rowAt, columnAt, shortAt, openWith, faultOf}
 use Rattle.trayfaults.specs.Faults.{RowsRight, Before, columnText, Hopeful, LostWith, Faulted}
 use Rattle.trayfaults.proofs.Texts.{take-up}
-use Rattle.trayfaults.proofs.Searching.{column-kept, stuck-column, emptyIn, before-is, before-once}
+use Rattle.trayfaults.proofs.Searching.{column-kept, stuck-column}
 use Rattle.trayfaults.proofs.Faulting.{rules, fault}
 
 -- ---- a lost column

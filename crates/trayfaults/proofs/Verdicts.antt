@@ -7,7 +7,7 @@ use mathlib.Core.Path.{_≡_, refl, sym, ap, _∙_, subst}
 use mathlib.Core.Logic.{_↔_, inl}
 use mathlib.Core.List.{List, [], append-nil}
 use mathlib.Core.Option.{Option, none, some}
-use Prim.Native.Nat.{ℕ, zero, suc, _+_, _-_, _≤_, _<_}
+use Prim.Native.Nat.{ℕ, zero, suc, _+_, _-_, _<_}
 use native.Mathlib.Omega.{arith}
 use lib.Dec.{ltb}
 use lib.ListN.{length, getD}
@@ -27,7 +27,7 @@ use Rattle.trayhistories.proofs.EveryList.{every-list}
 use Rattle.faults.specs.Faulting.{Finding, refusedAs, rowAt, columnAt, shortAt, openWith, faultOf}
 use Rattle.trayfaults.specs.Faults.{RowsRight, Before, Open, Faulted, AcceptsNothing, IsFault}
 use Rattle.trayfaults.proofs.Texts.{below-fits}
-use Rattle.trayfaults.proofs.Searching.{emptyIn, before-is, before-once}
+use Rattle.trayfaults.proofs.Searching.{before-is, before-once}
 use Rattle.trayfaults.proofs.Faulting.{fault}
 
 -- what is accepted can be continued, by nothing

@@ -7,12 +7,15 @@ use mathlib.Core.Option.{none}
 use Prim.Native.Nat.{ℕ, _≤_}
 use Rattle.trays.specs.Replies.{saysYes, saysNo}
 use Rattle.trays.specs.Calls.{Call}
-use Rattle.trayhistories.specs.History.{rowIn, columnIn, boardThere, bandsIn, standing, emptiesIn, verdictIn}
+use Rattle.trayhistories.specs.History.{columnIn, boardThere, bandsIn, standing, emptiesIn, verdictIn}
 use Rattle.trayhistories.specs.Claims.{trayAfter}
 use Rattle.faults.specs.Faulting.{Finding, columnAt, openWith, faultOf}
+use Rattle.trayfaults.specs.Worked.{lists, Answered}
 use Rattle.trayfaults.specs.Faults.{RowsRight, Faulted, AcceptsNothing, IsFault}
 
 pub record Claims : Type 0 where
+  -- lists worked by hand
+  pub answered : Answered lists
   -- after every list of calls the finding is the one that the list says, and there is only one
   pub fault : (h : List Call) (f : Finding) → (faultOf (trayAfter h) ≡ f) ↔ Faulted h f
   -- with every band there, no is said exactly where the finding is a row, a column or a short one, and
