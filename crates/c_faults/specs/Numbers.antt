@@ -1,5 +1,5 @@
--- The numbers that C is given for what goes wrong in a tray. Every field is fixed: what an answer has no
--- use for is 0.
+-- The numbers that C is given for what goes wrong in a tray. Every field is fixed: what an answer
+-- has no use for is 0.
 --
 --   faultShown f      kind 0 refused, 1 a row, 2 a column that is lost, 3 a short one, 4 open
 --   faultReadBack r   what such a result says, read back from its numbers

@@ -1,13 +1,14 @@
-// Where a tray goes wrong, for C, Rust and Python. The answer is numbers, and the tray stays as it is.
+// Where a tray goes wrong, for C, Rust and Python. The answer is numbers, and the tray stays as it
+// is.
 ghost use mathlib.Core.Path.{_≡_};
 ghost use Rattle.faults.specs.Faulting.{faultOf};
 ghost use Rattle.c_faults.specs.Numbers.{faultShown};
 use faults::TrayFault;
 use trays::Tray;
 
-// Kind 0: refused with the number; 1: the row of the band is not accepted; 2: the column is lost, with
-// the row of the band; 3: the column is not accepted, though it could go on; 4: none of these, with the
-// number of bands that stand before the first empty one. What a kind has no use for is 0.
+// Kind 0: refused with the number; 1: the row of the band is not accepted; 2: the column is lost,
+// with the row of the band; 3: the column is not accepted, though it could go on; 4: none of these,
+// with the number of bands that stand before the first empty one. What a kind has no use for is 0.
 #[repr(C)]
 pub struct FaultNumbers {
     pub kind: u8,

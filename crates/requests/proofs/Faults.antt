@@ -1,24 +1,25 @@
--- WHERE A TRAY GOES WRONG, sentence by sentence. Under each stands the theorem that meets it; its proof
--- only cites the file that has it. To believe them, read the definitions that they name:
+-- WHERE A TRAY GOES WRONG, sentence by sentence. Under each stands the theorem that meets it; its
+-- proof only cites the file that has it. To believe them, read the definitions that they name:
 --
---   Continued a w                some text can follow w so that a accepts    live/specs/Continued
---   RowFault h b i, RowsRight h  the first wrong row; there is none          trayfaults/specs/Faults
---   Before h m                   m bands stand before the first empty one    trayfaults/specs/Faults
---   columnText h m c k           column c of the first k rows                trayfaults/specs/Faults
---   ColumnLost h m c b i         column c is the first that is lost, with    trayfaults/specs/Faults
---                                row i of band b
---   Short h c, Open h m          the first short column; none of these       trayfaults/specs/Faults
---   Faulted h f                  the finding f is the list's                 trayfaults/specs/Faults
---   IsFault f                    f is a row, a column or a short one         trayfaults/specs/Faults
---   AcceptsNothing h             the column rule accepts no text             trayfaults/specs/Faults
---   rowsBelow at b               how many rows the bands below b have        trays/specs/Claims
---   columnOf c rows              the event at c of each row                  trays/specs/Rows
---   Finding                      what is answered                            faults/specs/Faulting
---   rowIn h, standing h p, ..    what R-13 says of a list of calls           trayhistories/specs/History
---   Accepts                      automata and their runs (000)               automaton/specs/Automaton
---   MayFault                     what the function's contract allows         trayfaults/specs/Functions
---   MayFaultC                    the same of the one that C links            requests/specs/FaultFunctions
---   faultShown                   C's numbers                                 c_faults/specs/Numbers
+--   Continued a w             some text can follow w so that a accepts   live/specs/Continued
+--   RowFault h b i            the first wrong row                        trayfaults/specs/Faults
+--   RowsRight h               there is none                              trayfaults/specs/Faults
+--   Before h m                m bands stand before the first empty one   trayfaults/specs/Faults
+--   columnText h m c k        column c of the first k rows               trayfaults/specs/Faults
+--   ColumnLost h m c b i      column c is the first that is lost, with   trayfaults/specs/Faults
+--                             row i of band b
+--   Short h c, Open h m       the first short column; none of these      trayfaults/specs/Faults
+--   Faulted h f               the finding f is the list's                trayfaults/specs/Faults
+--   IsFault f                 f is a row, a column or a short one        trayfaults/specs/Faults
+--   AcceptsNothing h          the column rule accepts no text            trayfaults/specs/Faults
+--   rowsBelow at b            how many rows the bands below b have       trays/specs/Claims
+--   columnOf c rows           the event at c of each row                 trays/specs/Rows
+--   Finding                   what is answered                           faults/specs/Faulting
+--   rowIn h, standing h p, .. what R-13 says of a list of calls          trayhistories/specs/History
+--   Accepts                   automata and their runs (000)              automaton/specs/Automaton
+--   MayFault                  what the function's contract allows        trayfaults/specs/Functions
+--   MayFaultC                 the same of the one that C links           requests/specs/FaultFunctions
+--   faultShown                C's numbers                                c_faults/specs/Numbers
 --
 -- h is any list of calls, the last one first. faultOf, what the code does on any state, need not be
 -- believed: `faulted` says that after every list it is the words', and no other answer is. A proved
@@ -52,7 +53,8 @@ use Rattle.requests.specs.FaultFunctions.{AsksFaultC, MayFaultC}
 use Rattle.requests.proofs.TrayFunctions.{after-any-list}
 
 -- ---- WHAT IS FOUND
--- Over every list of calls the finding is exactly the one that the list says, and there is only one.
+-- Over every list of calls the finding is exactly the one that the list says, and there is only
+-- one.
 pub faulted : (h : List Call) (f : Finding) → (faultOf (trayAfter h) ≡ f) ↔ Faulted h f
 faulted = trayfaults.claims .fault
 
@@ -67,13 +69,13 @@ by-hand = trayfaults.claims .answered
 pub without-board : (h : List Call) → (faultOf (trayAfter h) ≡ refusedAs 21) ↔ (boardThere h ≡ none)
 without-board h = ((λ e. faulted h (refusedAs 21) .0 e .0), λ b. faulted h (refusedAs 21) .1 (b, refl))
 
--- A row: the first standing row, by band and then by row, that the row rule does not accept, also behind
--- an empty band.
+-- A row: the first standing row, by band and then by row, that the row rule does not accept, also
+-- behind an empty band.
 pub wrong-row : (h : List Call) (b i : ℕ) → (faultOf (trayAfter h) ≡ rowAt b i) ↔ RowFault h b i
 wrong-row h b i = faulted h (rowAt b i)
 
--- Else a column: the first that is lost over the bands up to the first empty one, with the first row with
--- which its text cannot be continued. It is known before the later bands are filled.
+-- Else a column: the first that is lost over the bands up to the first empty one, with the first
+-- row with which its text cannot be continued. It is known before the later bands are filled.
 pub lost-column : (h : List Call) (c b i : ℕ) → (faultOf (trayAfter h) ≡ columnAt c b i)
     ↔ ((boardThere h ≡ none → ⊥) × RowsRight h × ((m : ℕ) × Before h m × ColumnLost h m c b i))
 lost-column h c b i = faulted h (columnAt c b i)
@@ -87,8 +89,8 @@ pub open-with : (h : List Call) (m : ℕ) → (faultOf (trayAfter h) ≡ openWit
 open-with h m = faulted h (openWith m)
 
 -- ---- BESIDE THE VERDICT
--- With every band there, no is said exactly where a row, a column or a short column is found, and yes
--- exactly where all bands are open.
+-- With every band there, no is said exactly where a row, a column or a short column is found, and
+-- yes exactly where all bands are open.
 pub explained : (h : List Call) → (boardThere h ≡ none → ⊥) → emptiesIn h ≡ 0
     → (verdictIn h ≡ saysNo) ↔ IsFault (faultOf (trayAfter h))
 explained = trayfaults.claims .no-exactly
@@ -102,16 +104,16 @@ pub nothing-accepted : (h : List Call) → (boardThere h ≡ none → ⊥) → R
     → faultOf (trayAfter h) ≡ columnAt 0 0 0
 nothing-accepted = trayfaults.claims .accepts-nothing
 
--- A lost column stays lost, by the same row, while the column rule, the board and the bands up to that row
--- stay and no row goes wrong; a column before it may be found instead.
+-- A lost column stays lost, by the same row, while the column rule, the board and the bands up to
+-- that row stay and no row goes wrong; a column before it may be found instead.
 pub stays : (h g : List Call) (c b i : ℕ) → faultOf (trayAfter h) ≡ columnAt c b i
     → columnIn g ≡ columnIn h → boardThere g ≡ boardThere h → ((p : ℕ) → p ≤ b → standing g p ≡ standing h p) → RowsRight g
     → (d : ℕ) × (a : ℕ) × (j : ℕ) × (faultOf (trayAfter g) ≡ columnAt d a j) × (d ≤ c) × (d ≡ c → (a ≡ b) × (j ≡ i))
 stays = trayfaults.claims .stays
 
 -- ---- THE FUNCTIONS
--- `fault`, on a tray that a list of calls through the tray's functions left, says what the list says, and
--- asks nothing.
+-- `fault`, on a tray that a list of calls through the tray's functions left, says what the list
+-- says, and asks nothing.
 pub fault-says : (h : List Call) (rs : List Reply) (t : Tray) → Execution trayLibrary h rs t
     → (r : TrayFault) → MayFault t r → Faulted h (faultMeans r)
 fault-says = fault-functions.function-claims .fault
@@ -127,7 +129,8 @@ any-fault t r = ((λ m. m .1), λ e. ((t, tt), e))
 pub asks-nothing : (t : Tray) → AsksFaultC t
 asks-nothing = asks-of-C.fault-asks-nothing
 
--- So on a tray that a list of calls through C's functions left its numbers are those of what the list says,
+-- So on a tray that a list of calls through C's functions left its numbers are those of what the
+-- list says,
 pub fault-from-C : (h : List Call) (rs : List Reply) (t : Tray) → Execution trayLibraryOfC h rs t
     → (r : FaultNumbers) → MayFaultC t r → (f : Finding) × Faulted h f × (r ≡ faultShown f)
 fault-from-C h rs t ran r m =

@@ -1,9 +1,9 @@
--- What the function that C links for a tray that goes wrong asks and allows by its own contract, as the
--- checker reads it (`Reads`): any result that the contract does not rule out. crates/trayfaults has the
--- same for the function that it calls.
+-- What the function that C links for a tray that goes wrong asks and allows by its own contract, as
+-- the checker reads it (`Reads`): any result that the contract does not rule out. crates/trayfaults
+-- has the same for the function that it calls.
 --
---   AsksFaultC, MayFaultC   `bellbadger_tray_fault`: before it is called on a tray, and what it may return
---                           for it
+--   AsksFaultC, MayFaultC   `bellbadger_tray_fault`: before it is called on a tray, and what it may
+--                           return for it
 use denote.Triple.Clauses.{AtExit}
 use borrow.Fn.Kinds.{endedOf}
 use Rattle.trays.specs.declared.Tray.{Tray}

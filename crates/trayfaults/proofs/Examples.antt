@@ -1,7 +1,8 @@
 -- The lists of calls worked by hand are answered as specs/Worked.antt says. Assumes nothing.
 --
--- Behind two rules that are installed, what calls other than installations leave is told without looking
--- at the rules but for their numbers of symbols (`boardBy`, `standBy`). With that what is found computes.
+-- Behind two rules that are installed, what calls other than installations leave is told without
+-- looking at the rules but for their numbers of symbols (`boardBy`, `standBy`). With that what is
+-- found computes.
 use mathlib.Core.Path.{_≡_, refl, _∙_, fun-ext}
 use mathlib.Core.Bool.{Bool, true, false, cond, _&&_}
 use mathlib.Core.List.{List, [], _∷_, _++_}

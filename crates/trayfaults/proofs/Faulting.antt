@@ -1,8 +1,9 @@
--- After every list of calls the finding is the one that the list says, and no other is. Assumes nothing.
+-- After every list of calls the finding is the one that the list says, and no other is. Assumes
+-- nothing.
 --
--- The searches come one after the other, and each finds nothing exactly where its words say so: what the
--- first that finds something finds is the finding (`faulted`), and a finding in words makes the searches
--- before it find nothing and its own find it (`found`).
+-- The searches come one after the other, and each finds nothing exactly where its words say so:
+-- what the first that finds something finds is the finding (`faulted`), and a finding in words
+-- makes the searches before it find nothing and its own find it (`found`).
 use mathlib.Core.Path.{_≡_, refl, sym, ap, _∙_, subst}
 use mathlib.Core.Logic.{_↔_}
 use mathlib.Core.Bool.{Bool, true, false, cond}

@@ -1,5 +1,5 @@
--- What is found in the state after a list of calls is what is found by the list: the finding hangs on the
--- rows of the bands that are there, and on no other number of the state. Assumes nothing.
+-- What is found in the state after a list of calls is what is found by the list: the finding hangs
+-- on the rows of the bands that are there, and on no other number of the state. Assumes nothing.
 --
 --   rows-same, beyond-same   the same rows and the same empty bands
 --   faultIn                  the finding by the list

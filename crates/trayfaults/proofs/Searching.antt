@@ -1,5 +1,5 @@
--- What each search finds, in the list's words: each law says when it finds nothing, what it finds, and
--- that it finds what the words say. Assumes well-formed rules.
+-- What each search finds, in the list's words: each law says when it finds nothing, what it finds,
+-- and that it finds what the words say. Assumes well-formed rules.
 --
 --   rows-right, row-wrong, wrong-row       the rows
 --   column-kept, column-stuck, stuck-column   one column
@@ -172,7 +172,8 @@ module _ (h : List Call) (good : WellFormed (columnIn h)) (m : ℕ) where
     unfolding columnOf
     begin = refl
 
-    -- with no row a live state is left, and with each row of the bands below b one is: so it is in band b
+    -- with no row a live state is left, and with each row of the bands below b one is: so it is in
+    -- band b
     through : (b n : ℕ) → alive (rowsBelow (rowsAt h) b) ≡ true → ((j : ℕ) → j < n → alive (suc (number b j)) ≡ true) → alive (number b n) ≡ true
     through b zero before x = let e : rowsBelow (rowsAt h) b ≡ number b 0 = omega arith in subst (λ (k : ℕ). alive k ≡ true) e before
     through b (suc n) before x = let e : suc (number b n) ≡ number b (suc n) = omega arith in subst (λ (k : ℕ). alive k ≡ true) e (x n (omega arith))

@@ -1,5 +1,5 @@
--- A lost column stays lost while the column rule, the board and the bands up to the one by which it is
--- lost are the same, and no row fault comes up. Assumes nothing.
+-- A lost column stays lost while the column rule, the board and the bands up to the one by which it
+-- is lost are the same, and no row fault comes up. Assumes nothing.
 use mathlib.Core.Path.{_≡_, refl, sym, ap, ap₂, _∙_, subst}
 use mathlib.Core.Logic.{inl, inr}
 use mathlib.Core.List.{List, _++_}

@@ -1,24 +1,24 @@
--- Where a tray goes wrong, by a list of its calls alone. A list has the LAST call first. Nothing here
--- looks at a state. `Continued` is of crates/live.
+-- Where a tray goes wrong, by a list of its calls alone. A list has the LAST call first. Nothing
+-- here looks at a state. `Continued` is of crates/live.
 --
 --   RowAccepted h b i     the row rule accepts row i of the standing band b
---   RowFault h b i        it does not, and it accepts every standing row before it, by band and then by
---                         row; bands behind an empty one count
+--   RowFault h b i        it does not, and it accepts every standing row before it, by band and
+--                         then by row; bands behind an empty one count
 --   RowsRight h           it accepts every standing row
 --   Before h m            m bands stand before the first empty one
 --   columnText h m c k    column c of the first k rows of the first m bands
 --   wholeColumn h m c     column c of all their rows
 --   Hopeful h m c         some text continues it to one that the column rule accepts
---   LostWith h m c b i    column c is lost with row i of band b: the rows before it can be continued, and
---                         not with it. Where not even none can, which is so of a rule that accepts
---                         nothing, it is row 0 of band 0, whatever stands
+--   LostWith h m c b i    column c is lost with row i of band b: its text before that row can be
+--                         continued, and not with it. Where not even the empty text can, which is
+--                         so of a rule that accepts nothing, it is row 0 of band 0, whatever stands
 --   ColumnLost h m c b i  column c is the first that is lost over the first m bands, with that row
---   Short h c             every band stands, no column is lost, and column c is the first that is not
---                         accepted
---   Open h m              m bands stand before the first empty one, no column is lost over them, and
---                         where they are all, every column is accepted
---   Faulted h f           the finding f is the list's: 21 without a board, else the first row fault, else
---                         the first lost column, else the first short one, else open
+--   Short h c             every band stands, no column is lost, and column c is the first that is
+--                         not accepted
+--   Open h m              m bands stand before the first empty one, no column is lost over them,
+--                         and where they are all, every column is accepted
+--   Faulted h f           the finding f is the list's: 21 without a board, else the first row
+--                         fault, else the first lost column, else the first short one, else open
 --   IsFault f             a row, a column or a short one
 --   AcceptsNothing h      the column rule accepts no text
 use mathlib.Core.Path.{_≡_}

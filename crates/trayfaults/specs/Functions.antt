@@ -1,5 +1,6 @@
--- The function, by its own contract as the checker reads it (`Reads.Learnt`): what `fault` may return on
--- a tray that calls through the tray's functions left. proofs/Functions.antt proves `FunctionClaims`.
+-- The function, by its own contract as the checker reads it (`Reads.Learnt`): what `fault` may
+-- return on a tray that calls through the tray's functions left. proofs/Functions.antt proves
+-- `FunctionClaims`.
 use mathlib.Core.List.{List}
 use denote.Triple.Clauses.{AtExit}
 use borrow.Fn.Kinds.{endedOf}

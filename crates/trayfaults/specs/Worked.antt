@@ -1,6 +1,6 @@
--- Lists of a tray's calls worked by hand, with what is found after each: one list, and one claim over it.
--- Rule A accepts the texts that end in 0 1, `evenRule` those of even length, so every row of two events.
--- proofs/Examples.antt proves the claim.
+-- Lists of a tray's calls worked by hand, with what is found after each: one list, and one claim
+-- over it. Rule A accepts the texts that end in 0 1, `evenRule` those of even length, so every row
+-- of two events. proofs/Examples.antt proves the claim.
 --
 --   zeros             a rule of two symbols that accepts the texts of zeros: a 1 loses
 --   never             a rule of two symbols that accepts nothing
