@@ -18,7 +18,7 @@
 --   rowIn h, standing h p, .. what R-13 says of a list of calls          trayhistories/specs/History
 --   Accepts                   automata and their runs (000)              automaton/specs/Automaton
 --   MayFault                  what the function's contract allows        trayfaults/specs/Functions
---   MayFaultC                 the same of the one that C links           requests/specs/FaultFunctions
+--   MayFaultC                 the same of the one that C links           specs/FaultFunctions
 --   faultShown                C's numbers                                c_faults/specs/Numbers
 --
 -- h is any list of calls, the last one first. faultOf, what the code does on any state, need not be
