@@ -4,6 +4,7 @@ use mathlib.Core.Logic.{_↔_}
 use Rattle.masks.specs.Masks.{_∈_}
 use Rattle.automaton.specs.Rules.{automatonOf}
 use Rattle.delegates.specs.Alike.{Live}
+use Rattle.live.proofs.Rounds.{live-law}
 use Rattle.follow.specs.declared.Follower.{Follower}
 use Rattle.follow.specs.Claims.{Claims}
 use Rattle.follow.proofs.Examples.{answered}

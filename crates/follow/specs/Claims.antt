@@ -31,6 +31,7 @@ use Rattle.automaton.specs.Rules.{automatonOf, WellFormed}
 use Rattle.automaton.specs.Successor.{Reached}
 use Rattle.rulecheck.specs.Checking.{ruleNumber}
 use Rattle.chunks.specs.Taking.{chunkNumber}
+use Rattle.delegates.specs.Alike.{Live}
 use Rattle.live.specs.Continued.{Continued, AcceptsIn, CanEnd}
 use Rattle.follow.specs.Worked.{cases, Answered}
 use Rattle.follow.specs.declared.Follower.{Follower}
