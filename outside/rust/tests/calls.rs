@@ -144,6 +144,7 @@ fn on_a_stack_of_1_mb() {
         }
         assert!(tray.open(2, 1).is_ok() && tray.deliver(0, &[0, 1]).is_ok());
         assert_eq!(tray.verdict(), Ok(trays::TrayVerdict::No));
+        assert_eq!(tray.fault(), Ok(trays::Fault::Short { column: 0 }));
         assert!(tray.withdraw(0).is_ok());
         Ok::<(), Refused>(())
     };
