@@ -1,7 +1,6 @@
 -- The one proof of all that specs/Claims.antt claims. Assumes nothing.
 use Rattle.follow.specs.Claims.{Claims}
 use Rattle.follow.proofs.Examples.{answered}
-use Rattle.follow.proofs.Rounds.{live-law}
 use Rattle.follow.proofs.Numbers as numbers
 use Rattle.follow.proofs.Lists as lists
 use Rattle.follow.proofs.Ways as ways
@@ -10,7 +9,6 @@ use Rattle.follow.proofs.Cuts.{cut}
 pub claims : Claims
 claims = record {
   answered = answered;
-  live = live-law;
   numbers = numbers.numbers;
   refused = λ r m w x. numbers.refused r w m x;
   accepted = λ r m w. numbers.follow-is r w m;
