@@ -1,4 +1,4 @@
--- The numbers of each case of the answer are those of what it says; and they are read back. Assumes
+-- The numbers of each case of an answer are those of what it says; and they are read back. Assumes
 -- nothing.
 use mathlib.Core.Path.{_≡_, refl, sym, ap, _∙_}
 use Rattle.faults.specs.declared.TrayFault.{TrayFault}

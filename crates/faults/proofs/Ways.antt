@@ -1,13 +1,13 @@
 -- One lemma over plain variables for each way out of a search. Assumes nothing.
 --
---   found-empty, past-full, none-empty   the bands before the first empty one
---   answer-found, answer-none, all-done  what is found is the answer of a search; it has none; all passed
---   way-stuck, way-ends, band-walked     a column is lost, or it is not and the set after it; one band more
---   short-was, short-not, short-now      a column that stopped too early: an earlier one, none, this one
+--   found-empty, past-full, none-empty     the bands before the first empty one
+--   answer-found, answer-none, all-done    an answer is what is found; it has none; all are passed
+--   way-stuck, way-ends, band-walked       a column is lost; it is not; one band more of it
 --   lost-first, column-lost, column-ends   the ways out of a column
---   lost-or-short, none-lost, short-next, only-short, not-full   those of all columns
---   fault-found, fault-open              those beyond the rows
---   fault-21, fault-row, fault-beyond    those of the whole
+--   short-was, short-not, short-now        a short column: an earlier one, none, this one
+--   lost-or-short, none-lost, short-next, only-short, not-full   all columns
+--   fault-found, fault-open                the ways out beyond the rows
+--   fault-21, fault-row, fault-beyond      those of the whole
 use mathlib.Core.Path.{_≡_, refl, sym, ap, ap₂, _∙_}
 use mathlib.Core.Bool.{Bool, true, false, cond, not}
 use mathlib.Core.List.{List}

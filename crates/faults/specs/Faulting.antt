@@ -1,6 +1,6 @@
--- Where a tray goes wrong, on any state whatever. On a state that no list of calls leaves, nobody says
--- what it should be; what stands here is what the code does. crates/trayfaults says what it is after a
--- list of calls.
+-- Where a tray goes wrong, on any state whatever. On a state that no list of calls leaves, nobody
+-- says what it should be; what stands here is what the code does. crates/trayfaults says what it is
+-- after a list of calls.
 --
 --   Finding                  what is found
 --     refusedAs x            refused with the number x
@@ -12,16 +12,17 @@
 --   foundMeans, Way, walkMeans   the same of the code's answers on the way: a finding or nothing; a
 --                            column is lost, or the set after its rows
 --   wayBy o m                the column is lost with the finding o, or the set after it is m
---   bandWrong r b rows       the first of the rows, which are those of band b, that r does not accept
+--   bandWrong r b rows       the first of the rows, which are those of band b, that r does not
+--                            accept
 --   rowsWrong r at n         the first of the rows `at 0`, .. `at (n − 1)` of n bands
---   bandStuck ts live c m b rows   the first of the rows with which no state of `live` is left in the
---                            set after column c, from m
+--   bandStuck ts live c m b rows   the first of the rows with which no state of `live` is left in
+--                            the set after column c, from m
 --   columnStuck ts live c m at n   the same through n bands; row 0 of band 0 where none is in m
 --   columnsStuck r at w n    the first of w columns that is lost
 --   columnsShort r at w n    the first of w columns that is not accepted
 --   beforeEmpty empty n      how many of n bands stand before the first empty one
---   faultBy ..               what is found: by whether no board is there, the two rules, the width, the
---                            rows of each band, which are empty, and how many there are
+--   faultBy ..               what is found: by whether no board is there, the two rules, the width,
+--                            the rows of each band, which are empty, and how many there are
 --   faultOf t                what is found in the state t
 use mathlib.Core.Bool.{Bool, cond}
 use mathlib.Core.List.{List, []}

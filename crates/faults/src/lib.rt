@@ -83,8 +83,8 @@ fn row_fault(
     Found::Nothing
 }
 
-// Walks a column over the rows of a band that begin at the cell, from the set, until no state of the
-// mask `live` is left.
+// Walks a column over the rows of a band that begin at the cell, from the set, until no state of
+// the mask `live` is left.
 fn walk_band(
     targets: &[u32; limits::TARGETS],
     live: u32,

@@ -1,5 +1,5 @@
--- `column_fault` meets its contract: none of the columns passed is lost, and the first of them that is not
--- accepted is known. Assumes nothing.
+-- `column_fault` meets its contract: none of the columns passed is lost, and the first of them that
+-- is not accepted is known. Assumes nothing.
 use mathlib.Core.Path.{_≡_, refl}
 use mathlib.Core.Option.{none}
 use Prim.Native.Nat.{_-_, _≤_}

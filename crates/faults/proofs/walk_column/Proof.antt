@@ -1,5 +1,5 @@
--- `walk_column` meets its contract: the set after the bands passed, in each of which a live state was
--- left with every row. Assumes nothing.
+-- `walk_column` meets its contract: the set after the bands passed, in each of which a live state
+-- was left with every row. Assumes nothing.
 use mathlib.Core.Path.{_≡_, refl, sym, ap, _∙_}
 use mathlib.Core.Option.{none}
 use Prim.Native.Nat.{ℕ, _-_, _≤_}
