@@ -1,7 +1,9 @@
 -- The numbers that C is given for what goes wrong in a tray. Every field is fixed: what an answer
--- has no use for is 0.
+-- has no use for is 0. A kind is none of a verdict's, 1 to 4, so that none passes for a yes; refused
+-- and open are those of a diagnosis.
 --
---   faultShown f      kind 0 refused, 1 a row, 2 a column that is lost, 3 a short one, 4 open
+--   faultShown f      kind 0 refused, 6 open, each with its number; 7 a row, 8 a column that is
+--                     lost, 9 a short one
 --   faultReadBack r   what such a result says, read back from its numbers
 --   Claims            nothing is lost by it; proofs/Numbers.antt proves it
 use mathlib.Core.Path.{_≡_}
@@ -11,18 +13,18 @@ use Rattle.faults.specs.Faulting.{Finding, refusedAs, rowAt, columnAt, shortAt,
 use Rattle.c_faults.specs.declared.FaultNumbers.{FaultNumbers}
 
 abbrev pub faultShown : Finding → FaultNumbers
-faultShown (refusedAs x) = record { kind = 0; number = x; column = 0; band = 0; row = 0; bands = 0 }
-faultShown (rowAt b i) = record { kind = 1; number = 0; column = 0; band = b; row = i; bands = 0 }
-faultShown (columnAt c b i) = record { kind = 2; number = 0; column = c; band = b; row = i; bands = 0 }
-faultShown (shortAt c) = record { kind = 3; number = 0; column = c; band = 0; row = 0; bands = 0 }
-faultShown (openWith m) = record { kind = 4; number = 0; column = 0; band = 0; row = 0; bands = m }
+faultShown (refusedAs x) = record { kind = 0; number = x; column = 0; band = 0; row = 0 }
+faultShown (rowAt b i) = record { kind = 7; number = 0; column = 0; band = b; row = i }
+faultShown (columnAt c b i) = record { kind = 8; number = 0; column = c; band = b; row = i }
+faultShown (shortAt c) = record { kind = 9; number = 0; column = c; band = 0; row = 0 }
+faultShown (openWith m) = record { kind = 6; number = m; column = 0; band = 0; row = 0 }
 
 abbrev pub faultReadBack : FaultNumbers → Finding
 faultReadBack r =
     cond (eqb (r .kind) 0) (refusedAs (r .number))
-    (cond (eqb (r .kind) 1) (rowAt (r .band) (r .row))
-    (cond (eqb (r .kind) 2) (columnAt (r .column) (r .band) (r .row))
-    (cond (eqb (r .kind) 3) (shortAt (r .column)) (openWith (r .bands)))))
+    (cond (eqb (r .kind) 7) (rowAt (r .band) (r .row))
+    (cond (eqb (r .kind) 8) (columnAt (r .column) (r .band) (r .row))
+    (cond (eqb (r .kind) 9) (shortAt (r .column)) (openWith (r .number)))))
 
 pub record Claims : Type 0 where
   pub fault-back : (f : Finding) → faultReadBack (faultShown f) ≡ f

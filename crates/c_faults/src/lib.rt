@@ -6,9 +6,9 @@ ghost use Rattle.c_faults.specs.Numbers.{faultShown};
 use faults::TrayFault;
 use trays::Tray;
 
-// Kind 0: refused with the number; 1: the row of the band is not accepted; 2: the column is lost,
-// with the row of the band; 3: the column is not accepted, though it could go on; 4: none of these,
-// with the number of bands that stand before the first empty one. What a kind has no use for is 0.
+// Kind 0: refused with the number; 6: open, with that number of bands before the first empty one;
+// 7: the row of the band is not accepted; 8: the column is lost, with the row of the band; 9: the
+// column is not accepted, though it could go on. What a kind has no use for is 0.
 #[repr(C)]
 pub struct FaultNumbers {
     pub kind: u8,
@@ -16,7 +16,6 @@ pub struct FaultNumbers {
     pub column: u8,
     pub band: u8,
     pub row: u8,
-    pub bands: u8,
 }
 
 #[no_mangle]
@@ -31,39 +30,34 @@ pub extern "C" fn bellbadger_tray_fault(tray: Tray) -> FaultNumbers
             column: 0,
             band: 0,
             row: 0,
-            bands: 0,
         },
         TrayFault::Row(band, row) => FaultNumbers {
-            kind: 1,
+            kind: 7,
             number: 0,
             column: 0,
             band,
             row,
-            bands: 0,
         },
         TrayFault::Column(column, band, row) => FaultNumbers {
-            kind: 2,
+            kind: 8,
             number: 0,
             column,
             band,
             row,
-            bands: 0,
         },
         TrayFault::Short(column) => FaultNumbers {
-            kind: 3,
+            kind: 9,
             number: 0,
             column,
             band: 0,
             row: 0,
-            bands: 0,
         },
-        TrayFault::Open(bands) => FaultNumbers {
-            kind: 4,
-            number: 0,
+        TrayFault::Open(number) => FaultNumbers {
+            kind: 6,
+            number,
             column: 0,
             band: 0,
             row: 0,
-            bands,
         },
     }
 }
