@@ -91,6 +91,35 @@ BELLBADGER_RESULT bellbadger_tray_withdraw_result bellbadger_tray_withdraw(bellb
 /* Changes nothing. Refused with 21 no board is open. */
 BELLBADGER_RESULT bellbadger_tray_verdict_result bellbadger_tray_verdict(bellbadger_tray tray);
 
+/* Where a tray goes wrong, while bands are still missing too. Of these the first that there is:
+ *
+ *   a row that the row rule does not accept, of any band that stands, the first by band and then by row;
+ *   a column that is lost over the bands before the first empty one: its events there cannot be continued by
+ *   any others to a text that the column rule accepts; the first such column, and the row by which it is lost;
+ *   a column that stopped too early: it is not accepted though it could go on, and all bands stand; the first.
+ *
+ * No band that is delivered later mends a row or a lost column: no verdict is yes until the band that is named
+ * or, of a column, one before it is withdrawn, or a board is opened or a rule installed anew. A column rule that
+ * accepts no text at all loses column 0 by row 0 of band 0, whatever stands there, if only no row is wrong.
+ *
+ * BELLBADGER_REFUSED, 0, is a refusal, and BELLBADGER_OPEN, 6, says that there is none of these so far. The kind
+ * is no truth value: compare it. No kind is one of a verdict. Open is no yes while bands are missing; whether to
+ * ship is for bellbadger_tray_verdict to say, which over a full board is yes exactly where this is open. */
+enum {
+    BELLBADGER_FAULT_ROW = 7,    /* band, row */
+    BELLBADGER_FAULT_COLUMN = 8, /* column, band, row */
+    BELLBADGER_FAULT_SHORT = 9   /* column */
+};
+
+/* All are counted from 0, a row from the first of its band on. What the kind does not have is 0. */
+typedef struct {
+    uint8_t kind, number; /* of a refusal: why; of BELLBADGER_OPEN: how many bands stand before the first empty one */
+    uint8_t column, band, row;
+} bellbadger_tray_fault_result;
+
+/* Changes nothing. Refused with 21 no board is open. */
+BELLBADGER_RESULT bellbadger_tray_fault_result bellbadger_tray_fault(bellbadger_tray tray);
+
 #ifdef __cplusplus
 }
 #endif

@@ -295,6 +295,42 @@ static void short_losses(const char *name, uint32_t initials) {
     }
 }
 
+/* looking where a full tray of made events goes wrong, by one rule for rows and columns, beside a verdict on it */
+static void tray_fault(const char *name, bellbadger_checked_rule r, int kind) {
+    double ratios[ROUNDS], micros[ROUNDS];
+    bellbadger_tray t = bellbadger_tray_install_column(bellbadger_tray_install_row(bellbadger_tray_new(), r).tray, r).tray;
+    t = bellbadger_tray_open(t, 16, 8).tray;
+    for (size_t band = 0; band < 8; band++) t = bellbadger_tray_deliver(t, band, text + 1024 * band, 1024).tray;
+    if (bellbadger_tray_fault(t).kind != kind) exit(1);
+    for (int round = 0; round < ROUNDS; round++) {
+        double a = now();
+        for (int i = 0; i < 20; i++) sink += bellbadger_tray_verdict(t).kind;
+        double b = now();
+        for (int i = 0; i < 20; i++) sink += bellbadger_tray_fault(t).kind;
+        double c = now();
+        micros[round] = (c - b) / 20, ratios[round] = (c - b) / (b - a);
+    }
+    qsort(micros, ROUNDS, sizeof micros[0], rising);
+    qsort(ratios, ROUNDS, sizeof ratios[0], rising);
+    printf("  %-34s %8.1f us, ratio %.2f\n", name, micros[ROUNDS / 2], ratios[ROUNDS / 2]);
+}
+
+static void tray_faults(void) {
+    bellbadger_checked_rule one = {.n = 1, .k = 2, .initials = 1, .finals = 1, .targets = {1, 1}};
+    bellbadger_checked_rule ends = {.n = 2, .k = 2, .initials = 1, .finals = 2, .targets = {3, 1}}; /* in 0: half of the rows do not */
+    bellbadger_checked_rule turns = {.n = 32, .k = 2, .initials = 1, .finals = 0xffffffffu}, all = turns;
+    for (int q = 0; q < 32; q++) {
+        turns.targets[16 * q] = 1u << (q + 1) % 32, turns.targets[16 * q + 1] = 1u << q;
+        all.targets[16 * q] = all.targets[16 * q + 1] = 0xffffffffu;
+    }
+    printf("where a tray of 512 rows of 16 goes wrong, beside a verdict on it\n");
+    texts(2);
+    tray_fault("nowhere, by rules of one state", one, BELLBADGER_OPEN);
+    tray_fault("32 states, in one at a time", turns, BELLBADGER_OPEN);
+    tray_fault("32 states, in all at once", all, BELLBADGER_OPEN);
+    tray_fault("in one of the first rows", ends, BELLBADGER_FAULT_ROW);
+}
+
 int main(void) {
     bellbadger_judge j = meeting(32);
     printf("a chunk of 65,536 bytes, beside one plain table walk in C over the same text\n");
@@ -311,6 +347,7 @@ int main(void) {
     texts(2);
     beside("runs die within 32 bytes", path(32), 1);
     followings();
+    tray_faults();
 
     static uint8_t marked[BYTES];
     made(marked, 16, 3);

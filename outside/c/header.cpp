@@ -36,6 +36,7 @@ static bool right() {
     bellbadger_tray_deliver_result band = bellbadger_tray_deliver(tray.tray, 0, text, sizeof text);
     bellbadger_tray_withdraw_result no_band = bellbadger_tray_withdraw(tray.tray, 0);
     bellbadger_tray_verdict_result of_tray = bellbadger_tray_verdict(band.tray);
+    bellbadger_tray_fault_result fault = bellbadger_tray_fault(band.tray);
     bellbadger_replay_result replayed = bellbadger_replay(reinterpret_cast<const uint8_t *>(record), std::strlen(record));
     static_assert(sizeof(bellbadger_profile) == BELLBADGER_PROFILE_SIZE, "the size that the header says");
     bellbadger_profile_build_result built = bellbadger_profile_build(read.rule);
@@ -61,6 +62,7 @@ static bool right() {
         && bellbadger_tray_size() == sizeof(bellbadger_tray) && row.accepted && row.sets == 5 && column.accepted && tray.accepted
         && band.accepted && band.tray.board.rows[0] == 1 && !no_band.accepted && no_band.refused == 23
         && of_tray.kind == BELLBADGER_NO && of_tray.number == 0 && !bellbadger_tray_is_yes(of_tray)
+        && fault.kind == BELLBADGER_FAULT_SHORT && fault.number == 0 && fault.column == 0 && fault.band == 0 && fault.row == 0
         && replayed.kind == BELLBADGER_MALFORMED && replayed.number == 2 && made_result.accepted && made[0] == 1 && made[2] == 9
         && formed.accepted && formed.form.sets == 5 && formed.form.failure[4] == 3 && formed.form.cells[3] == BELLBADGER_EMPTY_SET
         && table.accepted && table.table.next[16] == 1;

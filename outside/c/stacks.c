@@ -105,6 +105,9 @@ CALL(tray_deliver, bellbadger_tray_deliver_result, bellbadger_tray_deliver(tray_
 CALL(tray_deliver_late, bellbadger_tray_deliver_result, bellbadger_tray_deliver(tray_filled, 0, plain, 128))
 CALL(tray_withdraw, bellbadger_tray_withdraw_result, bellbadger_tray_withdraw(tray_filled, 0))
 CALL(tray_verdict, bellbadger_tray_verdict_result, bellbadger_tray_verdict(tray_filled))
+CALL(tray_fault, bellbadger_tray_fault_result, bellbadger_tray_fault(tray_filled))
+CALL(tray_fault_opened, bellbadger_tray_fault_result, bellbadger_tray_fault(tray_opened))
+CALL(tray_fault_no_board, bellbadger_tray_fault_result, bellbadger_tray_fault(tray))
 
 static const struct {
     const char *function;
@@ -137,6 +140,7 @@ static const struct {
     {"tray_open", tray_open},
     {"tray_deliver", tray_deliver}, {"tray_deliver", tray_deliver_late},
     {"tray_withdraw", tray_withdraw}, {"tray_verdict", tray_verdict},
+    {"tray_fault", tray_fault}, {"tray_fault", tray_fault_opened}, {"tray_fault", tray_fault_no_board},
 };
 enum { CALLS = sizeof calls / sizeof calls[0] };
 

@@ -49,6 +49,7 @@ static void *caller(void *unused) {
     bellbadger_tray_deliver_result band = bellbadger_tray_deliver(tray.tray, 0, chunk, 2);
     bellbadger_tray_withdraw_result no_band = bellbadger_tray_withdraw(band.tray, 0);
     bellbadger_tray_verdict_result of_tray = bellbadger_tray_verdict(band.tray);
+    bellbadger_tray_fault_result fault = bellbadger_tray_fault(band.tray);
     CHECK(bellbadger_version() == BELLBADGER_VERSION && bellbadger_state_size() == sizeof judge);
     CHECK(bellbadger_profile_size() == sizeof built.profile && bellbadger_tray_size() == sizeof tray.tray);
     CHECK(read.accepted && loaded.accepted && installed.accepted && opened.accepted && delivered.accepted && withdrawn.accepted);
@@ -59,7 +60,7 @@ static void *caller(void *unused) {
     CHECK(bellbadger_follower_size() == sizeof follower.follower && follower.accepted && followed.accepted && followed_by.ends);
     CHECK(sample.kind == BELLBADGER_SAMPLE && file.accepted && merged.accepted && text.accepted && form.accepted && table.accepted);
     CHECK(row.accepted && column.accepted && tray.accepted && band.accepted && no_band.accepted);
-    CHECK(of_tray.kind == BELLBADGER_NO && !bellbadger_tray_is_yes(of_tray));
+    CHECK(of_tray.kind == BELLBADGER_NO && !bellbadger_tray_is_yes(of_tray) && fault.kind == BELLBADGER_FAULT_SHORT);
     return unused;
 }
 

@@ -143,8 +143,8 @@ NO_SIZES = (
 )
 
 # what takes no arguments, and what the package alone makes
-WITHOUT = {"version", "Judge", "Tray", "Judge.verdict", "Judge.diagnose", "Tray.verdict", "Follower.begin", "Follower.drop_refused"}
-ANSWERS = {"Loaded", "Looked", "Waiting", "Yes", "No", "TrayWaiting", "TrayYes", "TrayNo", "TrayRefused", "Lost", "Open", "Followed", "Refused", "Malformed"}
+WITHOUT = {"version", "Judge", "Tray", "Judge.verdict", "Judge.diagnose", "Tray.verdict", "Tray.fault", "Follower.begin", "Follower.drop_refused"}
+ANSWERS = {"Loaded", "Looked", "Waiting", "Yes", "No", "TrayWaiting", "TrayYes", "TrayNo", "TrayRefused", "Row", "Column", "Short", "Lost", "Open", "Followed", "Refused", "Malformed"}
 
 
 def public_functions():

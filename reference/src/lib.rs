@@ -23,4 +23,5 @@ pub mod samples;
 pub mod shrink;
 pub mod table;
 pub mod tally;
+pub mod trayfaults;
 pub mod trays;

@@ -6,19 +6,19 @@ use crate::lines::{answers_by, bytes, hex, number};
 use crate::random::Random;
 use crate::rule::{Automaton, Rule};
 
-struct Board {
-    width: usize,
-    bands: Vec<Option<Vec<u8>>>,
+pub(crate) struct Board {
+    pub(crate) width: usize,
+    pub(crate) bands: Vec<Option<Vec<u8>>>,
 }
 
 #[derive(Default)]
 pub struct Tray {
-    row: Option<Rule>,
-    column: Option<Rule>,
-    board: Option<Board>,
+    pub(crate) row: Option<Rule>,
+    pub(crate) column: Option<Rule>,
+    pub(crate) board: Option<Board>,
 }
 
-fn accepts(rule: &Rule, text: &[u8]) -> bool {
+pub(crate) fn accepts(rule: &Rule, text: &[u8]) -> bool {
     rule.automaton.accepts_from(rule.automaton.initial, text)
 }
 
@@ -101,7 +101,7 @@ impl Tray {
     }
 
     /// What the tray says to a line, or none if the line is malformed.
-    fn said(&mut self, line: &[u8]) -> Option<String> {
+    pub fn said(&mut self, line: &[u8]) -> Option<String> {
         Some(self.call(line)?.unwrap_or_else(|number| format!("refused {number}")))
     }
 }
@@ -113,7 +113,7 @@ pub fn answers(text: &[u8]) -> String {
 
 /// A rule of a few states and symbols, of which most are final and most have arcs, so that not every verdict
 /// is no.
-fn small(r: &mut Random) -> Automaton {
+pub(crate) fn small(r: &mut Random) -> Automaton {
     let mut a = blank(r.range(1, 4), r.range(2, 4));
     let all = all_states(a.n);
     a.initial = 1;

@@ -4,10 +4,10 @@ use mathlib.Core.Logic.{_↔_}
 use Rattle.masks.specs.Masks.{_∈_}
 use Rattle.automaton.specs.Rules.{automatonOf}
 use Rattle.delegates.specs.Alike.{Live}
+use Rattle.live.proofs.Rounds.{live-law}
 use Rattle.follow.specs.declared.Follower.{Follower}
 use Rattle.follow.specs.Claims.{Claims}
 use Rattle.follow.proofs.Examples.{answered}
-use Rattle.follow.proofs.Rounds.{live-law}
 use Rattle.follow.proofs.Numbers as numbers
 use Rattle.follow.proofs.Lists as lists
 use Rattle.follow.proofs.Ways as ways
@@ -16,7 +16,6 @@ use Rattle.follow.proofs.Cuts.{cut, followed-cut}
 pub claims : Claims
 claims = record {
   answered = answered;
-  live = live-law;
   numbers = numbers.numbers;
   refused = λ r m w x. numbers.refused r w m x;
   accepted = λ r m w. numbers.follow-is r w m;

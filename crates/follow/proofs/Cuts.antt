@@ -16,11 +16,13 @@ use Rattle.marks.proofs.Claims as marks
 use Rattle.automaton.specs.declared.Rule.{Rule}
 use Rattle.automaton.specs.Automaton.{Text}
 use Rattle.automaton.specs.Rules.{WellFormed}
-use Rattle.follow.specs.Live.{liveOf}
+use Rattle.live.specs.Live.{liveOf}
+use Rattle.live.specs.Continued.{CanEnd}
+use Rattle.live.proofs.Hope.{shorter, moved}
 use Rattle.follow.specs.Following.{setAfter, lostBy, placeOf, nextBy, followNumber, walkOf, followOf}
-use Rattle.follow.specs.Claims.{CanEnd, LostAt, Cut}
+use Rattle.follow.specs.Claims.{LostAt, Cut}
 use Rattle.follow.proofs.Steps.{set-append}
-use Rattle.follow.proofs.Hope.{shorter, moved, lost-law, kept-law}
+use Rattle.follow.proofs.Losing.{lost-law, kept-law}
 use Rattle.follow.proofs.Numbers as numbers
 
 no-text : textOf [] ≡ []

@@ -5,7 +5,7 @@ use Rattle.masks.specs.Masks.{union, maskOf}
 use Rattle.marks.specs.Marks.{textOf}
 use Rattle.rulecheck.specs.Checking.{badTargets}
 use Rattle.chunks.specs.Chunks.{foreign}
-use Rattle.follow.specs.Live.{within}
+use Rattle.live.specs.Live.{within}
 use Rattle.follow.specs.Following.{leastBelow, followNumber, followOf}
 use Rattle.follow.specs.Worked.{cases, Answered}
 

@@ -2,8 +2,7 @@ pub mod Steps
 pub mod Caching
 pub mod Numbers
 pub mod Ways
-pub mod Rounds
-pub mod Hope
+pub mod Losing
 pub mod Lists
 pub mod Cuts
 pub mod Examples

@@ -21,12 +21,14 @@ use Rattle.automaton.specs.Automaton.{Accepts}
 use Rattle.automaton.specs.Rules.{automatonOf, WellFormed}
 use Rattle.automaton.specs.Successor.{successor, after, Reached}
 use Rattle.automaton.proofs.Laws.{successor-law, after-append, after-law, accepts-law}
-use Rattle.follow.specs.Live.{liveOf}
+use Rattle.live.specs.Live.{liveOf}
+use Rattle.live.specs.Continued.{Continued, AcceptsIn, CanEnd}
+use Rattle.live.proofs.Rounds.{run-state}
+use Rattle.live.proofs.Hope.{ends-law, hope, no-hope, shorter, moved, dead-on, continued-before}
 use Rattle.follow.specs.Following.{setAfter, leastBelow, lostBy, placeOf, nextBy, followNumber, walkOf, followOf}
-use Rattle.follow.specs.Claims.{AcceptsIn, CanEnd, LostAt, One, keptSet, handed, keptText, takenText, Continues, Followed-so}
+use Rattle.follow.specs.Claims.{LostAt, One, keptSet, handed, keptText, takenText, Followed-so}
 use Rattle.follow.proofs.Steps.{after-rest}
-use Rattle.follow.proofs.Rounds.{run-state}
-use Rattle.follow.proofs.Hope.{ends-law, hope, no-hope, shorter, moved, dead-on, lost-law, kept-law, next-law}
+use Rattle.follow.proofs.Losing.{lost-law, kept-law, next-law}
 use Rattle.follow.proofs.Numbers.{checked-rule, follow-is, refused-is}
 
 -- ---- one call
@@ -191,15 +193,15 @@ module _ (r : Rule) where
           λ x. here .0 (sym e ∙ there .0 x),
         )
 
-    continues-too : (v : List ℕ) → CanEnd r (handed r (r .initials) ws) v ↔ Continues r (takenText r ws ++ v)
+    continues-too : (v : List ℕ) → CanEnd r (handed r (r .initials) ws) v ↔ Continued (automatonOf r) (takenText r ws ++ v)
     continues-too v = (
       (λ c. record {
         rest = c .rest;
-        accepted = subst (Accepts (automatonOf r)) (sym (append-assoc (takenText r ws) v (c .rest))) (accepts-too (v ++ c .rest) .0 (c .accepts));
+        accepts = subst (Accepts (automatonOf r)) (sym (append-assoc (takenText r ws) v (c .rest))) (accepts-too (v ++ c .rest) .0 (c .accepts));
       }),
       λ c. record {
         rest = c .rest;
-        accepts = accepts-too (v ++ c .rest) .1 (subst (Accepts (automatonOf r)) (append-assoc (takenText r ws) v (c .rest)) (c .accepted));
+        accepts = accepts-too (v ++ c .rest) .1 (subst (Accepts (automatonOf r)) (append-assoc (takenText r ws) v (c .rest)) (c .accepts));
       },
     )
 
@@ -236,7 +238,7 @@ module _ (r : Rule) where
           not-lost = ((λ e. continues-too (textOf w) .0 (call .not-lost .0 e)), λ c. call .not-lost .1 (continues-too (textOf w) .1 c));
           every-shorter = λ b e v u is.
               let c = continues-too (textOf (take b w)) .0 (call .lost (suc b) .0 e .before b (omega arith)) in
-              record { rest = u ++ c .rest; accepted = subst (Accepts (automatonOf r)) (ap (λ (x : List ℕ). x ++ c .rest) is ∙ append-assoc v u (c .rest)) (c .accepted) };
+              continued-before (automatonOf r) v u (subst (Continued (automatonOf r)) is c);
           expected-there = λ b s e.
               let x = call .expected-there b s e in
               let y = continues-too (textOf (take (b - 1) w) ++ (s ∷ [])) in

@@ -1,6 +1,5 @@
 -- One step of each loop, and what the search for the least number finds. Assumes nothing.
 --
---   cell                     a cell of the table is a target mask
 --   stray-one                a byte that is neither an idle mark nor below k, by one comparison
 --   stray-more               what is foreign in the bytes passed, one byte more
 --   step-idle, step-symbol   the set after one byte
@@ -13,7 +12,7 @@ use mathlib.Core.Logic.{_⊎_, inl, inr, ⊎-elim}
 use mathlib.Core.Bool.{Bool, true, false, not, _||_, or-false}
 use mathlib.Core.List.{List, [], _∷_, _++_}
 use mathlib.Core.Option.{Option, none, some}
-use Prim.Native.Nat.{ℕ, zero, suc, _+_, _-_, _*_, _%_, _≤_, _<_}
+use Prim.Native.Nat.{ℕ, zero, suc, _+_, _-_, _%_, _≤_, _<_}
 use native.Mathlib.Nat.{eq-or-lt-of-le, le-of-suc-le-suc}
 use native.Mathlib.Numerals.{add-one}
 use native.Mathlib.Omega.{arith}
@@ -26,34 +25,10 @@ use Rattle.base.proofs.Tests.{by-test}
 use Rattle.masks.specs.Masks.{shares}
 use Rattle.marks.specs.Marks.{textOf}
 use Rattle.marks.proofs.Claims as marks
-use Rattle.automaton.specs.Rules.{targetMask}
 use Rattle.automaton.specs.Successor.{successor, after}
 use Rattle.automaton.proofs.Claims as automaton
 use Rattle.chunks.specs.Chunks.{foreign}
-use Rattle.follow.specs.Live.{backTo, within}
 use Rattle.follow.specs.Following.{setAfter, orHere, leastBelow, lostBy, placeOf, wayOf}
-
-pub cell : (ts : List ℕ) (q s : ℕ) → s < 16 → getD ts (q * 16 + s) 0 ≡ targetMask ts q s
-cell ts q s h = rw (lt-ltb s 16 h)
-
--- ---- rounds backwards
-module _ (ts : List ℕ) (m : ℕ) where
-  -- where a round adds nothing, none after it does
-  pub within-still : (i j : ℕ) → backTo ts (within ts m i) ≡ within ts m i → within ts m (j + i) ≡ within ts m i
-  unfolding within
-  within-still i zero e = let z : 0 + i ≡ i = omega arith in ap (within ts m) z
-  within-still i (suc j) e =
-      let z : suc j + i ≡ suc (j + i) = omega arith in
-      ap (within ts m) z ∙ ap (backTo ts) (within-still i j e) ∙ e
-
-  pub within-more : (i live : ℕ) → live ≡ within ts m i → backTo ts live ≡ within ts m (i + 1)
-  unfolding within
-  within-more i live is = rw add-one (ap (backTo ts) is)
-
-  pub within-whole : (i live : ℕ) → live ≡ within ts m i → i ≤ 32 → backTo ts live ≡ live → live ≡ within ts m 32
-  within-whole i live is h e =
-      let z : 32 - i + i ≡ 32 = omega arith in
-      is ∙ sym (within-still i (32 - i) (ap (backTo ts) (sym is) ∙ e ∙ is)) ∙ ap (within ts m) z
 
 -- ---- foreign bytes
 stray-idle : (b k : ℕ) → b ≡ 255 → foreign (textOf (b ∷ [])) k ≡ false

@@ -29,7 +29,7 @@ use Rattle.chunks.specs.Chunks.{foreign}
 use Rattle.chunks.specs.Taking.{chunkNumber}
 use Rattle.chunks.proofs.Claims as chunks
 use Rattle.follow.specs.declared.Follower.{Follower}
-use Rattle.follow.specs.Live.{liveOf}
+use Rattle.live.specs.Live.{liveOf}
 use Rattle.follow.specs.Following.{nextBy, Walk, wayOf, Outcome, refusedFollow, walkBy, walkOf, takenBy, lentOf, followOf, followerOf, noFollower, Prepared, prepareBy, prepareOf, followByOf}
 use Rattle.follow.specs.Claims.{Prepared-so}
 use Rattle.follow.proofs.Numbers.{first-is, then-is}

@@ -1,17 +1,14 @@
 -- What following says, for every checked rule, every set, every chunk and every list of chunks;
--- proofs/Claims.antt proves it.
+-- proofs/Claims.antt proves it. `Continued`, `AcceptsIn` and `CanEnd` are of crates/live.
 --
---   AcceptsIn r m v       an accepting run over v starts in a state of the set m
---   CanEnd r m v          some text continues v to one over which such a run starts
 --   LostAt r m w b        b is the least number of bytes of the chunk w, idle marks counted, after
---                         which there is none
+--                         which no text continues it to one over which an accepting run starts in m
 --   Refused-exactly r w   which number following is refused with, condition by condition
 --   One r m w             what an accepted call answers, from any set m
 --   keptSet r m w         the set that the caller holds after a call: the answer's; the old one where
 --                         the chunk is refused
 --   handed r m ws         the set that is handed on from chunk to chunk, oldest first
 --   keptText, takenText   the text of the chunks that were not refused, joined
---   Continues r v         some text continues v to one that the rule accepts
 --   Cut n first second whole   `whole` says of a chunk what `first` says of its first n bytes and `second`
 --                         of the others, from the set after those
 --   Prepared-so r         what preparing the rule r answers, and following by it
@@ -34,27 +31,17 @@ use Rattle.automaton.specs.Rules.{automatonOf, WellFormed}
 use Rattle.automaton.specs.Successor.{Reached}
 use Rattle.rulecheck.specs.Checking.{ruleNumber}
 use Rattle.chunks.specs.Taking.{chunkNumber}
-use Rattle.delegates.specs.Alike.{AcceptsFrom, Live}
-use Rattle.follow.specs.Live.{liveOf}
+use Rattle.delegates.specs.Alike.{Live}
+use Rattle.live.specs.Continued.{Continued, AcceptsIn, CanEnd}
 use Rattle.follow.specs.Worked.{cases, Answered}
 use Rattle.follow.specs.declared.Follower.{Follower}
 use Rattle.follow.specs.Following.{followNumber, Outcome, refusedFollow, walkOf, followOf, noFollower, prepareOf, followByOf}
 
 -- ---- one call
-module _ (r : Rule) (m : ℕ) where
-  pub record AcceptsIn (v : List ℕ) : Type 0 where
-    pub from : ℕ
-    pub member : from ∈ m
-    pub accepts : AcceptsFrom (automatonOf r) from v
-
-  pub record CanEnd (v : List ℕ) : Type 0 where
-    pub rest : List ℕ
-    pub accepts : AcceptsIn (v ++ rest)
-
-  pub record LostAt (w : List ℕ) (b : ℕ) : Type 0 where
-    pub within : b ≤ length w
-    pub lost : CanEnd (textOf (take b w)) → ⊥
-    pub before : (i : ℕ) → i < b → CanEnd (textOf (take i w))
+pub record LostAt (r : Rule) (m : ℕ) (w : List ℕ) (b : ℕ) : Type 0 where
+  pub within : b ≤ length w
+  pub lost : CanEnd r m (textOf (take b w)) → ⊥
+  pub before : (i : ℕ) → i < b → CanEnd r m (textOf (take i w))
 
 pub record Refused-exactly (r : Rule) (w : List ℕ) : Type 0 where
   -- 3, 4, 6 and 8 as installing gives them
@@ -102,10 +89,6 @@ module _ (r : Rule) where
   abbrev pub takenText : List (List ℕ) → List ℕ
   takenText ws = flatten (map keptText ws)
 
-  pub record Continues (v : List ℕ) : Type 0 where
-    pub rest : List ℕ
-    pub accepted : Accepts (automatonOf r) (v ++ rest)
-
   module _ (ws : List (List ℕ)) (w : List ℕ) where
     pub record Followed-so : Type 0 where
       -- the set is the reached one over the joined text, and it has a final state exactly where the
@@ -115,16 +98,16 @@ module _ (r : Rule) where
       -- lost at b: the text up to there has no continuation that the rule accepts, and each that is
       -- shorter by bytes of this chunk has one
       pub lost : (b : ℕ) → (followOf r (handed (r .initials) ws) w .lost ≡ some b)
-          ↔ ((b ≤ length w) × (Continues (takenText ws ++ textOf (take b w)) → ⊥) × ((i : ℕ) → i < b → Continues (takenText ws ++ textOf (take i w))))
-      pub not-lost : (followOf r (handed (r .initials) ws) w .lost ≡ none) ↔ Continues (takenText ws ++ textOf w)
+          ↔ ((b ≤ length w) × (Continued (automatonOf r) (takenText ws ++ textOf (take b w)) → ⊥) × ((i : ℕ) → i < b → Continued (automatonOf r) (takenText ws ++ textOf (take i w))))
+      pub not-lost : (followOf r (handed (r .initials) ws) w .lost ≡ none) ↔ Continued (automatonOf r) (takenText ws ++ textOf w)
       -- and so does each shorter text from the very beginning, where it is lost by a byte of this chunk
       pub every-shorter : (b : ℕ) → followOf r (handed (r .initials) ws) w .lost ≡ some (suc b)
-          → (v u : List ℕ) → takenText ws ++ textOf (take b w) ≡ v ++ u → Continues v
+          → (v u : List ℕ) → takenText ws ++ textOf (take b w) ≡ v ++ u → Continued (automatonOf r) v
       -- symbol s could have stood there, and could come next
       pub expected-there : (b s : ℕ) → followOf r (handed (r .initials) ws) w .lost ≡ some b
-          → s ∈ followOf r (handed (r .initials) ws) w .expected ↔ Continues (takenText ws ++ (textOf (take (b - 1) w) ++ (s ∷ [])))
+          → s ∈ followOf r (handed (r .initials) ws) w .expected ↔ Continued (automatonOf r) (takenText ws ++ (textOf (take (b - 1) w) ++ (s ∷ [])))
       pub expected-next : (s : ℕ) → followOf r (handed (r .initials) ws) w .lost ≡ none
-          → s ∈ followOf r (handed (r .initials) ws) w .expected ↔ Continues (takenText ws ++ (textOf w ++ (s ∷ [])))
+          → s ∈ followOf r (handed (r .initials) ws) w .expected ↔ Continued (automatonOf r) (takenText ws ++ (textOf w ++ (s ∷ [])))
       -- the end could have stood there, and can stand here
       pub complete-there : (b : ℕ) → followOf r (handed (r .initials) ws) w .lost ≡ some (suc b)
           → (followOf r (handed (r .initials) ws) w .complete ≡ true) ↔ Accepts (automatonOf r) (takenText ws ++ textOf (take b w))
@@ -157,8 +140,6 @@ pub record Prepared-so (r : Rule) : Type 0 where
 pub record Claims : Type 0 where
   -- chunks worked by hand
   pub answered : Answered cases
-  -- the mask of live states has those from which a final state can be reached
-  pub live : (r : Rule) → WellFormed r → (q : ℕ) → q ∈ liveOf r ↔ Live (automatonOf r) q
   -- refusals: which number; it carries zeros
   pub numbers : (r : Rule) (w : List ℕ) → Refused-exactly r w
   pub refused : (r : Rule) (m : ℕ) (w : List ℕ) (x : ℕ) → (followOf r m w ≡ refusedFollow x) ↔ (followNumber r w ≡ some x)

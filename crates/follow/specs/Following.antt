@@ -47,7 +47,7 @@ use Rattle.follow.specs.declared.Followed.{Followed}
 use Rattle.follow.specs.declared.Follower.{Follower}
 use Rattle.follow.specs.declared.PrepareResult.{PrepareResult}
 use Rattle.follow.specs.declared.Way.{Way}
-use Rattle.follow.specs.Live.{liveOf}
+use Rattle.live.specs.Live.{liveOf}
 
 -- ---- the set, and where it is lost
 abbrev pub setAfter : List ℕ → ℕ → List ℕ → ℕ

@@ -1,5 +1,4 @@
 -- In the order in which to read them.
-pub mod Live
 pub mod Following
 pub mod Cache
 pub mod Worked

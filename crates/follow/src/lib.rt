@@ -5,14 +5,12 @@ ghost use mathlib.Core.Path.{_≡_};
 ghost use mathlib.Core.List.{_∷_, []};
 ghost use Prim.Native.Nat.{_≤_, _<_};
 ghost use lib.ListN.{length};
-ghost use Rattle.limits.specs.Limits.{mostStates, longestChunk};
+ghost use Rattle.limits.specs.Limits.{longestChunk};
 ghost use Rattle.marks.specs.Marks.{textOf};
 ghost use Rattle.chunks.specs.Chunks.{foreign};
-ghost use Rattle.follow.specs.Live.{leads as leadsTo, backTo, within};
 ghost use Rattle.follow.specs.Cache.{cacheRows, Cached, Stepped};
 ghost use Rattle.follow.specs.Following.{nextBy, wayOf, wayOutcome, refusedFollow, followOutcome, followOf, lentOf, followByOf, prepareOutcome, prepareOf};
 use automaton::Rule;
-use masks::StateNumber;
 use rulecheck::CheckAnswer;
 
 // The chunk is followed, or a refusal.
@@ -72,55 +70,6 @@ const CACHE: usize = 976;
 struct Here {
     set: u32,
     row: u8,
-}
-
-// Whether some arc leads from the state to a member of the set.
-fn leads(targets: &[u32; limits::TARGETS], set: u32, q: StateNumber) -> bool
-    requires { ⌜ q .0 < mostStates ⌝ }
-    ensures { λ r. ⌜ r ≡ leadsTo (now (targets .entry)) set (q .0) ⌝ }
-{
-    let row = q.0 as usize;
-    let mut s: usize = 0;
-    while s < limits::SYMBOLS {
-        if masks::meets(targets[row * limits::SYMBOLS + s], set) {
-            return true;
-        }
-        s += 1;
-    }
-    false
-}
-
-// The set, with every state from which an arc leads to a member of it.
-fn back_to(targets: &[u32; limits::TARGETS], set: u32) -> u32
-    ensures { λ r. ⌜ r ≡ backTo (now (targets .entry)) set ⌝ }
-{
-    let mut found: u32 = 0;
-    let mut q: u8 = 0;
-    while q < limits::MOST_STATES {
-        if leads(targets, set, StateNumber(q)) {
-            found = masks::union(found, masks::singleton(StateNumber(q)));
-        }
-        q += 1;
-    }
-    masks::union(set, found)
-}
-
-// The states from which a final state can be reached: backwards from the final states, until
-// nothing is new, which is so after 32 rounds at the latest.
-fn live_states(targets: &[u32; limits::TARGETS], finals: u32) -> u32
-    ensures { λ r. ⌜ r ≡ within (now (targets .entry)) finals mostStates ⌝ }
-{
-    let mut live = finals;
-    let mut i: usize = 0;
-    while i < limits::STATES {
-        let more = back_to(targets, live);
-        if more == live {
-            return live;
-        }
-        live = more;
-        i += 1;
-    }
-    live
 }
 
 // The symbols below k after which a state of the mask `live` is reached from the set. None leads
@@ -307,7 +256,7 @@ pub fn follow(rule: Rule, set: u32, chunk: &[u8]) -> Followed
     match checked {
         CheckAnswer::Refused(number) => refuse(number),
         CheckAnswer::Passed => {
-            let live = live_states(&rule.targets, rule.finals);
+            let live = live::live_states(&rule.targets, rule.finals);
             follow_lent(&rule.targets, rule.finals, live, rule.k, set, chunk)
         }
     }
@@ -330,7 +279,7 @@ pub fn prepare(rule: Rule) -> PrepareResult
         }
         CheckAnswer::Passed => {
             let answer = FollowAnswer::Accepted;
-            let live = live_states(&rule.targets, rule.finals);
+            let live = live::live_states(&rule.targets, rule.finals);
             let follower = Follower { rule, live };
             PrepareResult { answer, follower }
         }

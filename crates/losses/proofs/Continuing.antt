@@ -26,6 +26,7 @@ use Rattle.automaton.specs.Automaton.{Accepts, Text}
 use Rattle.automaton.specs.Rules.{automatonOf, WellFormed}
 use Rattle.automaton.specs.Successor.{after}
 use Rattle.automaton.proofs.Laws.{after-below}
+use Rattle.live.specs.Continued.{Continued}
 use Rattle.subsets.specs.Claims.{fits}
 use Rattle.delegates.specs.Alike.{AcceptsFrom, Delegate, delegateIn, ofDelegate}
 use Rattle.delegates.specs.Claims.{startsIn}
@@ -38,7 +39,6 @@ use Rattle.joins.proofs.Claims as joins
 use Rattle.histories.specs.History.{runAt, endOf, standingText, joinedUpTo}
 use Rattle.histories.proofs.Running.{merged, delegate-below}
 use Rattle.histories.proofs.VerdictClauses.{chunksUpTo, chunks-length, chunk-at, chunk-texts, texts-more, flatten-more, joined-is, filled}
-use Rattle.losses.specs.Losses.{Continued}
 use Rattle.losses.proofs.Living.{has-delegate, lives, lives-law, alive-text, alive-by, accepting-on, accepting-back}
 
 text-append : (k : ℕ) (u v : List ℕ) → Text k u → Text k v → Text k (u ++ v)

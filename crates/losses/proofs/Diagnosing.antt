@@ -19,6 +19,7 @@ use Rattle.base.proofs.Tests.{by-test, not-both}
 use Rattle.automaton.specs.declared.Rule.{Rule}
 use Rattle.automaton.specs.Automaton.{Automaton}
 use Rattle.automaton.specs.Rules.{automatonOf}
+use Rattle.live.specs.Continued.{Continued}
 use Rattle.delegates.specs.Alike.{delegateIn}
 use Rattle.delegates.specs.Claims.{startsIn}
 use Rattle.chunks.specs.Chunks.{delegateSet}
@@ -36,7 +37,7 @@ use Rattle.histories.proofs.Running.{n-same, delegate-below}
 use Rattle.histories.proofs.Agreement.{Agrees}
 use Rattle.histories.proofs.Numbers.{no-board, places-same}
 use Rattle.histories.proofs.EveryList.{good, every-list}
-use Rattle.losses.specs.Losses.{Continued, FilledAt, Lost, Open, Diagnosed}
+use Rattle.losses.specs.Losses.{FilledAt, Lost, Open, Diagnosed}
 use Rattle.losses.proofs.Continuing.{liveAt, continues-all, live-all}
 
 -- ---- the words over an automaton, a number of places and what stands at each

@@ -20,6 +20,7 @@ use Rattle.marks.specs.Marks.{textOf}
 use Rattle.marks.proofs.Claims as marks
 use Rattle.automaton.specs.Automaton.{Text}
 use Rattle.automaton.specs.Rules.{automatonOf}
+use Rattle.live.specs.Continued.{Continued}
 use Rattle.chunks.specs.Chunks.{foreign}
 use Rattle.chunks.proofs.Claims as chunks
 use Rattle.calls.specs.Calls.{Call}
@@ -27,7 +28,7 @@ use Rattle.locating.specs.Locating.{refusedFor, stuckAfter, spotOf}
 use Rattle.histories.specs.History.{ruleIn, boardIn, placesIn, standing}
 use Rattle.histories.specs.Claims.{judgeAfter}
 use Rattle.histories.proofs.EveryList.{every-list}
-use Rattle.losses.specs.Losses.{Continued, textUpTo, AcceptsNothing}
+use Rattle.losses.specs.Losses.{textUpTo, AcceptsNothing}
 use Rattle.losses.specs.Spots.{spotNumber, textWith, StuckAfter, Refused-so, SpotClaims}
 use Rattle.losses.proofs.Spotting.{spot, lost-spot}
 

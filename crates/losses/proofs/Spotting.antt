@@ -27,6 +27,7 @@ use Rattle.automaton.specs.declared.Rule.{Rule}
 use Rattle.automaton.specs.Automaton.{Automaton, Text}
 use Rattle.automaton.specs.Rules.{automatonOf, WellFormed}
 use Rattle.automaton.specs.Successor.{after}
+use Rattle.live.specs.Continued.{Continued}
 use Rattle.subsets.specs.Claims.{fits}
 use Rattle.delegates.specs.Alike.{delegateIn}
 use Rattle.delegates.specs.Claims.{startsIn}
@@ -52,7 +53,7 @@ use Rattle.histories.proofs.Running.{n-same, delegate-below}
 use Rattle.histories.proofs.Agreement.{Agrees}
 use Rattle.histories.proofs.Numbers.{same-test, no-board, places-same, symbols-there}
 use Rattle.histories.proofs.EveryList.{good}
-use Rattle.losses.specs.Losses.{Continued, textUpTo, Lost}
+use Rattle.losses.specs.Losses.{textUpTo, Lost}
 use Rattle.losses.specs.Spots.{spotNumber, textWith, StuckAfter, Spotted}
 use Rattle.losses.proofs.Living.{text-take, lives, cut, alive-before, left-alive, needed, dies}
 use Rattle.losses.proofs.Continuing.{joinedAt, liveAt, live-below, all-live, continues, live-left}

@@ -18,6 +18,7 @@ use Rattle.base.proofs.Tests.{by-test, not-both, zero-one}
 use Rattle.automaton.specs.declared.Rule.{Rule}
 use Rattle.automaton.specs.Automaton.{Accepts}
 use Rattle.automaton.specs.Rules.{automatonOf}
+use Rattle.live.specs.Continued.{Continued}
 use Rattle.calls.specs.Replies.{Reported, judged, waiting, yesWith, noWith, refusedWith}
 use Rattle.calls.specs.Calls.{Call, installs, opens, delivers, withdraws, asksVerdict}
 use Rattle.calls.specs.Steps.{stepOf}
@@ -25,7 +26,7 @@ use Rattle.diagnoses.specs.Diagnosing.{Finding, refusedAs, lostAt, openWith, di
 use Rattle.histories.specs.History.{ruleThere, ruleFrom, ruleIn, boardIn, placesIn, standing, standingText, emptiesIn, textIn, verdictIn, reportIn}
 use Rattle.histories.specs.Claims.{judgeAfter}
 use Rattle.histories.proofs.EveryList.{good, every-list, answer-after}
-use Rattle.losses.specs.Losses.{Continued, textUpTo, FilledAt, Hopeful, Lost, Open, Diagnosed, AcceptsNothing, AllElsewhere}
+use Rattle.losses.specs.Losses.{textUpTo, FilledAt, Hopeful, Lost, Open, Diagnosed, AcceptsNothing, AllElsewhere}
 use Rattle.losses.proofs.Diagnosing.{diagnosed, clash}
 
 -- ---- stays lost

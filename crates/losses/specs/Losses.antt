@@ -1,7 +1,6 @@
 -- Where a trace goes wrong, by a list of calls alone. A history has the LAST call first. Nothing here
--- looks at a state.
+-- looks at a state. `Continued` is of crates/live.
 --
---   Continued a w     some text can follow the text w so that the automaton a accepts both together
 --   textUpTo h m      the standing chunks of the first m places without their idle marks, joined
 --   FilledAt h i      a chunk stands at place i
 --   Hopeful h m       the rule of the list can still accept after the first m places
@@ -15,19 +14,16 @@
 --   AllElsewhere p cs each call of the list does
 use mathlib.Core.Path.{_≡_}
 use mathlib.Core.Bool.{true, false}
-use mathlib.Core.List.{List, [], _∷_, _++_}
+use mathlib.Core.List.{List, [], _∷_}
 use mathlib.Core.Option.{none}
 use Prim.Native.Nat.{ℕ, suc, _≤_, _<_}
 use Rattle.base.specs.Options.{isNone}
-use Rattle.automaton.specs.Automaton.{Automaton, Accepts}
+use Rattle.automaton.specs.Automaton.{Accepts}
 use Rattle.automaton.specs.Rules.{automatonOf}
+use Rattle.live.specs.Continued.{Continued}
 use Rattle.calls.specs.Calls.{Call, installs, opens, delivers, withdraws, asksVerdict}
 use Rattle.histories.specs.History.{ruleIn, boardIn, placesIn, standing, joinedUpTo}
 use Rattle.diagnoses.specs.Diagnosing.{Finding, refusedAs, lostAt, openWith}
-
-pub record Continued (a : Automaton) (w : List ℕ) : Type 0 where
-  pub rest : List ℕ
-  pub accepts : Accepts a (w ++ rest)
 
 module _ (h : List Call) where
   abbrev pub textUpTo : ℕ → List ℕ

@@ -23,11 +23,12 @@ use Rattle.base.specs.Options.{isNone}
 use Rattle.marks.specs.Marks.{idleMark, textOf}
 use Rattle.automaton.specs.Automaton.{Text}
 use Rattle.automaton.specs.Rules.{automatonOf}
+use Rattle.live.specs.Continued.{Continued}
 use Rattle.calls.specs.Calls.{Call}
 use Rattle.histories.specs.History.{ruleIn, boardIn, placesIn, standing}
 use Rattle.histories.specs.Claims.{judgeAfter}
 use Rattle.locating.specs.Locating.{Spot, refusedFor, stuckAfter, nowhere, locateConditions, spotOf}
-use Rattle.losses.specs.Losses.{Continued, textUpTo, FilledAt, Lost, AcceptsNothing}
+use Rattle.losses.specs.Losses.{textUpTo, FilledAt, Lost, AcceptsNothing}
 
 module _ (h : List Call) (p : ℕ) (w : List ℕ) where
   abbrev pub spotNumber : Option ℕ

@@ -6,8 +6,9 @@
 --   followNumber r w             the number with which it is refused       follow/specs/Following
 --   handed r m ws                the set that the caller hands on          follow/specs/Claims
 --   takenText r ws               the text of the chunks not refused        follow/specs/Claims
---   Continues r v                some text continues v to an accepted one  follow/specs/Claims
---   One, AcceptsIn, CanEnd, LostAt   the same from any set                 follow/specs/Claims
+--   Continued a v                some text continues v to an accepted one  live/specs/Continued
+--   AcceptsIn, CanEnd            the same from any set                     live/specs/Continued
+--   One, LostAt                  what a call answers from any set          follow/specs/Claims
 --   Cut; Refused-exactly         a chunk cut in two; number by number      follow/specs/Claims
 --   cases, Answered              chunks worked by hand                     follow/specs/Worked
 --   prepareOf r, followByOf f m w, noFollower   a rule that is checked once   follow/specs/Following
@@ -23,7 +24,7 @@
 --   followShown, prepareShown    C's numbers                               c_follow/specs/Numbers
 --
 -- r is any value, in which any numbers may stand, m any set, and a chunk any bytes. How the mask of live
--- states is found (follow/specs/Live) need not be believed, nor how a walk goes fast (follow/specs/Cache).
+-- states is found (live/specs/Live) need not be believed, nor how a walk goes fast (follow/specs/Cache).
 -- A proved function ends and stays within its bounds. Assumes nothing.
 use mathlib.Core.Path.{_≡_, ap, _∙_}
 use mathlib.Core.Logic.{_↔_, _⊎_}
@@ -48,9 +49,10 @@ use Rattle.calls.specs.Replies.{yesWith, noWith, refused}
 use Rattle.calls.specs.Calls.{Call, delivers, installNumber}
 use Rattle.histories.specs.History.{ruleThere, boardIn, placesIn, emptiesIn, summedIn, verdictIn, answerOf}
 use Rattle.mapverdict.specs.Filled.{Filled}
+use Rattle.live.specs.Continued.{Continued}
 use Rattle.follow.specs.declared.Follower.{Follower}
 use Rattle.follow.specs.Following.{followNumber, Outcome, refusedFollow, walkOf, followOf, noFollower, prepareOf, followByOf}
-use Rattle.follow.specs.Claims.{Refused-exactly, One, handed, takenText, Continues, Cut}
+use Rattle.follow.specs.Claims.{Refused-exactly, One, handed, takenText, Cut}
 use Rattle.follow.specs.Worked.{cases, Answered}
 use Rattle.follow.proofs.Claims as follow
 use Rattle.followverdict.specs.Boards.{FollowsAll}
@@ -82,14 +84,14 @@ module _ (r : Rule) (ws : List (List ℕ)) (w : List ℕ) where
     -- The trace is lost at b exactly where the text up to b bytes of this chunk, idle marks counted, has
     -- no accepted continuation, and every shorter one has.
     pub lost-at : (b : ℕ) → (answer .lost ≡ some b)
-        ↔ ((b ≤ length w) × (Continues r (takenText r ws ++ textOf (take b w)) → ⊥) × ((i : ℕ) → i < b → Continues r (takenText r ws ++ textOf (take i w))))
+        ↔ ((b ≤ length w) × (Continued (automatonOf r) (takenText r ws ++ textOf (take b w)) → ⊥) × ((i : ℕ) → i < b → Continued (automatonOf r) (takenText r ws ++ textOf (take i w))))
     lost-at = follow.claims .followed r ws w ok .lost
 
-    pub not-lost : (answer .lost ≡ none) ↔ Continues r (takenText r ws ++ textOf w)
+    pub not-lost : (answer .lost ≡ none) ↔ Continued (automatonOf r) (takenText r ws ++ textOf w)
     not-lost = follow.claims .followed r ws w ok .not-lost
 
     -- Where a byte of this chunk loses it, every shorter text has one from the very beginning:
-    pub every-shorter : (b : ℕ) → answer .lost ≡ some (suc b) → (v u : List ℕ) → takenText r ws ++ textOf (take b w) ≡ v ++ u → Continues r v
+    pub every-shorter : (b : ℕ) → answer .lost ≡ some (suc b) → (v u : List ℕ) → takenText r ws ++ textOf (take b w) ≡ v ++ u → Continued (automatonOf r) v
     every-shorter = follow.claims .followed r ws w ok .every-shorter
 
     -- that byte is no idle mark, and is not among the symbols that are expected.
@@ -98,10 +100,10 @@ module _ (r : Rule) (ws : List (List ℕ)) (w : List ℕ) where
 
     -- Symbol s is expected exactly where some text that begins with s continues the text before that byte
     -- to an accepted one; where the trace is not lost, the text so far.
-    pub expected-there : (b s : ℕ) → answer .lost ≡ some b → s ∈ answer .expected ↔ Continues r (takenText r ws ++ (textOf (take (b - 1) w) ++ (s ∷ [])))
+    pub expected-there : (b s : ℕ) → answer .lost ≡ some b → s ∈ answer .expected ↔ Continued (automatonOf r) (takenText r ws ++ (textOf (take (b - 1) w) ++ (s ∷ [])))
     expected-there = follow.claims .followed r ws w ok .expected-there
 
-    pub expected-next : (s : ℕ) → answer .lost ≡ none → s ∈ answer .expected ↔ Continues r (takenText r ws ++ (textOf w ++ (s ∷ [])))
+    pub expected-next : (s : ℕ) → answer .lost ≡ none → s ∈ answer .expected ↔ Continued (automatonOf r) (takenText r ws ++ (textOf w ++ (s ∷ [])))
     expected-next = follow.claims .followed r ws w ok .expected-next
 
     -- The trace could have ended before that byte exactly where the text up to there is accepted; where

@@ -8,6 +8,7 @@ pub mod MadeTexts
 pub mod Forms
 pub mod TrayFunctions
 pub mod Trays
+pub mod Faults
 pub mod Losses
 pub mod FollowFunctions
 pub mod Following

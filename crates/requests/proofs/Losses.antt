@@ -1,7 +1,7 @@
 -- WHERE A TRACE IS LOST, sentence by sentence. Under each stands the theorem that meets it; its proof
 -- only cites the file that has it. To believe them, read the definitions that they name:
 --
---   Continued a w                some text can follow w so that a accepts    losses/specs/Losses
+--   Continued a w                some text can follow w so that a accepts    live/specs/Continued
 --   textUpTo h m                 the text of the first m places              losses/specs/Losses
 --   Lost h p, Open h m           lost at place p; open with m places         losses/specs/Losses
 --   Diagnosed h f                the finding f is the list's                 losses/specs/Losses
@@ -54,7 +54,8 @@ use Rattle.diagnoses.specs.declared.Diagnosis.{Diagnosis}
 use Rattle.diagnoses.specs.Diagnosing.{Finding, refusedAs, lostAt, openWith, diagnosisMeans, diagnosisOf}
 use Rattle.locating.specs.declared.Located.{Located}
 use Rattle.locating.specs.Locating.{Spot, refusedFor, stuckAfter, nowhere, locatedMeans, locateConditions, spotOf}
-use Rattle.losses.specs.Losses.{Continued, Lost, Open, Diagnosed, AcceptsNothing, AllElsewhere}
+use Rattle.live.specs.Continued.{Continued}
+use Rattle.losses.specs.Losses.{Lost, Open, Diagnosed, AcceptsNothing, AllElsewhere}
 use Rattle.losses.specs.Spots.{spotNumber, textWith, StuckAfter, Spotted, Refused-so}
 use Rattle.losses.specs.Functions.{MayDiagnose, MayLocate}
 use Rattle.diagnoses.proofs.diagnose.Reads as diagnose-reads

@@ -105,7 +105,7 @@ kind-says : (j : Judgement) (k : ℕ) → kindOf j ≡ k → j ≡ verdictReadBa
 kind-says j k e =
     sym (c-trays.claims .verdict-read-back j) ∙ ap (λ (x : ℕ). verdictReadBack (record { kind = x; number = numberOf j })) e
 
-after-any-list : (h : List Call) (rs : List Reply) (t : Tray)
+pub after-any-list : (h : List Call) (rs : List Reply) (t : Tray)
     → Execution trayLibraryOfC h rs t ↔ (rs ≡ repliesTo h) × (t ≡ trayAfter h)
 after-any-list = execution-law trayLibraryOfC trayMachine c-meets
 

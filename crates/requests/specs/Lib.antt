@@ -6,5 +6,6 @@ pub mod MergeFunction
 pub mod TextFunction
 pub mod FormFunctions
 pub mod TrayFunctions
+pub mod FaultFunctions
 pub mod LossFunctions
 pub mod FollowFunctions

@@ -20,11 +20,11 @@ use Rattle.trayhistories.specs.History.{rowThere, columnThere, boardTher
 use Rattle.trayhistories.specs.Worked.{anyRule, noStates, ruled, Case, case, lists, Answered}
 use Rattle.trayhistories.proofs.EveryList.{every-list}
 
-A-installs : installNumber ruleA ≡ none
+pub A-installs : installNumber ruleA ≡ none
 unfolding installNumber badTargets anyBelow union indexOf numbered expandFrom closeFrom keysUpTo setsOf tooMany
 A-installs = refl
 
-even-installs : installNumber evenRule ≡ none
+pub even-installs : installNumber evenRule ≡ none
 unfolding installNumber badTargets anyBelow union indexOf numbered expandFrom closeFrom keysUpTo setsOf tooMany
 even-installs = refl
 

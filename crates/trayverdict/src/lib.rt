@@ -11,7 +11,7 @@ use automaton::Rule;
 use trays::TrayBoard;
 
 // The set after the text.
-fn set_after(targets: &[u32; limits::TARGETS], set: u32, text: &[u8]) -> u32
+pub fn set_after(targets: &[u32; limits::TARGETS], set: u32, text: &[u8]) -> u32
     ensures { λ r. ⌜ r ≡ after (now (targets .entry)) set (now (text .entry)) ⌝ }
 {
     let mut reached = set;

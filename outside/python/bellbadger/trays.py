@@ -29,6 +29,34 @@ Rows of two events, in two bands, which come in any order:
 
 The columns are 0 0 and 1 1. With no rows at all each column is the empty text. A refused call raises
 TrayRefused, which is a Refused with the words for a tray, and leaves the tray as it was.
+
+Where a tray goes wrong is told while bands are still missing too:
+
+    >>> tray.fault()
+    Open(bands=2)
+    >>> tray.open(2, 3)
+    >>> tray.deliver(2, bytes([0, 1, 1, 1]))
+    >>> tray.verdict()
+    TrayWaiting(bands=2)
+    >>> tray.fault()
+    Row(band=2, row=1)
+    >>> tray.fault().is_fault
+    True
+    >>> tray.withdraw(2)
+    >>> tray.fault()
+    Open(bands=0)
+    >>> for band in range(3):
+    ...     tray.deliver(band, bytes([0, 1]))
+    >>> tray.fault()  # the first column is 0 0 0, and would be right with one 0 more
+    Short(column=0)
+
+None is a yes, so that none has a truth value:
+
+    >>> if tray.fault():
+    ...     print("wrong")
+    Traceback (most recent call last):
+    ...
+    TypeError: a fault, here Short, is no truth value: write .is_fault behind it
 """
 
 import ctypes
@@ -41,11 +69,12 @@ from .judge import Loaded
 from .refusals import Refused
 from .rules import RawRule, raw
 
-__all__ = ["Tray", "TrayWaiting", "TrayYes", "TrayNo", "TrayRefused"]
+__all__ = ["Tray", "TrayWaiting", "TrayYes", "TrayNo", "TrayRefused", "Row", "Column", "Short", "Open"]
 
 # as outside/c/bellbadger_trays.h has it
 _TRAY_SIZE = 12332
 _WAITING, _YES, _NO = 1, 2, 3
+_OPEN, _FAULT_ROW, _FAULT_COLUMN, _FAULT_SHORT = 6, 7, 8, 9
 
 # where a tray has other words than a judge
 _REASONS = {
@@ -87,6 +116,58 @@ class TrayNo(Verdict):
     """A verdict: some row or some column is not accepted."""
 
 
+class _Fault:
+    @property
+    def is_fault(self):
+        """Whether something is wrong already. That it is not says nothing of a yes while bands are missing:
+        whether to ship is for Tray.verdict to say."""
+        return True
+
+    def __bool__(self):
+        raise TypeError(f"a fault, here {type(self).__name__}, is no truth value: write .is_fault behind it")
+
+
+@dataclass(frozen=True)
+class Row(_Fault):
+    """A fault: the first standing row that the row rule does not accept, also behind an empty band. The rows of
+    a band are counted from 0. No band that is delivered later mends it."""
+
+    band: int
+    row: int
+
+
+@dataclass(frozen=True)
+class Column(_Fault):
+    """A fault: no row is wrong, and this is the first column that is lost over the bands before the first empty
+    one, with the row by which it is: its events up to there cannot be continued by any others to a text that the
+    column rule accepts. Of a column rule that accepts nothing all three are 0, whatever stands. No band that is
+    delivered later mends it."""
+
+    column: int
+    band: int
+    row: int
+
+
+@dataclass(frozen=True)
+class Short(_Fault):
+    """A fault: all bands stand, no row is wrong and no column lost, and this is the first column that stopped
+    too early: it is not accepted, though it could go on."""
+
+    column: int
+
+
+@dataclass(frozen=True)
+class Open(_Fault):
+    """No fault so far; so many bands stand before the first empty one. The tray may go wrong by the next band;
+    where all bands stand the verdict is yes."""
+
+    bands: int
+
+    @property
+    def is_fault(self):
+        return False
+
+
 class _Board(ctypes.Structure):
     _fields_ = [
         ("width", ctypes.c_uint8),
@@ -119,6 +200,10 @@ class _Verdict(ctypes.Structure):
     _fields_ = [("kind", ctypes.c_uint8), ("number", ctypes.c_uint8)]
 
 
+class _RawFault(ctypes.Structure):
+    _fields_ = [(name, ctypes.c_uint8) for name in ("kind", "number", "column", "band", "row")]
+
+
 expect_size("tray_size", _Tray, _TRAY_SIZE)
 declare("tray_new", _Tray)
 declare("tray_install_row", _Install, _Tray, RawRule)
@@ -127,6 +212,7 @@ declare("tray_open", _Change, _Tray, ctypes.c_size_t, ctypes.c_size_t)
 declare("tray_deliver", _Change, _Tray, ctypes.c_size_t, *DATA)
 declare("tray_withdraw", _Change, _Tray, ctypes.c_size_t)
 declare("tray_verdict", _Verdict, _Tray)
+declare("tray_fault", _RawFault, _Tray)
 
 
 class Tray:
@@ -178,6 +264,20 @@ class Tray:
         if result.kind not in said:
             raise TrayRefused(result.number)
         return said[result.kind]()
+
+    def fault(self):
+        """Row, Column, Short or Open: where the tray goes wrong, while bands are still missing too; changes
+        nothing. Refused with 21. In an `if` write fault().is_fault."""
+        result = lib.bellbadger_tray_fault(self._tray)
+        if result.kind == _FAULT_ROW:
+            return Row(result.band, result.row)
+        if result.kind == _FAULT_COLUMN:
+            return Column(result.column, result.band, result.row)
+        if result.kind == _FAULT_SHORT:
+            return Short(result.column)
+        if result.kind == _OPEN:
+            return Open(result.number)
+        raise TrayRefused(result.number)
 
     def _loaded(self, result):
         self._change(result)

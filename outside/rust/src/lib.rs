@@ -44,7 +44,8 @@
 //! A trace that comes in order, of any length, is followed chunk by chunk ([`follow`]): where it was lost, and
 //! what could come next.
 //!
-//! Rows of events whose columns keep to a rule too are judged by a tray ([`trays`]).
+//! Rows of events whose columns keep to a rule too are judged by a tray ([`trays`]), which tells where it goes
+//! wrong before all bands are there.
 //!
 //! A refusal that nobody looks at is told by the compiler:
 //!

@@ -28,6 +28,8 @@
 //! assert_eq!(tray.verdict()?, TrayVerdict::Yes); // the columns are 0 0 and 1 1
 //! # Ok::<(), TrayRefused>(())
 //! ```
+//!
+//! Where a tray goes wrong is told while bands are still missing too ([`Tray::fault`]).
 use crate::{fits, CheckedRule, Loaded, Refused};
 use std::error::Error;
 use std::fmt;
@@ -64,6 +66,45 @@ impl TrayVerdict {
     pub fn is_yes(&self) -> bool {
         matches!(self, TrayVerdict::Yes)
     }
+}
+
+/// Where a tray goes wrong, or how far it is right.
+///
+/// Rows and columns are counted from 0, a row from the first of its band on. No band that is delivered later
+/// mends a row or a lost column. None is a yes: a tray that is open may go wrong by the next band. Whether to
+/// ship is for [`Tray::verdict`] to say, which over a full board is yes exactly where this is `Open`.
+#[derive(Clone, Copy, Debug, PartialEq, Eq, Hash)]
+#[must_use]
+pub enum Fault {
+    /// The first standing row that the row rule does not accept, also behind an empty band.
+    Row {
+        /// The band in which it stands.
+        band: usize,
+        /// Which row of the band it is.
+        row: usize,
+    },
+    /// No row is wrong, and this is the first column that is lost over the bands before the first empty one:
+    /// its events there cannot be continued by any others to a text that the column rule accepts. Of a column
+    /// rule that accepts nothing all three are 0, whatever stands.
+    Column {
+        /// The column.
+        column: usize,
+        /// The band with the row by which it is lost.
+        band: usize,
+        /// Which row of the band that is.
+        row: usize,
+    },
+    /// All bands stand, no row is wrong and no column lost, and this is the first column that stopped too
+    /// early: it is not accepted, though it could go on.
+    Short {
+        /// The column.
+        column: usize,
+    },
+    /// Nothing is wrong so far.
+    Open {
+        /// How many bands stand before the first empty one.
+        bands: usize,
+    },
 }
 
 /// A call of a tray was refused; the tray is as it was.
@@ -157,11 +198,27 @@ struct RawVerdict {
     number: u8,
 }
 
+#[repr(C)]
+struct RawFault {
+    kind: u8,
+    number: u8,
+    column: u8,
+    band: u8,
+    row: u8,
+}
+
+/// What a fault is; the rest: a refusal.
+const OPEN: u8 = 6;
+const FAULT_ROW: u8 = 7;
+const FAULT_COLUMN: u8 = 8;
+const FAULT_SHORT: u8 = 9;
+
 /// As the C header has it; outside/c/test_trays.c reads every field of it.
 const TRAY_SIZE: usize = 12332;
 const _: () = assert!(std::mem::size_of::<RawTray>() == TRAY_SIZE);
 const _: () = assert!(std::mem::size_of::<RawInstall>() == TRAY_SIZE + 8);
 const _: () = assert!(std::mem::size_of::<RawChange>() == TRAY_SIZE + 4);
+const _: () = assert!(std::mem::size_of::<RawFault>() == 5);
 
 extern "C" {
     fn bellbadger_tray_size() -> usize;
@@ -177,6 +234,7 @@ extern "C" {
     ) -> RawChange;
     fn bellbadger_tray_withdraw(tray: RawTray, band: usize) -> RawChange;
     fn bellbadger_tray_verdict(tray: RawTray) -> RawVerdict;
+    fn bellbadger_tray_fault(tray: RawTray) -> RawFault;
 }
 
 impl Default for Tray {
@@ -272,6 +330,48 @@ impl Tray {
             crate::raw::WAITING => Ok(TrayVerdict::Waiting(r.number)),
             crate::raw::YES => Ok(TrayVerdict::Yes),
             crate::raw::NO => Ok(TrayVerdict::No),
+            _ => Err(TrayRefused(Refused::new(r.number))),
+        }
+    }
+
+    /// Where the tray goes wrong, while bands are still missing too; changes nothing.
+    ///
+    /// # Errors
+    /// 21 (no board is open).
+    ///
+    /// ```
+    /// # use bellbadger::read;
+    /// use bellbadger::trays::{Fault, Tray, TrayRefused};
+    ///
+    /// # let ends_in_0_1 = read(&[
+    /// #     3, 2, 1, 0, 0, 0, 4, 0, 0, 0, 22, 0, 6, 0, 28, 0, 2, 0, 30, 0, 0, 0, 0, 0, 0, 1, 1, 0, 1, 2,
+    /// # ])?;
+    /// // It accepts 0, 0 1 0, 0 1 0 1 0 and so on.
+    /// let in_turn = read(&[
+    ///     3, 2, 1, 0, 0, 0, 2, 0, 0, 0, 22, 0, 4, 0, 26, 0, 4, 0, 30, 0, 4, 0, 0, 1, 1, 2, 0, 2, 1, 0, 0,
+    ///     2, 1, 2,
+    /// ])?;
+    /// let mut tray = Tray::new();
+    /// let _loaded = tray.install_row(&ends_in_0_1)?;
+    /// let _loaded = tray.install_column(&in_turn)?;
+    /// tray.open(2, 3)?;
+    /// tray.deliver(2, &[0, 1, 1, 1])?; // 1 1 does not end in 0 1
+    /// assert_eq!(tray.fault()?, Fault::Row { band: 2, row: 1 });
+    /// tray.withdraw(2)?;
+    /// assert_eq!(tray.fault()?, Fault::Open { bands: 0 });
+    /// tray.deliver(0, &[0, 1])?; // the second column cannot begin with 1
+    /// assert_eq!(tray.fault()?, Fault::Column { column: 1, band: 0, row: 0 });
+    /// # Ok::<(), TrayRefused>(())
+    /// ```
+    pub fn fault(&self) -> Result<Fault, TrayRefused> {
+        // SAFETY: plain numbers.
+        let r = unsafe { bellbadger_tray_fault(*self.0) };
+        let [number, column, band, row] = [r.number, r.column, r.band, r.row].map(usize::from);
+        match r.kind {
+            OPEN => Ok(Fault::Open { bands: number }),
+            FAULT_ROW => Ok(Fault::Row { band, row }),
+            FAULT_COLUMN => Ok(Fault::Column { column, band, row }),
+            FAULT_SHORT => Ok(Fault::Short { column }),
             _ => Err(TrayRefused(Refused::new(r.number))),
         }
     }

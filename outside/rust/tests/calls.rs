@@ -144,6 +144,7 @@ fn on_a_stack_of_1_mb() {
         }
         assert!(tray.open(2, 1).is_ok() && tray.deliver(0, &[0, 1]).is_ok());
         assert_eq!(tray.verdict(), Ok(trays::TrayVerdict::No));
+        assert_eq!(tray.fault(), Ok(trays::Fault::Short { column: 0 }));
         assert!(tray.withdraw(0).is_ok());
         Ok::<(), Refused>(())
     };
@@ -300,5 +301,5 @@ fn what_a_judge_shows() {
     assert!(judge.load(&A).is_ok() && judge.open(2).is_ok() && judge.deliver(1, 0, &[]).is_ok());
     let shown = "Judge { states: 3, symbols: 2, sets: 5, starts: 3, places: 2, filled: 1, .. }";
     assert_eq!(format!("{judge:?}"), shown);
-    assert_eq!(version(), (5, 2));
+    assert_eq!(version(), (5, 3));
 }

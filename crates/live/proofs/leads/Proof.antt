@@ -8,9 +8,9 @@ use Rattle.base.specs.Conditions.{anyBelow}
 use Rattle.base.proofs.Conditions.{none-yet, none-more, any-at}
 use Rattle.masks.specs.Masks.{shares}
 use Rattle.automaton.specs.Rules.{targetMask}
-use Rattle.follow.proofs.Steps.{cell}
-use Rattle.follow.proofs.leads.Statement.{statement}
-use Rattle.follow.proofs.leads.Tie as tie
+use Rattle.live.proofs.Backwards.{cell}
+use Rattle.live.proofs.leads.Statement.{statement}
+use Rattle.live.proofs.leads.Tie as tie
 
 abbrev Inv-loop : tie.InvT-loop
 Inv-loop targets set row s₀ s = (row < 32) × (s ≤ 16) × (anyBelow (λ x. shares (targetMask targets row x) set) s ≡ false)

@@ -26,8 +26,8 @@ use Rattle.automaton.specs.Rules.{targetMask, automatonOf, WellFormed}
 use Rattle.automaton.proofs.Laws.{arc-of}
 use Rattle.delegates.specs.Alike.{Live}
 use Rattle.masks.proofs.Passing.{mask-in, mask-of}
-use Rattle.follow.specs.Live.{leads, backTo, within, liveOf}
-use Rattle.follow.proofs.Steps.{within-still}
+use Rattle.live.specs.Live.{leads, backTo, within, liveOf}
+use Rattle.live.proofs.Backwards.{within-still}
 
 -- ---- sums
 module _ (f g : ℕ → ℕ) where

@@ -7,10 +7,10 @@ use native.Mathlib.Omega.{arith}
 use borrow.Author.Needs.{needs}
 use lib.Bits.{bitOr}
 use Rattle.masks.specs.Masks.{maskOf}
-use Rattle.follow.specs.Live.{leads}
+use Rattle.live.specs.Live.{leads}
 use Rattle.masks.proofs.Passing.{mask-add, mask-skip}
-use Rattle.follow.proofs.back_to.Statement.{statement}
-use Rattle.follow.proofs.back_to.Tie as tie
+use Rattle.live.proofs.back_to.Statement.{statement}
+use Rattle.live.proofs.back_to.Tie as tie
 
 abbrev Inv-loop : tie.InvT-loop
 Inv-loop targets set found₀ q₀ found q = (q ≤ 32) × (found ≡ maskOf (leads targets set) q)

@@ -1,37 +1,31 @@
--- From a set a final state can still be reached exactly where a live state is in it; so where a chunk
--- is lost, and what is expected there. Assumes a well-formed rule.
+-- From a set a final state can still be reached exactly where a live state is in it. Assumes a
+-- well-formed rule.
 --
 --   ends-law             an accepting run starts in the set: a final state is in the set after the text
---   hope                 some text continues this one: a live state is in the set after it
+--   hope, no-hope        some text continues this one: a live state is in the set after it; none does
 --   shorter, dead-on     what can be continued could before; what cannot, cannot later
---   lost-law, kept-law   the chunk is lost at b; it is not
---   next-law             a symbol that can come next
+--   moved                from the set after a text, or over the text too
+--   continued            from the initial states: the text can be continued to an accepted one
+--   continued-before     so can a shorter one
 use mathlib.Core.Path.{_≡_, sym, ap, _∙_, subst}
 use mathlib.Core.Logic.{_↔_}
-use mathlib.Core.Bool.{Bool, true, false, not}
+use mathlib.Core.Bool.{true, false}
 use mathlib.Core.List.{List, [], _∷_, _++_, append-assoc}
-use mathlib.Core.Option.{none, some}
-use Prim.Native.Nat.{ℕ, suc}
-use native.Mathlib.Omega.{arith}
-use lib.ListN.{length, take, drop, take-append-drop}
-use lib.Seq.{take-length}
-use borrow.Author.Tests.{not-true, not-false}
+use Prim.Native.Nat.{ℕ}
 use Rattle.base.proofs.Tests.{by-test, not-both}
 use Rattle.masks.specs.Masks.{_∈_, shares}
 use Rattle.masks.proofs.Laws.{members-below, shares-law}
-use Rattle.marks.specs.Marks.{textOf}
-use Rattle.marks.proofs.Claims as marks
 use Rattle.automaton.specs.declared.Rule.{Rule}
-use Rattle.automaton.specs.Automaton.{Run, stay, move}
+use Rattle.automaton.specs.Automaton.{Automaton, Run, stay, move, Accepts}
 use Rattle.automaton.specs.Rules.{automatonOf, WellFormed}
 use Rattle.automaton.specs.Successor.{successor, after}
 use Rattle.automaton.proofs.Laws.{successor-law, after-append}
-use Rattle.masks.proofs.Passing.{mask-in, mask-of}
-use Rattle.follow.specs.Live.{liveOf}
-use Rattle.follow.specs.Following.{setAfter, lostBy, nextBy}
-use Rattle.follow.specs.Claims.{AcceptsIn, CanEnd, LostAt}
-use Rattle.follow.proofs.Steps.{least-none, least-at, least-nothing, least-found}
-use Rattle.follow.proofs.Rounds.{live-law}
+use Rattle.live.specs.Live.{liveOf}
+use Rattle.live.specs.Continued.{Continued, AcceptsIn, CanEnd}
+use Rattle.live.proofs.Rounds.{live-law}
+
+pub continued-before : (a : Automaton) (v u : List ℕ) → Continued a (v ++ u) → Continued a v
+continued-before a v u c = record { rest = u ++ c .rest; accepts = subst (Accepts a) (append-assoc v u (c .rest)) (c .accepts) }
 
 module _ (r : Rule) (good : WellFormed r) where
   -- ---- acceptance
@@ -90,48 +84,15 @@ module _ (r : Rule) (good : WellFormed r) where
   pub dead-on : (m : ℕ) (v : List ℕ) → shares m (liveOf r) ≡ false → shares (after (r .targets) m v) (liveOf r) ≡ false
   dead-on m v f = no-hope m v (λ c. not-both (hope m [] .1 (shorter m [] v c)) f)
 
-  -- ---- where a chunk is lost
-  module _ (m : ℕ) (w : List ℕ) where
-    test : ℕ → Bool
-    test i = not (shares (setAfter (r .targets) m (take i w)) (liveOf r))
-
-    part : (i : ℕ) → textOf (take i w) ++ textOf (drop i w) ≡ textOf w
-    part i = sym (marks.claims .text-append (take i w) (drop i w)) ∙ ap textOf (take-append-drop i w)
-
-    pub lost-law : (b : ℕ) → (lostBy (r .targets) (liveOf r) m w ≡ some b) ↔ LostAt r m w b
-    unfolding test
-    lost-law b = (
-      (λ e.
-          let x = least-found test (suc (length w)) b e in
-          record {
-            within = omega (arith, x .0);
-            lost = λ c. not-both (hope m (textOf (take b w)) .1 c) (not-true _ (x .1));
-            before = λ i l. hope m (textOf (take i w)) .0 (not-false _ (x .2 i l));
-          }),
-      λ x.
-          least-at test (suc (length w)) b (omega (arith, x .within))
-          (ap not (no-hope m (textOf (take b w)) (x .lost)))
-          (λ i l. ap not (hope m (textOf (take i w)) .1 (x .before i l))),
-    )
-
-    pub kept-law : (lostBy (r .targets) (liveOf r) m w ≡ none) ↔ CanEnd r m (textOf w)
-    unfolding test
-    kept-law = (
-      (λ e.
-          subst (λ (x : List ℕ). CanEnd r m (textOf x)) (take-length w)
-          (hope m (textOf (take (length w) w)) .0 (not-false _ (least-nothing test (suc (length w)) e (length w) (omega arith))))),
-      λ c.
-          least-none test (suc (length w))
-          (λ i l. ap not (hope m (textOf (take i w)) .1 (shorter m (textOf (take i w)) (textOf (drop i w)) (subst (CanEnd r m) (sym (part i)) c)))),
-    )
-
-  -- ---- what can come next
-  pub next-law : (m s : ℕ) → s ∈ nextBy (r .targets) (liveOf r) (r .k) m ↔ CanEnd r m (s ∷ [])
-  next-law m s = (
-    (λ e. hope m (s ∷ []) .0 (mask-in (λ x. shares (successor (r .targets) m x) (liveOf r)) (r .k) s e .1)),
-    λ c.
-        let h = hope m (s ∷ []) .1 c in
-        let x = shares-law (successor (r .targets) m s) (liveOf r) .0 h in
-        let y = successor-law r good m s (x .0) .0 (x .1) in
-        mask-of (λ z. shares (successor (r .targets) m z) (liveOf r)) (r .k) s (y .2 .symbol) h,
-  )
+  -- ---- from the initial states
+  pub continued : (w : List ℕ) → Continued (automatonOf r) w ↔ (shares (after (r .targets) (r .initials) w) (liveOf r) ≡ true)
+  continued w =
+      let law = hope (r .initials) w in (
+        (λ c.
+            let x = c .accepts in
+            law .1 (record { rest = c .rest; accepts = record { from = x .from; member = x .begins; accepts = record { to = x .to; ends = x .ends; run = x .run } } })),
+        λ e.
+            let c = law .0 e in
+            let x = c .accepts in
+            record { rest = c .rest; accepts = record { from = x .from; to = x .accepts .to; begins = x .member; ends = x .accepts .ends; run = x .accepts .run } },
+      )

@@ -3,10 +3,10 @@ use mathlib.Core.Path.{_≡_, refl, sym, ap, _∙_}
 use Prim.Native.Nat.{_≤_, _-_}
 use native.Mathlib.Omega.{arith}
 use borrow.Author.Needs.{needs}
-use Rattle.follow.specs.Live.{within}
-use Rattle.follow.proofs.Steps.{within-more, within-whole}
-use Rattle.follow.proofs.live_states.Statement.{statement}
-use Rattle.follow.proofs.live_states.Tie as tie
+use Rattle.live.specs.Live.{within}
+use Rattle.live.proofs.Backwards.{within-more, within-whole}
+use Rattle.live.proofs.live_states.Statement.{statement}
+use Rattle.live.proofs.live_states.Tie as tie
 
 abbrev Inv-loop : tie.InvT-loop
 Inv-loop targets finals live₀ i₀ live i = (i ≤ 32) × (live ≡ within targets finals i)

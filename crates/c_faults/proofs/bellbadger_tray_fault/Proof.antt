@@ -1,0 +1,54 @@
+-- `bellbadger_tray_fault` meets its contract. Assumes nothing.
+use borrow.Author.Needs.{needs}
+use Rattle.c_faults.proofs.Numbers.{fault-shown}
+use Rattle.c_faults.proofs.bellbadger_tray_fault.Statement.{statement}
+use Rattle.c_faults.proofs.bellbadger_tray_fault.Tie as tie
+
+fault-requires : tie.Need-fault-requires
+fault-requires c κs = search needs
+
+enum-known-answer : tie.Need-enum-known-answer
+enum-known-answer c = search needs
+
+enum-known-answer-2 : tie.Need-enum-known-answer-2
+enum-known-answer-2 c = search needs
+
+enum-known-answer-3 : tie.Need-enum-known-answer-3
+enum-known-answer-3 c = search needs
+
+enum-known-answer-4 : tie.Need-enum-known-answer-4
+enum-known-answer-4 c = search needs
+
+enum-known-answer-5 : tie.Need-enum-known-answer-5
+enum-known-answer-5 c = search needs
+
+returns : tie.Need-returns
+returns c = fault-shown _ _ (c .before .before .before .fault .ensures) _ (c .before .answer .given .1)
+
+returns-2 : tie.Need-returns-2
+returns-2 c = fault-shown _ _ (c .before .before .before .fault .ensures) _ (c .before .answer2 .given .1)
+
+returns-3 : tie.Need-returns-3
+returns-3 c = fault-shown _ _ (c .before .before .before .fault .ensures) _ (c .before .answer3 .given .1)
+
+returns-4 : tie.Need-returns-4
+returns-4 c = fault-shown _ _ (c .before .before .before .fault .ensures) _ (c .before .answer4 .given .1)
+
+returns-5 : tie.Need-returns-5
+returns-5 c = fault-shown _ _ (c .before .before .before .fault .ensures) _ (c .before .answer5 .given .1)
+
+pub bellbadger-tray-fault-spec : {M : Type 1} → statement M
+bellbadger-tray-fault-spec =
+    tie.close
+    (tie.spec
+    fault-requires
+    enum-known-answer
+    enum-known-answer-2
+    enum-known-answer-3
+    enum-known-answer-4
+    enum-known-answer-5
+    returns
+    returns-2
+    returns-3
+    returns-4
+    returns-5)
