@@ -37,7 +37,7 @@
  * Another major number or size: the two do not fit. A higher minor number of the library: it can
  * more than this header says. */
 #define BELLBADGER_VERSION_MAJOR 5
-#define BELLBADGER_VERSION_MINOR 2
+#define BELLBADGER_VERSION_MINOR 4
 #define BELLBADGER_VERSION (BELLBADGER_VERSION_MAJOR * 65536 + BELLBADGER_VERSION_MINOR)
 #define BELLBADGER_STATE_SIZE 27832 /* the bytes of a bellbadger_judge */
 
@@ -223,6 +223,7 @@ BELLBADGER_RESULT bellbadger_replay_result bellbadger_replay(const uint8_t *text
 #include "bellbadger_mappings.h"
 #include "bellbadger_samples.h"
 #include "bellbadger_follow.h"
+#include "bellbadger_summaries.h"
 #include "bellbadger_patterns.h"
 #include "bellbadger_merge.h"
 #include "bellbadger_texts.h"
