@@ -1,6 +1,7 @@
 """A trace judged by the machines of a cluster: summaries on Dask's distributed scheduler (Debian's
 python3-distributed).
 
+    import glob
     from distributed import Client
     from bellbadger import cluster, read
 
@@ -15,7 +16,6 @@ sees to that, and it is harmless, since a summary is a value and each has the nu
 """
 
 import functools
-import itertools
 import os
 import sys
 from pathlib import Path
@@ -28,9 +28,9 @@ from .summaries import combine
 
 __all__ = ["RefusedChunk", "judge"]
 
-# neighbours whose chunks make one task, so that the scheduler's work is less than theirs; as bytes they are half a
-# megabyte. So many summaries, too, make one
-_AT_ONCE = 8
+# Neighbours make one task, so that the scheduler has less to do than the workers: as many as leave some 256 tasks, and
+# 32 at most. So many summaries are combined by one.
+_TASKS, _NEIGHBOURS, _SUMMARIES = 256, 32, 8
 
 
 class RefusedChunk(Refused):
@@ -77,20 +77,22 @@ def _combine(*some):
     return functools.reduce(combine, some)
 
 
+def _parts(items, size):
+    return [items[at : at + size] for at in range(0, len(items), size)]
+
+
 def summaries(client, rule, numbered):
-    """Futures of the summaries of neighbours, in order, of pairs of a number and a chunk."""
-    numbered = iter(numbered)
-    parts = iter(lambda: list(itertools.islice(numbered, _AT_ONCE)), [])
-    # a task, so that it is made again where the worker that has it dies
+    """Futures of the summaries of neighbours, in order, of a list of pairs of a number and a chunk."""
+    # the rule is a task, so that it is made again where the worker that has it dies
     rule = client.submit(CheckedRule, rule.n, rule.k, rule.initials, rule.finals, rule.targets, pure=False)
-    return [client.submit(summarize, rule, part, pure=False) for part in parts]
+    neighbours = min(1 + len(numbered) // _TASKS, _NEIGHBOURS)
+    return [client.submit(summarize, rule, part, pure=False) for part in _parts(numbered, neighbours)]
 
 
 def combined(client, futures):
     """The future of all of them, which are at least one, combined as a tree, in order."""
     while len(futures) > 1:
-        parts = [futures[at : at + _AT_ONCE] for at in range(0, len(futures), _AT_ONCE)]
-        futures = [client.submit(_combine, *part, pure=False) for part in parts]
+        futures = [client.submit(_combine, *part, pure=False) for part in _parts(futures, _SUMMARIES)]
     return futures[0]
 
 

@@ -263,7 +263,9 @@ fn gone_wrong() {
             }
         };
         let due = if at as u64 == n - 1 { 44 } else { 42 };
-        refused(due, &|list| drop(list.remove(at)));
+        refused(due, &|list| {
+            let _lost = list.remove(at);
+        });
         refused(42, &|list| list.insert(at, list[at]));
         refused(42, &|list| list.swap(at, 0));
         let others = other.summarize(at as u64, &chunks[at]).unwrap();
