@@ -13,7 +13,7 @@ use Rattle.base.proofs.Lists.{cell-of, same-list}
 use Rattle.base.proofs.Tests.{by-test}
 use Rattle.masks.specs.Masks.{_∈_, union}
 use Rattle.masks.proofs.Laws.{no-member, part-of, in-union, union-same, union-empty}
-use Rattle.mappings.proofs.Unions.{union-union}
+use Rattle.compositions.proofs.Unions.{union-union}
 use Rattle.delegates.specs.Alike.{delegateIn, ofDelegate}
 use Rattle.delegates.proofs.Alike.{some-said}
 use Rattle.joins.specs.Joining.{joinOf}

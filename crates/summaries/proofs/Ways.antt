@@ -14,7 +14,7 @@ use borrow.Author.Tests.{lt-ltb, le-ltb, eq-eqb, ne-eqb}
 use Rattle.base.proofs.Tests.{by-test, zero-one}
 use Rattle.masks.specs.Masks.{single, union, shares}
 use Rattle.masks.proofs.Laws.{union-same, union-empty, union-or}
-use Rattle.mappings.proofs.Unions.{union-of-single, union-through}
+use Rattle.compositions.proofs.Unions.{union-of-single, union-through}
 use Rattle.marks.specs.Marks.{textOf}
 use Rattle.delegates.specs.Alike.{delegateIn, ofDelegate}
 use Rattle.delegates.proofs.Alike.{some-said}

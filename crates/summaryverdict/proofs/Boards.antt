@@ -19,6 +19,7 @@ use Rattle.automaton.specs.Rules.{automatonOf, WellFormed}
 use Rattle.subsets.specs.Claims.{fits}
 use Rattle.build.specs.Building.{builtOf}
 use Rattle.chunks.specs.Chunks.{foreign, chunkCount}
+use Rattle.chunks.proofs.Claims as chunks
 use Rattle.calls.specs.Replies.{Judgement, yesWith, noWith, refused}
 use Rattle.calls.specs.Calls.{Call, delivers, reportBy}
 use Rattle.histories.specs.History.{ruleThere, ruleFrom, ruleIn, placesIn, standing, runAt, countAt, countOf as countedBy, emptiesIn, summedIn, bytesIn, yesIn, textIn, verdictIn, reportIn, answerOf}
@@ -26,8 +27,8 @@ use Rattle.histories.specs.Claims.{judgeAfter, BuiltBy}
 use Rattle.histories.proofs.EveryList.{every-list, good}
 use Rattle.histories.proofs.Running.{k-same}
 use Rattle.histories.proofs.VerdictClauses.{there}
-use Rattle.mapverdict.specs.Filled.{Filled}
-use Rattle.mapverdict.proofs.Boards as boards
+use Rattle.fillings.specs.Filled.{Filled}
+use Rattle.fillings.proofs.Boards as boards
 use Rattle.summaries.specs.Summaries.{Bracketed, leaves, summarizeOf, joinedTo, concludeOf}
 use Rattle.summaryverdict.specs.Traces.{textsOf, firstAt, summariesOf, SummarizesAll, combinedBy, countOf}
 use Rattle.summaryverdict.proofs.Answers as answers
@@ -46,8 +47,9 @@ module _ (h : List Call) (r : Rule) (ws : List (List ℕ)) (is : Filled h r ws) 
 
   pub stands : SummarizesAll r ws
   stands p b =
-      answers.runs-when (builtOf r) (firstAt p) (getD ws p []) (boards.short h r ws is p b)
-      (subst (λ (k : ℕ). foreign (textOf (getD ws p [])) k ≡ false) (sym (k-same r well fit)) (boards.known h r ws is p b))
+      let x = chunks.claims .taking (r .k) (getD ws p []) .taken .0 (boards.taken h r ws is p b) in
+      answers.runs-when (builtOf r) (firstAt p) (getD ws p []) (x .0)
+      (subst (λ (k : ℕ). foreign (textOf (getD ws p [])) k ≡ false) (sym (k-same r well fit)) (x .1))
 
   few : length ws ≤ 64
   few = subst (λ (x : ℕ). x ≤ 64) (is .places) (good h .few)

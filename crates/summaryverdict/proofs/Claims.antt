@@ -16,13 +16,14 @@ use Rattle.rulecheck.proofs.Claims as check
 use Rattle.subsets.specs.Claims.{fits}
 use Rattle.build.specs.Building.{builtOf}
 use Rattle.chunks.specs.Chunks.{foreign}
+use Rattle.chunks.proofs.Claims as chunks
 use Rattle.calls.specs.Replies.{Judgement, Reported, yesWith, noWith}
 use Rattle.calls.specs.Calls.{installNumber, reportBy}
 use Rattle.calls.specs.Claims.{Divided}
 use Rattle.calls.proofs.Conditions.{not-refused}
 use Rattle.calls.proofs.Reporting.{report-law}
 use Rattle.histories.proofs.Running.{k-same}
-use Rattle.mapverdict.proofs.Boards as filling
+use Rattle.fillings.proofs.Boards as filling
 use Rattle.summaries.specs.Summaries.{capped, Bracketed, joinedTo, concludeOf}
 use Rattle.summaryverdict.specs.Traces.{firstAt, textsOf, combinedBy, countOf, Trace, Claims}
 use Rattle.summaryverdict.proofs.Answers as answers
@@ -112,6 +113,7 @@ claims = record {
       filling.fillings r takes ws one most
       (λ i b.
       let y = answers.ran (builtOf r) (firstAt i) _ (ok i b) in
+      chunks.claims .taking (r .k) (getD ws i []) .taken .1
       (y .0, subst (λ (k : ℕ). foreign (textOf (getD ws i [])) k ≡ false) (k-same r (x .0) (x .1)) (y .1)));
   as-delivered = boards.as-delivered;
 }

@@ -34,7 +34,7 @@ use Rattle.calls.specs.Replies.{yesWith, noWith, refused}
 use Rattle.calls.specs.Calls.{Call, delivers, installNumber}
 use Rattle.calls.specs.Claims.{Divided}
 use Rattle.histories.specs.History.{ruleThere, placesIn, runAt, reportIn, answerOf}
-use Rattle.mapverdict.specs.Filled.{Filled}
+use Rattle.fillings.specs.Filled.{Filled}
 use Rattle.summaries.specs.declared.Summary.{Summary}
 use Rattle.summaries.specs.Summaries.{capped, placeOf, Bracketed, leaves, valueOf, noSummary, summarizeOf, joinedTo, concludeOf}
 
