@@ -2,7 +2,7 @@
 -- right. Assumes nothing.
 use mathlib.Core.Path.{_≡_, refl, sym, ap, _∙_}
 use mathlib.Core.List.{List, [], _∷_, _++_}
-use Prim.Native.Nat.{ℕ, _<_}
+use Prim.Native.Nat.{_<_}
 use native.Mathlib.Omega.{arith}
 use lib.ListN.{length}
 use Rattle.compositions.specs.Bracketing.{Bracketed, leaf, both, leaves, Associative, valueOf, foldFrom}

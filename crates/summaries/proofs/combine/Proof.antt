@@ -5,35 +5,35 @@ use native.Mathlib.Omega.{arith}
 use lib.ListN.{length, getD, length-set}
 use borrow.Author.Needs.{needs}
 use Rattle.base.proofs.Lists.{cell-stored, is-listFrom}
-use Rattle.summaries.specs.Summaries.{passed}
-use Rattle.summaries.proofs.Combining.{same-summary}
+use Rattle.compositions.specs.Relations.{imageOf}
+use Rattle.summaries.proofs.Ways.{same-summary}
 use Rattle.summaries.proofs.combine.Statement.{statement}
 use Rattle.summaries.proofs.combine.Tie as tie
 
 abbrev Inv-loop : tie.InvT-loop
-Inv-loop delegates n earlier later first second ends₀ q₀ ends q =
-    (q ≤ 32) × (length ends ≡ 32) × ((i : ℕ) → i < q → getD ends i 0 ≡ passed delegates n second (getD first i 0))
+Inv-loop earlier later first second leads₀ q₀ leads q =
+    (q ≤ 32) × (length leads ≡ 32) × ((i : ℕ) → i < q → getD leads i 0 ≡ imageOf 32 second (getD first i 0))
 
 abbrev μ-loop : tie.MeasureT-loop
-μ-loop delegates n earlier later first second ends₀ q₀ ends q = 32 - q
+μ-loop earlier later first second leads₀ q₀ leads q = 32 - q
 
 loop-holds : tie.Need-loop-holds Inv-loop μ-loop
 loop-holds c = (omega arith, refl, λ i b. absurd (omega arith))
 
-mul-passed : tie.Need-mul-passed Inv-loop μ-loop
-mul-passed c = omega arith
+mul-image : tie.Need-mul-image Inv-loop μ-loop
+mul-image c = omega arith
 
-array-read-passed : tie.Need-array-read-passed Inv-loop μ-loop
-array-read-passed c = omega arith
+array-read-image : tie.Need-array-read-image Inv-loop μ-loop
+array-read-image c = omega arith
 
-passed-requires : tie.Need-passed-requires Inv-loop μ-loop
-passed-requires c κs = search needs
+image-requires : tie.Need-image-requires Inv-loop μ-loop
+image-requires c κs = search needs
 
-mul-ends : tie.Need-mul-ends Inv-loop μ-loop
-mul-ends c = omega arith
+mul-leads : tie.Need-mul-leads Inv-loop μ-loop
+mul-leads c = omega arith
 
-array-write-ends : tie.Need-array-write-ends Inv-loop μ-loop
-array-write-ends c = omega arith
+array-write-leads : tie.Need-array-write-leads Inv-loop μ-loop
+array-write-leads c = omega arith
 
 add-q : tie.Need-add-q Inv-loop μ-loop
 add-q c = omega arith
@@ -46,8 +46,8 @@ loop-again c =
     let x = c .before .before .before .loop in
     let a = c .before .before .before .before .before .before .args in (
       omega arith,
-      length-set (x .ends) (x .q) (c .passed .result) ∙ x .inv .1,
-      cell-stored (x .ends) (λ i. passed (a .delegates) (a .n) (a .later .ends) (getD (a .earlier .ends) i 0)) (x .q) (c .passed .result) (omega (arith, x .inv .1)) (c .passed .ensures) (x .inv .2),
+      length-set (x .leads) (x .q) (c .image .result) ∙ x .inv .1,
+      cell-stored (x .leads) (λ i. imageOf 32 (a .later .leads) (getD (a .earlier .leads) i 0)) (x .q) (c .image .result) (omega (arith, x .inv .1)) (c .image .ensures) (x .inv .2),
     )
 
 sum-capped-requires : tie.Need-sum-capped-requires Inv-loop μ-loop
@@ -56,18 +56,21 @@ sum-capped-requires c κs = search needs
 sum-capped-requires-2 : tie.Need-sum-capped-requires-2 Inv-loop μ-loop
 sum-capped-requires-2 c κs = search needs
 
-begins-of-requires : tie.Need-begins-of-requires Inv-loop μ-loop
-begins-of-requires c κs = search needs
+gap-requires : tie.Need-gap-requires Inv-loop μ-loop
+gap-requires c κs = search needs
 
 returns : tie.Need-returns Inv-loop μ-loop
 returns c =
     let x = c .before .before .before .before .loop in
     let a = c .before .before .before .before .before .before .before .args in
     same-summary
-    (is-listFrom (x .ends) 32 (λ i. passed (a .delegates) (a .n) (a .later .ends) (getD (a .earlier .ends) i 0)) (x .inv .1) (λ i b. x .inv .2 i (omega arith)))
+    (is-listFrom (x .leads) 32 (λ i. imageOf 32 (a .later .leads) (getD (a .earlier .leads) i 0)) (x .inv .1) (λ i b. x .inv .2 i (omega arith)))
     (c .before .before .sum-capped .ensures)
     (c .before .sum-capped2 .ensures)
-    (c .begins-of .ensures)
+    refl
+    refl
+    refl
+    (c .gap .ensures)
 
 pub combine-spec : {M : Type 1} → statement M
 combine-spec =
@@ -76,15 +79,15 @@ combine-spec =
     Inv-loop
     μ-loop
     loop-holds
-    mul-passed
-    array-read-passed
-    passed-requires
-    mul-ends
-    array-write-ends
+    mul-image
+    array-read-image
+    image-requires
+    mul-leads
+    array-write-leads
     add-q
     loop-less
     loop-again
     sum-capped-requires
     sum-capped-requires-2
-    begins-of-requires
+    gap-requires
     returns)

@@ -14,10 +14,10 @@ use Rattle.summaries.proofs.image.Statement.{statement}
 use Rattle.summaries.proofs.image.Tie as tie
 
 abbrev Inv-loop : tie.InvT-loop
-Inv-loop ends set cells q₀ rest₀ out₀ q rest out = (q ≤ 32) × (rest ≡ set / 2 ^ q) × (out ≡ union (λ p. getD ends p 0) set q)
+Inv-loop leads set cells q₀ rest₀ out₀ q rest out = (q ≤ 32) × (rest ≡ set / 2 ^ q) × (out ≡ union (λ p. getD leads p 0) set q)
 
 abbrev μ-loop : tie.MeasureT-loop
-μ-loop ends set cells q₀ rest₀ out₀ q rest out = 32 - q
+μ-loop leads set cells q₀ rest₀ out₀ q rest out = 32 - q
 
 -- a bit is left: q is a state's number
 still : (set q rest : ℕ) → set < 2 ^ 32 → q ≤ 32 → rest ≡ set / 2 ^ q → (rest ≡ 0 → ⊥) → q < 32
@@ -49,11 +49,11 @@ loop-again : tie.Need-loop-again Inv-loop μ-loop
 loop-again c =
     let x = c .before .before .loop in
     let a = c .before .before .before .before .args in
-    let f : ℕ → ℕ = λ p. getD (a .ends .now) p 0 in (
+    let f : ℕ → ℕ = λ p. getD (a .leads .now) p 0 in (
       omega (arith, state-left (c .before)),
       ap (λ (y : ℕ). y / 2) (x .inv .1) ∙ shr-shr (a .set) (x .q) 1,
       ⊎-elim
-          (λ w. w .2 ∙ ap (λ (y : ℕ). bitOr y (getD (a .ends .now) (x .q) 0)) (x .inv .2) ∙ union-step f (a .set) (x .q) (rw (x .inv .1) at (w .0 .taken)))
+          (λ w. w .2 ∙ ap (λ (y : ℕ). bitOr y (getD (a .leads .now) (x .q) 0)) (x .inv .2) ∙ union-step f (a .set) (x .q) (rw (x .inv .1) at (w .0 .taken)))
           (λ w. w .1 ∙ x .inv .2 ∙ union-skip f (a .set) (x .q) (rw (x .inv .1) at (w .0 .left)))
           (c .if1 .came),
     )
@@ -62,7 +62,7 @@ returns : tie.Need-returns Inv-loop μ-loop
 returns c =
     let x = c .before .loop in
     let a = c .before .before .before .args in
-    x .inv .2 ∙ union-all (λ p. getD (a .ends .now) p 0) (a .set) (x .q) 32 (low-bits (x .q) (a .set) (sym (x .inv .1) ∙ c .loop-test .left)) (x .inv .0)
+    x .inv .2 ∙ union-all (λ p. getD (a .leads .now) p 0) (a .set) (x .q) 32 (low-bits (x .q) (a .set) (sym (x .inv .1) ∙ c .loop-test .left)) (x .inv .0)
 
 pub image-spec : {M : Type 1} → statement M
 image-spec =
