@@ -11,5 +11,6 @@ claims = record {
   none-missing = boards.none-missing;
   text-is = boards.text-is;
   well = deliveries.well;
+  installs = deliveries.installs;
   as-delivered = deliveries.as-delivered;
 }

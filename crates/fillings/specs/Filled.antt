@@ -40,8 +40,9 @@ pub record Claims : Type 0 where
   pub taken : (h : List Call) (r : Rule) (ws : List (List ℕ)) → Filled h r ws → TakenAll (r .k) ws
   pub none-missing : (h : List Call) (r : Rule) (ws : List (List ℕ)) → Filled h r ws → emptiesIn h ≡ 0
   pub text-is : (h : List Call) (r : Rule) (ws : List (List ℕ)) → Filled h r ws → textIn h ≡ flatten (map textOf ws)
-  -- the rule that is there is well formed and has at most 512 sets
+  -- the rule that is there is well formed and has at most 512 sets: installing accepts it
   pub well : (h : List Call) (r : Rule) → ruleThere h ≡ some r → WellFormed r × fits r
+  pub installs : (h : List Call) (r : Rule) → ruleThere h ≡ some r → installNumber r ≡ none
   -- a chunk is refused with 12 or 13 exactly where a delivery of it to a place of a board is
   pub as-delivered : (h : List Call) (r : Rule) → ruleThere h ≡ some r → (p v : ℕ) → p < placesIn h → (w : List ℕ)
       → (x : ℕ) → (x ≡ 12) ⊎ (x ≡ 13) → (chunkNumber (r .k) w ≡ some x) ↔ (answerOf h (delivers p v w) ≡ refused x)

@@ -142,6 +142,11 @@ module _ (j : Judge) (a : Summary) (n : ℕ) where
   unfolding concludeOf
   number-is = by-number (concludeNumber j a n) (shares (reachedBy (j .built) a) (j .built .finals)) (a .count) (a .bytes)
 
+  pub reported : refusalIn (concludeOf j a n .verdict) ≡ none
+      → concludeOf j a n ≡ reportBy (saidBy (shares (reachedBy (j .built) a) (j .built .finals)) (a .count)) (a .bytes)
+  unfolding concludeOf
+  reported e = let f : concludeNumber j a n ≡ none = sym number-is ∙ e in rw f
+
   said : (x : ℕ) → (concludeOf j a n .verdict ≡ refusedWith x) ↔ (concludeNumber j a n ≡ some x)
   said x = rw (← number-is) (refusal-said (concludeOf j a n .verdict) x)
 

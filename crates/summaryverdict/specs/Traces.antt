@@ -1,46 +1,57 @@
--- Chunks that are summarized one by one, on whatever machines, combined in any way and concluded
--- give the verdict of document 01, for every rule that installing accepts and any number of chunks;
--- with at most 64 it is the report of a filled board. proofs/Claims.antt proves it.
+-- Chunks that are summarized one by one, on whatever machines, combined in any way and concluded give
+-- the report of document 01, for every rule that installing accepts and any number of chunks; with at
+-- most 64 it is the report of a filled board. And whatever summaries a rule made are combined, in
+-- whatever order, a conclusion that is not refused is the report of the chunks that were used.
+-- proofs/Claims.antt proves it.
 --
---   firstAt p          the chunk at place p is the first of a trace
---   summaryAt r p w    the summary that the rule r gives to the chunk w at place p
---   summariesOf r ws   those of the chunks ws, in order: the first is summarized as the first of a
---                      trace, the others as others
---   SummarizesAll r ws   none of the chunks ws is refused
+--   judgeOf r          a judge that has the rule r built. What it answers to summarizing and
+--                      concluding any other answers that has it built (`any-judge`)
+--   summaryAt r number w   the summary of the chunk w of that number, by the rule r
+--   summariesFrom r p ws   those of the chunks ws, numbered from p on
+--   SummarizesAll r ws     none of the chunks ws is refused
 --   textsOf ws         their texts, without idle marks
---   combinedBy r t     the summaries of t combined as its brackets say, by the rule r
 --   countOf r ws       the sum of the counts that document 01 gives to the chunks
 --   manyChunks         with fewer chunks no sum comes to 2^64
+--   Trace r ws t       in the brackets t stand the summaries of the chunks ws, numbered from 0 on, of
+--                      which none is refused; they can be counted in 64 bits
+--   Reports r ws x     x is the report of the chunks ws: yes exactly where the rule r accepts their
+--                      texts joined, else no; with the sum of their counts and of their bytes, up to
+--                      2^64 − 1, which says that many or more, and the quotient and remainder
+--   Numbered           a chunk with the number that it is summarized as
+--   madeBy r ps        the summaries that the rule r makes of numbered chunks, refused ones too
+--   Used r ps chunks x   the numbered chunks ps are numbered 0, 1, .. chunks − 1, in this order, none
+--                      of them is refused, and the report x is theirs
 use mathlib.Core.Path.{_≡_}
 use mathlib.Core.Logic.{_↔_, _⊎_}
-use mathlib.Core.Bool.{Bool, true, false}
 use mathlib.Core.List.{List, [], _∷_, map, flatten}
 use mathlib.Core.Option.{none, some}
-use Prim.Native.Nat.{ℕ, zero, suc, _≤_, _<_}
+use Prim.Native.Nat.{ℕ, suc, _≤_, _<_}
 use lib.ListN.{length, getD}
-use Rattle.limits.specs.Limits.{mostStates, mostPlaces, longestChunk}
+use Rattle.limits.specs.Limits.{mostStates, mostPlaces, largestNumber}
 use Rattle.base.specs.Lists.{listFrom}
-use Rattle.masks.specs.Masks.{shares}
 use Rattle.marks.specs.Marks.{textOf}
+use Rattle.compositions.specs.Bracketing.{Bracketed, leaves, valueOf}
 use Rattle.automaton.specs.declared.Rule.{Rule}
 use Rattle.automaton.specs.Automaton.{Accepts}
 use Rattle.automaton.specs.Rules.{automatonOf}
 use Rattle.delegates.specs.Claims.{startsIn}
-use Rattle.build.specs.declared.Built.{Built}
 use Rattle.build.specs.Building.{builtOf}
-use Rattle.chunks.specs.Chunks.{foreign, endSet, chunkCount}
+use Rattle.digests.specs.Digests.{digestOf}
+use Rattle.chunks.specs.Chunks.{delegateSet, endSet, chunkCount}
+use Rattle.chunks.specs.Taking.{chunkNumber}
 use Rattle.joins.specs.Claims as joins
-use Rattle.calls.specs.Replies.{yesWith, noWith, refused}
+use Rattle.calls.specs.declared.Judge.{Judge}
+use Rattle.calls.specs.Replies.{Reported, yesWith, noWith, refusedWith, refusalIn, refused}
 use Rattle.calls.specs.Calls.{Call, delivers, installNumber}
+use Rattle.calls.specs.Steps.{withRule}
 use Rattle.calls.specs.Claims.{Divided}
 use Rattle.histories.specs.History.{ruleThere, placesIn, runAt, reportIn, answerOf}
 use Rattle.fillings.specs.Filled.{Filled}
 use Rattle.summaries.specs.declared.Summary.{Summary}
-use Rattle.summaries.specs.Summaries.{capped, placeOf, Bracketed, leaves, valueOf, noSummary, summarizeOf, joinedTo, concludeOf}
+use Rattle.summaries.specs.Summaries.{capped, combine, summarizeOf, concludeOf}
 
-abbrev pub firstAt : ℕ → Bool
-firstAt zero = true
-firstAt (suc p) = false
+abbrev pub judgeOf : Rule → Judge
+judgeOf r = withRule r
 
 abbrev pub textsOf : List (List ℕ) → List (List ℕ)
 textsOf ws = map textOf ws
@@ -48,71 +59,91 @@ textsOf ws = map textOf ws
 abbrev pub manyChunks : ℕ
 manyChunks = 8796093022208
 
+pub record Numbered : Type 0 where
+  pub number : ℕ
+  pub chunk : List ℕ
+
+abbrev pub numbersOf : List Numbered → List ℕ
+numbersOf ps = map (λ p. p .number) ps
+
+abbrev pub chunksOf : List Numbered → List (List ℕ)
+chunksOf ps = map (λ p. p .chunk) ps
+
 module _ (r : Rule) where
   abbrev pub summaryAt : ℕ → List ℕ → Summary
-  summaryAt p w = summarizeOf (builtOf r) (firstAt p) w .summary
+  summaryAt number w = summarizeOf (judgeOf r) number w .summary
 
-  abbrev pub summariesOf : List (List ℕ) → List Summary
-  summariesOf [] = []
-  summariesOf (w ∷ ws) = summaryAt 0 w ∷ map (summaryAt 1) ws
+  unfoldable pub summariesFrom : ℕ → List (List ℕ) → List Summary
+  summariesFrom p [] = []
+  summariesFrom p (w ∷ ws) = summaryAt p w ∷ summariesFrom (suc p) ws
 
   abbrev pub SummarizesAll : List (List ℕ) → Type 0
-  SummarizesAll ws = (p : ℕ) → p < length ws → summarizeOf (builtOf r) (firstAt p) (getD ws p []) .refusal ≡ none
-
-  abbrev pub combinedBy : Bracketed → Summary
-  combinedBy t = valueOf (builtOf r .delegates) (builtOf r .n) t
+  SummarizesAll ws = (p : ℕ) → p < length ws → summarizeOf (judgeOf r) p (getD ws p []) .refusal ≡ none
 
   abbrev pub countOf : List (List ℕ) → ℕ
   countOf ws = joins.countOf r (startsIn r .delegates) (textsOf ws)
 
--- a trace of chunks by a rule, in any brackets
-pub record Trace (r : Rule) (ws : List (List ℕ)) (t : Bracketed) : Type 0 where
-  pub takes : installNumber r ≡ none
-  pub runs : SummarizesAll r ws
-  pub are : leaves t ≡ summariesOf r ws
+  abbrev pub madeBy : List Numbered → List Summary
+  madeBy ps = map (λ p. summaryAt (p .number) (p .chunk)) ps
 
-pub record Refused-exactly (b : Built) (first : Bool) (w : List ℕ) : Type 0 where
-  pub refused-12 : (summarizeOf b first w .refusal ≡ some 12) ↔ (longestChunk < length w)
-  pub refused-13 : (summarizeOf b first w .refusal ≡ some 13) ↔ ((length w ≤ longestChunk) × (foreign (textOf w) (b .k) ≡ true))
-  pub no-other : (x : ℕ) → summarizeOf b first w .refusal ≡ some x → (x ≡ 12) ⊎ (x ≡ 13)
-  -- a refusal carries zeros
-  pub zeros : (x : ℕ) → summarizeOf b first w .refusal ≡ some x → summarizeOf b first w .summary ≡ noSummary
+  -- a trace of chunks, in any brackets
+  pub record Trace (ws : List (List ℕ)) (t : Bracketed Summary) : Type 0 where
+    pub takes : installNumber r ≡ none
+    pub runs : SummarizesAll ws
+    pub within : length ws ≤ largestNumber
+    pub are : leaves t ≡ summariesFrom 0 ws
+
+  pub record Reports (ws : List (List ℕ)) (x : Reported) : Type 0 where
+    pub either : (x .verdict ≡ yesWith (capped (countOf ws))) ⊎ (x .verdict ≡ noWith (capped (countOf ws)))
+    pub yes-exactly : (x .verdict ≡ yesWith (capped (countOf ws))) ↔ Accepts (automatonOf r) (flatten (textsOf ws))
+    pub no-exactly : (x .verdict ≡ noWith (capped (countOf ws))) ↔ (Accepts (automatonOf r) (flatten (textsOf ws)) → ⊥)
+    pub divided : Divided (capped (countOf ws)) (capped (length (flatten (textsOf ws)))) x
+
+  pub record Used (ps : List Numbered) (chunks : ℕ) (x : Reported) : Type 0 where
+    pub in-order : numbersOf ps ≡ listFrom 0 chunks (λ i. i)
+    pub runs : SummarizesAll (chunksOf ps)
+    pub report : Reports (chunksOf ps) x
+
+-- what is concluded of the summaries in the brackets t, by the rule r
+abbrev pub concludedBy : Rule → Bracketed Summary → ℕ → Reported
+concludedBy r t chunks = concludeOf (judgeOf r) (valueOf combine t) chunks
 
 pub record Claims : Type 0 where
-  -- ---- one chunk, on any built rule what is refused; of a rule that installing accepts, what 01
-  -- gives to a chunk at place 0 or at any other place
-  pub refuses : (b : Built) (first : Bool) (w : List ℕ) → Refused-exactly b first w
-  pub ends : (r : Rule) → installNumber r ≡ none → (first : Bool) (w : List ℕ) → summarizeOf (builtOf r) first w .refusal ≡ none
-      → summarizeOf (builtOf r) first w .summary .ends ≡ listFrom 0 mostStates (endSet (r .targets) (runAt r (placeOf first)) (textOf w))
-  pub count : (r : Rule) → installNumber r ≡ none → (first : Bool) (w : List ℕ) → summarizeOf (builtOf r) first w .refusal ≡ none
-      → summarizeOf (builtOf r) first w .summary .count ≡ chunkCount (r .targets) (runAt r (placeOf first)) (textOf w)
-  pub bytes : (r : Rule) → installNumber r ≡ none → (first : Bool) (w : List ℕ) → summarizeOf (builtOf r) first w .refusal ≡ none
-      → summarizeOf (builtOf r) first w .summary .bytes ≡ length (textOf w)
-  -- ---- a trace of any number of chunks, in any brackets: yes exactly where the rule accepts the
-  -- texts joined, else no
-  pub yes-exactly : (r : Rule) (ws : List (List ℕ)) (t : Bracketed) → Trace r ws t
-      → (concludeOf (builtOf r) (combinedBy r t) .verdict ≡ yesWith (capped (countOf r ws))) ↔ Accepts (automatonOf r) (flatten (textsOf ws))
-  pub no-exactly : (r : Rule) (ws : List (List ℕ)) (t : Bracketed) → Trace r ws t
-      → (concludeOf (builtOf r) (combinedBy r t) .verdict ≡ noWith (capped (countOf r ws))) ↔ (Accepts (automatonOf r) (flatten (textsOf ws)) → ⊥)
-  -- with the bytes of the text, and the quotient and remainder of the count by them
-  pub divided : (r : Rule) (ws : List (List ℕ)) (t : Bracketed) → Trace r ws t
-      → Divided (capped (countOf r ws)) (capped (length (flatten (textsOf ws)))) (concludeOf (builtOf r) (combinedBy r t))
+  -- ---- of a judge only the built rule is looked at
+  pub any-judge : (j : Judge) (r : Rule) → j .built ≡ builtOf r
+      → ((number : ℕ) (w : List ℕ) → summarizeOf j number w ≡ summarizeOf (judgeOf r) number w)
+      × ((a : Summary) (chunks : ℕ) → concludeOf j a chunks ≡ concludeOf (judgeOf r) a chunks)
+  -- ---- one chunk, by a rule that installing accepts: it is refused with 12 and 13 as everywhere (on
+  -- any judge: crates/summaries), else its summary has what document 01 gives to it at the place of
+  -- that number
+  pub refuses : (r : Rule) → installNumber r ≡ none → (number : ℕ) (w : List ℕ) → summarizeOf (judgeOf r) number w .refusal ≡ chunkNumber (r .k) w
+  pub leads : (r : Rule) → installNumber r ≡ none → (number : ℕ) (w : List ℕ) → summarizeOf (judgeOf r) number w .refusal ≡ none
+      → summaryAt r number w .leads
+      ≡ listFrom 0 mostStates (λ q. delegateSet (startsIn r .delegates) (r .n) (endSet (r .targets) (runAt r number) (textOf w) q))
+  pub count : (r : Rule) → installNumber r ≡ none → (number : ℕ) (w : List ℕ) → summarizeOf (judgeOf r) number w .refusal ≡ none
+      → summaryAt r number w .count ≡ chunkCount (r .targets) (runAt r number) (textOf w)
+  pub bytes : (r : Rule) → installNumber r ≡ none → (number : ℕ) (w : List ℕ) → summarizeOf (judgeOf r) number w .refusal ≡ none
+      → summaryAt r number w .bytes ≡ length (textOf w)
+  -- ---- a trace of any number of chunks, in any brackets, concluded with that number
+  pub concludes : (r : Rule) (ws : List (List ℕ)) (t : Bracketed Summary) → Trace r ws t → Reports r ws (concludedBy r t (length ws))
   -- with fewer than 2^43 chunks nothing is cut off
   pub exact : (r : Rule) (ws : List (List ℕ)) → installNumber r ≡ none → SummarizesAll r ws → length ws < manyChunks
       → (capped (countOf r ws) ≡ countOf r ws) × (capped (length (flatten (textsOf ws))) ≡ length (flatten (textsOf ws)))
-  -- where no machine is told which chunk is the first, and all are summarized as others, the yes or
-  -- no is the same; the count is then that of runs from all starts at place 0 too
-  pub yes-anywhere : (r : Rule) → installNumber r ≡ none → (ws : List (List ℕ)) → SummarizesAll r ws
-      → (t : Bracketed) → leaves t ≡ map (summaryAt r 1) ws
-      → (shares (joinedTo (builtOf r) (combinedBy r t)) (builtOf r .finals) ≡ true) ↔ Accepts (automatonOf r) (flatten (textsOf ws))
+  -- ---- whatever was combined: where the conclusion is not refused, the chunks that were used are
+  -- numbered 0, 1, .. in order, each once, none was refused, and the report is theirs
+  pub used : (r : Rule) → installNumber r ≡ none → (ps : List Numbered) (t : Bracketed Summary) → leaves t ≡ madeBy r ps
+      → (chunks : ℕ) → refusalIn (concludedBy r t chunks .verdict) ≡ none → Used r ps chunks (concludedBy r t chunks)
+  -- a trace by another rule is refused, where its digest is another: with 43
+  pub other-rule : (r s : Rule) → installNumber r ≡ none → (digestOf (builtOf s) ≡ digestOf (builtOf r) → ⊥)
+      → (ws : List (List ℕ)) (t : Bracketed Summary) → Trace s ws t → (chunks : ℕ) → concludedBy r t chunks .verdict ≡ refusedWith 43
   -- ---- the report of a filled board with the same chunks, every field
-  pub as-board : (h : List Call) (r : Rule) (ws : List (List ℕ)) → Filled h r ws → (t : Bracketed) → leaves t ≡ summariesOf r ws
-      → concludeOf (builtOf r) (combinedBy r t) ≡ reportIn h
+  pub as-board : (h : List Call) (r : Rule) (ws : List (List ℕ)) → Filled h r ws → (t : Bracketed Summary) → leaves t ≡ summariesFrom r 0 ws
+      → concludedBy r t (length ws) ≡ reportIn h
   -- what stands on a board is not refused, and 1 to 64 chunks that are not fill one
   pub stands : (h : List Call) (r : Rule) (ws : List (List ℕ)) → Filled h r ws → SummarizesAll r ws
   pub fillings : (r : Rule) → installNumber r ≡ none → (ws : List (List ℕ)) → 1 ≤ length ws → length ws ≤ mostPlaces → SummarizesAll r ws
       → (h : List Call) × Filled h r ws
   -- a chunk is refused with 12 or 13 exactly where a delivery of it to a place of a board with that
   -- rule is
-  pub as-delivered : (h : List Call) (r : Rule) → ruleThere h ≡ some r → (p v : ℕ) → p < placesIn h → (first : Bool) (w : List ℕ)
-      → (x : ℕ) → (x ≡ 12) ⊎ (x ≡ 13) → (summarizeOf (builtOf r) first w .refusal ≡ some x) ↔ (answerOf h (delivers p v w) ≡ refused x)
+  pub as-delivered : (h : List Call) (r : Rule) → ruleThere h ≡ some r → (p v : ℕ) → p < placesIn h → (number : ℕ) (w : List ℕ)
+      → (x : ℕ) → (x ≡ 12) ⊎ (x ≡ 13) → (summarizeOf (judgeOf r) number w .refusal ≡ some x) ↔ (answerOf h (delivers p v w) ≡ refused x)
