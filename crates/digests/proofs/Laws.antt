@@ -3,6 +3,7 @@
 --   step-sums          a step, as the code does it with sums that wrap
 --   from-append        one list of numbers behind another
 --   Left, left-all, left-fewer, left-none   the cells that are left
+--   first-of           the first cells of an array that is made cell by cell
 --   digest-parts       the digest of a built rule, part by part
 use mathlib.Core.Path.{_≡_, refl, sym, ap, _∙_}
 use mathlib.Core.List.{List, [], _∷_, _++_}
@@ -10,7 +11,9 @@ use Prim.Native.Nat.{ℕ, suc, _+_, _-_, _*_, _/_, _%_, _^_, _≤_, _<_}
 use native.Mathlib.Nat.{mod-add-mod}
 use native.Mathlib.Numerals.{add-one}
 use native.Mathlib.Omega.{arith}
+use lib.ListN.{getD}
 use Rattle.base.specs.Lists.{listFrom}
+use Rattle.base.proofs.Lists.{cell-of, same-list}
 use Rattle.build.specs.declared.Built.{Built}
 use Rattle.digests.specs.Digests.{stirred, digestStep, digestFrom, firstCells, setsIn, digestOf}
 
@@ -45,6 +48,10 @@ module _ (g : ℕ → ℕ) (start n : ℕ) where
     pub left-none : n ≤ i → h ≡ digestFrom start (listFrom 0 n g)
     unfolding digestFrom listFrom
     left-none b = let e : n - i ≡ 0 = omega arith in sym (is .same ∙ rw e)
+
+-- the first cells of an array that is made cell by cell
+pub first-of : (g : ℕ → ℕ) (m n : ℕ) → n ≤ m → firstCells (listFrom 0 m g) n ≡ listFrom 0 n g
+first-of g m n l = same-list n (λ i. getD (listFrom 0 m g) i 0) g (λ i b. cell-of m g i 0 (omega arith))
 
 -- part by part
 pub digest-parts : (b : Built) (start own singles counted count sets r : ℕ)

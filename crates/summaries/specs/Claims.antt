@@ -92,6 +92,9 @@ pub record Claims : Type 0 where
   -- or more; what is no number of 64 bits is cut to one where it is combined
   pub counts : (t : Bracketed Summary) → capped (valueOf combine t .count) ≡ capped (countsIn (leaves t))
   pub bytes : (t : Bracketed Summary) → capped (valueOf combine t .bytes) ≡ capped (bytesIn (leaves t))
+  -- where they are concluded, all are of the judge's rule, as far as digests tell
+  pub one-rule : (j : Judge) (t : Bracketed Summary) (chunks : ℕ) → refusalIn (concludeOf j (valueOf combine t) chunks .verdict) ≡ none
+      → (i : ℕ) → i < length (leaves t) → getD (leaves t) i noSummary .rule ≡ digestOf (j .built)
   -- ---- what is refused, on any judge
   pub summarized : (j : Judge) (number : ℕ) (w : List ℕ) → Summarized-exactly j number w
   pub concluded : (j : Judge) (a : Summary) (chunks : ℕ) → Concluded-exactly j a chunks

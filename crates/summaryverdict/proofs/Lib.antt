@@ -6,3 +6,7 @@ pub mod Concluding
 pub mod Using
 pub mod Boards
 pub mod Claims
+pub mod Lists
+pub mod Gathering
+pub mod Functions
+pub mod Examples
