@@ -1,8 +1,6 @@
-// Summaries for C and Rust. Answers are numbers; a summary is a value that the caller keeps, sends
-// and hands in. Of the judge only its rule is looked at, which every machine loads for itself.
+// Summaries for C, Rust and Python. Answers are numbers; a summary is a value that the caller keeps,
+// sends and hands in. Of the judge only its rule is looked at, which every machine loads for itself.
 ghost use mathlib.Core.Path.{_≡_};
-ghost use mathlib.Core.Bool.{not};
-ghost use lib.Dec.{eqb};
 ghost use Rattle.calls.specs.Replies.{verdictMeans, reportMeans};
 ghost use Rattle.summaries.specs.Summaries.{combine as combineOf, summarizeOf, concludeOf};
 ghost use Rattle.c_summaries.specs.Numbers.{summaryShown, kindOf, numberOf, concludeShown};
@@ -12,7 +10,8 @@ use calls::Verdict;
 use summaries::Summary;
 use summaries::SummaryAnswer;
 
-// Accepted is 1 or 0; where it is 0, refused has the number, and every number of the summary is 0.
+// Accepted is 1 or 0; where it is 0, refused has the number, and the summary is broken, with zeros in
+// every other field.
 #[repr(C)]
 pub struct SummaryNumbers {
     pub accepted: u8,
@@ -20,7 +19,8 @@ pub struct SummaryNumbers {
     pub summary: Summary,
 }
 
-// Kind 2 yes and 3 no with the count, as a verdict's.
+// Kind 0 refused with the number; 2 yes and 3 no with the count, as a verdict's, with the bytes of the
+// text, and the quotient and remainder of the count by them.
 #[repr(C)]
 pub struct ConcludeNumbers {
     pub kind: u8,
@@ -30,13 +30,23 @@ pub struct ConcludeNumbers {
     pub remainder: u64,
 }
 
-// The summary of a chunk, as the first of a trace unless first is 0.
+// How many bytes a summary has as C lays it out.
+const SUMMARY_SIZE: usize = 176;
+
+// The size of the summary that the library was built with.
 #[no_mangle]
-pub extern "C" fn bellbadger_summarize(judge: Judge, first: u8, chunk: &[u8]) -> SummaryNumbers
-    ensures { λ r. ⌜ r ≡ summaryShown (summarizeOf (judge .built) (not (eqb first 0)) (now (chunk .entry))) ⌝ }
+pub extern "C" fn bellbadger_summary_size() -> usize
+    ensures { λ r. ⌜ r ≡ 176 ⌝ }
 {
-    let built = judge.built;
-    let made = summaries::summarize(built, first != 0, chunk);
+    SUMMARY_SIZE
+}
+
+// The summary of the chunk of that number.
+#[no_mangle]
+pub extern "C" fn bellbadger_summarize(judge: Judge, number: u64, chunk: &[u8]) -> SummaryNumbers
+    ensures { λ r. ⌜ r ≡ summaryShown (summarizeOf judge number (now (chunk .entry))) ⌝ }
+{
+    let made = summaries::summarize(judge, number, chunk);
     let answer = made.answer;
     let summary = made.summary;
     match answer {
@@ -53,18 +63,12 @@ pub extern "C" fn bellbadger_summarize(judge: Judge, first: u8, chunk: &[u8]) ->
     }
 }
 
-// The summary of two chunks, one behind the other. Any two values combine.
+// The summary of two chunks, or of two rows of chunks, one behind the other. Any two values combine.
 #[no_mangle]
-pub extern "C" fn bellbadger_summary_combine(
-    judge: Judge,
-    earlier: Summary,
-    later: Summary,
-) -> Summary
-    ensures { λ r. ⌜ r ≡ combineOf (judge .built .delegates) (judge .built .n) earlier later ⌝ }
+pub extern "C" fn bellbadger_summary_combine(earlier: Summary, later: Summary) -> Summary
+    ensures { λ r. ⌜ r ≡ combineOf earlier later ⌝ }
 {
-    let built = judge.built;
-    let delegates = built.delegates;
-    summaries::combine(delegates, built.n, earlier, later)
+    summaries::combine(earlier, later)
 }
 
 fn kind_of(verdict: Verdict) -> u8
@@ -102,11 +106,14 @@ fn shown(report: Report) -> ConcludeNumbers
     }
 }
 
-// The verdict that the summary of a whole trace comes to.
+// The report that the summary of a whole trace of so many chunks comes to.
 #[no_mangle]
-pub extern "C" fn bellbadger_summary_conclude(judge: Judge, summary: Summary) -> ConcludeNumbers
-    ensures { λ r. ⌜ r ≡ concludeShown (concludeOf (judge .built) summary) ⌝ }
+pub extern "C" fn bellbadger_summary_conclude(
+    judge: Judge,
+    summary: Summary,
+    chunks: u64,
+) -> ConcludeNumbers
+    ensures { λ r. ⌜ r ≡ concludeShown (concludeOf judge summary chunks) ⌝ }
 {
-    let built = judge.built;
-    shown(summaries::conclude(built, summary))
+    shown(summaries::conclude(judge, summary, chunks))
 }
