@@ -21,7 +21,7 @@
  *   230 KB  bellbadger_load, bellbadger_install
  *   210 KB  bellbadger_deliver
  *   170 KB  bellbadger_locate
- *   140 KB  bellbadger_tray_install_row, bellbadger_tray_install_column
+ *   140 KB  bellbadger_tray_install_row, bellbadger_tray_install_column, bellbadger_summarize
  *   120 KB  bellbadger_profile_run
  *   90 KB  any other function
  */
