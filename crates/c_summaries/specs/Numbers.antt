@@ -1,11 +1,11 @@
--- The numbers that C is given by summaries. Every field is fixed: what an answer has no use for is 0.
--- A summary stands as it is.
+-- The numbers that C is given by summaries. Every field is fixed: what an answer has no use for is
+-- 0. A summary stands as it is.
 --
 --   summaryShown s     the summary, or the number of the refusal
---   kindOf v, numberOf v   a verdict: kind 0 refused, 1 waiting, 2 yes, 3 no, each with its number, as
---                      the judge shows it; none other than 0, 2 and 3 is concluded
---   concludeShown r    what is concluded: the kind and the number, and the bytes, the quotient and the
---                      remainder beside them
+--   kindOf v, numberOf v   a verdict: kind 0 refused, 1 waiting, 2 yes, 3 no, each with its number,
+--                      as the judge shows it; none other than 0, 2 and 3 is concluded
+--   concludeShown r    what is concluded: the kind and the number, and the bytes, the quotient and
+--                      the remainder beside them
 --   summaryReadBack, concludeReadBack   what such a result says, read back from its numbers
 --   Claims             nothing is lost by it; proofs/Numbers.antt proves it
 use mathlib.Core.Path.{_≡_}

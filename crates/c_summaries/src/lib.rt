@@ -1,5 +1,6 @@
-// Summaries for C, Rust and Python. Answers are numbers; a summary is a value that the caller keeps,
-// sends and hands in. Of the judge only its rule is looked at, which every machine loads for itself.
+// Summaries for C, Rust and Python. Answers are numbers; a summary is a value that the caller
+// keeps, sends and hands in. Of the judge only its rule is looked at, which every machine loads for
+// itself.
 ghost use mathlib.Core.Path.{_≡_};
 ghost use Rattle.calls.specs.Replies.{verdictMeans, reportMeans};
 ghost use Rattle.summaries.specs.Summaries.{combine as combineOf, summarizeOf, concludeOf};
@@ -10,8 +11,8 @@ use calls::Verdict;
 use summaries::Summary;
 use summaries::SummaryAnswer;
 
-// Accepted is 1 or 0; where it is 0, refused has the number, and the summary is broken, with zeros in
-// every other field.
+// Accepted is 1 or 0; where it is 0, refused has the number, and the summary is broken, with zeros
+// in every other field.
 #[repr(C)]
 pub struct SummaryNumbers {
     pub accepted: u8,
@@ -19,8 +20,8 @@ pub struct SummaryNumbers {
     pub summary: Summary,
 }
 
-// Kind 0 refused with the number; 2 yes and 3 no with the count, as a verdict's, with the bytes of the
-// text, and the quotient and remainder of the count by them.
+// Kind 0 refused with the number; 2 yes and 3 no with the count, as a verdict's, with the bytes of
+// the text, and the quotient and remainder of the count by them.
 #[repr(C)]
 pub struct ConcludeNumbers {
     pub kind: u8,
@@ -63,7 +64,8 @@ pub extern "C" fn bellbadger_summarize(judge: Judge, number: u64, chunk: &[u8]) 
     }
 }
 
-// The summary of two chunks, or of two rows of chunks, one behind the other. Any two values combine.
+// The summary of two chunks, or of two rows of chunks, one behind the other. Any two values
+// combine.
 #[no_mangle]
 pub extern "C" fn bellbadger_summary_combine(earlier: Summary, later: Summary) -> Summary
     ensures { λ r. ⌜ r ≡ combineOf earlier later ⌝ }

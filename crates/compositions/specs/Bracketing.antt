@@ -4,7 +4,7 @@
 --   leaves t           the values that stand in it, the first first
 --   Associative op     the operation op is associative
 --   valueOf op t       what the values come to by the operation op, in these brackets
---   foldFrom op a s    what the value a, and behind it the values s, come to, bracketed to the right
+--   foldFrom op a s    the value a, and behind it the values s, bracketed to the right
 use mathlib.Core.Path.{_≡_}
 use mathlib.Core.List.{List, [], _∷_, _++_}
 

@@ -1,6 +1,7 @@
 -- The laws of digests. Assumes nothing.
 --
 --   step-sums          a step, as the code does it with sums that wrap
+--   digest-below       a digest is a number of 64 bits
 --   from-append        one list of numbers behind another
 --   Left, left-all, left-fewer, left-none   the cells that are left
 --   first-of           the first cells of an array that is made cell by cell
@@ -8,14 +9,15 @@
 use mathlib.Core.Path.{_≡_, refl, sym, ap, _∙_}
 use mathlib.Core.List.{List, [], _∷_, _++_}
 use Prim.Native.Nat.{ℕ, suc, _+_, _-_, _*_, _/_, _%_, _^_, _≤_, _<_}
-use native.Mathlib.Nat.{mod-add-mod}
+use native.Mathlib.Nat.{mod-add-mod, mod-lt}
 use native.Mathlib.Numerals.{add-one}
 use native.Mathlib.Omega.{arith}
+use lib.Dec.{lit<}
 use lib.ListN.{getD}
 use Rattle.base.specs.Lists.{listFrom}
 use Rattle.base.proofs.Lists.{cell-of, same-list}
 use Rattle.build.specs.declared.Built.{Built}
-use Rattle.digests.specs.Digests.{stirred, digestStep, digestFrom, firstCells, setsIn, digestOf}
+use Rattle.digests.specs.Digests.{stirred, digestStep, digestFrom, firstCells, setsIn, digested, digestOf}
 
 pub step-sums : (h x p s t : ℕ) → p ≡ (h * 2 ^ 17 % 2 ^ 64 + h) % 2 ^ 64 → s ≡ (p + x) % 2 ^ 64 → t ≡ (s + s / 2 ^ 23) % 2 ^ 64 → t ≡ digestStep h x
 unfolding digestStep stirred
@@ -48,6 +50,16 @@ module _ (g : ℕ → ℕ) (start n : ℕ) where
     pub left-none : n ≤ i → h ≡ digestFrom start (listFrom 0 n g)
     unfolding digestFrom listFrom
     left-none b = let e : n - i ≡ 0 = omega arith in sym (is .same ∙ rw e)
+
+-- a number of 64 bits
+from-below : (h : ℕ) (xs : List ℕ) → h < 2 ^ 64 → digestFrom h xs < 2 ^ 64
+unfolding digestFrom digestStep stirred
+from-below h [] l = l
+from-below h (x ∷ xs) l = from-below (digestStep h x) xs (mod-lt _ (lit< tt))
+
+pub digest-below : (b : Built) → digestOf b < 2 ^ 64
+unfolding digestOf
+digest-below b = from-below 0 (digested b) (lit< tt)
 
 -- the first cells of an array that is made cell by cell
 pub first-of : (g : ℕ → ℕ) (m n : ℕ) → n ≤ m → firstCells (listFrom 0 m g) n ≡ listFrom 0 n g

@@ -1,7 +1,7 @@
 -- The digest of a built rule: a number of 64 bits that says by which rule a value was made. It is a
 -- guard against mistakes, not against attackers: two rules may have the same digest, and whoever
--- wants to can find two. That a digest is another says that the rule is another; that it is the same
--- says nothing for certain.
+-- wants to can find two. That a digest is another says that the rule is another; that it is the
+-- same says nothing for certain.
 --
 --   stirred t          the number t of 64 bits, with its high bits added to its low ones
 --   digestStep h x     the digest h with the number x behind it

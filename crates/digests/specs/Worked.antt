@@ -1,4 +1,5 @@
--- Digests worked by another program: one list, and one claim over it; proofs/Examples.antt proves it.
+-- Digests worked by another program: one list, and one claim over it; proofs/Examples.antt proves
+-- it.
 --
 --   rowA, builtA       the built rule A of document 01, "Two rules by hand", every cell; its table
 --                      has the rows that are printed there, with 512 for the empty set

@@ -1,5 +1,5 @@
-// The digest of a built rule, by which a value that was made with one rule is told from one that was
-// made with another. A guard against mistakes, not against attackers.
+// The digest of a built rule, by which a value that was made with one rule is told from one that
+// was made with another. A guard against mistakes, not against attackers.
 ghost use mathlib.Core.Path.{_≡_};
 ghost use Prim.Native.Nat.{_≤_};
 ghost use lib.ListN.{length};

@@ -3,9 +3,10 @@
 --
 --   countsIn s, bytesIn s   the sums of the counts and of the bytes
 --   endIn a s          the number after the last chunk of the summary a and those behind it
---   Joined a s         the summary a and those behind it are whole: none is broken, each begins where
---                      the one before it ends, and all are of one rule
---   Summarized-exactly j number w   which number summarizing is refused with, condition by condition
+--   Joined a s         the summary a and those behind it are whole: none is broken, each begins
+--                      where the one before it ends, and all are of one rule
+--   Summarized-exactly j number w   which number summarizing is refused with, condition by
+--                      condition
 --   Concluded-exactly j a chunks    the same of concluding
 use mathlib.Core.Path.{_≡_}
 use mathlib.Core.Logic.{_↔_, _⊎_}

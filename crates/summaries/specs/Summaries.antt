@@ -1,37 +1,44 @@
--- Summaries of chunks: what running a chunk by itself comes to, as a value that can be sent, what two
--- such values come to, one behind the other, and the report that the last one comes to. A summary has
+-- Summaries of chunks: what running a chunk by itself comes to, as a value that can be sent, what
+-- two such values come to, one behind the other, and the report that the last one comes to. A
+-- summary has
 --
---   leads              for each state that was run the mask of the delegates of its end set's members,
---                      of which one without a delegate is passed over; 0 for every other state
+--   leads              for each state that was run the mask of the delegates of its end set's
+--                      members, of which one without a delegate is passed over; 0 for every other
+--                      state
 --   count, bytes       the count, and the number of text bytes; 2^64 − 1 says that many or more
 --   rule               the digest of the built rule by which it was run
 --   first, end         the number of its first chunk, and the number after that of its last one
---   broken             0 where it is whole: its chunks stand in order without a gap, were run by rules
---                      with the same digest, and none was refused. Any other number: it is broken
+--   broken             0 where it is whole: its chunks stand in order without a gap, were run by
+--                      rules with the same digest, and none was refused. Any other number: it is
+--                      broken
 --
 -- Two summaries are combined without a rule. The definitions:
 --
 --   capped x           x as a number of 64 bits: the largest of them says that many or more
---   follows a b        b may stand behind a: neither is broken, and b begins where a ends, by the rule
---                      of a
+--   follows a b        b may stand behind a: neither is broken, and b begins where a ends, by the
+--                      rule of a
 --   combine a b        a and then b; what is broken stays broken, and its fields are taken over all
 --                      the same
---   placeOf number     the place that the chunk of that number is run as at: 0 for chunk 0, and 1 for
---                      any other (document 01, "Running a chunk", asks no more of a place)
+--   placeOf number     the place that the chunk of that number is run as at: 0 for chunk 0, and 1
+--                      for any other (document 01, "Running a chunk", asks no more of a place)
 --   leadsOf d n ends   the leads of the end sets, where d lists the delegates of n states
 --   runsBy b number w  what running the chunk w gives by the built rule b
---   madeOf b number w  its summary. The number 2^64 − 1 has none after it: broken
+--   madeOf b number w, madeFrom   its summary, by what running it gives. The number 2^64 − 1 has
+--                      none after it: broken
 --   Summarized, summaryOutcome   the answer, none or the number of a refusal, and the summary; and
 --                      what the code's result stands for
---   noSummary          zeros, and broken: what a refusal carries
+--   noSummary, summaryRefused x   zeros, and broken: what a refusal carries; refused with x
 --   summaryNumber j w  the number of the refusal: 20, without a rule; 12, 13 (chunks' chunkNumber)
---   summarizeOf j number w   what the judge j answers to the chunk w of that number
+--   summarizeOf j number w   what the judge j answers to the chunk w of that number: refused
+--                      (summaryBy), or its summary
 --   reachedBy b a      the delegates of initial states are led there: the starts that are reached
---   concludeConditions j a chunks   20, without a rule; 42, broken, or not from chunk 0; 43, of another
---                      rule; 44, not that many chunks, or none
---   concludeOf j a chunks   the report, which is refused by these conditions in this order; else yes
---                      exactly where a final start is reached, with the count and its quotient by the
---                      bytes (document 02, R-1)
+--   concludeConditions j a chunks   20, without a rule; 42, broken, or not from chunk 0; 43, of
+--                      another rule; 44, not that many chunks, or none; concludeNumber, the first
+--                      that holds
+--   saidBy t count     yes or no with the count
+--   concludeOf j a chunks   the report, which is refused (concludeBy) by these conditions in this
+--                      order; else yes exactly where a final start is reached, with the count and
+--                      its quotient by the bytes (document 02, R-1)
 use mathlib.Core.Bool.{Bool, cond, _&&_, _||_, not}
 use mathlib.Core.List.{List, [], _∷_}
 use mathlib.Core.Option.{Option, none, some}

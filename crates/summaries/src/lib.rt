@@ -18,9 +18,9 @@ use calls::Verdict;
 use chunks::Runs;
 
 // For each state that was run the mask of the delegates of its end set's members, 0 for every other
-// state; the count and the number of text bytes, of which 2^64 - 1 says that many or more; the digest
-// of the rule; the number of the first chunk, and the number after the last one. Broken is 0 where it
-// is whole; any other number says that it is not of one trace.
+// state; the count and the number of text bytes, of which 2^64 - 1 says that many or more; the
+// digest of the rule; the number of the first chunk, and the number after the last one. Broken is 0
+// where it is whole; any other number says that it is not of one trace.
 #[repr(C)]
 pub struct Summary {
     pub leads: [u32; limits::STATES],
@@ -72,8 +72,8 @@ fn sum_capped(x: u64, y: u64) -> u64
     x + y
 }
 
-// 0 where the later summary may stand behind the earlier one: neither is broken, and it begins where
-// that one ends, by the same rule; else 1.
+// 0 where the later summary may stand behind the earlier one: neither is broken, and it begins
+// where that one ends, by the same rule; else 1.
 fn gap(earlier: Summary, later: Summary) -> u8
     ensures { λ r. ⌜ r ≡ cond (followsIt earlier later) 0 1 ⌝ }
 {

@@ -1,5 +1,5 @@
--- One chunk: what 01 gives to it. Assumes a rule that is well formed and has at most 512 sets, and in
--- the last part that the chunk is not refused.
+-- One chunk: what 01 gives to it. Assumes a rule that is well formed and has at most 512 sets, and
+-- in the last part that the chunk is not refused.
 use mathlib.Core.Path.{_≡_, refl, sym, ap, ap₂, _∙_}
 use mathlib.Core.Bool.{Bool, true, false, cond}
 use mathlib.Core.List.{List}

@@ -1,4 +1,5 @@
--- The digest of rule A: antt computes it, once its sets and its delegates are put in. Assumes nothing.
+-- The digest of rule A: antt computes it, once its sets and its delegates are put in. Assumes
+-- nothing.
 use mathlib.Core.Path.{_≡_, refl, ap, _∙_}
 use mathlib.Core.List.{List, [], _∷_, _++_}
 use Prim.Native.Nat.{ℕ, _*_, _/_, _%_, _≤_, min}

@@ -1,6 +1,7 @@
--- Leading by the leads of summaries is joining place by place, seen through the delegates: the starts
--- that are reached are the delegates of the members of C, and one of them is final exactly where a
--- member of C is. Assumes nothing, and in the last part a well-formed rule with its delegates.
+-- Leading by the leads of summaries is joining place by place, seen through the delegates: the
+-- starts that are reached are the delegates of the members of C, and one of them is final exactly
+-- where a member of C is. Assumes nothing, and in the last part a well-formed rule with its
+-- delegates.
 --
 --   lead-place         one place
 --   join-first         the join, the first place apart
@@ -53,7 +54,8 @@ module _ (d : List ℕ) (n : ℕ) where
       one none h = union-empty (λ x. getD f x 0) 32
       one (some x) h = union-of-single (λ y. getD f y 0) x 32 (h x refl)
 
-  -- the leads of end sets lead from the delegates of m to the delegates of what the place makes of m
+  -- the leads of end sets lead from the delegates of m to the delegates of what the place makes of
+  -- m
   pub lead-place : (ends : List ℕ) (m : ℕ) → imageOf 32 (leadsOf d n ends) (through m) ≡ through (passed (λ x. getD ends x 0) m)
   lead-place ends m =
       image-through (leadsOf d n ends) m

@@ -1,9 +1,9 @@
--- Whatever was combined: where it is concluded, the chunks that were used are a trace. Assumes a rule
--- that installing accepts.
+-- Whatever was combined: where it is concluded, the chunks that were used are a trace. Assumes a
+-- rule that installing accepts.
 --
--- The route: a summary that is whole was not refused, and has its number and the next one; so in what
--- is whole each summary's number is one more than that before it, and where the first is 0 they are
--- 0, 1, 2 and so on, up to the number of chunks that is concluded.
+-- The route: a summary that is whole was not refused, and has its number and the next one; so in
+-- what is whole each summary's number is one more than that before it, and where the first is 0
+-- they are 0, 1, 2 and so on, up to the number of chunks that is concluded.
 use mathlib.Core.Path.{_≡_, refl, sym, ap, ap₂, _∙_, subst}
 use mathlib.Core.List.{List, [], _∷_}
 use mathlib.Core.Option.{Option, none, some}

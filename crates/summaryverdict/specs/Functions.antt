@@ -1,12 +1,12 @@
--- The functions, by their own contracts as the checker reads them (`Reads.Learnt`): what `summarize`,
--- `combine` and `conclude` may return, on judges that calls through the judge's functions left, and
--- what whoever summarizes on many machines, combines in any brackets and concludes gets.
--- proofs/Functions.antt proves `FunctionClaims`.
+-- The functions, by their own contracts as the checker reads them (`Reads.Learnt`): what
+-- `summarize`, `combine` and `conclude` may return, on judges that calls through the judge's
+-- functions left, and what whoever summarizes on many machines, combines in any brackets and
+-- concludes gets. proofs/Functions.antt proves `FunctionClaims`.
 --
 --   MaySummarize, MayCombine, MayConclude   what the functions may return for their arguments
---   Gathered Makes Puts ps a   the numbered chunks ps, in this order, were summarized one by one, the
---                      summaries combined two at a time, in any way, and came to a; `Makes` says what
---                      summarizing a chunk may give, and `Puts` what combining may
+--   Gathered Makes Puts ps a   the numbered chunks ps, in this order, were summarized one by one,
+--                      the summaries combined two at a time, in any way, and came to a; `Makes`
+--                      says what summarizing a chunk may give, and `Puts` what combining may
 --   SummarizedOn r     on some machine calls were made after which the rule r is there, and the
 --                      function gave this summary
 --   numberedFrom p ws  the chunks ws, numbered from p on
@@ -75,8 +75,8 @@ pub record FunctionClaims : Type 0 where
   pub conclude : (h : List Call) (rs : List Reply) (j : Judge) → Execution judgeLibrary h rs j
       → (a : Summary) (chunks : ℕ) (x : Report) → MayConclude j a chunks x → reportMeans x ≡ concludeThere (ruleThere h) a chunks
   -- ---- all of them: whatever chunks were summarized by the rule r, wherever, in whatever brackets
-  -- their summaries were combined, a conclusion by that rule that is not refused is their report, and
-  -- they are numbered 0, 1, .. in order
+  -- their summaries were combined, a conclusion by that rule that is not refused is their report,
+  -- and they are numbered 0, 1, .. in order
   pub used : (r : Rule) (ps : List Numbered) (a : Summary) → Gathered (SummarizedOn r) MayCombine ps a
       → (h : List Call) (rs : List Reply) (j : Judge) → Execution judgeLibrary h rs j → ruleThere h ≡ some r
       → (chunks : ℕ) (x : Report) → MayConclude j a chunks x → refusalIn (reportMeans x .verdict) ≡ none

@@ -1,8 +1,8 @@
--- Chunks that are summarized one by one, on whatever machines, combined in any way and concluded give
--- the report of document 01, for every rule that installing accepts and any number of chunks; with at
--- most 64 it is the report of a filled board. And whatever summaries a rule made are combined, in
--- whatever order, a conclusion that is not refused is the report of the chunks that were used.
--- proofs/Claims.antt proves it.
+-- Chunks that are summarized one by one, on whatever machines, combined in any way and concluded
+-- give the report of document 01, for every rule that installing accepts and any number of chunks;
+-- with at most 64 it is the report of a filled board. And whatever summaries a rule made are
+-- combined, in whatever order, a conclusion that is not refused is the report of the chunks that
+-- were used. proofs/Claims.antt proves it.
 --
 --   judgeOf r          a judge that has the rule r built. What it answers to summarizing and
 --                      concluding any other answers that has it built (`any-judge`)
@@ -12,15 +12,16 @@
 --   textsOf ws         their texts, without idle marks
 --   countOf r ws       the sum of the counts that document 01 gives to the chunks
 --   manyChunks         with fewer chunks no sum comes to 2^64
---   Trace r ws t       in the brackets t stand the summaries of the chunks ws, numbered from 0 on, of
---                      which none is refused; they can be counted in 64 bits
+--   Trace r ws t       in the brackets t stand the summaries of the chunks ws, numbered from 0 on,
+--                      of which none is refused; they can be counted in 64 bits
 --   Reports r ws x     x is the report of the chunks ws: yes exactly where the rule r accepts their
---                      texts joined, else no; with the sum of their counts and of their bytes, up to
---                      2^64 − 1, which says that many or more, and the quotient and remainder
---   Numbered           a chunk with the number that it is summarized as
+--                      texts joined, else no; with the sum of their counts and of their bytes, up
+--                      to 2^64 − 1, which says that many or more, and the quotient and remainder
+--   Numbered           a chunk with the number that it is summarized as; numbersOf and chunksOf
 --   madeBy r ps        the summaries that the rule r makes of numbered chunks, refused ones too
---   Used r ps chunks x   the numbered chunks ps are numbered 0, 1, .. chunks − 1, in this order, none
---                      of them is refused, and the report x is theirs
+--   Used r ps chunks x   the numbered chunks ps are numbered 0, 1, .. chunks − 1, in this order,
+--                      none of them is refused, and the report x is theirs
+--   concludedBy r t chunks   what is concluded of the summaries in the brackets t, by the rule r
 use mathlib.Core.Path.{_≡_}
 use mathlib.Core.Logic.{_↔_, _⊎_}
 use mathlib.Core.List.{List, [], _∷_, map, flatten}
@@ -104,7 +105,6 @@ module _ (r : Rule) where
     pub runs : SummarizesAll (chunksOf ps)
     pub report : Reports (chunksOf ps) x
 
--- what is concluded of the summaries in the brackets t, by the rule r
 abbrev pub concludedBy : Rule → Bracketed Summary → ℕ → Reported
 concludedBy r t chunks = concludeOf (judgeOf r) (valueOf combine t) chunks
 

@@ -1,4 +1,5 @@
--- `image` meets its contract. The loop goes through the bits from state 0 up, as in the successor of a set. Assumes nothing.
+-- `image` meets its contract. The loop goes through the bits from state 0 up, as in the successor
+-- of a set. Assumes nothing.
 use mathlib.Core.Path.{_≡_, refl, sym, ap, _∙_}
 use mathlib.Core.Logic.{⊎-elim}
 use Prim.Native.Nat.{ℕ, _-_, _/_, _^_, _≤_, _<_}
