@@ -34,12 +34,15 @@ rule's digest, and refused; two rules that differ have the same digest only by c
     ...
     bellbadger.refusals.Refused: refused 44: the summary does not end with the last chunk, or there is none
 
-As bytes it can be sent or kept, and pickling does so too:
+As bytes it can be sent or kept, and pickling does so too, with the name of what reads them:
 
     >>> len(whole.to_bytes())
     169
     >>> Summary.from_bytes(whole.to_bytes()) == whole
     True
+    >>> import pickle
+    >>> len(pickle.dumps(whole, protocol=5))
+    263
 
 All this is a guard against mistakes and not against attackers: whoever makes up the numbers of a summary can have any
 verdict.
