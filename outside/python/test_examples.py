@@ -10,6 +10,7 @@ import signal
 import subprocess
 import sys
 import tempfile
+import time
 import unittest
 from pathlib import Path
 
@@ -42,13 +43,16 @@ def said(program, folder, *words):
 
 
 def reader(path):
-    """The process that has a file open, other than this one."""
-    for link in Path("/proc").glob("[0-9]*/fd/*"):
-        try:
-            if int(link.parts[2]) != os.getpid() and os.readlink(link) == str(path):
-                return int(link.parts[2])
-        except OSError:  # it has ended, or belongs to somebody else
-            pass
+    """The process that has a file open, other than this one; waits until there is one."""
+    until = time.monotonic() + 60
+    while time.monotonic() < until:
+        for link in Path("/proc").glob("[0-9]*/fd/*"):
+            try:
+                if int(link.parts[2]) != os.getpid() and os.readlink(link) == str(path):
+                    return int(link.parts[2])
+            except OSError:  # it has ended, or belongs to somebody else
+                pass
+        time.sleep(0.05)
     raise AssertionError(f"nobody reads {path}")
 
 
@@ -116,6 +120,26 @@ class Examples(unittest.TestCase):
             self.folder.joinpath(NAMES[20]).unlink() if wrong is None else self.write(NAMES[20], wrong)
             self.none(program, words, "rule", "40", *NAMES)
 
+    def killed(self, program, words):
+        """The process that reads a chunk, which is a pipe that never ends, is killed."""
+        for name in NAMES:
+            self.write(name, bytes([0, 1]))
+        pipe = self.folder / NAMES[20]
+        pipe.unlink()
+        os.mkfifo(pipe)
+        end = os.open(pipe, os.O_RDWR)
+        self.addCleanup(os.close, end)
+        with started(program, self.folder, "rule", "40", *NAMES) as process:
+            try:
+                os.kill(reader(pipe), signal.SIGKILL)
+                printed, beside = process.communicate(timeout=120)
+            except BaseException:
+                process.kill()
+                raise
+        self.assertEqual(printed, "")
+        self.assertNotEqual(process.returncode, 0)
+        self.assertIn(words, beside)
+
     def test_futures(self):
         self.judged(FUTURES)
 
@@ -123,19 +147,7 @@ class Examples(unittest.TestCase):
         self.not_judged(FUTURES)
 
     def test_futures_killed(self):
-        """The process that reads a chunk, which is a pipe that never ends, is killed."""
-        for name in NAMES:
-            self.write(name, bytes([0, 1]))
-        pipe = self.folder / NAMES[20]
-        pipe.unlink()
-        os.mkfifo(pipe)
-        with started(FUTURES, self.folder, "rule", "40", *NAMES) as program:
-            with pipe.open("wb"):  # waits for the reader
-                os.kill(reader(pipe), signal.SIGKILL)
-                printed, beside = program.communicate(timeout=120)
-        self.assertEqual(printed, "")
-        self.assertNotEqual(program.returncode, 0)
-        self.assertIn("BrokenProcessPool", beside)
+        self.killed(FUTURES, "BrokenProcessPool")
 
     @unittest.skipUnless(HAS_MPI, "mpi4py or mpirun is not installed")
     def test_mpi(self):
@@ -144,6 +156,10 @@ class Examples(unittest.TestCase):
     @unittest.skipUnless(HAS_MPI, "mpi4py or mpirun is not installed")
     def test_mpi_gone_wrong(self):
         self.not_judged(MPI)
+
+    @unittest.skipUnless(HAS_MPI, "mpi4py or mpirun is not installed")
+    def test_mpi_killed(self):
+        self.killed(MPI, "signal 9")
 
 
 if __name__ == "__main__":
