@@ -131,13 +131,14 @@ class Follow(unittest.TestCase):
         """Without the chunk that was no bytes 0 and 1 came, which would be accepted."""
         follower, wide = Follower(ONCE), array.array("H", [1, 1])
 
+        words = r"in TypeError: first drop_refused\(\) or begin\(\)$"
         for wrong in ("0", None, 5, [0, 0], wide):
             for go_on in (follower.drop_refused, follower.begin):
                 follower.begin()
                 self.assertFalse(follower.follow(b"\0").is_accepted_so_far)
                 self.assertRaises(TypeError, follower.follow, wrong)
                 for later in (b"\1", b"", bytes([254])):
-                    self.assertRaisesRegex(RuntimeError, r"in TypeError: first drop_refused\(\) or begin\(\)$", follower.follow, later)
+                    self.assertRaisesRegex(RuntimeError, words, follower.follow, later)
                 self.assertRaises(TypeError, follower.follow, wrong)
                 self.assertEqual(follower.refused, "TypeError")
                 self.assertEqual(repr(follower), "<Follower: states 3, symbols 2, reached 1, refused TypeError>")

@@ -11,9 +11,10 @@ python3-distributed).
         verdict = cluster.judge(client, rule, chunks, count)
     if verdict.is_yes: ..
 
-The workers need this package and its library, and where chunks are paths they must all see the same files by them. A chunk is summarized where a worker is free, neighbours are combined
-on the workers, and the client concludes. What a worker that died had done is done again by another: the scheduler
-sees to that, and it is harmless, since a summary is a value and each has the numbers of its chunks.
+The workers need this package and its library, and where chunks are paths they must all see the same files by them. A
+chunk is summarized where a worker is free, neighbours are combined on the workers, and the client concludes. What a
+worker that died had done is done again by another: the scheduler sees to that, and it is harmless, since a summary is
+a value and each has the numbers of its chunks.
 """
 
 import functools
@@ -61,10 +62,11 @@ def _ready(number, chunk):
     """A chunk for a worker: an absolute path, something to be called, or bytes."""
     if isinstance(chunk, (str, os.PathLike)):
         return os.path.abspath(os.fsdecode(chunk))
+    due = "a path, bytes or something to be called"
     if isinstance(chunk, type):
         # bytes() would be an empty chunk
-        raise TypeError(f"judge: chunk {number} must be a path, bytes or something to be called, not the class {chunk.__name__}")
-    return chunk if callable(chunk) else as_bytes("judge", f"chunk {number}", chunk, "a path, bytes or something to be called")
+        raise TypeError(f"judge: chunk {number} must be {due}, not the class {chunk.__name__}")
+    return chunk if callable(chunk) else as_bytes("judge", f"chunk {number}", chunk, due)
 
 
 def _loaded(number, chunk):
@@ -114,13 +116,15 @@ def combined(client, futures):
 def _numbered(chunks):
     """Pairs of a number and a chunk, in the order of the numbers."""
     if isinstance(chunks, Mapping):
-        numbered = sorted(((whole("judge", "a key of chunks", number), chunk) for number, chunk in chunks.items()), key=lambda pair: pair[0])
+        pairs = [(whole("judge", "a key of chunks", number), chunk) for number, chunk in chunks.items()]
+        numbered = sorted(pairs, key=lambda pair: pair[0])
         if any(not 0 <= number < 2**64 for number, _ in numbered):
             raise Refused(42)
         return numbered
     # a set has no order, a view is a part of a mapping, and one path or one chunk is no list of them
     if isinstance(chunks, (str, bytes, bytearray, memoryview, Set, MappingView)) or not isinstance(chunks, Iterable):
-        raise TypeError(f"judge: chunks must be a mapping from numbers to chunks, or chunks in order, not {type(chunks).__name__}")
+        kind = type(chunks).__name__
+        raise TypeError(f"judge: chunks must be a mapping from numbers to chunks, or chunks in order, not {kind}")
     return list(enumerate(chunks))
 
 
