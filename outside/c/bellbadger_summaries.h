@@ -33,8 +33,9 @@ extern "C" {
  *
  * The digest is a guard against mistakes and not against attackers: two rules that differ have the same digest
  * only by chance, and it is no signature: whoever wants to can find two rules with one digest. It is h at the
- * end, which is 0 at first and for each number x becomes t + t / 2^23, where t is h * 131073 + x, both modulo
- * 2^64; the numbers are those of a bellbadger_built_rule: n, k, initials, finals, the 32 delegates, the 32 singles,
+ * end, which is 0 at first and for each half x of a number, its low 16 bits and then the rest, becomes
+ * t + t / 2^23, where t is h * 131073 + x, both modulo 2^64; the numbers are those of a
+ * bellbadger_built_rule: n, k, initials, finals, the 32 delegates, the 32 singles,
  * count, the sets (as many as count says), and the 16 cells of next of each of these sets. */
 typedef struct {
     uint32_t leads[32];
