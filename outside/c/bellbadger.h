@@ -21,7 +21,7 @@
  *   230 KB  bellbadger_load, bellbadger_install
  *   210 KB  bellbadger_deliver
  *   170 KB  bellbadger_locate
- *   140 KB  bellbadger_tray_install_row, bellbadger_tray_install_column
+ *   140 KB  bellbadger_tray_install_row, bellbadger_tray_install_column, bellbadger_summarize
  *   120 KB  bellbadger_profile_run
  *   90 KB  any other function
  */
@@ -37,7 +37,7 @@
  * Another major number or size: the two do not fit. A higher minor number of the library: it can
  * more than this header says. */
 #define BELLBADGER_VERSION_MAJOR 5
-#define BELLBADGER_VERSION_MINOR 3
+#define BELLBADGER_VERSION_MINOR 4
 #define BELLBADGER_VERSION (BELLBADGER_VERSION_MAJOR * 65536 + BELLBADGER_VERSION_MINOR)
 #define BELLBADGER_STATE_SIZE 27832 /* the bytes of a bellbadger_judge */
 
@@ -223,6 +223,7 @@ BELLBADGER_RESULT bellbadger_replay_result bellbadger_replay(const uint8_t *text
 #include "bellbadger_mappings.h"
 #include "bellbadger_samples.h"
 #include "bellbadger_follow.h"
+#include "bellbadger_summaries.h"
 #include "bellbadger_patterns.h"
 #include "bellbadger_merge.h"
 #include "bellbadger_texts.h"

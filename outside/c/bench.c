@@ -98,6 +98,16 @@ static bellbadger_judge path(int n) {
     return opened(n, 2, 1u << (n - 1), to, 2);
 }
 
+/* the eighth event from the end is 1: 264 sets */
+static bellbadger_judge one_lives(void) {
+    bellbadger_checked_rule r = {.n = 9, .k = 2, .initials = 1, .finals = 1u << 8};
+    r.targets[0] = 1, r.targets[1] = 3;
+    for (int q = 1; q < 8; q++) r.targets[16 * q] = r.targets[16 * q + 1] = 2u << q;
+    bellbadger_install_result installed = bellbadger_install(bellbadger_new(), r);
+    if (installed.sets != 264) exit(1);
+    return bellbadger_open(installed.judge, 2).judge;
+}
+
 /* a made text of symbols below k */
 static void made(uint8_t *buffer, int k, uint64_t seed) {
     if (!bellbadger_make_text((size_t)k, seed, buffer, BYTES).accepted) exit(1);
@@ -220,6 +230,24 @@ static void followings(void) {
     following("rule A", a);
     following("32 states, in one at a time", one);
     following("32 states, in all at once", all);
+}
+
+/* a chunk's summary beside a delivery of it from all starts; and what combining and concluding take */
+static void summaries(const char *name, bellbadger_judge j) {
+    double ratios[ROUNDS], combining, concluding;
+    bellbadger_summary s = bellbadger_summarize(j, 0, text, BYTES).summary, later = bellbadger_summarize(j, 1, text, BYTES).summary;
+    if (bellbadger_summary_conclude(j, s, 1).kind == BELLBADGER_REFUSED || later.broken) exit(1);
+    for (int round = 0; round < ROUNDS; round++) {
+        double a = now();
+        sink += bellbadger_deliver(j, 1, 0, text, BYTES).accepted;
+        double b = now();
+        sink += bellbadger_summarize(j, 1, text, BYTES).accepted;
+        ratios[round] = (now() - b) / (b - a);
+    }
+    qsort(ratios, ROUNDS, sizeof ratios[0], rising);
+    MEASURE(combining, for (int i = 0; i < 1000; i++) sink += bellbadger_summary_combine(s, later).broken);
+    MEASURE(concluding, for (int i = 0; i < 100; i++) sink += bellbadger_summary_conclude(j, s, 1).number);
+    printf("  %-34s %.2f; combined in %.0f ns, concluded in %.0f ns\n", name, ratios[ROUNDS / 2], combining, concluding * 10);
 }
 
 /* a chunk with idle marks, beside its text alone */
@@ -348,6 +376,10 @@ int main(void) {
     beside("runs die within 32 bytes", path(32), 1);
     followings();
     tray_faults();
+    printf("a chunk of 65,536 bytes summarized, beside a delivery of it\n");
+    summaries("8 runs never meet, 8 sets", cycle(8, 2));
+    summaries("32 runs never meet, 32 sets", cycle(32, 2));
+    summaries("one run that lives, 264 sets", one_lives());
 
     static uint8_t marked[BYTES];
     made(marked, 16, 3);

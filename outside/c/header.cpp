@@ -26,6 +26,11 @@ static bool right() {
     bellbadger_follower_result follower = bellbadger_follower_prepare(read.rule);
     bellbadger_follow_result followed = bellbadger_follow(read.rule, read.rule.initials, text, 1);
     bellbadger_follow_result followed_by = bellbadger_follow_by(follower.follower, followed.set, text + 1, 1);
+    static_assert(sizeof(bellbadger_summary) == BELLBADGER_SUMMARY_SIZE, "the size that the header says");
+    bellbadger_summarize_result earlier = bellbadger_summarize(loaded.judge, 0, text, 1);
+    bellbadger_summarize_result later = bellbadger_summarize(loaded.judge, 1, text + 1, 1);
+    bellbadger_summary combined = bellbadger_summary_combine(earlier.summary, later.summary);
+    bellbadger_verdict_result concluded = bellbadger_summary_conclude(loaded.judge, combined, 2);
     const uint8_t ends_in_0_1[] = {'(', 'a', '|', 'b', ')', '*', 'a', 'b'};
     bellbadger_pattern_result pattern = bellbadger_pattern(ends_in_0_1, sizeof ends_in_0_1);
     bellbadger_merge_result merged = bellbadger_merge(BELLBADGER_EITHER, read.rule, read.rule);
@@ -57,6 +62,8 @@ static bool right() {
         && sample.kind == BELLBADGER_SAMPLE && sample.length == 2 && sample.text[0] == 0 && sample.text[1] == 1
         && bellbadger_follower_size() == sizeof(bellbadger_follower) && follower.accepted && followed.accepted && followed.set == 3
         && !followed.ends && followed_by.accepted && followed_by.ends && !followed_by.lost && followed_by.expected == 3
+        && bellbadger_summary_size() == sizeof(bellbadger_summary) && earlier.accepted && later.accepted && combined.leads[0] == 5
+        && combined.end == 2 && !combined.broken && bellbadger_is_yes(concluded) && concluded.number == 3 && concluded.bytes == 2
         && pattern.accepted && pattern.length == 50 && pattern.bytes[0] == 5
         && merged.accepted && merged.rule.n == 6 && merged.rule.targets[4 * 16 + 1] == 32
         && bellbadger_tray_size() == sizeof(bellbadger_tray) && row.accepted && row.sets == 5 && column.accepted && tray.accepted

@@ -24,12 +24,13 @@ static const uint8_t pattern[] = "(a|b)*ab";
 static uint8_t plain[65536], idle[65536], made[65536];
 static char installation[8 + 2 * 2058 + 64];
 static bellbadger_checked_rule a, ring, many, none;
-static bellbadger_judge fresh, ruled, opened, filled;
+static bellbadger_judge fresh, ruled, ringed, opened, filled;
 static bellbadger_profile profile;
 static bellbadger_mapping mapping;
 static bellbadger_failure_form form;
 static bellbadger_follower follower, no_follower;
 static bellbadger_tray tray, tray_opened, tray_filled;
+static bellbadger_summary summary;
 
 /* A call, by which its result is kept: how many bytes that has. */
 #define CALL(at, type, call)                              \
@@ -86,6 +87,13 @@ CALL(follower_ring, bellbadger_follower_result, bellbadger_follower_prepare(ring
 CALL(follower_none, bellbadger_follower_result, bellbadger_follower_prepare(none))
 CALL(follow_by_ring, bellbadger_follow_result, bellbadger_follow_by(follower, ring.initials, idle, sizeof idle))
 CALL(follow_by_none, bellbadger_follow_result, bellbadger_follow_by(no_follower, 1, idle, sizeof idle))
+CALL(summary_size, size_t, bellbadger_summary_size())
+CALL(summarize_first, bellbadger_summarize_result, bellbadger_summarize(ruled, 0, plain, sizeof plain))
+CALL(summarize_idle, bellbadger_summarize_result, bellbadger_summarize(ringed, 1, idle, sizeof idle))
+CALL(summarize_no_rule, bellbadger_summarize_result, bellbadger_summarize(fresh, 1, idle, sizeof idle))
+CALL(summary_combine, bellbadger_summary, bellbadger_summary_combine(summary, summary))
+CALL(summary_conclude, bellbadger_verdict_result, bellbadger_summary_conclude(ringed, summary, 1))
+CALL(summary_conclude_late, bellbadger_verdict_result, bellbadger_summary_conclude(ruled, summary, 1))
 CALL(pattern_right, bellbadger_pattern_result, bellbadger_pattern(pattern, sizeof pattern - 1))
 CALL(pattern_wrong, bellbadger_pattern_result, bellbadger_pattern(pattern, 1))
 CALL(merge_both, bellbadger_merge_result, bellbadger_merge(BELLBADGER_BOTH, a, a))
@@ -131,6 +139,9 @@ static const struct {
     {"sample", sample_accepted}, {"sample", sample_rejected}, {"sample", sample_many},
     {"follow", follow_plain}, {"follow", follow_ring}, {"follow", follow_none}, {"follower_size", follower_size},
     {"follower_prepare", follower_ring}, {"follower_prepare", follower_none}, {"follow_by", follow_by_ring}, {"follow_by", follow_by_none},
+    {"summary_size", summary_size},
+    {"summarize", summarize_first}, {"summarize", summarize_idle}, {"summarize", summarize_no_rule},
+    {"summary_combine", summary_combine}, {"summary_conclude", summary_conclude}, {"summary_conclude", summary_conclude_late},
     {"pattern", pattern_right}, {"pattern", pattern_wrong},
     {"merge", merge_both}, {"merge", merge_either}, {"merge", merge_interleaving}, {"merge", merge_none},
     {"make_text", make_text},
@@ -193,11 +204,14 @@ static void prepare(void) {
     mapping = bellbadger_profile_run(profile, plain, 2).mapping;
     form = bellbadger_form(ruled).form;
     follower = bellbadger_follower_prepare(ring).follower;
+    ringed = bellbadger_install(fresh, ring).judge;
+    summary = bellbadger_summarize(ringed, 0, plain, 99).summary;
     tray = bellbadger_tray_install_column(bellbadger_tray_install_row(bellbadger_tray_new(), a).tray, a).tray;
     tray_opened = bellbadger_tray_open(tray, 2, 1).tray;
     tray_filled = bellbadger_tray_deliver(tray_opened, 0, plain, 128).tray;
     expect(bellbadger_verdict(filled).kind >= BELLBADGER_YES && bellbadger_tray_verdict(tray_filled).kind >= BELLBADGER_YES, "not filled");
     expect(bellbadger_follow_by(follower, 1, idle, sizeof idle).accepted && bellbadger_follower_prepare(none).refused, "no follower");
+    expect(bellbadger_summary_conclude(ringed, summary, 1).kind >= BELLBADGER_YES && bellbadger_summarize(fresh, 0, plain, 1).refused, "no summary");
     expect(bellbadger_replay(TEXT(installation)).kind == BELLBADGER_YES, "no installation");
     expect(bellbadger_replay(TEXT(record)).kind >= BELLBADGER_YES, "no record");
     expect(bellbadger_install(fresh, many).refused == 9 && bellbadger_install(fresh, ring).accepted, "other rules");

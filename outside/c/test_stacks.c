@@ -38,6 +38,9 @@ static void *caller(void *unused) {
     bellbadger_follower_result follower = bellbadger_follower_prepare(read.rule);
     bellbadger_follow_result followed = bellbadger_follow(read.rule, read.rule.initials, chunk, sizeof chunk);
     bellbadger_follow_result followed_by = bellbadger_follow_by(follower.follower, followed.set, chunk, sizeof chunk);
+    bellbadger_summarize_result summarized = bellbadger_summarize(loaded.judge, 0, chunk, sizeof chunk);
+    bellbadger_summary combined = bellbadger_summary_combine(summarized.summary, bellbadger_summarize(loaded.judge, 1, chunk, sizeof chunk).summary);
+    bellbadger_verdict_result concluded = bellbadger_summary_conclude(loaded.judge, combined, 2);
     bellbadger_pattern_result file = bellbadger_pattern(pattern, sizeof pattern - 1);
     bellbadger_merge_result merged = bellbadger_merge(BELLBADGER_INTERLEAVING, read.rule, read.rule);
     bellbadger_made_result text = bellbadger_make_text(16, 1, made, sizeof made);
@@ -58,6 +61,7 @@ static void *caller(void *unused) {
     CHECK(diagnosed.kind == BELLBADGER_OPEN && diagnosed.number == 1 && located.kind == BELLBADGER_NOWHERE);
     CHECK(built.accepted && ran.accepted && bellbadger_profile_verdict(built.profile, composed) == 1);
     CHECK(bellbadger_follower_size() == sizeof follower.follower && follower.accepted && followed.accepted && followed_by.ends);
+    CHECK(bellbadger_summary_size() == sizeof combined && summarized.accepted && bellbadger_is_yes(concluded) && concluded.bytes == 2 * verdict.bytes);
     CHECK(sample.kind == BELLBADGER_SAMPLE && file.accepted && merged.accepted && text.accepted && form.accepted && table.accepted);
     CHECK(row.accepted && column.accepted && tray.accepted && band.accepted && no_band.accepted);
     CHECK(of_tray.kind == BELLBADGER_NO && !bellbadger_tray_is_yes(of_tray) && fault.kind == BELLBADGER_FAULT_SHORT);

@@ -7,18 +7,20 @@ import inspect
 import unittest
 
 import bellbadger
-from bellbadger import CheckedRule, Judge, Refused, read, replay
+from bellbadger import CheckedRule, Judge, Refused, cluster, read, replay
 from bellbadger.follow import Follower
 from bellbadger.form import Form, form, table
 from bellbadger.mappings import Profile, compose
 from bellbadger.merge import BOTH, merge
 from bellbadger.patterns import rule_file
 from bellbadger.samples import ACCEPTED, sample
+from bellbadger.summaries import Summary
+from bellbadger.summaries import combine as combine_summaries
 from bellbadger.texts import make_text
 from bellbadger.trays import Tray
 
 A = read(bytes.fromhex("03020100000004000000160006001C0002001E0000000000000101000102"))
-SUBJECTS = ("judge", "rules", "losses", "follow", "mappings", "samples", "patterns", "merge", "trays", "form", "texts")
+SUBJECTS = ("judge", "rules", "losses", "follow", "summaries", "cluster", "mappings", "samples", "patterns", "merge", "trays", "form", "texts")
 WIDE = array.array("H", [0, 1])
 
 
@@ -39,10 +41,12 @@ def opened_tray():
 
 JUDGE, TRAY, PROFILE, FORM = opened(), opened_tray(), Profile(A), Form(1, (0,), (1,), (0,))
 FOLLOWER = Follower(A)
+SUMMARY, MASKS_32 = JUDGE.summarize(0, b""), [0] * 32
 
 NO_BYTES = ((5, "int"), ("01", "str"), ([0, 2], "list"), (None, "NoneType"), (WIDE, "items of 2 bytes"))
 NO_NUMBER = ((0.0, "float"), ("0", "str"), (None, "NoneType"), (b"\0", "bytes"))
 NO_RULE = ((b"", "bytes"), (None, "NoneType"), (JUDGE, "Judge"))
+NO_SUMMARY = ((SUMMARY.to_bytes(), "bytes"), (None, "NoneType"), (JUDGE, "Judge"))
 
 # a function, the arguments that are right, and the place and name of the one that is wrong; then what it
 # must be and what is handed in
@@ -60,6 +64,18 @@ WRONG_TYPES = [
         (JUDGE.withdraw, [0], 0, "place", "a whole number", NO_NUMBER),
         (JUDGE.locate, [0, b""], 0, "place", "a whole number", NO_NUMBER),
         (JUDGE.locate, [0, b""], 1, "chunk", "bytes", NO_BYTES),
+        (JUDGE.summarize, [0, b""], 0, "number", "a whole number", NO_NUMBER),
+        (JUDGE.summarize, [0, b""], 1, "chunk", "bytes", NO_BYTES),
+        (JUDGE.conclude, [SUMMARY, 1], 0, "summary", "a Summary", NO_SUMMARY),
+        (JUDGE.conclude, [SUMMARY, 1], 1, "chunks", "a whole number", NO_NUMBER),
+        (combine_summaries, [SUMMARY, SUMMARY], 0, "earlier", "a Summary", NO_SUMMARY),
+        (combine_summaries, [SUMMARY, SUMMARY], 1, "later", "a Summary", NO_SUMMARY),
+        (Summary, [MASKS_32, 0, 0, 0, 0, 0], 0, "leads", "a sequence", ((0, "int"), (None, "NoneType"))),
+        (Summary, [MASKS_32, 0, 0, 0, 0, 0], 1, "count", "a whole number", NO_NUMBER),
+        (Summary, [MASKS_32, 0, 0, 0, 0, 0, 0], 6, "broken", "a whole number", NO_NUMBER),
+        (cluster.judge, [None, A, [], 0], 1, "rule", "a CheckedRule", NO_RULE),
+        (cluster.judge, [None, A, [], 0], 3, "count", "a whole number", NO_NUMBER),
+        (Summary.from_bytes, [bytes(169)], 0, "data", "bytes", NO_BYTES),
         (CheckedRule, [1, 1, 0, 0], 0, "n", "a whole number", NO_NUMBER),
         (CheckedRule, [1, 1, 0, 0], 1, "k", "a whole number", NO_NUMBER),
         (CheckedRule, [1, 1, 0, 0], 2, "initials", "a whole number", NO_NUMBER),
@@ -111,6 +127,14 @@ WRONG_VALUES = (
     (CheckedRule, [1, 1, 0, 0, MASKS[:511]], "CheckedRule: targets must be 512 masks, not 511"),
     (CheckedRule, [1, 1, 0, 0, MASKS + [0]], "CheckedRule: targets must be 512 masks, not 513"),
     (CheckedRule, [1, 1, 0, 0, MASKS[:511] + [2**32]], f"CheckedRule: targets[511] must be {OVER_32}"),
+    (JUDGE.summarize, [2**64, b""], f"summarize: number must be 0 to {2**64 - 1}, not {2**64}"),
+    (JUDGE.summarize, [-1, b""], f"summarize: number must be 0 to {2**64 - 1}, not -1"),
+    (Summary, [[0] * 31, 0, 0, 0, 0, 0], "Summary: leads must be 32 masks, not 31"),
+    (Summary, [[0] * 31 + [2**32], 0, 0, 0, 0, 0], f"Summary: leads[31] must be {OVER_32}"),
+    (Summary, [MASKS_32, 0, 0, 0, 0, -1], f"Summary: end must be 0 to {2**64 - 1}, not -1"),
+    (Summary, [MASKS_32, 0, 0, 0, 0, 0, 256], "Summary: broken must be 0 to 255, not 256"),
+    (Summary.from_bytes, [bytes(168)], "from_bytes: data must be 169 bytes, not 168"),
+    (Summary.from_bytes, [b""], "from_bytes: data must be 169 bytes, not 0"),
     (PROFILE.accepts, [bytes(7)], "accepts: mapping must be eight bytes, not 7"),
     (compose, [bytes(9), bytes(8)], "compose: earlier must be eight bytes, not 9"),
     (compose, [bytes(8), b""], "compose: later must be eight bytes, not 0"),
@@ -136,6 +160,7 @@ NO_SIZES = (
     (JUDGE.deliver, [None, 0, b""], 11),
     (JUDGE.withdraw, [None], 11),
     (JUDGE.locate, [None, b""], 11),
+    (JUDGE.conclude, [SUMMARY, None], 44),
     (TRAY.open, [None, 1], 38),
     (TRAY.open, [1, None], 10),
     (TRAY.deliver, [None, b""], 11),
@@ -143,8 +168,8 @@ NO_SIZES = (
 )
 
 # what takes no arguments, and what the package alone makes
-WITHOUT = {"version", "Judge", "Tray", "Judge.verdict", "Judge.diagnose", "Tray.verdict", "Tray.fault", "Follower.begin", "Follower.drop_refused"}
-ANSWERS = {"Loaded", "Looked", "Waiting", "Yes", "No", "TrayWaiting", "TrayYes", "TrayNo", "TrayRefused", "Row", "Column", "Short", "Lost", "Open", "Followed", "Refused", "Malformed"}
+WITHOUT = {"version", "Judge", "Tray", "Judge.verdict", "Judge.diagnose", "Tray.verdict", "Tray.fault", "Follower.begin", "Follower.drop_refused", "Summary.to_bytes"}
+ANSWERS = {"Loaded", "Looked", "Waiting", "Yes", "No", "TrayWaiting", "TrayYes", "TrayNo", "TrayRefused", "Row", "Column", "Short", "Lost", "Open", "Followed", "Refused", "RefusedChunk", "Malformed"}
 
 
 def public_functions():
@@ -156,7 +181,8 @@ def public_functions():
                 continue
             yield name
             if inspect.isclass(value):
-                yield from (f"{name}.{at}" for at, _ in inspect.getmembers(value, inspect.isfunction) if not at.startswith("_"))
+                ours = lambda member: inspect.isfunction(member) or inspect.ismethod(member)
+                yield from (f"{name}.{at}" for at, _ in inspect.getmembers(value, ours) if not at.startswith("_"))
 
 
 class Arguments(unittest.TestCase):

@@ -329,13 +329,13 @@ class Module(unittest.TestCase):
         names = "CheckedRule Judge Loaded Looked Malformed No Refused Waiting Yes read replay version".split()
         self.assertEqual(sorted(bellbadger.__all__), names)
         self.assertTrue(all(hasattr(bellbadger, name) for name in names))
-        for subject in "judge rules mappings samples patterns merge trays form texts".split():
+        for subject in "judge rules losses follow summaries cluster mappings samples patterns merge trays form texts".split():
             module = getattr(bellbadger, subject)
             self.assertEqual(module.__name__, "bellbadger." + subject)
             self.assertTrue(module.__doc__ and module.__all__)
 
     def test_version(self):
-        self.assertEqual(bellbadger.version(), (5, 3))
+        self.assertEqual(bellbadger.version(), (5, 4))
 
     def imported_from(self, folder):
         run = subprocess.run(

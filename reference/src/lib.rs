@@ -21,6 +21,7 @@ pub mod random;
 pub mod rule;
 pub mod samples;
 pub mod shrink;
+pub mod summaries;
 pub mod table;
 pub mod tally;
 pub mod trayfaults;

@@ -15,13 +15,13 @@ use Rattle.marks.specs.Marks.{textOf}
 use Rattle.automaton.specs.declared.Rule.{Rule}
 use Rattle.automaton.specs.Automaton.{Accepts}
 use Rattle.automaton.specs.Rules.{automatonOf}
-use Rattle.chunks.proofs.Claims as chunks
 use Rattle.calls.specs.Replies.{yesWith, noWith}
 use Rattle.calls.specs.Calls.{Call}
 use Rattle.histories.specs.History.{ruleThere, ruleIn, boardIn, emptiesIn, summedIn, textIn, verdictIn}
 use Rattle.histories.proofs.EveryList.{every-list}
-use Rattle.mapverdict.specs.Filled.{Filled}
-use Rattle.mapverdict.proofs.Boards as boards
+use Rattle.fillings.specs.Filled.{Filled}
+use Rattle.fillings.proofs.Boards as boards
+use Rattle.fillings.proofs.Claims as fillings
 use Rattle.follow.specs.Following.{followNumber, followOf}
 use Rattle.follow.specs.Claims.{handed, takenText}
 use Rattle.follow.proofs.Claims as follow
@@ -29,9 +29,7 @@ use Rattle.followverdict.specs.Boards.{FollowsAll, Claims}
 use Rattle.followverdict.proofs.Refusals as refusals
 
 follows : (h : List Call) (r : Rule) (ws : List (List ℕ)) → Filled h r ws → FollowsAll r ws
-follows h r ws is i b =
-    follow.claims .numbers r (getD ws i []) .accepted .1
-    (refusals.checked h r (is .rule), boards.short h r ws is i b, chunks.claims .text-law (textOf (getD ws i [])) (r .k) .0 (boards.known h r ws is i b))
+follows h r ws is i b = refusals.chunk-number r (getD ws i []) (fillings.claims .well h r (is .rule) .0) ∙ boards.taken h r ws is i b
 
 -- the texts of a list of chunks and one more
 joined-last : (us : List (List ℕ)) (w : List ℕ) → flatten (map textOf (us ++ (w ∷ []))) ≡ flatten (map textOf us) ++ textOf w
@@ -100,7 +98,7 @@ claims = record {
       boards.fillings r taken ws one most
       (λ i b.
       let x = follow.claims .numbers r (getD ws i []) .accepted .0 (ok i b) in
-      (x .1, chunks.claims .text-law (textOf (getD ws i [])) (r .k) .1 (x .2)));
+      sym (refusals.chunk-number r (getD ws i []) (x .0)) ∙ ok i b);
   as-installed = refusals.as-installed;
   as-delivered = refusals.as-delivered;
 }

@@ -1,6 +1,6 @@
 -- Following a board's chunks in order of place gives the yes or no that the board gives; proofs/Claims.antt
--- proves it. `Filled h r ws` is mapverdict's: after the calls h a board is there with the rule r, and at
--- its places stand the chunks ws, none of which is missing.
+-- proves it. `Filled h r ws` is of crates/fillings: after the calls h a board is there with the rule r,
+-- and at its places stand the chunks ws, none of which is missing.
 use mathlib.Core.Path.{_≡_}
 use mathlib.Core.Logic.{_↔_, _⊎_}
 use mathlib.Core.Bool.{true, false}
@@ -13,7 +13,7 @@ use Rattle.automaton.specs.declared.Rule.{Rule}
 use Rattle.calls.specs.Replies.{yesWith, noWith, refused}
 use Rattle.calls.specs.Calls.{Call, delivers, installNumber}
 use Rattle.histories.specs.History.{ruleThere, boardIn, placesIn, emptiesIn, summedIn, verdictIn, answerOf}
-use Rattle.mapverdict.specs.Filled.{Filled}
+use Rattle.fillings.specs.Filled.{Filled}
 use Rattle.follow.specs.Following.{followNumber, followOf}
 use Rattle.follow.specs.Claims.{handed}
 

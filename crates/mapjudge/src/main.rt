@@ -142,7 +142,7 @@ fn run(line: &mut [u8], bytes: &mut [u8], out: &mut [u8], block: &mut [u8])
 
 fn main() {
     if stdio::has_arguments(
-        b"usage: mapjudge < CALLS   (takes no arguments; see docs/MAPPINGS.md)\n",
+        b"usage: mapjudge < CALLS   (takes no arguments; see docs/MANY_MACHINES.md)\n",
     ) {
         return;
     }

@@ -1,5 +1,4 @@
 -- In the order in which they build on each other.
-pub mod Unions
 pub mod Composing
 pub mod Packing
 pub mod Rules

@@ -20,9 +20,10 @@ use Rattle.automaton.specs.Automaton.{Run, Accepts}
 use Rattle.automaton.specs.Rules.{targetMask, automatonOf}
 use Rattle.automaton.specs.Successor.{successor, after}
 use Rattle.automaton.proofs.Laws.{after-or, after-append, after-empty, after-below, after-law, accepts-law}
-use Rattle.mappings.specs.Mappings.{Value, Within, image, compose, identity, composedFrom, letter, mappingOf}
+use Rattle.compositions.specs.Bracketing.{foldFrom}
+use Rattle.compositions.proofs.Unions.{union-single, union-of-single, union-through}
+use Rattle.mappings.specs.Mappings.{Value, Within, image, compose, identity, letter, mappingOf}
 use Rattle.mappings.specs.Claims.{Small, mappingAfter}
-use Rattle.mappings.proofs.Unions.{union-single, union-of-single, union-through}
 
 -- a set's successor by a text is the union of those of its members
 after-union : (ts : List ℕ) (m n : ℕ) (w : List ℕ) → m < 2 ^ n → union (λ q. after ts (single q) w) m n ≡ after ts m w
@@ -102,7 +103,7 @@ module _ (r : Rule) (small : Small r) where
   says w = rw (image-after w (r .initials) (small .good .initials-below)) (accepts-law r (small .good) w)
 
   -- ---- texts one behind the other
-  pub of-all : (w : List ℕ) (ws : List (List ℕ)) → composedFrom (mappingAfter r w) (map (mappingAfter r) ws) ≡ mappingAfter r (flatten (w ∷ ws))
-  unfolding composedFrom flatten
+  pub of-all : (w : List ℕ) (ws : List (List ℕ)) → foldFrom compose (mappingAfter r w) (map (mappingAfter r) ws) ≡ mappingAfter r (flatten (w ∷ ws))
+  unfolding foldFrom flatten
   of-all w [] = ap (mappingAfter r) (sym (append-nil w))
   of-all w (v ∷ ws) = ap (compose (mappingAfter r w)) (of-all v ws) ∙ sym (of-both w (flatten (v ∷ ws)))

@@ -21,7 +21,8 @@ use Rattle.automaton.specs.Automaton.{Text, Run, Accepts}
 use Rattle.automaton.specs.Rules.{automatonOf, WellFormed}
 use Rattle.numbering.specs.Numbering.{nextOf}
 use Rattle.numbering.specs.Texts.{Sooner, NoLater}
-use Rattle.mappings.specs.Mappings.{mappedStates, Value, Within, image, compose, identity, Bracketed, valueOf, leaves, composed, letter, mappingOf}
+use Rattle.compositions.specs.Bracketing.{Bracketed, leaves, valueOf}
+use Rattle.mappings.specs.Mappings.{mappedStates, Value, Within, image, compose, identity, composed, letter, mappingOf}
 use Rattle.mappings.specs.Packing.{pack, unpack, mappingWalk, mappingKeys}
 
 pub record Small (r : Rule) : Type 0 where
@@ -62,8 +63,8 @@ pub record Claims : Type 0 where
   pub composes : (f g : List ℕ) → Value g → Value (compose f g)
   pub associative : (f g h : List ℕ) → compose (compose f g) h ≡ compose f (compose g h)
   -- however mappings are bracketed, it comes to the same
-  pub brackets : (t : Bracketed) → valueOf t ≡ composed (leaves t)
-  pub bracketing : (x y : Bracketed) → leaves x ≡ leaves y → valueOf x ≡ valueOf y
+  pub brackets : (t : Bracketed (List ℕ)) → valueOf compose t ≡ composed (leaves t)
+  pub bracketing : (x y : Bracketed (List ℕ)) → leaves x ≡ leaves y → valueOf compose x ≡ valueOf compose y
   -- the identity of n states changes no mapping of n states, that of eight no value
   pub identity-first : (n : ℕ) → n ≤ mappedStates → (f : List ℕ) → Within n f → compose (identity n) f ≡ f
   pub identity-last : (n : ℕ) → n ≤ mappedStates → (f : List ℕ) → Within n f → compose f (identity n) ≡ f

@@ -8,23 +8,24 @@
 --   image f m          every state that f maps a member of the set m to
 --   compose f g        000's f • g: f is applied first, then g
 --   identity n         each of n states is mapped to the set of itself
---   Bracketed          mappings composed two at a time, in any way
---   valueOf t, leaves t   what that comes to, and the mappings that stand in it, the first first
 --   composed fs        the mappings fs composed, the first applied first; none come to the identity
+--                      (in any brackets they are `Bracketed` of crates/compositions)
 --   letter ts s        000's bound transition function of the symbol s, in a rule with the targets
 --                      ts: each state's targets by s
 --   mappingOf ts n w   the mapping of the text w, in a rule with the targets ts and n states: for
 --                      each of the n states the successor of its singleton by w
 use mathlib.Core.Path.{_≡_}
 use mathlib.Core.Bool.{cond}
-use mathlib.Core.List.{List, [], _∷_, _++_}
+use mathlib.Core.List.{List, [], _∷_}
 use Prim.Native.Nat.{ℕ, _%_, _^_, _≤_, _<_}
 use lib.Dec.{ltb}
 use lib.ListN.{length, getD}
 use Rattle.base.specs.Lists.{listFrom}
-use Rattle.masks.specs.Masks.{single, union}
+use Rattle.masks.specs.Masks.{single}
 use Rattle.automaton.specs.Rules.{targetMask}
 use Rattle.automaton.specs.Successor.{after}
+use Rattle.compositions.specs.Bracketing.{foldFrom}
+use Rattle.compositions.specs.Relations.{imageOf, composeOf}
 
 abbrev pub mappedStates : ℕ
 mappedStates = 8
@@ -39,35 +40,17 @@ pub record Within (n : ℕ) (f : List ℕ) : Type 0 where
   pub zeros : (q : ℕ) → q < mappedStates → n ≤ q → getD f q 0 ≡ 0
 
 abbrev pub image : List ℕ → ℕ → ℕ
-image f m = union (λ q. getD f q 0) m mappedStates
+image f m = imageOf mappedStates f m
 
 abbrev pub compose : List ℕ → List ℕ → List ℕ
-compose f g = listFrom 0 mappedStates (λ q. image g (getD f q 0))
+compose f g = composeOf mappedStates f g
 
 abbrev pub identity : ℕ → List ℕ
 identity n = listFrom 0 mappedStates (λ q. cond (ltb q n) (single q) 0)
 
--- ---- brackets
-pub data Bracketed : Type 0 where
-  leaf : List ℕ → Bracketed
-  both : Bracketed → Bracketed → Bracketed
-
-unfoldable pub valueOf : Bracketed → List ℕ
-valueOf (leaf f) = f
-valueOf (both x y) = compose (valueOf x) (valueOf y)
-
-unfoldable pub leaves : Bracketed → List (List ℕ)
-leaves (leaf f) = f ∷ []
-leaves (both x y) = leaves x ++ leaves y
-
--- f, and then the mappings fs
-unfoldable pub composedFrom : List ℕ → List (List ℕ) → List ℕ
-composedFrom f [] = f
-composedFrom f (g ∷ fs) = compose f (composedFrom g fs)
-
 abbrev pub composed : List (List ℕ) → List ℕ
 composed [] = identity mappedStates
-composed (f ∷ fs) = composedFrom f fs
+composed (f ∷ fs) = foldFrom compose f fs
 
 -- ---- texts
 -- (a rule of eight states has no target beyond them; a value that has one is cut to eight bits)

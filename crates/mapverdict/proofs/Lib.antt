@@ -1,5 +1,4 @@
 -- In the order in which they build on each other.
 pub mod FewSets
-pub mod Boards
 pub mod Refusals
 pub mod Claims

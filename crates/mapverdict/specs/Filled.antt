@@ -1,8 +1,7 @@
 -- The final mapping gives the yes or no that a filled board with the same chunks gives, for every
 -- rule in the profile (document 02, R-8); proofs/Claims.antt proves it.
 --
---   Filled h r ws      after the calls h a board is there with the rule r, and at its places stand
---                      the chunks ws, none of which is missing
+--   Filled h r ws      a board is filled with the chunks ws, by the rule r: crates/fillings
 --   RunsAll r ws       the profile of the rule r runs each of the chunks ws
 --   mappingsOf r ws    the mappings that these runs answer, in order of place
 use mathlib.Core.Path.{_≡_}
@@ -14,19 +13,15 @@ use Prim.Native.Nat.{ℕ, _≤_, _<_}
 use lib.ListN.{length, getD}
 use Rattle.limits.specs.Limits.{mostPlaces}
 use Rattle.automaton.specs.declared.Rule.{Rule}
-use Rattle.mappings.specs.Mappings.{Bracketed, valueOf, leaves}
+use Rattle.compositions.specs.Bracketing.{Bracketed, leaves, valueOf}
+use Rattle.mappings.specs.Mappings.{compose}
 use Rattle.profile.specs.Profiles.{buildNumber, profileOf}
 use Rattle.profile.specs.Runs.{runOf, verdictOf}
 use Rattle.profile.specs.Claims.{Takes}
 use Rattle.calls.specs.Replies.{yesWith, noWith, refused}
 use Rattle.calls.specs.Calls.{Call, delivers, installNumber}
-use Rattle.histories.specs.History.{ruleThere, boardIn, placesIn, standing, emptiesIn, summedIn, verdictIn, answerOf}
-
-pub record Filled (h : List Call) (r : Rule) (ws : List (List ℕ)) : Type 0 where
-  pub rule : ruleThere h ≡ some r
-  pub board : boardIn h ≡ true
-  pub places : placesIn h ≡ length ws
-  pub stands : (p : ℕ) → p < length ws → standing h p ≡ some (getD ws p [])
+use Rattle.histories.specs.History.{ruleThere, boardIn, placesIn, emptiesIn, summedIn, verdictIn, answerOf}
+use Rattle.fillings.specs.Filled.{Filled}
 
 module _ (r : Rule) (ws : List (List ℕ)) where
   abbrev pub RunsAll : Type 0
@@ -38,10 +33,10 @@ module _ (r : Rule) (ws : List (List ℕ)) where
 pub record Claims : Type 0 where
   -- the mappings of the standing chunks, composed in any way in order of place, say yes exactly
   -- where the verdict after the list is yes, and no exactly where it is no
-  pub yes-same : (h : List Call) (r : Rule) (ws : List (List ℕ)) → Takes r → Filled h r ws → (t : Bracketed) → leaves t ≡ mappingsOf r ws
-      → (verdictOf (profileOf r) (valueOf t) ≡ true) ↔ (verdictIn h ≡ yesWith (summedIn h))
-  pub no-same : (h : List Call) (r : Rule) (ws : List (List ℕ)) → Takes r → Filled h r ws → (t : Bracketed) → leaves t ≡ mappingsOf r ws
-      → (verdictOf (profileOf r) (valueOf t) ≡ false) ↔ (verdictIn h ≡ noWith (summedIn h))
+  pub yes-same : (h : List Call) (r : Rule) (ws : List (List ℕ)) → Takes r → Filled h r ws → (t : Bracketed (List ℕ)) → leaves t ≡ mappingsOf r ws
+      → (verdictOf (profileOf r) (valueOf compose t) ≡ true) ↔ (verdictIn h ≡ yesWith (summedIn h))
+  pub no-same : (h : List Call) (r : Rule) (ws : List (List ℕ)) → Takes r → Filled h r ws → (t : Bracketed (List ℕ)) → leaves t ≡ mappingsOf r ws
+      → (verdictOf (profileOf r) (valueOf compose t) ≡ false) ↔ (verdictIn h ≡ noWith (summedIn h))
   -- what stands on a board is run by the profile too: it meets 12 and 13 as there
   pub runs : (h : List Call) (r : Rule) (ws : List (List ℕ)) → Takes r → Filled h r ws → RunsAll r ws
   -- a board with that rule on which no place is empty is filled so

@@ -139,7 +139,7 @@ by-zeros none masks x e = none-some refl e
 by-zeros (some y) masks x e = refl
 
 module _ (p : Profile) (w : List ℕ) where
-  refusal-is : runOf p w .refusal ≡ chunkNumber (p .k) w
+  pub refusal-is : runOf p w .refusal ≡ chunkNumber (p .k) w
   unfolding runOf
   refusal-is = by-refusal (chunkNumber (p .k) w) _
 
@@ -165,6 +165,3 @@ module _ (p : Profile) (w : List ℕ) where
       let n : chunkNumber (p .k) w ≡ none = sym refusal-is ∙ e in
       let x = chunks.claims .taking (p .k) w .taken .0 n in
       (x .0, x .1, rw n)
-
-  pub runs-when : length w ≤ 65536 → foreign (textOf w) (p .k) ≡ false → runOf p w .refusal ≡ none
-  runs-when l s = refusal-is ∙ chunks.claims .taking (p .k) w .taken .1 (l, s)

@@ -16,9 +16,10 @@ use Rattle.automaton.specs.declared.Rule.{Rule}
 use Rattle.automaton.specs.Automaton.{Accepts}
 use Rattle.automaton.specs.Rules.{automatonOf}
 use Rattle.chunks.proofs.Claims as chunks
-use Rattle.mappings.specs.Mappings.{image, Bracketed, valueOf, leaves, composed}
+use Rattle.compositions.specs.Bracketing.{Bracketed, leaves, valueOf}
+use Rattle.compositions.proofs.Claims as compositions
+use Rattle.mappings.specs.Mappings.{image, compose, composed}
 use Rattle.mappings.specs.Claims.{Small, mappingAfter, keysOf}
-use Rattle.mappings.proofs.Composing.{some-leaf}
 use Rattle.mappings.proofs.Claims as mappings
 use Rattle.profile.specs.Profiles.{profileOf}
 use Rattle.profile.specs.Runs.{runOf, verdictOf}
@@ -76,11 +77,11 @@ module _ (r : Rule) (takes : Takes r) where
       ap₂ (λ (f : List ℕ) (fs : List (List ℕ)). f ∷ fs) (ran w (h 0 (omega arith))) (all-ran ws (λ i b. h (suc i) (omega arith)))
 
   pub says : (ws : List (List ℕ)) → ((i : ℕ) → i < length ws → runOf (profileOf r) (getD ws i []) .refusal ≡ none)
-      → (t : Bracketed) → leaves t ≡ map (λ w. runOf (profileOf r) w .masks) ws
-      → (verdictOf (profileOf r) (valueOf t) ≡ true) ↔ Accepts (automatonOf r) (flatten (map textOf ws))
-  says [] h t e = absurd (omega (arith, some-leaf t, ap length e))
+      → (t : Bracketed (List ℕ)) → leaves t ≡ map (λ w. runOf (profileOf r) w .masks) ws
+      → (verdictOf (profileOf r) (valueOf compose t) ≡ true) ↔ Accepts (automatonOf r) (flatten (map textOf ws))
+  says [] h t e = absurd (omega (arith, compositions.claims .some-leaf t, ap length e))
   says (w ∷ ws) h t e =
-      let value : valueOf t ≡ mappingAfter r (flatten (map textOf (w ∷ ws))) =
+      let value : valueOf compose t ≡ mappingAfter r (flatten (map textOf (w ∷ ws))) =
       mappings.claims .brackets t ∙ ap composed (e ∙ all-ran (w ∷ ws) h) ∙ mappings.claims .of-all r small (textOf w) (map textOf ws) in
       let law = mappings.claims .says r small (flatten (map textOf (w ∷ ws))) in
       rw value (law .1, law .0)

@@ -24,7 +24,8 @@ use Rattle.automaton.specs.Rules.{automatonOf, WellFormed}
 use Rattle.rulecheck.specs.Checking.{ruleNumber}
 use Rattle.chunks.specs.Chunks.{foreign}
 use Rattle.numbering.specs.Texts.{Sooner}
-use Rattle.mappings.specs.Mappings.{mappedStates, compose, identity, Bracketed, valueOf, leaves, letter}
+use Rattle.compositions.specs.Bracketing.{Bracketed, leaves, valueOf}
+use Rattle.mappings.specs.Mappings.{mappedStates, compose, identity, letter}
 use Rattle.mappings.specs.Claims.{Small, mappingAfter, First}
 use Rattle.profile.specs.declared.Profile.{Profile}
 use Rattle.profile.specs.Profiles.{buildNumber, profileOf}
@@ -102,5 +103,5 @@ pub record Claims : Type 0 where
   -- chunks run one by one, on whatever machines, and their mappings composed in any way: it says
   -- yes exactly where the rule accepts the chunks' texts joined
   pub says : (r : Rule) → Takes r → (ws : List (List ℕ)) → ((i : ℕ) → i < length ws → runOf (profileOf r) (getD ws i []) .refusal ≡ none)
-      → (t : Bracketed) → leaves t ≡ map (λ w. runOf (profileOf r) w .masks) ws
-      → (verdictOf (profileOf r) (valueOf t) ≡ true) ↔ Accepts (automatonOf r) (flatten (map textOf ws))
+      → (t : Bracketed (List ℕ)) → leaves t ≡ map (λ w. runOf (profileOf r) w .masks) ws
+      → (verdictOf (profileOf r) (valueOf compose t) ≡ true) ↔ Accepts (automatonOf r) (flatten (map textOf ws))

@@ -18,7 +18,7 @@
 --   Live a q                     some text is accepted from state q        delegates/specs/Alike
 --   WellFormed r; ruleNumber r   3, 4, 6, 8 of a rule as a value (R-3)     automaton/specs/Rules, rulecheck/specs/Checking
 --   textOf w                     a chunk without its idle marks            marks/specs/Marks
---   Filled h r ws                a filled board with the chunks ws         mapverdict/specs/Filled
+--   Filled h r ws                a filled board with the chunks ws         fillings/specs/Filled
 --   verdictIn h, answerOf        what 01 says of a list of calls           histories/specs/History
 --   MayFollowC, MayPrepareC, MayFollowByC   what the contracts of C's functions allow   requests/specs/FollowFunctions
 --   followShown, prepareShown    C's numbers                               c_follow/specs/Numbers
@@ -48,7 +48,7 @@ use Rattle.chunks.specs.Taking.{chunkNumber}
 use Rattle.calls.specs.Replies.{yesWith, noWith, refused}
 use Rattle.calls.specs.Calls.{Call, delivers, installNumber}
 use Rattle.histories.specs.History.{ruleThere, boardIn, placesIn, emptiesIn, summedIn, verdictIn, answerOf}
-use Rattle.mapverdict.specs.Filled.{Filled}
+use Rattle.fillings.specs.Filled.{Filled}
 use Rattle.live.specs.Continued.{Continued}
 use Rattle.follow.specs.declared.Follower.{Follower}
 use Rattle.follow.specs.Following.{followNumber, Outcome, refusedFollow, walkOf, followOf, noFollower, prepareOf, followByOf}

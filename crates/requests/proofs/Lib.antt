@@ -1,4 +1,5 @@
--- A page for each request, and one for following a trace in order.
+-- A page for each request, and one each for what came later: where a trace is lost, a trace in order,
+-- and chunks on many machines.
 pub mod MappingFunctions
 pub mod Mappings
 pub mod Samples
@@ -12,3 +13,5 @@ pub mod Faults
 pub mod Losses
 pub mod FollowFunctions
 pub mod Following
+pub mod SummaryFunctions
+pub mod Summaries

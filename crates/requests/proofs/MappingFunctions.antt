@@ -10,12 +10,14 @@ use native.Mathlib.Omega.{arith}
 use Rattle.base.proofs.Tests.{by-test}
 use Rattle.automaton.specs.declared.Rule.{Rule}
 use Rattle.mappings.specs.declared.Mapping.{Mapping}
-use Rattle.mappings.specs.Mappings.{compose, Bracketed, leaf, both, valueOf, leaves}
+use Rattle.compositions.specs.Bracketing.{Bracketed, leaf, both, leaves, valueOf}
+use Rattle.mappings.specs.Mappings.{compose}
 use Rattle.profile.specs.declared.Profile.{Profile}
 use Rattle.profile.specs.Profiles.{buildNumber, profileOf, buildBy, buildOf}
 use Rattle.profile.specs.Runs.{runOf, verdictOf}
 use Rattle.profile.specs.Claims.{Takes}
-use Rattle.mapverdict.specs.Filled.{Filled, mappingsOf}
+use Rattle.fillings.specs.Filled.{Filled}
+use Rattle.mapverdict.specs.Filled.{mappingsOf}
 use Rattle.mapverdict.proofs.Claims as mapverdict
 use Rattle.c_mappings.specs.declared.BuildNumbers.{BuildNumbers}
 use Rattle.c_mappings.specs.declared.RunNumbers.{RunNumbers}
@@ -74,9 +76,9 @@ each-run {p} (one-more w r may rest) =
 
 -- the brackets in which they were composed
 record Bracketing (fs : List Mapping) (f : Mapping) : Type 0 where
-  tree : Bracketed
+  tree : Bracketed (List ℕ)
   are : leaves tree ≡ map masksOf fs
-  value : valueOf tree ≡ f .masks
+  value : valueOf compose tree ≡ f .masks
 
 map-append : (fs gs : List Mapping) → map masksOf (fs ++ gs) ≡ map masksOf fs ++ map masksOf gs
 map-append [] gs = refl
@@ -110,7 +112,7 @@ module _ (r : Rule) (b : BuildNumbers) (built : MayBuild r b) (accepted : b .acc
   mappings-are : leaves (tree .tree) ≡ mappingsOf r ws
   mappings-are = tree .are ∙ each-run ran ∙ ap (λ (p : Profile). map (λ w. runOf p w .masks) ws) (profile-is r b built accepted)
 
-  value-is : verdictOf (b .profile) (f .masks) ≡ verdictOf (profileOf r) (valueOf (tree .tree))
+  value-is : verdictOf (b .profile) (f .masks) ≡ verdictOf (profileOf r) (valueOf compose (tree .tree))
   value-is = ap₂ verdictOf (profile-is r b built accepted) (sym (tree .value))
 
   pub same-answer : (x : ℕ) → MaySay (b .profile) f x → (v : VerdictNumbers) → MayJudge (judgeAfter h) v → SameAnswer x v
@@ -118,6 +120,6 @@ module _ (r : Rule) (b : BuildNumbers) (built : MayBuild r b) (accepted : b .acc
       let t = takes r b built accepted in
       let number = say-fixed (b .profile) f x .0 say ∙ ap verdictShown value-is in
       let kind = judge-kind h v judge in
-      by-test (verdictOf (profileOf r) (valueOf (tree .tree)))
+      by-test (verdictOf (profileOf r) (valueOf compose (tree .tree)))
       (λ y. inl (number ∙ ap verdictShown y, kind ∙ ap kindOf (mapverdict.claims .yes-same h r ws t filled (tree .tree) mappings-are .0 y)))
       (λ n. inr (number ∙ ap verdictShown n, kind ∙ ap kindOf (mapverdict.claims .no-same h r ws t filled (tree .tree) mappings-are .0 n)))

@@ -2,7 +2,7 @@
 -- proof only cites the file that has it. To believe them, read the definitions that they name:
 --
 --   Value, Within, compose, identity  mappings as eight masks; 000's f • g   mappings/specs/Mappings
---   Bracketed, valueOf, leaves        mappings composed in any brackets      mappings/specs/Mappings
+--   Bracketed, valueOf, leaves        mappings composed in any brackets      compositions/specs/Bracketing
 --   mappingOf, mappingAfter r w       the mapping of the text w              mappings/specs/Mappings, Claims
 --   First, Sooner                     the first text; the order of texts     mappings/specs/Claims, numbering/specs/Texts
 --   profileOf r, buildOf r            a profile, every field; what building answers   profile/specs/Profiles
@@ -12,7 +12,7 @@
 --   Refused-exactly, Runs-exactly     mappings; the numbers, one by one      profile/specs/Claims
 --   textOf; ForeignByte               a chunk without idle marks; 13         marks/specs/Marks, calls/specs/Claims
 --   Accepts, Run; automatonOf r       automata and their runs (000)          automaton/specs/Automaton, Rules
---   Filled h r ws                     a filled board with the chunks ws      mapverdict/specs/Filled
+--   Filled h r ws                     a filled board with the chunks ws      fillings/specs/Filled
 --   verdictIn h, answerOf             what 01 says of a list of calls        histories/specs/History
 --   MayBuild .. MaySay, RunEach,      what the contracts of C's functions    requests/specs/MappingFunctions
 --   ComposedTo, SameAnswer; MayJudge  allow                                  demands/specs/Functions
@@ -41,7 +41,8 @@ use Rattle.automaton.specs.declared.Rule.{Rule}
 use Rattle.automaton.specs.Automaton.{Run, Accepts}
 use Rattle.automaton.specs.Rules.{automatonOf}
 use Rattle.mappings.specs.declared.Mapping.{Mapping}
-use Rattle.mappings.specs.Mappings.{mappedStates, Value, Within, compose, identity, Bracketed, valueOf, leaves}
+use Rattle.compositions.specs.Bracketing.{Bracketed, leaves, valueOf}
+use Rattle.mappings.specs.Mappings.{mappedStates, Value, Within, compose, identity}
 use Rattle.mappings.specs.Claims.{Small, mappingAfter, keysOf}
 use Rattle.mappings.proofs.Claims as mappings
 use Rattle.chunks.specs.Chunks.{foreign}
@@ -56,7 +57,8 @@ use Rattle.calls.specs.Claims.{ForeignByte}
 use Rattle.calls.proofs.Foreign as calls-foreign
 use Rattle.histories.specs.History.{ruleThere, boardIn, placesIn, emptiesIn, summedIn, verdictIn, answerOf}
 use Rattle.histories.specs.Claims.{judgeAfter}
-use Rattle.mapverdict.specs.Filled.{Filled, RunsAll, mappingsOf}
+use Rattle.fillings.specs.Filled.{Filled}
+use Rattle.mapverdict.specs.Filled.{RunsAll, mappingsOf}
 use Rattle.mapverdict.proofs.Claims as mapverdict
 use Rattle.c_mappings.specs.declared.BuildNumbers.{BuildNumbers}
 use Rattle.c_mappings.specs.declared.RunNumbers.{RunNumbers}
@@ -163,7 +165,7 @@ of-both = mappings.claims .of-both
 pub associative : (f g h : List ℕ) → compose (compose f g) h ≡ compose f (compose g h)
 associative = mappings.claims .associative
 
-pub bracketing : (x y : Bracketed) → leaves x ≡ leaves y → valueOf x ≡ valueOf y
+pub bracketing : (x y : Bracketed (List ℕ)) → leaves x ≡ leaves y → valueOf compose x ≡ valueOf compose y
 bracketing = mappings.claims .bracketing
 
 -- The identity of n states changes no mapping of n states, on either side; that of eight no value.
@@ -189,17 +191,17 @@ means-nothing = profile.claims .means-nothing
 
 -- "that the final mapping gives the yes or no that a filled board with the same chunks gives, for every
 -- rule in the profile". After any list of calls that leaves a board filled with the chunks ws:
-pub same-yes : (h : List Call) (r : Rule) (ws : List (List ℕ)) → Takes r → Filled h r ws → (t : Bracketed) → leaves t ≡ mappingsOf r ws
-    → (verdictOf (profileOf r) (valueOf t) ≡ true) ↔ (verdictIn h ≡ yesWith (summedIn h))
+pub same-yes : (h : List Call) (r : Rule) (ws : List (List ℕ)) → Takes r → Filled h r ws → (t : Bracketed (List ℕ)) → leaves t ≡ mappingsOf r ws
+    → (verdictOf (profileOf r) (valueOf compose t) ≡ true) ↔ (verdictIn h ≡ yesWith (summedIn h))
 same-yes = mapverdict.claims .yes-same
 
-pub same-no : (h : List Call) (r : Rule) (ws : List (List ℕ)) → Takes r → Filled h r ws → (t : Bracketed) → leaves t ≡ mappingsOf r ws
-    → (verdictOf (profileOf r) (valueOf t) ≡ false) ↔ (verdictIn h ≡ noWith (summedIn h))
+pub same-no : (h : List Call) (r : Rule) (ws : List (List ℕ)) → Takes r → Filled h r ws → (t : Bracketed (List ℕ)) → leaves t ≡ mappingsOf r ws
+    → (verdictOf (profileOf r) (valueOf compose t) ≡ false) ↔ (verdictIn h ≡ noWith (summedIn h))
 same-no = mapverdict.claims .no-same
 
 -- and of any number of chunks, more than a board has places: whether the rule accepts their texts joined.
-pub accepts : (r : Rule) → Takes r → (ws : List (List ℕ)) → RunsAll r ws → (t : Bracketed) → leaves t ≡ mappingsOf r ws
-    → (verdictOf (profileOf r) (valueOf t) ≡ true) ↔ Accepts (automatonOf r) (flatten (map textOf ws))
+pub accepts : (r : Rule) → Takes r → (ws : List (List ℕ)) → RunsAll r ws → (t : Bracketed (List ℕ)) → leaves t ≡ mappingsOf r ws
+    → (verdictOf (profileOf r) (valueOf compose t) ≡ true) ↔ Accepts (automatonOf r) (flatten (map textOf ws))
 accepts = profile.claims .says
 
 -- None of this is about nothing: a board without an empty place is filled so, the profile runs what

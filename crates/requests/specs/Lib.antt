@@ -9,3 +9,4 @@ pub mod TrayFunctions
 pub mod FaultFunctions
 pub mod LossFunctions
 pub mod FollowFunctions
+pub mod SummaryFunctions

@@ -3,12 +3,13 @@
 import ctypes
 from dataclasses import dataclass
 
-from ._arguments import as_bytes, fitting, size
+from ._arguments import as_bytes, fitting, size, whole
 from ._library import DATA, declare, expect_size, lib
 from ._verdicts import Verdict
 from .losses import RawDiagnosis, RawSpot, diagnosis, spot
 from .refusals import Malformed, Refused
 from .rules import RawRule, raw
+from .summaries import RawSummarized, RawSummary, raw_summary, summarized
 
 __all__ = ["Judge", "Loaded", "Looked", "Waiting", "Yes", "No", "replay"]
 
@@ -142,6 +143,8 @@ declare("withdraw", _Change, RawState, ctypes.c_size_t)
 declare("verdict", _Verdict, RawState)
 declare("diagnose", RawDiagnosis, RawState)
 declare("locate", RawSpot, RawState, ctypes.c_size_t, *DATA)
+declare("summarize", RawSummarized, RawState, ctypes.c_uint64, *DATA)
+declare("summary_conclude", _Verdict, RawState, RawSummary, ctypes.c_uint64)
 declare("replay", _Verdict, *DATA)
 
 
@@ -226,6 +229,28 @@ class Judge:
         """
         data = as_bytes("locate", "chunk", chunk)
         return spot(lib.bellbadger_locate(self._state, size("locate", "place", place), data, len(data)))
+
+    def summarize(self, number, chunk):
+        """The summaries.Summary of the chunk with that number, below 2**64: chunks of a trace are numbered from 0 on.
+        No board is needed, and nothing changes.
+
+        Chunk 0 is run as at place 0 of a board, every other as at another place. Byte 255 is an idle mark, as in a
+        delivery. No chunk can follow number 2**64 - 1, whose summary is broken. Refused with 20, 12, 13.
+        """
+        data = as_bytes("summarize", "chunk", chunk)
+        number = fitting("summarize", "number", number, 64)
+        return summarized(lib.bellbadger_summarize(self._state, number, data, len(data)))
+
+    def conclude(self, summary, chunks):
+        """The verdict on a trace of so many chunks, of which this is the summary: Yes or No, as a filled board with
+        these chunks has it. No board is needed, and nothing changes. In an `if` write conclude(..).is_yes.
+
+        Refused with 20; 42, where the summary is broken or does not begin with chunk 0; 43, where it is by another
+        rule; 44, where it does not end with the last chunk, or there is none. An empty trace has one empty chunk.
+        """
+        summary, chunks = raw_summary("conclude", "summary", summary), whole("conclude", "chunks", chunks)
+        # what C has no number for is as many chunks as none: 44
+        return _verdict(lib.bellbadger_summary_conclude(self._state, summary, chunks if 0 <= chunks < 2**64 else 0))
 
     def _loaded(self, result):
         self._change(result)

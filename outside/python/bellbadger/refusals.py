@@ -32,6 +32,9 @@ _REASONS = {
     39: "the band is not whole rows, or has over 64",
     40: "the form is of no table",
     41: "the seed is 0",
+    42: "the summary is broken, or does not begin with chunk 0",
+    43: "the summary is by another rule",
+    44: "the summary does not end with the last chunk, or there is none",
 }
 
 

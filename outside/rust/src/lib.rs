@@ -38,6 +38,7 @@
 //! Where a trace went wrong is told before all chunks are there: the place ([`Judge::diagnose`]) and the
 //! byte ([`Judge::locate`]).
 //!
+//! Chunks on many machines, of any number and for every rule, are summarized one by one ([`summaries`]).
 //! For small rules there is a mapping machine ([`mappings`]): chunks are run on whatever machines, and what
 //! comes of them, eight bytes each, is put together afterwards.
 //!
@@ -68,6 +69,7 @@ mod raw;
 mod refused;
 mod rule;
 pub mod samples;
+pub mod summaries;
 pub mod texts;
 pub mod trays;
 

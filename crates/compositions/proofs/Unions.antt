@@ -1,4 +1,4 @@
--- The laws of unions over the members of a set that mappings need. Assumes nothing.
+-- The laws of unions over the members of a set that composing needs. Assumes nothing.
 use mathlib.Core.Path.{_≡_, refl, sym, ap, _∙_, subst}
 use mathlib.Core.Bool.{Bool, true, false, cond}
 use Prim.Native.Nat.{ℕ, zero, suc, _^_, _<_}

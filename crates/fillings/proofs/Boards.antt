@@ -2,11 +2,11 @@
 --
 --   filled        a board without an empty place is filled with a list of chunks
 --   text-is       the text on a filled board is the chunks' texts joined
---   short, known  a standing chunk meets neither 12 nor 13
+--   taken         a standing chunk meets neither 12 nor 13
 --   fillings      the calls that fill a board
 use mathlib.Core.Path.{_≡_, refl, sym, ap, _∙_, subst}
 use mathlib.Core.Bool.{Bool, true, false, cond}
-use mathlib.Core.List.{List, [], _∷_, _++_, append-assoc, append-nil, map, flatten}
+use mathlib.Core.List.{List, [], _∷_, _++_, map, flatten}
 use mathlib.Core.Option.{Option, none, some}
 use Prim.Native.Nat.{ℕ, zero, suc, _+_, _≤_, _<_}
 use native.Mathlib.Omega.{arith}
@@ -29,7 +29,7 @@ use Rattle.calls.specs.Calls.{Call, installs, opens, delivers, installNumber}
 use Rattle.histories.specs.History.{ruleThere, ruleFrom, ruleIn, boardIn, placesIn, deliverNumber, lastRevision, standing, standingText, joinedUpTo, textIn, emptiesIn}
 use Rattle.histories.proofs.EveryList.{good}
 use Rattle.histories.proofs.CountBound.{standing-short}
-use Rattle.mapverdict.specs.Filled.{Filled}
+use Rattle.fillings.specs.Filled.{Filled, TakenAll}
 
 -- ---- a list of n chunks, the first that of place i
 unfoldable chunksFrom : (ℕ → List ℕ) → ℕ → ℕ → List (List ℕ)
@@ -107,14 +107,12 @@ module _ (h : List Call) (r : Rule) (ws : List (List ℕ)) (is : Filled h r ws) 
       )
 
   -- what stands was delivered
-  module _ (p : ℕ) (b : p < length ws) where
-    pub short : length (getD ws p []) ≤ 65536
-    short = standing-short h p (getD ws p []) (is .stands p b)
-
-    pub known : foreign (textOf (getD ws p [])) (r .k) ≡ false
-    known =
-        chunks.claims .text-law (textOf (getD ws p [])) (r .k) .1
-        (subst (λ (x : Rule). Text (x .k) (textOf (getD ws p []))) rule-is (good h .texts p (getD ws p []) (is .stands p b)))
+  pub taken : TakenAll (r .k) ws
+  taken p b =
+      let known =
+      chunks.claims .text-law (textOf (getD ws p [])) (r .k) .1
+      (subst (λ (x : Rule). Text (x .k) (textOf (getD ws p []))) rule-is (good h .texts p (getD ws p []) (is .stands p b))) in
+      chunks.claims .taking (r .k) (getD ws p []) .taken .1 (standing-short h p (getD ws p []) (is .stands p b), known)
 
 -- ---- the calls that fill a board: one chunk after the other, each as revision 0, from place p on
 unfoldable fillFrom : ℕ → List (List ℕ) → List Call → List Call
@@ -199,13 +197,12 @@ module _ (r : Rule) (n : ℕ) where
           let e : suc p + i ≡ p + suc i = omega arith in
           subst (λ (x : ℕ). standing (fillFrom (suc p) ws (delivers p 0 w ∷ h)) x ≡ some (getD ws i [])) e (others i (omega arith))
 
-pub fillings : (r : Rule) → installNumber r ≡ none → (ws : List (List ℕ)) → 1 ≤ length ws → length ws ≤ 64
-    → ((i : ℕ) → i < length ws → (length (getD ws i []) ≤ 65536) × (foreign (textOf (getD ws i [])) (r .k) ≡ false))
+pub fillings : (r : Rule) → installNumber r ≡ none → (ws : List (List ℕ)) → 1 ≤ length ws → length ws ≤ 64 → TakenAll (r .k) ws
     → (h : List Call) × Filled h r ws
-fillings r taken ws one most ok =
+fillings r takes ws one most ok =
     let n = length ws in
     let h = opens n ∷ installs r ∷ [] in
-    let x = put r n ws 0 h (opened r n taken (outside-law 1 64 n .1 (one, most))) (omega arith) ok in (
+    let x = put r n ws 0 h (opened r n takes (outside-law 1 64 n .1 (one, most))) (omega arith) (λ i b. chunks.claims .taking (r .k) (getD ws i []) .taken .0 (ok i b)) in (
       fillFrom 0 ws h,
       record {
         rule = x .rule;

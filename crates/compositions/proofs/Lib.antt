@@ -1,0 +1,4 @@
+pub mod Unions
+pub mod Bracketing
+pub mod Relations
+pub mod Claims

@@ -1,0 +1,3 @@
+pub mod Boards
+pub mod Deliveries
+pub mod Claims

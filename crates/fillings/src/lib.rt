@@ -1,0 +1,1 @@
+// Boards that are filled with a list of chunks: no code. specs/ says what is claimed.
