@@ -16,11 +16,12 @@ use Rattle.calls.specs.declared.Judge.{Judge}
 use Rattle.calls.specs.Replies.{Judgement, waiting, yesWith, noWith, refusedWith, refusalIn, Reply, Reported}
 use Rattle.calls.specs.Calls.{Call}
 use Rattle.histories.specs.History.{ruleThere}
+use Rattle.histories.specs.Claims.{judgeAfter}
 use Rattle.histories.proofs.Refinement.{lent}
 use Rattle.demands.specs.Functions.{cLibrary}
 use Rattle.demands.proofs.Demands.{every-execution-from-C}
 use Rattle.summaries.specs.declared.Summary.{Summary}
-use Rattle.summaries.specs.Summaries.{combine, Summarized, summarizeOf, concludeOf}
+use Rattle.summaries.specs.Summaries.{combine, summarizeOf, concludeOf}
 use Rattle.summaryverdict.specs.Traces.{judgeOf, textsOf, Numbered, numbersOf, chunksOf, summaryAt, SummarizesAll, Reports, Used}
 use Rattle.summaryverdict.specs.Lists.{summaryThere, concludeThere}
 use Rattle.summaryverdict.specs.Functions.{Gathered, numberedFrom}
@@ -46,7 +47,7 @@ conclude-fixed j a chunks n = ((λ m. m .1), λ e. ((j, (a, (chunks, tt))), e))
 
 -- ---- on a judge that calls left
 module _ (h : List Call) (rs : List Reply) (j : Judge) (ran : Execution cLibrary h rs j) where
-  is : j ≡ _
+  is : j ≡ judgeAfter h
   is = every-execution-from-C h rs j .0 ran .1
 
   pub summarize-there : (number : ℕ) (w : List ℕ) (n : SummaryNumbers) → MaySummarizeC j number w n → n ≡ summaryShown (summaryThere (ruleThere h) number w)

@@ -1,12 +1,11 @@
 -- specs/Lists.antt proved. Assumes nothing.
-use mathlib.Core.Path.{_≡_, sym, ap, _∙_, subst}
+use mathlib.Core.Path.{_≡_, ap}
 use mathlib.Core.List.{List}
 use mathlib.Core.Option.{Option, none, some}
 use Prim.Native.Nat.{ℕ}
 use borrow.Author.Tests.{eq-eqb}
 use Rattle.automaton.specs.declared.Rule.{Rule}
 use Rattle.calls.specs.declared.Judge.{Judge}
-use Rattle.calls.specs.Calls.{Call}
 use Rattle.histories.specs.History.{ruleThere}
 use Rattle.histories.specs.Claims.{judgeAfter, BuiltBy}
 use Rattle.histories.proofs.EveryList.{good}
