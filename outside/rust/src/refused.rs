@@ -19,7 +19,7 @@ impl Refused {
         Refused(number)
     }
 
-    /// Why: 1 to 13 and 30 to 41 for what is wrong with the input, 20 to 23 for what stands in the way.
+    /// Why: 1 to 13, 30 to 41 and 45 for what is wrong with the input, 20 to 23 for what stands in the way.
     #[must_use]
     pub fn number(self) -> u8 {
         self.0
@@ -56,6 +56,7 @@ impl Refused {
             39 => "the band is not whole rows, or has over 64",
             40 => "the form is of no table",
             41 => "the seed is 0",
+            45 => "within 512 pairs of sets the rules do not differ, and there are more",
             _ => "for a reason that this wrapper does not know",
         }
     }
@@ -107,11 +108,11 @@ mod tests {
     /// Each of the paper's numbers has words of its own.
     #[test]
     fn every_number_has_its_words() {
-        let numbers = (1..=13).chain(20..=23).chain(30..=41);
+        let numbers = (1..=13).chain(20..=23).chain(30..=41).chain([45]);
         let words: BTreeSet<&str> = numbers
             .chain([99])
             .map(|number| Refused::new(number).reason())
             .collect();
-        assert_eq!(words.len(), 29 + 1);
+        assert_eq!(words.len(), 30 + 1);
     }
 }
