@@ -32,6 +32,7 @@ _REASONS = {
     39: "the band is not whole rows, or has over 64",
     40: "the form is of no table",
     41: "the seed is 0",
+    45: "within 512 pairs of sets the rules do not differ, and there are more",
 }
 
 
