@@ -21,8 +21,8 @@ use Rattle.keys.specs.declared.Kind.{Kind}
 use Rattle.keys.specs.declared.KeyTable.{KeyTable}
 use Rattle.keys.specs.declared.Numbering.{Numbering}
 use Rattle.keys.specs.declared.Numbering.the-variants.{Whole, Over}
-use Rattle.keys.specs.Kinds.{walkOf}
-use Rattle.keys.specs.Tables.{countMeans, Table, tableOutcome, keysOf, cellOf, cellsOf, noTable, tableOf}
+use Rattle.keys.specs.Kinds.{walkBy}
+use Rattle.keys.specs.Tables.{countMeans, Table, tableOutcome, keysBy, cellOf, cellsOf, noTable, tableBy}
 use Rattle.keys.specs.Steps.{closedFrom}
 
 module _ (m : ℕ) (zeros next : List ℕ) (h : Cleared 0 zeros next) where
@@ -35,24 +35,24 @@ module _ (m : ℕ) (zeros next : List ℕ) (h : Cleared 0 zeros next) where
   pub first-holds : (a : Walk) → ArraysHold a 0 (take 1 (set zeros 0 m)) 0 (set zeros 0 m) next
   first-holds a = rw first-read (holds-more a 0 (begin a 0 zeros next h) (m ∷ []) (set zeros 0 m) (record { rest = m ∷ []; is = refl }) first-is)
 
-module _ (kind : Kind) (ts : List ℕ) (k m : ℕ) where
+module _ (kind : Kind) (ts us : List ℕ) (k m : ℕ) where
   abbrev walk : Walk
-  walk = walkOf kind ts (min k 16)
+  walk = walkBy kind ts us (min k 16)
 
   abbrev l : List ℕ
-  l = keysOf kind ts k m
+  l = keysBy kind ts us k m
 
   closed-is : closedFrom walk (m ∷ []) ≡ l
   closed-is = sym (from-one walk m refl)
 
   -- x symbols, and the list of the first key, as the code has them
   module _ (x : ℕ) (most : x ≡ min k 16) (one : List ℕ) (first : one ≡ m ∷ []) (r : Numbering) (keys next : List ℕ)
-      (grown : Grown (walkOf kind ts x) 0 (closedFrom (walkOf kind ts x) one) (countMeans r) keys next) where
+      (grown : Grown (walkBy kind ts us x) 0 (closedFrom (walkBy kind ts us x) one) (countMeans r) keys next) where
     told : Grown walk 0 l (countMeans r) keys next
     told = rw (← closed-is, ← most, ← first) grown
 
-    pub table-whole : (c : ℕ) → r ≡ Whole c → tableOutcome (record { answer = Whole c; keys = keys; next = next }) ≡ tableOf kind ts k m
-    unfolding tableOf
+    pub table-whole : (c : ℕ) → r ≡ Whole c → tableOutcome (record { answer = Whole c; keys = keys; next = next }) ≡ tableBy kind ts us k m
+    unfolding tableBy
     table-whole c e =
         let x = whole-of l c (sym (ap countMeans e) ∙ told .count) in
         let held : ArraysHold walk 0 l (length l * 16) keys next = told .held (x .0) in
@@ -61,8 +61,8 @@ module _ (kind : Kind) (ts : List ℕ) (k m : ℕ) where
         ∙ same-list 8192 (cellTo walk 0 l (length l * 16)) (λ c. cellOf walk l (c / 16) (c % 16)) (λ c b. rw (row-test (length l) c)) in
         rw (x .1, held .keys-are, cells, le-ltb 512 (length l) (x .0))
 
-    pub table-over : r ≡ Over → (t : KeyTable) → tableOutcome t ≡ noTable → tableOutcome t ≡ tableOf kind ts k m
-    unfolding tableOf
+    pub table-over : r ≡ Over → (t : KeyTable) → tableOutcome t ≡ noTable → tableOutcome t ≡ tableBy kind ts us k m
+    unfolding tableBy
     table-over e t is = is ∙ rw (lt-ltb 512 (length l) (over-of l (sym (ap countMeans e) ∙ told .count)))
 
 -- ---- what an answer tells
@@ -71,9 +71,9 @@ count-of : (b : Bool) (n : ℕ) (keys next : List ℕ) (t : Table) → t ≡ con
 count-of true n keys next t is c e = none-some (ap (λ (x : Table). x .count) is) e
 count-of false n keys next t is c e = (refl, let f : some c ≡ some n = sym e ∙ ap (λ (x : Table). x .count) is in cc)
 
-pub most-keys : (kind : Kind) (ts : List ℕ) (k m : ℕ) (t : KeyTable) → tableOutcome t ≡ tableOf kind ts k m → (c : ℕ) → t .answer ≡ Whole c → c ≤ 512
-unfolding tableOf
-most-keys kind ts k m t is c e =
-    let n : ℕ = length (keysOf kind ts k m) in
-    let x = count-of (ltb 512 n) n (keyCells (keysOf kind ts k m)) (cellsOf (walkOf kind ts (min k 16)) (keysOf kind ts k m)) (tableOutcome t) is c (ap countMeans e) in
+pub most-keys : (kind : Kind) (ts us : List ℕ) (k m : ℕ) (t : KeyTable) → tableOutcome t ≡ tableBy kind ts us k m → (c : ℕ) → t .answer ≡ Whole c → c ≤ 512
+unfolding tableBy
+most-keys kind ts us k m t is c e =
+    let n : ℕ = length (keysBy kind ts us k m) in
+    let x = count-of (ltb 512 n) n (keyCells (keysBy kind ts us k m)) (cellsOf (walkBy kind ts us (min k 16)) (keysBy kind ts us k m)) (tableOutcome t) is c (ap countMeans e) in
     omega (arith, ltb-false 512 n (x .0), x .1)

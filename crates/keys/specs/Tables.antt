@@ -4,12 +4,12 @@
 --                        are more than 512
 --   Table, tableOutcome  the answer, with the arrays beside it; and what the code's result stands
 --                        for
---   keysOf kind ts k m   the keys that texts lead to from the key m, in number order
+--   keysBy, keysOf       the keys that texts lead to from the key m, in number order
 --   cellOf a l i s       the number of the key that key i of the keys l leads to by the symbol s;
 --                        0 where there is no such key or symbol
 --   cellsOf a l          the table, 16 cells for each key
 --   noTable              more than 512 keys: zeros
---   tableOf              the table of the keys
+--   tableBy, tableOf     the table of the keys
 use mathlib.Core.Bool.{cond, _&&_}
 use mathlib.Core.List.{List}
 use mathlib.Core.Option.{Option, none, some}
@@ -24,7 +24,7 @@ use Rattle.keys.specs.declared.Kind.{Kind}
 use Rattle.keys.specs.declared.KeyTable.{KeyTable}
 use Rattle.keys.specs.declared.Numbering.{Numbering}
 use Rattle.keys.specs.declared.Numbering.the-variants.{Whole, Over}
-use Rattle.keys.specs.Kinds.{walkOf}
+use Rattle.keys.specs.Kinds.{walkBy}
 
 abbrev pub countMeans : Numbering → Option ℕ
 countMeans (Whole count) = some count
@@ -39,8 +39,11 @@ abbrev pub tableOutcome : KeyTable → Table
 tableOutcome t = record { count = countMeans (t .answer); keys = t .keys; next = t .next }
 
 -- (a rule has at most 16 symbols; a value that says more is taken to have 16)
+abbrev pub keysBy : Kind → List ℕ → List ℕ → ℕ → ℕ → List ℕ
+keysBy kind ts us k m = keysUpTo (walkBy kind ts us (min k mostSymbols)) (λ _. m) 1
+
 abbrev pub keysOf : Kind → List ℕ → ℕ → ℕ → List ℕ
-keysOf kind ts k m = keysUpTo (walkOf kind ts (min k mostSymbols)) (λ _. m) 1
+keysOf kind ts k m = keysBy kind ts ts k m
 
 abbrev pub cellOf : Walk → List ℕ → ℕ → ℕ → ℕ
 cellOf a l i s = cond (ltb i (length l) && ltb s (a .k)) (indexOf l (a .step (getD l i 0) s)) 0
@@ -51,8 +54,11 @@ cellsOf a l = listFrom 0 tableCells (λ c. cellOf a l (c / mostSymbols) (c % mos
 abbrev pub noTable : Table
 noTable = record { count = none; keys = replicate mostSets 0; next = replicate tableCells 0 }
 
-unfoldable pub tableOf : Kind → List ℕ → ℕ → ℕ → Table
-tableOf kind ts k m =
-    let l = keysOf kind ts k m in
+unfoldable pub tableBy : Kind → List ℕ → List ℕ → ℕ → ℕ → Table
+tableBy kind ts us k m =
+    let l = keysBy kind ts us k m in
     cond (ltb mostSets (length l)) noTable
-    (record { count = some (length l); keys = keyCells l; next = cellsOf (walkOf kind ts (min k mostSymbols)) l })
+    (record { count = some (length l); keys = keyCells l; next = cellsOf (walkBy kind ts us (min k mostSymbols)) l })
+
+abbrev pub tableOf : Kind → List ℕ → ℕ → ℕ → Table
+tableOf kind ts k m = tableBy kind ts ts k m

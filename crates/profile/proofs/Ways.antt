@@ -31,7 +31,7 @@ use Rattle.mappings.specs.Claims.{Small, keysOf}
 use Rattle.keys.specs.declared.KeyTable.{KeyTable}
 use Rattle.keys.specs.declared.Kind.the-variants.{Mappings}
 use Rattle.keys.specs.declared.Numbering.the-variants.{Whole, Over}
-use Rattle.keys.specs.Tables.{countMeans, Table, tableOutcome, tableOf, noTable}
+use Rattle.keys.specs.Tables.{countMeans, Table, tableOutcome, tableBy, tableOf, noTable}
 use Rattle.profile.specs.declared.Profile.{Profile}
 use Rattle.profile.specs.Profiles.{manyMappings, ownConditions, buildNumber, accepted, Building, profileOf, refusedBuild, buildBy, buildOf}
 use Rattle.profile.specs.Runs.{walkTo, mappingIn, Ran, refusedRun, runOf, Lends}
@@ -61,7 +61,7 @@ module _ (r : Rule) (o : Building) where
     whole = record { count = some (length (keysOf r)); keys = profileOf r .mappings; next = profileOf r .next }
 
     table-is : table ≡ cond (manyMappings r) noTable whole
-    unfolding tableOf
+    unfolding tableBy
     table-is = let e : min (r .k) 16 ≡ r .k = omega (arith, small .good .symbols) in rw e
 
     module _ (t : KeyTable) (are : tableOutcome t ≡ table) where

@@ -2,6 +2,7 @@
 pub mod Order
 pub mod WayBack
 pub mod Firsts
+pub mod Searches
 pub mod Wishes
 pub mod Values
 pub mod Answers

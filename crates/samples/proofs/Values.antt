@@ -17,19 +17,19 @@ Short a = (w : List ℕ) → a ≡ text w → length w ≤ 511
 
 -- ---- a text as an array
 module _ (w : List ℕ) (short : length w ≤ 511) where
-  size : length (textCells w) ≡ 511
+  pub size : length (textCells w) ≡ 511
   size = length-listFrom 0 511 (λ c. getD w c 0)
 
-  front : (c : ℕ) → c < length w → getD (textCells w) c 0 ≡ getD w c 0
+  pub front : (c : ℕ) → c < length w → getD (textCells w) c 0 ≡ getD w c 0
   front c b = cell-of 511 (λ x. getD w x 0) c 0 (omega arith)
 
-  after : (c : ℕ) → length w ≤ c → getD (textCells w) c 0 ≡ 0
+  pub after : (c : ℕ) → length w ≤ c → getD (textCells w) c 0 ≡ 0
   after c h =
       by-test (ltb c 511)
       (λ t. cell-of 511 (λ x. getD w x 0) c 0 (ltb-true c 511 t) ∙ List·getD-eq-default w 0 {n = c} h)
       (λ t. List·getD-eq-default (textCells w) 0 {n = c} (omega (arith, size, ltb-false c 511 t)))
 
-  read : take (length w) (textCells w) ≡ w
+  pub read : take (length w) (textCells w) ≡ w
   read =
       let n : length (take (length w) (textCells w)) ≡ length w = length-take-le (length w) (textCells w) (omega (arith, size)) in
       ext-getD 0 (take (length w) (textCells w)) w n (λ i c. getD-take (length w) (textCells w) i 0 (omega arith) ∙ front i (omega arith))
@@ -51,21 +51,22 @@ made-of : (p : Reply) (n : ℕ) (cells : List ℕ) (o : Outcome) → o .reply �
     → o ≡ record { reply = p; length = n; text = cells }
 made-of p n cells o a b c = rw (← a, ← b, ← c)
 
-module _ (a : Sample) (o : Outcome) (h : Carries a o) where
-  cells-are : o .text ≡ textCells (wordOf a)
+module _ (w cells : List ℕ) (size : length cells ≡ 511) (front : (c : ℕ) → c < length w → getD cells c 0 ≡ getD w c 0)
+    (zeros : (c : ℕ) → length w ≤ c → getD cells c 0 ≡ 0) where
+  pub cells-are : cells ≡ textCells w
   cells-are =
-      is-listFrom (o .text) 511 (λ c. getD (wordOf a) c 0) (h .size)
+      is-listFrom cells 511 (λ c. getD w c 0) size
       (λ c _.
-      by-test (ltb c (length (wordOf a)))
-      (λ t. h .front c (ltb-true c (length (wordOf a)) t))
+      by-test (ltb c (length w))
+      (λ t. front c (ltb-true c (length w) t))
       (λ t.
-      let b = ltb-false c (length (wordOf a)) t in
-      h .zeros c b ∙ sym (List·getD-eq-default (wordOf a) 0 {n = c} b)))
+      let b = ltb-false c (length w) t in
+      zeros c b ∙ sym (List·getD-eq-default w 0 {n = c} b)))
 
-no-cells : replicate 511 0 ≡ textCells []
+pub no-cells : replicate 511 0 ≡ textCells []
 no-cells = is-listFrom (replicate 511 0) 511 (λ c. getD [] c 0) refl (λ c _. zero-cells 511 c)
 
 pub carries-one : (a : Sample) (o : Outcome) → Carries a o → o ≡ outcomeOf a
-carries-one (text w) o h = made-of _ _ _ o (h .reply) (h .length) (cells-are (text w) o h)
-carries-one nothing o h = made-of _ _ _ o (h .reply) (h .length) (cells-are nothing o h ∙ sym no-cells)
-carries-one (refused x) o h = made-of _ _ _ o (h .reply) (h .length) (cells-are (refused x) o h ∙ sym no-cells)
+carries-one (text w) o h = made-of _ _ _ o (h .reply) (h .length) (cells-are (wordOf (text w)) (o .text) (h .size) (h .front) (h .zeros))
+carries-one nothing o h = made-of _ _ _ o (h .reply) (h .length) (cells-are [] (o .text) (h .size) (h .front) (h .zeros) ∙ sym no-cells)
+carries-one (refused x) o h = made-of _ _ _ o (h .reply) (h .length) (cells-are (wordOf (refused x)) (o .text) (h .size) (h .front) (h .zeros) ∙ sym no-cells)

@@ -1,4 +1,4 @@
--- The way back fills an array from its end. Assumes the table of a rule's sets.
+-- The way back fills an array from its end. Assumes the table of the keys of a walk.
 use mathlib.Core.Path.{_≡_, sym, ap, _∙_}
 use mathlib.Core.List.{List, [], _∷_, _++_, append-nil, append-assoc}
 use Prim.Native.Nat.{ℕ, suc, _-_, _/_, _%_, _≤_, _<_}

@@ -1,5 +1,5 @@
 -- The first set that meets the wish, and the first cell that holds a number, as loops find them.
--- Assumes, for a cell, the table of a rule's sets.
+-- Assumes, for a cell, the table of the keys of a walk.
 --
 --   where-found, where-none   the loop over the sets stops at a set, or at their end
 --   cell-found, cell-none     the loop over the rows stops in a row, or cannot end
@@ -16,10 +16,10 @@ use lib.Seq.{getD-take, length-take-le}
 use borrow.Author.Tests.{ltb-true, ltb-false}
 use Rattle.base.proofs.Lists.{length-listFrom}
 use Rattle.base.proofs.Tests.{by-test}
-use Rattle.automaton.specs.declared.Rule.{Rule}
+use Rattle.numbering.specs.Numbering.{Walk, keysUpTo}
 use Rattle.numbering.proofs.Numbers.{number-at, number-is}
-use Rattle.keys.specs.Tables.{cellOf}
-use Rattle.samples.specs.Search.{setWalk, reachedSets, reachedTable, firstWhere, firstCell, wordTo}
+use Rattle.keys.specs.Tables.{cellOf, cellsOf}
+use Rattle.samples.specs.Search.{firstWhere, firstCell, wordTo}
 use Rattle.samples.proofs.Firsts.{where-is}
 use Rattle.samples.proofs.WayBack.{cell-is, used, Step, way-back, word-of}
 use Rattle.sampling.specs.Tables.{Tabled, FirstIn}
@@ -45,26 +45,29 @@ module _ (t : ℕ → Bool) (sets : List ℕ) (count i : ℕ) (long : count ≤ 
 
 -- ---- the first cell
 module _ (cells : List ℕ) (k j : ℕ) (t : Tabled cells k j) where
-  abbrev r : Rule
-  r = t .rule
+  abbrev a : Walk
+  a = t .walk
+
+  abbrev keys : List ℕ
+  keys = keysUpTo (t .walk) (λ _. t .start) 1
 
   long : length cells ≡ 8192
-  long = rw (t .are) (length-listFrom 0 8192 (λ x. cellOf (setWalk r) (reachedSets r) (x / 16) (x % 16)))
+  long = rw (t .are) (length-listFrom 0 8192 (λ x. cellOf a keys (x / 16) (x % 16)))
 
   pub word-short : length (wordTo cells j) ≤ 511
   word-short =
       rw (t .are)
-      (omega (arith, word-of (setWalk r) (r .initials) (t .good .symbols .1) (λ _. refl) (t .few) j (t .below) .short, t .below, t .few))
+      (omega (arith, word-of a (t .start) (t .columns) (t .kept) (t .few) j (t .below) .short, t .below, t .few))
 
   pub few-symbols : k ≤ 16
-  few-symbols = omega (arith, t .symbols, t .good .symbols)
+  few-symbols = omega (arith, t .symbols, t .columns)
 
   pub below-most : j < 512
   below-most = omega (arith, t .below, t .few)
 
   module _ (some : 0 < j) where
-    step : Step (setWalk r) (r .initials) (t .good .symbols .1) (λ _. refl) (t .few) j
-    step = way-back (setWalk r) (r .initials) (t .good .symbols .1) (λ _. refl) (t .few) j some (t .below)
+    step : Step a (t .start) (t .columns) (t .kept) (t .few) j
+    step = way-back a (t .start) (t .columns) (t .kept) (t .few) j some (t .below)
 
     pub lower : firstCell cells j / 16 < j
     lower = rw (t .are) (step .lower)
@@ -74,8 +77,10 @@ module _ (cells : List ℕ) (k j : ℕ) (t : Tabled cells k j) where
 
     pub tabled-back : Tabled cells k (firstCell cells j / 16)
     tabled-back = record {
-      rule = t .rule;
-      good = t .good;
+      walk = t .walk;
+      start = t .start;
+      kept = t .kept;
+      columns = t .columns;
       few = t .few;
       symbols = t .symbols;
       are = t .are;
@@ -89,9 +94,9 @@ module _ (cells : List ℕ) (k j : ℕ) (t : Tabled cells k j) where
     -- a cell past a row's symbols does not hold it
     in-use : (c : ℕ) → c < 8192 → getD cells c 0 ≡ j → c % 16 < k
     in-use c b e =
-        let f : getD (reachedTable r) c 0 ≡ j = ap (λ (x : List ℕ). getD x c 0) (sym (t .are)) ∙ e in
-        let u = used (setWalk r) (r .initials) (t .good .symbols .1) (λ _. refl) (t .few) (c / 16) (c % 16) j some
-        (sym (cell-is (setWalk r) (r .initials) (t .good .symbols .1) (λ _. refl) (t .few) c b) ∙ f) in
+        let f : getD (cellsOf a keys) c 0 ≡ j = ap (λ (x : List ℕ). getD x c 0) (sym (t .are)) ∙ e in
+        let u = used a (t .start) (t .columns) (t .kept) (t .few) (c / 16) (c % 16) j some
+        (sym (cell-is a (t .start) (t .columns) (t .kept) (t .few) c b) ∙ f) in
         omega (arith, u .1, t .symbols)
 
     -- the rows before `row` are passed, and what row `row` has

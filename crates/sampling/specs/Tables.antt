@@ -1,26 +1,36 @@
 -- What the functions below `find_sample` ask for and promise. Nothing here needs to be believed:
 -- `find_sample` asks for nothing, and samples' specs say what it gives.
 --
---   Tabled cells k j     the cells are the table of the sets of a rule with k symbols, of which
---                        there are at most 512, and j is the number of one
---   FirstIn cells i k j s   s is the first of the k symbols by which set i leads to set j; k where
+--   Tabled cells k j     the cells are the table of the keys of a walk over k symbols from one key,
+--                        of which there are at most 512 and none is left out, and j is the number
+--                        of one
+--   FirstIn cells i k j s   s is the first of the k symbols by which key i leads to key j; k where
 --                        none does
+--   Spells r w           the value r is the text w with its length, and zeros after it
 use mathlib.Core.Path.{_≡_}
+use mathlib.Core.Bool.{false}
 use mathlib.Core.List.{List}
 use Prim.Native.Nat.{ℕ, _+_, _*_, _≤_, _<_}
 use lib.ListN.{length, getD}
 use Rattle.limits.specs.Limits.{mostSymbols, mostSets}
-use Rattle.automaton.specs.declared.Rule.{Rule}
-use Rattle.automaton.specs.Rules.{WellFormed}
-use Rattle.samples.specs.Search.{reachedSets, reachedTable}
+use Rattle.numbering.specs.Numbering.{Walk, keysUpTo}
+use Rattle.keys.specs.Tables.{cellsOf}
+use Rattle.samples.specs.Values.{textCells}
+use Rattle.sampling.specs.declared.Spelled.{Spelled}
 
 pub record Tabled (cells : List ℕ) (k j : ℕ) : Type 0 where
-  pub rule : Rule
-  pub good : WellFormed rule
-  pub few : length (reachedSets rule) ≤ mostSets
-  pub symbols : k ≡ rule .k
-  pub are : cells ≡ reachedTable rule
-  pub below : j < length (reachedSets rule)
+  pub walk : Walk
+  pub start : ℕ
+  pub kept : (x : ℕ) → walk .skips x ≡ false
+  pub columns : walk .k ≤ mostSymbols
+  pub few : length (keysUpTo walk (λ _. start) 1) ≤ mostSets
+  pub symbols : k ≡ walk .k
+  pub are : cells ≡ cellsOf walk (keysUpTo walk (λ _. start) 1)
+  pub below : j < length (keysUpTo walk (λ _. start) 1)
+
+pub record Spells (r : Spelled) (w : List ℕ) : Type 0 where
+  pub long : r .length ≡ length w
+  pub are : r .text ≡ textCells w
 
 pub record FirstIn (cells : List ℕ) (i k j s : ℕ) : Type 0 where
   pub most : s ≤ k

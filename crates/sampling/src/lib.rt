@@ -4,10 +4,9 @@ ghost use Prim.Native.Nat.{_≤_, _<_};
 ghost use lib.ListN.{length, take, drop};
 ghost use Rattle.limits.specs.Limits.{mostSymbols, mostSets};
 ghost use Rattle.automaton.specs.Rules.{WellFormed};
-ghost use Rattle.samples.specs.Samples.{text as textOf};
 ghost use Rattle.samples.specs.Values.{longestSample, answerMeans, noText, sampleOutcome, outcomeOf};
 ghost use Rattle.samples.specs.Search.{meets as meetsOf, firstWhere, firstCell, wordTo, sampleOf};
-ghost use Rattle.sampling.specs.Tables.{Tabled, FirstIn};
+ghost use Rattle.sampling.specs.Tables.{Tabled, FirstIn, Spells};
 use automaton::Rule;
 use keys::KeyNumber;
 use keys::Kind;
@@ -21,6 +20,12 @@ use samples::Wish;
 struct Ending {
     from: usize,
     text: [u8; samples::LONGEST],
+}
+
+// A text with its length, and zeros after it.
+pub struct Spelled {
+    pub length: usize,
+    pub text: [u8; samples::LONGEST],
 }
 
 // Whether a text that leads to the set is wished.
@@ -100,10 +105,10 @@ fn walk_back(next: &[u16; limits::CELLS], k: usize, number: KeyNumber) -> Ending
     Ending { from, text }
 }
 
-// A text is the answer.
-fn give_text(word: &[u8]) -> SampleResult
+// A text at the front of an array.
+fn front_text(word: &[u8]) -> Spelled
     requires { ⌜ length (now word) ≤ longestSample ⌝ }
-    ensures { λ r. ⌜ sampleOutcome r ≡ outcomeOf (textOf (now (word .entry))) ⌝ }
+    ensures { λ r. ⌜ Spells r (now (word .entry)) ⌝ }
 {
     let mut text = [0u8; samples::LONGEST];
     let mut c: usize = 0;
@@ -111,11 +116,7 @@ fn give_text(word: &[u8]) -> SampleResult
         text[c] = word[c];
         c += 1;
     }
-    SampleResult {
-        answer: SampleAnswer::Text,
-        length: c,
-        text,
-    }
+    Spelled { length: c, text }
 }
 
 // An answer without a text.
@@ -130,15 +131,15 @@ fn give_none(answer: SampleAnswer) -> SampleResult
     }
 }
 
-// The text on the way back from the number is the answer.
-fn spell(next: &[u16; limits::CELLS], k: usize, number: KeyNumber) -> SampleResult
+// The text on the way back from the number.
+pub fn spell(next: &[u16; limits::CELLS], k: usize, number: KeyNumber) -> Spelled
     requires { ⌜ Tabled (now next) k (number .0) ⌝ }
-    ensures { λ r. ⌜ sampleOutcome r ≡ outcomeOf (textOf (wordTo (now (next .entry)) (number .0))) ⌝ }
+    ensures { λ r. ⌜ Spells r (wordTo (now (next .entry)) (number .0)) ⌝ }
 {
     let back = walk_back(next, k, number);
     let text = back.text;
     let from = back.from;
-    give_text(&text[from..])
+    front_text(&text[from..])
 }
 
 // The search, for a rule that passes the check.
@@ -157,7 +158,13 @@ fn search_sets(rule: Rule, wish: Wish) -> SampleResult
             if first < count {
                 let next = table.next;
                 let number = first as u16;
-                return spell(&next, k as usize, KeyNumber(number));
+                let spelled = spell(&next, k as usize, KeyNumber(number));
+                let text = spelled.text;
+                return SampleResult {
+                    answer: SampleAnswer::Text,
+                    length: spelled.length,
+                    text,
+                };
             }
             give_none(SampleAnswer::Nothing)
         }

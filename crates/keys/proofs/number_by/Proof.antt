@@ -1,4 +1,4 @@
--- `number_keys` meets its contract: the first key alone is numbered and nothing is expanded, which is
+-- `number_by` meets its contract: the first key alone is numbered and nothing is expanded, which is
 -- what `expand` asks for, and what it leaves is the table. Assumes nothing.
 use mathlib.Core.Path.{refl}
 use native.Mathlib.Omega.{arith}
@@ -6,10 +6,10 @@ use lib.ListN.{replicate, set, take}
 use borrow.Author.Needs.{needs}
 use Rattle.base.specs.Lists.{listFrom}
 use Rattle.numbering.specs.Arrays.{Cleared}
-use Rattle.keys.specs.Kinds.{walkOf}
+use Rattle.keys.specs.Kinds.{walkBy}
 use Rattle.keys.proofs.Tables.{first-read, first-holds, table-whole, table-over}
-use Rattle.keys.proofs.number_keys.Statement.{statement}
-use Rattle.keys.proofs.number_keys.Tie as tie
+use Rattle.keys.proofs.number_by.Statement.{statement}
+use Rattle.keys.proofs.number_by.Tie as tie
 
 -- the arrays as they begin
 cleared : Cleared 0 (replicate 512 0) (replicate 8192 0)
@@ -26,7 +26,7 @@ expand-requires : tie.Need-expand-requires
 expand-requires c κs =
     let a = c .before .before .before .args in
     let k = c .before .before .at-most-u8 in
-    (omega (arith, k .ensures), omega arith, first-holds (a .start) (replicate 512 0) (replicate 8192 0) cleared (walkOf (a .kind) (a .targets .now) (k .result)))
+    (omega (arith, k .ensures), omega arith, first-holds (a .start) (replicate 512 0) (replicate 8192 0) cleared (walkBy (a .kind) (a .targets .now) (a .others .now) (k .result)))
 
 enum-known-count : tie.Need-enum-known-count
 enum-known-count c = search needs
@@ -43,19 +43,19 @@ returns c =
     let k = c .before .before .before .before .before .before .at-most-u8 in
     let w = c .before .before .before .expand in
     let v = c .before .count .given in
-    table-whole (a .kind) (a .targets .now) (a .k) (a .start) (k .result) (k .ensures) (take 1 (set (replicate 512 0) 0 (a .start))) (first-read (a .start) (replicate 512 0) (replicate 8192 0) cleared)
-    (w .result) (w .last .1 .1 .1 .0) (w .last .1 .1 .1 .1 .0) (w .ensures) (v .0 .0) (v .1)
+    table-whole (a .kind) (a .targets .now) (a .others .now) (a .k) (a .start) (k .result) (k .ensures) (take 1 (set (replicate 512 0) 0 (a .start))) (first-read (a .start) (replicate 512 0) (replicate 8192 0) cleared)
+    (w .result) (w .last .1 .1 .1 .1 .0) (w .last .1 .1 .1 .1 .1 .0) (w .ensures) (v .0 .0) (v .1)
 
 returns-2 : tie.Need-returns-2
 returns-2 c =
     let a = c .before .before .before .before .before .before .before .args in
     let k = c .before .before .before .before .before .before .at-most-u8 in
     let w = c .before .before .before .expand in
-    table-over (a .kind) (a .targets .now) (a .k) (a .start) (k .result) (k .ensures) (take 1 (set (replicate 512 0) 0 (a .start))) (first-read (a .start) (replicate 512 0) (replicate 8192 0) cleared)
-    (w .result) (w .last .1 .1 .1 .0) (w .last .1 .1 .1 .1 .0) (w .ensures) (c .before .enum-told .given .1) (c .no-table .result) (c .no-table .ensures)
+    table-over (a .kind) (a .targets .now) (a .others .now) (a .k) (a .start) (k .result) (k .ensures) (take 1 (set (replicate 512 0) 0 (a .start))) (first-read (a .start) (replicate 512 0) (replicate 8192 0) cleared)
+    (w .result) (w .last .1 .1 .1 .1 .0) (w .last .1 .1 .1 .1 .1 .0) (w .ensures) (c .before .enum-told .given .1) (c .no-table .result) (c .no-table .ensures)
 
-pub number-keys-spec : {M : Type 1} → statement M
-number-keys-spec =
+pub number-by-spec : {M : Type 1} → statement M
+number-by-spec =
     tie.close
     (tie.spec
     array-write-keys

@@ -1,11 +1,11 @@
--- `give_text` meets its contract: the array has the text before c, and zeros from there on. Assumes
+-- `front_text` meets its contract: the array has the text before c, and zeros from there on. Assumes
 -- nothing.
 use native.Mathlib.Omega.{arith}
 use Prim.Native.Nat.{_-_}
 use lib.ListN.{length}
 use Rattle.sampling.proofs.Ways.{Copied, copy-begins, copy-more, copied}
-use Rattle.sampling.proofs.give_text.Statement.{statement}
-use Rattle.sampling.proofs.give_text.Tie as tie
+use Rattle.sampling.proofs.front_text.Statement.{statement}
+use Rattle.sampling.proofs.front_text.Tie as tie
 
 abbrev Inv-loop : tie.InvT-loop
 Inv-loop word text₀ c₀ text c = Copied word text c
@@ -37,10 +37,10 @@ returns : tie.Need-returns Inv-loop μ-loop
 returns c =
     let x = c .before .loop in
     let h = copied (c .before .before .args .word .now) (x .text) (x .c) (x .inv) (omega arith) in
-    rw (h .0, h .1)
+    record { long = h .0; are = h .1 }
 
-pub give-text-spec : {M : Type 1} → statement M
-give-text-spec =
+pub front-text-spec : {M : Type 1} → statement M
+front-text-spec =
     tie.close
     (tie.spec
     Inv-loop
