@@ -52,7 +52,7 @@ module _ (a : Walk) (free : ℕ) where
         fits = whole-of after c (sym whole ∙ st .count)
 
         read : take c keys′ ≡ after
-        read = read-back after keys′ c (fits .0) (fits .1) (st .keys-are (fits .0))
+        read = read-back after keys′ c (fits .0) (fits .1) (st .keys-are)
 
         pub turn-whole : (c ≤ 512) × (i < c) × ArraysHold a free (take c keys′) (i * 16 + min (s + 1) 16) keys′ next′
             × (expanded a i s l ≡ expanded a i (s + 1) (take c keys′))
