@@ -1,31 +1,33 @@
 -- The answer is the one that is due, and no other is. Assumes nothing.
 use mathlib.Core.Path.{_≡_, refl, sym, ap, _∙_, subst}
 use mathlib.Core.Logic.{_↔_, inl, inr, ⊎-elim}
-use mathlib.Core.Bool.{false}
+use mathlib.Core.Bool.{true, false, cond}
 use mathlib.Core.List.{List}
 use mathlib.Core.Option.{Option, none, some}
-use Prim.Native.Nat.{ℕ, _≤_, _<_}
+use Prim.Native.Nat.{ℕ, _≤_, _<_, min}
 use native.Mathlib.Omega.{arith}
 use lib.Dec.{ltb}
-use lib.ListN.{length, getD}
+use lib.ListN.{length, getD, length-take}
+use lib.Seq.{getD-take}
 use borrow.Author.Tests.{lt-ltb, ltb-true, ltb-false}
 use Rattle.base.proofs.Options.{none-some}
-use Rattle.base.proofs.Tests.{zero-one, by-test}
+use Rattle.base.proofs.Tests.{zero-one, by-test, not-both}
 use Rattle.base.proofs.Conditions.{first-append}
 use Rattle.automaton.specs.declared.Rule.{Rule}
 use Rattle.automaton.specs.Automaton.{Text, Equivalent}
 use Rattle.automaton.specs.Rules.{automatonOf}
+use Rattle.rulecheck.proofs.First.{rule-small}
 use Rattle.rulecheck.proofs.Claims as check
-use Rattle.samples.specs.Search.{wordTo}
-use Rattle.samples.proofs.Order.{one-text}
-use Rattle.samples.proofs.Firsts.{where-meets, where-before}
+use Rattle.searches.specs.Search.{wordTo}
+use Rattle.searches.proofs.Order.{one-text}
+use Rattle.searches.proofs.Firsts.{where-meets, where-before}
 use Rattle.compare.specs.declared.Which.{Which}
 use Rattle.compare.specs.declared.Which.the-variants.{First, Second}
-use Rattle.compare.specs.Compared.{Only, Apart, FirstApart, Same, pairConditions, pairNumber, Searched, Comparison, apart, same, refused, Due}
+use Rattle.compare.specs.Compared.{Only, Apart, FirstApart, Same, ManyPairs, pairConditions, pairNumber, Searched, Comparison, apart, same, refused, Due}
 use Rattle.compare.specs.Values.{Outcome, Carries, outcomeOf, comparisonIn}
-use Rattle.compare.specs.Search.{whichOf, reachedPairs, reachedTable, manyPairs, ownConditions, compareNumber, test, foundFirst, compareBy, compareOf}
+use Rattle.compare.specs.Search.{whichOf, reachedPairs, reachedTable, test, firstPairs, foundFirst, toldApart, manyPairs, ownConditions, compareNumber, compareBy, compareOf}
 use Rattle.compare.specs.Claims.{Refused-exactly}
-use Rattle.compare.proofs.Conditions.{Pair, passed, from-where, rule-small}
+use Rattle.compare.proofs.Conditions.{Pair, passed, from-where}
 use Rattle.compare.proofs.Pairs.{accepted-text, many, first-text, all-same, short-text}
 use Rattle.compare.proofs.Values.{outcome-tells, outcome-carries, carries-one}
 
@@ -42,74 +44,123 @@ module _ (one two : Rule) where
   unfolding compareOf
   by-number o e = ap (compareBy one two) e
 
-  pub number-over : pairNumber one two ≡ none → 512 < count → compareNumber one two ≡ some 42
+  own-number : pairNumber one two ≡ none → compareNumber one two ≡ cond (manyPairs one two) (some 45) none
   unfolding compareNumber
-  number-over e h = first-append (pairConditions one two) (ownConditions one two) ∙ rw (e, lt-ltb 512 count h)
+  own-number e = first-append (pairConditions one two) (ownConditions one two) ∙ rw e
+
+  pub number-over : pairNumber one two ≡ none → manyPairs one two ≡ true → compareNumber one two ≡ some 45
+  number-over e m = own-number e ∙ rw m
 
   pub number-none : pairNumber one two ≡ none → manyPairs one two ≡ false → compareNumber one two ≡ none
-  unfolding compareNumber
-  number-none e h = first-append (pairConditions one two) (ownConditions one two) ∙ rw (e, h)
+  number-none e m = own-number e ∙ rw m
 
-  -- ---- the search
-  module _ (pass : pairNumber one two ≡ none) (most : count ≤ 512) where
+  -- ---- the first 512 pairs
+  pub firsts-long : length (firstPairs one two) ≡ min 512 count
+  firsts-long = length-take 512 (reachedPairs one two)
+
+  pair-at : (i : ℕ) → i < 512 → getD (firstPairs one two) i 0 ≡ getD (reachedPairs one two) i 0
+  pair-at i b = getD-take 512 (reachedPairs one two) i 0 b
+
+  -- those before the one that is found do not tell the two apart
+  before : (i : ℕ) → i < foundFirst one two → i < 512 → test one two (getD (reachedPairs one two) i 0) ≡ false
+  before i b c = ap (test one two) (sym (pair-at i c)) ∙ where-before (test one two) (firstPairs one two) i b
+
+  module _ (pass : pairNumber one two ≡ none) where
     good : Pair one two
     good = passed one two .0 pass
-
-    searched : Searched one two
-    searched = (pass, λ h. let z = many one two (good .first) .1 h in omega arith)
 
     found : ℕ
     found = foundFirst one two
 
-    data Ended : Comparison → Type 0 where
-      with-text : found < count → Ended (apart (whichOf (one .finals) (getD (reachedPairs one two) found 0)) (wordTo (reachedTable one two) found))
-      without : count ≤ found → Ended same
-
-    ended : Ended (compareBy one two none)
+    -- ---- too many pairs
+    pub many-is : (manyPairs one two ≡ true) ↔ ManyPairs one two
     unfolding found
-    ended =
-        by-test (ltb found count)
-        (λ t. rw t (with-text (ltb-true found count t)))
-        (λ t. rw t (without (ltb-false found count t)))
+    many-is = (
+      (λ m.
+          by-test (toldApart one two)
+          (λ t. not-both (rw t at m) refl)
+          (λ t.
+          let none = ltb-false found (length (firstPairs one two)) t in
+          let over = ltb-true 512 count (rw t at m) in
+          many one two (good .first) (good .second) .0 (over, λ i b. before i (omega (arith, firsts-long)) b))),
+      λ h.
+          let m = many one two (good .first) (good .second) .1 h in
+          let apart-none : toldApart one two ≡ false =
+          by-test (toldApart one two)
+          (λ t.
+          let b = ltb-true found (length (firstPairs one two)) t in
+          let small : found < 512 = omega (arith, firsts-long) in
+          not-both (ap (test one two) (sym (pair-at found small)) ∙ where-meets (test one two) (firstPairs one two) b) (m .1 found small))
+          (λ t. t) in
+          rw (lt-ltb 512 count (m .0), apart-none),
+    )
 
-    search-due : {a : Comparison} → Ended a → Due one two a
-    unfolding found
-    search-due (with-text b) =
-        (searched, first-text one two (good .first) (good .second) most found b (where-meets (test one two) (reachedPairs one two) b) (where-before (test one two) (reachedPairs one two)))
-    search-due (without b) =
-        (searched, all-same one two (good .first) (good .second) most (λ i c. where-before (test one two) (reachedPairs one two) i (omega arith)))
+    -- ---- the search
+    module _ (few : manyPairs one two ≡ false) where
+      searched : Searched one two
+      searched = (pass, λ h. not-both (many-is .1 h) few)
 
-    search-short : {a : Comparison} → Ended a → (which : Which) (w : List ℕ) → a ≡ apart which w → length w ≤ 511
-    search-short (with-text b) which w e =
-        let z : wordTo (reachedTable one two) found ≡ w = cc in
-        subst (λ (v : List ℕ). length v ≤ 511) z (short-text one two (good .first) (good .second) most found b)
-    search-short (without b) which w e = zero-one cc
+      data Ended : Comparison → Type 0 where
+        with-text : found < length (firstPairs one two) → Ended (apart (whichOf (one .finals) (getD (firstPairs one two) found 0)) (wordTo (reachedTable one two) found))
+        without : count ≤ 512 → count ≤ found → Ended same
+
+      ended : Ended (compareBy one two none)
+      unfolding found
+      ended =
+          by-test (toldApart one two)
+          (λ t. rw t (with-text (ltb-true found (length (firstPairs one two)) t)))
+          (λ t.
+          let most = ltb-false 512 count (rw t at few) in
+          let b = ltb-false found (length (firstPairs one two)) t in
+          rw t (without most (omega (arith, firsts-long))))
+
+      search-due : {a : Comparison} → Ended a → Due one two a
+      unfolding found
+      search-due (with-text b) =
+          let small : found < 512 = omega (arith, firsts-long) in
+          let there : found < count = omega (arith, firsts-long) in
+          let is = pair-at found small in (
+            searched,
+            rw is
+                (first-text one two (good .first) (good .second) found there small
+                (ap (test one two) (sym is) ∙ where-meets (test one two) (firstPairs one two) b)
+                (λ i c. before i c (omega arith))),
+          )
+      search-due (without most b) =
+          (searched, all-same one two (good .first) (good .second) most (λ i c. before i (omega arith) (omega arith)))
+
+      search-short : {a : Comparison} → Ended a → (which : Which) (w : List ℕ) → a ≡ apart which w → length w ≤ 511
+      search-short (with-text b) which w e =
+          let z : wordTo (reachedTable one two) found ≡ w = cc in
+          subst (λ (v : List ℕ). length v ≤ 511) z
+          (short-text one two (good .first) (good .second) found (omega (arith, firsts-long)) (omega (arith, firsts-long)))
+      search-short (without most b) which w e = zero-one cc
 
   -- ---- all cases
   data Way : Comparison → Type 0 where
     unchecked : (x : ℕ) → pairNumber one two ≡ some x → Way (refused x)
-    too-many : pairNumber one two ≡ none → 512 < count → Way (refused 42)
-    within : {a : Comparison} (pass : pairNumber one two ≡ none) (most : count ≤ 512) → Ended pass most a → Way a
+    too-many : pairNumber one two ≡ none → manyPairs one two ≡ true → Way (refused 45)
+    within : {a : Comparison} (pass : pairNumber one two ≡ none) (few : manyPairs one two ≡ false) → Ended pass few a → Way a
 
   by-check : (o : Option ℕ) → pairNumber one two ≡ o → Way (compareOf one two)
   by-check (some x) e = rw (by-number (some x) (number-first x e)) (unchecked x e)
   by-check none e =
       by-test (manyPairs one two)
-      (λ t. let h = ltb-true 512 count t in rw (by-number (some 42) (number-over e h)) (too-many e h))
-      (λ t. let most = ltb-false 512 count t in rw (by-number none (number-none e t)) (within e most (ended e most)))
+      (λ m. rw (by-number (some 45) (number-over e m)) (too-many e m))
+      (λ m. rw (by-number none (number-none e m)) (within e m (ended e m)))
 
   way : Way (compareOf one two)
   way = by-check (pairNumber one two) refl
 
   way-due : {a : Comparison} → Way a → Due one two a
   way-due (unchecked x e) = inl e
-  way-due (too-many e b) = inr (e, many one two (passed one two .0 e .first) .0 b, refl)
-  way-due (within e most h) = search-due e most h
+  way-due (too-many e m) = inr (e, many-is e .0 m, refl)
+  way-due (within e m h) = search-due e m h
 
   way-short : {a : Comparison} → Way a → (which : Which) (w : List ℕ) → a ≡ apart which w → length w ≤ 511
   way-short (unchecked x e) which w f = zero-one cc
-  way-short (too-many e b) which w f = zero-one cc
-  way-short (within e most h) which w f = search-short e most h which w f
+  way-short (too-many e m) which w f = zero-one cc
+  way-short (within e m h) which w f = search-short e m h which w f
 
   pub short : (which : Which) (w : List ℕ) → compareOf one two ≡ apart which w → length w ≤ 511
   short which w e = way-short way which w e
@@ -214,22 +265,22 @@ module _ (one two : Rule) where
           refused-first 36
           (from-where one two 36 .1 (inr (check.claims .passes one .1 (h .0), inr (check.claims .passes two .1 (h .1), refl, h .2)))),
     );
-    number-42 = (
+    number-45 = (
       (λ e.
           ⊎-elim
           (λ h.
           ⊎-elim
-          (λ f. absurd (omega (arith, rule-small one 42 f)))
+          (λ f. absurd (omega (arith, rule-small one 45 f)))
           (λ f.
           ⊎-elim
-          (λ g. absurd (omega (arith, rule-small two 42 g)))
+          (λ g. absurd (omega (arith, rule-small two 45 g)))
           (λ g. absurd (omega (arith, g .1)))
           (f .1))
-          (from-where one two 42 .0 h))
+          (from-where one two 45 .0 h))
           (λ h. let p = passed one two .0 (h .0) in (p .first, p .second, p .alike, h .1))
-          (exactly (refused 42) .0 e)),
+          (exactly (refused 45) .0 e)),
       λ h.
-          exactly (refused 42) .1
+          exactly (refused 45) .1
           (inr (passed one two .1 (record { first = h .0; second = h .1; alike = h .2 }), h .3, refl)),
     );
     no-other = λ x e.

@@ -4,37 +4,22 @@
 --   pair-law        that number
 --   Pair, passed    none exactly where both rules are well formed and have the same k
 --   from-where      where a number comes from
-use mathlib.Core.Path.{_≡_, refl, sym, ap, _∙_}
+use mathlib.Core.Path.{_≡_, sym, ap, _∙_}
 use mathlib.Core.Logic.{_↔_, _⊎_, inl, inr, ⊎-elim}
 use mathlib.Core.Bool.{not, cond}
 use mathlib.Core.List.{[], _∷_, _++_}
 use mathlib.Core.Option.{Option, none, some}
-use Prim.Native.Nat.{ℕ, _≤_}
-use native.Mathlib.Omega.{arith}
+use Prim.Native.Nat.{ℕ}
 use lib.Dec.{eqb}
 use borrow.Author.Tests.{eq-eqb, ne-eqb, eqb-true, eqb-false}
 use Rattle.base.specs.Conditions.{on}
 use Rattle.base.proofs.Tests.{zero-one, by-test}
-use Rattle.base.proofs.Conditions.{orElse, first-append}
+use Rattle.base.proofs.Conditions.{orElse, first-append, none-of, some-of}
 use Rattle.automaton.specs.declared.Rule.{Rule}
 use Rattle.automaton.specs.Rules.{WellFormed}
 use Rattle.rulecheck.specs.Checking.{ruleConditions, ruleNumber}
 use Rattle.rulecheck.proofs.Claims as check
 use Rattle.compare.specs.Compared.{pairNumber}
-
--- ---- one number, else another
-pub none-of : (a b : Option ℕ) → (orElse a b ≡ none) ↔ ((a ≡ none) × (b ≡ none))
-none-of none b = (λ e. (refl, e), λ x. x .1)
-none-of (some y) b = (λ e. zero-one cc, λ x. zero-one cc)
-
-pub some-of : (a b : Option ℕ) (x : ℕ) → (orElse a b ≡ some x) ↔ ((a ≡ some x) ⊎ ((a ≡ none) × (b ≡ some x)))
-some-of none b x = (λ e. inr (refl, e), λ o. ⊎-elim (λ e. zero-one cc) (λ e. e .1) o)
-some-of (some y) b x = (λ e. inl e, λ o. ⊎-elim (λ e. e) (λ e. zero-one cc) o)
-
-pub rule-small : (r : Rule) (x : ℕ) → ruleNumber r ≡ some x → x ≤ 8
-rule-small r x e =
-    ⊎-elim (λ z. omega arith) (⊎-elim (λ z. omega arith) (⊎-elim (λ z. omega arith) (λ z. omega arith)))
-    (check.claims .refused r .no-other x e)
 
 pub record Pair (one two : Rule) : Type 0 where
   pub first : WellFormed one

@@ -21,9 +21,9 @@ use Rattle.numbering.specs.Texts.{follow}
 use Rattle.mappings.proofs.Numbered.{text-of, symbols-of}
 use Rattle.keys.specs.Kinds.{pairKey, firstSet, secondSet}
 use Rattle.samples.specs.Samples.{setAfter}
-use Rattle.samples.specs.Search.{wordTo}
-use Rattle.samples.proofs.Searches as searches
-use Rattle.samples.proofs.Searches.{Hit}
+use Rattle.searches.specs.Search.{wordTo}
+use Rattle.searches.proofs.Searches as searches
+use Rattle.searches.proofs.Searches.{Hit}
 use Rattle.compare.specs.declared.Which.{Which}
 use Rattle.compare.specs.declared.Which.the-variants.{First, Second}
 use Rattle.compare.specs.Compared.{Only, Apart, FirstApart, Same, ManyPairs}
@@ -92,34 +92,6 @@ module _ (one two : Rule) (good : WellFormed one) where
   second-is : (w : List ℕ) → secondSet (pairAfter w) ≡ setAfter two w
   second-is w = second-of (setAfter one w) (setAfter two w) (small (setAfter one w) (after-below one good (one .initials) w (good .initials-below)))
 
-  pub many : (512 < length (reachedPairs one two)) ↔ ManyPairs one two
-  many =
-      let law = searches.many (pairWalk one two) (firstPair one two) (λ _. refl) in (
-        (λ h.
-            let t = law .0 h in
-            record {
-              text = t .text;
-              symbols = λ i b. text-of (t .symbols i b);
-              distinct = λ i j b c e f.
-                  t .distinct i j b c
-                  (leads (t .text i)
-                  ∙ ap (λ (x : ℕ). pairKey x (setAfter two (t .text i))) e
-                  ∙ ap (λ (x : ℕ). pairKey (setAfter one (t .text j)) x) f
-                  ∙ sym (leads (t .text j)));
-            }),
-        λ t.
-            law .1
-            (record {
-              text = t .text;
-              symbols = λ i b. symbols-of (one .k) (t .text i) (t .symbols i b);
-              distinct = λ i j b c e.
-                  let f : pairAfter (t .text i) ≡ pairAfter (t .text j) = sym (leads (t .text i)) ∙ e ∙ leads (t .text j) in
-                  t .distinct i j b c
-                  (sym (first-is (t .text i)) ∙ ap firstSet f ∙ first-is (t .text j))
-                  (sym (second-is (t .text i)) ∙ ap secondSet f ∙ second-is (t .text j));
-            }),
-      )
-
   -- ---- the test of a pair
   abbrev p : List ℕ → Bool
   p w = shares (setAfter one w) (one .finals)
@@ -144,16 +116,48 @@ module _ (one two : Rule) (good : WellFormed one) where
           λ h. record { symbols = text-of (h .symbols); by = law .1 (sym (test-is w) ∙ h .meets) },
         )
 
-    module _ (most : length (reachedPairs one two) ≤ 512) where
-      abbrev pair : ℕ → ℕ
-      pair j = getD (reachedPairs one two) j 0
+    abbrev pair : ℕ → ℕ
+    pair j = getD (reachedPairs one two) j 0
 
-      pub first-text : (j : ℕ) → j < length (reachedPairs one two) → test one two (pair j) ≡ true → ((i : ℕ) → i < j → test one two (pair i) ≡ false)
+    -- ---- too many pairs before the rules differ
+    pub many : ((512 < length (reachedPairs one two)) × ((i : ℕ) → i < 512 → test one two (pair i) ≡ false)) ↔ ManyPairs one two
+    many =
+        let law = searches.many (pairWalk one two) (firstPair one two) (λ _. refl) (test one two) in (
+          (λ h.
+              let t = law .0 h in
+              record {
+                text = t .text;
+                symbols = λ i b. text-of (t .symbols i b);
+                distinct = λ i j b c e f.
+                    t .distinct i j b c
+                    (leads (t .text i)
+                    ∙ ap (λ (x : ℕ). pairKey x (setAfter two (t .text i))) e
+                    ∙ ap (λ (x : ℕ). pairKey (setAfter one (t .text j)) x) f
+                    ∙ sym (leads (t .text j)));
+                sooner = λ i b v h. t .sooner i b v (apart-is v .0 h);
+              }),
+          λ t.
+              law .1
+              (record {
+                text = t .text;
+                symbols = λ i b. symbols-of (one .k) (t .text i) (t .symbols i b);
+                distinct = λ i j b c e.
+                    let f : pairAfter (t .text i) ≡ pairAfter (t .text j) = sym (leads (t .text i)) ∙ e ∙ leads (t .text j) in
+                    t .distinct i j b c
+                    (sym (first-is (t .text i)) ∙ ap firstSet f ∙ first-is (t .text j))
+                    (sym (second-is (t .text i)) ∙ ap secondSet f ∙ second-is (t .text j));
+                sooner = λ i b v h. t .sooner i b v (apart-is v .1 h);
+              }),
+        )
+
+    -- ---- what the search finds
+    module _ (j : ℕ) (b : j < length (reachedPairs one two)) (small : j < 512) where
+      pub first-text : test one two (pair j) ≡ true → ((i : ℕ) → i < j → test one two (pair i) ≡ false)
           → FirstApart one two (whichOf (one .finals) (pair j)) (wordTo (reachedTable one two) j)
-      first-text j b meets-it before =
+      first-text meets-it before =
           let w : List ℕ = wordTo (reachedTable one two) j in
-          let f = searches.first-hit (pairWalk one two) (firstPair one two) (λ _. refl) (good .symbols .1) most (test one two) j b meets-it before in
-          let there = searches.leads-to (pairWalk one two) (firstPair one two) (λ _. refl) (good .symbols .1) most j b in
+          let f = searches.first-hit (pairWalk one two) (firstPair one two) (λ _. refl) (good .symbols .1) j b small (test one two) meets-it before in
+          let there = searches.leads-to (pairWalk one two) (firstPair one two) (λ _. refl) (good .symbols .1) j b small in
           let is : cond (p w) First Second ≡ whichOf (one .finals) (pair j) = sym (which-is w) ∙ ap (whichOf (one .finals)) there in
           record {
             symbols = text-of (f .hit .symbols);
@@ -162,15 +166,15 @@ module _ (one two : Rule) (good : WellFormed one) where
             no-sooner = λ v h. f .no-sooner v (apart-is v .0 h);
           }
 
-      pub all-same : ((i : ℕ) → i < length (reachedPairs one two) → test one two (pair i) ≡ false) → Same one two
-      all-same none w t =
-          none-of (p w) (q w) (accepts-law one good w) (accepts-law two fine w)
-          (by-test (cond (p w) (not (q w)) (q w))
-          (λ e.
-          absurd
-          (searches.no-hit (pairWalk one two) (firstPair one two) (λ _. refl) (good .symbols .1) most (test one two) none w
-          (record { symbols = symbols-of (one .k) w t; meets = test-is w ∙ e })))
-          (λ e. e))
+      pub short-text : length (wordTo (reachedTable one two) j) ≤ 511
+      short-text = searches.short-hit (pairWalk one two) (firstPair one two) (λ _. refl) (good .symbols .1) j b small
 
-      pub short-text : (j : ℕ) → j < length (reachedPairs one two) → length (wordTo (reachedTable one two) j) ≤ 511
-      short-text j b = searches.short-hit (pairWalk one two) (firstPair one two) (λ _. refl) (good .symbols .1) most j b
+    pub all-same : length (reachedPairs one two) ≤ 512 → ((i : ℕ) → i < length (reachedPairs one two) → test one two (pair i) ≡ false) → Same one two
+    all-same most none w t =
+        none-of (p w) (q w) (accepts-law one good w) (accepts-law two fine w)
+        (by-test (cond (p w) (not (q w)) (q w))
+        (λ e.
+        absurd
+        (searches.no-hit (pairWalk one two) (firstPair one two) (λ _. refl) (test one two) most none w
+        (record { symbols = symbols-of (one .k) w t; meets = test-is w ∙ e })))
+        (λ e. e))

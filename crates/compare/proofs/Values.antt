@@ -5,7 +5,7 @@ use Prim.Native.Nat.{ℕ, _≤_}
 use native.Mathlib.Omega.{arith}
 use lib.ListN.{length}
 use Rattle.base.proofs.Lists.{zero-cells}
-use Rattle.samples.proofs.Values.{size, front, after, read, cells-are, no-cells}
+use Rattle.searches.proofs.Texts.{size, front, after, read, cells-are, no-cells}
 use Rattle.compare.specs.declared.Which.{Which}
 use Rattle.compare.specs.Compared.{Comparison, apart, same, refused}
 use Rattle.compare.specs.Values.{Reply, Outcome, Carries, outcomeOf, comparisonIn}

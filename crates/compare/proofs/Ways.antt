@@ -9,7 +9,7 @@ use Prim.Native.Nat.{ℕ, _≤_, _<_}
 use native.Mathlib.Omega.{arith}
 use lib.ListN.{length, getD, take}
 use lib.Seq.{getD-take}
-use borrow.Author.Tests.{lt-ltb, le-ltb, ltb-true}
+use borrow.Author.Tests.{lt-ltb, le-ltb}
 use Rattle.automaton.specs.declared.Rule.{Rule}
 use Rattle.automaton.specs.Rules.{WellFormed}
 use Rattle.rulecheck.specs.declared.CheckAnswer.{CheckAnswer}
@@ -19,18 +19,18 @@ use Rattle.rulecheck.proofs.Claims.{claims}
 use Rattle.keys.specs.declared.KeyTable.{KeyTable}
 use Rattle.keys.specs.declared.Kind.the-variants.{Pairs}
 use Rattle.keys.specs.declared.Numbering.the-variants.{Whole, Over}
-use Rattle.keys.specs.Tables.{tableOutcome, tableBy}
-use Rattle.samples.specs.Search.{firstWhere, wordTo}
-use Rattle.sampling.specs.declared.Spelled.{Spelled}
-use Rattle.sampling.specs.Tables.{Tabled, Spells}
-use Rattle.sampling.proofs.Searched as searched
+use Rattle.keys.specs.Tables.{heldBy, tableOutcome, tableBy}
+use Rattle.searches.specs.declared.Spelled.{Spelled}
+use Rattle.searches.specs.Search.{firstWhere, wordTo}
+use Rattle.searches.specs.Tables.{Tabled, Spells}
+use Rattle.searches.proofs.Searched as searched
 use Rattle.compare.specs.declared.Which.{Which}
 use Rattle.compare.specs.Compared as compared
 use Rattle.compare.specs.Compared.{pairNumber}
 use Rattle.compare.specs.Values.{Outcome, apart, same, refused, noText, outcomeOf}
-use Rattle.compare.specs.Search.{whichOf, firstPair, reachedPairs, reachedTable, test, foundFirst, compareBy, compareOf}
+use Rattle.compare.specs.Search.{whichOf, firstPair, reachedPairs, reachedTable, test, firstPairs, foundFirst, toldApart, compareOf}
 use Rattle.compare.proofs.Conditions.{passed, Came, from-where}
-use Rattle.compare.proofs.Answers.{by-number, number-over, number-none, refused-first}
+use Rattle.compare.proofs.Answers.{by-number, number-over, number-none, firsts-long, refused-first}
 
 pub differ-first : (p q x y : Bool) → x ≡ q → y ≡ p → y ≡ true → not x ≡ cond p (not q) q
 differ-first p q x y a b e = let f : p ≡ true = sym b ∙ e in rw (f, a)
@@ -72,60 +72,59 @@ module _ (one two : Rule) where
 
 -- ---- the search
 module _ (one two : Rule) (good : WellFormed one) (fine : WellFormed two) (alike : one .k ≡ two .k) (t : KeyTable)
-    (are : tableOutcome t ≡ tableBy Pairs (one .targets) (two .targets) (one .k) (firstPair one two)) where
+    (are : tableOutcome t ≡ tableBy Pairs (one .targets) (two .targets) (one .k) (firstPair one two)) (c : ℕ) (held : c ≡ heldBy (t .answer)) where
   pass : pairNumber one two ≡ none
   pass = passed one two .1 (record { first = good; second = fine; alike = alike })
 
-  pub search-over : (o : Outcome) → t .answer ≡ Over → o ≡ noText (refused 42) → o ≡ outcomeOf (compareOf one two)
-  search-over o e is =
-      is
-      ∙ sym
-      (ap outcomeOf
-      (by-number one two (some 42)
-      (number-over one two pass
-      (ltb-true 512 (length (reachedPairs one two))
-      (searched.over-many Pairs (one .targets) (two .targets) (one .k) (firstPair one two) (good .symbols .1) t are e)))))
+  pub most : c ≤ 512
+  most = searched.held-most Pairs (one .targets) (two .targets) (one .k) (firstPair one two) (good .symbols .1) t are c held
 
-  module _ (c : ℕ) (e : t .answer ≡ Whole c) where
-    count-is : c ≡ length (reachedPairs one two)
-    count-is = searched.count-is Pairs (one .targets) (two .targets) (one .k) (firstPair one two) (good .symbols .1) t are c e
+  count-is : c ≡ length (firstPairs one two)
+  count-is = searched.held-count Pairs (one .targets) (two .targets) (one .k) (firstPair one two) (good .symbols .1) t are c held
 
-    pub most : c ≤ 512
-    most = searched.most Pairs (one .targets) (two .targets) (one .k) (firstPair one two) (good .symbols .1) t are c e
+  keys-are : take c (t .keys) ≡ firstPairs one two
+  keys-are = searched.held-keys Pairs (one .targets) (two .targets) (one .k) (firstPair one two) (good .symbols .1) t are c held
 
-    keys-are : take c (t .keys) ≡ reachedPairs one two
-    keys-are = searched.keys-are Pairs (one .targets) (two .targets) (one .k) (firstPair one two) (good .symbols .1) t are c e
+  pub tabled : (j : ℕ) → j < c → Tabled (t .next) (one .k) j
+  tabled j b =
+      searched.tabled Pairs (one .targets) (two .targets) (one .k) (firstPair one two) (good .symbols .1) t are j
+      (omega (arith, count-is, firsts-long one two))
+      (omega (arith, most))
 
-    next-is : t .next ≡ reachedTable one two
-    next-is = searched.next-is Pairs (one .targets) (two .targets) (one .k) (firstPair one two) (good .symbols .1) t are c e
+  module _ (j : ℕ) (first : j ≡ firstWhere (test one two) (take c (t .keys))) where
+    first-is : j ≡ foundFirst one two
+    first-is = first ∙ ap (firstWhere (test one two)) keys-are
 
-    pub tabled : (j : ℕ) → j < c → Tabled (t .next) (one .k) j
-    tabled = searched.tabled Pairs (one .targets) (two .targets) (one .k) (firstPair one two) (good .symbols .1) t are c e
+    pub search-text : (s : Spelled) (x : Which) → j < c → x ≡ whichOf (one .finals) (getD (t .keys) j 0) → Spells s (wordTo (t .next) j)
+        → record { reply = apart x; length = s .length; text = s .text } ≡ outcomeOf (compareOf one two)
+    search-text s x b is spelt =
+        let told : toldApart one two ≡ true = lt-ltb (foundFirst one two) (length (firstPairs one two)) (omega (arith, count-is, first-is)) in
+        let next : t .next ≡ reachedTable one two =
+        searched.next-is Pairs (one .targets) (two .targets) (one .k) (firstPair one two) (good .symbols .1) t are in
+        let v : wordTo (t .next) j ≡ wordTo (reachedTable one two) (foundFirst one two) = rw (next, first-is) in
+        let y : x ≡ whichOf (one .finals) (getD (firstPairs one two) (foundFirst one two) 0) =
+        is
+        ∙ ap (whichOf (one .finals))
+        (sym (getD-take c (t .keys) j 0 b) ∙ ap (λ (l : List ℕ). getD l j 0) keys-are ∙ ap (λ (i : ℕ). getD (firstPairs one two) i 0) first-is) in
+        let f : compared.apart x (wordTo (t .next) j) ≡ compareOf one two =
+        rw (by-number one two none (number-none one two pass (rw told)), told, v, y) in
+        rw (spelt .long, spelt .are) (ap outcomeOf f)
 
-    answer-is : compareOf one two ≡ compareBy one two none
-    answer-is =
-        by-number one two none
-        (number-none one two pass (searched.few Pairs (one .targets) (two .targets) (one .k) (firstPair one two) (good .symbols .1) t are c e))
+    module _ (none-told : c ≤ j) where
+      told-none : toldApart one two ≡ false
+      told-none = le-ltb (foundFirst one two) (length (firstPairs one two)) (omega (arith, count-is, first-is))
 
-    module _ (j : ℕ) (first : j ≡ firstWhere (test one two) (take c (t .keys))) where
-      first-is : j ≡ foundFirst one two
-      first-is = first ∙ ap (firstWhere (test one two)) keys-are
-
-      pub search-text : (s : Spelled) (x : Which) → j < c → x ≡ whichOf (one .finals) (getD (t .keys) j 0) → Spells s (wordTo (t .next) j)
-          → record { reply = apart x; length = s .length; text = s .text } ≡ outcomeOf (compareOf one two)
-      search-text s x b is spelt =
-          let d : foundFirst one two < length (reachedPairs one two) = omega (arith, count-is, first-is) in
-          let v : wordTo (t .next) j ≡ wordTo (reachedTable one two) (foundFirst one two) = rw (next-is, first-is) in
-          let y : x ≡ whichOf (one .finals) (getD (reachedPairs one two) (foundFirst one two) 0) =
+      pub search-over : (o : Outcome) → t .answer ≡ Over → o ≡ noText (refused 45) → o ≡ outcomeOf (compareOf one two)
+      search-over o e is =
+          let over = searched.over-many Pairs (one .targets) (two .targets) (one .k) (firstPair one two) (good .symbols .1) t are e in
           is
-          ∙ ap (whichOf (one .finals))
-          (sym (getD-take c (t .keys) j 0 b) ∙ ap (λ (l : List ℕ). getD l j 0) keys-are ∙ ap (λ (i : ℕ). getD (reachedPairs one two) i 0) first-is) in
-          let f : compared.apart x (wordTo (t .next) j) ≡ compareOf one two =
-          rw (answer-is, lt-ltb (foundFirst one two) (length (reachedPairs one two)) d, v, y) in
-          rw (spelt .long, spelt .are) (ap outcomeOf f)
+          ∙ sym
+          (ap outcomeOf
+          (by-number one two (some 45) (number-over one two pass (rw told-none (lt-ltb 512 (length (reachedPairs one two)) over)))))
 
-      pub search-same : (o : Outcome) → c ≤ j → o ≡ noText same → o ≡ outcomeOf (compareOf one two)
-      search-same o b is =
-          let d : length (reachedPairs one two) ≤ foundFirst one two = omega (arith, count-is, first-is) in
-          let f : compared.same ≡ compareOf one two = rw (answer-is, le-ltb (foundFirst one two) (length (reachedPairs one two)) d) in
+      pub search-same : (o : Outcome) (n : ℕ) → t .answer ≡ Whole n → o ≡ noText same → o ≡ outcomeOf (compareOf one two)
+      search-same o n e is =
+          let few = searched.few Pairs (one .targets) (two .targets) (one .k) (firstPair one two) (good .symbols .1) t are n e in
+          let f : compared.same ≡ compareOf one two =
+          rw (by-number one two none (number-none one two pass (rw told-none (le-ltb 512 (length (reachedPairs one two)) few))), told-none) in
           is ∙ ap outcomeOf f

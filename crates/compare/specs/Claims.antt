@@ -11,7 +11,7 @@ use Rattle.automaton.specs.declared.Rule.{Rule}
 use Rattle.automaton.specs.Automaton.{Text, Equivalent}
 use Rattle.automaton.specs.Rules.{automatonOf, WellFormed}
 use Rattle.rulecheck.specs.Checking.{ruleNumber}
-use Rattle.samples.specs.Values.{longestSample}
+use Rattle.searches.specs.Texts.{longestText}
 use Rattle.compare.specs.declared.Which.{Which}
 use Rattle.compare.specs.Compared.{Only, ManyPairs, Searched, Comparison, apart, same, refused, Due}
 use Rattle.compare.specs.Values.{Outcome, Carries, outcomeOf, comparisonIn}
@@ -23,11 +23,11 @@ pub record Refused-exactly (one two : Rule) : Type 0 where
       ↔ ((ruleNumber one ≡ some x) ⊎ (WellFormed one × (ruleNumber two ≡ some x)))
   -- two checked rules with different k
   pub number-36 : (compareOf one two ≡ refused 36) ↔ (WellFormed one × WellFormed two × (one .k ≡ two .k → ⊥))
-  -- with the same k, that reach more than 512 pairs
-  pub number-42 : (compareOf one two ≡ refused 42)
+  -- with the same k, that reach too many pairs before they differ
+  pub number-45 : (compareOf one two ≡ refused 45)
       ↔ (WellFormed one × WellFormed two × (one .k ≡ two .k) × ManyPairs one two)
   -- no other number
-  pub no-other : (x : ℕ) → compareOf one two ≡ refused x → (x ≤ 8) ⊎ (x ≡ 36) ⊎ (x ≡ 42)
+  pub no-other : (x : ℕ) → compareOf one two ≡ refused x → (x ≤ 8) ⊎ (x ≡ 36) ⊎ (x ≡ 45)
 
 pub record Claims : Type 0 where
   -- it is the answer that is due, and no other is
@@ -39,7 +39,7 @@ pub record Claims : Type 0 where
   -- of a text that is given just the named rule accepts it
   pub named : (one two : Rule) (which : Which) (w : List ℕ) → compareOf one two ≡ apart which w → Text (one .k) w × Only which one two w
   -- a text has at most 511 symbols
-  pub short : (one two : Rule) (which : Which) (w : List ℕ) → compareOf one two ≡ apart which w → length w ≤ longestSample
+  pub short : (one two : Rule) (which : Which) (w : List ℕ) → compareOf one two ≡ apart which w → length w ≤ longestText
   -- a value is that of the answer exactly where it carries an answer that is due
   pub value : (one two : Rule) (o : Outcome)
       → (o ≡ outcomeOf (compareOf one two)) ↔ (a : Comparison) × Due one two a × Carries a o

@@ -5,15 +5,17 @@
 --   FirstApart one two which w   w is such a text, this rule accepts it, and it comes before every
 --                          other: it is the shortest, and among the shortest the first by symbols
 --   Same one two           the two accept the same texts of their symbols
---   ManyPairs one two      more than 512 pairs of sets are reached: 513 texts lead to pairs of which
---                          no two are the same. The empty set counts like any other
+--   ManyPairs one two      too many pairs of sets are reached before the rules differ: 513 texts lead
+--                          to pairs of which no two are the same, and none of these texts is later
+--                          than any on which the two rules differ. The empty set counts like any
+--                          other
 --   pairConditions ..      the first rule's conditions of R-3, then the second's, then 36: different
 --                          k
 --   pairNumber one two     the number of the first that holds
---   Searched one two       none of them holds, and at most 512 pairs are reached
+--   Searched one two       none of them holds, and there are not too many pairs
 --   Comparison             an answer: a rule with a text that it alone accepts, that the two accept
 --                          the same, or a refusal with its number
---   Due one two a          a is the answer that is due: the number of those conditions, then 42;
+--   Due one two a          a is the answer that is due: the number of those conditions, then 45;
 --                          else the first text that tells the two apart, or the same where none does
 use mathlib.Core.Path.{_≡_}
 use mathlib.Core.Logic.{_↔_, _⊎_}
@@ -55,6 +57,7 @@ module _ (one two : Rule) where
     pub symbols : (i : ℕ) → i < mostSets + 1 → Text (one .k) (text i)
     pub distinct : (i j : ℕ) → i < mostSets + 1 → j < mostSets + 1
         → setAfter one (text i) ≡ setAfter one (text j) → setAfter two (text i) ≡ setAfter two (text j) → i ≡ j
+    pub sooner : (i : ℕ) → i < mostSets + 1 → (v : List ℕ) → Apart v → NoLater (text i) v
 
   abbrev pub pairConditions : List Condition
   pairConditions = ruleConditions one ++ (ruleConditions two ++ (on 36 (not (eqb (one .k) (two .k))) ∷ []))
@@ -73,4 +76,4 @@ pub data Comparison : Type 0 where
 abbrev pub Due : Rule → Rule → Comparison → Type 0
 Due one two (apart which w) = Searched one two × FirstApart one two which w
 Due one two same = Searched one two × Same one two
-Due one two (refused x) = (pairNumber one two ≡ some x) ⊎ ((pairNumber one two ≡ none) × ManyPairs one two × (x ≡ 42))
+Due one two (refused x) = (pairNumber one two ≡ some x) ⊎ ((pairNumber one two ≡ none) × ManyPairs one two × (x ≡ 45))

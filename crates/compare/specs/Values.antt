@@ -13,7 +13,7 @@ use mathlib.Core.List.{List, []}
 use Prim.Native.Nat.{ℕ, _≤_, _<_}
 use lib.ListN as ListN
 use lib.ListN.{getD, take, replicate}
-use Rattle.samples.specs.Values.{longestSample, textCells}
+use Rattle.searches.specs.Texts.{longestText, textCells}
 use Rattle.compare.specs.declared.Which.{Which}
 use Rattle.compare.specs.declared.CompareAnswer.{CompareAnswer}
 use Rattle.compare.specs.declared.CompareAnswer.the-variants.{Apart, Same, Refused}
@@ -52,12 +52,12 @@ replyOf (compared.refused x) = refused x
 pub record Carries (a : Comparison) (o : Outcome) : Type 0 where
   pub reply : o .reply ≡ replyOf a
   pub length : o .length ≡ ListN.length (wordOf a)
-  pub size : ListN.length (o .text) ≡ longestSample
+  pub size : ListN.length (o .text) ≡ longestText
   pub front : (c : ℕ) → c < ListN.length (wordOf a) → getD (o .text) c 0 ≡ getD (wordOf a) c 0
   pub zeros : (c : ℕ) → ListN.length (wordOf a) ≤ c → getD (o .text) c 0 ≡ 0
 
 abbrev pub noText : Reply → Outcome
-noText reply = record { reply = reply; length = 0; text = replicate longestSample 0 }
+noText reply = record { reply = reply; length = 0; text = replicate longestText 0 }
 
 abbrev pub outcomeOf : Comparison → Outcome
 outcomeOf (compared.apart which w) = record { reply = apart which; length = ListN.length w; text = textCells w }

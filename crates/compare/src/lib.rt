@@ -4,7 +4,7 @@ ghost use Prim.Native.Nat.{_≤_};
 ghost use lib.ListN.{take};
 ghost use Rattle.limits.specs.Limits.{mostSets};
 ghost use Rattle.automaton.specs.Rules.{WellFormed};
-ghost use Rattle.samples.specs.Search.{firstWhere};
+ghost use Rattle.searches.specs.Search.{firstWhere};
 ghost use Rattle.compare.specs.Search.{differs as differsOf, whichOf, compareOf};
 ghost use Rattle.compare.specs.Values.{answerMeans, noText, compareOutcome, outcomeOf};
 use automaton::Rule;
@@ -31,7 +31,7 @@ pub enum CompareAnswer {
 pub struct CompareResult {
     pub answer: CompareAnswer,
     pub length: usize,
-    pub text: [u8; samples::LONGEST],
+    pub text: [u8; searches::LONGEST],
 }
 
 // Whether exactly one of the pair's sets has a final state.
@@ -75,7 +75,7 @@ fn first_apart(pairs: &[u64; limits::SETS], count: usize, finals: u32, others: u
 fn give_none(answer: CompareAnswer) -> CompareResult
     ensures { λ r. ⌜ compareOutcome r ≡ noText (answerMeans answer) ⌝ }
 {
-    let text = [0u8; samples::LONGEST];
+    let text = [0u8; searches::LONGEST];
     CompareResult {
         answer,
         length: 0,
@@ -92,25 +92,24 @@ fn search_pairs(one: Rule, two: Rule) -> CompareResult
     let start = one.initials as u64 + two.initials as u64 * 4294967296;
     let table = keys::number_by(&one.targets, &two.targets, Kind::Pairs, k, start);
     let numbered = table.answer;
+    let count = keys::held(numbered);
+    let pairs = table.keys;
+    let first = first_apart(&pairs, count, one.finals, two.finals);
+    if first < count {
+        let which = which_of(one.finals, pairs[first]);
+        let next = table.next;
+        let number = first as u16;
+        let spelled = searches::spell(&next, k as usize, KeyNumber(number));
+        let text = spelled.text;
+        return CompareResult {
+            answer: CompareAnswer::Apart(which),
+            length: spelled.length,
+            text,
+        };
+    }
     match numbered {
-        Numbering::Over => give_none(CompareAnswer::Refused(42)),
-        Numbering::Whole(count) => {
-            let pairs = table.keys;
-            let first = first_apart(&pairs, count, one.finals, two.finals);
-            if first < count {
-                let which = which_of(one.finals, pairs[first]);
-                let next = table.next;
-                let number = first as u16;
-                let spelled = sampling::spell(&next, k as usize, KeyNumber(number));
-                let text = spelled.text;
-                return CompareResult {
-                    answer: CompareAnswer::Apart(which),
-                    length: spelled.length,
-                    text,
-                };
-            }
-            give_none(CompareAnswer::Same)
-        }
+        Numbering::Over => give_none(CompareAnswer::Refused(45)),
+        Numbering::Whole(_) => give_none(CompareAnswer::Same),
     }
 }
 

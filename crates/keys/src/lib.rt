@@ -5,9 +5,9 @@ ghost use Prim.Native.Nat.{_≤_, _<_};
 ghost use lib.ListN.{take};
 ghost use Rattle.limits.specs.Limits.{mostSymbols, mostSets};
 ghost use Rattle.automaton.specs.Successor.{successor as successorOf};
-ghost use Rattle.numbering.specs.Arrays.{foundIn, keyCells, Entered, Stepped, ArraysHold, Grown};
+ghost use Rattle.numbering.specs.Arrays.{foundIn, keyCells, Entered, Stepped, ArraysHold};
 ghost use Rattle.keys.specs.Kinds.{stepBy, nothing, walkBy};
-ghost use Rattle.keys.specs.Tables.{countMeans, noTable, tableOutcome, tableBy, tableOf};
+ghost use Rattle.keys.specs.Tables.{countMeans, heldBy, tableAs, tableOutcome, tableFor, tableBy, tableOf};
 ghost use Rattle.keys.specs.Steps.{foundMeans, turnMeans, closedFrom};
 
 // What a key stands for: a set of states, as a mask; a mapping, as a number of 64 bits; a pair of
@@ -39,8 +39,8 @@ pub enum Numbering {
     Over,
 }
 
-// The keys in number order and the table, zeros in every cell that is not in use, beside the
-// answer; zeros alone where there are more than 512 keys.
+// The first 512 keys in number order and the table, zeros in every cell that is not in use, beside
+// the answer. Where the 513th key turned up, the table has the cells before that.
 pub struct KeyTable {
     pub answer: Numbering,
     pub keys: [u64; limits::SETS],
@@ -158,7 +158,7 @@ fn expand(
     from: usize,
 ) -> Numbering
     requires { ⌜ (k ≤ mostSymbols) × (from ≤ mostSets) × ArraysHold (walkBy kind (now targets) (now others) k) 0 (take from (now keys)) 0 (now keys) (now next) ⌝ }
-    ensures { λ r. ⌜ Grown (walkBy kind (now (targets .entry)) (now (others .entry)) k) 0 (closedFrom (walkBy kind (now (targets .entry)) (now (others .entry)) k) (take from (now (keys .entry)))) (countMeans r) (now (keys .exit)) (now (next .exit)) ⌝ }
+    ensures { λ r. ⌜ tableAs r (now (keys .exit)) (now (next .exit)) ≡ tableFor (walkBy kind (now (targets .entry)) (now (others .entry)) k) (closedFrom (walkBy kind (now (targets .entry)) (now (others .entry)) k) (take from (now (keys .entry)))) ⌝ }
 {
     let mut count = from;
     let mut i: usize = 0;
@@ -190,19 +190,6 @@ fn expand(
     answer
 }
 
-// More than 512 keys.
-fn no_table() -> KeyTable
-    ensures { λ r. ⌜ tableOutcome r ≡ noTable ⌝ }
-{
-    let keys = [0u64; limits::SETS];
-    let next = [0u16; limits::CELLS];
-    KeyTable {
-        answer: Numbering::Over,
-        keys,
-        next,
-    }
-}
-
 // The keys that texts of symbols below k lead to from the key start, in the order in which they are
 // found, and the table of what each leads to; a value of k above 16 is taken for 16. The second set
 // of a pair goes by the table others.
@@ -219,14 +206,8 @@ pub fn number_by(
     let mut next = [0u16; limits::CELLS];
     keys[0] = start;
     let symbols = base::at_most_u8(k, limits::MOST_SYMBOLS);
-    match expand(targets, others, kind, symbols, &mut keys, &mut next, 1) {
-        Numbering::Whole(count) => KeyTable {
-            answer: Numbering::Whole(count),
-            keys,
-            next,
-        },
-        Numbering::Over => no_table(),
-    }
+    let answer = expand(targets, others, kind, symbols, &mut keys, &mut next, 1);
+    KeyTable { answer, keys, next }
 }
 
 // Those where one table is both.
@@ -234,4 +215,14 @@ pub fn number_keys(targets: &[u32; limits::TARGETS], kind: Kind, k: u8, start: u
     ensures { λ r. ⌜ tableOutcome r ≡ tableOf kind (now (targets .entry)) k start ⌝ }
 {
     number_by(targets, targets, kind, k, start)
+}
+
+// How many keys a table with this answer holds: all of them, or the first 512.
+pub fn held(answer: Numbering) -> usize
+    ensures { λ r. ⌜ r ≡ heldBy answer ⌝ }
+{
+    match answer {
+        Numbering::Whole(count) => count,
+        Numbering::Over => limits::SETS,
+    }
 }

@@ -52,7 +52,7 @@ prior-or p t i s =
     (λ z. inr (inl (inl z)))
     (eq-or-lt-of-le (ltb-false p i x)))
 
-not-after-trans : (p q r : ℕ) (u v w : List ℕ) → NotAfter p u q v → NotAfter q v r w → NotAfter p u r w
+pub not-after-trans : (p q r : ℕ) (u v w : List ℕ) → NotAfter p u q v → NotAfter q v r w → NotAfter p u r w
 not-after-trans p q r u v w x y =
     ⊎-elim
     (λ h. ⊎-elim (λ g. inl (omega arith)) (λ g. inl (omega (arith, g .0))) y)

@@ -13,16 +13,17 @@ use Rattle.base.proofs.Tests.{zero-one, by-test}
 use Rattle.automaton.specs.declared.Rule.{Rule}
 use Rattle.automaton.specs.Rules.{WellFormed}
 use Rattle.rulecheck.specs.Checking.{ruleNumber}
-use Rattle.rulecheck.proofs.First.{checked-first, checked-then}
+use Rattle.rulecheck.proofs.First.{checked-first, checked-then, rule-small}
 use Rattle.rulecheck.proofs.Claims as check
+use Rattle.searches.specs.Search.{wordTo}
+use Rattle.searches.proofs.Order.{one-text}
+use Rattle.searches.proofs.Firsts.{where-meets, where-before}
 use Rattle.samples.specs.declared.Wish.{Wish}
 use Rattle.samples.specs.Samples.{ManySets, Searched, Sample, text, nothing, refused, Due}
 use Rattle.samples.specs.Values.{Outcome, Carries, outcomeOf, sampleIn}
 use Rattle.samples.specs.Claims.{Refused-exactly}
-use Rattle.samples.specs.Search.{reachedSets, reachedTable, manySets, ownConditions, searchNumber, meets, wordTo, foundFirst, sampleBy, sampleOf}
-use Rattle.samples.proofs.Order.{one-text}
+use Rattle.samples.specs.Search.{reachedSets, reachedTable, manySets, ownConditions, searchNumber, meets, foundFirst, sampleBy, sampleOf}
 use Rattle.samples.proofs.Values.{outcome-tells, outcome-carries, carries-one}
-use Rattle.samples.proofs.Firsts.{where-meets, where-before}
 use Rattle.samples.proofs.Wishes.{many, first-text, no-text, short-text}
 
 module _ (r : Rule) where
@@ -132,11 +133,6 @@ module _ (r : Rule) where
     )
 
     -- ---- number by number
-    low : (x : ℕ) → ruleNumber r ≡ some x → x ≤ 8
-    low x e =
-        ⊎-elim (λ z. omega arith) (⊎-elim (λ z. omega arith) (⊎-elim (λ z. omega arith) (λ z. omega arith)))
-        (check.claims .refused r .no-other x e)
-
     pub numbers : Refused-exactly r wish
     numbers = record {
       checked = λ x b. (
@@ -144,10 +140,10 @@ module _ (r : Rule) where
         λ e. exactly (refused x) .1 (inl e),
       );
       number-35 = (
-        (λ e. ⊎-elim (λ h. absurd (omega (arith, low 35 h))) (λ h. (check.claims .passes r .0 (h .0), h .1)) (exactly (refused 35) .0 e)),
+        (λ e. ⊎-elim (λ h. absurd (omega (arith, rule-small r 35 h))) (λ h. (check.claims .passes r .0 (h .0), h .1)) (exactly (refused 35) .0 e)),
         λ h. exactly (refused 35) .1 (inr (check.claims .passes r .1 (h .0), h .1, refl)),
       );
-      no-other = λ x e. ⊎-elim (λ h. inl (low x h)) (λ h. inr (h .2)) (exactly (refused x) .0 e);
+      no-other = λ x e. ⊎-elim (λ h. inl (rule-small r x h)) (λ h. inr (h .2)) (exactly (refused x) .0 e);
     }
 
     -- ---- by value

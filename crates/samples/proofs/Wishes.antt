@@ -5,6 +5,7 @@ use mathlib.Core.Logic.{_↔_}
 use mathlib.Core.Bool.{Bool, true, false, not}
 use mathlib.Core.List.{List, [], _∷_}
 use Prim.Native.Nat.{ℕ, _≤_, _<_}
+use native.Mathlib.Omega.{arith}
 use lib.ListN.{length, getD}
 use Rattle.base.proofs.Tests.{not-both}
 use Rattle.masks.specs.Masks.{shares}
@@ -15,12 +16,13 @@ use Rattle.automaton.specs.Successor.{after}
 use Rattle.automaton.proofs.Laws.{accepts-law}
 use Rattle.numbering.specs.Texts.{follow}
 use Rattle.mappings.proofs.Numbered.{text-of, symbols-of}
+use Rattle.searches.specs.Search.{wordTo}
+use Rattle.searches.proofs.Searches as searches
+use Rattle.searches.proofs.Searches.{Hit}
 use Rattle.samples.specs.declared.Wish.{Wish}
 use Rattle.samples.specs.declared.Wish.the-variants.{Accepted, Rejected}
 use Rattle.samples.specs.Samples.{Judged, Wished, First, setAfter, ManySets}
-use Rattle.samples.specs.Search.{setWalk, reachedSets, reachedTable, meets, wordTo}
-use Rattle.samples.proofs.Searches as searches
-use Rattle.samples.proofs.Searches.{Hit}
+use Rattle.samples.specs.Search.{setWalk, reachedSets, reachedTable, meets}
 
 pub follow-after : (r : Rule) (m : ℕ) (w : List ℕ) → follow (setWalk r) m w ≡ after (r .targets) m w
 follow-after r m [] = refl
@@ -32,9 +34,9 @@ module _ (r : Rule) where
 
   pub many : (512 < length (reachedSets r)) ↔ ManySets r
   many =
-      let law = searches.many (setWalk r) (r .initials) (λ _. refl) in (
+      let law = searches.many (setWalk r) (r .initials) (λ _. refl) (λ _. false) in (
         (λ h.
-            let t = law .0 h in
+            let t = law .0 (h, λ i b. refl) in
             record {
               text = t .text;
               symbols = λ i b. text-of (t .symbols i b);
@@ -46,7 +48,9 @@ module _ (r : Rule) where
               text = t .text;
               symbols = λ i b. symbols-of (r .k) (t .text i) (t .symbols i b);
               distinct = λ i j b c e. t .distinct i j b c (sym (leads (t .text i)) ∙ e ∙ leads (t .text j));
-            }),
+              sooner = λ i b v h. not-both (h .meets) refl;
+            })
+            .0,
       )
 
   module _ (good : WellFormed r) where
@@ -76,14 +80,14 @@ module _ (r : Rule) where
         pub first-text : (j : ℕ) → j < length (reachedSets r) → test (set j) ≡ true → ((i : ℕ) → i < j → test (set i) ≡ false)
             → First r wish (wordTo (reachedTable r) j)
         first-text j b meets-it before =
-            let f = searches.first-hit (setWalk r) (r .initials) (λ _. refl) (good .symbols .1) most test j b meets-it before in
+            let f = searches.first-hit (setWalk r) (r .initials) (λ _. refl) (good .symbols .1) j b (omega arith) test meets-it before in
             record {
               wished = wished-is (wordTo (reachedTable r) j) .1 (f .hit);
               no-sooner = λ v h. f .no-sooner v (wished-is v .0 h);
             }
 
         pub no-text : ((i : ℕ) → i < length (reachedSets r) → test (set i) ≡ false) → (v : List ℕ) → Wished r wish v → ⊥
-        no-text none v h = searches.no-hit (setWalk r) (r .initials) (λ _. refl) (good .symbols .1) most test none v (wished-is v .0 h)
+        no-text none v h = searches.no-hit (setWalk r) (r .initials) (λ _. refl) test most none v (wished-is v .0 h)
 
       pub short-text : (j : ℕ) → j < length (reachedSets r) → length (wordTo (reachedTable r) j) ≤ 511
-      short-text j b = searches.short-hit (setWalk r) (r .initials) (λ _. refl) (good .symbols .1) most j b
+      short-text j b = searches.short-hit (setWalk r) (r .initials) (λ _. refl) (good .symbols .1) j b (omega arith)

@@ -8,7 +8,7 @@ use lib.ListN.{getD}
 use borrow.Author.Count.{below-more}
 use borrow.Author.Needs.{needs}
 use Rattle.compare.specs.Search.{differs}
-use Rattle.sampling.proofs.Cells.{where-found, where-none}
+use Rattle.searches.proofs.Cells.{where-found, where-none}
 use Rattle.compare.proofs.first_apart.Statement.{statement}
 use Rattle.compare.proofs.first_apart.Tie as tie
 

@@ -2,7 +2,8 @@
 -- keys and the cells of the keys below number i, and expanding these keys from i on comes to the list
 -- that the contract names. Within key i the same of the symbols below the present one. The fuel of the
 -- definition is 512 at the first key and one less with each key, so it lasts while there are at most
--- 512 keys. Where the 513th turns up, that list is longer than 512, since the procedure only appends.
+-- 512 keys. Where the 513th turns up, that list goes on from the keys so far, since the procedure only
+-- appends.
 -- Assumes nothing.
 use mathlib.Core.Path.{_≡_, refl, ap, _∙_}
 use Prim.Native.Nat.{ℕ, _+_, _-_, _*_, _≤_, _<_, min}
@@ -14,9 +15,10 @@ use Rattle.numbering.specs.Arrays.{ArraysHold}
 use Rattle.numbering.proofs.Closure.{keys-end}
 use Rattle.numbering.proofs.Arrays.{count-is}
 use Rattle.numbering.proofs.Table.{row-begins, row-ends}
-use Rattle.numbering.proofs.Turns.{expanded, turn-whole, row-done, row-over, grown-whole, grown-over}
+use Rattle.numbering.proofs.Turns.{expanded, turn-whole, row-done, row-more}
 use Rattle.keys.specs.Kinds.{walkBy}
 use Rattle.keys.specs.Tables.{countMeans}
+use Rattle.keys.proofs.Tables.{table-whole, table-over}
 use Rattle.keys.proofs.expand.Statement.{statement}
 use Rattle.keys.proofs.expand.Tie as tie
 
@@ -102,26 +104,29 @@ returns : tie.Need-returns Inv-loop μ-loop Inv-expand μ-expand
 returns c =
     let x = c .before .expand in
     let a = c .before .before .args in
+    let w = walkBy (a .kind) (a .targets .now) (a .others .now) (a .k) in
     let l = take (x .count) (x .keys) in
     let n : length l ≡ x .count = count-is (x .keys) (x .count) (x .inv .0) (x .inv .2 .keys-are) in
-    grown-whole (walkBy (a .kind) (a .targets .now) (a .others .now) (a .k)) 0 (closeFrom (walkBy (a .kind) (a .targets .now) (a .others .now) (a .k)) 512 0 (take (a .from) (a .keys .now))) (x .keys) (x .next) (x .count) (x .inv .0)
-    (x .inv .3 ∙ keys-end (walkBy (a .kind) (a .targets .now) (a .others .now) (a .k)) (512 - x .i) (x .i) l (omega arith))
-    (rw (c .if1 .taken) at (x .inv .2))
+    let whole : closeFrom w 512 0 (take (a .from) (a .keys .now)) ≡ l = x .inv .3 ∙ keys-end w (512 - x .i) (x .i) l (omega arith) in
+    rw whole (table-whole (a .kind) (a .targets .now) (a .others .now) (a .k) l (x .keys) (x .next) (x .count) (x .inv .0) n (rw (c .if1 .taken) at (x .inv .2)))
 
 returns-2 : tie.Need-returns-2 Inv-loop μ-loop Inv-expand μ-expand
 returns-2 c =
     let e = c .before .before .before .before .before .before .loop in
     let x = c .before .before .before .before .before .before .before .before .expand in
-    let a = c .before .before .before .before .before .before .before .before .before .args in
+    let s = c .before .before .before .before .before .before .before .before .before in
+    let a = s .args in
     let w = c .before .before .step in
+    let walk = walkBy (a .kind) (a .targets .now) (a .others .now) (a .k) in
     let l₀ = take (x .count) (x .keys) in
     let n₀ : length l₀ ≡ x .count = count-is (x .keys) (x .count) (x .inv .0) (x .inv .2 .keys-are) in
     let l = take (e .count) (e .keys) in
     let n : length l ≡ e .count = count-is (e .keys) (e .count) (e .inv .0) (e .inv .3 .keys-are) in
-    let f = closeFrom (walkBy (a .kind) (a .targets .now) (a .others .now) (a .k)) (512 - x .i) (x .i) l₀ in
-    let long : 512 < length f =
-    row-over (walkBy (a .kind) (a .targets .now) (a .others .now) (a .k)) 0 512 (x .i) (e .symbol) l₀ l (omega arith) (omega arith) (e .inv .4) (omega arith) (omega arith) (w .ensures) (ap countMeans (c .enum-told .given .1)) in
-    rw (x .inv .3) (grown-over (walkBy (a .kind) (a .targets .now) (a .others .now) (a .k)) 0 f (w .last .1 .1 .1 .0) (w .last .1 .1 .1 .1 .0) long)
+    rw (x .inv .3)
+    (table-over (a .kind) (a .targets .now) (a .others .now) (a .k) l (e .keys) (e .next) (x .i) (e .symbol) (omega arith) (omega arith) (omega arith) (s .pre .0) (e .inv .3)
+    (w .ensures) (ap countMeans (c .enum-told .given .1))
+    (closeFrom walk (512 - x .i) (x .i) l₀)
+    (row-more walk 0 512 (x .i) (e .symbol) l₀ l (omega arith) (omega arith) (e .inv .4) (omega arith) (omega arith)))
 
 pub expand-spec : {M : Type 1} → statement M
 expand-spec =

@@ -7,7 +7,7 @@ use borrow.Author.Needs.{needs}
 use Rattle.base.specs.Lists.{listFrom}
 use Rattle.numbering.specs.Arrays.{Cleared}
 use Rattle.keys.specs.Kinds.{walkBy}
-use Rattle.keys.proofs.Tables.{first-read, first-holds, table-whole, table-over}
+use Rattle.keys.proofs.Tables.{first-read, first-holds, table-by}
 use Rattle.keys.proofs.number_by.Statement.{statement}
 use Rattle.keys.proofs.number_by.Tie as tie
 
@@ -28,41 +28,12 @@ expand-requires c κs =
     let k = c .before .before .at-most-u8 in
     (omega (arith, k .ensures), omega arith, first-holds (a .start) (replicate 512 0) (replicate 8192 0) cleared (walkBy (a .kind) (a .targets .now) (a .others .now) (k .result)))
 
-enum-known-count : tie.Need-enum-known-count
-enum-known-count c = search needs
-
-enum-told : tie.Need-enum-told
-enum-told c = search needs
-
-no-table-requires : tie.Need-no-table-requires
-no-table-requires c κs = search needs
-
 returns : tie.Need-returns
 returns c =
-    let a = c .before .before .before .before .before .before .before .args in
-    let k = c .before .before .before .before .before .before .at-most-u8 in
-    let w = c .before .before .before .expand in
-    let v = c .before .count .given in
-    table-whole (a .kind) (a .targets .now) (a .others .now) (a .k) (a .start) (k .result) (k .ensures) (take 1 (set (replicate 512 0) 0 (a .start))) (first-read (a .start) (replicate 512 0) (replicate 8192 0) cleared)
-    (w .result) (w .last .1 .1 .1 .1 .0) (w .last .1 .1 .1 .1 .1 .0) (w .ensures) (v .0 .0) (v .1)
-
-returns-2 : tie.Need-returns-2
-returns-2 c =
-    let a = c .before .before .before .before .before .before .before .args in
-    let k = c .before .before .before .before .before .before .at-most-u8 in
-    let w = c .before .before .before .expand in
-    table-over (a .kind) (a .targets .now) (a .others .now) (a .k) (a .start) (k .result) (k .ensures) (take 1 (set (replicate 512 0) 0 (a .start))) (first-read (a .start) (replicate 512 0) (replicate 8192 0) cleared)
-    (w .result) (w .last .1 .1 .1 .1 .0) (w .last .1 .1 .1 .1 .1 .0) (w .ensures) (c .before .enum-told .given .1) (c .no-table .result) (c .no-table .ensures)
+    let a = c .before .before .before .before .args in
+    let k = c .before .before .before .at-most-u8 in
+    table-by (a .kind) (a .targets .now) (a .others .now) (a .k) (a .start) (k .result) (k .ensures) (take 1 (set (replicate 512 0) 0 (a .start))) (first-read (a .start) (replicate 512 0) (replicate 8192 0) cleared)
+    _ (c .expand .ensures)
 
 pub number-by-spec : {M : Type 1} → statement M
-number-by-spec =
-    tie.close
-    (tie.spec
-    array-write-keys
-    at-most-u8-requires
-    expand-requires
-    enum-known-count
-    enum-told
-    no-table-requires
-    returns
-    returns-2)
+number-by-spec = tie.close (tie.spec array-write-keys at-most-u8-requires expand-requires returns)

@@ -5,9 +5,9 @@ use Prim.Native.Nat.{ℕ, suc, _-_, _/_, _%_, _≤_, _<_}
 use native.Mathlib.Omega.{arith}
 use lib.ListN.{length, set, drop, length-append, length-set, length-drop, drop-of-length-le}
 use lib.Seq.{drop-cons, drop-set-lt, getD-set-same}
-use Rattle.samples.specs.Search.{firstCell, wordBack, wordTo}
-use Rattle.sampling.specs.Tables.{Tabled}
-use Rattle.sampling.proofs.Cells.{word-short, word-more, tabled-back}
+use Rattle.searches.specs.Search.{firstCell, wordBack, wordTo}
+use Rattle.searches.specs.Tables.{Tabled}
+use Rattle.searches.proofs.Cells.{word-short, word-more, tabled-back}
 
 -- what follows the text to `at` stands from `from` on
 pub record Back (cells : List ℕ) (k j : ℕ) (text : List ℕ) (from at : ℕ) : Type 0 where

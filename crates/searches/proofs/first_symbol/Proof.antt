@@ -6,8 +6,8 @@ use native.Mathlib.Omega.{arith}
 use lib.ListN.{getD}
 use borrow.Author.Count.{below-more}
 use borrow.Author.Needs.{needs}
-use Rattle.sampling.proofs.first_symbol.Statement.{statement}
-use Rattle.sampling.proofs.first_symbol.Tie as tie
+use Rattle.searches.proofs.first_symbol.Statement.{statement}
+use Rattle.searches.proofs.first_symbol.Tie as tie
 
 abbrev Inv-loop : tie.InvT-loop
 Inv-loop next k to row s₀ s = (s ≤ k) × ((t : ℕ) → t < s → getD next (row * 16 + t) 0 ≡ to .0 → ⊥)

@@ -5,9 +5,9 @@ use Prim.Native.Nat.{ℕ, _-_, _*_, _≤_, _<_}
 use native.Mathlib.Omega.{arith}
 use lib.ListN.{getD}
 use borrow.Author.Needs.{needs}
-use Rattle.sampling.proofs.Cells.{few-symbols, below-most, cell-found, row-passed, cell-none}
-use Rattle.sampling.proofs.first_cell.Statement.{statement}
-use Rattle.sampling.proofs.first_cell.Tie as tie
+use Rattle.searches.proofs.Cells.{few-symbols, cell-found, row-passed, cell-none}
+use Rattle.searches.proofs.first_cell.Statement.{statement}
+use Rattle.searches.proofs.first_cell.Tie as tie
 
 abbrev Inv-loop : tie.InvT-loop
 Inv-loop next k number rows row₀ row = (row ≤ rows) × ((c : ℕ) → c < row * 16 → getD next c 0 ≡ number .0 → ⊥)
@@ -22,7 +22,7 @@ first-symbol-requires : tie.Need-first-symbol-requires Inv-loop μ-loop
 first-symbol-requires c κs =
     let a = c .before .before .args in
     let t = c .before .before .pre .1 in
-    (omega (arith, below-most (a .next .now) (a .k) (a .number .0) t), few-symbols (a .next .now) (a .k) (a .number .0) t)
+    (omega (arith, t .small), few-symbols (a .next .now) (a .k) (a .number .0) t)
 
 cast-result : tie.Need-cast-result Inv-loop μ-loop
 cast-result c = search needs

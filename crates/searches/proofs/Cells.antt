@@ -1,12 +1,12 @@
--- The first set that meets the wish, and the first cell that holds a number, as loops find them.
+-- The first key that meets a test, and the first cell that holds a number, as loops find them.
 -- Assumes, for a cell, the table of the keys of a walk.
 --
---   where-found, where-none   the loop over the sets stops at a set, or at their end
+--   where-found, where-none   the loop over the keys stops at a key, or at their end
 --   cell-found, cell-none     the loop over the rows stops in a row, or cannot end
 --   row-passed                a row without the number is passed
 --   lower, word-more          the way back, for the table as the code has it
 use mathlib.Core.Path.{_≡_, refl, sym, ap, _∙_, subst}
-use mathlib.Core.Bool.{Bool, true, false, not}
+use mathlib.Core.Bool.{Bool, true, false, cond}
 use mathlib.Core.List.{List, [], _∷_, _++_}
 use Prim.Native.Nat.{ℕ, _+_, _*_, _/_, _%_, _≤_, _<_}
 use native.Mathlib.Omega.{arith}
@@ -16,32 +16,28 @@ use lib.Seq.{getD-take, length-take-le}
 use borrow.Author.Tests.{ltb-true, ltb-false}
 use Rattle.base.proofs.Lists.{length-listFrom}
 use Rattle.base.proofs.Tests.{by-test}
-use Rattle.numbering.specs.Numbering.{Walk, keysUpTo}
+use Rattle.numbering.specs.Numbering.{Walk, indexOf, keysUpTo}
 use Rattle.numbering.proofs.Numbers.{number-at, number-is}
-use Rattle.keys.specs.Tables.{cellOf, cellsOf}
-use Rattle.samples.specs.Search.{firstWhere, firstCell, wordTo}
-use Rattle.samples.proofs.Firsts.{where-is}
-use Rattle.samples.proofs.WayBack.{cell-is, used, Step, way-back, word-of}
-use Rattle.sampling.specs.Tables.{Tabled, FirstIn}
+use Rattle.keys.specs.Tables.{cellsOf, cellsTo}
+use Rattle.searches.specs.Search.{firstWhere, firstCell, wordTo}
+use Rattle.searches.proofs.Firsts.{where-is}
+use Rattle.searches.proofs.WayBack.{in-use, Step, way-back, word-of}
+use Rattle.searches.specs.Tables.{Tabled, FirstIn}
 
--- ---- the first set
-pub not-not : (b : Bool) → not (not b) ≡ b
-not-not true = refl
-not-not false = refl
+-- ---- the first key
+module _ (t : ℕ → Bool) (keys : List ℕ) (count i : ℕ) (long : count ≤ length keys) (before : (j : ℕ) → j < i → t (getD keys j 0) ≡ false) where
+  has : length (take count keys) ≡ count
+  has = length-take-le count keys long
 
-module _ (t : ℕ → Bool) (sets : List ℕ) (count i : ℕ) (long : count ≤ length sets) (before : (j : ℕ) → j < i → t (getD sets j 0) ≡ false) where
-  has : length (take count sets) ≡ count
-  has = length-take-le count sets long
-
-  pub where-found : i < count → t (getD sets i 0) ≡ true → i ≡ firstWhere t (take count sets)
+  pub where-found : i < count → t (getD keys i 0) ≡ true → i ≡ firstWhere t (take count keys)
   where-found b e =
-      where-is t (take count sets) i (omega (arith, has)) (λ _. ap t (getD-take count sets i 0 b) ∙ e)
-      (λ j d. ap t (getD-take count sets j 0 (omega arith)) ∙ before j d)
+      where-is t (take count keys) i (omega (arith, has)) (λ _. ap t (getD-take count keys i 0 b) ∙ e)
+      (λ j d. ap t (getD-take count keys j 0 (omega arith)) ∙ before j d)
 
-  pub where-none : i ≤ count → count ≤ i → i ≡ firstWhere t (take count sets)
+  pub where-none : i ≤ count → count ≤ i → i ≡ firstWhere t (take count keys)
   where-none b c =
-      where-is t (take count sets) i (omega (arith, has)) (λ d. absurd (omega (arith, has)))
-      (λ j d. ap t (getD-take count sets j 0 (omega arith)) ∙ before j d)
+      where-is t (take count keys) i (omega (arith, has)) (λ d. absurd (omega (arith, has)))
+      (λ j d. ap t (getD-take count keys j 0 (omega arith)) ∙ before j d)
 
 -- ---- the first cell
 module _ (cells : List ℕ) (k j : ℕ) (t : Tabled cells k j) where
@@ -52,22 +48,17 @@ module _ (cells : List ℕ) (k j : ℕ) (t : Tabled cells k j) where
   keys = keysUpTo (t .walk) (λ _. t .start) 1
 
   long : length cells ≡ 8192
-  long = rw (t .are) (length-listFrom 0 8192 (λ x. cellOf a keys (x / 16) (x % 16)))
+  long = rw (t .are) (length-listFrom 0 8192 (λ c. cond (ltb c (indexOf (cellsOf a keys) 512)) (getD (cellsOf a keys) c 0) 0))
 
   pub word-short : length (wordTo cells j) ≤ 511
-  word-short =
-      rw (t .are)
-      (omega (arith, word-of a (t .start) (t .columns) (t .kept) (t .few) j (t .below) .short, t .below, t .few))
+  word-short = rw (t .are) (omega (arith, word-of a (t .start) (t .columns) (t .kept) j (t .below) (t .small) .short, t .small))
 
   pub few-symbols : k ≤ 16
   few-symbols = omega (arith, t .symbols, t .columns)
 
-  pub below-most : j < 512
-  below-most = omega (arith, t .below, t .few)
-
   module _ (some : 0 < j) where
-    step : Step a (t .start) (t .columns) (t .kept) (t .few) j
-    step = way-back a (t .start) (t .columns) (t .kept) (t .few) j some (t .below)
+    step : Step a (t .start) (t .columns) (t .kept) j
+    step = way-back a (t .start) (t .columns) (t .kept) j some (t .below) (t .small)
 
     pub lower : firstCell cells j / 16 < j
     lower = rw (t .are) (step .lower)
@@ -81,23 +72,21 @@ module _ (cells : List ℕ) (k j : ℕ) (t : Tabled cells k j) where
       start = t .start;
       kept = t .kept;
       columns = t .columns;
-      few = t .few;
       symbols = t .symbols;
       are = t .are;
       below = omega (arith, lower, t .below);
+      small = omega (arith, lower, t .small);
     }
 
     -- the number stands there
     there : getD cells (firstCell cells j) 0 ≡ j
-    there = number-at cells j (omega (arith, lower, below-most, long))
+    there = number-at cells j (omega (arith, lower, t .small, long))
 
     -- a cell past a row's symbols does not hold it
-    in-use : (c : ℕ) → c < 8192 → getD cells c 0 ≡ j → c % 16 < k
-    in-use c b e =
-        let f : getD (cellsOf a keys) c 0 ≡ j = ap (λ (x : List ℕ). getD x c 0) (sym (t .are)) ∙ e in
-        let u = used a (t .start) (t .columns) (t .kept) (t .few) (c / 16) (c % 16) j some
-        (sym (cell-is a (t .start) (t .columns) (t .kept) (t .few) c b) ∙ f) in
-        omega (arith, u .1, t .symbols)
+    row-used : (c : ℕ) → c < 8192 → getD cells c 0 ≡ j → c % 16 < k
+    row-used c b e =
+        let f : getD (cellsTo a keys) c 0 ≡ j = ap (λ (x : List ℕ). getD x c 0) (sym (t .are)) ∙ e in
+        omega (arith, in-use a (t .start) (t .columns) (t .kept) c j b some f .1, t .symbols)
 
     -- the rows before `row` are passed, and what row `row` has
     module _ (row : ℕ) (low : row < j) (s : ℕ) (first : FirstIn cells row k j s) (passed : (c : ℕ) → c < row * 16 → getD cells c 0 ≡ j → ⊥) where
@@ -114,11 +103,11 @@ module _ (cells : List ℕ) (k j : ℕ) (t : Tabled cells k j) where
 
       pub cell-found : s < k → row * 16 + s ≡ firstCell cells j
       cell-found b =
-          sym (number-is cells j (row * 16 + s) (omega (arith, long, few-symbols, below-most)) (first .leads b) passed-more)
+          sym (number-is cells j (row * 16 + s) (omega (arith, long, few-symbols, t .small)) (first .leads b) passed-more)
 
       pub row-passed : k ≤ s → (c : ℕ) → c < (row + 1) * 16 → getD cells c 0 ≡ j → ⊥
       row-passed b c d e =
-          let in-row = in-use c (omega (arith, below-most)) e in
+          let in-row = row-used c (omega (arith, t .small)) e in
           passed-more c (omega arith) e
 
     pub cell-none : (row : ℕ) → j ≤ row → ((c : ℕ) → c < row * 16 → getD cells c 0 ≡ j → ⊥) → ⊥

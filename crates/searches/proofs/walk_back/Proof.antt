@@ -4,10 +4,10 @@ use mathlib.Core.Path.{refl, sym, subst}
 use Prim.Native.Nat.{ℕ, _-_, _/_, _%_, _<_}
 use native.Mathlib.Omega.{arith}
 use lib.ListN.{set}
-use Rattle.sampling.proofs.Cells.{lower}
-use Rattle.sampling.proofs.Back.{Back, back-begins, room, back-more, back-ends}
-use Rattle.sampling.proofs.walk_back.Statement.{statement}
-use Rattle.sampling.proofs.walk_back.Tie as tie
+use Rattle.searches.proofs.Cells.{lower}
+use Rattle.searches.proofs.Back.{Back, back-begins, room, back-more, back-ends}
+use Rattle.searches.proofs.walk_back.Statement.{statement}
+use Rattle.searches.proofs.walk_back.Tie as tie
 
 abbrev Inv-loop : tie.InvT-loop
 Inv-loop next k text₀ from₀ at₀ text from at = Back next k at₀ text from at

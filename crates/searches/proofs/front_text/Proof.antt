@@ -3,9 +3,9 @@
 use native.Mathlib.Omega.{arith}
 use Prim.Native.Nat.{_-_}
 use lib.ListN.{length}
-use Rattle.sampling.proofs.Ways.{Copied, copy-begins, copy-more, copied}
-use Rattle.sampling.proofs.front_text.Statement.{statement}
-use Rattle.sampling.proofs.front_text.Tie as tie
+use Rattle.searches.proofs.Copies.{Copied, copy-begins, copy-more, copied}
+use Rattle.searches.proofs.front_text.Statement.{statement}
+use Rattle.searches.proofs.front_text.Tie as tie
 
 abbrev Inv-loop : tie.InvT-loop
 Inv-loop word text₀ c₀ text c = Copied word text c

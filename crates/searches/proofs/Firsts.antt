@@ -8,7 +8,7 @@ use lib.Dec.{ltb}
 use lib.ListN.{length, getD}
 use borrow.Author.Tests.{ltb-true, ltb-false}
 use Rattle.base.proofs.Tests.{by-test, not-both}
-use Rattle.samples.specs.Search.{firstWhere}
+use Rattle.searches.specs.Search.{firstWhere}
 
 module _ (t : ℕ → Bool) where
   pub where-meets : (l : List ℕ) → firstWhere t l < length l → t (getD l (firstWhere t l) 0) ≡ true

@@ -6,9 +6,9 @@ use native.Mathlib.Omega.{arith}
 use lib.ListN.{drop, length-drop}
 use lib.Seq.{take-all}
 use borrow.Author.Needs.{needs}
-use Rattle.sampling.specs.Tables.{Spells}
-use Rattle.sampling.proofs.spell.Statement.{statement}
-use Rattle.sampling.proofs.spell.Tie as tie
+use Rattle.searches.specs.Tables.{Spells}
+use Rattle.searches.proofs.spell.Statement.{statement}
+use Rattle.searches.proofs.spell.Tie as tie
 
 walk-back-requires : tie.Need-walk-back-requires
 walk-back-requires c κs = search needs
