@@ -6,7 +6,6 @@ use mathlib.Core.List.{List}
 use mathlib.Core.Option.{Option, none, some}
 use Prim.Native.Nat.{ℕ, _≤_, _<_, min}
 use native.Mathlib.Omega.{arith}
-use lib.Dec.{ltb}
 use lib.ListN.{length, getD, length-take}
 use lib.Seq.{getD-take}
 use borrow.Author.Tests.{lt-ltb, ltb-true, ltb-false}
@@ -211,18 +210,29 @@ module _ (one two : Rule) where
   pub named : (which : Which) (w : List ℕ) → compareOf one two ≡ apart which w → Text (one .k) w × Only which one two w
   named which w e = let h = exactly (apart which w) .0 e in (h .1 .symbols, h .1 .by)
 
-  pub alike : (compareOf one two ≡ same) ↔ (Searched one two × Equivalent (automatonOf one) (automatonOf two))
+  searched-by : (a : Comparison) → ((x : ℕ) → a ≡ refused x → ⊥) → Due one two a → Searched one two
+  searched-by (apart which w) h d = d .0
+  searched-by same h d = d .0
+  searched-by (refused x) h d = absurd (h x refl)
+
+  pub searched-is : ((x : ℕ) → compareOf one two ≡ refused x → ⊥) ↔ Searched one two
+  searched-is = (
+    (λ h. searched-by (compareOf one two) h (exactly (compareOf one two) .0 refl)),
+    λ s x e. not-refused s x (exactly (refused x) .0 e),
+  )
+
+  pub alike : (compareOf one two ≡ same) ↔ (((x : ℕ) → compareOf one two ≡ refused x → ⊥) × Equivalent (automatonOf one) (automatonOf two))
   alike = (
     (λ e.
         let h = exactly same .0 e in
         let k : two .k ≡ one .k = sym (passed one two .0 (h .0 .0) .alike) in (
-          h .0,
+          searched-is .1 (h .0),
           λ w. (
             (λ a. h .1 w (accepted-text (automatonOf one) w a) .0 a),
             λ a. h .1 w (subst (λ (x : ℕ). Text x w) k (accepted-text (automatonOf two) w a)) .1 a,
           ),
         )),
-    λ h. exactly same .1 (h .0, λ w t. h .1 w),
+    λ h. exactly same .1 (searched-is .0 (h .0), λ w t. h .1 w),
   )
 
   -- ---- number by number

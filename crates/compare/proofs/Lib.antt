@@ -3,5 +3,7 @@ pub mod Conditions
 pub mod Pairs
 pub mod Values
 pub mod Answers
+pub mod Exchange
+pub mod Examples
 pub mod Claims
 pub mod Ways

@@ -1,4 +1,5 @@
--- What is claimed of the answer, for every two rules; proofs/Claims.antt proves it.
+-- What is claimed of the answer, for the rules compared by hand and for every two rules;
+-- proofs/Claims.antt proves it.
 --
 --   Refused-exactly one two   which number the two are refused with, condition by condition
 use mathlib.Core.Path.{_≡_}
@@ -13,9 +14,10 @@ use Rattle.automaton.specs.Rules.{automatonOf, WellFormed}
 use Rattle.rulecheck.specs.Checking.{ruleNumber}
 use Rattle.searches.specs.Texts.{longestText}
 use Rattle.compare.specs.declared.Which.{Which}
-use Rattle.compare.specs.Compared.{Only, ManyPairs, Searched, Comparison, apart, same, refused, Due}
+use Rattle.compare.specs.Compared.{Only, ManyPairs, Searched, Comparison, apart, same, refused, exchanged, Due}
 use Rattle.compare.specs.Values.{Outcome, Carries, outcomeOf, comparisonIn}
 use Rattle.compare.specs.Search.{compareOf}
+use Rattle.compare.specs.Worked.{pairs, Answered}
 
 pub record Refused-exactly (one two : Rule) : Type 0 where
   -- 3, 4, 6 and 8 as installing gives them: the first rule's, or the second's where it has none
@@ -30,14 +32,21 @@ pub record Refused-exactly (one two : Rule) : Type 0 where
   pub no-other : (x : ℕ) → compareOf one two ≡ refused x → (x ≤ 8) ⊎ (x ≡ 36) ⊎ (x ≡ 45)
 
 pub record Claims : Type 0 where
+  -- rules compared by hand
+  pub answered : Answered pairs
   -- it is the answer that is due, and no other is
   pub exactly : (one two : Rule) (a : Comparison) → (compareOf one two ≡ a) ↔ Due one two a
   pub numbers : (one two : Rule) → Refused-exactly one two
-  -- the same is answered exactly when the two are not refused and accept the same texts, of all
-  -- texts
-  pub alike : (one two : Rule) → (compareOf one two ≡ same) ↔ (Searched one two × Equivalent (automatonOf one) (automatonOf two))
+  -- the two are not refused exactly where they are searched
+  pub searched : (one two : Rule) → ((x : ℕ) → compareOf one two ≡ refused x → ⊥) ↔ Searched one two
+  -- the same is answered exactly when the two are not refused and their automata accept the same
+  -- texts, of all texts
+  pub alike : (one two : Rule)
+      → (compareOf one two ≡ same) ↔ (((x : ℕ) → compareOf one two ≡ refused x → ⊥) × Equivalent (automatonOf one) (automatonOf two))
   -- of a text that is given just the named rule accepts it
   pub named : (one two : Rule) (which : Which) (w : List ℕ) → compareOf one two ≡ apart which w → Text (one .k) w × Only which one two w
+  -- two checked rules have the same answer the other way round, with their names exchanged
+  pub symmetric : (one two : Rule) → WellFormed one → WellFormed two → compareOf two one ≡ exchanged (compareOf one two)
   -- a text has at most 511 symbols
   pub short : (one two : Rule) (which : Which) (w : List ℕ) → compareOf one two ≡ apart which w → length w ≤ longestText
   -- a value is that of the answer exactly where it carries an answer that is due

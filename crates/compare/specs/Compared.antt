@@ -15,6 +15,7 @@
 --   Searched one two       none of them holds, and there are not too many pairs
 --   Comparison             an answer: a rule with a text that it alone accepts, that the two accept
 --                          the same, or a refusal with its number
+--   exchanged a            the answer a with the rules' names exchanged
 --   Due one two a          a is the answer that is due: the number of those conditions, then 45;
 --                          else the first text that tells the two apart, or the same where none does
 use mathlib.Core.Path.{_≡_}
@@ -72,6 +73,15 @@ pub data Comparison : Type 0 where
   apart : Which → List ℕ → Comparison
   same : Comparison
   refused : ℕ → Comparison
+
+abbrev pub otherRule : Which → Which
+otherRule First = Second
+otherRule Second = First
+
+abbrev pub exchanged : Comparison → Comparison
+exchanged (apart which w) = apart (otherRule which) w
+exchanged same = same
+exchanged (refused x) = refused x
 
 abbrev pub Due : Rule → Rule → Comparison → Type 0
 Due one two (apart which w) = Searched one two × FirstApart one two which w

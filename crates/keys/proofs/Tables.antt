@@ -6,9 +6,9 @@
 --   known                         what a filled cell leads to has a number
 --   table-whole, table-over       the ways out of `expand`
 --   one-whole                     with at most 512 keys that is the whole table
-use mathlib.Core.Path.{_≡_, refl, sym, ap, _∙_, subst}
+use mathlib.Core.Path.{_≡_, refl, sym, ap, _∙_}
 use mathlib.Core.Logic.{⊎-elim}
-use mathlib.Core.Bool.{Bool, true, false, cond, _&&_}
+use mathlib.Core.Bool.{Bool, true, false, cond}
 use mathlib.Core.List.{List, [], _∷_, _++_}
 use mathlib.Core.Option.{Option, none, some}
 use Prim.Native.Nat.{ℕ, suc, _+_, _*_, _/_, _%_, _≤_, _<_, min}
@@ -17,13 +17,13 @@ use native.Mathlib.Omega.{arith}
 use lib.Dec.{ltb}
 use lib.ListN.{length, getD, take, set, length-append, List·getD-append}
 use lib.Seq.{getD-append-seam}
-use borrow.Author.Tests.{lt-ltb, le-ltb, ltb-true, ltb-false}
+use borrow.Author.Tests.{lt-ltb, ltb-true, ltb-false}
 use Rattle.base.proofs.Lists.{length-listFrom, cell-of, is-listFrom}
 use Rattle.base.proofs.Options.{none-some}
 use Rattle.base.proofs.Tests.{by-test}
 use Rattle.numbering.specs.Numbering.{Walk, indexOf, keysUpTo}
 use Rattle.numbering.specs.Begins.{Begins}
-use Rattle.numbering.specs.Arrays.{limited, keyCells, target, afterStep, Stepped, Cleared, cellTo, ArraysHold}
+use Rattle.numbering.specs.Arrays.{limited, keyCells, target, afterStep, Stepped, Cleared, ArraysHold}
 use Rattle.numbering.proofs.Numbers.{Has, number-le, nowhere, stands, number-is, begins-self, begins-at, begins-length, begins-number, begins-trans, number-taken, numbered-kept, numbered-taken, numbered-begins, numbered-has}
 use Rattle.numbering.proofs.Arrays.{limited-whole, limited-over, over-of, cells-snoc, cells-full, read-back}
 use Rattle.numbering.proofs.OneSeed.{from-one}
@@ -32,7 +32,6 @@ use Rattle.numbering.proofs.Table.{holds-more, row-test}
 use Rattle.numbering.proofs.Turns.{begin}
 use Rattle.keys.specs.declared.Kind.{Kind}
 use Rattle.keys.specs.declared.KeyTable.{KeyTable}
-use Rattle.keys.specs.declared.Numbering.{Numbering}
 use Rattle.keys.specs.declared.Numbering.the-variants.{Whole, Over}
 use Rattle.keys.specs.Kinds.{walkBy}
 use Rattle.keys.specs.Tables.{countMeans, Table, tableAs, tableOutcome, keysBy, cellOf, cellsOf, cellsTo, tableFor, tableBy}

@@ -5,7 +5,7 @@
 --   cell-found, cell-none     the loop over the rows stops in a row, or cannot end
 --   row-passed                a row without the number is passed
 --   lower, word-more          the way back, for the table as the code has it
-use mathlib.Core.Path.{_≡_, refl, sym, ap, _∙_, subst}
+use mathlib.Core.Path.{_≡_, sym, ap, _∙_, subst}
 use mathlib.Core.Bool.{Bool, true, false, cond}
 use mathlib.Core.List.{List, [], _∷_, _++_}
 use Prim.Native.Nat.{ℕ, _+_, _*_, _/_, _%_, _≤_, _<_}

@@ -7,7 +7,7 @@
 --   ManyKeys, many  513 texts lead to keys of which no two are the same, and none of them is later
 --                   than a hit: there are more than 512 keys, and none of the first 512 has the test
 --   first-hit, no-hit, short-hit   what the search finds, that it misses nothing, and its length
-use mathlib.Core.Path.{_≡_, refl, sym, ap, _∙_}
+use mathlib.Core.Path.{_≡_, sym, ap, _∙_}
 use mathlib.Core.Logic.{_↔_, ⊎-elim}
 use mathlib.Core.Bool.{Bool, true, false}
 use mathlib.Core.List.{List, []}

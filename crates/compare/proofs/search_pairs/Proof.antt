@@ -1,8 +1,7 @@
 -- `search_pairs` meets its contract, one way out at a time. Assumes nothing.
-use Prim.Native.Nat.{ℕ, _≤_, _<_}
+use Prim.Native.Nat.{_≤_}
 use native.Mathlib.Omega.{arith}
 use borrow.Author.Needs.{needs}
-use Rattle.searches.specs.Tables.{Tabled}
 use Rattle.compare.proofs.Ways.{most, tabled, search-text, search-over, search-same}
 use Rattle.compare.proofs.search_pairs.Statement.{statement}
 use Rattle.compare.proofs.search_pairs.Tie as tie
