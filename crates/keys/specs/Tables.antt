@@ -1,4 +1,4 @@
--- What `number_keys` promises of any table of targets, any k and any first key.
+-- What `number_by` and `number_keys` promise of any tables of targets, any k and any first key.
 --
 --   countMeans           what each case of the answer says: the number of keys, none where there
 --                        are more than 512

@@ -171,6 +171,7 @@ module _ (a : Walk) (seed : ℕ → ℕ) (n : ℕ) where
       (o .1))
       (grows s j (omega arith) c e b (omega arith) h′ (λ _ _ _ g k. rises g (omega arith) k h′) h)
 
+  -- a key with no higher number was found no later
   pub no-lower : {i j q p : ℕ} {w v : List ℕ} → i ≤ j → j < length keys → Came i q w → Came j p v → NotAfter q w p v
   no-lower {i} {j} {q} {p} {w} {v} le b h k =
       ⊎-elim
