@@ -1,4 +1,4 @@
--- A page for each request, and one for following a trace in order.
+-- A page for each request, one for following a trace in order, and one for comparing two rules.
 pub mod MappingFunctions
 pub mod Mappings
 pub mod Samples
@@ -11,3 +11,4 @@ pub mod Trays
 pub mod Losses
 pub mod FollowFunctions
 pub mod Following
+pub mod Comparing

@@ -8,3 +8,4 @@ pub mod FormFunctions
 pub mod TrayFunctions
 pub mod LossFunctions
 pub mod FollowFunctions
+pub mod CompareFunction
