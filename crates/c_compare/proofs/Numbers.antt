@@ -24,14 +24,14 @@ module _ (one two : Rule) (r : CompareResult) (is : compareOutcome r ≡ outcome
       ap comparisonShown (sym (ap (λ (x : CompareAnswer). record { reply = answerMeans x; length = r .length; text = r .text }) e) ∙ is)
 
   pub shown-first : (x : Which) → r .answer ≡ Apart x → x ≡ First
-      → record { kind = 1; refused = 0; length = r .length; text = r .text } ≡ comparisonShown (outcomeOf (compareOf one two))
+      → record { kind = 10; refused = 0; length = r .length; text = r .text } ≡ comparisonShown (outcomeOf (compareOf one two))
   shown-first x e f = shown (Apart First) (e ∙ ap Apart f)
 
   pub shown-second : (x : Which) → r .answer ≡ Apart x → x ≡ Second
-      → record { kind = 2; refused = 0; length = r .length; text = r .text } ≡ comparisonShown (outcomeOf (compareOf one two))
+      → record { kind = 11; refused = 0; length = r .length; text = r .text } ≡ comparisonShown (outcomeOf (compareOf one two))
   shown-second x e f = shown (Apart Second) (e ∙ ap Apart f)
 
-  pub shown-same : r .answer ≡ Same → record { kind = 3; refused = 0; length = r .length; text = r .text } ≡ comparisonShown (outcomeOf (compareOf one two))
+  pub shown-same : r .answer ≡ Same → record { kind = 12; refused = 0; length = r .length; text = r .text } ≡ comparisonShown (outcomeOf (compareOf one two))
   shown-same e = shown Same e
 
   pub shown-refused : (x : ℕ) → r .answer ≡ Refused x

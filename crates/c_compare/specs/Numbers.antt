@@ -1,7 +1,7 @@
 -- The numbers that C is given for two rules compared. Every field is fixed.
 --
---   kindOf, refusedOf      the kind of an answer: 0 refused, 1 a text that the first rule alone
---                          accepts, 2 one that the second alone accepts, 3 the same texts; and the
+--   kindOf, refusedOf      the kind of an answer: 0 refused, 10 a text that the first rule alone
+--                          accepts, 11 one that the second alone accepts, 12 the same texts; and the
 --                          number of a refusal, else 0
 --   comparisonShown o      the answer o, with the length and the text as they are
 --   comparisonReadBack r   what such a result says, read back from its numbers
@@ -14,9 +14,9 @@ use Rattle.c_compare.specs.declared.CompareNumbers.{CompareNumbers}
 
 abbrev pub kindOf : Reply → ℕ
 kindOf (refused x) = 0
-kindOf (apart First) = 1
-kindOf (apart Second) = 2
-kindOf same = 3
+kindOf (apart First) = 10
+kindOf (apart Second) = 11
+kindOf same = 12
 
 abbrev pub refusedOf : Reply → ℕ
 refusedOf (refused x) = x
@@ -33,7 +33,7 @@ comparisonShown o = record {
 
 abbrev pub replyBy : ℕ → ℕ → Reply
 replyBy kind number =
-    cond (eqb kind 0) (refused number) (cond (eqb kind 1) (apart First) (cond (eqb kind 2) (apart Second) same))
+    cond (eqb kind 0) (refused number) (cond (eqb kind 10) (apart First) (cond (eqb kind 11) (apart Second) same))
 
 abbrev pub comparisonReadBack : CompareNumbers → Outcome
 comparisonReadBack r = record { reply = replyBy (r .kind) (r .refused); length = r .length; text = r .text }

@@ -7,9 +7,10 @@ use automaton::Rule;
 use compare::CompareAnswer;
 use compare::Which;
 
-// Kind is 0 where the two are refused, and refused has the number; 1 where the first rule alone
-// accepts the text, of so many bytes, with zeros after it; 2 where the second alone does; 3 where
-// the two accept the same texts. What a kind has no use for is 0.
+// Kind is 0 where the two are refused, and refused has the number; 10 where the first rule alone
+// accepts the text, of so many bytes, with zeros after it; 11 where the second alone does; 12 where
+// the two accept the same texts. What a kind has no use for is 0. No kind but 0 is one of a verdict
+// or of a diagnosis.
 #[repr(C)]
 pub struct CompareNumbers {
     pub kind: u8,
@@ -36,20 +37,20 @@ pub extern "C" fn bellbadger_compare(one: Rule, two: Rule) -> CompareNumbers
         },
         CompareAnswer::Apart(which) => match which {
             Which::First => CompareNumbers {
-                kind: 1,
+                kind: 10,
                 refused: 0,
                 length,
                 text,
             },
             Which::Second => CompareNumbers {
-                kind: 2,
+                kind: 11,
                 refused: 0,
                 length,
                 text,
             },
         },
         CompareAnswer::Same => CompareNumbers {
-            kind: 3,
+            kind: 12,
             refused: 0,
             length,
             text,
