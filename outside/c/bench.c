@@ -359,6 +359,42 @@ static void tray_faults(void) {
     tray_fault("in one of the first rows", ends, BELLBADGER_FAULT_ROW);
 }
 
+/* 32 states by 16 symbols: each set that is reached has one state */
+static bellbadger_checked_rule ring(void) {
+    bellbadger_checked_rule r = {.n = 32, .k = 16, .initials = 1, .finals = 1};
+    for (int c = 0; c < 512; c++) r.targets[c] = 1u << (c / 16 + 1 + c % 16) % 32;
+    return r;
+}
+
+/* 32 states by one symbol, cycles of 7, 8 and 9 and a row of 8 all at once: 512 sets are reached */
+static bellbadger_checked_rule cycles(void) {
+    static const int size[] = {7, 8, 9, 8};
+    bellbadger_checked_rule r = {.n = 32, .k = 1, .finals = 0xffffffff};
+    for (int part = 0, at = 0; part < 4; at += size[part++]) {
+        r.initials |= 1u << at;
+        for (int i = 0; i < size[part]; i++) r.targets[16 * (at + i)] = i + 1 < size[part] ? 2u << (at + i) : part < 3 ? 1u << at : 0;
+    }
+    return r;
+}
+
+/* the symbol 1 is the eighth from the end: 9 states, 256 sets are reached */
+static bellbadger_checked_rule eighth(void) {
+    bellbadger_checked_rule r = {.n = 9, .k = 2, .initials = 1, .finals = 1u << 8};
+    r.targets[0] = 1, r.targets[1] = 3;
+    for (int q = 1; q < 8; q++) r.targets[16 * q] = r.targets[16 * q + 1] = 2u << q;
+    return r;
+}
+
+/* two rules that are the same, compared, beside an installation of one of them */
+static void comparing(const char *name, bellbadger_checked_rule r) {
+    double compared, installed;
+    bellbadger_judge fresh = bellbadger_new();
+    if (bellbadger_compare(r, r).kind != BELLBADGER_SAME || !bellbadger_install(fresh, r).accepted) exit(1);
+    MEASURE(compared, sink += bellbadger_compare(r, r).kind);
+    MEASURE(installed, sink += bellbadger_install(fresh, r).accepted);
+    printf("  %-34s %8.1f us, its installation %8.1f us, ratio %.2f\n", name, compared, installed, compared / installed);
+}
+
 int main(void) {
     bellbadger_judge j = meeting(32);
     printf("a chunk of 65,536 bytes, beside one plain table walk in C over the same text\n");
@@ -384,6 +420,11 @@ int main(void) {
     static uint8_t marked[BYTES];
     made(marked, 16, 3);
     for (size_t i = 0; i < BYTES; i++) marked[i] = marked[i] ? text[i] : 255;
+    printf("a rule compared with itself, beside its installation\n");
+    comparing("32 states, 16 symbols, 32 pairs", ring());
+    comparing("9 states, 2 symbols, 256 pairs", eighth());
+    comparing("32 states, 1 symbol, 512 pairs", cycles());
+
     printf("looking for a loss in a chunk of 65,536 bytes, beside a delivery of it\n");
     losses("one run", cycle(32, 2), text, BELLBADGER_NOWHERE);
     losses("8 runs never meet", cycle_from_all(8), text, BELLBADGER_NOWHERE);

@@ -34,6 +34,7 @@ static bool right() {
     const uint8_t ends_in_0_1[] = {'(', 'a', '|', 'b', ')', '*', 'a', 'b'};
     bellbadger_pattern_result pattern = bellbadger_pattern(ends_in_0_1, sizeof ends_in_0_1);
     bellbadger_merge_result merged = bellbadger_merge(BELLBADGER_EITHER, read.rule, read.rule);
+    bellbadger_compare_result compared = bellbadger_compare(read.rule, merged.rule);
     static_assert(sizeof(bellbadger_tray) == BELLBADGER_TRAY_SIZE, "the size that the header says");
     bellbadger_tray_install_result row = bellbadger_tray_install_row(bellbadger_tray_new(), read.rule);
     bellbadger_tray_install_result column = bellbadger_tray_install_column(row.tray, read.rule);
@@ -66,6 +67,7 @@ static bool right() {
         && combined.end == 2 && !combined.broken && bellbadger_is_yes(concluded) && concluded.number == 3 && concluded.bytes == 2
         && pattern.accepted && pattern.length == 50 && pattern.bytes[0] == 5
         && merged.accepted && merged.rule.n == 6 && merged.rule.targets[4 * 16 + 1] == 32
+        && compared.kind == BELLBADGER_SAME && compared.refused == 0 && compared.length == 0
         && bellbadger_tray_size() == sizeof(bellbadger_tray) && row.accepted && row.sets == 5 && column.accepted && tray.accepted
         && band.accepted && band.tray.board.rows[0] == 1 && !no_band.accepted && no_band.refused == 23
         && of_tray.kind == BELLBADGER_NO && of_tray.number == 0 && !bellbadger_tray_is_yes(of_tray)

@@ -23,7 +23,7 @@ static const uint8_t pattern[] = "(a|b)*ab";
 
 static uint8_t plain[65536], idle[65536], made[65536];
 static char installation[8 + 2 * 2058 + 64];
-static bellbadger_checked_rule a, ring, many, none;
+static bellbadger_checked_rule a, nearly_a, ring, many, none;
 static bellbadger_judge fresh, ruled, ringed, opened, filled;
 static bellbadger_profile profile;
 static bellbadger_mapping mapping;
@@ -100,6 +100,10 @@ CALL(merge_both, bellbadger_merge_result, bellbadger_merge(BELLBADGER_BOTH, a, a
 CALL(merge_either, bellbadger_merge_result, bellbadger_merge(BELLBADGER_EITHER, a, a))
 CALL(merge_interleaving, bellbadger_merge_result, bellbadger_merge(BELLBADGER_INTERLEAVING, a, a))
 CALL(merge_none, bellbadger_merge_result, bellbadger_merge(BELLBADGER_BOTH, a, none))
+CALL(compare_same, bellbadger_compare_result, bellbadger_compare(ring, ring))
+CALL(compare_apart, bellbadger_compare_result, bellbadger_compare(a, nearly_a))
+CALL(compare_many, bellbadger_compare_result, bellbadger_compare(many, many))
+CALL(compare_none, bellbadger_compare_result, bellbadger_compare(a, none))
 CALL(make_text, bellbadger_made_result, bellbadger_make_text(16, 1, made, sizeof made))
 CALL(form_a, bellbadger_form_result, bellbadger_form(ruled))
 CALL(form_fresh, bellbadger_form_result, bellbadger_form(fresh))
@@ -144,6 +148,7 @@ static const struct {
     {"summary_combine", summary_combine}, {"summary_conclude", summary_conclude}, {"summary_conclude", summary_conclude_late},
     {"pattern", pattern_right}, {"pattern", pattern_wrong},
     {"merge", merge_both}, {"merge", merge_either}, {"merge", merge_interleaving}, {"merge", merge_none},
+    {"compare", compare_same}, {"compare", compare_apart}, {"compare", compare_many}, {"compare", compare_none},
     {"make_text", make_text},
     {"form", form_a}, {"form", form_fresh}, {"form_back", form_back},
     {"tray_size", tray_size}, {"tray_new", tray_new},
@@ -195,6 +200,7 @@ static void prepare(void) {
     many.n = 11, many.k = 2, many.initials = 1, many.finals = 1u << 10; /* the tenth from the end is 1 */
     many.targets[0] = 1, many.targets[1] = 3;
     for (int q = 1; q < 10; q++) many.targets[16 * q] = many.targets[16 * q + 1] = 2u << q;
+    nearly_a = a, nearly_a.targets[33] = 4; /* it accepts 0 1 1 too */
     for (size_t i = 0; i < sizeof plain; i++) plain[i] = i % 2, idle[i] = i % 3 ? i % 2 : 255;
     fresh = bellbadger_new();
     ruled = bellbadger_install(fresh, a).judge;
@@ -212,6 +218,8 @@ static void prepare(void) {
     expect(bellbadger_verdict(filled).kind >= BELLBADGER_YES && bellbadger_tray_verdict(tray_filled).kind >= BELLBADGER_YES, "not filled");
     expect(bellbadger_follow_by(follower, 1, idle, sizeof idle).accepted && bellbadger_follower_prepare(none).refused, "no follower");
     expect(bellbadger_summary_conclude(ringed, summary, 1).kind >= BELLBADGER_YES && bellbadger_summarize(fresh, 0, plain, 1).refused, "no summary");
+    expect(bellbadger_compare(ring, ring).kind == BELLBADGER_SAME && bellbadger_compare(many, many).refused == 45, "not compared");
+    expect(bellbadger_compare(a, nearly_a).kind == BELLBADGER_SECOND_ALONE, "not told apart");
     expect(bellbadger_replay(TEXT(installation)).kind == BELLBADGER_YES, "no installation");
     expect(bellbadger_replay(TEXT(record)).kind >= BELLBADGER_YES, "no record");
     expect(bellbadger_install(fresh, many).refused == 9 && bellbadger_install(fresh, ring).accepted, "other rules");

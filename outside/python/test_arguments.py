@@ -8,6 +8,7 @@ import unittest
 
 import bellbadger
 from bellbadger import CheckedRule, Judge, Refused, cluster, read, replay
+from bellbadger.compare import compare
 from bellbadger.follow import Follower
 from bellbadger.form import Form, form, table
 from bellbadger.mappings import Profile, compose
@@ -20,7 +21,7 @@ from bellbadger.texts import make_text
 from bellbadger.trays import Tray
 
 A = read(bytes.fromhex("03020100000004000000160006001C0002001E0000000000000101000102"))
-SUBJECTS = ("judge", "rules", "losses", "follow", "summaries", "cluster", "mappings", "samples", "patterns", "merge", "trays", "form", "texts")
+SUBJECTS = ("judge", "rules", "losses", "follow", "summaries", "cluster", "mappings", "samples", "patterns", "merge", "compare", "trays", "form", "texts")
 WIDE = array.array("H", [0, 1])
 
 
@@ -94,6 +95,8 @@ WRONG_TYPES = [
         (rule_file, ["a"], 0, "pattern", "str or bytes", [wrong for wrong in NO_BYTES if wrong[1] != "str"]),
         (merge, [BOTH, A, A], 1, "one", "a CheckedRule", NO_RULE),
         (merge, [BOTH, A, A], 2, "two", "a CheckedRule", NO_RULE),
+        (compare, [A, A], 0, "one", "a CheckedRule", NO_RULE),
+        (compare, [A, A], 1, "two", "a CheckedRule", NO_RULE),
         (make_text, [1, 1, 1], 0, "k", "a whole number", NO_NUMBER),
         (make_text, [1, 1, 1], 1, "seed", "a whole number", NO_NUMBER),
         (make_text, [1, 1, 1], 2, "length", "a whole number", NO_NUMBER),
@@ -169,7 +172,7 @@ NO_SIZES = (
 
 # what takes no arguments, and what the package alone makes
 WITHOUT = {"version", "Judge", "Tray", "Judge.verdict", "Judge.diagnose", "Tray.verdict", "Tray.fault", "Follower.begin", "Follower.drop_refused", "Summary.to_bytes"}
-ANSWERS = {"Loaded", "Looked", "Waiting", "Yes", "No", "TrayWaiting", "TrayYes", "TrayNo", "TrayRefused", "Row", "Column", "Short", "Lost", "Open", "Followed", "Refused", "RefusedChunk", "Malformed"}
+ANSWERS = {"Loaded", "Looked", "Waiting", "Yes", "No", "TrayWaiting", "TrayYes", "TrayNo", "TrayRefused", "Row", "Column", "Short", "Lost", "Open", "Followed", "Refused", "RefusedChunk", "Malformed"} | {"FirstAlone", "SecondAlone", "Same"}
 
 
 def public_functions():

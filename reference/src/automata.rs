@@ -251,7 +251,7 @@ pub fn exactly(r: &mut Random, sets: usize) -> Automaton {
 }
 
 /// The same automaton with its states in another order.
-fn reordered(r: &mut Random, a: &Automaton) -> Automaton {
+pub fn reordered(r: &mut Random, a: &Automaton) -> Automaton {
     let mut place: Vec<usize> = (0..a.n).collect();
     r.shuffle(&mut place);
     let moved = |set: u32| members(set).fold(0, |moved, q| moved | 1 << place[q]);
@@ -321,6 +321,56 @@ pub fn automaton(r: &mut Random) -> Automaton {
         _ => (),
     }
     if r.one_in(4) { a } else { reordered(r, &a) }
+}
+
+/// The same automaton with a state more: one that nothing leads to, one that leads to itself alone, or a copy of
+/// a state, to which arcs lead beside it. It accepts the same texts.
+pub fn with_a_state_more(r: &mut Random, a: &Automaton) -> Automaton {
+    let (more, q) = (a.n, r.below(a.n));
+    let mut b = a.clone();
+    b.n += 1;
+    let any_set = |r: &mut Random| (r.next() & r.next()) as u32 & ((1u64 << more) - 1) as u32;
+    match r.below(3) {
+        0 => {
+            b.targets.push((0..a.k).map(|_| any_set(r)).collect());
+            b.finals |= (r.below(2) as u32) << more;
+        }
+        1 => {
+            b.targets.push(vec![1 << more; a.k]);
+            b.targets[q][r.below(a.k)] |= 1 << more;
+            b.initial |= (r.below(2) as u32) << more;
+        }
+        _ => {
+            b.targets.push(a.targets[q].clone());
+            b.finals |= (a.finals >> q & 1) << more;
+            b.initial |= (a.initial >> q & 1) << more;
+            for p in 0..b.n {
+                for s in 0..a.k {
+                    if b.targets[p][s] >> q & 1 == 1 && r.one_in(2) { b.targets[p][s] |= 1 << more; }
+                }
+            }
+        }
+    }
+    b
+}
+
+/// The same automaton with one of its numbers another.
+pub fn with_a_change(r: &mut Random, a: &Automaton) -> Automaton {
+    let (mut b, q, s, p) = (a.clone(), r.below(a.n), r.below(a.k), r.below(a.n));
+    match r.below(6) {
+        0 => b.finals ^= 1 << q,
+        1 => b.initial ^= 1 << q,
+        2 => b.targets[q][s] = 0,
+        _ => b.targets[q][s] ^= 1 << p,
+    }
+    b
+}
+
+/// An automaton with so many symbols.
+pub fn with_symbols(k: usize, mut a: Automaton) -> Automaton {
+    for row in &mut a.targets { row.resize(k, 0); }
+    a.k = k;
+    a
 }
 
 /// The mask with a bit for every state.

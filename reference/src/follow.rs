@@ -79,7 +79,12 @@ fn said(answer: &Result<Followed, u32>) -> String {
 
 /// A rule by value; now and then one number in it is another.
 pub fn any_rule(r: &mut Random) -> CheckedRule {
-    let mut rule = CheckedRule::of(&automaton(r));
+    let rule = CheckedRule::of(&automaton(r));
+    changed(r, rule)
+}
+
+/// A rule by value of which now and then one number is another.
+pub(crate) fn changed(r: &mut Random, mut rule: CheckedRule) -> CheckedRule {
     match r.below(40) {
         0 => rule.n = r.below(40) as u8,
         1 => rule.k = r.below(20) as u8,
@@ -119,7 +124,8 @@ pub fn traces(seed: u64, count: u64) -> String {
     let mut lines = String::new();
     for stream in 0..count {
         let mut r = Random::new(seed, stream);
-        let rule = any_rule(&mut r);
+        let rule = CheckedRule::of(&automaton(&mut r));
+        let rule = changed(&mut r, rule);
         let follower = Follower::new(&rule);
         let answer = follower.as_ref().map_or_else(|number| format!("refused {number}"), |_| "accepted".to_string());
         lines += &format!("rule {} {answer}\n", hex(&rule.bytes()));

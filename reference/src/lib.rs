@@ -5,6 +5,7 @@ pub mod automata;
 pub mod checked;
 pub mod chunks;
 pub mod compare;
+pub mod differences;
 pub mod faults;
 pub mod follow;
 pub mod forms;

@@ -13,7 +13,7 @@ use Rattle.automaton.specs.declared.Rule.{Rule}
 use Rattle.automaton.specs.Automaton.{Text}
 use Rattle.automaton.specs.Rules.{WellFormed}
 use Rattle.rulecheck.specs.Checking.{ruleNumber}
-use Rattle.rulecheck.proofs.First.{checked-first, checked-then}
+use Rattle.rulecheck.proofs.First.{checked-first, checked-then, rule-small}
 use Rattle.rulecheck.proofs.Claims as check
 use Rattle.marks.specs.Marks.{textOf}
 use Rattle.chunks.specs.Chunks.{foreign}
@@ -46,14 +46,9 @@ module _ (r : Rule) (w : List ℕ) where
   passes : WellFormed r → followNumber r w ≡ chunkNumber (r .k) w
   passes good = then-is (check.claims .passes r .1 good)
 
-  low : (x : ℕ) → ruleNumber r ≡ some x → x ≤ 8
-  low x e =
-      ⊎-elim (λ z. omega arith) (⊎-elim (λ z. omega arith) (⊎-elim (λ z. omega arith) (λ z. omega arith)))
-      (check.claims .refused r .no-other x e)
-
   -- a number above 8 is the chunk's
   own : {o : Option ℕ} (x : ℕ) → 8 < x → Which o → o ≡ some x → WellFormed r × (chunkNumber (r .k) w ≡ some x)
-  own x h (unchecked y e) f = let z : y ≡ x = cc in absurd (omega (arith, low y e))
+  own x h (unchecked y e) f = let z : y ≡ x = cc in absurd (omega (arith, rule-small r y e))
   own x h (checked o good is) f = (good, is ∙ f)
 
   own-none : {o : Option ℕ} → Which o → o ≡ none → WellFormed r × (chunkNumber (r .k) w ≡ none)
@@ -66,7 +61,7 @@ module _ (r : Rule) (w : List ℕ) where
       ⊎-elim (λ z. absurd (omega arith)) (λ z. absurd (omega arith)) (chunks.claims .taking (r .k) w .no-other x (is ∙ f))
 
   one-of : {o : Option ℕ} (x : ℕ) → Which o → o ≡ some x → (x ≤ 8) ⊎ (x ≡ 12) ⊎ (x ≡ 13)
-  one-of x (unchecked y e) f = let z : y ≡ x = cc in inl (omega (arith, low y e))
+  one-of x (unchecked y e) f = let z : y ≡ x = cc in inl (omega (arith, rule-small r y e))
   one-of x (checked o good is) f = inr (chunks.claims .taking (r .k) w .no-other x (is ∙ f))
 
   is-foreign : (Text (r .k) (textOf w) → ⊥) → foreign (textOf w) (r .k) ≡ true

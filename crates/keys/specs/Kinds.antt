@@ -1,25 +1,45 @@
--- Two walks of numbering: over sets of states and over mappings. Neither leaves a key out: the
--- empty set and the mapping to empty sets alone have a number like any other.
+-- Three walks of numbering: over sets of states, over mappings, and over pairs of sets, one of each
+-- of two rules. None leaves a key out: the empty set and the mapping to empty sets alone have a
+-- number like any other.
 --
---   stepOf kind ts m s   the key that the key m leads to by the symbol s, in a rule with the
---                        targets ts
+--   pairKey x y          the pair of the sets x and y as a key; firstSet and secondSet are its sets
+--   stepBy kind ts us m s   the key that the key m leads to by the symbol s, in a rule with the
+--                        targets ts; the second set of a pair by the targets us
 --   nothing              no key is left out
---   walkOf kind ts k     the walk, with k symbols
+--   walkBy kind ts us k  the walk, with k symbols
+--   stepOf, walkOf       those where one table is both
 use mathlib.Core.Bool.{Bool, false}
 use mathlib.Core.List.{List}
-use Prim.Native.Nat.{ℕ}
+use Prim.Native.Nat.{ℕ, _+_, _*_, _/_, _%_, _^_}
+use Rattle.limits.specs.Limits.{mostStates}
 use Rattle.automaton.specs.Successor.{successor}
 use Rattle.numbering.specs.Numbering.{Walk}
 use Rattle.mappings.specs.Packing.{mappingWalk}
 use Rattle.keys.specs.declared.Kind.{Kind}
-use Rattle.keys.specs.declared.Kind.the-variants.{Sets, Mappings}
+use Rattle.keys.specs.declared.Kind.the-variants.{Sets, Mappings, Pairs}
+
+abbrev pub pairKey : ℕ → ℕ → ℕ
+pairKey x y = x + y * 2 ^ mostStates
+
+abbrev pub firstSet : ℕ → ℕ
+firstSet m = m % 2 ^ mostStates
+
+abbrev pub secondSet : ℕ → ℕ
+secondSet m = m / 2 ^ mostStates
+
+abbrev pub stepBy : Kind → List ℕ → List ℕ → ℕ → ℕ → ℕ
+stepBy Sets ts us m s = successor ts m s
+stepBy Mappings ts us m s = mappingWalk ts 0 .step m s
+stepBy Pairs ts us m s = pairKey (successor ts (firstSet m) s) (successor us (secondSet m) s)
 
 abbrev pub stepOf : Kind → List ℕ → ℕ → ℕ → ℕ
-stepOf Sets ts m s = successor ts m s
-stepOf Mappings ts m s = mappingWalk ts 0 .step m s
+stepOf kind ts = stepBy kind ts ts
 
 abbrev pub nothing : ℕ → Bool
 nothing m = false
 
+abbrev pub walkBy : Kind → List ℕ → List ℕ → ℕ → Walk
+walkBy kind ts us k = record { step = stepBy kind ts us; skips = nothing; k = k }
+
 abbrev pub walkOf : Kind → List ℕ → ℕ → Walk
-walkOf kind ts k = record { step = stepOf kind ts; skips = nothing; k = k }
+walkOf kind ts k = walkBy kind ts ts k

@@ -1,19 +1,21 @@
 // Keys numbered in the order in which the search from one key finds them, and the table of the
-// numbers that each leads to: one loop for two kinds of keys.
+// numbers that each leads to: one loop for three kinds of keys.
 ghost use mathlib.Core.Path.{_≡_};
 ghost use Prim.Native.Nat.{_≤_, _<_};
 ghost use lib.ListN.{take};
 ghost use Rattle.limits.specs.Limits.{mostSymbols, mostSets};
 ghost use Rattle.automaton.specs.Successor.{successor as successorOf};
-ghost use Rattle.numbering.specs.Arrays.{foundIn, keyCells, Entered, Stepped, ArraysHold, Grown};
-ghost use Rattle.keys.specs.Kinds.{stepOf, nothing, walkOf};
-ghost use Rattle.keys.specs.Tables.{countMeans, noTable, tableOutcome, tableOf};
+ghost use Rattle.numbering.specs.Arrays.{foundIn, keyCells, Entered, Stepped, ArraysHold};
+ghost use Rattle.keys.specs.Kinds.{stepBy, nothing, walkBy};
+ghost use Rattle.keys.specs.Tables.{countMeans, heldBy, tableAs, tableOutcome, tableFor, tableBy, tableOf};
 ghost use Rattle.keys.specs.Steps.{foundMeans, turnMeans, closedFrom};
 
-// What a key stands for: a set of states, as a mask; a mapping, as a number of 64 bits.
+// What a key stands for: a set of states, as a mask; a mapping, as a number of 64 bits; a pair of
+// sets of states, the second in the upper 32 bits.
 pub enum Kind {
     Sets,
     Mappings,
+    Pairs,
 }
 
 // The number of a key.
@@ -37,8 +39,8 @@ pub enum Numbering {
     Over,
 }
 
-// The keys in number order and the table, zeros in every cell that is not in use, beside the
-// answer; zeros alone where there are more than 512 keys.
+// The first 512 keys in number order and the table, zeros in every cell that is not in use, beside
+// the answer. Where the 513th key turned up, the table has the cells before that.
 pub struct KeyTable {
     pub answer: Numbering,
     pub keys: [u64; limits::SETS],
@@ -52,13 +54,34 @@ fn step_set(targets: &[u32; limits::TARGETS], key: u64, symbol: u8) -> u64
     automaton::successor(targets, (key % 4294967296) as u32, symbol) as u64
 }
 
+// The pair that a pair leads to by the symbol.
+fn step_pair(
+    targets: &[u32; limits::TARGETS],
+    others: &[u32; limits::TARGETS],
+    key: u64,
+    symbol: u8,
+) -> u64
+    ensures { λ r. ⌜ r ≡ stepBy Kind.Pairs (now (targets .entry)) (now (others .entry)) key symbol ⌝ }
+{
+    let first = automaton::successor(targets, (key % 4294967296) as u32, symbol);
+    let second = automaton::successor(others, (key / 4294967296) as u32, symbol);
+    first as u64 + second as u64 * 4294967296
+}
+
 // The key that a key leads to by the symbol.
-fn step_key(targets: &[u32; limits::TARGETS], kind: Kind, key: u64, symbol: u8) -> u64
-    ensures { λ r. ⌜ r ≡ stepOf kind (now (targets .entry)) key symbol ⌝ }
+fn step_key(
+    targets: &[u32; limits::TARGETS],
+    others: &[u32; limits::TARGETS],
+    kind: Kind,
+    key: u64,
+    symbol: u8,
+) -> u64
+    ensures { λ r. ⌜ r ≡ stepBy kind (now (targets .entry)) (now (others .entry)) key symbol ⌝ }
 {
     match kind {
         Kind::Sets => step_set(targets, key, symbol),
         Kind::Mappings => mappings::step(targets, key, symbol),
+        Kind::Pairs => step_pair(targets, others, key, symbol),
     }
 }
 
@@ -102,6 +125,7 @@ fn number(keys: &mut [u64; limits::SETS], count: usize, key: u64) -> Turn
 // Key i is expanded by one symbol.
 fn step(
     targets: &[u32; limits::TARGETS],
+    others: &[u32; limits::TARGETS],
     kind: Kind,
     keys: &mut [u64; limits::SETS],
     next: &mut [u16; limits::CELLS],
@@ -110,10 +134,10 @@ fn step(
     symbol: u8,
 ) -> Numbering
     requires { ⌜ (count ≤ mostSets) × (now keys ≡ keyCells (take count (now keys))) × (i .0 < count) × (symbol < mostSymbols) ⌝ }
-    ensures { λ r. ⌜ Stepped (stepOf kind (now (targets .entry))) nothing (take count (now (keys .entry))) (i .0) symbol (countMeans r) (now (keys .exit)) (now (next .entry)) (now (next .exit)) ⌝ }
+    ensures { λ r. ⌜ Stepped (stepBy kind (now (targets .entry)) (now (others .entry))) nothing (take count (now (keys .entry))) (i .0) symbol (countMeans r) (now (keys .exit)) (now (next .entry)) (now (next .exit)) ⌝ }
 {
     let row = i.0 as usize;
-    let key = step_key(targets, kind, keys[row], symbol);
+    let key = step_key(targets, others, kind, keys[row], symbol);
     match number(keys, count, key) {
         Turn::As(number, after) => {
             next[row * limits::SYMBOLS + symbol as usize] = number.0;
@@ -126,14 +150,15 @@ fn step(
 // The keys from number first on are expanded in number order, those that turn up on the way too.
 fn expand(
     targets: &[u32; limits::TARGETS],
+    others: &[u32; limits::TARGETS],
     kind: Kind,
     k: u8,
     keys: &mut [u64; limits::SETS],
     next: &mut [u16; limits::CELLS],
     from: usize,
 ) -> Numbering
-    requires { ⌜ (k ≤ mostSymbols) × (from ≤ mostSets) × ArraysHold (walkOf kind (now targets) k) 0 (take from (now keys)) 0 (now keys) (now next) ⌝ }
-    ensures { λ r. ⌜ Grown (walkOf kind (now (targets .entry)) k) 0 (closedFrom (walkOf kind (now (targets .entry)) k) (take from (now (keys .entry)))) (countMeans r) (now (keys .exit)) (now (next .exit)) ⌝ }
+    requires { ⌜ (k ≤ mostSymbols) × (from ≤ mostSets) × ArraysHold (walkBy kind (now targets) (now others) k) 0 (take from (now keys)) 0 (now keys) (now next) ⌝ }
+    ensures { λ r. ⌜ tableAs r (now (keys .exit)) (now (next .exit)) ≡ tableFor (walkBy kind (now (targets .entry)) (now (others .entry)) k) (closedFrom (walkBy kind (now (targets .entry)) (now (others .entry)) k) (take from (now (keys .entry)))) ⌝ }
 {
     let mut count = from;
     let mut i: usize = 0;
@@ -144,6 +169,7 @@ fn expand(
         for symbol in 0..k {
             match step(
                 targets,
+                others,
                 kind,
                 keys,
                 next,
@@ -164,34 +190,39 @@ fn expand(
     answer
 }
 
-// More than 512 keys.
-fn no_table() -> KeyTable
-    ensures { λ r. ⌜ tableOutcome r ≡ noTable ⌝ }
-{
-    let keys = [0u64; limits::SETS];
-    let next = [0u16; limits::CELLS];
-    KeyTable {
-        answer: Numbering::Over,
-        keys,
-        next,
-    }
-}
-
 // The keys that texts of symbols below k lead to from the key start, in the order in which they are
-// found, and the table of what each leads to; a value of k above 16 is taken for 16.
-pub fn number_keys(targets: &[u32; limits::TARGETS], kind: Kind, k: u8, start: u64) -> KeyTable
-    ensures { λ r. ⌜ tableOutcome r ≡ tableOf kind (now (targets .entry)) k start ⌝ }
+// found, and the table of what each leads to; a value of k above 16 is taken for 16. The second set
+// of a pair goes by the table others.
+pub fn number_by(
+    targets: &[u32; limits::TARGETS],
+    others: &[u32; limits::TARGETS],
+    kind: Kind,
+    k: u8,
+    start: u64,
+) -> KeyTable
+    ensures { λ r. ⌜ tableOutcome r ≡ tableBy kind (now (targets .entry)) (now (others .entry)) k start ⌝ }
 {
     let mut keys = [0u64; limits::SETS];
     let mut next = [0u16; limits::CELLS];
     keys[0] = start;
     let symbols = base::at_most_u8(k, limits::MOST_SYMBOLS);
-    match expand(targets, kind, symbols, &mut keys, &mut next, 1) {
-        Numbering::Whole(count) => KeyTable {
-            answer: Numbering::Whole(count),
-            keys,
-            next,
-        },
-        Numbering::Over => no_table(),
+    let answer = expand(targets, others, kind, symbols, &mut keys, &mut next, 1);
+    KeyTable { answer, keys, next }
+}
+
+// Those where one table is both.
+pub fn number_keys(targets: &[u32; limits::TARGETS], kind: Kind, k: u8, start: u64) -> KeyTable
+    ensures { λ r. ⌜ tableOutcome r ≡ tableOf kind (now (targets .entry)) k start ⌝ }
+{
+    number_by(targets, targets, kind, k, start)
+}
+
+// How many keys a table with this answer holds: all of them, or the first 512.
+pub fn held(answer: Numbering) -> usize
+    ensures { λ r. ⌜ r ≡ heldBy answer ⌝ }
+{
+    match answer {
+        Numbering::Whole(count) => count,
+        Numbering::Over => limits::SETS,
     }
 }

@@ -1,7 +1,7 @@
 -- Which number two rules have. Assumes nothing.
 --
 --   number-law   the number: the first rule's, else the second's, else 36 or 37
-use mathlib.Core.Path.{_≡_, refl, sym, ap, _∙_}
+use mathlib.Core.Path.{_≡_, sym, ap, _∙_}
 use mathlib.Core.Logic.{_↔_, _⊎_, inl, inr, ⊎-elim, Iff·trans}
 use mathlib.Core.Bool.{Bool, true, false, not, cond}
 use mathlib.Core.List.{List, [], _∷_, _++_}
@@ -12,24 +12,16 @@ use lib.Dec.{eqb, ltb}
 use borrow.Author.Tests.{eq-eqb, ne-eqb, eqb-true, eqb-false, lt-ltb, le-ltb, ltb-true, ltb-false, not-false}
 use Rattle.base.specs.Conditions.{Condition, on, firstOf}
 use Rattle.base.proofs.Tests.{zero-one, by-test}
-use Rattle.base.proofs.Conditions.{orElse, first-append}
+use Rattle.base.proofs.Conditions.{orElse, first-append, none-of, some-of}
 use Rattle.automaton.specs.declared.Rule.{Rule}
 use Rattle.automaton.specs.Rules.{WellFormed}
 use Rattle.rulecheck.specs.Checking.{ruleConditions, ruleNumber}
 use Rattle.rulecheck.proofs.Laws.{passes, refused}
+use Rattle.rulecheck.proofs.First.{rule-small}
 use Rattle.merging.specs.declared.Way.{Way}
 use Rattle.merging.specs.Merged.{statesOf}
 use Rattle.merging.specs.Merging.{pairConditions, mergeNumber}
 use Rattle.merging.specs.Claims.{Mergeable, Refused-exactly}
-
--- ---- one number, else another
-none-of : (a b : Option ℕ) → (orElse a b ≡ none) ↔ ((a ≡ none) × (b ≡ none))
-none-of none b = (λ e. (refl, e), λ x. x .1)
-none-of (some y) b = (λ e. zero-one cc, λ x. zero-one cc)
-
-some-of : (a b : Option ℕ) (x : ℕ) → (orElse a b ≡ some x) ↔ ((a ≡ some x) ⊎ ((a ≡ none) × (b ≡ some x)))
-some-of none b x = (λ e. inr (refl, e), λ o. ⊎-elim (λ e. zero-one cc) (λ e. e .1) o)
-some-of (some y) b x = (λ e. inl e, λ o. ⊎-elim (λ e. e) (λ e. zero-one cc) o)
 
 -- ---- 36 and 37, from the numbers of symbols and of states
 module _ (k1 k2 n : ℕ) where
@@ -72,12 +64,6 @@ rule-known : (r : Rule) (x : ℕ) → ruleNumber r ≡ some x → Known x
 rule-known r x e =
     ⊎-elim (λ i. inl i)
     (λ i. ⊎-elim (λ j. inr (inl j)) (λ j. ⊎-elim (λ k. inr (inr (inl k))) (λ k. inr (inr (inr (inl k)))) j) i)
-    (refused r .no-other x e)
-
-rule-small : (r : Rule) (x : ℕ) → ruleNumber r ≡ some x → x ≤ 8
-rule-small r x e =
-    ⊎-elim (λ i. omega arith)
-    (λ i. ⊎-elim (λ j. omega arith) (λ j. ⊎-elim (λ k. omega arith) (λ k. omega arith) j) i)
     (refused r .no-other x e)
 
 -- ---- the number of two rules

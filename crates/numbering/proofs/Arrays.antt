@@ -18,11 +18,12 @@ use lib.Dec.{eqb, ltb}
 use lib.ListN.{length, getD, take, set, length-append, length-set, length-take}
 use lib.Seq.{ext-getD, getD-take, length-take-le, getD-append-seam, getD-set-same, getD-set-other}
 use borrow.Author.Tests.{lt-ltb, le-ltb, eqb-true, eqb-false, ltb-true, ltb-false}
-use Rattle.base.proofs.Lists.{length-listFrom, cell-of, is-listFrom}
+use Rattle.base.proofs.Lists.{length-listFrom, cell-of, is-listFrom, same-list}
 use Rattle.base.proofs.Tests.{by-test, zero-one}
 use Rattle.numbering.specs.Numbering.{indexOf, numbered}
 use Rattle.numbering.specs.Arrays.{limited, foundIn, keyCells, turnOf, Entered, target, afterStep, Stepped}
-use Rattle.numbering.proofs.Numbers.{Has, nowhere, number-is, number-taken, numbered-skipped, numbered-kept, numbered-taken}
+use Rattle.numbering.specs.Begins.{Begins}
+use Rattle.numbering.proofs.Numbers.{Has, nowhere, number-is, begins-at, number-taken, numbered-skipped, numbered-kept, numbered-taken}
 
 -- ---- at most 512
 told-some : (over : Bool) (count c : ℕ) → some c ≡ cond over none (some count) → (over ≡ false) × (c ≡ count)
@@ -105,6 +106,10 @@ cells-snoc l m h =
     let ne : c ≡ length l → ⊥ = eqb-false c (length l) t in
     getD-set-other (keyCells l) (length l) c m 0 ne ∙ cells-at l c b ∙ sym (snoc-other l m c ne)))
 
+-- a list of 512 keys that goes on has the same first cells
+pub cells-full : (l f : List ℕ) → Begins l f → 512 ≤ length l → keyCells f ≡ keyCells l
+cells-full l f g h = same-list 512 (λ i. getD f i 0) (λ i. getD l i 0) (λ c b. begins-at g c (omega arith))
+
 -- the keys are read off the array again
 pub read-back : (f keys : List ℕ) (c : ℕ) → length f ≤ 512 → c ≡ length f → keys ≡ keyCells f → take c keys ≡ f
 read-back f keys c h e are =
@@ -129,7 +134,7 @@ module _ (keys : List ℕ) (count : ℕ) (most : count ≤ 512) (are : keys ≡ 
     entered-kept j e =
         let h = found-has l m j e in
         let k : numbered skips l m ≡ l = numbered-kept skips l m ne (h .0) in
-        record { number = rw (k, count-is, le-ltb 512 count most, h .1); keys-are = λ _. rw k are }
+        record { number = rw (k, count-is, le-ltb 512 count most, h .1); keys-are = rw k are }
 
     module _ (missing : foundIn l m ≡ none) where
       no-number : length l ≤ indexOf l m
@@ -144,8 +149,7 @@ module _ (keys : List ℕ) (count : ℕ) (most : count ≤ 512) (are : keys ≡ 
       pub entered-taken : count < 512 → Entered skips l m (some (count, count + 1)) (set keys count m)
       entered-taken b = record {
         number = rw (taken, one-more, number-taken l m no-number, count-is, le-ltb 512 (count + 1) (omega arith));
-        keys-are = λ _.
-            ap (λ (x : List ℕ). set x count m) are
+        keys-are = ap (λ (x : List ℕ). set x count m) are
             ∙ ap (λ (c : ℕ). set (keyCells l) c m) (sym count-is)
             ∙ cells-snoc l m (omega (arith, count-is))
             ∙ sym (ap keyCells taken);
@@ -154,7 +158,7 @@ module _ (keys : List ℕ) (count : ℕ) (most : count ≤ 512) (are : keys ≡ 
       pub entered-full : 512 ≤ count → Entered skips l m none keys
       entered-full b = record {
         number = rw (taken, one-more, lt-ltb 512 (count + 1) (omega arith));
-        keys-are = λ f. absurd (omega (arith, ap length taken, one-more));
+        keys-are = are ∙ sym (cells-full l (numbered skips l m) (record { rest = m ∷ []; is = taken }) (omega (arith, count-is)));
       }
 
 -- what a key's turn answered
@@ -198,8 +202,8 @@ module _ (step : ℕ → ℕ → ℕ) (skips : ℕ → Bool) (keys next : List �
       let k : afterStep step skips before i s ≡ before = numbered-skipped skips before (target step skips before i s) e in
       record {
         count = ap some (sym n) ∙ limited-whole before (omega arith) ∙ sym (ap limited k);
-        keys-are = λ _. are ∙ sym (ap keyCells k);
-        next-are = λ _. rw e;
+        keys-are = are ∙ sym (ap keyCells k);
+        next-are = rw e;
       }
 
   module _ (ne : skips m ≡ false) (r : Option (ℕ × ℕ)) (after : List ℕ) (entered : Entered skips before m r after) where
@@ -213,14 +217,15 @@ module _ (step : ℕ → ℕ → ℕ) (skips : ℕ → Bool) (keys next : List �
         record {
           count = ap some (x .2) ∙ limited-whole (afterStep step skips before i s) (x .0);
           keys-are = h .keys-are;
-          next-are = λ _. rw (n, x .1);
+          next-are = rw (n, le-ltb 512 (length (afterStep step skips before i s)) (x .0), x .1);
         }
 
     pub stepped-over : r ≡ none → Stepped step skips before i s none after next next
     stepped-over e =
         let b = entered-over skips before (target step skips before i s) (sym e ∙ h .number) in
+        let n : skips (target step skips before i s) ≡ false = ap skips (sym is-target) ∙ ne in
         record {
           count = limited-over (afterStep step skips before i s) b;
           keys-are = h .keys-are;
-          next-are = λ f. absurd (omega arith);
+          next-are = rw (n, lt-ltb 512 (length (afterStep step skips before i s)) b);
         }

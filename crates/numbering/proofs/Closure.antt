@@ -3,8 +3,10 @@
 --   ..-begins                 each part only appends to the list of keys
 --   symbols-.., keys-..       its loops unroll by one turn
 --   close-keeps, upTo-keeps   what each turn of a key keeps holds of all the keys
---   upTo-covers, upTo-seed    with at most 512 keys what a numbered key leads to has a number, and
---                             so has each seed, if it is not left out
+--   settled                   the keys of the seeds before the last
+--   upTo-covers, upTo-seed    what one of the first 512 keys leads to has a number, where the seeds
+--                             before the last have at most 512 keys; and so has each seed, if it is
+--                             not left out
 use mathlib.Core.Path.{_≡_, refl, sym, _∙_, subst}
 use mathlib.Core.Bool.{false, cond}
 use mathlib.Core.List.{List, []}
@@ -139,14 +141,14 @@ module _ (a : Walk) where
       (λ c. expand-covers m (suc s) left (numbered (a .skips) l (a .step m s)) t c (omega arith))
       (eq-or-lt-of-le x)
 
-  -- what the keys from number i on lead to has a number
-  abbrev pub Closed : List ℕ → ℕ → Type 0
-  Closed f i = (j s : ℕ) → i ≤ j → j < length f → s < a .k → Covers a f (a .step (getD f j 0) s)
+  -- what the keys from number i on, below `top`, lead to has a number
+  abbrev Closed : List ℕ → ℕ → ℕ → Type 0
+  Closed f i top = (j s : ℕ) → i ≤ j → j < top → j < length f → s < a .k → Covers a f (a .step (getD f j 0) s)
 
-  -- the fuel is enough while the list is no longer than it reaches
-  close-covers : (left i : ℕ) (l : List ℕ) → length (closeFrom a left i l) ≤ i + left → Closed (closeFrom a left i l) i
+  -- the fuel is enough for so many keys
+  close-covers : (left i : ℕ) (l : List ℕ) → Closed (closeFrom a left i l) i (i + left)
   unfolding closeFrom
-  close-covers zero i l = λ h j s x y z. absurd (omega arith)
+  close-covers zero i l = λ j s x top y z. absurd (omega arith)
   close-covers (suc left) i l = go (close-covers left (suc i) (expandFrom a (getD l i 0) 0 (a .k) l))
     where
       e : List ℕ
@@ -155,40 +157,50 @@ module _ (a : Walk) where
       f : List ℕ
       f = closeFrom a left (suc i) e
 
-      expanded : (length f ≤ suc i + left → Closed f (suc i)) → i < length l → length f ≤ i + suc left → Closed f i
-      expanded ih t h j s x y z =
+      expanded : Closed f (suc i) (suc i + left) → i < length l → Closed f i (i + suc left)
+      expanded ih t j s x top y z =
           ⊎-elim
           (λ c.
           subst (λ (y : ℕ). Covers a f (a .step (getD f y 0) s)) c
           (covers-more (close-begins a left (suc i) e) i s (omega (arith, begins-length (expand-begins a (getD l i 0) 0 (a .k) l)))
           (subst (λ (y : ℕ). Covers a e (a .step y s)) (sym (begins-at (expand-begins a (getD l i 0) 0 (a .k) l) i t))
           (expand-covers (getD l i 0) 0 (a .k) l s (omega arith) (omega arith)))))
-          (λ d. ih (omega arith) j s d y z)
+          (λ d. ih j s d (omega arith) y z)
           (eq-or-lt-of-le x)
 
-      go : (length f ≤ suc i + left → Closed f (suc i)) → length (cond (ltb i (length l)) f l) ≤ i + suc left → Closed (cond (ltb i (length l)) f l) i
+      go : Closed f (suc i) (suc i + left) → Closed (cond (ltb i (length l)) f l) i (i + suc left)
       go ih =
           by-test (ltb i (length l))
           (λ t. rw t (expanded ih (ltb-true i (length l) t)))
-          (λ t. rw t (λ h j s x y z. absurd (omega (arith, ltb-false i (length l) t))))
+          (λ t. rw t (λ j s x top y z. absurd (omega (arith, ltb-false i (length l) t))))
 
   module _ (seed : ℕ → ℕ) where
-    -- with at most 512 keys, every key that a step leads to has a number, if it is not left out
-    pub upTo-covers : (q : ℕ) → length (keysUpTo a seed q) ≤ 512 → Closed (keysUpTo a seed q) 0
+    -- the keys that are numbered when the last seed has its turn
+    abbrev pub settled : ℕ → List ℕ
+    settled zero = []
+    settled (suc q) = keysUpTo a seed q
+
+    pub settled-fits : (n : ℕ) → length (keysUpTo a seed n) ≤ 512 → length (settled n) ≤ 512
+    settled-fits zero h = omega arith
+    settled-fits (suc q) h = omega (arith, begins-length (seed-begins a seed q))
+
+    -- where these are at most 512, every key that a step leads to from one of the first 512 has a
+    -- number, if it is not left out
+    pub upTo-covers : (n : ℕ) → length (settled n) ≤ 512 → Closed (keysUpTo a seed n) 0 512
     unfolding keysUpTo
-    upTo-covers zero h j s x y z = absurd (omega arith)
-    upTo-covers (suc q) h j s x y z = go (upTo-covers q)
+    upTo-covers zero h j s x top y z = absurd (omega arith)
+    upTo-covers (suc q) h j s x top y z = go (upTo-covers q)
       where
         l : List ℕ
         l = keysUpTo a seed q
 
-        go : (length l ≤ 512 → Closed l 0) → Covers a (keysUpTo a seed (suc q)) (a .step (getD (keysUpTo a seed (suc q)) j 0) s)
+        go : (length (settled q) ≤ 512 → Closed l 0 512) → Covers a (keysUpTo a seed (suc q)) (a .step (getD (keysUpTo a seed (suc q)) j 0) s)
         go ih =
             by-test (ltb j (length l))
             (λ t.
             let d = ltb-true j (length l) t in
-            covers-more (seed-begins a seed q) j s d (ih (omega (arith, begins-length (seed-begins a seed q))) j s x d z))
-            (λ t. close-covers 512 (length l) (numbered (a .skips) l (seed q)) (omega arith) j s (ltb-false j (length l) t) y z)
+            covers-more (seed-begins a seed q) j s d (ih (settled-fits q h) j s x top d z))
+            (λ t. close-covers 512 (length l) (numbered (a .skips) l (seed q)) j s (ltb-false j (length l) t) (omega arith) y z)
 
     -- each seed that was passed has a number, if it is not left out
     pub upTo-seed : (q p : ℕ) → p < q → Covers a (keysUpTo a seed q) (seed p)

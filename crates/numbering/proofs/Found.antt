@@ -7,7 +7,7 @@
 --
 --   Prior p t i s   the turn of key p and symbol t comes before that of key i and symbol s
 --   Found l j q w   key j of the list l was found from seed q over the text w
---   upTo-found      with at most 512 keys, each was found
+--   upTo-found      where the seeds before the last have at most 512 keys, each key was found
 use mathlib.Core.Path.{_≡_, refl, sym, ap, _∙_, subst}
 use mathlib.Core.Logic.{_⊎_, inl, inr, ⊎-elim}
 use mathlib.Core.Bool.{false}
@@ -22,8 +22,8 @@ use borrow.Author.Tests.{ltb-true, ltb-false}
 use Rattle.base.proofs.Tests.{by-test}
 use Rattle.numbering.specs.Numbering.{Walk, indexOf, numbered, closeFrom, keysUpTo}
 use Rattle.numbering.specs.Begins.{Begins}
-use Rattle.numbering.proofs.Numbers.{Has, begins-at, begins-number, begins-length, begins-has, by-turn, numbered-begins, numbered-has, number-taken}
-use Rattle.numbering.proofs.Closure.{close-keeps, seed-begins, keys-end, Covers, covers-more, upTo-covers, upTo-seed}
+use Rattle.numbering.proofs.Numbers.{Has, begins-at, begins-number, begins-has, by-turn, numbered-begins, numbered-has, number-taken}
+use Rattle.numbering.proofs.Closure.{close-keeps, keys-end, Covers, covers-more, settled, settled-fits, upTo-covers, upTo-seed}
 
 abbrev pub Prior : ℕ → ℕ → ℕ → ℕ → Type 0
 Prior p t i s = (p < i) ⊎ (p ≡ i) × (t < s)
@@ -165,7 +165,7 @@ module _ (a : Walk) (seed : ℕ → ℕ) where
         let g : Begins b f = record { rest = m ∷ []; is = refl } in
         let n : length f ≡ suc (length b) = rw length-append (omega arith) in
         let has : Has f m = omega (arith, number-taken b m none) in
-        let covered : (p t : ℕ) → p < length b → t < a .k → Covers a b (a .step (getD b p 0) t) = λ p t x y. upTo-covers a seed q most p t (omega arith) x y in
+        let covered : (p t : ℕ) → p < length b → t < a .k → Covers a b (a .step (getD b p 0) t) = λ p t x y. upTo-covers a seed q (settled-fits a seed q most) p t (omega arith) (omega arith) x y in
         record {
           past = omega arith;
           seeds = λ p x. ⊎-elim (λ e. rw e (λ _. has)) (λ y ne. begins-has g (seed p) (upTo-seed a seed q p y ne)) (eq-or-lt-of-le (le-of-suc-le-suc x));
@@ -205,9 +205,7 @@ module _ (a : Walk) (seed : ℕ → ℕ) where
         (λ t. let o = s .old j (ltb-true j (length b) t) in (o .0, o .1, omega (arith, o .2), o .3))
         (λ t. let o = s .new j (ltb-false j (length b) t) c in (q, o .0, omega arith, o .1)))
 
-  pub upTo-found : (n : ℕ) → length (keysUpTo a seed n) ≤ 512 → AllFound n (keysUpTo a seed n)
+  pub upTo-found : (n : ℕ) → length (settled a seed n) ≤ 512 → AllFound n (keysUpTo a seed n)
   unfolding keysUpTo
   upTo-found zero most = λ j c. absurd (omega arith)
-  upTo-found (suc q) most =
-      let low : length (keysUpTo a seed q) ≤ 512 = omega (arith, begins-length (seed-begins a seed q)) in
-      stage-found q low (upTo-found q low)
+  upTo-found (suc q) most = stage-found q most (upTo-found q (settled-fits a seed q most))

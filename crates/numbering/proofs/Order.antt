@@ -6,8 +6,9 @@
 --    key i, the key that key i leads to by the symbol s was found no later than over the text to
 --    key i followed by s (`grows`). By induction the keys were found in the order of their numbers
 --    (`rises`).
--- 3. By induction on a text, the key that it leads to was found no later than over this text
---    (`ends`). So the text over which a key was found is the first that leads to it.
+-- 3. By induction on a text, the key that it leads to was found no later than over this text, or
+--    some key past the first 512 was, which is not expanded (`ends`). So the text over which one of
+--    the first 513 keys was found is the first that leads to it.
 --
 -- Assumes nothing.
 use mathlib.Core.Path.{_≡_, refl, sym, ap, _∙_, subst}
@@ -24,10 +25,10 @@ use Rattle.base.proofs.Tests.{by-test, not-both}
 use Rattle.numbering.specs.Numbering.{Walk, indexOf, keysUpTo}
 use Rattle.numbering.specs.Texts.{follow, Symbols, none, more, Sooner, NoLater}
 use Rattle.numbering.specs.Claims.{Sinks, Ordered}
-use Rattle.numbering.proofs.Texts.{follow-append, symbols-append, skipped-after, sooner-snoc, sooner-last, no-later-snoc, no-later-trans, empty-no-later}
+use Rattle.numbering.proofs.Texts.{follow-append, symbols-append, skipped-after, sooner-snoc, sooner-last, no-later-snoc, no-later-trans, no-later-append, empty-no-later}
 use Rattle.numbering.proofs.Numbers.{Has, number-at}
-use Rattle.numbering.proofs.Reached.{own, once, sound, covered}
-use Rattle.numbering.proofs.Closure.{upTo-seed}
+use Rattle.numbering.proofs.Reached.{own, once, sound}
+use Rattle.numbering.proofs.Closure.{settled, settled-fits, upTo-covers, upTo-seed}
 use Rattle.numbering.proofs.Found.{Prior, TurnsBelow, SeedsBelow, Found, seeded, turned, upTo-found}
 
 -- the text v from seed p comes before the text w from seed q; or is not after it
@@ -51,7 +52,7 @@ prior-or p t i s =
     (λ z. inr (inl (inl z)))
     (eq-or-lt-of-le (ltb-false p i x)))
 
-not-after-trans : (p q r : ℕ) (u v w : List ℕ) → NotAfter p u q v → NotAfter q v r w → NotAfter p u r w
+pub not-after-trans : (p q r : ℕ) (u v w : List ℕ) → NotAfter p u q v → NotAfter q v r w → NotAfter p u r w
 not-after-trans p q r u v w x y =
     ⊎-elim
     (λ h. ⊎-elim (λ g. inl (omega arith)) (λ g. inl (omega (arith, g .0))) y)
@@ -61,7 +62,7 @@ not-after-trans p q r u v w x y =
 not-after-snoc : (p q : ℕ) (v w : List ℕ) (s : ℕ) → NotAfter p v q w → NotAfter p (v ++ (s ∷ [])) q (w ++ (s ∷ []))
 not-after-snoc p q v w s x = ⊎-elim (λ h. inl h) (λ h. inr (h .0, no-later-snoc v w s (h .1))) x
 
-module _ (a : Walk) (seed : ℕ → ℕ) (n : ℕ) (sinks : Sinks a) (most : length (keysUpTo a seed n) ≤ 512) where
+module _ (a : Walk) (seed : ℕ → ℕ) (n : ℕ) where
   abbrev keys : List ℕ
   keys = keysUpTo a seed n
 
@@ -170,105 +171,146 @@ module _ (a : Walk) (seed : ℕ → ℕ) (n : ℕ) (sinks : Sinks a) (most : len
       (o .1))
       (grows s j (omega arith) c e b (omega arith) h′ (λ _ _ _ g k. rises g (omega arith) k h′) h)
 
+  -- a key with no higher number was found no later
+  pub no-lower : {i j q p : ℕ} {w v : List ℕ} → i ≤ j → j < length keys → Came i q w → Came j p v → NotAfter q w p v
+  no-lower {i} {j} {q} {p} {w} {v} le b h k =
+      ⊎-elim
+      (λ e. let o = same b (subst (λ (x : ℕ). Came x q w) e h) k in inr (o .0, inl (o .1)))
+      (λ low. ⊎-elim (λ z. inl z) (λ z. inr (z .0, inr (z .1))) (rises low b h k))
+      (eq-or-lt-of-le le)
+
   -- ---- 3
-  record Ends (x p : ℕ) (v : List ℕ) : Type 0 where
-    number : ℕ
-    below : number < length keys
-    is : key number ≡ x
-    from : ℕ
-    text : List ℕ
-    came : Came number from text
-    not-after : NotAfter from text p v
+  -- a key that was found no later than over the text v from seed p: x, to which this leads, or one
+  -- past the first 512
+  pub record Ends (x p : ℕ) (v : List ℕ) : Type 0 where
+    pub number : ℕ
+    pub below : number < length keys
+    pub is : (key number ≡ x) ⊎ (512 ≤ number)
+    pub from : ℕ
+    pub text : List ℕ
+    pub came : Came number from text
+    pub not-after : NotAfter from text p v
 
-  seed-ends : (p : ℕ) → p < n → a .skips (seed p) ≡ false → Ends (seed p) p []
-  seed-ends p b ne =
-      let d : Has keys (seed p) = upTo-seed a seed n p b ne in
-      let at = number-at keys (seed p) d in
-      let o = upTo-found a seed n most (indexOf keys (seed p)) d in
-      record {
-        number = indexOf keys (seed p);
-        below = d;
-        is = at;
-        from = o .0;
-        text = o .1;
-        came = o .3;
-        not-after = go d (sym at) (o .3);
-      }
-    where
-      go : {j q : ℕ} {w : List ℕ} → j < length keys → seed p ≡ key j → Came j q w → NotAfter q w p []
-      go {j} {q} c e (seeded f x y) =
-          by-test (ltb p q)
-          (λ t. absurd (late-seed j j (omega arith) c p q e x (ltb-true p q t)))
-          (λ t. ⊎-elim (λ z. inr (z, inl refl)) (λ z. inl z) (eq-or-lt-of-le (ltb-false p q t)))
-      go {j} {q} c e (turned i s h low d f x y) =
-          by-test (ltb p (suc q))
-          (λ t. absurd (late-seed j j (omega arith) c p (suc q) e x (ltb-true p (suc q) t)))
-          (λ t. inl (ltb-false p (suc q) t))
+  module _ (sinks : Sinks a) (most : length (settled a seed n) ≤ 512) where
+    seed-ends : (p : ℕ) → p < n → a .skips (seed p) ≡ false → Ends (seed p) p []
+    seed-ends p b ne =
+        let d : Has keys (seed p) = upTo-seed a seed n p b ne in
+        let at = number-at keys (seed p) d in
+        let o = upTo-found a seed n most (indexOf keys (seed p)) d in
+        record {
+          number = indexOf keys (seed p);
+          below = d;
+          is = inl at;
+          from = o .0;
+          text = o .1;
+          came = o .3;
+          not-after = go d (sym at) (o .3);
+        }
+      where
+        go : {j q : ℕ} {w : List ℕ} → j < length keys → seed p ≡ key j → Came j q w → NotAfter q w p []
+        go {j} {q} c e (seeded f x y) =
+            by-test (ltb p q)
+            (λ t. absurd (late-seed j j (omega arith) c p q e x (ltb-true p q t)))
+            (λ t. ⊎-elim (λ z. inr (z, inl refl)) (λ z. inl z) (eq-or-lt-of-le (ltb-false p q t)))
+        go {j} {q} c e (turned i s h low d f x y) =
+            by-test (ltb p (suc q))
+            (λ t. absurd (late-seed j j (omega arith) c p (suc q) e x (ltb-true p (suc q) t)))
+            (λ t. inl (ltb-false p (suc q) t))
 
-  turn-ends : (x p s : ℕ) (v : List ℕ) → Ends x p v → s < a .k → a .skips (a .step x s) ≡ false → Ends (a .step x s) p (v ++ (s ∷ []))
-  turn-ends x p s v h c ne =
-      let e : a .step (key (h .number)) s ≡ a .step x s = ap (λ (m : ℕ). a .step m s) (h .is) in
-      let d : Has keys (a .step x s) = subst (Has keys) e (covered a seed n most (h .number) s (h .below) c (ap (a .skips) e ∙ ne)) in
-      let at = number-at keys (a .step x s) d in
-      let o = upTo-found a seed n most (indexOf keys (a .step x s)) d in
-      record {
-        number = indexOf keys (a .step x s);
-        below = d;
-        is = at;
-        from = o .0;
-        text = o .1;
-        came = o .3;
-        not-after = not-after-trans (o .0) (h .from) p (o .1) (h .text ++ (s ∷ [])) (v ++ (s ∷ []))
-            (grows s (indexOf keys (a .step x s)) (h .below) c (e ∙ sym at) d (omega arith) (h .came) (λ _ _ _ g k. rises g (h .below) k (h .came)) (o .3))
-            (not-after-snoc (h .from) p (h .text) v s (h .not-after));
-      }
+    -- one of the first 512 keys is expanded
+    turn-low : (x p s : ℕ) (v : List ℕ) (h : Ends x p v) → key (h .number) ≡ x → h .number < 512 → s < a .k → a .skips (a .step x s) ≡ false
+        → Ends (a .step x s) p (v ++ (s ∷ []))
+    turn-low x p s v h is low c ne =
+        let e : a .step (key (h .number)) s ≡ a .step x s = ap (λ (m : ℕ). a .step m s) is in
+        let d : Has keys (a .step x s) =
+        subst (Has keys) e (upTo-covers a seed n most (h .number) s (omega arith) low (h .below) c (ap (a .skips) e ∙ ne)) in
+        let at = number-at keys (a .step x s) d in
+        let o = upTo-found a seed n most (indexOf keys (a .step x s)) d in
+        record {
+          number = indexOf keys (a .step x s);
+          below = d;
+          is = inl at;
+          from = o .0;
+          text = o .1;
+          came = o .3;
+          not-after = not-after-trans (o .0) (h .from) p (o .1) (h .text ++ (s ∷ [])) (v ++ (s ∷ []))
+              (grows s (indexOf keys (a .step x s)) (h .below) c (e ∙ sym at) d (omega arith) (h .came) (λ _ _ _ g k. rises g (h .below) k (h .came)) (o .3))
+              (not-after-snoc (h .from) p (h .text) v s (h .not-after));
+        }
 
-  ends-from : (x p : ℕ) (v w : List ℕ) → Ends x p v → Symbols (a .k) w → a .skips (follow a x w) ≡ false → Ends (follow a x w) p (v ++ w)
-  ends-from x p v [] h c ne = rw append-nil h
-  ends-from x p v (s ∷ w) h (more b c) ne =
-      let kept : a .skips (a .step x s) ≡ false =
-      by-test (a .skips (a .step x s)) (λ z. not-both (skipped-after a sinks (a .step x s) w c z) ne) (λ z. z) in
-      subst (Ends (follow a (a .step x s) w) p) (append-assoc v (s ∷ []) w) (ends-from (a .step x s) p (v ++ (s ∷ [])) w (turn-ends x p s v h b kept) c ne)
+    -- past them a longer text changes nothing
+    turn-past : (x y p s : ℕ) (v : List ℕ) (h : Ends x p v) → 512 ≤ h .number → Ends y p (v ++ (s ∷ []))
+    turn-past x y p s v h past = record {
+      number = h .number;
+      below = h .below;
+      is = inr past;
+      from = h .from;
+      text = h .text;
+      came = h .came;
+      not-after = not-after-trans (h .from) p p (h .text) v (v ++ (s ∷ [])) (h .not-after) (inr (refl, no-later-append v (s ∷ [])));
+    }
 
-  ends : (p : ℕ) (w : List ℕ) → p < n → Symbols (a .k) w → a .skips (follow a (seed p) w) ≡ false → Ends (follow a (seed p) w) p w
-  ends p w b c ne =
-      ends-from (seed p) p [] w
-      (seed-ends p b (by-test (a .skips (seed p)) (λ z. not-both (skipped-after a sinks (seed p) w c z) ne) (λ z. z)))
-      c
-      ne
+    turn-ends : (x p s : ℕ) (v : List ℕ) → Ends x p v → s < a .k → a .skips (a .step x s) ≡ false → Ends (a .step x s) p (v ++ (s ∷ []))
+    turn-ends x p s v h c ne =
+        by-test (ltb (h .number) 512)
+        (λ t.
+        let low = ltb-true (h .number) 512 t in
+        ⊎-elim (λ e. turn-low x p s v h e low c ne) (λ z. absurd (omega arith)) (h .is))
+        (λ t. turn-past x (a .step x s) p s v h (ltb-false (h .number) 512 t))
 
-  -- the key was found no later than over any text that leads to it
-  pub first : {j q : ℕ} {w : List ℕ} → j < length keys → Came j q w → (p : ℕ) (v : List ℕ) → p < n → Symbols (a .k) v → follow a (seed p) v ≡ key j → NotAfter q w p v
-  first {j} {q} {w} b h p v c d e =
-      let o = ends p v c d (ap (a .skips) e ∙ sound a seed n j b .counts) in
-      let k : o .number ≡ j = once a seed n (o .number) j (o .below) b (o .is ∙ e) in
-      let z = same b (subst (λ (x : ℕ). Came x (o .from) (o .text)) k (o .came)) h in
-      subst (λ (x : ℕ). NotAfter x w p v) (z .0) (subst (λ (x : List ℕ). NotAfter (o .from) x p v) (z .1) (o .not-after))
+    ends-from : (x p : ℕ) (v w : List ℕ) → Ends x p v → Symbols (a .k) w → a .skips (follow a x w) ≡ false → Ends (follow a x w) p (v ++ w)
+    ends-from x p v [] h c ne = rw append-nil h
+    ends-from x p v (s ∷ w) h (more b c) ne =
+        let kept : a .skips (a .step x s) ≡ false =
+        by-test (a .skips (a .step x s)) (λ z. not-both (skipped-after a sinks (a .step x s) w c z) ne) (λ z. z) in
+        subst (Ends (follow a (a .step x s) w) p) (append-assoc v (s ∷ []) w) (ends-from (a .step x s) p (v ++ (s ∷ [])) w (turn-ends x p s v h b kept) c ne)
+
+    pub ends : (p : ℕ) (w : List ℕ) → p < n → Symbols (a .k) w → a .skips (follow a (seed p) w) ≡ false → Ends (follow a (seed p) w) p w
+    ends p w b c ne =
+        ends-from (seed p) p [] w
+        (seed-ends p b (by-test (a .skips (seed p)) (λ z. not-both (skipped-after a sinks (seed p) w c z) ne) (λ z. z)))
+        c
+        ne
+
+    -- one of the first 513 keys was found no later than over any text that leads to it
+    pub first : {j q : ℕ} {w : List ℕ} → j < length keys → j ≤ 512 → Came j q w → (p : ℕ) (v : List ℕ) → p < n → Symbols (a .k) v → follow a (seed p) v ≡ key j
+        → NotAfter q w p v
+    first {j} {q} {w} b top h p v c d e =
+        let o = ends p v c d (ap (a .skips) e ∙ sound a seed n j b .counts) in
+        let le : j ≤ o .number =
+        ⊎-elim (λ z. let k : o .number ≡ j = once a seed n (o .number) j (o .below) b (z ∙ e) in omega arith) (λ z. omega arith) (o .is) in
+        not-after-trans q (o .from) p w (o .text) v (no-lower le (o .below) h (o .came)) (o .not-after)
 
   -- ---- what is claimed
-  record NumberingReply (j : ℕ) : Type 0 where
-    from : ℕ
-    text : List ℕ
-    known : j < length keys → (from < n) × Came j from text
+  module _ (sinks : Sinks a) (most : length keys ≤ 512) where
+    before : length (settled a seed n) ≤ 512
+    before = settled-fits a seed n most
 
-  told : (j : ℕ) → NumberingReply j
-  told j =
-      by-test (ltb j (length keys))
-      (λ t. let o = upTo-found a seed n most j (ltb-true j (length keys) t) in record { from = o .0; text = o .1; known = λ _. (o .2, o .3) })
-      (λ t. record { from = 0; text = []; known = λ b. absurd (omega (arith, ltb-false j (length keys) t)) })
+    record NumberingReply (j : ℕ) : Type 0 where
+      from : ℕ
+      text : List ℕ
+      known : j < length keys → (from < n) × Came j from text
 
-  pub in-order : Ordered a seed n keys
-  in-order = record {
-    from = λ j. told j .from;
-    text = λ j. told j .text;
-    origin = λ j b.
-        let o = told j .known b in
-        record {
-          below = o .0;
-          symbols = came-symbols (o .1);
-          leads = came-leads (o .1);
-          first-seed = λ p v c d e. ⊎-elim (λ z. omega arith) (λ z. omega (arith, z .0)) (first b (o .1) p v c d e);
-          first-text = λ v d e. ⊎-elim (λ z. absurd (omega arith)) (λ z. z .1) (first b (o .1) (told j .from) v (o .0) d e);
-        };
-    rises = λ i j h b. rises h b (told i .known (omega arith) .1) (told j .known b .1);
-  }
+    told : (j : ℕ) → NumberingReply j
+    told j =
+        by-test (ltb j (length keys))
+        (λ t. let o = upTo-found a seed n before j (ltb-true j (length keys) t) in record { from = o .0; text = o .1; known = λ _. (o .2, o .3) })
+        (λ t. record { from = 0; text = []; known = λ b. absurd (omega (arith, ltb-false j (length keys) t)) })
+
+    pub in-order : Ordered a seed n keys
+    in-order = record {
+      from = λ j. told j .from;
+      text = λ j. told j .text;
+      origin = λ j b.
+          let o = told j .known b in
+          record {
+            below = o .0;
+            symbols = came-symbols (o .1);
+            leads = came-leads (o .1);
+            first-seed = λ p v c d e. ⊎-elim (λ z. omega arith) (λ z. omega (arith, z .0)) (first sinks before b (omega arith) (o .1) p v c d e);
+            first-text = λ v d e.
+                ⊎-elim (λ z. absurd (omega arith)) (λ z. z .1)
+                (first sinks before b (omega arith) (o .1) (told j .from) v (o .0) d e);
+          };
+      rises = λ i j h b. rises h b (told i .known (omega arith) .1) (told j .known b .1);
+    }

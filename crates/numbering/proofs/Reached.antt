@@ -25,7 +25,7 @@ use Rattle.numbering.specs.Texts.{follow, Symbols, none, more}
 use Rattle.numbering.specs.Claims.{Reach, Distinct, Sinks}
 use Rattle.numbering.proofs.Texts.{follow-append, symbols-append, skipped-after}
 use Rattle.numbering.proofs.Numbers.{Has, number-at, stands, begins-number, number-taken, by-turn}
-use Rattle.numbering.proofs.Closure.{upTo-keeps, Covers, upTo-covers, upTo-seed}
+use Rattle.numbering.proofs.Closure.{upTo-keeps, Covers, settled-fits, upTo-covers, upTo-seed}
 use Rattle.numbering.proofs.Pigeonhole.{at-most}
 
 -- what holds of the members and of one more holds of the members of the longer list
@@ -92,7 +92,7 @@ module _ (a : Walk) (seed : ℕ → ℕ) (n : ℕ) where
   -- ---- 2
   module _ (most : length keys ≤ 512) where
     pub covered : (j s : ℕ) → j < length keys → s < a .k → Covers a keys (a .step (getD keys j 0) s)
-    covered j s b c = upTo-covers a seed n most j s (omega arith) b c
+    covered j s b c = upTo-covers a seed n (settled-fits a seed n most) j s (omega arith) (omega arith) b c
 
     pub cell : (i s : ℕ) → i < length keys → s < a .k
         → (a .skips (a .step (getD keys i 0) s) ≡ true → nextOf a keys i s ≡ 512)

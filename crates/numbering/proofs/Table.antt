@@ -108,9 +108,9 @@ module _ (a : Walk) (free : ℕ) where
       -- no cell is written for a key that is left out
       step-none : a .skips m ≡ true → ArraysHold a free l′ (i * 16 + min (s + 1) 16) keys′ next′
       step-none z =
-          let e : next′ ≡ next = st .next-are fits ∙ rw z in
+          let e : next′ ≡ next = st .next-are ∙ rw z in
           record {
-            keys-are = st .keys-are fits;
+            keys-are = st .keys-are;
             next-long = ap length e ∙ h .next-long;
             cells = λ f g.
                 step-cells next next′ f (begins-trans grows g)
@@ -126,9 +126,9 @@ module _ (a : Walk) (free : ℕ) where
       step-some ne =
           let b : s < 16 = column ne in
           let at : ℕ = i * 16 + s in
-          let e : next′ ≡ set next at (indexOf l′ m) = st .next-are fits ∙ rw ne in
+          let e : next′ ≡ set next at (indexOf l′ m) = st .next-are ∙ rw (ne, le-ltb 512 (length l′) fits) in
           record {
-            keys-are = st .keys-are fits;
+            keys-are = st .keys-are;
             next-long = ap length e ∙ length-set next at (indexOf l′ m) ∙ h .next-long;
             cells = λ f g.
                 step-cells next next′ f (begins-trans grows g)

@@ -2,7 +2,7 @@
 use mathlib.Core.Path.{_≡_, refl, sym, ap, _∙_}
 use mathlib.Core.Logic.{_⊎_, inl, inr, ⊎-elim}
 use mathlib.Core.Bool.{true}
-use mathlib.Core.List.{List, [], _∷_, _++_}
+use mathlib.Core.List.{List, [], _∷_, _++_, append-nil}
 use Prim.Native.Nat.{ℕ, suc, _+_, _<_}
 use native.Mathlib.Omega.{arith}
 use lib.ListN.{length, length-append}
@@ -70,3 +70,7 @@ no-later-snoc u v s p = ⊎-elim (λ e. inl (ap (λ (x : List ℕ). x ++ (s ∷ 
 pub empty-no-later : (v : List ℕ) → NoLater [] v
 empty-no-later [] = inl refl
 empty-no-later (s ∷ v) = inr (inl (omega arith))
+
+pub no-later-append : (v w : List ℕ) → NoLater v (v ++ w)
+no-later-append v [] = inl (sym (append-nil v))
+no-later-append v (s ∷ w) = inr (inl (rw length-append (omega arith)))

@@ -5,6 +5,7 @@
 --
 --   turn-whole                key i is expanded by the next symbol
 --   row-done, row-over        all its symbols are passed, or the 513th key turns up
+--   row-more                  the whole goes on from each turn
 --   grown-whole, grown-over   the ways out of the expansion
 --   grown-read                the keys are read off the array again
 --   begin                     nothing is numbered yet
@@ -52,7 +53,7 @@ module _ (a : Walk) (free : ℕ) where
         fits = whole-of after c (sym whole ∙ st .count)
 
         read : take c keys′ ≡ after
-        read = read-back after keys′ c (fits .0) (fits .1) (st .keys-are (fits .0))
+        read = read-back after keys′ c (fits .0) (fits .1) (st .keys-are)
 
         pub turn-whole : (c ≤ 512) × (i < c) × ArraysHold a free (take c keys′) (i * 16 + min (s + 1) 16) keys′ next′
             × (expanded a i s l ≡ expanded a i (s + 1) (take c keys′))
@@ -63,9 +64,6 @@ module _ (a : Walk) (free : ℕ) where
           step-expanded ∙ ap (expanded a i (s + 1)) (sym read),
         )
 
-      turn-over : r ≡ none → (w : List ℕ) → Begins (expanded a i s l) w → 512 < length w
-      turn-over over w b = omega (arith, over-of after (sym over ∙ st .count), begins-length (begins-trans step-begins b))
-
   -- ---- the turns of key i, which began with the keys l₀ and come to l at symbol s
   module _ (top i s : ℕ) (l₀ l : List ℕ) (first : i < length l₀) (left : i < top) (so-far : expanded a i 0 l₀ ≡ expanded a i s l) where
     row-rest : closeFrom a (top - i) i l₀ ≡ closeFrom a (top - (i + 1)) (i + 1) (expanded a i s l)
@@ -75,12 +73,16 @@ module _ (a : Walk) (free : ℕ) where
     pub row-done : a .k ≤ s → closeFrom a (top - i) i l₀ ≡ closeFrom a (top - (i + 1)) (i + 1) l
     row-done h = row-rest ∙ ap (closeFrom a (top - (i + 1)) (i + 1)) (symbols-end a (getD l i 0) s l h)
 
+    -- the whole goes on from each turn
+    pub row-more : i < length l → s < a .k → Begins (afterStep (a .step) (a .skips) l i s) (closeFrom a (top - i) i l₀)
+    row-more below symbol =
+        rw row-rest (begins-trans (step-begins l i s below symbol) (close-begins a (top - (i + 1)) (i + 1) (expanded a i s l)))
+
     -- the 513th key turns up
     pub row-over : i < length l → s < a .k → {r : Option ℕ} {keys′ next next′ : List ℕ} → Stepped (a .step) (a .skips) l i s r keys′ next next′ → r ≡ none
         → 512 < length (closeFrom a (top - i) i l₀)
     row-over below symbol st over =
-        rw row-rest
-        (turn-over l i s below symbol st over (closeFrom a (top - (i + 1)) (i + 1) (expanded a i s l)) (close-begins a (top - (i + 1)) (i + 1) (expanded a i s l)))
+        omega (arith, over-of (afterStep (a .step) (a .skips) l i s) (sym over ∙ st .count), begins-length (row-more below symbol))
 
   -- ---- the ways out
   pub grown-whole : (f keys next : List ℕ) (count : ℕ) → count ≤ 512 → f ≡ take count keys → ArraysHold a free (take count keys) (count * 16) keys next

@@ -7,14 +7,14 @@
 --   turnOf skips l m  the turn of the key m after the keys l: its number and how many keys there
 --                     are then; none where it is the 513th
 --   foundIn l m       the number of the key m among the keys l, or none
---   keyCells l        the keys l as an array
+--   keyCells l        the keys l as an array, the first 512 where there are more
 --   Entered           the key m had its turn
 --   Cleared           nothing is numbered
 --   Stepped           key i was expanded by the symbol s
 --   ArraysHold        the arrays hold the keys l and the table's cells before `upto`
 --   Grown             the numbered keys became f, and all of them are expanded
 use mathlib.Core.Path.{_≡_}
-use mathlib.Core.Bool.{Bool, cond, _&&_}
+use mathlib.Core.Bool.{Bool, cond, _&&_, _||_}
 use mathlib.Core.List.{List, []}
 use mathlib.Core.Option.{Option, none, some}
 use Prim.Native.Nat.{ℕ, _+_, _*_, _/_, _%_, _≤_, _<_}
@@ -39,7 +39,7 @@ turnOf skips l m = let f = numbered skips l m in cond (ltb mostSets (length f)) 
 
 pub record Entered (skips : ℕ → Bool) (l : List ℕ) (m : ℕ) (r : Option (ℕ × ℕ)) (keys : List ℕ) : Type 0 where
   pub number : r ≡ turnOf skips l m
-  pub keys-are : length (numbered skips l m) ≤ mostSets → keys ≡ keyCells (numbered skips l m)
+  pub keys-are : keys ≡ keyCells (numbered skips l m)
 
 pub record Cleared (free : ℕ) (keys next : List ℕ) : Type 0 where
   pub keys-are : keys ≡ keyCells []
@@ -52,11 +52,11 @@ module _ (step : ℕ → ℕ → ℕ) (skips : ℕ → Bool) (l : List ℕ) (i s
   abbrev pub afterStep : List ℕ
   afterStep = numbered skips l target
 
-  -- the cell of a key that is left out stays as it was
+  -- the cell of a key that is left out stays as it was, and so does that of the 513th key
   pub record Stepped (r : Option ℕ) (keys next₀ next : List ℕ) : Type 0 where
     pub count : r ≡ limited afterStep
-    pub keys-are : length afterStep ≤ mostSets → keys ≡ keyCells afterStep
-    pub next-are : length afterStep ≤ mostSets → next ≡ cond (skips target) next₀ (set next₀ (i * mostSymbols + s) (indexOf afterStep target))
+    pub keys-are : keys ≡ keyCells afterStep
+    pub next-are : next ≡ cond (skips target || ltb mostSets (length afterStep)) next₀ (set next₀ (i * mostSymbols + s) (indexOf afterStep target))
 
 module _ (a : Walk) (free : ℕ) where
   -- the number of the key m, or `free` where it is left out

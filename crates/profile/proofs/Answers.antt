@@ -1,7 +1,7 @@
 -- Which number building is refused with, and what a run answers, condition by condition. Assumes
 -- nothing.
 use mathlib.Core.Path.{_≡_, refl, sym, _∙_}
-use mathlib.Core.Logic.{_↔_, _⊎_, inl, inr, ⊎-elim}
+use mathlib.Core.Logic.{_↔_, _⊎_, inl, inr}
 use mathlib.Core.Bool.{Bool, true, false, cond}
 use mathlib.Core.List.{List}
 use mathlib.Core.Option.{Option, none, some}
@@ -16,7 +16,7 @@ use Rattle.base.proofs.Tests.{by-test}
 use Rattle.automaton.specs.declared.Rule.{Rule}
 use Rattle.automaton.specs.Rules.{WellFormed}
 use Rattle.rulecheck.specs.Checking.{ruleNumber}
-use Rattle.rulecheck.proofs.First.{checked-first, checked-then}
+use Rattle.rulecheck.proofs.First.{checked-first, checked-then, rule-small}
 use Rattle.rulecheck.proofs.Claims as check
 use Rattle.marks.specs.Marks.{textOf}
 use Rattle.chunks.specs.Chunks.{foreign}
@@ -59,20 +59,15 @@ module _ (r : Rule) where
   which : Which (buildNumber r)
   which = by-check (ruleNumber r) refl
 
-  low : (x : ℕ) → ruleNumber r ≡ some x → x ≤ 8
-  low x e =
-      ⊎-elim (λ z. omega arith) (⊎-elim (λ z. omega arith) (⊎-elim (λ z. omega arith) (λ z. omega arith)))
-      (check.claims .refused r .no-other x e)
-
   -- what a number says
   says-33 : {o : Option ℕ} → Which o → o ≡ some 33 → WellFormed r × (8 < r .n)
-  says-33 (unchecked x e) f = let z : x ≡ 33 = cc in absurd (omega (arith, low x e))
+  says-33 (unchecked x e) f = let z : x ≡ 33 = cc in absurd (omega (arith, rule-small r x e))
   says-33 (checked o good (too-big b)) f = (good, ltb-true 8 (r .n) b)
   says-33 (checked o good (too-many b m)) f = let z : _≡_ {A = ℕ} 34 33 = cc in absurd (omega arith)
   says-33 (checked o good (fits b m)) f = none-some refl f
 
   says-34 : {o : Option ℕ} → Which o → o ≡ some 34 → Small r × (512 < length (keysOf r))
-  says-34 (unchecked x e) f = let z : x ≡ 34 = cc in absurd (omega (arith, low x e))
+  says-34 (unchecked x e) f = let z : x ≡ 34 = cc in absurd (omega (arith, rule-small r x e))
   says-34 (checked o good (too-big b)) f = let z : _≡_ {A = ℕ} 33 34 = cc in absurd (omega arith)
   says-34 (checked o good (too-many b m)) f = (record { good = good; states = ltb-false 8 (r .n) b }, ltb-true 512 (length (keysOf r)) m)
   says-34 (checked o good (fits b m)) f = none-some refl f
@@ -90,7 +85,7 @@ module _ (r : Rule) where
   says-checked x l (checked o good (fits b m)) f = none-some refl f
 
   one-of : {o : Option ℕ} (x : ℕ) → Which o → o ≡ some x → (x ≤ 8) ⊎ (x ≡ 33) ⊎ (x ≡ 34)
-  one-of x (unchecked y e) f = let z : y ≡ x = cc in inl (omega (arith, low y e))
+  one-of x (unchecked y e) f = let z : y ≡ x = cc in inl (omega (arith, rule-small r y e))
   one-of x (checked o good (too-big b)) f = inr (inl cc)
   one-of x (checked o good (too-many b m)) f = inr (inr cc)
   one-of x (checked o good (fits b m)) f = none-some refl f

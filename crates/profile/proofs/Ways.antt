@@ -15,8 +15,6 @@ use native.Mathlib.Omega.{arith}
 use lib.ListN.{length, getD, drop, drop-of-length-le}
 use lib.Seq.{drop-cons}
 use borrow.Author.Tests.{lt-ltb, le-ltb}
-use Rattle.base.proofs.Options.{none-some}
-use Rattle.base.proofs.Tests.{by-test}
 use Rattle.automaton.specs.declared.Rule.{Rule}
 use Rattle.rulecheck.specs.Checking.{ruleNumber}
 use Rattle.rulecheck.proofs.First.{checked-first, checked-then}
@@ -26,12 +24,15 @@ use Rattle.chunks.specs.Chunks.{foreign}
 use Rattle.chunks.specs.Taking.{chunkNumber}
 use Rattle.chunks.proofs.Claims as chunks
 use Rattle.mappings.specs.Mappings.{identity}
-use Rattle.mappings.specs.Packing.{pack, unpack}
+use Rattle.numbering.specs.Arrays.{limited}
+use Rattle.numbering.proofs.Arrays.{whole-of, over-of}
+use Rattle.mappings.specs.Packing.{pack, unpack, mappingWalk}
 use Rattle.mappings.specs.Claims.{Small, keysOf}
 use Rattle.keys.specs.declared.KeyTable.{KeyTable}
 use Rattle.keys.specs.declared.Kind.the-variants.{Mappings}
 use Rattle.keys.specs.declared.Numbering.the-variants.{Whole, Over}
-use Rattle.keys.specs.Tables.{countMeans, Table, tableOutcome, tableOf, noTable}
+use Rattle.keys.specs.Tables.{countMeans, Table, tableOutcome, tableFor, tableBy, tableOf}
+use Rattle.keys.proofs.Tables.{one-whole}
 use Rattle.profile.specs.declared.Profile.{Profile}
 use Rattle.profile.specs.Profiles.{manyMappings, ownConditions, buildNumber, accepted, Building, profileOf, refusedBuild, buildBy, buildOf}
 use Rattle.profile.specs.Runs.{walkTo, mappingIn, Ran, refusedRun, runOf, Lends}
@@ -57,27 +58,18 @@ module _ (r : Rule) (o : Building) where
     abbrev table : Table
     table = tableOf Mappings (r .targets) (r .k) (pack (identity (r .n)))
 
-    abbrev whole : Table
-    whole = record { count = some (length (keysOf r)); keys = profileOf r .mappings; next = profileOf r .next }
-
-    table-is : table ≡ cond (manyMappings r) noTable whole
-    unfolding tableOf
+    table-is : table ≡ tableFor (mappingWalk (r .targets) (r .k)) (keysOf r)
+    unfolding tableBy
     table-is = let e : min (r .k) 16 ≡ r .k = omega (arith, small .good .symbols) in rw e
 
     module _ (t : KeyTable) (are : tableOutcome t ≡ table) where
-      few : manyMappings r ≡ false → tableOutcome t ≡ whole
-      few m = are ∙ table-is ∙ rw m
-
-      many : manyMappings r ≡ true → tableOutcome t ≡ noTable
-      many m = are ∙ table-is ∙ rw m
+      counted : countMeans (t .answer) ≡ limited (keysOf r)
+      counted = ap (λ (x : Table). x .count) (are ∙ table-is)
 
       pub build-34 : t .answer ≡ Over → o ≡ refusedBuild 34 → o ≡ buildOf r
       build-34 e is =
-          by-number 34
-          (number-is
-          ∙ by-test (manyMappings r) (λ m. rw m)
-          (λ m. none-some (ap countMeans e) (ap (λ (x : Table). x .count) (few m))))
-          is
+          let many = over-of (keysOf r) (sym (ap countMeans e) ∙ counted) in
+          by-number 34 (number-is ∙ rw (lt-ltb 512 (length (keysOf r)) many)) is
 
       pub build-whole : (c : ℕ) → t .answer ≡ Whole c
           → o ≡ record {
@@ -94,13 +86,12 @@ module _ (r : Rule) (o : Building) where
           }
           → o ≡ buildOf r
       build-whole c e is =
-          by-test (manyMappings r)
-          (λ m. none-some (ap (λ (x : Table). x .count) (many m)) (ap countMeans e))
-          (λ m.
-          let n : c ≡ length (keysOf r) = let f : some c ≡ some (length (keysOf r)) = sym (ap countMeans e) ∙ ap (λ (x : Table). x .count) (few m) in cc in
-          let keys : t .keys ≡ profileOf r .mappings = ap (λ (x : Table). x .keys) (few m) in
-          let next : t .next ≡ profileOf r .next = ap (λ (x : Table). x .next) (few m) in
-          is ∙ rw (number-is, m, n, keys, next))
+          let x = whole-of (keysOf r) c (sym (ap countMeans e) ∙ counted) in
+          let keys : t .keys ≡ profileOf r .mappings = ap (λ (y : Table). y .keys) (are ∙ table-is) in
+          let next : t .next ≡ profileOf r .next =
+          ap (λ (y : Table). y .next) (are ∙ table-is)
+          ∙ one-whole Mappings (r .targets) (r .targets) (r .k) (pack (identity (r .n))) (x .0) in
+          is ∙ rw (number-is, le-ltb 512 (length (keysOf r)) (x .0), x .1, keys, next)
 
 -- ---- running
 module _ (p : Profile) (w : List ℕ) (o : Ran) where

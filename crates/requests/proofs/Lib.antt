@@ -1,5 +1,4 @@
--- A page for each request, and one each for what came later: where a trace is lost, a trace in order,
--- and chunks on many machines.
+-- A page for each request that brought functions of its own, and for each capability beyond the papers.
 pub mod MappingFunctions
 pub mod Mappings
 pub mod Samples
@@ -15,3 +14,4 @@ pub mod FollowFunctions
 pub mod Following
 pub mod SummaryFunctions
 pub mod Summaries
+pub mod Comparing

@@ -10,3 +10,4 @@ pub mod FaultFunctions
 pub mod LossFunctions
 pub mod FollowFunctions
 pub mod SummaryFunctions
+pub mod CompareFunction

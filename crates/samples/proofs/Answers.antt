@@ -1,81 +1,39 @@
 -- The answer is the one that is due, and no other is. Assumes nothing.
 use mathlib.Core.Path.{_≡_, refl, sym, ap, _∙_, subst}
-use mathlib.Core.Logic.{_↔_, _⊎_, inl, inr, ⊎-elim}
-use mathlib.Core.List.{List, []}
+use mathlib.Core.Logic.{_↔_, inl, inr, ⊎-elim}
+use mathlib.Core.List.{List}
 use mathlib.Core.Option.{Option, none, some}
 use Prim.Native.Nat.{ℕ, _≤_, _<_}
 use native.Mathlib.Omega.{arith}
 use lib.Dec.{ltb}
-use lib.ListN.{length, getD}
+use lib.ListN.{length}
 use borrow.Author.Tests.{lt-ltb, ltb-true, ltb-false}
-use Rattle.base.specs.Lists.{listFrom}
-use Rattle.base.proofs.Lists.{length-listFrom, cell-of}
 use Rattle.base.proofs.Options.{none-some}
 use Rattle.base.proofs.Tests.{zero-one, by-test}
 use Rattle.automaton.specs.declared.Rule.{Rule}
-use Rattle.automaton.specs.Automaton.{Text}
 use Rattle.automaton.specs.Rules.{WellFormed}
 use Rattle.rulecheck.specs.Checking.{ruleNumber}
-use Rattle.rulecheck.proofs.First.{checked-first, checked-then}
+use Rattle.rulecheck.proofs.First.{checked-first, checked-then, rule-small}
 use Rattle.rulecheck.proofs.Claims as check
-use Rattle.numbering.specs.Claims.{Reach}
-use Rattle.numbering.proofs.Claims as numbering
-use Rattle.mappings.proofs.Numbered.{text-of}
+use Rattle.searches.specs.Search.{wordTo}
+use Rattle.searches.proofs.Order.{one-text}
+use Rattle.searches.proofs.Firsts.{where-meets, where-before}
 use Rattle.samples.specs.declared.Wish.{Wish}
-use Rattle.samples.specs.Samples.{setAfter, ManySets, Searched, Sample, text, nothing, refused, Due}
+use Rattle.samples.specs.Samples.{ManySets, Searched, Sample, text, nothing, refused, Due}
 use Rattle.samples.specs.Values.{Outcome, Carries, outcomeOf, sampleIn}
 use Rattle.samples.specs.Claims.{Refused-exactly}
-use Rattle.samples.specs.Search.{setWalk, reachedSets, reachedTable, manySets, ownConditions, searchNumber, meets, wordTo, foundFirst, sampleBy, sampleOf}
-use Rattle.samples.proofs.Order.{one-text}
+use Rattle.samples.specs.Search.{reachedSets, reachedTable, manySets, ownConditions, searchNumber, meets, foundFirst, sampleBy, sampleOf}
 use Rattle.samples.proofs.Values.{outcome-tells, outcome-carries, carries-one}
-use Rattle.samples.proofs.Firsts.{where-meets, where-before}
-use Rattle.samples.proofs.Wishes.{follow-after, reach, first-text, no-text, short-text}
+use Rattle.samples.proofs.Wishes.{many, first-text, no-text, short-text}
 
 module _ (r : Rule) where
   abbrev count : ℕ
   count = length (reachedSets r)
 
-  -- ---- more than 512 sets
-  -- a text for each number
-  record Chosen (i : ℕ) : Type 0 where
-    word : List ℕ
-    known : i < count → Text (r .k) word × (setAfter r word ≡ getD (reachedSets r) i 0)
-
-  chosen : (i : ℕ) → Chosen i
-  chosen i =
-      by-test (ltb i count)
-      (λ t.
-      let h = numbering.claims .sound (setWalk r) (λ _. r .initials) 1 i (ltb-true i count t) in
-      record { word = h .text; known = λ _. (text-of (h .symbols), sym (follow-after r (r .initials) (h .text)) ∙ h .leads) })
-      (λ t. record { word = []; known = λ b. absurd (omega (arith, ltb-false i count t)) })
-
-  pub many : (512 < count) ↔ ManySets r
-  many = (
-    (λ h.
-        record {
-          text = λ i. chosen i .word;
-          symbols = λ i b. chosen i .known (omega arith) .0;
-          distinct = λ i j b c e.
-              numbering.claims .once (setWalk r) (λ _. r .initials) 1 i j (omega arith) (omega arith)
-              (sym (chosen i .known (omega arith) .1) ∙ e ∙ chosen j .known (omega arith) .1);
-        }),
-    λ t.
-        let f : ℕ → ℕ = λ i. setAfter r (t .text i) in
-        let n : length (listFrom 0 513 f) ≡ 513 = length-listFrom 0 513 f in
-        numbering.claims .over (setWalk r) (λ _. r .initials) 1 (λ _ _ _ e. e) .1 (
-          listFrom 0 513 f,
-          n,
-          (λ i j b c e.
-              t .distinct i j (omega (arith, n)) (omega (arith, n))
-              (sym (cell-of 513 f i 0 (omega (arith, n))) ∙ e ∙ cell-of 513 f j 0 (omega (arith, n)))),
-          λ i b. subst (Reach (setWalk r) (λ _. r .initials) 1) (sym (cell-of 513 f i 0 b)) (reach r (t .text i) (t .symbols i b)),
-        ),
-  )
-
   -- ---- the numbers
   number-many : ruleNumber r ≡ none → ManySets r → searchNumber r ≡ some 35
   unfolding searchNumber
-  number-many e h = checked-then r (ownConditions r) e ∙ rw (lt-ltb 512 count (many .1 h))
+  number-many e h = checked-then r (ownConditions r) e ∙ rw (lt-ltb 512 count (many r .1 h))
 
   module _ (wish : Wish) where
     by-number : (o : Option ℕ) → searchNumber r ≡ o → sampleOf r wish ≡ sampleBy o r wish
@@ -88,7 +46,7 @@ module _ (r : Rule) where
       good = check.claims .passes r .0 passed
 
       searched : Searched r
-      searched = (passed, λ h. let z = many .1 h in omega arith)
+      searched = (passed, λ h. let z = many r .1 h in omega arith)
 
       found : ℕ
       found = foundFirst r wish
@@ -137,7 +95,7 @@ module _ (r : Rule) where
 
     way-due : {a : Sample} → Way a → Due r wish a
     way-due (unchecked x e) = inl e
-    way-due (too-many e b) = inr (e, many .0 b, refl)
+    way-due (too-many e b) = inr (e, many r .0 b, refl)
     way-due (within e most h) = search-due e most h
 
     way-short : {a : Sample} → Way a → (w : List ℕ) → a ≡ text w → length w ≤ 511
@@ -175,11 +133,6 @@ module _ (r : Rule) where
     )
 
     -- ---- number by number
-    low : (x : ℕ) → ruleNumber r ≡ some x → x ≤ 8
-    low x e =
-        ⊎-elim (λ z. omega arith) (⊎-elim (λ z. omega arith) (⊎-elim (λ z. omega arith) (λ z. omega arith)))
-        (check.claims .refused r .no-other x e)
-
     pub numbers : Refused-exactly r wish
     numbers = record {
       checked = λ x b. (
@@ -187,10 +140,10 @@ module _ (r : Rule) where
         λ e. exactly (refused x) .1 (inl e),
       );
       number-35 = (
-        (λ e. ⊎-elim (λ h. absurd (omega (arith, low 35 h))) (λ h. (check.claims .passes r .0 (h .0), h .1)) (exactly (refused 35) .0 e)),
+        (λ e. ⊎-elim (λ h. absurd (omega (arith, rule-small r 35 h))) (λ h. (check.claims .passes r .0 (h .0), h .1)) (exactly (refused 35) .0 e)),
         λ h. exactly (refused 35) .1 (inr (check.claims .passes r .1 (h .0), h .1, refl)),
       );
-      no-other = λ x e. ⊎-elim (λ h. inl (low x h)) (λ h. inr (h .2)) (exactly (refused x) .0 e);
+      no-other = λ x e. ⊎-elim (λ h. inl (rule-small r x h)) (λ h. inr (h .2)) (exactly (refused x) .0 e);
     }
 
     -- ---- by value

@@ -1,7 +1,4 @@
 -- In the order in which they build on each other.
-pub mod Order
-pub mod WayBack
-pub mod Firsts
 pub mod Wishes
 pub mod Values
 pub mod Answers

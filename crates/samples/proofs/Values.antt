@@ -1,38 +1,16 @@
 -- An answer by value: the value carries it and tells it, and no other value carries it. Assumes nothing.
 use mathlib.Core.Path.{_≡_, refl, sym, ap, _∙_}
 use mathlib.Core.List.{List, []}
-use Prim.Native.Nat.{ℕ, _≤_, _<_}
+use Prim.Native.Nat.{ℕ, _≤_}
 use native.Mathlib.Omega.{arith}
-use lib.Dec.{ltb}
-use lib.ListN.{length, getD, take, replicate, List·getD-eq-default}
-use lib.Seq.{ext-getD, getD-take, length-take-le}
-use borrow.Author.Tests.{ltb-true, ltb-false}
-use Rattle.base.proofs.Lists.{length-listFrom, cell-of, is-listFrom, zero-cells}
-use Rattle.base.proofs.Tests.{by-test}
+use lib.ListN.{length}
+use Rattle.base.proofs.Lists.{zero-cells}
+use Rattle.searches.proofs.Texts.{size, front, after, read, cells-are, no-cells}
 use Rattle.samples.specs.Samples.{Sample, text, nothing, refused}
-use Rattle.samples.specs.Values.{textCells, Reply, Outcome, wordOf, Carries, outcomeOf, sampleIn}
+use Rattle.samples.specs.Values.{Reply, Outcome, wordOf, Carries, outcomeOf, sampleIn}
 
 abbrev Short : Sample → Type 0
 Short a = (w : List ℕ) → a ≡ text w → length w ≤ 511
-
--- ---- a text as an array
-module _ (w : List ℕ) (short : length w ≤ 511) where
-  size : length (textCells w) ≡ 511
-  size = length-listFrom 0 511 (λ c. getD w c 0)
-
-  front : (c : ℕ) → c < length w → getD (textCells w) c 0 ≡ getD w c 0
-  front c b = cell-of 511 (λ x. getD w x 0) c 0 (omega arith)
-
-  after : (c : ℕ) → length w ≤ c → getD (textCells w) c 0 ≡ 0
-  after c h =
-      by-test (ltb c 511)
-      (λ t. cell-of 511 (λ x. getD w x 0) c 0 (ltb-true c 511 t) ∙ List·getD-eq-default w 0 {n = c} h)
-      (λ t. List·getD-eq-default (textCells w) 0 {n = c} (omega (arith, size, ltb-false c 511 t)))
-
-  read : take (length w) (textCells w) ≡ w
-  read =
-      let n : length (take (length w) (textCells w)) ≡ length w = length-take-le (length w) (textCells w) (omega (arith, size)) in
-      ext-getD 0 (take (length w) (textCells w)) w n (λ i c. getD-take (length w) (textCells w) i 0 (omega arith) ∙ front i (omega arith))
 
 pub outcome-tells : (a : Sample) → Short a → sampleIn (outcomeOf a) ≡ a
 outcome-tells (text w) h = ap text (read w (h w refl))
@@ -51,21 +29,7 @@ made-of : (p : Reply) (n : ℕ) (cells : List ℕ) (o : Outcome) → o .reply �
     → o ≡ record { reply = p; length = n; text = cells }
 made-of p n cells o a b c = rw (← a, ← b, ← c)
 
-module _ (a : Sample) (o : Outcome) (h : Carries a o) where
-  cells-are : o .text ≡ textCells (wordOf a)
-  cells-are =
-      is-listFrom (o .text) 511 (λ c. getD (wordOf a) c 0) (h .size)
-      (λ c _.
-      by-test (ltb c (length (wordOf a)))
-      (λ t. h .front c (ltb-true c (length (wordOf a)) t))
-      (λ t.
-      let b = ltb-false c (length (wordOf a)) t in
-      h .zeros c b ∙ sym (List·getD-eq-default (wordOf a) 0 {n = c} b)))
-
-no-cells : replicate 511 0 ≡ textCells []
-no-cells = is-listFrom (replicate 511 0) 511 (λ c. getD [] c 0) refl (λ c _. zero-cells 511 c)
-
 pub carries-one : (a : Sample) (o : Outcome) → Carries a o → o ≡ outcomeOf a
-carries-one (text w) o h = made-of _ _ _ o (h .reply) (h .length) (cells-are (text w) o h)
-carries-one nothing o h = made-of _ _ _ o (h .reply) (h .length) (cells-are nothing o h ∙ sym no-cells)
-carries-one (refused x) o h = made-of _ _ _ o (h .reply) (h .length) (cells-are (refused x) o h ∙ sym no-cells)
+carries-one (text w) o h = made-of _ _ _ o (h .reply) (h .length) (cells-are (wordOf (text w)) (o .text) (h .size) (h .front) (h .zeros))
+carries-one nothing o h = made-of _ _ _ o (h .reply) (h .length) (cells-are [] (o .text) (h .size) (h .front) (h .zeros) ∙ sym no-cells)
+carries-one (refused x) o h = made-of _ _ _ o (h .reply) (h .length) (cells-are (wordOf (refused x)) (o .text) (h .size) (h .front) (h .zeros) ∙ sym no-cells)

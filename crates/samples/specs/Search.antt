@@ -8,25 +8,23 @@
 --   manySets r           there are more than 512
 --   searchNumber r       the number with which the rule is refused: of a checked rule, then 35
 --   meets finals wish m  the set m has a final state, or none
---   firstWhere t l       the place of the first member of l with t; the list's length if none has
---   firstCell cells j    the first cell of the table that holds j
---   wordTo cells j       the symbols of the first cells on the way back from j to 0, the last first
 --   sampleOf r wish      the answer
 use mathlib.Core.Bool.{Bool, cond, not}
 use mathlib.Core.List.{List, [], _∷_, _++_}
 use mathlib.Core.Option.{Option, none, some}
-use Prim.Native.Nat.{ℕ, zero, suc, _/_, _%_}
-use lib.Dec.{eqb, ltb}
+use Prim.Native.Nat.{ℕ}
+use lib.Dec.{ltb}
 use lib.ListN.{length}
-use Rattle.limits.specs.Limits.{mostSymbols, mostSets}
+use Rattle.limits.specs.Limits.{mostSets}
 use Rattle.base.specs.Conditions.{Condition, on, firstOf}
 use Rattle.masks.specs.Masks.{shares}
 use Rattle.automaton.specs.declared.Rule.{Rule}
 use Rattle.rulecheck.specs.Checking.{ruleConditions}
-use Rattle.numbering.specs.Numbering.{Walk, indexOf, keysUpTo}
+use Rattle.numbering.specs.Numbering.{Walk, keysUpTo}
 use Rattle.keys.specs.declared.Kind.the-variants.{Sets}
 use Rattle.keys.specs.Kinds.{walkOf}
-use Rattle.keys.specs.Tables.{cellsOf}
+use Rattle.keys.specs.Tables.{cellsTo}
+use Rattle.searches.specs.Search.{firstWhere, wordTo}
 use Rattle.samples.specs.declared.Wish.{Wish}
 use Rattle.samples.specs.declared.Wish.the-variants.{Accepted, Rejected}
 use Rattle.samples.specs.Samples.{Sample, text, nothing, refused}
@@ -38,7 +36,7 @@ abbrev pub reachedSets : Rule → List ℕ
 reachedSets r = keysUpTo (setWalk r) (λ _. r .initials) 1
 
 abbrev pub reachedTable : Rule → List ℕ
-reachedTable r = cellsOf (setWalk r) (reachedSets r)
+reachedTable r = cellsTo (setWalk r) (reachedSets r)
 
 -- ---- refusals
 abbrev pub manySets : Rule → Bool
@@ -54,24 +52,6 @@ searchNumber r = firstOf (ruleConditions r ++ ownConditions r)
 abbrev pub meets : ℕ → Wish → ℕ → Bool
 meets finals Accepted m = shares m finals
 meets finals Rejected m = not (shares m finals)
-
-unfoldable pub firstWhere : (ℕ → Bool) → List ℕ → ℕ
-firstWhere t [] = 0
-firstWhere t (x ∷ l) = cond (t x) 0 (suc (firstWhere t l))
-
--- ---- the way back
-abbrev pub firstCell : List ℕ → ℕ → ℕ
-firstCell cells j = indexOf cells j
-
--- for at most `left` sets: each has a lower number than the one before, so j are enough
-unfoldable pub wordBack : List ℕ → ℕ → ℕ → List ℕ
-wordBack cells zero j = []
-wordBack cells (suc left) j =
-    let c = firstCell cells j in
-    cond (eqb j 0) [] (wordBack cells left (c / mostSymbols) ++ ((c % mostSymbols) ∷ []))
-
-abbrev pub wordTo : List ℕ → ℕ → List ℕ
-wordTo cells j = wordBack cells j j
 
 -- ---- the answer
 abbrev pub foundFirst : Rule → Wish → ℕ

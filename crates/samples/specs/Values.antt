@@ -1,7 +1,6 @@
 -- How an answer is carried by value.
 --
 --   longestSample        the most symbols of a sample
---   textCells w          the text w as an array, with zeros after it
 --   Reply, answerMeans   which of the three answers it is, and what each case of the code's says
 --   Outcome              the answer, the length of the text and the text; and what the code's
 --   sampleOutcome        result stands for
@@ -12,11 +11,10 @@
 --   sampleIn o           the answer that a value tells
 use mathlib.Core.Path.{_≡_}
 use mathlib.Core.List.{List, []}
-use Prim.Native.Nat.{ℕ, _-_, _≤_, _<_}
+use Prim.Native.Nat.{ℕ, _≤_, _<_}
 use lib.ListN as ListN
 use lib.ListN.{getD, take, replicate}
-use Rattle.limits.specs.Limits.{mostSets}
-use Rattle.base.specs.Lists.{listFrom}
+use Rattle.searches.specs.Texts.{longestText, textCells}
 use Rattle.samples.specs.declared.SampleAnswer.{SampleAnswer}
 use Rattle.samples.specs.declared.SampleAnswer.the-variants.{Text, Nothing, Refused}
 use Rattle.samples.specs.declared.SampleResult.{SampleResult}
@@ -24,10 +22,7 @@ use Rattle.samples.specs.Samples as sample
 use Rattle.samples.specs.Samples.{Sample}
 
 abbrev pub longestSample : ℕ
-longestSample = mostSets - 1
-
-abbrev pub textCells : List ℕ → List ℕ
-textCells w = listFrom 0 longestSample (λ c. getD w c 0)
+longestSample = longestText
 
 pub data Reply : Type 0 where
   found : Reply

@@ -1,9 +1,8 @@
 // A sample trace of a rule: the wishes, and what asking for one answers. What the answer is, and
 // that the words of the request fix it, is in specs/; crates/sampling has the function.
 
-// The most symbols of a sample. At most 512 sets are searched, and each that the way to the last
-// one passes is a symbol further.
-pub const LONGEST: usize = limits::SETS - 1;
+// The most symbols of a sample.
+pub const LONGEST: usize = searches::LONGEST;
 
 // What the text is to be.
 pub enum Wish {

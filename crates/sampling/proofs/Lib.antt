@@ -1,4 +1,1 @@
--- In the order in which they build on each other.
-pub mod Cells
-pub mod Back
 pub mod Ways

@@ -1,13 +1,12 @@
 // The sample trace of a rule: the first text that it accepts, or the first that it rejects.
 ghost use mathlib.Core.Path.{_≡_};
-ghost use Prim.Native.Nat.{_≤_, _<_};
-ghost use lib.ListN.{length, take, drop};
-ghost use Rattle.limits.specs.Limits.{mostSymbols, mostSets};
+ghost use Prim.Native.Nat.{_≤_};
+ghost use lib.ListN.{take};
+ghost use Rattle.limits.specs.Limits.{mostSets};
 ghost use Rattle.automaton.specs.Rules.{WellFormed};
-ghost use Rattle.samples.specs.Samples.{text as textOf};
-ghost use Rattle.samples.specs.Values.{longestSample, answerMeans, noText, sampleOutcome, outcomeOf};
-ghost use Rattle.samples.specs.Search.{meets as meetsOf, firstWhere, firstCell, wordTo, sampleOf};
-ghost use Rattle.sampling.specs.Tables.{Tabled, FirstIn};
+ghost use Rattle.searches.specs.Search.{firstWhere};
+ghost use Rattle.samples.specs.Values.{answerMeans, noText, sampleOutcome, outcomeOf};
+ghost use Rattle.samples.specs.Search.{meets as meetsOf, sampleOf};
 use automaton::Rule;
 use keys::KeyNumber;
 use keys::Kind;
@@ -16,12 +15,6 @@ use rulecheck::CheckAnswer;
 use samples::SampleAnswer;
 use samples::SampleResult;
 use samples::Wish;
-
-// A text at the end of an array, where the way back leaves it.
-struct Ending {
-    from: usize,
-    text: [u8; samples::LONGEST],
-}
 
 // Whether a text that leads to the set is wished.
 fn meets(finals: u32, wish: Wish, set: u64) -> bool
@@ -49,75 +42,6 @@ fn first_meeting(sets: &[u64; limits::SETS], count: usize, finals: u32, wish: Wi
     i
 }
 
-// The first of k symbols by which a set leads to another; k where none does.
-fn first_symbol(next: &[u16; limits::CELLS], from: KeyNumber, k: usize, to: KeyNumber) -> usize
-    requires { ⌜ (from .0 < mostSets) × (k ≤ mostSymbols) ⌝ }
-    ensures { λ r. ⌜ FirstIn (now (next .entry)) (from .0) k (to .0) r ⌝ }
-{
-    let row = from.0 as usize;
-    let mut s: usize = 0;
-    while s < k {
-        if next[row * limits::SYMBOLS + s] == to.0 {
-            return s;
-        }
-        s += 1;
-    }
-    s
-}
-
-// The first cell of the table that holds the number, which is that of a set found from another. It
-// was found from a lower one, so the rows of these are enough.
-fn first_cell(next: &[u16; limits::CELLS], k: usize, number: KeyNumber) -> usize
-    requires { ⌜ (0 < number .0) × Tabled (now next) k (number .0) ⌝ }
-    ensures { λ r. ⌜ r ≡ firstCell (now (next .entry)) (number .0) ⌝ }
-{
-    let rows = number.0;
-    let mut row: u16 = 0;
-    while row < rows {
-        let symbol = first_symbol(next, KeyNumber(row), k, number);
-        if symbol < k {
-            return row as usize * limits::SYMBOLS + symbol;
-        }
-        row += 1;
-    }
-    limits::CELLS
-}
-
-// The text on the way back from the number to 0.
-fn walk_back(next: &[u16; limits::CELLS], k: usize, number: KeyNumber) -> Ending
-    requires { ⌜ Tabled (now next) k (number .0) ⌝ }
-    ensures { λ r. ⌜ (r .from ≤ longestSample) × (length (r .text) ≡ longestSample) × (drop (r .from) (r .text) ≡ wordTo (now (next .entry)) (number .0)) ⌝ }
-{
-    let mut text = [0u8; samples::LONGEST];
-    let mut from: usize = samples::LONGEST;
-    let mut at = number.0;
-    while at != 0 {
-        let cell = first_cell(next, k, KeyNumber(at));
-        from -= 1;
-        text[from] = (cell % limits::SYMBOLS) as u8;
-        at = (cell / limits::SYMBOLS) as u16;
-    }
-    Ending { from, text }
-}
-
-// A text is the answer.
-fn give_text(word: &[u8]) -> SampleResult
-    requires { ⌜ length (now word) ≤ longestSample ⌝ }
-    ensures { λ r. ⌜ sampleOutcome r ≡ outcomeOf (textOf (now (word .entry))) ⌝ }
-{
-    let mut text = [0u8; samples::LONGEST];
-    let mut c: usize = 0;
-    while c < word.len() {
-        text[c] = word[c];
-        c += 1;
-    }
-    SampleResult {
-        answer: SampleAnswer::Text,
-        length: c,
-        text,
-    }
-}
-
 // An answer without a text.
 fn give_none(answer: SampleAnswer) -> SampleResult
     ensures { λ r. ⌜ sampleOutcome r ≡ noText (answerMeans answer) ⌝ }
@@ -128,17 +52,6 @@ fn give_none(answer: SampleAnswer) -> SampleResult
         length: 0,
         text,
     }
-}
-
-// The text on the way back from the number is the answer.
-fn spell(next: &[u16; limits::CELLS], k: usize, number: KeyNumber) -> SampleResult
-    requires { ⌜ Tabled (now next) k (number .0) ⌝ }
-    ensures { λ r. ⌜ sampleOutcome r ≡ outcomeOf (textOf (wordTo (now (next .entry)) (number .0))) ⌝ }
-{
-    let back = walk_back(next, k, number);
-    let text = back.text;
-    let from = back.from;
-    give_text(&text[from..])
 }
 
 // The search, for a rule that passes the check.
@@ -157,7 +70,13 @@ fn search_sets(rule: Rule, wish: Wish) -> SampleResult
             if first < count {
                 let next = table.next;
                 let number = first as u16;
-                return spell(&next, k as usize, KeyNumber(number));
+                let spelled = searches::spell(&next, k as usize, KeyNumber(number));
+                let text = spelled.text;
+                return SampleResult {
+                    answer: SampleAnswer::Text,
+                    length: spelled.length,
+                    text,
+                };
             }
             give_none(SampleAnswer::Nothing)
         }

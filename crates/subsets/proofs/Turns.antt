@@ -51,7 +51,7 @@ module _ (ts : List ℕ) (k : ℕ) where
       a = arrays.entered-as isEmpty before m (j .0) c (sym (ap (λ (x : Numbered). turnTold (turnMeans x)) known) ∙ entered .number)
 
       read-state : take c sets′ ≡ numbered before m
-      read-state = arrays.read-back (numbered before m) sets′ c (a .0) (a .2) (entered .keys-are (a .0))
+      read-state = arrays.read-back (numbered before m) sets′ c (a .0) (a .2) (entered .keys-are)
 
       pub state-asked : (c ≤ 512) × (count ≤ c) × ArraysHold ts k (take c sets′) (count * 16) sets′ next
       state-asked =
@@ -59,7 +59,7 @@ module _ (ts : List ℕ) (k : ℕ) where
           let n = before-is in (
             omega (arith, a),
             omega (arith, a),
-            rw read-state (holds-more (setWalk ts k) 512 h (numbered before m) sets′ (numbered-begins isEmpty before m) (entered .keys-are (a .0))),
+            rw read-state (holds-more (setWalk ts k) 512 h (numbered before m) sets′ (numbered-begins isEmpty before m) (entered .keys-are)),
           )
 
       pub state-grown : (r₂ : Numbering) (sets₂ next₂ : List ℕ) → Grown ts k (closedFrom ts k count (take c sets′)) r₂ sets₂ next₂

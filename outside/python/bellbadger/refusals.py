@@ -35,6 +35,7 @@ _REASONS = {
     42: "the summary is broken, or does not begin with chunk 0",
     43: "the summary is by another rule",
     44: "the summary does not end with the last chunk, or there is none",
+    45: "within 512 pairs of sets the rules do not differ, and there are more",
 }
 
 

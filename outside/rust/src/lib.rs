@@ -35,6 +35,9 @@
 //! [`texts::make_text`] makes test texts. For a smaller table on a nozzle board there is the failure form
 //! ([`form::form`]).
 //!
+//! Whether a changed rule still means the same, and if not the first text on which the two differ, is told
+//! by [`compare::compare`].
+//!
 //! Where a trace went wrong is told before all chunks are there: the place ([`Judge::diagnose`]) and the
 //! byte ([`Judge::locate`]).
 //!
@@ -59,6 +62,7 @@
 //!
 //! No call keeps anything outside its judge. A judge goes by value within the library: a thread that
 //! calls it should have a stack of 1 MB (Rust's own threads have 2 MB).
+pub mod compare;
 pub mod follow;
 pub mod form;
 pub mod losses;

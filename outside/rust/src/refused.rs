@@ -19,7 +19,7 @@ impl Refused {
         Refused(number)
     }
 
-    /// Why: 1 to 13 and 30 to 44 for what is wrong with the input, 20 to 23 for what stands in the way.
+    /// Why: 1 to 13 and 30 to 45 for what is wrong with the input, 20 to 23 for what stands in the way.
     #[must_use]
     pub fn number(self) -> u8 {
         self.0
@@ -59,6 +59,7 @@ impl Refused {
             42 => "the summary is broken, or does not begin with chunk 0",
             43 => "the summary is by another rule",
             44 => "the summary does not end with the last chunk, or there is none",
+            45 => "within 512 pairs of sets the rules do not differ, and there are more",
             _ => "for a reason that this wrapper does not know",
         }
     }
@@ -110,11 +111,11 @@ mod tests {
     /// Each of the paper's numbers has words of its own.
     #[test]
     fn every_number_has_its_words() {
-        let numbers = (1..=13).chain(20..=23).chain(30..=44);
+        let numbers = (1..=13).chain(20..=23).chain(30..=45);
         let words: BTreeSet<&str> = numbers
             .chain([99])
             .map(|number| Refused::new(number).reason())
             .collect();
-        assert_eq!(words.len(), 32 + 1);
+        assert_eq!(words.len(), 33 + 1);
     }
 }

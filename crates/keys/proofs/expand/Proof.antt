@@ -2,7 +2,8 @@
 -- keys and the cells of the keys below number i, and expanding these keys from i on comes to the list
 -- that the contract names. Within key i the same of the symbols below the present one. The fuel of the
 -- definition is 512 at the first key and one less with each key, so it lasts while there are at most
--- 512 keys. Where the 513th turns up, that list is longer than 512, since the procedure only appends.
+-- 512 keys. Where the 513th turns up, that list goes on from the keys so far, since the procedure only
+-- appends.
 -- Assumes nothing.
 use mathlib.Core.Path.{_≡_, refl, ap, _∙_}
 use Prim.Native.Nat.{ℕ, _+_, _-_, _*_, _≤_, _<_, min}
@@ -14,27 +15,28 @@ use Rattle.numbering.specs.Arrays.{ArraysHold}
 use Rattle.numbering.proofs.Closure.{keys-end}
 use Rattle.numbering.proofs.Arrays.{count-is}
 use Rattle.numbering.proofs.Table.{row-begins, row-ends}
-use Rattle.numbering.proofs.Turns.{expanded, turn-whole, row-done, row-over, grown-whole, grown-over}
-use Rattle.keys.specs.Kinds.{walkOf}
+use Rattle.numbering.proofs.Turns.{expanded, turn-whole, row-done, row-more}
+use Rattle.keys.specs.Kinds.{walkBy}
 use Rattle.keys.specs.Tables.{countMeans}
+use Rattle.keys.proofs.Tables.{table-whole, table-over}
 use Rattle.keys.proofs.expand.Statement.{statement}
 use Rattle.keys.proofs.expand.Tie as tie
 
 abbrev Inv-loop : tie.InvT-loop
-Inv-loop targets kind k keys₀ next₀ from count₀ i symbol₀ keys next count symbol =
-    (count ≤ 512) × (i < count) × (symbol ≤ k) × ArraysHold (walkOf kind targets k) 0 (take count keys) (i * 16 + min symbol 16) keys next
-    × (expanded (walkOf kind targets k) i 0 (take count₀ keys₀) ≡ expanded (walkOf kind targets k) i symbol (take count keys))
+Inv-loop targets others kind k keys₀ next₀ from count₀ i symbol₀ keys next count symbol =
+    (count ≤ 512) × (i < count) × (symbol ≤ k) × ArraysHold (walkBy kind targets others k) 0 (take count keys) (i * 16 + min symbol 16) keys next
+    × (expanded (walkBy kind targets others k) i 0 (take count₀ keys₀) ≡ expanded (walkBy kind targets others k) i symbol (take count keys))
 
 abbrev μ-loop : tie.MeasureT-loop
-μ-loop targets kind k keys₀ next₀ from count₀ i symbol₀ keys next count symbol = k - symbol
+μ-loop targets others kind k keys₀ next₀ from count₀ i symbol₀ keys next count symbol = k - symbol
 
 abbrev Inv-expand : tie.InvT-expand
-Inv-expand targets kind k keys₀ next₀ from count₀ i₀ keys next count i =
-    (count ≤ 512) × (i ≤ count) × ArraysHold (walkOf kind targets k) 0 (take count keys) (i * 16) keys next
-    × (closeFrom (walkOf kind targets k) 512 0 (take count₀ keys₀) ≡ closeFrom (walkOf kind targets k) (512 - i) i (take count keys))
+Inv-expand targets others kind k keys₀ next₀ from count₀ i₀ keys next count i =
+    (count ≤ 512) × (i ≤ count) × ArraysHold (walkBy kind targets others k) 0 (take count keys) (i * 16) keys next
+    × (closeFrom (walkBy kind targets others k) 512 0 (take count₀ keys₀) ≡ closeFrom (walkBy kind targets others k) (512 - i) i (take count keys))
 
 abbrev μ-expand : tie.MeasureT-expand
-μ-expand targets kind k keys₀ next₀ from count₀ i₀ keys next count i = 512 - i
+μ-expand targets others kind k keys₀ next₀ from count₀ i₀ keys next count i = 512 - i
 
 expand-holds : tie.Need-expand-holds Inv-loop μ-loop Inv-expand μ-expand
 expand-holds c = (c .pre .1, omega arith, c .pre .2, refl)
@@ -43,10 +45,10 @@ loop-holds : tie.Need-loop-holds Inv-loop μ-loop Inv-expand μ-expand
 loop-holds c =
     let x = c .before .expand in
     let a = c .before .before .args in
-    (x .inv .0, omega arith, omega arith, row-begins (walkOf (a .kind) (a .targets .now) (a .k)) 0 (x .i) (x .inv .2), refl)
+    (x .inv .0, omega arith, omega arith, row-begins (walkBy (a .kind) (a .targets .now) (a .others .now) (a .k)) 0 (x .i) (x .inv .2), refl)
 
-cast-t18 : tie.Need-cast-t18 Inv-loop μ-loop Inv-expand μ-expand
-cast-t18 c = omega arith
+cast-t19 : tie.Need-cast-t19 Inv-loop μ-loop Inv-expand μ-expand
+cast-t19 c = omega arith
 
 step-requires : tie.Need-step-requires Inv-loop μ-loop Inv-expand μ-expand
 step-requires c κs =
@@ -76,7 +78,7 @@ loop-again c =
     let n : length l ≡ e .count = count-is (e .keys) (e .count) (e .inv .0) (e .inv .3 .keys-are) in
     let symbol : e .symbol < a .k = omega arith in
     let v = c .before .after .given in
-    let m = turn-whole (walkOf (a .kind) (a .targets .now) (a .k)) 0 l i (e .symbol) (omega arith) symbol (w .ensures) (λ _. omega (arith, s .pre .0)) (e .inv .3) (v .0 .0) (ap countMeans (v .1)) in
+    let m = turn-whole (walkBy (a .kind) (a .targets .now) (a .others .now) (a .k)) 0 l i (e .symbol) (omega arith) symbol (w .ensures) (λ _. omega (arith, s .pre .0)) (e .inv .3) (v .0 .0) (ap countMeans (v .1)) in
     (m .0, m .1, omega arith, m .2, e .inv .4 ∙ m .3)
 
 add-i : tie.Need-add-i Inv-loop μ-loop Inv-expand μ-expand
@@ -94,34 +96,37 @@ expand-again c =
     let n : length l₀ ≡ x .count = count-is (x .keys) (x .count) (x .inv .0) (x .inv .2 .keys-are) in (
       e .inv .0,
       omega arith,
-      row-ends (walkOf (a .kind) (a .targets .now) (a .k)) 0 (x .i) (e .symbol) (c .loop-test .left) (e .inv .3),
-      x .inv .3 ∙ row-done (walkOf (a .kind) (a .targets .now) (a .k)) 0 512 (x .i) (e .symbol) l₀ (take (e .count) (e .keys)) (omega arith) (omega arith) (e .inv .4) (c .loop-test .left),
+      row-ends (walkBy (a .kind) (a .targets .now) (a .others .now) (a .k)) 0 (x .i) (e .symbol) (c .loop-test .left) (e .inv .3),
+      x .inv .3 ∙ row-done (walkBy (a .kind) (a .targets .now) (a .others .now) (a .k)) 0 512 (x .i) (e .symbol) l₀ (take (e .count) (e .keys)) (omega arith) (omega arith) (e .inv .4) (c .loop-test .left),
     )
 
 returns : tie.Need-returns Inv-loop μ-loop Inv-expand μ-expand
 returns c =
     let x = c .before .expand in
     let a = c .before .before .args in
+    let w = walkBy (a .kind) (a .targets .now) (a .others .now) (a .k) in
     let l = take (x .count) (x .keys) in
     let n : length l ≡ x .count = count-is (x .keys) (x .count) (x .inv .0) (x .inv .2 .keys-are) in
-    grown-whole (walkOf (a .kind) (a .targets .now) (a .k)) 0 (closeFrom (walkOf (a .kind) (a .targets .now) (a .k)) 512 0 (take (a .from) (a .keys .now))) (x .keys) (x .next) (x .count) (x .inv .0)
-    (x .inv .3 ∙ keys-end (walkOf (a .kind) (a .targets .now) (a .k)) (512 - x .i) (x .i) l (omega arith))
-    (rw (c .if1 .taken) at (x .inv .2))
+    let whole : closeFrom w 512 0 (take (a .from) (a .keys .now)) ≡ l = x .inv .3 ∙ keys-end w (512 - x .i) (x .i) l (omega arith) in
+    rw whole (table-whole (a .kind) (a .targets .now) (a .others .now) (a .k) l (x .keys) (x .next) (x .count) (x .inv .0) n (rw (c .if1 .taken) at (x .inv .2)))
 
 returns-2 : tie.Need-returns-2 Inv-loop μ-loop Inv-expand μ-expand
 returns-2 c =
     let e = c .before .before .before .before .before .before .loop in
     let x = c .before .before .before .before .before .before .before .before .expand in
-    let a = c .before .before .before .before .before .before .before .before .before .args in
+    let s = c .before .before .before .before .before .before .before .before .before in
+    let a = s .args in
     let w = c .before .before .step in
+    let walk = walkBy (a .kind) (a .targets .now) (a .others .now) (a .k) in
     let l₀ = take (x .count) (x .keys) in
     let n₀ : length l₀ ≡ x .count = count-is (x .keys) (x .count) (x .inv .0) (x .inv .2 .keys-are) in
     let l = take (e .count) (e .keys) in
     let n : length l ≡ e .count = count-is (e .keys) (e .count) (e .inv .0) (e .inv .3 .keys-are) in
-    let f = closeFrom (walkOf (a .kind) (a .targets .now) (a .k)) (512 - x .i) (x .i) l₀ in
-    let long : 512 < length f =
-    row-over (walkOf (a .kind) (a .targets .now) (a .k)) 0 512 (x .i) (e .symbol) l₀ l (omega arith) (omega arith) (e .inv .4) (omega arith) (omega arith) (w .ensures) (ap countMeans (c .enum-told .given .1)) in
-    rw (x .inv .3) (grown-over (walkOf (a .kind) (a .targets .now) (a .k)) 0 f (w .last .1 .1 .0) (w .last .1 .1 .1 .0) long)
+    rw (x .inv .3)
+    (table-over (a .kind) (a .targets .now) (a .others .now) (a .k) l (e .keys) (e .next) (x .i) (e .symbol) (omega arith) (omega arith) (omega arith) (s .pre .0) (e .inv .3)
+    (w .ensures) (ap countMeans (c .enum-told .given .1))
+    (closeFrom walk (512 - x .i) (x .i) l₀)
+    (row-more walk 0 512 (x .i) (e .symbol) l₀ l (omega arith) (omega arith) (e .inv .4) (omega arith) (omega arith)))
 
 pub expand-spec : {M : Type 1} → statement M
 expand-spec =
@@ -133,7 +138,7 @@ expand-spec =
     μ-expand
     expand-holds
     loop-holds
-    cast-t18
+    cast-t19
     step-requires
     enum-known-after
     enum-told

@@ -3,7 +3,7 @@ use mathlib.Core.Path.{_≡_, refl, ap}
 use lib.ListN.{getD}
 use borrow.Author.Needs.{needs}
 use Rattle.numbering.proofs.Arrays.{stepped-whole, stepped-over}
-use Rattle.keys.specs.Kinds.{stepOf, nothing}
+use Rattle.keys.specs.Kinds.{stepBy, nothing}
 use Rattle.keys.specs.Steps.{turnMeans}
 use Rattle.keys.proofs.step.Statement.{statement}
 use Rattle.keys.proofs.step.Tie as tie
@@ -46,10 +46,10 @@ returns c =
     let s = c .before .before .before .before .before .before .before .before in
     let a = s .args in
     let y = c .before .before .before .before .before .step-key in
-    let is : y .result ≡ stepOf (a .kind) (a .targets .now) (getD (a .keys .now) (a .i .0) 0) (a .symbol) = y .ensures in
+    let is : y .result ≡ stepBy (a .kind) (a .targets .now) (a .others .now) (getD (a .keys .now) (a .i .0) 0) (a .symbol) = y .ensures in
     let w = c .before .before .before .number in
     let g = c .before .number2 .given in
-    stepped-whole (stepOf (a .kind) (a .targets .now)) nothing (a .keys .now) (a .next .now) (a .count) (a .i .0) (a .symbol) (y .result) (s .pre .0) (s .pre .1) (s .pre .2) is refl
+    stepped-whole (stepBy (a .kind) (a .targets .now) (a .others .now)) nothing (a .keys .now) (a .next .now) (a .count) (a .i .0) (a .symbol) (y .result) (s .pre .0) (s .pre .1) (s .pre .2) is refl
     (turnMeans (w .result)) (w .last .0) (w .ensures) (g .0 .0 .0) (g .0 .1 .0) (ap turnMeans (g .1))
 
 returns-2 : tie.Need-returns-2
@@ -57,9 +57,9 @@ returns-2 c =
     let s = c .before .before .before .before .before .before .before in
     let a = s .args in
     let y = c .before .before .before .before .step-key in
-    let is : y .result ≡ stepOf (a .kind) (a .targets .now) (getD (a .keys .now) (a .i .0) 0) (a .symbol) = y .ensures in
+    let is : y .result ≡ stepBy (a .kind) (a .targets .now) (a .others .now) (getD (a .keys .now) (a .i .0) 0) (a .symbol) = y .ensures in
     let w = c .before .before .number in
-    stepped-over (stepOf (a .kind) (a .targets .now)) nothing (a .keys .now) (a .next .now) (a .count) (a .i .0) (a .symbol) (y .result) (s .pre .0) (s .pre .1) (s .pre .2) is refl
+    stepped-over (stepBy (a .kind) (a .targets .now) (a .others .now)) nothing (a .keys .now) (a .next .now) (a .count) (a .i .0) (a .symbol) (y .result) (s .pre .0) (s .pre .1) (s .pre .2) is refl
     (turnMeans (w .result)) (w .last .0) (w .ensures) (ap turnMeans (c .enum-told .given .1))
 
 pub step-spec : {M : Type 1} → statement M

@@ -19,7 +19,7 @@ module _ (c : tie.After-next) where
   small-count =
       let s = c .before .before .before .before .before .before .before .before .before .before in
       let y = c .before .before .before .before .before .number-keys in
-      omega (arith, most-keys Mappings (s .args .t1 .targets) (s .args .t1 .k) _ (y .result) (y .ensures) (c .before .before .before .numbered .given .0 .0) (c .before .before .before .numbered .given .1))
+      omega (arith, most-keys Mappings (s .args .t1 .targets) (s .args .t1 .targets) (s .args .t1 .k) _ (y .result) (y .ensures) (c .before .before .before .numbered .given .0 .0) (c .before .before .before .numbered .given .1))
 
 identity-requires : tie.Need-identity-requires
 identity-requires c κs = search needs

@@ -8,7 +8,7 @@ use lib.ListN.{getD}
 use borrow.Author.Count.{below-more}
 use borrow.Author.Needs.{needs}
 use Rattle.samples.specs.Search.{meets}
-use Rattle.sampling.proofs.Cells.{where-found, where-none}
+use Rattle.searches.proofs.Cells.{where-found, where-none}
 use Rattle.sampling.proofs.first_meeting.Statement.{statement}
 use Rattle.sampling.proofs.first_meeting.Tie as tie
 

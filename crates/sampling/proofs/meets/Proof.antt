@@ -5,7 +5,7 @@ use lib.Dec.{eqb}
 use borrow.Author.Needs.{needs}
 use Rattle.samples.specs.declared.Wish.{Wish}
 use Rattle.samples.specs.Search.{meets}
-use Rattle.sampling.proofs.Cells.{not-not}
+use Rattle.sampling.proofs.Ways.{not-not}
 use Rattle.sampling.proofs.meets.Statement.{statement}
 use Rattle.sampling.proofs.meets.Tie as tie
 

@@ -1,5 +1,4 @@
 -- `search_sets` meets its contract, one way out at a time. Assumes nothing.
-use mathlib.Core.Path.{refl}
 use native.Mathlib.Omega.{arith}
 use borrow.Author.Needs.{needs}
 use Rattle.sampling.proofs.Ways.{most, tabled, search-over, search-text, search-none}
@@ -44,15 +43,15 @@ spell-requires c κs =
     let t = c .before .before .before .before .before .before .before .before .before .number-keys in
     let v = c .before .before .before .before .before .before .before .numbered .given in
     let f = c .before .before .before .first-meeting in
-    tabled (s .args .t1) (s .args .wish) (s .pre) (t .result) (t .ensures) (v .0 .0) (v .1) (f .result) (f .ensures) (c .before .before .if1 .taken)
+    tabled (s .args .t1) (s .args .wish) (s .pre) (t .result) (t .ensures) (v .0 .0) (v .1) (f .result) (c .before .before .if1 .taken)
 
 returns : tie.Need-returns
 returns c =
-    let s = c .before .before .before .before .before .before .before .before .before .before .before .before .before in
-    let t = c .before .before .before .before .before .before .before .before .before .before .number-keys in
-    let v = c .before .before .before .before .before .before .before .before .numbered .given in
-    let f = c .before .before .before .before .first-meeting in
-    search-text (s .args .t1) (s .args .wish) (s .pre) (t .result) (t .ensures) (v .0 .0) (v .1) (f .result) (f .ensures) _ (c .before .before .before .if1 .taken) _ refl (c .spell .ensures)
+    let s = c .before .before .before .before .before .before .before .before .before .before .before .before .before .before in
+    let t = c .before .before .before .before .before .before .before .before .before .before .before .number-keys in
+    let v = c .before .before .before .before .before .before .before .before .before .numbered .given in
+    let f = c .before .before .before .before .before .first-meeting in
+    search-text (s .args .t1) (s .args .wish) (s .pre) (t .result) (t .ensures) (v .0 .0) (v .1) (f .result) (f .ensures) (c .before .spell .result) (c .before .before .before .before .if1 .taken) (c .before .spell .ensures)
 
 give-none-requires-2 : tie.Need-give-none-requires-2
 give-none-requires-2 c κs = search needs

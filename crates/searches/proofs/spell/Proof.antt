@@ -1,0 +1,45 @@
+-- `spell` meets its contract. Assumes nothing.
+use mathlib.Core.Path.{_∙_, subst}
+use mathlib.Core.List.{List}
+use Prim.Native.Nat.{ℕ, _-_}
+use native.Mathlib.Omega.{arith}
+use lib.ListN.{drop, length-drop}
+use lib.Seq.{take-all}
+use borrow.Author.Needs.{needs}
+use Rattle.searches.specs.Tables.{Spells}
+use Rattle.searches.proofs.spell.Statement.{statement}
+use Rattle.searches.proofs.spell.Tie as tie
+
+walk-back-requires : tie.Need-walk-back-requires
+walk-back-requires c κs = search needs
+
+sub-front-text : tie.Need-sub-front-text
+sub-front-text c = search needs
+
+part-front-text-start : tie.Need-part-front-text-start
+part-front-text-start c = search needs
+
+part-front-text-end : tie.Need-part-front-text-end
+part-front-text-end c = let w = c .before .before .walk-back in omega (arith, w .ensures .0, w .ensures .1)
+
+front-text-requires : tie.Need-front-text-requires
+front-text-requires c κs = search needs
+
+returns : tie.Need-returns
+returns c =
+    let w = c .before .before .before .before .walk-back in
+    subst (λ (x : List ℕ). Spells (c .front-text .result) x)
+    (take-all (511 - w .result .from) (drop (w .result .from) (w .result .text)) (omega (arith, w .ensures .1, length-drop (w .result .from) (w .result .text)))
+    ∙ w .ensures .2)
+    (c .front-text .ensures)
+
+pub spell-spec : {M : Type 1} → statement M
+spell-spec =
+    tie.close
+    (tie.spec
+    walk-back-requires
+    sub-front-text
+    part-front-text-start
+    part-front-text-end
+    front-text-requires
+    returns)
