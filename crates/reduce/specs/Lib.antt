@@ -1,0 +1,4 @@
+-- In the order in which to read them.
+pub mod Reduced
+pub mod Reducing
+pub mod Claims
