@@ -24,8 +24,8 @@ use Rattle.automaton.specs.Automaton.{Automaton, Arc, Run, stay, move}
 use Rattle.automaton.specs.Rules.{targetMask, automatonOf, WellFormed}
 use Rattle.automaton.specs.Successor.{successor, Reached}
 use Rattle.automaton.proofs.Laws.{arc-of, successor-law}
+use Rattle.automaton.proofs.Values.{table-law}
 use Rattle.delegates.specs.Alike.{Alike, Live, delegateIn, ofDelegate}
-use Rattle.merging.proofs.Tables.{table-law}
 use Rattle.reduce.specs.Reduced.{gather, delegated, onward, rounds, keptOf, rank, renamed, targetsOf, reducedBy}
 use Rattle.reduce.proofs.Ranks.{bit-lt, rank-less, rank-once, rank-most, renamed-law, gathered, in-gather}
 use Rattle.reduce.proofs.Rounds.{still, in-rounds}

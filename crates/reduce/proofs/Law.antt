@@ -2,7 +2,7 @@
 -- none the facts of the reduced rule hold of it. Assumes nothing.
 use mathlib.Core.Path.{_≡_, refl, sym, ap, _∙_, subst}
 use mathlib.Core.Logic.{_↔_}
-use mathlib.Core.Bool.{Bool, true, false, cond}
+use mathlib.Core.Bool.{Bool, true, false, cond, not}
 use mathlib.Core.List.{List, _++_}
 use mathlib.Core.Option.{Option, none, some}
 use Prim.Native.Nat.{ℕ, _+_, _-_, _/_, _%_, _≤_, _<_, max}
@@ -11,8 +11,9 @@ use lib.Dec.{ltb}
 use lib.ListN.{length, replicate, length-replicate}
 use borrow.Author.Tests.{ltb-true, ltb-false, le-ltb}
 use Rattle.base.specs.Lists.{listFrom}
+use Rattle.base.specs.Options.{isNone}
 use Rattle.base.proofs.Tests.{by-test, zero-one}
-use Rattle.base.proofs.Conditions.{orElse, first-append}
+use Rattle.base.proofs.Options.{is-none, none-some}
 use Rattle.base.proofs.Lists.{length-listFrom, is-listFrom, zero-cells}
 use Rattle.base.proofs.Totals.{total-rest}
 use Rattle.masks.specs.Masks.{bit, _∈_}
@@ -21,9 +22,10 @@ use Rattle.automaton.specs.declared.Rule.{Rule}
 use Rattle.automaton.specs.Automaton.{Automaton, Arc, Accepts, Equivalent}
 use Rattle.automaton.specs.Rules.{automatonOf, WellFormed}
 use Rattle.automaton.specs.Successor.{Reached}
-use Rattle.rulecheck.specs.Checking.{ruleConditions, ruleNumber}
-use Rattle.rulecheck.specs.Worked.{rule}
+use Rattle.automaton.proofs.Values.{all-fields}
+use Rattle.rulecheck.specs.Checking.{ruleNumber}
 use Rattle.rulecheck.proofs.Laws.{passes}
+use Rattle.ruleformat.specs.Reader.{noRule}
 use Rattle.ruleformat.specs.Claims.{AllZero}
 use Rattle.subsets.specs.Sets.{tooMany}
 use Rattle.subsets.specs.Claims.{fits}
@@ -31,7 +33,8 @@ use Rattle.delegates.specs.Alike.{AcceptsFrom, Alike, Live, Merged}
 use Rattle.delegates.proofs.Alike.{alike-self}
 use Rattle.delegates.specs.Claims.{startsIn}
 use Rattle.delegates.proofs.Claims as delegates
-use Rattle.calls.specs.Calls.{manySets, installNumber}
+use Rattle.calls.specs.Calls.{installNumber}
+use Rattle.calls.proofs.Conditions.{install-number, not-refused}
 use Rattle.reduce.specs.Reduced.{delegated, keptOf, reachedOf, chosenOf, rank, renamed, cellIn, reducedBy, listIn, keptIn, reducedOf}
 use Rattle.reduce.specs.Reducing.{reducingBy, reduceOf}
 use Rattle.reduce.specs.Claims.{Nothing, emptyRule, Stands, Lean, Renumbered, ReduceLaw}
@@ -40,38 +43,46 @@ use Rattle.reduce.proofs.Quotient.{Quotient, run-join, to-new, to-old, 
 use Rattle.reduce.proofs.Quotient as quotients
 use Rattle.reduce.proofs.Facts.{Choice, own, few-kept, no-bit, well-formed, quotient, reached-in}
 use Rattle.reduce.proofs.Chosen.{For, same-stands, reached-state, choice}
-use Rattle.reduce.proofs.Same.{all-fields, lean-same}
+use Rattle.reduce.proofs.Same.{lean-same}
 use Rattle.reduce.proofs.Only.{one-value}
 
 -- ---- the number
 module _ (r : Rule) where
-  pub number-law : installNumber r ≡ orElse (ruleNumber r) (cond (tooMany (r .targets) (r .n) (r .k)) (some 9) none)
-  unfolding installNumber
-  number-law = first-append (ruleConditions r) (manySets r)
-
   pub taken : installNumber r ≡ none → WellFormed r × fits r
-  taken e = of (ruleNumber r) (tooMany (r .targets) (r .n) (r .k)) refl refl (sym number-law ∙ e)
-    where
-      of : (o : Option ℕ) (t : Bool) → ruleNumber r ≡ o → tooMany (r .targets) (r .n) (r .k) ≡ t → orElse o (cond t (some 9) none) ≡ none
-          → WellFormed r × fits r
-      of none true x y z = zero-one cc
-      of none false x y z = (passes r .0 x, y)
-      of (some n) t x y z = zero-one cc
+  taken e = let x = not-refused r e in (passes r .0 (x .0), x .1)
 
   pub only-nine : ruleNumber r ≡ none → (x : ℕ) → installNumber r ≡ some x → x ≡ 9
-  only-nine e x z = of (tooMany (r .targets) (r .n) (r .k)) (sym (number-law ∙ rw e) ∙ z)
+  only-nine e x z = of (tooMany (r .targets) (r .n) (r .k)) (sym (install-number r ∙ rw e) ∙ z)
     where
       of : (t : Bool) → cond t (some 9) none ≡ some x → x ≡ 9
       of true y = cc
       of false y = zero-one cc
 
+  -- a rule that passes the check installs where its sets are not too many
+  pub few-install : ruleNumber r ≡ none → isNone (installNumber r) ≡ not (tooMany (r .targets) (r .n) (r .k))
+  few-install e =
+      let is : installNumber r ≡ cond (tooMany (r .targets) (r .n) (r .k)) (some 9) none = install-number r ∙ rw e in
+      ap (λ (o : Option ℕ). isNone o) is ∙ of (tooMany (r .targets) (r .n) (r .k))
+    where
+      of : (t : Bool) → isNone {A = ℕ} (cond t (some 9) none) ≡ not t
+      of true = refl
+      of false = refl
+
+no-rule-refused : installNumber noRule ≡ some 3
+unfolding installNumber
+no-rule-refused = refl
+
 number-of : (o : Option ℕ) (r : Rule) → reducingBy o r .number ≡ o
 number-of none r = refl
 number-of (some x) r = refl
 
-zeros-of : (o : Option ℕ) (r : Rule) (x : ℕ) → o ≡ some x → AllZero (reducingBy o r .rule)
+zeros-of : (o : Option ℕ) (r : Rule) (x : ℕ) → o ≡ some x → AllZero (reducingBy o r .rule) × (reducingBy o r .installs ≡ false)
 zeros-of o r x e =
-    subst (λ (p : Option ℕ). AllZero (reducingBy p r .rule)) (sym e) (refl, refl, refl, refl, refl)
+    subst (λ (p : Option ℕ). AllZero (reducingBy p r .rule) × (reducingBy p r .installs ≡ false)) (sym e) ((refl, refl, refl, refl, refl), refl)
+
+installs-of : (o : Option ℕ) (r : Rule) → (reducingBy o r .installs ≡ true) ↔ (installNumber (reducingBy o r .rule) ≡ none)
+installs-of none r = is-none (installNumber r)
+installs-of (some x) r = (λ e. zero-one cc, λ e. none-some e no-rule-refused)
 
 rule-of : (o : Option ℕ) (r : Rule) → o ≡ none → reducingBy o r .rule ≡ r
 rule-of o r e = ap (λ (p : Option ℕ). reducingBy p r .rule) e
@@ -341,6 +352,7 @@ reduce-law r = record {
   zeros = λ x e. zeros-of (installNumber r) (reducedOf r) x (sym (is-number r) ∙ e);
   checked = λ e. checked-made r e;
   cells = cells-all r;
+  installs-exactly = installs-of (installNumber r) (reducedOf r);
   symbols = λ e. ap (λ (x : Rule). x .k) (is-made r e);
   fewer = λ e.
       subst (λ (x : Rule). x .n ≤ r .n) (sym (is-made r e))

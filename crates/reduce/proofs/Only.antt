@@ -15,8 +15,8 @@ use Rattle.masks.proofs.Laws.{members-below}
 use Rattle.automaton.specs.declared.Rule.{Rule}
 use Rattle.automaton.specs.Automaton.{Automaton, Arc, Run, stay, move}
 use Rattle.automaton.specs.Rules.{automatonOf, WellFormed}
+use Rattle.automaton.proofs.Values.{Within, same-value}
 use Rattle.reduce.specs.Claims.{Reachable, Stands, Renumbered}
-use Rattle.reduce.proofs.Same.{Within, same-value}
 
 -- ---- each state of the one is a state of the other
 module _ (r m n : Rule) (good : WellFormed m) (x : Renumbered r m) (y : Renumbered r n) where
@@ -102,6 +102,6 @@ module _ (r m n : Rule) (good-m : WellFormed m) (good-n : WellFormed n) (x : Ren
 pub one-value : (r m n : Rule) → WellFormed m → WellFormed n → m .k ≡ n .k → length (m .targets) ≡ 512 → length (n .targets) ≡ 512
     → Renumbered r m → Renumbered r n → ((p : ℕ) → p < m .n → Reachable m p) → ((p : ℕ) → p < n .n → Reachable n p) → m ≡ n
 one-value r m n gm gn k lm ln x y rm rn =
-    same-value m n gm gn (le-antisymm (no-more r m n gm gn x y rm rn) (no-more r n m gn gm y x rn rm)) k lm ln
+    same-value m n gm gn (le-antisymm (no-more r m n gm gn x y rm rn) (no-more r n m gn gm y x rn rm), k) lm ln
     (within r m n gm gn x y rm rn k)
     (within r n m gn gm y x rn rm (sym k))

@@ -1,61 +1,24 @@
 -- A lean rule is its own reduced rule: every state is its own delegate and stays, so each keeps its
 -- number. Assumes a well-formed rule with a table of 512 cells, and a list of what stands for its states.
 use mathlib.Core.Path.{_≡_, refl, sym, ap, _∙_, subst}
-use mathlib.Core.Logic.{_↔_}
 use mathlib.Core.List.{List}
 use mathlib.Core.Option.{Option, none, some}
-use Prim.Native.Nat.{ℕ, zero, suc, _+_, _-_, _*_, _/_, _%_, _≤_, _<_, max}
+use Prim.Native.Nat.{ℕ, zero, suc, _+_, _-_, _≤_, _<_, max}
 use native.Mathlib.Omega.{arith}
-use lib.ListN.{length, getD}
-use lib.Seq.{ext-getD}
-use borrow.Author.Tests.{lt-ltb}
+use lib.ListN.{length}
 use Rattle.base.specs.Totals.{total}
 use Rattle.base.proofs.Totals.{total-rest}
 use Rattle.base.proofs.Lists.{length-listFrom}
 use Rattle.masks.specs.Masks.{bit, _∈_}
-use Rattle.masks.proofs.Laws.{ext, members-below}
+use Rattle.masks.proofs.Laws.{members-below}
 use Rattle.automaton.specs.declared.Rule.{Rule}
 use Rattle.automaton.specs.Automaton.{Automaton, Arc, Run, stay, move}
-use Rattle.automaton.specs.Rules.{targetMask, automatonOf, WellFormed}
-use Rattle.automaton.proofs.Laws.{arc-of}
-use Rattle.rulecheck.specs.Worked.{rule}
+use Rattle.automaton.specs.Rules.{automatonOf, WellFormed}
+use Rattle.automaton.proofs.Values.{Within, same-value}
 use Rattle.reduce.specs.Reduced.{delegated, keptOf, rank, renamed, cellIn, reducedBy}
 use Rattle.reduce.specs.Claims.{Lean}
 use Rattle.reduce.proofs.Quotient.{Quotient}
 use Rattle.reduce.proofs.Facts.{Choice, no-bit, closed, begun, first-kept, well-formed, quotient}
-
--- ---- rules with the same states, arcs and marks
-pub record Within (c d : Automaton) : Type 0 where
-  pub arcs : (q s p : ℕ) → Arc c q s p → Arc d q s p
-  pub initials : (q : ℕ) → c .Initial q → d .Initial q
-  pub finals : (q : ℕ) → c .Final q → d .Final q
-
-pub all-fields : {n n′ k k′ i i′ f f′ : ℕ} {ts ts′ : List ℕ} → n ≡ n′ → k ≡ k′ → i ≡ i′ → f ≡ f′ → ts ≡ ts′
-    → rule n k i f ts ≡ rule n′ k′ i′ f′ ts′
-all-fields a b c d e = cc
-
-cell-mask : (ts : List ℕ) (c : ℕ) → targetMask ts (c / 16) (c % 16) ≡ getD ts c 0
-cell-mask ts c =
-    let l : c % 16 < 16 = omega arith in
-    let is : c / 16 * 16 + c % 16 ≡ c = omega arith in
-    rw (lt-ltb (c % 16) 16 l, is) refl
-
-module _ (r m : Rule) (good-r : WellFormed r) (good-m : WellFormed m) where
-  pub same-value : r .n ≡ m .n → r .k ≡ m .k → length (r .targets) ≡ 512 → length (m .targets) ≡ 512
-      → Within (automatonOf r) (automatonOf m) → Within (automatonOf m) (automatonOf r) → r ≡ m
-  same-value states symbols long-r long-m to back =
-      let initials : r .initials ≡ m .initials = ext (r .initials) (m .initials) (λ q. (to .initials q, back .initials q)) in
-      let finals : r .finals ≡ m .finals = ext (r .finals) (m .finals) (λ q. (to .finals q, back .finals q)) in
-      let cell : (c : ℕ) → c < length (r .targets) → getD (r .targets) c 0 ≡ getD (m .targets) c 0 = λ c l.
-      let row : c / 16 < 32 = omega (arith, long-r, l) in
-      sym (cell-mask (r .targets) c)
-      ∙ ext (targetMask (r .targets) (c / 16) (c % 16)) (targetMask (m .targets) (c / 16) (c % 16)) (λ p. (
-        (λ e. to .arcs (c / 16) (c % 16) p (arc-of r good-r (c / 16) (c % 16) p row e) .there),
-        λ e. back .arcs (c / 16) (c % 16) p (arc-of m good-m (c / 16) (c % 16) p row e) .there,
-      ))
-      ∙ cell-mask (m .targets) c in
-      let targets : r .targets ≡ m .targets = ext-getD 0 (r .targets) (m .targets) (long-r ∙ sym long-m) cell in
-      all-fields states symbols initials finals targets
 
 module _ (r : Rule) (good : WellFormed r) (d : List ℕ) (In : ℕ → Type 0) (D : ℕ → Option ℕ → Type 0)
     (C : Choice (automatonOf r) In D d) (lean : Lean r) (long : length (r .targets) ≡ 512)
@@ -142,7 +105,7 @@ module _ (r : Rule) (good : WellFormed r) (d : List ℕ) (In : ℕ → Type 0) (
 
   pub lean-same : new ≡ r
   lean-same =
-      same-value new r (well-formed r good d In D C) good (omega (arith, count, good .states)) refl
+      same-value new r (well-formed r good d In D C) good (omega (arith, count, good .states), refl)
       (length-listFrom 0 512 (cellIn (r .targets) d kept))
       long
       to

@@ -1,7 +1,7 @@
 -- One turn of each loop, and each way out of the definitions that the functions are held to. Assumes
 -- nothing.
 use mathlib.Core.Path.{_≡_, refl, sym, ap, ap₂, _∙_}
-use mathlib.Core.Bool.{Bool, true, false, cond, _&&_}
+use mathlib.Core.Bool.{Bool, true, false, cond, not, _&&_}
 use mathlib.Core.List.{List}
 use mathlib.Core.Option.{Option, none, some}
 use Prim.Native.Nat.{ℕ, _+_, _*_, _/_, _%_, _^_, _≤_, _<_, max}
@@ -13,6 +13,7 @@ use lib.ListN.{length, getD}
 use borrow.Author.Tests.{eqb-true, eqb-false, eq-eqb, ne-eqb, lt-ltb, le-ltb}
 use Rattle.base.proofs.Totals.{total-more}
 use Rattle.base.specs.Lists.{listFrom}
+use Rattle.base.specs.Options.{isNone}
 use Rattle.masks.specs.Masks.{bit, has, single, union}
 use Rattle.masks.proofs.Laws.{union-member, union-other}
 use Rattle.automaton.specs.declared.Rule.{Rule}
@@ -29,13 +30,18 @@ use Rattle.rulecheck.specs.declared.CheckAnswer.{CheckAnswer}
 use Rattle.rulecheck.specs.declared.CheckAnswer.the-variants as check
 use Rattle.rulecheck.specs.Checking.{ruleNumber, checkMeans}
 use Rattle.subsets.specs.Sets.{tooMany}
+use Rattle.subsets.specs.declared.Numbering.the-variants.{Whole, Over}
+use Rattle.subsets.specs.declared.SetTable.{SetTable}
+use Rattle.subsets.specs.Answer.{tableOutcome, tableOf}
 use Rattle.delegates.specs.Claims.{startsIn}
 use Rattle.build.specs.declared.BuildAnswer.the-variants as build
+use Rattle.build.proofs.Numbered.{not-over, is-over}
 use Rattle.build.specs.declared.BuildResult.{BuildResult}
 use Rattle.build.specs.Building.{accepted, refused, buildMeans, sets, builtOf, noBuilt, Outcome, buildOutcome, buildOf}
 use Rattle.calls.specs.Calls.{installNumber}
+use Rattle.calls.proofs.Conditions.{install-number}
 use Rattle.reduce.specs.Reducing.{Reducing, refusedBy, reducingBy, reduceOf}
-use Rattle.reduce.proofs.Law.{number-law}
+use Rattle.reduce.proofs.Law.{few-install, reduce-law}
 use Rattle.reduce.specs.Reduced.{gather, delegated, rank, renamed, rowOf, targetsOf, cellIn, reducedBy, keptOf, ownList, reachedOf, chosenCell, chosenOf, listIn, keptIn, reducedOf}
 use Rattle.reduce.proofs.Ranks.{bit-lt}
 
@@ -139,6 +145,14 @@ pub made-of : (r : Rule) (d : List ℕ) (stay n x i f : ℕ) (t : List ℕ) → 
     → _≡_ {A = Rule} (record { n = n; k = r .k; initials = i; finals = f; targets = t }) (reducedBy r d (keptOf (r .targets) d (r .initials)))
 made-of r d stay n x i f t es en ex ei ef et = rw (en, ei, ex, ef, et, es)
 
+-- ---- `few_sets`
+module _ (ts : List ℕ) (n k : ℕ) (t : SetTable) (is : tableOutcome t ≡ tableOf ts n k) where
+  pub sets-fit : (c : ℕ) → t .answer ≡ Whole c → true ≡ not (tooMany ts n k)
+  sets-fit c e = sym (ap not (not-over ts n k t is c e))
+
+  pub sets-over : t .answer ≡ Over → false ≡ not (tooMany ts n k)
+  sets-over e = sym (ap not (is-over ts n k t is e))
+
 -- ---- `reduce`
 reducing-some : (r : Rule) (number : ℕ) → installNumber r ≡ some number → refusedBy number ≡ reduceOf r
 reducing-some r number e = sym (ap (λ (o : Option ℕ). reducingBy o (reducedOf r)) e)
@@ -147,7 +161,7 @@ module _ (r : Rule) (x : CheckAnswer) (said : checkMeans x ≡ ruleNumber r) whe
   pub refused-check : (number : ℕ) (out : Reducing) → x ≡ check.Refused number → out ≡ refusedBy number → out ≡ reduceOf r
   refused-check number out e is =
       let there : ruleNumber r ≡ some number = sym said ∙ ap checkMeans e in
-      is ∙ reducing-some r number (number-law r ∙ rw there)
+      is ∙ reducing-some r number (install-number r ∙ rw there)
 
   module _ (passed : x ≡ check.Passed) (b : BuildResult) (told : buildOutcome b ≡ buildOf r) where
     no-number : ruleNumber r ≡ none
@@ -164,22 +178,23 @@ module _ (r : Rule) (x : CheckAnswer) (said : checkMeans x ≡ ruleNumber r) whe
             let a : buildMeans (b .answer) ≡ refused 9 = ap (λ (y : Outcome). y .answer) z in
             let y : refused number ≡ refused 9 = sym (ap buildMeans e) ∙ a in
             let nine : number ≡ 9 = cc in
-            is ∙ reducing-some r number (number-law r ∙ rw (no-number, t, nine))
+            is ∙ reducing-some r number (install-number r ∙ rw (no-number, t, nine))
         of false t z =
             let a : buildMeans (b .answer) ≡ accepted (length (sets r)) (startsIn r .startcount) = ap (λ (y : Outcome). y .answer) z in
             let y : refused number ≡ accepted (length (sets r)) (startsIn r .startcount) = sym (ap buildMeans e) ∙ a in
             zero-one cc
 
-    pub accepted-build : (s m : ℕ) (list : List ℕ) (made : Rule) → b .answer ≡ build.Accepted s m
+    pub accepted-build : (s m : ℕ) (list : List ℕ) (made : Rule) (installs : Bool) → b .answer ≡ build.Accepted s m
         → list ≡ chosenOf (b .built .delegates) (reachedOf (r .targets) (r .initials))
         → made ≡ reducedBy r list (keptOf (r .targets) list (r .initials))
-        → record { number = none; rule = made } ≡ reduceOf r
+        → installs ≡ not (tooMany (made .targets) (made .n) (made .k))
+        → record { number = none; installs = installs; rule = made } ≡ reduceOf r
     unfolding buildOf listIn keptIn
-    accepted-build s m list made e chosen is = of (tooMany (r .targets) (r .n) (r .k)) refl told
+    accepted-build s m list made installs e chosen is few = of (tooMany (r .targets) (r .n) (r .k)) refl told
       where
         of : (t : Bool) → tooMany (r .targets) (r .n) (r .k) ≡ t
             → buildOutcome b ≡ cond t (record { answer = refused 9; built = noBuilt }) (record { answer = accepted (length (sets r)) (startsIn r .startcount); built = builtOf r })
-            → record { number = none; rule = made } ≡ reduceOf r
+            → record { number = none; installs = installs; rule = made } ≡ reduceOf r
         of true t z =
             let a : buildMeans (b .answer) ≡ refused 9 = ap (λ (y : Outcome). y .answer) z in
             let y : accepted s m ≡ refused 9 = sym (ap buildMeans e) ∙ a in
@@ -189,5 +204,8 @@ module _ (r : Rule) (x : CheckAnswer) (said : checkMeans x ≡ ruleNumber r) whe
             let l : list ≡ chosenOf (startsIn r .delegates) (reachedOf (r .targets) (r .initials)) =
             chosen ∙ ap (λ (y : List ℕ). chosenOf y (reachedOf (r .targets) (r .initials))) d in
             let same : made ≡ reducedOf r = is ∙ ap (λ (y : List ℕ). reducedBy r y (keptOf (r .targets) y (r .initials))) l in
-            let none-there : installNumber r ≡ none = number-law r ∙ rw (no-number, t) in
-            ap (λ (y : Rule). reducingBy none y) same ∙ sym (ap (λ (o : Option ℕ). reducingBy o (reducedOf r)) none-there)
+            let none-there : installNumber r ≡ none = install-number r ∙ rw (no-number, t) in
+            let given : reducingBy none (reducedOf r) ≡ reduceOf r = sym (ap (λ (o : Option ℕ). reducingBy o (reducedOf r)) none-there) in
+            let checked : ruleNumber made ≡ none = ap ruleNumber (same ∙ ap (λ (y : Reducing). y .rule) given) ∙ reduce-law r .checked (sym (ap (λ (y : Reducing). y .number) given)) in
+            let installing : installs ≡ isNone (installNumber made) = few ∙ sym (few-install made checked) in
+            ap (λ (y : Bool). record { number = none; installs = y; rule = made }) installing ∙ ap (λ (y : Rule). reducingBy none y) same ∙ given

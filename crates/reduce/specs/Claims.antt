@@ -11,6 +11,7 @@
 --   ReduceLaw r      all that is promised of reducing the value r
 use mathlib.Core.Path.{_≡_}
 use mathlib.Core.Logic.{_↔_}
+use mathlib.Core.Bool.{true, false}
 use mathlib.Core.List.{List}
 use mathlib.Core.Option.{none, some}
 use Prim.Native.Nat.{ℕ, _≤_, _<_}
@@ -67,13 +68,15 @@ pub record Renumbered (r n : Rule) : Type 0 where
 pub record ReduceLaw (r : Rule) : Type 0 where
   -- refused as its installation is, with zeros then
   pub number : reduceOf r .number ≡ installNumber r
-  pub zeros : (x : ℕ) → reduceOf r .number ≡ some x → AllZero (reduceOf r .rule)
+  pub zeros : (x : ℕ) → reduceOf r .number ≡ some x → AllZero (reduceOf r .rule) × (reduceOf r .installs ≡ false)
   -- else a checked rule, with the same symbols and no more states
   pub checked : reduceOf r .number ≡ none → ruleNumber (reduceOf r .rule) ≡ none
   pub cells : length (reduceOf r .rule .targets) ≡ targetCells
   pub symbols : reduceOf r .number ≡ none → reduceOf r .rule .k ≡ r .k
   pub fewer : reduceOf r .number ≡ none → reduceOf r .rule .n ≤ r .n
-  -- that accepts the same texts
+  -- the answer says whether that rule installs; a rule that is refused does not
+  pub installs-exactly : (reduceOf r .installs ≡ true) ↔ (installNumber (reduceOf r .rule) ≡ none)
+  -- it accepts the same texts
   pub language : reduceOf r .number ≡ none → Equivalent (automatonOf (reduceOf r .rule)) (automatonOf r)
   -- where some text is accepted, every state is reached, every state is live, and no two are alike
   pub lean : reduceOf r .number ≡ none → (w : List ℕ) → Accepts (automatonOf r) w → Lean (reduceOf r .rule)

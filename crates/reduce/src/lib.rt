@@ -5,9 +5,10 @@ ghost use Prim.Native.Nat.{_≤_, _<_, max};
 ghost use Rattle.base.specs.Lists.{listFrom};
 ghost use Rattle.limits.specs.Limits.{mostStates, mostSymbols, targetCells};
 ghost use Rattle.masks.specs.Masks.{has, single};
-ghost use mathlib.Core.Bool.{_&&_};
+ghost use mathlib.Core.Bool.{_&&_, not};
 ghost use lib.Dec.{eqb};
 ghost use lib.ListN.{getD};
+ghost use Rattle.subsets.specs.Sets.{tooMany};
 ghost use Rattle.delegates.specs.Classes.{firstFrom};
 ghost use Rattle.delegates.specs.Alike.{delegateIn, ofDelegate};
 ghost use Rattle.reduce.specs.Reduced.{delegated as delegatedOf, onward as onwardOf, keptOf, ownList, reachedOf, chosenCell, chosenOf, rank, renamed as renamedOf, rowOf, targetsOf, cellIn, reducedBy};
@@ -17,15 +18,19 @@ use build::BuildAnswer;
 use delegates::DelegateAnswer;
 use masks::StateNumber;
 use rulecheck::CheckAnswer;
+use subsets::Numbering;
 
 pub enum ReduceAnswer {
     Accepted,
     Refused(u8),
 }
 
-// An answer with the rule beside it, which is all zeros where the rule is refused.
+// An answer with the reduced rule beside it, and whether installing that rule is accepted: it can have
+// more than 512 sets though the rule it came from has not. All zeros and false where the rule is
+// refused.
 pub struct ReduceResult {
     pub answer: ReduceAnswer,
+    pub installs: bool,
     pub rule: Rule,
 }
 
@@ -306,6 +311,19 @@ fn reduced(rule: Rule, delegates: &[u8; limits::STATES]) -> Rule
     }
 }
 
+// Whether the rule has at most 512 sets.
+fn few_sets(rule: Rule) -> bool
+    ensures { λ r. ⌜ r ≡ not (tooMany (rule .targets) (rule .n) (rule .k)) ⌝ }
+{
+    let targets = rule.targets;
+    let table = subsets::number_sets(&targets, rule.n, rule.k);
+    let numbered = table.answer;
+    match numbered {
+        Numbering::Whole(_) => true,
+        Numbering::Over => false,
+    }
+}
+
 // Refused with that number.
 fn refuse(number: u8) -> ReduceResult
     ensures { λ r. ⌜ reduceOutcome r ≡ refusedBy number ⌝ }
@@ -313,11 +331,13 @@ fn refuse(number: u8) -> ReduceResult
     let rule = rulefile::no_rule();
     ReduceResult {
         answer: ReduceAnswer::Refused(number),
+        installs: false,
         rule,
     }
 }
 
-// The rule reduced; or zeros, and the number with which its installation is refused.
+// The rule reduced, and whether the result installs; or zeros, and the number with which the rule's
+// own installation is refused.
 pub fn reduce(rule: Rule) -> ReduceResult
     ensures { λ r. ⌜ reduceOutcome r ≡ reduceOf rule ⌝ }
 {
@@ -335,8 +355,10 @@ pub fn reduce(rule: Rule) -> ReduceResult
                     let old = rule.targets;
                     let list = list_of(&old, &delegates, rule.initials);
                     let made = reduced(rule, &list);
+                    let installs = few_sets(made);
                     ReduceResult {
                         answer: ReduceAnswer::Accepted,
+                        installs,
                         rule: made,
                     }
                 }

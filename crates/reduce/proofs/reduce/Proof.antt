@@ -34,6 +34,9 @@ list-of-requires c κs = search needs
 reduced-requires : tie.Need-reduced-requires
 reduced-requires c κs = search needs
 
+few-sets-requires : tie.Need-few-sets-requires
+few-sets-requires c κs = search needs
+
 returns : tie.Need-returns
 returns c = search (needs, refused-check)
 
@@ -57,6 +60,7 @@ reduce-spec =
     enum-told-2
     list-of-requires
     reduced-requires
+    few-sets-requires
     returns
     returns-2
     returns-3)
