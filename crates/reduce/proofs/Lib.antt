@@ -7,5 +7,6 @@ pub mod Chosen
 pub mod Same
 pub mod Only
 pub mod Law
+pub mod Examples
 pub mod Claims
 pub mod Ways

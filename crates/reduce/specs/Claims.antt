@@ -1,4 +1,5 @@
--- What is claimed of reducing, for every value; proofs/Claims.antt proves it.
+-- What is claimed of reducing, for rules worked by hand and for every value; proofs/Claims.antt proves
+-- it.
 --
 --   Nothing a        the automaton accepts no text
 --   emptyRule k      one state, no arcs, no initial and no final state
@@ -26,6 +27,7 @@ use Rattle.ruleformat.specs.Claims.{AllZero}
 use Rattle.delegates.specs.Alike.{AcceptsFrom, Alike, Live}
 use Rattle.calls.specs.Calls.{installNumber}
 use Rattle.reduce.specs.Reducing.{reduceOf}
+use Rattle.reduce.specs.Worked.{reductions, Answered}
 
 abbrev pub Nothing : Automaton → Type 0
 Nothing a = (w : List ℕ) → Accepts a w → ⊥
@@ -95,4 +97,7 @@ pub record ReduceLaw (r : Rule) : Type 0 where
   pub again-number : reduceOf r .number ≡ none → (x : ℕ) → reduceOf (reduceOf r .rule) .number ≡ some x → x ≡ 9
 
 pub record Claims : Type 0 where
+  -- rules reduced by hand, and refusals at the edges
+  pub answered : Answered reductions
+  -- reducing any value
   pub reducing : (r : Rule) → ReduceLaw r
