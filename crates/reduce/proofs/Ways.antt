@@ -43,7 +43,7 @@ use Rattle.calls.proofs.Conditions.{install-number}
 use Rattle.reduce.specs.Reducing.{Reducing, refusedBy, reducingBy, reduceOf}
 use Rattle.reduce.proofs.Law.{few-install, reduce-law}
 use Rattle.reduce.specs.Reduced.{gather, delegated, rank, renamed, rowOf, targetsOf, cellIn, reducedBy, keptOf, ownList, reachedOf, chosenCell, chosenOf, listIn, keptIn, reducedOf}
-use Rattle.reduce.proofs.Ranks.{bit-lt}
+use Rattle.reduce.proofs.Ranks.{bit-lt, rank-most}
 
 -- ---- `count`
 module _ (set p : ℕ) where
@@ -55,6 +55,9 @@ module _ (set p : ℕ) where
       let ne = eqb-false (bit set p) 1 e in
       let z : bit set p ≡ 0 = omega (arith, bit-lt set p) in
       omega (arith, total-more (bit set) p)
+
+pub count-low : (set q n : ℕ) → n ≡ rank set q → q < 32 → n < 32
+count-low set q n e h = omega (arith, rank-most set q)
 
 -- ---- `delegate_set`
 module _ (d : List ℕ) (q : ℕ) (a : DelegateAnswer) (said : delegateMeans a ≡ delegateIn d q) where

@@ -8,8 +8,7 @@ use lib.Bits.{bitAnd}
 use borrow.Author.Needs.{needs}
 use Rattle.masks.specs.Masks.{single, union}
 use Rattle.reduce.specs.Reduced.{rank}
-use Rattle.reduce.proofs.Ranks.{rank-most}
-use Rattle.reduce.proofs.Ways.{more, skip}
+use Rattle.reduce.proofs.Ways.{count-low, more, skip}
 use Rattle.reduce.proofs.renamed.Statement.{statement}
 use Rattle.reduce.proofs.renamed.Tie as tie
 
@@ -30,13 +29,7 @@ count-requires : tie.Need-count-requires Inv-loop μ-loop
 count-requires c κs = search needs
 
 singleton-requires : tie.Need-singleton-requires Inv-loop μ-loop
-singleton-requires c κs =
-    let l = c .before .before .before .before .loop in
-    let a = c .before .before .before .before .before .args in
-    let h : c .count .result ≡ rank (a .kept) (l .q) = c .count .ensures in
-    let m : l .q < 32 = omega arith in
-    let n = rank-most (a .kept) (l .q) in
-    omega arith
+singleton-requires c κs = search (needs, count-low)
 
 union-requires : tie.Need-union-requires Inv-loop μ-loop
 union-requires c κs = search needs
