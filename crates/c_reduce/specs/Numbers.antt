@@ -1,9 +1,9 @@
 -- The numbers that C is given for a rule reduced. Every field is fixed.
 --
 --   bitBy t            1 where t holds, else 0
---   reduceShown m      what reducing answers: accepted 1 and refused 0, or accepted 0 and the number
---                      of the refusal; whether the result installs; the rule is all zeros where it is
---                      refused
+--   reduceShown m      what reducing answers: accepted 1 and refused 0, or accepted 0 and the
+--                      number of the refusal; whether the result installs; the rule is all zeros
+--                      where it is refused
 --   reduceReadBack r   what such a result says, read back from its numbers
 use mathlib.Core.Bool.{Bool, cond}
 use mathlib.Core.Option.{none, some, Option·getD}

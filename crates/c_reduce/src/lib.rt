@@ -5,8 +5,8 @@ ghost use Rattle.c_reduce.specs.Numbers.{bitBy, reduceShown};
 use automaton::Rule;
 use reduce::ReduceAnswer;
 
-// Accepted is 1 or 0; where it is 0, refused has the number, and installs and every number of the rule
-// are 0. Installs is 1 where installing the reduced rule is accepted.
+// Accepted is 1 or 0; where it is 0, refused has the number, and installs and every number of the
+// rule are 0. Installs is 1 where installing the reduced rule is accepted.
 #[repr(C)]
 pub struct ReduceNumbers {
     pub accepted: u8,

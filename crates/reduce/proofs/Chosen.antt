@@ -1,5 +1,5 @@
--- What stands for a reachable state: the lowest reachable one alike to it. Assumes a well-formed rule
--- and the list of its automaton's delegates.
+-- What stands for a reachable state: the lowest reachable one alike to it. Assumes a well-formed
+-- rule and the list of its automaton's delegates.
 --
 --   by-itself     each state stands for itself
 --   reached-law   the set of reached states has the reachable ones

@@ -29,8 +29,8 @@ use Rattle.reduce.specs.Worked.{once, twice, odd, even, notReached, dead
 abbrev padded : ℕ → List ℕ → List ℕ
 padded x l = l ++ replicate (32 - length l) x
 
--- the rule r comes to m, where each step comes to what is given: the delegates, the reached states, what
--- stands for each, and the states that stay
+-- the rule r comes to m, where each step comes to what is given: the delegates, the reached states,
+-- what stands for each, and the states that stay
 module _ (r m : Rule) (delegates : List ℕ) (reached : ℕ) (chosen : List ℕ) (kept : ℕ) where
   by-hand : installNumber r ≡ none
       → startsIn r .delegates ≡ padded 0 delegates

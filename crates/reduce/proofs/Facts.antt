@@ -1,5 +1,5 @@
--- The reduced rule is well formed, and its automaton is that of the rule with alike states made one.
--- Assumes a well-formed rule and a list of what stands for its states.
+-- The reduced rule is well formed, and its automaton is that of the rule with alike states made
+-- one. Assumes a well-formed rule and a list of what stands for its states.
 --
 --   delegated-law     the delegates of the members of a set
 --   Stays, stays-in   what a state that stays is the delegate of

@@ -1,5 +1,5 @@
--- The words fix every number of the reduced rule: two well-formed rules that are renumbered from the
--- same one so, and of which every state is reachable, are equal. Assumes tables of 512 cells.
+-- The words fix every number of the reduced rule: two well-formed rules that are renumbered from
+-- the same one so, and of which every state is reachable, are equal. Assumes tables of 512 cells.
 use mathlib.Core.Path.{_≡_, refl, sym, ap, _∙_, subst}
 use mathlib.Core.Logic.{_↔_}
 use mathlib.Core.List.{List}

@@ -1,5 +1,6 @@
 -- A lean rule is its own reduced rule: every state is its own delegate and stays, so each keeps its
--- number. Assumes a well-formed rule with a table of 512 cells, and a list of what stands for its states.
+-- number. Assumes a well-formed rule with a table of 512 cells, and a list of what stands for its
+-- states.
 use mathlib.Core.Path.{_≡_, refl, sym, ap, _∙_, subst}
 use mathlib.Core.List.{List}
 use mathlib.Core.Option.{Option, none, some}

@@ -1,5 +1,5 @@
--- One turn of each loop, and each way out of the definitions that the functions are held to. Assumes
--- nothing.
+-- One turn of each loop, and each way out of the definitions that the functions are held to.
+-- Assumes nothing.
 use mathlib.Core.Path.{_≡_, refl, sym, ap, ap₂, _∙_}
 use mathlib.Core.Bool.{Bool, true, false, cond, not, _&&_}
 use mathlib.Core.List.{List}

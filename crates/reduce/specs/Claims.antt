@@ -1,5 +1,5 @@
--- What is claimed of reducing, for rules worked by hand and for every value; proofs/Claims.antt proves
--- it.
+-- What is claimed of reducing, for rules worked by hand and for every value; proofs/Claims.antt
+-- proves it.
 --
 --   Nothing a        the automaton accepts no text
 --   emptyRule k      one state, no arcs, no initial and no final state
@@ -7,8 +7,8 @@
 --                    alike
 --   Reachable r x    some text leads from an initial state to x
 --   Stands r q x     x stands for q: q is live, and x is the lowest reachable state alike to it
---   Renumbered r n   what each number of the new rule n is, in words of the rule r: old p is the old
---                    number of the new state p
+--   Renumbered r n   what each number of the new rule n is, in words of the rule r: old p is the
+--                    old number of the new state p
 --   ReduceLaw r      all that is promised of reducing the value r
 use mathlib.Core.Path.{_≡_}
 use mathlib.Core.Logic.{_↔_}

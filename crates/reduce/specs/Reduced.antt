@@ -1,18 +1,19 @@
 -- The reduced rule, as a value: dead and unreachable states go, alike states become the lowest
 -- reachable one of them, and what is left is numbered anew from 0 in its old order. d lists what
--- stands for each state: its delegate, or the state itself, or the lowest reachable one alike to it.
+-- stands for each state: its delegate, or the state itself, or the lowest reachable one alike to
+-- it.
 --
 --   gather f n              the union of the sets f 0, f 1, .. f (n − 1)
 --   delegated d m           what stands for the members of m: none for a state that leads nowhere
 --   onward ts d m           m, with what stands for every target of an arc from a member of m
 --   rounds ts d m i         what at most i such steps lead to from m
---   keptOf ts d initials    the states that stay: what any number of steps leads to from what stands
---                           for the initial states. There are at most 32 states, so 32 steps are
---                           enough
+--   keptOf ts d initials    the states that stay: what any number of steps leads to from what
+--                           stands for the initial states. There are at most 32 states, so 32 steps
+--                           are enough
 --   ownList                 the list in which each state stands for itself
 --   reachedOf ts initials   the states that are reached from an initial state
---   chosenOf d reached      the list in which the lowest reached state with the same delegate stands
---                           for each reached state, and none for one that has none
+--   chosenOf d reached      the list in which the lowest reached state with the same delegate
+--                           stands for each reached state, and none for one that has none
 --   rank kept q             how many states that stay are below q: the new number of q
 --   renamed kept m          the new numbers of the members of m that stay
 --   rowOf .. p s q          the new targets of the old state q where its new number is p, else none

@@ -1,10 +1,10 @@
--- What reducing a rule answers, whatever numbers stand in it: refused with the number with which its
--- installation is refused (3, 4, 6, 8 or 9), and zeros then. A reduced rule can have more than 512
--- sets though the rule that it came from has not, so the answer says whether it installs.
+-- What reducing a rule answers, whatever numbers stand in it: refused with the number with which
+-- its installation is refused (3, 4, 6, 8 or 9), and zeros then. A reduced rule can have more than
+-- 512 sets though the rule that it came from has not, so the answer says whether it installs.
 --
 --   reduceMeans     the number for each case of the answer
---   Reducing        what reducing answers: the number, or none; a rule; and whether that rule installs:
---                   its installation is accepted
+--   Reducing        what reducing answers: the number, or none; a rule; and whether that rule
+--                   installs: its installation is accepted
 --   reduceOutcome   what the code's result stands for
 --   refusedBy number   a refusal, with zeros
 --   reduceOf r      what reducing the rule r answers

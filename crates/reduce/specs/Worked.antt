@@ -1,12 +1,12 @@
--- Rules reduced by hand, and refusals at the edges: one list, and one claim over it. All but `even` and
--- `second` have the symbol 0 alone. proofs/Examples.antt proves the claim.
+-- Rules reduced by hand, and refusals at the edges: one list, and one claim over it. All but `even`
+-- and `second` have the symbol 0 alone. proofs/Examples.antt proves the claim.
 --
 --   arcs masks         a table for the symbol 0: the mask of state 0, of state 1, ..
 --   also q s m masks   the same table with the mask m for the state q and the symbol s
 --   once, twice        the texts 0, and 0 0: a state leads to the next, and the last is final
 --   odd                the texts of odd length: 0 and 1 lead to each other, and 1 is final
---   even               the texts with an even number of 0s: 0, which is initial and final, and 1 lead to
---                      each other by 0, and each to itself by 1
+--   even               the texts with an even number of 0s: 0, which is initial and final, and 1
+--                      lead to each other by 0, and each to itself by 1
 --   notReached, dead, lowerNotReached, second, alike, noText   rules that are not lean
 --   reducedTo r        accepted with the rule r, which installs
 --   case r m           the rule r, reduced, comes to m
@@ -54,17 +54,18 @@ notReached = rule 3 1 1 2 (arcs (2 ∷ 0 ∷ 1 ∷ []))
 abbrev pub dead : Rule
 dead = rule 3 1 1 2 (arcs (6 ∷ 0 ∷ 4 ∷ []))
 
--- 0 leads to 2 and 2 to 4; 1 leads to 3, and neither is reached. 3 and 4 are final, so 1 is alike to 2
--- and 3 to 4
+-- 0 leads to 2 and 2 to 4; 1 leads to 3, and neither is reached. 3 and 4 are final, so 1 is alike
+-- to 2 and 3 to 4
 abbrev pub lowerNotReached : Rule
 lowerNotReached = rule 5 1 1 24 (arcs (4 ∷ 8 ∷ 16 ∷ []))
 
--- 1, which is initial and final, and 2 lead to each other by 0, and each to itself by 1; 0 leads to 2 by
--- 0
+-- 1, which is initial and final, and 2 lead to each other by 0, and each to itself by 1; 0 leads to
+-- 2 by 0
 abbrev pub second : Rule
 second = rule 3 2 2 2 (also 1 1 2 (also 2 1 4 (arcs (4 ∷ 4 ∷ 2 ∷ []))))
 
--- 0, 1 and 2 are initial, and 3 is final: 0 and 2 lead to 3, which leads to 2, and 1 to itself alone
+-- 0, 1 and 2 are initial, and 3 is final: 0 and 2 lead to 3, which leads to 2, and 1 to itself
+-- alone
 abbrev pub alike : Rule
 alike = rule 4 1 7 8 (arcs (8 ∷ 2 ∷ 8 ∷ 4 ∷ []))
 

@@ -1,5 +1,6 @@
 // Reduces a rule: dead and unreachable states go, alike states become the lowest reachable one of
-// them, and what is left is numbered anew from 0 in its old order. Any numbers may stand in the rule.
+// them, and what is left is numbered anew from 0 in its old order. Any numbers may stand in the
+// rule.
 ghost use mathlib.Core.Path.{_≡_};
 ghost use Prim.Native.Nat.{_≤_, _<_, max};
 ghost use Rattle.base.specs.Lists.{listFrom};
@@ -25,9 +26,9 @@ pub enum ReduceAnswer {
     Refused(u8),
 }
 
-// An answer with the reduced rule beside it, and whether installing that rule is accepted: it can have
-// more than 512 sets though the rule it came from has not. All zeros and false where the rule is
-// refused.
+// An answer with the reduced rule beside it, and whether installing that rule is accepted: it can
+// have more than 512 sets though the rule it came from has not. All zeros and false where the rule
+// is refused.
 pub struct ReduceResult {
     pub answer: ReduceAnswer,
     pub installs: bool,

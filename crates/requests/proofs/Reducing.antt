@@ -1,26 +1,27 @@
--- A RULE REDUCED, sentence by sentence. Under each stands the theorem that meets it; its proof only cites
--- the file that has it. To believe them, read the definitions that they name:
+-- A RULE REDUCED, sentence by sentence. Under each stands the theorem that meets it; its proof only
+-- cites the file that has it. To believe them, read the definitions that they name:
 --
---   reduceOf r                   what reducing the value r answers          reduce/specs/Reducing
---   Stands r q x                 x is the lowest reachable state alike to q reduce/specs/Claims
---   Renumbered r n               what each number of n is, in words of r    reduce/specs/Claims
---   Reachable, Lean, Nothing     of states, of rules, of automata           reduce/specs/Claims
---   emptyRule k                  one state, and all masks 0                 reduce/specs/Claims
---   reductions, Answered         rules reduced by hand                      reduce/specs/Worked
---   Live, Alike                  of states (R-7)                            delegates/specs/Alike
---   installNumber r              3, 4, 6, 8, 9 of an installation           calls/specs/Calls
---   ruleNumber r, AllZero        the check of a rule as a value (R-3)       rulecheck/specs/Checking, ruleformat/specs/Claims
---   Accepts, Equivalent          automata and their texts (000)             automaton/specs/Automaton
---   automatonOf r, WellFormed    of a rule                                  automaton/specs/Rules
---   MayReduce, MayReduceC        what the functions' contracts allow        requests/specs/ReduceFunction
---   reduceShown                  C's numbers                                c_reduce/specs/Numbers
---   Filled h r ws                a filled board with the chunks ws          mapverdict/specs/Filled
---   verdictIn h, textIn h        what 01 says of a list of calls            histories/specs/History
+--   reduceOf r                 what reducing the value r answers           reduce/specs/Reducing
+--   Stands r q x               x is the lowest reachable state alike to q  reduce/specs/Claims
+--   Renumbered r n             what each number of n is, in words of r     reduce/specs/Claims
+--   Reachable, Lean, Nothing   of states, of rules, of automata            reduce/specs/Claims
+--   emptyRule k                one state, and all masks 0                  reduce/specs/Claims
+--   reductions, Answered       rules reduced by hand                       reduce/specs/Worked
+--   Live, Alike                of states (R-7)                             delegates/specs/Alike
+--   installNumber r            3, 4, 6, 8, 9 of an installation            calls/specs/Calls
+--   ruleNumber r               3, 4, 6, 8 of a rule as a value (R-3)       rulecheck/specs/Checking
+--   AllZero r                  every number of it is 0                     ruleformat/specs/Claims
+--   Accepts, Equivalent        automata and their texts (000)              automaton/specs/Automaton
+--   automatonOf r, WellFormed  of a rule                                   automaton/specs/Rules
+--   MayReduce, MayReduceC      what the functions' contracts allow         requests/specs/ReduceFunction
+--   reduceShown                C's numbers                                 c_reduce/specs/Numbers
+--   Filled h r ws              a filled board with the chunks ws           mapverdict/specs/Filled
+--   verdictIn h, textIn h      what 01 says of a list of calls             histories/specs/History
 --
--- r is any value, in which any numbers may stand. How the reduced rule is found (reduce/specs/Reduced)
--- need not be believed: its words, and `only` and `nothing`, fix every number of it. It is not the
--- smallest automaton that accepts these texts. A proved function ends and stays within its bounds.
--- Assumes nothing.
+-- r is any value, in which any numbers may stand. How the reduced rule is found
+-- (reduce/specs/Reduced) need not be believed: its words, and `only` and `nothing`, fix every
+-- number of it. It is not the smallest automaton that accepts these texts. A proved function ends
+-- and stays within its bounds. Assumes nothing.
 use mathlib.Core.Path.{_≡_, sym, ap, _∙_, subst}
 use mathlib.Core.Logic.{_↔_}
 use mathlib.Core.Bool.{true, false}
@@ -76,8 +77,8 @@ module _ (r : Rule) (e : reduceOf r .number ≡ none) where
   pub language : Equivalent (automatonOf (reduceOf r .rule)) (automatonOf r)
   language = reducing r .language e
 
-  -- "in which every state can be reached from an initial state, every state is live (R-7), and no two
-  -- states are alike" (where some text is accepted):
+  -- "in which every state can be reached from an initial state, every state is live (R-7), and no
+  -- two states are alike" (where some text is accepted):
   module _ (w : List ℕ) (accepted : Accepts (automatonOf r) w) where
     pub all-reached : (p : ℕ) → p < reduceOf r .rule .n → Reachable (reduceOf r .rule) p
     all-reached = reducing r .lean e w accepted .reached
@@ -89,12 +90,13 @@ module _ (r : Rule) (e : reduceOf r .number ≡ none) where
         → Alike (automatonOf (reduceOf r .rule)) p q → p ≡ q
     none-alike = reducing r .lean e w accepted .distinct
 
-    -- "unreachable and dead states go, and each state is represented by the lowest reachable state alike
-    -- to it; states keep their order and are numbered from 0":
+    -- "unreachable and dead states go, and each state is represented by the lowest reachable state
+    -- alike to it; states keep their order and are numbered from 0":
     pub renumbered : Renumbered r (reduceOf r .rule)
     renumbered = reducing r .renumbered e w accepted
 
-    -- The words leave nothing open: any well-formed value of the type that is so made is the one answered.
+    -- The words leave nothing open: any well-formed value of the type that is so made is the one
+    -- answered.
     pub only : (n : Rule) → length (n .targets) ≡ targetCells → WellFormed n → n .k ≡ r .k
         → ((p : ℕ) → p < n .n → Reachable n p) → Renumbered r n → n ≡ reduceOf r .rule
     only = reducing r .only e w accepted
@@ -126,8 +128,8 @@ number r = reducing r .number
 pub zeros : (r : Rule) (x : ℕ) → reduceOf r .number ≡ some x → AllZero (reduceOf r .rule) × (reduceOf r .installs ≡ false)
 zeros r = reducing r .zeros
 
--- "a reduced rule can have more sets than the rule it came from, so that installing may refuse it with 9.
--- The answer carries whether the result installs":
+-- "a reduced rule can have more sets than the rule it came from, so that installing may refuse it
+-- with 9. The answer carries whether the result installs":
 pub installs-exactly : (r : Rule) → (reduceOf r .installs ≡ true) ↔ (installNumber (reduceOf r .rule) ≡ none)
 installs-exactly r = reducing r .installs-exactly
 
@@ -150,9 +152,9 @@ pub read-back : (r : Rule) (m : ReduceNumbers) → MayReduceC r m → reduceRead
 read-back r m x = ap reduceReadBack (from-C r m .0 x) ∙ c-reduce.claims .reduce-read-back (reduceOf r)
 
 -- ---- FROM A RULE TO A VERDICT
--- Where the rule of the judge is the reduced one, and no place is empty, the verdict is yes exactly when
--- the rule that it came from accepts the standing chunks, without their idle marks, and no exactly when it
--- does not.
+-- Where the rule of the judge is the reduced one, and no place is empty, the verdict is yes exactly
+-- when the rule that it came from accepts the standing chunks, without their idle marks, and no
+-- exactly when it does not.
 module _ (r : Rule) (e : reduceOf r .number ≡ none) (h : List Call) where
   module _ (rule : ruleIn h ≡ reduceOf r .rule) where
     judges : Accepts (automatonOf (ruleIn h)) (textIn h) ↔ Accepts (automatonOf r) (textIn h)
@@ -168,8 +170,8 @@ module _ (r : Rule) (e : reduceOf r .number ≡ none) (h : List Call) where
     judged-no board full =
         let v = every-list h .verdict .rejects board full in ((λ n a. v .0 n (judges .1 a)), λ n. v .1 (λ a. n (judges .0 a)))
 
-  -- So a judge with the reduced rule and a judge with the rule itself, whose boards are filled with the
-  -- same chunks, give the same yes or no.
+  -- So a judge with the reduced rule and a judge with the rule itself, whose boards are filled with
+  -- the same chunks, give the same yes or no.
   module _ (g : List Call) (ws : List (List ℕ)) (before : Filled g r ws) (after : Filled h (reduceOf r .rule) ws) where
     same-text : textIn h ≡ textIn g
     same-text = boards.text-is h (reduceOf r .rule) ws after ∙ sym (boards.text-is g r ws before)

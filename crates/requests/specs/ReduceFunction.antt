@@ -1,5 +1,5 @@
--- What the functions that reduce a rule ask and allow by their own contracts, as the checker reads them
--- (`Reads`): any result that the contract does not rule out.
+-- What the functions that reduce a rule ask and allow by their own contracts, as the checker reads
+-- them (`Reads`): any result that the contract does not rule out.
 --
 --   AsksReduce, MayReduce    `reduce`: before it is called on a rule, and what it may return for it
 --   AsksReduceC, MayReduceC  `bellbadger_reduce`, which C links: the same

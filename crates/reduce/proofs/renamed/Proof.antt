@@ -1,5 +1,5 @@
--- `renamed` meets its contract. The loop's invariant: `out` has the new numbers of the members below
--- q. Assumes nothing.
+-- `renamed` meets its contract. The loop's invariant: `out` has the new numbers of the members
+-- below q. Assumes nothing.
 use mathlib.Core.Path.{_≡_, refl, sym, ap, _∙_}
 use mathlib.Core.Logic.{⊎-elim}
 use Prim.Native.Nat.{ℕ, _-_, _≤_, _<_}
