@@ -2,10 +2,10 @@
 use mathlib.Core.Path.{_≡_, sym, ap, _∙_}
 use Prim.Native.Nat.{ℕ}
 use Rattle.automaton.specs.declared.Rule.{Rule}
-use Rattle.reduce.specs.declared.ReduceAnswer.{ReduceAnswer}
-use Rattle.reduce.specs.declared.ReduceAnswer.the-variants.{Accepted, Refused}
-use Rattle.reduce.specs.declared.ReduceResult.{ReduceResult}
-use Rattle.reduce.specs.Reducing.{reduceMeans, reduceOutcome, reduceOf}
+use Rattle.reducing.specs.declared.ReduceAnswer.{ReduceAnswer}
+use Rattle.reducing.specs.declared.ReduceAnswer.the-variants.{Accepted, Refused}
+use Rattle.reducing.specs.declared.ReduceResult.{ReduceResult}
+use Rattle.reducing.specs.Reducing.{reduceMeans, reduceOutcome, reduceOf}
 use Rattle.c_reduce.specs.Numbers.{bitBy, reduceShown}
 
 module _ (r : Rule) (m : ReduceResult) (is : reduceOutcome m ≡ reduceOf r) (i : ℕ) (bit : i ≡ bitBy (m .installs)) where

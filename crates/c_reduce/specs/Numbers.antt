@@ -10,7 +10,7 @@ use mathlib.Core.Option.{none, some, Option·getD}
 use Prim.Native.Nat.{ℕ}
 use lib.Dec.{eqb}
 use Rattle.base.specs.Options.{isNone}
-use Rattle.reduce.specs.Reducing.{Reducing}
+use Rattle.reducing.specs.Reducing.{Reducing}
 use Rattle.c_reduce.specs.declared.ReduceNumbers.{ReduceNumbers}
 
 abbrev pub bitBy : Bool → ℕ

@@ -1,9 +1,9 @@
 // Reducing a rule for C and Rust. The answer is numbers.
 ghost use mathlib.Core.Path.{_≡_};
-ghost use Rattle.reduce.specs.Reducing.{reduceOf};
+ghost use Rattle.reducing.specs.Reducing.{reduceOf};
 ghost use Rattle.c_reduce.specs.Numbers.{bitBy, reduceShown};
 use automaton::Rule;
-use reduce::ReduceAnswer;
+use reducing::ReduceAnswer;
 
 // Accepted is 1 or 0; where it is 0, refused has the number, and installs and every number of the
 // rule are 0. Installs is 1 where installing the reduced rule is accepted.

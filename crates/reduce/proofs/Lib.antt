@@ -1,12 +1,1 @@
--- In the order in which they build on each other.
-pub mod Ranks
-pub mod Rounds
-pub mod Quotient
-pub mod Facts
-pub mod Chosen
-pub mod Same
-pub mod Only
-pub mod Law
-pub mod Examples
-pub mod Claims
 pub mod Ways

@@ -40,10 +40,10 @@ use Rattle.build.specs.declared.BuildResult.{BuildResult}
 use Rattle.build.specs.Building.{accepted, refused, buildMeans, sets, builtOf, noBuilt, Outcome, buildOutcome, buildOf}
 use Rattle.calls.specs.Calls.{installNumber}
 use Rattle.calls.proofs.Conditions.{install-number}
-use Rattle.reduce.specs.Reducing.{Reducing, refusedBy, reducingBy, reduceOf}
-use Rattle.reduce.proofs.Law.{few-install, reduce-law}
-use Rattle.reduce.specs.Reduced.{gather, delegated, rank, renamed, rowOf, targetsOf, cellIn, reducedBy, keptOf, ownList, reachedOf, chosenCell, chosenOf, listIn, keptIn, reducedOf}
-use Rattle.reduce.proofs.Ranks.{bit-lt, rank-most}
+use Rattle.reducing.specs.Reducing.{Reducing, refusedBy, reducingBy, reduceOf}
+use Rattle.reducing.proofs.Law.{few-install, reduce-law}
+use Rattle.reducing.specs.Reduced.{gather, delegated, rank, renamed, rowOf, targetsOf, cellIn, reducedBy, keptOf, ownList, reachedOf, chosenCell, chosenOf, listIn, keptIn, reducedOf}
+use Rattle.reducing.proofs.Ranks.{bit-lt, rank-most}
 
 -- ---- `count`
 module _ (set p : ℕ) where

@@ -12,28 +12,16 @@ ghost use lib.ListN.{getD};
 ghost use Rattle.subsets.specs.Sets.{tooMany};
 ghost use Rattle.delegates.specs.Classes.{firstFrom};
 ghost use Rattle.delegates.specs.Alike.{delegateIn, ofDelegate};
-ghost use Rattle.reduce.specs.Reduced.{delegated as delegatedOf, onward as onwardOf, keptOf, ownList, reachedOf, chosenCell, chosenOf, rank, renamed as renamedOf, rowOf, targetsOf, cellIn, reducedBy};
-ghost use Rattle.reduce.specs.Reducing.{reduceOutcome, reduceOf, refusedBy};
+ghost use Rattle.reducing.specs.Reduced.{delegated as delegatedOf, onward as onwardOf, keptOf, ownList, reachedOf, chosenCell, chosenOf, rank, renamed as renamedOf, rowOf, targetsOf, cellIn, reducedBy};
+ghost use Rattle.reducing.specs.Reducing.{reduceOutcome, reduceOf, refusedBy};
 use automaton::Rule;
 use build::BuildAnswer;
 use delegates::DelegateAnswer;
 use masks::StateNumber;
+use reducing::ReduceAnswer;
+use reducing::ReduceResult;
 use rulecheck::CheckAnswer;
 use subsets::Numbering;
-
-pub enum ReduceAnswer {
-    Accepted,
-    Refused(u8),
-}
-
-// An answer with the reduced rule beside it, and whether installing that rule is accepted: it can
-// have more than 512 sets though the rule it came from has not. All zeros and false where the rule
-// is refused.
-pub struct ReduceResult {
-    pub answer: ReduceAnswer,
-    pub installs: bool,
-    pub rule: Rule,
-}
 
 // The set of the delegate of state q, which is empty where it has none.
 fn delegate_set(delegates: &[u8; limits::STATES], q: StateNumber) -> u32

@@ -1,12 +1,12 @@
 -- A RULE REDUCED, sentence by sentence. Under each stands the theorem that meets it; its proof only
 -- cites the file that has it. To believe them, read the definitions that they name:
 --
---   reduceOf r                 what reducing the value r answers           reduce/specs/Reducing
---   Stands r q x               x is the lowest reachable state alike to q  reduce/specs/Claims
---   Renumbered r n             what each number of n is, in words of r     reduce/specs/Claims
---   Reachable, Lean, Nothing   of states, of rules, of automata            reduce/specs/Claims
---   emptyRule k                one state, and all masks 0                  reduce/specs/Claims
---   reductions, Answered       rules reduced by hand                       reduce/specs/Worked
+--   reduceOf r                 what reducing the value r answers           reducing/specs/Reducing
+--   Stands r q x               x is the lowest reachable state alike to q  reducing/specs/Claims
+--   Renumbered r n             what each number of n is, in words of r     reducing/specs/Claims
+--   Reachable, Lean, Nothing   of states, of rules, of automata            reducing/specs/Claims
+--   emptyRule k                one state, and all masks 0                  reducing/specs/Claims
+--   reductions, Answered       rules reduced by hand                       reducing/specs/Worked
 --   Live, Alike                of states (R-7)                             delegates/specs/Alike
 --   installNumber r            3, 4, 6, 8, 9 of an installation            calls/specs/Calls
 --   ruleNumber r               3, 4, 6, 8 of a rule as a value (R-3)       rulecheck/specs/Checking
@@ -19,7 +19,7 @@
 --   verdictIn h, textIn h      what 01 says of a list of calls             histories/specs/History
 --
 -- r is any value, in which any numbers may stand. How the reduced rule is found
--- (reduce/specs/Reduced) need not be believed: its words, and `only` and `nothing`, fix every
+-- (reducing/specs/Reduced) need not be believed: its words, and `only` and `nothing`, fix every
 -- number of it. It is not the smallest automaton that accepts these texts. A proved function ends
 -- and stays within its bounds. Assumes nothing.
 use mathlib.Core.Path.{_≡_, sym, ap, _∙_, subst}
@@ -42,11 +42,11 @@ use Rattle.histories.specs.History.{ruleIn, boardIn, emptiesIn, summedIn, textI
 use Rattle.histories.proofs.EveryList.{every-list}
 use Rattle.mapverdict.specs.Filled.{Filled}
 use Rattle.mapverdict.proofs.Boards as boards
-use Rattle.reduce.specs.declared.ReduceResult.{ReduceResult}
-use Rattle.reduce.specs.Reducing.{reduceOutcome, reduceOf}
-use Rattle.reduce.specs.Worked.{reductions, Answered}
-use Rattle.reduce.specs.Claims.{Nothing, emptyRule, Reachable, Lean, Renumbered, ReduceLaw}
-use Rattle.reduce.proofs.Claims as reduce
+use Rattle.reducing.specs.declared.ReduceResult.{ReduceResult}
+use Rattle.reducing.specs.Reducing.{reduceOutcome, reduceOf}
+use Rattle.reducing.specs.Worked.{reductions, Answered}
+use Rattle.reducing.specs.Claims.{Nothing, emptyRule, Reachable, Lean, Renumbered, ReduceLaw}
+use Rattle.reducing.proofs.Claims as reducing
 use Rattle.c_reduce.specs.declared.ReduceNumbers.{ReduceNumbers}
 use Rattle.c_reduce.specs.Numbers.{reduceShown, reduceReadBack}
 use Rattle.c_reduce.proofs.ReadBack as c-reduce
@@ -55,83 +55,83 @@ use Rattle.requests.specs.ReduceFunction.{AsksReduce, MayReduce, AsksRed
 
 -- ---- THE CALL
 -- All that is promised of it, in one place; the sentences below are its parts:
-pub reducing : (r : Rule) → ReduceLaw r
-reducing = reduce.claims .reducing
+pub reducing-law : (r : Rule) → ReduceLaw r
+reducing-law = reducing.claims .reducing
 
 -- and rules worked by hand come to what stands beside them:
 pub by-hand : Answered reductions
-by-hand = reduce.claims .answered
+by-hand = reducing.claims .answered
 
 module _ (r : Rule) (e : reduceOf r .number ≡ none) where
   -- "From a checked rule a checked rule": with the same symbols, and no more states.
   pub checked : ruleNumber (reduceOf r .rule) ≡ none
-  checked = reducing r .checked e
+  checked = reducing-law r .checked e
 
   pub symbols : reduceOf r .rule .k ≡ r .k
-  symbols = reducing r .symbols e
+  symbols = reducing-law r .symbols e
 
   pub fewer : reduceOf r .rule .n ≤ r .n
-  fewer = reducing r .fewer e
+  fewer = reducing-law r .fewer e
 
   -- "that accepts exactly the same texts":
   pub language : Equivalent (automatonOf (reduceOf r .rule)) (automatonOf r)
-  language = reducing r .language e
+  language = reducing-law r .language e
 
   -- "in which every state can be reached from an initial state, every state is live (R-7), and no
   -- two states are alike" (where some text is accepted):
   module _ (w : List ℕ) (accepted : Accepts (automatonOf r) w) where
     pub all-reached : (p : ℕ) → p < reduceOf r .rule .n → Reachable (reduceOf r .rule) p
-    all-reached = reducing r .lean e w accepted .reached
+    all-reached = reducing-law r .lean e w accepted .reached
 
     pub all-live : (p : ℕ) → p < reduceOf r .rule .n → Live (automatonOf (reduceOf r .rule)) p
-    all-live = reducing r .lean e w accepted .live
+    all-live = reducing-law r .lean e w accepted .live
 
     pub none-alike : (p q : ℕ) → p < reduceOf r .rule .n → q < reduceOf r .rule .n
         → Alike (automatonOf (reduceOf r .rule)) p q → p ≡ q
-    none-alike = reducing r .lean e w accepted .distinct
+    none-alike = reducing-law r .lean e w accepted .distinct
 
     -- "unreachable and dead states go, and each state is represented by the lowest reachable state
     -- alike to it; states keep their order and are numbered from 0":
     pub renumbered : Renumbered r (reduceOf r .rule)
-    renumbered = reducing r .renumbered e w accepted
+    renumbered = reducing-law r .renumbered e w accepted
 
     -- The words leave nothing open: any well-formed value of the type that is so made is the one
     -- answered.
     pub only : (n : Rule) → length (n .targets) ≡ targetCells → WellFormed n → n .k ≡ r .k
         → ((p : ℕ) → p < n .n → Reachable n p) → Renumbered r n → n ≡ reduceOf r .rule
-    only = reducing r .only e w accepted
+    only = reducing-law r .only e w accepted
 
   -- "A rule that accepts nothing becomes one state with all masks 0 and the same k":
   pub nothing : Nothing (automatonOf r) → reduceOf r .rule ≡ emptyRule (r .k)
-  nothing = reducing r .nothing e
+  nothing = reducing-law r .nothing e
 
   -- "a rule that is so already is its own reduction":
   pub lean-stays : length (r .targets) ≡ targetCells → Lean r → reduceOf r .rule ≡ r
-  lean-stays long lean = reducing r .lean-stays long lean e
+  lean-stays long lean = reducing-law r .lean-stays long lean e
 
   -- "reducing twice is reducing once where the second is not refused, and only 9 can refuse it":
   pub again : reduceOf (reduceOf r .rule) .number ≡ none → reduceOf (reduceOf r .rule) .rule ≡ reduceOf r .rule
-  again = reducing r .again e
+  again = reducing-law r .again e
 
   pub again-number : (x : ℕ) → reduceOf (reduceOf r .rule) .number ≡ some x → x ≡ 9
-  again-number = reducing r .again-number e
+  again-number = reducing-law r .again-number e
 
 -- It is a value of the type, whatever is answered.
 pub cells : (r : Rule) → length (reduceOf r .rule .targets) ≡ targetCells
-cells r = reducing r .cells
+cells r = reducing-law r .cells
 
 -- ---- THE NUMBERS
 -- "Refused as installing is (3, 4, 6, 8, 9), zeros then":
 pub number : (r : Rule) → reduceOf r .number ≡ installNumber r
-number r = reducing r .number
+number r = reducing-law r .number
 
 pub zeros : (r : Rule) (x : ℕ) → reduceOf r .number ≡ some x → AllZero (reduceOf r .rule) × (reduceOf r .installs ≡ false)
-zeros r = reducing r .zeros
+zeros r = reducing-law r .zeros
 
 -- "a reduced rule can have more sets than the rule it came from, so that installing may refuse it
 -- with 9. The answer carries whether the result installs":
 pub installs-exactly : (r : Rule) → (reduceOf r .installs ≡ true) ↔ (installNumber (reduceOf r .rule) ≡ none)
-installs-exactly r = reducing r .installs-exactly
+installs-exactly r = reducing-law r .installs-exactly
 
 -- ---- THE FUNCTIONS
 -- `reduce` asks nothing, and may return that answer and no other:

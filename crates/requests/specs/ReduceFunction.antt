@@ -6,7 +6,7 @@
 use denote.Triple.Clauses.{AtExit}
 use borrow.Fn.Kinds.{endedOf}
 use Rattle.automaton.specs.declared.Rule.{Rule}
-use Rattle.reduce.specs.declared.ReduceResult.{ReduceResult}
+use Rattle.reducing.specs.declared.ReduceResult.{ReduceResult}
 use Rattle.reduce.proofs.reduce.Reads as reduce-reads
 use Rattle.reduce.proofs.reduce.Kinds as reduce-kinds
 use Rattle.c_reduce.specs.declared.ReduceNumbers.{ReduceNumbers}

@@ -5,7 +5,7 @@ use native.Mathlib.Omega.{arith}
 use borrow.Author.Needs.{needs}
 use lib.ListN.{length, getD, length-set, length-replicate}
 use Rattle.base.proofs.Lists.{is-listFrom, cell-stored}
-use Rattle.reduce.specs.Reduced.{chosenCell}
+use Rattle.reducing.specs.Reduced.{chosenCell}
 use Rattle.reduce.proofs.chosen_list.Statement.{statement}
 use Rattle.reduce.proofs.chosen_list.Tie as tie
 

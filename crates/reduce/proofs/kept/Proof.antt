@@ -3,8 +3,8 @@ use mathlib.Core.Path.{_≡_, refl, sym, ap, _∙_}
 use Prim.Native.Nat.{_≤_, _-_}
 use native.Mathlib.Omega.{arith}
 use borrow.Author.Needs.{needs}
-use Rattle.reduce.specs.Reduced.{delegated, rounds}
-use Rattle.reduce.proofs.Rounds.{rounds-more, rounds-whole}
+use Rattle.reducing.specs.Reduced.{delegated, rounds}
+use Rattle.reducing.proofs.Rounds.{rounds-more, rounds-whole}
 use Rattle.reduce.proofs.kept.Statement.{statement}
 use Rattle.reduce.proofs.kept.Tie as tie
 

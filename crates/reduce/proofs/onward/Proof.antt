@@ -6,7 +6,7 @@ use native.Mathlib.Omega.{arith}
 use lib.Bits.{bitOr}
 use borrow.Author.Needs.{needs}
 use Rattle.automaton.specs.Successor.{successor}
-use Rattle.reduce.specs.Reduced.{gather, delegated}
+use Rattle.reducing.specs.Reduced.{gather, delegated}
 use Rattle.reduce.proofs.Ways.{gather-more}
 use Rattle.reduce.proofs.onward.Statement.{statement}
 use Rattle.reduce.proofs.onward.Tie as tie

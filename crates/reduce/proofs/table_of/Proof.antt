@@ -5,7 +5,7 @@ use native.Mathlib.Omega.{arith}
 use lib.ListN.{length, getD, length-set, length-replicate}
 use borrow.Author.Needs.{needs}
 use Rattle.base.proofs.Lists.{is-listFrom, cell-stored}
-use Rattle.reduce.specs.Reduced.{cellIn}
+use Rattle.reducing.specs.Reduced.{cellIn}
 use Rattle.reduce.proofs.table_of.Statement.{statement}
 use Rattle.reduce.proofs.table_of.Tie as tie
 

@@ -6,7 +6,7 @@ use Prim.Native.Nat.{ℕ, _-_, _≤_}
 use native.Mathlib.Omega.{arith}
 use borrow.Author.Needs.{needs}
 use Rattle.masks.specs.Masks.{union}
-use Rattle.reduce.specs.Reduced.{rowOf}
+use Rattle.reducing.specs.Reduced.{rowOf}
 use Rattle.reduce.proofs.Ways.{more, skip}
 use Rattle.reduce.proofs.targets_of.Statement.{statement}
 use Rattle.reduce.proofs.targets_of.Tie as tie

@@ -26,10 +26,10 @@ use Rattle.automaton.specs.Successor.{successor, Reached}
 use Rattle.automaton.proofs.Laws.{arc-of, successor-law}
 use Rattle.automaton.proofs.Values.{table-law}
 use Rattle.delegates.specs.Alike.{Alike, Live, delegateIn, ofDelegate}
-use Rattle.reduce.specs.Reduced.{gather, delegated, onward, rounds, keptOf, rank, renamed, targetsOf, reducedBy}
-use Rattle.reduce.proofs.Ranks.{bit-lt, rank-less, rank-once, rank-most, renamed-law, gathered, in-gather}
-use Rattle.reduce.proofs.Rounds.{still, in-rounds}
-use Rattle.reduce.proofs.Quotient.{Step, Quotient, run-join}
+use Rattle.reducing.specs.Reduced.{gather, delegated, onward, rounds, keptOf, rank, renamed, targetsOf, reducedBy}
+use Rattle.reducing.proofs.Ranks.{bit-lt, rank-less, rank-once, rank-most, renamed-law, gathered, in-gather}
+use Rattle.reducing.proofs.Rounds.{still, in-rounds}
+use Rattle.reducing.proofs.Quotient.{Step, Quotient, run-join}
 
 -- ---- the delegates of a set
 said-by : (x : ℕ) (o : Option ℕ) → x ∈ ofDelegate single o → o ≡ some x

@@ -17,7 +17,7 @@ use Rattle.base.proofs.Tests.{by-test}
 use Rattle.base.proofs.Totals.{total-most}
 use Rattle.masks.specs.Masks.{bit, _∈_, single, union}
 use Rattle.masks.proofs.Laws.{no-member, or-cases, or-left, or-right, and-members, single-law, part-of, in-union}
-use Rattle.reduce.specs.Reduced.{gather, rank, renamed}
+use Rattle.reducing.specs.Reduced.{gather, rank, renamed}
 
 pub bit-lt : (m q : ℕ) → bit m q < 2
 bit-lt m q = mod-lt (m / 2 ^ q) (lit< tt)

@@ -26,8 +26,8 @@ use Rattle.rulecheck.specs.Checking.{ruleNumber}
 use Rattle.ruleformat.specs.Claims.{AllZero}
 use Rattle.delegates.specs.Alike.{AcceptsFrom, Alike, Live}
 use Rattle.calls.specs.Calls.{installNumber}
-use Rattle.reduce.specs.Reducing.{reduceOf}
-use Rattle.reduce.specs.Worked.{reductions, Answered}
+use Rattle.reducing.specs.Reducing.{reduceOf}
+use Rattle.reducing.specs.Worked.{reductions, Answered}
 
 abbrev pub Nothing : Automaton → Type 0
 Nothing a = (w : List ℕ) → Accepts a w → ⊥

@@ -15,10 +15,10 @@ use Rattle.base.specs.Options.{isNone}
 use Rattle.automaton.specs.declared.Rule.{Rule}
 use Rattle.ruleformat.specs.Reader.{noRule}
 use Rattle.calls.specs.Calls.{installNumber}
-use Rattle.reduce.specs.declared.ReduceAnswer.{ReduceAnswer}
-use Rattle.reduce.specs.declared.ReduceAnswer.the-variants.{Accepted, Refused}
-use Rattle.reduce.specs.declared.ReduceResult.{ReduceResult}
-use Rattle.reduce.specs.Reduced.{reducedOf}
+use Rattle.reducing.specs.declared.ReduceAnswer.{ReduceAnswer}
+use Rattle.reducing.specs.declared.ReduceAnswer.the-variants.{Accepted, Refused}
+use Rattle.reducing.specs.declared.ReduceResult.{ReduceResult}
+use Rattle.reducing.specs.Reduced.{reducedOf}
 
 abbrev pub reduceMeans : ReduceAnswer → Option ℕ
 reduceMeans Accepted = none

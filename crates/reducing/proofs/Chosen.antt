@@ -28,11 +28,11 @@ use Rattle.delegates.specs.Alike.{Alike, Live, Delegate, delegateIn, Merged}
 use Rattle.delegates.specs.Classes.{firstFrom}
 use Rattle.delegates.proofs.Alike.{said-some, said-none, some-said, alike-self, alike-back, alike-on, live-alike, merged-some, delegates-in, same-delegate}
 use Rattle.delegates.proofs.Tests.{Least, found, le-by}
-use Rattle.reduce.specs.Reduced.{gather, delegated, rounds, keptOf, ownList, reachedOf, chosenCell, chosenOf}
-use Rattle.reduce.specs.Claims.{Reachable, Stands}
-use Rattle.reduce.proofs.Ranks.{gathered}
-use Rattle.reduce.proofs.Quotient.{run-join}
-use Rattle.reduce.proofs.Facts.{Choice, delegate-in, begun, first-kept, closed, kept-state}
+use Rattle.reducing.specs.Reduced.{gather, delegated, rounds, keptOf, ownList, reachedOf, chosenCell, chosenOf}
+use Rattle.reducing.specs.Claims.{Reachable, Stands}
+use Rattle.reducing.proofs.Ranks.{gathered}
+use Rattle.reducing.proofs.Quotient.{run-join}
+use Rattle.reducing.proofs.Facts.{Choice, delegate-in, begun, first-kept, closed, kept-state}
 
 own-said : (q : ℕ) → q < 32 → delegateIn ownList q ≡ some q
 own-said q l =

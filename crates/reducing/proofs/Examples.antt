@@ -22,9 +22,9 @@ use Rattle.delegates.specs.Alike.{delegateIn, startCount}
 use Rattle.delegates.specs.Classes.{final, follow, every, firstFrom, alikeTo, liveOf, lowestOf, delegateOf, startsOf}
 use Rattle.delegates.specs.Claims.{startsIn}
 use Rattle.calls.specs.Calls.{installNumber}
-use Rattle.reduce.specs.Reduced.{gather, rounds, keptOf, reachedOf, chosenOf, reducedBy, listIn, keptIn, reducedOf}
-use Rattle.reduce.specs.Reducing.{Reducing, reducingBy, reduceOf}
-use Rattle.reduce.specs.Worked.{once, twice, odd, even, notReached, dead, lowerNotReached, second, alike, noText, reducedTo, reductions, Answered}
+use Rattle.reducing.specs.Reduced.{gather, rounds, keptOf, reachedOf, chosenOf, reducedBy, listIn, keptIn, reducedOf}
+use Rattle.reducing.specs.Reducing.{Reducing, reducingBy, reduceOf}
+use Rattle.reducing.specs.Worked.{once, twice, odd, even, notReached, dead, lowerNotReached, second, alike, noText, reducedTo, reductions, Answered}
 
 abbrev padded : ℕ → List ℕ → List ℕ
 padded x l = l ++ replicate (32 - length l) x

@@ -16,7 +16,7 @@ use Rattle.automaton.specs.declared.Rule.{Rule}
 use Rattle.automaton.specs.Automaton.{Automaton, Arc, Run, stay, move}
 use Rattle.automaton.specs.Rules.{automatonOf, WellFormed}
 use Rattle.automaton.proofs.Values.{Within, same-value}
-use Rattle.reduce.specs.Claims.{Reachable, Stands, Renumbered}
+use Rattle.reducing.specs.Claims.{Reachable, Stands, Renumbered}
 
 -- ---- each state of the one is a state of the other
 module _ (r m n : Rule) (good : WellFormed m) (x : Renumbered r m) (y : Renumbered r n) where

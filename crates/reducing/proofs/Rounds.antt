@@ -17,8 +17,8 @@ use Rattle.base.proofs.Tests.{by-test}
 use Rattle.masks.specs.Masks.{bit, _∈_}
 use Rattle.masks.proofs.Laws.{or-left, ext}
 use Rattle.automaton.specs.Successor.{successor}
-use Rattle.reduce.specs.Reduced.{gather, delegated, onward, rounds, rank}
-use Rattle.reduce.proofs.Ranks.{bit-lt, rank-most}
+use Rattle.reducing.specs.Reduced.{gather, delegated, onward, rounds, rank}
+use Rattle.reducing.proofs.Ranks.{bit-lt, rank-most}
 
 -- ---- sums
 module _ (f g : ℕ → ℕ) where

@@ -35,16 +35,16 @@ use Rattle.delegates.specs.Claims.{startsIn}
 use Rattle.delegates.proofs.Claims as delegates
 use Rattle.calls.specs.Calls.{installNumber}
 use Rattle.calls.proofs.Conditions.{install-number, not-refused}
-use Rattle.reduce.specs.Reduced.{delegated, keptOf, reachedOf, chosenOf, rank, renamed, cellIn, reducedBy, listIn, keptIn, reducedOf}
-use Rattle.reduce.specs.Reducing.{reducingBy, reduceOf}
-use Rattle.reduce.specs.Claims.{Nothing, emptyRule, Stands, Lean, Renumbered, ReduceLaw}
-use Rattle.reduce.proofs.Ranks.{rank-mono, rank-less, rank-once, rank-onto, rank-most, renamed-law}
-use Rattle.reduce.proofs.Quotient.{Quotient, run-join, to-new, to-old, begins, live, alike-old}
-use Rattle.reduce.proofs.Quotient as quotients
-use Rattle.reduce.proofs.Facts.{Choice, own, few-kept, no-bit, well-formed, quotient, reached-in}
-use Rattle.reduce.proofs.Chosen.{For, same-stands, reached-state, choice}
-use Rattle.reduce.proofs.Same.{lean-same}
-use Rattle.reduce.proofs.Only.{one-value}
+use Rattle.reducing.specs.Reduced.{delegated, keptOf, reachedOf, chosenOf, rank, renamed, cellIn, reducedBy, listIn, keptIn, reducedOf}
+use Rattle.reducing.specs.Reducing.{reducingBy, reduceOf}
+use Rattle.reducing.specs.Claims.{Nothing, emptyRule, Stands, Lean, Renumbered, ReduceLaw}
+use Rattle.reducing.proofs.Ranks.{rank-mono, rank-less, rank-once, rank-onto, rank-most, renamed-law}
+use Rattle.reducing.proofs.Quotient.{Quotient, run-join, to-new, to-old, begins, live, alike-old}
+use Rattle.reducing.proofs.Quotient as quotients
+use Rattle.reducing.proofs.Facts.{Choice, own, few-kept, no-bit, well-formed, quotient, reached-in}
+use Rattle.reducing.proofs.Chosen.{For, same-stands, reached-state, choice}
+use Rattle.reducing.proofs.Same.{lean-same}
+use Rattle.reducing.proofs.Only.{one-value}
 
 -- ---- the number
 module _ (r : Rule) where

@@ -21,7 +21,7 @@ use lib.ListN.{set}
 use Rattle.automaton.specs.declared.Rule.{Rule}
 use Rattle.automaton.specs.Rules.{cellOf}
 use Rattle.rulecheck.specs.Worked.{rule, noTargets}
-use Rattle.reduce.specs.Reducing.{Reducing, refusedBy, reduceOf}
+use Rattle.reducing.specs.Reducing.{Reducing, refusedBy, reduceOf}
 
 -- those of state q, of state q + 1, ..
 abbrev pub arcsFrom : ℕ → List ℕ → List ℕ

@@ -16,10 +16,10 @@ use Rattle.automaton.specs.declared.Rule.{Rule}
 use Rattle.automaton.specs.Automaton.{Automaton, Arc, Run, stay, move}
 use Rattle.automaton.specs.Rules.{automatonOf, WellFormed}
 use Rattle.automaton.proofs.Values.{Within, same-value}
-use Rattle.reduce.specs.Reduced.{delegated, keptOf, rank, renamed, cellIn, reducedBy}
-use Rattle.reduce.specs.Claims.{Lean}
-use Rattle.reduce.proofs.Quotient.{Quotient}
-use Rattle.reduce.proofs.Facts.{Choice, no-bit, closed, begun, first-kept, well-formed, quotient}
+use Rattle.reducing.specs.Reduced.{delegated, keptOf, rank, renamed, cellIn, reducedBy}
+use Rattle.reducing.specs.Claims.{Lean}
+use Rattle.reducing.proofs.Quotient.{Quotient}
+use Rattle.reducing.proofs.Facts.{Choice, no-bit, closed, begun, first-kept, well-formed, quotient}
 
 module _ (r : Rule) (good : WellFormed r) (d : List ℕ) (In : ℕ → Type 0) (D : ℕ → Option ℕ → Type 0)
     (C : Choice (automatonOf r) In D d) (lean : Lean r) (long : length (r .targets) ≡ 512)
