@@ -9,8 +9,8 @@
 extern "C" {
 #endif
 
-/* What kind of answer it is; BELLBADGER_REFUSED, 0, is a refusal. It is no truth value: compare it. No kind is
- * one of a verdict or of a diagnosis. */
+/* What kind of answer it is; BELLBADGER_REFUSED, 0, is a refusal. It is no truth value: compare it. No
+ * other kind is one of a verdict or of a diagnosis. */
 enum {
     BELLBADGER_FIRST_ALONE = 10,  /* the first rule accepts the text, and the second does not */
     BELLBADGER_SECOND_ALONE = 11, /* the second accepts it, and the first does not */
@@ -24,6 +24,12 @@ typedef struct {
     uint16_t length;       /* at most 511 */
     uint8_t text[511];
 } bellbadger_compare_result;
+
+/* Whether the two rules accept the same texts: not where they differ or the call was refused. The kind is no
+ * truth value. */
+BELLBADGER_RESULT static inline bool bellbadger_is_same(bellbadger_compare_result compared) {
+    return compared.kind == BELLBADGER_SAME;
+}
 
 /* The shortest text that exactly one of two rules accepts, whatever stands in them, and among the shortest the
  * first by symbols. Refused with 3, 4, 6, 8 as bellbadger_install is, for the first rule, then for the second; then with

@@ -341,9 +341,18 @@ static void garbage(int rounds) {
     }
 }
 
+/* ---- whatever stands in an answer, the kind of the same alone says so */
+static void only_same_is_same(void) {
+    for (int kind = 0; kind < 256; kind++) {
+        bellbadger_compare_result r = {.kind = (uint8_t)kind, .length = 1};
+        CHECK(bellbadger_is_same(r) == (kind == BELLBADGER_SAME));
+    }
+}
+
 int main(int argc, char **argv) {
     int rounds = argc > 1 ? atoi(argv[1]) : 300;
     worked();
+    only_same_is_same();
     up_to_512_pairs();
     refusals();
     small(10 * rounds);

@@ -1,4 +1,4 @@
-// Reducing a rule for C and Rust. The answer is numbers.
+// Reducing a rule for C, Rust and Python. The answer is numbers.
 ghost use mathlib.Core.Path.{_≡_};
 ghost use Rattle.reducing.specs.Reducing.{reduceOf};
 ghost use Rattle.c_reduce.specs.Numbers.{bitBy, reduceShown};

@@ -30,7 +30,7 @@ from .rules import RawRule, raw
 
 __all__ = ["FirstAlone", "SecondAlone", "Same", "compare"]
 
-_REFUSED, _FIRST_ALONE, _SAME = 0, 10, 12
+_REFUSED, _FIRST_ALONE, _SECOND_ALONE, _SAME = 0, 10, 11, 12
 
 
 class _Comparison:
@@ -92,5 +92,5 @@ def compare(one, two):
         raise Refused(result.refused)
     if result.kind == _SAME:
         return Same()
-    alone = FirstAlone if result.kind == _FIRST_ALONE else SecondAlone
+    alone = {_FIRST_ALONE: FirstAlone, _SECOND_ALONE: SecondAlone}[result.kind]
     return alone(bytes(result.text[: result.length]))

@@ -41,10 +41,11 @@ struct RawComparison {
 
 const _: () = assert!(std::mem::size_of::<RawComparison>() == 516);
 
-/// The kinds of an answer; the other, 12, says that there is no text.
+/// The kinds of an answer.
 const REFUSED: u8 = 0;
 const FIRST_ALONE: u8 = 10;
 const SECOND_ALONE: u8 = 11;
+const SAME: u8 = 12;
 
 extern "C" {
     fn bellbadger_compare(one: CheckedRule, two: CheckedRule) -> RawComparison;
@@ -74,7 +75,8 @@ extern "C" {
 /// ```
 ///
 /// # Panics
-/// Where the library that is linked has another version or state than this wrapper was written for.
+/// Where the library that is linked has another version or state than this wrapper was written for, or
+/// answers with a kind that it does not know.
 pub fn compare(one: &CheckedRule, two: &CheckedRule) -> Result<Comparison, Refused> {
     fits();
     // SAFETY: plain numbers.
@@ -84,6 +86,7 @@ pub fn compare(one: &CheckedRule, two: &CheckedRule) -> Result<Comparison, Refus
     Ok(match r.kind {
         FIRST_ALONE => Comparison::FirstAlone(text()),
         SECOND_ALONE => Comparison::SecondAlone(text()),
-        _ => Comparison::Same,
+        SAME => Comparison::Same,
+        other => panic!("the library answers with kind {other}, which this wrapper does not know"),
     })
 }
