@@ -1,9 +1,10 @@
--- A page for each request, one for following a trace in order, and one for comparing two rules.
+-- A page for each request, and one for each capability beyond the papers.
 pub mod MappingFunctions
 pub mod Mappings
 pub mod Samples
 pub mod Patterns
 pub mod Merging
+pub mod Reducing
 pub mod MadeTexts
 pub mod Forms
 pub mod TrayFunctions
