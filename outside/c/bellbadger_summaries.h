@@ -30,10 +30,10 @@ extern "C" {
  * where all that is so, and any other number where the chunks are not neighbours in their order, or not of
  * one rule, or one of them was refused.
  *
- * The digest tells rules apart that are exchanged by mistake: two of them have the same one by chance about
- * once in 2^64 times. It is no signature: whoever wants to can find two rules with one digest. It is h at the
- * end, which is 0 at first and for each number x becomes t + t / 2^23, where t is h * 131073 + x, both modulo
- * 2^64; the numbers are those of a bellbadger_built_rule: n, k, initials, finals, the 32 delegates, the 32 singles,
+ * The digest tells rules apart that are exchanged by mistake; two of them may have the same one by chance. It
+ * is no signature: whoever wants to can find two rules with one digest. It is h at the end, which is 0 at first
+ * and for each half x of a number, its low 16 bits and then the rest, becomes t + t / 2^23, where t is
+ * h * 131073 + x, both modulo 2^64; the numbers are those of a bellbadger_built_rule: n, k, initials, finals, the 32 delegates, the 32 singles,
  * count, the sets (as many as count says), and the 16 cells of next of each of these sets. */
 typedef struct {
     uint32_t leads[32];

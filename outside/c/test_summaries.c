@@ -22,10 +22,12 @@ static uint64_t random_number(void) {
 static uint32_t below(uint32_t limit) { return (uint32_t)((random_number() >> 20) % limit); }
 
 /* the digest by the header's words */
-static uint64_t folded(uint64_t h, uint64_t x) {
+static uint64_t half_folded(uint64_t h, uint64_t x) {
     uint64_t t = h * 131073 + x;
     return t + t / 8388608;
 }
+
+static uint64_t folded(uint64_t h, uint64_t x) { return half_folded(half_folded(h, x % 65536), x / 65536); }
 
 static uint64_t digest(const bellbadger_built_rule *rule) {
     uint64_t h = folded(folded(folded(folded(0, rule->n), rule->k), rule->initials), rule->finals);
@@ -82,7 +84,7 @@ static void by_hand(void) {
     CHECK(sizeof s == BELLBADGER_SUMMARY_SIZE && bellbadger_summary_size() == sizeof s && sizeof(bellbadger_summarize_result) == 184);
     zero = (bellbadger_summary){.leads = {3}, .count = 1, .bytes = 1, .rule = digest(&j.rule), .first = 0, .end = 1};
     one = (bellbadger_summary){.leads = {1, 4}, .count = 2, .bytes = 1, .rule = digest(&j.rule), .first = 1, .end = 2};
-    CHECK(digest(&j.rule) == 0x97a672454960e7ac);
+    CHECK(digest(&j.rule) == 0x7e89fe50a4614f1f);
     CHECK(same_summary(summarize(&j, 0, text, 2, 0), zero) && same_summary(summarize(&j, 1, text + 2, 2, 0), one));
     s = bellbadger_summary_combine(zero, one);
     CHECK(same_summary(s, (bellbadger_summary){.leads = {5}, .count = 3, .bytes = 2, .rule = zero.rule, .first = 0, .end = 2}));
@@ -151,6 +153,40 @@ static void no_wrong_yes(void) {
     CHECK(s.broken == 1);
     conclude(&j, s, 2, BELLBADGER_REFUSED, 42);
     conclude(&other, s, 2, BELLBADGER_REFUSED, 42);
+}
+
+/* a rule and its change have two digests: an exit that moves from one symbol to the other, in sets whose masks
+ * differ by 1 and by 131,073; and any arc, initial or final state that is put in or taken out */
+static void near_rules(int rounds) {
+    static const uint8_t arcs[][3] = {{5, 0, 9}, {7, 1, 9}, {6, 1, 10}, {8, 0, 10}, {9, 0, 11}, {10, 1, 11}, {11, 0, 0}, {2, 0, 1},
+                                      {3, 0, 2}, {4, 0, 3}, {12, 1, 4}, {13, 1, 12}, {14, 1, 13}, {15, 1, 14}, {16, 1, 15}};
+    bellbadger_checked_rule x = {.n = 18, .k = 2, .initials = 2, .finals = 1u << 17 | 1}, y;
+    for (size_t i = 0; i < sizeof arcs / sizeof arcs[0]; i++) x.targets[16 * arcs[i][0] + arcs[i][1]] |= 1u << arcs[i][2];
+    y = x;
+    x.targets[16] = 1u << 5 | 1u << 7, x.targets[17] = 1 | 1u << 6 | 1u << 8 | 1u << 17;
+    y.targets[16] = 1 | 1u << 5 | 1u << 7, y.targets[17] = 1u << 6 | 1u << 8;
+    bellbadger_judge jx = installed(x), jy = installed(y);
+    CHECK(digest(&jx.rule) != digest(&jy.rule));
+    bellbadger_summary s = summarize(&jx, 0, (const uint8_t[]){1}, 1, 0);
+    conclude(&jx, s, 1, BELLBADGER_YES, 1);
+    conclude(&jy, s, 1, BELLBADGER_REFUSED, 43);
+    for (int round = 0; round < rounds; round++) {
+        bellbadger_checked_rule r = {.n = 20, .k = 2, .initials = 1u + below(1u << 20) % 0xfffff, .finals = below(1u << 20)}, t;
+        for (int q = 0; q < 20; q++) r.targets[16 * q] = 1u << below(20), r.targets[16 * q + 1] = below(4) ? 1u << below(20) : 0;
+        t = r;
+        for (int change = 0; change < 2; change++) {
+            uint32_t bits = below(2) ? 1u << below(20) : 131073;
+            switch (below(4)) {
+            case 0: t.initials ^= bits; break;
+            case 1: t.finals ^= bits; break;
+            default: t.targets[16 * below(20) + below(2)] ^= bits; break;
+            }
+        }
+        bellbadger_install_result one = bellbadger_install(bellbadger_new(), r), two = bellbadger_install(bellbadger_new(), t);
+        if (!one.accepted || !two.accepted || !memcmp(&one.judge.rule, &two.judge.rule, sizeof one.judge.rule)) continue;
+        bellbadger_summary a = bellbadger_summarize(one.judge, 0, NULL, 0).summary, b = bellbadger_summarize(two.judge, 0, NULL, 0).summary;
+        CHECK(a.rule != b.rule);
+    }
 }
 
 static bellbadger_summary any_summary(void) {
@@ -384,6 +420,7 @@ static void *all(void *times) {
     by_hand();
     refusals();
     no_wrong_yes();
+    near_rules(2000);
     combining(5 * rules);
     for (int i = 0; i < rules; i++) as_a_board();
     for (int i = 0; i < rules / 20 + 1; i++) many_chunks();

@@ -45,10 +45,11 @@ fn numbers(rule: &Rule) -> Vec<u64> {
 /// The digest of a rule.
 pub fn digest(rule: &Rule) -> u64 {
     let modulus = 1u128 << 64;
-    let next = |h: u128, x: u64| {
+    let half = |h: u128, x: u64| {
         let t = (h * 131_073 + u128::from(x)) % modulus;
         (t + t / (1 << 23)) % modulus
     };
+    let next = |h: u128, x: u64| half(half(h, x % 65_536), x / 65_536);
     numbers(rule).into_iter().fold(0, next) as u64
 }
 

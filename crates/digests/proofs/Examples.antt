@@ -2,9 +2,9 @@
 -- nothing.
 use mathlib.Core.Path.{refl}
 use Rattle.base.specs.Lists.{listFrom}
-use Rattle.digests.specs.Digests.{stirred, digestStep, digestFrom, digestOf}
+use Rattle.digests.specs.Digests.{stirred, halfStep, digestStep, digestFrom, digestOf}
 use Rattle.digests.specs.Worked.{cases, Digests}
 
 pub digests : Digests cases
-unfolding listFrom stirred digestStep digestFrom digestOf
+unfolding listFrom stirred halfStep digestStep digestFrom digestOf
 digests = (refl, (refl, (refl, tt)))

@@ -1,6 +1,7 @@
 -- The laws of digests. Assumes nothing.
 --
---   step-sums          a step, as the code does it with sums that wrap
+--   step-sums          half a step, as the code does it with sums that wrap
+--   step-halves        a step is two of these
 --   digest-below       a digest is a number of 64 bits
 --   from-append        one list of numbers behind another
 --   Left, left-all, left-fewer, left-none   the cells that are left
@@ -17,16 +18,20 @@ use lib.ListN.{getD}
 use Rattle.base.specs.Lists.{listFrom}
 use Rattle.base.proofs.Lists.{cell-of, same-list}
 use Rattle.build.specs.declared.Built.{Built}
-use Rattle.digests.specs.Digests.{stirred, digestStep, digestFrom, firstCells, setsIn, digested, digestOf}
+use Rattle.digests.specs.Digests.{stirred, halfStep, digestStep, digestFrom, firstCells, setsIn, digested, digestOf}
 
-pub step-sums : (h x p s t : ℕ) → p ≡ (h * 2 ^ 17 % 2 ^ 64 + h) % 2 ^ 64 → s ≡ (p + x) % 2 ^ 64 → t ≡ (s + s / 2 ^ 23) % 2 ^ 64 → t ≡ digestStep h x
-unfolding digestStep stirred
+pub step-sums : (h x p s t : ℕ) → p ≡ (h * 2 ^ 17 % 2 ^ 64 + h) % 2 ^ 64 → s ≡ (p + x) % 2 ^ 64 → t ≡ (s + s / 2 ^ 23) % 2 ^ 64 → t ≡ halfStep h x
+unfolding halfStep stirred
 step-sums h x p s t e f g =
     let sum : h * 2 ^ 17 + h + x ≡ h * 131073 + x = omega arith in
     let product : p ≡ (h * 2 ^ 17 + h) % 2 ^ 64 = e ∙ mod-add-mod (h * 2 ^ 17) (2 ^ 64) h in
     let same : s ≡ (h * 131073 + x) % 2 ^ 64 =
     f ∙ ap (λ (y : ℕ). (y + x) % 2 ^ 64) product ∙ mod-add-mod (h * 2 ^ 17 + h) (2 ^ 64) x ∙ ap (λ (y : ℕ). y % 2 ^ 64) sum in
     g ∙ ap stirred same
+
+pub step-halves : (h x m t : ℕ) → m ≡ halfStep h (x % 65536) → t ≡ halfStep m (x / 65536) → t ≡ digestStep h x
+unfolding digestStep
+step-halves h x m t e f = f ∙ ap (λ (y : ℕ). halfStep y (x / 65536)) e
 
 pub from-append : (h : ℕ) (xs ys : List ℕ) → digestFrom h (xs ++ ys) ≡ digestFrom (digestFrom h xs) ys
 unfolding digestFrom
@@ -53,7 +58,7 @@ module _ (g : ℕ → ℕ) (start n : ℕ) where
 
 -- a number of 64 bits
 from-below : (h : ℕ) (xs : List ℕ) → h < 2 ^ 64 → digestFrom h xs < 2 ^ 64
-unfolding digestFrom digestStep stirred
+unfolding digestFrom digestStep halfStep stirred
 from-below h [] l = l
 from-below h (x ∷ xs) l = from-below (digestStep h x) xs (mod-lt _ (lit< tt))
 

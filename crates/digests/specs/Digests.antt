@@ -4,7 +4,9 @@
 -- same says nothing for certain.
 --
 --   stirred t          the number t of 64 bits, with its high bits added to its low ones
---   digestStep h x     the digest h with the number x behind it
+--   halfStep h x       the digest h with the number x, below 65,536, behind it
+--   digestStep h x     the digest h with the number x behind it, its low 16 bits first. What two
+--                      neighbouring halves differ by cannot cancel: 131,073 is more than twice 65,535
 --   digestFrom h xs    the digest h with the numbers xs behind it
 --   firstCells l n     the first n cells of an array
 --   setsIn b           how many sets the built rule b has, at most 512
@@ -23,8 +25,11 @@ use Rattle.build.specs.declared.Built.{Built}
 unfoldable pub stirred : ℕ → ℕ
 stirred t = (t + t / 2 ^ 23) % 2 ^ 64
 
+unfoldable pub halfStep : ℕ → ℕ → ℕ
+halfStep h x = stirred ((h * 131073 + x) % 2 ^ 64)
+
 unfoldable pub digestStep : ℕ → ℕ → ℕ
-digestStep h x = stirred ((h * 131073 + x) % 2 ^ 64)
+digestStep h x = halfStep (halfStep h (x % 65536)) (x / 65536)
 
 unfoldable pub digestFrom : ℕ → List ℕ → ℕ
 digestFrom h [] = h

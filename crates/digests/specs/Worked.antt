@@ -52,8 +52,8 @@ pub data Case : Type 0 where
 
 abbrev pub cases : List Case
 cases =
-    case builtA 10927547187770484652 ∷
-    case anotherA 6036176273173741276 ∷
+    case builtA 9118098542896959263 ∷
+    case anotherA 4783058143461635262 ∷
     case noBuilt 0 ∷ []
 
 abbrev pub Digests : List Case → Type 0

@@ -4,16 +4,24 @@ ghost use mathlib.Core.Path.{_≡_};
 ghost use Prim.Native.Nat.{_≤_};
 ghost use lib.ListN.{length};
 ghost use Rattle.limits.specs.Limits.{mostStates, mostSets};
-ghost use Rattle.digests.specs.Digests.{digestStep, digestFrom, firstCells, digestOf};
+ghost use Rattle.digests.specs.Digests.{halfStep, digestStep, digestFrom, firstCells, digestOf};
 use build::Built;
+
+// The digest with half a number more.
+fn with_half(digest: u64, half: u64) -> u64
+    ensures { λ r. ⌜ r ≡ halfStep digest half ⌝ }
+{
+    let product = std::num::wrapping_add_u64(digest << 17, digest);
+    let sum = std::num::wrapping_add_u64(product, half);
+    std::num::wrapping_add_u64(sum, sum >> 23)
+}
 
 // The digest with one number more.
 fn with_number(digest: u64, number: u64) -> u64
     ensures { λ r. ⌜ r ≡ digestStep digest number ⌝ }
 {
-    let product = std::num::wrapping_add_u64(digest << 17, digest);
-    let sum = std::num::wrapping_add_u64(product, number);
-    std::num::wrapping_add_u64(sum, sum >> 23)
+    let low = with_half(digest, number % 65536);
+    with_half(low, number / 65536)
 }
 
 // The digest with the delegates of all states.

@@ -16,7 +16,7 @@ use Rattle.subsets.specs.Singles.{singletonNumber}
 use Rattle.delegates.specs.Claims.{startsIn}
 use Rattle.delegates.specs.declared.Starts.{Starts}
 use Rattle.build.specs.Building.{builtOf}
-use Rattle.digests.specs.Digests.{stirred, digestStep, digestFrom, firstCells, digestOf}
+use Rattle.digests.specs.Digests.{stirred, halfStep, digestStep, digestFrom, firstCells, digestOf}
 use Rattle.digests.proofs.Laws.{first-of}
 use Rattle.histories.proofs.TwoRules.{listed, starts-A}
 use Rattle.summaryverdict.specs.Worked.{DigestA}
@@ -52,8 +52,8 @@ sets-A : setsOf (ruleOf fileA .targets) (ruleOf fileA .n) (ruleOf fileA .k) ≡ 
 unfolding union listFrom targetsUpTo indexOf numbered expandFrom closeFrom keysUpTo setsOf
 sets-A = refl
 
-computed : digestFrom 0 (numbersBy (ruleOf fileA) (1 ∷ 3 ∷ 5 ∷ 2 ∷ 4 ∷ []) (listed 0 1 2)) ≡ 10927547187770484652
-unfolding union listFrom targetsUpTo indexOf singletonNumber stirred digestStep digestFrom
+computed : digestFrom 0 (numbersBy (ruleOf fileA) (1 ∷ 3 ∷ 5 ∷ 2 ∷ 4 ∷ []) (listed 0 1 2)) ≡ 9118098542896959263
+unfolding union listFrom targetsUpTo indexOf singletonNumber stirred halfStep digestStep digestFrom
 computed = refl
 
 pub digest-A : DigestA

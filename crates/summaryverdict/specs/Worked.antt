@@ -7,4 +7,4 @@ use Rattle.build.specs.Building.{builtOf}
 use Rattle.digests.specs.Digests.{digestOf}
 
 abbrev pub DigestA : Type 0
-DigestA = digestOf (builtOf (ruleOf fileA)) ≡ 10927547187770484652
+DigestA = digestOf (builtOf (ruleOf fileA)) ≡ 9118098542896959263

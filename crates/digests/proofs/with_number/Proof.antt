@@ -1,22 +1,17 @@
 -- `with_number` meets its contract. Assumes nothing.
 use borrow.Author.Needs.{needs}
-use Rattle.digests.proofs.Laws.{step-sums}
+use Rattle.digests.proofs.Laws.{step-halves}
 use Rattle.digests.proofs.with_number.Statement.{statement}
 use Rattle.digests.proofs.with_number.Tie as tie
 
-wrapping-add-u64-requires : tie.Need-wrapping-add-u64-requires
-wrapping-add-u64-requires c κs = search needs
+with-half-requires : tie.Need-with-half-requires
+with-half-requires c κs = search needs
 
-wrapping-add-u64-requires-2 : tie.Need-wrapping-add-u64-requires-2
-wrapping-add-u64-requires-2 c κs = search needs
-
-wrapping-add-u64-requires-3 : tie.Need-wrapping-add-u64-requires-3
-wrapping-add-u64-requires-3 c κs = search needs
+with-half-requires-2 : tie.Need-with-half-requires-2
+with-half-requires-2 c κs = search needs
 
 returns : tie.Need-returns
-returns c = search (needs, step-sums)
+returns c = search (needs, step-halves)
 
 pub with-number-spec : {M : Type 1} → statement M
-with-number-spec =
-    tie.close
-    (tie.spec wrapping-add-u64-requires wrapping-add-u64-requires-2 wrapping-add-u64-requires-3 returns)
+with-number-spec = tie.close (tie.spec with-half-requires with-half-requires-2 returns)
