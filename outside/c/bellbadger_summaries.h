@@ -8,9 +8,10 @@
  * these chunks gives, every field, and so it is for more chunks than a board takes: yes exactly where the rule
  * accepts their texts joined.
  *
- * A chunk that is lost, doubled or out of its order, and a summary by another rule, leave a summary that is
- * broken, begins elsewhere, ends elsewhere or is of another rule: it is refused, and never a wrong yes. This guards
- * against mistakes, not against attackers: whoever makes up the numbers of a summary can have any verdict.
+ * A chunk that is lost, doubled or out of its order leaves a summary that is broken, begins elsewhere or ends
+ * elsewhere: it is refused, and never a wrong yes. A summary by another rule is told by the rule's digest, and
+ * refused; two rules that differ have the same digest only by chance. This is a guard against mistakes and not
+ * against attackers: whoever makes up the numbers of a summary can have any verdict.
  */
 #ifndef BELLBADGER_SUMMARIES_H
 #define BELLBADGER_SUMMARIES_H
@@ -30,10 +31,11 @@ extern "C" {
  * where all that is so, and any other number where the chunks are not neighbours in their order, or not of
  * one rule, or one of them was refused.
  *
- * The digest tells rules apart that are exchanged by mistake; two of them may have the same one by chance. It
- * is no signature: whoever wants to can find two rules with one digest. It is h at the end, which is 0 at first
- * and for each half x of a number, its low 16 bits and then the rest, becomes t + t / 2^23, where t is
- * h * 131073 + x, both modulo 2^64; the numbers are those of a bellbadger_built_rule: n, k, initials, finals, the 32 delegates, the 32 singles,
+ * The digest is a guard against mistakes and not against attackers: two rules that differ have the same digest
+ * only by chance, and it is no signature: whoever wants to can find two rules with one digest. It is h at the
+ * end, which is 0 at first and for each half x of a number, its low 16 bits and then the rest, becomes
+ * t + t / 2^23, where t is h * 131073 + x, both modulo 2^64; the numbers are those of a
+ * bellbadger_built_rule: n, k, initials, finals, the 32 delegates, the 32 singles,
  * count, the sets (as many as count says), and the 16 cells of next of each of these sets. */
 typedef struct {
     uint32_t leads[32];

@@ -1,10 +1,13 @@
-"""Following a trace from Python: chunks worked by hand, refusals that stand until they are dropped, answers that are
-no truth value, and random rules of up to 32 states against plain runs and against a filled board."""
+"""Following a trace from Python: chunks worked by hand, refusals and other exceptions that stand until they are
+dropped, answers that are no truth value, and random rules of up to 32 states against plain runs and against a filled
+board."""
 
+import array
 import dataclasses
 import doctest
 import random
 import unittest
+import unittest.mock
 
 import bellbadger.follow
 from bellbadger import CheckedRule, Judge, Refused, read
@@ -123,6 +126,41 @@ class Follow(unittest.TestCase):
         self.assertTrue(follower.follow(b"\1").is_accepted_so_far)
         follower.drop_refused()
         self.assertTrue(follower.follow(b"").is_accepted_so_far)
+
+    def test_every_exception_stands(self):
+        """Without the chunk that was no bytes 0 and 1 came, which would be accepted."""
+        follower, wide = Follower(ONCE), array.array("H", [1, 1])
+
+        words = r"in TypeError: first drop_refused\(\) or begin\(\)$"
+        for wrong in ("0", None, 5, [0, 0], wide):
+            for go_on in (follower.drop_refused, follower.begin):
+                follower.begin()
+                self.assertFalse(follower.follow(b"\0").is_accepted_so_far)
+                self.assertRaises(TypeError, follower.follow, wrong)
+                for later in (b"\1", b"", bytes([254])):
+                    self.assertRaisesRegex(RuntimeError, words, follower.follow, later)
+                self.assertRaises(TypeError, follower.follow, wrong)
+                self.assertEqual(follower.refused, "TypeError")
+                self.assertEqual(repr(follower), "<Follower: states 3, symbols 2, reached 1, refused TypeError>")
+                go_on()
+                self.assertIsNone(follower.refused)
+                self.assertIs(follower.follow(b"\1").is_accepted_so_far, go_on == follower.drop_refused)
+        # the first one stands
+        follower.begin()
+        self.refused(13, follower.follow, bytes([2]))
+        self.assertRaises(TypeError, follower.follow, "0")
+        self.refused(13, follower.follow, b"\0")
+
+    def test_an_interruption_stands(self):
+        follower = Follower(ONCE)
+        for wrong in (KeyboardInterrupt, MemoryError):
+            follower.begin()
+            self.assertFalse(follower.follow(b"\0").is_accepted_so_far)
+            with unittest.mock.patch("bellbadger.follow.lib.bellbadger_follow_by", side_effect=wrong):
+                self.assertRaises(wrong, follower.follow, b"\0")
+            self.assertRaisesRegex(RuntimeError, f"in {wrong.__name__}: ", follower.follow, b"\1")
+            follower.drop_refused()
+            self.assertTrue(follower.follow(b"\1").is_accepted_so_far)
 
     def test_begun_anew(self):
         follower = Follower(ONCE)

@@ -38,7 +38,24 @@ later chunk is refused with the same number, until the chunk is dropped, or anot
     >>> follower.follow(bytes([1, 2])).is_accepted_so_far  # the chunk as it was meant
     True
 
-A trace is good exactly where no chunk of it was refused and the last answer says is_accepted_so_far. That a
+Every other exception leaves a hole too, and stands likewise:
+
+    >>> follower.begin()
+    >>> follower.follow("0")
+    Traceback (most recent call last):
+    ...
+    TypeError: follow: chunk must be bytes, not str
+    >>> follower.follow(bytes([0]))
+    Traceback (most recent call last):
+    ...
+    RuntimeError: follow: an earlier call ended in TypeError: first drop_refused() or begin()
+    >>> follower.refused
+    'TypeError'
+    >>> follower.drop_refused()
+    >>> follower.follow(bytes([0, 2])).is_accepted_so_far
+    True
+
+A trace is good exactly where no call of follow ended in an exception and the last answer says is_accepted_so_far. That a
 chunk was taken says nothing of that, so an answer is no truth value:
 
     >>> if follower.follow(b""):
@@ -134,30 +151,45 @@ class Follower:
         return f"<Follower: states {rule.n}, symbols {rule.k}, reached {members(self._set)}{refused}>"
 
     def begin(self):
-        """Begins another trace, with the initial states; a refusal stands no more."""
+        """Begins another trace, with the initial states; no refusal and no other exception stands any more."""
         self._set, self._refused = self._follower.rule.initials, None
 
     @property
     def refused(self):
-        """The number with which a chunk was refused, and with it each later one; None where none was."""
+        """The number with which a chunk was refused, and with it each later one; or the name of another exception in
+        which follow ended; None where neither was."""
         return self._refused
 
     def drop_refused(self):
-        """Leaves the refused chunk out, so that the trace goes on behind the last one that was taken. Where the
-        chunk was a part of the trace, hand it in as it was meant, or the trace has a hole that nobody sees."""
+        """Leaves out the chunk that was refused, or by which follow ended in another exception, so that the trace goes
+        on behind the last one that was taken. Where the chunk was a part of the trace, hand it in as it was meant, or
+        the trace has a hole that nobody sees."""
         self._refused = None
 
     def follow(self, chunk):
         """Follows the next chunk: a Followed. Byte 255 is an idle mark, as in a delivery. An empty chunk changes
         nothing, and is answered too. Refused with 12, 13: the chunk is then no part of the trace, and every later
-        one is refused with the same number, until drop_refused or begin."""
-        data = as_bytes("follow", "chunk", chunk)
+        one is refused with the same number, until drop_refused or begin.
+
+        So it is with every exception, as TypeError where the chunk is no bytes: the chunk is no part of the trace, and
+        every later call raises, RuntimeError where the first one was no refusal, until drop_refused or begin."""
+        try:
+            return self._followed(as_bytes("follow", "chunk", chunk))
+        except BaseException as raised:
+            # what stands is the first one
+            if self._refused is None:
+                self._refused = raised.number if isinstance(raised, Refused) else type(raised).__name__
+            raise
+
+    def _followed(self, data):
+        if isinstance(self._refused, str):
+            raise RuntimeError(f"follow: an earlier call ended in {self._refused}: first drop_refused() or begin()")
         if self._refused is not None:
             raise Refused(self._refused)
         result = lib.bellbadger_follow_by(self._follower, self._set, data, len(data))
         if not result.accepted:
-            self._refused = result.refused
             raise Refused(result.refused)
-        self._set = result.set
         expected = tuple(symbol for symbol in range(16) if result.expected >> symbol & 1)
-        return Followed(result.ends == 1, result.at if result.lost else None, expected, result.complete == 1)
+        followed = Followed(result.ends == 1, result.at if result.lost else None, expected, result.complete == 1)
+        self._set = result.set
+        return followed

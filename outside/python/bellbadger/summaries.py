@@ -21,8 +21,9 @@ with these chunks would say, every field, also of more chunks than a board takes
     >>> judge.conclude(whole, 2).is_yes
     True
 
-A chunk that is lost, doubled or out of its order, and a summary by another rule, end in a refusal and never in a
-wrong yes. So say how many chunks there are from what is known of the trace, and not from the summary:
+A chunk that is lost, doubled or out of its order ends in a refusal and never in a wrong yes, where the number of
+chunks is said from what is known of the trace, and not from the summary. A summary by another rule is told by the
+rule's digest, and refused; two rules that differ have the same digest only by chance.
 
     >>> judge.conclude(combine(later, earlier), 2)
     Traceback (most recent call last):
@@ -33,14 +34,17 @@ wrong yes. So say how many chunks there are from what is known of the trace, and
     ...
     bellbadger.refusals.Refused: refused 44: the summary does not end with the last chunk, or there is none
 
-As bytes it can be sent or kept, and pickling does so too:
+As bytes it can be sent or kept, and pickling does so too, with the name of what reads them:
 
     >>> len(whole.to_bytes())
     169
     >>> Summary.from_bytes(whole.to_bytes()) == whole
     True
+    >>> import pickle
+    >>> len(pickle.dumps(whole, protocol=5))
+    263
 
-All this guards against mistakes, not against attackers: whoever makes up the numbers of a summary can have any
+All this is a guard against mistakes and not against attackers: whoever makes up the numbers of a summary can have any
 verdict.
 """
 

@@ -1,7 +1,8 @@
-"""Judges a trace by all processors of one machine: futures.py RULE CHUNK .., files in the order of the trace.
+"""Judges a trace by all processors of one machine: futures.py RULE COUNT CHUNK .., with the number of chunks that the
+trace has, and files whose names end with the digits of their chunk's number, from 0 on, in any order.
 
 Prints the verdict, and ends with status 0 exactly where it is yes. Where nothing is printed there is no verdict: a
-chunk was refused, a file is not there, a process was killed.
+chunk was refused, one is missing, a file is not there, a process was killed.
 """
 
 import functools
@@ -14,6 +15,7 @@ sys.path.insert(0, str(Path(__file__).resolve().parents[1]))  # where bellbadger
 
 from bellbadger import Judge
 from bellbadger.summaries import combine
+from numbered import counted, numbered
 
 
 @functools.lru_cache
@@ -29,17 +31,18 @@ def summarize(rule, number, chunk):
     return judge_by(rule).summarize(number, Path(chunk).read_bytes())
 
 
-def main(rule, *chunks):
+def main(rule, count, *files):
+    count, chunks = counted(count), numbered(files)
     with ProcessPoolExecutor() as processes:
         # in order, whichever is ready first
-        summaries = processes.map(summarize, itertools.repeat(rule), itertools.count(), chunks, chunksize=16)
+        summaries = processes.map(summarize, itertools.repeat(rule), *zip(*chunks), chunksize=16)
         whole = functools.reduce(combine, summaries)
-    verdict = judge_by(rule).conclude(whole, len(chunks))
+    verdict = judge_by(rule).conclude(whole, count)
     print(verdict)
     return 0 if verdict.is_yes else 1
 
 
 if __name__ == "__main__":
-    if len(sys.argv) < 3:
+    if len(sys.argv) < 4:
         sys.exit(__doc__)
     sys.exit(main(*sys.argv[1:]))

@@ -29,9 +29,10 @@
 //! # Ok::<(), Refused>(())
 //! ```
 //!
-//! A chunk that is lost, doubled or out of its order, and a summary by another rule, end in a refusal and
-//! never in a wrong yes. This guards against mistakes, not against attackers: whoever makes up the numbers
-//! of a summary can have any verdict.
+//! A chunk that is lost, doubled or out of its order ends in a refusal and never in a wrong yes. A summary by
+//! another rule is told by the rule's digest, and refused; two rules that differ have the same digest only by
+//! chance. This is a guard against mistakes and not against attackers: whoever makes up the numbers of a
+//! summary can have any verdict.
 use crate::raw::{RawJudge, RawVerdict};
 use crate::{accepted, report, Judge, Refused, Report};
 use std::fmt;
