@@ -15,7 +15,7 @@
 --   automatonOf r, WellFormed  of a rule                                   automaton/specs/Rules
 --   MayReduce, MayReduceC      what the functions' contracts allow         requests/specs/ReduceFunction
 --   reduceShown                C's numbers                                 c_reduce/specs/Numbers
---   Filled h r ws              a filled board with the chunks ws           mapverdict/specs/Filled
+--   Filled h r ws              a filled board with the chunks ws           fillings/specs/Filled
 --   verdictIn h, textIn h      what 01 says of a list of calls             histories/specs/History
 --
 -- r is any value, in which any numbers may stand. How the reduced rule is found
@@ -40,8 +40,8 @@ use Rattle.calls.specs.Replies.{yesWith, noWith}
 use Rattle.calls.specs.Calls.{Call, installNumber}
 use Rattle.histories.specs.History.{ruleIn, boardIn, emptiesIn, summedIn, textIn, verdictIn}
 use Rattle.histories.proofs.EveryList.{every-list}
-use Rattle.mapverdict.specs.Filled.{Filled}
-use Rattle.mapverdict.proofs.Boards as boards
+use Rattle.fillings.specs.Filled.{Filled}
+use Rattle.fillings.proofs.Boards as boards
 use Rattle.reducing.specs.declared.ReduceResult.{ReduceResult}
 use Rattle.reducing.specs.Reducing.{reduceOutcome, reduceOf}
 use Rattle.reducing.specs.Worked.{reductions, Answered}
