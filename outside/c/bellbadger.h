@@ -37,7 +37,7 @@
  * Another major number or size: the two do not fit. A higher minor number of the library: it can
  * more than this header says. */
 #define BELLBADGER_VERSION_MAJOR 5
-#define BELLBADGER_VERSION_MINOR 5
+#define BELLBADGER_VERSION_MINOR 6
 #define BELLBADGER_VERSION (BELLBADGER_VERSION_MAJOR * 65536 + BELLBADGER_VERSION_MINOR)
 #define BELLBADGER_STATE_SIZE 27832 /* the bytes of a bellbadger_judge */
 
@@ -227,6 +227,7 @@ BELLBADGER_RESULT bellbadger_replay_result bellbadger_replay(const uint8_t *text
 #include "bellbadger_patterns.h"
 #include "bellbadger_merge.h"
 #include "bellbadger_compare.h"
+#include "bellbadger_reduce.h"
 #include "bellbadger_texts.h"
 #include "bellbadger_form.h"
 #include "bellbadger_trays.h"

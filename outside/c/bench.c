@@ -395,6 +395,23 @@ static void comparing(const char *name, bellbadger_checked_rule r) {
     printf("  %-34s %8.1f us, its installation %8.1f us, ratio %.2f\n", name, compared, installed, compared / installed);
 }
 
+/* a rule reduced, beside its installation */
+static void reducing(const char *name, bellbadger_checked_rule r) {
+    double reduced, installed;
+    bellbadger_judge fresh = bellbadger_new();
+    if (!bellbadger_reduce(r).installs || !bellbadger_install(fresh, r).accepted) exit(1);
+    MEASURE(reduced, sink += bellbadger_reduce(r).rule.n);
+    MEASURE(installed, sink += bellbadger_install(fresh, r).accepted);
+    printf("  %-34s %8.1f us, its installation %8.1f us, ratio %.2f\n", name, reduced, installed, reduced / installed);
+}
+
+/* two rings of 16 states that accept the same: each state of the one is alike to one of the other */
+static bellbadger_checked_rule twins(void) {
+    bellbadger_checked_rule r = {.n = 32, .k = 16, .initials = 3, .finals = 3};
+    for (int c = 0; c < 512; c++) r.targets[c] = 1u << 2 * ((c / 32 + 1 + c % 16) % 16) << c / 16 % 2;
+    return r;
+}
+
 int main(void) {
     bellbadger_judge j = meeting(32);
     printf("a chunk of 65,536 bytes, beside one plain table walk in C over the same text\n");
@@ -424,6 +441,11 @@ int main(void) {
     comparing("32 states, 16 symbols, 32 pairs", ring());
     comparing("9 states, 2 symbols, 256 pairs", eighth());
     comparing("32 states, 1 symbol, 512 pairs", cycles());
+
+    printf("a rule reduced, beside its installation\n");
+    reducing("32 states, 16 symbols, none goes", ring());
+    reducing("32 states, 16 symbols, 16 go", twins());
+    reducing("9 states, 2 symbols, 264 sets", eighth());
 
     printf("looking for a loss in a chunk of 65,536 bytes, beside a delivery of it\n");
     losses("one run", cycle(32, 2), text, BELLBADGER_NOWHERE);

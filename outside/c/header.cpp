@@ -35,6 +35,7 @@ static bool right() {
     bellbadger_pattern_result pattern = bellbadger_pattern(ends_in_0_1, sizeof ends_in_0_1);
     bellbadger_merge_result merged = bellbadger_merge(BELLBADGER_EITHER, read.rule, read.rule);
     bellbadger_compare_result compared = bellbadger_compare(read.rule, merged.rule);
+    bellbadger_reduce_result reduced = bellbadger_reduce(merged.rule);
     static_assert(sizeof(bellbadger_tray) == BELLBADGER_TRAY_SIZE, "the size that the header says");
     bellbadger_tray_install_result row = bellbadger_tray_install_row(bellbadger_tray_new(), read.rule);
     bellbadger_tray_install_result column = bellbadger_tray_install_column(row.tray, read.rule);
@@ -68,6 +69,7 @@ static bool right() {
         && pattern.accepted && pattern.length == 50 && pattern.bytes[0] == 5
         && merged.accepted && merged.rule.n == 6 && merged.rule.targets[4 * 16 + 1] == 32
         && compared.kind == BELLBADGER_SAME && compared.refused == 0 && compared.length == 0
+        && reduced.accepted && reduced.installs && reduced.rule.n == 3 && reduced.rule.targets[17] == 4
         && bellbadger_tray_size() == sizeof(bellbadger_tray) && row.accepted && row.sets == 5 && column.accepted && tray.accepted
         && band.accepted && band.tray.board.rows[0] == 1 && !no_band.accepted && no_band.refused == 23
         && of_tray.kind == BELLBADGER_NO && of_tray.number == 0 && !bellbadger_tray_is_yes(of_tray)

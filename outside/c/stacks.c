@@ -104,6 +104,9 @@ CALL(compare_same, bellbadger_compare_result, bellbadger_compare(ring, ring))
 CALL(compare_apart, bellbadger_compare_result, bellbadger_compare(a, nearly_a))
 CALL(compare_many, bellbadger_compare_result, bellbadger_compare(many, many))
 CALL(compare_none, bellbadger_compare_result, bellbadger_compare(a, none))
+CALL(reduce_ring, bellbadger_reduce_result, bellbadger_reduce(ring))
+CALL(reduce_many, bellbadger_reduce_result, bellbadger_reduce(many))
+CALL(reduce_none, bellbadger_reduce_result, bellbadger_reduce(none))
 CALL(make_text, bellbadger_made_result, bellbadger_make_text(16, 1, made, sizeof made))
 CALL(form_a, bellbadger_form_result, bellbadger_form(ruled))
 CALL(form_fresh, bellbadger_form_result, bellbadger_form(fresh))
@@ -149,6 +152,7 @@ static const struct {
     {"pattern", pattern_right}, {"pattern", pattern_wrong},
     {"merge", merge_both}, {"merge", merge_either}, {"merge", merge_interleaving}, {"merge", merge_none},
     {"compare", compare_same}, {"compare", compare_apart}, {"compare", compare_many}, {"compare", compare_none},
+    {"reduce", reduce_ring}, {"reduce", reduce_many}, {"reduce", reduce_none},
     {"make_text", make_text},
     {"form", form_a}, {"form", form_fresh}, {"form_back", form_back},
     {"tray_size", tray_size}, {"tray_new", tray_new},
@@ -220,6 +224,7 @@ static void prepare(void) {
     expect(bellbadger_summary_conclude(ringed, summary, 1).kind >= BELLBADGER_YES && bellbadger_summarize(fresh, 0, plain, 1).refused, "no summary");
     expect(bellbadger_compare(ring, ring).kind == BELLBADGER_SAME && bellbadger_compare(many, many).refused == 45, "not compared");
     expect(bellbadger_compare(a, nearly_a).kind == BELLBADGER_SECOND_ALONE, "not told apart");
+    expect(bellbadger_reduce(ring).installs && bellbadger_reduce(many).refused == 9, "not reduced");
     expect(bellbadger_replay(TEXT(installation)).kind == BELLBADGER_YES, "no installation");
     expect(bellbadger_replay(TEXT(record)).kind >= BELLBADGER_YES, "no record");
     expect(bellbadger_install(fresh, many).refused == 9 && bellbadger_install(fresh, ring).accepted, "other rules");

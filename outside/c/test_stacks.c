@@ -44,6 +44,7 @@ static void *caller(void *unused) {
     bellbadger_pattern_result file = bellbadger_pattern(pattern, sizeof pattern - 1);
     bellbadger_merge_result merged = bellbadger_merge(BELLBADGER_INTERLEAVING, read.rule, read.rule);
     bellbadger_compare_result compared = bellbadger_compare(read.rule, merged.rule);
+    bellbadger_reduce_result reduced = bellbadger_reduce(merged.rule);
     bellbadger_made_result text = bellbadger_make_text(16, 1, made, sizeof made);
     bellbadger_form_result form = bellbadger_form(loaded.judge);
     bellbadger_table_result table = bellbadger_form_back(form.form);
@@ -65,6 +66,7 @@ static void *caller(void *unused) {
     CHECK(bellbadger_summary_size() == sizeof combined && summarized.accepted && bellbadger_is_yes(concluded) && concluded.bytes == 2 * verdict.bytes);
     CHECK(sample.kind == BELLBADGER_SAMPLE && file.accepted && merged.accepted && text.accepted && form.accepted && table.accepted);
     CHECK(compared.kind == BELLBADGER_FIRST_ALONE && compared.length == 2);
+    CHECK(reduced.accepted && reduced.installs && reduced.rule.n <= merged.rule.n);
     CHECK(row.accepted && column.accepted && tray.accepted && band.accepted && no_band.accepted);
     CHECK(of_tray.kind == BELLBADGER_NO && !bellbadger_tray_is_yes(of_tray) && fault.kind == BELLBADGER_FAULT_SHORT);
     return unused;

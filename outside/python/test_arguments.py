@@ -14,6 +14,7 @@ from bellbadger.form import Form, form, table
 from bellbadger.mappings import Profile, compose
 from bellbadger.merge import BOTH, merge
 from bellbadger.patterns import rule_file
+from bellbadger.reduce import reduce
 from bellbadger.samples import ACCEPTED, sample
 from bellbadger.summaries import Summary
 from bellbadger.summaries import combine as combine_summaries
@@ -21,7 +22,7 @@ from bellbadger.texts import make_text
 from bellbadger.trays import Tray
 
 A = read(bytes.fromhex("03020100000004000000160006001C0002001E0000000000000101000102"))
-SUBJECTS = ("judge", "rules", "losses", "follow", "summaries", "cluster", "mappings", "samples", "patterns", "merge", "compare", "trays", "form", "texts")
+SUBJECTS = ("judge", "rules", "losses", "follow", "summaries", "cluster", "mappings", "samples", "patterns", "merge", "compare", "reduce", "trays", "form", "texts")
 WIDE = array.array("H", [0, 1])
 
 
@@ -97,6 +98,7 @@ WRONG_TYPES = [
         (merge, [BOTH, A, A], 2, "two", "a CheckedRule", NO_RULE),
         (compare, [A, A], 0, "one", "a CheckedRule", NO_RULE),
         (compare, [A, A], 1, "two", "a CheckedRule", NO_RULE),
+        (reduce, [A], 0, "rule", "a CheckedRule", NO_RULE),
         (make_text, [1, 1, 1], 0, "k", "a whole number", NO_NUMBER),
         (make_text, [1, 1, 1], 1, "seed", "a whole number", NO_NUMBER),
         (make_text, [1, 1, 1], 2, "length", "a whole number", NO_NUMBER),
@@ -172,7 +174,7 @@ NO_SIZES = (
 
 # what takes no arguments, and what the package alone makes
 WITHOUT = {"version", "Judge", "Tray", "Judge.verdict", "Judge.diagnose", "Tray.verdict", "Tray.fault", "Follower.begin", "Follower.drop_refused", "Summary.to_bytes"}
-ANSWERS = {"Loaded", "Looked", "Waiting", "Yes", "No", "TrayWaiting", "TrayYes", "TrayNo", "TrayRefused", "Row", "Column", "Short", "Lost", "Open", "Followed", "Refused", "RefusedChunk", "Malformed"} | {"FirstAlone", "SecondAlone", "Same"}
+ANSWERS = {"Loaded", "Looked", "Waiting", "Yes", "No", "TrayWaiting", "TrayYes", "TrayNo", "TrayRefused", "Row", "Column", "Short", "Lost", "Open", "Followed", "Refused", "RefusedChunk", "Malformed"} | {"FirstAlone", "SecondAlone", "Same", "Reduced"}
 
 
 def public_functions():

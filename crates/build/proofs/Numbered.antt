@@ -61,8 +61,11 @@ module _ (ts : List ℕ) (n k : ℕ) (t : SetTable) (is : tableOutcome t ≡ tab
   unfolding tooMany
   at-most-512 c e = let w = counted-of c e in rw (w .count) (ltb-false 512 (length (setsOf ts n k)) (w .fits))
 
+  pub not-over : (c : ℕ) → t .answer ≡ Whole c → tooMany ts n k ≡ false
+  not-over c e = counted-of c e .fits
+
   -- no count: there are too many
-  is-over : t .answer ≡ Over → tooMany ts n k ≡ true
+  pub is-over : t .answer ≡ Over → tooMany ts n k ≡ true
   is-over e = told-refused (tooMany ts n k) (length (setsOf ts n k)) (sym (ap numberingMeans e) ∙ told)
 
 -- the table and the merged starts make the built rule

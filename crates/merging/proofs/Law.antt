@@ -10,6 +10,7 @@ use Rattle.base.proofs.Lists.{length-listFrom}
 use Rattle.automaton.specs.declared.Rule.{Rule}
 use Rattle.automaton.specs.Automaton.{Automaton, Accepts}
 use Rattle.automaton.specs.Rules.{targetMask, automatonOf}
+use Rattle.automaton.proofs.Values.{table-law}
 use Rattle.rulecheck.specs.Checking.{ruleNumber}
 use Rattle.rulecheck.proofs.Laws.{passes}
 use Rattle.ruleformat.specs.Claims.{AllZero}
@@ -23,7 +24,6 @@ use Rattle.merging.specs.Merged.{statesOf, targetsOf, cellIn, mergedOf}
 use Rattle.merging.specs.Merging.{mergeConditions, mergeNumber, mergingBy, mergeOf}
 use Rattle.merging.specs.Claims.{Mergeable, MergeLaw}
 use Rattle.merging.proofs.Conditions.{refused-exactly}
-use Rattle.merging.proofs.Tables.{table-law}
 use Rattle.merging.proofs.Only.{one-value}
 use Rattle.merging.proofs.Languages.{well-formed, automaton-law, language}
 

@@ -3,34 +3,24 @@
 --
 -- The route: every state is a pair, or of one of the two, so the words give the arcs, initial and
 -- final states of each (`Within`, one direction at a time); two well-formed rules with the same of
--- them have the same masks (`same-value`).
-use mathlib.Core.Path.{_≡_, refl, sym, ap, _∙_, subst}
-use mathlib.Core.Logic.{_↔_}
-use mathlib.Core.List.{List}
-use Prim.Native.Nat.{ℕ, _+_, _-_, _*_, _/_, _%_, _<_}
+-- them are equal (`same-value` of automaton).
+use mathlib.Core.Path.{_≡_, sym, _∙_, subst}
+use Prim.Native.Nat.{ℕ, _+_, _-_, _<_}
 use native.Mathlib.Omega.{arith}
 use lib.Dec.{ltb}
-use lib.ListN.{length, getD}
-use lib.Seq.{ext-getD}
-use borrow.Author.Tests.{ltb-true, ltb-false, lt-ltb}
+use lib.ListN.{length}
+use borrow.Author.Tests.{ltb-true, ltb-false}
 use Rattle.base.proofs.Tests.{by-test}
-use Rattle.masks.specs.Masks.{_∈_}
-use Rattle.masks.proofs.Laws.{ext, members-below}
+use Rattle.masks.proofs.Laws.{members-below}
 use Rattle.automaton.specs.declared.Rule.{Rule}
 use Rattle.automaton.specs.Automaton.{Automaton, Arc}
-use Rattle.automaton.specs.Rules.{targetMask, automatonOf, WellFormed}
-use Rattle.automaton.proofs.Laws.{arc-of}
-use Rattle.rulecheck.specs.Worked.{rule}
+use Rattle.automaton.specs.Rules.{automatonOf, WellFormed}
+use Rattle.automaton.proofs.Values.{Within, same-value}
 use Rattle.products.specs.Products.{Moving, together, alone, pairOf}
 use Rattle.products.specs.Words.{InPairs, SideBySide}
 use Rattle.merging.specs.declared.Way.{Way}
 use Rattle.merging.specs.declared.Way.the-variants.{Both, Either, Interleaving}
 use Rattle.merging.specs.Languages.{MadeBy}
-
-record Within (c d : Automaton) : Type 0 where
-  arcs : (q s p : ℕ) → Arc c q s p → Arc d q s p
-  initials : (q : ℕ) → c .Initial q → d .Initial q
-  finals : (q : ℕ) → c .Final q → d .Final q
 
 -- ---- pairs
 module _ (way : Moving) (a b c d : Automaton) (x : InPairs way a b c) (y : InPairs way a b d) where
@@ -111,33 +101,6 @@ sizes : (way : Way) (a b c d : Automaton) → MadeBy way a b c → MadeBy way a 
 sizes Both a b c d x y = (x .states ∙ sym (y .states), x .symbols .0 ∙ sym (y .symbols .0))
 sizes Either a b c d x y = (x .states ∙ sym (y .states), x .symbols .0 ∙ sym (y .symbols .0))
 sizes Interleaving a b c d x y = (x .states ∙ sym (y .states), x .symbols .0 ∙ sym (y .symbols .0))
-
-all-fields : {n n′ k k′ i i′ f f′ : ℕ} {ts ts′ : List ℕ} → n ≡ n′ → k ≡ k′ → i ≡ i′ → f ≡ f′ → ts ≡ ts′
-    → rule n k i f ts ≡ rule n′ k′ i′ f′ ts′
-all-fields a b c d e = cc
-
-module _ (r m : Rule) (good-r : WellFormed r) (good-m : WellFormed m) where
-  cell-mask : (ts : List ℕ) (c : ℕ) → targetMask ts (c / 16) (c % 16) ≡ getD ts c 0
-  cell-mask ts c =
-      let l : c % 16 < 16 = omega arith in
-      let is : c / 16 * 16 + c % 16 ≡ c = omega arith in
-      rw (lt-ltb (c % 16) 16 l, is) refl
-
-  same-value : (r .n ≡ m .n) × (r .k ≡ m .k) → length (r .targets) ≡ 512 → length (m .targets) ≡ 512
-      → Within (automatonOf r) (automatonOf m) → Within (automatonOf m) (automatonOf r) → r ≡ m
-  same-value size long-r long-m to back =
-      let initials : r .initials ≡ m .initials = ext (r .initials) (m .initials) (λ q. (to .initials q, back .initials q)) in
-      let finals : r .finals ≡ m .finals = ext (r .finals) (m .finals) (λ q. (to .finals q, back .finals q)) in
-      let cell : (c : ℕ) → c < length (r .targets) → getD (r .targets) c 0 ≡ getD (m .targets) c 0 = λ c l.
-      let row : c / 16 < 32 = omega (arith, long-r, l) in
-      sym (cell-mask (r .targets) c)
-      ∙ ext (targetMask (r .targets) (c / 16) (c % 16)) (targetMask (m .targets) (c / 16) (c % 16)) (λ p. (
-        (λ e. to .arcs (c / 16) (c % 16) p (arc-of r good-r (c / 16) (c % 16) p row e) .there),
-        λ e. back .arcs (c / 16) (c % 16) p (arc-of m good-m (c / 16) (c % 16) p row e) .there,
-      ))
-      ∙ cell-mask (m .targets) c in
-      let targets : r .targets ≡ m .targets = ext-getD 0 (r .targets) (m .targets) (long-r ∙ sym long-m) cell in
-      all-fields (size .0) (size .1) initials finals targets
 
 pub one-value : (way : Way) (a b : Automaton) (r m : Rule) → WellFormed r → WellFormed m → length (r .targets) ≡ 512
     → length (m .targets) ≡ 512 → MadeBy way a b (automatonOf r) → MadeBy way a b (automatonOf m) → r ≡ m

@@ -1,7 +1,6 @@
 -- The arcs of the result, from the masks in its table: they are those of the two automata made one.
 -- Assumes two well-formed rules with the same k, and that the result has at most 32 states.
 --
---   table-law          a cell of a table that is given by a mask for each state and symbol
 --   to-mask, of-mask   an arc stands in the table, and what stands in it is an arc
 use mathlib.Core.Path.{_≡_, refl, sym, ap, _∙_, subst}
 use mathlib.Core.Logic.{_↔_, inl, inr, ⊎-elim}
@@ -9,49 +8,22 @@ use mathlib.Core.Bool.{cond}
 use Prim.Native.Nat.{ℕ, _+_, _-_, _*_, _/_, _%_, _^_, _<_, _≤_}
 use native.Mathlib.Omega.{arith}
 use lib.Dec.{ltb}
-use lib.ListN.{length, List·getD-eq-default}
 use lib.Pow.{pow-lt}
 use borrow.Author.Tests.{ltb-true, ltb-false, lt-ltb, le-ltb}
-use Rattle.base.specs.Lists.{listFrom}
 use Rattle.base.proofs.Tests.{by-test}
-use Rattle.base.proofs.Lists.{length-listFrom, cell-of}
 use Rattle.masks.specs.Masks.{_∈_, single}
 use Rattle.masks.proofs.Laws.{no-member, or-cases, or-left, or-right, single-law}
 use Rattle.automaton.specs.declared.Rule.{Rule}
 use Rattle.automaton.specs.Automaton.{Automaton, Arc}
 use Rattle.automaton.specs.Rules.{targetMask, automatonOf, WellFormed}
 use Rattle.automaton.proofs.Laws.{arc-of}
+use Rattle.automaton.proofs.Values.{table-law}
 use Rattle.products.proofs.Numbers.{left-below, right-below, pair-below}
 use Rattle.merging.specs.declared.Way.{Way}
 use Rattle.merging.specs.declared.Way.the-variants.{Both, Either, Interleaving}
 use Rattle.merging.specs.Languages.{mergedBy}
 use Rattle.merging.specs.Merged.{statesOf, pairs, targetsOf, mergedOf}
 use Rattle.merging.proofs.Sets.{shift-law, pairs-law, wide}
-
--- ---- the cells
-abbrev cellBy : ℕ → (ℕ → ℕ → ℕ) → ℕ → ℕ
-cellBy n g cell = cond (ltb (cell / 16) n) (g (cell / 16) (cell % 16)) 0
-
-pub table-law : (n : ℕ) (g : ℕ → ℕ → ℕ) (q s : ℕ) → n ≤ 32
-    → targetMask (listFrom 0 512 (cellBy n g)) q s ≡ cond (ltb s 16) (cond (ltb q n) (g q s) 0) 0
-table-law n g q s h =
-    by-test (ltb s 16)
-    (λ e. rw e
-    (by-test (ltb q 32)
-    (λ f.
-    let ls = ltb-true s 16 e in
-    let lq = ltb-true q 32 f in
-    let x : (q * 16 + s) / 16 ≡ q = omega arith in
-    let y : (q * 16 + s) % 16 ≡ s = omega arith in
-    cell-of 512 (cellBy n g) (q * 16 + s) 0 (omega arith)
-    ∙ ap (λ (z : ℕ). cond (ltb z n) (g z ((q * 16 + s) % 16)) 0) x
-    ∙ ap (λ (z : ℕ). cond (ltb q n) (g q z) 0) y)
-    (λ f.
-    let lq = ltb-false q 32 f in
-    let long = length-listFrom 0 512 (cellBy n g) in
-    List·getD-eq-default (listFrom 0 512 (cellBy n g)) 0 {n = q * 16 + s} (omega arith)
-    ∙ sym (ap (λ t. cond t (g q s) 0) (le-ltb q n (omega arith))))))
-    (λ e. rw e refl)
 
 -- ---- the states and symbols
 pub states-of : (way : Way) (one two : Rule)

@@ -4,6 +4,7 @@ pub mod Mappings
 pub mod Samples
 pub mod Patterns
 pub mod Merging
+pub mod Reducing
 pub mod MadeTexts
 pub mod Forms
 pub mod TrayFunctions

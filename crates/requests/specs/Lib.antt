@@ -3,6 +3,7 @@ pub mod MappingFunctions
 pub mod SampleFunctions
 pub mod PatternFunction
 pub mod MergeFunction
+pub mod ReduceFunction
 pub mod TextFunction
 pub mod FormFunctions
 pub mod TrayFunctions

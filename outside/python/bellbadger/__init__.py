@@ -48,14 +48,14 @@ A refused call raises Refused, which has the number, and leaves the judge as it 
 threads may call at once, each with a judge of its own. A thread that calls should have a stack of
 1 MB (threading.stack_size).
 
-Each further subject is a module: losses, follow, summaries, mappings, samples, patterns, merge, compare, trays, form,
-texts; and cluster, for a client of Dask's distributed.
+Each further subject is a module: losses, follow, summaries, mappings, samples, patterns, merge, compare, reduce,
+trays, form, texts; and cluster, for a client of Dask's distributed.
 
 The package needs target/lib/libbellbadger.so, which outside/build makes, on x86-64; the variable
 BELLBADGER_LIB of the environment names another folder for it.
 """
 
-from . import cluster, compare, follow, form, losses, mappings, merge, patterns, samples, summaries, texts, trays
+from . import cluster, compare, follow, form, losses, mappings, merge, patterns, reduce, samples, summaries, texts, trays
 from ._library import version
 from .judge import Judge, Loaded, Looked, No, Waiting, Yes, replay
 from .refusals import Malformed, Refused

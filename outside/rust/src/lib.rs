@@ -36,7 +36,7 @@
 //! ([`form::form`]).
 //!
 //! Whether a changed rule still means the same, and if not the first text on which the two differ, is told
-//! by [`compare::compare`].
+//! by [`compare::compare`]. A rule can be made smaller without changing what it accepts ([`reduce::reduce`]).
 //!
 //! Where a trace went wrong is told before all chunks are there: the place ([`Judge::diagnose`]) and the
 //! byte ([`Judge::locate`]).
@@ -70,6 +70,7 @@ pub mod mappings;
 pub mod merge;
 pub mod patterns;
 mod raw;
+pub mod reduce;
 mod refused;
 mod rule;
 pub mod samples;

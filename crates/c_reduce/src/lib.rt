@@ -1,0 +1,50 @@
+// Reducing a rule for C, Rust and Python. The answer is numbers.
+ghost use mathlib.Core.Path.{_≡_};
+ghost use Rattle.reducing.specs.Reducing.{reduceOf};
+ghost use Rattle.c_reduce.specs.Numbers.{bitBy, reduceShown};
+use automaton::Rule;
+use reducing::ReduceAnswer;
+
+// Accepted is 1 or 0; where it is 0, refused has the number, and installs and every number of the
+// rule are 0. Installs is 1 where installing the reduced rule is accepted.
+#[repr(C)]
+pub struct ReduceNumbers {
+    pub accepted: u8,
+    pub refused: u8,
+    pub installs: u8,
+    pub rule: Rule,
+}
+
+fn bit(test: bool) -> u8
+    ensures { λ r. ⌜ r ≡ bitBy test ⌝ }
+{
+    if test {
+        return 1;
+    }
+    0
+}
+
+// Reduces a rule, which may be any value.
+#[no_mangle]
+pub extern "C" fn bellbadger_reduce(rule: Rule) -> ReduceNumbers
+    ensures { λ r. ⌜ r ≡ reduceShown (reduceOf rule) ⌝ }
+{
+    let reducing = reduce::reduce(rule);
+    let answer = reducing.answer;
+    let installs = bit(reducing.installs);
+    let made = reducing.rule;
+    match answer {
+        ReduceAnswer::Accepted => ReduceNumbers {
+            accepted: 1,
+            refused: 0,
+            installs,
+            rule: made,
+        },
+        ReduceAnswer::Refused(refused) => ReduceNumbers {
+            accepted: 0,
+            refused,
+            installs,
+            rule: made,
+        },
+    }
+}

@@ -1,0 +1,76 @@
+-- `delegated` meets its contract. The loop's invariant: `out` is the union over the members below
+-- q. Assumes nothing.
+use mathlib.Core.Path.{_≡_, refl, sym, ap, _∙_}
+use mathlib.Core.Logic.{⊎-elim}
+use Prim.Native.Nat.{ℕ, _-_, _≤_}
+use native.Mathlib.Omega.{arith}
+use borrow.Author.Needs.{needs}
+use Rattle.masks.specs.Masks.{single, union}
+use Rattle.delegates.specs.Alike.{delegateIn, ofDelegate}
+use Rattle.reduce.proofs.Ways.{more, skip}
+use Rattle.reduce.proofs.delegated.Statement.{statement}
+use Rattle.reduce.proofs.delegated.Tie as tie
+
+abbrev Inv-loop : tie.InvT-loop
+Inv-loop delegates set out₀ q₀ out q = (q ≤ 32) × (out ≡ union (λ p. ofDelegate single (delegateIn delegates p)) set q)
+
+abbrev μ-loop : tie.MeasureT-loop
+μ-loop delegates set out₀ q₀ out q = 32 - q
+
+loop-holds : tie.Need-loop-holds Inv-loop μ-loop
+unfolding union
+loop-holds c = (omega arith, refl)
+
+member-requires : tie.Need-member-requires Inv-loop μ-loop
+member-requires c κs = search needs
+
+delegate-set-requires : tie.Need-delegate-set-requires Inv-loop μ-loop
+delegate-set-requires c κs = search needs
+
+union-requires : tie.Need-union-requires Inv-loop μ-loop
+union-requires c κs = search needs
+
+add-q : tie.Need-add-q Inv-loop μ-loop
+add-q c = search needs
+
+loop-less : tie.Need-loop-less Inv-loop μ-loop
+loop-less c = search needs
+
+loop-again : tie.Need-loop-again Inv-loop μ-loop
+loop-again c =
+    let l = c .before .before .before .loop in
+    let a = c .before .before .before .before .args in
+    let f : ℕ → ℕ = λ p. ofDelegate single (delegateIn (a .delegates .now) p) in (
+      search needs,
+      ⊎-elim
+          (λ w.
+          w .3
+          ∙ more f (a .set) (l .q) (l .out) (l .inv .1) (w .1 .result) (w .2 .result)
+          (sym (c .before .member .ensures) ∙ w .0 .taken)
+          (w .1 .ensures)
+          (w .2 .ensures))
+          (λ w. w .1 ∙ skip f (a .set) (l .q) (l .out) (l .inv .1) (sym (c .before .member .ensures) ∙ w .0 .left))
+          (c .if1 .came),
+    )
+
+returns : tie.Need-returns Inv-loop μ-loop
+returns c =
+    let l = c .before .loop in
+    let a = c .before .before .args in
+    let e : l .q ≡ 32 = omega arith in
+    l .inv .1 ∙ ap (union (λ p. ofDelegate single (delegateIn (a .delegates .now) p)) (a .set)) e
+
+pub delegated-spec : {M : Type 1} → statement M
+delegated-spec =
+    tie.close
+    (tie.spec
+    Inv-loop
+    μ-loop
+    loop-holds
+    member-requires
+    delegate-set-requires
+    union-requires
+    add-q
+    loop-less
+    loop-again
+    returns)
