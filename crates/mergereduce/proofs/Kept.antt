@@ -2,24 +2,46 @@
 -- that the masks are the automaton's.
 use mathlib.Core.Path.{_≡_, refl, sym, ap, _∙_, subst}
 use mathlib.Core.Logic.{_↔_, ⊎-elim}
+use mathlib.Core.Bool.{Bool, true, false, _&&_}
 use mathlib.Core.List.{List, [], _∷_, _++_}
 use Prim.Native.Nat.{ℕ, zero, suc, _≤_, _<_}
 use native.Mathlib.Omega.{arith}
 use lib.Bits.{bitAnd, bitOr}
 use Rattle.base.specs.Conditions.{anyBelow}
 use Rattle.base.proofs.Conditions.{any-at, any-found}
-use Rattle.masks.specs.Masks.{_∈_, union, shares, maskOf}
-use Rattle.masks.proofs.Laws.{or-cases, or-left, or-right, and-members, shares-law, part-of, in-union}
+use Rattle.base.proofs.Tests.{not-both}
+use Rattle.masks.specs.Masks.{_∈_, has, maskOf}
+use Rattle.masks.proofs.Laws.{has-member, member-of, or-cases, or-left, or-right, and-members}
 use Rattle.masks.proofs.Passing.{mask-in, mask-of}
 use Rattle.automaton.specs.Automaton.{Automaton, Arc, Run, stay, move}
 use Rattle.automaton.specs.Successor.{Reached}
 use Rattle.delegates.specs.Alike.{Live}
-use Rattle.reducing.specs.Reduced.{gather}
-use Rattle.reducing.proofs.Ranks.{gathered, in-gather}
 use Rattle.reducing.proofs.Quotient.{run-join, run-state}
 use Rattle.reducing.proofs.Chosen.{run-end}
-use Rattle.mergereduce.specs.Trimmed.{turns, onward, backTo, keptFrom}
+use Rattle.mergereduce.specs.Trimmed.{turns, arcs, onward, backTo, keptFrom}
 use Rattle.mergereduce.proofs.Turns.{still, in-turns}
+
+pub and-both : (a b : Bool) → (a && b) ≡ true → (a ≡ true) × (b ≡ true)
+and-both true true e = (refl, refl)
+and-both true false e = not-both {b = false} e refl
+and-both false b e = not-both {b = false} e refl
+
+-- ---- one step
+abbrev added : (ℕ → ℕ → Bool) → ℕ → ℕ → ℕ
+added link n m = maskOf (λ p. anyBelow (λ q. has m q && link q p) n) n
+
+module _ (link : ℕ → ℕ → Bool) (n m : ℕ) where
+  spread-from : (p : ℕ) → p ∈ added link n m → (q : ℕ) × (q < n) × (q ∈ m) × (link q p ≡ true) × (p < n)
+  spread-from p e =
+      let x = mask-in (λ r. anyBelow (λ q. has m q && link q r) n) n p e in
+      let y = any-found (λ q. has m q && link q p) n (x .1) in
+      let z = and-both (has m (y .0)) (link (y .0) p) (y .2) in
+      (y .0, y .1, member-of m (y .0) (z .0), z .1, x .0)
+
+  spread-to : (q p : ℕ) → q < n → p < n → q ∈ m → link q p ≡ true → p ∈ added link n m
+  spread-to q p l h e t =
+      mask-of (λ r. anyBelow (λ x. has m x && link x r) n) n p h
+      (any-at (λ x. has m x && link x p) n q l (rw (has-member m q e, t)))
 
 -- the automaton a has n states, the initial and final states of the two masks, and the targets ts
 pub record Masked (a : Automaton) (n initials finals : ℕ) (ts : ℕ → ℕ → ℕ) : Type 0 where
@@ -51,18 +73,18 @@ module _ (a : Automaton) (n initials finals : ℕ) (ts : ℕ → ℕ → ℕ) (M
       ⊎-elim
       (λ h. reach-in i x h)
       (λ h.
-      let u = gathered (λ s. union (λ q. ts q s) (fore i) n) x 16 h in
-      let v = part-of (λ q. ts q (u .0)) (fore i) x n (u .2) in
-      let j : Arc a (v .from) (u .0) x = M .arc (v .from) (u .0) x (v .below) .0 (v .there) in
-      let before = reach-in i (v .from) (v .member) in (
-        before .0 ++ (u .0 ∷ []),
+      let u = spread-from (arcs n ts) n (fore i) x h in
+      let v = any-found (λ s. has (ts (u .0) s) x) 16 (u .3) in
+      let j : Arc a (u .0) (v .0) x = M .arc (u .0) (v .0) x (u .1) .0 (member-of (ts (u .0) (v .0)) x (v .2)) in
+      let before = reach-in i (u .0) (u .2) in (
+        before .0 ++ (v .0 ∷ []),
         record {
           from = before .1 .from;
           member = before .1 .member;
           run = run-join a (before .1 .run) (move j (stay (j .target)));
         },
       ))
-      (or-cases (fore i) (gather (λ s. union (λ q. ts q s) (fore i) n) 16) x e)
+      (or-cases (fore i) (added (arcs n ts) n (fore i)) x e)
 
   abbrev reached : ℕ
   reached = fore n
@@ -71,15 +93,15 @@ module _ (a : Automaton) (n initials finals : ℕ) (ts : ℕ → ℕ → ℕ) (M
   fore-few i q e = below q (run-end a (reach-in i q e .1 .run))
 
   fore-adds : (x q : ℕ) → q ∈ x → q ∈ onward n ts x
-  fore-adds x q e = or-left x (gather (λ s. union (λ p. ts p s) x n) 16) q e
+  fore-adds x q e = or-left x (added (arcs n ts) n x) q e
 
   pub onward-reached : (x s t : ℕ) → x ∈ reached → Arc a x s t → t ∈ reached
   onward-reached x s t e j =
       let l : x < n = below x (j .source) in
-      let one : t ∈ union (λ q. ts q s) reached n = in-union (λ q. ts q s) reached t n x l e (M .arc x s t l .1 j) in
-      subst (λ (m : ℕ). t ∈ m) (still (onward n ts) initials n fore-adds fore-few)
-      (or-right reached (gather (λ z. union (λ q. ts q z) reached n) 16) t
-      (in-gather (λ z. union (λ q. ts q z) reached n) t 16 s (low s (j .symbol)) one))
+      let m : t < n = below t (j .target) in
+      let one = any-at (λ z. has (ts x z) t) 16 s (low s (j .symbol)) (has-member (ts x s) t (M .arc x s t l .1 j)) in
+      subst (λ (y : ℕ). t ∈ y) (still (onward n ts) initials n fore-adds fore-few)
+      (or-right reached (added (arcs n ts) n reached) t (spread-to (arcs n ts) n reached x t l m e one))
 
   pub first-reached : (q : ℕ) → q ∈ initials → q ∈ reached
   first-reached q e = in-turns (onward n ts) initials n fore-adds fore-few q e n
@@ -97,19 +119,18 @@ module _ (a : Automaton) (n initials finals : ℕ) (ts : ℕ → ℕ → ℕ) (M
       ⊎-elim
       (λ h. live-in i q h)
       (λ h.
-      let x = mask-in (λ p. anyBelow (λ s. shares (ts p s) (back i)) 16) n q h in
-      let y = any-found (λ s. shares (ts q s) (back i)) 16 (x .1) in
-      let z = shares-law (ts q (y .0)) (back i) .0 (y .2) in
-      let on = live-in i (z .0) (z .2) in
+      let x = spread-from (λ p r. arcs n ts r p) n (back i) q h in
+      let y = any-found (λ s. has (ts q s) (x .0)) 16 (x .3) in
+      let on = live-in i (x .0) (x .2) in
       record {
         text = y .0 ∷ on .text;
         accepts = record {
           to = on .accepts .to;
           ends = on .accepts .ends;
-          run = move (M .arc q (y .0) (z .0) (x .0) .0 (z .1)) (on .accepts .run);
+          run = move (M .arc q (y .0) (x .0) (x .4) .0 (member-of (ts q (y .0)) (x .0) (y .2))) (on .accepts .run);
         };
       })
-      (or-cases (back i) (maskOf (λ p. anyBelow (λ s. shares (ts p s) (back i)) 16) n) q e)
+      (or-cases (back i) (added (λ p r. arcs n ts r p) n (back i)) q e)
 
   abbrev live : ℕ
   live = back n
@@ -118,16 +139,15 @@ module _ (a : Automaton) (n initials finals : ℕ) (ts : ℕ → ℕ → ℕ) (M
   back-few i q e = below q (run-state a (live-in i q e .accepts .run))
 
   back-adds : (x q : ℕ) → q ∈ x → q ∈ backTo n ts x
-  back-adds x q e = or-left x (maskOf (λ p. anyBelow (λ s. shares (ts p s) x) 16) n) q e
+  back-adds x q e = or-left x (added (λ p r. arcs n ts r p) n x) q e
 
   back-live : (q s t : ℕ) → Arc a q s t → t ∈ live → q ∈ live
   back-live q s t j e =
       let l : q < n = below q (j .source) in
-      let there = shares-law (ts q s) live .1 (t, M .arc q s t l .1 j, e) in
-      subst (λ (m : ℕ). q ∈ m) (still (backTo n ts) finals n back-adds back-few)
-      (or-right live (maskOf (λ p. anyBelow (λ z. shares (ts p z) live) 16) n) q
-      (mask-of (λ p. anyBelow (λ z. shares (ts p z) live) 16) n q l
-      (any-at (λ z. shares (ts q z) live) 16 s (low s (j .symbol)) there)))
+      let m : t < n = below t (j .target) in
+      let there = any-at (λ z. has (ts q z) t) 16 s (low s (j .symbol)) (has-member (ts q s) t (M .arc q s t l .1 j)) in
+      subst (λ (y : ℕ). q ∈ y) (still (backTo n ts) finals n back-adds back-few)
+      (or-right live (added (λ p r. arcs n ts r p) n live) q (spread-to (λ p r. arcs n ts r p) n live t q m l e there))
 
   run-live : {q p : ℕ} {w : List ℕ} → p ∈ live → Run a q w p → q ∈ live
   run-live e (stay l) = e

@@ -2,17 +2,18 @@
 -- that the masks are the automaton's, and that at most 32 states stay.
 use mathlib.Core.Path.{_≡_, refl, sym, ap, _∙_, subst}
 use mathlib.Core.Logic.{_↔_, ⊎-elim}
-use mathlib.Core.Bool.{Bool, true, false, cond}
+use mathlib.Core.Bool.{Bool, true, false, cond, _&&_}
 use mathlib.Core.List.{List}
 use mathlib.Core.Option.{Option, none, some}
-use Prim.Native.Nat.{ℕ, _^_, _≤_, _<_, max}
+use Prim.Native.Nat.{ℕ, zero, suc, _+_, _^_, _≤_, _<_, max}
+use native.Mathlib.Nat.{eq-or-lt-of-le}
 use native.Mathlib.Omega.{arith}
-use lib.Bits.{bitAnd}
 use lib.Dec.{eqb, ltb}
-use borrow.Author.Tests.{lt-ltb, eq-eqb, eqb-true}
-use Rattle.base.proofs.Tests.{by-test}
-use Rattle.masks.specs.Masks.{_∈_, single, union}
-use Rattle.masks.proofs.Laws.{no-member, and-members, single-law, below-of, empty-mask, part-of, in-union}
+use borrow.Author.Tests.{lt-ltb, ltb-true, eq-eqb, eqb-true}
+use Rattle.base.proofs.Tests.{by-test, not-both}
+use Rattle.masks.specs.Masks.{_∈_, has}
+use Rattle.masks.proofs.Laws.{no-member, has-member, member-of, below-of, empty-mask}
+use Rattle.masks.proofs.Passing.{mask-in, mask-of}
 use Rattle.automaton.specs.declared.Rule.{Rule}
 use Rattle.automaton.specs.Automaton.{Automaton, Arc, Equivalent}
 use Rattle.automaton.specs.Rules.{targetMask, automatonOf, WellFormed}
@@ -20,12 +21,33 @@ use Rattle.automaton.proofs.Values.{table-law}
 use Rattle.delegates.specs.Alike.{Alike, Live}
 use Rattle.delegates.proofs.Alike.{alike-self}
 use Rattle.reducing.specs.Reduced.{rank}
-use Rattle.reducing.proofs.Ranks.{rank-less, rank-once}
+use Rattle.delegates.specs.Classes.{firstFrom}
+use Rattle.reducing.proofs.Ranks.{rank-less, rank-once, rank-onto}
 use Rattle.reducing.proofs.Quotient.{Quotient}
 use Rattle.reducing.proofs.Quotient as quotients
 use Rattle.reducing.proofs.Facts.{picked, in-both}
-use Rattle.mergereduce.specs.Trimmed.{keptFrom, renamedTo, trimmedTargets, trimmedBy}
-use Rattle.mergereduce.proofs.Kept.{Masked, kept-few, kept-both, kept-live, first-reached, onward-reached}
+use Rattle.mergereduce.specs.Trimmed.{keptFrom, nth, renamedTo, trimmedTargets, trimmedBy}
+use Rattle.mergereduce.proofs.Kept.{and-both, Masked, kept-few, kept-both, kept-live, first-reached, onward-reached}
+
+pick : (t : ℕ → Bool) (lo v : ℕ) (b : Bool) → t lo ≡ b → (b ≡ false → t v ≡ true) → t (cond b lo v) ≡ true
+pick t lo v true is on = is
+pick t lo v false is on = on refl
+
+first-passes : (t : ℕ → Bool) (lo f x : ℕ) → lo ≤ x → x < lo + f → t x ≡ true → t (firstFrom t lo f) ≡ true
+unfolding firstFrom
+first-passes t lo zero x h l e = absurd (omega arith)
+first-passes t lo (suc f) x h l e =
+    pick t lo (firstFrom t (suc lo) f) (t lo) refl
+    (λ is.
+    ⊎-elim
+    (λ same. not-both e (ap t (sym same) ∙ is))
+    (λ past. first-passes t (suc lo) f x past (omega arith) e)
+    (eq-or-lt-of-le h))
+
+not-there : (p : ℕ) (s t : Bool) (m : ℕ) → t ≡ false → p ∈ cond s (cond t m 0) 0 → ⊥
+not-there p true true m e i = not-both {b = true} refl e
+not-there p true false m e i = no-member p i
+not-there p false t m e i = no-member p i
 
 module _ (a : Automaton) (n k initials finals : ℕ) (ts : ℕ → ℕ → ℕ) (M : Masked a n initials finals ts)
     (same : a .k ≡ k) (one : 1 ≤ k) (fits : rank (keptFrom n ts initials finals) n ≤ 32) where
@@ -41,20 +63,35 @@ module _ (a : Automaton) (n k initials finals : ℕ) (ts : ℕ → ℕ → ℕ) 
   few : (x : ℕ) → x ∈ kept → x < n
   few = kept-few a n initials finals ts M
 
+  below-count : (x : ℕ) → x ∈ kept → rank kept x < rank kept n
+  below-count x e = rank-less kept x n e (few x e)
+
+  nth-law : (p : ℕ) → p < rank kept n → (nth n kept p ∈ kept) × (rank kept (nth n kept p) ≡ p)
+  unfolding nth
+  nth-law p l =
+      let x = rank-onto kept n p l in
+      let t : ℕ → Bool = λ q. has kept q && eqb (rank kept q) p in
+      let q = firstFrom t 0 n in
+      let passes = first-passes t 0 n (x .0) (omega arith) (omega (arith, x .1)) (rw (has-member kept (x .0) (x .2), eq-eqb (rank kept (x .0)) p (x .3))) in
+      let both = and-both (has kept q) (eqb (rank kept q) p) passes in
+      (member-of kept q (both .0), eqb-true (rank kept q) p (both .1))
+
+  nth-rank : (x : ℕ) → x ∈ kept → nth n kept (rank kept x) ≡ x
+  nth-rank x e =
+      let y = nth-law (rank kept x) (below-count x e) in
+      rank-once kept (nth n kept (rank kept x)) x (y .0) e (y .1)
+
   renamed-law : (m p : ℕ) → p ∈ renamedTo n kept m ↔ (x : ℕ) × (x ∈ kept) × (x ∈ m) × (p ≡ rank kept x)
   renamed-law m p = (
     (λ e.
-        let u = part-of (λ q. single (rank kept q)) (bitAnd kept m) p n e in
-        let c = and-members kept m (u .from) .0 (u .member) in
-        (u .from, c .0, c .1, single-law (rank kept (u .from)) p .0 (u .there))),
+        let u = mask-in (λ r. has m (nth n kept r)) (rank kept n) p e in
+        let x = nth-law p (u .0) in
+        (nth n kept p, x .0, member-of m (nth n kept p) (u .1), sym (x .1))),
     λ u.
-        in-union (λ q. single (rank kept q)) (bitAnd kept m) p n (u .0) (few (u .0) (u .1))
-        (and-members kept m (u .0) .1 (u .1, u .2))
-        (single-law (rank kept (u .0)) p .1 (u .3)),
+        let is : nth n kept p ≡ u .0 = ap (nth n kept) (u .3) ∙ nth-rank (u .0) (u .1) in
+        mask-of (λ r. has m (nth n kept r)) (rank kept n) p (rw (u .3) (below-count (u .0) (u .1)))
+        (has-member m (nth n kept p) (subst (λ (y : ℕ). y ∈ m) (sym is) (u .2))),
   )
-
-  below-count : (x : ℕ) → x ∈ kept → rank kept x < rank kept n
-  below-count x e = rank-less kept x n e (few x e)
 
   below-new : (x : ℕ) → x ∈ kept → rank kept x < new .n
   below-new x e = omega (arith, below-count x e)
@@ -69,31 +106,24 @@ module _ (a : Automaton) (n k initials finals : ℕ) (ts : ℕ → ℕ → ℕ) 
     to-stays : to ∈ kept
     to-is : p′ ≡ rank kept to
 
-  of-row : (p s p′ : ℕ) → p′ ∈ trimmedTargets n ts kept p s → NewArc p s p′
-  of-row p s p′ e =
-      let f : ℕ → ℕ = λ q. cond (eqb (rank kept q) p) (renamedTo n kept (ts q s)) 0 in
-      let u = part-of f kept p′ n e in
-      let x = u .from in
-      let there : p′ ∈ cond (eqb (rank kept x) p) (renamedTo n kept (ts x s)) 0 = u .there in
-      by-test (eqb (rank kept x) p)
-      (λ t.
-      let v = renamed-law (ts x s) p′ .0 (rw t at there) in
+  of-row : (p s p′ : ℕ) → p < rank kept n → p′ ∈ trimmedTargets n ts kept p s → NewArc p s p′
+  of-row p s p′ l e =
+      let x = nth-law p l in
+      let v = renamed-law (ts (nth n kept p) s) p′ .0 e in
       record {
-        from = x;
+        from = nth n kept p;
         to = v .0;
-        stays = u .member;
-        is = eqb-true (rank kept x) p t;
-        arc = M .arc x s (v .0) (u .below) .0 (v .2);
+        stays = x .0;
+        is = x .1;
+        arc = M .arc (nth n kept p) s (v .0) (few (nth n kept p) (x .0)) .0 (v .2);
         to-stays = v .1;
         to-is = v .3;
-      })
-      (λ t. absurd (no-member p′ (rw t at there)))
+      }
 
   in-row : (x s t : ℕ) → x ∈ kept → Arc a x s t → t ∈ kept → rank kept t ∈ trimmedTargets n ts kept (rank kept x) s
   in-row x s t e j i =
-      let g : ℕ → ℕ = λ q. cond (eqb (rank kept q) (rank kept x)) (renamedTo n kept (ts q s)) 0 in
-      let z = renamed-law (ts x s) (rank kept t) .1 (t, i, M .arc x s t (few x e) .1 j, refl) in
-      in-union g kept (rank kept t) n x (few x e) e (rw (eq-eqb (rank kept x) (rank kept x) refl) z)
+      renamed-law (ts (nth n kept (rank kept x)) s) (rank kept t) .1
+      (t, i, subst (λ (y : ℕ). t ∈ ts y s) (sym (nth-rank x e)) (M .arc x s t (few x e) .1 j), refl)
 
   new-mask : (p s : ℕ) → targetMask (new .targets) p s
       ≡ cond (ltb s 16) (cond (ltb p (rank kept n)) (trimmedTargets n ts kept p s) 0) 0
@@ -101,8 +131,10 @@ module _ (a : Automaton) (n k initials finals : ℕ) (ts : ℕ → ℕ → ℕ) 
 
   of-mask : (p s p′ : ℕ) → p′ ∈ targetMask (new .targets) p s → NewArc p s p′
   of-mask p s p′ e =
-      of-row p s p′
-      (in-both p′ (ltb s 16) (ltb p (rank kept n)) (trimmedTargets n ts kept p s) (subst (λ (x : ℕ). p′ ∈ x) (new-mask p s) e))
+      let there = subst (λ (x : ℕ). p′ ∈ x) (new-mask p s) e in
+      by-test (ltb p (rank kept n))
+      (λ t. of-row p s p′ (ltb-true p (rank kept n) t) (in-both p′ (ltb s 16) (ltb p (rank kept n)) (trimmedTargets n ts kept p s) there))
+      (λ t. absurd (not-there p′ (ltb s 16) (ltb p (rank kept n)) (trimmedTargets n ts kept p s) t there))
 
   arc-to : (x s t : ℕ) → x ∈ kept → Arc a x s t → t ∈ kept → Arc b (rank kept x) s (rank kept t)
   arc-to x s t e j i = record {

@@ -3,44 +3,56 @@
 -- live, numbered anew from 0 in their old order.
 --
 --   turns f m i               f taken i times, from m
+--   spread link n m           m, with every state to which a member of m is linked
+--   arcs ts q p               the test that an arc leads from q to p
 --   onward n ts m             m, with every target of an arc from a member of m
 --   backTo n ts m             m, with every state from which an arc leads to a member of m
 --   keptFrom n ts ..          the states that are reached from an initial state, and from which a
 --                             final state is: of n states n steps find all
+--   nth n kept p              the state kept that has the new number p
 --   renamedTo n kept m        the new numbers of the members of m that stay
 --   trimmedTargets ..         the targets of the new state p by the symbol s
 --   trimmedBy n k .. kept     the rule of the states kept, one state at least
-use mathlib.Core.Bool.{cond}
+use mathlib.Core.Bool.{Bool, cond, _&&_}
 use Prim.Native.Nat.{ℕ, zero, suc, _/_, _%_, max}
 use lib.Bits.{bitAnd, bitOr}
 use lib.Dec.{eqb, ltb}
 use Rattle.base.specs.Conditions.{anyBelow}
 use Rattle.base.specs.Lists.{listFrom}
 use Rattle.limits.specs.Limits.{mostSymbols, targetCells}
-use Rattle.masks.specs.Masks.{single, union, shares, maskOf}
+use Rattle.masks.specs.Masks.{has, maskOf}
 use Rattle.automaton.specs.declared.Rule.{Rule}
-use Rattle.reducing.specs.Reduced.{gather, rank}
+use Rattle.delegates.specs.Classes.{firstFrom}
+use Rattle.reducing.specs.Reduced.{rank}
 
 unfoldable pub turns : (ℕ → ℕ) → ℕ → ℕ → ℕ
 turns f m zero = m
 turns f m (suc i) = f (turns f m i)
 
+abbrev pub spread : (ℕ → ℕ → Bool) → ℕ → ℕ → ℕ
+spread link n m = bitOr m (maskOf (λ p. anyBelow (λ q. has m q && link q p) n) n)
+
 module _ (n : ℕ) (ts : ℕ → ℕ → ℕ) where
+  abbrev pub arcs : ℕ → ℕ → Bool
+  arcs q p = anyBelow (λ s. has (ts q s) p) mostSymbols
+
   abbrev pub onward : ℕ → ℕ
-  onward m = bitOr m (gather (λ s. union (λ q. ts q s) m n) mostSymbols)
+  onward m = spread arcs n m
 
   abbrev pub backTo : ℕ → ℕ
-  backTo m = bitOr m (maskOf (λ q. anyBelow (λ s. shares (ts q s) m) mostSymbols) n)
+  backTo m = spread (λ q p. arcs p q) n m
 
   unfoldable pub keptFrom : ℕ → ℕ → ℕ
   keptFrom initials finals = bitAnd (turns onward initials n) (turns backTo finals n)
 
+unfoldable pub nth : ℕ → ℕ → ℕ → ℕ
+nth n kept p = firstFrom (λ q. has kept q && eqb (rank kept q) p) 0 n
+
 abbrev pub renamedTo : ℕ → ℕ → ℕ → ℕ
-renamedTo n kept m = union (λ q. single (rank kept q)) (bitAnd kept m) n
+renamedTo n kept m = maskOf (λ p. has m (nth n kept p)) (rank kept n)
 
 abbrev pub trimmedTargets : ℕ → (ℕ → ℕ → ℕ) → ℕ → ℕ → ℕ → ℕ
-trimmedTargets n ts kept p s =
-    union (λ q. cond (eqb (rank kept q) p) (renamedTo n kept (ts q s)) 0) kept n
+trimmedTargets n ts kept p s = renamedTo n kept (ts (nth n kept p) s)
 
 abbrev pub trimmedBy : ℕ → ℕ → ℕ → ℕ → (ℕ → ℕ → ℕ) → ℕ → Rule
 trimmedBy n k initials finals ts kept = record {
