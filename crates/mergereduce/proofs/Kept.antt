@@ -27,7 +27,7 @@ and-both true false e = not-both {b = false} e refl
 and-both false b e = not-both {b = false} e refl
 
 -- ---- one step
-abbrev added : (ℕ → ℕ → Bool) → ℕ → ℕ → ℕ
+abbrev pub added : (ℕ → ℕ → Bool) → ℕ → ℕ → ℕ
 added link n m = maskOf (λ p. anyBelow (λ q. has m q && link q p) n) n
 
 module _ (link : ℕ → ℕ → Bool) (n m : ℕ) where

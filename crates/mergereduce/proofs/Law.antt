@@ -44,13 +44,13 @@ use Rattle.mergereduce.proofs.Kept.{Masked}
 use Rattle.mergereduce.proofs.Trim as trim
 
 -- ---- a rule reduced, or the rule itself
-record Instead (r m : Rule) : Type 0 where
-  good : WellFormed m
-  symbols : m .k ≡ r .k
-  fewer : m .n ≤ r .n
-  language : Equivalent (automatonOf m) (automatonOf r)
+pub record Instead (r m : Rule) : Type 0 where
+  pub good : WellFormed m
+  pub symbols : m .k ≡ r .k
+  pub fewer : m .n ≤ r .n
+  pub language : Equivalent (automatonOf m) (automatonOf r)
 
-instead : (r : Rule) → WellFormed r → Instead r (reducedOrOwn r)
+pub instead : (r : Rule) → WellFormed r → Instead r (reducedOrOwn r)
 unfolding reducedOrOwn
 instead r good = of (installNumber r) refl
   where
@@ -146,16 +146,16 @@ last-passed false true e = zero-one cc
 last-passed false false e = (refl, refl)
 
 module _ (way : Way) (one two : Rule) where
-  abbrev first : Rule
+  abbrev pub first : Rule
   first = reducedOrOwn one
 
-  abbrev second : Rule
+  abbrev pub second : Rule
   second = reducedOrOwn two
 
-  abbrev last : Option ℕ
+  abbrev pub last : Option ℕ
   last = cond (not (eqb (one .k) (two .k))) (some 36) (cond (ltb 32 (pairCount way first second)) (some 37) none)
 
-  number-law : mergeReducedNumber way one two ≡ orElse (ruleNumber one) (orElse (ruleNumber two) last)
+  pub number-law : mergeReducedNumber way one two ≡ orElse (ruleNumber one) (orElse (ruleNumber two) last)
   unfolding mergeReducedNumber
   number-law =
       first-append (ruleConditions one) (ruleConditions two ++ lastConditions way one two)

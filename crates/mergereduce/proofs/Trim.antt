@@ -33,7 +33,7 @@ pick : (t : ℕ → Bool) (lo v : ℕ) (b : Bool) → t lo ≡ b → (b ≡ fals
 pick t lo v true is on = is
 pick t lo v false is on = on refl
 
-first-passes : (t : ℕ → Bool) (lo f x : ℕ) → lo ≤ x → x < lo + f → t x ≡ true → t (firstFrom t lo f) ≡ true
+pub first-passes : (t : ℕ → Bool) (lo f x : ℕ) → lo ≤ x → x < lo + f → t x ≡ true → t (firstFrom t lo f) ≡ true
 unfolding firstFrom
 first-passes t lo zero x h l e = absurd (omega arith)
 first-passes t lo (suc f) x h l e =

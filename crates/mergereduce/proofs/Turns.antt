@@ -55,3 +55,11 @@ module _ (step : ℕ → ℕ) (m n : ℕ) (adds : (x q : ℕ) → q ∈ x → q 
   unfolding turns
   in-turns q e zero = e
   in-turns q e (suc i) = grows i q (in-turns q e i)
+
+  -- a step that leaves no more members changes nothing, nor does any later one
+  pub settled : (i : ℕ) → rank (turns step m (suc i)) n ≤ rank (turns step m i) n → (j : ℕ) → turns step m (i + j) ≡ turns step m i
+  unfolding turns
+  settled i h zero = let e : i + 0 ≡ i = omega arith in ap (turns step m) e
+  settled i h (suc j) =
+      let e : i + suc j ≡ suc (i + j) = omega arith in
+      ap (turns step m) e ∙ ap step (settled i h j) ∙ same i h
