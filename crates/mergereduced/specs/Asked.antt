@@ -4,9 +4,15 @@
 --   mostPairs                  the most pairs of a state of each rule
 --   setIn l                    the set of the numbers whose cell of the list l is 1
 --   linkBy forth link q p      a link from q to p, or from p to q
---   Tabled n1 n2 ts us         two numbers of states, of at least one state each, and the tables of
---                              two such rules
+--   Sized n1 n2                two numbers of states, of at least one state each
+--   Tabled n1 n2 ts us         such numbers, and the tables of two such rules
 --   ArcAsked way .. q s p      two states of the result, and a symbol
+--   pairArcs way .. q p        the test that the result has an arc from q to p
+--   stepOf way .. forth m      m with all that its members are linked to
+--   Few way n1 n2 m n c        n states of the result, of which the c in the set m stay
+--   cellIn n ts kept cell      a cell of the table of the states that stay
+--   pairedOf way one two       what is answered of two rules that pass their checks and have the
+--                              same symbols
 use mathlib.Core.Bool.{Bool, true, false, cond}
 use mathlib.Core.List.{List}
 use mathlib.Core.Path.{_≡_}
@@ -56,21 +62,18 @@ module _ (way : Way) (n1 n2 : ℕ) (ts us : List ℕ) where
   abbrev pub stepOf : Bool → ℕ → ℕ
   stepOf forth m = spread (linkBy forth pairArcs) (statesOf way n1 n2) m
 
--- n states of the result, of which the c in the set m stay
 pub record Few (way : Way) (n1 n2 m n c : ℕ) : Type 0 where
   pub size : n ≡ statesOf way n1 n2
   pub most : n ≤ mostPairs
   pub count : c ≡ rank m n
   pub fits : c ≤ mostStates
 
--- a cell of the table of the states that stay
 abbrev pub cellIn : ℕ → (ℕ → ℕ → ℕ) → ℕ → ℕ → ℕ
 cellIn n ts kept cell =
     cond (ltb (cell / mostSymbols) (rank kept n))
     (trimmedTargets n ts kept (cell / mostSymbols) (cell % mostSymbols))
     0
 
--- what is answered of two rules that pass their checks and have the same symbols
 unfoldable pub pairedOf : Way → Rule → Rule → Merging
 pairedOf way one two =
     mergingBy (cond (ltb mostStates (pairCount way one two)) (some 37) none) (reducedOrOwn (trimmedPairs way one two))
