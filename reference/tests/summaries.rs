@@ -62,7 +62,7 @@ fn worked_by_hand() {
     assert_eq!(conclude(&a, &combine(&zero, &one), 2), Answer::Yes(Work::new(3, 2)));
     assert_eq!(conclude(&a, &zero, 1), Answer::No(Work::new(1, 1)));
     assert_eq!(summarize(&b, 7, &[0]), Ok(of(&[2, 1], 2, 1, &b, 7, 8)));
-    assert_eq!(digest(&a), 0x97A6_7245_4960_E7AC);
+    assert_eq!(digest(&a), 0x7E89_FE50_A461_4F1F);
     assert_ne!(digest(&a), digest(&b));
     let last = summarize(&a, u64::MAX, &[0]).unwrap();
     assert_eq!((last.first, last.broken), (u64::MAX, 1));
