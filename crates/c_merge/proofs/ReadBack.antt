@@ -11,7 +11,7 @@ use Rattle.merging.specs.Merging.{wayOf, mergeNumber, mergingBy}
 use Rattle.c_merge.specs.Numbers.{mergeShown, mergeReadBack}
 use Rattle.c_merge.specs.Claims.{Claims}
 
-merge-by : (number : Option ℕ) (r : Rule) → mergeReadBack (mergeShown (mergingBy number r)) ≡ mergingBy number r
+pub merge-by : (number : Option ℕ) (r : Rule) → mergeReadBack (mergeShown (mergingBy number r)) ≡ mergingBy number r
 merge-by none r = refl
 merge-by (some x) r = refl
 

@@ -30,7 +30,7 @@ pub fn way_of(number: u8) -> Way
 }
 
 // The number of states of the result.
-fn states(way: Way, n1: usize, n2: usize) -> usize
+pub fn states(way: Way, n1: usize, n2: usize) -> usize
     requires { ⌜ (n1 ≤ mostStates) × (n2 ≤ mostStates) ⌝ }
     ensures { λ r. ⌜ r ≡ statesOf way n1 n2 ⌝ }
 {
@@ -91,7 +91,7 @@ fn one_moves(n1: usize, n2: usize, x: StateNumber, y: StateNumber, a: u32, b: u3
 }
 
 // The target mask of state q and symbol s.
-fn mask_at(targets: &[u32; limits::TARGETS], q: usize, s: usize) -> u32
+pub fn mask_at(targets: &[u32; limits::TARGETS], q: usize, s: usize) -> u32
     requires { ⌜ (q < mostStates) × (s < mostSymbols) ⌝ }
     ensures { λ r. ⌜ r ≡ targetMask (now (targets .entry)) q s ⌝ }
 {

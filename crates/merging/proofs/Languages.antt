@@ -36,18 +36,18 @@ turned so = record {
   finals = λ q. (so .finals q .1, so .finals q .0);
 }
 
-by-way : (a b : Automaton) → a .k ≡ b .k → (way : Way) (w : List ℕ) → Accepts (mergedBy way a b) w ↔ Merges way a b w
+pub by-way : (a b : Automaton) → a .k ≡ b .k → (way : Way) (w : List ℕ) → Accepts (mergedBy way a b) w ↔ Merges way a b w
 by-way a b same Both w = both-law a b same w
 by-way a b same Either w = either-law a b same w
 by-way a b same Interleaving w = interleaving-law a b same w
 
-initials-by : (way : Way) (a b : Automaton) (q : ℕ)
+pub initials-by : (way : Way) (a b : Automaton) (q : ℕ)
     → Marked way (a .n) (b .n) (a .Initial) (b .Initial) q ↔ mergedBy way a b .Initial q
 initials-by Both a b q = (λ x. x, λ x. x)
 initials-by Either a b q = (λ x. x, λ x. x)
 initials-by Interleaving a b q = (λ x. x, λ x. x)
 
-finals-by : (way : Way) (a b : Automaton) (q : ℕ)
+pub finals-by : (way : Way) (a b : Automaton) (q : ℕ)
     → Marked way (a .n) (b .n) (a .Final) (b .Final) q ↔ mergedBy way a b .Final q
 finals-by Both a b q = (λ x. x, λ x. x)
 finals-by Either a b q = (λ x. x, λ x. x)

@@ -64,15 +64,15 @@ module _ (a b : Automaton) (same : a .k ≡ b .k) (c : Automaton) where
   made-by Interleaving so = paired alone so
 
 -- ---- what is answered goes by the number
-number-of : (o : Option ℕ) (r : Rule) → mergingBy o r .number ≡ o
+pub number-of : (o : Option ℕ) (r : Rule) → mergingBy o r .number ≡ o
 number-of none r = refl
 number-of (some x) r = refl
 
-zeros-of : (o : Option ℕ) (r : Rule) (x : ℕ) → o ≡ some x → AllZero (mergingBy o r .rule)
+pub zeros-of : (o : Option ℕ) (r : Rule) (x : ℕ) → o ≡ some x → AllZero (mergingBy o r .rule)
 zeros-of o r x e =
     subst (λ (p : Option ℕ). AllZero (mergingBy p r .rule)) (sym e) (refl, refl, refl, refl, refl)
 
-rule-of : (o : Option ℕ) (r : Rule) → o ≡ none → mergingBy o r .rule ≡ r
+pub rule-of : (o : Option ℕ) (r : Rule) → o ≡ none → mergingBy o r .rule ≡ r
 rule-of o r e = ap (λ (p : Option ℕ). mergingBy p r .rule) e
 
 module _ (way : Way) (one two : Rule) where

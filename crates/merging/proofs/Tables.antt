@@ -99,7 +99,7 @@ module _ (one two : Rule) (good1 : WellFormed one) (good2 : WellFormed two) (sam
         t,
   )
 
-  targets-law : (way : Way) (q s p : ℕ) → q < statesOf way (one .n) (two .n)
+  pub targets-law : (way : Way) (q s p : ℕ) → q < statesOf way (one .n) (two .n)
       → p ∈ targetsOf way (one .n) (two .n) (one .targets) (two .targets) q s
       ↔ mergedBy way (automatonOf one) (automatonOf two) .Delta q s p
   targets-law Both q s p l =
@@ -111,7 +111,7 @@ module _ (one two : Rule) (good1 : WellFormed one) (good2 : WellFormed two) (sam
   targets-law Interleaving q s p l = alone-law q s p l
 
   -- a step is by a symbol, and to a state
-  steps-in : (way : Way) (q s p : ℕ) → q < statesOf way (one .n) (two .n)
+  pub steps-in : (way : Way) (q s p : ℕ) → q < statesOf way (one .n) (two .n)
       → mergedBy way (automatonOf one) (automatonOf two) .Delta q s p
       → (s < one .k) × (p < statesOf way (one .n) (two .n))
   steps-in Both q s p l t =

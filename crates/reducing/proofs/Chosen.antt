@@ -42,7 +42,7 @@ own-said q l =
 some-same : (x y : ℕ) → some x ≡ some y → x ≡ y
 some-same x y e = cc
 
-run-end : (a : Automaton) {q p : ℕ} {w : List ℕ} → Run a q w p → p < a .n
+pub run-end : (a : Automaton) {q p : ℕ} {w : List ℕ} → Run a q w p → p < a .n
 run-end a (stay l) = l
 run-end a (move j u) = run-end a u
 

@@ -36,10 +36,10 @@ said-by : (x : ℕ) (o : Option ℕ) → x ∈ ofDelegate single o → o ≡ som
 said-by x none e = absurd (no-member x e)
 said-by x (some y) e = ap some (sym (single-law y x .0 e))
 
-picked : (p : ℕ) (t u : Bool) (m : ℕ) → t ≡ true → u ≡ true → p ∈ m → p ∈ cond t (cond u m 0) 0
+pub picked : (p : ℕ) (t u : Bool) (m : ℕ) → t ≡ true → u ≡ true → p ∈ m → p ∈ cond t (cond u m 0) 0
 picked p t u m f g e = rw (f, g) e
 
-in-both : (p : ℕ) (t u : Bool) (m : ℕ) → p ∈ cond t (cond u m 0) 0 → p ∈ m
+pub in-both : (p : ℕ) (t u : Bool) (m : ℕ) → p ∈ cond t (cond u m 0) 0 → p ∈ m
 in-both p true true m e = e
 in-both p true false m e = absurd (no-member p e)
 in-both p false u m e = absurd (no-member p e)

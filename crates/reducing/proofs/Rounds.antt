@@ -27,7 +27,7 @@ module _ (f g : ℕ → ℕ) where
   total-le zero h = omega arith
   total-le (suc n) h = omega (arith, total-le n (λ q l. h q (omega arith)), h n (omega arith))
 
-  squeeze : (n : ℕ) → ((q : ℕ) → q < n → f q ≤ g q) → total g n ≤ total f n → (q : ℕ) → q < n → f q ≡ g q
+  pub squeeze : (n : ℕ) → ((q : ℕ) → q < n → f q ≤ g q) → total g n ≤ total f n → (q : ℕ) → q < n → f q ≡ g q
   unfolding total
   squeeze zero h e q l = absurd (let x = l in omega arith)
   squeeze (suc n) h e q l =
@@ -39,7 +39,7 @@ module _ (f g : ℕ → ℕ) where
       (λ b. squeeze n below (omega (arith, le, last, e)) q b)
       (eq-or-lt-of-le (le-of-suc-le-suc l))
 
-bit-le : (x y : ℕ) → x < 2 → (x ≡ 1 → y ≡ 1) → x ≤ y
+pub bit-le : (x y : ℕ) → x < 2 → (x ≡ 1 → y ≡ 1) → x ≤ y
 bit-le zero y h f = omega arith
 bit-le (suc x) y h f = let e : suc x ≡ 1 = omega arith in omega (arith, f e)
 

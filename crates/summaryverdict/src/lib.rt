@@ -1,2 +1,2 @@
-// The verdict of combined summaries is that of a filled board: no code. specs/ says what is
-// claimed.
+// What summaries come to for a rule, beside a board and after lists of calls: no code. specs/ says
+// what is claimed.

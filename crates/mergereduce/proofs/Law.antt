@@ -1,0 +1,248 @@
+-- All that is promised of merging reduced rules. Assumes nothing.
+use mathlib.Core.Path.{_≡_, refl, sym, ap, _∙_, subst}
+use mathlib.Core.Logic.{_↔_, _⊎_, inl, inr, ⊎-elim, Iff·trans}
+use mathlib.Core.Bool.{Bool, true, false, cond, not}
+use mathlib.Core.List.{List, _++_}
+use mathlib.Core.Option.{Option, none, some}
+use Prim.Native.Nat.{ℕ, _+_, _*_, _≤_, _<_}
+use native.Mathlib.Nat.{mul-le-mul-left, mul-le-mul-right, le-trans}
+use native.Mathlib.Omega.{arith}
+use lib.Dec.{eqb, ltb}
+use borrow.Author.Tests.{eqb-true, eq-eqb, ltb-false, le-ltb, not-false}
+use Rattle.base.specs.Conditions.{Condition, firstOf, NoneHolds, FirstHolds}
+use Rattle.base.proofs.Tests.{zero-one}
+use Rattle.base.proofs.Conditions.{none-law, first-law, orElse, first-append}
+use Rattle.automaton.specs.declared.Rule.{Rule}
+use Rattle.automaton.specs.Automaton.{Automaton, Arc, Accepts, Equivalent}
+use Rattle.automaton.specs.Rules.{automatonOf, WellFormed}
+use Rattle.rulecheck.specs.Checking.{ruleConditions, ruleNumber}
+use Rattle.rulecheck.proofs.Laws.{passes}
+use Rattle.ruleformat.specs.Claims.{AllZero}
+use Rattle.calls.specs.Calls.{installNumber}
+use Rattle.products.specs.Claims.{Interleaved}
+use Rattle.merging.specs.declared.Way.{Way}
+use Rattle.merging.specs.declared.Way.the-variants.{Both, Either, Interleaving}
+use Rattle.merging.specs.Languages.{mergedBy, Merges}
+use Rattle.merging.specs.Merged.{statesOf, mergedOf}
+use Rattle.merging.specs.Merging.{mergingBy, mergeNumber, mergeOf}
+use Rattle.merging.specs.Claims.{Mergeable}
+use Rattle.merging.proofs.Law.{number-of, zeros-of, rule-of}
+use Rattle.merging.proofs.Claims as merging
+use Rattle.merging.proofs.Sets.{set-law, set-below}
+use Rattle.merging.proofs.Tables.{states-of, symbols-of, targets-law, steps-in}
+use Rattle.merging.proofs.Languages.{by-way, initials-by, finals-by}
+use Rattle.masks.specs.Masks.{_∈_}
+use Rattle.masks.proofs.Laws.{members-below}
+use Rattle.reducing.specs.Reduced.{rank, reducedOf}
+use Rattle.reducing.specs.Reducing.{reducingBy, reduceOf}
+use Rattle.reducing.proofs.Ranks.{rank-most}
+use Rattle.reducing.proofs.Claims as reduce
+use Rattle.mergereduce.specs.Trimmed.{keptFrom, trimmedBy}
+use Rattle.mergereduce.specs.MergeReduced.{reducedBy, reducedOrOwn, pairTargets, initialPairs, finalPairs, keptPairs, trimmedPairs, pairCount, lastConditions, mergeReducedConditions, mergeReducedNumber, mergeReducedRule, mergeReducedOf}
+use Rattle.mergereduce.specs.Claims.{MergeReducedLaw}
+use Rattle.mergereduce.proofs.Kept.{Masked}
+use Rattle.mergereduce.proofs.Trim as trim
+
+-- ---- a rule reduced, or the rule itself
+pub record Instead (r m : Rule) : Type 0 where
+  pub good : WellFormed m
+  pub symbols : m .k ≡ r .k
+  pub fewer : m .n ≤ r .n
+  pub language : Equivalent (automatonOf m) (automatonOf r)
+
+pub instead : (r : Rule) → WellFormed r → Instead r (reducedOrOwn r)
+unfolding reducedOrOwn
+instead r good = of (installNumber r) refl
+  where
+    of : (o : Option ℕ) → installNumber r ≡ o → Instead r (reducedBy o (reducedOf r) r)
+    of (some x) e = record { good = good; symbols = refl; fewer = omega arith; language = λ w. ((λ t. t), λ t. t) }
+    of none e =
+        let law = reduce.claims .reducing r in
+        let number : reduceOf r .number ≡ none = law .number ∙ e in
+        let is : reduceOf r .rule ≡ reducedOf r = ap (λ (o : Option ℕ). reducingBy o (reducedOf r) .rule) e in
+        subst (Instead r) is (record {
+          good = passes (reduceOf r .rule) .0 (law .checked number);
+          symbols = law .symbols number;
+          fewer = law .fewer number;
+          language = law .language number;
+        })
+
+-- ---- the way of two automata goes by their texts alone
+same-way : (way : Way) (a b c d : Automaton) → Equivalent a c → Equivalent b d → (w : List ℕ) → Merges way a b w → Merges way c d w
+same-way Both a b c d f g w t = (f w .0 (t .0), g w .0 (t .1))
+same-way Either a b c d f g w t = ⊎-elim (λ x. inl (f w .0 x)) (λ x. inr (g w .0 x)) t
+same-way Interleaving a b c d f g w t =
+    record { u = t .u; v = t .v; first = f (t .u) .0 (t .first); second = g (t .v) .0 (t .second); interleaves = t .interleaves }
+
+turned : (a b : Automaton) → Equivalent a b → Equivalent b a
+turned a b f w = (f w .1, f w .0)
+
+-- ---- the pairs of two well-formed rules with the same symbols
+module _ (way : Way) (one two : Rule) (good1 : WellFormed one) (good2 : WellFormed two) (same : one .k ≡ two .k) where
+  abbrev made : Automaton
+  made = mergedBy way (automatonOf one) (automatonOf two)
+
+  masked : Masked made (statesOf way (one .n) (two .n)) (initialPairs way one two) (finalPairs way one two) (pairTargets way one two)
+  masked = record {
+    states = states-of way one two;
+    symbols = omega (arith, symbols-of way one two, good1 .symbols);
+    initial = λ q.
+        Iff·trans
+        (set-law (one .n) (two .n) (one .initials) (two .initials) (good1 .states .1) (good1 .initials-below) (good2 .initials-below) way q)
+        (initials-by way (automatonOf one) (automatonOf two) q);
+    final = λ q.
+        Iff·trans
+        (set-law (one .n) (two .n) (one .finals) (two .finals) (good1 .states .1) (good1 .finals-below) (good2 .finals-below) way q)
+        (finals-by way (automatonOf one) (automatonOf two) q);
+    initial-below = λ q e.
+        members-below (statesOf way (one .n) (two .n)) (initialPairs way one two) q
+        (set-below (one .n) (two .n) (one .initials) (two .initials) (good1 .states .1) (good1 .initials-below) (good2 .initials-below) way)
+        e;
+    final-below = λ q e.
+        members-below (statesOf way (one .n) (two .n)) (finalPairs way one two) q
+        (set-below (one .n) (two .n) (one .finals) (two .finals) (good1 .states .1) (good1 .finals-below) (good2 .finals-below) way)
+        e;
+    arc = λ q s p l. (
+      (λ e.
+          let t = targets-law one two good1 good2 same way q s p l .0 e in
+          let c = steps-in one two good1 good2 same way q s p l t in
+          record {
+            source = rw (states-of way one two) l;
+            symbol = rw (symbols-of way one two) (c .0);
+            target = rw (states-of way one two) (c .1);
+            there = t;
+          }),
+      λ j. targets-law one two good1 good2 same way q s p l .1 (j .there),
+    );
+  }
+
+  module _ (fits : pairCount way one two ≤ 32) where
+    trimmed-good : WellFormed (trimmedPairs way one two)
+    trimmed-good =
+        trim.well-formed made (statesOf way (one .n) (two .n)) (one .k) (initialPairs way one two) (finalPairs way one two) (pairTargets way one two)
+        masked (symbols-of way one two) (good1 .symbols .0) fits
+
+    trimmed-language : (w : List ℕ) → Accepts (automatonOf (trimmedPairs way one two)) w ↔ Merges way (automatonOf one) (automatonOf two) w
+    trimmed-language w =
+        Iff·trans
+        (trim.language made (statesOf way (one .n) (two .n)) (one .k) (initialPairs way one two) (finalPairs way one two) (pairTargets way one two)
+        masked (symbols-of way one two) (good1 .symbols .0) fits w)
+        (by-way (automatonOf one) (automatonOf two) same way w)
+
+-- ---- more states make more pairs
+more-pairs : (way : Way) (n1 n2 m1 m2 : ℕ) → n1 ≤ m1 → n2 ≤ m2 → statesOf way n1 n2 ≤ statesOf way m1 m2
+more-pairs Both n1 n2 m1 m2 h i = le-trans (mul-le-mul-left n1 i) (mul-le-mul-right m2 h)
+more-pairs Either n1 n2 m1 m2 h i = omega arith
+more-pairs Interleaving n1 n2 m1 m2 h i = le-trans (mul-le-mul-left n1 i) (mul-le-mul-right m2 h)
+
+-- ---- the number
+neither : (x y : Option ℕ) → orElse x y ≡ none → (x ≡ none) × (y ≡ none)
+neither none y e = (refl, e)
+neither (some x) y e = zero-one cc
+
+last-passed : (t u : Bool) → cond {A = Option ℕ} t (some 36) (cond u (some 37) none) ≡ none → (t ≡ false) × (u ≡ false)
+last-passed true u e = zero-one cc
+last-passed false true e = zero-one cc
+last-passed false false e = (refl, refl)
+
+module _ (way : Way) (one two : Rule) where
+  abbrev pub first : Rule
+  first = reducedOrOwn one
+
+  abbrev pub second : Rule
+  second = reducedOrOwn two
+
+  abbrev pub last : Option ℕ
+  last = cond (not (eqb (one .k) (two .k))) (some 36) (cond (ltb 32 (pairCount way first second)) (some 37) none)
+
+  pub number-law : mergeReducedNumber way one two ≡ orElse (ruleNumber one) (orElse (ruleNumber two) last)
+  unfolding mergeReducedNumber
+  number-law =
+      first-append (ruleConditions one) (ruleConditions two ++ lastConditions way one two)
+      ∙ ap (orElse (ruleNumber one)) (first-append (ruleConditions two) (lastConditions way one two))
+
+  record Taken : Type 0 where
+    one-good : WellFormed one
+    two-good : WellFormed two
+    same : one .k ≡ two .k
+    fits : pairCount way first second ≤ 32
+
+  taken : mergeReducedNumber way one two ≡ none → Taken
+  taken e =
+      let x = neither (ruleNumber one) (orElse (ruleNumber two) last) (sym number-law ∙ e) in
+      let y = neither (ruleNumber two) last (x .1) in
+      let z = last-passed (not (eqb (one .k) (two .k))) (ltb 32 (pairCount way first second)) (y .1) in
+      record {
+        one-good = passes one .0 (x .0);
+        two-good = passes two .0 (y .0);
+        same = eqb-true (one .k) (two .k) (not-false (eqb (one .k) (two .k)) (z .0));
+        fits = ltb-false 32 (pairCount way first second) (z .1);
+      }
+
+  -- nothing that merging takes is refused
+  no-less : mergeNumber way one two ≡ none → mergeReducedNumber way one two ≡ none
+  no-less e =
+      let m = merging.claims .refused way one two .taken .0 e in
+      let i = instead one (m .first) in
+      let j = instead two (m .second) in
+      let few = rank-most (keptPairs way first second) (statesOf way (first .n) (second .n)) in
+      let more = more-pairs way (first .n) (second .n) (one .n) (two .n) (i .fewer) (j .fewer) in
+      let small : pairCount way first second ≤ 32 = omega (arith, few, more, m .fits) in
+      number-law
+      ∙ rw (passes one .1 (m .first), passes two .1 (m .second), eq-eqb (one .k) (two .k) (m .same), le-ltb 32 (pairCount way first second) small)
+
+  module _ (ok : Taken) where
+    i1 : Instead one first
+    i1 = instead one (ok .one-good)
+
+    i2 : Instead two second
+    i2 = instead two (ok .two-good)
+
+    together : first .k ≡ second .k
+    together = i1 .symbols ∙ ok .same ∙ sym (i2 .symbols)
+
+    good-pairs : WellFormed (trimmedPairs way first second)
+    good-pairs = trimmed-good way first second (i1 .good) (i2 .good) together (ok .fits)
+
+    result : Instead (trimmedPairs way first second) (mergeReducedRule way one two)
+    result = instead (trimmedPairs way first second) good-pairs
+
+    made-good : WellFormed (mergeReducedRule way one two)
+    made-good = result .good
+
+    made-language : (w : List ℕ) → Accepts (automatonOf (mergeReducedRule way one two)) w ↔ Merges way (automatonOf one) (automatonOf two) w
+    made-language w =
+        Iff·trans (result .language w)
+        (Iff·trans (trimmed-language way first second (i1 .good) (i2 .good) together (ok .fits) w) (
+          same-way way (automatonOf first) (automatonOf second) (automatonOf one) (automatonOf two) (i1 .language) (i2 .language) w,
+          same-way way (automatonOf one) (automatonOf two) (automatonOf first) (automatonOf second)
+              (turned (automatonOf first) (automatonOf one) (i1 .language))
+              (turned (automatonOf second) (automatonOf two) (i2 .language))
+              w,
+        ))
+
+  is : mergeReducedOf way one two .number ≡ mergeReducedNumber way one two
+  is = number-of (mergeReducedNumber way one two) (mergeReducedRule way one two)
+
+  rule-is : mergeReducedOf way one two .number ≡ none → mergeReducedOf way one two .rule ≡ mergeReducedRule way one two
+  rule-is e = rule-of (mergeReducedNumber way one two) (mergeReducedRule way one two) (sym is ∙ e)
+
+  accepted-law : (mergeReducedNumber way one two ≡ none) ↔ NoneHolds (mergeReducedConditions way one two)
+  unfolding mergeReducedNumber
+  accepted-law = none-law (mergeReducedConditions way one two)
+
+  refused-law : (x : ℕ) → (mergeReducedNumber way one two ≡ some x) ↔ FirstHolds x (mergeReducedConditions way one two)
+  unfolding mergeReducedNumber
+  refused-law x = first-law x (mergeReducedConditions way one two)
+
+  pub merge-reduced-law : MergeReducedLaw way one two
+  merge-reduced-law = record {
+    accepted = ((λ e. accepted-law .0 (sym is ∙ e)), λ h. is ∙ accepted-law .1 h);
+    refused = λ x. ((λ e. refused-law x .0 (sym is ∙ e)), λ h. is ∙ refused-law x .1 h);
+    zeros = λ x e. zeros-of (mergeReducedNumber way one two) (mergeReducedRule way one two) x (sym is ∙ e);
+    checked = λ e. ap ruleNumber (rule-is e) ∙ passes (mergeReducedRule way one two) .1 (made-good (taken (sym is ∙ e)));
+    language = λ e w.
+        subst (λ (r : Rule). Accepts (automatonOf r) w ↔ Merges way (automatonOf one) (automatonOf two) w) (sym (rule-is e))
+        (made-language (taken (sym is ∙ e)) w);
+    no-less = λ e. is ∙ no-less (sym (number-of (mergeNumber way one two) (mergedOf way one two)) ∙ e);
+  }

@@ -1,0 +1,6 @@
+-- In the order in which they build on each other.
+pub mod Turns
+pub mod Kept
+pub mod Trim
+pub mod Law
+pub mod Claims

@@ -1,0 +1,38 @@
+-- `trimmed` meets its contract. Assumes nothing.
+use Rattle.mergereduced.proofs.Ways.{trimmed-made}
+use borrow.Author.Needs.{needs}
+use Rattle.mergereduced.proofs.trimmed.Statement.{statement}
+use Rattle.mergereduced.proofs.trimmed.Tie as tie
+
+cast-n1 : tie.Need-cast-n1
+cast-n1 c = search needs
+
+cast-n2 : tie.Need-cast-n2
+cast-n2 c = search needs
+
+size-of-requires : tie.Need-size-of-requires
+size-of-requires c κs = search needs
+
+set-mask-requires : tie.Need-set-mask-requires
+set-mask-requires c κs = search needs
+
+set-mask-requires-2 : tie.Need-set-mask-requires-2
+set-mask-requires-2 c κs = search needs
+
+table-of-requires : tie.Need-table-of-requires
+table-of-requires c κs = search needs
+
+returns : tie.Need-returns
+returns c = search (needs, trimmed-made)
+
+pub trimmed-spec : {M : Type 1} → statement M
+trimmed-spec =
+    tie.close
+    (tie.spec
+    cast-n1
+    cast-n2
+    size-of-requires
+    set-mask-requires
+    set-mask-requires-2
+    table-of-requires
+    returns)
