@@ -13,13 +13,14 @@ use Rattle.base.proofs.Tests.{not-both}
 use Rattle.masks.specs.Masks.{_∈_, has, maskOf}
 use Rattle.masks.proofs.Laws.{has-member, member-of, or-cases, or-left, or-right, and-members}
 use Rattle.masks.proofs.Passing.{mask-in, mask-of}
+use Rattle.masks.specs.Turns.{turns}
+use Rattle.masks.proofs.Turns.{in-turns, still}
 use Rattle.automaton.specs.Automaton.{Automaton, Arc, Run, stay, move}
 use Rattle.automaton.specs.Successor.{Reached}
 use Rattle.delegates.specs.Alike.{Live}
 use Rattle.reducing.proofs.Quotient.{run-join, run-state}
 use Rattle.reducing.proofs.Chosen.{run-end}
-use Rattle.mergereduce.specs.Trimmed.{turns, arcs, onward, backTo, keptFrom}
-use Rattle.mergereduce.proofs.Turns.{still, in-turns}
+use Rattle.mergereduce.specs.Trimmed.{arcs, onward, backTo, keptFrom}
 
 pub and-both : (a b : Bool) → (a && b) ≡ true → (a ≡ true) × (b ≡ true)
 and-both true true e = (refl, refl)
@@ -100,11 +101,11 @@ module _ (a : Automaton) (n initials finals : ℕ) (ts : ℕ → ℕ → ℕ) (M
       let l : x < n = below x (j .source) in
       let m : t < n = below t (j .target) in
       let one = any-at (λ z. has (ts x z) t) 16 s (low s (j .symbol)) (has-member (ts x s) t (M .arc x s t l .1 j)) in
-      subst (λ (y : ℕ). t ∈ y) (still (onward n ts) initials n fore-adds fore-few)
+      subst (λ (y : ℕ). t ∈ y) (still (onward n ts) initials fore-adds n fore-few)
       (or-right reached (added (arcs n ts) n reached) t (spread-to (arcs n ts) n reached x t l m e one))
 
   pub first-reached : (q : ℕ) → q ∈ initials → q ∈ reached
-  first-reached q e = in-turns (onward n ts) initials n fore-adds fore-few q e n
+  first-reached q e = in-turns (onward n ts) initials fore-adds q e n
 
   -- ---- the states that are live
   abbrev back : ℕ → ℕ
@@ -146,7 +147,7 @@ module _ (a : Automaton) (n initials finals : ℕ) (ts : ℕ → ℕ → ℕ) (M
       let l : q < n = below q (j .source) in
       let m : t < n = below t (j .target) in
       let there = any-at (λ z. has (ts q z) t) 16 s (low s (j .symbol)) (has-member (ts q s) t (M .arc q s t l .1 j)) in
-      subst (λ (y : ℕ). q ∈ y) (still (backTo n ts) finals n back-adds back-few)
+      subst (λ (y : ℕ). q ∈ y) (still (backTo n ts) finals back-adds n back-few)
       (or-right live (added (λ p r. arcs n ts r p) n live) q (spread-to (λ p r. arcs n ts r p) n live t q m l e there))
 
   run-live : {q p : ℕ} {w : List ℕ} → p ∈ live → Run a q w p → q ∈ live
@@ -155,7 +156,7 @@ module _ (a : Automaton) (n initials finals : ℕ) (ts : ℕ → ℕ → ℕ) (M
 
   pub live-there : (q : ℕ) → Live a q → q ∈ live
   live-there q l =
-      run-live (in-turns (backTo n ts) finals n back-adds back-few (l .accepts .to) (M .final (l .accepts .to) .1 (l .accepts .ends)) n) (l .accepts .run)
+      run-live (in-turns (backTo n ts) finals back-adds (l .accepts .to) (M .final (l .accepts .to) .1 (l .accepts .ends)) n) (l .accepts .run)
 
   -- ---- both
   abbrev kept : ℕ

@@ -33,9 +33,10 @@ use Rattle.merging.proofs.Tables.{states-of, symbols-of, targets-law, steps-in}
 use Rattle.merging.proofs.Languages.{by-way, initials-by, finals-by}
 use Rattle.masks.specs.Masks.{_∈_}
 use Rattle.masks.proofs.Laws.{members-below}
-use Rattle.reducing.specs.Reduced.{rank, reducedOf}
+use Rattle.masks.specs.Turns.{rank}
+use Rattle.masks.proofs.Turns.{rank-most}
+use Rattle.reducing.specs.Reduced.{reducedOf}
 use Rattle.reducing.specs.Reducing.{reducingBy, reduceOf}
-use Rattle.reducing.proofs.Ranks.{rank-most}
 use Rattle.reducing.proofs.Claims as reduce
 use Rattle.mergereduce.specs.Trimmed.{keptFrom, trimmedBy}
 use Rattle.mergereduce.specs.MergeReduced.{reducedBy, reducedOrOwn, pairTargets, initialPairs, finalPairs, keptPairs, trimmedPairs, pairCount, lastConditions, mergeReducedConditions, mergeReducedNumber, mergeReducedRule, mergeReducedOf}

@@ -1,5 +1,4 @@
 -- In the order in which they build on each other.
-pub mod Turns
 pub mod Kept
 pub mod Trim
 pub mod Law

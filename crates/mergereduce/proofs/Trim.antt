@@ -14,13 +14,13 @@ use Rattle.base.proofs.Tests.{by-test, not-both}
 use Rattle.masks.specs.Masks.{_∈_, has}
 use Rattle.masks.proofs.Laws.{no-member, has-member, member-of, below-of, empty-mask}
 use Rattle.masks.proofs.Passing.{mask-in, mask-of}
+use Rattle.masks.specs.Turns.{rank}
 use Rattle.automaton.specs.declared.Rule.{Rule}
 use Rattle.automaton.specs.Automaton.{Automaton, Arc, Equivalent}
 use Rattle.automaton.specs.Rules.{targetMask, automatonOf, WellFormed}
 use Rattle.automaton.proofs.Values.{table-law}
 use Rattle.delegates.specs.Alike.{Alike, Live}
 use Rattle.delegates.proofs.Alike.{alike-self}
-use Rattle.reducing.specs.Reduced.{rank}
 use Rattle.delegates.specs.Classes.{firstFrom}
 use Rattle.reducing.proofs.Ranks.{rank-less, rank-once, rank-onto}
 use Rattle.reducing.proofs.Quotient.{Quotient}

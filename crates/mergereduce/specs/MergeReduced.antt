@@ -20,10 +20,11 @@ use Rattle.limits.specs.Limits.{mostStates}
 use Rattle.automaton.specs.declared.Rule.{Rule}
 use Rattle.rulecheck.specs.Checking.{ruleConditions}
 use Rattle.calls.specs.Calls.{installNumber}
+use Rattle.masks.specs.Turns.{rank}
 use Rattle.merging.specs.declared.Way.{Way}
 use Rattle.merging.specs.Merged.{statesOf, setOf, targetsOf}
 use Rattle.merging.specs.Merging.{Merging, mergingBy}
-use Rattle.reducing.specs.Reduced.{rank, reducedOf}
+use Rattle.reducing.specs.Reduced.{reducedOf}
 use Rattle.mergereduce.specs.Trimmed.{keptFrom, trimmedBy}
 
 abbrev pub reducedBy : Option ℕ → Rule → Rule → Rule

@@ -19,6 +19,8 @@ use Rattle.base.proofs.Tests.{by-test, same-truth, not-both, zero-one}
 use Rattle.masks.specs.Masks.{bit, has, _∈_, single}
 use Rattle.masks.proofs.Laws.{no-member, has-member, member-of, or-cases, or-left, or-right, and-members, members-below}
 use Rattle.masks.proofs.Passing.{mask-in, mask-of}
+use Rattle.masks.specs.Turns.{rank, turns}
+use Rattle.masks.proofs.Turns.{bit-lt, settled}
 use Rattle.automaton.specs.declared.Rule.{Rule}
 use Rattle.automaton.specs.Rules.{targetMask, WellFormed}
 use Rattle.delegates.specs.Classes.{firstFrom}
@@ -39,14 +41,13 @@ use Rattle.merge.proofs.Numbers.{product-most}
 use Rattle.reducing.specs.declared.ReduceAnswer.{ReduceAnswer}
 use Rattle.reducing.specs.declared.ReduceAnswer.the-variants.{Accepted, Refused}
 use Rattle.reducing.specs.declared.ReduceResult.{ReduceResult}
-use Rattle.reducing.specs.Reduced.{rank, reducedOf}
+use Rattle.reducing.specs.Reduced.{reducedOf}
 use Rattle.reducing.specs.Reducing.{Reducing, reduceMeans, reduceOutcome, reducingBy, reduceOf}
-use Rattle.reducing.proofs.Ranks.{bit-lt, rank-mono, rank-onto}
+use Rattle.reducing.proofs.Ranks.{rank-mono, rank-onto}
 use Rattle.mergereduce.specs.MergeReduced.{reducedBy, reducedOrOwn, pairTargets, initialPairs, finalPairs, keptPairs, trimmedPairs, pairCount, mergeReducedNumber, mergeReducedRule, mergeReducedOf}
 use Rattle.mergereduce.proofs.Law.{instead, number-law}
-use Rattle.mergereduce.specs.Trimmed.{turns, spread, onward, backTo, keptFrom, nth, renamedTo, trimmedTargets, trimmedBy}
+use Rattle.mergereduce.specs.Trimmed.{spread, onward, backTo, keptFrom, nth, renamedTo, trimmedTargets, trimmedBy}
 use Rattle.mergereduce.proofs.Trim.{first-passes}
-use Rattle.mergereduce.proofs.Turns.{settled}
 use Rattle.mergereduce.proofs.Kept.{added, and-both}
 use Rattle.mergereduced.specs.Asked.{setIn, linkBy, Sized, Tabled, ArcAsked, pairArcs, stepOf, Few, cellIn, pairedOf}
 
@@ -334,9 +335,9 @@ module _ (link : ℕ → ℕ → Bool) (n m : ℕ) (small : m < 2 ^ n) where
       let f : ℕ → ℕ = λ x. rank x n in
       let fewer : rank (turns (spread link n) m (suc i)) n ≤ rank (turns (spread link n) m i) n =
       omega (arith, l, ec ∙ ap f next, ed ∙ ap f es) in
-      let whole : i + (n - i) ≡ n = omega arith in
+      let whole : n - i + i ≡ n = omega arith in
       es
-      ∙ sym (settled (spread link n) m n (λ x q e. or-left x (added link n x) q e) turns-few i fewer (n - i))
+      ∙ sym (settled (spread link n) m (λ x q e. or-left x (added link n x) q e) n turns-few i fewer (n - i))
       ∙ ap (turns (spread link n) m) whole
 
 pub turns-more : (step : ℕ → ℕ) (m i set more : ℕ) → set ≡ turns step m i → more ≡ step set → more ≡ turns step m (i + 1)

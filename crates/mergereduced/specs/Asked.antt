@@ -22,12 +22,12 @@ use lib.Dec.{eqb, ltb}
 use lib.ListN.{getD}
 use Rattle.limits.specs.Limits.{mostStates, mostSymbols}
 use Rattle.masks.specs.Masks.{maskOf}
+use Rattle.masks.specs.Turns.{rank}
 use Rattle.automaton.specs.declared.Rule.{Rule}
 use Rattle.merging.specs.Merging.{Merging, mergingBy}
 use Rattle.merging.specs.declared.Way.{Way}
 use Rattle.merging.specs.Merged.{statesOf, targetsOf}
 use Rattle.merge.specs.Asked.{Tables}
-use Rattle.reducing.specs.Reduced.{rank}
 use Rattle.mergereduce.specs.MergeReduced.{pairCount, trimmedPairs, reducedOrOwn}
 use Rattle.mergereduce.specs.Trimmed.{spread, arcs, trimmedTargets}
 

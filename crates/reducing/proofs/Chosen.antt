@@ -19,6 +19,7 @@ use Rattle.base.proofs.Tests.{by-test, zero-one, not-both}
 use Rattle.base.proofs.Lists.{cell-of}
 use Rattle.masks.specs.Masks.{_∈_, has}
 use Rattle.masks.proofs.Laws.{members-below, or-cases, has-member, member-of}
+use Rattle.masks.specs.Turns.{turns}
 use Rattle.automaton.specs.declared.Rule.{Rule}
 use Rattle.automaton.specs.Automaton.{Automaton, Arc, Run, stay, move}
 use Rattle.automaton.specs.Rules.{automatonOf, WellFormed}
@@ -77,7 +78,7 @@ module _ (r : Rule) (good : WellFormed r) where
   step i = rounds (r .targets) ownList (delegated ownList (r .initials)) i
 
   reach-in : (i x : ℕ) → x ∈ step i → Reachable r x
-  unfolding rounds
+  unfolding turns
   reach-in zero x e =
       let u = delegate-in ownList (r .initials) x e in
       let l = members-below (r .n) (r .initials) (u .0) (good .initials-below) (u .1) in

@@ -12,6 +12,7 @@ use Rattle.base.specs.Lists.{listFrom}
 use Rattle.base.specs.Options.{isNone}
 use Rattle.base.specs.Totals.{total}
 use Rattle.masks.specs.Masks.{union}
+use Rattle.masks.specs.Turns.{turns}
 use Rattle.automaton.specs.declared.Rule.{Rule}
 use Rattle.rulecheck.specs.Checking.{badTargets}
 use Rattle.rulecheck.specs.Worked.{rule, noTargets}
@@ -22,7 +23,7 @@ use Rattle.delegates.specs.Alike.{delegateIn, startCount}
 use Rattle.delegates.specs.Classes.{final, follow, every, firstFrom, alikeTo, liveOf, lowestOf, delegateOf, startsOf}
 use Rattle.delegates.specs.Claims.{startsIn}
 use Rattle.calls.specs.Calls.{installNumber}
-use Rattle.reducing.specs.Reduced.{gather, rounds, keptOf, reachedOf, chosenOf, reducedBy, listIn, keptIn, reducedOf}
+use Rattle.reducing.specs.Reduced.{gather, keptOf, reachedOf, chosenOf, reducedBy, listIn, keptIn, reducedOf}
 use Rattle.reducing.specs.Reducing.{Reducing, reducingBy, reduceOf}
 use Rattle.reducing.specs.Worked.{once, twice, odd, even, notReached, dead, lowerNotReached, second, alike, noText, reducedTo, reductions, Answered}
 
@@ -55,7 +56,7 @@ module _ (r m : Rule) (delegates : List ℕ) (reached : ℕ) (chosen : List ℕ)
       ∙ ap (λ (o : Option ℕ). record { number = none; installs = isNone o; rule = m }) installs
 
 pub answered : Answered reductions
-unfolding installNumber badTargets anyBelow union indexOf numbered expandFrom closeFrom keysUpTo setsOf tooMany nextSet singletonNumber delegateIn startCount final follow every firstFrom alikeTo liveOf lowestOf delegateOf startsOf startsIn listFrom total gather rounds
+unfolding installNumber badTargets anyBelow union indexOf numbered expandFrom closeFrom keysUpTo setsOf tooMany nextSet singletonNumber delegateIn startCount final follow every firstFrom alikeTo liveOf lowestOf delegateOf startsOf startsIn listFrom total gather turns
 answered = (
   by-hand notReached once (0 ∷ 1 ∷ 2 ∷ []) 3 (0 ∷ 1 ∷ []) 3 refl refl refl refl refl refl refl,
   (

@@ -18,6 +18,8 @@ use Rattle.base.proofs.Lists.{length-listFrom, is-listFrom, zero-cells}
 use Rattle.base.proofs.Totals.{total-rest}
 use Rattle.masks.specs.Masks.{bit, _∈_}
 use Rattle.masks.proofs.Laws.{no-member, members-below, empty-mask}
+use Rattle.masks.specs.Turns.{rank}
+use Rattle.masks.proofs.Turns.{rank-most}
 use Rattle.automaton.specs.declared.Rule.{Rule}
 use Rattle.automaton.specs.Automaton.{Automaton, Arc, Accepts, Equivalent}
 use Rattle.automaton.specs.Rules.{automatonOf, WellFormed}
@@ -35,10 +37,10 @@ use Rattle.delegates.specs.Claims.{startsIn}
 use Rattle.delegates.proofs.Claims as delegates
 use Rattle.calls.specs.Calls.{installNumber}
 use Rattle.calls.proofs.Conditions.{install-number, not-refused}
-use Rattle.reducing.specs.Reduced.{delegated, keptOf, reachedOf, chosenOf, rank, renamed, cellIn, reducedBy, listIn, keptIn, reducedOf}
+use Rattle.reducing.specs.Reduced.{delegated, keptOf, reachedOf, chosenOf, renamed, cellIn, reducedBy, listIn, keptIn, reducedOf}
 use Rattle.reducing.specs.Reducing.{reducingBy, reduceOf}
 use Rattle.reducing.specs.Claims.{Nothing, emptyRule, Stands, Lean, Renumbered, ReduceLaw}
-use Rattle.reducing.proofs.Ranks.{rank-mono, rank-less, rank-once, rank-onto, rank-most, renamed-law}
+use Rattle.reducing.proofs.Ranks.{rank-mono, rank-less, rank-once, rank-onto, renamed-law}
 use Rattle.reducing.proofs.Quotient.{Quotient, run-join, to-new, to-old, begins, live, alike-old}
 use Rattle.reducing.proofs.Quotient as quotients
 use Rattle.reducing.proofs.Facts.{Choice, own, few-kept, no-bit, well-formed, quotient, reached-in}

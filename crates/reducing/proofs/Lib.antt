@@ -1,6 +1,5 @@
 -- In the order in which they build on each other.
 pub mod Ranks
-pub mod Rounds
 pub mod Quotient
 pub mod Facts
 pub mod Chosen

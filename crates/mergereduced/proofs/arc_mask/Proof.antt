@@ -7,7 +7,7 @@ use borrow.Author.Needs.{needs}
 use lib.Bits.{bitOr}
 use Rattle.masks.specs.Masks.{has, maskOf}
 use Rattle.masks.proofs.Passing.{mask-add, mask-skip}
-use Rattle.reducing.specs.Reduced.{rank}
+use Rattle.masks.specs.Turns.{rank}
 use Rattle.mergereduce.specs.Trimmed.{nth}
 use Rattle.mergereduced.specs.Asked.{setIn}
 use Rattle.merging.specs.Merged.{targetsOf}

@@ -3,9 +3,8 @@ use mathlib.Core.Path.{_≡_, refl, sym, ap, _∙_}
 use Prim.Native.Nat.{_≤_, _-_}
 use native.Mathlib.Omega.{arith}
 use borrow.Author.Needs.{needs}
+use Rattle.masks.specs.Turns.{rank, turns}
 use Rattle.merging.specs.Merged.{statesOf}
-use Rattle.reducing.specs.Reduced.{rank}
-use Rattle.mergereduce.specs.Trimmed.{turns}
 use Rattle.mergereduced.specs.Asked.{setIn, linkBy, pairArcs, stepOf}
 use Rattle.mergereduced.proofs.Ways.{tabled-small, states-most, turns-done, turns-more}
 use Rattle.mergereduced.proofs.closed.Statement.{statement}
