@@ -25,7 +25,7 @@ use Rattle.delegates.specs.Claims.{startsIn}
 use Rattle.calls.specs.Calls.{installNumber}
 use Rattle.reducing.specs.Reduced.{gather, keptOf, reachedOf, chosenOf, reducedBy, listIn, keptIn, reducedOf}
 use Rattle.reducing.specs.Reducing.{Reducing, reducingBy, reduceOf}
-use Rattle.reducing.specs.Worked.{once, twice, odd, even, notReached, dead, lowerNotReached, second, alike, noText, reducedTo, reductions, Answered}
+use Rattle.reducing.specs.Worked.{once, twice, twiceOrThrice, odd, even, notReached, dead, lowerNotReached, second, alike, behindMerged, noText, reducedTo, reductions, Answered}
 
 abbrev padded : ℕ → List ℕ → List ℕ
 padded x l = l ++ replicate (32 - length l) x
@@ -68,8 +68,11 @@ answered = (
         (
           by-hand alike odd (0 ∷ 32 ∷ 0 ∷ 3 ∷ []) 15 (0 ∷ 32 ∷ 0 ∷ 3 ∷ []) 9 refl refl refl refl refl refl refl,
           (
-            by-hand noText (rule 1 1 0 0 noTargets) (32 ∷ 32 ∷ 2 ∷ []) 3 [] 0 refl refl refl refl refl refl refl,
-            (by-hand even even (0 ∷ 1 ∷ []) 3 (0 ∷ 1 ∷ []) 3 refl refl refl refl refl refl refl, (refl, (refl, (refl, (refl, tt))))),
+            by-hand behindMerged twiceOrThrice (0 ∷ 1 ∷ 1 ∷ 3 ∷ 4 ∷ 5 ∷ []) 63 (0 ∷ 1 ∷ 1 ∷ 3 ∷ 4 ∷ 5 ∷ []) 27 refl refl refl refl refl refl refl,
+            (
+              by-hand noText (rule 1 1 0 0 noTargets) (32 ∷ 32 ∷ 2 ∷ []) 3 [] 0 refl refl refl refl refl refl refl,
+              (by-hand even even (0 ∷ 1 ∷ []) 3 (0 ∷ 1 ∷ []) 3 refl refl refl refl refl refl refl, (refl, (refl, (refl, (refl, tt))))),
+            ),
           ),
         ),
       ),

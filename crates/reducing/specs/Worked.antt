@@ -4,10 +4,11 @@
 --   arcs masks         a table for the symbol 0: the mask of state 0, of state 1, ..
 --   also q s m masks   the same table with the mask m for the state q and the symbol s
 --   once, twice        the texts 0, and 0 0: a state leads to the next, and the last is final
+--   twiceOrThrice      the texts 0 0 and 0 0 0: the same with four states, and the last two are final
 --   odd                the texts of odd length: 0 and 1 lead to each other, and 1 is final
 --   even               the texts with an even number of 0s: 0, which is initial and final, and 1
 --                      lead to each other by 0, and each to itself by 1
---   notReached, dead, lowerNotReached, second, alike, noText   rules that are not lean
+--   notReached, dead, lowerNotReached, second, alike, behindMerged, noText   rules that are not lean
 --   reducedTo r        accepted with the rule r, which installs
 --   case r m           the rule r, reduced, comes to m
 --   reductions         the list
@@ -40,6 +41,9 @@ once = rule 2 1 1 2 (arcs (2 ∷ []))
 abbrev pub twice : Rule
 twice = rule 3 1 1 4 (arcs (2 ∷ 4 ∷ []))
 
+abbrev pub twiceOrThrice : Rule
+twiceOrThrice = rule 4 1 1 12 (arcs (2 ∷ 4 ∷ 8 ∷ []))
+
 abbrev pub odd : Rule
 odd = rule 2 1 1 2 (arcs (2 ∷ 1 ∷ []))
 
@@ -69,6 +73,11 @@ second = rule 3 2 2 2 (also 1 1 2 (also 2 1 4 (arcs (4 ∷ 4 ∷ 2 ∷ []))))
 abbrev pub alike : Rule
 alike = rule 4 1 7 8 (arcs (8 ∷ 2 ∷ 8 ∷ 4 ∷ []))
 
+-- 0 leads to 1 and 2; 1 to 3, which is final and leads to 4; 2 to 4, which is final, and to 5,
+-- which leads to 4. So 1 is alike to 2, and 5 to none
+abbrev pub behindMerged : Rule
+behindMerged = rule 6 1 1 24 (arcs (6 ∷ 8 ∷ 48 ∷ 16 ∷ 0 ∷ 16 ∷ []))
+
 -- 0 leads to 0 and 1, and 1 to 0; 2, which is final, is not reached
 abbrev pub noText : Rule
 noText = rule 3 1 1 4 (arcs (3 ∷ 1 ∷ []))
@@ -89,6 +98,8 @@ reductions =
     case second (reducedTo even) ∷
     -- 0 stands for itself and 2
     case alike (reducedTo odd) ∷
+    -- 1 stands for 2, and 5 goes, to which 2 alone led
+    case behindMerged (reducedTo twiceOrThrice) ∷
     -- one state is left
     case noText (reducedTo (rule 1 1 0 0 noTargets)) ∷
     -- lean
