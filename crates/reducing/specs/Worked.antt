@@ -4,11 +4,12 @@
 --   arcs masks         a table for the symbol 0: the mask of state 0, of state 1, ..
 --   also q s m masks   the same table with the mask m for the state q and the symbol s
 --   once, twice        the texts 0, and 0 0: a state leads to the next, and the last is final
---   twiceOrThrice      the texts 0 0 and 0 0 0: the same with four states, and the last two are final
+--   twiceOrThrice      the texts 0 0 and 0 0 0: the same, and the last two of four states are final
 --   odd                the texts of odd length: 0 and 1 lead to each other, and 1 is final
 --   even               the texts with an even number of 0s: 0, which is initial and final, and 1
 --                      lead to each other by 0, and each to itself by 1
---   notReached, dead, lowerNotReached, second, alike, behindMerged, noText   rules that are not lean
+--   notReached, dead, lowerNotReached, second, alike, behindMerged, noText
+--                      rules that are not lean
 --   reducedTo r        accepted with the rule r, which installs
 --   case r m           the rule r, reduced, comes to m
 --   reductions         the list

@@ -20,8 +20,8 @@
 --   verdictIn h, textIn h      what 01 says of a list of calls             histories/specs/History
 --
 -- r is any value, in which any numbers may stand. How the reduced rule is found
--- (reducing/specs/Reduced) need not be believed: `due` says that it is the answer of the words, and no
--- other is. It is not the smallest automaton that accepts these texts. A proved function ends
+-- (reducing/specs/Reduced) need not be believed: `due` says that it is the answer of the words, and
+-- no other is. It is not the smallest automaton that accepts these texts. A proved function ends
 -- and stays within its bounds. Assumes nothing.
 use mathlib.Core.Path.{_≡_, sym, ap, _∙_, subst}
 use mathlib.Core.Logic.{_↔_}
