@@ -2,7 +2,13 @@
 use Rattle.reducing.specs.Claims.{Claims}
 use Rattle.reducing.proofs.Law.{reduce-law}
 use Rattle.reducing.proofs.Whole.{exactly, again-whole}
-use Rattle.reducing.proofs.Examples.{answered}
+use Rattle.reducing.proofs.Examples.{answered, more-sets}
 
 pub claims : Claims
-claims = record { answered = answered; reducing = reduce-law; exactly = exactly; again-whole = again-whole }
+claims = record {
+  answered = answered;
+  more-sets = more-sets;
+  reducing = reduce-law;
+  exactly = exactly;
+  again-whole = again-whole;
+}

@@ -31,7 +31,7 @@ use Rattle.ruleformat.specs.Claims.{AllZero}
 use Rattle.delegates.specs.Alike.{AcceptsFrom, Alike, Live}
 use Rattle.calls.specs.Calls.{installNumber}
 use Rattle.reducing.specs.Reducing.{Reducing, refusedBy, reduceOf}
-use Rattle.reducing.specs.Worked.{reductions, Answered}
+use Rattle.reducing.specs.Worked.{fewSets, reductions, Answered}
 
 abbrev pub Nothing : Automaton → Type 0
 Nothing a = (w : List ℕ) → Accepts a w → ⊥
@@ -122,6 +122,8 @@ pub record ReduceLaw (r : Rule) : Type 0 where
 pub record Claims : Type 0 where
   -- rules reduced by hand, and refusals at the edges
   pub answered : Answered reductions
+  -- a rule that installs, though what it is reduced to has too many sets
+  pub more-sets : (installNumber fewSets ≡ none) × (installNumber (reduceOf fewSets .rule) ≡ some 9)
   -- reducing any value
   pub reducing : (r : Rule) → ReduceLaw r
   -- all of it in one: the answer is the one that is due, and no other is

@@ -7,7 +7,7 @@
 --   Reachable, Lean, Nothing   of states, of rules, of automata            reducing/specs/Claims
 --   Becomes r n; Due r m       what r becomes; the answer that is due      reducing/specs/Claims
 --   emptyRule k                one state, and all masks 0                  reducing/specs/Claims
---   reductions, Answered       rules reduced by hand                       reducing/specs/Worked
+--   reductions, Answered       rules reduced by hand, fewSets among them   reducing/specs/Worked
 --   Live, Alike                of states (R-7)                             delegates/specs/Alike
 --   installNumber r            3, 4, 6, 8, 9 of an installation            calls/specs/Calls
 --   ruleNumber r               3, 4, 6, 8 of a rule as a value (R-3)       rulecheck/specs/Checking
@@ -45,7 +45,7 @@ use Rattle.fillings.specs.Filled.{Filled}
 use Rattle.fillings.proofs.Boards as boards
 use Rattle.reducing.specs.declared.ReduceResult.{ReduceResult}
 use Rattle.reducing.specs.Reducing.{Reducing, refusedBy, reduceOutcome, reduceOf}
-use Rattle.reducing.specs.Worked.{reductions, Answered}
+use Rattle.reducing.specs.Worked.{fewSets, reductions, Answered}
 use Rattle.reducing.specs.Claims.{Nothing, emptyRule, Reachable, Lean, Renumbered, Due, ReduceLaw}
 use Rattle.reducing.proofs.Claims as reducing
 use Rattle.c_reduce.specs.declared.ReduceNumbers.{ReduceNumbers}
@@ -143,7 +143,11 @@ pub zeros : (r : Rule) (x : ℕ) → reduceOf r .number ≡ some x → AllZero (
 zeros r = reducing-law r .zeros
 
 -- "a reduced rule can have more sets than the rule it came from, so that installing may refuse it
--- with 9. The answer carries whether the result installs":
+-- with 9": here is one that installs, and its reduction does not.
+pub more-sets : (installNumber fewSets ≡ none) × (installNumber (reduceOf fewSets .rule) ≡ some 9)
+more-sets = reducing.claims .more-sets
+
+-- "The answer carries whether the result installs":
 pub installs-exactly : (r : Rule) → (reduceOf r .installs ≡ true) ↔ (installNumber (reduceOf r .rule) ≡ none)
 installs-exactly r = reducing-law r .installs-exactly
 
