@@ -159,7 +159,7 @@ module _ (r : Rule) (good : WellFormed r) where
         by-test (ltb (getD d q 0) 32)
         (λ t. let z = said-some d q (ltb-true (getD d q 0) 32 t) in zero-one cc)
         (λ t. t) in
-        let cell : chosenCell d reached q ≡ 32 = off (has reached q) (ltb (getD d q 0) 32) (firstFrom (λ p. has reached p && eqb (getD d p 0) (getD d q 0)) 0 q) high in
+        let cell : chosenCell d reached q ≡ 32 = off (has reached q) (ltb (getD d q 0) 32) _ high in
         said-none list q (rw (is-cell q (row q l), cell) (omega arith))
       where
         off : (s t : Bool) (x : ℕ) → t ≡ false → cond (s && t) x 32 ≡ 32

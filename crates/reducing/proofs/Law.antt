@@ -1,7 +1,7 @@
 -- All that is promised of reducing a value: what is answered goes by the number, and where there is
 -- none the facts of the reduced rule hold of it. Assumes nothing.
 use mathlib.Core.Path.{_≡_, refl, sym, ap, _∙_, subst}
-use mathlib.Core.Logic.{_↔_}
+use mathlib.Core.Logic.{_↔_, _⊎_, inl, inr}
 use mathlib.Core.Bool.{Bool, true, false, cond, not}
 use mathlib.Core.List.{List, _++_}
 use mathlib.Core.Option.{Option, none, some}
@@ -320,6 +320,13 @@ module _ (r : Rule) where
         absurd (never (u .0) (u .1)))
         (λ t. let l = ltb-false 0 size t in empty-made (omega arith))
 
+    -- which of the two it is
+    pub some-or-nothing : ((w : List ℕ) × Accepts (automatonOf r) w) ⊎ Nothing (automatonOf r)
+    some-or-nothing =
+        by-test (ltb 0 size)
+        (λ t. inl (accepted r good-rule (startsIn r .delegates) (startsIn r .startcount) by-delegates (ltb-true 0 size t)))
+        (λ t. inr (λ w a. let l = ltb-false 0 size t in omega (arith, some-left w a)))
+
     same-made : length (r .targets) ≡ 512 → Lean r → made ≡ r
     same-made long h = same-new r good-rule (startsIn r .delegates) (startsIn r .startcount) by-delegates long h
 
@@ -379,4 +386,8 @@ reduce-law r = record {
   again = once-more r;
   again-number = λ e x f.
       only-nine (reduceOf r .rule) (checked-made r e) x (sym (is-number (reduceOf r .rule)) ∙ f);
+  again-exactly =
+      let law = installs-of (installNumber r) (reducedOf r) in
+      let is = is-number (reduceOf r .rule) in
+      ((λ f. law .1 (sym is ∙ f)), λ t. is ∙ law .0 t);
 }

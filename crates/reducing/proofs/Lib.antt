@@ -6,5 +6,6 @@ pub mod Chosen
 pub mod Same
 pub mod Only
 pub mod Law
+pub mod Whole
 pub mod Examples
 pub mod Claims
