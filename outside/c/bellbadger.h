@@ -37,7 +37,7 @@
  * Another major number or size: the two do not fit. A higher minor number of the library: it can
  * more than this header says. */
 #define BELLBADGER_VERSION_MAJOR 5
-#define BELLBADGER_VERSION_MINOR 6
+#define BELLBADGER_VERSION_MINOR 7
 #define BELLBADGER_VERSION (BELLBADGER_VERSION_MAJOR * 65536 + BELLBADGER_VERSION_MINOR)
 #define BELLBADGER_STATE_SIZE 27832 /* the bytes of a bellbadger_judge */
 
