@@ -22,7 +22,7 @@
  *   210 KB  bellbadger_deliver
  *   170 KB  bellbadger_locate
  *   140 KB  bellbadger_tray_install_row, bellbadger_tray_install_column, bellbadger_summarize
- *   120 KB  bellbadger_profile_run
+ *   120 KB  bellbadger_profile_run, bellbadger_merge_reduced
  *   90 KB  any other function
  */
 #ifndef BELLBADGER_H

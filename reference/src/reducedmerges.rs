@@ -120,10 +120,15 @@ fn cycle(n: usize) -> Automaton {
     Automaton { n, k: 1, initial: 1, finals: 1, targets }
 }
 
-/// Two automata, with the same symbols: large and few pairs of them reachable, the one in other words; without
-/// anything in common; with too many sets, or a result that has; cycles that are never in step.
-fn any_automata(r: &mut Random) -> (Automaton, Automaton) {
-    let most = r.pick(&[3, 4, 6, 9]);
+/// Two automata, with the same symbols: the one in other words, so that of many pairs few may be reachable; without
+/// anything in common; with too many sets, or a result that has; cycles that are not in step. For either they are
+/// larger, since its states are fewer.
+fn any_automata(r: &mut Random, way: Way) -> (Automaton, Automaton) {
+    let most = r.pick(match way {
+        Way::Both => &[3, 4, 6, 9, 32],
+        Way::Either => &[4, 9, 32, 32, 32],
+        Way::Interleaving => &[2, 3, 4, 6, 9],
+    });
     let (mut a, mut b) = match r.below(8) {
         0 | 1 | 2 => {
             let a = small(r, most);
@@ -139,12 +144,12 @@ fn any_automata(r: &mut Random) -> (Automaton, Automaton) {
             (grows(row, ring), small(r, 2))
         }
         _ => {
-            let n = r.range(2, 9);
+            let n = if way == Way::Either { r.range(10, 20) } else { r.range(2, 9) };
             (cycle(n), cycle(n + r.range(0, 4)))
         }
     };
     b = with_symbols(a.k, b);
-    for _ in 0..r.below(4) {
+    for _ in 0..r.pick(&[0, 0, 1, 3]) {
         if a.n < 32 { a = with_a_state_more(r, &a); }
         if b.n < 32 { b = with_a_state_more(r, &b); }
     }
@@ -152,14 +157,15 @@ fn any_automata(r: &mut Random) -> (Automaton, Automaton) {
     (reordered(r, &a), reordered(r, &b))
 }
 
-/// A rule with a wrong number: 3, 4, 6 or 8 is due.
+/// A rule with a wrong number, unless it has all states: 3, 4, 6 or 8 is due.
 fn spoiled(r: &mut Random, mut rule: CheckedRule) -> CheckedRule {
-    match r.below(6) {
-        0 => rule.n = r.pick(&[0, 33, 64, 255]),
-        1 => rule.k = r.pick(&[0, 17, 32, 255]),
-        2 => rule.initial |= 1 << 31,
-        3 => rule.finals |= 1 << 31,
-        4 => rule.targets[r.below(rule.n as usize)][r.below(rule.k as usize)] |= 1 << 31,
+    let beyond = 1 << r.range(rule.n as usize, 32).min(31);
+    match r.below(8) {
+        0 | 1 => rule.n = r.pick(&[0, 33, 64, 255]),
+        2 | 3 => rule.k = r.pick(&[0, 17, 32, 255]),
+        4 => rule.initial |= beyond,
+        5 => rule.finals |= beyond,
+        6 => rule.targets[r.below(rule.n as usize)][r.below(rule.k as usize)] |= beyond,
         _ => rule.targets[31][15] = 1,
     }
     rule
@@ -171,11 +177,15 @@ pub fn pairs(seed: u64, count: u64) -> String {
     let line = |stream: u64| {
         let mut r = Random::new(seed, stream);
         let (way, word) = [(Way::Both, "both"), (Way::Either, "either"), (Way::Interleaving, "interleaving")][stream as usize % 3];
-        let (a, mut b) = any_automata(&mut r);
-        if r.one_in(20) { b = with_symbols(if b.k == 16 { 15 } else { b.k + 1 }, b); }
+        let (a, mut b) = any_automata(&mut r, way);
+        if r.one_in(12) { b = with_symbols(if b.k == 16 { 15 } else { b.k + 1 }, b); }
         let [mut one, mut two] = [a, b].map(|a| CheckedRule::of(&a));
-        if r.one_in(6) { one = spoiled(&mut r, one); }
-        if r.one_in(6) { two = spoiled(&mut r, two); }
+        match r.below(12) {
+            0 | 1 => one = spoiled(&mut r, one),
+            2 | 3 => two = spoiled(&mut r, two),
+            4 => (one, two) = (spoiled(&mut r, one), spoiled(&mut r, two)),
+            _ => (),
+        }
         let said = match merge_reduced(way, &one, &two) {
             Ok(Merged { rule, left_out }) => {
                 let words = ["first", "second", "result"].iter().zip(left_out).filter(|(_, left)| *left);
