@@ -412,7 +412,7 @@ static bellbadger_checked_rule twins(void) {
     return r;
 }
 
-/* the rule of (ab)*cd, with so many ways to say ab: 3 + 2 * ways states, as bellbadger_pattern has it */
+/* the rule of the pattern (ab)*cd, in which ab is said so often: 3 states and 2 for each */
 static bellbadger_checked_rule rinses(int ways) {
     uint8_t pattern[128];
     size_t at = 0;

@@ -1,5 +1,6 @@
-/* Rules for the tests in C, and what is plainly found of them: the texts that they and two of them together accept,
- * and what a rule is reduced to, state by state, by searches that share nothing with the library. */
+/* Rules for the tests in C, and what is plainly found of them: the texts that they and two of them
+ * together accept, and what a rule is reduced to, state by state, by searches that share nothing
+ * with the library. */
 #ifndef PLAIN_RULES_H
 #define PLAIN_RULES_H
 
@@ -41,9 +42,10 @@ static bellbadger_checked_rule from_the_end(int n, int symbol) {
     return r;
 }
 
-/* A rule of few sets whose reduction has many. State 0 accepts all texts; by 1 it begins a row of so many states too,
- * so that texts lead to sets of many kinds from it. Behind the row stands a ring of states, of which the first leads
- * by 1 to the last state of all; that accepts all texts too, and is represented by state 0. */
+/* A rule of few sets whose reduction has many. State 0 accepts all texts; by 1 it begins a row of
+ * so many states too, so that texts lead to sets of many kinds from it. Behind the row stands a
+ * ring of states, of which the first leads by 1 to the last state of all; that accepts all texts
+ * too, and is represented by state 0. */
 static bellbadger_checked_rule grows(int row, int ring) {
     int first = 1 + row, last = first + ring;
     bellbadger_checked_rule r = plain(last + 1, 2);
@@ -67,7 +69,8 @@ static uint32_t below(uint32_t n) {
     return random_number() % n;
 }
 
-/* a rule with arcs of its own, states that nothing leads to, that lead nowhere, and that are copies of others */
+/* a rule with arcs of its own, states that nothing leads to, that lead nowhere, and that are copies
+ * of others */
 static bellbadger_checked_rule any_rule(int most, int most_symbols) {
     bellbadger_checked_rule r = plain(1 + (int)below((uint32_t)most), 1 + (int)below((uint32_t)most_symbols));
     uint32_t states = r.n < 32 ? (1u << r.n) - 1 : 0xFFFFFFFF;
@@ -94,7 +97,8 @@ static uint32_t step(const bellbadger_checked_rule *r, uint32_t set, int symbol)
     return next;
 }
 
-/* whether a rule accepts the symbols of a text whose mark is not 0, all of them where all marks are 1 */
+/* whether a rule accepts the symbols of a text whose mark is not 0, all of them where all marks are
+ * 1 */
 static int accepts(const bellbadger_checked_rule *r, const uint8_t *text, int length, unsigned marks) {
     uint32_t set = r->initials;
     for (int i = 0; i < length; i++)
@@ -119,8 +123,8 @@ static uint32_t onward(const bellbadger_checked_rule *r, uint32_t set) {
     return set;
 }
 
-/* Whether the states accept the same texts: by the pairs of sets that texts lead to from them. -1 where these are too
- * many. */
+/* Whether the states accept the same texts: by the pairs of sets that texts lead to from them. -1
+ * where these are too many. */
 static int alike(const bellbadger_checked_rule *r, int p, int q) {
     static uint32_t ones[MOST_PAIRS], twos[MOST_PAIRS];
     int found = 1;
@@ -155,8 +159,8 @@ static uint32_t anew(uint32_t kept, uint32_t set) {
     return out;
 }
 
-/* How many reached states another stands for, and what each number of the reduced rule has to be, in the words of
- * bellbadger_reduce.h; -1 where that was too long to find. */
+/* How many reached states another stands for, and what each number of the reduced rule has to be,
+ * in the words of bellbadger_reduce.h; -1 where that was too long to find. */
 static int reduction(const bellbadger_checked_rule *r, bellbadger_checked_rule *due) {
     int stands[32], merged = 0;
     uint32_t reached = onward(r, r->initials), kept;

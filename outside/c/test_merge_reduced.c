@@ -1,17 +1,20 @@
-/* Two rules reduced and made one, from C: results worked by hand, random rules beside the words, number by number (the
- * pairs that are reachable and live are found by plain searches, and so is what a rule is reduced to) and text by
- * text, the limits of 37, steps that are left out since a rule has too many sets, refusals in their order with their
- * zeros, and rules in which any numbers stand. This would catch a pair that stays though it is unreachable or dead, or
- * goes though it is neither, a rule or a result that is not reduced, and a 37 that is told of other pairs.
- * Prints how many checks were made and of how many pairs of rules; stops at the first that fails. */
+/* Two rules reduced and made one, from C: results worked by hand, random rules beside the words,
+ * number by number (the pairs that are reachable and live are found by plain searches, and so is
+ * what a rule is reduced to) and text by text, the limits of 37, steps that are left out since a
+ * rule has too many sets, refusals in their order with their zeros, and rules in which any numbers
+ * stand. This would catch a pair that stays though it is unreachable or dead, or goes though it is
+ * neither, a rule or a result that is not reduced, and a 37 that is told of other pairs. Prints how
+ * many checks were made and of how many pairs of rules; stops at the first that fails. */
 #include "plain_rules.h"
 
 enum { WAYS = 3, PAIRS = 1024, TEXT = 5, MOST_SETS = 512 };
 
-/* of each way: merged as bellbadger_merge does, with fewer states than that, where that refuses with 37, refused with 37 */
+/* of each way: merged as bellbadger_merge does, with fewer states than that, where that refuses
+ * with 37, refused with 37 */
 static long as_merge[WAYS], smaller[WAYS], beyond[WAYS], too_many[WAYS], compared;
 
-/* the two rules of which one is to be made: its states have the numbers that bellbadger_merge.h gives them */
+/* the two rules of which one is to be made: its states have the numbers that bellbadger_merge.h
+ * gives them */
 static int way_of, n_of;
 static bellbadger_checked_rule first, second;
 
@@ -34,7 +37,8 @@ static int arc(int q, int symbol, int p) {
     return (one_moves && q % n2 == p % n2) || (two_moves && q / n2 == p / n2);
 }
 
-/* breadth first: the queue then has every state that arcs lead to from those in it; how many these are */
+/* breadth first: the queue then has every state that arcs lead to from those in it; how many these
+ * are */
 static int search(int *queue, int found) {
     uint8_t seen[PAIRS] = {0};
     for (int i = 0; i < found; i++) seen[queue[i]] = 1;
@@ -52,8 +56,8 @@ static int is_live(int q) {
     return 0;
 }
 
-/* The rule of the states that are reached and live, in their order: how many these are. It is made where they are at
- * most 32. */
+/* The rule of the states that are reached and live, in their order: how many these are. It is made
+ * where they are at most 32. */
 static int trimmed(bellbadger_checked_rule *out) {
     int queue[PAIRS], old[32], kept = 0, found = 0;
     uint8_t stays[PAIRS] = {0};
@@ -95,7 +99,8 @@ static int has_many_sets(const bellbadger_checked_rule *r) {
     return 0;
 }
 
-/* reduces a rule, which has to be one, but leaves it as it is where it has too many sets; 0 where that was too long */
+/* reduces a rule, which has to be one, but leaves it as it is where it has too many sets; 0 where
+ * that was too long */
 static int reduce_or_leave(bellbadger_checked_rule *r) {
     return has_many_sets(r) || reduction(r, r) >= 0;
 }
@@ -206,7 +211,7 @@ static void five_by_nine(void) {
     for (int way = 0; way < WAYS; way++) beside_the_words(way, one, two), beside_the_words(way, two, one);
 }
 
-/* 37 is told of pairs that are reachable and live, whether or not they are alike, and not of others */
+/* 37 is told of pairs that are reachable and live, be they alike or not, and of no others */
 static void limits(void) {
     bellbadger_checked_rule due = cycle(32);
     for (int way = 0; way < WAYS; way++) {
@@ -226,8 +231,10 @@ static void limits(void) {
     CHECK(answered(BELLBADGER_INTERLEAVING, cycle(4), cycle(8), 0, NULL).n < 32);
     refused(BELLBADGER_INTERLEAVING, cycle(3), cycle(11), 37);
     refused(BELLBADGER_INTERLEAVING, cycle(16), cycle(16), 37); /* 256 pairs, 0 in 8 bits */
-    for (int way = 0; way < WAYS; way++)
-        for (int n = 3; n < 7; n++) beside_the_words(way, cycle(n), cycle(n + 3)), beside_the_words(way, cycle(20 - n), cycle(17));
+    for (int n = 3; n < 7; n++) {
+        for (int way = 0; way < WAYS; way++) beside_the_words(way, cycle(n), cycle(n + 3));
+        beside_the_words(BELLBADGER_EITHER, cycle(20 - n), cycle(17));
+    }
 }
 
 /* a step that 9 would refuse is left out: of the first rule, of the second, of the result alone */

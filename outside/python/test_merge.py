@@ -1,5 +1,6 @@
-"""Two rules made one from Python, as they are and reduced: the results worked by hand, refusals in their order, and what
-the judge says with the result installed; random rules reduced, whose texts and states are looked at."""
+"""Two rules made one from Python, as they are and reduced: the results worked by hand, refusals in
+their order, and what the judge says with the result installed; random rules reduced, whose texts
+and states are looked at."""
 
 import dataclasses
 import doctest
@@ -99,7 +100,7 @@ class Merging(unittest.TestCase):
         self.assertEqual(arcs, {(0, 0): 2, (0, 2): 4, (1, 1): 1, (2, 3): 8})
 
     def test_thirty_seven(self):
-        """It is told of pairs that are reachable and live, whether or not they are alike, and not of others."""
+        """It is told of pairs that are reachable and live, be they alike or not, and of no others."""
         self.assertEqual(merge_reduced(BOTH, cycle(32), cycle(32)), cycle(32))
         self.assertEqual(merge_reduced(EITHER, cycle(15), cycle(17)).n, 32)
         self.assertLess(merge_reduced(INTERLEAVING, cycle(4), cycle(8)).n, 32)
@@ -108,7 +109,7 @@ class Merging(unittest.TestCase):
         self.refused(37, INTERLEAVING, cycle(3), cycle(11))
 
     def test_a_step_that_is_left_out(self):
-        """The symbol 1 is the tenth from the end: 11 states, over 512 sets. Such a rule is taken as it is."""
+        """The symbol 1 is the tenth from the end: over 512 sets. Such a rule is taken as it is."""
         many = rule(1, 1 << 10, (1, 3), *((2 << q, 2 << q) for q in range(1, 10)), (0, 0))
         self.assertEqual(answer(reduce, many), 9)
         self.assertEqual(merge_reduced(BOTH, many, EVERY), many)

@@ -9,16 +9,16 @@ use crate::reductions::{grows, reduce};
 use crate::rule::{members, Automaton};
 use std::collections::BTreeSet;
 
-/// The rule that two come to, and which of the three reductions, of the first rule, of the second and of the
-/// result, were left out since they would have been refused with 9.
+/// The rule that two come to, and which of the three reductions, of the first rule, of the second
+/// and of the result, were left out since they would have been refused with 9.
 #[derive(Clone, Debug, PartialEq)]
 pub struct Merged {
     pub rule: CheckedRule,
     pub left_out: [bool; 3],
 }
 
-/// A state of the result: a pair of states; for either 0 or 1, for the rule that it is of, and its state there.
-/// They are in the order that merging gives them.
+/// A state of the result: a pair of states; for either 0 or 1, for the rule that it is of, and its
+/// state there. They are in the order that merging gives them.
 type State = (usize, usize);
 
 /// Two automata of which one is to be made.
@@ -70,7 +70,8 @@ impl Both<'_> {
         }
     }
 
-    /// The automaton of these states alone, numbered from 0 in their order; without any, one that has nothing.
+    /// The automaton of these states alone, numbered from 0 in their order; without any, one that
+    /// has nothing.
     fn of_these(&self, kept: &BTreeSet<State>) -> Automaton {
         let (a, b) = (self.a, self.b);
         let number = |state: State| kept.iter().position(|&other| other == state);
@@ -93,8 +94,9 @@ fn reduced(rule: &CheckedRule) -> (CheckedRule, bool) {
     }
 }
 
-/// The two rules reduced, made one, reduced; or the number of the first condition that holds: the first rule's (3,
-/// 4, 6, 8), then the second's, then 36, and 37 where more than 32 states are reachable and live.
+/// The two rules reduced, made one, reduced; or the number of the first condition that holds: the
+/// first rule's (3, 4, 6, 8), then the second's, then 36, and 37 where more than 32 states are
+/// reachable and live.
 pub fn merge_reduced(way: Way, one: &CheckedRule, two: &CheckedRule) -> Result<Merged, u32> {
     if one.automaton()?.k != two.automaton()?.k { return Err(36); }
     let ((one, first), (two, second)) = (reduced(one), reduced(two));
@@ -120,9 +122,9 @@ fn cycle(n: usize) -> Automaton {
     Automaton { n, k: 1, initial: 1, finals: 1, targets }
 }
 
-/// Two automata, with the same symbols: the one in other words, so that of many pairs few may be reachable; without
-/// anything in common; with too many sets, or a result that has; cycles that are not in step. For either they are
-/// larger, since its states are fewer.
+/// Two automata, with the same symbols: the one in other words, so that of many pairs few may be
+/// reachable; without anything in common; with too many sets, or a result that has; cycles that are
+/// not in step. For either they are larger, since its states are fewer.
 fn any_automata(r: &mut Random, way: Way) -> (Automaton, Automaton) {
     let most = r.pick(match way {
         Way::Both => &[3, 4, 6, 9, 32],
@@ -171,8 +173,9 @@ fn spoiled(r: &mut Random, mut rule: CheckedRule) -> CheckedRule {
     rule
 }
 
-/// Pairs of rules under a seed and a way, a line each: the way, the 2,058 bytes of both values, and those of the
-/// result, with a word for each reduction that was left out, or the number of a refusal.
+/// Pairs of rules under a seed and a way, a line each: the way, the 2,058 bytes of both values, and
+/// those of the result, with a word for each reduction that was left out, or the number of a
+/// refusal.
 pub fn pairs(seed: u64, count: u64) -> String {
     let line = |stream: u64| {
         let mut r = Random::new(seed, stream);

@@ -1,4 +1,5 @@
-//! Two rules reduced and made one: the words of merging's texts, and no pair that is unreachable or dead.
+//! Two rules reduced and made one: the words of merging's texts, and no pair that is unreachable or
+//! dead.
 
 use reference::automata::{blank, from_the_end};
 use reference::checked::CheckedRule;
@@ -73,8 +74,9 @@ fn worked_by_hand() {
     assert_eq!(result(Either, &none, &a()), a());
 }
 
-/// Which pairs are reached and live is asked of texts: in step where both move, of each rule by itself where one moves.
-/// The result is what merging makes of the reduced rules, of these states alone, and reduced.
+/// Which pairs are reached and live is asked of texts: in step where both move, of each rule by
+/// itself where one moves. The result is what merging makes of the reduced rules, of these states
+/// alone, and reduced.
 #[test]
 fn by_the_words() {
     let (mut r, mut gone) = (Random::new(37, 5), [0; 3]);

@@ -28,14 +28,15 @@ extern "C" {
 
 /// Makes one rule of two, with n1 and n2 states, whatever stands in them.
 ///
-/// For both and interleaving the pair (q1, q2) is state q1 × n2 + q2, initial or final where both its
-/// members are; an arc moves both, or for interleaving one alone. For either the second rule's states
-/// follow the first's, and each is what it was, arcs included. A result with more than 512 sets is
-/// refused where it is installed, with 9. Where 37 stands in the way, [`merge_reduced`] needs fewer states.
+/// For both and interleaving the pair (q1, q2) is state q1 × n2 + q2, initial or final where both
+/// its members are; an arc moves both, or for interleaving one alone. For either the second rule's
+/// states follow the first's, and each is what it was, arcs included. A result with more than 512
+/// sets is refused where it is installed, with 9. Where 37 stands in the way, [`merge_reduced`]
+/// needs fewer states.
 ///
 /// # Errors
-/// 3, 4, 6, 8 as for [`Judge::install`](crate::Judge::install), of the first rule, then of the second;
-/// then 36 (different numbers of symbols), 37 (more than 32 states in the result).
+/// 3, 4, 6, 8 as for [`Judge::install`](crate::Judge::install), of the first rule, then of the
+/// second; then 36 (different numbers of symbols), 37 (more than 32 states in the result).
 ///
 /// ```
 /// use bellbadger::merge::{merge, Way};
@@ -67,19 +68,19 @@ pub fn merge(way: Way, one: &CheckedRule, two: &CheckedRule) -> Result<CheckedRu
     accepted(r.accepted, r.refused).map(|()| r.rule)
 }
 
-/// Makes one rule of two, whatever stands in them, that accepts the texts which that of [`merge`] accepts,
-/// with few states.
+/// Makes one rule of two, whatever stands in them, that accepts the texts which that of [`merge`]
+/// accepts, with few states.
 ///
-/// Both rules are reduced ([`reduce`](crate::reduce::reduce)), of their pairs, or for either of the states of
-/// both, only those are built that are reachable and live, and the result is reduced. States keep their
-/// order, and are numbered from 0. Where reducing a rule or the result would be refused with 9, that step is
-/// left out, and the rule as it is is used: so nothing is refused that [`merge`] takes. The result may have
-/// more sets than that of [`merge`], though, as a reduced rule may: where it cannot be installed, and that
-/// one can, take that one.
+/// Both rules are reduced ([`reduce`](crate::reduce::reduce)), of their pairs, or for either of the
+/// states of both, only those are built that are reachable and live, and the result is reduced.
+/// States keep their order, and are numbered from 0. Where reducing a rule or the result would be
+/// refused with 9, that step is left out, and the rule as it is is used: so nothing is refused that
+/// [`merge`] takes. The result may have more sets than that of [`merge`], though, as a reduced rule
+/// may: where it cannot be installed, and that one can, take that one.
 ///
 /// # Errors
-/// 3, 4, 6, 8 as for [`merge`], of the first rule, then of the second; then 36 (different numbers of
-/// symbols), 37 (more than 32 pairs, or states, are reachable and live).
+/// 3, 4, 6, 8 as for [`merge`], of the first rule, then of the second; then 36 (different numbers
+/// of symbols), 37 (more than 32 pairs, or states, are reachable and live).
 ///
 /// ```
 /// use bellbadger::merge::{merge, merge_reduced, Way};

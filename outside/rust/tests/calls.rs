@@ -136,10 +136,7 @@ fn on_a_stack_of_1_mb() {
         );
         assert_eq!(patterns::rule_file(b"(a|b)*ab")?.len(), 50);
         assert_eq!(merge::merge(merge::Way::Either, &rule, &rule)?.n, 6);
-        assert_eq!(
-            merge::merge_reduced(merge::Way::Either, &rule, &rule)?.n,
-            3
-        );
+        assert_eq!(merge::merge_reduced(merge::Way::Either, &rule, &rule)?.n, 3);
         assert!(compare::compare(&rule, &rule)?.is_same());
         assert_eq!(reduce::reduce(&rule)?.rule, rule);
         let made = form::form(&judge)?;

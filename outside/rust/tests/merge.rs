@@ -1,6 +1,6 @@
-//! Two rules made one, through the wrapper, as they are and reduced: the results worked by hand, refusals in
-//! their order, and what the judge says with the result installed; random rules reduced, whose texts and
-//! states are looked at.
+//! Two rules made one, through the wrapper, as they are and reduced: the results worked by hand,
+//! refusals in their order, and what the judge says with the result installed; random rules
+//! reduced, whose texts and states are looked at.
 use bellbadger::compare::compare;
 use bellbadger::merge::{merge, merge_reduced, Way};
 use bellbadger::patterns::rule_file;
@@ -160,7 +160,7 @@ fn cycle(n: u8) -> CheckedRule {
     }
 }
 
-/// 37 is told of pairs that are reachable and live, whether or not they are alike, and not of others.
+/// 37 is told of pairs that are reachable and live, be they alike or not, and of no others.
 #[test]
 fn thirty_seven() {
     let refused = |way, one, two| merge_reduced(way, &one, &two).unwrap_err().number();
