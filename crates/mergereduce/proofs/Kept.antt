@@ -1,12 +1,11 @@
 -- The states that are kept of an automaton given by masks are those that are reached and live. Assumes
 -- that the masks are the automaton's.
-use mathlib.Core.Path.{_≡_, refl, sym, ap, _∙_, subst}
+use mathlib.Core.Path.{_≡_, refl, subst}
 use mathlib.Core.Logic.{_↔_, ⊎-elim}
 use mathlib.Core.Bool.{Bool, true, false, _&&_}
 use mathlib.Core.List.{List, [], _∷_, _++_}
 use Prim.Native.Nat.{ℕ, zero, suc, _≤_, _<_}
 use native.Mathlib.Omega.{arith}
-use lib.Bits.{bitAnd, bitOr}
 use Rattle.base.specs.Conditions.{anyBelow}
 use Rattle.base.proofs.Conditions.{any-at, any-found}
 use Rattle.base.proofs.Tests.{not-both}
@@ -32,14 +31,14 @@ abbrev pub added : (ℕ → ℕ → Bool) → ℕ → ℕ → ℕ
 added link n m = maskOf (λ p. anyBelow (λ q. has m q && link q p) n) n
 
 module _ (link : ℕ → ℕ → Bool) (n m : ℕ) where
-  spread-from : (p : ℕ) → p ∈ added link n m → (q : ℕ) × (q < n) × (q ∈ m) × (link q p ≡ true) × (p < n)
+  pub spread-from : (p : ℕ) → p ∈ added link n m → (q : ℕ) × (q < n) × (q ∈ m) × (link q p ≡ true) × (p < n)
   spread-from p e =
       let x = mask-in (λ r. anyBelow (λ q. has m q && link q r) n) n p e in
       let y = any-found (λ q. has m q && link q p) n (x .1) in
       let z = and-both (has m (y .0)) (link (y .0) p) (y .2) in
       (y .0, y .1, member-of m (y .0) (z .0), z .1, x .0)
 
-  spread-to : (q p : ℕ) → q < n → p < n → q ∈ m → link q p ≡ true → p ∈ added link n m
+  pub spread-to : (q p : ℕ) → q < n → p < n → q ∈ m → link q p ≡ true → p ∈ added link n m
   spread-to q p l h e t =
       mask-of (λ r. anyBelow (λ x. has m x && link x r) n) n p h
       (any-at (λ x. has m x && link x p) n q l (rw (has-member m q e, t)))

@@ -4,41 +4,35 @@ use mathlib.Core.Logic.{_↔_, _⊎_, inl, inr, ⊎-elim, Iff·trans}
 use mathlib.Core.Bool.{Bool, true, false, cond, not}
 use mathlib.Core.List.{List, _++_}
 use mathlib.Core.Option.{Option, none, some}
-use Prim.Native.Nat.{ℕ, _+_, _*_, _≤_, _<_}
+use Prim.Native.Nat.{ℕ, _+_, _≤_}
 use native.Mathlib.Nat.{mul-le-mul-left, mul-le-mul-right, le-trans}
 use native.Mathlib.Omega.{arith}
 use lib.Dec.{eqb, ltb}
 use borrow.Author.Tests.{eqb-true, eq-eqb, ltb-false, le-ltb, not-false}
-use Rattle.base.specs.Conditions.{Condition, firstOf, NoneHolds, FirstHolds}
+use Rattle.base.specs.Conditions.{NoneHolds, FirstHolds}
 use Rattle.base.proofs.Tests.{zero-one}
 use Rattle.base.proofs.Conditions.{none-law, first-law, orElse, first-append}
 use Rattle.automaton.specs.declared.Rule.{Rule}
-use Rattle.automaton.specs.Automaton.{Automaton, Arc, Accepts, Equivalent}
+use Rattle.automaton.specs.Automaton.{Automaton, Accepts, Equivalent}
 use Rattle.automaton.specs.Rules.{automatonOf, WellFormed}
 use Rattle.rulecheck.specs.Checking.{ruleConditions, ruleNumber}
 use Rattle.rulecheck.proofs.Laws.{passes}
-use Rattle.ruleformat.specs.Claims.{AllZero}
 use Rattle.calls.specs.Calls.{installNumber}
-use Rattle.products.specs.Claims.{Interleaved}
 use Rattle.merging.specs.declared.Way.{Way}
 use Rattle.merging.specs.declared.Way.the-variants.{Both, Either, Interleaving}
 use Rattle.merging.specs.Languages.{mergedBy, Merges}
 use Rattle.merging.specs.Merged.{statesOf, mergedOf}
-use Rattle.merging.specs.Merging.{mergingBy, mergeNumber, mergeOf}
-use Rattle.merging.specs.Claims.{Mergeable}
+use Rattle.merging.specs.Merging.{mergeNumber}
 use Rattle.merging.proofs.Law.{number-of, zeros-of, rule-of}
 use Rattle.merging.proofs.Claims as merging
 use Rattle.merging.proofs.Sets.{set-law, set-below}
 use Rattle.merging.proofs.Tables.{states-of, symbols-of, targets-law, steps-in}
 use Rattle.merging.proofs.Languages.{by-way, initials-by, finals-by}
-use Rattle.masks.specs.Masks.{_∈_}
 use Rattle.masks.proofs.Laws.{members-below}
-use Rattle.masks.specs.Turns.{rank}
 use Rattle.masks.proofs.Turns.{rank-most}
 use Rattle.reducing.specs.Reduced.{reducedOf}
 use Rattle.reducing.specs.Reducing.{reducingBy, reduceOf}
 use Rattle.reducing.proofs.Claims as reduce
-use Rattle.mergereduce.specs.Trimmed.{keptFrom, trimmedBy}
 use Rattle.mergereduce.specs.MergeReduced.{reducedBy, reducedOrOwn, pairTargets, initialPairs, finalPairs, keptPairs, trimmedPairs, pairCount, lastConditions, mergeReducedConditions, mergeReducedNumber, mergeReducedRule, mergeReducedOf}
 use Rattle.mergereduce.specs.Claims.{MergeReducedLaw}
 use Rattle.mergereduce.proofs.Kept.{Masked}

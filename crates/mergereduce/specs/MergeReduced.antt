@@ -10,7 +10,7 @@
 --   mergeReducedNumber ..       the number of the first that holds, none where the two are merged
 --   mergeReducedOf ..           what it answers (R-10's Merging: the number and a rule, zeros where it
 --                               is refused)
-use mathlib.Core.Bool.{not, cond}
+use mathlib.Core.Bool.{not}
 use mathlib.Core.List.{List, [], _∷_, _++_}
 use mathlib.Core.Option.{Option, none, some}
 use Prim.Native.Nat.{ℕ}
