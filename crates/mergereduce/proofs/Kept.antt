@@ -20,6 +20,7 @@ use Rattle.delegates.specs.Alike.{Live}
 use Rattle.reducing.proofs.Quotient.{run-join, run-state}
 use Rattle.reducing.proofs.Chosen.{run-end}
 use Rattle.mergereduce.specs.Trimmed.{arcs, onward, backTo, keptFrom}
+use Rattle.mergereduce.specs.Claims.{Counted}
 
 pub and-both : (a b : Bool) → (a && b) ≡ true → (a ≡ true) × (b ≡ true)
 and-both true true e = (refl, refl)
@@ -170,3 +171,23 @@ module _ (a : Automaton) (n initials finals : ℕ) (ts : ℕ → ℕ → ℕ) (M
 
   pub kept-live : (q : ℕ) → q ∈ reached → Live a q → q ∈ kept
   kept-live q e l = kept-both q .1 (e, live-there q l)
+
+  -- what is reached from a state that is
+  run-reached : {q p : ℕ} {w : List ℕ} → q ∈ reached → Run a q w p → p ∈ reached
+  run-reached e (stay l) = e
+  run-reached e (move {q = q} {s = s} {r = t} j u) = run-reached (onward-reached q s t e j) u
+
+  pub kept-law : (p : ℕ) → p ∈ kept ↔ Counted a p
+  kept-law p = (
+    (λ e.
+        let both = kept-both p .0 e in
+        let there = reach-in n p (both .0) in
+        record {
+          from = there .1 .from;
+          initial = M .initial (there .1 .from) .0 (there .1 .member);
+          text = there .0;
+          run = there .1 .run;
+          live = live-in n p (both .1);
+        }),
+    λ c. kept-live p (run-reached (first-reached (c .from) (M .initial (c .from) .1 (c .initial))) (c .run)) (c .live),
+  )
