@@ -20,10 +20,13 @@ use Rattle.ruleformat.specs.Claims.{AllZero}
 use Rattle.delegates.specs.Alike.{Live}
 use Rattle.calls.specs.Calls.{installNumber}
 use Rattle.merging.specs.declared.Way.{Way}
+use Rattle.merging.specs.declared.Way.the-variants.{Both}
 use Rattle.merging.specs.Languages.{mergedBy, Merges}
 use Rattle.merging.specs.Merging.{mergeOf}
+use Rattle.merging.specs.Worked.{refused}
 use Rattle.reducing.specs.Reducing.{reduceOf}
 use Rattle.reducing.specs.Claims.{Lean}
+use Rattle.mergereduce.specs.Worked.{onceIn, mergedReduced, Answered}
 use Rattle.mergereduce.specs.MergeReduced.{reducedOrOwn, size, keptPairs, trimmedPairs, mergeReducedConditions, mergeReducedOf}
 
 pub record Counted (a : Automaton) (p : ℕ) : Type 0 where
@@ -66,6 +69,10 @@ pub record MergeReducedLaw (way : Way) (one two : Rule) : Type 0 where
   pub no-less : mergeOf way one two .number ≡ none → mergeReducedOf way one two .number ≡ none
 
 pub record Claims : Type 0 where
+  -- rules merged by hand, and refusals at the edges; two of them are beyond what merging alone takes
+  pub answered : Answered mergedReduced
+  pub beyond : mergeOf Both (onceIn 9) (onceIn 5) ≡ refused 37
+  -- merging any two values
   pub merging : (way : Way) (one two : Rule) → MergeReducedLaw way one two
   pub instead : (r : Rule) → InsteadLaw r
   pub pairs : (way : Way) (one two : Rule) → WellFormed one → WellFormed two → one .k ≡ two .k → PairsLaw way one two
