@@ -31,7 +31,7 @@ use Rattle.reducing.specs.Worked.{arcs, once, twice, odd, reducedTo}
 use Rattle.reducing.proofs.Examples.{by-hand}
 use Rattle.mergereduce.specs.Trimmed.{keptFrom, nth, trimmedBy}
 use Rattle.mergereduce.specs.MergeReduced.{reducedOrOwn, size, pairTargets, initialPairs, finalPairs, keptPairs, trimmedPairs, pairCount, mergeReducedNumber, mergeReducedRule, mergeReducedOf}
-use Rattle.mergereduce.specs.Worked.{throughTwo, onceIn, onceOrTwice, mergedReduced, Answered}
+use Rattle.mergereduce.specs.Worked.{throughTwo, onceIn, sixTimes, fourOrMore, onceOrTwice, mergedReduced, Answered}
 use Rattle.mergereduce.proofs.Law.{instead-law, number-law}
 
 -- a rule that is reduced to m is replaced by m
@@ -89,6 +89,14 @@ five-once : reducedOrOwn (onceIn 5) ≡ once
 unfolding installNumber badTargets anyBelow union indexOf numbered expandFrom closeFrom keysUpTo setsOf tooMany nextSet singletonNumber delegateIn startCount final follow every firstFrom alikeTo liveOf lowestOf delegateOf startsOf startsIn listFrom total gather turns
 five-once = stands (onceIn 5) once (by-hand (onceIn 5) once (0 ∷ 1 ∷ 32 ∷ 32 ∷ 32 ∷ []) 3 (0 ∷ 1 ∷ []) 3 refl refl refl refl refl refl refl)
 
+six-stays : reducedOrOwn sixTimes ≡ sixTimes
+unfolding installNumber badTargets anyBelow union indexOf numbered expandFrom closeFrom keysUpTo setsOf tooMany nextSet singletonNumber delegateIn startCount final follow every firstFrom alikeTo liveOf lowestOf delegateOf startsOf startsIn listFrom total gather turns
+six-stays = stands sixTimes sixTimes (by-hand sixTimes sixTimes (0 ∷ 1 ∷ 2 ∷ 3 ∷ 4 ∷ 5 ∷ 6 ∷ []) 127 (0 ∷ 1 ∷ 2 ∷ 3 ∷ 4 ∷ 5 ∷ 6 ∷ []) 127 refl refl refl refl refl refl refl)
+
+four-stays : reducedOrOwn fourOrMore ≡ fourOrMore
+unfolding installNumber badTargets anyBelow union indexOf numbered expandFrom closeFrom keysUpTo setsOf tooMany nextSet singletonNumber delegateIn startCount final follow every firstFrom alikeTo liveOf lowestOf delegateOf startsOf startsIn listFrom total gather turns
+four-stays = stands fourOrMore fourOrMore (by-hand fourOrMore fourOrMore (0 ∷ 1 ∷ 2 ∷ 3 ∷ 4 ∷ []) 31 (0 ∷ 1 ∷ 2 ∷ 3 ∷ 4 ∷ []) 31 refl refl refl refl refl refl refl)
+
 -- ---- the rules of pairs, reduced
 abbrev besides : Rule
 besides = rule 5 1 5 18 (arcs (2 ∷ 0 ∷ 8 ∷ 16 ∷ []))
@@ -108,6 +116,10 @@ none-stays : reducedOrOwn (noArcs 1 1) ≡ noArcs 1 1
 unfolding installNumber badTargets anyBelow union indexOf numbered expandFrom closeFrom keysUpTo setsOf tooMany nextSet singletonNumber delegateIn startCount final follow every firstFrom alikeTo liveOf lowestOf delegateOf startsOf startsIn listFrom total gather turns
 none-stays = stands (noArcs 1 1) (noArcs 1 1) (by-hand (noArcs 1 1) (noArcs 1 1) (32 ∷ []) 0 [] 0 refl refl refl refl refl refl refl)
 
+diagonal : keptPairs Both fourOrMore sixTimes ≡ 30081614081
+unfolding anyBelow union maskOf keptFrom turns
+diagonal = refl
+
 pub answered : Answered mergedReduced
 unfolding mergeReducedNumber badTargets anyBelow union maskOf keptFrom turns nth firstFrom listFrom total
 answered = (
@@ -120,13 +132,16 @@ answered = (
         step-by-step Both twice odd twice odd 0 (noArcs 1 1) (noArcs 1 1) twice-stays odd-stays refl refl refl refl refl refl none-stays,
         (
           step-by-step Both (onceIn 9) (onceIn 5) once once 9 once once nine-once five-once refl refl refl refl refl refl once-stays,
-          (refl, (refl, (refl, tt))),
+          (
+            step-by-step Both fourOrMore sixTimes fourOrMore sixTimes 30081614081 sixTimes sixTimes four-stays six-stays refl refl refl diagonal refl refl six-stays,
+            (refl, (refl, (refl, tt))),
+          ),
         ),
       ),
     ),
   ),
 )
 
-pub beyond : mergeOf Both (onceIn 9) (onceIn 5) ≡ refused 37
+pub beyond : (mergeOf Both (onceIn 9) (onceIn 5) ≡ refused 37) × (mergeOf Both fourOrMore sixTimes ≡ refused 37)
 unfolding mergeNumber badTargets anyBelow
-beyond = refl
+beyond = (refl, refl)

@@ -26,7 +26,7 @@ use Rattle.merging.specs.Merging.{mergeOf}
 use Rattle.merging.specs.Worked.{refused}
 use Rattle.reducing.specs.Reducing.{reduceOf}
 use Rattle.reducing.specs.Claims.{Lean}
-use Rattle.mergereduce.specs.Worked.{onceIn, mergedReduced, Answered}
+use Rattle.mergereduce.specs.Worked.{onceIn, fourOrMore, sixTimes, mergedReduced, Answered}
 use Rattle.mergereduce.specs.MergeReduced.{reducedOrOwn, size, keptPairs, trimmedPairs, mergeReducedConditions, mergeReducedOf}
 
 pub record Counted (a : Automaton) (p : ℕ) : Type 0 where
@@ -71,7 +71,7 @@ pub record MergeReducedLaw (way : Way) (one two : Rule) : Type 0 where
 pub record Claims : Type 0 where
   -- rules merged by hand, and refusals at the edges; two of them are beyond what merging alone takes
   pub answered : Answered mergedReduced
-  pub beyond : mergeOf Both (onceIn 9) (onceIn 5) ≡ refused 37
+  pub beyond : (mergeOf Both (onceIn 9) (onceIn 5) ≡ refused 37) × (mergeOf Both fourOrMore sixTimes ≡ refused 37)
   -- merging any two values
   pub merging : (way : Way) (one two : Rule) → MergeReducedLaw way one two
   pub instead : (r : Rule) → InsteadLaw r
