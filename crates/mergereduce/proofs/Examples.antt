@@ -1,7 +1,7 @@
 -- The rules of specs/Worked.antt come to what stands there, by computation, step by step. Assumes
 -- nothing.
-use mathlib.Core.Path.{_≡_, refl, sym, ap, ap₂, _∙_}
-use mathlib.Core.List.{List, [], _∷_}
+use mathlib.Core.Path.{_≡_, refl, ap, ap₂, _∙_}
+use mathlib.Core.List.{[], _∷_}
 use mathlib.Core.Option.{Option, none}
 use mathlib.Core.Bool.{true, false}
 use Prim.Native.Nat.{ℕ}
@@ -39,8 +39,9 @@ stands : (r m : Rule) → reduceOf r ≡ reducedTo m → reducedOrOwn r ≡ m
 stands r m e =
     instead-law r .reduced (ap (λ (x : Reducing). x .number) e) ∙ ap (λ (x : Reducing). x .rule) e
 
--- two rules that pass their checks, with the same symbols, come to m, where each step comes to what is
--- given: the two rules reduced, the pairs that are kept, which are at most 32, and the rule of these
+-- two rules that pass their checks, with the same symbols, come to m, where each step comes to what
+-- is given: the two rules reduced, the pairs that are kept, which are at most 32, and the rule of
+-- these
 module _ (way : Way) (one two a b : Rule) (kept : ℕ) (pairs m : Rule) where
   step-by-step : reducedOrOwn one ≡ a
       → reducedOrOwn two ≡ b

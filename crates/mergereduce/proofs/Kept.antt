@@ -1,5 +1,5 @@
--- The states that are kept of an automaton given by masks are those that are reached and live. Assumes
--- that the masks are the automaton's.
+-- The states that are kept of an automaton given by masks are those that are reached and live.
+-- Assumes that the masks are the automaton's.
 use mathlib.Core.Path.{_≡_, refl, subst}
 use mathlib.Core.Logic.{_↔_, ⊎-elim}
 use mathlib.Core.Bool.{Bool, true, false, _&&_}

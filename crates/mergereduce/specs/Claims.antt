@@ -18,7 +18,6 @@ use Rattle.automaton.specs.Rules.{automatonOf, WellFormed}
 use Rattle.rulecheck.specs.Checking.{ruleNumber}
 use Rattle.ruleformat.specs.Claims.{AllZero}
 use Rattle.delegates.specs.Alike.{Live}
-use Rattle.calls.specs.Calls.{installNumber}
 use Rattle.merging.specs.declared.Way.{Way}
 use Rattle.merging.specs.declared.Way.the-variants.{Both}
 use Rattle.merging.specs.Languages.{mergedBy, Merges}
@@ -37,7 +36,8 @@ pub record Counted (a : Automaton) (p : ℕ) : Type 0 where
   pub live : Live a p
 
 pub record InsteadLaw (r : Rule) : Type 0 where
-  -- the rule reduced, or the rule itself where that is refused; a checked rule is refused with 9 alone
+  -- the rule reduced, or the rule itself where that is refused; a checked rule is refused with 9
+  -- alone
   pub reduced : reduceOf r .number ≡ none → reducedOrOwn r ≡ reduceOf r .rule
   pub own : (x : ℕ) → reduceOf r .number ≡ some x → reducedOrOwn r ≡ r
   pub nine : ruleNumber r ≡ none → (x : ℕ) → reduceOf r .number ≡ some x → x ≡ 9
@@ -48,8 +48,8 @@ pub record PairsLaw (way : Way) (one two : Rule) : Type 0 where
   pub below : (p : ℕ) → p ∈ keptPairs way one two → p < size way one two
 
 pub record MergeReducedLaw (way : Way) (one two : Rule) : Type 0 where
-  -- accepted exactly when none of the conditions holds, refused with a number exactly when that one is
-  -- the first that holds; with zeros then
+  -- accepted exactly when none of the conditions holds, refused with a number exactly when that one
+  -- is the first that holds; with zeros then
   pub accepted : (mergeReducedOf way one two .number ≡ none) ↔ NoneHolds (mergeReducedConditions way one two)
   pub refused : (x : ℕ) → (mergeReducedOf way one two .number ≡ some x) ↔ FirstHolds x (mergeReducedConditions way one two)
   pub zeros : (x : ℕ) → mergeReducedOf way one two .number ≡ some x → AllZero (mergeReducedOf way one two .rule)
@@ -69,7 +69,8 @@ pub record MergeReducedLaw (way : Way) (one two : Rule) : Type 0 where
   pub no-less : mergeOf way one two .number ≡ none → mergeReducedOf way one two .number ≡ none
 
 pub record Claims : Type 0 where
-  -- rules merged by hand, and refusals at the edges; two of them are beyond what merging alone takes
+  -- rules merged by hand, and refusals at the edges; two of them are beyond what merging alone
+  -- takes
   pub answered : Answered mergedReduced
   pub beyond : (mergeOf Both (onceIn 9) (onceIn 5) ≡ refused 37) × (mergeOf Both fourOrMore sixTimes ≡ refused 37)
   -- merging any two values

@@ -1,12 +1,13 @@
--- Rules reduced and made one by hand, and refusals at the edges: one list, and one claim over it. The
--- rules of crates/reducing have their words there. proofs/Examples.antt proves the claim.
+-- Rules reduced and made one by hand, and refusals at the edges: one list, and one claim over it.
+-- The rules of crates/reducing have their words there. proofs/Examples.antt proves the claim.
 --
 --   throughTwo         the texts 0 and 0 0: 0 leads to 1, which is final, and to 2, and 2 to 1
 --   onceIn n           the text 0, by 0 and 1 of its n states; the others have no arcs
---   onceOrTwice        the texts 0 and 0 0: 2 leads to 0 and 0 to 1, which is final; 0 and 2 are initial
---   sixTimes           the text of six 0s: a state leads to the next, and the last of the 7 is final
+--   onceOrTwice        the texts 0 and 0 0: 2 leads to 0 and 0 to 1, which is final; 0 and 2 are
+--                      initial
+--   sixTimes           the text of six 0s: a state leads to the next, and the last of 7 is final
 --   fourOrMore         the texts of four 0s or more: so do its 5 states, and the last to itself
---   mergedReduced      the list: each pair of rules, merged by the way, comes to what stands beside it
+--   mergedReduced      the list: two rules, merged by the way, come to what stands beside them
 --   Answered cases     each does
 use mathlib.Core.Path.{_≡_}
 use mathlib.Core.List.{List, [], _∷_}

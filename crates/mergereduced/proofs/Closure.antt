@@ -1,11 +1,10 @@
 -- A set to which the links of its members are added one member at a time: it stays within what n
--- steps from the first set reach, and once every member's links are added it is all of that. Assumes
--- that the first set has numbers below n alone.
+-- steps from the first set reach, and once every member's links are added it is all of that.
+-- Assumes that the first set has numbers below n alone.
 use mathlib.Core.Path.{_≡_, refl, sym, ap, ap₂, _∙_, subst}
-use mathlib.Core.Logic.{_⊎_, inl, inr, ⊎-elim}
+use mathlib.Core.Logic.{_⊎_, ⊎-elim}
 use mathlib.Core.Bool.{Bool, true, false, not, _&&_}
 use Prim.Native.Nat.{ℕ, zero, suc, _+_, _-_, _^_, _≤_, _<_}
-use native.Mathlib.Nat.{eq-or-lt-of-le}
 use native.Mathlib.Omega.{arith}
 use lib.Bits.{bitOr}
 use lib.Dec.{ltb}
@@ -19,33 +18,9 @@ use Rattle.masks.specs.Turns.{rank, turns}
 use Rattle.masks.proofs.Turns.{bit-lt, rank-most, in-turns, still}
 use Rattle.delegates.specs.Classes.{firstFrom}
 use Rattle.mergereduce.specs.Trimmed.{spread}
+use Rattle.mergereduce.proofs.Trim.{search-law}
 use Rattle.mergereduce.proofs.Kept.{added, and-both, spread-from, spread-to}
 use Rattle.mergereduced.specs.Asked.{freshIn}
-
--- a search finds a number that passes, or none does
-pub search-law : (t : ℕ → Bool) (lo f : ℕ)
-    → ((firstFrom t lo f < lo + f) × (t (firstFrom t lo f) ≡ true)) ⊎ (((x : ℕ) → lo ≤ x → x < lo + f → t x ≡ false) × (firstFrom t lo f ≡ lo + f))
-unfolding firstFrom
-search-law t lo zero = inr ((λ x h l. absurd (omega arith)), omega arith)
-search-law t lo (suc f) = go (search-law t (suc lo) f)
-  where
-    go : ((firstFrom t (suc lo) f < suc lo + f) × (t (firstFrom t (suc lo) f) ≡ true))
-        ⊎ (((x : ℕ) → suc lo ≤ x → x < suc lo + f → t x ≡ false) × (firstFrom t (suc lo) f ≡ suc lo + f))
-        → ((firstFrom t lo (suc f) < lo + suc f) × (t (firstFrom t lo (suc f)) ≡ true))
-        ⊎ (((x : ℕ) → lo ≤ x → x < lo + suc f → t x ≡ false) × (firstFrom t lo (suc f) ≡ lo + suc f))
-    go r =
-        by-test (t lo)
-        (λ e. rw e (inl (omega arith, e)))
-        (λ e.
-        rw e
-        (⊎-elim
-        (λ u. inl (omega (arith, u .0), u .1))
-        (λ u.
-        inr (
-          (λ x h l. ⊎-elim (λ z. ap t (sym z) ∙ e) (λ m. u .0 x m (omega arith)) (eq-or-lt-of-le h)),
-          omega (arith, u .1),
-        ))
-        r))
 
 -- a set with all the members of another and one more has more
 pub more-members : (a b n q : ℕ) → ((x : ℕ) → x ∈ a → x ∈ b) → q < n → q ∈ b → (q ∈ a → ⊥) → rank a n < rank b n

@@ -1,5 +1,5 @@
--- Sets of pairs as the code has them, and what its functions ask of each other; `merge_reduced` itself
--- asks nothing.
+-- Sets of pairs as the code has them, and what its functions ask of each other; `merge_reduced`
+-- itself asks nothing.
 --
 --   mostPairs                  the most pairs of a state of each rule
 --   setIn l                    the set of the numbers whose cell of the list l is 1

@@ -1,31 +1,34 @@
--- TWO RULES, REDUCED, MADE ONE, sentence by sentence. Under each stands the theorem that meets it; its
--- proof only cites the file that has it. To believe them, read the definitions that they name:
+-- TWO RULES, REDUCED, MADE ONE, sentence by sentence. Under each stands the theorem that meets it;
+-- its proof only cites the file that has it. To believe them, read the definitions that they name:
 --
---   Way                         both, either, interleaving              merging/src/lib.rt
---   mergeReducedOf way one two  what merging two values answers         mergereduce/specs/MergeReduced
---   mergeReducedConditions ..   the numbers, in order                   mergereduce/specs/MergeReduced
---   reducedOrOwn r              what stands for the rule r              mergereduce/specs/MergeReduced
---   keptPairs, pairCount        the pairs that stay, and how many       mergereduce/specs/MergeReduced
---   rank m q                    how many members of m are below q       masks/specs/Turns
---   trimmedPairs way one two    the rule of the pairs that stay         mergereduce/specs/MergeReduced
---   Counted a p                 p is reachable and live                 mergereduce/specs/Claims
---   mergedReduced, Answered     rules merged by hand                    mergereduce/specs/Worked
---   reduceOf r, Lean            a rule reduced                          reducing/specs/Reducing, reducing/specs/Claims
---   mergeOf way one two         merging alone (R-10)                    merging/specs/Merging
---   mergedBy, Merges            each way's states, and its texts        merging/specs/Languages
---   Interleaved a b w           w is an interleaving of one from each   products/specs/Claims
---   ruleConditions r            3, 4, 6, 8 of a rule as a value (R-3)   rulecheck/specs/Checking
---   NoneHolds, FirstHolds       no condition; the first that holds      base/specs/Conditions
---   AllZero r                   every number of it is 0                 ruleformat/specs/Claims
---   Accepts, Live               automata and their texts (000), R-7     automaton/specs/Automaton, delegates/specs/Alike
---   automatonOf r               of a rule                               automaton/specs/Rules
---   MayMergeReduced, .. C       what the functions' contracts allow     requests/specs/MergeReducedFunction
---   wayOf x, mergeShown         C's numbers                             merging/specs/Merging, c_merge/specs/Numbers
---   verdictIn h, textIn h       what 01 says of a list of calls         histories/specs/History
+--   Way                         both, either, interleaving          merging/src/lib.rt
+--   mergeReducedOf way one two  what merging two values answers     mergereduce/specs/MergeReduced
+--   mergeReducedConditions ..   the numbers, in order               mergereduce/specs/MergeReduced
+--   reducedOrOwn r              what stands for the rule r          mergereduce/specs/MergeReduced
+--   keptPairs, pairCount        the pairs that stay, and how many   mergereduce/specs/MergeReduced
+--   rank m q                    how many members of m are below q   masks/specs/Turns
+--   trimmedPairs way one two    the rule of the pairs that stay     mergereduce/specs/MergeReduced
+--   Counted a p                 p is reachable and live             mergereduce/specs/Claims
+--   mergedReduced, Answered     rules merged by hand                mergereduce/specs/Worked
+--   reduceOf r                  a rule reduced                      reducing/specs/Reducing
+--   Lean r                      reached, live, no two states alike  reducing/specs/Claims
+--   mergeOf way one two         merging alone (R-10)                merging/specs/Merging
+--   mergedBy, Merges            each way's states, and its texts    merging/specs/Languages
+--   Interleaved a b w           an interleaving of one from each    products/specs/Claims
+--   ruleConditions r            3, 4, 6, 8 of a rule (R-3)          rulecheck/specs/Checking
+--   NoneHolds, FirstHolds       no condition; the first that holds  base/specs/Conditions
+--   AllZero r                   every number of it is 0             ruleformat/specs/Claims
+--   Accepts                     automata and their texts (000)      automaton/specs/Automaton
+--   Live                        of states (R-7)                     delegates/specs/Alike
+--   automatonOf r               of a rule                           automaton/specs/Rules
+--   MayMergeReduced, .. C       what the contracts allow            specs/MergeReducedFunction
+--   wayOf x                     the way of C's number               merging/specs/Merging
+--   mergeShown                  C's numbers                         c_merge/specs/Numbers
+--   verdictIn h, textIn h       what 01 says of a list of calls     histories/specs/History
 --
 -- one and two are any values, in which any numbers may stand. How the pairs that stay are found
--- (mergereduce/specs/Trimmed) need not be believed: `counted` says which they are. A proved function
--- ends and stays within its bounds. Assumes nothing.
+-- (mergereduce/specs/Trimmed) need not be believed: `counted` says which they are. A proved
+-- function ends and stays within its bounds. Assumes nothing.
 use mathlib.Core.Path.{_≡_, sym, ap, _∙_, subst}
 use mathlib.Core.Logic.{_↔_, _⊎_}
 use mathlib.Core.Bool.{true}
@@ -94,9 +97,9 @@ pub interleaving : (one two : Rule) → mergeReducedOf way.Interleaving one two 
 interleaving one two = merging-law way.Interleaving one two .language
 
 -- ---- THE STEPS
--- "Where reducing either rule or the result would be refused with 9, that step is left out (the rule as
--- it is is used)": what stands for a rule is the rule reduced, or the rule itself where that is refused,
--- and a checked rule is refused with 9 alone.
+-- "Where reducing either rule or the result would be refused with 9, that step is left out (the
+-- rule as it is is used)": what stands for a rule is the rule reduced, or the rule itself where
+-- that is refused, and a checked rule is refused with 9 alone.
 pub reduced : (r : Rule) → reduceOf r .number ≡ none → reducedOrOwn r ≡ reduceOf r .rule
 reduced r = mergereduce.claims .instead r .reduced
 
@@ -107,8 +110,8 @@ pub with-9-alone : (r : Rule) → ruleNumber r ≡ none → (x : ℕ) → reduce
 with-9-alone r = mergereduce.claims .instead r .nine
 
 -- "only the pairs that are reachable and live": a pair (for either, a state of one of the two) is
--- kept exactly when some text leads to it from an initial one and some text from it to a final one, in
--- the product of the two rules as they were reduced; each of them is counted.
+-- kept exactly when some text leads to it from an initial one and some text from it to a final one,
+-- in the product of the two rules as they were reduced; each of them is counted.
 module _ (w : Way) (one two : Rule) (first : ruleNumber one ≡ none) (second : ruleNumber two ≡ none) (same : one .k ≡ two .k) where
   pub counted : (p : ℕ) → p ∈ keptPairs w (reducedOrOwn one) (reducedOrOwn two)
       ↔ Counted (mergedBy w (automatonOf (reducedOrOwn one)) (automatonOf (reducedOrOwn two))) p
@@ -126,9 +129,9 @@ pub lean : (w : Way) (one two : Rule) → mergeReducedOf w one two .number ≡ n
 lean w one two = merging-law w one two .lean
 
 -- ---- THE NUMBERS
--- "refused with 3, 4, 6, 8 of the first, then of the second, 36, 37", and 37 by the pairs that are kept
--- alone (pairCount). Accepted exactly when no condition holds, refused with a number exactly when that
--- one is the first that holds:
+-- "refused with 3, 4, 6, 8 of the first, then of the second, 36, 37", and 37 by the pairs that are
+-- kept alone (pairCount). Accepted exactly when no condition holds, refused with a number exactly
+-- when that one is the first that holds:
 pub accepted : (w : Way) (one two : Rule) → (mergeReducedOf w one two .number ≡ none) ↔ NoneHolds (mergeReducedConditions w one two)
 accepted w one two = merging-law w one two .accepted
 
@@ -151,8 +154,8 @@ asks-nothing w one two = tt
 pub allowed : (w : Way) (one two : Rule) (r : MergeResult) → MayMergeReduced w one two r ↔ (mergeOutcome r ≡ mergeReducedOf w one two)
 allowed w one two r = ((λ m. m .1), λ e. ((w, (one, (two, tt))), e))
 
--- and so may the function that C links, in numbers of which nothing is lost. The ways have the numbers
--- of merging.
+-- and so may the function that C links, in numbers of which nothing is lost. The ways have the
+-- numbers of merging.
 pub asks-nothing-from-C : (x : ℕ) (one two : Rule) → AsksMergeReducedC x one two
 asks-nothing-from-C = c-asks.merge-reduced-asks-nothing
 
@@ -163,9 +166,9 @@ pub read-back : (x : ℕ) (one two : Rule) (r : MergeNumbers) → MayMergeReduce
 read-back x one two r m = ap mergeReadBack (from-C x one two r .0 m) ∙ c-merge.claims .merge-reduced-read-back (wayOf x) one two
 
 -- ---- FROM TWO RULES TO A VERDICT
--- Where the rule of the judge is the two so made one, and no place is empty, the verdict is yes exactly
--- when the standing chunks, without their idle marks, are such a text of the two, and no exactly when
--- they are not.
+-- Where the rule of the judge is the two so made one, and no place is empty, the verdict is yes
+-- exactly when the standing chunks, without their idle marks, are such a text of the two, and no
+-- exactly when they are not.
 module _ (w : Way) (one two : Rule) (e : mergeReducedOf w one two .number ≡ none) (h : List Call)
     (rule : ruleIn h ≡ mergeReducedOf w one two .rule) where
   judges : Accepts (automatonOf (ruleIn h)) (textIn h) ↔ Merges w (automatonOf one) (automatonOf two) (textIn h)

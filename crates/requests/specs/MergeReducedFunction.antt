@@ -1,10 +1,10 @@
--- What the functions that merge two rules reduced ask and allow by their own contracts, as the checker
--- reads them (`Reads`): any result that the contract does not rule out.
+-- What the functions that merge two rules reduced ask and allow by their own contracts, as the
+-- checker reads them (`Reads`): any result that the contract does not rule out.
 --
---   AsksMergeReduced, MayMergeReduced    `merge_reduced`: before it is called on a way and two rules,
---                                        and what it may return for them
---   AsksMergeReducedC, MayMergeReducedC  `bellbadger_merge_reduced`, which C links: the same, the way
---                                        being a number
+--   AsksMergeReduced, MayMergeReduced    `merge_reduced`: before it is called on a way and two
+--                                        rules, and what it may return for them
+--   AsksMergeReducedC, MayMergeReducedC  `bellbadger_merge_reduced`, which C links: the same, the
+--                                        way being a number
 use Prim.Native.Nat.{ℕ}
 use denote.Triple.Clauses.{AtExit}
 use borrow.Fn.Kinds.{endedOf}

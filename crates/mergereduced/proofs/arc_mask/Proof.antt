@@ -1,4 +1,5 @@
--- `arc_mask` meets its contract. The loop's invariant: `out` has the places below p. Assumes nothing.
+-- `arc_mask` meets its contract. The loop's invariant: `out` has the places below p. Assumes
+-- nothing.
 use mathlib.Core.Path.{_≡_, refl, sym, ap, _∙_}
 use mathlib.Core.Logic.{⊎-elim}
 use mathlib.Core.Bool.{Bool}

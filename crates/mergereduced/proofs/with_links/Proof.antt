@@ -1,5 +1,5 @@
--- `with_links` meets its contract. The loop's invariant: the numbers below p that q is linked to are
--- in `out`, with the set. Assumes nothing.
+-- `with_links` meets its contract. The loop's invariant: the numbers below p that q is linked to
+-- are in `out`, with the set. Assumes nothing.
 use mathlib.Core.Path.{_≡_, sym, ap, _∙_}
 use mathlib.Core.Logic.{⊎-elim}
 use mathlib.Core.Bool.{Bool}
