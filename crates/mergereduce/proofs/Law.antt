@@ -36,9 +36,10 @@ use Rattle.reducing.specs.Claims.{Lean}
 use Rattle.reducing.proofs.Law.{only-nine}
 use Rattle.reducing.proofs.Claims as reduce
 use Rattle.mergereduce.specs.MergeReduced.{reducedBy, reducedOrOwn, pairTargets, initialPairs, finalPairs, keptPairs, trimmedPairs, pairCount, lastConditions, mergeReducedConditions, mergeReducedNumber, mergeReducedRule, mergeReducedOf}
-use Rattle.mergereduce.specs.Claims.{InsteadLaw, PairsLaw, MergeReducedLaw}
+use Rattle.mergereduce.specs.Claims.{MadeOf, InsteadLaw, PairsLaw, MergeReducedLaw}
 use Rattle.mergereduce.proofs.Kept.{Masked, kept-few, kept-law}
 use Rattle.mergereduce.proofs.Trim as trim
+use Rattle.mergereduce.proofs.Only.{one-value}
 
 -- ---- a rule reduced, or the rule itself
 pub record Instead (r m : Rule) : Type 0 where
@@ -124,6 +125,24 @@ module _ (way : Way) (one two : Rule) (good1 : WellFormed one) (good2 : WellForm
     );
   }
 
+  module _ (fits : pairCount way one two ≤ 32) where
+    trimmed-good : WellFormed (trimmedPairs way one two)
+    trimmed-good =
+        trim.well-formed made (statesOf way (one .n) (two .n)) (initialPairs way one two) (finalPairs way one two) (pairTargets way one two)
+        masked (one .k) (symbols-of way one two) (good1 .symbols .0) fits
+
+    trimmed-language : (w : List ℕ) → Accepts (automatonOf (trimmedPairs way one two)) w ↔ Merges way (automatonOf one) (automatonOf two) w
+    trimmed-language w =
+        Iff·trans
+        (trim.language made (statesOf way (one .n) (two .n)) (initialPairs way one two) (finalPairs way one two) (pairTargets way one two)
+        masked (one .k) (symbols-of way one two) (good1 .symbols .0) fits w)
+        (by-way (automatonOf one) (automatonOf two) same way w)
+
+    trimmed-made : MadeOf made (one .k) (pairCount way one two) (trimmedPairs way one two)
+    trimmed-made =
+        trim.made made (statesOf way (one .n) (two .n)) (initialPairs way one two) (finalPairs way one two) (pairTargets way one two)
+        masked (one .k) (symbols-of way one two) (good1 .symbols .0) fits
+
   pub pairs-law : PairsLaw way one two
   pairs-law =
       let n = statesOf way (one .n) (two .n) in
@@ -131,20 +150,14 @@ module _ (way : Way) (one two : Rule) (good1 : WellFormed one) (good2 : WellForm
       let f = finalPairs way one two in record {
         kept = kept-law made n i f (pairTargets way one two) masked;
         below = kept-few made n i f (pairTargets way one two) masked;
+        number = trim.in-order made n i f (pairTargets way one two) masked;
+        made = trimmed-made;
+        only = λ fits count t long good so.
+            one-value made (one .k) count (pairCount way one two) t (trimmedPairs way one two) good (trimmed-good fits) long
+            (trim.cells made n i f (pairTargets way one two) masked (one .k) (symbols-of way one two) (good1 .symbols .0) fits)
+            so
+            (trimmed-made fits);
       }
-
-  module _ (fits : pairCount way one two ≤ 32) where
-    trimmed-good : WellFormed (trimmedPairs way one two)
-    trimmed-good =
-        trim.well-formed made (statesOf way (one .n) (two .n)) (one .k) (initialPairs way one two) (finalPairs way one two) (pairTargets way one two)
-        masked (symbols-of way one two) (good1 .symbols .0) fits
-
-    trimmed-language : (w : List ℕ) → Accepts (automatonOf (trimmedPairs way one two)) w ↔ Merges way (automatonOf one) (automatonOf two) w
-    trimmed-language w =
-        Iff·trans
-        (trim.language made (statesOf way (one .n) (two .n)) (one .k) (initialPairs way one two) (finalPairs way one two) (pairTargets way one two)
-        masked (symbols-of way one two) (good1 .symbols .0) fits w)
-        (by-way (automatonOf one) (automatonOf two) same way w)
 
 -- ---- more states make more pairs
 more-pairs : (way : Way) (n1 n2 m1 m2 : ℕ) → n1 ≤ m1 → n2 ≤ m2 → statesOf way n1 n2 ≤ statesOf way m1 m2
@@ -262,6 +275,8 @@ module _ (way : Way) (one two : Rule) where
     accepted = ((λ e. accepted-law .0 (sym is ∙ e)), λ h. is ∙ accepted-law .1 h);
     refused = λ x. ((λ e. refused-law x .0 (sym is ∙ e)), λ h. is ∙ refused-law x .1 h);
     zeros = λ x e. zeros-of (mergeReducedNumber way one two) (mergeReducedRule way one two) x (sym is ∙ e);
+    rule = rule-is;
+    rule-of-pairs = λ e. passes (trimmedPairs way first second) .1 (good-pairs (taken (sym is ∙ e)));
     checked = λ e. ap ruleNumber (rule-is e) ∙ passes (mergeReducedRule way one two) .1 (made-good (taken (sym is ∙ e)));
     pairs = λ e f k.
         let x = instead one (passes one .0 e) in
