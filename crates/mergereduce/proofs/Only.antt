@@ -1,7 +1,6 @@
 -- The words fix every number of the rule made of the counted states: two well-formed rules that are
 -- so made of the same automaton are equal. Assumes tables of 512 cells.
 use mathlib.Core.Path.{_≡_, sym, ap, _∙_, subst}
-use mathlib.Core.Logic.{_↔_, ⊎-elim}
 use Prim.Native.Nat.{ℕ, zero, suc, _≤_, _<_}
 use native.Mathlib.Nat.{le-antisymm}
 use native.Mathlib.Omega.{arith}

@@ -9,9 +9,12 @@
 --   InsteadLaw r            what stands for the rule r: r reduced, or r itself
 --   PairsLaw way one two    the pairs that are counted, of two rules as they are, and the rule made
 --                           of them
+--   Mergeable way one two   two well-formed rules with the same k, and at most 32 pairs counted of
+--                           the two as they are reduced
+--   Refused-exactly way ..  which number the two have, condition by condition
 --   MergeReducedLaw way ..  all that is promised of merging two values
 use mathlib.Core.Path.{_≡_}
-use mathlib.Core.Logic.{_↔_}
+use mathlib.Core.Logic.{_↔_, _⊎_}
 use mathlib.Core.List.{List}
 use mathlib.Core.Option.{none, some}
 use Prim.Native.Nat.{ℕ, _≤_, _<_}
@@ -29,7 +32,7 @@ use Rattle.merging.specs.declared.Way.{Way}
 use Rattle.merging.specs.declared.Way.the-variants.{Both}
 use Rattle.merging.specs.Languages.{mergedBy, Merges}
 use Rattle.merging.specs.Merging.{mergeOf}
-use Rattle.merging.specs.Worked.{refused}
+use Rattle.merging.specs.Worked as worked
 use Rattle.reducing.specs.Reducing.{reduceOf}
 use Rattle.reducing.specs.Claims.{emptyRule, Lean}
 use Rattle.mergereduce.specs.Worked.{onceIn, fourOrMore, sixTimes, mergedReduced, Answered}
@@ -80,6 +83,28 @@ pub record PairsLaw (way : Way) (one two : Rule) : Type 0 where
   pub only : pairCount way one two ≤ mostStates → (count : ℕ) (t : Rule) → length (t .targets) ≡ targetCells → WellFormed t
       → MadeOf (mergedBy way (automatonOf one) (automatonOf two)) (one .k) count t → t ≡ trimmedPairs way one two
 
+pub record Mergeable (way : Way) (one two : Rule) : Type 0 where
+  pub first : WellFormed one
+  pub second : WellFormed two
+  pub same : one .k ≡ two .k
+  pub fits : pairCount way (reducedOrOwn one) (reducedOrOwn two) ≤ mostStates
+
+pub record Refused-exactly (way : Way) (one two : Rule) : Type 0 where
+  -- no number exactly where the two can be merged
+  pub taken : (mergeReducedOf way one two .number ≡ none) ↔ Mergeable way one two
+  -- a number of R-3: the first rule's, or the second's where the first has none
+  pub of-a-rule : (x : ℕ) → x < 36 → (mergeReducedOf way one two .number ≡ some x)
+      ↔ ((ruleNumber one ≡ some x) ⊎ (WellFormed one × (ruleNumber two ≡ some x)))
+  -- two well-formed rules with different k
+  pub number-36 : (mergeReducedOf way one two .number ≡ some 36)
+      ↔ (WellFormed one × WellFormed two × (one .k ≡ two .k → ⊥))
+  -- with the same k, and more than 32 pairs counted
+  pub number-37 : (mergeReducedOf way one two .number ≡ some 37)
+      ↔ (WellFormed one × WellFormed two × (one .k ≡ two .k) × (mostStates < pairCount way (reducedOrOwn one) (reducedOrOwn two)))
+  -- no other number
+  pub no-other : (x : ℕ) → mergeReducedOf way one two .number ≡ some x
+      → (x ≡ 3) ⊎ (x ≡ 4) ⊎ (x ≡ 6) ⊎ (x ≡ 8) ⊎ (x ≡ 36) ⊎ (x ≡ 37)
+
 pub record MergeReducedLaw (way : Way) (one two : Rule) : Type 0 where
   -- accepted exactly when none of the conditions holds, refused with a number exactly when that one
   -- is the first that holds; with zeros then
@@ -110,8 +135,9 @@ pub record Claims : Type 0 where
   -- rules merged by hand, and refusals at the edges; two of them are beyond what merging alone
   -- takes
   pub answered : Answered mergedReduced
-  pub beyond : (mergeOf Both (onceIn 9) (onceIn 5) ≡ refused 37) × (mergeOf Both fourOrMore sixTimes ≡ refused 37)
+  pub beyond : (mergeOf Both (onceIn 9) (onceIn 5) ≡ worked.refused 37) × (mergeOf Both fourOrMore sixTimes ≡ worked.refused 37)
   -- merging any two values
   pub merging : (way : Way) (one two : Rule) → MergeReducedLaw way one two
+  pub refused : (way : Way) (one two : Rule) → Refused-exactly way one two
   pub instead : (r : Rule) → InsteadLaw r
   pub pairs : (way : Way) (one two : Rule) → WellFormed one → WellFormed two → one .k ≡ two .k → PairsLaw way one two
