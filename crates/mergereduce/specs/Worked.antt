@@ -9,7 +9,7 @@
 --   fourOrMore         the texts of four 0s or more: so do its 5 states, and the last to itself
 --   crossed            the text 0 0: 0 leads to 2, and 2 to 1, which is final
 --   thriceCrossed      the text 0 0 0: 0 leads to 2, 2 to 1, and 1 to 3, which is final
---   round n k          the texts of 0s whose length is a multiple of n, by n states in a ring, and k
+--   round n k          the texts of 0s whose length is a multiple of n: n states in a ring; with k
 --                      symbols
 --   mergedReduced      the list: two rules, merged by the way, come to what stands beside them
 --   Answered cases     each does
