@@ -22,7 +22,7 @@
  *   210 KB  bellbadger_deliver
  *   170 KB  bellbadger_locate
  *   140 KB  bellbadger_tray_install_row, bellbadger_tray_install_column, bellbadger_summarize
- *   120 KB  bellbadger_profile_run
+ *   120 KB  bellbadger_profile_run, bellbadger_merge_reduced
  *   90 KB  any other function
  */
 #ifndef BELLBADGER_H
@@ -37,7 +37,7 @@
  * Another major number or size: the two do not fit. A higher minor number of the library: it can
  * more than this header says. */
 #define BELLBADGER_VERSION_MAJOR 5
-#define BELLBADGER_VERSION_MINOR 6
+#define BELLBADGER_VERSION_MINOR 7
 #define BELLBADGER_VERSION (BELLBADGER_VERSION_MAJOR * 65536 + BELLBADGER_VERSION_MINOR)
 #define BELLBADGER_STATE_SIZE 27832 /* the bytes of a bellbadger_judge */
 

@@ -33,6 +33,18 @@ typedef struct {
  *   36 the rules have different numbers of symbols      37 the result has more than 32 states */
 BELLBADGER_RESULT bellbadger_merge_result bellbadger_merge(uint8_t way, bellbadger_checked_rule one, bellbadger_checked_rule two);
 
+/* Makes one rule of two, whatever stands in them, that accepts the texts which bellbadger_merge's
+ * accepts, with few states: both rules are reduced (bellbadger_reduce.h), of their pairs, or for
+ * either of the states of both, only those are built that are reachable and live, and the result is
+ * reduced. States keep their order, and are numbered from 0. Where reducing a rule or the result
+ * would be refused with 9, that step is left out, and the rule as it is is used: so nothing is
+ * refused that bellbadger_merge takes. The result may have more sets than bellbadger_merge's,
+ * though, as a reduced rule may: where it cannot be installed, and that one can, take that one.
+ * Refused with 3, 4, 6, 8 for the first rule, then for the second; then with
+ *   36 the rules have different numbers of symbols
+ *   37 more than 32 pairs, or for either states, are reachable and live */
+BELLBADGER_RESULT bellbadger_merge_result bellbadger_merge_reduced(uint8_t way, bellbadger_checked_rule one, bellbadger_checked_rule two);
+
 #ifdef __cplusplus
 }
 #endif

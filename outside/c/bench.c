@@ -412,6 +412,27 @@ static bellbadger_checked_rule twins(void) {
     return r;
 }
 
+/* the rule of the pattern (ab)*cd, in which ab is said so often: 3 states and 2 for each */
+static bellbadger_checked_rule rinses(int ways) {
+    uint8_t pattern[128];
+    size_t at = 0;
+    pattern[at++] = '(';
+    for (int way = 0; way < ways; way++) memcpy(pattern + at, "|ab" + !way, 3), at += 3 - !way;
+    memcpy(pattern + at, ")*cd", 4);
+    bellbadger_pattern_result file = bellbadger_pattern(pattern, at + 4);
+    return bellbadger_read(file.bytes, file.length).rule;
+}
+
+/* two rules reduced and made one, of so many states then, beside the reductions of both */
+static void merging(const char *name, int way, bellbadger_checked_rule one, bellbadger_checked_rule two, int states) {
+    double merged, reduced;
+    bellbadger_merge_result r = bellbadger_merge_reduced((uint8_t)way, one, two);
+    if (states ? !r.accepted || r.rule.n != states : r.refused != 37) exit(1);
+    MEASURE(merged, sink += bellbadger_merge_reduced((uint8_t)way, one, two).accepted);
+    MEASURE(reduced, sink += bellbadger_reduce(one).rule.n + bellbadger_reduce(two).rule.n);
+    printf("  %-34s %8.1f us, their reductions %8.1f us, ratio %.2f\n", name, merged, reduced, merged / reduced);
+}
+
 int main(void) {
     bellbadger_judge j = meeting(32);
     printf("a chunk of 65,536 bytes, beside one plain table walk in C over the same text\n");
@@ -446,6 +467,12 @@ int main(void) {
     reducing("32 states, 16 symbols, none goes", ring());
     reducing("32 states, 16 symbols, 16 go", twins());
     reducing("9 states, 2 symbols, 264 sets", eighth());
+
+    printf("two rules reduced and made one, beside the reductions of both\n");
+    merging("both, 5 by 9 states, 4 are left", BELLBADGER_BOTH, rinses(1), rinses(3), 4);
+    merging("either, 5 by 9 states, 4 are left", BELLBADGER_EITHER, rinses(1), rinses(3), 4);
+    merging("both, 32 by 32, 32 reached", BELLBADGER_BOTH, ring(), ring(), 32);
+    merging("interleaving, 32 by 32, refused", BELLBADGER_INTERLEAVING, ring(), ring(), 0);
 
     printf("looking for a loss in a chunk of 65,536 bytes, beside a delivery of it\n");
     losses("one run", cycle(32, 2), text, BELLBADGER_NOWHERE);

@@ -34,6 +34,7 @@ static bool right() {
     const uint8_t ends_in_0_1[] = {'(', 'a', '|', 'b', ')', '*', 'a', 'b'};
     bellbadger_pattern_result pattern = bellbadger_pattern(ends_in_0_1, sizeof ends_in_0_1);
     bellbadger_merge_result merged = bellbadger_merge(BELLBADGER_EITHER, read.rule, read.rule);
+    bellbadger_merge_result merged_reduced = bellbadger_merge_reduced(BELLBADGER_EITHER, read.rule, read.rule);
     bellbadger_compare_result compared = bellbadger_compare(read.rule, merged.rule);
     bellbadger_reduce_result reduced = bellbadger_reduce(merged.rule);
     static_assert(sizeof(bellbadger_tray) == BELLBADGER_TRAY_SIZE, "the size that the header says");
@@ -68,6 +69,7 @@ static bool right() {
         && combined.end == 2 && !combined.broken && bellbadger_is_yes(concluded) && concluded.number == 3 && concluded.bytes == 2
         && pattern.accepted && pattern.length == 50 && pattern.bytes[0] == 5
         && merged.accepted && merged.rule.n == 6 && merged.rule.targets[4 * 16 + 1] == 32
+        && merged_reduced.accepted && merged_reduced.refused == 0 && merged_reduced.rule.n == 3 && merged_reduced.rule.targets[17] == 4
         && compared.kind == BELLBADGER_SAME && compared.refused == 0 && compared.length == 0
         && reduced.accepted && reduced.installs && reduced.rule.n == 3 && reduced.rule.targets[17] == 4
         && bellbadger_tray_size() == sizeof(bellbadger_tray) && row.accepted && row.sets == 5 && column.accepted && tray.accepted

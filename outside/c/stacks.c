@@ -100,6 +100,12 @@ CALL(merge_both, bellbadger_merge_result, bellbadger_merge(BELLBADGER_BOTH, a, a
 CALL(merge_either, bellbadger_merge_result, bellbadger_merge(BELLBADGER_EITHER, a, a))
 CALL(merge_interleaving, bellbadger_merge_result, bellbadger_merge(BELLBADGER_INTERLEAVING, a, a))
 CALL(merge_none, bellbadger_merge_result, bellbadger_merge(BELLBADGER_BOTH, a, none))
+CALL(merge_reduced_both, bellbadger_merge_result, bellbadger_merge_reduced(BELLBADGER_BOTH, ring, ring))
+CALL(merge_reduced_either, bellbadger_merge_result, bellbadger_merge_reduced(BELLBADGER_EITHER, a, nearly_a))
+CALL(merge_reduced_interleaving, bellbadger_merge_result, bellbadger_merge_reduced(BELLBADGER_INTERLEAVING, a, a))
+CALL(merge_reduced_many, bellbadger_merge_result, bellbadger_merge_reduced(BELLBADGER_BOTH, many, many))
+CALL(merge_reduced_37, bellbadger_merge_result, bellbadger_merge_reduced(BELLBADGER_INTERLEAVING, many, a))
+CALL(merge_reduced_none, bellbadger_merge_result, bellbadger_merge_reduced(BELLBADGER_BOTH, a, none))
 CALL(compare_same, bellbadger_compare_result, bellbadger_compare(ring, ring))
 CALL(compare_apart, bellbadger_compare_result, bellbadger_compare(a, nearly_a))
 CALL(compare_many, bellbadger_compare_result, bellbadger_compare(many, many))
@@ -151,6 +157,8 @@ static const struct {
     {"summary_combine", summary_combine}, {"summary_conclude", summary_conclude}, {"summary_conclude", summary_conclude_late},
     {"pattern", pattern_right}, {"pattern", pattern_wrong},
     {"merge", merge_both}, {"merge", merge_either}, {"merge", merge_interleaving}, {"merge", merge_none},
+    {"merge_reduced", merge_reduced_both}, {"merge_reduced", merge_reduced_either}, {"merge_reduced", merge_reduced_interleaving},
+    {"merge_reduced", merge_reduced_many}, {"merge_reduced", merge_reduced_37}, {"merge_reduced", merge_reduced_none},
     {"compare", compare_same}, {"compare", compare_apart}, {"compare", compare_many}, {"compare", compare_none},
     {"reduce", reduce_ring}, {"reduce", reduce_many}, {"reduce", reduce_none},
     {"make_text", make_text},
@@ -222,6 +230,9 @@ static void prepare(void) {
     expect(bellbadger_verdict(filled).kind >= BELLBADGER_YES && bellbadger_tray_verdict(tray_filled).kind >= BELLBADGER_YES, "not filled");
     expect(bellbadger_follow_by(follower, 1, idle, sizeof idle).accepted && bellbadger_follower_prepare(none).refused, "no follower");
     expect(bellbadger_summary_conclude(ringed, summary, 1).kind >= BELLBADGER_YES && bellbadger_summarize(fresh, 0, plain, 1).refused, "no summary");
+    expect(bellbadger_merge_reduced(BELLBADGER_BOTH, ring, ring).rule.n == 32, "not merged");
+    expect(bellbadger_merge_reduced(BELLBADGER_BOTH, many, many).rule.n == 11, "not merged");
+    expect(bellbadger_merge_reduced(BELLBADGER_INTERLEAVING, many, a).refused == 37, "merged");
     expect(bellbadger_compare(ring, ring).kind == BELLBADGER_SAME && bellbadger_compare(many, many).refused == 45, "not compared");
     expect(bellbadger_compare(a, nearly_a).kind == BELLBADGER_SECOND_ALONE, "not told apart");
     expect(bellbadger_reduce(ring).installs && bellbadger_reduce(many).refused == 9, "not reduced");

@@ -1,33 +1,17 @@
 /* Two rules made one, from C: the result number by number, what it accepts, refusals in their order with
  * their zeros, and rules in which any numbers stand. Prints how many checks were made; stops at the first
  * that fails. */
-#pragma GCC diagnostic ignored "-Wunused-function" /* not all of checks.h is used */
-#include "checks.h"
+#include "plain_rules.h"
 
 enum { WAYS = 3, TEXT = 4 };
 
 static bellbadger_checked_rule a, e; /* what ends in 0 1, and what has an even number of 0s */
-
-static bellbadger_checked_rule plain(int n, int k) {
-    bellbadger_checked_rule r = {.n = (uint8_t)n, .k = (uint8_t)k, .initials = 1, .finals = 1};
-    return r;
-}
 
 static bellbadger_checked_rule merge(int way, bellbadger_checked_rule one, bellbadger_checked_rule two, int refused) {
     bellbadger_merge_result r = bellbadger_merge((uint8_t)way, one, two);
     CHECK(r.accepted == (refused == 0) && r.refused == refused);
     CHECK(r.accepted || zeros(&r.rule));
     return r.rule;
-}
-
-static void set(bellbadger_checked_rule *r, int state, uint32_t by_0, uint32_t by_1) {
-    r->targets[16 * state] = by_0;
-    r->targets[16 * state + 1] = by_1;
-}
-
-static int equal(const bellbadger_checked_rule *x, const bellbadger_checked_rule *y) {
-    return x->n == y->n && x->k == y->k && x->initials == y->initials && x->finals == y->finals
-        && !memcmp(x->targets, y->targets, sizeof x->targets);
 }
 
 /* every number of the result, so that the header's struct is the library's */
@@ -76,38 +60,6 @@ static void refusals(void) {
     merge(BELLBADGER_EITHER, plain(32, 1), plain(1, 1), 37);
 }
 
-static uint64_t seed = 88172645463325252u;
-static uint32_t random_number(void) {
-    seed ^= seed << 13;
-    seed ^= seed >> 7;
-    seed ^= seed << 17;
-    return (uint32_t)(seed >> 32);
-}
-
-static uint32_t step(const bellbadger_checked_rule *r, uint32_t set, int symbol) {
-    uint32_t next = 0;
-    for (int q = 0; q < r->n; q++)
-        if (set >> q & 1) next |= r->targets[16 * q + symbol];
-    return next;
-}
-
-/* whether a rule accepts the symbols of a text whose mark is not 0, all of them where all marks are 1 */
-static int accepts(const bellbadger_checked_rule *r, const uint8_t *text, int length, unsigned marks) {
-    uint32_t set = r->initials;
-    for (int i = 0; i < length; i++)
-        if (marks >> i & 1) set = step(r, set, text[i]);
-    return (set & r->finals) != 0;
-}
-
-static int due(int way, const bellbadger_checked_rule *one, const bellbadger_checked_rule *two, const uint8_t *text, int length) {
-    unsigned all = (1u << length) - 1;
-    if (way == BELLBADGER_BOTH) return accepts(one, text, length, all) && accepts(two, text, length, all);
-    if (way == BELLBADGER_EITHER) return accepts(one, text, length, all) || accepts(two, text, length, all);
-    for (unsigned marks = 0; marks <= all; marks++)
-        if (accepts(one, text, length, marks) && accepts(two, text, length, all & ~marks)) return 1;
-    return 0;
-}
-
 static bellbadger_checked_rule small(void) {
     bellbadger_checked_rule r = plain(1 + (int)(random_number() % 4), 2);
     uint32_t states = (1u << r.n) - 1;
@@ -130,19 +82,10 @@ static void languages(int rounds) {
                 for (unsigned rest = word; rest > 1; rest >>= 1) text[length++] = rest & 1;
                 open(&j, 1, 0);
                 deliver(&j, 0, 0, text, (size_t)length, 0);
-                CHECK((bellbadger_verdict(j).kind == BELLBADGER_YES) == due(way, &one, &two, text, length));
+                CHECK((bellbadger_verdict(j).kind == BELLBADGER_YES) == due_by(way, &one, &two, text, length));
             }
         }
     }
-}
-
-/* the symbol is the n-th from the end: n + 1 states */
-static bellbadger_checked_rule from_the_end(int n, int symbol) {
-    bellbadger_checked_rule r = plain(n + 1, 2);
-    r.finals = 1u << n;
-    set(&r, 0, symbol == 0 ? 3 : 1, symbol == 1 ? 3 : 1);
-    for (int q = 1; q < n; q++) set(&r, q, 2u << q, 2u << q);
-    return r;
 }
 
 /* more than 512 sets in the result: that is for its installation to say */

@@ -43,6 +43,7 @@ static void *caller(void *unused) {
     bellbadger_verdict_result concluded = bellbadger_summary_conclude(loaded.judge, combined, 2);
     bellbadger_pattern_result file = bellbadger_pattern(pattern, sizeof pattern - 1);
     bellbadger_merge_result merged = bellbadger_merge(BELLBADGER_INTERLEAVING, read.rule, read.rule);
+    bellbadger_merge_result merged_reduced = bellbadger_merge_reduced(BELLBADGER_INTERLEAVING, read.rule, read.rule);
     bellbadger_compare_result compared = bellbadger_compare(read.rule, merged.rule);
     bellbadger_reduce_result reduced = bellbadger_reduce(merged.rule);
     bellbadger_made_result text = bellbadger_make_text(16, 1, made, sizeof made);
@@ -67,6 +68,7 @@ static void *caller(void *unused) {
     CHECK(sample.kind == BELLBADGER_SAMPLE && file.accepted && merged.accepted && text.accepted && form.accepted && table.accepted);
     CHECK(compared.kind == BELLBADGER_FIRST_ALONE && compared.length == 2);
     CHECK(reduced.accepted && reduced.installs && reduced.rule.n <= merged.rule.n);
+    CHECK(merged_reduced.accepted && merged_reduced.rule.n == reduced.rule.n);
     CHECK(row.accepted && column.accepted && tray.accepted && band.accepted && no_band.accepted);
     CHECK(of_tray.kind == BELLBADGER_NO && !bellbadger_tray_is_yes(of_tray) && fault.kind == BELLBADGER_FAULT_SHORT);
     return unused;

@@ -12,7 +12,7 @@ from bellbadger.compare import compare
 from bellbadger.follow import Follower
 from bellbadger.form import Form, form, table
 from bellbadger.mappings import Profile, compose
-from bellbadger.merge import BOTH, merge
+from bellbadger.merge import BOTH, merge, merge_reduced
 from bellbadger.patterns import rule_file
 from bellbadger.reduce import reduce
 from bellbadger.samples import ACCEPTED, sample
@@ -96,6 +96,8 @@ WRONG_TYPES = [
         (rule_file, ["a"], 0, "pattern", "str or bytes", [wrong for wrong in NO_BYTES if wrong[1] != "str"]),
         (merge, [BOTH, A, A], 1, "one", "a CheckedRule", NO_RULE),
         (merge, [BOTH, A, A], 2, "two", "a CheckedRule", NO_RULE),
+        (merge_reduced, [BOTH, A, A], 1, "one", "a CheckedRule", NO_RULE),
+        (merge_reduced, [BOTH, A, A], 2, "two", "a CheckedRule", NO_RULE),
         (compare, [A, A], 0, "one", "a CheckedRule", NO_RULE),
         (compare, [A, A], 1, "two", "a CheckedRule", NO_RULE),
         (reduce, [A], 0, "rule", "a CheckedRule", NO_RULE),
@@ -147,6 +149,9 @@ WRONG_VALUES = (
     (sample, [0.0, A], "sample: wish must be ACCEPTED or REJECTED, not 0.0"),
     (merge, [3, A, A], "merge: way must be BOTH, EITHER or INTERLEAVING, not 3"),
     (merge, [1.0, A, A], "merge: way must be BOTH, EITHER or INTERLEAVING, not 1.0"),
+    (merge, [True, A, A], "merge: way must be BOTH, EITHER or INTERLEAVING, not True"),
+    (merge_reduced, [3, A, A], "merge_reduced: way must be BOTH, EITHER or INTERLEAVING, not 3"),
+    (merge_reduced, [1.0, A, A], "merge_reduced: way must be BOTH, EITHER or INTERLEAVING, not 1.0"),
     (make_text, [1, 2**64, 1], "make_text: seed must be 0 to 18446744073709551615, not 18446744073709551616"),
     (make_text, [1, 1, -1], "make_text: length must be 0 to 9223372036854775807, not -1"),
     (Form, [256, (0,), (1,), (0,)], "Form: symbols must be 0 to 255, not 256"),

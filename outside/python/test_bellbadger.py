@@ -275,6 +275,7 @@ class Calls(Case):
             verdicts.append(bellbadger.samples.sample(bellbadger.samples.ACCEPTED, rule))
             verdicts.append(len(bellbadger.patterns.rule_file("(a|b)*ab")))
             verdicts.append(bellbadger.merge.merge(bellbadger.merge.EITHER, rule, rule).n)
+            verdicts.append(bellbadger.merge.merge_reduced(bellbadger.merge.EITHER, rule, rule).n)
             verdicts.append(len(bellbadger.form.table(bellbadger.form.form(judge))))
             tray.install_row(rule)
             tray.install_column(rule)
@@ -290,7 +291,7 @@ class Calls(Case):
             thread.join()
         finally:
             threading.stack_size(before)
-        due = [Yes(18, 18, 1, 0), No(0, 0, 0, 0), Loaded(5, 3), True, bytes([0, 1]), 50, 6, 5, bellbadger.trays.TrayNo()]
+        due = [Yes(18, 18, 1, 0), No(0, 0, 0, 0), Loaded(5, 3), True, bytes([0, 1]), 50, 6, 3, 5, bellbadger.trays.TrayNo()]
         self.assertEqual(verdicts, due)
 
 
@@ -335,7 +336,7 @@ class Module(unittest.TestCase):
             self.assertTrue(module.__doc__ and module.__all__)
 
     def test_version(self):
-        self.assertEqual(bellbadger.version(), (5, 6))
+        self.assertEqual(bellbadger.version(), (5, 7))
 
     def imported_from(self, folder):
         run = subprocess.run(

@@ -117,7 +117,7 @@ fn with_copies(r: &mut Random, n: usize, k: usize) -> Automaton {
 }
 
 /// The j-th symbol from the end is 1: about 2^j sets.
-fn from_the_end(j: usize, k: usize) -> Automaton {
+pub fn from_the_end(j: usize, k: usize) -> Automaton {
     let mut a = blank(j + 1, k);
     for s in 0..k {
         for q in 1..j {

@@ -19,6 +19,7 @@ pub mod mappings;
 pub mod merges;
 pub mod patterns;
 pub mod random;
+pub mod reducedmerges;
 pub mod reductions;
 pub mod rule;
 pub mod samples;

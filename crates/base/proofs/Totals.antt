@@ -4,11 +4,12 @@
 --   total-same                the same sum of the same numbers
 --   total-most, term-most     a bound of the sum; a term is at most the sum
 --   total-but-one             a bound where one term is 0: room for one more is left
+--   squeeze                   numbers one by one no greater, whose sums are equal, are equal
 --   total-rest                numbers that add nothing
 --   greatest-more, greatest-same, greatest-most, term-greatest, greatest-split, greatest-rest   the
 --                             same of the greatest; the numbers from n on apart
 --   greatest-sum              the greatest of sums, where a number is added only to a full one
-use mathlib.Core.Path.{_≡_, refl, ap, ap₂}
+use mathlib.Core.Path.{_≡_, refl, sym, ap, ap₂, _∙_}
 use mathlib.Core.Logic.{⊎-elim}
 use Prim.Native.Nat.{ℕ, zero, suc, _+_, _*_, _≤_, _<_, max}
 use native.Mathlib.Nat.{suc-mul, eq-or-lt-of-le, le-of-suc-le-suc}
@@ -56,6 +57,24 @@ unfolding total
 term-most f zero p h = absurd (omega arith)
 term-most f (suc n) p h =
     ⊎-elim (λ e. rw e (omega arith)) (λ l. omega (arith, term-most f n p l)) (eq-or-lt-of-le (le-of-suc-le-suc h))
+
+module _ (f g : ℕ → ℕ) where
+  total-le : (n : ℕ) → ((q : ℕ) → q < n → f q ≤ g q) → total f n ≤ total g n
+  unfolding total
+  total-le zero h = omega arith
+  total-le (suc n) h = omega (arith, total-le n (λ q l. h q (omega arith)), h n (omega arith))
+
+  pub squeeze : (n : ℕ) → ((q : ℕ) → q < n → f q ≤ g q) → total g n ≤ total f n → (q : ℕ) → q < n → f q ≡ g q
+  unfolding total
+  squeeze zero h e q l = absurd (let x = l in omega arith)
+  squeeze (suc n) h e q l =
+      let below : (p : ℕ) → p < n → f p ≤ g p = λ p b. h p (omega arith) in
+      let le = total-le n below in
+      let last = h n (omega arith) in
+      ⊎-elim
+      (λ z. let same : f n ≡ g n = omega (arith, le, last, e) in ap f z ∙ same ∙ ap g (sym z))
+      (λ b. squeeze n below (omega (arith, le, last, e)) q b)
+      (eq-or-lt-of-le (le-of-suc-le-suc l))
 
 -- from n on they add nothing
 pub total-rest : (f : ℕ → ℕ) (k n : ℕ) → ((q : ℕ) → n ≤ q → f q ≡ 0) → total f (k + n) ≡ total f n

@@ -1,6 +1,6 @@
 -- The answer is the one that is due, and no other is. Assumes nothing.
 use mathlib.Core.Path.{_≡_, refl, sym, ap, _∙_, subst}
-use mathlib.Core.Logic.{_↔_, inl, inr, ⊎-elim}
+use mathlib.Core.Logic.{_↔_, _⊎_, inl, inr, ⊎-elim}
 use mathlib.Core.Bool.{true, false, cond}
 use mathlib.Core.List.{List}
 use mathlib.Core.Option.{Option, none, some}
@@ -14,7 +14,7 @@ use Rattle.base.proofs.Tests.{zero-one, by-test, not-both}
 use Rattle.base.proofs.Conditions.{first-append}
 use Rattle.automaton.specs.declared.Rule.{Rule}
 use Rattle.automaton.specs.Automaton.{Text, Equivalent}
-use Rattle.automaton.specs.Rules.{automatonOf}
+use Rattle.automaton.specs.Rules.{automatonOf, WellFormed}
 use Rattle.rulecheck.proofs.First.{rule-small}
 use Rattle.rulecheck.proofs.Claims as check
 use Rattle.searches.specs.Search.{wordTo}
@@ -26,7 +26,7 @@ use Rattle.compare.specs.Compared.{Only, Apart, FirstApart, Same, ManyPa
 use Rattle.compare.specs.Values.{Outcome, Carries, outcomeOf, comparisonIn}
 use Rattle.compare.specs.Search.{whichOf, reachedPairs, reachedTable, test, firstPairs, foundFirst, toldApart, manyPairs, ownConditions, compareNumber, compareBy, compareOf}
 use Rattle.compare.specs.Claims.{Refused-exactly}
-use Rattle.compare.proofs.Conditions.{Pair, passed, from-where}
+use Rattle.compare.proofs.Conditions.{passed, from-where}
 use Rattle.compare.proofs.Pairs.{accepted-text, many, first-text, all-same, short-text}
 use Rattle.compare.proofs.Values.{outcome-tells, outcome-carries, carries-one}
 
@@ -65,7 +65,7 @@ module _ (one two : Rule) where
   before i b c = ap (test one two) (sym (pair-at i c)) ∙ where-before (test one two) (firstPairs one two) i b
 
   module _ (pass : pairNumber one two ≡ none) where
-    good : Pair one two
+    good : WellFormed one × WellFormed two × (one .k ≡ two .k)
     good = passed one two .0 pass
 
     found : ℕ
@@ -81,9 +81,9 @@ module _ (one two : Rule) where
           (λ t.
           let none = ltb-false found (length (firstPairs one two)) t in
           let over = ltb-true 512 count (rw t at m) in
-          many one two (good .first) (good .second) .0 (over, λ i b. before i (omega (arith, firsts-long)) b))),
+          many one two (good .0) (good .1) .0 (over, λ i b. before i (omega (arith, firsts-long)) b))),
       λ h.
-          let m = many one two (good .first) (good .second) .1 h in
+          let m = many one two (good .0) (good .1) .1 h in
           let apart-none : toldApart one two ≡ false =
           by-test (toldApart one two)
           (λ t.
@@ -121,18 +121,18 @@ module _ (one two : Rule) where
           let is = pair-at found small in (
             searched,
             rw is
-                (first-text one two (good .first) (good .second) found there small
+                (first-text one two (good .0) (good .1) found there small
                 (ap (test one two) (sym is) ∙ where-meets (test one two) (firstPairs one two) b)
                 (λ i c. before i c (omega arith))),
           )
       search-due (without most b) =
-          (searched, all-same one two (good .first) (good .second) most (λ i c. before i (omega arith) (omega arith)))
+          (searched, all-same one two (good .0) (good .1) most (λ i c. before i (omega arith) (omega arith)))
 
       search-short : {a : Comparison} → Ended a → (which : Which) (w : List ℕ) → a ≡ apart which w → length w ≤ 511
       search-short (with-text b) which w e =
           let z : wordTo (reachedTable one two) found ≡ w = cc in
           subst (λ (v : List ℕ). length v ≤ 511) z
-          (short-text one two (good .first) (good .second) found (omega (arith, firsts-long)) (omega (arith, firsts-long)))
+          (short-text one two (good .0) (good .1) found (omega (arith, firsts-long)) (omega (arith, firsts-long)))
       search-short (without most b) which w e = zero-one cc
 
   -- ---- all cases
@@ -221,11 +221,23 @@ module _ (one two : Rule) where
     λ s x e. not-refused s x (exactly (refused x) .0 e),
   )
 
+  abbrev TextOrSame : Type 0
+  TextOrSame = ((which : Which) × (w : List ℕ) × FirstApart one two which w × (compareOf one two ≡ apart which w))
+      ⊎ (Same one two × (compareOf one two ≡ same))
+
+  told-by : Searched one two → (a : Comparison) → compareOf one two ≡ a → TextOrSame
+  told-by s (apart which w) e = inl (which, w, exactly (apart which w) .0 e .1, e)
+  told-by s same e = inr (exactly same .0 e .1, e)
+  told-by s (refused x) e = absurd (searched-is .1 s x e)
+
+  pub either : Searched one two → TextOrSame
+  either s = told-by s (compareOf one two) refl
+
   pub alike : (compareOf one two ≡ same) ↔ (((x : ℕ) → compareOf one two ≡ refused x → ⊥) × Equivalent (automatonOf one) (automatonOf two))
   alike = (
     (λ e.
         let h = exactly same .0 e in
-        let k : two .k ≡ one .k = sym (passed one two .0 (h .0 .0) .alike) in (
+        let k : two .k ≡ one .k = sym (passed one two .0 (h .0 .0) .2) in (
           searched-is .1 (h .0),
           λ w. (
             (λ a. h .1 w (accepted-text (automatonOf one) w a) .0 a),
@@ -287,11 +299,11 @@ module _ (one two : Rule) where
           (λ g. absurd (omega (arith, g .1)))
           (f .1))
           (from-where one two 45 .0 h))
-          (λ h. let p = passed one two .0 (h .0) in (p .first, p .second, p .alike, h .1))
+          (λ h. let p = passed one two .0 (h .0) in (p .0, p .1, p .2, h .1))
           (exactly (refused 45) .0 e)),
       λ h.
           exactly (refused 45) .1
-          (inr (passed one two .1 (record { first = h .0; second = h .1; alike = h .2 }), h .3, refl)),
+          (inr (passed one two .1 (h .0, h .1, h .2), h .3, refl)),
     );
     no-other = λ x e.
         ⊎-elim

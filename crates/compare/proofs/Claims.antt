@@ -1,5 +1,6 @@
 -- The one proof of all that specs/Claims.antt claims. Assumes nothing.
 use Rattle.compare.specs.Claims.{Claims}
+use Rattle.compare.proofs.Conditions.{passed}
 use Rattle.compare.proofs.Answers as answers
 use Rattle.compare.proofs.Exchange.{symmetric}
 use Rattle.compare.proofs.Examples.{answered}
@@ -9,7 +10,9 @@ claims = record {
   answered = answered;
   exactly = answers.exactly;
   numbers = answers.numbers;
+  passed = passed;
   searched = answers.searched-is;
+  either = answers.either;
   alike = answers.alike;
   named = answers.named;
   symmetric = symmetric;

@@ -2,7 +2,7 @@
 -- Assumes nothing.
 --
 --   pair-law        that number
---   Pair, passed    none exactly where both rules are well formed and have the same k
+--   passed          none exactly where both rules are well formed and have the same k
 --   from-where      where a number comes from
 use mathlib.Core.Path.{_≡_, sym, ap, _∙_}
 use mathlib.Core.Logic.{_↔_, _⊎_, inl, inr, ⊎-elim}
@@ -20,11 +20,6 @@ use Rattle.automaton.specs.Rules.{WellFormed}
 use Rattle.rulecheck.specs.Checking.{ruleConditions, ruleNumber}
 use Rattle.rulecheck.proofs.Claims as check
 use Rattle.compare.specs.Compared.{pairNumber}
-
-pub record Pair (one two : Rule) : Type 0 where
-  pub first : WellFormed one
-  pub second : WellFormed two
-  pub alike : one .k ≡ two .k
 
 module _ (one two : Rule) where
   abbrev last : Option ℕ
@@ -56,17 +51,17 @@ module _ (one two : Rule) where
       first-append (ruleConditions one) (ruleConditions two ++ (on 36 (not (eqb (one .k) (two .k))) ∷ []))
       ∙ ap (orElse (ruleNumber one)) (first-append (ruleConditions two) (on 36 (not (eqb (one .k) (two .k))) ∷ []))
 
-  pub passed : (pairNumber one two ≡ none) ↔ Pair one two
+  pub passed : (pairNumber one two ≡ none) ↔ (WellFormed one × WellFormed two × (one .k ≡ two .k))
   passed = (
     (λ z.
         let a = none-of (ruleNumber one) (orElse (ruleNumber two) last) .0 (sym pair-law ∙ z) in
         let b = none-of (ruleNumber two) last .0 (a .1) in
-        record { first = check.claims .passes one .0 (a .0); second = check.claims .passes two .0 (b .0); alike = last-none .0 (b .1) }),
+        (check.claims .passes one .0 (a .0), check.claims .passes two .0 (b .0), last-none .0 (b .1))),
     λ p.
         pair-law
         ∙ none-of (ruleNumber one) (orElse (ruleNumber two) last) .1 (
-          check.claims .passes one .1 (p .first),
-          none-of (ruleNumber two) last .1 (check.claims .passes two .1 (p .second), last-none .1 (p .alike)),
+          check.claims .passes one .1 (p .0),
+          none-of (ruleNumber two) last .1 (check.claims .passes two .1 (p .1), last-none .1 (p .2)),
         ),
   )
 

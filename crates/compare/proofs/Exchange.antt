@@ -26,7 +26,7 @@ only-other one two Second w h = h
 number-other : (one two : Rule) → pairNumber one two ≡ none → pairNumber two one ≡ none
 number-other one two e =
     let p = passed one two .0 e in
-    passed two one .1 (record { first = p .second; second = p .first; alike = sym (p .alike) })
+    passed two one .1 (p .1, p .0, sym (p .2))
 
 text-other : {k l : ℕ} → k ≡ l → (w : List ℕ) → Text k w → Text l w
 text-other e w t = subst (λ (x : ℕ). Text x w) e t
@@ -44,7 +44,7 @@ many-other one two k h = record {
 
 module _ (one two : Rule) where
   alike : pairNumber one two ≡ none → one .k ≡ two .k
-  alike e = passed one two .0 e .alike
+  alike e = passed one two .0 e .2
 
   searched-other : Searched one two → Searched two one
   searched-other h = (number-other one two (h .0), λ m. h .1 (many-other two one (sym (alike (h .0))) m))

@@ -74,7 +74,7 @@ module _ (one two : Rule) where
 module _ (one two : Rule) (good : WellFormed one) (fine : WellFormed two) (alike : one .k ≡ two .k) (t : KeyTable)
     (are : tableOutcome t ≡ tableBy Pairs (one .targets) (two .targets) (one .k) (firstPair one two)) (c : ℕ) (held : c ≡ heldBy (t .answer)) where
   pass : pairNumber one two ≡ none
-  pass = passed one two .1 (record { first = good; second = fine; alike = alike })
+  pass = passed one two .1 (good, fine, alike)
 
   pub most : c ≤ 512
   most = searched.held-most Pairs (one .targets) (two .targets) (one .k) (firstPair one two) (good .symbols .1) t are c held

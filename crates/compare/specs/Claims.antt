@@ -5,7 +5,7 @@
 use mathlib.Core.Path.{_≡_}
 use mathlib.Core.Logic.{_↔_, _⊎_}
 use mathlib.Core.List.{List}
-use mathlib.Core.Option.{some}
+use mathlib.Core.Option.{none, some}
 use Prim.Native.Nat.{ℕ, _≤_}
 use lib.ListN.{length}
 use Rattle.automaton.specs.declared.Rule.{Rule}
@@ -14,7 +14,7 @@ use Rattle.automaton.specs.Rules.{automatonOf, WellFormed}
 use Rattle.rulecheck.specs.Checking.{ruleNumber}
 use Rattle.searches.specs.Texts.{longestText}
 use Rattle.compare.specs.declared.Which.{Which}
-use Rattle.compare.specs.Compared.{Only, ManyPairs, Searched, Comparison, apart, same, refused, exchanged, Due}
+use Rattle.compare.specs.Compared.{Only, FirstApart, Same, ManyPairs, pairNumber, Searched, Comparison, apart, same, refused, exchanged, Due}
 use Rattle.compare.specs.Values.{Outcome, Carries, outcomeOf, comparisonIn}
 use Rattle.compare.specs.Search.{compareOf}
 use Rattle.compare.specs.Worked.{pairs, Answered}
@@ -37,8 +37,14 @@ pub record Claims : Type 0 where
   -- it is the answer that is due, and no other is
   pub exactly : (one two : Rule) (a : Comparison) → (compareOf one two ≡ a) ↔ Due one two a
   pub numbers : (one two : Rule) → Refused-exactly one two
+  -- no number comes before the search exactly where both rules are checked and have the same k
+  pub passed : (one two : Rule) → (pairNumber one two ≡ none) ↔ (WellFormed one × WellFormed two × (one .k ≡ two .k))
   -- the two are not refused exactly where they are searched
   pub searched : (one two : Rule) → ((x : ℕ) → compareOf one two ≡ refused x → ⊥) ↔ Searched one two
+  -- and then either the first text that tells them apart is answered, or the same
+  pub either : (one two : Rule) → Searched one two
+      → ((which : Which) × (w : List ℕ) × FirstApart one two which w × (compareOf one two ≡ apart which w))
+      ⊎ (Same one two × (compareOf one two ≡ same))
   -- the same is answered exactly when the two are not refused and their automata accept the same
   -- texts, of all texts
   pub alike : (one two : Rule)

@@ -15,6 +15,7 @@
 --   Searched one two       none of them holds, and there are not too many pairs
 --   Comparison             an answer: a rule with a text that it alone accepts, that the two accept
 --                          the same, or a refusal with its number
+--   ofRule which x y       what belongs to this rule: x to the first, and y to the second
 --   exchanged a            the answer a with the rules' names exchanged
 --   Due one two a          a is the answer that is due: the number of those conditions, then 45;
 --                          else the first text that tells the two apart, or the same where none does
@@ -77,6 +78,10 @@ pub data Comparison : Type 0 where
 abbrev pub otherRule : Which → Which
 otherRule First = Second
 otherRule Second = First
+
+abbrev pub ofRule : {A : Type 0} → Which → A → A → A
+ofRule First x y = x
+ofRule Second x y = y
 
 abbrev pub exchanged : Comparison → Comparison
 exchanged (apart which w) = apart (otherRule which) w

@@ -5,10 +5,10 @@ use Rattle.masks.specs.Masks.{union, maskOf}
 use Rattle.marks.specs.Marks.{textOf}
 use Rattle.rulecheck.specs.Checking.{badTargets}
 use Rattle.chunks.specs.Chunks.{foreign}
-use Rattle.live.specs.Live.{within}
+use Rattle.masks.specs.Turns.{turns}
 use Rattle.follow.specs.Following.{leastBelow, followNumber, followOf}
 use Rattle.follow.specs.Worked.{cases, Answered}
 
 pub answered : Answered cases
-unfolding anyBelow union textOf badTargets foreign maskOf within leastBelow followNumber followOf
+unfolding anyBelow union textOf badTargets foreign maskOf turns leastBelow followNumber followOf
 answered = (refl, (refl, (refl, (refl, (refl, (refl, (refl, tt)))))))

@@ -8,11 +8,12 @@
 --                    most 32 states, so 32 arcs are enough
 use mathlib.Core.Bool.{Bool}
 use mathlib.Core.List.{List}
-use Prim.Native.Nat.{ℕ, zero, suc}
+use Prim.Native.Nat.{ℕ}
 use lib.Bits.{bitOr}
 use Rattle.limits.specs.Limits.{mostStates, mostSymbols}
 use Rattle.base.specs.Conditions.{anyBelow}
 use Rattle.masks.specs.Masks.{shares, maskOf}
+use Rattle.masks.specs.Turns.{turns}
 use Rattle.automaton.specs.declared.Rule.{Rule}
 use Rattle.automaton.specs.Rules.{targetMask}
 
@@ -22,9 +23,8 @@ leads ts m q = anyBelow (λ s. shares (targetMask ts q s) m) mostSymbols
 abbrev pub backTo : List ℕ → ℕ → ℕ
 backTo ts m = bitOr m (maskOf (leads ts m) mostStates)
 
-unfoldable pub within : List ℕ → ℕ → ℕ → ℕ
-within ts m zero = m
-within ts m (suc i) = backTo ts (within ts m i)
+abbrev pub within : List ℕ → ℕ → ℕ → ℕ
+within ts m i = turns (backTo ts) m i
 
 abbrev pub liveOf : Rule → ℕ
 liveOf r = within (r .targets) (r .finals) mostStates

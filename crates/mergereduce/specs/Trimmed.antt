@@ -1,8 +1,7 @@
--- An automaton of n states, any number of them, that is given by masks: its initial and final states,
--- and the targets ts q s of state q by the symbol s. Made a rule of those states that are reached and
--- live, numbered anew from 0 in their old order.
+-- An automaton of n states, any number of them, that is given by masks: its initial and final
+-- states, and the targets ts q s of state q by the symbol s. Made a rule of those states that are
+-- reached and live, numbered anew from 0 in their old order.
 --
---   turns f m i               f taken i times, from m
 --   spread link n m           m, with every state to which a member of m is linked
 --   arcs ts q p               the test that an arc leads from q to p
 --   onward n ts m             m, with every target of an arc from a member of m
@@ -14,20 +13,16 @@
 --   trimmedTargets ..         the targets of the new state p by the symbol s
 --   trimmedBy n k .. kept     the rule of the states kept, one state at least
 use mathlib.Core.Bool.{Bool, cond, _&&_}
-use Prim.Native.Nat.{ℕ, zero, suc, _/_, _%_, max}
+use Prim.Native.Nat.{ℕ, _/_, _%_, max}
 use lib.Bits.{bitAnd, bitOr}
 use lib.Dec.{eqb, ltb}
 use Rattle.base.specs.Conditions.{anyBelow}
 use Rattle.base.specs.Lists.{listFrom}
 use Rattle.limits.specs.Limits.{mostSymbols, targetCells}
 use Rattle.masks.specs.Masks.{has, maskOf}
+use Rattle.masks.specs.Turns.{rank, turns}
 use Rattle.automaton.specs.declared.Rule.{Rule}
 use Rattle.delegates.specs.Classes.{firstFrom}
-use Rattle.reducing.specs.Reduced.{rank}
-
-unfoldable pub turns : (ℕ → ℕ) → ℕ → ℕ → ℕ
-turns f m zero = m
-turns f m (suc i) = f (turns f m i)
 
 abbrev pub spread : (ℕ → ℕ → Bool) → ℕ → ℕ → ℕ
 spread link n m = bitOr m (maskOf (λ p. anyBelow (λ q. has m q && link q p) n) n)

@@ -25,6 +25,8 @@ use Rattle.delegates.specs.Classes.{firstFrom}
 use Rattle.delegates.specs.Answer.{delegateMeans}
 use Rattle.delegates.proofs.Alike.{some-said}
 use Rattle.masks.specs.declared.StateNumber.{StateNumber}
+use Rattle.masks.specs.Turns.{rank}
+use Rattle.masks.proofs.Turns.{bit-lt, rank-most}
 use Rattle.base.proofs.Tests.{zero-one}
 use Rattle.rulecheck.specs.declared.CheckAnswer.{CheckAnswer}
 use Rattle.rulecheck.specs.declared.CheckAnswer.the-variants as check
@@ -42,8 +44,7 @@ use Rattle.calls.specs.Calls.{installNumber}
 use Rattle.calls.proofs.Conditions.{install-number}
 use Rattle.reducing.specs.Reducing.{Reducing, refusedBy, reducingBy, reduceOf}
 use Rattle.reducing.proofs.Law.{few-install, reduce-law}
-use Rattle.reducing.specs.Reduced.{gather, delegated, rank, renamed, rowOf, targetsOf, cellIn, reducedBy, keptOf, ownList, reachedOf, chosenCell, chosenOf, listIn, keptIn, reducedOf}
-use Rattle.reducing.proofs.Ranks.{bit-lt, rank-most}
+use Rattle.reducing.specs.Reduced.{gather, delegated, renamed, rowOf, targetsOf, cellIn, reducedBy, keptOf, ownList, reachedOf, chosenCell, chosenOf, listIn, keptIn, reducedOf}
 
 -- ---- `count`
 module _ (set p : ℕ) where

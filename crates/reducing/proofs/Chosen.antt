@@ -19,6 +19,7 @@ use Rattle.base.proofs.Tests.{by-test, zero-one, not-both}
 use Rattle.base.proofs.Lists.{cell-of}
 use Rattle.masks.specs.Masks.{_∈_, has}
 use Rattle.masks.proofs.Laws.{members-below, or-cases, has-member, member-of}
+use Rattle.masks.specs.Turns.{turns}
 use Rattle.automaton.specs.declared.Rule.{Rule}
 use Rattle.automaton.specs.Automaton.{Automaton, Arc, Run, stay, move}
 use Rattle.automaton.specs.Rules.{automatonOf, WellFormed}
@@ -77,7 +78,7 @@ module _ (r : Rule) (good : WellFormed r) where
   step i = rounds (r .targets) ownList (delegated ownList (r .initials)) i
 
   reach-in : (i x : ℕ) → x ∈ step i → Reachable r x
-  unfolding rounds
+  unfolding turns
   reach-in zero x e =
       let u = delegate-in ownList (r .initials) x e in
       let l = members-below (r .n) (r .initials) (u .0) (good .initials-below) (u .1) in
@@ -158,7 +159,7 @@ module _ (r : Rule) (good : WellFormed r) where
         by-test (ltb (getD d q 0) 32)
         (λ t. let z = said-some d q (ltb-true (getD d q 0) 32 t) in zero-one cc)
         (λ t. t) in
-        let cell : chosenCell d reached q ≡ 32 = off (has reached q) (ltb (getD d q 0) 32) (firstFrom (λ p. has reached p && eqb (getD d p 0) (getD d q 0)) 0 q) high in
+        let cell : chosenCell d reached q ≡ 32 = off (has reached q) (ltb (getD d q 0) 32) _ high in
         said-none list q (rw (is-cell q (row q l), cell) (omega arith))
       where
         off : (s t : Bool) (x : ℕ) → t ≡ false → cond (s && t) x 32 ≡ 32

@@ -18,7 +18,9 @@ use lib.Dec.{eqb, ltb}
 use borrow.Author.Tests.{ltb-true, ltb-false, lt-ltb, le-ltb, eq-eqb, eqb-true}
 use Rattle.base.proofs.Tests.{by-test}
 use Rattle.masks.specs.Masks.{bit, _∈_, single, union}
-use Rattle.masks.proofs.Laws.{no-member, or-cases, or-right, single-law, members-below, below-of, empty-mask, part-of, in-union}
+use Rattle.masks.proofs.Laws.{no-member, or-cases, or-left, or-right, single-law, members-below, below-of, empty-mask, part-of, in-union}
+use Rattle.masks.specs.Turns.{rank, turns}
+use Rattle.masks.proofs.Turns.{bit-lt, in-turns, rank-most, still}
 use Rattle.automaton.specs.declared.Rule.{Rule}
 use Rattle.automaton.specs.Automaton.{Automaton, Arc, Run, stay, move}
 use Rattle.automaton.specs.Rules.{targetMask, automatonOf, WellFormed}
@@ -26,9 +28,8 @@ use Rattle.automaton.specs.Successor.{successor, Reached}
 use Rattle.automaton.proofs.Laws.{arc-of, successor-law}
 use Rattle.automaton.proofs.Values.{table-law}
 use Rattle.delegates.specs.Alike.{Alike, Live, delegateIn, ofDelegate}
-use Rattle.reducing.specs.Reduced.{gather, delegated, onward, rounds, keptOf, rank, renamed, targetsOf, reducedBy}
-use Rattle.reducing.proofs.Ranks.{bit-lt, rank-less, rank-once, rank-most, renamed-law, gathered, in-gather}
-use Rattle.reducing.proofs.Rounds.{still, in-rounds}
+use Rattle.reducing.specs.Reduced.{gather, delegated, onward, rounds, keptOf, renamed, targetsOf, reducedBy}
+use Rattle.reducing.proofs.Ranks.{rank-less, rank-once, renamed-law, gathered, in-gather}
 use Rattle.reducing.proofs.Quotient.{Step, Quotient, run-join}
 
 -- ---- the delegates of a set
@@ -141,13 +142,16 @@ module _ (r : Rule) (good : WellFormed r) (d : List ℕ) (In : ℕ → Type 0) (
   stay-in q u = C .inside (u .of) q (u .chosen)
 
   stays-in : (i x : ℕ) → x ∈ step i → Stays x
-  unfolding rounds
+  unfolding turns
   stays-in zero x e = stays-first x e
   stays-in (suc i) x e =
       ⊎-elim
       (λ h. stays-in i x h)
       (λ h. let u = led (step i) x (λ q l. stay-in q (stays-in i q l)) h in record { of = u .through; chosen = u .chosen })
       (or-cases (step i) (gather (λ s. delegated d (successor (r .targets) (step i) s)) 16) x e)
+
+  adds : (m x : ℕ) → x ∈ m → x ∈ onward (r .targets) d m
+  adds m x e = or-left m (gather (λ s. delegated d (successor (r .targets) m s)) 16) x e
 
   few : (i x : ℕ) → x ∈ step i → x < 32
   few i x e = let u = stays-in i x e in row x (C .state (u .of) x (u .chosen))
@@ -182,7 +186,7 @@ module _ (r : Rule) (good : WellFormed r) (d : List ℕ) (In : ℕ → Type 0) (
       let one : y ∈ delegated d (successor (r .targets) kept s) =
       in-delegated d (successor (r .targets) kept s) y t (row t (j .target)) there (said t y (next-in x s t e j) f) in
       let low : s < 16 = omega (arith, j .symbol, good .symbols) in
-      subst (λ (m : ℕ). y ∈ m) (still (r .targets) d first few)
+      subst (λ (m : ℕ). y ∈ m) (still (onward (r .targets) d) first adds 32 few)
       (or-right kept (gather (λ z. delegated d (successor (r .targets) kept z)) 16) y
       (in-gather (λ z. delegated d (successor (r .targets) kept z)) y 16 s low one))
 
@@ -192,7 +196,7 @@ module _ (r : Rule) (good : WellFormed r) (d : List ℕ) (In : ℕ → Type 0) (
       in-delegated d (r .initials) x q (row q l) e (said q x (C .initial q e) f)
 
   pub first-kept : (x : ℕ) → x ∈ first → x ∈ kept
-  first-kept x e = in-rounds (r .targets) d first few x e 32
+  first-kept x e = in-turns (onward (r .targets) d) first adds x e 32
 
   -- ---- the new table
   count : ℕ
@@ -349,7 +353,7 @@ module _ (r : Rule) (good : WellFormed r) (d : List ℕ) (In : ℕ → Type 0) (
     pub reached : Reached b (new .initials) text (rank kept x)
 
   arrives : (i x : ℕ) → x ∈ step i → Arrives x
-  unfolding rounds
+  unfolding turns
   arrives zero x e =
       let k = first-kept x e in
       record {

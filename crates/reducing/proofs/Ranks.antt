@@ -1,26 +1,24 @@
 -- New numbers: they rise with the states that stay, and every number below their count is one.
 -- Assumes nothing.
 --
---   rank-more, rank-mono, rank-less, rank-once, rank-onto, rank-most
+--   rank-more, rank-mono, rank-less, rank-once, rank-onto
 --   gather-law     the members of a union of sets
 --   renamed-law    the members of a renamed set
 use mathlib.Core.Path.{_≡_, refl, sym, ap, _∙_, subst}
 use mathlib.Core.Logic.{_↔_, _⊎_, inl, inr, ⊎-elim}
-use Prim.Native.Nat.{ℕ, zero, suc, _+_, _/_, _%_, _^_, _≤_, _<_}
-use native.Mathlib.Nat.{mod-lt, eq-or-lt-of-le, le-of-suc-le-suc}
+use Prim.Native.Nat.{ℕ, zero, suc, _≤_, _<_}
+use native.Mathlib.Nat.{eq-or-lt-of-le, le-of-suc-le-suc}
 use native.Mathlib.Omega.{arith}
 use lib.Bits.{bitAnd, bitOr}
-use lib.Dec.{ltb, lit<}
+use lib.Dec.{ltb}
 use borrow.Author.Tests.{ltb-true, ltb-false}
 use Rattle.base.specs.Totals.{total}
 use Rattle.base.proofs.Tests.{by-test}
-use Rattle.base.proofs.Totals.{total-most}
 use Rattle.masks.specs.Masks.{bit, _∈_, single, union}
+use Rattle.masks.specs.Turns.{rank}
+use Rattle.masks.proofs.Turns.{bit-lt}
 use Rattle.masks.proofs.Laws.{no-member, or-cases, or-left, or-right, and-members, single-law, part-of, in-union}
-use Rattle.reducing.specs.Reduced.{gather, rank, renamed}
-
-pub bit-lt : (m q : ℕ) → bit m q < 2
-bit-lt m q = mod-lt (m / 2 ^ q) (lit< tt)
+use Rattle.reducing.specs.Reduced.{gather, renamed}
 
 module _ (kept : ℕ) where
   pub rank-mono : (x y : ℕ) → x ≤ y → rank kept x ≤ rank kept y
@@ -58,9 +56,6 @@ module _ (kept : ℕ) where
       let e : bit kept n ≡ 1 = omega arith in
       let z : rank kept n ≡ p = omega arith in
       (n, omega arith, e, z))
-
-  pub rank-most : (n : ℕ) → rank kept n ≤ n
-  rank-most n = omega (arith, total-most (bit kept) 1 n (λ q l. omega (arith, bit-lt kept q)))
 
   -- the members of a renamed set
   pub renamed-law : (m p : ℕ) → ((x : ℕ) → x ∈ kept → x < 32)

@@ -12,11 +12,12 @@ use Rattle.base.proofs.Totals.{total-rest}
 use Rattle.base.proofs.Lists.{length-listFrom}
 use Rattle.masks.specs.Masks.{bit, _∈_}
 use Rattle.masks.proofs.Laws.{members-below}
+use Rattle.masks.specs.Turns.{rank}
 use Rattle.automaton.specs.declared.Rule.{Rule}
 use Rattle.automaton.specs.Automaton.{Automaton, Arc, Run, stay, move}
 use Rattle.automaton.specs.Rules.{automatonOf, WellFormed}
 use Rattle.automaton.proofs.Values.{Within, same-value}
-use Rattle.reducing.specs.Reduced.{delegated, keptOf, rank, renamed, cellIn, reducedBy}
+use Rattle.reducing.specs.Reduced.{delegated, keptOf, renamed, cellIn, reducedBy}
 use Rattle.reducing.specs.Claims.{Lean}
 use Rattle.reducing.proofs.Quotient.{Quotient}
 use Rattle.reducing.proofs.Facts.{Choice, no-bit, closed, begun, first-kept, well-formed, quotient}

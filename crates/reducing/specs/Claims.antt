@@ -9,12 +9,16 @@
 --   Stands r q x     x stands for q: q is live, and x is the lowest reachable state alike to it
 --   Renumbered r n   what each number of the new rule n is, in words of the rule r: old p is the
 --                    old number of the new state p
+--   Becomes r n      the rule r becomes n: one state where r accepts no text; else n is a checked
+--                    value with the symbols of r, of which every state is reached, renumbered so
+--   Due r m          m is the answer that is due: the number of r's installation, with zeros; or a
+--                    rule that r becomes, and whether that one installs
 --   ReduceLaw r      all that is promised of reducing the value r
 use mathlib.Core.Path.{_≡_}
-use mathlib.Core.Logic.{_↔_}
-use mathlib.Core.Bool.{true, false}
+use mathlib.Core.Logic.{_↔_, _⊎_}
+use mathlib.Core.Bool.{Bool, true, false, cond}
 use mathlib.Core.List.{List}
-use mathlib.Core.Option.{none, some}
+use mathlib.Core.Option.{Option, none, some}
 use Prim.Native.Nat.{ℕ, _≤_, _<_}
 use lib.ListN.{length, replicate}
 use Rattle.limits.specs.Limits.{targetCells}
@@ -26,8 +30,8 @@ use Rattle.rulecheck.specs.Checking.{ruleNumber}
 use Rattle.ruleformat.specs.Claims.{AllZero}
 use Rattle.delegates.specs.Alike.{AcceptsFrom, Alike, Live}
 use Rattle.calls.specs.Calls.{installNumber}
-use Rattle.reducing.specs.Reducing.{reduceOf}
-use Rattle.reducing.specs.Worked.{reductions, Answered}
+use Rattle.reducing.specs.Reducing.{Reducing, refusedBy, reduceOf}
+use Rattle.reducing.specs.Worked.{fewSets, reductions, Answered}
 
 abbrev pub Nothing : Automaton → Type 0
 Nothing a = (w : List ℕ) → Accepts a w → ⊥
@@ -67,6 +71,23 @@ pub record Renumbered (r n : Rule) : Type 0 where
   -- it accepts what it did
   pub accepts : (p : ℕ) (w : List ℕ) → p < n .n → AcceptsFrom (automatonOf n) p w ↔ AcceptsFrom (automatonOf r) (old p) w
 
+pub record Anew (r n : Rule) : Type 0 where
+  pub cells : length (n .targets) ≡ targetCells
+  pub good : WellFormed n
+  pub symbols : n .k ≡ r .k
+  pub reached : (p : ℕ) → p < n .n → Reachable n p
+  pub renumbered : Renumbered r n
+
+abbrev pub Becomes : Rule → Rule → Type 0
+Becomes r n = (Nothing (automatonOf r) × (n ≡ emptyRule (r .k))) ⊎ ((w : List ℕ) × Accepts (automatonOf r) w × Anew r n)
+
+abbrev pub DueBy : Option ℕ → Rule → Bool → Rule → Type 0
+DueBy none r installs n = Becomes r n × ((installs ≡ true) ↔ (installNumber n ≡ none))
+DueBy (some x) r installs n = AllZero n × (installs ≡ false)
+
+abbrev pub Due : Rule → Reducing → Type 0
+Due r m = (m .number ≡ installNumber r) × DueBy (m .number) r (m .installs) (m .rule)
+
 pub record ReduceLaw (r : Rule) : Type 0 where
   -- refused as its installation is, with zeros then
   pub number : reduceOf r .number ≡ installNumber r
@@ -95,9 +116,18 @@ pub record ReduceLaw (r : Rule) : Type 0 where
   pub again : reduceOf r .number ≡ none → reduceOf (reduceOf r .rule) .number ≡ none
       → reduceOf (reduceOf r .rule) .rule ≡ reduceOf r .rule
   pub again-number : reduceOf r .number ≡ none → (x : ℕ) → reduceOf (reduceOf r .rule) .number ≡ some x → x ≡ 9
+  -- it is not refused exactly when it installs
+  pub again-exactly : (reduceOf (reduceOf r .rule) .number ≡ none) ↔ (reduceOf r .installs ≡ true)
 
 pub record Claims : Type 0 where
   -- rules reduced by hand, and refusals at the edges
   pub answered : Answered reductions
+  -- a rule that installs, though what it is reduced to has too many sets
+  pub more-sets : (installNumber fewSets ≡ none) × (installNumber (reduceOf fewSets .rule) ≡ some 9)
   -- reducing any value
   pub reducing : (r : Rule) → ReduceLaw r
+  -- all of it in one: the answer is the one that is due, and no other is
+  pub exactly : (r : Rule) (m : Reducing) → (reduceOf r ≡ m) ↔ Due r m
+  -- reduced once more, the whole answer is the same where the reduced rule installs, else 9
+  pub again-whole : (r : Rule) → reduceOf r .number ≡ none
+      → reduceOf (reduceOf r .rule) ≡ cond (reduceOf r .installs) (reduceOf r) (refusedBy 9)

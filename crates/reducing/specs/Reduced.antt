@@ -14,7 +14,8 @@
 --   reachedOf ts initials   the states that are reached from an initial state
 --   chosenOf d reached      the list in which the lowest reached state with the same delegate
 --                           stands for each reached state, and none for one that has none
---   rank kept q             how many states that stay are below q: the new number of q
+--                           (the new number of a state q is masks' rank kept q: how many states
+--                           that stay are below q)
 --   renamed kept m          the new numbers of the members of m that stay
 --   rowOf .. p s q          the new targets of the old state q where its new number is p, else none
 --   targetsOf .. p s        the targets of the new state p by the symbol s
@@ -28,9 +29,9 @@ use lib.Bits.{bitAnd, bitOr}
 use lib.Dec.{eqb, ltb}
 use lib.ListN.{getD}
 use Rattle.base.specs.Lists.{listFrom}
-use Rattle.base.specs.Totals.{total}
 use Rattle.limits.specs.Limits.{mostStates, noDelegate, mostSymbols, targetCells}
-use Rattle.masks.specs.Masks.{bit, has, single, union}
+use Rattle.masks.specs.Masks.{has, single, union}
+use Rattle.masks.specs.Turns.{rank, turns}
 use Rattle.automaton.specs.declared.Rule.{Rule}
 use Rattle.automaton.specs.Rules.{targetMask}
 use Rattle.automaton.specs.Successor.{successor}
@@ -49,9 +50,8 @@ delegated d m = union (λ q. ofDelegate single (delegateIn d q)) m mostStates
 abbrev pub onward : List ℕ → List ℕ → ℕ → ℕ
 onward ts d m = bitOr m (gather (λ s. delegated d (successor ts m s)) mostSymbols)
 
-unfoldable pub rounds : List ℕ → List ℕ → ℕ → ℕ → ℕ
-rounds ts d m zero = m
-rounds ts d m (suc i) = onward ts d (rounds ts d m i)
+abbrev pub rounds : List ℕ → List ℕ → ℕ → ℕ → ℕ
+rounds ts d m i = turns (onward ts d) m i
 
 abbrev pub keptOf : List ℕ → List ℕ → ℕ → ℕ
 keptOf ts d initials = rounds ts d (delegated d initials) mostStates
@@ -72,9 +72,6 @@ abbrev pub chosenOf : List ℕ → ℕ → List ℕ
 chosenOf d reached = listFrom 0 mostStates (chosenCell d reached)
 
 -- ---- their new numbers
-abbrev pub rank : ℕ → ℕ → ℕ
-rank kept q = total (bit kept) q
-
 abbrev pub renamed : ℕ → ℕ → ℕ
 renamed kept m = union (λ q. single (rank kept q)) (bitAnd kept m) mostStates
 

@@ -3,20 +3,26 @@
 --
 --   arcs masks         a table for the symbol 0: the mask of state 0, of state 1, ..
 --   also q s m masks   the same table with the mask m for the state q and the symbol s
+--   ring q i masks     the masks of a ring, in which q leads to q + 1, .. and q + i back to q; and
+--                      then others
 --   once, twice        the texts 0, and 0 0: a state leads to the next, and the last is final
+--   twiceOrThrice      the texts 0 0 and 0 0 0: the same, and the last two of four states are final
 --   odd                the texts of odd length: 0 and 1 lead to each other, and 1 is final
 --   even               the texts with an even number of 0s: 0, which is initial and final, and 1
 --                      lead to each other by 0, and each to itself by 1
---   notReached, dead, lowerNotReached, second, alike, noText   rules that are not lean
+--   notReached, dead, lowerNotReached, second, alike, behindMerged, noText
+--                      rules that are not lean
+--   fewSets, manySets  a rule with 99 sets, and what it is reduced to, with more than 512
 --   reducedTo r        accepted with the rule r, which installs
+--   tooLarge r         accepted with the rule r, which does not
 --   case r m           the rule r, reduced, comes to m
 --   reductions         the list
 --   Answered cases     each comes to what stands beside it
 use mathlib.Core.Path.{_≡_}
-use mathlib.Core.Bool.{true}
+use mathlib.Core.Bool.{true, false}
 use mathlib.Core.List.{List, [], _∷_}
 use mathlib.Core.Option.{none}
-use Prim.Native.Nat.{ℕ, suc}
+use Prim.Native.Nat.{ℕ, zero, suc, _^_}
 use lib.ListN.{set}
 use Rattle.automaton.specs.declared.Rule.{Rule}
 use Rattle.automaton.specs.Rules.{cellOf}
@@ -34,11 +40,21 @@ arcs masks = arcsFrom 0 masks
 abbrev pub also : ℕ → ℕ → ℕ → List ℕ → List ℕ
 also q s mask table = set table (cellOf q s) mask
 
+abbrev pub row : ℕ → ℕ → List ℕ → List ℕ
+row q zero masks = masks
+row q (suc i) masks = 2 ^ suc q ∷ row (suc q) i masks
+
+abbrev pub ring : ℕ → ℕ → List ℕ → List ℕ
+ring q i masks = row q i (2 ^ q ∷ masks)
+
 abbrev pub once : Rule
 once = rule 2 1 1 2 (arcs (2 ∷ []))
 
 abbrev pub twice : Rule
 twice = rule 3 1 1 4 (arcs (2 ∷ 4 ∷ []))
+
+abbrev pub twiceOrThrice : Rule
+twiceOrThrice = rule 4 1 1 12 (arcs (2 ∷ 4 ∷ 8 ∷ []))
 
 abbrev pub odd : Rule
 odd = rule 2 1 1 2 (arcs (2 ∷ 1 ∷ []))
@@ -69,12 +85,30 @@ second = rule 3 2 2 2 (also 1 1 2 (also 2 1 4 (arcs (4 ∷ 4 ∷ 2 ∷ []))))
 abbrev pub alike : Rule
 alike = rule 4 1 7 8 (arcs (8 ∷ 2 ∷ 8 ∷ 4 ∷ []))
 
+-- 0 leads to 1 and 2; 1 to 3, which is final and leads to 4; 2 to 4, which is final, and to 5,
+-- which leads to 4. So 1 is alike to 2, and 5 to none
+abbrev pub behindMerged : Rule
+behindMerged = rule 6 1 1 24 (arcs (6 ∷ 8 ∷ 48 ∷ 16 ∷ 0 ∷ 16 ∷ []))
+
 -- 0 leads to 0 and 1, and 1 to 0; 2, which is final, is not reached
 abbrev pub noText : Rule
 noText = rule 3 1 1 4 (arcs (3 ∷ 1 ∷ []))
 
+-- 0 leads to 9, which is final and leads to itself, and into rings of 3 and of 5 states, 1 to 3 and 4
+-- to 8; 10 leads to 26, which leads to 9, and into rings of 7 and of 8, 11 to 17 and 18 to 25. The
+-- last of each ring is final. So 26 is alike to 0, and 10 leads to 0 then: from there all four rings
+-- come round together after 840 symbols, and two of them did after 56
+abbrev pub fewSets : Rule
+fewSets = rule 27 1 1025 33686280 (arcs (530 ∷ ring 1 2 (ring 4 4 (512 ∷ 67373056 ∷ ring 11 6 (ring 18 7 (512 ∷ []))))))
+
+abbrev pub manySets : Rule
+manySets = rule 26 1 1025 33686280 (arcs (530 ∷ ring 1 2 (ring 4 4 (512 ∷ 264193 ∷ ring 11 6 (ring 18 7 [])))))
+
 abbrev pub reducedTo : Rule → Reducing
 reducedTo r = record { number = none; installs = true; rule = r }
+
+abbrev pub tooLarge : Rule → Reducing
+tooLarge r = record { number = none; installs = false; rule = r }
 
 pub data Case : Type 0 where
   case : Rule → Reducing → Case
@@ -89,10 +123,15 @@ reductions =
     case second (reducedTo even) ∷
     -- 0 stands for itself and 2
     case alike (reducedTo odd) ∷
+    -- 1 stands for 2, and 5 goes, to which 2 alone led
+    case behindMerged (reducedTo twiceOrThrice) ∷
     -- one state is left
     case noText (reducedTo (rule 1 1 0 0 noTargets)) ∷
     -- lean
     case even (reducedTo even) ∷
+    -- the reduced rule does not install, and is refused itself
+    case fewSets (tooLarge manySets) ∷
+    case manySets (refusedBy 9) ∷
     -- no states, no symbols, a state 1 among the initial ones, and one among the targets
     case (rule 0 1 0 0 noTargets) (refusedBy 3) ∷
     case (rule 1 0 0 0 noTargets) (refusedBy 4) ∷

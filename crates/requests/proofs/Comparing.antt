@@ -7,7 +7,8 @@
 --   Only, Apart, FirstApart      one rule alone accepts; the first text  compare/specs/Compared
 --   Same, ManyPairs, Searched    no such text; too many pairs; neither   compare/specs/Compared
 --   pairNumber one two           3, 4, 6, 8 of either rule, and 36       compare/specs/Compared
---   exchanged a                  the rules' names exchanged              compare/specs/Compared
+--   exchanged a, otherRule       the rules' names exchanged              compare/specs/Compared
+--   ofRule which x y             what belongs to the named rule          compare/specs/Compared
 --   setAfter r w                 the set that a text leads to            samples/specs/Samples
 --   NoLater, Sooner, Lex         the order of texts                      numbering/specs/Texts
 --   Accepts, Run, Equivalent     automata and their runs (000)           automaton/specs/Automaton
@@ -28,7 +29,7 @@ use mathlib.Core.Path.{_≡_, refl, sym, ap, _∙_, subst}
 use mathlib.Core.Logic.{_↔_, _⊎_, inl, inr, ⊎-elim}
 use mathlib.Core.Bool.{true}
 use mathlib.Core.List.{List}
-use mathlib.Core.Option.{some}
+use mathlib.Core.Option.{none, some}
 use Prim.Native.Nat.{ℕ, _≤_, _<_}
 use lib.ListN.{length}
 use Rattle.masks.specs.Masks.{_∈_}
@@ -47,9 +48,9 @@ use Rattle.numbering.specs.Texts.{Lex}
 use Rattle.searches.specs.Texts.{longestText}
 use Rattle.samples.specs.Samples.{setAfter}
 use Rattle.compare.specs.declared.Which.{Which}
-use Rattle.compare.specs.declared.Which.the-variants.{First}
+use Rattle.compare.specs.declared.Which.the-variants.{First, Second}
 use Rattle.compare.specs.declared.CompareResult.{CompareResult}
-use Rattle.compare.specs.Compared.{Only, Apart, FirstApart, Same, ManyPairs, Searched, Comparison, apart, same, refused, exchanged, Due}
+use Rattle.compare.specs.Compared.{Only, Apart, FirstApart, Same, ManyPairs, pairNumber, Searched, Comparison, apart, same, refused, otherRule, exchanged, ofRule, Due}
 use Rattle.compare.specs.Values.{noText, Outcome, compareOutcome, Carries, outcomeOf, comparisonIn}
 use Rattle.compare.specs.Values as values
 use Rattle.compare.specs.Search.{compareOf}
@@ -128,6 +129,10 @@ symmetric = compare.claims .symmetric
 pub set-reached : (r : Rule) → WellFormed r → (w : List ℕ) (p : ℕ) → p ∈ setAfter r w ↔ Reached (automatonOf r) (r .initials) w p
 set-reached r good w p = automaton.claims .after-law r good (r .initials) p w (good .initials-below)
 
+-- No number comes before the search exactly where both rules are checked and have the same k:
+pub passed : (one two : Rule) → (pairNumber one two ≡ none) ↔ (WellFormed one × WellFormed two × (one .k ≡ two .k))
+passed = compare.claims .passed
+
 -- Refused, in this order: the first rule's 3, 4, 6, 8, then the second's, 36 for different k, 45 for too
 -- many pairs, and with no other number.
 pub numbers : (one two : Rule) → Refused-exactly one two
@@ -142,9 +147,15 @@ pub forty-five : (one two : Rule)
     → (compareOf one two ≡ refused 45) ↔ (WellFormed one × WellFormed two × (one .k ≡ two .k) × ManyPairs one two)
 forty-five one two = numbers one two .number-45
 
--- else the answer is the first difference, or the same.
-pub else-told : (one two : Rule) → ((x : ℕ) → compareOf one two ≡ refused x → ⊥) ↔ Searched one two
-else-told = compare.claims .searched
+-- else, which is where the two are searched,
+pub not-refused : (one two : Rule) → ((x : ℕ) → compareOf one two ≡ refused x → ⊥) ↔ Searched one two
+not-refused = compare.claims .searched
+
+-- the answer is the first difference, or the same.
+pub else-told : (one two : Rule) → Searched one two
+    → ((which : Which) × (w : List ℕ) × FirstApart one two which w × (compareOf one two ≡ apart which w))
+    ⊎ (Same one two × (compareOf one two ≡ same))
+else-told = compare.claims .either
 
 -- R-3: "a refused call .. carries zeros":
 pub zeros : (one two : Rule) (x : ℕ) → compareOf one two ≡ refused x → outcomeOf (compareOf one two) ≡ noText (values.refused x)
@@ -171,7 +182,8 @@ told-to-C one two r m = ap (λ (n : CompareNumbers). comparisonIn (comparisonRea
 
 -- ---- FROM A COMPARISON TO VERDICTS
 -- Two boards with no empty place, one under each rule, on which the standing chunks without their idle
--- marks are the same text. Where the rules are the same, both verdicts are yes or neither is.
+-- marks are the same text. Where the rules are the same, both verdicts are yes or neither is, and
+-- both are no or neither is.
 module _ (one two : Rule) (h g : List Call) (rule : ruleIn h ≡ one) (other : ruleIn g ≡ two) (board : boardIn h ≡ true) (full : emptiesIn h ≡ 0)
     (board-too : boardIn g ≡ true) (full-too : emptiesIn g ≡ 0) where
   yes-under-one : (verdictIn h ≡ yesWith (summedIn h)) ↔ Accepts (automatonOf one) (textIn h)
@@ -180,19 +192,34 @@ module _ (one two : Rule) (h g : List Call) (rule : ruleIn h ≡ one) (other : r
   yes-under-two : (verdictIn g ≡ yesWith (summedIn g)) ↔ Accepts (automatonOf two) (textIn g)
   yes-under-two = subst (λ (x : Rule). (verdictIn g ≡ yesWith (summedIn g)) ↔ Accepts (automatonOf x) (textIn g)) other (every-list g .verdict .accepts board-too full-too)
 
-  pub judged-alike : compareOf one two ≡ same → textIn h ≡ textIn g → (verdictIn h ≡ yesWith (summedIn h)) ↔ (verdictIn g ≡ yesWith (summedIn g))
+  no-under-one : (verdictIn h ≡ noWith (summedIn h)) ↔ (Accepts (automatonOf one) (textIn h) → ⊥)
+  no-under-one = subst (λ (x : Rule). (verdictIn h ≡ noWith (summedIn h)) ↔ (Accepts (automatonOf x) (textIn h) → ⊥)) rule (every-list h .verdict .rejects board full)
+
+  no-under-two : (verdictIn g ≡ noWith (summedIn g)) ↔ (Accepts (automatonOf two) (textIn g) → ⊥)
+  no-under-two = subst (λ (x : Rule). (verdictIn g ≡ noWith (summedIn g)) ↔ (Accepts (automatonOf x) (textIn g) → ⊥)) other (every-list g .verdict .rejects board-too full-too)
+
+  pub judged-alike : compareOf one two ≡ same → textIn h ≡ textIn g
+      → ((verdictIn h ≡ yesWith (summedIn h)) ↔ (verdictIn g ≡ yesWith (summedIn g)))
+      × ((verdictIn h ≡ noWith (summedIn h)) ↔ (verdictIn g ≡ noWith (summedIn g)))
   judged-alike e is =
       let law : Accepts (automatonOf one) (textIn h) ↔ Accepts (automatonOf two) (textIn g) =
-      subst (λ (w : List ℕ). Accepts (automatonOf one) (textIn h) ↔ Accepts (automatonOf two) w) is (alike one two .0 e .1 (textIn h)) in
-      ((λ v. yes-under-two .1 (law .0 (yes-under-one .0 v))), λ v. yes-under-one .1 (law .1 (yes-under-two .0 v)))
+      subst (λ (w : List ℕ). Accepts (automatonOf one) (textIn h) ↔ Accepts (automatonOf two) w) is (alike one two .0 e .1 (textIn h)) in (
+        ((λ v. yes-under-two .1 (law .0 (yes-under-one .0 v))), λ v. yes-under-one .1 (law .1 (yes-under-two .0 v))),
+        ((λ v. no-under-two .1 (λ a. no-under-one .0 v (law .1 a))), λ v. no-under-one .1 (λ a. no-under-two .0 v (law .0 a))),
+      )
 
-  -- Where the text is the one that the first rule alone accepts, it is yes under this and no under the
-  -- other.
-  pub judged-apart : (w : List ℕ) → compareOf one two ≡ apart First w → textIn h ≡ w → textIn g ≡ w
-      → (verdictIn h ≡ yesWith (summedIn h)) × (verdictIn g ≡ noWith (summedIn g))
-  judged-apart w e is is-too =
+  -- Where the text is the one that is answered, it is yes under the rule that is named and no under
+  -- the other.
+  pub judged-apart : (which : Which) (w : List ℕ) → compareOf one two ≡ apart which w → textIn h ≡ w → textIn g ≡ w
+      → (verdictIn (ofRule which h g) ≡ yesWith (summedIn (ofRule which h g)))
+      × (verdictIn (ofRule (otherRule which) h g) ≡ noWith (summedIn (ofRule (otherRule which) h g)))
+  judged-apart First w e is is-too =
       let only = named one two First w e .1 in (
         yes-under-one .1 (subst (Accepts (automatonOf one)) (sym is) (only .0)),
-        every-list g .verdict .rejects board-too full-too .1
-            (λ a. only .1 (subst (Accepts (automatonOf two)) is-too (subst (λ (x : Rule). Accepts (automatonOf x) (textIn g)) other a))),
+        no-under-two .1 (λ a. only .1 (subst (Accepts (automatonOf two)) is-too a)),
+      )
+  judged-apart Second w e is is-too =
+      let only = named one two Second w e .1 in (
+        yes-under-two .1 (subst (Accepts (automatonOf two)) (sym is-too) (only .0)),
+        no-under-one .1 (λ a. only .1 (subst (Accepts (automatonOf one)) is a)),
       )

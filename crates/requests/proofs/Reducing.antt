@@ -5,8 +5,9 @@
 --   Stands r q x               x is the lowest reachable state alike to q  reducing/specs/Claims
 --   Renumbered r n             what each number of n is, in words of r     reducing/specs/Claims
 --   Reachable, Lean, Nothing   of states, of rules, of automata            reducing/specs/Claims
+--   Becomes r n; Due r m       what r becomes; the answer that is due      reducing/specs/Claims
 --   emptyRule k                one state, and all masks 0                  reducing/specs/Claims
---   reductions, Answered       rules reduced by hand                       reducing/specs/Worked
+--   reductions, Answered       rules reduced by hand, fewSets among them   reducing/specs/Worked
 --   Live, Alike                of states (R-7)                             delegates/specs/Alike
 --   installNumber r            3, 4, 6, 8, 9 of an installation            calls/specs/Calls
 --   ruleNumber r               3, 4, 6, 8 of a rule as a value (R-3)       rulecheck/specs/Checking
@@ -19,12 +20,12 @@
 --   verdictIn h, textIn h      what 01 says of a list of calls             histories/specs/History
 --
 -- r is any value, in which any numbers may stand. How the reduced rule is found
--- (reducing/specs/Reduced) need not be believed: its words, and `only` and `nothing`, fix every
--- number of it. It is not the smallest automaton that accepts these texts. A proved function ends
+-- (reducing/specs/Reduced) need not be believed: `due` says that it is the answer of the words, and
+-- no other is. It is not the smallest automaton that accepts these texts. A proved function ends
 -- and stays within its bounds. Assumes nothing.
 use mathlib.Core.Path.{_≡_, sym, ap, _∙_, subst}
 use mathlib.Core.Logic.{_↔_}
-use mathlib.Core.Bool.{true, false}
+use mathlib.Core.Bool.{true, false, cond}
 use mathlib.Core.List.{List}
 use mathlib.Core.Option.{none, some}
 use Prim.Native.Nat.{ℕ, _≤_, _<_}
@@ -43,9 +44,9 @@ use Rattle.histories.proofs.EveryList.{every-list}
 use Rattle.fillings.specs.Filled.{Filled}
 use Rattle.fillings.proofs.Boards as boards
 use Rattle.reducing.specs.declared.ReduceResult.{ReduceResult}
-use Rattle.reducing.specs.Reducing.{reduceOutcome, reduceOf}
-use Rattle.reducing.specs.Worked.{reductions, Answered}
-use Rattle.reducing.specs.Claims.{Nothing, emptyRule, Reachable, Lean, Renumbered, ReduceLaw}
+use Rattle.reducing.specs.Reducing.{Reducing, refusedBy, reduceOutcome, reduceOf}
+use Rattle.reducing.specs.Worked.{fewSets, reductions, Answered}
+use Rattle.reducing.specs.Claims.{Nothing, emptyRule, Reachable, Lean, Renumbered, Due, ReduceLaw}
 use Rattle.reducing.proofs.Claims as reducing
 use Rattle.c_reduce.specs.declared.ReduceNumbers.{ReduceNumbers}
 use Rattle.c_reduce.specs.Numbers.{reduceShown, reduceReadBack}
@@ -57,6 +58,10 @@ use Rattle.requests.specs.ReduceFunction.{AsksReduce, MayReduce, AsksRed
 -- All that is promised of it, in one place; the sentences below are its parts:
 pub reducing-law : (r : Rule) → ReduceLaw r
 reducing-law = reducing.claims .reducing
+
+-- The whole in one line: the answer is the one that is due, and none but that is due;
+pub due : (r : Rule) (m : Reducing) → (reduceOf r ≡ m) ↔ Due r m
+due = reducing.claims .exactly
 
 -- and rules worked by hand come to what stands beside them:
 pub by-hand : Answered reductions
@@ -116,6 +121,15 @@ module _ (r : Rule) (e : reduceOf r .number ≡ none) where
   pub again-number : (x : ℕ) → reduceOf (reduceOf r .rule) .number ≡ some x → x ≡ 9
   again-number = reducing-law r .again-number e
 
+  -- In one equation: reduced once more the whole answer stays where the reduced rule installs, and
+  -- it is refused with 9 where it does not.
+  pub again-whole : reduceOf (reduceOf r .rule) ≡ cond (reduceOf r .installs) (reduceOf r) (refusedBy 9)
+  again-whole = reducing.claims .again-whole r e
+
+-- The second is not refused exactly when the first says that its rule installs.
+pub again-exactly : (r : Rule) → (reduceOf (reduceOf r .rule) .number ≡ none) ↔ (reduceOf r .installs ≡ true)
+again-exactly r = reducing-law r .again-exactly
+
 -- It is a value of the type, whatever is answered.
 pub cells : (r : Rule) → length (reduceOf r .rule .targets) ≡ targetCells
 cells r = reducing-law r .cells
@@ -129,7 +143,11 @@ pub zeros : (r : Rule) (x : ℕ) → reduceOf r .number ≡ some x → AllZero (
 zeros r = reducing-law r .zeros
 
 -- "a reduced rule can have more sets than the rule it came from, so that installing may refuse it
--- with 9. The answer carries whether the result installs":
+-- with 9": here is one that installs, and its reduction does not.
+pub more-sets : (installNumber fewSets ≡ none) × (installNumber (reduceOf fewSets .rule) ≡ some 9)
+more-sets = reducing.claims .more-sets
+
+-- "The answer carries whether the result installs":
 pub installs-exactly : (r : Rule) → (reduceOf r .installs ≡ true) ↔ (installNumber (reduceOf r .rule) ≡ none)
 installs-exactly r = reducing-law r .installs-exactly
 
@@ -140,6 +158,10 @@ asks-nothing r = tt
 
 pub allowed : (r : Rule) (m : ReduceResult) → MayReduce r m ↔ (reduceOutcome m ≡ reduceOf r)
 allowed r m = ((λ x. x .1), λ e. ((r, tt), e))
+
+pub allowed-due : (r : Rule) (m : ReduceResult) → MayReduce r m ↔ Due r (reduceOutcome m)
+allowed-due r m =
+    let law = due r (reduceOutcome m) in ((λ x. law .0 (sym (allowed r m .0 x))), λ d. allowed r m .1 (sym (law .1 d)))
 
 -- and so may the function that C links, in numbers of which nothing is lost.
 pub asks-nothing-from-C : (r : Rule) → AsksReduceC r

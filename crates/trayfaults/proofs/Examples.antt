@@ -14,6 +14,7 @@ use Rattle.base.specs.Conditions.{firstOf, anyBelow}
 use Rattle.base.specs.Options.{isNone}
 use Rattle.base.proofs.Tests.{not-both}
 use Rattle.masks.specs.Masks.{union, maskOf}
+use Rattle.masks.specs.Turns.{turns}
 use Rattle.automaton.specs.declared.Rule.{Rule}
 use Rattle.rulecheck.specs.Checking.{badTargets}
 use Rattle.numbering.specs.Numbering.{indexOf, numbered, expandFrom, closeFrom, keysUpTo}
@@ -21,7 +22,6 @@ use Rattle.subsets.specs.Sets.{setsOf, tooMany}
 use Rattle.chunks.specs.Chunks.{foreign}
 use Rattle.calls.specs.Calls.{installNumber}
 use Rattle.histories.specs.History.{ruleFrom}
-use Rattle.live.specs.Live.{within}
 use Rattle.trays.specs.Rows.{rowsOf, rowsUpTo, columnOf}
 use Rattle.trays.specs.Calls.{Call, installsRow, installsColumn, opens, delivers, withdraws, asksVerdict, openConditions}
 use Rattle.trayhistories.specs.History.{rowThere, columnThere, Size, boardThere, widthFrom, bandsFrom, deliverCheck, withdrawCheck, standing, rowsFrom}
@@ -141,7 +141,7 @@ due [] = []
 due (case row column calls f ∷ cases) = f ∷ due cases
 
 told : given lists ≡ due lists
-unfolding union foreign rowsOf rowsUpTo columnOf anyBelow maskOf within firstFound
+unfolding union foreign rowsOf rowsUpTo columnOf anyBelow maskOf turns firstFound
 told = refl
 
 one-by-one : (cases : List Case) → Ready cases → given cases ≡ due cases → Answered cases

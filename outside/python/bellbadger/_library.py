@@ -5,7 +5,7 @@ import os
 from pathlib import Path
 
 # what this package was written for, as outside/c/bellbadger.h has it; a higher minor number fits too
-_MAJOR, _MINOR = 5, 6
+_MAJOR, _MINOR = 5, 7
 
 _HELP = "Make it, at the top of the repository, with: outside/build, or name the folder that has it in BELLBADGER_LIB."
 

@@ -28,12 +28,12 @@
 //! # Ok::<(), Refused>(())
 //! ```
 //!
-//! A rule file can be read without a judge ([`read`]); what comes of it is a [`CheckedRule`], to look at
-//! and to install into any number of judges. The first text that a rule accepts, or the first that it
-//! rejects, is its sample ([`samples::sample`]). A shop owner writes a pattern, from which
-//! [`patterns::rule_file`] makes the file. Two rules can be made one ([`merge::merge`]).
-//! [`texts::make_text`] makes test texts. For a smaller table on a nozzle board there is the failure form
-//! ([`form::form`]).
+//! A rule file can be read without a judge ([`read`]); what comes of it is a [`CheckedRule`], to
+//! look at and to install into any number of judges. The first text that a rule accepts, or the
+//! first that it rejects, is its sample ([`samples::sample`]). A shop owner writes a pattern, from
+//! which [`patterns::rule_file`] makes the file. Two rules can be made one ([`merge::merge`], with
+//! fewer states [`merge::merge_reduced`]). [`texts::make_text`] makes test texts. For a smaller
+//! table on a nozzle board there is the failure form ([`form::form`]).
 //!
 //! Whether a changed rule still means the same, and if not the first text on which the two differ, is told
 //! by [`compare::compare`]. A rule can be made smaller without changing what it accepts ([`reduce::reduce`]).

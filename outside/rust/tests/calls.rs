@@ -136,6 +136,7 @@ fn on_a_stack_of_1_mb() {
         );
         assert_eq!(patterns::rule_file(b"(a|b)*ab")?.len(), 50);
         assert_eq!(merge::merge(merge::Way::Either, &rule, &rule)?.n, 6);
+        assert_eq!(merge::merge_reduced(merge::Way::Either, &rule, &rule)?.n, 3);
         assert!(compare::compare(&rule, &rule)?.is_same());
         assert_eq!(reduce::reduce(&rule)?.rule, rule);
         let made = form::form(&judge)?;
@@ -303,5 +304,5 @@ fn what_a_judge_shows() {
     assert!(judge.load(&A).is_ok() && judge.open(2).is_ok() && judge.deliver(1, 0, &[]).is_ok());
     let shown = "Judge { states: 3, symbols: 2, sets: 5, starts: 3, places: 2, filled: 1, .. }";
     assert_eq!(format!("{judge:?}"), shown);
-    assert_eq!(version(), (5, 6));
+    assert_eq!(version(), (5, 7));
 }

@@ -3,8 +3,9 @@ use mathlib.Core.Path.{_≡_, refl, sym, ap, _∙_}
 use Prim.Native.Nat.{_≤_, _-_}
 use native.Mathlib.Omega.{arith}
 use borrow.Author.Needs.{needs}
-use Rattle.live.specs.Live.{within}
-use Rattle.live.proofs.Backwards.{within-more, within-whole}
+use Rattle.masks.specs.Turns.{turns}
+use Rattle.masks.proofs.Turns.{turns-more, turns-whole}
+use Rattle.live.specs.Live.{backTo, within}
 use Rattle.live.proofs.live_states.Statement.{statement}
 use Rattle.live.proofs.live_states.Tie as tie
 
@@ -15,7 +16,7 @@ abbrev μ-loop : tie.MeasureT-loop
 μ-loop targets finals live₀ i₀ live i = 32 - i
 
 loop-holds : tie.Need-loop-holds Inv-loop μ-loop
-unfolding within
+unfolding turns
 loop-holds c = (omega arith, refl)
 
 back-to-requires : tie.Need-back-to-requires Inv-loop μ-loop
@@ -25,7 +26,7 @@ returns : tie.Need-returns Inv-loop μ-loop
 returns c =
     let l = c .before .before .before .loop in
     let a = c .before .before .before .before .args in
-    within-whole (a .targets .now) (a .finals) (l .i) (l .live) (l .inv .1) (l .inv .0) (sym (c .before .back-to .ensures) ∙ c .if1 .taken)
+    turns-whole (backTo (a .targets .now)) (a .finals) 32 (l .i) (l .live) (l .inv .1) (l .inv .0) (sym (c .before .back-to .ensures) ∙ c .if1 .taken)
 
 add-i : tie.Need-add-i Inv-loop μ-loop
 add-i c = search needs
@@ -37,7 +38,7 @@ loop-again : tie.Need-loop-again Inv-loop μ-loop
 loop-again c =
     let l = c .before .before .before .loop in
     let a = c .before .before .before .before .args in
-    (omega arith, c .before .back-to .ensures ∙ within-more (a .targets .now) (a .finals) (l .i) (l .live) (l .inv .1))
+    (omega arith, c .before .back-to .ensures ∙ turns-more (backTo (a .targets .now)) (a .finals) (l .i) (l .live) (l .inv .1))
 
 returns-2 : tie.Need-returns-2 Inv-loop μ-loop
 returns-2 c =

@@ -1,17 +1,17 @@
 -- `nth` meets its contract. Assumes nothing.
 use mathlib.Core.Path.{_≡_, refl, sym, ap, _∙_}
 use mathlib.Core.Logic.{⊎-elim}
-use mathlib.Core.Bool.{Bool, _&&_}
+use mathlib.Core.Bool.{_&&_}
 use Prim.Native.Nat.{ℕ, _+_, _-_, _≤_, _<_}
 use native.Mathlib.Omega.{arith}
 use borrow.Author.Needs.{needs}
 use lib.Dec.{eqb}
 use Rattle.base.specs.Totals.{total}
 use Rattle.masks.specs.Masks.{has}
+use Rattle.masks.specs.Turns.{rank}
+use Rattle.masks.proofs.Turns.{rank-most}
 use Rattle.delegates.specs.Classes.{firstFrom}
 use Rattle.delegates.proofs.Tests.{first-here, first-past, first-end}
-use Rattle.reducing.specs.Reduced.{rank}
-use Rattle.reducing.proofs.Ranks.{rank-most}
 use Rattle.reduce.proofs.Ways.{count-more, count-skip}
 use Rattle.mergereduce.specs.Trimmed.{nth}
 use Rattle.mergereduced.specs.Asked.{setIn}

@@ -3,8 +3,9 @@ use mathlib.Core.Path.{_≡_, refl, sym, ap, _∙_}
 use Prim.Native.Nat.{_≤_, _-_}
 use native.Mathlib.Omega.{arith}
 use borrow.Author.Needs.{needs}
-use Rattle.reducing.specs.Reduced.{delegated, rounds}
-use Rattle.reducing.proofs.Rounds.{rounds-more, rounds-whole}
+use Rattle.masks.specs.Turns.{turns}
+use Rattle.masks.proofs.Turns.{turns-more, turns-whole}
+use Rattle.reducing.specs.Reduced.{delegated, onward, rounds}
 use Rattle.reduce.proofs.kept.Statement.{statement}
 use Rattle.reduce.proofs.kept.Tie as tie
 
@@ -18,7 +19,7 @@ delegated-requires : tie.Need-delegated-requires Inv-loop μ-loop
 delegated-requires c κs = search needs
 
 loop-holds : tie.Need-loop-holds Inv-loop μ-loop
-unfolding rounds
+unfolding turns
 loop-holds c = (omega arith, c .delegated .ensures)
 
 onward-requires : tie.Need-onward-requires Inv-loop μ-loop
@@ -28,7 +29,7 @@ returns : tie.Need-returns Inv-loop μ-loop
 returns c =
     let l = c .before .before .before .loop in
     let a = c .before .before .before .before .before .args in
-    rounds-whole (a .targets .now) (a .delegates .now) (delegated (a .delegates .now) (a .initials)) (l .i) (l .set) (l .inv .1) (l .inv .0)
+    turns-whole (onward (a .targets .now) (a .delegates .now)) (delegated (a .delegates .now) (a .initials)) 32 (l .i) (l .set) (l .inv .1) (l .inv .0)
     (sym (c .before .onward .ensures) ∙ c .if1 .taken)
 
 add-i : tie.Need-add-i Inv-loop μ-loop
@@ -43,7 +44,7 @@ loop-again c =
     let a = c .before .before .before .before .before .args in (
       omega arith,
       c .before .onward .ensures
-          ∙ rounds-more (a .targets .now) (a .delegates .now) (delegated (a .delegates .now) (a .initials)) (l .i) (l .set) (l .inv .1),
+          ∙ turns-more (onward (a .targets .now) (a .delegates .now)) (delegated (a .delegates .now) (a .initials)) (l .i) (l .set) (l .inv .1),
     )
 
 returns-2 : tie.Need-returns-2 Inv-loop μ-loop

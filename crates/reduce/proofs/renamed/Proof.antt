@@ -7,7 +7,7 @@ use native.Mathlib.Omega.{arith}
 use lib.Bits.{bitAnd}
 use borrow.Author.Needs.{needs}
 use Rattle.masks.specs.Masks.{single, union}
-use Rattle.reducing.specs.Reduced.{rank}
+use Rattle.masks.specs.Turns.{rank}
 use Rattle.reduce.proofs.Ways.{count-low, more, skip}
 use Rattle.reduce.proofs.renamed.Statement.{statement}
 use Rattle.reduce.proofs.renamed.Tie as tie
