@@ -1,7 +1,7 @@
 -- Table P about the code that runs: the replies and the state are any that the functions' own
 -- contracts allow for the calls of a case, of every library that meets the judge's definitions.
 -- Assumes nothing.
-use mathlib.Core.Path.{_≡_, refl, sym, subst₂}
+use mathlib.Core.Path.{refl, sym, subst₂}
 use mathlib.Core.List.{List}
 use Rattle.executions.specs.Executions.{Library, Meets}
 use Rattle.executions.proofs.Executions.{execution-law}
