@@ -4,9 +4,9 @@
 -- conditions stand over what a call looks at, so that they serve for a state and for a list of
 -- calls.
 --
---   Call               install, load, open, deliver, withdraw and verdict, with what they are given.
---                      A load is reading its file, which stands outside, and installing the rule
---                      where there is one (`LoadIs` of specs/Claims.antt)
+--   Call               install, load, open, deliver, withdraw and verdict, with what they are
+--                      given. A load is reading its file, which stands outside, and installing the
+--                      rule where there is one (`LoadIs` of specs/Claims.antt)
 --   manySets r         9: more than 512 sets are reached
 --   installNumber r    the number with which the installation of the rule r is refused, 3, 4, 6, 8
 --                      or 9, or none where it is accepted

@@ -8,8 +8,8 @@
 --   installOutcome, openOutcome, deliverOutcome, withdrawOutcome   the outcome that the code's
 --                                                                  result stands for
 --   withRule r, installReply r   the judge with the rule r and no board, and what is answered
---   installOf, loadOf, openOf, deliverOf, withdrawOf   the outcomes of the calls that may change the
---                      state; that of a load by document 01's numbers
+--   installOf, loadOf, openOf, deliverOf, withdrawOf   the outcomes of the calls that may change
+--                      the state; that of a load by document 01's numbers
 --   verdictOf          what the verdict says
 --   reportOf           what the call verdict reports
 --   stepOf j c         the outcome of the call c on the state j

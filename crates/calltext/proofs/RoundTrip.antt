@@ -1,5 +1,5 @@
--- Reading the line of a call gives the call again; and lines of installations and of deliveries that
--- are malformed. Assumes nothing.
+-- Reading the line of a call gives the call again; and lines of installations and of deliveries
+-- that are malformed. Assumes nothing.
 use mathlib.Core.Path.{_≡_, refl, ap, _∙_}
 use mathlib.Core.List.{List, [], _∷_, _++_}
 use mathlib.Core.Option.{none}

@@ -1,6 +1,6 @@
--- What a line means: `load HEX`, with a rule file, `install HEX`, `open N`, `deliver P REVISION HEX`,
--- `withdraw P` and `verdict` record a call, with exactly one space between the fields; an empty line
--- means a fresh judge. Any other line is malformed.
+-- What a line means: `load HEX`, with a rule file, `install HEX`, `open N`, `deliver P REVISION
+-- HEX`, `withdraw P` and `verdict` record a call, with exactly one space between the fields; an
+-- empty line means a fresh judge. Any other line is malformed.
 --
 --   Meaning            of a line
 --     again            a fresh judge begins

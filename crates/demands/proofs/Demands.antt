@@ -141,16 +141,17 @@ any-call = judge-meets .steps
 pub any-call-from-C : (j : Judge) (c : Call) (a : Reply) (next : Judge) → cLibrary .May j c a next ↔ (a ≡ stepOf j c .reply) × (next ≡ stepOf j c .state)
 any-call-from-C = c-meets .steps
 
--- A refusal leaves the state unchanged, a load's too. (Its number is the first condition's that holds:
--- demand 3. A file and a chunk are lent as `&[u8]`, which no function can write.)
+-- A refusal leaves the state unchanged, a load's too. (Its number is the first condition's that
+-- holds: demand 3. A file and a chunk are lent as `&[u8]`, which no function can write.)
 pub refusals : (j : Judge) (c : Call) (x : ℕ) → refusalOf (stepOf j c .reply) ≡ some x → stepOf j c .state ≡ j
 refusals = refusing.unchanged
 
 -- ---- 2. THE METHOD
 -- The rule that is there after a list of calls is that of the last accepted load or installation,
--- built; and its sets, next-set table and merged starts are those of source document 004, numbered in
--- document 01's order: of the automaton of each rule that an installation accepts. (A state from which no
--- final state can be reached has no delegate and is no start: document 02, R-7, narrows 004's so.)
+-- built; and its sets, next-set table and merged starts are those of source document 004, numbered
+-- in document 01's order: of the automaton of each rule that an installation accepts. (A state from
+-- which no final state can be reached has no delegate and is no start: document 02, R-7, narrows
+-- 004's so.)
 pub built : (h : List Call) → BuiltBy (ruleThere h) (judgeAfter h)
 built h = every-list h .after .rule
 
@@ -180,9 +181,10 @@ pub method-of-bytes : (f : List ℕ) → loadNumber f ≡ none → Method (autom
 method-of-bytes = histories-method.method-bytes
 
 -- ---- 3. EVERY LIST OF CALLS
--- For every list of calls from a fresh judge, loads, installations, openings, deliveries, withdrawals
--- and verdicts in any order, refused ones included: what the functions' own contracts allow is what the
--- definitions give, and that they allow. Of the judge's functions, and of those that C links:
+-- For every list of calls from a fresh judge, of loads, installations, openings, deliveries,
+-- withdrawals and verdicts in any order, refused ones included: what the functions' own contracts
+-- allow is what the definitions give, and that they allow. Of the judge's functions, and of those
+-- that C links:
 pub every-execution : (h : List Call) (rs : List Reply) (j : Judge) → Execution judgeLibrary h rs j ↔ (rs ≡ repliesTo h) × (j ≡ judgeAfter h)
 every-execution = execution-law judgeLibrary judgeMachine judge-meets
 
@@ -197,10 +199,11 @@ one-claim h rs j e =
     let is = ⊎-elim (every-execution h rs j .0) (every-execution-from-C h rs j .0) e in
     (is .0 ∙ every-list h .correct, is .1, every-list h)
 
--- What the reply to a verdict says, wherever in the list it is asked: yes exactly when the rule that is
--- there has an accepting run over the standing chunks, no exactly when it has none, both with no place
--- empty and with the sum of the counts; waiting with the number of empty places; or 21 without a board.
--- (A list has the last call first: as many replies are before this one as calls were made after it.)
+-- What the reply to a verdict says, wherever in the list it is asked: yes exactly when the rule that
+-- is there has an accepting run over the standing chunks, no exactly when it has none, both with no
+-- place empty and with the sum of the counts; waiting with the number of empty places; 21 without a
+-- board. (A list has the last call first: as many replies are before this one as calls were made
+-- after it.)
 pub verdict-says : (later earlier : List Call) (rs : List Reply) (j : Judge)
     → Execution judgeLibrary (later ++ (asksVerdict ∷ earlier)) rs j ⊎ Execution cLibrary (later ++ (asksVerdict ∷ earlier)) rs j
     → (a : Reply) × (getElem? rs (length later) ≡ some a) × VerdictSays earlier a
@@ -231,8 +234,8 @@ reading = rulefile.claims .reading
 pub as-installing : (r : Rule) (x : ℕ) → ruleNumber r ≡ some x → installNumber r ≡ some x
 as-installing = calls-loading.as-installing
 
--- Of what C links reading answers the number and the rule, zeros where it is refused. Nothing is asked
--- of it.
+-- Of what C links reading answers the number and the rule, zeros where it is refused. Nothing is
+-- asked of it.
 pub read-from-C-asks-nothing : (κs : Lfts 1) (c : RefT (List ℕ)) → read-reads.Asked κs (c, tt)
 read-from-C-asks-nothing = capi-asks.read-asks-nothing
 
@@ -351,10 +354,10 @@ divided h = every-list h .report .divided
 pub zeros : (h : List Call) (x : ℕ) → (verdictIn h ≡ waiting x) ⊎ (verdictIn h ≡ refusedWith x) → ThreeZeros (reportIn h)
 zeros h = every-list h .report .zeros
 
--- Table P, over one list of cases, from the bytes of the files, through the functions: whatever they
--- allow for the calls of a case, its load the first, is answered and leaves what the case says, and
--- they allow it. Of the judge's functions, and of those that C links. (The last case of the list is
--- one more, worked by hand.)
+-- Table P, over one list of cases, from the bytes of the files, through the functions: whatever
+-- these allow for the calls of a case, of which the load is the first, the replies and the judge are
+-- as the case says; and they allow something. Of the judge's functions, and of those that C links.
+-- (The last case of the list is not the paper's: it is worked by hand.)
 pub table-P : Each (λ c. Tabled judgeLibrary c × Tabled cLibrary c) cases
 table-P = histories-table.table-P judgeLibrary cLibrary judge-meets c-meets
 

@@ -2,8 +2,8 @@
 -- (`Reads.Learnt`): any result that a function's contract does not rule out. `cLibrary` is what a
 -- program in C gets that calls them; crates/histories has the same for the judge's own functions.
 --
---   MayBegin .. MayJudge   what `bellbadger_new`, `_install`, `_load`, `_open`, `_deliver`, `_withdraw`
---                          and `_verdict` may return for their arguments
+--   MayBegin .. MayJudge   what `bellbadger_new`, `_install`, `_load`, `_open`, `_deliver`,
+--                          `_withdraw` and `_verdict` may return for their arguments
 --   MayRead                what `bellbadger_read` may, which is no call
 --   AsksStep j c           what the function of the call c asks before it is called on the judge j
 --   MayStep j c a next     on the judge j the call c may return numbers that say the reply a, and

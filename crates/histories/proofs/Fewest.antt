@@ -1,6 +1,6 @@
--- The M that the build returns, and that an installation or a load answers, is the fewest starts (R-12): it is
--- the number of starts of the built rule, which crates/delegates shows to be the least. Assumes
--- nothing.
+-- The M that the build returns, and that an installation or a load answers, is the fewest starts
+-- (R-12): it is the number of starts of the built rule, which crates/delegates shows to be the
+-- least. Assumes nothing.
 use mathlib.Core.Path.{_≡_, refl, sym, ap, _∙_, subst}
 use mathlib.Core.Bool.{false}
 use mathlib.Core.List.{List}

@@ -1,5 +1,5 @@
--- Table P of document 01, and the case by hand, of the definitions: proofs/TablePRuns.antt ties them
--- to functions. Assumes nothing.
+-- Table P of document 01, and the case by hand, of the definitions: proofs/TablePRuns.antt ties
+-- them to functions. Assumes nothing.
 --
 -- The claim over every list of calls says that the replies are document 01's answers, and those
 -- compute once the delegates of rules A and B are put in.

@@ -31,7 +31,7 @@ pub record Accepted-exactly (h : List Call) : Type 0 where
   pub installation : (r : Rule)
       → (answerOf h (installs r) ≡ installed (builtOf r .setcount) (builtOf r .startcount)) ↔ (WellFormed r × (TooMany (automatonOf r) → ⊥))
   -- none of the conditions 1 to 8 holds of the file, and no more than 512 sets are reached in the
-  -- automaton in its bytes; it is answered with the number of sets and the M of the rule built of it
+  -- automaton in its bytes; it is answered with the number of sets and the M of what is built of it
   pub load : (f : List ℕ)
       → (answerOf h (loads f) ≡ installed (builtOf (ruleOf f) .setcount) (builtOf (ruleOf f) .startcount))
       ↔ (NoneHolds (fileConditions f) × (TooMany (automatonIn f) → ⊥))

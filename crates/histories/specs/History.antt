@@ -4,8 +4,8 @@
 --   ruleThere h, ruleIn h    the rule of the last accepted load or installation, if there is one;
 --                            and it, or zeros
 --   openNumber h n           the number with which an opening is refused: 20, 10
---   boardIn h                a board is there: the last accepted call among loads, installations and
---                            openings is an opening
+--   boardIn h                a board is there: the last accepted call among loads, installations
+--                            and openings is an opening
 --   placesIn h               its places; 0 where no board is there
 --   lastRevision h p         the last revision accepted at place p since the board was opened, or
 --                            none (document 02, R-11)

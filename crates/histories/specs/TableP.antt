@@ -6,10 +6,10 @@
 --   callsOf c      the calls of the case: the load of the file; for a verdict also an opening, a
 --                  delivery for each chunk and the question. The last first
 --   repliesOf c    what is answered to them
---   AsTabled c rs j   what the case says of the replies rs that were given and of the judge j that is
---                  left
---   Tabled l c     so it is whatever the contracts of the library l allow for the calls of the case,
---                  and they allow something
+--   AsTabled c rs j   what the case says of the replies rs that were given and of the judge j that
+--                  is left
+--   Tabled l c     so it is whatever the contracts of the library l allow for the calls of the
+--                  case, and they allow something
 --   table          the paper's cases
 --   byHand         one more, worked by hand
 --   cases          all of them

@@ -4,8 +4,9 @@
 --   toldAs o            the outcome of a line, with its answer as text; a malformed line ends its list
 --   callList            what comes of a line in a list that goes on
 --   callLines           the machine that answers lines
---   historyAfter h m    the calls since the last empty line: h, and then a line of the meaning m. None
---                       where a malformed line ended the list: no call is made until an empty line
+--   historyAfter h m    the calls since the last empty line: h, and then a line of the meaning m.
+--                       None where a malformed line ended the list: no call is made until an empty
+--                       line
 --   rightResponse h m   the right answer to a line of the meaning m after the calls h
 --   rightText h ls      the right answer to each line, after the calls h and the lines before it
 use mathlib.Core.List.{List, [], _∷_}
