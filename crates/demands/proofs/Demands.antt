@@ -6,7 +6,7 @@
 --      judgeLibrary, cLibrary         what contracts ask and allow          histories/, demands/specs/Functions
 --      installMeans .. reportMeans    what an answer of the code means      calls/specs/Replies
 --      installReadBack .., readShown,  what C's numbers mean                capi/specs/Numbers
---      replayShown
+--      installShown, replayShown
 --      readOf f, ReadLaw              reading a file                        ruleformat/specs/Reader, Claims
 --      loadOf j f, LoadIs             a load, of any state and file         calls/specs/Steps, Claims
 --   2  Accepts, Run, Arc              automata and their runs (000)         automaton/specs/Automaton
@@ -77,7 +77,7 @@ use Rattle.board.specs.Boards.{held, isEmpty, lastAt, summedCount, summedBytes}
 use Rattle.calls.specs.declared.Judge.{Judge}
 use Rattle.calls.specs.Replies.{waiting, yesWith, noWith, refusedWith, Reply, refusalOf, delivered}
 use Rattle.calls.specs.Calls.{Call, installNumber, loadNumber, delivers, asksVerdict}
-use Rattle.calls.specs.Steps.{fresh, isYes, reportOf, stepOf}
+use Rattle.calls.specs.Steps.{fresh, isYes, reportOf, stepOf, loadOf}
 use Rattle.calls.specs.Claims.{LoadIs, Divided, ThreeZeros, ForeignByte}
 use Rattle.chunks.specs.Chunks.{foreign}
 use Rattle.calls.proofs.Loading as calls-loading
@@ -119,13 +119,14 @@ use Rattle.replay.specs.Records.{calls, readLine, recordIn, replayOf}
 use Rattle.replay.specs.Claims.{AllFit, recordOf}
 use Rattle.replay.proofs.RoundTrip as replay
 use Rattle.capi.specs.declared.ReadNumbers.{ReadNumbers}
+use Rattle.capi.specs.declared.InstallNumbers.{InstallNumbers}
 use Rattle.capi.specs.declared.ReplayNumbers.{ReplayNumbers}
-use Rattle.capi.specs.Numbers.{readShown, replayShown}
+use Rattle.capi.specs.Numbers.{readShown, installShown, replayShown}
 use Rattle.capi.proofs.Asks as capi-asks
 use Rattle.capi.proofs.bellbadger_read.Reads as read-reads
 use Rattle.capi.proofs.bellbadger_replay.Reads as replay-reads
-use Rattle.demands.specs.Functions.{cLibrary, MayRead, MayReplay}
-use Rattle.demands.proofs.Functions.{c-meets, read-fixed, replay-fixed}
+use Rattle.demands.specs.Functions.{cLibrary, MayRead, MayLoad, MayReplay}
+use Rattle.demands.proofs.Functions.{c-meets, read-fixed, load-fixed, replay-fixed}
 
 -- ---- 1. ANY INPUT
 -- Any rule, any bytes, any place number, any state: the call ends with the result that document 01 gives.
@@ -234,13 +235,16 @@ reading = rulefile.claims .reading
 pub as-installing : (r : Rule) (x : ℕ) → ruleNumber r ≡ some x → installNumber r ≡ some x
 as-installing = calls-loading.as-installing
 
--- Of what C links reading answers the number and the rule, zeros where it is refused. Nothing is
--- asked of it.
+-- Of what C links reading answers the number and the rule, zeros where it is refused, and nothing is
+-- asked of it; and every number that a load gives is fixed.
 pub read-from-C-asks-nothing : (κs : Lfts 1) (c : RefT (List ℕ)) → read-reads.Asked κs (c, tt)
 read-from-C-asks-nothing = capi-asks.read-asks-nothing
 
 pub read-from-C : (f : List ℕ) (r : ReadNumbers) → MayRead f r ↔ r ≡ readShown (readOf f)
 read-from-C = read-fixed
+
+pub load-from-C : (j : Judge) (f : List ℕ) (r : InstallNumbers) → MayLoad j f r ↔ r ≡ installShown (loadOf j f)
+load-from-C = load-fixed
 
 -- 13 is by a delivery's text, which is its chunk without idle marks (document 02, R-5): it is the
 -- number exactly where some byte is neither an idle mark, 255, nor a symbol below k.

@@ -15,17 +15,24 @@ use Rattle.histories.proofs.Refinement.{lent, parts, whole}
 use Rattle.replay.specs.Records.{recordIn, replayOf}
 use Rattle.ruleformat.specs.Reader.{readOf}
 use Rattle.capi.specs.declared.ReadNumbers.{ReadNumbers}
+use Rattle.capi.specs.declared.InstallNumbers.{InstallNumbers}
 use Rattle.capi.specs.declared.ReplayNumbers.{ReplayNumbers}
 use Rattle.capi.specs.Numbers.{replayShown, readShown, installShown, openShown, deliverShown, withdrawShown, verdictShown, installReadBack, openReadBack, deliverReadBack, withdrawReadBack, verdictReadBack}
 use Rattle.capi.proofs.ReadBack as capi
 use Rattle.capi.proofs.Asks.{new-asks-nothing, install-asks-nothing, load-asks-nothing, open-asks-nothing, deliver-asks-nothing, withdraw-asks-nothing, verdict-asks-nothing}
-use Rattle.demands.specs.Functions.{AsksStep, MayStep, MayRead, MayReplay, cLibrary}
+use Rattle.demands.specs.Functions.{AsksStep, MayStep, MayRead, MayLoad, MayReplay, cLibrary}
+
+-- every number that a load gives is fixed
+pub load-fixed : (j : Judge) (f : List ℕ) (r : InstallNumbers) → MayLoad j f r ↔ r ≡ installShown (loadOf j f)
+load-fixed j f r = (
+  (λ m. m .4 ∙ ap (λ (x : List ℕ). installShown (loadOf j x)) (m .3)),
+  λ e. (([], tt), lent f, (j, (lent f, tt)), refl, e),
+)
 
 step-to : (j : Judge) (c : Call) (a : Reply) (next : Judge) → MayStep j c a next → (a ≡ stepOf j c .reply) × (next ≡ stepOf j c .state)
 step-to j (installs rule) a next m = parts a next (installOf j rule) (m .2 ∙ ap installReadBack (m .1 .1) ∙ capi.claims .install-read-back j rule)
 step-to j (loads f) a next m =
-    parts a next (loadOf j f)
-    (m .2 ∙ ap installReadBack (m .1 .4 ∙ ap (λ (x : List ℕ). installShown (loadOf j x)) (m .1 .3)) ∙ capi.claims .load-read-back j f)
+    parts a next (loadOf j f) (m .2 ∙ ap installReadBack (load-fixed j f (m .0) .0 (m .1)) ∙ capi.claims .load-read-back j f)
 step-to j (opens n) a next m = parts a next (openOf j n) (m .2 ∙ ap openReadBack (m .1 .1) ∙ capi.claims .open-read-back j n)
 step-to j (delivers p v w) a next m =
     parts a next (deliverOf j p v w)
@@ -38,7 +45,7 @@ step-back j (installs rule) a next e =
     (installShown (installOf j rule), ((j, (rule, tt)), refl), whole a next (installOf j rule) e ∙ sym (capi.claims .install-read-back j rule))
 step-back j (loads f) a next e = (
   installShown (loadOf j f),
-  (([], tt), lent f, (j, (lent f, tt)), refl, refl),
+  load-fixed j f (installShown (loadOf j f)) .1 refl,
   whole a next (loadOf j f) e ∙ sym (capi.claims .load-read-back j f),
 )
 step-back j (opens n) a next e = (openShown (openOf j n), ((j, (n, tt)), refl), whole a next (openOf j n) e ∙ sym (capi.claims .open-read-back j n))
