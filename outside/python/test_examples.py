@@ -46,11 +46,12 @@ def reader(path):
     """The process that has a file open, other than this one; waits until there is one."""
     until = time.monotonic() + 60
     while time.monotonic() < until:
-        for link in Path("/proc").glob("[0-9]*/fd/*"):
+        for process in filter(str.isdigit, os.listdir("/proc")):
+            files = f"/proc/{process}/fd"
             try:
-                if int(link.parts[2]) != os.getpid() and os.readlink(link) == str(path):
-                    return int(link.parts[2])
-            except OSError:  # it has ended, or belongs to somebody else
+                if int(process) != os.getpid() and str(path) in (os.readlink(f"{files}/{file}") for file in os.listdir(files)):
+                    return int(process)
+            except OSError:  # it has ended or closed a file meanwhile, or belongs to somebody else
                 pass
         time.sleep(0.05)
     raise AssertionError(f"nobody reads {path}")
