@@ -10,12 +10,12 @@ use Rattle.base.proofs.Tests.{either, not-both}
 use Rattle.packed.specs.Packed.{ruleAt}
 use Rattle.fields.specs.Bytes.{parseBytes}
 use Rattle.calls.specs.declared.Judge.{Judge}
-use Rattle.calls.specs.Calls.{Call, installs, opens, delivers, withdraws, asksVerdict}
+use Rattle.calls.specs.Calls.{Call, installs, loads, opens, delivers, withdraws, asksVerdict}
 use Rattle.calls.specs.Replies.{judged}
 use Rattle.calls.specs.Steps.{stepOf, reportOf}
 use Rattle.calltext.specs.declared.Line.{Line}
 use Rattle.calltext.specs.declared.Line.the-variants.{Empty, Load, Install, Open, Deliver, Withdraw, Verdict, Malformed}
-use Rattle.calltext.specs.Meaning.{Meaning, again, call, load, malformed, loadBy, installBy, deliverBy, lineIn, lineMeans, bytesFrom, Parsed}
+use Rattle.calltext.specs.Meaning.{Meaning, again, call, malformed, loadBy, installBy, deliverBy, lineIn, lineMeans, bytesFrom, Parsed}
 use Rattle.calltext.proofs.Readings.{to-the-end}
 use Rattle.calltext.specs.Answers.{replied}
 use Rattle.callrun.specs.Running.{LineOutcome, replyOf, lineStep, isAsks, verdictAsked}
@@ -99,6 +99,7 @@ module _ (w : List ℕ) (x : Line) (parsed : Parsed w x) where
 -- ---- a line that asks for the verdict changes nothing
 call-asks : (j : Judge) (c : Call) → isAsks c ≡ true → replyOf (stepOf j c) ≡ record { response = replied (judged (reportOf j)); state = j }
 call-asks j (installs r) e = not-both e refl
+call-asks j (loads f) e = not-both e refl
 call-asks j (opens n) e = not-both e refl
 call-asks j (delivers p v w) e = not-both e refl
 call-asks j (withdraws p) e = not-both e refl
@@ -107,5 +108,4 @@ call-asks j asksVerdict e = refl
 pub asks-step : (j : Judge) (m : Meaning) → verdictAsked m ≡ true → lineStep j m ≡ record { response = replied (judged (reportOf j)); state = j }
 asks-step j again e = not-both e refl
 asks-step j (call c) e = call-asks j c e
-asks-step j (load f) e = not-both e refl
 asks-step j malformed e = not-both e refl

@@ -1,8 +1,7 @@
 -- The outcome of a line on a judge.
 --
 --   LineOutcome            the outcome of a line: what it is answered, and the judge that it leaves
---   replyOf o              the outcome of a line that records a call or has a file, from the call's
---                          or the load's
+--   replyOf o              the outcome of a line that records a call, from the call's
 --   lineStep j m           the outcome of a line of the meaning m on the judge j
 --   isAsks c               the call c asks for the verdict
 --   verdictAsked m         a line of the meaning m does, which changes nothing
@@ -16,9 +15,9 @@ use mathlib.Core.List.{List}
 use Prim.Native.Nat.{ℕ}
 use lib.ListN.{length}
 use Rattle.calls.specs.declared.Judge.{Judge}
-use Rattle.calls.specs.Calls.{Call, installs, opens, delivers, withdraws, asksVerdict}
-use Rattle.calls.specs.Steps.{fresh, Outcome, loadOf, stepOf}
-use Rattle.calltext.specs.Meaning.{Meaning, again, call, load, malformed}
+use Rattle.calls.specs.Calls.{Call, installs, loads, opens, delivers, withdraws, asksVerdict}
+use Rattle.calls.specs.Steps.{fresh, Outcome, stepOf}
+use Rattle.calltext.specs.Meaning.{Meaning, again, call, malformed}
 use Rattle.calltext.specs.Answers.{Response, began, replied, unread, answerMeans}
 use Rattle.callrun.specs.declared.LineRun.{LineRun}
 
@@ -33,11 +32,11 @@ replyOf o = record { response = replied (o .reply); state = o .state }
 abbrev pub lineStep : Judge → Meaning → LineOutcome
 lineStep j again = record { response = began; state = fresh }
 lineStep j (call c) = replyOf (stepOf j c)
-lineStep j (load f) = replyOf (loadOf j f)
 lineStep j malformed = record { response = unread; state = j }
 
 abbrev pub isAsks : Call → Bool
 isAsks (installs r) = false
+isAsks (loads f) = false
 isAsks (opens n) = false
 isAsks (delivers p v w) = false
 isAsks (withdraws p) = false
@@ -46,7 +45,6 @@ isAsks asksVerdict = true
 abbrev pub verdictAsked : Meaning → Bool
 verdictAsked again = false
 verdictAsked (call c) = isAsks c
-verdictAsked (load f) = false
 verdictAsked malformed = false
 
 abbrev pub runOutcome : LineRun → LineOutcome

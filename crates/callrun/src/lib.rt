@@ -1,4 +1,4 @@
-// Runs the call that a line records on a judge, or loads the file that it has.
+// Runs the call that a line records on a judge.
 ghost use mathlib.Core.Path.{_≡_};
 ghost use mathlib.Core.Option.{some};
 ghost use Prim.Native.Nat.{_≤_};

@@ -10,20 +10,18 @@ use Rattle.ruleformat.specs.Reader.{ruleOf}
 use Rattle.calls.specs.declared.Judge.{Judge}
 use Rattle.calls.specs.Calls.{loadNumber}
 use Rattle.calls.specs.Steps.{outcomeBy, withRule, installReply, installOf, loadOf}
-use Rattle.calls.specs.Claims.{As-installing, LoadLaw}
+use Rattle.calls.specs.Claims.{As-installing, LoadIs}
 use Rattle.calls.proofs.Conditions.{install-number, load-number, load-installs}
 
 module _ (j : Judge) (f : List ℕ) where
   read-first : (x : ℕ) → refusal f ≡ some x → loadNumber f ≡ some x
   read-first x e = load-number f ∙ rw e
 
-  pub load-law : LoadLaw j f
+  pub load-is : LoadIs j f
   unfolding installOf loadOf
-  load-law = record {
+  load-is = record {
     unread = λ x e. rw (read-first x e);
-    installed = λ e.
-        ap (λ (o : Option ℕ). outcomeBy o (installReply (ruleOf f)) j (withRule (ruleOf f))) (load-installs f e)
-        ∙ rw e;
+    installed = λ e. ap (λ (o : Option ℕ). outcomeBy o (installReply (ruleOf f)) j (withRule (ruleOf f))) (load-installs f e);
   }
 
 -- the check of a rule as a value gives the number that installing gives

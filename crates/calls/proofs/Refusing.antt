@@ -2,7 +2,7 @@
 --
 --   refusal-law                 a reply has the number of a refusal exactly where it is that
 --                               refusal, of the verdict or of another call
---   unchanged, load-unchanged   the claims
+--   unchanged                   the claim
 use mathlib.Core.Path.{_≡_, refl, ap, _∙_}
 use mathlib.Core.Logic.{_↔_, _⊎_, inl, inr, ⊎-elim}
 use mathlib.Core.Option.{Option, none, some}
@@ -13,9 +13,9 @@ use Rattle.ruleformat.specs.Reader.{ruleOf}
 use Rattle.board.specs.Boards.{placesOf, isEmpty, comesLate, emptyBoard, filledAt, clearedAt}
 use Rattle.calls.specs.declared.Judge.{Judge}
 use Rattle.calls.specs.Replies.{Judgement, waiting, yesWith, noWith, refusedWith, refusalIn, Reported, Reply, accepted, installed, judged, refused, refusalOf, delivered}
-use Rattle.calls.specs.Calls.{installs, opens, delivers, withdraws, asksVerdict, installNumber, loadNumber, openConditions, deliverConditions, withdrawConditions}
+use Rattle.calls.specs.Calls.{installs, loads, opens, delivers, withdraws, asksVerdict, installNumber, loadNumber, openConditions, deliverConditions, withdrawConditions}
 use Rattle.calls.specs.Steps.{lacksRule, lacksBoard, withBoard, runsAt, outcomeBy, withRule, installReply, installOf, loadOf, openOf, deliverOf, withdrawOf}
-use Rattle.calls.specs.Claims.{Unchanged, Unchanged-load}
+use Rattle.calls.specs.Claims.{Unchanged}
 
 refused-in : (v : Judgement) (x : ℕ) → refusalIn v ≡ some x → v ≡ refusedWith x
 refused-in (waiting empty) x e = none-some refl e
@@ -40,8 +40,9 @@ by-number none a j next taken x e = none-some taken e
 by-number (some m) a j next taken x e = refl
 
 pub unchanged : Unchanged
-unfolding installOf openOf deliverOf withdrawOf
+unfolding installOf loadOf openOf deliverOf withdrawOf
 unchanged j (installs r) = by-number (installNumber r) (installReply r) j (withRule r) refl
+unchanged j (loads f) = by-number (loadNumber f) (installReply (ruleOf f)) j (withRule (ruleOf f)) refl
 unchanged j (opens n) = by-number (firstOf (openConditions (lacksRule j) n)) accepted j (withBoard j (emptyBoard n)) refl
 unchanged j (delivers p v w) =
     by-number
@@ -56,8 +57,3 @@ unchanged j (withdraws p) =
     (withBoard j (clearedAt (j .board) p))
     refl
 unchanged j asksVerdict = λ x e. refl
-
--- nor does a load that is refused, which is no call
-pub load-unchanged : Unchanged-load
-unfolding loadOf
-load-unchanged j f = by-number (loadNumber f) (installReply (ruleOf f)) j (withRule (ruleOf f)) refl

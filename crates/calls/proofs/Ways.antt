@@ -25,6 +25,7 @@ use Rattle.rulecheck.specs.Checking.{ruleNumber, checkMeans}
 use Rattle.ruleformat.specs.declared.ReadAnswer.the-variants as reading
 use Rattle.ruleformat.specs.declared.ReadResult.{ReadResult}
 use Rattle.ruleformat.specs.Reader.{readMeans, Reading, readOutcome, readOf}
+use Rattle.ruleformat.proofs.Claims as rulefile
 use Rattle.build.specs.declared.BuildAnswer.the-variants as build
 use Rattle.build.specs.declared.Built.{Built}
 use Rattle.build.specs.declared.BuildResult.{BuildResult}
@@ -42,7 +43,7 @@ use Rattle.calls.specs.Replies as reply
 use Rattle.calls.specs.Calls.{installNumber, perByte, alone, reportBy}
 use Rattle.calls.specs.Steps.{fresh, withBoard, Outcome, installOf, loadOf, openOf, deliverOf, withdrawOf, isYes, verdictOf}
 use Rattle.calls.proofs.Conditions.{over, install-number}
-use Rattle.calls.proofs.Loading.{load-law}
+use Rattle.calls.proofs.Loading.{load-is}
 
 pub fresh-by : (b : Built) → b ≡ noBuilt → (e : Board) → e ≡ emptyBoard 0 → record { built = b; board = e } ≡ fresh
 unfolding fresh
@@ -222,10 +223,10 @@ module _ (j : Judge) (f : List ℕ) (read : ReadResult) (reads : readOutcome rea
   pub load-unread : (number : ℕ) → read .answer ≡ reading.Refused number
       → (o : Outcome) → o ≡ record { reply = reply.refused number; state = j } → o ≡ loadOf j f
   load-unread number told o e =
-      e ∙ sym (load-law j f .unread number (ap (λ (x : Reading). x .number) (sym reads) ∙ ap readMeans told))
+      e ∙ sym (load-is j f .unread number (ap (λ (x : Reading). x .number) (sym reads) ∙ ap readMeans told))
 
   -- its rule is installed
   pub load-read : read .answer ≡ reading.Accepted → (o : Outcome) → o ≡ installOf j (read .rule) → o ≡ loadOf j f
   load-read told o e =
-      e ∙ ap (installOf j) (ap (λ (x : Reading). x .rule) reads)
-      ∙ sym (load-law j f .installed (ap (λ (x : Reading). x .number) (sym reads) ∙ ap readMeans told))
+      let taken = ap (λ (x : Reading). x .number) (sym reads) ∙ ap readMeans told in
+      e ∙ ap (installOf j) (ap (λ (x : Reading). x .rule) reads ∙ rulefile.claims .reading f .rule taken) ∙ sym (load-is j f .installed taken)

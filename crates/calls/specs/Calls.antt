@@ -1,16 +1,17 @@
--- The calls of document 01, with the installation of a rule in the part of a load (document 02,
+-- The calls of document 01, with the installation of a rule beside the load of a file (document 02,
 -- R-3), and the conditions for a refusal of each in its order. A call is
 -- refused with the number of the first condition that holds, and accepted where none does. The
 -- conditions stand over what a call looks at, so that they serve for a state and for a list of
 -- calls.
 --
---   Call               install, open, deliver, withdraw and verdict, with what they are given
+--   Call               install, load, open, deliver, withdraw and verdict, with what they are
+--                      given. A load is reading its file, which stands outside, and installing the
+--                      rule where there is one (`LoadIs` of specs/Claims.antt)
 --   manySets r         9: more than 512 sets are reached
 --   installNumber r    the number with which the installation of the rule r is refused, 3, 4, 6, 8
 --                      or 9, or none where it is accepted
 --   loadNumber f       the number with which a load of the file f is refused, document 01's 1 to 9
---                      in one order. A load is no call: it is reading the file, and installing the
---                      rule where there is one (`LoadLaw` of specs/Claims.antt)
+--                      in one order, or none where it is accepted
 --   openConditions, deliverConditions, withdrawConditions   20, 10; 21, 11, 12, 13, 22; 21, 11, 23
 --   verdictBy          what a verdict says: by whether no board is there, the number of empty
 --                      places, whether the join says yes, and the sum of the counts
@@ -38,6 +39,8 @@ use Rattle.calls.specs.Replies.{Judgement, waiting, yesWith, noWith, ref
 
 pub data Call : Type 0 where
   installs : Rule → Call
+  -- the bytes of the file
+  loads : List ℕ → Call
   opens : ℕ → Call
   -- the place, the revision and the chunk
   delivers : ℕ → ℕ → List ℕ → Call

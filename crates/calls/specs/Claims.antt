@@ -1,10 +1,9 @@
 -- What holds of the calls on any state whatever.
 --
 --   Unchanged         demand 1: a refusal changes nothing. proofs/Refusing.antt proves it
---   Unchanged-load    nor does a refused load, which is no call. proofs/Refusing.antt proves it
 --   As-installing     a call that takes a rule as a value first gives 3, 4, 6 or 8 as installing
 --                     would: by `ruleNumber`. proofs/Loading.antt proves it
---   LoadLaw j f       a load of the file f on the state j is reading it and, where that accepts,
+--   LoadIs j f        a load of the file f on the state j is reading it and, where that accepts,
 --                     installing its rule (document 02, R-3). proofs/Loading.antt proves it
 --   Divided c b r     the report r has the bytes b, and the quotient and remainder of the count c
 --                     by them (document 02, R-1)
@@ -22,28 +21,26 @@ use lib.ListN.{length, getD}
 use Rattle.marks.specs.Marks.{idleMark, textOf}
 use Rattle.automaton.specs.declared.Rule.{Rule}
 use Rattle.rulecheck.specs.Checking.{ruleNumber}
-use Rattle.ruleformat.specs.Reader.{readOf}
+use Rattle.ruleformat.specs.Reader.{ruleOf, readOf}
 use Rattle.chunks.specs.Chunks.{foreign}
 use Rattle.calls.specs.declared.Judge.{Judge}
 use Rattle.calls.specs.Replies.{Judgement, waiting, yesWith, noWith, refusedWith, Reported, refused, refusalOf}
-use Rattle.calls.specs.Calls.{Call, installNumber, reportBy}
-use Rattle.calls.specs.Steps.{installOf, loadOf, stepOf}
+use Rattle.calls.specs.Calls.{Call, installs, loads, installNumber, reportBy}
+use Rattle.calls.specs.Steps.{stepOf}
 
 -- (File and chunk are lent as `&[u8]`, which no function can write.)
 abbrev pub Unchanged : Type 0
 Unchanged = (j : Judge) (c : Call) (x : ℕ) → refusalOf (stepOf j c .reply) ≡ some x → stepOf j c .state ≡ j
 
-abbrev pub Unchanged-load : Type 0
-Unchanged-load = (j : Judge) (f : List ℕ) (x : ℕ) → refusalOf (loadOf j f .reply) ≡ some x → loadOf j f .state ≡ j
-
 abbrev pub As-installing : Type 0
 As-installing = (r : Rule) (x : ℕ) → ruleNumber r ≡ some x → installNumber r ≡ some x
 
-pub record LoadLaw (j : Judge) (f : List ℕ) : Type 0 where
+pub record LoadIs (j : Judge) (f : List ℕ) : Type 0 where
   -- a file that reading refuses: the same number, and nothing changes
-  pub unread : (x : ℕ) → readOf f .number ≡ some x → loadOf j f ≡ record { reply = refused x; state = j }
-  -- a file that it accepts: the rule that it answers is installed
-  pub installed : readOf f .number ≡ none → loadOf j f ≡ installOf j (readOf f .rule)
+  pub unread : (x : ℕ) → readOf f .number ≡ some x → stepOf j (loads f) ≡ record { reply = refused x; state = j }
+  -- a file that it accepts: the outcome of installing the rule in it, which is the value that it
+  -- answers (`ReadLaw` of crates/ruleformat)
+  pub installed : readOf f .number ≡ none → stepOf j (loads f) ≡ stepOf j (installs (ruleOf f))
 
 -- count = quotient × bytes + remainder, remainder below bytes; for a text of 0 bytes both are 0
 pub record Divided (count bytes : ℕ) (r : Reported) : Type 0 where

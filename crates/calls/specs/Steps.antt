@@ -8,8 +8,8 @@
 --   installOutcome, openOutcome, deliverOutcome, withdrawOutcome   the outcome that the code's
 --                                                                  result stands for
 --   withRule r, installReply r   the judge with the rule r and no board, and what is answered
---   installOf, openOf, deliverOf, withdrawOf   the outcomes of the calls that may change the state
---   loadOf             the outcome of a load, by document 01's numbers; it is no call
+--   installOf, loadOf, openOf, deliverOf, withdrawOf   the outcomes of the calls that may change
+--                      the state; that of a load by document 01's numbers
 --   verdictOf          what the verdict says
 --   reportOf           what the call verdict reports
 --   stepOf j c         the outcome of the call c on the state j
@@ -34,7 +34,7 @@ use Rattle.calls.specs.declared.OpenResult.{OpenResult}
 use Rattle.calls.specs.declared.DeliverResult.{DeliverResult}
 use Rattle.calls.specs.declared.WithdrawResult.{WithdrawResult}
 use Rattle.calls.specs.Replies.{Judgement, Reported, Reply, accepted, installed, judged, refused, installMeans, openMeans, deliverMeans, withdrawMeans, delivered}
-use Rattle.calls.specs.Calls.{Call, installs, opens, delivers, withdraws, asksVerdict, installNumber, loadNumber, openConditions, deliverConditions, withdrawConditions, verdictBy, reportBy}
+use Rattle.calls.specs.Calls.{Call, installs, loads, opens, delivers, withdraws, asksVerdict, installNumber, loadNumber, openConditions, deliverConditions, withdrawConditions, verdictBy, reportBy}
 
 unfoldable pub fresh : Judge
 fresh = record { built = noBuilt; board = emptyBoard 0 }
@@ -128,6 +128,7 @@ reportOf j = reportBy (verdictOf j) (summedBytes (j .board))
 -- ---- any call
 abbrev pub stepOf : Judge → Call → Outcome
 stepOf j (installs r) = installOf j r
+stepOf j (loads f) = loadOf j f
 stepOf j (opens n) = openOf j n
 stepOf j (delivers p v w) = deliverOf j p v w
 stepOf j (withdraws p) = withdrawOf j p

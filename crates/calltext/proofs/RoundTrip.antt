@@ -1,5 +1,5 @@
--- Reading the line of a call gives the call again; the lines of files and of rules in bytes; and
--- lines of deliveries that are malformed. Assumes nothing.
+-- Reading the line of a call gives the call again; and lines of installations and of deliveries
+-- that are malformed. Assumes nothing.
 use mathlib.Core.Path.{_≡_, refl, ap, _∙_}
 use mathlib.Core.List.{List, [], _∷_, _++_}
 use mathlib.Core.Option.{none}
@@ -20,8 +20,8 @@ use Rattle.fields.specs.Numbers.{parseNumber}
 use Rattle.fields.specs.Bytes.{parseBytes}
 use Rattle.fields.specs.Claims.{AllBytes, digitsOf, fieldOf}
 use Rattle.fields.proofs.RoundTrip as fields
-use Rattle.calls.specs.Calls.{Call, installs, opens, delivers, withdraws, asksVerdict}
-use Rattle.calltext.specs.Meaning.{call, load, malformed, load-word, install-word, open-word, deliver-word, withdraw-word, loadBy, installBy, openBy, withdrawBy, revisionBy, deliverBy, revisionFields, callIn, lineIn}
+use Rattle.calls.specs.Calls.{Call, installs, loads, opens, delivers, withdraws, asksVerdict}
+use Rattle.calltext.specs.Meaning.{call, malformed, load-word, install-word, open-word, deliver-word, withdraw-word, loadBy, installBy, openBy, withdrawBy, revisionBy, deliverBy, revisionFields, callIn, lineIn}
 use Rattle.calltext.specs.Claims.{Fits, lineOf, Claims}
 use Rattle.calltext.proofs.Readings.{bad-revision}
 
@@ -60,6 +60,7 @@ field-10 b = over-less 10 44 (fieldOf b) (omega arith) (over-field b)
 
 pub over-call : (c : Call) → Over 10 (lineOf c)
 over-call (installs r) = over-append 10 install-word (fieldOf (packedOf r)) (search needs) (field-10 (packedOf r))
+over-call (loads f) = over-append 10 load-word (fieldOf f) (search needs) (field-10 f)
 over-call (opens n) = over-append 10 open-word (decimal n) (search needs) (number-10 n)
 over-call (delivers p v w) =
     let bytes : Over 10 (32 ∷ fieldOf w) = (omega arith, field-10 w) in
@@ -73,11 +74,7 @@ over-call asksVerdict = search needs
 not-empty : (w : List ℕ) → 1 ≤ length w → lineIn w ≡ callIn w
 not-empty w h = rw (ne-eqb (length w) 0 (λ e. omega arith))
 
--- ---- files, and bytes that are no rule
-load-line : (f : List ℕ) → AllBytes f → lineIn (load-word ++ fieldOf f) ≡ load f
-unfolding begins callIn
-load-line f a = not-empty (load-word ++ fieldOf f) (omega arith) ∙ ap loadBy (fields.claims .bytes-round-trip f a)
-
+-- ---- bytes that are no rule
 other-size : (b : List ℕ) → AllBytes b → (length b ≡ 2058 → ⊥) → lineIn (install-word ++ fieldOf b) ≡ malformed
 unfolding begins callIn
 other-size b a other =
@@ -124,6 +121,7 @@ all-bytes (x ∷ b) h = (h 0, all-bytes b (λ i. h (suc i)))
 
 some-byte : (c : Call) → 1 ≤ length (lineOf c)
 some-byte (installs r) = omega arith
+some-byte (loads f) = omega arith
 some-byte (opens n) = omega arith
 some-byte (delivers p v w) = omega arith
 some-byte (withdraws p) = omega arith
@@ -134,6 +132,7 @@ unfolding begins callIn
 call-again (installs r) a =
     ap installBy (fields.claims .bytes-round-trip (packedOf r) (all-bytes (packedOf r) (packed.claims .packed-bytes r a)))
     ∙ rw (eq-eqb (length (packedOf r)) 2058 (packed.claims .packed-size r), packed.claims .packed-round-trip r a)
+call-again (loads f) a = ap loadBy (fields.claims .bytes-round-trip f a)
 call-again (opens n) a = ap openBy (fields.claims .number-round-trip n a)
 call-again (delivers p v w) a =
     delivery-line p v w
@@ -147,7 +146,6 @@ line-round-trip c a = not-empty (lineOf c) (some-byte c) ∙ call-again c a
 pub claims : Claims
 claims = record {
   line-round-trip = line-round-trip;
-  load-line = load-line;
   other-size = other-size;
   no-revision = no-revision;
   revision-too-large = revision-too-large;

@@ -1,11 +1,10 @@
--- What a line means: `install HEX`, `open N`, `deliver P REVISION HEX`, `withdraw P` and `verdict`
--- record a call, with exactly one space between the fields; `load HEX` has a rule file, and an empty
--- line means a fresh judge. Any other line is malformed.
+-- What a line means: `load HEX`, with a rule file, `install HEX`, `open N`, `deliver P REVISION
+-- HEX`, `withdraw P` and `verdict` record a call, with exactly one space between the fields; an
+-- empty line means a fresh judge. Any other line is malformed.
 --
 --   Meaning            of a line
 --     again            a fresh judge begins
 --     call c           the call c is made
---     load f           the file f is to be read and its rule installed, which is no call by itself
 --     malformed        it means nothing
 --   …-word             the word with which a line begins
 --   revisionBy         the revision that a field says (document 02, R-11), from the number that it
@@ -28,14 +27,13 @@ use Rattle.packed.specs.Packed.{packedSize, ruleAt}
 use Rattle.lines.specs.Splitting.{begins, upTo, past}
 use Rattle.fields.specs.Numbers.{parseNumber}
 use Rattle.fields.specs.Bytes.{parseBytes}
-use Rattle.calls.specs.Calls.{Call, installs, opens, delivers, withdraws, asksVerdict}
+use Rattle.calls.specs.Calls.{Call, installs, loads, opens, delivers, withdraws, asksVerdict}
 use Rattle.calltext.specs.declared.Line.{Line}
 use Rattle.calltext.specs.declared.Line.the-variants.{Empty, Load, Install, Open, Deliver, Withdraw, Verdict, Malformed}
 
 pub data Meaning : Type 0 where
   again : Meaning
   call : Call → Meaning
-  load : List ℕ → Meaning
   malformed : Meaning
 
 -- ---- the words, each with the space behind it where a field follows
@@ -60,7 +58,7 @@ verdict-word = 118 ∷ 101 ∷ 114 ∷ 100 ∷ 105 ∷ 99 ∷ 116 ∷ []
 -- ---- the meaning, from what the fields say
 abbrev pub loadBy : Option (List ℕ) → Meaning
 loadBy none = malformed
-loadBy (some f) = load f
+loadBy (some f) = call (loads f)
 
 -- exactly as many bytes as state a rule
 abbrev pub installBy : Option (List ℕ) → Meaning
@@ -96,7 +94,7 @@ abbrev pub deliverFields : List ℕ → Option (List ℕ) → Meaning
 deliverFields p none = malformed
 deliverFields p (some w) = revisionFields (parseNumber p) (upTo 32 w) (past 32 w)
 
--- the five calls and a load
+-- the calls
 unfoldable pub callIn : List ℕ → Meaning
 callIn w =
     cond (begins verdict-word w) (cond (eqb (length w) 7) (call asksVerdict) malformed)

@@ -8,7 +8,7 @@
 --      installReadBack .., readShown,  what C's numbers mean                capi/specs/Numbers
 --      installShown, replayShown
 --      readOf f, ReadLaw              reading a file                        ruleformat/specs/Reader, Claims
---      loadOf j f, LoadLaw            a load, of any state and file         calls/specs/Steps, Claims
+--      loadOf j f, LoadIs             a load, of any state and file         calls/specs/Steps, Claims
 --   2  Accepts, Run, Arc              automata and their runs (000)         automaton/specs/Automaton
 --      automatonIn f, automatonOf r   of a file's bytes, and of a rule      ruleformat/specs/Language, Format; automaton/specs/Rules
 --      Fewest, Covers                 the fewest starts                     histories/, delegates/specs/Fewest
@@ -23,7 +23,7 @@
 --      judgeAfter h, repliesTo h      the outcome of a list of calls        histories/specs/Claims
 --      standing, verdictIn, answerOf  what 01 says of a list alone          histories/specs/History
 --      Accepted-exactly, Refused-..   which calls, with which number        histories/specs/Conditions
---      loading, loadReply; LoadClauses  a load after a list of calls        histories/specs/History, Claims
+--      VerdictSays, Says              what the reply to a verdict says      histories/specs/Claims
 --      CountBound                     the sum's bound; the former 24        histories/specs/CountBound
 --      lastRevision, leastAfter       revisions at a place                  histories/specs/History, Claims
 --      Orders; Revisions              deliveries in any order; in words     histories/specs/Orders, Revisions
@@ -34,7 +34,7 @@
 --      joinOf, yesOf                  joining                               joins/specs/Joining
 --      SameAnswer; FormerMerged ..    the former starts and their join      histories/specs/FormerStarts, joins/specs/Former
 --      reportBy; Divided, ThreeZeros  what is reported with a verdict       calls/specs/Calls, Claims
---      TableP                         the table's cases                     histories/specs/TableP
+--      Tabled, AsTabled; cases        the table's claim and its cases       histories/specs/TableP
 --      rightText; callLines           a text of calls; the lines' machine   stream/specs/Texts
 --      listText; listOf, skippedLines lists that a malformed line ends      linetexts/specs/Lists
 --      linesOf; lineIn, responseText  lines, calls and answers as text      lines/, calltext/specs
@@ -49,7 +49,7 @@ use mathlib.Core.Bool.{true, false}
 use mathlib.Core.List.{List, [], _∷_, _++_, flatten}
 use mathlib.Core.Option.{none, some}
 use Prim.Native.Nat.{ℕ, _*_, _≤_, _<_}
-use lib.ListN.{length, getD}
+use lib.ListN.{length, getD, getElem?}
 use contract.Lifetimes.{Lfts}
 use denote.Ref.{RefT}
 use Rattle.limits.specs.Limits.{mostStates, mostPlaces, mostTransitions, lineRoom}
@@ -76,37 +76,35 @@ use Rattle.build.specs.Building.{builtOf}
 use Rattle.board.specs.Boards.{held, isEmpty, lastAt, summedCount, summedBytes}
 use Rattle.calls.specs.declared.Judge.{Judge}
 use Rattle.calls.specs.Replies.{waiting, yesWith, noWith, refusedWith, Reply, refusalOf, delivered}
-use Rattle.calls.specs.declared.InstallResult.{InstallResult}
-use Rattle.calls.specs.Calls.{Call, installNumber, loadNumber, delivers}
-use Rattle.calls.specs.Steps.{Outcome, fresh, installOutcome, isYes, reportOf, stepOf, loadOf}
-use Rattle.calls.specs.Claims.{LoadLaw, Divided, ThreeZeros, ForeignByte}
+use Rattle.calls.specs.Calls.{Call, installNumber, loadNumber, delivers, asksVerdict}
+use Rattle.calls.specs.Steps.{fresh, isYes, reportOf, stepOf, loadOf}
+use Rattle.calls.specs.Claims.{LoadIs, Divided, ThreeZeros, ForeignByte}
 use Rattle.chunks.specs.Chunks.{foreign}
 use Rattle.calls.proofs.Loading as calls-loading
 use Rattle.calls.proofs.Foreign as calls-foreign
 use Rattle.calls.proofs.Refusing as refusing
-use Rattle.histories.specs.History.{ruleThere, ruleIn, loading, boardIn, lastRevision, standing, standingText, endAt, countAt, lengthAt, emptiesIn, summedIn, bytesIn, yesIn, textIn, verdictIn, reportIn, answersTo, answerOf}
+use Rattle.histories.specs.History.{ruleThere, ruleIn, boardIn, lastRevision, standing, standingText, endAt, countAt, lengthAt, emptiesIn, summedIn, bytesIn, yesIn, textIn, verdictIn, reportIn, answersTo, answerOf}
 use Rattle.histories.specs.Method.{Method}
 use Rattle.histories.specs.Conditions.{Accepted-exactly, Refused-exactly}
-use Rattle.histories.specs.Claims.{judgeMachine, judgeAfter, repliesTo, BuiltBy, leastAfter, LookedUp, LoadClauses, EveryList}
+use Rattle.histories.specs.Claims.{judgeMachine, judgeAfter, repliesTo, BuiltBy, leastAfter, VerdictSays, LookedUp, EveryList}
 use Rattle.histories.specs.CountBound.{CountBound}
 use Rattle.histories.specs.FormerStarts.{SameAnswer}
 use Rattle.histories.specs.Fewest.{BuildFewest, InstallFewest, LoadFewest}
 use Rattle.histories.specs.Revisions.{Revisions}
 use Rattle.histories.specs.Orders.{Orders}
-use Rattle.histories.specs.Functions.{judgeLibrary, AsksLoad, MayLoad}
-use Rattle.histories.specs.TableP.{TableP, Each, table}
+use Rattle.histories.specs.Functions.{judgeLibrary}
+use Rattle.histories.specs.TableP.{Tabled, Each, cases}
 use Rattle.histories.proofs.EveryList.{every-list}
 use Rattle.histories.proofs.Method as histories-method
-use Rattle.histories.proofs.Refinement.{judge-meets, load-asks, load-may}
+use Rattle.histories.proofs.VerdictSays as histories-verdict
+use Rattle.histories.proofs.Refinement.{judge-meets}
 use Rattle.histories.proofs.Steps.{accepted-rule}
 use Rattle.histories.proofs.CountBound as histories-bound
 use Rattle.histories.proofs.FormerStarts as histories-former
 use Rattle.histories.proofs.Orders as histories-orders
 use Rattle.histories.proofs.Revisions as histories-revisions
 use Rattle.histories.proofs.Fewest as histories-fewest
-use Rattle.histories.proofs.TableP as histories-table
-use Rattle.histories.proofs.TablePRuns.{Loads-so}
-use Rattle.histories.proofs.TablePRuns as histories-table-runs
+use Rattle.histories.proofs.TablePRuns as histories-table
 use Rattle.lines.specs.Splitting.{linesOf}
 use Rattle.longlines.specs.Holding.{lineBegin}
 use Rattle.linetexts.specs.Feeding.{State, stateOf, finishOf}
@@ -114,8 +112,8 @@ use Rattle.linetexts.specs.Lists.{Listed, listOf, NoneEmpty, skippedLines}
 use Rattle.linetexts.specs.Claims.{streamOf, Blocks}
 use Rattle.stream.specs.Texts.{callLines, rightText}
 use Rattle.stream.proofs.Claimed as stream
-use Rattle.fields.specs.Claims.{AllBytes, fieldOf}
-use Rattle.calltext.specs.Meaning.{malformed, load-word, lineIn}
+use Rattle.calltext.specs.Meaning.{malformed, lineIn}
+use Rattle.calltext.specs.Claims.{Fits, lineOf}
 use Rattle.answers.specs.Answers.{malformedText}
 use Rattle.replay.specs.Records.{calls, readLine, recordIn, replayOf}
 use Rattle.replay.specs.Claims.{AllFit, recordOf}
@@ -126,9 +124,8 @@ use Rattle.capi.specs.declared.ReplayNumbers.{ReplayNumbers}
 use Rattle.capi.specs.Numbers.{readShown, installShown, replayShown}
 use Rattle.capi.proofs.Asks as capi-asks
 use Rattle.capi.proofs.bellbadger_read.Reads as read-reads
-use Rattle.capi.proofs.bellbadger_load.Reads as load-reads
 use Rattle.capi.proofs.bellbadger_replay.Reads as replay-reads
-use Rattle.demands.specs.Functions.{cLibrary, MayRead, MayLoad as MayLoadC, MayReplay}
+use Rattle.demands.specs.Functions.{cLibrary, MayRead, MayLoad, MayReplay}
 use Rattle.demands.proofs.Functions.{c-meets, read-fixed, load-fixed, replay-fixed}
 
 -- ---- 1. ANY INPUT
@@ -145,19 +142,17 @@ any-call = judge-meets .steps
 pub any-call-from-C : (j : Judge) (c : Call) (a : Reply) (next : Judge) → cLibrary .May j c a next ↔ (a ≡ stepOf j c .reply) × (next ≡ stepOf j c .state)
 any-call-from-C = c-meets .steps
 
--- A refusal leaves the state unchanged, and so does a load that is refused. (Its number is the first condition's that holds: demand 3.
--- A file and a chunk are lent as `&[u8]`, which no function can write.)
+-- A refusal leaves the state unchanged, a load's too. (Its number is the first condition's that
+-- holds: demand 3. A file and a chunk are lent as `&[u8]`, which no function can write.)
 pub refusals : (j : Judge) (c : Call) (x : ℕ) → refusalOf (stepOf j c .reply) ≡ some x → stepOf j c .state ≡ j
 refusals = refusing.unchanged
 
-pub refused-loads : (j : Judge) (f : List ℕ) (x : ℕ) → refusalOf (loadOf j f .reply) ≡ some x → loadOf j f .state ≡ j
-refused-loads = refusing.load-unchanged
-
 -- ---- 2. THE METHOD
--- The rule that is there after a list of calls is that of the last accepted installation, built; and
--- its sets, next-set table and merged starts are those of source document 004, numbered in document
--- 01's order: of the automaton of each rule that an installation accepts. (A state from which no
--- final state can be reached has no delegate and is no start: document 02, R-7, narrows 004's so.)
+-- The rule that is there after a list of calls is that of the last accepted load or installation,
+-- built; and its sets, next-set table and merged starts are those of source document 004, numbered
+-- in document 01's order: of the automaton of each rule that an installation accepts. (A state from
+-- which no final state can be reached has no delegate and is no start: document 02, R-7, narrows
+-- 004's so.)
 pub built : (h : List Call) → BuiltBy (ruleThere h) (judgeAfter h)
 built h = every-list h .after .rule
 
@@ -166,14 +161,14 @@ method = histories-method.method
 
 -- No choice of starting states that gives each state with a reachable final state an alike one has
 -- fewer than M members, and one has M: the M that the build returned, by its own contract, for every
--- well-formed rule, and that any accepted installation answered (document 02, R-12).
+-- well-formed rule, and that any accepted installation or load answered (document 02, R-12).
 pub fewest-built : BuildFewest
 fewest-built = histories-fewest.build-fewest
 
 pub fewest-starts : (h : List Call) → InstallFewest h
 fewest-starts = histories-fewest.install-fewest
 
-pub fewest-of-bytes : LoadFewest
+pub fewest-of-bytes : (h : List Call) → LoadFewest h
 fewest-of-bytes = histories-fewest.load-fewest
 
 -- A text is accepted exactly when the automaton of source document 000 has an accepting run over it.
@@ -187,9 +182,10 @@ pub method-of-bytes : (f : List ℕ) → loadNumber f ≡ none → Method (autom
 method-of-bytes = histories-method.method-bytes
 
 -- ---- 3. EVERY LIST OF CALLS
--- For every list of calls from a fresh judge, refused ones included: what the functions' own
--- contracts allow is what the definitions give, and that they allow. Of the judge's functions, and
--- of those that C links:
+-- For every list of calls from a fresh judge, of loads, installations, openings, deliveries,
+-- withdrawals and verdicts in any order, refused ones included: what the functions' own contracts
+-- allow is what the definitions give, and that they allow. Of the judge's functions, and of those
+-- that C links:
 pub every-execution : (h : List Call) (rs : List Reply) (j : Judge) → Execution judgeLibrary h rs j ↔ (rs ≡ repliesTo h) × (j ≡ judgeAfter h)
 every-execution = execution-law judgeLibrary judgeMachine judge-meets
 
@@ -204,6 +200,18 @@ one-claim h rs j e =
     let is = ⊎-elim (every-execution h rs j .0) (every-execution-from-C h rs j .0) e in
     (is .0 ∙ every-list h .correct, is .1, every-list h)
 
+-- What the reply to a verdict says, wherever in the list it is asked: yes exactly when the rule that
+-- is there has an accepting run over the standing chunks, no exactly when it has none, both with no
+-- place empty and with the sum of the counts; waiting with the number of empty places; 21 without a
+-- board. (A list has the last call first, so before this reply are as many as calls were made after
+-- it; `getElem?`, of the kit's lists, counts from 0 and is none behind the end.)
+pub verdict-says : (later earlier : List Call) (rs : List Reply) (j : Judge)
+    → Execution judgeLibrary (later ++ (asksVerdict ∷ earlier)) rs j ⊎ Execution cLibrary (later ++ (asksVerdict ∷ earlier)) rs j
+    → (a : Reply) × (getElem? rs (length later) ≡ some a) × VerdictSays earlier a
+verdict-says later earlier rs j e =
+    let h = later ++ (asksVerdict ∷ earlier) in
+    histories-verdict.verdict-at later earlier rs (⊎-elim (every-execution h rs j .0) (every-execution-from-C h rs j .0) e .0)
+
 -- A call is accepted exactly when none of its conditions holds, and refused with a number exactly
 -- when that one is the first that holds (the verdict's 21 follows below).
 pub accepted-exactly : (h : List Call) → Accepted-exactly h
@@ -212,14 +220,11 @@ accepted-exactly h = every-list h .accepted-exactly
 pub refused-exactly : (h : List Call) → Refused-exactly h
 refused-exactly h = every-list h .refused-exactly
 
--- A load may be made after any list of calls. It is no call: it reads the file and, where that
--- accepts, installs the rule, and it answers document 01's numbers 1 to 9 in one order
--- (document 02, R-3). On every state, and after every list:
-pub loading-law : (j : Judge) (f : List ℕ) → LoadLaw j f
-loading-law = calls-loading.load-law
-
-pub loads : (h : List Call) (f : List ℕ) → LoadClauses h f
-loads h = every-list h .loads
+-- A load reads its file, which stands outside the list, and is then an installation (document 02,
+-- R-3): one that reading refuses is answered with that number and changes nothing, and one that it
+-- accepts has the outcome of installing the rule in the file. On every state:
+pub load-is : (j : Judge) (f : List ℕ) → LoadIs j f
+load-is = calls-loading.load-is
 
 -- Reading gives 1 to 8 in order, zeros where it refuses, and else the rule in the file, which passes
 -- the check of a rule as a value and accepts the texts that the automaton in the bytes accepts. Any
@@ -230,25 +235,15 @@ reading = rulefile.claims .reading
 pub as-installing : (r : Rule) (x : ℕ) → ruleNumber r ≡ some x → installNumber r ≡ some x
 as-installing = calls-loading.as-installing
 
--- What the contract of the judge's `load` allows is that outcome, and of it nothing is asked.
-pub load-asks-nothing : (j : Judge) (f : List ℕ) → AsksLoad j f
-load-asks-nothing = load-asks
-
-pub load-allowed : (j : Judge) (f : List ℕ) (o : Outcome) → ((r : InstallResult) × MayLoad j f r × (o ≡ installOutcome r)) ↔ (o ≡ loadOf j f)
-load-allowed = load-may
-
--- Of what C links: reading answers the number and the rule, zeros where it is refused; a load the
--- same outcome. Nothing is asked of either.
+-- Of what C links reading answers the number and the rule, zeros where it is refused, and nothing is
+-- asked of it; and every number that a load gives is fixed.
 pub read-from-C-asks-nothing : (κs : Lfts 1) (c : RefT (List ℕ)) → read-reads.Asked κs (c, tt)
 read-from-C-asks-nothing = capi-asks.read-asks-nothing
-
-pub load-from-C-asks-nothing : (κs : Lfts 1) (j : Judge) (c : RefT (List ℕ)) → load-reads.Asked κs (j, (c, tt))
-load-from-C-asks-nothing = capi-asks.load-asks-nothing
 
 pub read-from-C : (f : List ℕ) (r : ReadNumbers) → MayRead f r ↔ r ≡ readShown (readOf f)
 read-from-C = read-fixed
 
-pub load-from-C : (j : Judge) (f : List ℕ) (r : InstallNumbers) → MayLoadC j f r ↔ r ≡ installShown (loadOf j f)
+pub load-from-C : (j : Judge) (f : List ℕ) (r : InstallNumbers) → MayLoad j f r ↔ r ≡ installShown (loadOf j f)
 load-from-C = load-fixed
 
 -- 13 is by a delivery's text, which is its chunk without idle marks (document 02, R-5): it is the
@@ -287,7 +282,8 @@ revisions-say = histories-revisions.revisions
 pub looked-up : (h : List Call) (p v : ℕ) (w : List ℕ) (n : ℕ) → answerOf h (delivers p v w) ≡ delivered n → LookedUp h p (textOf w) n
 looked-up h = every-list h .looked-up
 
--- The verdict: refused with 21 unless the last accepted installation or opening is an opening;
+-- The verdict, by the list alone: refused with 21 unless the last accepted load, installation or
+-- opening is an opening;
 pub refused-21 : (h : List Call) → (verdictIn h ≡ refusedWith 21) ↔ (boardIn h ≡ false)
 refused-21 h = every-list h .verdict .none-there
 
@@ -362,13 +358,12 @@ divided h = every-list h .report .divided
 pub zeros : (h : List Call) (x : ℕ) → (verdictIn h ≡ waiting x) ⊎ (verdictIn h ≡ refusedWith x) → ThreeZeros (reportIn h)
 zeros h = every-list h .report .zeros
 
--- Table P, over one list of cases, from the bytes of the files, through the calls; and each load of
--- a case is answered as the table says, by what the contract of `load` allows.
-pub table-P : TableP
-table-P = histories-table.table-P
-
-pub table-P-loads : Each Loads-so table
-table-P-loads = histories-table-runs.table-P-loads
+-- Table P, over one list of cases, from the bytes of the files, through the functions: whatever
+-- these allow for the calls of a case, of which the load is the first, the replies and the judge are
+-- as the case says; and they allow something. Of the judge's functions, and of those that C links.
+-- (The last case of the list is not the paper's: it is worked by hand.)
+pub table-P : Each (λ c. Tabled judgeLibrary c × Tabled cLibrary c) cases
+table-P = histories-table.table-P judgeLibrary cLibrary judge-meets c-meets
 
 -- ---- CALLS AS TEXT
 -- The answers to a text of calls are right line by line, however it is cut into blocks.
@@ -394,8 +389,7 @@ pub begins-afresh : (h : List Call) (l : List ℕ) (ls more : List (List ℕ)) �
 begins-afresh = stream.claims .afresh
 
 -- What C is given for a recorded list, of which nothing is asked, is the verdict after it, or its
--- first malformed line; and every list of calls has a record, in which a load may stand for the calls
--- that it makes.
+-- first malformed line; and every list of calls has a record, a line for each call.
 pub replay-asks-nothing : (κs : Lfts 1) (c : RefT (List ℕ)) → replay-reads.Asked κs (c, tt)
 replay-asks-nothing = capi-asks.replay-asks-nothing
 
@@ -405,5 +399,5 @@ replayed = replay-fixed
 pub records : (h : List Call) → AllFit h → recordIn (recordOf h) ≡ calls h
 records = replay.claims .record-round-trip
 
-pub recorded-loads : (i : ℕ) (h : List Call) (f : List ℕ) → AllBytes f → readLine (calls h) i (load-word ++ fieldOf f) ≡ calls (loading f ++ h)
-recorded-loads = replay.claims .load-read
+pub recorded-line : (i : ℕ) (h : List Call) (c : Call) → Fits c → readLine (calls h) i (lineOf c) ≡ calls (c ∷ h)
+recorded-line = replay.claims .line-read

@@ -8,7 +8,7 @@ use denote.Ref.{RefT}
 use Rattle.executions.specs.Executions.{Meets}
 use Rattle.calls.specs.declared.Judge.{Judge}
 use Rattle.calls.specs.Replies.{Reply, judged}
-use Rattle.calls.specs.Calls.{Call, installs, opens, delivers, withdraws, asksVerdict}
+use Rattle.calls.specs.Calls.{Call, installs, loads, opens, delivers, withdraws, asksVerdict}
 use Rattle.calls.specs.Steps.{installOf, loadOf, openOf, deliverOf, withdrawOf, reportOf, stepOf}
 use Rattle.histories.specs.Claims.{judgeMachine}
 use Rattle.histories.proofs.Refinement.{lent, parts, whole}
@@ -19,11 +19,20 @@ use Rattle.capi.specs.declared.InstallNumbers.{InstallNumbers}
 use Rattle.capi.specs.declared.ReplayNumbers.{ReplayNumbers}
 use Rattle.capi.specs.Numbers.{replayShown, readShown, installShown, openShown, deliverShown, withdrawShown, verdictShown, installReadBack, openReadBack, deliverReadBack, withdrawReadBack, verdictReadBack}
 use Rattle.capi.proofs.ReadBack as capi
-use Rattle.capi.proofs.Asks.{new-asks-nothing, install-asks-nothing, open-asks-nothing, deliver-asks-nothing, withdraw-asks-nothing, verdict-asks-nothing}
+use Rattle.capi.proofs.Asks.{new-asks-nothing, install-asks-nothing, load-asks-nothing, open-asks-nothing, deliver-asks-nothing, withdraw-asks-nothing, verdict-asks-nothing}
 use Rattle.demands.specs.Functions.{AsksStep, MayStep, MayRead, MayLoad, MayReplay, cLibrary}
+
+-- every number that a load gives is fixed
+pub load-fixed : (j : Judge) (f : List ℕ) (r : InstallNumbers) → MayLoad j f r ↔ r ≡ installShown (loadOf j f)
+load-fixed j f r = (
+  (λ m. m .4 ∙ ap (λ (x : List ℕ). installShown (loadOf j x)) (m .3)),
+  λ e. (([], tt), lent f, (j, (lent f, tt)), refl, e),
+)
 
 step-to : (j : Judge) (c : Call) (a : Reply) (next : Judge) → MayStep j c a next → (a ≡ stepOf j c .reply) × (next ≡ stepOf j c .state)
 step-to j (installs rule) a next m = parts a next (installOf j rule) (m .2 ∙ ap installReadBack (m .1 .1) ∙ capi.claims .install-read-back j rule)
+step-to j (loads f) a next m =
+    parts a next (loadOf j f) (m .2 ∙ ap installReadBack (load-fixed j f (m .0) .0 (m .1)) ∙ capi.claims .load-read-back j f)
 step-to j (opens n) a next m = parts a next (openOf j n) (m .2 ∙ ap openReadBack (m .1 .1) ∙ capi.claims .open-read-back j n)
 step-to j (delivers p v w) a next m =
     parts a next (deliverOf j p v w)
@@ -34,6 +43,11 @@ step-to j asksVerdict a next m = (m .2 ∙ ap judged (ap verdictReadBack (m .1 .
 step-back : (j : Judge) (c : Call) (a : Reply) (next : Judge) → (a ≡ stepOf j c .reply) × (next ≡ stepOf j c .state) → MayStep j c a next
 step-back j (installs rule) a next e =
     (installShown (installOf j rule), ((j, (rule, tt)), refl), whole a next (installOf j rule) e ∙ sym (capi.claims .install-read-back j rule))
+step-back j (loads f) a next e = (
+  installShown (loadOf j f),
+  load-fixed j f (installShown (loadOf j f)) .1 refl,
+  whole a next (loadOf j f) e ∙ sym (capi.claims .load-read-back j f),
+)
 step-back j (opens n) a next e = (openShown (openOf j n), ((j, (n, tt)), refl), whole a next (openOf j n) e ∙ sym (capi.claims .open-read-back j n))
 step-back j (delivers p v w) a next e = (
   deliverShown (deliverOf j p v w),
@@ -46,6 +60,7 @@ step-back j asksVerdict a next e = (verdictShown (reportOf j), ((j, tt), refl), 
 
 asks-nothing : (j : Judge) (c : Call) → AsksStep j c
 asks-nothing j (installs rule) = install-asks-nothing j rule
+asks-nothing j (loads f) = λ κs c e. load-asks-nothing κs j c
 asks-nothing j (opens n) = open-asks-nothing j n
 asks-nothing j (delivers p v w) = λ κs c e. deliver-asks-nothing κs j p v c
 asks-nothing j (withdraws p) = withdraw-asks-nothing j p
@@ -59,17 +74,11 @@ c-meets = record {
   steps = λ j c a next. (step-to j c a next, step-back j c a next);
 }
 
--- what reading a file, a load and a recorded list come to is fixed too
+-- what reading a file and a recorded list come to is fixed too
 pub read-fixed : (f : List ℕ) (r : ReadNumbers) → MayRead f r ↔ r ≡ readShown (readOf f)
 read-fixed f r = (
   (λ m. m .4 ∙ ap (λ (x : List ℕ). readShown (readOf x)) (m .3)),
   λ e. (([], tt), lent f, (lent f, tt), refl, e),
-)
-
-pub load-fixed : (j : Judge) (f : List ℕ) (r : InstallNumbers) → MayLoad j f r ↔ r ≡ installShown (loadOf j f)
-load-fixed j f r = (
-  (λ m. m .4 ∙ ap (λ (x : List ℕ). installShown (loadOf j x)) (m .3)),
-  λ e. (([], tt), lent f, (j, (lent f, tt)), refl, e),
 )
 
 pub replay-fixed : (text : List ℕ) (r : ReplayNumbers) → MayReplay text r ↔ r ≡ replayShown (replayOf (recordIn text))

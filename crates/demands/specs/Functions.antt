@@ -2,9 +2,9 @@
 -- (`Reads.Learnt`): any result that a function's contract does not rule out. `cLibrary` is what a
 -- program in C gets that calls them; crates/histories has the same for the judge's own functions.
 --
---   MayBegin .. MayJudge   what `bellbadger_new`, `_install`, `_open`, `_deliver`, `_withdraw` and
---                          `_verdict` may return for their arguments
---   MayRead, MayLoad       what `bellbadger_read` and `_load` may, which are no calls
+--   MayBegin .. MayJudge   what `bellbadger_new`, `_install`, `_load`, `_open`, `_deliver`,
+--                          `_withdraw` and `_verdict` may return for their arguments
+--   MayRead                what `bellbadger_read` may, which is no call
 --   AsksStep j c           what the function of the call c asks before it is called on the judge j
 --   MayStep j c a next     on the judge j the call c may return numbers that say the reply a, and
 --                          leave the judge next
@@ -20,7 +20,7 @@ use Rattle.executions.specs.Executions.{Library}
 use Rattle.automaton.specs.declared.Rule.{Rule}
 use Rattle.calls.specs.declared.Judge.{Judge}
 use Rattle.calls.specs.Replies.{Reply, judged}
-use Rattle.calls.specs.Calls.{Call, installs, opens, delivers, withdraws, asksVerdict}
+use Rattle.calls.specs.Calls.{Call, installs, loads, opens, delivers, withdraws, asksVerdict}
 use Rattle.calls.specs.Steps.{Outcome}
 use Rattle.capi.specs.declared.ReadNumbers.{ReadNumbers}
 use Rattle.capi.specs.declared.InstallNumbers.{InstallNumbers}
@@ -85,6 +85,7 @@ MayReplay text r =
 -- what each asks before it is called
 abbrev pub AsksStep : Judge → Call → Type 0
 AsksStep j (installs rule) = install-reads.Asked tt (j, (rule, tt))
+AsksStep j (loads f) = (κs : Lfts 1) (c : RefT (List ℕ)) → now c ≡ f → load-reads.Asked κs (j, (c, tt))
 AsksStep j (opens n) = open-reads.Asked tt (j, (n, tt))
 AsksStep j (delivers p v w) = (κs : Lfts 1) (c : RefT (List ℕ)) → now c ≡ w → deliver-reads.Asked κs (j, (p, (v, (c, tt))))
 AsksStep j (withdraws p) = withdraw-reads.Asked tt (j, (p, tt))
@@ -92,6 +93,7 @@ AsksStep j asksVerdict = verdict-reads.Asked tt (j, tt)
 
 abbrev pub MayStep : Judge → Call → Reply → Judge → Type 0
 MayStep j (installs rule) a next = (r : InstallNumbers) × MayInstall j rule r × (record { reply = a; state = next } ≡ installReadBack r)
+MayStep j (loads f) a next = (r : InstallNumbers) × MayLoad j f r × (record { reply = a; state = next } ≡ installReadBack r)
 MayStep j (opens n) a next = (r : OpenNumbers) × MayOpen j n r × (record { reply = a; state = next } ≡ openReadBack r)
 MayStep j (delivers p v w) a next = (r : DeliverNumbers) × MayDeliver j p v w r × (record { reply = a; state = next } ≡ deliverReadBack r)
 MayStep j (withdraws p) a next = (r : WithdrawNumbers) × MayWithdraw j p r × (record { reply = a; state = next } ≡ withdrawReadBack r)

@@ -2,8 +2,18 @@
 -- induction over the list. Assumes nothing.
 use mathlib.Core.Path.{_≡_, refl, sym, ap, ap₂, _∙_, subst, subst₂}
 use mathlib.Core.Logic.{_↔_}
-use mathlib.Core.List.{List, [], _∷_}
+use mathlib.Core.List.{List, [], _∷_, _++_}
+use mathlib.Core.Option.{some}
+use lib.ListN.{length, getElem?}
 use Rattle.executions.specs.Executions.{Machine, stateAfter, repliesTo, Library, Execution, begin, call, Meets}
+
+-- the reply to a call has as many before it as calls are made after that one
+module _ {S C R : Type 0} (m : Machine S C R) where
+  pub reply-at : (later : List C) (c : C) (earlier : List C)
+      → getElem? (repliesTo m (later ++ (c ∷ earlier))) (length later) ≡ some (m .reply (stateAfter m earlier) c)
+  unfolding repliesTo
+  reply-at [] c earlier = refl
+  reply-at (d ∷ later) c earlier = reply-at later c earlier
 
 module _ {S C R : Type 0} (l : Library S C R) (m : Machine S C R) (meets : Meets l m) where
   -- whatever the library allows is what the machine does

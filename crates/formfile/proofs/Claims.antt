@@ -1,7 +1,7 @@
 -- The one proof of all that specs/Claims.antt claims: a load that is accepted installs the rule in
 -- the file. Assumes nothing.
 use mathlib.Core.Path.{_≡_, refl, sym, ap, _∙_, subst}
-use mathlib.Core.List.{List, [], _++_}
+use mathlib.Core.List.{List, [], _∷_}
 use mathlib.Core.Option.{Option, none, some}
 use Prim.Native.Nat.{ℕ}
 use Rattle.base.proofs.Tests.{zero-one}
@@ -9,28 +9,30 @@ use Rattle.automaton.specs.declared.Rule.{Rule}
 use Rattle.ruleformat.specs.Reader.{ruleOf}
 use Rattle.build.specs.Building.{builtOf}
 use Rattle.calls.specs.declared.Judge.{Judge}
-use Rattle.calls.specs.Calls.{Call, loadNumber}
+use Rattle.calls.specs.Calls.{Call, loads, loadNumber}
 use Rattle.calls.specs.Steps.{outcomeBy, installReply, fresh, withRule, loadOf}
 use Rattle.forms.specs.Form.{formOf}
 use Rattle.forms.specs.Back.{backOf}
 use Rattle.formmaker.specs.Making.{Made, madeOf}
 use Rattle.formtrip.specs.Claims.{tableIn}
 use Rattle.formtrip.proofs.Claims as formtrip
-use Rattle.histories.specs.History.{loading}
-use Rattle.histories.specs.Claims.{judgeAfter, loadAfter}
-use Rattle.histories.proofs.EveryList.{every-list}
+use Rattle.executions.specs.Executions.{stateAfter}
+use Rattle.histories.specs.History.{ruleThere}
+use Rattle.histories.specs.Claims.{judgeAfter}
 use Rattle.formfile.specs.Files.{formBy, formFor}
 use Rattle.formfile.specs.Claims.{Claims}
 
 module _ (f : List ℕ) (ok : loadNumber f ≡ none) where
   abbrev calls : List Call
-  calls = loading f ++ []
+  calls = loads f ∷ []
 
   judge-is : judgeAfter calls ≡ withRule (ruleOf f)
-  unfolding loadOf
-  judge-is =
-      sym (every-list [] .loads f .state)
-      ∙ ap (λ (o : Option ℕ). outcomeBy o (installReply (ruleOf f)) (judgeAfter []) (withRule (ruleOf f)) .state) ok
+  unfolding stateAfter loadOf
+  judge-is = ap (λ (o : Option ℕ). outcomeBy o (installReply (ruleOf f)) (judgeAfter []) (withRule (ruleOf f)) .state) ok
+
+  rule-there : ruleThere calls ≡ some (ruleOf f)
+  unfolding ruleThere
+  rule-there = rw ok
 
   made-is : formFor f ≡ madeOf (withRule (ruleOf f))
   made-is = ap (λ (o : Option ℕ). formBy o f) ok
@@ -39,12 +41,12 @@ module _ (f : List ℕ) (ok : loadNumber f ≡ none) where
       ≡ record { number = none; form = formOf (builtOf (ruleOf f) .setcount) (builtOf (ruleOf f) .k) (builtOf (ruleOf f) .next) }
   form-is =
       subst (λ (j : Judge). madeOf j ≡ record { number = none; form = formOf (j .built .setcount) (j .built .k) (j .built .next) })
-      judge-is (formtrip.claims .form calls (ruleOf f) (every-list [] .loads f .rule ok))
+      judge-is (formtrip.claims .form calls (ruleOf f) rule-there)
 
   back-is : backOf (madeOf (withRule (ruleOf f)) .form) ≡ record { number = none; table = tableIn (withRule (ruleOf f)) }
   back-is =
       subst (λ (j : Judge). backOf (madeOf j .form) ≡ record { number = none; table = tableIn j })
-      judge-is (formtrip.claims .round-trip calls (ruleOf f) (every-list [] .loads f .rule ok))
+      judge-is (formtrip.claims .round-trip calls (ruleOf f) rule-there)
 
 as-load : (f : List ℕ) (o : Option ℕ) → loadNumber f ≡ o → formFor f .number ≡ loadNumber f
 as-load f none e = ap (λ (m : Made). m .number) (made-is f e ∙ form-is f e) ∙ sym e

@@ -15,24 +15,27 @@ use lib.ListN.{length}
 use borrow.Author.Tests.{eq-eqb, ne-eqb, eqb-true, eqb-false, lt-ltb, le-ltb, ltb-true, ltb-false, le-leb, lt-leb, leb-true, leb-false}
 use Rattle.base.specs.Options.{isNone}
 use Rattle.base.proofs.Options.{none-some, is-some, not-some}
-use Rattle.base.proofs.Conditions.{none-law, outside-law, is-outside, named, not-named, first-here, first-past}
-use Rattle.base.specs.Conditions.{Condition, on, firstOf, NoneHolds, outside}
+use Rattle.base.proofs.Conditions.{none-law, first-law, outside-law, is-outside, named, not-named, first-here, first-past}
+use Rattle.base.specs.Conditions.{Condition, on, firstOf, NoneHolds, FirstHolds, outside}
 use Rattle.base.proofs.Tests.{zero-one}
 use Rattle.marks.specs.Marks.{textOf}
 use Rattle.automaton.specs.declared.Rule.{Rule}
 use Rattle.automaton.specs.Rules.{automatonOf, WellFormed}
 use Rattle.rulecheck.specs.Checking.{ruleConditions, ruleNumber}
 use Rattle.rulecheck.proofs.Laws as rulecheck
+use Rattle.ruleformat.specs.Refusals.{fileConditions, refusal}
+use Rattle.ruleformat.specs.Reader.{ruleOf}
+use Rattle.ruleformat.specs.Language.{automatonIn}
 use Rattle.subsets.specs.Sets.{setsOf}
 use Rattle.delegates.specs.Claims.{startsIn}
 use Rattle.chunks.specs.Chunks.{foreign}
 use Rattle.calls.specs.Replies.{Reply, accepted, installed, delivered, refused}
-use Rattle.calls.specs.Calls.{Call, delivers, withdraws, installNumber, openConditions}
-use Rattle.calls.proofs.Conditions.{orElse, over, install-number}
+use Rattle.calls.specs.Calls.{Call, delivers, withdraws, installNumber, loadNumber, openConditions}
+use Rattle.calls.proofs.Conditions.{orElse, over, install-number, load-number}
 use Rattle.histories.specs.History.{ruleThere, ruleIn, placesIn, lookedOf, notGreater, lastRevision, standing, replyBy, withSets, answerOf}
 use Rattle.histories.specs.Method.{TooMany}
 use Rattle.histories.specs.Conditions.{Accepted-exactly, Refused-exactly}
-use Rattle.histories.proofs.Method.{nine-law}
+use Rattle.histories.proofs.Method.{nine-law, nine-bytes}
 
 -- ---- accepted where no condition holds
 pub reply-law : (o : Option ℕ) → (replyBy o accepted ≡ accepted) ↔ (o ≡ none)
@@ -125,6 +128,37 @@ module _ (r : Rule) where
   rule-words : (x : ℕ) → eqb 9 x ≡ false → (installNumber r ≡ some x) ↔ (ruleNumber r ≡ some x)
   rule-words x other = number-is (some x) (install-number r) (by-other (ruleNumber r) (over r) x other)
 
+-- ---- a load: the file's conditions, then 9
+module _ (f : List ℕ) where
+  -- no condition of a file has the number 9
+  file-below-9 : refusal f ≡ some 9 → ⊥
+  unfolding refusal named
+  file-below-9 e = not-named 9 (fileConditions f) refl e
+
+  -- reading accepts it, in words
+  read-law : (refusal f ≡ none) ↔ NoneHolds (fileConditions f)
+  unfolding refusal
+  read-law = none-law (fileConditions f)
+
+  many-law : NoneHolds (fileConditions f) → (over (ruleOf f) ≡ true) ↔ TooMany (automatonIn f)
+  many-law x = nine-bytes f (read-law .1 x)
+
+  loads-law : (loadNumber f ≡ none) ↔ (NoneHolds (fileConditions f) × (TooMany (automatonIn f) → ⊥))
+  loads-law =
+      number-is none (load-number f)
+      (Iff·trans (by-none (refusal f) (over (ruleOf f))) (both read-law (λ x. not-true (over (ruleOf f)) (many-law x))))
+
+  file-nine : (loadNumber f ≡ some 9) ↔ (NoneHolds (fileConditions f) × TooMany (automatonIn f))
+  file-nine =
+      number-is (some 9) (load-number f)
+      (Iff·trans (by-nine (refusal f) (over (ruleOf f)) file-below-9) (both read-law many-law))
+
+  file-words : (x : ℕ) → x ≤ 8 → (loadNumber f ≡ some x) ↔ FirstHolds x (fileConditions f)
+  unfolding refusal
+  file-words x l =
+      number-is (some x) (load-number f)
+      (Iff·trans (by-other (refusal f) (over (ruleOf f)) x (ne-eqb 9 x (λ e. absurd (omega (arith, e, l))))) (first-law x (fileConditions f)))
+
 -- ---- a number of a list of conditions
 pub refused-law : (o : Option ℕ) (a : Reply) (x : ℕ) → (a ≡ refused x → ⊥) → (replyBy o a ≡ refused x) ↔ (o ≡ some x)
 refused-law none a x other = (λ e. absurd (other e), λ e. zero-one cc)
@@ -172,6 +206,7 @@ pub accepted-exactly : (h : List Call) → Accepted-exactly h
 accepted-exactly h = record {
   installation = λ r.
       Iff·trans (installed-law (installNumber r) (length (setsOf (r .targets) (r .n) (r .k))) (startsIn r .startcount)) (installs-law r);
+  load = λ f. Iff·trans (installed-law (loadNumber f) _ _) (loads-law f);
   opening = λ n.
       let law = none-hold (on 20 (isNone (ruleThere h)) ∷ on 10 (outside 1 64 n) ∷ []) in (
         (λ e. let x = law .0 e in let b = outside-law 1 64 n .0 (x .1 .0) in (is-some (ruleThere h) .0 (x .0), b .0, b .1)),
@@ -300,6 +335,8 @@ refused-exactly h = record {
   install-6 = λ r. install-law r 6 refl (rulecheck.refused r .number-6);
   install-8 = λ r. install-law r 8 refl (rulecheck.refused r .number-8);
   install-9 = λ r. Iff·trans (refused-law (installNumber r) (withSets r) 9 (not-installed 9 _ _)) (nine-words r);
+  load-by-file = λ f x l. Iff·trans (refused-law (loadNumber f) (withSets (ruleOf f)) x (not-installed x _ _)) (file-words f x l);
+  load-9 = λ f. Iff·trans (refused-law (loadNumber f) (withSets (ruleOf f)) 9 (not-installed 9 _ _)) (file-nine f);
   open-20 = λ n.
       Iff·trans (refused-law (firstOf (openConditions (isNone (ruleThere h)) n)) accepted 20 (not-accepted 20))
       (Iff·trans (first-here 20 (isNone (ruleThere h)) (on 10 (outside 1 64 n) ∷ []) refl) (there (ruleThere h)));

@@ -29,7 +29,7 @@ use Rattle.chunks.proofs.Claims as chunks
 use Rattle.board.specs.Boards.{placesOf, comesLate, filledAt, summedCount}
 use Rattle.calls.specs.declared.Judge.{Judge}
 use Rattle.calls.specs.Replies.{delivered}
-use Rattle.calls.specs.Calls.{Call, installs, opens, delivers, withdraws, asksVerdict, installNumber, openConditions, deliverConditions}
+use Rattle.calls.specs.Calls.{Call, installs, loads, opens, delivers, withdraws, asksVerdict, installNumber, loadNumber, openConditions, deliverConditions}
 use Rattle.calls.specs.Steps.{lacksBoard, withBoard, outcomeBy, runsAt, deliverOf, stepOf}
 use Rattle.calls.proofs.Conditions.{orElse, first-append}
 use Rattle.histories.specs.History.{ruleThere, ruleFrom, ruleIn, openNumber, placesIn, runAt, countOf, lookedOf, withdrawCheck, notGreater, lastRevision, standing, countAt, deliverNumber, summedIn, replyBy}
@@ -66,6 +66,7 @@ pub standing-short : (h : List Call) (p : ℕ) (w : List ℕ) → standing h p �
 unfolding standing
 standing-short [] p w e = zero-one cc
 standing-short (installs r ∷ h) p w e = standing-short h p w (kept (isNone (installNumber r)) (standing h p) w e)
+standing-short (loads f ∷ h) p w e = standing-short h p w (kept (isNone (loadNumber f)) (standing h p) w e)
 standing-short (opens n ∷ h) p w e = standing-short h p w (kept (isNone (openNumber h n)) (standing h p) w e)
 standing-short (delivers q v x ∷ h) p w e =
     by-test (eqb q p && isNone (deliverNumber h q v x))
@@ -89,6 +90,7 @@ places-few : (h : List Call) → placesIn h ≤ 64
 unfolding placesIn
 places-few [] = omega arith
 places-few (installs r ∷ h) = by-test (isNone (installNumber r)) (λ t. rw t (omega arith)) (λ t. rw t (places-few h))
+places-few (loads f ∷ h) = by-test (isNone (loadNumber f)) (λ t. rw t (omega arith)) (λ t. rw t (places-few h))
 places-few (opens n ∷ h) =
     by-test (isNone (openNumber h n))
     (λ t.
@@ -188,6 +190,7 @@ module _ (h : List Call) (p v : ℕ) (w : List ℕ) where
 -- ---- the judge with the six conditions
 same-step : (h : List Call) (c : Call) → formerStep (judgeAfter h) c ≡ stepOf (judgeAfter h) c
 same-step h (installs r) = refl
+same-step h (loads f) = refl
 same-step h (opens n) = refl
 same-step h (delivers p v w) = same-delivery h p v w
 same-step h (withdraws p) = refl

@@ -10,28 +10,30 @@ use Rattle.executions.specs.Executions.{stateAfter, repliesTo as machineReplies
 use Rattle.base.proofs.Tests.{not-both}
 use Rattle.marks.specs.Marks.{textOf}
 use Rattle.automaton.specs.declared.Rule.{Rule}
+use Rattle.ruleformat.proofs.Claims as rulefile
 use Rattle.chunks.proofs.Claims as chunks
 use Rattle.calls.specs.declared.Judge.{Judge}
 use Rattle.calls.specs.Replies.{delivered, judged}
-use Rattle.calls.specs.Calls.{Call, installs, opens, delivers, withdraws, asksVerdict}
+use Rattle.calls.specs.Calls.{Call, installs, loads, opens, delivers, withdraws, asksVerdict}
 use Rattle.calls.specs.Steps.{reportOf, stepOf}
+use Rattle.calls.proofs.Conditions.{load-accepted}
 use Rattle.histories.specs.History.{ruleThere, placesIn, lastRevision, standing, reportIn, answerOf, answersTo, ruleFrom, ruleIn, runAt}
 use Rattle.histories.specs.Claims.{judgeAfter, repliesTo, EveryList, LookedUp}
-use Rattle.histories.proofs.Method.{method}
+use Rattle.histories.proofs.Method.{method, method-bytes}
 use Rattle.histories.proofs.Running.{run-below}
 use Rattle.histories.proofs.Agreement.{Agrees}
 use Rattle.histories.proofs.Conditions.{accepted-exactly, refused-exactly}
 use Rattle.histories.proofs.Numbers.{summed-same, bytes-same}
-use Rattle.histories.proofs.Steps.{AgreesWith, good-fresh, install-good, install-says, open-good, open-says, withdraw-good, withdraw-says, ask-good, deliver-good, deliver-says}
+use Rattle.histories.proofs.Steps.{AgreesWith, good-fresh, install-good, install-says, load-good, load-says, open-good, open-says, withdraw-good, withdraw-says, ask-good, deliver-good, deliver-says}
 use Rattle.histories.proofs.VerdictAgrees.{by-rule, verdict-says, report-says}
 use Rattle.histories.proofs.VerdictClauses.{there, words}
 use Rattle.histories.proofs.ReportClauses.{report-words}
-use Rattle.histories.proofs.Loads.{load-clauses}
 
 -- ---- one call
 module _ (h : List Call) (j : Judge) (g : AgreesWith h j) where
   step-good : (c : Call) → AgreesWith (c ∷ h) (stepOf j c .state)
   step-good (installs r) = install-good h j g r
+  step-good (loads f) = load-good h j g f
   step-good (opens n) = open-good h j g n
   step-good (delivers p v w) = deliver-good h j g p v w
   step-good (withdraws p) = withdraw-good h j g p
@@ -39,6 +41,7 @@ module _ (h : List Call) (j : Judge) (g : AgreesWith h j) where
 
   step-right : (c : Call) → stepOf j c .reply ≡ answerOf h c
   step-right (installs r) = install-says h j g r
+  step-right (loads f) = load-says h j g f
   step-right (opens n) = open-says h j g n
   step-right (delivers p v w) = deliver-says h j g p v w
   step-right (withdraws p) = withdraw-says h j g p
@@ -83,6 +86,8 @@ every-list h =
     record {
       correct = correct h;
       method = method;
+      method-of-bytes = method-bytes;
+      language-of-bytes = λ f e. rulefile.claims .language f (load-accepted f e .0);
       accepted-exactly = accepted-exactly h;
       refused-exactly = refused-exactly h;
       looked-up = looked-up h;
@@ -102,7 +107,6 @@ every-list h =
       };
       verdict = words h (judgeAfter h) g;
       report = report-words h;
-      loads = λ f. load-clauses f h;
     }
 
 -- a call made then is answered as the list says

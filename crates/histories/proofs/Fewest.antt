@@ -1,6 +1,6 @@
--- The M that the build returns, and that an installation answers, is the fewest starts (R-12): it is
--- the number of starts of the built rule, which crates/delegates shows to be the least. Assumes
--- nothing.
+-- The M that the build returns, and that an installation or a load answers, is the fewest starts
+-- (R-12): it is the number of starts of the built rule, which crates/delegates shows to be the
+-- least. Assumes nothing.
 use mathlib.Core.Path.{_≡_, refl, sym, ap, _∙_, subst}
 use mathlib.Core.Bool.{false}
 use mathlib.Core.List.{List}
@@ -61,8 +61,8 @@ install-fewest h r n m = by-number (installNumber r) refl
         subst (Fewest (automatonOf r)) same (least r (x .0) (x .1))
     by-number (some y) z e = zero-one cc
 
-pub load-fewest : LoadFewest
-load-fewest f n m = by-number (loadNumber f) refl
+pub load-fewest : (h : List Call) → LoadFewest h
+load-fewest h f n m = by-number (loadNumber f) refl
   where
     by-number : (o : Option ℕ) → loadNumber f ≡ o → replyBy o (withSets (ruleOf f)) ≡ installed n m → Fewest (automatonIn f) m
     by-number none z e =

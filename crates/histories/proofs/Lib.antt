@@ -10,8 +10,8 @@ pub mod VerdictAgrees
 pub mod VerdictClauses
 pub mod ReportClauses
 pub mod Conditions
-pub mod Loads
 pub mod EveryList
+pub mod VerdictSays
 pub mod Refinement
 pub mod CountBound
 pub mod FormerStarts

@@ -30,11 +30,11 @@ use Rattle.calls.specs.declared.Report.{Report}
 use Rattle.calls.specs.declared.Verdict.{Verdict}
 use Rattle.calls.specs.declared.Verdict.the-variants as verdict
 use Rattle.calls.specs.Replies.{Judgement, waiting, yesWith, noWith, refusedWith, Reported, Reply, accepted, installed, judged, verdictMeans, reportMeans, delivered}
-use Rattle.calls.specs.Calls.{Call, installs, opens, delivers, withdraws, asksVerdict, installNumber, loadNumber, openConditions, deliverConditions, withdrawConditions}
+use Rattle.calls.specs.Calls.{Call, installs, loads, opens, delivers, withdraws, asksVerdict, installNumber, loadNumber, openConditions, deliverConditions, withdrawConditions}
 use Rattle.calls.specs.Steps.{Outcome, lacksRule, lacksBoard, withBoard, installOutcome, openOutcome, deliverOutcome, withdrawOutcome, outcomeBy, withRule, runsAt, installOf, loadOf, openOf, deliverOf, withdrawOf, reportOf, stepOf}
 use Rattle.judge.proofs.Asks.{new-judge-asks-nothing, install-asks-nothing, load-asks-nothing, open-asks-nothing, deliver-asks-nothing, withdraw-asks-nothing, verdict-asks-nothing}
 use Rattle.histories.specs.Claims.{judgeMachine, judgeAfter, repliesTo}
-use Rattle.histories.specs.Functions.{AsksStep, AsksLoad, MayLoad, MayStep, judgeLibrary}
+use Rattle.histories.specs.Functions.{AsksStep, MayStep, judgeLibrary}
 
 -- ---- the outcome of a call, as a value of its answer type
 module _ (j next : Judge) where
@@ -109,6 +109,7 @@ whole a next o e = ap₂ (λ (x : Reply) (y : Judge). record { reply = x; state 
 
 step-to : (j : Judge) (c : Call) (a : Reply) (next : Judge) → MayStep j c a next → (a ≡ stepOf j c .reply) × (next ≡ stepOf j c .state)
 step-to j (installs rule) a next m = parts a next (installOf j rule) (m .2 ∙ m .1 .1)
+step-to j (loads f) a next m = parts a next (loadOf j f) (m .2 ∙ m .1 .4 ∙ ap (loadOf j) (m .1 .3))
 step-to j (opens n) a next m = parts a next (openOf j n) (m .2 ∙ m .1 .1)
 step-to j (delivers p v w) a next m = parts a next (deliverOf j p v w) (m .2 ∙ m .1 .4 ∙ ap (deliverOf j p v) (m .1 .3))
 step-to j (withdraws p) a next m = parts a next (withdrawOf j p) (m .2 ∙ m .1 .1)
@@ -118,6 +119,9 @@ step-back : (j : Judge) (c : Call) (a : Reply) (next : Judge) → (a ≡ stepOf 
 step-back j (installs rule) a next e =
     let r = installation-of j rule in
     (r .0, ((j, (rule, tt)), r .1), whole a next (installOf j rule) e ∙ sym (r .1))
+step-back j (loads f) a next e =
+    let r = loading-of j f in
+    (r .0, (([], tt), lent f, (j, (lent f, tt)), refl, r .1), whole a next (loadOf j f) e ∙ sym (r .1))
 step-back j (opens n) a next e =
     let r = opening-of j n in
     (r .0, ((j, (n, tt)), r .1), whole a next (openOf j n) e ∙ sym (r .1))
@@ -131,6 +135,7 @@ step-back j asksVerdict a next e = let r = a-report (reportOf j) in (r .0, ((j, 
 
 asks-nothing : (j : Judge) (c : Call) → AsksStep j c
 asks-nothing j (installs rule) = install-asks-nothing j rule
+asks-nothing j (loads f) = λ κs c e. load-asks-nothing κs j c
 asks-nothing j (opens n) = open-asks-nothing j n
 asks-nothing j (delivers p v w) = λ κs c e. deliver-asks-nothing κs j p v c
 asks-nothing j (withdraws p) = withdraw-asks-nothing j p
@@ -148,13 +153,3 @@ judge-meets = record {
 pub after-any-list : (h : List Call) (replies : List Reply) (j : Judge)
     → Execution judgeLibrary h replies j ↔ (replies ≡ repliesTo h) × (j ≡ judgeAfter h)
 after-any-list = execution-law judgeLibrary judgeMachine judge-meets
-
--- ---- a load, which is no call: what its contract allows is the outcome of the definition
-pub load-asks : (j : Judge) (f : List ℕ) → AsksLoad j f
-load-asks j f κs c e = load-asks-nothing κs j c
-
-pub load-may : (j : Judge) (f : List ℕ) (o : Outcome) → ((r : InstallResult) × MayLoad j f r × (o ≡ installOutcome r)) ↔ (o ≡ loadOf j f)
-load-may j f o = (
-  (λ m. m .2 ∙ m .1 .4 ∙ ap (loadOf j) (m .1 .3)),
-  λ e. let r = loading-of j f in (r .0, (([], tt), lent f, (j, (lent f, tt)), refl, r .1), e ∙ sym (r .1)),
-)

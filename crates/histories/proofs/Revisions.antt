@@ -11,7 +11,7 @@ use Rattle.base.specs.Options.{isNone}
 use Rattle.base.proofs.Options.{none-some}
 use Rattle.base.proofs.Tests.{by-test}
 use Rattle.calls.specs.Replies.{accepted, delivered}
-use Rattle.calls.specs.Calls.{Call, installs, opens, delivers, withdraws, asksVerdict, installNumber}
+use Rattle.calls.specs.Calls.{Call, installs, loads, opens, delivers, withdraws, asksVerdict, installNumber, loadNumber}
 use Rattle.histories.specs.History.{ruleThere, ruleIn, openNumber, placesIn, lookedOf, lastRevision, standing, deliverNumber, withdrawNumber, answerOf}
 use Rattle.histories.specs.Revisions.{Revisions}
 use Rattle.histories.proofs.Conditions.{reply-law, delivered-law, accepted-exactly, refused-exactly}
@@ -31,6 +31,8 @@ unfolding standing lastRevision
 nothing-stands [] p e = refl
 nothing-stands (installs r ∷ h) p e =
     by-test (isNone (installNumber r)) (λ t. rw t) (λ t. rw t (nothing-stands h p (rw t at e)))
+nothing-stands (loads f ∷ h) p e =
+    by-test (isNone (loadNumber f)) (λ t. rw t) (λ t. rw t (nothing-stands h p (rw t at e)))
 nothing-stands (opens n ∷ h) p e =
     by-test (isNone (openNumber h n)) (λ t. rw t) (λ t. rw t (nothing-stands h p (rw t at e)))
 nothing-stands (delivers q v w ∷ h) p e =

@@ -15,6 +15,7 @@ use Rattle.base.proofs.Tests.{by-test, or-right, zero-one, not-both}
 use Rattle.marks.specs.Marks.{textOf}
 use Rattle.automaton.specs.declared.Rule.{Rule}
 use Rattle.rulecheck.proofs.Laws as rulecheck
+use Rattle.ruleformat.specs.Reader.{ruleOf}
 use Rattle.automaton.specs.Automaton.{Text}
 use Rattle.automaton.specs.Rules.{WellFormed}
 use Rattle.subsets.specs.Claims.{fits}
@@ -22,10 +23,10 @@ use Rattle.chunks.proofs.Claims as chunks
 use Rattle.board.specs.Boards.{emptyBoard, clearedAt, filledAt}
 use Rattle.calls.specs.declared.Judge.{Judge}
 use Rattle.calls.specs.Replies.{Reply, accepted, delivered}
-use Rattle.calls.proofs.Conditions.{not-refused}
+use Rattle.calls.proofs.Conditions.{not-refused, load-accepted}
 use Rattle.histories.specs.History.{ruleThere, ruleFrom, ruleIn, openNumber, placesIn, lookedOf, notGreater, deliverCheck, lastRevision, standing, deliverNumber, withdrawNumber, replyBy, withSets}
-use Rattle.calls.specs.Calls.{Call, installs, opens, delivers, withdraws, asksVerdict, installNumber, deliverConditions}
-use Rattle.calls.specs.Steps.{fresh, withBoard, outcomeBy, withRule, installReply, runsAt, installOf, openOf, deliverOf, withdrawOf}
+use Rattle.calls.specs.Calls.{Call, installs, loads, opens, delivers, withdraws, asksVerdict, installNumber, loadNumber, deliverConditions}
+use Rattle.calls.specs.Steps.{fresh, withBoard, outcomeBy, withRule, installReply, runsAt, installOf, loadOf, openOf, deliverOf, withdrawOf}
 use Rattle.histories.specs.Claims.{BuiltBy}
 use Rattle.histories.proofs.Agreement.{Agrees, all-empty, fresh-holds, placed, cleared-holds, run-looked, filled-holds}
 use Rattle.histories.proofs.Numbers.{open-number, withdraw-number, deliver-number}
@@ -44,7 +45,7 @@ transfer : {present present′ : Option Rule} {places places′ : ℕ} {at at′
 transfer {present′ = present′} {places′ = places′} {at′ = at′} {last = last} j f p a l holds =
     subst (λ z. Agrees present′ places′ at′ z j) (fun-ext l) (subst₃ (λ x y z. Agrees x y z last j) f p (fun-ext a) holds)
 
--- ---- install
+-- ---- install and load
 -- an accepted rule is well formed and has at most 512 sets
 pub accepted-rule : (r : Rule) → installNumber r ≡ none → WellFormed r × fits r
 accepted-rule r e = let n = not-refused r e in (rulecheck.passes r .0 (n .0), n .1)
@@ -54,22 +55,32 @@ by-says none a j next = refl
 by-says (some x) a j next = refl
 
 module _ (h : List Call) (j : Judge) (good : AgreesWith h j) where
-  module _ (r : Rule) where
-    installed-good : (number : Option ℕ) → installNumber r ≡ number
-        → AgreesWith (installs r ∷ h) (outcomeBy number (installReply r) j (withRule r) .state)
-    unfolding ruleThere placesIn standing lastRevision
-    installed-good none e =
+  -- the rule r, which goes in where there is no number
+  module _ (r : Rule) (number : Option ℕ) (fine : number ≡ none → installNumber r ≡ none) where
+    ruled-good : (o : Option ℕ) → number ≡ o
+        → Agrees (cond (isNone number) (some r) (ruleThere h)) (cond (isNone number) 0 (placesIn h)) (λ p. cond (isNone number) none (standing h p))
+        (λ p. cond (isNone number) none (lastRevision h p)) (outcomeBy o (installReply r) j (withRule r) .state)
+    ruled-good none e =
+        let x = accepted-rule r (fine e) in
         transfer (withRule r) (sym (rw e)) (sym (rw e)) (λ p. sym (rw e)) (λ p. sym (rw e))
-        (all-empty (some r) 0 (withRule r) (refl, accepted-rule r e .0, accepted-rule r e .1) refl (omega arith) (λ z. absurd (omega arith)))
-    installed-good (some x) e = transfer j (sym (rw e)) (sym (rw e)) (λ p. sym (rw e)) (λ p. sym (rw e)) good
+        (all-empty (some r) 0 (withRule r) (refl, x .0, x .1) refl (omega arith) (λ z. absurd (omega arith)))
+    ruled-good (some x) e = transfer j (sym (rw e)) (sym (rw e)) (λ p. sym (rw e)) (λ p. sym (rw e)) good
 
-    pub install-good : AgreesWith (installs r ∷ h) (installOf j r .state)
-    unfolding installOf
-    install-good = installed-good (installNumber r) refl
+  pub install-good : (r : Rule) → AgreesWith (installs r ∷ h) (installOf j r .state)
+  unfolding installOf ruleThere placesIn standing lastRevision
+  install-good r = ruled-good r (installNumber r) (λ e. e) (installNumber r) refl
 
-    pub install-says : installOf j r .reply ≡ replyBy (installNumber r) (withSets r)
-    unfolding installOf
-    install-says = by-says (installNumber r) (installReply r) j (withRule r)
+  pub install-says : (r : Rule) → installOf j r .reply ≡ replyBy (installNumber r) (withSets r)
+  unfolding installOf
+  install-says r = by-says (installNumber r) (installReply r) j (withRule r)
+
+  pub load-good : (f : List ℕ) → AgreesWith (loads f ∷ h) (loadOf j f .state)
+  unfolding loadOf ruleThere placesIn standing lastRevision
+  load-good f = ruled-good (ruleOf f) (loadNumber f) (λ e. load-accepted f e .1) (loadNumber f) refl
+
+  pub load-says : (f : List ℕ) → loadOf j f .reply ≡ replyBy (loadNumber f) (withSets (ruleOf f))
+  unfolding loadOf
+  load-says f = by-says (loadNumber f) (installReply (ruleOf f)) j (withRule (ruleOf f))
 
   -- ---- open
   open-is : (n : ℕ) → openOf j n ≡ outcomeBy (openNumber h n) accepted j (withBoard j (emptyBoard n))

@@ -1,4 +1,5 @@
--- Table P of document 01, proved as specs/TableP.antt claims it. Assumes nothing.
+-- Table P of document 01, and the case by hand, of the definitions: proofs/TablePRuns.antt ties
+-- them to functions. Assumes nothing.
 --
 -- The claim over every list of calls says that the replies are document 01's answers, and those
 -- compute once the delegates of rules A and B are put in.
@@ -26,12 +27,12 @@ use Rattle.build.specs.Building.{builtOf}
 use Rattle.delegates.specs.Alike.{delegateIn, startSet}
 use Rattle.chunks.specs.Chunks.{foreign, counted, runSet, looked}
 use Rattle.joins.specs.Joining.{joinOf, yesOf}
-use Rattle.histories.specs.History.{ruleThere, ruleFrom, withSets, loading, loadReply, openNumber, placesIn, standingCount, standingEnd, deliverCheck, lastRevision, standing, deliverNumber, standingText, reportIn, answersTo, ruleIn, lookedOf, replyBy, answerOf}
+use Rattle.histories.specs.History.{ruleThere, ruleFrom, withSets, openNumber, placesIn, standingCount, standingEnd, deliverCheck, lastRevision, standing, deliverNumber, standingText, reportIn, answersTo, ruleIn, lookedOf, replyBy, answerOf}
 use Rattle.calls.specs.Replies.{Reported, Reply, accepted, installed, judged, refused, delivered}
-use Rattle.calls.specs.Calls.{Call, installs, opens, delivers, asksVerdict, installNumber, loadNumber, verdictBy, reportBy}
-use Rattle.calls.proofs.Conditions.{load-number, load-accepted}
-use Rattle.histories.specs.Claims.{judgeAfter, BuiltBy}
-use Rattle.histories.specs.TableP.{sets, delegates, verdict, turned-down, Case, case, delivering, answering, callsFor, callsOf, repliesOf, rowsFrom, Shows, Each, Case-holds, table, TableP}
+use Rattle.calls.specs.Calls.{Call, loads, opens, delivers, loadNumber, verdictBy, reportBy}
+use Rattle.calls.proofs.Conditions.{load-number}
+use Rattle.histories.specs.Claims.{judgeAfter, repliesTo, BuiltBy}
+use Rattle.histories.specs.TableP.{sets, delegates, verdict, turned-down, Case, case, delivering, answering, callsFor, callsOf, repliesOf, rowsFrom, Shows, AsTabled, Each, cases}
 use Rattle.histories.proofs.EveryList.{every-list}
 use Rattle.histories.proofs.TwoRules.{listed, starts-A, starts-B}
 
@@ -76,10 +77,10 @@ Checked r d places p (c ∷ cs) last =
     (deliverCheck (r .k) places (last p) p 0 (c .0) ≡ none) × (looked (r .targets) (runSet d (r .n) (r .initials) p) (textOf (c .0)) ≡ c .1)
     × Checked r d places (suc p) cs (put last p 0)
 
-opened : (r : Rule) (n : ℕ) → installNumber r ≡ none → outside 1 64 n ≡ false
-    → (openNumber (installs r ∷ []) n ≡ none) × Stage r (opens n ∷ installs r ∷ []) n (λ _. none) (λ _. none)
+opened : (f : List ℕ) (n : ℕ) → loadNumber f ≡ none → outside 1 64 n ≡ false
+    → (openNumber (loads f ∷ []) n ≡ none) × Stage (ruleOf f) (opens n ∷ loads f ∷ []) n (λ _. none) (λ _. none)
 unfolding ruleThere placesIn standing lastRevision
-opened r n taken fine = (rw (taken, fine), record { rule = rw taken; board = rw (taken, fine); stands = fun-ext (λ i. rw (taken, fine)); revisions = fun-ext (λ i. rw (taken, fine)) })
+opened f n taken fine = (rw (taken, fine), record { rule = rw taken; board = rw (taken, fine); stands = fun-ext (λ i. rw (taken, fine)); revisions = fun-ext (λ i. rw (taken, fine)) })
 
 module _ (r : Rule) (places : ℕ) (d : List ℕ) (is : startsIn r .delegates ≡ d) where
   one-delivered : (h : List Call) (at : ℕ → Option (List ℕ)) (last : ℕ → Option ℕ) (p : ℕ) (w : List ℕ) (n : ℕ) → Stage r h places at last
@@ -141,24 +142,20 @@ Left (case f load (verdict chunks v)) = (x : Starts) × (startsIn (ruleOf f) ≡
 Left (case f load (turned-down x)) = (refusal f ≡ some x) × (load ≡ refused x)
 
 -- ---- and what follows from it
--- the load makes one call
-makes : (f : List ℕ) → loadNumber f ≡ none → loading f ≡ installs (ruleOf f) ∷ []
-makes f e = rw (load-accepted f e .0)
+-- of the replies to the calls of the case and of the state that they leave, `AsTabled` is true
+abbrev pub Case-holds : Case → Type 0
+Case-holds c = AsTabled c (repliesTo (callsOf c)) (judgeAfter (callsOf c))
 
-load-answer : (f : List ℕ) (load : Reply) → Accepted f load → loadReply f ≡ load
-load-answer f load a = rw (a .0) (a .1)
-
--- it is answered, and the rule is built
-installs-so : (f : List ℕ) (load : Reply) → Accepted f load → answersTo (loading f) ≡ load ∷ []
+-- the load is answered, and the rule is built
+loads-so : (f : List ℕ) (load : Reply) → Accepted f load → answersTo (loads f ∷ []) ≡ load ∷ []
 unfolding answersTo
-installs-so f load a =
-    ap answersTo (makes f (a .0)) ∙ ap (λ (x : Reply). x ∷ []) (ap (λ (o : Option ℕ). replyBy o (withSets (ruleOf f))) (load-accepted f (a .0) .1) ∙ a .1)
+loads-so f load a = ap (λ (x : Reply). x ∷ []) (ap (λ (o : Option ℕ). replyBy o (withSets (ruleOf f))) (a .0) ∙ a .1)
 
-built-so : (f : List ℕ) → loadNumber f ≡ none → judgeAfter (loading f) .built ≡ builtOf (ruleOf f)
+built-so : (f : List ℕ) → loadNumber f ≡ none → judgeAfter (loads f ∷ []) .built ≡ builtOf (ruleOf f)
 unfolding ruleThere
 built-so f e =
-    let there : ruleThere (loading f) ≡ some (ruleOf f) = ap ruleThere (makes f e) ∙ rw (load-accepted f e .1) in
-    subst (λ (present : Option Rule). BuiltBy present (judgeAfter (loading f))) there (every-list (loading f) .after .rule) .0
+    let there : ruleThere (loads f ∷ []) ≡ some (ruleOf f) = rw e in
+    subst (λ (present : Option Rule). BuiltBy present (judgeAfter (loads f ∷ []))) there (every-list (loads f ∷ []) .after .rule) .0
 
 verdict-answers : (f : List ℕ) (load : Reply) (x : Starts) (chunks : List (List ℕ × ℕ)) (v : Reported) → startsIn (ruleOf f) ≡ x → Taken f load x chunks v
     → answersTo (callsOf (case f load (verdict chunks v))) ≡ repliesOf (case f load (verdict chunks v))
@@ -166,51 +163,35 @@ unfolding answersTo
 verdict-answers f load x chunks v is t =
     let r = ruleOf f in
     let n = length chunks in
-    let taken = load-accepted f (t .0) .1 in
-    let o = opened r n taken (t .2) in
+    let o = opened f n (t .0) (t .2) in
     let same = ap (λ (s : Starts). s .delegates) is in
-    let h = opens n ∷ installs r ∷ [] in
+    let h = opens n ∷ loads f ∷ [] in
     let d = all-delivered r n (x .delegates) same chunks h (λ _. none) (λ _. none) 0 (o .1) (t .3) in
-    let first : answersTo h ≡ accepted ∷ load ∷ [] = rw (o .0, taken, is, t .1) in
-    ap (λ (l : List Call). answersTo (asksVerdict ∷ delivering 0 chunks (opens n ∷ l))) (makes f (t .0))
-    ∙ ap₂ _∷_
+    let first : answersTo h ≡ accepted ∷ load ∷ [] = rw (o .0, t .0, is, t .1) in
+    ap₂ _∷_
     (ap judged (asked r n (x .delegates) same (delivering 0 chunks h) (putAll 0 chunks (λ _. none)) (lastAll 0 chunks (λ _. none)) (d .1) ∙ t .4))
     (d .0 ∙ ap (answering chunks) first)
 
--- a file that is not read makes no call
-answers-none : (f : List ℕ) (x : ℕ) → refusal f ≡ some x → answersTo (loading f) ≡ []
+-- a file that is not read is refused with its number
+load-refused : (f : List ℕ) (x : ℕ) → refusal f ≡ some x → answersTo (loads f ∷ []) ≡ refused x ∷ []
 unfolding answersTo
-answers-none f x e = rw e
-
-load-refused : (f : List ℕ) (x : ℕ) → refusal f ≡ some x → loadReply f ≡ refused x
 load-refused f x e = let number : loadNumber f ≡ some x = load-number f ∙ rw e in rw number
 
 holds : (c : Case) → Left c → Case-holds c
-holds (case f load (sets masks rows)) l = (
-  every-list (loading f) .correct ∙ installs-so f load (l .0),
-  (load-answer f load (l .0), subst (Shows f (sets masks rows)) (sym (built-so f (l .0 .0))) (l .1)),
-)
-holds (case f load (delegates ds)) l = (
-  every-list (loading f) .correct ∙ installs-so f load (l .0),
-  (load-answer f load (l .0), subst (Shows f (delegates ds)) (sym (built-so f (l .0 .0))) (l .1)),
-)
-holds (case f load (verdict chunks v)) l = (
-  every-list (callsFor f (verdict chunks v)) .correct ∙ verdict-answers f load (l .0) chunks v (l .1) (l .2),
-  (load-answer f load (l .2 .0, ap (λ (s : Starts). installed (length (setsOf (ruleOf f .targets) (ruleOf f .n) (ruleOf f .k))) (s .startcount)) (l .1) ∙ l .2 .1), tt),
-)
-holds (case f load (turned-down x)) l = (every-list (loading f) .correct ∙ no-call, (no-load, l .0))
-  where
-    no-call : answersTo (loading f) ≡ []
-    no-call = answers-none f x (l .0)
-
-    no-load : loadReply f ≡ load
-    no-load = load-refused f x (l .0) ∙ sym (l .1)
+holds (case f load (sets masks rows)) l =
+    (every-list (loads f ∷ []) .correct ∙ loads-so f load (l .0), subst (Shows f (sets masks rows)) (sym (built-so f (l .0 .0))) (l .1))
+holds (case f load (delegates ds)) l =
+    (every-list (loads f ∷ []) .correct ∙ loads-so f load (l .0), subst (Shows f (delegates ds)) (sym (built-so f (l .0 .0))) (l .1))
+holds (case f load (verdict chunks v)) l =
+    (every-list (callsFor f (verdict chunks v)) .correct ∙ verdict-answers f load (l .0) chunks v (l .1) (l .2), tt)
+holds (case f load (turned-down x)) l =
+    (every-list (loads f ∷ []) .correct ∙ load-refused f x (l .0) ∙ ap (λ (a : Reply). a ∷ []) (sym (l .1)), l .0)
 
 pub each : {P Q : Case → Type 0} → ((c : Case) → P c → Q c) → (cases : List Case) → Each P cases → Each Q cases
 each g [] x = tt
 each g (c ∷ cases) x = (g c (x .0), each g cases (x .1))
 
--- ---- the cases, in the order of the table
+-- ---- the cases, in the order of the list
 infixr 20 _&_
 abbrev _&_ : {A B : Type 0} → A → B → A × B
 a & b = (a, b)
@@ -221,7 +202,7 @@ given-A = record { delegates = listed 0 1 2; startcount = 3 }
 abbrev given-B : Starts
 given-B = record { delegates = listed 0 1 1; startcount = 2 }
 
-computed : Each Left table
+computed : Each Left cases
 unfolding loadNumber refusal tooShort tooLong badStates badSymbols noRoom badMask badPairs badSection badArcs anyBelow targetsUpTo listFrom union indexOf numbered expandFrom closeFrom keysUpTo setsOf tooMany nextSet rowsFrom placesIn standing lastRevision textOf foreign counted looked delegateIn startSet total joinOf
 computed =
     ((refl, rw starts-A), (refl, refl)) &
@@ -232,7 +213,8 @@ computed =
     (given-B, starts-B, (refl, refl, refl, (refl, refl, (refl, refl, tt)), refl)) &
     (given-B, starts-B, (refl, refl, refl, (refl, refl, (refl, refl, tt)), refl)) &
     (given-B, starts-B, (refl, refl, refl, (refl, refl, tt), refl)) &
-    (given-B, starts-B, (refl, refl, refl, (refl, refl, (refl, refl, (refl, refl, tt))), refl)) & (refl, refl) & tt
+    (given-B, starts-B, (refl, refl, refl, (refl, refl, (refl, refl, (refl, refl, tt))), refl)) & (refl, refl) &
+    (given-A, starts-A, (refl, refl, refl, (refl, refl, tt), refl)) & tt
 
-pub table-P : TableP
-table-P = each {P = Left} {Q = Case-holds} holds table computed
+pub cases-hold : Each Case-holds cases
+cases-hold = each {P = Left} {Q = Case-holds} holds cases computed

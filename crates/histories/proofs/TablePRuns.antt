@@ -1,37 +1,32 @@
 -- Table P about the code that runs: the replies and the state are any that the functions' own
--- contracts allow for the calls of a case, as specs/Functions.antt has them. Assumes nothing.
-use mathlib.Core.Path.{_≡_, refl, ap, _∙_, sym, subst₂}
-use mathlib.Core.List.{List, []}
+-- contracts allow for the calls of a case, of every library that meets the judge's definitions.
+-- Assumes nothing.
+use mathlib.Core.Path.{refl, sym, subst₂}
+use mathlib.Core.List.{List}
+use Rattle.executions.specs.Executions.{Library, Meets}
+use Rattle.executions.proofs.Executions.{execution-law}
 use Rattle.calls.specs.declared.Judge.{Judge}
-use Rattle.calls.specs.Replies.{Reply, installMeans}
-use Rattle.calls.specs.declared.InstallResult.{InstallResult}
-use Rattle.calls.specs.Steps.{Outcome, fresh, installOutcome, loadOf}
-use Rattle.histories.specs.TableP.{Case, case, callsOf, AsTabled, Each, Case-holds, table}
-use Rattle.executions.specs.Executions.{Execution, stateAfter}
-use Rattle.histories.specs.Functions.{MayLoad, judgeLibrary}
-use Rattle.histories.proofs.Refinement.{after-any-list, load-may}
-use Rattle.histories.proofs.Loads.{load-reply}
-use Rattle.histories.proofs.TableP.{each, table-P}
+use Rattle.calls.specs.Replies.{Reply}
+use Rattle.calls.specs.Calls.{Call}
+use Rattle.histories.specs.Claims.{judgeMachine, judgeAfter, repliesTo}
+use Rattle.histories.specs.TableP.{Case, callsOf, AsTabled, Tabled, Each, cases}
+use Rattle.histories.proofs.TableP.{Case-holds, each, cases-hold}
 
-abbrev pub Runs-so : Case → Type 0
-Runs-so c = (replies : List Reply) (j : Judge) → Execution judgeLibrary (callsOf c) replies j → AsTabled c replies j
+module _ (l : Library Judge Call Reply) (meets : Meets l judgeMachine) where
+  pub tabled : (c : Case) → Case-holds c → Tabled l c
+  tabled c says = record {
+    any = λ rs j ran.
+        let t = execution-law l judgeMachine meets (callsOf c) rs j .0 ran in
+        subst₂ (λ (x : List Reply) (y : Judge). AsTabled c x y) (sym (t .0)) (sym (t .1)) says;
+    one = (
+      repliesTo (callsOf c),
+      judgeAfter (callsOf c),
+      execution-law l judgeMachine meets (callsOf c) (repliesTo (callsOf c)) (judgeAfter (callsOf c)) .1 (refl, refl),
+    );
+  }
 
-pub table-P-runs : Each Runs-so table
-table-P-runs =
-    each {P = Case-holds} {Q = Runs-so}
-    (λ c says replies j ran. let t = after-any-list (callsOf c) replies j .0 ran in subst₂ (λ (x : List Reply) (y : Judge). AsTabled c x y) (sym (t .0)) (sym (t .1)) says)
-    table
-    table-P
-
--- and the load of the case's file, which is no call: what the contract of `load` allows for its
--- bytes is answered as the case says (of P10, 6)
-abbrev pub Loads-so : Case → Type 0
-Loads-so (case file load result) = (r : InstallResult) → MayLoad fresh file r → installMeans (r .answer) ≡ load
-
-loads-so : (c : Case) → Case-holds c → Loads-so c
-unfolding stateAfter
-loads-so (case file load result) says = λ r m.
-    ap (λ (x : Outcome). x .reply) (load-may fresh file (installOutcome r) .0 (r, m, refl)) ∙ load-reply file [] ∙ says .1 .0
-
-pub table-P-loads : Each Loads-so table
-table-P-loads = each {P = Case-holds} {Q = Loads-so} loads-so table table-P
+-- of two such libraries at once
+module _ (l m : Library Judge Call Reply) (meets : Meets l judgeMachine) (meets-too : Meets m judgeMachine) where
+  pub table-P : Each (λ c. Tabled l c × Tabled m c) cases
+  table-P =
+      each {P = Case-holds} {Q = λ c. Tabled l c × Tabled m c} (λ c says. (tabled l meets c says, tabled m meets-too c says)) cases cases-hold

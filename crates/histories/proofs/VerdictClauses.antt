@@ -38,7 +38,7 @@ use Rattle.joins.proofs.Claims as joins
 use Rattle.calls.specs.declared.Judge.{Judge}
 use Rattle.calls.specs.Replies.{Judgement, waiting, yesWith, noWith, refusedWith}
 use Rattle.histories.specs.History.{ruleThere, ruleFrom, openNumber, boardIn, placesIn, runAt, countOf, standingEnd, endOf, lastRevision, standing, emptiesIn, summedIn, yesIn, standingText, joinedUpTo}
-use Rattle.calls.specs.Calls.{Call, installs, opens, delivers, withdraws, asksVerdict, installNumber, verdictBy}
+use Rattle.calls.specs.Calls.{Call, installs, loads, opens, delivers, withdraws, asksVerdict, installNumber, loadNumber, verdictBy}
 use Rattle.histories.specs.Claims.{VerdictClauses}
 use Rattle.histories.proofs.Running.{merged}
 use Rattle.histories.proofs.Agreement.{Agrees}
@@ -84,6 +84,16 @@ module _ (places empties : ℕ) (t : Bool) (sum : ℕ) where
       to (waits p q e) x = absurd-reply (cc)
       to (says-yes p q y e) x = absurd-reply (cc)
       to (says-no p q y e) x = absurd-reply (cc)
+
+  -- a verdict is refused with no other number
+  pub refused-number : (x : ℕ) → by-numbers places empties t sum ≡ refusedWith x → x ≡ 21
+  refused-number n x = to (which places empties t sum)
+    where
+      to : Which places empties t sum → n ≡ 21
+      to (no-board p e) = cc
+      to (waits p q e) = absurd-reply (cc)
+      to (says-yes p q y e) = absurd-reply (cc)
+      to (says-no p q y e) = absurd-reply (cc)
 
   waiting-law : (e : ℕ) → (by-numbers places empties t sum ≡ waiting e) ↔ ((0 < places) × (0 < e) × (e ≡ empties))
   waiting-law w = (
@@ -288,6 +298,7 @@ board-law : (h : List Call) → boardIn h ≡ ltb 0 (placesIn h)
 unfolding boardIn placesIn
 board-law [] = refl
 board-law (installs r ∷ h) = by-test (isNone (installNumber r)) (λ e. rw e) (λ e. rw e (board-law h))
+board-law (loads f ∷ h) = by-test (isNone (loadNumber f)) (λ e. rw e) (λ e. rw e (board-law h))
 board-law (opens n ∷ h) =
     by-test (isNone (openNumber h n))
     (λ e. rw e (sym (lt-ltb 0 n (opened-places n (accepted-opening (openNumber h n) refl e)))))

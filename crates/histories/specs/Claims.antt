@@ -5,12 +5,12 @@
 --   judgeAfter h        the judge that the calls h leave, from a fresh one
 --   repliesTo h         the replies to them
 --   BuiltBy present j   the rule that is there, if there is one, is built in j; no rule is zeros
---   loadAfter h f       the outcome of a load of the file f after the calls h
---   LoadClauses h f     what a load is (document 02, R-3)
 --   leastAfter last     one more than the last revision, 0 where there is none: a revision is
 --                       greater than the last one exactly when it is at least that
 --   Invariant h j       what holds of the state j after the calls h
 --   VerdictClauses      the words of demand 3 for the verdict asked after h
+--   Says a v            the reply a is a verdict's, and it says v
+--   VerdictSays h a     the words of demand 3 for the reply a to a verdict that is asked after h
 --   ReportClauses       what is reported with it (document 02, R-1)
 --   LookedUp h p w n    document 02's words for the number n that answers a delivery (R-2): for n
 --                       bytes of the text w at place p a successor is looked up
@@ -18,19 +18,17 @@
 use mathlib.Core.Path.{_≡_}
 use mathlib.Core.Logic.{_↔_, _⊎_}
 use mathlib.Core.Bool.{true, false}
-use mathlib.Core.List.{List, _++_}
+use mathlib.Core.List.{List}
 use mathlib.Core.Option.{Option, none, some}
 use Prim.Native.Nat.{ℕ, _+_, _*_, _≤_, _<_}
 use lib.ListN.{length, getD, take}
 use Rattle.limits.specs.Limits.{mostStates, mostPlaces}
-use Rattle.base.specs.Conditions.{NoneHolds, FirstHolds}
 use Rattle.base.specs.Options.{isNone}
 use Rattle.executions.specs.Executions.{Machine, stateAfter, repliesTo as machineReplies}
 use Rattle.marks.specs.Marks.{textOf}
 use Rattle.automaton.specs.declared.Rule.{Rule}
 use Rattle.automaton.specs.Automaton.{Accepts, Equivalent}
 use Rattle.automaton.specs.Rules.{automatonOf, WellFormed}
-use Rattle.ruleformat.specs.Refusals.{fileConditions}
 use Rattle.ruleformat.specs.Reader.{ruleOf}
 use Rattle.ruleformat.specs.Language.{automatonIn}
 use Rattle.subsets.specs.Claims.{fits}
@@ -38,12 +36,12 @@ use Rattle.delegates.specs.Claims.{startsIn}
 use Rattle.build.specs.Building.{builtOf, noBuilt}
 use Rattle.board.specs.Boards.{held, isEmpty, lastAt, summedCount, summedBytes}
 use Rattle.calls.specs.declared.Judge.{Judge}
-use Rattle.calls.specs.Replies.{Reply, waiting, yesWith, noWith, refusedWith, refused, delivered}
-use Rattle.histories.specs.History.{ruleThere, ruleIn, withSets, loading, loadReply, boardIn, placesIn, lastRevision, standing, endAt, countAt, lengthAt, emptiesIn, summedIn, bytesIn, yesIn, standingText, textIn, verdictIn, reportIn, answersTo, runAt, answerOf}
-use Rattle.histories.specs.Method.{TooMany, Method}
+use Rattle.calls.specs.Replies.{Judgement, Reported, Reply, judged, waiting, yesWith, noWith, refusedWith, delivered}
+use Rattle.histories.specs.History.{ruleThere, ruleIn, boardIn, placesIn, lastRevision, standing, endAt, countAt, lengthAt, emptiesIn, summedIn, bytesIn, yesIn, standingText, textIn, verdictIn, reportIn, answersTo, runAt, answerOf}
+use Rattle.histories.specs.Method.{Method}
 use Rattle.histories.specs.Conditions.{Accepted-exactly, Refused-exactly}
 use Rattle.calls.specs.Calls.{Call, installNumber, loadNumber, delivers}
-use Rattle.calls.specs.Steps.{Outcome, fresh, isYes, verdictOf, reportOf, stepOf, loadOf}
+use Rattle.calls.specs.Steps.{fresh, isYes, verdictOf, reportOf, stepOf}
 use Rattle.calls.specs.Claims.{Divided, ThreeZeros}
 use Rattle.chunks.specs.Claims.{AllEmpty}
 
@@ -90,7 +88,7 @@ pub record Invariant (h : List Call) (j : Judge) : Type 0 where
 pub record VerdictClauses (h : List Call) : Type 0 where
   -- a board is there exactly when it has places
   pub board : (boardIn h ≡ true) ↔ (0 < placesIn h)
-  -- refused with 21 unless the last accepted installation or opening is an opening
+  -- refused with 21 unless the last accepted load, installation or opening is an opening
   pub none-there : (verdictIn h ≡ refusedWith 21) ↔ (boardIn h ≡ false)
   -- waiting with the number of empty places exactly when one is empty
   pub waits : (e : ℕ) → (verdictIn h ≡ waiting e) ↔ ((boardIn h ≡ true) × (0 < e) × (e ≡ emptiesIn h))
@@ -108,6 +106,25 @@ pub record VerdictClauses (h : List Call) : Type 0 where
   pub most : summedIn h ≤ startsIn (ruleIn h) .startcount * length (textIn h)
   -- and so it is at each place
   pub place-most : (p : ℕ) → countAt h p ≤ startsIn (ruleIn h) .startcount * length (standingText (standing h p))
+
+-- and of the reply a that is given to it
+abbrev pub Says : Reply → Judgement → Type 0
+Says a v = (r : Reported) × (a ≡ judged r) × (r .verdict ≡ v)
+
+pub record VerdictSays (h : List Call) (a : Reply) : Type 0 where
+  -- it is what document 01 reports then
+  pub is : a ≡ judged (reportIn h)
+  -- yes exactly when a board is there, no place is empty, the count is the sum over the places, and
+  -- the rule that is there has an accepting run over the standing chunks without their idle marks,
+  -- joined by place; no exactly when it has none
+  pub says-yes : (count : ℕ) → Says a (yesWith count)
+      ↔ ((boardIn h ≡ true) × (emptiesIn h ≡ 0) × (count ≡ summedIn h) × Accepts (automatonOf (ruleIn h)) (textIn h))
+  pub says-no : (count : ℕ) → Says a (noWith count)
+      ↔ ((boardIn h ≡ true) × (emptiesIn h ≡ 0) × (count ≡ summedIn h) × (Accepts (automatonOf (ruleIn h)) (textIn h) → ⊥))
+  -- waiting exactly when a place is empty, with the number of these
+  pub says-waiting : (e : ℕ) → Says a (waiting e) ↔ ((boardIn h ≡ true) × (0 < e) × (e ≡ emptiesIn h))
+  -- refused, and then with 21, exactly when no board is there
+  pub says-refused : (x : ℕ) → Says a (refusedWith x) ↔ ((x ≡ 21) × (boardIn h ≡ false))
 
 -- document 02, R-1, of what is reported after the calls h
 pub record ReportClauses (h : List Call) : Type 0 where
@@ -128,29 +145,6 @@ pub record LookedUp (h : List Call) (p : ℕ) (w : List ℕ) (n : ℕ) : Type 0 
   pub all-empty : n < length w → AllEmpty (ruleIn h .targets) (runAt (ruleIn h) p) (take n w)
   pub least : (i : ℕ) → i < n → AllEmpty (ruleIn h .targets) (runAt (ruleIn h) p) (take i w) → ⊥
 
--- R-3: a load of a file made after the calls h
-abbrev pub loadAfter : List Call → List ℕ → Outcome
-loadAfter h f = loadOf (judgeAfter h) f
-
-pub record LoadClauses (h : List Call) (f : List ℕ) : Type 0 where
-  -- it answers as document 01 says, with the numbers 1 to 9 in one order
-  pub reply : loadAfter h f .reply ≡ loadReply f
-  -- it leaves what the calls leave that it makes: the installation of the rule in the file, or none
-  -- where reading refuses the file
-  pub state : loadAfter h f .state ≡ judgeAfter (loading f ++ h)
-  -- and where it is accepted that rule is there, which accepts the texts that the automaton in the
-  -- file's bytes accepts; what is built of it is what 004 gives to that automaton
-  pub rule : loadNumber f ≡ none → ruleThere (loading f ++ h) ≡ some (ruleOf f)
-  pub language : loadNumber f ≡ none → Equivalent (automatonIn f) (automatonOf (ruleOf f))
-  pub method : loadNumber f ≡ none → Method (automatonIn f) (builtOf (ruleOf f))
-  -- it is accepted exactly when none of the conditions 1 to 8 holds of the file and no more than
-  -- 512 sets are reached in the automaton in its bytes
-  pub accepted : (loadReply f ≡ withSets (ruleOf f)) ↔ (NoneHolds (fileConditions f) × (TooMany (automatonIn f) → ⊥))
-  -- and refused with 1 to 8 by the file, in order; with 9 when it passes them and more than 512
-  -- sets are reached
-  pub refused-by-file : (x : ℕ) → x ≤ 8 → (loadReply f ≡ refused x) ↔ FirstHolds x (fileConditions f)
-  pub refused-9 : (loadReply f ≡ refused 9) ↔ (NoneHolds (fileConditions f) × TooMany (automatonIn f))
-
 -- ONE CLAIM over a list of calls h
 pub record EveryList (h : List Call) : Type 0 where
   -- each reply is document 01's answer after the calls before it
@@ -158,6 +152,10 @@ pub record EveryList (h : List Call) : Type 0 where
   -- the sets, the table, the delegates and the M by which they go are, of each rule that an
   -- installation accepts, those of its automaton
   pub method : (r : Rule) → installNumber r ≡ none → Method (automatonOf r) (builtOf r)
+  -- of a file that a load accepts, those of the automaton in its bytes; and the rule in the file
+  -- accepts the texts that this automaton accepts
+  pub method-of-bytes : (f : List ℕ) → loadNumber f ≡ none → Method (automatonIn f) (builtOf (ruleOf f))
+  pub language-of-bytes : (f : List ℕ) → loadNumber f ≡ none → Equivalent (automatonIn f) (automatonOf (ruleOf f))
   -- a call is accepted exactly when none of its conditions holds, and refused with a number exactly
   -- when that one is the first that holds (the verdict's 21 is in `VerdictClauses`)
   pub accepted-exactly : Accepted-exactly h
@@ -167,5 +165,3 @@ pub record EveryList (h : List Call) : Type 0 where
   pub after : Invariant h (judgeAfter h)
   pub verdict : VerdictClauses h
   pub report : ReportClauses h
-  -- a file may be loaded at any time
-  pub loads : (f : List ℕ) → LoadClauses h f

@@ -9,14 +9,18 @@ use mathlib.Core.Option.{none, some}
 use Prim.Native.Nat.{ℕ, _^_, _≤_, _<_}
 use lib.ListN.{length}
 use Rattle.limits.specs.Limits.{mostStates, mostSymbols, mostPlaces, longestChunk}
+use Rattle.base.specs.Conditions.{NoneHolds, FirstHolds}
 use Rattle.marks.specs.Marks.{textOf}
 use Rattle.automaton.specs.declared.Rule.{Rule}
 use Rattle.automaton.specs.Rules.{automatonOf, WellFormed}
 use Rattle.rulecheck.specs.Claims.{Stray, StatesIn, SymbolsIn, MasksIn}
+use Rattle.ruleformat.specs.Refusals.{fileConditions}
+use Rattle.ruleformat.specs.Reader.{ruleOf}
+use Rattle.ruleformat.specs.Language.{automatonIn}
 use Rattle.build.specs.Building.{builtOf}
 use Rattle.chunks.specs.Chunks.{foreign}
 use Rattle.calls.specs.Replies.{accepted, installed, delivered, refused}
-use Rattle.calls.specs.Calls.{Call, installs, opens, delivers, withdraws}
+use Rattle.calls.specs.Calls.{Call, installs, loads, opens, delivers, withdraws}
 use Rattle.histories.specs.History.{ruleThere, ruleIn, placesIn, lookedOf, lastRevision, standing, answerOf}
 use Rattle.histories.specs.Method.{TooMany}
 
@@ -26,6 +30,11 @@ pub record Accepted-exactly (h : List Call) : Type 0 where
   -- that automaton
   pub installation : (r : Rule)
       → (answerOf h (installs r) ≡ installed (builtOf r .setcount) (builtOf r .startcount)) ↔ (WellFormed r × (TooMany (automatonOf r) → ⊥))
+  -- none of the conditions 1 to 8 holds of the file, and no more than 512 sets are reached in the
+  -- automaton in its bytes; it is answered with the number of sets and the M of what is built of it
+  pub load : (f : List ℕ)
+      → (answerOf h (loads f) ≡ installed (builtOf (ruleOf f) .setcount) (builtOf (ruleOf f) .startcount))
+      ↔ (NoneHolds (fileConditions f) × (TooMany (automatonIn f) → ⊥))
   -- a rule is there, and 1 to 64 places are asked for
   pub opening : (n : ℕ) → (answerOf h (opens n) ≡ accepted) ↔ ((ruleThere h ≡ none → ⊥) × (1 ≤ n) × (n ≤ mostPlaces))
   -- a board is there with that place, the chunk is within the limit and its text, which is without
@@ -50,6 +59,10 @@ pub record Refused-exactly (h : List Call) : Type 0 where
       → (answerOf h (installs r) ≡ refused 6) ↔ (StatesIn r × SymbolsIn r × ((2 ^ r .n ≤ r .initials) ⊎ (2 ^ r .n ≤ r .finals)))
   pub install-8 : (r : Rule) → (answerOf h (installs r) ≡ refused 8) ↔ (StatesIn r × SymbolsIn r × MasksIn r × Stray r)
   pub install-9 : (r : Rule) → (answerOf h (installs r) ≡ refused 9) ↔ (WellFormed r × TooMany (automatonOf r))
+  -- 1 to 8 by the file, the first of its conditions that holds; 9 when it passes them and more than
+  -- 512 sets are reached in the automaton in its bytes
+  pub load-by-file : (f : List ℕ) (x : ℕ) → x ≤ 8 → (answerOf h (loads f) ≡ refused x) ↔ FirstHolds x (fileConditions f)
+  pub load-9 : (f : List ℕ) → (answerOf h (loads f) ≡ refused 9) ↔ (NoneHolds (fileConditions f) × TooMany (automatonIn f))
   -- no rule; with a rule, no number of places from 1 to 64
   pub open-20 : (n : ℕ) → (answerOf h (opens n) ≡ refused 20) ↔ (ruleThere h ≡ none)
   pub open-10 : (n : ℕ) → (answerOf h (opens n) ≡ refused 10) ↔ ((ruleThere h ≡ none → ⊥) × ((n < 1) ⊎ (mostPlaces < n)))

@@ -28,7 +28,7 @@ use Rattle.executions.specs.Executions.{Machine, stateAfter, repliesTo as machi
 use Rattle.board.specs.Boards.{placesOf, comesLate, filledAt, summedCount}
 use Rattle.calls.specs.declared.Judge.{Judge}
 use Rattle.calls.specs.Replies.{Reply, delivered}
-use Rattle.calls.specs.Calls.{Call, installs, opens, delivers, withdraws, asksVerdict, deliverConditions}
+use Rattle.calls.specs.Calls.{Call, installs, loads, opens, delivers, withdraws, asksVerdict, deliverConditions}
 use Rattle.calls.specs.Steps.{Outcome, fresh, lacksBoard, withBoard, outcomeBy, runsAt, stepOf}
 use Rattle.histories.specs.History.{ruleIn, placesIn, notGreater, lastRevision, countOf, countAt, summedIn, deliverNumber}
 use Rattle.histories.specs.Claims.{judgeAfter, repliesTo}
@@ -64,6 +64,7 @@ formerOn j p v w =
 -- the other calls are as they are
 abbrev pub formerStep : Judge → Call → Outcome
 formerStep j (installs r) = stepOf j (installs r)
+formerStep j (loads f) = stepOf j (loads f)
 formerStep j (opens n) = stepOf j (opens n)
 formerStep j (delivers p v w) =
     outcomeBy (formerOn j p v w) (delivered (runsAt j p w .looked)) j (withBoard j (filledAt (j .board) p v (runsAt j p w)))

@@ -6,7 +6,7 @@
 --                      be reached has at least m members, and some such list has exactly m
 --   BuildFewest        so it is with the M that the build returns, of every well-formed rule
 --   InstallFewest h    and with the M that an accepted installation answers after the calls h
---   LoadFewest         and with the M that an accepted load answers, of the automaton in the bytes
+--   LoadFewest h       and with the M that an accepted load answers, of the automaton in the bytes
 use mathlib.Core.Path.{_≡_}
 use mathlib.Core.List.{List}
 use Prim.Native.Nat.{ℕ, _≤_}
@@ -23,8 +23,8 @@ use Rattle.build.specs.Building.{accepted, buildMeans}
 use Rattle.build.proofs.build_rule.Reads as build-reads
 use Rattle.build.proofs.build_rule.Kinds as build-kinds
 use Rattle.calls.specs.Replies.{installed}
-use Rattle.calls.specs.Calls.{Call, installs}
-use Rattle.histories.specs.History.{answerOf, loadReply}
+use Rattle.calls.specs.Calls.{Call, installs, loads}
+use Rattle.histories.specs.History.{answerOf}
 
 abbrev pub MayBuild : Rule → BuildResult → Type 0
 MayBuild rule r = (s : AtExit (endedOf 0 build-kinds.ps build-kinds.r) tt) × build-reads.Learnt tt (rule, tt) r s
@@ -42,5 +42,5 @@ BuildFewest =
 abbrev pub InstallFewest : List Call → Type 0
 InstallFewest h = (r : Rule) (sets m : ℕ) → answerOf h (installs r) ≡ installed sets m → Fewest (automatonOf r) m
 
-abbrev pub LoadFewest : Type 0
-LoadFewest = (f : List ℕ) (sets m : ℕ) → loadReply f ≡ installed sets m → Fewest (automatonIn f) m
+abbrev pub LoadFewest : List Call → Type 0
+LoadFewest h = (f : List ℕ) (sets m : ℕ) → answerOf h (loads f) ≡ installed sets m → Fewest (automatonIn f) m

@@ -2,10 +2,8 @@
 -- (`Reads.Learnt`): any result that a function's contract does not rule out. `judgeLibrary` is what
 -- a customer's program gets that calls these functions.
 --
---   MayBegin .. MayJudge   what `new_judge`, `install`, `open`, `deliver`, `withdraw` and
---                          `ask_verdict` may return for their arguments; and `load`, which is no
---                          call
---   AsksLoad j f           what `load` asks before it is called
+--   MayBegin .. MayJudge   what `new_judge`, `install`, `load`, `open`, `deliver`, `withdraw` and
+--                          `ask_verdict` may return for their arguments
 --   AsksStep j c           what the function of the call c asks before it is called on the judge j
 --   MayStep j c a next     on the judge j the call c may be answered with a, in document 01's
 --                          numbers and values, and leave the judge next
@@ -25,7 +23,7 @@ use Rattle.calls.specs.declared.DeliverResult.{DeliverResult}
 use Rattle.calls.specs.declared.WithdrawResult.{WithdrawResult}
 use Rattle.calls.specs.declared.Report.{Report}
 use Rattle.calls.specs.Replies.{Reply, judged, reportMeans}
-use Rattle.calls.specs.Calls.{Call, installs, opens, delivers, withdraws, asksVerdict}
+use Rattle.calls.specs.Calls.{Call, installs, loads, opens, delivers, withdraws, asksVerdict}
 use Rattle.calls.specs.Steps.{installOutcome, openOutcome, deliverOutcome, withdrawOutcome}
 use Rattle.judge.proofs.new_judge.Reads as new-reads
 use Rattle.judge.proofs.new_judge.Kinds as new-kinds
@@ -70,16 +68,15 @@ MayJudge j r = (s : AtExit (endedOf 0 verdict-kinds.ps verdict-kinds.r) tt) × v
 -- what each asks before it is called
 abbrev pub AsksStep : Judge → Call → Type 0
 AsksStep j (installs rule) = install-reads.Asked tt (j, (rule, tt))
+AsksStep j (loads f) = (κs : Lfts 1) (c : RefT (List ℕ)) → now c ≡ f → load-reads.Asked κs (j, (c, tt))
 AsksStep j (opens n) = open-reads.Asked tt (j, (n, tt))
 AsksStep j (delivers p v w) = (κs : Lfts 1) (c : RefT (List ℕ)) → now c ≡ w → deliver-reads.Asked κs (j, (p, (v, (c, tt))))
 AsksStep j (withdraws p) = withdraw-reads.Asked tt (j, (p, tt))
 AsksStep j asksVerdict = verdict-reads.Asked tt (j, tt)
 
-abbrev pub AsksLoad : Judge → List ℕ → Type 0
-AsksLoad j f = (κs : Lfts 1) (c : RefT (List ℕ)) → now c ≡ f → load-reads.Asked κs (j, (c, tt))
-
 abbrev pub MayStep : Judge → Call → Reply → Judge → Type 0
 MayStep j (installs rule) a next = (r : InstallResult) × MayInstall j rule r × (record { reply = a; state = next } ≡ installOutcome r)
+MayStep j (loads f) a next = (r : InstallResult) × MayLoad j f r × (record { reply = a; state = next } ≡ installOutcome r)
 MayStep j (opens n) a next = (r : OpenResult) × MayOpen j n r × (record { reply = a; state = next } ≡ openOutcome r)
 MayStep j (delivers p v w) a next = (r : DeliverResult) × MayDeliver j p v w r × (record { reply = a; state = next } ≡ deliverOutcome r)
 MayStep j (withdraws p) a next = (r : WithdrawResult) × MayWithdraw j p r × (record { reply = a; state = next } ≡ withdrawOutcome r)

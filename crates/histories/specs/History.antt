@@ -1,11 +1,11 @@
 -- Lists of calls, and what such a list says by itself (document 01, "The board and its calls"). A
 -- history has the LAST call first. Nothing here looks at a state.
 --
---   ruleThere h, ruleIn h    the rule of the last accepted installation, if there is one; and it,
---                            or zeros
+--   ruleThere h, ruleIn h    the rule of the last accepted load or installation, if there is one;
+--                            and it, or zeros
 --   openNumber h n           the number with which an opening is refused: 20, 10
---   boardIn h                a board is there: the last accepted call among installations and
---                            openings is an opening
+--   boardIn h                a board is there: the last accepted call among loads, installations
+--                            and openings is an opening
 --   placesIn h               its places; 0 where no board is there
 --   lastRevision h p         the last revision accepted at place p since the board was opened, or
 --                            none (document 02, R-11)
@@ -27,13 +27,10 @@
 --   yesIn h, verdictIn h, reportIn h     the join of the end sets says yes; the verdict; what is
 --                                        reported with it
 --   textIn h                 the standing chunks without their idle marks, joined by place
---   withSets r               what is answered where the rule r is installed
+--   withSets r               what is answered where the rule r is installed, also by a load
 --   replyBy number a         refused with the number, or a where there is none
 --   answerOf h c             what document 01 answers to the call c after the calls h
 --   answersTo h              its answers to all calls of the list
---   loading f                the calls that a load of the file f makes: its rule is installed, or
---                            none where reading refuses it
---   loadReply f              what document 01 answers to a load of the file f
 use mathlib.Core.Bool.{Bool, true, false, cond, _&&_}
 use mathlib.Core.List.{List, [], _∷_}
 use mathlib.Core.Option.{Option, none, some}
@@ -46,7 +43,6 @@ use Rattle.base.specs.Options.{isNone}
 use Rattle.base.specs.Totals.{total}
 use Rattle.marks.specs.Marks.{textOf}
 use Rattle.automaton.specs.declared.Rule.{Rule}
-use Rattle.ruleformat.specs.Refusals.{refusal}
 use Rattle.ruleformat.specs.Reader.{ruleOf, noRule}
 use Rattle.subsets.specs.Sets.{setsOf}
 use Rattle.delegates.specs.Alike.{delegateIn}
@@ -54,12 +50,13 @@ use Rattle.delegates.specs.Claims.{startsIn}
 use Rattle.chunks.specs.Chunks.{runSet, endSet, chunkCount, looked}
 use Rattle.joins.specs.Joining.{yesOf}
 use Rattle.calls.specs.Replies.{Judgement, Reported, Reply, accepted, installed, judged, refused, delivered}
-use Rattle.calls.specs.Calls.{Call, installs, opens, delivers, withdraws, asksVerdict, installNumber, loadNumber, openConditions, deliverConditions, withdrawConditions, verdictBy, reportBy}
+use Rattle.calls.specs.Calls.{Call, installs, loads, opens, delivers, withdraws, asksVerdict, installNumber, loadNumber, openConditions, deliverConditions, withdrawConditions, verdictBy, reportBy}
 
 -- ---- which rule is there
 unfoldable pub ruleThere : List Call → Option Rule
 ruleThere [] = none
 ruleThere (installs r ∷ h) = cond (isNone (installNumber r)) (some r) (ruleThere h)
+ruleThere (loads f ∷ h) = cond (isNone (loadNumber f)) (some (ruleOf f)) (ruleThere h)
 ruleThere (opens n ∷ h) = ruleThere h
 ruleThere (delivers p v w ∷ h) = ruleThere h
 ruleThere (withdraws p ∷ h) = ruleThere h
@@ -79,6 +76,7 @@ openNumber h n = firstOf (openConditions (isNone (ruleThere h)) n)
 unfoldable pub boardIn : List Call → Bool
 boardIn [] = false
 boardIn (installs r ∷ h) = cond (isNone (installNumber r)) false (boardIn h)
+boardIn (loads f ∷ h) = cond (isNone (loadNumber f)) false (boardIn h)
 boardIn (opens n ∷ h) = cond (isNone (openNumber h n)) true (boardIn h)
 boardIn (delivers p v w ∷ h) = boardIn h
 boardIn (withdraws p ∷ h) = boardIn h
@@ -87,6 +85,7 @@ boardIn (asksVerdict ∷ h) = boardIn h
 unfoldable pub placesIn : List Call → ℕ
 placesIn [] = 0
 placesIn (installs r ∷ h) = cond (isNone (installNumber r)) 0 (placesIn h)
+placesIn (loads f ∷ h) = cond (isNone (loadNumber f)) 0 (placesIn h)
 placesIn (opens n ∷ h) = cond (isNone (openNumber h n)) n (placesIn h)
 placesIn (delivers p v w ∷ h) = placesIn h
 placesIn (withdraws p ∷ h) = placesIn h
@@ -106,10 +105,11 @@ deliverCheck k places last p v w = firstOf (deliverConditions (eqb places 0) pla
 abbrev pub withdrawCheck : ℕ → Option (List ℕ) → ℕ → Option ℕ
 withdrawCheck places at-p p = firstOf (withdrawConditions (eqb places 0) places p (isNone at-p))
 
--- an accepted installation or opening forgets it, a withdrawal does not
+-- an accepted load, installation or opening forgets it, a withdrawal does not
 unfoldable pub lastRevision : List Call → ℕ → Option ℕ
 lastRevision [] p = none
 lastRevision (installs r ∷ h) p = cond (isNone (installNumber r)) none (lastRevision h p)
+lastRevision (loads f ∷ h) p = cond (isNone (loadNumber f)) none (lastRevision h p)
 lastRevision (opens n ∷ h) p = cond (isNone (openNumber h n)) none (lastRevision h p)
 lastRevision (delivers q v w ∷ h) p =
     cond (eqb q p && isNone (deliverCheck (ruleIn h .k) (placesIn h) (lastRevision h q) q v w)) (some v) (lastRevision h p)
@@ -119,6 +119,7 @@ lastRevision (asksVerdict ∷ h) p = lastRevision h p
 unfoldable pub standing : List Call → ℕ → Option (List ℕ)
 standing [] p = none
 standing (installs r ∷ h) p = cond (isNone (installNumber r)) none (standing h p)
+standing (loads f ∷ h) p = cond (isNone (loadNumber f)) none (standing h p)
 standing (opens n ∷ h) p = cond (isNone (openNumber h n)) none (standing h p)
 standing (delivers q v w ∷ h) p =
     cond (eqb q p && isNone (deliverCheck (ruleIn h .k) (placesIn h) (lastRevision h q) q v w)) (some w) (standing h p)
@@ -208,6 +209,7 @@ withSets r = installed (length (setsOf (r .targets) (r .n) (r .k))) (startsIn r 
 
 abbrev pub answerOf : List Call → Call → Reply
 answerOf h (installs r) = replyBy (installNumber r) (withSets r)
+answerOf h (loads f) = replyBy (loadNumber f) (withSets (ruleOf f))
 answerOf h (opens n) = replyBy (openNumber h n) accepted
 answerOf h (delivers p v w) = replyBy (deliverNumber h p v w) (delivered (lookedOf (ruleIn h) p w))
 answerOf h (withdraws p) = replyBy (withdrawNumber h p) accepted
@@ -217,11 +219,3 @@ answerOf h asksVerdict = judged (reportIn h)
 unfoldable pub answersTo : List Call → List Reply
 answersTo [] = []
 answersTo (c ∷ h) = answerOf h c ∷ answersTo h
-
--- ---- a load, which is no call: a file that reading refuses leaves all as it is
-abbrev pub loading : List ℕ → List Call
-loading f = cond (isNone (refusal f)) (installs (ruleOf f) ∷ []) []
-
--- document 01's numbers 1 to 9, in one order
-abbrev pub loadReply : List ℕ → Reply
-loadReply f = replyBy (loadNumber f) (withSets (ruleOf f))

@@ -1,29 +1,32 @@
 -- Table P of document 01: one list of cases and one claim over it, from the bytes of the rule
--- files, through the judge's calls. proofs/TableP.antt proves it.
+-- files, through the functions of a library. proofs/TablePRuns.antt proves it of every library that
+-- meets the judge's definitions.
 --
---   Case          a rule file, what its load answers, and the result of the case
---   callsOf c     the calls of the case: those that a load of the file makes; for a verdict also an
---                 opening, a delivery for each chunk and the question. The last first
---   repliesOf c   what is answered to them
---   AsTabled         what the case says of the replies that were given and of the state that is
---                    left
---   Case-holds    `AsTabled` after the calls of the case
---   TableP        each case of the table holds so
+--   Case           a rule file, what its load answers, and the result of the case
+--   callsOf c      the calls of the case: the load of the file; for a verdict also an opening, a
+--                  delivery for each chunk and the question. The last first
+--   repliesOf c    what is answered to them
+--   AsTabled c rs j   what the case says of the replies rs that were given and of the judge j that
+--                  is left
+--   Tabled l c     so it is whatever the contracts of the library l allow for the calls of the
+--                  case, and they allow something
+--   table          the paper's cases
+--   byHand         one more, worked by hand
+--   cases          all of them
 use mathlib.Core.Path.{_≡_}
-use mathlib.Core.List.{List, [], _∷_}
+use mathlib.Core.List.{List, [], _∷_, _++_}
 use mathlib.Core.Option.{some}
 use Prim.Native.Nat.{ℕ, zero, suc, _*_}
 use lib.ListN.{length, getD}
 use Rattle.limits.specs.Limits.{mostSymbols, emptySet}
 use Rattle.base.specs.Lists.{listFrom}
+use Rattle.executions.specs.Executions.{Library, Execution}
 use Rattle.ruleformat.specs.Worked.{fileA, fileB, fileA-final-8}
 use Rattle.ruleformat.specs.Reader.{readOf}
 use Rattle.build.specs.declared.Built.{Built}
 use Rattle.calls.specs.declared.Judge.{Judge}
 use Rattle.calls.specs.Replies.{Judgement, yesWith, noWith, Reported, Reply, accepted, installed, judged, refused, delivered}
-use Rattle.calls.specs.Calls.{Call, opens, delivers, asksVerdict}
-use Rattle.histories.specs.History.{loading, loadReply}
-use Rattle.histories.specs.Claims.{judgeAfter, repliesTo}
+use Rattle.calls.specs.Calls.{Call, loads, opens, delivers, asksVerdict}
 
 -- ---- a case
 --   sets masks rows        the masks of all sets in number order, and for each set the cell of each
@@ -33,7 +36,7 @@ use Rattle.histories.specs.Claims.{judgeAfter, repliesTo}
 --   verdict chunks r       with the chunks at the places 0, 1, .. of a board that has a place for
 --                          each, delivered with revision 0, the verdict reports r. Beside a chunk stands the number that its
 --                          delivery is answered (document 02, R-2)
---   turned-down x          reading refuses the file with the number x, and no call is made
+--   turned-down x          reading refuses the file with the number x
 pub data Result : Type 0 where
   sets : List ℕ → List (List ℕ) → Result
   delegates : List ℕ → Result
@@ -54,10 +57,10 @@ answering [] replies = replies
 answering (c ∷ chunks) replies = answering chunks (delivered (c .1) ∷ replies)
 
 abbrev pub callsFor : List ℕ → Result → List Call
-callsFor file (sets masks rows) = loading file
-callsFor file (delegates ds) = loading file
-callsFor file (verdict chunks r) = asksVerdict ∷ delivering 0 chunks (opens (length chunks) ∷ loading file)
-callsFor file (turned-down x) = loading file
+callsFor file (sets masks rows) = loads file ∷ []
+callsFor file (delegates ds) = loads file ∷ []
+callsFor file (verdict chunks r) = asksVerdict ∷ delivering 0 chunks (opens (length chunks) ∷ loads file ∷ [])
+callsFor file (turned-down x) = loads file ∷ []
 
 abbrev pub callsOf : Case → List Call
 callsOf (case file load result) = callsFor file result
@@ -66,7 +69,7 @@ abbrev pub repliesFor : Reply → Result → List Reply
 repliesFor load (sets masks rows) = load ∷ []
 repliesFor load (delegates ds) = load ∷ []
 repliesFor load (verdict chunks r) = judged r ∷ answering chunks (accepted ∷ load ∷ [])
-repliesFor load (turned-down x) = []
+repliesFor load (turned-down x) = load ∷ []
 
 abbrev pub repliesOf : Case → List Reply
 repliesOf (case file load result) = repliesFor load result
@@ -88,7 +91,7 @@ Shows file (verdict chunks r) b = Unit {0}
 Shows file (turned-down x) b = readOf file .number ≡ some x
 
 abbrev pub ResultOf : Case → Built → Type 0
-ResultOf (case file load result) b = (loadReply file ≡ load) × Shows file result b
+ResultOf (case file load result) b = Shows file result b
 
 abbrev pub AsTabled : Case → List Reply → Judge → Type 0
 AsTabled c replies j = (replies ≡ repliesOf c) × ResultOf c (j .built)
@@ -123,14 +126,20 @@ table =
     -- P10 A, final mask 8: 6, when it is read
     case fileA-final-8 (refused 6) (turned-down 6) ∷ []
 
+-- in one place a chunk of two different symbols: rule A, 0 1. At place 0 state 0 alone is run. Its
+-- set {0} becomes {0, 1} by 0 and {0, 2} by 1, neither empty, so a successor is looked up for both
+-- bytes and 2 are counted; 2 is final. So yes, 2; 2 bytes, 1 each
+abbrev pub byHand : List Case
+byHand = case fileA (installed 5 3) (verdict ((0 ∷ 1 ∷ [], 2) ∷ []) (report (yesWith 2) 2 1 0)) ∷ []
+
+abbrev pub cases : List Case
+cases = table ++ byHand
+
 abbrev pub Each : (Case → Type 0) → List Case → Type 0
 Each Says [] = Unit {0}
 Each Says (c ∷ cases) = Says c × Each Says cases
 
--- of the replies to the calls of the case c and of the state that they leave, `AsTabled` is true
-abbrev pub Case-holds : Case → Type 0
-Case-holds c = AsTabled c (repliesTo (callsOf c)) (judgeAfter (callsOf c))
-
--- THE CLAIM
-abbrev pub TableP : Type 0
-TableP = Each Case-holds table
+-- THE CLAIM, of each case
+pub record Tabled (l : Library Judge Call Reply) (c : Case) : Type 0 where
+  pub any : (rs : List Reply) (j : Judge) → Execution l (callsOf c) rs j → AsTabled c rs j
+  pub one : (rs : List Reply) × (j : Judge) × Execution l (callsOf c) rs j

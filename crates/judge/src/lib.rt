@@ -1,4 +1,4 @@
-// The judge: five calls over one state; and load, which reads a file and makes one of them.
+// The judge: the calls over one state. A load reads a file and installs its rule.
 ghost use mathlib.Core.Path.{_≡_};
 ghost use Prim.Native.Nat.{_<_};
 ghost use Rattle.calls.specs.Replies.{refused, reportMeans};

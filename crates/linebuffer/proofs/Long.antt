@@ -27,8 +27,8 @@ use Rattle.fields.proofs.Pairs.{pairs-length}
 use Rattle.longlines.specs.Claims.{TellsWithin}
 use Rattle.longlines.proofs.Tails.{begins-append, up-more, past-append, bytes-either, tail-stray, tail-bytes}
 use Rattle.calls.specs.declared.Judge.{Judge}
-use Rattle.calls.specs.Calls.{delivers, asksVerdict}
-use Rattle.calltext.specs.Meaning.{Meaning, call, load, malformed, load-word, install-word, open-word, deliver-word, withdraw-word, verdict-word, loadBy, installBy, openBy, withdrawBy, revisionBy, deliverBy, revisionFields, deliverFields, callIn, lineIn}
+use Rattle.calls.specs.Calls.{loads, delivers, asksVerdict}
+use Rattle.calltext.specs.Meaning.{Meaning, call, malformed, load-word, install-word, open-word, deliver-word, withdraw-word, verdict-word, loadBy, installBy, openBy, withdrawBy, revisionBy, deliverBy, revisionFields, deliverFields, callIn, lineIn}
 use Rattle.calltext.proofs.Readings.{no-place, bad-revision}
 use Rattle.callrun.specs.Running.{replyOf, lineStep}
 use Rattle.callrun.proofs.Clipped.{loads-long, delivers-long, installs-long}
@@ -75,7 +75,7 @@ cond-malformed : (b : Bool) (x y : Meaning) → x ≡ malformed → y ≡ malfor
 cond-malformed true x y t e = t
 cond-malformed false x y t e = e
 
-tells-loads : (f g : List ℕ) → 65537 ≤ length f → 65537 ≤ length g → Tells (load f) (load g)
+tells-loads : (f g : List ℕ) → 65537 ≤ length f → 65537 ≤ length g → Tells (call (loads f)) (call (loads g))
 tells-loads f g hf hg = record { steps = λ j. ap replyOf (loads-long j f g (omega arith) (omega arith)) }
 
 tells-delivers : (p v : ℕ) (f g : List ℕ) → 65537 ≤ length f → 65537 ≤ length g → Tells (call (delivers p v f)) (call (delivers p v g))

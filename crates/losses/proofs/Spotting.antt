@@ -5,7 +5,7 @@
 -- bytes of the text (`in-words`), and its position says it in bytes of the chunk (`of-chunk`).
 use mathlib.Core.Path.{_≡_, refl, sym, ap, ap₂, _∙_, subst}
 use mathlib.Core.Logic.{_↔_}
-use mathlib.Core.Bool.{Bool, true, false, cond, _||_, _&&_}
+use mathlib.Core.Bool.{Bool, true, false, cond, _||_}
 use mathlib.Core.List.{List, [], _∷_, _++_, append-nil}
 use mathlib.Core.Option.{Option, none, some}
 use Prim.Native.Nat.{ℕ, zero, suc, _≤_, _<_, min}
@@ -13,13 +13,13 @@ use native.Mathlib.Omega.{arith}
 use lib.Dec.{eqb, ltb, leb}
 use lib.ListN.{length, take, drop, length-append, take-append-drop}
 use lib.Seq.{take-length, take-append-seam}
-use borrow.Author.Tests.{ne-eqb, ltb-false, lt-leb, le-ltb, leb-false}
+use borrow.Author.Tests.{ne-eqb, lt-leb, le-ltb, leb-false}
 use Rattle.base.specs.Conditions.{Condition, on, firstOf, anyBelow}
 use Rattle.base.specs.Options.{isNone}
 use Rattle.base.proofs.Conditions.{passed, none-at, none-all}
 use Rattle.base.proofs.Lists.{joined-suc}
 use Rattle.base.proofs.Options.{none-some}
-use Rattle.base.proofs.Tests.{by-test, not-both, zero-one}
+use Rattle.base.proofs.Tests.{not-both}
 use Rattle.masks.specs.Masks.{shares}
 use Rattle.marks.specs.Marks.{textOf}
 use Rattle.marks.proofs.Claims as marks
@@ -40,19 +40,20 @@ use Rattle.board.specs.Boards.{placesOf, isEmpty}
 use Rattle.joins.specs.Joining.{heldIn, joinUpTo}
 use Rattle.joins.proofs.Claims as joins
 use Rattle.calls.specs.declared.Judge.{Judge}
-use Rattle.calls.specs.Calls.{Call, installs, opens, delivers, withdraws, asksVerdict, installNumber}
+use Rattle.calls.specs.Calls.{Call}
 use Rattle.calls.specs.Steps.{lacksBoard}
 use Rattle.locating.specs.Positions.{positionOf}
 use Rattle.locating.specs.Pruning.{liveSet, pruned}
 use Rattle.locating.specs.Locating.{Spot, refusedFor, stuckAfter, nowhere, someLeft, foundBy, spotIn, inChunk, locateConditions, spotBy, spotOf}
 use Rattle.locating.proofs.Positions.{position-claims}
 use Rattle.locating.proofs.Spotting.{looked-within}
-use Rattle.histories.specs.History.{ruleThere, ruleFrom, ruleIn, placesIn, lastRevision, standing, standingText, deliverCheck, withdrawCheck, openNumber, endOf, joinedUpTo}
+use Rattle.histories.specs.History.{ruleThere, ruleFrom, ruleIn, placesIn, lastRevision, standing, standingText, endOf, joinedUpTo}
 use Rattle.histories.specs.Claims.{judgeAfter}
 use Rattle.histories.proofs.Running.{n-same, delegate-below}
 use Rattle.histories.proofs.Agreement.{Agrees}
 use Rattle.histories.proofs.Numbers.{same-test, no-board, places-same, symbols-there}
 use Rattle.histories.proofs.EveryList.{good}
+use Rattle.histories.proofs.CountBound.{standing-short}
 use Rattle.losses.specs.Losses.{textUpTo, Lost}
 use Rattle.losses.specs.Spots.{spotNumber, textWith, StuckAfter, Spotted}
 use Rattle.losses.proofs.Living.{text-take, lives, cut, alive-before, left-alive, needed, dies}
@@ -256,37 +257,6 @@ module _ (h : List Call) (p : ℕ) (w : List ℕ) where
 
   pub spot : (s : Spot) → (spotOf (judgeAfter h) p w ≡ s) ↔ Spotted h p w s
   spot s = ((λ e. subst (Spotted h p w) e spotted), λ x. one-spot (spotOf (judgeAfter h) p w) s spotted x)
-
--- ---- a standing chunk is not too long
-second : (a b : Bool) → a && b ≡ true → b ≡ true
-second true b e = e
-second false b e = not-both e refl
-
-short-by : (k places : ℕ) (last : Option ℕ) (q v : ℕ) (u : List ℕ) (o : Option ℕ) → deliverCheck k places last q v u ≡ o → isNone o ≡ true → length u ≤ 65536
-short-by k places last q v u (some x) e z = zero-one cc
-short-by k places last q v u none e z =
-    let a = passed 21 (eqb places 0) _ e in
-    let b = passed 11 (leb places q) _ (a .1) in
-    ltb-false 65536 (length u) (passed 12 (ltb 65536 (length u)) _ (b .1) .0)
-
-standing-short : (h : List Call) (p : ℕ) (w : List ℕ) → standing h p ≡ some w → length w ≤ 65536
-unfolding standing
-standing-short [] p w e = none-some refl e
-standing-short (installs r ∷ h) p w e =
-    by-test (isNone (installNumber r)) (λ t. none-some refl (rw t at e)) (λ t. standing-short h p w (rw t at e))
-standing-short (opens n ∷ h) p w e =
-    by-test (isNone (openNumber h n)) (λ t. none-some refl (rw t at e)) (λ t. standing-short h p w (rw t at e))
-standing-short (delivers q v u ∷ h) p w e =
-    by-test (eqb q p && isNone (deliverCheck (ruleIn h .k) (placesIn h) (lastRevision h q) q v u))
-    (λ t.
-    let z : some u ≡ some w = rw t at e in
-    let same : u ≡ w = cc in
-    subst (λ (x : List ℕ). length x ≤ 65536) same
-    (short-by (ruleIn h .k) (placesIn h) (lastRevision h q) q v u _ refl (second (eqb q p) (isNone (deliverCheck (ruleIn h .k) (placesIn h) (lastRevision h q) q v u)) t)))
-    (λ t. standing-short h p w (rw t at e))
-standing-short (withdraws q ∷ h) p w e =
-    by-test (eqb q p && isNone (withdrawCheck (placesIn h) (standing h q) q)) (λ t. none-some refl (rw t at e)) (λ t. standing-short h p w (rw t at e))
-standing-short (asksVerdict ∷ h) p w e = standing-short h p w e
 
 -- ---- the chunk of the lost place
 module _ (h : List Call) (p : ℕ) (w : List ℕ) (lost : Lost h p) (here : standing h p ≡ some w) where

@@ -7,8 +7,8 @@ use mathlib.Core.List.{List, [], _∷_, _++_, append-assoc}
 use mathlib.Core.Option.{none, some}
 use Prim.Native.Nat.{ℕ, suc, _≤_, _<_}
 use native.Mathlib.Omega.{arith}
-use lib.Dec.{eqb, ltb}
-use borrow.Author.Tests.{ne-eqb, eqb-true, eqb-false, ltb-true, ltb-false}
+use lib.Dec.{ltb}
+use borrow.Author.Tests.{ne-eqb, ltb-true, ltb-false}
 use Rattle.base.specs.Lists.{joined}
 use Rattle.base.specs.Options.{isNone}
 use Rattle.base.proofs.Lists.{joined-same, joined-suc, joined-split}
@@ -19,13 +19,14 @@ use Rattle.automaton.specs.declared.Rule.{Rule}
 use Rattle.automaton.specs.Automaton.{Accepts}
 use Rattle.automaton.specs.Rules.{automatonOf}
 use Rattle.live.specs.Continued.{Continued}
-use Rattle.calls.specs.Replies.{Reported, judged, waiting, yesWith, noWith, refusedWith}
-use Rattle.calls.specs.Calls.{Call, installs, opens, delivers, withdraws, asksVerdict}
+use Rattle.calls.specs.Replies.{Reported, judged, yesWith, noWith}
+use Rattle.calls.specs.Calls.{Call, installs, loads, opens, delivers, withdraws, asksVerdict}
 use Rattle.calls.specs.Steps.{stepOf}
 use Rattle.diagnoses.specs.Diagnosing.{Finding, refusedAs, lostAt, openWith, diagnosisOf}
-use Rattle.histories.specs.History.{ruleThere, ruleFrom, ruleIn, boardIn, placesIn, standing, standingText, emptiesIn, textIn, verdictIn, reportIn}
+use Rattle.histories.specs.History.{ruleThere, ruleFrom, ruleIn, boardIn, placesIn, standing, standingText, textIn, verdictIn, reportIn}
 use Rattle.histories.specs.Claims.{judgeAfter}
 use Rattle.histories.proofs.EveryList.{good, every-list, answer-after}
+use Rattle.histories.proofs.VerdictSays.{board-there, none-empty}
 use Rattle.losses.specs.Losses.{textUpTo, FilledAt, Hopeful, Lost, Open, Diagnosed, AcceptsNothing, AllElsewhere}
 use Rattle.losses.proofs.Diagnosing.{diagnosed, clash}
 
@@ -64,6 +65,7 @@ module _ (h : List Call) (p : ℕ) where
   unfolding ruleThere
   rule-kept [] e = refl
   rule-kept (installs r ∷ cs) e = absurd (e .0)
+  rule-kept (loads f ∷ cs) e = absurd (e .0)
   rule-kept (opens n ∷ cs) e = rule-kept cs (e .1)
   rule-kept (delivers q v w ∷ cs) e = rule-kept cs (e .1)
   rule-kept (withdraws q ∷ cs) e = rule-kept cs (e .1)
@@ -73,6 +75,7 @@ module _ (h : List Call) (p : ℕ) where
   unfolding standing
   chunks-kept [] e i l = refl
   chunks-kept (installs r ∷ cs) e i l = absurd (e .0)
+  chunks-kept (loads f ∷ cs) e i l = absurd (e .0)
   chunks-kept (opens n ∷ cs) e i l = absurd (e .0)
   chunks-kept (delivers q v w ∷ cs) e i l = rw (ne-eqb q i (λ z. absurd (omega (arith, e .0)))) (chunks-kept cs (e .1) i l)
   chunks-kept (withdraws q ∷ cs) e i l = rw (ne-eqb q i (λ z. absurd (omega (arith, e .0)))) (chunks-kept cs (e .1) i l)
@@ -85,25 +88,9 @@ module _ (h : List Call) (p : ℕ) where
 module _ (h : List Call) where
   -- yes or no is said only where a board is there and no place is empty
   module _ (c : ℕ) (v : (verdictIn h ≡ yesWith c) ⊎ (verdictIn h ≡ noWith c)) where
-    board-there : boardIn h ≡ true
-    board-there = by-test (boardIn h) (λ b. b) (λ b. never v (every-list h .verdict .none-there .1 b))
-      where
-        never : {A : Type 0} → (verdictIn h ≡ yesWith c) ⊎ (verdictIn h ≡ noWith c) → verdictIn h ≡ refusedWith 21 → A
-        never (inl y) z = zero-one cc
-        never (inr n) z = zero-one cc
-
-    none-empty : emptiesIn h ≡ 0
-    none-empty =
-        by-test (eqb (emptiesIn h) 0) (λ e. eqb-true (emptiesIn h) 0 e)
-        (λ e. let ne = eqb-false (emptiesIn h) 0 e in never v (every-list h .verdict .waits (emptiesIn h) .1 (board-there, omega arith, refl)))
-      where
-        never : {A : Type 0} → (verdictIn h ≡ yesWith c) ⊎ (verdictIn h ≡ noWith c) → verdictIn h ≡ waiting (emptiesIn h) → A
-        never (inl y) z = zero-one cc
-        never (inr n) z = zero-one cc
-
     all-filled : (p : ℕ) {A : Type 0} → p < placesIn h → standing h p ≡ none → A
     all-filled p l e =
-        absurd (no-term (isNone (standing h p)) (is-none (standing h p) .1 e) (omega (arith, none-empty, term-most (λ i. cond (isNone (standing h i)) 1 0) (placesIn h) p l)))
+        absurd (no-term (isNone (standing h p)) (is-none (standing h p) .1 e) (omega (arith, none-empty h c v, term-most (λ i. cond (isNone (standing h i)) 1 0) (placesIn h) p l)))
       where
         no-term : (t : Bool) → t ≡ true → cond t 1 0 ≤ 0 → ⊥
         no-term true z x = omega (arith, x)
@@ -115,7 +102,7 @@ module _ (h : List Call) where
         (λ l. let e : m ≡ placesIn h = omega (arith, ltb-false m (placesIn h) l, o .within) in subst (Open h) e o)
 
     told : (f : Finding) → Diagnosed h f → ((p : ℕ) × Lost h p) ⊎ Open h (placesIn h)
-    told (refusedAs x) d = not-both board-there (d .0)
+    told (refusedAs x) d = not-both (board-there h c v) (d .0)
     told (lostAt p) d = inl (p, d)
     told (openWith m) d = inr (open-all m d)
 
@@ -126,7 +113,7 @@ module _ (h : List Call) where
   pub no-yes : (p c : ℕ) → Lost h p → verdictIn h ≡ yesWith c → ⊥
   no-yes p c x y =
       let e = every-list h .verdict in
-      let z = none-empty c (inl y) in
+      let z = none-empty h c (inl y) in
       let t : Accepts (automatonOf (ruleIn h)) (textIn h) = e .accepts (x .board) z .0 (y ∙ ap yesWith (e .counted c y)) in
       let f : ℕ → List ℕ = λ i. standingText (standing h i) in
       let u = joined-split f (placesIn h) p (x .within) in

@@ -21,7 +21,7 @@ use Rattle.base.specs.Options.{isNone}
 use Rattle.automaton.specs.Automaton.{Accepts}
 use Rattle.automaton.specs.Rules.{automatonOf}
 use Rattle.live.specs.Continued.{Continued}
-use Rattle.calls.specs.Calls.{Call, installs, opens, delivers, withdraws, asksVerdict}
+use Rattle.calls.specs.Calls.{Call, installs, loads, opens, delivers, withdraws, asksVerdict}
 use Rattle.histories.specs.History.{ruleIn, boardIn, placesIn, standing, joinedUpTo}
 use Rattle.diagnoses.specs.Diagnosing.{Finding, refusedAs, lostAt, openWith}
 
@@ -60,6 +60,7 @@ module _ (h : List Call) where
 
 abbrev pub Elsewhere : ℕ → Call → Type 0
 Elsewhere p (installs r) = ⊥
+Elsewhere p (loads f) = ⊥
 Elsewhere p (opens n) = ⊥
 Elsewhere p (delivers q v w) = p < q
 Elsewhere p (withdraws q) = p < q

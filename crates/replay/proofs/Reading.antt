@@ -6,7 +6,7 @@
 --   lines-on             the lines of a text from an index on
 use mathlib.Core.Path.{_≡_, refl, sym, ap, ap₂, _∙_}
 use mathlib.Core.Bool.{true, false, true≢false}
-use mathlib.Core.List.{List, [], _∷_, _++_}
+use mathlib.Core.List.{List, [], _∷_}
 use Prim.Native.Nat.{ℕ, suc, _+_, _-_, _≤_, _<_, min}
 use native.Mathlib.Numerals.{add-one}
 use native.Mathlib.Omega.{arith}
@@ -21,12 +21,10 @@ use Rattle.lines.proofs.Parts.{part-rest, part-is}
 use Rattle.executions.specs.Executions.{stateAfter}
 use Rattle.calls.specs.declared.Judge.{Judge}
 use Rattle.calls.specs.Calls.{Call}
-use Rattle.calls.specs.Steps.{fresh, loadOf, reportOf, stepOf}
+use Rattle.calls.specs.Steps.{fresh, reportOf, stepOf}
 use Rattle.histories.specs.Claims.{judgeAfter}
-use Rattle.histories.specs.History.{loading}
 use Rattle.histories.proofs.EveryList.{report-after}
-use Rattle.histories.proofs.Loads.{load-state}
-use Rattle.calltext.specs.Meaning.{Meaning, again, call, load, malformed, lineIn}
+use Rattle.calltext.specs.Meaning.{Meaning, again, call, malformed, lineIn}
 use Rattle.calltext.specs.Answers.{isMalformed, answerMeans}
 use Rattle.callrun.specs.declared.LineRun.{LineRun}
 use Rattle.callrun.specs.Running.{LineOutcome, lineStep, runOutcome}
@@ -41,7 +39,6 @@ stays-malformed k i (line ∷ lines) = stays-malformed k (suc i) lines
 pub malformed-line : (j : Judge) (m : Meaning) → isMalformed (lineStep j m .response) ≡ true → m ≡ malformed
 malformed-line j again e = absurd (true≢false (sym e))
 malformed-line j (call c) e = absurd (true≢false (sym e))
-malformed-line j (load f) e = absurd (true≢false (sym e))
 malformed-line j malformed e = refl
 
 -- the calls of the record so far, and a judge that they leave
@@ -55,7 +52,6 @@ pub read-on : (i : ℕ) (h : List Call) (j : Judge) (m : Meaning) → j ≡ judg
 unfolding stateAfter
 read-on i h j again ran e = record { history = []; ran = refl; is = refl }
 read-on i h j (call c) ran e = record { history = c ∷ h; ran = ap (λ (x : Judge). stepOf x c .state) ran; is = refl }
-read-on i h j (load f) ran e = record { history = loading f ++ h; ran = ap (λ (x : Judge). loadOf x f .state) ran ∙ load-state f h; is = refl }
 read-on i h j malformed ran e = absurd (true≢false e)
 
 -- ---- the lines of a text from an index on

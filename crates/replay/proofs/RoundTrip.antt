@@ -6,22 +6,21 @@ use lib.ListN.{length}
 use Rattle.lines.specs.Splitting.{linesFrom}
 use Rattle.lines.proofs.Over.{over-line}
 use Rattle.calls.specs.Calls.{Call}
-use Rattle.histories.specs.History.{loading}
-use Rattle.fields.specs.Claims.{AllBytes, fieldOf}
-use Rattle.calltext.specs.Meaning.{Meaning, load-word}
-use Rattle.calltext.specs.Claims.{lineOf}
+use Rattle.calltext.specs.Claims.{Fits, lineOf}
 use Rattle.calltext.proofs.RoundTrip.{over-call}
 use Rattle.calltext.proofs.RoundTrip as calltext
-use Rattle.replay.specs.Records.{calls, readOn, readLine, readLines, recordIn}
+use Rattle.replay.specs.Records.{Recorded, calls, readOn, readLine, readLines, recordIn}
 use Rattle.replay.specs.Claims.{AllFit, recordOf, Claims}
+
+line-read : (i : ℕ) (h : List Call) (c : Call) → Fits c → readLine (calls h) i (lineOf c) ≡ calls (c ∷ h)
+line-read i h c a = ap (readOn i h) (calltext.claims .line-round-trip c a)
 
 -- the lines of the call c and of the text y behind it
 read-on : (i : ℕ) (c : Call) (h : List Call) (y : List ℕ) → AllFit (c ∷ h)
     → readLines (calls h) i (linesFrom [] (lineOf c ++ (10 ∷ y))) ≡ readLines (calls (c ∷ h)) (suc i) (linesFrom [] y)
 unfolding readLines
 read-on i c h y a =
-    rw (over-line (lineOf c) y (over-call c))
-    (ap (λ (m : Meaning). readLines (readOn i h m) (suc i) (linesFrom [] y)) (calltext.claims .line-round-trip c (a .0)))
+    rw (over-line (lineOf c) y (over-call c)) (ap (λ (r : Recorded). readLines r (suc i) (linesFrom [] y)) (line-read i h c (a .0)))
 
 -- a text y behind the record of h is read after the calls h
 read-record : (h : List Call) (y : List ℕ) → AllFit h
@@ -36,8 +35,5 @@ record-round-trip : (h : List Call) → AllFit h → recordIn (recordOf h) ≡ c
 unfolding linesFrom readLines
 record-round-trip h a = rw append-nil at (read-record h [] a)
 
-load-read : (i : ℕ) (h : List Call) (f : List ℕ) → AllBytes f → readLine (calls h) i (load-word ++ fieldOf f) ≡ calls (loading f ++ h)
-load-read i h f a = ap (readOn i h) (calltext.claims .load-line f a)
-
 pub claims : Claims
-claims = record { record-round-trip = record-round-trip; load-read = load-read }
+claims = record { record-round-trip = record-round-trip; line-read = line-read }

@@ -4,19 +4,18 @@
 --                  its first malformed line, counted from 1
 --   readOn, readLine, readLines   a line more, by its meaning; a line, and lines from a number on
 --   recordIn w     what the text w records. An empty line begins a fresh judge: the calls are those
---                  after the last one. The line of a file records the installation of its rule,
---                  or no call where reading refuses it
+--                  after the last one
 --   ReplayReply    what replaying a record answers: what a verdict reports, or that a line is
 --                  malformed
 --   replayMeans r       what each case of the code's answer says
 --   replayOf s     the right answer for a record that says s
-use mathlib.Core.List.{List, [], _∷_, _++_}
+use mathlib.Core.List.{List, [], _∷_}
 use Prim.Native.Nat.{ℕ, suc}
 use Rattle.lines.specs.Splitting.{linesOf}
 use Rattle.calls.specs.Replies.{Reported, reportMeans}
-use Rattle.histories.specs.History.{reportIn, loading}
+use Rattle.histories.specs.History.{reportIn}
 use Rattle.calls.specs.Calls.{Call}
-use Rattle.calltext.specs.Meaning.{Meaning, again, call, load, malformed, lineIn}
+use Rattle.calltext.specs.Meaning.{Meaning, again, call, malformed, lineIn}
 use Rattle.replay.specs.declared.ReplayAnswer.{ReplayAnswer}
 use Rattle.replay.specs.declared.ReplayAnswer.the-variants.{Verdict, Malformed}
 
@@ -28,7 +27,6 @@ pub data Recorded : Type 0 where
 abbrev pub readOn : ℕ → List Call → Meaning → Recorded
 readOn i h again = calls []
 readOn i h (call c) = calls (c ∷ h)
-readOn i h (load f) = calls (loading f ++ h)
 readOn i h malformed = malformedAt i
 
 abbrev pub readLine : Recorded → ℕ → List ℕ → Recorded

@@ -9,8 +9,7 @@ use Rattle.calls.specs.Calls.{Call}
 use Rattle.calls.specs.Steps.{fresh}
 use Rattle.histories.specs.Claims.{judgeAfter}
 use Rattle.histories.proofs.EveryList.{answer-after}
-use Rattle.histories.proofs.Loads.{load-reply, load-state}
-use Rattle.calltext.specs.Meaning.{Meaning, again, call, load, malformed, lineIn}
+use Rattle.calltext.specs.Meaning.{Meaning, again, call, malformed, lineIn}
 use Rattle.calltext.specs.Answers.{replied, responseText}
 use Rattle.callrun.specs.Running.{lineStep}
 use Rattle.linetexts.specs.Lists.{listOf}
@@ -21,14 +20,12 @@ use Rattle.stream.specs.Texts.{toldAs, callList, callLines, historyAfter
 response-right : (h : List Call) (m : Meaning) → lineStep (judgeAfter h) m .response ≡ rightResponse h m
 response-right h again = refl
 response-right h (call c) = ap replied (answer-after h c)
-response-right h (load f) = ap replied (load-reply f h)
 response-right h malformed = refl
 
 judge-after : (h : List Call) (m : Meaning) → Agrees judgeAfter (toldAs (lineStep (judgeAfter h) m) .state) (historyAfter h m)
 unfolding stateAfter
 judge-after h again = refl
 judge-after h (call c) = refl
-judge-after h (load f) = ap (λ j. listOf j false) (load-state f h)
 judge-after h malformed = refl
 
 follows : Follows callList judgeAfter [] rightAnswer callsAfter

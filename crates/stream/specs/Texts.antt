@@ -4,19 +4,19 @@
 --   toldAs o            the outcome of a line, with its answer as text; a malformed line ends its list
 --   callList            what comes of a line in a list that goes on
 --   callLines           the machine that answers lines
---   historyAfter h m    the calls since the last empty line: h, and then a line of the meaning m; a
---                       load makes the installation of its rule, or no call. None where a malformed
---                       line ended the list: no call is made until an empty line
+--   historyAfter h m    the calls since the last empty line: h, and then a line of the meaning m.
+--                       None where a malformed line ended the list: no call is made until an empty
+--                       line
 --   rightResponse h m   the right answer to a line of the meaning m after the calls h
 --   rightText h ls      the right answer to each line, after the calls h and the lines before it
-use mathlib.Core.List.{List, [], _∷_, _++_}
+use mathlib.Core.List.{List, [], _∷_}
 use mathlib.Core.Option.{Option, none, some}
 use Prim.Native.Nat.{ℕ, pred}
 use Rattle.limits.specs.Limits.{lineRoom, answerRoom}
 use Rattle.calls.specs.declared.Judge.{Judge}
 use Rattle.calls.specs.Calls.{Call}
-use Rattle.histories.specs.History.{answerOf, loading, loadReply}
-use Rattle.calltext.specs.Meaning.{Meaning, again, call, load, malformed, lineIn}
+use Rattle.histories.specs.History.{answerOf}
+use Rattle.calltext.specs.Meaning.{Meaning, again, call, malformed, lineIn}
 use Rattle.calltext.specs.Answers.{Response, began, replied, unread, isMalformed, responseText}
 use Rattle.callrun.specs.Running.{LineOutcome, lineStep}
 use Rattle.linetexts.specs.Feeding.{Outcome, LineMachine}
@@ -43,13 +43,11 @@ callLines = listLines callList
 abbrev pub historyAfter : List Call → Meaning → Option (List Call)
 historyAfter h again = some []
 historyAfter h (call c) = some (c ∷ h)
-historyAfter h (load f) = some (loading f ++ h)
 historyAfter h malformed = none
 
 abbrev pub rightResponse : List Call → Meaning → Response
 rightResponse h again = began
 rightResponse h (call c) = replied (answerOf h c)
-rightResponse h (load f) = replied (loadReply f)
 rightResponse h malformed = unread
 
 abbrev pub rightAnswer : List Call → List ℕ → List ℕ
