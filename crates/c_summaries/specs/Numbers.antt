@@ -10,17 +10,16 @@
 --   Claims             nothing is lost by it; proofs/Numbers.antt proves it
 use mathlib.Core.Path.{_≡_}
 use mathlib.Core.Bool.{cond}
-use mathlib.Core.Option.{none, some, Option·getD}
 use Prim.Native.Nat.{ℕ}
 use lib.Dec.{eqb}
-use Rattle.base.specs.Options.{isNone}
+use Rattle.flags.specs.Flags.{flagBy, refusedBy, refusalBy}
 use Rattle.calls.specs.Replies.{Judgement, waiting, yesWith, noWith, refusedWith, Reported}
 use Rattle.summaries.specs.Summaries.{Summarized}
 use Rattle.c_summaries.specs.declared.SummaryNumbers.{SummaryNumbers}
 use Rattle.c_summaries.specs.declared.ConcludeNumbers.{ConcludeNumbers}
 
 abbrev pub summaryShown : Summarized → SummaryNumbers
-summaryShown s = record { accepted = cond (isNone (s .refusal)) 1 0; refused = Option·getD (s .refusal) 0; summary = s .summary }
+summaryShown s = record { accepted = flagBy (s .refusal); refused = refusedBy (s .refusal); summary = s .summary }
 
 abbrev pub kindOf : Judgement → ℕ
 kindOf (refusedWith number) = 0
@@ -44,7 +43,7 @@ concludeShown r = record {
 }
 
 abbrev pub summaryReadBack : SummaryNumbers → Summarized
-summaryReadBack r = record { refusal = cond (eqb (r .accepted) 1) none (some (r .refused)); summary = r .summary }
+summaryReadBack r = record { refusal = refusalBy (r .accepted) (r .refused); summary = r .summary }
 
 abbrev pub concludeReadBack : ConcludeNumbers → Reported
 concludeReadBack r = record {
