@@ -13,7 +13,8 @@ use Rattle.follow.specs.Following.{followOf, prepareOf, followByOf}
 use Rattle.follow.proofs.Claims as follow
 use Rattle.c_follow.specs.declared.FollowNumbers.{FollowNumbers}
 use Rattle.c_follow.specs.declared.FollowerNumbers.{FollowerNumbers}
-use Rattle.c_follow.specs.Numbers.{flagBy, followShown, prepareShown}
+use Rattle.flags.specs.Flags.{flagBy}
+use Rattle.c_follow.specs.Numbers.{followShown, prepareShown}
 use Rattle.requests.specs.FollowFunctions.{MayFollowC, MayPrepareC, MayFollowByC}
 
 pub follow-fixed : (r : Rule) (m : ℕ) (w : List ℕ) (n : FollowNumbers) → MayFollowC r m w n ↔ n ≡ followShown (followOf r m w)
