@@ -1,6 +1,7 @@
 -- What making a text answers, as numbers and read back from them. Assumes nothing.
 use mathlib.Core.Path.{_≡_, sym, ap, _∙_}
 use mathlib.Core.List.{List}
+use mathlib.Core.Option.{none, some}
 use Prim.Native.Nat.{ℕ}
 use Rattle.flags.proofs.Flags as flags
 use Rattle.madetexts.specs.declared.MadeAnswer.{MadeAnswer}
@@ -10,10 +11,10 @@ use Rattle.c_texts.specs.Numbers.{madeShown, MakesShown}
 use Rattle.c_texts.specs.Claims.{Claims}
 
 module _ (k seed : ℕ) (before : List ℕ) (r : MadeAnswer) (after : List ℕ) (m : Makes k seed before r after) where
-  pub shown-made : r ≡ Made → MakesShown k seed before (record { accepted = 1; refused = 0 }) after
+  pub shown-made : r ≡ Made → MakesShown k seed before (madeShown none) after
   shown-made e = record { answer = ap madeShown (sym (ap madeMeans e) ∙ m .answer); buffer = m .buffer }
 
-  pub shown-refused : (x : ℕ) → r ≡ Refused x → MakesShown k seed before (record { accepted = 0; refused = x }) after
+  pub shown-refused : (x : ℕ) → r ≡ Refused x → MakesShown k seed before (madeShown (some x)) after
   shown-refused x e = record { answer = ap madeShown (sym (ap madeMeans e) ∙ m .answer); buffer = m .buffer }
 
 pub claims : Claims

@@ -178,8 +178,8 @@ verdict-from-C = verdict-fixed
 -- In other words than the definitions': `accepted` is 1 or 0 and 0 exactly beside the number of a
 -- refusal, each case's fields, and the numbers of the kinds. A refused call gives the flag 0, the number,
 -- zeros and the judge that came; a verdict that is refused or waits has three zeros.
-pub numbers-of-C : Laws
-numbers-of-C = capi-laws.laws
+pub each-number : Laws
+each-number = capi-laws.laws
 
 pub refused-from-C : (j : Judge) (x : ℕ) → RefusedFromC j x × NoVerdictFromC j x
 refused-from-C j x = (refused-so j x, no-verdict j x)
