@@ -366,7 +366,7 @@ static void garbage_rule(const bellbadger_judge *j, int i) {
     bellbadger_install_result l = bellbadger_install(*j, r);
     CHECK(TOLD(l) && installed_into(j, &l));
     CHECK(!l.accepted || (r.n >= 1 && r.n <= 32 && r.k >= 1 && r.k <= 16 && !(r.initials & ~states) && !(r.finals & ~states)));
-    CHECK(i % 8 < 4 || l.accepted || l.refused == 9);
+    CHECK(i % 8 < 4 || TAKEN(l) || REFUSED_WITH(l, 9));
 }
 
 /* random numbers in every field; some states half sensible, so that deeper code is reached */

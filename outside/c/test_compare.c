@@ -300,7 +300,7 @@ static void judged(const bellbadger_checked_rule *r, const bellbadger_compare_re
     bellbadger_judge j = bellbadger_new();
     bellbadger_install_result installed = bellbadger_install(j, *r);
     if (!installed.accepted) {
-        CHECK(installed.refused == 9);
+        CHECK(REFUSED_WITH(installed, 9));
         return;
     }
     j = installed.judge;

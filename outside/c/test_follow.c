@@ -42,15 +42,24 @@ static int same_rule(bellbadger_checked_rule a, bellbadger_checked_rule b) {
     return a.n == b.n && a.k == b.k && a.initials == b.initials && a.finals == b.finals && memcmp(a.targets, b.targets, sizeof a.targets) == 0;
 }
 
+/* the states from which a final state can be reached: one arc more in each of 32 rounds */
+static uint32_t leading_on(const bellbadger_checked_rule *r) {
+    uint32_t live = r->finals;
+    for (int round = 0; round < 32; round++)
+        for (int c = 0; c < 16 * r->n; c++)
+            if (r->targets[c] & live) live |= 1u << c / 16;
+    return live;
+}
+
 static bellbadger_follow_result both(bellbadger_checked_rule r, uint32_t from, const uint8_t *chunk, size_t length) {
     bellbadger_follow_result f = bellbadger_follow(r, from, chunk, length), g;
     bellbadger_follower_result p = bellbadger_follower_prepare(r);
     if (!p.accepted) {
         static const bellbadger_checked_rule zeros;
-        CHECK(f.refused == p.refused && same_rule(p.follower.rule, zeros) && p.follower.live == 0);
+        CHECK(TOLD(p) && f.refused == p.refused && same_rule(p.follower.rule, zeros) && p.follower.live == 0);
         return f;
     }
-    CHECK(p.refused == 0 && same_rule(p.follower.rule, r));
+    CHECK(TAKEN(p) && same_rule(p.follower.rule, r) && p.follower.live == leading_on(&r));
     g = bellbadger_follow_by(p.follower, from, chunk, length);
     CHECK(f.accepted == g.accepted && f.refused == g.refused && f.ends == g.ends && f.lost == g.lost && f.at == g.at && f.set == g.set &&
           f.expected == g.expected && f.complete == g.complete);

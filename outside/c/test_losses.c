@@ -263,7 +263,7 @@ static void board(void) {
     bellbadger_judge j = bellbadger_new();
     bellbadger_install_result installed = bellbadger_install(j, rule);
     if (!installed.accepted) {
-        CHECK(installed.refused == 9);
+        CHECK(REFUSED_WITH(installed, 9));
         later_rules++;
         return;
     }

@@ -238,7 +238,7 @@ static bellbadger_judge any_judge(bellbadger_checked_rule *rule) {
         *rule = any_rule();
         bellbadger_install_result r = bellbadger_install(bellbadger_new(), *rule);
         if (r.accepted) return r.judge;
-        CHECK(r.refused == 9);
+        CHECK(REFUSED_WITH(r, 9));
     }
 }
 
