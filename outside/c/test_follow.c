@@ -156,11 +156,7 @@ static void long_chunk(void) {
         for (int s = 0; s < r.k; s++)
             for (uint32_t i = 0; i < arcs; i++)
                 if (any() % 8) r.targets[16 * q + s] |= 1u << any() % r.n;
-    live = r.finals;
-    for (int round = 0; round < 32; round++)
-        for (int q = 0; q < r.n; q++)
-            for (int s = 0; s < r.k; s++)
-                if (r.targets[16 * q + s] & live) live |= 1u << q;
+    live = leading_on(&r);
     for (size_t i = 0; i < LONG; i++) chunk[i] = (uint8_t)(any() % 9 ? any() % r.k : 255);
     now = before = r.initials;
     int lost = !(now & live);
