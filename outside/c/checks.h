@@ -26,8 +26,8 @@ static long checks;
         }                                                            \
     } while (0)
 
-/* The two fields of an answer, both of them: 1 and 0, or 0 and the number; of any answer, and of one whose
- * number is due, 0 where none is. */
+/* The two fields of an answer, both of them: 1 and 0, or 0 and the number; ANSWERED by the number that is
+ * due, 0 where none is, and TOLD by any. */
 #define TAKEN(r) ((r).accepted == 1 && (r).refused == 0)
 #define REFUSED_WITH(r, number) ((r).accepted == 0 && (r).refused == (number))
 #define ANSWERED(r, number) ((number) == 0 ? TAKEN(r) : REFUSED_WITH(r, number))

@@ -9,8 +9,8 @@ use Rattle.compare.specs.Values.{Reply, apart, same, refused, Outcome, outcomeO
 use Rattle.compare.specs.Search.{compareOf}
 use Rattle.c_compare.specs.Numbers.{comparisonShown, comparisonReadBack}
 
--- an answer with the reply p is shown as kind k with the number x of a refusal, and the length and the
--- text as they are
+-- an answer with the reply p is shown as kind k with the number x of a refusal, and the length and
+-- the text as they are
 abbrev pub Shows : Reply → ℕ → ℕ → Type 0
 Shows p k x = (n : ℕ) (t : List ℕ) → comparisonShown (record { reply = p; length = n; text = t }) ≡ record { kind = k; refused = x; length = n; text = t }
 

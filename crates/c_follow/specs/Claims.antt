@@ -16,8 +16,8 @@ pub record LostLaw (place : Option ℕ) (lost at : ℕ) : Type 0 where
   pub lost-exactly : (b : ℕ) → ((lost ≡ 1) × (at ≡ b)) ↔ (place ≡ some b)
 
 pub record Claims : Type 0 where
-  -- accepted and refused are by the number, ends and complete are 1 or 0, lost is with its place, and
-  -- the set and the symbols are those that are answered
+  -- accepted and refused are by the number, ends and complete are 1 or 0, lost is with its place,
+  -- and the set and the symbols are those that are answered
   pub flags : (o : Outcome) → FlagLaw (o .refusal) (followShown o .accepted) (followShown o .refused)
   pub ends : (o : Outcome) → BitLaw (o .ends) (followShown o .ends)
   pub complete : (o : Outcome) → BitLaw (o .complete) (followShown o .complete)

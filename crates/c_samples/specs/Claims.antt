@@ -10,8 +10,8 @@ use Rattle.samples.specs.Values.{Reply, found, none-there, refused, Outcome, ou
 use Rattle.samples.specs.Search.{sampleOf}
 use Rattle.c_samples.specs.Numbers.{wishOf, sampleShown, sampleReadBack}
 
--- an answer with the reply p is shown as kind k with the number x of a refusal, and the length and the
--- text as they are
+-- an answer with the reply p is shown as kind k with the number x of a refusal, and the length and
+-- the text as they are
 abbrev pub Shows : Reply → ℕ → ℕ → Type 0
 Shows p k x = (n : ℕ) (t : List ℕ) → sampleShown (record { reply = p; length = n; text = t }) ≡ record { kind = k; refused = x; length = n; text = t }
 

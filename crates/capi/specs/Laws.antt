@@ -1,11 +1,11 @@
 -- The law of the numbers that C is given, beside the definitions: every field of a result, case by
 -- case. proofs/Laws.antt proves it.
 --
---   Flags         `accepted` is 1 or 0, 1 exactly where nothing is refused, and then `refused` is 0;
---                 where it is 0, `refused` has the number
+--   Flags         `accepted` is 1 or 0, 1 exactly where nothing is refused, and then `refused` is
+--                 0; where it is 0, `refused` has the number
 --   Values        the fields of each case of an outcome: what it has, and 0 where it is refused
---   Reported-as v k x   a report with the verdict v is shown as kind k with the number x, and its other
---                 numbers as they are: of a verdict and of a recorded list
+--   Reported-as v k x   a report with the verdict v is shown as kind k with the number x, and its
+--                 other numbers as they are: of a verdict and of a recorded list
 --   Kinds         the kinds of a verdict and of a recorded list
 use mathlib.Core.Path.{_≡_}
 use Prim.Native.Nat.{ℕ}

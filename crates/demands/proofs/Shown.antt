@@ -1,5 +1,5 @@
--- The contract of each function that C links fixes every number of its result, and those of a refusal
--- are zeros but for its number, with the judge that came. Assumes nothing.
+-- The contract of each function that C links fixes every number of its result, and those of a
+-- refusal are zeros but for its number, with the judge that came. Assumes nothing.
 use mathlib.Core.Path.{_≡_, refl, ap, _∙_}
 use mathlib.Core.Logic.{_↔_}
 use mathlib.Core.List.{List, []}
