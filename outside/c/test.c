@@ -19,9 +19,7 @@ static uint8_t big[65537];
 static void built_with(void) {
     CHECK(bellbadger_version() == BELLBADGER_VERSION);
     CHECK(bellbadger_version() >> 16 == BELLBADGER_VERSION_MAJOR && (bellbadger_version() & 65535) == BELLBADGER_VERSION_MINOR);
-    CHECK(sizeof(bellbadger_judge) == BELLBADGER_STATE_SIZE);
     CHECK(bellbadger_state_size() == sizeof(bellbadger_judge));
-    CHECK(sizeof(bellbadger_checked_rule) == 2060 && sizeof(bellbadger_read_result) == 2064);
 }
 
 /* every field of rule A as it was built, so that the header's struct is the library's */
@@ -92,7 +90,7 @@ static void reading(void) {
     layout(&installed);
     CHECK(same(&loaded, &installed));
     bellbadger_install_result told = bellbadger_install(bellbadger_new(), r);
-    CHECK(told.accepted && told.refused == 0 && told.sets == 5 && told.starts == 3);
+    CHECK(TAKEN(told) && told.sets == 5 && told.starts == 3);
 }
 
 /* a value that is refused leaves the rule and the board as they are */
@@ -189,7 +187,7 @@ static void no_final_state(void) {
     bellbadger_judge j = bellbadger_new();
     r.initials = 15, r.finals = 0;
     bellbadger_install_result told = bellbadger_install(j, r);
-    CHECK(told.accepted && told.sets == 4 && told.starts == 0);
+    CHECK(TAKEN(told) && told.sets == 4 && told.starts == 0);
     install(&j, r, 0);
     for (int q = 0; q < 32; q++) CHECK(j.rule.delegates[q] == (q < 4 ? BELLBADGER_NO_DELEGATE : 0));
     open(&j, 2, 0);
@@ -297,6 +295,25 @@ static void records(void) {
     replay(LOAD_A "open 00000000000000000001\ndeliver 0 0 -", BELLBADGER_NO, 0, 0);
 }
 
+/* rule B, by 0 from 0 to 1 and 2, and back from both: 5 transitions over 3 bytes, in every field of the three
+ * results that a verdict has */
+static void divided(void) {
+    static const uint8_t rule_b[] = {3, 1, 1, 0, 0, 0, 6, 0, 0, 0, 22, 0, 4, 0, 26, 0, 2, 0, 28, 0, 2, 0, 0, 1, 0, 2, 0, 0, 0, 0}, zeros_2[] = {0, 0};
+    static const char record[] = "load 0301010000000600000016000400"
+                                 "1A0002001C0002000001000200000000\nopen 2\ndeliver 0 0 00\ndeliver 1 0 0000\n";
+    bellbadger_judge j = bellbadger_new();
+    load(&j, rule_b, sizeof rule_b, 0);
+    bellbadger_summary first = bellbadger_summarize(j, 0, zeros_2, 1).summary, second = bellbadger_summarize(j, 1, zeros_2, 2).summary;
+    bellbadger_verdict_result by[3];
+    by[0] = bellbadger_summary_conclude(j, bellbadger_summary_combine(first, second), 2);
+    by[1] = bellbadger_replay((const uint8_t *)record, strlen(record));
+    open(&j, 2, 0);
+    looked(&j, 1, 0, zeros_2, 2, 2);
+    looked(&j, 0, 0, zeros_2, 1, 1);
+    by[2] = bellbadger_verdict(j);
+    for (int i = 0; i < 3; i++) CHECK(by[i].kind == 2 && by[i].number == 5 && by[i].bytes == 3 && by[i].quotient == 1 && by[i].remainder == 2);
+}
+
 /* whatever stands in a verdict, the kind of yes alone is one */
 static void only_yes_is_yes(void) {
     for (int kind = 0; kind < 256; kind++) {
@@ -347,9 +364,9 @@ static void garbage_rule(const bellbadger_judge *j, int i) {
     if (i % 8 > 2) r.initials &= states, r.finals &= states;
     for (int c = 0; i % 8 > 3 && c < 512; c++) r.targets[c] = c / 16 < r.n && c % 16 < r.k ? r.targets[c] & states : 0;
     bellbadger_install_result l = bellbadger_install(*j, r);
-    CHECK(l.accepted || (same(&l.judge, j) && l.sets == 0 && l.starts == 0));
+    CHECK(TOLD(l) && installed_into(j, &l));
     CHECK(!l.accepted || (r.n >= 1 && r.n <= 32 && r.k >= 1 && r.k <= 16 && !(r.initials & ~states) && !(r.finals & ~states)));
-    CHECK(i % 8 < 4 || l.accepted || l.refused == 9);
+    CHECK(i % 8 < 4 || TAKEN(l) || REFUSED_WITH(l, 9));
 }
 
 /* random numbers in every field; some states half sensible, so that deeper code is reached */
@@ -366,16 +383,17 @@ static void garbage(int states) {
         memcpy(before, chunk, sizeof chunk);
         size_t place = i % 5 ? random_number() % 64 : (size_t)random_number();
         bellbadger_load_result l = bellbadger_load(j, chunk, sizeof chunk);
-        CHECK(l.accepted || same(&l.judge, &j));
+        CHECK(TOLD(l) && installed_into(&j, &l));
         garbage_rule(&j, i);
-        CHECK(bellbadger_load(j, rule_a, sizeof rule_a).accepted);
+        l = bellbadger_load(j, rule_a, sizeof rule_a);
+        CHECK(TAKEN(l) && installed_into(&j, &l));
         bellbadger_open_result o = bellbadger_open(j, place);
-        CHECK(o.accepted || same(&o.judge, &j));
+        CHECK(TOLD(o) && (o.accepted || same(&o.judge, &j)));
         bellbadger_deliver_result d = bellbadger_deliver(j, place, (uint32_t)random_number(), chunk, i % 7 ? sizeof chunk : 0);
-        CHECK(d.accepted || (same(&d.judge, &j) && d.looked == 0));
+        CHECK(TOLD(d) && (d.accepted || (same(&d.judge, &j) && d.looked == 0)));
         CHECK(d.looked <= sizeof chunk);
         bellbadger_withdraw_result w = bellbadger_withdraw(d.judge, place);
-        CHECK(w.accepted || same(&w.judge, &d.judge));
+        CHECK(TOLD(w) && (w.accepted || same(&w.judge, &d.judge)));
         CHECK(bellbadger_verdict(j).kind <= BELLBADGER_NO && bellbadger_verdict(w.judge).kind <= BELLBADGER_NO);
         CHECK(divides(bellbadger_verdict(j)) && divides(bellbadger_verdict(w.judge)));
         CHECK(bellbadger_replay(chunk, sizeof chunk).kind <= BELLBADGER_MALFORMED);
@@ -395,6 +413,7 @@ static void *all(void *states) {
     revisions();
     any_order();
     records();
+    divided();
     only_yes_is_yes();
     installations();
     garbage(*(int *)states);

@@ -56,7 +56,6 @@ static void worked(void) {
     static const uint8_t verdicts_and_diagnoses[] = {BELLBADGER_WAITING, BELLBADGER_YES, BELLBADGER_NO, BELLBADGER_MALFORMED,
                                                      BELLBADGER_LOST, BELLBADGER_OPEN, BELLBADGER_REFUSED};
     bellbadger_checked_rule turned = plain(3, 2), two_ways = plain(3, 2), one_way_less = plain(2, 2);
-    CHECK(sizeof(bellbadger_compare_result) == 516);
     for (size_t i = 0; i < sizeof verdicts_and_diagnoses; i++)
         CHECK(verdicts_and_diagnoses[i] != BELLBADGER_FIRST_ALONE && verdicts_and_diagnoses[i] != BELLBADGER_SECOND_ALONE &&
               verdicts_and_diagnoses[i] != BELLBADGER_SAME);
@@ -301,7 +300,7 @@ static void judged(const bellbadger_checked_rule *r, const bellbadger_compare_re
     bellbadger_judge j = bellbadger_new();
     bellbadger_install_result installed = bellbadger_install(j, *r);
     if (!installed.accepted) {
-        CHECK(installed.refused == 9);
+        CHECK(REFUSED_WITH(installed, 9));
         return;
     }
     j = installed.judge;

@@ -42,13 +42,13 @@ static void found(const bellbadger_tray *t, fault due) {
 
 static void tray_deliver(bellbadger_tray *t, int band, const uint8_t *rows, size_t length) {
     bellbadger_tray_deliver_result r = bellbadger_tray_deliver(*t, (size_t)band, rows, length);
-    CHECK(r.accepted);
+    CHECK(TAKEN(r));
     *t = r.tray;
 }
 
 static void tray_withdraw(bellbadger_tray *t, int band) {
     bellbadger_tray_withdraw_result r = bellbadger_tray_withdraw(*t, (size_t)band);
-    CHECK(r.accepted);
+    CHECK(TAKEN(r));
     *t = r.tray;
 }
 
@@ -58,7 +58,7 @@ static int with(bellbadger_tray *t, rule row, rule column, int width, int bands)
     bellbadger_tray_install_result by_column = bellbadger_tray_install_column(by_row.tray, column);
     if (!by_row.accepted || !by_column.accepted) return 0;
     bellbadger_tray_open_result opened = bellbadger_tray_open(by_column.tray, (size_t)width, (size_t)bands);
-    CHECK(opened.accepted);
+    CHECK(TAKEN(opened));
     *t = opened.tray;
     return 1;
 }
@@ -421,7 +421,6 @@ static void random_tray(void) {
 
 int main(int argc, char **argv) {
     int trays = argc > 1 ? atoi(argv[1]) : 3000;
-    CHECK(sizeof(fault) == 5);
     rows();
     columns();
     stopped();

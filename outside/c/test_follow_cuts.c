@@ -117,7 +117,7 @@ static int piece(bellbadger_checked_rule r, bellbadger_follower by, uint32_t *se
     bellbadger_follow_result f = bellbadger_follow_by(by, *set, trace + a, b - a);
     while (lost <= b && hope[lost]) lost++;
     if (lost <= b) before = lost > a ? lost - 1 : a;
-    CHECK(f.accepted == 1 && f.refused == 0 && f.set == mask(after[b]) && f.ends == ends(&r, after[b]));
+    CHECK(TAKEN(f) && f.set == mask(after[b]) && f.ends == ends(&r, after[b]));
     CHECK(f.lost == (lost <= b) && f.at == (lost <= b ? lost - a : 0));
     CHECK(f.expected == could_come(&r, after[before]) && f.complete == ends(&r, after[before]));
     *set = f.set;
@@ -131,7 +131,7 @@ static void followed(bellbadger_checked_rule r) {
     size_t cuts[CHUNKS + 1], length = any_trace(&r), chunks = 1 + below(CHUNKS);
     bellbadger_follower_result p = bellbadger_follower_prepare(r);
     uint32_t set = r.initials, whole = r.initials;
-    CHECK(p.accepted == 1 && p.follower.rule.n == r.n);
+    CHECK(TAKEN(p) && p.follower.rule.n == r.n);
     cuts[0] = 0, cuts[chunks] = length;
     for (size_t c = 1; c < chunks; c++) cuts[c] = below((uint32_t)length + 1);
     for (size_t c = 1; c < chunks; c++)

@@ -263,7 +263,7 @@ static void board(void) {
     bellbadger_judge j = bellbadger_new();
     bellbadger_install_result installed = bellbadger_install(j, rule);
     if (!installed.accepted) {
-        CHECK(installed.refused == 9);
+        CHECK(REFUSED_WITH(installed, 9));
         later_rules++;
         return;
     }
@@ -305,7 +305,6 @@ static void board(void) {
 
 int main(int argc, char **argv) {
     int boards = argc > 1 ? atoi(argv[1]) : 4000;
-    CHECK(sizeof(bellbadger_diagnose_result) == 2 && sizeof(bellbadger_locate_result) == 8);
     never_lost();
     trapped();
     idle_marks();

@@ -33,7 +33,7 @@ static bellbadger_mapping any_mapping(void) {
 
 static bellbadger_profile build(bellbadger_checked_rule rule, int refused) {
     bellbadger_profile_build_result b = bellbadger_profile_build(rule);
-    CHECK(b.accepted == (refused == 0) && b.refused == refused);
+    CHECK(ANSWERED(b, refused));
     if (refused) {
         for (int i = 0; i < 512; i++) CHECK(b.profile.mappings[i] == 0);
         for (int c = 0; c < 8192; c++) CHECK(b.profile.next[c] == 0);
@@ -44,7 +44,7 @@ static bellbadger_profile build(bellbadger_checked_rule rule, int refused) {
 
 static bellbadger_mapping run(const bellbadger_profile *p, const uint8_t *chunk, size_t length, int refused) {
     bellbadger_profile_run_result r = bellbadger_profile_run(*p, chunk, length);
-    CHECK(r.accepted == (refused == 0) && r.refused == refused);
+    CHECK(ANSWERED(r, refused));
     CHECK(!refused || same_mapping(r.mapping, of(0, 0, 0)));
     return r.mapping;
 }
@@ -54,8 +54,7 @@ static void layout(void) {
     static const uint64_t mappings[] = {0x040201, 0x000003, 0x000401, 0x000005, 0x000001};
     static const uint16_t next[][2] = {{1, 2}, {1, 3}, {1, 4}, {1, 4}, {1, 4}};
     bellbadger_profile p = build(read_file(rule_a, sizeof rule_a, 0), 0);
-    CHECK(sizeof p == BELLBADGER_PROFILE_SIZE && bellbadger_profile_size() == sizeof p && sizeof(bellbadger_mapping) == 8);
-    CHECK(sizeof(bellbadger_profile_run_result) == 10);
+    CHECK(bellbadger_profile_size() == sizeof p);
     CHECK(p.n == 3 && p.k == 2 && p.initials == 1 && p.finals == 4 && p.count == 5);
     for (int i = 0; i < 512; i++) CHECK(p.mappings[i] == (i < 5 ? mappings[i] : 0));
     for (int c = 0; c < 8192; c++) CHECK(p.next[c] == (c / 16 < 5 && c % 16 < 2 ? next[c / 16][c % 16] : 0));
@@ -147,7 +146,7 @@ static void as_a_board(int rules) {
     for (int i = 0; i < rules; i++) {
         bellbadger_checked_rule r = any_rule();
         bellbadger_profile_build_result b = bellbadger_profile_build(r);
-        CHECK(b.accepted || (b.refused == 34 && b.profile.count == 0));
+        CHECK(TAKEN(b) || (REFUSED_WITH(b, 34) && b.profile.count == 0));
         if (!b.accepted) continue;
         accepted++;
         int places = 1 + (int)(random_number() % MOST);

@@ -9,16 +9,16 @@
 static bellbadger_checked_rule reduced(bellbadger_checked_rule rule) {
     bellbadger_reduce_result r = bellbadger_reduce(rule), again;
     bellbadger_install_result l = bellbadger_install(bellbadger_new(), r.rule);
-    CHECK(r.accepted == 1 && r.refused == 0 && r.installs == l.accepted && (l.accepted || l.refused == 9));
+    CHECK(TAKEN(r) && r.installs == l.accepted && (TAKEN(l) || REFUSED_WITH(l, 9)));
     CHECK(r.rule.k == rule.k && r.rule.n >= 1 && r.rule.n <= rule.n);
     again = bellbadger_reduce(r.rule);
-    CHECK(again.accepted == r.installs && (again.accepted ? equal(&again.rule, &r.rule) : again.refused == 9));
+    CHECK(ANSWERED(again, r.installs ? 0 : 9) && (!again.accepted || equal(&again.rule, &r.rule)));
     return r.rule;
 }
 
 static void refused(bellbadger_checked_rule rule, int number) {
     bellbadger_reduce_result r = bellbadger_reduce(rule);
-    CHECK(r.accepted == 0 && r.refused == number && r.installs == 0 && zeros(&r.rule));
+    CHECK(REFUSED_WITH(r, number) && r.installs == 0 && zeros(&r.rule));
 }
 
 static void comes_to(bellbadger_checked_rule rule, bellbadger_checked_rule due) {
@@ -28,7 +28,6 @@ static void comes_to(bellbadger_checked_rule rule, bellbadger_checked_rule due) 
 
 static void worked(void) {
     bellbadger_checked_rule a = plain(3, 2), nothing = BY_ONE(0, 0, 0);
-    CHECK(sizeof(bellbadger_reduce_result) == 2064);
     a.finals = 4, a.targets[0] = 3, a.targets[1] = 1, a.targets[17] = 4; /* what ends in 0 1 */
     comes_to(a, a);
     comes_to(BY_ONE(1, 2, 2, 0, 1), BY_ONE(1, 2, 2, 0)); /* state 2 is not reached */
@@ -50,7 +49,7 @@ static void worked(void) {
 static void more_sets(void) {
     bellbadger_reduce_result few = bellbadger_reduce(grows(6, 6)), many = bellbadger_reduce(grows(7, 3));
     CHECK(bellbadger_install(bellbadger_new(), grows(7, 3)).sets == 142);
-    CHECK(many.accepted == 1 && many.installs == 0 && many.rule.n == 11 && few.accepted == 1 && few.installs == 1 && few.rule.n == 13);
+    CHECK(TAKEN(many) && many.installs == 0 && many.rule.n == 11 && TAKEN(few) && few.installs == 1 && few.rule.n == 13);
     CHECK(bellbadger_compare(grows(7, 3), many.rule).kind == BELLBADGER_SAME);
     reduced(grows(7, 3));
     refused(many.rule, 9);

@@ -43,7 +43,6 @@ static void refused(bellbadger_checked_rule rule, int number) {
 
 static void worked(void) {
     bellbadger_checked_rule a = plain(3, 2), every = plain(1, 2), dead = plain(2, 3);
-    CHECK(sizeof(bellbadger_sample_result) == 516);
     a.finals = 4;
     set(&a, 0, 3, 1), set(&a, 1, 0, 4); /* what ends in 0 1 */
     text(BELLBADGER_ACCEPTED_TEXT, a, (const uint8_t[]){0, 1}, 2);

@@ -58,18 +58,18 @@ static void *caller(void *unused) {
     bellbadger_tray_fault_result fault = bellbadger_tray_fault(band.tray);
     CHECK(bellbadger_version() == BELLBADGER_VERSION && bellbadger_state_size() == sizeof judge);
     CHECK(bellbadger_profile_size() == sizeof built.profile && bellbadger_tray_size() == sizeof tray.tray);
-    CHECK(read.accepted && loaded.accepted && installed.accepted && opened.accepted && delivered.accepted && withdrawn.accepted);
+    CHECK(TAKEN(read) && TAKEN(loaded) && TAKEN(installed) && TAKEN(opened) && TAKEN(delivered) && TAKEN(withdrawn));
     CHECK(same(&loaded.judge, &installed.judge) && withdrawn.judge.board.lengths[0] == 0 && judge.rule.n == 0);
     CHECK(bellbadger_is_yes(verdict) && bellbadger_is_yes(replayed) && replayed.bytes == 2);
     CHECK(diagnosed.kind == BELLBADGER_OPEN && diagnosed.number == 1 && located.kind == BELLBADGER_NOWHERE);
-    CHECK(built.accepted && ran.accepted && bellbadger_profile_verdict(built.profile, composed) == 1);
-    CHECK(bellbadger_follower_size() == sizeof follower.follower && follower.accepted && followed.accepted && followed_by.ends);
-    CHECK(bellbadger_summary_size() == sizeof combined && summarized.accepted && bellbadger_is_yes(concluded) && concluded.bytes == 2 * verdict.bytes);
-    CHECK(sample.kind == BELLBADGER_SAMPLE && file.accepted && merged.accepted && text.accepted && form.accepted && table.accepted);
+    CHECK(TAKEN(built) && TAKEN(ran) && bellbadger_profile_verdict(built.profile, composed) == 1);
+    CHECK(bellbadger_follower_size() == sizeof follower.follower && TAKEN(follower) && TAKEN(followed) && followed_by.ends);
+    CHECK(bellbadger_summary_size() == sizeof combined && TAKEN(summarized) && bellbadger_is_yes(concluded) && concluded.bytes == 2 * verdict.bytes);
+    CHECK(sample.kind == BELLBADGER_SAMPLE && TAKEN(file) && TAKEN(merged) && TAKEN(text) && TAKEN(form) && TAKEN(table));
     CHECK(compared.kind == BELLBADGER_FIRST_ALONE && compared.length == 2);
-    CHECK(reduced.accepted && reduced.installs && reduced.rule.n <= merged.rule.n);
-    CHECK(merged_reduced.accepted && merged_reduced.rule.n == reduced.rule.n);
-    CHECK(row.accepted && column.accepted && tray.accepted && band.accepted && no_band.accepted);
+    CHECK(TAKEN(reduced) && reduced.installs && reduced.rule.n <= merged.rule.n);
+    CHECK(TAKEN(merged_reduced) && merged_reduced.rule.n == reduced.rule.n);
+    CHECK(TAKEN(row) && TAKEN(column) && TAKEN(tray) && TAKEN(band) && TAKEN(no_band));
     CHECK(of_tray.kind == BELLBADGER_NO && !bellbadger_tray_is_yes(of_tray) && fault.kind == BELLBADGER_FAULT_SHORT);
     return unused;
 }

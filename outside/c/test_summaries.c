@@ -51,7 +51,7 @@ static int same_report(bellbadger_verdict_result a, bellbadger_verdict_result b)
 static bellbadger_summary summarize(const bellbadger_judge *j, uint64_t number, const uint8_t *chunk, size_t length, int refused) {
     static const bellbadger_summary none = {.broken = 1};
     bellbadger_summarize_result r = bellbadger_summarize(*j, number, chunk, length);
-    CHECK(r.accepted == (refused == 0) && r.refused == refused);
+    CHECK(ANSWERED(r, refused));
     CHECK(!refused || same_summary(r.summary, none));
     return r.summary;
 }
@@ -81,7 +81,7 @@ static void by_hand(void) {
     static const uint8_t text[] = {0, 255, 1, 255};
     bellbadger_judge j = installed(rule_a()), b = installed((bellbadger_checked_rule){.n = 3, .k = 1, .initials = 1, .finals = 6, .targets = {[0] = 6, [16] = 1, [32] = 1}});
     bellbadger_summary zero, one, s;
-    CHECK(sizeof s == BELLBADGER_SUMMARY_SIZE && bellbadger_summary_size() == sizeof s && sizeof(bellbadger_summarize_result) == 184);
+    CHECK(bellbadger_summary_size() == sizeof s);
     zero = (bellbadger_summary){.leads = {3}, .count = 1, .bytes = 1, .rule = digest(&j.rule), .first = 0, .end = 1};
     one = (bellbadger_summary){.leads = {1, 4}, .count = 2, .bytes = 1, .rule = digest(&j.rule), .first = 1, .end = 2};
     CHECK(digest(&j.rule) == 0x7e89fe50a4614f1f);
@@ -238,7 +238,7 @@ static bellbadger_judge any_judge(bellbadger_checked_rule *rule) {
         *rule = any_rule();
         bellbadger_install_result r = bellbadger_install(bellbadger_new(), *rule);
         if (r.accepted) return r.judge;
-        CHECK(r.refused == 9);
+        CHECK(REFUSED_WITH(r, 9));
     }
 }
 

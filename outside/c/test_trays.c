@@ -104,9 +104,8 @@ static bellbadger_tray with(bellbadger_checked_rule row, bellbadger_checked_rule
 static void layout(void) {
     static const bellbadger_tray zero;
     bellbadger_tray t = bellbadger_tray_new();
-    CHECK(sizeof t == BELLBADGER_TRAY_SIZE && bellbadger_tray_size() == sizeof t);
-    CHECK(sizeof(bellbadger_tray_install_result) == sizeof t + 8 && sizeof(bellbadger_tray_open_result) == sizeof t + 4);
-    CHECK(sizeof(bellbadger_tray_verdict_result) == 2 && same_tray(&t, &zero));
+    CHECK(bellbadger_tray_size() == sizeof t);
+    CHECK(same_tray(&t, &zero));
     CHECK(bellbadger_tray_install_row(t, a).sets == 5 && bellbadger_tray_install_column(t, a).starts == 3);
 }
 
@@ -347,18 +346,18 @@ static void garbage(int trays) {
         memcpy(came, rows, sizeof rows);
         size_t band = i % 5 ? (size_t)below(BANDS) : (size_t)random_number(), length = i % 7 ? (size_t)below(300) : 0;
         bellbadger_tray_install_result r = bellbadger_tray_install_row(*t, t->column), c = bellbadger_tray_install_column(*t, t->row);
-        CHECK(r.accepted || (same_tray(&r.tray, t) && r.refused && !r.sets && !r.starts));
-        CHECK(c.accepted || (same_tray(&c.tray, t) && c.refused && !c.sets && !c.starts));
+        CHECK(TOLD(r) && (r.accepted || (same_tray(&r.tray, t) && !r.sets && !r.starts)));
+        CHECK(TOLD(c) && (c.accepted || (same_tray(&c.tray, t) && !c.sets && !c.starts)));
         r = bellbadger_tray_install_row(*t, a), c = bellbadger_tray_install_column(*t, a);
-        CHECK(r.accepted && same_rule(&r.tray.row, &a) && same_rule(&r.tray.column, &t->column) && same_board(&r.tray.board, &none));
-        CHECK(c.accepted && same_rule(&c.tray.column, &a) && same_rule(&c.tray.row, &t->row) && same_board(&c.tray.board, &none));
+        CHECK(TAKEN(r) && same_rule(&r.tray.row, &a) && same_rule(&r.tray.column, &t->column) && same_board(&r.tray.board, &none));
+        CHECK(TAKEN(c) && same_rule(&c.tray.column, &a) && same_rule(&c.tray.row, &t->row) && same_board(&c.tray.board, &none));
         bellbadger_tray_open_result o = bellbadger_tray_open(*t, (size_t)below(20), band);
-        CHECK(o.accepted ? !o.refused : same_tray(&o.tray, t) && refused_by(o.refused, 20, 38, 10));
+        CHECK(TOLD(o) && (o.accepted || (same_tray(&o.tray, t) && refused_by(o.refused, 20, 38, 10))));
         bellbadger_tray_deliver_result d = bellbadger_tray_deliver(*t, band, rows, length);
-        CHECK(d.accepted ? !d.refused : same_tray(&d.tray, t) && (refused_by(d.refused, 21, 11, 39) || refused_by(d.refused, 13, 22, 22)));
+        CHECK(TOLD(d) && (d.accepted || (same_tray(&d.tray, t) && (refused_by(d.refused, 21, 11, 39) || refused_by(d.refused, 13, 22, 22)))));
         CHECK((d.refused == 21) == (t->board.bands == 0));
         bellbadger_tray_withdraw_result w = bellbadger_tray_withdraw(d.tray, band);
-        CHECK(w.accepted ? !w.refused : same_tray(&w.tray, &d.tray) && refused_by(w.refused, 21, 11, 23));
+        CHECK(TOLD(w) && (w.accepted || (same_tray(&w.tray, &d.tray) && refused_by(w.refused, 21, 11, 23))));
         CHECK(!d.accepted || w.accepted);
         bellbadger_tray_verdict_result of[] = {bellbadger_tray_verdict(*t), bellbadger_tray_verdict(d.tray), bellbadger_tray_verdict(w.tray)};
         for (int v = 0; v < 3; v++) {

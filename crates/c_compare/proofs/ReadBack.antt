@@ -18,6 +18,10 @@ read-back o = ap (λ (p : Reply). record { reply = p; length = o .length; text =
 
 pub claims : Claims
 claims = record {
+  refused = λ x n t. refl;
+  first-alone = λ n t. refl;
+  second-alone = λ n t. refl;
+  the-same = λ n t. refl;
   read-back = read-back;
   told = λ one two. ap comparisonIn (read-back (outcomeOf (compareOf one two))) ∙ compare.claims .told one two;
 }

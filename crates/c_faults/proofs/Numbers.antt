@@ -16,4 +16,11 @@ fault-back (shortAt c) = refl
 fault-back (openWith m) = refl
 
 pub claims : Claims
-claims = record { fault-back = fault-back }
+claims = record {
+  refused = λ x. refl;
+  still-open = λ m. refl;
+  row = λ b i. refl;
+  column = λ c b i. refl;
+  short = λ c. refl;
+  fault-back = fault-back;
+}

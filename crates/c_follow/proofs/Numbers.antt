@@ -4,7 +4,8 @@ use Prim.Native.Nat.{ℕ}
 use Rattle.follow.specs.declared.Followed.{Followed}
 use Rattle.follow.specs.declared.PrepareResult.{PrepareResult}
 use Rattle.follow.specs.Following.{lostMeans, answerMeans, Outcome, followOutcome, Prepared, prepareOutcome}
-use Rattle.c_follow.specs.Numbers.{flagBy, refusedBy, bitBy, lostFlag, atBy, followShown, prepareShown}
+use Rattle.flags.specs.Flags.{flagBy, refusedBy, bitBy}
+use Rattle.c_follow.specs.Numbers.{lostFlag, atBy, followShown, prepareShown}
 
 pub shown : (f : Followed) (o : Outcome) → followOutcome f ≡ o → (a b c d e g : ℕ) → a ≡ flagBy (answerMeans (f .answer)) → b ≡ refusedBy (answerMeans (f .answer))
     → c ≡ bitBy (f .ends) → d ≡ lostFlag (lostMeans (f .lost)) → e ≡ atBy (lostMeans (f .lost)) → g ≡ bitBy (f .complete)

@@ -1,30 +1,19 @@
 -- The numbers that C is given by following. Every field is fixed.
 --
---   flagBy x, refusedBy x   the fields `accepted` and `refused` for the number x of a refusal, or none: 0
---                    and the number, or 1 and 0
---   bitBy t          1 where t holds, else 0
 --   lostFlag x, atBy x   the fields `lost` and `at` for the place x where it is lost, or none: 1 and the
 --                    place, or 0 and 0
 --   followShown o    the answer o
 --   prepareShown p   what preparing answers: the follower is all zeros where it is refused
 --   followReadBack, prepareReadBack   what such numbers say, read back
-use mathlib.Core.Bool.{Bool, cond}
+use mathlib.Core.Bool.{cond}
 use mathlib.Core.Option.{Option, none, some, Option·getD}
 use Prim.Native.Nat.{ℕ}
 use lib.Dec.{eqb}
 use Rattle.base.specs.Options.{isNone}
+use Rattle.flags.specs.Flags.{flagBy, refusedBy, bitBy, refusalBy}
 use Rattle.follow.specs.Following.{Outcome, Prepared}
 use Rattle.c_follow.specs.declared.FollowNumbers.{FollowNumbers}
 use Rattle.c_follow.specs.declared.FollowerNumbers.{FollowerNumbers}
-
-abbrev pub flagBy : Option ℕ → ℕ
-flagBy number = cond (isNone number) 1 0
-
-abbrev pub refusedBy : Option ℕ → ℕ
-refusedBy number = Option·getD number 0
-
-abbrev pub bitBy : Bool → ℕ
-bitBy test = cond test 1 0
 
 abbrev pub lostFlag : Option ℕ → ℕ
 lostFlag place = cond (isNone place) 0 1
@@ -49,7 +38,7 @@ prepareShown p = record { accepted = flagBy (p .refusal); refused = refusedBy (p
 
 abbrev pub followReadBack : FollowNumbers → Outcome
 followReadBack n = record {
-  refusal = cond (eqb (n .accepted) 1) none (some (n .refused));
+  refusal = refusalBy (n .accepted) (n .refused);
   set = n .set;
   ends = eqb (n .ends) 1;
   lost = cond (eqb (n .lost) 0) none (some (n .at));
@@ -58,4 +47,4 @@ followReadBack n = record {
 }
 
 abbrev pub prepareReadBack : FollowerNumbers → Prepared
-prepareReadBack n = record { refusal = cond (eqb (n .accepted) 1) none (some (n .refused)); follower = n .follower }
+prepareReadBack n = record { refusal = refusalBy (n .accepted) (n .refused); follower = n .follower }

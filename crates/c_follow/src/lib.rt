@@ -2,7 +2,8 @@
 // value that the caller keeps and hands in.
 ghost use mathlib.Core.Path.{_≡_};
 ghost use Rattle.follow.specs.Following.{lostMeans, answerMeans, followOutcome, followOf, followByOf, prepareOf};
-ghost use Rattle.c_follow.specs.Numbers.{flagBy, refusedBy, bitBy, lostFlag, atBy, followShown, prepareShown};
+ghost use Rattle.flags.specs.Flags.{flagBy, refusedBy};
+ghost use Rattle.c_follow.specs.Numbers.{lostFlag, atBy, followShown, prepareShown};
 use automaton::Rule;
 use follow::FollowAnswer;
 use follow::Followed;
@@ -73,15 +74,6 @@ fn lost_at(lost: Lost) -> u32
     }
 }
 
-fn bit(test: bool) -> u8
-    ensures { λ r. ⌜ r ≡ bitBy test ⌝ }
-{
-    if test {
-        return 1;
-    }
-    0
-}
-
 // What following answered, in numbers.
 fn in_numbers(followed: Followed) -> FollowNumbers
     ensures { λ r. ⌜ r ≡ followShown (followOutcome followed) ⌝ }
@@ -90,8 +82,8 @@ fn in_numbers(followed: Followed) -> FollowNumbers
     let way = followed.lost;
     let accepted = accepted_of(answer);
     let refused = refused_of(answer);
-    let ends = bit(followed.ends);
-    let complete = bit(followed.complete);
+    let ends = flags::bit(followed.ends);
+    let complete = flags::bit(followed.complete);
     let lost = lost_flag(way);
     let at = lost_at(way);
     FollowNumbers {

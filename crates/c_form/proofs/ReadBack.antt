@@ -4,6 +4,7 @@ use mathlib.Core.List.{[], _∷_}
 use mathlib.Core.Option.{Option, none, some}
 use Prim.Native.Nat.{ℕ}
 use Rattle.base.specs.Conditions.{on, firstOf}
+use Rattle.flags.proofs.Flags as flags
 use Rattle.calls.specs.Steps.{lacksRule}
 use Rattle.forms.specs.declared.Form.{Form}
 use Rattle.forms.specs.declared.Table.{Table}
@@ -22,6 +23,10 @@ table-by (some x) t = refl
 
 pub claims : Claims
 claims = record {
+  form-flags = λ m. flags.claims .flags (m .number);
+  form = λ m. refl;
+  table-flags = λ b. flags.claims .flags (b .number);
+  table = λ b. refl;
   form-read-back = λ j. form-by (firstOf (on 20 (lacksRule j) ∷ [])) (formIn j);
   table-read-back = λ f. table-by (backNumber f) (tableOf f);
 }

@@ -3,10 +3,7 @@
 --   formShown m, tableShown b   accepted 1 and refused 0, or accepted 0 and the number of the
 --                               refusal; the form or table is all zeros where it is refused
 --   formReadBack r, tableReadBack r   what such a result says, read back from its numbers
-use mathlib.Core.Bool.{cond}
-use mathlib.Core.Option.{none, some, Option·getD}
-use lib.Dec.{eqb}
-use Rattle.base.specs.Options.{isNone}
+use Rattle.flags.specs.Flags.{flagBy, refusedBy, refusalBy}
 use Rattle.forms.specs.Back.{Back}
 use Rattle.formmaker.specs.Making.{Made}
 use Rattle.c_form.specs.declared.FormNumbers.{FormNumbers}
@@ -14,20 +11,20 @@ use Rattle.c_form.specs.declared.TableNumbers.{TableNumbers}
 
 abbrev pub formShown : Made → FormNumbers
 formShown m = record {
-  accepted = cond (isNone (m .number)) 1 0;
-  refused = Option·getD (m .number) 0;
+  accepted = flagBy (m .number);
+  refused = refusedBy (m .number);
   form = m .form;
 }
 
 abbrev pub formReadBack : FormNumbers → Made
-formReadBack r = record { number = cond (eqb (r .accepted) 1) none (some (r .refused)); form = r .form }
+formReadBack r = record { number = refusalBy (r .accepted) (r .refused); form = r .form }
 
 abbrev pub tableShown : Back → TableNumbers
 tableShown b = record {
-  accepted = cond (isNone (b .number)) 1 0;
-  refused = Option·getD (b .number) 0;
+  accepted = flagBy (b .number);
+  refused = refusedBy (b .number);
   table = b .table;
 }
 
 abbrev pub tableReadBack : TableNumbers → Back
-tableReadBack r = record { number = cond (eqb (r .accepted) 1) none (some (r .refused)); table = r .table }
+tableReadBack r = record { number = refusalBy (r .accepted) (r .refused); table = r .table }

@@ -24,4 +24,13 @@ spot-back (stuckAfter b) = refl
 spot-back nowhere = refl
 
 pub claims : Claims
-claims = record { diagnosis-back = diagnosis-back; spot-back = spot-back }
+claims = record {
+  refused = λ x. refl;
+  lost = λ p. refl;
+  still-open = λ m. refl;
+  spot-refused = λ x. refl;
+  lost-after = λ b. refl;
+  lost-nowhere = refl;
+  diagnosis-back = diagnosis-back;
+  spot-back = spot-back;
+}

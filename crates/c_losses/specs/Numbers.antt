@@ -4,9 +4,10 @@
 --   diagnosisShown f      kind 0 refused, 5 lost, 6 open, each with its number
 --   spotShown s           kind 0 refused, 5 lost after so many bytes, 6 nowhere
 --   diagnosisReadBack, spotReadBack   what such a result says, read back from its numbers
---   Claims                nothing is lost by it; proofs/Numbers.antt proves it
+--   Claims                the kinds, and that nothing is lost by it; proofs/Numbers.antt proves it
 use mathlib.Core.Path.{_≡_}
 use mathlib.Core.Bool.{cond}
+use Prim.Native.Nat.{ℕ}
 use lib.Dec.{eqb}
 use Rattle.diagnoses.specs.Diagnosing.{Finding, refusedAs, lostAt, openWith}
 use Rattle.locating.specs.Locating.{Spot, refusedFor, stuckAfter, nowhere}
@@ -30,5 +31,13 @@ abbrev pub spotReadBack : SpotNumbers → Spot
 spotReadBack r = cond (eqb (r .kind) 0) (refusedFor (r .number)) (cond (eqb (r .kind) 5) (stuckAfter (r .number)) nowhere)
 
 pub record Claims : Type 0 where
+  -- the kinds
+  pub refused : (x : ℕ) → diagnosisShown (refusedAs x) ≡ record { kind = 0; number = x }
+  pub lost : (p : ℕ) → diagnosisShown (lostAt p) ≡ record { kind = 5; number = p }
+  pub still-open : (m : ℕ) → diagnosisShown (openWith m) ≡ record { kind = 6; number = m }
+  pub spot-refused : (x : ℕ) → spotShown (refusedFor x) ≡ record { kind = 0; number = x }
+  pub lost-after : (b : ℕ) → spotShown (stuckAfter b) ≡ record { kind = 5; number = b }
+  pub lost-nowhere : spotShown nowhere ≡ record { kind = 6; number = 0 }
+  -- nothing is lost
   pub diagnosis-back : (f : Finding) → diagnosisReadBack (diagnosisShown f) ≡ f
   pub spot-back : (s : Spot) → spotReadBack (spotShown s) ≡ s

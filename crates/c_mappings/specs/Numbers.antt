@@ -1,8 +1,6 @@
 -- The numbers that C is given by the mapping machine. Every field is fixed.
 --
 --   numberIn a       the number of a refusal in what building answers, or none
---   flagBy x, refusedBy x   the fields `accepted` and `refused` for the number x of a refusal, or
---                    none: 0 and the number, or 1 and 0
 --   buildShown b     what building answers: the profile is all zeros where it is refused; how many
 --                    mappings there are is a field of it
 --   runShown r       what a run answers: the mapping is all zeros where it is refused
@@ -11,10 +9,10 @@
 --   buildReadBack .. verdictReadBack   what such numbers say, read back
 use mathlib.Core.Bool.{Bool, cond}
 use mathlib.Core.List.{List}
-use mathlib.Core.Option.{Option, none, some, Option·getD}
+use mathlib.Core.Option.{Option, none, some}
 use Prim.Native.Nat.{ℕ}
 use lib.Dec.{eqb}
-use Rattle.base.specs.Options.{isNone}
+use Rattle.flags.specs.Flags.{flagBy, refusedBy, bitBy, refusalBy}
 use Rattle.mappings.specs.declared.Mapping.{Mapping}
 use Rattle.profile.specs.Profiles.{Reply, accepted, refused, Building}
 use Rattle.profile.specs.Runs.{Ran}
@@ -24,12 +22,6 @@ use Rattle.c_mappings.specs.declared.RunNumbers.{RunNumbers}
 abbrev pub numberIn : Reply → Option ℕ
 numberIn (accepted count) = none
 numberIn (refused number) = some number
-
-abbrev pub flagBy : Option ℕ → ℕ
-flagBy number = cond (isNone number) 1 0
-
-abbrev pub refusedBy : Option ℕ → ℕ
-refusedBy number = Option·getD number 0
 
 abbrev pub buildShown : Building → BuildNumbers
 buildShown b = record { accepted = flagBy (numberIn (b .reply)); refused = refusedBy (numberIn (b .reply)); profile = b .profile }
@@ -41,7 +33,7 @@ abbrev pub runShown : Ran → RunNumbers
 runShown r = record { accepted = flagBy (r .refusal); refused = refusedBy (r .refusal); mapping = mappingShown (r .masks) }
 
 abbrev pub verdictShown : Bool → ℕ
-verdictShown answer = cond answer 1 0
+verdictShown answer = bitBy answer
 
 -- ---- read back: what the header says of the numbers
 abbrev pub buildReadBack : BuildNumbers → Building
@@ -51,7 +43,7 @@ buildReadBack r = record {
 }
 
 abbrev pub runReadBack : RunNumbers → Ran
-runReadBack r = record { refusal = cond (eqb (r .accepted) 1) none (some (r .refused)); masks = r .mapping .masks }
+runReadBack r = record { refusal = refusalBy (r .accepted) (r .refused); masks = r .mapping .masks }
 
 abbrev pub verdictReadBack : ℕ → Bool
 verdictReadBack number = eqb number 1

@@ -4,6 +4,7 @@ use mathlib.Core.Option.{Option, none, some}
 use Prim.Native.Nat.{ℕ, _≤_}
 use native.Mathlib.Omega.{arith}
 use borrow.Author.Tests.{ne-eqb}
+use Rattle.flags.proofs.Flags as flags
 use Rattle.automaton.specs.declared.Rule.{Rule}
 use Rattle.merging.specs.declared.Way.the-variants.{Interleaving}
 use Rattle.merging.specs.Merged.{mergedOf}
@@ -20,6 +21,8 @@ way-other x h = rw (ne-eqb x 0 (λ e. omega (arith, h, e)), ne-eqb x 1 (λ e. om
 
 pub claims : Claims
 claims = record {
+  flags = λ m. flags.claims .flags (m .number);
+  rule = λ m. refl;
   merge-read-back = λ way one two. merge-by (mergeNumber way one two) (mergedOf way one two);
   way-0 = refl;
   way-1 = refl;

@@ -4,24 +4,21 @@
 --   patternShown o      the outcome o as a result: `accepted` 1 and `refused` 0, or 0 and the number;
 --                       the length of the file, and its bytes
 --   patternReadBack r   what such a result says, read back from its numbers
-use mathlib.Core.Bool.{cond}
-use mathlib.Core.Option.{none, some, Option·getD}
-use lib.Dec.{eqb}
-use Rattle.base.specs.Options.{isNone}
+use Rattle.flags.specs.Flags.{flagBy, refusedBy, refusalBy}
 use Rattle.rulewriter.specs.Written.{Writing}
 use Rattle.c_patterns.specs.declared.PatternNumbers.{PatternNumbers}
 
 abbrev pub patternShown : Writing → PatternNumbers
 patternShown o = record {
-  accepted = cond (isNone (o .number)) 1 0;
-  refused = Option·getD (o .number) 0;
+  accepted = flagBy (o .number);
+  refused = refusedBy (o .number);
   length = o .length;
   bytes = o .bytes;
 }
 
 abbrev pub patternReadBack : PatternNumbers → Writing
 patternReadBack r = record {
-  number = cond (eqb (r .accepted) 1) none (some (r .refused));
+  number = refusalBy (r .accepted) (r .refused);
   length = r .length;
   bytes = r .bytes;
 }

@@ -6,7 +6,8 @@ use Rattle.reducing.specs.declared.ReduceAnswer.{ReduceAnswer}
 use Rattle.reducing.specs.declared.ReduceAnswer.the-variants.{Accepted, Refused}
 use Rattle.reducing.specs.declared.ReduceResult.{ReduceResult}
 use Rattle.reducing.specs.Reducing.{reduceMeans, reduceOutcome, reduceOf}
-use Rattle.c_reduce.specs.Numbers.{bitBy, reduceShown}
+use Rattle.flags.specs.Flags.{bitBy}
+use Rattle.c_reduce.specs.Numbers.{reduceShown}
 
 module _ (r : Rule) (m : ReduceResult) (is : reduceOutcome m ≡ reduceOf r) (i : ℕ) (bit : i ≡ bitBy (m .installs)) where
   pub reduce-accepted : m .answer ≡ Accepted

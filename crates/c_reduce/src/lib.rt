@@ -1,7 +1,7 @@
 // Reducing a rule for C, Rust and Python. The answer is numbers.
 ghost use mathlib.Core.Path.{_≡_};
 ghost use Rattle.reducing.specs.Reducing.{reduceOf};
-ghost use Rattle.c_reduce.specs.Numbers.{bitBy, reduceShown};
+ghost use Rattle.c_reduce.specs.Numbers.{reduceShown};
 use automaton::Rule;
 use reducing::ReduceAnswer;
 
@@ -15,15 +15,6 @@ pub struct ReduceNumbers {
     pub rule: Rule,
 }
 
-fn bit(test: bool) -> u8
-    ensures { λ r. ⌜ r ≡ bitBy test ⌝ }
-{
-    if test {
-        return 1;
-    }
-    0
-}
-
 // Reduces a rule, which may be any value.
 #[no_mangle]
 pub extern "C" fn bellbadger_reduce(rule: Rule) -> ReduceNumbers
@@ -31,7 +22,7 @@ pub extern "C" fn bellbadger_reduce(rule: Rule) -> ReduceNumbers
 {
     let reducing = reduce::reduce(rule);
     let answer = reducing.answer;
-    let installs = bit(reducing.installs);
+    let installs = flags::bit(reducing.installs);
     let made = reducing.rule;
     match answer {
         ReduceAnswer::Accepted => ReduceNumbers {

@@ -23,6 +23,9 @@ wish-other x b = rw (ne-eqb x 0 (λ e. omega arith))
 
 pub claims : Claims
 claims = record {
+  refused = λ x n t. refl;
+  a-text = λ n t. refl;
+  no-text = λ n t. refl;
   read-back = read-back;
   told = λ r wish. ap sampleIn (read-back (outcomeOf (sampleOf r wish))) ∙ samples.claims .told r wish;
   wish-0 = refl;

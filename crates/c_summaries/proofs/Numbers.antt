@@ -3,6 +3,7 @@
 use mathlib.Core.Path.{_≡_, refl, sym, ap, _∙_}
 use mathlib.Core.Option.{Option, none, some}
 use Prim.Native.Nat.{ℕ}
+use Rattle.flags.proofs.Flags as flags
 use Rattle.calls.specs.Replies.{Judgement, waiting, yesWith, noWith, refusedWith, Reported}
 use Rattle.summaries.specs.declared.Summary.{Summary}
 use Rattle.summaries.specs.declared.SummaryAnswer.{SummaryAnswer}
@@ -37,4 +38,13 @@ report-back r = of (r .verdict)
     of (refusedWith number) = refl
 
 pub claims : Claims
-claims = record { summary-back = summary-back; report-back = report-back }
+claims = record {
+  flags = λ s. flags.claims .flags (s .refusal);
+  summary = λ s. refl;
+  refused = λ x b q m. refl;
+  waits = λ empty b q m. refl;
+  says-yes = λ count b q m. refl;
+  says-no = λ count b q m. refl;
+  summary-back = summary-back;
+  report-back = report-back;
+}

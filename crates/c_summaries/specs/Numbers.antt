@@ -7,20 +7,22 @@
 --   concludeShown r    what is concluded: the kind and the number, and the bytes, the quotient and
 --                      the remainder beside them
 --   summaryReadBack, concludeReadBack   what such a result says, read back from its numbers
---   Claims             nothing is lost by it; proofs/Numbers.antt proves it
+--   Concluded v k x    a report with the verdict v is shown as kind k with the number x, and its
+--                      other numbers as they are
+--   Claims             every field, case by case, and that nothing is lost by it;
+--                      proofs/Numbers.antt proves it
 use mathlib.Core.Path.{_≡_}
 use mathlib.Core.Bool.{cond}
-use mathlib.Core.Option.{none, some, Option·getD}
 use Prim.Native.Nat.{ℕ}
 use lib.Dec.{eqb}
-use Rattle.base.specs.Options.{isNone}
+use Rattle.flags.specs.Flags.{flagBy, refusedBy, refusalBy, FlagLaw}
 use Rattle.calls.specs.Replies.{Judgement, waiting, yesWith, noWith, refusedWith, Reported}
 use Rattle.summaries.specs.Summaries.{Summarized}
 use Rattle.c_summaries.specs.declared.SummaryNumbers.{SummaryNumbers}
 use Rattle.c_summaries.specs.declared.ConcludeNumbers.{ConcludeNumbers}
 
 abbrev pub summaryShown : Summarized → SummaryNumbers
-summaryShown s = record { accepted = cond (isNone (s .refusal)) 1 0; refused = Option·getD (s .refusal) 0; summary = s .summary }
+summaryShown s = record { accepted = flagBy (s .refusal); refused = refusedBy (s .refusal); summary = s .summary }
 
 abbrev pub kindOf : Judgement → ℕ
 kindOf (refusedWith number) = 0
@@ -44,7 +46,7 @@ concludeShown r = record {
 }
 
 abbrev pub summaryReadBack : SummaryNumbers → Summarized
-summaryReadBack r = record { refusal = cond (eqb (r .accepted) 1) none (some (r .refused)); summary = r .summary }
+summaryReadBack r = record { refusal = refusalBy (r .accepted) (r .refused); summary = r .summary }
 
 abbrev pub concludeReadBack : ConcludeNumbers → Reported
 concludeReadBack r = record {
@@ -56,6 +58,20 @@ concludeReadBack r = record {
   remainder = r .remainder;
 }
 
+abbrev pub Concluded : Judgement → ℕ → ℕ → Type 0
+Concluded v kind number =
+    (b q m : ℕ) → concludeShown (record { verdict = v; bytes = b; quotient = q; remainder = m })
+    ≡ record { kind = kind; number = number; bytes = b; quotient = q; remainder = m }
+
 pub record Claims : Type 0 where
+  -- accepted and refused are by the number, and the summary is the one that is answered
+  pub flags : (s : Summarized) → FlagLaw (s .refusal) (summaryShown s .accepted) (summaryShown s .refused)
+  pub summary : (s : Summarized) → summaryShown s .summary ≡ s .summary
+  -- the kinds
+  pub refused : (x : ℕ) → Concluded (refusedWith x) 0 x
+  pub waits : (empty : ℕ) → Concluded (waiting empty) 1 empty
+  pub says-yes : (count : ℕ) → Concluded (yesWith count) 2 count
+  pub says-no : (count : ℕ) → Concluded (noWith count) 3 count
+  -- nothing is lost
   pub summary-back : (s : Summarized) → summaryReadBack (summaryShown s) ≡ s
   pub report-back : (r : Reported) → concludeReadBack (concludeShown r) ≡ r

@@ -5,20 +5,18 @@
 --   madeReadBack r    what such a result says, read back from its numbers
 --   MakesShown        what `bellbadger_make_text` promises
 use mathlib.Core.Path.{_≡_}
-use mathlib.Core.Bool.{cond}
 use mathlib.Core.List.{List}
-use mathlib.Core.Option.{Option, none, some, Option·getD}
+use mathlib.Core.Option.{Option}
 use Prim.Native.Nat.{ℕ}
-use lib.Dec.{eqb}
-use Rattle.base.specs.Options.{isNone}
+use Rattle.flags.specs.Flags.{flagBy, refusedBy, refusalBy}
 use Rattle.madetexts.specs.Making.{madeNumber, bufferAfter}
 use Rattle.c_texts.specs.declared.MadeNumbers.{MadeNumbers}
 
 abbrev pub madeShown : Option ℕ → MadeNumbers
-madeShown o = record { accepted = cond (isNone o) 1 0; refused = Option·getD o 0 }
+madeShown o = record { accepted = flagBy o; refused = refusedBy o }
 
 abbrev pub madeReadBack : MadeNumbers → Option ℕ
-madeReadBack r = cond (eqb (r .accepted) 1) none (some (r .refused))
+madeReadBack r = refusalBy (r .accepted) (r .refused)
 
 pub record MakesShown (k seed : ℕ) (before : List ℕ) (r : MadeNumbers) (after : List ℕ) : Type 0 where
   pub answer : r ≡ madeShown (madeNumber k seed)

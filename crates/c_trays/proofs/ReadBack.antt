@@ -5,11 +5,12 @@ use mathlib.Core.List.{List}
 use mathlib.Core.Option.{Option, none, some}
 use Prim.Native.Nat.{ℕ}
 use Rattle.base.specs.Conditions.{firstOf}
+use Rattle.flags.proofs.Flags as flags
 use Rattle.automaton.specs.declared.Rule.{Rule}
 use Rattle.build.specs.Building.{builtOf}
 use Rattle.calls.specs.Calls.{installNumber}
 use Rattle.trays.specs.declared.Tray.{Tray}
-use Rattle.trays.specs.Replies.{Judgement, waiting, saysYes, saysNo, refusedWith, accepted, installed}
+use Rattle.trays.specs.Replies.{Judgement, waiting, saysYes, saysNo, refusedWith, accepted, installed, refusalOf}
 use Rattle.trays.specs.Calls.{openConditions, deliverConditions, withdrawConditions}
 use Rattle.trays.specs.Boards.{widthOf, bandsOf, isEmpty, emptyBoard, filledAt, clearedAt}
 use Rattle.trays.specs.Steps.{lacksRule, lacksBoard, withBoard, outcomeBy, withRow, withColumn, installRowOf, installColumnOf, openOf, deliverOf, withdrawOf}
@@ -60,6 +61,16 @@ verdict-back (refusedWith number) = refl
 
 pub claims : Claims
 claims = record {
+  install-flags = λ o. flags.claims .flags (refusalOf (o .reply));
+  call-flags = λ o. flags.claims .flags (refusalOf (o .reply));
+  installed-shown = λ s m t. refl;
+  install-refused = λ x t. refl;
+  call-taken = λ t. refl;
+  call-refused = λ x t. refl;
+  verdict-refused = λ x. refl;
+  waits = λ empty. refl;
+  says-yes = refl;
+  says-no = refl;
   row-read-back = row-back;
   column-read-back = column-back;
   open-read-back = open-back;

@@ -13,10 +13,9 @@
 -- No other reply is given to these calls; the lines for others are there so that every case has a
 -- value.
 use mathlib.Core.Bool.{cond}
-use mathlib.Core.Option.{Option·getD}
 use Prim.Native.Nat.{ℕ}
 use lib.Dec.{eqb}
-use Rattle.base.specs.Options.{isNone}
+use Rattle.flags.specs.Flags.{flagBy, refusedBy}
 use Rattle.trays.specs.Replies.{Judgement, waiting, saysYes, saysNo, refusedWith, Reply, accepted, installed, judged, refused, refusalOf}
 use Rattle.trays.specs.Steps.{Outcome}
 use Rattle.c_trays.specs.declared.InstallNumbers.{InstallNumbers}
@@ -25,10 +24,10 @@ use Rattle.c_trays.specs.declared.VerdictNumbers.{VerdictNumbers}
 
 -- ---- the calls that may change the tray
 abbrev pub flagOf : Reply → ℕ
-flagOf a = cond (isNone (refusalOf a)) 1 0
+flagOf a = flagBy (refusalOf a)
 
 abbrev pub refusedOf : Reply → ℕ
-refusedOf a = Option·getD (refusalOf a) 0
+refusedOf a = refusedBy (refusalOf a)
 
 abbrev pub setsField : Reply → ℕ
 setsField (installed sets starts) = sets

@@ -1,3 +1,4 @@
 pub mod Numbers
 pub mod ReadBack
+pub mod Laws
 pub mod Asks

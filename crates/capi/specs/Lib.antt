@@ -1,3 +1,4 @@
 -- In the order in which to read them.
 pub mod Numbers
 pub mod Claims
+pub mod Laws

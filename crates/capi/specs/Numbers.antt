@@ -1,9 +1,7 @@
 -- The numbers that C is given for the outcome of a call. Every field is fixed: what a result has no
 -- use for is 0.
 --
---   flagBy x, refusedBy x        the fields `accepted` and `refused` for the number x of a refusal,
---                                or none: 0 and the number, or 1 and 0
---   flagOf a, refusedOf a        the same for the reply a
+--   flagOf a, refusedOf a        the fields `accepted` and `refused` for the reply a
 --   setsField a, startsField a, lookedField a   the fields `sets`, `starts` and `looked`
 --   readShown r                  what reading answers: the rule is all zeros where it is refused
 --   installShown .. withdrawShown   an outcome as a result; that of a load is an installation's
@@ -17,10 +15,9 @@
 -- No other reply is given to these calls; the lines for others are there so that every case has a
 -- value.
 use mathlib.Core.Bool.{cond}
-use mathlib.Core.Option.{Option, none, some, Option·getD}
 use Prim.Native.Nat.{ℕ}
 use lib.Dec.{eqb}
-use Rattle.base.specs.Options.{isNone}
+use Rattle.flags.specs.Flags.{flagBy, refusedBy, refusalBy}
 use Rattle.ruleformat.specs.Reader.{Reading}
 use Rattle.calls.specs.Replies.{Judgement, waiting, yesWith, noWith, refusedWith, Reported, Reply, accepted, installed, judged, refused, refusalOf, delivered}
 use Rattle.calls.specs.Steps.{Outcome}
@@ -32,13 +29,6 @@ use Rattle.capi.specs.declared.DeliverNumbers.{DeliverNumbers}
 use Rattle.capi.specs.declared.WithdrawNumbers.{WithdrawNumbers}
 use Rattle.capi.specs.declared.VerdictNumbers.{VerdictNumbers}
 use Rattle.capi.specs.declared.ReplayNumbers.{ReplayNumbers}
-
--- ---- accepted or refused
-abbrev pub flagBy : Option ℕ → ℕ
-flagBy number = cond (isNone number) 1 0
-
-abbrev pub refusedBy : Option ℕ → ℕ
-refusedBy number = Option·getD number 0
 
 -- ---- reading
 abbrev pub readShown : Reading → ReadNumbers
@@ -129,7 +119,7 @@ replayShown (malformedLine i) = record { kind = 4; number = i; bytes = 0; quotie
 
 -- ---- read back: what the header says of the numbers
 abbrev pub readReadBack : ReadNumbers → Reading
-readReadBack r = record { number = cond (eqb (r .accepted) 1) none (some (r .refused)); rule = r .rule }
+readReadBack r = record { number = refusalBy (r .accepted) (r .refused); rule = r .rule }
 
 -- `a` is the reply of a call that was accepted
 abbrev pub readBackBy : ℕ → ℕ → Reply → Reply

@@ -5,8 +5,10 @@
 --      Reply, Call; installNumber ..  01's answers, calls and numbers       calls/specs/Replies, Calls
 --      judgeLibrary, cLibrary         what contracts ask and allow          histories/, demands/specs/Functions
 --      installMeans .. reportMeans    what an answer of the code means      calls/specs/Replies
---      installReadBack .., readShown,  what C's numbers mean                capi/specs/Numbers
---      installShown, replayShown
+--      installShown .. replayShown    the numbers that C is given           capi/specs/Numbers
+--      Laws; FlagLaw                  each field of them, the kinds         capi/specs/Laws; flags/specs/Flags
+--      installReadBack ..             what they say                         capi/specs/Numbers
+--      RefusedFromC, NoVerdictFromC   what a refused call gives C           demands/specs/Shown
 --      readOf f, ReadLaw              reading a file                        ruleformat/specs/Reader, Claims
 --      loadOf j f, LoadIs             a load, of any state and file         calls/specs/Steps, Claims
 --   2  Accepts, Run, Arc              automata and their runs (000)         automaton/specs/Automaton
@@ -77,7 +79,7 @@ use Rattle.board.specs.Boards.{held, isEmpty, lastAt, summedCount, summedBytes}
 use Rattle.calls.specs.declared.Judge.{Judge}
 use Rattle.calls.specs.Replies.{waiting, yesWith, noWith, refusedWith, Reply, refusalOf, delivered}
 use Rattle.calls.specs.Calls.{Call, installNumber, loadNumber, delivers, asksVerdict}
-use Rattle.calls.specs.Steps.{fresh, isYes, reportOf, stepOf, loadOf}
+use Rattle.calls.specs.Steps.{fresh, installOf, openOf, deliverOf, withdrawOf, isYes, reportOf, stepOf, loadOf}
 use Rattle.calls.specs.Claims.{LoadIs, Divided, ThreeZeros, ForeignByte}
 use Rattle.chunks.specs.Chunks.{foreign}
 use Rattle.calls.proofs.Loading as calls-loading
@@ -120,13 +122,21 @@ use Rattle.replay.specs.Claims.{AllFit, recordOf}
 use Rattle.replay.proofs.RoundTrip as replay
 use Rattle.capi.specs.declared.ReadNumbers.{ReadNumbers}
 use Rattle.capi.specs.declared.InstallNumbers.{InstallNumbers}
+use Rattle.capi.specs.declared.OpenNumbers.{OpenNumbers}
+use Rattle.capi.specs.declared.DeliverNumbers.{DeliverNumbers}
+use Rattle.capi.specs.declared.WithdrawNumbers.{WithdrawNumbers}
+use Rattle.capi.specs.declared.VerdictNumbers.{VerdictNumbers}
 use Rattle.capi.specs.declared.ReplayNumbers.{ReplayNumbers}
-use Rattle.capi.specs.Numbers.{readShown, installShown, replayShown}
+use Rattle.capi.specs.Numbers.{readShown, installShown, openShown, deliverShown, withdrawShown, verdictShown, replayShown}
+use Rattle.capi.specs.Laws.{Laws}
+use Rattle.capi.proofs.Laws as capi-laws
 use Rattle.capi.proofs.Asks as capi-asks
 use Rattle.capi.proofs.bellbadger_read.Reads as read-reads
 use Rattle.capi.proofs.bellbadger_replay.Reads as replay-reads
-use Rattle.demands.specs.Functions.{cLibrary, MayRead, MayLoad, MayReplay}
+use Rattle.demands.specs.Functions.{cLibrary, MayBegin, MayInstall, MayRead, MayLoad, MayOpen, MayDeliver, MayWithdraw, MayJudge, MayReplay}
+use Rattle.demands.specs.Shown.{RefusedFromC, NoVerdictFromC}
 use Rattle.demands.proofs.Functions.{c-meets, read-fixed, load-fixed, replay-fixed}
+use Rattle.demands.proofs.Shown.{new-fixed, install-fixed, open-fixed, deliver-fixed, withdraw-fixed, verdict-fixed, refused-so, no-verdict}
 
 -- ---- 1. ANY INPUT
 -- Any rule, any bytes, any place number, any state: the call ends with the result that document 01 gives.
@@ -141,6 +151,35 @@ any-call = judge-meets .steps
 
 pub any-call-from-C : (j : Judge) (c : Call) (a : Reply) (next : Judge) → cLibrary .May j c a next ↔ (a ≡ stepOf j c .reply) × (next ≡ stepOf j c .state)
 any-call-from-C = c-meets .steps
+
+-- Of those that C links every number of a result is fixed, whatever the judge; a load, reading and a
+-- recorded list stand below.
+pub new-from-C : (j : Judge) → MayBegin j ↔ j ≡ fresh
+new-from-C = new-fixed
+
+pub install-from-C : (j : Judge) (rule : Rule) (r : InstallNumbers) → MayInstall j rule r ↔ r ≡ installShown (installOf j rule)
+install-from-C = install-fixed
+
+pub open-from-C : (j : Judge) (n : ℕ) (r : OpenNumbers) → MayOpen j n r ↔ r ≡ openShown (openOf j n)
+open-from-C = open-fixed
+
+pub deliver-from-C : (j : Judge) (p v : ℕ) (w : List ℕ) (r : DeliverNumbers) → MayDeliver j p v w r ↔ r ≡ deliverShown (deliverOf j p v w)
+deliver-from-C = deliver-fixed
+
+pub withdraw-from-C : (j : Judge) (p : ℕ) (r : WithdrawNumbers) → MayWithdraw j p r ↔ r ≡ withdrawShown (withdrawOf j p)
+withdraw-from-C = withdraw-fixed
+
+pub verdict-from-C : (j : Judge) (v : VerdictNumbers) → MayJudge j v ↔ v ≡ verdictShown (reportOf j)
+verdict-from-C = verdict-fixed
+
+-- In other words than the definitions': `accepted` is 1 or 0 and 0 exactly beside the number of a
+-- refusal, each case's fields, and the numbers of the kinds. A refused call gives the flag 0, the number,
+-- zeros and the judge that came; a verdict that is refused or waits has three zeros.
+pub each-number : Laws
+each-number = capi-laws.laws
+
+pub refused-from-C : (j : Judge) (x : ℕ) → RefusedFromC j x × NoVerdictFromC j x
+refused-from-C j x = (refused-so j x, no-verdict j x)
 
 -- A refusal leaves the state unchanged, a load's too. (Its number is the first condition's that
 -- holds: demand 3. A file and a chunk are lent as `&[u8]`, which no function can write.)

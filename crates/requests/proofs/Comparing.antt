@@ -59,6 +59,7 @@ use Rattle.compare.specs.Claims.{Refused-exactly}
 use Rattle.compare.proofs.Claims as compare
 use Rattle.c_compare.specs.declared.CompareNumbers.{CompareNumbers}
 use Rattle.c_compare.specs.Numbers.{comparisonShown, comparisonReadBack}
+use Rattle.c_compare.specs.Claims as c-claims
 use Rattle.c_compare.proofs.ReadBack as c-compare
 use Rattle.requests.specs.CompareFunction.{AsksCompare, MayCompare, AsksCompareC, MayCompareC}
 
@@ -179,6 +180,11 @@ from-C one two r = ((λ m. m .1), λ e. ((one, (two, tt)), e))
 
 pub told-to-C : (one two : Rule) (r : CompareNumbers) → MayCompareC one two r → comparisonIn (comparisonReadBack r) ≡ compareOf one two
 told-to-C one two r m = ap (λ (n : CompareNumbers). comparisonIn (comparisonReadBack n)) (from-C one two r .0 m) ∙ c-compare.claims .told one two
+
+-- Each of C's numbers in other words than the definition's: the kinds with what
+-- stands beside them.
+pub each-number : c-claims.Claims
+each-number = c-compare.claims
 
 -- ---- FROM A COMPARISON TO VERDICTS
 -- Two boards with no empty place, one under each rule, on which the standing chunks without their idle

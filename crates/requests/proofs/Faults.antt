@@ -46,6 +46,7 @@ use Rattle.trayfaults.proofs.Claims as trayfaults
 use Rattle.trayfaults.proofs.Functions as fault-functions
 use Rattle.c_faults.specs.declared.FaultNumbers.{FaultNumbers}
 use Rattle.c_faults.specs.Numbers.{faultShown, faultReadBack}
+use Rattle.c_faults.specs.Numbers as c-claims
 use Rattle.c_faults.proofs.Numbers as numbers-of-C
 use Rattle.c_faults.proofs.Asks as asks-of-C
 use Rattle.requests.specs.TrayFunctions.{trayLibraryOfC}
@@ -140,3 +141,8 @@ fault-from-C h rs t ran r m =
 -- and of them nothing is lost.
 pub finding-back : (f : Finding) → faultReadBack (faultShown f) ≡ f
 finding-back = numbers-of-C.claims .fault-back
+
+-- Each of C's numbers in other words than the definition's: the kinds with what stands
+-- beside them.
+pub each-number : c-claims.Claims
+each-number = numbers-of-C.claims

@@ -60,6 +60,7 @@ use Rattle.followverdict.proofs.Claims as followverdict
 use Rattle.c_follow.specs.declared.FollowNumbers.{FollowNumbers}
 use Rattle.c_follow.specs.declared.FollowerNumbers.{FollowerNumbers}
 use Rattle.c_follow.specs.Numbers.{followShown, followReadBack, prepareShown, prepareReadBack}
+use Rattle.c_follow.specs.Claims as c-claims
 use Rattle.c_follow.proofs.ReadBack as c-follow
 use Rattle.requests.specs.FollowFunctions.{AsksFollowC, MayFollowC, AsksFollowerC, MayPrepareC, AsksByC, MayFollowByC}
 use Rattle.requests.proofs.FollowFunctions as functions
@@ -260,6 +261,11 @@ told-to-C r m w n may = ap followReadBack (from-C r m w n .0 may) ∙ c-follow.c
 
 pub prepared-told-to-C : (r : Rule) (n : FollowerNumbers) → MayPrepareC r n → prepareReadBack n ≡ prepareOf r
 prepared-told-to-C r n may = ap prepareReadBack (prepared-from-C r n .0 may) ∙ c-follow.claims .prepared-read-back (prepareOf r)
+
+-- Each of C's numbers in other words than the definition's: accepted and refused,
+-- ends, lost and where, complete, the rest.
+pub each-number : c-claims.Claims
+each-number = c-follow.claims
 
 -- Who prepares a rule, is accepted, and follows by what came gets what `bellbadger_follow` gives.
 pub same-from-C : (r : Rule) (p : FollowerNumbers) → MayPrepareC r p → p .accepted ≡ 1

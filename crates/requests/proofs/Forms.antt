@@ -64,6 +64,7 @@ use Rattle.formstream.proofs.Claims as formstream
 use Rattle.c_form.specs.declared.FormNumbers.{FormNumbers}
 use Rattle.c_form.specs.declared.TableNumbers.{TableNumbers}
 use Rattle.c_form.specs.Numbers.{formShown, formReadBack, tableShown, tableReadBack}
+use Rattle.c_form.specs.Claims as c-claims
 use Rattle.c_form.proofs.ReadBack as c-form
 use Rattle.c_form.proofs.Asks as c-asks
 use Rattle.requests.specs.FormFunctions.{AsksForm, MayForm, AsksTable, MayTable, AsksFormC, MayFormC, AsksTableC, MayTableC}
@@ -203,6 +204,11 @@ read-back j r m = ap formReadBack (from-C j r .0 m) ∙ c-form.claims .form-read
 
 pub table-read-back : (f : Form) (r : TableNumbers) → MayTableC f r → tableReadBack r ≡ backOf f
 table-read-back f r m = ap tableReadBack (back-from-C f r .0 m) ∙ c-form.claims .table-read-back f
+
+-- Each of C's numbers in other words than the definition's: accepted and refused, the
+-- form, the table.
+pub each-number : c-claims.Claims
+each-number = c-form.claims
 
 -- Who makes the form of a judge's table through them, and the table of this form, gets the judge's table:
 pub there-and-back : (h : List Call) (r : Rule) → ruleThere h ≡ some r

@@ -66,6 +66,7 @@ use Rattle.losses.proofs.Functions as functions
 use Rattle.c_losses.specs.declared.DiagnosisNumbers.{DiagnosisNumbers}
 use Rattle.c_losses.specs.declared.SpotNumbers.{SpotNumbers}
 use Rattle.c_losses.specs.Numbers.{diagnosisShown, spotShown, diagnosisReadBack, spotReadBack}
+use Rattle.c_losses.specs.Numbers as c-claims
 use Rattle.c_losses.proofs.Numbers as numbers-of-C
 use Rattle.c_losses.proofs.Asks as asks-of-C
 use Rattle.requests.specs.LossFunctions.{AsksDiagnoseC, MayDiagnoseC, AsksLocateC, MayLocateC}
@@ -219,3 +220,8 @@ finding-back = numbers-of-C.claims .diagnosis-back
 
 pub spot-back : (s : Spot) → spotReadBack (spotShown s) ≡ s
 spot-back = numbers-of-C.claims .spot-back
+
+-- Each of C's numbers in other words than the definition's: the kinds with what stands
+-- beside them.
+pub each-number : c-claims.Claims
+each-number = numbers-of-C.claims

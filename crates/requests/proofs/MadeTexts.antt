@@ -33,6 +33,7 @@ use Rattle.madetexts.proofs.Filling.{made-more}
 use Rattle.madetexts.proofs.Claims as madetexts
 use Rattle.c_texts.specs.declared.MadeNumbers.{MadeNumbers}
 use Rattle.c_texts.specs.Numbers.{madeShown, madeReadBack}
+use Rattle.c_texts.specs.Claims as c-claims
 use Rattle.c_texts.proofs.ReadBack as c-texts
 use Rattle.shortlines.specs.Feeding.{lastAnswer, answersTo}
 use Rattle.maketextlines.specs.Lines.{longestLine, makes, malformed, lineIn}
@@ -110,6 +111,10 @@ from-C k seed before r after = (
 pub read-back : (k seed : ℕ) (before : List ℕ) (r : MadeNumbers) (after : List ℕ) → MayMake k seed before r after
     → madeReadBack r ≡ madeNumber k seed
 read-back k seed before r after m = ap madeReadBack (from-C k seed before r after .0 m .0) ∙ c-texts.claims .made-read-back (madeNumber k seed)
+
+-- Each of C's numbers in other words than the definition's: accepted and refused.
+pub each-number : c-claims.Claims
+each-number = c-texts.claims
 
 -- ---- FROM A PROGRAM
 -- Every k and seed of 64 bits and length up to a chunk's have a line of `maketext`; an empty line and one

@@ -63,6 +63,7 @@ use Rattle.mapverdict.proofs.Claims as mapverdict
 use Rattle.c_mappings.specs.declared.BuildNumbers.{BuildNumbers}
 use Rattle.c_mappings.specs.declared.RunNumbers.{RunNumbers}
 use Rattle.c_mappings.specs.Numbers.{buildShown, runShown, mappingShown, verdictShown, buildReadBack, runReadBack}
+use Rattle.c_mappings.specs.Claims as c-claims
 use Rattle.c_mappings.proofs.Asks as asks
 use Rattle.c_mappings.proofs.ReadBack as c-mappings
 use Rattle.c_mappings.proofs.bellbadger_profile_build.Reads as build-reads
@@ -243,6 +244,11 @@ build-said = c-mappings.claims .build-read-back
 
 pub run-said : (p : Profile) (w : List ℕ) → runReadBack (runShown (runOf p w)) ≡ runOf p w
 run-said = c-mappings.claims .run-read-back
+
+-- Each of C's numbers in other words than the definition's: accepted and refused, the
+-- profile, the mapping, the verdict.
+pub each-number : c-claims.Claims
+each-number = c-mappings.claims
 
 -- Who builds a profile, runs the chunks of a filled board on it, composes what comes of them two at a
 -- time, in any way, and asks for the verdict gets the yes or no that `bellbadger_verdict` gives.

@@ -67,6 +67,7 @@ use Rattle.mergestream.specs.Claims.{State, Blocks}
 use Rattle.mergestream.proofs.Claims as mergestream
 use Rattle.c_merge.specs.declared.MergeNumbers.{MergeNumbers}
 use Rattle.c_merge.specs.Numbers.{mergeShown, mergeReadBack}
+use Rattle.c_merge.specs.Claims as c-claims
 use Rattle.c_merge.proofs.ReadBack as c-merge
 use Rattle.c_merge.proofs.Asks as c-asks
 use Rattle.requests.specs.MergeFunction.{AsksMerge, MayMerge, AsksMergeC, MayMergeC}
@@ -176,6 +177,11 @@ from-C x one two r = ((λ m. m .1), λ e. ((x, (one, (two, tt))), e))
 
 pub read-back : (x : ℕ) (one two : Rule) (r : MergeNumbers) → MayMergeC x one two r → mergeReadBack r ≡ mergeOf (wayOf x) one two
 read-back x one two r m = ap mergeReadBack (from-C x one two r .0 m) ∙ c-merge.claims .merge-read-back (wayOf x) one two
+
+-- Each of C's numbers in other words than the definition's: accepted and refused, the
+-- rule.
+pub each-number : c-claims.Claims
+each-number = c-merge.claims
 
 pub ways : (wayOf 0 ≡ way.Both) × (wayOf 1 ≡ way.Either) × ((x : ℕ) → 2 ≤ x → wayOf x ≡ way.Interleaving)
 ways = (c-merge.claims .way-0, c-merge.claims .way-1, c-merge.claims .way-other)

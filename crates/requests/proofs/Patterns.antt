@@ -67,6 +67,7 @@ use Rattle.patterntext.specs.Claims.{Blocks}
 use Rattle.patterntext.proofs.Claims as patterntext
 use Rattle.c_patterns.specs.declared.PatternNumbers.{PatternNumbers}
 use Rattle.c_patterns.specs.Numbers.{patternShown, patternReadBack}
+use Rattle.c_patterns.specs.Claims as c-claims
 use Rattle.c_patterns.proofs.Claims as c-patterns
 use Rattle.requests.specs.PatternFunction.{AsksPattern, MayPattern}
 
@@ -174,6 +175,11 @@ from-C b r = (
 
 pub read-back : (b : List ℕ) (r : PatternNumbers) → MayPattern b r → patternReadBack r ≡ patternOf b
 read-back b r m = ap patternReadBack (from-C b r .0 m) ∙ c-patterns.claims .read-back b
+
+-- Each of C's numbers in other words than the definition's: accepted and refused, the
+-- length and the bytes.
+pub each-number : c-claims.Claims
+each-number = c-patterns.claims
 
 -- So the bytes that C is given as accepted, as many as the length says, are a rule that accepts exactly
 -- the pattern's texts:

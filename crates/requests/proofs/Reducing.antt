@@ -50,6 +50,7 @@ use Rattle.reducing.specs.Claims.{Nothing, emptyRule, Reachable, Lean, Renumber
 use Rattle.reducing.proofs.Claims as reducing
 use Rattle.c_reduce.specs.declared.ReduceNumbers.{ReduceNumbers}
 use Rattle.c_reduce.specs.Numbers.{reduceShown, reduceReadBack}
+use Rattle.c_reduce.specs.Claims as c-claims
 use Rattle.c_reduce.proofs.ReadBack as c-reduce
 use Rattle.c_reduce.proofs.Asks as c-asks
 use Rattle.requests.specs.ReduceFunction.{AsksReduce, MayReduce, AsksReduceC, MayReduceC}
@@ -172,6 +173,11 @@ from-C r m = ((λ x. x .1), λ e. ((r, tt), e))
 
 pub read-back : (r : Rule) (m : ReduceNumbers) → MayReduceC r m → reduceReadBack m ≡ reduceOf r
 read-back r m x = ap reduceReadBack (from-C r m .0 x) ∙ c-reduce.claims .reduce-read-back (reduceOf r)
+
+-- Each of C's numbers in other words than the definition's: accepted and refused,
+-- installs, the rule.
+pub each-number : c-claims.Claims
+each-number = c-reduce.claims
 
 -- ---- FROM A RULE TO A VERDICT
 -- Where the rule of the judge is the reduced one, and no place is empty, the verdict is yes exactly

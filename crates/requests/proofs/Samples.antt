@@ -53,6 +53,7 @@ use Rattle.sampletext.specs.SampleText.{textFor, mostBytes}
 use Rattle.sampletext.proofs.Claims as sampletext
 use Rattle.c_samples.specs.declared.SampleNumbers.{SampleNumbers}
 use Rattle.c_samples.specs.Numbers.{wishOf, sampleShown, sampleReadBack}
+use Rattle.c_samples.specs.Claims as c-claims
 use Rattle.c_samples.proofs.ReadBack as c-samples
 use Rattle.requests.specs.SampleFunctions.{AsksSample, MaySample, AsksSampleC, MaySampleC}
 
@@ -142,6 +143,11 @@ from-C x r s = ((λ m. m .1), λ e. ((x, (r, tt)), e))
 
 pub told-to-C : (x : ℕ) (r : Rule) (s : SampleNumbers) → MaySampleC x r s → sampleIn (sampleReadBack s) ≡ sampleOf r (wishOf x)
 told-to-C x r s m = ap (λ (n : SampleNumbers). sampleIn (sampleReadBack n)) (from-C x r s .0 m) ∙ c-samples.claims .told r (wishOf x)
+
+-- Each of C's numbers in other words than the definition's: the kinds with what
+-- stands beside them.
+pub each-number : c-claims.Claims
+each-number = c-samples.claims
 
 pub wishes : (wishOf 0 ≡ wish.Accepted) × ((x : ℕ) → 1 ≤ x → wishOf x ≡ wish.Rejected)
 wishes = (c-samples.claims .wish-0, c-samples.claims .wish-other)

@@ -83,6 +83,7 @@ use Rattle.summaryverdict.proofs.Examples as examples
 use Rattle.c_summaries.specs.declared.SummaryNumbers.{SummaryNumbers}
 use Rattle.c_summaries.specs.declared.ConcludeNumbers.{ConcludeNumbers}
 use Rattle.c_summaries.specs.Numbers.{summaryShown, concludeShown, summaryReadBack, concludeReadBack}
+use Rattle.c_summaries.specs.Numbers as c-claims
 use Rattle.c_summaries.proofs.Numbers as numbers-of-C
 use Rattle.c_summaries.proofs.Asks as asks-of-C
 use Rattle.requests.specs.SummaryFunctions.{AsksSummarizeC, MaySummarizeC, AsksCombineC, MayCombineC, AsksConcludeC, MayConcludeC, SummarizedOnC}
@@ -328,3 +329,8 @@ summary-back = numbers-of-C.claims .summary-back
 
 pub report-back : (r : Reported) → concludeReadBack (concludeShown r) ≡ r
 report-back = numbers-of-C.claims .report-back
+
+-- Each of C's numbers in other words than the definition's: accepted and refused, the
+-- summary, the kinds of a verdict.
+pub each-number : c-claims.Claims
+each-number = numbers-of-C.claims

@@ -222,7 +222,8 @@ unchanged-in-any-state = trays.claims .unchanged
 pub c-functions-meet : Meets trayLibraryOfC trayMachine
 c-functions-meet = functions.c-meets
 
--- Each allows these numbers and no others, and nothing of an outcome is lost in them:
+-- Each allows these numbers and no others, which in other words than the definitions' are so: accepted
+-- and refused, each field case by case, the kinds; and nothing of an outcome is lost in them.
 pub any-row : (t : Tray) (rule : Rule) (r : InstallNumbers) → MayInstallRow t rule r ↔ r ≡ installShown (installRowOf t rule)
 any-row = functions.row-fixed
 
@@ -241,8 +242,8 @@ any-withdrawal = functions.withdraw-fixed
 pub any-verdict : (t : Tray) (v : VerdictNumbers) → MayJudge t v ↔ v ≡ verdictShown (verdictOf t)
 any-verdict = functions.verdict-fixed
 
-pub read-back : c-claims.Claims
-read-back = c-trays.claims
+pub each-number : c-claims.Claims
+each-number = c-trays.claims
 
 -- So a list of calls can be made through them, and whenever it was, their numbers said the list's own
 -- answers, and the tray is as the list says.
