@@ -198,6 +198,22 @@ static void no_final_state(void) {
     verdict(&j, BELLBADGER_NO, 0, 65536);
 }
 
+/* the most that can be counted: 64 places with 65,536 bytes, each run from 32 starts that never meet or die */
+static void most_transitions(void) {
+    bellbadger_checked_rule r = {.n = 32, .k = 2, .initials = UINT32_MAX, .finals = 1};
+    for (unsigned q = 0; q < 32; q++) r.targets[16 * q] = 1u << (q + 1) % 32, r.targets[16 * q + 1] = 1u << q;
+    bellbadger_judge j = bellbadger_new();
+    install(&j, r, 0);
+    CHECK(j.rule.starts == 32);
+    open(&j, 64, 0);
+    for (size_t p = 0; p < 64; p++) {
+        verdict(&j, BELLBADGER_WAITING, 64 - p, 0);
+        looked(&j, p, 0, big, 65536, 65536);
+        CHECK(j.board.counts[p] == 2097152);
+    }
+    verdict(&j, BELLBADGER_YES, 134217728, 4194304);
+}
+
 /* idle marks are skipped wherever they stand; the limit counts them */
 static void idle(void) {
     static const uint8_t first[] = {255, 0, 255}, second[] = {1, 255}, bad[] = {255, 255, 254}, no_symbol[] = {255, 2};
@@ -409,6 +425,7 @@ static void *all(void *states) {
     dying();
     leading_nowhere();
     no_final_state();
+    most_transitions();
     idle();
     revisions();
     any_order();

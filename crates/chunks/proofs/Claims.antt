@@ -4,6 +4,7 @@ use Rattle.chunks.proofs.Texts as texts
 use Rattle.chunks.proofs.Taking.{taking}
 use Rattle.chunks.proofs.Starts as starts
 use Rattle.chunks.proofs.Counts as counts
+use Rattle.chunks.proofs.Counting as counting
 use Rattle.chunks.proofs.Walks as walks
 use Rattle.chunks.proofs.Looked as looked
 use Rattle.chunks.proofs.Ends as ends
@@ -24,6 +25,8 @@ claims = record {
   looked-least = looked.looked-least;
   counted-most = counts.counted-most;
   chunk-most = counts.chunk-most;
+  counted-runs = counting.counted-runs;
+  chunk-counts = counting.chunk-counts;
   start-law = starts.start-law;
   start-own = starts.start-own;
   delegate-law = starts.delegate-law;

@@ -6,6 +6,7 @@ pub mod Looked
 pub mod Running
 pub mod Starts
 pub mod Counts
+pub mod Counting
 pub mod Ends
 pub mod Claims
 pub mod Examples

@@ -3,15 +3,17 @@
 --   start-low             the rows from which a chunk is run are row offsets
 --   ends, counted, looks  the end set of each state, the sum of the counts and the bytes looked up
 --   runs-are              a value with these fields is `runsOf`
-use mathlib.Core.Path.{_≡_, ap, _∙_}
+--   runs-none             where no state is run, zeros
+use mathlib.Core.Path.{_≡_, refl, ap, _∙_}
 use mathlib.Core.Bool.{cond}
 use mathlib.Core.List.{List}
 use Prim.Native.Nat.{ℕ, _/_, _≤_, _<_}
 use native.Mathlib.Omega.{arith}
 use borrow.Author.Tests.{ltb-true, ltb-false}
 use lib.Dec.{ltb}
-use lib.ListN.{getD, List·getD-eq-default}
-use Rattle.base.specs.Totals.{total}
+use lib.ListN.{length, getD, replicate, List·getD-eq-default}
+use Rattle.base.specs.Lists.{listFrom}
+use Rattle.base.specs.Totals.{total, greatest}
 use Rattle.base.proofs.Lists.{length-listFrom, cell-of, same-list}
 use Rattle.base.proofs.Tests.{by-test, either}
 use Rattle.base.proofs.Totals.{total-same, greatest-same}
@@ -107,3 +109,8 @@ module _ (sets next singles : List ℕ) (run : ℕ) (w : List ℕ) where
 pub runs-are : {a b : List ℕ} {c d n x y : ℕ} → a ≡ b → c ≡ d → x ≡ y
     → _≡_ {A = Runs} (record { ends = a; count = c; bytes = n; looked = x }) (record { ends = b; count = d; bytes = n; looked = y })
 runs-are p q r = cc
+
+pub runs-none : (sets next singles w : List ℕ)
+    → _≡_ {A = Runs} (record { ends = replicate 32 0; count = 0; bytes = length w; looked = 0 }) (runsOf sets next singles 0 w)
+unfolding listFrom total greatest
+runs-none sets next singles w = refl

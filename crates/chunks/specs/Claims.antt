@@ -5,13 +5,13 @@ use mathlib.Core.Logic.{_↔_}
 use mathlib.Core.Bool.{false}
 use mathlib.Core.List.{List}
 use mathlib.Core.Option.{some}
-use Prim.Native.Nat.{ℕ, _*_, _^_, _<_, _≤_}
+use Prim.Native.Nat.{ℕ, suc, _*_, _/_, _%_, _^_, _<_, _≤_}
 use lib.ListN.{length, getD, take}
-use Rattle.limits.specs.Limits.{mostStates}
+use Rattle.limits.specs.Limits.{mostStates, longestChunk}
 use Rattle.base.specs.Lists.{listFrom}
 use Rattle.masks.specs.Masks.{_∈_, single}
 use Rattle.automaton.specs.declared.Rule.{Rule}
-use Rattle.automaton.specs.Rules.{WellFormed}
+use Rattle.automaton.specs.Rules.{automatonOf, WellFormed}
 use Rattle.automaton.specs.Successor.{after}
 use Rattle.subsets.specs.Claims.{fits}
 use Rattle.automaton.specs.Automaton.{Text}
@@ -20,6 +20,7 @@ use Rattle.build.specs.Building.{builtOf}
 use Rattle.lanes.specs.Offsets.{rowOf, offsetsOf, rowCount}
 use Rattle.chunks.specs.Chunks.{foreign, counted, delegateSet, runSet, endSet, chunkCount, looked}
 use Rattle.chunks.specs.Taking.{Taken-exactly}
+use Rattle.chunks.specs.Counting.{HowMany, RunsOver, Counts}
 use Rattle.chunks.specs.Walks.{walkEnd, walkCount, maskOf, runsOf, delegateMask, runMask}
 
 -- every run's set is empty after the text w
@@ -61,6 +62,13 @@ pub record Claims : Type 0 where
   pub counted-most : (ts : List ℕ) (m : ℕ) (w : List ℕ) → counted ts m w ≤ length w
   pub chunk-most : (ts d : List ℕ) (n run : ℕ) → n ≤ mostStates → ((q : ℕ) → q ∈ run → q ∈ startSet d n) → (w : List ℕ)
       → chunkCount ts run w ≤ startCount d n * length w
+  -- in other words: what a run from a state counts is how many prefixes of the text there are, the
+  -- empty one left out, over which a run of the automaton from that state goes; and what a chunk
+  -- counts is how many pairs there are of a state that it is run from and such a prefix
+  pub counted-runs : (r : Rule) → WellFormed r → (q : ℕ) → q < r .n → (w : List ℕ)
+      → HowMany (λ i. RunsOver (automatonOf r) q (take (suc i) w)) (length w) (counted (r .targets) (single q) w)
+  pub chunk-counts : (r : Rule) → WellFormed r → (run : ℕ) → run < 2 ^ r .n → (w : List ℕ) → length w ≤ longestChunk
+      → HowMany (λ x. Counts r run w (x / longestChunk) (x % longestChunk)) (mostStates * longestChunk) (chunkCount (r .targets) run w)
   -- the members of the starts and of a place's starts, by document 01's words; of at most 32 states
   -- the starts are those that the list of delegates says to be their own
   pub start-law : (d : List ℕ) (n q : ℕ) → q ∈ startSet d n ↔ (q < n) × (getD d q 0 ≡ q)

@@ -2,4 +2,5 @@
 pub mod Chunks
 pub mod Taking
 pub mod Walks
+pub mod Counting
 pub mod Claims

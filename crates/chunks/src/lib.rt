@@ -1,7 +1,7 @@
 // Runs a chunk over the next-set table of a built rule.
 ghost use mathlib.Core.Path.{_≡_};
 ghost use Prim.Native.Nat.{ℕ, _/_, _≤_, _<_, min};
-ghost use lib.ListN.{length, getD};
+ghost use lib.ListN.{length, getD, replicate};
 ghost use Rattle.limits.specs.Limits.{mostStates, mostSymbols, longestChunk};
 ghost use Rattle.base.specs.Totals.{total};
 ghost use Rattle.masks.specs.Masks.{single};
@@ -159,9 +159,21 @@ fn summed(counts: [usize; limits::STATES]) -> usize
     count
 }
 
-// The chunk run from each state of the mask. One lifetime for the three tables, so that they can be
-// lent from within one value.
-pub fn run_chunk<'a>(
+// No state is run: nothing is looked up.
+fn run_none(bytes: usize) -> Runs
+    requires { ⌜ bytes ≤ longestChunk ⌝ }
+    ensures { λ r. ⌜ r ≡ record { ends = replicate mostStates 0; count = 0; bytes = bytes; looked = 0 } ⌝ }
+{
+    Runs {
+        ends: [0u32; limits::STATES],
+        count: 0,
+        bytes: bytes as u32,
+        looked: 0,
+    }
+}
+
+// The chunk run from each state of the mask.
+fn run_all<'a>(
     sets: &'a [u32; limits::SETS],
     next: &'a [u16; limits::CELLS],
     singles: &'a [u16; limits::STATES],
@@ -180,4 +192,22 @@ pub fn run_chunk<'a>(
         bytes: chunk.len() as u32,
         looked: walked.looked as u32,
     }
+}
+
+// The chunk run from each state of the mask; where there is none, no table of row offsets is made.
+// One lifetime for the three tables, so that they can be lent from within one value.
+pub fn run_chunk<'a>(
+    sets: &'a [u32; limits::SETS],
+    next: &'a [u16; limits::CELLS],
+    singles: &'a [u16; limits::STATES],
+    mask: u32,
+    chunk: &[u8],
+) -> Runs
+    requires { ⌜ length (now chunk) ≤ longestChunk ⌝ }
+    ensures { λ r. ⌜ r ≡ runsOf (now (sets .entry)) (now (next .entry)) (now (singles .entry)) mask (now (chunk .entry)) ⌝ }
+{
+    if mask == 0 {
+        return run_none(chunk.len());
+    }
+    run_all(sets, next, singles, mask, chunk)
 }

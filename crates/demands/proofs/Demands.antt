@@ -27,6 +27,7 @@
 --      Accepted-exactly, Refused-..   which calls, with which number        histories/specs/Conditions
 --      VerdictSays, Says              what the reply to a verdict says      histories/specs/Claims
 --      CountBound                     the sum's bound; the former 24        histories/specs/CountBound
+--      Counted; HowMany               counts by runs of the automaton       histories/specs/Counted; chunks/specs/Counting
 --      lastRevision, leastAfter       revisions at a place                  histories/specs/History, Claims
 --      Orders; Revisions              deliveries in any order; in words     histories/specs/Orders, Revisions
 --      LookedUp, AllEmpty             for how many bytes a set is looked up histories/, chunks/specs/Claims
@@ -90,6 +91,7 @@ use Rattle.histories.specs.Method.{Method}
 use Rattle.histories.specs.Conditions.{Accepted-exactly, Refused-exactly}
 use Rattle.histories.specs.Claims.{judgeMachine, judgeAfter, repliesTo, BuiltBy, leastAfter, VerdictSays, LookedUp, EveryList}
 use Rattle.histories.specs.CountBound.{CountBound}
+use Rattle.histories.specs.Counted.{Counted}
 use Rattle.histories.specs.FormerStarts.{SameAnswer}
 use Rattle.histories.specs.Fewest.{BuildFewest, InstallFewest, LoadFewest}
 use Rattle.histories.specs.Revisions.{Revisions}
@@ -102,6 +104,7 @@ use Rattle.histories.proofs.VerdictSays as histories-verdict
 use Rattle.histories.proofs.Refinement.{judge-meets}
 use Rattle.histories.proofs.Steps.{accepted-rule}
 use Rattle.histories.proofs.CountBound as histories-bound
+use Rattle.histories.proofs.Counted as histories-counted
 use Rattle.histories.proofs.FormerStarts as histories-former
 use Rattle.histories.proofs.Orders as histories-orders
 use Rattle.histories.proofs.Revisions as histories-revisions
@@ -368,6 +371,12 @@ same-yes-or-no = histories-former.same-answer
 -- place.
 pub summed : (h : List Call) → summedCount (judgeAfter h .board) ≡ summedIn h
 summed h = every-list h .after .summed
+
+-- In other words, by runs of the automaton: how many triples there are of a place, a state that its
+-- standing chunk is run from, at place 0 the delegates of initial states, and a byte up to which a run
+-- from that state goes over the text; and at each place how many pairs;
+pub transitions : (h : List Call) → Counted h
+transitions = histories-counted.counted
 
 pub most : (h : List Call) → summedIn h ≤ startsIn (ruleIn h) .startcount * length (textIn h)
 most h = every-list h .verdict .most
