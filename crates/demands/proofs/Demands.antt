@@ -245,8 +245,8 @@ one-claim h rs j e =
 -- What the reply to a verdict says, wherever in the list it is asked: yes exactly when the rule that
 -- is there has an accepting run over the standing chunks, no exactly when it has none, both with no
 -- place empty and with the sum of the counts; waiting with the number of empty places; 21 without a
--- board. (A list has the last call first: as many replies are before this one as calls were made
--- after it.)
+-- board. (A list has the last call first, so before this reply are as many as calls were made after
+-- it; `getElem?`, of the kit's lists, counts from 0 and is none behind the end.)
 pub verdict-says : (later earlier : List Call) (rs : List Reply) (j : Judge)
     → Execution judgeLibrary (later ++ (asksVerdict ∷ earlier)) rs j ⊎ Execution cLibrary (later ++ (asksVerdict ∷ earlier)) rs j
     → (a : Reply) × (getElem? rs (length later) ≡ some a) × VerdictSays earlier a

@@ -1,12 +1,11 @@
--- The states that are kept of an automaton given by masks are those that are reached and live. Assumes
--- that the masks are the automaton's.
-use mathlib.Core.Path.{_≡_, refl, sym, ap, _∙_, subst}
+-- The states that are kept of an automaton given by masks are those that are reached and live.
+-- Assumes that the masks are the automaton's.
+use mathlib.Core.Path.{_≡_, refl, subst}
 use mathlib.Core.Logic.{_↔_, ⊎-elim}
 use mathlib.Core.Bool.{Bool, true, false, _&&_}
 use mathlib.Core.List.{List, [], _∷_, _++_}
 use Prim.Native.Nat.{ℕ, zero, suc, _≤_, _<_}
 use native.Mathlib.Omega.{arith}
-use lib.Bits.{bitAnd, bitOr}
 use Rattle.base.specs.Conditions.{anyBelow}
 use Rattle.base.proofs.Conditions.{any-at, any-found}
 use Rattle.base.proofs.Tests.{not-both}
@@ -21,6 +20,7 @@ use Rattle.delegates.specs.Alike.{Live}
 use Rattle.reducing.proofs.Quotient.{run-join, run-state}
 use Rattle.reducing.proofs.Chosen.{run-end}
 use Rattle.mergereduce.specs.Trimmed.{arcs, onward, backTo, keptFrom}
+use Rattle.mergereduce.specs.Claims.{Counted}
 
 pub and-both : (a b : Bool) → (a && b) ≡ true → (a ≡ true) × (b ≡ true)
 and-both true true e = (refl, refl)
@@ -32,14 +32,14 @@ abbrev pub added : (ℕ → ℕ → Bool) → ℕ → ℕ → ℕ
 added link n m = maskOf (λ p. anyBelow (λ q. has m q && link q p) n) n
 
 module _ (link : ℕ → ℕ → Bool) (n m : ℕ) where
-  spread-from : (p : ℕ) → p ∈ added link n m → (q : ℕ) × (q < n) × (q ∈ m) × (link q p ≡ true) × (p < n)
+  pub spread-from : (p : ℕ) → p ∈ added link n m → (q : ℕ) × (q < n) × (q ∈ m) × (link q p ≡ true) × (p < n)
   spread-from p e =
       let x = mask-in (λ r. anyBelow (λ q. has m q && link q r) n) n p e in
       let y = any-found (λ q. has m q && link q p) n (x .1) in
       let z = and-both (has m (y .0)) (link (y .0) p) (y .2) in
       (y .0, y .1, member-of m (y .0) (z .0), z .1, x .0)
 
-  spread-to : (q p : ℕ) → q < n → p < n → q ∈ m → link q p ≡ true → p ∈ added link n m
+  pub spread-to : (q p : ℕ) → q < n → p < n → q ∈ m → link q p ≡ true → p ∈ added link n m
   spread-to q p l h e t =
       mask-of (λ r. anyBelow (λ x. has m x && link x r) n) n p h
       (any-at (λ x. has m x && link x p) n q l (rw (has-member m q e, t)))
@@ -171,3 +171,23 @@ module _ (a : Automaton) (n initials finals : ℕ) (ts : ℕ → ℕ → ℕ) (M
 
   pub kept-live : (q : ℕ) → q ∈ reached → Live a q → q ∈ kept
   kept-live q e l = kept-both q .1 (e, live-there q l)
+
+  -- what is reached from a state that is
+  run-reached : {q p : ℕ} {w : List ℕ} → q ∈ reached → Run a q w p → p ∈ reached
+  run-reached e (stay l) = e
+  run-reached e (move {q = q} {s = s} {r = t} j u) = run-reached (onward-reached q s t e j) u
+
+  pub kept-law : (p : ℕ) → p ∈ kept ↔ Counted a p
+  kept-law p = (
+    (λ e.
+        let both = kept-both p .0 e in
+        let there = reach-in n p (both .0) in
+        record {
+          from = there .1 .from;
+          initial = M .initial (there .1 .from) .0 (there .1 .member);
+          text = there .0;
+          run = there .1 .run;
+          live = live-in n p (both .1);
+        }),
+    λ c. kept-live p (run-reached (first-reached (c .from) (M .initial (c .from) .1 (c .initial))) (c .run)) (c .live),
+  )

@@ -4,44 +4,40 @@ use mathlib.Core.Logic.{_↔_, _⊎_, inl, inr, ⊎-elim, Iff·trans}
 use mathlib.Core.Bool.{Bool, true, false, cond, not}
 use mathlib.Core.List.{List, _++_}
 use mathlib.Core.Option.{Option, none, some}
-use Prim.Native.Nat.{ℕ, _+_, _*_, _≤_, _<_}
+use Prim.Native.Nat.{ℕ, _+_, _≤_}
 use native.Mathlib.Nat.{mul-le-mul-left, mul-le-mul-right, le-trans}
 use native.Mathlib.Omega.{arith}
 use lib.Dec.{eqb, ltb}
 use borrow.Author.Tests.{eqb-true, eq-eqb, ltb-false, le-ltb, not-false}
-use Rattle.base.specs.Conditions.{Condition, firstOf, NoneHolds, FirstHolds}
+use Rattle.base.specs.Conditions.{NoneHolds, FirstHolds}
 use Rattle.base.proofs.Tests.{zero-one}
-use Rattle.base.proofs.Conditions.{none-law, first-law, orElse, first-append}
+use Rattle.base.proofs.Conditions.{none-law, first-law, orElse, none-of, first-append}
 use Rattle.automaton.specs.declared.Rule.{Rule}
-use Rattle.automaton.specs.Automaton.{Automaton, Arc, Accepts, Equivalent}
+use Rattle.automaton.specs.Automaton.{Automaton, Accepts, Equivalent}
 use Rattle.automaton.specs.Rules.{automatonOf, WellFormed}
 use Rattle.rulecheck.specs.Checking.{ruleConditions, ruleNumber}
 use Rattle.rulecheck.proofs.Laws.{passes}
-use Rattle.ruleformat.specs.Claims.{AllZero}
 use Rattle.calls.specs.Calls.{installNumber}
-use Rattle.products.specs.Claims.{Interleaved}
 use Rattle.merging.specs.declared.Way.{Way}
 use Rattle.merging.specs.declared.Way.the-variants.{Both, Either, Interleaving}
 use Rattle.merging.specs.Languages.{mergedBy, Merges}
 use Rattle.merging.specs.Merged.{statesOf, mergedOf}
-use Rattle.merging.specs.Merging.{mergingBy, mergeNumber, mergeOf}
-use Rattle.merging.specs.Claims.{Mergeable}
+use Rattle.merging.specs.Merging.{mergeNumber}
 use Rattle.merging.proofs.Law.{number-of, zeros-of, rule-of}
 use Rattle.merging.proofs.Claims as merging
 use Rattle.merging.proofs.Sets.{set-law, set-below}
 use Rattle.merging.proofs.Tables.{states-of, symbols-of, targets-law, steps-in}
 use Rattle.merging.proofs.Languages.{by-way, initials-by, finals-by}
-use Rattle.masks.specs.Masks.{_∈_}
 use Rattle.masks.proofs.Laws.{members-below}
-use Rattle.masks.specs.Turns.{rank}
 use Rattle.masks.proofs.Turns.{rank-most}
 use Rattle.reducing.specs.Reduced.{reducedOf}
 use Rattle.reducing.specs.Reducing.{reducingBy, reduceOf}
+use Rattle.reducing.specs.Claims.{Lean}
+use Rattle.reducing.proofs.Law.{only-nine}
 use Rattle.reducing.proofs.Claims as reduce
-use Rattle.mergereduce.specs.Trimmed.{keptFrom, trimmedBy}
 use Rattle.mergereduce.specs.MergeReduced.{reducedBy, reducedOrOwn, pairTargets, initialPairs, finalPairs, keptPairs, trimmedPairs, pairCount, lastConditions, mergeReducedConditions, mergeReducedNumber, mergeReducedRule, mergeReducedOf}
-use Rattle.mergereduce.specs.Claims.{MergeReducedLaw}
-use Rattle.mergereduce.proofs.Kept.{Masked}
+use Rattle.mergereduce.specs.Claims.{InsteadLaw, PairsLaw, MergeReducedLaw}
+use Rattle.mergereduce.proofs.Kept.{Masked, kept-few, kept-law}
 use Rattle.mergereduce.proofs.Trim as trim
 
 -- ---- a rule reduced, or the rule itself
@@ -67,6 +63,17 @@ instead r good = of (installNumber r) refl
           fewer = law .fewer number;
           language = law .language number;
         })
+
+pub instead-law : (r : Rule) → InsteadLaw r
+unfolding reducedOrOwn
+instead-law r = record {
+  reduced = λ e. let f = sym (number r) ∙ e in ap (λ (o : Option ℕ). reducedBy o (reducedOf r) r) f ∙ sym (ap (λ (o : Option ℕ). reducingBy o (reducedOf r) .rule) f);
+  own = λ x e. ap (λ (o : Option ℕ). reducedBy o (reducedOf r) r) (sym (number r) ∙ e);
+  nine = λ e x f. only-nine r e x (sym (number r) ∙ f);
+}
+  where
+    number : (q : Rule) → reduceOf q .number ≡ installNumber q
+    number q = reduce.claims .reducing q .number
 
 -- ---- the way of two automata goes by their texts alone
 same-way : (way : Way) (a b c d : Automaton) → Equivalent a c → Equivalent b d → (w : List ℕ) → Merges way a b w → Merges way c d w
@@ -117,6 +124,15 @@ module _ (way : Way) (one two : Rule) (good1 : WellFormed one) (good2 : WellForm
     );
   }
 
+  pub pairs-law : PairsLaw way one two
+  pairs-law =
+      let n = statesOf way (one .n) (two .n) in
+      let i = initialPairs way one two in
+      let f = finalPairs way one two in record {
+        kept = kept-law made n i f (pairTargets way one two) masked;
+        below = kept-few made n i f (pairTargets way one two) masked;
+      }
+
   module _ (fits : pairCount way one two ≤ 32) where
     trimmed-good : WellFormed (trimmedPairs way one two)
     trimmed-good =
@@ -137,10 +153,6 @@ more-pairs Either n1 n2 m1 m2 h i = omega arith
 more-pairs Interleaving n1 n2 m1 m2 h i = le-trans (mul-le-mul-left n1 i) (mul-le-mul-right m2 h)
 
 -- ---- the number
-neither : (x y : Option ℕ) → orElse x y ≡ none → (x ≡ none) × (y ≡ none)
-neither none y e = (refl, e)
-neither (some x) y e = zero-one cc
-
 last-passed : (t u : Bool) → cond {A = Option ℕ} t (some 36) (cond u (some 37) none) ≡ none → (t ≡ false) × (u ≡ false)
 last-passed true u e = zero-one cc
 last-passed false true e = zero-one cc
@@ -170,8 +182,8 @@ module _ (way : Way) (one two : Rule) where
 
   taken : mergeReducedNumber way one two ≡ none → Taken
   taken e =
-      let x = neither (ruleNumber one) (orElse (ruleNumber two) last) (sym number-law ∙ e) in
-      let y = neither (ruleNumber two) last (x .1) in
+      let x = none-of (ruleNumber one) (orElse (ruleNumber two) last) .0 (sym number-law ∙ e) in
+      let y = none-of (ruleNumber two) last .0 (x .1) in
       let z = last-passed (not (eqb (one .k) (two .k))) (ltb 32 (pairCount way first second)) (y .1) in
       record {
         one-good = passes one .0 (x .0);
@@ -205,6 +217,9 @@ module _ (way : Way) (one two : Rule) where
     good-pairs : WellFormed (trimmedPairs way first second)
     good-pairs = trimmed-good way first second (i1 .good) (i2 .good) together (ok .fits)
 
+    made-symbols : mergeReducedRule way one two .k ≡ one .k
+    made-symbols = instead (trimmedPairs way first second) good-pairs .symbols ∙ i1 .symbols
+
     result : Instead (trimmedPairs way first second) (mergeReducedRule way one two)
     result = instead (trimmedPairs way first second) good-pairs
 
@@ -221,6 +236,12 @@ module _ (way : Way) (one two : Rule) where
               (turned (automatonOf second) (automatonOf two) (i2 .language))
               w,
         ))
+
+    made-lean : reduceOf (trimmedPairs way first second) .number ≡ none → (w : List ℕ)
+        → Accepts (automatonOf (mergeReducedRule way one two)) w → Lean (mergeReducedRule way one two)
+    made-lean e w t =
+        let pairs = trimmedPairs way first second in
+        subst Lean (sym (instead-law pairs .reduced e)) (reduce.claims .reducing pairs .lean e w (result .language w .0 t))
 
   is : mergeReducedOf way one two .number ≡ mergeReducedNumber way one two
   is = number-of (mergeReducedNumber way one two) (mergeReducedRule way one two)
@@ -242,6 +263,14 @@ module _ (way : Way) (one two : Rule) where
     refused = λ x. ((λ e. refused-law x .0 (sym is ∙ e)), λ h. is ∙ refused-law x .1 h);
     zeros = λ x e. zeros-of (mergeReducedNumber way one two) (mergeReducedRule way one two) x (sym is ∙ e);
     checked = λ e. ap ruleNumber (rule-is e) ∙ passes (mergeReducedRule way one two) .1 (made-good (taken (sym is ∙ e)));
+    pairs = λ e f k.
+        let x = instead one (passes one .0 e) in
+        let y = instead two (passes two .0 f) in
+        pairs-law way first second (x .good) (y .good) (x .symbols ∙ k ∙ sym (y .symbols));
+    symbols = λ e. ap (λ (r : Rule). r .k) (rule-is e) ∙ made-symbols (taken (sym is ∙ e));
+    lean = λ e f w t.
+        subst Lean (sym (rule-is e))
+        (made-lean (taken (sym is ∙ e)) f w (subst (λ (r : Rule). Accepts (automatonOf r) w) (rule-is e) t));
     language = λ e w.
         subst (λ (r : Rule). Accepts (automatonOf r) w ↔ Merges way (automatonOf one) (automatonOf two) w) (sym (rule-is e))
         (made-language (taken (sym is ∙ e)) w);

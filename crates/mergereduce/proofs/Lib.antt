@@ -2,4 +2,5 @@
 pub mod Kept
 pub mod Trim
 pub mod Law
+pub mod Examples
 pub mod Claims

@@ -1,11 +1,10 @@
--- The trimmed rule is well formed, and accepts what the automaton accepts that it was made of. Assumes
--- that the masks are the automaton's, and that at most 32 states stay.
+-- The trimmed rule is well formed, and accepts what the automaton accepts that it was made of.
+-- Assumes that the masks are the automaton's, and that at most 32 states stay.
 use mathlib.Core.Path.{_≡_, refl, sym, ap, _∙_, subst}
-use mathlib.Core.Logic.{_↔_, ⊎-elim}
+use mathlib.Core.Logic.{_↔_, _⊎_, inl, inr, ⊎-elim}
 use mathlib.Core.Bool.{Bool, true, false, cond, _&&_}
-use mathlib.Core.List.{List}
 use mathlib.Core.Option.{Option, none, some}
-use Prim.Native.Nat.{ℕ, zero, suc, _+_, _^_, _≤_, _<_, max}
+use Prim.Native.Nat.{ℕ, zero, suc, _+_, _^_, _≤_, _<_}
 use native.Mathlib.Nat.{eq-or-lt-of-le}
 use native.Mathlib.Omega.{arith}
 use lib.Dec.{eqb, ltb}
@@ -29,20 +28,33 @@ use Rattle.reducing.proofs.Facts.{picked, in-both}
 use Rattle.mergereduce.specs.Trimmed.{keptFrom, nth, renamedTo, trimmedTargets, trimmedBy}
 use Rattle.mergereduce.proofs.Kept.{and-both, Masked, kept-few, kept-both, kept-live, first-reached, onward-reached}
 
-pick : (t : ℕ → Bool) (lo v : ℕ) (b : Bool) → t lo ≡ b → (b ≡ false → t v ≡ true) → t (cond b lo v) ≡ true
-pick t lo v true is on = is
-pick t lo v false is on = on refl
+-- a search finds a number that passes, or none does
+pub search-law : (t : ℕ → Bool) (lo f : ℕ)
+    → ((firstFrom t lo f < lo + f) × (t (firstFrom t lo f) ≡ true)) ⊎ (((x : ℕ) → lo ≤ x → x < lo + f → t x ≡ false) × (firstFrom t lo f ≡ lo + f))
+unfolding firstFrom
+search-law t lo zero = inr ((λ x h l. absurd (omega arith)), omega arith)
+search-law t lo (suc f) = go (search-law t (suc lo) f)
+  where
+    go : ((firstFrom t (suc lo) f < suc lo + f) × (t (firstFrom t (suc lo) f) ≡ true))
+        ⊎ (((x : ℕ) → suc lo ≤ x → x < suc lo + f → t x ≡ false) × (firstFrom t (suc lo) f ≡ suc lo + f))
+        → ((firstFrom t lo (suc f) < lo + suc f) × (t (firstFrom t lo (suc f)) ≡ true))
+        ⊎ (((x : ℕ) → lo ≤ x → x < lo + suc f → t x ≡ false) × (firstFrom t lo (suc f) ≡ lo + suc f))
+    go r =
+        by-test (t lo)
+        (λ e. rw e (inl (omega arith, e)))
+        (λ e.
+        rw e
+        (⊎-elim
+        (λ u. inl (omega (arith, u .0), u .1))
+        (λ u.
+        inr (
+          (λ x h l. ⊎-elim (λ z. ap t (sym z) ∙ e) (λ m. u .0 x m (omega arith)) (eq-or-lt-of-le h)),
+          omega (arith, u .1),
+        ))
+        r))
 
 pub first-passes : (t : ℕ → Bool) (lo f x : ℕ) → lo ≤ x → x < lo + f → t x ≡ true → t (firstFrom t lo f) ≡ true
-unfolding firstFrom
-first-passes t lo zero x h l e = absurd (omega arith)
-first-passes t lo (suc f) x h l e =
-    pick t lo (firstFrom t (suc lo) f) (t lo) refl
-    (λ is.
-    ⊎-elim
-    (λ same. not-both e (ap t (sym same) ∙ is))
-    (λ past. first-passes t (suc lo) f x past (omega arith) e)
-    (eq-or-lt-of-le h))
+first-passes t lo f x h l e = ⊎-elim (λ u. u .1) (λ u. not-both e (u .0 x h l)) (search-law t lo f)
 
 not-there : (p : ℕ) (s t : Bool) (m : ℕ) → t ≡ false → p ∈ cond s (cond t m 0) 0 → ⊥
 not-there p true true m e i = not-both {b = true} refl e

@@ -1,6 +1,6 @@
--- An automaton of n states, any number of them, that is given by masks: its initial and final states,
--- and the targets ts q s of state q by the symbol s. Made a rule of those states that are reached and
--- live, numbered anew from 0 in their old order.
+-- An automaton of n states, any number of them, that is given by masks: its initial and final
+-- states, and the targets ts q s of state q by the symbol s. Made a rule of those states that are
+-- reached and live, numbered anew from 0 in their old order.
 --
 --   spread link n m           m, with every state to which a member of m is linked
 --   arcs ts q p               the test that an arc leads from q to p

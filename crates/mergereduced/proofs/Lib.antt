@@ -1,2 +1,4 @@
 pub mod Cells
 pub mod Ways
+pub mod Closure
+pub mod Links

@@ -2,25 +2,24 @@
 -- order in which the code finds them. Assumes nothing.
 use mathlib.Core.Path.{_≡_, refl, sym, ap, ap₂, _∙_}
 use mathlib.Core.Logic.{inl, inr, ⊎-elim}
-use mathlib.Core.Bool.{Bool, true, false, cond, _&&_, _||_}
+use mathlib.Core.Bool.{Bool, true, false, cond, not, _&&_}
 use mathlib.Core.List.{List}
 use mathlib.Core.Option.{Option, none, some}
 use Prim.Native.Nat.{ℕ, zero, suc, _+_, _-_, _*_, _/_, _%_, _^_, _≤_, _<_, max}
 use native.Mathlib.Nat.{zero-mul}
-use native.Mathlib.Numerals.{add-one}
 use native.Mathlib.Omega.{arith}
 use lib.Bits.{bitAnd, bitOr, or-zero-r, or-comm}
 use lib.Dec.{eqb, ltb}
+use lib.ListN.{getD}
 use lib.Pow.{pow-lt, pow-pos}
 use borrow.Author.Tests.{lt-ltb, le-ltb, ltb-true, ltb-false, eq-eqb, ne-eqb, eqb-true, eqb-false}
-use Rattle.base.specs.Conditions.{anyBelow}
 use Rattle.base.specs.Lists.{listFrom}
+use Rattle.base.proofs.Lists.{cell-of, same-list}
 use Rattle.base.proofs.Tests.{by-test, same-truth, not-both, zero-one}
-use Rattle.masks.specs.Masks.{bit, has, _∈_, single}
-use Rattle.masks.proofs.Laws.{no-member, has-member, member-of, or-cases, or-left, or-right, and-members, members-below}
-use Rattle.masks.proofs.Passing.{mask-in, mask-of}
-use Rattle.masks.specs.Turns.{rank, turns}
-use Rattle.masks.proofs.Turns.{bit-lt, settled}
+use Rattle.masks.specs.Masks.{bit, has, _∈_, single, maskOf}
+use Rattle.masks.proofs.Laws.{has-member, member-of, or-cases, or-left, or-right, and-members, members-below}
+use Rattle.masks.specs.Turns.{rank}
+use Rattle.masks.proofs.Turns.{bit-lt}
 use Rattle.automaton.specs.declared.Rule.{Rule}
 use Rattle.automaton.specs.Rules.{targetMask, WellFormed}
 use Rattle.delegates.specs.Classes.{firstFrom}
@@ -33,12 +32,11 @@ use Rattle.calls.specs.Calls.{installNumber}
 use Rattle.products.proofs.Numbers.{left-below, right-below}
 use Rattle.merging.specs.declared.Way.{Way}
 use Rattle.merging.specs.declared.Way.the-variants.{Both, Either, Interleaving}
-use Rattle.merging.specs.Merged.{statesOf, pairs, beside, setOf, oneMoves, ownTargets, targetsOf}
+use Rattle.merging.specs.Merged.{statesOf, pairs, beside, setOf, oneMoves, targetsOf}
 use Rattle.merging.proofs.Sets.{pairs-law, set-law, set-below, wide}
 use Rattle.merging.specs.Merging.{Merging, mergingBy}
-use Rattle.merge.specs.Asked.{Masks, Tables}
+use Rattle.merge.specs.Asked.{Masks}
 use Rattle.merge.proofs.Numbers.{product-most}
-use Rattle.reducing.specs.declared.ReduceAnswer.{ReduceAnswer}
 use Rattle.reducing.specs.declared.ReduceAnswer.the-variants.{Accepted, Refused}
 use Rattle.reducing.specs.declared.ReduceResult.{ReduceResult}
 use Rattle.reducing.specs.Reduced.{reducedOf}
@@ -46,10 +44,10 @@ use Rattle.reducing.specs.Reducing.{Reducing, reduceMeans, reduceOutcome, reduc
 use Rattle.reducing.proofs.Ranks.{rank-mono, rank-onto}
 use Rattle.mergereduce.specs.MergeReduced.{reducedBy, reducedOrOwn, pairTargets, initialPairs, finalPairs, keptPairs, trimmedPairs, pairCount, mergeReducedNumber, mergeReducedRule, mergeReducedOf}
 use Rattle.mergereduce.proofs.Law.{instead, number-law}
-use Rattle.mergereduce.specs.Trimmed.{spread, onward, backTo, keptFrom, nth, renamedTo, trimmedTargets, trimmedBy}
+use Rattle.mergereduce.specs.Trimmed.{nth, renamedTo, trimmedTargets, trimmedBy}
 use Rattle.mergereduce.proofs.Trim.{first-passes}
-use Rattle.mergereduce.proofs.Kept.{added, and-both}
-use Rattle.mergereduced.specs.Asked.{setIn, linkBy, Sized, Tabled, ArcAsked, pairArcs, stepOf, Few, cellIn, pairedOf}
+use Rattle.mergereduce.proofs.Kept.{and-both}
+use Rattle.mergereduced.specs.Asked.{setIn, symbolsAt, linkBy, Sized, Tabled, ArcAsked, linkIn, freshIn, Few, Listed, cellIn, placesIn, pairedOf}
 
 -- ---- bits and tests
 pub bit-yes : (m q : ℕ) → has m q ≡ true → 1 ≡ bit m q
@@ -157,10 +155,6 @@ module _ (n1 n2 : ℕ) (ts us : List ℕ) (t : Tabled n1 n2 ts us) (q s : ℕ) w
   }
 
   module _ (p : ℕ) (r : Bool) where
-    pub arc-both : (a b : ℕ) → a ≡ targetMask ts (q / n2) s → b ≡ targetMask us (q % n2) s → r ≡ has (pairs a b n2) p
-        → r ≡ has (targetsOf Both n1 n2 ts us q s) p
-    arc-both a b ea eb is = is ∙ ap₂ (λ (x y : ℕ). has (pairs x y n2) p) ea eb
-
     pub own-first : (a : ℕ) → q < n1 → a ≡ targetMask ts q s → r ≡ has (beside a 0 n1) p
         → r ≡ has (targetsOf Either n1 n2 ts us q s) p
     own-first a l ea is = is ∙ ap (λ (x : ℕ). has x p) (ap (bitOr a) (zero-mul (2 ^ n1)) ∙ or-zero-r a ∙ ea ∙ sym (ap (λ (x : Bool). cond x (targetMask ts q s) (targetMask us (q - n1) s * 2 ^ n1)) (lt-ltb q n1 l)))
@@ -257,49 +251,56 @@ module _ (r : Rule) (x : ReduceResult) (said : reduceOutcome x ≡ reduceOf r) w
       of none n = let z : some number ≡ none = sym (ap reduceMeans e) ∙ n in zero-one cc
       of (some y) n = refl
 
--- ---- `leads`, `link_at`, `step_cell`
-pub ask : (way : Way) (n1 n2 : ℕ) (ts us : List ℕ) (q s p : ℕ) → Tabled n1 n2 ts us → q < statesOf way n1 n2 → p < statesOf way n1 n2 → s < 16
-    → ArcAsked way n1 n2 ts us q s p
-ask way n1 n2 ts us q s p t from to symbol = record { tabled = t; from = from; to = to; symbol = symbol }
+-- ---- `own_link`, `one_link`, `link`, `linked`
+module _ (n1 n2 : ℕ) (m1 m2 : List ℕ) (q p : ℕ) (r : Bool) where
+  pub own-1 : q < n1 → p < n1 → (a : ℕ) → a ≡ symbolsAt m1 q p → r ≡ not (eqb a 0) → r ≡ linkIn Either n1 n2 m1 m2 q p
+  own-1 lq lp a ea is = is ∙ rw (lt-ltb q n1 lq, lt-ltb p n1 lp, ea)
 
-module _ (link : ℕ → ℕ → Bool) (m q p : ℕ) where
-  pub link-forth : has m q ≡ true → (forth : Bool) → forth ≡ true → (r : Bool) → r ≡ link q p → r ≡ (has m q && linkBy forth link q p)
-  link-forth e forth f r is = is ∙ sym (ap₂ (λ (x y : Bool). x && linkBy y link q p) e f)
+  pub own-2 : n1 ≤ q → n1 ≤ p → (b : ℕ) → b ≡ symbolsAt m2 (q - n1) (p - n1) → r ≡ not (eqb b 0) → r ≡ linkIn Either n1 n2 m1 m2 q p
+  own-2 lq lp b eb is = is ∙ rw (le-ltb q n1 lq, le-ltb p n1 lp, eb)
 
-  pub link-back : has m q ≡ true → (forth : Bool) → forth ≡ false → (r : Bool) → r ≡ link p q → r ≡ (has m q && linkBy forth link q p)
-  link-back e forth f r is = is ∙ sym (ap₂ (λ (x y : Bool). x && linkBy y link q p) e f)
+module _ (n1 n2 : ℕ) (m1 m2 : List ℕ) (q p : ℕ) where
+  pub own-out : q < n1 → n1 ≤ p → false ≡ linkIn Either n1 n2 m1 m2 q p
+  own-out lq lp = rw (lt-ltb q n1 lq, le-ltb p n1 lp)
 
-  pub link-none : has m q ≡ false → (forth : Bool) → false ≡ (has m q && linkBy forth link q p)
-  link-none e forth = sym (ap (λ (x : Bool). x && linkBy forth link q p) e)
+  pub own-in : n1 ≤ q → p < n1 → false ≡ linkIn Either n1 n2 m1 m2 q p
+  own-in lq lp = rw (le-ltb q n1 lq, lt-ltb p n1 lp)
 
-module _ (link : ℕ → ℕ → Bool) (n m p : ℕ) where
-  abbrev found : Bool
-  found = anyBelow (λ q. has m q && link q p) n
+  pub one-first : (a : ℕ) → q % n2 ≡ p % n2 → a ≡ symbolsAt m1 (q / n2) (p / n2) → (a ≡ 0 → ⊥) → true ≡ linkIn Interleaving n1 n2 m1 m2 q p
+  one-first a e ea there = rw (eq-eqb (q % n2) (p % n2) e, ← ea, ne-eqb a 0 there)
 
-  pub step-own : has m p ≡ true → 1 ≡ bit (spread link n m) p
-  step-own e = sym (or-left m (added link n m) p (member-of m p e))
+  -- the first member does not move alone
+  abbrev Rests : Type 0
+  Rests = (eqb (q % n2) (p % n2) && not (eqb (symbolsAt m1 (q / n2) (p / n2)) 0)) ≡ false
 
-  pub step-new : p < n → found ≡ true → 1 ≡ bit (spread link n m) p
-  step-new l e = sym (or-right m (added link n m) p (mask-of (λ r. anyBelow (λ q. has m q && link q r) n) n p l e))
+  pub rests-apart : (q % n2 ≡ p % n2 → ⊥) → Rests
+  rests-apart d = rw (ne-eqb (q % n2) (p % n2) d)
 
-  step-none : has m p ≡ false → (p ∈ added link n m → ⊥) → 0 ≡ bit (spread link n m) p
-  step-none e out =
-      bit-no (spread link n m) p
-      (not-in (spread link n m) p (λ i.
-      ⊎-elim (λ h. not-both {A = ⊥} (has-member m p h) e) out (or-cases m (added link n m) p i)))
+  pub rests-none : (a : ℕ) → q % n2 ≡ p % n2 → a ≡ symbolsAt m1 (q / n2) (p / n2) → a ≡ 0 → Rests
+  rests-none a e ea is = rw (eq-eqb (q % n2) (p % n2) e, ← ea, eq-eqb a 0 is)
 
-  pub step-unlinked : has m p ≡ false → found ≡ false → 0 ≡ bit (spread link n m) p
-  step-unlinked e f = step-none e (λ i. not-both {A = ⊥} (mask-in (λ r. anyBelow (λ q. has m q && link q r) n) n p i .1) f)
+  pub one-second : Rests → q / n2 ≡ p / n2 → (b : ℕ) (r : Bool) → b ≡ symbolsAt m2 (q % n2) (p % n2) → r ≡ not (eqb b 0) → r ≡ linkIn Interleaving n1 n2 m1 m2 q p
+  one-second rests e b r eb is = is ∙ rw (rests, eq-eqb (q / n2) (p / n2) e, eb)
 
-  pub step-past : has m p ≡ false → n ≤ p → 0 ≡ bit (spread link n m) p
-  step-past e f = step-none e (λ i. let l = mask-in (λ r. anyBelow (λ q. has m q && link q r) n) n p i .0 in absurd (omega arith))
+  pub one-none : Rests → (q / n2 ≡ p / n2 → ⊥) → false ≡ linkIn Interleaving n1 n2 m1 m2 q p
+  one-none rests d = rw (rests, ne-eqb (q / n2) (p / n2) d)
 
-pub spread-few : (link : ℕ → ℕ → Bool) (n m k : ℕ) → n ≤ k → ((q : ℕ) → q ∈ m → q < k) → (q : ℕ) → q ∈ spread link n m → q < k
-spread-few link n m k h few q e =
-    ⊎-elim
-    (few q)
-    (λ i. let l = mask-in (λ r. anyBelow (λ x. has m x && link x r) n) n q i .0 in omega arith)
-    (or-cases m (added link n m) q e)
+module _ (way : Way) (n1 n2 : ℕ) (m1 m2 : List ℕ) (q p : ℕ) (r : Bool) where
+  pub link-both : way ≡ Both → r ≡ linkIn Both n1 n2 m1 m2 q p → r ≡ linkIn way n1 n2 m1 m2 q p
+  link-both e is = rw e is
+
+  pub link-either : way ≡ Either → r ≡ linkIn Either n1 n2 m1 m2 q p → r ≡ linkIn way n1 n2 m1 m2 q p
+  link-either e is = rw e is
+
+  pub link-interleaving : way ≡ Interleaving → r ≡ linkIn Interleaving n1 n2 m1 m2 q p → r ≡ linkIn way n1 n2 m1 m2 q p
+  link-interleaving e is = rw e is
+
+module _ (link : ℕ → ℕ → Bool) (forth : Bool) (q p : ℕ) (r : Bool) where
+  pub link-forth : forth ≡ true → r ≡ link q p → r ≡ linkBy forth link q p
+  link-forth f is = is ∙ sym (ap (λ (y : Bool). linkBy y link q p) f)
+
+  pub link-back : forth ≡ false → r ≡ link p q → r ≡ linkBy forth link q p
+  link-back f is = is ∙ sym (ap (λ (y : Bool). linkBy y link q p) f)
 
 -- ---- `start_cell`, `both_cell`
 module _ (way : Way) (n1 n2 a b : ℕ) (m : Masks a b n1 n2) (z : Sized n1 n2) where
@@ -320,35 +321,20 @@ module _ (x y q : ℕ) where
   pub cell-second : has y q ≡ false → 0 ≡ bit (bitAnd x y) q
   cell-second e = bit-no (bitAnd x y) q (not-in (bitAnd x y) q (λ i. not-both {A = ⊥} (has-member y q (and-members x y q .0 i .1)) e))
 
--- ---- `closed`
-module _ (link : ℕ → ℕ → Bool) (n m : ℕ) (small : m < 2 ^ n) where
-  turns-few : (i q : ℕ) → q ∈ turns (spread link n) m i → q < n
-  unfolding turns
-  turns-few zero q e = members-below n m q small e
-  turns-few (suc i) q e = spread-few link n (turns (spread link n) m i) n (omega arith) (turns-few i) q e
+-- ---- `fresh`
+module _ (m done q : ℕ) where
+  pub fresh-here : has m q ≡ true → has done q ≡ false → freshIn m done q ≡ true
+  fresh-here e f = ap₂ (λ (x y : Bool). x && not y) e f
 
-  pub turns-done : (i : ℕ) → i ≤ n → (set more : ℕ) → set ≡ turns (spread link n) m i → more ≡ spread link n set
-      → (c d : ℕ) → c ≡ rank more n → d ≡ rank set n → c ≤ d → set ≡ turns (spread link n) m n
-  unfolding turns
-  turns-done i h set more es em c d ec ed l =
-      let next : more ≡ turns (spread link n) m (suc i) = em ∙ ap (spread link n) es in
-      let f : ℕ → ℕ = λ x. rank x n in
-      let fewer : rank (turns (spread link n) m (suc i)) n ≤ rank (turns (spread link n) m i) n =
-      omega (arith, l, ec ∙ ap f next, ed ∙ ap f es) in
-      let whole : n - i + i ≡ n = omega arith in
-      es
-      ∙ sym (settled (spread link n) m (λ x q e. or-left x (added link n x) q e) n turns-few i fewer (n - i))
-      ∙ ap (turns (spread link n) m) whole
+  pub fresh-out : has m q ≡ false → freshIn m done q ≡ false
+  fresh-out e = ap (λ (x : Bool). x && not (has done q)) e
 
-pub turns-more : (step : ℕ → ℕ) (m i set more : ℕ) → set ≡ turns step m i → more ≡ step set → more ≡ turns step m (i + 1)
-unfolding turns
-turns-more step m i set more es em = rw add-one (em ∙ ap step es)
-
-pub low-state : (way : Way) (n1 n2 : ℕ) (ts us : List ℕ) → Tabled n1 n2 ts us → (q : ℕ) → q < statesOf way n1 n2 → q < 1024
-low-state way n1 n2 ts us t q l = omega (arith, states-most way n1 n2 (t .sizes))
-
-pub tabled-small : (n1 n2 : ℕ) (ts us : List ℕ) → Tabled n1 n2 ts us → (n1 ≤ 32) × (n2 ≤ 32)
-tabled-small n1 n2 ts us t = both-small n1 n2 (t .sizes)
+  pub fresh-done : has done q ≡ true → freshIn m done q ≡ false
+  fresh-done f = of (has m q) (has done q) f
+    where
+      of : (x y : Bool) → y ≡ true → (x && not y) ≡ false
+      of true y e = ap not e
+      of false y e = refl
 
 -- ---- `nth`
 module _ (m q p : ℕ) where
@@ -377,22 +363,14 @@ nth-below n m p l =
     (λ e. ltb-true q n e)
     (λ e. absurd (omega (arith, rank-mono m n q (ltb-false q n e), is, l)))
 
-module _ (way : Way) (n1 n2 m n c : ℕ) (few : Few way n1 n2 m n c) (p : ℕ) (l : p < c) (q : ℕ) (is : q ≡ nth n m p) where
-  pub nth-in : q < n
-  nth-in = rw is (nth-below n m p (omega (arith, few .count)))
-
-  pub nth-low : q < statesOf way n1 n2
-  nth-low = omega (arith, nth-in, few .size)
-
 -- ---- `cell_of`
-module _ (ts : ℕ → ℕ → ℕ) (m n c cell : ℕ) (size : c ≡ rank m n) where
-  pub cell-state : cell / 16 < c → (q r : ℕ) → q ≡ nth n m (cell / 16) → r ≡ renamedTo n m (ts q (cell % 16)) → r ≡ cellIn n ts m cell
-  cell-state l q r eq is =
-      is ∙ ap (λ (x : ℕ). renamedTo n m (ts x (cell % 16))) eq
-      ∙ sym (ap (λ (t : Bool). cond t (trimmedTargets n ts m (cell / 16) (cell % 16)) 0) (lt-ltb (cell / 16) (rank m n) (rw size at l)))
+module _ (ts : ℕ → ℕ → ℕ) (list : List ℕ) (c cell : ℕ) where
+  pub cell-state : cell / 16 < c → (r : ℕ) → r ≡ placesIn list c (ts (getD list (cell / 16) 0) (cell % 16)) → r ≡ cellIn ts list c cell
+  cell-state l r is =
+      is ∙ sym (ap (λ (t : Bool). cond t (placesIn list c (ts (getD list (cell / 16) 0) (cell % 16))) 0) (lt-ltb (cell / 16) c l))
 
-  pub cell-none : c ≤ cell / 16 → 0 ≡ cellIn n ts m cell
-  cell-none l = sym (ap (λ (t : Bool). cond t (trimmedTargets n ts m (cell / 16) (cell % 16)) 0) (le-ltb (cell / 16) (rank m n) (rw size at l)))
+  pub cell-none : c ≤ cell / 16 → 0 ≡ cellIn ts list c cell
+  cell-none l = sym (ap (λ (t : Bool). cond t (placesIn list c (ts (getD list (cell / 16) 0) (cell % 16))) 0) (le-ltb (cell / 16) c l))
 
 -- ---- `kept_pairs`
 module _ (one two : Rule) (good1 : WellFormed one) (good2 : WellFormed two) where
@@ -401,12 +379,6 @@ module _ (one two : Rule) (good1 : WellFormed one) (good2 : WellFormed two) wher
 
   pub tabled : Tabled (one .n) (two .n) (one .targets) (two .targets)
   tabled = record { sizes = sized; tables = record { first = good1 .targets-below; second = good2 .targets-below } }
-
-  pub initial-masks : Masks (one .initials) (two .initials) (one .n) (two .n)
-  initial-masks = record { first = good1 .initials-below; second = good2 .initials-below }
-
-  pub final-masks : Masks (one .finals) (two .finals) (one .n) (two .n)
-  final-masks = record { first = good1 .finals-below; second = good2 .finals-below }
 
   module _ (way : Way) (x : List ℕ) where
     pub initial-small : setIn x ≡ setOf way (one .n) (two .n) (one .initials) (two .initials) → setIn x < 2 ^ statesOf way (one .n) (two .n)
@@ -419,24 +391,55 @@ module _ (one two : Rule) (good1 : WellFormed one) (good2 : WellFormed two) wher
         rw e
         (set-below (one .n) (two .n) (one .finals) (two .finals) (good1 .states .1) (good1 .finals-below) (good2 .finals-below) way)
 
-pub kept-made : (way : Way) (one two : Rule) (i f x y r : ℕ)
-    → i ≡ initialPairs way one two → f ≡ finalPairs way one two
-    → x ≡ turns (stepOf way (one .n) (two .n) (one .targets) (two .targets) true) i (statesOf way (one .n) (two .n))
-    → y ≡ turns (stepOf way (one .n) (two .n) (one .targets) (two .targets) false) f (statesOf way (one .n) (two .n))
-    → r ≡ bitAnd x y → r ≡ keptPairs way one two
-unfolding keptFrom
-kept-made way one two i f x y r ei ef ex ey er =
-    let n = statesOf way (one .n) (two .n) in
-    let ts = targetsOf way (one .n) (two .n) (one .targets) (two .targets) in
-    er ∙ ap₂ bitAnd (ex ∙ ap (λ (z : ℕ). turns (onward n ts) z n) ei) (ey ∙ ap (λ (z : ℕ). turns (backTo n ts) z n) ef)
-
 -- ---- `trimmed`
-pub trimmed-made : (way : Way) (one two : Rule) (m n c z i f : ℕ) (t : List ℕ) → Few way (one .n) (two .n) m n c
-    → z ≡ max 1 c → i ≡ renamedTo n m (initialPairs way one two) → f ≡ renamedTo n m (finalPairs way one two)
-    → t ≡ listFrom 0 512 (cellIn n (pairTargets way one two) m)
-    → _≡_ {A = Rule} (record { n = z; k = one .k; initials = i; finals = f; targets = t })
-    (trimmedBy n (one .k) (initialPairs way one two) (finalPairs way one two) (pairTargets way one two) m)
-trimmed-made way one two m n c z i f t few ez ei ef et = rw (ez, few .count, ei, ef, et)
+-- two tests that agree below n pass the same numbers
+mask-same : (f g : ℕ → Bool) (n : ℕ) → ((p : ℕ) → p < n → f p ≡ g p) → maskOf f n ≡ maskOf g n
+unfolding maskOf
+mask-same f g zero same = refl
+mask-same f g (suc n) same = rw (mask-same f g n (λ p l. same p (omega arith)), same n (omega arith))
+
+module _ (way : Way) (one two : Rule) (m n c : ℕ) (few : Few way (one .n) (two .n) m n c) (list : List ℕ)
+    (is : list ≡ listFrom 0 32 (nth n m)) where
+  place : (p : ℕ) → p < c → getD list p 0 ≡ nth n m p
+  place p l = ap (λ (x : List ℕ). getD x p 0) is ∙ cell-of 32 (nth n m) p 0 (omega (arith, few .fits))
+
+  pub listed-there : Listed way (one .n) (two .n) list c
+  listed-there = record {
+    fits = few .fits;
+    states = λ p l. rw (place p l, ← few .size) (nth-below n m p (omega (arith, few .count)));
+  }
+
+  places-are : (x : ℕ) → placesIn list c x ≡ renamedTo n m x
+  places-are x =
+      mask-same (λ p. has x (getD list p 0)) (λ p. has x (nth n m p)) c (λ p l. ap (has x) (place p l))
+      ∙ ap (maskOf (λ p. has x (nth n m p))) (few .count)
+
+  counted : (cell : ℕ) → ltb (cell / 16) (rank m n) ≡ ltb (cell / 16) c
+  counted cell = ap (ltb (cell / 16)) (sym (few .count))
+
+  cells-are : (ts : ℕ → ℕ → ℕ) (cell : ℕ) → cellIn ts list c cell
+      ≡ cond (ltb (cell / 16) (rank m n)) (trimmedTargets n ts m (cell / 16) (cell % 16)) 0
+  cells-are ts cell =
+      by-test (ltb (cell / 16) c)
+      (λ t.
+      ap (λ (b : Bool). cond b (placesIn list c (ts (getD list (cell / 16) 0) (cell % 16))) 0) t
+      ∙ (places-are (ts (getD list (cell / 16) 0) (cell % 16))
+      ∙ ap (λ (q : ℕ). renamedTo n m (ts q (cell % 16))) (place (cell / 16) (ltb-true (cell / 16) c t)))
+      ∙ sym (ap (λ (b : Bool). cond b (trimmedTargets n ts m (cell / 16) (cell % 16)) 0) (counted cell ∙ t)))
+      (λ t.
+      ap (λ (b : Bool). cond b (placesIn list c (ts (getD list (cell / 16) 0) (cell % 16))) 0) t
+      ∙ sym (ap (λ (b : Bool). cond b (trimmedTargets n ts m (cell / 16) (cell % 16)) 0) (counted cell ∙ t)))
+
+  pub trimmed-made : (z i f : ℕ) (t : List ℕ)
+      → z ≡ max 1 c → i ≡ placesIn list c (initialPairs way one two) → f ≡ placesIn list c (finalPairs way one two)
+      → t ≡ listFrom 0 512 (cellIn (pairTargets way one two) list c)
+      → _≡_ {A = Rule} (record { n = z; k = one .k; initials = i; finals = f; targets = t })
+      (trimmedBy n (one .k) (initialPairs way one two) (finalPairs way one two) (pairTargets way one two) m)
+  trimmed-made z i f t ez ei ef et =
+      let ts : ℕ → ℕ → ℕ = pairTargets way one two in
+      let et' : t ≡ listFrom 0 512 (λ cell. cond (ltb (cell / 16) (rank m n)) (trimmedTargets n ts m (cell / 16) (cell % 16)) 0) =
+      et ∙ same-list 512 (cellIn ts list c) (λ cell. cond (ltb (cell / 16) (rank m n)) (trimmedTargets n ts m (cell / 16) (cell % 16)) 0) (λ cell l. cells-are ts cell) in
+      rw (ez, few .count, ei ∙ places-are (initialPairs way one two), ef ∙ places-are (finalPairs way one two), et')
 
 -- ---- `paired`
 module _ (way : Way) (one two : Rule) (m n c : ℕ) (em : m ≡ keptPairs way one two) (en : n ≡ statesOf way (one .n) (two .n)) (ec : c ≡ rank m n) where

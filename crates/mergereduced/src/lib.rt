@@ -2,23 +2,22 @@
 // reduced again. Any numbers may stand in the rules.
 ghost use mathlib.Core.Path.{_≡_};
 ghost use mathlib.Core.Option.{some};
-ghost use mathlib.Core.Bool.{_&&_};
 ghost use Prim.Native.Nat.{_+_, _*_, _^_, _≤_, _<_, max};
-ghost use Rattle.base.specs.Conditions.{anyBelow};
 ghost use Rattle.base.specs.Lists.{listFrom};
 ghost use Rattle.limits.specs.Limits.{mostStates, mostSymbols, targetCells};
-ghost use lib.Bits.{bitAnd};
-ghost use Rattle.masks.specs.Masks.{bit, has};
+ghost use lib.Bits.{bitAnd, bitOr};
+ghost use Rattle.masks.specs.Masks.{bit, has, maskOf};
 ghost use Rattle.masks.specs.Turns.{rank, turns};
 ghost use Rattle.automaton.specs.Rules.{WellFormed};
+ghost use Rattle.delegates.specs.Classes.{firstFrom};
 ghost use Rattle.merging.specs.declared.Way.the-variants.{Both, Either, Interleaving};
 ghost use Rattle.merging.specs.Merged.{statesOf, pairs, beside, setOf, targetsOf};
 ghost use Rattle.ruleformat.specs.Reader.{noRule};
 ghost use Rattle.merging.specs.Merging.{mergeOutcome, mergingBy};
 ghost use Rattle.merge.specs.Asked.{Masks};
-ghost use Rattle.mergereduce.specs.Trimmed.{nth as nthOf, renamedTo, trimmedBy};
+ghost use Rattle.mergereduce.specs.Trimmed.{spread, nth as nthOf, trimmedBy};
 ghost use Rattle.mergereduce.specs.MergeReduced.{reducedOrOwn, initialPairs, finalPairs, pairTargets, keptPairs, mergeReducedOf};
-ghost use Rattle.mergereduced.specs.Asked.{mostPairs, setIn, linkBy, Sized, Tabled, ArcAsked, pairArcs, stepOf, Few, cellIn, pairedOf};
+ghost use Rattle.mergereduced.specs.Asked.{mostPairs, setIn, symbolsTo, symbolsOf, symbolsAt, linkIn, linkBy, freshIn, Sized, Tabled, ArcAsked, Few, Listed, placesIn, cellIn, pairedOf};
 use automaton::Rule;
 use masks::StateNumber;
 use merging::MergeAnswer;
@@ -151,123 +150,173 @@ fn arc(
     }
 }
 
-// Whether the result has an arc from q to p.
-fn leads(
-    way: Way,
-    n1: usize,
-    n2: usize,
-    t1: &[u32; limits::TARGETS],
-    t2: &[u32; limits::TARGETS],
-    q: usize,
-    p: usize,
-) -> bool
-    requires { ⌜ Tabled n1 n2 (now t1) (now t2) × (q < statesOf way n1 n2) × (p < statesOf way n1 n2) ⌝ }
-    ensures { λ r. ⌜ r ≡ pairArcs way n1 n2 (now (t1 .entry)) (now (t2 .entry)) q p ⌝ }
+// The symbols by which an arc leads from x to y.
+fn symbols_to(t: &[u32; limits::TARGETS], x: usize, y: usize) -> u16
+    requires { ⌜ (x < mostStates) × (y < mostStates) ⌝ }
+    ensures { λ r. ⌜ r ≡ symbolsTo (now (t .entry)) x y ⌝ }
 {
+    let mut out: u16 = 0;
     let mut s: usize = 0;
     while s < limits::SYMBOLS {
-        if arc(way, n1, n2, t1, t2, q, s, p) {
-            return true;
+        if masks::member(merge::mask_at(t, x, s), StateNumber(y as u8)) {
+            out = out | masks::only_symbol(s);
         }
         s += 1;
     }
-    false
+    out
 }
 
-// Whether q is in the set, and an arc leads from q to p, or from p to q where it goes back.
-fn link_at(
-    forth: bool,
-    way: Way,
-    n1: usize,
-    n2: usize,
-    t1: &[u32; limits::TARGETS],
-    t2: &[u32; limits::TARGETS],
-    set: &[u8; PAIRS],
-    q: usize,
-    p: usize,
-) -> bool
-    requires { ⌜ Tabled n1 n2 (now t1) (now t2) × (q < statesOf way n1 n2) × (p < statesOf way n1 n2) ⌝ }
-    ensures { λ r. ⌜ r ≡ (has (setIn (now (set .entry))) q && linkBy forth (pairArcs way n1 n2 (now (t1 .entry)) (now (t2 .entry))) q p) ⌝ }
+// For every two states x and y, at x * 32 + y, the symbols by which an arc leads from x to y.
+fn symbols_of(t: &[u32; limits::TARGETS]) -> [u16; PAIRS]
+    ensures { λ r. ⌜ r ≡ symbolsOf (now (t .entry)) ⌝ }
 {
-    if set[q] == 1 {
-        if forth {
-            return leads(way, n1, n2, t1, t2, q, p);
+    let mut out = [0u16; PAIRS];
+    let mut cell: usize = 0;
+    while cell < PAIRS {
+        out[cell] = symbols_to(t, cell / limits::STATES, cell % limits::STATES);
+        cell += 1;
+    }
+    out
+}
+
+// The symbols that such a list has for x and y.
+fn symbols_at(m: &[u16; PAIRS], x: usize, y: usize) -> u16
+    requires { ⌜ (x < mostStates) × (y < mostStates) ⌝ }
+    ensures { λ r. ⌜ r ≡ symbolsAt (now (m .entry)) x y ⌝ }
+{
+    m[x * limits::STATES + y]
+}
+
+// Whether both members move from the pair q to the pair p by one symbol.
+fn both_link(n1: usize, n2: usize, m1: &[u16; PAIRS], m2: &[u16; PAIRS], q: usize, p: usize) -> bool
+    requires { ⌜ Sized n1 n2 × (q < n1 * n2) × (p < n1 * n2) ⌝ }
+    ensures { λ r. ⌜ r ≡ linkIn Both n1 n2 (now (m1 .entry)) (now (m2 .entry)) q p ⌝ }
+{
+    let a = symbols_at(m1, q / n2, p / n2);
+    let b = symbols_at(m2, q % n2, p % n2);
+    masks::meets(a as u32, b as u32)
+}
+
+// Whether a state moves in its own rule from q to p.
+fn own_link(n1: usize, n2: usize, m1: &[u16; PAIRS], m2: &[u16; PAIRS], q: usize, p: usize) -> bool
+    requires { ⌜ Sized n1 n2 × (q < n1 + n2) × (p < n1 + n2) ⌝ }
+    ensures { λ r. ⌜ r ≡ linkIn Either n1 n2 (now (m1 .entry)) (now (m2 .entry)) q p ⌝ }
+{
+    if q < n1 {
+        if p < n1 {
+            return symbols_at(m1, q, p) != 0;
         }
-        return leads(way, n1, n2, t1, t2, p, q);
+        return false;
+    }
+    if p < n1 {
+        return false;
+    }
+    symbols_at(m2, q - n1, p - n1) != 0
+}
+
+// Whether one member moves alone from the pair q to the pair p.
+fn one_link(n1: usize, n2: usize, m1: &[u16; PAIRS], m2: &[u16; PAIRS], q: usize, p: usize) -> bool
+    requires { ⌜ Sized n1 n2 × (q < n1 * n2) × (p < n1 * n2) ⌝ }
+    ensures { λ r. ⌜ r ≡ linkIn Interleaving n1 n2 (now (m1 .entry)) (now (m2 .entry)) q p ⌝ }
+{
+    let x = q / n2;
+    let y = q % n2;
+    let z = p / n2;
+    let w = p % n2;
+    if y == w {
+        if symbols_at(m1, x, z) != 0 {
+            return true;
+        }
+    }
+    if x == z {
+        return symbols_at(m2, y, w) != 0;
     }
     false
 }
 
-// Whether some member of the set is linked to p.
+// Whether the result has an arc from q to p.
+fn link(
+    way: Way,
+    n1: usize,
+    n2: usize,
+    m1: &[u16; PAIRS],
+    m2: &[u16; PAIRS],
+    q: usize,
+    p: usize,
+) -> bool
+    requires { ⌜ Sized n1 n2 × (q < statesOf way n1 n2) × (p < statesOf way n1 n2) ⌝ }
+    ensures { λ r. ⌜ r ≡ linkIn way n1 n2 (now (m1 .entry)) (now (m2 .entry)) q p ⌝ }
+{
+    match way {
+        Way::Both => both_link(n1, n2, m1, m2, q, p),
+        Way::Either => own_link(n1, n2, m1, m2, q, p),
+        Way::Interleaving => one_link(n1, n2, m1, m2, q, p),
+    }
+}
+
+// Whether an arc leads from q to p, or from p to q where it goes back.
 fn linked(
     forth: bool,
     way: Way,
     n1: usize,
     n2: usize,
-    t1: &[u32; limits::TARGETS],
-    t2: &[u32; limits::TARGETS],
-    set: &[u8; PAIRS],
+    m1: &[u16; PAIRS],
+    m2: &[u16; PAIRS],
+    q: usize,
     p: usize,
 ) -> bool
-    requires { ⌜ Tabled n1 n2 (now t1) (now t2) × (p < statesOf way n1 n2) ⌝ }
-    ensures { λ r. ⌜ r ≡ anyBelow (λ q. has (setIn (now (set .entry))) q && linkBy forth (pairArcs way n1 n2 (now (t1 .entry)) (now (t2 .entry))) q p) (statesOf way n1 n2) ⌝ }
+    requires { ⌜ Sized n1 n2 × (q < statesOf way n1 n2) × (p < statesOf way n1 n2) ⌝ }
+    ensures { λ r. ⌜ r ≡ linkBy forth (linkIn way n1 n2 (now (m1 .entry)) (now (m2 .entry))) q p ⌝ }
+{
+    if forth {
+        return link(way, n1, n2, m1, m2, q, p);
+    }
+    link(way, n1, n2, m1, m2, p, q)
+}
+
+// The set with all that q is linked to.
+fn with_links(
+    forth: bool,
+    way: Way,
+    n1: usize,
+    n2: usize,
+    m1: &[u16; PAIRS],
+    m2: &[u16; PAIRS],
+    set: [u8; PAIRS],
+    q: usize,
+) -> [u8; PAIRS]
+    requires { ⌜ Sized n1 n2 × (q < statesOf way n1 n2) ⌝ }
+    ensures { λ r. ⌜ setIn r ≡ bitOr (setIn set) (maskOf (linkBy forth (linkIn way n1 n2 (now (m1 .entry)) (now (m2 .entry))) q) (statesOf way n1 n2)) ⌝ }
 {
     let n = merge::states(way, n1, n2);
-    let mut q: usize = 0;
-    while q < n {
-        if link_at(forth, way, n1, n2, t1, t2, set, q, p) {
-            return true;
-        }
-        q += 1;
-    }
-    false
-}
-
-// A cell of the set with all that its members are linked to.
-fn step_cell(
-    forth: bool,
-    way: Way,
-    n1: usize,
-    n2: usize,
-    t1: &[u32; limits::TARGETS],
-    t2: &[u32; limits::TARGETS],
-    set: &[u8; PAIRS],
-    p: usize,
-) -> u8
-    requires { ⌜ Tabled n1 n2 (now t1) (now t2) × (p < mostPairs) ⌝ }
-    ensures { λ r. ⌜ r ≡ bit (stepOf way n1 n2 (now (t1 .entry)) (now (t2 .entry)) forth (setIn (now (set .entry)))) p ⌝ }
-{
-    if set[p] == 1 {
-        return 1;
-    }
-    if p < merge::states(way, n1, n2) {
-        if linked(forth, way, n1, n2, t1, t2, set, p) {
-            return 1;
-        }
-    }
-    0
-}
-
-// The set with all that its members are linked to.
-fn step(
-    forth: bool,
-    way: Way,
-    n1: usize,
-    n2: usize,
-    t1: &[u32; limits::TARGETS],
-    t2: &[u32; limits::TARGETS],
-    set: &[u8; PAIRS],
-) -> [u8; PAIRS]
-    requires { ⌜ Tabled n1 n2 (now t1) (now t2) ⌝ }
-    ensures { λ r. ⌜ setIn r ≡ stepOf way n1 n2 (now (t1 .entry)) (now (t2 .entry)) forth (setIn (now (set .entry))) ⌝ }
-{
-    let mut out = [0u8; PAIRS];
+    let mut out = set;
     let mut p: usize = 0;
-    while p < PAIRS {
-        out[p] = step_cell(forth, way, n1, n2, t1, t2, set, p);
+    while p < n {
+        if out[p] != 1 {
+            if linked(forth, way, n1, n2, m1, m2, q, p) {
+                out[p] = 1;
+            }
+        }
         p += 1;
     }
     out
+}
+
+// The first member of the set that is not done; n where there is none.
+fn fresh(set: &[u8; PAIRS], done: &[u8; PAIRS], n: usize) -> usize
+    requires { ⌜ n ≤ mostPairs ⌝ }
+    ensures { λ r. ⌜ r ≡ firstFrom (freshIn (setIn (now (set .entry))) (setIn (now (done .entry)))) 0 n ⌝ }
+{
+    let mut q: usize = 0;
+    while q < n {
+        if set[q] == 1 {
+            if done[q] != 1 {
+                return q;
+            }
+        }
+        q += 1;
+    }
+    q
 }
 
 // How many numbers below n are in the set.
@@ -286,29 +335,28 @@ fn count(set: &[u8; PAIRS], n: usize) -> usize
     out
 }
 
-// Steps until nothing is new, which is so after as many as there are states at the latest.
+// The set with all that its members lead to, by any number of links: each member's links are added
+// once.
 fn closed(
     forth: bool,
     way: Way,
     n1: usize,
     n2: usize,
-    t1: &[u32; limits::TARGETS],
-    t2: &[u32; limits::TARGETS],
+    m1: &[u16; PAIRS],
+    m2: &[u16; PAIRS],
     start: [u8; PAIRS],
 ) -> [u8; PAIRS]
-    requires { ⌜ Tabled n1 n2 (now t1) (now t2) × (setIn start < 2 ^ statesOf way n1 n2) ⌝ }
-    ensures { λ r. ⌜ setIn r ≡ turns (stepOf way n1 n2 (now (t1 .entry)) (now (t2 .entry)) forth) (setIn start) (statesOf way n1 n2) ⌝ }
+    requires { ⌜ Sized n1 n2 × (setIn start < 2 ^ statesOf way n1 n2) ⌝ }
+    ensures { λ r. ⌜ setIn r ≡ turns (spread (linkBy forth (linkIn way n1 n2 (now (m1 .entry)) (now (m2 .entry)))) (statesOf way n1 n2)) (setIn start) (statesOf way n1 n2) ⌝ }
 {
     let n = merge::states(way, n1, n2);
     let mut set = start;
-    let mut i: usize = 0;
-    while i < n {
-        let more = step(forth, way, n1, n2, t1, t2, &set);
-        if count(&more, n) <= count(&set, n) {
-            return set;
-        }
-        set = more;
-        i += 1;
+    let mut done = [0u8; PAIRS];
+    let mut q = fresh(&set, &done, n);
+    while q < n {
+        set = with_links(forth, way, n1, n2, m1, m2, set, q);
+        done[q] = 1;
+        q = fresh(&set, &done, n);
     }
     set
 }
@@ -406,32 +454,46 @@ fn kept_pairs(way: Way, one: Rule, two: Rule) -> [u8; PAIRS]
     let n2 = two.n as usize;
     let t1 = one.targets;
     let t2 = two.targets;
+    let m1 = symbols_of(&t1);
+    let m2 = symbols_of(&t2);
     let initials = start_of(way, n1, n2, one.initials, two.initials);
     let finals = start_of(way, n1, n2, one.finals, two.finals);
-    let reached = closed(true, way, n1, n2, &t1, &t2, initials);
-    let live = closed(false, way, n1, n2, &t1, &t2, finals);
+    let reached = closed(true, way, n1, n2, &m1, &m2, initials);
+    let live = closed(false, way, n1, n2, &m1, &m2, finals);
     both_of(&reached, &live)
 }
 
-// The new numbers of the initial or final states that stay.
+// The states that stay, in their order; n where there are no more.
+fn listed(set: &[u8; PAIRS], n: usize) -> [usize; limits::STATES]
+    requires { ⌜ n ≤ mostPairs ⌝ }
+    ensures { λ r. ⌜ r ≡ listFrom 0 mostStates (nthOf n (setIn (now (set .entry)))) ⌝ }
+{
+    let mut out = [0usize; limits::STATES];
+    let mut p: usize = 0;
+    while p < limits::STATES {
+        out[p] = nth(set, n, p);
+        p += 1;
+    }
+    out
+}
+
+// The new numbers of the initial or final states that stay, which are the first c of the list.
 fn set_mask(
     way: Way,
     n1: usize,
     n2: usize,
     a: u32,
     b: u32,
-    set: &[u8; PAIRS],
-    n: usize,
+    list: &[usize; limits::STATES],
     c: usize,
 ) -> u32
-    requires { ⌜ Masks a b n1 n2 × Sized n1 n2 × Few way n1 n2 (setIn (now set)) n c ⌝ }
-    ensures { λ r. ⌜ r ≡ renamedTo n (setIn (now (set .entry))) (setOf way n1 n2 a b) ⌝ }
+    requires { ⌜ Masks a b n1 n2 × Sized n1 n2 × Listed way n1 n2 (now list) c ⌝ }
+    ensures { λ r. ⌜ r ≡ placesIn (now (list .entry)) c (setOf way n1 n2 a b) ⌝ }
 {
     let mut out: u32 = 0;
     let mut p: usize = 0;
     while p < c {
-        let q = nth(set, n, p);
-        if in_set(way, n1, n2, a, b, q) {
+        if in_set(way, n1, n2, a, b, list[p]) {
             out = masks::union(out, masks::singleton(StateNumber(p as u8)));
         }
         p += 1;
@@ -446,20 +508,18 @@ fn arc_mask(
     n2: usize,
     t1: &[u32; limits::TARGETS],
     t2: &[u32; limits::TARGETS],
-    set: &[u8; PAIRS],
-    n: usize,
+    list: &[usize; limits::STATES],
     c: usize,
     q: usize,
     s: usize,
 ) -> u32
-    requires { ⌜ Tabled n1 n2 (now t1) (now t2) × Few way n1 n2 (setIn (now set)) n c × (q < n) × (s < mostSymbols) ⌝ }
-    ensures { λ r. ⌜ r ≡ renamedTo n (setIn (now (set .entry))) (targetsOf way n1 n2 (now (t1 .entry)) (now (t2 .entry)) q s) ⌝ }
+    requires { ⌜ Tabled n1 n2 (now t1) (now t2) × Listed way n1 n2 (now list) c × (q < statesOf way n1 n2) × (s < mostSymbols) ⌝ }
+    ensures { λ r. ⌜ r ≡ placesIn (now (list .entry)) c (targetsOf way n1 n2 (now (t1 .entry)) (now (t2 .entry)) q s) ⌝ }
 {
     let mut out: u32 = 0;
     let mut p: usize = 0;
     while p < c {
-        let to = nth(set, n, p);
-        if arc(way, n1, n2, t1, t2, q, s, to) {
+        if arc(way, n1, n2, t1, t2, q, s, list[p]) {
             out = masks::union(out, masks::singleton(StateNumber(p as u8)));
         }
         p += 1;
@@ -474,18 +534,26 @@ fn cell_of(
     n2: usize,
     t1: &[u32; limits::TARGETS],
     t2: &[u32; limits::TARGETS],
-    set: &[u8; PAIRS],
-    n: usize,
+    list: &[usize; limits::STATES],
     c: usize,
     cell: usize,
 ) -> u32
-    requires { ⌜ Tabled n1 n2 (now t1) (now t2) × Few way n1 n2 (setIn (now set)) n c ⌝ }
-    ensures { λ r. ⌜ r ≡ cellIn n (targetsOf way n1 n2 (now (t1 .entry)) (now (t2 .entry))) (setIn (now (set .entry))) cell ⌝ }
+    requires { ⌜ Tabled n1 n2 (now t1) (now t2) × Listed way n1 n2 (now list) c ⌝ }
+    ensures { λ r. ⌜ r ≡ cellIn (targetsOf way n1 n2 (now (t1 .entry)) (now (t2 .entry))) (now (list .entry)) c cell ⌝ }
 {
     let p = cell / limits::SYMBOLS;
     if p < c {
-        let q = nth(set, n, p);
-        return arc_mask(way, n1, n2, t1, t2, set, n, c, q, cell % limits::SYMBOLS);
+        return arc_mask(
+            way,
+            n1,
+            n2,
+            t1,
+            t2,
+            list,
+            c,
+            list[p],
+            cell % limits::SYMBOLS,
+        );
     }
     0
 }
@@ -497,17 +565,16 @@ fn table_of(
     n2: usize,
     t1: &[u32; limits::TARGETS],
     t2: &[u32; limits::TARGETS],
-    set: &[u8; PAIRS],
-    n: usize,
+    list: &[usize; limits::STATES],
     c: usize,
 ) -> [u32; limits::TARGETS]
-    requires { ⌜ Tabled n1 n2 (now t1) (now t2) × Few way n1 n2 (setIn (now set)) n c ⌝ }
-    ensures { λ r. ⌜ r ≡ listFrom 0 targetCells (cellIn n (targetsOf way n1 n2 (now (t1 .entry)) (now (t2 .entry))) (setIn (now (set .entry)))) ⌝ }
+    requires { ⌜ Tabled n1 n2 (now t1) (now t2) × Listed way n1 n2 (now list) c ⌝ }
+    ensures { λ r. ⌜ r ≡ listFrom 0 targetCells (cellIn (targetsOf way n1 n2 (now (t1 .entry)) (now (t2 .entry))) (now (list .entry)) c) ⌝ }
 {
     let mut table = [0u32; limits::TARGETS];
     let mut cell: usize = 0;
     while cell < limits::TARGETS {
-        table[cell] = cell_of(way, n1, n2, t1, t2, set, n, c, cell);
+        table[cell] = cell_of(way, n1, n2, t1, t2, list, c, cell);
         cell += 1;
     }
     table
@@ -531,9 +598,10 @@ fn trimmed(way: Way, one: Rule, two: Rule, set: &[u8; PAIRS], n: usize, c: usize
     let t1 = one.targets;
     let t2 = two.targets;
     let size = size_of(c);
-    let initials = set_mask(way, n1, n2, one.initials, two.initials, set, n, c);
-    let finals = set_mask(way, n1, n2, one.finals, two.finals, set, n, c);
-    let targets = table_of(way, n1, n2, &t1, &t2, set, n, c);
+    let list = listed(set, n);
+    let initials = set_mask(way, n1, n2, one.initials, two.initials, &list, c);
+    let finals = set_mask(way, n1, n2, one.finals, two.finals, &list, c);
+    let targets = table_of(way, n1, n2, &t1, &t2, &list, c);
     Rule {
         n: size,
         k: one.k,

@@ -27,13 +27,13 @@ use Rattle.reducing.specs.Reduced.{gather, keptOf, reachedOf, chosenOf, 
 use Rattle.reducing.specs.Reducing.{Reducing, reducingBy, refusedBy, reduceOf}
 use Rattle.reducing.specs.Worked.{once, twice, twiceOrThrice, odd, even, notReached, dead, lowerNotReached, second, alike, behindMerged, noText, fewSets, manySets, tooLarge, reductions, Answered}
 
-abbrev padded : ℕ → List ℕ → List ℕ
+abbrev pub padded : ℕ → List ℕ → List ℕ
 padded x l = l ++ replicate (32 - length l) x
 
 -- the rule r comes to m, where each step comes to what is given: the delegates, the reached states,
 -- what stands for each, the states that stay, and the number with which m is refused
 module _ (r m : Rule) (delegates : List ℕ) (reached : ℕ) (chosen : List ℕ) (kept : ℕ) {number : Option ℕ} where
-  by-hand : installNumber r ≡ none
+  pub by-hand : installNumber r ≡ none
       → startsIn r .delegates ≡ padded 0 delegates
       → reachedOf (r .targets) (r .initials) ≡ reached
       → chosenOf (padded 0 delegates) reached ≡ padded 32 chosen

@@ -5,6 +5,7 @@ pub mod Samples
 pub mod Patterns
 pub mod Merging
 pub mod Reducing
+pub mod MergingReduced
 pub mod MadeTexts
 pub mod Forms
 pub mod TrayFunctions

@@ -4,6 +4,7 @@ pub mod SampleFunctions
 pub mod PatternFunction
 pub mod MergeFunction
 pub mod ReduceFunction
+pub mod MergeReducedFunction
 pub mod TextFunction
 pub mod FormFunctions
 pub mod TrayFunctions

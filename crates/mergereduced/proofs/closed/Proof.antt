@@ -1,76 +1,103 @@
--- `closed` meets its contract. Where a step adds nothing, no later one does. Assumes nothing.
-use mathlib.Core.Path.{_≡_, refl, sym, ap, _∙_}
-use Prim.Native.Nat.{_≤_, _-_}
+-- `closed` meets its contract. The loop keeps what proofs/Closure.antt says of the set and of those
+-- whose links are added, which grow by one each time round. Assumes nothing.
+use mathlib.Core.Path.{_≡_, sym, ap, _∙_, subst}
+use mathlib.Core.Bool.{Bool}
+use Prim.Native.Nat.{ℕ, _-_, _<_}
 use native.Mathlib.Omega.{arith}
-use borrow.Author.Needs.{needs}
-use Rattle.masks.specs.Turns.{rank, turns}
+use lib.ListN.{length, set, length-set, length-replicate}
+use Rattle.masks.specs.Turns.{rank}
+use Rattle.delegates.specs.Classes.{firstFrom}
 use Rattle.merging.specs.Merged.{statesOf}
-use Rattle.mergereduced.specs.Asked.{setIn, linkBy, pairArcs, stepOf}
-use Rattle.mergereduced.proofs.Ways.{tabled-small, states-most, turns-done, turns-more}
+use Rattle.mergereduced.specs.Asked.{setIn, linkIn, linkBy, freshIn}
+use Rattle.mergereduced.proofs.Cells.{set-added, set-empty}
+use Rattle.mergereduced.proofs.Ways.{both-small, states-most}
+use Rattle.mergereduced.proofs.Closure.{Kept, kept-first, kept-more, fresh-there, fresh-none, done-less}
 use Rattle.mergereduced.proofs.closed.Statement.{statement}
 use Rattle.mergereduced.proofs.closed.Tie as tie
 
 abbrev Inv-loop : tie.InvT-loop
-Inv-loop forth way n1 n2 t1 t2 n set₀ i₀ set i =
-    (i ≤ n) × (n ≡ statesOf way n1 n2) × (setIn set ≡ turns (stepOf way n1 n2 t1 t2 forth) (setIn set₀) i)
+Inv-loop forth way n1 n2 m1 m2 n set₀ done₀ q₀ set done q =
+    (n ≡ statesOf way n1 n2) × (length done ≡ 1024) × (q ≡ firstFrom (freshIn (setIn set) (setIn done)) 0 n)
+    × Kept (linkBy forth (linkIn way n1 n2 m1 m2)) (statesOf way n1 n2) (setIn set₀) (setIn set) (setIn done)
 
 abbrev μ-loop : tie.MeasureT-loop
-μ-loop forth way n1 n2 t1 t2 n set₀ i₀ set i = n - i
+μ-loop forth way n1 n2 m1 m2 n set₀ done₀ q₀ set done q = n - rank (setIn done) n
 
 states-requires : tie.Need-states-requires Inv-loop μ-loop
-states-requires c κs = tabled-small (c .args .n1) (c .args .n2) (c .args .t1 .now) (c .args .t2 .now) (c .pre .0)
+states-requires c κs = both-small (c .args .n1) (c .args .n2) (c .pre .0)
+
+fresh-requires : tie.Need-fresh-requires Inv-loop μ-loop
+fresh-requires c κs =
+    let a = c .before .before .before .args in
+    omega (arith, c .before .before .states .ensures, states-most (a .way) (a .n1) (a .n2) (c .before .before .before .pre .0))
 
 loop-holds : tie.Need-loop-holds Inv-loop μ-loop
-unfolding turns
-loop-holds c = (omega arith, c .states .ensures, refl)
+loop-holds c =
+    let a = c .before .before .before .before .args in
+    let n = statesOf (a .way) (a .n1) (a .n2) in
+    let link : ℕ → ℕ → Bool = linkBy (a .forth) (linkIn (a .way) (a .n1) (a .n2) (a .m1 .now) (a .m2 .now)) in (
+      c .before .before .before .states .ensures,
+      length-replicate {A = ℕ} 1024 0,
+      c .fresh .ensures,
+      subst (Kept link n (setIn (a .start)) (setIn (a .start))) (sym set-empty) (kept-first link n (setIn (a .start)) (c .before .before .before .before .pre .1)),
+    )
 
-step-requires : tie.Need-step-requires Inv-loop μ-loop
-step-requires c κs = c .before .before .before .before .pre .0
+with-links-requires : tie.Need-with-links-requires Inv-loop μ-loop
+with-links-requires c κs =
+    (c .before .before .before .before .before .before .pre .0, omega (arith, c .loop-test .taken, c .before .loop .inv .0))
 
-count-requires : tie.Need-count-requires Inv-loop μ-loop
-count-requires c κs =
-    let a = c .before .before .before .before .before .before .args in
-    omega (arith, c .before .before .before .before .loop .inv .1, states-most (a .way) (a .n1) (a .n2) (c .before .before .before .before .before .before .pre .0 .sizes))
+array-write-done : tie.Need-array-write-done Inv-loop μ-loop
+array-write-done c =
+    let a = c .before .before .before .before .before .before .before .args in
+    omega (arith, c .before .loop-test .taken, c .before .before .loop .inv .0, states-most (a .way) (a .n1) (a .n2) (c .before .before .before .before .before .before .before .pre .0))
 
-count-requires-2 : tie.Need-count-requires-2 Inv-loop μ-loop
-count-requires-2 c κs =
-    let a = c .before .before .before .before .before .before .before .before .args in
-    omega (arith, c .before .before .before .before .before .before .loop .inv .1, states-most (a .way) (a .n1) (a .n2) (c .before .before .before .before .before .before .before .before .pre .0 .sizes))
-
-returns : tie.Need-returns Inv-loop μ-loop
-returns c =
-    let l = c .before .before .before .before .before .before .before .before .loop in
-    let a = c .before .before .before .before .before .before .before .before .before .before .args in
-    let more = c .before .before .before .before .before .step in
-    turns-done (linkBy (a .forth) (pairArcs (a .way) (a .n1) (a .n2) (a .t1 .now) (a .t2 .now))) (statesOf (a .way) (a .n1) (a .n2)) (setIn (a .start)) (c .before .before .before .before .before .before .before .before .before .before .pre .1) (l .i) (omega (arith, l .inv .0, l .inv .1)) (setIn (l .set)) (setIn (more .result)) (l .inv .2) (more .ensures)
-    (c .before .before .before .count .result)
-    (c .before .count2 .result)
-    (c .before .before .before .count .ensures ∙ ap (rank (setIn (more .result))) (l .inv .1))
-    (c .before .count2 .ensures ∙ ap (rank (setIn (l .set))) (l .inv .1))
-    (c .if1 .taken)
-
-add-i : tie.Need-add-i Inv-loop μ-loop
-add-i c = search needs
+fresh-requires-2 : tie.Need-fresh-requires-2 Inv-loop μ-loop
+fresh-requires-2 c κs =
+    let a = c .before .before .before .before .before .before .before .before .before .args in
+    omega (arith, c .before .before .before .before .loop .inv .0, states-most (a .way) (a .n1) (a .n2) (c .before .before .before .before .before .before .before .before .before .pre .0))
 
 loop-less : tie.Need-loop-less Inv-loop μ-loop
-loop-less c = search needs
+loop-less c =
+    let l = c .before .before .before .before .before .loop in
+    let a = c .before .before .before .before .before .before .before .before .before .before .args in
+    let g = c .before .before .before .before .before .before .before .before .before .before .pre in
+    let n = c .before .before .before .before .before .before .before .before .before .states .result in
+    let t = c .before .before .before .before .loop-test .taken in
+    let h : l .q < 1024 = omega (arith, t, l .inv .0, states-most (a .way) (a .n1) (a .n2) (g .0)) in
+    done-less n (setIn (l .done)) (setIn (set (l .done) (l .q) 1)) (l .q) (set-added (l .done) (l .q) h (l .inv .1)) t
+    (fresh-there n (setIn (l .set)) (setIn (l .done)) (l .q) (l .inv .2) t .1)
 
 loop-again : tie.Need-loop-again Inv-loop μ-loop
 loop-again c =
-    let l = c .before .before .before .before .before .before .before .before .loop in
+    let l = c .before .before .before .before .before .loop in
     let a = c .before .before .before .before .before .before .before .before .before .before .args in
-    let more = c .before .before .before .before .before .step in (
-      omega (arith, c .before .before .before .before .before .before .before .loop-test .taken),
-      l .inv .1,
-      turns-more (stepOf (a .way) (a .n1) (a .n2) (a .t1 .now) (a .t2 .now) (a .forth)) (setIn (a .start)) (l .i) (setIn (l .set)) (setIn (more .result)) (l .inv .2) (more .ensures),
+    let g = c .before .before .before .before .before .before .before .before .before .before .pre in
+    let n = c .before .before .before .before .before .before .before .before .before .states .result in
+    let t = c .before .before .before .before .loop-test .taken in
+    let link : ℕ → ℕ → Bool = linkBy (a .forth) (linkIn (a .way) (a .n1) (a .n2) (a .m1 .now) (a .m2 .now)) in
+    let h : l .q < 1024 = omega (arith, t, l .inv .0, states-most (a .way) (a .n1) (a .n2) (g .0)) in
+    let more = c .before .before .before .with-links in (
+      l .inv .0,
+      length-set (l .done) (l .q) 1 ∙ l .inv .1,
+      c .fresh2 .ensures,
+      kept-more link (statesOf (a .way) (a .n1) (a .n2)) (setIn (a .start)) (g .1) (setIn (l .set)) (setIn (l .done)) (l .inv .3) (l .q) (omega (arith, t, l .inv .0))
+          (fresh-there n (setIn (l .set)) (setIn (l .done)) (l .q) (l .inv .2) t .0)
+          (setIn (more .result))
+          (setIn (set (l .done) (l .q) 1))
+          (more .ensures)
+          (set-added (l .done) (l .q) h (l .inv .1)),
     )
 
-returns-2 : tie.Need-returns-2 Inv-loop μ-loop
-returns-2 c =
+returns : tie.Need-returns Inv-loop μ-loop
+returns c =
     let l = c .before .loop in
-    let a = c .before .before .before .args in
-    let e : l .i ≡ statesOf (a .way) (a .n1) (a .n2) = omega (arith, l .inv .0, l .inv .1, c .loop-test .left) in
-    l .inv .2 ∙ ap (turns (stepOf (a .way) (a .n1) (a .n2) (a .t1 .now) (a .t2 .now) (a .forth)) (setIn (a .start))) e
+    let a = c .before .before .before .before .before .before .args in
+    let g = c .before .before .before .before .before .before .pre in
+    let n = statesOf (a .way) (a .n1) (a .n2) in
+    let link : ℕ → ℕ → Bool = linkBy (a .forth) (linkIn (a .way) (a .n1) (a .n2) (a .m1 .now) (a .m2 .now)) in
+    let is : l .q ≡ firstFrom (freshIn (setIn (l .set)) (setIn (l .done))) 0 n =
+    l .inv .2 ∙ ap (firstFrom (freshIn (setIn (l .set)) (setIn (l .done))) 0) (l .inv .0) in
+    fresh-none n (setIn (l .set)) (setIn (l .done)) (l .q) is link (setIn (a .start)) (omega (arith, c .loop-test .left, l .inv .0)) (g .1) (l .inv .3)
 
 pub closed-spec : {M : Type 1} → statement M
 closed-spec =
@@ -79,12 +106,11 @@ closed-spec =
     Inv-loop
     μ-loop
     states-requires
+    fresh-requires
     loop-holds
-    step-requires
-    count-requires
-    count-requires-2
-    returns
-    add-i
+    with-links-requires
+    array-write-done
+    fresh-requires-2
     loop-less
     loop-again
-    returns-2)
+    returns)

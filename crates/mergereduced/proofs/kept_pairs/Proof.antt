@@ -1,5 +1,7 @@
 -- `kept_pairs` meets its contract. Assumes nothing.
-use Rattle.mergereduced.proofs.Ways.{tabled, initial-small, final-small, kept-made}
+use Rattle.mergereduced.proofs.Ways.{sized, initial-small, final-small}
+use Rattle.mergereduced.proofs.Links.{kept-made}
+use Rattle.mergereduced.specs.Asked.{setIn}
 use borrow.Author.Needs.{needs}
 use Rattle.mergereduced.proofs.kept_pairs.Statement.{statement}
 use Rattle.mergereduced.proofs.kept_pairs.Tie as tie
@@ -10,6 +12,12 @@ cast-n1 c = search needs
 cast-n2 : tie.Need-cast-n2
 cast-n2 c = search needs
 
+symbols-of-requires : tie.Need-symbols-of-requires
+symbols-of-requires c κs = search needs
+
+symbols-of-requires-2 : tie.Need-symbols-of-requires-2
+symbols-of-requires-2 c κs = search needs
+
 start-of-requires : tie.Need-start-of-requires
 start-of-requires c κs = search needs
 
@@ -17,16 +25,32 @@ start-of-requires-2 : tie.Need-start-of-requires-2
 start-of-requires-2 c κs = search needs
 
 closed-requires : tie.Need-closed-requires
-closed-requires c κs = search (needs, tabled, initial-small)
+closed-requires c κs = search (needs, sized, initial-small)
 
 closed-requires-2 : tie.Need-closed-requires-2
-closed-requires-2 c κs = search (needs, tabled, final-small)
+closed-requires-2 c κs = search (needs, sized, final-small)
 
 both-of-requires : tie.Need-both-of-requires
 both-of-requires c κs = search needs
 
 returns : tie.Need-returns
-returns c = search (needs, kept-made)
+returns c =
+    let a = c .before .before .before .before .before .before .before .before .before .before .before .before .before .before .before .before .before .before .before .args in
+    let g = c .before .before .before .before .before .before .before .before .before .before .before .before .before .before .before .before .before .before .before .pre in
+    let m1 = c .before .before .before .before .before .before .before .before .before .before .before .before .before .symbols-of in
+    let m2 = c .before .before .before .before .before .before .before .before .before .before .before .symbols-of2 in
+    let i = c .before .before .before .before .before .before .before .before .before .before .start-of in
+    let f = c .before .before .before .before .before .before .before .before .before .start-of2 in
+    let x = c .before .before .before .before .before .before .closed in
+    let y = c .before .before .before .closed2 in
+    kept-made (a .way) (a .one) (a .two) (g .0) (g .1) (m1 .result) (m2 .result) (setIn (i .result)) (setIn (f .result)) (setIn (x .result)) (setIn (y .result)) (setIn (c .both-of .result))
+    (m1 .ensures)
+    (m2 .ensures)
+    (i .ensures)
+    (f .ensures)
+    (x .ensures)
+    (y .ensures)
+    (c .both-of .ensures)
 
 pub kept-pairs-spec : {M : Type 1} → statement M
 kept-pairs-spec =
@@ -34,6 +58,8 @@ kept-pairs-spec =
     (tie.spec
     cast-n1
     cast-n2
+    symbols-of-requires
+    symbols-of-requires-2
     start-of-requires
     start-of-requires-2
     closed-requires

@@ -1,5 +1,5 @@
 -- `paired` meets its contract. Assumes nothing.
-use Rattle.mergereduced.proofs.Ways.{sized, states-most, paired-low, few-there, paired-many, paired-made}
+use Rattle.mergereduced.proofs.Ways.{sized, paired-low, few-there, paired-many, paired-made}
 use borrow.Author.Needs.{needs}
 use Rattle.mergereduced.proofs.paired.Statement.{statement}
 use Rattle.mergereduced.proofs.paired.Tie as tie

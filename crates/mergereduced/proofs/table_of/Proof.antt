@@ -6,16 +6,16 @@ use lib.ListN.{length, getD, length-set, length-replicate}
 use borrow.Author.Needs.{needs}
 use Rattle.base.proofs.Lists.{is-listFrom, cell-stored}
 use Rattle.merging.specs.Merged.{targetsOf}
-use Rattle.mergereduced.specs.Asked.{setIn, cellIn}
+use Rattle.mergereduced.specs.Asked.{cellIn}
 use Rattle.mergereduced.proofs.table_of.Statement.{statement}
 use Rattle.mergereduced.proofs.table_of.Tie as tie
 
 abbrev Inv-loop : tie.InvT-loop
-Inv-loop way n1 n2 t1 t2 set n c table₀ cell₀ table cell =
-    (length table ≡ 512) × (cell ≤ 512) × ((i : ℕ) → i < cell → getD table i 0 ≡ cellIn n (targetsOf way n1 n2 t1 t2) (setIn set) i)
+Inv-loop way n1 n2 t1 t2 list c table₀ cell₀ table cell =
+    (length table ≡ 512) × (cell ≤ 512) × ((i : ℕ) → i < cell → getD table i 0 ≡ cellIn (targetsOf way n1 n2 t1 t2) list c i)
 
 abbrev μ-loop : tie.MeasureT-loop
-μ-loop way n1 n2 t1 t2 set n c table₀ cell₀ table cell = 512 - cell
+μ-loop way n1 n2 t1 t2 list c table₀ cell₀ table cell = 512 - cell
 
 loop-holds : tie.Need-loop-holds Inv-loop μ-loop
 loop-holds c = (length-replicate {A = ℕ} 512 0, omega arith, λ i l. absurd (omega arith))
@@ -39,7 +39,7 @@ loop-again : tie.Need-loop-again Inv-loop μ-loop
 loop-again c =
     let x = c .before .before .loop in
     let a = c .before .before .before .args in
-    let g : ℕ → ℕ = cellIn (a .n) (targetsOf (a .way) (a .n1) (a .n2) (a .t1 .now) (a .t2 .now)) (setIn (a .set .now)) in
+    let g : ℕ → ℕ = cellIn (targetsOf (a .way) (a .n1) (a .n2) (a .t1 .now) (a .t2 .now)) (a .list .now) (a .c) in
     let l : x .cell < length (x .table) = omega (arith, x .inv .0, c .before .loop-test .taken) in (
       length-set (x .table) (x .cell) (c .cell-of .result) ∙ x .inv .0,
       omega (arith, c .before .loop-test .taken),
@@ -51,7 +51,7 @@ returns c =
     let x = c .before .loop in
     let a = c .before .before .args in
     let e : x .cell ≡ 512 = omega (arith, x .inv .1, c .loop-test .left) in
-    is-listFrom (x .table) 512 (cellIn (a .n) (targetsOf (a .way) (a .n1) (a .n2) (a .t1 .now) (a .t2 .now)) (setIn (a .set .now))) (x .inv .0)
+    is-listFrom (x .table) 512 (cellIn (targetsOf (a .way) (a .n1) (a .n2) (a .t1 .now) (a .t2 .now)) (a .list .now) (a .c)) (x .inv .0)
     (λ i l. x .inv .2 i (omega arith))
 
 pub table-of-spec : {M : Type 1} → statement M
