@@ -5,6 +5,7 @@
 --   Form, Table                   the form and the table as values         forms/src/lib.rt
 --   cell, equalCells              a cell; in how many symbols two sets agree   forms/specs/Form
 --   failureOf, keptMask, formOf   the failure set, the mask, the form      forms/specs/Form
+--   differences, bits             in how many symbols two sets differ; how many bits a mask has   forms/specs/Claims
 --   rank, keptCount               where a kept cell stands; how many       forms/specs/Back
 --   backNumber, tableOf, backOf   what the way back answers                forms/specs/Back
 --   noTable                       zeros                                    forms/specs/Back
@@ -27,7 +28,7 @@ use mathlib.Core.Logic.{_↔_, _⊎_, ⊎-elim}
 use mathlib.Core.Bool.{cond}
 use mathlib.Core.List.{List, [], _∷_, _++_, flatten}
 use mathlib.Core.Option.{Option, none, some}
-use Prim.Native.Nat.{ℕ, _≤_, _<_}
+use Prim.Native.Nat.{ℕ, _+_, _≤_, _<_}
 use lib.ListN.{length, getD}
 use Rattle.limits.specs.Limits.{mostSymbols, mostSets}
 use Rattle.masks.specs.Masks.{_∈_, has}
@@ -43,7 +44,7 @@ use Rattle.forms.specs.declared.FormResult.{FormResult}
 use Rattle.forms.specs.declared.BackResult.{BackResult}
 use Rattle.forms.specs.Form.{cell, equalCells, failureOf, keptMask, formOf}
 use Rattle.forms.specs.Back.{rank, keptCount, backNumber, tableOf, noTable, backBy, backOutcome, backOf}
-use Rattle.forms.specs.Claims.{IsTable, Wrong, many-sets, many-symbols, Alike}
+use Rattle.forms.specs.Claims.{differences, bits, IsTable, Wrong, many-sets, many-symbols, Alike}
 use Rattle.forms.proofs.Claims as forms
 use Rattle.formmaker.specs.Making.{noForm, madeOutcome, madeOf}
 use Rattle.formtrip.specs.Claims.{tableIn}
@@ -95,6 +96,17 @@ most-equal = forms.claims .most
 
 pub lowest-on-ties : (k t u : ℕ) (l : List ℕ) → u < failureOf l k t → equalCells l k t u < equalCells l k t (failureOf l k t)
 lowest-on-ties = forms.claims .lowest
+
+-- In other words: no lower-numbered set differs from set t in fewer symbols than t's mask has bits, and
+-- each that is below its failure set differs in more:
+pub fewest : (k t u : ℕ) (l : List ℕ) → k ≤ mostSymbols → u < t → bits (keptMask l k t) ≤ differences l k t u
+fewest = forms.claims .fewest
+
+pub lowest-fewest : (k t u : ℕ) (l : List ℕ) → k ≤ mostSymbols → u < failureOf l k t → bits (keptMask l k t) < differences l k t u
+lowest-fewest = forms.claims .lowest-fewest
+
+pub not-different : (k t u : ℕ) (l : List ℕ) → equalCells l k t u + differences l k t u ≡ k
+not-different = forms.claims .not-different
 
 -- The form has this failure set for each set:
 pub failure-in-form : (n k t : ℕ) (l : List ℕ) → n ≤ mostSets → t < n → getD (formOf n k l .failure) t 0 ≡ failureOf l k t
