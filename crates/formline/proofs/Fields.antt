@@ -5,6 +5,7 @@
 --   goes-on    it says something: what is made of the rest
 --   no-cells, many-sets, many-symbols, all-held   the ways out of `with_masks`
 use mathlib.Core.Path.{_≡_, refl, sym, ap, ap₂, _∙_}
+use mathlib.Core.Logic.{_⊎_, inl, inr}
 use mathlib.Core.Bool.{Bool, true, false, cond, _&&_}
 use mathlib.Core.List.{List}
 use mathlib.Core.Option.{Option, none, some}
@@ -14,6 +15,7 @@ use lib.Dec.{ltb}
 use lib.ListN.{length, take, drop, length-drop}
 use lib.Seq.{take-all}
 use borrow.Author.Tests.{lt-ltb, le-ltb}
+use Rattle.base.proofs.Tests.{by-test}
 use Rattle.lines.specs.Splitting.{upTo, past}
 use Rattle.lines.proofs.Splits.{up-take, past-there, past-none}
 use Rattle.wordfields.specs.Words.{wordsMean}
@@ -92,6 +94,11 @@ module _ (n k : ℕ) (a b : List ℕ) (o : Option (List ℕ)) where
         let z : both ≡ says (record { sets = n; symbols = k; failure = a; kept = b; cells = l }) =
         rw (lt-ltb n 65536 (omega arith), lt-ltb k 256 (omega arith)) in
         sym z ∙ held
+
+pub too-great : (f : Form) → (65535 < f .sets) ⊎ (255 < f .symbols) → heldOf (some f) ≡ tooGreat noForm
+too-great f (inl h) = rw (le-ltb (f .sets) 65536 (omega arith))
+too-great f (inr h) =
+    by-test (ltb (f .sets) 65536) (λ t. rw (t, le-ltb (f .symbols) 256 (omega arith))) (λ t. rw t)
 
 -- numbers that were read, or not
 pub words-known : (known : Bool) (words : List ℕ) → known ≡ true → wordsMean known words ≡ some words

@@ -5,16 +5,18 @@
 --   lineOf f   the line of the form f: its numbers of sets and symbols, then all of its failure
 --              sets, masks and cells, with a space between the fields
 use mathlib.Core.Path.{_≡_}
+use mathlib.Core.Logic.{_⊎_}
 use mathlib.Core.List.{List, _∷_, _++_}
 use mathlib.Core.Option.{none, some}
-use Prim.Native.Nat.{ℕ, _≤_}
+use Prim.Native.Nat.{ℕ, _≤_, _<_}
 use lib.ListN.{length}
 use Rattle.limits.specs.Limits.{mostSets, tableCells, largestNumber}
 use Rattle.text.specs.Numerals.{decimal}
 use Rattle.fields.specs.Claims.{fieldOf}
 use Rattle.wordfields.specs.Claims.{AllWords, bytesOf}
 use Rattle.forms.specs.declared.Form.{Form}
-use Rattle.formline.specs.Lines.{failureIn, lineIn, longestLine}
+use Rattle.formmaker.specs.Making.{noForm}
+use Rattle.formline.specs.Lines.{failureIn, lineIn, longestLine, tooGreat, heldOf}
 use Rattle.formline.specs.Worked.{WorkedLine}
 
 pub record Fits (f : Form) : Type 0 where
@@ -39,6 +41,8 @@ pub record Claims : Type 0 where
   pub worked-line : WorkedLine
   -- every form that fits has a line, and the line says this form
   pub line-round-trip : (f : Form) → Fits f → lineIn (lineOf f) ≡ some f
+  -- a number that is too great for a form as a value: zeros beside it
+  pub too-great : (f : Form) → (65535 < f .sets) ⊎ (255 < f .symbols) → heldOf (some f) ≡ tooGreat noForm
   -- a line that says a form has at most so many bytes
   pub bounded : (w : List ℕ) (f : Form) → lineIn w ≡ some f → length w ≤ longestLine
   -- what follows SETS and SYMBOLS is malformed beside all numbers, or beside none

@@ -1,7 +1,7 @@
 -- The failure forms of the rules of document 01. Rule A has five sets and two symbols: set 3 has no
 -- cell equal to one of a lower set, so its failure set is the lowest; set 4 has an empty cell equal
--- to set 3's. Rule B has four sets and one symbol: sets 2 and 3 have the cell of set 1, which is less
--- than that of set 0, and set 3 takes the lower of the two that have it. Assumes nothing.
+-- to set 3's. Rule B has four sets and one symbol: sets 2 and 3 have the cell of set 1, which is
+-- less than that of set 0, and set 3 takes the lower of the two that have it. Assumes nothing.
 use mathlib.Core.Path.{_≡_, refl}
 use mathlib.Core.List.{List, [], _∷_, _++_}
 use Prim.Native.Nat.{ℕ}

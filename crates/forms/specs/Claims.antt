@@ -67,8 +67,8 @@ pub record Claims : Type 0 where
   pub most : (k t u : ℕ) (l : List ℕ) → u < t → equalCells l k t u ≤ equalCells l k t (failureOf l k t)
   pub lowest : (k t u : ℕ) (l : List ℕ) → u < failureOf l k t → equalCells l k t u < equalCells l k t (failureOf l k t)
   -- in other words: two sets are equal in the symbols in which they do not differ; a set above 0
-  -- keeps as many cells as it differs in from its failure set; no set below it differs in fewer, and
-  -- one below its failure set in more
+  -- keeps as many cells as it differs in from its failure set; no set below it differs in fewer,
+  -- and one below its failure set in more
   pub not-different : (k t u : ℕ) (l : List ℕ) → equalCells l k t u + differences l k t u ≡ k
   pub kept-differ : (k t : ℕ) (l : List ℕ) → k ≤ mostSymbols → 0 < t → bits (keptMask l k t) ≡ differences l k t (failureOf l k t)
   pub fewest : (k t u : ℕ) (l : List ℕ) → k ≤ mostSymbols → u < t → bits (keptMask l k t) ≤ differences l k t u

@@ -7,8 +7,8 @@
 --   twice            `a|a`: the same letter is two positions, and two states
 --   letters n        the letter a so many times
 --   starred n        the letter a so many times, and stars up to 128 bytes in all
---   chain            of 31 letters and stars: a state leads to the next, the last one to itself, and
---                    the last two are final
+--   chain            of 31 letters and stars: a state leads to the next, the last one to itself,
+--                    and the last two are final
 --   case b o f       the bytes b, their number, none where they are accepted, and their file
 --   patterns         the list
 --   Answered cases   each pattern has the number and the file beside it

@@ -45,8 +45,8 @@ pub record Claims : Type 0 where
   pub initial : (p : Pattern) (q : ℕ) → (q ∈ positionRule p .initials) ↔ (q ≡ 0)
   pub arc-letter : (p : Pattern) → Few p → (q s i : ℕ) → Arc (automatonOf (positionRule p)) q s i → Letter p i s
   -- exactly: there is an arc from q by s to i where the i-th letter is s, and a text begins with
-  -- position i and q is 0, or i comes right after q; a state is final where a text ends with it, and
-  -- state 0 where the empty text is one
+  -- position i and q is 0, or i comes right after q; a state is final where a text ends with it,
+  -- and state 0 where the empty text is one
   pub arc : (p : Pattern) (b : List ℕ) → StandsFor p b → Few p → (q s i : ℕ)
       → Arc (automatonOf (positionRule p)) q s i ↔ (Letter p i s × (((q ≡ 0) × Begins p i) ⊎ Comes p q i))
   pub final : (p : Pattern) (q : ℕ) → (q ∈ positionRule p .finals) ↔ (Ends p q ⊎ ((q ≡ 0) × Matches p []))

@@ -1,4 +1,5 @@
--- What is claimed of the answer, for rules worked by hand, for every rule and either wish; proofs/Claims.antt proves it.
+-- What is claimed of the answer, for rules worked by hand, for every rule and either wish;
+-- proofs/Claims.antt proves it.
 --
 --   Refused-exactly r wish   which number the rule is refused with, condition by condition
 use mathlib.Core.Path.{_≡_}

@@ -1,5 +1,5 @@
--- Every list of 16-bit numbers has a field, and reading the field gives the numbers again, with zeros
--- after them; proofs/RoundTrip.antt proves it.
+-- Every list of 16-bit numbers has a field, and reading the field gives the numbers again, with
+-- zeros after them; proofs/RoundTrip.antt proves it.
 --
 --   AllWords l    each member of l is a 16-bit number
 --   bytesOf l     the numbers l as bytes: two a number, the low one first
