@@ -44,6 +44,10 @@ use Rattle.maketextstream.specs.Claims.{Blocks}
 use Rattle.maketextstream.proofs.Claims as maketextstream
 use Rattle.requests.specs.TextFunction.{AsksText, MayMake}
 
+-- The limits that are named below:
+pub limits : (mostSymbols ≡ 16) × (longestChunk ≡ 65536) × (largestNumber ≡ 18446744073709551615)
+limits = (refl, refl, refl)
+
 -- "Also make test texts of a given length: Marsaglia's 64-bit xorshift with shifts 13 left, 7 right, 17
 -- left, each new value modulo k being a symbol."
 -- The three steps, each a value and its shift, bit by bit where they differ:

@@ -25,7 +25,7 @@
 --
 -- h is any list of calls, the last first. A proved function ends and stays within its bounds. Assumes
 -- nothing.
-use mathlib.Core.Path.{_≡_}
+use mathlib.Core.Path.{_≡_, refl}
 use mathlib.Core.Logic.{_↔_, _⊎_}
 use mathlib.Core.Bool.{false}
 use mathlib.Core.List.{List, [], _∷_, _++_, flatten}
@@ -46,7 +46,7 @@ use Rattle.build.specs.Building.{builtOf}
 use Rattle.calls.specs.Calls.{installNumber}
 use Rattle.histories.specs.Method.{Method}
 use Rattle.trays.specs.declared.Tray.{Tray}
-use Rattle.trays.specs.Sizes.{mostWidth, mostBands}
+use Rattle.trays.specs.Sizes.{mostWidth, mostBands, mostRows}
 use Rattle.trays.specs.Rows.{columnOf, AllAccepted}
 use Rattle.trays.specs.Replies.{Reply, refused, waiting, saysYes, saysNo, refusedWith, refusalOf}
 use Rattle.trays.specs.Calls.{Call, installsRow, installsColumn, opens, delivers}
@@ -73,6 +73,10 @@ use Rattle.c_trays.specs.Claims as c-claims
 use Rattle.c_trays.proofs.ReadBack as c-trays
 use Rattle.requests.specs.TrayFunctions.{MayInstallRow, MayInstallColumn, MayOpen, MayDeliver, MayWithdraw, MayJudge, trayLibraryOfC}
 use Rattle.requests.proofs.TrayFunctions as functions
+
+-- The limits that are named below:
+pub limits : (mostWidth ≡ 16) × (mostBands ≡ 8) × (mostRows ≡ 64) × (idleMark ≡ 255)
+limits = (refl, refl, refl, refl)
 
 -- ---- ALL OF IT
 -- "Over every list of a tray's calls the verdict is this one, with bands in the part of chunks; revisions
