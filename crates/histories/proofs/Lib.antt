@@ -17,6 +17,7 @@ pub mod CountBound
 pub mod FormerStarts
 pub mod Orders
 pub mod Revisions
+pub mod Last
 pub mod Fewest
 pub mod TwoRules
 pub mod TableP

@@ -8,5 +8,6 @@ pub mod Clauses
 pub mod Refusing
 pub mod Changing
 pub mod EveryList
+pub mod Last
 pub mod Refinement
 pub mod Examples
