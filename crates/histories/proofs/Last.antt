@@ -178,7 +178,7 @@ board-kept h (delivers p v w) n = refl
 board-kept h (withdraws p) n = refl
 board-kept h asksVerdict n = refl
 
-places-set : (h : List Call) (c : Call) → Begins c → Accepted h c → placesIn (c ∷ h) ≡ board-said (λ n. n) 0 c
+pub places-set : (h : List Call) (c : Call) → Begins c → Accepted h c → placesIn (c ∷ h) ≡ board-said (λ n. n) 0 c
 unfolding placesIn
 places-set h (installs r) k a = sets-it (install-is h r) 0 (placesIn h) a
 places-set h (loads f) k a = sets-it (load-is h f) 0 (placesIn h) a
@@ -187,7 +187,7 @@ places-set h (delivers p v w) k a = absurd k
 places-set h (withdraws p) k a = absurd k
 places-set h asksVerdict k a = absurd k
 
-places-kept : (h : List Call) (c : Call) → (Begins c → Accepted h c → ⊥) → placesIn (c ∷ h) ≡ placesIn h
+pub places-kept : (h : List Call) (c : Call) → (Begins c → Accepted h c → ⊥) → placesIn (c ∷ h) ≡ placesIn h
 unfolding placesIn
 places-kept h (installs r) n = keeps-it (install-is h r) 0 (placesIn h) (n tt)
 places-kept h (loads f) n = keeps-it (load-is h f) 0 (placesIn h) (n tt)
@@ -253,7 +253,7 @@ module _ (p : ℕ) where
   revision-kept h (withdraws q) n = refl
   revision-kept h asksVerdict n = refl
 
-  chunk-set : (h : List Call) (c : Call) → Touches p c → Accepted h c → standing (c ∷ h) p ≡ place-said (λ v w. w) c
+  pub chunk-set : (h : List Call) (c : Call) → Touches p c → Accepted h c → standing (c ∷ h) p ≡ place-said (λ v w. w) c
   unfolding standing
   chunk-set h (installs r) k a = sets-it (install-is h r) none (standing h p) a
   chunk-set h (loads f) k a = sets-it (load-is h f) none (standing h p) a
@@ -262,7 +262,7 @@ module _ (p : ℕ) where
   chunk-set h (withdraws q) k a = sets-at (withdraw-is h q) none (standing h p) p q k a
   chunk-set h asksVerdict k a = absurd k
 
-  chunk-kept : (h : List Call) (c : Call) → (Touches p c → Accepted h c → ⊥) → standing (c ∷ h) p ≡ standing h p
+  pub chunk-kept : (h : List Call) (c : Call) → (Touches p c → Accepted h c → ⊥) → standing (c ∷ h) p ≡ standing h p
   unfolding standing
   chunk-kept h (installs r) n = keeps-it (install-is h r) none (standing h p) (n tt)
   chunk-kept h (loads f) n = keeps-it (load-is h f) none (standing h p) (n tt)

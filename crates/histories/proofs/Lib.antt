@@ -18,6 +18,7 @@ pub mod FormerStarts
 pub mod Orders
 pub mod Revisions
 pub mod Last
+pub mod Empties
 pub mod Fewest
 pub mod TwoRules
 pub mod TableP

@@ -172,7 +172,7 @@ board-said (delivers p b) = none
 board-said (withdraws p) = none
 board-said asksVerdict = none
 
-board-set : (h : List Call) (c : Call) → Begins c → Accepted h c → boardThere (c ∷ h) ≡ board-said c
+pub board-set : (h : List Call) (c : Call) → Begins c → Accepted h c → boardThere (c ∷ h) ≡ board-said c
 unfolding boardThere
 board-set h (installsRow r) k a = sets-it (row-is h r) none (boardThere h) a
 board-set h (installsColumn r) k a = sets-it (column-is h r) none (boardThere h) a
@@ -181,7 +181,7 @@ board-set h (delivers p b) k a = absurd k
 board-set h (withdraws p) k a = absurd k
 board-set h asksVerdict k a = absurd k
 
-board-kept : (h : List Call) (c : Call) → (Begins c → Accepted h c → ⊥) → boardThere (c ∷ h) ≡ boardThere h
+pub board-kept : (h : List Call) (c : Call) → (Begins c → Accepted h c → ⊥) → boardThere (c ∷ h) ≡ boardThere h
 unfolding boardThere
 board-kept h (installsRow r) n = keeps-it (row-is h r) none (boardThere h) (n tt)
 board-kept h (installsColumn r) n = keeps-it (column-is h r) none (boardThere h) (n tt)
@@ -220,7 +220,7 @@ band-said (withdraws p) = none
 band-said asksVerdict = none
 
 module _ (p : ℕ) where
-  band-set : (h : List Call) (c : Call) → Touches p c → Accepted h c → standing (c ∷ h) p ≡ band-said c
+  pub band-set : (h : List Call) (c : Call) → Touches p c → Accepted h c → standing (c ∷ h) p ≡ band-said c
   unfolding standing
   band-set h (installsRow r) k a = sets-it (row-is h r) none (standing h p) a
   band-set h (installsColumn r) k a = sets-it (column-is h r) none (standing h p) a
@@ -229,7 +229,7 @@ module _ (p : ℕ) where
   band-set h (withdraws q) k a = sets-at (withdraw-is h q) none (standing h p) p q k a
   band-set h asksVerdict k a = absurd k
 
-  band-kept : (h : List Call) (c : Call) → (Touches p c → Accepted h c → ⊥) → standing (c ∷ h) p ≡ standing h p
+  pub band-kept : (h : List Call) (c : Call) → (Touches p c → Accepted h c → ⊥) → standing (c ∷ h) p ≡ standing h p
   unfolding standing
   band-kept h (installsRow r) n = keeps-it (row-is h r) none (standing h p) (n tt)
   band-kept h (installsColumn r) n = keeps-it (column-is h r) none (standing h p) (n tt)

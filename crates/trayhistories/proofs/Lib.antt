@@ -9,5 +9,6 @@ pub mod Refusing
 pub mod Changing
 pub mod EveryList
 pub mod Last
+pub mod Empties
 pub mod Refinement
 pub mod Examples
