@@ -19,6 +19,7 @@ pub mod Orders
 pub mod Revisions
 pub mod Last
 pub mod Empties
+pub mod NoOther
 pub mod Fewest
 pub mod TwoRules
 pub mod TableP

@@ -10,5 +10,6 @@ pub mod Changing
 pub mod EveryList
 pub mod Last
 pub mod Empties
+pub mod NoOther
 pub mod Refinement
 pub mod Examples
