@@ -71,7 +71,7 @@ Foreign-exactly = (w : List ℕ) (k : ℕ) → (foreign (textOf w) k ≡ true) �
 pub record MarksSkipped (j : Judge) (p v : ℕ) (w : List ℕ) : Type 0 where
   -- a chunk within the limit: the same reply and the same judge with and without its idle marks
   pub within : length w ≤ longestChunk → stepOf j (delivers p v w) ≡ stepOf j (delivers p v (textOf w))
-  -- "Chunk length limits still count every byte": a longer one is refused with 12 or an earlier number,
-  -- whatever its text, and nothing changes
+  -- "Chunk length limits still count every byte": a longer one is refused with 12 or an earlier
+  -- number, whatever its text, and nothing changes
   pub too-long : longestChunk < length w
       → (x : ℕ) × (stepOf j (delivers p v w) ≡ record { reply = refused x; state = j }) × ((x ≡ 21) ⊎ (x ≡ 11) ⊎ (x ≡ 12))

@@ -1,9 +1,9 @@
 -- What a list of calls comes to where only the last accepted call of a kind tells. Assumes nothing.
 --
--- f is what the list comes to: an accepted call of the kind P sets it, to what it says, and no other
--- call changes it. Then f is what the last accepted call of that kind says (`last-says`), or as at the
--- beginning where there is none; so it is a value other than that exactly where the last one says it
--- (`last-law`). By induction over the calls made later, and over the list.
+-- f is what the list comes to: an accepted call of the kind P sets it, to what it says, and no
+-- other call changes it. Then f is what the last accepted call of that kind says (`last-says`), or
+-- as at the beginning where there is none; so it is a value other than that exactly where the last
+-- one says it (`last-law`). By induction over the calls made later, and over the list.
 use mathlib.Core.Path.{_≡_, refl, sym, ap, _∙_, subst, subst₂}
 use mathlib.Core.Logic.{_↔_, _⊎_, inl, inr, ⊎-elim}
 use mathlib.Core.List.{List, [], _∷_, _++_}

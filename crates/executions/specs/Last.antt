@@ -1,7 +1,7 @@
 -- The last accepted call of a kind (document 01: "the last accepted load", "the last accepted call
 -- among loads and openings"), in a list of calls to any machine and whatever accepted means there.
--- The list is cut in two at the call; nothing goes through it call by call. A list has the LAST call
--- first.
+-- The list is cut in two at the call; nothing goes through it call by call. A list has the LAST
+-- call first.
 --
 --   LastAccepted Accepted P h c earlier   in the list h, after the calls `earlier`, the call c was
 --                                         made, it is of the kind P and was accepted, and no call

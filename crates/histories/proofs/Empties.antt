@@ -1,5 +1,5 @@
--- The number of empty places call by call, as specs/Empties.antt says. A call at a place changes one
--- term of the sum. Assumes nothing.
+-- The number of empty places call by call, as specs/Empties.antt says. A call at a place changes
+-- one term of the sum. Assumes nothing.
 use mathlib.Core.Path.{_≡_, refl, sym, ap, _∙_}
 use mathlib.Core.Logic.{⊎-elim}
 use mathlib.Core.Bool.{true, false, cond}

@@ -134,8 +134,7 @@ no-rule-yet r e = none-some refl e
 pub last-rule : (h : List Call) → LastRule h
 last-rule h r =
     Iff·trans
-    (executions.last-law Accepted Rules ruleThere rule-said rule-set rule-kept rules? accepted? h (some r) (no-rule-yet r))
-    (
+    (executions.last-law Accepted Rules ruleThere rule-said rule-set rule-kept rules? accepted? h (some r) (no-rule-yet r)) (
       (λ x. to (x .0) (x .1) (x .2) (x .3)),
       ⊎-elim (λ x. (installs r, x .0, x .1, refl)) (λ x. (loads (x .0), x .1, x .2, ap some (x .3))),
     )

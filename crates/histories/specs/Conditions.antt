@@ -3,10 +3,10 @@
 -- the lists of crates/calls. proofs/Conditions.antt proves it.
 --
 --   Accepted-exactly, Refused-exactly   the calls but the verdict, condition by condition
---   numbersOf c        the numbers that document 01 gives to the call c ("Order: open 20, 10. Deliver
---                      .."; of an installation document 02, R-3), the verdict among them
---   No-other-number    "A number is returned when its condition holds .., never otherwise": a call is
---                      refused with none but these. proofs/NoOther.antt proves it
+--   numbersOf c        the numbers that document 01 gives to the call c ("Order: open 20, 10.
+--                      Deliver 21, .."; to an installation document 02, R-3), the verdict's too
+--   No-other-number    "A number is returned when its condition holds .., never otherwise": a call
+--                      is refused with none but these. proofs/NoOther.antt proves it
 use mathlib.Core.Path.{_≡_}
 use mathlib.Core.Logic.{_↔_, _⊎_}
 use mathlib.Core.Bool.{true, false}

@@ -1,7 +1,7 @@
 -- The number of empty places, call by call (document 01, "The board and its calls"): by equations
 -- between the number after a call and the number before it, where `emptiesIn` of specs/History.antt
 -- counts the places at which nothing stands. proofs/Empties.antt proves that `emptiesIn` is that
--- number; there is one such number for every list.
+-- number.
 --
 --   EmptyPlaces empties   empties h is the number of empty places after the calls h
 use mathlib.Core.Path.{_≡_}

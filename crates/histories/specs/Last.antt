@@ -1,12 +1,12 @@
--- Document 01's sentences on the last accepted call: "A rule is there once a load was accepted, and it
--- is that of the last accepted load. A board is there exactly when the last accepted call among loads
--- and openings is an opening. A standing chunk is the one last accepted at its place since that
--- opening, and not withdrawn since." Here they stand over the list cut in two at that call, where
--- specs/History.antt goes through the list; proofs/Last.antt proves that both say the same. Of the
--- state nothing is named but which calls are accepted, by the answers.
+-- Document 01's sentences on the last accepted call: "A rule is there once a load was accepted, and
+-- it is that of the last accepted load. A board is there exactly when the last accepted call among
+-- loads and openings is an opening. A standing chunk is the one last accepted at its place since
+-- that opening, and not withdrawn since." Here they stand over the list cut in two at that call,
+-- where specs/History.antt goes through the list; proofs/Last.antt proves that both say the same.
+-- Of the state nothing is named but which calls are accepted, by the answers.
 --
 --   Accepted h c      after the calls h the call c is accepted: it is answered with no refusal
---   Last P h c e      c is the last accepted call of the kind P in the list h, made after the calls e
+--   Last P h c e      c is the last accepted call of the kind P in the list h, after the calls e
 --   Rules c           c is a load or an installation, which takes a load's part (document 02, R-3)
 --   Begins c          c is a load, an installation or an opening
 --   AtPlace p c       it is one of these, or a delivery at place p

@@ -1,7 +1,7 @@
--- The number of empty bands, call by call (document 02, R-13: "waiting as on a board"): by equations
--- between the number after a call and the number before it, where `emptiesIn` of specs/History.antt
--- counts the bands at which nothing stands. proofs/Empties.antt proves that `emptiesIn` is that
--- number; there is one such number for every list.
+-- The number of empty bands, call by call (document 02, R-13: "waiting as on a board"): by
+-- equations between the number after a call and the number before it, where `emptiesIn` of
+-- specs/History.antt counts the bands at which nothing stands. proofs/Empties.antt proves that
+-- `emptiesIn` is that number.
 --
 --   EmptyBands empties   empties h is the number of empty bands after the calls h
 use mathlib.Core.Path.{_≡_}

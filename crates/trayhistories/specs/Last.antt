@@ -1,17 +1,17 @@
--- Document 01's sentences on the last accepted call, of a tray (document 02, R-13): a rule is that of
--- the last accepted installation of its kind, a board that of the last accepted call among
+-- Document 01's sentences on the last accepted call, of a tray (document 02, R-13): a rule is that
+-- of the last accepted installation of its kind, a board that of the last accepted call among
 -- installations and openings where this is an opening, and what stands at a band is what was last
--- accepted there since that opening, and not withdrawn since. Here they stand over the list cut in two
--- at that call, where specs/History.antt goes through the list; proofs/Last.antt proves that both say
--- the same. Of the state nothing is named but which calls are accepted, by the answers.
+-- accepted there since that opening, and not withdrawn since. Here they stand over the list cut in
+-- two at that call, where specs/History.antt goes through the list; proofs/Last.antt proves that
+-- both say the same. Of the state nothing is named but which calls are accepted, by the answers.
 --
 --   Accepted h c      after the calls h the call c is accepted: it is answered with no refusal
---   Last P h c e      c is the last accepted call of the kind P in the list h, made after the calls e
+--   Last P h c e      c is the last accepted call of the kind P in the list h, after the calls e
 --   RowRules c, ColumnRules c   c installs the row rule, the column rule
 --   Begins c          c is an installation of either rule or an opening
 --   Touches p c       it is one of these, or a delivery or a withdrawal at band p
---   LastRow .. LastStanding     what each definition of specs/History.antt is, by the last call of a
---                     kind
+--   LastRow .. LastStanding     what each definition of specs/History.antt is, by the last call
+--                     of a kind
 use mathlib.Core.Path.{_≡_}
 use mathlib.Core.Logic.{_↔_}
 use mathlib.Core.List.{List}
