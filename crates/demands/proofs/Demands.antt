@@ -31,6 +31,9 @@
 --      lastRevision, leastAfter       revisions at a place                  histories/specs/History, Claims
 --      Orders; Revisions              deliveries in any order; in words     histories/specs/Orders, Revisions
 --      LookedUp, AllEmpty             for how many bytes a set is looked up histories/, chunks/specs/Claims
+--      LastRule .. LastStanding       by the last accepted call of a kind   histories/specs/Last
+--      EmptyPlaces                    the empty places, call by call        histories/specs/Empties
+--      numbersOf; MarksSkipped        each call's numbers; idle marks       histories/, calls/specs
 --      textOf; foreign, ForeignByte   a chunk without idle marks; 13        marks/, chunks/, calls/specs
 --      runSet, endSet, chunkCount     running a text                        chunks/specs/Chunks
 --      held, isEmpty, summedCount ..  what a board holds                    board/specs/Boards
@@ -81,14 +84,17 @@ use Rattle.calls.specs.declared.Judge.{Judge}
 use Rattle.calls.specs.Replies.{waiting, yesWith, noWith, refusedWith, Reply, refusalOf, delivered}
 use Rattle.calls.specs.Calls.{Call, installNumber, loadNumber, delivers, asksVerdict}
 use Rattle.calls.specs.Steps.{fresh, installOf, openOf, deliverOf, withdrawOf, isYes, reportOf, stepOf, loadOf}
-use Rattle.calls.specs.Claims.{LoadIs, Divided, ThreeZeros, ForeignByte}
+use Rattle.calls.specs.Claims.{LoadIs, Divided, ThreeZeros, ForeignByte, MarksSkipped}
 use Rattle.chunks.specs.Chunks.{foreign}
 use Rattle.calls.proofs.Loading as calls-loading
 use Rattle.calls.proofs.Foreign as calls-foreign
+use Rattle.calls.proofs.MarksSkipped as calls-marks
 use Rattle.calls.proofs.Refusing as refusing
 use Rattle.histories.specs.History.{ruleThere, ruleIn, boardIn, lastRevision, standing, standingText, endAt, countAt, lengthAt, emptiesIn, summedIn, bytesIn, yesIn, textIn, verdictIn, reportIn, answersTo, answerOf}
 use Rattle.histories.specs.Method.{Method}
-use Rattle.histories.specs.Conditions.{Accepted-exactly, Refused-exactly}
+use Rattle.histories.specs.Last.{LastRule, LastBoard, LastRevision, LastStanding}
+use Rattle.histories.specs.Empties.{EmptyPlaces}
+use Rattle.histories.specs.Conditions.{Accepted-exactly, Refused-exactly, No-other-number}
 use Rattle.histories.specs.Claims.{judgeMachine, judgeAfter, repliesTo, BuiltBy, leastAfter, VerdictSays, LookedUp, EveryList}
 use Rattle.histories.specs.CountBound.{CountBound}
 use Rattle.histories.specs.Counted.{Counted}
@@ -108,6 +114,9 @@ use Rattle.histories.proofs.Counted as histories-counted
 use Rattle.histories.proofs.FormerStarts as histories-former
 use Rattle.histories.proofs.Orders as histories-orders
 use Rattle.histories.proofs.Revisions as histories-revisions
+use Rattle.histories.proofs.Last as histories-last
+use Rattle.histories.proofs.Empties as histories-empties
+use Rattle.histories.proofs.NoOther as histories-numbers
 use Rattle.histories.proofs.Fewest as histories-fewest
 use Rattle.histories.proofs.TablePRuns as histories-table
 use Rattle.lines.specs.Splitting.{linesOf}
@@ -412,6 +421,48 @@ zeros h = every-list h .report .zeros
 -- (The last case of the list is not the paper's: it is worked by hand.)
 pub table-P : Each (λ c. Tabled judgeLibrary c × Tabled cLibrary c) cases
 table-P = histories-table.table-P judgeLibrary cLibrary judge-meets c-meets
+
+-- ---- THE LIST IN OTHER WORDS
+-- What the sentences above say of a list of calls goes through it call by call
+-- (histories/specs/History). So that none rests on that alone, each is said once more, by the list
+-- cut at one call, or call by call where it counts. "A rule is there once a load was accepted, and
+-- it is that of the last accepted load", in whose part an installation stands (document 02, R-3):
+pub last-rule : (h : List Call) → LastRule h
+last-rule = histories-last.last-rule
+
+-- "A board is there exactly when the last accepted call among loads and openings is an opening";
+-- its places are that opening's, and it has none exactly when it is not there.
+pub last-board : (h : List Call) → LastBoard h
+last-board = histories-last.last-board
+
+-- "the last accepted one there": the last revision is that of the delivery last accepted at the
+-- place since opening, "even after a withdrawal" (document 02, R-11).
+pub last-revision : (h : List Call) → LastRevision h
+last-revision = histories-last.last-revision
+
+-- "A standing chunk is the one last accepted at its place since that opening, and not withdrawn
+-- since."
+pub last-standing : (h : List Call) → LastStanding h
+last-standing = histories-last.last-standing
+
+-- The number of empty places: none at first and where a rule goes in, N after an opening of N, "all
+-- empty"; one less where a delivery fills one, one more where a withdrawal empties one, else the
+-- same.
+pub empty-places : EmptyPlaces emptiesIn
+empty-places = histories-empties.empty-places
+
+-- An idle mark "is skipped, counts no transition and isn't part of the text"; "Chunk length limits
+-- still count every byte" (document 02, R-5). With and without its marks a delivery has the same
+-- outcome, on any state; one of more than 65,536 bytes is refused with 21, 11 or 12, whatever its
+-- text.
+pub marks-skipped : (j : Judge) (p v : ℕ) (w : List ℕ) → MarksSkipped j p v w
+marks-skipped = calls-marks.marks-skipped
+
+-- "A number is returned when its condition holds and no earlier one does, never otherwise": an
+-- installation gives 3, 4, 6, 8, 9, a load 1 to 9, an opening 20, 10, a delivery 21, 11, 12, 13,
+-- 22, a withdrawal 21, 11, 23, a verdict 21, and no other.
+pub no-other-number : (h : List Call) → No-other-number h
+no-other-number = histories-numbers.no-other-number
 
 -- ---- CALLS AS TEXT
 -- The answers to a text of calls are right line by line, however it is cut into blocks.

@@ -12,6 +12,8 @@
 --   verdictIn h, answerOf h c     the verdict; what is answered to a call  trayhistories/specs/History
 --   Installation, WholeRows,      the numbers, one by one                  trayhistories/specs/Conditions
 --   AtOrAbove, Accepted-exactly, Refused-exactly
+--   LastRow .. LastStanding       by the last accepted call of a kind      trayhistories/specs/Last
+--   EmptyBands; numbersOf         the empty bands; the numbers of a call   trayhistories/specs
 --   Changes, AnyOrder, Unchanged, what a call changes; the whole theorem   trayhistories/specs/Claims
 --   VerdictClauses, EveryList
 --   trayLibrary, EveryRun         what the functions' contracts allow      trayhistories/specs/Functions
@@ -54,11 +56,16 @@ use Rattle.trays.specs.Steps.{fresh, installRowOf, installColumnOf, openOf, del
 use Rattle.trays.specs.Claims.{RowsLaw, ColumnLaw, rowsBelow}
 use Rattle.trays.proofs.Claims as trays
 use Rattle.trayhistories.specs.History.{rowThere, columnThere, rowIn, columnIn, Size, boardThere, widthIn, bandsIn, standing, emptiesIn, rowsAt, rowsThere, verdictIn, answerOf, answersTo}
-use Rattle.trayhistories.specs.Conditions.{Installation, WholeRows, AtOrAbove, Accepted-exactly, Refused-exactly}
+use Rattle.trayhistories.specs.Last.{LastRow, LastColumn, LastBoard, LastStanding}
+use Rattle.trayhistories.specs.Empties.{EmptyBands}
+use Rattle.trayhistories.specs.Conditions.{Installation, WholeRows, AtOrAbove, Accepted-exactly, Refused-exactly, No-other-number}
 use Rattle.trayhistories.specs.Claims.{trayMachine, trayAfter, Invariant, NoBoard, Changes, AnyOrder, Unchanged, EveryList}
 use Rattle.trayhistories.specs.Functions.{trayLibrary, EveryRun}
 use Rattle.trayhistories.specs.Worked.{lists, Answered}
 use Rattle.trayhistories.proofs.EveryList as tray-lists
+use Rattle.trayhistories.proofs.Last as tray-last
+use Rattle.trayhistories.proofs.Empties as tray-empties
+use Rattle.trayhistories.proofs.NoOther as tray-numbers
 use Rattle.trayhistories.proofs.Refinement as tray-functions
 use Rattle.trayhistories.proofs.Examples as tray-examples
 use Rattle.traystream.specs.Texts.{trayRoom, trayLines, rightText}
@@ -219,6 +226,37 @@ unchanged h = every-list h .unchanged
 -- and on any state whatever, also one that no list of calls leaves.
 pub unchanged-in-any-state : (t : Tray) (c : Call) (x : ℕ) → refusalOf (stepOf t c .reply) ≡ some x → stepOf t c .state ≡ t
 unchanged-in-any-state = trays.claims .unchanged
+
+-- ---- THE LIST IN OTHER WORDS
+-- What the sentences above say of a list of calls goes through it call by call
+-- (trayhistories/specs/History). So that none rests on that alone, each is said once more, by the
+-- list cut at one call, or call by call where it counts. The row rule and the column rule are those
+-- of the last accepted installation of each;
+pub last-row : (h : List Call) → LastRow h
+last-row = tray-last.last-row
+
+pub last-column : (h : List Call) → LastColumn h
+last-column = tray-last.last-column
+
+-- a board is there exactly when the last accepted call among installations and openings is an
+-- opening, with its width and bands;
+pub last-board : (h : List Call) → LastBoard h
+last-board = tray-last.last-board
+
+-- what stands at a band is what was last accepted there since that opening, and not withdrawn
+-- since.
+pub last-standing : (h : List Call) → LastStanding h
+last-standing = tray-last.last-standing
+
+-- "waiting as on a board": the number of empty bands is 0 at first and where a rule goes in, n
+-- after an opening of n; one less after a delivery, one more after a withdrawal, else the same.
+pub empty-bands : EmptyBands emptiesIn
+empty-bands = tray-empties.empty-bands
+
+-- and a refused call has one of its own numbers: 3, 4, 6, 8, 9 of an installation, 20, 38, 10 of an
+-- opening, 21, 11, 39, 13, 22 of a delivery, 21, 11, 23 of a withdrawal, 21 of a verdict.
+pub no-other-number : (h : List Call) → No-other-number h
+no-other-number = tray-numbers.no-other-number
 
 -- ---- FROM C
 -- The functions that C links ask nothing; what their numbers say, and the tray that they leave, is what
