@@ -61,6 +61,7 @@ use denote.Ref.{RefT}
 use Rattle.limits.specs.Limits.{mostStates, mostPlaces, mostTransitions, lineRoom}
 use Rattle.base.specs.Options.{isNone}
 use Rattle.marks.specs.Marks.{textOf}
+use Rattle.marks.proofs.Claims as marks
 use Rattle.masks.specs.Masks.{shares}
 use Rattle.executions.specs.Executions.{Execution}
 use Rattle.executions.proofs.Executions.{execution-law}
@@ -457,6 +458,12 @@ empty-places = histories-empties.empty-places
 -- text.
 pub marks-skipped : (j : Judge) (p v : ℕ) (w : List ℕ) → MarksSkipped j p v w
 marks-skipped = calls-marks.marks-skipped
+
+-- What the text of a chunk is, byte by byte: an idle mark, 255, is left out, and any other byte stays.
+pub text-of : (textOf [] ≡ []) × ((w : List ℕ) → textOf (255 ∷ w) ≡ textOf w)
+    × ((b : ℕ) (w : List ℕ) → (b ≡ 255 → ⊥) → textOf (b ∷ w) ≡ b ∷ textOf w)
+unfolding textOf
+text-of = (refl, marks.claims .skipped, marks.claims .kept)
 
 -- "A number is returned when its condition holds and no earlier one does, never otherwise": an
 -- installation gives 3, 4, 6, 8, 9, a load 1 to 9, an opening 20, 10, a delivery 21, 11, 12, 13,
