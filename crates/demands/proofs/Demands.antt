@@ -111,6 +111,7 @@ use Rattle.linetexts.specs.Feeding.{State, stateOf, finishOf}
 use Rattle.linetexts.specs.Lists.{Listed, listOf, NoneEmpty, skippedLines}
 use Rattle.linetexts.specs.Claims.{streamOf, Blocks}
 use Rattle.stream.specs.Texts.{callLines, rightText}
+use Rattle.stream.specs.Worked.{cutText, cutAnswers, sampleText, sampleAnswers}
 use Rattle.stream.proofs.Claimed as stream
 use Rattle.calltext.specs.Meaning.{malformed, lineIn}
 use Rattle.calltext.specs.Claims.{Fits, lineOf}
@@ -127,6 +128,7 @@ use Rattle.capi.proofs.bellbadger_read.Reads as read-reads
 use Rattle.capi.proofs.bellbadger_replay.Reads as replay-reads
 use Rattle.demands.specs.Functions.{cLibrary, MayRead, MayLoad, MayReplay}
 use Rattle.demands.proofs.Functions.{c-meets, read-fixed, load-fixed, replay-fixed}
+use Rattle.demands.proofs.SampleText as demands-sample
 
 -- ---- 1. ANY INPUT
 -- Any rule, any bytes, any place number, any state: the call ends with the result that document 01 gives.
@@ -387,6 +389,14 @@ malformed-ends = stream.claims .ends-list
 pub begins-afresh : (h : List Call) (l : List ℕ) (ls more : List (List ℕ)) → lineIn l ≡ malformed → NoneEmpty ls
     → rightText (some h) ((l ∷ ls) ++ ([] ∷ more)) ≡ malformedText ++ (skippedLines ls ++ ((10 ∷ []) ++ rightText (some []) more))
 begins-afresh = stream.claims .afresh
+
+-- Worked, byte by byte: samples/two_chunks.calls is answered with what the README prints for it, and
+-- a text in which a line was cut with `malformed` and `skipped`.
+pub sample-text : rightText (some []) (linesOf sampleText) ≡ sampleAnswers
+sample-text = demands-sample.sample
+
+pub cut-text : rightText (some []) (linesOf cutText) ≡ cutAnswers
+cut-text = stream.claims .worked
 
 -- What C is given for a recorded list, of which nothing is asked, is the verdict after it, or its
 -- first malformed line; and every list of calls has a record, a line for each call.

@@ -8,6 +8,7 @@ pub mod Reducing
 pub mod MadeTexts
 pub mod Forms
 pub mod TrayFunctions
+pub mod TraySample
 pub mod Trays
 pub mod Faults
 pub mod Losses

@@ -21,6 +21,7 @@
 --   MayOpen, ..; trayLibraryOfC   what the functions for C allow           specs/TrayFunctions
 --   Blocks; rightText             what is written for lines, and is right  linetexts/specs/Claims, traystream/specs/Texts
 --   listText; listOf, skippedLines   lists that a malformed line ends      linetexts/specs/Lists
+--   sampleText, cutText ..        texts and their answers, byte by byte    traystream/specs/Worked
 --   Accepts; automatonOf r        automata and their runs (000)            automaton/specs/Automaton, Rules
 --
 -- h is any list of calls, the last first. A proved function ends and stays within its bounds. Assumes
@@ -62,6 +63,7 @@ use Rattle.trayhistories.proofs.EveryList as tray-lists
 use Rattle.trayhistories.proofs.Refinement as tray-functions
 use Rattle.trayhistories.proofs.Examples as tray-examples
 use Rattle.traystream.specs.Texts.{trayRoom, trayLines, rightText}
+use Rattle.traystream.specs.Worked.{cutText, cutAnswers, sampleText, sampleAnswers}
 use Rattle.traystream.proofs.Claimed as traystream
 use Rattle.traytext.specs.Lines.{malformed, lineIn}
 use Rattle.answers.specs.Answers.{malformedText}
@@ -73,6 +75,7 @@ use Rattle.c_trays.specs.Claims as c-claims
 use Rattle.c_trays.proofs.ReadBack as c-trays
 use Rattle.requests.specs.TrayFunctions.{MayInstallRow, MayInstallColumn, MayOpen, MayDeliver, MayWithdraw, MayJudge, trayLibraryOfC}
 use Rattle.requests.proofs.TrayFunctions as functions
+use Rattle.requests.proofs.TraySample as tray-sample
 
 -- ---- ALL OF IT
 -- "Over every list of a tray's calls the verdict is this one, with bands in the part of chunks; revisions
@@ -287,3 +290,11 @@ malformed-ends = traystream.claims .ends-list
 pub begins-afresh : (h : List Call) (l : List ℕ) (ls more : List (List ℕ)) → lineIn l ≡ malformed → NoneEmpty ls
     → rightText (some h) ((l ∷ ls) ++ ([] ∷ more)) ≡ malformedText ++ (skippedLines ls ++ ((10 ∷ []) ++ rightText (some []) more))
 begins-afresh = traystream.claims .afresh
+
+-- Worked, byte by byte: samples/tray.calls is answered with what docs/PROGRAMS.md prints for it, and a
+-- text in which a line was cut with `malformed` and `skipped`.
+pub sample-text : rightText (some []) (linesOf sampleText) ≡ sampleAnswers
+sample-text = tray-sample.sample
+
+pub cut-text : rightText (some []) (linesOf cutText) ≡ cutAnswers
+cut-text = traystream.claims .worked
