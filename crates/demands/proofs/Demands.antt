@@ -39,6 +39,9 @@
 --      listText; listOf, skippedLines lists that a malformed line ends      linetexts/specs/Lists
 --      linesOf; lineIn, responseText  lines, calls and answers as text      lines/, calltext/specs
 --      streamOf, Blocks; finishOf     what is written for blocks            linetexts/specs/Claims, Feeding
+--      Gathers; FedBlocks             a round; blocks through functions     linetexts/specs/Feeding, Functions
+--      MayGather, MayFinish           what their contracts allow            specs/TextFunctions
+--      SaysCall; SaysNumber, ..       which lines and fields say what       calltext/, fields/specs/Claims
 --      recordIn, replayOf             a recorded list                       replay/specs/Records
 --
 -- A list of calls has the last call first. A proved function ends and stays within its bounds.
@@ -49,7 +52,8 @@ use mathlib.Core.Bool.{true, false}
 use mathlib.Core.List.{List, [], _∷_, _++_, flatten}
 use mathlib.Core.Option.{none, some}
 use Prim.Native.Nat.{ℕ, _*_, _≤_, _<_}
-use lib.ListN.{length, getD, getElem?}
+use lib.ListN.{length, take, getD, getElem?}
+use Rattle.text.specs.Writing.{Wrote}
 use contract.Lifetimes.{Lfts}
 use denote.Ref.{RefT}
 use Rattle.limits.specs.Limits.{mostStates, mostPlaces, mostTransitions, lineRoom}
@@ -107,14 +111,16 @@ use Rattle.histories.proofs.Fewest as histories-fewest
 use Rattle.histories.proofs.TablePRuns as histories-table
 use Rattle.lines.specs.Splitting.{linesOf}
 use Rattle.longlines.specs.Holding.{lineBegin}
-use Rattle.linetexts.specs.Feeding.{State, stateOf, finishOf}
+use Rattle.linetexts.specs.Feeding.{State, stateOf, finishOf, gatherAt, Gathers}
 use Rattle.linetexts.specs.Lists.{Listed, listOf, NoneEmpty, skippedLines}
 use Rattle.linetexts.specs.Claims.{streamOf, Blocks}
+use Rattle.linetexts.specs.Functions.{FedBlocks}
 use Rattle.stream.specs.Texts.{callLines, rightText}
 use Rattle.stream.specs.Worked.{cutText, cutAnswers, sampleText, sampleAnswers}
 use Rattle.stream.proofs.Claimed as stream
-use Rattle.calltext.specs.Meaning.{malformed, lineIn}
-use Rattle.calltext.specs.Claims.{Fits, lineOf}
+use Rattle.calltext.specs.Meaning.{again, call, malformed, lineIn}
+use Rattle.calltext.specs.Claims.{Fits, lineOf, SaysCall}
+use Rattle.calltext.proofs.Exact as calltext
 use Rattle.answers.specs.Answers.{malformedText}
 use Rattle.replay.specs.Records.{calls, readLine, recordIn, replayOf}
 use Rattle.replay.specs.Claims.{AllFit, recordOf}
@@ -127,7 +133,9 @@ use Rattle.capi.proofs.Asks as capi-asks
 use Rattle.capi.proofs.bellbadger_read.Reads as read-reads
 use Rattle.capi.proofs.bellbadger_replay.Reads as replay-reads
 use Rattle.demands.specs.Functions.{cLibrary, MayRead, MayLoad, MayReplay}
+use Rattle.demands.specs.TextFunctions.{MayGather, MayFinish}
 use Rattle.demands.proofs.Functions.{c-meets, read-fixed, load-fixed, replay-fixed}
+use Rattle.demands.proofs.TextFunctions as text-functions
 use Rattle.demands.proofs.SampleText as demands-sample
 
 -- ---- 1. ANY INPUT
@@ -379,6 +387,32 @@ pub texts-written : {room : ℕ} {s′ : State (Listed Judge)} {blocks : List (L
     → Blocks callLines room (stateOf (listOf fresh false) lineBegin line) blocks s′ text
     → text ++ finishOf callLines s′ .text ≡ rightText (some []) (linesOf (flatten blocks))
 texts-written = stream.claims .written
+
+-- So from the functions: what the contract of `gather` allows is a round, that of `finish` the end, and
+-- nothing else; fed through them, block by block, a text is answered right.
+pub gather-allows : (s t : State (Listed Judge)) (before block after : List ℕ) (at next written : ℕ)
+    → MayGather s before block at t next written after ↔ Gathers (gatherAt callLines block at (length before) s) at t next written before after
+gather-allows = text-functions.gather-fixed
+
+pub finish-allows : (s : State (Listed Judge)) (before after : List ℕ) (written : ℕ)
+    → MayFinish s before written after ↔ Wrote before 0 (finishOf callLines s .text) after written
+finish-allows = text-functions.finish-fixed
+
+pub texts-fed : {room written : ℕ} {s′ : State (Listed Judge)} {blocks : List (List ℕ)} {line text before after : List ℕ} → lineRoom ≤ length line
+    → FedBlocks MayGather room (stateOf (listOf fresh false) lineBegin line) blocks s′ text → MayFinish s′ before written after
+    → text ++ take written after ≡ rightText (some []) (linesOf (flatten blocks))
+texts-fed = text-functions.fed
+
+-- A line means a call exactly when it is that call's line, but for leading zeros and the case of hex
+-- digits; the empty one begins afresh, and any other is malformed.
+pub line-means : (l : List ℕ) (c : Call) → (lineIn l ≡ call c) ↔ SaysCall l c
+line-means = calltext.claims .line-exactly
+
+pub line-again : (l : List ℕ) → (lineIn l ≡ again) ↔ (l ≡ [])
+line-again = calltext.claims .again-exactly
+
+pub line-malformed : (l : List ℕ) → (lineIn l ≡ malformed) ↔ ((l ≡ [] → ⊥) × ((c : Call) → SaysCall l c → ⊥))
+line-malformed = calltext.claims .malformed-exactly
 
 -- After a malformed line no call is made and no verdict given until an empty line: each line is
 -- answered `skipped`, whatever it says. The empty line begins afresh.

@@ -1,3 +1,4 @@
 pub mod Functions
+pub mod TextFunctions
 pub mod SampleText
 pub mod Demands

@@ -13,7 +13,7 @@ use Rattle.lines.specs.Splitting.{upTo, past}
 use Rattle.lines.proofs.Over.{Over, over-append, over-less, over-up, over-past}
 use Rattle.fields.specs.Numbers.{parseNumber}
 use Rattle.fields.specs.Claims.{fieldOf}
-use Rattle.fields.proofs.RoundTrip as fields
+use Rattle.fields.proofs.Claims as fields
 use Rattle.madetexts.specs.Values.{madeText}
 use Rattle.madetexts.specs.Making.{madeNumber}
 use Rattle.madetexts.proofs.Claims as madetexts

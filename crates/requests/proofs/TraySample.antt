@@ -11,12 +11,11 @@ use mathlib.Core.List.{List, [], _∷_, _++_}
 use mathlib.Core.Option.{Option, none, some}
 use Prim.Native.Nat.{ℕ, zero, suc, _≤_, _<_}
 use native.Mathlib.Omega.{arith}
-use borrow.Author.Tests.{ltb-true, ltb-false}
-use lib.Dec.{lit<, ltb}
-use lib.ListN.{getD, replicate, getD-replicate, List·getD-eq-default}
+use lib.Dec.{lit<}
+use lib.ListN.{getD, replicate}
 use Rattle.base.specs.Conditions.{anyBelow}
 use Rattle.base.specs.Lists.{listFrom}
-use Rattle.base.proofs.Tests.{by-test}
+use Rattle.base.proofs.Lists.{zero-cells}
 use Rattle.base.specs.Totals.{total}
 use Rattle.masks.specs.Masks.{single, union, shares}
 use Rattle.text.specs.Numerals.{decimalBelow}
@@ -69,7 +68,7 @@ both-merged a two first second =
     past : (q : ℕ) → 2 ≤ q → getD both q 0 ≡ 0
     past zero h = absurd (omega arith)
     past (suc zero) h = absurd (omega arith)
-    past (suc (suc q)) h = by-test (ltb q 30) (λ e. getD-replicate 30 q 0 0 (ltb-true q 30 e)) (λ e. List·getD-eq-default (replicate 30 0) 0 {n = q} (omega (arith, ltb-false q 30 e)))
+    past (suc (suc q)) h = zero-cells 30 q
 
 -- some accepting run over w starts in q
 abbrev accepting : Rule → ℕ → List ℕ → Bool

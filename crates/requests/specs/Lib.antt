@@ -7,6 +7,7 @@ pub mod ReduceFunction
 pub mod TextFunction
 pub mod FormFunctions
 pub mod TrayFunctions
+pub mod TrayTexts
 pub mod FaultFunctions
 pub mod LossFunctions
 pub mod FollowFunctions
