@@ -45,6 +45,9 @@
 --      listText; listOf, skippedLines lists that a malformed line ends      linetexts/specs/Lists
 --      linesOf; lineIn, responseText  lines, calls and answers as text      lines/, calltext/specs
 --      streamOf, Blocks; finishOf     what is written for blocks            linetexts/specs/Claims, Feeding
+--      Gathers; FedBlocks             a round; blocks through functions     linetexts/specs/Feeding, Functions
+--      MayGather, MayFinish           what their contracts allow            specs/TextFunctions
+--      SaysCall; SaysNumber, ..       which lines and fields say what       calltext/, fields/specs/Claims
 --      recordIn, replayOf             a recorded list                       replay/specs/Records
 --
 -- A list of calls has the last call first. A proved function ends and stays within its bounds.
@@ -55,7 +58,8 @@ use mathlib.Core.Bool.{true, false}
 use mathlib.Core.List.{List, [], _∷_, _++_, flatten}
 use mathlib.Core.Option.{none, some}
 use Prim.Native.Nat.{ℕ, _*_, _≤_, _<_}
-use lib.ListN.{length, getD, getElem?}
+use lib.ListN.{length, take, getD, getElem?}
+use Rattle.text.specs.Writing.{Wrote}
 use contract.Lifetimes.{Lfts}
 use denote.Ref.{RefT}
 use Rattle.limits.specs.Limits.{mostStates, mostPlaces, mostTransitions, lineRoom}
@@ -122,13 +126,16 @@ use Rattle.histories.proofs.Fewest as histories-fewest
 use Rattle.histories.proofs.TablePRuns as histories-table
 use Rattle.lines.specs.Splitting.{linesOf}
 use Rattle.longlines.specs.Holding.{lineBegin}
-use Rattle.linetexts.specs.Feeding.{State, stateOf, finishOf}
+use Rattle.linetexts.specs.Feeding.{State, stateOf, finishOf, gatherAt, Gathers}
 use Rattle.linetexts.specs.Lists.{Listed, listOf, NoneEmpty, skippedLines}
 use Rattle.linetexts.specs.Claims.{streamOf, Blocks}
+use Rattle.linetexts.specs.Functions.{FedBlocks}
 use Rattle.stream.specs.Texts.{callLines, rightText}
+use Rattle.stream.specs.Worked.{cutText, cutAnswers, sampleText, sampleAnswers}
 use Rattle.stream.proofs.Claimed as stream
-use Rattle.calltext.specs.Meaning.{malformed, lineIn}
-use Rattle.calltext.specs.Claims.{Fits, lineOf}
+use Rattle.calltext.specs.Meaning.{again, call, malformed, lineIn}
+use Rattle.calltext.specs.Claims.{Fits, lineOf, SaysCall}
+use Rattle.calltext.proofs.Exact as calltext
 use Rattle.answers.specs.Answers.{malformedText}
 use Rattle.replay.specs.Records.{calls, readLine, recordIn, replayOf}
 use Rattle.replay.specs.Claims.{AllFit, recordOf}
@@ -148,8 +155,11 @@ use Rattle.capi.proofs.bellbadger_read.Reads as read-reads
 use Rattle.capi.proofs.bellbadger_replay.Reads as replay-reads
 use Rattle.demands.specs.Functions.{cLibrary, MayBegin, MayInstall, MayRead, MayLoad, MayOpen, MayDeliver, MayWithdraw, MayJudge, MayReplay}
 use Rattle.demands.specs.Shown.{RefusedFromC, NoVerdictFromC}
+use Rattle.demands.specs.TextFunctions.{MayGather, MayFinish}
 use Rattle.demands.proofs.Functions.{c-meets, read-fixed, load-fixed, replay-fixed}
 use Rattle.demands.proofs.Shown.{new-fixed, install-fixed, open-fixed, deliver-fixed, withdraw-fixed, verdict-fixed, refused-so, no-verdict}
+use Rattle.demands.proofs.TextFunctions as text-functions
+use Rattle.demands.proofs.SampleText as demands-sample
 
 -- ---- 1. ANY INPUT
 -- Any rule, any bytes, any place number, any state: the call ends with the result that document 01 gives.
@@ -484,6 +494,32 @@ pub texts-written : {room : ℕ} {s′ : State (Listed Judge)} {blocks : List (L
     → text ++ finishOf callLines s′ .text ≡ rightText (some []) (linesOf (flatten blocks))
 texts-written = stream.claims .written
 
+-- So from the functions: what the contract of `gather` allows is a round, that of `finish` the end, and
+-- nothing else; fed through them, block by block, a text is answered right.
+pub gather-allows : (s t : State (Listed Judge)) (before block after : List ℕ) (at next written : ℕ)
+    → MayGather s before block at t next written after ↔ Gathers (gatherAt callLines block at (length before) s) at t next written before after
+gather-allows = text-functions.gather-fixed
+
+pub finish-allows : (s : State (Listed Judge)) (before after : List ℕ) (written : ℕ)
+    → MayFinish s before written after ↔ Wrote before 0 (finishOf callLines s .text) after written
+finish-allows = text-functions.finish-fixed
+
+pub texts-fed : {room written : ℕ} {s′ : State (Listed Judge)} {blocks : List (List ℕ)} {line text before after : List ℕ} → lineRoom ≤ length line
+    → FedBlocks MayGather room (stateOf (listOf fresh false) lineBegin line) blocks s′ text → MayFinish s′ before written after
+    → text ++ take written after ≡ rightText (some []) (linesOf (flatten blocks))
+texts-fed = text-functions.fed
+
+-- A line means a call exactly when it is that call's line, but for leading zeros and the case of hex
+-- digits; the empty one begins afresh, and any other is malformed.
+pub line-means : (l : List ℕ) (c : Call) → (lineIn l ≡ call c) ↔ SaysCall l c
+line-means = calltext.claims .line-exactly
+
+pub line-again : (l : List ℕ) → (lineIn l ≡ again) ↔ (l ≡ [])
+line-again = calltext.claims .again-exactly
+
+pub line-malformed : (l : List ℕ) → (lineIn l ≡ malformed) ↔ ((l ≡ [] → ⊥) × ((c : Call) → SaysCall l c → ⊥))
+line-malformed = calltext.claims .malformed-exactly
+
 -- After a malformed line no call is made and no verdict given until an empty line: each line is
 -- answered `skipped`, whatever it says. The empty line begins afresh.
 pub malformed-ends : (h : List Call) (l : List ℕ) (ls : List (List ℕ)) → lineIn l ≡ malformed → NoneEmpty ls
@@ -493,6 +529,14 @@ malformed-ends = stream.claims .ends-list
 pub begins-afresh : (h : List Call) (l : List ℕ) (ls more : List (List ℕ)) → lineIn l ≡ malformed → NoneEmpty ls
     → rightText (some h) ((l ∷ ls) ++ ([] ∷ more)) ≡ malformedText ++ (skippedLines ls ++ ((10 ∷ []) ++ rightText (some []) more))
 begins-afresh = stream.claims .afresh
+
+-- Worked, byte by byte: samples/two_chunks.calls is answered with what the README prints for it, and
+-- a text in which a line was cut with `malformed` and `skipped`.
+pub sample-text : rightText (some []) (linesOf sampleText) ≡ sampleAnswers
+sample-text = demands-sample.sample
+
+pub cut-text : rightText (some []) (linesOf cutText) ≡ cutAnswers
+cut-text = stream.claims .worked
 
 -- What C is given for a recorded list, of which nothing is asked, is the verdict after it, or its
 -- first malformed line; and every list of calls has a record, a line for each call.

@@ -14,7 +14,7 @@ use Rattle.lines.proofs.Over.{over-up, over-past}
 use Rattle.hexfields.proofs.Digits.{number-over}
 use Rattle.fields.specs.Numbers.{parseNumber}
 use Rattle.fields.specs.Claims.{fieldOf}
-use Rattle.fields.proofs.RoundTrip as fields
+use Rattle.fields.proofs.Claims as fields
 use Rattle.madetexts.specs.Values.{madeText}
 use Rattle.madetexts.specs.Making.{madeNumber}
 use Rattle.madetexts.proofs.Claims as madetexts

@@ -13,6 +13,8 @@ pub mod MergingReduced
 pub mod MadeTexts
 pub mod Forms
 pub mod TrayFunctions
+pub mod TraySample
+pub mod TrayTexts
 pub mod Trays
 pub mod Faults
 pub mod Losses

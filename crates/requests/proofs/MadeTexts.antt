@@ -129,8 +129,8 @@ lines = maketextlines.claims .line-round-trip
 pub malformed-lines : (lineIn [] ≡ malformed) × ((w : List ℕ) → longestLine < length w → lineIn w ≡ malformed)
 malformed-lines = (maketextlines.claims .empty, maketextlines.claims .too-long)
 
--- A text of lines, cut into blocks anywhere: what is to be written, block by block and at the end, are
--- the answers to its lines.
-pub written : {blocks : List (List ℕ)} {h : Option (List ℕ)} {text : List ℕ} → Blocks (some []) blocks h text
+-- A text of lines, cut into blocks anywhere, with any room for a line from the longest one on: what is to
+-- be written, block by block and at the end, are the answers to its lines.
+pub written : {room : ℕ} {blocks : List (List ℕ)} {h : Option (List ℕ)} {text : List ℕ} → longestLine ≤ room → Blocks room (some []) blocks h text
     → text ++ lastAnswer answerHeld h ≡ answersTo answerTo (linesOf (flatten blocks))
 written = maketextstream.claims .written

@@ -23,6 +23,10 @@
 --   MayOpen, ..; trayLibraryOfC   what the functions for C allow           specs/TrayFunctions
 --   Blocks; rightText             what is written for lines, and is right  linetexts/specs/Claims, traystream/specs/Texts
 --   listText; listOf, skippedLines   lists that a malformed line ends      linetexts/specs/Lists
+--   Gathers; FedBlocks            a round; blocks through functions        linetexts/specs/Feeding, Functions
+--   MayGather, MayFinish          what their contracts allow               specs/TrayTexts
+--   SaysLine; SaysNumber, ..      which lines and fields say what          traytext/, fields/specs/Claims
+--   sampleText, cutText ..        texts and their answers, byte by byte    traystream/specs/Worked
 --   Accepts; automatonOf r        automata and their runs (000)            automaton/specs/Automaton, Rules
 --
 -- h is any list of calls, the last first. A proved function ends and stays within its bounds. Assumes
@@ -33,13 +37,15 @@ use mathlib.Core.Bool.{false}
 use mathlib.Core.List.{List, [], _∷_, _++_, flatten}
 use mathlib.Core.Option.{none, some}
 use Prim.Native.Nat.{ℕ, _+_, _*_, _≤_, _<_}
-use lib.ListN.{length, getD}
+use lib.ListN.{length, take, getD}
+use Rattle.text.specs.Writing.{Wrote}
 use Rattle.executions.specs.Executions.{Execution, Meets}
 use Rattle.lines.specs.Splitting.{linesOf}
 use Rattle.longlines.specs.Holding.{lineBegin}
-use Rattle.linetexts.specs.Feeding.{State, stateOf, finishOf}
+use Rattle.linetexts.specs.Feeding.{State, stateOf, finishOf, gatherAt, Gathers}
 use Rattle.linetexts.specs.Lists.{Listed, listOf, NoneEmpty, skippedLines}
 use Rattle.linetexts.specs.Claims.{Blocks}
+use Rattle.linetexts.specs.Functions.{FedBlocks}
 use Rattle.marks.specs.Marks.{idleMark}
 use Rattle.automaton.specs.declared.Rule.{Rule}
 use Rattle.automaton.specs.Automaton.{Accepts}
@@ -69,8 +75,11 @@ use Rattle.trayhistories.proofs.NoOther as tray-numbers
 use Rattle.trayhistories.proofs.Refinement as tray-functions
 use Rattle.trayhistories.proofs.Examples as tray-examples
 use Rattle.traystream.specs.Texts.{trayRoom, trayLines, rightText}
+use Rattle.traystream.specs.Worked.{cutText, cutAnswers, sampleText, sampleAnswers}
 use Rattle.traystream.proofs.Claimed as traystream
-use Rattle.traytext.specs.Lines.{malformed, lineIn}
+use Rattle.traytext.specs.Lines.{Meaning, malformed, lineIn}
+use Rattle.traytext.specs.Claims.{SaysLine}
+use Rattle.traytext.proofs.Exact as traytext
 use Rattle.answers.specs.Answers.{malformedText}
 use Rattle.c_trays.specs.declared.InstallNumbers.{InstallNumbers}
 use Rattle.c_trays.specs.declared.CallNumbers.{CallNumbers}
@@ -79,7 +88,10 @@ use Rattle.c_trays.specs.Numbers.{installShown, callShown, verdictShown}
 use Rattle.c_trays.specs.Claims as c-claims
 use Rattle.c_trays.proofs.ReadBack as c-trays
 use Rattle.requests.specs.TrayFunctions.{MayInstallRow, MayInstallColumn, MayOpen, MayDeliver, MayWithdraw, MayJudge, trayLibraryOfC}
+use Rattle.requests.specs.TrayTexts.{MayGather, MayFinish}
 use Rattle.requests.proofs.TrayFunctions as functions
+use Rattle.requests.proofs.TrayTexts as tray-texts
+use Rattle.requests.proofs.TraySample as tray-sample
 
 -- The limits that are named below:
 pub limits : (mostWidth ≡ 16) × (mostBands ≡ 8) × (mostRows ≡ 64) × (idleMark ≡ 255)
@@ -330,3 +342,34 @@ malformed-ends = traystream.claims .ends-list
 pub begins-afresh : (h : List Call) (l : List ℕ) (ls more : List (List ℕ)) → lineIn l ≡ malformed → NoneEmpty ls
     → rightText (some h) ((l ∷ ls) ++ ([] ∷ more)) ≡ malformedText ++ (skippedLines ls ++ ((10 ∷ []) ++ rightText (some []) more))
 begins-afresh = traystream.claims .afresh
+
+-- So from the functions: what the contract of `gather` allows is a round, that of `finish` the end, and
+-- nothing else; fed through them, block by block, a text is answered right.
+pub gather-allows : (s t : State (Listed Tray)) (before block after : List ℕ) (at next written : ℕ)
+    → MayGather s before block at t next written after ↔ Gathers (gatherAt trayLines block at (length before) s) at t next written before after
+gather-allows = tray-texts.gather-fixed
+
+pub finish-allows : (s : State (Listed Tray)) (before after : List ℕ) (written : ℕ)
+    → MayFinish s before written after ↔ Wrote before 0 (finishOf trayLines s .text) after written
+finish-allows = tray-texts.finish-fixed
+
+pub lines-fed : {room written : ℕ} {s′ : State (Listed Tray)} {blocks : List (List ℕ)} {line text before after : List ℕ} → trayRoom + 1 ≤ length line
+    → FedBlocks MayGather room (stateOf (listOf fresh false) lineBegin line) blocks s′ text → MayFinish s′ before written after
+    → text ++ take written after ≡ rightText (some []) (linesOf (flatten blocks))
+lines-fed = tray-texts.fed
+
+-- A line means a call or a rule file exactly when it is its line, but for leading zeros and the case of
+-- hex digits; any other is malformed.
+pub line-means : (l : List ℕ) (m : Meaning) → (m ≡ malformed → ⊥) → (lineIn l ≡ m) ↔ SaysLine l m
+line-means = traytext.claims .line-exactly
+
+pub line-malformed : (l : List ℕ) → (lineIn l ≡ malformed) ↔ ((m : Meaning) → SaysLine l m → ⊥)
+line-malformed = traytext.claims .malformed-exactly
+
+-- Worked, byte by byte: samples/tray.calls is answered with what docs/PROGRAMS.md prints for it, and a
+-- text in which a line was cut with `malformed` and `skipped`.
+pub sample-text : rightText (some []) (linesOf sampleText) ≡ sampleAnswers
+sample-text = tray-sample.sample
+
+pub cut-text : rightText (some []) (linesOf cutText) ≡ cutAnswers
+cut-text = traystream.claims .worked
