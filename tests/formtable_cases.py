@@ -1,7 +1,7 @@
 #!/usr/bin/env python3
 """Writes the cases of the program formtable: crates/formtable/stdin and stdout. With --check it writes
 nothing and says whether they are what it would write, and whether crates/ruleform/stdout is the form of
-rule A.
+rules A and B side by side, the rule in crates/ruleform/stdin.
 
 A case is a line, a failure form. Its answer is computed here from the words of document 02, R-14, and
 shares nothing with the Rattle code: a table is a list of rows, a form a dictionary for each set.
@@ -14,6 +14,7 @@ HERE = os.path.dirname(os.path.abspath(__file__))
 CRATES = os.path.join(HERE, "..", "crates")
 EMPTY = 512
 RULE_A = [[1, 0], [1, 2], [1, 0], [EMPTY, 4], [EMPTY, EMPTY]]
+SIDE_BY_SIDE = RULE_A + [[6, EMPTY], [5, EMPTY], [5, EMPTY], [5, EMPTY]]
 
 
 def form_of(table):
@@ -164,7 +165,7 @@ def cases():
 def main():
     stdin = "".join(line + "\n" for line, _ in cases())
     stdout = "".join(answer + "\n" for _, answer in cases())
-    wanted = {("formtable", "stdin"): stdin, ("formtable", "stdout"): stdout, ("ruleform", "stdout"): text_of(RULE_A)}
+    wanted = {("formtable", "stdin"): stdin, ("formtable", "stdout"): stdout, ("ruleform", "stdout"): text_of(SIDE_BY_SIDE)}
     wrong = 0
     for (crate, name), text in wanted.items():
         path = os.path.join(CRATES, crate, name)

@@ -5,3 +5,4 @@ pub mod Ways
 pub mod Refusing
 pub mod Reporting
 pub mod Foreign
+pub mod MarksSkipped

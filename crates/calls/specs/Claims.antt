@@ -11,6 +11,8 @@
 --   ReportLaw         what `reportBy` gives. proofs/Reporting.antt proves it
 --   ForeignByte w k   some byte of the chunk w is neither an idle mark nor a symbol below k
 --   Foreign-exactly   the condition of 13 holds exactly then. proofs/Foreign.antt proves it
+--   MarksSkipped      a delivery has the outcome of delivering its text, but for 12 (document 02,
+--                     R-5). proofs/MarksSkipped.antt proves it
 use mathlib.Core.Path.{_≡_}
 use mathlib.Core.Logic.{_↔_, _⊎_}
 use mathlib.Core.Bool.{true}
@@ -18,6 +20,7 @@ use mathlib.Core.List.{List}
 use mathlib.Core.Option.{none, some}
 use Prim.Native.Nat.{ℕ, _+_, _*_, _<_, _≤_}
 use lib.ListN.{length, getD}
+use Rattle.limits.specs.Limits.{longestChunk}
 use Rattle.marks.specs.Marks.{idleMark, textOf}
 use Rattle.automaton.specs.declared.Rule.{Rule}
 use Rattle.rulecheck.specs.Checking.{ruleNumber}
@@ -25,7 +28,7 @@ use Rattle.ruleformat.specs.Reader.{ruleOf, readOf}
 use Rattle.chunks.specs.Chunks.{foreign}
 use Rattle.calls.specs.declared.Judge.{Judge}
 use Rattle.calls.specs.Replies.{Judgement, waiting, yesWith, noWith, refusedWith, Reported, refused, refusalOf}
-use Rattle.calls.specs.Calls.{Call, installs, loads, installNumber, reportBy}
+use Rattle.calls.specs.Calls.{Call, installs, loads, delivers, installNumber, reportBy}
 use Rattle.calls.specs.Steps.{stepOf}
 
 -- (File and chunk are lent as `&[u8]`, which no function can write.)
@@ -64,3 +67,11 @@ ForeignByte w k = (i : ℕ) × (i < length w) × (getD w i 0 ≡ idleMark → �
 
 abbrev pub Foreign-exactly : Type 0
 Foreign-exactly = (w : List ℕ) (k : ℕ) → (foreign (textOf w) k ≡ true) ↔ ForeignByte w k
+
+pub record MarksSkipped (j : Judge) (p v : ℕ) (w : List ℕ) : Type 0 where
+  -- a chunk within the limit: the same reply and the same judge with and without its idle marks
+  pub within : length w ≤ longestChunk → stepOf j (delivers p v w) ≡ stepOf j (delivers p v (textOf w))
+  -- "Chunk length limits still count every byte": a longer one is refused with 12 or an earlier
+  -- number, whatever its text, and nothing changes
+  pub too-long : longestChunk < length w
+      → (x : ℕ) × (stepOf j (delivers p v w) ≡ record { reply = refused x; state = j }) × ((x ≡ 21) ⊎ (x ≡ 11) ⊎ (x ≡ 12))

@@ -1,28 +1,26 @@
--- Reading the line of a call gives the call again; and lines of installations and of deliveries
--- that are malformed. Assumes nothing.
+-- What fields are made of, and lines of installations and of deliveries that are malformed. Assumes
+-- nothing.
 use mathlib.Core.Path.{_≡_, refl, ap, _∙_}
 use mathlib.Core.List.{List, [], _∷_, _++_}
 use mathlib.Core.Option.{none}
 use Prim.Native.Nat.{ℕ, zero, suc, _+_, _/_, _%_, _≤_, _<_}
 use native.Mathlib.Omega.{arith}
 use borrow.Author.Needs.{needs}
-use borrow.Author.Tests.{eq-eqb, ne-eqb, le-leb, lt-leb}
+use borrow.Author.Tests.{ne-eqb, lt-leb}
 use lib.Dec.{ltb}
 use lib.ListN.{length}
 use Rattle.base.proofs.Tests.{by-test}
 use Rattle.text.specs.Numerals.{decimalBelow, decimal, hexDigit, hex}
 use Rattle.lines.specs.Splitting.{begins, upTo, past}
 use Rattle.lines.proofs.Over.{Over, over-append, over-less, over-up, over-past}
-use Rattle.ruleformat.specs.Writing.{Bytes}
 use Rattle.packed.specs.Packed.{packedOf}
-use Rattle.packed.proofs.Packing as packed
 use Rattle.fields.specs.Numbers.{parseNumber}
 use Rattle.fields.specs.Bytes.{parseBytes}
 use Rattle.fields.specs.Claims.{AllBytes, digitsOf, fieldOf}
-use Rattle.fields.proofs.RoundTrip as fields
+use Rattle.fields.proofs.Claims as fields
 use Rattle.calls.specs.Calls.{Call, installs, loads, opens, delivers, withdraws, asksVerdict}
-use Rattle.calltext.specs.Meaning.{call, malformed, load-word, install-word, open-word, deliver-word, withdraw-word, loadBy, installBy, openBy, withdrawBy, revisionBy, deliverBy, revisionFields, callIn, lineIn}
-use Rattle.calltext.specs.Claims.{Fits, lineOf, Claims}
+use Rattle.calltext.specs.Meaning.{malformed, load-word, install-word, open-word, deliver-word, withdraw-word, installBy, revisionBy, deliverBy, revisionFields, callIn, lineIn}
+use Rattle.calltext.specs.Claims.{lineOf}
 use Rattle.calltext.proofs.Readings.{bad-revision}
 
 -- ---- the bytes of a field: a digit is over 47, and `-` is 45
@@ -71,11 +69,11 @@ over-call (delivers p v w) =
 over-call (withdraws p) = over-append 10 withdraw-word (decimal p) (search needs) (number-10 p)
 over-call asksVerdict = search needs
 
-not-empty : (w : List ℕ) → 1 ≤ length w → lineIn w ≡ callIn w
+pub not-empty : (w : List ℕ) → 1 ≤ length w → lineIn w ≡ callIn w
 not-empty w h = rw (ne-eqb (length w) 0 (λ e. omega arith))
 
 -- ---- bytes that are no rule
-other-size : (b : List ℕ) → AllBytes b → (length b ≡ 2058 → ⊥) → lineIn (install-word ++ fieldOf b) ≡ malformed
+pub other-size : (b : List ℕ) → AllBytes b → (length b ≡ 2058 → ⊥) → lineIn (install-word ++ fieldOf b) ≡ malformed
 unfolding begins callIn
 other-size b a other =
     not-empty (install-word ++ fieldOf b) (omega arith)
@@ -83,70 +81,31 @@ other-size b a other =
     ∙ rw (ne-eqb (length b) 2058 other)
 
 -- ---- the fields of a delivery
-number-32 : (n : ℕ) → Over 32 (decimal n)
+pub number-32 : (n : ℕ) → Over 32 (decimal n)
 number-32 n = over-less 32 47 (decimal n) (omega arith) (over-decimal 20 n)
 
-no-space : (w : List ℕ) → Over 32 w → past 32 w ≡ none
+pub no-space : (w : List ℕ) → Over 32 w → past 32 w ≡ none
 unfolding past
 no-space [] a = refl
 no-space (x ∷ w) a = rw (ne-eqb x 32 (λ e. omega (arith, a .0))) (no-space w (a .1))
 
 -- a place, and what stands behind one space
-place-line : (p : ℕ) (y : List ℕ) → callIn (deliver-word ++ (decimal p ++ (32 ∷ y))) ≡ revisionFields (parseNumber (decimal p)) (upTo 32 y) (past 32 y)
+place-line : (x y : List ℕ) → Over 32 x → callIn (deliver-word ++ (x ++ (32 ∷ y))) ≡ revisionFields (parseNumber x) (upTo 32 y) (past 32 y)
 unfolding begins callIn
-place-line p y = rw (over-up 32 y (decimal p) (number-32 p), over-past 32 y (decimal p) (number-32 p))
+place-line x y a = rw (over-up 32 y x a, over-past 32 y x a)
 
-delivery-line : (p v : ℕ) (w : List ℕ)
-    → callIn (lineOf (delivers p v w)) ≡ deliverBy (parseNumber (decimal p)) (revisionBy (parseNumber (decimal v))) (parseBytes (fieldOf w))
-delivery-line p v w =
-    place-line p (decimal v ++ (32 ∷ fieldOf w))
-    ∙ rw (over-up 32 (fieldOf w) (decimal v) (number-32 v), over-past 32 (fieldOf w) (decimal v) (number-32 v))
+pub delivery-line : (x y z : List ℕ) → Over 32 x → Over 32 y
+    → callIn (deliver-word ++ (x ++ (32 ∷ (y ++ (32 ∷ z))))) ≡ deliverBy (parseNumber x) (revisionBy (parseNumber y)) (parseBytes z)
+delivery-line x y z a b = place-line x (y ++ (32 ∷ z)) a ∙ rw (over-up 32 z y b, over-past 32 z y b)
 
-no-revision : (p : ℕ) (w : List ℕ) → lineIn (deliver-word ++ (decimal p ++ (32 ∷ fieldOf w))) ≡ malformed
+pub no-revision : (p : ℕ) (w : List ℕ) → lineIn (deliver-word ++ (decimal p ++ (32 ∷ fieldOf w))) ≡ malformed
 no-revision p w =
     not-empty (deliver-word ++ (decimal p ++ (32 ∷ fieldOf w))) (omega arith)
-    ∙ place-line p (fieldOf w)
+    ∙ place-line (decimal p) (fieldOf w) (number-32 p)
     ∙ rw (no-space (fieldOf w) (over-less 32 44 (fieldOf w) (omega arith) (over-field w)))
 
-revision-too-large : (p v : ℕ) (w : List ℕ) → 4294967295 < v → v ≤ 18446744073709551615 → lineIn (lineOf (delivers p v w)) ≡ malformed
+pub revision-too-large : (p v : ℕ) (w : List ℕ) → 4294967295 < v → v ≤ 18446744073709551615 → lineIn (lineOf (delivers p v w)) ≡ malformed
 revision-too-large p v w large fits =
     not-empty (lineOf (delivers p v w)) (omega arith)
-    ∙ delivery-line p v w
+    ∙ delivery-line (decimal p) (decimal v) (fieldOf w) (number-32 p) (number-32 v)
     ∙ rw (fields.claims .number-round-trip v fits, lt-leb v 4294967295 large) (bad-revision (parseNumber (decimal p)) (parseBytes (fieldOf w)))
-
--- ---- the calls
-all-bytes : (b : List ℕ) → Bytes b → AllBytes b
-all-bytes [] h = tt
-all-bytes (x ∷ b) h = (h 0, all-bytes b (λ i. h (suc i)))
-
-some-byte : (c : Call) → 1 ≤ length (lineOf c)
-some-byte (installs r) = omega arith
-some-byte (loads f) = omega arith
-some-byte (opens n) = omega arith
-some-byte (delivers p v w) = omega arith
-some-byte (withdraws p) = omega arith
-some-byte asksVerdict = omega arith
-
-call-again : (c : Call) → Fits c → callIn (lineOf c) ≡ call c
-unfolding begins callIn
-call-again (installs r) a =
-    ap installBy (fields.claims .bytes-round-trip (packedOf r) (all-bytes (packedOf r) (packed.claims .packed-bytes r a)))
-    ∙ rw (eq-eqb (length (packedOf r)) 2058 (packed.claims .packed-size r), packed.claims .packed-round-trip r a)
-call-again (loads f) a = ap loadBy (fields.claims .bytes-round-trip f a)
-call-again (opens n) a = ap openBy (fields.claims .number-round-trip n a)
-call-again (delivers p v w) a =
-    delivery-line p v w
-    ∙ rw (fields.claims .number-round-trip p (a .0), fields.claims .number-round-trip v (omega (arith, a .1)), le-leb v 4294967295 (a .1), fields.claims .bytes-round-trip w (a .2))
-call-again (withdraws p) a = ap withdrawBy (fields.claims .number-round-trip p a)
-call-again asksVerdict a = refl
-
-line-round-trip : (c : Call) → Fits c → lineIn (lineOf c) ≡ call c
-line-round-trip c a = not-empty (lineOf c) (some-byte c) ∙ call-again c a
-
-pub claims : Claims
-claims = record {
-  line-round-trip = line-round-trip;
-  other-size = other-size;
-  no-revision = no-revision;
-  revision-too-large = revision-too-large;
-}

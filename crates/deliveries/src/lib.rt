@@ -5,7 +5,7 @@ ghost use Prim.Native.Nat.{_≤_};
 ghost use lib.ListN.{length};
 ghost use Rattle.limits.specs.Limits.{longestChunk};
 ghost use Rattle.marks.specs.Marks.{textOf};
-ghost use Rattle.deliveries.specs.Attempts.{refusedWith, attemptOf};
+ghost use Rattle.deliveries.specs.Attempts.{refusedWith, attemptMeans, attemptOf};
 use calls::DeliverAnswer;
 use chunks::Runs;
 
@@ -16,7 +16,7 @@ pub struct Attempt {
 }
 
 fn refuse_text(number: u8) -> Attempt
-    ensures { λ r. ⌜ r ≡ refusedWith number ⌝ }
+    ensures { λ r. ⌜ attemptMeans r ≡ refusedWith number ⌝ }
 {
     let answer = DeliverAnswer::Refused(number);
     let ends = [0u32; limits::STATES];
@@ -41,7 +41,7 @@ fn run_text<'a>(
     text: &[u8],
 ) -> Attempt
     requires { ⌜ length (now text) ≤ longestChunk ⌝ }
-    ensures { λ r. ⌜ r ≡ attemptOf (now (sets .entry)) (now (next .entry)) (now (singles .entry)) mask k late (now (text .entry)) ⌝ }
+    ensures { λ r. ⌜ attemptMeans r ≡ attemptOf (now (sets .entry)) (now (next .entry)) (now (singles .entry)) mask k late (now (text .entry)) ⌝ }
 {
     if chunks::has_foreign(text, k) {
         return refuse_text(13);
@@ -65,7 +65,7 @@ fn run_marked<'a>(
     chunk: &[u8],
 ) -> Attempt
     requires { ⌜ length (now chunk) ≤ longestChunk ⌝ }
-    ensures { λ r. ⌜ r ≡ attemptOf (now (sets .entry)) (now (next .entry)) (now (singles .entry)) mask k late (textOf (now (chunk .entry))) ⌝ }
+    ensures { λ r. ⌜ attemptMeans r ≡ attemptOf (now (sets .entry)) (now (next .entry)) (now (singles .entry)) mask k late (textOf (now (chunk .entry))) ⌝ }
 {
     let mut buffer = [0u8; limits::CHUNK];
     let n = marks::pack(chunk, &mut buffer);
@@ -83,7 +83,7 @@ pub fn run_delivery<'a>(
     chunk: &[u8],
 ) -> Attempt
     requires { ⌜ length (now chunk) ≤ longestChunk ⌝ }
-    ensures { λ r. ⌜ r ≡ attemptOf (now (sets .entry)) (now (next .entry)) (now (singles .entry)) mask k late (textOf (now (chunk .entry))) ⌝ }
+    ensures { λ r. ⌜ attemptMeans r ≡ attemptOf (now (sets .entry)) (now (next .entry)) (now (singles .entry)) mask k late (textOf (now (chunk .entry))) ⌝ }
 {
     if marks::has_marks(chunk) {
         return run_marked(sets, next, singles, mask, k, late, chunk);

@@ -31,6 +31,9 @@
 --      lastRevision, leastAfter       revisions at a place                  histories/specs/History, Claims
 --      Orders; Revisions              deliveries in any order; in words     histories/specs/Orders, Revisions
 --      LookedUp, AllEmpty             for how many bytes a set is looked up histories/, chunks/specs/Claims
+--      LastRule .. LastStanding       by the last accepted call of a kind   histories/specs/Last
+--      EmptyPlaces                    the empty places, call by call        histories/specs/Empties
+--      numbersOf; MarksSkipped        each call's numbers; idle marks       histories/, calls/specs
 --      textOf; foreign, ForeignByte   a chunk without idle marks; 13        marks/, chunks/, calls/specs
 --      runSet, endSet, chunkCount     running a text                        chunks/specs/Chunks
 --      held, isEmpty, summedCount ..  what a board holds                    board/specs/Boards
@@ -42,6 +45,9 @@
 --      listText; listOf, skippedLines lists that a malformed line ends      linetexts/specs/Lists
 --      linesOf; lineIn, responseText  lines, calls and answers as text      lines/, calltext/specs
 --      streamOf, Blocks; finishOf     what is written for blocks            linetexts/specs/Claims, Feeding
+--      Gathers; FedBlocks             a round; blocks through functions     linetexts/specs/Feeding, Functions
+--      MayGather, MayFinish           what their contracts allow            specs/TextFunctions
+--      SaysCall; SaysNumber, ..       which lines and fields say what       calltext/, fields/specs/Claims
 --      recordIn, replayOf             a recorded list                       replay/specs/Records
 --
 -- A list of calls has the last call first. A proved function ends and stays within its bounds.
@@ -52,12 +58,14 @@ use mathlib.Core.Bool.{true, false}
 use mathlib.Core.List.{List, [], _∷_, _++_, flatten}
 use mathlib.Core.Option.{none, some}
 use Prim.Native.Nat.{ℕ, _*_, _≤_, _<_}
-use lib.ListN.{length, getD, getElem?}
+use lib.ListN.{length, take, getD, getElem?}
+use Rattle.text.specs.Writing.{Wrote}
 use contract.Lifetimes.{Lfts}
 use denote.Ref.{RefT}
 use Rattle.limits.specs.Limits.{mostStates, mostPlaces, mostTransitions, lineRoom}
 use Rattle.base.specs.Options.{isNone}
 use Rattle.marks.specs.Marks.{textOf}
+use Rattle.marks.proofs.Claims as marks
 use Rattle.masks.specs.Masks.{shares}
 use Rattle.executions.specs.Executions.{Execution}
 use Rattle.executions.proofs.Executions.{execution-law}
@@ -81,14 +89,17 @@ use Rattle.calls.specs.declared.Judge.{Judge}
 use Rattle.calls.specs.Replies.{waiting, yesWith, noWith, refusedWith, Reply, refusalOf, delivered}
 use Rattle.calls.specs.Calls.{Call, installNumber, loadNumber, delivers, asksVerdict}
 use Rattle.calls.specs.Steps.{fresh, installOf, openOf, deliverOf, withdrawOf, isYes, reportOf, stepOf, loadOf}
-use Rattle.calls.specs.Claims.{LoadIs, Divided, ThreeZeros, ForeignByte}
+use Rattle.calls.specs.Claims.{LoadIs, Divided, ThreeZeros, ForeignByte, MarksSkipped}
 use Rattle.chunks.specs.Chunks.{foreign}
 use Rattle.calls.proofs.Loading as calls-loading
 use Rattle.calls.proofs.Foreign as calls-foreign
+use Rattle.calls.proofs.MarksSkipped as calls-marks
 use Rattle.calls.proofs.Refusing as refusing
 use Rattle.histories.specs.History.{ruleThere, ruleIn, boardIn, lastRevision, standing, standingText, endAt, countAt, lengthAt, emptiesIn, summedIn, bytesIn, yesIn, textIn, verdictIn, reportIn, answersTo, answerOf}
 use Rattle.histories.specs.Method.{Method}
-use Rattle.histories.specs.Conditions.{Accepted-exactly, Refused-exactly}
+use Rattle.histories.specs.Last.{LastRule, LastBoard, LastRevision, LastStanding}
+use Rattle.histories.specs.Empties.{EmptyPlaces}
+use Rattle.histories.specs.Conditions.{Accepted-exactly, Refused-exactly, No-other-number}
 use Rattle.histories.specs.Claims.{judgeMachine, judgeAfter, repliesTo, BuiltBy, leastAfter, VerdictSays, LookedUp, EveryList}
 use Rattle.histories.specs.CountBound.{CountBound}
 use Rattle.histories.specs.Counted.{Counted}
@@ -108,17 +119,23 @@ use Rattle.histories.proofs.Counted as histories-counted
 use Rattle.histories.proofs.FormerStarts as histories-former
 use Rattle.histories.proofs.Orders as histories-orders
 use Rattle.histories.proofs.Revisions as histories-revisions
+use Rattle.histories.proofs.Last as histories-last
+use Rattle.histories.proofs.Empties as histories-empties
+use Rattle.histories.proofs.NoOther as histories-numbers
 use Rattle.histories.proofs.Fewest as histories-fewest
 use Rattle.histories.proofs.TablePRuns as histories-table
 use Rattle.lines.specs.Splitting.{linesOf}
 use Rattle.longlines.specs.Holding.{lineBegin}
-use Rattle.linetexts.specs.Feeding.{State, stateOf, finishOf}
+use Rattle.linetexts.specs.Feeding.{State, stateOf, finishOf, gatherAt, Gathers}
 use Rattle.linetexts.specs.Lists.{Listed, listOf, NoneEmpty, skippedLines}
 use Rattle.linetexts.specs.Claims.{streamOf, Blocks}
+use Rattle.linetexts.specs.Functions.{FedBlocks}
 use Rattle.stream.specs.Texts.{callLines, rightText}
+use Rattle.stream.specs.Worked.{cutText, cutAnswers, sampleText, sampleAnswers}
 use Rattle.stream.proofs.Claimed as stream
-use Rattle.calltext.specs.Meaning.{malformed, lineIn}
-use Rattle.calltext.specs.Claims.{Fits, lineOf}
+use Rattle.calltext.specs.Meaning.{again, call, malformed, lineIn}
+use Rattle.calltext.specs.Claims.{Fits, lineOf, SaysCall}
+use Rattle.calltext.proofs.Exact as calltext
 use Rattle.answers.specs.Answers.{malformedText}
 use Rattle.replay.specs.Records.{calls, readLine, recordIn, replayOf}
 use Rattle.replay.specs.Claims.{AllFit, recordOf}
@@ -138,8 +155,11 @@ use Rattle.capi.proofs.bellbadger_read.Reads as read-reads
 use Rattle.capi.proofs.bellbadger_replay.Reads as replay-reads
 use Rattle.demands.specs.Functions.{cLibrary, MayBegin, MayInstall, MayRead, MayLoad, MayOpen, MayDeliver, MayWithdraw, MayJudge, MayReplay}
 use Rattle.demands.specs.Shown.{RefusedFromC, NoVerdictFromC}
+use Rattle.demands.specs.TextFunctions.{MayGather, MayFinish}
 use Rattle.demands.proofs.Functions.{c-meets, read-fixed, load-fixed, replay-fixed}
 use Rattle.demands.proofs.Shown.{new-fixed, install-fixed, open-fixed, deliver-fixed, withdraw-fixed, verdict-fixed, refused-so, no-verdict}
+use Rattle.demands.proofs.TextFunctions as text-functions
+use Rattle.demands.proofs.SampleText as demands-sample
 
 -- ---- 1. ANY INPUT
 -- Any rule, any bytes, any place number, any state: the call ends with the result that document 01 gives.
@@ -413,6 +433,54 @@ zeros h = every-list h .report .zeros
 pub table-P : Each (λ c. Tabled judgeLibrary c × Tabled cLibrary c) cases
 table-P = histories-table.table-P judgeLibrary cLibrary judge-meets c-meets
 
+-- ---- THE LIST IN OTHER WORDS
+-- What the sentences above say of a list of calls goes through it call by call
+-- (histories/specs/History). So that none rests on that alone, each is said once more, by the list
+-- cut at one call, or call by call where it counts. "A rule is there once a load was accepted, and
+-- it is that of the last accepted load", in whose part an installation stands (document 02, R-3):
+pub last-rule : (h : List Call) → LastRule h
+last-rule = histories-last.last-rule
+
+-- "A board is there exactly when the last accepted call among loads and openings is an opening";
+-- its places are that opening's, and it has none exactly when it is not there.
+pub last-board : (h : List Call) → LastBoard h
+last-board = histories-last.last-board
+
+-- "the last accepted one there": the last revision is that of the delivery last accepted at the
+-- place since opening, "even after a withdrawal" (document 02, R-11).
+pub last-revision : (h : List Call) → LastRevision h
+last-revision = histories-last.last-revision
+
+-- "A standing chunk is the one last accepted at its place since that opening, and not withdrawn
+-- since."
+pub last-standing : (h : List Call) → LastStanding h
+last-standing = histories-last.last-standing
+
+-- The number of empty places: none at first and where a rule goes in, N after an opening of N, "all
+-- empty"; one less where a delivery fills one, one more where a withdrawal empties one, else the
+-- same.
+pub empty-places : EmptyPlaces emptiesIn
+empty-places = histories-empties.empty-places
+
+-- An idle mark "is skipped, counts no transition and isn't part of the text"; "Chunk length limits
+-- still count every byte" (document 02, R-5). With and without its marks a delivery has the same
+-- outcome, on any state; one of more than 65,536 bytes is refused with 21, 11 or 12, whatever its
+-- text.
+pub marks-skipped : (j : Judge) (p v : ℕ) (w : List ℕ) → MarksSkipped j p v w
+marks-skipped = calls-marks.marks-skipped
+
+-- What the text of a chunk is, byte by byte: an idle mark, 255, is left out, and any other byte stays.
+pub text-of : (textOf [] ≡ []) × ((w : List ℕ) → textOf (255 ∷ w) ≡ textOf w)
+    × ((b : ℕ) (w : List ℕ) → (b ≡ 255 → ⊥) → textOf (b ∷ w) ≡ b ∷ textOf w)
+unfolding textOf
+text-of = (refl, marks.claims .skipped, marks.claims .kept)
+
+-- "A number is returned when its condition holds and no earlier one does, never otherwise": an
+-- installation gives 3, 4, 6, 8, 9, a load 1 to 9, an opening 20, 10, a delivery 21, 11, 12, 13,
+-- 22, a withdrawal 21, 11, 23, a verdict 21, and no other.
+pub no-other-number : (h : List Call) → No-other-number h
+no-other-number = histories-numbers.no-other-number
+
 -- ---- CALLS AS TEXT
 -- The answers to a text of calls are right line by line, however it is cut into blocks.
 pub texts : (blocks : List (List ℕ)) (line : List ℕ) → lineRoom ≤ length line
@@ -426,6 +494,32 @@ pub texts-written : {room : ℕ} {s′ : State (Listed Judge)} {blocks : List (L
     → text ++ finishOf callLines s′ .text ≡ rightText (some []) (linesOf (flatten blocks))
 texts-written = stream.claims .written
 
+-- So from the functions: what the contract of `gather` allows is a round, that of `finish` the end, and
+-- nothing else; fed through them, block by block, a text is answered right.
+pub gather-allows : (s t : State (Listed Judge)) (before block after : List ℕ) (at next written : ℕ)
+    → MayGather s before block at t next written after ↔ Gathers (gatherAt callLines block at (length before) s) at t next written before after
+gather-allows = text-functions.gather-fixed
+
+pub finish-allows : (s : State (Listed Judge)) (before after : List ℕ) (written : ℕ)
+    → MayFinish s before written after ↔ Wrote before 0 (finishOf callLines s .text) after written
+finish-allows = text-functions.finish-fixed
+
+pub texts-fed : {room written : ℕ} {s′ : State (Listed Judge)} {blocks : List (List ℕ)} {line text before after : List ℕ} → lineRoom ≤ length line
+    → FedBlocks MayGather room (stateOf (listOf fresh false) lineBegin line) blocks s′ text → MayFinish s′ before written after
+    → text ++ take written after ≡ rightText (some []) (linesOf (flatten blocks))
+texts-fed = text-functions.fed
+
+-- A line means a call exactly when it is that call's line, but for leading zeros and the case of hex
+-- digits; the empty one begins afresh, and any other is malformed.
+pub line-means : (l : List ℕ) (c : Call) → (lineIn l ≡ call c) ↔ SaysCall l c
+line-means = calltext.claims .line-exactly
+
+pub line-again : (l : List ℕ) → (lineIn l ≡ again) ↔ (l ≡ [])
+line-again = calltext.claims .again-exactly
+
+pub line-malformed : (l : List ℕ) → (lineIn l ≡ malformed) ↔ ((l ≡ [] → ⊥) × ((c : Call) → SaysCall l c → ⊥))
+line-malformed = calltext.claims .malformed-exactly
+
 -- After a malformed line no call is made and no verdict given until an empty line: each line is
 -- answered `skipped`, whatever it says. The empty line begins afresh.
 pub malformed-ends : (h : List Call) (l : List ℕ) (ls : List (List ℕ)) → lineIn l ≡ malformed → NoneEmpty ls
@@ -435,6 +529,14 @@ malformed-ends = stream.claims .ends-list
 pub begins-afresh : (h : List Call) (l : List ℕ) (ls more : List (List ℕ)) → lineIn l ≡ malformed → NoneEmpty ls
     → rightText (some h) ((l ∷ ls) ++ ([] ∷ more)) ≡ malformedText ++ (skippedLines ls ++ ((10 ∷ []) ++ rightText (some []) more))
 begins-afresh = stream.claims .afresh
+
+-- Worked, byte by byte: samples/two_chunks.calls is answered with what the README prints for it, and
+-- a text in which a line was cut with `malformed` and `skipped`.
+pub sample-text : rightText (some []) (linesOf sampleText) ≡ sampleAnswers
+sample-text = demands-sample.sample
+
+pub cut-text : rightText (some []) (linesOf cutText) ≡ cutAnswers
+cut-text = stream.claims .worked
 
 -- What C is given for a recorded list, of which nothing is asked, is the verdict after it, or its
 -- first malformed line; and every list of calls has a record, a line for each call.

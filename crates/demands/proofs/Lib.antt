@@ -1,3 +1,5 @@
 pub mod Functions
 pub mod Shown
+pub mod TextFunctions
+pub mod SampleText
 pub mod Demands

@@ -1,2 +1,3 @@
 pub mod Functions
 pub mod Shown
+pub mod TextFunctions

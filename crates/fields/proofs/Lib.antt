@@ -2,5 +2,7 @@
 pub mod Digits
 pub mod Pairs
 pub mod RoundTrip
+pub mod Exact
+pub mod Claims
 pub mod Examples
 pub mod Taking

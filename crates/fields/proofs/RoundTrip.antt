@@ -14,7 +14,7 @@ use Rattle.text.specs.Numerals.{decimal, decimalBelow, hexDigit, hex}
 use Rattle.text.proofs.Digits.{one-digit, more-digits, decimal-most}
 use Rattle.fields.specs.Numbers.{allDigits, valueFrom, parseNumber}
 use Rattle.fields.specs.Bytes.{hexValue, allHex, pairs, parseBytes}
-use Rattle.fields.specs.Claims.{AllBytes, digitsOf, fieldOf, Claims}
+use Rattle.fields.specs.Claims.{AllBytes, digitsOf, fieldOf}
 use Rattle.fields.proofs.Pairs.{within-so, within-high}
 
 -- ---- one digit more
@@ -57,14 +57,14 @@ reads-decimal (suc f) n h =
     let p = pow-suc 10 (suc f) in
     rw (more-digits (suc f) n (ltb-false n 10 e)) (reads-more (decimalBelow (suc f) (n / 10)) n (reads-decimal f (n / 10) (omega arith))))
 
-number-round-trip : (n : ℕ) → n ≤ 18446744073709551615 → parseNumber (decimal n) ≡ some n
+pub number-round-trip : (n : ℕ) → n ≤ 18446744073709551615 → parseNumber (decimal n) ≡ some n
 number-round-trip n h =
     let r = reads-decimal 19 n (omega arith) in
     let most = decimal-most 19 n (omega arith) in
     rw (le-leb 1 (length (decimal n)) (r .some-digit), le-leb (length (decimal n)) 20 most, r .digits, r .value, le-leb n 18446744073709551615 h)
 
 -- ---- hex digits
-digit-again : (d : ℕ) → d < 16 → hexValue (hexDigit d) ≡ d
+pub digit-again : (d : ℕ) → d < 16 → hexValue (hexDigit d) ≡ d
 unfolding hexValue
 digit-again d h =
     by-test (ltb d 10)
@@ -74,7 +74,7 @@ digit-again d h =
     rw (e, within-high 48 57 (55 + d) (omega arith), within-so 65 70 (55 + d) (omega arith) (omega arith)) (omega arith))
 
 module _ (x : ℕ) (b : List ℕ) (h : x < 256) where
-  two-digits : digitsOf (x ∷ b) ≡ hexDigit (x / 16 % 16) ∷ hexDigit (x % 16) ∷ digitsOf b
+  pub two-digits : digitsOf (x ∷ b) ≡ hexDigit (x / 16 % 16) ∷ hexDigit (x % 16) ∷ digitsOf b
   unfolding digitsOf hex
   two-digits = refl
 
@@ -110,7 +110,7 @@ unfolding digitsOf
 length-again [] a = refl
 length-again (x ∷ b) a = let i = length-again b (a .1) in length-two x b (a .0) ∙ omega arith
 
-bytes-round-trip : (b : List ℕ) → AllBytes b → parseBytes (fieldOf b) ≡ some b
+pub bytes-round-trip : (b : List ℕ) → AllBytes b → parseBytes (fieldOf b) ≡ some b
 unfolding parseBytes
 bytes-round-trip [] a = refl
 bytes-round-trip (x ∷ b) a =
@@ -118,6 +118,3 @@ bytes-round-trip (x ∷ b) a =
     let w = digitsOf (x ∷ b) in
     let even : length w % 2 ≡ 0 = omega arith in
     rw (ne-eqb (length w) 1 (λ e. omega arith), le-leb 1 (length w) (omega arith), even, hex-again (x ∷ b) a, pairs-again (x ∷ b) a)
-
-pub claims : Claims
-claims = record { number-round-trip = number-round-trip; bytes-round-trip = bytes-round-trip }

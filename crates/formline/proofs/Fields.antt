@@ -4,7 +4,8 @@
 --   unsaid     the field says nothing
 --   goes-on    it says something: what is made of the rest
 --   no-cells, many-sets, many-symbols, all-held   the ways out of `with_masks`
-use mathlib.Core.Path.{_≡_, refl, sym, ap, _∙_}
+use mathlib.Core.Path.{_≡_, refl, sym, ap, ap₂, _∙_}
+use mathlib.Core.Logic.{_⊎_, inl, inr}
 use mathlib.Core.Bool.{Bool, true, false, cond, _&&_}
 use mathlib.Core.List.{List}
 use mathlib.Core.Option.{Option, none, some}
@@ -14,10 +15,12 @@ use lib.Dec.{ltb}
 use lib.ListN.{length, take, drop, length-drop}
 use lib.Seq.{take-all}
 use borrow.Author.Tests.{lt-ltb, le-ltb}
+use Rattle.base.proofs.Tests.{by-test}
 use Rattle.lines.specs.Splitting.{upTo, past}
 use Rattle.lines.proofs.Splits.{up-take, past-there, past-none}
 use Rattle.wordfields.specs.Words.{wordsMean}
 use Rattle.forms.specs.declared.Form.{Form}
+use Rattle.formmaker.specs.Making.{noForm}
 use Rattle.formline.specs.declared.LineKind.{LineKind}
 use Rattle.formline.specs.declared.LineKind.the-variants.{TooGreat, Malformed}
 use Rattle.formline.specs.declared.FormLine.{FormLine}
@@ -27,15 +30,19 @@ nothing-behind : {A : Type 0} (o : Option A) (next : A → List ℕ → Option F
 nothing-behind none next = refl
 nothing-behind (some a) next = refl
 
-of-kind : (r : FormLine) (kind : LineKind) → r .kind ≡ kind → lineMeans r ≡ heldBy kind (r .form)
-of-kind r kind e = ap (λ (x : LineKind). heldBy x (r .form)) e
+-- a result without a form: its kind, and zeros
+abbrev Blank : FormLine → LineKind → Type 0
+Blank r kind = (r .kind ≡ kind) × (r .form ≡ noForm)
+
+of-kind : (r : FormLine) (kind : LineKind) → Blank r kind → lineMeans r ≡ heldBy kind noForm
+of-kind r kind e = ap₂ heldBy (e .0) (e .1)
 
 module _ {A : Type 0} (parse : List ℕ → Option A) (next : A → List ℕ → Option Form) (w : List ℕ) (space : ℕ)
     (found : space ≡ 0 + length (upTo 32 (drop 0 w))) where
   abbrev all : Held
   all = heldOf (fieldThen (parse (upTo 32 w)) (past 32 w) next)
 
-  pub alone : length w ≤ space → (r : FormLine) → r .kind ≡ Malformed → lineMeans r ≡ all
+  pub alone : length w ≤ space → (r : FormLine) → Blank r Malformed → lineMeans r ≡ all
   alone l r e =
       let z : past 32 w ≡ none = past-none 32 w (omega arith) in
       of-kind r Malformed e
@@ -50,7 +57,7 @@ module _ {A : Type 0} (parse : List ℕ → Option A) (next : A → List ℕ →
         let e : suc (length (upTo 32 w)) ≡ space + 1 = omega arith in
         past-there 32 w (omega arith) ∙ ap (λ (x : ℕ). some (drop x w)) e
 
-    pub unsaid : (o : Option A) → o ≡ parse (take space w) → o ≡ none → (r : FormLine) → r .kind ≡ Malformed → lineMeans r ≡ all
+    pub unsaid : (o : Option A) → o ≡ parse (take space w) → o ≡ none → (r : FormLine) → Blank r Malformed → lineMeans r ≡ all
     unsaid o is e r k =
         let z : parse (upTo 32 w) ≡ none = ap parse (sym part) ∙ sym is ∙ e in
         of-kind r Malformed k ∙ sym (ap (λ (o : Option A). heldOf (fieldThen o (past 32 w) next)) z)
@@ -63,22 +70,22 @@ module _ {A : Type 0} (parse : List ℕ → Option A) (next : A → List ℕ →
 
 -- ---- the last field, which says o, and then the two numbers
 module _ (n k : ℕ) (a b : List ℕ) (o : Option (List ℕ)) where
-  pub no-cells : o ≡ none → (r : FormLine) → r .kind ≡ Malformed → lineMeans r ≡ heldOf (cellsBy n k a b o)
+  pub no-cells : o ≡ none → (r : FormLine) → Blank r Malformed → lineMeans r ≡ heldOf (cellsBy n k a b o)
   no-cells e r q = of-kind r Malformed q ∙ sym (ap (λ (o : Option (List ℕ)). heldOf (cellsBy n k a b o)) e)
 
   module _ (l : List ℕ) (e : o ≡ some l) where
     abbrev both : Held
-    both = cond (ltb n 65536 && ltb k 256) (says (record { sets = n; symbols = k; failure = a; kept = b; cells = l })) tooGreat
+    both = cond (ltb n 65536 && ltb k 256) (says (record { sets = n; symbols = k; failure = a; kept = b; cells = l })) (tooGreat noForm)
 
     held : both ≡ heldOf (cellsBy n k a b o)
     held = sym (ap (λ (o : Option (List ℕ)). heldOf (cellsBy n k a b o)) e)
 
-    pub many-sets : 65535 < n → (r : FormLine) → r .kind ≡ TooGreat → lineMeans r ≡ heldOf (cellsBy n k a b o)
-    many-sets h r q = let z : both ≡ tooGreat = rw (le-ltb n 65536 (omega arith)) in of-kind r TooGreat q ∙ sym z ∙ held
+    pub many-sets : 65535 < n → (r : FormLine) → Blank r TooGreat → lineMeans r ≡ heldOf (cellsBy n k a b o)
+    many-sets h r q = let z : both ≡ tooGreat noForm = rw (le-ltb n 65536 (omega arith)) in of-kind r TooGreat q ∙ sym z ∙ held
 
-    pub many-symbols : n ≤ 65535 → 255 < k → (r : FormLine) → r .kind ≡ TooGreat → lineMeans r ≡ heldOf (cellsBy n k a b o)
+    pub many-symbols : n ≤ 65535 → 255 < k → (r : FormLine) → Blank r TooGreat → lineMeans r ≡ heldOf (cellsBy n k a b o)
     many-symbols h m r q =
-        let z : both ≡ tooGreat = rw (lt-ltb n 65536 (omega arith), le-ltb k 256 (omega arith)) in
+        let z : both ≡ tooGreat noForm = rw (lt-ltb n 65536 (omega arith), le-ltb k 256 (omega arith)) in
         of-kind r TooGreat q ∙ sym z ∙ held
 
     pub all-held : n ≤ 65535 → k ≤ 255
@@ -87,6 +94,11 @@ module _ (n k : ℕ) (a b : List ℕ) (o : Option (List ℕ)) where
         let z : both ≡ says (record { sets = n; symbols = k; failure = a; kept = b; cells = l }) =
         rw (lt-ltb n 65536 (omega arith), lt-ltb k 256 (omega arith)) in
         sym z ∙ held
+
+pub too-great : (f : Form) → (65535 < f .sets) ⊎ (255 < f .symbols) → heldOf (some f) ≡ tooGreat noForm
+too-great f (inl h) = rw (le-ltb (f .sets) 65536 (omega arith))
+too-great f (inr h) =
+    by-test (ltb (f .sets) 65536) (λ t. rw (t, le-ltb (f .symbols) 256 (omega arith))) (λ t. rw t)
 
 -- numbers that were read, or not
 pub words-known : (known : Bool) (words : List ℕ) → known ≡ true → wordsMean known words ≡ some words

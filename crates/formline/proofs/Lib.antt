@@ -1,4 +1,6 @@
 pub mod Fields
 pub mod Bounds
 pub mod Numbers
+pub mod RoundTrip
+pub mod Examples
 pub mod Claims

@@ -9,8 +9,8 @@
 --   longestLine          no line that says a form is longer (specs/Claims.antt)
 --   Held                 what the code has of a line: the form; or that one of the two numbers is too
 --                        great for a form as a value, 16 bits for sets and 8 for symbols; or that the
---                        line is malformed
---   heldOf o             that, where the line says the form o, if it says one
+--                        line is malformed; with the form beside it
+--   heldOf o             that, where the line says the form o, if it says one; beside no form zeros
 --   lineMeans r          what the code's result says
 use mathlib.Core.Bool.{cond, _&&_}
 use mathlib.Core.List.{List}
@@ -22,6 +22,7 @@ use Rattle.lines.specs.Splitting.{upTo, past}
 use Rattle.fields.specs.Numbers.{parseNumber}
 use Rattle.wordfields.specs.Words.{parseWords}
 use Rattle.forms.specs.declared.Form.{Form}
+use Rattle.formmaker.specs.Making.{noForm}
 use Rattle.formline.specs.declared.LineKind.{LineKind}
 use Rattle.formline.specs.declared.LineKind.the-variants.{Says, TooGreat, Malformed}
 use Rattle.formline.specs.declared.FormLine.{FormLine}
@@ -59,17 +60,17 @@ longestLine = mostDigits + mostDigits + 4 * mostSets + 4 * mostSets + 4 * tableC
 -- ---- the code's result
 pub data Held : Type 0 where
   says : Form → Held
-  tooGreat : Held
-  malformed : Held
+  tooGreat : Form → Held
+  malformed : Form → Held
 
 abbrev pub heldOf : Option Form → Held
-heldOf none = malformed
-heldOf (some f) = cond (ltb (f .sets) 65536 && ltb (f .symbols) 256) (says f) tooGreat
+heldOf none = malformed noForm
+heldOf (some f) = cond (ltb (f .sets) 65536 && ltb (f .symbols) 256) (says f) (tooGreat noForm)
 
 abbrev pub heldBy : LineKind → Form → Held
 heldBy Says f = says f
-heldBy TooGreat f = tooGreat
-heldBy Malformed f = malformed
+heldBy TooGreat f = tooGreat f
+heldBy Malformed f = malformed f
 
 abbrev pub lineMeans : FormLine → Held
 lineMeans r = heldBy (r .kind) (r .form)

@@ -1,5 +1,6 @@
 // A failure form on a line: `SETS SYMBOLS FAILURE MASKS CELLS`.
 ghost use mathlib.Core.Path.{_≡_};
+ghost use Rattle.formmaker.specs.Making.{noForm};
 ghost use Rattle.formline.specs.Lines.{cellsIn, masksIn, failureIn, symbolsIn, lineIn, heldOf, lineMeans};
 use fields::Number;
 use forms::Form;
@@ -24,7 +25,7 @@ pub struct FormLine {
 }
 
 fn without(kind: LineKind) -> FormLine
-    ensures { λ r. ⌜ r .kind ≡ kind ⌝ }
+    ensures { λ r. ⌜ (r .kind ≡ kind) × (r .form ≡ noForm) ⌝ }
 {
     let form = formmaker::no_form();
     FormLine { kind, form }

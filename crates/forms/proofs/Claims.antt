@@ -18,16 +18,12 @@ use Rattle.forms.specs.Back.{keptCount, backBy, tableOf}
 use Rattle.forms.specs.Claims.{Claims}
 use Rattle.forms.proofs.Picking.{picked-past}
 use Rattle.masks.proofs.Passing.{mask-in, mask-of}
-use Rattle.forms.proofs.Failure.{best-below, best-most, best-lowest, first-keeps, left-out}
+use Rattle.forms.proofs.Failure.{best-below, best-most, best-lowest, first-keeps, left-out, differs}
+use Rattle.forms.proofs.Fewest as fewest
 use Rattle.forms.proofs.Accepting.{parts, refused-exactly, no-other}
 use Rattle.forms.proofs.PerSet.{of-set, of-no-set}
 use Rattle.forms.proofs.Trip as trip
 use Rattle.forms.proofs.Reading as reading
-
--- a set above 0 keeps exactly the cells that are not equal to the failure set's
-differs : (l : List ℕ) (k t s : ℕ) → 0 < t → keeps l k t s ≡ not (eqb (cell l t s) (cell l (failureOf l k t) s))
-unfolding keeps
-differs l k t s h = rw (ne-eqb t 0 (λ e. absurd (omega arith)))
 
 kept-law : (k t s : ℕ) (l : List ℕ) → 0 < t → s < k → (s ∈ keptMask l k t) ↔ (cell l t s ≡ cell l (failureOf l k t) s → ⊥)
 kept-law k t s l z h = (
@@ -52,6 +48,10 @@ claims = record {
   below = λ k t l. best-below l k t t;
   most = λ k t u l. best-most l k t t u;
   lowest = λ k t u l. best-lowest l k t t u;
+  not-different = λ k t u l. fewest.not-different l k t u;
+  kept-differ = λ k t l. fewest.kept-differ l k t;
+  fewest = λ k t u l. fewest.fewest l k t u;
+  lowest-fewest = λ k t u l. fewest.lowest-fewest l k t u;
   first-failure = first-failure;
   first-keeps = λ k s l h. mask-of (keeps l k 0) k s h (first-keeps l k s);
   kept = kept-law;

@@ -7,7 +7,7 @@ use mathlib.Core.List.{List}
 use Prim.Native.Nat.{ℕ, zero, suc, _≤_, _<_}
 use native.Mathlib.Omega.{arith}
 use lib.Dec.{eqb, ltb}
-use borrow.Author.Tests.{eqb-true, eqb-false, ltb-true, ltb-false, not-false}
+use borrow.Author.Tests.{ne-eqb, eqb-true, eqb-false, ltb-true, ltb-false, not-false}
 use Rattle.base.proofs.Tests.{by-test, not-both, or-left, or-right}
 use Rattle.forms.specs.Form.{cell, equalCells, bestBelow, failureOf, keeps}
 use Rattle.forms.proofs.Picking.{below-suc}
@@ -23,7 +23,7 @@ module _ (l : List ℕ) (k t : ℕ) where
       (λ e. inl (rw e, ltb-true (equalCells l k t (bestBelow l k t u)) (equalCells l k t u) e))
       (λ e. inr (rw e, ltb-false (equalCells l k t (bestBelow l k t u)) (equalCells l k t u) e))
 
-  no-more : (v : ℕ) → bestBelow l k t v ≤ v
+  pub no-more : (v : ℕ) → bestBelow l k t v ≤ v
   unfolding bestBelow
   no-more zero = omega arith
   no-more (suc v) = ⊎-elim (λ a. omega (arith, a .0)) (λ a. omega (arith, a .0, no-more v)) (next v)
@@ -52,6 +52,11 @@ module _ (l : List ℕ) (k t : ℕ) where
 pub first-keeps : (l : List ℕ) (k s : ℕ) → keeps l k 0 s ≡ true
 unfolding keeps
 first-keeps l k s = refl
+
+-- a set above 0 keeps exactly the cells that are not equal to the failure set's
+pub differs : (l : List ℕ) (k t s : ℕ) → 0 < t → keeps l k t s ≡ not (eqb (cell l t s) (cell l (failureOf l k t) s))
+unfolding keeps
+differs l k t s h = rw (ne-eqb t 0 (λ e. absurd (omega arith)))
 
 -- a cell that is left out is not set 0's, and is equal to the failure set's
 pub left-out : (l : List ℕ) (k t s : ℕ) → keeps l k t s ≡ false → (0 < t) × (cell l t s ≡ cell l (failureOf l k t) s)

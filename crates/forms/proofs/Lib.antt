@@ -1,6 +1,7 @@
 pub mod Picking
 pub mod Filling
 pub mod Failure
+pub mod Fewest
 pub mod Accepting
 pub mod PerSet
 pub mod Trip

@@ -1,5 +1,7 @@
 -- What makes the failure form believable; proofs/Claims.antt proves it.
 --
+--   differences l k t u   in how many symbols the sets t and u have different cells
+--   bits m                how many bits of a 16-bit mask are 1
 --   Numbered n k l   n sets and k symbols, and each cell in use is 512 or the number of a set
 --   IsTable n k l    l is moreover the whole of such a table: a cell that is not in use is 512
 --   Wrong f          one of the five reasons to refuse the form f, in the words of document 02
@@ -10,12 +12,20 @@ use mathlib.Core.Bool.{true, false, cond}
 use mathlib.Core.List.{List}
 use mathlib.Core.Option.{none, some}
 use Prim.Native.Nat.{ℕ, _+_, _*_, _/_, _%_, _≤_, _<_}
+use lib.Dec.{eqb}
 use lib.ListN.{length, getD}
+use Rattle.base.specs.Totals.{total}
 use Rattle.limits.specs.Limits.{mostSymbols, mostSets, emptySet, tableCells}
-use Rattle.masks.specs.Masks.{_∈_, has}
+use Rattle.masks.specs.Masks.{bit, _∈_, has}
 use Rattle.forms.specs.declared.Form.{Form}
 use Rattle.forms.specs.Form.{cell, equalCells, failureOf, keptMask, formOf}
 use Rattle.forms.specs.Back.{rank, keptCount, cellOf, backNumber, tableOf, noTable, backOf}
+
+abbrev pub differences : List ℕ → ℕ → ℕ → ℕ → ℕ
+differences l k t u = total (λ s. cond (eqb (cell l t s) (cell l u s)) 0 1) k
+
+abbrev pub bits : ℕ → ℕ
+bits m = total (bit m) mostSymbols
 
 pub record Numbered (n k : ℕ) (l : List ℕ) : Type 0 where
   pub some-set : 1 ≤ n
@@ -56,6 +66,13 @@ pub record Claims : Type 0 where
   pub below : (k t : ℕ) (l : List ℕ) → 0 < t → failureOf l k t < t
   pub most : (k t u : ℕ) (l : List ℕ) → u < t → equalCells l k t u ≤ equalCells l k t (failureOf l k t)
   pub lowest : (k t u : ℕ) (l : List ℕ) → u < failureOf l k t → equalCells l k t u < equalCells l k t (failureOf l k t)
+  -- in other words: two sets are equal in the symbols in which they do not differ; a set above 0
+  -- keeps as many cells as it differs in from its failure set; no set below it differs in fewer,
+  -- and one below its failure set in more
+  pub not-different : (k t u : ℕ) (l : List ℕ) → equalCells l k t u + differences l k t u ≡ k
+  pub kept-differ : (k t : ℕ) (l : List ℕ) → k ≤ mostSymbols → 0 < t → bits (keptMask l k t) ≡ differences l k t (failureOf l k t)
+  pub fewest : (k t u : ℕ) (l : List ℕ) → k ≤ mostSymbols → u < t → bits (keptMask l k t) ≤ differences l k t u
+  pub lowest-fewest : (k t u : ℕ) (l : List ℕ) → k ≤ mostSymbols → u < failureOf l k t → bits (keptMask l k t) < differences l k t u
   -- set 0's is 0
   pub first-failure : (k : ℕ) (l : List ℕ) → failureOf l k 0 ≡ 0
   -- set 0 keeps all its cells, and another set exactly those that are not equal to its failure

@@ -2,16 +2,16 @@
 -- it. Assumes nothing.
 use mathlib.Core.Path.{_≡_, refl, ap, _∙_}
 use mathlib.Core.List.{List, [], _∷_, _++_, append-assoc, append-nil}
-use Prim.Native.Nat.{ℕ, _+_, _*_, _/_, _%_, _<_}
+use Prim.Native.Nat.{ℕ, zero, suc, _+_, _*_, _/_, _%_, _<_}
 use native.Mathlib.Numerals.{add-one}
 use native.Mathlib.Omega.{arith}
 use lib.Dec.{ltb}
 use lib.ListN.{length, getD, take, length-append}
 use lib.Seq.{take-suc}
 use Rattle.base.proofs.Tests.{by-test}
-use Rattle.text.specs.Numerals.{hexDigit, hex}
+use Rattle.text.specs.Numerals.{decimalBelow, decimal, hexDigit, hex}
 use Rattle.text.proofs.Digits.{hex-length}
-use Rattle.lines.proofs.Over.{Over}
+use Rattle.lines.proofs.Over.{Over, over-append}
 use Rattle.fields.specs.Claims.{digitsOf, fieldOf}
 
 pub digits-length : (b : List ℕ) → length (digitsOf b) ≡ 2 * length b
@@ -51,3 +51,14 @@ digits-over (x ∷ b) = (digit-over (x / 16 % 16), (digit-over (x % 16), digits-
 pub field-over : (b : List ℕ) → Over 32 (fieldOf b)
 field-over [] = (omega arith, tt)
 field-over (x ∷ b) = digits-over (x ∷ b)
+
+number-places : (places n : ℕ) → Over 32 (decimalBelow places n)
+unfolding decimalBelow
+number-places zero n = tt
+number-places (suc places) n =
+    by-test (ltb n 10)
+    (λ e. rw e (omega arith, tt))
+    (λ e. rw e (over-append 32 (decimalBelow places (n / 10)) ((48 + n % 10) ∷ []) (number-places places (n / 10)) (omega arith, tt)))
+
+pub number-over : (n : ℕ) → Over 32 (decimal n)
+number-over n = number-places 20 n

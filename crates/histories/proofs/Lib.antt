@@ -18,6 +18,9 @@ pub mod Counted
 pub mod FormerStarts
 pub mod Orders
 pub mod Revisions
+pub mod Last
+pub mod Empties
+pub mod NoOther
 pub mod Fewest
 pub mod TwoRules
 pub mod TableP

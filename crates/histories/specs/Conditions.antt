@@ -1,10 +1,16 @@
 -- When a call after the calls h is accepted, and when it is refused with which number (document 01,
 -- "Numbers caused by the input" and "by the state"), spelt out condition by condition and without
 -- the lists of crates/calls. proofs/Conditions.antt proves it.
+--
+--   Accepted-exactly, Refused-exactly   the calls but the verdict, condition by condition
+--   numbersOf c        the numbers that document 01 gives to the call c ("Order: open 20, 10.
+--                      Deliver 21, .."; to an installation document 02, R-3), the verdict's too
+--   No-other-number    "A number is returned when its condition holds .., never otherwise": a call
+--                      is refused with none but these. proofs/NoOther.antt proves it
 use mathlib.Core.Path.{_≡_}
 use mathlib.Core.Logic.{_↔_, _⊎_}
 use mathlib.Core.Bool.{true, false}
-use mathlib.Core.List.{List}
+use mathlib.Core.List.{List, [], _∷_, List·Memᴰ as Member}
 use mathlib.Core.Option.{none, some}
 use Prim.Native.Nat.{ℕ, _^_, _≤_, _<_}
 use lib.ListN.{length}
@@ -19,8 +25,8 @@ use Rattle.ruleformat.specs.Reader.{ruleOf}
 use Rattle.ruleformat.specs.Language.{automatonIn}
 use Rattle.build.specs.Building.{builtOf}
 use Rattle.chunks.specs.Chunks.{foreign}
-use Rattle.calls.specs.Replies.{accepted, installed, delivered, refused}
-use Rattle.calls.specs.Calls.{Call, installs, loads, opens, delivers, withdraws}
+use Rattle.calls.specs.Replies.{accepted, installed, delivered, refused, refusalOf}
+use Rattle.calls.specs.Calls.{Call, installs, loads, opens, delivers, withdraws, asksVerdict}
 use Rattle.histories.specs.History.{ruleThere, ruleIn, placesIn, lookedOf, lastRevision, standing, answerOf}
 use Rattle.histories.specs.Method.{TooMany}
 
@@ -81,3 +87,14 @@ pub record Refused-exactly (h : List Call) : Type 0 where
   pub withdraw-21 : (p : ℕ) → (answerOf h (withdraws p) ≡ refused 21) ↔ (placesIn h ≡ 0)
   pub withdraw-11 : (p : ℕ) → (answerOf h (withdraws p) ≡ refused 11) ↔ ((0 < placesIn h) × (placesIn h ≤ p))
   pub withdraw-23 : (p : ℕ) → (answerOf h (withdraws p) ≡ refused 23) ↔ ((p < placesIn h) × (standing h p ≡ none))
+
+abbrev pub numbersOf : Call → List ℕ
+numbersOf (installs r) = 3 ∷ 4 ∷ 6 ∷ 8 ∷ 9 ∷ []
+numbersOf (loads f) = 1 ∷ 2 ∷ 3 ∷ 4 ∷ 5 ∷ 6 ∷ 7 ∷ 8 ∷ 9 ∷ []
+numbersOf (opens n) = 20 ∷ 10 ∷ []
+numbersOf (delivers p v w) = 21 ∷ 11 ∷ 12 ∷ 13 ∷ 22 ∷ []
+numbersOf (withdraws p) = 21 ∷ 11 ∷ 23 ∷ []
+numbersOf asksVerdict = 21 ∷ []
+
+abbrev pub No-other-number : List Call → Type 0
+No-other-number h = (c : Call) (x : ℕ) → refusalOf (answerOf h c) ≡ some x → Member x (numbersOf c)

@@ -1,5 +1,7 @@
 -- In the order in which to read them.
 pub mod History
+pub mod Last
+pub mod Empties
 pub mod Method
 pub mod Conditions
 pub mod Claims

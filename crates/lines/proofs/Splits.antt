@@ -1,16 +1,17 @@
 -- The laws of splitting, byte by byte. Assumes nothing.
-use mathlib.Core.Path.{_≡_, refl, sym, ap, _∙_}
-use mathlib.Core.Bool.{true, false, cond, _&&_}
+use mathlib.Core.Path.{_≡_, refl, sym, ap, ap₂, _∙_}
+use mathlib.Core.Bool.{true, false, cond, _&&_, and-eq-true-iff}
 use mathlib.Core.List.{List, [], _∷_, _++_, append-assoc, append-nil}
 use mathlib.Core.Option.{none, some}
 use Prim.Native.Nat.{ℕ, suc, _+_, _≤_, _<_}
 use native.Mathlib.Numerals.{add-one}
 use native.Mathlib.Omega.{arith}
-use borrow.Author.Tests.{eq-eqb, ne-eqb}
+use borrow.Author.Tests.{eq-eqb, ne-eqb, eqb-true}
 use lib.Dec.{eqb}
 use lib.ListN.{length, getD, take, drop, drop-of-length-le}
 use lib.Seq.{drop-cons, take-all}
-use Rattle.base.proofs.Tests.{either}
+use Rattle.base.proofs.Options.{none-some}
+use Rattle.base.proofs.Tests.{by-test, either, not-both}
 use Rattle.lines.specs.Splitting.{begins, upTo, past, lastLine, linesFrom}
 
 -- ---- the first c from i on
@@ -48,8 +49,28 @@ begins-short [] w l = absurd (omega arith)
 begins-short (c ∷ h) [] l = refl
 begins-short (c ∷ h) (x ∷ w) l = rw (begins-short h w (omega arith)) (either (eqb x c) (λ t. t && false ≡ false) refl refl)
 
+-- a text that begins with the head is the head and what stands behind it
+pub begins-whole : (h w : List ℕ) → begins h w ≡ true → w ≡ h ++ drop (length h) w
+unfolding begins
+begins-whole [] w e = refl
+begins-whole (c ∷ h) [] e = not-both e refl
+begins-whole (c ∷ h) (x ∷ w) e =
+    let both = and-eq-true-iff (eqb x c) (begins h w) .0 e in
+    ap₂ _∷_ (eqb-true x c (both .0)) (begins-whole h w (both .1))
+
 -- ---- where a text is split
 module _ (c : ℕ) where
+  pub past-whole : (w v : List ℕ) → past c w ≡ some v → w ≡ upTo c w ++ (c ∷ v)
+  unfolding upTo past
+  past-whole [] v e = none-some refl e
+  past-whole (x ∷ w) v e =
+      by-test (eqb x c)
+      (λ t.
+      let is : some w ≡ some v = rw t at e in
+      let rest : w ≡ v = cc in
+      rw t (ap₂ _∷_ (eqb-true x c t) rest))
+      (λ f. rw f (ap (λ (l : List ℕ). x ∷ l) (past-whole w v (rw f at e))))
+
   pub up-most : (w : List ℕ) → length (upTo c w) ≤ length w
   unfolding upTo
   up-most [] = omega arith

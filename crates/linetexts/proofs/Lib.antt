@@ -8,4 +8,5 @@ pub mod Rounds
 pub mod Fed
 pub mod Whole
 pub mod Ends
+pub mod Functions
 pub mod Claimed

@@ -3,3 +3,4 @@ pub mod Parts
 pub mod Feeding
 pub mod Lists
 pub mod Claims
+pub mod Functions

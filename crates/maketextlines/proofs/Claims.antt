@@ -10,10 +10,11 @@ use borrow.Author.Tests.{le-leb}
 use Rattle.base.proofs.Tests.{by-test}
 use Rattle.text.specs.Numerals.{decimalBelow, decimal}
 use Rattle.lines.specs.Splitting.{upTo, past}
-use Rattle.lines.proofs.Over.{Over, over-append, over-less, over-up, over-past}
+use Rattle.lines.proofs.Over.{over-up, over-past}
+use Rattle.hexfields.proofs.Digits.{number-over}
 use Rattle.fields.specs.Numbers.{parseNumber}
 use Rattle.fields.specs.Claims.{fieldOf}
-use Rattle.fields.proofs.RoundTrip as fields
+use Rattle.fields.proofs.Claims as fields
 use Rattle.madetexts.specs.Values.{madeText}
 use Rattle.madetexts.specs.Making.{madeNumber}
 use Rattle.madetexts.proofs.Claims as madetexts
@@ -23,23 +24,12 @@ use Rattle.maketextlines.specs.Claims.{lineOf, Claims}
 use Rattle.maketextlines.proofs.Writing.{field-most, most-rest}
 use Rattle.maketextlines.proofs.Long.{too-long, decides}
 
--- ---- a line for each text: a digit is over 47, and a space is 32
-over-decimal : (places n : ℕ) → Over 47 (decimalBelow places n)
-unfolding decimalBelow
-over-decimal zero n = tt
-over-decimal (suc places) n =
-    by-test (ltb n 10)
-    (λ e. rw e (omega arith, tt))
-    (λ e. rw e (over-append 47 (decimalBelow places (n / 10)) ((48 + n % 10) ∷ []) (over-decimal places (n / 10)) (omega arith, tt)))
-
-number-32 : (n : ℕ) → Over 32 (decimal n)
-number-32 n = over-less 32 47 (decimal n) (omega arith) (over-decimal 20 n)
-
+-- ---- a line for each text
 line-round-trip : (k seed n : ℕ) → k ≤ 18446744073709551615 → seed ≤ 18446744073709551615 → n ≤ 65536 → lineIn (lineOf k seed n) ≡ makes k seed n
 unfolding lineIn
 line-round-trip k seed n h l m =
     let rest = decimal seed ++ (32 ∷ decimal n) in
-    rw (over-up 32 rest (decimal k) (number-32 k), over-past 32 rest (decimal k) (number-32 k), over-up 32 (decimal n) (decimal seed) (number-32 seed), over-past 32 (decimal n) (decimal seed) (number-32 seed), fields.claims .number-round-trip k h, fields.claims .number-round-trip seed l, fields.claims .number-round-trip n (omega arith), le-leb n 65536 m)
+    rw (over-up 32 rest (decimal k) (number-over k), over-past 32 rest (decimal k) (number-over k), over-up 32 (decimal n) (decimal seed) (number-over seed), over-past 32 (decimal n) (decimal seed) (number-over seed), fields.claims .number-round-trip k h, fields.claims .number-round-trip seed l, fields.claims .number-round-trip n (omega arith), le-leb n 65536 m)
 
 -- ---- the length of an answer
 digits-most : (places n : ℕ) → length (decimalBelow places n) ≤ places

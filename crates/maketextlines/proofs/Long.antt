@@ -76,8 +76,8 @@ pub too-long : (w : List ℕ) → 62 < length w → lineIn w ≡ malformed
 unfolding lineIn
 too-long w h = seed-long (upTo 32 w) (past 32 w) (λ v e. omega (arith, past-length w v e))
 
-pub decides : (w : List ℕ) → answerHeld (cut 62 w) ≡ answerTo w
-decides w =
-    by-test (leb (length w) 62)
+pub decides : (room : ℕ) → 62 ≤ room → (w : List ℕ) → answerHeld (cut room w) ≡ answerTo w
+decides room h w =
+    by-test (leb (length w) room)
     (λ t. rw t)
-    (λ t. rw t (sym (ap answerIn (too-long w (leb-false (length w) 62 t)))))
+    (λ t. let long = leb-false (length w) room t in rw t (sym (ap answerIn (too-long w (omega arith)))))

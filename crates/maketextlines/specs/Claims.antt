@@ -22,7 +22,7 @@ pub record Claims : Type 0 where
   -- an empty line is malformed, and so is one that is longer than any in the grammar
   pub empty : lineIn [] ≡ malformed
   pub too-long : (w : List ℕ) → longestLine < length w → lineIn w ≡ malformed
-  -- so what is kept of a line decides its answer
-  pub decides : (w : List ℕ) → answerHeld (cut longestLine w) ≡ answerTo w
+  -- so what is kept of a line decides its answer, with any room from the longest line on
+  pub decides : (room : ℕ) → longestLine ≤ room → (w : List ℕ) → answerHeld (cut room w) ≡ answerTo w
   -- an answer has room
   pub fits : (h : Option (List ℕ)) → length (answerHeld h) ≤ mostAnswer

@@ -12,7 +12,7 @@ use Rattle.text.specs.Numerals.{hex}
 use Rattle.text.proofs.Digits.{hex-length}
 use Rattle.fields.specs.Bytes.{parseBytes}
 use Rattle.fields.specs.Claims.{AllBytes, digitsOf, fieldOf}
-use Rattle.fields.proofs.RoundTrip as fields
+use Rattle.fields.proofs.Claims as fields
 use Rattle.mappings.specs.Mappings.{Value}
 use Rattle.maptext.specs.MappingText.{mappingText, parseMapping}
 use Rattle.maptext.specs.Claims.{Claims}

@@ -5,7 +5,7 @@ use Prim.Native.Nat.{ℕ}
 use Rattle.lines.specs.Splitting.{begins}
 use Rattle.lines.proofs.Over.{over-up, over-past}
 use Rattle.fields.specs.Claims.{AllBytes, fieldOf}
-use Rattle.fields.proofs.RoundTrip as fields
+use Rattle.fields.proofs.Claims as fields
 use Rattle.hexfields.proofs.Digits.{field-over}
 use Rattle.merging.specs.declared.Way.{Way}
 use Rattle.merging.specs.declared.Way.the-variants.{Both, Either, Interleaving}

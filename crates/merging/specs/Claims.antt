@@ -11,7 +11,7 @@ use mathlib.Core.Logic.{_↔_, _⊎_}
 use mathlib.Core.Bool.{cond}
 use mathlib.Core.List.{List}
 use mathlib.Core.Option.{none, some}
-use Prim.Native.Nat.{ℕ, _/_, _%_, _^_, _≤_, _<_}
+use Prim.Native.Nat.{ℕ, _+_, _*_, _/_, _%_, _^_, _≤_, _<_}
 use lib.Dec.{ltb}
 use lib.ListN.{length}
 use Rattle.base.specs.Conditions.{NoneHolds, FirstHolds}
@@ -24,6 +24,7 @@ use Rattle.rulecheck.specs.Checking.{ruleNumber}
 use Rattle.ruleformat.specs.Claims.{AllZero}
 use Rattle.products.specs.Products.{firstIn, secondIn}
 use Rattle.merging.specs.declared.Way.{Way}
+use Rattle.merging.specs.declared.Way.the-variants.{Both, Either, Interleaving}
 use Rattle.merging.specs.Languages.{mergedBy, Merges, MadeBy, Same}
 use Rattle.merging.specs.Merged.{statesOf, pairs, targetsOf, mergedOf}
 use Rattle.merging.specs.Merging.{mergeConditions, mergeNumber, mergeOf}
@@ -86,6 +87,12 @@ pub record Claims : Type 1 where
   -- merging any two values
   pub merging : (way : Way) (one two : Rule) → MergeLaw way one two
   pub refused : (way : Way) (one two : Rule) → Refused-exactly way one two
+  -- how many states the result has, and so 37, in the words of the request
+  pub states : (n1 n2 : ℕ) → (statesOf Both n1 n2 ≡ n1 * n2) × (statesOf Interleaving n1 n2 ≡ n1 * n2) × (statesOf Either n1 n2 ≡ n1 + n2)
+  pub thirty-seven : (one two : Rule) → WellFormed one → WellFormed two → one .k ≡ two .k
+      → ((mergeOf Both one two .number ≡ some 37) ↔ (32 < one .n * two .n))
+      × ((mergeOf Interleaving one two .number ≡ some 37) ↔ (32 < one .n * two .n))
+      × ((mergeOf Either one two .number ≡ some 37) ↔ (32 < one .n + two .n))
   -- the one law of pairs: their members
   pub pair-members : (m1 m2 n2 p : ℕ) → m1 < 2 ^ mostStates → m2 < 2 ^ n2
       → p ∈ pairs m1 m2 n2 ↔ ((firstIn n2 p ∈ m1) × (secondIn n2 p ∈ m2))

@@ -59,6 +59,7 @@ merges =
     -- 32 states in the result
     case Both (noArcs 4 1) (noArcs 8 1) (merged (noArcs 32 1)) ∷
     case Interleaving (noArcs 32 16) (noArcs 1 16) (merged (noArcs 32 16)) ∷
+    case Interleaving (noArcs 16 1) (noArcs 2 1) (merged (noArcs 32 1)) ∷
     case Either (noArcs 16 1) (noArcs 16 1) (merged (noArcs 32 1)) ∷
     -- 37: 33 states, and 256
     case Both (noArcs 3 1) (noArcs 11 1) (refused 37) ∷

@@ -47,7 +47,7 @@ use Rattle.patternfile.specs.Answers.{
   refusedWith,
   fileIn,
 }
-use Rattle.patternfile.specs.Claims.{LetterIn, States, Refused-exactly, Accepted-for, Claims}
+use Rattle.patternfile.specs.Claims.{LetterIn, States, Refused-exactly, AllZero, Accepted-for, Claims}
 use Rattle.patternfile.proofs.Ways.{from-31, from-32, refuses}
 use Rattle.patternfile.proofs.Examples.{answered}
 
@@ -236,6 +236,7 @@ claims = record {
   answered = answered;
   refused = refused;
   zeros = λ b x e. sym (refuses b e);
+  each-zero = λ b x e. subst AllZero (refuses b e) (refl, refl);
   accepted = accepted;
   accepted-for = accepted-for;
   fits = fits;

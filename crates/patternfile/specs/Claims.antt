@@ -8,6 +8,7 @@
 --   States b a         what the states of the automaton a are: state 0 the start and alone initial,
 --                      state i the i-th letter of the bytes b; and it has 16 symbols
 --   Refused-exactly b  which number the bytes b are refused with, in words
+--   AllZero o          the outcome o has length 0, and every byte of it is 0
 --   Accepted-for p b   what is answered where the bytes b are accepted, for every pattern p that
 --                      they stand for
 use mathlib.Core.Path.{_≡_}
@@ -15,13 +16,13 @@ use mathlib.Core.Logic.{_↔_, _⊎_}
 use mathlib.Core.List.{List}
 use mathlib.Core.Option.{none, some}
 use Prim.Native.Nat.{ℕ, zero, suc, _≤_, _<_}
-use lib.ListN.{length, getD}
+use lib.ListN.{length, getD, replicate}
 use Rattle.limits.specs.Limits.{mostSymbols}
 use Rattle.automaton.specs.Automaton.{Automaton, Arc, Accepts}
 use Rattle.ruleformat.specs.Reader.{readOf}
 use Rattle.ruleformat.specs.Language.{automatonIn}
 use Rattle.ruleformat.specs.Writing.{fileOf}
-use Rattle.rulewriter.specs.Written.{padded}
+use Rattle.rulewriter.specs.Written.{padded, Writing}
 use Rattle.patterns.specs.Limits.{longestPattern, mostLetters, longestPatternFile}
 use Rattle.patterns.specs.Patterns.{Pattern, Matches, count}
 use Rattle.patterns.specs.Grammar.{StandsFor}
@@ -55,6 +56,9 @@ pub record Refused-exactly (b : List ℕ) : Type 0 where
   -- no other number
   pub no-other : (x : ℕ) → patternNumber b ≡ some x → (x ≡ 30) ⊎ (x ≡ 31) ⊎ (x ≡ 32)
 
+abbrev pub AllZero : Writing → Type 0
+AllZero o = (o .length ≡ 0) × (o .bytes ≡ replicate longestPatternFile 0)
+
 pub record Accepted-for (p : Pattern) (b : List ℕ) : Type 0 where
   -- the file of the rule of the positions, zeros after it
   pub file : patternOf b ≡ record {
@@ -75,6 +79,7 @@ pub record Claims : Type 0 where
   pub refused : (b : List ℕ) → Refused-exactly b
   -- a refusal carries zeros
   pub zeros : (b : List ℕ) (x : ℕ) → patternNumber b ≡ some x → patternOf b ≡ refusedWith x
+  pub each-zero : (b : List ℕ) (x : ℕ) → patternNumber b ≡ some x → AllZero (patternOf b)
   -- accepted exactly where none of these holds
   pub accepted : (b : List ℕ) → (patternNumber b ≡ none) ↔ ((length b ≤ longestPattern) × ((p : Pattern) × StandsFor p b × Few p))
   pub accepted-for : (p : Pattern) (b : List ℕ) → StandsFor p b → patternNumber b ≡ none → Accepted-for p b

@@ -23,30 +23,14 @@ use Rattle.patterns.specs.Patterns.{Pattern, Matches}
 use Rattle.patterns.specs.Grammar.{StandsFor}
 use Rattle.patterns.specs.Positions.{nullable, nextStates, positionsOf, positionRule}
 use Rattle.patterns.specs.Claims.{Few, Letter, Claims}
-use Rattle.patterns.proofs.Theory.{letterAt, began-empty, begins}
-use Rattle.patterns.proofs.Numbers.{positions-of}
 use Rattle.patterns.proofs.Language as theory
-use Rattle.patterns.proofs.Letters.{Numbered, counted, numbered, lettered}
+use Rattle.patterns.proofs.Letters.{counted, lettered}
+use Rattle.patterns.proofs.Arcs as arcs
 use Rattle.patterns.proofs.Marked.{first-law, last-law, follow-law}
 use Rattle.patterns.proofs.Size.{small-file}
 
-empty-text : (p : Pattern) → (nullable p ≡ true) ↔ Matches p []
-empty-text p = (began-empty p, λ m. ⊎-elim (λ h. h .0) (λ e. absurd (theory.cons-not-nil (sym (e .shape)))) (begins p [] m))
-
 language : (p : Pattern) (b : List ℕ) → StandsFor p b → Few p → (w : List ℕ) → Accepts (automatonOf (positionRule p)) w ↔ Matches p w
 language p b s few w = theory.language p few (lettered s) w
-
-letter-at : (p : Pattern) {i s : ℕ} → Numbered p 0 i s → Letter p i s
-letter-at p {s = s} n =
-    let e : suc (n .index) ≡ suc (0 + n .index) = omega arith in
-    subst (λ (i : ℕ). Letter p i s) (e ∙ sym (n .is)) (n .within, n .there)
-
-arc-letter : (p : Pattern) → Few p → (q s i : ℕ) → Arc (automatonOf (positionRule p)) q s i → Letter p i s
-arc-letter p few q s i a =
-    let m = positions-of p 0 s i (theory.target-of p q s i (omega (arith, a .source)) (a .symbol) (a .there) .1) in
-    let n : Numbered p 0 i (letterAt p (m .at)) =
-    subst (λ (x : ℕ). Numbered p 0 x (letterAt p (m .at))) (m .is) (numbered p 0 (m .at)) in
-    letter-at p (subst (λ (x : ℕ). Numbered p 0 i x) (m .holds) n)
 
 module _ (p : Pattern) (few : Few p) where
   accepted : refusal (fileOf (positionRule p)) ≡ none
@@ -74,7 +58,7 @@ file-language p b s few w =
 
 pub claims : Claims
 claims = record {
-  empty-text = empty-text;
+  empty-text = arcs.empty-text;
   counted = counted;
   firsts = first-law;
   lasts = last-law;
@@ -82,7 +66,9 @@ claims = record {
   well-formed = theory.well-formed;
   language = language;
   initial = λ p q. single-law 0 q;
-  arc-letter = arc-letter;
+  arc-letter = λ p few q s i a. arcs.arc-letter p few a;
+  arc = λ p b s few q t i. arcs.arc p few (lettered s) q t i;
+  final = arcs.final;
   small-file = small-file;
   file-read = file-read;
   file-language = file-language;

@@ -77,7 +77,7 @@ module _ (p : Pattern) where
 
 module _ (p : Pattern) (few : count p ≤ 31) (small : Lettered p) where
   -- a state's successors are by its follow set, and by a letter
-  arc-to : (q : ℕ) (y : Position p) → q < suc (count p) → number p 0 y ∈ nextStates p q → Arc (automatonOf (positionRule p)) q (letterAt p y) (number p 0 y)
+  pub arc-to : (q : ℕ) (y : Position p) → q < suc (count p) → number p 0 y ∈ nextStates p q → Arc (automatonOf (positionRule p)) q (letterAt p y) (number p 0 y)
   arc-to q y h e = record {
     source = h;
     symbol = lettered-at p small y;

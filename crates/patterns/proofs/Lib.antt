@@ -5,5 +5,6 @@ pub mod Language
 pub mod Marked
 pub mod Size
 pub mod Letters
+pub mod Arcs
 pub mod Examples
 pub mod Claims

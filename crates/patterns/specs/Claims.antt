@@ -4,7 +4,7 @@
 --   Few p          the pattern has at most 31 letters
 --   Letter p i s   the i-th letter of p from the left is s; there is none before the first
 use mathlib.Core.Path.{_≡_}
-use mathlib.Core.Logic.{_↔_}
+use mathlib.Core.Logic.{_↔_, _⊎_}
 use mathlib.Core.Bool.{true}
 use mathlib.Core.List.{List, []}
 use mathlib.Core.Option.{none}
@@ -44,6 +44,12 @@ pub record Claims : Type 0 where
   -- state 0 alone is initial, and an arc to state i is by the i-th letter
   pub initial : (p : Pattern) (q : ℕ) → (q ∈ positionRule p .initials) ↔ (q ≡ 0)
   pub arc-letter : (p : Pattern) → Few p → (q s i : ℕ) → Arc (automatonOf (positionRule p)) q s i → Letter p i s
+  -- exactly: there is an arc from q by s to i where the i-th letter is s, and a text begins with
+  -- position i and q is 0, or i comes right after q; a state is final where a text ends with it,
+  -- and state 0 where the empty text is one
+  pub arc : (p : Pattern) (b : List ℕ) → StandsFor p b → Few p → (q s i : ℕ)
+      → Arc (automatonOf (positionRule p)) q s i ↔ (Letter p i s × (((q ≡ 0) × Begins p i) ⊎ Comes p q i))
+  pub final : (p : Pattern) (q : ℕ) → (q ∈ positionRule p .finals) ↔ (Ends p q ⊎ ((q ≡ 0) × Matches p []))
   -- its file has at most 2,122 bytes, reading it gives this rule, and the automaton of the file's
   -- bytes accepts exactly the pattern's texts
   pub small-file : (p : Pattern) → Few p → length (fileOf (positionRule p)) ≤ longestPatternFile

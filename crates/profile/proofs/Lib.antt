@@ -3,4 +3,5 @@ pub mod Ways
 pub mod Machine
 pub mod Answers
 pub mod Verdicts
+pub mod Examples
 pub mod Claims

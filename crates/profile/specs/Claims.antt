@@ -3,6 +3,7 @@
 --   Takes r           building accepts the rule r: there is a profile of it
 --   ManyMappings r    513 texts have mappings of which no two are the same
 --   Refused-exactly r which number building is refused with, condition by condition
+--   AllZero p         every number of the profile p is 0
 --   nextIn p i s      the table's cell for mapping i and symbol s
 --   Machine r p       p is 000's simultaneous automaton of the rule r: its states are the mappings
 --                     of texts, each with one number, the identity first, in the order of their
@@ -15,7 +16,7 @@ use mathlib.Core.List.{List, [], map, flatten}
 use mathlib.Core.Option.{none, some}
 use Prim.Native.Nat.{ℕ, _+_, _*_, _≤_, _<_}
 use lib.ListN.{length, getD, replicate}
-use Rattle.limits.specs.Limits.{mostSymbols, mostSets, longestChunk}
+use Rattle.limits.specs.Limits.{mostSymbols, mostSets, tableCells, longestChunk}
 use Rattle.masks.specs.Masks.{_∈_}
 use Rattle.marks.specs.Marks.{textOf}
 use Rattle.automaton.specs.declared.Rule.{Rule}
@@ -28,8 +29,9 @@ use Rattle.compositions.specs.Bracketing.{Bracketed, leaves, valueOf}
 use Rattle.mappings.specs.Mappings.{mappedStates, compose, identity, letter}
 use Rattle.mappings.specs.Claims.{Small, mappingAfter, First}
 use Rattle.profile.specs.declared.Profile.{Profile}
-use Rattle.profile.specs.Profiles.{buildNumber, profileOf}
+use Rattle.profile.specs.Profiles.{buildNumber, profileOf, buildOf}
 use Rattle.profile.specs.Runs.{mappingIn, runOf, verdictOf}
+use Rattle.profile.specs.Worked.{profiles, Answered}
 
 module _ (r : Rule) where
   abbrev pub Takes : Type 0
@@ -49,6 +51,11 @@ module _ (r : Rule) where
     pub number-34 : (buildNumber r ≡ some 34) ↔ (Small r × ManyMappings)
     -- no other number
     pub no-other : (x : ℕ) → buildNumber r ≡ some x → (x ≤ 8) ⊎ (x ≡ 33) ⊎ (x ≡ 34)
+
+abbrev pub AllZero : Profile → Type 0
+AllZero p =
+    (p .n ≡ 0) × (p .k ≡ 0) × (p .initials ≡ 0) × (p .finals ≡ 0) × (p .count ≡ 0)
+    × (p .mappings ≡ replicate mostSets 0) × (p .next ≡ replicate tableCells 0)
 
 abbrev pub nextIn : Profile → ℕ → ℕ → ℕ
 nextIn p i s = getD (p .next) (i * mostSymbols + s) 0
@@ -87,10 +94,14 @@ pub record Runs-exactly (p : Profile) (w : List ℕ) : Type 0 where
   pub zeros : (x : ℕ) → runOf p w .refusal ≡ some x → runOf p w .masks ≡ replicate mappedStates 0
 
 pub record Claims : Type 0 where
+  -- profiles worked by hand are what stands beside them
+  pub answered : Answered profiles
   -- building
   pub takes : (r : Rule) → Takes r ↔ (Small r × (ManyMappings r → ⊥))
   pub refused : (r : Rule) → Refused-exactly r
   pub machine : (r : Rule) → Takes r → Machine r (profileOf r)
+  -- a refusal carries zeros
+  pub zeros : (r : Rule) (x : ℕ) → buildNumber r ≡ some x → AllZero (buildOf r .profile)
   -- running: on any profile what is refused; on one that was built the mapping of the chunk's text
   pub runs : (p : Profile) (w : List ℕ) → Runs-exactly p w
   pub ran : (r : Rule) → Takes r → (w : List ℕ) → runOf (profileOf r) w .refusal ≡ none → runOf (profileOf r) w .masks ≡ mappingAfter r (textOf w)

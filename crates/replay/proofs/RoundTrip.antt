@@ -8,7 +8,7 @@ use Rattle.lines.proofs.Over.{over-line}
 use Rattle.calls.specs.Calls.{Call}
 use Rattle.calltext.specs.Claims.{Fits, lineOf}
 use Rattle.calltext.proofs.RoundTrip.{over-call}
-use Rattle.calltext.proofs.RoundTrip as calltext
+use Rattle.calltext.proofs.Exact as calltext
 use Rattle.replay.specs.Records.{Recorded, calls, readOn, readLine, readLines, recordIn}
 use Rattle.replay.specs.Claims.{AllFit, recordOf, Claims}
 

@@ -33,6 +33,7 @@ use mathlib.Core.Option.{none, some}
 use Prim.Native.Nat.{ℕ, _≤_, _<_}
 use lib.ListN.{length}
 use Rattle.masks.specs.Masks.{_∈_}
+use Rattle.limits.specs.Limits.{mostSets}
 use Rattle.automaton.specs.declared.Rule.{Rule}
 use Rattle.automaton.specs.Automaton.{Text, Accepts, Equivalent}
 use Rattle.automaton.specs.Rules.{automatonOf, WellFormed}
@@ -41,7 +42,6 @@ use Rattle.automaton.proofs.Claims as automaton
 use Rattle.rulecheck.specs.Checking.{ruleNumber}
 use Rattle.calls.specs.Replies.{yesWith, noWith}
 use Rattle.calls.specs.Calls.{Call, installNumber}
-use Rattle.calls.proofs.Loading as calls-loading
 use Rattle.histories.specs.History.{ruleIn, boardIn, emptiesIn, summedIn, textIn, verdictIn}
 use Rattle.histories.proofs.EveryList.{every-list}
 use Rattle.numbering.specs.Texts.{Lex}
@@ -62,6 +62,11 @@ use Rattle.c_compare.specs.Numbers.{comparisonShown, comparisonReadBack}
 use Rattle.c_compare.specs.Claims as c-claims
 use Rattle.c_compare.proofs.ReadBack as c-compare
 use Rattle.requests.specs.CompareFunction.{AsksCompare, MayCompare, AsksCompareC, MayCompareC}
+use Rattle.requests.proofs.Installing as installing
+
+-- The limits that are named below:
+pub limits : (longestText ≡ 511) × (mostSets ≡ 512)
+limits = (refl, refl)
 
 -- ---- THE ANSWER
 -- The whole in one line: the answer is the one that is due, and none but that is due.
@@ -139,8 +144,8 @@ passed = compare.claims .passed
 pub numbers : (one two : Rule) → Refused-exactly one two
 numbers = compare.claims .numbers
 
-pub as-installing : (r : Rule) (x : ℕ) → ruleNumber r ≡ some x → installNumber r ≡ some x
-as-installing = calls-loading.as-installing
+pub as-installing : (r : Rule) (x : ℕ) → (x ≡ 3) ⊎ (x ≡ 4) ⊎ (x ≡ 6) ⊎ (x ≡ 8) → (ruleNumber r ≡ some x) ↔ (installNumber r ≡ some x)
+as-installing = installing.exactly
 
 -- 45 is due exactly when there are 513 texts of which no two lead to the same pair and none is later, in
 -- order of length and then symbols, than any text on which the rules differ;

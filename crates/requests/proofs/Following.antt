@@ -26,7 +26,7 @@
 -- r is any value, in which any numbers may stand, m any set, and a chunk any bytes. How the mask of live
 -- states is found (live/specs/Live) need not be believed, nor how a walk goes fast (follow/specs/Cache).
 -- A proved function ends and stays within its bounds. Assumes nothing.
-use mathlib.Core.Path.{_≡_, ap, _∙_}
+use mathlib.Core.Path.{_≡_, ap, _∙_, refl}
 use mathlib.Core.Logic.{_↔_, _⊎_}
 use mathlib.Core.Bool.{true, false}
 use mathlib.Core.List.{List, [], _∷_, _++_, map, flatten}
@@ -35,7 +35,7 @@ use Prim.Native.Nat.{ℕ, suc, _-_, _≤_, _<_}
 use lib.ListN.{length, getD, take}
 use contract.Lifetimes.{Lfts}
 use denote.Ref.{RefT}
-use Rattle.limits.specs.Limits.{mostPlaces}
+use Rattle.limits.specs.Limits.{mostPlaces, longestChunk}
 use Rattle.masks.specs.Masks.{_∈_}
 use Rattle.marks.specs.Marks.{idleMark, textOf}
 use Rattle.automaton.specs.declared.Rule.{Rule}
@@ -64,6 +64,10 @@ use Rattle.c_follow.specs.Claims as c-claims
 use Rattle.c_follow.proofs.ReadBack as c-follow
 use Rattle.requests.specs.FollowFunctions.{AsksFollowC, MayFollowC, AsksFollowerC, MayPrepareC, AsksByC, MayFollowByC}
 use Rattle.requests.proofs.FollowFunctions as functions
+
+-- The limits that are named below:
+pub limits : (mostPlaces ≡ 64) × (longestChunk ≡ 65536) × (idleMark ≡ 255)
+limits = (refl, refl, refl)
 
 -- ---- FROM CHUNK TO CHUNK
 -- A caller begins with the rule's initial states, hands each answer's set in with the next chunk, and

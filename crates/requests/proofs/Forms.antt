@@ -5,6 +5,7 @@
 --   Form, Table                   the form and the table as values         forms/src/lib.rt
 --   cell, equalCells              a cell; in how many symbols two sets agree   forms/specs/Form
 --   failureOf, keptMask, formOf   the failure set, the mask, the form      forms/specs/Form
+--   differences, bits             where two sets differ; bits of a mask    forms/specs/Claims
 --   rank, keptCount               where a kept cell stands; how many       forms/specs/Back
 --   backNumber, tableOf, backOf   what the way back answers                forms/specs/Back
 --   noTable                       zeros                                    forms/specs/Back
@@ -17,20 +18,24 @@
 --   formShown, tableShown         C's numbers                              c_form/specs/Numbers
 --   formFor f, textFor f          of a rule file, and as `ruleform` prints it   formfile/specs/Files, formtext/specs/FormText
 --   lineIn w, backText b          a line of `formtable`, and the answer    formline/specs/Lines, tabletext/specs/Answers
+--   heldOf; Fits f, lineOf f      what is read of it; the line of a form   formline/specs/Lines, Claims
+--   WorkedLine                    a line by hand                           formline/specs/Worked
 --   answersAfter, answersTo       the answers to a part, and to lines      formstream/specs/Texts
 --   Blocks; finishText            what is written for blocks, and at the end  formstream/specs/Claims, Feeding
 --
 -- l is any list of cells, f and g any value of the form, in which any numbers may stand. A list of calls
 -- has the last call first. A proved function ends and stays within its bounds. Assumes nothing.
-use mathlib.Core.Path.{_≡_, ap, _∙_}
+use mathlib.Core.Path.{_≡_, ap, _∙_, refl}
 use mathlib.Core.Logic.{_↔_, _⊎_, ⊎-elim}
 use mathlib.Core.Bool.{cond}
 use mathlib.Core.List.{List, [], _∷_, _++_, flatten}
 use mathlib.Core.Option.{Option, none, some}
-use Prim.Native.Nat.{ℕ, _≤_, _<_}
-use lib.ListN.{length, getD}
-use Rattle.limits.specs.Limits.{mostSymbols, mostSets}
+use Prim.Native.Nat.{ℕ, _+_, _≤_, _<_}
+use lib.ListN.{length, getD, replicate}
+use Rattle.limits.specs.Limits.{mostSymbols, mostSets, emptySet, tableCells}
 use Rattle.masks.specs.Masks.{_∈_, has}
+use Rattle.formline.specs.Worked.{WorkedLine}
+use Rattle.formline.specs.Claims.{Fits, lineOf}
 use Rattle.automaton.specs.declared.Rule.{Rule}
 use Rattle.ruleformat.specs.Reader.{ruleOf}
 use Rattle.build.specs.Building.{builtOf}
@@ -43,7 +48,7 @@ use Rattle.forms.specs.declared.FormResult.{FormResult}
 use Rattle.forms.specs.declared.BackResult.{BackResult}
 use Rattle.forms.specs.Form.{cell, equalCells, failureOf, keptMask, formOf}
 use Rattle.forms.specs.Back.{rank, keptCount, backNumber, tableOf, noTable, backBy, backOutcome, backOf}
-use Rattle.forms.specs.Claims.{IsTable, Wrong, many-sets, many-symbols, Alike}
+use Rattle.forms.specs.Claims.{differences, bits, IsTable, Wrong, many-sets, many-symbols, Alike}
 use Rattle.forms.proofs.Claims as forms
 use Rattle.formmaker.specs.Making.{noForm, madeOutcome, madeOf}
 use Rattle.formtrip.specs.Claims.{tableIn}
@@ -54,7 +59,7 @@ use Rattle.formtext.specs.FormText.{firstCell}
 use Rattle.formtext.proofs.Claims as formtext
 use Rattle.answers.specs.Answers.{refusedText, malformedText}
 use Rattle.lines.specs.Splitting.{linesOf}
-use Rattle.formline.specs.Lines.{failureIn, lineIn, longestLine}
+use Rattle.formline.specs.Lines.{failureIn, lineIn, longestLine, malformed, tooGreat, heldOf}
 use Rattle.formline.proofs.Claims as formline
 use Rattle.tabletext.specs.Answers.{backText, answerText}
 use Rattle.formstream.specs.Texts.{answerTo, answersTo, lineAfter, answersAfter, lastAnswer}
@@ -69,6 +74,10 @@ use Rattle.c_form.proofs.ReadBack as c-form
 use Rattle.c_form.proofs.Asks as c-asks
 use Rattle.requests.specs.FormFunctions.{AsksForm, MayForm, AsksTable, MayTable, AsksFormC, MayFormC, AsksTableC, MayTableC}
 
+-- The limits that are named below:
+pub limits : (mostSets ≡ 512) × (mostSymbols ≡ 16) × (emptySet ≡ 512) × (tableCells ≡ 8192)
+limits = (refl, refl, refl, refl)
+
 -- ---- THE FORM
 -- "Convert the judge's next-set table (20 without a rule) to a failure form". After any list of calls
 -- 20 exactly where no rule is there, and then zeros; else the form of the judge's own table, which has 1
@@ -78,6 +87,10 @@ without-a-rule = formtrip.claims .no-rule
 
 pub zeros-without : (h : List Call) → ruleThere h ≡ none → madeOf (judgeAfter h) .form ≡ noForm
 zeros-without = formtrip.claims .zeros
+
+-- which is, field by field,
+pub no-form : (noForm .sets ≡ 0) × (noForm .symbols ≡ 0) × (noForm .failure ≡ replicate 512 0) × (noForm .kept ≡ replicate 512 0) × (noForm .cells ≡ replicate 8192 0)
+no-form = (refl, refl, refl, refl, refl)
 
 pub of-the-judge : (h : List Call) (r : Rule) → ruleThere h ≡ some r
     → madeOf (judgeAfter h) ≡ record { number = none; form = formOf (judgeAfter h .built .setcount) (judgeAfter h .built .k) (judgeAfter h .built .next) }
@@ -96,6 +109,17 @@ most-equal = forms.claims .most
 
 pub lowest-on-ties : (k t u : ℕ) (l : List ℕ) → u < failureOf l k t → equalCells l k t u < equalCells l k t (failureOf l k t)
 lowest-on-ties = forms.claims .lowest
+
+-- In other words: no lower-numbered set differs from set t in fewer symbols than t's mask has bits,
+-- and each that is below its failure set differs in more:
+pub fewest : (k t u : ℕ) (l : List ℕ) → k ≤ mostSymbols → u < t → bits (keptMask l k t) ≤ differences l k t u
+fewest = forms.claims .fewest
+
+pub lowest-fewest : (k t u : ℕ) (l : List ℕ) → k ≤ mostSymbols → u < failureOf l k t → bits (keptMask l k t) < differences l k t u
+lowest-fewest = forms.claims .lowest-fewest
+
+pub not-different : (k t u : ℕ) (l : List ℕ) → equalCells l k t u + differences l k t u ≡ k
+not-different = forms.claims .not-different
 
 -- The form has this failure set for each set:
 pub failure-in-form : (n k t : ℕ) (l : List ℕ) → n ≤ mostSets → t < n → getD (formOf n k l .failure) t 0 ≡ failureOf l k t
@@ -162,6 +186,9 @@ no-other-number = forms.claims .no-other
 -- A refusal carries zeros:
 pub zeros-refused : (f : Form) (x : ℕ) → backNumber f ≡ some x → backOf f .table ≡ noTable
 zeros-refused = forms.claims .zeros-refused
+
+pub no-table-is : (noTable .sets ≡ 0) × (noTable .symbols ≡ 0) × (noTable .next ≡ replicate 8192 0)
+no-table-is = (refl, refl, refl)
 
 -- Any other form, made by whomever, is accepted: it gives a table, in which each cell is the kept one or
 -- that of the failure set.
@@ -251,6 +278,19 @@ line-answer w f e = ap answerText e
 
 pub malformed-line : (w : List ℕ) → lineIn w ≡ none → answerTo w ≡ malformedText
 malformed-line w e = ap answerText e
+
+-- Rule A's form on a line, by hand; and every form that fits on a line has one, which says this
+-- form:
+pub line-by-hand : WorkedLine
+line-by-hand = formline.claims .worked-line
+
+pub line-of : (f : Form) → Fits f → lineIn (lineOf f) ≡ some f
+line-of = formline.claims .line-round-trip
+
+-- What `read_line` has of a line that says no form, or one with too great a number, is zeros beside
+-- it:
+pub beside-no-form : (heldOf none ≡ malformed noForm) × ((f : Form) → (65535 < f .sets) ⊎ (255 < f .symbols) → heldOf (some f) ≡ tooGreat noForm)
+beside-no-form = (refl, formline.claims .too-great)
 
 -- SETS and SYMBOLS may be any numbers below 2 ^ 64: those of no table are refused as in every form, and
 -- they do not decide whether what follows them is malformed.

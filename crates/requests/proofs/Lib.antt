@@ -1,4 +1,8 @@
 -- A page for each request that brought functions of its own, and for each capability beyond the papers.
+pub mod Limits
+pub mod Installing
+pub mod Listing
+pub mod Printing
 pub mod MappingFunctions
 pub mod Mappings
 pub mod Samples
@@ -9,6 +13,8 @@ pub mod MergingReduced
 pub mod MadeTexts
 pub mod Forms
 pub mod TrayFunctions
+pub mod TraySample
+pub mod TrayTexts
 pub mod Trays
 pub mod Faults
 pub mod Losses

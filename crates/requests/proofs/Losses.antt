@@ -37,6 +37,7 @@ use lib.ListN.{length, getD}
 use Rattle.base.specs.Conditions.{FirstHolds, anyBelow}
 use Rattle.base.specs.Options.{isNone}
 use Rattle.base.proofs.Conditions.{first-law}
+use Rattle.limits.specs.Limits.{mostPlaces, longestChunk}
 use Rattle.marks.specs.Marks.{idleMark}
 use Rattle.automaton.specs.Rules.{automatonOf}
 use Rattle.executions.specs.Executions.{Execution}
@@ -70,6 +71,10 @@ use Rattle.c_losses.specs.Numbers as c-claims
 use Rattle.c_losses.proofs.Numbers as numbers-of-C
 use Rattle.c_losses.proofs.Asks as asks-of-C
 use Rattle.requests.specs.LossFunctions.{AsksDiagnoseC, MayDiagnoseC, AsksLocateC, MayLocateC}
+
+-- The limits that are named below:
+pub limits : (idleMark ≡ 255) × (mostPlaces ≡ 64) × (longestChunk ≡ 65536)
+limits = (refl, refl, refl)
 
 -- ---- AT WHICH PLACE
 -- Over every list of calls the diagnosis is exactly the one that the list says, and there is only one.

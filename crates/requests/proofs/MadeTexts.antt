@@ -44,6 +44,10 @@ use Rattle.maketextstream.specs.Claims.{Blocks}
 use Rattle.maketextstream.proofs.Claims as maketextstream
 use Rattle.requests.specs.TextFunction.{AsksText, MayMake}
 
+-- The limits that are named below:
+pub limits : (mostSymbols ≡ 16) × (longestChunk ≡ 65536) × (largestNumber ≡ 18446744073709551615)
+limits = (refl, refl, refl)
+
 -- "Also make test texts of a given length: Marsaglia's 64-bit xorshift with shifts 13 left, 7 right, 17
 -- left, each new value modulo k being a symbol."
 -- The three steps, each a value and its shift, bit by bit where they differ:
@@ -125,8 +129,8 @@ lines = maketextlines.claims .line-round-trip
 pub malformed-lines : (lineIn [] ≡ malformed) × ((w : List ℕ) → longestLine < length w → lineIn w ≡ malformed)
 malformed-lines = (maketextlines.claims .empty, maketextlines.claims .too-long)
 
--- A text of lines, cut into blocks anywhere: what is to be written, block by block and at the end, are
--- the answers to its lines.
-pub written : {blocks : List (List ℕ)} {h : Option (List ℕ)} {text : List ℕ} → Blocks (some []) blocks h text
+-- A text of lines, cut into blocks anywhere, with any room for a line from the longest one on: what is to
+-- be written, block by block and at the end, are the answers to its lines.
+pub written : {room : ℕ} {blocks : List (List ℕ)} {h : Option (List ℕ)} {text : List ℕ} → longestLine ≤ room → Blocks room (some []) blocks h text
     → text ++ lastAnswer answerHeld h ≡ answersTo answerTo (linesOf (flatten blocks))
 written = maketextstream.claims .written

@@ -10,6 +10,7 @@
 --   runOf p w, verdictOf p f          a run of a chunk, and the verdict      profile/specs/Runs
 --   Takes, Machine, ManyMappings,     building accepts; the simultaneous automaton; over 512
 --   Refused-exactly, Runs-exactly     mappings; the numbers, one by one      profile/specs/Claims
+--   AllZero; Answered cases           zeros; rules built by hand            profile/specs/Claims, Worked
 --   textOf; ForeignByte               a chunk without idle marks; 13         marks/specs/Marks, calls/specs/Claims
 --   Accepts, Run; automatonOf r       automata and their runs (000)          automaton/specs/Automaton, Rules
 --   Filled h r ws                     a filled board with the chunks ws      fillings/specs/Filled
@@ -25,7 +26,7 @@
 --
 -- r is any value, in which any numbers may stand, and so is a mapping. A proved function ends and
 -- stays within its bounds. Assumes nothing.
-use mathlib.Core.Path.{_≡_, ap}
+use mathlib.Core.Path.{_≡_, ap, refl}
 use mathlib.Core.Logic.{_↔_, _⊎_}
 use mathlib.Core.Bool.{true, false}
 use mathlib.Core.List.{List, [], _∷_, _++_, map, flatten}
@@ -34,8 +35,9 @@ use Prim.Native.Nat.{ℕ, _+_, _≤_, _<_}
 use lib.ListN.{length, getD}
 use contract.Lifetimes.{Lfts}
 use denote.Ref.{RefT}
-use Rattle.limits.specs.Limits.{mostPlaces}
+use Rattle.limits.specs.Limits.{mostPlaces, mostSets, longestChunk}
 use Rattle.masks.specs.Masks.{_∈_}
+use Rattle.profile.specs.Worked.{profiles, Answered}
 use Rattle.marks.specs.Marks.{textOf}
 use Rattle.automaton.specs.declared.Rule.{Rule}
 use Rattle.automaton.specs.Automaton.{Run, Accepts}
@@ -49,7 +51,7 @@ use Rattle.chunks.specs.Chunks.{foreign}
 use Rattle.profile.specs.declared.Profile.{Profile}
 use Rattle.profile.specs.Profiles.{buildNumber, accepted, profileOf, refusedBuild, buildBy, buildOf}
 use Rattle.profile.specs.Runs.{runOf, verdictOf}
-use Rattle.profile.specs.Claims.{Takes, ManyMappings, Refused-exactly, Machine, Runs-exactly}
+use Rattle.profile.specs.Claims.{Takes, ManyMappings, Refused-exactly, Machine, Runs-exactly, AllZero}
 use Rattle.profile.proofs.Claims as profile
 use Rattle.calls.specs.Replies.{yesWith, noWith, refused}
 use Rattle.calls.specs.Calls.{Call, delivers, installNumber}
@@ -91,6 +93,10 @@ use Rattle.demands.specs.Functions.{MayJudge}
 use Rattle.requests.specs.MappingFunctions.{MayBuild, MayRun, MayCompose, MaySay, RunEach, ComposedTo, SameAnswer}
 use Rattle.requests.proofs.MappingFunctions as functions
 
+-- The limits that are named below:
+pub limits : (mappedStates ≡ 8) × (mostSets ≡ 512) × (longestChunk ≡ 65536) × (mostPlaces ≡ 64)
+limits = (refl, refl, refl, refl)
+
 -- ---- THE PROFILE
 -- "Add the simultaneous automaton of document 000 as a profile: its states are mappings from each state
 -- to a set, from the identity, expanded in number order, symbols ascending, first found numbered first."
@@ -121,6 +127,15 @@ as-installed = mapverdict.claims .as-installed
 
 pub zeros : (r : Rule) (x : ℕ) → buildNumber r ≡ some x → buildOf r ≡ refusedBuild x
 zeros r x e = ap (λ o. buildBy o r) e
+
+-- field by field:
+pub each-zero : (r : Rule) (x : ℕ) → buildNumber r ≡ some x → AllZero (buildOf r .profile)
+each-zero = profile.claims .zeros
+
+-- Rules built by hand, A and B of document 01 among them, have the replies and the mappings that
+-- stand beside them:
+pub by-hand : Answered profiles
+by-hand = profile.claims .answered
 
 -- ---- A CHUNK
 -- "A chunk is then one run that answers its mapping by value: eight 8-bit masks, 0 from state n on." It

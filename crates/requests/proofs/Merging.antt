@@ -21,15 +21,15 @@
 --
 -- one and two are any values, in which any numbers may stand. A proved function ends and stays within
 -- its bounds. Assumes nothing.
-use mathlib.Core.Path.{_≡_, sym, ap, _∙_, subst}
+use mathlib.Core.Path.{_≡_, sym, ap, _∙_, subst, refl}
 use mathlib.Core.Logic.{_↔_, _⊎_}
 use mathlib.Core.Bool.{Bool, true, false}
 use mathlib.Core.List.{List, _++_, flatten}
 use mathlib.Core.Option.{none, some}
-use Prim.Native.Nat.{ℕ, _≤_, _<_}
+use Prim.Native.Nat.{ℕ, _≤_, _<_, _+_, _*_}
 use lib.ListN.{length}
 use Rattle.base.specs.Conditions.{NoneHolds, FirstHolds}
-use Rattle.limits.specs.Limits.{longestFile, targetCells}
+use Rattle.limits.specs.Limits.{longestFile, targetCells, mostStates}
 use Rattle.automaton.specs.declared.Rule.{Rule}
 use Rattle.automaton.specs.Automaton.{Automaton, Run, Accepts}
 use Rattle.automaton.specs.Rules.{automatonOf, WellFormed}
@@ -40,7 +40,6 @@ use Rattle.ruleformat.specs.Claims.{AllZero}
 use Rattle.ruleformat.specs.Language.{automatonIn}
 use Rattle.calls.specs.Replies.{yesWith, noWith}
 use Rattle.calls.specs.Calls.{Call, installNumber}
-use Rattle.calls.proofs.Loading as calls-loading
 use Rattle.histories.specs.History.{ruleIn, boardIn, emptiesIn, summedIn, textIn, verdictIn}
 use Rattle.histories.proofs.EveryList.{every-list}
 use Rattle.lines.specs.Splitting.{linesOf}
@@ -53,7 +52,7 @@ use Rattle.merging.specs.declared.Way.{Way}
 use Rattle.merging.specs.declared.Way.the-variants as way
 use Rattle.merging.specs.declared.MergeResult.{MergeResult}
 use Rattle.merging.specs.Languages.{Merges, MadeBy}
-use Rattle.merging.specs.Merged.{mergedOf}
+use Rattle.merging.specs.Merged.{mergedOf, statesOf}
 use Rattle.merging.specs.Merging.{mergeConditions, mergeOutcome, mergeOf, wayOf}
 use Rattle.merging.specs.Worked.{merges, Answered}
 use Rattle.merging.specs.Claims.{Refused-exactly, MergeLaw}
@@ -71,6 +70,11 @@ use Rattle.c_merge.specs.Claims as c-claims
 use Rattle.c_merge.proofs.ReadBack as c-merge
 use Rattle.c_merge.proofs.Asks as c-asks
 use Rattle.requests.specs.MergeFunction.{AsksMerge, MayMerge, AsksMergeC, MayMergeC}
+use Rattle.requests.proofs.Installing as installing
+
+-- The limits that are named below:
+pub limits : (mostStates ≡ 32) × (targetCells ≡ 512) × (longestFile ≡ 32906)
+limits = (refl, refl, refl)
 
 -- ---- THE CALL
 -- "From two checked rules of R-3 with n1 and n2 states build a third in three ways."
@@ -151,10 +155,22 @@ refused w one two = merging-law w one two .refused
 pub number-by-number : (w : Way) (one two : Rule) → Refused-exactly w one two
 number-by-number = merging.claims .refused
 
+-- The result has n1 * n2 states for both and for interleaving, and n1 + n2 for either; 37 is given
+-- to two well-formed rules with the same k exactly where that is more than 32:
+pub states-of-result : (n1 n2 : ℕ)
+    → (statesOf way.Both n1 n2 ≡ n1 * n2) × (statesOf way.Interleaving n1 n2 ≡ n1 * n2) × (statesOf way.Either n1 n2 ≡ n1 + n2)
+states-of-result = merging.claims .states
+
+pub thirty-seven : (one two : Rule) → WellFormed one → WellFormed two → one .k ≡ two .k
+    → ((mergeOf way.Both one two .number ≡ some 37) ↔ (32 < one .n * two .n))
+    × ((mergeOf way.Interleaving one two .number ≡ some 37) ↔ (32 < one .n * two .n))
+    × ((mergeOf way.Either one two .number ≡ some 37) ↔ (32 < one .n + two .n))
+thirty-seven = merging.claims .thirty-seven
+
 -- R-3: "A later call that takes a checked rule first gives 3, 4, 6 or 8 as installing would" (the
 -- conditions of a rule are installing's), and "a refused call .. carries zeros":
-pub as-installing : (r : Rule) (x : ℕ) → ruleNumber r ≡ some x → installNumber r ≡ some x
-as-installing = calls-loading.as-installing
+pub as-installing : (r : Rule) (x : ℕ) → (x ≡ 3) ⊎ (x ≡ 4) ⊎ (x ≡ 6) ⊎ (x ≡ 8) → (ruleNumber r ≡ some x) ↔ (installNumber r ≡ some x)
+as-installing = installing.exactly
 
 pub zeros : (w : Way) (one two : Rule) (x : ℕ) → mergeOf w one two .number ≡ some x → AllZero (mergeOf w one two .rule)
 zeros w one two = merging-law w one two .zeros

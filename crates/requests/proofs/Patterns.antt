@@ -5,6 +5,8 @@
 --   StandsFor p b               the bytes b are the pattern p           patterns/specs/Grammar
 --   positionRule p              the rule of the positions               patterns/specs/Positions
 --   Begins, Ends, Comes         positions by the marked pattern         patterns/specs/Marked
+--   Letter p i s                the i-th letter from the left is s      patterns/specs/Claims
+--   AllZero o                   length 0, and every byte 0              patternfile/specs/Claims
 --   patternNumber, patternOf b  what reading the bytes b answers        patternfile/specs/Answers
 --   Refused-exactly b           which number, in words                  patternfile/specs/Claims
 --   Accepted-for p b, States    what is answered, for the pattern p     patternfile/specs/Claims
@@ -19,7 +21,7 @@
 -- b is any list of bytes, p any pattern. A proved function ends and stays within its bounds. Assumes
 -- nothing.
 use mathlib.Core.Path.{_≡_, refl, sym, ap, _∙_, subst}
-use mathlib.Core.Logic.{_↔_}
+use mathlib.Core.Logic.{_↔_, _⊎_}
 use mathlib.Core.Bool.{true, cond}
 use mathlib.Core.List.{List, [], _++_, flatten}
 use mathlib.Core.Option.{none, some}
@@ -27,10 +29,10 @@ use Prim.Native.Nat.{ℕ, _≤_}
 use lib.ListN.{length, take, replicate}
 use lib.Dec.{eqb}
 use Rattle.base.specs.Conditions.{NoneHolds}
-use Rattle.limits.specs.Limits.{longestFile, targetCells}
+use Rattle.limits.specs.Limits.{longestFile, targetCells, mostSymbols}
 use Rattle.masks.specs.Masks.{_∈_}
 use Rattle.automaton.specs.declared.Rule.{Rule}
-use Rattle.automaton.specs.Automaton.{Accepts}
+use Rattle.automaton.specs.Automaton.{Accepts, Arc}
 use Rattle.automaton.specs.Rules.{automatonOf, WellFormed}
 use Rattle.rulecheck.specs.Checking.{ruleNumber}
 use Rattle.rulecheck.proofs.Claims as check
@@ -47,18 +49,18 @@ use Rattle.histories.specs.History.{ruleIn, boardIn, emptiesIn, summedIn, textI
 use Rattle.histories.proofs.EveryList.{every-list}
 use Rattle.histories.proofs.Refinement.{lent}
 use Rattle.lines.specs.Splitting.{linesOf}
-use Rattle.patterns.specs.Limits.{longestPattern, longestPatternFile}
+use Rattle.patterns.specs.Limits.{longestPattern, longestPatternFile, mostLetters}
 use Rattle.patterns.specs.Patterns.{Pattern, Matches}
 use Rattle.patterns.specs.Grammar.{StandsFor}
 use Rattle.patterns.specs.Positions.{first, last, follow, positionRule}
 use Rattle.patterns.specs.Marked.{Begins, Ends, Comes}
-use Rattle.patterns.specs.Claims.{Few}
+use Rattle.patterns.specs.Claims.{Few, Letter}
 use Rattle.patterns.proofs.Claims as patterns
 use Rattle.patternscan.proofs.Claims as scan
 use Rattle.patternfile.specs.Answers.{patternNumber, patternOf, refusedWith, fileIn}
 use Rattle.patternfile.specs.Worked.{Answered}
 use Rattle.patternfile.specs.Worked as worked
-use Rattle.patternfile.specs.Claims.{automatonFor, States, Refused-exactly}
+use Rattle.patternfile.specs.Claims.{automatonFor, States, Refused-exactly, AllZero}
 use Rattle.patternfile.proofs.Claims as patternfile
 use Rattle.patterntext.specs.declared.Line.{Line}
 use Rattle.patterntext.specs.Answers.{answersText}
@@ -70,6 +72,10 @@ use Rattle.c_patterns.specs.Numbers.{patternShown, patternReadBack}
 use Rattle.c_patterns.specs.Claims as c-claims
 use Rattle.c_patterns.proofs.Claims as c-patterns
 use Rattle.requests.specs.PatternFunction.{AsksPattern, MayPattern}
+
+-- The limits that are named below:
+pub limits : (longestPattern ≡ 128) × (mostLetters ≡ 31) × (longestPatternFile ≡ 2122) × (mostSymbols ≡ 16) × (longestFile ≡ 32906) × (targetCells ≡ 512)
+limits = (refl, refl, refl, refl, refl, refl)
 
 -- "Add a reader that turns a pattern into a rule file by McNaughton and Yamada's positions."
 -- The bytes that come back are those of the file of the positions' rule, for every pattern that the
@@ -94,6 +100,16 @@ no-refusal p b s e = format.claims .reading (fileIn (patternOf b)) .accepted .0 
 -- with the first positions, ends with the last, and has those that follow a position right after it.
 pub positions : (p : Pattern) (i j : ℕ) → ((j ∈ first p 0) ↔ Begins p j) × ((i ∈ last p 0) ↔ Ends p i) × ((j ∈ follow p 0 i) ↔ Comes p i j)
 positions p i j = (patterns.claims .firsts p j, patterns.claims .lasts p i, patterns.claims .follows p i j)
+
+-- An arc leads from q by s to i exactly where the i-th letter is s, and a text begins with i and q
+-- is the start, or i comes right after q; a state is final exactly where a text ends with it, and
+-- the start where the empty text is one:
+pub arcs : (p : Pattern) (b : List ℕ) → StandsFor p b → Few p → (q s i : ℕ)
+    → Arc (automatonOf (positionRule p)) q s i ↔ (Letter p i s × (((q ≡ 0) × Begins p i) ⊎ Comes p q i))
+arcs = patterns.claims .arc
+
+pub finals : (p : Pattern) (q : ℕ) → (q ∈ positionRule p .finals) ↔ (Ends p q ⊎ ((q ≡ 0) × Matches p []))
+finals = patterns.claims .final
 
 -- "Letters a to p are symbols 0 to 15; there are juxtaposition, `|`, `*` and round brackets; an empty
 -- alternative, pattern or bracket means the empty text."
@@ -126,6 +142,9 @@ refused = patternfile.claims .refused
 
 pub zeros : (b : List ℕ) (x : ℕ) → patternNumber b ≡ some x → patternOf b ≡ refusedWith x
 zeros = patternfile.claims .zeros
+
+pub each-zero : (b : List ℕ) (x : ℕ) → patternNumber b ≡ some x → AllZero (patternOf b)
+each-zero = patternfile.claims .each-zero
 
 -- and it accepts every other:
 pub accepted : (b : List ℕ) → (patternNumber b ≡ none) ↔ ((length b ≤ longestPattern) × ((p : Pattern) × StandsFor p b × Few p))

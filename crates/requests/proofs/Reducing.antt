@@ -23,7 +23,7 @@
 -- (reducing/specs/Reduced) need not be believed: `due` says that it is the answer of the words, and
 -- no other is. It is not the smallest automaton that accepts these texts. A proved function ends
 -- and stays within its bounds. Assumes nothing.
-use mathlib.Core.Path.{_≡_, sym, ap, _∙_, subst}
+use mathlib.Core.Path.{_≡_, sym, ap, _∙_, subst, refl}
 use mathlib.Core.Logic.{_↔_}
 use mathlib.Core.Bool.{true, false, cond}
 use mathlib.Core.List.{List}
@@ -54,6 +54,10 @@ use Rattle.c_reduce.specs.Claims as c-claims
 use Rattle.c_reduce.proofs.ReadBack as c-reduce
 use Rattle.c_reduce.proofs.Asks as c-asks
 use Rattle.requests.specs.ReduceFunction.{AsksReduce, MayReduce, AsksReduceC, MayReduceC}
+
+-- The limits that are named below:
+pub limits : targetCells ≡ 512
+limits = refl
 
 -- ---- THE CALL
 -- All that is promised of it, in one place; the sentences below are its parts:

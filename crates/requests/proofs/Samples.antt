@@ -5,6 +5,7 @@
 --   Due r wish a                 the answer that is due, in words        samples/specs/Samples
 --   Wished, First                a wished text; the first of them        samples/specs/Samples
 --   setAfter r w, ManySets r     the set that a text leads to; 513 sets  samples/specs/Samples
+--   Answered cases               samples worked by hand                  samples/specs/Worked
 --   NoLater, Sooner, Lex         the order of texts                      numbering/specs/Texts
 --   Accepts, Run                 automata and their runs (000)           automaton/specs/Automaton
 --   Reached a m w p              some member of m has a run over w to p  automaton/specs/Successor
@@ -28,6 +29,7 @@ use mathlib.Core.Option.{some}
 use Prim.Native.Nat.{ℕ, _≤_, _<_}
 use lib.ListN.{length}
 use Rattle.masks.specs.Masks.{_∈_}
+use Rattle.limits.specs.Limits.{mostSets}
 use Rattle.automaton.specs.declared.Rule.{Rule}
 use Rattle.automaton.specs.Automaton.{Accepts}
 use Rattle.automaton.specs.Rules.{automatonOf, WellFormed}
@@ -36,7 +38,6 @@ use Rattle.automaton.proofs.Claims as automaton
 use Rattle.rulecheck.specs.Checking.{ruleNumber}
 use Rattle.calls.specs.Replies.{yesWith, noWith}
 use Rattle.calls.specs.Calls.{Call, installNumber}
-use Rattle.calls.proofs.Loading as calls-loading
 use Rattle.histories.specs.History.{ruleIn, boardIn, emptiesIn, summedIn, textIn, verdictIn}
 use Rattle.histories.proofs.EveryList.{every-list}
 use Rattle.numbering.specs.Texts.{Lex}
@@ -47,6 +48,8 @@ use Rattle.samples.specs.Samples.{Wished, First, setAfter, ManySets, Searched, 
 use Rattle.samples.specs.Values.{longestSample, none-there, noText, Outcome, sampleOutcome, Carries, outcomeOf, sampleIn}
 use Rattle.samples.specs.Values as values
 use Rattle.samples.specs.Search.{sampleOf}
+use Rattle.samples.specs.Worked.{Answered}
+use Rattle.samples.specs.Worked as worked
 use Rattle.samples.specs.Claims.{Refused-exactly}
 use Rattle.samples.proofs.Claims as samples
 use Rattle.sampletext.specs.SampleText.{textFor, mostBytes}
@@ -56,6 +59,11 @@ use Rattle.c_samples.specs.Numbers.{wishOf, sampleShown, sampleReadBack}
 use Rattle.c_samples.specs.Claims as c-claims
 use Rattle.c_samples.proofs.ReadBack as c-samples
 use Rattle.requests.specs.SampleFunctions.{AsksSample, MaySample, AsksSampleC, MaySampleC}
+use Rattle.requests.proofs.Installing as installing
+
+-- The limits that are named below:
+pub limits : (longestSample ≡ 511) × (mostSets ≡ 512)
+limits = (refl, refl)
 
 -- ---- THE ANSWER
 -- "Owners want to see a trace that their rule accepts, or one that it rejects." "One argument should
@@ -67,6 +75,10 @@ due = samples.claims .exactly
 -- By value: a value is the one that is answered exactly where it carries an answer that is due.
 pub value : (r : Rule) (wished : Wish) (o : Outcome) → (o ≡ outcomeOf (sampleOf r wished)) ↔ (a : Sample) × Due r wished a × Carries a o
 value = samples.claims .value
+
+-- Samples worked by hand, of A and B of document 01 among others, are what stands beside them:
+pub by-hand : Answered worked.samples
+by-hand = samples.claims .answered
 
 -- ---- THE TEXT
 -- "From a checked rule give .. the shortest such text .., and among the shortest the first by symbols":
@@ -117,8 +129,8 @@ numbers = samples.claims .numbers
 pub thirty-five : (r : Rule) (wished : Wish) → (sampleOf r wished ≡ refused 35) ↔ (WellFormed r × ManySets r)
 thirty-five r wished = numbers r wished .number-35
 
-pub as-installing : (r : Rule) (x : ℕ) → ruleNumber r ≡ some x → installNumber r ≡ some x
-as-installing = calls-loading.as-installing
+pub as-installing : (r : Rule) (x : ℕ) → (x ≡ 3) ⊎ (x ≡ 4) ⊎ (x ≡ 6) ⊎ (x ≡ 8) → (ruleNumber r ≡ some x) ↔ (installNumber r ≡ some x)
+as-installing = installing.exactly
 
 -- R-3: "a refused call .. carries zeros":
 pub zeros : (r : Rule) (wished : Wish) (x : ℕ) → sampleOf r wished ≡ refused x → outcomeOf (sampleOf r wished) ≡ noText (values.refused x)

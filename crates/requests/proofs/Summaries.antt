@@ -29,7 +29,7 @@
 -- A summary is any value, in which any numbers may stand, and a judge any state. The digest is a
 -- guard against mistakes, not against attackers: summaries of another rule are told where its
 -- digest is another. A proved function ends and stays within its bounds. Assumes nothing.
-use mathlib.Core.Path.{_≡_}
+use mathlib.Core.Path.{_≡_, refl}
 use mathlib.Core.Logic.{_↔_, _⊎_}
 use mathlib.Core.List.{List, _∷_, flatten}
 use mathlib.Core.Option.{none, some}
@@ -37,7 +37,7 @@ use Prim.Native.Nat.{ℕ, _^_, _≤_, _<_}
 use contract.Lifetimes.{Lfts}
 use denote.Ref.{RefT}
 use lib.ListN.{length, getD}
-use Rattle.limits.specs.Limits.{mostStates, mostPlaces, largestNumber}
+use Rattle.limits.specs.Limits.{mostStates, mostPlaces, largestNumber, longestChunk}
 use Rattle.base.specs.Lists.{listFrom}
 use Rattle.masks.specs.Masks.{_∈_}
 use Rattle.marks.specs.Marks.{textOf}
@@ -88,6 +88,10 @@ use Rattle.c_summaries.proofs.Numbers as numbers-of-C
 use Rattle.c_summaries.proofs.Asks as asks-of-C
 use Rattle.requests.specs.SummaryFunctions.{AsksSummarizeC, MaySummarizeC, AsksCombineC, MayCombineC, AsksConcludeC, MayConcludeC, SummarizedOnC}
 use Rattle.requests.proofs.SummaryFunctions as functions-of-C
+
+-- The limits that are named below:
+pub limits : (mostStates ≡ 32) × (largestNumber ≡ 18446744073709551615) × (mostPlaces ≡ 64) × (longestChunk ≡ 65536) × (manyChunks ≡ 8796093022208)
+limits = (refl, refl, refl, refl, refl)
 
 -- ---- TWO SUMMARIES COMBINED, without a rule
 -- Where state q is led by two chunks: wherever the later leads what the earlier led q to.

@@ -12,6 +12,8 @@
 --   verdictIn h, answerOf h c     the verdict; what is answered to a call  trayhistories/specs/History
 --   Installation, WholeRows,      the numbers, one by one                  trayhistories/specs/Conditions
 --   AtOrAbove, Accepted-exactly, Refused-exactly
+--   LastRow .. LastStanding       by the last accepted call of a kind      trayhistories/specs/Last
+--   EmptyBands; numbersOf         the empty bands; the numbers of a call   trayhistories/specs
 --   Changes, AnyOrder, Unchanged, what a call changes; the whole theorem   trayhistories/specs/Claims
 --   VerdictClauses, EveryList
 --   trayLibrary, EveryRun         what the functions' contracts allow      trayhistories/specs/Functions
@@ -21,23 +23,29 @@
 --   MayOpen, ..; trayLibraryOfC   what the functions for C allow           specs/TrayFunctions
 --   Blocks; rightText             what is written for lines, and is right  linetexts/specs/Claims, traystream/specs/Texts
 --   listText; listOf, skippedLines   lists that a malformed line ends      linetexts/specs/Lists
+--   Gathers; FedBlocks            a round; blocks through functions        linetexts/specs/Feeding, Functions
+--   MayGather, MayFinish          what their contracts allow               specs/TrayTexts
+--   SaysLine; SaysNumber, ..      which lines and fields say what          traytext/, fields/specs/Claims
+--   sampleText, cutText ..        texts and their answers, byte by byte    traystream/specs/Worked
 --   Accepts; automatonOf r        automata and their runs (000)            automaton/specs/Automaton, Rules
 --
 -- h is any list of calls, the last first. A proved function ends and stays within its bounds. Assumes
 -- nothing.
-use mathlib.Core.Path.{_≡_}
+use mathlib.Core.Path.{_≡_, refl}
 use mathlib.Core.Logic.{_↔_, _⊎_}
 use mathlib.Core.Bool.{false}
 use mathlib.Core.List.{List, [], _∷_, _++_, flatten}
 use mathlib.Core.Option.{none, some}
 use Prim.Native.Nat.{ℕ, _+_, _*_, _≤_, _<_}
-use lib.ListN.{length, getD}
+use lib.ListN.{length, take, getD}
+use Rattle.text.specs.Writing.{Wrote}
 use Rattle.executions.specs.Executions.{Execution, Meets}
 use Rattle.lines.specs.Splitting.{linesOf}
 use Rattle.longlines.specs.Holding.{lineBegin}
-use Rattle.linetexts.specs.Feeding.{State, stateOf, finishOf}
+use Rattle.linetexts.specs.Feeding.{State, stateOf, finishOf, gatherAt, Gathers}
 use Rattle.linetexts.specs.Lists.{Listed, listOf, NoneEmpty, skippedLines}
 use Rattle.linetexts.specs.Claims.{Blocks}
+use Rattle.linetexts.specs.Functions.{FedBlocks}
 use Rattle.marks.specs.Marks.{idleMark}
 use Rattle.automaton.specs.declared.Rule.{Rule}
 use Rattle.automaton.specs.Automaton.{Accepts}
@@ -46,7 +54,7 @@ use Rattle.build.specs.Building.{builtOf}
 use Rattle.calls.specs.Calls.{installNumber}
 use Rattle.histories.specs.Method.{Method}
 use Rattle.trays.specs.declared.Tray.{Tray}
-use Rattle.trays.specs.Sizes.{mostWidth, mostBands}
+use Rattle.trays.specs.Sizes.{mostWidth, mostBands, mostRows}
 use Rattle.trays.specs.Rows.{columnOf, AllAccepted}
 use Rattle.trays.specs.Replies.{Reply, refused, waiting, saysYes, saysNo, refusedWith, refusalOf}
 use Rattle.trays.specs.Calls.{Call, installsRow, installsColumn, opens, delivers}
@@ -54,16 +62,24 @@ use Rattle.trays.specs.Steps.{fresh, installRowOf, installColumnOf, openOf, del
 use Rattle.trays.specs.Claims.{RowsLaw, ColumnLaw, rowsBelow}
 use Rattle.trays.proofs.Claims as trays
 use Rattle.trayhistories.specs.History.{rowThere, columnThere, rowIn, columnIn, Size, boardThere, widthIn, bandsIn, standing, emptiesIn, rowsAt, rowsThere, verdictIn, answerOf, answersTo}
-use Rattle.trayhistories.specs.Conditions.{Installation, WholeRows, AtOrAbove, Accepted-exactly, Refused-exactly}
+use Rattle.trayhistories.specs.Last.{LastRow, LastColumn, LastBoard, LastStanding}
+use Rattle.trayhistories.specs.Empties.{EmptyBands}
+use Rattle.trayhistories.specs.Conditions.{Installation, WholeRows, AtOrAbove, Accepted-exactly, Refused-exactly, No-other-number}
 use Rattle.trayhistories.specs.Claims.{trayMachine, trayAfter, Invariant, NoBoard, Changes, AnyOrder, Unchanged, EveryList}
 use Rattle.trayhistories.specs.Functions.{trayLibrary, EveryRun}
 use Rattle.trayhistories.specs.Worked.{lists, Answered}
 use Rattle.trayhistories.proofs.EveryList as tray-lists
+use Rattle.trayhistories.proofs.Last as tray-last
+use Rattle.trayhistories.proofs.Empties as tray-empties
+use Rattle.trayhistories.proofs.NoOther as tray-numbers
 use Rattle.trayhistories.proofs.Refinement as tray-functions
 use Rattle.trayhistories.proofs.Examples as tray-examples
 use Rattle.traystream.specs.Texts.{trayRoom, trayLines, rightText}
+use Rattle.traystream.specs.Worked.{cutText, cutAnswers, sampleText, sampleAnswers}
 use Rattle.traystream.proofs.Claimed as traystream
-use Rattle.traytext.specs.Lines.{malformed, lineIn}
+use Rattle.traytext.specs.Lines.{Meaning, malformed, lineIn}
+use Rattle.traytext.specs.Claims.{SaysLine}
+use Rattle.traytext.proofs.Exact as traytext
 use Rattle.answers.specs.Answers.{malformedText}
 use Rattle.c_trays.specs.declared.InstallNumbers.{InstallNumbers}
 use Rattle.c_trays.specs.declared.CallNumbers.{CallNumbers}
@@ -72,7 +88,14 @@ use Rattle.c_trays.specs.Numbers.{installShown, callShown, verdictShown}
 use Rattle.c_trays.specs.Claims as c-claims
 use Rattle.c_trays.proofs.ReadBack as c-trays
 use Rattle.requests.specs.TrayFunctions.{MayInstallRow, MayInstallColumn, MayOpen, MayDeliver, MayWithdraw, MayJudge, trayLibraryOfC}
+use Rattle.requests.specs.TrayTexts.{MayGather, MayFinish}
 use Rattle.requests.proofs.TrayFunctions as functions
+use Rattle.requests.proofs.TrayTexts as tray-texts
+use Rattle.requests.proofs.TraySample as tray-sample
+
+-- The limits that are named below:
+pub limits : (mostWidth ≡ 16) × (mostBands ≡ 8) × (mostRows ≡ 64) × (idleMark ≡ 255)
+limits = (refl, refl, refl, refl)
 
 -- ---- ALL OF IT
 -- "Over every list of a tray's calls the verdict is this one, with bands in the part of chunks; revisions
@@ -216,6 +239,37 @@ unchanged h = every-list h .unchanged
 pub unchanged-in-any-state : (t : Tray) (c : Call) (x : ℕ) → refusalOf (stepOf t c .reply) ≡ some x → stepOf t c .state ≡ t
 unchanged-in-any-state = trays.claims .unchanged
 
+-- ---- THE LIST IN OTHER WORDS
+-- What the sentences above say of a list of calls goes through it call by call
+-- (trayhistories/specs/History). So that none rests on that alone, each is said once more, by the
+-- list cut at one call, or call by call where it counts. The row rule and the column rule are those
+-- of the last accepted installation of each;
+pub last-row : (h : List Call) → LastRow h
+last-row = tray-last.last-row
+
+pub last-column : (h : List Call) → LastColumn h
+last-column = tray-last.last-column
+
+-- a board is there exactly when the last accepted call among installations and openings is an
+-- opening, with its width and bands;
+pub last-board : (h : List Call) → LastBoard h
+last-board = tray-last.last-board
+
+-- what stands at a band is what was last accepted there since that opening, and not withdrawn
+-- since.
+pub last-standing : (h : List Call) → LastStanding h
+last-standing = tray-last.last-standing
+
+-- "waiting as on a board": the number of empty bands is 0 at first and where a rule goes in, n
+-- after an opening of n; one less after a delivery, one more after a withdrawal, else the same.
+pub empty-bands : EmptyBands emptiesIn
+empty-bands = tray-empties.empty-bands
+
+-- and a refused call has one of its own numbers: 3, 4, 6, 8, 9 of an installation, 20, 38, 10 of an
+-- opening, 21, 11, 39, 13, 22 of a delivery, 21, 11, 23 of a withdrawal, 21 of a verdict.
+pub no-other-number : (h : List Call) → No-other-number h
+no-other-number = tray-numbers.no-other-number
+
 -- ---- FROM C
 -- The functions that C links ask nothing; what their numbers say, and the tray that they leave, is what
 -- the definitions give, for any tray whatever.
@@ -288,3 +342,34 @@ malformed-ends = traystream.claims .ends-list
 pub begins-afresh : (h : List Call) (l : List ℕ) (ls more : List (List ℕ)) → lineIn l ≡ malformed → NoneEmpty ls
     → rightText (some h) ((l ∷ ls) ++ ([] ∷ more)) ≡ malformedText ++ (skippedLines ls ++ ((10 ∷ []) ++ rightText (some []) more))
 begins-afresh = traystream.claims .afresh
+
+-- So from the functions: what the contract of `gather` allows is a round, that of `finish` the end, and
+-- nothing else; fed through them, block by block, a text is answered right.
+pub gather-allows : (s t : State (Listed Tray)) (before block after : List ℕ) (at next written : ℕ)
+    → MayGather s before block at t next written after ↔ Gathers (gatherAt trayLines block at (length before) s) at t next written before after
+gather-allows = tray-texts.gather-fixed
+
+pub finish-allows : (s : State (Listed Tray)) (before after : List ℕ) (written : ℕ)
+    → MayFinish s before written after ↔ Wrote before 0 (finishOf trayLines s .text) after written
+finish-allows = tray-texts.finish-fixed
+
+pub lines-fed : {room written : ℕ} {s′ : State (Listed Tray)} {blocks : List (List ℕ)} {line text before after : List ℕ} → trayRoom + 1 ≤ length line
+    → FedBlocks MayGather room (stateOf (listOf fresh false) lineBegin line) blocks s′ text → MayFinish s′ before written after
+    → text ++ take written after ≡ rightText (some []) (linesOf (flatten blocks))
+lines-fed = tray-texts.fed
+
+-- A line means a call or a rule file exactly when it is its line, but for leading zeros and the case of
+-- hex digits; any other is malformed.
+pub line-means : (l : List ℕ) (m : Meaning) → (m ≡ malformed → ⊥) → (lineIn l ≡ m) ↔ SaysLine l m
+line-means = traytext.claims .line-exactly
+
+pub line-malformed : (l : List ℕ) → (lineIn l ≡ malformed) ↔ ((m : Meaning) → SaysLine l m → ⊥)
+line-malformed = traytext.claims .malformed-exactly
+
+-- Worked, byte by byte: samples/tray.calls is answered with what docs/PROGRAMS.md prints for it, and a
+-- text in which a line was cut with `malformed` and `skipped`.
+pub sample-text : rightText (some []) (linesOf sampleText) ≡ sampleAnswers
+sample-text = tray-sample.sample
+
+pub cut-text : rightText (some []) (linesOf cutText) ≡ cutAnswers
+cut-text = traystream.claims .worked

@@ -8,6 +8,7 @@ pub mod MergeReducedFunction
 pub mod TextFunction
 pub mod FormFunctions
 pub mod TrayFunctions
+pub mod TrayTexts
 pub mod FaultFunctions
 pub mod LossFunctions
 pub mod FollowFunctions

@@ -29,6 +29,7 @@ use Rattle.build.proofs.Claims as build
 use Rattle.ruletext.specs.RuleText.{refusedText}
 use Rattle.ruletext.specs.Printing.{builtText, textBy, textFor, mostBytes}
 use Rattle.ruletext.specs.Claims.{Claims}
+use Rattle.ruletext.proofs.Reading.{determines, dash-exactly}
 use Rattle.ruletext.proofs.Lengths.{rule-most, refused-most}
 
 -- ---- a refused file
@@ -58,7 +59,7 @@ few-starts d zero = omega arith
 few-starts d (suc n) = let l = few-starts d n in by-test (eqb (getD d n 0) n) (λ e. rw e (omega arith)) (λ e. rw e (omega arith))
 
 module _ (r : Rule) (good : WellFormed r) (f : fits r) where
-  starts-low : builtOf r .startcount < 256
+  pub starts-low : builtOf r .startcount < 256
   starts-low =
       let m = build.claims .delegates r good f in
       omega (arith, good .states, m .starts, few-starts (builtOf r .delegates) (r .n))
@@ -81,4 +82,4 @@ by-number f none e = built-fits (ruleOf f) (ruleformat.claims .well-formed f e)
 by-number f (some x) e = let l = refused-fits f x e in omega arith
 
 pub claims : Claims
-claims = record { fits = λ f. by-number f (refusal f) refl }
+claims = record { determines = determines; dash-exactly = dash-exactly; fits = λ f. by-number f (refusal f) refl }

@@ -2,4 +2,5 @@
 pub mod Lengths
 pub mod Copying
 pub mod ForFile
+pub mod Reading
 pub mod Claims

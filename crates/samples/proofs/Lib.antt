@@ -2,4 +2,5 @@
 pub mod Wishes
 pub mod Values
 pub mod Answers
+pub mod Examples
 pub mod Claims

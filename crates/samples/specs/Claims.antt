@@ -1,4 +1,5 @@
--- What is claimed of the answer, for every rule and either wish; proofs/Claims.antt proves it.
+-- What is claimed of the answer, for rules worked by hand, for every rule and either wish;
+-- proofs/Claims.antt proves it.
 --
 --   Refused-exactly r wish   which number the rule is refused with, condition by condition
 use mathlib.Core.Path.{_≡_}
@@ -14,6 +15,7 @@ use Rattle.samples.specs.declared.Wish.{Wish}
 use Rattle.samples.specs.Samples.{ManySets, Sample, text, refused, Due}
 use Rattle.samples.specs.Values.{longestSample, Outcome, Carries, outcomeOf, sampleIn}
 use Rattle.samples.specs.Search.{searchNumber, sampleOf}
+use Rattle.samples.specs.Worked.{samples, Answered}
 
 pub record Refused-exactly (r : Rule) (wish : Wish) : Type 0 where
   -- 3, 4, 6 and 8 as installing gives them
@@ -24,6 +26,8 @@ pub record Refused-exactly (r : Rule) (wish : Wish) : Type 0 where
   pub no-other : (x : ℕ) → sampleOf r wish ≡ refused x → (x ≤ 8) ⊎ (x ≡ 35)
 
 pub record Claims : Type 0 where
+  -- samples worked by hand are what stands beside them
+  pub answered : Answered samples
   -- it is the answer that is due, and no other is
   pub exactly : (r : Rule) (wish : Wish) (a : Sample) → (sampleOf r wish ≡ a) ↔ Due r wish a
   pub numbers : (r : Rule) (wish : Wish) → Refused-exactly r wish

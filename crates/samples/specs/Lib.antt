@@ -2,4 +2,5 @@
 pub mod Samples
 pub mod Values
 pub mod Search
+pub mod Worked
 pub mod Claims

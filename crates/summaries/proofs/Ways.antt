@@ -4,7 +4,7 @@
 --   same-summary       a summary, field by field
 --   summary-20, summary-12, summary-refused, summary-made   each way out of `summarizeOf`
 --   report-20 .. report-made   each way out of `concludeOf`
-use mathlib.Core.Path.{_≡_, refl, sym, _∙_}
+use mathlib.Core.Path.{_≡_, refl, sym, ap, _∙_}
 use mathlib.Core.Bool.{Bool, true, false, cond}
 use mathlib.Core.List.{List}
 use mathlib.Core.Option.{none, some}
@@ -25,7 +25,7 @@ use Rattle.deliveries.specs.declared.Attempt.{Attempt}
 use Rattle.deliveries.specs.Attempts as attempts
 use Rattle.calls.specs.declared.Judge.{Judge}
 use Rattle.calls.specs.declared.DeliverAnswer.the-variants as delivery
-use Rattle.calls.specs.Replies.{Judgement, Reported, refusedWith}
+use Rattle.calls.specs.Replies.{Judgement, Reported, refusedWith, refused, delivered, deliverMeans}
 use Rattle.calls.specs.Calls.{alone, reportBy}
 use Rattle.summaries.specs.declared.Summary.{Summary}
 use Rattle.summaries.specs.Summaries.{follows, placeOf, madeFrom, Summarized, summaryRefused, summaryNumber, summarizeOf, saidBy, concludeNumber, concludeOf}
@@ -74,12 +74,12 @@ module _ (j : Judge) (number : ℕ) (w : List ℕ) (o : Summarized) where
 
     module _ (short : length w ≤ 65536) (place : ℕ) (at : place ≡ placeOf number)
         (mask : ℕ) (masked : mask ≡ runMask (j .built .delegates) (j .built .n) (j .built .initials) place)
-        (t : Attempt) (came : t ≡ attempts.attemptOf (j .built .sets) (j .built .next) (j .built .singles) mask (j .built .k) false (textOf w)) where
-      foreign-there : foreign (textOf w) (j .built .k) ≡ true → t ≡ attempts.refusedWith 13
+        (t : Attempt) (came : attempts.attemptMeans t ≡ attempts.attemptOf (j .built .sets) (j .built .next) (j .built .singles) mask (j .built .k) false (textOf w)) where
+      foreign-there : foreign (textOf w) (j .built .k) ≡ true → attempts.attemptMeans t ≡ attempts.refusedWith 13
       unfolding attempts.attemptOf
       foreign-there f = came ∙ rw f
 
-      ran-there : foreign (textOf w) (j .built .k) ≡ false → t ≡ attempts.ranTo (runsOf (j .built .sets) (j .built .next) (j .built .singles) mask (textOf w))
+      ran-there : foreign (textOf w) (j .built .k) ≡ false → attempts.attemptMeans t ≡ attempts.ranTo (runsOf (j .built .sets) (j .built .next) (j .built .singles) mask (textOf w))
       unfolding attempts.attemptOf
       ran-there f = came ∙ rw f
 
@@ -88,11 +88,14 @@ module _ (j : Judge) (number : ℕ) (w : List ℕ) (o : Summarized) where
       summary-refused x told is =
           by-test (foreign (textOf w) (j .built .k))
           (λ f.
-          let y : t ≡ attempts.refusedWith 13 = foreign-there f in
+          let y : refused x ≡ refused 13 = sym (ap deliverMeans told) ∙ ap (λ (a : attempts.Attempted). a .reply) (foreign-there f) in
           let thirteen : x ≡ 13 = cc in
           let z : chunkNumber (j .built .k) w ≡ some 13 = chunks.claims .taking (j .built .k) w .number-13 .1 (short, f) in
           is ∙ rw (ne-eqb (j .built .n) 0 there, z, thirteen))
-          (λ f. let y = ran-there f in zero-one cc)
+          (λ f.
+          let y : refused x ≡ delivered (runsOf (j .built .sets) (j .built .next) (j .built .singles) mask (textOf w) .looked) =
+          sym (ap deliverMeans told) ∙ ap (λ (a : attempts.Attempted). a .reply) (ran-there f) in
+          zero-one cc)
 
       pub summary-made : (looked : ℕ) → t .answer ≡ delivery.Accepted looked
           → (a : Summary) → a ≡ madeFrom (j .built) number (t .runs)
@@ -101,10 +104,12 @@ module _ (j : Judge) (number : ℕ) (w : List ℕ) (o : Summarized) where
       unfolding summarizeOf summaryNumber
       summary-made looked told a made is =
           by-test (foreign (textOf w) (j .built .k))
-          (λ f. let y : t ≡ attempts.refusedWith 13 = foreign-there f in zero-one cc)
+          (λ f.
+          let y : delivered looked ≡ refused 13 = sym (ap deliverMeans told) ∙ ap (λ (a : attempts.Attempted). a .reply) (foreign-there f) in
+          zero-one cc)
           (λ f.
           let z : chunkNumber (j .built .k) w ≡ none = chunks.claims .taking (j .built .k) w .taken .1 (short, f) in
-          is ∙ rw (made, ne-eqb (j .built .n) 0 there, z, ran-there f, masked, at))
+          is ∙ rw (made, ne-eqb (j .built .n) 0 there, z, ap (λ (a : attempts.Attempted). a .runs) (ran-there f), masked, at))
 
 -- ---- concluding
 module _ (j : Judge) (a : Summary) (chunks : ℕ) (r : Reported) where

@@ -11,6 +11,7 @@ use borrow.Author.Tests.{ltb-false}
 use Rattle.answers.specs.Answers.{refusedText, malformedText}
 use Rattle.base.proofs.Tests.{by-test, zero-one}
 use Rattle.forms.specs.declared.Form.{Form}
+use Rattle.formmaker.specs.Making.{noForm}
 use Rattle.forms.specs.declared.Table.{Table}
 use Rattle.forms.specs.declared.BackAnswer.{BackAnswer}
 use Rattle.forms.specs.declared.BackAnswer.the-variants.{Accepted, Refused}
@@ -60,21 +61,21 @@ says-by f none e = zero-one cc
 says-by f (some g) e =
     by-test (ltb (g .sets) 65536 && ltb (g .symbols) 256)
     (λ t. let z : says f ≡ says g = rw t at e in let q : f ≡ g = cc in ap (λ (x : Form). backText (backOf x)) q)
-    (λ t. let z : says f ≡ tooGreat = rw t at e in zero-one cc)
+    (λ t. let z : says f ≡ tooGreat noForm = rw t at e in zero-one cc)
 
-great-by : (o : Option Form) → tooGreat ≡ heldOf o → refusedText 40 ≡ answerText o
-great-by none e = zero-one cc
-great-by (some g) e =
+great-by : (f : Form) (o : Option Form) → tooGreat f ≡ heldOf o → refusedText 40 ≡ answerText o
+great-by f none e = zero-one cc
+great-by f (some g) e =
     by-test (ltb (g .sets) 65536 && ltb (g .symbols) 256)
-    (λ t. let z : tooGreat ≡ says g = rw t at e in zero-one cc)
+    (λ t. let z : tooGreat f ≡ says g = rw t at e in zero-one cc)
     (λ t. let n : backNumber g ≡ some 40 = forms.claims .refused-exactly g .1 (great g t) in rw n)
 
-malformed-by : (o : Option Form) → malformed ≡ heldOf o → malformedText ≡ answerText o
-malformed-by none e = refl
-malformed-by (some g) e =
+malformed-by : (f : Form) (o : Option Form) → malformed f ≡ heldOf o → malformedText ≡ answerText o
+malformed-by f none e = refl
+malformed-by f (some g) e =
     by-test (ltb (g .sets) 65536 && ltb (g .symbols) 256)
-    (λ t. let z : malformed ≡ says g = rw t at e in zero-one cc)
-    (λ t. let z : malformed ≡ tooGreat = rw t at e in zero-one cc)
+    (λ t. let z : malformed f ≡ says g = rw t at e in zero-one cc)
+    (λ t. let z : malformed f ≡ tooGreat noForm = rw t at e in zero-one cc)
 
 module _ (w : List ℕ) (r : FormLine) (is : lineMeans r ≡ heldOf (lineIn w)) where
   held : (kind : LineKind) → r .kind ≡ kind → heldBy kind (r .form) ≡ heldOf (lineIn w)
@@ -84,7 +85,7 @@ module _ (w : List ℕ) (r : FormLine) (is : lineMeans r ≡ heldOf (lineIn w)) 
   says-text e = says-by (r .form) (lineIn w) (held Says e)
 
   pub great-text : r .kind ≡ TooGreat → refusedText 40 ≡ answerText (lineIn w)
-  great-text e = great-by (lineIn w) (held TooGreat e)
+  great-text e = great-by (r .form) (lineIn w) (held TooGreat e)
 
   pub malformed-text : r .kind ≡ Malformed → malformedText ≡ answerText (lineIn w)
-  malformed-text e = malformed-by (lineIn w) (held Malformed e)
+  malformed-text e = malformed-by (r .form) (lineIn w) (held Malformed e)

@@ -8,5 +8,8 @@ pub mod Clauses
 pub mod Refusing
 pub mod Changing
 pub mod EveryList
+pub mod Last
+pub mod Empties
+pub mod NoOther
 pub mod Refinement
 pub mod Examples

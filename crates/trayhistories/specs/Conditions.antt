@@ -7,10 +7,13 @@
 --   RulesIn h             both rules are there
 --   WholeRows w b         the bytes b are whole rows of w events, at most 64
 --   AtOrAbove k b         some byte of b is at or above k
+--   numbersOf c           the numbers that R-13 gives to the call c, the verdict among them
+--   No-other-number       a call is refused with none but these ("never otherwise": document 01).
+--                         proofs/NoOther.antt proves it
 use mathlib.Core.Path.{_≡_}
 use mathlib.Core.Logic.{_↔_, _⊎_}
-use mathlib.Core.List.{List}
-use mathlib.Core.Option.{none}
+use mathlib.Core.List.{List, [], _∷_, List·Memᴰ as Member}
+use mathlib.Core.Option.{none, some}
 use Prim.Native.Nat.{ℕ, _*_, _^_, _≤_, _<_}
 use lib.ListN.{length, getD}
 use Rattle.limits.specs.Limits.{mostStates, mostSymbols}
@@ -24,8 +27,8 @@ use Rattle.calls.specs.Calls as judge-calls
 use Rattle.histories.specs.History as judge-history
 use Rattle.histories.specs.Method.{TooMany}
 use Rattle.trays.specs.Sizes.{mostWidth, mostBands, mostRows}
-use Rattle.trays.specs.Replies.{Reply, accepted, installed, refused}
-use Rattle.trays.specs.Calls.{Call, opens, delivers, withdraws}
+use Rattle.trays.specs.Replies.{Reply, accepted, installed, refused, refusalOf}
+use Rattle.trays.specs.Calls.{Call, installsRow, installsColumn, opens, delivers, withdraws, asksVerdict}
 use Rattle.trayhistories.specs.History.{rowThere, columnThere, rowIn, columnIn, boardThere, widthIn, bandsIn, standing, answerOf}
 
 pub record Installation (answer : Rule → Reply) : Type 0 where
@@ -88,3 +91,14 @@ pub record Refused-exactly (h : List Call) : Type 0 where
   pub withdraw-21 : (p : ℕ) → (answerOf h (withdraws p) ≡ refused 21) ↔ (boardThere h ≡ none)
   pub withdraw-11 : (p : ℕ) → (answerOf h (withdraws p) ≡ refused 11) ↔ ((boardThere h ≡ none → ⊥) × (bandsIn h ≤ p))
   pub withdraw-23 : (p : ℕ) → (answerOf h (withdraws p) ≡ refused 23) ↔ ((p < bandsIn h) × (standing h p ≡ none))
+
+abbrev pub numbersOf : Call → List ℕ
+numbersOf (installsRow r) = 3 ∷ 4 ∷ 6 ∷ 8 ∷ 9 ∷ []
+numbersOf (installsColumn r) = 3 ∷ 4 ∷ 6 ∷ 8 ∷ 9 ∷ []
+numbersOf (opens w n) = 20 ∷ 38 ∷ 10 ∷ []
+numbersOf (delivers p b) = 21 ∷ 11 ∷ 39 ∷ 13 ∷ 22 ∷ []
+numbersOf (withdraws p) = 21 ∷ 11 ∷ 23 ∷ []
+numbersOf asksVerdict = 21 ∷ []
+
+abbrev pub No-other-number : List Call → Type 0
+No-other-number h = (c : Call) (x : ℕ) → refusalOf (answerOf h c) ≡ some x → Member x (numbersOf c)

@@ -1,4 +1,4 @@
 -- In the order in which they build on each other.
 pub mod Readings
 pub mod Written
-pub mod RoundTrip
+pub mod Exact
