@@ -149,6 +149,7 @@ WRONG_VALUES = (
     (sample, [0.0, A], "sample: wish must be ACCEPTED or REJECTED, not 0.0"),
     (merge, [3, A, A], "merge: way must be BOTH, EITHER or INTERLEAVING, not 3"),
     (merge, [1.0, A, A], "merge: way must be BOTH, EITHER or INTERLEAVING, not 1.0"),
+    (merge, [True, A, A], "merge: way must be BOTH, EITHER or INTERLEAVING, not True"),
     (merge_reduced, [3, A, A], "merge_reduced: way must be BOTH, EITHER or INTERLEAVING, not 3"),
     (merge_reduced, [1.0, A, A], "merge_reduced: way must be BOTH, EITHER or INTERLEAVING, not 1.0"),
     (make_text, [1, 2**64, 1], "make_text: seed must be 0 to 18446744073709551615, not 18446744073709551616"),

@@ -1,4 +1,4 @@
-// Merging two rules for C and Rust. The answer is numbers.
+// Merging two rules for C, Rust and Python. The answer is numbers.
 ghost use mathlib.Core.Path.{_≡_};
 ghost use Rattle.merging.specs.Merging.{wayOf, mergeOf};
 ghost use Rattle.c_merge.specs.Numbers.{mergeShown};

@@ -1,4 +1,4 @@
-// Merging two rules, reduced, for C and Rust. The answer is the numbers of merging.
+// Merging two rules, reduced, for C, Rust and Python. The answer is the numbers of merging.
 ghost use mathlib.Core.Path.{_≡_};
 ghost use Rattle.merging.specs.Merging.{wayOf};
 ghost use Rattle.mergereduce.specs.MergeReduced.{mergeReducedOf};

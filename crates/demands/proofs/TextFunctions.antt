@@ -1,6 +1,6 @@
 -- A text fed through the functions of crates/stream: what their contracts allow is what the
 -- definitions say, and that they allow. Assumes nothing.
-use mathlib.Core.Path.{_≡_, refl, sym, ap, _∙_, subst}
+use mathlib.Core.Path.{_≡_, refl, sym, _∙_, subst}
 use mathlib.Core.Logic.{_↔_}
 use mathlib.Core.Bool.{false}
 use mathlib.Core.List.{List, [], _++_, flatten}

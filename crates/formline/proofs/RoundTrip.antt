@@ -12,7 +12,7 @@ use Rattle.text.specs.Numerals.{decimal}
 use Rattle.lines.specs.Splitting.{upTo, past}
 use Rattle.lines.proofs.Over.{Over, over-up, over-past}
 use Rattle.fields.specs.Numbers.{parseNumber}
-use Rattle.fields.proofs.RoundTrip as fields
+use Rattle.fields.proofs.Claims as fields
 use Rattle.hexfields.proofs.Digits.{number-over, field-over}
 use Rattle.wordfields.specs.Words.{parseWords}
 use Rattle.wordfields.specs.Claims.{AllWords, bytesOf}

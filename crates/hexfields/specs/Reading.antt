@@ -1,6 +1,8 @@
--- What the code keeps of a field that it reads into a lent buffer: of the bytes, as many as the
--- buffer has room for, at its start.
+-- What the code does with a byte more of a field that it reads into a lent buffer, on any value and
+-- any buffer; and what it keeps: of the bytes, as many as the buffer has room for, at its start.
 --
+--   PairPut, pairOf b at high low   a pair of digits: where the next one goes, and the buffer
+--   PartRead, readOf b p c    a byte more: what of the field has been read then, and the buffer
 --   Kept bytes n buffer       the first n bytes of the buffer are the bytes, as many as fit
 --   PutsPair before at ..     whatever bytes it kept, it keeps the one of a pair of digits after them
 --   Keeps b part buffer       `part` and the buffer keep what was read
@@ -10,14 +12,43 @@
 --                             is one
 --   Tells o said buffer       the bytes o, if there are any, stand at the start of the buffer
 use mathlib.Core.Path.{_≡_}
+use mathlib.Core.Bool.{cond}
 use mathlib.Core.List.{List, [], _∷_, _++_}
 use mathlib.Core.Option.{Option, none, some}
-use Prim.Native.Nat.{ℕ, _+_, _*_, _<_}
-use lib.ListN.{length, take}
+use Prim.Native.Nat.{ℕ, _+_, _*_, _%_, _<_}
+use lib.Dec.{eqb, ltb}
+use lib.ListN.{length, take, set}
+use Rattle.fields.specs.Bytes.{hexValue}
 use Rattle.hexfields.specs.declared.Part.{Part}
 use Rattle.hexfields.specs.declared.Part.the-variants as part
-use Rattle.hexfields.specs.Fields.{Begun, nothing, dash, even, odd, stray, goesOn}
+use Rattle.hexfields.specs.Fields.{Begun, nothing, dash, even, odd, stray, isDigit, goesOn}
 
+-- ---- on any value
+pub record PairPut : Type 0 where
+  pub end : ℕ
+  pub buffer : List ℕ
+
+abbrev pub pairOf : List ℕ → ℕ → ℕ → ℕ → PairPut
+pairOf b at high low =
+    cond (ltb at (length b)) (record { end = at + 1; buffer = set b at (16 * (high % 16) + low % 16) }) (record { end = at; buffer = b })
+
+pub record PartRead : Type 0 where
+  pub part : Part
+  pub buffer : List ℕ
+
+abbrev pub readTo : List ℕ → Part → PartRead
+readTo b p = record { part = p; buffer = b }
+
+abbrev pub readOf : List ℕ → Part → ℕ → PartRead
+readOf b part.Nothing c = cond (isDigit c) (readTo b (part.Odd 0 (hexValue c))) (cond (eqb c 45) (readTo b part.Dash) (readTo b part.Stray))
+readOf b part.Dash c = readTo b part.Stray
+readOf b (part.Even n) c = cond (isDigit c) (readTo b (part.Odd n (hexValue c))) (readTo b part.Stray)
+readOf b (part.Odd n high) c =
+    let pair = pairOf b n high (hexValue c) in
+    cond (isDigit c) (readTo (pair .buffer) (part.Even (pair .end))) (readTo b part.Stray)
+readOf b part.Stray c = readTo b part.Stray
+
+-- ---- what is kept
 pub record Kept (bytes : List ℕ) (n : ℕ) (buffer : List ℕ) : Type 0 where
   pub size : n ≡ length (take (length buffer) bytes)
   pub is : take n buffer ≡ take (length buffer) bytes

@@ -5,7 +5,7 @@ ghost use lib.ListN.{length};
 ghost use Rattle.text.specs.Writing.{Wrote};
 ghost use Rattle.fields.specs.Bytes.{bytesMeans};
 ghost use Rattle.fields.specs.Claims.{digitsOf};
-ghost use Rattle.hexfields.specs.Reading.{PutsPair, ReadsOn, endOf};
+ghost use Rattle.hexfields.specs.Reading.{pairOf, readOf, endOf};
 use fields::Bytes;
 
 // What of a field has been read: nothing, the `-` for no bytes, pairs of digits, pairs and a digit
@@ -21,7 +21,7 @@ pub enum Part {
 
 // A pair of digits, if there is room for its byte.
 fn put_pair(buffer: &mut [u8], at: usize, high: u8, low: u8) -> usize
-    ensures { λ r. ⌜ PutsPair (now (buffer .entry)) at high low (now (buffer .exit)) r ⌝ }
+    ensures { λ r. ⌜ record { end = r; buffer = now (buffer .exit) } ≡ pairOf (now (buffer .entry)) at high low ⌝ }
 {
     if at < buffer.len() {
         buffer[at] = 16 * (high % 16) + low % 16;
@@ -32,7 +32,7 @@ fn put_pair(buffer: &mut [u8], at: usize, high: u8, low: u8) -> usize
 
 // One byte more of the field.
 pub fn read_on(buffer: &mut [u8], part: Part, c: u8) -> Part
-    ensures { λ r. ⌜ ReadsOn (now (buffer .entry)) part c (now (buffer .exit)) r ⌝ }
+    ensures { λ r. ⌜ record { part = r; buffer = now (buffer .exit) } ≡ readOf (now (buffer .entry)) part c ⌝ }
 {
     let value = fields::hex_value(c);
     match part {

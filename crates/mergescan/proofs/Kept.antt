@@ -4,9 +4,8 @@
 --   from-start, from-word, ..   a byte more, by what was kept
 --   second-merges, ..           the line has ended
 use mathlib.Core.Path.{_≡_, refl, sym, ap, _∙_, subst}
-use mathlib.Core.Logic.{⊎-elim}
-use mathlib.Core.Bool.{true, false, cond}
-use mathlib.Core.List.{List, [], _∷_, _++_}
+use mathlib.Core.Bool.{true, cond}
+use mathlib.Core.List.{List, [], _∷_}
 use mathlib.Core.Option.{Option, none, some}
 use Prim.Native.Nat.{ℕ, suc, _+_, _<_, _≤_, min}
 use native.Mathlib.Numerals.{add-one}
@@ -23,8 +22,8 @@ use Rattle.fields.specs.declared.Bytes.the-variants.{Put, Malformed}
 use Rattle.fields.specs.Bytes.{bytesMeans}
 use Rattle.hexfields.specs.declared.Part.{Part}
 use Rattle.hexfields.specs.declared.Part.the-variants as part
-use Rattle.hexfields.specs.Fields.{Begun, nothing, goesOn, saysNow}
-use Rattle.hexfields.specs.Reading.{Kept, Keeps, keeps-nothing, ReadsOn, endOf, Tells}
+use Rattle.hexfields.specs.Fields.{nothing, saysNow}
+use Rattle.hexfields.specs.Reading.{PartRead, readOf, keeps-nothing, ReadsOn, endOf, Tells}
 use Rattle.hexfields.proofs.Kept as field
 use Rattle.merging.specs.declared.Way.{Way}
 use Rattle.merging.specs.declared.Way.the-variants.{Both, Either, Interleaving}
@@ -32,8 +31,8 @@ use Rattle.mergetext.specs.Lines.{wordOf, Meaning}
 use Rattle.mergetext.specs.Answers.{mergedFiles, responseIn, responseText}
 use Rattle.mergescan.specs.declared.Scan.{Scan}
 use Rattle.mergescan.specs.declared.Scan.the-variants as scan
-use Rattle.mergescan.specs.Lines.{Seen, start, inWord, inFirst, inSecond, stray, firstByte, wordGoesOn, afterFirst, seenWith}
-use Rattle.mergescan.specs.Scanning.{beginOf, wordAfter, secondAfter, KeepsLine, keeps-start, keeps-word, keeps-first, keeps-second, keeps-stray, ScansOn, secondHeld, heldMeaning}
+use Rattle.mergescan.specs.Lines.{Seen, stray, firstByte, wordGoesOn, afterFirst, seenWith}
+use Rattle.mergescan.specs.Scanning.{beginOf, wordAfter, secondAfter, Scanned, scanned, scanBy, scanOf, KeepsLine, keeps-start, keeps-word, keeps-first, keeps-second, keeps-stray, ScansOn, secondHeld, heldMeaning}
 
 -- as many as there are
 take-most : (n : ℕ) (l : List ℕ) → take (min n (length l)) l ≡ take n l
@@ -141,32 +140,32 @@ module _ (one two : List ℕ) where
       goes-on = λ seen k. law seen (subst (λ (x : Scan). KeepsLine seen x one two) e k);
     }
 
-    pub from-start : s ≡ scan.Start → r ≡ beginOf c → ScansOn one two s c one two r
+    from-start : s ≡ scan.Start → r ≡ beginOf c → ScansOn one two s c one two r
     from-start e is = stays scan.Start e by-case
       where
         by-case : (seen : Seen) → KeepsLine seen scan.Start one two → KeepsLine (seenWith seen c) r one two
         by-case seen keeps-start = rw is (begun c)
 
-    pub from-word : (way : Way) (at : ℕ) → s ≡ scan.Word way at → r ≡ wordAfter way at c → ScansOn one two s c one two r
+    from-word : (way : Way) (at : ℕ) → s ≡ scan.Word way at → r ≡ wordAfter way at c → ScansOn one two s c one two r
     from-word way at e is = stays (scan.Word way at) e by-case
       where
         by-case : (seen : Seen) → KeepsLine seen (scan.Word way at) one two → KeepsLine (seenWith seen c) r one two
         by-case seen (keeps-word {x} {rest} there) = rw is (word-goes-on way at x c rest there)
 
-    pub from-space : (way : Way) (p : Part) → s ≡ scan.First way p → c ≡ 32 → r ≡ secondAfter way (endOf p) → ScansOn one two s c one two r
+    from-space : (way : Way) (p : Part) → s ≡ scan.First way p → c ≡ 32 → r ≡ secondAfter way (endOf p) → ScansOn one two s c one two r
     from-space way p e sp is = stays (scan.First way p) e by-case
       where
         by-case : (seen : Seen) → KeepsLine seen (scan.First way p) one two → KeepsLine (seenWith seen c) r one two
         by-case seen (keeps-first {b} k) = rw (eq-eqb c 32 sp, is) (space-kept way (saysNow b) (endOf p) (field.told b p one k))
 
-    pub from-stray : s ≡ scan.Stray → r ≡ scan.Stray → ScansOn one two s c one two r
+    from-stray : s ≡ scan.Stray → r ≡ scan.Stray → ScansOn one two s c one two r
     from-stray e is = stays scan.Stray e by-case
       where
         by-case : (seen : Seen) → KeepsLine seen scan.Stray one two → KeepsLine (seenWith seen c) r one two
         by-case seen keeps-stray = rw is keeps-stray
 
   module _ (s : Scan) (c : ℕ) (way : Way) (p q : Part) where
-    pub from-first : s ≡ scan.First way p → (c ≡ 32 → ⊥) → (after : List ℕ) → ReadsOn one p c after q → ScansOn one two s c after two (scan.First way q)
+    from-first : s ≡ scan.First way p → (c ≡ 32 → ⊥) → (after : List ℕ) → ReadsOn one p c after q → ScansOn one two s c after two (scan.First way q)
     from-first e sp after reads = record {
       size-one = reads .same-size;
       size-two = refl;
@@ -176,7 +175,7 @@ module _ (one two : List ℕ) where
         by-case : (seen : Seen) → KeepsLine seen (scan.First way p) one two → KeepsLine (seenWith seen c) (scan.First way q) after two
         by-case seen (keeps-first {b} k) = rw (ne-eqb c 32 sp) (keeps-first (reads .goes-on b k))
 
-    pub from-second : (n : ℕ) → s ≡ scan.Second way n p → (after : List ℕ) → ReadsOn two p c after q → ScansOn one two s c one after (scan.Second way n q)
+    from-second : (n : ℕ) → s ≡ scan.Second way n p → (after : List ℕ) → ReadsOn two p c after q → ScansOn one two s c one after (scan.Second way n q)
     from-second n e after reads = record {
       size-one = refl;
       size-two = reads .same-size;
@@ -185,6 +184,43 @@ module _ (one two : List ℕ) where
       where
         by-case : (seen : Seen) → KeepsLine seen (scan.Second way n p) one two → KeepsLine (seenWith seen c) (scan.Second way n q) one after
         by-case seen (keeps-second {b} kf k) = keeps-second kf (reads .goes-on b k)
+
+-- ---- what the code does with it, on any value
+module _ (one two : List ℕ) (s : Scan) (c : ℕ) where
+  pub scan-start : (r : Scan) → s ≡ scan.Start → r ≡ beginOf c → scanned r one two ≡ scanBy s one two c
+  scan-start r e is = rw (e, is)
+
+  pub scan-word : (r : Scan) (way : Way) (at : ℕ) → s ≡ scan.Word way at → r ≡ wordAfter way at c → scanned r one two ≡ scanBy s one two c
+  scan-word r way at e is = rw (e, is)
+
+  pub scan-space : (r : Scan) (way : Way) (p : Part) → s ≡ scan.First way p → c ≡ 32 → r ≡ secondAfter way (endOf p) → scanned r one two ≡ scanBy s one two c
+  scan-space r way p e sp is = rw (e, is, eq-eqb c 32 sp)
+
+  pub scan-first : (way : Way) (p q : Part) → s ≡ scan.First way p → (c ≡ 32 → ⊥) → (after : List ℕ) → record { part = q; buffer = after } ≡ readOf one p c
+      → scanned (scan.First way q) after two ≡ scanBy s one two c
+  scan-first way p q e sp after reads = rw (e, ne-eqb c 32 sp) (ap (λ (x : PartRead). scanned (scan.First way (x .part)) (x .buffer) two) reads)
+
+  pub scan-second : (way : Way) (n : ℕ) (p q : Part) → s ≡ scan.Second way n p → (after : List ℕ) → record { part = q; buffer = after } ≡ readOf two p c
+      → scanned (scan.Second way n q) one after ≡ scanBy s one two c
+  scan-second way n p q e after reads = rw e (ap (λ (x : PartRead). scanned (scan.Second way n (x .part)) one (x .buffer)) reads)
+
+  pub scan-stray : (r : Scan) → s ≡ scan.Stray → r ≡ scan.Stray → scanned r one two ≡ scanBy s one two c
+  scan-stray r e is = rw (e, is)
+
+-- and it keeps what was read
+scans-by : (s : Scan) (one two : List ℕ) (c : ℕ) → ScansOn one two s c (scanBy s one two c .one) (scanBy s one two c .two) (scanBy s one two c .scan)
+scans-by scan.Start one two c = from-start one two scan.Start (beginOf c) c refl refl
+scans-by (scan.Word way at) one two c = from-word one two (scan.Word way at) (wordAfter way at c) c way at refl refl
+scans-by (scan.First way p) one two c =
+    by-test (eqb c 32)
+    (λ t. rw t (from-space one two (scan.First way p) (secondAfter way (endOf p)) c way p refl (eqb-true c 32 t) refl))
+    (λ t. rw t (from-first one two (scan.First way p) c way p (readOf one p c .part) refl (eqb-false c 32 t) (readOf one p c .buffer) (field.reads-on one p c)))
+scans-by (scan.Second way n p) one two c =
+    from-second one two (scan.Second way n p) c way p (readOf two p c .part) n refl (readOf two p c .buffer) (field.reads-on two p c)
+scans-by scan.Stray one two c = from-stray one two scan.Stray scan.Stray c refl refl
+
+pub scans-on : (s : Scanned) (c : ℕ) → ScansOn (s .one) (s .two) (s .scan) c (scanOf s c .one) (scanOf s c .two) (scanOf s c .scan)
+scans-on s c = scans-by (s .scan) (s .one) (s .two) c
 
 -- ---- the line has ended
 module _ (way : Way) (n : ℕ) (p : Part) (one two before after : List ℕ) (at end : ℕ) (x : Bytes) (says : bytesMeans x ≡ endOf p) where

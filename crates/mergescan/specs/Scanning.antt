@@ -3,6 +3,8 @@
 --
 --   beginOf, wordAfter, secondAfter   what the code makes of the first byte of a line, of a byte
 --                            more of the word, and of the space behind the first field
+--   Scanned, scanOf s c      a byte more, of any value and any buffers: what of the line has been
+--                            read then, and the buffers
 --   KeepsLine s scan one two the value and the buffers keep what was read
 --   ScansOn one two ..       whatever they kept, with the byte c more they keep it; the buffers
 --                            keep their lengths
@@ -18,7 +20,7 @@ use lib.ListN.{length, getD, take, drop}
 use Rattle.hexfields.specs.declared.Part.{Part}
 use Rattle.hexfields.specs.declared.Part.the-variants as part
 use Rattle.hexfields.specs.Fields.{Begun}
-use Rattle.hexfields.specs.Reading.{Kept, Keeps, endOf}
+use Rattle.hexfields.specs.Reading.{readOf, Kept, Keeps, endOf}
 use Rattle.merging.specs.declared.Way.{Way}
 use Rattle.merging.specs.declared.Way.the-variants.{Both, Either, Interleaving}
 use Rattle.mergetext.specs.Lines.{wordOf, Meaning, merges, malformed}
@@ -41,6 +43,27 @@ wordAfter way at c =
 abbrev pub secondAfter : Way → Option ℕ → Scan
 secondAfter way none = scan.Stray
 secondAfter way (some n) = scan.Second way n part.Nothing
+
+pub record Scanned : Type 0 where
+  pub scan : Scan
+  pub one : List ℕ
+  pub two : List ℕ
+
+abbrev pub scanned : Scan → List ℕ → List ℕ → Scanned
+scanned s one two = record { scan = s; one = one; two = two }
+
+-- of the value alone, with the buffers
+abbrev pub scanBy : Scan → List ℕ → List ℕ → ℕ → Scanned
+scanBy scan.Start one two c = scanned (beginOf c) one two
+scanBy (scan.Word way at) one two c = scanned (wordAfter way at c) one two
+scanBy (scan.First way p) one two c =
+    let field = readOf one p c in
+    cond (eqb c 32) (scanned (secondAfter way (endOf p)) one two) (scanned (scan.First way (field .part)) (field .buffer) two)
+scanBy (scan.Second way n p) one two c = let field = readOf two p c in scanned (scan.Second way n (field .part)) one (field .buffer)
+scanBy scan.Stray one two c = scanned scan.Stray one two
+
+abbrev pub scanOf : Scanned → ℕ → Scanned
+scanOf s c = scanBy (s .scan) (s .one) (s .two) c
 
 -- ---- what they keep
 pub data KeepsLine : Seen → Scan → List ℕ → List ℕ → Type 0 where

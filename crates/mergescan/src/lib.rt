@@ -6,7 +6,7 @@ ghost use Rattle.text.specs.Writing.{Wrote};
 ghost use Rattle.mergetext.specs.Lines.{wordOf};
 ghost use Rattle.mergetext.specs.Answers.{mostAnswer, responseIn, responseText};
 ghost use Rattle.hexfields.specs.Reading.{endOf};
-ghost use Rattle.mergescan.specs.Scanning.{beginOf, wordAfter, secondAfter, ScansOn, secondHeld, heldMeaning};
+ghost use Rattle.mergescan.specs.Scanning.{beginOf, wordAfter, secondAfter, scanned, scanOf, secondHeld, heldMeaning};
 use fields::Bytes;
 use hexfields::Part;
 use merging::Way;
@@ -96,7 +96,7 @@ fn end_first(way: Way, part: Part) -> Scan
 
 // One byte more of the line. The bytes of the two files go into two buffers, as many as fit.
 pub fn scan_on(one: &mut [u8], two: &mut [u8], scan: Scan, c: u8) -> Scan
-    ensures { λ r. ⌜ ScansOn (now (one .entry)) (now (two .entry)) scan c (now (one .exit)) (now (two .exit)) r ⌝ }
+    ensures { λ r. ⌜ scanned r (now (one .exit)) (now (two .exit)) ≡ scanOf (scanned scan (now (one .entry)) (now (two .entry))) c ⌝ }
 {
     match scan {
         Scan::Start => begin(c),

@@ -3,6 +3,7 @@ use mathlib.Core.List.{[]}
 use Rattle.mergescan.specs.Scanning.{keeps-start}
 use Rattle.mergestream.specs.Claims.{Claims}
 use Rattle.mergestream.proofs.Texts.{whole-from, lines-parts, answers-parts}
+use Rattle.mergestream.proofs.Keeping.{kept-lines, kept-sizes, kept-answers}
 use Rattle.mergestream.proofs.Ends.{finishes}
 use Rattle.mergestream.proofs.Written.{written}
 
@@ -12,6 +13,9 @@ claims = record {
   lines-parts = lines-parts;
   answers-parts = answers-parts;
   begins = λ one two. keeps-start;
+  kept-lines = kept-lines;
+  kept-sizes = kept-sizes;
+  kept-answers = kept-answers;
   finishes = finishes;
   written = written;
 }

@@ -4,11 +4,10 @@
 --   sofar-none, sofar-byte, sofar-line   no byte; one more of a line; the line feed that ends it
 --   sofar-stops, sofar-ends   it stops where there is no room for an answer, or at the block's end
 --   finish-start, ..          the ways out of `finish`
-use mathlib.Core.Path.{_≡_, refl, sym, ap, _∙_, subst}
+use mathlib.Core.Path.{_≡_, refl, ap, _∙_, subst}
 use mathlib.Core.Logic.{_⊎_, inl, inr, ⊎-elim}
 use mathlib.Core.List.{List, [], _∷_, _++_}
 use Prim.Native.Nat.{ℕ, suc, _+_, _-_, _≤_, _<_}
-use native.Mathlib.Numerals.{add-one}
 use native.Mathlib.Omega.{arith}
 use lib.ListN.{length, getD, take, drop, length-drop}
 use lib.Seq.{take-suc, getD-drop}
@@ -17,19 +16,15 @@ use Rattle.text.proofs.Fitting.{Put, put, _then_}
 use Rattle.text.proofs.Pieces.{wrote-none}
 use Rattle.hexfields.specs.declared.Part.{Part}
 use Rattle.merging.specs.declared.Way.{Way}
-use Rattle.mergetext.specs.Lines.{Meaning, merges, malformed, lineIn}
+use Rattle.mergetext.specs.Lines.{Meaning, merges, malformed}
 use Rattle.mergetext.specs.Answers.{responseIn, responseText}
 use Rattle.mergetext.proofs.Files as files
 use Rattle.mergescan.specs.declared.Scan.{Scan}
 use Rattle.mergescan.specs.declared.Scan.the-variants as scan
-use Rattle.mergescan.specs.Lines.{start, seenWith, seenBy}
-use Rattle.mergescan.specs.Scanning.{KeepsLine, keeps-start, ScansOn, heldMeaning}
-use Rattle.mergescan.proofs.Lines.{pieces}
-use Rattle.mergescan.proofs.Clipped.{answered}
-use Rattle.mergestream.specs.declared.Fed.{Fed}
-use Rattle.mergestream.specs.Texts.{answerTo, lineAfter, answersAfter}
-use Rattle.mergestream.specs.Feeding.{between, Feeds, finishText}
-use Rattle.mergestream.proofs.Texts.{line-more, answers-same, line-ends, answers-more}
+use Rattle.mergescan.specs.Scanning.{Scanned, scanned, scanOf, heldMeaning}
+use Rattle.mergescan.proofs.Kept.{scans-on}
+use Rattle.mergestream.specs.Feeding.{between, keptAfter, textAfter, Feeds, finishText}
+use Rattle.mergestream.proofs.Keeping.{kept-more, text-same, kept-ends, text-more}
 
 -- ---- one byte more between two indices
 between-none : (w : List ℕ) (from : ℕ) → between from from w ≡ []
@@ -57,12 +52,11 @@ module _ (one₀ two₀ out₀ block : List ℕ) (from : ℕ) (s₀ : Scan) wher
     pub not-back : from ≤ at
     pub not-past : from ≤ length block → at ≤ length block
     pub moved : (from < at) ⊎ (written ≡ 0)
-    pub keeps : (v : List ℕ) → KeepsLine (seenBy start v) s₀ one₀ two₀ → KeepsLine (seenBy start (lineAfter v (between from at block))) s one two
-    pub wrote : (v : List ℕ) → KeepsLine (seenBy start v) s₀ one₀ two₀ → 32906 < length one₀ → 32906 < length two₀
-        → Put out₀ 0 (answersAfter v (between from at block)) out written
+    pub keeps : scanned s one two ≡ keptAfter (scanned s₀ one₀ two₀) (between from at block)
+    pub wrote : Put out₀ 0 (textAfter (scanned s₀ one₀ two₀) (between from at block)) out written
 
   pub sofar-none : Sofar one₀ two₀ out₀ s₀ from 0
-  unfolding lineAfter answersAfter
+  unfolding keptAfter textAfter
   sofar-none = record {
     size-one = refl;
     size-two = refl;
@@ -71,28 +65,27 @@ module _ (one₀ two₀ out₀ block : List ℕ) (from : ℕ) (s₀ : Scan) wher
     not-back = omega arith;
     not-past = λ h. h;
     moved = inr refl;
-    keeps = λ v k. rw (between-none block from) k;
-    wrote = λ v k h1 h2. rw (between-none block from) (record { wrote = wrote-none out₀ 0; fits = omega arith; kept = refl });
+    keeps = rw (between-none block from);
+    wrote = rw (between-none block from) (record { wrote = wrote-none out₀ 0; fits = omega arith; kept = refl });
   }
 
   module _ (one two out : List ℕ) (s : Scan) (at written : ℕ) (so : Sofar one two out s at written) (more : at < length block) where
     -- a byte of a line
-    pub sofar-byte : (getD block at 0 ≡ 10 → ⊥) → (one′ two′ : List ℕ) (r : Scan) → ScansOn one two s (getD block at 0) one′ two′ r
+    pub sofar-byte : (getD block at 0 ≡ 10 → ⊥) → (one′ two′ : List ℕ) (r : Scan) → scanned r one′ two′ ≡ scanOf (scanned s one two) (getD block at 0)
         → Sofar one′ two′ out r (at + 1) written
     sofar-byte d one′ two′ r on =
         let cut = between-more block from at (so .not-back) more in
+        let sizes = scans-on (scanned s one two) (getD block at 0) in
         record {
-          size-one = on .size-one ∙ so .size-one;
-          size-two = on .size-two ∙ so .size-two;
+          size-one = ap (λ (x : Scanned). length (x .one)) on ∙ sizes .size-one ∙ so .size-one;
+          size-two = ap (λ (x : Scanned). length (x .two)) on ∙ sizes .size-two ∙ so .size-two;
           size-out = so .size-out;
           within = so .within;
           not-back = omega (arith, so .not-back);
           not-past = λ h. omega arith;
           moved = inl (omega (arith, so .not-back));
-          keeps = λ v k.
-              rw (cut, line-more v (between from at block) (getD block at 0) d, pieces start (lineAfter v (between from at block)) (getD block at 0 ∷ []))
-              (on .goes-on (seenBy start (lineAfter v (between from at block))) (so .keeps v k));
-          wrote = λ v k h1 h2. rw (cut, answers-same v (between from at block) (getD block at 0) d) (so .wrote v k h1 h2);
+          keeps = rw (cut, kept-more (scanned s₀ one₀ two₀) (between from at block) (getD block at 0) d, ← so .keeps) on;
+          wrote = rw (cut, text-same (scanned s₀ one₀ two₀) (between from at block) (getD block at 0) d) (so .wrote);
         }
 
     -- the line feed behind it
@@ -110,26 +103,19 @@ module _ (one₀ two₀ out₀ block : List ℕ) (from : ℕ) (s₀ : Scan) wher
           not-back = omega (arith, so .not-back);
           not-past = λ h. omega arith;
           moved = inl (omega (arith, so .not-back));
-          keeps = λ v k. rw (cut, line-ends v (between from at block)) keeps-start;
-          wrote = λ v k h1 h2.
-              let line = lineAfter v (between from at block) in
-              let right : responseIn (heldMeaning s one two) ≡ responseIn (lineIn line) =
-              answered line s one two (so .keeps v k) (omega (arith, so .size-one)) (omega (arith, so .size-two)) in
-              let told : Put out written (answerTo line) out′ end = subst (λ x. Put out written (responseText x) out′ end) right next in
-              rw (cut, answers-more v (between from at block)) (so .wrote v k h1 h2 then told);
+          keeps = rw (cut, kept-ends (scanned s₀ one₀ two₀) (between from at block), ← so .keeps);
+          wrote = rw (cut, text-more (scanned s₀ one₀ two₀) (between from at block), ← so .keeps) (so .wrote then next);
         }
 
   module _ (one two out : List ℕ) (s : Scan) (at written : ℕ) (so : Sofar one two out s at written) where
     fed : (65813 ≤ length out₀ → from < length block → from < at) → Feeds one₀ two₀ out₀ block from s₀ one two out (record { scan = s; at = at; written = written })
     fed forward = record {
-      size-one = so .size-one;
-      size-two = so .size-two;
       within = so .within;
       not-back = so .not-back;
       not-past = so .not-past;
       forward = forward;
       keeps = so .keeps;
-      wrote = λ v k h1 h2. so .wrote v k h1 h2 .wrote;
+      wrote = so .wrote .wrote;
     }
 
     pub sofar-stops : length out - written < 65813 → Feeds one₀ two₀ out₀ block from s₀ one two out (record { scan = s; at = at; written = written })

@@ -6,7 +6,7 @@
 --   written-within, prefix  what a round wrote is within its buffer, and a part of it
 use mathlib.Core.Path.{_≡_, refl, sym, ap, _∙_}
 use mathlib.Core.List.{List, _++_}
-use Prim.Native.Nat.{ℕ, _+_, _-_, _≤_, _<_}
+use Prim.Native.Nat.{ℕ, _+_, _-_, _≤_}
 use native.Mathlib.Omega.{arith}
 use lib.ListN.{length, take, drop, length-append}
 use lib.Seq.{take-add, take-all, length-take-le}
@@ -18,6 +18,7 @@ use Rattle.mergestream.specs.declared.Fed.{Fed}
 use Rattle.mergestream.specs.Texts.{lineAfter}
 use Rattle.mergestream.specs.Feeding.{between, Feeds}
 use Rattle.mergestream.proofs.Texts.{lines-parts}
+use Rattle.mergestream.proofs.Keeping.{feeds-keeps, feeds-sizes}
 
 up-to : (block : List ℕ) (at to : ℕ) → at ≤ to → take to block ≡ take at block ++ between at to block
 up-to block at to h =
@@ -40,13 +41,13 @@ module _ (one₀ two₀ out₀ block : List ℕ) (s₀ : Scan) where
     pub ran-more : (one′ two′ out′ : List ℕ) (r : Fed) → Feeds one two out block at s one′ two′ out′ r → length out′ ≡ length out
         → Ran one′ two′ out′ (r .scan) (r .at)
     ran-more one′ two′ out′ r feeds kept = record {
-      size-one = feeds .size-one ∙ ran .size-one;
-      size-two = feeds .size-two ∙ ran .size-two;
+      size-one = feeds-sizes feeds .0 ∙ ran .size-one;
+      size-two = feeds-sizes feeds .1 ∙ ran .size-two;
       size-out = kept ∙ ran .size-out;
       inside = feeds .not-past (ran .inside);
       keeps = λ v k.
           rw (up-to block at (r .at) (feeds .not-back), lines-parts v (take at block) (between at (r .at) block))
-          (feeds .keeps (lineAfter v (take at block)) (ran .keeps v k));
+          (feeds-keeps feeds (lineAfter v (take at block)) (ran .keeps v k));
     }
 
     pub ran-all : length block ≤ at → (v : List ℕ) → KeepsLine (seenBy start v) s₀ one₀ two₀ → KeepsLine (seenBy start (lineAfter v block)) s one two

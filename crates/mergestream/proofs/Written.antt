@@ -5,22 +5,21 @@
 --   Went v w s′ text   from a line that begins with v over the text w: what is kept then, and
 --                      what was written
 use mathlib.Core.Path.{_≡_, refl, sym, ap, _∙_, subst}
-use mathlib.Core.List.{List, [], _∷_, _++_, append-assoc, append-nil, flatten}
+use mathlib.Core.List.{List, [], _++_, flatten}
 use Prim.Native.Nat.{ℕ, _+_, _-_, _≤_, _<_}
 use native.Mathlib.Omega.{arith}
-use lib.ListN.{length, take, drop, drop-of-length-le, take-append-drop}
+use lib.ListN.{length, drop, drop-of-length-le, take-append-drop}
 use lib.Seq.{drop-drop}
 use Rattle.text.proofs.Fitting.{taken}
 use Rattle.lines.specs.Splitting.{linesOf}
-use Rattle.mergescan.specs.declared.Scan.{Scan}
 use Rattle.mergescan.specs.declared.Scan.the-variants as scan
 use Rattle.mergescan.specs.Lines.{start, seenBy}
 use Rattle.mergescan.specs.Scanning.{KeepsLine, keeps-start}
-use Rattle.mergestream.specs.declared.Fed.{Fed}
-use Rattle.mergestream.specs.Texts.{answersTo, lineAfter, answersAfter, lastAnswer}
-use Rattle.mergestream.specs.Feeding.{between, Feeds, finishText}
+use Rattle.mergestream.specs.Texts.{answersTo, lineAfter, answersAfter}
+use Rattle.mergestream.specs.Feeding.{between, finishText}
 use Rattle.mergestream.specs.Claims.{State, Rounds, over, round, Blocks, no-block, one-more}
 use Rattle.mergestream.proofs.Texts.{whole-from, lines-parts, answers-parts}
+use Rattle.mergestream.proofs.Keeping.{feeds-keeps, feeds-sizes, feeds-wrote}
 use Rattle.mergestream.proofs.Ends.{finishes}
 
 -- what is left of a block: what a round takes of it, and the rest
@@ -60,11 +59,11 @@ in-rounds : {block : List ℕ} {at : ℕ} {s s′ : State} {text : List ℕ} →
 in-rounds {block} {at} {s} (over h) v k = rw (drop-of-length-le block h) (still v s k)
 in-rounds {block} {at} {s} {s′} (round {text = text} {r = r} f rest) v k =
     let next : Kept _ (lineAfter v (between at (r .at) block)) = record {
-      keeps = f .keeps v (k .keeps);
-      large-one = rw (f .size-one) (k .large-one);
-      large-two = rw (f .size-two) (k .large-two);
+      keeps = feeds-keeps f v (k .keeps);
+      large-one = rw (feeds-sizes f .0) (k .large-one);
+      large-two = rw (feeds-sizes f .1) (k .large-two);
     } in
-    let is = taken (f .wrote v (k .keeps) (k .large-one) (k .large-two)) in
+    let is = taken (feeds-wrote f v (k .keeps) (k .large-one) (k .large-two)) in
     rw (left-of block at (r .at) (f .not-back))
     (along v (between at (r .at) block) (drop (r .at) block) _ text s′ is (in-rounds rest (lineAfter v (between at (r .at) block)) next))
 

@@ -14,10 +14,10 @@ use Rattle.lines.specs.Splitting.{linesOf}
 use Rattle.mergescan.specs.declared.Scan.{Scan}
 use Rattle.mergescan.specs.declared.Scan.the-variants as scan
 use Rattle.mergescan.specs.Lines.{start, seenBy}
-use Rattle.mergescan.specs.Scanning.{KeepsLine}
+use Rattle.mergescan.specs.Scanning.{Scanned, KeepsLine}
 use Rattle.mergestream.specs.declared.Fed.{Fed}
 use Rattle.mergestream.specs.Texts.{answersTo, lineAfter, answersAfter, lastAnswer}
-use Rattle.mergestream.specs.Feeding.{Feeds, finishText}
+use Rattle.mergestream.specs.Feeding.{keptAfter, textAfter, Feeds, finishText}
 
 pub record State : Type 0 where
   pub scan : Scan
@@ -44,6 +44,13 @@ pub record Claims : Type 0 where
   pub answers-parts : (v w u : List ℕ) → answersAfter v (w ++ u) ≡ answersAfter v w ++ answersAfter (lineAfter v w) u
   -- at first the empty line is kept
   pub begins : (one two : List ℕ) → KeepsLine (seenBy start []) scan.Start one two
+  -- what a line led to is kept through any bytes, in buffers of the same size, and where they can
+  -- tell a file that is too long the lines that end there are answered right
+  pub kept-lines : (s : Scanned) (v w : List ℕ) → KeepsLine (seenBy start v) (s .scan) (s .one) (s .two)
+      → KeepsLine (seenBy start (lineAfter v w)) (keptAfter s w .scan) (keptAfter s w .one) (keptAfter s w .two)
+  pub kept-sizes : (s : Scanned) (w : List ℕ) → (length (keptAfter s w .one) ≡ length (s .one)) × (length (keptAfter s w .two) ≡ length (s .two))
+  pub kept-answers : (s : Scanned) (v w : List ℕ) → KeepsLine (seenBy start v) (s .scan) (s .one) (s .two)
+      → longestFile < length (s .one) → longestFile < length (s .two) → textAfter s w ≡ answersAfter v w
   -- the end of the text
   pub finishes : (v : List ℕ) (s : Scan) (one two : List ℕ) → KeepsLine (seenBy start v) s one two
       → longestFile < length one → longestFile < length two → finishText s one two ≡ lastAnswer v

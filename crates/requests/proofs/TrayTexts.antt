@@ -1,6 +1,6 @@
 -- A text fed through the functions of crates/traystream: what their contracts allow is what the
 -- definitions say, and that they allow. Assumes nothing.
-use mathlib.Core.Path.{_≡_, refl, sym, ap, _∙_, subst}
+use mathlib.Core.Path.{_≡_, refl, _∙_}
 use mathlib.Core.Logic.{_↔_}
 use mathlib.Core.Bool.{false}
 use mathlib.Core.List.{List, [], _++_, flatten}
@@ -10,7 +10,7 @@ use lib.ListN.{length, take}
 use Rattle.lines.specs.Splitting.{linesOf}
 use Rattle.longlines.specs.Holding.{lineBegin}
 use Rattle.text.specs.Writing.{Wrote}
-use Rattle.linetexts.specs.Feeding.{LineMachine, State, stateOf, gatherAt, Gathers, finishOf}
+use Rattle.linetexts.specs.Feeding.{State, stateOf, gatherAt, Gathers, finishOf}
 use Rattle.linetexts.specs.Lists.{Listed, listOf}
 use Rattle.linetexts.specs.Functions.{FedBlocks, Kept, Ends}
 use Rattle.linetexts.proofs.Functions.{all-written}

@@ -25,7 +25,7 @@ use Rattle.limits.specs.Limits.{largestNumber}
 use Rattle.text.specs.Numerals.{decimal, hexDigit, hex}
 use Rattle.lines.proofs.Over.{Over, over-append}
 use Rattle.fields.specs.Numbers.{allDigits, parseNumber}
-use Rattle.fields.proofs.RoundTrip as fields
+use Rattle.fields.proofs.Claims as fields
 use Rattle.hexfields.proofs.Digits.{number-over}
 use Rattle.delegates.specs.Alike.{delegateIn}
 use Rattle.build.specs.declared.Built.{Built}

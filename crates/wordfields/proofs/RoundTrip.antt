@@ -11,7 +11,7 @@ use borrow.Author.Tests.{eq-eqb, le-leb}
 use Rattle.base.specs.Lists.{listFrom}
 use Rattle.base.proofs.Lists.{same-list}
 use Rattle.fields.specs.Claims.{AllBytes, fieldOf}
-use Rattle.fields.proofs.RoundTrip as fields
+use Rattle.fields.proofs.Claims as fields
 use Rattle.wordfields.specs.Words.{wordAt, wordsBy, parseWords}
 use Rattle.wordfields.specs.Claims.{AllWords, bytesOf, Claims}
 

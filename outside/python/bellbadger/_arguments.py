@@ -42,7 +42,7 @@ def all_fitting(call, name, values, bits, or_none=False):
 
 def one_of(call, name, value, words, numbers):
     """One of a few numbers, which have names."""
-    if not isinstance(value, int) or value not in numbers:
+    if not isinstance(value, int) or isinstance(value, bool) or value not in numbers:
         raise ValueError(f"{call}: {name} must be {words}, not {value!r:.40}")
     return value
 

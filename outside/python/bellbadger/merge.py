@@ -17,7 +17,7 @@
     >>> merge(BOTH, rule, rule)
     Traceback (most recent call last):
     ...
-    bellbadger.refusals.Refused: refused 37: the result has more than 32 states
+    bellbadger.refusals.Refused: refused 37: the two rules made one take more than 32 states
 
 Most of these pairs are unreachable, dead or alike to others; without them:
 

@@ -16,7 +16,7 @@ Six states by six are too many to be merged, and three by three are not:
     >>> merge(BOTH, rule, rule)
     Traceback (most recent call last):
     ...
-    bellbadger.refusals.Refused: refused 37: the result has more than 32 states
+    bellbadger.refusals.Refused: refused 37: the two rules made one take more than 32 states
     >>> merge(BOTH, reduced.rule, reduced.rule)
     <CheckedRule: states 9, symbols 16, initial 1, final 1, arcs 2>
 """

@@ -111,7 +111,7 @@ fn refusals_in_their_order() {
     let refused = merge(Way::Both, &plain(16, 1), &plain(16, 1)).unwrap_err();
     assert_eq!(
         refused.to_string(),
-        "refused 37: the result has more than 32 states"
+        "refused 37: the two rules made one take more than 32 states"
     );
     let largest = merge(Way::Both, &plain(4, 1), &plain(8, 1));
     assert_eq!(largest.map(|rule| rule.n), Ok(32));

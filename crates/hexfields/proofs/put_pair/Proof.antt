@@ -1,6 +1,6 @@
 -- `put_pair` meets its contract. Assumes nothing.
 use borrow.Author.Needs.{needs}
-use Rattle.hexfields.proofs.Kept.{kept-room, kept-full}
+use Rattle.hexfields.proofs.Kept.{pair-room, pair-full}
 use Rattle.hexfields.proofs.put_pair.Statement.{statement}
 use Rattle.hexfields.proofs.put_pair.Tie as tie
 
@@ -20,10 +20,10 @@ same-length : tie.Need-same-length
 same-length c = search needs
 
 returns : tie.Need-returns
-returns c = search (needs, kept-room)
+returns c = search (needs, pair-room)
 
 returns-2 : tie.Need-returns-2
-returns-2 c = search (needs, kept-full)
+returns-2 c = search (needs, pair-full)
 
 pub put-pair-spec : {M : Type 1} → statement M
 put-pair-spec =

@@ -1,6 +1,6 @@
 -- `scan_on` meets its contract. Assumes nothing.
 use borrow.Author.Needs.{needs}
-use Rattle.mergescan.proofs.Kept.{from-start, from-word, from-space, from-first, from-second, from-stray}
+use Rattle.mergescan.proofs.Kept.{scan-start, scan-word, scan-space, scan-first, scan-second, scan-stray}
 use Rattle.mergescan.proofs.scan_on.Statement.{statement}
 use Rattle.mergescan.proofs.scan_on.Tie as tie
 
@@ -23,7 +23,7 @@ end-first-requires : tie.Need-end-first-requires
 end-first-requires c κs = search needs
 
 returns : tie.Need-returns
-returns c = search (needs, from-start, from-word, from-space, from-first, from-second, from-stray)
+returns c = search (needs, scan-start, scan-word, scan-space, scan-first, scan-second, scan-stray)
 
 read-on-requires : tie.Need-read-on-requires
 read-on-requires c κs = search needs
@@ -38,25 +38,25 @@ enum-told-2 : tie.Need-enum-told-2
 enum-told-2 c = search needs
 
 returns-2 : tie.Need-returns-2
-returns-2 c = search (needs, from-start, from-word, from-space, from-first, from-second, from-stray)
+returns-2 c = search (needs, scan-start, scan-word, scan-space, scan-first, scan-second, scan-stray)
 
 returns-3 : tie.Need-returns-3
-returns-3 c = search (needs, from-start, from-word, from-space, from-first, from-second, from-stray)
+returns-3 c = search (needs, scan-start, scan-word, scan-space, scan-first, scan-second, scan-stray)
 
 same-length : tie.Need-same-length
 same-length c = search needs
 
 returns-4 : tie.Need-returns-4
-returns-4 c = search (needs, from-start, from-word, from-space, from-first, from-second, from-stray)
+returns-4 c = search (needs, scan-start, scan-word, scan-space, scan-first, scan-second, scan-stray)
 
 same-length-2 : tie.Need-same-length-2
 same-length-2 c = search needs
 
 returns-5 : tie.Need-returns-5
-returns-5 c = search (needs, from-start, from-word, from-space, from-first, from-second, from-stray)
+returns-5 c = search (needs, scan-start, scan-word, scan-space, scan-first, scan-second, scan-stray)
 
 returns-6 : tie.Need-returns-6
-returns-6 c = search (needs, from-start, from-word, from-space, from-first, from-second, from-stray)
+returns-6 c = search (needs, scan-start, scan-word, scan-space, scan-first, scan-second, scan-stray)
 
 pub scan-on-spec : {M : Type 1} → statement M
 scan-on-spec =
