@@ -28,8 +28,8 @@
 --   subsets Sets, Singles; delegates Alike, Claims, Classes; marks Marks; chunks Chunks; joins
 --   Joining; calls Calls, Replies; histories History; fields Bytes, Claims; lines Splitting;
 --   hexfields Fields, Reading; products Claims, Interleavings, Products, Words; merging Claims,
---   Languages, Merged, Merging, Worked; mergetext Answers, Lines; mergescan Lines, Scanning;
---   mergestream Claims, Feeding, Texts; c_merge Claims, Numbers; requests MergeFunction.
+--   Languages, Merged, Merging, Worked; mergetext Answers, Lines; mergescan Scanning; mergestream
+--   Claims, Feeding, Texts; c_merge Claims, Numbers; requests MergeFunction.
 use mathlib.Core.Path.{_≡_, sym, ap, _∙_, subst, refl}
 use mathlib.Core.Logic.{_↔_, _⊎_}
 use mathlib.Core.Bool.{Bool, true, false}
