@@ -2,7 +2,7 @@
 -- nothing.
 use mathlib.Core.Path.{_≡_, refl, ap, ap₂, _∙_}
 use mathlib.Core.List.{[], _∷_}
-use mathlib.Core.Option.{Option, none}
+use mathlib.Core.Option.{Option, none, some}
 use mathlib.Core.Bool.{true, false}
 use Prim.Native.Nat.{ℕ}
 use lib.Dec.{eqb, ltb}
@@ -31,7 +31,7 @@ use Rattle.reducing.specs.Worked.{arcs, once, twice, odd, reducedTo}
 use Rattle.reducing.proofs.Examples.{by-hand}
 use Rattle.mergereduce.specs.Trimmed.{keptFrom, nth, trimmedBy}
 use Rattle.mergereduce.specs.MergeReduced.{reducedOrOwn, size, pairTargets, initialPairs, finalPairs, keptPairs, trimmedPairs, pairCount, mergeReducedNumber, mergeReducedRule, mergeReducedOf}
-use Rattle.mergereduce.specs.Worked.{throughTwo, onceIn, sixTimes, fourOrMore, onceOrTwice, mergedReduced, Answered}
+use Rattle.mergereduce.specs.Worked.{throughTwo, onceIn, sixTimes, fourOrMore, onceOrTwice, crossed, thriceCrossed, round, mergedReduced, Answered}
 use Rattle.mergereduce.proofs.Law.{instead-law, number-law}
 
 -- a rule that is reduced to m is replaced by m
@@ -64,6 +64,23 @@ module _ (way : Way) (one two a b : Rule) (kept : ℕ) (pairs m : Rule) where
       ∙ ap (λ (x : ℕ). reducedOrOwn (trimmedBy (size way a b) (a .k) (initialPairs way a b) (finalPairs way a b) (pairTargets way a b) x)) kept-is
       ∙ ap reducedOrOwn made
       ∙ last)
+
+-- and are refused with 37 where more than 32 are kept
+module _ (way : Way) (one two a b : Rule) (kept : ℕ) where
+  too-many : reducedOrOwn one ≡ a
+      → reducedOrOwn two ≡ b
+      → ruleNumber one ≡ none
+      → ruleNumber two ≡ none
+      → eqb (one .k) (two .k) ≡ true
+      → keptPairs way a b ≡ kept
+      → ltb 32 (rank kept (size way a b)) ≡ true
+      → mergeReducedOf way one two ≡ refused 37
+  too-many first second checked1 checked2 same kept-is many =
+      let count : pairCount way (reducedOrOwn one) (reducedOrOwn two) ≡ rank kept (size way a b) =
+      ap₂ (pairCount way) first second ∙ ap (λ (x : ℕ). rank x (size way a b)) kept-is in
+      let number : mergeReducedNumber way one two ≡ some 37 =
+      number-law way one two ∙ rw (checked1, checked2, same, count, many) in
+      ap (λ (o : Option ℕ). mergingBy o (mergeReducedRule way one two)) number
 
 -- ---- the rules reduced
 once-stays : reducedOrOwn once ≡ once
@@ -98,12 +115,31 @@ four-stays : reducedOrOwn fourOrMore ≡ fourOrMore
 unfolding installNumber badTargets anyBelow union indexOf numbered expandFrom closeFrom keysUpTo setsOf tooMany nextSet singletonNumber delegateIn startCount final follow every firstFrom alikeTo liveOf lowestOf delegateOf startsOf startsIn listFrom total gather turns
 four-stays = stands fourOrMore fourOrMore (by-hand fourOrMore fourOrMore (0 ∷ 1 ∷ 2 ∷ 3 ∷ 4 ∷ []) 31 (0 ∷ 1 ∷ 2 ∷ 3 ∷ 4 ∷ []) 31 refl refl refl refl refl refl refl)
 
+crossed-stays : reducedOrOwn crossed ≡ crossed
+unfolding installNumber badTargets anyBelow union indexOf numbered expandFrom closeFrom keysUpTo setsOf tooMany nextSet singletonNumber delegateIn startCount final follow every firstFrom alikeTo liveOf lowestOf delegateOf startsOf startsIn listFrom total gather turns
+crossed-stays = stands crossed crossed (by-hand crossed crossed (0 ∷ 1 ∷ 2 ∷ []) 7 (0 ∷ 1 ∷ 2 ∷ []) 7 refl refl refl refl refl refl refl)
+
+five-stays : reducedOrOwn (round 5 1) ≡ round 5 1
+unfolding installNumber badTargets anyBelow union indexOf numbered expandFrom closeFrom keysUpTo setsOf tooMany nextSet singletonNumber delegateIn startCount final follow every firstFrom alikeTo liveOf lowestOf delegateOf startsOf startsIn listFrom total gather turns
+five-stays = stands (round 5 1) (round 5 1) (by-hand (round 5 1) (round 5 1) (0 ∷ 1 ∷ 2 ∷ 3 ∷ 4 ∷ []) 31 (0 ∷ 1 ∷ 2 ∷ 3 ∷ 4 ∷ []) 31 refl refl refl refl refl refl refl)
+
+seven-stays : reducedOrOwn (round 7 1) ≡ round 7 1
+unfolding installNumber badTargets anyBelow union indexOf numbered expandFrom closeFrom keysUpTo setsOf tooMany nextSet singletonNumber delegateIn startCount final follow every firstFrom alikeTo liveOf lowestOf delegateOf startsOf startsIn listFrom total gather turns
+seven-stays = stands (round 7 1) (round 7 1) (by-hand (round 7 1) (round 7 1) (0 ∷ 1 ∷ 2 ∷ 3 ∷ 4 ∷ 5 ∷ 6 ∷ []) 127 (0 ∷ 1 ∷ 2 ∷ 3 ∷ 4 ∷ 5 ∷ 6 ∷ []) 127 refl refl refl refl refl refl refl)
+
 -- ---- the rules of pairs, reduced
 abbrev besides : Rule
 besides = rule 5 1 5 18 (arcs (2 ∷ 0 ∷ 8 ∷ 16 ∷ []))
 
 abbrev square : Rule
 square = rule 4 1 1 8 (arcs (6 ∷ 8 ∷ 8 ∷ []))
+
+abbrev six : Rule
+six = rule 6 1 1 16 (arcs (12 ∷ 16 ∷ 34 ∷ 32 ∷ 0 ∷ 16 ∷ []))
+
+by-length : reducedOrOwn six ≡ thriceCrossed
+unfolding installNumber badTargets anyBelow union indexOf numbered expandFrom closeFrom keysUpTo setsOf tooMany nextSet singletonNumber delegateIn startCount final follow every firstFrom alikeTo liveOf lowestOf delegateOf startsOf startsIn listFrom total gather turns
+by-length = stands six thriceCrossed (by-hand six thriceCrossed (0 ∷ 1 ∷ 2 ∷ 2 ∷ 4 ∷ 1 ∷ []) 63 (0 ∷ 1 ∷ 2 ∷ 2 ∷ 4 ∷ 1 ∷ []) 23 refl refl refl refl refl refl refl)
 
 two-alike : reducedOrOwn besides ≡ onceOrTwice
 unfolding installNumber badTargets anyBelow union indexOf numbered expandFrom closeFrom keysUpTo setsOf tooMany nextSet singletonNumber delegateIn startCount final follow every firstFrom alikeTo liveOf lowestOf delegateOf startsOf startsIn listFrom total gather turns
@@ -121,6 +157,10 @@ diagonal : keptPairs Both fourOrMore sixTimes ≡ 30081614081
 unfolding anyBelow union maskOf keptFrom turns
 diagonal = refl
 
+all-pairs : keptPairs Both (round 5 1) (round 7 1) ≡ 34359738367
+unfolding anyBelow union maskOf keptFrom turns
+all-pairs = refl
+
 pub answered : Answered mergedReduced
 unfolding mergeReducedNumber badTargets anyBelow union maskOf keptFrom turns nth firstFrom listFrom total
 answered = (
@@ -135,7 +175,16 @@ answered = (
           step-by-step Both (onceIn 9) (onceIn 5) once once 9 once once nine-once five-once refl refl refl refl refl refl once-stays,
           (
             step-by-step Both fourOrMore sixTimes fourOrMore sixTimes 30081614081 sixTimes sixTimes four-stays six-stays refl refl refl diagonal refl refl six-stays,
-            (refl, (refl, (refl, tt))),
+            (
+              step-by-step Both crossed twice crossed twice 161 crossed crossed crossed-stays twice-stays refl refl refl refl refl refl crossed-stays,
+              (
+                step-by-step Interleaving once crossed once crossed 63 six thriceCrossed once-stays crossed-stays refl refl refl refl refl refl by-length,
+                (
+                  too-many Both (round 5 1) (round 7 1) (round 5 1) (round 7 1) 34359738367 five-stays seven-stays refl refl refl all-pairs refl,
+                  (refl, (refl, (refl, (refl, tt)))),
+                ),
+              ),
+            ),
           ),
         ),
       ),

@@ -1,17 +1,13 @@
 -- All that is promised of merging reduced rules. Assumes nothing.
 use mathlib.Core.Path.{_≡_, refl, sym, ap, _∙_, subst}
 use mathlib.Core.Logic.{_↔_, _⊎_, inl, inr, ⊎-elim, Iff·trans}
-use mathlib.Core.Bool.{Bool, true, false, cond, not}
 use mathlib.Core.List.{List, _++_}
 use mathlib.Core.Option.{Option, none, some}
 use Prim.Native.Nat.{ℕ, _+_, _≤_}
 use native.Mathlib.Nat.{mul-le-mul-left, mul-le-mul-right, le-trans}
 use native.Mathlib.Omega.{arith}
-use lib.Dec.{eqb, ltb}
-use borrow.Author.Tests.{eqb-true, eq-eqb, ltb-false, le-ltb, not-false}
 use Rattle.base.specs.Conditions.{NoneHolds, FirstHolds}
-use Rattle.base.proofs.Tests.{zero-one}
-use Rattle.base.proofs.Conditions.{none-law, first-law, orElse, none-of, first-append}
+use Rattle.base.proofs.Conditions.{none-law, first-law, orElse, first-append}
 use Rattle.automaton.specs.declared.Rule.{Rule}
 use Rattle.automaton.specs.Automaton.{Automaton, Accepts, Equivalent}
 use Rattle.automaton.specs.Rules.{automatonOf, WellFormed}
@@ -23,6 +19,7 @@ use Rattle.merging.specs.declared.Way.the-variants.{Both, Either, Interleaving}
 use Rattle.merging.specs.Languages.{mergedBy, Merges}
 use Rattle.merging.specs.Merged.{statesOf, mergedOf}
 use Rattle.merging.specs.Merging.{mergeNumber}
+use Rattle.merging.proofs.Conditions.{last, taken-exactly, of-a-rule, exactly-36, exactly-37, known}
 use Rattle.merging.proofs.Law.{number-of, zeros-of, rule-of}
 use Rattle.merging.proofs.Claims as merging
 use Rattle.merging.proofs.Sets.{set-law, set-below}
@@ -36,9 +33,10 @@ use Rattle.reducing.specs.Claims.{Lean}
 use Rattle.reducing.proofs.Law.{only-nine}
 use Rattle.reducing.proofs.Claims as reduce
 use Rattle.mergereduce.specs.MergeReduced.{reducedBy, reducedOrOwn, pairTargets, initialPairs, finalPairs, keptPairs, trimmedPairs, pairCount, lastConditions, mergeReducedConditions, mergeReducedNumber, mergeReducedRule, mergeReducedOf}
-use Rattle.mergereduce.specs.Claims.{InsteadLaw, PairsLaw, MergeReducedLaw}
+use Rattle.mergereduce.specs.Claims.{MadeOf, InsteadLaw, PairsLaw, Mergeable, Refused-exactly, MergeReducedLaw}
 use Rattle.mergereduce.proofs.Kept.{Masked, kept-few, kept-law}
 use Rattle.mergereduce.proofs.Trim as trim
+use Rattle.mergereduce.proofs.Only.{one-value}
 
 -- ---- a rule reduced, or the rule itself
 pub record Instead (r m : Rule) : Type 0 where
@@ -124,6 +122,24 @@ module _ (way : Way) (one two : Rule) (good1 : WellFormed one) (good2 : WellForm
     );
   }
 
+  module _ (fits : pairCount way one two ≤ 32) where
+    trimmed-good : WellFormed (trimmedPairs way one two)
+    trimmed-good =
+        trim.well-formed made (statesOf way (one .n) (two .n)) (initialPairs way one two) (finalPairs way one two) (pairTargets way one two)
+        masked (one .k) (symbols-of way one two) (good1 .symbols .0) fits
+
+    trimmed-language : (w : List ℕ) → Accepts (automatonOf (trimmedPairs way one two)) w ↔ Merges way (automatonOf one) (automatonOf two) w
+    trimmed-language w =
+        Iff·trans
+        (trim.language made (statesOf way (one .n) (two .n)) (initialPairs way one two) (finalPairs way one two) (pairTargets way one two)
+        masked (one .k) (symbols-of way one two) (good1 .symbols .0) fits w)
+        (by-way (automatonOf one) (automatonOf two) same way w)
+
+    trimmed-made : MadeOf made (one .k) (pairCount way one two) (trimmedPairs way one two)
+    trimmed-made =
+        trim.made made (statesOf way (one .n) (two .n)) (initialPairs way one two) (finalPairs way one two) (pairTargets way one two)
+        masked (one .k) (symbols-of way one two) (good1 .symbols .0) fits
+
   pub pairs-law : PairsLaw way one two
   pairs-law =
       let n = statesOf way (one .n) (two .n) in
@@ -131,20 +147,14 @@ module _ (way : Way) (one two : Rule) (good1 : WellFormed one) (good2 : WellForm
       let f = finalPairs way one two in record {
         kept = kept-law made n i f (pairTargets way one two) masked;
         below = kept-few made n i f (pairTargets way one two) masked;
+        number = trim.in-order made n i f (pairTargets way one two) masked;
+        made = trimmed-made;
+        only = λ fits count t long good so.
+            one-value made (one .k) count (pairCount way one two) t (trimmedPairs way one two) good (trimmed-good fits) long
+            (trim.cells made n i f (pairTargets way one two) masked (one .k) (symbols-of way one two) (good1 .symbols .0) fits)
+            so
+            (trimmed-made fits);
       }
-
-  module _ (fits : pairCount way one two ≤ 32) where
-    trimmed-good : WellFormed (trimmedPairs way one two)
-    trimmed-good =
-        trim.well-formed made (statesOf way (one .n) (two .n)) (one .k) (initialPairs way one two) (finalPairs way one two) (pairTargets way one two)
-        masked (symbols-of way one two) (good1 .symbols .0) fits
-
-    trimmed-language : (w : List ℕ) → Accepts (automatonOf (trimmedPairs way one two)) w ↔ Merges way (automatonOf one) (automatonOf two) w
-    trimmed-language w =
-        Iff·trans
-        (trim.language made (statesOf way (one .n) (two .n)) (one .k) (initialPairs way one two) (finalPairs way one two) (pairTargets way one two)
-        masked (symbols-of way one two) (good1 .symbols .0) fits w)
-        (by-way (automatonOf one) (automatonOf two) same way w)
 
 -- ---- more states make more pairs
 more-pairs : (way : Way) (n1 n2 m1 m2 : ℕ) → n1 ≤ m1 → n2 ≤ m2 → statesOf way n1 n2 ≤ statesOf way m1 m2
@@ -153,11 +163,6 @@ more-pairs Either n1 n2 m1 m2 h i = omega arith
 more-pairs Interleaving n1 n2 m1 m2 h i = le-trans (mul-le-mul-left n1 i) (mul-le-mul-right m2 h)
 
 -- ---- the number
-last-passed : (t u : Bool) → cond {A = Option ℕ} t (some 36) (cond u (some 37) none) ≡ none → (t ≡ false) × (u ≡ false)
-last-passed true u e = zero-one cc
-last-passed false true e = zero-one cc
-last-passed false false e = (refl, refl)
-
 module _ (way : Way) (one two : Rule) where
   abbrev pub first : Rule
   first = reducedOrOwn one
@@ -165,51 +170,54 @@ module _ (way : Way) (one two : Rule) where
   abbrev pub second : Rule
   second = reducedOrOwn two
 
-  abbrev pub last : Option ℕ
-  last = cond (not (eqb (one .k) (two .k))) (some 36) (cond (ltb 32 (pairCount way first second)) (some 37) none)
+  abbrev pub count : ℕ
+  count = pairCount way first second
 
-  pub number-law : mergeReducedNumber way one two ≡ orElse (ruleNumber one) (orElse (ruleNumber two) last)
+  pub number-law : mergeReducedNumber way one two ≡ orElse (ruleNumber one) (orElse (ruleNumber two) (last (one .k) (two .k) count))
   unfolding mergeReducedNumber
   number-law =
       first-append (ruleConditions one) (ruleConditions two ++ lastConditions way one two)
       ∙ ap (orElse (ruleNumber one)) (first-append (ruleConditions two) (lastConditions way one two))
 
-  record Taken : Type 0 where
-    one-good : WellFormed one
-    two-good : WellFormed two
-    same : one .k ≡ two .k
-    fits : pairCount way first second ≤ 32
+  is : mergeReducedOf way one two .number ≡ mergeReducedNumber way one two
+  is = number-of (mergeReducedNumber way one two) (mergeReducedRule way one two)
 
-  taken : mergeReducedNumber way one two ≡ none → Taken
-  taken e =
-      let x = none-of (ruleNumber one) (orElse (ruleNumber two) last) .0 (sym number-law ∙ e) in
-      let y = none-of (ruleNumber two) last .0 (x .1) in
-      let z = last-passed (not (eqb (one .k) (two .k))) (ltb 32 (pairCount way first second)) (y .1) in
-      record {
-        one-good = passes one .0 (x .0);
-        two-good = passes two .0 (y .0);
-        same = eqb-true (one .k) (two .k) (not-false (eqb (one .k) (two .k)) (z .0));
-        fits = ltb-false 32 (pairCount way first second) (z .1);
+  pub refused-exactly : Refused-exactly way one two
+  refused-exactly =
+      let number = mergeReducedOf way one two .number in
+      let law = is ∙ number-law in record {
+        taken = (
+          (λ z.
+              let m = taken-exactly number one two count law .0 z in
+              record { first = m .0; second = m .1; same = m .2; fits = m .3 }),
+          λ m. taken-exactly number one two count law .1 (m .first, m .second, m .same, m .fits),
+        );
+        of-a-rule = of-a-rule number one two count law;
+        number-36 = exactly-36 number one two count law;
+        number-37 = exactly-37 number one two count law;
+        no-other = known number one two count law;
       }
 
+  taken : mergeReducedOf way one two .number ≡ none → Mergeable way one two
+  taken = refused-exactly .taken .0
+
   -- nothing that merging takes is refused
-  no-less : mergeNumber way one two ≡ none → mergeReducedNumber way one two ≡ none
+  no-less : mergeNumber way one two ≡ none → mergeReducedOf way one two .number ≡ none
   no-less e =
       let m = merging.claims .refused way one two .taken .0 e in
       let i = instead one (m .first) in
       let j = instead two (m .second) in
       let few = rank-most (keptPairs way first second) (statesOf way (first .n) (second .n)) in
       let more = more-pairs way (first .n) (second .n) (one .n) (two .n) (i .fewer) (j .fewer) in
-      let small : pairCount way first second ≤ 32 = omega (arith, few, more, m .fits) in
-      number-law
-      ∙ rw (passes one .1 (m .first), passes two .1 (m .second), eq-eqb (one .k) (two .k) (m .same), le-ltb 32 (pairCount way first second) small)
+      let small : count ≤ 32 = omega (arith, few, more, m .fits) in
+      refused-exactly .taken .1 (record { first = m .first; second = m .second; same = m .same; fits = small })
 
-  module _ (ok : Taken) where
+  module _ (ok : Mergeable way one two) where
     i1 : Instead one first
-    i1 = instead one (ok .one-good)
+    i1 = instead one (ok .first)
 
     i2 : Instead two second
-    i2 = instead two (ok .two-good)
+    i2 = instead two (ok .second)
 
     together : first .k ≡ second .k
     together = i1 .symbols ∙ ok .same ∙ sym (i2 .symbols)
@@ -243,9 +251,6 @@ module _ (way : Way) (one two : Rule) where
         let pairs = trimmedPairs way first second in
         subst Lean (sym (instead-law pairs .reduced e)) (reduce.claims .reducing pairs .lean e w (result .language w .0 t))
 
-  is : mergeReducedOf way one two .number ≡ mergeReducedNumber way one two
-  is = number-of (mergeReducedNumber way one two) (mergeReducedRule way one two)
-
   rule-is : mergeReducedOf way one two .number ≡ none → mergeReducedOf way one two .rule ≡ mergeReducedRule way one two
   rule-is e = rule-of (mergeReducedNumber way one two) (mergeReducedRule way one two) (sym is ∙ e)
 
@@ -262,17 +267,19 @@ module _ (way : Way) (one two : Rule) where
     accepted = ((λ e. accepted-law .0 (sym is ∙ e)), λ h. is ∙ accepted-law .1 h);
     refused = λ x. ((λ e. refused-law x .0 (sym is ∙ e)), λ h. is ∙ refused-law x .1 h);
     zeros = λ x e. zeros-of (mergeReducedNumber way one two) (mergeReducedRule way one two) x (sym is ∙ e);
-    checked = λ e. ap ruleNumber (rule-is e) ∙ passes (mergeReducedRule way one two) .1 (made-good (taken (sym is ∙ e)));
+    rule = rule-is;
+    rule-of-pairs = λ e. passes (trimmedPairs way first second) .1 (good-pairs (taken e));
+    checked = λ e. ap ruleNumber (rule-is e) ∙ passes (mergeReducedRule way one two) .1 (made-good (taken e));
     pairs = λ e f k.
         let x = instead one (passes one .0 e) in
         let y = instead two (passes two .0 f) in
         pairs-law way first second (x .good) (y .good) (x .symbols ∙ k ∙ sym (y .symbols));
-    symbols = λ e. ap (λ (r : Rule). r .k) (rule-is e) ∙ made-symbols (taken (sym is ∙ e));
+    symbols = λ e. ap (λ (r : Rule). r .k) (rule-is e) ∙ made-symbols (taken e);
     lean = λ e f w t.
         subst Lean (sym (rule-is e))
-        (made-lean (taken (sym is ∙ e)) f w (subst (λ (r : Rule). Accepts (automatonOf r) w) (rule-is e) t));
+        (made-lean (taken e) f w (subst (λ (r : Rule). Accepts (automatonOf r) w) (rule-is e) t));
     language = λ e w.
         subst (λ (r : Rule). Accepts (automatonOf r) w ↔ Merges way (automatonOf one) (automatonOf two) w) (sym (rule-is e))
-        (made-language (taken (sym is ∙ e)) w);
-    no-less = λ e. is ∙ no-less (sym (number-of (mergeNumber way one two) (mergedOf way one two)) ∙ e);
+        (made-language (taken e) w);
+    no-less = λ e. no-less (sym (number-of (mergeNumber way one two) (mergedOf way one two)) ∙ e);
   }

@@ -9,6 +9,10 @@
 --   rank m q                    how many members of m are below q   masks/specs/Turns
 --   trimmedPairs way one two    the rule of the pairs that stay     mergereduce/specs/MergeReduced
 --   Counted a p                 p is reachable and live             mergereduce/specs/Claims
+--   InOrder, MadeOf             the states so counted, and a rule   mergereduce/specs/Claims
+--                               made of them, in words
+--   emptyRule k                 one state, and all masks 0          reducing/specs/Claims
+--   Refused-exactly, Mergeable  number by number                    mergereduce/specs/Claims
 --   mergedReduced, Answered     rules merged by hand                mergereduce/specs/Worked
 --   reduceOf r                  a rule reduced                      reducing/specs/Reducing
 --   Lean r                      reached, live, no two states alike  reducing/specs/Claims
@@ -26,9 +30,6 @@
 --   mergeShown                  C's numbers                         c_merge/specs/Numbers
 --   verdictIn h, textIn h       what 01 says of a list of calls     histories/specs/History
 --
--- one and two are any values, in which any numbers may stand. How the pairs that stay are found
--- (mergereduce/specs/Trimmed) need not be believed: `counted` says which they are. A proved
--- function ends and stays within its bounds. Assumes nothing.
 -- All that they rest on stands in these files of specs/ (tests/believed):
 --   base Conditions, Lists, Options, Totals; limits Limits; flags Flags; masks Masks, Turns;
 --   automaton Automaton, Rules, Successor; rulecheck Checking, Worked; ruleformat Claims, Format,
@@ -42,12 +43,14 @@ use mathlib.Core.Logic.{_↔_, _⊎_}
 use mathlib.Core.Bool.{true}
 use mathlib.Core.List.{List}
 use mathlib.Core.Option.{none, some}
-use Prim.Native.Nat.{ℕ, _<_}
+use Prim.Native.Nat.{ℕ, _≤_, _<_}
+use lib.ListN.{length}
 use Rattle.base.specs.Conditions.{NoneHolds, FirstHolds}
+use Rattle.limits.specs.Limits.{mostStates, targetCells}
 use Rattle.masks.specs.Masks.{_∈_}
 use Rattle.automaton.specs.declared.Rule.{Rule}
-use Rattle.automaton.specs.Automaton.{Accepts}
-use Rattle.automaton.specs.Rules.{automatonOf}
+use Rattle.automaton.specs.Automaton.{Automaton, Accepts}
+use Rattle.automaton.specs.Rules.{automatonOf, WellFormed}
 use Rattle.rulecheck.specs.Checking.{ruleNumber}
 use Rattle.ruleformat.specs.Claims.{AllZero}
 use Rattle.calls.specs.Replies.{yesWith, noWith}
@@ -62,9 +65,9 @@ use Rattle.merging.specs.Languages.{mergedBy, Merges}
 use Rattle.merging.specs.Merging.{mergeOutcome, mergeOf, wayOf}
 use Rattle.reducing.specs.Reducing.{reduceOf}
 use Rattle.reducing.specs.Claims.{Lean}
-use Rattle.mergereduce.specs.MergeReduced.{reducedOrOwn, size, keptPairs, trimmedPairs, mergeReducedConditions, mergeReducedOf}
+use Rattle.mergereduce.specs.MergeReduced.{reducedOrOwn, size, keptPairs, trimmedPairs, pairCount, mergeReducedConditions, mergeReducedOf}
 use Rattle.mergereduce.specs.Worked.{mergedReduced, Answered}
-use Rattle.mergereduce.specs.Claims.{Counted, MergeReducedLaw}
+use Rattle.mergereduce.specs.Claims.{Counted, InOrder, MadeOf, Refused-exactly, MergeReducedLaw}
 use Rattle.mergereduce.proofs.Claims as mergereduce
 use Rattle.c_merge.specs.declared.MergeNumbers.{MergeNumbers}
 use Rattle.c_merge.specs.Numbers.{mergeShown, mergeReadBack}
@@ -117,20 +120,50 @@ left-out r = mergereduce.claims .instead r .own
 pub with-9-alone : (r : Rule) → ruleNumber r ≡ none → (x : ℕ) → reduceOf r .number ≡ some x → x ≡ 9
 with-9-alone r = mergereduce.claims .instead r .nine
 
--- "only the pairs that are reachable and live": a pair (for either, a state of one of the two) is
--- kept exactly when some text leads to it from an initial one and some text from it to a final one,
--- in the product of the two rules as they were reduced; each of them is counted.
+-- "builds only the pairs that are reachable and live": a pair (for either, a state of one of the
+-- two) is kept exactly when some text leads to it from an initial one and some text from it to a
+-- final one, in the product of the two rules as they were reduced; each of them is counted.
 module _ (w : Way) (one two : Rule) (first : ruleNumber one ≡ none) (second : ruleNumber two ≡ none) (same : one .k ≡ two .k) where
-  pub counted : (p : ℕ) → p ∈ keptPairs w (reducedOrOwn one) (reducedOrOwn two)
-      ↔ Counted (mergedBy w (automatonOf (reducedOrOwn one)) (automatonOf (reducedOrOwn two))) p
+  abbrev product : Automaton
+  product = mergedBy w (automatonOf (reducedOrOwn one)) (automatonOf (reducedOrOwn two))
+
+  pub counted : (p : ℕ) → p ∈ keptPairs w (reducedOrOwn one) (reducedOrOwn two) ↔ Counted product p
   counted = merging-law w one two .pairs first second same .kept
 
   pub each-counted : (p : ℕ) → p ∈ keptPairs w (reducedOrOwn one) (reducedOrOwn two)
       → p < size w (reducedOrOwn one) (reducedOrOwn two)
   each-counted = merging-law w one two .pairs first second same .below
 
--- "and reduces the result": every state of it is reached, every state is live and no two are alike,
--- where some text is accepted and that reduction is not refused.
+  -- their number is how many they are: listed in their order, from the lowest, they are so many
+  pub in-order : InOrder product (pairCount w (reducedOrOwn one) (reducedOrOwn two))
+  in-order = merging-law w one two .pairs first second same .number
+
+  -- and a rule is made of them, where they are at most 32: they are its states, as many as they
+  -- are, which keep their order, and their arcs, initial and final states are the product's; one
+  -- state and all masks 0 where there is none
+  pub made : pairCount w (reducedOrOwn one) (reducedOrOwn two) ≤ mostStates
+      → MadeOf product (reducedOrOwn one .k) (pairCount w (reducedOrOwn one) (reducedOrOwn two))
+      (trimmedPairs w (reducedOrOwn one) (reducedOrOwn two))
+  made = merging-law w one two .pairs first second same .made
+
+  -- no other value is so made: the words fix every number of it
+  pub only : pairCount w (reducedOrOwn one) (reducedOrOwn two) ≤ mostStates
+      → (count : ℕ) (t : Rule) → length (t .targets) ≡ targetCells → WellFormed t
+      → MadeOf product (reducedOrOwn one .k) count t → t ≡ trimmedPairs w (reducedOrOwn one) (reducedOrOwn two)
+  only = merging-law w one two .pairs first second same .only
+
+-- "and reduces the result": the value is what stands for that rule, which passes the check of R-3,
+-- so that `reduced`, `left-out` and `with-9-alone` hold of it too.
+pub result : (w : Way) (one two : Rule) → mergeReducedOf w one two .number ≡ none
+    → mergeReducedOf w one two .rule ≡ reducedOrOwn (trimmedPairs w (reducedOrOwn one) (reducedOrOwn two))
+result w one two = merging-law w one two .rule
+
+pub rule-of-pairs : (w : Way) (one two : Rule) → mergeReducedOf w one two .number ≡ none
+    → ruleNumber (trimmedPairs w (reducedOrOwn one) (reducedOrOwn two)) ≡ none
+rule-of-pairs w one two = merging-law w one two .rule-of-pairs
+
+-- Every state of it is reached, every state is live and no two are alike, where some text is
+-- accepted and that reduction is not refused.
 pub lean : (w : Way) (one two : Rule) → mergeReducedOf w one two .number ≡ none
     → reduceOf (trimmedPairs w (reducedOrOwn one) (reducedOrOwn two)) .number ≡ none
     → (t : List ℕ) → Accepts (automatonOf (mergeReducedOf w one two .rule)) t → Lean (mergeReducedOf w one two .rule)
@@ -145,6 +178,11 @@ accepted w one two = merging-law w one two .accepted
 
 pub refused : (w : Way) (one two : Rule) (x : ℕ) → (mergeReducedOf w one two .number ≡ some x) ↔ FirstHolds x (mergeReducedConditions w one two)
 refused w one two = merging-law w one two .refused
+
+-- Number by number: 3, 4, 6, 8 of the first, then of the second, 36 exactly when both pass and k
+-- differs, 37 exactly when both pass, k is the same and more than 32 pairs are counted; no other.
+pub number-by-number : (w : Way) (one two : Rule) → Refused-exactly w one two
+number-by-number = mergereduce.claims .refused
 
 -- "nothing that R-10's function takes is refused here":
 pub no-less : (w : Way) (one two : Rule) → mergeOf w one two .number ≡ none → mergeReducedOf w one two .number ≡ none
