@@ -3,3 +3,4 @@ pub mod Shown
 pub mod TextFunctions
 pub mod SampleText
 pub mod Demands
+pub mod Texts

@@ -25,6 +25,16 @@
 --
 -- l is any list of cells, f and g any value of the form, in which any numbers may stand. A list of calls
 -- has the last call first. A proved function ends and stays within its bounds. Assumes nothing.
+-- All that they rest on stands in these files of specs/ (tests/believed):
+--   base Conditions, Lists, Options, Totals; limits Limits; flags Flags; text Numerals, Writing;
+--   answers Answers; masks Masks; automaton Rules, Successor; rulecheck Checking; ruleformat
+--   Format, Reader, Refusals; numbering Numbering; subsets Sets, Singles; delegates Alike,
+--   Claims, Classes; build Building; marks Marks; walks Steps; chunks Chunks, Walks; board
+--   Boards; joins Joining; calls Calls, Replies, Steps; executions Executions; histories Claims,
+--   History; fields Bytes, Claims, Numbers; lines Splitting; hexfields Reading; ruletext
+--   RuleText; forms Back, Claims, Form; formmaker Making; formtrip Claims; formfile Files;
+--   formtext FormText; wordfields Claims, Words; formline Claims, Lines, Worked; tabletext
+--   Answers; formstream Claims, Feeding, Texts; c_form Claims, Numbers; requests FormFunctions.
 use mathlib.Core.Path.{_≡_, ap, _∙_, refl}
 use mathlib.Core.Logic.{_↔_, _⊎_, ⊎-elim}
 use mathlib.Core.Bool.{cond}

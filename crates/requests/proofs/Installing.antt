@@ -6,6 +6,9 @@
 --   installNumber r   that of its installation           calls/specs/Calls
 --
 -- Assumes nothing.
+-- All that they rest on stands in these files of specs/ (tests/believed):
+--   base Conditions; limits Limits; masks Masks; automaton Rules, Successor; rulecheck Checking;
+--   numbering Numbering; subsets Sets; calls Calls.
 use mathlib.Core.Path.{_≡_, refl, sym, _∙_}
 use mathlib.Core.Logic.{_↔_, _⊎_, inl, inr, ⊎-elim}
 use mathlib.Core.Bool.{Bool, true, false}

@@ -24,6 +24,14 @@
 -- h is any list of calls, the last one first. diagnosisOf and spotOf, what the code does on any state,
 -- need not be believed: `diagnosed` and `spotted` say that after every list they are the words', and
 -- no other answer is. A proved function ends and stays within its bounds. Assumes nothing.
+-- All that they rest on stands in these files of specs/ (tests/believed):
+--   base Conditions, Lists, Options, Totals; limits Limits; masks Masks; automaton Automaton,
+--   Rules, Successor; rulecheck Checking; ruleformat Format, Reader, Refusals; numbering
+--   Numbering; subsets Sets, Singles; delegates Alike, Claims, Classes; live Continued; build
+--   Building; marks Marks; walks Steps; chunks Chunks, Walks; board Boards; joins Joining; calls
+--   Calls, Replies, Steps; diagnoses Diagnosing; locating Locating, Positions, Pruning;
+--   executions Executions; histories Claims, Functions, History; losses Functions, Losses, Spots;
+--   c_losses Numbers; requests LossFunctions.
 use mathlib.Core.Path.{_≡_, refl, sym, ap, _∙_}
 use mathlib.Core.Logic.{_↔_, _⊎_}
 use mathlib.Core.Bool.{true, false}

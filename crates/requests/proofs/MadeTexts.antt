@@ -13,6 +13,11 @@
 --
 -- k, the seed and the buffer are any numbers and any bytes. A proved function ends and stays within its
 -- bounds. Assumes nothing.
+-- All that they rest on stands in these files of specs/ (tests/believed):
+--   base Conditions; limits Limits; flags Flags; text Numerals; answers Answers; automaton
+--   Automaton; marks Marks; chunks Chunks; madetexts Making, Values; fields Claims, Numbers;
+--   lines Splitting; shortlines Feeding, Keeping; maketextlines Answers, Claims, Lines;
+--   maketextstream Claims; c_texts Claims, Numbers; requests TextFunction.
 use mathlib.Core.Path.{_≡_, refl, sym, ap, _∙_}
 use mathlib.Core.Logic.{_↔_, _⊎_}
 use mathlib.Core.Bool.{false}

@@ -26,6 +26,19 @@
 --
 -- r is any value, in which any numbers may stand, and so is a mapping. A proved function ends and
 -- stays within its bounds. Assumes nothing.
+-- All that they rest on stands in these files of specs/ (tests/believed):
+--   base Conditions, Lists, Options, Totals; limits Limits; flags Flags; text Numerals, Writing;
+--   answers Answers; masks Masks; automaton Automaton, Rules, Successor; rulecheck Checking,
+--   Worked; ruleformat Format, Reader, Refusals; numbering Arrays, Numbering, Texts; subsets
+--   Sets, Singles; compositions Bracketing, Relations; mappings Claims, Mappings, Packing; keys
+--   Tables; delegates Alike, Claims, Classes; build Building; marks Marks; walks Steps; chunks
+--   Chunks, Taking, Walks; profile Claims, Profiles, Runs, Worked; board Boards; joins Joining;
+--   calls Calls, Claims, Replies, Steps; executions Executions; histories Claims, History;
+--   fillings Filled; mapverdict Filled; fields Bytes; lines Splitting; ruletext RuleText; maptext
+--   MappingText; profilefile Files; mapcalls Calls, Histories; profiletext ProfileText; longlines
+--   Holding; linetexts Claims, Feeding, Lists, Parts; mapreplies Replies; maplines Answers,
+--   Lines; mapstream Texts; c_mappings Claims, Numbers; demands Functions; requests
+--   MappingFunctions.
 use mathlib.Core.Path.{_≡_, ap, refl}
 use mathlib.Core.Logic.{_↔_, _⊎_}
 use mathlib.Core.Bool.{true, false}

@@ -30,10 +30,14 @@
 --   mergeShown                  C's numbers                         c_merge/specs/Numbers
 --   verdictIn h, textIn h       what 01 says of a list of calls     histories/specs/History
 --
--- one and two are any values, in which any numbers may stand. How the pairs that stay are found and
--- made a rule (keptPairs, pairCount and trimmedPairs, by mergereduce/specs/Trimmed) need not be
--- believed: `counted` says which they are, `in-order` how many, and `made` and `only` what every
--- number of their rule is. A proved function ends and stays within its bounds. Assumes nothing.
+-- All that they rest on stands in these files of specs/ (tests/believed):
+--   base Conditions, Lists, Options, Totals; limits Limits; flags Flags; masks Masks, Turns;
+--   automaton Automaton, Rules, Successor; rulecheck Checking, Worked; ruleformat Claims, Format,
+--   Reader, Refusals; numbering Numbering; subsets Sets, Singles; delegates Alike, Claims,
+--   Classes; marks Marks; chunks Chunks; joins Joining; calls Calls, Replies; histories History;
+--   products Claims, Interleavings, Products; merging Languages, Merged, Merging, Worked; c_merge
+--   Numbers; reducing Claims, Reduced, Reducing, Worked; mergereduce Claims, MergeReduced,
+--   Trimmed, Worked; requests MergeReducedFunction.
 use mathlib.Core.Path.{_≡_, sym, ap, _∙_, subst}
 use mathlib.Core.Logic.{_↔_, _⊎_}
 use mathlib.Core.Bool.{true}

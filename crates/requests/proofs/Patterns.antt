@@ -20,6 +20,15 @@
 --
 -- b is any list of bytes, p any pattern. A proved function ends and stays within its bounds. Assumes
 -- nothing.
+-- All that they rest on stands in these files of specs/ (tests/believed):
+--   base Conditions, Lists, Options, Totals; limits Limits; flags Flags; text Numerals; masks
+--   Masks; automaton Automaton, Rules, Successor; rulecheck Checking; ruleformat Format,
+--   Language, Reader, Refusals, Writing; rulewriter Written; numbering Numbering; subsets Sets,
+--   Singles; delegates Alike, Claims, Classes; marks Marks; chunks Chunks; joins Joining; calls
+--   Calls, Replies; histories History; patterns Claims, Grammar, Limits, Marked, Patterns,
+--   Positions; patternscan Scanning, Signs; patternreader Reader, Rules; patternfile Answers,
+--   Claims, Worked; fields Claims; lines Splitting; patterntext Answers, Claims, Lines;
+--   c_patterns Claims, Numbers; requests PatternFunction.
 use mathlib.Core.Path.{_≡_, refl, sym, ap, _∙_, subst}
 use mathlib.Core.Logic.{_↔_, _⊎_}
 use mathlib.Core.Bool.{true, cond}

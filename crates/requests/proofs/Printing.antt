@@ -12,6 +12,11 @@
 --   loadNumber f     the number with which a load is refused  calls/specs/Calls
 --
 -- f and g are any lists of bytes. Assumes nothing.
+-- All that they rest on stands in these files of specs/ (tests/believed):
+--   base Conditions, Lists; limits Limits; text Numerals; masks Masks; automaton Rules,
+--   Successor; rulecheck Checking; ruleformat Format, Reader, Refusals, Worked; numbering
+--   Numbering; subsets Sets, Singles; delegates Alike, Claims, Classes; build Building; calls
+--   Calls; ruletext Claims, Printing, RuleText.
 use mathlib.Core.Path.{_≡_}
 use mathlib.Core.Logic.{_↔_}
 use mathlib.Core.List.{List, [], _∷_}

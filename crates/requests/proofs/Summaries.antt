@@ -29,6 +29,15 @@
 -- A summary is any value, in which any numbers may stand, and a judge any state. The digest is a
 -- guard against mistakes, not against attackers: summaries of another rule are told where its
 -- digest is another. A proved function ends and stays within its bounds. Assumes nothing.
+-- All that they rest on stands in these files of specs/ (tests/believed):
+--   base Conditions, Lists, Options, Totals; limits Limits; flags Flags; masks Masks; automaton
+--   Automaton, Rules, Successor; rulecheck Checking; ruleformat Format, Reader, Refusals, Worked;
+--   numbering Numbering; subsets Sets, Singles; compositions Bracketing, Relations; delegates
+--   Alike, Claims, Classes; build Building; digests Digests, Worked; marks Marks; walks Steps;
+--   chunks Chunks, Taking, Walks; board Boards; joins Claims, Joining; calls Calls, Claims,
+--   Replies, Steps; executions Executions; histories Claims, Functions, History; fillings Filled;
+--   summaries Claims, Summaries; summaryverdict Functions, Lists, Traces, Worked; replay Records;
+--   c_summaries Numbers; capi Numbers; demands Functions; requests SummaryFunctions.
 use mathlib.Core.Path.{_≡_, refl}
 use mathlib.Core.Logic.{_↔_, _⊎_}
 use mathlib.Core.List.{List, _∷_, flatten}

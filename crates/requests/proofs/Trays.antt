@@ -31,6 +31,17 @@
 --
 -- h is any list of calls, the last first. A proved function ends and stays within its bounds. Assumes
 -- nothing.
+-- All that they rest on stands in these files of specs/ (tests/believed):
+--   base Conditions, Lists, Options, Totals; limits Limits; flags Flags; text Numerals, Writing;
+--   answers Answers; masks Masks; automaton Automaton, Rules, Successor; rulecheck Checking,
+--   Claims, Worked; ruleformat Format, Reader, Refusals; numbering Claims, Numbering, Texts;
+--   subsets Sets, Singles; delegates Alike, Claims, Classes; build Building; marks Marks; chunks
+--   Chunks; joins Joining; calls Calls, Replies; executions Executions, Last; histories History,
+--   Method; fields Bytes, Claims, Numbers; lines Splitting; longlines Holding; linetexts Claims,
+--   Feeding, Functions, Lists, Parts; trays Boards, Calls, Claims, Replies, Rows, Sizes, Steps,
+--   Worked; trayhistories Claims, Conditions, Empties, Functions, History, Last, Worked; traytext
+--   Answers, Claims, Lines; traylines Running; traystream Texts, Worked; c_trays Claims, Numbers;
+--   demands TextFunctions; requests TrayFunctions, TrayTexts.
 use mathlib.Core.Path.{_≡_, refl}
 use mathlib.Core.Logic.{_↔_, _⊎_}
 use mathlib.Core.Bool.{false}

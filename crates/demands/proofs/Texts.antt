@@ -1,0 +1,134 @@
+-- CALLS AS TEXT: what tracejudge answers to a text of calls, and what C is given for a recorded list.
+-- Under each sentence stands the theorem that meets it; its proof only cites the file that has it.
+-- To believe them, read the definitions that they name, and of the demands' page what document 01
+-- says of a list of calls:
+--
+--   rightText; callLines           a text of calls; the lines' machine   stream/specs/Texts
+--   listText; listOf, skippedLines lists that a malformed line ends      linetexts/specs/Lists
+--   linesOf; lineIn, responseText  lines, calls and answers as text      lines/, calltext/specs
+--   streamOf, Blocks; finishOf     what is written for blocks            linetexts/specs/Claims, Feeding
+--   Gathers; FedBlocks             a round; blocks through functions     linetexts/specs/Feeding, Functions
+--   MayGather, MayFinish           what their contracts allow            demands/specs/TextFunctions
+--   SaysCall; SaysNumber, ..       which lines and fields say what       calltext/, fields/specs/Claims
+--   recordIn, replayOf             a recorded list                       replay/specs/Records
+--
+-- A list of calls has the last call first. A proved function ends and stays within its bounds.
+-- Assumes nothing.
+-- All that they rest on stands in these files of specs/ (tests/believed):
+--   base Conditions, Lists, Options, Totals; limits Limits; text Numerals, Writing; answers
+--   Answers; masks Masks; automaton Rules, Successor; rulecheck Checking; ruleformat Format,
+--   Reader, Refusals, Writing; numbering Numbering; subsets Sets, Singles; delegates Alike,
+--   Claims, Classes; build Building; marks Marks; walks Steps; chunks Chunks, Walks; board
+--   Boards; joins Joining; calls Calls, Replies, Steps; histories History; fields Bytes, Claims,
+--   Numbers; lines Splitting; packed Claims, Packed; calltext Answers, Claims, Meaning; callrun
+--   Running; longlines Holding; linetexts Claims, Feeding, Functions, Lists, Parts; stream Texts,
+--   Worked; replay Claims, Records; capi Numbers; demands Functions, TextFunctions.
+use mathlib.Core.Path.{_≡_}
+use mathlib.Core.Logic.{_↔_}
+use mathlib.Core.Bool.{false}
+use mathlib.Core.List.{List, [], _∷_, _++_, flatten}
+use mathlib.Core.Option.{some}
+use Prim.Native.Nat.{ℕ, _≤_}
+use lib.ListN.{length, take}
+use Rattle.text.specs.Writing.{Wrote}
+use contract.Lifetimes.{Lfts}
+use denote.Ref.{RefT}
+use Rattle.limits.specs.Limits.{lineRoom}
+use Rattle.calls.specs.declared.Judge.{Judge}
+use Rattle.calls.specs.Calls.{Call}
+use Rattle.calls.specs.Steps.{fresh}
+use Rattle.lines.specs.Splitting.{linesOf}
+use Rattle.longlines.specs.Holding.{lineBegin}
+use Rattle.linetexts.specs.Feeding.{State, stateOf, finishOf, gatherAt, Gathers}
+use Rattle.linetexts.specs.Lists.{Listed, listOf, NoneEmpty, skippedLines}
+use Rattle.linetexts.specs.Claims.{streamOf, Blocks}
+use Rattle.linetexts.specs.Functions.{FedBlocks}
+use Rattle.stream.specs.Texts.{callLines, rightText}
+use Rattle.stream.specs.Worked.{cutText, cutAnswers, sampleText, sampleAnswers}
+use Rattle.stream.proofs.Claimed as stream
+use Rattle.calltext.specs.Meaning.{again, call, malformed, lineIn}
+use Rattle.calltext.specs.Claims.{Fits, lineOf, SaysCall}
+use Rattle.calltext.proofs.Exact as calltext
+use Rattle.answers.specs.Answers.{malformedText}
+use Rattle.replay.specs.Records.{calls, readLine, recordIn, replayOf}
+use Rattle.replay.specs.Claims.{AllFit, recordOf}
+use Rattle.replay.proofs.RoundTrip as replay
+use Rattle.capi.specs.declared.ReplayNumbers.{ReplayNumbers}
+use Rattle.capi.specs.Numbers.{replayShown}
+use Rattle.capi.proofs.Asks as capi-asks
+use Rattle.capi.proofs.bellbadger_replay.Reads as replay-reads
+use Rattle.demands.specs.Functions.{MayReplay}
+use Rattle.demands.specs.TextFunctions.{MayGather, MayFinish}
+use Rattle.demands.proofs.Functions.{replay-fixed}
+use Rattle.demands.proofs.TextFunctions as text-functions
+use Rattle.demands.proofs.SampleText as demands-sample
+
+-- The answers to a text of calls are right line by line, however it is cut into blocks.
+pub texts : (blocks : List (List ℕ)) (line : List ℕ) → lineRoom ≤ length line
+    → streamOf callLines (stateOf (listOf fresh false) lineBegin line) blocks .text ≡ rightText (some []) (linesOf (flatten blocks))
+texts = stream.claims .answered
+
+-- So is all that is written, in whatever rounds the blocks are fed. (A round is what the contract of
+-- `gather` promises, and the end what that of `finish` does: stream/src/lib.rt.)
+pub texts-written : {room : ℕ} {s′ : State (Listed Judge)} {blocks : List (List ℕ)} {line text : List ℕ} → lineRoom ≤ length line
+    → Blocks callLines room (stateOf (listOf fresh false) lineBegin line) blocks s′ text
+    → text ++ finishOf callLines s′ .text ≡ rightText (some []) (linesOf (flatten blocks))
+texts-written = stream.claims .written
+
+-- So from the functions: what the contract of `gather` allows is a round, that of `finish` the end, and
+-- nothing else; fed through them, block by block, a text is answered right.
+pub gather-allows : (s t : State (Listed Judge)) (before block after : List ℕ) (at next written : ℕ)
+    → MayGather s before block at t next written after ↔ Gathers (gatherAt callLines block at (length before) s) at t next written before after
+gather-allows = text-functions.gather-fixed
+
+pub finish-allows : (s : State (Listed Judge)) (before after : List ℕ) (written : ℕ)
+    → MayFinish s before written after ↔ Wrote before 0 (finishOf callLines s .text) after written
+finish-allows = text-functions.finish-fixed
+
+pub texts-fed : {room written : ℕ} {s′ : State (Listed Judge)} {blocks : List (List ℕ)} {line text before after : List ℕ} → lineRoom ≤ length line
+    → FedBlocks MayGather room (stateOf (listOf fresh false) lineBegin line) blocks s′ text → MayFinish s′ before written after
+    → text ++ take written after ≡ rightText (some []) (linesOf (flatten blocks))
+texts-fed = text-functions.fed
+
+-- A line means a call exactly when it is that call's line, but for leading zeros and the case of hex
+-- digits; the empty one begins afresh, and any other is malformed.
+pub line-means : (l : List ℕ) (c : Call) → (lineIn l ≡ call c) ↔ SaysCall l c
+line-means = calltext.claims .line-exactly
+
+pub line-again : (l : List ℕ) → (lineIn l ≡ again) ↔ (l ≡ [])
+line-again = calltext.claims .again-exactly
+
+pub line-malformed : (l : List ℕ) → (lineIn l ≡ malformed) ↔ ((l ≡ [] → ⊥) × ((c : Call) → SaysCall l c → ⊥))
+line-malformed = calltext.claims .malformed-exactly
+
+-- After a malformed line no call is made and no verdict given until an empty line: each line is
+-- answered `skipped`, whatever it says. The empty line begins afresh.
+pub malformed-ends : (h : List Call) (l : List ℕ) (ls : List (List ℕ)) → lineIn l ≡ malformed → NoneEmpty ls
+    → rightText (some h) (l ∷ ls) ≡ malformedText ++ skippedLines ls
+malformed-ends = stream.claims .ends-list
+
+pub begins-afresh : (h : List Call) (l : List ℕ) (ls more : List (List ℕ)) → lineIn l ≡ malformed → NoneEmpty ls
+    → rightText (some h) ((l ∷ ls) ++ ([] ∷ more)) ≡ malformedText ++ (skippedLines ls ++ ((10 ∷ []) ++ rightText (some []) more))
+begins-afresh = stream.claims .afresh
+
+-- Worked, byte by byte: samples/two_chunks.calls is answered with what the README prints for it, and
+-- a text in which a line was cut with `malformed` and `skipped`.
+pub sample-text : rightText (some []) (linesOf sampleText) ≡ sampleAnswers
+sample-text = demands-sample.sample
+
+pub cut-text : rightText (some []) (linesOf cutText) ≡ cutAnswers
+cut-text = stream.claims .worked
+
+-- What C is given for a recorded list, of which nothing is asked, is the verdict after it, or its
+-- first malformed line; and every list of calls has a record, a line for each call.
+pub replay-asks-nothing : (κs : Lfts 1) (c : RefT (List ℕ)) → replay-reads.Asked κs (c, tt)
+replay-asks-nothing = capi-asks.replay-asks-nothing
+
+pub replayed : (text : List ℕ) (r : ReplayNumbers) → MayReplay text r ↔ r ≡ replayShown (replayOf (recordIn text))
+replayed = replay-fixed
+
+pub records : (h : List Call) → AllFit h → recordIn (recordOf h) ≡ calls h
+records = replay.claims .record-round-trip
+
+pub recorded-line : (i : ℕ) (h : List Call) (c : Call) → Fits c → readLine (calls h) i (lineOf c) ≡ calls (c ∷ h)
+recorded-line = replay.claims .line-read
