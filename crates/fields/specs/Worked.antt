@@ -1,4 +1,4 @@
--- Hex digits worked by hand: one list, and one claim over it. proofs/Examples.antt proves the claim.
+-- Hex digits worked by hand: one list, and one claim over it. proofs/Examples.antt proves it.
 --
 --   case c said     the byte c, and what the field `0` and c says, if it says bytes
 --   digits          the list: every hex digit of either case, and the bytes next to them

@@ -25,7 +25,7 @@ pub record Claims : Type 0 where
   pub packed-round-trip : (r : Rule) → Fits-rule r → ruleAt (packedOf r) ≡ r
   pub packed-size : (r : Rule) → length (packedOf r) ≡ packedSize
   pub packed-bytes : (r : Rule) → Fits-rule r → Bytes (packedOf r)
-  -- n stands in byte 0, k in byte 1, the mask of initial states from byte 2, that of final ones from 6
+  -- n is byte 0, k byte 1; the mask of initial states begins at byte 2, that of final ones at 6
   pub packed-head : (r : Rule) → Fits-rule r
       → (byteAt (packedOf r) 0 ≡ r .n) × (byteAt (packedOf r) 1 ≡ r .k) × (wordAt (packedOf r) 2 ≡ r .initials) × (wordAt (packedOf r) 6 ≡ r .finals)
   -- the mask of state q and symbol s stands at index q × 16 + s

@@ -1,5 +1,5 @@
--- Reading the record of a list of calls gives the list again, and a malformed line is found where it
--- is the first. Assumes nothing.
+-- Reading the record of a list of calls gives the list again, and a malformed line is found where
+-- it is the first. Assumes nothing.
 use mathlib.Core.Path.{_≡_, refl, sym, ap, _∙_}
 use mathlib.Core.Logic.{_↔_}
 use mathlib.Core.List.{List, [], _∷_, _++_, append-assoc, append-nil}
