@@ -1,5 +1,5 @@
--- A line makes a text exactly when it is three numbers with a space between each two; and a line worked
--- by hand. Assumes nothing.
+-- A line makes a text exactly when it is three numbers with a space between each two; and a line
+-- worked by hand. Assumes nothing.
 --
 --   Meant l m     what the line l is where it means m
 --   …-meant       it is so, by what its fields say

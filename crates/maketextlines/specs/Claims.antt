@@ -1,8 +1,8 @@
 -- What is claimed of the lines of `maketext` and their answers; proofs/Claims.antt proves it.
 --
 --   lineOf k seed n       the line that makes such a text, without its line feed
---   SaysText l k seed n   the line l is three numbers, k, the seed and a length that is not too long,
---                         with one space between each two, and leading zeros or none
+--   SaysText l k seed n   the line l is three numbers, k, the seed and a length that is not too
+--                         long, with one space between each two, and leading zeros or none
 use mathlib.Core.Path.{_≡_}
 use mathlib.Core.Logic.{_↔_}
 use mathlib.Core.List.{List, [], _∷_, _++_}

@@ -1,5 +1,5 @@
--- Which file was built last, by the last accepted call that builds or forgets, as specs/Last.antt says:
--- the law of crates/executions. Assumes nothing.
+-- Which file was built last, by the last accepted call that builds or forgets, as specs/Last.antt
+-- says: the law of crates/executions. Assumes nothing.
 use mathlib.Core.Path.{_≡_, refl, subst}
 use mathlib.Core.Logic.{_⊎_, inl, inr, Iff·trans}
 use mathlib.Core.List.{List, [], _∷_}

@@ -3,8 +3,8 @@
 --
 --   Accepted h c       after the calls h the call c is answered with no refusal
 --   Changes c          the call may change which profile there is: it builds one, or forgets it
---   LastBuilt h        the file of `lastBuilt h` is f exactly where the last accepted of these calls
---                      builds f
+--   LastBuilt h        the file of `lastBuilt h` is f exactly where the last accepted of these
+--                      calls builds f
 use mathlib.Core.Path.{_≡_}
 use mathlib.Core.Logic.{_↔_}
 use mathlib.Core.List.{List}

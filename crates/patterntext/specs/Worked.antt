@@ -1,8 +1,9 @@
 -- A text of two lines and their answers, in bytes, by hand.
 --
---   twoLines     an empty line, which is the empty pattern, and `*a`, whose star stands after nothing
---   twoAnswers   `011001000000010000000E000000`: one state, which is initial and final, 16 symbols and
---                no arc; and `refused 31`
+--   twoLines     an empty line, which is the empty pattern, and `*a`, whose star stands after
+--                nothing
+--   twoAnswers   `011001000000010000000E000000`: one state, which is initial and final, 16 symbols
+--                and no arc; and `refused 31`
 use mathlib.Core.List.{List, [], _∷_, _++_}
 use Prim.Native.Nat.{ℕ}
 

@@ -1,4 +1,5 @@
--- What is claimed of the printed text, for rule A by hand and for any file whatever; proofs/Claims.antt proves it.
+-- What is claimed of the printed text, for rule A by hand and for any file whatever;
+-- proofs/Claims.antt proves it.
 use mathlib.Core.Path.{_≡_}
 use mathlib.Core.List.{List}
 use Prim.Native.Nat.{ℕ, _≤_}

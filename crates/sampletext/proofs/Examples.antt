@@ -1,5 +1,5 @@
--- The samples of two files as they are printed: the rules are computed from the files, and the samples
--- are those of crates/samples. Assumes nothing.
+-- The samples of two files as they are printed: the rules are computed from the files, and the
+-- samples are those of crates/samples. Assumes nothing.
 use mathlib.Core.Path.{_≡_, refl, ap, ap₂, _∙_}
 use mathlib.Core.List.{List, [], _∷_}
 use mathlib.Core.Option.{Option, none}

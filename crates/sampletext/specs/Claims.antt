@@ -1,4 +1,5 @@
--- What is claimed of the printed text, for two files by hand and for any file whatever; proofs/Claims.antt proves it.
+-- What is claimed of the printed text, for two files by hand and for any file whatever;
+-- proofs/Claims.antt proves it.
 use mathlib.Core.List.{List}
 use Prim.Native.Nat.{ℕ, _≤_}
 use lib.ListN.{length}

@@ -1,7 +1,7 @@
 -- Printed samples by hand (document 02, R-9). proofs/Examples.antt proves the claims.
 --
---   linesA         `accepts 0001` and `rejects -`: of the texts that end in 0 1 the shortest is 0 1, and
---                  the empty text is none of them
+--   linesA         `accepts 0001` and `rejects -`: of the texts that end in 0 1 the shortest is
+--                  0 1, and the empty text is none of them
 --   fileAll        rule A with state 0 final too: every text
 --   linesAll       `accepts -` and `rejects none`
 --   WorkedSamples  what is printed for the two files
