@@ -3,3 +3,4 @@ pub mod Readings
 pub mod Written
 pub mod RoundTrip
 pub mod Exact
+pub mod Examples

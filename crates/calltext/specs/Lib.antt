@@ -2,3 +2,4 @@
 pub mod Meaning
 pub mod Answers
 pub mod Claims
+pub mod Worked

@@ -11,6 +11,10 @@
 --   MayGather, MayFinish           what their contracts allow            demands/specs/TextFunctions
 --   SaysCall; SaysNumber, ..       which lines and fields say what       calltext/, fields/specs/Claims
 --   recordIn, replayOf             a recorded list                       replay/specs/Records
+--   FirstMalformed                 the first line that is malformed      replay/specs/Claims
+--   packedOf, ruleAt               a rule's bytes; the rule of bytes     packed/specs/Packed
+--   answers, digits                answers and hex digits, worked        calltext/, fields/specs/Worked
+--   NoFeed                         bytes without a line feed             lines/specs/Claims
 --
 -- A list of calls has the last call first. A proved function ends and stays within its bounds.
 -- Assumes nothing.
@@ -20,15 +24,16 @@
 --   Reader, Refusals, Writing; numbering Numbering; subsets Sets, Singles; delegates Alike,
 --   Claims, Classes; build Building; marks Marks; walks Steps; chunks Chunks, Walks; board
 --   Boards; joins Joining; calls Calls, Replies, Steps; histories History; fields Bytes, Claims,
---   Numbers; lines Splitting; packed Claims, Packed; calltext Answers, Claims, Meaning; callrun
---   Running; longlines Holding; linetexts Claims, Feeding, Functions, Lists, Parts; stream Texts,
---   Worked; replay Claims, Records; capi Numbers; demands Functions, TextFunctions.
+--   Numbers, Worked; lines Claims, Splitting; packed Claims, Packed; calltext Answers, Claims,
+--   Meaning, Worked; callrun Running; longlines Holding; linetexts Claims, Feeding, Functions,
+--   Lists, Parts; stream Texts, Worked; replay Claims, Records; capi Numbers; demands Functions,
+--   TextFunctions.
 use mathlib.Core.Path.{_≡_}
 use mathlib.Core.Logic.{_↔_}
 use mathlib.Core.Bool.{false}
 use mathlib.Core.List.{List, [], _∷_, _++_, flatten}
 use mathlib.Core.Option.{some}
-use Prim.Native.Nat.{ℕ, _≤_}
+use Prim.Native.Nat.{ℕ, suc, _≤_, _<_}
 use lib.ListN.{length, take}
 use Rattle.text.specs.Writing.{Wrote}
 use contract.Lifetimes.{Lfts}
@@ -38,6 +43,8 @@ use Rattle.calls.specs.declared.Judge.{Judge}
 use Rattle.calls.specs.Calls.{Call}
 use Rattle.calls.specs.Steps.{fresh}
 use Rattle.lines.specs.Splitting.{linesOf}
+use Rattle.lines.specs.Claims.{NoFeed}
+use Rattle.lines.proofs.Claims as lines
 use Rattle.longlines.specs.Holding.{lineBegin}
 use Rattle.linetexts.specs.Feeding.{State, stateOf, finishOf, gatherAt, Gathers}
 use Rattle.linetexts.specs.Lists.{Listed, listOf, NoneEmpty, skippedLines}
@@ -48,10 +55,19 @@ use Rattle.stream.specs.Worked.{cutText, cutAnswers, sampleText, sampleAnswers}
 use Rattle.stream.proofs.Claimed as stream
 use Rattle.calltext.specs.Meaning.{again, call, malformed, lineIn}
 use Rattle.calltext.specs.Claims.{Fits, lineOf, SaysCall}
+use Rattle.calltext.specs.Worked.{answers, Written}
 use Rattle.calltext.proofs.Exact as calltext
+use Rattle.calltext.proofs.Examples as calltext-examples
+use Rattle.fields.specs.Worked.{digits, Read}
+use Rattle.fields.proofs.Examples as fields-examples
+use Rattle.automaton.specs.declared.Rule.{Rule}
+use Rattle.ruleformat.specs.Format.{byteAt, wordAt}
+use Rattle.packed.specs.Packed.{ruleAt, packedOf}
+use Rattle.packed.specs.Claims.{Fits-rule}
+use Rattle.packed.proofs.Packing as packed
 use Rattle.answers.specs.Answers.{malformedText}
-use Rattle.replay.specs.Records.{calls, readLine, recordIn, replayOf}
-use Rattle.replay.specs.Claims.{AllFit, recordOf}
+use Rattle.replay.specs.Records.{calls, malformedAt, readLine, recordIn, replayOf}
+use Rattle.replay.specs.Claims.{AllFit, recordOf, FirstMalformed}
 use Rattle.replay.proofs.RoundTrip as replay
 use Rattle.capi.specs.declared.ReplayNumbers.{ReplayNumbers}
 use Rattle.capi.specs.Numbers.{replayShown}
@@ -132,3 +148,46 @@ records = replay.claims .record-round-trip
 
 pub recorded-line : (i : ℕ) (h : List Call) (c : Call) → Fits c → readLine (calls h) i (lineOf c) ≡ calls (c ∷ h)
 recorded-line = replay.claims .line-read
+
+-- ---- IN OTHER WORDS
+-- So that none of the sentences above rests on a definition alone. A text is no record exactly when
+-- a line is malformed, and its first such line is named, counted from 1. An empty line begins
+-- afresh, in a record and in a list that goes on.
+pub record-malformed : (w : List ℕ) (i : ℕ) → (recordIn w ≡ malformedAt i) ↔ ((j : ℕ) × (i ≡ suc j) × FirstMalformed (linesOf w) j)
+record-malformed = replay.claims .malformed-exactly
+
+pub empty-line-recorded : (i : ℕ) (h : List Call) → readLine (calls h) i [] ≡ calls []
+empty-line-recorded = replay.claims .fresh-line
+
+pub empty-line : (h : List Call) (ls : List (List ℕ)) → rightText (some h) ([] ∷ ls) ≡ (10 ∷ []) ++ rightText (some []) ls
+empty-line = stream.claims .fresh-line
+
+-- A line feed ends a line and, if the last one is not empty, so does the text's end.
+pub line-ended : (l w : List ℕ) → NoFeed l → linesOf (l ++ (10 ∷ w)) ≡ l ∷ linesOf w
+line-ended = lines.claims .line-ended
+
+pub line-last : (l : List ℕ) → NoFeed l → 0 < length l → linesOf l ≡ l ∷ []
+line-last = lines.claims .line-last
+
+pub no-line : linesOf [] ≡ []
+no-line = lines.claims .no-line
+
+-- "The value holds n, k, both masks and a target mask for each state and symbol" (R-3): in the
+-- bytes of an installation n and k stand first, then the mask of initial states, then that of final
+-- ones.
+pub rule-bytes : (r : Rule) → Fits-rule r
+    → (byteAt (packedOf r) 0 ≡ r .n) × (byteAt (packedOf r) 1 ≡ r .k) × (wordAt (packedOf r) 2 ≡ r .initials) × (wordAt (packedOf r) 6 ≡ r .finals)
+rule-bytes = packed.claims .packed-head
+
+pub bytes-rule : (b : List ℕ)
+    → (ruleAt b .n ≡ byteAt b 0) × (ruleAt b .k ≡ byteAt b 1) × (ruleAt b .initials ≡ wordAt b 2) × (ruleAt b .finals ≡ wordAt b 6)
+bytes-rule = packed.claims .stated-head
+
+-- Each kind of answer, byte by byte: "beside yes or no the verdict now carries the number of text
+-- bytes, the whole quotient of the count by it, and the exact remainder" (R-1), in this order; and
+-- each hex digit of either case.
+pub answers-written : Written answers
+answers-written = calltext-examples.written
+
+pub digits-read : Read digits
+digits-read = fields-examples.digits-read

@@ -4,6 +4,7 @@ use mathlib.Core.List.{[], _∷_}
 use mathlib.Core.Option.{none, some}
 use Rattle.fields.specs.Numbers.{parseNumber, allDigits, valueFrom}
 use Rattle.fields.specs.Bytes.{parseBytes, hexValue, allHex, pairs}
+use Rattle.fields.specs.Worked.{digits, Read}
 
 -- 007, and nothing
 leading-zeros : parseNumber (48 ∷ 48 ∷ 55 ∷ []) ≡ some 7
@@ -43,3 +44,8 @@ stray-letter = refl
 empty-field : parseBytes [] ≡ none
 unfolding parseBytes
 empty-field = refl
+
+-- every hex digit, and the bytes next to them
+pub digits-read : Read digits
+unfolding parseBytes hexValue allHex pairs
+digits-read = (refl, (refl, (refl, (refl, (refl, (refl, (refl, (refl, (refl, (refl, (refl, (refl, (refl, (refl, (refl, (refl, (refl, (refl, (refl, (refl, (refl, (refl, (refl, (refl, (refl, (refl, (refl, (refl, tt))))))))))))))))))))))))))))

@@ -1,4 +1,5 @@
 pub mod Lengths
 pub mod Counting
 pub mod Whole
+pub mod Examples
 pub mod Claims

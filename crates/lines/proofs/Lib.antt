@@ -2,3 +2,4 @@
 pub mod Splits
 pub mod Parts
 pub mod Over
+pub mod Claims

@@ -1,2 +1,3 @@
 -- In the order in which to read them.
 pub mod Splitting
+pub mod Claims

@@ -22,6 +22,7 @@ use Rattle.maketextlines.specs.Lines.{Meaning, makes, malformed, lineIn}
 use Rattle.maketextlines.specs.Answers.{answerBy, answerIn, answerHeld}
 use Rattle.maketextlines.specs.Claims.{lineOf, Claims}
 use Rattle.maketextlines.proofs.Writing.{field-most, most-rest}
+use Rattle.maketextlines.proofs.Exact.{worked, line-exactly, malformed-exactly}
 use Rattle.maketextlines.proofs.Long.{too-long, decides}
 
 -- ---- a line for each text
@@ -60,6 +61,9 @@ empty = refl
 
 pub claims : Claims
 claims = record {
+  line-exactly = line-exactly;
+  malformed-exactly = malformed-exactly;
+  worked = worked;
   line-round-trip = line-round-trip;
   empty = empty;
   too-long = too-long;

@@ -2,4 +2,5 @@
 pub mod Readings
 pub mod Writing
 pub mod Long
+pub mod Exact
 pub mod Claims

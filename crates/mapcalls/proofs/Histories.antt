@@ -21,6 +21,7 @@ use Rattle.mapcalls.specs.declared.MapState.{MapState}
 use Rattle.mapcalls.specs.Calls.{Call, forgets, builds, runs, composes, asks, said, lacking, noneYet, keptBy, ranReply, replyOf, nextOf, mapMachine}
 use Rattle.mapcalls.specs.Histories.{builtBy, lastBuilt, ranOn, saidOn, rightReply}
 use Rattle.mapcalls.specs.Claims.{Claims}
+use Rattle.mapcalls.proofs.Last.{last-built}
 
 -- ---- what an accepted build comes to
 record Taken (f : List ℕ) : Type 0 where
@@ -90,4 +91,4 @@ takes-by (some-built {f = g} t) f e =
     let same : g ≡ f = cc in subst (λ (x : List ℕ). Takes (ruleOf x)) same t
 
 pub claims : Claims
-claims = record { right = right; takes = λ h f. takes-by (agrees h) f }
+claims = record { right = right; last = last-built; takes = λ h f. takes-by (agrees h) f }

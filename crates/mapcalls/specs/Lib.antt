@@ -1,4 +1,5 @@
 -- In the order in which to read them.
 pub mod Calls
 pub mod Histories
+pub mod Last
 pub mod Claims

@@ -22,6 +22,7 @@ use Rattle.mapstream.specs.Worked.{cutText, cutAnswers}
 use Rattle.mapstream.specs.Texts.{stepOf, mapList, mapLines, historyAfter, rightReplyTo, rightAnswer, callsAfter, rightText}
 use Rattle.mapstream.specs.Claims.{Claims}
 use Rattle.mapstream.proofs.Long.{told}
+use Rattle.mapstream.proofs.Examples.{worked-calls}
 
 answer-right : (h : List Call) (o : Option Call) → answerTo (stateAfter mapMachine h) o ≡ rightReplyTo h o
 answer-right h none = refl
@@ -61,6 +62,7 @@ claims = record {
       ends [] rightAnswer callsAfter .afresh h l ls more (ap (historyAfter h) e) n
       ∙ ap (λ (t : List ℕ). t ++ (skippedLines ls ++ ((10 ∷ []) ++ rightText (some []) more))) (said h l e);
   worked = worked;
+  worked-calls = worked-calls;
   written = λ {room} {s′} {blocks} {line} {text} large b.
       linetexts.claims mapLines told .written large b ∙ right (linesOf (flatten blocks));
 }

@@ -16,7 +16,7 @@ use Rattle.mapcalls.specs.declared.MapState.{MapState}
 use Rattle.mapcalls.specs.Calls.{Call, noneYet}
 use Rattle.answers.specs.Answers.{malformedText}
 use Rattle.maplines.specs.Lines.{lineIn}
-use Rattle.mapstream.specs.Worked.{cutText, cutAnswers}
+use Rattle.mapstream.specs.Worked.{cutText, cutAnswers, callsText, callsAnswers}
 use Rattle.mapstream.specs.Texts.{mapRoom, mapLines, rightText}
 
 pub record Claims : Type 0 where
@@ -33,6 +33,7 @@ pub record Claims : Type 0 where
   pub afresh : (h : List Call) (l : List ℕ) (ls more : List (List ℕ)) → lineIn l ≡ none → NoneEmpty ls
       → rightText (some h) ((l ∷ ls) ++ ([] ∷ more)) ≡ malformedText ++ (skippedLines ls ++ ((10 ∷ []) ++ rightText (some []) more))
   pub worked : rightText (some []) (linesOf cutText) ≡ cutAnswers
+  pub worked-calls : rightText (some []) (linesOf callsText) ≡ callsAnswers
   -- ALL THAT IS WRITTEN, round by round, block by block, and at the end, is right
   pub written : {room : ℕ} {s′ : State (Listed MapState)} {blocks : List (List ℕ)} {line text : List ℕ} → mapRoom + 1 ≤ length line
       → Blocks mapLines room (stateOf (listOf noneYet false) lineBegin line) blocks s′ text

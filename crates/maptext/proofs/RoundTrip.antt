@@ -1,5 +1,5 @@
 -- What is written of a mapping is read again. Assumes nothing.
-use mathlib.Core.Path.{_≡_, sym, ap, _∙_}
+use mathlib.Core.Path.{_≡_, refl, sym, ap, _∙_}
 use mathlib.Core.List.{List, [], _∷_, _++_}
 use mathlib.Core.Option.{some}
 use Prim.Native.Nat.{ℕ, suc, _<_}
@@ -15,6 +15,7 @@ use Rattle.fields.specs.Claims.{AllBytes, digitsOf, fieldOf}
 use Rattle.fields.proofs.Claims as fields
 use Rattle.mappings.specs.Mappings.{Value}
 use Rattle.maptext.specs.MappingText.{mappingText, parseMapping}
+use Rattle.maptext.specs.Worked.{threeStates, threeText}
 use Rattle.maptext.specs.Claims.{Claims}
 
 digits-are : (f : List ℕ) → joined (λ q. hex 2 (getD f q 0)) (length f) ≡ digitsOf f
@@ -38,5 +39,9 @@ round-trip f is =
     text-is [] e = absurd (omega arith)
     text-is (m ∷ f) e = ap (joined (λ q. hex 2 (getD (m ∷ f) q 0))) (sym e) ∙ digits-are (m ∷ f)
 
+worked : mappingText threeStates ≡ threeText
+unfolding joined hex
+worked = refl
+
 pub claims : Claims
-claims = record { sixteen = sixteen; round-trip = round-trip }
+claims = record { sixteen = sixteen; worked = worked; round-trip = round-trip }

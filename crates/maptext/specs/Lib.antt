@@ -1,2 +1,3 @@
 pub mod MappingText
+pub mod Worked
 pub mod Claims

@@ -2,4 +2,5 @@
 pub mod Files
 pub mod Ways
 pub mod RoundTrip
+pub mod Examples
 pub mod Claims

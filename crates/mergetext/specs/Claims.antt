@@ -17,6 +17,7 @@ use Rattle.merging.specs.Languages.{Merges}
 use Rattle.merging.specs.Merged.{mergedOf}
 use Rattle.merging.specs.Merging.{mergeNumber}
 use Rattle.mergetext.specs.Lines.{wordOf, merges, lineIn}
+use Rattle.mergetext.specs.Worked.{WorkedLines}
 use Rattle.mergetext.specs.Answers.{filesNumber, resultFile, Response, responseText, mostAnswer, mergedFiles}
 
 abbrev pub lineOf : Way → List ℕ → List ℕ → List ℕ
@@ -26,6 +27,10 @@ pub record Claims : Type 0 where
   -- every way and every two lists of bytes have a line
   pub line-round-trip : (way : Way) (f g : List ℕ) → AllBytes f → AllBytes g
       → lineIn (lineOf way f g) ≡ merges way f g
+  pub worked-lines : WorkedLines
+  -- the first file's number comes first, then the second's
+  pub refused-first : (way : Way) (f g : List ℕ) (x : ℕ) → refusal f ≡ some x → filesNumber way f g ≡ some x
+  pub refused-second : (way : Way) (f g : List ℕ) → refusal f ≡ none → (x : ℕ) → refusal g ≡ some x → filesNumber way f g ≡ some x
   -- two files that reading accepts are refused as their rules are
   pub as-rules : (way : Way) (f g : List ℕ) → refusal f ≡ none → refusal g ≡ none
       → filesNumber way f g ≡ mergeNumber way (ruleOf f) (ruleOf g)

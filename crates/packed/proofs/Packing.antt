@@ -104,5 +104,17 @@ module _ (b : List ℕ) (h : Bytes b) where
 packed-mask : (r : Rule) → Fits-rule r → (q s : ℕ) → q < 32 → s < 16 → wordAt (packedOf r) (10 + 4 * (q * 16 + s)) ≡ targetMask (r .targets) q s
 packed-mask r fits q s l k = sym (mask-is r fits (q * 16 + s) (omega (arith, l, k))) ∙ rw (lt-ltb s 16 k)
 
+stated-mask : (b : List ℕ) (q s : ℕ) → q < 32 → s < 16 → targetMask (ruleAt b .targets) q s ≡ wordAt b (10 + 4 * (q * 16 + s))
+stated-mask b q s l k = rw (lt-ltb s 16 k) (cell-of 512 (λ cell. wordAt b (10 + 4 * cell)) (q * 16 + s) 0 (omega (arith, l, k)))
+
 pub claims : Claims
-claims = record { packed-round-trip = round-trip; packed-size = size; packed-bytes = bytes; packed-mask = packed-mask; stated-fits = stated-fits }
+claims = record {
+  packed-round-trip = round-trip;
+  packed-size = size;
+  packed-bytes = bytes;
+  packed-head = λ r fits. (refl, refl, initials-are r fits, finals-are r fits);
+  packed-mask = packed-mask;
+  stated-head = λ b. (refl, refl, refl, refl);
+  stated-mask = stated-mask;
+  stated-fits = stated-fits;
+}

@@ -9,7 +9,7 @@ use lib.ListN.{length, getD}
 use Rattle.limits.specs.Limits.{mostStates, mostSymbols, targetCells}
 use Rattle.automaton.specs.declared.Rule.{Rule}
 use Rattle.automaton.specs.Rules.{targetMask}
-use Rattle.ruleformat.specs.Format.{wordAt}
+use Rattle.ruleformat.specs.Format.{byteAt, wordAt}
 use Rattle.ruleformat.specs.Writing.{Bytes}
 use Rattle.packed.specs.Packed.{packedSize, ruleAt, packedOf}
 
@@ -25,8 +25,16 @@ pub record Claims : Type 0 where
   pub packed-round-trip : (r : Rule) → Fits-rule r → ruleAt (packedOf r) ≡ r
   pub packed-size : (r : Rule) → length (packedOf r) ≡ packedSize
   pub packed-bytes : (r : Rule) → Fits-rule r → Bytes (packedOf r)
+  -- n is byte 0, k byte 1; the mask of initial states begins at byte 2, that of final ones at 6
+  pub packed-head : (r : Rule) → Fits-rule r
+      → (byteAt (packedOf r) 0 ≡ r .n) × (byteAt (packedOf r) 1 ≡ r .k) × (wordAt (packedOf r) 2 ≡ r .initials) × (wordAt (packedOf r) 6 ≡ r .finals)
   -- the mask of state q and symbol s stands at index q × 16 + s
   pub packed-mask : (r : Rule) → Fits-rule r → (q s : ℕ) → q < mostStates → s < mostSymbols
       → wordAt (packedOf r) (10 + 4 * (q * 16 + s)) ≡ targetMask (r .targets) q s
+  -- any bytes state the numbers that stand there, and the masks
+  pub stated-head : (b : List ℕ)
+      → (ruleAt b .n ≡ byteAt b 0) × (ruleAt b .k ≡ byteAt b 1) × (ruleAt b .initials ≡ wordAt b 2) × (ruleAt b .finals ≡ wordAt b 6)
+  pub stated-mask : (b : List ℕ) (q s : ℕ) → q < mostStates → s < mostSymbols
+      → targetMask (ruleAt b .targets) q s ≡ wordAt b (10 + 4 * (q * 16 + s))
   -- bytes state a rule whose numbers the type holds
   pub stated-fits : (b : List ℕ) → Bytes b → Fits-rule (ruleAt b)

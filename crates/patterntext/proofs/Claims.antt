@@ -11,6 +11,7 @@ use Rattle.patterntext.specs.Answers.{answerRoom, answerText}
 use Rattle.patterntext.specs.Lines.{lineBegin, lineWith, keptIn, feedBytes}
 use Rattle.patterntext.specs.Claims.{Claims}
 use Rattle.patterntext.proofs.Answers.{text-fits}
+use Rattle.patterntext.proofs.Examples.{worked}
 use Rattle.patterntext.proofs.Feeding.{fed-byte, fed-full, fed-line, fed-none}
 use Rattle.patterntext.proofs.Right.{written}
 
@@ -35,4 +36,4 @@ within room l (x ∷ w) =
     (λ e. rw (fed-byte room l w x (eqb-false x 10 e)) (omega (arith, within room (lineWith l x) w)))
 
 pub claims : Claims
-claims = record { fits = text-fits; forward = forward; within = within; written = written }
+claims = record { worked = worked; fits = text-fits; forward = forward; within = within; written = written }

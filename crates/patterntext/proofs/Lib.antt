@@ -2,5 +2,6 @@
 pub mod Answers
 pub mod Feeding
 pub mod Right
+pub mod Examples
 pub mod Claims
 pub mod Rounds

@@ -13,6 +13,7 @@ use Rattle.lines.specs.Splitting.{linesOf}
 use Rattle.patterntext.specs.declared.Line.{Line}
 use Rattle.patterntext.specs.Answers.{answerRoom, answerText, answersText}
 use Rattle.patterntext.specs.Lines.{lineBegin, feedBytes, finishText}
+use Rattle.patterntext.specs.Worked.{twoLines, twoAnswers}
 
 pub data Rounds (room : ℕ) : Line → List ℕ → Line → List ℕ → Type 0 where
   over : {l : Line} → Rounds room l [] l []
@@ -26,6 +27,7 @@ pub data Blocks (room : ℕ) : Line → List (List ℕ) → Line → List ℕ �
       → Rounds room l block l′ text → Blocks room l′ blocks l″ more → Blocks room l (block ∷ blocks) l″ (text ++ more)
 
 pub record Claims : Type 0 where
+  pub worked : answersText (linesOf twoLines) ≡ twoAnswers
   -- an answer fits into its room
   pub fits : (b : List ℕ) → length (answerText b) ≤ answerRoom
   -- a round takes some of a block, if there is room for an answer, and no more than there is

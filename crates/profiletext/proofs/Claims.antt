@@ -6,6 +6,7 @@ use Rattle.profile.specs.declared.Profile.{Profile}
 use Rattle.profile.specs.Profiles.{Reply, accepted, refused}
 use Rattle.profiletext.specs.ProfileText.{textBy, mostBytes}
 use Rattle.profiletext.specs.Claims.{Claims}
+use Rattle.profiletext.proofs.Examples.{worked}
 use Rattle.profiletext.proofs.Lengths.{profile-most}
 use mathlib.Core.Bool.{Bool, true, false, cond}
 use mathlib.Core.List.{[], _∷_, _++_}
@@ -31,4 +32,4 @@ text-most (accepted count) p = profile-most p
 text-most (refused number) p = omega (arith, digits-most 20 number, length-append (decimal number) (lineFeed ∷ []))
 
 pub claims : Claims
-claims = record { fits = λ f. text-most (profileIn f .reply) (profileIn f .profile) }
+claims = record { worked = worked; fits = λ f. text-most (profileIn f .reply) (profileIn f .profile) }

@@ -1,2 +1,3 @@
 pub mod ProfileText
+pub mod Worked
 pub mod Claims

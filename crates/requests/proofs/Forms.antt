@@ -19,7 +19,8 @@
 --   formFor f, textFor f          of a rule file, and as `ruleform` prints it   formfile/specs/Files, formtext/specs/FormText
 --   lineIn w, backText b          a line of `formtable`, and the answer    formline/specs/Lines, tabletext/specs/Answers
 --   heldOf; Fits f, lineOf f      what is read of it; the line of a form   formline/specs/Lines, Claims
---   WorkedLine                    a line by hand                           formline/specs/Worked
+--   WorkedLine, formA             a line by hand, and its form             formline/specs/Worked
+--   linesA; tableA                texts by hand, in bytes                  formtext/specs/Worked, tabletext/specs/Worked
 --   answersAfter, answersTo       the answers to a part, and to lines      formstream/specs/Texts
 --   Blocks; finishText            what is written for blocks, and at the end  formstream/specs/Claims, Feeding
 --
@@ -28,13 +29,14 @@
 -- All that they rest on stands in these files of specs/ (tests/believed):
 --   base Conditions, Lists, Options, Totals; limits Limits; flags Flags; text Numerals, Writing;
 --   answers Answers; masks Masks; automaton Rules, Successor; rulecheck Checking; ruleformat
---   Format, Reader, Refusals; numbering Numbering; subsets Sets, Singles; delegates Alike,
---   Claims, Classes; build Building; marks Marks; walks Steps; chunks Chunks, Walks; board
+--   Format, Reader, Refusals, Worked; numbering Numbering; subsets Sets, Singles; delegates
+--   Alike, Claims, Classes; build Building; marks Marks; walks Steps; chunks Chunks, Walks; board
 --   Boards; joins Joining; calls Calls, Replies, Steps; executions Executions; histories Claims,
 --   History; fields Bytes, Claims, Numbers; lines Splitting; hexfields Reading; ruletext
 --   RuleText; forms Back, Claims, Form; formmaker Making; formtrip Claims; formfile Files;
---   formtext FormText; wordfields Claims, Words; formline Claims, Lines, Worked; tabletext
---   Answers; formstream Claims, Feeding, Texts; c_form Claims, Numbers; requests FormFunctions.
+--   formtext FormText, Worked; wordfields Claims, Words; formline Claims, Lines, Worked;
+--   tabletext Answers, Worked; formstream Claims, Feeding, Texts; c_form Claims, Numbers;
+--   requests FormFunctions.
 use mathlib.Core.Path.{_≡_, ap, _∙_, refl}
 use mathlib.Core.Logic.{_↔_, _⊎_, ⊎-elim}
 use mathlib.Core.Bool.{cond}
@@ -44,10 +46,11 @@ use Prim.Native.Nat.{ℕ, _+_, _≤_, _<_}
 use lib.ListN.{length, getD, replicate}
 use Rattle.limits.specs.Limits.{mostSymbols, mostSets, emptySet, tableCells}
 use Rattle.masks.specs.Masks.{_∈_, has}
-use Rattle.formline.specs.Worked.{WorkedLine}
+use Rattle.formline.specs.Worked.{WorkedLine, formA}
 use Rattle.formline.specs.Claims.{Fits, lineOf}
 use Rattle.automaton.specs.declared.Rule.{Rule}
 use Rattle.ruleformat.specs.Reader.{ruleOf}
+use Rattle.ruleformat.specs.Worked.{fileA}
 use Rattle.build.specs.Building.{builtOf}
 use Rattle.calls.specs.declared.Judge.{Judge}
 use Rattle.calls.specs.Calls.{Call, installs, installNumber, loadNumber}
@@ -65,13 +68,16 @@ use Rattle.formtrip.specs.Claims.{tableIn}
 use Rattle.formtrip.proofs.Claims as formtrip
 use Rattle.formfile.specs.Files.{formFor}
 use Rattle.formfile.proofs.Claims as formfile
-use Rattle.formtext.specs.FormText.{firstCell}
+use Rattle.formtext.specs.FormText.{firstCell, textFor}
+use Rattle.formtext.specs.Worked.{linesA}
 use Rattle.formtext.proofs.Claims as formtext
 use Rattle.answers.specs.Answers.{refusedText, malformedText}
 use Rattle.lines.specs.Splitting.{linesOf}
 use Rattle.formline.specs.Lines.{failureIn, lineIn, longestLine, malformed, tooGreat, heldOf}
 use Rattle.formline.proofs.Claims as formline
 use Rattle.tabletext.specs.Answers.{backText, answerText}
+use Rattle.tabletext.specs.Worked.{tableA}
+use Rattle.tabletext.proofs.Claims as tabletext
 use Rattle.formstream.specs.Texts.{answerTo, answersTo, lineAfter, answersAfter, lastAnswer}
 use Rattle.formstream.specs.Feeding.{finishText}
 use Rattle.formstream.specs.Claims.{State, Blocks}
@@ -281,6 +287,10 @@ line-cells = formtext.claims .first-is
 pub all-cells : (f : Form) → firstCell (f .kept) (f .sets) ≡ keptCount f
 all-cells = formtext.claims .count-is
 
+-- Rule A's form as it is printed, by hand:
+pub printed-A : textFor fileA ≡ linesA
+printed-A = formtext.claims .worked
+
 -- `formtable` answers lines, each of which says a form or nothing: with the table of the form, `refused`
 -- and the number, or `malformed`. No line that says a form is longer than the program keeps of a line.
 pub line-answer : (w : List ℕ) (f : Form) → lineIn w ≡ some f → answerTo w ≡ backText (backOf f)
@@ -293,6 +303,9 @@ malformed-line w e = ap answerText e
 -- form:
 pub line-by-hand : WorkedLine
 line-by-hand = formline.claims .worked-line
+
+pub answer-by-hand : answerText (some formA) ≡ tableA
+answer-by-hand = tabletext.claims .worked
 
 pub line-of : (f : Form) → Fits f → lineIn (lineOf f) ≡ some f
 line-of = formline.claims .line-round-trip

@@ -8,6 +8,7 @@
 --   textOf; foreign w k            a chunk without idle marks; 13          marks/specs/Marks, chunks/specs/Chunks
 --   AsksText, MayMake, madeShown   the function for C, and its numbers     requests/specs/TextFunction, c_texts/specs/Numbers
 --   lineIn w, answerTo w           a line of `maketext`, and its answer    maketextlines/specs/Lines, Answers
+--   SaysText; sixLine, sixAnswer   three numbers; a line by hand           maketextlines/specs/Claims, Worked
 --   Blocks; lastAnswer, answersTo  what is written for blocks              maketextstream/specs/Claims, shortlines/specs/Feeding
 --   linesOf w                      the lines of a text                     lines/specs/Splitting
 --
@@ -16,7 +17,7 @@
 -- All that they rest on stands in these files of specs/ (tests/believed):
 --   base Conditions; limits Limits; flags Flags; text Numerals; answers Answers; automaton
 --   Automaton; marks Marks; chunks Chunks; madetexts Making, Values; fields Claims, Numbers;
---   lines Splitting; shortlines Feeding, Keeping; maketextlines Answers, Claims, Lines;
+--   lines Splitting; shortlines Feeding, Keeping; maketextlines Answers, Claims, Lines, Worked;
 --   maketextstream Claims; c_texts Claims, Numbers; requests TextFunction.
 use mathlib.Core.Path.{_≡_, refl, sym, ap, _∙_}
 use mathlib.Core.Logic.{_↔_, _⊎_}
@@ -43,7 +44,8 @@ use Rattle.c_texts.proofs.ReadBack as c-texts
 use Rattle.shortlines.specs.Feeding.{lastAnswer, answersTo}
 use Rattle.maketextlines.specs.Lines.{longestLine, makes, malformed, lineIn}
 use Rattle.maketextlines.specs.Answers.{answerTo, answerHeld}
-use Rattle.maketextlines.specs.Claims.{lineOf}
+use Rattle.maketextlines.specs.Worked.{sixLine, sixAnswer}
+use Rattle.maketextlines.specs.Claims.{lineOf, SaysText}
 use Rattle.maketextlines.proofs.Claims as maketextlines
 use Rattle.maketextstream.specs.Claims.{Blocks}
 use Rattle.maketextstream.proofs.Claims as maketextstream
@@ -133,6 +135,18 @@ lines = maketextlines.claims .line-round-trip
 
 pub malformed-lines : (lineIn [] ≡ malformed) × ((w : List ℕ) → longestLine < length w → lineIn w ≡ malformed)
 malformed-lines = (maketextlines.claims .empty, maketextlines.claims .too-long)
+
+-- A line makes a text exactly when it is three numbers, with one space between each two and a length
+-- up to a chunk's; any other is malformed.
+pub lines-exactly : (l : List ℕ) (k seed n : ℕ) → (lineIn l ≡ makes k seed n) ↔ SaysText l k seed n
+lines-exactly = maketextlines.claims .line-exactly
+
+pub malformed-exactly : (l : List ℕ) → (lineIn l ≡ malformed) ↔ ((k seed n : ℕ) → SaysText l k seed n → ⊥)
+malformed-exactly = maketextlines.claims .malformed-exactly
+
+-- By hand, in bytes:
+pub line-by-hand : answerTo sixLine ≡ sixAnswer
+line-by-hand = maketextlines.claims .worked
 
 -- A text of lines, cut into blocks anywhere, with any room for a line from the longest one on: what is to
 -- be written, block by block and at the end, are the answers to its lines.

@@ -20,7 +20,10 @@
 --   buildShown, runShown ..           C's numbers                            c_mappings/specs/Numbers
 --   textFor f                         what `profileprint` prints             profiletext/specs/ProfileText
 --   rightText; lastBuilt              the answers to lines; what is built    mapstream/specs/Texts, mapcalls/specs/Histories
+--   LastBuilt                         the last build, by the list cut in two   mapcalls/specs/Last
 --   lineIn, replyText                 lines and replies as text              maplines/specs/Lines, mapreplies/specs/Replies
+--   mappingText f; threeStates        a mapping as text; one by hand         maptext/specs/MappingText, Worked
+--   linesA; callsText, callsAnswers   texts by hand, in bytes                profiletext/specs/Worked, mapstream/specs/Worked
 --   Blocks                            a text that comes in blocks            linetexts/specs/Claims
 --   listText; listOf, skippedLines    lists that a malformed line ends       linetexts/specs/Lists
 --
@@ -29,16 +32,16 @@
 -- All that they rest on stands in these files of specs/ (tests/believed):
 --   base Conditions, Lists, Options, Totals; limits Limits; flags Flags; text Numerals, Writing;
 --   answers Answers; masks Masks; automaton Automaton, Rules, Successor; rulecheck Checking,
---   Worked; ruleformat Format, Reader, Refusals; numbering Arrays, Numbering, Texts; subsets
---   Sets, Singles; compositions Bracketing, Relations; mappings Claims, Mappings, Packing; keys
---   Tables; delegates Alike, Claims, Classes; build Building; marks Marks; walks Steps; chunks
---   Chunks, Taking, Walks; profile Claims, Profiles, Runs, Worked; board Boards; joins Joining;
---   calls Calls, Claims, Replies, Steps; executions Executions; histories Claims, History;
---   fillings Filled; mapverdict Filled; fields Bytes; lines Splitting; ruletext RuleText; maptext
---   MappingText; profilefile Files; mapcalls Calls, Histories; profiletext ProfileText; longlines
---   Holding; linetexts Claims, Feeding, Lists, Parts; mapreplies Replies; maplines Answers,
---   Lines; mapstream Texts; c_mappings Claims, Numbers; demands Functions; requests
---   MappingFunctions.
+--   Worked; ruleformat Format, Reader, Refusals, Worked; numbering Arrays, Numbering, Texts;
+--   subsets Sets, Singles; compositions Bracketing, Relations; mappings Claims, Mappings,
+--   Packing; keys Tables; delegates Alike, Claims, Classes; build Building; marks Marks; walks
+--   Steps; chunks Chunks, Taking, Walks; profile Claims, Profiles, Runs, Worked; board Boards;
+--   joins Joining; calls Calls, Claims, Replies, Steps; executions Executions, Last; histories
+--   Claims, History; fillings Filled; mapverdict Filled; fields Bytes; lines Splitting; ruletext
+--   RuleText; maptext MappingText, Worked; profilefile Files; mapcalls Calls, Histories, Last;
+--   profiletext ProfileText, Worked; longlines Holding; linetexts Claims, Feeding, Lists, Parts;
+--   mapreplies Replies; maplines Answers, Lines; mapstream Texts, Worked; c_mappings Claims,
+--   Numbers; demands Functions; requests MappingFunctions.
 use mathlib.Core.Path.{_≡_, ap, refl}
 use mathlib.Core.Logic.{_↔_, _⊎_}
 use mathlib.Core.Bool.{true, false}
@@ -85,9 +88,14 @@ use Rattle.c_mappings.proofs.bellbadger_profile_build.Reads as build-reads
 use Rattle.c_mappings.proofs.bellbadger_profile_run.Reads as run-reads
 use Rattle.c_mappings.proofs.bellbadger_compose.Reads as compose-reads
 use Rattle.c_mappings.proofs.bellbadger_profile_verdict.Reads as verdict-reads
+use Rattle.maptext.specs.MappingText.{mappingText}
+use Rattle.maptext.specs.Worked.{threeStates, threeText}
+use Rattle.maptext.proofs.RoundTrip as maptext
 use Rattle.profiletext.specs.ProfileText.{textFor, mostBytes}
+use Rattle.profiletext.specs.Worked.{linesA}
 use Rattle.profiletext.proofs.Claims as profiletext
 use Rattle.ruleformat.specs.Reader.{ruleOf}
+use Rattle.ruleformat.specs.Worked.{fileA}
 use Rattle.lines.specs.Splitting.{linesOf}
 use Rattle.longlines.specs.Holding.{lineBegin}
 use Rattle.linetexts.specs.Feeding.{State, stateOf, finishOf}
@@ -96,8 +104,10 @@ use Rattle.linetexts.specs.Claims.{Blocks}
 use Rattle.mapcalls.specs.declared.MapState.{MapState}
 use Rattle.mapcalls.specs.Calls.{Call as MapCall, noneYet}
 use Rattle.mapcalls.specs.Histories.{lastBuilt}
+use Rattle.mapcalls.specs.Last.{LastBuilt}
 use Rattle.mapcalls.proofs.Histories as mapcalls
 use Rattle.mapstream.specs.Texts.{mapRoom, mapLines, rightText}
+use Rattle.mapstream.specs.Worked.{callsText, callsAnswers}
 use Rattle.mapstream.proofs.Claimed as mapstream
 use Rattle.maplines.specs.Lines.{lineIn}
 use Rattle.answers.specs.Answers.{malformedText}
@@ -291,6 +301,13 @@ same-answer = functions.same-answer
 pub printed-fits : (f : List ℕ) → length (textFor f) ≤ mostBytes
 printed-fits = profiletext.claims .fits
 
+-- Rule A's profile as it is printed, and a mapping's digits, by hand:
+pub printed-A : textFor fileA ≡ linesA
+printed-A = profiletext.claims .worked
+
+pub mapping-by-hand : mappingText threeStates ≡ threeText
+mapping-by-hand = maptext.claims .worked
+
 -- ---- LINES
 -- All that `mapjudge` writes, in whatever rounds the blocks of its input are fed, is right line by line. (A
 -- round is what the contract of `gather` promises, and the end what that of `finish` does:
@@ -299,6 +316,11 @@ pub lines-written : {room : ℕ} {s′ : State (Listed MapState)} {blocks : List
     → Blocks mapLines room (stateOf (listOf noneYet false) lineBegin line) blocks s′ text
     → text ++ finishOf mapLines s′ .text ≡ rightText (some []) (linesOf (flatten blocks))
 lines-written = mapstream.claims .written
+
+-- By hand, in bytes: a build of rule A, runs, a composition and the other way about, verdicts, and
+-- a refused build, which keeps the former profile.
+pub lines-by-hand : rightText (some []) (linesOf callsText) ≡ callsAnswers
+lines-by-hand = mapstream.claims .worked-calls
 
 -- After a malformed line no call is made and no verdict given until an empty line: each line is
 -- answered `skipped`, whatever it says. The empty line begins afresh.
@@ -313,3 +335,7 @@ begins-afresh = mapstream.claims .afresh
 -- The profile that is there is that of the last accepted build: all that is said above holds of it.
 pub last-built : (h : List MapCall) (f : List ℕ) → lastBuilt h ≡ some f → Takes (ruleOf f)
 last-built = mapcalls.claims .takes
+
+-- It is that of the last accepted call among builds and forgettings, where this is a build:
+pub last-exactly : (h : List MapCall) → LastBuilt h
+last-exactly = mapcalls.claims .last

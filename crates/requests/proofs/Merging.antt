@@ -17,6 +17,7 @@
 --   MayMerge, MayMergeC         what the functions' contracts allow     requests/specs/MergeFunction
 --   wayOf x, mergeShown         C's numbers                             merging/specs/Merging, c_merge/specs/Numbers
 --   mergedFiles, answersTo      what `rulemerge` answers                mergetext/specs/Answers, mergestream/specs/Texts
+--   WorkedLines                 a line for each way, by hand            mergetext/specs/Worked
 --   verdictIn h, textIn h       what 01 says of a list of calls         histories/specs/History
 --
 -- one and two are any values, in which any numbers may stand. A proved function ends and stays within
@@ -28,8 +29,8 @@
 --   subsets Sets, Singles; delegates Alike, Claims, Classes; marks Marks; chunks Chunks; joins
 --   Joining; calls Calls, Replies; histories History; fields Bytes, Claims; lines Splitting;
 --   hexfields Fields, Reading; products Claims, Interleavings, Products, Words; merging Claims,
---   Languages, Merged, Merging, Worked; mergetext Answers, Lines; mergescan Scanning; mergestream
---   Claims, Feeding, Texts; c_merge Claims, Numbers; requests MergeFunction.
+--   Languages, Merged, Merging, Worked; mergetext Answers, Lines, Worked; mergescan Scanning;
+--   mergestream Claims, Feeding, Texts; c_merge Claims, Numbers; requests MergeFunction.
 use mathlib.Core.Path.{_≡_, sym, ap, _∙_, subst, refl}
 use mathlib.Core.Logic.{_↔_, _⊎_}
 use mathlib.Core.Bool.{Bool, true, false}
@@ -62,11 +63,12 @@ use Rattle.merging.specs.declared.Way.the-variants as way
 use Rattle.merging.specs.declared.MergeResult.{MergeResult}
 use Rattle.merging.specs.Languages.{Merges, MadeBy}
 use Rattle.merging.specs.Merged.{mergedOf, statesOf}
-use Rattle.merging.specs.Merging.{mergeConditions, mergeOutcome, mergeOf, wayOf}
+use Rattle.merging.specs.Merging.{mergeConditions, mergeNumber, mergeOutcome, mergeOf, wayOf}
 use Rattle.merging.specs.Worked.{merges, Answered}
 use Rattle.merging.specs.Claims.{Refused-exactly, MergeLaw}
 use Rattle.merging.proofs.Claims as merging
 use Rattle.mergetext.specs.Answers.{filesNumber, resultFile}
+use Rattle.mergetext.specs.Worked.{WorkedLines}
 use Rattle.mergetext.proofs.Claims as mergetext
 use Rattle.mergescan.specs.declared.Scan.the-variants as scan
 use Rattle.mergestream.specs.Texts.{answersTo}
@@ -232,7 +234,17 @@ module _ (w : Way) (one two : Rule) (e : mergeOf w one two .number ≡ none) (h 
       let v = every-list h .verdict .rejects board full in ((λ n m. v .0 n (judges .1 m)), λ n. v .1 (λ a. n (judges .0 a)))
 
 -- ---- FROM FILES, BY THE PROGRAM
--- The first file is read, then the second, then they are merged. From the bytes of the three files:
+-- The first file is read, then the second, then they are merged.
+pub first-file : (w : Way) (f g : List ℕ) (x : ℕ) → refusal f ≡ some x → filesNumber w f g ≡ some x
+first-file = mergetext.claims .refused-first
+
+pub second-file : (w : Way) (f g : List ℕ) → refusal f ≡ none → (x : ℕ) → refusal g ≡ some x → filesNumber w f g ≡ some x
+second-file = mergetext.claims .refused-second
+
+pub two-rules : (w : Way) (f g : List ℕ) → refusal f ≡ none → refusal g ≡ none → filesNumber w f g ≡ mergeNumber w (ruleOf f) (ruleOf g)
+two-rules = mergetext.claims .as-rules
+
+-- From the bytes of the three files:
 pub file-read : (w : Way) (f g : List ℕ) → filesNumber w f g ≡ none
     → (refusal (resultFile w f g) ≡ none) × (ruleOf (resultFile w f g) ≡ mergedOf w (ruleOf f) (ruleOf g))
 file-read = mergetext.claims .result-read
@@ -240,6 +252,10 @@ file-read = mergetext.claims .result-read
 pub file-language : (way : Way) (f g : List ℕ) → filesNumber way f g ≡ none → (w : List ℕ)
     → Accepts (automatonIn (resultFile way f g)) w ↔ Merges way (automatonIn f) (automatonIn g) w
 file-language = mergetext.claims .language
+
+-- The words of the three ways, in bytes:
+pub lines-by-hand : WorkedLines
+lines-by-hand = mergetext.claims .worked-lines
 
 -- A text of lines, cut into blocks anywhere: `rulemerge` is to write, block by block and at the end, the
 -- answers to its lines. Its buffers can tell a file that is too long.

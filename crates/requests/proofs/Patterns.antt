@@ -16,6 +16,7 @@
 --   writeOf r                   what writing a rule answers             rulewriter/specs/Written
 --   MayPattern, patternShown    the function for C, and its numbers     requests/specs/PatternFunction, c_patterns/specs/Numbers
 --   answersText, Blocks         what `patternrule` writes               patterntext/specs/Answers, Claims
+--   twoLines, twoAnswers        lines by hand                           patterntext/specs/Worked
 --   verdictIn h, textIn h       what 01 says of a list of calls         histories/specs/History
 --
 -- b is any list of bytes, p any pattern. A proved function ends and stays within its bounds. Assumes
@@ -27,7 +28,7 @@
 --   Singles; delegates Alike, Claims, Classes; marks Marks; chunks Chunks; joins Joining; calls
 --   Calls, Replies; histories History; patterns Claims, Grammar, Limits, Marked, Patterns,
 --   Positions; patternscan Scanning, Signs; patternreader Reader, Rules; patternfile Answers,
---   Claims, Worked; fields Claims; lines Splitting; patterntext Answers, Claims, Lines;
+--   Claims, Worked; fields Claims; lines Splitting; patterntext Answers, Claims, Lines, Worked;
 --   c_patterns Claims, Numbers; requests PatternFunction.
 use mathlib.Core.Path.{_≡_, refl, sym, ap, _∙_, subst}
 use mathlib.Core.Logic.{_↔_, _⊎_}
@@ -74,6 +75,7 @@ use Rattle.patternfile.proofs.Claims as patternfile
 use Rattle.patterntext.specs.declared.Line.{Line}
 use Rattle.patterntext.specs.Answers.{answersText}
 use Rattle.patterntext.specs.Lines.{lineBegin, finishText}
+use Rattle.patterntext.specs.Worked.{twoLines, twoAnswers}
 use Rattle.patterntext.specs.Claims.{Blocks}
 use Rattle.patterntext.proofs.Claims as patterntext
 use Rattle.c_patterns.specs.declared.PatternNumbers.{PatternNumbers}
@@ -225,3 +227,7 @@ language-from-C p b r s m a w =
 pub lines : {room : ℕ} {blocks : List (List ℕ)} {l : Line} {text : List ℕ}
     → Blocks room lineBegin blocks l text → text ++ finishText l ≡ answersText (linesOf (flatten blocks))
 lines = patterntext.claims .written
+
+-- By hand, in bytes: the empty pattern, and a star after nothing.
+pub lines-by-hand : answersText (linesOf twoLines) ≡ twoAnswers
+lines-by-hand = patterntext.claims .worked

@@ -16,6 +16,7 @@
 --   MaySample, MaySampleC        what the functions' contracts allow     requests/specs/SampleFunctions
 --   wishOf x, sampleShown        C's numbers                             c_samples/specs/Numbers
 --   textFor f                    what `rulesample` prints                sampletext/specs/SampleText
+--   WorkedSamples                printed lines by hand                   sampletext/specs/Worked
 --   verdictIn h, textIn h        what 01 says of a list of calls         histories/specs/History
 --
 -- r is any value, in which any numbers may stand. What sampleOf does need not be believed: `due` says
@@ -24,11 +25,11 @@
 -- All that they rest on stands in these files of specs/ (tests/believed):
 --   base Conditions, Lists, Options, Totals; limits Limits; text Numerals; answers Answers; masks
 --   Masks; automaton Automaton, Rules, Successor; rulecheck Checking, Worked; ruleformat Format,
---   Reader, Refusals; numbering Numbering, Texts; subsets Sets, Singles; compositions Relations;
---   mappings Mappings, Packing; keys Kinds, Tables; searches Search, Texts; samples Claims,
---   Samples, Search, Values, Worked; delegates Alike, Claims, Classes; marks Marks; chunks
---   Chunks; joins Joining; calls Calls, Replies; histories History; fields Claims; sampletext
---   SampleText; c_samples Claims, Numbers; requests SampleFunctions.
+--   Reader, Refusals, Worked; numbering Numbering, Texts; subsets Sets, Singles; compositions
+--   Relations; mappings Mappings, Packing; keys Kinds, Tables; searches Search, Texts; samples
+--   Claims, Samples, Search, Values, Worked; delegates Alike, Claims, Classes; marks Marks;
+--   chunks Chunks; joins Joining; calls Calls, Replies; histories History; fields Claims;
+--   sampletext SampleText, Worked; c_samples Claims, Numbers; requests SampleFunctions.
 use mathlib.Core.Path.{_≡_, refl, sym, ap, _∙_, subst}
 use mathlib.Core.Logic.{_↔_, _⊎_, inl, inr, ⊎-elim}
 use mathlib.Core.Bool.{true}
@@ -61,6 +62,7 @@ use Rattle.samples.specs.Worked as worked
 use Rattle.samples.specs.Claims.{Refused-exactly}
 use Rattle.samples.proofs.Claims as samples
 use Rattle.sampletext.specs.SampleText.{textFor, mostBytes}
+use Rattle.sampletext.specs.Worked.{WorkedSamples}
 use Rattle.sampletext.proofs.Claims as sampletext
 use Rattle.c_samples.specs.declared.SampleNumbers.{SampleNumbers}
 use Rattle.c_samples.specs.Numbers.{wishOf, sampleShown, sampleReadBack}
@@ -193,3 +195,7 @@ judged-no r w e h rule board full is =
 -- `rulesample` prints the text for its file (`print_samples` promises it), for which its buffer has room:
 pub printed-fits : (f : List ℕ) → length (textFor f) ≤ mostBytes
 printed-fits = sampletext.claims .fits
+
+-- In bytes, for rule A and for a rule of every text:
+pub printed-by-hand : WorkedSamples
+printed-by-hand = sampletext.claims .worked

@@ -27,6 +27,7 @@
 --   MayGather, MayFinish          what their contracts allow               specs/TrayTexts
 --   SaysLine; SaysNumber, ..      which lines and fields say what          traytext/, fields/specs/Claims
 --   sampleText, cutText ..        texts and their answers, byte by byte    traystream/specs/Worked
+--   answers                       each kind of answer, byte by byte        traytext/specs/Worked
 --   Accepts; automatonOf r        automata and their runs (000)            automaton/specs/Automaton, Rules
 --
 -- h is any list of calls, the last first. A proved function ends and stays within its bounds. Assumes
@@ -40,8 +41,8 @@
 --   Method; fields Bytes, Claims, Numbers; lines Splitting; longlines Holding; linetexts Claims,
 --   Feeding, Functions, Lists, Parts; trays Boards, Calls, Claims, Replies, Rows, Sizes, Steps,
 --   Worked; trayhistories Claims, Conditions, Empties, Functions, History, Last, Worked; traytext
---   Answers, Claims, Lines; traylines Running; traystream Texts, Worked; c_trays Claims, Numbers;
---   demands TextFunctions; requests TrayFunctions, TrayTexts.
+--   Answers, Claims, Lines, Worked; traylines Running; traystream Texts, Worked; c_trays Claims,
+--   Numbers; demands TextFunctions; requests TrayFunctions, TrayTexts.
 use mathlib.Core.Path.{_≡_, refl}
 use mathlib.Core.Logic.{_↔_, _⊎_}
 use mathlib.Core.Bool.{false}
@@ -85,12 +86,16 @@ use Rattle.trayhistories.proofs.Empties as tray-empties
 use Rattle.trayhistories.proofs.NoOther as tray-numbers
 use Rattle.trayhistories.proofs.Refinement as tray-functions
 use Rattle.trayhistories.proofs.Examples as tray-examples
-use Rattle.traystream.specs.Texts.{trayRoom, trayLines, rightText}
+use Rattle.ruleformat.specs.Refusals.{refusal}
+use Rattle.traystream.specs.Texts.{trayRoom, trayLines, historyAfter, rightResponse, rightText}
 use Rattle.traystream.specs.Worked.{cutText, cutAnswers, sampleText, sampleAnswers}
 use Rattle.traystream.proofs.Claimed as traystream
-use Rattle.traytext.specs.Lines.{Meaning, malformed, lineIn}
+use Rattle.traytext.specs.Lines.{Meaning, rowFile, columnFile, malformed, lineIn}
+use Rattle.traytext.specs.Answers.{replied}
 use Rattle.traytext.specs.Claims.{SaysLine}
+use Rattle.traytext.specs.Worked.{answers, Written}
 use Rattle.traytext.proofs.Exact as traytext
+use Rattle.traytext.proofs.Examples as traytext-examples
 use Rattle.answers.specs.Answers.{malformedText}
 use Rattle.c_trays.specs.declared.InstallNumbers.{InstallNumbers}
 use Rattle.c_trays.specs.declared.CallNumbers.{CallNumbers}
@@ -384,3 +389,19 @@ sample-text = tray-sample.sample
 
 pub cut-text : rightText (some []) (linesOf cutText) ≡ cutAnswers
 cut-text = traystream.claims .worked
+
+-- An empty line begins afresh in a list that goes on too. A file that reading refuses (R-3) is
+-- answered with its number, is no call and changes nothing. And each kind of answer, byte by byte.
+pub empty-line : (h : List Call) (ls : List (List ℕ)) → rightText (some h) ([] ∷ ls) ≡ (10 ∷ []) ++ rightText (some []) ls
+empty-line = traystream.claims .fresh-line
+
+pub row-file-refused : (h : List Call) (f : List ℕ) (x : ℕ) → refusal f ≡ some x
+    → (historyAfter h (rowFile f) ≡ some h) × (rightResponse h (rowFile f) ≡ replied (refused x))
+row-file-refused = traystream.claims .row-refused
+
+pub column-file-refused : (h : List Call) (f : List ℕ) (x : ℕ) → refusal f ≡ some x
+    → (historyAfter h (columnFile f) ≡ some h) × (rightResponse h (columnFile f) ≡ replied (refused x))
+column-file-refused = traystream.claims .column-refused
+
+pub answers-written : Written answers
+answers-written = traytext-examples.written

@@ -19,6 +19,7 @@ use Rattle.samples.proofs.Claims as samples
 use Rattle.sampletext.specs.SampleText.{acceptsWord, rejectsWord, lineFor, linesBy, textBy}
 use Rattle.sampletext.specs.Claims.{Claims}
 use Rattle.sampletext.proofs.Lines.{field-most}
+use Rattle.sampletext.proofs.Examples.{worked}
 
 digits-most : (places n : ℕ) → length (decimalBelow places n) ≤ places
 unfolding decimalBelow
@@ -55,4 +56,4 @@ text-most none f =
 text-most (some x) f = omega (arith, refused-most x)
 
 pub claims : Claims
-claims = record { fits = λ f. text-most (refusal f) f }
+claims = record { worked = worked; fits = λ f. text-most (refusal f) f }

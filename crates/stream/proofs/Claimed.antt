@@ -37,6 +37,10 @@ worked : rightText (some []) (linesOf cutText) ≡ cutAnswers
 unfolding listText linesFrom callIn begins boardIn placesIn decimalBelow
 worked = refl
 
+fresh-line : (h : List Call) (ls : List (List ℕ)) → rightText (some h) ([] ∷ ls) ≡ (10 ∷ []) ++ rightText (some []) ls
+unfolding listText
+fresh-line h ls = refl
+
 -- what a malformed line is answered
 said : (h : List Call) (l : List ℕ) → lineIn l ≡ malformed → rightAnswer h l ≡ responseText unread
 said h l e = ap (λ (m : Meaning). responseText (rightResponse h m)) e
@@ -49,6 +53,7 @@ claims = record {
   afresh = λ h l ls more e n.
       ends [] rightAnswer callsAfter .afresh h l ls more (ap (historyAfter h) e) n
       ∙ ap (λ (t : List ℕ). t ++ (skippedLines ls ++ ((10 ∷ []) ++ rightText (some []) more))) (said h l e);
+  fresh-line = fresh-line;
   worked = worked;
   answered = λ blocks line large.
       ap (λ (o : Outcome (Listed Judge)). o .text) (linetexts.claims callLines told .whole blocks (listOf fresh false) line large)

@@ -32,6 +32,8 @@ pub record Claims : Type 0 where
       → rightText (some h) (l ∷ ls) ≡ responseText unread ++ skippedLines ls
   pub afresh : (h : List Call) (l : List ℕ) (ls more : List (List ℕ)) → lineIn l ≡ malformed → NoneEmpty ls
       → rightText (some h) ((l ∷ ls) ++ ([] ∷ more)) ≡ responseText unread ++ (skippedLines ls ++ ((10 ∷ []) ++ rightText (some []) more))
+  -- so does an empty line in a list that goes on, after any calls h
+  pub fresh-line : (h : List Call) (ls : List (List ℕ)) → rightText (some h) ([] ∷ ls) ≡ (10 ∷ []) ++ rightText (some []) ls
   pub worked : rightText (some []) (linesOf cutText) ≡ cutAnswers
   -- what is answered to the blocks, fed one after the other, and to the end is right for the lines of
   -- the blocks joined

@@ -13,6 +13,7 @@ use Rattle.forms.specs.Back.{backNumber, backBy, tableOf, backOf}
 use Rattle.forms.proofs.Accepting.{parts, no-other}
 use Rattle.tabletext.specs.Answers.{cellsText, backText, answerText, mostAnswer}
 use Rattle.tabletext.specs.Claims.{Claims}
+use Rattle.tabletext.proofs.Examples.{worked}
 use Rattle.tabletext.proofs.Lengths.{cells-most, few-cells}
 
 back-most : (f : Form) (o : Option ℕ) → backNumber f ≡ o → length (backText (backBy o (tableOf f))) ≤ mostAnswer
@@ -33,4 +34,4 @@ fits none = omega arith
 fits (some f) = back-most f (backNumber f) refl
 
 pub claims : Claims
-claims = record { fits = fits }
+claims = record { worked = worked; fits = fits }

@@ -1,3 +1,4 @@
 pub mod Lengths
 pub mod Whole
+pub mod Examples
 pub mod Claims

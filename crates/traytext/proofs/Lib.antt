@@ -2,3 +2,4 @@
 pub mod Readings
 pub mod Written
 pub mod Exact
+pub mod Examples

@@ -2,3 +2,4 @@
 pub mod Lines
 pub mod Answers
 pub mod Claims
+pub mod Worked
