@@ -9,3 +9,4 @@ pub mod Replies
 pub mod Fixed
 pub mod Joining
 pub mod EveryList
+pub mod Verdict

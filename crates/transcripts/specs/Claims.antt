@@ -2,8 +2,10 @@
 -- the judge that is left. proofs/EveryList.antt proves it.
 --
 --   leastAfter last   one more than the last revision, 0 where there is none: so the board keeps it
+--   SameBuilt k b c   the built rules b and c have the same sets, table, delegates and M
 --   Holds s j         the judge j holds what stands: the rule, built as document 004 has it, and at
 --                     each place the end sets, the count, the length and the revision
+--   VerdictIs s a     what the reply a to a verdict says, where s stands
 --   OneAnswer         the words fix every reply
 use mathlib.Core.Path.{_≡_}
 use mathlib.Core.Logic.{_↔_}
@@ -15,15 +17,23 @@ use lib.ListN.{length, getD}
 use Rattle.limits.specs.Limits.{mostStates, mostPlaces}
 use Rattle.masks.specs.Masks.{_∈_}
 use Rattle.automaton.specs.Automaton.{Accepts}
+use Rattle.build.specs.declared.Built.{Built}
 use Rattle.board.specs.Boards.{held, isEmpty, lastAt}
 use Rattle.calls.specs.declared.Judge.{Judge}
-use Rattle.calls.specs.Replies.{Reply}
+use Rattle.calls.specs.Replies.{Reply, waiting, yesWith, noWith, refusedWith}
 use Rattle.calls.specs.Calls.{Call}
-use Rattle.histories.specs.Method.{Method}
-use Rattle.histories.specs.Claims.{leastAfter}
+use Rattle.histories.specs.Method.{setAt, nextAt, Method}
+use Rattle.histories.specs.Claims.{leastAfter, Says}
 use Rattle.transcripts.specs.Standing.{Source, automatonBy, Standing, theAutomaton, textAt, textIn, empties}
 use Rattle.transcripts.specs.Runs.{InEndSet, CountAt, SumIs, Joined}
 use Rattle.transcripts.specs.Answers.{Right}
+
+pub record SameBuilt (k : ℕ) (b c : Built) : Type 0 where
+  pub sets : b .setcount ≡ c .setcount
+  pub set : (i : ℕ) → i < b .setcount → setAt b i ≡ setAt c i
+  pub cell : (i s : ℕ) → i < b .setcount → s < k → nextAt b i s ≡ nextAt c i s
+  pub delegates : b .delegates ≡ c .delegates
+  pub starts : b .startcount ≡ c .startcount
 
 pub record Holds (s : Standing) (j : Judge) : Type 0 where
   -- demand 2: its sets, next-set table, delegates and M are those of the automaton
@@ -42,6 +52,17 @@ pub record Holds (s : Standing) (j : Judge) : Type 0 where
   -- the sum is at most merged starts times bytes, as at each place
   pub most : (c : ℕ) → 0 < s .places → SumIs s c → c ≤ j .built .startcount * length (textIn s)
   pub place-most : (p c : ℕ) → p < s .places → CountAt s p c → c ≤ j .built .startcount * length (textAt s p)
+
+pub record VerdictIs (s : Standing) (a : Reply) : Type 0 where
+  -- yes exactly when a board is there, no place is empty and the rule has an accepting run over the
+  -- standing chunks without their idle marks, joined by place; no exactly when it has none; both with
+  -- the sum of the counts
+  pub says-yes : (c : ℕ) → Says a (yesWith c) ↔ ((0 < s .places) × (empties s ≡ 0) × SumIs s c × Accepts (theAutomaton s) (textIn s))
+  pub says-no : (c : ℕ) → Says a (noWith c) ↔ ((0 < s .places) × (empties s ≡ 0) × SumIs s c × (Accepts (theAutomaton s) (textIn s) → ⊥))
+  -- waiting exactly when a place is empty, with the number of these
+  pub says-waiting : (e : ℕ) → Says a (waiting e) ↔ ((0 < s .places) × (0 < e) × (e ≡ empties s))
+  -- refused, and then with 21, exactly when no board is there
+  pub says-refused : (x : ℕ) → Says a (refusedWith x) ↔ ((x ≡ 21) × (s .places ≡ 0))
 
 abbrev pub OneAnswer : Type 0
 OneAnswer = (h : List Call) (rs qs : List Reply) → Right h rs → Right h qs → rs ≡ qs
