@@ -70,7 +70,7 @@ use Rattle.c_compare.specs.Numbers.{comparisonShown, comparisonReadBack}
 use Rattle.c_compare.specs.Claims as c-claims
 use Rattle.c_compare.proofs.ReadBack as c-compare
 use Rattle.requests.specs.CompareFunction.{AsksCompare, MayCompare, AsksCompareC, MayCompareC}
-use Rattle.requests.proofs.Installing as installing
+use Rattle.demands.proofs.Installing as installing
 
 -- The limits that are named below:
 pub limits : (longestText ≡ 511) × (mostSets ≡ 512)

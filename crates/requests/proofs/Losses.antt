@@ -58,7 +58,7 @@ use Rattle.histories.specs.Claims.{judgeAfter}
 use Rattle.histories.specs.Functions.{judgeLibrary}
 use Rattle.histories.proofs.Refinement.{lent}
 use Rattle.demands.specs.Functions.{cLibrary}
-use Rattle.demands.proofs.Demands.{every-execution-from-C}
+use Rattle.demands.proofs.Histories.{every-execution-from-C}
 use Rattle.diagnoses.specs.declared.Diagnosis.{Diagnosis}
 use Rattle.diagnoses.specs.Diagnosing.{Finding, refusedAs, lostAt, openWith, diagnosisMeans, diagnosisOf}
 use Rattle.locating.specs.declared.Located.{Located}

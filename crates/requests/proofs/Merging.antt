@@ -81,7 +81,7 @@ use Rattle.c_merge.specs.Claims as c-claims
 use Rattle.c_merge.proofs.ReadBack as c-merge
 use Rattle.c_merge.proofs.Asks as c-asks
 use Rattle.requests.specs.MergeFunction.{AsksMerge, MayMerge, AsksMergeC, MayMergeC}
-use Rattle.requests.proofs.Installing as installing
+use Rattle.demands.proofs.Installing as installing
 
 -- The limits that are named below:
 pub limits : (mostStates ≡ 32) × (targetCells ≡ 512) × (longestFile ≡ 32906)

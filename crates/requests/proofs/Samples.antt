@@ -69,7 +69,7 @@ use Rattle.c_samples.specs.Numbers.{wishOf, sampleShown, sampleReadBack}
 use Rattle.c_samples.specs.Claims as c-claims
 use Rattle.c_samples.proofs.ReadBack as c-samples
 use Rattle.requests.specs.SampleFunctions.{AsksSample, MaySample, AsksSampleC, MaySampleC}
-use Rattle.requests.proofs.Installing as installing
+use Rattle.demands.proofs.Installing as installing
 
 -- The limits that are named below:
 pub limits : (longestSample ≡ 511) × (mostSets ≡ 512)

@@ -17,7 +17,7 @@ use Rattle.ruleformat.specs.Reader.{ruleOf}
 use Rattle.calls.specs.Replies.{Reply, accepted, delivered, refusalOf}
 use Rattle.calls.specs.Calls.{Call, installs, loads, opens, delivers, withdraws, asksVerdict, installNumber, loadNumber}
 use Rattle.histories.specs.History.{ruleThere, placesIn, lastRevision, standing, openNumber, deliverNumber, withdrawNumber, lookedOf, ruleIn, replyBy, withSets, answerOf, answersTo}
-use Rattle.transcripts.specs.Standing.{Source, value, file, Standing, placed, afterCall, standingAfter}
+use Rattle.transcripts.specs.Standing.{Source, value, file, Standing, afterCall, standingAfter}
 
 abbrev pub valueOf : Source → Rule
 valueOf (value r) = r

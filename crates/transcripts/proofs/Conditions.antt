@@ -5,33 +5,32 @@
 --   refused-law        it is some x exactly when x's condition is the first that holds
 --   accepted-law       it is none exactly when no condition holds
 --   refusal-law        the answer refuses with x exactly then
-use mathlib.Core.Path.{_≡_, refl, sym, ap, _∙_, subst}
+use mathlib.Core.Path.{_≡_, refl, sym, ap}
 use mathlib.Core.Logic.{_↔_, _⊎_, inl, inr, ⊎-elim, Iff·trans}
 use mathlib.Core.Bool.{Bool, true, false, cond}
-use mathlib.Core.List.{List, [], _∷_}
+use mathlib.Core.List.{List}
 use mathlib.Core.Option.{Option, none, some}
 use Prim.Native.Nat.{ℕ}
 use lib.Dec.{eqb}
-use Rattle.base.specs.Conditions.{Condition, on, firstOf, NoneHolds, FirstHolds}
+use Rattle.base.specs.Conditions.{Condition, firstOf, NoneHolds, FirstHolds}
 use Rattle.base.specs.Options.{isNone}
 use Rattle.base.proofs.Conditions.{none-law, first-law}
 use Rattle.base.proofs.Tests.{zero-one}
-use Rattle.automaton.specs.declared.Rule.{Rule}
 use Rattle.automaton.specs.Rules.{automatonOf}
-use Rattle.rulecheck.specs.Checking.{ruleConditions, ruleNumber}
+use Rattle.rulecheck.specs.Checking.{ruleConditions}
 use Rattle.rulecheck.proofs.Laws as rulecheck
 use Rattle.ruleformat.specs.Refusals.{fileConditions, refusal}
 use Rattle.ruleformat.specs.Reader.{ruleOf}
 use Rattle.ruleformat.specs.Language.{automatonIn}
-use Rattle.calls.specs.Replies.{Judgement, refusedWith, waiting, yesWith, noWith, Reported, Reply, accepted, installed, delivered, judged, refused}
-use Rattle.calls.specs.Calls.{Call, installs, loads, opens, delivers, withdraws, asksVerdict, installNumber, loadNumber, alone, verdictBy, reportBy}
+use Rattle.calls.specs.Replies.{refusedWith, waiting, yesWith, noWith, Reported, Reply, accepted, delivered, judged, refused}
+use Rattle.calls.specs.Calls.{Call, installs, loads, opens, delivers, withdraws, asksVerdict, installNumber, loadNumber, alone, reportBy}
 use Rattle.calls.proofs.Conditions.{orElse, over, install-number, load-number}
-use Rattle.histories.specs.History.{ruleThere, ruleFrom, ruleIn, placesIn, lastRevision, standing, openNumber, deliverNumber, withdrawNumber, lookedOf, replyBy, withSets, answerOf, emptiesIn, summedIn, yesIn, bytesIn}
+use Rattle.histories.specs.History.{ruleThere, ruleFrom, ruleIn, placesIn, openNumber, deliverNumber, withdrawNumber, lookedOf, replyBy, withSets, answerOf, emptiesIn, summedIn, yesIn, bytesIn}
 use Rattle.histories.specs.Method.{TooMany}
 use Rattle.histories.proofs.Method.{nine-law, nine-bytes}
 use Rattle.histories.proofs.Conditions.{not-true, both, number-is, by-none}
 use Rattle.transcripts.specs.Standing.{Source, value, file, Standing, automatonFrom}
-use Rattle.transcripts.specs.Answers.{conditionsOf, Many, RefusedWith, AcceptedBy, refusalBy}
+use Rattle.transcripts.specs.Answers.{conditionsOf, RefusedWith, AcceptedBy, refusalBy}
 use Rattle.transcripts.proofs.Agree.{ruleFor, Agree}
 
 abbrev pub numberOf : List Call → Call → Option ℕ

@@ -1,23 +1,21 @@
 -- EVERY LIST OF CALLS, in document 01's words: the replies are right, and the judge that is left
 -- holds what stands. Assumes nothing.
 use mathlib.Core.Path.{_≡_, refl, sym, ap, _∙_, subst}
-use mathlib.Core.Logic.{_↔_, Iff·trans}
+use mathlib.Core.Logic.{_↔_}
 use mathlib.Core.Bool.{true}
 use mathlib.Core.List.{List}
 use mathlib.Core.Option.{Option, none, some}
-use Prim.Native.Nat.{ℕ, _*_, _≤_, _<_}
+use Prim.Native.Nat.{ℕ, _<_}
 use native.Mathlib.Omega.{arith}
-use lib.ListN.{length, getD}
-use Rattle.base.specs.Options.{isNone}
-use Rattle.base.proofs.Options.{is-none, none-some}
-use Rattle.masks.specs.Masks.{_∈_}
+use lib.ListN.{length}
+use Rattle.base.proofs.Options.{is-none}
 use Rattle.automaton.specs.declared.Rule.{Rule}
 use Rattle.automaton.specs.Automaton.{Accepts}
 use Rattle.automaton.specs.Rules.{automatonOf}
 use Rattle.delegates.specs.Alike.{delegateIn}
 use Rattle.delegates.specs.Claims.{startsIn}
 use Rattle.build.specs.Building.{builtOf}
-use Rattle.board.specs.Boards.{held, isEmpty, lastAt}
+use Rattle.board.specs.Boards.{held}
 use Rattle.chunks.proofs.Counting.{how-many-once}
 use Rattle.joins.specs.Joining.{yesOf}
 use Rattle.executions.specs.Executions.{Library, Execution, Meets}
@@ -25,17 +23,17 @@ use Rattle.executions.proofs.Executions.{execution-law}
 use Rattle.calls.specs.declared.Judge.{Judge}
 use Rattle.calls.specs.Replies.{Reply}
 use Rattle.calls.specs.Calls.{Call}
-use Rattle.histories.specs.History.{ruleThere, ruleIn, placesIn, boardIn, standing, standingText, emptiesIn, summedIn, endAt, countAt, yesIn, textIn as textBy, answersTo}
+use Rattle.histories.specs.History.{ruleThere, ruleIn, placesIn, standing, standingText, emptiesIn, endAt, yesIn, textIn as textBy, answersTo}
 use Rattle.histories.specs.Method.{Method}
 use Rattle.histories.specs.Claims.{judgeMachine, judgeAfter, leastAfter, BuiltBy}
 use Rattle.histories.proofs.EveryList.{every-list, good}
-use Rattle.transcripts.specs.Standing.{Source, automatonBy, Standing, standingAfter, theAutomaton, textAt, textIn, empties}
-use Rattle.transcripts.specs.Runs.{CountAt, SumIs, Joined}
+use Rattle.transcripts.specs.Standing.{Source, automatonBy, Standing, standingAfter, theAutomaton, textIn}
+use Rattle.transcripts.specs.Runs.{Joined}
 use Rattle.transcripts.specs.Answers.{Right}
 use Rattle.transcripts.specs.Claims.{Holds}
 use Rattle.transcripts.proofs.Agree.{valueOf, ruleFor, Sound, SoundSource, Agree, agree}
 use Rattle.transcripts.proofs.Sources.{method-by, accepts-by}
-use Rattle.transcripts.proofs.Places.{ruled, end-at, count-at, sum-law, empties-same, text-same, accepts-same}
+use Rattle.transcripts.proofs.Places.{ruled, end-at, count-at, sum-law, empties-same, text-same}
 use Rattle.transcripts.proofs.Joining.{join-law}
 use Rattle.transcripts.proofs.Fixed.{right}
 

@@ -6,11 +6,11 @@
 --   one-reply        an answer to a call after the calls h
 --   one-list         the replies to a whole list
 use mathlib.Core.Path.{_≡_, refl, sym, ap, ap₂, _∙_, subst}
-use mathlib.Core.Logic.{_↔_, _⊎_, inl, inr, ⊎-elim}
-use mathlib.Core.Bool.{true, false, cond}
+use mathlib.Core.Logic.{inl, inr}
+use mathlib.Core.Bool.{cond}
 use mathlib.Core.List.{List, [], _∷_}
 use mathlib.Core.Option.{Option, none, some}
-use Prim.Native.Nat.{ℕ, _+_, _*_, _/_, _%_, _≤_, _<_}
+use Prim.Native.Nat.{ℕ, _/_, _%_, _≤_, _<_}
 use native.Mathlib.Omega.{arith}
 use lib.Arith.{digits-div, digits-mod}
 use lib.Dec.{eqb, ltb}
@@ -20,12 +20,11 @@ use Rattle.base.proofs.Options.{none-some}
 use Rattle.base.proofs.Tests.{by-test, not-both}
 use Rattle.marks.specs.Marks.{textOf}
 use Rattle.automaton.specs.Automaton.{Automaton}
-use Rattle.automaton.specs.Rules.{automatonOf}
 use Rattle.build.specs.Building.{builtOf}
 use Rattle.ruleformat.specs.Reader.{ruleOf}
 use Rattle.calls.specs.Replies.{Judgement, waiting, yesWith, noWith, refusedWith, Reported, Reply, delivered, judged}
 use Rattle.calls.specs.Calls.{Call, installs, loads, opens, delivers, withdraws, asksVerdict}
-use Rattle.calls.specs.Claims.{Divided, ThreeZeros}
+use Rattle.calls.specs.Claims.{Divided}
 use Rattle.histories.specs.History.{placesIn, reportIn, answerOf, answersTo}
 use Rattle.histories.proofs.Method.{method, method-bytes}
 use Rattle.histories.proofs.EveryList.{every-list}

@@ -7,7 +7,6 @@
 --   empties-same, text-same, accepts-same   the empty places, the text, and which texts are accepted
 use mathlib.Core.Path.{_≡_, refl, sym, ap, _∙_, subst, fun-ext}
 use mathlib.Core.Logic.{_↔_, Iff·trans}
-use mathlib.Core.Bool.{true, false, cond}
 use mathlib.Core.List.{List}
 use mathlib.Core.Option.{Option, none, some}
 use Prim.Native.Nat.{ℕ, suc, _/_, _%_, _*_, _≤_, _<_}
@@ -17,7 +16,6 @@ use lib.ListN.{length, take}
 use borrow.Author.Tests.{ltb-true, ltb-false}
 use Rattle.base.specs.Options.{isNone}
 use Rattle.base.specs.Totals.{total}
-use Rattle.base.specs.Lists.{joined}
 use Rattle.base.proofs.Options.{none-some}
 use Rattle.base.proofs.Tests.{by-test, not-both}
 use Rattle.base.proofs.Totals.{total-same}
@@ -25,19 +23,17 @@ use Rattle.masks.specs.Masks.{_∈_}
 use Rattle.masks.proofs.Laws.{no-member}
 use Rattle.marks.specs.Marks.{textOf}
 use Rattle.marks.proofs.Laws.{no-longer}
-use Rattle.automaton.specs.declared.Rule.{Rule}
-use Rattle.automaton.specs.Automaton.{Automaton, Run, Accepts}
+use Rattle.automaton.specs.Automaton.{Run, Accepts}
 use Rattle.automaton.specs.Rules.{automatonOf}
 use Rattle.chunks.specs.Counting.{HowMany, RunsOver}
 use Rattle.chunks.proofs.Counting.{how-many-once, how-many-none}
 use Rattle.calls.specs.Calls.{Call}
-use Rattle.histories.specs.History.{ruleThere, ruleFrom, ruleIn, placesIn, standing, standingText, countOf, endOf, countAt, endAt, summedIn, emptiesIn, textIn as textBy}
-use Rattle.histories.specs.Claims.{judgeAfter}
+use Rattle.histories.specs.History.{ruleFrom, ruleIn, placesIn, standing, standingText, countOf, endOf, countAt, endAt, summedIn, emptiesIn, textIn as textBy}
 use Rattle.histories.proofs.CountBound.{standing-short}
 use Rattle.histories.proofs.EveryList.{good}
-use Rattle.transcripts.specs.Standing.{Source, Standing, automatonBy, automatonFrom, theAutomaton, textAt, textIn, empties}
+use Rattle.transcripts.specs.Standing.{Source, Standing, automatonBy, automatonFrom, theAutomaton, textIn, empties}
 use Rattle.transcripts.specs.Runs.{Started, InEndSet, CountAt, SumIs}
-use Rattle.transcripts.proofs.Agree.{valueOf, ruleFor, Sound, Agree}
+use Rattle.transcripts.proofs.Agree.{ruleFor, Sound, Agree}
 use Rattle.transcripts.proofs.Sources.{ends-by, count-by, accepts-by}
 
 -- ---- a place, by the source o of the rule and what stands there

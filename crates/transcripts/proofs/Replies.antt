@@ -1,39 +1,32 @@
 -- Document 01's answer to a call after the calls h is the one that the words give by what stands.
 -- Assumes nothing.
-use mathlib.Core.Path.{_≡_, refl, sym, ap, ap₂, _∙_, subst}
-use mathlib.Core.Logic.{_↔_, _⊎_, inl, inr, ⊎-elim, Iff·trans}
+use mathlib.Core.Path.{_≡_, refl, sym, ap₂, _∙_}
+use mathlib.Core.Logic.{_↔_, inl, inr, ⊎-elim, Iff·trans}
 use mathlib.Core.Bool.{true, false}
 use mathlib.Core.List.{List}
 use mathlib.Core.Option.{Option, none, some}
 use Prim.Native.Nat.{ℕ, _<_}
 use native.Mathlib.Omega.{arith}
 use lib.Dec.{eqb}
-use lib.ListN.{length}
 use borrow.Author.Tests.{eqb-false}
-use Rattle.base.proofs.Options.{none-some}
-use Rattle.base.proofs.Tests.{not-both}
 use Rattle.marks.specs.Marks.{textOf}
-use Rattle.automaton.specs.declared.Rule.{Rule}
 use Rattle.automaton.specs.Automaton.{Accepts}
 use Rattle.automaton.specs.Rules.{automatonOf}
-use Rattle.build.specs.declared.Built.{Built}
 use Rattle.build.specs.Building.{builtOf}
 use Rattle.ruleformat.specs.Reader.{ruleOf}
 use Rattle.ruleformat.specs.Language.{automatonIn}
-use Rattle.calls.specs.Replies.{Judgement, waiting, yesWith, noWith, Reply, installed, delivered, judged}
-use Rattle.calls.specs.Calls.{Call, installs, loads, opens, delivers, withdraws, asksVerdict, installNumber, loadNumber}
-use Rattle.calls.specs.Claims.{Divided}
-use Rattle.histories.specs.History.{ruleFrom, ruleIn, placesIn, boardIn, emptiesIn, summedIn, lookedOf, reportIn, textIn as textBy, answerOf, replyBy, withSets}
-use Rattle.histories.specs.Method.{Method}
+use Rattle.calls.specs.Replies.{Judgement, waiting, yesWith, noWith, installed, judged}
+use Rattle.calls.specs.Calls.{Call, installs, loads, opens, delivers, withdraws, asksVerdict}
+use Rattle.histories.specs.History.{ruleFrom, ruleIn, placesIn, boardIn, lookedOf, reportIn, textIn as textBy, answerOf}
 use Rattle.histories.specs.Claims.{Says}
 use Rattle.histories.proofs.Method.{method, method-bytes}
 use Rattle.histories.proofs.EveryList.{every-list}
 use Rattle.histories.proofs.VerdictSays.{in-words}
-use Rattle.transcripts.specs.Standing.{Source, Standing, automatonFrom, theAutomaton, textIn, empties}
-use Rattle.transcripts.specs.Runs.{SumIs, LookedUp}
+use Rattle.transcripts.specs.Standing.{Source, Standing, automatonFrom, theAutomaton, textIn}
+use Rattle.transcripts.specs.Runs.{LookedUp}
 use Rattle.transcripts.specs.Answers.{AcceptedBy, Reports, Value, Answers}
 use Rattle.transcripts.proofs.Agree.{ruleFor, Sound, Agree}
-use Rattle.transcripts.proofs.Conditions.{numberOf, refused-law, accepted-law, refusal-law, same-verdict}
+use Rattle.transcripts.proofs.Conditions.{refused-law, accepted-law, refusal-law, same-verdict}
 use Rattle.transcripts.proofs.Sources.{looked-by}
 use Rattle.transcripts.proofs.OneMethod.{one-method}
 use Rattle.transcripts.proofs.Places.{ruled, sum-law, empties-same, text-same, accepts-same}

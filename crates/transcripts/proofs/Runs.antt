@@ -6,11 +6,11 @@
 --   started-law         the set of the states that are run has the started ones
 --   end-law, count-law, looked-law   end sets, counts and R-2's number
 --   run-by, started-by  of what a rule comes from
-use mathlib.Core.Path.{_≡_, refl, sym, ap, _∙_, subst}
+use mathlib.Core.Path.{_≡_, subst}
 use mathlib.Core.Logic.{_↔_, Iff·trans}
-use mathlib.Core.Bool.{true, false, cond}
-use mathlib.Core.List.{List, [], _∷_}
-use mathlib.Core.Option.{Option, none, some}
+use mathlib.Core.Bool.{true, false}
+use mathlib.Core.List.{List}
+use mathlib.Core.Option.{some}
 use Prim.Native.Nat.{ℕ, zero, suc, _*_, _/_, _%_, _^_, _≤_, _<_}
 use native.Mathlib.Nat.{lt-of-lt-of-le}
 use native.Mathlib.Omega.{arith}
@@ -31,7 +31,7 @@ use Rattle.delegates.specs.Claims.{startsIn}
 use Rattle.delegates.proofs.Claims as delegates
 use Rattle.chunks.specs.Chunks.{endSet, chunkCount, looked}
 use Rattle.chunks.specs.Claims.{AllEmpty}
-use Rattle.chunks.specs.Counting.{HowMany, RunsOver, Counts}
+use Rattle.chunks.specs.Counting.{HowMany, RunsOver}
 use Rattle.chunks.proofs.Counting.{how-many-map, chunk-counts}
 use Rattle.chunks.proofs.Claims as chunks
 use Rattle.histories.specs.History.{runAt}

@@ -1,6 +1,5 @@
 -- The same of what a rule comes from, a value or a file: the automaton in the bytes of a file that
 -- was accepted has the runs and the delegates of the rule in it. Assumes nothing.
-use mathlib.Core.Path.{_≡_}
 use mathlib.Core.Logic.{_↔_, Iff·trans}
 use mathlib.Core.List.{List}
 use mathlib.Core.Option.{Option, some}

@@ -1,9 +1,9 @@
 -- What the reply to a verdict says, wherever in a list of calls it is asked. Assumes nothing.
-use mathlib.Core.Path.{_≡_, refl, sym, ap, _∙_, subst}
+use mathlib.Core.Path.{_≡_, refl, sym, ap, _∙_}
 use mathlib.Core.Logic.{_↔_, Iff·trans}
 use mathlib.Core.Bool.{true, false}
 use mathlib.Core.List.{List, [], _∷_, _++_}
-use Prim.Native.Nat.{ℕ, suc, _<_}
+use Prim.Native.Nat.{suc, _<_}
 use native.Mathlib.Omega.{arith}
 use lib.Dec.{eqb}
 use lib.ListN.{length}
@@ -16,7 +16,7 @@ use Rattle.executions.proofs.Executions.{execution-law}
 use Rattle.calls.specs.declared.Judge.{Judge}
 use Rattle.calls.specs.Replies.{Reply, judged}
 use Rattle.calls.specs.Calls.{Call, asksVerdict}
-use Rattle.histories.specs.History.{placesIn, boardIn, ruleIn, reportIn, textIn as textBy, answerOf, answersTo}
+use Rattle.histories.specs.History.{boardIn, ruleIn, reportIn, textIn as textBy, answerOf, answersTo}
 use Rattle.histories.specs.Claims.{judgeMachine}
 use Rattle.histories.proofs.EveryList.{every-list}
 use Rattle.histories.proofs.VerdictSays.{in-words}
