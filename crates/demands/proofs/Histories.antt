@@ -8,10 +8,10 @@
 --   standing, verdictIn, answerOf  what 01 says of a list alone          histories/specs/History
 --   Accepted-exactly, Refused-..   which calls, with which number        histories/specs/Conditions
 --   VerdictSays, Says              what the reply to a verdict says      histories/specs/Claims
---   Counted; HowMany               counts by runs of the automaton       histories/specs/Counted; chunks/specs/Counting
+--   CountAt, SumIs                 counts by runs of the automaton       transcripts/specs/Runs
 --   LastRule .. LastStanding       by the last accepted call of a kind   histories/specs/Last
 --   EmptyPlaces                    the empty places, call by call        histories/specs/Empties
---   Agree                          calls alone, and with their replies   transcripts/proofs/Agree
+--   Agree                          calls alone, and with their replies   transcripts/specs/Agreement
 --
 -- A list of calls has the last call first. Assumes nothing.
 use mathlib.Core.Path.{_≡_, _∙_}
@@ -46,17 +46,20 @@ use Rattle.histories.specs.Last.{LastRule, LastBoard, LastRevision, LastStandin
 use Rattle.histories.specs.Empties.{EmptyPlaces}
 use Rattle.histories.specs.Conditions.{Accepted-exactly, Refused-exactly, No-other-number}
 use Rattle.histories.specs.Claims.{judgeMachine, judgeAfter, repliesTo, BuiltBy, VerdictSays, EveryList}
-use Rattle.histories.specs.Counted.{Counted}
 use Rattle.histories.specs.Functions.{judgeLibrary}
 use Rattle.histories.proofs.EveryList.{every-list}
 use Rattle.histories.proofs.Method as histories-method
 use Rattle.histories.proofs.VerdictSays as histories-verdict
 use Rattle.histories.proofs.Refinement.{judge-meets}
 use Rattle.histories.proofs.Steps.{accepted-rule}
-use Rattle.histories.proofs.Counted as histories-counted
 use Rattle.histories.proofs.Last as histories-last
 use Rattle.histories.proofs.Empties as histories-empties
 use Rattle.histories.proofs.NoOther as histories-numbers
+use Rattle.transcripts.specs.Standing.{standingAfter}
+use Rattle.transcripts.specs.Agreement.{Agree}
+use Rattle.transcripts.specs.Runs.{CountAt, SumIs}
+use Rattle.transcripts.proofs.Agree as transcripts-agree
+use Rattle.transcripts.proofs.Places as transcripts-places
 use Rattle.demands.specs.Functions.{cLibrary}
 use Rattle.demands.proofs.Functions.{c-meets}
 
@@ -175,6 +178,10 @@ pub place-most : (h : List Call) (p : ℕ) → countAt h p ≤ startsIn (ruleIn 
 place-most h = every-list h .verdict .place-most
 
 -- ---- THE LIST IN OTHER WORDS
+-- What stands after calls with document 01's replies, by which the demands' page goes, is what the
+-- calls alone say.
+pub with-replies : (h : List Call) → Agree h (standingAfter h (answersTo h))
+with-replies = transcripts-agree.agree
 
 -- What the sentences above say of a list of calls goes through it call by call
 -- (histories/specs/History). So that none rests on that alone, each is said once more, by the list
@@ -207,8 +214,11 @@ empty-places = histories-empties.empty-places
 -- In other words, by runs of the automaton: how many triples there are of a place, a state that its
 -- standing chunk is run from, at place 0 the delegates of initial states, and a byte up to which a run
 -- from that state goes over the text; and at each place how many pairs;
-pub transitions : (h : List Call) → Counted h
-transitions = histories-counted.counted
+pub transitions : (h : List Call) (p : ℕ) → CountAt (standingAfter h (answersTo h)) p (countAt h p)
+transitions h = transcripts-places.count-at h (standingAfter h (answersTo h)) (transcripts-agree.agree h)
+
+pub summed-transitions : (h : List Call) (c : ℕ) → SumIs (standingAfter h (answersTo h)) c ↔ (c ≡ summedIn h)
+summed-transitions h = transcripts-places.sum-law h (standingAfter h (answersTo h)) (transcripts-agree.agree h)
 
 -- "A number is returned when its condition holds and no earlier one does, never otherwise": an
 -- installation gives 3, 4, 6, 8, 9, a load 1 to 9, an opening 20, 10, a delivery 21, 11, 12, 13,

@@ -3,7 +3,7 @@
 -- theorems, read the definitions that they name:
 --
 --   reportBy; Divided, ThreeZeros  what is reported with a verdict       calls/specs/Calls, Claims
---   LookedUp, AllEmpty             for how many bytes a set is looked up histories/, chunks/specs/Claims
+--   LookedUp                       for how many bytes a set is looked up transcripts/specs/Runs
 --   readOf f, ReadLaw; LoadIs      reading a file; a load                ruleformat/, calls/specs
 --   CountBound                     the sum's bound; the former 24        histories/specs/CountBound
 --   textOf; foreign, ForeignByte   a chunk without idle marks; 13        marks/, chunks/, calls/specs
@@ -43,8 +43,8 @@ use Rattle.chunks.specs.Chunks.{foreign}
 use Rattle.calls.proofs.Loading as calls-loading
 use Rattle.calls.proofs.Foreign as calls-foreign
 use Rattle.calls.proofs.MarksSkipped as calls-marks
-use Rattle.histories.specs.History.{lastRevision, lengthAt, bytesIn, textIn, verdictIn, reportIn, answerOf}
-use Rattle.histories.specs.Claims.{judgeAfter, leastAfter, LookedUp}
+use Rattle.histories.specs.History.{lastRevision, lengthAt, bytesIn, textIn, verdictIn, reportIn, answerOf, answersTo}
+use Rattle.histories.specs.Claims.{judgeAfter, leastAfter}
 use Rattle.histories.specs.CountBound.{CountBound}
 use Rattle.histories.specs.FormerStarts.{SameAnswer}
 use Rattle.histories.specs.Fewest.{BuildFewest, InstallFewest, LoadFewest}
@@ -57,6 +57,11 @@ use Rattle.histories.proofs.FormerStarts as histories-former
 use Rattle.histories.proofs.Orders as histories-orders
 use Rattle.histories.proofs.Revisions as histories-revisions
 use Rattle.histories.proofs.Fewest as histories-fewest
+use Rattle.transcripts.specs.Standing.{standingAfter, theAutomaton}
+use Rattle.transcripts.specs.Runs.{LookedUp}
+use Rattle.transcripts.proofs.Agree as transcripts-agree
+use Rattle.transcripts.proofs.Replies as transcripts-replies
+use Rattle.demands.proofs.Installing as installing
 
 -- ---- R-1
 
@@ -86,8 +91,9 @@ zeros h = every-list h .report .zeros
 
 -- An accepted delivery is answered for how many bytes of its text any successor is looked up: the
 -- least number of text bytes after which every run's set is empty, else all (document 02, R-2).
-pub looked-up : (h : List Call) (p v : ℕ) (w : List ℕ) (n : ℕ) → answerOf h (delivers p v w) ≡ delivered n → LookedUp h p (textOf w) n
-looked-up h = every-list h .looked-up
+pub looked-up : (h : List Call) (p v : ℕ) (w : List ℕ) (n : ℕ)
+    → answerOf h (delivers p v w) ≡ delivered n → LookedUp (theAutomaton (standingAfter h (answersTo h))) p (textOf w) n
+looked-up h = transcripts-replies.looked-up h (standingAfter h (answersTo h)) (transcripts-agree.agree h)
 
 -- ---- R-3
 
@@ -103,8 +109,8 @@ load-is = calls-loading.load-is
 pub reading : (f : List ℕ) → ReadLaw f
 reading = rulefile.claims .reading
 
-pub as-installing : (r : Rule) (x : ℕ) → ruleNumber r ≡ some x → installNumber r ≡ some x
-as-installing = calls-loading.as-installing
+pub as-installing : (r : Rule) (x : ℕ) → (x ≡ 3) ⊎ (x ≡ 4) ⊎ (x ≡ 6) ⊎ (x ≡ 8) → (ruleNumber r ≡ some x) ↔ (installNumber r ≡ some x)
+as-installing = installing.exactly
 
 -- ---- R-4
 

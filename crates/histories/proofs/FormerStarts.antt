@@ -1,7 +1,7 @@
 -- The yes or no is as it was with the starts of document 01, after every list of calls (R-7):
 -- with no place empty, both joins are over the end sets of the same texts. Assumes nothing.
 use mathlib.Core.Path.{_≡_, refl, sym, ap, _∙_, subst}
-use mathlib.Core.Bool.{Bool, cond}
+use mathlib.Core.Bool.{cond}
 use mathlib.Core.List.{List, []}
 use mathlib.Core.Option.{Option, none, some}
 use Prim.Native.Nat.{ℕ, _<_}
@@ -18,8 +18,7 @@ use Rattle.delegates.specs.Alike.{delegateIn, startCount}
 use Rattle.delegates.specs.Claims.{startsIn}
 use Rattle.chunks.specs.Chunks.{endSet}
 use Rattle.joins.specs.Joining.{yesOf}
-use Rattle.joins.specs.Claims.{HoldsEnds}
-use Rattle.joins.specs.Former.{formerDelegates, formerRunSet, formerYes, FormerEnds}
+use Rattle.joins.specs.Former.{formerDelegates, formerRunSet, formerYes}
 use Rattle.joins.proofs.Former.{former-claims}
 use Rattle.calls.specs.declared.Judge.{Judge}
 use Rattle.calls.specs.Calls.{Call}

@@ -1,6 +1,6 @@
 -- What running a chunk gives, for a rule that is built: the end sets and the count that document 01
 -- gives to it at its place, and the number of bytes of R-2. Assumes nothing.
-use mathlib.Core.Path.{_≡_, sym, ap, _∙_, subst}
+use mathlib.Core.Path.{_≡_, ap, _∙_, subst}
 use mathlib.Core.List.{List}
 use mathlib.Core.Option.{some}
 use Prim.Native.Nat.{ℕ, zero, suc, _^_, _<_}

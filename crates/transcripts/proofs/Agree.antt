@@ -1,10 +1,8 @@
 -- What the calls and their replies say is what the calls alone say, where the replies are document
 -- 01's: by induction over the list, call by call. Assumes nothing.
 --
---   valueOf x         the rule as a value
---   Sound o           what the rule comes from was accepted
---   Agree h s         s is what the calls h say
---   agree             so it is after every list
+--   by-number         a reply refuses by its number
+--   agree             `Agree` after every list
 use mathlib.Core.Path.{_≡_, refl, sym, subst}
 use mathlib.Core.Bool.{Bool, true, false, cond, _&&_}
 use mathlib.Core.List.{List, [], _∷_}
@@ -17,30 +15,8 @@ use Rattle.ruleformat.specs.Reader.{ruleOf}
 use Rattle.calls.specs.Replies.{Reply, accepted, delivered, refusalOf}
 use Rattle.calls.specs.Calls.{Call, installs, loads, opens, delivers, withdraws, asksVerdict, installNumber, loadNumber}
 use Rattle.histories.specs.History.{ruleThere, placesIn, lastRevision, standing, openNumber, deliverNumber, withdrawNumber, lookedOf, ruleIn, replyBy, withSets, answerOf, answersTo}
-use Rattle.transcripts.specs.Standing.{Source, value, file, Standing, afterCall, standingAfter}
-
-abbrev pub valueOf : Source → Rule
-valueOf (value r) = r
-valueOf (file f) = ruleOf f
-
-abbrev pub ruleFor : Option Source → Option Rule
-ruleFor none = none
-ruleFor (some x) = some (valueOf x)
-
-abbrev pub SoundSource : Source → Type 0
-SoundSource (value r) = installNumber r ≡ none
-SoundSource (file f) = loadNumber f ≡ none
-
-abbrev pub Sound : Option Source → Type 0
-Sound none = Unit {0}
-Sound (some x) = SoundSource x
-
-pub record Agree (h : List Call) (s : Standing) : Type 0 where
-  pub rule : ruleThere h ≡ ruleFor (s .rule)
-  pub sound : Sound (s .rule)
-  pub places : s .places ≡ placesIn h
-  pub chunk : (p : ℕ) → s .chunk p ≡ standing h p
-  pub revision : (p : ℕ) → s .revision p ≡ lastRevision h p
+use Rattle.transcripts.specs.Standing.{Standing, afterCall, standingAfter}
+use Rattle.transcripts.specs.Agreement.{Agree}
 
 -- what stands after the call c, where its conditions give the number o
 abbrev next : Option ℕ → Standing → Call → Standing

@@ -31,7 +31,7 @@ use Rattle.histories.proofs.Method.{nine-law, nine-bytes}
 use Rattle.histories.proofs.Conditions.{not-true, both, number-is, by-none}
 use Rattle.transcripts.specs.Standing.{Source, value, file, Standing, automatonFrom}
 use Rattle.transcripts.specs.Answers.{conditionsOf, RefusedWith, AcceptedBy, refusalBy}
-use Rattle.transcripts.proofs.Agree.{ruleFor, Agree}
+use Rattle.transcripts.specs.Agreement.{ruleFor, Agree}
 
 abbrev pub numberOf : List Call → Call → Option ℕ
 numberOf h (installs r) = installNumber r

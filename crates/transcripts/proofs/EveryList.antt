@@ -31,7 +31,8 @@ use Rattle.transcripts.specs.Standing.{Source, automatonBy, Standing, st
 use Rattle.transcripts.specs.Runs.{Joined}
 use Rattle.transcripts.specs.Answers.{Right}
 use Rattle.transcripts.specs.Claims.{Holds}
-use Rattle.transcripts.proofs.Agree.{valueOf, ruleFor, Sound, SoundSource, Agree, agree}
+use Rattle.transcripts.specs.Agreement.{valueOf, ruleFor, Sound, SoundSource, Agree}
+use Rattle.transcripts.proofs.Agree.{agree}
 use Rattle.transcripts.proofs.Sources.{method-by, accepts-by}
 use Rattle.transcripts.proofs.Places.{ruled, end-at, count-at, sum-law, empties-same, text-same}
 use Rattle.transcripts.proofs.Joining.{join-law}

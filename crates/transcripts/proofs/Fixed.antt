@@ -33,7 +33,8 @@ use Rattle.transcripts.specs.Standing.{Standing, standingAfter, theAutom
 use Rattle.transcripts.specs.Runs.{LookedUp}
 use Rattle.transcripts.specs.Answers.{Reports, Value, Answers, Right, no-call, one-more}
 use Rattle.transcripts.specs.Claims.{OneAnswer}
-use Rattle.transcripts.proofs.Agree.{Agree, agree}
+use Rattle.transcripts.specs.Agreement.{Agree}
+use Rattle.transcripts.proofs.Agree.{agree}
 use Rattle.transcripts.proofs.Conditions.{numberOf, refused-law, accepted-law}
 use Rattle.transcripts.proofs.Replies.{answers}
 

@@ -17,7 +17,7 @@ use Rattle.delegates.specs.Claims.{startsIn}
 use Rattle.joins.specs.Joining.{joinOf, yesOf}
 use Rattle.transcripts.specs.Standing.{Source, automatonBy}
 use Rattle.transcripts.specs.Runs.{Joined}
-use Rattle.transcripts.proofs.Agree.{valueOf, SoundSource}
+use Rattle.transcripts.specs.Agreement.{valueOf, SoundSource}
 use Rattle.transcripts.proofs.Runs.{live-within, listed-law}
 use Rattle.transcripts.proofs.Sources.{sound-rule, delegate-by, initial-by, final-by}
 

@@ -33,7 +33,7 @@ use Rattle.histories.proofs.CountBound.{standing-short}
 use Rattle.histories.proofs.EveryList.{good}
 use Rattle.transcripts.specs.Standing.{Source, Standing, automatonBy, automatonFrom, theAutomaton, textIn, empties}
 use Rattle.transcripts.specs.Runs.{Started, InEndSet, CountAt, SumIs}
-use Rattle.transcripts.proofs.Agree.{ruleFor, Sound, Agree}
+use Rattle.transcripts.specs.Agreement.{ruleFor, Sound, Agree}
 use Rattle.transcripts.proofs.Sources.{ends-by, count-by, accepts-by}
 
 -- ---- a place, by the source o of the rule and what stands there

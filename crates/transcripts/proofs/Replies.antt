@@ -15,17 +15,18 @@ use Rattle.automaton.specs.Rules.{automatonOf}
 use Rattle.build.specs.Building.{builtOf}
 use Rattle.ruleformat.specs.Reader.{ruleOf}
 use Rattle.ruleformat.specs.Language.{automatonIn}
-use Rattle.calls.specs.Replies.{Judgement, waiting, yesWith, noWith, installed, judged}
+use Rattle.calls.specs.Replies.{Judgement, waiting, yesWith, noWith, installed, judged, delivered}
 use Rattle.calls.specs.Calls.{Call, installs, loads, opens, delivers, withdraws, asksVerdict}
-use Rattle.histories.specs.History.{ruleFrom, ruleIn, placesIn, boardIn, lookedOf, reportIn, textIn as textBy, answerOf}
+use Rattle.histories.specs.History.{ruleFrom, ruleIn, placesIn, boardIn, lookedOf, reportIn, textIn as textBy, answerOf, deliverNumber}
 use Rattle.histories.specs.Claims.{Says}
 use Rattle.histories.proofs.Method.{method, method-bytes}
+use Rattle.histories.proofs.Conditions.{delivered-law}
 use Rattle.histories.proofs.EveryList.{every-list}
 use Rattle.histories.proofs.VerdictSays.{in-words}
 use Rattle.transcripts.specs.Standing.{Source, Standing, automatonFrom, theAutomaton, textIn}
 use Rattle.transcripts.specs.Runs.{LookedUp}
 use Rattle.transcripts.specs.Answers.{AcceptedBy, Reports, Value, Answers}
-use Rattle.transcripts.proofs.Agree.{ruleFor, Sound, Agree}
+use Rattle.transcripts.specs.Agreement.{ruleFor, Sound, Agree}
 use Rattle.transcripts.proofs.Conditions.{refused-law, accepted-law, refusal-law, same-verdict}
 use Rattle.transcripts.proofs.Sources.{looked-by}
 use Rattle.transcripts.proofs.OneMethod.{one-method}
@@ -96,6 +97,12 @@ module _ (h : List Call) (s : Standing) (g : Agree h s) where
       (lookedOf (ruleIn h) p w, rw (accepted-law h s g (delivers p v w) .1 x), looks (some-places (x .0 .0)) p w)
   answered (withdraws p) x = rw (accepted-law h s g (withdraws p) .1 x)
   answered asksVerdict x = (reportIn h, refl, reports (some-places (x .0 .0)))
+
+  -- R-2's number, of a delivery that is accepted
+  pub looked-up : (p v : ℕ) (w : List ℕ) (n : ℕ) → answerOf h (delivers p v w) ≡ delivered n → LookedUp (theAutomaton s) p (textOf w) n
+  looked-up p v w n e =
+      let x = delivered-law (deliverNumber h p v w) (lookedOf (ruleIn h) p w) n .0 e in
+      rw (x .1) (looks (some-places (accepted-law h s g (delivers p v w) .0 (x .0) .0 .0)) p w)
 
   pub answers : (c : Call) → Answers s c (answerOf h c)
   answers c = record {

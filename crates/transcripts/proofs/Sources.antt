@@ -24,7 +24,7 @@ use Rattle.histories.proofs.SameArcs.{run-read, delegate-read}
 use Rattle.histories.proofs.Steps.{accepted-rule}
 use Rattle.transcripts.specs.Standing.{Source, value, file, automatonBy}
 use Rattle.transcripts.specs.Runs.{Started, Dead, LookedUp}
-use Rattle.transcripts.proofs.Agree.{valueOf, SoundSource}
+use Rattle.transcripts.specs.Agreement.{valueOf, SoundSource}
 use Rattle.transcripts.proofs.Runs.{end-law, count-law, looked-law}
 
 pub sound-rule : (x : Source) → SoundSource x → WellFormed (valueOf x) × fits (valueOf x)

@@ -22,7 +22,8 @@ use Rattle.histories.proofs.EveryList.{every-list}
 use Rattle.histories.proofs.VerdictSays.{in-words}
 use Rattle.transcripts.specs.Standing.{Standing, standingAfter, theAutomaton, textIn}
 use Rattle.transcripts.specs.Claims.{VerdictIs}
-use Rattle.transcripts.proofs.Agree.{Agree, agree}
+use Rattle.transcripts.specs.Agreement.{Agree}
+use Rattle.transcripts.proofs.Agree.{agree}
 use Rattle.transcripts.proofs.Places.{sum-law, empties-same, text-same, accepts-same}
 
 module _ (h : List Call) (s : Standing) (g : Agree h s) where

@@ -3,3 +3,4 @@ pub mod Standing
 pub mod Runs
 pub mod Answers
 pub mod Claims
+pub mod Agreement
