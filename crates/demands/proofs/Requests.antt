@@ -30,8 +30,7 @@ use Rattle.automaton.specs.Successor.{after}
 use Rattle.rulecheck.specs.Checking.{ruleNumber}
 use Rattle.ruleformat.specs.Claims.{ReadLaw}
 use Rattle.ruleformat.proofs.Claims as rulefile
-use Rattle.delegates.specs.Alike.{startCount}
-use Rattle.joins.specs.Former.{FormerMerged, formerDelegates}
+use Rattle.joins.specs.Former.{FormerMerged}
 use Rattle.joins.proofs.Former.{former-claims}
 use Rattle.board.specs.Boards.{lastAt, summedBytes}
 use Rattle.calls.specs.declared.Judge.{Judge}
@@ -147,8 +146,7 @@ text-of = (refl, marks.claims .skipped, marks.claims .kept)
 
 -- with the starts that document 01 had, of every state the lowest alike one, also of states that lead
 -- nowhere, it was the same (document 02, R-7);
-pub former-starts : (r : Rule) → installNumber r ≡ none
-    → FormerMerged (automatonOf r) (formerDelegates r) (startCount (formerDelegates r) (r .n))
+pub former-starts : (r : Rule) → installNumber r ≡ none → (d : List ℕ) × (m : ℕ) × FormerMerged (automatonOf r) d m
 former-starts r e = let x = accepted-rule r e in former-claims .former-merged r (x .0) (x .1)
 
 pub same-yes-or-no : (h : List Call) → SameAnswer h
