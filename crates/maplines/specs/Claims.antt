@@ -1,10 +1,10 @@
--- Every call has a line, and reading the line gives the call again; a line means a call only if it is
--- that line, but for the case of hex digits. proofs/Exact.antt proves it.
+-- Every call has a line, and reading the line gives the call again; a line means a call only if it
+-- is that line, but for the case of hex digits. proofs/Exact.antt proves it.
 --
---   wordOf c         the word of the call c, in bytes, and the space behind it; an empty line has none
+--   wordOf c         the word of the call c, in bytes, with a space behind it; none of an empty line
 --   Fits c           the call c has bytes that are bytes, and mappings of eight masks of eight bits
---   fieldsOf c       its fields as they are written: bytes as hex digits, or `-` for none; a mapping
---                    as sixteen; the earlier chunk's first, and a space between the two
+--   fieldsOf c       its fields as they are written: bytes as hex digits, or `-` for none; mappings
+--                    as sixteen each, the earlier chunk's first, and a space between the two
 --   lineOf c         the line of the call c, without its line feed
 --   SaysFields x c   the bytes x are those fields, in either case
 --   SaysLine l c     the line l is the word of the call c and its fields

@@ -1,5 +1,5 @@
--- What is written of a mapping is read again, and only that, but for the case of its digits. Assumes
--- nothing.
+-- What is written of a mapping is read again, and only that, but for the case of its digits.
+-- Assumes nothing.
 use mathlib.Core.Path.{_≡_, refl, sym, ap, _∙_}
 use mathlib.Core.Logic.{_↔_}
 use mathlib.Core.List.{List, [], _∷_, _++_}

@@ -1,5 +1,5 @@
--- What is written of a mapping is read again, and a field says a mapping only if it is what is written
--- of it, but for the case of its digits; proofs/RoundTrip.antt proves it.
+-- What is written of a mapping is read again, and a field says a mapping only if it is what is
+-- written of it, but for the case of its digits; proofs/RoundTrip.antt proves it.
 --
 --   SaysMapping x f   the field x is the sixteen digits of the mapping f, in either case
 use mathlib.Core.Path.{_≡_}
