@@ -23,7 +23,8 @@ use Rattle.ruleformat.specs.Writing.{Bytes}
 use Rattle.text.specs.Numerals.{decimal}
 use Rattle.fields.specs.Numbers.{parseNumber}
 use Rattle.fields.specs.Bytes.{parseBytes}
-use Rattle.fields.specs.Claims.{AllBytes, fieldOf, SaysNumber, SaysBytes}
+use Rattle.fields.specs.Claims.{AllBytes, fieldOf, SaysNumber}
+use Rattle.fields.proofs.Exact.{own-number, own-bytes}
 use Rattle.fields.proofs.Claims as fields
 use Rattle.calls.specs.Calls.{Call, installs, loads, opens, delivers, withdraws, asksVerdict}
 use Rattle.calltext.specs.Meaning.{Meaning, again, call, malformed, load-word, install-word, open-word, deliver-word, withdraw-word, verdict-word, loadBy, installBy, openBy, withdrawBy, revisionBy, deliverBy, revisionFields, deliverFields, callIn, lineIn}
@@ -161,12 +162,6 @@ malformed-exactly l = (
 all-bytes : (b : List ℕ) → Bytes b → AllBytes b
 all-bytes [] h = tt
 all-bytes (x ∷ b) h = (h 0, all-bytes b (λ i. h (suc i)))
-
-pub own-number : (n : ℕ) → n ≤ 18446744073709551615 → SaysNumber (decimal n) n
-own-number n h = fields.claims .number-exactly (decimal n) n .0 (fields.claims .number-round-trip n h)
-
-pub own-bytes : (b : List ℕ) → AllBytes b → SaysBytes (fieldOf b) b
-own-bytes b a = fields.claims .bytes-exactly (fieldOf b) b .0 (fields.claims .bytes-round-trip b a)
 
 own-line : (c : Call) → Fits c → SaysCall (lineOf c) c
 own-line (installs r) a =

@@ -19,7 +19,7 @@ use Rattle.text.specs.Numerals.{decimal, decimalBelow, hexDigit, hex}
 use Rattle.text.proofs.Digits.{one-digit, more-digits}
 use Rattle.fields.specs.Numbers.{allDigits, valueFrom, isNumber, parseNumber}
 use Rattle.fields.specs.Bytes.{within, hexValue, allHex, pairs, isBytes, isNoBytes, parseBytes}
-use Rattle.fields.specs.Claims.{AllBytes, digitsOf, SaysNumber, upperCase, SaysBytes}
+use Rattle.fields.specs.Claims.{AllBytes, digitsOf, fieldOf, SaysNumber, upperCase, SaysBytes}
 use Rattle.fields.proofs.Digits.{saidFrom, said-short, said-whole}
 use Rattle.fields.proofs.Pairs.{within-so, within-low, within-high}
 use Rattle.fields.proofs.RoundTrip.{two-digits, number-round-trip, bytes-round-trip}
@@ -174,7 +174,7 @@ module _ (c : ℕ) where
       rw (e, ne-eqb (c - 32) 45 (λ f. omega (arith, b, f)), ne-eqb c 45 (λ f. omega (arith, b, f))))
       (λ e. rw e)
 
-upper-length : (w : List ℕ) → length (upperCase w) ≡ length w
+pub upper-length : (w : List ℕ) → length (upperCase w) ≡ length w
 upper-length [] = refl
 upper-length (c ∷ w) = ap suc (upper-length w)
 
@@ -255,3 +255,10 @@ bytes-exactly x b = (
       (λ g. none-some (rw (f, g)) e))),
   λ s. sym (upper-says x) ∙ ap parseBytes (s .0) ∙ bytes-round-trip b (s .1),
 )
+
+-- ---- a field as it is written says its value
+pub own-number : (n : ℕ) → n ≤ 18446744073709551615 → SaysNumber (decimal n) n
+own-number n h = number-exactly (decimal n) n .0 (number-round-trip n h)
+
+pub own-bytes : (b : List ℕ) → AllBytes b → SaysBytes (fieldOf b) b
+own-bytes b a = bytes-exactly (fieldOf b) b .0 (bytes-round-trip b a)

@@ -1,8 +1,8 @@
 -- Bytes as hex digits: one more byte, how many digits there are, and that no field has a space in
--- it. Assumes nothing.
-use mathlib.Core.Path.{_≡_, refl, ap, _∙_}
+-- it, whatever the case of its digits. Assumes nothing.
+use mathlib.Core.Path.{_≡_, refl, sym, ap, _∙_, subst}
 use mathlib.Core.List.{List, [], _∷_, _++_, append-assoc, append-nil}
-use Prim.Native.Nat.{ℕ, zero, suc, _+_, _*_, _/_, _%_, _<_}
+use Prim.Native.Nat.{ℕ, zero, suc, _+_, _-_, _*_, _/_, _%_, _<_}
 use native.Mathlib.Numerals.{add-one}
 use native.Mathlib.Omega.{arith}
 use lib.Dec.{ltb}
@@ -12,7 +12,8 @@ use Rattle.base.proofs.Tests.{by-test}
 use Rattle.text.specs.Numerals.{decimalBelow, decimal, hexDigit, hex}
 use Rattle.text.proofs.Digits.{hex-length}
 use Rattle.lines.proofs.Over.{Over, over-append}
-use Rattle.fields.specs.Claims.{digitsOf, fieldOf}
+use Rattle.fields.specs.Bytes.{within}
+use Rattle.fields.specs.Claims.{digitsOf, fieldOf, upperCase, SaysBytes}
 
 pub digits-length : (b : List ℕ) → length (digitsOf b) ≡ 2 * length b
 unfolding digitsOf
@@ -51,6 +52,16 @@ digits-over (x ∷ b) = (digit-over (x / 16 % 16), (digit-over (x % 16), digits-
 pub field-over : (b : List ℕ) → Over 32 (fieldOf b)
 field-over [] = (omega arith, tt)
 field-over (x ∷ b) = digits-over (x ∷ b)
+
+upper-over : (x : List ℕ) → Over 32 (upperCase x) → Over 32 x
+upper-over [] a = tt
+upper-over (c ∷ x) a = (
+  by-test (within 97 102 c) (λ e. let low : 32 < c - 32 = rw e at (a .0) in omega arith) (λ e. rw e at (a .0)),
+  upper-over x (a .1),
+)
+
+pub bytes-over : (x b : List ℕ) → SaysBytes x b → Over 32 x
+bytes-over x b s = upper-over x (subst (Over 32) (sym (s .0)) (field-over b))
 
 number-places : (places n : ℕ) → Over 32 (decimalBelow places n)
 unfolding decimalBelow

@@ -1,3 +1,4 @@
 -- In the order in which they build on each other.
 pub mod Long
 pub mod Ways
+pub mod Exact

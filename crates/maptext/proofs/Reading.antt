@@ -24,7 +24,7 @@ pub not-sixteen : (w : List ℕ) → (length w ≡ 16 → ⊥) → Read w (none-
 not-sixteen w ne = record { says = rw (ne-eqb (length w) 16 ne); zeros = λ _. refl }
 
 -- a field of sixteen digits says eight bytes
-eight : (w bytes : List ℕ) → length w ≡ 16 → parseBytes w ≡ some bytes → length bytes ≡ 8
+pub eight : (w bytes : List ℕ) → length w ≡ 16 → parseBytes w ≡ some bytes → length bytes ≡ 8
 unfolding parseBytes
 eight w bytes long e = go (isBytes w) (rw (ne-eqb (length w) 1 (λ o. omega arith)) at e)
   where

@@ -22,6 +22,7 @@
 --   rightText; lastBuilt              the answers to lines; what is built    mapstream/specs/Texts, mapcalls/specs/Histories
 --   LastBuilt                         the last build, by the list cut in two   mapcalls/specs/Last
 --   lineIn, replyText                 lines and replies as text              maplines/specs/Lines, mapreplies/specs/Replies
+--   SaysLine, lineOf; SaysMapping     a call's line; a mapping's field       maplines/specs/Claims, maptext/specs/Claims
 --   mappingText f; threeStates        a mapping as text; one by hand         maptext/specs/MappingText, Worked
 --   linesA; callsText, callsAnswers   texts by hand, in bytes                profiletext/specs/Worked, mapstream/specs/Worked
 --   Blocks                            a text that comes in blocks            linetexts/specs/Claims
@@ -37,11 +38,11 @@
 --   Packing; keys Tables; delegates Alike, Claims, Classes; build Building; marks Marks; walks
 --   Steps; chunks Chunks, Taking, Walks; profile Claims, Profiles, Runs, Worked; board Boards;
 --   joins Joining; calls Calls, Claims, Replies, Steps; executions Executions, Last; histories
---   Claims, History; fillings Filled; mapverdict Filled; fields Bytes; lines Splitting; ruletext
---   RuleText; maptext MappingText, Worked; profilefile Files; mapcalls Calls, Histories, Last;
---   profiletext ProfileText, Worked; longlines Holding; linetexts Claims, Feeding, Lists, Parts;
---   mapreplies Replies; maplines Answers, Lines; mapstream Texts, Worked; c_mappings Claims,
---   Numbers; demands Functions; requests MappingFunctions.
+--   Claims, History; fillings Filled; mapverdict Filled; fields Bytes, Claims; lines Splitting;
+--   ruletext RuleText; maptext Claims, MappingText, Worked; profilefile Files; mapcalls Calls,
+--   Histories, Last; profiletext ProfileText, Worked; longlines Holding; linetexts Claims,
+--   Feeding, Lists, Parts; mapreplies Replies; maplines Answers, Claims, Lines; mapstream Texts,
+--   Worked; c_mappings Claims, Numbers; demands Functions; requests MappingFunctions.
 use mathlib.Core.Path.{_≡_, ap, refl}
 use mathlib.Core.Logic.{_↔_, _⊎_}
 use mathlib.Core.Bool.{true, false}
@@ -110,6 +111,8 @@ use Rattle.mapstream.specs.Texts.{mapRoom, mapLines, rightText}
 use Rattle.mapstream.specs.Worked.{callsText, callsAnswers}
 use Rattle.mapstream.proofs.Claimed as mapstream
 use Rattle.maplines.specs.Lines.{lineIn}
+use Rattle.maplines.specs.Claims.{Fits, lineOf, SaysLine}
+use Rattle.maplines.proofs.Exact as maplines
 use Rattle.answers.specs.Answers.{malformedText}
 use Rattle.capi.specs.declared.VerdictNumbers.{VerdictNumbers}
 use Rattle.demands.specs.Functions.{MayJudge}
@@ -321,6 +324,18 @@ lines-written = mapstream.claims .written
 -- a refused build, which keeps the former profile.
 pub lines-by-hand : rightText (some []) (linesOf callsText) ≡ callsAnswers
 lines-by-hand = mapstream.claims .worked-calls
+
+-- A line means a call exactly when it is the call's word and its fields, one space between them:
+-- bytes as hex digits of either case, or `-` for none; mappings as sixteen each, the earlier chunk's
+-- first. An empty line forgets the profile; any other is malformed. Every call has a line.
+pub line-exactly : (l : List ℕ) (c : MapCall) → (lineIn l ≡ some c) ↔ SaysLine l c
+line-exactly = maplines.claims .line-exactly
+
+pub line-malformed : (l : List ℕ) → (lineIn l ≡ none) ↔ ((c : MapCall) → SaysLine l c → ⊥)
+line-malformed = maplines.claims .malformed-exactly
+
+pub every-call : (c : MapCall) → Fits c → lineIn (lineOf c) ≡ some c
+every-call = maplines.claims .line-round-trip
 
 -- After a malformed line no call is made and no verdict given until an empty line: each line is
 -- answered `skipped`, whatever it says. The empty line begins afresh.

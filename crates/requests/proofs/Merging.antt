@@ -18,6 +18,7 @@
 --   wayOf x, mergeShown         C's numbers                             merging/specs/Merging, c_merge/specs/Numbers
 --   mergedFiles, answersTo      what `rulemerge` answers                mergetext/specs/Answers, mergestream/specs/Texts
 --   WorkedLines                 a line for each way, by hand            mergetext/specs/Worked
+--   lineIn l; SaysMerge         what a line means; two files' line      mergetext/specs/Lines, Claims
 --   verdictIn h, textIn h       what 01 says of a list of calls         histories/specs/History
 --
 -- one and two are any values, in which any numbers may stand. A proved function ends and stays within
@@ -29,8 +30,9 @@
 --   subsets Sets, Singles; delegates Alike, Claims, Classes; marks Marks; chunks Chunks; joins
 --   Joining; calls Calls, Replies; histories History; fields Bytes, Claims; lines Splitting;
 --   hexfields Fields, Reading; products Claims, Interleavings, Products, Words; merging Claims,
---   Languages, Merged, Merging, Worked; mergetext Answers, Lines, Worked; mergescan Scanning;
---   mergestream Claims, Feeding, Texts; c_merge Claims, Numbers; requests MergeFunction.
+--   Languages, Merged, Merging, Worked; mergetext Answers, Claims, Lines, Worked; mergescan
+--   Scanning; mergestream Claims, Feeding, Texts; c_merge Claims, Numbers; requests
+--   MergeFunction.
 use mathlib.Core.Path.{_≡_, sym, ap, _∙_, subst, refl}
 use mathlib.Core.Logic.{_↔_, _⊎_}
 use mathlib.Core.Bool.{Bool, true, false}
@@ -53,6 +55,7 @@ use Rattle.calls.specs.Calls.{Call, installNumber}
 use Rattle.histories.specs.History.{ruleIn, boardIn, emptiesIn, summedIn, textIn, verdictIn}
 use Rattle.histories.proofs.EveryList.{every-list}
 use Rattle.lines.specs.Splitting.{linesOf}
+use Rattle.fields.specs.Claims.{AllBytes}
 use Rattle.products.specs.Interleavings.{Interleaving, marked}
 use Rattle.products.specs.Products.{Moving, together, alone, pairOf, product}
 use Rattle.products.specs.Words.{InPairs, SideBySide}
@@ -68,7 +71,9 @@ use Rattle.merging.specs.Worked.{merges, Answered}
 use Rattle.merging.specs.Claims.{Refused-exactly, MergeLaw}
 use Rattle.merging.proofs.Claims as merging
 use Rattle.mergetext.specs.Answers.{filesNumber, resultFile}
+use Rattle.mergetext.specs.Lines.{merges as mergesFiles, malformed, lineIn}
 use Rattle.mergetext.specs.Worked.{WorkedLines}
+use Rattle.mergetext.specs.Claims.{lineOf, SaysMerge}
 use Rattle.mergetext.proofs.Claims as mergetext
 use Rattle.mergescan.specs.declared.Scan.the-variants as scan
 use Rattle.mergestream.specs.Texts.{answersTo}
@@ -256,6 +261,18 @@ file-language = mergetext.claims .language
 -- The words of the three ways, in bytes:
 pub lines-by-hand : WorkedLines
 lines-by-hand = mergetext.claims .worked-lines
+
+-- A line merges two files exactly when it is its way's word and two fields that say their bytes,
+-- one space between them: hex digits of either case, or `-` for none. Any other is malformed, an
+-- empty one too. Every way and every two files have a line.
+pub line-exactly : (l : List ℕ) (w : Way) (f g : List ℕ) → (lineIn l ≡ mergesFiles w f g) ↔ SaysMerge l w f g
+line-exactly = mergetext.claims .line-exactly
+
+pub line-malformed : (l : List ℕ) → (lineIn l ≡ malformed) ↔ ((w : Way) (f g : List ℕ) → SaysMerge l w f g → ⊥)
+line-malformed = mergetext.claims .malformed-exactly
+
+pub every-pair : (w : Way) (f g : List ℕ) → AllBytes f → AllBytes g → lineIn (lineOf w f g) ≡ mergesFiles w f g
+every-pair = mergetext.claims .line-round-trip
 
 -- A text of lines, cut into blocks anywhere: `rulemerge` is to write, block by block and at the end, the
 -- answers to its lines. Its buffers can tell a file that is too long.

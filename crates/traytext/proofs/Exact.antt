@@ -21,9 +21,10 @@ use Rattle.lines.proofs.Splits.{begins-whole, past-whole}
 use Rattle.fields.specs.Numbers.{parseNumber}
 use Rattle.fields.specs.Bytes.{parseBytes}
 use Rattle.fields.specs.Claims.{fieldOf}
+use Rattle.fields.proofs.Exact.{own-number, own-bytes}
 use Rattle.fields.proofs.Claims as fields
 use Rattle.calltext.proofs.RoundTrip.{number-32, no-space}
-use Rattle.calltext.proofs.Exact.{no-byte, says-over, own-number, own-bytes}
+use Rattle.calltext.proofs.Exact.{no-byte, says-over}
 use Rattle.trays.specs.Calls.{Call, installsRow, installsColumn, opens, delivers, withdraws, asksVerdict}
 use Rattle.traytext.specs.Lines.{Meaning, again, call, rowFile, columnFile, malformed, row-word, column-word, open-word, deliver-word, withdraw-word, verdict-word, rowBy, columnBy, withdrawBy, openBy, deliverBy, openFields, deliverFields, callIn, lineIn}
 use Rattle.traytext.specs.Claims.{FitsCall, Fits, callLine, lineOf, SaysCall, SaysLine, Claims}
