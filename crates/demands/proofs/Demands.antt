@@ -21,6 +21,12 @@
 -- FromC.antt; the requests that change the judge: Requests.antt; table P: TableP.antt; text: Texts.antt.
 -- A list has the last call first. A proved function ends and stays within its bounds.
 -- Assumes nothing.
+-- All that they rest on stands in these files of specs/ (tests/believed):
+--   base Conditions, Lists, Options, Totals; limits Limits; automaton Automaton, Rules; rulecheck
+--   Checking; ruleformat Format, Language, Refusals; numbering Claims, Texts; delegates Alike;
+--   marks Marks; chunks Chunks, Counting; board Boards; calls Calls, Claims, Replies, Steps;
+--   executions Executions; histories Claims, Functions, History, Method; transcripts Answers,
+--   Claims, Runs, Standing; replay Records; capi Numbers; demands Functions.
 use mathlib.Core.Path.{_≡_, refl, _∙_}
 use mathlib.Core.Logic.{_↔_, _⊎_, ⊎-elim}
 use mathlib.Core.List.{List, _∷_, _++_}

@@ -1,5 +1,5 @@
--- EVERY NUMBER THAT C IS GIVEN by the judge's functions, to the last field, whatever the judge. To
--- believe the theorems, read the definitions that they name:
+-- EVERY NUMBER THAT C IS GIVEN by the judge's functions, to the last field, whatever the judge.
+-- To believe the theorems, read the definitions that they name:
 --
 --   installShown .. verdictShown, readShown   the numbers that C is given   capi/specs/Numbers
 --   Laws; FlagLaw                  each field of them, the kinds            capi/specs/Laws; flags/specs/Flags
@@ -9,6 +9,12 @@
 --   readOf f                       reading a file                           ruleformat/specs/Reader
 --
 -- Assumes nothing.
+-- All that they rest on stands in these files of specs/ (tests/believed):
+--   base Conditions, Lists, Totals; limits Limits; flags Flags; masks Masks; automaton Rules,
+--   Successor; rulecheck Checking; ruleformat Format, Reader, Refusals; numbering Numbering;
+--   subsets Sets, Singles; delegates Alike, Claims, Classes; build Building; marks Marks; walks
+--   Steps; chunks Chunks, Walks; board Boards; joins Joining; calls Calls, Replies, Steps; replay
+--   Records; capi Laws, Numbers; demands Functions, Shown.
 use mathlib.Core.Path.{_≡_}
 use mathlib.Core.Logic.{_↔_}
 use mathlib.Core.List.{List}

@@ -14,6 +14,14 @@
 --   Agree                          calls alone, and with their replies   transcripts/specs/Agreement
 --
 -- A list of calls has the last call first. Assumes nothing.
+-- All that they rest on stands in these files of specs/ (tests/believed):
+--   base Conditions, Lists, Options, Totals; limits Limits; masks Masks; automaton Automaton,
+--   Rules, Successor; rulecheck Checking, Claims; ruleformat Format, Language, Reader, Refusals;
+--   numbering Claims, Numbering, Texts; subsets Claims, Sets, Singles; delegates Alike, Claims,
+--   Classes; build Building; marks Marks; walks Steps; chunks Chunks, Counting, Walks; board
+--   Boards; joins Joining; calls Calls, Claims, Replies, Steps; executions Executions, Last;
+--   histories Claims, Conditions, Empties, Functions, History, Last, Method; transcripts
+--   Agreement, Runs, Standing; replay Records; capi Numbers; demands Functions.
 use mathlib.Core.Path.{_≡_, _∙_}
 use mathlib.Core.Logic.{_↔_, _⊎_, ⊎-elim}
 use mathlib.Core.Bool.{true, false}

@@ -14,6 +14,14 @@
 --   Fewest, Covers                 the fewest starts                     histories/, delegates/specs/Fewest
 --
 -- A list of calls has the last call first. Assumes nothing.
+-- All that they rest on stands in these files of specs/ (tests/believed):
+--   base Conditions, Lists, Options, Totals; limits Limits; masks Masks; automaton Automaton,
+--   Rules, Successor; rulecheck Checking; ruleformat Claims, Format, Language, Reader, Refusals;
+--   numbering Numbering; subsets Sets, Singles; delegates Alike, Claims, Classes, Fewest; build
+--   Building; marks Marks; walks Steps; chunks Chunks, Counting, Walks; board Boards; joins
+--   Former, Joining; calls Calls, Claims, Replies, Steps; executions Executions; histories
+--   Claims, CountBound, Fewest, FormerStarts, History, Orders, Revisions; transcripts Runs,
+--   Standing.
 use mathlib.Core.Path.{_≡_, refl}
 use mathlib.Core.Logic.{_↔_, _⊎_}
 use mathlib.Core.Bool.{true}

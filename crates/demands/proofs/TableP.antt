@@ -1,6 +1,10 @@
 -- TABLE P of document 01, over one list of cases. To believe the theorem, read the definitions that it
 -- names: `Tabled`, `AsTabled` and `cases` (histories/specs/TableP), the libraries (histories/,
 -- demands/specs/Functions). A list of calls has the last call first. Assumes nothing.
+-- All that they rest on stands in these files of specs/ (tests/believed):
+--   base Conditions, Lists; limits Limits; masks Masks; rulecheck Checking; ruleformat Format,
+--   Reader, Refusals, Worked; calls Calls, Replies, Steps; executions Executions; histories
+--   Functions, TableP; replay Records; capi Numbers; demands Functions.
 use Rattle.histories.specs.Functions.{judgeLibrary}
 use Rattle.histories.specs.TableP.{Tabled, Each, cases}
 use Rattle.histories.proofs.Refinement.{judge-meets}
