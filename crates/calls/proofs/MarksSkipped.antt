@@ -19,8 +19,8 @@ use Rattle.chunks.specs.Chunks.{foreign}
 use Rattle.chunks.specs.Walks.{runMask, runsOf}
 use Rattle.board.specs.Boards.{placesOf, comesLate, filledAt}
 use Rattle.calls.specs.declared.Judge.{Judge}
-use Rattle.calls.specs.Replies.{Reply, refused, delivered}
-use Rattle.calls.specs.Steps.{Outcome, lacksBoard, withBoard, outcomeBy, deliverOf}
+use Rattle.calls.specs.Replies.{Reply, refused, delivered, Outcome}
+use Rattle.calls.specs.Steps.{lacksBoard, withBoard, outcomeBy, deliverOf}
 use Rattle.calls.specs.Claims.{MarksSkipped}
 
 -- the text of a text is itself

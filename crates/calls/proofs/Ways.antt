@@ -41,7 +41,8 @@ use Rattle.calls.specs.declared.Verdict.{Verdict}
 use Rattle.calls.specs.declared.Verdict.the-variants as verdict
 use Rattle.calls.specs.Replies as reply
 use Rattle.calls.specs.Calls.{installNumber, perByte, alone, reportBy}
-use Rattle.calls.specs.Steps.{fresh, withBoard, Outcome, installOf, loadOf, openOf, deliverOf, withdrawOf, isYes, verdictOf}
+use Rattle.calls.specs.Replies.{Outcome}
+use Rattle.calls.specs.Steps.{fresh, withBoard, installOf, loadOf, openOf, deliverOf, withdrawOf, isYes, verdictOf}
 use Rattle.calls.proofs.Conditions.{over, install-number}
 use Rattle.calls.proofs.Loading.{load-is}
 

@@ -4,9 +4,6 @@
 -- says what that is after a list of calls.
 --
 --   fresh              no rule and no board: zeros
---   Outcome            the outcome of a call: its reply, and the state that it leaves
---   installOutcome, openOutcome, deliverOutcome, withdrawOutcome   the outcome that the code's
---                                                                  result stands for
 --   withRule r, installReply r   the judge with the rule r and no board, and what is answered
 --   installOf, loadOf, openOf, deliverOf, withdrawOf   the outcomes of the calls that may change
 --                      the state; that of a load by document 01's numbers
@@ -29,11 +26,7 @@ use Rattle.board.specs.declared.Board.{Board}
 use Rattle.board.specs.Boards.{placesOf, isEmpty, comesLate, emptyBoard, filledAt, clearedAt, emptyPlaces, summedCount, summedBytes}
 use Rattle.joins.specs.Joining.{saysYes}
 use Rattle.calls.specs.declared.Judge.{Judge}
-use Rattle.calls.specs.declared.InstallResult.{InstallResult}
-use Rattle.calls.specs.declared.OpenResult.{OpenResult}
-use Rattle.calls.specs.declared.DeliverResult.{DeliverResult}
-use Rattle.calls.specs.declared.WithdrawResult.{WithdrawResult}
-use Rattle.calls.specs.Replies.{Judgement, Reported, Reply, accepted, installed, judged, refused, installMeans, openMeans, deliverMeans, withdrawMeans, delivered}
+use Rattle.calls.specs.Replies.{Judgement, Reported, Reply, accepted, installed, judged, refused, delivered, Outcome}
 use Rattle.calls.specs.Calls.{Call, installs, loads, opens, delivers, withdraws, asksVerdict, installNumber, loadNumber, openConditions, deliverConditions, withdrawConditions, verdictBy, reportBy}
 
 unfoldable pub fresh : Judge
@@ -49,22 +42,6 @@ abbrev pub withBoard : Judge → Board → Judge
 withBoard j b = record { built = j .built; board = b }
 
 -- ---- outcomes
-pub record Outcome : Type 0 where
-  pub reply : Reply
-  pub state : Judge
-
-abbrev pub installOutcome : InstallResult → Outcome
-installOutcome r = record { reply = installMeans (r .answer); state = r .judge }
-
-abbrev pub openOutcome : OpenResult → Outcome
-openOutcome r = record { reply = openMeans (r .answer); state = r .judge }
-
-abbrev pub deliverOutcome : DeliverResult → Outcome
-deliverOutcome r = record { reply = deliverMeans (r .answer); state = r .judge }
-
-abbrev pub withdrawOutcome : WithdrawResult → Outcome
-withdrawOutcome r = record { reply = withdrawMeans (r .answer); state = r .judge }
-
 -- where no condition holds the call is accepted; a refusal leaves the state as it was
 abbrev pub outcomeBy : Option ℕ → Reply → Judge → Judge → Outcome
 outcomeBy none a j next = record { reply = a; state = next }

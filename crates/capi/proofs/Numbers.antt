@@ -19,8 +19,7 @@ use Rattle.calls.specs.declared.InstallResult.{InstallResult}
 use Rattle.calls.specs.declared.OpenResult.{OpenResult}
 use Rattle.calls.specs.declared.DeliverResult.{DeliverResult}
 use Rattle.calls.specs.declared.WithdrawResult.{WithdrawResult}
-use Rattle.calls.specs.Replies.{installMeans, openMeans, deliverMeans, withdrawMeans, reportMeans}
-use Rattle.calls.specs.Steps.{Outcome, installOutcome, openOutcome, deliverOutcome, withdrawOutcome}
+use Rattle.calls.specs.Replies.{installMeans, openMeans, deliverMeans, withdrawMeans, reportMeans, Outcome, installOutcome, openOutcome, deliverOutcome, withdrawOutcome}
 use Rattle.replay.specs.declared.ReplayAnswer.{ReplayAnswer}
 use Rattle.replay.specs.declared.ReplayAnswer.the-variants as replay
 use Rattle.replay.specs.Records.{ReplayReply, replayMeans}

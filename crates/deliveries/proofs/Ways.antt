@@ -16,8 +16,8 @@ use Rattle.marks.specs.Marks.{textOf}
 use Rattle.board.specs.Boards.{placesOf, comesLate, rowSet, filledAt}
 use Rattle.calls.specs.declared.DeliverAnswer.the-variants.{Accepted, Refused}
 use Rattle.calls.specs.declared.Judge.{Judge}
-use Rattle.calls.specs.Replies.{refused, delivered, deliverMeans}
-use Rattle.calls.specs.Steps.{withBoard, Outcome, deliverOf}
+use Rattle.calls.specs.Replies.{refused, delivered, deliverMeans, Outcome}
+use Rattle.calls.specs.Steps.{withBoard, deliverOf}
 use Rattle.calls.proofs.Ways as ways
 use Rattle.deliveries.specs.declared.Attempt.{Attempt}
 use Rattle.deliveries.specs.Attempts.{Attempted, attemptMeans, refusedWith, ranTo, attemptOf}
