@@ -1,12 +1,12 @@
 -- EVERY NUMBER THAT C IS GIVEN by the judge's functions, to the last field, whatever the judge.
 -- To believe the theorems, read the definitions that they name:
 --
---   installShown .. verdictShown, readShown   the numbers that C is given   capi/specs/Numbers
---   Laws; FlagLaw                  each field of them, the kinds            capi/specs/Laws; flags/specs/Flags
---   RefusedFromC, NoVerdictFromC   what a refused call gives C              demands/specs/Shown
---   MayBegin .. MayRead            what contracts allow                     demands/specs/Functions
---   installOf .. reportOf          the outcome of a call on any state       calls/specs/Steps
---   readOf f                       reading a file                           ruleformat/specs/Reader
+--   installShown .. readShown     the numbers that C is given         capi/specs/Numbers
+--   Laws; FlagLaw                 each field of them, the kinds       capi/specs/Laws; flags/specs/Flags
+--   RefusedFromC, NoVerdictFromC  what a refused call gives C         demands/specs/Shown
+--   MayBegin .. MayRead           what contracts allow                demands/specs/Functions
+--   installOf .. reportOf         the outcome of a call on any state  calls/specs/Steps
+--   readOf f                      reading a file                      ruleformat/specs/Reader
 --
 -- Assumes nothing.
 -- All that they rest on stands in these files of specs/ (tests/believed):
@@ -41,8 +41,8 @@ use Rattle.demands.specs.Shown.{RefusedFromC, NoVerdictFromC}
 use Rattle.demands.proofs.Functions.{read-fixed, load-fixed}
 use Rattle.demands.proofs.Shown.{new-fixed, install-fixed, open-fixed, deliver-fixed, withdraw-fixed, verdict-fixed, refused-so, no-verdict}
 
--- Of those that C links every number of a result is fixed, whatever the judge; a load, reading and a
--- recorded list stand below.
+-- Of those that C links every number of a result is fixed, whatever the judge; a load, reading and
+-- a recorded list stand below.
 pub new-from-C : (j : Judge) → MayBegin j ↔ j ≡ fresh
 new-from-C = new-fixed
 
@@ -67,14 +67,14 @@ load-from-C = load-fixed
 pub read-from-C : (f : List ℕ) (r : ReadNumbers) → MayRead f r ↔ r ≡ readShown (readOf f)
 read-from-C = read-fixed
 
--- Of what C links reading answers the number and the rule, zeros where it is refused, and nothing is
--- asked of it; and every number that a load gives is fixed.
+-- Of what C links reading answers the number and the rule, zeros where it is refused, and nothing
+-- is asked of it; and every number that a load gives is fixed.
 pub read-from-C-asks-nothing : (κs : Lfts 1) (c : RefT (List ℕ)) → read-reads.Asked κs (c, tt)
 read-from-C-asks-nothing = capi-asks.read-asks-nothing
 
 -- In other words than the definitions': `accepted` is 1 or 0 and 0 exactly beside the number of a
--- refusal, each case's fields, and the numbers of the kinds. A refused call gives the flag 0, the number,
--- zeros and the judge that came; a verdict that is refused or waits has three zeros.
+-- refusal, each case's fields, and the numbers of the kinds. A refused call gives the flag 0, the
+-- number, zeros and the judge that came; a verdict that is refused or waits has three zeros.
 pub each-number : Laws
 each-number = capi-laws.laws
 

@@ -1,17 +1,17 @@
--- EVERY LIST OF CALLS, BY THE CALLS ALONE. The demands' page (Demands.antt) speaks of calls and their
--- replies. Here the same stands by definitions that go through a list of calls and compute what is
--- answered, which the pages of the requests use too; and then in other words, so that none of them
--- rests on its own text. To believe the theorems, read the definitions that they name:
+-- EVERY LIST OF CALLS, BY THE CALLS ALONE. The demands' page (Demands.antt) speaks of calls and
+-- their replies. Here the same stands by definitions that go through a list of calls and compute
+-- what is answered, which the pages of the requests use too; and then in other words, so that none
+-- of them rests on its own text. To believe the theorems, read the definitions that they name:
 --
---   stepOf j c                     the outcome of a call on any state    calls/specs/Steps
---   judgeAfter h, repliesTo h      the outcome of a list of calls        histories/specs/Claims
---   standing, verdictIn, answerOf  what 01 says of a list alone          histories/specs/History
---   Accepted-exactly, Refused-..   which calls, with which number        histories/specs/Conditions
---   VerdictSays, Says              what the reply to a verdict says      histories/specs/Claims
---   CountAt, SumIs                 counts by runs of the automaton       transcripts/specs/Runs
---   LastRule .. LastStanding       by the last accepted call of a kind   histories/specs/Last
---   EmptyPlaces                    the empty places, call by call        histories/specs/Empties
---   Agree                          calls alone, and with their replies   transcripts/specs/Agreement
+--   stepOf j c                     the outcome of a call on any state   calls/specs/Steps
+--   judgeAfter h, repliesTo h      the outcome of a list of calls       histories/specs/Claims
+--   standing, verdictIn, answerOf  what 01 says of a list alone         histories/specs/History
+--   Accepted-exactly, Refused-..   which calls, with which number       histories/specs/Conditions
+--   VerdictSays, Says              what the reply to a verdict says     histories/specs/Claims
+--   CountAt, SumIs                 counts by runs of the automaton      transcripts/specs/Runs
+--   LastRule .. LastStanding       by the last accepted call of a kind  histories/specs/Last
+--   EmptyPlaces                    the empty places, call by call       histories/specs/Empties
+--   Agree                          calls alone, and with their replies  transcripts/specs/Agreement
 --
 -- A list of calls has the last call first. Assumes nothing.
 -- All that they rest on stands in these files of specs/ (tests/believed):
@@ -21,7 +21,7 @@
 --   Classes; build Building; marks Marks; walks Steps; chunks Chunks, Counting, Walks; board
 --   Boards; joins Joining; calls Calls, Claims, Replies, Steps; executions Executions, Last;
 --   histories Claims, Conditions, Empties, Functions, History, Last, Method; transcripts
---   Agreement, Runs, Standing; replay Records; capi Numbers; demands Functions.
+--   Agreement, Runs, Standing; capi Numbers; demands Functions.
 use mathlib.Core.Path.{_≡_, _∙_}
 use mathlib.Core.Logic.{_↔_, _⊎_, ⊎-elim}
 use mathlib.Core.Bool.{true, false}
@@ -90,12 +90,13 @@ built h = every-list h .after .rule
 pub method : (r : Rule) → installNumber r ≡ none → Method (automatonOf r) (builtOf r)
 method = histories-method.method
 
--- From the bytes of a file that a load accepts: what is built of it is what 004 gives to the automaton
--- in the bytes. (That the rule which is read accepts the same texts stands in `reading`.)
+-- From the bytes of a file that a load accepts: what is built of it is what 004 gives to the
+-- automaton in the bytes. (That the rule which is read accepts the same texts stands in `reading`.)
 pub method-of-bytes : (f : List ℕ) → loadNumber f ≡ none → Method (automatonIn f) (builtOf (ruleOf f))
 method-of-bytes = histories-method.method-bytes
 
--- A text is accepted exactly when the automaton of source document 000 has an accepting run over it.
+-- A text is accepted exactly when the automaton of source document 000 has an accepting run over
+-- it.
 pub acceptance : (r : Rule) → installNumber r ≡ none → (w : List ℕ)
     → Accepts (automatonOf r) w ↔ (shares (after (r .targets) (r .initials) w) (r .finals) ≡ true)
 acceptance r e = automaton.claims .accepts-law r (accepted-rule r e .0)
@@ -120,11 +121,11 @@ one-claim h rs j e =
     let is = ⊎-elim (every-execution h rs j .0) (every-execution-from-C h rs j .0) e in
     (is .0 ∙ every-list h .correct, is .1, every-list h)
 
--- What the reply to a verdict says, wherever in the list it is asked: yes exactly when the rule that
--- is there has an accepting run over the standing chunks, no exactly when it has none, both with no
--- place empty and with the sum of the counts; waiting with the number of empty places; 21 without a
--- board. (A list has the last call first, so before this reply are as many as calls were made after
--- it; `getElem?`, of the kit's lists, counts from 0 and is none behind the end.)
+-- What the reply to a verdict says, wherever in the list it is asked: yes exactly when the rule
+-- that is there has an accepting run over the standing chunks, no exactly when it has none, both
+-- with no place empty and with the sum of the counts; waiting with the number of empty places; 21
+-- without a board. (A list has the last call first, so before this reply are as many as calls were
+-- made after it; `getElem?`, of the kit's lists, counts from 0 and is none behind the end.)
 pub verdict-says : (later earlier : List Call) (rs : List Reply) (j : Judge)
     → Execution judgeLibrary (later ++ (asksVerdict ∷ earlier)) rs j ⊎ Execution cLibrary (later ++ (asksVerdict ∷ earlier)) rs j
     → (a : Reply) × (getElem? rs (length later) ≡ some a) × VerdictSays earlier a
@@ -149,8 +150,8 @@ refused-21 h = every-list h .verdict .none-there
 pub waits : (h : List Call) (e : ℕ) → (verdictIn h ≡ waiting e) ↔ ((boardIn h ≡ true) × (0 < e) × (e ≡ emptiesIn h))
 waits h = every-list h .verdict .waits
 
--- else yes exactly when the last accepted rule has an accepting run over the standing chunks without
--- their idle marks, joined by place, and no when it has none.
+-- else yes exactly when the last accepted rule has an accepting run over the standing chunks
+-- without their idle marks, joined by place, and no when it has none.
 pub accepted-texts : (h : List Call) → boardIn h ≡ true → emptiesIn h ≡ 0
     → (verdictIn h ≡ yesWith (summedIn h)) ↔ Accepts (automatonOf (ruleIn h)) (textIn h)
 accepted-texts h = every-list h .verdict .accepts
@@ -174,8 +175,8 @@ counts h = every-list h .after .counts
 pub joined : (h : List Call) → boardIn h ≡ true → isYes (judgeAfter h) ≡ yesIn h
 joined h = every-list h .after .joined
 
--- the count is the sum of those counts and at most merged starts times bytes of the text, as at each
--- place.
+-- the count is the sum of those counts and at most merged starts times bytes of the text, as at
+-- each place.
 pub summed : (h : List Call) → summedCount (judgeAfter h .board) ≡ summedIn h
 summed h = every-list h .after .summed
 
@@ -220,8 +221,8 @@ pub empty-places : EmptyPlaces emptiesIn
 empty-places = histories-empties.empty-places
 
 -- In other words, by runs of the automaton: how many triples there are of a place, a state that its
--- standing chunk is run from, at place 0 the delegates of initial states, and a byte up to which a run
--- from that state goes over the text; and at each place how many pairs;
+-- standing chunk is run from, at place 0 the delegates of initial states, and a byte up to which a
+-- run from that state goes over the text; and at each place how many pairs;
 pub transitions : (h : List Call) (p : ℕ) → CountAt (standingAfter h (answersTo h)) p (countAt h p)
 transitions h = transcripts-places.count-at h (standingAfter h (answersTo h)) (transcripts-agree.agree h)
 

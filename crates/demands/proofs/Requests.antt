@@ -1,17 +1,17 @@
--- THE REQUESTS THAT CHANGE THE JUDGE (document 02: R-1 to R-5, R-7, R-11, R-12), sentence by sentence.
--- A request that brought functions of its own has a page in crates/requests. To believe the
--- theorems, read the definitions that they name:
+-- THE REQUESTS THAT CHANGE THE JUDGE (document 02: R-1 to R-5, R-7, R-11, R-12), sentence by
+-- sentence. A request that brought functions of its own has a page in crates/requests. To believe
+-- the theorems, read the definitions that they name:
 --
---   reportBy; Divided, ThreeZeros  what is reported with a verdict       calls/specs/Calls, Claims
---   LookedUp                       for how many bytes a set is looked up transcripts/specs/Runs
---   readOf f, ReadLaw; LoadIs      reading a file; a load                ruleformat/, calls/specs
---   CountBound                     the sum's bound; the former 24        histories/specs/CountBound
---   textOf; foreign, ForeignByte   a chunk without idle marks; 13        marks/, chunks/, calls/specs
---   MarksSkipped                   idle marks                            calls/specs/Claims
---   SameAnswer; FormerMerged ..    the former starts and their join      histories/specs/FormerStarts, joins/specs/Former
---   lastRevision, leastAfter       revisions at a place                  histories/specs/History, Claims
---   Orders; Revisions              deliveries in any order; in words     histories/specs/Orders, Revisions
---   Fewest, Covers                 the fewest starts                     histories/, delegates/specs/Fewest
+--   reportBy; Divided, ThreeZeros  what is reported with a verdict  calls/specs/Calls, Claims
+--   LookedUp                       bytes for which a set is looked up transcripts/specs/Runs
+--   readOf f, ReadLaw; LoadIs      reading a file; a load           ruleformat/, calls/specs
+--   CountBound                     the sum's bound; the former 24   histories/specs/CountBound
+--   textOf; foreign, ForeignByte   a chunk without idle marks; 13   marks/, chunks/, calls/specs
+--   MarksSkipped                   idle marks                       calls/specs/Claims
+--   SameAnswer; FormerMerged ..    the former starts and join       histories/, joins/specs
+--   lastRevision, leastAfter       revisions at a place             histories/specs/History, Claims
+--   Orders; Revisions              deliveries in any order          histories/specs/Orders, Revisions
+--   Fewest, Covers                 the fewest starts                histories/, delegates/specs/Fewest
 --
 -- A list of calls has the last call first. Assumes nothing.
 -- All that they rest on stands in these files of specs/ (tests/believed):
@@ -72,10 +72,10 @@ use Rattle.demands.proofs.Installing as installing
 
 -- ---- R-1
 
--- Beside yes or no the verdict reports the number of text bytes, and the whole quotient and the exact
--- remainder of the count by it; for a text of 0 bytes both are 0, beside waiting or a refusal all three
--- (document 02, R-1). Each place holds the length of its standing chunk
--- without idle marks, an empty one 0:
+-- Beside yes or no the verdict reports the number of text bytes, and the whole quotient and the
+-- exact remainder of the count by it; for a text of 0 bytes both are 0, beside waiting or a refusal
+-- all three (document 02, R-1). Each place holds the length of its standing chunk without idle
+-- marks, an empty one 0:
 pub lengths : (h : List Call) (p : ℕ) → p < mostPlaces → getD (judgeAfter h .board .lengths) p 0 ≡ lengthAt h p
 lengths h = every-list h .after .lengths
 
@@ -110,9 +110,9 @@ looked-up h = transcripts-replies.looked-up h (standingAfter h (answersTo h)) (t
 pub load-is : (j : Judge) (f : List ℕ) → LoadIs j f
 load-is = calls-loading.load-is
 
--- Reading gives 1 to 8 in order, zeros where it refuses, and else the rule in the file, which passes
--- the check of a rule as a value and accepts the texts that the automaton in the bytes accepts. Any
--- call that takes such a value first gives 3, 4, 6 or 8 as installing would.
+-- Reading gives 1 to 8 in order, zeros where it refuses, and else the rule in the file, which
+-- passes the check of a rule as a value and accepts the texts that the automaton in the bytes
+-- accepts. Any call that takes such a value first gives 3, 4, 6 or 8 as installing would.
 pub reading : (f : List ℕ) → ReadLaw f
 reading = rulefile.claims .reading
 
@@ -121,9 +121,10 @@ as-installing = installing.exactly
 
 -- ---- R-4
 
--- The sum of the counts is at most 64 places times 65,536 bytes times 32 starts; so it is with a chunk
--- that can be delivered, counted instead of what it replaces. So what document 01 numbered 24, a sum
--- over 4,294,967,295, changed no answer, and a delivery has the other five conditions (document 02, R-4).
+-- The sum of the counts is at most 64 places times 65,536 bytes times 32 starts; so it is with a
+-- chunk that can be delivered, counted instead of what it replaces. So what document 01 numbered
+-- 24, a sum over 4,294,967,295, changed no answer, and a delivery has the other five conditions
+-- (document 02, R-4).
 pub bound-is : mostTransitions ≡ 134217728
 bound-is = refl
 
@@ -144,7 +145,8 @@ foreign-bytes = calls-foreign.foreign-exactly
 pub marks-skipped : (j : Judge) (p v : ℕ) (w : List ℕ) → MarksSkipped j p v w
 marks-skipped = calls-marks.marks-skipped
 
--- What the text of a chunk is, byte by byte: an idle mark, 255, is left out, and any other byte stays.
+-- What the text of a chunk is, byte by byte: an idle mark, 255, is left out, and any other byte
+-- stays.
 pub text-of : (textOf [] ≡ []) × ((w : List ℕ) → textOf (255 ∷ w) ≡ textOf w)
     × ((b : ℕ) (w : List ℕ) → (b ≡ 255 → ⊥) → textOf (b ∷ w) ≡ b ∷ textOf w)
 unfolding textOf
@@ -152,8 +154,8 @@ text-of = (refl, marks.claims .skipped, marks.claims .kept)
 
 -- ---- R-7
 
--- with the starts that document 01 had, of every state the lowest alike one, also of states that lead
--- nowhere, it was the same (document 02, R-7);
+-- with the starts that document 01 had, of every state the lowest alike one, also of states that
+-- lead nowhere, it was the same (document 02, R-7);
 pub former-starts : (r : Rule) → installNumber r ≡ none → (d : List ℕ) × (m : ℕ) × FormerMerged (automatonOf r) d m
 former-starts r e = let x = accepted-rule r e in former-claims .former-merged r (x .0) (x .1)
 
@@ -162,28 +164,28 @@ same-yes-or-no = histories-former.same-answer
 
 -- ---- R-11
 
--- A delivery carries a revision (document 02, R-11). It gets 22 when its revision is not greater than
--- the last one accepted at its place since the opening (`refused-exactly`); a greater one
--- replaces what stands, of which nothing is left (`ends`, `counts`, `lengths` below). Each place holds
--- the last revision:
+-- A delivery carries a revision (document 02, R-11). It gets 22 when its revision is not greater
+-- than the last one accepted at its place since the opening (`refused-exactly`); a greater one
+-- replaces what stands, of which nothing is left (`ends`, `counts`, `lengths` below). Each place
+-- holds the last revision:
 pub revisions : (h : List Call) (p : ℕ) → p < mostPlaces → lastAt (judgeAfter h .board) p ≡ leastAfter (lastRevision h p)
 revisions h = every-list h .after .revisions
 
--- and any two orders of the same deliveries, no revision twice at a place, leave the same judge, made
--- after any calls, a fresh board's among others.
+-- and any two orders of the same deliveries, no revision twice at a place, leave the same judge,
+-- made after any calls, a fresh board's among others.
 pub any-order : (h : List Call) → Orders h
 any-order = histories-orders.orders
 
--- In the request's words: not greater gets 22 even after a withdrawal, an opening forgets, a greater
--- one replaces what stands and is the last one, and where none was accepted nothing stands.
+-- In the request's words: not greater gets 22 even after a withdrawal, an opening forgets, a
+-- greater one replaces what stands and is the last one, and where none was accepted nothing stands.
 pub revisions-say : (h : List Call) → Revisions h
 revisions-say = histories-revisions.revisions
 
 -- ---- R-12
 
 -- No choice of starting states that gives each state with a reachable final state an alike one has
--- fewer than M members, and one has M: the M that the build returned, by its own contract, for every
--- well-formed rule, and that any accepted installation or load answered (document 02, R-12).
+-- fewer than M members, and one has M: the M that the build returned, by its own contract, for
+-- every well-formed rule, and that any accepted installation or load answered (document 02, R-12).
 pub fewest-built : BuildFewest
 fewest-built = histories-fewest.build-fewest
 

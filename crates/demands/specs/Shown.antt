@@ -2,10 +2,10 @@
 -- only an accepted call has, and the judge that came. crates/capi/specs/Laws.antt has the law of
 -- the numbers in every case.
 --
---   RefusedFromC j x     the results of the functions that C links on the judge j, where they refuse
---                        with x
---   NoVerdictFromC j x   that of the verdict, where it is refused with x or waits for x places: three
---                        zeros beside it
+--   RefusedFromC j x     the results of the functions that C links on the judge j, where they
+--                        refuse with x
+--   NoVerdictFromC j x   that of the verdict, where it is refused with x or waits for x places:
+--                        three zeros beside it
 use mathlib.Core.Path.{_≡_}
 use mathlib.Core.List.{List}
 use mathlib.Core.Option.{some}

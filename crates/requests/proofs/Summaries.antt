@@ -36,8 +36,8 @@
 --   Alike, Claims, Classes; build Building; digests Digests, Worked; marks Marks; walks Steps;
 --   chunks Chunks, Taking, Walks; board Boards; joins Claims, Joining; calls Calls, Claims,
 --   Replies, Steps; executions Executions; histories Claims, Functions, History; fillings Filled;
---   summaries Claims, Summaries; summaryverdict Functions, Lists, Traces, Worked; replay Records;
---   c_summaries Numbers; capi Numbers; demands Functions; requests SummaryFunctions.
+--   summaries Claims, Summaries; summaryverdict Functions, Lists, Traces, Worked; c_summaries
+--   Numbers; capi Numbers; demands Functions; requests SummaryFunctions.
 use mathlib.Core.Path.{_≡_, refl}
 use mathlib.Core.Logic.{_↔_, _⊎_}
 use mathlib.Core.List.{List, _∷_, flatten}

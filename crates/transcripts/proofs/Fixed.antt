@@ -20,9 +20,11 @@ use Rattle.base.proofs.Options.{none-some}
 use Rattle.base.proofs.Tests.{by-test, not-both}
 use Rattle.marks.specs.Marks.{textOf}
 use Rattle.automaton.specs.Automaton.{Automaton}
+use Rattle.automaton.specs.Rules.{automatonOf}
+use Rattle.ruleformat.specs.Language.{automatonIn}
 use Rattle.build.specs.Building.{builtOf}
 use Rattle.ruleformat.specs.Reader.{ruleOf}
-use Rattle.calls.specs.Replies.{Judgement, waiting, yesWith, noWith, refusedWith, Reported, Reply, delivered, judged}
+use Rattle.calls.specs.Replies.{Judgement, waiting, yesWith, noWith, refusedWith, Reported, Reply, delivered, judged, installed}
 use Rattle.calls.specs.Calls.{Call, installs, loads, opens, delivers, withdraws, asksVerdict}
 use Rattle.calls.specs.Claims.{Divided}
 use Rattle.histories.specs.History.{placesIn, reportIn, answerOf, answersTo}
@@ -31,11 +33,12 @@ use Rattle.histories.proofs.EveryList.{every-list}
 use Rattle.histories.proofs.VerdictSays.{in-words}
 use Rattle.transcripts.specs.Standing.{Standing, standingAfter, theAutomaton, textIn}
 use Rattle.transcripts.specs.Runs.{LookedUp}
-use Rattle.transcripts.specs.Answers.{Reports, Value, Answers, Right, no-call, one-more}
+use Rattle.transcripts.specs.Answers.{Reports, BuildReply, Value, Answers, Right, no-call, one-more}
 use Rattle.transcripts.specs.Claims.{OneAnswer}
 use Rattle.transcripts.specs.Agreement.{Agree}
 use Rattle.transcripts.proofs.Agree.{agree}
 use Rattle.transcripts.proofs.Conditions.{numberOf, refused-law, accepted-law}
+use Rattle.transcripts.proofs.OneMethod.{one-method}
 use Rattle.transcripts.proofs.Replies.{answers}
 
 -- ---- R-2's number
@@ -96,6 +99,12 @@ module _ (s : Standing) (r q : Reported) (x : Reports s r) (y : Reports s q) whe
       of (refusedWith n) z = absurd (never n z)
 
 -- ---- a reply
+-- the numbers of what is built are fixed
+one-build : (a : Automaton) (r q : Reply) → BuildReply a r → BuildReply a q → r ≡ q
+one-build a r q x y =
+    let same = one-method a (x .0) (y .0) (x .1) (y .1) in
+    x .2 ∙ ap₂ installed (same .sets) (same .starts) ∙ sym (y .2)
+
 module _ (h : List Call) (s : Standing) (g : Agree h s) where
   never-refused : numberOf h asksVerdict ≡ none → (n : ℕ) → reportIn h .verdict ≡ refusedWith n → ⊥
   never-refused e n z =
@@ -108,8 +117,8 @@ module _ (h : List Call) (s : Standing) (g : Agree h s) where
 
   -- an accepted call
   one-value : (c : Call) (a : Reply) → numberOf h c ≡ none → Value s c a → Value s c (answerOf h c) → a ≡ answerOf h c
-  one-value (installs r) a e x y = x (builtOf r) (method r e) ∙ sym (y (builtOf r) (method r e))
-  one-value (loads f) a e x y = x (builtOf (ruleOf f)) (method-bytes f e) ∙ sym (y (builtOf (ruleOf f)) (method-bytes f e))
+  one-value (installs r) a e x y = one-build (automatonOf r) a (answerOf h (installs r)) x y
+  one-value (loads f) a e x y = one-build (automatonIn f) a (answerOf h (loads f)) x y
   one-value (opens n) a e x y = x ∙ sym y
   one-value (delivers p v w) a e x y =
       x .1 ∙ ap delivered (one-number (theAutomaton s) p (textOf w) (x .0) (y .0) (x .2) (y .2)) ∙ sym (y .1)

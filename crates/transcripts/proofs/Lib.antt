@@ -9,4 +9,6 @@ pub mod Replies
 pub mod Fixed
 pub mod Joining
 pub mod EveryList
+pub mod OneBoard
 pub mod Verdict
+pub mod OneText

@@ -1,5 +1,5 @@
--- Document 004's construction, in document 01's order, is fixed by the automaton: two built rules that
--- have its sets, table, delegates and M have the same. Assumes nothing.
+-- Document 004's construction, in document 01's order, is fixed by the automaton: two built rules
+-- that have its sets, table, delegates and M have the same. Assumes nothing.
 --
 -- A set has one origin, a state and a text, and numbers go by the order of these: so the numbers of
 -- the sets in one built rule rise with those in the other, both ways, and are the same.

@@ -4,7 +4,8 @@
 --   rule-there         a chunk stands only where a rule is there
 --   end-at, count-at   the end sets and the count of a place
 --   sum-law            the sum of the counts
---   empties-same, text-same, accepts-same   the empty places, the text, and which texts are accepted
+--   empties-same, text-same, accepts-same   the empty places, the text, and which texts are
+--                                           accepted
 use mathlib.Core.Path.{_≡_, refl, sym, ap, _∙_, subst, fun-ext}
 use mathlib.Core.Logic.{_↔_, Iff·trans}
 use mathlib.Core.List.{List}

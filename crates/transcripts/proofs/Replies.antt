@@ -82,16 +82,8 @@ module _ (h : List Call) (s : Standing) (g : Agree h s) where
   some-places e = let n = eqb-false (s .places) 0 e in omega (arith, g .places)
 
   answered : (c : Call) → AcceptedBy s c → Value s c (answerOf h c)
-  answered (installs r) x =
-      let e = accepted-law h s g (installs r) .1 x in
-      λ b m.
-      let same = one-method (automatonOf r) (builtOf r) b (method r e) m in
-      rw e (ap₂ installed (same .sets) (same .starts))
-  answered (loads f) x =
-      let e = accepted-law h s g (loads f) .1 x in
-      λ b m.
-      let same = one-method (automatonIn f) (builtOf (ruleOf f)) b (method-bytes f e) m in
-      rw e (ap₂ installed (same .sets) (same .starts))
+  answered (installs r) x = let e = accepted-law h s g (installs r) .1 x in (builtOf r, method r e, rw e)
+  answered (loads f) x = let e = accepted-law h s g (loads f) .1 x in (builtOf (ruleOf f), method-bytes f e, rw e)
   answered (opens n) x = rw (accepted-law h s g (opens n) .1 x)
   answered (delivers p v w) x =
       (lookedOf (ruleIn h) p w, rw (accepted-law h s g (delivers p v w) .1 x), looks (some-places (x .0 .0)) p w)

@@ -1,6 +1,6 @@
 -- What document 01 gives to a chunk at a place, by runs of the automaton: the states that it is run
--- from, its end sets, its count and R-2's number. Of a rule as a value first, then of the bytes of a
--- file, whose automaton has the same runs. Assumes nothing.
+-- from, its end sets, its count and R-2's number. Of a rule as a value first, then of the bytes of
+-- a file, whose automaton has the same runs. Assumes nothing.
 --
 --   run-within          a run goes on from a state below n
 --   started-law         the set of the states that are run has the started ones

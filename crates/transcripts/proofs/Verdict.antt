@@ -41,7 +41,7 @@ module _ (h : List Call) (s : Standing) (g : Agree h s) where
   accepts : 0 < s .places → Accepts (theAutomaton s) (textIn s) ↔ Accepts (automatonOf (ruleIn h)) (textBy h)
   accepts l = rw (text-same h s g) (accepts-same h s g (omega (arith, g .places)) (textBy h))
 
-  verdict-is : VerdictIs s (answerOf h asksVerdict)
+  pub verdict-is : VerdictIs s (answerOf h asksVerdict)
   verdict-is =
       let words = in-words h (judged (reportIn h)) refl in
       let sum = sum-law h s g in

@@ -1,6 +1,6 @@
 -- What the calls and their replies say, beside what the calls alone say (crates/histories,
--- specs/History.antt): two ways through a list, which come to the same where the replies are document
--- 01's. proofs/Agree.antt proves it of every list.
+-- specs/History.antt): two ways through a list, which come to the same where the replies are
+-- document 01's. proofs/Agree.antt proves it of every list.
 --
 --   valueOf x, ruleFor o   the rule as a value
 --   SoundSource x, Sound o   what the rule comes from is accepted

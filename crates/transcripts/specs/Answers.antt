@@ -5,7 +5,8 @@
 --   Many c             9: more than 512 sets are reached in the automaton that c brings
 --   RefusedWith s c x  the condition numbered x is the first that holds
 --   AcceptedBy s c     none holds
---   refusalBy c x      the reply that refuses the call c with x; a verdict's has three zeros beside it
+--   refusalBy c x      the reply that refuses the call c with x; a verdict's has three zeros beside
+--                      it
 --   Reports s r        what the verdict reports where a board is there (document 02, R-1)
 --   Value s c a        what an accepted call is answered
 --   Answers s c a      a is the reply to the call c
@@ -80,7 +81,7 @@ pub record Reports (s : Standing) (r : Reported) : Type 0 where
 
 -- a rule: the number of its sets and M, those of what document 004 builds of the automaton
 abbrev pub BuildReply : Automaton → Reply → Type 0
-BuildReply a reply = (b : Built) → Method a b → reply ≡ installed (b .setcount) (b .startcount)
+BuildReply a reply = (b : Built) × Method a b × (reply ≡ installed (b .setcount) (b .startcount))
 
 abbrev pub Value : Standing → Call → Reply → Type 0
 Value s (installs r) a = BuildReply (automatonOf r) a

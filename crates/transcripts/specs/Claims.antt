@@ -5,6 +5,7 @@
 --   SameBuilt k b c   the built rules b and c have the same sets, table, delegates and M
 --   Holds s j         the judge j holds what stands: the rule, built as document 004 has it, and at
 --                     each place the end sets, the count, the length and the revision
+--   SameBoard j k     the judges j and k hold the same at each place
 --   VerdictIs s a     what the reply a to a verdict says, where s stands
 --   OneAnswer         the words fix every reply
 use mathlib.Core.Path.{_≡_}
@@ -53,10 +54,18 @@ pub record Holds (s : Standing) (j : Judge) : Type 0 where
   pub most : (c : ℕ) → 0 < s .places → SumIs s c → c ≤ j .built .startcount * length (textIn s)
   pub place-most : (p c : ℕ) → p < s .places → CountAt s p c → c ≤ j .built .startcount * length (textAt s p)
 
+pub record SameBoard (j k : Judge) : Type 0 where
+  pub places : j .board .places ≡ k .board .places
+  pub empty : (p : ℕ) → p < mostPlaces → isEmpty (j .board) p ≡ isEmpty (k .board) p
+  pub ends : (p q : ℕ) → p < mostPlaces → q < mostStates → held (j .board) p q ≡ held (k .board) p q
+  pub counts : (p : ℕ) → p < mostPlaces → getD (j .board .counts) p 0 ≡ getD (k .board .counts) p 0
+  pub lengths : (p : ℕ) → p < mostPlaces → getD (j .board .lengths) p 0 ≡ getD (k .board .lengths) p 0
+  pub revisions : (p : ℕ) → p < mostPlaces → lastAt (j .board) p ≡ lastAt (k .board) p
+
 pub record VerdictIs (s : Standing) (a : Reply) : Type 0 where
   -- yes exactly when a board is there, no place is empty and the rule has an accepting run over the
-  -- standing chunks without their idle marks, joined by place; no exactly when it has none; both with
-  -- the sum of the counts
+  -- standing chunks without their idle marks, joined by place; no exactly when it has none; both
+  -- with the sum of the counts
   pub says-yes : (c : ℕ) → Says a (yesWith c) ↔ ((0 < s .places) × (empties s ≡ 0) × SumIs s c × Accepts (theAutomaton s) (textIn s))
   pub says-no : (c : ℕ) → Says a (noWith c) ↔ ((0 < s .places) × (empties s ≡ 0) × SumIs s c × (Accepts (theAutomaton s) (textIn s) → ⊥))
   -- waiting exactly when a place is empty, with the number of these

@@ -1,8 +1,8 @@
 -- Running what stands (document 01, "Running a chunk"; document 02, R-2 and R-7), by runs of the
 -- automaton alone.
 --
---   Started a p q        a chunk at place p is run from the state q: at place 0 q is the delegate of
---                        an initial state, at any other place a start, which is its own delegate
+--   Started a p q        a chunk at place p is run from the state q: at place 0 q is the delegate
+--                        of an initial state, at any other place a start, which is its own delegate
 --   InEndSet s p q y     y is in the end set of q at place p; where nothing stands, and of a state
 --                        that is not run there, no state is
 --   Transition s p q i   a run from q goes over the text at place p up to byte i, with that byte:
@@ -11,10 +11,11 @@
 --                        number q × 65,536 + i
 --   SumIs s c            c is the sum of the counts over all places
 --   Dead a p w           over the text w no run at place p goes on: every set is empty
---   LookedUp a p w n     n is the least number of bytes of w after which every set is empty, else all
---   Joined a e p y       y is in C after the first p places, whose end sets are e: C begins with the
---                        initial states and becomes the union of the end sets of the delegates of
---                        its members; a member without a delegate is passed over
+--   LookedUp a p w n     n is the least number of bytes of w after which every set is empty, else
+--                        all
+--   Joined a e p y       y is in C after the first p places, whose end sets are e: C begins with
+--                        the initial states and becomes the union of the end sets of the delegates
+--                        of its members; a member without a delegate is passed over
 use mathlib.Core.Path.{_≡_}
 use mathlib.Core.List.{List}
 use mathlib.Core.Option.{some}

@@ -5,8 +5,9 @@
 --   Source             where a rule comes from: a value that was installed, or the bytes of a file
 --   automatonBy x      the automaton that it states (document 000)
 --   Standing           what stands: where the rule comes from, if one is there; the number of
---                      places, 0 where no board is there; at each place the standing chunk, and the
---                      last revision accepted since the opening (document 02, R-11), or none
+--                      places, 0 where no board is there (an opening that is accepted has at least
+--                      one); at each place the standing chunk, and the last revision accepted since
+--                      the opening (document 02, R-11), or none
 --   allEmpty x n       a rule from x, and n places, all empty
 --   placed p x f       f, with x at place p
 --   afterCall s c      what stands after the accepted call c, where s stood before it
