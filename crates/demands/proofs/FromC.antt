@@ -2,7 +2,7 @@
 -- To believe the theorems, read the definitions that they name:
 --
 --   installShown .. readShown     the numbers that C is given         capi/specs/Numbers
---   Laws; FlagLaw                 each field of them, the kinds       capi/specs/Laws; flags/specs/Flags
+--   Laws; FlagLaw                 each field of them, the kinds       capi/, flags/specs
 --   RefusedFromC, NoVerdictFromC  what a refused call gives C         demands/specs/Shown
 --   MayBegin .. MayRead           what contracts allow                demands/specs/Functions
 --   installOf .. reportOf         the outcome of a call on any state  calls/specs/Steps

@@ -10,8 +10,8 @@
 --   MarksSkipped                   idle marks                       calls/specs/Claims
 --   SameAnswer; FormerMerged ..    the former starts and join       histories/, joins/specs
 --   lastRevision, leastAfter       revisions at a place             histories/specs/History, Claims
---   Orders; Revisions              deliveries in any order          histories/specs/Orders, Revisions
---   Fewest, Covers                 the fewest starts                histories/, delegates/specs/Fewest
+--   Orders; Revisions              deliveries in any order          histories/specs
+--   Fewest, Covers                 the fewest starts                histories/, delegates/specs
 --
 -- A list of calls has the last call first. Assumes nothing.
 -- All that they rest on stands in these files of specs/ (tests/believed):
