@@ -17,11 +17,11 @@ use lib.ListN.{length}
 use Rattle.limits.specs.Limits.{mostSets, emptySet}
 use Rattle.masks.specs.Masks.{single}
 use Rattle.automaton.specs.Successor.{successor}
-use Rattle.numbering.specs.Arrays as keys
+use Rattle.numbering.specs.mirror.Arrays as keys
 use Rattle.subsets.specs.declared.Numbered.{Numbered}
 use Rattle.subsets.specs.declared.Numbering.{Numbering}
 use Rattle.subsets.specs.Sets.{isEmpty, setWalk, numbered, closeFrom, setsOf, tooMany, setCells, nextCells}
-use Rattle.subsets.specs.Answer.{NumberingReply, counted, refused, numberingMeans, Turn, named, turned-down, turnMeans}
+use Rattle.subsets.specs.mirror.Answer.{NumberingReply, counted, refused, numberingMeans, Turn, named, turned-down, turnMeans}
 
 abbrev pub told : NumberingReply → Option ℕ
 told (counted c) = some c
