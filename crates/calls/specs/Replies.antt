@@ -15,6 +15,8 @@
 --     refused x          a call other than the verdict was refused with the number x
 --   refusalIn v, refusalOf a   the number of the refusal, or none where v or a is none
 --   installMeans .. verdictMeans, reportMeans   what each case of the code's answers says
+--   Outcome              the outcome of a call: its reply, and the state that it leaves
+--   installOutcome .. withdrawOutcome   the outcome that the code's result stands for
 use mathlib.Core.Option.{Option, none, some}
 use Prim.Native.Nat.{ℕ}
 use Rattle.calls.specs.declared.InstallAnswer.{InstallAnswer}
@@ -25,6 +27,11 @@ use Rattle.calls.specs.declared.DeliverAnswer.{DeliverAnswer}
 use Rattle.calls.specs.declared.DeliverAnswer.the-variants as delivery
 use Rattle.calls.specs.declared.WithdrawAnswer.{WithdrawAnswer}
 use Rattle.calls.specs.declared.WithdrawAnswer.the-variants as withdrawal
+use Rattle.calls.specs.declared.Judge.{Judge}
+use Rattle.calls.specs.declared.InstallResult.{InstallResult}
+use Rattle.calls.specs.declared.OpenResult.{OpenResult}
+use Rattle.calls.specs.declared.DeliverResult.{DeliverResult}
+use Rattle.calls.specs.declared.WithdrawResult.{WithdrawResult}
 use Rattle.calls.specs.declared.Report.{Report}
 use Rattle.calls.specs.declared.Verdict.{Verdict}
 use Rattle.calls.specs.declared.Verdict.the-variants.{Waiting, Yes, No, Refused}
@@ -85,3 +92,20 @@ verdictMeans (Refused number) = refusedWith number
 
 abbrev pub reportMeans : Report → Reported
 reportMeans r = record { verdict = verdictMeans (r .verdict); bytes = r .bytes; quotient = r .quotient; remainder = r .remainder }
+
+-- ---- with the state that is left
+pub record Outcome : Type 0 where
+  pub reply : Reply
+  pub state : Judge
+
+abbrev pub installOutcome : InstallResult → Outcome
+installOutcome r = record { reply = installMeans (r .answer); state = r .judge }
+
+abbrev pub openOutcome : OpenResult → Outcome
+openOutcome r = record { reply = openMeans (r .answer); state = r .judge }
+
+abbrev pub deliverOutcome : DeliverResult → Outcome
+deliverOutcome r = record { reply = deliverMeans (r .answer); state = r .judge }
+
+abbrev pub withdrawOutcome : WithdrawResult → Outcome
+withdrawOutcome r = record { reply = withdrawMeans (r .answer); state = r .judge }

@@ -1,7 +1,6 @@
 -- The numbers of each case of an answer are those of what it says. Assumes nothing.
 use mathlib.Core.Path.{_≡_, sym, ap, _∙_}
 use Prim.Native.Nat.{ℕ}
-use Rattle.automaton.specs.declared.Rule.{Rule}
 use Rattle.ruleformat.specs.declared.ReadAnswer.{ReadAnswer}
 use Rattle.ruleformat.specs.declared.ReadAnswer.the-variants as reading
 use Rattle.ruleformat.specs.declared.ReadResult.{ReadResult}
@@ -19,8 +18,7 @@ use Rattle.calls.specs.declared.InstallResult.{InstallResult}
 use Rattle.calls.specs.declared.OpenResult.{OpenResult}
 use Rattle.calls.specs.declared.DeliverResult.{DeliverResult}
 use Rattle.calls.specs.declared.WithdrawResult.{WithdrawResult}
-use Rattle.calls.specs.Replies.{installMeans, openMeans, deliverMeans, withdrawMeans, reportMeans}
-use Rattle.calls.specs.Steps.{Outcome, installOutcome, openOutcome, deliverOutcome, withdrawOutcome}
+use Rattle.calls.specs.Replies.{installMeans, openMeans, deliverMeans, withdrawMeans, reportMeans, Outcome, installOutcome, openOutcome, deliverOutcome, withdrawOutcome}
 use Rattle.replay.specs.declared.ReplayAnswer.{ReplayAnswer}
 use Rattle.replay.specs.declared.ReplayAnswer.the-variants as replay
 use Rattle.replay.specs.Records.{ReplayReply, replayMeans}

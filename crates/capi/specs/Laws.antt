@@ -12,8 +12,7 @@ use Prim.Native.Nat.{ℕ}
 use Rattle.flags.specs.Flags.{FlagLaw}
 use Rattle.ruleformat.specs.Reader.{Reading}
 use Rattle.calls.specs.declared.Judge.{Judge}
-use Rattle.calls.specs.Replies.{Judgement, waiting, yesWith, noWith, refusedWith, accepted, installed, delivered, refused, refusalOf}
-use Rattle.calls.specs.Steps.{Outcome}
+use Rattle.calls.specs.Replies.{Judgement, waiting, yesWith, noWith, refusedWith, accepted, installed, delivered, refused, refusalOf, Outcome}
 use Rattle.replay.specs.Records.{verdict, malformedLine}
 use Rattle.capi.specs.Numbers.{readShown, installShown, openShown, deliverShown, withdrawShown, verdictShown, replayShown}
 

@@ -19,8 +19,7 @@ use Prim.Native.Nat.{ℕ}
 use lib.Dec.{eqb}
 use Rattle.flags.specs.Flags.{flagBy, refusedBy, refusalBy}
 use Rattle.ruleformat.specs.Reader.{Reading}
-use Rattle.calls.specs.Replies.{Judgement, waiting, yesWith, noWith, refusedWith, Reported, Reply, accepted, installed, judged, refused, refusalOf, delivered}
-use Rattle.calls.specs.Steps.{Outcome}
+use Rattle.calls.specs.Replies.{Judgement, waiting, yesWith, noWith, refusedWith, Reported, Reply, accepted, installed, judged, refused, refusalOf, delivered, Outcome}
 use Rattle.replay.specs.Records.{ReplayReply, verdict, malformedLine}
 use Rattle.capi.specs.declared.ReadNumbers.{ReadNumbers}
 use Rattle.capi.specs.declared.InstallNumbers.{InstallNumbers}

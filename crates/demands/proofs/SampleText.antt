@@ -3,8 +3,8 @@
 --   Entry           a line, the call that it records, and the reply to it
 --   Right h es      each line is read as its call, and its reply is the right one after the calls h
 --                   and those of the lines before it
---   answerWith s    what is answered to a call, with the starts s put in for the rule's own: those do
---                   not compute, and `starts-A` says what they are
+--   answerWith s    what is answered to a call, with the starts s put in for the rule's own: those
+--                   do not compute, and `starts-A` says what they are
 use mathlib.Core.Path.{_≡_, refl, ap, ap₂, _∙_}
 use mathlib.Core.List.{List, [], _∷_, _++_}
 use mathlib.Core.Option.{none, some}

@@ -2,10 +2,10 @@
 -- only an accepted call has, and the judge that came. crates/capi/specs/Laws.antt has the law of
 -- the numbers in every case.
 --
---   RefusedFromC j x     the results of the functions that C links on the judge j, where they refuse
---                        with x
---   NoVerdictFromC j x   that of the verdict, where it is refused with x or waits for x places: three
---                        zeros beside it
+--   RefusedFromC j x     the results of the functions that C links on the judge j, where they
+--                        refuse with x
+--   NoVerdictFromC j x   that of the verdict, where it is refused with x or waits for x places:
+--                        three zeros beside it
 use mathlib.Core.Path.{_≡_}
 use mathlib.Core.List.{List}
 use mathlib.Core.Option.{some}
@@ -13,7 +13,7 @@ use Prim.Native.Nat.{ℕ}
 use Rattle.automaton.specs.declared.Rule.{Rule}
 use Rattle.calls.specs.declared.Judge.{Judge}
 use Rattle.calls.specs.Replies.{waiting, refusedWith, refusalOf}
-use Rattle.calls.specs.Steps.{installOf, loadOf, openOf, deliverOf, withdrawOf, verdictOf}
+use Rattle.calls.specs.mirror.Steps.{installOf, loadOf, openOf, deliverOf, withdrawOf, verdictOf}
 use Rattle.capi.specs.declared.InstallNumbers.{InstallNumbers}
 use Rattle.capi.specs.declared.OpenNumbers.{OpenNumbers}
 use Rattle.capi.specs.declared.DeliverNumbers.{DeliverNumbers}

@@ -8,9 +8,9 @@ use Rattle.ruleformat.specs.Reader.{ruleOf}
 use Rattle.calls.specs.declared.Judge.{Judge}
 use Rattle.calls.specs.declared.InstallResult.{InstallResult}
 use Rattle.calls.specs.declared.InstallAnswer.the-variants.{Accepted, Refused}
-use Rattle.calls.specs.Replies.{Reply, refused, installMeans}
+use Rattle.calls.specs.Replies.{Reply, refused, installMeans, Outcome, installOutcome}
 use Rattle.calls.specs.Calls.{loadNumber}
-use Rattle.calls.specs.Steps.{Outcome, outcomeBy, installReply, withRule, installOutcome, loadOf}
+use Rattle.calls.specs.mirror.Steps.{outcomeBy, installReply, withRule, loadOf}
 use Rattle.forms.specs.declared.Form.{Form}
 use Rattle.forms.specs.declared.FormAnswer.the-variants as form
 use Rattle.formmaker.specs.Making.{Made, noForm, madeOf, madeOutcome}

@@ -13,7 +13,7 @@ use mathlib.Core.Option.{Option, none, some}
 use Prim.Native.Nat.{ℕ, suc, _+_, _-_, _≤_, _<_, min}
 use native.Mathlib.Numerals.{add-one}
 use native.Mathlib.Omega.{arith}
-use lib.Dec.{eqb, ltb}
+use lib.Dec.{ltb}
 use lib.ListN.{length, getD, take, drop, set, length-drop, length-take, length-append, length-set}
 use lib.Seq.{take-suc, take-all, take-append-le, take-suc-set, getD-drop}
 use borrow.Author.Tests.{eq-eqb, ne-eqb, ltb-true, ltb-false}
@@ -28,7 +28,6 @@ use Rattle.formline.specs.Lines.{lineIn, longestLine}
 use Rattle.formline.proofs.Bounds.{bounded}
 use Rattle.tabletext.specs.Answers.{answerText}
 use Rattle.tabletext.proofs.Claims.{fits}
-use Rattle.formstream.specs.declared.Fed.{Fed}
 use Rattle.formstream.specs.Texts.{answerTo, lineAfter, answersAfter, lastAnswer}
 use Rattle.formstream.specs.Feeding.{KeepsOn, between, Feeds, finishText}
 use Rattle.formstream.proofs.Texts.{line-more, answers-same, line-ends, answers-more}

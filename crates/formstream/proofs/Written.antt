@@ -6,18 +6,17 @@
 --   Went v w s′ text   from a line that begins with v over the text w: what is kept then, and
 --                      what was written
 use mathlib.Core.Path.{_≡_, refl, sym, ap, _∙_, subst}
-use mathlib.Core.List.{List, [], _∷_, _++_, append-assoc, append-nil, flatten}
+use mathlib.Core.List.{List, [], _++_, flatten}
 use Prim.Native.Nat.{ℕ, _+_, _-_, _≤_, _<_}
 use native.Mathlib.Omega.{arith}
-use lib.ListN.{length, take, drop, drop-of-length-le, take-append-drop}
+use lib.ListN.{length, drop, drop-of-length-le, take-append-drop}
 use lib.Seq.{drop-drop}
 use Rattle.text.proofs.Fitting.{taken}
 use Rattle.lines.specs.Splitting.{linesOf}
 use Rattle.hexfields.specs.Reading.{Kept}
 use Rattle.hexfields.proofs.Kept.{kept-none}
-use Rattle.formstream.specs.declared.Fed.{Fed}
-use Rattle.formstream.specs.Texts.{answersTo, lineAfter, answersAfter, lastAnswer}
-use Rattle.formstream.specs.Feeding.{between, Feeds, finishText}
+use Rattle.formstream.specs.Texts.{answersTo, lineAfter, answersAfter}
+use Rattle.formstream.specs.Feeding.{between, finishText}
 use Rattle.formstream.specs.Claims.{State, Rounds, over, round, Blocks, no-block, one-more}
 use Rattle.formstream.proofs.Texts.{whole-from, lines-parts, answers-parts}
 use Rattle.formstream.proofs.Feeding.{finishes}

@@ -14,7 +14,7 @@ use lib.Dec.{eqb, ltb, leb}
 use lib.ListN.{length}
 use borrow.Author.Tests.{eq-eqb, ne-eqb, eqb-true, eqb-false, lt-ltb, le-ltb, ltb-true, ltb-false, le-leb, lt-leb, leb-true, leb-false}
 use Rattle.base.specs.Options.{isNone}
-use Rattle.base.proofs.Options.{none-some, is-some, not-some}
+use Rattle.base.proofs.Options.{none-some, is-some}
 use Rattle.base.proofs.Conditions.{none-law, first-law, outside-law, is-outside, named, not-named, first-here, first-past}
 use Rattle.base.specs.Conditions.{Condition, on, firstOf, NoneHolds, FirstHolds, outside}
 use Rattle.base.proofs.Tests.{zero-one}

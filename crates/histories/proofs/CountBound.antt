@@ -4,11 +4,11 @@
 -- A chunk counts at most 32 transitions for each of its 65,536 bytes at most, and a board has at
 -- most 64 places. A delivery that can be accepted finds its place empty, so that its chunk's count
 -- is one of 64 still.
-use mathlib.Core.Path.{_≡_, refl, sym, ap, ap₂, _∙_}
+use mathlib.Core.Path.{_≡_, refl, sym, ap, _∙_}
 use mathlib.Core.Bool.{Bool, true, false, cond, _&&_, and-eq-true-iff}
 use mathlib.Core.List.{List, [], _∷_, _++_}
 use mathlib.Core.Option.{Option, none, some}
-use Prim.Native.Nat.{ℕ, _+_, _*_, _≤_, _<_}
+use Prim.Native.Nat.{ℕ, _*_, _≤_, _<_}
 use native.Mathlib.Omega.{arith}
 use lib.Dec.{eqb, ltb}
 use lib.ListN.{length, getD}
@@ -20,23 +20,21 @@ use Rattle.base.proofs.Options.{is-none}
 use Rattle.base.proofs.Tests.{by-test, zero-one, either-most}
 use Rattle.base.proofs.Totals.{total-most, total-but-one, total-same}
 use Rattle.masks.specs.Masks.{single, has}
-use Rattle.executions.specs.Executions.{stateAfter, repliesTo as machineReplies}
 use Rattle.marks.specs.Marks.{textOf}
 use Rattle.marks.proofs.Claims as marks
 use Rattle.automaton.specs.declared.Rule.{Rule}
 use Rattle.chunks.specs.Chunks.{counted, chunkCount}
 use Rattle.chunks.proofs.Claims as chunks
-use Rattle.board.specs.Boards.{placesOf, comesLate, filledAt, summedCount}
-use Rattle.calls.specs.declared.Judge.{Judge}
+use Rattle.board.specs.Boards.{placesOf, summedCount}
 use Rattle.calls.specs.Replies.{delivered}
 use Rattle.calls.specs.Calls.{Call, installs, loads, opens, delivers, withdraws, asksVerdict, installNumber, loadNumber, openConditions, deliverConditions}
-use Rattle.calls.specs.Steps.{lacksBoard, withBoard, outcomeBy, runsAt, deliverOf, stepOf}
+use Rattle.calls.specs.mirror.Steps.{runsAt}
 use Rattle.calls.proofs.Conditions.{orElse, first-append}
 use Rattle.histories.specs.History.{ruleThere, ruleFrom, ruleIn, openNumber, placesIn, runAt, countOf, lookedOf, withdrawCheck, notGreater, lastRevision, standing, countAt, deliverNumber, summedIn, replyBy}
-use Rattle.histories.specs.Claims.{judgeAfter, repliesTo}
-use Rattle.histories.specs.CountBound.{sumBut, sumInWith, formerNumber, formerOn, sumWith, formerStep, formerMachine, CountBound}
+use Rattle.histories.specs.Claims.{judgeAfter}
+use Rattle.histories.specs.CountBound.{sumBut, sumInWith, formerNumber, sumWith, CountBound}
 use Rattle.histories.proofs.Agreement.{run-count}
-use Rattle.histories.proofs.Numbers.{deliver-number, places-same, summed-same}
+use Rattle.histories.proofs.Numbers.{places-same, summed-same}
 use Rattle.histories.proofs.Steps.{by-run}
 use Rattle.histories.proofs.Conditions.{accepted-exactly}
 use Rattle.histories.proofs.EveryList.{good}
@@ -171,43 +169,6 @@ module _ (h : List Call) (p v : ℕ) (w : List ℕ) where
       (sumInWith h p w)
       (most-with h p v w)
 
-  same-held : formerOn (judgeAfter h) p v w ≡ deliverNumber h p v w
-  same-held =
-      let j = judgeAfter h in
-      let number = deliver-number (ruleThere h) (placesIn h) (standing h) (lastRevision h) j (good h) p v w in
-      idle (deliverConditions (lacksBoard j) (placesOf (j .board)) p w (j .built .k) (comesLate (j .board) p v))
-      (sumWith j p w)
-      (λ e. held-most-with h p v w (sym number ∙ e))
-      ∙ number
-
-  same-delivery : formerStep (judgeAfter h) (delivers p v w) ≡ stepOf (judgeAfter h) (delivers p v w)
-  unfolding deliverOf
-  same-delivery =
-      let j = judgeAfter h in
-      ap (λ (o : Option ℕ). outcomeBy o (delivered (runsAt j p w .looked)) j (withBoard j (filledAt (j .board) p v (runsAt j p w))))
-      (same-held ∙ sym (deliver-number (ruleThere h) (placesIn h) (standing h) (lastRevision h) j (good h) p v w))
-
--- ---- the judge with the six conditions
-same-step : (h : List Call) (c : Call) → formerStep (judgeAfter h) c ≡ stepOf (judgeAfter h) c
-same-step h (installs r) = refl
-same-step h (loads f) = refl
-same-step h (opens n) = refl
-same-step h (delivers p v w) = same-delivery h p v w
-same-step h (withdraws p) = refl
-same-step h asksVerdict = refl
-
-same-state : (h : List Call) → stateAfter formerMachine h ≡ judgeAfter h
-unfolding stateAfter
-same-state [] = refl
-same-state (c ∷ h) =
-    ap (λ (j : Judge). formerStep j c .state) (same-state h) ∙ ap (λ o. o .state) (same-step h c)
-
-same-replies : (h : List Call) → machineReplies formerMachine h ≡ repliesTo h
-unfolding machineReplies
-same-replies [] = refl
-same-replies (c ∷ h) =
-    ap₂ _∷_ (ap (λ (j : Judge). formerStep j c .reply) (same-state h) ∙ ap (λ o. o .reply) (same-step h c)) (same-replies h)
-
 pub count-bound : (h : List Call) → CountBound h
 count-bound h = record {
   most = most h;
@@ -215,7 +176,4 @@ count-bound h = record {
   held-most = held-most h;
   held-most-with = held-most-with h;
   same-number = same-number h;
-  same-held = same-held h;
-  same-replies = same-replies h;
-  same-state = same-state h;
 }

@@ -2,26 +2,16 @@
 -- that they leave, all that demand 3 says holds. Assumes nothing.
 use mathlib.Core.Path.{_≡_, refl, ap, ap₂}
 use mathlib.Core.List.{List, [], _∷_}
-use mathlib.Core.Option.{Option, none, some}
-use Prim.Native.Nat.{ℕ, _^_, _<_}
-use native.Mathlib.Nat.{lt-of-lt-of-le}
-use lib.Pow.{pow-mono}
 use Rattle.executions.specs.Executions.{stateAfter, repliesTo as machineReplies}
-use Rattle.base.proofs.Tests.{not-both}
-use Rattle.marks.specs.Marks.{textOf}
-use Rattle.automaton.specs.declared.Rule.{Rule}
 use Rattle.ruleformat.proofs.Claims as rulefile
-use Rattle.chunks.proofs.Claims as chunks
 use Rattle.calls.specs.declared.Judge.{Judge}
-use Rattle.calls.specs.Replies.{delivered, judged}
+use Rattle.calls.specs.Replies.{judged}
 use Rattle.calls.specs.Calls.{Call, installs, loads, opens, delivers, withdraws, asksVerdict}
-use Rattle.calls.specs.Steps.{reportOf, stepOf}
+use Rattle.calls.specs.mirror.Steps.{reportOf, stepOf}
 use Rattle.calls.proofs.Conditions.{load-accepted}
-use Rattle.histories.specs.History.{ruleThere, placesIn, lastRevision, standing, reportIn, answerOf, answersTo, ruleFrom, ruleIn, runAt}
-use Rattle.histories.specs.Claims.{judgeAfter, repliesTo, EveryList, LookedUp}
+use Rattle.histories.specs.History.{ruleThere, placesIn, lastRevision, standing, reportIn, answerOf, answersTo}
+use Rattle.histories.specs.Claims.{judgeAfter, repliesTo, EveryList}
 use Rattle.histories.proofs.Method.{method, method-bytes}
-use Rattle.histories.proofs.Running.{run-below}
-use Rattle.histories.proofs.Agreement.{Agrees}
 use Rattle.histories.proofs.Conditions.{accepted-exactly, refused-exactly}
 use Rattle.histories.proofs.Numbers.{summed-same, bytes-same}
 use Rattle.histories.proofs.Steps.{AgreesWith, good-fresh, install-good, install-says, load-good, load-says, open-good, open-says, withdraw-good, withdraw-says, ask-good, deliver-good, deliver-says}
@@ -58,28 +48,6 @@ unfolding machineReplies answersTo
 correct [] = refl
 correct (c ∷ h) = ap₂ _∷_ (step-right h (judgeAfter h) (good h) c) (correct h)
 
--- ---- what an accepted delivery is answered
--- the states that are run are below 32, since a board is there only with a rule
-few-run : (present : Option Rule) (places : ℕ) (at : ℕ → Option (List ℕ)) (last : ℕ → Option ℕ) (j : Judge) → Agrees present places at last j → 0 < places
-    → (p : ℕ) → runAt (ruleFrom present) p < 2 ^ 32
-few-run none places at last j holds l p = not-both refl (holds .ruled l)
-few-run (some r) places at last j holds l p =
-    let good = holds .rule .1 in lt-of-lt-of-le (run-below r good (holds .rule .2) p) (pow-mono (good .states .1))
-
-looked-up : (h : List Call) (p v : ℕ) (w : List ℕ) (n : ℕ) → answerOf h (delivers p v w) ≡ delivered n → LookedUp h p (textOf w) n
-looked-up h p v w n e =
-    let x = accepted-exactly h .delivery p v w n .0 e in
-    let few = few-run (ruleThere h) (placesIn h) (standing h) (lastRevision h) (judgeAfter h) (good h) (x .0) p in
-    let ts = ruleIn h .targets in
-    let run = runAt (ruleIn h) p in
-    let v = textOf w in
-    rw (x .5)
-    (record {
-      most = chunks.claims .looked-most ts run v;
-      all-empty = chunks.claims .looked-all-empty ts run few v;
-      least = chunks.claims .looked-least ts run few v;
-    })
-
 pub every-list : (h : List Call) → EveryList h
 every-list h =
     let g = good h in
@@ -90,7 +58,6 @@ every-list h =
       language-of-bytes = λ f e. rulefile.claims .language f (load-accepted f e .0);
       accepted-exactly = accepted-exactly h;
       refused-exactly = refused-exactly h;
-      looked-up = looked-up h;
       after = record {
         rule = g .rule;
         places = g .places-are;

@@ -2,7 +2,6 @@
 -- (R-12): it is the number of starts of the built rule, which crates/delegates shows to be the
 -- least. Assumes nothing.
 use mathlib.Core.Path.{_≡_, refl, sym, ap, _∙_, subst}
-use mathlib.Core.Bool.{false}
 use mathlib.Core.List.{List}
 use mathlib.Core.Option.{Option, none, some}
 use Prim.Native.Nat.{ℕ}
@@ -19,7 +18,7 @@ use Rattle.delegates.specs.Claims.{startsIn}
 use Rattle.delegates.specs.Alike.{Merged}
 use Rattle.delegates.specs.Fewest.{startList}
 use Rattle.delegates.proofs.Fewest.{fewest-claims}
-use Rattle.build.specs.Building.{accepted, refused, sets, builtOf, Outcome, buildOf}
+use Rattle.build.specs.mirror.Building.{accepted, refused, sets, Outcome, buildOf}
 use Rattle.build.proofs.Claims as build
 use Rattle.calls.specs.Replies.{installed}
 use Rattle.calls.specs.Calls.{Call, installNumber, loadNumber}

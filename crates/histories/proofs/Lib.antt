@@ -14,7 +14,6 @@ pub mod EveryList
 pub mod VerdictSays
 pub mod Refinement
 pub mod CountBound
-pub mod Counted
 pub mod FormerStarts
 pub mod Orders
 pub mod Revisions

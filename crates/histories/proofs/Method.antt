@@ -32,7 +32,7 @@ use Rattle.subsets.specs.Claims.{Reach, sets, next, fits}
 use Rattle.subsets.proofs.Claims as subsets
 use Rattle.delegates.proofs.Acceptance.{mask-at, cell-at}
 use Rattle.build.specs.declared.Built.{Built}
-use Rattle.build.specs.Building.{builtOf}
+use Rattle.build.specs.mirror.Building.{builtOf}
 use Rattle.build.proofs.Claims as build
 use Rattle.calls.specs.Calls.{installNumber, loadNumber}
 use Rattle.calls.proofs.Conditions.{load-accepted}
@@ -43,7 +43,7 @@ use Rattle.histories.proofs.Steps.{accepted-rule}
 -- ---- of a well-formed rule
 module _ (r : Rule) (good : WellFormed r) where
   -- the successor of {q} by a text is where the runs lead
-  leads-after : (q : ℕ) → q < r .n → (w : List ℕ) → Leads (automatonOf r) q w (after (r .targets) (single q) w)
+  pub leads-after : (q : ℕ) → q < r .n → (w : List ℕ) → Leads (automatonOf r) q w (after (r .targets) (single q) w)
   leads-after q h w p =
       Iff·trans (automaton.claims .after-law r good (single q) p w (pow-lt h)) (
         (λ x. subst (λ (z : ℕ). Run (automatonOf r) z w p) (masks.claims .single-members q (x .from) .0 (x .member)) (x .run)),

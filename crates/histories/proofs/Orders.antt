@@ -3,10 +3,9 @@
 -- A delivery changes the board alone, as `offered` of crates/board does: by whether the chunk fits,
 -- which the board's contents do not decide, and by whether its revision comes late. So two that
 -- follow each other may be exchanged, and any order is reached by such exchanges.
-use mathlib.Core.Path.{_≡_, refl, sym, ap, _∙_, subst}
+use mathlib.Core.Path.{_≡_, refl, sym, ap, _∙_}
 use mathlib.Core.Bool.{Bool, true, false, cond, not, _&&_}
 use mathlib.Core.List.{List, [], _∷_}
-use mathlib.Core.Option.{Option, none, some}
 use Prim.Native.Nat.{ℕ, _<_, min}
 use native.Mathlib.Omega.{arith}
 use lib.Dec.{eqb, ltb, leb}
@@ -23,14 +22,14 @@ use Rattle.chunks.specs.Chunks.{foreign}
 use Rattle.chunks.specs.declared.Runs.{Runs}
 use Rattle.board.specs.declared.Board.{Board}
 use Rattle.board.specs.Boards.{placesOf, comesLate, filledAt}
-use Rattle.board.proofs.Laws.{Sized, filled-at}
+use Rattle.board.proofs.Laws.{Sized}
 use Rattle.board.proofs.Orders.{offered, commutes}
 use Rattle.calls.specs.declared.Judge.{Judge}
 use Rattle.calls.specs.Replies.{Reply, delivered}
 use Rattle.calls.specs.Calls.{Call, deliverConditions}
-use Rattle.calls.specs.Steps.{lacksBoard, withBoard, outcomeBy, runsAt, deliverOf}
+use Rattle.calls.specs.mirror.Steps.{lacksBoard, withBoard, outcomeBy, runsAt, deliverOf}
 use Rattle.histories.specs.Claims.{judgeAfter}
-use Rattle.histories.specs.Orders.{Delivery, callOf, delivering, Reordered, nothing, same, swapped, after, Apart, ApartFrom, NoneTwice, Orders}
+use Rattle.histories.specs.Orders.{Delivery, delivering, Reordered, nothing, same, swapped, after, Apart, ApartFrom, NoneTwice, Orders}
 use Rattle.histories.proofs.EveryList.{good}
 
 -- ---- one delivery

@@ -1,16 +1,16 @@
 -- Revisions in document 02's words (R-11), as specs/Revisions.antt claims them. Assumes nothing.
-use mathlib.Core.Path.{_≡_, refl, ap, _∙_}
+use mathlib.Core.Path.{_≡_, refl}
 use mathlib.Core.Bool.{_&&_}
 use mathlib.Core.List.{List, [], _∷_}
 use mathlib.Core.Option.{none, some}
-use Prim.Native.Nat.{ℕ, _<_}
+use Prim.Native.Nat.{ℕ}
 use native.Mathlib.Omega.{arith}
 use lib.Dec.{eqb}
 use borrow.Author.Tests.{eq-eqb}
 use Rattle.base.specs.Options.{isNone}
 use Rattle.base.proofs.Options.{none-some}
 use Rattle.base.proofs.Tests.{by-test}
-use Rattle.calls.specs.Replies.{accepted, delivered}
+use Rattle.calls.specs.Replies.{delivered}
 use Rattle.calls.specs.Calls.{Call, installs, loads, opens, delivers, withdraws, asksVerdict, installNumber, loadNumber}
 use Rattle.histories.specs.History.{ruleThere, ruleIn, openNumber, placesIn, lookedOf, lastRevision, standing, deliverNumber, withdrawNumber, answerOf}
 use Rattle.histories.specs.Revisions.{Revisions}

@@ -1,6 +1,6 @@
 -- What running a chunk gives, for a rule that is built: the end sets and the count that document 01
 -- gives to it at its place, and the number of bytes of R-2. Assumes nothing.
-use mathlib.Core.Path.{_≡_, sym, ap, _∙_, subst}
+use mathlib.Core.Path.{_≡_, ap, _∙_, subst}
 use mathlib.Core.List.{List}
 use mathlib.Core.Option.{some}
 use Prim.Native.Nat.{ℕ, zero, suc, _^_, _<_}
@@ -15,10 +15,10 @@ use Rattle.automaton.specs.Automaton.{Text}
 use Rattle.delegates.specs.Alike.{Delegate, delegateIn, Merged}
 use Rattle.delegates.proofs.Claims as delegates
 use Rattle.delegates.specs.Claims.{startsIn}
-use Rattle.build.specs.Building.{builtOf}
+use Rattle.build.specs.mirror.Building.{builtOf}
 use Rattle.build.proofs.Claims as build
 use Rattle.chunks.specs.Chunks.{endSet, chunkCount, looked}
-use Rattle.chunks.specs.Walks.{runMask, runsOf}
+use Rattle.chunks.specs.mirror.Walks.{runMask, runsOf}
 use Rattle.chunks.proofs.Claims as chunks
 use Rattle.histories.specs.History.{runAt}
 

@@ -4,7 +4,7 @@
 --
 --   run-to, alike-map, delegate-map, merged-map     runs and delegates
 --   leads-map, moves-map, method-map, many-map      sets, table and all of `Method`
---   method-read, many-read                          of a file and the rule in it
+--   run-read, delegate-read, method-read, many-read   of a file and the rule in it
 use mathlib.Core.Path.{_≡_}
 use mathlib.Core.Logic.{_↔_, inl, inr, ⊎-elim, Iff·trans}
 use mathlib.Core.List.{List}
@@ -136,6 +136,18 @@ module _ (f : List ℕ) (e : refusal f ≡ none) where
 
   stands : (q s t : ℕ) → Read q s t → ArcIn f q s t
   stands q s t = rulefile.claims .arcs f e q s t .1
+
+  pub run-read : (q : ℕ) (w : List ℕ) (p : ℕ) → Run (automatonIn f) q w p ↔ Run (automatonOf (ruleOf f)) q w p
+  run-read q w p = (
+    run-to (stateCount f) (symbolCount f) (λ q. q ∈ initialMask f) (λ q. q ∈ finalMask f) (ArcIn f) Read is-read q w p,
+    run-to (stateCount f) (symbolCount f) (λ q. q ∈ initialMask f) (λ q. q ∈ finalMask f) Read (ArcIn f) stands q w p,
+  )
+
+  pub delegate-read : (q : ℕ) (o : Option ℕ) → Delegate (automatonIn f) q o ↔ Delegate (automatonOf (ruleOf f)) q o
+  delegate-read q o = (
+    delegate-map (stateCount f) (symbolCount f) (λ q. q ∈ initialMask f) (λ q. q ∈ finalMask f) (ArcIn f) Read is-read stands q o,
+    delegate-map (stateCount f) (symbolCount f) (λ q. q ∈ initialMask f) (λ q. q ∈ finalMask f) Read (ArcIn f) stands is-read q o,
+  )
 
   pub method-read : (b : Built) → Method (automatonOf (ruleOf f)) b → Method (automatonIn f) b
   method-read = method-map (stateCount f) (symbolCount f) (λ q. q ∈ initialMask f) (λ q. q ∈ finalMask f) Read (ArcIn f) stands is-read

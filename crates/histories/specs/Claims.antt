@@ -12,8 +12,6 @@
 --   Says a v            the reply a is a verdict's, and it says v
 --   VerdictSays h a     the words of demand 3 for the reply a to a verdict that is asked after h
 --   ReportClauses       what is reported with it (document 02, R-1)
---   LookedUp h p w n    document 02's words for the number n that answers a delivery (R-2): for n
---                       bytes of the text w at place p a successor is looked up
 --   EveryList           demand 3, one claim over a whole list
 use mathlib.Core.Path.{_≡_}
 use mathlib.Core.Logic.{_↔_, _⊎_}
@@ -21,11 +19,10 @@ use mathlib.Core.Bool.{true, false}
 use mathlib.Core.List.{List}
 use mathlib.Core.Option.{Option, none, some}
 use Prim.Native.Nat.{ℕ, _+_, _*_, _≤_, _<_}
-use lib.ListN.{length, getD, take}
+use lib.ListN.{length, getD}
 use Rattle.limits.specs.Limits.{mostStates, mostPlaces}
 use Rattle.base.specs.Options.{isNone}
 use Rattle.executions.specs.Executions.{Machine, stateAfter, repliesTo as machineReplies}
-use Rattle.marks.specs.Marks.{textOf}
 use Rattle.automaton.specs.declared.Rule.{Rule}
 use Rattle.automaton.specs.Automaton.{Accepts, Equivalent}
 use Rattle.automaton.specs.Rules.{automatonOf, WellFormed}
@@ -33,17 +30,16 @@ use Rattle.ruleformat.specs.Reader.{ruleOf}
 use Rattle.ruleformat.specs.Language.{automatonIn}
 use Rattle.subsets.specs.Claims.{fits}
 use Rattle.delegates.specs.Claims.{startsIn}
-use Rattle.build.specs.Building.{builtOf, noBuilt}
+use Rattle.build.specs.mirror.Building.{builtOf, noBuilt}
 use Rattle.board.specs.Boards.{held, isEmpty, lastAt, summedCount, summedBytes}
 use Rattle.calls.specs.declared.Judge.{Judge}
-use Rattle.calls.specs.Replies.{Judgement, Reported, Reply, judged, waiting, yesWith, noWith, refusedWith, delivered}
-use Rattle.histories.specs.History.{ruleThere, ruleIn, boardIn, placesIn, lastRevision, standing, endAt, countAt, lengthAt, emptiesIn, summedIn, bytesIn, yesIn, standingText, textIn, verdictIn, reportIn, answersTo, runAt, answerOf}
+use Rattle.calls.specs.Replies.{Judgement, Reported, Reply, judged, waiting, yesWith, noWith, refusedWith}
+use Rattle.histories.specs.History.{ruleThere, ruleIn, boardIn, placesIn, lastRevision, standing, endAt, countAt, lengthAt, emptiesIn, summedIn, bytesIn, yesIn, standingText, textIn, verdictIn, reportIn, answersTo}
 use Rattle.histories.specs.Method.{Method}
 use Rattle.histories.specs.Conditions.{Accepted-exactly, Refused-exactly}
-use Rattle.calls.specs.Calls.{Call, installNumber, loadNumber, delivers}
-use Rattle.calls.specs.Steps.{fresh, isYes, verdictOf, reportOf, stepOf}
+use Rattle.calls.specs.Calls.{Call, installNumber, loadNumber}
+use Rattle.calls.specs.mirror.Steps.{fresh, isYes, verdictOf, reportOf, stepOf}
 use Rattle.calls.specs.Claims.{Divided, ThreeZeros}
-use Rattle.chunks.specs.Claims.{AllEmpty}
 
 -- the judge as a machine: the outcome of a call is crates/calls' stepOf
 abbrev pub judgeMachine : Machine Judge Call Reply
@@ -139,12 +135,6 @@ pub record ReportClauses (h : List Call) : Type 0 where
   -- beside waiting or a refusal all three are 0
   pub zeros : (x : ℕ) → (verdictIn h ≡ waiting x) ⊎ (verdictIn h ≡ refusedWith x) → ThreeZeros (reportIn h)
 
--- R-2: the least number of text bytes after which every run's set is empty, else all
-pub record LookedUp (h : List Call) (p : ℕ) (w : List ℕ) (n : ℕ) : Type 0 where
-  pub most : n ≤ length w
-  pub all-empty : n < length w → AllEmpty (ruleIn h .targets) (runAt (ruleIn h) p) (take n w)
-  pub least : (i : ℕ) → i < n → AllEmpty (ruleIn h .targets) (runAt (ruleIn h) p) (take i w) → ⊥
-
 -- ONE CLAIM over a list of calls h
 pub record EveryList (h : List Call) : Type 0 where
   -- each reply is document 01's answer after the calls before it
@@ -160,8 +150,6 @@ pub record EveryList (h : List Call) : Type 0 where
   -- when that one is the first that holds (the verdict's 21 is in `VerdictClauses`)
   pub accepted-exactly : Accepted-exactly h
   pub refused-exactly : Refused-exactly h
-  -- an accepted delivery is answered for how many bytes of its text a successor is looked up
-  pub looked-up : (p v : ℕ) (w : List ℕ) (n : ℕ) → answerOf h (delivers p v w) ≡ delivered n → LookedUp h p (textOf w) n
   pub after : Invariant h (judgeAfter h)
   pub verdict : VerdictClauses h
   pub report : ReportClauses h

@@ -23,7 +23,7 @@ use Rattle.rulecheck.specs.Claims.{Stray, StatesIn, SymbolsIn, MasksIn}
 use Rattle.ruleformat.specs.Refusals.{fileConditions}
 use Rattle.ruleformat.specs.Reader.{ruleOf}
 use Rattle.ruleformat.specs.Language.{automatonIn}
-use Rattle.build.specs.Building.{builtOf}
+use Rattle.build.specs.mirror.Building.{builtOf}
 use Rattle.chunks.specs.Chunks.{foreign}
 use Rattle.calls.specs.Replies.{accepted, installed, delivered, refused, refusalOf}
 use Rattle.calls.specs.Calls.{Call, installs, loads, opens, delivers, withdraws, asksVerdict}
@@ -46,7 +46,7 @@ pub record Accepted-exactly (h : List Call) : Type 0 where
   -- a board is there with that place, the chunk is within the limit and its text, which is without
   -- its idle marks, within the alphabet, and its revision is greater than the last one accepted
   -- there, if there was one; it is answered for how many bytes a successor is looked up, which
-  -- `LookedUp` of specs/Claims.antt says in document 02's words
+  -- `LookedUp` of crates/transcripts says in document 02's words
   pub delivery : (p v : ℕ) (w : List ℕ) (n : ℕ)
       → (answerOf h (delivers p v w) ≡ delivered n)
       ↔ ((0 < placesIn h) × (p < placesIn h) × (length w ≤ longestChunk) × (foreign (textOf w) (ruleIn h .k) ≡ false)

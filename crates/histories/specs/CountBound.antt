@@ -10,8 +10,6 @@
 --   sumInWith, sumWith the sum of the counts at the other places with that of the chunk, by what a
 --                      list says and by what a state holds
 --   formerNumber h     the number with which they refuse a delivery after the calls h
---   formerOn j         and on the state j
---   formerMachine      the judge with these conditions
 --   CountBound h       after the calls h the sum is at most 64 × 65,536 × 32, with a chunk that can
 --                      be delivered too; and the former conditions change no answer
 use mathlib.Core.Path.{_≡_}
@@ -24,14 +22,12 @@ use lib.ListN.{getD}
 use Rattle.limits.specs.Limits.{mostTransitions}
 use Rattle.base.specs.Conditions.{Condition, on, firstOf}
 use Rattle.base.specs.Totals.{total}
-use Rattle.executions.specs.Executions.{Machine, stateAfter, repliesTo as machineReplies}
-use Rattle.board.specs.Boards.{placesOf, comesLate, filledAt, summedCount}
+use Rattle.board.specs.Boards.{placesOf, summedCount}
 use Rattle.calls.specs.declared.Judge.{Judge}
-use Rattle.calls.specs.Replies.{Reply, delivered}
-use Rattle.calls.specs.Calls.{Call, installs, loads, opens, delivers, withdraws, asksVerdict, deliverConditions}
-use Rattle.calls.specs.Steps.{Outcome, fresh, lacksBoard, withBoard, outcomeBy, runsAt, stepOf}
+use Rattle.calls.specs.Calls.{Call, deliverConditions}
+use Rattle.calls.specs.mirror.Steps.{runsAt}
 use Rattle.histories.specs.History.{ruleIn, placesIn, notGreater, lastRevision, countOf, countAt, summedIn, deliverNumber}
-use Rattle.histories.specs.Claims.{judgeAfter, repliesTo}
+use Rattle.histories.specs.Claims.{judgeAfter}
 
 -- ---- the former order
 abbrev pub sumBut : (ℕ → ℕ) → ℕ → ℕ → ℕ
@@ -55,25 +51,6 @@ formerNumber h p v w =
 abbrev pub sumWith : Judge → ℕ → List ℕ → ℕ
 sumWith j p w = sumBut (λ i. getD (j .board .counts) i 0) p (placesOf (j .board)) + runsAt j p w .count
 
-abbrev pub formerOn : Judge → ℕ → ℕ → List ℕ → Option ℕ
-formerOn j p v w =
-    firstOf
-    (formerConditions (lacksBoard j) (placesOf (j .board)) p w (j .built .k) (comesLate (j .board) p v)
-    (sumWith j p w))
-
--- the other calls are as they are
-abbrev pub formerStep : Judge → Call → Outcome
-formerStep j (installs r) = stepOf j (installs r)
-formerStep j (loads f) = stepOf j (loads f)
-formerStep j (opens n) = stepOf j (opens n)
-formerStep j (delivers p v w) =
-    outcomeBy (formerOn j p v w) (delivered (runsAt j p w .looked)) j (withBoard j (filledAt (j .board) p v (runsAt j p w)))
-formerStep j (withdraws p) = stepOf j (withdraws p)
-formerStep j asksVerdict = stepOf j asksVerdict
-
-abbrev pub formerMachine : Machine Judge Call Reply
-formerMachine = record { fresh = fresh; reply = λ j c. formerStep j c .reply; next = λ j c. formerStep j c .state }
-
 -- ---- the claim
 pub record CountBound (h : List Call) : Type 0 where
   -- the sum of the counts of what stands
@@ -84,10 +61,5 @@ pub record CountBound (h : List Call) : Type 0 where
   pub held-most : summedCount (judgeAfter h .board) ≤ mostTransitions
   pub held-most-with : (p v : ℕ) (w : List ℕ) → deliverNumber h p v w ≡ none
       → sumWith (judgeAfter h) p w ≤ mostTransitions
-  -- the six conditions refuse a delivery exactly as the five do: by what the list says, and by what
-  -- the judge holds
+  -- so the six conditions refuse a delivery exactly as the five do
   pub same-number : (p v : ℕ) (w : List ℕ) → formerNumber h p v w ≡ deliverNumber h p v w
-  pub same-held : (p v : ℕ) (w : List ℕ) → formerOn (judgeAfter h) p v w ≡ deliverNumber h p v w
-  -- so a judge with the six gives the same replies and leaves the same state
-  pub same-replies : machineReplies formerMachine h ≡ repliesTo h
-  pub same-state : stateAfter formerMachine h ≡ judgeAfter h

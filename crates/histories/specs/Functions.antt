@@ -22,9 +22,8 @@ use Rattle.calls.specs.declared.OpenResult.{OpenResult}
 use Rattle.calls.specs.declared.DeliverResult.{DeliverResult}
 use Rattle.calls.specs.declared.WithdrawResult.{WithdrawResult}
 use Rattle.calls.specs.declared.Report.{Report}
-use Rattle.calls.specs.Replies.{Reply, judged, reportMeans}
+use Rattle.calls.specs.Replies.{Reply, judged, reportMeans, installOutcome, openOutcome, deliverOutcome, withdrawOutcome}
 use Rattle.calls.specs.Calls.{Call, installs, loads, opens, delivers, withdraws, asksVerdict}
-use Rattle.calls.specs.Steps.{installOutcome, openOutcome, deliverOutcome, withdrawOutcome}
 use Rattle.judge.proofs.new_judge.Reads as new-reads
 use Rattle.judge.proofs.new_judge.Kinds as new-kinds
 use Rattle.judge.proofs.install.Reads as install-reads

@@ -6,7 +6,6 @@ pub mod Method
 pub mod Conditions
 pub mod Claims
 pub mod CountBound
-pub mod Counted
 pub mod Orders
 pub mod Revisions
 pub mod FormerStarts

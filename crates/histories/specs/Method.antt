@@ -8,7 +8,7 @@
 --                   of l
 --   numberedIn b m  the set m has a number in the built rule b
 --   Origin, InOrder the first state and, from it, the first text that lead to a set; sets are
---   numbered in the order of these
+--                   numbered in the order of these
 --   TooMany a       more than 512 sets are reached: 513 distinct ones, none of them empty
 --   Method a b      the sets, the next-set table, the delegates and M of b are those of the
 --                   automaton a

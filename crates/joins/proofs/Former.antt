@@ -18,7 +18,11 @@ use Rattle.masks.proofs.Laws.{single-law, in-union}
 use Rattle.automaton.specs.declared.Rule.{Rule}
 use Rattle.automaton.specs.Automaton.{Accepts}
 use Rattle.automaton.specs.Rules.{automatonOf, WellFormed}
+use Rattle.limits.specs.Limits.{mostStates}
+use Rattle.subsets.specs.Sets.{setsOf, setCells, nextCells}
+use Rattle.subsets.specs.mirror.Singles.{singlesOf}
 use Rattle.subsets.specs.Claims.{fits}
+use Rattle.delegates.specs.mirror.Classes.{lowestOf}
 use Rattle.subsets.proofs.Claims as subsets
 use Rattle.delegates.specs.Alike.{Lowest, startSet, startCount}
 use Rattle.delegates.proofs.Alike.{one-lowest, own-lowest}
@@ -26,9 +30,20 @@ use Rattle.delegates.proofs.Acceptance.{lowest-law}
 use Rattle.chunks.proofs.Claims as chunks
 use Rattle.joins.specs.Joining.{joinOf}
 use Rattle.joins.specs.Claims.{Texts}
-use Rattle.joins.specs.Former.{FormerMerged, formerDelegate, formerDelegates, formerRunSet, formerJoin, formerYes, FormerEnds, FormerClaims}
+use Rattle.joins.specs.Former.{FormerMerged, formerRunSet, formerJoin, formerYes, FormerEnds, FormerClaims}
 use Rattle.joins.proofs.Joined.{Assigned, join-any}
 use Rattle.joins.proofs.Delegated.{join-accepts}
+
+-- ---- the former list, by the arrays of the rule's numbered sets
+unfoldable formerDelegate : Rule → ℕ → ℕ
+formerDelegate r q =
+    lowestOf (setCells (r .targets) (r .n) (r .k)) (nextCells (r .targets) (r .n) (r .k)) (r .finals)
+    (singlesOf (setCells (r .targets) (r .n) (r .k)) (length (setsOf (r .targets) (r .n) (r .k))))
+    (r .k)
+    q
+
+unfoldable formerDelegates : Rule → List ℕ
+formerDelegates r = listFrom 0 mostStates (λ q. cond (ltb q (r .n)) (formerDelegate r q) 0)
 
 -- every state is given what the list has for it
 abbrev former : List ℕ → ℕ → Option ℕ
@@ -81,7 +96,7 @@ module _ (r : Rule) (good : WellFormed r) (fit : fits r) where
   abbrev cell : ℕ → ℕ
   cell q = cond (ltb q (r .n)) (formerDelegate r q) 0
 
-  pub former-merged : FormerMerged (automatonOf r) (formerDelegates r) (startCount (formerDelegates r) (r .n))
+  former-merged : FormerMerged (automatonOf r) (formerDelegates r) (startCount (formerDelegates r) (r .n))
   unfolding formerDelegates
   former-merged = record {
     cells = length-listFrom 0 32 cell;
@@ -97,7 +112,7 @@ module _ (r : Rule) (good : WellFormed r) (fit : fits r) where
 
 pub former-claims : FormerClaims
 former-claims = record {
-  former-merged = former-merged;
+  former-merged = λ r good fit. (formerDelegates r, startCount (formerDelegates r) (r .n), former-merged r good fit);
   former-join = former-join;
   same-answer = λ r good ws texts d m merged e holds g l live f also.
       let a = former-join r good d m merged e ws texts holds in

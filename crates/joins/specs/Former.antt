@@ -5,8 +5,6 @@
 --   FormerMerged a d m     d lists the lowest alike state of each state, also of one from which no
 --                          final state can be reached, with zeros after them, and m is how many
 --                          states are their own
---   formerDelegate r q     the lowest alike state, by the arrays of the rule's numbered sets
---   formerDelegates r      that list for the rule r
 --   formerRunSet d n m p   the states that a chunk was run from at place p, where m is the set of
 --                          initial states: at place 0 the delegates of initial states, at any other
 --                          place all starts
@@ -14,22 +12,17 @@
 --   FormerEnds r d e ws    each place holds, for each state, the end set of its chunk there
 use mathlib.Core.Path.{_≡_}
 use mathlib.Core.Logic.{_↔_}
-use mathlib.Core.Bool.{Bool, true, cond}
+use mathlib.Core.Bool.{Bool, true}
 use mathlib.Core.List.{List, [], flatten}
 use Prim.Native.Nat.{ℕ, zero, suc, _≤_, _<_}
-use lib.Dec.{ltb}
 use lib.ListN.{length, getD}
 use Rattle.limits.specs.Limits.{mostStates}
-use Rattle.base.specs.Lists.{listFrom}
 use Rattle.masks.specs.Masks.{single, union, shares}
 use Rattle.automaton.specs.declared.Rule.{Rule}
 use Rattle.automaton.specs.Automaton.{Automaton, Accepts}
 use Rattle.automaton.specs.Rules.{automatonOf, WellFormed}
-use Rattle.subsets.specs.Sets.{setsOf, setCells, nextCells}
-use Rattle.subsets.specs.Singles.{singlesOf}
 use Rattle.subsets.specs.Claims.{fits}
 use Rattle.delegates.specs.Alike.{Lowest, delegateIn, startSet, startCount, Merged}
-use Rattle.delegates.specs.Classes.{lowestOf}
 use Rattle.chunks.specs.Chunks.{endSet}
 use Rattle.joins.specs.Joining.{yesOf}
 use Rattle.joins.specs.Claims.{Texts, HoldsEnds}
@@ -39,16 +32,6 @@ pub record FormerMerged (a : Automaton) (d : List ℕ) (m : ℕ) : Type 0 where
   pub delegates : (q : ℕ) → q < a .n → Lowest a q (getD d q 0)
   pub zeros : (q : ℕ) → a .n ≤ q → getD d q 0 ≡ 0
   pub starts : m ≡ startCount d (a .n)
-
-unfoldable pub formerDelegate : Rule → ℕ → ℕ
-formerDelegate r q =
-    lowestOf (setCells (r .targets) (r .n) (r .k)) (nextCells (r .targets) (r .n) (r .k)) (r .finals)
-    (singlesOf (setCells (r .targets) (r .n) (r .k)) (length (setsOf (r .targets) (r .n) (r .k))))
-    (r .k)
-    q
-
-unfoldable pub formerDelegates : Rule → List ℕ
-formerDelegates r = listFrom 0 mostStates (λ q. cond (ltb q (r .n)) (formerDelegate r q) 0)
 
 abbrev pub formerRunSet : List ℕ → ℕ → ℕ → ℕ → ℕ
 formerRunSet d n m zero = union (λ q. single (getD d q 0)) m n
@@ -68,8 +51,7 @@ FormerEnds r d e ws =
 
 pub record FormerClaims : Type 0 where
   -- every well-formed rule with at most 512 sets has the former list
-  pub former-merged : (r : Rule) → WellFormed r → fits r
-      → FormerMerged (automatonOf r) (formerDelegates r) (startCount (formerDelegates r) (r .n))
+  pub former-merged : (r : Rule) → WellFormed r → fits r → (d : List ℕ) × (m : ℕ) × FormerMerged (automatonOf r) d m
   -- the former join said yes exactly where the rule's automaton has an accepting run over the
   -- chunks
   pub former-join : (r : Rule) → WellFormed r → (d : List ℕ) (m : ℕ) → FormerMerged (automatonOf r) d m

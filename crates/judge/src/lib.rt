@@ -1,8 +1,8 @@
 // The judge: the calls over one state. A load reads a file and installs its rule.
 ghost use mathlib.Core.Path.{_≡_};
 ghost use Prim.Native.Nat.{_<_};
-ghost use Rattle.calls.specs.Replies.{refused, reportMeans};
-ghost use Rattle.calls.specs.Steps.{fresh, withBoard, installOutcome, openOutcome, deliverOutcome, withdrawOutcome, installOf, loadOf, openOf, deliverOf, withdrawOf, reportOf};
+ghost use Rattle.calls.specs.Replies.{refused, reportMeans, installOutcome, openOutcome, deliverOutcome, withdrawOutcome};
+ghost use Rattle.calls.specs.mirror.Steps.{fresh, withBoard, installOf, loadOf, openOf, deliverOf, withdrawOf, reportOf};
 use automaton::Rule;
 use board::Board;
 use build::BuildAnswer;

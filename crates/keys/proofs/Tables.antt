@@ -22,8 +22,8 @@ use Rattle.base.proofs.Lists.{length-listFrom, cell-of, is-listFrom}
 use Rattle.base.proofs.Options.{none-some}
 use Rattle.base.proofs.Tests.{by-test}
 use Rattle.numbering.specs.Numbering.{Walk, indexOf, keysUpTo}
-use Rattle.numbering.specs.Begins.{Begins}
-use Rattle.numbering.specs.Arrays.{limited, keyCells, target, afterStep, Stepped, Cleared, ArraysHold}
+use Rattle.numbering.specs.mirror.Begins.{Begins}
+use Rattle.numbering.specs.mirror.Arrays.{limited, keyCells, target, afterStep, Stepped, Cleared, ArraysHold}
 use Rattle.numbering.proofs.Numbers.{Has, number-le, nowhere, stands, number-is, begins-self, begins-at, begins-length, begins-number, begins-trans, number-taken, numbered-kept, numbered-taken, numbered-begins, numbered-has}
 use Rattle.numbering.proofs.Arrays.{limited-whole, limited-over, over-of, cells-snoc, cells-full, read-back}
 use Rattle.numbering.proofs.OneSeed.{from-one}
@@ -35,7 +35,7 @@ use Rattle.keys.specs.declared.KeyTable.{KeyTable}
 use Rattle.keys.specs.declared.Numbering.the-variants.{Whole, Over}
 use Rattle.keys.specs.Kinds.{walkBy}
 use Rattle.keys.specs.Tables.{countMeans, Table, tableAs, tableOutcome, keysBy, cellOf, cellsOf, cellsTo, tableFor, tableBy}
-use Rattle.keys.specs.Steps.{closedFrom}
+use Rattle.keys.specs.mirror.Steps.{closedFrom}
 
 module _ (m : ℕ) (zeros next : List ℕ) (h : Cleared 0 zeros next) where
   first-is : set zeros 0 m ≡ keyCells (m ∷ [])

@@ -5,10 +5,10 @@ ghost use Prim.Native.Nat.{_≤_, _<_};
 ghost use lib.ListN.{take};
 ghost use Rattle.limits.specs.Limits.{mostSymbols, mostSets};
 ghost use Rattle.automaton.specs.Successor.{successor as successorOf};
-ghost use Rattle.numbering.specs.Arrays.{foundIn, keyCells, Entered, Stepped, ArraysHold};
+ghost use Rattle.numbering.specs.mirror.Arrays.{foundIn, keyCells, Entered, Stepped, ArraysHold};
 ghost use Rattle.keys.specs.Kinds.{stepBy, nothing, walkBy};
 ghost use Rattle.keys.specs.Tables.{countMeans, heldBy, tableAs, tableOutcome, tableFor, tableBy, tableOf};
-ghost use Rattle.keys.specs.Steps.{foundMeans, turnMeans, closedFrom};
+ghost use Rattle.keys.specs.mirror.Steps.{foundMeans, turnMeans, closedFrom};
 
 // What a key stands for: a set of states, as a mask; a mapping, as a number of 64 bits; a pair of
 // sets of states, the second in the upper 32 bits.

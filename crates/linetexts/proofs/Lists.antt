@@ -11,9 +11,9 @@ use mathlib.Core.Path.{_≡_, refl, sym, ap, ap₂, _∙_, subst}
 use mathlib.Core.Bool.{Bool, true, false, cond, not, _&&_}
 use mathlib.Core.List.{List, [], _∷_, _++_, append-nil}
 use mathlib.Core.Option.{Option, none, some}
-use Prim.Native.Nat.{ℕ, _+_, _≤_, _<_}
+use Prim.Native.Nat.{ℕ, _≤_}
 use native.Mathlib.Omega.{arith}
-use borrow.Author.Tests.{lt-ltb, le-ltb}
+use borrow.Author.Tests.{lt-ltb}
 use lib.Dec.{ltb}
 use lib.ListN.{length, take}
 use Rattle.base.proofs.Tests.{not-both}
@@ -24,7 +24,7 @@ use Rattle.longlines.specs.declared.Seen.{Seen}
 use Rattle.longlines.specs.Holding.{seenOf, heldMeaning}
 use Rattle.longlines.specs.Claims.{TellsWithin}
 use Rattle.longlines.proofs.Standing.{by-bytes, by-stray}
-use Rattle.linetexts.specs.Feeding.{Outcome, LineMachine, heldStep}
+use Rattle.linetexts.specs.Feeding.{Outcome, heldStep}
 use Rattle.linetexts.specs.Lists.{Listed, ListMachine, isLine, listOf, skip, listLines, skipsHeld, listText, NoneEmpty, no-line, one-more, skippedLines, Ends}
 use Rattle.linetexts.specs.Claims.{Told, linesStep, after}
 

@@ -6,7 +6,6 @@
 --   blocks-are               all rounds of all blocks
 --   round-forward, round-within, round-on   for a loop over the rounds of a block
 use mathlib.Core.Path.{_≡_, refl, sym, ap, ap₂, _∙_, subst}
-use mathlib.Core.Bool.{Bool, true, false, cond}
 use mathlib.Core.List.{List, [], _∷_, _++_, append-assoc, flatten}
 use Prim.Native.Nat.{ℕ, zero, suc, _+_, _-_, _≤_, _<_}
 use native.Mathlib.Omega.{arith}
@@ -15,8 +14,8 @@ use lib.Dec.{ltb}
 use lib.ListN.{length, drop, length-drop, drop-of-length-le}
 use lib.Seq.{drop-drop}
 use Rattle.base.proofs.Tests.{by-test}
-use Rattle.linetexts.specs.Parts.{Part, partsOf, partsIn, firstOf, partSize, FirstPart}
-use Rattle.linetexts.specs.Feeding.{LineMachine, State, Step, feedPart, feedParts, partsText, Gathering, stop, onward, gatherParts, gatherAt, Gathers}
+use Rattle.linetexts.specs.Parts.{Part, partsOf, partsIn, firstOf, partSize}
+use Rattle.linetexts.specs.Feeding.{LineMachine, State, feedPart, feedParts, partsText, Gathering, stop, onward, gatherParts, gatherAt, Gathers}
 use Rattle.linetexts.specs.Claims.{Rounds, over, round, Blocks, no-block, one-more}
 use Rattle.linetexts.proofs.Parts.{first-part}
 use Rattle.linetexts.proofs.Gathering.{gather-on, gather-short, gather-over}

@@ -6,7 +6,7 @@
 --   turn-within     there is room for what was written
 use mathlib.Core.Path.{_≡_, refl, sym, ap, ap₂, _∙_}
 use mathlib.Core.Bool.{Bool, true, false, not}
-use mathlib.Core.List.{List, []}
+use mathlib.Core.List.{List}
 use Prim.Native.Nat.{ℕ, _+_, _-_, _≤_, _<_}
 use native.Mathlib.Omega.{arith}
 use borrow.Rule.Slice.PartMut.{midOf, putMid}
@@ -17,8 +17,8 @@ use Rattle.text.proofs.Pieces.{wrote-none}
 use Rattle.longlines.specs.declared.Held.{Held}
 use Rattle.longlines.specs.Holding.{lineBegin}
 use Rattle.linetexts.specs.declared.Taken.{Taken}
-use Rattle.linetexts.specs.Parts.{Part, ends, goesOn, partAt, partBytes, partEnds, partSize, FirstPart, TookPart}
-use Rattle.linetexts.specs.Feeding.{Outcome, LineMachine, State, Step, stateOf, goOn, quiet, answeredBy, heldStep, answerHeld, feedPart}
+use Rattle.linetexts.specs.Parts.{Part, ends, goesOn, partAt, partBytes, partEnds, TookPart}
+use Rattle.linetexts.specs.Feeding.{LineMachine, State, stateOf, goOn, quiet, answeredBy, heldStep, answerHeld, feedPart}
 use Rattle.linetexts.proofs.Parts.{first-part}
 use Rattle.linetexts.proofs.Gathering.{SoFar, gone-on, placed, placed-size, placed-within}
 

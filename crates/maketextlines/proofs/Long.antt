@@ -5,8 +5,8 @@
 --   past-length   the bytes before a space, the space, and those behind it
 --   too-long      a line of more than 62 bytes is malformed
 --   decides       what is kept of a line decides its answer
-use mathlib.Core.Path.{_≡_, refl, sym, ap, _∙_}
-use mathlib.Core.Bool.{Bool, true, false, cond, _&&_}
+use mathlib.Core.Path.{_≡_, refl, sym, ap}
+use mathlib.Core.Bool.{Bool, true, false, _&&_}
 use mathlib.Core.List.{List, [], _∷_}
 use mathlib.Core.Option.{Option, none, some}
 use Prim.Native.Nat.{ℕ, suc, _+_, _≤_, _<_}
@@ -16,10 +16,9 @@ use lib.ListN.{length}
 use borrow.Author.Tests.{lt-leb, leb-true, leb-false}
 use Rattle.base.proofs.Tests.{by-test, zero-one}
 use Rattle.lines.specs.Splitting.{upTo, past}
-use Rattle.fields.specs.Numbers.{allDigits, valueOf, parseNumber}
+use Rattle.fields.specs.Numbers.{parseNumber}
 use Rattle.shortlines.specs.Keeping.{cut}
-use Rattle.answers.specs.Answers.{malformedText}
-use Rattle.maketextlines.specs.Lines.{Meaning, malformed, upToMost, makesBy, lengthFields, seedFields, lineIn}
+use Rattle.maketextlines.specs.Lines.{malformed, upToMost, makesBy, lengthFields, seedFields, lineIn}
 use Rattle.maketextlines.specs.Answers.{answerIn, answerTo, answerHeld}
 
 never : (a : Bool) → a && false ≡ false

@@ -3,8 +3,8 @@
 --   count-most              the most digits of a number of mappings
 --   mapped-room, mapped-whole   the digits of a mapping, and a line feed behind them
 --   …-text                  the line of a reply, by the case of the code's answer
-use mathlib.Core.Path.{_≡_, sym, ap, subst}
-use mathlib.Core.List.{List, [], _∷_, _++_}
+use mathlib.Core.Path.{_≡_, sym, subst}
+use mathlib.Core.List.{List, [], _∷_}
 use Prim.Native.Nat.{ℕ, _+_, _≤_, _<_}
 use native.Mathlib.Omega.{arith}
 use lib.ListN.{length}
@@ -19,7 +19,7 @@ use Rattle.mapcalls.specs.declared.MapAnswer.{MapAnswer}
 use Rattle.mapcalls.specs.declared.MapAnswer.the-variants.{Forgotten, Built, Mapped, Yes, No, Lacking, Refused}
 use Rattle.mapcalls.specs.declared.MapReply.{MapReply}
 use Rattle.mapcalls.specs.Calls.{built, mapped, answerMeans, replyMeans}
-use Rattle.mapreplies.specs.Replies.{no-profile, saidText, replyText}
+use Rattle.mapreplies.specs.Replies.{no-profile, replyText}
 
 pub count-most : (n : ℕ) → n < 65536 → length (decimal n) ≤ 5
 count-most n h = decimal-most 4 n (omega arith)

@@ -25,7 +25,6 @@ use lib.ListN.{getD}
 use lib.Pow.{shl-exact, pow-lt}
 use borrow.Author.Tests.{eq-eqb, ne-eqb, lt-ltb, le-ltb}
 use Rattle.base.specs.Lists.{listFrom}
-use Rattle.base.proofs.Conditions.{orElse}
 use Rattle.masks.specs.Masks.{single}
 use Rattle.automaton.specs.declared.Rule.{Rule}
 use Rattle.automaton.specs.Rules.{targetMask}
@@ -42,7 +41,7 @@ use Rattle.merging.specs.Merged.{statesOf, pairs, beside, setOf, oneMoves, ownT
 use Rattle.merging.specs.Merging.{wayOf, mergeNumber, mergeMeans, mergeOf}
 use Rattle.merging.specs.Claims.{Mergeable}
 use Rattle.merging.proofs.Conditions.{number-law, refused-exactly}
-use Rattle.merge.specs.Asked.{Sizes, Masks, Tables}
+use Rattle.merge.specs.mirror.Asked.{Sizes, Masks, Tables}
 
 -- ---- `way_of`
 module _ (x : ℕ) where

@@ -1,14 +1,14 @@
 // Two rules made one: a text that both accept, a text that either accepts, or an interleaving of
 // one from each. Any numbers may stand in the rules.
 ghost use mathlib.Core.Path.{_≡_};
-ghost use Prim.Native.Nat.{_+_, _*_, _^_, _≤_, _<_};
+ghost use Prim.Native.Nat.{_+_, _*_, _≤_, _<_};
 ghost use Rattle.base.specs.Lists.{listFrom};
 ghost use Rattle.limits.specs.Limits.{mostStates, mostSymbols, targetCells};
 ghost use Rattle.automaton.specs.Rules.{targetMask};
 ghost use Rattle.merging.specs.Merged.{statesOf, pairs as pairsOf, beside as besideOf, setOf, oneMoves, ownTargets, targetsOf, cellIn, mergedOf};
 ghost use Rattle.merging.specs.Merging.{wayOf, mergeNumber, mergeMeans, mergeOutcome, mergeOf};
 ghost use Rattle.merging.specs.Claims.{Mergeable};
-ghost use Rattle.merge.specs.Asked.{Sizes, Masks, Tables};
+ghost use Rattle.merge.specs.mirror.Asked.{Sizes, Masks, Tables};
 use automaton::Rule;
 use masks::StateNumber;
 use merging::MergeAnswer;

@@ -1,7 +1,6 @@
 -- The words fix every number of the reduced rule: two well-formed rules that are renumbered from
 -- the same one so, and of which every state is reachable, are equal. Assumes tables of 512 cells.
-use mathlib.Core.Path.{_≡_, refl, sym, ap, _∙_, subst}
-use mathlib.Core.Logic.{_↔_}
+use mathlib.Core.Path.{_≡_, sym, ap, subst}
 use mathlib.Core.List.{List}
 use Prim.Native.Nat.{ℕ, zero, suc, _≤_, _<_}
 use native.Mathlib.Nat.{le-antisymm}
@@ -13,7 +12,7 @@ use Rattle.base.proofs.Tests.{by-test}
 use Rattle.masks.specs.Masks.{_∈_}
 use Rattle.masks.proofs.Laws.{members-below}
 use Rattle.automaton.specs.declared.Rule.{Rule}
-use Rattle.automaton.specs.Automaton.{Automaton, Arc, Run, stay, move}
+use Rattle.automaton.specs.Automaton.{Arc, Run, stay, move}
 use Rattle.automaton.specs.Rules.{automatonOf, WellFormed}
 use Rattle.automaton.proofs.Values.{Within, same-value}
 use Rattle.reducing.specs.Claims.{Reachable, Stands, Renumbered}

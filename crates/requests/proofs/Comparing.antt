@@ -28,11 +28,11 @@
 -- All that they rest on stands in these files of specs/ (tests/believed):
 --   base Conditions, Lists, Options, Totals; limits Limits; masks Masks; automaton Automaton,
 --   Rules, Successor; rulecheck Checking, Worked; ruleformat Format, Reader, Refusals; numbering
---   Numbering, Texts; subsets Sets, Singles; compositions Relations; mappings Mappings, Packing;
---   keys Kinds, Tables; searches Search, Texts; samples Samples; compare Claims, Compared,
---   Search, Values, Worked; delegates Alike, Claims, Classes; marks Marks; chunks Chunks; joins
---   Joining; calls Calls, Replies; histories History; c_compare Claims, Numbers; requests
---   CompareFunction.
+--   Numbering, Texts; subsets Sets, mirror/Singles; compositions Relations; mappings Mappings,
+--   Packing; keys Kinds, Tables; searches Search, Texts; samples Samples; compare Claims,
+--   Compared, Search, Values, Worked; delegates Alike, Claims, mirror/Classes; marks Marks;
+--   chunks Chunks; joins Joining; calls Calls, Replies; histories History; c_compare Claims,
+--   Numbers; requests CompareFunction.
 use mathlib.Core.Path.{_≡_, refl, sym, ap, _∙_, subst}
 use mathlib.Core.Logic.{_↔_, _⊎_, inl, inr, ⊎-elim}
 use mathlib.Core.Bool.{true}
@@ -70,7 +70,7 @@ use Rattle.c_compare.specs.Numbers.{comparisonShown, comparisonReadBack}
 use Rattle.c_compare.specs.Claims as c-claims
 use Rattle.c_compare.proofs.ReadBack as c-compare
 use Rattle.requests.specs.CompareFunction.{AsksCompare, MayCompare, AsksCompareC, MayCompareC}
-use Rattle.requests.proofs.Installing as installing
+use Rattle.demands.proofs.Installing as installing
 
 -- The limits that are named below:
 pub limits : (longestText ≡ 511) × (mostSets ≡ 512)

@@ -1,6 +1,4 @@
 -- A page for each request that brought functions of its own, and for each capability beyond the papers.
-pub mod Limits
-pub mod Installing
 pub mod Listing
 pub mod Printing
 pub mod MappingFunctions

@@ -27,11 +27,11 @@
 --   base Conditions, Lists, Options, Totals; limits Limits; flags Flags; text Numerals, Writing;
 --   answers Answers; masks Masks; automaton Automaton, Rules, Successor; rulecheck Checking,
 --   Worked; ruleformat Claims, Format, Language, Reader, Refusals, Writing; numbering Numbering;
---   subsets Sets, Singles; delegates Alike, Claims, Classes; marks Marks; chunks Chunks; joins
---   Joining; calls Calls, Replies; histories History; fields Bytes, Claims; lines Splitting;
---   hexfields Fields, Reading; products Claims, Interleavings, Products, Words; merging Claims,
---   Languages, Merged, Merging, Worked; mergetext Answers, Claims, Lines, Worked; mergescan
---   Scanning; mergestream Claims, Feeding, Texts; c_merge Claims, Numbers; requests
+--   subsets Sets, mirror/Singles; delegates Alike, Claims, mirror/Classes; marks Marks; chunks
+--   Chunks; joins Joining; calls Calls, Replies; histories History; fields Bytes, Claims; lines
+--   Splitting; hexfields Fields, Reading; products Claims, Interleavings, Products, Words;
+--   merging Claims, Languages, Merged, Merging, Worked; mergetext Answers, Claims, Lines, Worked;
+--   mergescan Scanning; mergestream Claims, Feeding, Texts; c_merge Claims, Numbers; requests
 --   MergeFunction.
 use mathlib.Core.Path.{_≡_, sym, ap, _∙_, subst, refl}
 use mathlib.Core.Logic.{_↔_, _⊎_}
@@ -86,7 +86,7 @@ use Rattle.c_merge.specs.Claims as c-claims
 use Rattle.c_merge.proofs.ReadBack as c-merge
 use Rattle.c_merge.proofs.Asks as c-asks
 use Rattle.requests.specs.MergeFunction.{AsksMerge, MayMerge, AsksMergeC, MayMergeC}
-use Rattle.requests.proofs.Installing as installing
+use Rattle.demands.proofs.Installing as installing
 
 -- The limits that are named below:
 pub limits : (mostStates ≡ 32) × (targetCells ≡ 512) × (longestFile ≡ 32906)

@@ -25,11 +25,12 @@
 -- All that they rest on stands in these files of specs/ (tests/believed):
 --   base Conditions, Lists, Options, Totals; limits Limits; text Numerals; answers Answers; masks
 --   Masks; automaton Automaton, Rules, Successor; rulecheck Checking, Worked; ruleformat Format,
---   Reader, Refusals, Worked; numbering Numbering, Texts; subsets Sets, Singles; compositions
---   Relations; mappings Mappings, Packing; keys Kinds, Tables; searches Search, Texts; samples
---   Claims, Samples, Search, Values, Worked; delegates Alike, Claims, Classes; marks Marks;
---   chunks Chunks; joins Joining; calls Calls, Replies; histories History; fields Claims;
---   sampletext SampleText, Worked; c_samples Claims, Numbers; requests SampleFunctions.
+--   Reader, Refusals, Worked; numbering Numbering, Texts; subsets Sets, mirror/Singles;
+--   compositions Relations; mappings Mappings, Packing; keys Kinds, Tables; searches Search,
+--   Texts; samples Claims, Samples, Search, Values, Worked; delegates Alike, Claims,
+--   mirror/Classes; marks Marks; chunks Chunks; joins Joining; calls Calls, Replies; histories
+--   History; fields Claims; sampletext SampleText, Worked; c_samples Claims, Numbers; requests
+--   SampleFunctions.
 use mathlib.Core.Path.{_≡_, refl, sym, ap, _∙_, subst}
 use mathlib.Core.Logic.{_↔_, _⊎_, inl, inr, ⊎-elim}
 use mathlib.Core.Bool.{true}
@@ -69,7 +70,7 @@ use Rattle.c_samples.specs.Numbers.{wishOf, sampleShown, sampleReadBack}
 use Rattle.c_samples.specs.Claims as c-claims
 use Rattle.c_samples.proofs.ReadBack as c-samples
 use Rattle.requests.specs.SampleFunctions.{AsksSample, MaySample, AsksSampleC, MaySampleC}
-use Rattle.requests.proofs.Installing as installing
+use Rattle.demands.proofs.Installing as installing
 
 -- The limits that are named below:
 pub limits : (longestSample ≡ 511) × (mostSets ≡ 512)

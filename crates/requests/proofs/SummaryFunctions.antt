@@ -19,7 +19,7 @@ use Rattle.histories.specs.History.{ruleThere}
 use Rattle.histories.specs.Claims.{judgeAfter}
 use Rattle.histories.proofs.Refinement.{lent}
 use Rattle.demands.specs.Functions.{cLibrary}
-use Rattle.demands.proofs.Demands.{every-execution-from-C}
+use Rattle.demands.proofs.Histories.{every-execution-from-C}
 use Rattle.summaries.specs.declared.Summary.{Summary}
 use Rattle.summaries.specs.Summaries.{combine, summarizeOf, concludeOf}
 use Rattle.summaryverdict.specs.Traces.{judgeOf, textsOf, Numbered, numbersOf, chunksOf, summaryAt, SummarizesAll, Reports, Used}

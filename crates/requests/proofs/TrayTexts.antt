@@ -16,7 +16,7 @@ use Rattle.linetexts.specs.Functions.{FedBlocks, Kept, Ends}
 use Rattle.linetexts.proofs.Functions.{all-written}
 use Rattle.trays.specs.declared.Tray.{Tray}
 use Rattle.histories.proofs.Refinement.{lent}
-use Rattle.trays.specs.Steps.{fresh}
+use Rattle.trays.specs.mirror.Steps.{fresh}
 use Rattle.traystream.specs.Texts.{trayRoom, trayLines, rightText}
 use Rattle.traystream.proofs.Claimed as traystream
 use Rattle.requests.specs.TrayTexts.{MayGather, MayFinish}

@@ -7,7 +7,7 @@ ghost use Rattle.base.specs.Lists.{joined};
 ghost use Rattle.text.specs.Writing.{Wrote};
 ghost use Rattle.answers.specs.Answers.{refusedText};
 ghost use Rattle.delegates.specs.Alike.{delegateIn};
-ghost use Rattle.delegates.specs.Answer.{delegateMeans};
+ghost use Rattle.delegates.specs.mirror.Answer.{delegateMeans};
 ghost use Rattle.ruletext.specs.RuleText.{field, cellText, rowText, setLine, headLine, delegateText, delegatesLine, ruleText, textOf};
 ghost use Rattle.ruletext.specs.Printing.{Prints, textFor, mostBytes};
 use build::BuildAnswer;

@@ -1,8 +1,5 @@
 -- The one proof of all that specs/Claims.antt claims. Assumes nothing.
-use mathlib.Core.Path.{_∙_, ap}
-use mathlib.Core.List.{[], List, _++_}
-use mathlib.Core.Option.{Option}
-use Rattle.shortlines.specs.Feeding.{heldAfter, answersAfter, lastAnswer}
+use mathlib.Core.List.{[]}
 use Rattle.shortlines.specs.Claims.{Claims}
 use Rattle.shortlines.proofs.Keeping.{goes-on}
 use Rattle.shortlines.proofs.Texts.{held-parts, answers-parts, cut-none, whole-from}

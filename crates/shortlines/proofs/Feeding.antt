@@ -13,9 +13,8 @@ use mathlib.Core.Path.{_≡_, refl, sym, ap, ap₂, _∙_, subst}
 use mathlib.Core.Logic.{_⊎_, inl, inr, ⊎-elim}
 use mathlib.Core.Bool.{true, false}
 use mathlib.Core.List.{List, [], _∷_, _++_, append-nil}
-use mathlib.Core.Option.{Option, none, some}
+use mathlib.Core.Option.{Option}
 use Prim.Native.Nat.{ℕ, suc, _+_, _-_, _≤_, _<_}
-use native.Mathlib.Numerals.{add-one}
 use native.Mathlib.Omega.{arith}
 use lib.ListN.{length, getD, take, drop, length-drop}
 use lib.Seq.{take-suc, take-add, drop-drop, getD-drop}
@@ -24,11 +23,10 @@ use Rattle.text.specs.Writing.{Wrote}
 use Rattle.text.proofs.Fitting.{Put, put, _then_}
 use Rattle.text.proofs.Pieces.{wrote-none}
 use Rattle.shortlines.specs.declared.Line.{Line}
-use Rattle.shortlines.specs.declared.Line.the-variants.{Short, Long}
+use Rattle.shortlines.specs.declared.Line.the-variants.{Short}
 use Rattle.shortlines.specs.declared.Taken.{Taken}
-use Rattle.shortlines.specs.declared.Fed.{Fed}
 use Rattle.shortlines.specs.Keeping.{heldIn, heldWith, noByte}
-use Rattle.shortlines.specs.Feeding.{heldAfter, answersAfter, lastAnswer, between, GoesOn, Ends, Takes, Feeds}
+use Rattle.shortlines.specs.Feeding.{heldAfter, answersAfter, lastAnswer, between, GoesOn, Takes, Feeds}
 use Rattle.shortlines.proofs.Texts.{held-parts, answers-parts, held-more, held-ends, answers-same, answers-more}
 
 -- ---- between two indices

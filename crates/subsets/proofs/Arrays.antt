@@ -9,22 +9,21 @@ use mathlib.Core.Bool.{Bool, true, false, cond}
 use mathlib.Core.List.{List}
 use mathlib.Core.Option.{none, some}
 use Prim.Native.Nat.{ℕ, _+_, _*_, _≤_, _<_}
-use native.Mathlib.Omega.{arith}
 use lib.Dec.{ltb}
 use lib.ListN.{getD, take, set}
 use borrow.Author.Tests.{eq-eqb, ne-eqb, ltb-true, ltb-false}
 use Rattle.base.proofs.Tests.{by-test, zero-one}
 use Rattle.automaton.specs.Successor.{successor}
 use Rattle.automaton.proofs.Laws.{successor-foreign}
-use Rattle.numbering.specs.Arrays.{foundIn}
+use Rattle.numbering.specs.mirror.Arrays.{foundIn}
 use Rattle.numbering.proofs.Arrays as keys
 use Rattle.subsets.specs.declared.SetNumber.{SetNumber}
 use Rattle.subsets.specs.declared.Numbered.{Numbered}
 use Rattle.subsets.specs.declared.Numbered.the-variants.{As, Full}
 use Rattle.subsets.specs.declared.Numbering.the-variants.{Whole, Over}
 use Rattle.subsets.specs.Sets.{isEmpty}
-use Rattle.subsets.specs.Answer.{counted, refused, turnMeans}
-use Rattle.subsets.specs.Steps.{turnTold, cellsOf, Entered, Stepped}
+use Rattle.subsets.specs.mirror.Answer.{counted, refused, turnMeans}
+use Rattle.subsets.specs.mirror.Steps.{turnTold, cellsOf, Entered, Stepped}
 
 -- ---- at most 512
 -- what is told of so many sets, where `over` says whether they are too many

@@ -9,9 +9,9 @@ use Rattle.subsets.specs.declared.Numbering.{Numbering}
 use Rattle.subsets.specs.declared.Numbering.the-variants.{Whole, Over}
 use Rattle.subsets.specs.declared.SetTable.{SetTable}
 use Rattle.subsets.specs.Sets.{setsOf, tooMany}
-use Rattle.subsets.specs.Singles.{singlesOf}
-use Rattle.subsets.specs.Answer.{numberingMeans, noTable, tableOutcome, tableOf}
-use Rattle.subsets.specs.Steps.{Answered}
+use Rattle.subsets.specs.mirror.Singles.{singlesOf}
+use Rattle.subsets.specs.mirror.Answer.{numberingMeans, noTable, tableOutcome, tableOf}
+use Rattle.subsets.specs.mirror.Steps.{Answered}
 use Rattle.subsets.proofs.Arrays.{told-counted, told-refused}
 
 module _ (ts : List ℕ) (n k : ℕ) (r : Numbering) (sets next : List ℕ) (answered : Answered ts n k r sets next) where

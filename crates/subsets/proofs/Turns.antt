@@ -17,7 +17,7 @@ use Rattle.base.proofs.Lists.{same-list}
 use Rattle.masks.specs.Masks.{single}
 use Rattle.automaton.specs.Successor.{successor}
 use Rattle.numbering.specs.Numbering.{keysUpTo}
-use Rattle.numbering.specs.Arrays.{cellTo}
+use Rattle.numbering.specs.mirror.Arrays.{cellTo}
 use Rattle.numbering.proofs.Numbers.{begins-length, numbered-begins}
 use Rattle.numbering.proofs.Closure.{close-begins, upTo-begins}
 use Rattle.numbering.proofs.Arrays as arrays
@@ -29,8 +29,8 @@ use Rattle.subsets.specs.declared.Numbered.the-variants.{As, Full}
 use Rattle.subsets.specs.declared.Numbering.{Numbering}
 use Rattle.subsets.specs.declared.Numbering.the-variants.{Whole, Over}
 use Rattle.subsets.specs.Sets.{isEmpty, setWalk, indexOf, numbered, setsUpTo, setsOf, tooMany, nextSet, nextCells}
-use Rattle.subsets.specs.Answer.{numberingMeans, turnMeans}
-use Rattle.subsets.specs.Steps.{told, turnTold, Entered, ArraysHold, Grown, closedFrom, grownBy, Answered}
+use Rattle.subsets.specs.mirror.Answer.{numberingMeans, turnMeans}
+use Rattle.subsets.specs.mirror.Steps.{told, turnTold, Entered, ArraysHold, Grown, closedFrom, grownBy, Answered}
 use Rattle.subsets.proofs.Arrays.{symbol-lt}
 
 pub column : (ts : List ℕ) (m s : ℕ) → isEmpty (successor ts m s) ≡ false → s < 16

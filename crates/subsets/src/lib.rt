@@ -6,10 +6,10 @@ ghost use lib.Dec.{eqb};
 ghost use lib.ListN.{length, getD, take};
 ghost use Rattle.base.specs.Totals.{total};
 ghost use Rattle.limits.specs.Limits.{mostStates, mostSymbols, mostSets};
-ghost use Rattle.numbering.specs.Arrays.{foundIn};
-ghost use Rattle.subsets.specs.Singles.{foundMeans, singletonNumber, singlesOf};
-ghost use Rattle.subsets.specs.Answer.{noTable, tableOutcome, tableOf};
-ghost use Rattle.subsets.specs.Steps.{cellsOf, Entered, Stepped, ArraysHold, Grown, grownBy, closedFrom, Cleared, Answered};
+ghost use Rattle.numbering.specs.mirror.Arrays.{foundIn};
+ghost use Rattle.subsets.specs.mirror.Singles.{foundMeans, singletonNumber, singlesOf};
+ghost use Rattle.subsets.specs.mirror.Answer.{noTable, tableOutcome, tableOf};
+ghost use Rattle.subsets.specs.mirror.Steps.{cellsOf, Entered, Stepped, ArraysHold, Grown, grownBy, closedFrom, Cleared, Answered};
 use masks::StateNumber;
 
 // The number of a set, which is never the number of a state.

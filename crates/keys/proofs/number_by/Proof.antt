@@ -5,7 +5,7 @@ use native.Mathlib.Omega.{arith}
 use lib.ListN.{replicate, set, take}
 use borrow.Author.Needs.{needs}
 use Rattle.base.specs.Lists.{listFrom}
-use Rattle.numbering.specs.Arrays.{Cleared}
+use Rattle.numbering.specs.mirror.Arrays.{Cleared}
 use Rattle.keys.specs.Kinds.{walkBy}
 use Rattle.keys.proofs.Tables.{first-read, first-holds, table-by}
 use Rattle.keys.proofs.number_by.Statement.{statement}

@@ -4,7 +4,7 @@ use lib.ListN.{getD}
 use borrow.Author.Needs.{needs}
 use Rattle.numbering.proofs.Arrays.{stepped-whole, stepped-over}
 use Rattle.keys.specs.Kinds.{stepBy, nothing}
-use Rattle.keys.specs.Steps.{turnMeans}
+use Rattle.keys.specs.mirror.Steps.{turnMeans}
 use Rattle.keys.proofs.step.Statement.{statement}
 use Rattle.keys.proofs.step.Tie as tie
 

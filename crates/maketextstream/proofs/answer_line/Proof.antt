@@ -1,6 +1,6 @@
 -- `answer_line` meets its contract. Assumes nothing.
 use borrow.Author.Needs.{needs}
-use Rattle.maketextstream.proofs.Answering.{within, prefix, short-line, long-line}
+use Rattle.maketextstream.proofs.Answering.{prefix, short-line, long-line}
 use Rattle.maketextstream.proofs.answer_line.Statement.{statement}
 use Rattle.maketextstream.proofs.answer_line.Tie as tie
 

@@ -1,7 +1,7 @@
 -- `feed` meets its contract: the bytes before `at` were taken (`Sofar`). Assumes nothing.
 use Prim.Native.Nat.{_-_}
 use native.Mathlib.Omega.{arith}
-use lib.ListN.{length, getD}
+use lib.ListN.{length}
 use borrow.Author.Needs.{needs}
 use Rattle.mergestream.proofs.Feeding.{Sofar, sofar-none, sofar-byte, sofar-line, sofar-stops, sofar-ends}
 use Rattle.mergestream.proofs.feed.Statement.{statement}

@@ -1,6 +1,5 @@
 -- `write_rule` meets its contract. Assumes nothing.
 use lib.ListN.{length-replicate}
-use native.Mathlib.Omega.{arith}
 use Rattle.rulewriter.proofs.Values.{room-for, passes, passed, refused}
 use Rattle.rulecheck.specs.declared.CheckAnswer.the-variants.{Passed, Refused}
 use mathlib.Core.Path.{_≡_}

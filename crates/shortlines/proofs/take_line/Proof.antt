@@ -1,5 +1,4 @@
 -- `take_line` meets its contract: the bytes before `at` are of one line (`Going`). Assumes nothing.
-use mathlib.Core.Path.{_∙_}
 use Prim.Native.Nat.{_-_}
 use native.Mathlib.Omega.{arith}
 use lib.ListN.{length}

@@ -12,8 +12,8 @@ use borrow.Author.Needs.{needs}
 use Rattle.numbering.proofs.Closure.{keys-end}
 use Rattle.subsets.specs.Sets.{setWalk, closeFrom}
 use Rattle.subsets.specs.declared.Numbering.{Numbering}
-use Rattle.subsets.specs.Answer.{numberingMeans}
-use Rattle.subsets.specs.Steps.{told, ArraysHold}
+use Rattle.subsets.specs.mirror.Answer.{numberingMeans}
+use Rattle.subsets.specs.mirror.Steps.{told, ArraysHold}
 use Rattle.numbering.proofs.Arrays.{count-is}
 use Rattle.numbering.proofs.Table.{row-begins, row-ends}
 use Rattle.numbering.proofs.Turns.{expanded, turn-whole, row-done, row-over, grown-whole, grown-over}

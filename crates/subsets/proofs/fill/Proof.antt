@@ -9,7 +9,7 @@ use borrow.Author.Needs.{needs}
 use Rattle.numbering.specs.Numbering.{keysUpTo}
 use Rattle.numbering.proofs.Turns.{begin}
 use Rattle.subsets.specs.Sets.{setWalk, setsUpTo}
-use Rattle.subsets.specs.Steps.{ArraysHold}
+use Rattle.subsets.specs.mirror.Steps.{ArraysHold}
 use Rattle.subsets.proofs.Turns.{states-more, states-over, answered-over, answered-whole}
 use Rattle.subsets.proofs.fill.Statement.{statement}
 use Rattle.subsets.proofs.fill.Tie as tie

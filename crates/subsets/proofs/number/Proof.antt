@@ -2,7 +2,7 @@
 -- none is left. Assumes nothing.
 use mathlib.Core.Path.{sym, ap, _∙_}
 use borrow.Author.Needs.{needs}
-use Rattle.subsets.specs.Singles.{foundMeans}
+use Rattle.subsets.specs.mirror.Singles.{foundMeans}
 use Rattle.subsets.proofs.Arrays.{entered-kept, entered-taken, entered-full}
 use Rattle.subsets.proofs.number.Statement.{statement}
 use Rattle.subsets.proofs.number.Tie as tie
