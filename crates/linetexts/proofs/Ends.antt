@@ -14,20 +14,21 @@ use lib.Seq.{length-take-le}
 use Rattle.text.specs.Writing.{Wrote}
 use Rattle.text.proofs.Pieces.{wrote-none}
 use Rattle.longlines.specs.declared.Held.{Held}
-use Rattle.linetexts.specs.Feeding.{LineMachine, stateOf, heldStep, answerHeld, finishOf}
+use Rattle.linetexts.specs.Feeding.{LineMachine, answerKept, finishOf}
+use Rattle.linetexts.specs.Beginnings.{Beginning, Teller, stateOf, byBeginning, heldStep}
 
-module _ {J : Type 0} (m : LineMachine J) (j : J) where
-  pub came : (j′ : J) (line : List ℕ) (held : Held) → j′ ≡ heldStep m j line held .state
+module _ {J : Type 0} where
+  pub came : (m : LineMachine Beginning J) (j j′ : J) (line : List ℕ) (held : Held) → j′ ≡ heldStep m j line held .state
       → heldStep m j line held ≡ record { text = heldStep m j line held .text; state = j′ }
-  came j′ line held is = ap (λ (x : J). record { text = heldStep m j line held .text; state = x }) (sym is)
+  came m j j′ line held is = ap (λ (x : J). record { text = heldStep m j line held .text; state = x }) (sym is)
 
-  module _ (held : Held) (line : List ℕ) where
-    pub none-written : held .length ≡ 0 → (out : List ℕ) → Wrote out 0 (finishOf m (stateOf j held line) .text) out 0
+  module _ (t : Teller J) (j : J) (held : Held) (line : List ℕ) where
+    pub none-written : held .length ≡ 0 → (out : List ℕ) → Wrote out 0 (finishOf (byBeginning t) (stateOf j held line) .text) out 0
     none-written e out = rw (eq-eqb (held .length) 0 e) (wrote-none out 0)
 
-    pub last-written : (held .length ≡ 0 → ⊥) → (b a : List ℕ) (end : ℕ) → Wrote b 0 (heldStep m j line held .text) a end
-        → Wrote b 0 (finishOf m (stateOf j held line) .text) a end
-    unfolding answerHeld
+    pub last-written : (held .length ≡ 0 → ⊥) → (b a : List ℕ) (end : ℕ) → Wrote b 0 (heldStep (byBeginning t) j line held .text) a end
+        → Wrote b 0 (finishOf (byBeginning t) (stateOf j held line) .text) a end
+    unfolding answerKept
     last-written e b a end wrote = rw (ne-eqb (held .length) 0 e) wrote
 
 pub wrote-within : (before t after : List ℕ) (end : ℕ) → Wrote before 0 t after end → end ≤ length after

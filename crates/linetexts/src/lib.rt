@@ -23,6 +23,14 @@ pub struct Pending {
     pub ended: bool,
 }
 
+// What lines that stand alone leave: the line that goes on, where the next part begins, and how many
+// bytes the answers have.
+pub struct Round {
+    pub held: Held,
+    pub at: usize,
+    pub written: usize,
+}
+
 // The beginning of a text.
 pub fn nothing_yet() -> Pending
     ensures { λ r. ⌜ r ≡ record { held = lineBegin; ended = false } ⌝ }
