@@ -19,6 +19,12 @@ pub enum Block {
     Failed,
 }
 
+// The same in numbers: none where the input has ended, and where it failed.
+pub struct Read {
+    pub length: usize,
+    pub failed: bool,
+}
+
 // The same of the whole input, as far as the buffer goes.
 pub enum Input {
     Bytes(usize),
@@ -105,6 +111,15 @@ pub fn write_all(program: &[u8], bytes: &[u8]) -> bool {
     true
 }
 
+// Writes the first so many bytes of a buffer, as many as it has; false where the output failed,
+// which is told.
+pub fn write_first(program: &[u8], n: usize, buffer: &[u8]) -> bool {
+    if n < buffer.len() {
+        return write_all(program, &buffer[..n]);
+    }
+    write_all(program, buffer)
+}
+
 // The next bytes of the input, at least one, as many as there are; a failure is told.
 pub fn read_block(program: &[u8], block: &mut [u8]) -> Block
     ensures { λ r. ⌜ Within r (now (block .exit)) ⌝ }
@@ -123,6 +138,27 @@ pub fn read_block(program: &[u8], block: &mut [u8]) -> Block
     }
     tell(program, b": cannot read");
     Block::Failed
+}
+
+// The same, for whoever reads up to the end.
+pub fn read_bytes(program: &[u8], block: &mut [u8]) -> Read
+    ensures { λ r. ⌜ r .length ≤ length (now (block .exit)) ⌝ }
+{
+    let read = read_block(program, block);
+    match read {
+        Block::Bytes(n) => Read {
+            length: n,
+            failed: false,
+        },
+        Block::End => Read {
+            length: 0,
+            failed: false,
+        },
+        Block::Failed => Read {
+            length: 0,
+            failed: true,
+        },
+    }
 }
 
 // A proved loop ends, and nothing says that the input does. So a program that reads up to
