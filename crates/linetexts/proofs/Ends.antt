@@ -1,10 +1,12 @@
 -- For functions that answer lines, and for a program that reads and writes. Assumes nothing.
 --
 --   came                          what came of a line, from the state that it left
---   none-written, last-written    the end of the text
+--   none-finished, last-finished  the end of the text
+--   none-written, last-written    the same where the beginning of a line is held
 --   wrote-within                  what is answered is within its buffer
 --   room-prefix                   the answer is a part of its buffer
-use mathlib.Core.Path.{_≡_, sym, ap}
+use mathlib.Core.Path.{_≡_, refl, sym, ap, _∙_}
+use mathlib.Core.Bool.{Bool, true, false}
 use mathlib.Core.List.{List}
 use Prim.Native.Nat.{ℕ, _+_, _≤_}
 use native.Mathlib.Omega.{arith}
@@ -14,8 +16,18 @@ use lib.Seq.{length-take-le}
 use Rattle.text.specs.Writing.{Wrote}
 use Rattle.text.proofs.Pieces.{wrote-none}
 use Rattle.longlines.specs.declared.Held.{Held}
-use Rattle.linetexts.specs.Feeding.{LineMachine, answerKept, finishOf}
-use Rattle.linetexts.specs.Beginnings.{Beginning, Teller, stateOf, byBeginning, heldStep}
+use Rattle.linetexts.specs.Feeding.{LineMachine, keeping, answerKept, finishOf}
+use Rattle.linetexts.specs.Beginnings.{Beginning, beginning, Teller, stateOf, byBeginning, heldStep}
+
+-- b is what a function answered that tests whether nothing of a line is kept
+module _ {K J : Type 0} (m : LineMachine K J) (j : J) (k : K) (b : Bool) (is : b ≡ m .empty k) where
+  pub none-finished : b ≡ true → (out : List ℕ) → Wrote out 0 (finishOf m (keeping j k) .text) out 0
+  none-finished e out = rw (sym is ∙ e) (wrote-none out 0)
+
+  pub last-finished : b ≡ false → (before after : List ℕ) (end : ℕ) → Wrote before 0 (m .kept j k .text) after end
+      → Wrote before 0 (finishOf m (keeping j k) .text) after end
+  unfolding answerKept
+  last-finished e before after end wrote = rw (sym is ∙ e) wrote
 
 module _ {J : Type 0} where
   pub came : (m : LineMachine Beginning J) (j j′ : J) (line : List ℕ) (held : Held) → j′ ≡ heldStep m j line held .state
@@ -24,12 +36,11 @@ module _ {J : Type 0} where
 
   module _ (t : Teller J) (j : J) (held : Held) (line : List ℕ) where
     pub none-written : held .length ≡ 0 → (out : List ℕ) → Wrote out 0 (finishOf (byBeginning t) (stateOf j held line) .text) out 0
-    none-written e out = rw (eq-eqb (held .length) 0 e) (wrote-none out 0)
+    none-written e out = none-finished (byBeginning t) j (beginning held line) true (sym (eq-eqb (held .length) 0 e)) refl out
 
     pub last-written : (held .length ≡ 0 → ⊥) → (b a : List ℕ) (end : ℕ) → Wrote b 0 (heldStep (byBeginning t) j line held .text) a end
         → Wrote b 0 (finishOf (byBeginning t) (stateOf j held line) .text) a end
-    unfolding answerKept
-    last-written e b a end wrote = rw (ne-eqb (held .length) 0 e) wrote
+    last-written e = last-finished (byBeginning t) j (beginning held line) false (sym (ne-eqb (held .length) 0 e)) refl
 
 pub wrote-within : (before t after : List ℕ) (end : ℕ) → Wrote before 0 t after end → end ≤ length after
 wrote-within before t after end wrote = omega (arith, wrote .ends, ap length (wrote .is), length-append t (drop (0 + length t) before))

@@ -4,7 +4,7 @@
 --   more-some    a read that brought bytes brought some
 --   more-fits    and no more than there was room for
 --   front-is     what is counted is within the buffer
---   block-within, block-prefix, input-within, input-prefix   the same, for whoever reads
+--   block-within, input-within, input-prefix   the same, for whoever reads
 use mathlib.Core.Path.{_≡_, sym, _∙_, subst}
 use mathlib.Core.List.{List}
 use Prim.Native.Nat.{ℕ, _+_, _-_, _≤_, _<_}
@@ -42,9 +42,6 @@ module _ (buffer : List ℕ) (n : ℕ) (last : List ℕ) (kept : length last ≡
 module _ (b : Block) (xs : List ℕ) (within : Within b xs) (n : ℕ) (is : b ≡ Bytes n) where
   pub block-within : n ≤ length xs
   block-within = subst (λ (x : Block). Within x xs) is within .1 .0
-
-  pub block-prefix : n ≡ length (take n xs)
-  block-prefix = subst (λ (x : Block). Within x xs) is within .1 .1
 
 module _ (i : Input) (xs : List ℕ) (whole : Whole i xs) (n : ℕ) (is : i ≡ input.Bytes n) where
   pub input-within : n ≤ length xs

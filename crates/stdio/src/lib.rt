@@ -13,7 +13,7 @@ use libc::types::timespec;
 
 // What a read brought: so many bytes at the start of the buffer, the end of the input, or nothing,
 // since it failed.
-pub enum Block {
+enum Block {
     Bytes(usize),
     End,
     Failed,
@@ -121,7 +121,7 @@ pub fn write_first(program: &[u8], n: usize, buffer: &[u8]) -> bool {
 }
 
 // The next bytes of the input, at least one, as many as there are; a failure is told.
-pub fn read_block(program: &[u8], block: &mut [u8]) -> Block
+fn read_block(program: &[u8], block: &mut [u8]) -> Block
     ensures { λ r. ⌜ Within r (now (block .exit)) ⌝ }
 {
     let mut tries = TRIES;
@@ -140,7 +140,7 @@ pub fn read_block(program: &[u8], block: &mut [u8]) -> Block
     Block::Failed
 }
 
-// The same, for whoever reads up to the end.
+// The same in numbers, for whoever reads up to the end.
 pub fn read_bytes(program: &[u8], block: &mut [u8]) -> Read
     ensures { λ r. ⌜ r .length ≤ length (now (block .exit)) ⌝ }
 {
