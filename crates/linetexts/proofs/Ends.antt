@@ -3,15 +3,13 @@
 --   came                          what came of a line, from the state that it left
 --   none-finished, last-finished  the end of the text
 --   none-written, last-written    the same where the beginning of a line is held
---   wrote-within                  what is answered is within its buffer
---   room-prefix                   the answer is a part of its buffer
+--   room-prefix                   a part of a block has its length
 use mathlib.Core.Path.{_≡_, refl, sym, ap, _∙_}
 use mathlib.Core.Bool.{Bool, true, false}
 use mathlib.Core.List.{List}
-use Prim.Native.Nat.{ℕ, _+_, _≤_}
-use native.Mathlib.Omega.{arith}
+use Prim.Native.Nat.{ℕ, _≤_}
 use borrow.Author.Tests.{eq-eqb, ne-eqb}
-use lib.ListN.{length, take, drop, length-append}
+use lib.ListN.{length, take}
 use lib.Seq.{length-take-le}
 use Rattle.text.specs.Writing.{Wrote}
 use Rattle.text.proofs.Pieces.{wrote-none}
@@ -41,9 +39,6 @@ module _ {J : Type 0} where
     pub last-written : (held .length ≡ 0 → ⊥) → (b a : List ℕ) (end : ℕ) → Wrote b 0 (heldStep (byBeginning t) j line held .text) a end
         → Wrote b 0 (finishOf (byBeginning t) (stateOf j held line) .text) a end
     last-written e = last-finished (byBeginning t) j (beginning held line) false (sym (ne-eqb (held .length) 0 e)) refl
-
-pub wrote-within : (before t after : List ℕ) (end : ℕ) → Wrote before 0 t after end → end ≤ length after
-wrote-within before t after end wrote = omega (arith, wrote .ends, ap length (wrote .is), length-append t (drop (0 + length t) before))
 
 pub room-prefix : (n : ℕ) (out : List ℕ) → n ≤ length out → n ≡ length (take n out)
 room-prefix n out h = sym (length-take-le n out h)

@@ -4,7 +4,7 @@
 --   forward, within          a round takes some of a block, and no more than there is
 --   rounds                   all rounds of a block
 --   blocks-are               all rounds of all blocks
---   round-forward, round-within, round-on, rounds-over   for a loop over the rounds of a block
+--   round-forward, round-on, rounds-over   for a loop over the rounds of a block
 --   in-first, past-first     an index of the first n bytes
 use mathlib.Core.Path.{_≡_, refl, sym, ap, ap₂, _∙_, subst}
 use mathlib.Core.Bool.{Bool, true, false, cond}
@@ -124,9 +124,6 @@ module _ {K J : Type 0} (m : LineMachine K J) where
       (came : Gathers (gatherAt m b at room s) at t next written before after) where
     pub round-forward : m .most ≤ room → at < next
     round-forward enough = omega (arith, forward room s (drop at b) enough (omega (arith, length-drop at b)), came .place)
-
-    pub round-within : next ≤ length b
-    round-within = omega (arith, within room s (drop at b), came .place, length-drop at b)
 
     pub round-on : feedParts m s (partsOf (drop at b)) ≡ feedParts m t (partsOf (drop next b))
     round-on =

@@ -66,7 +66,7 @@ fn turn(
     out: &mut [u8; ANSWERS],
     block: &mut [u8; BLOCK],
 ) -> Reading {
-    let read = stdio::read_bytes(b"maketext", block);
+    let read = stdio::read_block(b"maketext", block);
     let n = read.length;
     if 0 < n {
         return run_block(held, line, text, out, block, n);

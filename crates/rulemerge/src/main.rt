@@ -68,7 +68,7 @@ fn turn(
     out: &mut [u8; ANSWERS],
     block: &mut [u8; BLOCK],
 ) -> Reading {
-    let read = stdio::read_bytes(b"rulemerge", block);
+    let read = stdio::read_block(b"rulemerge", block);
     let n = read.length;
     if 0 < n {
         return run_block(scan, one, two, out, block, n);

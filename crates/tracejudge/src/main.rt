@@ -1,10 +1,11 @@
 // Reads a list of calls from standard input, one a line, and prints an answer a line: `load HEX`,
 // `install HEX`, `open N`, `deliver P REVISION HEX`, `withdraw P`, `verdict`. HEX is `-` for no
-// bytes. An empty line starts again with a fresh judge; a malformed line ends its list, and up to an
-// empty line nothing is run. What a line means and how it is answered is proved in the crates below; this program only reads and writes. The answers to a block that was
-// read are written before the next is read, all at once where their buffer holds them. Where it
-// cannot read or write it says so on standard error and stops. What it prints is no promise, since
-// the C library's `write` makes none: a test holds it.
+// bytes. An empty line starts again with a fresh judge; a malformed line ends its list, and up to
+// an empty line nothing is run. What a line means and how it is answered is proved in the crates
+// below; this program only reads and writes. The answers to a block that was read are written
+// before the next is read, all at once where their buffer holds them. Where it cannot read or
+// write it says so on standard error and stops. What it prints is no promise, since the C
+// library's `write` makes none: a test holds it.
 ghost use mathlib.Core.Path.{_≡_};
 ghost use mathlib.Core.Bool.{false};
 ghost use Prim.Native.Nat.{_≤_};
@@ -83,7 +84,7 @@ fn turn(
     out: &mut [u8; ANSWERS],
     block: &mut [u8; BLOCK],
 ) -> Reading {
-    let read = stdio::read_bytes(b"tracejudge", block);
+    let read = stdio::read_block(b"tracejudge", block);
     let n = read.length;
     if 0 < n {
         return run_block(judge, pending, line, bytes, out, block, n);

@@ -1,10 +1,11 @@
 // A tray on standard input and output, a line for each call and an answer a line: `row HEX` and
-// `column HEX` (rule files), `open W N`, `deliver B HEX`, `withdraw B`, `verdict`. HEX is `-` for no
-// bytes. An empty line begins with a fresh tray; a malformed line ends its list, and up to an empty
-// line nothing is run. What a line means and how it is answered is proved in the crates below; this program only reads and writes. The answers to a block that was read are
-// written before the next is read, all at once where their buffer holds them. Where it cannot read or
-// write it says so on standard error and stops. What it prints is no promise, since the C library's
-// `write` makes none: a test holds it.
+// `column HEX` (rule files), `open W N`, `deliver B HEX`, `withdraw B`, `verdict`. HEX is `-` for
+// no bytes. An empty line begins with a fresh tray; a malformed line ends its list, and up to an
+// empty line nothing is run. What a line means and how it is answered is proved in the crates
+// below; this program only reads and writes. The answers to a block that was read are written
+// before the next is read, all at once where their buffer holds them. Where it cannot read or
+// write it says so on standard error and stops. What it prints is no promise, since the C
+// library's `write` makes none: a test holds it.
 ghost use mathlib.Core.Path.{_≡_};
 ghost use mathlib.Core.Bool.{false};
 ghost use Prim.Native.Nat.{_≤_};
@@ -83,7 +84,7 @@ fn turn(
     out: &mut [u8; ANSWERS],
     block: &mut [u8; BLOCK],
 ) -> Reading {
-    let read = stdio::read_bytes(b"trayjudge", block);
+    let read = stdio::read_block(b"trayjudge", block);
     let n = read.length;
     if 0 < n {
         return run_block(tray, pending, line, bytes, out, block, n);
