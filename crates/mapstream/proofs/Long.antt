@@ -21,8 +21,8 @@ use Rattle.fields.specs.Bytes.{allHex, parseBytes}
 use Rattle.maptext.specs.MappingText.{parseMapping}
 use Rattle.longlines.specs.Claims.{TellsWithin}
 use Rattle.longlines.proofs.Tails.{begins-append, up-more, past-append, tail-stray, tail-bytes}
-use Rattle.linetexts.specs.Lists.{listOf}
-use Rattle.linetexts.specs.Claims.{Told}
+use Rattle.linetexts.specs.Beginnings.{Told}
+use Rattle.linetexts.specs.Lists.{listOf, listTeller}
 use Rattle.linetexts.proofs.Lists.{told-lists}
 use Rattle.mapcalls.specs.declared.MapState.{MapState}
 use Rattle.mapcalls.specs.Calls.{Call, Reply, builds, runs, replyOf, nextOf}
@@ -166,7 +166,7 @@ module _ (v t : List ℕ) (long : 131078 ≤ length v) where
         rw (some-v, some-more, word build-word (omega arith))
         (tells-cond s (begins build-word v) _ _ _ _ hex-build hex-ask)
 
-pub told : Told mapLines
+pub told : Told (listTeller mapList)
 told =
     told-lists mapList (omega arith)
     (λ s. record {

@@ -15,27 +15,30 @@
 --   readOf f, automatonIn f     reading a file; its automaton           ruleformat/specs/Reader, Language
 --   writeOf r                   what writing a rule answers             rulewriter/specs/Written
 --   MayPattern, patternShown    the function for C, and its numbers     requests/specs/PatternFunction, c_patterns/specs/Numbers
---   answersText, Blocks         what `patternrule` writes               patterntext/specs/Answers, Claims
+--   answerText, patternLines    the answer to a line, and the machine   patterntext/specs/Answers, Texts
+--   Blocks; finishOf            what is written, and at the end         linetexts/specs/Claims, Feeding
+--   answersTo; lineState        the answers; where a text begins        linetexts/specs/Alone
 --   twoLines, twoAnswers        lines by hand                           patterntext/specs/Worked
 --   verdictIn h, textIn h       what 01 says of a list of calls         histories/specs/History
 --
 -- b is any list of bytes, p any pattern. A proved function ends and stays within its bounds. Assumes
 -- nothing.
 -- All that they rest on stands in these files of specs/ (tests/believed):
---   base Conditions, Lists, Options, Totals; limits Limits; flags Flags; text Numerals; masks
---   Masks; automaton Automaton, Rules, Successor; rulecheck Checking; ruleformat Format,
+--   base Conditions, Lists, Options, Totals; limits Limits; flags Flags; text Numerals, Writing;
+--   masks Masks; automaton Automaton, Rules, Successor; rulecheck Checking; ruleformat Format,
 --   Language, Reader, Refusals, Writing; rulewriter Written; numbering Numbering; subsets Sets,
 --   Singles; delegates Alike, Claims, Classes; marks Marks; chunks Chunks; joins Joining; calls
 --   Calls, Replies; histories History; patterns Claims, Grammar, Limits, Marked, Patterns,
 --   Positions; patternscan Scanning, Signs; patternreader Reader, Rules; patternfile Answers,
---   Claims, Worked; fields Claims; lines Splitting; patterntext Answers, Claims, Lines, Worked;
---   c_patterns Claims, Numbers; requests PatternFunction.
+--   Claims, Worked; fields Bytes, Claims; lines Splitting; patterntext Answers, Texts, Worked;
+--   longlines Holding; linetexts Alone, Beginnings, Claims, Feeding, Parts; c_patterns Claims,
+--   Numbers; requests PatternFunction.
 use mathlib.Core.Path.{_≡_, refl, sym, ap, _∙_, subst}
 use mathlib.Core.Logic.{_↔_, _⊎_}
 use mathlib.Core.Bool.{true, cond}
 use mathlib.Core.List.{List, [], _++_, flatten}
 use mathlib.Core.Option.{none, some}
-use Prim.Native.Nat.{ℕ, _≤_}
+use Prim.Native.Nat.{ℕ, _≤_, _+_}
 use lib.ListN.{length, take, replicate}
 use lib.Dec.{eqb}
 use Rattle.base.specs.Conditions.{NoneHolds}
@@ -59,6 +62,12 @@ use Rattle.histories.specs.History.{ruleIn, boardIn, emptiesIn, summedIn, textI
 use Rattle.histories.proofs.EveryList.{every-list}
 use Rattle.histories.proofs.Refinement.{lent}
 use Rattle.lines.specs.Splitting.{linesOf}
+use Rattle.longlines.specs.Holding.{lineBegin}
+use Rattle.linetexts.specs.Feeding.{State, finishOf}
+use Rattle.linetexts.specs.Beginnings.{Beginning}
+use Rattle.linetexts.specs.Claims.{Blocks}
+use Rattle.linetexts.specs.Alone.{lineState, answersTo}
+use Rattle.linetexts.proofs.Beginnings.{begun}
 use Rattle.patterns.specs.Limits.{longestPattern, longestPatternFile, mostLetters}
 use Rattle.patterns.specs.Patterns.{Pattern, Matches}
 use Rattle.patterns.specs.Grammar.{StandsFor}
@@ -72,11 +81,9 @@ use Rattle.patternfile.specs.Worked.{Answered}
 use Rattle.patternfile.specs.Worked as worked
 use Rattle.patternfile.specs.Claims.{automatonFor, States, Refused-exactly, AllZero}
 use Rattle.patternfile.proofs.Claims as patternfile
-use Rattle.patterntext.specs.declared.Line.{Line}
-use Rattle.patterntext.specs.Answers.{answersText}
-use Rattle.patterntext.specs.Lines.{lineBegin, finishText}
+use Rattle.patterntext.specs.Answers.{answerText}
+use Rattle.patterntext.specs.Texts.{patternLines}
 use Rattle.patterntext.specs.Worked.{twoLines, twoAnswers}
-use Rattle.patterntext.specs.Claims.{Blocks}
 use Rattle.patterntext.proofs.Claims as patterntext
 use Rattle.c_patterns.specs.declared.PatternNumbers.{PatternNumbers}
 use Rattle.c_patterns.specs.Numbers.{patternShown, patternReadBack}
@@ -222,12 +229,13 @@ language-from-C p b r s m a w =
     subst (λ (o : Writing). Accepts (automatonIn (fileIn o)) w ↔ Matches p w) (sym e) (language p b s number w)
 
 -- ---- FROM A PROGRAM
--- A text of patterns, one a line, cut into blocks anywhere: `patternrule` is to write, block by block and
--- at the end, the answers to its lines.
-pub lines : {room : ℕ} {blocks : List (List ℕ)} {l : Line} {text : List ℕ}
-    → Blocks room lineBegin blocks l text → text ++ finishText l ≡ answersText (linesOf (flatten blocks))
-lines = patterntext.claims .written
+-- A text of patterns, one a line, cut into blocks anywhere: `patternrule` is to write, round by round,
+-- block by block and at the end, the answers to its lines. Its buffer can tell a pattern that is too long.
+pub lines : {s : State Beginning (Unit {0})} {blocks : List (List ℕ)} {line text : List ℕ} → longestPattern + 2 ≤ length line
+    → Blocks patternLines (lineState lineBegin line) blocks s text
+    → text ++ finishOf patternLines s .text ≡ answersTo answerText (linesOf (flatten blocks))
+lines {line = line} large b = patterntext.claims .answers .written (begun line large) b
 
 -- By hand, in bytes: the empty pattern, and a star after nothing.
-pub lines-by-hand : answersText (linesOf twoLines) ≡ twoAnswers
+pub lines-by-hand : answersTo answerText (linesOf twoLines) ≡ twoAnswers
 lines-by-hand = patterntext.claims .worked

@@ -1,70 +1,55 @@
 -- `run` meets its contract. Assumes nothing.
 use borrow.Author.Needs.{needs}
-use Rattle.shortlines.proofs.Rounds.{written-within, prefix}
 use Rattle.maketext.proofs.run.Statement.{statement}
 use Rattle.maketext.proofs.run.Tie as tie
 
-run-blocks-requires : tie.Need-run-blocks-requires
-run-blocks-requires c κs = search needs
+abbrev Inv-loop : tie.InvT-loop
+Inv-loop line₀ text₀ out₀ block₀ held₀ turns₀ line text out block held turns =
+    Unit {0}
 
-same-length : tie.Need-same-length
-same-length c = search needs
+abbrev μ-loop : tie.MeasureT-loop
+μ-loop line₀ text₀ out₀ block₀ held₀ turns₀ line text out block held turns =
+    turns
 
-same-length-2 : tie.Need-same-length-2
-same-length-2 c = search needs
+nothing-requires : tie.Need-nothing-requires Inv-loop μ-loop
+nothing-requires c κs = search needs
 
-same-length-3 : tie.Need-same-length-3
-same-length-3 c = search needs
+most-turns-requires : tie.Need-most-turns-requires Inv-loop μ-loop
+most-turns-requires c κs = search needs
 
-same-length-4 : tie.Need-same-length-4
-same-length-4 c = search needs
+loop-holds : tie.Need-loop-holds Inv-loop μ-loop
+loop-holds c = search needs
 
-returns : tie.Need-returns
+turn-requires : tie.Need-turn-requires Inv-loop μ-loop
+turn-requires c κs = search needs
+
+returns : tie.Need-returns Inv-loop μ-loop
 returns c = search needs
 
-finish-requires : tie.Need-finish-requires
-finish-requires c κs = search needs
+sub-turns : tie.Need-sub-turns Inv-loop μ-loop
+sub-turns c = search needs
 
-slice-reshare-prefix-write-answers : tie.Need-slice-reshare-prefix-write-answers
-slice-reshare-prefix-write-answers c = search (needs, written-within)
+loop-less : tie.Need-loop-less Inv-loop μ-loop
+loop-less c = search needs
 
-slice-aggregate-write-answers : tie.Need-slice-aggregate-write-answers
-slice-aggregate-write-answers c = search (needs, written-within, prefix)
+loop-again : tie.Need-loop-again Inv-loop μ-loop
+loop-again c = search needs
 
-write-answers-requires : tie.Need-write-answers-requires
-write-answers-requires c κs = search needs
-
-same-length-5 : tie.Need-same-length-5
-same-length-5 c = search needs
-
-same-length-6 : tie.Need-same-length-6
-same-length-6 c = search needs
-
-same-length-7 : tie.Need-same-length-7
-same-length-7 c = search needs
-
-same-length-8 : tie.Need-same-length-8
-same-length-8 c = search needs
-
-returns-2 : tie.Need-returns-2
+returns-2 : tie.Need-returns-2 Inv-loop μ-loop
 returns-2 c = search needs
 
 pub run-spec : {M : Type 1} → statement M
 run-spec =
     tie.close
     (tie.spec
-    run-blocks-requires
-    same-length
-    same-length-2
-    same-length-3
-    same-length-4
+    Inv-loop
+    μ-loop
+    nothing-requires
+    most-turns-requires
+    loop-holds
+    turn-requires
     returns
-    finish-requires
-    slice-reshare-prefix-write-answers
-    slice-aggregate-write-answers
-    write-answers-requires
-    same-length-5
-    same-length-6
-    same-length-7
-    same-length-8
+    sub-turns
+    loop-less
+    loop-again
     returns-2)

@@ -3,9 +3,9 @@ use native.Mathlib.Omega.{arith}
 use borrow.Author.Needs.{needs}
 use Rattle.maketextlines.specs.Lines.{lineMeans}
 use Rattle.maketextlines.proofs.Readings.{no-space, one-space, two-spaces}
-use Rattle.shortlines.proofs.Rounds.{prefix}
 use Rattle.maketextlines.proofs.parse.Statement.{statement}
 use Rattle.maketextlines.proofs.parse.Tie as tie
+use Rattle.maketextlines.proofs.Writing.{prefix}
 
 find-requires : tie.Need-find-requires
 find-requires c κs = search needs

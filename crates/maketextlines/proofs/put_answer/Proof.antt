@@ -2,8 +2,7 @@
 use mathlib.Core.Path.{sym}
 use native.Mathlib.Omega.{arith}
 use lib.ListN.{take}
-use Rattle.shortlines.proofs.Rounds.{prefix}
-use Rattle.maketextlines.proofs.Writing.{length-most, made-to, malformed-to}
+use Rattle.maketextlines.proofs.Writing.{length-most, made-to, malformed-to, prefix}
 use borrow.Author.Needs.{needs}
 use Rattle.maketextlines.proofs.put_answer.Statement.{statement}
 use Rattle.maketextlines.proofs.put_answer.Tie as tie

@@ -7,9 +7,9 @@
 use Rattle.linetexts.proofs.Turns.{turn-forward, turn-on, turn-answered}
 use Rattle.linetexts.proofs.Gathering.{SoFar, begun, ended, at-over, gather-short, placed-within}
 use Rattle.linetexts.proofs.Ends.{came}
-use Rattle.linetexts.specs.Feeding.{stateOf}
-use Rattle.linetexts.specs.Lists.{listOf}
-use Rattle.mapstream.specs.Texts.{mapLines}
+use Rattle.linetexts.specs.Beginnings.{stateOf}
+use Rattle.linetexts.specs.Lists.{listOf, listTeller}
+use Rattle.mapstream.specs.Texts.{mapLines, mapList}
 use Rattle.mapstream.proofs.Held.{not-changed}
 use lib.ListN.{length}
 use Prim.Native.Nat.{_+_, _-_, _≤_, _<_}
@@ -54,7 +54,7 @@ loop-again c =
     let loop = p .before .before .before .before .loop in
     let enough = p .before .before .if1 .left in
     let took = p .take-part in
-    (took .kept .1 .0 ∙ loop .inv .0, loop .inv .1, turn-on mapLines _ _ _ _ _ _ _ _ _ _ here (took .result) _ (took .ensures) (loop .inv .2) enough (c .if2 .taken))
+    (took .kept .1 .0 ∙ loop .inv .0, loop .inv .1, turn-on (listTeller mapList) _ _ _ _ _ _ _ _ _ _ here (took .result) _ (took .ensures) (loop .inv .2) enough (c .if2 .taken))
 
 changes-held-requires : tie.Need-changes-held-requires Inv-loop μ-loop
 changes-held-requires c κs = search needs
@@ -92,7 +92,7 @@ loop-again-2 c =
     let enough = p .before .before .if1 .left in
     let took = p .take-part in
     let said = c .before .before .before .before .before .before .answer-held in
-    (took .kept .1 .0 ∙ loop .inv .0, said .kept .1 .1 .1 .1 .0 ∙ loop .inv .1, turn-answered mapLines _ _ _ _ _ (listOf (loop .state) (loop .ended)) _ _ _ _ here (took .result) _ (took .ensures) (loop .inv .2) enough (c .before .before .before .before .before .before .before .before .before .before .before .before .before .if2 .left) _ _ (said .kept .1 .1 .1 .1 .1 .0) _ (c .nothing .ensures) (listOf (loop .state) (said .result .ended)) _ (came mapLines (listOf (loop .state) (loop .ended)) _ _ _ (said .ensures .0)) (said .ensures .1 .0))
+    (took .kept .1 .0 ∙ loop .inv .0, said .kept .1 .1 .1 .1 .0 ∙ loop .inv .1, turn-answered (listTeller mapList) _ _ _ _ _ (listOf (loop .state) (loop .ended)) _ _ _ _ here (took .result) _ (took .ensures) (loop .inv .2) enough (c .before .before .before .before .before .before .before .before .before .before .before .before .before .if2 .left) _ _ (said .kept .1 .1 .1 .1 .1 .0) _ (c .nothing .ensures) (listOf (loop .state) (said .result .ended)) _ (came mapLines (listOf (loop .state) (loop .ended)) _ _ _ (said .ensures .0)) (said .ensures .1 .0))
 
 sub-run-held : tie.Need-sub-run-held Inv-loop μ-loop
 sub-run-held c = search needs
@@ -126,7 +126,7 @@ loop-again-3 c =
     let enough = p .before .before .if1 .left in
     let took = p .take-part in
     let said = c .before .before .before .before .before .before .before .run-held in
-    (took .kept .1 .0 ∙ loop .inv .0, said .kept .1 .1 .1 .1 .0 ∙ loop .inv .1, turn-answered mapLines _ _ _ _ _ (listOf (loop .state) (loop .ended)) _ _ _ _ here (took .result) _ (took .ensures) (loop .inv .2) enough (c .before .before .before .before .before .before .before .before .before .before .before .before .before .before .if2 .left) _ _ (said .kept .1 .1 .1 .1 .1 .0) _ (c .nothing2 .ensures) (listOf (said .result .state) (said .result .said .ended)) _ (came mapLines (listOf (loop .state) (loop .ended)) _ _ _ (said .ensures .0)) (said .ensures .1 .0))
+    (took .kept .1 .0 ∙ loop .inv .0, said .kept .1 .1 .1 .1 .0 ∙ loop .inv .1, turn-answered (listTeller mapList) _ _ _ _ _ (listOf (loop .state) (loop .ended)) _ _ _ _ here (took .result) _ (took .ensures) (loop .inv .2) enough (c .before .before .before .before .before .before .before .before .before .before .before .before .before .before .if2 .left) _ _ (said .kept .1 .1 .1 .1 .1 .0) _ (c .nothing2 .ensures) (listOf (said .result .state) (said .result .said .ended)) _ (came mapLines (listOf (loop .state) (loop .ended)) _ _ _ (said .ensures .0)) (said .ensures .1 .0))
 
 same-length : tie.Need-same-length Inv-loop μ-loop
 same-length c = search needs

@@ -6,10 +6,12 @@ use Rattle.stdio.proofs.read_block.Statement.{statement}
 use Rattle.stdio.proofs.read_block.Tie as tie
 
 abbrev Inv-loop : tie.InvT-loop
-Inv-loop program block₀ tries₀ t6 block tries = (length block ≡ length block₀) × (13 ≡ length t6)
+Inv-loop program block₀ tries₀ t7 block tries =
+    (length block ≡ length block₀) × (13 ≡ length t7)
 
 abbrev μ-loop : tie.MeasureT-loop
-μ-loop program block₀ tries₀ t6 block tries = tries
+μ-loop program block₀ tries₀ t7 block tries =
+    tries
 
 loop-holds : tie.Need-loop-holds Inv-loop μ-loop
 loop-holds c = search needs

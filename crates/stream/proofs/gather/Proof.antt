@@ -7,9 +7,9 @@
 use Rattle.linetexts.proofs.Turns.{turn-forward, turn-on, turn-answered}
 use Rattle.linetexts.proofs.Gathering.{SoFar, begun, ended, at-over, gather-short, placed-within}
 use Rattle.linetexts.proofs.Ends.{came}
-use Rattle.linetexts.specs.Feeding.{stateOf}
-use Rattle.linetexts.specs.Lists.{listOf}
-use Rattle.stream.specs.Texts.{callLines}
+use Rattle.linetexts.specs.Beginnings.{stateOf}
+use Rattle.linetexts.specs.Lists.{listOf, listTeller}
+use Rattle.stream.specs.Texts.{callLines, callList}
 use Rattle.stream.proofs.Held.{came-asked}
 use lib.ListN.{length}
 use Prim.Native.Nat.{_+_, _-_, _≤_, _<_}
@@ -54,7 +54,7 @@ loop-again c =
     let loop = p .before .before .before .before .loop in
     let enough = p .before .before .if1 .left in
     let took = p .take-part in
-    (took .kept .1 .0 ∙ loop .inv .0, loop .inv .1, turn-on callLines _ _ _ _ _ _ _ _ _ _ here (took .result) _ (took .ensures) (loop .inv .2) enough (c .if2 .taken))
+    (took .kept .1 .0 ∙ loop .inv .0, loop .inv .1, turn-on (listTeller callList) _ _ _ _ _ _ _ _ _ _ here (took .result) _ (took .ensures) (loop .inv .2) enough (c .if2 .taken))
 
 asks-verdict-requires : tie.Need-asks-verdict-requires Inv-loop μ-loop
 asks-verdict-requires c κs = search needs
@@ -92,7 +92,7 @@ loop-again-2 c =
     let took = p .take-part in
     let verdictAsked = c .before .before .before .before .before .before .asks-verdict in
     let said = c .before .before .before .answer-verdict in
-    (took .kept .1 .0 ∙ loop .inv .0, loop .inv .1, turn-answered callLines _ _ _ _ _ _ _ _ _ _ here (took .result) _ (took .ensures) (loop .inv .2) enough (c .before .before .before .before .before .before .before .before .if2 .left) _ _ (said .kept .1 .0) _ (c .nothing .ensures) _ _ (came-asked _ _ _ _ (sym (verdictAsked .ensures) ∙ c .before .before .before .before .before .if3 .taken)) (said .ensures))
+    (took .kept .1 .0 ∙ loop .inv .0, loop .inv .1, turn-answered (listTeller callList) _ _ _ _ _ _ _ _ _ _ here (took .result) _ (took .ensures) (loop .inv .2) enough (c .before .before .before .before .before .before .before .before .if2 .left) _ _ (said .kept .1 .0) _ (c .nothing .ensures) _ _ (came-asked _ _ _ _ (sym (verdictAsked .ensures) ∙ c .before .before .before .before .before .if3 .taken)) (said .ensures))
 
 sub-answer : tie.Need-sub-answer Inv-loop μ-loop
 sub-answer c = search needs
@@ -126,7 +126,7 @@ loop-again-3 c =
     let enough = p .before .before .if1 .left in
     let took = p .take-part in
     let said = c .before .before .before .before .before .before .before .answer in
-    (took .kept .1 .0 ∙ loop .inv .0, said .kept .1 .1 .1 .1 .0 ∙ loop .inv .1, turn-answered callLines _ _ _ _ _ (listOf (loop .judge) (loop .ended)) _ _ _ _ here (took .result) _ (took .ensures) (loop .inv .2) enough (c .before .before .before .before .before .before .before .before .before .before .before .before .before .before .if2 .left) _ _ (said .kept .1 .1 .1 .1 .1 .0) _ (c .nothing2 .ensures) (listOf (said .result .judge) (said .result .ended)) _ (came callLines (listOf (loop .judge) (loop .ended)) _ _ _ (said .ensures .0)) (said .ensures .1 .0))
+    (took .kept .1 .0 ∙ loop .inv .0, said .kept .1 .1 .1 .1 .0 ∙ loop .inv .1, turn-answered (listTeller callList) _ _ _ _ _ (listOf (loop .judge) (loop .ended)) _ _ _ _ here (took .result) _ (took .ensures) (loop .inv .2) enough (c .before .before .before .before .before .before .before .before .before .before .before .before .before .before .if2 .left) _ _ (said .kept .1 .1 .1 .1 .1 .0) _ (c .nothing2 .ensures) (listOf (said .result .judge) (said .result .ended)) _ (came callLines (listOf (loop .judge) (loop .ended)) _ _ _ (said .ensures .0)) (said .ensures .1 .0))
 
 same-length : tie.Need-same-length Inv-loop μ-loop
 same-length c = search needs

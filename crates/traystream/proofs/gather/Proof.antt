@@ -7,9 +7,9 @@
 use Rattle.linetexts.proofs.Turns.{turn-forward, turn-on, turn-answered}
 use Rattle.linetexts.proofs.Gathering.{SoFar, begun, ended, at-over, gather-short, placed-within}
 use Rattle.linetexts.proofs.Ends.{came}
-use Rattle.linetexts.specs.Feeding.{stateOf}
-use Rattle.linetexts.specs.Lists.{listOf}
-use Rattle.traystream.specs.Texts.{trayLines}
+use Rattle.linetexts.specs.Beginnings.{stateOf}
+use Rattle.linetexts.specs.Lists.{listOf, listTeller}
+use Rattle.traystream.specs.Texts.{trayLines, trayList}
 use lib.ListN.{length}
 use Prim.Native.Nat.{_-_, _<_}
 use native.Mathlib.Omega.{arith}
@@ -53,7 +53,7 @@ loop-again c =
     let loop = p .before .before .before .before .loop in
     let enough = p .before .before .if1 .left in
     let took = p .take-part in
-    (took .kept .1 .0 ∙ loop .inv .0, loop .inv .1, turn-on trayLines _ _ _ _ _ _ _ _ _ _ here (took .result) _ (took .ensures) (loop .inv .2) enough (c .if2 .taken))
+    (took .kept .1 .0 ∙ loop .inv .0, loop .inv .1, turn-on (listTeller trayList) _ _ _ _ _ _ _ _ _ _ here (took .result) _ (took .ensures) (loop .inv .2) enough (c .if2 .taken))
 
 sub-answer-held : tie.Need-sub-answer-held Inv-loop μ-loop
 sub-answer-held c = search needs
@@ -87,7 +87,7 @@ loop-again-2 c =
     let enough = p .before .before .if1 .left in
     let took = p .take-part in
     let said = c .before .before .before .before .before .before .before .answer-held in
-    (took .kept .1 .0 ∙ loop .inv .0, said .kept .1 .1 .1 .1 .0 ∙ loop .inv .1, turn-answered trayLines _ _ _ _ _ (listOf (loop .tray) (loop .ended)) _ _ _ _ here (took .result) _ (took .ensures) (loop .inv .2) enough (c .before .before .before .before .before .before .before .before .before .before .before .if2 .left) _ _ (said .kept .1 .1 .1 .1 .1 .0) _ (c .nothing .ensures) (listOf (said .result .tray) (said .result .ended)) _ (came trayLines (listOf (loop .tray) (loop .ended)) _ _ _ (said .ensures .0)) (said .ensures .1 .0))
+    (took .kept .1 .0 ∙ loop .inv .0, said .kept .1 .1 .1 .1 .0 ∙ loop .inv .1, turn-answered (listTeller trayList) _ _ _ _ _ (listOf (loop .tray) (loop .ended)) _ _ _ _ here (took .result) _ (took .ensures) (loop .inv .2) enough (c .before .before .before .before .before .before .before .before .before .before .before .if2 .left) _ _ (said .kept .1 .1 .1 .1 .1 .0) _ (c .nothing .ensures) (listOf (said .result .tray) (said .result .ended)) _ (came trayLines (listOf (loop .tray) (loop .ended)) _ _ _ (said .ensures .0)) (said .ensures .1 .0))
 
 same-length : tie.Need-same-length Inv-loop μ-loop
 same-length c = search needs
