@@ -4,7 +4,7 @@
 --   first-read, first-holds       the first key alone is numbered
 --   full-at, used                 the cells of the table, and of those that are in use
 --   known                         what a filled cell leads to has a number
---   table-whole, table-over       the ways out of `expand`
+--   table-left                    what `expand` leaves is the table
 --   one-whole                     with at most 512 keys that is the whole table
 use mathlib.Core.Path.{_≡_, refl, sym, ap, _∙_}
 use mathlib.Core.Logic.{⊎-elim}
@@ -23,15 +23,16 @@ use Rattle.base.proofs.Options.{none-some}
 use Rattle.base.proofs.Tests.{by-test}
 use Rattle.numbering.specs.Numbering.{Walk, indexOf, keysUpTo}
 use Rattle.numbering.specs.Begins.{Begins}
-use Rattle.numbering.specs.Arrays.{limited, keyCells, target, afterStep, Stepped, Cleared, ArraysHold}
+use Rattle.numbering.specs.Arrays.{limited, keyCells, target, afterStep, Stepped, Cleared, ArraysHold, Expanded}
 use Rattle.numbering.proofs.Numbers.{Has, number-le, nowhere, stands, number-is, begins-self, begins-at, begins-length, begins-number, begins-trans, number-taken, numbered-kept, numbered-taken, numbered-begins, numbered-has}
-use Rattle.numbering.proofs.Arrays.{limited-whole, limited-over, over-of, cells-snoc, cells-full, read-back}
+use Rattle.numbering.proofs.Arrays.{limited-whole, limited-over, whole-of, over-of, cells-snoc, cells-full, read-back}
 use Rattle.numbering.proofs.OneSeed.{from-one}
 use Rattle.numbering.proofs.Reached.{covered}
 use Rattle.numbering.proofs.Table.{holds-more, row-test}
 use Rattle.numbering.proofs.Turns.{begin}
 use Rattle.keys.specs.declared.Kind.{Kind}
 use Rattle.keys.specs.declared.KeyTable.{KeyTable}
+use Rattle.keys.specs.declared.Numbering.{Numbering}
 use Rattle.keys.specs.declared.Numbering.the-variants.{Whole, Over}
 use Rattle.keys.specs.Kinds.{walkBy}
 use Rattle.keys.specs.Tables.{countMeans, Table, tableAs, tableOutcome, keysBy, cellOf, cellsOf, cellsTo, tableFor, tableBy}
@@ -126,7 +127,7 @@ module _ (kind : Kind) (ts us : List ℕ) (k : ℕ) where
   one-whole m most =
       cells-whole (keysUpTo a (λ _. m) 1) most (λ c b row column. covered a (λ _. m) 1 most (c / 16) (c % 16) row column refl)
 
-  pub table-whole : (f keys next : List ℕ) (count : ℕ) → count ≤ 512 → length f ≡ count → ArraysHold a 0 f (count * 16) keys next
+  table-whole : (f keys next : List ℕ) (count : ℕ) → count ≤ 512 → length f ≡ count → ArraysHold a 0 f (count * 16) keys next
       → tableAs (Whole count) keys next ≡ tableFor a f
   table-whole f keys next count most n h =
       let cells : next ≡ cellsOf a f =
@@ -201,22 +202,31 @@ module _ (kind : Kind) (ts us : List ℕ) (k : ℕ) where
         ∙ rw (cut, least, full-at a f c b, lt-ltb (c / 16) (length f) row)
         (by-test (ltb c (i * 16 + s)) (λ t. rw t) (λ t. rw t)))
 
-    pub table-over : tableAs Over keys′ next′ ≡ tableFor a f
+    table-over : tableAs Over keys′ next′ ≡ tableFor a f
     table-over =
         let n : next′ ≡ cellsTo a f = st .next-are ∙ rw (lt-ltb 512 (length after) long) next-is in
         let c : none ≡ limited f = limited-over f (omega (arith, long, begins-length begins)) in
         let cells : keys′ ≡ keyCells f = st .keys-are ∙ sym (cells-full after f begins (omega (arith, long))) in
         rw (n, ← c, cells)
 
+  -- ---- what `expand` leaves
+  pub table-left : k ≤ 16 → (f : List ℕ) (r : Numbering) (keys next : List ℕ) → Expanded a 0 f (countMeans r) keys next → tableAs r keys next ≡ tableFor a f
+  table-left columns f (Whole c) keys next x =
+      let n = whole-of f c (x .grown .count) in
+      table-whole f keys next c (omega arith) (sym (n .1)) (rw (n .1) (x .grown .held (n .0)))
+  table-left columns f Over keys next x =
+      let t = x .stopped (over-of f (x .grown .count)) in
+      table-over (t .l) (t .keys₀) (t .next₀) (t .i) (t .s) (t .few) (t .row) (t .symbol) columns (t .held) (t .last) refl f (t .goes-on)
+
 -- ---- the keys from one key, with x symbols and the list of the first key as the code has them
 pub table-by : (kind : Kind) (ts us : List ℕ) (k m x : ℕ) → x ≡ min k 16 → (one : List ℕ) → one ≡ m ∷ [] → (t : Table)
-    → t ≡ tableFor (walkBy kind ts us x) (closedFrom (walkBy kind ts us x) one) → t ≡ tableBy kind ts us k m
+    → t ≡ tableFor (walkBy kind ts us x) (closedFrom (walkBy kind ts us x) 0 one) → t ≡ tableBy kind ts us k m
 unfolding tableBy
 table-by kind ts us k m x most one first t is =
     let w : Walk = walkBy kind ts us (min k 16) in
     is
-    ∙ ap (λ (y : ℕ). tableFor (walkBy kind ts us y) (closedFrom (walkBy kind ts us y) one)) most
-    ∙ ap (λ (l : List ℕ). tableFor w (closedFrom w l)) first
+    ∙ ap (λ (y : ℕ). tableFor (walkBy kind ts us y) (closedFrom (walkBy kind ts us y) 0 one)) most
+    ∙ ap (λ (l : List ℕ). tableFor w (closedFrom w 0 l)) first
     ∙ ap (tableFor w) (sym (from-one w m refl))
 
 -- ---- what an answer tells

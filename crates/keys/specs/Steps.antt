@@ -4,7 +4,7 @@
 --   foundMeans       what each case of the search's answer says
 --   turnMeans        what each case of a turn's answer says: the key's number and how many keys
 --                    there are then, none where it is the 513th
---   closedFrom a l   the keys l, with all of them expanded
+--   closedFrom a i l   the keys l, with those from number i on expanded
 use mathlib.Core.List.{List}
 use mathlib.Core.Option.{Option, none, some}
 use Prim.Native.Nat.{ℕ}
@@ -23,5 +23,5 @@ abbrev pub turnMeans : Turn → Option (ℕ × ℕ)
 turnMeans (As number count) = some (number .0, count)
 turnMeans Full = none
 
-abbrev pub closedFrom : Walk → List ℕ → List ℕ
-closedFrom a l = closeFrom a mostSets 0 l
+abbrev pub closedFrom : Walk → ℕ → List ℕ → List ℕ
+closedFrom a i l = closeFrom a mostSets i l
