@@ -1,26 +1,24 @@
--- `add_state` meets its contract: {q} is not empty, and once it has its turn the arrays hold what
--- `expand` asks for. Assumes nothing.
-use native.Mathlib.Omega.{arith}
-use lib.Pow.{pow-pos}
+-- `add_state` meets its contract: once {q} has its turn the arrays hold what `expand` asks for.
+-- Assumes nothing.
 use borrow.Author.Needs.{needs}
-use Rattle.subsets.proofs.Turns.{state-asked, state-grown, state-over}
+use Rattle.subsets.proofs.Turns.{in-row, state-asked, state-grown, state-over}
 use Rattle.subsets.proofs.add_state.Statement.{statement}
 use Rattle.subsets.proofs.add_state.Tie as tie
 
 singleton-requires : tie.Need-singleton-requires
 singleton-requires c κs = search needs
 
+cast-number : tie.Need-cast-number
+cast-number c = search needs
+
 number-requires : tie.Need-number-requires
-number-requires c κs =
-    let s = c .before .before in
-    let a = s .args in
-    (s .pre .1, s .pre .2 .keys-are, λ z. omega (arith, c .singleton .ensures, pow-pos (a .q .0)))
+number-requires c κs = let s = c .before .before in (s .pre .1, s .pre .2 .keys-are)
 
 enum-known-after : tie.Need-enum-known-after
 enum-known-after c = search needs
 
-cast-t14 : tie.Need-cast-t14
-cast-t14 c = search needs
+cast-t16 : tie.Need-cast-t16
+cast-t16 c = search needs
 
 expand-requires : tie.Need-expand-requires
 expand-requires c κs =
@@ -29,7 +27,7 @@ expand-requires c κs =
     let w = c .before .before .before .before .before .number in
     let one = c .before .before .before .before .before .before .singleton in
     let v = c .before .before .before .after .given in
-    state-asked (a .targets .now) (a .k) (a .sets .now) (a .next .now) (a .count) (a .q .0) (one .result) (s .pre .1) (s .pre .2) (one .ensures) (w .result) (w .last .0) (w .ensures) (v .0 .0) (v .0 .1 .0) (v .1)
+    (state-asked (a .targets .now) (a .k) (a .sets .now) (a .next .now) (a .count) (a .q .0) (one .result) (s .pre .1) (s .pre .2) (one .ensures) (w .result) (w .last .0) (w .ensures) (v .0 .0) (v .0 .1 .0) (v .1), in-row (a .targets .now) (a .k))
 
 enum-told : tie.Need-enum-told
 enum-told c = search needs
@@ -41,7 +39,7 @@ returns c =
     let w = c .before .before .before .before .before .before .number in
     let one = c .before .before .before .before .before .before .before .singleton in
     let v = c .before .before .before .before .after .given in
-    state-grown (a .targets .now) (a .k) (a .sets .now) (a .next .now) (a .count) (a .q .0) (one .result) (s .pre .1) (s .pre .2) (one .ensures) (w .result) (w .last .0) (w .ensures) (v .0 .0) (v .0 .1 .0) (v .1) (c .expand .result) (c .expand .last .1 .1 .0) (c .expand .last .1 .1 .1 .0) (c .expand .ensures)
+    state-grown (a .targets .now) (a .k) (a .sets .now) (a .next .now) (a .count) (a .q .0) (one .result) (s .pre .1) (s .pre .2) (one .ensures) (w .result) (w .last .0) (w .ensures) (v .0 .0) (v .0 .1 .0) (v .1) (c .expand .result) (c .expand .last .1 .1 .1 .1 .1 .0) (c .expand .last .1 .1 .1 .1 .1 .1 .0) (c .expand .ensures .grown)
 
 returns-2 : tie.Need-returns-2
 returns-2 c =
@@ -56,9 +54,10 @@ add-state-spec =
     tie.close
     (tie.spec
     singleton-requires
+    cast-number
     number-requires
     enum-known-after
-    cast-t14
+    cast-t16
     expand-requires
     enum-told
     returns

@@ -7,9 +7,9 @@ use native.Mathlib.Omega.{arith}
 use lib.ListN.{take}
 use borrow.Author.Needs.{needs}
 use Rattle.numbering.specs.Numbering.{keysUpTo}
+use Rattle.numbering.specs.Arrays.{ArraysHold}
 use Rattle.numbering.proofs.Turns.{begin}
 use Rattle.subsets.specs.Sets.{setWalk, setsUpTo}
-use Rattle.subsets.specs.Steps.{ArraysHold}
 use Rattle.subsets.proofs.Turns.{states-more, states-over, answered-over, answered-whole}
 use Rattle.subsets.proofs.fill.Statement.{statement}
 use Rattle.subsets.proofs.fill.Tie as tie
@@ -17,7 +17,7 @@ use Rattle.subsets.proofs.fill.Tie as tie
 abbrev Inv-loop : tie.InvT-loop
 Inv-loop targets n k sets₀ next₀ count₀ q₀ q-end sets next count q =
     (q-end ≡ min n 32) × (q ≤ q-end) × (count ≤ 512) × (take count sets ≡ setsUpTo targets k q)
-    × ArraysHold targets k (take count sets) (count * 16) sets next
+    × ArraysHold (setWalk targets k) 512 (take count sets) (count * 16) sets next
 
 abbrev μ-loop : tie.MeasureT-loop
 μ-loop targets n k sets₀ next₀ count₀ q₀ q-end sets next count q = q-end - q
