@@ -4,12 +4,8 @@
 --   foundMeans       what each case of the search's answer says
 --   turnMeans        what each case of a turn's answer says: the key's number and how many keys
 --                    there are then, none where it is the 513th
---   closedFrom a i l   the keys l, with those from number i on expanded
-use mathlib.Core.List.{List}
 use mathlib.Core.Option.{Option, none, some}
 use Prim.Native.Nat.{ℕ}
-use Rattle.limits.specs.Limits.{mostSets}
-use Rattle.numbering.specs.Numbering.{Walk, closeFrom}
 use Rattle.keys.specs.declared.Found.{Found}
 use Rattle.keys.specs.declared.Found.the-variants.{At, Nothing}
 use Rattle.keys.specs.declared.Turn.{Turn}
@@ -22,6 +18,3 @@ foundMeans Nothing = none
 abbrev pub turnMeans : Turn → Option (ℕ × ℕ)
 turnMeans (As number count) = some (number .0, count)
 turnMeans Full = none
-
-abbrev pub closedFrom : Walk → ℕ → List ℕ → List ℕ
-closedFrom a i l = closeFrom a mostSets i l

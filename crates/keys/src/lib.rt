@@ -8,10 +8,11 @@ ghost use lib.ListN.{getD, take};
 ghost use Rattle.base.specs.Totals.{total};
 ghost use Rattle.limits.specs.Limits.{mostSymbols, mostSets};
 ghost use Rattle.automaton.specs.Successor.{successor as successorOf};
-ghost use Rattle.numbering.specs.Arrays.{foundIn, keyCells, Entered, Stepped, InRow, ArraysHold, Expanded};
+ghost use Rattle.numbering.specs.Arrays.{foundIn, keyCells, Entered, Stepped, InRow, ArraysHold, Expanded, Added};
+ghost use Rattle.numbering.specs.Numbering.{closeFrom};
 ghost use Rattle.keys.specs.Kinds.{stepBy, nothing, skipsBy, freeBy, walkIn};
 ghost use Rattle.keys.specs.Tables.{countMeans, heldBy, tableOutcome, tableBy, tableOf};
-ghost use Rattle.keys.specs.Steps.{foundMeans, turnMeans, closedFrom};
+ghost use Rattle.keys.specs.Steps.{foundMeans, turnMeans};
 
 // What a key stands for: a set of states, as a mask; a mapping, as a number of 64 bits; a pair of
 // sets of states, the second in the upper 32 bits.
@@ -151,7 +152,7 @@ pub fn find(keys: &[u64; limits::SETS], count: usize, key: u64) -> Found
 }
 
 // A key keeps the number it has among the first count, else it takes the next.
-pub fn number(keys: &mut [u64; limits::SETS], count: usize, key: u64) -> Turn
+fn number(keys: &mut [u64; limits::SETS], count: usize, key: u64) -> Turn
     requires { ⌜ (count ≤ mostSets) × (now keys ≡ keyCells (take count (now keys))) ⌝ }
     ensures { λ r. ⌜ Entered nothing (take count (now (keys .entry))) key (turnMeans r) (now (keys .exit)) ⌝ }
 {
@@ -210,7 +211,7 @@ fn step(
 
 // The keys from number first on are expanded in number order, those that turn up on the way too;
 // the key 0 is left out where omit says so.
-pub fn expand(
+fn expand(
     targets: &[u32; limits::TARGETS],
     others: &[u32; limits::TARGETS],
     kind: Kind,
@@ -223,7 +224,7 @@ pub fn expand(
 ) -> Numbering
     requires { ⌜ (from ≤ mostSets) × (first .0 ≤ from) × ArraysHold (walkIn kind omit (now targets) (now others) k) (freeBy omit) (take from (now keys)) (first .0 * mostSymbols) (now keys) (now next) ⌝ }
     requires { ⌜ InRow (walkIn kind omit (now targets) (now others) k) ⌝ }
-    ensures { λ r. ⌜ Expanded (walkIn kind omit (now (targets .entry)) (now (others .entry)) k) (freeBy omit) (closedFrom (walkIn kind omit (now (targets .entry)) (now (others .entry)) k) (first .0) (take from (now (keys .entry)))) (countMeans r) (now (keys .exit)) (now (next .exit)) ⌝ }
+    ensures { λ r. ⌜ Expanded (walkIn kind omit (now (targets .entry)) (now (others .entry)) k) (freeBy omit) (closeFrom (walkIn kind omit (now (targets .entry)) (now (others .entry)) k) mostSets (first .0) (take from (now (keys .entry)))) (countMeans r) (now (keys .exit)) (now (next .exit)) ⌝ }
 {
     let mut count = from;
     let mut i = first.0 as usize;
@@ -256,6 +257,39 @@ pub fn expand(
     answer
 }
 
+// A key that is not left out is numbered, and the keys that are not yet expanded, which are those
+// from number count on, are.
+pub fn add(
+    targets: &[u32; limits::TARGETS],
+    others: &[u32; limits::TARGETS],
+    kind: Kind,
+    omit: bool,
+    k: u8,
+    keys: &mut [u64; limits::SETS],
+    next: &mut [u16; limits::CELLS],
+    count: usize,
+    key: u64,
+) -> Numbering
+    requires { ⌜ (count ≤ mostSets) × (skipsBy omit key ≡ false) × ArraysHold (walkIn kind omit (now targets) (now others) k) (freeBy omit) (take count (now keys)) (count * mostSymbols) (now keys) (now next) ⌝ }
+    requires { ⌜ InRow (walkIn kind omit (now targets) (now others) k) ⌝ }
+    ensures { λ r. ⌜ Added (walkIn kind omit (now (targets .entry)) (now (others .entry)) k) (freeBy omit) (take count (now (keys .entry))) key (countMeans r) (now (keys .exit)) (now (next .exit)) ⌝ }
+{
+    match number(keys, count, key) {
+        Turn::As(_, after) => expand(
+            targets,
+            others,
+            kind,
+            omit,
+            k,
+            keys,
+            next,
+            KeyNumber(count as u16),
+            after,
+        ),
+        Turn::Full => Numbering::Over,
+    }
+}
+
 // The keys that texts of symbols below k lead to from the key start, in the order in which they are
 // found, and the table of what each leads to; a value of k above 16 is taken for 16. The second set
 // of a pair goes by the table others.
@@ -270,9 +304,8 @@ pub fn number_by(
 {
     let mut keys = [0u64; limits::SETS];
     let mut next = [0u16; limits::CELLS];
-    keys[0] = start;
     let symbols = base::at_most_u8(k, limits::MOST_SYMBOLS);
-    let answer = expand(
+    let answer = add(
         targets,
         others,
         kind,
@@ -280,8 +313,8 @@ pub fn number_by(
         symbols,
         &mut keys,
         &mut next,
-        KeyNumber(0),
-        1,
+        0,
+        start,
     );
     KeyTable { answer, keys, next }
 }

@@ -15,6 +15,8 @@
 --   Grown             the numbered keys became f, and all of them are expanded
 --   Stopped           the 513th key turned up, after the keys l, by the symbol s of key i
 --   Expanded          all keys were expanded, or it stopped there
+--   grownBy a l m     the keys l, with the key m numbered and the keys from there on expanded
+--   Added             these are numbered, or the 513th key turned up
 --   InRow             what a key leads to is left out or goes to a cell of the key's own row
 use mathlib.Core.Path.{_≡_}
 use mathlib.Core.Bool.{Bool, false, cond, _&&_, _||_}
@@ -25,7 +27,7 @@ use lib.Dec.{ltb}
 use lib.ListN.{length, getD, set}
 use Rattle.limits.specs.Limits.{mostSymbols, mostSets, tableCells}
 use Rattle.base.specs.Lists.{listFrom}
-use Rattle.numbering.specs.Numbering.{Walk, indexOf, numbered}
+use Rattle.numbering.specs.Numbering.{Walk, indexOf, numbered, closeFrom}
 use Rattle.numbering.specs.Begins.{Begins}
 
 abbrev pub limited : List ℕ → Option ℕ
@@ -97,6 +99,13 @@ module _ (a : Walk) (free : ℕ) where
   pub record Expanded (f : List ℕ) (r : Option ℕ) (keys next : List ℕ) : Type 0 where
     pub grown : Grown f r keys next
     pub stopped : mostSets < length f → Stopped f keys next
+
+  abbrev pub grownBy : List ℕ → ℕ → List ℕ
+  grownBy l m = closeFrom a mostSets (length l) (numbered (a .skips) l m)
+
+  pub record Added (l : List ℕ) (m : ℕ) (r : Option ℕ) (keys next : List ℕ) : Type 0 where
+    pub grown : Grown (grownBy l m) r keys next
+    pub stopped : length (numbered (a .skips) l m) ≤ mostSets → mostSets < length (grownBy l m) → Stopped (grownBy l m) keys next
 
 abbrev pub InRow : Walk → Type 0
 InRow a = (m s : ℕ) → s < a .k → a .skips (a .step m s) ≡ false → s < mostSymbols

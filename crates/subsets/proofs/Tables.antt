@@ -2,12 +2,13 @@
 -- tells of more than 512 sets the table is zeros. Assumes nothing.
 --
 --   told-..                   what is told of so many sets
---   masks-are                 the lower halves of the sets are the sets
+--   masks-are, cells-are      the lower halves of the sets are the sets, and the cells those of the
+--                             table
 --   table-whole, table-over   the ways out
 use mathlib.Core.Path.{_≡_, refl, sym, ap, _∙_}
 use mathlib.Core.Bool.{Bool, true, false, cond}
 use mathlib.Core.List.{List, [], _∷_}
-use Prim.Native.Nat.{ℕ, _+_, _*_, _%_, _^_, _<_, min}
+use Prim.Native.Nat.{ℕ, _+_, _*_, _/_, _%_, _^_, _<_, min}
 use native.Mathlib.Nat.{mod-eq-of-lt}
 use native.Mathlib.Omega.{arith}
 use lib.Dec.{ltb, lit<}
@@ -22,17 +23,18 @@ use Rattle.masks.proofs.Laws.{union-lt}
 use Rattle.automaton.specs.Rules.{targetMask}
 use Rattle.automaton.specs.Successor.{successor}
 use Rattle.numbering.specs.Texts.{follow}
+use Rattle.numbering.specs.Arrays.{cellTo, ArraysHold, Grown}
 use Rattle.numbering.proofs.Claims as numbering
 use Rattle.numbering.proofs.Arrays.{whole-of, over-of}
+use Rattle.numbering.proofs.Table.{next-whole, row-test}
 use Rattle.keys.specs.declared.Numbering.{Numbering}
 use Rattle.keys.specs.declared.Numbering.the-variants as keys
 use Rattle.keys.specs.Tables.{countMeans}
 use Rattle.subsets.specs.declared.Numbering.the-variants.{Whole}
 use Rattle.subsets.specs.declared.SetTable.{SetTable}
-use Rattle.subsets.specs.Sets.{setWalk, setsOf, tooMany, setCells}
+use Rattle.subsets.specs.Sets.{setWalk, setsOf, tooMany, nextSet, setCells, nextCells}
 use Rattle.subsets.specs.Singles.{singlesOf}
 use Rattle.subsets.specs.Answer.{counted, refused, noTable, tableOutcome, tableOf}
-use Rattle.subsets.specs.Steps.{Answered}
 
 -- ---- at most 512, where `over` says whether they are too many
 pub told-counted : (over : Bool) (count c : ℕ) → counted c ≡ cond over (refused 9) (counted count) → (over ≡ false) × (c ≡ count)
@@ -68,17 +70,24 @@ module _ (ts : List ℕ) (n k : ℕ) (words : (i : ℕ) → getD ts i 0 < 2 ^ 32
       same-list 512 (λ i. getD sets i 0 % 2 ^ 32) (λ i. getD (setsOf ts n k) i 0)
       (λ i b. rw (are, cell-of 512 (λ j. getD (setsOf ts n k) j 0) i 0 b) (mod-eq-of-lt (set-lt i)))
 
-  module _ (r : Numbering) (sets next : List ℕ) (answered : Answered ts n k r sets next) where
+  -- ---- the cells are those of the table
+  cells-are : (sets next : List ℕ) → ArraysHold (setWalk ts k) 512 (setsOf ts n k) (length (setsOf ts n k) * 16) sets next → next ≡ nextCells ts n k
+  unfolding nextSet
+  cells-are sets next h =
+      let f = setsOf ts n k in
+      next-whole (setWalk ts k) 512 f sets next h
+      ∙ same-list 8192 (cellTo (setWalk ts k) 512 f (length f * 16)) (λ c. nextSet ts n k (c / 16) (c % 16)) (λ c b. rw (row-test (length f) c))
+
+  module _ (r : Numbering) (sets next : List ℕ) (grown : Grown (setWalk ts k) 512 (setsOf ts n k) (countMeans r) sets next) where
     pub table-whole : (c : ℕ) → r ≡ keys.Whole c → (singles masks : List ℕ) → singles ≡ singlesOf sets c → masks ≡ listFrom 0 512 (λ i. getD sets i 0 % 2 ^ 32)
         → tableOutcome (record { answer = Whole c; sets = masks; next = next; singles = singles }) ≡ tableOf ts n k
     unfolding tableOf tooMany
     table-whole c e singles masks are low =
-        let x = whole-of (setsOf ts n k) c (sym (ap countMeans e) ∙ answered .count) in
-        let few : ltb 512 (length (setsOf ts n k)) ≡ false = le-ltb 512 (length (setsOf ts n k)) (x .0) in
-        let cells = answered .sets-are few in
-        rw (are, low ∙ masks-are sets cells, few, cells, answered .next-are few, x .1)
+        let x = whole-of (setsOf ts n k) c (sym (ap countMeans e) ∙ grown .count) in
+        let h = grown .held (x .0) in
+        rw (are, low ∙ masks-are sets (h .keys-are), le-ltb 512 (length (setsOf ts n k)) (x .0), h .keys-are, cells-are sets next h, x .1)
 
     pub table-over : r ≡ keys.Over → (t : SetTable) → tableOutcome t ≡ noTable → tableOutcome t ≡ tableOf ts n k
     unfolding tableOf tooMany
     table-over e t is =
-        rw (lt-ltb 512 (length (setsOf ts n k)) (over-of (setsOf ts n k) (sym (ap countMeans e) ∙ answered .count))) is
+        rw (lt-ltb 512 (length (setsOf ts n k)) (over-of (setsOf ts n k) (sym (ap countMeans e) ∙ grown .count))) is

@@ -34,10 +34,6 @@ setWalk ts k = record { step = successor ts; skips = isEmpty; k = k }
 abbrev pub numbered : List ℕ → ℕ → List ℕ
 numbered sets m = keys.numbered isEmpty sets m
 
--- the set m is expanded by `left` symbols, from s on
-abbrev pub expandFrom : List ℕ → ℕ → ℕ → ℕ → ℕ → List ℕ → List ℕ
-expandFrom ts k m s left sets = keys.expandFrom (setWalk ts k) m s left sets
-
 -- in number order, each set from number i on is expanded by the k symbols: at most `left` sets,
 -- which is enough for 512
 abbrev pub closeFrom : List ℕ → ℕ → ℕ → ℕ → List ℕ → List ℕ

@@ -1,20 +1,17 @@
 // The sets of states that get a number, in the order of their numbers, and the next-set table: the
 // loop of keys from each set {q} in turn, with the empty set left out.
 ghost use mathlib.Core.Path.{_≡_};
-ghost use Prim.Native.Nat.{ℕ, _*_, _%_, _^_, _≤_, _<_};
-ghost use lib.ListN.{length, getD, take};
+ghost use Prim.Native.Nat.{ℕ, _%_, _^_, _<_};
+ghost use lib.ListN.{length, getD};
 ghost use Rattle.base.specs.Lists.{listFrom};
-ghost use Rattle.limits.specs.Limits.{mostStates, mostSymbols, mostSets, emptySet};
-ghost use Rattle.numbering.specs.Arrays.{Cleared, ArraysHold, Grown};
+ghost use Rattle.limits.specs.Limits.{mostStates, mostSets, emptySet};
+ghost use Rattle.numbering.specs.Arrays.{Cleared, Grown};
 ghost use Rattle.keys.specs.Tables.{countMeans};
-ghost use Rattle.subsets.specs.Sets.{setWalk};
+ghost use Rattle.subsets.specs.Sets.{setWalk, setsOf};
 ghost use Rattle.subsets.specs.Singles.{singletonNumber, singlesOf};
 ghost use Rattle.subsets.specs.Answer.{noTable, tableOutcome, tableOf};
-ghost use Rattle.subsets.specs.Steps.{grownBy, Answered};
 use keys::Found;
-use keys::KeyNumber;
 use keys::Kind;
-use keys::Turn;
 use masks::StateNumber;
 
 // The number of a set, which is never the number of a state.
@@ -35,35 +32,6 @@ pub struct SetTable {
     pub singles: [u16; limits::STATES],
 }
 
-// {q} is numbered, and the sets that are not yet expanded, which are those from number count on,
-// are.
-fn add_state(
-    targets: &[u32; limits::TARGETS],
-    k: u8,
-    sets: &mut [u64; limits::SETS],
-    next: &mut [u16; limits::CELLS],
-    count: usize,
-    q: StateNumber,
-) -> keys::Numbering
-    requires { ⌜ (q .0 < mostStates) × (count ≤ mostSets) × ArraysHold (setWalk (now targets) k) emptySet (take count (now sets)) (count * mostSymbols) (now sets) (now next) ⌝ }
-    ensures { λ r. ⌜ Grown (setWalk (now (targets .entry)) k) emptySet (grownBy (now (targets .entry)) k (q .0) (take count (now (sets .entry)))) (countMeans r) (now (sets .exit)) (now (next .exit)) ⌝ }
-{
-    match keys::number(sets, count, masks::singleton(q) as u64) {
-        Turn::As(_, after) => keys::expand(
-            targets,
-            targets,
-            Kind::Sets,
-            true,
-            k,
-            sets,
-            next,
-            KeyNumber(count as u16),
-            after,
-        ),
-        Turn::Full => keys::Numbering::Over,
-    }
-}
-
 // The numbered sets of a rule with n states and k symbols, and its next-set table, into two arrays
 // where no cell is in use; a value of n above 32 is taken for 32. Where the 513th set turns up,
 // what is left in the two arrays is free.
@@ -75,11 +43,12 @@ fn fill(
     next: &mut [u16; limits::CELLS],
 ) -> keys::Numbering
     requires { ⌜ Cleared emptySet (now sets) (now next) ⌝ }
-    ensures { λ r. ⌜ Answered (now (targets .entry)) n k r (now (sets .exit)) (now (next .exit)) ⌝ }
+    ensures { λ r. ⌜ Grown (setWalk (now (targets .entry)) k) emptySet (setsOf (now (targets .entry)) n k) (countMeans r) (now (sets .exit)) (now (next .exit)) ⌝ }
 {
     let mut count: usize = 0;
     for q in 0..base::at_most_u8(n, limits::MOST_STATES) {
-        match add_state(targets, k, sets, next, count, StateNumber(q)) {
+        let set = masks::singleton(StateNumber(q)) as u64;
+        match keys::add(targets, targets, Kind::Sets, true, k, sets, next, count, set) {
             keys::Numbering::Whole(after) => {
                 count = after;
             }
