@@ -1,11 +1,11 @@
 // Keys numbered in the order in which a search finds them, and the table of the numbers that each
 // leads to: one loop for three kinds of keys.
 ghost use mathlib.Core.Path.{_≡_};
-ghost use mathlib.Core.Bool.{cond, false};
+ghost use mathlib.Core.Bool.{false};
 ghost use Prim.Native.Nat.{ℕ, _+_, _*_, _%_, _^_, _≤_, _<_};
 ghost use lib.Dec.{eqb};
 ghost use lib.ListN.{getD, take};
-ghost use Rattle.base.specs.Totals.{total};
+ghost use Rattle.base.specs.Conditions.{anyBelow};
 ghost use Rattle.limits.specs.Limits.{mostSymbols, mostSets};
 ghost use Rattle.automaton.specs.Successor.{successor as successorOf};
 ghost use Rattle.numbering.specs.Arrays.{foundIn, keyCells, Entered, Stepped, InRow, ArraysHold, Expanded, Added};
@@ -99,17 +99,17 @@ fn step_key(
     }
 }
 
-// How many keys of a block have this lower half. Without a way out of the loop they are compared
-// side by side, and halves take half the time.
-fn hits(keys: &[u64; limits::SETS], from: usize, half: u32) -> u32
+// Whether a key of the block has this lower half. Without a way out of the loop they are compared
+// side by side, and halves in half the time.
+fn hits(keys: &[u64; limits::SETS], from: usize, half: u32) -> bool
     requires { ⌜ from + 32 ≤ mostSets ⌝ }
-    ensures { λ r. ⌜ r ≡ total (λ j. cond (eqb (getD (now (keys .entry)) (from + j) 0 % 2 ^ 32) half) 1 0) 32 ⌝ }
+    ensures { λ r. ⌜ r ≡ anyBelow (λ j. eqb (getD (now (keys .entry)) (from + j) 0 % 2 ^ 32) half) 32 ⌝ }
 {
-    let mut found: u32 = 0;
+    let mut found = false;
     let mut j: usize = 0;
     while j < BLOCK {
         if lower(keys[from + j]) == half {
-            found += 1;
+            found = true;
         }
         j += 1;
     }
@@ -124,7 +124,7 @@ fn passed(keys: &[u64; limits::SETS], most: usize, key: u64) -> usize
     let half = lower(key);
     let mut i: usize = 0;
     while BLOCK <= most - i {
-        if hits(keys, i, half) != 0 {
+        if hits(keys, i, half) {
             return i;
         }
         i += BLOCK;

@@ -48,7 +48,17 @@ fn fill(
     let mut count: usize = 0;
     for q in 0..base::at_most_u8(n, limits::MOST_STATES) {
         let set = masks::singleton(StateNumber(q)) as u64;
-        match keys::add(targets, targets, Kind::Sets, true, k, sets, next, count, set) {
+        match keys::add(
+            targets,
+            targets,
+            Kind::Sets,
+            true,
+            k,
+            sets,
+            next,
+            count,
+            set,
+        ) {
             keys::Numbering::Whole(after) => {
                 count = after;
             }

@@ -22,8 +22,7 @@ expand-requires c κs =
     let s = c .before .before .before .before .before .before .before in
     let a = s .args in
     let w = c .before .before .before .before .before .number in
-    let v = c .before .before .before .after .given in
-    (
+    let v = c .before .before .before .after .given in (
       seed-asked (walkIn (a .kind) (a .omit) (a .targets .now) (a .others .now) (a .k)) (freeBy (a .omit)) (a .keys .now) (a .next .now) (a .count) (a .key) (s .pre .0 .0) (s .pre .0 .2) (s .pre .0 .1) (turnMeans (w .result)) (w .last .0) (w .ensures) (v .0 .0 .0) (v .0 .1 .0) (ap turnMeans (v .1)),
       s .pre .1,
     )

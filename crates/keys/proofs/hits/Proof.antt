@@ -1,29 +1,28 @@
--- `hits` meets its contract: the cells before j with that lower half are counted. Assumes nothing.
-use mathlib.Core.Path.{_≡_, refl, sym, ap, _∙_}
+-- `hits` meets its contract: the cells before j are looked at. Assumes nothing.
+use mathlib.Core.Path.{_≡_, refl, sym, _∙_}
 use mathlib.Core.Logic.{⊎-elim}
-use mathlib.Core.Bool.{cond}
+use mathlib.Core.Bool.{Bool, false, or-false}
 use Prim.Native.Nat.{ℕ, _+_, _-_, _%_, _^_, _≤_}
+use native.Mathlib.Numerals.{add-one}
 use native.Mathlib.Omega.{arith}
-use borrow.Author.Needs.{needs}
 use lib.Dec.{eqb}
 use lib.ListN.{getD}
+use borrow.Author.Needs.{needs}
 use borrow.Author.Tests.{eq-eqb, ne-eqb}
-use Rattle.base.specs.Totals.{total}
-use Rattle.base.proofs.Tests.{one-most}
-use Rattle.base.proofs.Totals.{total-more}
+use Rattle.base.specs.Conditions.{anyBelow}
+use Rattle.base.proofs.Conditions.{any-at}
 use Rattle.keys.proofs.hits.Statement.{statement}
 use Rattle.keys.proofs.hits.Tie as tie
 
 abbrev Inv-loop : tie.InvT-loop
-Inv-loop keys from half found₀ j₀ found j =
-    (j ≤ 32) × (found ≤ j) × (found ≡ total (λ i. cond (eqb (getD keys (from + i) 0 % 2 ^ 32) half) 1 0) j)
+Inv-loop keys from half found₀ j₀ found j = (j ≤ 32) × (found ≡ anyBelow (λ i. eqb (getD keys (from + i) 0 % 2 ^ 32) half) j)
 
 abbrev μ-loop : tie.MeasureT-loop
 μ-loop keys from half found₀ j₀ found j = 32 - j
 
 loop-holds : tie.Need-loop-holds Inv-loop μ-loop
-unfolding total
-loop-holds c = (omega arith, omega arith, refl)
+unfolding anyBelow
+loop-holds c = (omega arith, refl)
 
 add-lower : tie.Need-add-lower Inv-loop μ-loop
 add-lower c = omega arith
@@ -37,38 +36,36 @@ element-copy-out-lower c = omega arith
 lower-requires : tie.Need-lower-requires Inv-loop μ-loop
 lower-requires c κs = search needs
 
-add-found : tie.Need-add-found Inv-loop μ-loop
-add-found c = omega arith
-
 add-j : tie.Need-add-j Inv-loop μ-loop
 add-j c = omega arith
 
 loop-less : tie.Need-loop-less Inv-loop μ-loop
 loop-less c = omega arith
 
+-- the loop's step, over plain values
+more : (p : ℕ → Bool) (j : ℕ) → p j ≡ false → anyBelow p j ≡ anyBelow p (j + 1)
+unfolding anyBelow
+more p j h = rw (add-one, h, or-false)
+
 loop-again : tie.Need-loop-again Inv-loop μ-loop
 loop-again c =
     let x = c .before .before .before .before .loop in
     let a = c .before .before .before .before .before .args in
     let low = c .before .lower .ensures in
-    let cell : ℕ = getD (a .keys .now) (a .from + x .j) 0 % 2 ^ 32 in
-    let counted : c .if1 .found ≡ x .found + cond (eqb cell (a .half)) 1 0 =
-    ⊎-elim
-    (λ w. w .1 ∙ rw (eq-eqb cell (a .half) (sym low ∙ w .0 .taken)))
-    (λ w. w .1 ∙ rw (ne-eqb cell (a .half) (λ e. w .0 .left (low ∙ e))) (omega arith))
-    (c .if1 .came) in (
+    let p : ℕ → Bool = λ i. eqb (getD (a .keys .now) (a .from + i) 0 % 2 ^ 32) (a .half) in
+    let cell : ℕ = getD (a .keys .now) (a .from + x .j) 0 % 2 ^ 32 in (
       omega arith,
-      omega (arith, counted, one-most (eqb cell (a .half))),
-      counted
-          ∙ ap (λ (y : ℕ). y + cond (eqb cell (a .half)) 1 0) (x .inv .2)
-          ∙ sym (total-more (λ i. cond (eqb (getD (a .keys .now) (a .from + i) 0 % 2 ^ 32) (a .half)) 1 0) (x .j)),
+      ⊎-elim
+          (λ w. w .1 ∙ sym (any-at p (x .j + 1) (x .j) (omega arith) (eq-eqb cell (a .half) (sym low ∙ w .0 .taken))))
+          (λ w. w .1 ∙ x .inv .1 ∙ more p (x .j) (ne-eqb cell (a .half) (λ e. w .0 .left (low ∙ e))))
+          (c .if1 .came),
     )
 
 returns : tie.Need-returns Inv-loop μ-loop
 returns c =
     let x = c .before .loop in
     let e : x .j ≡ 32 = omega arith in
-    rw (← e) (x .inv .2)
+    rw (← e) (x .inv .1)
 
 pub hits-spec : {M : Type 1} → statement M
 hits-spec =
@@ -81,7 +78,6 @@ hits-spec =
     mul-lower
     element-copy-out-lower
     lower-requires
-    add-found
     add-j
     loop-less
     loop-again

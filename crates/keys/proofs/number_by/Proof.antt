@@ -18,8 +18,7 @@ add-requires : tie.Need-add-requires
 unfolding listFrom
 add-requires c κs =
     let a = c .before .before .before .args in
-    let k = c .before .before .at-most-u8 in
-    (
+    let k = c .before .before .at-most-u8 in (
       (omega arith, refl, begin (walkBy (a .kind) (a .targets .now) (a .others .now) (k .result)) 0 (replicate 512 0) (replicate 8192 0) (record { keys-are = refl; next-are = refl })),
       λ m s b _. omega (arith, k .ensures),
     )

@@ -1,32 +1,28 @@
 -- `passed` meets its contract. The loop's invariant: the key stands at none of the places passed. A
--- block with no hit has it nowhere, since each of its cells is one term of the sum, and a key has its
--- own lower half. Assumes nothing.
-use mathlib.Core.Path.{_≡_, sym, ap, _∙_}
-use mathlib.Core.Bool.{cond}
+-- block with no hit has it nowhere, since a key has its own lower half. Assumes nothing.
+use mathlib.Core.Path.{_≡_, sym, _∙_}
+use mathlib.Core.Bool.{false}
 use mathlib.Core.List.{List}
 use Prim.Native.Nat.{ℕ, _+_, _-_, _%_, _^_, _≤_, _<_}
 use native.Mathlib.Omega.{arith}
 use lib.Dec.{eqb, ltb}
 use lib.ListN.{getD}
 use borrow.Author.Needs.{needs}
-use borrow.Author.Tests.{eq-eqb, ltb-true, ltb-false}
-use Rattle.base.specs.Totals.{total}
+use borrow.Author.Tests.{eqb-false, ltb-true, ltb-false}
+use Rattle.base.specs.Conditions.{anyBelow}
+use Rattle.base.proofs.Conditions.{none-at}
 use Rattle.base.proofs.Tests.{by-test}
-use Rattle.base.proofs.Totals.{term-most}
 use Rattle.keys.proofs.passed.Statement.{statement}
 use Rattle.keys.proofs.passed.Tie as tie
 
 -- no cell of the block is the key
-no-hit : (l : List ℕ) (from key half j : ℕ) → half ≡ key % 2 ^ 32 → total (λ i. cond (eqb (getD l (from + i) 0 % 2 ^ 32) half) 1 0) 32 ≡ 0 → from ≤ j → j < from + 32
+no-hit : (l : List ℕ) (from key half j : ℕ) → half ≡ key % 2 ^ 32 → anyBelow (λ i. eqb (getD l (from + i) 0 % 2 ^ 32) half) 32 ≡ false → from ≤ j → j < from + 32
     → getD l j 0 ≡ key
     → ⊥
 no-hit l from key half j low none a b is =
     let at : from + (j - from) ≡ j = omega arith in
-    let hit : ℕ = cond (eqb (getD l (from + (j - from)) 0 % 2 ^ 32) half) 1 0 in
-    let same : getD l j 0 % 2 ^ 32 ≡ half = ap (λ (x : ℕ). x % 2 ^ 32) is ∙ sym low in
-    let one : hit ≡ 1 = rw at (rw (eq-eqb (getD l j 0 % 2 ^ 32) half same)) in
-    let most = term-most (λ i. cond (eqb (getD l (from + i) 0 % 2 ^ 32) half) 1 0) 32 (j - from) (omega arith) in
-    omega (arith, one, none, most)
+    eqb-false (getD l (from + (j - from)) 0 % 2 ^ 32) half (none-at (λ i. eqb (getD l (from + i) 0 % 2 ^ 32) half) 32 (j - from) none (omega arith))
+    (rw (at, is, low))
 
 abbrev Inv-loop : tie.InvT-loop
 Inv-loop keys most key half i₀ i = (i ≤ most) × ((j : ℕ) → j < i → getD keys j 0 ≡ key → ⊥)
