@@ -1,5 +1,5 @@
--- What the functions below `number_by` promise, in the words of numbering's specs/Arrays.antt.
--- Nothing here needs to be believed: `tableBy` says what they give.
+-- What the answers of the functions below `number_by` say, whose promises are in the words of
+-- numbering's specs/Arrays.antt. Nothing here needs to be believed: `tableBy` says what they give.
 --
 --   foundMeans       what each case of the search's answer says
 --   turnMeans        what each case of a turn's answer says: the key's number and how many keys
