@@ -1,11 +1,14 @@
 -- `number_sets` meets its contract: the arrays begin with every cell not in use, and what `fill`
--- leaves in them is the table. Assumes nothing.
+-- leaves in them is the table, the sets as masks. Assumes nothing.
 use mathlib.Core.Path.{refl}
 use borrow.Author.Needs.{needs}
 use Rattle.base.specs.Lists.{listFrom}
 use Rattle.subsets.proofs.Tables.{table-whole, table-over}
 use Rattle.subsets.proofs.number_sets.Statement.{statement}
 use Rattle.subsets.proofs.number_sets.Tie as tie
+
+words-requires : tie.Need-words-requires
+words-requires c κs = search needs
 
 fill-requires : tie.Need-fill-requires
 unfolding listFrom
@@ -17,6 +20,9 @@ enum-known-count c = search needs
 number-singles-requires : tie.Need-number-singles-requires
 number-singles-requires c κs = search needs
 
+masks-of-requires : tie.Need-masks-of-requires
+masks-of-requires c κs = search needs
+
 enum-told : tie.Need-enum-told
 enum-told c = search needs
 
@@ -25,25 +31,29 @@ no-table-requires c κs = search needs
 
 returns : tie.Need-returns
 returns c =
-    let a = c .before .before .before .before .before .before .before .before .args in
-    let w = c .before .before .before .before .before .fill in
-    let v = c .before .before .before .count .given in
-    let s = c .number-singles in
-    table-whole (a .targets .now) (a .n) (a .k) (w .result) (w .last .1 .1 .1 .0) (w .last .1 .1 .1 .1 .0) (w .ensures) (v .0 .0) (v .1) (s .result) (s .ensures)
+    let o = c .before .before .before .before .before .before .before .before .before .before in
+    let a = o .before .args in
+    let w = c .before .before .before .before .before .before .before .fill in
+    let v = c .before .before .before .before .before .count .given in
+    let s = c .before .before .number-singles in
+    table-whole (a .targets .now) (a .n) (a .k) (o .words .ensures) (w .result) (w .last .1 .1 .1 .0) (w .last .1 .1 .1 .1 .0) (w .ensures) (v .0 .0) (v .1) (s .result) (c .masks-of .result) (s .ensures) (c .masks-of .ensures)
 
 returns-2 : tie.Need-returns-2
 returns-2 c =
-    let a = c .before .before .before .before .before .before .args in
+    let o = c .before .before .before .before .before .before in
+    let a = o .before .args in
     let w = c .before .before .before .fill in
-    table-over (a .targets .now) (a .n) (a .k) (w .result) (w .last .1 .1 .1 .0) (w .last .1 .1 .1 .1 .0) (w .ensures) (cc) (c .no-table .result) (c .no-table .ensures)
+    table-over (a .targets .now) (a .n) (a .k) (o .words .ensures) (w .result) (w .last .1 .1 .1 .0) (w .last .1 .1 .1 .1 .0) (w .ensures) (cc) (c .no-table .result) (c .no-table .ensures)
 
 pub number-sets-spec : {M : Type 1} → statement M
 number-sets-spec =
     tie.close
     (tie.spec
+    words-requires
     fill-requires
     enum-known-count
     number-singles-requires
+    masks-of-requires
     enum-told
     no-table-requires
     returns

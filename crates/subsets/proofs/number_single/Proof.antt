@@ -6,7 +6,7 @@ use lib.ListN.{take}
 use borrow.Author.Needs.{needs}
 use Rattle.masks.specs.Masks.{single}
 use Rattle.numbering.specs.Arrays.{foundIn}
-use Rattle.subsets.specs.Singles.{foundMeans}
+use Rattle.keys.specs.Steps.{foundMeans}
 use Rattle.subsets.proofs.Singles.{single-found, single-missing}
 use Rattle.subsets.proofs.number_single.Statement.{statement}
 use Rattle.subsets.proofs.number_single.Tie as tie
@@ -16,6 +16,9 @@ rows-requires c κs = search needs
 
 singleton-requires : tie.Need-singleton-requires
 singleton-requires c κs = search needs
+
+cast-find : tie.Need-cast-find
+cast-find c = search needs
 
 find-requires : tie.Need-find-requires
 find-requires c κs = search needs
@@ -52,6 +55,7 @@ number-single-spec =
     (tie.spec
     rows-requires
     singleton-requires
+    cast-find
     find-requires
     enum-known-number
     enum-told
