@@ -29,7 +29,6 @@ use Rattle.ruleformat.specs.Reader.{ruleOf}
 use Rattle.ruleformat.specs.Writing.{fileOf}
 use Rattle.ruleformat.specs.Language.{automatonIn}
 use Rattle.ruleformat.proofs.Claims as rulefile
-use Rattle.rulewriter.specs.Written.{fileBy}
 use Rattle.rulewriter.proofs.Claims as writer
 use Rattle.merging.specs.declared.Way.{Way}
 use Rattle.merging.specs.declared.Way.the-variants.{Both, Either, Interleaving}
@@ -148,4 +147,4 @@ fits way f g =
     (λ e.
     let r = mergedOf way (ruleOf f) (ruleOf g) in
     let passed : ruleNumber r ≡ none = passes r .1 (result way f g e) in
-    subst (λ (o : Option ℕ). length (fileBy o r) ≤ 32906) passed (writer.claims .fits r))
+    writer.claims .fits r passed)
