@@ -11,7 +11,7 @@
 use mathlib.Core.Bool.{Bool, true, false}
 use mathlib.Core.List.{List, [], _∷_}
 use Prim.Native.Nat.{ℕ}
-use Rattle.answers.specs.Answers.{lineOf, refusedText, malformedText}
+use Rattle.answers.specs.Answers.{lineOf, acceptedWord, waitingWord, refusedText, malformedText}
 use Rattle.calls.specs.Replies.{Judgement, waiting, yesWith, noWith, refusedWith, Reply, accepted, installed, judged, refused, installMeans, openMeans, deliverMeans, withdrawMeans, reportMeans, delivered}
 use Rattle.calltext.specs.declared.LineAnswer.{LineAnswer}
 use Rattle.calltext.specs.declared.LineAnswer.the-variants.{Began, Install, Open, Deliver, Withdraw, Verdict, Malformed}
@@ -26,12 +26,6 @@ isMalformed began = false
 isMalformed (replied a) = false
 isMalformed unread = true
 
-abbrev pub accepted-word : List ℕ
-accepted-word = 97 ∷ 99 ∷ 99 ∷ 101 ∷ 112 ∷ 116 ∷ 101 ∷ 100 ∷ []
-
-abbrev pub waiting-word : List ℕ
-waiting-word = 119 ∷ 97 ∷ 105 ∷ 116 ∷ 105 ∷ 110 ∷ 103 ∷ []
-
 abbrev pub yes-word : List ℕ
 yes-word = 121 ∷ 101 ∷ 115 ∷ []
 
@@ -39,15 +33,15 @@ abbrev pub no-word : List ℕ
 no-word = 110 ∷ 111 ∷ []
 
 abbrev pub judgementText : Judgement → List ℕ → List ℕ
-judgementText (waiting empty) beside = lineOf waiting-word (empty ∷ [])
+judgementText (waiting empty) beside = lineOf waitingWord (empty ∷ [])
 judgementText (yesWith count) beside = lineOf yes-word (count ∷ beside)
 judgementText (noWith count) beside = lineOf no-word (count ∷ beside)
 judgementText (refusedWith number) beside = refusedText number
 
 abbrev pub replyText : Reply → List ℕ
-replyText accepted = lineOf accepted-word []
-replyText (installed sets starts) = lineOf accepted-word (sets ∷ starts ∷ [])
-replyText (delivered looked) = lineOf accepted-word (looked ∷ [])
+replyText accepted = lineOf acceptedWord []
+replyText (installed sets starts) = lineOf acceptedWord (sets ∷ starts ∷ [])
+replyText (delivered looked) = lineOf acceptedWord (looked ∷ [])
 replyText (judged r) = judgementText (r .verdict) (r .bytes ∷ r .quotient ∷ r .remainder ∷ [])
 replyText (refused number) = refusedText number
 

@@ -40,7 +40,7 @@ pub fn put_cell(out: &mut [u8], at: usize, to: SetNumber) -> usize
 }
 
 // The cells of set i for the k symbols.
-fn put_row(
+pub fn put_row(
     out: &mut [u8],
     start: usize,
     next: &[u16; limits::CELLS],
