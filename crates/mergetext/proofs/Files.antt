@@ -6,7 +6,7 @@
 --   language             the texts that it accepts
 --   fits                 the most bytes of an answer
 use mathlib.Core.Path.{_≡_, refl, sym, ap, _∙_, subst}
-use mathlib.Core.Logic.{_↔_, inl, inr, ⊎-elim, Iff·trans}
+use mathlib.Core.Logic.{_↔_, inl, inr, ⊎-elim}
 use mathlib.Core.List.{List, [], _∷_, _++_}
 use mathlib.Core.Option.{Option, none, some}
 use Prim.Native.Nat.{ℕ, _≤_}
@@ -25,7 +25,6 @@ use Rattle.rulecheck.specs.Checking.{ruleNumber}
 use Rattle.rulecheck.proofs.Laws.{passes}
 use Rattle.ruleformat.specs.Refusals.{fileConditions, refusal}
 use Rattle.ruleformat.specs.Reader.{ruleOf}
-use Rattle.ruleformat.specs.Writing.{fileOf}
 use Rattle.ruleformat.specs.Language.{automatonIn}
 use Rattle.ruleformat.proofs.Claims as rulefile
 use Rattle.rulewriter.proofs.Claims as writer

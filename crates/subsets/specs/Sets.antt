@@ -22,7 +22,7 @@ use Rattle.base.specs.Lists.{listFrom}
 use Rattle.masks.specs.Masks.{single}
 use Rattle.automaton.specs.Successor.{successor}
 use Rattle.numbering.specs.Numbering as keys
-use Rattle.numbering.specs.Numbering.{Walk, keysUpTo, numberOrNone, nextOf}
+use Rattle.numbering.specs.Numbering.{Walk, keysUpTo, nextOf}
 unfoldable pub use Rattle.numbering.specs.Numbering.{indexOf}
 
 abbrev pub isEmpty : ℕ → Bool
@@ -54,10 +54,6 @@ setsOf ts n k = setsUpTo ts k (min n mostStates)
 
 unfoldable pub tooMany : List ℕ → ℕ → ℕ → Bool
 tooMany ts n k = ltb mostSets (length (setsOf ts n k))
-
--- the number of the set m, or 512 for the empty set
-abbrev pub numberOrEmpty : List ℕ → ℕ → ℕ
-numberOrEmpty sets m = numberOrNone isEmpty sets m
 
 unfoldable pub nextSet : List ℕ → ℕ → ℕ → ℕ → ℕ → ℕ
 nextSet ts n k i s = nextOf (setWalk ts k) (setsOf ts n k) i s
