@@ -1,7 +1,5 @@
 -- The answers of specs/Worked.antt are written as stands there, by computation. Assumes nothing.
-use mathlib.Core.Path.{_≡_, refl}
-use mathlib.Core.List.{List, [], _∷_}
-use Prim.Native.Nat.{ℕ}
+use mathlib.Core.Path.{refl}
 use Rattle.text.specs.Numerals.{decimalBelow}
 use Rattle.calltext.specs.Worked.{answers, Written}
 

@@ -1,5 +1,4 @@
 -- The proof of all that specs/Claims.antt claims. Assumes nothing.
-use mathlib.Core.List.{List}
 use mathlib.Core.Option.{Option, none, some}
 use Prim.Native.Nat.{ℕ, _≤_}
 use native.Mathlib.Omega.{arith}

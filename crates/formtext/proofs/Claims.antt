@@ -1,6 +1,6 @@
 -- The one proof of all that specs/Claims.antt claims. Assumes nothing.
 use mathlib.Core.Path.{_≡_, ap, _∙_}
-use Prim.Native.Nat.{ℕ, _+_, _*_}
+use Prim.Native.Nat.{_+_, _*_}
 use native.Mathlib.Omega.{arith}
 use Rattle.forms.specs.Form.{howMany, keptAt}
 use Rattle.formtext.specs.Claims.{Claims}

@@ -1,13 +1,12 @@
 -- What the parts of the text come to, over plain variables. Assumes nothing.
 use mathlib.Core.Path.{_≡_, sym, ap, _∙_}
-use mathlib.Core.List.{List, _++_}
-use mathlib.Core.Option.{Option}
+use mathlib.Core.List.{List}
 use Prim.Native.Nat.{ℕ, _+_, _*_, _≤_, min}
 use native.Mathlib.Omega.{arith}
 use lib.ListN.{length}
 use Rattle.base.specs.Lists.{joined}
 use Rattle.text.specs.Writing.{Wrote}
-use Rattle.text.proofs.Fitting.{Put, put, _then_}
+use Rattle.text.proofs.Fitting.{put, _then_}
 use Rattle.ruletext.specs.RuleText.{refusedText}
 use Rattle.forms.specs.declared.Form.{Form}
 use Rattle.forms.specs.declared.FormAnswer.{FormAnswer}

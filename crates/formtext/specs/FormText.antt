@@ -22,7 +22,6 @@ use Rattle.masks.specs.Masks.{has}
 use Rattle.ruletext.specs.RuleText.{space, lineFeed, field, cellText, refusedText}
 use Rattle.forms.specs.declared.Form.{Form}
 use Rattle.forms.specs.Form.{howMany}
-use Rattle.formmaker.specs.Making.{Made}
 use Rattle.formfile.specs.Files.{formFor}
 
 -- `sets`, ` symbols`, ` kept`

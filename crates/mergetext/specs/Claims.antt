@@ -20,7 +20,7 @@ use Rattle.merging.specs.Merged.{mergedOf}
 use Rattle.merging.specs.Merging.{mergeNumber}
 use Rattle.mergetext.specs.Lines.{wordOf, merges, malformed, lineIn}
 use Rattle.mergetext.specs.Worked.{WorkedLines}
-use Rattle.mergetext.specs.Answers.{filesNumber, resultFile, Response, responseText, mostAnswer, mergedFiles}
+use Rattle.mergetext.specs.Answers.{filesNumber, resultFile, responseText, mostAnswer, mergedFiles}
 
 abbrev pub lineOf : Way → List ℕ → List ℕ → List ℕ
 lineOf way f g = wordOf way ++ (fieldOf f ++ (32 ∷ fieldOf g))

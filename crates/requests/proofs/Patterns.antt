@@ -13,7 +13,6 @@
 --   Answered patterns           patterns worked by hand                 patternfile/specs/Worked
 --   fileOf r; padded            the file of a rule; zeros after it      ruleformat/specs/Writing, rulewriter/specs/Written
 --   readOf f, automatonIn f     reading a file; its automaton           ruleformat/specs/Reader, Language
---   writeOf r                   what writing a rule answers             rulewriter/specs/Written
 --   MayPattern, patternShown    the function for C, and its numbers     requests/specs/PatternFunction, c_patterns/specs/Numbers
 --   answerText, patternLines    the answer to a line, and the machine   patterntext/specs/Answers, Texts
 --   Blocks; finishOf            what is written, and at the end         linetexts/specs/Claims, Feeding
@@ -42,19 +41,18 @@ use Prim.Native.Nat.{ℕ, _≤_, _+_}
 use lib.ListN.{length, take, replicate}
 use lib.Dec.{eqb}
 use Rattle.base.specs.Conditions.{NoneHolds}
-use Rattle.limits.specs.Limits.{longestFile, targetCells, mostSymbols}
+use Rattle.limits.specs.Limits.{targetCells, mostSymbols}
 use Rattle.masks.specs.Masks.{_∈_}
 use Rattle.automaton.specs.declared.Rule.{Rule}
 use Rattle.automaton.specs.Automaton.{Accepts, Arc}
 use Rattle.automaton.specs.Rules.{automatonOf, WellFormed}
-use Rattle.rulecheck.specs.Checking.{ruleNumber}
 use Rattle.rulecheck.proofs.Claims as check
 use Rattle.ruleformat.specs.Refusals.{fileConditions}
 use Rattle.ruleformat.specs.Reader.{Reading, readOf, ruleOf}
 use Rattle.ruleformat.specs.Language.{automatonIn}
 use Rattle.ruleformat.specs.Writing.{fileOf}
 use Rattle.ruleformat.proofs.Claims as format
-use Rattle.rulewriter.specs.Written.{padded, Writing, writeOf}
+use Rattle.rulewriter.specs.Written.{padded, Writing}
 use Rattle.rulewriter.proofs.Claims as writer
 use Rattle.calls.specs.Replies.{yesWith, noWith}
 use Rattle.calls.specs.Calls.{Call}
@@ -92,8 +90,8 @@ use Rattle.c_patterns.proofs.Claims as c-patterns
 use Rattle.requests.specs.PatternFunction.{AsksPattern, MayPattern}
 
 -- The limits that are named below:
-pub limits : (longestPattern ≡ 128) × (mostLetters ≡ 31) × (longestPatternFile ≡ 2122) × (mostSymbols ≡ 16) × (longestFile ≡ 32906) × (targetCells ≡ 512)
-limits = (refl, refl, refl, refl, refl, refl)
+pub limits : (longestPattern ≡ 128) × (mostLetters ≡ 31) × (longestPatternFile ≡ 2122) × (mostSymbols ≡ 16) × (targetCells ≡ 512)
+limits = (refl, refl, refl, refl, refl)
 
 -- "Add a reader that turns a pattern into a rule file by McNaughton and Yamada's positions."
 -- The bytes that come back are those of the file of the positions' rule, for every pattern that the
@@ -189,14 +187,11 @@ module _ (p : Pattern) (b : List ℕ) (s : StandsFor p b) (e : patternNumber b �
       let v = every-list h .verdict .rejects board full in ((λ n m. v .0 n (judges .1 m)), λ n. v .1 (λ a. n (judges .0 a)))
 
 -- ---- WRITING A RULE FILE
--- For a well-formed rule the bytes that reading turns back into that rule; a value of the type has 512
--- target masks. Else the first of 3, 4, 6 and 8 that holds, and zeros:
+-- The file of a well-formed rule is bytes that reading turns back into that rule; a value of the type
+-- has 512 target masks:
 pub written : (r : Rule) → length (r .targets) ≡ targetCells → WellFormed r
-    → readOf (take (writeOf r .length) (writeOf r .bytes)) ≡ record { number = none; rule = r }
+    → readOf (fileOf r) ≡ record { number = none; rule = r }
 written r cells w = writer.claims .read-back r cells (check.claims .passes r .1 w)
-
-pub not-written : (r : Rule) (x : ℕ) → ruleNumber r ≡ some x → (writeOf r .length ≡ 0) × (writeOf r .bytes ≡ replicate longestFile 0)
-not-written = writer.claims .refused
 
 -- ---- FROM C
 -- The function asks nothing, and may return the numbers of that answer and no other; nothing of the

@@ -25,8 +25,8 @@
 -- All that they rest on stands in these files of specs/ (tests/believed):
 --   base Conditions, Lists, Options, Totals; limits Limits; text Numerals; answers Answers; masks
 --   Masks; automaton Automaton, Rules, Successor; rulecheck Checking, Worked; ruleformat Format,
---   Reader, Refusals, Worked; numbering Numbering, Texts; subsets Sets, Singles; compositions
---   Relations; mappings Mappings, Packing; keys Kinds, Tables; searches Search, Texts; samples
+--   Reader, Refusals, Worked; numbering Numbering, Texts; compositions Relations; mappings
+--   Mappings, Packing; keys Kinds, Tables; subsets Sets, Singles; searches Search, Texts; samples
 --   Claims, Samples, Search, Values, Worked; delegates Alike, Claims, Classes; marks Marks;
 --   chunks Chunks; joins Joining; calls Calls, Replies; histories History; fields Claims;
 --   sampletext SampleText, Worked; c_samples Claims, Numbers; requests SampleFunctions.

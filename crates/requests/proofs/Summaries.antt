@@ -32,7 +32,7 @@
 -- All that they rest on stands in these files of specs/ (tests/believed):
 --   base Conditions, Lists, Options, Totals; limits Limits; flags Flags; masks Masks; automaton
 --   Automaton, Rules, Successor; rulecheck Checking; ruleformat Format, Reader, Refusals, Worked;
---   numbering Numbering; subsets Sets, Singles; compositions Bracketing, Relations; delegates
+--   numbering Numbering; compositions Bracketing, Relations; subsets Sets, Singles; delegates
 --   Alike, Claims, Classes; build Building; digests Digests, Worked; marks Marks; walks Steps;
 --   chunks Chunks, Taking, Walks; board Boards; joins Claims, Joining; calls Calls, Claims,
 --   Replies, Steps; executions Executions; histories Claims, Functions, History; fillings Filled;

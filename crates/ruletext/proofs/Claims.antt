@@ -6,7 +6,7 @@
 --   few-starts    M is at most the number of states
 use mathlib.Core.Path.{_≡_, refl}
 use mathlib.Core.Logic.{⊎-elim}
-use mathlib.Core.Bool.{true, false, cond}
+use mathlib.Core.Bool.{true}
 use mathlib.Core.List.{List, [], _∷_}
 use mathlib.Core.Option.{Option, none, some}
 use Prim.Native.Nat.{ℕ, zero, suc, _≤_, _<_}
@@ -27,7 +27,7 @@ use Rattle.delegates.specs.Alike.{startCount}
 use Rattle.build.specs.Building.{builtOf, buildOf}
 use Rattle.build.proofs.Claims as build
 use Rattle.ruletext.specs.RuleText.{refusedText}
-use Rattle.ruletext.specs.Printing.{builtText, textBy, textFor, mostBytes}
+use Rattle.ruletext.specs.Printing.{builtText, textBy, mostBytes}
 use Rattle.ruletext.specs.Claims.{Claims}
 use Rattle.ruletext.proofs.Reading.{determines, dash-exactly}
 use Rattle.ruletext.proofs.Lengths.{rule-most, refused-most}

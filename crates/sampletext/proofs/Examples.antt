@@ -19,7 +19,7 @@ use Rattle.samples.specs.Search.{sampleOf}
 use Rattle.samples.specs.Worked.{allTexts}
 use Rattle.samples.proofs.Examples.{answered}
 use Rattle.sampletext.specs.SampleText.{rejectsWord, lineFor, linesBy, textBy, textFor}
-use Rattle.sampletext.specs.Worked.{linesA, fileAll, linesAll, WorkedSamples}
+use Rattle.sampletext.specs.Worked.{linesA, fileAll, WorkedSamples}
 
 -- two answers as they are printed
 abbrev shown : Sample → Sample → List ℕ

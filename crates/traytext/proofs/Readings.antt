@@ -3,8 +3,8 @@
 --   …-malformed, …-alone, …-value   a line of that word, by what its fields say
 --   long-…                          a line that begins with the word has it whole
 --   parsed-…                        a line by the word with which it begins
-use mathlib.Core.Path.{_≡_, refl, sym, ap, _∙_}
-use mathlib.Core.Bool.{Bool, true, false}
+use mathlib.Core.Path.{_≡_, sym, ap, _∙_}
+use mathlib.Core.Bool.{true, false}
 use mathlib.Core.List.{List}
 use mathlib.Core.Option.{Option, none, some}
 use Prim.Native.Nat.{ℕ, suc, _+_, _-_, _≤_, _<_}
@@ -23,7 +23,7 @@ use Rattle.calltext.proofs.Readings.{to-the-end, begins-long}
 use Rattle.trays.specs.Calls.{opens, withdraws}
 use Rattle.traytext.specs.declared.Line.{Line}
 use Rattle.traytext.specs.declared.Line.the-variants.{Empty, Row, Column, Verdict, Malformed}
-use Rattle.traytext.specs.Lines.{Meaning, call, malformed, row-word, column-word, open-word, deliver-word, withdraw-word, verdict-word, openBy, withdrawBy, deliverBy, openFields, deliverFields, callIn, lineIn, lineMeans, bytesFrom, Parsed}
+use Rattle.traytext.specs.Lines.{call, malformed, row-word, column-word, open-word, deliver-word, withdraw-word, verdict-word, openBy, withdrawBy, deliverBy, openFields, deliverFields, callIn, lineIn, lineMeans, bytesFrom, Parsed}
 
 -- ---- the number of a withdrawal
 module _ (field : List ℕ) (x : Number) (said : numberMeans x ≡ parseNumber field) where

@@ -1,6 +1,6 @@
 -- `put_cells` meets its contract. The loop's invariant: the first i cells are written. Assumes nothing.
 use mathlib.Core.Path.{_≡_}
-use Prim.Native.Nat.{ℕ, _+_, _*_, _-_, _≤_}
+use Prim.Native.Nat.{_+_, _-_, _≤_}
 use native.Mathlib.Omega.{arith}
 use lib.ListN.{length, getD}
 use Rattle.ruletext.specs.RuleText.{cellText}

@@ -1,7 +1,7 @@
 -- `put_number` meets its contract. Assumes nothing.
 use native.Mathlib.Omega.{arith}
 use borrow.Author.Needs.{needs}
-use Rattle.text.proofs.Rooms.{exact, most, left, fits, two}
+use Rattle.text.proofs.Rooms.{exact, most, fits, two}
 use Rattle.formtext.proofs.Lengths.{number-most}
 use Rattle.formtext.proofs.put_number.Statement.{statement}
 use Rattle.formtext.proofs.put_number.Tie as tie

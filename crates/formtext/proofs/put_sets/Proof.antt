@@ -1,15 +1,14 @@
 -- `put_sets` meets its contract. The loop's invariant: the lines of the sets passed are written, and
 -- so many cells stand in them. Assumes nothing.
-use mathlib.Core.Path.{_≡_, refl, ap, _∙_}
-use mathlib.Core.List.{List}
-use Prim.Native.Nat.{ℕ, _+_, _*_, _-_, _≤_, _<_}
+use mathlib.Core.Path.{_≡_, refl}
+use Prim.Native.Nat.{_+_, _*_, _-_, _≤_}
 use native.Mathlib.Omega.{arith}
 use lib.ListN.{length, getD}
 use Rattle.base.specs.Lists.{joined}
 use Rattle.base.specs.Totals.{total}
 use Rattle.base.proofs.Totals.{total-more}
 use Rattle.text.proofs.Fitting.{Put, put, none-put, one-more}
-use Rattle.formtext.specs.FormText.{bitsIn, firstCell, lineText, setLine}
+use Rattle.formtext.specs.FormText.{bitsIn, firstCell, setLine}
 use Rattle.formtext.proofs.Lengths.{first-most}
 use borrow.Author.Needs.{needs}
 use Rattle.formtext.proofs.put_sets.Statement.{statement}

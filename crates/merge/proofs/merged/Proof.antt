@@ -1,6 +1,6 @@
 -- `merged` meets its contract. Assumes nothing.
 use borrow.Author.Needs.{needs}
-use Rattle.merge.proofs.Ways.{merged-sizes, merged-tables, merged-made}
+use Rattle.merge.proofs.Ways.{merged-made}
 use Rattle.merge.proofs.merged.Statement.{statement}
 use Rattle.merge.proofs.merged.Tie as tie
 

@@ -3,7 +3,6 @@ use borrow.Author.Needs.{needs}
 use native.Mathlib.Omega.{arith}
 use Rattle.merge.proofs.Ways.{fits-both, fits-either, fits-interleaving, in-either, in-interleaving, row-first, row-second, masks-read, targets-both, targets-either, targets-interleaving}
 use Rattle.products.proofs.Numbers.{left-below, right-below}
-use Prim.Native.Nat.{_/_, _%_}
 use Rattle.merge.proofs.targets_of.Statement.{statement}
 use Rattle.merge.proofs.targets_of.Tie as tie
 

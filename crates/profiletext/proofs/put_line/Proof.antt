@@ -7,11 +7,10 @@ use native.Mathlib.Omega.{arith}
 use lib.ListN.{length, getD}
 use borrow.Author.Needs.{needs}
 use Rattle.text.proofs.Rooms.{exact, most, left, fits, more, two}
-use Rattle.ruletext.proofs.Lengths.{index-most, cells-room}
+use Rattle.ruletext.proofs.Lengths.{index-most, cells-most, cells-room}
 use Rattle.mappings.specs.Packing.{unpack}
 use Rattle.maptext.specs.MappingText.{mappingText}
 use Rattle.maptext.proofs.RoundTrip as maptext
-use Rattle.profiletext.proofs.Lengths.{cells-most}
 use Rattle.profiletext.proofs.put_line.Statement.{statement}
 use Rattle.profiletext.proofs.put_line.Tie as tie
 

@@ -1,6 +1,6 @@
 -- `put_rule` meets its contract. Assumes nothing.
 use native.Mathlib.Omega.{arith}
-use Rattle.ruletext.proofs.Copying.{whole}
+use Rattle.ruletext.proofs.Joining.{whole}
 use Rattle.ruletext.proofs.Lengths.{lines-most}
 use borrow.Author.Needs.{needs}
 use Rattle.ruletext.proofs.put_rule.Statement.{statement}

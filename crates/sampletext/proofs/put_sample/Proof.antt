@@ -5,7 +5,8 @@ use lib.ListN.{length}
 use lib.Seq.{length-take-le}
 use borrow.Author.Needs.{needs}
 use Rattle.text.proofs.Rooms.{most}
-use Rattle.sampletext.proofs.Lines.{line-text, line-none, line-refused, refused-most}
+use Rattle.answers.proofs.Lengths.{refused-short}
+use Rattle.sampletext.proofs.Lines.{line-text, line-none, line-refused}
 use Rattle.sampletext.proofs.put_sample.Statement.{statement}
 use Rattle.sampletext.proofs.put_sample.Tie as tie
 
@@ -68,7 +69,7 @@ returns-3 : tie.Need-returns-3
 returns-3 c =
     let s = c .before .before .before .before .before .before .before .before .before in
     let v = c .before .before .before .before .before .answer .given in
-    rw (← line-refused (s .args .word .now) (s .args .result) (v .0 .0) (v .1)) (most 1031 (refused-most (v .0 .0) (omega arith)) (c .before .before .put-refused .ensures))
+    rw (← line-refused (s .args .word .now) (s .args .result) (v .0 .0) (v .1)) (most 1031 (omega (arith, refused-short (v .0 .0))) (c .before .before .put-refused .ensures))
 
 pub put-sample-spec : {M : Type 1} → statement M
 put-sample-spec =

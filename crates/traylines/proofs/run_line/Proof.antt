@@ -16,32 +16,32 @@ run-empty-requires c κs = search needs
 enum-told-2 : tie.Need-enum-told-2
 enum-told-2 c = search needs
 
-sub-run-row : tie.Need-sub-run-row
-sub-run-row c = search (needs, row-inside)
+sub-run-file : tie.Need-sub-run-file
+sub-run-file c = search (needs, row-inside)
 
-part-run-row-start : tie.Need-part-run-row-start
-part-run-row-start c = search (needs, row-inside)
+part-run-file-start : tie.Need-part-run-file-start
+part-run-file-start c = search (needs, row-inside)
 
-part-run-row-end : tie.Need-part-run-row-end
-part-run-row-end c = search needs
+part-run-file-end : tie.Need-part-run-file-end
+part-run-file-end c = search needs
 
-run-row-requires : tie.Need-run-row-requires
-run-row-requires c κs = search needs
+run-file-requires : tie.Need-run-file-requires
+run-file-requires c κs = search needs
 
 enum-told-3 : tie.Need-enum-told-3
 enum-told-3 c = search needs
 
-sub-run-column : tie.Need-sub-run-column
-sub-run-column c = search (needs, column-inside)
+sub-run-file-2 : tie.Need-sub-run-file-2
+sub-run-file-2 c = search (needs, column-inside)
 
-part-run-column-start : tie.Need-part-run-column-start
-part-run-column-start c = search (needs, column-inside)
+part-run-file-start-2 : tie.Need-part-run-file-start-2
+part-run-file-start-2 c = search (needs, column-inside)
 
-part-run-column-end : tie.Need-part-run-column-end
-part-run-column-end c = search needs
+part-run-file-end-2 : tie.Need-part-run-file-end-2
+part-run-file-end-2 c = search needs
 
-run-column-requires : tie.Need-run-column-requires
-run-column-requires c κs = search needs
+run-file-requires-2 : tie.Need-run-file-requires-2
+run-file-requires-2 c κs = search needs
 
 enum-known-parsed : tie.Need-enum-known-parsed
 enum-known-parsed c = search needs
@@ -123,15 +123,15 @@ run-line-spec =
     enum-told
     run-empty-requires
     enum-told-2
-    sub-run-row
-    part-run-row-start
-    part-run-row-end
-    run-row-requires
+    sub-run-file
+    part-run-file-start
+    part-run-file-end
+    run-file-requires
     enum-told-3
-    sub-run-column
-    part-run-column-start
-    part-run-column-end
-    run-column-requires
+    sub-run-file-2
+    part-run-file-start-2
+    part-run-file-end-2
+    run-file-requires-2
     enum-known-parsed
     run-open-requires
     enum-known-parsed-2

@@ -1,22 +1,22 @@
--- `print_building` meets its contract. Assumes nothing.
+-- `put_building` meets its contract. Assumes nothing.
 use mathlib.Core.Path.{_≡_, ap}
 use Rattle.build.specs.declared.BuildAnswer.{BuildAnswer}
 use Rattle.ruletext.specs.RuleText.{ruleText, refusedText, answerText, textOf}
 use borrow.Author.Needs.{needs}
-use Rattle.ruletext.proofs.print_building.Statement.{statement}
-use Rattle.ruletext.proofs.print_building.Tie as tie
+use Rattle.ruletext.proofs.put_building.Statement.{statement}
+use Rattle.ruletext.proofs.put_building.Tie as tie
 
 enum-told : tie.Need-enum-told
 enum-told c = search needs
 
-print-built-requires : tie.Need-print-built-requires
-print-built-requires c κs = search needs
+put-rule-requires : tie.Need-put-rule-requires
+put-rule-requires c κs = search needs
 
 enum-known-answer : tie.Need-enum-known-answer
 enum-known-answer c = search needs
 
-print-refused-requires : tie.Need-print-refused-requires
-print-refused-requires c κs = search needs
+put-refused-requires : tie.Need-put-refused-requires
+put-refused-requires c κs = search needs
 
 same-length : tie.Need-same-length
 same-length c = search needs
@@ -25,7 +25,7 @@ returns : tie.Need-returns
 returns c =
     let b = c .before .before .before .before .before .before .before .before .args .building in
     let e : textOf b ≡ ruleText (b .built) = ap (λ (a : BuildAnswer). answerText a (b .built)) (c .before .before .before .before .enum-told .given .1) in
-    rw e (c .before .before .print-built .ensures)
+    rw e (c .before .before .put-rule .ensures)
 
 same-length-2 : tie.Need-same-length-2
 same-length-2 c = search needs
@@ -34,16 +34,16 @@ returns-2 : tie.Need-returns-2
 returns-2 c =
     let b = c .before .before .before .before .before .before .before .before .before .args .building in
     let e : textOf b ≡ refusedText (c .before .before .before .before .before .answer .given .0 .0) = ap (λ (a : BuildAnswer). answerText a (b .built)) (c .before .before .before .before .before .answer .given .1) in
-    rw e (c .before .before .print-refused .ensures)
+    rw e (c .before .before .put-refused .ensures)
 
-pub print-building-spec : {M : Type 1} → statement M
-print-building-spec =
+pub put-building-spec : {M : Type 1} → statement M
+put-building-spec =
     tie.close
     (tie.spec
     enum-told
-    print-built-requires
+    put-rule-requires
     enum-known-answer
-    print-refused-requires
+    put-refused-requires
     same-length
     returns
     same-length-2
