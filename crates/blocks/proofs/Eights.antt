@@ -13,7 +13,7 @@ use Rattle.base.proofs.Lists.{length-listFrom, is-listFrom, before-part, in-par
 use Rattle.base.proofs.Tests.{by-test}
 use Rattle.base.proofs.Totals.{greatest-same, greatest-split, greatest-rest}
 use Rattle.walks.proofs.Steps.{end-empty, looked-empty}
-use Rattle.lanes.specs.Offsets.{hopOf, rowEnd, rowLooked, rowsEnd, rowsLooked, RowTable, Rows}
+use Rattle.lanes.specs.mirror.Offsets.{hopOf, rowEnd, rowLooked, rowsEnd, rowsLooked, RowTable, Rows}
 use Rattle.lanes.proofs.Offsets.{hop-low, hop-stays}
 use Rattle.lanes.proofs.Rows.{rows-at}
 

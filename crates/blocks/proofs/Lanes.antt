@@ -19,9 +19,9 @@ use Rattle.base.proofs.Lists.{cell-of, same-list, each-stored}
 use Rattle.base.proofs.Tests.{by-test}
 use Rattle.base.proofs.Totals.{greatest-most, term-greatest}
 use Rattle.walks.proofs.Steps.{looked-empty}
-use Rattle.lanes.specs.Offsets.{hopOf, rowEnd, rowCount, rowLooked, rowsEnd, rowsCount, rowsLooked, Rows}
+use Rattle.lanes.specs.mirror.Offsets.{hopOf, rowEnd, rowCount, rowLooked, rowsEnd, rowsCount, rowsLooked, Rows}
 use Rattle.lanes.proofs.Rows.{rows-at}
-use Rattle.blocks.specs.Blocks.{pickOf, Shared}
+use Rattle.blocks.specs.mirror.Blocks.{pickOf, Shared}
 
 -- a row offset is that of one of the first j runs, or the empty set's
 abbrev pub Known : List ℕ → ℕ → ℕ → Type 0

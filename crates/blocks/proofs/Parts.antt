@@ -19,13 +19,13 @@ use lib.Seq.{take-add, take-length}
 use Rattle.base.proofs.Lists.{length-listFrom, cell-of, is-listFrom, same-list, zero-cells}
 use Rattle.base.proofs.Tests.{by-test}
 use Rattle.base.proofs.Totals.{greatest-most, term-greatest}
-use Rattle.walks.specs.Steps.{endBy, countBy, lookedBy}
+use Rattle.walks.specs.mirror.Steps.{endBy, countBy, lookedBy}
 use Rattle.walks.proofs.Steps.{end-empty, count-empty, count-most, looked-most, looked-empty, looked-some}
-use Rattle.lanes.specs.Offsets.{hopOf, rowEnd, rowCount, rowLooked, rowsEnd, rowsCount, rowsLooked, RowTable, Rows}
+use Rattle.lanes.specs.mirror.Offsets.{hopOf, rowEnd, rowCount, rowLooked, rowsEnd, rowsCount, rowsLooked, RowTable, Rows}
 use Rattle.lanes.proofs.Offsets.{hop-low, hop-stays, rows-low}
 use Rattle.lanes.proofs.Rows.{rows-at, ends-append, counts-append, looked-append}
 use Rattle.blocks.specs.declared.Walked.{Walked}
-use Rattle.blocks.specs.Blocks.{walkedOf, thenOf}
+use Rattle.blocks.specs.mirror.Blocks.{walkedOf, thenOf}
 
 pub walked-is : {a b c d : List ℕ} {m n : ℕ} → a ≡ b → c ≡ d → m ≡ n
     → _≡_ {A = Walked} (record { rows = a; counts = c; looked = m }) (record { rows = b; counts = d; looked = n })

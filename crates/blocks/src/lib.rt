@@ -3,8 +3,8 @@ ghost use mathlib.Core.Path.{_≡_};
 ghost use Prim.Native.Nat.{ℕ, _<_, _≤_, max};
 ghost use lib.ListN.{length, getD, replicate};
 ghost use Rattle.limits.specs.Limits.{mostStates, longestChunk};
-ghost use Rattle.lanes.specs.Offsets.{emptyRow, offsetsOf, rowEnd, rowCount, rowsEnd, rowsCount, rowsLooked, RowTable, Rows};
-ghost use Rattle.blocks.specs.Blocks.{walkedOf, thenOf, laneRoom, pickOf, InUse, Shared, Small};
+ghost use Rattle.lanes.specs.mirror.Offsets.{emptyRow, offsetsOf, rowEnd, rowCount, rowsEnd, rowsCount, rowsLooked, RowTable, Rows};
+ghost use Rattle.blocks.specs.mirror.Blocks.{walkedOf, thenOf, laneRoom, pickOf, InUse, Shared, Small};
 
 // Where 32 runs stand, as row offsets, what each of them has counted, and for how many bytes any of
 // them looked a successor up.

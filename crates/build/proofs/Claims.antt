@@ -11,9 +11,9 @@ use Rattle.automaton.specs.declared.Rule.{Rule}
 use Rattle.automaton.specs.Rules.{WellFormed}
 use Rattle.subsets.specs.Sets.{setsOf, tooMany, setCells}
 use Rattle.subsets.specs.Claims.{fits}
-use Rattle.subsets.specs.Singles.{singletonNumber}
+use Rattle.subsets.specs.mirror.Singles.{singletonNumber}
 use Rattle.delegates.proofs.Claims as delegates
-use Rattle.build.specs.Building.{builtOf}
+use Rattle.build.specs.mirror.Building.{builtOf}
 use Rattle.build.specs.Claims.{Claims}
 
 module _ (r : Rule) (good : WellFormed r) (f : fits r) where

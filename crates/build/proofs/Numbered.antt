@@ -9,15 +9,15 @@ use Rattle.automaton.specs.declared.Rule.{Rule}
 use Rattle.subsets.specs.declared.Numbering.the-variants.{Whole, Over}
 use Rattle.subsets.specs.declared.SetTable.{SetTable}
 use Rattle.subsets.specs.Sets.{setsOf, tooMany, setCells, nextCells}
-use Rattle.subsets.specs.Singles.{singlesOf}
-use Rattle.subsets.specs.Answer.{counted, refused, numberingMeans, Table, noTable, tableOutcome, tableOf}
+use Rattle.subsets.specs.mirror.Singles.{singlesOf}
+use Rattle.subsets.specs.mirror.Answer.{counted, refused, numberingMeans, Table, noTable, tableOutcome, tableOf}
 use Rattle.subsets.proofs.Tables.{told-counted, told-refused}
 use Rattle.delegates.specs.declared.Starts.{Starts}
-use Rattle.delegates.specs.Classes.{startsOf}
+use Rattle.delegates.specs.mirror.Classes.{startsOf}
 use Rattle.delegates.specs.Claims.{startsIn}
 use Rattle.build.specs.declared.BuildAnswer.the-variants.{Accepted, Refused}
 use Rattle.build.specs.declared.Built.{Built}
-use Rattle.build.specs.Building.{noBuilt, buildOutcome, buildOf}
+use Rattle.build.specs.mirror.Building.{noBuilt, buildOutcome, buildOf}
 
 module _ (ts : List ℕ) (n k : ℕ) (t : SetTable) (is : tableOutcome t ≡ tableOf ts n k) where
   -- a count: there are not too many, and the arrays are the rule's

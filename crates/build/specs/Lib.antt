@@ -1,3 +1,3 @@
 -- In the order in which to read them.
-pub mod Building
 pub mod Claims
+pub mod mirror

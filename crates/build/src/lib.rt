@@ -1,6 +1,6 @@
 // Builds a rule: its numbered sets, its next-set table, its delegates and the number of its starts.
 ghost use mathlib.Core.Path.{_≡_};
-ghost use Rattle.build.specs.Building.{noBuilt, buildOutcome, buildOf};
+ghost use Rattle.build.specs.mirror.Building.{noBuilt, buildOutcome, buildOf};
 use automaton::Rule;
 use subsets::Numbering;
 

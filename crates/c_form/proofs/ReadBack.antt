@@ -5,7 +5,7 @@ use mathlib.Core.Option.{Option, none, some}
 use Prim.Native.Nat.{ℕ}
 use Rattle.base.specs.Conditions.{on, firstOf}
 use Rattle.flags.proofs.Flags as flags
-use Rattle.calls.specs.Steps.{lacksRule}
+use Rattle.calls.specs.mirror.Steps.{lacksRule}
 use Rattle.forms.specs.declared.Form.{Form}
 use Rattle.forms.specs.declared.Table.{Table}
 use Rattle.forms.specs.Back.{backNumber, backBy, tableOf}

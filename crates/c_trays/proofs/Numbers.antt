@@ -8,7 +8,7 @@ use Rattle.trays.specs.declared.CallAnswer.{CallAnswer}
 use Rattle.trays.specs.declared.CallAnswer.the-variants as call
 use Rattle.trays.specs.declared.CallResult.{CallResult}
 use Rattle.trays.specs.Replies.{installMeans, callMeans}
-use Rattle.trays.specs.Steps.{installOutcome, callOutcome}
+use Rattle.trays.specs.mirror.Steps.{installOutcome, callOutcome}
 use Rattle.c_trays.specs.Numbers.{installShown, callShown}
 
 module _ (r : InstallResult) where

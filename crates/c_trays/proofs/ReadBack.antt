@@ -7,13 +7,13 @@ use Prim.Native.Nat.{ℕ}
 use Rattle.base.specs.Conditions.{firstOf}
 use Rattle.flags.proofs.Flags as flags
 use Rattle.automaton.specs.declared.Rule.{Rule}
-use Rattle.build.specs.Building.{builtOf}
+use Rattle.build.specs.mirror.Building.{builtOf}
 use Rattle.calls.specs.Calls.{installNumber}
 use Rattle.trays.specs.declared.Tray.{Tray}
 use Rattle.trays.specs.Replies.{Judgement, waiting, saysYes, saysNo, refusedWith, accepted, installed, refusalOf}
 use Rattle.trays.specs.Calls.{openConditions, deliverConditions, withdrawConditions}
 use Rattle.trays.specs.Boards.{widthOf, bandsOf, isEmpty, emptyBoard, filledAt, clearedAt}
-use Rattle.trays.specs.Steps.{lacksRule, lacksBoard, withBoard, outcomeBy, withRow, withColumn, installRowOf, installColumnOf, openOf, deliverOf, withdrawOf}
+use Rattle.trays.specs.mirror.Steps.{lacksRule, lacksBoard, withBoard, outcomeBy, withRow, withColumn, installRowOf, installColumnOf, openOf, deliverOf, withdrawOf}
 use Rattle.c_trays.specs.Numbers.{installShown, callShown, verdictShown, installReadBack, callReadBack, verdictReadBack}
 use Rattle.c_trays.specs.Claims.{Claims}
 

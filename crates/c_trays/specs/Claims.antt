@@ -7,7 +7,7 @@ use Rattle.flags.specs.Flags.{FlagLaw}
 use Rattle.automaton.specs.declared.Rule.{Rule}
 use Rattle.trays.specs.declared.Tray.{Tray}
 use Rattle.trays.specs.Replies.{Judgement, waiting, saysYes, saysNo, refusedWith, accepted, installed, refused, refusalOf}
-use Rattle.trays.specs.Steps.{Outcome, installRowOf, installColumnOf, openOf, deliverOf, withdrawOf}
+use Rattle.trays.specs.mirror.Steps.{Outcome, installRowOf, installColumnOf, openOf, deliverOf, withdrawOf}
 use Rattle.c_trays.specs.Numbers.{installShown, callShown, verdictShown, installReadBack, callReadBack, verdictReadBack}
 
 pub record Claims : Type 0 where

@@ -17,7 +17,7 @@ use Prim.Native.Nat.{ℕ}
 use lib.Dec.{eqb}
 use Rattle.flags.specs.Flags.{flagBy, refusedBy}
 use Rattle.trays.specs.Replies.{Judgement, waiting, saysYes, saysNo, refusedWith, Reply, accepted, installed, judged, refused, refusalOf}
-use Rattle.trays.specs.Steps.{Outcome}
+use Rattle.trays.specs.mirror.Steps.{Outcome}
 use Rattle.c_trays.specs.declared.InstallNumbers.{InstallNumbers}
 use Rattle.c_trays.specs.declared.CallNumbers.{CallNumbers}
 use Rattle.c_trays.specs.declared.VerdictNumbers.{VerdictNumbers}

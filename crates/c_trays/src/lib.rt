@@ -2,7 +2,7 @@
 // gets back.
 ghost use mathlib.Core.Path.{_≡_};
 ghost use Rattle.trays.specs.Replies.{verdictMeans};
-ghost use Rattle.trays.specs.Steps.{fresh, installOutcome, callOutcome, installRowOf, installColumnOf, openOf, deliverOf, withdrawOf, verdictOf};
+ghost use Rattle.trays.specs.mirror.Steps.{fresh, installOutcome, callOutcome, installRowOf, installColumnOf, openOf, deliverOf, withdrawOf, verdictOf};
 ghost use Rattle.c_trays.specs.Numbers.{installShown, callShown, kindOf, numberOf, verdictShown};
 use automaton::Rule;
 use trays::CallAnswer;

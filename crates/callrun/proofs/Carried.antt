@@ -19,7 +19,7 @@ use Rattle.fields.specs.Bytes.{parseBytes, Took}
 use Rattle.fields.proofs.Taking.{carries, not-bytes}
 use Rattle.calls.specs.declared.Judge.{Judge}
 use Rattle.calls.specs.Replies.{Reply}
-use Rattle.calls.specs.Steps.{installOf, loadOf, deliverOf}
+use Rattle.calls.specs.mirror.Steps.{installOf, loadOf, deliverOf}
 use Rattle.calltext.specs.Meaning.{malformed, loadBy, installBy, deliverBy}
 use Rattle.calltext.specs.Answers.{replied}
 use Rattle.callrun.specs.Running.{LineOutcome, replyOf, lineStep}

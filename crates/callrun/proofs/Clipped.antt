@@ -22,7 +22,7 @@ use Rattle.board.specs.Boards.{placesOf}
 use Rattle.calls.specs.declared.Judge.{Judge}
 use Rattle.calls.specs.Replies.{Reply}
 use Rattle.calls.specs.Calls.{loadNumber}
-use Rattle.calls.specs.Steps.{outcomeBy, lacksBoard, loadOf, deliverOf}
+use Rattle.calls.specs.mirror.Steps.{outcomeBy, lacksBoard, loadOf, deliverOf}
 use Rattle.calltext.specs.Meaning.{malformed, installBy}
 
 pub long-load : (f : List ℕ) → 32906 < length f → loadNumber f ≡ some 2

@@ -12,7 +12,7 @@ use Rattle.fields.specs.Bytes.{parseBytes}
 use Rattle.calls.specs.declared.Judge.{Judge}
 use Rattle.calls.specs.Calls.{Call, installs, loads, opens, delivers, withdraws, asksVerdict}
 use Rattle.calls.specs.Replies.{judged}
-use Rattle.calls.specs.Steps.{stepOf, reportOf}
+use Rattle.calls.specs.mirror.Steps.{stepOf, reportOf}
 use Rattle.calltext.specs.declared.Line.{Line}
 use Rattle.calltext.specs.declared.Line.the-variants.{Empty, Load, Install, Open, Deliver, Withdraw, Verdict, Malformed}
 use Rattle.calltext.specs.Meaning.{Meaning, again, call, malformed, loadBy, installBy, deliverBy, lineIn, lineMeans, bytesFrom, Parsed}

@@ -17,7 +17,7 @@ use lib.ListN.{length}
 use Rattle.calls.specs.declared.Judge.{Judge}
 use Rattle.calls.specs.Calls.{Call, installs, loads, opens, delivers, withdraws, asksVerdict}
 use Rattle.calls.specs.Replies.{Outcome}
-use Rattle.calls.specs.Steps.{fresh, stepOf}
+use Rattle.calls.specs.mirror.Steps.{fresh, stepOf}
 use Rattle.calltext.specs.Meaning.{Meaning, again, call, malformed}
 use Rattle.calltext.specs.Answers.{Response, began, replied, unread, answerMeans}
 use Rattle.callrun.specs.declared.LineRun.{LineRun}

@@ -9,7 +9,7 @@ use Rattle.ruleformat.specs.Refusals.{refusal}
 use Rattle.ruleformat.specs.Reader.{ruleOf}
 use Rattle.calls.specs.declared.Judge.{Judge}
 use Rattle.calls.specs.Calls.{loadNumber}
-use Rattle.calls.specs.Steps.{outcomeBy, withRule, installReply, installOf, loadOf}
+use Rattle.calls.specs.mirror.Steps.{outcomeBy, withRule, installReply, installOf, loadOf}
 use Rattle.calls.specs.Claims.{As-installing, LoadIs}
 use Rattle.calls.proofs.Conditions.{install-number, load-number, load-installs}
 

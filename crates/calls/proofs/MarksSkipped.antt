@@ -16,11 +16,11 @@ use Rattle.marks.proofs.Claims as marks
 use Rattle.base.proofs.Tests.{by-test}
 use Rattle.chunks.specs.declared.Runs.{Runs}
 use Rattle.chunks.specs.Chunks.{foreign}
-use Rattle.chunks.specs.Walks.{runMask, runsOf}
+use Rattle.chunks.specs.mirror.Walks.{runMask, runsOf}
 use Rattle.board.specs.Boards.{placesOf, comesLate, filledAt}
 use Rattle.calls.specs.declared.Judge.{Judge}
 use Rattle.calls.specs.Replies.{Reply, refused, delivered, Outcome}
-use Rattle.calls.specs.Steps.{lacksBoard, withBoard, outcomeBy, deliverOf}
+use Rattle.calls.specs.mirror.Steps.{lacksBoard, withBoard, outcomeBy, deliverOf}
 use Rattle.calls.specs.Claims.{MarksSkipped}
 
 -- the text of a text is itself

@@ -29,11 +29,11 @@ use Rattle.ruleformat.proofs.Claims as rulefile
 use Rattle.build.specs.declared.BuildAnswer.the-variants as build
 use Rattle.build.specs.declared.Built.{Built}
 use Rattle.build.specs.declared.BuildResult.{BuildResult}
-use Rattle.build.specs.Building.{accepted, refused, buildMeans, sets, builtOf, noBuilt, Outcome as Built-outcome, buildOutcome, buildOf}
+use Rattle.build.specs.mirror.Building.{accepted, refused, buildMeans, sets, builtOf, noBuilt, Outcome as Built-outcome, buildOutcome, buildOf}
 use Rattle.chunks.specs.declared.Runs.{Runs}
 use Rattle.marks.specs.Marks.{textOf}
 use Rattle.chunks.specs.Chunks.{foreign}
-use Rattle.chunks.specs.Walks.{runMask, runsOf}
+use Rattle.chunks.specs.mirror.Walks.{runMask, runsOf}
 use Rattle.board.specs.declared.Board.{Board}
 use Rattle.board.specs.Boards.{placesOf, isEmpty, comesLate, emptyBoard, filledAt, clearedAt, emptyPlaces, summedCount}
 use Rattle.calls.specs.declared.Judge.{Judge}
@@ -42,7 +42,7 @@ use Rattle.calls.specs.declared.Verdict.the-variants as verdict
 use Rattle.calls.specs.Replies as reply
 use Rattle.calls.specs.Calls.{installNumber, perByte, alone, reportBy}
 use Rattle.calls.specs.Replies.{Outcome}
-use Rattle.calls.specs.Steps.{fresh, withBoard, installOf, loadOf, openOf, deliverOf, withdrawOf, isYes, verdictOf}
+use Rattle.calls.specs.mirror.Steps.{fresh, withBoard, installOf, loadOf, openOf, deliverOf, withdrawOf, isYes, verdictOf}
 use Rattle.calls.proofs.Conditions.{over, install-number}
 use Rattle.calls.proofs.Loading.{load-is}
 

@@ -29,7 +29,7 @@ use Rattle.chunks.specs.Chunks.{foreign}
 use Rattle.calls.specs.declared.Judge.{Judge}
 use Rattle.calls.specs.Replies.{Judgement, waiting, yesWith, noWith, refusedWith, Reported, refused, refusalOf}
 use Rattle.calls.specs.Calls.{Call, installs, loads, delivers, installNumber, reportBy}
-use Rattle.calls.specs.Steps.{stepOf}
+use Rattle.calls.specs.mirror.Steps.{stepOf}
 
 -- (File and chunk are lent as `&[u8]`, which no function can write.)
 abbrev pub Unchanged : Type 0

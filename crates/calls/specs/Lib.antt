@@ -1,5 +1,5 @@
 -- In the order in which to read them.
 pub mod Replies
 pub mod Calls
-pub mod Steps
 pub mod Claims
+pub mod mirror

@@ -9,12 +9,12 @@ use Rattle.base.specs.Conditions.{firstOf}
 use Rattle.automaton.specs.declared.Rule.{Rule}
 use Rattle.ruleformat.specs.Refusals.{refusal}
 use Rattle.ruleformat.specs.Reader.{ruleOf, ruleBy, readOf}
-use Rattle.build.specs.Building.{builtOf}
+use Rattle.build.specs.mirror.Building.{builtOf}
 use Rattle.board.specs.Boards.{placesOf, isEmpty, comesLate, emptyBoard, filledAt, clearedAt}
 use Rattle.calls.specs.declared.Judge.{Judge}
 use Rattle.calls.specs.Replies.{Judgement, waiting, yesWith, noWith, refusedWith, Reported, accepted, installed, delivered}
 use Rattle.calls.specs.Calls.{installNumber, loadNumber, openConditions, deliverConditions, withdrawConditions}
-use Rattle.calls.specs.Steps.{lacksRule, lacksBoard, withBoard, outcomeBy, withRule, runsAt, installOf, loadOf, openOf, deliverOf, withdrawOf, reportOf}
+use Rattle.calls.specs.mirror.Steps.{lacksRule, lacksBoard, withBoard, outcomeBy, withRule, runsAt, installOf, loadOf, openOf, deliverOf, withdrawOf, reportOf}
 use Rattle.histories.specs.History.{reportIn}
 use Rattle.replay.specs.Records.{Recorded, calls, malformedAt, verdict, replayOf}
 use Rattle.capi.specs.Numbers.{readShown, installShown, openShown, deliverShown, withdrawShown, kindOf, numberOf, verdictShown, replayShown, readReadBack, installReadBack, openReadBack, deliverReadBack, withdrawReadBack, judgementBack, verdictReadBack, replayReadBack}

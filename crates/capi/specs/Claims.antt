@@ -6,7 +6,7 @@ use Prim.Native.Nat.{ℕ}
 use Rattle.automaton.specs.declared.Rule.{Rule}
 use Rattle.ruleformat.specs.Reader.{readOf}
 use Rattle.calls.specs.declared.Judge.{Judge}
-use Rattle.calls.specs.Steps.{installOf, loadOf, openOf, deliverOf, withdrawOf, reportOf}
+use Rattle.calls.specs.mirror.Steps.{installOf, loadOf, openOf, deliverOf, withdrawOf, reportOf}
 use Rattle.replay.specs.Records.{Recorded, replayOf}
 use Rattle.capi.specs.Numbers.{readShown, installShown, openShown, deliverShown, withdrawShown, verdictShown, replayShown, readReadBack, installReadBack, openReadBack, deliverReadBack, withdrawReadBack, verdictReadBack, replayReadBack}
 

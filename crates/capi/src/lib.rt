@@ -4,7 +4,7 @@ ghost use mathlib.Core.Path.{_≡_};
 ghost use Prim.Native.Nat.{_+_, _*_};
 ghost use Rattle.ruleformat.specs.Reader.{readOf};
 ghost use Rattle.calls.specs.Replies.{verdictMeans, reportMeans, installOutcome};
-ghost use Rattle.calls.specs.Steps.{fresh, installOf, loadOf, openOf, deliverOf, withdrawOf, reportOf};
+ghost use Rattle.calls.specs.mirror.Steps.{fresh, installOf, loadOf, openOf, deliverOf, withdrawOf, reportOf};
 ghost use Rattle.replay.specs.Records.{recordIn, replayOf};
 ghost use Rattle.capi.specs.Numbers.{readShown, installShown, openShown, deliverShown, withdrawShown, kindOf, numberOf, verdictShown, replayShown};
 use automaton::Rule;

@@ -25,13 +25,13 @@ use Rattle.subsets.specs.Sets.{tooMany, setCells, nextCells}
 use Rattle.subsets.specs.Claims.{sets, fits}
 use Rattle.subsets.proofs.Claims as subsets
 use Rattle.automaton.specs.Automaton.{Text}
-use Rattle.delegates.specs.Classes.{follow}
+use Rattle.delegates.specs.mirror.Classes.{follow}
 use Rattle.delegates.proofs.Acceptance.{mask-at, follow-law}
-use Rattle.build.specs.Building.{builtOf}
+use Rattle.build.specs.mirror.Building.{builtOf}
 use Rattle.build.proofs.Claims as build
 use Rattle.chunks.specs.Chunks.{counted, endSet, chunkCount, looked}
-use Rattle.walks.specs.Steps.{endBy, countBy, lookedBy}
-use Rattle.chunks.specs.Walks.{stepOf, walkEnd, walkCount, walkLooked, maskOf, runsOf}
+use Rattle.walks.specs.mirror.Steps.{endBy, countBy, lookedBy}
+use Rattle.chunks.specs.mirror.Walks.{stepOf, walkEnd, walkCount, walkLooked, maskOf, runsOf}
 use Rattle.chunks.proofs.Walks.{end-empty, count-empty, looked-empty}
 use Rattle.chunks.proofs.Counts.{counted-empty}
 use Rattle.chunks.proofs.Looked.{looked-none, looked-step, looked-runs}

@@ -19,11 +19,11 @@ use Rattle.base.proofs.Tests.{by-test, either}
 use Rattle.base.proofs.Totals.{total-same, greatest-same}
 use Rattle.masks.specs.Masks.{has}
 use Rattle.walks.proofs.Steps as walks
-use Rattle.lanes.specs.Offsets.{rowOf, offsetsOf, hopOf, rowEnd, rowCount, rowLooked, rowsEnd, rowsCount, rowsLooked, Rows}
+use Rattle.lanes.specs.mirror.Offsets.{rowOf, offsetsOf, hopOf, rowEnd, rowCount, rowLooked, rowsEnd, rowsCount, rowsLooked, Rows}
 use Rattle.lanes.proofs.Offsets.{row-table, hop-low, hop-stays}
 use Rattle.lanes.proofs.Rows.{rows-at}
 use Rattle.chunks.specs.declared.Runs.{Runs}
-use Rattle.chunks.specs.Walks.{walkEnd, walkCount, walkLooked, maskOf, runsOf, startRows, endMasks}
+use Rattle.chunks.specs.mirror.Walks.{walkEnd, walkCount, walkLooked, maskOf, runsOf, startRows, endMasks}
 use Rattle.chunks.proofs.Walks.{row-end, row-count, row-looked}
 
 -- ---- where the runs begin

@@ -19,7 +19,7 @@ use Rattle.masks.proofs.Laws.{no-member, or-cases, or-left, or-right, single-la
 use Rattle.delegates.specs.Alike.{delegateIn, ofDelegate, startSet}
 use Rattle.delegates.proofs.Alike.{said-some, some-said}
 use Rattle.chunks.specs.Chunks.{delegateSet, runSet}
-use Rattle.chunks.specs.Walks.{delegateMask, runMask}
+use Rattle.chunks.specs.mirror.Walks.{delegateMask, runMask}
 
 -- ---- one state more
 module _ (d : List ℕ) (q : ℕ) where

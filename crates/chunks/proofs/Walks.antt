@@ -14,9 +14,9 @@ use lib.ListN.{length}
 use Rattle.base.proofs.Tests.{by-test}
 use Rattle.delegates.proofs.Classes.{follow-set, follow-empty, follow-within}
 use Rattle.walks.proofs.Steps as walks
-use Rattle.lanes.specs.Offsets.{rowOf, offsetsOf, hopOf, rowEnd, rowCount, rowLooked}
+use Rattle.lanes.specs.mirror.Offsets.{rowOf, offsetsOf, hopOf, rowEnd, rowCount, rowLooked}
 use Rattle.lanes.proofs.Offsets.{hop-set, hop-empty}
-use Rattle.chunks.specs.Walks.{stepOf, walkEnd, walkCount, walkLooked}
+use Rattle.chunks.specs.mirror.Walks.{stepOf, walkEnd, walkCount, walkLooked}
 
 module _ (next : List ℕ) where
   low : (i b : ℕ) → stepOf next i b ≤ 512

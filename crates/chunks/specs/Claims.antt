@@ -16,12 +16,12 @@ use Rattle.automaton.specs.Successor.{after}
 use Rattle.subsets.specs.Claims.{fits}
 use Rattle.automaton.specs.Automaton.{Text}
 use Rattle.delegates.specs.Alike.{delegateIn, startCount, startSet}
-use Rattle.build.specs.Building.{builtOf}
-use Rattle.lanes.specs.Offsets.{rowOf, offsetsOf, rowCount}
+use Rattle.build.specs.mirror.Building.{builtOf}
+use Rattle.lanes.specs.mirror.Offsets.{rowOf, offsetsOf, rowCount}
 use Rattle.chunks.specs.Chunks.{foreign, counted, delegateSet, runSet, endSet, chunkCount, looked}
 use Rattle.chunks.specs.Taking.{Taken-exactly}
 use Rattle.chunks.specs.Counting.{HowMany, RunsOver, Counts}
-use Rattle.chunks.specs.Walks.{walkEnd, walkCount, maskOf, runsOf, delegateMask, runMask}
+use Rattle.chunks.specs.mirror.Walks.{walkEnd, walkCount, maskOf, runsOf, delegateMask, runMask}
 
 -- every run's set is empty after the text w
 abbrev pub AllEmpty : List ℕ → ℕ → List ℕ → Type 0

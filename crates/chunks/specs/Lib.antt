@@ -1,6 +1,6 @@
 -- In the order in which to read them.
 pub mod Chunks
 pub mod Taking
-pub mod Walks
 pub mod Counting
 pub mod Claims
+pub mod mirror

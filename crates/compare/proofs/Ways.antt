@@ -22,7 +22,7 @@ use Rattle.keys.specs.declared.Numbering.the-variants.{Whole, Over}
 use Rattle.keys.specs.Tables.{heldBy, tableOutcome, tableBy}
 use Rattle.searches.specs.declared.Spelled.{Spelled}
 use Rattle.searches.specs.Search.{firstWhere, wordTo}
-use Rattle.searches.specs.Tables.{Tabled, Spells}
+use Rattle.searches.specs.mirror.Tables.{Tabled, Spells}
 use Rattle.searches.proofs.Searched as searched
 use Rattle.compare.specs.declared.Which.{Which}
 use Rattle.compare.specs.Compared as compared

@@ -29,10 +29,10 @@ use Rattle.automaton.specs.Successor.{successor, after}
 use Rattle.automaton.proofs.Laws.{after-law, after-empty}
 use Rattle.subsets.specs.Sets.{tooMany, nextSet, setCells, nextCells}
 use Rattle.subsets.specs.Claims.{Claims as SubsetsClaims, sets, next, fits}
-use Rattle.subsets.specs.Singles.{singletonNumber, singlesOf}
+use Rattle.subsets.specs.mirror.Singles.{singletonNumber, singlesOf}
 use Rattle.subsets.proofs.Singles.{single-named}
 use Rattle.delegates.specs.Alike.{AcceptsFrom, Alike, Live, Lowest, Delegate, delegateCell, Merged}
-use Rattle.delegates.specs.Classes.{follow, singleAt, accepted, AlikeSets, alikeTo, liveOf, lowestOf, delegateOf}
+use Rattle.delegates.specs.mirror.Classes.{follow, singleAt, accepted, AlikeSets, alikeTo, liveOf, lowestOf, delegateOf}
 use Rattle.delegates.specs.Claims.{startsIn, liveIn}
 use Rattle.delegates.proofs.Tests.{Least, le-by}
 use Rattle.delegates.proofs.Classes.{final-set, final-empty, follow-set, follow-empty, telling, near-alike}

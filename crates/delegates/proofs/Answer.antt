@@ -7,7 +7,7 @@ use Rattle.masks.specs.declared.StateNumber.{StateNumber}
 use Rattle.delegates.specs.declared.DelegateAnswer.{DelegateAnswer}
 use Rattle.delegates.specs.declared.DelegateAnswer.the-variants.{State, None}
 use Rattle.delegates.specs.Alike.{delegateIn}
-use Rattle.delegates.specs.Answer.{delegateMeans}
+use Rattle.delegates.specs.mirror.Answer.{delegateMeans}
 use Rattle.delegates.proofs.Alike.{some-said}
 
 module _ (d : List ℕ) (q : ℕ) (r : DelegateAnswer) (is : delegateMeans r ≡ delegateIn d q) where

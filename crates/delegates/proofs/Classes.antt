@@ -24,8 +24,8 @@ use Rattle.base.proofs.Lists.{cell-of, is-listFrom}
 use Rattle.base.proofs.Tests.{by-test, same-truth}
 use Rattle.masks.specs.Masks.{shares}
 use Rattle.automaton.specs.Automaton.{Text}
-use Rattle.delegates.specs.Classes.{final, follow, accepted, AlikeSets, every, firstFrom, alikeTo}
-use Rattle.delegates.specs.Refinement.{classOf, sameIn, leastOf, roundOf, changes, classesOf}
+use Rattle.delegates.specs.mirror.Classes.{final, follow, accepted, AlikeSets, every, firstFrom, alikeTo}
+use Rattle.delegates.specs.mirror.Refinement.{classOf, sameIn, leastOf, roundOf, changes, classesOf}
 use Rattle.delegates.proofs.Tests.{Least, le-by, equal, every-law, fails, found, least-by, one-least}
 use Rattle.delegates.proofs.Kept.{kept, kept-most, kept-less}
 

@@ -13,7 +13,7 @@ use Rattle.base.proofs.Lists.{length-listFrom, cell-of}
 use Rattle.base.proofs.Tests.{by-test}
 use Rattle.delegates.specs.declared.Starts.{Starts}
 use Rattle.delegates.specs.Alike.{startCount}
-use Rattle.delegates.specs.Classes.{AlikeSets, firstFrom, alikeTo, singleAt, lowestOf, delegateOf, startsOf}
+use Rattle.delegates.specs.mirror.Classes.{AlikeSets, firstFrom, alikeTo, singleAt, lowestOf, delegateOf, startsOf}
 use Rattle.delegates.proofs.Tests.{Least, found, least-by}
 use Rattle.delegates.proofs.Classes.{near-alike, alike-near}
 

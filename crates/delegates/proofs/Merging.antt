@@ -18,8 +18,8 @@ use Rattle.base.specs.Lists.{listFrom}
 use Rattle.base.proofs.Lists.{is-listFrom, zero-cells, stored}
 use Rattle.base.proofs.Tests.{by-test, one-most}
 use Rattle.delegates.specs.Alike.{startCount}
-use Rattle.delegates.specs.Classes.{alikeTo, singleAt, liveOf, lowestOf, delegateOf, startsOf}
-use Rattle.delegates.specs.Refinement.{classOf, firstInClass, cellIn, classesOf}
+use Rattle.delegates.specs.mirror.Classes.{alikeTo, singleAt, liveOf, lowestOf, delegateOf, startsOf}
+use Rattle.delegates.specs.mirror.Refinement.{classOf, firstInClass, cellIn, classesOf}
 use Rattle.delegates.proofs.Tests.{first-same}
 use Rattle.delegates.proofs.Classes.{class-test}
 use Rattle.delegates.proofs.Merged.{cell}

@@ -14,7 +14,7 @@ use borrow.Author.Count.{below-none, below-more}
 use borrow.Author.Tests.{leb-true, leb-false}
 use lib.Dec.{leb}
 use Rattle.base.proofs.Tests.{by-test}
-use Rattle.delegates.specs.Classes.{every, firstFrom}
+use Rattle.delegates.specs.mirror.Classes.{every, firstFrom}
 
 pub record Least (R : ℕ → ℕ → Type 0) (lo s u : ℕ) : Type 0 where
   pub from : lo ≤ u

@@ -13,10 +13,10 @@ use Rattle.automaton.specs.Automaton.{Automaton}
 use Rattle.automaton.specs.Rules.{automatonOf, WellFormed}
 use Rattle.subsets.specs.Sets.{setsOf, setCells, nextCells}
 use Rattle.subsets.specs.Claims.{fits}
-use Rattle.subsets.specs.Singles.{singletonNumber, singlesOf}
+use Rattle.subsets.specs.mirror.Singles.{singletonNumber, singlesOf}
 use Rattle.delegates.specs.declared.Starts.{Starts}
 use Rattle.delegates.specs.Alike.{Alike, Live, Delegate, delegateIn, Merged}
-use Rattle.delegates.specs.Classes.{AlikeSets, alikeTo, liveOf, startsOf}
+use Rattle.delegates.specs.mirror.Classes.{AlikeSets, alikeTo, liveOf, startsOf}
 
 -- the delegates and the number of starts of a rule, by the arrays of its numbered sets
 unfoldable pub startsIn : Rule → Starts

@@ -6,9 +6,9 @@ ghost use Prim.Native.Nat.{_≤_, _<_};
 ghost use lib.ListN.{length};
 ghost use Rattle.limits.specs.Limits.{mostStates, mostSymbols, emptySet, mostClasses};
 ghost use Rattle.delegates.specs.Alike.{delegateIn};
-ghost use Rattle.delegates.specs.Answer.{delegateMeans};
-ghost use Rattle.delegates.specs.Classes.{final, follow as followOf, singleAt, startsOf};
-ghost use Rattle.delegates.specs.Refinement.{sameIn, leastOf, roundOf, changes, classesOf, firstInClass, cellIn};
+ghost use Rattle.delegates.specs.mirror.Answer.{delegateMeans};
+ghost use Rattle.delegates.specs.mirror.Classes.{final, follow as followOf, singleAt, startsOf};
+ghost use Rattle.delegates.specs.mirror.Refinement.{sameIn, leastOf, roundOf, changes, classesOf, firstInClass, cellIn};
 use masks::StateNumber;
 use subsets::SetNumber;
 

@@ -11,16 +11,16 @@ use lib.ListN.{length, getD, set}
 use Rattle.base.proofs.Tests.{by-test, zero-one}
 use Rattle.chunks.specs.declared.Runs.{Runs}
 use Rattle.chunks.specs.Chunks.{foreign}
-use Rattle.chunks.specs.Walks.{runMask, runsOf}
+use Rattle.chunks.specs.mirror.Walks.{runMask, runsOf}
 use Rattle.marks.specs.Marks.{textOf}
 use Rattle.board.specs.Boards.{placesOf, comesLate, rowSet, filledAt}
 use Rattle.calls.specs.declared.DeliverAnswer.the-variants.{Accepted, Refused}
 use Rattle.calls.specs.declared.Judge.{Judge}
 use Rattle.calls.specs.Replies.{refused, delivered, deliverMeans, Outcome}
-use Rattle.calls.specs.Steps.{withBoard, deliverOf}
+use Rattle.calls.specs.mirror.Steps.{withBoard, deliverOf}
 use Rattle.calls.proofs.Ways as ways
 use Rattle.deliveries.specs.declared.Attempt.{Attempt}
-use Rattle.deliveries.specs.Attempts.{Attempted, attemptMeans, refusedWith, ranTo, attemptOf}
+use Rattle.deliveries.specs.mirror.Attempts.{Attempted, attemptMeans, refusedWith, ranTo, attemptOf}
 
 module _ (sets next singles : List ℕ) (mask k : ℕ) (late : Bool) (t : List ℕ) (f : Bool) (has : f ≡ foreign t k) where
   pub foreign-text : f ≡ true → (r : Attempted) → r ≡ refusedWith 13 → r ≡ attemptOf sets next singles mask k late t

@@ -5,7 +5,7 @@ ghost use Prim.Native.Nat.{_≤_};
 ghost use lib.ListN.{length};
 ghost use Rattle.limits.specs.Limits.{longestChunk};
 ghost use Rattle.marks.specs.Marks.{textOf};
-ghost use Rattle.deliveries.specs.Attempts.{refusedWith, attemptMeans, attemptOf};
+ghost use Rattle.deliveries.specs.mirror.Attempts.{refusedWith, attemptMeans, attemptOf};
 use calls::DeliverAnswer;
 use chunks::Runs;
 

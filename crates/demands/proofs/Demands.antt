@@ -47,7 +47,7 @@ use Rattle.executions.proofs.Executions.{execution-law}
 use Rattle.calls.specs.declared.Judge.{Judge}
 use Rattle.calls.specs.Replies.{Reply, yesWith, refusalOf}
 use Rattle.calls.specs.Calls.{Call, loads, opens, delivers, asksVerdict}
-use Rattle.calls.specs.Steps.{stepOf}
+use Rattle.calls.specs.mirror.Steps.{stepOf}
 use Rattle.calls.proofs.Refusing as refusing
 use Rattle.histories.specs.Method.{Method}
 use Rattle.histories.specs.Functions.{judgeLibrary}

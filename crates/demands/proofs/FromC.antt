@@ -5,16 +5,17 @@
 --   Laws; FlagLaw                 each field of them, the kinds       capi/, flags/specs
 --   RefusedFromC, NoVerdictFromC  what a refused call gives C         demands/specs/Shown
 --   MayBegin .. MayRead           what contracts allow                demands/specs/Functions
---   installOf .. reportOf         the outcome of a call on any state  calls/specs/Steps
+--   installOf .. reportOf         the outcome of a call on any state  calls/specs/mirror/Steps
 --   readOf f                      reading a file                      ruleformat/specs/Reader
 --
 -- Assumes nothing.
 -- All that they rest on stands in these files of specs/ (tests/believed):
 --   base Conditions, Lists, Totals; limits Limits; flags Flags; masks Masks; automaton Rules,
 --   Successor; rulecheck Checking; ruleformat Format, Reader, Refusals; numbering Numbering;
---   subsets Sets, Singles; delegates Alike, Claims, Classes; build Building; marks Marks; walks
---   Steps; chunks Chunks, Walks; board Boards; joins Joining; calls Calls, Replies, Steps; replay
---   Records; capi Laws, Numbers; demands Functions, Shown.
+--   subsets Sets, mirror/Singles; delegates Alike, Claims, mirror/Classes; build mirror/Building;
+--   marks Marks; walks mirror/Steps; chunks Chunks, mirror/Walks; board Boards; joins Joining;
+--   calls Calls, Replies, mirror/Steps; replay Records; capi Laws, Numbers; demands Functions,
+--   Shown.
 use mathlib.Core.Path.{_≡_}
 use mathlib.Core.Logic.{_↔_}
 use mathlib.Core.List.{List}
@@ -24,7 +25,7 @@ use denote.Ref.{RefT}
 use Rattle.automaton.specs.declared.Rule.{Rule}
 use Rattle.ruleformat.specs.Reader.{readOf}
 use Rattle.calls.specs.declared.Judge.{Judge}
-use Rattle.calls.specs.Steps.{fresh, installOf, openOf, deliverOf, withdrawOf, reportOf, loadOf}
+use Rattle.calls.specs.mirror.Steps.{fresh, installOf, openOf, deliverOf, withdrawOf, reportOf, loadOf}
 use Rattle.capi.specs.declared.ReadNumbers.{ReadNumbers}
 use Rattle.capi.specs.declared.InstallNumbers.{InstallNumbers}
 use Rattle.capi.specs.declared.OpenNumbers.{OpenNumbers}

@@ -8,7 +8,7 @@ use Rattle.executions.specs.Executions.{Meets}
 use Rattle.calls.specs.declared.Judge.{Judge}
 use Rattle.calls.specs.Replies.{Reply, judged}
 use Rattle.calls.specs.Calls.{Call, installs, loads, opens, delivers, withdraws, asksVerdict}
-use Rattle.calls.specs.Steps.{installOf, loadOf, openOf, deliverOf, withdrawOf, reportOf, stepOf}
+use Rattle.calls.specs.mirror.Steps.{installOf, loadOf, openOf, deliverOf, withdrawOf, reportOf, stepOf}
 use Rattle.histories.specs.Claims.{judgeMachine}
 use Rattle.histories.proofs.Refinement.{lent, parts, whole}
 use Rattle.replay.specs.Records.{recordIn, replayOf}

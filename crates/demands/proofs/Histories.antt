@@ -3,7 +3,7 @@
 -- what is answered, which the pages of the requests use too; and then in other words, so that none
 -- of them rests on its own text. To believe the theorems, read the definitions that they name:
 --
---   stepOf j c                     the outcome of a call on any state   calls/specs/Steps
+--   stepOf j c                     the outcome of a call on any state   calls/specs/mirror/Steps
 --   judgeAfter h, repliesTo h      the outcome of a list of calls       histories/specs/Claims
 --   standing, verdictIn, answerOf  what 01 says of a list alone         histories/specs/History
 --   Accepted-exactly, Refused-..   which calls, with which number       histories/specs/Conditions
@@ -17,11 +17,12 @@
 -- All that they rest on stands in these files of specs/ (tests/believed):
 --   base Conditions, Lists, Options, Totals; limits Limits; masks Masks; automaton Automaton,
 --   Rules, Successor; rulecheck Checking, Claims; ruleformat Format, Language, Reader, Refusals;
---   numbering Claims, Numbering, Texts; subsets Claims, Sets, Singles; delegates Alike, Claims,
---   Classes; build Building; marks Marks; walks Steps; chunks Chunks, Counting, Walks; board
---   Boards; joins Joining; calls Calls, Claims, Replies, Steps; executions Executions, Last;
---   histories Claims, Conditions, Empties, Functions, History, Last, Method; transcripts
---   Agreement, Runs, Standing; capi Numbers; demands Functions.
+--   numbering Claims, Numbering, Texts; subsets Claims, Sets, mirror/Singles; delegates Alike,
+--   Claims, mirror/Classes; build mirror/Building; marks Marks; walks mirror/Steps; chunks
+--   Chunks, Counting, mirror/Walks; board Boards; joins Joining; calls Calls, Claims, Replies,
+--   mirror/Steps; executions Executions, Last; histories Claims, Conditions, Empties, Functions,
+--   History, Last, Method; transcripts Agreement, Runs, Standing; capi Numbers; demands
+--   Functions.
 use mathlib.Core.Path.{_≡_, _∙_}
 use mathlib.Core.Logic.{_↔_, _⊎_, ⊎-elim}
 use mathlib.Core.Bool.{true, false}
@@ -42,12 +43,12 @@ use Rattle.automaton.proofs.Claims as automaton
 use Rattle.ruleformat.specs.Reader.{ruleOf}
 use Rattle.ruleformat.specs.Language.{automatonIn}
 use Rattle.delegates.specs.Claims.{startsIn}
-use Rattle.build.specs.Building.{builtOf}
+use Rattle.build.specs.mirror.Building.{builtOf}
 use Rattle.board.specs.Boards.{held, isEmpty, summedCount}
 use Rattle.calls.specs.declared.Judge.{Judge}
 use Rattle.calls.specs.Replies.{waiting, yesWith, noWith, refusedWith, Reply}
 use Rattle.calls.specs.Calls.{Call, installNumber, loadNumber, asksVerdict}
-use Rattle.calls.specs.Steps.{isYes, stepOf}
+use Rattle.calls.specs.mirror.Steps.{isYes, stepOf}
 use Rattle.histories.specs.History.{ruleThere, ruleIn, boardIn, standing, standingText, endAt, countAt, emptiesIn, summedIn, yesIn, textIn, verdictIn, answersTo}
 use Rattle.histories.specs.Method.{Method}
 use Rattle.histories.specs.Last.{LastRule, LastBoard, LastRevision, LastStanding}

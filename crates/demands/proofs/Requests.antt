@@ -17,11 +17,11 @@
 -- All that they rest on stands in these files of specs/ (tests/believed):
 --   base Conditions, Lists, Options, Totals; limits Limits; masks Masks; automaton Automaton,
 --   Rules, Successor; rulecheck Checking; ruleformat Claims, Format, Language, Reader, Refusals;
---   numbering Numbering; subsets Sets, Singles; delegates Alike, Claims, Classes, Fewest; build
---   Building; marks Marks; walks Steps; chunks Chunks, Counting, Walks; board Boards; joins
---   Former, Joining; calls Calls, Claims, Replies, Steps; executions Executions; histories
---   Claims, CountBound, Fewest, FormerStarts, History, Orders, Revisions; transcripts Runs,
---   Standing.
+--   numbering Numbering; subsets Sets, mirror/Singles; delegates Alike, Claims, Fewest,
+--   mirror/Classes; build mirror/Building; marks Marks; walks mirror/Steps; chunks Chunks,
+--   Counting, mirror/Walks; board Boards; joins Former, Joining; calls Calls, Claims, Replies,
+--   mirror/Steps; executions Executions; histories Claims, CountBound, Fewest, FormerStarts,
+--   History, Orders, Revisions; transcripts Runs, Standing.
 use mathlib.Core.Path.{_≡_, refl}
 use mathlib.Core.Logic.{_↔_, _⊎_}
 use mathlib.Core.Bool.{true}
@@ -44,7 +44,7 @@ use Rattle.board.specs.Boards.{lastAt, summedBytes}
 use Rattle.calls.specs.declared.Judge.{Judge}
 use Rattle.calls.specs.Replies.{waiting, yesWith, noWith, refusedWith, delivered}
 use Rattle.calls.specs.Calls.{Call, installNumber, delivers}
-use Rattle.calls.specs.Steps.{reportOf}
+use Rattle.calls.specs.mirror.Steps.{reportOf}
 use Rattle.calls.specs.Claims.{LoadIs, Divided, ThreeZeros, ForeignByte, MarksSkipped}
 use Rattle.chunks.specs.Chunks.{foreign}
 use Rattle.calls.proofs.Loading as calls-loading

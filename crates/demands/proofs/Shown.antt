@@ -13,7 +13,7 @@ use Rattle.board.specs.Boards.{placesOf, isEmpty, comesLate, emptyBoard, filled
 use Rattle.calls.specs.declared.Judge.{Judge}
 use Rattle.calls.specs.Replies.{Judgement, Reply, accepted, delivered, refused, refusalOf}
 use Rattle.calls.specs.Calls.{installNumber, loadNumber, openConditions, deliverConditions, withdrawConditions, reportBy}
-use Rattle.calls.specs.Steps.{fresh, lacksRule, lacksBoard, withBoard, outcomeBy, withRule, installReply, runsAt, installOf, loadOf, openOf, deliverOf, withdrawOf, reportOf}
+use Rattle.calls.specs.mirror.Steps.{fresh, lacksRule, lacksBoard, withBoard, outcomeBy, withRule, installReply, runsAt, installOf, loadOf, openOf, deliverOf, withdrawOf, reportOf}
 use Rattle.histories.proofs.Refinement.{lent}
 use Rattle.capi.specs.declared.InstallNumbers.{InstallNumbers}
 use Rattle.capi.specs.declared.OpenNumbers.{OpenNumbers}

@@ -19,7 +19,7 @@ use Rattle.linetexts.proofs.Functions.{all-written}
 use Rattle.linetexts.proofs.Beginnings.{begun, keeps-lines}
 use Rattle.calls.specs.declared.Judge.{Judge}
 use Rattle.histories.proofs.Refinement.{lent}
-use Rattle.calls.specs.Steps.{fresh}
+use Rattle.calls.specs.mirror.Steps.{fresh}
 use Rattle.stream.specs.Texts.{callLines, rightText, callList}
 use Rattle.stream.proofs.Claimed as stream
 use Rattle.demands.specs.TextFunctions.{pendingOf, MayGather, MayFinish}

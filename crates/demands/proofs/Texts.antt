@@ -21,13 +21,13 @@
 -- All that they rest on stands in these files of specs/ (tests/believed):
 --   base Conditions, Lists, Options, Totals; limits Limits; text Numerals, Writing; answers
 --   Answers; masks Masks; automaton Rules, Successor; rulecheck Checking; ruleformat Format,
---   Reader, Refusals, Writing; numbering Numbering; subsets Sets, Singles; delegates Alike,
---   Claims, Classes; build Building; marks Marks; walks Steps; chunks Chunks, Walks; board
---   Boards; joins Joining; calls Calls, Replies, Steps; histories History; fields Bytes, Claims,
---   Numbers, Worked; lines Claims, Splitting; packed Claims, Packed; calltext Answers, Claims,
---   Meaning, Worked; callrun Running; longlines Holding; linetexts Beginnings, Claims, Feeding,
---   Functions, Lists, Parts; stream Texts, Worked; replay Claims, Records; capi Numbers; demands
---   Functions, TextFunctions.
+--   Reader, Refusals, Writing; numbering Numbering; subsets Sets, mirror/Singles; delegates
+--   Alike, Claims, mirror/Classes; build mirror/Building; marks Marks; walks mirror/Steps; chunks
+--   Chunks, mirror/Walks; board Boards; joins Joining; calls Calls, Replies, mirror/Steps;
+--   histories History; fields Bytes, Claims, Numbers, Worked; lines Claims, Splitting; packed
+--   Claims, Packed; calltext Answers, Claims, Meaning, Worked; callrun Running; longlines
+--   Holding; linetexts Beginnings, Claims, Feeding, Functions, Lists, Parts; stream Texts,
+--   Worked; replay Claims, Records; capi Numbers; demands Functions, TextFunctions.
 use mathlib.Core.Path.{_≡_}
 use mathlib.Core.Logic.{_↔_}
 use mathlib.Core.Bool.{false}
@@ -41,7 +41,7 @@ use denote.Ref.{RefT}
 use Rattle.limits.specs.Limits.{lineRoom}
 use Rattle.calls.specs.declared.Judge.{Judge}
 use Rattle.calls.specs.Calls.{Call}
-use Rattle.calls.specs.Steps.{fresh}
+use Rattle.calls.specs.mirror.Steps.{fresh}
 use Rattle.lines.specs.Splitting.{linesOf}
 use Rattle.lines.specs.Claims.{NoFeed}
 use Rattle.lines.proofs.Claims as lines

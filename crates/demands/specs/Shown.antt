@@ -13,7 +13,7 @@ use Prim.Native.Nat.{ℕ}
 use Rattle.automaton.specs.declared.Rule.{Rule}
 use Rattle.calls.specs.declared.Judge.{Judge}
 use Rattle.calls.specs.Replies.{waiting, refusedWith, refusalOf}
-use Rattle.calls.specs.Steps.{installOf, loadOf, openOf, deliverOf, withdrawOf, verdictOf}
+use Rattle.calls.specs.mirror.Steps.{installOf, loadOf, openOf, deliverOf, withdrawOf, verdictOf}
 use Rattle.capi.specs.declared.InstallNumbers.{InstallNumbers}
 use Rattle.capi.specs.declared.OpenNumbers.{OpenNumbers}
 use Rattle.capi.specs.declared.DeliverNumbers.{DeliverNumbers}

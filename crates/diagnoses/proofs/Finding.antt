@@ -10,7 +10,7 @@ use lib.Dec.{eqb}
 use lib.ListN.{getD}
 use borrow.Author.Tests.{eq-eqb, ne-eqb, eqb-true, eqb-false}
 use Rattle.base.proofs.Tests.{by-test}
-use Rattle.chunks.specs.Walks.{delegateMask}
+use Rattle.chunks.specs.mirror.Walks.{delegateMask}
 use Rattle.joins.specs.Joining.{joinUpTo}
 use Rattle.board.specs.Boards.{placesOf}
 use Rattle.calls.specs.declared.Judge.{Judge}

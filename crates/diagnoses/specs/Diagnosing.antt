@@ -15,11 +15,11 @@ use mathlib.Core.Bool.{Bool, cond}
 use mathlib.Core.List.{List}
 use Prim.Native.Nat.{ℕ, zero, suc}
 use lib.Dec.{eqb}
-use Rattle.chunks.specs.Walks.{delegateMask}
+use Rattle.chunks.specs.mirror.Walks.{delegateMask}
 use Rattle.board.specs.Boards.{placesOf, isEmpty}
 use Rattle.joins.specs.Joining.{joinUpTo}
 use Rattle.calls.specs.declared.Judge.{Judge}
-use Rattle.calls.specs.Steps.{lacksBoard}
+use Rattle.calls.specs.mirror.Steps.{lacksBoard}
 use Rattle.diagnoses.specs.declared.Diagnosis.{Diagnosis}
 use Rattle.diagnoses.specs.declared.Diagnosis.the-variants.{Refused, Lost, Open}
 

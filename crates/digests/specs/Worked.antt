@@ -12,7 +12,7 @@ use Prim.Native.Nat.{ℕ}
 use lib.ListN.{replicate, set}
 use Rattle.limits.specs.Limits.{emptySet}
 use Rattle.build.specs.declared.Built.{Built}
-use Rattle.build.specs.Building.{noBuilt}
+use Rattle.build.specs.mirror.Building.{noBuilt}
 use Rattle.digests.specs.Digests.{digestOf}
 
 -- the row of a set that leads to x by symbol 0 and to y by symbol 1

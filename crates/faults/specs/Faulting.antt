@@ -37,7 +37,7 @@ use Rattle.live.specs.Live.{liveOf}
 use Rattle.trays.specs.declared.Tray.{Tray}
 use Rattle.trays.specs.Rows.{rowsUpTo, columnOf, accepted}
 use Rattle.trays.specs.Boards.{widthOf, bandsOf, bandRows, isEmpty}
-use Rattle.trays.specs.Steps.{lacksBoard}
+use Rattle.trays.specs.mirror.Steps.{lacksBoard}
 use Rattle.faults.specs.declared.TrayFault.{TrayFault}
 use Rattle.faults.specs.declared.TrayFault.the-variants.{Refused, Row, Column, Short, Open}
 use Rattle.faults.specs.declared.Found.{Found}

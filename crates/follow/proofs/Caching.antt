@@ -14,7 +14,7 @@ use Rattle.automaton.specs.Rules.{targetMask}
 use Rattle.automaton.specs.Successor.{successor}
 use Rattle.automaton.proofs.Laws.{successor-foreign}
 use Rattle.follow.specs.declared.Here.{Here}
-use Rattle.follow.specs.Cache.{Cached, Stepped}
+use Rattle.follow.specs.mirror.Cache.{Cached, Stepped}
 use Rattle.follow.proofs.Steps.{step-idle, step-symbol}
 
 zero-at : (c : ℕ) → c < 976 → _≡_ {A = ℕ} (getD (replicate 976 0) c 0) 0

@@ -1,5 +1,5 @@
 -- In the order in which to read them.
 pub mod Following
-pub mod Cache
 pub mod Worked
 pub mod Claims
+pub mod mirror

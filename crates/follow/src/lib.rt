@@ -8,7 +8,7 @@ ghost use lib.ListN.{length};
 ghost use Rattle.limits.specs.Limits.{longestChunk};
 ghost use Rattle.marks.specs.Marks.{textOf};
 ghost use Rattle.chunks.specs.Chunks.{foreign};
-ghost use Rattle.follow.specs.Cache.{cacheRows, Cached, Stepped};
+ghost use Rattle.follow.specs.mirror.Cache.{cacheRows, Cached, Stepped};
 ghost use Rattle.follow.specs.Following.{nextBy, wayOf, wayOutcome, refusedFollow, followOutcome, followOf, lentOf, followByOf, prepareOutcome, prepareOf};
 use automaton::Rule;
 use rulecheck::CheckAnswer;

@@ -9,7 +9,7 @@ ghost use Rattle.base.specs.Lists.{listFrom};
 ghost use Rattle.limits.specs.Limits.{mostSymbols, mostSets, emptySet, tableCells};
 ghost use Rattle.forms.specs.Form.{howMany, keptAt};
 ghost use Rattle.forms.specs.Back.{notBelow, someNotBelow, firstLacks, strayBits, lacking, someLacking, badNumbers, backMeans, backNumber, backCell, noTable, backOutcome, backOf};
-ghost use Rattle.formback.specs.Parts.{formBy};
+ghost use Rattle.formback.specs.mirror.Parts.{formBy};
 use forms::BackAnswer;
 use forms::BackResult;
 use forms::Form;

@@ -7,10 +7,10 @@ use Prim.Native.Nat.{ℕ}
 use Rattle.base.proofs.Tests.{zero-one}
 use Rattle.automaton.specs.declared.Rule.{Rule}
 use Rattle.ruleformat.specs.Reader.{ruleOf}
-use Rattle.build.specs.Building.{builtOf}
+use Rattle.build.specs.mirror.Building.{builtOf}
 use Rattle.calls.specs.declared.Judge.{Judge}
 use Rattle.calls.specs.Calls.{Call, loads, loadNumber}
-use Rattle.calls.specs.Steps.{outcomeBy, installReply, fresh, withRule, loadOf}
+use Rattle.calls.specs.mirror.Steps.{outcomeBy, installReply, fresh, withRule, loadOf}
 use Rattle.forms.specs.Form.{formOf}
 use Rattle.forms.specs.Back.{backOf}
 use Rattle.formmaker.specs.Making.{Made, madeOf}

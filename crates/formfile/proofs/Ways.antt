@@ -10,7 +10,7 @@ use Rattle.calls.specs.declared.InstallResult.{InstallResult}
 use Rattle.calls.specs.declared.InstallAnswer.the-variants.{Accepted, Refused}
 use Rattle.calls.specs.Replies.{Reply, refused, installMeans, Outcome, installOutcome}
 use Rattle.calls.specs.Calls.{loadNumber}
-use Rattle.calls.specs.Steps.{outcomeBy, installReply, withRule, loadOf}
+use Rattle.calls.specs.mirror.Steps.{outcomeBy, installReply, withRule, loadOf}
 use Rattle.forms.specs.declared.Form.{Form}
 use Rattle.forms.specs.declared.FormAnswer.the-variants as form
 use Rattle.formmaker.specs.Making.{Made, noForm, madeOf, madeOutcome}

@@ -7,7 +7,7 @@ use mathlib.Core.Option.{Option, none, some}
 use Prim.Native.Nat.{ℕ}
 use Rattle.ruleformat.specs.Reader.{ruleOf}
 use Rattle.calls.specs.Calls.{loadNumber}
-use Rattle.calls.specs.Steps.{withRule}
+use Rattle.calls.specs.mirror.Steps.{withRule}
 use Rattle.formmaker.specs.Making.{Made, noForm, madeOf}
 
 abbrev pub formBy : Option ℕ → List ℕ → Made

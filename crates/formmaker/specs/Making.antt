@@ -13,7 +13,7 @@ use lib.ListN.{replicate}
 use Rattle.base.specs.Conditions.{on, firstOf}
 use Rattle.limits.specs.Limits.{mostSymbols, mostSets, tableCells}
 use Rattle.calls.specs.declared.Judge.{Judge}
-use Rattle.calls.specs.Steps.{lacksRule}
+use Rattle.calls.specs.mirror.Steps.{lacksRule}
 use Rattle.forms.specs.declared.Form.{Form}
 use Rattle.forms.specs.declared.FormAnswer.{FormAnswer}
 use Rattle.forms.specs.declared.FormAnswer.the-variants.{Made as MadeAnswer, Refused}

@@ -14,10 +14,10 @@ use Rattle.automaton.specs.declared.Rule.{Rule}
 use Rattle.automaton.specs.Rules.{WellFormed}
 use Rattle.subsets.specs.Claims.{fits}
 use Rattle.build.specs.declared.Built.{Built}
-use Rattle.build.specs.Building.{builtOf, noBuilt}
+use Rattle.build.specs.mirror.Building.{builtOf, noBuilt}
 use Rattle.calls.specs.declared.Judge.{Judge}
 use Rattle.calls.specs.Calls.{Call, installs, installNumber}
-use Rattle.calls.specs.Steps.{lacksRule}
+use Rattle.calls.specs.mirror.Steps.{lacksRule}
 use Rattle.forms.specs.Form.{formOf}
 use Rattle.forms.specs.Back.{backOf}
 use Rattle.forms.specs.Claims.{IsTable}

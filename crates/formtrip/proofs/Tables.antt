@@ -20,7 +20,7 @@ use Rattle.automaton.specs.Successor.{successor}
 use Rattle.subsets.specs.Sets.{setsOf, tooMany, nextSet, nextCells}
 use Rattle.subsets.specs.Claims.{fits, sets, next}
 use Rattle.subsets.proofs.Claims as subsets
-use Rattle.build.specs.Building.{builtOf}
+use Rattle.build.specs.mirror.Building.{builtOf}
 use Rattle.forms.specs.Form.{cell}
 use Rattle.forms.specs.Claims.{Numbered, IsTable}
 use Rattle.forms.proofs.Trip.{place}

@@ -10,7 +10,7 @@ use mathlib.Core.Option.{none, some}
 use Prim.Native.Nat.{ℕ, min}
 use Rattle.limits.specs.Limits.{mostSymbols, mostSets}
 use Rattle.automaton.specs.declared.Rule.{Rule}
-use Rattle.build.specs.Building.{builtOf}
+use Rattle.build.specs.mirror.Building.{builtOf}
 use Rattle.calls.specs.declared.Judge.{Judge}
 use Rattle.calls.specs.Calls.{Call, installs, installNumber}
 use Rattle.forms.specs.declared.Table.{Table}

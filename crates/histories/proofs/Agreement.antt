@@ -16,13 +16,13 @@ use Rattle.base.proofs.Tests.{by-test}
 use Rattle.marks.specs.Marks.{textOf}
 use Rattle.automaton.specs.declared.Rule.{Rule}
 use Rattle.automaton.specs.Automaton.{Text}
-use Rattle.build.specs.Building.{noBuilt}
+use Rattle.build.specs.mirror.Building.{noBuilt}
 use Rattle.board.specs.declared.Board.{Board}
 use Rattle.board.specs.Boards.{held, isEmpty, lastAt, emptyBoard, filledAt, clearedAt}
 use Rattle.board.proofs.Laws.{Sized, sized-empty, empty-all, empty-held, empty-count, empty-length, empty-last, Changed, filled-at, cleared-at}
 use Rattle.calls.specs.declared.Judge.{Judge}
 use Rattle.histories.specs.History.{ruleFrom, countOf, endOf, standingText, lookedOf}
-use Rattle.calls.specs.Steps.{fresh, withBoard, runsAt}
+use Rattle.calls.specs.mirror.Steps.{fresh, withBoard, runsAt}
 use Rattle.histories.specs.Claims.{BuiltBy, leastAfter}
 use Rattle.histories.proofs.Running.{count-same, looked-same, end-same}
 

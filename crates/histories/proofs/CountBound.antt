@@ -28,7 +28,7 @@ use Rattle.chunks.proofs.Claims as chunks
 use Rattle.board.specs.Boards.{placesOf, summedCount}
 use Rattle.calls.specs.Replies.{delivered}
 use Rattle.calls.specs.Calls.{Call, installs, loads, opens, delivers, withdraws, asksVerdict, installNumber, loadNumber, openConditions, deliverConditions}
-use Rattle.calls.specs.Steps.{runsAt}
+use Rattle.calls.specs.mirror.Steps.{runsAt}
 use Rattle.base.proofs.Conditions.{orElse, first-append}
 use Rattle.histories.specs.History.{ruleThere, ruleFrom, ruleIn, openNumber, placesIn, runAt, countOf, lookedOf, withdrawCheck, notGreater, lastRevision, standing, countAt, deliverNumber, summedIn, replyBy}
 use Rattle.histories.specs.Claims.{judgeAfter}

@@ -7,7 +7,7 @@ use Rattle.ruleformat.proofs.Claims as rulefile
 use Rattle.calls.specs.declared.Judge.{Judge}
 use Rattle.calls.specs.Replies.{judged}
 use Rattle.calls.specs.Calls.{Call, installs, loads, opens, delivers, withdraws, asksVerdict}
-use Rattle.calls.specs.Steps.{reportOf, stepOf}
+use Rattle.calls.specs.mirror.Steps.{reportOf, stepOf}
 use Rattle.calls.proofs.Conditions.{load-accepted}
 use Rattle.histories.specs.History.{ruleThere, placesIn, lastRevision, standing, reportIn, answerOf, answersTo}
 use Rattle.histories.specs.Claims.{judgeAfter, repliesTo, EveryList}

@@ -18,7 +18,7 @@ use Rattle.delegates.specs.Claims.{startsIn}
 use Rattle.delegates.specs.Alike.{Merged}
 use Rattle.delegates.specs.Fewest.{startList}
 use Rattle.delegates.proofs.Fewest.{fewest-claims}
-use Rattle.build.specs.Building.{accepted, refused, sets, Outcome, buildOf}
+use Rattle.build.specs.mirror.Building.{accepted, refused, sets, Outcome, buildOf}
 use Rattle.build.proofs.Claims as build
 use Rattle.calls.specs.Replies.{installed}
 use Rattle.calls.specs.Calls.{Call, installNumber, loadNumber}

@@ -32,7 +32,7 @@ use Rattle.subsets.specs.Claims.{Reach, sets, next, fits}
 use Rattle.subsets.proofs.Claims as subsets
 use Rattle.delegates.proofs.Acceptance.{mask-at, cell-at}
 use Rattle.build.specs.declared.Built.{Built}
-use Rattle.build.specs.Building.{builtOf}
+use Rattle.build.specs.mirror.Building.{builtOf}
 use Rattle.build.proofs.Claims as build
 use Rattle.calls.specs.Calls.{installNumber, loadNumber}
 use Rattle.calls.proofs.Conditions.{load-accepted}

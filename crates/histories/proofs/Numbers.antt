@@ -23,7 +23,7 @@ use Rattle.board.proofs.Laws.{summed-law, bytes-law}
 use Rattle.calls.specs.declared.Judge.{Judge}
 use Rattle.histories.specs.History.{ruleFrom, countOf, standingText, notGreater, deliverCheck, withdrawCheck}
 use Rattle.calls.specs.Calls.{openConditions, deliverConditions, withdrawConditions}
-use Rattle.calls.specs.Steps.{lacksRule, lacksBoard}
+use Rattle.calls.specs.mirror.Steps.{lacksRule, lacksBoard}
 use Rattle.histories.specs.Claims.{BuiltBy, leastAfter}
 use Rattle.histories.proofs.Running.{n-same, k-same}
 use Rattle.histories.proofs.Agreement.{Agrees}

@@ -27,7 +27,7 @@ use Rattle.board.proofs.Orders.{offered, commutes}
 use Rattle.calls.specs.declared.Judge.{Judge}
 use Rattle.calls.specs.Replies.{Reply, delivered}
 use Rattle.calls.specs.Calls.{Call, deliverConditions}
-use Rattle.calls.specs.Steps.{lacksBoard, withBoard, outcomeBy, runsAt, deliverOf}
+use Rattle.calls.specs.mirror.Steps.{lacksBoard, withBoard, outcomeBy, runsAt, deliverOf}
 use Rattle.histories.specs.Claims.{judgeAfter}
 use Rattle.histories.specs.Orders.{Delivery, delivering, Reordered, nothing, same, swapped, after, Apart, ApartFrom, NoneTwice, Orders}
 use Rattle.histories.proofs.EveryList.{good}

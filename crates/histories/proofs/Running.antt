@@ -15,10 +15,10 @@ use Rattle.automaton.specs.Automaton.{Text}
 use Rattle.delegates.specs.Alike.{Delegate, delegateIn, Merged}
 use Rattle.delegates.proofs.Claims as delegates
 use Rattle.delegates.specs.Claims.{startsIn}
-use Rattle.build.specs.Building.{builtOf}
+use Rattle.build.specs.mirror.Building.{builtOf}
 use Rattle.build.proofs.Claims as build
 use Rattle.chunks.specs.Chunks.{endSet, chunkCount, looked}
-use Rattle.chunks.specs.Walks.{runMask, runsOf}
+use Rattle.chunks.specs.mirror.Walks.{runMask, runsOf}
 use Rattle.chunks.proofs.Claims as chunks
 use Rattle.histories.specs.History.{runAt}
 

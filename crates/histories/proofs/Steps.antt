@@ -26,7 +26,7 @@ use Rattle.calls.specs.Replies.{Reply, accepted, delivered}
 use Rattle.calls.proofs.Conditions.{not-refused, load-accepted}
 use Rattle.histories.specs.History.{ruleThere, ruleFrom, ruleIn, openNumber, placesIn, lookedOf, notGreater, deliverCheck, lastRevision, standing, deliverNumber, withdrawNumber, replyBy, withSets}
 use Rattle.calls.specs.Calls.{Call, installs, loads, opens, delivers, withdraws, asksVerdict, installNumber, loadNumber, deliverConditions}
-use Rattle.calls.specs.Steps.{fresh, withBoard, outcomeBy, withRule, installReply, runsAt, installOf, loadOf, openOf, deliverOf, withdrawOf}
+use Rattle.calls.specs.mirror.Steps.{fresh, withBoard, outcomeBy, withRule, installReply, runsAt, installOf, loadOf, openOf, deliverOf, withdrawOf}
 use Rattle.histories.specs.Claims.{BuiltBy}
 use Rattle.histories.proofs.Agreement.{Agrees, all-empty, fresh-holds, placed, cleared-holds, run-looked, filled-holds}
 use Rattle.histories.proofs.Numbers.{open-number, withdraw-number, deliver-number}

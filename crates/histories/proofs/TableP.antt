@@ -23,7 +23,7 @@ use Rattle.numbering.specs.Numbering.{indexOf, numbered, expandFrom, closeFrom,
 use Rattle.subsets.specs.Sets.{setsOf, tooMany, nextSet}
 use Rattle.delegates.specs.declared.Starts.{Starts}
 use Rattle.delegates.specs.Claims.{startsIn}
-use Rattle.build.specs.Building.{builtOf}
+use Rattle.build.specs.mirror.Building.{builtOf}
 use Rattle.delegates.specs.Alike.{delegateIn, startSet}
 use Rattle.chunks.specs.Chunks.{foreign, counted, runSet, looked}
 use Rattle.joins.specs.Joining.{joinOf, yesOf}

@@ -28,7 +28,7 @@ use Rattle.joins.proofs.Claims as joins
 use Rattle.automaton.specs.declared.Rule.{Rule}
 use Rattle.calls.specs.declared.Judge.{Judge}
 use Rattle.calls.specs.Calls.{Call, verdictBy, reportBy}
-use Rattle.calls.specs.Steps.{lacksBoard, isYes, verdictOf, reportOf}
+use Rattle.calls.specs.mirror.Steps.{lacksBoard, isYes, verdictOf, reportOf}
 use Rattle.histories.specs.History.{ruleThere, ruleFrom, placesIn, endOf, lastRevision, standing, emptiesIn, summedIn, yesIn, verdictIn, reportIn}
 use Rattle.histories.proofs.Running.{n-same, delegate-below}
 use Rattle.histories.proofs.Agreement.{Agrees}

@@ -30,7 +30,7 @@ use Rattle.ruleformat.specs.Reader.{ruleOf}
 use Rattle.ruleformat.specs.Language.{automatonIn}
 use Rattle.subsets.specs.Claims.{fits}
 use Rattle.delegates.specs.Claims.{startsIn}
-use Rattle.build.specs.Building.{builtOf, noBuilt}
+use Rattle.build.specs.mirror.Building.{builtOf, noBuilt}
 use Rattle.board.specs.Boards.{held, isEmpty, lastAt, summedCount, summedBytes}
 use Rattle.calls.specs.declared.Judge.{Judge}
 use Rattle.calls.specs.Replies.{Judgement, Reported, Reply, judged, waiting, yesWith, noWith, refusedWith}
@@ -38,7 +38,7 @@ use Rattle.histories.specs.History.{ruleThere, ruleIn, boardIn, placesIn
 use Rattle.histories.specs.Method.{Method}
 use Rattle.histories.specs.Conditions.{Accepted-exactly, Refused-exactly}
 use Rattle.calls.specs.Calls.{Call, installNumber, loadNumber}
-use Rattle.calls.specs.Steps.{fresh, isYes, verdictOf, reportOf, stepOf}
+use Rattle.calls.specs.mirror.Steps.{fresh, isYes, verdictOf, reportOf, stepOf}
 use Rattle.calls.specs.Claims.{Divided, ThreeZeros}
 
 -- the judge as a machine: the outcome of a call is crates/calls' stepOf

@@ -23,7 +23,7 @@ use Rattle.rulecheck.specs.Claims.{Stray, StatesIn, SymbolsIn, MasksIn}
 use Rattle.ruleformat.specs.Refusals.{fileConditions}
 use Rattle.ruleformat.specs.Reader.{ruleOf}
 use Rattle.ruleformat.specs.Language.{automatonIn}
-use Rattle.build.specs.Building.{builtOf}
+use Rattle.build.specs.mirror.Building.{builtOf}
 use Rattle.chunks.specs.Chunks.{foreign}
 use Rattle.calls.specs.Replies.{accepted, installed, delivered, refused, refusalOf}
 use Rattle.calls.specs.Calls.{Call, installs, loads, opens, delivers, withdraws, asksVerdict}

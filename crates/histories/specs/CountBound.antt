@@ -25,7 +25,7 @@ use Rattle.base.specs.Totals.{total}
 use Rattle.board.specs.Boards.{placesOf, summedCount}
 use Rattle.calls.specs.declared.Judge.{Judge}
 use Rattle.calls.specs.Calls.{Call, deliverConditions}
-use Rattle.calls.specs.Steps.{runsAt}
+use Rattle.calls.specs.mirror.Steps.{runsAt}
 use Rattle.histories.specs.History.{ruleIn, placesIn, notGreater, lastRevision, countOf, countAt, summedIn, deliverNumber}
 use Rattle.histories.specs.Claims.{judgeAfter}
 

@@ -19,7 +19,7 @@ use Rattle.automaton.specs.Rules.{automatonOf, WellFormed}
 use Rattle.ruleformat.specs.Language.{automatonIn}
 use Rattle.delegates.specs.Fewest.{Covers}
 use Rattle.build.specs.declared.BuildResult.{BuildResult}
-use Rattle.build.specs.Building.{accepted, buildMeans}
+use Rattle.build.specs.mirror.Building.{accepted, buildMeans}
 use Rattle.build.proofs.build_rule.Reads as build-reads
 use Rattle.build.proofs.build_rule.Kinds as build-kinds
 use Rattle.calls.specs.Replies.{installed}

@@ -20,9 +20,9 @@ use Rattle.automaton.specs.Automaton.{Accepts}
 use Rattle.automaton.specs.Rules.{automatonOf, WellFormed}
 use Rattle.limits.specs.Limits.{mostStates}
 use Rattle.subsets.specs.Sets.{setsOf, setCells, nextCells}
-use Rattle.subsets.specs.Singles.{singlesOf}
+use Rattle.subsets.specs.mirror.Singles.{singlesOf}
 use Rattle.subsets.specs.Claims.{fits}
-use Rattle.delegates.specs.Classes.{lowestOf}
+use Rattle.delegates.specs.mirror.Classes.{lowestOf}
 use Rattle.subsets.proofs.Claims as subsets
 use Rattle.delegates.specs.Alike.{Lowest, startSet, startCount}
 use Rattle.delegates.proofs.Alike.{one-lowest, own-lowest}

@@ -2,7 +2,7 @@
 ghost use mathlib.Core.Path.{_≡_};
 ghost use Prim.Native.Nat.{_<_};
 ghost use Rattle.calls.specs.Replies.{refused, reportMeans, installOutcome, openOutcome, deliverOutcome, withdrawOutcome};
-ghost use Rattle.calls.specs.Steps.{fresh, withBoard, installOf, loadOf, openOf, deliverOf, withdrawOf, reportOf};
+ghost use Rattle.calls.specs.mirror.Steps.{fresh, withBoard, installOf, loadOf, openOf, deliverOf, withdrawOf, reportOf};
 use automaton::Rule;
 use board::Board;
 use build::BuildAnswer;

@@ -20,8 +20,8 @@ use Rattle.base.proofs.Lists.{length-listFrom, cell-of, is-listFrom}
 use Rattle.base.proofs.Options.{none-some}
 use Rattle.base.proofs.Tests.{by-test}
 use Rattle.numbering.specs.Numbering.{Walk, indexOf, numbered, keysUpTo}
-use Rattle.numbering.specs.Begins.{Begins}
-use Rattle.numbering.specs.Arrays.{limited, keyCells, target, afterStep, Stepped, ArraysHold, Expanded, grownBy, Added}
+use Rattle.numbering.specs.mirror.Begins.{Begins}
+use Rattle.numbering.specs.mirror.Arrays.{limited, keyCells, target, afterStep, Stepped, ArraysHold, Expanded, grownBy, Added}
 use Rattle.numbering.proofs.Numbers.{Has, number-le, nowhere, stands, number-is, begins-self, begins-at, begins-length, begins-number, begins-trans, number-taken, numbered-kept, numbered-taken, numbered-begins, numbered-has}
 use Rattle.numbering.proofs.Arrays.{limited-whole, limited-over, whole-of, over-of, cells-full}
 use Rattle.numbering.proofs.Reached.{covered}

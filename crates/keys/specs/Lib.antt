@@ -1,4 +1,4 @@
 -- In the order in which to read them.
 pub mod Kinds
 pub mod Tables
-pub mod Steps
+pub mod mirror

@@ -23,7 +23,7 @@ use lib.ListN.{length, getD}
 use Rattle.limits.specs.Limits.{mostSymbols, mostSets, tableCells}
 use Rattle.base.specs.Lists.{listFrom}
 use Rattle.numbering.specs.Numbering.{Walk, indexOf, keysUpTo}
-use Rattle.numbering.specs.Arrays.{limited, keyCells}
+use Rattle.numbering.specs.mirror.Arrays.{limited, keyCells}
 use Rattle.keys.specs.declared.Kind.{Kind}
 use Rattle.keys.specs.declared.KeyTable.{KeyTable}
 use Rattle.keys.specs.declared.Numbering.{Numbering}

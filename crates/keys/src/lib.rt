@@ -8,11 +8,11 @@ ghost use lib.ListN.{getD, take};
 ghost use Rattle.base.specs.Conditions.{anyBelow};
 ghost use Rattle.limits.specs.Limits.{mostSymbols, mostSets};
 ghost use Rattle.automaton.specs.Successor.{successor as successorOf};
-ghost use Rattle.numbering.specs.Arrays.{foundIn, keyCells, Entered, Stepped, InRow, ArraysHold, Expanded, Added};
+ghost use Rattle.numbering.specs.mirror.Arrays.{foundIn, keyCells, Entered, Stepped, InRow, ArraysHold, Expanded, Added};
 ghost use Rattle.numbering.specs.Numbering.{closeFrom};
 ghost use Rattle.keys.specs.Kinds.{stepBy, nothing, skipsBy, freeBy, walkIn};
 ghost use Rattle.keys.specs.Tables.{countMeans, heldBy, tableOutcome, tableBy, tableOf};
-ghost use Rattle.keys.specs.Steps.{foundMeans, turnMeans};
+ghost use Rattle.keys.specs.mirror.Steps.{foundMeans, turnMeans};
 
 // What a key stands for: a set of states, as a mask; a mapping, as a number of 64 bits; a pair of
 // sets of states, the second in the upper 32 bits.

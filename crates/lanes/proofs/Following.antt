@@ -15,9 +15,9 @@ use lib.Seq.{take-all, take-add, getD-set-same, getD-set-other}
 use Rattle.base.proofs.Lists.{length-listFrom, is-listFrom, each-stored}
 use Rattle.base.proofs.Tests.{by-test}
 use Rattle.base.proofs.Totals.{greatest-most, term-greatest}
-use Rattle.walks.specs.Steps.{endBy}
+use Rattle.walks.specs.mirror.Steps.{endBy}
 use Rattle.walks.proofs.Steps.{end-append, end-split, looked-most, looked-empty, looked-left, looked-some, looked-take, looked-append, looked-from, end-still}
-use Rattle.lanes.specs.Offsets.{hopOf, rowEnd, rowLooked, rowsEnd, rowsLooked, RowTable, Rows, Living}
+use Rattle.lanes.specs.mirror.Offsets.{hopOf, rowEnd, rowLooked, rowsEnd, rowsLooked, RowTable, Rows, Living}
 use Rattle.lanes.proofs.Offsets.{hop-low, hop-stays, rows-low}
 use Rattle.lanes.proofs.Rows.{rows-at}
 use Rattle.lanes.proofs.Rows as rows

@@ -16,9 +16,9 @@ use lib.ListN.{length, getD, take, drop, length-take, length-drop, drop-of-lengt
 use lib.Seq.{getD-take, getD-drop, sets, sets-eq}
 use Rattle.base.specs.Lists.{listFrom}
 use Rattle.base.proofs.Tests.{by-test}
-use Rattle.walks.specs.Steps.{endBy}
+use Rattle.walks.specs.mirror.Steps.{endBy}
 use Rattle.walks.proofs.Steps.{end-more, looked-next, looked-left, looked-empty}
-use Rattle.lanes.specs.Offsets.{hopOf, rowEnd, rowLooked, RowTable}
+use Rattle.lanes.specs.mirror.Offsets.{hopOf, rowEnd, rowLooked, RowTable}
 use Rattle.lanes.proofs.Offsets.{hop-low}
 
 -- the table from the column of the byte b on

@@ -16,7 +16,7 @@ use lib.ListN.{length, getD, List·getD-eq-default}
 use Rattle.base.proofs.Lists.{length-listFrom, cell-of, is-listFrom}
 use Rattle.base.proofs.Tests.{by-test}
 use Rattle.walks.proofs.Steps.{end-low}
-use Rattle.lanes.specs.Offsets.{rowOf, offsetsOf, hopOf, rowEnd, rowsEnd, RowTable, Rows}
+use Rattle.lanes.specs.mirror.Offsets.{rowOf, offsetsOf, hopOf, rowEnd, rowsEnd, RowTable, Rows}
 
 -- ---- cells of the table
 module _ (next : List ℕ) where

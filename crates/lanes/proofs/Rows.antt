@@ -16,7 +16,7 @@ use Rattle.base.proofs.Lists.{cell-of, same-list}
 use Rattle.base.proofs.Tests.{by-test}
 use Rattle.base.proofs.Totals.{greatest-same, greatest-sum}
 use Rattle.walks.proofs.Steps as walks
-use Rattle.lanes.specs.Offsets.{hopOf, rowEnd, rowCount, rowLooked, rowsEnd, rowsCount, rowsLooked, RowTable, Rows}
+use Rattle.lanes.specs.mirror.Offsets.{hopOf, rowEnd, rowCount, rowLooked, rowsEnd, rowsCount, rowsLooked, RowTable, Rows}
 use Rattle.lanes.proofs.Offsets.{hop-low, hop-stays}
 
 module _ (t w rows : List ℕ) (n : ℕ) where

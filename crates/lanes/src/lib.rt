@@ -3,7 +3,7 @@
 ghost use mathlib.Core.Path.{_≡_};
 ghost use Prim.Native.Nat.{_<_, _≤_};
 ghost use lib.ListN.{length, getD, take, replicate};
-ghost use Rattle.lanes.specs.Offsets.{emptyRow, offsetCells, laneCount, rowOf, offsetsOf, rowLooked, rowsEnd, rowsLooked, RowTable, Rows, Living};
+ghost use Rattle.lanes.specs.mirror.Offsets.{emptyRow, offsetCells, laneCount, rowOf, offsetsOf, rowLooked, rowsEnd, rowsLooked, RowTable, Rows, Living};
 
 // How many runs walk together.
 pub const LANES: usize = 8;

@@ -15,9 +15,9 @@ use Rattle.base.proofs.Lists.{cell-of}
 use Rattle.base.proofs.Totals.{greatest-more}
 use Rattle.masks.specs.Masks.{has}
 use Rattle.delegates.proofs.Classes.{follow-empty}
-use Rattle.walks.specs.Steps.{endBy}
+use Rattle.walks.specs.mirror.Steps.{endBy}
 use Rattle.walks.proofs.Steps as walks
-use Rattle.chunks.specs.Walks.{stepOf, maskOf, walkEnd, walkLooked, runsOf}
+use Rattle.chunks.specs.mirror.Walks.{stepOf, maskOf, walkEnd, walkLooked, runsOf}
 use Rattle.locating.specs.Locating.{nowhere, stuckAfter, someLeft, foundBy}
 
 -- ---- one run, from the set `from` over the text w: after i bytes it is in the set `set`

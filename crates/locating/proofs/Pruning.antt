@@ -16,10 +16,10 @@ use Rattle.base.proofs.Lists.{cell-of, is-listFrom, cell-stored}
 use Rattle.base.proofs.Tests.{by-test, either-most}
 use Rattle.masks.specs.Masks.{_∈_, single, shares}
 use Rattle.masks.proofs.Laws.{no-member, or-cases, or-left, or-right, single-law}
-use Rattle.delegates.specs.Classes.{follow}
+use Rattle.delegates.specs.mirror.Classes.{follow}
 use Rattle.delegates.proofs.Classes.{follow-set}
-use Rattle.chunks.specs.Walks.{maskOf}
-use Rattle.locating.specs.Pruning.{liveSet, keptCell, pruned}
+use Rattle.chunks.specs.mirror.Walks.{maskOf}
+use Rattle.locating.specs.mirror.Pruning.{liveSet, keptCell, pruned}
 
 -- ---- one state more
 module _ (d : List ℕ) (q : ℕ) where

@@ -16,11 +16,11 @@ use Rattle.marks.proofs.Claims as marks
 use Rattle.walks.proofs.Steps as walks
 use Rattle.chunks.specs.declared.Runs.{Runs}
 use Rattle.chunks.specs.Chunks.{foreign}
-use Rattle.chunks.specs.Walks.{stepOf, walkLooked, runsOf, delegateMask}
+use Rattle.chunks.specs.mirror.Walks.{stepOf, walkLooked, runsOf, delegateMask}
 use Rattle.board.specs.Boards.{placesOf, isEmpty}
 use Rattle.joins.specs.Joining.{joinUpTo}
 use Rattle.calls.specs.declared.Judge.{Judge}
-use Rattle.locating.specs.Pruning.{liveSet, pruned}
+use Rattle.locating.specs.mirror.Pruning.{liveSet, pruned}
 use Rattle.locating.specs.Locating.{Spot, refusedFor, stuckAfter, nowhere, someLeft, foundBy, spotIn, textSpot, inChunk, spotBy, spotOf}
 use Rattle.locating.proofs.Positions.{position-claims}
 

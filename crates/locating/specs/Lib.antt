@@ -1,4 +1,4 @@
 -- In the order in which to read them.
 pub mod Positions
-pub mod Pruning
 pub mod Locating
+pub mod mirror

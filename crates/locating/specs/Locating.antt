@@ -29,15 +29,15 @@ use Rattle.marks.specs.Marks.{textOf}
 use Rattle.build.specs.declared.Built.{Built}
 use Rattle.chunks.specs.declared.Runs.{Runs}
 use Rattle.chunks.specs.Chunks.{foreign}
-use Rattle.chunks.specs.Walks.{runsOf, delegateMask}
+use Rattle.chunks.specs.mirror.Walks.{runsOf, delegateMask}
 use Rattle.board.specs.Boards.{placesOf, isEmpty}
 use Rattle.joins.specs.Joining.{joinUpTo}
 use Rattle.calls.specs.declared.Judge.{Judge}
-use Rattle.calls.specs.Steps.{lacksBoard}
+use Rattle.calls.specs.mirror.Steps.{lacksBoard}
 use Rattle.locating.specs.declared.Located.{Located}
 use Rattle.locating.specs.declared.Located.the-variants.{Refused, After, Nowhere}
 use Rattle.locating.specs.Positions.{positionOf}
-use Rattle.locating.specs.Pruning.{liveSet, pruned}
+use Rattle.locating.specs.mirror.Pruning.{liveSet, pruned}
 
 pub data Spot : Type 0 where
   refusedFor : ℕ → Spot

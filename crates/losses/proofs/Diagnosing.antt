@@ -28,7 +28,7 @@ use Rattle.joins.specs.Joining.{heldIn, joinUpTo}
 use Rattle.joins.proofs.Claims as joins
 use Rattle.calls.specs.declared.Judge.{Judge}
 use Rattle.calls.specs.Calls.{Call}
-use Rattle.calls.specs.Steps.{lacksBoard}
+use Rattle.calls.specs.mirror.Steps.{lacksBoard}
 use Rattle.diagnoses.specs.Diagnosing.{Finding, refusedAs, lostAt, openWith, findFrom, lostAfter, diagnosisOf}
 use Rattle.diagnoses.proofs.Finding.{Found, found, find-same}
 use Rattle.histories.specs.History.{ruleThere, ruleFrom, ruleIn, boardIn, placesIn, lastRevision, standing, endOf, joinedUpTo}

@@ -32,18 +32,18 @@ use Rattle.subsets.specs.Claims.{sets, fits}
 use Rattle.subsets.proofs.Claims as subsets
 use Rattle.delegates.specs.Alike.{Live, Delegate, delegateIn}
 use Rattle.delegates.specs.Claims.{startsIn}
-use Rattle.delegates.specs.Classes.{follow}
+use Rattle.delegates.specs.mirror.Classes.{follow}
 use Rattle.delegates.proofs.Acceptance.{mask-at, follow-law}
 use Rattle.delegates.proofs.Alike.{said-some, some-said, run-text, merged-some, delegates-in}
 use Rattle.delegates.proofs.Classes.{follow-empty, follow-within}
-use Rattle.build.specs.Building.{builtOf}
+use Rattle.build.specs.mirror.Building.{builtOf}
 use Rattle.build.proofs.Claims as build
-use Rattle.walks.specs.Steps.{endBy}
+use Rattle.walks.specs.mirror.Steps.{endBy}
 use Rattle.walks.proofs.Steps as walks
-use Rattle.chunks.specs.Walks.{stepOf, walkEnd, walkLooked, maskOf, runsOf}
+use Rattle.chunks.specs.mirror.Walks.{stepOf, walkEnd, walkLooked, maskOf, runsOf}
 use Rattle.chunks.proofs.Walks.{end-empty}
 use Rattle.joins.proofs.Acceptance.{Accepting, accepting-law, accepting-single}
-use Rattle.locating.specs.Pruning.{liveSet, pruned}
+use Rattle.locating.specs.mirror.Pruning.{liveSet, pruned}
 use Rattle.locating.specs.Locating.{someLeft}
 use Rattle.locating.proofs.Pruning.{live-law, pruned-step}
 use Rattle.histories.proofs.Running.{merged}

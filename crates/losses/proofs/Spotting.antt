@@ -31,19 +31,19 @@ use Rattle.live.specs.Continued.{Continued}
 use Rattle.subsets.specs.Claims.{fits}
 use Rattle.delegates.specs.Alike.{delegateIn}
 use Rattle.delegates.specs.Claims.{startsIn}
-use Rattle.build.specs.Building.{builtOf}
+use Rattle.build.specs.mirror.Building.{builtOf}
 use Rattle.chunks.specs.declared.Runs.{Runs}
 use Rattle.chunks.specs.Chunks.{foreign, delegateSet}
-use Rattle.chunks.specs.Walks.{runsOf}
+use Rattle.chunks.specs.mirror.Walks.{runsOf}
 use Rattle.chunks.proofs.Claims as chunks
 use Rattle.board.specs.Boards.{placesOf, isEmpty}
 use Rattle.joins.specs.Joining.{heldIn, joinUpTo}
 use Rattle.joins.proofs.Claims as joins
 use Rattle.calls.specs.declared.Judge.{Judge}
 use Rattle.calls.specs.Calls.{Call}
-use Rattle.calls.specs.Steps.{lacksBoard}
+use Rattle.calls.specs.mirror.Steps.{lacksBoard}
 use Rattle.locating.specs.Positions.{positionOf}
-use Rattle.locating.specs.Pruning.{liveSet, pruned}
+use Rattle.locating.specs.mirror.Pruning.{liveSet, pruned}
 use Rattle.locating.specs.Locating.{Spot, refusedFor, stuckAfter, nowhere, someLeft, foundBy, spotIn, inChunk, locateConditions, spotBy, spotOf}
 use Rattle.locating.proofs.Positions.{position-claims}
 use Rattle.locating.proofs.Spotting.{looked-within}

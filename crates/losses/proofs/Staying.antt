@@ -21,7 +21,7 @@ use Rattle.automaton.specs.Rules.{automatonOf}
 use Rattle.live.specs.Continued.{Continued}
 use Rattle.calls.specs.Replies.{Reported, judged, yesWith, noWith}
 use Rattle.calls.specs.Calls.{Call, installs, loads, opens, delivers, withdraws, asksVerdict}
-use Rattle.calls.specs.Steps.{stepOf}
+use Rattle.calls.specs.mirror.Steps.{stepOf}
 use Rattle.diagnoses.specs.Diagnosing.{Finding, refusedAs, lostAt, openWith, diagnosisOf}
 use Rattle.histories.specs.History.{ruleThere, ruleFrom, ruleIn, boardIn, placesIn, standing, standingText, textIn, verdictIn, reportIn}
 use Rattle.histories.specs.Claims.{judgeAfter}

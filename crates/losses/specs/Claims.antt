@@ -8,7 +8,7 @@ use mathlib.Core.Option.{none, some}
 use Prim.Native.Nat.{ℕ, _≤_}
 use Rattle.calls.specs.Replies.{Reported, judged, yesWith, noWith}
 use Rattle.calls.specs.Calls.{Call, asksVerdict}
-use Rattle.calls.specs.Steps.{stepOf}
+use Rattle.calls.specs.mirror.Steps.{stepOf}
 use Rattle.histories.specs.History.{ruleIn, boardIn, placesIn, standing, verdictIn}
 use Rattle.histories.specs.Claims.{judgeAfter}
 use Rattle.diagnoses.specs.Diagnosing.{Finding, diagnosisOf}

@@ -41,7 +41,7 @@ use Rattle.merging.specs.Merged.{statesOf, pairs, beside, setOf, oneMoves, ownT
 use Rattle.merging.specs.Merging.{wayOf, mergeNumber, mergeMeans, mergeOf}
 use Rattle.merging.specs.Claims.{Mergeable}
 use Rattle.merging.proofs.Conditions.{number-law, refused-exactly}
-use Rattle.merge.specs.Asked.{Sizes, Masks, Tables}
+use Rattle.merge.specs.mirror.Asked.{Sizes, Masks, Tables}
 
 -- ---- `way_of`
 module _ (x : ℕ) where

@@ -8,7 +8,7 @@ ghost use Rattle.automaton.specs.Rules.{targetMask};
 ghost use Rattle.merging.specs.Merged.{statesOf, pairs as pairsOf, beside as besideOf, setOf, oneMoves, ownTargets, targetsOf, cellIn, mergedOf};
 ghost use Rattle.merging.specs.Merging.{wayOf, mergeNumber, mergeMeans, mergeOutcome, mergeOf};
 ghost use Rattle.merging.specs.Claims.{Mergeable};
-ghost use Rattle.merge.specs.Asked.{Sizes, Masks, Tables};
+ghost use Rattle.merge.specs.mirror.Asked.{Sizes, Masks, Tables};
 use automaton::Rule;
 use masks::StateNumber;
 use merging::MergeAnswer;

@@ -23,7 +23,7 @@ use Rattle.automaton.specs.Rules.{targetMask, automatonOf, WellFormed}
 use Rattle.automaton.proofs.Values.{table-law, all-fields}
 use Rattle.delegates.specs.Alike.{Alike, Live}
 use Rattle.delegates.proofs.Alike.{alike-self}
-use Rattle.delegates.specs.Classes.{firstFrom}
+use Rattle.delegates.specs.mirror.Classes.{firstFrom}
 use Rattle.reducing.specs.Claims.{emptyRule}
 use Rattle.reducing.proofs.Ranks.{rank-mono, rank-less, rank-once, rank-onto}
 use Rattle.reducing.proofs.Quotient.{Quotient}

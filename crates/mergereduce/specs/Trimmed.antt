@@ -22,7 +22,7 @@ use Rattle.limits.specs.Limits.{mostSymbols, targetCells}
 use Rattle.masks.specs.Masks.{has, maskOf}
 use Rattle.masks.specs.Turns.{rank, turns}
 use Rattle.automaton.specs.declared.Rule.{Rule}
-use Rattle.delegates.specs.Classes.{firstFrom}
+use Rattle.delegates.specs.mirror.Classes.{firstFrom}
 
 abbrev pub spread : (ℕ → ℕ → Bool) → ℕ → ℕ → ℕ
 spread link n m = bitOr m (maskOf (λ p. anyBelow (λ q. has m q && link q p) n) n)

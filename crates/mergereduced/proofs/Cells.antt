@@ -15,7 +15,7 @@ use Rattle.base.proofs.Tests.{by-test, zero-one}
 use Rattle.masks.specs.Masks.{bit, has, _∈_, single}
 use Rattle.masks.proofs.Laws.{ext, or-cases, or-left, or-right, single-law, empty-mask}
 use Rattle.masks.proofs.Passing.{mask-in, mask-of, mask-has}
-use Rattle.mergereduced.specs.Asked.{setIn}
+use Rattle.mergereduced.specs.mirror.Asked.{setIn}
 
 module _ (l : List ℕ) where
   pub set-few : (q : ℕ) → q ∈ setIn l → q < 1024

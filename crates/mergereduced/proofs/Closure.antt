@@ -16,11 +16,11 @@ use Rattle.masks.proofs.Laws.{ext, or-assoc, no-member, has-member, member-of, 
 use Rattle.masks.proofs.Passing.{mask-in, mask-of, mask-add, mask-skip}
 use Rattle.masks.specs.Turns.{rank, turns}
 use Rattle.masks.proofs.Turns.{bit-lt, rank-most, in-turns, still}
-use Rattle.delegates.specs.Classes.{firstFrom}
+use Rattle.delegates.specs.mirror.Classes.{firstFrom}
 use Rattle.mergereduce.specs.Trimmed.{spread}
 use Rattle.mergereduce.proofs.Trim.{search-law}
 use Rattle.mergereduce.proofs.Kept.{added, and-both, spread-from, spread-to}
-use Rattle.mergereduced.specs.Asked.{freshIn}
+use Rattle.mergereduced.specs.mirror.Asked.{freshIn}
 
 -- a set with all the members of another and one more has more
 pub more-members : (a b n q : ℕ) → ((x : ℕ) → x ∈ a → x ∈ b) → q < n → q ∈ b → (q ∈ a → ⊥) → rank a n < rank b n

@@ -26,7 +26,7 @@ use Rattle.merging.proofs.Sets.{shift-law, pairs-law, wide}
 use Rattle.mergereduce.specs.Trimmed.{spread, arcs, onward, backTo, keptFrom}
 use Rattle.mergereduce.specs.MergeReduced.{initialPairs, finalPairs, keptPairs}
 use Rattle.mergereduce.proofs.Kept.{added, and-both, spread-from, spread-to}
-use Rattle.mergereduced.specs.Asked.{symbolsTo, symbolsOf, symbolsAt, linkIn, linkBy, Tabled, pairArcs}
+use Rattle.mergereduced.specs.mirror.Asked.{symbolsTo, symbolsOf, symbolsAt, linkIn, linkBy, Tabled, pairArcs}
 use Rattle.mergereduced.proofs.Ways.{left-low, right-low, alone-first, alone-second, tabled}
 
 some-law : (m : ℕ) → (not (eqb m 0) ≡ true) ↔ (s : ℕ) × s ∈ m

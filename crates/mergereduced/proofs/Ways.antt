@@ -22,7 +22,7 @@ use Rattle.masks.specs.Turns.{rank}
 use Rattle.masks.proofs.Turns.{bit-lt}
 use Rattle.automaton.specs.declared.Rule.{Rule}
 use Rattle.automaton.specs.Rules.{targetMask, WellFormed}
-use Rattle.delegates.specs.Classes.{firstFrom}
+use Rattle.delegates.specs.mirror.Classes.{firstFrom}
 use Rattle.rulecheck.specs.declared.CheckAnswer.{CheckAnswer}
 use Rattle.rulecheck.specs.declared.CheckAnswer.the-variants as check
 use Rattle.rulecheck.specs.Checking.{ruleNumber, checkMeans}
@@ -35,7 +35,7 @@ use Rattle.merging.specs.declared.Way.the-variants.{Both, Either, Interleaving}
 use Rattle.merging.specs.Merged.{statesOf, pairs, beside, setOf, oneMoves, targetsOf}
 use Rattle.merging.proofs.Sets.{pairs-law, set-law, set-below, wide}
 use Rattle.merging.specs.Merging.{Merging, mergingBy}
-use Rattle.merge.specs.Asked.{Masks}
+use Rattle.merge.specs.mirror.Asked.{Masks}
 use Rattle.merge.proofs.Numbers.{product-most}
 use Rattle.reducing.specs.declared.ReduceAnswer.the-variants.{Accepted, Refused}
 use Rattle.reducing.specs.declared.ReduceResult.{ReduceResult}
@@ -47,7 +47,7 @@ use Rattle.mergereduce.proofs.Law.{instead, number-law}
 use Rattle.mergereduce.specs.Trimmed.{nth, renamedTo, trimmedTargets, trimmedBy}
 use Rattle.mergereduce.proofs.Trim.{first-passes}
 use Rattle.mergereduce.proofs.Kept.{and-both}
-use Rattle.mergereduced.specs.Asked.{setIn, symbolsAt, linkBy, Sized, Tabled, ArcAsked, linkIn, freshIn, Few, Listed, cellIn, placesIn, pairedOf}
+use Rattle.mergereduced.specs.mirror.Asked.{setIn, symbolsAt, linkBy, Sized, Tabled, ArcAsked, linkIn, freshIn, Few, Listed, cellIn, placesIn, pairedOf}
 
 -- ---- bits and tests
 pub bit-yes : (m q : ℕ) → has m q ≡ true → 1 ≡ bit m q

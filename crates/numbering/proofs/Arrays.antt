@@ -21,8 +21,8 @@ use borrow.Author.Tests.{lt-ltb, le-ltb, eqb-true, eqb-false, ltb-true, ltb-fals
 use Rattle.base.proofs.Lists.{length-listFrom, cell-of, is-listFrom, same-list}
 use Rattle.base.proofs.Tests.{by-test, zero-one}
 use Rattle.numbering.specs.Numbering.{indexOf, numbered}
-use Rattle.numbering.specs.Arrays.{limited, foundIn, keyCells, turnOf, Entered, target, afterStep, Stepped}
-use Rattle.numbering.specs.Begins.{Begins}
+use Rattle.numbering.specs.mirror.Arrays.{limited, foundIn, keyCells, turnOf, Entered, target, afterStep, Stepped}
+use Rattle.numbering.specs.mirror.Begins.{Begins}
 use Rattle.numbering.proofs.Numbers.{Has, nowhere, number-is, begins-at, number-taken, numbered-skipped, numbered-kept, numbered-taken}
 
 -- ---- at most 512

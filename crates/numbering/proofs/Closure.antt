@@ -20,7 +20,7 @@ use lib.ListN.{length, getD}
 use borrow.Author.Tests.{lt-ltb, le-ltb, ltb-true, ltb-false}
 use Rattle.base.proofs.Tests.{by-test}
 use Rattle.numbering.specs.Numbering.{Walk, numbered, expandFrom, closeFrom, keysUpTo}
-use Rattle.numbering.specs.Begins.{Begins}
+use Rattle.numbering.specs.mirror.Begins.{Begins}
 use Rattle.numbering.proofs.Numbers.{Has, begins-self, begins-trans, begins-length, begins-at, begins-has, numbered-begins, numbered-has}
 
 module _ (a : Walk) where

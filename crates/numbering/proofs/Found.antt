@@ -21,7 +21,7 @@ use lib.Seq.{getD-append-seam}
 use borrow.Author.Tests.{ltb-true, ltb-false}
 use Rattle.base.proofs.Tests.{by-test}
 use Rattle.numbering.specs.Numbering.{Walk, indexOf, numbered, closeFrom, keysUpTo}
-use Rattle.numbering.specs.Begins.{Begins}
+use Rattle.numbering.specs.mirror.Begins.{Begins}
 use Rattle.numbering.proofs.Numbers.{Has, begins-at, begins-number, begins-has, by-turn, numbered-begins, numbered-has, number-taken}
 use Rattle.numbering.proofs.Closure.{close-keeps, keys-end, Covers, covers-more, settled, settled-fits, upTo-covers, upTo-seed}
 

@@ -17,7 +17,7 @@ use lib.Seq.{getD-append-seam}
 use borrow.Author.Tests.{eq-eqb, lt-ltb, le-ltb, eqb-true, ltb-true, ltb-false}
 use Rattle.base.proofs.Tests.{by-test, not-both}
 use Rattle.numbering.specs.Numbering.{indexOf, numbered}
-use Rattle.numbering.specs.Begins.{Begins}
+use Rattle.numbering.specs.mirror.Begins.{Begins}
 
 abbrev pub Has : List ℕ → ℕ → Type 0
 Has l m = indexOf l m < length l

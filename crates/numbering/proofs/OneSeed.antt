@@ -10,7 +10,7 @@ use Prim.Native.Nat.{ℕ, _≤_, _<_}
 use native.Mathlib.Omega.{arith}
 use lib.ListN.{length, getD}
 use Rattle.numbering.specs.Numbering.{Walk, indexOf, numbered, closeFrom, keysUpTo}
-use Rattle.numbering.specs.Begins.{Begins}
+use Rattle.numbering.specs.mirror.Begins.{Begins}
 use Rattle.numbering.proofs.Numbers.{begins-at, begins-length}
 use Rattle.numbering.proofs.Closure.{close-begins, settled}
 

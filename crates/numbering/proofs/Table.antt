@@ -15,8 +15,8 @@ use Rattle.base.specs.Lists.{listFrom}
 use Rattle.base.proofs.Lists.{is-listFrom}
 use Rattle.base.proofs.Tests.{by-test}
 use Rattle.numbering.specs.Numbering.{Walk, indexOf}
-use Rattle.numbering.specs.Begins.{Begins}
-use Rattle.numbering.specs.Arrays.{keyCells, target, afterStep, Stepped, numberOrFree, cellTo, ArraysHold}
+use Rattle.numbering.specs.mirror.Begins.{Begins}
+use Rattle.numbering.specs.mirror.Arrays.{keyCells, target, afterStep, Stepped, numberOrFree, cellTo, ArraysHold}
 use Rattle.numbering.proofs.Numbers.{begins-self, begins-trans, begins-length, begins-at, begins-number, numbered-begins, numbered-has}
 
 and-same : (x y z : Bool) → (z ≡ true → x ≡ y) → (x && z) ≡ (y && z)

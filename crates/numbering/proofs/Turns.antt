@@ -20,8 +20,8 @@ use lib.ListN.{length, getD, take}
 use borrow.Author.Tests.{le-ltb}
 use Rattle.base.proofs.Lists.{length-listFrom, cell-of}
 use Rattle.numbering.specs.Numbering.{Walk, indexOf, numbered, expandFrom, closeFrom}
-use Rattle.numbering.specs.Begins.{Begins}
-use Rattle.numbering.specs.Arrays.{target, afterStep, Entered, Stepped, Cleared, ArraysHold, Grown, Expanded, grownBy, Added}
+use Rattle.numbering.specs.mirror.Begins.{Begins}
+use Rattle.numbering.specs.mirror.Arrays.{target, afterStep, Entered, Stepped, Cleared, ArraysHold, Grown, Expanded, grownBy, Added}
 use Rattle.numbering.proofs.Numbers.{begins-trans, begins-length, begins-at, numbered-begins}
 use Rattle.numbering.proofs.Closure.{expand-begins, close-begins, symbols-more, symbols-end, keys-more}
 use Rattle.numbering.proofs.Arrays.{count-is, read-back, limited-whole, limited-over, whole-of, over-of, entered-any, entered-as, entered-over}

@@ -2,5 +2,4 @@
 pub mod Numbering
 pub mod Texts
 pub mod Claims
-pub mod Begins
-pub mod Arrays
+pub mod mirror

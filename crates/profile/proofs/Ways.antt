@@ -24,7 +24,7 @@ use Rattle.chunks.specs.Chunks.{foreign}
 use Rattle.chunks.specs.Taking.{chunkNumber}
 use Rattle.chunks.proofs.Claims as chunks
 use Rattle.mappings.specs.Mappings.{identity}
-use Rattle.numbering.specs.Arrays.{limited}
+use Rattle.numbering.specs.mirror.Arrays.{limited}
 use Rattle.numbering.proofs.Arrays.{whole-of, over-of}
 use Rattle.mappings.specs.Packing.{pack, unpack, mappingWalk}
 use Rattle.mappings.specs.Claims.{Small, keysOf}

@@ -23,7 +23,7 @@ use Rattle.limits.specs.Limits.{mostSets, tableCells}
 use Rattle.base.specs.Conditions.{Condition, on, firstOf}
 use Rattle.automaton.specs.declared.Rule.{Rule}
 use Rattle.rulecheck.specs.Checking.{ruleConditions}
-use Rattle.numbering.specs.Arrays.{keyCells}
+use Rattle.numbering.specs.mirror.Arrays.{keyCells}
 use Rattle.mappings.specs.Mappings.{mappedStates}
 use Rattle.mappings.specs.Packing.{mappingWalk}
 use Rattle.mappings.specs.Claims.{keysOf}

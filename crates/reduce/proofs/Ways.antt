@@ -21,8 +21,8 @@ use Rattle.automaton.specs.Rules.{targetMask}
 use Rattle.delegates.specs.declared.DelegateAnswer.{DelegateAnswer}
 use Rattle.delegates.specs.declared.DelegateAnswer.the-variants.{State, None}
 use Rattle.delegates.specs.Alike.{delegateIn, ofDelegate}
-use Rattle.delegates.specs.Classes.{firstFrom}
-use Rattle.delegates.specs.Answer.{delegateMeans}
+use Rattle.delegates.specs.mirror.Classes.{firstFrom}
+use Rattle.delegates.specs.mirror.Answer.{delegateMeans}
 use Rattle.delegates.proofs.Alike.{some-said}
 use Rattle.masks.specs.declared.StateNumber.{StateNumber}
 use Rattle.masks.specs.Turns.{rank}
@@ -34,12 +34,12 @@ use Rattle.rulecheck.specs.Checking.{ruleNumber, checkMeans}
 use Rattle.subsets.specs.Sets.{tooMany}
 use Rattle.subsets.specs.declared.Numbering.the-variants.{Whole, Over}
 use Rattle.subsets.specs.declared.SetTable.{SetTable}
-use Rattle.subsets.specs.Answer.{tableOutcome, tableOf}
+use Rattle.subsets.specs.mirror.Answer.{tableOutcome, tableOf}
 use Rattle.delegates.specs.Claims.{startsIn}
 use Rattle.build.specs.declared.BuildAnswer.the-variants as build
 use Rattle.build.proofs.Numbered.{not-over, is-over}
 use Rattle.build.specs.declared.BuildResult.{BuildResult}
-use Rattle.build.specs.Building.{accepted, refused, buildMeans, sets, builtOf, noBuilt, Outcome, buildOutcome, buildOf}
+use Rattle.build.specs.mirror.Building.{accepted, refused, buildMeans, sets, builtOf, noBuilt, Outcome, buildOutcome, buildOf}
 use Rattle.calls.specs.Calls.{installNumber}
 use Rattle.calls.proofs.Conditions.{install-number}
 use Rattle.reducing.specs.Reducing.{Reducing, refusedBy, reducingBy, reduceOf}

@@ -11,7 +11,7 @@ ghost use mathlib.Core.Bool.{_&&_, not};
 ghost use lib.Dec.{eqb};
 ghost use lib.ListN.{getD};
 ghost use Rattle.subsets.specs.Sets.{tooMany};
-ghost use Rattle.delegates.specs.Classes.{firstFrom};
+ghost use Rattle.delegates.specs.mirror.Classes.{firstFrom};
 ghost use Rattle.delegates.specs.Alike.{delegateIn, ofDelegate};
 ghost use Rattle.reducing.specs.Reduced.{delegated as delegatedOf, onward as onwardOf, keptOf, ownList, reachedOf, chosenCell, chosenOf, renamed as renamedOf, rowOf, targetsOf, cellIn, reducedBy};
 ghost use Rattle.reducing.specs.Reducing.{reduceOutcome, reduceOf, refusedBy};

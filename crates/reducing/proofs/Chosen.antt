@@ -26,7 +26,7 @@ use Rattle.automaton.specs.Rules.{automatonOf, WellFormed}
 use Rattle.automaton.specs.Successor.{successor, Reached}
 use Rattle.automaton.proofs.Laws.{successor-law}
 use Rattle.delegates.specs.Alike.{Alike, Live, Delegate, delegateIn, Merged}
-use Rattle.delegates.specs.Classes.{firstFrom}
+use Rattle.delegates.specs.mirror.Classes.{firstFrom}
 use Rattle.delegates.proofs.Alike.{said-some, said-none, some-said, alike-self, alike-back, alike-on, live-alike, merged-some, delegates-in, same-delegate}
 use Rattle.delegates.proofs.Tests.{Least, found, le-by}
 use Rattle.reducing.specs.Reduced.{gather, delegated, rounds, keptOf, ownList, reachedOf, chosenCell, chosenOf}

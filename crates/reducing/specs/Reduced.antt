@@ -36,7 +36,7 @@ use Rattle.automaton.specs.declared.Rule.{Rule}
 use Rattle.automaton.specs.Rules.{targetMask}
 use Rattle.automaton.specs.Successor.{successor}
 use Rattle.delegates.specs.Alike.{delegateIn, ofDelegate}
-use Rattle.delegates.specs.Classes.{firstFrom}
+use Rattle.delegates.specs.mirror.Classes.{firstFrom}
 use Rattle.delegates.specs.Claims.{startsIn}
 
 unfoldable pub gather : (ℕ → ℕ) → ℕ → ℕ

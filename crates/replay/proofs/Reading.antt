@@ -21,7 +21,7 @@ use Rattle.lines.proofs.Parts.{part-rest, part-is}
 use Rattle.executions.specs.Executions.{stateAfter}
 use Rattle.calls.specs.declared.Judge.{Judge}
 use Rattle.calls.specs.Calls.{Call}
-use Rattle.calls.specs.Steps.{fresh, reportOf, stepOf}
+use Rattle.calls.specs.mirror.Steps.{fresh, reportOf, stepOf}
 use Rattle.histories.specs.Claims.{judgeAfter}
 use Rattle.histories.proofs.EveryList.{report-after}
 use Rattle.calltext.specs.Meaning.{Meaning, again, call, malformed, lineIn}

@@ -29,10 +29,10 @@
 --   base Conditions, Lists, Options, Totals; limits Limits; masks Masks; automaton Automaton,
 --   Rules, Successor; rulecheck Checking, Worked; ruleformat Format, Reader, Refusals; numbering
 --   Numbering, Texts; compositions Relations; mappings Mappings, Packing; keys Kinds, Tables;
---   subsets Sets, Singles; searches Search, Texts; samples Samples; compare Claims, Compared,
---   Search, Values, Worked; delegates Alike, Claims, Classes; marks Marks; chunks Chunks; joins
---   Joining; calls Calls, Replies; histories History; c_compare Claims, Numbers; requests
---   CompareFunction.
+--   subsets Sets, mirror/Singles; searches Search, Texts; samples Samples; compare Claims,
+--   Compared, Search, Values, Worked; delegates Alike, Claims, mirror/Classes; marks Marks;
+--   chunks Chunks; joins Joining; calls Calls, Replies; histories History; c_compare Claims,
+--   Numbers; requests CompareFunction.
 use mathlib.Core.Path.{_≡_, refl, sym, ap, _∙_, subst}
 use mathlib.Core.Logic.{_↔_, _⊎_, inl, inr, ⊎-elim}
 use mathlib.Core.Bool.{true}

@@ -24,15 +24,15 @@
 --   followShown, prepareShown    C's numbers                               c_follow/specs/Numbers
 --
 -- r is any value, in which any numbers may stand, m any set, and a chunk any bytes. How the mask of live
--- states is found (live/specs/Live) need not be believed, nor how a walk goes fast (follow/specs/Cache).
+-- states is found (live/specs/Live) need not be believed, nor how a walk goes fast (follow/specs/mirror/Cache).
 -- A proved function ends and stays within its bounds. Assumes nothing.
 -- All that they rest on stands in these files of specs/ (tests/believed):
 --   base Conditions, Lists, Options, Totals; limits Limits; flags Flags; masks Masks, Turns;
 --   automaton Automaton, Rules, Successor; rulecheck Checking, Worked; ruleformat Format, Reader,
---   Refusals; numbering Numbering; subsets Sets, Singles; delegates Alike, Claims, Classes; live
---   Continued, Live; marks Marks; chunks Chunks, Taking; follow Claims, Following, Worked; joins
---   Joining; calls Calls, Replies; histories History; fillings Filled; followverdict Boards;
---   c_follow Claims, Numbers; requests FollowFunctions.
+--   Refusals; numbering Numbering; subsets Sets, mirror/Singles; delegates Alike, Claims,
+--   mirror/Classes; live Continued, Live; marks Marks; chunks Chunks, Taking; follow Claims,
+--   Following, Worked; joins Joining; calls Calls, Replies; histories History; fillings Filled;
+--   followverdict Boards; c_follow Claims, Numbers; requests FollowFunctions.
 use mathlib.Core.Path.{_≡_, ap, _∙_, refl}
 use mathlib.Core.Logic.{_↔_, _⊎_}
 use mathlib.Core.Bool.{true, false}

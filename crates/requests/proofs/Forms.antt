@@ -13,7 +13,7 @@
 --   madeOf j, noForm              the form of a judge's table; zeros       formmaker/specs/Making
 --   ruleThere h, judgeAfter h     after a list of calls                    histories/specs/History, Claims
 --   tableIn j                     the judge's table with its numbers       formtrip/specs/Claims
---   builtOf r, has, _∈_           the built rule; a bit of a mask          build/specs/Building, masks/specs/Masks
+--   builtOf r, has, _∈_           the built rule; a bit of a mask          build/specs/mirror/Building, masks/specs/Masks
 --   MayForm .. MayTableC          what the functions' contracts allow      requests/specs/FormFunctions
 --   formShown, tableShown         C's numbers                              c_form/specs/Numbers
 --   formFor f, textFor f          of a rule file, and as `ruleform` prints it   formfile/specs/Files, formtext/specs/FormText
@@ -31,14 +31,15 @@
 -- All that they rest on stands in these files of specs/ (tests/believed):
 --   base Conditions, Lists, Options, Totals; limits Limits; flags Flags; text Numerals, Writing;
 --   answers Answers; masks Masks; automaton Rules, Successor; rulecheck Checking; ruleformat
---   Format, Reader, Refusals, Worked; numbering Numbering; subsets Sets, Singles; delegates
---   Alike, Claims, Classes; build Building; marks Marks; walks Steps; chunks Chunks, Walks; board
---   Boards; joins Joining; calls Calls, Replies, Steps; executions Executions; histories Claims,
---   History; fields Bytes, Claims, Numbers; lines Splitting; ruletext RuleText; longlines
---   Holding; linetexts Alone, Beginnings, Claims, Feeding, Functions, Parts; forms Back, Claims,
---   Form; formmaker Making; formtrip Claims; formfile Files; formtext FormText, Worked;
---   wordfields Claims, Words; formline Claims, Lines, Worked; tabletext Answers, Worked;
---   formstream Texts; c_form Claims, Numbers; requests FormFunctions.
+--   Format, Reader, Refusals, Worked; numbering Numbering; subsets Sets, mirror/Singles;
+--   delegates Alike, Claims, mirror/Classes; build mirror/Building; marks Marks; walks
+--   mirror/Steps; chunks Chunks, mirror/Walks; board Boards; joins Joining; calls Calls, Replies,
+--   mirror/Steps; executions Executions; histories Claims, History; fields Bytes, Claims,
+--   Numbers; lines Splitting; ruletext RuleText; longlines Holding; linetexts Alone, Beginnings,
+--   Claims, Feeding, Functions, Parts; forms Back, Claims, Form; formmaker Making; formtrip
+--   Claims; formfile Files; formtext FormText, Worked; wordfields Claims, Words; formline Claims,
+--   Lines, Worked; tabletext Answers, Worked; formstream Texts; c_form Claims, Numbers; requests
+--   FormFunctions.
 use mathlib.Core.Path.{_≡_, ap, _∙_, refl}
 use mathlib.Core.Logic.{_↔_, _⊎_, ⊎-elim}
 use mathlib.Core.Bool.{cond}
@@ -53,7 +54,7 @@ use Rattle.formline.specs.Claims.{Fits, lineOf}
 use Rattle.automaton.specs.declared.Rule.{Rule}
 use Rattle.ruleformat.specs.Reader.{ruleOf}
 use Rattle.ruleformat.specs.Worked.{fileA}
-use Rattle.build.specs.Building.{builtOf}
+use Rattle.build.specs.mirror.Building.{builtOf}
 use Rattle.calls.specs.declared.Judge.{Judge}
 use Rattle.calls.specs.Calls.{Call, installs, installNumber, loadNumber}
 use Rattle.histories.specs.History.{ruleThere}

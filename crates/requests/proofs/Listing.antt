@@ -25,13 +25,13 @@ use Rattle.ruleformat.specs.Worked.{fileA}
 use Rattle.ruleformat.proofs.Claims as rulefile
 use Rattle.numbering.specs.Numbering.{indexOf, numbered, expandFrom, closeFrom, keysUpTo}
 use Rattle.subsets.specs.Sets.{setsOf, tooMany, setCells, nextSet, nextCells}
-use Rattle.subsets.specs.Singles.{singlesOf}
+use Rattle.subsets.specs.mirror.Singles.{singlesOf}
 use Rattle.subsets.specs.Claims.{fits, sets}
 use Rattle.subsets.proofs.Claims as subsets
 use Rattle.delegates.specs.declared.Starts.{Starts}
 use Rattle.delegates.specs.Alike.{delegateIn}
 use Rattle.build.specs.declared.Built.{Built}
-use Rattle.build.specs.Building.{builtOf, buildOf}
+use Rattle.build.specs.mirror.Building.{builtOf, buildOf}
 use Rattle.text.specs.Numerals.{decimalBelow, decimal, hex}
 use Rattle.ruletext.specs.RuleText.{ruleText, refusedText}
 use Rattle.ruletext.specs.Printing.{builtText, textBy, textFor}

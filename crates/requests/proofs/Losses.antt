@@ -27,11 +27,12 @@
 -- All that they rest on stands in these files of specs/ (tests/believed):
 --   base Conditions, Lists, Options, Totals; limits Limits; masks Masks; automaton Automaton,
 --   Rules, Successor; rulecheck Checking; ruleformat Format, Reader, Refusals; numbering
---   Numbering; subsets Sets, Singles; delegates Alike, Claims, Classes; live Continued; build
---   Building; marks Marks; walks Steps; chunks Chunks, Walks; board Boards; joins Joining; calls
---   Calls, Replies, Steps; diagnoses Diagnosing; locating Locating, Positions, Pruning;
---   executions Executions; histories Claims, Functions, History; losses Functions, Losses, Spots;
---   c_losses Numbers; requests LossFunctions.
+--   Numbering; subsets Sets, mirror/Singles; delegates Alike, Claims, mirror/Classes; live
+--   Continued; build mirror/Building; marks Marks; walks mirror/Steps; chunks Chunks,
+--   mirror/Walks; board Boards; joins Joining; calls Calls, Replies, mirror/Steps; diagnoses
+--   Diagnosing; locating Locating, Positions, mirror/Pruning; executions Executions; histories
+--   Claims, Functions, History; losses Functions, Losses, Spots; c_losses Numbers; requests
+--   LossFunctions.
 use mathlib.Core.Path.{_≡_, refl, sym, ap, _∙_}
 use mathlib.Core.Logic.{_↔_, _⊎_}
 use mathlib.Core.Bool.{true, false}
@@ -52,7 +53,7 @@ use Rattle.executions.specs.Executions.{Execution}
 use Rattle.calls.specs.declared.Judge.{Judge}
 use Rattle.calls.specs.Replies.{Reply, Reported, judged, yesWith, noWith}
 use Rattle.calls.specs.Calls.{Call, asksVerdict}
-use Rattle.calls.specs.Steps.{stepOf}
+use Rattle.calls.specs.mirror.Steps.{stepOf}
 use Rattle.histories.specs.History.{ruleIn, boardIn, placesIn, standing, verdictIn}
 use Rattle.histories.specs.Claims.{judgeAfter}
 use Rattle.histories.specs.Functions.{judgeLibrary}

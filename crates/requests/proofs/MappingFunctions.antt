@@ -24,7 +24,7 @@ use Rattle.c_mappings.specs.declared.RunNumbers.{RunNumbers}
 use Rattle.c_mappings.specs.Numbers.{buildShown, runShown, mappingShown, verdictShown}
 use Rattle.calls.specs.Replies.{Judgement, Reported}
 use Rattle.calls.specs.Calls.{Call}
-use Rattle.calls.specs.Steps.{reportOf}
+use Rattle.calls.specs.mirror.Steps.{reportOf}
 use Rattle.histories.specs.History.{verdictIn}
 use Rattle.histories.specs.Claims.{judgeAfter}
 use Rattle.histories.proofs.EveryList.{every-list}

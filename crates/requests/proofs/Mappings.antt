@@ -33,16 +33,17 @@
 -- All that they rest on stands in these files of specs/ (tests/believed):
 --   base Conditions, Lists, Options, Totals; limits Limits; flags Flags; text Numerals, Writing;
 --   answers Answers; masks Masks; automaton Automaton, Rules, Successor; rulecheck Checking,
---   Worked; ruleformat Format, Reader, Refusals, Worked; numbering Arrays, Numbering, Texts;
---   compositions Bracketing, Relations; mappings Claims, Mappings, Packing; keys Tables; subsets
---   Sets, Singles; delegates Alike, Claims, Classes; build Building; marks Marks; walks Steps;
---   chunks Chunks, Taking, Walks; profile Claims, Profiles, Runs, Worked; board Boards; joins
---   Joining; calls Calls, Claims, Replies, Steps; executions Executions, Last; histories Claims,
---   History; fillings Filled; mapverdict Filled; fields Bytes, Claims; lines Splitting; ruletext
---   RuleText; maptext Claims, MappingText, Worked; profilefile Files; mapcalls Calls, Histories,
---   Last; profiletext ProfileText, Worked; longlines Holding; linetexts Beginnings, Claims,
---   Feeding, Lists, Parts; mapreplies Replies; maplines Answers, Claims, Lines; mapstream Texts,
---   Worked; c_mappings Claims, Numbers; demands Functions; requests MappingFunctions.
+--   Worked; ruleformat Format, Reader, Refusals, Worked; numbering Numbering, Texts,
+--   mirror/Arrays; compositions Bracketing, Relations; mappings Claims, Mappings, Packing; keys
+--   Tables; subsets Sets, mirror/Singles; delegates Alike, Claims, mirror/Classes; build
+--   mirror/Building; marks Marks; walks mirror/Steps; chunks Chunks, Taking, mirror/Walks;
+--   profile Claims, Profiles, Runs, Worked; board Boards; joins Joining; calls Calls, Claims,
+--   Replies, mirror/Steps; executions Executions, Last; histories Claims, History; fillings
+--   Filled; mapverdict Filled; fields Bytes, Claims; lines Splitting; ruletext RuleText; maptext
+--   Claims, MappingText, Worked; profilefile Files; mapcalls Calls, Histories, Last; profiletext
+--   ProfileText, Worked; longlines Holding; linetexts Beginnings, Claims, Feeding, Lists, Parts;
+--   mapreplies Replies; maplines Answers, Claims, Lines; mapstream Texts, Worked; c_mappings
+--   Claims, Numbers; demands Functions; requests MappingFunctions.
 use mathlib.Core.Path.{_≡_, ap, refl}
 use mathlib.Core.Logic.{_↔_, _⊎_}
 use mathlib.Core.Bool.{true, false}

@@ -28,12 +28,12 @@
 --   base Conditions, Lists, Options, Totals; limits Limits; flags Flags; text Numerals, Writing;
 --   answers Answers; masks Masks; automaton Automaton, Rules, Successor; rulecheck Checking,
 --   Worked; ruleformat Claims, Format, Language, Reader, Refusals, Writing; numbering Numbering;
---   subsets Sets, Singles; delegates Alike, Claims, Classes; marks Marks; chunks Chunks; joins
---   Joining; calls Calls, Replies; histories History; fields Bytes, Claims; lines Splitting;
---   hexfields Fields, Reading; linetexts Alone, Feeding, Functions, Parts; products Claims,
---   Interleavings, Products, Words; merging Claims, Languages, Merged, Merging, Worked; mergetext
---   Answers, Claims, Lines, Worked; mergescan Scanning; mergestream Texts; c_merge Claims,
---   Numbers; requests MergeFunction.
+--   subsets Sets, mirror/Singles; delegates Alike, Claims, mirror/Classes; marks Marks; chunks
+--   Chunks; joins Joining; calls Calls, Replies; histories History; fields Bytes, Claims; lines
+--   Splitting; hexfields Fields, Reading; linetexts Alone, Feeding, Functions, Parts; products
+--   Claims, Interleavings, Products, Words; merging Claims, Languages, Merged, Merging, Worked;
+--   mergetext Answers, Claims, Lines, Worked; mergescan Scanning; mergestream Texts; c_merge
+--   Claims, Numbers; requests MergeFunction.
 use mathlib.Core.Path.{_≡_, sym, ap, _∙_, subst, refl}
 use mathlib.Core.Logic.{_↔_, _⊎_}
 use mathlib.Core.Bool.{Bool, true, false}

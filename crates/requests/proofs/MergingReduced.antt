@@ -33,11 +33,11 @@
 -- All that they rest on stands in these files of specs/ (tests/believed):
 --   base Conditions, Lists, Options, Totals; limits Limits; flags Flags; masks Masks, Turns;
 --   automaton Automaton, Rules, Successor; rulecheck Checking, Worked; ruleformat Claims, Format,
---   Reader, Refusals; numbering Numbering; subsets Sets, Singles; delegates Alike, Claims,
---   Classes; marks Marks; chunks Chunks; joins Joining; calls Calls, Replies; histories History;
---   products Claims, Interleavings, Products; merging Languages, Merged, Merging, Worked; c_merge
---   Numbers; reducing Claims, Reduced, Reducing, Worked; mergereduce Claims, MergeReduced,
---   Trimmed, Worked; requests MergeReducedFunction.
+--   Reader, Refusals; numbering Numbering; subsets Sets, mirror/Singles; delegates Alike, Claims,
+--   mirror/Classes; marks Marks; chunks Chunks; joins Joining; calls Calls, Replies; histories
+--   History; products Claims, Interleavings, Products; merging Languages, Merged, Merging,
+--   Worked; c_merge Numbers; reducing Claims, Reduced, Reducing, Worked; mergereduce Claims,
+--   MergeReduced, Trimmed, Worked; requests MergeReducedFunction.
 use mathlib.Core.Path.{_≡_, sym, ap, _∙_, subst}
 use mathlib.Core.Logic.{_↔_, _⊎_}
 use mathlib.Core.Bool.{true}

@@ -26,12 +26,12 @@
 --   base Conditions, Lists, Options, Totals; limits Limits; flags Flags; text Numerals, Writing;
 --   masks Masks; automaton Automaton, Rules, Successor; rulecheck Checking; ruleformat Format,
 --   Language, Reader, Refusals, Writing; rulewriter Written; numbering Numbering; subsets Sets,
---   Singles; delegates Alike, Claims, Classes; marks Marks; chunks Chunks; joins Joining; calls
---   Calls, Replies; histories History; patterns Claims, Grammar, Limits, Marked, Patterns,
---   Positions; patternscan Scanning, Signs; patternreader Reader, Rules; patternfile Answers,
---   Claims, Worked; fields Bytes, Claims; lines Splitting; patterntext Answers, Texts, Worked;
---   longlines Holding; linetexts Alone, Beginnings, Claims, Feeding, Parts; c_patterns Claims,
---   Numbers; requests PatternFunction.
+--   mirror/Singles; delegates Alike, Claims, mirror/Classes; marks Marks; chunks Chunks; joins
+--   Joining; calls Calls, Replies; histories History; patterns Claims, Grammar, Limits, Marked,
+--   Patterns, Positions; patternscan Scanning, Signs; patternreader Reader, Rules; patternfile
+--   Answers, Claims, Worked; fields Bytes, Claims; lines Splitting; patterntext Answers, Texts,
+--   Worked; longlines Holding; linetexts Alone, Beginnings, Claims, Feeding, Parts; c_patterns
+--   Claims, Numbers; requests PatternFunction.
 use mathlib.Core.Path.{_≡_, refl, sym, ap, _∙_, subst}
 use mathlib.Core.Logic.{_↔_, _⊎_}
 use mathlib.Core.Bool.{true, cond}

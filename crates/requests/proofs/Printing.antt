@@ -8,15 +8,15 @@
 --   refusedText x    `refused` and the number                 answers/specs/Answers
 --   listingA         document 01's listing of rule A          requests/proofs/Listing
 --   SamePrinted b c  all that is printed is the same          ruletext/specs/Claims
---   builtOf r        the built rule                           build/specs/Building
+--   builtOf r        the built rule                           build/specs/mirror/Building
 --   loadNumber f     the number with which a load is refused  calls/specs/Calls
 --
 -- f and g are any lists of bytes. Assumes nothing.
 -- All that they rest on stands in these files of specs/ (tests/believed):
 --   base Conditions, Lists; limits Limits; text Numerals; masks Masks; automaton Rules,
 --   Successor; rulecheck Checking; ruleformat Format, Reader, Refusals, Worked; numbering
---   Numbering; subsets Sets, Singles; delegates Alike, Claims, Classes; build Building; calls
---   Calls; ruletext Claims, Printing, RuleText.
+--   Numbering; subsets Sets, mirror/Singles; delegates Alike, Claims, mirror/Classes; build
+--   mirror/Building; calls Calls; ruletext Claims, Printing, RuleText.
 use mathlib.Core.Path.{_≡_}
 use mathlib.Core.Logic.{_↔_}
 use mathlib.Core.List.{List, [], _∷_}
@@ -27,7 +27,7 @@ use Rattle.limits.specs.Limits.{largestNumber}
 use Rattle.ruleformat.specs.Reader.{ruleOf}
 use Rattle.ruleformat.specs.Worked.{fileA}
 use Rattle.delegates.specs.Alike.{delegateIn}
-use Rattle.build.specs.Building.{builtOf}
+use Rattle.build.specs.mirror.Building.{builtOf}
 use Rattle.calls.specs.Calls.{loadNumber}
 use Rattle.ruletext.specs.RuleText.{delegateText, ruleText, refusedText}
 use Rattle.ruletext.specs.Printing.{textFor, mostBytes}

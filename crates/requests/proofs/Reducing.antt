@@ -26,9 +26,9 @@
 -- All that they rest on stands in these files of specs/ (tests/believed):
 --   base Conditions, Lists, Options, Totals; limits Limits; flags Flags; masks Masks, Turns;
 --   automaton Automaton, Rules, Successor; rulecheck Checking, Worked; ruleformat Claims, Format,
---   Reader, Refusals; numbering Numbering; subsets Sets, Singles; delegates Alike, Claims,
---   Classes; marks Marks; chunks Chunks; joins Joining; calls Calls, Replies; histories History;
---   reducing Claims, Reduced, Reducing, Worked; c_reduce Claims, Numbers; requests
+--   Reader, Refusals; numbering Numbering; subsets Sets, mirror/Singles; delegates Alike, Claims,
+--   mirror/Classes; marks Marks; chunks Chunks; joins Joining; calls Calls, Replies; histories
+--   History; reducing Claims, Reduced, Reducing, Worked; c_reduce Claims, Numbers; requests
 --   ReduceFunction.
 use mathlib.Core.Path.{_≡_, sym, ap, _∙_, subst, refl}
 use mathlib.Core.Logic.{_↔_}

@@ -26,10 +26,10 @@
 --   base Conditions, Lists, Options, Totals; limits Limits; text Numerals; answers Answers; masks
 --   Masks; automaton Automaton, Rules, Successor; rulecheck Checking, Worked; ruleformat Format,
 --   Reader, Refusals, Worked; numbering Numbering, Texts; compositions Relations; mappings
---   Mappings, Packing; keys Kinds, Tables; subsets Sets, Singles; searches Search, Texts; samples
---   Claims, Samples, Search, Values, Worked; delegates Alike, Claims, Classes; marks Marks;
---   chunks Chunks; joins Joining; calls Calls, Replies; histories History; fields Claims;
---   sampletext SampleText, Worked; c_samples Claims, Numbers; requests SampleFunctions.
+--   Mappings, Packing; keys Kinds, Tables; subsets Sets, mirror/Singles; searches Search, Texts;
+--   samples Claims, Samples, Search, Values, Worked; delegates Alike, Claims, mirror/Classes;
+--   marks Marks; chunks Chunks; joins Joining; calls Calls, Replies; histories History; fields
+--   Claims; sampletext SampleText, Worked; c_samples Claims, Numbers; requests SampleFunctions.
 use mathlib.Core.Path.{_≡_, refl, sym, ap, _∙_, subst}
 use mathlib.Core.Logic.{_↔_, _⊎_, inl, inr, ⊎-elim}
 use mathlib.Core.Bool.{true}

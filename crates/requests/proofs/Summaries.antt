@@ -32,12 +32,13 @@
 -- All that they rest on stands in these files of specs/ (tests/believed):
 --   base Conditions, Lists, Options, Totals; limits Limits; flags Flags; masks Masks; automaton
 --   Automaton, Rules, Successor; rulecheck Checking; ruleformat Format, Reader, Refusals, Worked;
---   numbering Numbering; compositions Bracketing, Relations; subsets Sets, Singles; delegates
---   Alike, Claims, Classes; build Building; digests Digests, Worked; marks Marks; walks Steps;
---   chunks Chunks, Taking, Walks; board Boards; joins Claims, Joining; calls Calls, Claims,
---   Replies, Steps; executions Executions; histories Claims, Functions, History; fillings Filled;
---   summaries Claims, Summaries; summaryverdict Functions, Lists, Traces, Worked; c_summaries
---   Numbers; capi Numbers; demands Functions; requests SummaryFunctions.
+--   numbering Numbering; compositions Bracketing, Relations; subsets Sets, mirror/Singles;
+--   delegates Alike, Claims, mirror/Classes; build mirror/Building; digests Digests, Worked;
+--   marks Marks; walks mirror/Steps; chunks Chunks, Taking, mirror/Walks; board Boards; joins
+--   Claims, Joining; calls Calls, Claims, Replies, mirror/Steps; executions Executions; histories
+--   Claims, Functions, History; fillings Filled; summaries Claims, Summaries; summaryverdict
+--   Functions, Lists, Traces, Worked; c_summaries Numbers; capi Numbers; demands Functions;
+--   requests SummaryFunctions.
 use mathlib.Core.Path.{_≡_, refl}
 use mathlib.Core.Logic.{_↔_, _⊎_}
 use mathlib.Core.List.{List, _∷_, flatten}
@@ -56,7 +57,7 @@ use Rattle.automaton.specs.Automaton.{Accepts}
 use Rattle.automaton.specs.Rules.{automatonOf}
 use Rattle.delegates.specs.Claims.{startsIn}
 use Rattle.build.specs.declared.Built.{Built}
-use Rattle.build.specs.Building.{builtOf}
+use Rattle.build.specs.mirror.Building.{builtOf}
 use Rattle.digests.specs.Digests.{digestOf}
 use Rattle.digests.specs.Worked.{cases, Digests}
 use Rattle.digests.proofs.Laws as digest-laws

@@ -12,7 +12,7 @@ use Rattle.histories.proofs.Refinement.{lent}
 use Rattle.trays.specs.declared.Tray.{Tray}
 use Rattle.trays.specs.Replies.{Judgement, Reply, judged}
 use Rattle.trays.specs.Calls.{Call, installsRow, installsColumn, opens, delivers, withdraws, asksVerdict}
-use Rattle.trays.specs.Steps.{installRowOf, installColumnOf, openOf, deliverOf, withdrawOf, verdictOf, stepOf}
+use Rattle.trays.specs.mirror.Steps.{installRowOf, installColumnOf, openOf, deliverOf, withdrawOf, verdictOf, stepOf}
 use Rattle.trayhistories.specs.History.{boardThere, emptiesIn, verdictIn, answersTo}
 use Rattle.trayhistories.specs.Claims.{trayMachine, trayAfter, repliesTo, Invariant, AllStandingAccepted}
 use Rattle.trayhistories.proofs.EveryList.{every-list}

@@ -18,7 +18,7 @@ use Rattle.linetexts.proofs.Functions.{all-written}
 use Rattle.linetexts.proofs.Beginnings.{begun, keeps-lines}
 use Rattle.trays.specs.declared.Tray.{Tray}
 use Rattle.histories.proofs.Refinement.{lent}
-use Rattle.trays.specs.Steps.{fresh}
+use Rattle.trays.specs.mirror.Steps.{fresh}
 use Rattle.traystream.specs.Texts.{trayRoom, trayLines, rightText, trayList}
 use Rattle.traystream.proofs.Claimed as traystream
 use Rattle.requests.specs.TrayTexts.{MayGather, MayFinish}

@@ -2,7 +2,7 @@
 -- the file that has it. To believe them, read the definitions that they name:
 --
 --   Call; Reply, Judgement        a tray's calls; what is answered to them  trays/specs/Calls, Replies
---   stepOf t c                    reply and state of a call on any state   trays/specs/Steps
+--   stepOf t c                    reply and state of a call on any state   trays/specs/mirror/Steps
 --   rowsOf w n b, columnOf c rows rows out of bytes, and columns           trays/specs/Rows
 --   AllAccepted                   every row and every column is accepted   trays/specs/Rows
 --   rowThere h, columnThere h     the rules that a list of calls leaves    trayhistories/specs/History
@@ -17,7 +17,7 @@
 --   Changes, AnyOrder, Unchanged, what a call changes; the whole theorem   trayhistories/specs/Claims
 --   VerdictClauses, EveryList
 --   trayLibrary, EveryRun         what the functions' contracts allow      trayhistories/specs/Functions
---   installRowOf, openOf, ..      the outcome of a call on any tray        trays/specs/Steps
+--   installRowOf, openOf, ..      the outcome of a call on any tray        trays/specs/mirror/Steps
 --   installShown, callShown,      the numbers that C is given for it       c_trays/specs/Numbers
 --   verdictShown
 --   MayOpen, ..; trayLibraryOfC   what the functions for C allow           specs/TrayFunctions
@@ -36,13 +36,14 @@
 --   base Conditions, Lists, Options, Totals; limits Limits; flags Flags; text Numerals, Writing;
 --   answers Answers; masks Masks; automaton Automaton, Rules, Successor; rulecheck Checking,
 --   Claims, Worked; ruleformat Format, Reader, Refusals; numbering Claims, Numbering, Texts;
---   subsets Sets, Singles; delegates Alike, Claims, Classes; build Building; marks Marks; chunks
---   Chunks; joins Joining; calls Calls, Replies; executions Executions, Last; histories History,
---   Method; fields Bytes, Claims, Numbers; lines Splitting; longlines Holding; linetexts
---   Beginnings, Claims, Feeding, Functions, Lists, Parts; trays Boards, Calls, Claims, Replies,
---   Rows, Sizes, Steps, Worked; trayhistories Claims, Conditions, Empties, Functions, History,
---   Last, Worked; traytext Answers, Claims, Lines, Worked; traylines Running; traystream Texts,
---   Worked; c_trays Claims, Numbers; demands TextFunctions; requests TrayFunctions, TrayTexts.
+--   subsets Sets, mirror/Singles; delegates Alike, Claims, mirror/Classes; build mirror/Building;
+--   marks Marks; chunks Chunks; joins Joining; calls Calls, Replies; executions Executions, Last;
+--   histories History, Method; fields Bytes, Claims, Numbers; lines Splitting; longlines Holding;
+--   linetexts Beginnings, Claims, Feeding, Functions, Lists, Parts; trays Boards, Calls, Claims,
+--   Replies, Rows, Sizes, Worked, mirror/Steps; trayhistories Claims, Conditions, Empties,
+--   Functions, History, Last, Worked; traytext Answers, Claims, Lines, Worked; traylines Running;
+--   traystream Texts, Worked; c_trays Claims, Numbers; demands TextFunctions; requests
+--   TrayFunctions, TrayTexts.
 use mathlib.Core.Path.{_≡_, refl}
 use mathlib.Core.Logic.{_↔_, _⊎_}
 use mathlib.Core.Bool.{false}
@@ -63,7 +64,7 @@ use Rattle.marks.specs.Marks.{idleMark}
 use Rattle.automaton.specs.declared.Rule.{Rule}
 use Rattle.automaton.specs.Automaton.{Accepts}
 use Rattle.automaton.specs.Rules.{automatonOf}
-use Rattle.build.specs.Building.{builtOf}
+use Rattle.build.specs.mirror.Building.{builtOf}
 use Rattle.calls.specs.Calls.{installNumber}
 use Rattle.histories.specs.Method.{Method}
 use Rattle.trays.specs.declared.Tray.{Tray}
@@ -71,7 +72,7 @@ use Rattle.trays.specs.Sizes.{mostWidth, mostBands, mostRows}
 use Rattle.trays.specs.Rows.{columnOf, AllAccepted}
 use Rattle.trays.specs.Replies.{Reply, refused, waiting, saysYes, saysNo, refusedWith, refusalOf}
 use Rattle.trays.specs.Calls.{Call, installsRow, installsColumn, opens, delivers}
-use Rattle.trays.specs.Steps.{fresh, installRowOf, installColumnOf, openOf, deliverOf, withdrawOf, verdictOf, stepOf}
+use Rattle.trays.specs.mirror.Steps.{fresh, installRowOf, installColumnOf, openOf, deliverOf, withdrawOf, verdictOf, stepOf}
 use Rattle.trays.specs.Claims.{RowsLaw, ColumnLaw, rowsBelow}
 use Rattle.trays.proofs.Claims as trays
 use Rattle.trayhistories.specs.History.{rowThere, columnThere, rowIn, columnIn, Size, boardThere, widthIn, bandsIn, standing, emptiesIn, rowsAt, rowsThere, verdictIn, answerOf, answersTo}

@@ -24,7 +24,7 @@ use Rattle.ruleformat.proofs.Claims as ruleformat
 use Rattle.subsets.specs.Sets.{tooMany}
 use Rattle.subsets.specs.Claims.{fits}
 use Rattle.delegates.specs.Alike.{startCount}
-use Rattle.build.specs.Building.{builtOf, buildOf}
+use Rattle.build.specs.mirror.Building.{builtOf, buildOf}
 use Rattle.build.proofs.Claims as build
 use Rattle.ruletext.specs.RuleText.{refusedText}
 use Rattle.ruletext.specs.Printing.{builtText, textBy, mostBytes}

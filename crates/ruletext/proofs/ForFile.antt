@@ -9,7 +9,7 @@ use Rattle.build.specs.declared.BuildAnswer.{BuildAnswer}
 use Rattle.build.specs.declared.BuildAnswer.the-variants.{Accepted, Refused}
 use Rattle.build.specs.declared.Built.{Built}
 use Rattle.build.specs.declared.BuildResult.{BuildResult}
-use Rattle.build.specs.Building.{buildMeans, Outcome, buildOutcome, buildOf}
+use Rattle.build.specs.mirror.Building.{buildMeans, Outcome, buildOutcome, buildOf}
 use Rattle.ruletext.specs.RuleText.{answerText, textOf, refusedText}
 use Rattle.ruletext.specs.Printing.{builtText, textFor}
 

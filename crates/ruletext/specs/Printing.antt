@@ -10,7 +10,7 @@ use Rattle.limits.specs.Limits.{mostSets}
 use Rattle.ruleformat.specs.Refusals.{refusal}
 use Rattle.ruleformat.specs.Reader.{ruleOf}
 use Rattle.build.specs.declared.Built.{Built}
-use Rattle.build.specs.Building.{BuildReply, accepted, refused, Outcome, buildOf}
+use Rattle.build.specs.mirror.Building.{BuildReply, accepted, refused, Outcome, buildOf}
 use Rattle.ruletext.specs.RuleText.{ruleText, refusedText}
 
 -- a refusal with its number, or the rule

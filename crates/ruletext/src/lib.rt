@@ -6,7 +6,7 @@ ghost use Rattle.limits.specs.Limits.{mostStates, mostSymbols, mostSets};
 ghost use Rattle.base.specs.Lists.{joined};
 ghost use Rattle.text.specs.Writing.{Wrote};
 ghost use Rattle.delegates.specs.Alike.{delegateIn};
-ghost use Rattle.delegates.specs.Answer.{delegateMeans};
+ghost use Rattle.delegates.specs.mirror.Answer.{delegateMeans};
 ghost use Rattle.ruletext.specs.RuleText.{field, cellText, rowText, setLine, headLine, delegateText, delegatesLine, ruleText, textOf};
 ghost use Rattle.ruletext.specs.Printing.{textFor, mostBytes};
 use build::BuildAnswer;

@@ -22,7 +22,7 @@ use Rattle.keys.specs.declared.Numbering.the-variants.{Whole, Over}
 use Rattle.keys.specs.Tables.{tableOutcome, tableOf}
 use Rattle.searches.specs.declared.Spelled.{Spelled}
 use Rattle.searches.specs.Search.{firstWhere, wordTo}
-use Rattle.searches.specs.Tables.{Tabled, Spells}
+use Rattle.searches.specs.mirror.Tables.{Tabled, Spells}
 use Rattle.searches.proofs.Searched as searched
 use Rattle.samples.specs.declared.Wish.{Wish}
 use Rattle.samples.specs.Samples.{text, nothing}

@@ -6,7 +6,7 @@ use native.Mathlib.Omega.{arith}
 use lib.ListN.{length, set, drop, length-append, length-set, length-drop, drop-of-length-le}
 use lib.Seq.{drop-cons, drop-set-lt, getD-set-same}
 use Rattle.searches.specs.Search.{firstCell, wordBack, wordTo}
-use Rattle.searches.specs.Tables.{Tabled}
+use Rattle.searches.specs.mirror.Tables.{Tabled}
 use Rattle.searches.proofs.Cells.{word-short, word-more, tabled-back}
 
 -- what follows the text to `at` stands from `from` on

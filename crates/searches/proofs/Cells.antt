@@ -22,7 +22,7 @@ use Rattle.keys.specs.Tables.{cellsOf, cellsTo}
 use Rattle.searches.specs.Search.{firstWhere, firstCell, wordTo}
 use Rattle.searches.proofs.Firsts.{where-is}
 use Rattle.searches.proofs.WayBack.{in-use, Step, way-back, word-of}
-use Rattle.searches.specs.Tables.{Tabled, FirstIn}
+use Rattle.searches.specs.mirror.Tables.{Tabled, FirstIn}
 
 -- ---- the first key
 module _ (t : ℕ → Bool) (keys : List ℕ) (count i : ℕ) (long : count ≤ length keys) (before : (j : ℕ) → j < i → t (getD keys j 0) ≡ false) where

@@ -7,7 +7,7 @@ use native.Mathlib.Omega.{arith}
 use lib.ListN.{length, getD, take, length-take}
 use lib.Seq.{ext-getD, getD-take}
 use Rattle.numbering.specs.Numbering.{Walk, keysUpTo}
-use Rattle.numbering.specs.Arrays.{limited, keyCells}
+use Rattle.numbering.specs.mirror.Arrays.{limited, keyCells}
 use Rattle.numbering.proofs.Arrays.{cells-at, cells-long, whole-of, over-of, read-back}
 use Rattle.keys.specs.declared.Kind.{Kind}
 use Rattle.keys.specs.declared.KeyTable.{KeyTable}
@@ -15,7 +15,7 @@ use Rattle.keys.specs.declared.Numbering.{Numbering}
 use Rattle.keys.specs.declared.Numbering.the-variants.{Whole, Over}
 use Rattle.keys.specs.Kinds.{walkBy}
 use Rattle.keys.specs.Tables.{countMeans, heldBy, Table, tableOutcome, cellsTo, tableFor, tableBy}
-use Rattle.searches.specs.Tables.{Tabled}
+use Rattle.searches.specs.mirror.Tables.{Tabled}
 
 module _ (kind : Kind) (ts us : List ℕ) (k m : ℕ) (columns : k ≤ 16) (t : KeyTable) (are : tableOutcome t ≡ tableBy kind ts us k m) where
   abbrev walk : Walk

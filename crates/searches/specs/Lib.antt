@@ -1,4 +1,4 @@
 -- In the order in which to read them.
 pub mod Search
 pub mod Texts
-pub mod Tables
+pub mod mirror

@@ -5,7 +5,7 @@ ghost use lib.ListN.{length, drop};
 ghost use Rattle.limits.specs.Limits.{mostSymbols, mostSets};
 ghost use Rattle.searches.specs.Search.{firstCell, wordTo};
 ghost use Rattle.searches.specs.Texts.{longestText};
-ghost use Rattle.searches.specs.Tables.{Tabled, FirstIn, Spells};
+ghost use Rattle.searches.specs.mirror.Tables.{Tabled, FirstIn, Spells};
 use keys::KeyNumber;
 
 // The most symbols of a text that is found. At most 512 keys are searched, and each that the way to

@@ -8,7 +8,7 @@ use native.Mathlib.Omega.{arith}
 use Rattle.text.specs.Numerals.{decimalBelow}
 use Rattle.lines.specs.Splitting.{begins, linesFrom, linesOf}
 use Rattle.calls.specs.declared.Judge.{Judge}
-use Rattle.calls.specs.Steps.{fresh}
+use Rattle.calls.specs.mirror.Steps.{fresh}
 use Rattle.linebuffer.proofs.Long as linebuffer
 use Rattle.linetexts.specs.Feeding.{Outcome}
 use Rattle.linetexts.specs.Beginnings.{Told, beginning}

@@ -13,7 +13,7 @@ use Rattle.text.specs.Writing.{Wrote}
 use Rattle.calls.specs.declared.Judge.{Judge}
 use Rattle.calls.specs.declared.Report.{Report}
 use Rattle.calls.specs.Replies.{Reported, judged, reportMeans}
-use Rattle.calls.specs.Steps.{reportOf}
+use Rattle.calls.specs.mirror.Steps.{reportOf}
 use Rattle.calltext.specs.Meaning.{Meaning, malformed, lineIn}
 use Rattle.calltext.specs.Answers.{replied, isMalformed, responseText, answerMeans}
 use Rattle.callrun.specs.declared.LineRun.{LineRun}

@@ -6,7 +6,7 @@ use mathlib.Core.Option.{Option, some}
 use Prim.Native.Nat.{ℕ}
 use Rattle.executions.specs.Executions.{stateAfter}
 use Rattle.calls.specs.Calls.{Call}
-use Rattle.calls.specs.Steps.{fresh}
+use Rattle.calls.specs.mirror.Steps.{fresh}
 use Rattle.histories.specs.Claims.{judgeAfter}
 use Rattle.histories.proofs.EveryList.{answer-after}
 use Rattle.calltext.specs.Meaning.{Meaning, again, call, malformed, lineIn}

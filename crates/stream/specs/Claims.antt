@@ -11,7 +11,7 @@ use Rattle.limits.specs.Limits.{lineRoom}
 use Rattle.lines.specs.Splitting.{linesOf}
 use Rattle.calls.specs.declared.Judge.{Judge}
 use Rattle.calls.specs.Calls.{Call}
-use Rattle.calls.specs.Steps.{fresh}
+use Rattle.calls.specs.mirror.Steps.{fresh}
 use Rattle.longlines.specs.Holding.{lineBegin}
 use Rattle.linetexts.specs.Feeding.{State, finishOf}
 use Rattle.linetexts.specs.Beginnings.{Beginning, stateOf, Told}

@@ -6,7 +6,7 @@ ghost use lib.ListN.{length};
 ghost use Rattle.limits.specs.Limits.{bytesRoom, lineRoom, answerRoom};
 ghost use Rattle.text.specs.Writing.{Wrote};
 ghost use Rattle.calls.specs.Replies.{judged};
-ghost use Rattle.calls.specs.Steps.{reportOf};
+ghost use Rattle.calls.specs.mirror.Steps.{reportOf};
 ghost use Rattle.calltext.specs.Answers.{replied, responseText};
 ghost use Rattle.callrun.specs.Running.{verdictAsked, Scratch};
 ghost use Rattle.linebuffer.specs.Meanings.{heldMeaning};

@@ -12,8 +12,8 @@ use lib.Seq.{getD-take}
 use Rattle.base.proofs.Tests.{by-test}
 use Rattle.masks.specs.Masks.{single}
 use Rattle.subsets.specs.Sets.{indexOf}
-use Rattle.numbering.specs.Arrays.{foundIn}
-use Rattle.subsets.specs.Singles.{singletonNumber}
+use Rattle.numbering.specs.mirror.Arrays.{foundIn}
+use Rattle.subsets.specs.mirror.Singles.{singletonNumber}
 use Rattle.numbering.proofs.Numbers.{Has, number-le, number-at, stands}
 use Rattle.numbering.proofs.Arrays.{found-has, found-not}
 

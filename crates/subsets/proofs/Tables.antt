@@ -23,7 +23,7 @@ use Rattle.masks.proofs.Laws.{union-lt}
 use Rattle.automaton.specs.Rules.{targetMask}
 use Rattle.automaton.specs.Successor.{successor}
 use Rattle.numbering.specs.Texts.{follow}
-use Rattle.numbering.specs.Arrays.{cellTo, ArraysHold, Grown}
+use Rattle.numbering.specs.mirror.Arrays.{cellTo, ArraysHold, Grown}
 use Rattle.numbering.proofs.Claims as numbering
 use Rattle.numbering.proofs.Arrays.{whole-of, over-of}
 use Rattle.numbering.proofs.Table.{next-whole, row-test}
@@ -33,8 +33,8 @@ use Rattle.keys.specs.Tables.{countMeans}
 use Rattle.subsets.specs.declared.Numbering.the-variants.{Whole}
 use Rattle.subsets.specs.declared.SetTable.{SetTable}
 use Rattle.subsets.specs.Sets.{setWalk, setsOf, tooMany, nextSet, setCells, nextCells}
-use Rattle.subsets.specs.Singles.{singlesOf}
-use Rattle.subsets.specs.Answer.{counted, refused, noTable, tableOutcome, tableOf}
+use Rattle.subsets.specs.mirror.Singles.{singlesOf}
+use Rattle.subsets.specs.mirror.Answer.{counted, refused, noTable, tableOutcome, tableOf}
 
 -- ---- at most 512, where `over` says whether they are too many
 pub told-counted : (over : Bool) (count c : ℕ) → counted c ≡ cond over (refused 9) (counted count) → (over ≡ false) × (c ≡ count)

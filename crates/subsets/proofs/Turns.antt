@@ -19,7 +19,7 @@ use Rattle.masks.specs.Masks.{single}
 use Rattle.automaton.specs.Successor.{successor}
 use Rattle.automaton.proofs.Laws.{successor-foreign}
 use Rattle.numbering.specs.Numbering.{keysUpTo}
-use Rattle.numbering.specs.Arrays.{InRow, ArraysHold, grownBy, Grown, Added}
+use Rattle.numbering.specs.mirror.Arrays.{InRow, ArraysHold, grownBy, Grown, Added}
 use Rattle.numbering.proofs.Numbers.{begins-length}
 use Rattle.numbering.proofs.Closure.{upTo-begins}
 use Rattle.numbering.proofs.Arrays.{over-of}

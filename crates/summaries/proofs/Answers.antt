@@ -20,7 +20,7 @@ use Rattle.chunks.proofs.Claims as chunks
 use Rattle.calls.specs.declared.Judge.{Judge}
 use Rattle.calls.specs.Replies.{Judgement, waiting, yesWith, noWith, refusedWith, refusalIn}
 use Rattle.calls.specs.Calls.{reportBy}
-use Rattle.calls.specs.Steps.{lacksRule}
+use Rattle.calls.specs.mirror.Steps.{lacksRule}
 use Rattle.summaries.specs.declared.Summary.{Summary}
 use Rattle.summaries.specs.Summaries.{noSummary, madeOf, summaryBy, summaryNumber, summarizeOf, reachedBy, concludeConditions, concludeNumber, saidBy, concludeBy, concludeOf}
 use Rattle.summaries.specs.Claims.{Summarized-exactly, Concluded-exactly}

@@ -19,10 +19,10 @@ use Rattle.compositions.specs.Relations.{imageOf}
 use Rattle.digests.specs.Digests.{digestOf}
 use Rattle.chunks.specs.Chunks.{foreign}
 use Rattle.chunks.specs.Taking.{chunkNumber}
-use Rattle.chunks.specs.Walks.{delegateMask, runMask, runsOf}
+use Rattle.chunks.specs.mirror.Walks.{delegateMask, runMask, runsOf}
 use Rattle.chunks.proofs.Claims as chunks
 use Rattle.deliveries.specs.declared.Attempt.{Attempt}
-use Rattle.deliveries.specs.Attempts as attempts
+use Rattle.deliveries.specs.mirror.Attempts as attempts
 use Rattle.calls.specs.declared.Judge.{Judge}
 use Rattle.calls.specs.declared.DeliverAnswer.the-variants as delivery
 use Rattle.calls.specs.Replies.{Judgement, Reported, refusedWith, refused, delivered, deliverMeans}

@@ -55,11 +55,11 @@ use Rattle.build.specs.declared.Built.{Built}
 use Rattle.digests.specs.Digests.{digestOf}
 use Rattle.chunks.specs.declared.Runs.{Runs}
 use Rattle.chunks.specs.Taking.{chunkNumber}
-use Rattle.chunks.specs.Walks.{delegateMask, runMask, runsOf}
+use Rattle.chunks.specs.mirror.Walks.{delegateMask, runMask, runsOf}
 use Rattle.calls.specs.declared.Judge.{Judge}
 use Rattle.calls.specs.Replies.{Judgement, Reported, yesWith, noWith, refusedWith}
 use Rattle.calls.specs.Calls.{alone, reportBy}
-use Rattle.calls.specs.Steps.{lacksRule}
+use Rattle.calls.specs.mirror.Steps.{lacksRule}
 use Rattle.summaries.specs.declared.Summary.{Summary}
 use Rattle.summaries.specs.declared.SummaryAnswer.{SummaryAnswer}
 use Rattle.summaries.specs.declared.SummaryAnswer.the-variants.{Accepted, Refused}

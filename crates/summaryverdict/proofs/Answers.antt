@@ -19,11 +19,11 @@ use Rattle.automaton.specs.Automaton.{Text}
 use Rattle.automaton.specs.Rules.{WellFormed}
 use Rattle.subsets.specs.Claims.{fits}
 use Rattle.delegates.specs.Claims.{startsIn}
-use Rattle.build.specs.Building.{builtOf}
+use Rattle.build.specs.mirror.Building.{builtOf}
 use Rattle.digests.specs.Digests.{digestOf}
 use Rattle.chunks.specs.Chunks.{foreign, counted, delegateSet, endSet, chunkCount}
 use Rattle.chunks.specs.Taking.{chunkNumber}
-use Rattle.chunks.specs.Walks.{delegateMask}
+use Rattle.chunks.specs.mirror.Walks.{delegateMask}
 use Rattle.chunks.proofs.Claims as chunks
 use Rattle.histories.specs.History.{runAt}
 use Rattle.histories.proofs.Running.{n-same, k-same, end-same, count-same}

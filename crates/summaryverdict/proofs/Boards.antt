@@ -17,7 +17,7 @@ use Rattle.automaton.specs.declared.Rule.{Rule}
 use Rattle.automaton.specs.Automaton.{Accepts}
 use Rattle.automaton.specs.Rules.{automatonOf, WellFormed}
 use Rattle.subsets.specs.Claims.{fits}
-use Rattle.build.specs.Building.{builtOf}
+use Rattle.build.specs.mirror.Building.{builtOf}
 use Rattle.chunks.specs.Chunks.{chunkCount}
 use Rattle.calls.specs.Replies.{Judgement, yesWith, noWith, refused}
 use Rattle.calls.specs.Calls.{Call, delivers, reportBy}

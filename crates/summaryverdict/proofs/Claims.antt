@@ -4,7 +4,7 @@ use mathlib.Core.List.{List}
 use Prim.Native.Nat.{ℕ}
 use Rattle.automaton.specs.declared.Rule.{Rule}
 use Rattle.build.specs.declared.Built.{Built}
-use Rattle.build.specs.Building.{builtOf}
+use Rattle.build.specs.mirror.Building.{builtOf}
 use Rattle.calls.specs.declared.Judge.{Judge}
 use Rattle.histories.proofs.Steps.{accepted-rule}
 use Rattle.fillings.proofs.Claims as fillings

@@ -14,7 +14,7 @@ use Rattle.automaton.specs.declared.Rule.{Rule}
 use Rattle.automaton.specs.Automaton.{Accepts}
 use Rattle.automaton.specs.Rules.{automatonOf, WellFormed}
 use Rattle.subsets.specs.Claims.{fits}
-use Rattle.build.specs.Building.{builtOf}
+use Rattle.build.specs.mirror.Building.{builtOf}
 use Rattle.digests.specs.Digests.{digestOf}
 use Rattle.calls.specs.Replies.{Reported, yesWith, noWith, refusedWith, refusalIn}
 use Rattle.calls.specs.Calls.{installNumber, reportBy}

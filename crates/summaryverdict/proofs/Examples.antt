@@ -12,10 +12,10 @@ use Rattle.ruleformat.specs.Reader.{targetsUpTo, ruleOf}
 use Rattle.ruleformat.specs.Worked.{fileA}
 use Rattle.numbering.specs.Numbering.{indexOf, numbered, expandFrom, closeFrom, keysUpTo, nextOf}
 use Rattle.subsets.specs.Sets.{setWalk, setsOf, nextSet}
-use Rattle.subsets.specs.Singles.{singletonNumber}
+use Rattle.subsets.specs.mirror.Singles.{singletonNumber}
 use Rattle.delegates.specs.Claims.{startsIn}
 use Rattle.delegates.specs.declared.Starts.{Starts}
-use Rattle.build.specs.Building.{builtOf}
+use Rattle.build.specs.mirror.Building.{builtOf}
 use Rattle.digests.specs.Digests.{stirred, halfStep, digestStep, digestFrom, firstCells, digestOf}
 use Rattle.digests.proofs.Laws.{first-of}
 use Rattle.histories.proofs.TwoRules.{listed, starts-A}

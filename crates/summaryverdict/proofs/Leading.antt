@@ -23,7 +23,7 @@ use Rattle.automaton.specs.Automaton.{Run, stay}
 use Rattle.automaton.specs.Rules.{automatonOf, WellFormed}
 use Rattle.delegates.specs.Alike.{AcceptsFrom, Delegate, delegateIn, ofDelegate, Merged}
 use Rattle.delegates.proofs.Alike.{some-said, final-live, delegates-in}
-use Rattle.chunks.specs.Walks.{delegateMask}
+use Rattle.chunks.specs.mirror.Walks.{delegateMask}
 use Rattle.chunks.proofs.Claims as chunks
 use Rattle.joins.specs.Joining.{joinOf}
 use Rattle.summaries.specs.Summaries.{leadsOf}

@@ -28,10 +28,10 @@ use Rattle.automaton.specs.Rules.{automatonOf, WellFormed}
 use Rattle.subsets.specs.Claims.{fits}
 use Rattle.delegates.specs.Alike.{delegateIn}
 use Rattle.delegates.specs.Claims.{startsIn}
-use Rattle.build.specs.Building.{builtOf}
+use Rattle.build.specs.mirror.Building.{builtOf}
 use Rattle.digests.specs.Digests.{digestOf}
 use Rattle.chunks.specs.Chunks.{endSet, chunkCount}
-use Rattle.chunks.specs.Walks.{delegateMask}
+use Rattle.chunks.specs.mirror.Walks.{delegateMask}
 use Rattle.joins.specs.Joining.{joinOf}
 use Rattle.joins.specs.Claims.{Texts}
 use Rattle.joins.proofs.Claims as joins

@@ -36,7 +36,7 @@ use Rattle.automaton.specs.declared.Rule.{Rule}
 use Rattle.automaton.specs.Automaton.{Accepts}
 use Rattle.automaton.specs.Rules.{automatonOf}
 use Rattle.delegates.specs.Claims.{startsIn}
-use Rattle.build.specs.Building.{builtOf}
+use Rattle.build.specs.mirror.Building.{builtOf}
 use Rattle.digests.specs.Digests.{digestOf}
 use Rattle.chunks.specs.Chunks.{delegateSet, endSet, chunkCount}
 use Rattle.chunks.specs.Taking.{chunkNumber}
@@ -44,7 +44,7 @@ use Rattle.joins.specs.Claims as joins
 use Rattle.calls.specs.declared.Judge.{Judge}
 use Rattle.calls.specs.Replies.{Reported, yesWith, noWith, refusedWith, refusalIn, refused}
 use Rattle.calls.specs.Calls.{Call, delivers, installNumber}
-use Rattle.calls.specs.Steps.{withRule}
+use Rattle.calls.specs.mirror.Steps.{withRule}
 use Rattle.calls.specs.Claims.{Divided}
 use Rattle.histories.specs.History.{ruleThere, placesIn, runAt, reportIn, answerOf}
 use Rattle.fillings.specs.Filled.{Filled}

@@ -3,7 +3,7 @@
 use mathlib.Core.Path.{_≡_}
 use Rattle.ruleformat.specs.Reader.{ruleOf}
 use Rattle.ruleformat.specs.Worked.{fileA}
-use Rattle.build.specs.Building.{builtOf}
+use Rattle.build.specs.mirror.Building.{builtOf}
 use Rattle.digests.specs.Digests.{digestOf}
 
 abbrev pub DigestA : Type 0

@@ -14,7 +14,7 @@ use Rattle.automaton.specs.Automaton.{Accepts}
 use Rattle.automaton.specs.Rules.{automatonOf}
 use Rattle.delegates.specs.Alike.{delegateIn}
 use Rattle.delegates.specs.Claims.{startsIn}
-use Rattle.build.specs.Building.{builtOf}
+use Rattle.build.specs.mirror.Building.{builtOf}
 use Rattle.board.specs.Boards.{held}
 use Rattle.chunks.proofs.Counting.{how-many-once}
 use Rattle.joins.specs.Joining.{yesOf}

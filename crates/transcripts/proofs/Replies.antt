@@ -12,7 +12,7 @@ use borrow.Author.Tests.{eqb-false}
 use Rattle.marks.specs.Marks.{textOf}
 use Rattle.automaton.specs.Automaton.{Accepts}
 use Rattle.automaton.specs.Rules.{automatonOf}
-use Rattle.build.specs.Building.{builtOf}
+use Rattle.build.specs.mirror.Building.{builtOf}
 use Rattle.ruleformat.specs.Reader.{ruleOf}
 use Rattle.ruleformat.specs.Language.{automatonIn}
 use Rattle.calls.specs.Replies.{Judgement, waiting, yesWith, noWith, installed, judged, delivered}

@@ -12,7 +12,7 @@ use Rattle.ruleformat.specs.Reader.{ruleOf}
 use Rattle.ruleformat.proofs.Claims as rulefile
 use Rattle.subsets.specs.Claims.{fits}
 use Rattle.delegates.specs.Alike.{Delegate}
-use Rattle.build.specs.Building.{builtOf}
+use Rattle.build.specs.mirror.Building.{builtOf}
 use Rattle.chunks.specs.Chunks.{endSet, chunkCount, looked}
 use Rattle.chunks.specs.Counting.{HowMany, RunsOver}
 use Rattle.chunks.proofs.Counting.{how-many-map}

@@ -6,7 +6,7 @@ ghost use lib.Dec.{eqb};
 ghost use Rattle.trays.specs.Replies.{accepted, refused, installMeans, verdictMeans};
 ghost use Rattle.trays.specs.Calls.{notRows, foreignTo};
 ghost use Rattle.trays.specs.Boards.{widthOf, bandsOf};
-ghost use Rattle.trays.specs.Steps.{fresh, withBoard, withRow, withColumn, installAnswer, installOutcome, callOutcome, installOf, installRowOf, installColumnOf, openOf, deliverOf, withdrawOf, verdictOf};
+ghost use Rattle.trays.specs.mirror.Steps.{fresh, withBoard, withRow, withColumn, installAnswer, installOutcome, callOutcome, installOf, installRowOf, installColumnOf, openOf, deliverOf, withdrawOf, verdictOf};
 use automaton::Rule;
 use build::BuildAnswer;
 use rulecheck::CheckAnswer;

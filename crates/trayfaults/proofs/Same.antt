@@ -20,7 +20,7 @@ use Rattle.trays.specs.declared.Tray.{Tray}
 use Rattle.trays.specs.Rows.{rowsUpTo, columnOf, accepted}
 use Rattle.trays.specs.Calls.{Call}
 use Rattle.trays.specs.Boards.{widthOf, bandsOf, bandRows, isEmpty}
-use Rattle.trays.specs.Steps.{lacksBoard}
+use Rattle.trays.specs.mirror.Steps.{lacksBoard}
 use Rattle.trays.proofs.Rows.{up-to-same}
 use Rattle.trayhistories.specs.History.{rowIn, columnIn, Size, boardThere, widthIn, bandsIn, rowsAt}
 use Rattle.trayhistories.specs.Claims.{trayAfter}

@@ -31,7 +31,7 @@ use Rattle.trays.specs.declared.Tray.{Tray}
 use Rattle.trays.specs.Rows.{rowsIn}
 use Rattle.trays.specs.Calls.{notRows, foreignTo, openConditions}
 use Rattle.trays.specs.Boards.{widthOf, bandsOf, bandRows, isEmpty, emptyBoard, filledAt, clearedAt}
-use Rattle.trays.specs.Steps.{fresh, lacksRule, lacksBoard, withBoard}
+use Rattle.trays.specs.mirror.Steps.{fresh, lacksRule, lacksBoard, withBoard}
 use Rattle.trays.proofs.Bands.{Sized, sized-empty, empty-all, empty-rows, Changed, filled-at, cleared-at}
 use Rattle.trayhistories.specs.History.{Size, widthFrom, bandsFrom, rowsFrom}
 

@@ -9,7 +9,7 @@ use Rattle.histories.proofs.Method.{method}
 use Rattle.trays.specs.declared.Tray.{Tray}
 use Rattle.trays.specs.Replies.{judged, refusalOf}
 use Rattle.trays.specs.Calls.{Call, installsRow, installsColumn, opens, delivers, withdraws, asksVerdict}
-use Rattle.trays.specs.Steps.{stepOf}
+use Rattle.trays.specs.mirror.Steps.{stepOf}
 use Rattle.trays.proofs.Claims as trays
 use Rattle.trayhistories.specs.History.{rowThere, columnThere, boardThere, standing, answerOf, answersTo}
 use Rattle.trayhistories.specs.Claims.{trayAfter, repliesTo, Unchanged, EveryList}

@@ -21,7 +21,7 @@ use Rattle.trays.specs.declared.Tray.{Tray}
 use Rattle.trays.specs.Rows.{passes}
 use Rattle.trays.specs.Calls.{notRows, foreignTo, openConditions, deliverConditions, withdrawConditions, verdictBy}
 use Rattle.trays.specs.Boards.{widthOf, bandsOf, isEmpty, emptyBands, rowsHeld}
-use Rattle.trays.specs.Steps.{lacksRule, lacksBoard, isYes, verdictOf}
+use Rattle.trays.specs.mirror.Steps.{lacksRule, lacksBoard, isYes, verdictOf}
 use Rattle.trays.proofs.Bands.{empty-law, held-law}
 use Rattle.trayhistories.specs.History.{Size, widthFrom, bandsFrom, deliverCheck, withdrawCheck, rowsFrom, joinedRows}
 use Rattle.trayhistories.proofs.Agreement.{Agrees, few, no-rule, no-board, bands-same, width-same}

@@ -14,7 +14,7 @@ use Rattle.base.specs.Conditions.{firstOf}
 use Rattle.executions.specs.Executions.{Execution, Meets}
 use Rattle.executions.proofs.Executions.{execution-law}
 use Rattle.automaton.specs.declared.Rule.{Rule}
-use Rattle.build.specs.Building.{builtOf}
+use Rattle.build.specs.mirror.Building.{builtOf}
 use Rattle.calls.specs.Calls.{installNumber}
 use Rattle.histories.proofs.Refinement.{lent}
 use Rattle.trays.specs.declared.Tray.{Tray}
@@ -27,7 +27,7 @@ use Rattle.trays.specs.declared.TrayVerdict.the-variants as verdict
 use Rattle.trays.specs.Replies.{Judgement, waiting, saysYes, saysNo, refusedWith, Reply, accepted, installed, judged, verdictMeans}
 use Rattle.trays.specs.Calls.{Call, installsRow, installsColumn, opens, delivers, withdraws, asksVerdict, openConditions, deliverConditions, withdrawConditions}
 use Rattle.trays.specs.Boards.{widthOf, bandsOf, isEmpty, emptyBoard, filledAt, clearedAt}
-use Rattle.trays.specs.Steps.{Outcome, lacksRule, lacksBoard, withBoard, installOutcome, callOutcome, outcomeBy, withRow, withColumn, installRowOf, installColumnOf, openOf, deliverOf, withdrawOf, verdictOf, stepOf}
+use Rattle.trays.specs.mirror.Steps.{Outcome, lacksRule, lacksBoard, withBoard, installOutcome, callOutcome, outcomeBy, withRow, withColumn, installRowOf, installColumnOf, openOf, deliverOf, withdrawOf, verdictOf, stepOf}
 use Rattle.traycalls.proofs.Asks.{new-tray-asks-nothing, install-row-asks-nothing, install-column-asks-nothing, open-asks-nothing, deliver-asks-nothing, withdraw-asks-nothing, verdict-asks-nothing}
 use Rattle.trayhistories.specs.Claims.{trayMachine, trayAfter, repliesTo, Invariant}
 use Rattle.trayhistories.specs.Functions.{AsksStep, MayStep, trayLibrary, EveryRun}

@@ -16,7 +16,7 @@ use Rattle.trays.specs.declared.Tray.{Tray}
 use Rattle.trays.specs.Replies.{Reply, accepted, replyBy}
 use Rattle.trays.specs.Calls.{Call, installsRow, installsColumn, opens, delivers, withdraws, asksVerdict, deliverConditions, withdrawConditions}
 use Rattle.trays.specs.Boards.{emptyBoard, filledAt, clearedAt}
-use Rattle.trays.specs.Steps.{fresh, withBoard, outcomeBy, withRow, withColumn, installReply, installRowOf, installColumnOf, openOf, deliverOf, withdrawOf, verdictOf}
+use Rattle.trays.specs.mirror.Steps.{fresh, withBoard, outcomeBy, withRow, withColumn, installReply, installRowOf, installColumnOf, openOf, deliverOf, withdrawOf, verdictOf}
 use Rattle.trayhistories.specs.History.{rowThere, columnThere, rowIn, columnIn, openNumber, Size, boardThere, bandsIn, widthIn, standing, deliverNumber, withdrawNumber, verdictIn, withSets}
 use Rattle.trayhistories.proofs.Agreement.{Agrees, kept-rules, all-empty, all-removed, fresh-holds, cleared-holds, filled-holds}
 use Rattle.trayhistories.proofs.Numbers.{open-number, withdraw-number, deliver-number, verdict-same}

@@ -24,7 +24,7 @@ use Rattle.marks.specs.Marks.{idleMark}
 use Rattle.automaton.specs.declared.Rule.{Rule}
 use Rattle.automaton.specs.Automaton.{Accepts, Text}
 use Rattle.automaton.specs.Rules.{automatonOf}
-use Rattle.build.specs.Building.{builtOf}
+use Rattle.build.specs.mirror.Building.{builtOf}
 use Rattle.calls.specs.Calls.{installNumber}
 use Rattle.histories.specs.Method.{Method}
 use Rattle.trays.specs.declared.Tray.{Tray}
@@ -33,7 +33,7 @@ use Rattle.trays.specs.Rows.{columnOf, AllAccepted}
 use Rattle.trays.specs.Replies.{Reply, accepted, refused, waiting, saysYes, saysNo, refusedWith, refusalOf}
 use Rattle.trays.specs.Calls.{Call, installsRow, installsColumn, opens, delivers, withdraws, asksVerdict}
 use Rattle.trays.specs.Boards.{bandRows, isEmpty, emptyBands, rowsHeld}
-use Rattle.trays.specs.Steps.{fresh, lacksRule, lacksBoard, verdictOf, stepOf}
+use Rattle.trays.specs.mirror.Steps.{fresh, lacksRule, lacksBoard, verdictOf, stepOf}
 use Rattle.trayhistories.specs.History.{rowThere, columnThere, rowIn, columnIn, lacksRuleIn, Size, boardThere, widthIn, bandsIn, standing, emptiesIn, rowsAt, rowsThere, verdictIn, answerOf, answersTo}
 use Rattle.trayhistories.specs.Conditions.{Installation, RulesIn, WholeRows, Accepted-exactly, Refused-exactly}
 

@@ -24,7 +24,7 @@ use Rattle.trays.specs.declared.CallResult.{CallResult}
 use Rattle.trays.specs.declared.TrayVerdict.{TrayVerdict}
 use Rattle.trays.specs.Replies.{Reply, judged, verdictMeans}
 use Rattle.trays.specs.Calls.{Call, installsRow, installsColumn, opens, delivers, withdraws, asksVerdict}
-use Rattle.trays.specs.Steps.{installOutcome, callOutcome}
+use Rattle.trays.specs.mirror.Steps.{installOutcome, callOutcome}
 use Rattle.trayhistories.specs.History.{answersTo}
 use Rattle.trayhistories.specs.Claims.{trayAfter, Invariant}
 use Rattle.traycalls.proofs.new_tray.Reads as new-reads

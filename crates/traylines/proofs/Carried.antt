@@ -15,7 +15,7 @@ use Rattle.fields.specs.Bytes.{parseBytes, Took}
 use Rattle.fields.proofs.Taking.{carries, not-bytes}
 use Rattle.trays.specs.declared.Tray.{Tray}
 use Rattle.trays.specs.Replies.{Reply}
-use Rattle.trays.specs.Steps.{deliverOf}
+use Rattle.trays.specs.mirror.Steps.{deliverOf}
 use Rattle.traytext.specs.Lines.{malformed, deliverBy}
 use Rattle.traytext.specs.Answers.{replied}
 use Rattle.traylines.specs.Running.{fileBy, loadOf, LineOutcome, replyOf, lineStep}

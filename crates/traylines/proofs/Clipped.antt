@@ -21,7 +21,7 @@ use Rattle.trays.specs.declared.Tray.{Tray}
 use Rattle.trays.specs.declared.TrayBoard.{TrayBoard}
 use Rattle.trays.specs.Calls.{notRows}
 use Rattle.trays.specs.Boards.{widthOf, bandsOf}
-use Rattle.trays.specs.Steps.{outcomeBy, lacksBoard, deliverOf}
+use Rattle.trays.specs.mirror.Steps.{outcomeBy, lacksBoard, deliverOf}
 use Rattle.trays.specs.Replies.{Reply}
 use Rattle.trays.proofs.Bands.{rows-fit}
 use Rattle.trays.proofs.Passing.{whole-rows}

@@ -17,7 +17,7 @@ use Rattle.calls.specs.Calls.{installNumber, loadNumber}
 use Rattle.calls.proofs.Conditions.{load-number, load-installs}
 use Rattle.trays.specs.declared.Tray.{Tray}
 use Rattle.trays.specs.Replies.{refused}
-use Rattle.trays.specs.Steps.{Outcome, outcomeBy, withRow, withColumn, installReply, installRowOf, installColumnOf}
+use Rattle.trays.specs.mirror.Steps.{Outcome, outcomeBy, withRow, withColumn, installReply, installRowOf, installColumnOf}
 use Rattle.traylines.specs.Running.{loadRowOf, loadColumnOf, loadOf}
 
 module _ (t : Tray) (f : List ℕ) (read : ReadResult) (reads : readOutcome read ≡ readOf f) where

@@ -23,7 +23,7 @@ use Rattle.limits.specs.Limits.{longestFile}
 use Rattle.ruleformat.specs.Reader.{ruleOf}
 use Rattle.calls.specs.Calls.{loadNumber}
 use Rattle.trays.specs.declared.Tray.{Tray}
-use Rattle.trays.specs.Steps.{fresh, Outcome, outcomeBy, withRow, withColumn, installReply, stepOf}
+use Rattle.trays.specs.mirror.Steps.{fresh, Outcome, outcomeBy, withRow, withColumn, installReply, stepOf}
 use Rattle.traytext.specs.Lines.{Meaning, again, call, rowFile, columnFile, malformed, rowBy, columnBy}
 use Rattle.traytext.specs.Answers.{Response, began, replied, unread, answerMeans}
 use Rattle.traylines.specs.declared.LineRun.{LineRun}

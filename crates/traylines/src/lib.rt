@@ -7,7 +7,7 @@ ghost use lib.ListN.{length};
 ghost use Rattle.fields.specs.Bytes.{parseBytes};
 ghost use Rattle.trays.specs.Replies.{refused};
 ghost use Rattle.trays.specs.Calls.{opens, withdraws, asksVerdict};
-ghost use Rattle.trays.specs.Steps.{installOutcome};
+ghost use Rattle.trays.specs.mirror.Steps.{installOutcome};
 ghost use Rattle.traytext.specs.Lines.{again, call, malformed, deliverBy, lineIn};
 ghost use Rattle.traylines.specs.Running.{bytesRoom, fileBy, loadOf, lineStep, runOutcome, Scratch};
 use fields::Bytes;

@@ -17,7 +17,7 @@ use Rattle.chunks.proofs.Claims as chunks
 use Rattle.trays.specs.declared.Tray.{Tray}
 use Rattle.trays.specs.Calls.{notRows, foreignTo}
 use Rattle.trays.specs.Boards.{emptyBoard}
-use Rattle.trays.specs.Steps.{installRowOf, installColumnOf}
+use Rattle.trays.specs.mirror.Steps.{installRowOf, installColumnOf}
 use Rattle.trays.specs.Claims.{InstallLaw}
 use Rattle.trays.proofs.Bands.{few-rows}
 

@@ -10,7 +10,7 @@ use Rattle.trays.specs.declared.Tray.{Tray}
 use Rattle.trays.specs.Replies.{Reply, accepted, refusalOf}
 use Rattle.trays.specs.Calls.{installsRow, installsColumn, opens, delivers, withdraws, asksVerdict, openConditions, deliverConditions, withdrawConditions}
 use Rattle.trays.specs.Boards.{widthOf, bandsOf, isEmpty, emptyBoard, filledAt, clearedAt}
-use Rattle.trays.specs.Steps.{lacksRule, lacksBoard, withBoard, outcomeBy, withRow, withColumn, installReply, installRowOf, installColumnOf, openOf, deliverOf, withdrawOf}
+use Rattle.trays.specs.mirror.Steps.{lacksRule, lacksBoard, withBoard, outcomeBy, withRow, withColumn, installReply, installRowOf, installColumnOf, openOf, deliverOf, withdrawOf}
 use Rattle.trays.specs.Claims.{Unchanged}
 
 by-number : (number : Option ℕ) (a : Reply) (t next : Tray) → refusalOf a ≡ none

@@ -14,7 +14,7 @@ use Rattle.trays.specs.declared.Tray.{Tray}
 use Rattle.trays.specs.Replies.{waiting, saysYes, saysNo, refusedWith}
 use Rattle.trays.specs.Calls.{verdictBy}
 use Rattle.trays.specs.Boards.{widthOf, emptyBands, rowsHeld}
-use Rattle.trays.specs.Steps.{lacksBoard, isYes, verdictOf}
+use Rattle.trays.specs.mirror.Steps.{lacksBoard, isYes, verdictOf}
 use Rattle.trays.specs.Claims.{VerdictLaw}
 use Rattle.trays.proofs.Rows.{passes-law}
 

@@ -23,7 +23,7 @@ use Rattle.rulecheck.specs.Checking.{ruleNumber, checkMeans}
 use Rattle.ruleformat.specs.Reader.{noRule}
 use Rattle.build.specs.declared.BuildAnswer.the-variants as build
 use Rattle.build.specs.declared.BuildResult.{BuildResult}
-use Rattle.build.specs.Building.{accepted, refused, buildMeans, builtOf, Outcome as Built-outcome, buildOutcome, buildOf}
+use Rattle.build.specs.mirror.Building.{accepted, refused, buildMeans, builtOf, Outcome as Built-outcome, buildOutcome, buildOf}
 use Rattle.calls.specs.Calls.{installNumber}
 use Rattle.calls.proofs.Conditions.{over, install-number}
 use Rattle.trays.specs.declared.InstallAnswer.{InstallAnswer}
@@ -33,7 +33,7 @@ use Rattle.trays.specs.declared.Tray.{Tray}
 use Rattle.trays.specs.Replies as reply
 use Rattle.trays.specs.Calls.{notRows, foreignTo}
 use Rattle.trays.specs.Boards.{widthOf, bandsOf, isEmpty, emptyBoard, filledAt, clearedAt, emptyBands}
-use Rattle.trays.specs.Steps.{fresh, lacksRule, withBoard, Outcome, installAnswer, installOf, openOf, deliverOf, withdrawOf, isYes, verdictOf}
+use Rattle.trays.specs.mirror.Steps.{fresh, lacksRule, withBoard, Outcome, installAnswer, installOf, openOf, deliverOf, withdrawOf, isYes, verdictOf}
 
 pub fresh-by : (r : Rule) → r ≡ noRule → (c : Rule) → c ≡ noRule → (b : TrayBoard) → b ≡ emptyBoard 0 0
     → record { row = r; column = c; board = b } ≡ fresh

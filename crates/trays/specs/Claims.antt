@@ -31,7 +31,7 @@ use Rattle.trays.specs.Worked.{trays, Answered}
 use Rattle.trays.specs.Replies.{waiting, saysYes, saysNo, refusedWith, refusalOf}
 use Rattle.trays.specs.Calls.{Call, notRows, foreignTo}
 use Rattle.trays.specs.Boards.{widthOf, emptyBands, rowsHeld}
-use Rattle.trays.specs.Steps.{lacksBoard, installRowOf, installColumnOf, verdictOf, stepOf}
+use Rattle.trays.specs.mirror.Steps.{lacksBoard, installRowOf, installColumnOf, verdictOf, stepOf}
 
 -- n rows, each of w events: event c of row i is byte i × w + c
 pub record RowsLaw (w n : ℕ) (b : List ℕ) : Type 0 where

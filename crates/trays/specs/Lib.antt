@@ -4,6 +4,6 @@ pub mod Rows
 pub mod Replies
 pub mod Calls
 pub mod Boards
-pub mod Steps
 pub mod Worked
 pub mod Claims
+pub mod mirror

@@ -21,7 +21,7 @@ use Rattle.linetexts.proofs.Lists.{Agrees, Follows, lists-right}
 use Rattle.trays.specs.declared.Tray.{Tray}
 use Rattle.trays.specs.Replies.{refused}
 use Rattle.trays.specs.Calls.{Call, installsRow, installsColumn}
-use Rattle.trays.specs.Steps.{fresh, Outcome, outcomeBy, withRow, withColumn, installReply, installRowOf, installColumnOf, stepOf}
+use Rattle.trays.specs.mirror.Steps.{fresh, Outcome, outcomeBy, withRow, withColumn, installReply, installRowOf, installColumnOf, stepOf}
 use Rattle.trayhistories.specs.History.{answerOf}
 use Rattle.trayhistories.specs.Claims.{trayMachine, trayAfter}
 use Rattle.trayhistories.proofs.EveryList.{answer-after}

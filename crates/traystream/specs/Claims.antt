@@ -17,7 +17,7 @@ use Rattle.linetexts.specs.Claims.{linesStep, Blocks}
 use Rattle.trays.specs.declared.Tray.{Tray}
 use Rattle.trays.specs.Calls.{Call}
 use Rattle.trays.specs.Replies.{refused}
-use Rattle.trays.specs.Steps.{fresh}
+use Rattle.trays.specs.mirror.Steps.{fresh}
 use Rattle.traytext.specs.Lines.{rowFile, columnFile, malformed, lineIn}
 use Rattle.traytext.specs.Answers.{replied, unread, responseText}
 use Rattle.traystream.specs.Worked.{cutText, cutAnswers}

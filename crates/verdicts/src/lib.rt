@@ -2,7 +2,7 @@
 ghost use mathlib.Core.Path.{_≡_};
 ghost use Rattle.calls.specs.Replies.{verdictMeans, reportMeans};
 ghost use Rattle.calls.specs.Calls.{perByte, alone, reportBy};
-ghost use Rattle.calls.specs.Steps.{verdictOf};
+ghost use Rattle.calls.specs.mirror.Steps.{verdictOf};
 use calls::Judge;
 use calls::Report;
 use calls::Verdict;

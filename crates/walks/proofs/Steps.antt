@@ -28,7 +28,7 @@ use lib.Dec.{ltb}
 use lib.ListN.{length, getD, take, drop, drop-of-length-le, length-take, take-append-drop}
 use lib.Seq.{drop-cons, take-suc}
 use Rattle.base.proofs.Tests.{by-test, one-most}
-use Rattle.walks.specs.Steps.{endBy, countBy, lookedBy}
+use Rattle.walks.specs.mirror.Steps.{endBy, countBy, lookedBy}
 
 module _ (f : ℕ → ℕ → ℕ) where
   pub end-append : (i : ℕ) (v w : List ℕ) → endBy f i (v ++ w) ≡ endBy f (endBy f i v) w

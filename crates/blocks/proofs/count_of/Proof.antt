@@ -6,7 +6,7 @@ use native.Mathlib.Omega.{arith}
 use borrow.Author.Needs.{needs}
 use lib.ListN.{length, getD, drop}
 use Rattle.walks.proofs.Steps.{count-on, count-off, count-left}
-use Rattle.lanes.specs.Offsets.{hopOf, rowCount}
+use Rattle.lanes.specs.mirror.Offsets.{hopOf, rowCount}
 use Rattle.lanes.proofs.Offsets.{hop-low, hop-stays}
 use Rattle.blocks.proofs.count_of.Statement.{statement}
 use Rattle.blocks.proofs.count_of.Tie as tie

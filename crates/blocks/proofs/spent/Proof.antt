@@ -4,7 +4,7 @@ use Prim.Native.Nat.{_<_}
 use native.Mathlib.Omega.{arith}
 use borrow.Author.Needs.{needs}
 use Rattle.walks.proofs.Steps.{count-alive, count-empty}
-use Rattle.lanes.specs.Offsets.{hopOf, rowEnd}
+use Rattle.lanes.specs.mirror.Offsets.{hopOf, rowEnd}
 use Rattle.lanes.proofs.Offsets.{hop-low, hop-stays}
 use Rattle.blocks.proofs.spent.Statement.{statement}
 use Rattle.blocks.proofs.spent.Tie as tie

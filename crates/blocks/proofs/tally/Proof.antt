@@ -10,7 +10,7 @@ use lib.Seq.{getD-set-other}
 use Rattle.base.proofs.Lists.{is-listFrom, cell-stored, zero-cells}
 use Rattle.base.proofs.Tests.{by-test}
 use Rattle.walks.proofs.Steps.{count-empty}
-use Rattle.lanes.specs.Offsets.{hopOf, rowCount}
+use Rattle.lanes.specs.mirror.Offsets.{hopOf, rowCount}
 use Rattle.lanes.proofs.Offsets.{hop-low, hop-stays}
 use Rattle.lanes.proofs.Rows.{rows-at}
 use Rattle.blocks.proofs.tally.Statement.{statement}

@@ -2,7 +2,7 @@
 -- end and count. Assumes nothing.
 use mathlib.Core.Path.{ap, _∙_}
 use borrow.Author.Needs.{needs}
-use Rattle.blocks.specs.Blocks.{pickOf}
+use Rattle.blocks.specs.mirror.Blocks.{pickOf}
 use Rattle.blocks.proofs.Lanes.{ends-picked, counts-picked, looked-shared}
 use Rattle.blocks.proofs.Parts.{walked-is}
 use Rattle.blocks.proofs.walk_block.Statement.{statement}

@@ -5,10 +5,10 @@ use native.Mathlib.Omega.{arith}
 use borrow.Author.Needs.{needs}
 use lib.ListN.{length, take, drop, length-take, length-drop}
 use lib.Seq.{take-all}
-use Rattle.lanes.specs.Offsets.{Rows}
+use Rattle.lanes.specs.mirror.Offsets.{Rows}
 use Rattle.lanes.proofs.Offsets.{rows-low}
 use Rattle.blocks.specs.declared.Walked.{Walked}
-use Rattle.blocks.specs.Blocks.{walkedOf}
+use Rattle.blocks.specs.mirror.Blocks.{walkedOf}
 use Rattle.blocks.proofs.Parts.{walked-none, counts-small, looked-small, block-on, block-last}
 use Rattle.blocks.proofs.walk_blocks.Statement.{statement}
 use Rattle.blocks.proofs.walk_blocks.Tie as tie

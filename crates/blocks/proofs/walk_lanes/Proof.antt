@@ -5,7 +5,7 @@ use Prim.Native.Nat.{ℕ, _+_, _-_, _≤_, _<_}
 use native.Mathlib.Omega.{arith}
 use borrow.Author.Needs.{needs}
 use lib.ListN.{getD, take, drop, length-take, length-drop}
-use Rattle.lanes.specs.Offsets.{rowsEnd, rowsLooked}
+use Rattle.lanes.specs.mirror.Offsets.{rowsEnd, rowsLooked}
 use Rattle.blocks.proofs.Eights.{Walking, walking-start, walking-low, walking-more, walking-ends, walking-looked}
 use Rattle.blocks.proofs.walk_lanes.Statement.{statement}
 use Rattle.blocks.proofs.walk_lanes.Tie as tie

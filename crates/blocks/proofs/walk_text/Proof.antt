@@ -5,8 +5,8 @@ use Prim.Native.Nat.{ℕ}
 use borrow.Author.Needs.{needs}
 use lib.ListN.{length}
 use Rattle.lanes.proofs.Offsets.{row-table}
-use Rattle.lanes.specs.Offsets.{offsetsOf}
-use Rattle.blocks.specs.Blocks.{walkedOf}
+use Rattle.lanes.specs.mirror.Offsets.{offsetsOf}
+use Rattle.blocks.specs.mirror.Blocks.{walkedOf}
 use Rattle.blocks.proofs.Parts.{walked-empty}
 use Rattle.blocks.proofs.walk_text.Statement.{statement}
 use Rattle.blocks.proofs.walk_text.Tie as tie

@@ -5,7 +5,7 @@ use native.Mathlib.Omega.{arith}
 use borrow.Author.Needs.{needs}
 use lib.ListN.{length, getD, length-set, length-replicate}
 use Rattle.base.proofs.Lists.{is-listFrom, cell-stored}
-use Rattle.chunks.specs.Walks.{maskOf}
+use Rattle.chunks.specs.mirror.Walks.{maskOf}
 use Rattle.chunks.proofs.end_masks.Statement.{statement}
 use Rattle.chunks.proofs.end_masks.Tie as tie
 

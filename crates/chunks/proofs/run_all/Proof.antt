@@ -6,12 +6,12 @@ use borrow.Author.Needs.{needs}
 use lib.ListN.{getD}
 use Rattle.base.specs.Totals.{total}
 use Rattle.base.proofs.Totals.{total-most}
-use Rattle.lanes.specs.Offsets.{offsetsOf}
+use Rattle.lanes.specs.mirror.Offsets.{offsetsOf}
 use Rattle.lanes.proofs.Offsets.{row-table, rows-low}
 use Rattle.blocks.specs.declared.Walked.{Walked}
-use Rattle.blocks.specs.Blocks.{walkedOf}
+use Rattle.blocks.specs.mirror.Blocks.{walkedOf}
 use Rattle.blocks.proofs.Parts.{counts-small, looked-small}
-use Rattle.chunks.specs.Walks.{startRows, endMasks}
+use Rattle.chunks.specs.mirror.Walks.{startRows, endMasks}
 use Rattle.chunks.proofs.Running.{start-low, ends, counted, looks, runs-are}
 use Rattle.chunks.proofs.run_all.Statement.{statement}
 use Rattle.chunks.proofs.run_all.Tie as tie

@@ -2,7 +2,7 @@
 use mathlib.Core.Path.{_≡_, sym, ap, _∙_}
 use Prim.Native.Nat.{ℕ}
 use borrow.Author.Needs.{needs}
-use Rattle.chunks.specs.Walks.{runsOf}
+use Rattle.chunks.specs.mirror.Walks.{runsOf}
 use Rattle.chunks.proofs.Running.{runs-none}
 use Rattle.chunks.proofs.run_chunk.Statement.{statement}
 use Rattle.chunks.proofs.run_chunk.Tie as tie

@@ -1,7 +1,7 @@
 -- `delegate_cell` meets its contract. Assumes nothing.
 use borrow.Author.Needs.{needs}
 use borrow.Author.Tests.{eq-eqb, ne-eqb}
-use Rattle.delegates.specs.Refinement.{classOf, cellIn}
+use Rattle.delegates.specs.mirror.Refinement.{classOf, cellIn}
 use Rattle.delegates.proofs.delegate_cell.Statement.{statement}
 use Rattle.delegates.proofs.delegate_cell.Tie as tie
 

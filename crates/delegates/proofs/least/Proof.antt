@@ -5,8 +5,8 @@ use mathlib.Core.Bool.{Bool}
 use Prim.Native.Nat.{ℕ, _-_}
 use native.Mathlib.Omega.{arith}
 use borrow.Author.Needs.{needs}
-use Rattle.delegates.specs.Classes.{firstFrom}
-use Rattle.delegates.specs.Refinement.{sameIn, leastOf}
+use Rattle.delegates.specs.mirror.Classes.{firstFrom}
+use Rattle.delegates.specs.mirror.Refinement.{sameIn, leastOf}
 use Rattle.delegates.proofs.Tests.{first-here, first-past, first-end}
 use Rattle.delegates.proofs.least.Statement.{statement}
 use Rattle.delegates.proofs.least.Tie as tie

@@ -7,8 +7,8 @@ use native.Mathlib.Omega.{arith}
 use borrow.Author.Needs.{needs}
 use borrow.Author.Tests.{eq-eqb, ne-eqb}
 use lib.Dec.{eqb}
-use Rattle.delegates.specs.Classes.{firstFrom}
-use Rattle.delegates.specs.Refinement.{classOf, firstInClass}
+use Rattle.delegates.specs.mirror.Classes.{firstFrom}
+use Rattle.delegates.specs.mirror.Refinement.{classOf, firstInClass}
 use Rattle.delegates.proofs.Tests.{first-here, first-past, first-end}
 use Rattle.delegates.proofs.lowest.Statement.{statement}
 use Rattle.delegates.proofs.lowest.Tie as tie

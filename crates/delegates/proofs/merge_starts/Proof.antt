@@ -11,7 +11,7 @@ use borrow.Author.Needs.{needs}
 use borrow.Author.Tests.{eq-eqb, ne-eqb}
 use lib.Dec.{eqb}
 use lib.ListN.{set}
-use Rattle.delegates.specs.Refinement.{classOf, cellIn, classesOf}
+use Rattle.delegates.specs.mirror.Refinement.{classOf, cellIn, classesOf}
 use Rattle.delegates.proofs.Merging.{Merging, classAt, begun, turned, all-merged}
 use Rattle.delegates.proofs.merge_starts.Statement.{statement}
 use Rattle.delegates.proofs.merge_starts.Tie as tie

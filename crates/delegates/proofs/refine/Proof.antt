@@ -7,7 +7,7 @@ use Prim.Native.Nat.{ℕ, suc, _-_}
 use native.Mathlib.Omega.{arith}
 use lib.ListN.{length, replicate}
 use Rattle.base.proofs.Lists.{length-listFrom, zero-cells}
-use Rattle.delegates.specs.Refinement.{classOf, leastOf}
+use Rattle.delegates.specs.mirror.Refinement.{classOf, leastOf}
 use Rattle.delegates.proofs.Kept.{kept, kept-most}
 use Rattle.delegates.proofs.Classes.{ClassesTo, started, after-round, rises, done}
 use Rattle.delegates.proofs.refine.Statement.{statement}

@@ -11,8 +11,8 @@ use borrow.Author.Tests.{eq-eqb, ne-eqb}
 use lib.Dec.{eqb}
 use lib.ListN.{length, length-set}
 use Rattle.base.proofs.Lists.{cell-stored, is-listFrom}
-use Rattle.delegates.specs.Classes.{every}
-use Rattle.delegates.specs.Refinement.{classOf, leastOf}
+use Rattle.delegates.specs.mirror.Classes.{every}
+use Rattle.delegates.specs.mirror.Refinement.{classOf, leastOf}
 use Rattle.delegates.proofs.Tests.{every-more, every-fails}
 use Rattle.delegates.proofs.round.Statement.{statement}
 use Rattle.delegates.proofs.round.Tie as tie

@@ -9,8 +9,8 @@ use native.Mathlib.Numerals.{add-one}
 use native.Mathlib.Omega.{arith}
 use borrow.Author.Count.{below-none, below-more}
 use borrow.Author.Needs.{needs}
-use Rattle.delegates.specs.Classes.{follow}
-use Rattle.delegates.specs.Refinement.{classOf, sameIn}
+use Rattle.delegates.specs.mirror.Classes.{follow}
+use Rattle.delegates.specs.mirror.Refinement.{classOf, sameIn}
 use Rattle.delegates.proofs.Tests.{confirmed, refuted, differ, agree}
 use Rattle.delegates.proofs.Classes.{follow-within, Same, same-law}
 use Rattle.delegates.proofs.same.Statement.{statement}

@@ -9,7 +9,7 @@ use borrow.Author.Needs.{needs}
 use lib.ListN.{length, take, getD}
 use lib.Seq.{take-all}
 use Rattle.follow.specs.Following.{setAfter}
-use Rattle.follow.specs.Cache.{Cached}
+use Rattle.follow.specs.mirror.Cache.{Cached}
 use Rattle.follow.proofs.Steps.{after-next, empty-rest, Going, begun, next, at-end, lost-here}
 use Rattle.follow.proofs.Caching.{cached-first}
 use Rattle.follow.proofs.walk.Statement.{statement}

@@ -11,7 +11,7 @@ use Rattle.forms.specs.Form.{howMany, keptAt}
 use Rattle.forms.specs.Back.{backCell}
 use Rattle.forms.proofs.Accepting.{parts}
 use Rattle.forms.proofs.Filling.{Filled, filled-none, fill-more}
-use Rattle.formback.specs.Parts.{formBy}
+use Rattle.formback.specs.mirror.Parts.{formBy}
 use Rattle.formback.proofs.Rows.{row-below, all-filled, row-more}
 use Rattle.formback.proofs.fill.Statement.{statement}
 use Rattle.formback.proofs.fill.Tie as tie

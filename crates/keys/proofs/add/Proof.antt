@@ -4,7 +4,7 @@ use mathlib.Core.Path.{ap}
 use borrow.Author.Needs.{needs}
 use Rattle.numbering.proofs.Turns.{seed-asked, seed-added, seed-over}
 use Rattle.keys.specs.Kinds.{freeBy, walkIn}
-use Rattle.keys.specs.Steps.{turnMeans}
+use Rattle.keys.specs.mirror.Steps.{turnMeans}
 use Rattle.keys.proofs.add.Statement.{statement}
 use Rattle.keys.proofs.add.Tie as tie
 

@@ -10,7 +10,7 @@ use native.Mathlib.Omega.{arith}
 use lib.ListN.{length, getD, take}
 use borrow.Author.Needs.{needs}
 use Rattle.numbering.specs.Numbering.{closeFrom}
-use Rattle.numbering.specs.Arrays.{ArraysHold}
+use Rattle.numbering.specs.mirror.Arrays.{ArraysHold}
 use Rattle.numbering.proofs.Closure.{keys-end}
 use Rattle.numbering.proofs.Arrays.{count-is}
 use Rattle.numbering.proofs.Table.{row-begins, row-ends}

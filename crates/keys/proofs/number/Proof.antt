@@ -4,7 +4,7 @@ use mathlib.Core.Path.{refl, sym, ap, _∙_}
 use borrow.Author.Needs.{needs}
 use Rattle.numbering.proofs.Arrays.{entered-kept, entered-taken, entered-full}
 use Rattle.keys.specs.Kinds.{nothing}
-use Rattle.keys.specs.Steps.{foundMeans}
+use Rattle.keys.specs.mirror.Steps.{foundMeans}
 use Rattle.keys.proofs.number.Statement.{statement}
 use Rattle.keys.proofs.number.Tie as tie
 

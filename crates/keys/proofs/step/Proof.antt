@@ -7,7 +7,7 @@ use lib.ListN.{getD, take}
 use borrow.Author.Needs.{needs}
 use Rattle.numbering.proofs.Arrays.{entered-any, stepped-skipped, stepped-whole, stepped-over}
 use Rattle.keys.specs.Kinds.{stepBy, nothing, skipsBy}
-use Rattle.keys.specs.Steps.{turnMeans}
+use Rattle.keys.specs.mirror.Steps.{turnMeans}
 use Rattle.keys.proofs.step.Statement.{statement}
 use Rattle.keys.proofs.step.Tie as tie
 

@@ -7,7 +7,7 @@ use borrow.Author.Needs.{needs}
 use lib.ListN.{length, getD, length-set, length-replicate, getD-replicate}
 use lib.Seq.{getD-set-other}
 use Rattle.base.proofs.Lists.{cell-stored}
-use Rattle.lanes.specs.Offsets.{rowOf}
+use Rattle.lanes.specs.mirror.Offsets.{rowOf}
 use Rattle.lanes.proofs.Offsets.{filled-table}
 use Rattle.lanes.proofs.fill_offsets.Statement.{statement}
 use Rattle.lanes.proofs.fill_offsets.Tie as tie

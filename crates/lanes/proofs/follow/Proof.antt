@@ -7,7 +7,7 @@ use native.Mathlib.Omega.{arith}
 use borrow.Author.Needs.{needs}
 use lib.ListN.{length, getD, take, drop, set, length-set}
 use Rattle.base.proofs.Lists.{each-stored}
-use Rattle.lanes.specs.Offsets.{rowLooked, rowsEnd}
+use Rattle.lanes.specs.mirror.Offsets.{rowLooked, rowsEnd}
 use Rattle.lanes.proofs.Following.{Behind, rest-is, behind-start, goes-on, behind-more, all-passed, all-dead, behind-ends, behind-looked}
 use Rattle.lanes.proofs.follow.Statement.{statement}
 use Rattle.lanes.proofs.follow.Tie as tie

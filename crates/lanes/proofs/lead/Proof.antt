@@ -3,7 +3,7 @@ use Prim.Native.Nat.{_-_, _<_}
 use native.Mathlib.Omega.{arith}
 use borrow.Author.Needs.{needs}
 use lib.ListN.{length, getD, take, length-set}
-use Rattle.lanes.specs.Offsets.{rowEnd}
+use Rattle.lanes.specs.mirror.Offsets.{rowEnd}
 use Rattle.lanes.proofs.Leading.{On, Leads, in-column, on-start, on-more, leads-start, leads-on, leads-off, leads-end, eight}
 use Rattle.lanes.proofs.lead.Statement.{statement}
 use Rattle.lanes.proofs.lead.Tie as tie

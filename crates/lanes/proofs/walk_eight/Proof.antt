@@ -9,7 +9,7 @@ use lib.ListN.{length, getD, take, drop}
 use Rattle.base.proofs.Lists.{length-listFrom}
 use Rattle.base.proofs.Totals.{greatest-most}
 use Rattle.walks.proofs.Steps.{looked-most}
-use Rattle.lanes.specs.Offsets.{hopOf, rowEnd, rowLooked, rowsEnd, rowsLooked}
+use Rattle.lanes.specs.mirror.Offsets.{hopOf, rowEnd, rowLooked, rowsEnd, rowsLooked}
 use Rattle.lanes.proofs.Following.{rest-is, led-low, led-size, led-first, led-ends, led-looked}
 use Rattle.lanes.proofs.walk_eight.Statement.{statement}
 use Rattle.lanes.proofs.walk_eight.Tie as tie

@@ -6,7 +6,7 @@ use native.Mathlib.Omega.{arith}
 use borrow.Author.Needs.{needs}
 use Rattle.base.specs.Totals.{greatest}
 use Rattle.base.proofs.Conditions.{none-yet}
-use Rattle.locating.specs.Pruning.{pruned}
+use Rattle.locating.specs.mirror.Pruning.{pruned}
 use Rattle.locating.proofs.ByRun.{Over, one-left, over-run, over-other, all-over}
 use Rattle.locating.proofs.find_by_run.Statement.{statement}
 use Rattle.locating.proofs.find_by_run.Tie as tie

@@ -6,7 +6,7 @@ use Prim.Native.Nat.{_-_, _≤_, min}
 use native.Mathlib.Omega.{arith}
 use borrow.Author.Needs.{needs}
 use lib.Bits.{bitOr}
-use Rattle.locating.specs.Pruning.{liveSet}
+use Rattle.locating.specs.mirror.Pruning.{liveSet}
 use Rattle.locating.proofs.Pruning.{live-more, live-other}
 use Rattle.locating.proofs.live_mask.Statement.{statement}
 use Rattle.locating.proofs.live_mask.Tie as tie

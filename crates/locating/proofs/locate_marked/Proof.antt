@@ -11,7 +11,7 @@ use Rattle.text.proofs.Rooms.{whole-within}
 use Rattle.marks.specs.Marks.{textOf}
 use Rattle.marks.proofs.Claims as marks
 use borrow.Author.Needs.{needs}
-use Rattle.locating.specs.Pruning.{pruned}
+use Rattle.locating.specs.mirror.Pruning.{pruned}
 use Rattle.locating.specs.Locating.{textSpot}
 use Rattle.locating.proofs.Spotting.{marked-found}
 use Rattle.locating.proofs.locate_marked.Statement.{statement}

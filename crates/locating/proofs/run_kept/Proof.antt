@@ -4,8 +4,8 @@ use Prim.Native.Nat.{_+_, _-_, _≤_, _<_}
 use native.Mathlib.Omega.{arith}
 use borrow.Author.Needs.{needs}
 use lib.ListN.{length}
-use Rattle.chunks.specs.Walks.{maskOf}
-use Rattle.locating.specs.Pruning.{pruned}
+use Rattle.chunks.specs.mirror.Walks.{maskOf}
+use Rattle.locating.specs.mirror.Pruning.{pruned}
 use Rattle.locating.proofs.ByRun.{Ran, not-yet, run-dead, run-next, run-whole}
 use Rattle.locating.proofs.run_kept.Statement.{statement}
 use Rattle.locating.proofs.run_kept.Tie as tie

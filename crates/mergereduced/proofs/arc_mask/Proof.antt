@@ -11,7 +11,7 @@ use lib.ListN.{getD}
 use Rattle.masks.specs.Masks.{has, maskOf}
 use Rattle.masks.proofs.Passing.{mask-add, mask-skip}
 use Rattle.merging.specs.Merged.{targetsOf}
-use Rattle.mergereduced.specs.Asked.{placesIn}
+use Rattle.mergereduced.specs.mirror.Asked.{placesIn}
 use Rattle.mergereduced.proofs.arc_mask.Statement.{statement}
 use Rattle.mergereduced.proofs.arc_mask.Tie as tie
 

@@ -8,7 +8,7 @@ use Rattle.masks.specs.Masks.{bit}
 use Rattle.mergereduced.proofs.Cells.{set-few, set-made}
 use lib.Bits.{bitAnd}
 use Rattle.masks.proofs.Laws.{and-members}
-use Rattle.mergereduced.specs.Asked.{setIn}
+use Rattle.mergereduced.specs.mirror.Asked.{setIn}
 use Rattle.mergereduced.proofs.both_of.Statement.{statement}
 use Rattle.mergereduced.proofs.both_of.Tie as tie
 

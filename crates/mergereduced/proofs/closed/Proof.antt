@@ -6,9 +6,9 @@ use Prim.Native.Nat.{ℕ, _-_, _<_}
 use native.Mathlib.Omega.{arith}
 use lib.ListN.{length, set, length-set, length-replicate}
 use Rattle.masks.specs.Turns.{rank}
-use Rattle.delegates.specs.Classes.{firstFrom}
+use Rattle.delegates.specs.mirror.Classes.{firstFrom}
 use Rattle.merging.specs.Merged.{statesOf}
-use Rattle.mergereduced.specs.Asked.{setIn, linkIn, linkBy, freshIn}
+use Rattle.mergereduced.specs.mirror.Asked.{setIn, linkIn, linkBy, freshIn}
 use Rattle.mergereduced.proofs.Cells.{set-added, set-empty}
 use Rattle.mergereduced.proofs.Ways.{both-small, states-most}
 use Rattle.mergereduced.proofs.Closure.{Kept, kept-first, kept-more, fresh-there, fresh-none, done-less}

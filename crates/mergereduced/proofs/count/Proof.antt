@@ -9,7 +9,7 @@ use Rattle.base.specs.Totals.{total}
 use Rattle.masks.specs.Turns.{rank}
 use Rattle.masks.proofs.Turns.{rank-most}
 use Rattle.reduce.proofs.Ways.{count-more, count-skip}
-use Rattle.mergereduced.specs.Asked.{setIn}
+use Rattle.mergereduced.specs.mirror.Asked.{setIn}
 use Rattle.mergereduced.proofs.Cells.{cell-in, cell-out}
 use Rattle.mergereduced.proofs.count.Statement.{statement}
 use Rattle.mergereduced.proofs.count.Tie as tie

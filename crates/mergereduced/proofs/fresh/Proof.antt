@@ -4,9 +4,9 @@ use mathlib.Core.Logic.{⊎-elim}
 use Prim.Native.Nat.{_-_, _≤_, _<_}
 use native.Mathlib.Omega.{arith}
 use borrow.Author.Needs.{needs}
-use Rattle.delegates.specs.Classes.{firstFrom}
+use Rattle.delegates.specs.mirror.Classes.{firstFrom}
 use Rattle.delegates.proofs.Tests.{first-here, first-past, first-end}
-use Rattle.mergereduced.specs.Asked.{setIn, freshIn}
+use Rattle.mergereduced.specs.mirror.Asked.{setIn, freshIn}
 use Rattle.mergereduced.proofs.Cells.{cell-in, cell-out}
 use Rattle.mergereduced.proofs.Ways.{fresh-here, fresh-out, fresh-done}
 use Rattle.mergereduced.proofs.fresh.Statement.{statement}

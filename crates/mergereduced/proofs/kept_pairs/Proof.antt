@@ -1,7 +1,7 @@
 -- `kept_pairs` meets its contract. Assumes nothing.
 use Rattle.mergereduced.proofs.Ways.{sized, initial-small, final-small}
 use Rattle.mergereduced.proofs.Links.{kept-made}
-use Rattle.mergereduced.specs.Asked.{setIn}
+use Rattle.mergereduced.specs.mirror.Asked.{setIn}
 use borrow.Author.Needs.{needs}
 use Rattle.mergereduced.proofs.kept_pairs.Statement.{statement}
 use Rattle.mergereduced.proofs.kept_pairs.Tie as tie

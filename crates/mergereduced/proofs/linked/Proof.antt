@@ -1,5 +1,5 @@
 -- `linked` meets its contract. Assumes nothing.
-use Rattle.mergereduced.specs.Asked.{linkIn}
+use Rattle.mergereduced.specs.mirror.Asked.{linkIn}
 use Rattle.mergereduced.proofs.Ways.{link-forth, link-back}
 use borrow.Author.Needs.{needs}
 use Rattle.mergereduced.proofs.linked.Statement.{statement}

@@ -6,7 +6,7 @@ use lib.ListN.{length, getD, length-set, length-replicate}
 use borrow.Author.Needs.{needs}
 use Rattle.base.proofs.Lists.{is-listFrom, cell-stored}
 use Rattle.mergereduce.specs.Trimmed.{nth}
-use Rattle.mergereduced.specs.Asked.{setIn}
+use Rattle.mergereduced.specs.mirror.Asked.{setIn}
 use Rattle.mergereduced.proofs.listed.Statement.{statement}
 use Rattle.mergereduced.proofs.listed.Tie as tie
 

@@ -10,11 +10,11 @@ use Rattle.base.specs.Totals.{total}
 use Rattle.masks.specs.Masks.{has}
 use Rattle.masks.specs.Turns.{rank}
 use Rattle.masks.proofs.Turns.{rank-most}
-use Rattle.delegates.specs.Classes.{firstFrom}
+use Rattle.delegates.specs.mirror.Classes.{firstFrom}
 use Rattle.delegates.proofs.Tests.{first-here, first-past, first-end}
 use Rattle.reduce.proofs.Ways.{count-more, count-skip}
 use Rattle.mergereduce.specs.Trimmed.{nth}
-use Rattle.mergereduced.specs.Asked.{setIn}
+use Rattle.mergereduced.specs.mirror.Asked.{setIn}
 use Rattle.mergereduced.proofs.Cells.{cell-in, cell-out}
 use Rattle.mergereduced.proofs.Ways.{nth-there, nth-other, nth-out}
 use Rattle.mergereduced.proofs.nth.Statement.{statement}

@@ -5,7 +5,7 @@ use native.Mathlib.Omega.{arith}
 use lib.ListN.{length, getD, length-set, length-replicate}
 use borrow.Author.Needs.{needs}
 use Rattle.base.proofs.Lists.{is-listFrom, cell-stored}
-use Rattle.mergereduced.specs.Asked.{symbolsTo}
+use Rattle.mergereduced.specs.mirror.Asked.{symbolsTo}
 use Rattle.mergereduced.proofs.symbols_of.Statement.{statement}
 use Rattle.mergereduced.proofs.symbols_of.Tie as tie
 

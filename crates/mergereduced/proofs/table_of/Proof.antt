@@ -6,7 +6,7 @@ use lib.ListN.{length, getD, length-set, length-replicate}
 use borrow.Author.Needs.{needs}
 use Rattle.base.proofs.Lists.{is-listFrom, cell-stored}
 use Rattle.merging.specs.Merged.{targetsOf}
-use Rattle.mergereduced.specs.Asked.{cellIn}
+use Rattle.mergereduced.specs.mirror.Asked.{cellIn}
 use Rattle.mergereduced.proofs.table_of.Statement.{statement}
 use Rattle.mergereduced.proofs.table_of.Tie as tie
 

@@ -10,7 +10,7 @@ use lib.Bits.{bitOr, or-zero-r}
 use lib.ListN.{length, length-set}
 use Rattle.masks.specs.Masks.{maskOf}
 use Rattle.merging.specs.Merged.{statesOf}
-use Rattle.mergereduced.specs.Asked.{setIn, linkIn, linkBy}
+use Rattle.mergereduced.specs.mirror.Asked.{setIn, linkIn, linkBy}
 use Rattle.mergereduced.proofs.Cells.{cell-in, set-added}
 use Rattle.mergereduced.proofs.Ways.{both-small, states-most}
 use Rattle.mergereduced.proofs.Closure.{links-add, links-skip, links-known}

@@ -8,7 +8,7 @@ use borrow.Author.Needs.{needs}
 use lib.Dec.{eqb}
 use lib.ListN.{getD}
 use Rattle.masks.specs.Masks.{has}
-use Rattle.delegates.specs.Classes.{firstFrom}
+use Rattle.delegates.specs.mirror.Classes.{firstFrom}
 use Rattle.delegates.proofs.Tests.{first-here, first-past, first-end}
 use Rattle.reduce.proofs.lowest.Statement.{statement}
 use Rattle.reduce.proofs.lowest.Tie as tie

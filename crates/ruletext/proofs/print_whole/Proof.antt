@@ -5,7 +5,7 @@ use Prim.Native.Nat.{ℕ}
 use Rattle.ruleformat.specs.declared.ReadAnswer.the-variants.{Accepted, Refused}
 use Rattle.ruleformat.specs.Refusals.{refusal}
 use Rattle.ruleformat.specs.Reader.{Reading, readMeans, ruleBy, ruleOf}
-use Rattle.build.specs.Building.{buildOf}
+use Rattle.build.specs.mirror.Building.{buildOf}
 use Rattle.ruletext.proofs.ForFile.{text-for, text-unread}
 use borrow.Author.Needs.{needs}
 use Rattle.ruletext.proofs.print_whole.Statement.{statement}

@@ -2,7 +2,7 @@
 use mathlib.Core.Path.{_≡_, ap}
 use mathlib.Core.List.{[], _∷_}
 use Rattle.delegates.specs.declared.DelegateAnswer.{DelegateAnswer}
-use Rattle.delegates.specs.Answer.{delegateMeans}
+use Rattle.delegates.specs.mirror.Answer.{delegateMeans}
 use Rattle.ruletext.specs.RuleText.{field, delegateText}
 use borrow.Author.Needs.{needs}
 use Rattle.ruletext.proofs.put_delegate.Statement.{statement}

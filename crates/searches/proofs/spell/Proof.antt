@@ -6,7 +6,7 @@ use native.Mathlib.Omega.{arith}
 use lib.ListN.{drop, length-drop}
 use lib.Seq.{take-all}
 use borrow.Author.Needs.{needs}
-use Rattle.searches.specs.Tables.{Spells}
+use Rattle.searches.specs.mirror.Tables.{Spells}
 use Rattle.searches.proofs.spell.Statement.{statement}
 use Rattle.searches.proofs.spell.Tie as tie
 

@@ -7,7 +7,7 @@ use native.Mathlib.Omega.{arith}
 use lib.ListN.{take}
 use borrow.Author.Needs.{needs}
 use Rattle.numbering.specs.Numbering.{keysUpTo}
-use Rattle.numbering.specs.Arrays.{ArraysHold}
+use Rattle.numbering.specs.mirror.Arrays.{ArraysHold}
 use Rattle.numbering.proofs.Turns.{begin, grown-whole}
 use Rattle.subsets.specs.Sets.{setWalk, setsUpTo, setsOf}
 use Rattle.subsets.proofs.Turns.{in-row, not-empty, states-more, states-over}

@@ -5,8 +5,8 @@ use Prim.Native.Nat.{ℕ}
 use lib.ListN.{take}
 use borrow.Author.Needs.{needs}
 use Rattle.masks.specs.Masks.{single}
-use Rattle.numbering.specs.Arrays.{foundIn}
-use Rattle.keys.specs.Steps.{foundMeans}
+use Rattle.numbering.specs.mirror.Arrays.{foundIn}
+use Rattle.keys.specs.mirror.Steps.{foundMeans}
 use Rattle.subsets.proofs.Singles.{single-found, single-missing}
 use Rattle.subsets.proofs.number_single.Statement.{statement}
 use Rattle.subsets.proofs.number_single.Tie as tie

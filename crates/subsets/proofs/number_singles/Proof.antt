@@ -1,7 +1,7 @@
 -- `number_singles` meets its contract: the numbers of the states before q are stored. Assumes
 -- nothing.
 use Rattle.base.proofs.Lists.{cell-stored, is-listFrom}
-use Rattle.subsets.specs.Singles.{singletonNumber}
+use Rattle.subsets.specs.mirror.Singles.{singletonNumber}
 use lib.ListN.{length, getD, length-set}
 use native.Mathlib.Omega.{arith}
 use Prim.Native.Nat.{ℕ, _-_, _≤_, _<_}

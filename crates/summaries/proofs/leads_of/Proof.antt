@@ -5,7 +5,7 @@ use native.Mathlib.Omega.{arith}
 use lib.ListN.{length, getD, length-set}
 use borrow.Author.Needs.{needs}
 use Rattle.base.proofs.Lists.{cell-stored, is-listFrom}
-use Rattle.chunks.specs.Walks.{delegateMask}
+use Rattle.chunks.specs.mirror.Walks.{delegateMask}
 use Rattle.summaries.proofs.leads_of.Statement.{statement}
 use Rattle.summaries.proofs.leads_of.Tie as tie
 

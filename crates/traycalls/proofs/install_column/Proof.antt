@@ -1,6 +1,6 @@
 -- `install_column` meets its contract. Assumes nothing.
 use mathlib.Core.Path.{ap, _∙_}
-use Rattle.trays.specs.Steps.{installOf, installColumnOf}
+use Rattle.trays.specs.mirror.Steps.{installOf, installColumnOf}
 use borrow.Author.Needs.{needs}
 use Rattle.traycalls.proofs.install_column.Statement.{statement}
 use Rattle.traycalls.proofs.install_column.Tie as tie

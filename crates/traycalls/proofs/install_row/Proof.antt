@@ -1,6 +1,6 @@
 -- `install_row` meets its contract. Assumes nothing.
 use mathlib.Core.Path.{ap, _∙_}
-use Rattle.trays.specs.Steps.{installOf, installRowOf}
+use Rattle.trays.specs.mirror.Steps.{installOf, installRowOf}
 use borrow.Author.Needs.{needs}
 use Rattle.traycalls.proofs.install_row.Statement.{statement}
 use Rattle.traycalls.proofs.install_row.Tie as tie

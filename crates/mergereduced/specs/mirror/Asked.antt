@@ -36,7 +36,7 @@ use Rattle.merging.specs.Merging.{Merging, mergingBy}
 use Rattle.merging.specs.declared.Way.{Way}
 use Rattle.merging.specs.declared.Way.the-variants.{Both, Either, Interleaving}
 use Rattle.merging.specs.Merged.{statesOf, targetsOf}
-use Rattle.merge.specs.Asked.{Tables}
+use Rattle.merge.specs.mirror.Asked.{Tables}
 use Rattle.mergereduce.specs.MergeReduced.{pairCount, trimmedPairs, reducedOrOwn}
 use Rattle.mergereduce.specs.Trimmed.{arcs}
 

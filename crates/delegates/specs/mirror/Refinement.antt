@@ -23,7 +23,7 @@ use lib.Dec.{eqb}
 use lib.ListN.{getD}
 use Rattle.limits.specs.Limits.{noDelegate, mostClasses}
 use Rattle.base.specs.Lists.{listFrom}
-use Rattle.delegates.specs.Classes.{final, follow, every, firstFrom, alikeTo}
+use Rattle.delegates.specs.mirror.Classes.{final, follow, every, firstFrom, alikeTo}
 
 abbrev pub classOf : List ℕ → ℕ → ℕ
 classOf c s = getD c s 0

@@ -30,7 +30,7 @@ use lib.ListN.{length, getD}
 use Rattle.limits.specs.Limits.{mostSymbols, emptySet, tableCells}
 use Rattle.base.specs.Lists.{listFrom}
 use Rattle.base.specs.Totals.{greatest}
-use Rattle.walks.specs.Steps.{endBy, countBy, lookedBy}
+use Rattle.walks.specs.mirror.Steps.{endBy, countBy, lookedBy}
 
 abbrev pub emptyRow : ℕ
 emptyRow = tableCells

@@ -24,9 +24,9 @@ use Rattle.limits.specs.Limits.{mostStates, mostSymbols, emptySet}
 use Rattle.base.specs.Lists.{listFrom}
 use Rattle.base.specs.Totals.{total, greatest}
 use Rattle.masks.specs.Masks.{has}
-use Rattle.delegates.specs.Classes.{follow}
-use Rattle.walks.specs.Steps.{endBy, countBy, lookedBy}
-use Rattle.lanes.specs.Offsets.{emptyRow, rowOf}
+use Rattle.delegates.specs.mirror.Classes.{follow}
+use Rattle.walks.specs.mirror.Steps.{endBy, countBy, lookedBy}
+use Rattle.lanes.specs.mirror.Offsets.{emptyRow, rowOf}
 use Rattle.chunks.specs.declared.Runs.{Runs}
 use Rattle.chunks.specs.Chunks.{delegateSet, runSet}
 

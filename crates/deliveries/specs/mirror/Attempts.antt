@@ -15,7 +15,7 @@ use lib.ListN.{replicate}
 use Rattle.limits.specs.Limits.{mostStates}
 use Rattle.chunks.specs.declared.Runs.{Runs}
 use Rattle.chunks.specs.Chunks.{foreign}
-use Rattle.chunks.specs.Walks.{runsOf}
+use Rattle.chunks.specs.mirror.Walks.{runsOf}
 use Rattle.calls.specs.Replies.{Reply, refused, delivered, deliverMeans}
 use Rattle.deliveries.specs.declared.Attempt.{Attempt}
 

@@ -28,7 +28,7 @@ use lib.ListN.{length, getD, set}
 use Rattle.limits.specs.Limits.{mostSymbols, mostSets, tableCells}
 use Rattle.base.specs.Lists.{listFrom}
 use Rattle.numbering.specs.Numbering.{Walk, indexOf, numbered, closeFrom}
-use Rattle.numbering.specs.Begins.{Begins}
+use Rattle.numbering.specs.mirror.Begins.{Begins}
 
 abbrev pub limited : List ℕ → Option ℕ
 limited l = cond (ltb mostSets (length l)) none (some (length l))

@@ -19,9 +19,9 @@ use Rattle.base.specs.Conditions.{firstOf}
 use Rattle.marks.specs.Marks.{textOf}
 use Rattle.automaton.specs.declared.Rule.{Rule}
 use Rattle.ruleformat.specs.Reader.{ruleOf}
-use Rattle.build.specs.Building.{builtOf, noBuilt}
+use Rattle.build.specs.mirror.Building.{builtOf, noBuilt}
 use Rattle.chunks.specs.declared.Runs.{Runs}
-use Rattle.chunks.specs.Walks.{runMask, runsOf}
+use Rattle.chunks.specs.mirror.Walks.{runMask, runsOf}
 use Rattle.board.specs.declared.Board.{Board}
 use Rattle.board.specs.Boards.{placesOf, isEmpty, comesLate, emptyBoard, filledAt, clearedAt, emptyPlaces, summedCount, summedBytes}
 use Rattle.joins.specs.Joining.{saysYes}

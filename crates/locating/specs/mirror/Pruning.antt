@@ -15,7 +15,7 @@ use lib.ListN.{getD}
 use Rattle.limits.specs.Limits.{mostStates, mostSymbols, emptySet, tableCells}
 use Rattle.base.specs.Lists.{listFrom}
 use Rattle.masks.specs.Masks.{single, shares}
-use Rattle.chunks.specs.Walks.{maskOf}
+use Rattle.chunks.specs.mirror.Walks.{maskOf}
 
 unfoldable pub liveSet : List ℕ → ℕ → ℕ
 liveSet d zero = 0

@@ -17,7 +17,7 @@ use Rattle.subsets.specs.declared.Numbering.{Numbering}
 use Rattle.subsets.specs.declared.Numbering.the-variants.{Whole, Over}
 use Rattle.subsets.specs.declared.SetTable.{SetTable}
 use Rattle.subsets.specs.Sets.{setsOf, tooMany, setCells, nextCells}
-use Rattle.subsets.specs.Singles.{singlesOf}
+use Rattle.subsets.specs.mirror.Singles.{singlesOf}
 
 pub data NumberingReply : Type 0 where
   counted : ℕ → NumberingReply

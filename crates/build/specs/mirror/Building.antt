@@ -16,7 +16,7 @@ use lib.ListN.{length, replicate}
 use Rattle.limits.specs.Limits.{mostStates, mostSymbols, mostSets, tableCells}
 use Rattle.automaton.specs.declared.Rule.{Rule}
 use Rattle.subsets.specs.Sets.{setsOf, tooMany, setCells, nextCells}
-use Rattle.subsets.specs.Singles.{singlesOf}
+use Rattle.subsets.specs.mirror.Singles.{singlesOf}
 use Rattle.delegates.specs.Claims.{startsIn}
 use Rattle.build.specs.declared.BuildAnswer.{BuildAnswer}
 use Rattle.build.specs.declared.BuildAnswer.the-variants.{Accepted, Refused}

@@ -18,7 +18,7 @@ use Prim.Native.Nat.{ℕ, _+_, _≤_, _<_}
 use lib.ListN.{length, getD}
 use Rattle.limits.specs.Limits.{mostStates, longestChunk}
 use Rattle.base.specs.Lists.{listFrom}
-use Rattle.lanes.specs.Offsets.{emptyRow, laneCount, rowsEnd, rowsCount, rowsLooked, Rows}
+use Rattle.lanes.specs.mirror.Offsets.{emptyRow, laneCount, rowsEnd, rowsCount, rowsLooked, Rows}
 use Rattle.blocks.specs.declared.Walked.{Walked}
 
 abbrev pub walkedOf : List ℕ → List ℕ → List ℕ → Walked
