@@ -2,8 +2,6 @@
 use mathlib.Core.Path.{_≡_, sym, ap, _∙_}
 use mathlib.Core.Bool.{Bool, true, false}
 use Prim.Native.Nat.{ℕ}
-use Rattle.automaton.specs.declared.Rule.{Rule}
-use Rattle.profile.specs.declared.Profile.{Profile}
 use Rattle.profile.specs.declared.BuildAnswer.{BuildAnswer}
 use Rattle.profile.specs.declared.BuildAnswer.the-variants as build
 use Rattle.profile.specs.declared.BuildResult.{BuildResult}

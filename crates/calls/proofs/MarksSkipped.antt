@@ -19,7 +19,7 @@ use Rattle.chunks.specs.Chunks.{foreign}
 use Rattle.chunks.specs.mirror.Walks.{runMask, runsOf}
 use Rattle.board.specs.Boards.{placesOf, comesLate, filledAt}
 use Rattle.calls.specs.declared.Judge.{Judge}
-use Rattle.calls.specs.Replies.{Reply, refused, delivered, Outcome}
+use Rattle.calls.specs.Replies.{delivered, Outcome}
 use Rattle.calls.specs.mirror.Steps.{lacksBoard, withBoard, outcomeBy, deliverOf}
 use Rattle.calls.specs.Claims.{MarksSkipped}
 

@@ -1,7 +1,6 @@
 -- The numbers of each case of an answer are those of what it says. Assumes nothing.
 use mathlib.Core.Path.{_≡_, sym, ap, _∙_}
 use Prim.Native.Nat.{ℕ}
-use Rattle.automaton.specs.declared.Rule.{Rule}
 use Rattle.ruleformat.specs.declared.ReadAnswer.{ReadAnswer}
 use Rattle.ruleformat.specs.declared.ReadAnswer.the-variants as reading
 use Rattle.ruleformat.specs.declared.ReadResult.{ReadResult}

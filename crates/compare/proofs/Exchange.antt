@@ -14,7 +14,7 @@ use Rattle.rulecheck.specs.Checking.{ruleNumber}
 use Rattle.rulecheck.proofs.Claims as check
 use Rattle.compare.specs.declared.Which.{Which}
 use Rattle.compare.specs.declared.Which.the-variants.{First, Second}
-use Rattle.compare.specs.Compared.{Only, Apart, FirstApart, Same, ManyPairs, pairNumber, Searched, Comparison, apart, same, refused, otherRule, exchanged, Due}
+use Rattle.compare.specs.Compared.{Only, Apart, ManyPairs, pairNumber, Searched, Comparison, apart, same, refused, otherRule, exchanged, Due}
 use Rattle.compare.specs.Search.{compareOf}
 use Rattle.compare.proofs.Conditions.{passed, from-where}
 use Rattle.compare.proofs.Answers.{exactly}

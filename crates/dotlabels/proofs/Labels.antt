@@ -6,7 +6,7 @@
 --   last      it holds of the one before and not of the one after
 use mathlib.Core.Path.{_≡_}
 use mathlib.Core.Bool.{Bool, true, false}
-use mathlib.Core.List.{List, []}
+use mathlib.Core.List.{[]}
 use Prim.Native.Nat.{ℕ, _+_}
 use Rattle.base.specs.Conditions.{anyBelow}
 use Rattle.dotlabels.specs.Labels.{earlier, firstPiece, lastPiece, piece}

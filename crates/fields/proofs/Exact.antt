@@ -15,7 +15,7 @@ use lib.Dec.{leb, ltb, eqb}
 use lib.ListN.{length, getD, replicate, length-append, length-replicate}
 use Rattle.base.proofs.Options.{none-some}
 use Rattle.base.proofs.Tests.{by-test}
-use Rattle.text.specs.Numerals.{decimal, decimalBelow, hexDigit, hex}
+use Rattle.text.specs.Numerals.{decimal, decimalBelow, hexDigit}
 use Rattle.text.proofs.Digits.{one-digit, more-digits}
 use Rattle.fields.specs.Numbers.{allDigits, valueFrom, isNumber, parseNumber}
 use Rattle.fields.specs.Bytes.{within, hexValue, allHex, pairs, isBytes, isNoBytes, parseBytes}

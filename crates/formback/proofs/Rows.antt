@@ -1,12 +1,12 @@
 -- The table is filled in the order of its cells: a kept cell is the next of the packed ones, since as
 -- many were taken before as its rank says; one that is left out stands in the row of the failure set,
 -- which is filled already. Assumes nothing.
-use mathlib.Core.Path.{_≡_, refl, sym, ap, _∙_}
+use mathlib.Core.Path.{_≡_, sym, ap, _∙_}
 use mathlib.Core.Logic.{_⊎_, ⊎-elim}
-use mathlib.Core.Bool.{Bool, true, false, cond, _&&_, and-false}
+use mathlib.Core.Bool.{Bool, true, false, cond, and-false}
 use mathlib.Core.List.{List}
 use mathlib.Core.Option.{none}
-use Prim.Native.Nat.{ℕ, suc, _+_, _*_, _/_, _%_, _≤_, _<_}
+use Prim.Native.Nat.{ℕ, _+_, _*_, _/_, _%_, _≤_, _<_}
 use native.Mathlib.Numerals.{add-one}
 use native.Mathlib.Omega.{arith}
 use lib.Dec.{ltb}
@@ -20,7 +20,7 @@ use Rattle.masks.specs.Masks.{has}
 use Rattle.masks.proofs.Laws.{member-of, members-below}
 use Rattle.forms.specs.declared.Form.{Form}
 use Rattle.forms.specs.Form.{howMany, keptAt}
-use Rattle.forms.specs.Back.{rank, keptCount, cellOf, backNumber, backCell}
+use Rattle.forms.specs.Back.{rank, cellOf, backNumber, backCell}
 use Rattle.forms.proofs.Picking.{many-step, many-skip}
 use Rattle.forms.proofs.Filling.{Filled, fill-more}
 use Rattle.forms.proofs.Accepting.{Accepted, parts}

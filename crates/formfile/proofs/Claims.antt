@@ -4,13 +4,11 @@ use mathlib.Core.Path.{_≡_, refl, sym, ap, _∙_, subst}
 use mathlib.Core.List.{List, [], _∷_}
 use mathlib.Core.Option.{Option, none, some}
 use Prim.Native.Nat.{ℕ}
-use Rattle.base.proofs.Tests.{zero-one}
-use Rattle.automaton.specs.declared.Rule.{Rule}
 use Rattle.ruleformat.specs.Reader.{ruleOf}
 use Rattle.build.specs.mirror.Building.{builtOf}
 use Rattle.calls.specs.declared.Judge.{Judge}
 use Rattle.calls.specs.Calls.{Call, loads, loadNumber}
-use Rattle.calls.specs.mirror.Steps.{outcomeBy, installReply, fresh, withRule, loadOf}
+use Rattle.calls.specs.mirror.Steps.{outcomeBy, installReply, withRule, loadOf}
 use Rattle.forms.specs.Form.{formOf}
 use Rattle.forms.specs.Back.{backOf}
 use Rattle.formmaker.specs.Making.{Made, madeOf}

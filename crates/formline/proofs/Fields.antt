@@ -24,7 +24,7 @@ use Rattle.formmaker.specs.Making.{noForm}
 use Rattle.formline.specs.declared.LineKind.{LineKind}
 use Rattle.formline.specs.declared.LineKind.the-variants.{TooGreat, Malformed}
 use Rattle.formline.specs.declared.FormLine.{FormLine}
-use Rattle.formline.specs.Lines.{fieldThen, cellsBy, Held, says, tooGreat, malformed, heldOf, heldBy, lineMeans}
+use Rattle.formline.specs.Lines.{fieldThen, cellsBy, Held, says, tooGreat, heldOf, heldBy, lineMeans}
 
 nothing-behind : {A : Type 0} (o : Option A) (next : A → List ℕ → Option Form) → fieldThen o none next ≡ none
 nothing-behind none next = refl

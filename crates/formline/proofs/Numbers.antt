@@ -1,7 +1,7 @@
 -- SETS and SYMBOLS: whatever they are, what follows them decides whether a line is malformed; and lines
 -- with numbers that are too great for a form as a value. Assumes nothing.
 use mathlib.Core.Path.{_≡_, refl}
-use mathlib.Core.List.{List, [], _∷_}
+use mathlib.Core.List.{List, _∷_}
 use mathlib.Core.Option.{Option, none, some}
 use Prim.Native.Nat.{ℕ}
 use Rattle.base.proofs.Tests.{zero-one}

@@ -2,12 +2,11 @@
 use mathlib.Core.Path.{_≡_, refl, sym, ap, _∙_}
 use mathlib.Core.List.{List, _∷_, _++_}
 use mathlib.Core.Option.{Option, some}
-use Prim.Native.Nat.{ℕ, _≤_}
+use Prim.Native.Nat.{ℕ}
 use native.Mathlib.Omega.{arith}
 use lib.ListN.{length, getD}
-use Rattle.base.specs.Lists.{listFrom}
 use Rattle.base.proofs.Lists.{is-listFrom}
-use Rattle.limits.specs.Limits.{mostSets, tableCells, largestNumber}
+use Rattle.limits.specs.Limits.{mostSets, tableCells}
 use Rattle.text.specs.Numerals.{decimal}
 use Rattle.lines.specs.Splitting.{upTo, past}
 use Rattle.lines.proofs.Over.{Over, over-up, over-past}

@@ -1,7 +1,6 @@
 -- The form put together of its parts, and the two answers. Assumes nothing.
-use mathlib.Core.Path.{_≡_, refl, sym, ap, _∙_}
-use mathlib.Core.List.{List, []}
-use mathlib.Core.Option.{none, some}
+use mathlib.Core.Path.{_≡_, ap, _∙_}
+use mathlib.Core.List.{List}
 use Prim.Native.Nat.{ℕ, min}
 use borrow.Author.Tests.{eq-eqb, ne-eqb}
 use Rattle.limits.specs.Limits.{mostSymbols, mostSets}
@@ -9,7 +8,7 @@ use Rattle.calls.specs.declared.Judge.{Judge}
 use Rattle.forms.specs.declared.Form.{Form}
 use Rattle.forms.specs.declared.FormAnswer.the-variants.{Made, Refused}
 use Rattle.forms.specs.Form.{failures, masks, packedCells, formOf}
-use Rattle.formmaker.specs.Making.{noForm, formIn, madeOutcome, madeOf}
+use Rattle.formmaker.specs.Making.{noForm, madeOutcome, madeOf}
 
 pub form-is : (n k : ℕ) (l f m c : List ℕ) → f ≡ failures n k l → m ≡ masks n k l → c ≡ packedCells m l n
     → _≡_ {A = Form} (record { sets = n; symbols = k; failure = f; kept = m; cells = c }) (formOf n k l)

@@ -2,24 +2,23 @@
 -- 02 names. Assumes nothing.
 use mathlib.Core.Path.{_≡_, refl, sym, ap, _∙_}
 use mathlib.Core.Logic.{_↔_, _⊎_, inl, inr, ⊎-elim}
-use mathlib.Core.Bool.{Bool, true, false, not, _&&_, _||_, and-eq-true-iff}
+use mathlib.Core.Bool.{Bool, true, false, not, _&&_, and-eq-true-iff}
 use mathlib.Core.List.{List, [], _∷_}
-use mathlib.Core.Option.{Option, none, some}
-use Prim.Native.Nat.{ℕ, _+_, _*_, _/_, _%_, _^_, _≤_, _<_}
+use mathlib.Core.Option.{none, some}
+use Prim.Native.Nat.{ℕ, _+_, _/_, _%_, _^_, _≤_, _<_}
 use native.Mathlib.Omega.{arith}
-use lib.Dec.{eqb, ltb, leb}
+use lib.Dec.{eqb, leb}
 use lib.ListN.{getD}
 use lib.Pow.{shr-shr}
-use borrow.Author.Tests.{eq-eqb, ne-eqb, le-leb, lt-leb, leb-true, leb-false, eqb-true, eqb-false, not-true, not-false}
-use Rattle.base.specs.Conditions.{on, firstOf, outside, anyBelow}
+use borrow.Author.Tests.{ne-eqb, lt-leb, leb-true, leb-false, eqb-true, eqb-false, not-true, not-false}
+use Rattle.base.specs.Conditions.{on, firstOf, outside}
 use Rattle.base.proofs.Conditions.{any-found, none-at, none-all, outside-law, is-outside, none-law, first-law}
 use Rattle.base.proofs.Options.{none-some}
 use Rattle.base.proofs.Tests.{by-test, not-both, or-left, or-right, or-neither}
 use Rattle.limits.specs.Limits.{mostSymbols, mostSets, emptySet}
 use Rattle.masks.specs.Masks.{_∈_, has}
-use Rattle.masks.proofs.Laws.{member-of, has-member, members-below, low-bits, some-member}
+use Rattle.masks.proofs.Laws.{members-below, low-bits, some-member}
 use Rattle.forms.specs.declared.Form.{Form}
-use Rattle.forms.specs.Form.{howMany, keptAt}
 use Rattle.forms.specs.Back.{keptCount, notBelow, lacking, badNumbers, someNotBelow, firstLacks, strayBits, someLacking, backConditions, backNumber}
 use Rattle.forms.specs.Claims.{Wrong, not-below, left-out, no-symbol, lacks, no-set, many-sets, nothing-to-read, many-symbols}
 

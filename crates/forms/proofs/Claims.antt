@@ -1,24 +1,24 @@
 -- The one proof of all that specs/Claims.antt claims. Assumes nothing.
-use mathlib.Core.Path.{_≡_, refl, sym, ap, _∙_}
+use mathlib.Core.Path.{_≡_, refl, ap, _∙_}
 use mathlib.Core.Logic.{_↔_}
-use mathlib.Core.Bool.{Bool, true, false, not, _||_}
+use mathlib.Core.Bool.{not}
 use mathlib.Core.List.{List}
 use mathlib.Core.Option.{Option}
-use Prim.Native.Nat.{ℕ, _+_, _*_, _≤_, _<_}
+use Prim.Native.Nat.{ℕ, _*_, _≤_, _<_}
 use native.Mathlib.Omega.{arith}
-use lib.Dec.{eqb, ltb}
+use lib.Dec.{ltb}
 use lib.ListN.{getD, List·getD-eq-default}
 use borrow.Author.Tests.{eq-eqb, ne-eqb, ltb-true, ltb-false}
 use Rattle.base.proofs.Lists.{cell-of, length-listFrom}
 use Rattle.base.proofs.Tests.{by-test, not-both}
-use Rattle.limits.specs.Limits.{mostSymbols, mostSets, tableCells}
+use Rattle.limits.specs.Limits.{mostSymbols, tableCells}
 use Rattle.masks.specs.Masks.{_∈_}
 use Rattle.forms.specs.Form.{cell, keptAt, keptMask, keeps, bestBelow, failureOf, picked, masks, formOf}
 use Rattle.forms.specs.Back.{keptCount, backBy, tableOf}
 use Rattle.forms.specs.Claims.{Claims}
 use Rattle.forms.proofs.Picking.{picked-past}
 use Rattle.masks.proofs.Passing.{mask-in, mask-of}
-use Rattle.forms.proofs.Failure.{best-below, best-most, best-lowest, first-keeps, left-out, differs}
+use Rattle.forms.proofs.Failure.{best-below, best-most, best-lowest, first-keeps, differs}
 use Rattle.forms.proofs.Fewest as fewest
 use Rattle.forms.proofs.Accepting.{parts, refused-exactly, no-other}
 use Rattle.forms.proofs.PerSet.{of-set, of-no-set}

@@ -2,13 +2,13 @@
 -- is kept or equal to the failure set's. Assumes nothing.
 use mathlib.Core.Path.{_≡_, refl}
 use mathlib.Core.Logic.{_⊎_, inl, inr, ⊎-elim}
-use mathlib.Core.Bool.{Bool, true, false, not, _||_}
+use mathlib.Core.Bool.{true, false, not}
 use mathlib.Core.List.{List}
 use Prim.Native.Nat.{ℕ, zero, suc, _≤_, _<_}
 use native.Mathlib.Omega.{arith}
 use lib.Dec.{eqb, ltb}
 use borrow.Author.Tests.{ne-eqb, eqb-true, eqb-false, ltb-true, ltb-false, not-false}
-use Rattle.base.proofs.Tests.{by-test, not-both, or-left, or-right}
+use Rattle.base.proofs.Tests.{by-test, or-left, or-right}
 use Rattle.forms.specs.Form.{cell, equalCells, bestBelow, failureOf, keeps}
 use Rattle.forms.proofs.Picking.{below-suc}
 

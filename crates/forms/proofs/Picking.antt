@@ -13,7 +13,7 @@
 use mathlib.Core.Path.{_≡_, refl, sym, ap, _∙_}
 use mathlib.Core.Logic.{_⊎_, ⊎-elim}
 use mathlib.Core.Bool.{Bool, true, false, cond}
-use mathlib.Core.List.{List, [], _∷_, _++_, append-nil}
+use mathlib.Core.List.{[], _∷_, _++_, append-nil}
 use Prim.Native.Nat.{ℕ, zero, suc, _+_, _≤_, _<_}
 use native.Mathlib.Numerals.{add-one}
 use native.Mathlib.Omega.{arith}
@@ -21,10 +21,9 @@ use lib.Dec.{eqb}
 use lib.ListN.{length, getD, List·getD-append, List·getD-eq-default}
 use lib.Seq.{getD-at}
 use borrow.Author.Tests.{eqb-true, eqb-false}
-use Rattle.base.specs.Lists.{joined}
 use Rattle.base.specs.Totals.{total}
 use Rattle.base.proofs.Lists.{joined-suc, length-joined}
-use Rattle.base.proofs.Tests.{by-test, either}
+use Rattle.base.proofs.Tests.{by-test}
 use Rattle.base.proofs.Totals.{total-same}
 use Rattle.forms.specs.Form.{howMany, picked}
 

@@ -1,8 +1,8 @@
 -- The way back from any form: of an accepted form each cell is the kept one or the failure set's, and
 -- is empty or names a set; and what is not read changes no answer. Assumes nothing.
 use mathlib.Core.Path.{_≡_, refl, sym, ap, _∙_}
-use mathlib.Core.Logic.{_⊎_, inl, inr, ⊎-elim}
-use mathlib.Core.Bool.{Bool, true, false, cond, _&&_, and-false}
+use mathlib.Core.Logic.{_⊎_, ⊎-elim}
+use mathlib.Core.Bool.{true, false, cond, _&&_, and-false}
 use mathlib.Core.Option.{Option, none, some}
 use Prim.Native.Nat.{ℕ, zero, suc, _+_, _*_, _/_, _%_, _≤_, _<_}
 use native.Mathlib.Omega.{arith}
@@ -12,13 +12,12 @@ use borrow.Author.Tests.{lt-ltb, le-ltb, eqb-true, eqb-false, ltb-true}
 use Rattle.base.proofs.Lists.{cell-of, same-list, length-listFrom}
 use Rattle.base.proofs.Options.{none-some}
 use Rattle.base.proofs.Tests.{by-test, not-both}
-use Rattle.limits.specs.Limits.{mostSymbols, mostSets, emptySet, tableCells}
+use Rattle.limits.specs.Limits.{mostSymbols, emptySet, tableCells}
 use Rattle.masks.specs.Masks.{has}
 use Rattle.forms.specs.declared.Form.{Form}
-use Rattle.forms.specs.declared.Table.{Table}
 use Rattle.forms.specs.Form.{cell, howMany, keptAt}
 use Rattle.forms.specs.Back.{rank, keptCount, lookup, cellOf, backNumber, backCell, backBy, backOf, tableOf}
-use Rattle.forms.specs.Claims.{Numbered, IsTable, Alike}
+use Rattle.forms.specs.Claims.{IsTable, Alike}
 use Rattle.forms.proofs.Picking.{many-lt, many-same}
 use Rattle.forms.proofs.Accepting.{Accepted, parts, accepted-of, none-or-40}
 use Rattle.forms.proofs.Trip.{place}

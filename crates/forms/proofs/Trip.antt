@@ -2,7 +2,7 @@
 -- so each cell of the table comes back. Assumes nothing.
 use mathlib.Core.Path.{_≡_, sym, ap, _∙_}
 use mathlib.Core.Logic.{_⊎_, inl, inr}
-use mathlib.Core.Bool.{Bool, true, _&&_}
+use mathlib.Core.Bool.{true}
 use mathlib.Core.List.{List}
 use mathlib.Core.Option.{none}
 use Prim.Native.Nat.{ℕ, zero, suc, _+_, _*_, _/_, _%_, _≤_, _<_}
@@ -10,14 +10,13 @@ use native.Mathlib.Omega.{arith}
 use lib.Dec.{ltb}
 use lib.ListN.{getD}
 use borrow.Author.Tests.{ltb-true, ltb-false}
-use Rattle.base.specs.Lists.{listFrom}
 use Rattle.base.proofs.Lists.{cell-of, is-listFrom}
 use Rattle.base.proofs.Tests.{by-test}
 use Rattle.limits.specs.Limits.{mostSymbols, mostSets, emptySet, tableCells}
 use Rattle.masks.specs.Masks.{has}
 use Rattle.masks.proofs.Laws.{member-of}
-use Rattle.forms.specs.Form.{cell, howMany, picked, keeps, keptAt, keptMask, failureOf, failures, masks, formOf}
-use Rattle.forms.specs.Back.{rank, keptCount, lookup, cellOf, lacking, backNumber, backBy, backOf, backCell, tableOf}
+use Rattle.forms.specs.Form.{cell, picked, keeps, keptAt, keptMask, failureOf, failures, masks, formOf}
+use Rattle.forms.specs.Back.{rank, lookup, cellOf, backOf, backCell, tableOf}
 use Rattle.forms.specs.Claims.{Numbered, IsTable}
 use Rattle.forms.proofs.Picking as picking
 use Rattle.masks.proofs.Passing.{mask-in, mask-has, mask-lt}

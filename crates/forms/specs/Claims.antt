@@ -8,10 +8,10 @@
 --   Alike f g        the forms f and g have the same in all that is read
 use mathlib.Core.Path.{_≡_}
 use mathlib.Core.Logic.{_↔_, _⊎_}
-use mathlib.Core.Bool.{true, false, cond}
+use mathlib.Core.Bool.{false, cond}
 use mathlib.Core.List.{List}
 use mathlib.Core.Option.{none, some}
-use Prim.Native.Nat.{ℕ, _+_, _*_, _/_, _%_, _≤_, _<_}
+use Prim.Native.Nat.{ℕ, _+_, _/_, _%_, _≤_, _<_}
 use lib.Dec.{eqb}
 use lib.ListN.{length, getD}
 use Rattle.base.specs.Totals.{total}
@@ -19,7 +19,7 @@ use Rattle.limits.specs.Limits.{mostSymbols, mostSets, emptySet, tableCells}
 use Rattle.masks.specs.Masks.{bit, _∈_, has}
 use Rattle.forms.specs.declared.Form.{Form}
 use Rattle.forms.specs.Form.{cell, equalCells, failureOf, keptMask, formOf}
-use Rattle.forms.specs.Back.{rank, keptCount, cellOf, backNumber, tableOf, noTable, backOf}
+use Rattle.forms.specs.Back.{rank, keptCount, backNumber, tableOf, noTable, backOf}
 
 abbrev pub differences : List ℕ → ℕ → ℕ → ℕ → ℕ
 differences l k t u = total (λ s. cond (eqb (cell l t s) (cell l u s)) 0 1) k

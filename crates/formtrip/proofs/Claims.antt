@@ -1,20 +1,15 @@
 -- The one proof of all that specs/Claims.antt claims. Assumes nothing.
-use mathlib.Core.Path.{_≡_, refl, sym, ap, _∙_}
-use mathlib.Core.Logic.{_↔_}
-use mathlib.Core.Bool.{Bool, true, false}
-use mathlib.Core.List.{List, [], _∷_}
+use mathlib.Core.Path.{_≡_, refl, ap, _∙_}
+use mathlib.Core.Bool.{true, false}
+use mathlib.Core.List.{List, _∷_}
 use mathlib.Core.Option.{Option, none, some}
-use Prim.Native.Nat.{ℕ, min, _≤_, _<_}
+use Prim.Native.Nat.{min}
 use native.Mathlib.Omega.{arith}
 use borrow.Author.Tests.{eq-eqb, ne-eqb}
-use Rattle.base.specs.Options.{isNone}
 use Rattle.base.proofs.Options.{none-some}
 use Rattle.limits.specs.Limits.{mostSymbols, mostSets}
 use Rattle.automaton.specs.declared.Rule.{Rule}
-use Rattle.automaton.specs.Rules.{WellFormed}
-use Rattle.subsets.specs.Claims.{fits}
 use Rattle.build.specs.declared.Built.{Built}
-use Rattle.build.specs.mirror.Building.{builtOf, noBuilt}
 use Rattle.calls.specs.declared.Judge.{Judge}
 use Rattle.calls.specs.Calls.{Call, installs, installNumber}
 use Rattle.calls.specs.mirror.Steps.{lacksRule}
@@ -22,7 +17,7 @@ use Rattle.forms.specs.Form.{formOf}
 use Rattle.forms.specs.Back.{backOf}
 use Rattle.forms.specs.Claims.{IsTable}
 use Rattle.forms.proofs.Trip.{round-trip}
-use Rattle.formmaker.specs.Making.{Made, noForm, formIn, madeBy, madeOf}
+use Rattle.formmaker.specs.Making.{Made, noForm, madeOf}
 use Rattle.histories.specs.History.{ruleThere}
 use Rattle.histories.specs.Claims.{judgeAfter, BuiltBy}
 use Rattle.histories.proofs.EveryList.{every-list}

@@ -1,9 +1,9 @@
 -- The next-set table of a well-formed rule with at most 512 sets is a table: it has the set {0}, a
 -- cell in use is 512 or the number of a set, and one that is not in use is 512. Assumes nothing.
-use mathlib.Core.Path.{_≡_, refl, sym, ap, _∙_}
+use mathlib.Core.Path.{_≡_, refl, _∙_}
 use mathlib.Core.Logic.{_⊎_, inl, inr, ⊎-elim}
-use mathlib.Core.Bool.{Bool, true, false, cond, _&&_, and-false}
-use mathlib.Core.List.{List, []}
+use mathlib.Core.Bool.{and-false}
+use mathlib.Core.List.{[]}
 use Prim.Native.Nat.{ℕ, _+_, _*_, _/_, _%_, _^_, _≤_, _<_, min}
 use native.Mathlib.Omega.{arith}
 use lib.Dec.{eqb, ltb}
@@ -17,12 +17,12 @@ use Rattle.masks.specs.Masks.{single}
 use Rattle.automaton.specs.declared.Rule.{Rule}
 use Rattle.automaton.specs.Rules.{WellFormed}
 use Rattle.automaton.specs.Successor.{successor}
-use Rattle.subsets.specs.Sets.{setsOf, tooMany, nextSet, nextCells}
+use Rattle.subsets.specs.Sets.{tooMany, nextSet}
 use Rattle.subsets.specs.Claims.{fits, sets, next}
 use Rattle.subsets.proofs.Claims as subsets
 use Rattle.build.specs.mirror.Building.{builtOf}
 use Rattle.forms.specs.Form.{cell}
-use Rattle.forms.specs.Claims.{Numbered, IsTable}
+use Rattle.forms.specs.Claims.{IsTable}
 use Rattle.forms.proofs.Trip.{place}
 
 module _ (r : Rule) (good : WellFormed r) (few : fits r) where

@@ -7,8 +7,6 @@ use mathlib.Core.Path.{_≡_}
 use mathlib.Core.Logic.{_↔_}
 use mathlib.Core.List.{List, _∷_}
 use mathlib.Core.Option.{none, some}
-use Prim.Native.Nat.{ℕ, min}
-use Rattle.limits.specs.Limits.{mostSymbols, mostSets}
 use Rattle.automaton.specs.declared.Rule.{Rule}
 use Rattle.build.specs.mirror.Building.{builtOf}
 use Rattle.calls.specs.declared.Judge.{Judge}

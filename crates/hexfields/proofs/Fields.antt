@@ -9,11 +9,11 @@ use mathlib.Core.Option.{Option, none, some}
 use Prim.Native.Nat.{ℕ, suc, _+_, _*_, _%_}
 use native.Mathlib.Omega.{arith}
 use borrow.Author.Tests.{eqb-true, ne-eqb, le-leb}
-use lib.Dec.{eqb, leb, ltb}
+use lib.Dec.{eqb, leb}
 use lib.ListN.{length}
 use Rattle.base.proofs.Tests.{by-test, zero-one}
 use Rattle.fields.specs.Bytes.{hexValue, allHex, pairs, parseBytes}
-use Rattle.hexfields.specs.Fields.{Begun, nothing, dash, even, odd, stray, isDigit, begunBy, saysNow}
+use Rattle.hexfields.specs.Fields.{nothing, dash, even, stray, isDigit, begunBy, saysNow}
 
 -- no field goes on where none begins
 none-stray : (w : List ℕ) → saysNow (begunBy stray w) ≡ none

@@ -20,7 +20,7 @@ use Rattle.base.proofs.Tests.{by-test}
 use Rattle.fields.specs.Bytes.{hexValue}
 use Rattle.hexfields.specs.declared.Part.{Part}
 use Rattle.hexfields.specs.declared.Part.the-variants as part
-use Rattle.hexfields.specs.Fields.{Begun, nothing, isDigit, goesOn, saysNow}
+use Rattle.hexfields.specs.Fields.{Begun, isDigit, goesOn, saysNow}
 use Rattle.hexfields.specs.Reading.{PairPut, pairOf, readTo, readOf, Kept, PutsPair, Keeps, keeps-nothing, keeps-dash, keeps-even, keeps-odd, keeps-stray, ReadsOn, endOf, Tells}
 
 -- ---- the bytes

@@ -1,6 +1,6 @@
 -- What is claimed of fields that are read byte by byte; proofs/Claims.antt proves it.
 use mathlib.Core.Path.{_≡_}
-use mathlib.Core.List.{List, []}
+use mathlib.Core.List.{List}
 use Prim.Native.Nat.{ℕ}
 use Rattle.fields.specs.Bytes.{parseBytes}
 use Rattle.hexfields.specs.declared.Part.{Part}

@@ -8,7 +8,7 @@
 --   put-within                 an answer that was written behind the others is within the buffer
 --   placed                     an answer that was written into the rest of a buffer
 use mathlib.Core.Path.{_≡_, refl, sym, ap, ap₂, _∙_, subst}
-use mathlib.Core.Bool.{Bool, true, false, cond}
+use mathlib.Core.Bool.{Bool, cond}
 use mathlib.Core.List.{List, [], _∷_, _++_, append-assoc, append-nil}
 use Prim.Native.Nat.{ℕ, _+_, _-_, _≤_, _<_}
 use native.Mathlib.Nat.{le-refl}
@@ -17,9 +17,9 @@ use borrow.Author.Tests.{lt-ltb, le-ltb}
 use borrow.Rule.Slice.PartMut.{midOf, putMid, same-len-mid, mid-len}
 use lib.ListN.{length, take, drop, length-append, length-drop, drop-of-length-le}
 use lib.Seq.{take-all, drop-drop, length-take-le}
-use Rattle.text.specs.Writing.{written, Wrote}
+use Rattle.text.specs.Writing.{Wrote}
 use Rattle.text.proofs.Pieces.{wrote-none, wrote-more}
-use Rattle.linetexts.specs.Parts.{Part, partsOf, firstOf, partAt, partSize, FirstPart}
+use Rattle.linetexts.specs.Parts.{Part, partsOf, firstOf, partAt, partSize}
 use Rattle.linetexts.specs.Feeding.{LineMachine, State, Step, feedPart, Gathering, stop, onward, gatherParts, gatherAt, Gathers}
 use Rattle.linetexts.proofs.Parts.{first-part}
 

@@ -7,7 +7,6 @@
 --   round-forward, round-on, rounds-over   for a loop over the rounds of a block
 --   in-first, past-first     an index of the first n bytes
 use mathlib.Core.Path.{_≡_, refl, sym, ap, ap₂, _∙_, subst}
-use mathlib.Core.Bool.{Bool, true, false, cond}
 use mathlib.Core.List.{List, [], _∷_, _++_, append-assoc, flatten}
 use Prim.Native.Nat.{ℕ, zero, suc, _+_, _-_, _≤_, _<_}
 use native.Mathlib.Omega.{arith}
@@ -16,8 +15,8 @@ use lib.Dec.{ltb}
 use lib.ListN.{length, drop, length-drop, drop-of-length-le, take}
 use lib.Seq.{drop-drop, length-take-le}
 use Rattle.base.proofs.Tests.{by-test}
-use Rattle.linetexts.specs.Parts.{Part, partsOf, partsIn, firstOf, partSize, FirstPart}
-use Rattle.linetexts.specs.Feeding.{LineMachine, State, Step, feedPart, feedParts, partsText, Gathering, stop, onward, gatherParts, gatherAt, Gathers}
+use Rattle.linetexts.specs.Parts.{Part, partsOf, partsIn, firstOf, partSize}
+use Rattle.linetexts.specs.Feeding.{LineMachine, State, feedPart, feedParts, partsText, Gathering, stop, onward, gatherParts, gatherAt, Gathers}
 use Rattle.linetexts.specs.Claims.{Rounds, over, round, Blocks, no-block, one-more}
 use Rattle.linetexts.proofs.Parts.{first-part}
 use Rattle.linetexts.proofs.Gathering.{gather-on, gather-short, gather-over}

@@ -5,9 +5,9 @@
 --   part-answered   the part ends a line, and its answer was written behind the others
 --   turn-on, turn-answered, turn-put   the same of a line whose beginning is held; the answer was
 --                   written into what is left of the buffer, or behind the others
-use mathlib.Core.Path.{_≡_, refl, sym, ap, ap₂, _∙_, subst}
+use mathlib.Core.Path.{_≡_, refl, sym, ap, ap₂, _∙_}
 use mathlib.Core.Bool.{Bool, true, false, not}
-use mathlib.Core.List.{List, []}
+use mathlib.Core.List.{List}
 use Prim.Native.Nat.{ℕ, _+_, _-_, _≤_, _<_}
 use native.Mathlib.Omega.{arith}
 use borrow.Rule.Slice.PartMut.{midOf, putMid}
@@ -18,8 +18,8 @@ use Rattle.text.proofs.Pieces.{wrote-none}
 use Rattle.longlines.specs.declared.Held.{Held}
 use Rattle.longlines.specs.Holding.{lineBegin}
 use Rattle.linetexts.specs.declared.Taken.{Taken}
-use Rattle.linetexts.specs.Parts.{Part, ends, goesOn, partAt, partBytes, partEnds, partSize, FirstPart, TookPart}
-use Rattle.linetexts.specs.Feeding.{Outcome, LineMachine, State, keeping, goOn, quiet, answeredBy, answerKept, feedPart}
+use Rattle.linetexts.specs.Parts.{Part, ends, goesOn, partAt, partBytes, partEnds, partSize, TookPart}
+use Rattle.linetexts.specs.Feeding.{LineMachine, State, keeping, goOn, quiet, answeredBy, answerKept, feedPart}
 use Rattle.linetexts.specs.Beginnings.{Beginning, beginning, Teller, stateOf, byBeginning, heldStep}
 use Rattle.linetexts.proofs.Parts.{first-part}
 use Rattle.linetexts.proofs.Gathering.{SoFar, gone-on, put-within, placed, placed-size}

@@ -3,7 +3,7 @@
 --   too-few, too-many   4
 --   no-seed             41
 --   made                the text
-use mathlib.Core.Path.{_≡_, refl}
+use mathlib.Core.Path.{_≡_}
 use mathlib.Core.List.{List}
 use Prim.Native.Nat.{ℕ, _≤_, _<_}
 use native.Mathlib.Omega.{arith}

@@ -1,7 +1,7 @@
 -- Values and texts worked out by a computation of another kind, outside this project's proofs.
 -- Assumes nothing.
 use mathlib.Core.Path.{_≡_, refl}
-use mathlib.Core.List.{List, [], _∷_}
+use mathlib.Core.List.{[], _∷_}
 use Rattle.madetexts.specs.Values.{nextValue, madeText}
 
 -- the first three values after the seed 1

@@ -1,8 +1,8 @@
 -- The one proof of all that specs/Claims.antt claims. Assumes nothing.
-use mathlib.Core.Path.{_≡_, refl, sym, ap, _∙_}
+use mathlib.Core.Path.{_≡_, refl}
 use mathlib.Core.List.{List, [], _∷_, _++_}
 use mathlib.Core.Option.{Option, none, some}
-use Prim.Native.Nat.{ℕ, zero, suc, _+_, _/_, _%_, _≤_, _<_}
+use Prim.Native.Nat.{ℕ, zero, suc, _/_, _≤_}
 use native.Mathlib.Omega.{arith}
 use lib.Dec.{ltb}
 use lib.ListN.{length, length-append}
@@ -12,7 +12,6 @@ use Rattle.text.specs.Numerals.{decimalBelow, decimal}
 use Rattle.lines.specs.Splitting.{upTo, past}
 use Rattle.lines.proofs.Over.{over-up, over-past}
 use Rattle.hexfields.proofs.Digits.{number-over}
-use Rattle.fields.specs.Numbers.{parseNumber}
 use Rattle.fields.specs.Claims.{fieldOf}
 use Rattle.fields.proofs.Claims as fields
 use Rattle.madetexts.specs.Values.{madeText}

@@ -4,19 +4,19 @@
 --   long-number   a field of more than 20 bytes is no number
 --   past-length   the bytes before a space, the space, and those behind it
 --   too-long      a line of more than 62 bytes is malformed
-use mathlib.Core.Path.{_≡_, refl, sym, ap, _∙_}
-use mathlib.Core.Bool.{Bool, true, false, cond, _&&_}
+use mathlib.Core.Path.{_≡_, refl}
+use mathlib.Core.Bool.{Bool, true, false, _&&_}
 use mathlib.Core.List.{List, [], _∷_}
 use mathlib.Core.Option.{Option, none, some}
-use Prim.Native.Nat.{ℕ, suc, _+_, _≤_, _<_}
+use Prim.Native.Nat.{ℕ, suc, _+_, _<_}
 use native.Mathlib.Omega.{arith}
 use lib.Dec.{leb, eqb}
 use lib.ListN.{length}
 use borrow.Author.Tests.{lt-leb, leb-true, leb-false}
 use Rattle.base.proofs.Tests.{by-test, zero-one}
 use Rattle.lines.specs.Splitting.{upTo, past}
-use Rattle.fields.specs.Numbers.{allDigits, valueOf, parseNumber}
-use Rattle.maketextlines.specs.Lines.{Meaning, malformed, upToMost, makesBy, lengthFields, seedFields, lineIn}
+use Rattle.fields.specs.Numbers.{parseNumber}
+use Rattle.maketextlines.specs.Lines.{malformed, upToMost, makesBy, lengthFields, seedFields, lineIn}
 
 never : (a : Bool) → a && false ≡ false
 never true = refl

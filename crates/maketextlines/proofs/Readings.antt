@@ -1,7 +1,7 @@
 -- What the ways through `numbers` and `parse` come to. Assumes nothing.
-use mathlib.Core.Path.{_≡_, refl, sym, ap, _∙_}
+use mathlib.Core.Path.{_≡_, sym, ap, _∙_}
 use mathlib.Core.List.{List}
-use mathlib.Core.Option.{Option, none, some}
+use mathlib.Core.Option.{none, some}
 use Prim.Native.Nat.{ℕ, suc, _+_, _-_, _≤_, _<_}
 use native.Mathlib.Omega.{arith}
 use borrow.Author.Tests.{le-leb, lt-leb}
@@ -12,7 +12,7 @@ use Rattle.lines.proofs.Splits.{up-take, past-there, past-none}
 use Rattle.fields.specs.declared.Number.{Number}
 use Rattle.fields.specs.declared.Number.the-variants.{Value, Malformed}
 use Rattle.fields.specs.Numbers.{parseNumber, numberMeans}
-use Rattle.maketextlines.specs.Lines.{Meaning, makes, malformed, upToMost, makesBy, lengthFields, seedFields, lineIn}
+use Rattle.maketextlines.specs.Lines.{Meaning, makes, malformed, upToMost, makesBy, lineIn}
 
 -- ---- the three numbers
 module _ (k s n : List ℕ) (x : Number) (said : numberMeans x ≡ parseNumber k) where

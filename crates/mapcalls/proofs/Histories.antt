@@ -3,8 +3,8 @@
 --   Agrees h s   the state s is what the calls h say: the profile of the last file that was built, or
 --                none
 --   agrees       so it is after every list of calls
-use mathlib.Core.Path.{_≡_, refl, sym, ap, ap₂, _∙_, subst}
-use mathlib.Core.Bool.{Bool, true, false, cond}
+use mathlib.Core.Path.{_≡_, refl, sym, subst}
+use mathlib.Core.Bool.{true, false}
 use mathlib.Core.List.{List, [], _∷_}
 use mathlib.Core.Option.{Option, none, some}
 use Prim.Native.Nat.{ℕ}
@@ -13,12 +13,11 @@ use Rattle.executions.specs.Executions.{stateAfter}
 use Rattle.ruleformat.specs.Refusals.{refusal}
 use Rattle.ruleformat.specs.Reader.{ruleOf}
 use Rattle.profile.specs.declared.Profile.{Profile}
-use Rattle.profile.specs.Profiles.{Building, Reply as Answer, accepted, refused as turnedDown, buildNumber, buildBy, buildOf, profileOf}
-use Rattle.profile.specs.Runs.{runOf, verdictOf}
+use Rattle.profile.specs.Profiles.{Reply as Answer, accepted, refused as turnedDown, buildNumber, buildBy, profileOf}
 use Rattle.profile.specs.Claims.{Takes}
 use Rattle.profilefile.specs.Files.{profileBy, profileIn}
 use Rattle.mapcalls.specs.declared.MapState.{MapState}
-use Rattle.mapcalls.specs.Calls.{Call, forgets, builds, runs, composes, asks, said, lacking, noneYet, keptBy, ranReply, replyOf, nextOf, mapMachine}
+use Rattle.mapcalls.specs.Calls.{Call, forgets, builds, runs, composes, asks, keptBy, replyOf, nextOf, mapMachine}
 use Rattle.mapcalls.specs.Histories.{builtBy, lastBuilt, ranOn, saidOn, rightReply}
 use Rattle.mapcalls.specs.Claims.{Claims}
 use Rattle.mapcalls.proofs.Last.{last-built}

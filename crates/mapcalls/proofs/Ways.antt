@@ -6,10 +6,9 @@
 --   run-lacks, run-mapped, run-refused   a chunk without a profile, one that is run, one refused
 --   composed              a composition
 --   ask-lacks, asked-yes, asked-no    the verdict without a profile, yes and no
-use mathlib.Core.Path.{_≡_, refl, sym, ap, ap₂, _∙_}
+use mathlib.Core.Path.{_≡_, refl, sym, ap, _∙_}
 use mathlib.Core.Bool.{Bool, true, false, not, cond}
 use mathlib.Core.List.{List}
-use mathlib.Core.Option.{none, some}
 use Prim.Native.Nat.{ℕ}
 use lib.ListN.{replicate}
 use Rattle.mappings.specs.declared.Mapping.{Mapping}
@@ -20,14 +19,14 @@ use Rattle.profile.specs.declared.BuildAnswer.the-variants as build
 use Rattle.profile.specs.declared.RunResult.{RunResult}
 use Rattle.profile.specs.declared.RunAnswer.the-variants as run
 use Rattle.profile.specs.Profiles.{Building, noProfile, Reply as Answer, accepted, refused as turnedDown, buildMeans, buildOutcome}
-use Rattle.profile.specs.Runs.{Ran, runMeans, runOutcome, runOf, Lends, verdictOf}
+use Rattle.profile.specs.Runs.{runMeans, runOutcome, runOf, Lends, verdictOf}
 use Rattle.profile.proofs.Ways.{lent-all}
 use Rattle.profilefile.specs.Files.{profileIn}
 use Rattle.mapcalls.specs.declared.MapState.{MapState}
 use Rattle.mapcalls.specs.declared.MapAnswer.{MapAnswer}
 use Rattle.mapcalls.specs.declared.MapAnswer.the-variants.{Forgotten, Built, Mapped, Yes, No, Lacking, Refused}
 use Rattle.mapcalls.specs.declared.MapReply.{MapReply}
-use Rattle.mapcalls.specs.Calls.{Reply, built, mapped, said, lacking, refused, builds, runs, composes, asks, noneYet, builtReply, keptBy, ranReply, replyOf, nextOf, answerMeans, replyMeans, masksBy}
+use Rattle.mapcalls.specs.Calls.{mapped, said, lacking, builds, runs, composes, asks, noneYet, builtReply, keptBy, ranReply, replyOf, nextOf, answerMeans, replyMeans, masksBy}
 
 not-there : (b : Bool) → not b ≡ true → b ≡ false
 not-there true e = sym e

@@ -35,7 +35,6 @@ use Rattle.mapcalls.specs.declared.MapState.{MapState}
 use Rattle.mapcalls.specs.declared.MapAnswer.{MapAnswer}
 use Rattle.mapcalls.specs.declared.MapAnswer.the-variants.{Forgotten, Built, Mapped, Yes, No, Lacking, Refused}
 use Rattle.mapcalls.specs.declared.MapReply.{MapReply}
-use Rattle.mapcalls.specs.declared.MapBuilding.{MapBuilding}
 
 pub data Call : Type 0 where
   forgets : Call

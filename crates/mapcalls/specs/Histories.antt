@@ -6,7 +6,6 @@
 use mathlib.Core.List.{List, [], _∷_}
 use mathlib.Core.Option.{Option, none, some}
 use Prim.Native.Nat.{ℕ}
-use Rattle.automaton.specs.declared.Rule.{Rule}
 use Rattle.ruleformat.specs.Reader.{ruleOf}
 use Rattle.mappings.specs.Mappings.{compose}
 use Rattle.profile.specs.Profiles.{Reply as Answer, accepted, refused as turnedDown, profileOf}

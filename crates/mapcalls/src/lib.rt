@@ -3,7 +3,7 @@
 ghost use mathlib.Core.Path.{_≡_};
 ghost use lib.ListN.{replicate};
 ghost use Rattle.mappings.specs.Mappings.{mappedStates};
-ghost use Rattle.mapcalls.specs.Calls.{builds, runs, composes, asks, forgets, noneYet, replyOf, nextOf, replyMeans, masksBy};
+ghost use Rattle.mapcalls.specs.Calls.{builds, runs, composes, asks, noneYet, replyOf, nextOf, replyMeans, masksBy};
 use mappings::Mapping;
 use profile::BuildAnswer;
 use profile::Profile;

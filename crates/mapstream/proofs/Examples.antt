@@ -1,7 +1,7 @@
 -- The calls of R-8 on rule A, line by line, by computation. Assumes nothing.
 use mathlib.Core.Path.{_≡_, refl}
-use mathlib.Core.List.{[], _∷_}
-use mathlib.Core.Option.{none, some}
+use mathlib.Core.List.{[]}
+use mathlib.Core.Option.{some}
 use Rattle.base.specs.Conditions.{anyBelow}
 use Rattle.base.specs.Lists.{listFrom, joined}
 use Rattle.text.specs.Numerals.{decimalBelow, hex}

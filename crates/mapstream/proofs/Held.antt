@@ -26,7 +26,7 @@ use Rattle.mapcalls.specs.declared.MapState.{MapState}
 use Rattle.mapcalls.specs.Calls.{Call}
 use Rattle.maplines.specs.declared.Said.{Said}
 use Rattle.maplines.specs.Lines.{askIn, lineIn, changes}
-use Rattle.maplines.specs.Answers.{answerTo, leftBy, isMalformed, Says}
+use Rattle.maplines.specs.Answers.{leftBy, Says}
 use Rattle.maplines.proofs.Ways.{unchanged, stays as ask-stays}
 use Rattle.mapstream.specs.Texts.{stepOf, mapList, mapLines, changesHeld}
 

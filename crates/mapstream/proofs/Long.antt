@@ -4,11 +4,11 @@
 --
 --   Tells s a b    a line of the meaning a comes to what a line of the meaning b does, on the state s
 --   told           so 131,078 bytes tell lines apart
-use mathlib.Core.Path.{_≡_, refl, sym, ap, ap₂, _∙_}
+use mathlib.Core.Path.{_≡_, refl, ap, ap₂, _∙_}
 use mathlib.Core.Bool.{Bool, true, false, cond}
-use mathlib.Core.List.{List, [], _∷_, _++_}
+use mathlib.Core.List.{List, _++_}
 use mathlib.Core.Option.{Option, none, some}
-use Prim.Native.Nat.{ℕ, suc, _+_, _-_, _%_, _≤_, _<_}
+use Prim.Native.Nat.{ℕ, suc, _-_, _%_, _≤_, _<_}
 use native.Mathlib.Omega.{arith}
 use borrow.Author.Tests.{ne-eqb, ltb-true, ltb-false}
 use lib.Dec.{eqb, ltb}
@@ -16,21 +16,19 @@ use lib.ListN.{length, drop, length-append, length-drop}
 use lib.Seq.{drop-append-le}
 use Rattle.base.proofs.Tests.{by-test}
 use Rattle.lines.specs.Splitting.{begins, upTo, past}
-use Rattle.lines.proofs.Splits.{up-append, past-there, past-none}
+use Rattle.lines.proofs.Splits.{past-there}
 use Rattle.fields.specs.Bytes.{allHex, parseBytes}
 use Rattle.maptext.specs.MappingText.{parseMapping}
-use Rattle.longlines.specs.Claims.{TellsWithin}
-use Rattle.longlines.proofs.Tails.{begins-append, up-more, past-append, tail-stray, tail-bytes}
+use Rattle.longlines.proofs.Tails.{begins-append, tail-stray, tail-bytes}
 use Rattle.linetexts.specs.Beginnings.{Told}
 use Rattle.linetexts.specs.Lists.{listOf, listTeller}
 use Rattle.linetexts.proofs.Lists.{told-lists}
 use Rattle.mapcalls.specs.declared.MapState.{MapState}
-use Rattle.mapcalls.specs.Calls.{Call, Reply, builds, runs, replyOf, nextOf}
+use Rattle.mapcalls.specs.Calls.{Call, Reply, builds, runs, nextOf}
 use Rattle.maplines.specs.Lines.{build-word, run-word, compose-word, verdict-word, buildBy, runBy, askBy, composeBy, composeFields, askIn, lineIn}
 use Rattle.mapreplies.specs.Replies.{replyText}
-use Rattle.maplines.specs.Answers.{answerTo, leftBy}
 use Rattle.maplines.proofs.Long.{builds-long, left-long, runs-long}
-use Rattle.mapstream.specs.Texts.{stepOf, mapList, mapLines}
+use Rattle.mapstream.specs.Texts.{stepOf, mapList}
 
 -- ---- fields that are malformed
 mapping-long : (u : List ℕ) → 16 < length u → parseMapping u ≡ none

@@ -12,7 +12,7 @@
 --   rightReplyTo h o    the right answer to a line of the meaning o after the calls h
 --   rightText h ls      the right answer to each line, after the calls h and the lines before it
 use mathlib.Core.Bool.{Bool, false}
-use mathlib.Core.List.{List, [], _∷_, _++_}
+use mathlib.Core.List.{List, [], _∷_}
 use mathlib.Core.Option.{Option, none, some}
 use Prim.Native.Nat.{ℕ, _+_, _*_}
 use Rattle.limits.specs.Limits.{bytesRoom}

@@ -1,17 +1,15 @@
 -- The laws of idle marks and of the text of a chunk, byte by byte. Assumes nothing.
 use mathlib.Core.Path.{_≡_, refl, ap, _∙_}
-use mathlib.Core.Bool.{Bool, true, false, cond, _||_, or-true, or-false}
+use mathlib.Core.Bool.{Bool, true, false, _||_, or-true, or-false}
 use mathlib.Core.List.{List, [], _∷_, _++_, append-nil}
-use Prim.Native.Nat.{ℕ, suc, _+_, _≤_, _<_}
+use Prim.Native.Nat.{ℕ, _+_, _≤_, _<_}
 use native.Mathlib.Numerals.{add-one}
 use native.Mathlib.Omega.{arith}
-use borrow.Author.Tests.{eq-eqb, ne-eqb, eqb-true}
+use borrow.Author.Tests.{eq-eqb, ne-eqb}
 use lib.Dec.{eqb}
 use lib.ListN.{length, getD, take, drop, drop-of-length-le}
 use lib.Seq.{drop-cons, take-suc}
-use Rattle.base.proofs.Tests.{by-test, or-left, or-right, not-both}
-use Rattle.text.specs.Writing.{Wrote}
-use Rattle.text.proofs.Pieces.{wrote-byte, wrote-more}
+use Rattle.base.proofs.Tests.{by-test, or-left, or-right}
 use Rattle.marks.specs.Marks.{marked, textOf}
 
 -- ---- whether a mark is left from byte i on, where `found` says whether a byte before is one

@@ -1,7 +1,7 @@
 -- The loop that packs a chunk's text into a buffer: its invariant, `Packed`, and that a turn keeps
 -- it. Assumes nothing.
-use mathlib.Core.Path.{_≡_, refl, sym, ap, _∙_, subst}
-use mathlib.Core.List.{List, [], _∷_, _++_}
+use mathlib.Core.Path.{_≡_, refl, _∙_, subst}
+use mathlib.Core.List.{List, [], _∷_}
 use Prim.Native.Nat.{ℕ, _+_, _≤_, _<_}
 use native.Mathlib.Omega.{arith}
 use lib.ListN.{length, getD, take, set, length-set}
@@ -9,7 +9,7 @@ use lib.Seq.{take-all}
 use Rattle.text.specs.Writing.{Wrote}
 use Rattle.text.proofs.Pieces.{wrote-none, wrote-byte, wrote-more}
 use Rattle.marks.specs.Marks.{textOf}
-use Rattle.marks.proofs.Laws.{no-longer, skipped, kept}
+use Rattle.marks.proofs.Laws.{skipped, kept}
 
 module _ (w before : List ℕ) where
   pub record Packed (after : List ℕ) (n i : ℕ) : Type 0 where

@@ -1,7 +1,7 @@
 // Two rules made one: a text that both accept, a text that either accepts, or an interleaving of
 // one from each. Any numbers may stand in the rules.
 ghost use mathlib.Core.Path.{_≡_};
-ghost use Prim.Native.Nat.{_+_, _*_, _^_, _≤_, _<_};
+ghost use Prim.Native.Nat.{_+_, _*_, _≤_, _<_};
 ghost use Rattle.base.specs.Lists.{listFrom};
 ghost use Rattle.limits.specs.Limits.{mostStates, mostSymbols, targetCells};
 ghost use Rattle.automaton.specs.Rules.{targetMask};

@@ -1,9 +1,9 @@
 -- A file that is too long is refused by its length alone, so its first bytes stand for it; and what
 -- is kept of a line is answered as the whole line. Assumes nothing.
-use mathlib.Core.Path.{_≡_, refl, sym, ap, _∙_, subst}
+use mathlib.Core.Path.{_≡_, refl, sym, ap, _∙_}
 use mathlib.Core.List.{List}
 use mathlib.Core.Option.{Option, none, some}
-use Prim.Native.Nat.{ℕ, _<_, _≤_}
+use Prim.Native.Nat.{ℕ, _<_}
 use native.Mathlib.Omega.{arith}
 use borrow.Author.Tests.{lt-ltb, le-ltb, ltb-true, ltb-false}
 use lib.Dec.{ltb}
@@ -12,11 +12,11 @@ use lib.Seq.{take-all, length-take-le}
 use Rattle.base.proofs.Tests.{by-test}
 use Rattle.ruleformat.specs.Refusals.{tooShort, tooLong, refusal}
 use Rattle.hexfields.specs.Fields.{saysNow}
-use Rattle.hexfields.specs.Reading.{Kept, Keeps, endOf, Tells}
+use Rattle.hexfields.specs.Reading.{Kept, endOf, Tells}
 use Rattle.hexfields.proofs.Kept as field
 use Rattle.merging.specs.declared.Way.{Way}
-use Rattle.mergetext.specs.Lines.{Meaning, merges, malformed, secondBy, lineIn}
-use Rattle.mergetext.specs.Answers.{filesNumber, mergedFiles, refused, responseIn}
+use Rattle.mergetext.specs.Lines.{secondBy, lineIn}
+use Rattle.mergetext.specs.Answers.{mergedFiles, refused, responseIn}
 use Rattle.mergetext.proofs.Files.{refused-first, refused-second}
 use Rattle.mergescan.specs.declared.Scan.{Scan}
 use Rattle.mergescan.specs.Lines.{Seen, start, seenBy, meansNow}

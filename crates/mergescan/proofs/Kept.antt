@@ -23,7 +23,7 @@ use Rattle.fields.specs.declared.Bytes.the-variants.{Put, Malformed}
 use Rattle.fields.specs.Bytes.{bytesMeans}
 use Rattle.hexfields.specs.declared.Part.{Part}
 use Rattle.hexfields.specs.declared.Part.the-variants as part
-use Rattle.hexfields.specs.Fields.{nothing, saysNow}
+use Rattle.hexfields.specs.Fields.{saysNow}
 use Rattle.hexfields.specs.Reading.{PartRead, readOf, keeps-nothing, ReadsOn, endOf, Tells}
 use Rattle.hexfields.proofs.Kept as field
 use Rattle.merging.specs.declared.Way.{Way}

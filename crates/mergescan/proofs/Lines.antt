@@ -3,7 +3,7 @@
 -- The route: `meansFrom s w` is what the line means of which s was read and w is still to come; a
 -- byte that goes over from w to s changes nothing (`step`).
 use mathlib.Core.Path.{_≡_, refl, sym, ap, _∙_}
-use mathlib.Core.Bool.{true, false, cond}
+use mathlib.Core.Bool.{cond}
 use mathlib.Core.List.{List, [], _∷_, _++_}
 use mathlib.Core.Option.{Option, none, some}
 use Prim.Native.Nat.{ℕ, suc}
@@ -12,10 +12,9 @@ use lib.Dec.{eqb}
 use lib.ListN.{length, drop}
 use Rattle.base.proofs.Tests.{by-test}
 use Rattle.lines.specs.Splitting.{begins, upTo, past}
-use Rattle.hexfields.specs.Fields.{Begun, nothing, goesOn, begunBy, saysNow}
+use Rattle.hexfields.specs.Fields.{Begun, nothing, begunBy, saysNow}
 use Rattle.hexfields.proofs.Fields as field
 use Rattle.merging.specs.declared.Way.{Way}
-use Rattle.merging.specs.declared.Way.the-variants.{Both, Either, Interleaving}
 use Rattle.mergetext.specs.Lines.{Meaning, malformed, secondBy, firstBy, fieldsIn, lineIn}
 use Rattle.mergescan.specs.Lines.{Seen, start, inWord, inFirst, inSecond, stray, firstByte, afterFirst, seenWith, seenBy, meansNow}
 

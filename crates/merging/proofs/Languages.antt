@@ -1,10 +1,10 @@
 -- The merged rule is well formed, its automaton is the two automata made one, and so it accepts
 -- what its way is to accept. Assumes two well-formed rules with the same k, and that the result has
 -- at most 32 states.
-use mathlib.Core.Path.{_≡_, refl, sym, _∙_}
+use mathlib.Core.Path.{_≡_, sym}
 use mathlib.Core.Logic.{_↔_, ⊎-elim, Iff·trans}
 use mathlib.Core.List.{List}
-use Prim.Native.Nat.{ℕ, _<_, _≤_}
+use Prim.Native.Nat.{ℕ}
 use native.Mathlib.Omega.{arith}
 use Rattle.masks.specs.Masks.{_∈_}
 use Rattle.masks.proofs.Laws.{below-of, empty-mask}

@@ -3,7 +3,7 @@
 use mathlib.Core.Path.{_≡_, refl, sym, ap, _∙_, subst}
 use mathlib.Core.Logic.{_↔_, Iff·trans}
 use mathlib.Core.Option.{Option, none, some}
-use Prim.Native.Nat.{ℕ, _+_, _*_, _<_}
+use Prim.Native.Nat.{ℕ, _+_}
 use Rattle.base.specs.Conditions.{NoneHolds, FirstHolds}
 use Rattle.base.proofs.Conditions.{none-law, first-law}
 use Rattle.base.proofs.Lists.{length-listFrom}

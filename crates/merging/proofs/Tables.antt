@@ -2,7 +2,7 @@
 -- Assumes two well-formed rules with the same k, and that the result has at most 32 states.
 --
 --   to-mask, of-mask   an arc stands in the table, and what stands in it is an arc
-use mathlib.Core.Path.{_≡_, refl, sym, ap, _∙_, subst}
+use mathlib.Core.Path.{_≡_, refl, subst}
 use mathlib.Core.Logic.{_↔_, inl, inr, ⊎-elim}
 use mathlib.Core.Bool.{cond}
 use Prim.Native.Nat.{ℕ, _+_, _-_, _*_, _/_, _%_, _^_, _<_, _≤_}

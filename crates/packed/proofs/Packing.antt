@@ -1,13 +1,12 @@
 -- The bytes of a rule state it: each target mask stands in the four bytes of its cell. Assumes
 -- nothing.
 use mathlib.Core.Path.{_≡_, refl, sym, ap, _∙_}
-use mathlib.Core.List.{List, [], _++_, append-assoc}
+use mathlib.Core.List.{List, _++_, append-assoc}
 use Prim.Native.Nat.{ℕ, _+_, _*_, _^_, _<_}
 use native.Mathlib.Omega.{arith}
 use lib.ListN.{length, getD, take, drop, length-append, List·getD-eq-default}
 use Rattle.base.specs.Lists.{joined}
 use lib.Dec.{ltb}
-use mathlib.Core.Bool.{true, cond}
 use borrow.Author.Tests.{lt-ltb, ltb-true, ltb-false}
 use Rattle.base.proofs.Tests.{by-test}
 use Rattle.base.proofs.Lists.{cell-of, length-listFrom, is-listFrom, length-exact, joined-split, part-at, part-byte}

@@ -35,18 +35,7 @@ use Rattle.patternscan.specs.Scanning.{grammatical}
 use Rattle.patternscan.proofs.Claims as scan
 use Rattle.patternreader.specs.Rules.{ruleRead}
 use Rattle.patternreader.proofs.Claims as reader
-use Rattle.patternfile.specs.Answers.{
-  tooLong,
-  noPattern,
-  tooManyLetters,
-  patternConditions,
-  patternNumber,
-  patternFileBy,
-  patternFile,
-  patternOf,
-  refusedWith,
-  fileIn,
-}
+use Rattle.patternfile.specs.Answers.{tooLong, noPattern, tooManyLetters, patternConditions, patternNumber, patternFileBy, patternFile, patternOf, fileIn}
 use Rattle.patternfile.specs.Claims.{LetterIn, States, Refused-exactly, AllZero, Accepted-for, Claims}
 use Rattle.patternfile.proofs.Ways.{from-31, from-32, refuses}
 use Rattle.patternfile.proofs.Examples.{answered}

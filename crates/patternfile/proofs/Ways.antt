@@ -33,17 +33,7 @@ use Rattle.patternscan.specs.Scanning.{grammatical}
 use Rattle.patternscan.proofs.Claims as scan
 use Rattle.patternreader.specs.Rules.{ruleRead}
 use Rattle.patternreader.proofs.Claims as reader
-use Rattle.patternfile.specs.Answers.{
-  tooLong,
-  noPattern,
-  tooManyLetters,
-  patternConditions,
-  patternNumber,
-  patternFileBy,
-  patternFile,
-  patternOf,
-  refusedWith,
-}
+use Rattle.patternfile.specs.Answers.{tooLong, noPattern, tooManyLetters, patternConditions, patternNumber, patternFileBy, patternOf, refusedWith}
 
 -- the number decides the whole outcome
 abbrev pub outcome-by : Option ℕ → List ℕ → Writing

@@ -1,6 +1,6 @@
 -- The arcs and the final states of the positions' rule, exactly, by letters and by texts. Assumes
 -- at most 31 letters, each below 16, where the arcs are asked for.
-use mathlib.Core.Path.{_≡_, refl, sym, ap, _∙_, subst}
+use mathlib.Core.Path.{_≡_, refl, sym, _∙_, subst}
 use mathlib.Core.Logic.{_↔_, _⊎_, inl, inr, ⊎-elim}
 use mathlib.Core.Bool.{true, cond}
 use mathlib.Core.List.{[]}

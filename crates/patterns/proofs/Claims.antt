@@ -1,17 +1,15 @@
 -- The proof of all that specs/Claims.antt claims. Assumes nothing.
 use mathlib.Core.Path.{_≡_, sym, ap, ap₂, _∙_, subst}
-use mathlib.Core.Logic.{_↔_, ⊎-elim}
-use mathlib.Core.Bool.{true}
-use mathlib.Core.List.{List, []}
+use mathlib.Core.Logic.{_↔_}
+use mathlib.Core.List.{List}
 use mathlib.Core.Option.{Option, none}
-use Prim.Native.Nat.{ℕ, suc, _+_, _/_, _%_}
-use native.Mathlib.Omega.{arith}
+use Prim.Native.Nat.{ℕ, _/_, _%_}
 use lib.Bits.{bitAnd}
 use lib.ListN.{length}
 use Rattle.base.proofs.Lists.{length-listFrom}
 use Rattle.masks.proofs.Laws.{single-law}
 use Rattle.automaton.specs.declared.Rule.{Rule}
-use Rattle.automaton.specs.Automaton.{Arc, Accepts}
+use Rattle.automaton.specs.Automaton.{Accepts}
 use Rattle.automaton.specs.Rules.{automatonOf}
 use Rattle.ruleformat.specs.Refusals.{refusal}
 use Rattle.ruleformat.specs.Reader.{ruleOf, ruleBy, readOf}
@@ -21,8 +19,8 @@ use Rattle.ruleformat.proofs.Written.{file-accepted, rule-is}
 use Rattle.ruleformat.proofs.Claims as format
 use Rattle.patterns.specs.Patterns.{Pattern, Matches}
 use Rattle.patterns.specs.Grammar.{StandsFor}
-use Rattle.patterns.specs.Positions.{nullable, nextStates, positionsOf, positionRule}
-use Rattle.patterns.specs.Claims.{Few, Letter, Claims}
+use Rattle.patterns.specs.Positions.{nextStates, positionsOf, positionRule}
+use Rattle.patterns.specs.Claims.{Few, Claims}
 use Rattle.patterns.proofs.Language as theory
 use Rattle.patterns.proofs.Letters.{counted, lettered}
 use Rattle.patterns.proofs.Arcs as arcs

@@ -1,7 +1,7 @@
 -- The letters of a pattern are those among its bytes. Assumes nothing.
 use mathlib.Core.Path.{_≡_, refl, sym, ap, ap₂, _∙_}
 use mathlib.Core.List.{List, [], _∷_, _++_, append-assoc, append-nil}
-use Prim.Native.Nat.{ℕ, _+_}
+use Prim.Native.Nat.{ℕ}
 use Rattle.patterns.specs.Patterns.{Pattern, letters}
 use Rattle.patterns.specs.Grammar.{Level, Parses, a-letter, brackets, a-star, nothing, next, first, other}
 use Rattle.patternscan.specs.declared.Sign.{Sign}

@@ -9,7 +9,7 @@
 use mathlib.Core.Path.{_≡_, refl, sym, ap, _∙_}
 use mathlib.Core.List.{List, [], _∷_, _++_}
 use mathlib.Core.Option.{Option, none, some}
-use Prim.Native.Nat.{ℕ, _+_}
+use Prim.Native.Nat.{ℕ}
 use Rattle.patterns.specs.Patterns.{Pattern, empty, letter, then, or, star}
 use Rattle.patterns.specs.Grammar.{Level, alternatives, sequence, item, Parses, a-letter, brackets, a-star, nothing, next, first, other, StandsFor}
 use Rattle.patternscan.specs.declared.Sign.{Sign}

@@ -4,7 +4,7 @@
 -- The route: a run over pairs is taken apart step by step (`two-of`), and two runs are put together
 -- along their texts (`joined-run`). What a step does is the one place that asks which way a pair
 -- moves (`stepped`, and the two cases of `joined-run`); `texts-law` asks no more.
-use mathlib.Core.Path.{_≡_, refl, sym, subst}
+use mathlib.Core.Path.{_≡_, refl, subst}
 use mathlib.Core.Logic.{_↔_, inl, inr, ⊎-elim}
 use mathlib.Core.List.{List, [], _∷_}
 use Prim.Native.Nat.{ℕ, _*_, _/_, _%_, _<_}

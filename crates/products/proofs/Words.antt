@@ -2,10 +2,10 @@
 -- the same number of symbols.
 use mathlib.Core.Path.{_≡_, refl, sym, subst}
 use mathlib.Core.Logic.{_↔_, inl, inr, ⊎-elim}
-use Prim.Native.Nat.{ℕ, _+_, _-_, _*_, _/_, _%_, _<_, _≤_}
+use Prim.Native.Nat.{ℕ, _+_, _/_, _%_, _<_}
 use native.Mathlib.Nat.{div-add-mod'}
 use native.Mathlib.Omega.{arith}
-use Rattle.automaton.specs.Automaton.{Automaton, Arc}
+use Rattle.automaton.specs.Automaton.{Automaton}
 use Rattle.products.specs.Products.{Moving, together, alone, pairOf, Moves, OfBoth, product, Own, sum}
 use Rattle.products.specs.Words.{ArcMoves, InPairs, SideBySide}
 use Rattle.products.proofs.Numbers.{left-of, right-of, left-below, right-below}

@@ -9,12 +9,12 @@ use mathlib.Core.Logic.{_↔_, ⊎-elim}
 use mathlib.Core.Bool.{Bool, true, false, cond, _&&_, and-eq-true-iff}
 use mathlib.Core.List.{List, [], _∷_, _++_}
 use mathlib.Core.Option.{Option, none, some}
-use Prim.Native.Nat.{ℕ, zero, suc, _+_, _≤_, _<_}
+use Prim.Native.Nat.{ℕ, zero, suc, _<_}
 use native.Mathlib.Nat.{le-antisymm}
 use native.Mathlib.Omega.{arith}
 use lib.Dec.{eqb, ltb}
 use lib.ListN.{getD}
-use borrow.Author.Tests.{ltb-true, ltb-false, lt-ltb, le-ltb, eq-eqb, eqb-true}
+use borrow.Author.Tests.{ltb-true, lt-ltb, eq-eqb, eqb-true}
 use Rattle.base.proofs.Tests.{by-test, zero-one, not-both}
 use Rattle.base.proofs.Lists.{cell-of}
 use Rattle.masks.specs.Masks.{_∈_, has}
@@ -23,17 +23,17 @@ use Rattle.masks.specs.Turns.{turns}
 use Rattle.automaton.specs.declared.Rule.{Rule}
 use Rattle.automaton.specs.Automaton.{Automaton, Arc, Run, stay, move}
 use Rattle.automaton.specs.Rules.{automatonOf, WellFormed}
-use Rattle.automaton.specs.Successor.{successor, Reached}
+use Rattle.automaton.specs.Successor.{successor}
 use Rattle.automaton.proofs.Laws.{successor-law}
 use Rattle.delegates.specs.Alike.{Alike, Live, Delegate, delegateIn, Merged}
 use Rattle.delegates.specs.mirror.Classes.{firstFrom}
 use Rattle.delegates.proofs.Alike.{said-some, said-none, some-said, alike-self, alike-back, alike-on, live-alike, merged-some, delegates-in, same-delegate}
-use Rattle.delegates.proofs.Tests.{Least, found, le-by}
-use Rattle.reducing.specs.Reduced.{gather, delegated, rounds, keptOf, ownList, reachedOf, chosenCell, chosenOf}
+use Rattle.delegates.proofs.Tests.{found, le-by}
+use Rattle.reducing.specs.Reduced.{gather, delegated, rounds, ownList, reachedOf, chosenCell, chosenOf}
 use Rattle.reducing.specs.Claims.{Reachable, Stands}
 use Rattle.reducing.proofs.Ranks.{gathered}
 use Rattle.reducing.proofs.Quotient.{run-join}
-use Rattle.reducing.proofs.Facts.{Choice, delegate-in, begun, first-kept, closed, kept-state}
+use Rattle.reducing.proofs.Facts.{Choice, delegate-in, begun, first-kept, closed}
 
 own-said : (q : ℕ) → q < 32 → delegateIn ownList q ≡ some q
 own-said q l =

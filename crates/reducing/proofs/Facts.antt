@@ -6,23 +6,22 @@
 --   closed            where an arc leads from a state that stays, the delegate stays
 --   target-law        the masks of the new table
 --   well-formed, quotient, reached-in
-use mathlib.Core.Path.{_≡_, refl, sym, ap, _∙_, subst}
-use mathlib.Core.Logic.{_↔_, _⊎_, inl, inr, ⊎-elim}
+use mathlib.Core.Path.{_≡_, refl, sym, ap, subst}
+use mathlib.Core.Logic.{⊎-elim}
 use mathlib.Core.Bool.{Bool, true, false, cond}
 use mathlib.Core.List.{List, [], _∷_, _++_}
 use mathlib.Core.Option.{Option, none, some}
-use Prim.Native.Nat.{ℕ, zero, suc, _+_, _^_, _≤_, _<_, max}
+use Prim.Native.Nat.{ℕ, zero, suc, _^_, _≤_, _<_}
 use native.Mathlib.Omega.{arith}
-use lib.Bits.{bitOr}
 use lib.Dec.{eqb, ltb}
-use borrow.Author.Tests.{ltb-true, ltb-false, lt-ltb, le-ltb, eq-eqb, eqb-true}
+use borrow.Author.Tests.{lt-ltb, eq-eqb, eqb-true}
 use Rattle.base.proofs.Tests.{by-test}
-use Rattle.masks.specs.Masks.{bit, _∈_, single, union}
+use Rattle.masks.specs.Masks.{bit, _∈_, single}
 use Rattle.masks.proofs.Laws.{no-member, or-cases, or-left, or-right, single-law, members-below, below-of, empty-mask, part-of, in-union}
 use Rattle.masks.specs.Turns.{rank, turns}
 use Rattle.masks.proofs.Turns.{bit-lt, in-turns, rank-most, still}
 use Rattle.automaton.specs.declared.Rule.{Rule}
-use Rattle.automaton.specs.Automaton.{Automaton, Arc, Run, stay, move}
+use Rattle.automaton.specs.Automaton.{Automaton, Arc, stay, move}
 use Rattle.automaton.specs.Rules.{targetMask, automatonOf, WellFormed}
 use Rattle.automaton.specs.Successor.{successor, Reached}
 use Rattle.automaton.proofs.Laws.{arc-of, successor-law}
@@ -30,7 +29,7 @@ use Rattle.automaton.proofs.Values.{table-law}
 use Rattle.delegates.specs.Alike.{Alike, Live, delegateIn, ofDelegate}
 use Rattle.reducing.specs.Reduced.{gather, delegated, onward, rounds, keptOf, renamed, targetsOf, reducedBy}
 use Rattle.reducing.proofs.Ranks.{rank-less, rank-once, renamed-law, gathered, in-gather}
-use Rattle.reducing.proofs.Quotient.{Step, Quotient, run-join}
+use Rattle.reducing.proofs.Quotient.{Quotient, run-join}
 
 -- ---- the delegates of a set
 said-by : (x : ℕ) (o : Option ℕ) → x ∈ ofDelegate single o → o ≡ some x

@@ -5,19 +5,18 @@ use mathlib.Core.Logic.{_↔_, _⊎_, inl, inr}
 use mathlib.Core.Bool.{Bool, true, false, cond, not}
 use mathlib.Core.List.{List, _++_}
 use mathlib.Core.Option.{Option, none, some}
-use Prim.Native.Nat.{ℕ, _+_, _-_, _/_, _%_, _≤_, _<_, max}
+use Prim.Native.Nat.{ℕ, _+_, _-_, _/_, _≤_, _<_}
 use native.Mathlib.Omega.{arith}
 use lib.Dec.{ltb}
 use lib.ListN.{length, replicate, length-replicate}
 use borrow.Author.Tests.{ltb-true, ltb-false, le-ltb}
-use Rattle.base.specs.Lists.{listFrom}
 use Rattle.base.specs.Options.{isNone}
 use Rattle.base.proofs.Tests.{by-test, zero-one}
 use Rattle.base.proofs.Options.{is-none, none-some}
 use Rattle.base.proofs.Lists.{length-listFrom, is-listFrom, zero-cells}
 use Rattle.base.proofs.Totals.{total-rest}
 use Rattle.masks.specs.Masks.{bit, _∈_}
-use Rattle.masks.proofs.Laws.{no-member, members-below, empty-mask}
+use Rattle.masks.proofs.Laws.{no-member, empty-mask}
 use Rattle.masks.specs.Turns.{rank}
 use Rattle.masks.proofs.Turns.{rank-most}
 use Rattle.automaton.specs.declared.Rule.{Rule}

@@ -1,10 +1,10 @@
 -- Alike states made one, on automata: b has a state g x for each state x of a that stays, and each
 -- arc of a from such a state leads to the one that stands for where it led (D q (some x): x stands
 -- for q). Each state g x accepts what x does, so b accepts what a does. Assumes nothing.
-use mathlib.Core.Path.{_≡_, refl, sym, ap, _∙_, subst}
+use mathlib.Core.Path.{_≡_, refl, sym, subst}
 use mathlib.Core.Logic.{_↔_}
 use mathlib.Core.List.{List, [], _∷_, _++_}
-use mathlib.Core.Option.{Option, none, some}
+use mathlib.Core.Option.{Option, some}
 use Prim.Native.Nat.{ℕ, _<_}
 use Rattle.automaton.specs.Automaton.{Automaton, Arc, Text, Run, stay, move, Accepts}
 use Rattle.delegates.specs.Alike.{AcceptsFrom, Alike, Live}

@@ -4,17 +4,17 @@
 --   rank-more, rank-mono, rank-less, rank-once, rank-onto
 --   gather-law     the members of a union of sets
 --   renamed-law    the members of a renamed set
-use mathlib.Core.Path.{_≡_, refl, sym, ap, _∙_, subst}
-use mathlib.Core.Logic.{_↔_, _⊎_, inl, inr, ⊎-elim}
+use mathlib.Core.Path.{_≡_, subst}
+use mathlib.Core.Logic.{_↔_, ⊎-elim}
 use Prim.Native.Nat.{ℕ, zero, suc, _≤_, _<_}
 use native.Mathlib.Nat.{eq-or-lt-of-le, le-of-suc-le-suc}
 use native.Mathlib.Omega.{arith}
-use lib.Bits.{bitAnd, bitOr}
+use lib.Bits.{bitAnd}
 use lib.Dec.{ltb}
 use borrow.Author.Tests.{ltb-true, ltb-false}
 use Rattle.base.specs.Totals.{total}
 use Rattle.base.proofs.Tests.{by-test}
-use Rattle.masks.specs.Masks.{bit, _∈_, single, union}
+use Rattle.masks.specs.Masks.{bit, _∈_, single}
 use Rattle.masks.specs.Turns.{rank}
 use Rattle.masks.proofs.Turns.{bit-lt}
 use Rattle.masks.proofs.Laws.{no-member, or-cases, or-left, or-right, and-members, single-law, part-of, in-union}

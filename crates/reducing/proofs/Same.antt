@@ -3,8 +3,8 @@
 -- states.
 use mathlib.Core.Path.{_≡_, refl, sym, ap, _∙_, subst}
 use mathlib.Core.List.{List}
-use mathlib.Core.Option.{Option, none, some}
-use Prim.Native.Nat.{ℕ, zero, suc, _+_, _-_, _≤_, _<_, max}
+use mathlib.Core.Option.{Option, some}
+use Prim.Native.Nat.{ℕ, zero, suc, _+_, _-_, _≤_, _<_}
 use native.Mathlib.Omega.{arith}
 use lib.ListN.{length}
 use Rattle.base.specs.Totals.{total}
@@ -17,7 +17,7 @@ use Rattle.automaton.specs.declared.Rule.{Rule}
 use Rattle.automaton.specs.Automaton.{Automaton, Arc, Run, stay, move}
 use Rattle.automaton.specs.Rules.{automatonOf, WellFormed}
 use Rattle.automaton.proofs.Values.{Within, same-value}
-use Rattle.reducing.specs.Reduced.{delegated, keptOf, renamed, cellIn, reducedBy}
+use Rattle.reducing.specs.Reduced.{keptOf, cellIn, reducedBy}
 use Rattle.reducing.specs.Claims.{Lean}
 use Rattle.reducing.proofs.Quotient.{Quotient}
 use Rattle.reducing.proofs.Facts.{Choice, no-bit, closed, begun, first-kept, well-formed, quotient}

@@ -1,8 +1,7 @@
 -- The contracts of the mapping machine's functions for C fix every number of a result; and whoever
 -- builds, runs, composes and asks through them gets the yes or no of the judge. Assumes nothing.
-use mathlib.Core.Path.{_≡_, refl, sym, ap, ap₂, _∙_, subst}
+use mathlib.Core.Path.{_≡_, refl, sym, ap, ap₂, _∙_}
 use mathlib.Core.Logic.{_↔_, inl, inr}
-use mathlib.Core.Bool.{true, false}
 use mathlib.Core.List.{List, [], _∷_, _++_, map}
 use mathlib.Core.Option.{Option, none, some}
 use Prim.Native.Nat.{ℕ}
@@ -22,15 +21,14 @@ use Rattle.mapverdict.proofs.Claims as mapverdict
 use Rattle.c_mappings.specs.declared.BuildNumbers.{BuildNumbers}
 use Rattle.c_mappings.specs.declared.RunNumbers.{RunNumbers}
 use Rattle.c_mappings.specs.Numbers.{buildShown, runShown, mappingShown, verdictShown}
-use Rattle.calls.specs.Replies.{Judgement, Reported}
+use Rattle.calls.specs.Replies.{Reported}
 use Rattle.calls.specs.Calls.{Call}
-use Rattle.calls.specs.mirror.Steps.{reportOf}
 use Rattle.histories.specs.History.{verdictIn}
 use Rattle.histories.specs.Claims.{judgeAfter}
 use Rattle.histories.proofs.EveryList.{every-list}
 use Rattle.histories.proofs.Refinement.{lent}
 use Rattle.capi.specs.declared.VerdictNumbers.{VerdictNumbers}
-use Rattle.capi.specs.Numbers.{kindOf, verdictShown as judgeShown}
+use Rattle.capi.specs.Numbers.{kindOf}
 use Rattle.demands.specs.Functions.{MayJudge}
 use Rattle.requests.specs.MappingFunctions.{MayBuild, MayRun, MayCompose, MaySay, RunEach, all-run, one-more, ComposedTo, alone, joined, SameAnswer}
 

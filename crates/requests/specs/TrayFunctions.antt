@@ -21,7 +21,6 @@ use Rattle.automaton.specs.declared.Rule.{Rule}
 use Rattle.trays.specs.declared.Tray.{Tray}
 use Rattle.trays.specs.Replies.{Reply, judged}
 use Rattle.trays.specs.Calls.{Call, installsRow, installsColumn, opens, delivers, withdraws, asksVerdict}
-use Rattle.trays.specs.mirror.Steps.{Outcome}
 use Rattle.c_trays.specs.declared.InstallNumbers.{InstallNumbers}
 use Rattle.c_trays.specs.declared.CallNumbers.{CallNumbers}
 use Rattle.c_trays.specs.declared.VerdictNumbers.{VerdictNumbers}

@@ -19,7 +19,6 @@ use Rattle.automaton.proofs.Laws.{accepts-map}
 use Rattle.ruleformat.specs.Format.{stateCount, symbolCount, section, arcCount}
 use Rattle.ruleformat.specs.Reader.{targetsBy, targetsFrom, ruleOf}
 use Rattle.ruleformat.specs.Language.{ArcIn, automatonIn}
-use Rattle.ruleformat.proofs.Examples as examples
 use Rattle.ruleformat.proofs.Arcs.{bounds}
 use Rattle.ruleformat.proofs.Tables.{targets-law}
 use Rattle.ruleformat.proofs.Accepted.{Accepted, good-section}

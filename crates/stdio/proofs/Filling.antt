@@ -4,7 +4,7 @@
 --   more-fits    a read brought no more than there was room for
 --   front-is     what is counted is within the buffer
 --   input-within, input-prefix   the same, for whoever reads
-use mathlib.Core.Path.{_≡_, sym, _∙_, subst}
+use mathlib.Core.Path.{_≡_, sym, subst}
 use mathlib.Core.List.{List}
 use Prim.Native.Nat.{ℕ, _+_, _-_, _≤_}
 use native.Mathlib.Nat.{le-refl}

@@ -1,15 +1,14 @@
 -- The one proof of all that specs/Claims.antt claims. Assumes nothing.
 use mathlib.Core.Path.{_≡_, refl}
-use mathlib.Core.List.{List, [], _∷_, _++_}
+use mathlib.Core.List.{[], _∷_}
 use mathlib.Core.Option.{Option, none, some}
-use Prim.Native.Nat.{ℕ, _+_, _*_, _≤_}
+use Prim.Native.Nat.{ℕ, _*_, _≤_}
 use native.Mathlib.Omega.{arith}
 use lib.ListN.{length, length-append}
-use Rattle.text.specs.Numerals.{decimal}
 use Rattle.ruletext.specs.RuleText.{lineFeed}
 use Rattle.ruletext.proofs.Lengths.{refused-most}
 use Rattle.forms.specs.declared.Form.{Form}
-use Rattle.forms.specs.Back.{backNumber, backBy, tableOf, backOf}
+use Rattle.forms.specs.Back.{backNumber, backBy, tableOf}
 use Rattle.forms.proofs.Accepting.{parts, no-other}
 use Rattle.tabletext.specs.Answers.{cellsText, backText, answerText, mostAnswer}
 use Rattle.tabletext.specs.Claims.{Claims}

@@ -1,7 +1,7 @@
 -- What is claimed of the answers; proofs/Claims.antt proves it.
 use mathlib.Core.Path.{_≡_}
 use mathlib.Core.Option.{Option, some}
-use Prim.Native.Nat.{ℕ, _≤_}
+use Prim.Native.Nat.{_≤_}
 use lib.ListN.{length}
 use Rattle.forms.specs.declared.Form.{Form}
 use Rattle.formline.specs.Worked.{formA}

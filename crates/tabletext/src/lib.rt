@@ -1,7 +1,5 @@
 // The answer to a line of formtable: the cells of the table, `refused` and the number, or that the
 // line is malformed.
-ghost use mathlib.Core.Path.{_≡_};
-ghost use mathlib.Core.List.{[], _∷_, _++_};
 ghost use Prim.Native.Nat.{_+_, _*_, _≤_};
 ghost use lib.ListN.{length};
 ghost use Rattle.limits.specs.Limits.{mostSymbols, mostSets};

@@ -22,13 +22,10 @@ use Rattle.marks.specs.Marks.{textOf}
 use Rattle.automaton.specs.Automaton.{Automaton}
 use Rattle.automaton.specs.Rules.{automatonOf}
 use Rattle.ruleformat.specs.Language.{automatonIn}
-use Rattle.build.specs.mirror.Building.{builtOf}
-use Rattle.ruleformat.specs.Reader.{ruleOf}
 use Rattle.calls.specs.Replies.{Judgement, waiting, yesWith, noWith, refusedWith, Reported, Reply, delivered, judged, installed}
 use Rattle.calls.specs.Calls.{Call, installs, loads, opens, delivers, withdraws, asksVerdict}
 use Rattle.calls.specs.Claims.{Divided}
 use Rattle.histories.specs.History.{placesIn, reportIn, answerOf, answersTo}
-use Rattle.histories.proofs.Method.{method, method-bytes}
 use Rattle.histories.proofs.EveryList.{every-list}
 use Rattle.histories.proofs.VerdictSays.{in-words}
 use Rattle.transcripts.specs.Standing.{Standing, standingAfter, theAutomaton, textIn}

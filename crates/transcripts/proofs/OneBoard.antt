@@ -1,5 +1,5 @@
 -- What stands fixes what the judge holds at each place. Assumes nothing.
-use mathlib.Core.Path.{_≡_, sym, _∙_}
+use mathlib.Core.Path.{sym, _∙_}
 use mathlib.Core.Logic.{Iff·trans}
 use Rattle.base.proofs.Tests.{same-truth}
 use Rattle.masks.proofs.Claims as masks

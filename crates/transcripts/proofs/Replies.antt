@@ -1,6 +1,6 @@
 -- Document 01's answer to a call after the calls h is the one that the words give by what stands.
 -- Assumes nothing.
-use mathlib.Core.Path.{_≡_, refl, sym, ap₂, _∙_}
+use mathlib.Core.Path.{_≡_, refl, sym, _∙_}
 use mathlib.Core.Logic.{_↔_, inl, inr, ⊎-elim, Iff·trans}
 use mathlib.Core.Bool.{true, false}
 use mathlib.Core.List.{List}
@@ -14,8 +14,7 @@ use Rattle.automaton.specs.Automaton.{Accepts}
 use Rattle.automaton.specs.Rules.{automatonOf}
 use Rattle.build.specs.mirror.Building.{builtOf}
 use Rattle.ruleformat.specs.Reader.{ruleOf}
-use Rattle.ruleformat.specs.Language.{automatonIn}
-use Rattle.calls.specs.Replies.{Judgement, waiting, yesWith, noWith, installed, judged, delivered}
+use Rattle.calls.specs.Replies.{Judgement, waiting, yesWith, noWith, judged, delivered}
 use Rattle.calls.specs.Calls.{Call, installs, loads, opens, delivers, withdraws, asksVerdict}
 use Rattle.histories.specs.History.{ruleFrom, ruleIn, placesIn, boardIn, lookedOf, reportIn, textIn as textBy, answerOf, deliverNumber}
 use Rattle.histories.specs.Claims.{Says}
@@ -29,7 +28,6 @@ use Rattle.transcripts.specs.Answers.{AcceptedBy, Reports, Value, Answer
 use Rattle.transcripts.specs.Agreement.{ruleFor, Sound, Agree}
 use Rattle.transcripts.proofs.Conditions.{refused-law, accepted-law, refusal-law, same-verdict}
 use Rattle.transcripts.proofs.Sources.{looked-by}
-use Rattle.transcripts.proofs.OneMethod.{one-method}
 use Rattle.transcripts.proofs.Places.{ruled, sum-law, empties-same, text-same, accepts-same}
 
 module _ (h : List Call) (s : Standing) (g : Agree h s) where

@@ -32,7 +32,7 @@ use Rattle.trays.specs.Calls.{delivers, asksVerdict}
 use Rattle.traytext.specs.Lines.{Meaning, call, rowFile, columnFile, malformed, row-word, column-word, open-word, deliver-word, withdraw-word, verdict-word, rowBy, columnBy, openBy, withdrawBy, deliverBy, openFields, deliverFields, callIn, lineIn}
 use Rattle.traylines.specs.Running.{replyOf, lineStep}
 use Rattle.traylines.proofs.Clipped.{rows-long, columns-long, delivers-long}
-use Rattle.traystream.specs.Texts.{toldAs, trayList, trayLines}
+use Rattle.traystream.specs.Texts.{toldAs, trayList}
 
 -- ---- fields that are malformed
 verdict-long : (u : List ℕ) → 7 < length u → cond (eqb (length u) 7) (call asksVerdict) malformed ≡ malformed

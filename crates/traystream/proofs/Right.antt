@@ -23,7 +23,7 @@ use Rattle.trays.specs.Replies.{refused}
 use Rattle.trays.specs.Calls.{Call, installsRow, installsColumn}
 use Rattle.trays.specs.mirror.Steps.{fresh, Outcome, outcomeBy, withRow, withColumn, installReply, installRowOf, installColumnOf, stepOf}
 use Rattle.trayhistories.specs.History.{answerOf}
-use Rattle.trayhistories.specs.Claims.{trayMachine, trayAfter}
+use Rattle.trayhistories.specs.Claims.{trayAfter}
 use Rattle.trayhistories.proofs.EveryList.{answer-after}
 use Rattle.traytext.specs.Lines.{Meaning, again, call, rowFile, columnFile, malformed, lineIn}
 use Rattle.traytext.specs.Answers.{replied, responseText}

@@ -12,7 +12,7 @@
 --                       an empty line
 --   rightResponse h m   the right answer to a line of the meaning m after the calls h
 --   rightText h ls      the right answer to each line, after the calls h and the lines before it
-use mathlib.Core.List.{List, [], _∷_, _++_}
+use mathlib.Core.List.{List, [], _∷_}
 use mathlib.Core.Option.{Option, none, some}
 use Prim.Native.Nat.{ℕ, _+_, _*_}
 use Rattle.ruleformat.specs.Refusals.{refusal}

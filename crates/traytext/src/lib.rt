@@ -9,7 +9,7 @@ ghost use Rattle.lines.specs.Splitting.{upTo, past};
 ghost use Rattle.fields.specs.Numbers.{parseNumber};
 ghost use Rattle.trays.specs.Replies.{installed, waiting, judged, installMeans, callMeans, verdictMeans};
 ghost use Rattle.traytext.specs.Lines.{withdrawBy, openFields, deliverFields, lineMeans, bytesFrom, Parsed};
-ghost use Rattle.traytext.specs.Answers.{mostAnswer, replied, isMalformed, replyText, responseText, answerMeans};
+ghost use Rattle.traytext.specs.Answers.{mostAnswer, isMalformed, replyText, responseText, answerMeans};
 use fields::Number;
 use trays::CallAnswer;
 use trays::InstallAnswer;

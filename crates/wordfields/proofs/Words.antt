@@ -1,19 +1,16 @@
 -- Bytes read into a buffer that has one to spare, and what they say. Assumes nothing.
 use mathlib.Core.Path.{_≡_, refl, sym, ap, _∙_}
-use mathlib.Core.Bool.{Bool, true, false, cond, _&&_, and-false}
 use mathlib.Core.List.{List}
 use mathlib.Core.Option.{Option, none, some}
-use Prim.Native.Nat.{ℕ, _+_, _*_, _%_, _≤_, _<_, min}
+use Prim.Native.Nat.{ℕ, _+_, _*_, _%_, _≤_, min}
 use native.Mathlib.Omega.{arith}
-use lib.Dec.{eqb, leb, ltb}
+use lib.Dec.{eqb, ltb}
 use lib.ListN.{length, getD, take, length-take, List·getD-eq-default}
 use lib.Seq.{take-all}
-use borrow.Author.Tests.{eq-eqb, ne-eqb, le-leb, lt-leb, eqb-true, eqb-false, leb-true, leb-false, ltb-false}
-use Rattle.base.specs.Lists.{listFrom}
+use borrow.Author.Tests.{eq-eqb, le-leb, lt-leb, eqb-true, eqb-false, ltb-false}
 use Rattle.base.proofs.Lists.{is-listFrom}
 use Rattle.base.proofs.Options.{none-some}
-use Rattle.base.proofs.Tests.{by-test, zero-one}
-use Rattle.text.specs.Writing.{Wrote}
+use Rattle.base.proofs.Tests.{by-test}
 use Rattle.text.proofs.Fitting.{taken}
 use Rattle.fields.specs.declared.Bytes.{Bytes}
 use Rattle.fields.specs.declared.Bytes.the-variants.{Put, Malformed}

@@ -1,5 +1,5 @@
 -- `run_chunk` meets its contract: from no state, zeros. Assumes nothing.
-use mathlib.Core.Path.{_≡_, sym, ap, _∙_}
+use mathlib.Core.Path.{sym, ap, _∙_}
 use Prim.Native.Nat.{ℕ}
 use borrow.Author.Needs.{needs}
 use Rattle.chunks.specs.mirror.Walks.{runsOf}

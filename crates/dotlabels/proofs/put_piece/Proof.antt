@@ -1,5 +1,5 @@
 -- `put_piece` meets its contract. Assumes nothing.
-use mathlib.Core.Path.{_≡_, sym, _∙_}
+use mathlib.Core.Path.{sym, _∙_}
 use Rattle.text.proofs.Rooms.{nothing}
 use Rattle.dotlabels.specs.Labels.{leads}
 use Rattle.dotlabels.proofs.Labels.{outside, first, within, last}

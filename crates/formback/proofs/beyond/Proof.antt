@@ -1,5 +1,5 @@
 -- `beyond` meets its contract: 1 shifted by at most 16 is 2 ^ k, which 32 bits hold. Assumes nothing.
-use mathlib.Core.Path.{_≡_, ap, _∙_}
+use mathlib.Core.Path.{ap, _∙_}
 use Prim.Native.Nat.{ℕ, _^_}
 use native.Mathlib.Nat.{one-mul}
 use native.Mathlib.Omega.{arith}

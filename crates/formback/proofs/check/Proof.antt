@@ -1,6 +1,5 @@
 -- `check` meets its contract: after each test that fails the next one decides. Assumes nothing.
 use borrow.Author.Needs.{needs}
-use Rattle.forms.specs.declared.Form.{Form}
 use Rattle.formback.specs.mirror.Parts.{formBy}
 use Rattle.formback.proofs.Turns.{few, on-1, on-2, on-3, on-4, on-5, passed}
 use Rattle.formback.proofs.check.Statement.{statement}

@@ -1,16 +1,16 @@
 -- `fill` meets its contract. The loop's invariant: the cells passed are those of the table, and as
 -- many packed cells were taken as are kept among them. Assumes nothing.
 use mathlib.Core.Path.{_≡_, refl, sym, ap, _∙_}
-use mathlib.Core.Logic.{_⊎_, inl, inr, ⊎-elim}
-use Prim.Native.Nat.{ℕ, _*_, _-_, _≤_, _<_}
+use mathlib.Core.Logic.{inl, inr, ⊎-elim}
+use Prim.Native.Nat.{ℕ, _*_, _-_, _≤_}
 use native.Mathlib.Omega.{arith}
-use lib.ListN.{length, getD, length-set, length-replicate}
+use lib.ListN.{length, length-replicate}
 use borrow.Author.Needs.{needs}
 use Rattle.base.specs.Totals.{total}
 use Rattle.forms.specs.Form.{howMany, keptAt}
 use Rattle.forms.specs.Back.{backCell}
 use Rattle.forms.proofs.Accepting.{parts}
-use Rattle.forms.proofs.Filling.{Filled, filled-none, fill-more}
+use Rattle.forms.proofs.Filling.{Filled, filled-none}
 use Rattle.formback.specs.mirror.Parts.{formBy}
 use Rattle.formback.proofs.Rows.{row-below, all-filled, row-more}
 use Rattle.formback.proofs.fill.Statement.{statement}

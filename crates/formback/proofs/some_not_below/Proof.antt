@@ -1,13 +1,8 @@
 -- `some_not_below` meets its contract. The loop's invariant: no set passed has such a failure set. Assumes nothing.
-use mathlib.Core.Path.{_≡_, ap}
-use mathlib.Core.Bool.{not}
-use Prim.Native.Nat.{ℕ, _-_, _^_}
+use Prim.Native.Nat.{_-_}
 use native.Mathlib.Omega.{arith}
-use lib.Dec.{leb}
-use lib.ListN.{getD}
 use borrow.Author.Needs.{needs}
-use Rattle.masks.specs.Masks.{has}
-use Rattle.forms.specs.Back.{notBelow, lacking}
+use Rattle.forms.specs.Back.{notBelow}
 use Rattle.formback.proofs.Turns.{Passed, passed-none, passed-more, passed-all, found}
 use Rattle.formback.proofs.some_not_below.Statement.{statement}
 use Rattle.formback.proofs.some_not_below.Tie as tie

@@ -1,13 +1,9 @@
 -- `stray_bits` meets its contract. The loop's invariant: no mask passed has such a bit. Assumes nothing.
-use mathlib.Core.Path.{_≡_, ap}
-use mathlib.Core.Bool.{not}
-use Prim.Native.Nat.{ℕ, _-_, _^_}
+use Prim.Native.Nat.{_-_, _^_}
 use native.Mathlib.Omega.{arith}
 use lib.Dec.{leb}
 use lib.ListN.{getD}
 use borrow.Author.Needs.{needs}
-use Rattle.masks.specs.Masks.{has}
-use Rattle.forms.specs.Back.{notBelow, lacking}
 use Rattle.formback.proofs.Turns.{Passed, passed-none, passed-more, passed-all, found}
 use Rattle.formback.proofs.stray_bits.Statement.{statement}
 use Rattle.formback.proofs.stray_bits.Tie as tie

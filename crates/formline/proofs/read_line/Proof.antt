@@ -1,10 +1,9 @@
 -- `read_line` meets its contract. Assumes nothing.
 use borrow.Author.Needs.{needs}
-use mathlib.Core.Path.{_≡_, refl, sym, ap, _∙_}
+use mathlib.Core.Path.{sym, ap, _∙_}
 use mathlib.Core.List.{List}
 use Prim.Native.Nat.{ℕ}
 use native.Mathlib.Omega.{arith}
-use lib.ListN.{length, take, drop}
 use lib.Seq.{length-take-le}
 use Rattle.fields.specs.Numbers.{parseNumber, numberMeans}
 use Rattle.formline.specs.Lines.{lineIn, symbolsIn, heldOf}

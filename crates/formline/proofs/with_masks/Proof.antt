@@ -1,6 +1,6 @@
 -- `with_masks` meets its contract. Assumes nothing.
 use borrow.Author.Needs.{needs}
-use mathlib.Core.Path.{_≡_, sym, _∙_}
+use mathlib.Core.Path.{sym, _∙_}
 use native.Mathlib.Omega.{arith}
 use Rattle.formline.proofs.Fields.{no-cells, many-sets, many-symbols, all-held, words-known, words-unknown}
 use Rattle.formline.proofs.with_masks.Statement.{statement}

@@ -1,11 +1,11 @@
 -- `equal_cells` meets its contract. The loop's invariant: the count is that of the symbols passed. Assumes nothing.
 use mathlib.Core.Path.{_≡_, refl}
-use Prim.Native.Nat.{_≤_, _-_, _<_}
+use Prim.Native.Nat.{_≤_, _-_}
 use native.Mathlib.Omega.{arith}
 use borrow.Author.Needs.{needs}
 use Rattle.base.specs.Totals.{total}
 use Rattle.forms.specs.Form.{equalCells}
-use mathlib.Core.Logic.{_⊎_, inl, inr, ⊎-elim}
+use mathlib.Core.Logic.{inl, inr, ⊎-elim}
 use Rattle.formmaker.proofs.Turns.{equal-more}
 use Rattle.formmaker.proofs.equal_cells.Statement.{statement}
 use Rattle.formmaker.proofs.equal_cells.Tie as tie

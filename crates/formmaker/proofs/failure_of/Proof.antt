@@ -1,10 +1,9 @@
 -- `failure_of` meets its contract. Assumes nothing.
-use mathlib.Core.Path.{_≡_, refl, sym, ap, _∙_}
-use mathlib.Core.Logic.{_⊎_, inl, inr, ⊎-elim}
-use Prim.Native.Nat.{ℕ, _≤_, _-_, _<_, _*_}
+use mathlib.Core.Path.{_≡_, refl}
+use mathlib.Core.Logic.{inl, inr, ⊎-elim}
+use Prim.Native.Nat.{_≤_, _-_}
 use native.Mathlib.Omega.{arith}
 use borrow.Author.Needs.{needs}
-use lib.ListN.{length, getD}
 use Rattle.forms.specs.Form.{equalCells, bestBelow}
 use Rattle.formmaker.proofs.Turns.{best-more}
 use Rattle.formmaker.proofs.failure_of.Statement.{statement}

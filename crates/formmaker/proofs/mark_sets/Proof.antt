@@ -1,11 +1,11 @@
 -- `mark_sets` meets its contract. The loop's invariant: the sets passed are marked, and the other cells are 0. Assumes nothing.
-use mathlib.Core.Path.{_≡_, refl, sym, ap, _∙_}
+use mathlib.Core.Path.{_≡_, ap, _∙_}
 use mathlib.Core.Bool.{cond}
-use Prim.Native.Nat.{ℕ, _≤_, _-_, _<_, _*_}
+use Prim.Native.Nat.{ℕ, _≤_, _-_}
 use native.Mathlib.Omega.{arith}
 use borrow.Author.Needs.{needs}
 use lib.Dec.{ltb}
-use lib.ListN.{length, getD, length-set, length-replicate}
+use lib.ListN.{length, length-set, length-replicate}
 use Rattle.base.proofs.Lists.{is-listFrom}
 use Rattle.forms.specs.Form.{failureOf, keptMask}
 use Rattle.forms.proofs.Filling.{Filled, filled-none, fill-more}

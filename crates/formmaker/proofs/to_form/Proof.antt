@@ -1,7 +1,7 @@
 -- `to_form` meets its contract. Assumes nothing.
 use borrow.Author.Needs.{needs}
 use Rattle.formmaker.proofs.Making.{form-is}
-use mathlib.Core.Path.{_≡_, refl, sym, ap, _∙_}
+use mathlib.Core.Path.{refl}
 use native.Mathlib.Omega.{arith}
 use Rattle.formmaker.proofs.to_form.Statement.{statement}
 use Rattle.formmaker.proofs.to_form.Tie as tie

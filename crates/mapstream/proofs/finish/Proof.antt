@@ -1,7 +1,7 @@
 -- `finish` meets its contract. Assumes nothing.
 use Rattle.linetexts.proofs.Ends.{none-written, last-written}
 use Rattle.linetexts.specs.Lists.{listTeller}
-use Rattle.mapstream.specs.Texts.{mapLines, mapList}
+use Rattle.mapstream.specs.Texts.{mapList}
 use borrow.Author.Needs.{needs}
 use Rattle.mapstream.proofs.finish.Statement.{statement}
 use Rattle.mapstream.proofs.finish.Tie as tie

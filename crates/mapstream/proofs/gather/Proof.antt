@@ -12,9 +12,9 @@ use Rattle.linetexts.specs.Lists.{listOf, listTeller}
 use Rattle.mapstream.specs.Texts.{mapLines, mapList}
 use Rattle.mapstream.proofs.Held.{not-changed}
 use lib.ListN.{length}
-use Prim.Native.Nat.{_+_, _-_, _≤_, _<_}
+use Prim.Native.Nat.{_-_, _<_}
 use native.Mathlib.Omega.{arith}
-use mathlib.Core.Path.{_≡_, refl, sym, _∙_}
+use mathlib.Core.Path.{_≡_, refl, _∙_}
 use borrow.Author.Needs.{needs}
 use Rattle.mapstream.proofs.gather.Statement.{statement}
 use Rattle.mapstream.proofs.gather.Tie as tie

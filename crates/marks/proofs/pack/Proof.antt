@@ -1,13 +1,10 @@
 -- `pack` meets its contract. The loop's invariant: the text of the bytes passed stands at the start
 -- of the buffer, and has no more bytes than were passed. Assumes nothing.
-use mathlib.Core.Path.{_≡_, refl, sym, ap, _∙_}
 use mathlib.Core.Logic.{⊎-elim}
-use Prim.Native.Nat.{_-_, _≤_}
+use Prim.Native.Nat.{_-_}
 use native.Mathlib.Omega.{arith}
 use borrow.Author.Needs.{needs}
-use lib.ListN.{length, take}
-use Rattle.text.specs.Writing.{Wrote}
-use Rattle.marks.specs.Marks.{textOf}
+use lib.ListN.{length}
 use Rattle.marks.proofs.Packing.{Packed, begun, passed, put, whole}
 use Rattle.marks.proofs.pack.Statement.{statement}
 use Rattle.marks.proofs.pack.Tie as tie

@@ -2,7 +2,7 @@
 use Rattle.mergescan.specs.Scanning.{scanned, scanAll}
 use Rattle.mergescan.proofs.Kept.{all-on, all-over}
 use lib.ListN.{length, drop}
-use Prim.Native.Nat.{_≤_, _-_}
+use Prim.Native.Nat.{_-_}
 use mathlib.Core.Path.{_≡_, refl, _∙_}
 use borrow.Author.Needs.{needs}
 use Rattle.mergescan.proofs.scan_bytes.Statement.{statement}

@@ -3,7 +3,6 @@ use Rattle.patternfile.proofs.Ways.{on-30, on-31, on-32, none-on, read,
 use Rattle.text.proofs.Rooms.{made}
 use borrow.Author.Tests.{not-true, not-false}
 use lib.ListN.{length-replicate}
-use native.Mathlib.Omega.{arith}
 use mathlib.Core.Path.{sym, _∙_}
 use borrow.Author.Needs.{needs}
 use Rattle.patternfile.proofs.write_pattern.Statement.{statement}

@@ -1,7 +1,7 @@
 -- `finish` meets its contract. Assumes nothing.
 use Rattle.linetexts.proofs.Ends.{none-written, last-written}
 use Rattle.linetexts.specs.Lists.{listTeller}
-use Rattle.stream.specs.Texts.{callLines, callList}
+use Rattle.stream.specs.Texts.{callList}
 use borrow.Author.Needs.{needs}
 use Rattle.stream.proofs.finish.Statement.{statement}
 use Rattle.stream.proofs.finish.Tie as tie

@@ -12,7 +12,7 @@ use Rattle.linetexts.specs.Lists.{listOf, listTeller}
 use Rattle.stream.specs.Texts.{callLines, callList}
 use Rattle.stream.proofs.Held.{came-asked}
 use lib.ListN.{length}
-use Prim.Native.Nat.{_+_, _-_, _≤_, _<_}
+use Prim.Native.Nat.{_-_, _<_}
 use native.Mathlib.Omega.{arith}
 use mathlib.Core.Path.{_≡_, refl, sym, _∙_}
 use borrow.Author.Needs.{needs}

@@ -1,7 +1,7 @@
 -- `put_cells` meets its contract. The loop's invariant: the first c cells are written. Assumes
 -- nothing.
 use mathlib.Core.Path.{_≡_}
-use Prim.Native.Nat.{ℕ, _+_, _*_, _/_, _%_, _-_, _≤_}
+use Prim.Native.Nat.{_+_, _*_, _/_, _%_, _-_, _≤_}
 use native.Mathlib.Omega.{arith}
 use lib.ListN.{length, getD}
 use Rattle.text.proofs.Fitting.{Put, put, none-put, one-more}

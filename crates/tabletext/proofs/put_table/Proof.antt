@@ -1,6 +1,5 @@
 -- `put_table` meets its contract. Assumes nothing.
 use borrow.Author.Needs.{needs}
-use Prim.Native.Nat.{_*_}
 use native.Mathlib.Omega.{arith}
 use Rattle.text.proofs.Fitting.{put, _then_}
 use Rattle.tabletext.proofs.Lengths.{few-cells}

@@ -1,7 +1,7 @@
 -- `finish` meets its contract. Assumes nothing.
 use Rattle.linetexts.proofs.Ends.{none-written, last-written}
 use Rattle.linetexts.specs.Lists.{listTeller}
-use Rattle.traystream.specs.Texts.{trayLines, trayList}
+use Rattle.traystream.specs.Texts.{trayList}
 use borrow.Author.Needs.{needs}
 use Rattle.traystream.proofs.finish.Statement.{statement}
 use Rattle.traystream.proofs.finish.Tie as tie

@@ -1,7 +1,7 @@
 -- `fill_words` meets its contract. The loop's invariant: the numbers passed are stored, and zeros
 -- stand behind them. Assumes nothing.
-use mathlib.Core.Path.{_≡_, refl, sym, ap, _∙_}
-use Prim.Native.Nat.{ℕ, _*_, _-_, _%_, _≤_}
+use mathlib.Core.Path.{_≡_, refl, _∙_}
+use Prim.Native.Nat.{_*_, _-_, _%_, _≤_}
 use native.Mathlib.Omega.{arith}
 use lib.ListN.{length, length-set}
 use Rattle.forms.proofs.Filling.{Filled, filled-none, fill-more}
