@@ -11,12 +11,6 @@ use Rattle.keys.proofs.add.Tie as tie
 number-requires : tie.Need-number-requires
 number-requires c κs = let s = c .before in (s .pre .0 .0, s .pre .0 .2 .keys-are)
 
-enum-known-after : tie.Need-enum-known-after
-enum-known-after c = search needs
-
-cast-t16 : tie.Need-cast-t16
-cast-t16 c = search needs
-
 expand-requires : tie.Need-expand-requires
 expand-requires c κs =
     let s = c .before .before .before .before .before .before .before in
@@ -46,4 +40,8 @@ returns-2 c =
     seed-over (walkIn (a .kind) (a .omit) (a .targets .now) (a .others .now) (a .k)) (freeBy (a .omit)) (a .keys .now) (a .next .now) (a .count) (a .key) (s .pre .0 .0) (s .pre .0 .2) (s .pre .0 .1) (turnMeans (w .result)) (w .last .0) (w .ensures) (a .next .now) (ap turnMeans (c .enum-told .given .1))
 
 pub add-spec : {M : Type 1} → statement M
-add-spec = tie.close (tie.spec number-requires enum-known-after cast-t16 expand-requires enum-told returns returns-2)
+add-spec =
+    tie.close
+    (tie.spec
+    number-requires (λ c. search needs) (λ c. search needs) expand-requires enum-told returns
+    returns-2)

@@ -38,9 +38,6 @@ Inv-expand targets others kind omit k keys₀ next₀ from count₀ i₀ keys ne
 abbrev μ-expand : tie.MeasureT-expand
 μ-expand targets others kind omit k keys₀ next₀ from count₀ i₀ keys next count i = 512 - i
 
-cast-i : tie.Need-cast-i Inv-loop μ-loop Inv-expand μ-expand
-cast-i c = search needs
-
 expand-holds : tie.Need-expand-holds Inv-loop μ-loop Inv-expand μ-expand
 expand-holds c =
     let s = c .before in
@@ -54,9 +51,6 @@ loop-holds c =
     let a = c .before .before .before .args in
     (x .inv .0, omega arith, omega arith, row-begins (walkIn (a .kind) (a .omit) (a .targets .now) (a .others .now) (a .k)) (freeBy (a .omit)) (x .i) (x .inv .3), refl)
 
-cast-t21 : tie.Need-cast-t21 Inv-loop μ-loop Inv-expand μ-expand
-cast-t21 c = omega arith
-
 step-requires : tie.Need-step-requires Inv-loop μ-loop Inv-expand μ-expand
 step-requires c κs =
     let e = c .before .before .before .loop in
@@ -64,17 +58,8 @@ step-requires c κs =
     let s = c .before .before .before .before .before .before .before in
     ((e .inv .0, e .inv .3 .keys-are, e .inv .1), s .pre .1 (getD (e .keys) i 0) (e .symbol) (omega arith))
 
-enum-known-after : tie.Need-enum-known-after Inv-loop μ-loop Inv-expand μ-expand
-enum-known-after c = search needs
-
 enum-told : tie.Need-enum-told Inv-loop μ-loop Inv-expand μ-expand
 enum-told c = search needs
-
-add-symbol : tie.Need-add-symbol Inv-loop μ-loop Inv-expand μ-expand
-add-symbol c = omega arith
-
-loop-less : tie.Need-loop-less Inv-loop μ-loop Inv-expand μ-expand
-loop-less c = omega arith
 
 loop-again : tie.Need-loop-again Inv-loop μ-loop Inv-expand μ-expand
 loop-again c =
@@ -89,12 +74,6 @@ loop-again c =
     let v = c .before .after .given in
     let m = turn-whole (walkIn (a .kind) (a .omit) (a .targets .now) (a .others .now) (a .k)) (freeBy (a .omit)) l i (e .symbol) below symbol (w .ensures) (s .pre .1 (getD l i 0) (e .symbol) symbol) (e .inv .3) (v .0 .0) (ap countMeans (v .1)) in
     (m .0, m .1, omega arith, m .2, e .inv .4 ∙ m .3)
-
-add-i : tie.Need-add-i Inv-loop μ-loop Inv-expand μ-expand
-add-i c = omega arith
-
-expand-less : tie.Need-expand-less Inv-loop μ-loop Inv-expand μ-expand
-expand-less c = omega arith
 
 expand-again : tie.Need-expand-again Inv-loop μ-loop Inv-expand μ-expand
 expand-again c =
@@ -161,22 +140,7 @@ pub expand-spec : {M : Type 1} → statement M
 expand-spec =
     tie.close
     (tie.spec
-    Inv-loop
-    μ-loop
-    Inv-expand
-    μ-expand
-    cast-i
-    expand-holds
-    loop-holds
-    cast-t21
-    step-requires
-    enum-known-after
-    enum-told
-    add-symbol
-    loop-less
-    loop-again
-    add-i
-    expand-less
-    expand-again
-    returns
+    Inv-loop μ-loop Inv-expand μ-expand (λ c. search needs) expand-holds loop-holds
+    (λ c. omega arith) step-requires (λ c. search needs) enum-told (λ c. omega arith)
+    (λ c. omega arith) loop-again (λ c. omega arith) (λ c. omega arith) expand-again returns
     returns-2)

@@ -17,9 +17,6 @@ Inv-loop keys count key most i₀ cells i = (i ≤ most) × ((j : ℕ) → j < i
 abbrev μ-loop : tie.MeasureT-loop
 μ-loop keys count key most i₀ cells i = most - i
 
-at-most-requires : tie.Need-at-most-requires Inv-loop μ-loop
-at-most-requires c κs = search needs
-
 passed-requires : tie.Need-passed-requires Inv-loop μ-loop
 passed-requires c κs = search (needs, arith)
 
@@ -32,23 +29,8 @@ returns c =
     let m = c .before .before .before .before .at-most in
     found-none (a .keys .now) (a .count) (a .key) (m .result) (omega arith) (rw (c .if1 .taken) at (c .before .loop .inv .1))
 
-mul-if2 : tie.Need-mul-if2 Inv-loop μ-loop
-mul-if2 c = omega arith
-
-shared-slice-read-if2 : tie.Need-shared-slice-read-if2 Inv-loop μ-loop
-shared-slice-read-if2 c = omega arith
-
-add-i : tie.Need-add-i Inv-loop μ-loop
-add-i c = omega arith
-
-loop-less : tie.Need-loop-less Inv-loop μ-loop
-loop-less c = omega arith
-
 loop-again : tie.Need-loop-again Inv-loop μ-loop
 loop-again c = (omega arith, below-more _ _ (c .before .before .before .loop .inv .1) (c .if2 .left))
-
-cast-t14 : tie.Need-cast-t14 Inv-loop μ-loop
-cast-t14 c = omega arith
 
 returns-2 : tie.Need-returns-2 Inv-loop μ-loop
 returns-2 c =
@@ -61,16 +43,6 @@ pub find-spec : {M : Type 1} → statement M
 find-spec =
     tie.close
     (tie.spec
-    Inv-loop
-    μ-loop
-    at-most-requires
-    passed-requires
-    loop-holds
-    returns
-    mul-if2
-    shared-slice-read-if2
-    add-i
-    loop-less
-    loop-again
-    cast-t14
+    Inv-loop μ-loop (λ c κs. search needs) passed-requires loop-holds returns (λ c. omega arith)
+    (λ c. omega arith) (λ c. omega arith) (λ c. omega arith) loop-again (λ c. omega arith)
     returns-2)

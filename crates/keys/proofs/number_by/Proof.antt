@@ -11,9 +11,6 @@ use Rattle.keys.proofs.Tables.{table-by}
 use Rattle.keys.proofs.number_by.Statement.{statement}
 use Rattle.keys.proofs.number_by.Tie as tie
 
-at-most-u8-requires : tie.Need-at-most-u8-requires
-at-most-u8-requires c κs = search needs
-
 add-requires : tie.Need-add-requires
 unfolding listFrom
 add-requires c κs =
@@ -30,4 +27,4 @@ returns c =
     table-by (a .kind) (a .targets .now) (a .others .now) (a .k) (a .start) (k .result) (k .ensures) (c .add .result) _ _ (c .add .ensures)
 
 pub number-by-spec : {M : Type 1} → statement M
-number-by-spec = tie.close (tie.spec at-most-u8-requires add-requires returns)
+number-by-spec = tie.close (tie.spec (λ c κs. search needs) add-requires returns)

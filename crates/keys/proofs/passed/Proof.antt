@@ -30,26 +30,14 @@ Inv-loop keys most key half i₀ i = (i ≤ most) × ((j : ℕ) → j < i → ge
 abbrev μ-loop : tie.MeasureT-loop
 μ-loop keys most key half i₀ i = most - i
 
-lower-requires : tie.Need-lower-requires Inv-loop μ-loop
-lower-requires c κs = search needs
-
 loop-holds : tie.Need-loop-holds Inv-loop μ-loop
 loop-holds c = (omega arith, λ j b e. omega arith)
-
-sub-loop : tie.Need-sub-loop Inv-loop μ-loop
-sub-loop c = omega arith
 
 hits-requires : tie.Need-hits-requires Inv-loop μ-loop
 hits-requires c κs = search (needs, arith)
 
 returns : tie.Need-returns Inv-loop μ-loop
 returns c = c .before .before .before .loop .inv
-
-add-i : tie.Need-add-i Inv-loop μ-loop
-add-i c = omega arith
-
-loop-less : tie.Need-loop-less Inv-loop μ-loop
-loop-less c = omega arith
 
 loop-again : tie.Need-loop-again Inv-loop μ-loop
 loop-again c =
@@ -68,4 +56,8 @@ returns-2 : tie.Need-returns-2 Inv-loop μ-loop
 returns-2 c = c .before .loop .inv
 
 pub passed-spec : {M : Type 1} → statement M
-passed-spec = tie.close (tie.spec Inv-loop μ-loop lower-requires loop-holds sub-loop hits-requires returns add-i loop-less loop-again returns-2)
+passed-spec =
+    tie.close
+    (tie.spec
+    Inv-loop μ-loop (λ c κs. search needs) loop-holds (λ c. omega arith) hits-requires returns
+    (λ c. omega arith) (λ c. omega arith) loop-again returns-2)

@@ -11,21 +11,6 @@ use Rattle.keys.specs.mirror.Steps.{turnMeans}
 use Rattle.keys.proofs.step.Statement.{statement}
 use Rattle.keys.proofs.step.Tie as tie
 
-cast-row : tie.Need-cast-row
-cast-row c = search needs
-
-mul-step-key : tie.Need-mul-step-key
-mul-step-key c = search needs
-
-element-copy-out-step-key : tie.Need-element-copy-out-step-key
-element-copy-out-step-key c = search needs
-
-step-key-requires : tie.Need-step-key-requires
-step-key-requires c κs = search needs
-
-left-out-requires : tie.Need-left-out-requires
-left-out-requires c κs = search needs
-
 returns : tie.Need-returns
 returns c =
     let y = c .before .before in
@@ -34,21 +19,6 @@ returns c =
     let is : y .step-key .result ≡ stepBy (a .kind) (a .targets .now) (a .others .now) (getD (a .keys .now) (a .i .0) 0) (a .symbol) = y .step-key .ensures in
     stepped-skipped (stepBy (a .kind) (a .targets .now) (a .others .now)) (skipsBy (a .omit)) (a .keys .now) (a .next .now) (a .count) (a .i .0) (a .symbol) (y .step-key .result) (s .pre .0 .0) (s .pre .0 .1) (s .pre .0 .2) is
     (sym (c .before .left-out .ensures) ∙ c .if1 .taken)
-
-number-requires : tie.Need-number-requires
-number-requires c κs = search needs
-
-enum-known-number : tie.Need-enum-known-number
-enum-known-number c = search needs
-
-mul-next : tie.Need-mul-next
-mul-next c = search needs
-
-add-next : tie.Need-add-next
-add-next c = search needs
-
-mul-next-2 : tie.Need-mul-next-2
-mul-next-2 c = search needs
 
 element-write-next : tie.Need-element-write-next
 element-write-next c =
@@ -91,18 +61,7 @@ pub step-spec : {M : Type 1} → statement M
 step-spec =
     tie.close
     (tie.spec
-    cast-row
-    mul-step-key
-    element-copy-out-step-key
-    step-key-requires
-    left-out-requires
-    returns
-    number-requires
-    enum-known-number
-    mul-next
-    add-next
-    mul-next-2
-    element-write-next
-    enum-told
-    returns-2
-    returns-3)
+    (λ c. search needs) (λ c. search needs) (λ c. search needs) (λ c κs. search needs)
+    (λ c κs. search needs) returns (λ c κs. search needs) (λ c. search needs)
+    (λ c. search needs) (λ c. search needs) (λ c. search needs) element-write-next enum-told
+    returns-2 returns-3)

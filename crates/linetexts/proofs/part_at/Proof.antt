@@ -4,12 +4,6 @@ use borrow.Author.Needs.{needs}
 use Rattle.linetexts.proofs.part_at.Statement.{statement}
 use Rattle.linetexts.proofs.part_at.Tie as tie
 
-find-requires : tie.Need-find-requires
-find-requires c κs = search needs
-
-add-next : tie.Need-add-next
-add-next c = search needs
-
 returns : tie.Need-returns
 returns c = search (needs, place-ended)
 
@@ -17,4 +11,4 @@ returns-2 : tie.Need-returns-2
 returns-2 c = search (needs, place-on)
 
 pub part-at-spec : {M : Type 1} → statement M
-part-at-spec = tie.close (tie.spec find-requires add-next returns returns-2)
+part-at-spec = tie.close (tie.spec (λ c κs. search needs) (λ c. search needs) returns returns-2)

@@ -20,29 +20,11 @@ abbrev μ-loop : tie.MeasureT-loop
 loop-holds : tie.Need-loop-holds Inv-loop μ-loop
 loop-holds c = (refl, refl, refl)
 
-shared-slice-read-scan-on : tie.Need-shared-slice-read-scan-on Inv-loop μ-loop
-shared-slice-read-scan-on c = search needs
-
-scan-on-requires : tie.Need-scan-on-requires Inv-loop μ-loop
-scan-on-requires c κs = search needs
-
-add-i : tie.Need-add-i Inv-loop μ-loop
-add-i c = search needs
-
-loop-less : tie.Need-loop-less Inv-loop μ-loop
-loop-less c = search needs
-
 loop-again : tie.Need-loop-again Inv-loop μ-loop
 loop-again c =
     let loop = c .before .before .before .before .before .before .before .before .before .loop in
     let on = c .before .before .before .before .scan-on in
     (on .kept .0 ∙ loop .inv .0, on .kept .1 .0 ∙ loop .inv .1, loop .inv .2 ∙ all-on _ _ _ _ (c .before .before .before .before .before .before .before .before .loop-test .taken) (on .ensures))
-
-same-length : tie.Need-same-length Inv-loop μ-loop
-same-length c = search needs
-
-same-length-2 : tie.Need-same-length-2 Inv-loop μ-loop
-same-length-2 c = search needs
 
 returns : tie.Need-returns Inv-loop μ-loop
 returns c = all-over _ _ _ _ (c .loop-test .left) (c .before .loop .inv .2)
@@ -51,14 +33,5 @@ pub scan-bytes-spec : {M : Type 1} → statement M
 scan-bytes-spec =
     tie.close
     (tie.spec
-    Inv-loop
-    μ-loop
-    loop-holds
-    shared-slice-read-scan-on
-    scan-on-requires
-    add-i
-    loop-less
-    loop-again
-    same-length
-    same-length-2
-    returns)
+    Inv-loop μ-loop loop-holds (λ c. search needs) (λ c κs. search needs) (λ c. search needs)
+    (λ c. search needs) loop-again (λ c. search needs) (λ c. search needs) returns)

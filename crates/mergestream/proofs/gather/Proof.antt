@@ -28,24 +28,6 @@ abbrev μ-loop : tie.MeasureT-loop
 loop-holds : tie.Need-loop-holds Inv-loop μ-loop
 loop-holds c = (refl, refl, begun _ _ _ _ _)
 
-sub-if1 : tie.Need-sub-if1 Inv-loop μ-loop
-sub-if1 c = search needs
-
-part-at-requires : tie.Need-part-at-requires Inv-loop μ-loop
-part-at-requires c κs = search needs
-
-sub-scan-bytes : tie.Need-sub-scan-bytes Inv-loop μ-loop
-sub-scan-bytes c = search needs
-
-part-scan-bytes-start : tie.Need-part-scan-bytes-start Inv-loop μ-loop
-part-scan-bytes-start c = search needs
-
-part-scan-bytes-end : tie.Need-part-scan-bytes-end Inv-loop μ-loop
-part-scan-bytes-end c = search needs
-
-scan-bytes-requires : tie.Need-scan-bytes-requires Inv-loop μ-loop
-scan-bytes-requires c κs = search needs
-
 loop-less : tie.Need-loop-less Inv-loop μ-loop
 loop-less c = omega (arith, part-forward _ _ _ (c .before .before .before .before .before .before .before .before .before .before .before .before .loop-test .taken) (c .before .before .before .before .before .before .before .before .before .before .part-at .ensures .next), c .before .before .before .before .before .before .before .before .before .before .before .before .loop-test .taken)
 
@@ -55,9 +37,6 @@ loop-again c =
     let part = c .before .before .before .before .before .before .before .before .before .before .part-at .ensures in
     let on = c .before .before .before .before .before .before .scan-bytes in
     (on .kept .0 ∙ loop .inv .0, on .kept .1 .0 ∙ loop .inv .1, part-on mergeLines _ _ _ _ _ _ _ _ _ (c .before .before .before .before .before .before .before .before .before .before .before .before .loop-test .taken) (loop .inv .2) (c .before .before .before .before .before .before .before .before .before .before .before .if1 .left) _ (on .ensures ∙ ap (scanAll _) (part .bytes)) _ (part .next) (sym (part .ends) ∙ not-ended _ (c .if2 .taken)))
-
-put-answer-requires : tie.Need-put-answer-requires Inv-loop μ-loop
-put-answer-requires c κs = search needs
 
 loop-less-2 : tie.Need-loop-less-2 Inv-loop μ-loop
 loop-less-2 c = omega (arith, part-forward _ _ _ (c .before .before .before .before .before .before .before .before .before .before .before .before .before .before .before .before .before .before .loop-test .taken) (c .before .before .before .before .before .before .before .before .before .before .before .before .before .before .before .before .part-at .ensures .next), c .before .before .before .before .before .before .before .before .before .before .before .before .before .before .before .before .before .before .loop-test .taken)
@@ -70,28 +49,10 @@ loop-again-2 c =
     let said = c .before .before .put-answer in
     (on .kept .0 ∙ loop .inv .0, on .kept .1 .0 ∙ loop .inv .1, part-answered mergeLines _ _ _ _ _ _ _ _ _ (c .before .before .before .before .before .before .before .before .before .before .before .before .before .before .before .before .before .before .loop-test .taken) (loop .inv .2) (c .before .before .before .before .before .before .before .before .before .before .before .before .before .before .before .before .before .if1 .left) _ (on .ensures ∙ ap (scanAll _) (part .bytes)) _ (part .next) (sym (part .ends) ∙ has-ended _ (c .before .before .before .before .before .before .if2 .left)) _ refl tt _ refl _ _ (said .ensures) (said .kept .1 .1 .1 .0))
 
-same-length : tie.Need-same-length Inv-loop μ-loop
-same-length c = search needs
-
-same-length-2 : tie.Need-same-length-2 Inv-loop μ-loop
-same-length-2 c = search needs
-
-same-length-3 : tie.Need-same-length-3 Inv-loop μ-loop
-same-length-3 c = search needs
-
 returns : tie.Need-returns Inv-loop μ-loop
 returns c =
     let loop = c .before .loop in
     ended mergeLines _ _ _ _ _ _ _ _ (loop .inv .2) (at-over mergeLines _ _ _ _ (c .loop-test .left))
-
-same-length-4 : tie.Need-same-length-4 Inv-loop μ-loop
-same-length-4 c = search needs
-
-same-length-5 : tie.Need-same-length-5 Inv-loop μ-loop
-same-length-5 c = search needs
-
-same-length-6 : tie.Need-same-length-6 Inv-loop μ-loop
-same-length-6 c = search needs
 
 returns-2 : tie.Need-returns-2 Inv-loop μ-loop
 returns-2 c =
@@ -102,25 +63,8 @@ pub gather-spec : {M : Type 1} → statement M
 gather-spec =
     tie.close
     (tie.spec
-    Inv-loop
-    μ-loop
-    loop-holds
-    sub-if1
-    part-at-requires
-    sub-scan-bytes
-    part-scan-bytes-start
-    part-scan-bytes-end
-    scan-bytes-requires
-    loop-less
-    loop-again
-    put-answer-requires
-    loop-less-2
-    loop-again-2
-    same-length
-    same-length-2
-    same-length-3
-    returns
-    same-length-4
-    same-length-5
-    same-length-6
+    Inv-loop μ-loop loop-holds (λ c. search needs) (λ c κs. search needs) (λ c. search needs)
+    (λ c. search needs) (λ c. search needs) (λ c κs. search needs) loop-less loop-again
+    (λ c κs. search needs) loop-less-2 loop-again-2 (λ c. search needs) (λ c. search needs)
+    (λ c. search needs) returns (λ c. search needs) (λ c. search needs) (λ c. search needs)
     returns-2)

@@ -47,9 +47,6 @@ put-byte-requires c κs =
     let most = writer.claims .fits (s .args .rule) (s .pre .0) in
     room-left most (w .ensures) (s .pre .1) (c .before .before .before .put-digits .ensures)
 
-same-length : tie.Need-same-length
-same-length c = search needs
-
 returns : tie.Need-returns
 returns c =
     let s = c .before .before .before .before .before .before .before .before .before .before .before .before .before in
@@ -61,11 +58,5 @@ pub put-rule-spec : {M : Type 1} → statement M
 put-rule-spec =
     tie.close
     (tie.spec
-    slice-aggregate-put-file
-    put-file-requires
-    array-share-prefix-bytes
-    slice-aggregate-put-digits
-    put-digits-requires
-    put-byte-requires
-    same-length
-    returns)
+    slice-aggregate-put-file put-file-requires array-share-prefix-bytes
+    slice-aggregate-put-digits put-digits-requires put-byte-requires (λ c. search needs) returns)

@@ -11,26 +11,8 @@ use borrow.Author.Needs.{needs}
 use Rattle.ruletext.proofs.print_whole.Statement.{statement}
 use Rattle.ruletext.proofs.print_whole.Tie as tie
 
-read-requires : tie.Need-read-requires
-read-requires c κs = search needs
-
 enum-told : tie.Need-enum-told
 enum-told c = search needs
-
-build-rule-requires : tie.Need-build-rule-requires
-build-rule-requires c κs = search needs
-
-put-building-requires : tie.Need-put-building-requires
-put-building-requires c κs = search needs
-
-enum-known-answer : tie.Need-enum-known-answer
-enum-known-answer c = search needs
-
-put-refused-requires : tie.Need-put-refused-requires
-put-refused-requires c κs = search needs
-
-same-length : tie.Need-same-length
-same-length c = search needs
 
 returns : tie.Need-returns
 returns c =
@@ -41,9 +23,6 @@ returns c =
     let n : refusal f ≡ none = ap (λ (x : Reading). x .number) (sym (g .ensures)) ∙ ap readMeans e in
     let r : g .result .rule ≡ ruleOf f = ap (λ (x : Reading). x .rule) (g .ensures) ∙ ap (λ (o : Option ℕ). ruleBy o f) n in
     rw (← text-for f n (a .result) (a .ensures ∙ ap buildOf r)) (c .before .before .put-building .ensures)
-
-same-length-2 : tie.Need-same-length-2
-same-length-2 c = search needs
 
 returns-2 : tie.Need-returns-2
 returns-2 c =
@@ -57,13 +36,6 @@ pub print-whole-spec : {M : Type 1} → statement M
 print-whole-spec =
     tie.close
     (tie.spec
-    read-requires
-    enum-told
-    build-rule-requires
-    put-building-requires
-    enum-known-answer
-    put-refused-requires
-    same-length
-    returns
-    same-length-2
+    (λ c κs. search needs) enum-told (λ c κs. search needs) (λ c κs. search needs)
+    (λ c. search needs) (λ c κs. search needs) (λ c. search needs) returns (λ c. search needs)
     returns-2)

@@ -9,26 +9,11 @@ use Rattle.ruletext.proofs.put_building.Tie as tie
 enum-told : tie.Need-enum-told
 enum-told c = search needs
 
-put-rule-requires : tie.Need-put-rule-requires
-put-rule-requires c κs = search needs
-
-enum-known-answer : tie.Need-enum-known-answer
-enum-known-answer c = search needs
-
-put-refused-requires : tie.Need-put-refused-requires
-put-refused-requires c κs = search needs
-
-same-length : tie.Need-same-length
-same-length c = search needs
-
 returns : tie.Need-returns
 returns c =
     let b = c .before .before .before .before .before .before .before .before .args .building in
     let e : textOf b ≡ ruleText (b .built) = ap (λ (a : BuildAnswer). answerText a (b .built)) (c .before .before .before .before .enum-told .given .1) in
     rw e (c .before .before .put-rule .ensures)
-
-same-length-2 : tie.Need-same-length-2
-same-length-2 c = search needs
 
 returns-2 : tie.Need-returns-2
 returns-2 c =
@@ -40,11 +25,5 @@ pub put-building-spec : {M : Type 1} → statement M
 put-building-spec =
     tie.close
     (tie.spec
-    enum-told
-    put-rule-requires
-    enum-known-answer
-    put-refused-requires
-    same-length
-    returns
-    same-length-2
-    returns-2)
+    enum-told (λ c κs. search needs) (λ c. search needs) (λ c κs. search needs)
+    (λ c. search needs) returns (λ c. search needs) returns-2)

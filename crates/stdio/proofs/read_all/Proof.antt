@@ -16,30 +16,6 @@ abbrev μ-loop : tie.MeasureT-loop
 μ-loop program buffer₀ n₀ buffer n =
     length buffer₀ - n
 
-loop-holds : tie.Need-loop-holds Inv-loop μ-loop
-loop-holds c = search needs
-
-sub-read-block : tie.Need-sub-read-block Inv-loop μ-loop
-sub-read-block c = search needs
-
-part-read-block-start : tie.Need-part-read-block-start Inv-loop μ-loop
-part-read-block-start c = search needs
-
-part-read-block-end : tie.Need-part-read-block-end Inv-loop μ-loop
-part-read-block-end c = search needs
-
-read-block-requires : tie.Need-read-block-requires Inv-loop μ-loop
-read-block-requires c κs = search needs
-
-same-length : tie.Need-same-length Inv-loop μ-loop
-same-length c = search needs
-
-returns : tie.Need-returns Inv-loop μ-loop
-returns c = search needs
-
-same-length-2 : tie.Need-same-length-2 Inv-loop μ-loop
-same-length-2 c = search needs
-
 returns-2 : tie.Need-returns-2 Inv-loop μ-loop
 returns-2 c =
     let here = c .before .before .before .before .before .before .before .before .loop in
@@ -65,9 +41,6 @@ loop-again c =
     let size = back-size (here .buffer) (here .n) (read .last .1 .0) (read .kept .1 .0) in
     (omega (arith, more-fits (here .buffer) (here .n) (read .last .1 .0) (read .kept .1 .0) (read .result .length) (read .ensures) (here .inv .0), size), size ∙ here .inv .1)
 
-same-length-3 : tie.Need-same-length-3 Inv-loop μ-loop
-same-length-3 c = search needs
-
 returns-3 : tie.Need-returns-3 Inv-loop μ-loop
 returns-3 c = front-is _ _ (c .before .loop .inv .0)
 
@@ -75,19 +48,6 @@ pub read-all-spec : {M : Type 1} → statement M
 read-all-spec =
     tie.close
     (tie.spec
-    Inv-loop
-    μ-loop
-    loop-holds
-    sub-read-block
-    part-read-block-start
-    part-read-block-end
-    read-block-requires
-    same-length
-    returns
-    same-length-2
-    returns-2
-    add-n
-    loop-less
-    loop-again
-    same-length-3
-    returns-3)
+    Inv-loop μ-loop (λ c. search needs) (λ c. search needs) (λ c. search needs)
+    (λ c. search needs) (λ c κs. search needs) (λ c. search needs) (λ c. search needs)
+    (λ c. search needs) returns-2 add-n loop-less loop-again (λ c. search needs) returns-3)

@@ -22,9 +22,6 @@ Inv-loop targets n k sets₀ next₀ count₀ q₀ q-end sets next count q =
 abbrev μ-loop : tie.MeasureT-loop
 μ-loop targets n k sets₀ next₀ count₀ q₀ q-end sets next count q = q-end - q
 
-at-most-u8-requires : tie.Need-at-most-u8-requires Inv-loop μ-loop
-at-most-u8-requires c κs = search needs
-
 loop-holds : tie.Need-loop-holds Inv-loop μ-loop
 unfolding keysUpTo
 loop-holds c =
@@ -32,21 +29,12 @@ loop-holds c =
     let a = s .args in
     (c .at-most-u8 .ensures, omega arith, omega arith, refl, begin (setWalk (a .targets .now) (a .k)) 512 (a .sets .now) (a .next .now) (s .pre))
 
-singleton-requires : tie.Need-singleton-requires Inv-loop μ-loop
-singleton-requires c κs = omega arith
-
-cast-set : tie.Need-cast-set Inv-loop μ-loop
-cast-set c = search needs
-
 add-requires : tie.Need-add-requires Inv-loop μ-loop
 add-requires c κs =
     let one = c .before .before .singleton in
     let x = c .before .before .before .before .loop in
     let a = c .before .before .before .before .before .before .args in
     ((x .inv .2, not-empty (one .result) (x .q) (one .ensures), x .inv .4), in-row (a .targets .now) (a .k))
-
-enum-known-after : tie.Need-enum-known-after Inv-loop μ-loop
-enum-known-after c = search needs
 
 enum-told : tie.Need-enum-told Inv-loop μ-loop
 enum-told c = search needs
@@ -58,12 +46,6 @@ returns c =
     let x = c .before .before .before .before .before .before .before .loop in
     let a = c .before .before .before .before .before .before .before .before .before .args in
     states-over (a .targets .now) (a .k) (x .q) (one .result) (one .ensures) (take (x .count) (x .sets)) (x .inv .3) (w .result) _ _ (w .ensures) (c .enum-told .given .1) (a .n) (omega arith)
-
-add-q : tie.Need-add-q Inv-loop μ-loop
-add-q c = omega arith
-
-loop-less : tie.Need-loop-less Inv-loop μ-loop
-loop-less c = omega arith
 
 loop-again : tie.Need-loop-again Inv-loop μ-loop
 loop-again c =
@@ -89,17 +71,6 @@ pub fill-spec : {M : Type 1} → statement M
 fill-spec =
     tie.close
     (tie.spec
-    Inv-loop
-    μ-loop
-    at-most-u8-requires
-    loop-holds
-    singleton-requires
-    cast-set
-    add-requires
-    enum-known-after
-    enum-told
-    returns
-    add-q
-    loop-less
-    loop-again
-    returns-2)
+    Inv-loop μ-loop (λ c κs. search needs) loop-holds (λ c κs. omega arith) (λ c. search needs)
+    add-requires (λ c. search needs) enum-told returns (λ c. omega arith) (λ c. omega arith)
+    loop-again returns-2)

@@ -17,27 +17,6 @@ abbrev μ-loop : tie.MeasureT-loop
 loop-holds : tie.Need-loop-holds Inv-loop μ-loop
 loop-holds c = (omega arith, refl, λ j h. absurd (omega arith))
 
-mul-lower : tie.Need-mul-lower Inv-loop μ-loop
-mul-lower c = omega arith
-
-element-copy-out-lower : tie.Need-element-copy-out-lower Inv-loop μ-loop
-element-copy-out-lower c = omega arith
-
-lower-requires : tie.Need-lower-requires Inv-loop μ-loop
-lower-requires c κs = search needs
-
-mul-masks : tie.Need-mul-masks Inv-loop μ-loop
-mul-masks c = omega arith
-
-array-write-masks : tie.Need-array-write-masks Inv-loop μ-loop
-array-write-masks c = omega arith
-
-add-i : tie.Need-add-i Inv-loop μ-loop
-add-i c = omega arith
-
-loop-less : tie.Need-loop-less Inv-loop μ-loop
-loop-less c = omega arith
-
 loop-again : tie.Need-loop-again Inv-loop μ-loop
 loop-again c =
     let x = c .before .before .before .loop in
@@ -57,15 +36,6 @@ pub masks-of-spec : {M : Type 1} → statement M
 masks-of-spec =
     tie.close
     (tie.spec
-    Inv-loop
-    μ-loop
-    loop-holds
-    mul-lower
-    element-copy-out-lower
-    lower-requires
-    mul-masks
-    array-write-masks
-    add-i
-    loop-less
-    loop-again
+    Inv-loop μ-loop loop-holds (λ c. omega arith) (λ c. omega arith) (λ c κs. search needs)
+    (λ c. omega arith) (λ c. omega arith) (λ c. omega arith) (λ c. omega arith) loop-again
     returns)

@@ -7,27 +7,9 @@ use Rattle.subsets.proofs.Tables.{table-whole, table-over}
 use Rattle.subsets.proofs.number_sets.Statement.{statement}
 use Rattle.subsets.proofs.number_sets.Tie as tie
 
-words-requires : tie.Need-words-requires
-words-requires c κs = search needs
-
 fill-requires : tie.Need-fill-requires
 unfolding listFrom
 fill-requires c κs = record { keys-are = refl; next-are = refl }
-
-enum-known-count : tie.Need-enum-known-count
-enum-known-count c = search needs
-
-number-singles-requires : tie.Need-number-singles-requires
-number-singles-requires c κs = search needs
-
-masks-of-requires : tie.Need-masks-of-requires
-masks-of-requires c κs = search needs
-
-enum-told : tie.Need-enum-told
-enum-told c = search needs
-
-no-table-requires : tie.Need-no-table-requires
-no-table-requires c κs = search needs
 
 returns : tie.Need-returns
 returns c =
@@ -49,12 +31,5 @@ pub number-sets-spec : {M : Type 1} → statement M
 number-sets-spec =
     tie.close
     (tie.spec
-    words-requires
-    fill-requires
-    enum-known-count
-    number-singles-requires
-    masks-of-requires
-    enum-told
-    no-table-requires
-    returns
-    returns-2)
+    (λ c κs. search needs) fill-requires (λ c. search needs) (λ c κs. search needs)
+    (λ c κs. search needs) (λ c. search needs) (λ c κs. search needs) returns returns-2)

@@ -4,9 +4,6 @@ use borrow.Author.Needs.{needs}
 use Rattle.subsets.proofs.words.Statement.{statement}
 use Rattle.subsets.proofs.words.Tie as tie
 
-shared-slice-read-result : tie.Need-shared-slice-read-result
-shared-slice-read-result c = search needs
-
 cast-result : tie.Need-cast-result
 cast-result c = omega (arith, c .shared-slice-known .given 0)
 
@@ -14,4 +11,4 @@ returns : tie.Need-returns
 returns c = λ i. omega (arith, c .shared-slice-known .given i)
 
 pub words-spec : {M : Type 1} → statement M
-words-spec = tie.close (tie.spec shared-slice-read-result cast-result returns)
+words-spec = tie.close (tie.spec (λ c. search needs) cast-result returns)
