@@ -29,10 +29,17 @@ use Rattle.traylines.specs.Running.{loadRowOf, loadColumnOf, loadOf}
 
 -- ---- a file
 module _ (t : Tray) (f g : List ℕ) (hf : 32906 < length f) (hg : 32906 < length g) where
+  pub rows-long : loadRowOf t f ≡ loadRowOf t g
+  unfolding loadRowOf
+  rows-long = rw (long-load f hf, long-load g hg)
+
+  pub columns-long : loadColumnOf t f ≡ loadColumnOf t g
+  unfolding loadColumnOf
+  columns-long = rw (long-load f hf, long-load g hg)
+
   pub loads-long : (rows : Bool) → loadOf rows t f ≡ loadOf rows t g
-  unfolding loadRowOf loadColumnOf
-  loads-long true = rw (long-load f hf, long-load g hg)
-  loads-long false = rw (long-load f hf, long-load g hg)
+  loads-long true = rows-long
+  loads-long false = columns-long
 
 -- ---- a band: 64 rows of 16 events are 1,024 bytes
 pub many-rows : (b : TrayBoard) (f : List ℕ) → 1024 < length f → notRows (widthOf b) f ≡ true
