@@ -34,7 +34,7 @@
 --   Claims, Interleavings, Products, Words; merging Claims, Languages, Merged, Merging, Worked;
 --   mergetext Answers, Claims, Lines, Worked; mergescan Scanning; mergestream Texts; c_merge
 --   Claims, Numbers; requests MergeFunction.
-use mathlib.Core.Path.{_≡_, sym, ap, _∙_, subst, refl}
+use mathlib.Core.Path.{_≡_, ap, _∙_, refl}
 use mathlib.Core.Logic.{_↔_, _⊎_}
 use mathlib.Core.Bool.{Bool, true, false}
 use mathlib.Core.List.{List, _++_, flatten}
@@ -54,7 +54,6 @@ use Rattle.ruleformat.specs.Language.{automatonIn}
 use Rattle.calls.specs.Replies.{yesWith, noWith}
 use Rattle.calls.specs.Calls.{Call, installNumber}
 use Rattle.histories.specs.History.{ruleIn, boardIn, emptiesIn, summedIn, textIn, verdictIn}
-use Rattle.histories.proofs.EveryList.{every-list}
 use Rattle.lines.specs.Splitting.{linesOf}
 use Rattle.fields.specs.Claims.{AllBytes}
 use Rattle.linetexts.specs.Feeding.{State}
@@ -90,6 +89,7 @@ use Rattle.c_merge.proofs.ReadBack as c-merge
 use Rattle.c_merge.proofs.Asks as c-asks
 use Rattle.requests.specs.MergeFunction.{AsksMerge, MayMerge, AsksMergeC, MayMergeC}
 use Rattle.demands.proofs.Installing as installing
+use Rattle.requests.proofs.Judged.{yes-exactly, no-exactly}
 
 -- The limits that are named below:
 pub limits : (mostStates ≡ 32) × (targetCells ≡ 512) × (longestFile ≡ 32906)
@@ -226,20 +226,13 @@ ways = (c-merge.claims .way-0, c-merge.claims .way-1, c-merge.claims .way-other)
 -- verdict is yes exactly when the standing chunks, without their idle marks, are such a text, and no
 -- exactly when they are not.
 module _ (w : Way) (one two : Rule) (e : mergeOf w one two .number ≡ none) (h : List Call) (rule : ruleIn h ≡ mergeOf w one two .rule) where
-  judges : Accepts (automatonOf (ruleIn h)) (textIn h) ↔ Merges w (automatonOf one) (automatonOf two) (textIn h)
-  judges =
-      subst (λ (r : Rule). Accepts (automatonOf r) (textIn h) ↔ Merges w (automatonOf one) (automatonOf two) (textIn h)) (sym rule)
-      (merging-law w one two .language e (textIn h))
-
   pub judged-yes : boardIn h ≡ true → emptiesIn h ≡ 0
       → (verdictIn h ≡ yesWith (summedIn h)) ↔ Merges w (automatonOf one) (automatonOf two) (textIn h)
-  judged-yes board full =
-      let v = every-list h .verdict .accepts board full in ((λ y. judges .0 (v .0 y)), λ m. v .1 (judges .1 m))
+  judged-yes = yes-exactly h (mergeOf w one two .rule) (Merges w (automatonOf one) (automatonOf two) (textIn h)) rule (merging-law w one two .language e (textIn h))
 
   pub judged-no : boardIn h ≡ true → emptiesIn h ≡ 0
       → (verdictIn h ≡ noWith (summedIn h)) ↔ (Merges w (automatonOf one) (automatonOf two) (textIn h) → ⊥)
-  judged-no board full =
-      let v = every-list h .verdict .rejects board full in ((λ n m. v .0 n (judges .1 m)), λ n. v .1 (λ a. n (judges .0 a)))
+  judged-no = no-exactly h (mergeOf w one two .rule) (Merges w (automatonOf one) (automatonOf two) (textIn h)) rule (merging-law w one two .language e (textIn h))
 
 -- ---- FROM FILES, BY THE PROGRAM
 -- The first file is read, then the second, then they are merged.

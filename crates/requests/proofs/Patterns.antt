@@ -57,7 +57,6 @@ use Rattle.rulewriter.proofs.Claims as writer
 use Rattle.calls.specs.Replies.{yesWith, noWith}
 use Rattle.calls.specs.Calls.{Call}
 use Rattle.histories.specs.History.{ruleIn, boardIn, emptiesIn, summedIn, textIn, verdictIn}
-use Rattle.histories.proofs.EveryList.{every-list}
 use Rattle.histories.proofs.Refinement.{lent}
 use Rattle.lines.specs.Splitting.{linesOf}
 use Rattle.longlines.specs.Holding.{lineBegin}
@@ -88,6 +87,7 @@ use Rattle.c_patterns.specs.Numbers.{patternShown, patternReadBack}
 use Rattle.c_patterns.specs.Claims as c-claims
 use Rattle.c_patterns.proofs.Claims as c-patterns
 use Rattle.requests.specs.PatternFunction.{AsksPattern, MayPattern}
+use Rattle.requests.proofs.Judged.{yes-exactly, no-exactly}
 
 -- The limits that are named below:
 pub limits : (longestPattern ≡ 128) × (mostLetters ≡ 31) × (longestPatternFile ≡ 2122) × (mostSymbols ≡ 16) × (targetCells ≡ 512)
@@ -171,20 +171,17 @@ accepted = patternfile.claims .accepted
 -- exactly when the standing chunks, without their idle marks, are one of the pattern's texts, and else
 -- no:
 module _ (p : Pattern) (b : List ℕ) (s : StandsFor p b) (e : patternNumber b ≡ none) (h : List Call) (rule : ruleIn h ≡ ruleOf (fileIn (patternOf b))) where
-  judges : Accepts (automatonOf (ruleIn h)) (textIn h) ↔ Matches p (textIn h)
+  judges : Accepts (automatonOf (ruleOf (fileIn (patternOf b)))) (textIn h) ↔ Matches p (textIn h)
   judges =
       let same = format.claims .language (fileIn (patternOf b)) (ap (λ (r : Reading). r .number) (read p b s e)) (textIn h) in
       let text = language p b s e (textIn h) in
-      subst (λ (r : Rule). Accepts (automatonOf r) (textIn h) ↔ Matches p (textIn h)) (sym rule)
       ((λ a. text .0 (same .1 a)), λ m. same .0 (text .1 m))
 
   pub judged-yes : boardIn h ≡ true → emptiesIn h ≡ 0 → (verdictIn h ≡ yesWith (summedIn h)) ↔ Matches p (textIn h)
-  judged-yes board full =
-      let v = every-list h .verdict .accepts board full in ((λ y. judges .0 (v .0 y)), λ m. v .1 (judges .1 m))
+  judged-yes = yes-exactly h (ruleOf (fileIn (patternOf b))) (Matches p (textIn h)) rule judges
 
   pub judged-no : boardIn h ≡ true → emptiesIn h ≡ 0 → (verdictIn h ≡ noWith (summedIn h)) ↔ (Matches p (textIn h) → ⊥)
-  judged-no board full =
-      let v = every-list h .verdict .rejects board full in ((λ n m. v .0 n (judges .1 m)), λ n. v .1 (λ a. n (judges .0 a)))
+  judged-no = no-exactly h (ruleOf (fileIn (patternOf b))) (Matches p (textIn h)) rule judges
 
 -- ---- WRITING A RULE FILE
 -- The file of a well-formed rule is bytes that reading turns back into that rule; a value of the type
