@@ -8,12 +8,11 @@ use borrow.Author.Tests.{ltb-false}
 use Rattle.base.proofs.Lists.{cell-of}
 use Rattle.masks.specs.Masks.{single}
 use Rattle.automaton.specs.declared.Rule.{Rule}
-use Rattle.automaton.specs.Rules.{automatonOf, WellFormed}
+use Rattle.automaton.specs.Rules.{WellFormed}
 use Rattle.subsets.specs.Sets.{setsOf, tooMany, setCells}
 use Rattle.subsets.specs.Claims.{fits}
 use Rattle.subsets.specs.mirror.Singles.{singletonNumber}
 use Rattle.delegates.proofs.Claims as delegates
-use Rattle.delegates.proofs.Fewest.{fewest-claims}
 use Rattle.build.specs.mirror.Building.{builtOf}
 use Rattle.build.specs.Claims.{Claims}
 
@@ -33,7 +32,5 @@ module _ (r : Rule) (good : WellFormed r) (f : fits r) where
 pub claims : Claims
 claims = record {
   delegates = delegates.claims .merged;
-  fewest = λ r good f S covers.
-      fewest-claims .fewest (automatonOf r) (builtOf r .delegates) (builtOf r .startcount) (delegates.claims .merged r good f) S covers;
   singles = names;
 }

@@ -11,7 +11,7 @@ use Rattle.subsets.specs.declared.SetTable.{SetTable}
 use Rattle.subsets.specs.Sets.{setsOf, tooMany, setCells, nextCells}
 use Rattle.subsets.specs.mirror.Singles.{singlesOf}
 use Rattle.subsets.specs.mirror.Answer.{counted, refused, numberingMeans, Table, noTable, tableOutcome, tableOf}
-use Rattle.subsets.proofs.Arrays.{told-counted, told-refused}
+use Rattle.subsets.proofs.Tables.{told-counted, told-refused}
 use Rattle.delegates.specs.declared.Starts.{Starts}
 use Rattle.delegates.specs.mirror.Classes.{startsOf}
 use Rattle.delegates.specs.Claims.{startsIn}

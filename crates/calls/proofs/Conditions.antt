@@ -6,11 +6,12 @@
 --   load-installs                 a file that reading accepts has the number of its rule
 use mathlib.Core.Path.{_≡_, refl, sym, _∙_}
 use mathlib.Core.Bool.{Bool, true, false, cond}
-use mathlib.Core.List.{List, [], _∷_, _++_}
+use mathlib.Core.List.{List}
 use mathlib.Core.Option.{Option, none, some}
 use Prim.Native.Nat.{ℕ}
-use Rattle.base.specs.Conditions.{Condition, on, firstOf}
 use Rattle.base.proofs.Tests.{zero-one}
+use Rattle.base.proofs.Conditions.{first-append}
+pub use Rattle.base.proofs.Conditions.{orElse}
 use Rattle.automaton.specs.declared.Rule.{Rule}
 use Rattle.rulecheck.specs.Checking.{ruleConditions, ruleNumber}
 use Rattle.ruleformat.specs.Refusals.{fileConditions, refusal}
@@ -18,15 +19,6 @@ use Rattle.ruleformat.specs.Reader.{ruleOf}
 use Rattle.ruleformat.proofs.Claims as rulefile
 use Rattle.subsets.specs.Sets.{tooMany}
 use Rattle.calls.specs.Calls.{manySets, installNumber, loadNumber}
-
-abbrev pub orElse : Option ℕ → Option ℕ → Option ℕ
-orElse none y = y
-orElse (some x) y = some x
-
-pub first-append : (cs ds : List Condition) → orElse (firstOf cs) (firstOf ds) ≡ firstOf (cs ++ ds)
-first-append [] ds = refl
-first-append (on x true ∷ cs) ds = refl
-first-append (on x false ∷ cs) ds = first-append cs ds
 
 neither : (a : Option ℕ) (t : Bool) → orElse a (cond t (some 9) none) ≡ none → (a ≡ none) × (t ≡ false)
 neither (some x) t e = zero-one cc
@@ -39,11 +31,11 @@ over r = tooMany (r .targets) (r .n) (r .k)
 
 pub install-number : (r : Rule) → installNumber r ≡ orElse (ruleNumber r) (cond (over r) (some 9) none)
 unfolding installNumber
-install-number r = sym (first-append (ruleConditions r) (manySets r))
+install-number r = first-append (ruleConditions r) (manySets r)
 
 pub load-number : (f : List ℕ) → loadNumber f ≡ orElse (refusal f) (cond (over (ruleOf f)) (some 9) none)
 unfolding loadNumber refusal
-load-number f = sym (first-append (fileConditions f) (manySets (ruleOf f)))
+load-number f = first-append (fileConditions f) (manySets (ruleOf f))
 
 -- a rule that no condition holds of
 pub not-refused : (r : Rule) → installNumber r ≡ none → (ruleNumber r ≡ none) × (over r ≡ false)

@@ -1,6 +1,5 @@
 -- In the order in which they build on each other.
 pub mod Readings
-pub mod Written
 pub mod RoundTrip
 pub mod Exact
 pub mod Examples

@@ -1,17 +1,17 @@
 // Between the text of a list of calls and the calls: what a line means, and how its answer is
 // written.
 ghost use mathlib.Core.Path.{_≡_};
-ghost use mathlib.Core.List.{List, [], _∷_, _++_};
+ghost use mathlib.Core.List.{List};
 ghost use mathlib.Core.Option.{some};
-ghost use Prim.Native.Nat.{ℕ, _+_, _≤_};
+ghost use Prim.Native.Nat.{ℕ, _≤_};
 ghost use lib.ListN.{length, drop};
 ghost use Rattle.limits.specs.Limits.{answerRoom};
 ghost use Rattle.text.specs.Writing.{Wrote};
 ghost use Rattle.fields.specs.Numbers.{parseNumber};
 ghost use Rattle.lines.specs.Splitting.{upTo, past};
 ghost use Rattle.calltext.specs.Meaning.{openBy, withdrawBy, revisionFields, deliverFields, lineMeans, bytesFrom, Parsed};
-ghost use Rattle.calltext.specs.Answers.{behind, replied, isMalformed, responseText, answerMeans};
-ghost use Rattle.calls.specs.Replies.{accepted, installed, judged, refused, installMeans, openMeans, deliverMeans, withdrawMeans, reportMeans, delivered};
+ghost use Rattle.calltext.specs.Answers.{replied, isMalformed, responseText, answerMeans};
+ghost use Rattle.calls.specs.Replies.{accepted, judged, installMeans, openMeans, deliverMeans, withdrawMeans, reportMeans};
 use calls::DeliverAnswer;
 use calls::InstallAnswer;
 use calls::OpenAnswer;
@@ -131,85 +131,12 @@ pub enum LineAnswer {
     Malformed,
 }
 
-// A word on a line of its own.
-fn put_word(out: &mut [u8], word: &[u8]) -> usize
-    requires { ⌜ length (now word) + 1 ≤ length (now out) ⌝ }
-    ensures { λ r. ⌜ Wrote (now (out .entry)) 0 (now (word .entry) ++ (10 ∷ [])) (now (out .exit)) r ⌝ }
-{
-    let end = text::put_bytes(out, 0, word);
-    text::put_byte(out, end, b'\n')
-}
-
-// A number with a space before it.
-fn put_behind(out: &mut [u8], at: usize, n: u64) -> usize
-    requires { ⌜ at + 21 ≤ length (now out) ⌝ }
-    ensures { λ r. ⌜ Wrote (now (out .entry)) at (behind n) (now (out .exit)) r ⌝ }
-{
-    let digits = text::put_byte(out, at, b' ');
-    text::put_decimal(out, digits, n)
-}
-
-// A word and a number.
-fn put_numbered(out: &mut [u8], word: &[u8], n: u64) -> usize
-    requires { ⌜ length (now word) + 22 ≤ length (now out) ⌝ }
-    ensures { λ r. ⌜ Wrote (now (out .entry)) 0 ((now (word .entry) ++ behind n) ++ (10 ∷ [])) (now (out .exit)) r ⌝ }
-{
-    let first = text::put_bytes(out, 0, word);
-    let end = put_behind(out, first, n);
-    text::put_byte(out, end, b'\n')
-}
-
-// A word and the four numbers of a yes or no.
-fn put_counted(
-    out: &mut [u8],
-    word: &[u8],
-    count: u64,
-    bytes: u64,
-    quotient: u64,
-    remainder: u64,
-) -> usize
-    requires { ⌜ length (now word) + 85 ≤ length (now out) ⌝ }
-    ensures { λ r. ⌜ Wrote (now (out .entry)) 0 ((now (word .entry) ++ (behind count ++ (behind bytes ++ (behind quotient ++ behind remainder)))) ++ (10 ∷ [])) (now (out .exit)) r ⌝ }
-{
-    let first = text::put_bytes(out, 0, word);
-    let second = put_behind(out, first, count);
-    let third = put_behind(out, second, bytes);
-    let fourth = put_behind(out, third, quotient);
-    let end = put_behind(out, fourth, remainder);
-    text::put_byte(out, end, b'\n')
-}
-
+// An answer of a word alone.
 fn put_accepted(out: &mut [u8]) -> usize
     requires { ⌜ answerRoom ≤ length (now out) ⌝ }
     ensures { λ r. ⌜ Wrote (now (out .entry)) 0 (responseText (replied accepted)) (now (out .exit)) r ⌝ }
 {
-    put_word(out, b"accepted")
-}
-
-fn put_refused(out: &mut [u8], number: u8) -> usize
-    requires { ⌜ answerRoom ≤ length (now out) ⌝ }
-    ensures { λ r. ⌜ Wrote (now (out .entry)) 0 (responseText (replied (refused number))) (now (out .exit)) r ⌝ }
-{
-    put_numbered(out, b"refused", number as u64)
-}
-
-// The answer where a rule was installed.
-fn put_installed(out: &mut [u8], sets: u64, starts: u64) -> usize
-    requires { ⌜ 51 ≤ length (now out) ⌝ }
-    ensures { λ r. ⌜ Wrote (now (out .entry)) 0 (responseText (replied (installed sets starts))) (now (out .exit)) r ⌝ }
-{
-    let first = text::put_bytes(out, 0, b"accepted");
-    let second = put_behind(out, first, sets);
-    let end = put_behind(out, second, starts);
-    text::put_byte(out, end, b'\n')
-}
-
-// The answer to a delivery that was accepted.
-fn put_delivered(out: &mut [u8], looked: u32) -> usize
-    requires { ⌜ answerRoom ≤ length (now out) ⌝ }
-    ensures { λ r. ⌜ Wrote (now (out .entry)) 0 (responseText (replied (delivered looked))) (now (out .exit)) r ⌝ }
-{
-    put_numbered(out, b"accepted", looked as u64)
+    text::put_bytes(out, 0, b"accepted\n")
 }
 
 // What a call is answered, a function for each type of answer.
@@ -218,8 +145,11 @@ fn put_install(out: &mut [u8], answer: InstallAnswer) -> usize
     ensures { λ r. ⌜ Wrote (now (out .entry)) 0 (responseText (replied (installMeans answer))) (now (out .exit)) r ⌝ }
 {
     match answer {
-        InstallAnswer::Accepted(sets, starts) => put_installed(out, sets as u64, starts as u64),
-        InstallAnswer::Refused(number) => put_refused(out, number),
+        InstallAnswer::Accepted(sets, starts) => {
+            let numbers = [sets as u64, starts as u64];
+            answers::put_line(out, 0, b"accepted", &numbers)
+        }
+        InstallAnswer::Refused(number) => answers::put_refused(out, 0, number),
     }
 }
 
@@ -229,7 +159,7 @@ fn put_open(out: &mut [u8], answer: OpenAnswer) -> usize
 {
     match answer {
         OpenAnswer::Accepted => put_accepted(out),
-        OpenAnswer::Refused(number) => put_refused(out, number),
+        OpenAnswer::Refused(number) => answers::put_refused(out, 0, number),
     }
 }
 
@@ -238,8 +168,11 @@ fn put_deliver(out: &mut [u8], answer: DeliverAnswer) -> usize
     ensures { λ r. ⌜ Wrote (now (out .entry)) 0 (responseText (replied (deliverMeans answer))) (now (out .exit)) r ⌝ }
 {
     match answer {
-        DeliverAnswer::Accepted(looked) => put_delivered(out, looked),
-        DeliverAnswer::Refused(number) => put_refused(out, number),
+        DeliverAnswer::Accepted(looked) => {
+            let numbers = [looked as u64];
+            answers::put_line(out, 0, b"accepted", &numbers)
+        }
+        DeliverAnswer::Refused(number) => answers::put_refused(out, 0, number),
     }
 }
 
@@ -249,7 +182,7 @@ fn put_withdraw(out: &mut [u8], answer: WithdrawAnswer) -> usize
 {
     match answer {
         WithdrawAnswer::Accepted => put_accepted(out),
-        WithdrawAnswer::Refused(number) => put_refused(out, number),
+        WithdrawAnswer::Refused(number) => answers::put_refused(out, 0, number),
     }
 }
 
@@ -259,24 +192,19 @@ fn put_report(out: &mut [u8], report: Report) -> usize
 {
     let verdict = report.verdict;
     match verdict {
-        Verdict::Waiting(empty) => put_numbered(out, b"waiting", empty as u64),
-        Verdict::Yes(count) => put_counted(
-            out,
-            b"yes",
-            count,
-            report.bytes,
-            report.quotient,
-            report.remainder,
-        ),
-        Verdict::No(count) => put_counted(
-            out,
-            b"no",
-            count,
-            report.bytes,
-            report.quotient,
-            report.remainder,
-        ),
-        Verdict::Refused(number) => put_refused(out, number),
+        Verdict::Waiting(empty) => {
+            let numbers = [empty as u64];
+            answers::put_line(out, 0, b"waiting", &numbers)
+        }
+        Verdict::Yes(count) => {
+            let numbers = [count, report.bytes, report.quotient, report.remainder];
+            answers::put_line(out, 0, b"yes", &numbers)
+        }
+        Verdict::No(count) => {
+            let numbers = [count, report.bytes, report.quotient, report.remainder];
+            answers::put_line(out, 0, b"no", &numbers)
+        }
+        Verdict::Refused(number) => answers::put_refused(out, 0, number),
     }
 }
 
@@ -292,7 +220,7 @@ pub fn put_answer(out: &mut [u8], answer: LineAnswer) -> usize
         LineAnswer::Deliver(said) => put_deliver(out, said),
         LineAnswer::Withdraw(said) => put_withdraw(out, said),
         LineAnswer::Verdict(said) => put_report(out, said),
-        LineAnswer::Malformed => put_word(out, b"malformed"),
+        LineAnswer::Malformed => answers::put_malformed(out, 0),
     }
 }
 

@@ -26,8 +26,8 @@
 --   Chunks, mirror/Walks; board Boards; joins Joining; calls Calls, Replies, mirror/Steps;
 --   histories History; fields Bytes, Claims, Numbers, Worked; lines Claims, Splitting; packed
 --   Claims, Packed; calltext Answers, Claims, Meaning, Worked; callrun Running; longlines
---   Holding; linetexts Claims, Feeding, Functions, Lists, Parts; stream Texts, Worked; replay
---   Claims, Records; capi Numbers; demands Functions, TextFunctions.
+--   Holding; linetexts Beginnings, Claims, Feeding, Functions, Lists, Parts; stream Texts,
+--   Worked; replay Claims, Records; capi Numbers; demands Functions, TextFunctions.
 use mathlib.Core.Path.{_≡_}
 use mathlib.Core.Logic.{_↔_}
 use mathlib.Core.Bool.{false}
@@ -46,7 +46,8 @@ use Rattle.lines.specs.Splitting.{linesOf}
 use Rattle.lines.specs.Claims.{NoFeed}
 use Rattle.lines.proofs.Claims as lines
 use Rattle.longlines.specs.Holding.{lineBegin}
-use Rattle.linetexts.specs.Feeding.{State, stateOf, finishOf, gatherAt, Gathers}
+use Rattle.linetexts.specs.Feeding.{State, finishOf, gatherAt, Gathers}
+use Rattle.linetexts.specs.Beginnings.{Beginning, stateOf}
 use Rattle.linetexts.specs.Lists.{Listed, listOf, NoneEmpty, skippedLines}
 use Rattle.linetexts.specs.Claims.{streamOf, Blocks}
 use Rattle.linetexts.specs.Functions.{FedBlocks}
@@ -86,23 +87,23 @@ texts = stream.claims .answered
 
 -- So is all that is written, in whatever rounds the blocks are fed. (A round is what the contract of
 -- `gather` promises, and the end what that of `finish` does: stream/src/lib.rt.)
-pub texts-written : {room : ℕ} {s′ : State (Listed Judge)} {blocks : List (List ℕ)} {line text : List ℕ} → lineRoom ≤ length line
-    → Blocks callLines room (stateOf (listOf fresh false) lineBegin line) blocks s′ text
+pub texts-written : {s′ : State Beginning (Listed Judge)} {blocks : List (List ℕ)} {line text : List ℕ} → lineRoom ≤ length line
+    → Blocks callLines (stateOf (listOf fresh false) lineBegin line) blocks s′ text
     → text ++ finishOf callLines s′ .text ≡ rightText (some []) (linesOf (flatten blocks))
 texts-written = stream.claims .written
 
 -- So from the functions: what the contract of `gather` allows is a round, that of `finish` the end, and
 -- nothing else; fed through them, block by block, a text is answered right.
-pub gather-allows : (s t : State (Listed Judge)) (before block after : List ℕ) (at next written : ℕ)
+pub gather-allows : (s t : State Beginning (Listed Judge)) (before block after : List ℕ) (at next written : ℕ)
     → MayGather s before block at t next written after ↔ Gathers (gatherAt callLines block at (length before) s) at t next written before after
 gather-allows = text-functions.gather-fixed
 
-pub finish-allows : (s : State (Listed Judge)) (before after : List ℕ) (written : ℕ)
+pub finish-allows : (s : State Beginning (Listed Judge)) (before after : List ℕ) (written : ℕ)
     → MayFinish s before written after ↔ Wrote before 0 (finishOf callLines s .text) after written
 finish-allows = text-functions.finish-fixed
 
-pub texts-fed : {room written : ℕ} {s′ : State (Listed Judge)} {blocks : List (List ℕ)} {line text before after : List ℕ} → lineRoom ≤ length line
-    → FedBlocks MayGather room (stateOf (listOf fresh false) lineBegin line) blocks s′ text → MayFinish s′ before written after
+pub texts-fed : {written : ℕ} {s′ : State Beginning (Listed Judge)} {blocks : List (List ℕ)} {line text before after : List ℕ} → lineRoom ≤ length line
+    → FedBlocks MayGather (stateOf (listOf fresh false) lineBegin line) blocks s′ text → MayFinish s′ before written after
     → text ++ take written after ≡ rightText (some []) (linesOf (flatten blocks))
 texts-fed = text-functions.fed
 

@@ -3,27 +3,20 @@
 --
 --   DrawingReply   a drawing of so many bytes, or a refusal with its number
 --   drawingMeans   what each case of the code's answer says
---   bytesOf        how many bytes are drawn
---   fittingMeans   what is said where the buffer may be too short: none where it is
 --   drawingFor f   the drawing of the rule in the file f; nothing where the reader refuses the file
 --   replyFor f     the length of that drawing; or the number, 1 to 8, with which the reader refuses
 --   Draws f ..     that is said, and the drawing stands at the start of the buffer; what lies past
 --                  it is left as it was
---   DrawsIn f ..   the same for any buffer: one that is too short for the drawing is left unchanged
 use mathlib.Core.Path.{_≡_}
-use mathlib.Core.Bool.{Bool, cond}
 use mathlib.Core.List.{List, [], _++_}
 use mathlib.Core.Option.{Option, none, some}
 use Prim.Native.Nat.{ℕ}
-use lib.Dec.{ltb}
 use lib.ListN.{length, drop}
 use Rattle.automaton.specs.declared.Rule.{Rule}
 use Rattle.ruleformat.specs.Refusals.{refusal}
 use Rattle.ruleformat.specs.Reader.{ruleOf}
 use Rattle.dottext.specs.declared.Drawing.{Drawing}
 use Rattle.dottext.specs.declared.Drawing.the-variants.{Bytes, Refused}
-use Rattle.dottext.specs.declared.Fitting.{Fitting}
-use Rattle.dottext.specs.declared.Fitting.the-variants.{Done, Short}
 use Rattle.dotgraph.specs.DotText.{dotText}
 
 pub data DrawingReply : Type 0 where
@@ -33,14 +26,6 @@ pub data DrawingReply : Type 0 where
 abbrev pub drawingMeans : Drawing → DrawingReply
 drawingMeans (Bytes n) = drawn n
 drawingMeans (Refused number) = refused number
-
-abbrev pub bytesOf : DrawingReply → ℕ
-bytesOf (drawn n) = n
-bytesOf (refused number) = 0
-
-abbrev pub fittingMeans : Fitting → Option DrawingReply
-fittingMeans (Done drawing) = some (drawingMeans drawing)
-fittingMeans Short = none
 
 abbrev pub drawingBy : Option ℕ → Rule → List ℕ
 drawingBy none r = dotText r
@@ -59,11 +44,3 @@ replyFor f = replyBy (refusal f) (ruleOf f)
 pub record Draws (f before after : List ℕ) (r : Drawing) : Type 0 where
   pub answer : drawingMeans r ≡ replyFor f
   pub buffer : after ≡ drawingFor f ++ drop (length (drawingFor f)) before
-
-abbrev pub tooShort : List ℕ → List ℕ → Bool
-tooShort f before = ltb (length before) (length (drawingFor f))
-
-pub record DrawsIn (f before after : List ℕ) (r : Fitting) : Type 0 where
-  pub answer : fittingMeans r ≡ cond (tooShort f before) none (some (replyFor f))
-  pub buffer :
-      after ≡ cond (tooShort f before) before (drawingFor f ++ drop (length (drawingFor f)) before)

@@ -175,9 +175,6 @@ module _ (r : Rule) where
     fine : WellFormed r
     fine = checked-rule r w ok
 
-    begun : ℕ
-    begun = handed r (r .initials) ws
-
     begun-is : handed r (r .initials) ws ≡ after (r .targets) (r .initials) (takenText r ws)
     begun-is = handed-is ws (r .initials)
 

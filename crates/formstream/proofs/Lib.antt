@@ -1,5 +1,1 @@
-pub mod Texts
-pub mod Feeding
-pub mod Rounds
-pub mod Written
-pub mod Claims
+pub mod Claimed

@@ -1,4 +1,1 @@
--- In the order in which to read them.
 pub mod Texts
-pub mod Feeding
-pub mod Claims

@@ -6,15 +6,13 @@
 // since the C library's `write` makes none: a test holds it.
 ghost use mathlib.Core.Path.{_≡_};
 ghost use mathlib.Core.Bool.{false};
-ghost use mathlib.Core.List.{List};
-ghost use Prim.Native.Nat.{ℕ, _≤_, _<_};
-ghost use lib.ListN.{length};
-ghost use Rattle.stdio.specs.Blocks.{Within};
-ghost use Rattle.hexfields.specs.Reading.{Kept};
-ghost use Rattle.formline.specs.Lines.{longestLine};
-ghost use Rattle.tabletext.specs.Answers.{mostAnswer};
-ghost use Rattle.formstream.specs.Texts.{lineAfter};
-use stdio::Block;
+ghost use Prim.Native.Nat.{_≤_};
+ghost use lib.ListN.{length, take};
+ghost use Rattle.linetexts.specs.Parts.{partsOf};
+ghost use Rattle.linetexts.specs.Feeding.{feedParts};
+ghost use Rattle.linetexts.specs.Alone.{lineState};
+ghost use Rattle.formstream.specs.Texts.{formLines};
+use longlines::Held;
 
 // How many bytes are read at once.
 const BLOCK: usize = 65536;
@@ -22,83 +20,74 @@ const BLOCK: usize = 65536;
 // Room for the answers to a block, if they are not the longest: they are written where it is used up.
 const ANSWERS: usize = 8 * formstream::ANSWER;
 
-// How many bytes of a line are kept, and whether the input or the output failed, which was told.
+// What is held of a line, and whether the input is over, or it or the output failed, which was told.
 struct Reading {
-    kept: usize,
-    failed: bool,
+    held: Held,
+    over: bool,
 }
 
-fn read_block(block: &mut [u8]) -> Block
-    ensures { λ r. ⌜ Within r (now (block .exit)) ⌝ }
+fn write_answers(out: &[u8], written: usize) -> bool {
+    stdio::write_first(b"formtable", written, out)
+}
+
+// The lines of the first n bytes of a block. `line` keeps a line that goes on.
+fn run_block(
+    held: Held,
+    line: &mut [u8; formstream::LINE],
+    out: &mut [u8; ANSWERS],
+    block: &[u8],
+    n: usize,
+) -> Reading
+    requires { ⌜ n ≤ length (now block) ⌝ }
+    ensures { λ r. ⌜ (r .over ≡ false → lineState (r .held) (now (line .exit)) ≡ feedParts formLines (lineState held (now (line .entry))) (partsOf (take n (now (block .entry))))) ⌝ }
 {
-    stdio::read_block(b"formtable", block)
-}
-
-fn write_answers(answers: &[u8]) -> bool {
-    stdio::write_all(b"formtable", answers)
-}
-
-// The lines of a block. `line` keeps the beginning of a line that goes on.
-fn run_block(kept: usize, line: &mut [u8], out: &mut [u8], block: &[u8]) -> Reading
-    requires { ⌜ (longestLine < length (now line)) × (mostAnswer ≤ length (now out)) ⌝ }
-    ensures { λ r. ⌜ ((v : List ℕ) → Kept v kept (now (line .entry)) → r .failed ≡ false → Kept (lineAfter v (now (block .entry))) (r .kept) (now (line .exit))) ⌝ }
-{
-    let mut kept = kept;
+    let mut held = held;
     let mut at: usize = 0;
-    while at < block.len() {
-        let round = formstream::feed(kept, line, out, block, at);
-        kept = round.kept;
+    while at < n {
+        let round = formstream::gather(held, line, out, &block[..n], at);
+        held = round.held;
         at = round.at;
         let written = round.written;
-        if !write_answers(&out[..written]) {
-            let failed = true;
-            return Reading { kept, failed };
+        if !write_answers(out, written) {
+            let over = true;
+            return Reading { held, over };
         }
     }
-    let failed = false;
-    Reading { kept, failed }
+    let over = false;
+    Reading { held, over }
 }
 
-// All blocks, up to the end of the input.
-fn run_blocks(line: &mut [u8], out: &mut [u8], block: &mut [u8]) -> Reading
-    requires { ⌜ (longestLine < length (now line)) × (mostAnswer ≤ length (now out)) ⌝ }
-{
-    let mut kept: usize = 0;
+// A block is read and its lines are answered; at the end of the input, a last line.
+fn turn(
+    held: Held,
+    line: &mut [u8; formstream::LINE],
+    out: &mut [u8; ANSWERS],
+    block: &mut [u8; BLOCK],
+) -> Reading {
+    let read = stdio::read_block(b"formtable", block);
+    let n = read.length;
+    if 0 < n {
+        return run_block(held, line, out, block, n);
+    }
+    if !read.failed {
+        let written = formstream::finish(held, line, out);
+        write_answers(out, written);
+    }
+    let over = true;
+    Reading { held, over }
+}
+
+fn run(line: &mut [u8; formstream::LINE], out: &mut [u8; ANSWERS], block: &mut [u8; BLOCK]) {
+    let mut held = longlines::nothing();
     let mut turns = stdio::most_turns();
     while turns > 0 {
-        let read = read_block(block);
-        match read {
-            Block::Bytes(n) => {
-                let reading = run_block(kept, line, out, &block[..n]);
-                if reading.failed {
-                    return reading;
-                }
-                kept = reading.kept;
-            }
-            Block::End => {
-                let failed = false;
-                return Reading { kept, failed };
-            }
-            Block::Failed => {
-                let failed = true;
-                return Reading { kept, failed };
-            }
+        let reading = turn(held, line, out, block);
+        if reading.over {
+            return;
         }
+        held = reading.held;
         turns -= 1;
     }
-    let failed = false;
-    Reading { kept, failed }
-}
-
-fn run(line: &mut [u8], out: &mut [u8], block: &mut [u8])
-    requires { ⌜ (longestLine < length (now line)) × (mostAnswer ≤ length (now out)) ⌝ }
-{
-    let reading = run_blocks(line, out, block);
-    if reading.failed {
-        return;
-    }
-    let written = formstream::finish(reading.kept, line, out);
-    write_answers(&out[..written]);
 }
 
 fn main() {

@@ -1,7 +1,7 @@
 -- How long the parts of the text are at most, and how many cells the sets keep. Assumes nothing.
 --
 --   bits-most, first-most   16 cells for each set
---   number-most, field-most 5 digits, with a space 6
+--   number-most             5 digits
 --   cells-most              64
 use mathlib.Core.List.{List}
 use Prim.Native.Nat.{ℕ, _+_, _*_, _≤_, _<_}
@@ -12,7 +12,7 @@ use Rattle.base.proofs.Totals.{total-most}
 use Rattle.masks.specs.Masks.{has}
 use Rattle.text.specs.Numerals.{decimal}
 use Rattle.text.proofs.Digits.{decimal-most}
-use Rattle.ruletext.specs.RuleText.{field, cellText}
+use Rattle.ruletext.specs.RuleText.{cellText}
 use Rattle.ruletext.proofs.Lengths.{cell-most}
 use Rattle.forms.proofs.Picking.{many-le}
 use Rattle.formtext.specs.FormText.{bitsIn, firstCell, cellsText}
@@ -25,9 +25,6 @@ first-most kept t = total-most (λ u. bitsIn (getD kept u 0)) 16 t (λ u h. bits
 
 pub number-most : (n : ℕ) → n < 65536 → length (decimal n) ≤ 5
 number-most n h = decimal-most 4 n (omega arith)
-
-pub field-most : (n : ℕ) → n < 65536 → length (field n) ≤ 6
-field-most n h = omega (arith, number-most n h)
 
 pub cells-most : (cells : List ℕ) (first n : ℕ) → length (cellsText cells first n) ≤ n * 4
 cells-most cells first n = joined-length (λ i. cellText (getD cells (first + i) 0)) n 4 (λ i h. cell-most (getD cells (first + i) 0))

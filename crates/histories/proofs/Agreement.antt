@@ -41,9 +41,6 @@ pub record Agrees (present : Option Rule) (places : ℕ) (at : ℕ → Option (L
   pub revisions : (p : ℕ) → p < 64 → lastAt (j .board) p ≡ leastAfter (last p)
 
 -- ---- all places empty
-nothing : ℕ → Option (List ℕ)
-nothing p = none
-
 module _ (present : Option Rule) (n : ℕ) (j : Judge) (rule : BuiltBy present j) (is : j .board ≡ emptyBoard n) (few : n ≤ 64) (ruled : 0 < n → isNone present ≡ false) where
   pub all-empty : Agrees present n (λ p. none) (λ p. none) j
   unfolding emptyBoard

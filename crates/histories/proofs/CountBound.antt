@@ -29,7 +29,7 @@ use Rattle.board.specs.Boards.{placesOf, summedCount}
 use Rattle.calls.specs.Replies.{delivered}
 use Rattle.calls.specs.Calls.{Call, installs, loads, opens, delivers, withdraws, asksVerdict, installNumber, loadNumber, openConditions, deliverConditions}
 use Rattle.calls.specs.mirror.Steps.{runsAt}
-use Rattle.calls.proofs.Conditions.{orElse, first-append}
+use Rattle.base.proofs.Conditions.{orElse, first-append}
 use Rattle.histories.specs.History.{ruleThere, ruleFrom, ruleIn, openNumber, placesIn, runAt, countOf, lookedOf, withdrawCheck, notGreater, lastRevision, standing, countAt, deliverNumber, summedIn, replyBy}
 use Rattle.histories.specs.Claims.{judgeAfter}
 use Rattle.histories.specs.CountBound.{sumBut, sumInWith, formerNumber, sumWith, CountBound}
@@ -155,7 +155,7 @@ module _ (h : List Call) where
 -- ---- a last condition that fails wherever it is looked at
 idle : (cs : List Condition) (sum : ℕ) → (firstOf cs ≡ none → sum ≤ 134217728) → firstOf (cs ++ (on 24 (ltb 4294967295 sum) ∷ [])) ≡ firstOf cs
 idle cs sum small =
-    sym (first-append cs (on 24 (ltb 4294967295 sum) ∷ []))
+    first-append cs (on 24 (ltb 4294967295 sum) ∷ [])
     ∙ by-number (firstOf cs) (λ e. le-ltb 4294967295 sum (omega (arith, small e)))
   where
     by-number : (o : Option ℕ) → (o ≡ none → ltb 4294967295 sum ≡ false) → orElse o (cond (ltb 4294967295 sum) (some 24) none) ≡ o

@@ -1,10 +1,8 @@
--- The first key alone is numbered, which is what `expand` asks for; and what `expand` leaves is the
--- table. Assumes nothing.
+-- What `add` leaves, from one key, is the table. Assumes nothing.
 --
---   first-read, first-holds       the first key alone is numbered
 --   full-at, used                 the cells of the table, and of those that are in use
 --   known                         what a filled cell leads to has a number
---   table-whole, table-over       the ways out of `expand`
+--   table-left, table-by          what `add` leaves is the table
 --   one-whole                     with at most 512 keys that is the whole table
 use mathlib.Core.Path.{_≡_, refl, sym, ap, _∙_}
 use mathlib.Core.Logic.{⊎-elim}
@@ -15,37 +13,25 @@ use Prim.Native.Nat.{ℕ, suc, _+_, _*_, _/_, _%_, _≤_, _<_, min}
 use native.Mathlib.Nat.{eq-or-lt-of-le, le-of-suc-le-suc}
 use native.Mathlib.Omega.{arith}
 use lib.Dec.{ltb}
-use lib.ListN.{length, getD, take, set, length-append, List·getD-append}
+use lib.ListN.{length, getD, length-append, List·getD-append}
 use lib.Seq.{getD-append-seam}
 use borrow.Author.Tests.{lt-ltb, ltb-true, ltb-false}
 use Rattle.base.proofs.Lists.{length-listFrom, cell-of, is-listFrom}
 use Rattle.base.proofs.Options.{none-some}
 use Rattle.base.proofs.Tests.{by-test}
-use Rattle.numbering.specs.Numbering.{Walk, indexOf, keysUpTo}
+use Rattle.numbering.specs.Numbering.{Walk, indexOf, numbered, keysUpTo}
 use Rattle.numbering.specs.mirror.Begins.{Begins}
-use Rattle.numbering.specs.mirror.Arrays.{limited, keyCells, target, afterStep, Stepped, Cleared, ArraysHold}
+use Rattle.numbering.specs.mirror.Arrays.{limited, keyCells, target, afterStep, Stepped, ArraysHold, Expanded, grownBy, Added}
 use Rattle.numbering.proofs.Numbers.{Has, number-le, nowhere, stands, number-is, begins-self, begins-at, begins-length, begins-number, begins-trans, number-taken, numbered-kept, numbered-taken, numbered-begins, numbered-has}
-use Rattle.numbering.proofs.Arrays.{limited-whole, limited-over, over-of, cells-snoc, cells-full, read-back}
-use Rattle.numbering.proofs.OneSeed.{from-one}
+use Rattle.numbering.proofs.Arrays.{limited-whole, limited-over, whole-of, over-of, cells-full}
 use Rattle.numbering.proofs.Reached.{covered}
-use Rattle.numbering.proofs.Table.{holds-more, row-test}
-use Rattle.numbering.proofs.Turns.{begin}
+use Rattle.numbering.proofs.Table.{row-test}
 use Rattle.keys.specs.declared.Kind.{Kind}
 use Rattle.keys.specs.declared.KeyTable.{KeyTable}
+use Rattle.keys.specs.declared.Numbering.{Numbering}
 use Rattle.keys.specs.declared.Numbering.the-variants.{Whole, Over}
 use Rattle.keys.specs.Kinds.{walkBy}
 use Rattle.keys.specs.Tables.{countMeans, Table, tableAs, tableOutcome, keysBy, cellOf, cellsOf, cellsTo, tableFor, tableBy}
-use Rattle.keys.specs.mirror.Steps.{closedFrom}
-
-module _ (m : ℕ) (zeros next : List ℕ) (h : Cleared 0 zeros next) where
-  first-is : set zeros 0 m ≡ keyCells (m ∷ [])
-  first-is = ap (λ (x : List ℕ). set x 0 m) (h .keys-are) ∙ cells-snoc [] m (omega arith)
-
-  pub first-read : take 1 (set zeros 0 m) ≡ m ∷ []
-  first-read = read-back (m ∷ []) (set zeros 0 m) 1 (omega arith) refl first-is
-
-  pub first-holds : (a : Walk) → ArraysHold a 0 (take 1 (set zeros 0 m)) 0 (set zeros 0 m) next
-  first-holds a = rw first-read (holds-more a 0 (begin a 0 zeros next h) (m ∷ []) (set zeros 0 m) (record { rest = m ∷ []; is = refl }) first-is)
 
 -- a key without a number has none either where another key is numbered
 other-key : (l : List ℕ) (m : ℕ) → length l ≤ indexOf l m → length l < indexOf (l ++ (suc m ∷ [])) m
@@ -126,7 +112,7 @@ module _ (kind : Kind) (ts us : List ℕ) (k : ℕ) where
   one-whole m most =
       cells-whole (keysUpTo a (λ _. m) 1) most (λ c b row column. covered a (λ _. m) 1 most (c / 16) (c % 16) row column refl)
 
-  pub table-whole : (f keys next : List ℕ) (count : ℕ) → count ≤ 512 → length f ≡ count → ArraysHold a 0 f (count * 16) keys next
+  table-whole : (f keys next : List ℕ) (count : ℕ) → count ≤ 512 → length f ≡ count → ArraysHold a 0 f (count * 16) keys next
       → tableAs (Whole count) keys next ≡ tableFor a f
   table-whole f keys next count most n h =
       let cells : next ≡ cellsOf a f =
@@ -201,23 +187,29 @@ module _ (kind : Kind) (ts us : List ℕ) (k : ℕ) where
         ∙ rw (cut, least, full-at a f c b, lt-ltb (c / 16) (length f) row)
         (by-test (ltb c (i * 16 + s)) (λ t. rw t) (λ t. rw t)))
 
-    pub table-over : tableAs Over keys′ next′ ≡ tableFor a f
+    table-over : tableAs Over keys′ next′ ≡ tableFor a f
     table-over =
         let n : next′ ≡ cellsTo a f = st .next-are ∙ rw (lt-ltb 512 (length after) long) next-is in
         let c : none ≡ limited f = limited-over f (omega (arith, long, begins-length begins)) in
         let cells : keys′ ≡ keyCells f = st .keys-are ∙ sym (cells-full after f begins (omega (arith, long))) in
         rw (n, ← c, cells)
 
--- ---- the keys from one key, with x symbols and the list of the first key as the code has them
-pub table-by : (kind : Kind) (ts us : List ℕ) (k m x : ℕ) → x ≡ min k 16 → (one : List ℕ) → one ≡ m ∷ [] → (t : Table)
-    → t ≡ tableFor (walkBy kind ts us x) (closedFrom (walkBy kind ts us x) one) → t ≡ tableBy kind ts us k m
-unfolding tableBy
-table-by kind ts us k m x most one first t is =
-    let w : Walk = walkBy kind ts us (min k 16) in
-    is
-    ∙ ap (λ (y : ℕ). tableFor (walkBy kind ts us y) (closedFrom (walkBy kind ts us y) one)) most
-    ∙ ap (λ (l : List ℕ). tableFor w (closedFrom w l)) first
-    ∙ ap (tableFor w) (sym (from-one w m refl))
+  -- ---- the ways out
+  table-left : k ≤ 16 → (f : List ℕ) (r : Numbering) (keys next : List ℕ) → Expanded a 0 f (countMeans r) keys next → tableAs r keys next ≡ tableFor a f
+  table-left columns f (Whole c) keys next x =
+      let n = whole-of f c (x .grown .count) in
+      table-whole f keys next c (omega arith) (sym (n .1)) (rw (n .1) (x .grown .held (n .0)))
+  table-left columns f Over keys next x =
+      let t = x .stopped (over-of f (x .grown .count)) in
+      table-over (t .l) (t .keys₀) (t .next₀) (t .i) (t .s) (t .few) (t .row) (t .symbol) columns (t .held) (t .last) refl f (t .goes-on)
+
+-- ---- the keys from one key, with x symbols as the code has them
+pub table-by : (kind : Kind) (ts us : List ℕ) (k m x : ℕ) → x ≡ min k 16 → (r : Numbering) (keys next : List ℕ) → Added (walkBy kind ts us x) 0 [] m (countMeans r) keys next
+    → tableAs r keys next ≡ tableBy kind ts us k m
+unfolding tableBy keysUpTo numbered indexOf
+table-by kind ts us k m x most r keys next h =
+    table-left kind ts us x (omega (arith, most)) (grownBy (walkBy kind ts us x) 0 [] m) r keys next (record { grown = h .grown; stopped = h .stopped (omega arith) })
+    ∙ ap (λ (y : ℕ). tableFor (walkBy kind ts us y) (grownBy (walkBy kind ts us y) 0 [] m)) most
 
 -- ---- what an answer tells
 count-of : (b : Bool) (n : ℕ) (o : Option ℕ) → o ≡ cond b none (some n) → (c : ℕ) → o ≡ some c → (b ≡ false) × (c ≡ n)

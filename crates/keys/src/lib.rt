@@ -1,14 +1,18 @@
-// Keys numbered in the order in which the search from one key finds them, and the table of the
-// numbers that each leads to: one loop for three kinds of keys.
+// Keys numbered in the order in which a search finds them, and the table of the numbers that each
+// leads to: one loop for three kinds of keys.
 ghost use mathlib.Core.Path.{_≡_};
-ghost use Prim.Native.Nat.{_≤_, _<_};
-ghost use lib.ListN.{take};
+ghost use mathlib.Core.Bool.{false};
+ghost use Prim.Native.Nat.{ℕ, _+_, _*_, _%_, _^_, _≤_, _<_};
+ghost use lib.Dec.{eqb};
+ghost use lib.ListN.{getD, take};
+ghost use Rattle.base.specs.Conditions.{anyBelow};
 ghost use Rattle.limits.specs.Limits.{mostSymbols, mostSets};
 ghost use Rattle.automaton.specs.Successor.{successor as successorOf};
-ghost use Rattle.numbering.specs.mirror.Arrays.{foundIn, keyCells, Entered, Stepped, ArraysHold};
-ghost use Rattle.keys.specs.Kinds.{stepBy, nothing, walkBy};
-ghost use Rattle.keys.specs.Tables.{countMeans, heldBy, tableAs, tableOutcome, tableFor, tableBy, tableOf};
-ghost use Rattle.keys.specs.mirror.Steps.{foundMeans, turnMeans, closedFrom};
+ghost use Rattle.numbering.specs.mirror.Arrays.{foundIn, keyCells, Entered, Stepped, InRow, ArraysHold, Expanded, Added};
+ghost use Rattle.numbering.specs.Numbering.{closeFrom};
+ghost use Rattle.keys.specs.Kinds.{stepBy, nothing, skipsBy, freeBy, walkIn};
+ghost use Rattle.keys.specs.Tables.{countMeans, heldBy, tableOutcome, tableBy, tableOf};
+ghost use Rattle.keys.specs.mirror.Steps.{foundMeans, turnMeans};
 
 // What a key stands for: a set of states, as a mask; a mapping, as a number of 64 bits; a pair of
 // sets of states, the second in the upper 32 bits.
@@ -45,6 +49,16 @@ pub struct KeyTable {
     pub answer: Numbering,
     pub keys: [u64; limits::SETS],
     pub next: [u16; limits::CELLS],
+}
+
+// How many keys are compared at once.
+const BLOCK: usize = 32;
+
+// The lower half of a key.
+pub fn lower(key: u64) -> u32
+    ensures { λ r. ⌜ r ≡ key % 2 ^ 32 ⌝ }
+{
+    (key % 4294967296) as u32
 }
 
 // The set that a set leads to by the symbol.
@@ -85,13 +99,46 @@ fn step_key(
     }
 }
 
+// Whether a key of the block has this lower half. Without a way out of the loop they are compared
+// side by side, and halves in half the time.
+fn hits(keys: &[u64; limits::SETS], from: usize, half: u32) -> bool
+    requires { ⌜ from + 32 ≤ mostSets ⌝ }
+    ensures { λ r. ⌜ r ≡ anyBelow (λ j. eqb (getD (now (keys .entry)) (from + j) 0 % 2 ^ 32) half) 32 ⌝ }
+{
+    let mut found = false;
+    let mut j: usize = 0;
+    while j < BLOCK {
+        if lower(keys[from + j]) == half {
+            found = true;
+        }
+        j += 1;
+    }
+    found
+}
+
+// Whole blocks that a search among the first cells can pass, since the key is not in them.
+fn passed(keys: &[u64; limits::SETS], most: usize, key: u64) -> usize
+    requires { ⌜ most ≤ mostSets ⌝ }
+    ensures { λ r. ⌜ (r ≤ most) × ((j : ℕ) → j < r → getD (now (keys .entry)) j 0 ≡ key → ⊥) ⌝ }
+{
+    let half = lower(key);
+    let mut i: usize = 0;
+    while BLOCK <= most - i {
+        if hits(keys, i, half) {
+            return i;
+        }
+        i += BLOCK;
+    }
+    i
+}
+
 // The number of a key among the first count; a count above 512 is taken for 512.
-fn find(keys: &[u64; limits::SETS], count: usize, key: u64) -> Found
+pub fn find(keys: &[u64; limits::SETS], count: usize, key: u64) -> Found
     ensures { λ r. ⌜ foundMeans r ≡ foundIn (take count (now (keys .entry))) key ⌝ }
 {
-    let cells: &[u64] = keys;
     let most = base::at_most(count, limits::SETS);
-    let mut i: usize = 0;
+    let mut i = passed(keys, most, key);
+    let cells: &[u64] = keys;
     let found = loop {
         if i == most {
             return Found::Nothing;
@@ -122,22 +169,37 @@ fn number(keys: &mut [u64; limits::SETS], count: usize, key: u64) -> Turn
     }
 }
 
-// Key i is expanded by one symbol.
+// Whether the key is left out: the key 0, where that is asked for.
+fn left_out(omit: bool, key: u64) -> bool
+    ensures { λ r. ⌜ r ≡ skipsBy omit key ⌝ }
+{
+    if omit {
+        return key == 0;
+    }
+    false
+}
+
+// Key i is expanded by one symbol. The cell of a key that is left out stays as it is.
 fn step(
     targets: &[u32; limits::TARGETS],
     others: &[u32; limits::TARGETS],
     kind: Kind,
+    omit: bool,
     keys: &mut [u64; limits::SETS],
     next: &mut [u16; limits::CELLS],
     count: usize,
     i: KeyNumber,
     symbol: u8,
 ) -> Numbering
-    requires { ⌜ (count ≤ mostSets) × (now keys ≡ keyCells (take count (now keys))) × (i .0 < count) × (symbol < mostSymbols) ⌝ }
-    ensures { λ r. ⌜ Stepped (stepBy kind (now (targets .entry)) (now (others .entry))) nothing (take count (now (keys .entry))) (i .0) symbol (countMeans r) (now (keys .exit)) (now (next .entry)) (now (next .exit)) ⌝ }
+    requires { ⌜ (count ≤ mostSets) × (now keys ≡ keyCells (take count (now keys))) × (i .0 < count) ⌝ }
+    requires { ⌜ (skipsBy omit (stepBy kind (now targets) (now others) (getD (now keys) (i .0) 0) symbol) ≡ false → symbol < mostSymbols) ⌝ }
+    ensures { λ r. ⌜ Stepped (stepBy kind (now (targets .entry)) (now (others .entry))) (skipsBy omit) (take count (now (keys .entry))) (i .0) symbol (countMeans r) (now (keys .exit)) (now (next .entry)) (now (next .exit)) ⌝ }
 {
     let row = i.0 as usize;
     let key = step_key(targets, others, kind, keys[row], symbol);
+    if left_out(omit, key) {
+        return Numbering::Whole(count);
+    }
     match number(keys, count, key) {
         Turn::As(number, after) => {
             next[row * limits::SYMBOLS + symbol as usize] = number.0;
@@ -147,21 +209,25 @@ fn step(
     }
 }
 
-// The keys from number first on are expanded in number order, those that turn up on the way too.
+// The keys from number first on are expanded in number order, those that turn up on the way too;
+// the key 0 is left out where omit says so.
 fn expand(
     targets: &[u32; limits::TARGETS],
     others: &[u32; limits::TARGETS],
     kind: Kind,
+    omit: bool,
     k: u8,
     keys: &mut [u64; limits::SETS],
     next: &mut [u16; limits::CELLS],
+    first: KeyNumber,
     from: usize,
 ) -> Numbering
-    requires { ⌜ (k ≤ mostSymbols) × (from ≤ mostSets) × ArraysHold (walkBy kind (now targets) (now others) k) 0 (take from (now keys)) 0 (now keys) (now next) ⌝ }
-    ensures { λ r. ⌜ tableAs r (now (keys .exit)) (now (next .exit)) ≡ tableFor (walkBy kind (now (targets .entry)) (now (others .entry)) k) (closedFrom (walkBy kind (now (targets .entry)) (now (others .entry)) k) (take from (now (keys .entry)))) ⌝ }
+    requires { ⌜ (from ≤ mostSets) × (first .0 ≤ from) × ArraysHold (walkIn kind omit (now targets) (now others) k) (freeBy omit) (take from (now keys)) (first .0 * mostSymbols) (now keys) (now next) ⌝ }
+    requires { ⌜ InRow (walkIn kind omit (now targets) (now others) k) ⌝ }
+    ensures { λ r. ⌜ Expanded (walkIn kind omit (now (targets .entry)) (now (others .entry)) k) (freeBy omit) (closeFrom (walkIn kind omit (now (targets .entry)) (now (others .entry)) k) mostSets (first .0) (take from (now (keys .entry)))) (countMeans r) (now (keys .exit)) (now (next .exit)) ⌝ }
 {
     let mut count = from;
-    let mut i: usize = 0;
+    let mut i = first.0 as usize;
     let answer = 'expand: loop {
         if i == count {
             break 'expand Numbering::Whole(count);
@@ -171,6 +237,7 @@ fn expand(
                 targets,
                 others,
                 kind,
+                omit,
                 keys,
                 next,
                 count,
@@ -190,6 +257,39 @@ fn expand(
     answer
 }
 
+// A key that is not left out is numbered, and the keys that are not yet expanded, which are those
+// from number count on, are.
+pub fn add(
+    targets: &[u32; limits::TARGETS],
+    others: &[u32; limits::TARGETS],
+    kind: Kind,
+    omit: bool,
+    k: u8,
+    keys: &mut [u64; limits::SETS],
+    next: &mut [u16; limits::CELLS],
+    count: usize,
+    key: u64,
+) -> Numbering
+    requires { ⌜ (count ≤ mostSets) × (skipsBy omit key ≡ false) × ArraysHold (walkIn kind omit (now targets) (now others) k) (freeBy omit) (take count (now keys)) (count * mostSymbols) (now keys) (now next) ⌝ }
+    requires { ⌜ InRow (walkIn kind omit (now targets) (now others) k) ⌝ }
+    ensures { λ r. ⌜ Added (walkIn kind omit (now (targets .entry)) (now (others .entry)) k) (freeBy omit) (take count (now (keys .entry))) key (countMeans r) (now (keys .exit)) (now (next .exit)) ⌝ }
+{
+    match number(keys, count, key) {
+        Turn::As(_, after) => expand(
+            targets,
+            others,
+            kind,
+            omit,
+            k,
+            keys,
+            next,
+            KeyNumber(count as u16),
+            after,
+        ),
+        Turn::Full => Numbering::Over,
+    }
+}
+
 // The keys that texts of symbols below k lead to from the key start, in the order in which they are
 // found, and the table of what each leads to; a value of k above 16 is taken for 16. The second set
 // of a pair goes by the table others.
@@ -204,9 +304,18 @@ pub fn number_by(
 {
     let mut keys = [0u64; limits::SETS];
     let mut next = [0u16; limits::CELLS];
-    keys[0] = start;
     let symbols = base::at_most_u8(k, limits::MOST_SYMBOLS);
-    let answer = expand(targets, others, kind, symbols, &mut keys, &mut next, 1);
+    let answer = add(
+        targets,
+        others,
+        kind,
+        false,
+        symbols,
+        &mut keys,
+        &mut next,
+        0,
+        start,
+    );
     KeyTable { answer, keys, next }
 }
 

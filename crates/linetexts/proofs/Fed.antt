@@ -11,23 +11,23 @@ use Rattle.linetexts.specs.Feeding.{LineMachine, State, gatherParts, gat
 use Rattle.linetexts.specs.Claims.{Rounds, over, round, Blocks, no-block, one-more}
 use Rattle.linetexts.proofs.Rounds.{forward}
 
-module _ {J : Type 0} (m : LineMachine J) where
-  pub gathered : (room at : ℕ) (block : List ℕ) (s s′ t : State J) (next written : ℕ) (before now : List ℕ) (texts : List (List ℕ))
+module _ {K J : Type 0} (m : LineMachine K J) where
+  pub gathered : (room at : ℕ) (block : List ℕ) (s s′ t : State K J) (next written : ℕ) (before now : List ℕ) (texts : List (List ℕ))
       → Gathers (gatherAt m block at room s) at t next written before now
-      → Rounds m room t (drop next block) s′ texts
-      → Rounds m room s (drop at block) s′ (take written now ∷ texts)
+      → Rounds m t (drop next block) s′ texts
+      → Rounds m s (drop at block) s′ (take written now ∷ texts)
   gathered room at block s s′ t next written before now texts came rest =
       let g = gatherAt m block at room s in
       let left : drop next block ≡ drop (g .taken) (drop at block) =
       ap (λ (n : ℕ). drop n block) (came .place) ∙ sym (drop-drop (g .taken) at block) in
-      let here : Rounds m room (g .state) (drop next block) s′ texts =
-      subst (λ (x : State J). Rounds m room x (drop next block) s′ texts) (came .state) rest in
-      let from : Rounds m room (g .state) (drop (g .taken) (drop at block)) s′ texts =
-      subst (λ (v : List ℕ). Rounds m room (g .state) v s′ texts) left here in
-      subst (λ (v : List ℕ). Rounds m room s (drop at block) s′ (v ∷ texts)) (sym (taken (came .response))) (round from)
+      let here : Rounds m (g .state) (drop next block) s′ texts =
+      subst (λ (x : State K J). Rounds m x (drop next block) s′ texts) (came .state) rest in
+      let from : Rounds m (g .state) (drop (g .taken) (drop at block)) s′ texts =
+      subst (λ (v : List ℕ). Rounds m (g .state) v s′ texts) left here in
+      subst (λ (v : List ℕ). Rounds m s (drop at block) s′ (v ∷ texts)) (sym (taken (came .response))) (round room from)
 
   -- by a number that the length of the block is at most
-  rounds-by : (n room : ℕ) → (m .most) ≤ room → (block : List ℕ) (s : State J) → length block ≤ n → (s′ : State J) × (texts : List (List ℕ)) × Rounds m room s block s′ texts
+  rounds-by : (n room : ℕ) → (m .most) ≤ room → (block : List ℕ) (s : State K J) → length block ≤ n → (s′ : State K J) × (texts : List (List ℕ)) × Rounds m s block s′ texts
   rounds-by zero room enough [] s l = (s, [], over)
   rounds-by zero room enough (x ∷ block) s l = absurd (omega arith)
   rounds-by (suc n) room enough [] s l = (s, [], over)
@@ -35,9 +35,9 @@ module _ {J : Type 0} (m : LineMachine J) where
       let g = gatherParts m room s (partsOf (x ∷ block)) in
       let some = forward m room s (x ∷ block) enough (omega arith) in
       let rest = rounds-by n room enough (drop (g .taken) (x ∷ block)) (g .state) (omega (arith, some, length-drop (g .taken) (x ∷ block))) in
-      (rest .0, g .text ∷ rest .1, round (rest .2))
+      (rest .0, g .text ∷ rest .1, round room (rest .2))
 
-  pub fed : (room : ℕ) → (m .most) ≤ room → (blocks : List (List ℕ)) (s : State J) → (s′ : State J) × (text : List ℕ) × Blocks m room s blocks s′ text
+  pub fed : (room : ℕ) → (m .most) ≤ room → (blocks : List (List ℕ)) (s : State K J) → (s′ : State K J) × (text : List ℕ) × Blocks m s blocks s′ text
   fed room enough [] s = (s, [], no-block)
   fed room enough (block ∷ blocks) s =
       let here = rounds-by (length block) room enough block s (omega arith) in

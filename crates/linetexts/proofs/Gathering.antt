@@ -5,6 +5,7 @@
 --   at-on, at-over             the same, from an index of the block on
 --   SoFar                      what holds after some parts
 --   begun, gone-on, ended      at the start, after one part more, and at the end
+--   put-within                 an answer that was written behind the others is within the buffer
 --   placed                     an answer that was written into the rest of a buffer
 use mathlib.Core.Path.{_≡_, refl, sym, ap, ap₂, _∙_, subst}
 use mathlib.Core.Bool.{Bool, cond}
@@ -15,16 +16,16 @@ use native.Mathlib.Omega.{arith}
 use borrow.Author.Tests.{lt-ltb, le-ltb}
 use borrow.Rule.Slice.PartMut.{midOf, putMid, same-len-mid, mid-len}
 use lib.ListN.{length, take, drop, length-append, length-drop, drop-of-length-le}
-use lib.Seq.{take-all, drop-drop}
+use lib.Seq.{take-all, drop-drop, length-take-le}
 use Rattle.text.specs.Writing.{Wrote}
 use Rattle.text.proofs.Pieces.{wrote-none, wrote-more}
 use Rattle.linetexts.specs.Parts.{Part, partsOf, firstOf, partAt, partSize}
 use Rattle.linetexts.specs.Feeding.{LineMachine, State, Step, feedPart, Gathering, stop, onward, gatherParts, gatherAt, Gathers}
 use Rattle.linetexts.proofs.Parts.{first-part}
 
-module _ {J : Type 0} (m : LineMachine J) where
+module _ {K J : Type 0} (m : LineMachine K J) where
   -- ---- the first part, and the others
-  pub gather-on : (room : ℕ) (s : State J) (block : List ℕ) → 0 < length block → (m .most) ≤ room
+  pub gather-on : (room : ℕ) (s : State K J) (block : List ℕ) → 0 < length block → (m .most) ≤ room
       → gatherParts m room s (partsOf block)
       ≡ onward (feedPart m s (firstOf (partsOf block))) (partSize (firstOf (partsOf block)))
       (gatherParts m (room - length (feedPart m s (firstOf (partsOf block)) .text)) (feedPart m s (firstOf (partsOf block)) .state) (partsOf (drop (partSize (firstOf (partsOf block))) block)))
@@ -35,17 +36,17 @@ module _ {J : Type 0} (m : LineMachine J) where
       ap (gatherParts m room s) (first-part block some .rest)
       ∙ ap (λ (b : Bool). cond b (stop s) (onward t (partSize p) (gatherParts m (room - length (t .text)) (t .state) (partsOf (drop (partSize p) block))))) (le-ltb room (m .most) enough)
 
-  pub gather-short : (room : ℕ) (s : State J) (ps : List Part) → room < (m .most) → gatherParts m room s ps ≡ stop s
+  pub gather-short : (room : ℕ) (s : State K J) (ps : List Part) → room < (m .most) → gatherParts m room s ps ≡ stop s
   unfolding gatherParts
   gather-short room s [] short = refl
   gather-short room s (p ∷ ps) short = rw (lt-ltb room (m .most) short)
 
-  pub gather-over : (room : ℕ) (s : State J) → gatherParts m room s (partsOf []) ≡ stop s
+  pub gather-over : (room : ℕ) (s : State K J) → gatherParts m room s (partsOf []) ≡ stop s
   unfolding gatherParts partsOf
   gather-over room s = refl
 
   -- ---- from an index on
-  module _ (block : List ℕ) (at room : ℕ) (s : State J) where
+  module _ (block : List ℕ) (at room : ℕ) (s : State K J) where
     pub at-on : at < length block → (m .most) ≤ room
         → gatherAt m block at room s
         ≡ onward (feedPart m s (partAt block at)) (partSize (partAt block at))
@@ -60,10 +61,10 @@ module _ {J : Type 0} (m : LineMachine J) where
     at-over l = ap (λ (v : List ℕ). gatherParts m room s (partsOf v)) (drop-of-length-le block l) ∙ gather-over room s
 
   -- ---- what holds after some parts: `gone` bytes of the block were taken, and `said` was answered
-  abbrev said-of : State J → List ℕ → Step J
+  abbrev said-of : State K J → List ℕ → Step K J
   said-of s said = record { state = s; text = said }
 
-  pub record SoFar (block : List ℕ) (from : ℕ) (s₀ : State J) (out₀ : List ℕ) (at : ℕ) (s : State J) (out : List ℕ) (used : ℕ) : Type 0 where
+  pub record SoFar (block : List ℕ) (from : ℕ) (s₀ : State K J) (out₀ : List ℕ) (at : ℕ) (s : State K J) (out : List ℕ) (used : ℕ) : Type 0 where
     pub said : List ℕ
     pub gone : ℕ
     pub size : length out ≡ length out₀
@@ -72,7 +73,7 @@ module _ {J : Type 0} (m : LineMachine J) where
     pub at-is : at ≡ from + gone
     pub rest : gatherAt m block from (length out₀) s₀ ≡ onward (said-of s said) gone (gatherAt m block at (length out - used) s)
 
-  pub begun : (block : List ℕ) (from : ℕ) (s : State J) (out : List ℕ) → SoFar block from s out from s out 0
+  pub begun : (block : List ℕ) (from : ℕ) (s : State K J) (out : List ℕ) → SoFar block from s out from s out 0
   begun block from s out =
       let whole : length out ≡ length out - 0 = omega arith in
       let g = gatherAt m block from (length out) s in
@@ -91,15 +92,15 @@ module _ {J : Type 0} (m : LineMachine J) where
       zero-add : (n : ℕ) → n ≡ 0 + n
       zero-add n = omega arith
 
-  onward-twice : (s : State J) (said : List ℕ) (m : ℕ) (t : Step J) (n : ℕ) (g : Gathering J) (s′ : State J)
+  onward-twice : (s : State K J) (said : List ℕ) (m : ℕ) (t : Step K J) (n : ℕ) (g : Gathering K J) (s′ : State K J)
       → onward (said-of s said) m (onward t n g) ≡ onward (said-of s′ (said ++ t .text)) (m + n) g
   onward-twice s said m t n g s′ =
       let sum : m + (n + g .taken) ≡ m + n + g .taken = omega arith in
       ap₂ (λ (x : List ℕ) (k : ℕ). record { state = g .state; text = x; taken = k }) (sym (append-assoc said (t .text) (g .text))) sum
 
-  module _ (block : List ℕ) (from : ℕ) (s₀ : State J) (out₀ : List ℕ) (at : ℕ) (s : State J) (out : List ℕ) (used : ℕ) (so : SoFar block from s₀ out₀ at s out used) where
+  module _ (block : List ℕ) (from : ℕ) (s₀ : State K J) (out₀ : List ℕ) (at : ℕ) (s : State K J) (out : List ℕ) (used : ℕ) (so : SoFar block from s₀ out₀ at s out used) where
     pub gone-on : at < length block → (m .most) ≤ length out - used
-        → (t : Step J) → feedPart m s (partAt block at) ≡ t → (next : ℕ) → next ≡ at + partSize (partAt block at)
+        → (t : Step K J) → feedPart m s (partAt block at) ≡ t → (next : ℕ) → next ≡ at + partSize (partAt block at)
         → (after : List ℕ) (end : ℕ) → Wrote out used (t .text) after end → length after ≡ length out → end ≤ length out
         → SoFar block from s₀ out₀ next (t .state) after end
     gone-on here enough t came next next-is after end wrote kept fits =
@@ -115,7 +116,7 @@ module _ {J : Type 0} (m : LineMachine J) where
           rest =
               so .rest
               ∙ ap (onward (said-of s (so .said)) (so .gone)) (at-on block at (length out - used) s here enough)
-              ∙ ap (λ (u : Step J). onward (said-of s (so .said)) (so .gone) (onward u (partSize p) (gatherAt m block (at + partSize p) (length out - used - length (u .text)) (u .state)))) came
+              ∙ ap (λ (u : Step K J). onward (said-of s (so .said)) (so .gone) (onward u (partSize p) (gatherAt m block (at + partSize p) (length out - used - length (u .text)) (u .state)))) came
               ∙ ap₂ (λ (n r : ℕ). onward (said-of s (so .said)) (so .gone) (onward t (partSize p) (gatherAt m block n r (t .state)))) (sym next-is) room
               ∙ onward-twice s (so .said) (so .gone) t (partSize p) (gatherAt m block next (length after - end) (t .state)) (t .state);
         }
@@ -127,10 +128,14 @@ module _ {J : Type 0} (m : LineMachine J) where
         let g : gatherAt m block from (length out₀) s₀ ≡ record { state = s; text = so .said ++ []; taken = so .gone + 0 } =
         so .rest ∙ ap (onward (said-of s (so .said)) (so .gone)) over in
         record {
-          state = sym (ap (λ (x : Gathering J). x .state) g);
-          response = subst (λ (t : List ℕ). Wrote out₀ 0 t out used) (sym (ap (λ (x : Gathering J). x .text) g ∙ append-nil (so .said))) (so .wrote);
-          place = omega (arith, so .at-is, ap (λ (x : Gathering J). x .taken) g);
+          state = sym (ap (λ (x : Gathering K J). x .state) g);
+          response = subst (λ (t : List ℕ). Wrote out₀ 0 t out used) (sym (ap (λ (x : Gathering K J). x .text) g ∙ append-nil (so .said))) (so .wrote);
+          place = omega (arith, so .at-is, ap (λ (x : Gathering K J). x .taken) g);
         }
+
+pub put-within : (out t after : List ℕ) (used end : ℕ) → used ≤ length out → Wrote out used t after end → length after ≡ length out → end ≤ length out
+put-within out t after used end within wrote size =
+    omega (arith, wrote .ends, ap length (wrote .is), length-append (take used out) (t ++ drop (used + length t) out), length-append t (drop (used + length t) out), length-take-le used out within)
 
 -- ---- an answer was written into what is left of the buffer, `last` is what that holds then
 module _ (out last t : List ℕ) (used n : ℕ) (within : used ≤ length out) (kept : length last ≡ length (midOf used (length out - used) out))

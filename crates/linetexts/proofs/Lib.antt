@@ -1,4 +1,5 @@
 -- In the order in which they build on each other.
+pub mod Beginnings
 pub mod Lists
 pub mod Parts
 pub mod Taking
@@ -9,4 +10,5 @@ pub mod Fed
 pub mod Whole
 pub mod Ends
 pub mod Functions
+pub mod Alone
 pub mod Claimed

@@ -24,9 +24,10 @@ use Rattle.longlines.specs.declared.Seen.{Seen}
 use Rattle.longlines.specs.Holding.{seenOf, heldMeaning}
 use Rattle.longlines.specs.Claims.{TellsWithin}
 use Rattle.longlines.proofs.Standing.{by-bytes, by-stray}
-use Rattle.linetexts.specs.Feeding.{Outcome, heldStep}
-use Rattle.linetexts.specs.Lists.{Listed, ListMachine, isLine, listOf, skip, listLines, skipsHeld, listText, NoneEmpty, no-line, one-more, skippedLines, Ends}
-use Rattle.linetexts.specs.Claims.{Told, linesStep, after}
+use Rattle.linetexts.specs.Feeding.{Outcome}
+use Rattle.linetexts.specs.Beginnings.{heldStep, Told}
+use Rattle.linetexts.specs.Lists.{Listed, ListMachine, isLine, listOf, skip, listTeller, listLines, skipsHeld, listText, NoneEmpty, no-line, one-more, skippedLines, Ends}
+use Rattle.linetexts.specs.Claims.{linesStep}
 
 -- ---- lines of any length
 long-line : (v t : List ℕ) → 1 ≤ length v → isLine (v ++ t) ≡ true
@@ -35,7 +36,7 @@ long-line (x ∷ v) t h = refl
 
 module _ {J : Type 0} (m : ListMachine J) (some-room : 1 ≤ m .room) where
   told-by : (j : J) (ended : Bool) → TellsWithin (m .room) (m .step j) (m .stray j)
-      → TellsWithin (m .room) (listLines m .step (listOf j ended)) (listLines m .stray (listOf j ended))
+      → TellsWithin (m .room) (listTeller m .step (listOf j ended)) (listTeller m .stray (listOf j ended))
   told-by j true t = record {
     stray = λ v w long stray. ap (λ (b : Bool). cond b (skip (listOf j true)) (m .step j (v ++ w))) (long-line v w (omega arith));
     hex = λ v w long hex even.
@@ -44,7 +45,7 @@ module _ {J : Type 0} (m : ListMachine J) (some-room : 1 ≤ m .room) where
   }
   told-by j false t = record { stray = t .stray; hex = t .hex }
 
-  pub told-lists : ((j : J) → TellsWithin (m .room) (m .step j) (m .stray j)) → Told (listLines m)
+  pub told-lists : ((j : J) → TellsWithin (m .room) (m .step j) (m .stray j)) → Told (listTeller m)
   told-lists told s = told-by (s .machine) (s .ended) (told (s .machine))
 
 -- ---- which lines are skipped

@@ -7,16 +7,11 @@
 --   written-is      all that is written, round by round
 use mathlib.Core.Path.{_≡_, refl, sym, ap, ap₂, _∙_}
 use mathlib.Core.List.{List, [], _∷_, _++_, append-assoc, append-nil, flatten}
-use Prim.Native.Nat.{ℕ, _+_, _≤_}
-use native.Mathlib.Omega.{arith}
-use borrow.Author.Tests.{eq-eqb, ne-eqb}
-use lib.ListN.{length}
+use Prim.Native.Nat.{ℕ}
 use Rattle.lines.specs.Splitting.{linesFrom}
-use Rattle.longlines.specs.Holding.{lineBegin}
-use Rattle.longlines.proofs.Claimed as longlines
 use Rattle.linetexts.specs.Parts.{Part, ends, goesOn, partsOf, partsIn, linesEnded, lineBegun}
-use Rattle.linetexts.specs.Feeding.{Outcome, LineMachine, State, Step, stateOf, goOn, heldStep, answerHeld, finishOf, feedParts, partsText}
-use Rattle.linetexts.specs.Claims.{after, Told, linesStep, KeepsLine, Feeds, streamOf, Blocks}
+use Rattle.linetexts.specs.Feeding.{Outcome, LineMachine, State, Step, keeping, goOn, answerKept, finishOf, feedParts, partsText}
+use Rattle.linetexts.specs.Claims.{after, linesStep, KeepsLines, Feeds, streamOf, Blocks}
 use Rattle.linetexts.proofs.Parts.{lines-split}
 use Rattle.linetexts.proofs.Rounds.{blocks-are}
 
@@ -48,11 +43,11 @@ blocks-split (block ∷ blocks) w =
 abbrev then : {J : Type 0} → Outcome J → Outcome J → Outcome J
 then a b = record { text = a .text ++ b .text; state = b .state }
 
-abbrev came : {J : Type 0} → Step J → Outcome J
+abbrev came : {K J : Type 0} → Step K J → Outcome J
 came t = record { text = t .text; state = t .state .machine }
 
 -- ---- lines and then others
-module _ {J : Type 0} (m : LineMachine J) where
+module _ {K J : Type 0} (m : LineMachine K J) where
   step-append : (ls ks : List (List ℕ)) (j : J) → linesStep m j (ls ++ ks) ≡ then (linesStep m j ls) (linesStep m (linesStep m j ls .state) ks)
   unfolding linesStep
   step-append [] ks j = refl
@@ -62,68 +57,57 @@ module _ {J : Type 0} (m : LineMachine J) where
       ∙ ap (λ (t : List ℕ). record { text = t; state = linesStep m (linesStep m (o .state) ls .state) ks .state })
       (sym (append-assoc (o .text) (linesStep m (o .state) ls .text) (linesStep m (linesStep m (o .state) ls .state) ks .text)))
 
-  module _ (told : Told m) where
-    -- ---- the line w that is held is run, and the lines ls after it
-    module _ (s : State J) (w : List ℕ) (holds : KeepsLine m s w) where
-      same-step : heldStep m (s .machine) (s .line) (s .held) ≡ m .step (s .machine) w
-      same-step =
-          longlines.claims .means (m .room) (m .step (s .machine)) (m .stray (s .machine)) (told (s .machine)) (s .line) (s .held) w (holds .large) (holds .keeps)
+  module _ {Keeps : K → List ℕ → Type 0} (keeps : KeepsLines m Keeps) where
+    -- ---- the line w that is kept is run, and the lines ls after it
+    module _ (s : State K J) (w : List ℕ) (holds : Keeps (s .kept) w) where
+      line-then : (ls : List (List ℕ)) → then (came (answerKept m s)) (linesStep m (answerKept m s .state .machine) ls) ≡ linesStep m (s .machine) (w ∷ ls)
+      unfolding linesStep answerKept
+      line-then ls = ap (λ (x : Outcome J). after (x .text) (linesStep m (x .state) ls)) (keeps .means holds (s .machine))
 
-      line-then : (ls : List (List ℕ)) → then (came (answerHeld m s)) (linesStep m (answerHeld m s .state .machine) ls) ≡ linesStep m (s .machine) (w ∷ ls)
-      unfolding linesStep answerHeld
-      line-then ls = ap (λ (x : Outcome J). after (x .text) (linesStep m (x .state) ls)) same-step
-
-      next-holds : KeepsLine m (answerHeld m s .state) []
-      unfolding answerHeld
-      next-holds = record { large = holds .large; keeps = longlines.claims .begins (s .line) }
-
-      on-holds : (p : List ℕ) → KeepsLine m (goOn s p) (w ++ p)
-      on-holds p = record {
-        large = omega (arith, holds .large, longlines.claims .same-size (s .line) (s .held) p);
-        keeps = longlines.claims .goes-on (s .line) (s .held) w p (holds .keeps);
-      }
+      next-holds : Keeps (answerKept m s .state .kept) []
+      unfolding answerKept
+      next-holds = keeps .begins holds
 
     -- ---- the parts of a block
-    pub feeds : (ps : List Part) (s : State J) (w : List ℕ) → KeepsLine m s w → Feeds m s w ps
+    pub feeds : (ps : List Part) (s : State K J) (w : List ℕ) → Keeps (s .kept) w → Feeds m Keeps s w ps
     unfolding linesStep feedParts partsText linesEnded lineBegun
-    feeds [] s w holds = record { ran = refl; holds = holds }
+    feeds [] s w holds = record { ran = refl; keeps = holds }
     feeds (ends p ∷ ps) s w holds =
-        let on = on-holds s w holds p in
-        let r = feeds ps (answerHeld m (goOn s p) .state) [] (next-holds (goOn s p) (w ++ p) on) in
+        let on = keeps .goes-on holds p in
+        let r = feeds ps (answerKept m (goOn m s p) .state) [] (next-holds (goOn m s p) (w ++ p) on) in
         record {
-          ran = ap (then (came (answerHeld m (goOn s p)))) (r .ran) ∙ line-then (goOn s p) (w ++ p) on (linesEnded [] ps);
-          holds = r .holds;
+          ran = ap (then (came (answerKept m (goOn m s p)))) (r .ran) ∙ line-then (goOn m s p) (w ++ p) on (linesEnded [] ps);
+          keeps = r .keeps;
         }
     feeds (goesOn p ∷ ps) s w holds =
-        let r = feeds ps (goOn s p) (w ++ p) (on-holds s w holds p) in record { ran = r .ran; holds = r .holds }
+        let r = feeds ps (goOn m s p) (w ++ p) (keeps .goes-on holds p) in record { ran = r .ran; keeps = r .keeps }
 
     -- ---- the end of the text
-    pub finishes : (s : State J) (w : List ℕ) → KeepsLine m s w → came (finishOf m s) ≡ linesStep m (s .machine) (linesFrom w [])
+    pub finishes : (s : State K J) (w : List ℕ) → Keeps (s .kept) w → came (finishOf m s) ≡ linesStep m (s .machine) (linesFrom w [])
     unfolding linesStep linesFrom
-    finishes s [] holds = rw (eq-eqb (s .held .length) 0 (omega (arith, holds .keeps .size)))
+    finishes s [] holds = rw (keeps .nothing holds)
     finishes s (x ∷ w) holds =
-        rw (ne-eqb (s .held .length) 0 (λ e. omega (arith, holds .keeps .size, holds .large)))
-        (ap (λ (t : List ℕ). record { text = t; state = answerHeld m s .state .machine }) (sym (append-nil (answerHeld m s .text)))
+        rw (keeps .something holds)
+        (ap (λ (t : List ℕ). record { text = t; state = answerKept m s .state .machine }) (sym (append-nil (answerKept m s .text)))
         ∙ line-then s (x ∷ w) holds [])
 
     -- ---- the whole text
-    whole-by : (blocks : List (List ℕ)) (s : State J) (w : List ℕ) → KeepsLine m s w → streamOf m s blocks ≡ linesStep m (s .machine) (linesFrom w (flatten blocks))
+    whole-by : (blocks : List (List ℕ)) (s : State K J) (w : List ℕ) → Keeps (s .kept) w → streamOf m s blocks ≡ linesStep m (s .machine) (linesFrom w (flatten blocks))
     whole-by blocks s w holds =
         let ps = partsIn blocks in
         let f = feeds ps s w holds in
-        let end = finishes (feedParts m s ps) (lineBegun w ps) (f .holds) in
+        let end = finishes (feedParts m s ps) (lineBegun w ps) (f .keeps) in
         ap (then (record { text = partsText m s ps; state = feedParts m s ps .machine })) end
         ∙ ap (λ (t : Outcome J). then t (linesStep m (t .state) (linesFrom (lineBegun w ps) []))) (f .ran)
         ∙ sym (ap (linesStep m (s .machine)) (blocks-split blocks w) ∙ step-append (linesEnded w ps) (linesFrom (lineBegun w ps) []) (s .machine))
 
-    pub whole : (blocks : List (List ℕ)) (j : J) (line : List ℕ) → m .room + 1 ≤ length line
-        → streamOf m (stateOf j lineBegin line) blocks ≡ linesStep m j (linesFrom [] (flatten blocks))
-    whole blocks j line large = whole-by blocks (stateOf j lineBegin line) [] (record { large = large; keeps = longlines.claims .begins line })
+    pub whole : (blocks : List (List ℕ)) (j : J) (k : K) → Keeps k [] → streamOf m (keeping j k) blocks ≡ linesStep m j (linesFrom [] (flatten blocks))
+    whole blocks j k begun = whole-by blocks (keeping j k) [] begun
 
     -- ---- all that is written
-    pub written-is : {room : ℕ} {s′ : State J} {blocks : List (List ℕ)} {j : J} {line text : List ℕ} → m .room + 1 ≤ length line
-        → Blocks m room (stateOf j lineBegin line) blocks s′ text → text ++ finishOf m s′ .text ≡ linesStep m j (linesFrom [] (flatten blocks)) .text
-    written-is {room} {s′} {blocks} {j} {line} {text} large b =
+    pub written-is : {s′ : State K J} {blocks : List (List ℕ)} {j : J} {k : K} {text : List ℕ} → Keeps k []
+        → Blocks m (keeping j k) blocks s′ text → text ++ finishOf m s′ .text ≡ linesStep m j (linesFrom [] (flatten blocks)) .text
+    written-is {s′} {blocks} {j} {k} {text} begun b =
         let are = blocks-are m b in
-        ap₂ (λ (t : List ℕ) (s : State J). t ++ finishOf m s .text) (are .0) (are .1)
-        ∙ ap (λ (o : Outcome J). o .text) (whole blocks j line large)
+        ap₂ (λ (t : List ℕ) (s : State K J). t ++ finishOf m s .text) (are .0) (are .1)
+        ∙ ap (λ (o : Outcome J). o .text) (whole blocks j k begun)

@@ -9,7 +9,8 @@
 --                      an answer
 --   isLine w           the line w is not empty
 --   skip s             the outcome of a line that is skipped
---   listLines m        the machine that answers lists of lines
+--   listTeller m       the machine that answers lists of lines, by what it tells lines apart
+--   listLines m        the same, as it keeps a line
 --   skipsHeld ended line held   the line that is held is skipped
 --   textState j p line   what is left between the blocks of a text, from what the code keeps of it
 --   listText           the right answers to the lines of a text: `begin` is what is known where a list
@@ -27,7 +28,8 @@ use Rattle.answers.specs.Answers.{skippedText}
 use Rattle.longlines.specs.declared.Held.{Held}
 use Rattle.longlines.specs.Holding.{heldMeaning}
 use Rattle.linetexts.specs.declared.Pending.{Pending}
-use Rattle.linetexts.specs.Feeding.{Outcome, LineMachine, State, stateOf}
+use Rattle.linetexts.specs.Feeding.{Outcome, LineMachine, State}
+use Rattle.linetexts.specs.Beginnings.{Beginning, stateOf, Teller, byBeginning}
 
 pub record Listed (J : Type 0) : Type 0 where
   pub machine : J
@@ -50,15 +52,18 @@ module _ {J : Type 0} where
   abbrev pub skip : Listed J → Outcome (Listed J)
   skip s = record { text = skippedText; state = s }
 
-  abbrev pub listLines : ListMachine J → LineMachine (Listed J)
-  listLines m = record {
+  abbrev pub listTeller : ListMachine J → Teller (Listed J)
+  listTeller m = record {
     step = λ s w. cond (s .ended && isLine w) (skip s) (m .step (s .machine) w);
     stray = λ s. cond (s .ended) (skip s) (m .stray (s .machine));
     room = m .room;
     most = m .most;
   }
 
-  abbrev pub textState : J → Pending → List ℕ → State (Listed J)
+  abbrev pub listLines : ListMachine J → LineMachine Beginning (Listed J)
+  listLines m = byBeginning (listTeller m)
+
+  abbrev pub textState : J → Pending → List ℕ → State Beginning (Listed J)
   textState j p line = stateOf (listOf j (p .ended)) (p .held) line
 
 abbrev pub skipsHeld : Bool → List ℕ → Held → Bool

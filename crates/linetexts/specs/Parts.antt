@@ -14,16 +14,19 @@
 --   lineBegun w ps     the beginning of the line that goes on behind them
 --   FirstPart block p  p is the first part of the block: it takes some of it, no more than there
 --                      is, and the others are the parts of the rest
+--   PlaceOf block at r  r says where the part at an index is: its bytes, whether it ends the line, and
+--                      where the next part begins
 --   TookPart           what the code's result and the line's buffer tell: the line that was held is
 --                      held with the part behind it, and where the next part begins
 use mathlib.Core.Path.{_≡_}
 use mathlib.Core.Bool.{Bool, true, false, cond}
 use mathlib.Core.List.{List, [], _∷_, _++_}
-use Prim.Native.Nat.{ℕ, _+_, _≤_, _<_}
+use Prim.Native.Nat.{ℕ, _+_, _-_, _≤_, _<_}
 use lib.Dec.{eqb}
-use lib.ListN.{length, drop}
+use lib.ListN.{length, take, drop}
 use Rattle.longlines.specs.declared.Held.{Held}
 use Rattle.longlines.specs.Holding.{heldAfter, bufferAfter}
+use Rattle.linetexts.specs.declared.Place.{Place}
 use Rattle.linetexts.specs.declared.Taken.{Taken}
 
 pub data Part : Type 0 where
@@ -79,6 +82,13 @@ pub record FirstPart (block : List ℕ) (p : Part) : Type 0 where
   pub rest : partsOf block ≡ p ∷ partsOf (drop (partSize p) block)
 
 -- ---- what the code tells
+pub record PlaceOf (block : List ℕ) (at : ℕ) (r : Place) : Type 0 where
+  pub from : at ≤ r .end
+  pub to : r .end ≤ length block
+  pub bytes : take (r .end - at) (drop at block) ≡ partBytes (partAt block at)
+  pub next : r .next ≡ at + partSize (partAt block at)
+  pub ends : r .ends ≡ partEnds (partAt block at)
+
 pub record TookPart (held : Held) (line : List ℕ) (at : ℕ) (p : Part) (r : Taken) (after : List ℕ) : Type 0 where
   pub held-is : r .held ≡ heldAfter line held (partBytes p)
   pub line-is : after ≡ bufferAfter line held (partBytes p)

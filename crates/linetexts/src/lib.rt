@@ -5,9 +5,16 @@ ghost use mathlib.Core.Bool.{false};
 ghost use Prim.Native.Nat.{_<_};
 ghost use lib.ListN.{length};
 ghost use Rattle.longlines.specs.Holding.{lineBegin};
-ghost use Rattle.linetexts.specs.Parts.{partAt, TookPart};
+ghost use Rattle.linetexts.specs.Parts.{partAt, PlaceOf, TookPart};
 ghost use Rattle.linetexts.specs.Lists.{skipsHeld};
 use longlines::Held;
+
+// A part of a block: where its bytes end, where the next part begins, and whether a line feed ends it.
+pub struct Place {
+    pub end: usize,
+    pub next: usize,
+    pub ends: bool,
+}
 
 // A line with a part of a block behind it, where the next part begins, and whether the line ends.
 pub struct Taken {
@@ -21,6 +28,14 @@ pub struct Taken {
 pub struct Pending {
     pub held: Held,
     pub ended: bool,
+}
+
+// What lines that stand alone leave: the line that goes on, where the next part begins, and how many
+// bytes the answers have.
+pub struct Round {
+    pub held: Held,
+    pub at: usize,
+    pub written: usize,
 }
 
 // The beginning of a text.
@@ -46,19 +61,31 @@ pub fn skips(ended: bool, line: &[u8], held: Held) -> bool
     true
 }
 
-// A part of a block: up to the next line feed, or to the block's end. `line` keeps the line.
+// The part of a block at an index: up to the next line feed, or to the block's end.
+pub fn part_at(block: &[u8], at: usize) -> Place
+    requires { ⌜ at < length (now block) ⌝ }
+    ensures { λ r. ⌜ PlaceOf (now (block .entry)) at r ⌝ }
+{
+    let end = lines::find(block, at, b'\n');
+    if end < block.len() {
+        let next = end + 1;
+        let ends = true;
+        return Place { end, next, ends };
+    }
+    let next = end;
+    let ends = false;
+    Place { end, next, ends }
+}
+
+// The line goes on with the part of a block at an index. `line` keeps it.
 pub fn take_part(held: Held, line: &mut [u8], block: &[u8], at: usize) -> Taken
     requires { ⌜ at < length (now block) ⌝ }
     ensures { λ r. ⌜ TookPart held (now (line .entry)) at (partAt (now (block .entry)) at) r (now (line .exit)) ⌝ }
 {
-    let end = lines::find(block, at, b'\n');
+    let part = part_at(block, at);
+    let end = part.end;
     let held = longlines::hold(line, held, &block[at..end]);
-    if end < block.len() {
-        let at = end + 1;
-        let ends = true;
-        return Taken { held, at, ends };
-    }
-    let at = end;
-    let ends = false;
+    let at = part.next;
+    let ends = part.ends;
     Taken { held, at, ends }
 }

@@ -7,15 +7,12 @@
 ghost use mathlib.Core.Path.{_≡_};
 ghost use mathlib.Core.Bool.{false};
 ghost use Prim.Native.Nat.{_≤_};
-ghost use lib.ListN.{length};
-ghost use Rattle.limits.specs.Limits.{longestChunk};
-ghost use Rattle.stdio.specs.Blocks.{Within};
-ghost use Rattle.shortlines.specs.Keeping.{heldIn};
-ghost use Rattle.shortlines.specs.Feeding.{heldAfter};
-ghost use Rattle.maketextlines.specs.Lines.{longestLine};
-ghost use Rattle.maketextlines.specs.Answers.{mostAnswer};
-use shortlines::Line;
-use stdio::Block;
+ghost use lib.ListN.{length, take};
+ghost use Rattle.linetexts.specs.Parts.{partsOf};
+ghost use Rattle.linetexts.specs.Feeding.{feedParts};
+ghost use Rattle.linetexts.specs.Alone.{lineState};
+ghost use Rattle.maketextstream.specs.Texts.{textLines};
+use longlines::Held;
 
 // How many bytes are read at once.
 const BLOCK: usize = 65536;
@@ -23,88 +20,81 @@ const BLOCK: usize = 65536;
 // Room for answers, as many as are written at once.
 const ANSWERS: usize = 4 * maketextlines::ANSWER;
 
-// What is kept of a line, and whether the input or the output failed, which was told.
+// What is held of a line, and whether the input is over, or it or the output failed, which was told.
 struct Reading {
-    line: Line,
-    failed: bool,
+    held: Held,
+    over: bool,
 }
 
-fn read_block(block: &mut [u8]) -> Block
-    ensures { λ r. ⌜ Within r (now (block .exit)) ⌝ }
+fn write_answers(out: &[u8], written: usize) -> bool {
+    stdio::write_first(b"maketext", written, out)
+}
+
+// The lines of the first n bytes of a block. `line` keeps a line that goes on.
+fn run_block(
+    held: Held,
+    line: &mut [u8; maketextstream::LINE],
+    text: &mut [u8; limits::CHUNK],
+    out: &mut [u8; ANSWERS],
+    block: &[u8],
+    n: usize,
+) -> Reading
+    requires { ⌜ n ≤ length (now block) ⌝ }
+    ensures { λ r. ⌜ (r .over ≡ false → lineState (r .held) (now (line .exit)) ≡ feedParts textLines (lineState held (now (line .entry))) (partsOf (take n (now (block .entry))))) ⌝ }
 {
-    stdio::read_block(b"maketext", block)
-}
-
-fn write_answers(answers: &[u8]) -> bool {
-    stdio::write_all(b"maketext", answers)
-}
-
-// The lines of a block.
-fn run_block(line: Line, kept: &mut [u8], text: &mut [u8], out: &mut [u8], block: &[u8]) -> Reading
-    requires { ⌜ (longestLine ≤ length (now kept)) × (longestChunk ≤ length (now text))
-        × (mostAnswer ≤ length (now out)) ⌝ }
-    ensures { λ r. ⌜ (r .failed ≡ false → heldIn (r .line) (now (kept .exit))
-        ≡ heldAfter (length (now (kept .entry))) (heldIn line (now (kept .entry))) (now (block .entry))) ⌝ }
-{
-    let mut line = line;
+    let mut held = held;
     let mut at: usize = 0;
-    while at < block.len() {
-        let round = maketextstream::feed(line, kept, text, out, block, at);
-        line = round.line;
+    while at < n {
+        let round = maketextstream::gather(held, line, text, out, &block[..n], at);
+        held = round.held;
         at = round.at;
         let written = round.written;
-        if !write_answers(&out[..written]) {
-            let failed = true;
-            return Reading { line, failed };
+        if !write_answers(out, written) {
+            let over = true;
+            return Reading { held, over };
         }
     }
-    let failed = false;
-    Reading { line, failed }
+    let over = false;
+    Reading { held, over }
 }
 
-// All blocks, up to the end of the input.
-fn run_blocks(kept: &mut [u8], text: &mut [u8], out: &mut [u8], block: &mut [u8]) -> Reading
-    requires { ⌜ (longestLine ≤ length (now kept)) × (longestChunk ≤ length (now text))
-        × (mostAnswer ≤ length (now out)) ⌝ }
-{
-    let mut line = Line::Short(0);
+// A block is read and its lines are answered; at the end of the input, a last line.
+fn turn(
+    held: Held,
+    line: &mut [u8; maketextstream::LINE],
+    text: &mut [u8; limits::CHUNK],
+    out: &mut [u8; ANSWERS],
+    block: &mut [u8; BLOCK],
+) -> Reading {
+    let read = stdio::read_block(b"maketext", block);
+    let n = read.length;
+    if 0 < n {
+        return run_block(held, line, text, out, block, n);
+    }
+    if !read.failed {
+        let written = maketextstream::finish(held, line, text, out);
+        write_answers(out, written);
+    }
+    let over = true;
+    Reading { held, over }
+}
+
+fn run(
+    line: &mut [u8; maketextstream::LINE],
+    text: &mut [u8; limits::CHUNK],
+    out: &mut [u8; ANSWERS],
+    block: &mut [u8; BLOCK],
+) {
+    let mut held = longlines::nothing();
     let mut turns = stdio::most_turns();
     while turns > 0 {
-        let read = read_block(block);
-        match read {
-            Block::Bytes(n) => {
-                let reading = run_block(line, kept, text, out, &block[..n]);
-                if reading.failed {
-                    return reading;
-                }
-                line = reading.line;
-            }
-            Block::End => {
-                let failed = false;
-                return Reading { line, failed };
-            }
-            Block::Failed => {
-                let failed = true;
-                return Reading { line, failed };
-            }
+        let reading = turn(held, line, text, out, block);
+        if reading.over {
+            return;
         }
+        held = reading.held;
         turns -= 1;
     }
-    let failed = false;
-    Reading { line, failed }
-}
-
-fn run(kept: &mut [u8], text: &mut [u8], out: &mut [u8], block: &mut [u8])
-    requires { ⌜ (longestLine ≤ length (now kept)) × (longestChunk ≤ length (now text))
-        × (mostAnswer ≤ length (now out)) ⌝ }
-{
-    let reading = run_blocks(kept, text, out, block);
-    if reading.failed {
-        return;
-    }
-    let line = reading.line;
-    let written = maketextstream::finish(line, kept, text, out);
-    write_answers(&out[..written]);
 }
 
 fn main() {
@@ -113,9 +103,9 @@ fn main() {
     ) {
         return;
     }
-    let mut kept = [0u8; maketextlines::LINE];
+    let mut line = [0u8; maketextstream::LINE];
     let mut text = [0u8; limits::CHUNK];
     let mut out = [0u8; ANSWERS];
     let mut block = [0u8; BLOCK];
-    run(&mut kept, &mut text, &mut out, &mut block);
+    run(&mut line, &mut text, &mut out, &mut block);
 }

@@ -18,11 +18,11 @@ use Rattle.madetexts.specs.Values.{madeText}
 use Rattle.madetexts.specs.Making.{madeNumber}
 use Rattle.madetexts.proofs.Claims as madetexts
 use Rattle.maketextlines.specs.Lines.{Meaning, makes, malformed, lineIn}
-use Rattle.maketextlines.specs.Answers.{answerBy, answerIn, answerHeld}
+use Rattle.maketextlines.specs.Answers.{answerBy, answerIn, answerTo}
 use Rattle.maketextlines.specs.Claims.{lineOf, Claims}
 use Rattle.maketextlines.proofs.Writing.{field-most, most-rest}
 use Rattle.maketextlines.proofs.Exact.{worked, line-exactly, malformed-exactly}
-use Rattle.maketextlines.proofs.Long.{too-long, decides}
+use Rattle.maketextlines.proofs.Long.{too-long}
 
 -- ---- a line for each text
 line-round-trip : (k seed n : ℕ) → k ≤ 18446744073709551615 → seed ≤ 18446744073709551615 → n ≤ 65536 → lineIn (lineOf k seed n) ≡ makes k seed n
@@ -49,10 +49,9 @@ in-most (makes k seed n) h =
     answer-most (madeNumber k seed) (madeText k seed n) (omega (arith, madetexts.claims .long k seed n, h k seed n refl))
 in-most malformed h = omega arith
 
-fits : (h : Option (List ℕ)) → length (answerHeld h) ≤ 131073
+fits : (w : List ℕ) → length (answerTo w) ≤ 131073
 unfolding lineIn
-fits none = omega arith
-fits (some w) = in-most (lineIn w) (λ k seed n e. most-rest (upTo 32 w) (past 32 w) k seed n e)
+fits w = in-most (lineIn w) (λ k seed n e. most-rest (upTo 32 w) (past 32 w) k seed n e)
 
 empty : lineIn [] ≡ malformed
 unfolding lineIn past
@@ -66,6 +65,5 @@ claims = record {
   line-round-trip = line-round-trip;
   empty = empty;
   too-long = too-long;
-  decides = decides;
   fits = fits;
 }

@@ -4,12 +4,11 @@
 --   long-number   a field of more than 20 bytes is no number
 --   past-length   the bytes before a space, the space, and those behind it
 --   too-long      a line of more than 62 bytes is malformed
---   decides       what is kept of a line decides its answer
-use mathlib.Core.Path.{_≡_, refl, sym, ap}
+use mathlib.Core.Path.{_≡_, refl}
 use mathlib.Core.Bool.{Bool, true, false, _&&_}
 use mathlib.Core.List.{List, [], _∷_}
 use mathlib.Core.Option.{Option, none, some}
-use Prim.Native.Nat.{ℕ, suc, _+_, _≤_, _<_}
+use Prim.Native.Nat.{ℕ, suc, _+_, _<_}
 use native.Mathlib.Omega.{arith}
 use lib.Dec.{leb, eqb}
 use lib.ListN.{length}
@@ -17,9 +16,7 @@ use borrow.Author.Tests.{lt-leb, leb-true, leb-false}
 use Rattle.base.proofs.Tests.{by-test, zero-one}
 use Rattle.lines.specs.Splitting.{upTo, past}
 use Rattle.fields.specs.Numbers.{parseNumber}
-use Rattle.shortlines.specs.Keeping.{cut}
 use Rattle.maketextlines.specs.Lines.{malformed, upToMost, makesBy, lengthFields, seedFields, lineIn}
-use Rattle.maketextlines.specs.Answers.{answerIn, answerTo, answerHeld}
 
 never : (a : Bool) → a && false ≡ false
 never true = refl
@@ -74,9 +71,3 @@ seed-long k (some w) h =
 pub too-long : (w : List ℕ) → 62 < length w → lineIn w ≡ malformed
 unfolding lineIn
 too-long w h = seed-long (upTo 32 w) (past 32 w) (λ v e. omega (arith, past-length w v e))
-
-pub decides : (room : ℕ) → 62 ≤ room → (w : List ℕ) → answerHeld (cut room w) ≡ answerTo w
-decides room h w =
-    by-test (leb (length w) room)
-    (λ t. rw t)
-    (λ t. let long = leb-false (length w) room t in rw t (sym (ap answerIn (too-long w (omega arith)))))

@@ -6,6 +6,7 @@
 --                            line
 --   refused-line             the line of a refusal
 --   length-most              the text of a line is not too long
+--   prefix                   a part of a list has its length
 --   made-to, malformed-to    the ways out of `put_answer`
 use mathlib.Core.Path.{_≡_, refl, sym, ap, _∙_, subst}
 use mathlib.Core.List.{List, [], _∷_, _++_}
@@ -13,7 +14,8 @@ use mathlib.Core.Option.{Option, none, some}
 use Prim.Native.Nat.{ℕ, _+_, _≤_, _<_}
 use native.Mathlib.Omega.{arith}
 use lib.Dec.{leb}
-use lib.ListN.{length}
+use lib.ListN.{length, take}
+use lib.Seq.{length-take-le}
 use borrow.Author.Tests.{leb-true}
 use Rattle.base.proofs.Tests.{by-test, zero-one}
 use Rattle.text.specs.Writing.{Wrote}
@@ -105,3 +107,6 @@ module _ (w : List ℕ) (r : TextLine) (said : lineMeans r ≡ lineIn w) where
       → Wrote before at (answerTo w) after f
   malformed-to e {before} {at} {after} {f} v =
       subst (λ (m : Meaning). Wrote before at (answerIn m) after f) (sym (ap lineMeans e) ∙ said) v
+
+pub prefix : (n : ℕ) (w : List ℕ) → n ≤ length w → n ≡ length (take n w)
+prefix n w h = sym (length-take-le n w h)

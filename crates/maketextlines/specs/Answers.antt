@@ -4,8 +4,6 @@
 --   madeAnswer k seed n the answer where a text is to be made: its bytes in hex digits, `-` for none,
 --                       or `refused` and the number
 --   answerTo w          the answer to the line w
---   answerHeld h        the same, from what is kept of a line: one that is longer than any in the
---                       grammar is malformed
 use mathlib.Core.List.{List, [], _∷_, _++_}
 use mathlib.Core.Option.{Option, none, some}
 use Prim.Native.Nat.{ℕ, _+_, _*_}
@@ -32,7 +30,3 @@ answerIn malformed = malformedText
 
 abbrev pub answerTo : List ℕ → List ℕ
 answerTo w = answerIn (lineIn w)
-
-abbrev pub answerHeld : Option (List ℕ) → List ℕ
-answerHeld none = malformedText
-answerHeld (some w) = answerTo w

@@ -6,16 +6,14 @@
 use mathlib.Core.Path.{_≡_}
 use mathlib.Core.Logic.{_↔_}
 use mathlib.Core.List.{List, [], _∷_, _++_}
-use mathlib.Core.Option.{Option}
 use Prim.Native.Nat.{ℕ, _≤_, _<_}
 use lib.ListN.{length}
 use Rattle.limits.specs.Limits.{largestNumber, longestChunk}
 use Rattle.text.specs.Numerals.{decimal}
 use Rattle.fields.specs.Claims.{SaysNumber}
-use Rattle.shortlines.specs.Keeping.{cut}
 use Rattle.maketextlines.specs.Lines.{longestLine, makes, malformed, lineIn}
 use Rattle.maketextlines.specs.Worked.{sixLine, sixAnswer}
-use Rattle.maketextlines.specs.Answers.{mostAnswer, answerTo, answerHeld}
+use Rattle.maketextlines.specs.Answers.{mostAnswer, answerTo}
 
 abbrev pub lineOf : ℕ → ℕ → ℕ → List ℕ
 lineOf k seed n = decimal k ++ (32 ∷ (decimal seed ++ (32 ∷ decimal n)))
@@ -35,7 +33,5 @@ pub record Claims : Type 0 where
   -- an empty line is malformed, and so is one that is longer than any in the grammar
   pub empty : lineIn [] ≡ malformed
   pub too-long : (w : List ℕ) → longestLine < length w → lineIn w ≡ malformed
-  -- so what is kept of a line decides its answer, with any room from the longest line on
-  pub decides : (room : ℕ) → longestLine ≤ room → (w : List ℕ) → answerHeld (cut room w) ≡ answerTo w
   -- an answer has room
-  pub fits : (h : Option (List ℕ)) → length (answerHeld h) ≤ mostAnswer
+  pub fits : (w : List ℕ) → length (answerTo w) ≤ mostAnswer

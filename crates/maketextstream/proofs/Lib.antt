@@ -1,3 +1,1 @@
--- In the order in which they build on each other.
-pub mod Answering
-pub mod Claims
+pub mod Claimed

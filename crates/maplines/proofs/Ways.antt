@@ -106,10 +106,6 @@ to-the-end : (w : List ℕ) (from : ℕ) → take (length w - from) (drop from w
 to-the-end w from = take-all (length w - from) (drop from w) (omega (arith, length-drop from w))
 
 -- ---- two mappings: `space` is the index of the first space from 8 on
-no-second : (o : Option (List ℕ)) → composeBy o none ≡ none
-no-second none = refl
-no-second (some f) = refl
-
 module _ (w : List ℕ) (long : 8 ≤ length w) (space : ℕ) (found : space ≡ 8 + length (upTo 32 (drop 8 w))) (b a : List ℕ) (said : Said) where
   abbrev fields : Option Call
   fields = composeFields (upTo 32 (drop 8 w)) (past 32 (drop 8 w))

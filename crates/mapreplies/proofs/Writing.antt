@@ -1,6 +1,5 @@
 -- The text of a reply is written. Assumes nothing.
 --
---   count-most              the most digits of a number of mappings
 --   mapped-room, mapped-whole   the digits of a mapping, and a line feed behind them
 --   …-text                  the line of a reply, by the case of the code's answer
 use mathlib.Core.Path.{_≡_, sym, subst}
@@ -8,9 +7,7 @@ use mathlib.Core.List.{List, [], _∷_}
 use Prim.Native.Nat.{ℕ, _+_, _≤_, _<_}
 use native.Mathlib.Omega.{arith}
 use lib.ListN.{length}
-use Rattle.text.specs.Numerals.{decimal}
 use Rattle.text.specs.Writing.{Wrote}
-use Rattle.text.proofs.Digits.{decimal-most}
 use Rattle.text.proofs.Rooms.{exact, more, two}
 use Rattle.answers.specs.Answers.{refusedText}
 use Rattle.maptext.specs.MappingText.{mappingText}
@@ -20,9 +17,6 @@ use Rattle.mapcalls.specs.declared.MapAnswer.the-variants.{Forgotten, Built, Ma
 use Rattle.mapcalls.specs.declared.MapReply.{MapReply}
 use Rattle.mapcalls.specs.Calls.{built, mapped, answerMeans, replyMeans}
 use Rattle.mapreplies.specs.Replies.{no-profile, replyText}
-
-pub count-most : (n : ℕ) → n < 65536 → length (decimal n) ≤ 5
-count-most n h = decimal-most 4 n (omega arith)
 
 -- ---- a mapping
 module _ (f before mid : List ℕ) (e : ℕ) (room : 17 ≤ length before) (wrote : Wrote before 0 (mappingText f) mid e) where

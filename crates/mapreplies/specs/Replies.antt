@@ -6,13 +6,9 @@
 use mathlib.Core.Bool.{Bool, true, false}
 use mathlib.Core.List.{List, [], _∷_, _++_}
 use Prim.Native.Nat.{ℕ}
-use Rattle.text.specs.Numerals.{decimal}
-use Rattle.answers.specs.Answers.{refusedText}
+use Rattle.answers.specs.Answers.{lineOf, acceptedWord, refusedText}
 use Rattle.maptext.specs.MappingText.{mappingText}
 use Rattle.mapcalls.specs.Calls.{Reply, forgotten, built, mapped, said, lacking, refused}
-
-abbrev pub accepted-word : List ℕ
-accepted-word = 97 ∷ 99 ∷ 99 ∷ 101 ∷ 112 ∷ 116 ∷ 101 ∷ 100 ∷ 32 ∷ []
 
 -- with the line feed, as the two below
 abbrev pub no-profile : List ℕ
@@ -24,7 +20,7 @@ saidText false = 110 ∷ 111 ∷ 10 ∷ []
 
 abbrev pub replyText : Reply → List ℕ
 replyText forgotten = 10 ∷ []
-replyText (built count) = accepted-word ++ (decimal count ++ (10 ∷ []))
+replyText (built count) = lineOf acceptedWord (count ∷ [])
 replyText (mapped f) = mappingText f ++ (10 ∷ [])
 replyText (said b) = saidText b
 replyText lacking = no-profile

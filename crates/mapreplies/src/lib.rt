@@ -16,9 +16,8 @@ fn put_built(out: &mut [u8], count: u16) -> usize
     requires { ⌜ mostAnswer ≤ length (now out) ⌝ }
     ensures { λ r. ⌜ Wrote (now (out .entry)) 0 (replyText (built count)) (now (out .exit)) r ⌝ }
 {
-    let a = text::put_bytes(out, 0, b"accepted ");
-    let b = text::put_decimal(out, a, count as u64);
-    text::put_byte(out, b, b'\n')
+    let numbers = [count as u64];
+    answers::put_line(out, 0, b"accepted", &numbers)
 }
 
 // The line of a mapping.

@@ -8,10 +8,11 @@ use Rattle.executions.specs.Executions.{stateAfter}
 use Rattle.fields.specs.Bytes.{hexValue, allHex, parseBytes}
 use Rattle.lines.specs.Splitting.{begins, linesFrom, linesOf}
 use Rattle.answers.specs.Answers.{malformedText}
-use Rattle.linetexts.specs.Lists.{listOf, listText, skippedLines}
+use Rattle.linetexts.specs.Lists.{listOf, listText, skippedLines, listTeller}
 use Rattle.linetexts.specs.Claims.{linesStep}
 use Rattle.linetexts.proofs.Lists.{Agrees, Follows, lists-right, ends-list as ends}
 use Rattle.linetexts.proofs.Claimed as linetexts
+use Rattle.linetexts.proofs.Beginnings.{begun, keeps-lines}
 use Rattle.mapcalls.specs.Calls.{Call, noneYet, mapMachine, replyOf, nextOf}
 use Rattle.mapcalls.specs.Histories.{lastBuilt, rightReply}
 use Rattle.mapcalls.proofs.Histories as mapcalls
@@ -63,6 +64,6 @@ claims = record {
       ∙ ap (λ (t : List ℕ). t ++ (skippedLines ls ++ ((10 ∷ []) ++ rightText (some []) more))) (said h l e);
   worked = worked;
   worked-calls = worked-calls;
-  written = λ {room} {s′} {blocks} {line} {text} large b.
-      linetexts.claims mapLines told .written large b ∙ right (linesOf (flatten blocks));
+  written = λ {s′} {blocks} {line} {text} large b.
+      linetexts.claims mapLines (keeps-lines (listTeller mapList) told) .written (begun line large) b ∙ right (linesOf (flatten blocks));
 }

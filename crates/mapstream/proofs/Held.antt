@@ -18,7 +18,8 @@ use Rattle.longlines.specs.declared.Held.{Held}
 use Rattle.longlines.specs.declared.Seen.{Seen}
 use Rattle.longlines.specs.Holding.{seenOf}
 use Rattle.longlines.proofs.Standing.{by-bytes, by-stray}
-use Rattle.linetexts.specs.Feeding.{Outcome, heldStep}
+use Rattle.linetexts.specs.Feeding.{Outcome}
+use Rattle.linetexts.specs.Beginnings.{heldStep}
 use Rattle.linetexts.specs.Lists.{Listed, listOf, skipsHeld}
 use Rattle.linetexts.proofs.Lists.{skipped-state, run-held}
 use Rattle.mapcalls.specs.declared.MapState.{MapState}

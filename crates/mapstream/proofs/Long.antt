@@ -20,15 +20,15 @@ use Rattle.lines.proofs.Splits.{past-there}
 use Rattle.fields.specs.Bytes.{allHex, parseBytes}
 use Rattle.maptext.specs.MappingText.{parseMapping}
 use Rattle.longlines.proofs.Tails.{begins-append, tail-stray, tail-bytes}
-use Rattle.linetexts.specs.Lists.{listOf}
-use Rattle.linetexts.specs.Claims.{Told}
+use Rattle.linetexts.specs.Beginnings.{Told}
+use Rattle.linetexts.specs.Lists.{listOf, listTeller}
 use Rattle.linetexts.proofs.Lists.{told-lists}
 use Rattle.mapcalls.specs.declared.MapState.{MapState}
 use Rattle.mapcalls.specs.Calls.{Call, Reply, builds, runs, nextOf}
 use Rattle.maplines.specs.Lines.{build-word, run-word, compose-word, verdict-word, buildBy, runBy, askBy, composeBy, composeFields, askIn, lineIn}
 use Rattle.mapreplies.specs.Replies.{replyText}
 use Rattle.maplines.proofs.Long.{builds-long, left-long, runs-long}
-use Rattle.mapstream.specs.Texts.{stepOf, mapList, mapLines}
+use Rattle.mapstream.specs.Texts.{stepOf, mapList}
 
 -- ---- fields that are malformed
 mapping-long : (u : List ℕ) → 16 < length u → parseMapping u ≡ none
@@ -164,7 +164,7 @@ module _ (v t : List ℕ) (long : 131078 ≤ length v) where
         rw (some-v, some-more, word build-word (omega arith))
         (tells-cond s (begins build-word v) _ _ _ _ hex-build hex-ask)
 
-pub told : Told mapLines
+pub told : Told (listTeller mapList)
 told =
     told-lists mapList (omega arith)
     (λ s. record {

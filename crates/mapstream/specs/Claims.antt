@@ -9,20 +9,21 @@ use Prim.Native.Nat.{ℕ, _+_, _≤_}
 use lib.ListN.{length}
 use Rattle.lines.specs.Splitting.{linesOf}
 use Rattle.longlines.specs.Holding.{lineBegin}
-use Rattle.linetexts.specs.Feeding.{State, stateOf, finishOf}
-use Rattle.linetexts.specs.Lists.{Listed, listOf, NoneEmpty, skippedLines}
-use Rattle.linetexts.specs.Claims.{Told, linesStep, Blocks}
+use Rattle.linetexts.specs.Feeding.{State, finishOf}
+use Rattle.linetexts.specs.Beginnings.{Beginning, stateOf, Told}
+use Rattle.linetexts.specs.Lists.{Listed, listOf, NoneEmpty, skippedLines, listTeller}
+use Rattle.linetexts.specs.Claims.{linesStep, Blocks}
 use Rattle.mapcalls.specs.declared.MapState.{MapState}
 use Rattle.mapcalls.specs.Calls.{Call, noneYet}
 use Rattle.answers.specs.Answers.{malformedText}
 use Rattle.maplines.specs.Lines.{lineIn}
 use Rattle.mapstream.specs.Worked.{cutText, cutAnswers, callsText, callsAnswers}
-use Rattle.mapstream.specs.Texts.{mapRoom, mapLines, rightText}
+use Rattle.mapstream.specs.Texts.{mapRoom, mapLines, rightText, mapList}
 
 pub record Claims : Type 0 where
   -- a longer line is told by its beginning, and by whether the rest is hex digits and how many: such
   -- a file or chunk is refused by its length alone
-  pub told : Told mapLines
+  pub told : Told (listTeller mapList)
   -- lines one after the other, from no profile on: every answer is the right one after the calls
   -- before it
   pub right : (ls : List (List ℕ)) → linesStep mapLines (listOf noneYet false) ls .text ≡ rightText (some []) ls
@@ -35,6 +36,6 @@ pub record Claims : Type 0 where
   pub worked : rightText (some []) (linesOf cutText) ≡ cutAnswers
   pub worked-calls : rightText (some []) (linesOf callsText) ≡ callsAnswers
   -- ALL THAT IS WRITTEN, round by round, block by block, and at the end, is right
-  pub written : {room : ℕ} {s′ : State (Listed MapState)} {blocks : List (List ℕ)} {line text : List ℕ} → mapRoom + 1 ≤ length line
-      → Blocks mapLines room (stateOf (listOf noneYet false) lineBegin line) blocks s′ text
+  pub written : {s′ : State Beginning (Listed MapState)} {blocks : List (List ℕ)} {line text : List ℕ} → mapRoom + 1 ≤ length line
+      → Blocks mapLines (stateOf (listOf noneYet false) lineBegin line) blocks s′ text
       → text ++ finishOf mapLines s′ .text ≡ rightText (some []) (linesOf (flatten blocks))

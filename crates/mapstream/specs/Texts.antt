@@ -19,6 +19,7 @@ use Rattle.limits.specs.Limits.{bytesRoom}
 use Rattle.longlines.specs.declared.Held.{Held}
 use Rattle.longlines.specs.Holding.{heldMeaning}
 use Rattle.linetexts.specs.Feeding.{Outcome, LineMachine}
+use Rattle.linetexts.specs.Beginnings.{Beginning}
 use Rattle.linetexts.specs.Lists.{Listed, ListMachine, listOf, listLines, listText}
 use Rattle.answers.specs.Answers.{malformedText}
 use Rattle.mapcalls.specs.declared.MapState.{MapState}
@@ -42,7 +43,7 @@ mapList = record {
   most = mostAnswer;
 }
 
-abbrev pub mapLines : LineMachine (Listed MapState)
+abbrev pub mapLines : LineMachine Beginning (Listed MapState)
 mapLines = listLines mapList
 
 abbrev pub changesHeld : List ℕ → Held → Bool

@@ -94,9 +94,6 @@ module _ (way : Way) (n1 n2 : ℕ) (sizes : Sizes way n1 n2) where
   fits-interleaving e = rw e at (sizes .fits)
 
   module _ (q : ℕ) (below : q < statesOf way n1 n2) where
-    pub in-both : way ≡ Both → q < n1 * n2
-    in-both e = rw e at below
-
     pub in-either : way ≡ Either → q < n1 + n2
     in-either e = rw e at below
 

@@ -1,7 +1,7 @@
 -- The words fix every number of the rule made of the counted states: two well-formed rules that are
 -- so made of the same automaton are equal. Assumes tables of 512 cells.
-use mathlib.Core.Path.{_≡_, sym, ap, _∙_, subst}
-use Prim.Native.Nat.{ℕ, zero, suc, _≤_, _<_}
+use mathlib.Core.Path.{_≡_, sym, _∙_, subst}
+use Prim.Native.Nat.{ℕ, _≤_, _<_}
 use native.Mathlib.Nat.{le-antisymm}
 use native.Mathlib.Omega.{arith}
 use lib.Dec.{ltb}
@@ -13,48 +13,23 @@ use Rattle.automaton.specs.declared.Rule.{Rule}
 use Rattle.automaton.specs.Automaton.{Automaton, Arc}
 use Rattle.automaton.specs.Rules.{automatonOf, WellFormed}
 use Rattle.automaton.proofs.Values.{Within, same-value}
+use Rattle.reducing.proofs.Rising as rising
+use Rattle.reducing.proofs.Rising.{Among}
 use Rattle.mergereduce.specs.Claims.{InOrder, MadeOf}
 
 -- ---- two lists of the counted states in their order are one
 module _ (a : Automaton) (c d : ℕ) (x : InOrder a c) (y : InOrder a d) where
-  same-below : (f p : ℕ) → p < f → p < c → (p < d) × (x .old p ≡ y .old p)
-  same-below zero p h l = absurd (omega arith)
-  same-below (suc f) p h l =
-      let u = y .there (x .old p) (x .own p l) in
-      let low : p ≤ u .0 =
-      by-test (ltb (u .0) p)
-      (λ t.
-      let b = ltb-true (u .0) p t in
-      let e = same-below f (u .0) (omega arith) (omega arith) in
-      absurd (omega (arith, x .rises (u .0) p b l, e .1, u .2)))
-      (ltb-false (u .0) p) in
-      let in-d : p < d = omega (arith, u .1) in
-      let v = x .there (y .old p) (y .own p in-d) in
-      let low2 : p ≤ v .0 =
-      by-test (ltb (v .0) p)
-      (λ t.
-      let b = ltb-true (v .0) p t in
-      let e = same-below f (v .0) (omega arith) (omega arith) in
-      absurd (omega (arith, y .rises (v .0) p b in-d, e .1, v .2)))
-      (ltb-false (v .0) p) in
-      let g : y .old p ≤ x .old p =
-      by-test (ltb p (u .0))
-      (λ t. omega (arith, y .rises p (u .0) (ltb-true p (u .0) t) (u .1), u .2))
-      (λ t. let z : p ≡ u .0 = omega (arith, ltb-false p (u .0) t) in omega (arith, ap (y .old) z, u .2)) in
-      let k : x .old p ≤ y .old p =
-      by-test (ltb p (v .0))
-      (λ t. omega (arith, x .rises p (v .0) (ltb-true p (v .0) t) (v .1), v .2))
-      (λ t. let z : p ≡ v .0 = omega (arith, ltb-false p (v .0) t) in omega (arith, ap (x .old) z, v .2)) in
-      (in-d, le-antisymm k g)
+  in-y : Among (x .old) c (y .old) d
+  in-y p l = y .there (x .old p) (x .own p l)
+
+  in-x : Among (y .old) d (x .old) c
+  in-x p l = x .there (y .old p) (y .own p l)
 
   pub same : (p : ℕ) → p < c → (p < d) × (x .old p ≡ y .old p)
-  same p l = same-below (suc p) p (omega arith) l
+  same = rising.same (x .old) (y .old) c d (x .rises) (y .rises) in-y in-x
 
   pub no-more : c ≤ d
-  no-more =
-      by-test (ltb d c)
-      (λ t. absurd (omega (arith, same d (ltb-true d c t) .0)))
-      (ltb-false d c)
+  no-more = rising.no-more (x .old) (y .old) c d (x .rises) (y .rises) in-y in-x
 
 -- ---- and so are the rules of them
 module _ (a : Automaton) (k c d : ℕ) (m n : Rule) (x : MadeOf a k c m) (y : MadeOf a k d n) (good : WellFormed m) (some-stay : 1 ≤ c) where

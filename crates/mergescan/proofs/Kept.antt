@@ -3,6 +3,7 @@
 --   begin-both, ..              the ways out of `begin`, `letter`, `word_on` and `end_first`
 --   from-start, from-word, ..   a byte more, by what was kept
 --   second-merges, ..           the line has ended
+--   all-on, all-over            bytes, one after the other
 use mathlib.Core.Path.{_≡_, refl, sym, ap, _∙_, subst}
 use mathlib.Core.Bool.{true, cond}
 use mathlib.Core.List.{List, [], _∷_}
@@ -12,7 +13,7 @@ use native.Mathlib.Numerals.{add-one}
 use native.Mathlib.Omega.{arith}
 use borrow.Author.Tests.{eq-eqb, ne-eqb, eqb-true, eqb-false, lt-ltb, le-ltb, ltb-true, ltb-false}
 use lib.Dec.{eqb, ltb}
-use lib.ListN.{length, getD, take, drop, length-drop}
+use lib.ListN.{length, getD, take, drop, length-drop, drop-of-length-le}
 use lib.Seq.{take-all, drop-cons}
 use Rattle.base.proofs.Tests.{by-test}
 use Rattle.text.specs.Writing.{Wrote}
@@ -32,7 +33,7 @@ use Rattle.mergetext.specs.Answers.{mergedFiles, responseIn, responseText}
 use Rattle.mergescan.specs.declared.Scan.{Scan}
 use Rattle.mergescan.specs.declared.Scan.the-variants as scan
 use Rattle.mergescan.specs.Lines.{Seen, stray, firstByte, wordGoesOn, afterFirst, seenWith}
-use Rattle.mergescan.specs.Scanning.{beginOf, wordAfter, secondAfter, Scanned, scanned, scanBy, scanOf, KeepsLine, keeps-start, keeps-word, keeps-first, keeps-second, keeps-stray, ScansOn, secondHeld, heldMeaning}
+use Rattle.mergescan.specs.Scanning.{beginOf, wordAfter, secondAfter, Scanned, scanned, scanBy, scanOf, KeepsLine, keeps-start, keeps-word, keeps-first, keeps-second, keeps-stray, ScansOn, secondHeld, heldMeaning, scanAll}
 
 -- as many as there are
 take-most : (n : ℕ) (l : List ℕ) → take (min n (length l)) l ≡ take n l
@@ -265,3 +266,13 @@ module _ (s : Scan) (one two before after : List ℕ) (at end : ℕ) where
       → Wrote before at (responseText (responseIn (secondHeld way (take n one) (endOf p) two))) after end
       → Wrote before at (responseText (responseIn (heldMeaning s one two))) after end
   ends-second way n p e w = at-line (scan.Second way n p) e w
+
+-- ---- bytes, one after the other
+pub all-on : (s t : Scanned) (bytes : List ℕ) (i : ℕ) → i < length bytes → t ≡ scanOf s (getD bytes i 0)
+    → scanAll s (drop i bytes) ≡ scanAll t (drop (i + 1) bytes)
+unfolding scanAll
+all-on s t bytes i here is = rw (add-one, drop-cons bytes i 0) (ap (λ (x : Scanned). scanAll x (drop (suc i) bytes)) (sym is))
+
+pub all-over : (s₀ s : Scanned) (bytes : List ℕ) (i : ℕ) → length bytes ≤ i → scanAll s₀ bytes ≡ scanAll s (drop i bytes) → s ≡ scanAll s₀ bytes
+unfolding scanAll
+all-over s₀ s bytes i over so = sym (so ∙ ap (scanAll s) (drop-of-length-le bytes over))

@@ -5,14 +5,16 @@
 --                            more of the word, and of the space behind the first field
 --   Scanned, scanOf s c      a byte more, of any value and any buffers: what of the line has been
 --                            read then, and the buffers
+--   scanAll s w              the bytes w more
+--   isStart scan             nothing of a line has been read
 --   KeepsLine s scan one two the value and the buffers keep what was read
 --   ScansOn one two ..       whatever they kept, with the byte c more they keep it; the buffers
 --                            keep their lengths
 --   heldMeaning scan one two what a line means that ends here: of any value and any buffers, whether
 --                            they fit each other or not
 use mathlib.Core.Path.{_≡_}
-use mathlib.Core.Bool.{cond}
-use mathlib.Core.List.{List, _∷_}
+use mathlib.Core.Bool.{Bool, true, false, cond}
+use mathlib.Core.List.{List, [], _∷_}
 use mathlib.Core.Option.{Option, none, some}
 use Prim.Native.Nat.{ℕ, _+_}
 use lib.Dec.{eqb, ltb}
@@ -64,6 +66,17 @@ scanBy scan.Stray one two c = scanned scan.Stray one two
 
 abbrev pub scanOf : Scanned → ℕ → Scanned
 scanOf s c = scanBy (s .scan) (s .one) (s .two) c
+
+unfoldable pub scanAll : Scanned → List ℕ → Scanned
+scanAll s [] = s
+scanAll s (c ∷ w) = scanAll (scanOf s c) w
+
+abbrev pub isStart : Scan → Bool
+isStart scan.Start = true
+isStart (scan.Word way at) = false
+isStart (scan.First way p) = false
+isStart (scan.Second way n p) = false
+isStart scan.Stray = false
 
 -- ---- what they keep
 pub data KeepsLine : Seen → Scan → List ℕ → List ℕ → Type 0 where

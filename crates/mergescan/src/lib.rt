@@ -6,7 +6,7 @@ ghost use Rattle.text.specs.Writing.{Wrote};
 ghost use Rattle.mergetext.specs.Lines.{wordOf};
 ghost use Rattle.mergetext.specs.Answers.{mostAnswer, responseIn, responseText};
 ghost use Rattle.hexfields.specs.Reading.{endOf};
-ghost use Rattle.mergescan.specs.Scanning.{beginOf, wordAfter, secondAfter, scanned, scanOf, secondHeld, heldMeaning};
+ghost use Rattle.mergescan.specs.Scanning.{beginOf, wordAfter, secondAfter, scanned, scanOf, secondHeld, heldMeaning, scanAll, isStart};
 use fields::Bytes;
 use hexfields::Part;
 use merging::Way;
@@ -95,7 +95,7 @@ fn end_first(way: Way, part: Part) -> Scan
 }
 
 // One byte more of the line. The bytes of the two files go into two buffers, as many as fit.
-pub fn scan_on(one: &mut [u8], two: &mut [u8], scan: Scan, c: u8) -> Scan
+fn scan_on(one: &mut [u8], two: &mut [u8], scan: Scan, c: u8) -> Scan
     ensures { λ r. ⌜ scanned r (now (one .exit)) (now (two .exit)) ≡ scanOf (scanned scan (now (one .entry)) (now (two .entry))) c ⌝ }
 {
     match scan {
@@ -109,6 +109,32 @@ pub fn scan_on(one: &mut [u8], two: &mut [u8], scan: Scan, c: u8) -> Scan
         }
         Scan::Second(way, n, part) => Scan::Second(way, n, hexfields::read_on(two, part, c)),
         Scan::Stray => Scan::Stray,
+    }
+}
+
+// The line goes on with the bytes.
+pub fn scan_bytes(one: &mut [u8], two: &mut [u8], scan: Scan, bytes: &[u8]) -> Scan
+    ensures { λ r. ⌜ scanned r (now (one .exit)) (now (two .exit)) ≡ scanAll (scanned scan (now (one .entry)) (now (two .entry))) (now (bytes .entry)) ⌝ }
+{
+    let mut scan = scan;
+    let mut i: usize = 0;
+    while i < bytes.len() {
+        scan = scan_on(one, two, scan, bytes[i]);
+        i += 1;
+    }
+    scan
+}
+
+// Whether nothing of a line has been read.
+pub fn is_start(scan: Scan) -> bool
+    ensures { λ r. ⌜ r ≡ isStart scan ⌝ }
+{
+    match scan {
+        Scan::Start => true,
+        Scan::Word(_, _) => false,
+        Scan::First(_, _) => false,
+        Scan::Second(_, _, _) => false,
+        Scan::Stray => false,
     }
 }
 

@@ -1,34 +1,42 @@
--- The answers to a text of lines of `rulemerge`, and of a part of it.
+-- A text of lines for `rulemerge`, that comes in blocks (`linetexts`). A line has two files of any
+-- length, so no beginning tells it: it is read byte by byte, and of each file as much is kept as tells
+-- one that is too long (`mergescan`).
 --
 --   answerTo w         the answer to the line w
---   answersTo ls       the answers to lines, one after the other
---   lineAfter v w      the line that goes on where the text w ends, if v went on where it began
---   answersAfter v w   the answers to the lines that end in w, the first of which begins with v
---   lastAnswer v       the answer to a line that the text's end ends: nothing if it is empty
-use mathlib.Core.Bool.{cond}
-use mathlib.Core.List.{List, [], _∷_, _++_}
-use Prim.Native.Nat.{ℕ}
-use lib.Dec.{eqb}
+--   mergeLines         the machine that answers lines
+--   mergeState ..      what is left between the blocks of a text
+--   KeepsFiles s w     s keeps the line that begins with w, and its buffers can tell a file that is
+--                      too long
+use mathlib.Core.List.{List}
+use Prim.Native.Nat.{ℕ, _<_}
+use lib.ListN.{length}
+use Rattle.limits.specs.Limits.{longestFile}
+use Rattle.linetexts.specs.Feeding.{LineMachine, State, keeping}
+use Rattle.linetexts.specs.Alone.{alone}
 use Rattle.mergetext.specs.Lines.{lineIn}
-use Rattle.mergetext.specs.Answers.{responseIn, responseText}
+use Rattle.mergetext.specs.Answers.{responseIn, responseText, mostAnswer}
+use Rattle.mergescan.specs.declared.Scan.{Scan}
+use Rattle.mergescan.specs.declared.Scan.the-variants as scan
+use Rattle.mergescan.specs.Lines.{start, seenBy}
+use Rattle.mergescan.specs.Scanning.{Scanned, scanned, scanAll, isStart, KeepsLine, heldMeaning}
 
 abbrev pub answerTo : List ℕ → List ℕ
 answerTo w = responseText (responseIn (lineIn w))
 
-abbrev pub answersTo : List (List ℕ) → List ℕ
-answersTo [] = []
-answersTo (line ∷ lines) = answerTo line ++ answersTo lines
+abbrev pub mergeLines : LineMachine Scanned (Unit {0})
+mergeLines = record {
+  step = alone answerTo;
+  begin = λ s. scanned scan.Start (s .one) (s .two);
+  more = scanAll;
+  empty = λ s. isStart (s .scan);
+  kept = λ j s. record { text = responseText (responseIn (heldMeaning (s .scan) (s .one) (s .two))); state = j };
+  most = mostAnswer;
+}
 
--- a line feed is 10
-unfoldable pub lineAfter : List ℕ → List ℕ → List ℕ
-lineAfter v [] = v
-lineAfter v (x ∷ w) = cond (eqb x 10) (lineAfter [] w) (lineAfter (v ++ (x ∷ [])) w)
+abbrev pub mergeState : Scan → List ℕ → List ℕ → State Scanned (Unit {0})
+mergeState s one two = keeping tt (scanned s one two)
 
-unfoldable pub answersAfter : List ℕ → List ℕ → List ℕ
-answersAfter v [] = []
-answersAfter v (x ∷ w) =
-    cond (eqb x 10) (answerTo v ++ answersAfter [] w) (answersAfter (v ++ (x ∷ [])) w)
-
-abbrev pub lastAnswer : List ℕ → List ℕ
-lastAnswer [] = []
-lastAnswer (x ∷ v) = answerTo (x ∷ v)
+pub record KeepsFiles (s : Scanned) (w : List ℕ) : Type 0 where
+  pub one : longestFile < length (s .one)
+  pub two : longestFile < length (s .two)
+  pub keeps : KeepsLine (seenBy start w) (s .scan) (s .one) (s .two)

@@ -9,14 +9,13 @@ use mathlib.Core.Path.{_≡_, refl, sym, ap, _∙_, subst}
 use mathlib.Core.Logic.{_↔_, inl, inr, ⊎-elim}
 use mathlib.Core.List.{List, [], _∷_, _++_}
 use mathlib.Core.Option.{Option, none, some}
-use Prim.Native.Nat.{ℕ, zero, suc, _/_, _≤_}
+use Prim.Native.Nat.{ℕ, _≤_}
 use native.Mathlib.Omega.{arith}
-use lib.Dec.{ltb}
 use lib.ListN.{length, length-append}
 use Rattle.base.specs.Conditions.{firstOf}
-use Rattle.base.proofs.Tests.{zero-one, by-test}
+use Rattle.base.proofs.Tests.{zero-one}
 use Rattle.base.proofs.Conditions.{orElse, first-append}
-use Rattle.text.specs.Numerals.{decimalBelow, decimal}
+use Rattle.answers.proofs.Lengths.{refused-short}
 use Rattle.fields.specs.Claims.{digitsOf}
 use Rattle.hexfields.proofs.Digits.{digits-length}
 use Rattle.automaton.specs.declared.Rule.{Rule}
@@ -28,7 +27,6 @@ use Rattle.ruleformat.specs.Refusals.{fileConditions, refusal}
 use Rattle.ruleformat.specs.Reader.{ruleOf}
 use Rattle.ruleformat.specs.Language.{automatonIn}
 use Rattle.ruleformat.proofs.Claims as rulefile
-use Rattle.rulewriter.specs.Written.{fileBy}
 use Rattle.rulewriter.proofs.Claims as writer
 use Rattle.merging.specs.declared.Way.{Way}
 use Rattle.merging.specs.declared.Way.the-variants.{Both, Either, Interleaving}
@@ -118,28 +116,12 @@ language way f g taken w =
     )
 
 -- ---- the length of an answer
-below-most : (places n : ℕ) → length (decimalBelow places n) ≤ places
-unfolding decimalBelow
-below-most zero n = omega arith
-below-most (suc places) n =
-    by-test (ltb n 10)
-    (λ e. rw e (omega arith))
-    (λ e.
-    let h = below-most places (n / 10) in
-    rw (e, length-append) (omega arith))
-
-refused-most : (x : ℕ) → length (responseText (refused x)) ≤ 65813
-refused-most x =
-    let d = below-most 20 x in
-    let l = length-append (decimal x) (10 ∷ []) in
-    omega arith
-
 file-most : (f : List ℕ) → length f ≤ 32906 → length (responseText (file f)) ≤ 65813
 file-most f h = let d = digits-length f in let l = length-append (digitsOf f) (10 ∷ []) in omega arith
 
 response-most : (o : Option ℕ) (f : List ℕ) → (o ≡ none → length f ≤ 32906) → length (responseText (responseBy o f)) ≤ 65813
 response-most none f h = file-most f (h refl)
-response-most (some x) f h = refused-most x
+response-most (some x) f h = omega (arith, refused-short x)
 
 pub fits : (way : Way) (f g : List ℕ) → length (responseText (mergedFiles way f g)) ≤ 65813
 fits way f g =
@@ -147,4 +129,4 @@ fits way f g =
     (λ e.
     let r = mergedOf way (ruleOf f) (ruleOf g) in
     let passed : ruleNumber r ≡ none = passes r .1 (result way f g e) in
-    subst (λ (o : Option ℕ). length (fileBy o r) ≤ 32906) passed (writer.claims .fits r))
+    writer.claims .fits r passed)

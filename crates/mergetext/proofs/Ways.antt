@@ -1,7 +1,7 @@
 -- What the functions' proofs cite: the file that was written, and each way through two files.
 -- Assumes nothing.
 --
---   Written, written-file, room-left, rule-line   what writing a rule that passes leaves
+--   length-most, room-left, file-line    a file that was written, and its line
 --   merged-passes                        the rule that merging left passes its check
 --   told-first, told-second, ..          what is written for two files
 use mathlib.Core.Path.{_≡_, refl, sym, ap, ap₂, _∙_, subst}
@@ -10,9 +10,9 @@ use mathlib.Core.Option.{Option, none, some}
 use Prim.Native.Nat.{ℕ, _+_, _≤_, _<_}
 use native.Mathlib.Omega.{arith}
 use lib.ListN.{length, take}
-use lib.Seq.{take-at, length-take-le}
+use Rattle.limits.specs.Limits.{longestFile}
 use Rattle.text.specs.Writing.{Wrote}
-use Rattle.text.proofs.Fitting.{Put, put, _then_}
+use Rattle.text.proofs.Fitting.{Put, put, _then_, taken}
 use Rattle.answers.specs.Answers.{refusedText}
 use Rattle.fields.specs.Claims.{digitsOf}
 use Rattle.hexfields.proofs.Digits.{digits-length}
@@ -25,57 +25,32 @@ use Rattle.ruleformat.specs.declared.ReadResult.{ReadResult}
 use Rattle.ruleformat.specs.Refusals.{refusal}
 use Rattle.ruleformat.specs.Reader.{readMeans, Reading, ruleOf, readOutcome, readOf}
 use Rattle.ruleformat.specs.Writing.{fileOf}
-use Rattle.rulewriter.specs.declared.WriteResult.{WriteResult}
-use Rattle.rulewriter.specs.Written.{Writing, fileBy, writeOf, writeOutcome}
-use Rattle.rulewriter.proofs.Claims as writer
 use Rattle.merging.specs.declared.Way.{Way}
 use Rattle.merging.specs.declared.MergeAnswer.the-variants as merge
 use Rattle.merging.specs.declared.MergeResult.{MergeResult}
 use Rattle.merging.specs.Merged.{mergedOf}
 use Rattle.merging.specs.Merging.{mergeNumber, mergeMeans, Merging, mergeOutcome, mergingBy, mergeOf}
-use Rattle.mergetext.specs.Answers.{filesNumber, Response, mergedFiles, refused, file, responseText}
+use Rattle.mergetext.specs.Answers.{mostAnswer, filesNumber, Response, mergedFiles, refused, file, responseText}
 use Rattle.mergetext.proofs.Files.{refused-first, refused-second, as-rules, result}
 
--- ---- the file of a rule
-pub record Written (r : Rule) (w : WriteResult) : Type 0 where
-  pub is : take (w .length) (w .bytes) ≡ fileOf r
-  pub within : w .length ≤ length (w .bytes)
-  pub most : w .length ≤ 32906
+-- ---- a file in a buffer that has room for it: its digits leave room for the line feed, and with it
+-- they are the line
+module _ {f room bytes : List ℕ} {n : ℕ} (most : length f ≤ longestFile) (w : Wrote room 0 f bytes n) where
+  pub length-most : n ≤ longestFile
+  length-most = omega (arith, w .ends)
 
-pub written-file : (r : Rule) (w : WriteResult) → writeOutcome w ≡ writeOf r → ruleNumber r ≡ none → Written r w
-written-file r w e passed =
-    let size : w .length ≡ length (fileBy (ruleNumber r) r) = ap (λ (x : Writing). x .length) e in
-    let bytes : w .bytes ≡ writeOf r .bytes = ap (λ (x : Writing). x .bytes) e in
-    let short : w .length ≤ 32906 = rw size (writer.claims .fits r) in
-    let room : length (w .bytes) ≡ 32906 = ap length bytes ∙ writer.claims .room r in
-    record {
-      is =
-          ap (λ (b : List ℕ). take (w .length) b) bytes
-          ∙ take-at (fileBy (ruleNumber r) r) _ (w .length) (sym size)
-          ∙ ap (λ (o : Option ℕ). fileBy o r) passed;
-      within = omega arith;
-      most = short;
-    }
+  module _ {before mid : List ℕ} {at e : ℕ} (fits : at + mostAnswer ≤ length before) (wrote : Wrote before at (digitsOf (take n bytes)) mid e) where
+    digits-put : Put before at (digitsOf f) mid e
+    digits-put =
+        put (omega (arith, digits-length f))
+        (subst (λ (b : List ℕ). Wrote before at (digitsOf b) mid e) (taken w) wrote)
 
--- its digits leave room for the line feed, and with it they are the line
-module _ (r : Rule) (w : WriteResult) (f : Written r w) (before mid : List ℕ) (at e : ℕ) (room : at + 65813 ≤ length before) (wrote : Wrote before at (digitsOf (take (w .length) (w .bytes))) mid e) where
-  digits-put : Put before at (digitsOf (take (w .length) (w .bytes))) mid e
-  digits-put =
-      let n = digits-length (take (w .length) (w .bytes)) in
-      let m = length-take-le (w .length) (w .bytes) (f .within) in
-      put (omega (arith, f .most)) wrote
+    pub room-left : e < length mid
+    room-left = omega (arith, digits-length f, digits-put .kept, digits-put .wrote .ends)
 
-  pub room-left : e < length mid
-  room-left =
-      let n = digits-length (take (w .length) (w .bytes)) in
-      let m = length-take-le (w .length) (w .bytes) (f .within) in
-      omega (arith, f .most, digits-put .kept, wrote .ends)
-
-  pub rule-line : (after : List ℕ) (end : ℕ) → Wrote mid e (10 ∷ []) after end
-      → Wrote before at (digitsOf (fileOf r) ++ (10 ∷ [])) after end
-  rule-line after end wrote2 =
-      let whole = digits-put then put (omega (arith, room-left)) wrote2 in
-      subst (λ (b : List ℕ). Wrote before at (digitsOf b ++ (10 ∷ [])) after end) (f .is) (whole .wrote)
+    pub file-line : {after : List ℕ} {end : ℕ} → Wrote mid e (10 ∷ []) after end
+        → Wrote before at (digitsOf f ++ (10 ∷ [])) after end
+    file-line feed = (digits-put then put (omega (arith, room-left)) feed) .wrote
 
 -- ---- two files
 number-in : (f : List ℕ) (x : ReadResult) → readOutcome x ≡ readOf f → refusal f ≡ readMeans (x .answer)

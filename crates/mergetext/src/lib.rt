@@ -19,9 +19,8 @@ fn put_rule(out: &mut [u8], at: usize, rule: Rule) -> usize
     requires { ⌜ (ruleNumber rule ≡ none) × (at + mostAnswer ≤ length (now out)) ⌝ }
     ensures { λ r. ⌜ Wrote (now (out .entry)) at (digitsOf (fileOf rule) ++ (10 ∷ [])) (now (out .exit)) r ⌝ }
 {
-    let written = rulewriter::write_rule(rule);
-    let n = written.length;
-    let bytes = written.bytes;
+    let mut bytes = [0u8; limits::FILE];
+    let n = rulewriter::put_file(&mut bytes, rule);
     let end = hexfields::put_digits(out, at, &bytes[..n]);
     text::put_byte(out, end, b'\n')
 }

@@ -161,6 +161,16 @@ module _ (keys : List ℕ) (count : ℕ) (most : count ≤ 512) (are : keys ≡ 
         keys-are = are ∙ sym (cells-full l (numbered skips l m) (record { rest = m ∷ []; is = taken }) (omega (arith, count-is)));
       }
 
+-- the turn of a key is the same whatever other keys are left out
+numbered-same : (one other : ℕ → Bool) (l : List ℕ) (m : ℕ) → one m ≡ other m → numbered one l m ≡ numbered other l m
+unfolding numbered
+numbered-same one other l m e = rw e
+
+pub entered-any : (one other : ℕ → Bool) (l : List ℕ) (m : ℕ) → one m ≡ other m → {r : Option (ℕ × ℕ)} {keys : List ℕ} → Entered one l m r keys → Entered other l m r keys
+entered-any one other l m e h =
+    let same : numbered one l m ≡ numbered other l m = numbered-same one other l m e in
+    record { number = h .number ∙ rw same; keys-are = h .keys-are ∙ ap keyCells same }
+
 -- what a key's turn answered
 module _ (skips : ℕ → Bool) (l : List ℕ) (m : ℕ) where
   turn : Bool → Option (ℕ × ℕ)

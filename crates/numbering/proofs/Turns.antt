@@ -9,6 +9,7 @@
 --   grown-whole, grown-over   the ways out of the expansion
 --   grown-read                the keys are read off the array again
 --   begin                     nothing is numbered yet
+--   seed-..                   a key is numbered, and the keys from there on are expanded
 use mathlib.Core.Path.{_≡_, sym, ap, _∙_, subst}
 use mathlib.Core.Bool.{false}
 use mathlib.Core.List.{List, []}
@@ -18,13 +19,13 @@ use native.Mathlib.Omega.{arith}
 use lib.ListN.{length, getD, take}
 use borrow.Author.Tests.{le-ltb}
 use Rattle.base.proofs.Lists.{length-listFrom, cell-of}
-use Rattle.numbering.specs.Numbering.{Walk, expandFrom, closeFrom}
+use Rattle.numbering.specs.Numbering.{Walk, indexOf, numbered, expandFrom, closeFrom}
 use Rattle.numbering.specs.mirror.Begins.{Begins}
-use Rattle.numbering.specs.mirror.Arrays.{target, afterStep, Stepped, Cleared, ArraysHold, Grown}
+use Rattle.numbering.specs.mirror.Arrays.{target, afterStep, Entered, Stepped, Cleared, ArraysHold, Grown, Expanded, grownBy, Added}
 use Rattle.numbering.proofs.Numbers.{begins-trans, begins-length, begins-at, numbered-begins}
 use Rattle.numbering.proofs.Closure.{expand-begins, close-begins, symbols-more, symbols-end, keys-more}
-use Rattle.numbering.proofs.Arrays.{count-is, read-back, limited-whole, limited-over, whole-of, over-of}
-use Rattle.numbering.proofs.Table.{step-holds}
+use Rattle.numbering.proofs.Arrays.{count-is, read-back, limited-whole, limited-over, whole-of, over-of, entered-any, entered-as, entered-over}
+use Rattle.numbering.proofs.Table.{step-holds, holds-more}
 
 -- the keys l after key i is expanded from symbol s on
 abbrev pub expanded : Walk → ℕ → ℕ → List ℕ → List ℕ
@@ -114,3 +115,47 @@ module _ (a : Walk) (free : ℕ) where
         ∙ cell-of 8192 (λ _. free) c 0 b
         ∙ rw (le-ltb c 0 (omega arith));
   }
+
+  -- ---- the turn of a key m that is not left out, with the keys l
+  module _ (keys next : List ℕ) (count m : ℕ) (most : count ≤ 512) (h : ArraysHold a free (take count keys) (count * 16) keys next) (kept : a .skips m ≡ false)
+      (r : Option (ℕ × ℕ)) (keys′ : List ℕ) (entered : Entered (λ _. false) (take count keys) m r keys′) where
+    abbrev l : List ℕ
+    l = take count keys
+
+    l-is : length l ≡ count
+    l-is = count-is keys count most (h .keys-are)
+
+    turn : Entered (a .skips) l m r keys′
+    turn = entered-any (λ _. false) (a .skips) l m (sym kept) entered
+
+    more : Begins l (numbered (a .skips) l m)
+    more = numbered-begins (a .skips) l m
+
+    module _ (j c : ℕ) (known : r ≡ some (j, c)) where
+      told : (length (numbered (a .skips) l m) ≤ 512) × (j ≡ indexOf (numbered (a .skips) l m) m) × (c ≡ length (numbered (a .skips) l m))
+      told = entered-as (a .skips) l m j c (sym known ∙ turn .number)
+
+      seed-read : take c keys′ ≡ numbered (a .skips) l m
+      seed-read = read-back (numbered (a .skips) l m) keys′ c (told .0) (told .2) (turn .keys-are)
+
+      pub seed-asked : (c ≤ 512) × (count ≤ c) × ArraysHold a free (take c keys′) (count * 16) keys′ next
+      seed-asked = (
+        omega (arith, told),
+        omega (arith, told, l-is, begins-length more),
+        rw seed-read (holds-more a free h (numbered (a .skips) l m) keys′ more (turn .keys-are)),
+      )
+
+      pub seed-added : {r₂ : Option ℕ} {keys₂ next₂ : List ℕ} → Expanded a free (closeFrom a 512 count (take c keys′)) r₂ keys₂ next₂ → Added a free l m r₂ keys₂ next₂
+      seed-added {r₂} {keys₂} {next₂} x =
+          let e : closeFrom a 512 count (take c keys′) ≡ grownBy a free l m =
+          ap (closeFrom a 512 count) seed-read ∙ ap (λ (y : ℕ). closeFrom a 512 y (numbered (a .skips) l m)) (sym l-is) in
+          let y : Expanded a free (grownBy a free l m) r₂ keys₂ next₂ = subst (λ (f : List ℕ). Expanded a free f r₂ keys₂ next₂) e x in
+          record { grown = y .grown; stopped = λ _. y .stopped }
+
+    pub seed-over : (next₂ : List ℕ) → r ≡ none → Added a free l m none keys′ next₂
+    seed-over next₂ e =
+        let o = entered-over (a .skips) l m (sym e ∙ turn .number) in
+        record {
+          grown = grown-over (grownBy a free l m) keys′ next₂ (omega (arith, begins-length (close-begins a 512 (length l) (numbered (a .skips) l m))));
+          stopped = λ few _. absurd (omega (arith, o));
+        }

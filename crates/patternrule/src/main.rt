@@ -6,14 +6,13 @@
 // a test holds it.
 ghost use mathlib.Core.Path.{_≡_};
 ghost use mathlib.Core.Bool.{false};
-ghost use mathlib.Core.List.{List};
-ghost use Prim.Native.Nat.{ℕ, _≤_};
-ghost use lib.ListN.{length};
-ghost use Rattle.stdio.specs.Blocks.{Within};
-ghost use Rattle.patterntext.specs.Answers.{answerRoom};
-ghost use Rattle.patterntext.specs.Claims.{Rounds};
-use patterntext::Line;
-use stdio::Block;
+ghost use Prim.Native.Nat.{_≤_};
+ghost use lib.ListN.{length, take};
+ghost use Rattle.linetexts.specs.Parts.{partsOf};
+ghost use Rattle.linetexts.specs.Feeding.{feedParts};
+ghost use Rattle.linetexts.specs.Alone.{lineState};
+ghost use Rattle.patterntext.specs.Texts.{patternLines};
+use longlines::Held;
 
 // How many bytes are read at once.
 const BLOCK: usize = 65536;
@@ -21,84 +20,74 @@ const BLOCK: usize = 65536;
 // Room for the answers to a block, as many as are written at once.
 const ANSWERS: usize = 6 * BLOCK;
 
-// What is kept of a line, and whether the input or the output failed, which was told.
+// What is held of a line, and whether the input is over, or it or the output failed, which was told.
 struct Reading {
-    line: Line,
-    failed: bool,
+    held: Held,
+    over: bool,
 }
 
-fn read_block(block: &mut [u8]) -> Block
-    ensures { λ r. ⌜ Within r (now (block .exit)) ⌝ }
+fn write_answers(out: &[u8], written: usize) -> bool {
+    stdio::write_first(b"patternrule", written, out)
+}
+
+// The lines of the first n bytes of a block. `line` keeps a line that goes on.
+fn run_block(
+    held: Held,
+    line: &mut [u8; patterntext::LINE],
+    out: &mut [u8; ANSWERS],
+    block: &[u8],
+    n: usize,
+) -> Reading
+    requires { ⌜ n ≤ length (now block) ⌝ }
+    ensures { λ r. ⌜ (r .over ≡ false → lineState (r .held) (now (line .exit)) ≡ feedParts patternLines (lineState held (now (line .entry))) (partsOf (take n (now (block .entry))))) ⌝ }
 {
-    stdio::read_block(b"patternrule", block)
-}
-
-fn write_answers(answers: &[u8]) -> bool {
-    stdio::write_all(b"patternrule", answers)
-}
-
-// The lines of a block.
-fn run_block(line: Line, out: &mut [u8], block: &[u8]) -> Reading
-    requires { ⌜ answerRoom ≤ length (now out) ⌝ }
-    ensures { λ r. ⌜ (r .failed ≡ false → (text : List ℕ)
-        × Rounds (length (now (out .entry))) line (now (block .entry)) (r .line) text) ⌝ }
-{
-    let mut line = line;
+    let mut held = held;
     let mut at: usize = 0;
-    while at < block.len() {
-        let round = patterntext::feed(line, out, block, at);
-        line = round.line;
+    while at < n {
+        let round = patterntext::gather(held, line, out, &block[..n], at);
+        held = round.held;
         at = round.at;
         let written = round.written;
-        if !write_answers(&out[..written]) {
-            let failed = true;
-            return Reading { line, failed };
+        if !write_answers(out, written) {
+            let over = true;
+            return Reading { held, over };
         }
     }
-    let failed = false;
-    Reading { line, failed }
+    let over = false;
+    Reading { held, over }
 }
 
-// All blocks, up to the end of the input.
-fn run_blocks(out: &mut [u8], block: &mut [u8]) -> Reading
-    requires { ⌜ answerRoom ≤ length (now out) ⌝ }
-{
-    let mut line = patterntext::begin_line();
+// A block is read and its lines are answered; at the end of the input, a last line.
+fn turn(
+    held: Held,
+    line: &mut [u8; patterntext::LINE],
+    out: &mut [u8; ANSWERS],
+    block: &mut [u8; BLOCK],
+) -> Reading {
+    let read = stdio::read_block(b"patternrule", block);
+    let n = read.length;
+    if 0 < n {
+        return run_block(held, line, out, block, n);
+    }
+    if !read.failed {
+        let written = patterntext::finish(held, line, out);
+        write_answers(out, written);
+    }
+    let over = true;
+    Reading { held, over }
+}
+
+fn run(line: &mut [u8; patterntext::LINE], out: &mut [u8; ANSWERS], block: &mut [u8; BLOCK]) {
+    let mut held = longlines::nothing();
     let mut turns = stdio::most_turns();
     while turns > 0 {
-        let read = read_block(block);
-        match read {
-            Block::Bytes(n) => {
-                let reading = run_block(line, out, &block[..n]);
-                if reading.failed {
-                    return reading;
-                }
-                line = reading.line;
-            }
-            Block::End => {
-                let failed = false;
-                return Reading { line, failed };
-            }
-            Block::Failed => {
-                let failed = true;
-                return Reading { line, failed };
-            }
+        let reading = turn(held, line, out, block);
+        if reading.over {
+            return;
         }
+        held = reading.held;
         turns -= 1;
     }
-    let failed = false;
-    Reading { line, failed }
-}
-
-fn run(out: &mut [u8], block: &mut [u8])
-    requires { ⌜ answerRoom ≤ length (now out) ⌝ }
-{
-    let reading = run_blocks(out, block);
-    if reading.failed {
-        return;
-    }
-    let written = patterntext::finish(reading.line, out);
-    write_answers(&out[..written]);
 }
 
 fn main() {
@@ -107,7 +96,8 @@ fn main() {
     ) {
         return;
     }
+    let mut line = [0u8; patterntext::LINE];
     let mut out = [0u8; ANSWERS];
     let mut block = [0u8; BLOCK];
-    run(&mut out, &mut block);
+    run(&mut line, &mut out, &mut block);
 }

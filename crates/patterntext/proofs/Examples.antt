@@ -5,9 +5,10 @@ use Rattle.text.specs.Numerals.{decimalBelow, hex}
 use Rattle.fields.specs.Claims.{digitsOf}
 use Rattle.lines.specs.Splitting.{linesFrom, linesOf}
 use Rattle.patternscan.specs.Signs.{signOf}
-use Rattle.patterntext.specs.Answers.{answersText}
+use Rattle.linetexts.specs.Alone.{answersTo}
+use Rattle.patterntext.specs.Answers.{answerText}
 use Rattle.patterntext.specs.Worked.{twoLines, twoAnswers}
 
-pub worked : answersText (linesOf twoLines) ≡ twoAnswers
-unfolding listFrom joined signOf decimalBelow hex digitsOf linesFrom answersText
+pub worked : answersTo answerText (linesOf twoLines) ≡ twoAnswers
+unfolding listFrom joined signOf decimalBelow hex digitsOf linesFrom answersTo
 worked = refl

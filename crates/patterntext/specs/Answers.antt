@@ -4,7 +4,6 @@
 --                  feed
 --   answerText b   the answer to the pattern b: the digits of its rule file, or `refused` and the
 --                  number; and a line feed
---   answersText    the answers to patterns, one after the other
 use mathlib.Core.List.{List, [], _∷_, _++_}
 use mathlib.Core.Option.{Option, none, some}
 use Prim.Native.Nat.{ℕ, _+_, _*_}
@@ -22,7 +21,3 @@ answerBy (some number) file = refusedText number
 
 abbrev pub answerText : List ℕ → List ℕ
 answerText b = answerBy (patternNumber b) (patternFile b)
-
-unfoldable pub answersText : List (List ℕ) → List ℕ
-answersText [] = []
-answersText (b ∷ bs) = answerText b ++ answersText bs

@@ -1,5 +1,5 @@
 -- In the order in which to read them.
 pub mod Answers
-pub mod Lines
+pub mod Texts
 pub mod Worked
 pub mod Claims

@@ -1,33 +1,24 @@
 // Patterns as lines of text, and their answers: the rule file in hex digits, or `refused` and the
 // number. A text of lines comes in blocks, cut anywhere.
-ghost use mathlib.Core.Path.{_≡_};
 ghost use Prim.Native.Nat.{_+_, _≤_};
 ghost use lib.ListN.{length};
 ghost use Rattle.text.specs.Writing.{Wrote};
+ghost use Rattle.linetexts.specs.Feeding.{finishOf};
+ghost use Rattle.linetexts.specs.Beginnings.{heldStep};
+ghost use Rattle.linetexts.specs.Alone.{lineState, FedLines};
+ghost use Rattle.patterns.specs.Limits.{longestPattern};
 ghost use Rattle.patterntext.specs.Answers.{answerRoom, answerText};
-ghost use Rattle.patterntext.specs.Lines.{lineBegin, lineWith, keptIn, feedOf, Feeds, finishText};
+ghost use Rattle.patterntext.specs.Texts.{patternLines};
+use linetexts::Round;
+use longlines::Held;
 use patternfile::PatternAnswer;
 
-// What is kept of a line: one byte more than a pattern may have, since a longer line is refused
-// whatever follows.
-const KEPT: usize = patterns::PATTERN + 1;
+// Room for what is kept of a line: one byte more than a pattern may have, since a longer one is
+// refused, and one that makes an odd rest even.
+pub const LINE: usize = patterns::PATTERN + 2;
 
 // Room for an answer: two hex digits for each byte of a file, and a line feed.
 pub const ANSWER: usize = 2 * patterns::FILE + 1;
-
-// The beginning of a line: how many bytes are kept of it, and these bytes.
-pub struct Line {
-    pub length: usize,
-    pub bytes: [u8; KEPT],
-}
-
-// What feeding a block came to: the beginning of the next line, where in the block it goes on, and
-// how many bytes of answers were written.
-pub struct Fed {
-    pub line: Line,
-    pub at: usize,
-    pub written: usize,
-}
 
 // The answer to a pattern.
 fn put_answer(out: &mut [u8], at: usize, pattern: &[u8]) -> usize
@@ -48,71 +39,51 @@ fn put_answer(out: &mut [u8], at: usize, pattern: &[u8]) -> usize
     }
 }
 
-// No byte of a line.
-pub fn begin_line() -> Line
-    ensures { λ r. ⌜ r ≡ lineBegin ⌝ }
-{
-    let bytes = [0u8; KEPT];
-    Line { length: 0, bytes }
-}
-
-// One byte more of a line.
-fn with_byte(line: Line, c: u8) -> Line
-    ensures { λ r. ⌜ r ≡ lineWith line c ⌝ }
-{
-    let n = line.length;
-    if n < KEPT {
-        let mut bytes = line.bytes;
-        bytes[n] = c;
-        let length = n + 1;
-        return Line { length, bytes };
-    }
-    line
-}
-
-// The answer to a line.
-fn answer_line(out: &mut [u8], at: usize, line: Line) -> usize
+// The answer to a line that has ended.
+fn answer_held(line: &[u8], held: Held, out: &mut [u8], at: usize) -> usize
     requires { ⌜ at + answerRoom ≤ length (now out) ⌝ }
-    ensures { λ r. ⌜ Wrote (now (out .entry)) at (answerText (keptIn line)) (now (out .exit)) r ⌝ }
+    ensures { λ r. ⌜ Wrote (now (out .entry)) at (heldStep patternLines tt (now (line .entry)) held .text) (now (out .exit)) r ⌝ }
 {
-    let n = base::at_most(line.length, KEPT);
-    let bytes = line.bytes;
-    put_answer(out, at, &bytes[..n])
+    let seen = longlines::look(line, held);
+    let n = seen.length;
+    if seen.hex {
+        return put_answer(out, at, &line[..n]);
+    }
+    answers::put_refused(out, at, 30)
 }
 
-// A block from an index on, as far as there is room for the answers to the lines that end in it,
-// which stand at the start of `out`.
-pub fn feed(line: Line, out: &mut [u8], block: &[u8], from: usize) -> Fed
-    ensures { λ r. ⌜ Feeds (feedOf line (now (block .entry)) from (length (now (out .entry)))) from
-        r (now (out .entry)) (now (out .exit)) ⌝ }
+// The parts of a block from an index on, while there is room for their answers, which stand one
+// behind the other at the start of `out`. `line` keeps the line.
+pub fn gather(held: Held, line: &mut [u8], out: &mut [u8], block: &[u8], from: usize) -> Round
+    requires { ⌜ longestPattern + 2 ≤ length (now line) ⌝ }
+    ensures { λ r. ⌜ FedLines patternLines held (now (line .entry)) (now (out .entry)) (now (block .entry)) from (now (line .exit)) (now (out .exit)) r ⌝ }
 {
-    let mut line = line;
+    let mut held = held;
     let mut at = from;
     let mut written: usize = 0;
     while at < block.len() {
-        let c = block[at];
-        if c != b'\n' {
-            line = with_byte(line, c);
-            at += 1;
+        if out.len() - written < ANSWER {
+            break;
+        }
+        let part = linetexts::take_part(held, line, block, at);
+        at = part.at;
+        held = part.held;
+        if !part.ends {
             continue;
         }
-        if out.len() - written < ANSWER {
-            return Fed { line, at, written };
-        }
-        written = answer_line(out, written, line);
-        line = begin_line();
-        at += 1;
+        written = answer_held(line, held, out, written);
+        held = longlines::nothing();
     }
-    Fed { line, at, written }
+    Round { held, at, written }
 }
 
 // The end of the text: a last line that is not empty is answered.
-pub fn finish(line: Line, out: &mut [u8]) -> usize
-    requires { ⌜ answerRoom ≤ length (now out) ⌝ }
-    ensures { λ r. ⌜ Wrote (now (out .entry)) 0 (finishText line) (now (out .exit)) r ⌝ }
+pub fn finish(held: Held, line: &[u8], out: &mut [u8]) -> usize
+    requires { ⌜ (longestPattern + 2 ≤ length (now line)) × (answerRoom ≤ length (now out)) ⌝ }
+    ensures { λ r. ⌜ Wrote (now (out .entry)) 0 (finishOf patternLines (lineState held (now (line .entry))) .text) (now (out .exit)) r ⌝ }
 {
-    if line.length == 0 {
+    if held.length == 0 {
         return 0;
     }
-    answer_line(out, 0, line)
+    answer_held(line, held, out, 0)
 }

@@ -1,36 +1,22 @@
 -- How long the parts of the text are at most. Assumes nothing.
 --
---   cell-most              4
---   row-most, cells-most   4 for each symbol, 64 for a row
 --   line-most, lines-most  85 for each mapping
 --   head-most              13
 --   profile-most           43,533
 use mathlib.Core.List.{List, [], _∷_, _++_}
-use Prim.Native.Nat.{ℕ, _+_, _*_, _%_, _≤_, _<_, min}
+use Prim.Native.Nat.{ℕ, _*_, _≤_, _<_, min}
 use native.Mathlib.Omega.{arith}
 use lib.ListN.{length, getD, length-append}
 use Rattle.base.specs.Lists.{joined}
 use Rattle.base.proofs.Lists.{joined-length}
 use Rattle.text.specs.Numerals.{decimal}
-use Rattle.ruletext.specs.RuleText.{space, lineFeed, field}
-use Rattle.ruletext.proofs.Lengths.{number-most, index-most}
+use Rattle.ruletext.specs.RuleText.{space, lineFeed, rowText}
+use Rattle.ruletext.proofs.Lengths.{number-most, index-most, row-most}
 use Rattle.mappings.specs.Packing.{unpack}
 use Rattle.maptext.specs.MappingText.{mappingText}
 use Rattle.maptext.proofs.RoundTrip as maptext
 use Rattle.profile.specs.declared.Profile.{Profile}
-use Rattle.profiletext.specs.ProfileText.{rowText, mappingLine, headLine, profileText, mostBytes}
-
-pub rest-most : (x : ℕ) → length (decimal (x % 512)) ≤ 3
-rest-most x = number-most (x % 512) (omega arith)
-
-pub cell-most : (x : ℕ) → length (field (x % 512)) ≤ 4
-cell-most x = omega (arith, rest-most x)
-
-pub row-most : (next : List ℕ) (k i : ℕ) → length (rowText next k i) ≤ k * 4
-row-most next k i = joined-length (λ s. field (getD next (i * 16 + s) 0 % 512)) k 4 (λ s h. cell-most (getD next (i * 16 + s) 0))
-
-pub cells-most : (next : List ℕ) (k i : ℕ) → k ≤ 16 → length (rowText next k i) ≤ 64
-cells-most next k i h = omega (arith, row-most next k i)
+use Rattle.profiletext.specs.ProfileText.{mappingLine, headLine, profileText, mostBytes}
 
 pub line-most : (mappings next : List ℕ) (k i : ℕ) → k ≤ 16 → i < 512 → length (mappingLine mappings next k i) ≤ 85
 line-most mappings next k i hk hi =

@@ -7,12 +7,12 @@
 --                   number of 1 to 8, 33 and 34 whose condition holds
 --   mostBytes       so many bytes have room for the text of any file (specs/Claims.antt)
 use mathlib.Core.List.{List, [], _∷_, _++_}
-use Prim.Native.Nat.{ℕ, _+_, _*_, _%_, min}
+use Prim.Native.Nat.{ℕ, _+_, _*_, min}
 use lib.ListN.{getD}
 use Rattle.limits.specs.Limits.{mostSymbols, mostSets}
 use Rattle.base.specs.Lists.{joined}
 use Rattle.text.specs.Numerals.{decimal}
-use Rattle.ruletext.specs.RuleText.{space, lineFeed, field, refusedText}
+use Rattle.ruletext.specs.RuleText.{space, lineFeed, rowText, refusedText}
 use Rattle.mappings.specs.Packing.{unpack}
 use Rattle.maptext.specs.MappingText.{mappingText}
 use Rattle.profile.specs.declared.Profile.{Profile}
@@ -23,10 +23,7 @@ use Rattle.profilefile.specs.Files.{profileIn}
 abbrev pub mappingsWord : List ℕ
 mappingsWord = 109 ∷ 97 ∷ 112 ∷ 112 ∷ 105 ∷ 110 ∷ 103 ∷ 115 ∷ 32 ∷ []
 
--- (a cell of a built profile is below 512; of any other its remainder is printed)
-abbrev pub rowText : List ℕ → ℕ → ℕ → List ℕ
-rowText next k i = joined (λ s. field (getD next (i * mostSymbols + s) 0 % mostSets)) k
-
+-- (a cell of a built profile is below 512; any other is printed as -, as a rule's are)
 abbrev pub mappingLine : List ℕ → List ℕ → ℕ → ℕ → List ℕ
 mappingLine mappings next k i =
     decimal i ++ ((space ∷ []) ++ (mappingText (unpack (getD mappings i 0)) ++ (rowText next k i ++ (lineFeed ∷ []))))

@@ -1,48 +1,17 @@
 // Prints a profile into a lent buffer.
-ghost use Prim.Native.Nat.{_+_, _*_, _%_, _≤_, _<_};
+ghost use Prim.Native.Nat.{_+_, _*_, _≤_, _<_};
 ghost use lib.ListN.{length};
 ghost use Rattle.limits.specs.Limits.{mostSymbols, mostSets};
 ghost use Rattle.base.specs.Lists.{joined};
 ghost use Rattle.text.specs.Writing.{Wrote};
-ghost use Rattle.ruletext.specs.RuleText.{field};
-ghost use Rattle.profiletext.specs.ProfileText.{rowText, mappingLine, headLine, profileText, textFor, mostBytes};
+ghost use Rattle.profiletext.specs.ProfileText.{mappingLine, headLine, profileText, textFor, mostBytes};
 use keys::KeyNumber;
 use profile::BuildAnswer;
 use profile::Profile;
+use subsets::SetNumber;
 
 // Room for the printed text of any profile.
 pub const ROOM: usize = 43533;
-
-// The number of a mapping with a space before it.
-fn put_cell(out: &mut [u8], at: usize, to: KeyNumber) -> usize
-    requires { ⌜ at + 4 ≤ length (now out) ⌝ }
-    ensures { λ r. ⌜ Wrote (now (out .entry)) at (field (to .0 % mostSets)) (now (out .exit)) r ⌝ }
-{
-    let digits = text::put_byte(out, at, b' ');
-    text::put_decimal(out, digits, (to.0 % limits::EMPTY) as u64)
-}
-
-// The numbers that mapping i leads to by the k symbols.
-fn put_row(
-    out: &mut [u8],
-    start: usize,
-    next: &[u16; limits::CELLS],
-    k: usize,
-    i: KeyNumber,
-) -> usize
-    requires { ⌜ (k ≤ mostSymbols) × (i .0 < mostSets) × (start + 4 * k ≤ length (now out)) ⌝ }
-    ensures { λ r. ⌜ Wrote (now (out .entry)) start (rowText (now (next .entry)) k (i .0)) (now (out .exit)) r ⌝ }
-{
-    let row = i.0 as usize;
-    let mut at = start;
-    let mut s: usize = 0;
-    while s < k {
-        let to = next[row * limits::SYMBOLS + s];
-        at = put_cell(out, at, KeyNumber(to));
-        s += 1;
-    }
-    at
-}
 
 // The line of mapping i.
 fn put_line(
@@ -61,7 +30,7 @@ fn put_line(
     let a = text::put_decimal(out, at, i.0 as u64);
     let b = text::put_byte(out, a, b' ');
     let c = maptext::put_mapping(out, b, mapping);
-    let d = put_row(out, c, next, k, i);
+    let d = ruletext::put_row(out, c, next, k, SetNumber(i.0));
     text::put_byte(out, d, b'\n')
 }
 

@@ -4,6 +4,7 @@ pub mod Quotient
 pub mod Facts
 pub mod Chosen
 pub mod Same
+pub mod Rising
 pub mod Only
 pub mod Law
 pub mod Whole

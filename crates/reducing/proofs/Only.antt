@@ -1,14 +1,10 @@
 -- The words fix every number of the reduced rule: two well-formed rules that are renumbered from
 -- the same one so, and of which every state is reachable, are equal. Assumes tables of 512 cells.
-use mathlib.Core.Path.{_≡_, sym, ap, subst}
+use mathlib.Core.Path.{_≡_, sym, subst}
 use mathlib.Core.List.{List}
-use Prim.Native.Nat.{ℕ, zero, suc, _≤_, _<_}
+use Prim.Native.Nat.{ℕ, _≤_, _<_}
 use native.Mathlib.Nat.{le-antisymm}
-use native.Mathlib.Omega.{arith}
-use lib.Dec.{ltb}
 use lib.ListN.{length}
-use borrow.Author.Tests.{ltb-true, ltb-false}
-use Rattle.base.proofs.Tests.{by-test}
 use Rattle.masks.specs.Masks.{_∈_}
 use Rattle.masks.proofs.Laws.{members-below}
 use Rattle.automaton.specs.declared.Rule.{Rule}
@@ -16,6 +12,8 @@ use Rattle.automaton.specs.Automaton.{Arc, Run, stay, move}
 use Rattle.automaton.specs.Rules.{automatonOf, WellFormed}
 use Rattle.automaton.proofs.Values.{Within, same-value}
 use Rattle.reducing.specs.Claims.{Reachable, Stands, Renumbered}
+use Rattle.reducing.proofs.Rising as rising
+use Rattle.reducing.proofs.Rising.{Among}
 
 -- ---- each state of the one is a state of the other
 module _ (r m n : Rule) (good : WellFormed m) (x : Renumbered r m) (y : Renumbered r n) where
@@ -37,44 +35,17 @@ module _ (r m n : Rule) (good : WellFormed m) (x : Renumbered r m) (y : Renumber
 module _ (r m n : Rule) (good-m : WellFormed m) (good-n : WellFormed n) (x : Renumbered r m) (y : Renumbered r n)
     (reach-m : (p : ℕ) → p < m .n → Reachable m p) (reach-n : (p : ℕ) → p < n .n → Reachable n p) where
   -- ---- with the same number
-  same-below : (k p : ℕ) → p < k → p < m .n → (p < n .n) × (x .old p ≡ y .old p)
-  same-below zero p h l = absurd (omega arith)
-  same-below (suc k) p h l =
-      let u = there r m n good-m x y p (reach-m p l) in
-      let low : p ≤ u .0 =
-      by-test (ltb (u .0) p)
-      (λ t.
-      let b = ltb-true (u .0) p t in
-      let e = same-below k (u .0) (omega arith) (omega arith) in
-      absurd (omega (arith, x .rises (u .0) p b l, e .1, u .2)))
-      (ltb-false (u .0) p) in
-      let in-n : p < n .n = omega (arith, u .1) in
-      let v = there r n m good-n y x p (reach-n p in-n) in
-      let low2 : p ≤ v .0 =
-      by-test (ltb (v .0) p)
-      (λ t.
-      let b = ltb-true (v .0) p t in
-      let e = same-below k (v .0) (omega arith) (omega arith) in
-      absurd (omega (arith, y .rises (v .0) p b in-n, e .1, v .2)))
-      (ltb-false (v .0) p) in
-      let a : y .old p ≤ x .old p =
-      by-test (ltb p (u .0))
-      (λ t. omega (arith, y .rises p (u .0) (ltb-true p (u .0) t) (u .1), u .2))
-      (λ t. let z : p ≡ u .0 = omega (arith, ltb-false p (u .0) t) in omega (arith, ap (y .old) z, u .2)) in
-      let b : x .old p ≤ y .old p =
-      by-test (ltb p (v .0))
-      (λ t. omega (arith, x .rises p (v .0) (ltb-true p (v .0) t) (v .1), v .2))
-      (λ t. let z : p ≡ v .0 = omega (arith, ltb-false p (v .0) t) in omega (arith, ap (x .old) z, v .2)) in
-      (in-n, le-antisymm b a)
+  in-n : Among (x .old) (m .n) (y .old) (n .n)
+  in-n p l = there r m n good-m x y p (reach-m p l)
+
+  in-m : Among (y .old) (n .n) (x .old) (m .n)
+  in-m p l = there r n m good-n y x p (reach-n p l)
 
   pub same : (p : ℕ) → p < m .n → (p < n .n) × (x .old p ≡ y .old p)
-  same p l = same-below (suc p) p (omega arith) l
+  same = rising.same (x .old) (y .old) (m .n) (n .n) (x .rises) (y .rises) in-n in-m
 
   pub no-more : m .n ≤ n .n
-  no-more =
-      by-test (ltb (n .n) (m .n))
-      (λ t. absurd (omega (arith, same (n .n) (ltb-true (n .n) (m .n) t) .0)))
-      (ltb-false (n .n) (m .n))
+  no-more = rising.no-more (x .old) (y .old) (m .n) (n .n) (x .rises) (y .rises) in-n in-m
 
   pub within : m .k ≡ n .k → Within (automatonOf m) (automatonOf n)
   within symbols = record {

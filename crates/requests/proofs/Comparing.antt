@@ -28,8 +28,8 @@
 -- All that they rest on stands in these files of specs/ (tests/believed):
 --   base Conditions, Lists, Options, Totals; limits Limits; masks Masks; automaton Automaton,
 --   Rules, Successor; rulecheck Checking, Worked; ruleformat Format, Reader, Refusals; numbering
---   Numbering, Texts; subsets Sets, mirror/Singles; compositions Relations; mappings Mappings,
---   Packing; keys Kinds, Tables; searches Search, Texts; samples Samples; compare Claims,
+--   Numbering, Texts; compositions Relations; mappings Mappings, Packing; keys Kinds, Tables;
+--   subsets Sets, mirror/Singles; searches Search, Texts; samples Samples; compare Claims,
 --   Compared, Search, Values, Worked; delegates Alike, Claims, mirror/Classes; marks Marks;
 --   chunks Chunks; joins Joining; calls Calls, Replies; histories History; c_compare Claims,
 --   Numbers; requests CompareFunction.

@@ -21,8 +21,10 @@
 --   heldOf; Fits f, lineOf f      what is read of it; the line of a form   formline/specs/Lines, Claims
 --   WorkedLine, formA             a line by hand, and its form             formline/specs/Worked
 --   linesA; tableA                texts by hand, in bytes                  formtext/specs/Worked, tabletext/specs/Worked
---   answersAfter, answersTo       the answers to a part, and to lines      formstream/specs/Texts
---   Blocks; finishText            what is written for blocks, and at the end  formstream/specs/Claims, Feeding
+--   answerTo w, formLines         its answer, and the machine              formstream/specs/Texts
+--   answersTo; lineState          the answers to lines; where a text begins   linetexts/specs/Alone
+--   partsOf, linesEnded, lineBegun   the parts of a text, and their lines  linetexts/specs/Parts
+--   streamOf; FedBlocks           blocks and the end; through functions    linetexts/specs/Claims, Functions
 --
 -- l is any list of cells, f and g any value of the form, in which any numbers may stand. A list of calls
 -- has the last call first. A proved function ends and stays within its bounds. Assumes nothing.
@@ -33,17 +35,18 @@
 --   delegates Alike, Claims, mirror/Classes; build mirror/Building; marks Marks; walks
 --   mirror/Steps; chunks Chunks, mirror/Walks; board Boards; joins Joining; calls Calls, Replies,
 --   mirror/Steps; executions Executions; histories Claims, History; fields Bytes, Claims,
---   Numbers; lines Splitting; hexfields Reading; ruletext RuleText; forms Back, Claims, Form;
---   formmaker Making; formtrip Claims; formfile Files; formtext FormText, Worked; wordfields
---   Claims, Words; formline Claims, Lines, Worked; tabletext Answers, Worked; formstream Claims,
---   Feeding, Texts; c_form Claims, Numbers; requests FormFunctions.
+--   Numbers; lines Splitting; ruletext RuleText; longlines Holding; linetexts Alone, Beginnings,
+--   Claims, Feeding, Functions, Parts; forms Back, Claims, Form; formmaker Making; formtrip
+--   Claims; formfile Files; formtext FormText, Worked; wordfields Claims, Words; formline Claims,
+--   Lines, Worked; tabletext Answers, Worked; formstream Texts; c_form Claims, Numbers; requests
+--   FormFunctions.
 use mathlib.Core.Path.{_≡_, ap, _∙_, refl}
 use mathlib.Core.Logic.{_↔_, _⊎_, ⊎-elim}
 use mathlib.Core.Bool.{cond}
-use mathlib.Core.List.{List, [], _∷_, _++_, flatten}
+use mathlib.Core.List.{List, _∷_, _++_, flatten}
 use mathlib.Core.Option.{Option, none, some}
 use Prim.Native.Nat.{ℕ, _+_, _≤_, _<_}
-use lib.ListN.{length, getD, replicate}
+use lib.ListN.{length, getD, replicate, take}
 use Rattle.limits.specs.Limits.{mostSymbols, mostSets, emptySet, tableCells}
 use Rattle.masks.specs.Masks.{_∈_, has}
 use Rattle.formline.specs.Worked.{WorkedLine, formA}
@@ -72,16 +75,23 @@ use Rattle.formtext.specs.FormText.{firstCell, textFor}
 use Rattle.formtext.specs.Worked.{linesA}
 use Rattle.formtext.proofs.Claims as formtext
 use Rattle.answers.specs.Answers.{refusedText, malformedText}
-use Rattle.lines.specs.Splitting.{linesOf}
+use Rattle.lines.specs.Splitting.{linesOf, linesFrom}
 use Rattle.formline.specs.Lines.{failureIn, lineIn, longestLine, malformed, tooGreat, heldOf}
 use Rattle.formline.proofs.Claims as formline
 use Rattle.tabletext.specs.Answers.{backText, answerText}
 use Rattle.tabletext.specs.Worked.{tableA}
 use Rattle.tabletext.proofs.Claims as tabletext
-use Rattle.formstream.specs.Texts.{answerTo, answersTo, lineAfter, answersAfter, lastAnswer}
-use Rattle.formstream.specs.Feeding.{finishText}
-use Rattle.formstream.specs.Claims.{State, Blocks}
-use Rattle.formstream.proofs.Claims as formstream
+use Rattle.longlines.specs.Holding.{lineBegin}
+use Rattle.linetexts.specs.Parts.{partsOf, linesEnded, lineBegun}
+use Rattle.linetexts.specs.Feeding.{State}
+use Rattle.linetexts.specs.Beginnings.{Beginning, beginning}
+use Rattle.linetexts.specs.Claims.{streamOf}
+use Rattle.linetexts.specs.Functions.{Promised, Ended, FedBlocks}
+use Rattle.linetexts.specs.Alone.{lineState, answersTo}
+use Rattle.linetexts.proofs.Beginnings.{begun}
+use Rattle.linetexts.proofs.Claimed as linetexts
+use Rattle.formstream.specs.Texts.{answerTo, formLines}
+use Rattle.formstream.proofs.Claimed as formstream
 use Rattle.c_form.specs.declared.FormNumbers.{FormNumbers}
 use Rattle.c_form.specs.declared.TableNumbers.{TableNumbers}
 use Rattle.c_form.specs.Numbers.{formShown, formReadBack, tableShown, tableReadBack}
@@ -329,20 +339,20 @@ any-numbers = formline.claims .any-numbers
 pub longest : (w : List ℕ) (f : Form) → lineIn w ≡ some f → length w ≤ longestLine
 longest = formline.claims .bounded
 
--- A text of lines, cut into parts anywhere: what is answered part by part, and at the end, are the
--- answers to its lines.
-pub lines : (w : List ℕ) → answersAfter [] w ++ lastAnswer (lineAfter [] w) ≡ answersTo (linesOf w)
-lines = formstream.claims .whole
+-- A text of lines, cut into blocks anywhere: what is answered block by block, and at the end, are the
+-- answers to its lines. Where it is cut in two, its lines are those that the first part ends and those of
+-- the second, of which the first begins with what that part left.
+pub lines : (blocks : List (List ℕ)) (line : List ℕ) → longestLine + 2 ≤ length line
+    → streamOf formLines (lineState lineBegin line) blocks .text ≡ answersTo answerTo (linesOf (flatten blocks))
+lines blocks line large = formstream.answers .whole blocks (beginning lineBegin line) (begun line large)
 
-pub in-parts : (v w u : List ℕ)
-    → (lineAfter v (w ++ u) ≡ lineAfter (lineAfter v w) u)
-    × (answersAfter v (w ++ u) ≡ answersAfter v w ++ answersAfter (lineAfter v w) u)
-in-parts v w u = (formstream.claims .lines-parts v w u, formstream.claims .answers-parts v w u)
+pub in-parts : (v w u : List ℕ) → linesFrom v (w ++ u) ≡ linesEnded v (partsOf w) ++ linesFrom (lineBegun v (partsOf w)) u
+in-parts v w u = linetexts.parts .split w v u
 
 -- All that `formtable` writes, in whatever rounds the blocks of its input are fed, is right line by line.
--- (A round is what the contract of `feed` promises, and the end what that of `finish` does:
+-- (A round is what the contract of `gather` promises, and the end what that of `finish` does:
 -- formstream/src/lib.rt.)
-pub lines-written : (line : List ℕ) → longestLine < length line → {blocks : List (List ℕ)} {s : State} {text : List ℕ}
-    → Blocks (record { kept = 0; line = line }) blocks s text
-    → text ++ finishText (s .kept) (s .line) ≡ answersTo (linesOf (flatten blocks))
-lines-written = formstream.claims .written
+pub lines-written : {s : State Beginning (Unit {0})} {blocks : List (List ℕ)} {line text before after : List ℕ} {n : ℕ} → longestLine + 2 ≤ length line
+    → FedBlocks (Promised formLines) (lineState lineBegin line) blocks s text → Ended formLines s before n after
+    → text ++ take n after ≡ answersTo answerTo (linesOf (flatten blocks))
+lines-written {line = line} large f end = formstream.answers .fed (begun line large) f end

@@ -1,8 +1,10 @@
--- A page for each request that brought functions of its own, and for each capability beyond the papers.
+-- A page for each request that brought functions of its own, and for each capability beyond the papers;
+-- Judged is what five of them cite.
 pub mod Listing
 pub mod Printing
 pub mod MappingFunctions
 pub mod Mappings
+pub mod Judged
 pub mod Samples
 pub mod Patterns
 pub mod Merging

@@ -9,22 +9,25 @@
 --   AsksText, MayMake, madeShown   the function for C, and its numbers     requests/specs/TextFunction, c_texts/specs/Numbers
 --   lineIn w, answerTo w           a line of `maketext`, and its answer    maketextlines/specs/Lines, Answers
 --   SaysText; sixLine, sixAnswer   three numbers; a line by hand           maketextlines/specs/Claims, Worked
---   Blocks; lastAnswer, answersTo  what is written for blocks              maketextstream/specs/Claims, shortlines/specs/Feeding
+--   textLines                      the machine that answers lines          maketextstream/specs/Texts
+--   Blocks; finishOf               what is written for blocks, and at the end   linetexts/specs/Claims, Feeding
+--   answersTo; lineState           the answers to lines; where a text begins   linetexts/specs/Alone
 --   linesOf w                      the lines of a text                     lines/specs/Splitting
 --
 -- k, the seed and the buffer are any numbers and any bytes. A proved function ends and stays within its
 -- bounds. Assumes nothing.
 -- All that they rest on stands in these files of specs/ (tests/believed):
---   base Conditions; limits Limits; flags Flags; text Numerals; answers Answers; automaton
---   Automaton; marks Marks; chunks Chunks; madetexts Making, Values; fields Claims, Numbers;
---   lines Splitting; shortlines Feeding, Keeping; maketextlines Answers, Claims, Lines, Worked;
---   maketextstream Claims; c_texts Claims, Numbers; requests TextFunction.
+--   base Conditions; limits Limits; flags Flags; text Numerals, Writing; answers Answers;
+--   automaton Automaton; marks Marks; chunks Chunks; madetexts Making, Values; fields Bytes,
+--   Claims, Numbers; lines Splitting; maketextlines Answers, Claims, Lines, Worked;
+--   maketextstream Texts; longlines Holding; linetexts Alone, Beginnings, Claims, Feeding, Parts;
+--   c_texts Claims, Numbers; requests TextFunction.
 use mathlib.Core.Path.{_≡_, refl, sym, ap, _∙_}
 use mathlib.Core.Logic.{_↔_, _⊎_}
 use mathlib.Core.Bool.{false}
 use mathlib.Core.List.{List, [], _∷_, _++_, flatten}
-use mathlib.Core.Option.{Option, none, some}
-use Prim.Native.Nat.{ℕ, _*_, _/_, _%_, _^_, suc, _≤_, _<_}
+use mathlib.Core.Option.{none, some}
+use Prim.Native.Nat.{ℕ, _*_, _/_, _%_, _^_, suc, _≤_, _<_, _+_}
 use lib.Bits.{bitXor}
 use lib.ListN.{length}
 use Rattle.limits.specs.Limits.{mostSymbols, largestNumber, longestChunk}
@@ -41,14 +44,19 @@ use Rattle.c_texts.specs.declared.MadeNumbers.{MadeNumbers}
 use Rattle.c_texts.specs.Numbers.{madeShown, madeReadBack}
 use Rattle.c_texts.specs.Claims as c-claims
 use Rattle.c_texts.proofs.ReadBack as c-texts
-use Rattle.shortlines.specs.Feeding.{lastAnswer, answersTo}
+use Rattle.longlines.specs.Holding.{lineBegin}
+use Rattle.linetexts.specs.Feeding.{State, finishOf}
+use Rattle.linetexts.specs.Beginnings.{Beginning}
+use Rattle.linetexts.specs.Claims.{Blocks}
+use Rattle.linetexts.specs.Alone.{lineState, answersTo}
+use Rattle.linetexts.proofs.Beginnings.{begun}
 use Rattle.maketextlines.specs.Lines.{longestLine, makes, malformed, lineIn}
-use Rattle.maketextlines.specs.Answers.{answerTo, answerHeld}
+use Rattle.maketextlines.specs.Answers.{answerTo}
 use Rattle.maketextlines.specs.Worked.{sixLine, sixAnswer}
 use Rattle.maketextlines.specs.Claims.{lineOf, SaysText}
 use Rattle.maketextlines.proofs.Claims as maketextlines
-use Rattle.maketextstream.specs.Claims.{Blocks}
-use Rattle.maketextstream.proofs.Claims as maketextstream
+use Rattle.maketextstream.specs.Texts.{textLines}
+use Rattle.maketextstream.proofs.Claimed as maketextstream
 use Rattle.requests.specs.TextFunction.{AsksText, MayMake}
 
 -- The limits that are named below:
@@ -148,8 +156,9 @@ malformed-exactly = maketextlines.claims .malformed-exactly
 pub line-by-hand : answerTo sixLine ≡ sixAnswer
 line-by-hand = maketextlines.claims .worked
 
--- A text of lines, cut into blocks anywhere, with any room for a line from the longest one on: what is to
--- be written, block by block and at the end, are the answers to its lines.
-pub written : {room : ℕ} {blocks : List (List ℕ)} {h : Option (List ℕ)} {text : List ℕ} → longestLine ≤ room → Blocks room (some []) blocks h text
-    → text ++ lastAnswer answerHeld h ≡ answersTo answerTo (linesOf (flatten blocks))
-written = maketextstream.claims .written
+-- A text of lines, cut into blocks anywhere, with any buffer for a line that can tell one that is too
+-- long: what is to be written, round by round, block by block and at the end, are the answers to its
+-- lines.
+pub written : {s : State Beginning (Unit {0})} {blocks : List (List ℕ)} {line text : List ℕ} → longestLine + 2 ≤ length line
+    → Blocks textLines (lineState lineBegin line) blocks s text → text ++ finishOf textLines s .text ≡ answersTo answerTo (linesOf (flatten blocks))
+written {line = line} large b = maketextstream.answers .written (begun line large) b

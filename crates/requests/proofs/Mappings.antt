@@ -34,16 +34,16 @@
 --   base Conditions, Lists, Options, Totals; limits Limits; flags Flags; text Numerals, Writing;
 --   answers Answers; masks Masks; automaton Automaton, Rules, Successor; rulecheck Checking,
 --   Worked; ruleformat Format, Reader, Refusals, Worked; numbering Numbering, Texts,
---   mirror/Arrays; subsets Sets, mirror/Singles; compositions Bracketing, Relations; mappings
---   Claims, Mappings, Packing; keys Tables; delegates Alike, Claims, mirror/Classes; build
+--   mirror/Arrays; compositions Bracketing, Relations; mappings Claims, Mappings, Packing; keys
+--   Tables; subsets Sets, mirror/Singles; delegates Alike, Claims, mirror/Classes; build
 --   mirror/Building; marks Marks; walks mirror/Steps; chunks Chunks, Taking, mirror/Walks;
 --   profile Claims, Profiles, Runs, Worked; board Boards; joins Joining; calls Calls, Claims,
 --   Replies, mirror/Steps; executions Executions, Last; histories Claims, History; fillings
 --   Filled; mapverdict Filled; fields Bytes, Claims; lines Splitting; ruletext RuleText; maptext
 --   Claims, MappingText, Worked; profilefile Files; mapcalls Calls, Histories, Last; profiletext
---   ProfileText, Worked; longlines Holding; linetexts Claims, Feeding, Lists, Parts; mapreplies
---   Replies; maplines Answers, Claims, Lines; mapstream Texts, Worked; c_mappings Claims,
---   Numbers; demands Functions; requests MappingFunctions.
+--   ProfileText, Worked; longlines Holding; linetexts Beginnings, Claims, Feeding, Lists, Parts;
+--   mapreplies Replies; maplines Answers, Claims, Lines; mapstream Texts, Worked; c_mappings
+--   Claims, Numbers; demands Functions; requests MappingFunctions.
 use mathlib.Core.Path.{_≡_, ap, refl}
 use mathlib.Core.Logic.{_↔_, _⊎_}
 use mathlib.Core.Bool.{true, false}
@@ -100,7 +100,8 @@ use Rattle.ruleformat.specs.Reader.{ruleOf}
 use Rattle.ruleformat.specs.Worked.{fileA}
 use Rattle.lines.specs.Splitting.{linesOf}
 use Rattle.longlines.specs.Holding.{lineBegin}
-use Rattle.linetexts.specs.Feeding.{State, stateOf, finishOf}
+use Rattle.linetexts.specs.Feeding.{State, finishOf}
+use Rattle.linetexts.specs.Beginnings.{Beginning, stateOf}
 use Rattle.linetexts.specs.Lists.{Listed, listOf, NoneEmpty, skippedLines}
 use Rattle.linetexts.specs.Claims.{Blocks}
 use Rattle.mapcalls.specs.declared.MapState.{MapState}
@@ -316,8 +317,8 @@ mapping-by-hand = maptext.claims .worked
 -- All that `mapjudge` writes, in whatever rounds the blocks of its input are fed, is right line by line. (A
 -- round is what the contract of `gather` promises, and the end what that of `finish` does:
 -- mapstream/src/lib.rt.)
-pub lines-written : {room : ℕ} {s′ : State (Listed MapState)} {blocks : List (List ℕ)} {line text : List ℕ} → mapRoom + 1 ≤ length line
-    → Blocks mapLines room (stateOf (listOf noneYet false) lineBegin line) blocks s′ text
+pub lines-written : {s′ : State Beginning (Listed MapState)} {blocks : List (List ℕ)} {line text : List ℕ} → mapRoom + 1 ≤ length line
+    → Blocks mapLines (stateOf (listOf noneYet false) lineBegin line) blocks s′ text
     → text ++ finishOf mapLines s′ .text ≡ rightText (some []) (linesOf (flatten blocks))
 lines-written = mapstream.claims .written
 

@@ -16,7 +16,8 @@
 --   MergeLaw, Refused-exactly   all of the call; number by number       merging/specs/Claims
 --   MayMerge, MayMergeC         what the functions' contracts allow     requests/specs/MergeFunction
 --   wayOf x, mergeShown         C's numbers                             merging/specs/Merging, c_merge/specs/Numbers
---   mergedFiles, answersTo      what `rulemerge` answers                mergetext/specs/Answers, mergestream/specs/Texts
+--   answerTo, mergeLines        a line of `rulemerge`, and the machine  mergestream/specs/Texts
+--   FedBlocks; answersTo        blocks through functions; the answers   linetexts/specs/Functions, Alone
 --   WorkedLines                 a line for each way, by hand            mergetext/specs/Worked
 --   lineIn l; SaysMerge         what a line means; two files' line      mergetext/specs/Lines, Claims
 --   verdictIn h, textIn h       what 01 says of a list of calls         histories/specs/History
@@ -29,17 +30,17 @@
 --   Worked; ruleformat Claims, Format, Language, Reader, Refusals, Writing; numbering Numbering;
 --   subsets Sets, mirror/Singles; delegates Alike, Claims, mirror/Classes; marks Marks; chunks
 --   Chunks; joins Joining; calls Calls, Replies; histories History; fields Bytes, Claims; lines
---   Splitting; hexfields Fields, Reading; products Claims, Interleavings, Products, Words;
---   merging Claims, Languages, Merged, Merging, Worked; mergetext Answers, Claims, Lines, Worked;
---   mergescan Scanning; mergestream Claims, Feeding, Texts; c_merge Claims, Numbers; requests
---   MergeFunction.
-use mathlib.Core.Path.{_≡_, sym, ap, _∙_, subst, refl}
+--   Splitting; hexfields Fields, Reading; linetexts Alone, Feeding, Functions, Parts; products
+--   Claims, Interleavings, Products, Words; merging Claims, Languages, Merged, Merging, Worked;
+--   mergetext Answers, Claims, Lines, Worked; mergescan Scanning; mergestream Texts; c_merge
+--   Claims, Numbers; requests MergeFunction.
+use mathlib.Core.Path.{_≡_, ap, _∙_, refl}
 use mathlib.Core.Logic.{_↔_, _⊎_}
 use mathlib.Core.Bool.{Bool, true, false}
 use mathlib.Core.List.{List, _++_, flatten}
 use mathlib.Core.Option.{none, some}
 use Prim.Native.Nat.{ℕ, _≤_, _<_, _+_, _*_}
-use lib.ListN.{length}
+use lib.ListN.{length, take}
 use Rattle.base.specs.Conditions.{NoneHolds, FirstHolds}
 use Rattle.limits.specs.Limits.{longestFile, targetCells, mostStates}
 use Rattle.automaton.specs.declared.Rule.{Rule}
@@ -53,9 +54,11 @@ use Rattle.ruleformat.specs.Language.{automatonIn}
 use Rattle.calls.specs.Replies.{yesWith, noWith}
 use Rattle.calls.specs.Calls.{Call, installNumber}
 use Rattle.histories.specs.History.{ruleIn, boardIn, emptiesIn, summedIn, textIn, verdictIn}
-use Rattle.histories.proofs.EveryList.{every-list}
 use Rattle.lines.specs.Splitting.{linesOf}
 use Rattle.fields.specs.Claims.{AllBytes}
+use Rattle.linetexts.specs.Feeding.{State}
+use Rattle.linetexts.specs.Functions.{Promised, Ended, FedBlocks}
+use Rattle.linetexts.specs.Alone.{answersTo}
 use Rattle.products.specs.Interleavings.{Interleaving, marked}
 use Rattle.products.specs.Products.{Moving, together, alone, pairOf, product}
 use Rattle.products.specs.Words.{InPairs, SideBySide}
@@ -76,10 +79,9 @@ use Rattle.mergetext.specs.Worked.{WorkedLines}
 use Rattle.mergetext.specs.Claims.{lineOf, SaysMerge}
 use Rattle.mergetext.proofs.Claims as mergetext
 use Rattle.mergescan.specs.declared.Scan.the-variants as scan
-use Rattle.mergestream.specs.Texts.{answersTo}
-use Rattle.mergestream.specs.Feeding.{finishText}
-use Rattle.mergestream.specs.Claims.{State, Blocks}
-use Rattle.mergestream.proofs.Claims as mergestream
+use Rattle.mergescan.specs.Scanning.{Scanned}
+use Rattle.mergestream.specs.Texts.{answerTo, mergeLines, mergeState}
+use Rattle.mergestream.proofs.Claimed as mergestream
 use Rattle.c_merge.specs.declared.MergeNumbers.{MergeNumbers}
 use Rattle.c_merge.specs.Numbers.{mergeShown, mergeReadBack}
 use Rattle.c_merge.specs.Claims as c-claims
@@ -87,6 +89,7 @@ use Rattle.c_merge.proofs.ReadBack as c-merge
 use Rattle.c_merge.proofs.Asks as c-asks
 use Rattle.requests.specs.MergeFunction.{AsksMerge, MayMerge, AsksMergeC, MayMergeC}
 use Rattle.demands.proofs.Installing as installing
+use Rattle.requests.proofs.Judged.{yes-exactly, no-exactly}
 
 -- The limits that are named below:
 pub limits : (mostStates ≡ 32) × (targetCells ≡ 512) × (longestFile ≡ 32906)
@@ -223,20 +226,13 @@ ways = (c-merge.claims .way-0, c-merge.claims .way-1, c-merge.claims .way-other)
 -- verdict is yes exactly when the standing chunks, without their idle marks, are such a text, and no
 -- exactly when they are not.
 module _ (w : Way) (one two : Rule) (e : mergeOf w one two .number ≡ none) (h : List Call) (rule : ruleIn h ≡ mergeOf w one two .rule) where
-  judges : Accepts (automatonOf (ruleIn h)) (textIn h) ↔ Merges w (automatonOf one) (automatonOf two) (textIn h)
-  judges =
-      subst (λ (r : Rule). Accepts (automatonOf r) (textIn h) ↔ Merges w (automatonOf one) (automatonOf two) (textIn h)) (sym rule)
-      (merging-law w one two .language e (textIn h))
-
   pub judged-yes : boardIn h ≡ true → emptiesIn h ≡ 0
       → (verdictIn h ≡ yesWith (summedIn h)) ↔ Merges w (automatonOf one) (automatonOf two) (textIn h)
-  judged-yes board full =
-      let v = every-list h .verdict .accepts board full in ((λ y. judges .0 (v .0 y)), λ m. v .1 (judges .1 m))
+  judged-yes = yes-exactly h (mergeOf w one two .rule) (Merges w (automatonOf one) (automatonOf two) (textIn h)) rule (merging-law w one two .language e (textIn h))
 
   pub judged-no : boardIn h ≡ true → emptiesIn h ≡ 0
       → (verdictIn h ≡ noWith (summedIn h)) ↔ (Merges w (automatonOf one) (automatonOf two) (textIn h) → ⊥)
-  judged-no board full =
-      let v = every-list h .verdict .rejects board full in ((λ n m. v .0 n (judges .1 m)), λ n. v .1 (λ a. n (judges .0 a)))
+  judged-no = no-exactly h (mergeOf w one two .rule) (Merges w (automatonOf one) (automatonOf two) (textIn h)) rule (merging-law w one two .language e (textIn h))
 
 -- ---- FROM FILES, BY THE PROGRAM
 -- The first file is read, then the second, then they are merged.
@@ -274,9 +270,11 @@ line-malformed = mergetext.claims .malformed-exactly
 pub every-pair : (w : Way) (f g : List ℕ) → AllBytes f → AllBytes g → lineIn (lineOf w f g) ≡ mergesFiles w f g
 every-pair = mergetext.claims .line-round-trip
 
--- A text of lines, cut into blocks anywhere: `rulemerge` is to write, block by block and at the end, the
--- answers to its lines. Its buffers can tell a file that is too long.
+-- A text of lines, cut into blocks anywhere: `rulemerge` is to write, round by round, block by block and
+-- at the end, the answers to its lines. Its buffers can tell a file that is too long. (A round is what the
+-- contract of `gather` promises, and the end what that of `finish` does: mergestream/src/lib.rt.)
 pub lines : (one two : List ℕ) → longestFile < length one → longestFile < length two
-    → {blocks : List (List ℕ)} {s : State} {text : List ℕ} → Blocks (record { scan = scan.Start; one = one; two = two }) blocks s text
-    → text ++ finishText (s .scan) (s .one) (s .two) ≡ answersTo (linesOf (flatten blocks))
-lines = mergestream.claims .written
+    → {blocks : List (List ℕ)} {s : State Scanned (Unit {0})} {text before after : List ℕ} {n : ℕ}
+    → FedBlocks (Promised mergeLines) (mergeState scan.Start one two) blocks s text → Ended mergeLines s before n after
+    → text ++ take n after ≡ answersTo answerTo (linesOf (flatten blocks))
+lines one two h1 h2 f end = mergestream.answers .fed (mergestream.begun one two h1 h2) f end

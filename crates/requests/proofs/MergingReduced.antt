@@ -38,7 +38,7 @@
 --   History; products Claims, Interleavings, Products; merging Languages, Merged, Merging,
 --   Worked; c_merge Numbers; reducing Claims, Reduced, Reducing, Worked; mergereduce Claims,
 --   MergeReduced, Trimmed, Worked; requests MergeReducedFunction.
-use mathlib.Core.Path.{_≡_, sym, ap, _∙_, subst}
+use mathlib.Core.Path.{_≡_, ap, _∙_}
 use mathlib.Core.Logic.{_↔_, _⊎_}
 use mathlib.Core.Bool.{true}
 use mathlib.Core.List.{List}
@@ -56,7 +56,6 @@ use Rattle.ruleformat.specs.Claims.{AllZero}
 use Rattle.calls.specs.Replies.{yesWith, noWith}
 use Rattle.calls.specs.Calls.{Call}
 use Rattle.histories.specs.History.{ruleIn, boardIn, emptiesIn, summedIn, textIn, verdictIn}
-use Rattle.histories.proofs.EveryList.{every-list}
 use Rattle.products.specs.Claims.{Interleaved}
 use Rattle.merging.specs.declared.Way.{Way}
 use Rattle.merging.specs.declared.Way.the-variants as way
@@ -74,6 +73,7 @@ use Rattle.c_merge.specs.Numbers.{mergeShown, mergeReadBack}
 use Rattle.c_mergereduced.proofs.ReadBack as c-merge
 use Rattle.c_mergereduced.proofs.Asks as c-asks
 use Rattle.requests.specs.MergeReducedFunction.{AsksMergeReduced, MayMergeReduced, AsksMergeReducedC, MayMergeReducedC}
+use Rattle.requests.proofs.Judged.{yes-exactly, no-exactly}
 
 -- ---- THE CALL
 -- "reduces both rules, builds only the pairs that are reachable and live, and reduces the result".
@@ -217,17 +217,10 @@ read-back x one two r m = ap mergeReadBack (from-C x one two r .0 m) ∙ c-merge
 -- exactly when they are not.
 module _ (w : Way) (one two : Rule) (e : mergeReducedOf w one two .number ≡ none) (h : List Call)
     (rule : ruleIn h ≡ mergeReducedOf w one two .rule) where
-  judges : Accepts (automatonOf (ruleIn h)) (textIn h) ↔ Merges w (automatonOf one) (automatonOf two) (textIn h)
-  judges =
-      subst (λ (r : Rule). Accepts (automatonOf r) (textIn h) ↔ Merges w (automatonOf one) (automatonOf two) (textIn h)) (sym rule)
-      (merging-law w one two .language e (textIn h))
-
   pub judged-yes : boardIn h ≡ true → emptiesIn h ≡ 0
       → (verdictIn h ≡ yesWith (summedIn h)) ↔ Merges w (automatonOf one) (automatonOf two) (textIn h)
-  judged-yes board full =
-      let v = every-list h .verdict .accepts board full in ((λ y. judges .0 (v .0 y)), λ m. v .1 (judges .1 m))
+  judged-yes = yes-exactly h (mergeReducedOf w one two .rule) (Merges w (automatonOf one) (automatonOf two) (textIn h)) rule (merging-law w one two .language e (textIn h))
 
   pub judged-no : boardIn h ≡ true → emptiesIn h ≡ 0
       → (verdictIn h ≡ noWith (summedIn h)) ↔ (Merges w (automatonOf one) (automatonOf two) (textIn h) → ⊥)
-  judged-no board full =
-      let v = every-list h .verdict .rejects board full in ((λ n m. v .0 n (judges .1 m)), λ n. v .1 (λ a. n (judges .0 a)))
+  judged-no = no-exactly h (mergeReducedOf w one two .rule) (Merges w (automatonOf one) (automatonOf two) (textIn h)) rule (merging-law w one two .language e (textIn h))

@@ -13,52 +13,58 @@
 --   Answered patterns           patterns worked by hand                 patternfile/specs/Worked
 --   fileOf r; padded            the file of a rule; zeros after it      ruleformat/specs/Writing, rulewriter/specs/Written
 --   readOf f, automatonIn f     reading a file; its automaton           ruleformat/specs/Reader, Language
---   writeOf r                   what writing a rule answers             rulewriter/specs/Written
 --   MayPattern, patternShown    the function for C, and its numbers     requests/specs/PatternFunction, c_patterns/specs/Numbers
---   answersText, Blocks         what `patternrule` writes               patterntext/specs/Answers, Claims
+--   answerText, patternLines    the answer to a line, and the machine   patterntext/specs/Answers, Texts
+--   Blocks; finishOf            what is written, and at the end         linetexts/specs/Claims, Feeding
+--   answersTo; lineState        the answers; where a text begins        linetexts/specs/Alone
 --   twoLines, twoAnswers        lines by hand                           patterntext/specs/Worked
 --   verdictIn h, textIn h       what 01 says of a list of calls         histories/specs/History
 --
 -- b is any list of bytes, p any pattern. A proved function ends and stays within its bounds. Assumes
 -- nothing.
 -- All that they rest on stands in these files of specs/ (tests/believed):
---   base Conditions, Lists, Options, Totals; limits Limits; flags Flags; text Numerals; masks
---   Masks; automaton Automaton, Rules, Successor; rulecheck Checking; ruleformat Format,
+--   base Conditions, Lists, Options, Totals; limits Limits; flags Flags; text Numerals, Writing;
+--   masks Masks; automaton Automaton, Rules, Successor; rulecheck Checking; ruleformat Format,
 --   Language, Reader, Refusals, Writing; rulewriter Written; numbering Numbering; subsets Sets,
 --   mirror/Singles; delegates Alike, Claims, mirror/Classes; marks Marks; chunks Chunks; joins
 --   Joining; calls Calls, Replies; histories History; patterns Claims, Grammar, Limits, Marked,
 --   Patterns, Positions; patternscan Scanning, Signs; patternreader Reader, Rules; patternfile
---   Answers, Claims, Worked; fields Claims; lines Splitting; patterntext Answers, Claims, Lines,
---   Worked; c_patterns Claims, Numbers; requests PatternFunction.
+--   Answers, Claims, Worked; fields Bytes, Claims; lines Splitting; patterntext Answers, Texts,
+--   Worked; longlines Holding; linetexts Alone, Beginnings, Claims, Feeding, Parts; c_patterns
+--   Claims, Numbers; requests PatternFunction.
 use mathlib.Core.Path.{_≡_, refl, sym, ap, _∙_, subst}
 use mathlib.Core.Logic.{_↔_, _⊎_}
 use mathlib.Core.Bool.{true, cond}
 use mathlib.Core.List.{List, [], _++_, flatten}
 use mathlib.Core.Option.{none, some}
-use Prim.Native.Nat.{ℕ, _≤_}
-use lib.ListN.{length, take, replicate}
+use Prim.Native.Nat.{ℕ, _≤_, _+_}
+use lib.ListN.{length, take}
 use lib.Dec.{eqb}
 use Rattle.base.specs.Conditions.{NoneHolds}
-use Rattle.limits.specs.Limits.{longestFile, targetCells, mostSymbols}
+use Rattle.limits.specs.Limits.{targetCells, mostSymbols}
 use Rattle.masks.specs.Masks.{_∈_}
 use Rattle.automaton.specs.declared.Rule.{Rule}
 use Rattle.automaton.specs.Automaton.{Accepts, Arc}
 use Rattle.automaton.specs.Rules.{automatonOf, WellFormed}
-use Rattle.rulecheck.specs.Checking.{ruleNumber}
 use Rattle.rulecheck.proofs.Claims as check
 use Rattle.ruleformat.specs.Refusals.{fileConditions}
 use Rattle.ruleformat.specs.Reader.{Reading, readOf, ruleOf}
 use Rattle.ruleformat.specs.Language.{automatonIn}
 use Rattle.ruleformat.specs.Writing.{fileOf}
 use Rattle.ruleformat.proofs.Claims as format
-use Rattle.rulewriter.specs.Written.{padded, Writing, writeOf}
+use Rattle.rulewriter.specs.Written.{padded, Writing}
 use Rattle.rulewriter.proofs.Claims as writer
 use Rattle.calls.specs.Replies.{yesWith, noWith}
 use Rattle.calls.specs.Calls.{Call}
 use Rattle.histories.specs.History.{ruleIn, boardIn, emptiesIn, summedIn, textIn, verdictIn}
-use Rattle.histories.proofs.EveryList.{every-list}
 use Rattle.histories.proofs.Refinement.{lent}
 use Rattle.lines.specs.Splitting.{linesOf}
+use Rattle.longlines.specs.Holding.{lineBegin}
+use Rattle.linetexts.specs.Feeding.{State, finishOf}
+use Rattle.linetexts.specs.Beginnings.{Beginning}
+use Rattle.linetexts.specs.Claims.{Blocks}
+use Rattle.linetexts.specs.Alone.{lineState, answersTo}
+use Rattle.linetexts.proofs.Beginnings.{begun}
 use Rattle.patterns.specs.Limits.{longestPattern, longestPatternFile, mostLetters}
 use Rattle.patterns.specs.Patterns.{Pattern, Matches}
 use Rattle.patterns.specs.Grammar.{StandsFor}
@@ -72,21 +78,20 @@ use Rattle.patternfile.specs.Worked.{Answered}
 use Rattle.patternfile.specs.Worked as worked
 use Rattle.patternfile.specs.Claims.{automatonFor, States, Refused-exactly, AllZero}
 use Rattle.patternfile.proofs.Claims as patternfile
-use Rattle.patterntext.specs.declared.Line.{Line}
-use Rattle.patterntext.specs.Answers.{answersText}
-use Rattle.patterntext.specs.Lines.{lineBegin, finishText}
+use Rattle.patterntext.specs.Answers.{answerText}
+use Rattle.patterntext.specs.Texts.{patternLines}
 use Rattle.patterntext.specs.Worked.{twoLines, twoAnswers}
-use Rattle.patterntext.specs.Claims.{Blocks}
 use Rattle.patterntext.proofs.Claims as patterntext
 use Rattle.c_patterns.specs.declared.PatternNumbers.{PatternNumbers}
 use Rattle.c_patterns.specs.Numbers.{patternShown, patternReadBack}
 use Rattle.c_patterns.specs.Claims as c-claims
 use Rattle.c_patterns.proofs.Claims as c-patterns
 use Rattle.requests.specs.PatternFunction.{AsksPattern, MayPattern}
+use Rattle.requests.proofs.Judged.{yes-exactly, no-exactly}
 
 -- The limits that are named below:
-pub limits : (longestPattern ≡ 128) × (mostLetters ≡ 31) × (longestPatternFile ≡ 2122) × (mostSymbols ≡ 16) × (longestFile ≡ 32906) × (targetCells ≡ 512)
-limits = (refl, refl, refl, refl, refl, refl)
+pub limits : (longestPattern ≡ 128) × (mostLetters ≡ 31) × (longestPatternFile ≡ 2122) × (mostSymbols ≡ 16) × (targetCells ≡ 512)
+limits = (refl, refl, refl, refl, refl)
 
 -- "Add a reader that turns a pattern into a rule file by McNaughton and Yamada's positions."
 -- The bytes that come back are those of the file of the positions' rule, for every pattern that the
@@ -166,30 +171,24 @@ accepted = patternfile.claims .accepted
 -- exactly when the standing chunks, without their idle marks, are one of the pattern's texts, and else
 -- no:
 module _ (p : Pattern) (b : List ℕ) (s : StandsFor p b) (e : patternNumber b ≡ none) (h : List Call) (rule : ruleIn h ≡ ruleOf (fileIn (patternOf b))) where
-  judges : Accepts (automatonOf (ruleIn h)) (textIn h) ↔ Matches p (textIn h)
+  judges : Accepts (automatonOf (ruleOf (fileIn (patternOf b)))) (textIn h) ↔ Matches p (textIn h)
   judges =
       let same = format.claims .language (fileIn (patternOf b)) (ap (λ (r : Reading). r .number) (read p b s e)) (textIn h) in
       let text = language p b s e (textIn h) in
-      subst (λ (r : Rule). Accepts (automatonOf r) (textIn h) ↔ Matches p (textIn h)) (sym rule)
       ((λ a. text .0 (same .1 a)), λ m. same .0 (text .1 m))
 
   pub judged-yes : boardIn h ≡ true → emptiesIn h ≡ 0 → (verdictIn h ≡ yesWith (summedIn h)) ↔ Matches p (textIn h)
-  judged-yes board full =
-      let v = every-list h .verdict .accepts board full in ((λ y. judges .0 (v .0 y)), λ m. v .1 (judges .1 m))
+  judged-yes = yes-exactly h (ruleOf (fileIn (patternOf b))) (Matches p (textIn h)) rule judges
 
   pub judged-no : boardIn h ≡ true → emptiesIn h ≡ 0 → (verdictIn h ≡ noWith (summedIn h)) ↔ (Matches p (textIn h) → ⊥)
-  judged-no board full =
-      let v = every-list h .verdict .rejects board full in ((λ n m. v .0 n (judges .1 m)), λ n. v .1 (λ a. n (judges .0 a)))
+  judged-no = no-exactly h (ruleOf (fileIn (patternOf b))) (Matches p (textIn h)) rule judges
 
 -- ---- WRITING A RULE FILE
--- For a well-formed rule the bytes that reading turns back into that rule; a value of the type has 512
--- target masks. Else the first of 3, 4, 6 and 8 that holds, and zeros:
+-- The file of a well-formed rule is bytes that reading turns back into that rule; a value of the type
+-- has 512 target masks:
 pub written : (r : Rule) → length (r .targets) ≡ targetCells → WellFormed r
-    → readOf (take (writeOf r .length) (writeOf r .bytes)) ≡ record { number = none; rule = r }
+    → readOf (fileOf r) ≡ record { number = none; rule = r }
 written r cells w = writer.claims .read-back r cells (check.claims .passes r .1 w)
-
-pub not-written : (r : Rule) (x : ℕ) → ruleNumber r ≡ some x → (writeOf r .length ≡ 0) × (writeOf r .bytes ≡ replicate longestFile 0)
-not-written = writer.claims .refused
 
 -- ---- FROM C
 -- The function asks nothing, and may return the numbers of that answer and no other; nothing of the
@@ -222,12 +221,13 @@ language-from-C p b r s m a w =
     subst (λ (o : Writing). Accepts (automatonIn (fileIn o)) w ↔ Matches p w) (sym e) (language p b s number w)
 
 -- ---- FROM A PROGRAM
--- A text of patterns, one a line, cut into blocks anywhere: `patternrule` is to write, block by block and
--- at the end, the answers to its lines.
-pub lines : {room : ℕ} {blocks : List (List ℕ)} {l : Line} {text : List ℕ}
-    → Blocks room lineBegin blocks l text → text ++ finishText l ≡ answersText (linesOf (flatten blocks))
-lines = patterntext.claims .written
+-- A text of patterns, one a line, cut into blocks anywhere: `patternrule` is to write, round by round,
+-- block by block and at the end, the answers to its lines. Its buffer can tell a pattern that is too long.
+pub lines : {s : State Beginning (Unit {0})} {blocks : List (List ℕ)} {line text : List ℕ} → longestPattern + 2 ≤ length line
+    → Blocks patternLines (lineState lineBegin line) blocks s text
+    → text ++ finishOf patternLines s .text ≡ answersTo answerText (linesOf (flatten blocks))
+lines {line = line} large b = patterntext.claims .answers .written (begun line large) b
 
 -- By hand, in bytes: the empty pattern, and a star after nothing.
-pub lines-by-hand : answersText (linesOf twoLines) ≡ twoAnswers
+pub lines-by-hand : answersTo answerText (linesOf twoLines) ≡ twoAnswers
 lines-by-hand = patterntext.claims .worked

@@ -30,7 +30,7 @@
 --   mirror/Classes; marks Marks; chunks Chunks; joins Joining; calls Calls, Replies; histories
 --   History; reducing Claims, Reduced, Reducing, Worked; c_reduce Claims, Numbers; requests
 --   ReduceFunction.
-use mathlib.Core.Path.{_≡_, sym, ap, _∙_, subst, refl}
+use mathlib.Core.Path.{_≡_, sym, ap, _∙_, refl}
 use mathlib.Core.Logic.{_↔_}
 use mathlib.Core.Bool.{true, false, cond}
 use mathlib.Core.List.{List}
@@ -61,6 +61,7 @@ use Rattle.c_reduce.specs.Claims as c-claims
 use Rattle.c_reduce.proofs.ReadBack as c-reduce
 use Rattle.c_reduce.proofs.Asks as c-asks
 use Rattle.requests.specs.ReduceFunction.{AsksReduce, MayReduce, AsksReduceC, MayReduceC}
+use Rattle.requests.proofs.Judged.{yes-exactly, no-exactly}
 
 -- The limits that are named below:
 pub limits : targetCells ≡ 512
@@ -196,18 +197,11 @@ each-number = c-reduce.claims
 -- exactly when it does not.
 module _ (r : Rule) (e : reduceOf r .number ≡ none) (h : List Call) where
   module _ (rule : ruleIn h ≡ reduceOf r .rule) where
-    judges : Accepts (automatonOf (ruleIn h)) (textIn h) ↔ Accepts (automatonOf r) (textIn h)
-    judges =
-        subst (λ (n : Rule). Accepts (automatonOf n) (textIn h) ↔ Accepts (automatonOf r) (textIn h)) (sym rule)
-        (language r e (textIn h))
-
     pub judged-yes : boardIn h ≡ true → emptiesIn h ≡ 0 → (verdictIn h ≡ yesWith (summedIn h)) ↔ Accepts (automatonOf r) (textIn h)
-    judged-yes board full =
-        let v = every-list h .verdict .accepts board full in ((λ y. judges .0 (v .0 y)), λ a. v .1 (judges .1 a))
+    judged-yes = yes-exactly h (reduceOf r .rule) (Accepts (automatonOf r) (textIn h)) rule (language r e (textIn h))
 
     pub judged-no : boardIn h ≡ true → emptiesIn h ≡ 0 → (verdictIn h ≡ noWith (summedIn h)) ↔ (Accepts (automatonOf r) (textIn h) → ⊥)
-    judged-no board full =
-        let v = every-list h .verdict .rejects board full in ((λ n a. v .0 n (judges .1 a)), λ n. v .1 (λ a. n (judges .0 a)))
+    judged-no = no-exactly h (reduceOf r .rule) (Accepts (automatonOf r) (textIn h)) rule (language r e (textIn h))
 
   -- So a judge with the reduced rule and a judge with the rule itself, whose boards are filled with
   -- the same chunks, give the same yes or no.

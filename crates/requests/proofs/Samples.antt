@@ -25,12 +25,11 @@
 -- All that they rest on stands in these files of specs/ (tests/believed):
 --   base Conditions, Lists, Options, Totals; limits Limits; text Numerals; answers Answers; masks
 --   Masks; automaton Automaton, Rules, Successor; rulecheck Checking, Worked; ruleformat Format,
---   Reader, Refusals, Worked; numbering Numbering, Texts; subsets Sets, mirror/Singles;
---   compositions Relations; mappings Mappings, Packing; keys Kinds, Tables; searches Search,
---   Texts; samples Claims, Samples, Search, Values, Worked; delegates Alike, Claims,
---   mirror/Classes; marks Marks; chunks Chunks; joins Joining; calls Calls, Replies; histories
---   History; fields Claims; sampletext SampleText, Worked; c_samples Claims, Numbers; requests
---   SampleFunctions.
+--   Reader, Refusals, Worked; numbering Numbering, Texts; compositions Relations; mappings
+--   Mappings, Packing; keys Kinds, Tables; subsets Sets, mirror/Singles; searches Search, Texts;
+--   samples Claims, Samples, Search, Values, Worked; delegates Alike, Claims, mirror/Classes;
+--   marks Marks; chunks Chunks; joins Joining; calls Calls, Replies; histories History; fields
+--   Claims; sampletext SampleText, Worked; c_samples Claims, Numbers; requests SampleFunctions.
 use mathlib.Core.Path.{_≡_, refl, sym, ap, _∙_, subst}
 use mathlib.Core.Logic.{_↔_, _⊎_, inl, inr, ⊎-elim}
 use mathlib.Core.Bool.{true}
@@ -49,7 +48,6 @@ use Rattle.rulecheck.specs.Checking.{ruleNumber}
 use Rattle.calls.specs.Replies.{yesWith, noWith}
 use Rattle.calls.specs.Calls.{Call, installNumber}
 use Rattle.histories.specs.History.{ruleIn, boardIn, emptiesIn, summedIn, textIn, verdictIn}
-use Rattle.histories.proofs.EveryList.{every-list}
 use Rattle.numbering.specs.Texts.{Lex}
 use Rattle.samples.specs.declared.Wish.{Wish}
 use Rattle.samples.specs.declared.Wish.the-variants as wish
@@ -71,6 +69,7 @@ use Rattle.c_samples.specs.Claims as c-claims
 use Rattle.c_samples.proofs.ReadBack as c-samples
 use Rattle.requests.specs.SampleFunctions.{AsksSample, MaySample, AsksSampleC, MaySampleC}
 use Rattle.demands.proofs.Installing as installing
+use Rattle.requests.proofs.Judged.{yes-exactly, no-exactly}
 
 -- The limits that are named below:
 pub limits : (longestSample ≡ 511) × (mostSets ≡ 512)
@@ -182,15 +181,15 @@ pub judged-yes : (r : Rule) (w : List ℕ) → sampleOf r wish.Accepted ≡ text
     → (h : List Call) → ruleIn h ≡ r → boardIn h ≡ true → emptiesIn h ≡ 0 → textIn h ≡ w → verdictIn h ≡ yesWith (summedIn h)
 judged-yes r w e h rule board full is =
     let of-sample : Accepts (automatonOf r) w = first r wish.Accepted w .0 e .1 .wished .judged in
-    every-list h .verdict .accepts board full .1
-    (subst (λ (x : Rule). Accepts (automatonOf x) (textIn h)) (sym rule) (subst (Accepts (automatonOf r)) (sym is) of-sample))
+    yes-exactly h r (Accepts (automatonOf r) (textIn h)) rule ((λ a. a), λ a. a) board full .1
+    (subst (Accepts (automatonOf r)) (sym is) of-sample)
 
 pub judged-no : (r : Rule) (w : List ℕ) → sampleOf r wish.Rejected ≡ text w
     → (h : List Call) → ruleIn h ≡ r → boardIn h ≡ true → emptiesIn h ≡ 0 → textIn h ≡ w → verdictIn h ≡ noWith (summedIn h)
 judged-no r w e h rule board full is =
     let of-sample : Accepts (automatonOf r) w → ⊥ = first r wish.Rejected w .0 e .1 .wished .judged in
-    every-list h .verdict .rejects board full .1
-    (λ a. of-sample (subst (Accepts (automatonOf r)) is (subst (λ (x : Rule). Accepts (automatonOf x) (textIn h)) rule a)))
+    no-exactly h r (Accepts (automatonOf r) (textIn h)) rule ((λ a. a), λ a. a) board full .1
+    (λ a. of-sample (subst (Accepts (automatonOf r)) is a))
 
 -- ---- FROM A FILE, BY THE PROGRAM
 -- `rulesample` prints the text for its file (`print_samples` promises it), for which its buffer has room:

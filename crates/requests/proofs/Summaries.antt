@@ -32,7 +32,7 @@
 -- All that they rest on stands in these files of specs/ (tests/believed):
 --   base Conditions, Lists, Options, Totals; limits Limits; flags Flags; masks Masks; automaton
 --   Automaton, Rules, Successor; rulecheck Checking; ruleformat Format, Reader, Refusals, Worked;
---   numbering Numbering; subsets Sets, mirror/Singles; compositions Bracketing, Relations;
+--   numbering Numbering; compositions Bracketing, Relations; subsets Sets, mirror/Singles;
 --   delegates Alike, Claims, mirror/Classes; build mirror/Building; digests Digests, Worked;
 --   marks Marks; walks mirror/Steps; chunks Chunks, Taking, mirror/Walks; board Boards; joins
 --   Claims, Joining; calls Calls, Claims, Replies, mirror/Steps; executions Executions; histories

@@ -39,11 +39,11 @@
 --   subsets Sets, mirror/Singles; delegates Alike, Claims, mirror/Classes; build mirror/Building;
 --   marks Marks; chunks Chunks; joins Joining; calls Calls, Replies; executions Executions, Last;
 --   histories History, Method; fields Bytes, Claims, Numbers; lines Splitting; longlines Holding;
---   linetexts Claims, Feeding, Functions, Lists, Parts; trays Boards, Calls, Claims, Replies,
---   Rows, Sizes, Worked, mirror/Steps; trayhistories Claims, Conditions, Empties, Functions,
---   History, Last, Worked; traytext Answers, Claims, Lines, Worked; traylines Running; traystream
---   Texts, Worked; c_trays Claims, Numbers; demands TextFunctions; requests TrayFunctions,
---   TrayTexts.
+--   linetexts Beginnings, Claims, Feeding, Functions, Lists, Parts; trays Boards, Calls, Claims,
+--   Replies, Rows, Sizes, Worked, mirror/Steps; trayhistories Claims, Conditions, Empties,
+--   Functions, History, Last, Worked; traytext Answers, Claims, Lines, Worked; traylines Running;
+--   traystream Texts, Worked; c_trays Claims, Numbers; demands TextFunctions; requests
+--   TrayFunctions, TrayTexts.
 use mathlib.Core.Path.{_≡_, refl}
 use mathlib.Core.Logic.{_↔_, _⊎_}
 use mathlib.Core.Bool.{false}
@@ -55,7 +55,8 @@ use Rattle.text.specs.Writing.{Wrote}
 use Rattle.executions.specs.Executions.{Execution, Meets}
 use Rattle.lines.specs.Splitting.{linesOf}
 use Rattle.longlines.specs.Holding.{lineBegin}
-use Rattle.linetexts.specs.Feeding.{State, stateOf, finishOf, gatherAt, Gathers}
+use Rattle.linetexts.specs.Feeding.{State, finishOf, gatherAt, Gathers}
+use Rattle.linetexts.specs.Beginnings.{Beginning, stateOf}
 use Rattle.linetexts.specs.Lists.{Listed, listOf, NoneEmpty, skippedLines}
 use Rattle.linetexts.specs.Claims.{Blocks}
 use Rattle.linetexts.specs.Functions.{FedBlocks}
@@ -345,8 +346,8 @@ module _ (h : List Call) (rs : List Reply) (t : Tray) (ran : Execution trayLibra
 -- All that `trayjudge` writes, in whatever rounds the blocks of its input are fed, is right line by line:
 -- the answer that is due after the calls of the lines before it. (A round is what the contract of
 -- `gather` promises, and the end what that of `finish` does: traystream/src/lib.rt.)
-pub lines-written : {room : ℕ} {s′ : State (Listed Tray)} {blocks : List (List ℕ)} {line text : List ℕ} → trayRoom + 1 ≤ length line
-    → Blocks trayLines room (stateOf (listOf fresh false) lineBegin line) blocks s′ text
+pub lines-written : {s′ : State Beginning (Listed Tray)} {blocks : List (List ℕ)} {line text : List ℕ} → trayRoom + 1 ≤ length line
+    → Blocks trayLines (stateOf (listOf fresh false) lineBegin line) blocks s′ text
     → text ++ finishOf trayLines s′ .text ≡ rightText (some []) (linesOf (flatten blocks))
 lines-written = traystream.claims .written
 
@@ -362,16 +363,16 @@ begins-afresh = traystream.claims .afresh
 
 -- So from the functions: what the contract of `gather` allows is a round, that of `finish` the end, and
 -- nothing else; fed through them, block by block, a text is answered right.
-pub gather-allows : (s t : State (Listed Tray)) (before block after : List ℕ) (at next written : ℕ)
+pub gather-allows : (s t : State Beginning (Listed Tray)) (before block after : List ℕ) (at next written : ℕ)
     → MayGather s before block at t next written after ↔ Gathers (gatherAt trayLines block at (length before) s) at t next written before after
 gather-allows = tray-texts.gather-fixed
 
-pub finish-allows : (s : State (Listed Tray)) (before after : List ℕ) (written : ℕ)
+pub finish-allows : (s : State Beginning (Listed Tray)) (before after : List ℕ) (written : ℕ)
     → MayFinish s before written after ↔ Wrote before 0 (finishOf trayLines s .text) after written
 finish-allows = tray-texts.finish-fixed
 
-pub lines-fed : {room written : ℕ} {s′ : State (Listed Tray)} {blocks : List (List ℕ)} {line text before after : List ℕ} → trayRoom + 1 ≤ length line
-    → FedBlocks MayGather room (stateOf (listOf fresh false) lineBegin line) blocks s′ text → MayFinish s′ before written after
+pub lines-fed : {written : ℕ} {s′ : State Beginning (Listed Tray)} {blocks : List (List ℕ)} {line text before after : List ℕ} → trayRoom + 1 ≤ length line
+    → FedBlocks MayGather (stateOf (listOf fresh false) lineBegin line) blocks s′ text → MayFinish s′ before written after
     → text ++ take written after ≡ rightText (some []) (linesOf (flatten blocks))
 lines-fed = tray-texts.fed
 

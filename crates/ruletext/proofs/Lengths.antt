@@ -1,6 +1,6 @@
 -- How long the parts of the text are at most. Assumes nothing.
 --
---   byte-most, number-most  3
+--   number-most             3
 --   index-most, mask-most   3 and 8
 --   field-most, cell-most, delegate-most   4
 --   row-most, cells-most    4 for each symbol, 64 for a row
@@ -8,7 +8,6 @@
 --   fields-most, lines-most 4 for each state, 77 for each set
 --   head-most, last-most    20 and 138
 --   rule-most               39,582
---   refused-most            12
 use mathlib.Core.Path.{_≡_, refl}
 use mathlib.Core.List.{List, [], _∷_, _++_}
 use mathlib.Core.Option.{Option, none, some}
@@ -22,11 +21,11 @@ use Rattle.base.proofs.Lists.{joined-length}
 use Rattle.base.proofs.Tests.{by-test}
 use Rattle.text.specs.Numerals.{decimal, hex}
 use Rattle.text.proofs.Digits.{decimal-most, hex-length}
-pub use Rattle.answers.proofs.Lengths.{byte-most}
+pub use Rattle.answers.proofs.Lengths.{byte-most, refused-most}
 use Rattle.delegates.specs.Alike.{delegateIn}
 use Rattle.delegates.proofs.Alike.{some-said}
 use Rattle.build.specs.declared.Built.{Built}
-use Rattle.ruletext.specs.RuleText.{field, cellText, rowText, setLine, headLine, delegateText, delegatesLine, ruleText, refusedText, startsWord, space, lineFeed}
+use Rattle.ruletext.specs.RuleText.{field, cellText, rowText, setLine, headLine, delegateText, delegatesLine, ruleText, startsWord, space, lineFeed}
 use Rattle.ruletext.specs.Printing.{mostBytes}
 
 pub number-most : (n : ℕ) → n ≤ 512 → length (decimal n) ≤ 3
@@ -105,6 +104,3 @@ rule-most b hs =
     let hl = lines-most (b .sets) (b .next) (min (b .k) 16) (omega arith) count (omega arith) in
     let ht = last-most (b .delegates) (min (b .n) 32) (omega arith) in
     omega (arith, length-append first (lines ++ last), length-append lines last)
-
-pub refused-most : (x : ℕ) → x < 256 → length (refusedText x) ≤ 12
-refused-most x h = omega (arith, byte-most x h, length-append (decimal x) (lineFeed ∷ []))

@@ -5,11 +5,10 @@ ghost use lib.ListN.{length};
 ghost use Rattle.limits.specs.Limits.{mostStates, mostSymbols, mostSets};
 ghost use Rattle.base.specs.Lists.{joined};
 ghost use Rattle.text.specs.Writing.{Wrote};
-ghost use Rattle.answers.specs.Answers.{refusedText};
 ghost use Rattle.delegates.specs.Alike.{delegateIn};
 ghost use Rattle.delegates.specs.mirror.Answer.{delegateMeans};
 ghost use Rattle.ruletext.specs.RuleText.{field, cellText, rowText, setLine, headLine, delegateText, delegatesLine, ruleText, textOf};
-ghost use Rattle.ruletext.specs.Printing.{Prints, textFor, mostBytes};
+ghost use Rattle.ruletext.specs.Printing.{textFor, mostBytes};
 use build::BuildAnswer;
 use build::BuildResult;
 use build::Built;
@@ -17,12 +16,6 @@ use delegates::DelegateAnswer;
 use masks::StateNumber;
 use ruleformat::ReadAnswer;
 use subsets::SetNumber;
-
-// How many bytes the text has, or that the buffer is too short for it.
-pub enum Printed {
-    Bytes(usize),
-    Short,
-}
 
 // A state's number with a space before it.
 fn put_field(out: &mut [u8], at: usize, q: StateNumber) -> usize
@@ -47,7 +40,7 @@ pub fn put_cell(out: &mut [u8], at: usize, to: SetNumber) -> usize
 }
 
 // The cells of set i for the k symbols.
-fn put_row(
+pub fn put_row(
     out: &mut [u8],
     start: usize,
     next: &[u16; limits::CELLS],
@@ -166,7 +159,7 @@ fn put_head(out: &mut [u8], at: usize, count: usize, starts: u8) -> usize
 // The text of a built rule, from the start.
 fn put_rule(out: &mut [u8], built: Built) -> usize
     requires { ⌜ mostBytes ≤ length (now out) ⌝ }
-    ensures { λ r. ⌜ (Wrote (now (out .entry)) 0 (ruleText built) (now (out .exit)) r) × (r ≤ mostBytes) ⌝ }
+    ensures { λ r. ⌜ Wrote (now (out .entry)) 0 (ruleText built) (now (out .exit)) r ⌝ }
 {
     let count = base::at_most(built.setcount as usize, limits::SETS);
     let k = base::at_most(built.k as usize, limits::SYMBOLS);
@@ -179,66 +172,30 @@ fn put_rule(out: &mut [u8], built: Built) -> usize
     put_delegates(out, last, &delegates, n)
 }
 
-// A text that is there already.
-fn print_text(text: &[u8], out: &mut [u8]) -> Printed
-    ensures { λ r. ⌜ Prints (now (text .entry)) (now (out .entry)) (now (out .exit)) r ⌝ }
-{
-    if out.len() < text.len() {
-        return Printed::Short;
-    }
-    let length = text::put_bytes(out, 0, text);
-    Printed::Bytes(length)
-}
-
-fn print_built(built: Built, out: &mut [u8]) -> Printed
-    ensures { λ r. ⌜ Prints (ruleText built) (now (out .entry)) (now (out .exit)) r ⌝ }
-{
-    let mut text = [0u8; limits::RULE_TEXT];
-    let length = put_rule(&mut text, built);
-    print_text(&text[..length], out)
-}
-
-fn print_refused(number: u8, out: &mut [u8]) -> Printed
-    ensures { λ r. ⌜ Prints (refusedText number) (now (out .entry)) (now (out .exit)) r ⌝ }
-{
-    let mut text = [0u8; 12];
-    let length = answers::put_refused(&mut text, 0, number);
-    print_text(&text[..length], out)
-}
-
 // What building a rule answers, as text.
-pub fn print_building(building: BuildResult, out: &mut [u8]) -> Printed
-    ensures { λ r. ⌜ Prints (textOf building) (now (out .entry)) (now (out .exit)) r ⌝ }
+fn put_building(out: &mut [u8], building: BuildResult) -> usize
+    requires { ⌜ mostBytes ≤ length (now out) ⌝ }
+    ensures { λ r. ⌜ Wrote (now (out .entry)) 0 (textOf building) (now (out .exit)) r ⌝ }
 {
     let answer = building.answer;
     let built = building.built;
     match answer {
-        BuildAnswer::Accepted(_, _) => print_built(built, out),
-        BuildAnswer::Refused(number) => print_refused(number, out),
+        BuildAnswer::Accepted(_, _) => put_rule(out, built),
+        BuildAnswer::Refused(number) => answers::put_refused(out, 0, number),
     }
 }
 
-// The rule in a file, built, as text; or the number with which the file is refused.
-pub fn print_rule(file: &[u8], out: &mut [u8]) -> Printed
-    ensures { λ r. ⌜ Prints (textFor (now (file .entry))) (now (out .entry)) (now (out .exit)) r ⌝ }
+// The rule in a file, built, as text; or the number with which the file is refused. The buffer has
+// room for the text of any file, and the whole text is written.
+pub fn print_whole(file: &[u8], out: &mut [u8]) -> usize
+    requires { ⌜ mostBytes ≤ length (now out) ⌝ }
+    ensures { λ r. ⌜ Wrote (now (out .entry)) 0 (textFor (now (file .entry))) (now (out .exit)) r ⌝ }
 {
     let reading = rulefile::read(file);
     let answer = reading.answer;
     let rule = reading.rule;
     match answer {
-        ReadAnswer::Accepted => print_building(build::build_rule(rule), out),
-        ReadAnswer::Refused(number) => print_refused(number, out),
-    }
-}
-
-// The same into a buffer that has room for the text of any file. The whole text is written.
-pub fn print_whole(file: &[u8], out: &mut [u8]) -> usize
-    requires { ⌜ mostBytes ≤ length (now out) ⌝ }
-    ensures { λ r. ⌜ Wrote (now (out .entry)) 0 (textFor (now (file .entry))) (now (out .exit)) r ⌝ }
-{
-    let printed = print_rule(file, out);
-    match printed {
-        Printed::Bytes(written) => written,
-        Printed::Short => 0,
+        ReadAnswer::Accepted => put_building(out, build::build_rule(rule)),
+        ReadAnswer::Refused(number) => answers::put_refused(out, 0, number),
     }
 }

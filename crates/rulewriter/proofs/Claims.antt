@@ -1,22 +1,22 @@
 -- The proof of all that specs/Claims.antt claims. Assumes nothing.
 use mathlib.Core.Path.{_≡_, refl, ap, ap₂, _∙_}
 use mathlib.Core.List.{List}
-use mathlib.Core.Option.{Option, none, some}
+use mathlib.Core.Option.{Option, none}
 use Prim.Native.Nat.{ℕ, _-_, _≤_}
 use native.Mathlib.Omega.{arith}
 use lib.ListN.{length, take, replicate, length-append, length-replicate}
 use lib.Seq.{take-at}
-use Rattle.limits.specs.Limits.{longestFile, targetCells}
+use Rattle.limits.specs.Limits.{targetCells}
 use Rattle.automaton.specs.declared.Rule.{Rule}
 use Rattle.rulecheck.specs.Checking.{ruleNumber}
 use Rattle.ruleformat.specs.Reader.{ruleBy, readOf}
 use Rattle.ruleformat.specs.Writing.{fileOf}
 use Rattle.ruleformat.proofs.Written.{file-accepted, rule-is}
-use Rattle.rulewriter.specs.Written.{padded, fileBy, writeOf}
+use Rattle.rulewriter.specs.Written.{padded}
 use Rattle.rulewriter.specs.Claims.{Claims}
 use Rattle.rulewriter.proofs.Values.{well-formed, room-for}
 
-pub read-file : (r : Rule) → length (r .targets) ≡ targetCells → ruleNumber r ≡ none
+read-file : (r : Rule) → length (r .targets) ≡ targetCells → ruleNumber r ≡ none
     → readOf (fileOf r) ≡ record { number = none; rule = r }
 read-file r cells e =
     let good = well-formed r e in
@@ -27,29 +27,9 @@ read-file r cells e =
 pub front : (room : ℕ) (f : List ℕ) → take (length f) (padded room f) ≡ f
 front room f = take-at f (replicate (room - length f) 0) (length f) refl
 
-read-back : (r : Rule) → length (r .targets) ≡ targetCells → ruleNumber r ≡ none
-    → readOf (take (writeOf r .length) (writeOf r .bytes)) ≡ record { number = none; rule = r }
-read-back r cells e = rw e (ap readOf (front longestFile (fileOf r)) ∙ read-file r cells e)
-
-refused : (r : Rule) (number : ℕ) → ruleNumber r ≡ some number
-    → (writeOf r .length ≡ 0) × (writeOf r .bytes ≡ replicate longestFile 0)
-refused r number e = rw e (refl, refl)
-
-fits-by : (o : Option ℕ) (r : Rule) → ruleNumber r ≡ o → length (fileBy o r) ≤ longestFile
-fits-by none r e = room-for r e
-fits-by (some number) r e = omega arith
-
-fits : (r : Rule) → writeOf r .length ≤ longestFile
-fits r = fits-by (ruleNumber r) r refl
-
 pub padded-length : (room : ℕ) (f : List ℕ) → length f ≤ room → length (padded room f) ≡ room
 padded-length room f h =
     omega (arith, length-append f (replicate (room - length f) 0), length-replicate {A = ℕ} (room - length f) 0)
 
 pub claims : Claims
-claims = record {
-  read-back = read-back;
-  refused = refused;
-  fits = fits;
-  room = λ r. padded-length longestFile (fileBy (ruleNumber r) r) (fits r);
-}
+claims = record { read-back = read-file; fits = room-for }

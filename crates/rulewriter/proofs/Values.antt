@@ -3,11 +3,9 @@
 --   padded-is    a piece that was written into zeros is padded by them
 --   room-for     a rule that passes has a file of at most 32,906 bytes
 --   file-put     the header and then the states are the file
---   passes       the answer says that the rule passes
---   passed, refused   what writing answers
-use mathlib.Core.Path.{_≡_, refl, sym, ap, _∙_}
+use mathlib.Core.Path.{_≡_, refl, ap, _∙_}
 use mathlib.Core.List.{List, _++_}
-use mathlib.Core.Option.{Option, none}
+use mathlib.Core.Option.{none}
 use Prim.Native.Nat.{ℕ, zero, suc, _-_, _≤_}
 use native.Mathlib.Nat.{zero-add}
 use native.Mathlib.Omega.{arith}
@@ -16,13 +14,11 @@ use Rattle.limits.specs.Limits.{longestFile}
 use Rattle.text.specs.Writing.{Wrote}
 use Rattle.automaton.specs.declared.Rule.{Rule}
 use Rattle.automaton.specs.Rules.{WellFormed}
-use Rattle.rulecheck.specs.declared.CheckAnswer.{CheckAnswer}
-use Rattle.rulecheck.specs.declared.CheckAnswer.the-variants.{Passed, Refused}
-use Rattle.rulecheck.specs.Checking.{ruleNumber, checkMeans}
+use Rattle.rulecheck.specs.Checking.{ruleNumber}
 use Rattle.rulecheck.proofs.Laws as rulecheck
 use Rattle.ruleformat.specs.Writing.{header, fileOf}
 use Rattle.ruleformat.proofs.Written.{file-size}
-use Rattle.rulewriter.specs.Written.{padded, Writing, writeOf, writeOutcome, statesPart}
+use Rattle.rulewriter.specs.Written.{padded, statesPart}
 use Rattle.rulewriter.proofs.Parts.{both}
 
 zeros-after : (n m : ℕ) → drop m (replicate {A = ℕ} n 0) ≡ replicate (n - m) 0
@@ -47,10 +43,6 @@ well-formed r e = rulecheck.passes r .0 e
 pub room-for : (r : Rule) → ruleNumber r ≡ none → length (fileOf r) ≤ longestFile
 room-for r e = file-size r (well-formed r e)
 
-same : {a b : Option ℕ} {x y : ℕ} {s t : List ℕ} → a ≡ b → x ≡ y → s ≡ t
-    → _≡_ {A = Writing} (record { number = a; length = x; bytes = s }) (record { number = b; length = y; bytes = t })
-same p q u = cc
-
 pub file-put : (r : Rule) {before mid after : List ℕ} {e end : ℕ} → length (fileOf r) ≤ length before
     → Wrote before 0 (header (r .n) (r .k) (r .initials) (r .finals)) mid e
     → Wrote mid 10 (statesPart (r .n) (r .k) (r .targets)) after end → Wrote before 0 (fileOf r) after end
@@ -58,15 +50,3 @@ file-put r {before} {mid} room u v =
     let head = header (r .n) (r .k) (r .initials) (r .finals) in
     let w : Wrote before 0 head mid 10 = record { is = u .is; ends = refl } in
     both {p = head} (omega arith) w (λ _. v)
-
-module _ (r : Rule) {answer : CheckAnswer} (told : checkMeans answer ≡ ruleNumber r) where
-  pub passes : answer ≡ Passed → ruleNumber r ≡ none
-  passes e = sym told ∙ ap checkMeans e
-
-  pub passed : answer ≡ Passed → {after : List ℕ} {end : ℕ} → Wrote (replicate longestFile 0) 0 (fileOf r) after end
-      → writeOutcome (record { answer = answer; length = end; bytes = after }) ≡ writeOf r
-  passed e w = let n = passes e in rw n (same (told ∙ n) (length-is longestFile w) (padded-is longestFile w))
-
-  pub refused : {number : ℕ} → answer ≡ Refused number
-      → writeOutcome (record { answer = answer; length = 0; bytes = replicate longestFile 0 }) ≡ writeOf r
-  refused e = let n = sym told ∙ ap checkMeans e in rw n (same (told ∙ n) refl refl)

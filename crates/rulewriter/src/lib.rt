@@ -1,4 +1,4 @@
-// Writing rule files: the bytes of a rule, one after the other into a lent buffer, and by value.
+// Writing rule files: the bytes of a rule, one after the other into a lent buffer.
 ghost use mathlib.Core.Path.{_≡_};
 ghost use mathlib.Core.Option.{none};
 ghost use mathlib.Core.List.{_++_};
@@ -9,18 +9,9 @@ ghost use Rattle.automaton.specs.Rules.{targetMask};
 ghost use Rattle.rulecheck.specs.Checking.{ruleNumber};
 ghost use Rattle.text.specs.Writing.{Wrote};
 ghost use Rattle.ruleformat.specs.Writing.{half, word, header, sectionOf, fileOf};
-ghost use Rattle.rulewriter.specs.Written.{arcTo, arcsBy, statesPart, writeOutcome, writeOf};
+ghost use Rattle.rulewriter.specs.Written.{arcTo, arcsBy, statesPart};
 use automaton::Rule;
 use masks::StateNumber;
-use rulecheck::CheckAnswer;
-
-// What writing a rule answers: that it passed or the number of its refusal, and the file by value:
-// so many bytes, and zeros after them.
-pub struct WriteResult {
-    pub answer: CheckAnswer,
-    pub length: usize,
-    pub bytes: [u8; limits::FILE],
-}
 
 // A number in two bytes, the lowest first.
 fn put_half(out: &mut [u8], at: usize, x: usize) -> usize
@@ -142,28 +133,4 @@ pub fn put_file(out: &mut [u8], rule: Rule) -> usize
     let targets = rule.targets;
     put_header(out, rule.n, rule.k, rule.initials, rule.finals);
     put_states(out, &targets, rule.n, rule.k)
-}
-
-// The file of a rule, by value; or zeros, and the first of the refusals 3, 4, 6 and 8 whose
-// condition holds.
-pub fn write_rule(rule: Rule) -> WriteResult
-    ensures { λ r. ⌜ writeOutcome r ≡ writeOf rule ⌝ }
-{
-    let answer = rulecheck::check_rule(rule);
-    let mut bytes = [0u8; limits::FILE];
-    match answer {
-        CheckAnswer::Passed => {
-            let length = put_file(&mut bytes, rule);
-            WriteResult {
-                answer,
-                length,
-                bytes,
-            }
-        }
-        CheckAnswer::Refused(_) => WriteResult {
-            answer,
-            length: 0,
-            bytes,
-        },
-    }
 }

@@ -1,15 +1,12 @@
 -- The text for any file has room. Assumes nothing.
 use mathlib.Core.Path.{_≡_, refl}
-use mathlib.Core.Bool.{Bool, true, false, cond}
 use mathlib.Core.List.{List, [], _∷_, _++_}
 use mathlib.Core.Option.{Option, none, some}
-use Prim.Native.Nat.{ℕ, zero, suc, _+_, _/_, _%_, _≤_}
+use Prim.Native.Nat.{ℕ, _≤_}
 use native.Mathlib.Omega.{arith}
-use lib.Dec.{ltb}
 use lib.ListN.{length, length-append}
-use Rattle.text.specs.Numerals.{decimalBelow, decimal}
 use Rattle.fields.specs.Claims.{fieldOf}
-use Rattle.answers.specs.Answers.{refusedText}
+use Rattle.answers.proofs.Lengths.{refused-short}
 use Rattle.ruleformat.specs.Refusals.{refusal}
 use Rattle.ruleformat.specs.Reader.{ruleOf}
 use Rattle.samples.specs.declared.Wish.the-variants.{Accepted, Rejected}
@@ -21,19 +18,6 @@ use Rattle.sampletext.specs.Claims.{Claims}
 use Rattle.sampletext.proofs.Lines.{field-most}
 use Rattle.sampletext.proofs.Examples.{worked}
 
-digits-most : (places n : ℕ) → length (decimalBelow places n) ≤ places
-unfolding decimalBelow
-digits-most zero n = omega arith
-digits-most (suc places) n = go (ltb n 10) (digits-most places (n / 10))
-  where
-    go : (b : Bool) → length (decimalBelow places (n / 10)) ≤ places
-        → length (cond b ((48 + n) ∷ []) (decimalBelow places (n / 10) ++ ((48 + n % 10) ∷ []))) ≤ suc places
-    go true h = omega arith
-    go false h = omega (arith, length-append (decimalBelow places (n / 10)) ((48 + n % 10) ∷ []))
-
-refused-most : (x : ℕ) → length (refusedText x) ≤ 1031
-refused-most x = omega (arith, digits-most 20 x, length-append (decimal x) (10 ∷ []))
-
 abbrev Short : Sample → Type 0
 Short a = (w : List ℕ) → a ≡ text w → length w ≤ 511
 
@@ -41,19 +25,19 @@ line-most : (word : List ℕ) → length word ≡ 8 → (a : Sample) → Short a
 line-most word e (text w) h =
     omega (arith, field-most w (h w refl), length-append word (fieldOf w ++ (10 ∷ [])), length-append (fieldOf w) (10 ∷ []))
 line-most word e nothing h = omega (arith, length-append word (110 ∷ 111 ∷ 110 ∷ 101 ∷ 10 ∷ []))
-line-most word e (refused x) h = refused-most x
+line-most word e (refused x) h = omega (arith, refused-short x)
 
 lines-most : (a : Sample) → Short a → (more : List ℕ) → length more ≤ 1031 → length (linesBy a more) ≤ 2062
 lines-most (text w) h more b = omega (arith, line-most acceptsWord refl (text w) h, length-append (lineFor acceptsWord (text w)) more)
 lines-most nothing h more b = omega (arith, line-most acceptsWord refl nothing h, length-append (lineFor acceptsWord nothing) more)
-lines-most (refused x) h more b = omega (arith, refused-most x)
+lines-most (refused x) h more b = omega (arith, refused-short x)
 
 text-most : (o : Option ℕ) (f : List ℕ) → length (textBy o f) ≤ 2062
 text-most none f =
     let r = ruleOf f in
     lines-most (sampleOf r Accepted) (samples.claims .short r Accepted) (lineFor rejectsWord (sampleOf r Rejected))
     (line-most rejectsWord refl (sampleOf r Rejected) (samples.claims .short r Rejected))
-text-most (some x) f = omega (arith, refused-most x)
+text-most (some x) f = omega (arith, refused-short x)
 
 pub claims : Claims
 claims = record { worked = worked; fits = λ f. text-most (refusal f) f }

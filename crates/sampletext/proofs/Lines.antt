@@ -9,18 +9,16 @@
 use mathlib.Core.Path.{_≡_, refl, sym, ap, _∙_}
 use mathlib.Core.List.{List, [], _∷_, _++_}
 use mathlib.Core.Option.{Option}
-use Prim.Native.Nat.{ℕ, _≤_, _<_, min}
+use Prim.Native.Nat.{ℕ, _≤_, min}
 use native.Mathlib.Omega.{arith}
 use lib.Dec.{ltb}
-use lib.ListN.{length, take, length-append}
+use lib.ListN.{length, take}
 use lib.Seq.{take-all}
 use borrow.Author.Tests.{ltb-true, ltb-false}
 use Rattle.base.proofs.Tests.{by-test}
 use Rattle.fields.specs.Claims.{digitsOf, fieldOf}
 use Rattle.hexfields.proofs.Digits.{digits-length}
-use Rattle.text.specs.Numerals.{decimal}
 use Rattle.answers.specs.Answers.{refusedText}
-use Rattle.answers.proofs.Lengths.{byte-most}
 use Rattle.automaton.specs.declared.Rule.{Rule}
 use Rattle.ruleformat.specs.declared.ReadAnswer.the-variants.{Accepted, Refused}
 use Rattle.ruleformat.specs.declared.ReadResult.{ReadResult}
@@ -78,9 +76,6 @@ module _ (word : List ℕ) (r : SampleResult) where
 
   pub line-refused : (x : ℕ) → r .answer ≡ answer.Refused x → refusedText x ≡ lineFor word told
   line-refused x is = line-of (by-reply _ (ap answerMeans is))
-
-pub refused-most : (x : ℕ) → x < 256 → length (refusedText x) ≤ 1031
-refused-most x h = omega (arith, byte-most x h, length-append (decimal x) (10 ∷ []))
 
 -- ---- the lines of a rule
 pub sample-is : (r : Rule) (w : Wish) (s : SampleResult) → sampleOutcome s ≡ outcomeOf (sampleOf r w) → sampleIn (sampleOutcome s) ≡ sampleOf r w

@@ -1,24 +1,21 @@
 -- A buffer that is filled read by read, each behind what the former brought. Assumes nothing.
 --
 --   back-size    the buffer keeps its length
---   more-some    a read that brought bytes brought some
---   more-fits    and no more than there was room for
+--   more-fits    a read brought no more than there was room for
 --   front-is     what is counted is within the buffer
---   block-within, block-prefix, input-within, input-prefix   the same, for whoever reads
+--   input-within, input-prefix   the same, for whoever reads
 use mathlib.Core.Path.{_≡_, sym, subst}
 use mathlib.Core.List.{List}
-use Prim.Native.Nat.{ℕ, _+_, _-_, _≤_, _<_}
+use Prim.Native.Nat.{ℕ, _+_, _-_, _≤_}
 use native.Mathlib.Nat.{le-refl}
 use native.Mathlib.Omega.{arith}
 use lib.ListN.{length, take}
 use lib.Seq.{length-take-le}
 use borrow.Rule.Slice.PartMut.{midOf, putMid, same-len-mid, mid-len}
 use Rattle.io.specs.Counts.{Counts}
-use Rattle.stdio.specs.declared.Block.{Block}
-use Rattle.stdio.specs.declared.Block.the-variants.{Bytes}
 use Rattle.stdio.specs.declared.Input.{Input}
 use Rattle.stdio.specs.declared.Input.the-variants as input
-use Rattle.stdio.specs.Blocks.{Within, Whole}
+use Rattle.stdio.specs.Blocks.{Whole}
 
 pub front-is : (n : ℕ) (buffer : List ℕ) → n ≤ length buffer → Counts n buffer
 front-is n buffer h = (h, sym (length-take-le n buffer h))
@@ -28,24 +25,10 @@ module _ (buffer : List ℕ) (n : ℕ) (last : List ℕ) (kept : length last ≡
   pub back-size : length (putMid n (length buffer - n) buffer last) ≡ length buffer
   back-size = same-len-mid n (length buffer - n) buffer last kept
 
-  module _ (b : Block) (within : Within b last) (more : ℕ) (is : b ≡ Bytes more) where
-    got : (0 < more) × Counts more last
-    got = subst (λ (x : Block). Within x last) is within
-
-    pub more-some : 0 < more
-    more-some = got .0
-
-    pub more-fits : n ≤ length buffer → n + more ≤ length buffer
-    more-fits h = omega (arith, got .1 .0, kept, mid-len n (length buffer) buffer (le-refl _))
+  pub more-fits : (more : ℕ) → more ≤ length last → n ≤ length buffer → n + more ≤ length buffer
+  more-fits more within h = omega (arith, kept, mid-len n (length buffer) buffer (le-refl _))
 
 -- ---- for whoever reads
-module _ (b : Block) (xs : List ℕ) (within : Within b xs) (n : ℕ) (is : b ≡ Bytes n) where
-  pub block-within : n ≤ length xs
-  block-within = subst (λ (x : Block). Within x xs) is within .1 .0
-
-  pub block-prefix : n ≡ length (take n xs)
-  block-prefix = subst (λ (x : Block). Within x xs) is within .1 .1
-
 module _ (i : Input) (xs : List ℕ) (whole : Whole i xs) (n : ℕ) (is : i ≡ input.Bytes n) where
   pub input-within : n ≤ length xs
   input-within = subst (λ (x : Input). Whole x xs) is whole .0

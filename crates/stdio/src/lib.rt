@@ -5,18 +5,17 @@
 ghost use mathlib.Core.Path.{_≡_};
 ghost use Prim.Native.Nat.{_≤_, _<_};
 ghost use lib.ListN.{length};
-ghost use Rattle.stdio.specs.Blocks.{Within, Whole};
+ghost use Rattle.stdio.specs.Blocks.{Whole};
 use libc::STDERR_FILENO;
 use libc::STDIN_FILENO;
 use libc::STDOUT_FILENO;
 use libc::types::timespec;
 
-// What a read brought: so many bytes at the start of the buffer, the end of the input, or nothing,
-// since it failed.
-pub enum Block {
-    Bytes(usize),
-    End,
-    Failed,
+// What a read brought: so many bytes at the start of the buffer; none at the end of the input, and
+// where it failed.
+pub struct Read {
+    pub length: usize,
+    pub failed: bool,
 }
 
 // The same of the whole input, as far as the buffer goes.
@@ -105,24 +104,37 @@ pub fn write_all(program: &[u8], bytes: &[u8]) -> bool {
     true
 }
 
-// The next bytes of the input, at least one, as many as there are; a failure is told.
-pub fn read_block(program: &[u8], block: &mut [u8]) -> Block
-    ensures { λ r. ⌜ Within r (now (block .exit)) ⌝ }
+// Writes the first so many bytes of a buffer, as many as it has; false where the output failed,
+// which is told.
+pub fn write_first(program: &[u8], n: usize, buffer: &[u8]) -> bool {
+    if n < buffer.len() {
+        return write_all(program, &buffer[..n]);
+    }
+    write_all(program, buffer)
+}
+
+// The next bytes of the input, as many as there are; a failure is told.
+pub fn read_block(program: &[u8], block: &mut [u8]) -> Read
+    ensures { λ r. ⌜ r .length ≤ length (now (block .exit)) ⌝ }
 {
     let mut tries = TRIES;
     while tries > 0 {
         let got = libc::read(STDIN_FILENO, block);
-        let n = io::count(got, block);
-        if n > 0 {
-            return Block::Bytes(n);
+        let length = io::count(got, block);
+        let failed = false;
+        if length > 0 {
+            return Read { length, failed };
         }
         if got == 0 {
-            return Block::End;
+            return Read { length, failed };
         }
         tries = wait(tries);
     }
     tell(program, b": cannot read");
-    Block::Failed
+    Read {
+        length: 0,
+        failed: true,
+    }
 }
 
 // A proved loop ends, and nothing says that the input does. So a program that reads up to
@@ -139,18 +151,14 @@ pub fn read_all(program: &[u8], buffer: &mut [u8]) -> Input
 {
     let mut n: usize = 0;
     while n < buffer.len() {
-        let block = read_block(program, &mut buffer[n..]);
-        match block {
-            Block::Bytes(more) => {
-                n += more;
-            }
-            Block::End => {
-                return Input::Bytes(n);
-            }
-            Block::Failed => {
-                return Input::Failed;
-            }
+        let read = read_block(program, &mut buffer[n..]);
+        if read.failed {
+            return Input::Failed;
         }
+        if read.length == 0 {
+            return Input::Bytes(n);
+        }
+        n += read.length;
     }
     Input::Bytes(n)
 }

@@ -11,20 +11,22 @@ use Rattle.calls.specs.declared.Judge.{Judge}
 use Rattle.calls.specs.mirror.Steps.{fresh}
 use Rattle.linebuffer.proofs.Long as linebuffer
 use Rattle.linetexts.specs.Feeding.{Outcome}
-use Rattle.linetexts.specs.Lists.{Listed, listOf, listText, skippedLines}
-use Rattle.linetexts.specs.Claims.{Told}
+use Rattle.linetexts.specs.Beginnings.{Told, beginning}
+use Rattle.linetexts.specs.Lists.{Listed, listOf, listText, skippedLines, listTeller}
 use Rattle.calltext.specs.Meaning.{Meaning, malformed, callIn, lineIn}
 use Rattle.calltext.specs.Answers.{unread, responseText}
 use Rattle.calls.specs.Calls.{Call}
 use Rattle.linetexts.proofs.Lists.{told-lists, ends-list as ends}
 use Rattle.linetexts.proofs.Claimed as linetexts
+use Rattle.linetexts.proofs.Beginnings.{begun, keeps-lines}
 use Rattle.histories.specs.History.{boardIn, placesIn}
+use Rattle.longlines.specs.Holding.{lineBegin}
 use Rattle.stream.specs.Worked.{cutText, cutAnswers}
 use Rattle.stream.specs.Texts.{toldAs, callList, callLines, historyAfter, rightResponse, rightAnswer, callsAfter, rightText}
 use Rattle.stream.specs.Claims.{Claims}
 use Rattle.stream.proofs.Right.{right}
 
-told : Told callLines
+told : Told (listTeller callList)
 told =
     told-lists callList (omega arith)
     (λ j.
@@ -56,8 +58,8 @@ claims = record {
   fresh-line = fresh-line;
   worked = worked;
   answered = λ blocks line large.
-      ap (λ (o : Outcome (Listed Judge)). o .text) (linetexts.claims callLines told .whole blocks (listOf fresh false) line large)
+      ap (λ (o : Outcome (Listed Judge)). o .text) (linetexts.claims callLines (keeps-lines (listTeller callList) told) .whole blocks (listOf fresh false) (beginning lineBegin line) (begun line large))
       ∙ right (linesOf (flatten blocks));
-  written = λ {room} {s′} {blocks} {line} {text} large b.
-      linetexts.claims callLines told .written large b ∙ right (linesOf (flatten blocks));
+  written = λ {s′} {blocks} {line} {text} large b.
+      linetexts.claims callLines (keeps-lines (listTeller callList) told) .written (begun line large) b ∙ right (linesOf (flatten blocks));
 }

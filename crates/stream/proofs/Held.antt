@@ -23,7 +23,8 @@ use Rattle.longlines.specs.declared.Held.{Held}
 use Rattle.longlines.specs.Holding.{heldMeaning as heldBy}
 use Rattle.longlines.proofs.Standing.{meaning-on}
 use Rattle.linebuffer.specs.Meanings.{heldMeaning}
-use Rattle.linetexts.specs.Feeding.{Outcome, heldStep}
+use Rattle.linetexts.specs.Feeding.{Outcome}
+use Rattle.linetexts.specs.Beginnings.{heldStep}
 use Rattle.linetexts.specs.Lists.{Listed, listOf, skipsHeld}
 use Rattle.linetexts.proofs.Lists.{run-held}
 use Rattle.stream.specs.Texts.{toldAs, callList, callLines}

@@ -13,17 +13,18 @@ use Rattle.calls.specs.declared.Judge.{Judge}
 use Rattle.calls.specs.Calls.{Call}
 use Rattle.calls.specs.mirror.Steps.{fresh}
 use Rattle.longlines.specs.Holding.{lineBegin}
-use Rattle.linetexts.specs.Feeding.{State, stateOf, finishOf}
-use Rattle.linetexts.specs.Lists.{Listed, listOf, NoneEmpty, skippedLines}
-use Rattle.linetexts.specs.Claims.{Told, linesStep, streamOf, Blocks}
+use Rattle.linetexts.specs.Feeding.{State, finishOf}
+use Rattle.linetexts.specs.Beginnings.{Beginning, stateOf, Told}
+use Rattle.linetexts.specs.Lists.{Listed, listOf, NoneEmpty, skippedLines, listTeller}
+use Rattle.linetexts.specs.Claims.{linesStep, streamOf, Blocks}
 use Rattle.calltext.specs.Meaning.{malformed, lineIn}
 use Rattle.calltext.specs.Answers.{unread, responseText}
 use Rattle.stream.specs.Worked.{cutText, cutAnswers}
-use Rattle.stream.specs.Texts.{callLines, rightText}
+use Rattle.stream.specs.Texts.{callLines, rightText, callList}
 
 pub record Claims : Type 0 where
   -- a longer line is told by its beginning, and by whether the rest is hex digits and how many
-  pub told : Told callLines
+  pub told : Told (listTeller callList)
   -- every answer is the right one after the calls before it
   pub right : (ls : List (List ℕ)) → linesStep callLines (listOf fresh false) ls .text ≡ rightText (some []) ls
   -- after a malformed line no call is made and no verdict given: each line is answered `skipped`, up to
@@ -40,6 +41,6 @@ pub record Claims : Type 0 where
   pub answered : (blocks : List (List ℕ)) (line : List ℕ) → lineRoom ≤ length line
       → streamOf callLines (stateOf (listOf fresh false) lineBegin line) blocks .text ≡ rightText (some []) (linesOf (flatten blocks))
   -- ALL THAT IS WRITTEN, round by round, block by block, and at the end, is right
-  pub written : {room : ℕ} {s′ : State (Listed Judge)} {blocks : List (List ℕ)} {line text : List ℕ} → lineRoom ≤ length line
-      → Blocks callLines room (stateOf (listOf fresh false) lineBegin line) blocks s′ text
+  pub written : {s′ : State Beginning (Listed Judge)} {blocks : List (List ℕ)} {line text : List ℕ} → lineRoom ≤ length line
+      → Blocks callLines (stateOf (listOf fresh false) lineBegin line) blocks s′ text
       → text ++ finishOf callLines s′ .text ≡ rightText (some []) (linesOf (flatten blocks))

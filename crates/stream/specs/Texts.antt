@@ -20,6 +20,7 @@ use Rattle.calltext.specs.Meaning.{Meaning, again, call, malformed, lineIn}
 use Rattle.calltext.specs.Answers.{Response, began, replied, unread, isMalformed, responseText}
 use Rattle.callrun.specs.Running.{LineOutcome, lineStep}
 use Rattle.linetexts.specs.Feeding.{Outcome, LineMachine}
+use Rattle.linetexts.specs.Beginnings.{Beginning}
 use Rattle.linetexts.specs.Lists.{Listed, ListMachine, listOf, listLines, listText}
 
 abbrev pub toldRoom : ℕ
@@ -36,7 +37,7 @@ callList = record {
   most = answerRoom;
 }
 
-abbrev pub callLines : LineMachine (Listed Judge)
+abbrev pub callLines : LineMachine Beginning (Listed Judge)
 callLines = listLines callList
 
 -- ---- the right answers, by the calls alone

@@ -1,5 +1,4 @@
 -- In the order in which they build on each other.
-pub mod Arrays
 pub mod Singles
 pub mod Turns
 pub mod Tables

@@ -6,8 +6,7 @@
 --
 --   setWalk ts k         sets as the keys of numbering
 --   indexOf sets m      the number of the set m; the list's length where it has none
---   numbered sets m      a non-empty set keeps the number it has, else it takes the next
---   expandFrom, closeFrom, setsUpTo   the procedure: by symbols, in number order, for each state
+--   setsUpTo ts k q      the procedure, for the states below q
 --   setsOf ts n k        the numbered sets, in number order
 --   tooMany ts n k       there are more than 512 (9)
 --   nextSet ts n k i s   the next-set table: the number of the successor of set i by s, or 512
@@ -21,8 +20,7 @@ use Rattle.limits.specs.Limits.{mostStates, mostSymbols, mostSets, tableCells}
 use Rattle.base.specs.Lists.{listFrom}
 use Rattle.masks.specs.Masks.{single}
 use Rattle.automaton.specs.Successor.{successor}
-use Rattle.numbering.specs.Numbering as keys
-use Rattle.numbering.specs.Numbering.{Walk, keysUpTo, numberOrNone, nextOf}
+use Rattle.numbering.specs.Numbering.{Walk, keysUpTo, nextOf}
 unfoldable pub use Rattle.numbering.specs.Numbering.{indexOf}
 
 abbrev pub isEmpty : ℕ → Bool
@@ -30,18 +28,6 @@ isEmpty m = eqb m 0
 
 abbrev pub setWalk : List ℕ → ℕ → Walk
 setWalk ts k = record { step = successor ts; skips = isEmpty; k = k }
-
-abbrev pub numbered : List ℕ → ℕ → List ℕ
-numbered sets m = keys.numbered isEmpty sets m
-
--- the set m is expanded by `left` symbols, from s on
-abbrev pub expandFrom : List ℕ → ℕ → ℕ → ℕ → ℕ → List ℕ → List ℕ
-expandFrom ts k m s left sets = keys.expandFrom (setWalk ts k) m s left sets
-
--- in number order, each set from number i on is expanded by the k symbols: at most `left` sets,
--- which is enough for 512
-abbrev pub closeFrom : List ℕ → ℕ → ℕ → ℕ → List ℕ → List ℕ
-closeFrom ts k left i sets = keys.closeFrom (setWalk ts k) left i sets
 
 -- for each state q in order: {q} is numbered, and the sets not yet expanded are expanded, which are
 -- those from there on
@@ -54,10 +40,6 @@ setsOf ts n k = setsUpTo ts k (min n mostStates)
 
 unfoldable pub tooMany : List ℕ → ℕ → ℕ → Bool
 tooMany ts n k = ltb mostSets (length (setsOf ts n k))
-
--- the number of the set m, or 512 for the empty set
-abbrev pub numberOrEmpty : List ℕ → ℕ → ℕ
-numberOrEmpty sets m = numberOrNone isEmpty sets m
 
 unfoldable pub nextSet : List ℕ → ℕ → ℕ → ℕ → ℕ → ℕ
 nextSet ts n k i s = nextOf (setWalk ts k) (setsOf ts n k) i s

@@ -2,4 +2,3 @@
 -- lead from here to the words of the papers.
 pub mod Singles
 pub mod Answer
-pub mod Steps

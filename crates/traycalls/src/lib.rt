@@ -6,7 +6,7 @@ ghost use lib.Dec.{eqb};
 ghost use Rattle.trays.specs.Replies.{accepted, refused, installMeans, verdictMeans};
 ghost use Rattle.trays.specs.Calls.{notRows, foreignTo};
 ghost use Rattle.trays.specs.Boards.{widthOf, bandsOf};
-ghost use Rattle.trays.specs.mirror.Steps.{fresh, withBoard, withRow, withColumn, installAnswer, installOutcome, callOutcome, installRowOf, installColumnOf, openOf, deliverOf, withdrawOf, verdictOf};
+ghost use Rattle.trays.specs.mirror.Steps.{fresh, withBoard, withRow, withColumn, installAnswer, installOutcome, callOutcome, installOf, installRowOf, installColumnOf, openOf, deliverOf, withdrawOf, verdictOf};
 use automaton::Rule;
 use build::BuildAnswer;
 use rulecheck::CheckAnswer;
@@ -95,32 +95,29 @@ fn with_column(tray: Tray, rule: Rule) -> Tray
     }
 }
 
-// Checks and builds a rule for the rows. Accepted, it replaces the former one and removes the board.
-pub fn install_row(tray: Tray, rule: Rule) -> InstallResult
-    ensures { λ r. ⌜ installOutcome r ≡ installRowOf tray rule ⌝ }
+// Checks and builds a rule. Accepted, it leaves the tray that has it; else the tray is as it was.
+fn install(tray: Tray, rule: Rule, next: Tray) -> InstallResult
+    ensures { λ r. ⌜ installOutcome r ≡ installOf tray rule next ⌝ }
 {
     let answer = answer_to(rule);
     match answer {
         InstallAnswer::Refused(_) => InstallResult { answer, tray },
-        InstallAnswer::Accepted(_, _) => {
-            let tray = with_row(tray, rule);
-            InstallResult { answer, tray }
-        }
+        InstallAnswer::Accepted(_, _) => InstallResult { answer, tray: next },
     }
+}
+
+// A rule for the rows. Accepted, it replaces the former one and removes the board.
+pub fn install_row(tray: Tray, rule: Rule) -> InstallResult
+    ensures { λ r. ⌜ installOutcome r ≡ installRowOf tray rule ⌝ }
+{
+    install(tray, rule, with_row(tray, rule))
 }
 
 // The same for the columns.
 pub fn install_column(tray: Tray, rule: Rule) -> InstallResult
     ensures { λ r. ⌜ installOutcome r ≡ installColumnOf tray rule ⌝ }
 {
-    let answer = answer_to(rule);
-    match answer {
-        InstallAnswer::Refused(_) => InstallResult { answer, tray },
-        InstallAnswer::Accepted(_, _) => {
-            let tray = with_column(tray, rule);
-            InstallResult { answer, tray }
-        }
-    }
+    install(tray, rule, with_column(tray, rule))
 }
 
 // Whether a rule with one of these numbers of states is absent.

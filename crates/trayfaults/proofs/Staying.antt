@@ -11,7 +11,6 @@ use lib.ListN.{length, take}
 use borrow.Author.Tests.{ltb-true, ltb-false}
 use Rattle.base.proofs.Options.{none-some}
 use Rattle.base.proofs.Tests.{by-test}
-use Rattle.base.proofs.Totals.{total-same}
 use Rattle.automaton.specs.declared.Rule.{Rule}
 use Rattle.automaton.specs.Rules.{automatonOf, WellFormed}
 use Rattle.live.specs.Continued.{Continued}
@@ -42,9 +41,6 @@ module _ (h g : List Call) (b : ℕ) (rule : columnIn g ≡ columnIn h) (board :
     (bands : (p : ℕ) → p ≤ b → standing g p ≡ standing h p) where
   rows-same : (p : ℕ) → p ≤ b → rowsAt g p ≡ rowsAt h p
   rows-same p l = ap₂ (λ (o : Option Size) (s : Option (List ℕ)). rowsFrom (widthFrom o) s) board (bands p l)
-
-  below-same : rowsBelow (rowsAt g) b ≡ rowsBelow (rowsAt h) b
-  below-same = total-same (λ q. length (rowsAt g q)) (λ q. length (rowsAt h q)) b (λ q l. ap length (rows-same q (omega arith)))
 
   -- the column up to a row of band b
   text-same : (m n c j : ℕ) → b < m → b < n → j ≤ length (rowsAt h b)

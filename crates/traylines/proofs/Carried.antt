@@ -1,9 +1,9 @@
 -- What reading the bytes of a line into the lent buffer leaves for the call. Assumes nothing.
 --
---   row-malformed, row-put          the ways through a file for the rows
---   column-malformed, column-put    and for the columns
+--   file-malformed, file-put        the ways through a file, for the rows or for the columns
 --   deliver-malformed, deliver-put  the ways through a delivery
 use mathlib.Core.Path.{_≡_, ap, _∙_}
+use mathlib.Core.Bool.{Bool, true, false}
 use mathlib.Core.List.{List}
 use mathlib.Core.Option.{some}
 use Prim.Native.Nat.{ℕ, _≤_}
@@ -16,34 +16,31 @@ use Rattle.fields.proofs.Taking.{carries, not-bytes}
 use Rattle.trays.specs.declared.Tray.{Tray}
 use Rattle.trays.specs.Replies.{Reply}
 use Rattle.trays.specs.mirror.Steps.{deliverOf}
-use Rattle.traytext.specs.Lines.{malformed, rowBy, columnBy, deliverBy}
+use Rattle.traytext.specs.Lines.{malformed, deliverBy}
 use Rattle.traytext.specs.Answers.{replied}
-use Rattle.traylines.specs.Running.{loadRowOf, loadColumnOf, LineOutcome, replyOf, lineStep}
-use Rattle.traylines.proofs.Clipped.{rows-long, columns-long, delivers-long, clip}
+use Rattle.traylines.specs.Running.{fileBy, loadOf, LineOutcome, replyOf, lineStep}
+use Rattle.traylines.proofs.Clipped.{loads-long, delivers-long, clip}
 
 module _ (field before after : List ℕ) (x : Bytes) (took : Took field before x after) (t : Tray) where
   module _ (e : x ≡ Malformed) (o : LineOutcome) (l : o ≡ lineStep t malformed) where
-    pub row-malformed : o ≡ lineStep t (rowBy (parseBytes field))
-    row-malformed = rw (not-bytes field before after x took e) l
-
-    pub column-malformed : o ≡ lineStep t (columnBy (parseBytes field))
-    column-malformed = rw (not-bytes field before after x took e) l
+    pub file-malformed : (rows : Bool) → o ≡ lineStep t (fileBy rows (parseBytes field))
+    file-malformed true = rw (not-bytes field before after x took e) l
+    file-malformed false = rw (not-bytes field before after x took e) l
 
     pub deliver-malformed : (p : ℕ) → o ≡ lineStep t (deliverBy (some p) (parseBytes field))
     deliver-malformed p = rw (not-bytes field before after x took e) l
 
   module _ (room : 32907 ≤ length before) (n : ℕ) (put : x ≡ Put n) (a : Reply) (next : Tray) where
-    pub row-put : record { reply = a; state = next } ≡ loadRowOf t (take n after)
-        → record { response = replied a; state = next } ≡ lineStep t (rowBy (parseBytes field))
-    row-put l =
+    load-put : (rows : Bool) → record { reply = a; state = next } ≡ loadOf rows t (take n after)
+        → record { reply = a; state = next } ≡ loadOf rows t (carries field before after x took n put .bytes)
+    load-put rows l =
         let k = carries field before after x took n put in
-        rw (k .said) (ap replyOf (l ∙ ap (loadRowOf t) (k .is) ∙ clip 32906 (loadRowOf t) (rows-long t) (k .bytes) (length before) (omega arith)))
+        l ∙ ap (loadOf rows t) (k .is) ∙ clip 32906 (loadOf rows t) (λ f g hf hg. loads-long t f g hf hg rows) (k .bytes) (length before) (omega arith)
 
-    pub column-put : record { reply = a; state = next } ≡ loadColumnOf t (take n after)
-        → record { response = replied a; state = next } ≡ lineStep t (columnBy (parseBytes field))
-    column-put l =
-        let k = carries field before after x took n put in
-        rw (k .said) (ap replyOf (l ∙ ap (loadColumnOf t) (k .is) ∙ clip 32906 (loadColumnOf t) (columns-long t) (k .bytes) (length before) (omega arith)))
+    pub file-put : (rows : Bool) → record { reply = a; state = next } ≡ loadOf rows t (take n after)
+        → record { response = replied a; state = next } ≡ lineStep t (fileBy rows (parseBytes field))
+    file-put true l = rw (carries field before after x took n put .said) (ap replyOf (load-put true l))
+    file-put false l = rw (carries field before after x took n put .said) (ap replyOf (load-put false l))
 
     pub deliver-put : (p : ℕ) → record { reply = a; state = next } ≡ deliverOf t p (take n after)
         → record { response = replied a; state = next } ≡ lineStep t (deliverBy (some p) (parseBytes field))

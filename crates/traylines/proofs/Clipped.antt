@@ -25,7 +25,7 @@ use Rattle.trays.specs.mirror.Steps.{outcomeBy, lacksBoard, deliverOf}
 use Rattle.trays.specs.Replies.{Reply}
 use Rattle.trays.proofs.Bands.{rows-fit}
 use Rattle.trays.proofs.Passing.{whole-rows}
-use Rattle.traylines.specs.Running.{loadRowOf, loadColumnOf}
+use Rattle.traylines.specs.Running.{loadRowOf, loadColumnOf, loadOf}
 
 -- ---- a file
 module _ (t : Tray) (f g : List ℕ) (hf : 32906 < length f) (hg : 32906 < length g) where
@@ -36,6 +36,10 @@ module _ (t : Tray) (f g : List ℕ) (hf : 32906 < length f) (hg : 32906 < lengt
   pub columns-long : loadColumnOf t f ≡ loadColumnOf t g
   unfolding loadColumnOf
   columns-long = rw (long-load f hf, long-load g hg)
+
+  pub loads-long : (rows : Bool) → loadOf rows t f ≡ loadOf rows t g
+  loads-long true = rows-long
+  loads-long false = columns-long
 
 -- ---- a band: 64 rows of 16 events are 1,024 bytes
 pub many-rows : (b : TrayBoard) (f : List ℕ) → 1024 < length f → notRows (widthOf b) f ≡ true

@@ -2,9 +2,9 @@
 --
 --   unread, installs          a file that reading refuses, and one whose rule is installed: whatever
 --                             an installation leaves
---   row-unread, row-read      for the rows
---   column-unread, column-read    for the columns
+--   file-unread, row-read, column-read   of a file for the rows, and of one for the columns
 use mathlib.Core.Path.{_≡_, sym, ap, _∙_}
+use mathlib.Core.Bool.{Bool, true, false}
 use mathlib.Core.List.{List}
 use mathlib.Core.Option.{Option, none, some}
 use Prim.Native.Nat.{ℕ}
@@ -18,7 +18,7 @@ use Rattle.calls.proofs.Conditions.{load-number, load-installs}
 use Rattle.trays.specs.declared.Tray.{Tray}
 use Rattle.trays.specs.Replies.{refused}
 use Rattle.trays.specs.mirror.Steps.{Outcome, outcomeBy, withRow, withColumn, installReply, installRowOf, installColumnOf}
-use Rattle.traylines.specs.Running.{loadRowOf, loadColumnOf}
+use Rattle.traylines.specs.Running.{loadRowOf, loadColumnOf, loadOf}
 
 module _ (t : Tray) (f : List ℕ) (read : ReadResult) (reads : readOutcome read ≡ readOf f) where
   number-is : readMeans (read .answer) ≡ refusal f
@@ -42,18 +42,15 @@ module _ (t : Tray) (f : List ℕ) (read : ReadResult) (reads : readOutcome read
         ∙ ap (λ (o : Option ℕ). outcomeBy o (installReply (ruleOf f)) t (next (ruleOf f))) (sym (load-installs f passes))
 
   module _ (o : Outcome) where
-    pub row-unread : (number : ℕ) → read .answer ≡ reading.Refused number → o ≡ record { reply = refused number; state = t } → o ≡ loadRowOf t f
-    unfolding loadRowOf
-    row-unread number told e = e ∙ unread (withRow t) number told
+    pub file-unread : (rows : Bool) (number : ℕ) → read .answer ≡ reading.Refused number → o ≡ record { reply = refused number; state = t } → o ≡ loadOf rows t f
+    unfolding loadRowOf loadColumnOf
+    file-unread true number told e = e ∙ unread (withRow t) number told
+    file-unread false number told e = e ∙ unread (withColumn t) number told
 
-    pub row-read : read .answer ≡ reading.Accepted → o ≡ installRowOf t (read .rule) → o ≡ loadRowOf t f
+    pub row-read : {rows : Bool} → rows ≡ true → read .answer ≡ reading.Accepted → o ≡ installRowOf t (read .rule) → o ≡ loadOf rows t f
     unfolding loadRowOf installRowOf
-    row-read told e = e ∙ installs (withRow t) told
+    row-read side told e = rw side (e ∙ installs (withRow t) told)
 
-    pub column-unread : (number : ℕ) → read .answer ≡ reading.Refused number → o ≡ record { reply = refused number; state = t } → o ≡ loadColumnOf t f
-    unfolding loadColumnOf
-    column-unread number told e = e ∙ unread (withColumn t) number told
-
-    pub column-read : read .answer ≡ reading.Accepted → o ≡ installColumnOf t (read .rule) → o ≡ loadColumnOf t f
+    pub column-read : {rows : Bool} → rows ≡ false → read .answer ≡ reading.Accepted → o ≡ installColumnOf t (read .rule) → o ≡ loadOf rows t f
     unfolding loadColumnOf installColumnOf
-    column-read told e = e ∙ installs (withColumn t) told
+    column-read side told e = rw side (e ∙ installs (withColumn t) told)

@@ -5,6 +5,7 @@
 --   loadRowOf, loadColumnOf   the outcome of a rule file for the rows and for the columns: read, and
 --                          then installed, with document 01's numbers 1 to 9 (`loadNumber`). It is no
 --                          call
+--   fileBy, loadOf         either, with the side as a parameter
 --   LineOutcome            the outcome of a line: what it is answered, and the tray that it leaves
 --   replyOf o              the outcome of a line that makes a call or has a file, from the call's or
 --                          the file's
@@ -13,7 +14,9 @@
 --   Scratch before after   all that holds of a buffer that is lent for the bytes of a line: its length
 --                          stays
 use mathlib.Core.Path.{_≡_}
+use mathlib.Core.Bool.{Bool, true, false}
 use mathlib.Core.List.{List}
+use mathlib.Core.Option.{Option}
 use Prim.Native.Nat.{ℕ, _+_}
 use lib.ListN.{length}
 use Rattle.limits.specs.Limits.{longestFile}
@@ -21,7 +24,7 @@ use Rattle.ruleformat.specs.Reader.{ruleOf}
 use Rattle.calls.specs.Calls.{loadNumber}
 use Rattle.trays.specs.declared.Tray.{Tray}
 use Rattle.trays.specs.mirror.Steps.{fresh, Outcome, outcomeBy, withRow, withColumn, installReply, stepOf}
-use Rattle.traytext.specs.Lines.{Meaning, again, call, rowFile, columnFile, malformed}
+use Rattle.traytext.specs.Lines.{Meaning, again, call, rowFile, columnFile, malformed, rowBy, columnBy}
 use Rattle.traytext.specs.Answers.{Response, began, replied, unread, answerMeans}
 use Rattle.traylines.specs.declared.LineRun.{LineRun}
 
@@ -34,6 +37,15 @@ loadRowOf t f = outcomeBy (loadNumber f) (installReply (ruleOf f)) t (withRow t 
 
 unfoldable pub loadColumnOf : Tray → List ℕ → Outcome
 loadColumnOf t f = outcomeBy (loadNumber f) (installReply (ruleOf f)) t (withColumn t (ruleOf f))
+
+-- for the rows, or else for the columns: what the line of a file means, and the file's outcome
+abbrev pub fileBy : Bool → Option (List ℕ) → Meaning
+fileBy true o = rowBy o
+fileBy false o = columnBy o
+
+abbrev pub loadOf : Bool → Tray → List ℕ → Outcome
+loadOf true t f = loadRowOf t f
+loadOf false t f = loadColumnOf t f
 
 -- ---- a line
 pub record LineOutcome : Type 0 where

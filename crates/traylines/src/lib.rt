@@ -8,8 +8,8 @@ ghost use Rattle.fields.specs.Bytes.{parseBytes};
 ghost use Rattle.trays.specs.Replies.{refused};
 ghost use Rattle.trays.specs.Calls.{opens, withdraws, asksVerdict};
 ghost use Rattle.trays.specs.mirror.Steps.{installOutcome};
-ghost use Rattle.traytext.specs.Lines.{again, call, malformed, rowBy, columnBy, deliverBy, lineIn};
-ghost use Rattle.traylines.specs.Running.{bytesRoom, loadRowOf, loadColumnOf, lineStep, runOutcome, Scratch};
+ghost use Rattle.traytext.specs.Lines.{again, call, malformed, deliverBy, lineIn};
+ghost use Rattle.traylines.specs.Running.{bytesRoom, fileBy, loadOf, lineStep, runOutcome, Scratch};
 use fields::Bytes;
 use ruleformat::ReadAnswer;
 use trays::InstallAnswer;
@@ -29,27 +29,21 @@ fn refuse_file(tray: Tray, number: u8) -> InstallResult
     InstallResult { answer, tray }
 }
 
-// Reads a rule file and installs the rule for the rows.
-pub fn load_row(tray: Tray, file: &[u8]) -> InstallResult
-    ensures { λ r. ⌜ installOutcome r ≡ loadRowOf tray (now (file .entry)) ⌝ }
+// Reads a rule file and installs the rule, for the rows or for the columns.
+fn load(tray: Tray, rows: bool, file: &[u8]) -> InstallResult
+    ensures { λ r. ⌜ installOutcome r ≡ loadOf rows tray (now (file .entry)) ⌝ }
 {
     let reading = rulefile::read(file);
     let read = reading.answer;
     match read {
         ReadAnswer::Refused(number) => refuse_file(tray, number),
-        ReadAnswer::Accepted => traycalls::install_row(tray, reading.rule),
-    }
-}
-
-// The same for the columns.
-pub fn load_column(tray: Tray, file: &[u8]) -> InstallResult
-    ensures { λ r. ⌜ installOutcome r ≡ loadColumnOf tray (now (file .entry)) ⌝ }
-{
-    let reading = rulefile::read(file);
-    let read = reading.answer;
-    match read {
-        ReadAnswer::Refused(number) => refuse_file(tray, number),
-        ReadAnswer::Accepted => traycalls::install_column(tray, reading.rule),
+        ReadAnswer::Accepted => {
+            if rows {
+                traycalls::install_row(tray, reading.rule)
+            } else {
+                traycalls::install_column(tray, reading.rule)
+            }
+        }
     }
 }
 
@@ -77,34 +71,16 @@ fn run_empty(tray: Tray) -> LineRun
 
 // The bytes go through the lent buffer. What is longer than the buffer is refused by its length
 // alone, so what does not fit is not missed.
-fn run_row(tray: Tray, field: &[u8], buffer: &mut [u8]) -> LineRun
+fn run_file(tray: Tray, rows: bool, field: &[u8], buffer: &mut [u8]) -> LineRun
     requires { ⌜ bytesRoom ≤ length (now buffer) ⌝ }
-    ensures { λ r. ⌜ runOutcome r ≡ lineStep tray (rowBy (parseBytes (now (field .entry)))) ⌝ }
+    ensures { λ r. ⌜ runOutcome r ≡ lineStep tray (fileBy rows (parseBytes (now (field .entry)))) ⌝ }
     ensures scratch { λ r. ⌜ Scratch (now (buffer .entry)) (now (buffer .exit)) ⌝ }
 {
     let bytes = fields::read_bytes(field, buffer);
     match bytes {
         Bytes::Malformed => run_malformed(tray),
         Bytes::Put(n) => {
-            let loading = load_row(tray, &buffer[..n]);
-            let said = loading.answer;
-            let answer = LineAnswer::Install(said);
-            let tray = loading.tray;
-            LineRun { answer, tray }
-        }
-    }
-}
-
-fn run_column(tray: Tray, field: &[u8], buffer: &mut [u8]) -> LineRun
-    requires { ⌜ bytesRoom ≤ length (now buffer) ⌝ }
-    ensures { λ r. ⌜ runOutcome r ≡ lineStep tray (columnBy (parseBytes (now (field .entry)))) ⌝ }
-    ensures scratch { λ r. ⌜ Scratch (now (buffer .entry)) (now (buffer .exit)) ⌝ }
-{
-    let bytes = fields::read_bytes(field, buffer);
-    match bytes {
-        Bytes::Malformed => run_malformed(tray),
-        Bytes::Put(n) => {
-            let loading = load_column(tray, &buffer[..n]);
+            let loading = load(tray, rows, &buffer[..n]);
             let said = loading.answer;
             let answer = LineAnswer::Install(said);
             let tray = loading.tray;
@@ -168,8 +144,8 @@ pub fn run_line(tray: Tray, line: &[u8], buffer: &mut [u8]) -> LineRun
     let parsed = traytext::parse(line);
     match parsed {
         Line::Empty => run_empty(tray),
-        Line::Row => run_row(tray, &line[4..], buffer),
-        Line::Column => run_column(tray, &line[7..], buffer),
+        Line::Row => run_file(tray, true, &line[4..], buffer),
+        Line::Column => run_file(tray, false, &line[7..], buffer),
         Line::Open(width, bands) => run_open(tray, width, bands),
         Line::Deliver(band, from) => run_deliver(tray, band, &line[from..], buffer),
         Line::Withdraw(band) => run_withdraw(tray, band),

@@ -1,7 +1,7 @@
 -- The laws of rows and columns: which event stands where, rows that have the same bytes, and that
 -- the tests decide acceptance. Assumes nothing.
 --
---   rows-none, rows-more    no row, and one row more at the front
+--   rows-none               no row
 --   rows-law, column-law    the claims: where each event stands
 --   bands-law               and where each row of a band stands among those of all bands
 --   rows-same               rows depend on their bytes alone
@@ -27,10 +27,6 @@ use Rattle.trays.specs.Claims.{RowsLaw, ColumnLaw, rowsBelow, BandsLaw}
 pub rows-none : (w : ℕ) (b : List ℕ) → rowsOf w 0 b ≡ []
 unfolding rowsOf
 rows-none w b = refl
-
-pub rows-more : (w n : ℕ) (b : List ℕ) → rowsOf w (suc n) b ≡ take w b ∷ rowsOf w n (drop w b)
-unfolding rowsOf
-rows-more w n b = refl
 
 -- behind the first row there is room for the others
 rest-fits : (w n : ℕ) (b : List ℕ) → suc n * w ≤ length b → (w ≤ length b) × (n * w ≤ length (drop w b))

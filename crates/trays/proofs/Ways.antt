@@ -3,7 +3,7 @@
 --
 --   fresh-by                                              fresh
 --   unchecked, unbuilt, built                             installAnswer
---   row-refused, row-installed, column-refused, column-installed   installRowOf, installColumnOf
+--   install-refused, install-accepted                     installOf
 --   open-20, open-38, open-10, opened                     openOf
 --   deliver-21, -11, -39, -13, -22, delivered             deliverOf
 --   withdraw-21, withdraw-11, withdraw-23, withdrawn      withdrawOf
@@ -33,7 +33,7 @@ use Rattle.trays.specs.declared.Tray.{Tray}
 use Rattle.trays.specs.Replies as reply
 use Rattle.trays.specs.Calls.{notRows, foreignTo}
 use Rattle.trays.specs.Boards.{widthOf, bandsOf, isEmpty, emptyBoard, filledAt, clearedAt, emptyBands}
-use Rattle.trays.specs.mirror.Steps.{fresh, lacksRule, withBoard, withRow, withColumn, Outcome, installAnswer, installRowOf, installColumnOf, openOf, deliverOf, withdrawOf, isYes, verdictOf}
+use Rattle.trays.specs.mirror.Steps.{fresh, lacksRule, withBoard, Outcome, installAnswer, installOf, openOf, deliverOf, withdrawOf, isYes, verdictOf}
 
 pub fresh-by : (r : Rule) → r ≡ noRule → (c : Rule) → c ≡ noRule → (b : TrayBoard) → b ≡ emptyBoard 0 0
     → record { row = r; column = c; board = b } ≡ fresh
@@ -100,32 +100,22 @@ by-acceptance : (n : Option ℕ) (m starts s d : ℕ) → reply.installed s d �
 by-acceptance none m starts s d e = (refl, cc, cc)
 by-acceptance (some y) m starts s d e = zero-one cc
 
-module _ (t : Tray) (r : Rule) (a : InstallAnswer) (answers : reply.installMeans a ≡ installAnswer r) where
+module _ (t s : Tray) (r : Rule) (a : InstallAnswer) (answers : reply.installMeans a ≡ installAnswer r) where
   module _ (x : ℕ) (told : a ≡ install.Refused x) where
     number-refused : installNumber r ≡ some x
     unfolding installAnswer
     number-refused = by-refusal (installNumber r) (builtOf r .setcount) (builtOf r .startcount) x (sym (ap reply.installMeans told) ∙ answers)
 
-    pub row-refused : record { reply = reply.installMeans a; state = t } ≡ installRowOf t r
-    unfolding installRowOf
-    row-refused = rw (told, number-refused)
+    pub install-refused : record { reply = reply.installMeans a; state = t } ≡ installOf t r s
+    install-refused = rw (told, number-refused)
 
-    pub column-refused : record { reply = reply.installMeans a; state = t } ≡ installColumnOf t r
-    unfolding installColumnOf
-    column-refused = rw (told, number-refused)
-
-  module _ (m starts : ℕ) (told : a ≡ install.Accepted m starts) (s : Tray) where
+  module _ (m starts : ℕ) (told : a ≡ install.Accepted m starts) where
     number-accepted : (installNumber r ≡ none) × (m ≡ builtOf r .setcount) × (starts ≡ builtOf r .startcount)
     unfolding installAnswer
     number-accepted = by-acceptance (installNumber r) (builtOf r .setcount) (builtOf r .startcount) m starts (sym (ap reply.installMeans told) ∙ answers)
 
-    pub row-installed : s ≡ withRow t r → record { reply = reply.installMeans a; state = s } ≡ installRowOf t r
-    unfolding installRowOf
-    row-installed e = rw (told, number-accepted .0, number-accepted .1, number-accepted .2, e)
-
-    pub column-installed : s ≡ withColumn t r → record { reply = reply.installMeans a; state = s } ≡ installColumnOf t r
-    unfolding installColumnOf
-    column-installed e = rw (told, number-accepted .0, number-accepted .1, number-accepted .2, e)
+    pub install-accepted : record { reply = reply.installMeans a; state = s } ≡ installOf t r s
+    install-accepted = rw (told, number-accepted .0, number-accepted .1, number-accepted .2)
 
 -- ---- open
 module _ (t : Tray) (w n : ℕ) (l : Bool) (lacks : l ≡ lacksRule t) where

@@ -9,12 +9,13 @@ use Rattle.lines.specs.Splitting.{begins, linesFrom, linesOf}
 use Rattle.traytext.specs.Lines.{Meaning, malformed, callIn, lineIn}
 use Rattle.traytext.specs.Answers.{replied, unread, responseText}
 use Rattle.trays.specs.Calls.{Call, installsRow, installsColumn}
-use Rattle.linetexts.specs.Lists.{listText, skippedLines}
+use Rattle.linetexts.specs.Lists.{listText, skippedLines, listTeller}
 use Rattle.linetexts.proofs.Lists.{ends-list as ends}
 use Rattle.linetexts.proofs.Claimed as linetexts
+use Rattle.linetexts.proofs.Beginnings.{begun, keeps-lines}
 use Rattle.trayhistories.specs.History.{boardThere, answerOf}
 use Rattle.traystream.specs.Worked.{cutText, cutAnswers}
-use Rattle.traystream.specs.Texts.{trayLines, fileCall, fileResponse, historyAfter, rightResponse, rightAnswer, callsAfter, rightText}
+use Rattle.traystream.specs.Texts.{trayLines, fileCall, fileResponse, historyAfter, rightResponse, rightAnswer, callsAfter, rightText, trayList}
 use Rattle.traystream.specs.Claims.{Claims}
 use Rattle.traystream.proofs.Long.{told}
 use Rattle.traystream.proofs.Right.{right}
@@ -49,6 +50,6 @@ claims = record {
     ap (λ (o : Option ℕ). fileResponse o (replied (answerOf h (installsColumn (ruleOf f))))) e,
   );
   worked = worked;
-  written = λ {room} {s′} {blocks} {line} {text} large b.
-      linetexts.claims trayLines told .written large b ∙ right (linesOf (flatten blocks));
+  written = λ {s′} {blocks} {line} {text} large b.
+      linetexts.claims trayLines (keeps-lines (listTeller trayList) told) .written (begun line large) b ∙ right (linesOf (flatten blocks));
 }

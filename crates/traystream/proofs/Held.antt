@@ -12,7 +12,8 @@ use Rattle.longlines.specs.declared.Held.{Held}
 use Rattle.longlines.specs.declared.Seen.{Seen}
 use Rattle.longlines.specs.Holding.{seenOf, heldMeaning}
 use Rattle.longlines.proofs.Standing.{by-bytes, by-stray}
-use Rattle.linetexts.specs.Feeding.{Outcome, heldStep}
+use Rattle.linetexts.specs.Feeding.{Outcome}
+use Rattle.linetexts.specs.Beginnings.{heldStep}
 use Rattle.linetexts.specs.Lists.{Listed, listOf, skipsHeld}
 use Rattle.linetexts.proofs.Lists.{run-held}
 use Rattle.trays.specs.declared.Tray.{Tray}

@@ -24,14 +24,15 @@ use Rattle.fields.specs.Numbers.{parseNumber}
 use Rattle.fields.specs.Bytes.{allHex, parseBytes}
 use Rattle.fields.proofs.Digits.{said-long}
 use Rattle.longlines.proofs.Tails.{begins-append, up-more, past-append, tail-stray, tail-bytes}
-use Rattle.linetexts.specs.Claims.{Told}
+use Rattle.linetexts.specs.Beginnings.{Told}
 use Rattle.linetexts.proofs.Lists.{told-lists}
+use Rattle.linetexts.specs.Lists.{listTeller}
 use Rattle.trays.specs.declared.Tray.{Tray}
 use Rattle.trays.specs.Calls.{delivers, asksVerdict}
 use Rattle.traytext.specs.Lines.{Meaning, call, rowFile, columnFile, malformed, row-word, column-word, open-word, deliver-word, withdraw-word, verdict-word, rowBy, columnBy, openBy, withdrawBy, deliverBy, openFields, deliverFields, callIn, lineIn}
 use Rattle.traylines.specs.Running.{replyOf, lineStep}
 use Rattle.traylines.proofs.Clipped.{rows-long, columns-long, delivers-long}
-use Rattle.traystream.specs.Texts.{toldAs, trayList, trayLines}
+use Rattle.traystream.specs.Texts.{toldAs, trayList}
 
 -- ---- fields that are malformed
 verdict-long : (u : List ℕ) → 7 < length u → cond (eqb (length u) 7) (call asksVerdict) malformed ≡ malformed
@@ -245,7 +246,7 @@ module _ (v t : List ℕ) (long : 65821 ≤ length v) where
     hex-line : Tells (lineIn v) (lineIn (v ++ t))
     hex-line = rw (some-bytes, more-bytes) hex-call
 
-pub told : Told trayLines
+pub told : Told (listTeller trayList)
 told =
     told-lists trayList (omega arith)
     (λ j. record {

@@ -10,9 +10,10 @@ use lib.ListN.{length}
 use Rattle.ruleformat.specs.Refusals.{refusal}
 use Rattle.lines.specs.Splitting.{linesOf}
 use Rattle.longlines.specs.Holding.{lineBegin}
-use Rattle.linetexts.specs.Feeding.{State, stateOf, finishOf}
-use Rattle.linetexts.specs.Lists.{Listed, listOf, NoneEmpty, skippedLines}
-use Rattle.linetexts.specs.Claims.{Told, linesStep, Blocks}
+use Rattle.linetexts.specs.Feeding.{State, finishOf}
+use Rattle.linetexts.specs.Beginnings.{Beginning, stateOf, Told}
+use Rattle.linetexts.specs.Lists.{Listed, listOf, NoneEmpty, skippedLines, listTeller}
+use Rattle.linetexts.specs.Claims.{linesStep, Blocks}
 use Rattle.trays.specs.declared.Tray.{Tray}
 use Rattle.trays.specs.Calls.{Call}
 use Rattle.trays.specs.Replies.{refused}
@@ -20,12 +21,12 @@ use Rattle.trays.specs.mirror.Steps.{fresh}
 use Rattle.traytext.specs.Lines.{rowFile, columnFile, malformed, lineIn}
 use Rattle.traytext.specs.Answers.{replied, unread, responseText}
 use Rattle.traystream.specs.Worked.{cutText, cutAnswers}
-use Rattle.traystream.specs.Texts.{trayRoom, trayLines, historyAfter, rightResponse, rightText}
+use Rattle.traystream.specs.Texts.{trayRoom, trayLines, historyAfter, rightResponse, rightText, trayList}
 
 pub record Claims : Type 0 where
   -- a longer line is told by its beginning, and by whether the rest is hex digits and how many: such
   -- a file or band is refused by its length alone
-  pub told : Told trayLines
+  pub told : Told (listTeller trayList)
   -- lines one after the other, from a fresh tray on: every answer is the right one after the calls
   -- before it
   pub right : (ls : List (List ℕ)) → linesStep trayLines (listOf fresh false) ls .text ≡ rightText (some []) ls
@@ -44,6 +45,6 @@ pub record Claims : Type 0 where
       → (historyAfter h (columnFile f) ≡ some h) × (rightResponse h (columnFile f) ≡ replied (refused x))
   pub worked : rightText (some []) (linesOf cutText) ≡ cutAnswers
   -- ALL THAT IS WRITTEN, round by round, block by block, and at the end, is right
-  pub written : {room : ℕ} {s′ : State (Listed Tray)} {blocks : List (List ℕ)} {line text : List ℕ} → trayRoom + 1 ≤ length line
-      → Blocks trayLines room (stateOf (listOf fresh false) lineBegin line) blocks s′ text
+  pub written : {s′ : State Beginning (Listed Tray)} {blocks : List (List ℕ)} {line text : List ℕ} → trayRoom + 1 ≤ length line
+      → Blocks trayLines (stateOf (listOf fresh false) lineBegin line) blocks s′ text
       → text ++ finishOf trayLines s′ .text ≡ rightText (some []) (linesOf (flatten blocks))

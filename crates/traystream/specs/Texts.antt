@@ -18,6 +18,7 @@ use Prim.Native.Nat.{ℕ, _+_, _*_}
 use Rattle.ruleformat.specs.Refusals.{refusal}
 use Rattle.ruleformat.specs.Reader.{ruleOf}
 use Rattle.linetexts.specs.Feeding.{Outcome, LineMachine}
+use Rattle.linetexts.specs.Beginnings.{Beginning}
 use Rattle.linetexts.specs.Lists.{Listed, ListMachine, listOf, listLines, listText}
 use Rattle.trays.specs.declared.Tray.{Tray}
 use Rattle.trays.specs.Replies.{refused}
@@ -41,7 +42,7 @@ trayList = record {
   most = mostAnswer;
 }
 
-abbrev pub trayLines : LineMachine (Listed Tray)
+abbrev pub trayLines : LineMachine Beginning (Listed Tray)
 trayLines = listLines trayList
 
 -- ---- the right answers, by the calls alone

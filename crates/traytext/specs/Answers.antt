@@ -9,10 +9,9 @@
 --   mostAnswer        the most bytes of an answer: `accepted`, a number of 16 bits and one of 8
 --   answerMeans r     what each case of the code's answer says
 use mathlib.Core.Bool.{Bool, true, false}
-use mathlib.Core.List.{List, [], _∷_, _++_}
+use mathlib.Core.List.{List, [], _∷_}
 use Prim.Native.Nat.{ℕ}
-use Rattle.text.specs.Numerals.{decimal}
-use Rattle.answers.specs.Answers.{refusedText, malformedText}
+use Rattle.answers.specs.Answers.{lineOf, acceptedWord, waitingWord, refusedText, malformedText}
 use Rattle.trays.specs.Replies.{Judgement, waiting, saysYes, saysNo, refusedWith, Reply, accepted, installed, judged, refused, installMeans, callMeans, verdictMeans}
 use Rattle.traytext.specs.declared.LineAnswer.{LineAnswer}
 use Rattle.traytext.specs.declared.LineAnswer.the-variants as answer
@@ -27,23 +26,16 @@ isMalformed began = false
 isMalformed (replied a) = false
 isMalformed unread = true
 
--- `accepted` and `waiting`, with the space behind them
-abbrev pub accepted-word : List ℕ
-accepted-word = 97 ∷ 99 ∷ 99 ∷ 101 ∷ 112 ∷ 116 ∷ 101 ∷ 100 ∷ 32 ∷ []
-
-abbrev pub waiting-word : List ℕ
-waiting-word = 119 ∷ 97 ∷ 105 ∷ 116 ∷ 105 ∷ 110 ∷ 103 ∷ 32 ∷ []
-
 -- with the line feed, as all below
 abbrev pub judgementText : Judgement → List ℕ
-judgementText (waiting empty) = waiting-word ++ (decimal empty ++ (10 ∷ []))
+judgementText (waiting empty) = lineOf waitingWord (empty ∷ [])
 judgementText saysYes = 121 ∷ 101 ∷ 115 ∷ 10 ∷ []
 judgementText saysNo = 110 ∷ 111 ∷ 10 ∷ []
 judgementText (refusedWith number) = refusedText number
 
 abbrev pub replyText : Reply → List ℕ
-replyText accepted = 97 ∷ 99 ∷ 99 ∷ 101 ∷ 112 ∷ 116 ∷ 101 ∷ 100 ∷ 10 ∷ []
-replyText (installed sets starts) = accepted-word ++ (decimal sets ++ ((32 ∷ []) ++ (decimal starts ++ (10 ∷ []))))
+replyText accepted = lineOf acceptedWord []
+replyText (installed sets starts) = lineOf acceptedWord (sets ∷ starts ∷ [])
 replyText (judged v) = judgementText v
 replyText (refused number) = refusedText number
 

@@ -124,11 +124,8 @@ fn put_installed(out: &mut [u8], sets: u16, starts: u8) -> usize
     requires { ⌜ mostAnswer ≤ length (now out) ⌝ }
     ensures { λ r. ⌜ Wrote (now (out .entry)) 0 (replyText (installed sets starts)) (now (out .exit)) r ⌝ }
 {
-    let a = text::put_bytes(out, 0, b"accepted ");
-    let b = text::put_decimal(out, a, sets as u64);
-    let c = text::put_byte(out, b, b' ');
-    let d = text::put_decimal(out, c, starts as u64);
-    text::put_byte(out, d, b'\n')
+    let numbers = [sets as u64, starts as u64];
+    answers::put_line(out, 0, b"accepted", &numbers)
 }
 
 // The answer where bands are empty.
@@ -136,9 +133,8 @@ fn put_waiting(out: &mut [u8], empty: u8) -> usize
     requires { ⌜ mostAnswer ≤ length (now out) ⌝ }
     ensures { λ r. ⌜ Wrote (now (out .entry)) 0 (replyText (judged (waiting empty))) (now (out .exit)) r ⌝ }
 {
-    let a = text::put_bytes(out, 0, b"waiting ");
-    let b = text::put_decimal(out, a, empty as u64);
-    text::put_byte(out, b, b'\n')
+    let numbers = [empty as u64];
+    answers::put_line(out, 0, b"waiting", &numbers)
 }
 
 // What a call is answered, a function for each type of answer.

@@ -1,44 +1,17 @@
 -- `put_refused` meets its contract. Assumes nothing.
-use Rattle.text.proofs.Rooms.{exact, most, left, fits, more, two}
-use Rattle.answers.proofs.Lengths.{byte-most}
+use native.Mathlib.Omega.{arith}
+use Rattle.answers.proofs.Lengths.{refused-most}
 use borrow.Author.Needs.{needs}
 use Rattle.answers.proofs.put_refused.Statement.{statement}
 use Rattle.answers.proofs.put_refused.Tie as tie
 
-slice-aggregate-put-bytes : tie.Need-slice-aggregate-put-bytes
-slice-aggregate-put-bytes c = search needs
-
-put-bytes-requires : tie.Need-put-bytes-requires
-put-bytes-requires c κs = search needs
-
-put-decimal-requires : tie.Need-put-decimal-requires
-put-decimal-requires c κs =
-    let s = c .before .before .before .before .before .before .before in
-    fits 8 3 1 (s .pre) (exact (c .before .before .before .put-bytes .ensures)) (byte-most (s .args .number) (s .fits .number .fits))
-
-put-byte-requires : tie.Need-put-byte-requires
-put-byte-requires c κs =
-    let s = c .before .before .before .before .before .before .before .before .before .before .before in
-    let h = left 8 4 (s .pre) (exact (c .before .before .before .before .before .before .before .put-bytes .ensures)) in
-    more 3 0 h (most 3 (byte-most (s .args .number) (s .fits .number .fits)) (c .before .before .before .put-decimal .ensures))
-
-same-length : tie.Need-same-length
-same-length c = search needs
+put-line-requires : tie.Need-put-line-requires
+put-line-requires c κs = let s = c .before .before .before .before in omega (arith, s .pre, refused-most (s .args .number) (s .fits .number .fits))
 
 returns : tie.Need-returns
-returns c =
-    let s = c .before .before .before .before .before .before .before .before .before .before .before .before .before .before in
-    two 8 4 (s .pre) (exact (c .before .before .before .before .before .before .before .before .before .before .put-bytes .ensures))
-    (λ h0. two 3 1 h0 (most 3 (byte-most (s .args .number) (s .fits .number .fits)) (c .before .before .before .before .before .before .put-decimal .ensures))
-    (λ h1. exact (c .before .before .put-byte .ensures))) .0
+returns c = c .before .before .put-line .ensures
 
 pub put-refused-spec : {M : Type 1} → statement M
 put-refused-spec =
     tie.close
-    (tie.spec
-    slice-aggregate-put-bytes
-    put-bytes-requires
-    put-decimal-requires
-    put-byte-requires
-    same-length
-    returns)
+    (tie.spec (search needs) (search needs) put-line-requires (search needs) returns)

@@ -20,23 +20,11 @@ abbrev μ-loop : tie.MeasureT-loop
 loop-holds : tie.Need-loop-holds Inv-loop μ-loop
 loop-holds c = (omega arith, c .before .before .pre .1, omega arith)
 
-shared-slice-read-symbol : tie.Need-shared-slice-read-symbol Inv-loop μ-loop
-shared-slice-read-symbol c = search needs
-
-cast-symbol : tie.Need-cast-symbol Inv-loop μ-loop
-cast-symbol c = search needs
-
 add-offset : tie.Need-add-offset Inv-loop μ-loop
 add-offset c = omega (arith, c .before .before .loop .inv .1)
 
-mul-offset : tie.Need-mul-offset Inv-loop μ-loop
-mul-offset c = search needs
-
 shared-slice-read-offset : tie.Need-shared-slice-read-offset Inv-loop μ-loop
 shared-slice-read-offset c = omega (arith, c .before .before .before .loop .inv .1, c .before .before .before .before .before .before .pre .0 .size)
-
-offset-requires : tie.Need-offset-requires Inv-loop μ-loop
-offset-requires c κs = search needs
 
 returns : tie.Need-returns Inv-loop μ-loop
 returns c =
@@ -46,12 +34,6 @@ returns c =
     let w = s .args .part .now in
     let off : 8192 ≤ hopOf t (l .row) (getD w (l .i) 0) = rw (c .before .offset .ensures) at (c .if1 .taken) in
     omega (arith, l .inv .2, count-off (hopOf t) 8192 (hop-low t (s .pre .0)) (hop-stays t (s .pre .0)) (l .row) (l .i) w (omega arith) off)
-
-add-i : tie.Need-add-i Inv-loop μ-loop
-add-i c = search needs
-
-loop-less : tie.Need-loop-less Inv-loop μ-loop
-loop-less c = search needs
 
 loop-again : tie.Need-loop-again Inv-loop μ-loop
 loop-again c =
@@ -80,17 +62,6 @@ pub count-of-spec : {M : Type 1} → statement M
 count-of-spec =
     tie.close
     (tie.spec
-    Inv-loop
-    μ-loop
-    loop-holds
-    shared-slice-read-symbol
-    cast-symbol
-    add-offset
-    mul-offset
-    shared-slice-read-offset
-    offset-requires
-    returns
-    add-i
-    loop-less
-    loop-again
-    returns-2)
+    Inv-loop μ-loop loop-holds (λ c. search needs) (λ c. search needs) add-offset
+    (λ c. search needs) shared-slice-read-offset (λ c κs. search needs) returns
+    (λ c. search needs) (λ c. search needs) loop-again returns-2)

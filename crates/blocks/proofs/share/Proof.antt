@@ -18,23 +18,11 @@ abbrev μ-loop : tie.MeasureT-loop
 loop-holds : tie.Need-loop-holds Inv-loop μ-loop
 loop-holds c = (omega arith, held-none (c .args .t1) _ (length-replicate {A = ℕ} 32 0), length-replicate {A = ℕ} 513 0)
 
-mul-row : tie.Need-mul-row Inv-loop μ-loop
-mul-row c = search needs
-
-array-read-row : tie.Need-array-read-row Inv-loop μ-loop
-array-read-row c = search needs
-
 array-read-small : tie.Need-array-read-small Inv-loop μ-loop
 array-read-small c = omega (arith, c .before .before .pre (c .before .loop .j), c .before .loop .inv .2)
 
-small-requires : tie.Need-small-requires Inv-loop μ-loop
-small-requires c κs = search needs
-
 hinted-requires : tie.Need-hinted-requires Inv-loop μ-loop
 hinted-requires c κs = omega (arith, c .before .before .before .loop .inv .1 .most)
-
-mul-lane : tie.Need-mul-lane Inv-loop μ-loop
-mul-lane c = search needs
 
 array-write-lane : tie.Need-array-write-lane Inv-loop μ-loop
 array-write-lane c = omega (arith, c .before .before .before .before .before .loop .inv .1 .most, c .before .before .before .before .before .loop .inv .1 .lanes)
@@ -48,17 +36,8 @@ array-write-hints c = omega (arith, c .before .before .before .before .before .b
 add-used : tie.Need-add-used Inv-loop μ-loop
 add-used c = omega (arith, c .before .before .before .before .before .loop .inv .1 .most)
 
-mul-of : tie.Need-mul-of Inv-loop μ-loop
-mul-of c = search needs
-
 array-write-of : tie.Need-array-write-of Inv-loop μ-loop
 array-write-of c = omega (arith, c .before .before .before .before .before .loop .inv .1 .runs)
-
-add-j : tie.Need-add-j Inv-loop μ-loop
-add-j c = search needs
-
-loop-less : tie.Need-loop-less Inv-loop μ-loop
-loop-less c = search needs
 
 loop-again : tie.Need-loop-again Inv-loop μ-loop
 loop-again c =
@@ -87,22 +66,7 @@ pub share-spec : {M : Type 1} → statement M
 share-spec =
     tie.close
     (tie.spec
-    Inv-loop
-    μ-loop
-    loop-holds
-    mul-row
-    array-read-row
-    array-read-small
-    small-requires
-    hinted-requires
-    mul-lane
-    array-write-lane
-    cast-hints
-    array-write-hints
-    add-used
-    mul-of
-    array-write-of
-    add-j
-    loop-less
-    loop-again
-    returns)
+    Inv-loop μ-loop loop-holds (λ c. search needs) (λ c. search needs) array-read-small
+    (λ c κs. search needs) hinted-requires (λ c. search needs) array-write-lane cast-hints
+    array-write-hints add-used (λ c. search needs) array-write-of (λ c. search needs)
+    (λ c. search needs) loop-again returns)

@@ -18,12 +18,6 @@ returns c =
     let alive : rowEnd t w from < 8192 = rw (s .pre .2) at (c .if1 .taken) in
     sym (count-alive (hopOf t) 8192 (hop-low t (s .pre .0)) (hop-stays t (s .pre .0)) from w alive)
 
-count-of-requires : tie.Need-count-of-requires
-count-of-requires c κs = search needs
-
-returns-2 : tie.Need-returns-2
-returns-2 c = search needs
-
 returns-3 : tie.Need-returns-3
 returns-3 c =
     let s = c .before .before .before .before in
@@ -33,4 +27,4 @@ returns-3 c =
     rw dead (sym (count-empty (hopOf t) 8192 (hop-low t (s .pre .0)) (hop-stays t (s .pre .0)) w))
 
 pub spent-spec : {M : Type 1} → statement M
-spent-spec = tie.close (tie.spec returns count-of-requires returns-2 returns-3)
+spent-spec = tie.close (tie.spec returns (λ c κs. search needs) (λ c. search needs) returns-3)

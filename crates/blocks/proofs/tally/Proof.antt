@@ -29,18 +29,6 @@ abbrev μ-loop : tie.MeasureT-loop
 loop-holds : tie.Need-loop-holds Inv-loop μ-loop
 loop-holds c = (omega arith, length-replicate {A = ℕ} 40 0, λ b h. absurd (omega arith), λ b h. zero-cells 40 b)
 
-mul-spent : tie.Need-mul-spent Inv-loop μ-loop
-mul-spent c = search needs
-
-element-copy-out-spent : tie.Need-element-copy-out-spent Inv-loop μ-loop
-element-copy-out-spent c = search needs
-
-mul-spent-2 : tie.Need-mul-spent-2 Inv-loop μ-loop
-mul-spent-2 c = search needs
-
-element-copy-out-spent-2 : tie.Need-element-copy-out-spent-2 Inv-loop μ-loop
-element-copy-out-spent-2 c = search needs
-
 spent-requires : tie.Need-spent-requires Inv-loop μ-loop
 spent-requires c κs =
     let l = c .before .before .before .loop in
@@ -50,17 +38,8 @@ spent-requires c κs =
       rw (s .pre .2) (rows-at (s .args .t .now) (s .args .part .now) (s .args .from .now) 40 (l .k) (omega arith)),
     )
 
-mul-counts : tie.Need-mul-counts Inv-loop μ-loop
-mul-counts c = search needs
-
 array-write-counts : tie.Need-array-write-counts Inv-loop μ-loop
 array-write-counts c = omega (arith, c .before .before .before .before .loop .inv .1, c .before .before .before .before .before .before .before .pre .1 .most)
-
-add-k : tie.Need-add-k Inv-loop μ-loop
-add-k c = search needs
-
-loop-less : tie.Need-loop-less Inv-loop μ-loop
-loop-less c = search needs
 
 loop-again : tie.Need-loop-again Inv-loop μ-loop
 loop-again c =
@@ -93,17 +72,6 @@ pub tally-spec : {M : Type 1} → statement M
 tally-spec =
     tie.close
     (tie.spec
-    Inv-loop
-    μ-loop
-    loop-holds
-    mul-spent
-    element-copy-out-spent
-    mul-spent-2
-    element-copy-out-spent-2
-    spent-requires
-    mul-counts
-    array-write-counts
-    add-k
-    loop-less
-    loop-again
-    returns)
+    Inv-loop μ-loop loop-holds (λ c. search needs) (λ c. search needs) (λ c. search needs)
+    (λ c. search needs) spent-requires (λ c. search needs) array-write-counts
+    (λ c. search needs) (λ c. search needs) loop-again returns)

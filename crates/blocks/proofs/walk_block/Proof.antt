@@ -8,12 +8,6 @@ use Rattle.blocks.proofs.Parts.{walked-is}
 use Rattle.blocks.proofs.walk_block.Statement.{statement}
 use Rattle.blocks.proofs.walk_block.Tie as tie
 
-share-requires : tie.Need-share-requires
-share-requires c κs = search needs
-
-slice-aggregate-walk-lanes : tie.Need-slice-aggregate-walk-lanes
-slice-aggregate-walk-lanes c = search needs
-
 walk-lanes-requires : tie.Need-walk-lanes-requires
 walk-lanes-requires c κs =
     let s = c .before .before .before .before .before .before in
@@ -27,12 +21,6 @@ tally-requires c κs =
     let h = c .before .before .before .before .before .before .before .share in
     let r = h .result in
     (s .pre .0, h .ensures .lanes, c .before .before .before .walk-lanes .ensures .1)
-
-pick-requires : tie.Need-pick-requires
-pick-requires c κs = search needs
-
-pick-requires-2 : tie.Need-pick-requires-2
-pick-requires-2 c κs = search needs
 
 returns : tie.Need-returns
 returns c =
@@ -51,10 +39,5 @@ pub walk-block-spec : {M : Type 1} → statement M
 walk-block-spec =
     tie.close
     (tie.spec
-    share-requires
-    slice-aggregate-walk-lanes
-    walk-lanes-requires
-    tally-requires
-    pick-requires
-    pick-requires-2
-    returns)
+    (λ c κs. search needs) (λ c. search needs) walk-lanes-requires tally-requires
+    (λ c κs. search needs) (λ c κs. search needs) returns)

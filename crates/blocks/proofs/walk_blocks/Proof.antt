@@ -19,27 +19,12 @@ Inv-loop t text walked₀ i₀ walked i = (i ≤ length text) × (walked ≡ wal
 abbrev μ-loop : tie.MeasureT-loop
 μ-loop t text walked₀ i₀ walked i = length text - i
 
-unwalked-requires : tie.Need-unwalked-requires Inv-loop μ-loop
-unwalked-requires c κs = search needs
-
 loop-holds : tie.Need-loop-holds Inv-loop μ-loop
 loop-holds c =
     let s = c .before .before .before in
     let u = c .unwalked in
     let size : length (s .args .rows) ≡ 32 = search needs in
     (omega arith, rw (u .ensures) (walked-none (s .args .t .now) (s .args .rows) size))
-
-block-end-requires : tie.Need-block-end-requires Inv-loop μ-loop
-block-end-requires c κs = search needs
-
-sub-walk-block : tie.Need-sub-walk-block Inv-loop μ-loop
-sub-walk-block c = search needs
-
-part-walk-block-start : tie.Need-part-walk-block-start Inv-loop μ-loop
-part-walk-block-start c = search needs
-
-part-walk-block-end : tie.Need-part-walk-block-end Inv-loop μ-loop
-part-walk-block-end c = search needs
 
 walk-block-requires : tie.Need-walk-block-requires Inv-loop μ-loop
 walk-block-requires c κs =
@@ -71,9 +56,6 @@ then-requires c κs =
       },
     )
 
-loop-less : tie.Need-loop-less Inv-loop μ-loop
-loop-less c = search needs
-
 loop-again : tie.Need-loop-again Inv-loop μ-loop
 loop-again c =
     let s = c .before .before .before .before .before .before .before .before .before .before .before .before in
@@ -86,9 +68,6 @@ loop-again c =
     let e = c .before .before .before .before .before .before .block-end in
     let b = c .before .before .before .walk-block in
     (omega arith, c .before .before .then .ensures ∙ block-last t (s .pre .0) text rows low (l .i) (e .result) (e .ensures .0) (e .ensures .1) (l .walked) (b .result) (l .inv .1) (b .ensures) (c .if1 .taken))
-
-loop-less-2 : tie.Need-loop-less-2 Inv-loop μ-loop
-loop-less-2 c = search needs
 
 loop-again-2 : tie.Need-loop-again-2 Inv-loop μ-loop
 loop-again-2 c =
@@ -116,18 +95,6 @@ pub walk-blocks-spec : {M : Type 1} → statement M
 walk-blocks-spec =
     tie.close
     (tie.spec
-    Inv-loop
-    μ-loop
-    unwalked-requires
-    loop-holds
-    block-end-requires
-    sub-walk-block
-    part-walk-block-start
-    part-walk-block-end
-    walk-block-requires
-    then-requires
-    loop-less
-    loop-again
-    loop-less-2
-    loop-again-2
-    returns)
+    Inv-loop μ-loop (λ c κs. search needs) loop-holds (λ c κs. search needs) (λ c. search needs)
+    (λ c. search needs) (λ c. search needs) walk-block-requires then-requires
+    (λ c. search needs) loop-again (λ c. search needs) loop-again-2 returns)

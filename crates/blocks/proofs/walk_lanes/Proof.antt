@@ -21,18 +21,6 @@ loop-holds c =
     let s = c .before .before .before in
     walking-start (s .args .t .now) (s .args .part .now) (s .args .lane .now) (s .pre .1 .size)
 
-add-end : tie.Need-add-end Inv-loop μ-loop
-add-end c = search needs
-
-mul-walk-eight : tie.Need-mul-walk-eight Inv-loop μ-loop
-mul-walk-eight c = search needs
-
-sub-walk-eight : tie.Need-sub-walk-eight Inv-loop μ-loop
-sub-walk-eight c = search needs
-
-part-walk-eight-start : tie.Need-part-walk-eight-start Inv-loop μ-loop
-part-walk-eight-start c = search needs
-
 part-walk-eight-end : tie.Need-part-walk-eight-end Inv-loop μ-loop
 part-walk-eight-end c = omega (arith, c .before .loop .inv .eights, c .before .loop .inv .size, c .before .before .before .before .before .pre .1 .most)
 
@@ -44,9 +32,6 @@ walk-eight-requires c κs =
       walking-low (s .args .t .now) (s .args .part .now) (s .args .lane .now) (l .lane) (l .looked) (l .from) (l .inv) (s .pre .1 .rows) (l .from + 8 - l .from),
       simp (length-take, length-drop) (omega (arith, l .inv .eights, l .inv .size, s .pre .1 .most)),
     )
-
-greater-requires : tie.Need-greater-requires Inv-loop μ-loop
-greater-requires c κs = search needs
 
 loop-less : tie.Need-loop-less Inv-loop μ-loop
 loop-less c = omega (arith, c .before .before .before .before .before .before .loop .inv .eights, c .before .before .before .before .before .before .before .before .before .before .pre .1 .most)
@@ -79,17 +64,6 @@ pub walk-lanes-spec : {M : Type 1} → statement M
 walk-lanes-spec =
     tie.close
     (tie.spec
-    Inv-loop
-    μ-loop
-    loop-holds
-    add-end
-    mul-walk-eight
-    sub-walk-eight
-    part-walk-eight-start
-    part-walk-eight-end
-    walk-eight-requires
-    greater-requires
-    loop-less
-    loop-again
-    same-length
-    returns)
+    Inv-loop μ-loop loop-holds (λ c. search needs) (λ c. search needs) (λ c. search needs)
+    (λ c. search needs) part-walk-eight-end walk-eight-requires (λ c κs. search needs) loop-less
+    loop-again same-length returns)

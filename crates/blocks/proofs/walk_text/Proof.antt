@@ -11,17 +11,11 @@ use Rattle.blocks.proofs.Parts.{walked-empty}
 use Rattle.blocks.proofs.walk_text.Statement.{statement}
 use Rattle.blocks.proofs.walk_text.Tie as tie
 
-unwalked-requires : tie.Need-unwalked-requires
-unwalked-requires c κs = search needs
-
 returns : tie.Need-returns
 returns c =
     let s = c .before .before .before in
     let size : length (s .args .rows) ≡ 32 = search needs in
     c .unwalked .ensures ∙ walked-empty (offsetsOf (s .args .next .now)) (s .args .text .now) (s .args .rows) size (c .before .if1 .taken)
-
-fill-offsets-requires : tie.Need-fill-offsets-requires
-fill-offsets-requires c κs = search needs
 
 slice-aggregate-walk-blocks : tie.Need-slice-aggregate-walk-blocks
 slice-aggregate-walk-blocks c = sym (ap length (c .before .fill-offsets .ensures) ∙ row-table (c .before .before .before .before .before .args .next .now) .size)
@@ -40,9 +34,5 @@ pub walk-text-spec : {M : Type 1} → statement M
 walk-text-spec =
     tie.close
     (tie.spec
-    unwalked-requires
-    returns
-    fill-offsets-requires
-    slice-aggregate-walk-blocks
-    walk-blocks-requires
-    returns-2)
+    (λ c κs. search needs) returns (λ c κs. search needs) slice-aggregate-walk-blocks
+    walk-blocks-requires returns-2)

@@ -7,24 +7,6 @@ use Rattle.board.proofs.Rows.{row-same}
 use Rattle.board.proofs.clear.Statement.{statement}
 use Rattle.board.proofs.clear.Tie as tie
 
-element-write-cleared : tie.Need-element-write-cleared
-element-write-cleared c = search needs
-
-mul-cleared : tie.Need-mul-cleared
-mul-cleared c = search needs
-
-element-write-cleared-2 : tie.Need-element-write-cleared-2
-element-write-cleared-2 c = search needs
-
-mul-cleared-2 : tie.Need-mul-cleared-2
-mul-cleared-2 c = search needs
-
-element-write-cleared-3 : tie.Need-element-write-cleared-3
-element-write-cleared-3 c = search needs
-
-set-row-requires : tie.Need-set-row-requires
-set-row-requires c κs = search needs
-
 returns : tie.Need-returns
 unfolding clearedAt
 returns c =
@@ -36,4 +18,6 @@ returns c =
 pub clear-spec : {M : Type 1} → statement M
 clear-spec =
     tie.close
-    (tie.spec element-write-cleared mul-cleared element-write-cleared-2 mul-cleared-2 element-write-cleared-3 set-row-requires returns)
+    (tie.spec
+    (λ c. search needs) (λ c. search needs) (λ c. search needs) (λ c. search needs)
+    (λ c. search needs) (λ c κs. search needs) returns)

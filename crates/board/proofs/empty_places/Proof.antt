@@ -4,16 +4,9 @@ use Rattle.board.specs.Boards.{emptyPlaces}
 use Rattle.board.proofs.empty_places.Statement.{statement}
 use Rattle.board.proofs.empty_places.Tie as tie
 
-places-of-requires : tie.Need-places-of-requires
-places-of-requires c κs = search needs
-
-count-empty-requires : tie.Need-count-empty-requires
-count-empty-requires c κs = search needs
-
 returns : tie.Need-returns
 unfolding emptyPlaces
 returns c = rw (← c .before .before .before .places-of .ensures) (c .count-empty .ensures)
 
 pub empty-places-spec : {M : Type 1} → statement M
-empty-places-spec =
-    tie.close (tie.spec places-of-requires count-empty-requires returns)
+empty-places-spec = tie.close (tie.spec (λ c κs. search needs) (λ c κs. search needs) returns)

@@ -13,35 +13,8 @@ Inv-loop ends₀ place row q₀ ends q = (q ≤ 32) × (place < 64) × Stored en
 abbrev μ-loop : tie.MeasureT-loop
 μ-loop ends₀ place row q₀ ends q = 32 - q
 
-cells-requires : tie.Need-cells-requires Inv-loop μ-loop
-cells-requires c κs = search needs
-
 loop-holds : tie.Need-loop-holds Inv-loop μ-loop
 loop-holds c = (omega arith, omega arith, none-stored _ _ _ (c .cells .ensures))
-
-mul-ends : tie.Need-mul-ends Inv-loop μ-loop
-mul-ends c = omega arith
-
-element-copy-out-ends : tie.Need-element-copy-out-ends Inv-loop μ-loop
-element-copy-out-ends c = omega arith
-
-mul-ends-2 : tie.Need-mul-ends-2 Inv-loop μ-loop
-mul-ends-2 c = omega arith
-
-add-ends : tie.Need-add-ends Inv-loop μ-loop
-add-ends c = omega arith
-
-mul-ends-3 : tie.Need-mul-ends-3 Inv-loop μ-loop
-mul-ends-3 c = omega arith
-
-element-write-ends : tie.Need-element-write-ends Inv-loop μ-loop
-element-write-ends c = omega arith
-
-add-q : tie.Need-add-q Inv-loop μ-loop
-add-q c = omega arith
-
-loop-less : tie.Need-loop-less Inv-loop μ-loop
-loop-less c = omega arith
 
 loop-again : tie.Need-loop-again Inv-loop μ-loop
 loop-again c =
@@ -62,17 +35,6 @@ pub set-row-spec : {M : Type 1} → statement M
 set-row-spec =
     tie.close
     (tie.spec
-    Inv-loop
-    μ-loop
-    cells-requires
-    loop-holds
-    mul-ends
-    element-copy-out-ends
-    mul-ends-2
-    add-ends
-    mul-ends-3
-    element-write-ends
-    add-q
-    loop-less
-    loop-again
-    returns)
+    Inv-loop μ-loop (λ c κs. search needs) loop-holds (λ c. omega arith) (λ c. omega arith)
+    (λ c. omega arith) (λ c. omega arith) (λ c. omega arith) (λ c. omega arith)
+    (λ c. omega arith) (λ c. omega arith) loop-again returns)

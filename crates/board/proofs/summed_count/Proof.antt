@@ -4,16 +4,9 @@ use Rattle.board.specs.Boards.{summedCount}
 use Rattle.board.proofs.summed_count.Statement.{statement}
 use Rattle.board.proofs.summed_count.Tie as tie
 
-places-of-requires : tie.Need-places-of-requires
-places-of-requires c κs = search needs
-
-sum-up-requires : tie.Need-sum-up-requires
-sum-up-requires c κs = search needs
-
 returns : tie.Need-returns
 unfolding summedCount
 returns c = rw (← c .before .before .before .places-of .ensures) (c .sum-up .ensures)
 
 pub summed-count-spec : {M : Type 1} → statement M
-summed-count-spec =
-    tie.close (tie.spec places-of-requires sum-up-requires returns)
+summed-count-spec = tie.close (tie.spec (λ c κs. search needs) (λ c κs. search needs) returns)

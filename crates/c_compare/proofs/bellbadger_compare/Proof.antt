@@ -5,26 +5,8 @@ use Rattle.c_compare.proofs.Numbers.{shown-first, shown-second, shown-s
 use Rattle.c_compare.proofs.bellbadger_compare.Statement.{statement}
 use Rattle.c_compare.proofs.bellbadger_compare.Tie as tie
 
-compare-requires : tie.Need-compare-requires
-compare-requires c κs = search needs
-
 cast-length : tie.Need-cast-length
 cast-length c = let f = c .before .compare in omega (arith, short _ _ (f .result) (f .ensures))
-
-enum-known-answer : tie.Need-enum-known-answer
-enum-known-answer c = search needs
-
-enum-known-answer-2 : tie.Need-enum-known-answer-2
-enum-known-answer-2 c = search needs
-
-enum-told : tie.Need-enum-told
-enum-told c = search needs
-
-enum-told-2 : tie.Need-enum-told-2
-enum-told-2 c = search needs
-
-enum-told-3 : tie.Need-enum-told-3
-enum-told-3 c = search needs
 
 returns : tie.Need-returns
 returns c = search (needs, shown-refused)
@@ -42,14 +24,6 @@ pub bellbadger-compare-spec : {M : Type 1} → statement M
 bellbadger-compare-spec =
     tie.close
     (tie.spec
-    compare-requires
-    cast-length
-    enum-known-answer
-    enum-known-answer-2
-    enum-told
-    enum-told-2
-    enum-told-3
-    returns
-    returns-2
-    returns-3
+    (λ c κs. search needs) cast-length (λ c. search needs) (λ c. search needs)
+    (λ c. search needs) (λ c. search needs) (λ c. search needs) returns returns-2 returns-3
     returns-4)

@@ -4,24 +4,6 @@ use Rattle.c_faults.proofs.Numbers.{fault-shown}
 use Rattle.c_faults.proofs.bellbadger_tray_fault.Statement.{statement}
 use Rattle.c_faults.proofs.bellbadger_tray_fault.Tie as tie
 
-fault-requires : tie.Need-fault-requires
-fault-requires c κs = search needs
-
-enum-known-answer : tie.Need-enum-known-answer
-enum-known-answer c = search needs
-
-enum-known-answer-2 : tie.Need-enum-known-answer-2
-enum-known-answer-2 c = search needs
-
-enum-known-answer-3 : tie.Need-enum-known-answer-3
-enum-known-answer-3 c = search needs
-
-enum-known-answer-4 : tie.Need-enum-known-answer-4
-enum-known-answer-4 c = search needs
-
-enum-known-answer-5 : tie.Need-enum-known-answer-5
-enum-known-answer-5 c = search needs
-
 returns : tie.Need-returns
 returns c = fault-shown _ _ (c .before .before .before .fault .ensures) _ (c .before .answer .given .1)
 
@@ -41,14 +23,5 @@ pub bellbadger-tray-fault-spec : {M : Type 1} → statement M
 bellbadger-tray-fault-spec =
     tie.close
     (tie.spec
-    fault-requires
-    enum-known-answer
-    enum-known-answer-2
-    enum-known-answer-3
-    enum-known-answer-4
-    enum-known-answer-5
-    returns
-    returns-2
-    returns-3
-    returns-4
-    returns-5)
+    (λ c κs. search needs) (λ c. search needs) (λ c. search needs) (λ c. search needs)
+    (λ c. search needs) (λ c. search needs) returns returns-2 returns-3 returns-4 returns-5)

@@ -5,14 +5,11 @@ use Rattle.c_follow.specs.Numbers.{followShown}
 use Rattle.c_follow.proofs.bellbadger_follow_by.Statement.{statement}
 use Rattle.c_follow.proofs.bellbadger_follow_by.Tie as tie
 
-follow-by-requires : tie.Need-follow-by-requires
-follow-by-requires c κs = search needs
-
-in-numbers-requires : tie.Need-in-numbers-requires
-in-numbers-requires c κs = search needs
-
 returns : tie.Need-returns
 returns c = c .in-numbers .ensures ∙ ap followShown (c .before .follow-by .ensures)
 
 pub bellbadger-follow-by-spec : {M : Type 1} → statement M
-bellbadger-follow-by-spec = tie.close (tie.spec follow-by-requires in-numbers-requires returns)
+bellbadger-follow-by-spec =
+    tie.close
+    (tie.spec
+    (λ c κs. search needs) (λ c κs. search needs) returns)

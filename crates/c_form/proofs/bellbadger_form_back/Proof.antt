@@ -4,15 +4,6 @@ use Rattle.c_form.proofs.Numbers.{table-accepted, table-refused}
 use Rattle.c_form.proofs.bellbadger_form_back.Statement.{statement}
 use Rattle.c_form.proofs.bellbadger_form_back.Tie as tie
 
-table-of-requires : tie.Need-table-of-requires
-table-of-requires c κs = search needs
-
-enum-told : tie.Need-enum-told
-enum-told c = search needs
-
-enum-known-answer : tie.Need-enum-known-answer
-enum-known-answer c = search needs
-
 returns : tie.Need-returns
 returns c = search (needs, table-accepted)
 
@@ -21,4 +12,6 @@ returns-2 c = search (needs, table-refused)
 
 pub bellbadger-form-back-spec : {M : Type 1} → statement M
 bellbadger-form-back-spec =
-    tie.close (tie.spec table-of-requires enum-told enum-known-answer returns returns-2)
+    tie.close
+    (tie.spec
+    (λ c κs. search needs) (λ c. search needs) (λ c. search needs) returns returns-2)

@@ -8,18 +8,6 @@ use Rattle.c_losses.proofs.Numbers.{spot-shown}
 use Rattle.c_losses.proofs.bellbadger_locate.Statement.{statement}
 use Rattle.c_losses.proofs.bellbadger_locate.Tie as tie
 
-locate-requires : tie.Need-locate-requires
-locate-requires c κs = search needs
-
-enum-known-answer : tie.Need-enum-known-answer
-enum-known-answer c = search needs
-
-wide-requires : tie.Need-wide-requires
-wide-requires c κs = search needs
-
-enum-known-answer-2 : tie.Need-enum-known-answer-2
-enum-known-answer-2 c = search needs
-
 enum-told : tie.Need-enum-told
 enum-told c = search needs
 
@@ -38,11 +26,5 @@ pub bellbadger-locate-spec : {M : Type 1} → statement M
 bellbadger-locate-spec =
     tie.close
     (tie.spec
-    locate-requires
-    enum-known-answer
-    wide-requires
-    enum-known-answer-2
-    enum-told
-    returns
-    returns-2
-    returns-3)
+    (λ c κs. search needs) (λ c. search needs) (λ c κs. search needs) (λ c. search needs)
+    enum-told returns returns-2 returns-3)

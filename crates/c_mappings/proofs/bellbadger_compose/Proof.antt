@@ -5,11 +5,8 @@ use Rattle.c_mappings.specs.Numbers.{mappingShown}
 use Rattle.c_mappings.proofs.bellbadger_compose.Statement.{statement}
 use Rattle.c_mappings.proofs.bellbadger_compose.Tie as tie
 
-compose-requires : tie.Need-compose-requires
-compose-requires c κs = search needs
-
 returns : tie.Need-returns
 returns c = ap mappingShown (c .compose .ensures)
 
 pub bellbadger-compose-spec : {M : Type 1} → statement M
-bellbadger-compose-spec = tie.close (tie.spec compose-requires returns)
+bellbadger-compose-spec = tie.close (tie.spec (λ c κs. search needs) returns)

@@ -7,17 +7,11 @@ use borrow.Author.Needs.{needs}
 use Rattle.c_patterns.proofs.bellbadger_pattern.Statement.{statement}
 use Rattle.c_patterns.proofs.bellbadger_pattern.Tie as tie
 
-write-pattern-requires : tie.Need-write-pattern-requires
-write-pattern-requires c κs = search needs
-
 cast-length : tie.Need-cast-length
 cast-length c = let w = c .before .write-pattern in omega (arith, small (c .before .before .before .args .pattern .now) (w .result) (w .ensures))
 
 enum-told : tie.Need-enum-told
 enum-told c = search needs
-
-enum-known-answer : tie.Need-enum-known-answer
-enum-known-answer c = search needs
 
 returns : tie.Need-returns
 returns c =
@@ -35,4 +29,5 @@ returns-2 c =
 pub bellbadger-pattern-spec : {M : Type 1} → statement M
 bellbadger-pattern-spec =
     tie.close
-    (tie.spec write-pattern-requires cast-length enum-told enum-known-answer returns returns-2)
+    (tie.spec
+    (λ c κs. search needs) cast-length enum-told (λ c. search needs) returns returns-2)

@@ -4,18 +4,6 @@ use Rattle.c_reduce.proofs.Numbers.{reduce-accepted, reduce-refused}
 use Rattle.c_reduce.proofs.bellbadger_reduce.Statement.{statement}
 use Rattle.c_reduce.proofs.bellbadger_reduce.Tie as tie
 
-reduce-requires : tie.Need-reduce-requires
-reduce-requires c κs = search needs
-
-bit-requires : tie.Need-bit-requires
-bit-requires c κs = search needs
-
-enum-told : tie.Need-enum-told
-enum-told c = search needs
-
-enum-known-answer : tie.Need-enum-known-answer
-enum-known-answer c = search needs
-
 returns : tie.Need-returns
 returns c = search (needs, reduce-accepted)
 
@@ -24,4 +12,7 @@ returns-2 c = search (needs, reduce-refused)
 
 pub bellbadger-reduce-spec : {M : Type 1} → statement M
 bellbadger-reduce-spec =
-    tie.close (tie.spec reduce-requires bit-requires enum-told enum-known-answer returns returns-2)
+    tie.close
+    (tie.spec
+    (λ c κs. search needs) (λ c κs. search needs) (λ c. search needs) (λ c. search needs)
+    returns returns-2)

@@ -5,14 +5,11 @@ use Rattle.c_trays.specs.Numbers.{installShown}
 use Rattle.c_trays.proofs.bellbadger_tray_install_column.Statement.{statement}
 use Rattle.c_trays.proofs.bellbadger_tray_install_column.Tie as tie
 
-install-column-requires : tie.Need-install-column-requires
-install-column-requires c κs = search needs
-
-install-numbers-requires : tie.Need-install-numbers-requires
-install-numbers-requires c κs = search needs
-
 returns : tie.Need-returns
 returns c = c .install-numbers .ensures ∙ ap installShown (c .before .install-column .ensures)
 
 pub bellbadger-tray-install-column-spec : {M : Type 1} → statement M
-bellbadger-tray-install-column-spec = tie.close (tie.spec install-column-requires install-numbers-requires returns)
+bellbadger-tray-install-column-spec =
+    tie.close
+    (tie.spec
+    (λ c κs. search needs) (λ c κs. search needs) returns)

@@ -5,14 +5,11 @@ use Rattle.c_trays.specs.Numbers.{callShown}
 use Rattle.c_trays.proofs.bellbadger_tray_open.Statement.{statement}
 use Rattle.c_trays.proofs.bellbadger_tray_open.Tie as tie
 
-open-requires : tie.Need-open-requires
-open-requires c κs = search needs
-
-call-numbers-requires : tie.Need-call-numbers-requires
-call-numbers-requires c κs = search needs
-
 returns : tie.Need-returns
 returns c = c .call-numbers .ensures ∙ ap callShown (c .before .open .ensures)
 
 pub bellbadger-tray-open-spec : {M : Type 1} → statement M
-bellbadger-tray-open-spec = tie.close (tie.spec open-requires call-numbers-requires returns)
+bellbadger-tray-open-spec =
+    tie.close
+    (tie.spec
+    (λ c κs. search needs) (λ c κs. search needs) returns)

@@ -4,12 +4,6 @@ use Rattle.c_trays.proofs.Numbers.{install-accepted, install-refused}
 use Rattle.c_trays.proofs.install_numbers.Statement.{statement}
 use Rattle.c_trays.proofs.install_numbers.Tie as tie
 
-enum-known-answer : tie.Need-enum-known-answer
-enum-known-answer c = search needs
-
-enum-known-answer-2 : tie.Need-enum-known-answer-2
-enum-known-answer-2 c = search needs
-
 returns : tie.Need-returns
 returns c = search (needs, install-accepted)
 
@@ -17,4 +11,7 @@ returns-2 : tie.Need-returns-2
 returns-2 c = search (needs, install-refused)
 
 pub install-numbers-spec : {M : Type 1} → statement M
-install-numbers-spec = tie.close (tie.spec enum-known-answer enum-known-answer-2 returns returns-2)
+install-numbers-spec =
+    tie.close
+    (tie.spec
+    (λ c. search needs) (λ c. search needs) returns returns-2)

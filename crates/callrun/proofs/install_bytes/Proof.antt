@@ -4,21 +4,14 @@ use Rattle.callrun.proofs.Carried.{other-bytes, rule-bytes}
 use Rattle.callrun.proofs.install_bytes.Statement.{statement}
 use Rattle.callrun.proofs.install_bytes.Tie as tie
 
-run-malformed-requires : tie.Need-run-malformed-requires
-run-malformed-requires c κs = search needs
-
 returns : tie.Need-returns
 returns c = search (needs, other-bytes)
-
-unpack-requires : tie.Need-unpack-requires
-unpack-requires c κs = search needs
-
-install-requires : tie.Need-install-requires
-install-requires c κs = search needs
 
 returns-2 : tie.Need-returns-2
 returns-2 c = search (needs, rule-bytes)
 
 pub install-bytes-spec : {M : Type 1} → statement M
 install-bytes-spec =
-    tie.close (tie.spec run-malformed-requires returns unpack-requires install-requires returns-2)
+    tie.close
+    (tie.spec
+    (λ c κs. search needs) returns (λ c κs. search needs) (λ c κs. search needs) returns-2)

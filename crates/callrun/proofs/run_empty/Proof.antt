@@ -6,11 +6,8 @@ use Rattle.calltext.specs.Answers.{began}
 use Rattle.callrun.proofs.run_empty.Statement.{statement}
 use Rattle.callrun.proofs.run_empty.Tie as tie
 
-new-judge-requires : tie.Need-new-judge-requires
-new-judge-requires c κs = search needs
-
 returns : tie.Need-returns
 returns c = ap (λ (j : Judge). record { response = began; state = j }) (c .new-judge .ensures)
 
 pub run-empty-spec : {M : Type 1} → statement M
-run-empty-spec = tie.close (tie.spec new-judge-requires returns)
+run-empty-spec = tie.close (tie.spec (λ c κs. search needs) returns)

@@ -4,32 +4,11 @@ use Rattle.callrun.proofs.Ways.{load-inside, install-inside, deliver-in
 use Rattle.callrun.proofs.run_line.Statement.{statement}
 use Rattle.callrun.proofs.run_line.Tie as tie
 
-parse-requires : tie.Need-parse-requires
-parse-requires c κs = search needs
-
-enum-told : tie.Need-enum-told
-enum-told c = search needs
-
-run-empty-requires : tie.Need-run-empty-requires
-run-empty-requires c κs = search needs
-
-enum-told-2 : tie.Need-enum-told-2
-enum-told-2 c = search needs
-
 sub-run-load : tie.Need-sub-run-load
 sub-run-load c = search (needs, load-inside)
 
 part-run-load-start : tie.Need-part-run-load-start
 part-run-load-start c = search (needs, load-inside)
-
-part-run-load-end : tie.Need-part-run-load-end
-part-run-load-end c = search needs
-
-run-load-requires : tie.Need-run-load-requires
-run-load-requires c κs = search needs
-
-enum-told-3 : tie.Need-enum-told-3
-enum-told-3 c = search needs
 
 sub-run-install : tie.Need-sub-run-install
 sub-run-install c = search (needs, install-inside)
@@ -37,71 +16,23 @@ sub-run-install c = search (needs, install-inside)
 part-run-install-start : tie.Need-part-run-install-start
 part-run-install-start c = search (needs, install-inside)
 
-part-run-install-end : tie.Need-part-run-install-end
-part-run-install-end c = search needs
-
-run-install-requires : tie.Need-run-install-requires
-run-install-requires c κs = search needs
-
-enum-known-parsed : tie.Need-enum-known-parsed
-enum-known-parsed c = search needs
-
-run-open-requires : tie.Need-run-open-requires
-run-open-requires c κs = search needs
-
-enum-known-parsed-2 : tie.Need-enum-known-parsed-2
-enum-known-parsed-2 c = search needs
-
 sub-run-deliver : tie.Need-sub-run-deliver
 sub-run-deliver c = search (needs, deliver-inside)
 
 part-run-deliver-start : tie.Need-part-run-deliver-start
 part-run-deliver-start c = search (needs, deliver-inside)
 
-part-run-deliver-end : tie.Need-part-run-deliver-end
-part-run-deliver-end c = search needs
-
-run-deliver-requires : tie.Need-run-deliver-requires
-run-deliver-requires c κs = search needs
-
-enum-known-parsed-3 : tie.Need-enum-known-parsed-3
-enum-known-parsed-3 c = search needs
-
-run-withdraw-requires : tie.Need-run-withdraw-requires
-run-withdraw-requires c κs = search needs
-
-enum-told-4 : tie.Need-enum-told-4
-enum-told-4 c = search needs
-
-run-verdict-requires : tie.Need-run-verdict-requires
-run-verdict-requires c κs = search needs
-
-enum-told-5 : tie.Need-enum-told-5
-enum-told-5 c = search needs
-
-run-malformed-requires : tie.Need-run-malformed-requires
-run-malformed-requires c κs = search needs
-
 returns : tie.Need-returns
 returns c = search (needs, line-empty)
 
-same-length : tie.Need-same-length
-same-length c = search needs
-
 returns-2 : tie.Need-returns-2
 returns-2 c = search (needs, line-load)
-
-same-length-2 : tie.Need-same-length-2
-same-length-2 c = search needs
 
 returns-3 : tie.Need-returns-3
 returns-3 c = search (needs, line-install)
 
 returns-4 : tie.Need-returns-4
 returns-4 c = search (needs, line-open)
-
-same-length-3 : tie.Need-same-length-3
-same-length-3 c = search needs
 
 returns-5 : tie.Need-returns-5
 returns-5 c = search (needs, line-deliver)
@@ -119,40 +50,12 @@ pub run-line-spec : {M : Type 1} → statement M
 run-line-spec =
     tie.close
     (tie.spec
-    parse-requires
-    enum-told
-    run-empty-requires
-    enum-told-2
-    sub-run-load
-    part-run-load-start
-    part-run-load-end
-    run-load-requires
-    enum-told-3
-    sub-run-install
-    part-run-install-start
-    part-run-install-end
-    run-install-requires
-    enum-known-parsed
-    run-open-requires
-    enum-known-parsed-2
-    sub-run-deliver
-    part-run-deliver-start
-    part-run-deliver-end
-    run-deliver-requires
-    enum-known-parsed-3
-    run-withdraw-requires
-    enum-told-4
-    run-verdict-requires
-    enum-told-5
-    run-malformed-requires
-    returns
-    same-length
-    returns-2
-    same-length-2
-    returns-3
-    returns-4
-    same-length-3
-    returns-5
-    returns-6
-    returns-7
+    (λ c κs. search needs) (λ c. search needs) (λ c κs. search needs) (λ c. search needs)
+    sub-run-load part-run-load-start (λ c. search needs) (λ c κs. search needs)
+    (λ c. search needs) sub-run-install part-run-install-start (λ c. search needs)
+    (λ c κs. search needs) (λ c. search needs) (λ c κs. search needs) (λ c. search needs)
+    sub-run-deliver part-run-deliver-start (λ c. search needs) (λ c κs. search needs)
+    (λ c. search needs) (λ c κs. search needs) (λ c. search needs) (λ c κs. search needs)
+    (λ c. search needs) (λ c κs. search needs) returns (λ c. search needs) returns-2
+    (λ c. search needs) returns-3 returns-4 (λ c. search needs) returns-5 returns-6 returns-7
     returns-8)

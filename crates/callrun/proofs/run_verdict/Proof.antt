@@ -6,11 +6,8 @@ use borrow.Author.Needs.{needs}
 use Rattle.callrun.proofs.run_verdict.Statement.{statement}
 use Rattle.callrun.proofs.run_verdict.Tie as tie
 
-ask-verdict-requires : tie.Need-ask-verdict-requires
-ask-verdict-requires c κs = search needs
-
 returns : tie.Need-returns
 returns c = ap (λ (r : Reported). record { response = replied (judged r); state = c .before .args .judge }) (c .ask-verdict .ensures)
 
 pub run-verdict-spec : {M : Type 1} → statement M
-run-verdict-spec = tie.close (tie.spec ask-verdict-requires returns)
+run-verdict-spec = tie.close (tie.spec (λ c κs. search needs) returns)

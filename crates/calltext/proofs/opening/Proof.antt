@@ -5,15 +5,6 @@ use Rattle.calltext.proofs.Readings.{open-value, open-malformed}
 use Rattle.calltext.proofs.opening.Statement.{statement}
 use Rattle.calltext.proofs.opening.Tie as tie
 
-read-number-requires : tie.Need-read-number-requires
-read-number-requires c κs = search needs
-
-enum-known-number : tie.Need-enum-known-number
-enum-known-number c = search needs
-
-enum-told : tie.Need-enum-told
-enum-told c = search needs
-
 returns : tie.Need-returns
 returns c = (refl, λ w. search (needs, open-value))
 
@@ -22,4 +13,6 @@ returns-2 c = (refl, λ w. search (needs, open-malformed))
 
 pub opening-spec : {M : Type 1} → statement M
 opening-spec =
-    tie.close (tie.spec read-number-requires enum-known-number enum-told returns returns-2)
+    tie.close
+    (tie.spec
+    (λ c κs. search needs) (λ c. search needs) (λ c. search needs) returns returns-2)

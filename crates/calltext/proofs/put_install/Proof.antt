@@ -1,34 +1,20 @@
 -- `put_install` meets its contract. Assumes nothing.
+use mathlib.Core.List.{[], _∷_}
+use native.Mathlib.Omega.{arith}
 use borrow.Author.Needs.{needs}
+use Rattle.answers.specs.Answers.{acceptedWord}
+use Rattle.answers.proofs.Lengths.{line-short}
 use Rattle.calltext.proofs.put_install.Statement.{statement}
 use Rattle.calltext.proofs.put_install.Tie as tie
 
-enum-known-answer : tie.Need-enum-known-answer
-enum-known-answer c = search needs
-
-cast-put-installed : tie.Need-cast-put-installed
-cast-put-installed c = search needs
-
-cast-put-installed-2 : tie.Need-cast-put-installed-2
-cast-put-installed-2 c = search needs
-
-put-installed-requires : tie.Need-put-installed-requires
-put-installed-requires c κs = search needs
-
-enum-known-answer-2 : tie.Need-enum-known-answer-2
-enum-known-answer-2 c = search needs
-
-put-refused-requires : tie.Need-put-refused-requires
-put-refused-requires c κs = search needs
-
-same-length : tie.Need-same-length
-same-length c = search needs
+put-line-requires : tie.Need-put-line-requires
+put-line-requires c κs =
+    let s = c .before .before .before .before .before .before .before in
+    let v = c .before .before .before .before .answer .given .0 in
+    omega (arith, s .pre, line-short acceptedWord (v .0 ∷ v .1 .0 ∷ []))
 
 returns : tie.Need-returns
-returns c = rw (c .before .before .before .before .before .answer .given .1) (c .before .before .put-installed .ensures)
-
-same-length-2 : tie.Need-same-length-2
-same-length-2 c = search needs
+returns c = rw (c .before .before .before .before .before .before .before .answer .given .1) (c .before .before .put-line .ensures)
 
 returns-2 : tie.Need-returns-2
 returns-2 c = rw (c .before .before .before .before .before .answer2 .given .1) (c .before .before .put-refused .ensures)
@@ -37,13 +23,5 @@ pub put-install-spec : {M : Type 1} → statement M
 put-install-spec =
     tie.close
     (tie.spec
-    enum-known-answer
-    cast-put-installed
-    cast-put-installed-2
-    put-installed-requires
-    enum-known-answer-2
-    put-refused-requires
-    same-length
-    returns
-    same-length-2
-    returns-2)
+    (search needs) (search needs) (search needs) (search needs) (search needs) put-line-requires
+    (search needs) (search needs) (search needs) returns (search needs) returns-2)

@@ -5,15 +5,6 @@ use Rattle.calltext.proofs.Readings.{withdraw-value, withdraw-malformed
 use Rattle.calltext.proofs.withdrawal.Statement.{statement}
 use Rattle.calltext.proofs.withdrawal.Tie as tie
 
-read-number-requires : tie.Need-read-number-requires
-read-number-requires c κs = search needs
-
-enum-known-number : tie.Need-enum-known-number
-enum-known-number c = search needs
-
-enum-told : tie.Need-enum-told
-enum-told c = search needs
-
 returns : tie.Need-returns
 returns c = (refl, λ w. search (needs, withdraw-value))
 
@@ -22,4 +13,6 @@ returns-2 c = (refl, λ w. search (needs, withdraw-malformed))
 
 pub withdrawal-spec : {M : Type 1} → statement M
 withdrawal-spec =
-    tie.close (tie.spec read-number-requires enum-known-number enum-told returns returns-2)
+    tie.close
+    (tie.spec
+    (λ c κs. search needs) (λ c. search needs) (λ c. search needs) returns returns-2)

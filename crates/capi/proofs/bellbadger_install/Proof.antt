@@ -5,14 +5,11 @@ use Rattle.capi.specs.Numbers.{installShown}
 use Rattle.capi.proofs.bellbadger_install.Statement.{statement}
 use Rattle.capi.proofs.bellbadger_install.Tie as tie
 
-install-requires : tie.Need-install-requires
-install-requires c κs = search needs
-
-install-numbers-requires : tie.Need-install-numbers-requires
-install-numbers-requires c κs = search needs
-
 returns : tie.Need-returns
 returns c = c .install-numbers .ensures ∙ ap installShown (c .before .install .ensures)
 
 pub bellbadger-install-spec : {M : Type 1} → statement M
-bellbadger-install-spec = tie.close (tie.spec install-requires install-numbers-requires returns)
+bellbadger-install-spec =
+    tie.close
+    (tie.spec
+    (λ c κs. search needs) (λ c κs. search needs) returns)

@@ -5,14 +5,8 @@ use Rattle.capi.specs.Numbers.{installShown}
 use Rattle.capi.proofs.bellbadger_load.Statement.{statement}
 use Rattle.capi.proofs.bellbadger_load.Tie as tie
 
-load-requires : tie.Need-load-requires
-load-requires c κs = search needs
-
-install-numbers-requires : tie.Need-install-numbers-requires
-install-numbers-requires c κs = search needs
-
 returns : tie.Need-returns
 returns c = c .install-numbers .ensures ∙ ap installShown (c .before .load .ensures)
 
 pub bellbadger-load-spec : {M : Type 1} → statement M
-bellbadger-load-spec = tie.close (tie.spec load-requires install-numbers-requires returns)
+bellbadger-load-spec = tie.close (tie.spec (λ c κs. search needs) (λ c κs. search needs) returns)

@@ -4,15 +4,6 @@ use Rattle.capi.proofs.Numbers.{open-accepted, open-refused}
 use Rattle.capi.proofs.bellbadger_open.Statement.{statement}
 use Rattle.capi.proofs.bellbadger_open.Tie as tie
 
-open-requires : tie.Need-open-requires
-open-requires c κs = search needs
-
-enum-told : tie.Need-enum-told
-enum-told c = search needs
-
-enum-known-answer : tie.Need-enum-known-answer
-enum-known-answer c = search needs
-
 returns : tie.Need-returns
 returns c = search (needs, open-accepted)
 
@@ -21,4 +12,6 @@ returns-2 c = search (needs, open-refused)
 
 pub bellbadger-open-spec : {M : Type 1} → statement M
 bellbadger-open-spec =
-    tie.close (tie.spec open-requires enum-told enum-known-answer returns returns-2)
+    tie.close
+    (tie.spec
+    (λ c κs. search needs) (λ c. search needs) (λ c. search needs) returns returns-2)

@@ -4,18 +4,6 @@ use Rattle.capi.proofs.Numbers.{replay-verdict, replay-malformed}
 use Rattle.capi.proofs.bellbadger_replay.Statement.{statement}
 use Rattle.capi.proofs.bellbadger_replay.Tie as tie
 
-replay-requires : tie.Need-replay-requires
-replay-requires c κs = search needs
-
-enum-known-replayed : tie.Need-enum-known-replayed
-enum-known-replayed c = search needs
-
-shown-requires : tie.Need-shown-requires
-shown-requires c κs = search needs
-
-enum-known-replayed-2 : tie.Need-enum-known-replayed-2
-enum-known-replayed-2 c = search needs
-
 returns : tie.Need-returns
 returns c = search (needs, replay-verdict)
 
@@ -26,9 +14,5 @@ pub bellbadger-replay-spec : {M : Type 1} → statement M
 bellbadger-replay-spec =
     tie.close
     (tie.spec
-    replay-requires
-    enum-known-replayed
-    shown-requires
-    enum-known-replayed-2
-    returns
-    returns-2)
+    (λ c κs. search needs) (λ c. search needs) (λ c κs. search needs) (λ c. search needs)
+    returns returns-2)

@@ -3,14 +3,8 @@ use borrow.Author.Needs.{needs}
 use Rattle.capi.proofs.shown.Statement.{statement}
 use Rattle.capi.proofs.shown.Tie as tie
 
-kind-of-requires : tie.Need-kind-of-requires
-kind-of-requires c κs = search needs
-
-number-of-requires : tie.Need-number-of-requires
-number-of-requires c κs = search needs
-
 returns : tie.Need-returns
 returns c = rw (c .before .kind-of .ensures, c .number-of .ensures)
 
 pub shown-spec : {M : Type 1} → statement M
-shown-spec = tie.close (tie.spec kind-of-requires number-of-requires returns)
+shown-spec = tie.close (tie.spec (λ c κs. search needs) (λ c κs. search needs) returns)

@@ -18,27 +18,9 @@ Inv-loop n set delegates most out₀ q₀ out q = (q ≤ min n 32) × (out ≡ u
 abbrev μ-loop : tie.MeasureT-loop
 μ-loop n set delegates most out₀ q₀ out q = min n 32 - q
 
-at-most-u8-requires : tie.Need-at-most-u8-requires Inv-loop μ-loop
-at-most-u8-requires c κs = search needs
-
 loop-holds : tie.Need-loop-holds Inv-loop μ-loop
 unfolding union
 loop-holds c = (omega arith, refl)
-
-member-requires : tie.Need-member-requires Inv-loop μ-loop
-member-requires c κs = search needs
-
-delegate-single-requires : tie.Need-delegate-single-requires Inv-loop μ-loop
-delegate-single-requires c κs = search needs
-
-union-requires : tie.Need-union-requires Inv-loop μ-loop
-union-requires c κs = search needs
-
-add-q : tie.Need-add-q Inv-loop μ-loop
-add-q c = search needs
-
-loop-less : tie.Need-loop-less Inv-loop μ-loop
-loop-less c = search needs
 
 loop-again : tie.Need-loop-again Inv-loop μ-loop
 loop-again c =
@@ -67,14 +49,6 @@ pub delegate-mask-spec : {M : Type 1} → statement M
 delegate-mask-spec =
     tie.close
     (tie.spec
-    Inv-loop
-    μ-loop
-    at-most-u8-requires
-    loop-holds
-    member-requires
-    delegate-single-requires
-    union-requires
-    add-q
-    loop-less
-    loop-again
-    returns)
+    Inv-loop μ-loop (λ c κs. search needs) loop-holds (λ c κs. search needs)
+    (λ c κs. search needs) (λ c κs. search needs) (λ c. search needs) (λ c. search needs)
+    loop-again returns)

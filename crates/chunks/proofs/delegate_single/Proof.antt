@@ -4,12 +4,6 @@ use Rattle.delegates.proofs.Answer.{told-state, told-none}
 use Rattle.chunks.proofs.delegate_single.Statement.{statement}
 use Rattle.chunks.proofs.delegate_single.Tie as tie
 
-delegate-at-requires : tie.Need-delegate-at-requires
-delegate-at-requires c κs = search needs
-
-enum-known-delegate : tie.Need-enum-known-delegate
-enum-known-delegate c = search needs
-
 enum-told : tie.Need-enum-told
 enum-told c = search needs
 
@@ -37,9 +31,4 @@ pub delegate-single-spec : {M : Type 1} → statement M
 delegate-single-spec =
     tie.close
     (tie.spec
-    delegate-at-requires
-    enum-known-delegate
-    enum-told
-    returns
-    singleton-requires
-    returns-2)
+    (λ c κs. search needs) (λ c. search needs) enum-told returns singleton-requires returns-2)

@@ -18,29 +18,8 @@ abbrev μ-loop : tie.MeasureT-loop
 loop-holds : tie.Need-loop-holds Inv-loop μ-loop
 loop-holds c = (omega arith, length-replicate {A = ℕ} 32 0, λ p h. absurd (omega arith))
 
-mul-set-of : tie.Need-mul-set-of Inv-loop μ-loop
-mul-set-of c = search needs
-
-array-read-set-of : tie.Need-array-read-set-of Inv-loop μ-loop
-array-read-set-of c = search needs
-
 set-of-requires : tie.Need-set-of-requires Inv-loop μ-loop
 set-of-requires c κs = c .before .before .pre (c .before .loop .q)
-
-mask-of-requires : tie.Need-mask-of-requires Inv-loop μ-loop
-mask-of-requires c κs = search needs
-
-mul-ends : tie.Need-mul-ends Inv-loop μ-loop
-mul-ends c = search needs
-
-array-write-ends : tie.Need-array-write-ends Inv-loop μ-loop
-array-write-ends c = search needs
-
-add-q : tie.Need-add-q Inv-loop μ-loop
-add-q c = search needs
-
-loop-less : tie.Need-loop-less Inv-loop μ-loop
-loop-less c = search needs
 
 loop-again : tie.Need-loop-again Inv-loop μ-loop
 loop-again c =
@@ -62,16 +41,6 @@ pub end-masks-spec : {M : Type 1} → statement M
 end-masks-spec =
     tie.close
     (tie.spec
-    Inv-loop
-    μ-loop
-    loop-holds
-    mul-set-of
-    array-read-set-of
-    set-of-requires
-    mask-of-requires
-    mul-ends
-    array-write-ends
-    add-q
-    loop-less
-    loop-again
-    returns)
+    Inv-loop μ-loop loop-holds (λ c. search needs) (λ c. search needs) set-of-requires
+    (λ c κs. search needs) (λ c. search needs) (λ c. search needs) (λ c. search needs)
+    (λ c. search needs) loop-again returns)

@@ -4,15 +4,6 @@ use borrow.Author.Needs.{needs}
 use Rattle.chunks.proofs.mask_of.Statement.{statement}
 use Rattle.chunks.proofs.mask_of.Tie as tie
 
-cast-i : tie.Need-cast-i
-cast-i c = search needs
-
-mul-result : tie.Need-mul-result
-mul-result c = search needs
-
-element-copy-out-result : tie.Need-element-copy-out-result
-element-copy-out-result c = search needs
-
 returns : tie.Need-returns
 returns c = rw (lt-ltb (c .before .before .before .args .set .0) 512 (c .before .if1 .taken))
 
@@ -20,4 +11,7 @@ returns-2 : tie.Need-returns-2
 returns-2 c = rw (le-ltb (c .before .before .args .set .0) 512 (c .if1 .left))
 
 pub mask-of-spec : {M : Type 1} → statement M
-mask-of-spec = tie.close (tie.spec cast-i mul-result element-copy-out-result returns returns-2)
+mask-of-spec =
+    tie.close
+    (tie.spec
+    (λ c. search needs) (λ c. search needs) (λ c. search needs) returns returns-2)

@@ -16,9 +16,6 @@ use Rattle.chunks.proofs.Running.{start-low, ends, counted, looks, runs
 use Rattle.chunks.proofs.run_all.Statement.{statement}
 use Rattle.chunks.proofs.run_all.Tie as tie
 
-start-rows-requires : tie.Need-start-rows-requires
-start-rows-requires c κs = search needs
-
 walk-text-requires : tie.Need-walk-text-requires
 walk-text-requires c κs =
     let s = c .before .before in
@@ -53,9 +50,6 @@ cast-t12 c =
     let few : (q : ℕ) → getD (walk .result .counts) q 0 ≤ 65536 = λ q. rw (walk .ensures) (counts-small t w (from .result) 65536 (s .pre) q) in
     omega (arith, c .summed .ensures, total-most (λ q. getD (walk .result .counts) q 0) 65536 32 (λ q h. few q))
 
-cast-t14 : tie.Need-cast-t14
-cast-t14 c = search needs
-
 cast-t15 : tie.Need-cast-t15
 cast-t15 c =
     let s = c .before .before .before .before .before .before .before .before in
@@ -86,11 +80,5 @@ pub run-all-spec : {M : Type 1} → statement M
 run-all-spec =
     tie.close
     (tie.spec
-    start-rows-requires
-    walk-text-requires
-    end-masks-requires
-    summed-requires
-    cast-t12
-    cast-t14
-    cast-t15
-    returns)
+    (λ c κs. search needs) walk-text-requires end-masks-requires summed-requires cast-t12
+    (λ c. search needs) cast-t15 returns)

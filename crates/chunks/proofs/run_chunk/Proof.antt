@@ -7,9 +7,6 @@ use Rattle.chunks.proofs.Running.{runs-none}
 use Rattle.chunks.proofs.run_chunk.Statement.{statement}
 use Rattle.chunks.proofs.run_chunk.Tie as tie
 
-run-none-requires : tie.Need-run-none-requires
-run-none-requires c κs = search needs
-
 returns : tie.Need-returns
 returns c =
     let a = c .before .before .before .args in
@@ -17,11 +14,8 @@ returns c =
     c .run-none .ensures ∙ runs-none (a .sets .now) (a .next .now) (a .singles .now) w
     ∙ ap (λ (m : ℕ). runsOf (a .sets .now) (a .next .now) (a .singles .now) m w) (sym (c .before .if1 .taken))
 
-run-all-requires : tie.Need-run-all-requires
-run-all-requires c κs = search needs
-
-returns-2 : tie.Need-returns-2
-returns-2 c = search needs
-
 pub run-chunk-spec : {M : Type 1} → statement M
-run-chunk-spec = tie.close (tie.spec run-none-requires returns run-all-requires returns-2)
+run-chunk-spec =
+    tie.close
+    (tie.spec
+    (λ c κs. search needs) returns (λ c κs. search needs) (λ c. search needs))

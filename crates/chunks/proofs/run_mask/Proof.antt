@@ -5,12 +5,6 @@ use borrow.Author.Needs.{needs}
 use Rattle.chunks.proofs.run_mask.Statement.{statement}
 use Rattle.chunks.proofs.run_mask.Tie as tie
 
-delegate-mask-requires : tie.Need-delegate-mask-requires
-delegate-mask-requires c κs = search needs
-
-start-mask-requires : tie.Need-start-mask-requires
-start-mask-requires c κs = search needs
-
 returns : tie.Need-returns
 returns c =
     let a = c .before .before .args in
@@ -22,4 +16,7 @@ returns-2 c =
     c .start-mask .ensures ∙ run-later (a .delegates) (a .n) (a .initials) (a .place) (c .before .if1 .left)
 
 pub run-mask-spec : {M : Type 1} → statement M
-run-mask-spec = tie.close (tie.spec delegate-mask-requires start-mask-requires returns returns-2)
+run-mask-spec =
+    tie.close
+    (tie.spec
+    (λ c κs. search needs) (λ c κs. search needs) returns returns-2)

@@ -21,26 +21,11 @@ abbrev μ-loop : tie.MeasureT-loop
 loop-holds : tie.Need-loop-holds Inv-loop μ-loop
 loop-holds c = (omega arith, λ j b. absurd (omega arith))
 
-mul-differs : tie.Need-mul-differs Inv-loop μ-loop
-mul-differs c = omega arith
-
-shared-slice-read-differs : tie.Need-shared-slice-read-differs Inv-loop μ-loop
-shared-slice-read-differs c = omega arith
-
-differs-requires : tie.Need-differs-requires Inv-loop μ-loop
-differs-requires c κs = search needs
-
 returns : tie.Need-returns Inv-loop μ-loop
 returns c =
     let x = c .before .before .before .before .loop in
     let a = c .before .before .before .before .before .before .args in
     where-found (differs (a .finals) (a .others)) (a .pairs .now) (a .count) (x .i) (omega arith) (x .inv .1) (omega arith) (sym (c .before .differs .ensures) ∙ c .if1 .taken)
-
-add-i : tie.Need-add-i Inv-loop μ-loop
-add-i c = omega arith
-
-loop-less : tie.Need-loop-less Inv-loop μ-loop
-loop-less c = omega arith
 
 loop-again : tie.Need-loop-again Inv-loop μ-loop
 loop-again c = (omega arith, below-more _ _ (c .before .before .before .before .loop .inv .1) (sym (c .before .differs .ensures) ∙ c .if1 .left))
@@ -55,14 +40,5 @@ pub first-apart-spec : {M : Type 1} → statement M
 first-apart-spec =
     tie.close
     (tie.spec
-    Inv-loop
-    μ-loop
-    loop-holds
-    mul-differs
-    shared-slice-read-differs
-    differs-requires
-    returns
-    add-i
-    loop-less
-    loop-again
-    returns-2)
+    Inv-loop μ-loop loop-holds (λ c. omega arith) (λ c. omega arith) (λ c κs. search needs)
+    returns (λ c. omega arith) (λ c. omega arith) loop-again returns-2)

@@ -15,24 +15,6 @@ module _ (p : tie.After-pairs2) where
       let s = p .before .before .before .before .before .before .before .before in
       most (s .args .t1) (s .args .t2) (s .pre .0) (s .pre .1) (s .pre .2) (n .result) (n .ensures) (h .result) (h .ensures)
 
-cast-start : tie.Need-cast-start
-cast-start c = search needs
-
-cast-start-2 : tie.Need-cast-start-2
-cast-start-2 c = search needs
-
-mul-start : tie.Need-mul-start
-mul-start c = search needs
-
-add-start : tie.Need-add-start
-add-start c = search needs
-
-number-by-requires : tie.Need-number-by-requires
-number-by-requires c κs = search needs
-
-held-requires : tie.Need-held-requires
-held-requires c κs = search needs
-
 first-apart-requires : tie.Need-first-apart-requires
 first-apart-requires c κs = small c
 
@@ -42,14 +24,8 @@ mul-which-of c = record { fits = omega (arith, c .if1 .taken, small (c .before .
 array-read-which-of : tie.Need-array-read-which-of
 array-read-which-of c = omega (arith, c .if1 .taken, small (c .before .before))
 
-which-of-requires : tie.Need-which-of-requires
-which-of-requires c κs = search needs
-
 cast-number : tie.Need-cast-number
 cast-number c = omega (arith, c .before .before .if1 .taken, small (c .before .before .before .before))
-
-cast-spell : tie.Need-cast-spell
-cast-spell c = search needs
 
 spell-requires : tie.Need-spell-requires
 spell-requires c κs =
@@ -73,15 +49,6 @@ returns c =
 
 enum-told : tie.Need-enum-told
 enum-told c = search needs
-
-give-none-requires : tie.Need-give-none-requires
-give-none-requires c κs = search needs
-
-enum-told-2 : tie.Need-enum-told-2
-enum-told-2 c = search needs
-
-give-none-requires-2 : tie.Need-give-none-requires-2
-give-none-requires-2 c κs = search needs
 
 returns-2 : tie.Need-returns-2
 returns-2 c =
@@ -108,23 +75,8 @@ pub search-pairs-spec : {M : Type 1} → statement M
 search-pairs-spec =
     tie.close
     (tie.spec
-    cast-start
-    cast-start-2
-    mul-start
-    add-start
-    number-by-requires
-    held-requires
-    first-apart-requires
-    mul-which-of
-    array-read-which-of
-    which-of-requires
-    cast-number
-    cast-spell
-    spell-requires
-    returns
-    enum-told
-    give-none-requires
-    enum-told-2
-    give-none-requires-2
-    returns-2
-    returns-3)
+    (λ c. search needs) (λ c. search needs) (λ c. search needs) (λ c. search needs)
+    (λ c κs. search needs) (λ c κs. search needs) first-apart-requires mul-which-of
+    array-read-which-of (λ c κs. search needs) cast-number (λ c. search needs) spell-requires
+    returns enum-told (λ c κs. search needs) (λ c. search needs) (λ c κs. search needs)
+    returns-2 returns-3)

@@ -5,12 +5,6 @@ use Rattle.compare.proofs.Ways.{which-first, which-second}
 use Rattle.compare.proofs.which_of.Statement.{statement}
 use Rattle.compare.proofs.which_of.Tie as tie
 
-cast-meets : tie.Need-cast-meets
-cast-meets c = search needs
-
-meets-requires : tie.Need-meets-requires
-meets-requires c κs = search needs
-
 returns : tie.Need-returns
 returns c = which-first _ _ First Second (c .before .meets .ensures) (c .if1 .taken)
 
@@ -18,4 +12,4 @@ returns-2 : tie.Need-returns-2
 returns-2 c = which-second _ _ First Second (c .before .meets .ensures) (c .if1 .left)
 
 pub which-of-spec : {M : Type 1} → statement M
-which-of-spec = tie.close (tie.spec cast-meets meets-requires returns returns-2)
+which-of-spec = tie.close (tie.spec (λ c. search needs) (λ c κs. search needs) returns returns-2)

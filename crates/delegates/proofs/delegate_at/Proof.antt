@@ -5,12 +5,6 @@ use Rattle.delegates.proofs.Alike.{said-some, said-none}
 use Rattle.delegates.proofs.delegate_at.Statement.{statement}
 use Rattle.delegates.proofs.delegate_at.Tie as tie
 
-cast-i : tie.Need-cast-i
-cast-i c = search needs
-
-element-copy-out-delegate : tie.Need-element-copy-out-delegate
-element-copy-out-delegate c = search needs
-
 returns : tie.Need-returns
 returns c =
     let a = c .before .before .before .args in
@@ -22,4 +16,4 @@ returns-2 c =
     sym (said-none (a .delegates .now) (a .q .0) (c .if1 .left))
 
 pub delegate-at-spec : {M : Type 1} → statement M
-delegate-at-spec = tie.close (tie.spec cast-i element-copy-out-delegate returns returns-2)
+delegate-at-spec = tie.close (tie.spec (λ c. search needs) (λ c. search needs) returns returns-2)

@@ -5,23 +5,11 @@ use Rattle.delegates.specs.mirror.Refinement.{classOf, cellIn}
 use Rattle.delegates.proofs.delegate_cell.Statement.{statement}
 use Rattle.delegates.proofs.delegate_cell.Tie as tie
 
-cast-i : tie.Need-cast-i
-cast-i c = search needs
-
-mul-if1 : tie.Need-mul-if1
-mul-if1 c = search needs
-
-element-copy-out-if1 : tie.Need-element-copy-out-if1
-element-copy-out-if1 c = search needs
-
 returns : tie.Need-returns
 unfolding cellIn
 returns c =
     let a = c .before .before .before .args in
     rw (eq-eqb (classOf (a .own .now) (a .q .0)) (a .empty) (c .if1 .taken))
-
-lowest-requires : tie.Need-lowest-requires
-lowest-requires c κs = search needs
 
 returns-2 : tie.Need-returns-2
 unfolding cellIn
@@ -31,4 +19,7 @@ returns-2 c =
 
 pub delegate-cell-spec : {M : Type 1} → statement M
 delegate-cell-spec =
-    tie.close (tie.spec cast-i mul-if1 element-copy-out-if1 returns lowest-requires returns-2)
+    tie.close
+    (tie.spec
+    (λ c. search needs) (λ c. search needs) (λ c. search needs) returns (λ c κs. search needs)
+    returns-2)

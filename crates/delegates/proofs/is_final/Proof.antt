@@ -5,18 +5,6 @@ use Rattle.delegates.proofs.Classes.{final-set, final-empty}
 use Rattle.delegates.proofs.is_final.Statement.{statement}
 use Rattle.delegates.proofs.is_final.Tie as tie
 
-cast-s : tie.Need-cast-s
-cast-s c = search needs
-
-mul-meets : tie.Need-mul-meets
-mul-meets c = search needs
-
-element-copy-out-meets : tie.Need-element-copy-out-meets
-element-copy-out-meets c = search needs
-
-meets-requires : tie.Need-meets-requires
-meets-requires c κs = search needs
-
 returns : tie.Need-returns
 returns c =
     let a = c .before .before .before .before .args in
@@ -29,4 +17,7 @@ returns-2 c =
 
 pub is-final-spec : {M : Type 1} → statement M
 is-final-spec =
-    tie.close (tie.spec cast-s mul-meets element-copy-out-meets meets-requires returns returns-2)
+    tie.close
+    (tie.spec
+    (λ c. search needs) (λ c. search needs) (λ c. search needs) (λ c κs. search needs) returns
+    returns-2)

@@ -18,21 +18,9 @@ Inv-loop sets next finals k class s i t₀ t =
 abbrev μ-loop : tie.MeasureT-loop
 μ-loop sets next finals k class s i t₀ t = s .0 - t
 
-cast-i : tie.Need-cast-i Inv-loop μ-loop
-cast-i c = search needs
-
-mul-t : tie.Need-mul-t Inv-loop μ-loop
-mul-t c = search needs
-
-element-copy-out-t : tie.Need-element-copy-out-t Inv-loop μ-loop
-element-copy-out-t c = search needs
-
 loop-holds : tie.Need-loop-holds Inv-loop μ-loop
 unfolding leastOf
 loop-holds c = refl
-
-same-requires : tie.Need-same-requires Inv-loop μ-loop
-same-requires c κs = search needs
 
 returns : tie.Need-returns Inv-loop μ-loop
 returns c =
@@ -41,12 +29,6 @@ returns c =
     let a = y .before .before .before .before .args in
     let test : ℕ → Bool = λ u. sameIn (a .sets .now) (a .next .now) (a .finals) (a .k) (a .class .now) u (a .s .0) in
     first-here test (l .t) (a .s .0) (omega arith) (sym (c .before .same .ensures) ∙ c .if2 .taken) ∙ sym (l .inv)
-
-add-t : tie.Need-add-t Inv-loop μ-loop
-add-t c = search needs
-
-loop-less : tie.Need-loop-less Inv-loop μ-loop
-loop-less c = search needs
 
 loop-again : tie.Need-loop-again Inv-loop μ-loop
 loop-again c =
@@ -67,15 +49,5 @@ pub least-spec : {M : Type 1} → statement M
 least-spec =
     tie.close
     (tie.spec
-    Inv-loop
-    μ-loop
-    cast-i
-    mul-t
-    element-copy-out-t
-    loop-holds
-    same-requires
-    returns
-    add-t
-    loop-less
-    loop-again
-    returns-2)
+    Inv-loop μ-loop (λ c. search needs) (λ c. search needs) (λ c. search needs) loop-holds
+    (λ c κs. search needs) returns (λ c. search needs) (λ c. search needs) loop-again returns-2)

@@ -20,30 +20,12 @@ Inv-loop own q j class p₀ p =
 abbrev μ-loop : tie.MeasureT-loop
 μ-loop own q j class p₀ p = q .0 - p
 
-cast-j : tie.Need-cast-j Inv-loop μ-loop
-cast-j c = search needs
-
-mul-class : tie.Need-mul-class Inv-loop μ-loop
-mul-class c = search needs
-
-element-copy-out-class : tie.Need-element-copy-out-class Inv-loop μ-loop
-element-copy-out-class c = search needs
-
 loop-holds : tie.Need-loop-holds Inv-loop μ-loop
 unfolding firstInClass
 loop-holds c =
     let a = c .before .before .args in
     let all : a .q .0 ≡ a .q .0 - 0 = omega arith in
     (omega arith, ap (firstFrom (λ u. eqb (classOf (a .own .now) u) (classOf (a .own .now) (a .q .0))) 0) all)
-
-cast-i : tie.Need-cast-i Inv-loop μ-loop
-cast-i c = search needs
-
-mul-if2 : tie.Need-mul-if2 Inv-loop μ-loop
-mul-if2 c = search needs
-
-element-copy-out-if2 : tie.Need-element-copy-out-if2 Inv-loop μ-loop
-element-copy-out-if2 c = search needs
 
 returns : tie.Need-returns Inv-loop μ-loop
 returns c =
@@ -52,12 +34,6 @@ returns c =
     let a = y .before .before .before .before .args in
     let test : ℕ → Bool = λ u. eqb (classOf (a .own .now) u) (classOf (a .own .now) (a .q .0)) in
     first-here test (l .p) (a .q .0) (omega arith) (eq-eqb (classOf (a .own .now) (l .p)) (classOf (a .own .now) (a .q .0)) (c .if2 .taken)) ∙ sym (l .inv .1)
-
-add-p : tie.Need-add-p Inv-loop μ-loop
-add-p c = search needs
-
-loop-less : tie.Need-loop-less Inv-loop μ-loop
-loop-less c = search needs
 
 loop-again : tie.Need-loop-again Inv-loop μ-loop
 loop-again c =
@@ -78,17 +54,6 @@ pub lowest-spec : {M : Type 1} → statement M
 lowest-spec =
     tie.close
     (tie.spec
-    Inv-loop
-    μ-loop
-    cast-j
-    mul-class
-    element-copy-out-class
-    loop-holds
-    cast-i
-    mul-if2
-    element-copy-out-if2
-    returns
-    add-p
-    loop-less
-    loop-again
-    returns-2)
+    Inv-loop μ-loop (λ c. search needs) (λ c. search needs) (λ c. search needs) loop-holds
+    (λ c. search needs) (λ c. search needs) (λ c. search needs) returns (λ c. search needs)
+    (λ c. search needs) loop-again returns-2)

@@ -23,70 +23,10 @@ Inv-loop sets next singles finals n k states symbols class empty own₀ delegate
 abbrev μ-loop : tie.MeasureT-loop
 μ-loop sets next singles finals n k states symbols class empty own₀ delegates₀ starts₀ q₀ own delegates starts q = min n 32 - q
 
-at-most-u8-requires : tie.Need-at-most-u8-requires Inv-loop μ-loop
-at-most-u8-requires c κs = search needs
-
-cast-states : tie.Need-cast-states Inv-loop μ-loop
-cast-states c = search needs
-
-at-most-u8-requires-2 : tie.Need-at-most-u8-requires-2 Inv-loop μ-loop
-at-most-u8-requires-2 c κs = search needs
-
-cast-symbols : tie.Need-cast-symbols Inv-loop μ-loop
-cast-symbols c = search needs
-
-refine-requires : tie.Need-refine-requires Inv-loop μ-loop
-refine-requires c κs = search needs
-
-array-read-empty : tie.Need-array-read-empty Inv-loop μ-loop
-array-read-empty c = search needs
-
 loop-holds : tie.Need-loop-holds Inv-loop μ-loop
 loop-holds c =
     let a = c .before .before .before .args in
     (zero-le, begun (a .sets .now) (a .next .now) (a .finals) (a .singles .now) (min (a .k) 16))
-
-cast-t24 : tie.Need-cast-t24 Inv-loop μ-loop
-cast-t24 c = search needs
-
-single-requires : tie.Need-single-requires Inv-loop μ-loop
-single-requires c κs = search needs
-
-cast-x : tie.Need-cast-x Inv-loop μ-loop
-cast-x c = search needs
-
-mul-own : tie.Need-mul-own Inv-loop μ-loop
-mul-own c = search needs
-
-array-read-own : tie.Need-array-read-own Inv-loop μ-loop
-array-read-own c = search needs
-
-mul-own-2 : tie.Need-mul-own-2 Inv-loop μ-loop
-mul-own-2 c = search needs
-
-array-write-own : tie.Need-array-write-own Inv-loop μ-loop
-array-write-own c = search needs
-
-cast-t24-2 : tie.Need-cast-t24-2 Inv-loop μ-loop
-cast-t24-2 c = search needs
-
-delegate-cell-requires : tie.Need-delegate-cell-requires Inv-loop μ-loop
-delegate-cell-requires c κs = search needs
-
-array-write-delegates : tie.Need-array-write-delegates Inv-loop μ-loop
-array-write-delegates c = search needs
-
-cast-if1 : tie.Need-cast-if1 Inv-loop μ-loop
-cast-if1 c = search needs
-
-add-starts : tie.Need-add-starts Inv-loop μ-loop
-add-starts c = search needs
-
-add-q : tie.Need-add-q Inv-loop μ-loop
-add-q c = search needs
-
-loop-less : tie.Need-loop-less Inv-loop μ-loop
-loop-less c = search needs
 
 loop-again : tie.Need-loop-again Inv-loop μ-loop
 loop-again c =
@@ -128,28 +68,9 @@ pub merge-starts-spec : {M : Type 1} → statement M
 merge-starts-spec =
     tie.close
     (tie.spec
-    Inv-loop
-    μ-loop
-    at-most-u8-requires
-    cast-states
-    at-most-u8-requires-2
-    cast-symbols
-    refine-requires
-    array-read-empty
-    loop-holds
-    cast-t24
-    single-requires
-    cast-x
-    mul-own
-    array-read-own
-    mul-own-2
-    array-write-own
-    cast-t24-2
-    delegate-cell-requires
-    array-write-delegates
-    cast-if1
-    add-starts
-    add-q
-    loop-less
-    loop-again
-    returns)
+    Inv-loop μ-loop (λ c κs. search needs) (λ c. search needs) (λ c κs. search needs)
+    (λ c. search needs) (λ c κs. search needs) (λ c. search needs) loop-holds
+    (λ c. search needs) (λ c κs. search needs) (λ c. search needs) (λ c. search needs)
+    (λ c. search needs) (λ c. search needs) (λ c. search needs) (λ c. search needs)
+    (λ c κs. search needs) (λ c. search needs) (λ c. search needs) (λ c. search needs)
+    (λ c. search needs) (λ c. search needs) loop-again returns)

@@ -25,36 +25,12 @@ Inv-loop sets next finals k class new₀ changed₀ s₀ new changed s =
 abbrev μ-loop : tie.MeasureT-loop
 μ-loop sets next finals k class new₀ changed₀ s₀ new changed s = 513 - s
 
-cells-requires : tie.Need-cells-requires Inv-loop μ-loop
-cells-requires c κs = search needs
-
 loop-holds : tie.Need-loop-holds Inv-loop μ-loop
 unfolding every
 loop-holds c = (omega arith, c .cells .ensures, below-none _, refl)
 
-cast-i : tie.Need-cast-i Inv-loop μ-loop
-cast-i c = search needs
-
 least-requires : tie.Need-least-requires Inv-loop μ-loop
 least-requires c κs = (c .before .before .before .before .pre, omega arith)
-
-mul-from : tie.Need-mul-from Inv-loop μ-loop
-mul-from c = search needs
-
-element-copy-out-from : tie.Need-element-copy-out-from Inv-loop μ-loop
-element-copy-out-from c = search needs
-
-mul-new : tie.Need-mul-new Inv-loop μ-loop
-mul-new c = search needs
-
-element-write-new : tie.Need-element-write-new Inv-loop μ-loop
-element-write-new c = search needs
-
-add-s : tie.Need-add-s Inv-loop μ-loop
-add-s c = search needs
-
-loop-less : tie.Need-loop-less Inv-loop μ-loop
-loop-less c = search needs
 
 loop-again : tie.Need-loop-again Inv-loop μ-loop
 loop-again c =
@@ -87,17 +63,6 @@ pub round-spec : {M : Type 1} → statement M
 round-spec =
     tie.close
     (tie.spec
-    Inv-loop
-    μ-loop
-    cells-requires
-    loop-holds
-    cast-i
-    least-requires
-    mul-from
-    element-copy-out-from
-    mul-new
-    element-write-new
-    add-s
-    loop-less
-    loop-again
-    returns)
+    Inv-loop μ-loop (λ c κs. search needs) loop-holds (λ c. search needs) least-requires
+    (λ c. search needs) (λ c. search needs) (λ c. search needs) (λ c. search needs)
+    (λ c. search needs) (λ c. search needs) loop-again returns)

@@ -41,32 +41,8 @@ y-within c =
     let a = c .before .before .before .before .before .before .before .before .before .before .before .before .args in
     rw (c .follow2 .ensures) (follow-within (a .next .now) (a .s .0) (c .before .before .before .loop .a))
 
-cast-i : tie.Need-cast-i Inv-loop μ-loop
-cast-i c = search needs
-
-cast-j : tie.Need-cast-j Inv-loop μ-loop
-cast-j c = search needs
-
-mul-if1 : tie.Need-mul-if1 Inv-loop μ-loop
-mul-if1 c = search needs
-
-element-copy-out-if1 : tie.Need-element-copy-out-if1 Inv-loop μ-loop
-element-copy-out-if1 c = search needs
-
-mul-if1-2 : tie.Need-mul-if1-2 Inv-loop μ-loop
-mul-if1-2 c = search needs
-
-element-copy-out-if1-2 : tie.Need-element-copy-out-if1-2 Inv-loop μ-loop
-element-copy-out-if1-2 c = search needs
-
 returns : tie.Need-returns Inv-loop μ-loop
 returns c = refuted (law (c .before .before .before .before .before)) (λ x. c .if1 .taken (x .here))
-
-is-final-requires : tie.Need-is-final-requires Inv-loop μ-loop
-is-final-requires c κs = search needs
-
-is-final-requires-2 : tie.Need-is-final-requires-2 Inv-loop μ-loop
-is-final-requires-2 c κs = search needs
 
 returns-2 : tie.Need-returns-2 Inv-loop μ-loop
 returns-2 c =
@@ -76,18 +52,6 @@ returns-2 c =
 
 loop-holds : tie.Need-loop-holds Inv-loop μ-loop
 loop-holds c = (omega arith, below-none _)
-
-follow-requires : tie.Need-follow-requires Inv-loop μ-loop
-follow-requires c κs = search needs
-
-follow-requires-2 : tie.Need-follow-requires-2 Inv-loop μ-loop
-follow-requires-2 c κs = search needs
-
-cast-u : tie.Need-cast-u Inv-loop μ-loop
-cast-u c = search needs
-
-cast-v : tie.Need-cast-v Inv-loop μ-loop
-cast-v c = search needs
 
 mul-if3 : tie.Need-mul-if3 Inv-loop μ-loop
 mul-if3 c = omega (arith, x-within (c .before .before .before))
@@ -112,12 +76,6 @@ returns-3 c =
     (ap (classOf (a .class .now)) (y .before .follow .ensures)
     ∙ x .there (l .a) (y .before .before .loop-test .taken)
     ∙ sym (ap (classOf (a .class .now)) (y .follow2 .ensures))))
-
-add-a : tie.Need-add-a Inv-loop μ-loop
-add-a c = search needs
-
-loop-less : tie.Need-loop-less Inv-loop μ-loop
-loop-less c = search needs
 
 loop-again : tie.Need-loop-again Inv-loop μ-loop
 loop-again c =
@@ -146,29 +104,9 @@ pub same-spec : {M : Type 1} → statement M
 same-spec =
     tie.close
     (tie.spec
-    Inv-loop
-    μ-loop
-    cast-i
-    cast-j
-    mul-if1
-    element-copy-out-if1
-    mul-if1-2
-    element-copy-out-if1-2
-    returns
-    is-final-requires
-    is-final-requires-2
-    returns-2
-    loop-holds
-    follow-requires
-    follow-requires-2
-    cast-u
-    cast-v
-    mul-if3
-    element-copy-out-if3
-    mul-if3-2
-    element-copy-out-if3-2
-    returns-3
-    add-a
-    loop-less
-    loop-again
+    Inv-loop μ-loop (λ c. search needs) (λ c. search needs) (λ c. search needs)
+    (λ c. search needs) (λ c. search needs) (λ c. search needs) returns (λ c κs. search needs)
+    (λ c κs. search needs) returns-2 loop-holds (λ c κs. search needs) (λ c κs. search needs)
+    (λ c. search needs) (λ c. search needs) mul-if3 element-copy-out-if3 mul-if3-2
+    element-copy-out-if3-2 returns-3 (λ c. search needs) (λ c. search needs) loop-again
     returns-4)

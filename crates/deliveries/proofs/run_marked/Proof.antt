@@ -17,12 +17,6 @@ use Rattle.deliveries.proofs.run_marked.Tie as tie
 short : (w : List ℕ) → length w ≤ 65536 → length (textOf w) ≤ 65536
 short w h = omega (arith, marks.claims .no-longer w)
 
-slice-aggregate-pack : tie.Need-slice-aggregate-pack
-slice-aggregate-pack c = search needs
-
-pack-requires : tie.Need-pack-requires
-pack-requires c κs = search needs
-
 array-share-prefix-buffer : tie.Need-array-share-prefix-buffer
 array-share-prefix-buffer c =
     let packed = c .before .pack in
@@ -45,9 +39,5 @@ pub run-marked-spec : {M : Type 1} → statement M
 run-marked-spec =
     tie.close
     (tie.spec
-    slice-aggregate-pack
-    pack-requires
-    array-share-prefix-buffer
-    slice-aggregate-run-text
-    run-text-requires
-    returns)
+    (λ c. search needs) (λ c κs. search needs) array-share-prefix-buffer
+    slice-aggregate-run-text run-text-requires returns)

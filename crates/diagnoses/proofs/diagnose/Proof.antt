@@ -7,12 +7,6 @@ use Rattle.diagnoses.proofs.diagnose.Tie as tie
 returns : tie.Need-returns
 returns c = search (needs, diagnosed-21)
 
-places-of-requires : tie.Need-places-of-requires
-places-of-requires c κs = search needs
-
-find-loss-requires : tie.Need-find-loss-requires
-find-loss-requires c κs = search needs
-
 returns-2 : tie.Need-returns-2
 returns-2 c =
     let p = c .before .before .before .before in
@@ -20,4 +14,7 @@ returns-2 c =
     diagnosed (t .before .before .args .judge) _ (t .if1 .left) (p .places-of .result) (p .places-of .ensures) (c .find-loss .ensures)
 
 pub diagnose-spec : {M : Type 1} → statement M
-diagnose-spec = tie.close (tie.spec returns places-of-requires find-loss-requires returns-2)
+diagnose-spec =
+    tie.close
+    (tie.spec
+    returns (λ c κs. search needs) (λ c κs. search needs) returns-2)

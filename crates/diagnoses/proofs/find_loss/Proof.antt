@@ -22,35 +22,14 @@ Inv-loop filled ends n initials places delegates states set₀ place₀ set plac
 abbrev μ-loop : tie.MeasureT-loop
 μ-loop filled ends n initials places delegates states set₀ place₀ set place = places - place
 
-at-most-u8-requires : tie.Need-at-most-u8-requires Inv-loop μ-loop
-at-most-u8-requires c κs = search needs
-
 loop-holds : tie.Need-loop-holds Inv-loop μ-loop
 unfolding joinOf
 loop-holds c = (omega arith, refl, find-start _ _ _)
-
-element-copy-out-if1 : tie.Need-element-copy-out-if1 Inv-loop μ-loop
-element-copy-out-if1 c = search needs
-
-cast-t15 : tie.Need-cast-t15 Inv-loop μ-loop
-cast-t15 c = omega arith
 
 returns : tie.Need-returns Inv-loop μ-loop
 returns c =
     let x = c .before .before .before .loop in
     find-empty _ _ (x .place) _ _ (x .inv .2) (c .before .before .loop-test .taken) (eq-eqb _ _ (c .if1 .taken))
-
-cast-join-place : tie.Need-cast-join-place Inv-loop μ-loop
-cast-join-place c = omega arith
-
-join-place-requires : tie.Need-join-place-requires Inv-loop μ-loop
-join-place-requires c κs = search needs
-
-delegate-mask-requires : tie.Need-delegate-mask-requires Inv-loop μ-loop
-delegate-mask-requires c κs = search needs
-
-cast-t20 : tie.Need-cast-t20 Inv-loop μ-loop
-cast-t20 c = omega arith
 
 returns-2 : tie.Need-returns-2 Inv-loop μ-loop
 returns-2 c =
@@ -65,12 +44,6 @@ returns-2 c =
     (none-live (a .filled .now) (a .ends .now) (a .t3) (a .n) (a .initials) (x .place) (k .join-place .result) (c .before .delegate-mask .result) more
     (c .before .delegate-mask .ensures)
     (c .if2 .taken))
-
-add-place : tie.Need-add-place Inv-loop μ-loop
-add-place c = omega arith
-
-loop-less : tie.Need-loop-less Inv-loop μ-loop
-loop-less c = omega arith
 
 loop-again : tie.Need-loop-again Inv-loop μ-loop
 loop-again c =
@@ -89,9 +62,6 @@ loop-again c =
           (c .if2 .left)),
     )
 
-cast-t21 : tie.Need-cast-t21 Inv-loop μ-loop
-cast-t21 c = omega arith
-
 returns-3 : tie.Need-returns-3 Inv-loop μ-loop
 returns-3 c = let x = c .before .loop in find-end _ _ (x .place) _ _ (x .inv .2) (c .loop-test .left)
 
@@ -99,20 +69,6 @@ pub find-loss-spec : {M : Type 1} → statement M
 find-loss-spec =
     tie.close
     (tie.spec
-    Inv-loop
-    μ-loop
-    at-most-u8-requires
-    loop-holds
-    element-copy-out-if1
-    cast-t15
-    returns
-    cast-join-place
-    join-place-requires
-    delegate-mask-requires
-    cast-t20
-    returns-2
-    add-place
-    loop-less
-    loop-again
-    cast-t21
-    returns-3)
+    Inv-loop μ-loop (λ c κs. search needs) loop-holds (λ c. search needs) (λ c. omega arith)
+    returns (λ c. omega arith) (λ c κs. search needs) (λ c κs. search needs) (λ c. omega arith)
+    returns-2 (λ c. omega arith) (λ c. omega arith) loop-again (λ c. omega arith) returns-3)

@@ -23,12 +23,6 @@ put-targets-requires c κs =
     let room = fits (c .before .before .loop .inv) t in
     (h .0, h .1, omega (arith, h .0, t), omega (arith, h .0, room))
 
-add-q : tie.Need-add-q Inv-loop μ-loop
-add-q c = omega arith
-
-loop-less : tie.Need-loop-less Inv-loop μ-loop
-loop-less c = omega arith
-
 loop-again : tie.Need-loop-again Inv-loop μ-loop
 loop-again c =
     let w = c .before .before .put-targets .ensures in
@@ -45,12 +39,5 @@ pub put-arrows-spec : {M : Type 1} → statement M
 put-arrows-spec =
     tie.close
     (tie.spec
-    Inv-loop
-    μ-loop
-    loop-holds
-    put-targets-requires
-    add-q
-    loop-less
-    loop-again
-    same-length
-    returns)
+    Inv-loop μ-loop loop-holds put-targets-requires (λ c. omega arith) (λ c. omega arith)
+    loop-again same-length returns)

@@ -7,18 +7,6 @@ use borrow.Author.Needs.{needs}
 use Rattle.dotgraph.proofs.put_initial.Statement.{statement}
 use Rattle.dotgraph.proofs.put_initial.Tie as tie
 
-member-requires : tie.Need-member-requires
-member-requires c κs = search needs
-
-put-point-requires : tie.Need-put-point-requires
-put-point-requires c κs = search needs
-
-put-entry-requires : tie.Need-put-entry-requires
-put-entry-requires c κs = search needs
-
-same-length : tie.Need-same-length
-same-length c = search needs
-
 returns : tie.Need-returns
 returns c =
     let s = c .before .before .before .before .before .before .before .before .before .before .before in
@@ -34,4 +22,6 @@ returns-2 c =
 pub put-initial-spec : {M : Type 1} → statement M
 put-initial-spec =
     tie.close
-    (tie.spec member-requires put-point-requires put-entry-requires same-length returns returns-2)
+    (tie.spec
+    (λ c κs. search needs) (λ c κs. search needs) (λ c κs. search needs) (λ c. search needs)
+    returns returns-2)

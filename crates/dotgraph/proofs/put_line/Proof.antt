@@ -5,27 +5,6 @@ use borrow.Author.Needs.{needs}
 use Rattle.dotgraph.proofs.put_line.Statement.{statement}
 use Rattle.dotgraph.proofs.put_line.Tie as tie
 
-put-arrow-requires : tie.Need-put-arrow-requires
-put-arrow-requires c κs = search needs
-
-slice-aggregate-put-bytes : tie.Need-slice-aggregate-put-bytes
-slice-aggregate-put-bytes c = search needs
-
-put-bytes-requires : tie.Need-put-bytes-requires
-put-bytes-requires c κs = search needs
-
-put-label-requires : tie.Need-put-label-requires
-put-label-requires c κs = search needs
-
-slice-aggregate-put-bytes-2 : tie.Need-slice-aggregate-put-bytes-2
-slice-aggregate-put-bytes-2 c = search needs
-
-put-bytes-requires-2 : tie.Need-put-bytes-requires-2
-put-bytes-requires-2 c κs = search needs
-
-same-length : tie.Need-same-length
-same-length c = search needs
-
 returns : tie.Need-returns
 returns c =
     let h = c .before .before .before .before .before .before .before .before .before .before .before .before .before .before .before .before .before .before .before .pre in
@@ -38,11 +17,5 @@ pub put-line-spec : {M : Type 1} → statement M
 put-line-spec =
     tie.close
     (tie.spec
-    put-arrow-requires
-    slice-aggregate-put-bytes
-    put-bytes-requires
-    put-label-requires
-    slice-aggregate-put-bytes-2
-    put-bytes-requires-2
-    same-length
-    returns)
+    (λ c κs. search needs) (λ c. search needs) (λ c κs. search needs) (λ c κs. search needs)
+    (λ c. search needs) (λ c κs. search needs) (λ c. search needs) returns)

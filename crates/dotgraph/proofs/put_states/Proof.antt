@@ -23,12 +23,6 @@ put-state-requires c κs =
     let room = fits (c .before .before .loop .inv) t in
     (omega (arith, h .0, t), room)
 
-add-q : tie.Need-add-q Inv-loop μ-loop
-add-q c = omega arith
-
-loop-less : tie.Need-loop-less Inv-loop μ-loop
-loop-less c = omega arith
-
 loop-again : tie.Need-loop-again Inv-loop μ-loop
 loop-again c =
     let w = c .before .before .put-state .ensures in
@@ -44,12 +38,5 @@ pub put-states-spec : {M : Type 1} → statement M
 put-states-spec =
     tie.close
     (tie.spec
-    Inv-loop
-    μ-loop
-    loop-holds
-    put-state-requires
-    add-q
-    loop-less
-    loop-again
-    same-length
-    returns)
+    Inv-loop μ-loop loop-holds put-state-requires (λ c. omega arith) (λ c. omega arith)
+    loop-again same-length returns)

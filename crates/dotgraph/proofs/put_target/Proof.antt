@@ -8,15 +8,6 @@ use borrow.Author.Needs.{needs}
 use Rattle.dotgraph.proofs.put_target.Statement.{statement}
 use Rattle.dotgraph.proofs.put_target.Tie as tie
 
-any-below-requires : tie.Need-any-below-requires
-any-below-requires c κs = search needs
-
-put-line-requires : tie.Need-put-line-requires
-put-line-requires c κs = search needs
-
-same-length : tie.Need-same-length
-same-length c = search needs
-
 returns : tie.Need-returns
 returns c =
     let a = c .before .before .before .before .before .before .before .args in
@@ -31,4 +22,6 @@ returns-2 c =
 
 pub put-target-spec : {M : Type 1} → statement M
 put-target-spec =
-    tie.close (tie.spec any-below-requires put-line-requires same-length returns returns-2)
+    tie.close
+    (tie.spec
+    (λ c κs. search needs) (λ c κs. search needs) (λ c. search needs) returns returns-2)

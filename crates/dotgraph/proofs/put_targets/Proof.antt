@@ -23,12 +23,6 @@ put-target-requires c κs =
     let room = fits (c .before .before .loop .inv) t in
     (h .1, h .2, omega (arith, h .0, t), room)
 
-add-t : tie.Need-add-t Inv-loop μ-loop
-add-t c = omega arith
-
-loop-less : tie.Need-loop-less Inv-loop μ-loop
-loop-less c = omega arith
-
 loop-again : tie.Need-loop-again Inv-loop μ-loop
 loop-again c =
     let w = c .before .before .put-target .ensures in
@@ -44,12 +38,5 @@ pub put-targets-spec : {M : Type 1} → statement M
 put-targets-spec =
     tie.close
     (tie.spec
-    Inv-loop
-    μ-loop
-    loop-holds
-    put-target-requires
-    add-t
-    loop-less
-    loop-again
-    same-length
-    returns)
+    Inv-loop μ-loop loop-holds put-target-requires (λ c. omega arith) (λ c. omega arith)
+    loop-again same-length returns)

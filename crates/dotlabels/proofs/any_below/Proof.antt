@@ -26,12 +26,6 @@ returns c =
     let a = c .before .before .before .before .args in
     sym (any-at (leads (a .targets .now) (a .k) (a .q .0) (a .t .0)) (a .end) (c .before .before .before .loop .s) (c .before .before .loop-test .taken) (sym (c .before .leads .ensures) ∙ c .if1 .taken))
 
-add-s : tie.Need-add-s Inv-loop μ-loop
-add-s c = omega arith
-
-loop-less : tie.Need-loop-less Inv-loop μ-loop
-loop-less c = omega arith
-
 loop-again : tie.Need-loop-again Inv-loop μ-loop
 loop-again c =
     let a = c .before .before .before .before .args in
@@ -48,12 +42,5 @@ pub any-below-spec : {M : Type 1} → statement M
 any-below-spec =
     tie.close
     (tie.spec
-    Inv-loop
-    μ-loop
-    loop-holds
-    leads-requires
-    returns
-    add-s
-    loop-less
-    loop-again
-    returns-2)
+    Inv-loop μ-loop loop-holds leads-requires returns (λ c. omega arith) (λ c. omega arith)
+    loop-again returns-2)

@@ -8,12 +8,6 @@ use borrow.Author.Needs.{needs}
 use Rattle.dotlabels.proofs.leads.Statement.{statement}
 use Rattle.dotlabels.proofs.leads.Tie as tie
 
-cell-requires : tie.Need-cell-requires
-cell-requires c κs = search needs
-
-member-requires : tie.Need-member-requires
-member-requires c κs = search needs
-
 returns : tie.Need-returns
 unfolding leads
 returns c =
@@ -25,4 +19,4 @@ unfolding leads
 returns-2 c = let a = c .before .args in rw (le-ltb (a .s) (a .k) (c .if1 .left))
 
 pub leads-spec : {M : Type 1} → statement M
-leads-spec = tie.close (tie.spec cell-requires member-requires returns returns-2)
+leads-spec = tie.close (tie.spec (λ c κs. search needs) (λ c κs. search needs) returns returns-2)

@@ -23,12 +23,6 @@ put-piece-requires c κs =
     let room = fits (c .before .before .loop .inv) t in
     (h .0, h .1, h .2, omega (arith, h .0, t), room)
 
-add-s : tie.Need-add-s Inv-loop μ-loop
-add-s c = omega arith
-
-loop-less : tie.Need-loop-less Inv-loop μ-loop
-loop-less c = omega arith
-
 loop-again : tie.Need-loop-again Inv-loop μ-loop
 loop-again c =
     let w = c .before .before .put-piece .ensures in
@@ -44,12 +38,5 @@ pub put-label-spec : {M : Type 1} → statement M
 put-label-spec =
     tie.close
     (tie.spec
-    Inv-loop
-    μ-loop
-    loop-holds
-    put-piece-requires
-    add-s
-    loop-less
-    loop-again
-    same-length
-    returns)
+    Inv-loop μ-loop loop-holds put-piece-requires (λ c. omega arith) (λ c. omega arith)
+    loop-again same-length returns)

@@ -8,9 +8,6 @@ use Rattle.dotlabels.proofs.put_number.Tie as tie
 put-decimal-requires : tie.Need-put-decimal-requires
 put-decimal-requires c κs = let s = c .before .before in omega (arith, decimal-most 1 (s .args .n) (s .pre .0))
 
-same-length : tie.Need-same-length
-same-length c = search needs
-
 returns : tie.Need-returns
 returns c =
     let s = c .before .before .before .before .before in
@@ -18,4 +15,4 @@ returns c =
     (w, omega (arith, w .ends, decimal-most 1 (s .args .n) (s .pre .0)))
 
 pub put-number-spec : {M : Type 1} → statement M
-put-number-spec = tie.close (tie.spec put-decimal-requires same-length returns)
+put-number-spec = tie.close (tie.spec put-decimal-requires (λ c. search needs) returns)

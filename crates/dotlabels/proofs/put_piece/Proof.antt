@@ -7,30 +7,6 @@ use borrow.Author.Needs.{needs}
 use Rattle.dotlabels.proofs.put_piece.Statement.{statement}
 use Rattle.dotlabels.proofs.put_piece.Tie as tie
 
-leads-requires : tie.Need-leads-requires
-leads-requires c κs = search needs
-
-earlier-requires : tie.Need-earlier-requires
-earlier-requires c κs = search needs
-
-add-leads : tie.Need-add-leads
-add-leads c = search needs
-
-leads-requires-2 : tie.Need-leads-requires-2
-leads-requires-2 c κs = search needs
-
-earlier-requires-2 : tie.Need-earlier-requires-2
-earlier-requires-2 c κs = search needs
-
-put-last-requires : tie.Need-put-last-requires
-put-last-requires c κs = search needs
-
-any-below-requires : tie.Need-any-below-requires
-any-below-requires c κs = search needs
-
-put-first-requires : tie.Need-put-first-requires
-put-first-requires c κs = search needs
-
 returns : tie.Need-returns
 returns c =
     let a = c .before .before .before .before .before .before .before .args in
@@ -41,9 +17,6 @@ returns c =
     (sym (c .before .leads2 .ensures) ∙ c .if3 .taken) in
     rw e (nothing (a .out .now) (a .at) 3)
 
-same-length : tie.Need-same-length
-same-length c = search needs
-
 returns-2 : tie.Need-returns-2
 returns-2 c =
     let a = c .before .before .before .before .before .before .before .before .before .before .before .before .args in
@@ -53,9 +26,6 @@ returns-2 c =
     (sym (c .before .before .before .before .before .before .before .before .earlier .ensures) ∙ c .before .before .before .before .before .before .before .if2 .taken)
     (sym (c .before .before .before .before .before .before .leads2 .ensures) ∙ c .before .before .before .before .before .if3 .left) in
     rw e (rw (c .before .before .before .earlier2 .ensures) at (c .before .before .put-last .ensures))
-
-same-length-2 : tie.Need-same-length-2
-same-length-2 c = search needs
 
 returns-3 : tie.Need-returns-3
 returns-3 c =
@@ -76,17 +46,6 @@ pub put-piece-spec : {M : Type 1} → statement M
 put-piece-spec =
     tie.close
     (tie.spec
-    leads-requires
-    earlier-requires
-    add-leads
-    leads-requires-2
-    earlier-requires-2
-    put-last-requires
-    any-below-requires
-    put-first-requires
-    returns
-    same-length
-    returns-2
-    same-length-2
-    returns-3
-    returns-4)
+    (λ c κs. search needs) (λ c κs. search needs) (λ c. search needs) (λ c κs. search needs)
+    (λ c κs. search needs) (λ c κs. search needs) (λ c κs. search needs) (λ c κs. search needs)
+    returns (λ c. search needs) returns-2 (λ c. search needs) returns-3 returns-4)

@@ -10,20 +10,8 @@ use borrow.Author.Needs.{needs}
 use Rattle.dottext.proofs.print_whole.Statement.{statement}
 use Rattle.dottext.proofs.print_whole.Tie as tie
 
-read-requires : tie.Need-read-requires
-read-requires c κs = search needs
-
 enum-told : tie.Need-enum-told
 enum-told c = search needs
-
-put-dot-requires : tie.Need-put-dot-requires
-put-dot-requires c κs = search needs
-
-enum-known-answer : tie.Need-enum-known-answer
-enum-known-answer c = search needs
-
-same-length : tie.Need-same-length
-same-length c = search needs
 
 returns : tie.Need-returns
 returns c =
@@ -47,10 +35,5 @@ pub print-whole-spec : {M : Type 1} → statement M
 print-whole-spec =
     tie.close
     (tie.spec
-    read-requires
-    enum-told
-    put-dot-requires
-    enum-known-answer
-    same-length
-    returns
-    returns-2)
+    (λ c κs. search needs) enum-told (λ c κs. search needs) (λ c. search needs)
+    (λ c. search needs) returns returns-2)

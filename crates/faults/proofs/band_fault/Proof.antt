@@ -34,20 +34,8 @@ loop-holds c = (omega arith, omega arith, c .before .pre .0, refl)
 add-end : tie.Need-add-end Inv-loop μ-loop
 add-end c = omega (arith, fits c)
 
-sub-set-after : tie.Need-sub-set-after Inv-loop μ-loop
-sub-set-after c = omega arith
-
-part-set-after-start : tie.Need-part-set-after-start Inv-loop μ-loop
-part-set-after-start c = omega arith
-
 part-set-after-end : tie.Need-part-set-after-end Inv-loop μ-loop
 part-set-after-end c = omega (arith, fits (c .before .before))
-
-set-after-requires : tie.Need-set-after-requires Inv-loop μ-loop
-set-after-requires c κs = search needs
-
-meets-requires : tie.Need-meets-requires Inv-loop μ-loop
-meets-requires c κs = search needs
 
 cast-t20 : tie.Need-cast-t20 Inv-loop μ-loop
 cast-t20 c = omega (arith, c .before .before .before .before .before .before .before .before .before .pre .1)
@@ -59,12 +47,6 @@ returns c =
     let a = start .before .before .before .args in
     wrong (a .width) (a .rows) (a .from) (a .cells .now) (x .inv .2) (a .t1) (a .band) (x .i) (x .at) (x .inv .1) (start .loop-test .taken) (x .inv .3)
     _ (c .before .before .set-after .ensures) _ (c .before .meets .ensures) (c .if1 .taken)
-
-add-i : tie.Need-add-i Inv-loop μ-loop
-add-i c = omega arith
-
-loop-less : tie.Need-loop-less Inv-loop μ-loop
-loop-less c = omega arith
 
 loop-again : tie.Need-loop-again Inv-loop μ-loop
 loop-again c =
@@ -88,18 +70,6 @@ pub band-fault-spec : {M : Type 1} → statement M
 band-fault-spec =
     tie.close
     (tie.spec
-    Inv-loop
-    μ-loop
-    loop-holds
-    add-end
-    sub-set-after
-    part-set-after-start
-    part-set-after-end
-    set-after-requires
-    meets-requires
-    cast-t20
-    returns
-    add-i
-    loop-less
-    loop-again
-    returns-2)
+    Inv-loop μ-loop loop-holds add-end (λ c. omega arith) (λ c. omega arith) part-set-after-end
+    (λ c κs. search needs) (λ c κs. search needs) cast-t20 returns (λ c. omega arith)
+    (λ c. omega arith) loop-again returns-2)

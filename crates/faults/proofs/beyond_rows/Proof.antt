@@ -5,23 +5,8 @@ use Rattle.faults.proofs.Ways.{fault-found, fault-open}
 use Rattle.faults.proofs.beyond_rows.Statement.{statement}
 use Rattle.faults.proofs.beyond_rows.Tie as tie
 
-before-empty-requires : tie.Need-before-empty-requires
-before-empty-requires c κs = search needs
-
-slice-aggregate-column-fault : tie.Need-slice-aggregate-column-fault
-slice-aggregate-column-fault c = search needs
-
-column-fault-requires : tie.Need-column-fault-requires
-column-fault-requires c κs = search needs
-
-enum-known-found : tie.Need-enum-known-found
-enum-known-found c = search needs
-
 enum-told : tie.Need-enum-told
 enum-told c = search needs
-
-cast-t17 : tie.Need-cast-t17
-cast-t17 c = search needs
 
 returns : tie.Need-returns
 returns c =
@@ -41,11 +26,5 @@ pub beyond-rows-spec : {M : Type 1} → statement M
 beyond-rows-spec =
     tie.close
     (tie.spec
-    before-empty-requires
-    slice-aggregate-column-fault
-    column-fault-requires
-    enum-known-found
-    enum-told
-    cast-t17
-    returns
-    returns-2)
+    (λ c κs. search needs) (λ c. search needs) (λ c κs. search needs) (λ c. search needs)
+    enum-told (λ c. search needs) returns returns-2)

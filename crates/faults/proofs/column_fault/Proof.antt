@@ -21,9 +21,6 @@ Inv-loop cells rows width bands full rule live short₀ c₀ short c =
 abbrev μ-loop : tie.MeasureT-loop
 μ-loop cells rows width bands full rule live short₀ c₀ short c = width - c
 
-live-states-requires : tie.Need-live-states-requires Inv-loop μ-loop
-live-states-requires c κs = search needs
-
 loop-holds : tie.Need-loop-holds Inv-loop μ-loop
 unfolding firstFound
 loop-holds c = (omega arith, c .live-states .ensures, refl, refl)
@@ -33,9 +30,6 @@ walk-column-requires c κs =
     let start = c .before .before .before .before .before .before .before .before in
     (start .pre .0, start .pre .1, start .pre .2, c .before .before .loop-test .taken)
 
-enum-known-walk : tie.Need-enum-known-walk Inv-loop μ-loop
-enum-known-walk c = search needs
-
 returns : tie.Need-returns Inv-loop μ-loop
 returns c =
     let walk = c .before .before .before in
@@ -44,20 +38,8 @@ returns c =
     lost-or-short (a .t1) (bandIn (a .width) (a .rows .now) (a .cells .now)) (a .width) (a .bands) (x .c) (x .inv .2) _ (x .inv .1) _ (walk .walk-column .ensures)
     (walk .before .before .before .loop-test .taken) _ (c .before .walk .given .1) (a .full)
 
-enum-known-walk-2 : tie.Need-enum-known-walk-2 Inv-loop μ-loop
-enum-known-walk-2 c = search needs
-
 cast-or-short : tie.Need-cast-or-short Inv-loop μ-loop
 cast-or-short c = omega (arith, c .before .before .before .before .before .before .before .before .before .before .before .before .pre)
-
-or-short-requires : tie.Need-or-short-requires Inv-loop μ-loop
-or-short-requires c κs = search needs
-
-add-c : tie.Need-add-c Inv-loop μ-loop
-add-c c = omega arith
-
-loop-less : tie.Need-loop-less Inv-loop μ-loop
-loop-less c = omega arith
 
 loop-again : tie.Need-loop-again Inv-loop μ-loop
 loop-again c =
@@ -89,18 +71,6 @@ pub column-fault-spec : {M : Type 1} → statement M
 column-fault-spec =
     tie.close
     (tie.spec
-    Inv-loop
-    μ-loop
-    live-states-requires
-    loop-holds
-    walk-column-requires
-    enum-known-walk
-    returns
-    enum-known-walk-2
-    cast-or-short
-    or-short-requires
-    add-c
-    loop-less
-    loop-again
-    returns-2
-    returns-3)
+    Inv-loop μ-loop (λ c κs. search needs) loop-holds walk-column-requires (λ c. search needs)
+    returns (λ c. search needs) cast-or-short (λ c κs. search needs) (λ c. omega arith)
+    (λ c. omega arith) loop-again returns-2 returns-3)

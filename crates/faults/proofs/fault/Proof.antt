@@ -7,26 +7,8 @@ use Rattle.faults.proofs.fault.Tie as tie
 returns : tie.Need-returns
 returns c = fault-21 (c .before .before .before .args .tray) (c .if1 .taken)
 
-width-of-requires : tie.Need-width-of-requires
-width-of-requires c κs = search needs
-
-bands-of-requires : tie.Need-bands-of-requires
-bands-of-requires c κs = search needs
-
-slice-aggregate-row-fault : tie.Need-slice-aggregate-row-fault
-slice-aggregate-row-fault c = search needs
-
-row-fault-requires : tie.Need-row-fault-requires
-row-fault-requires c κs = search needs
-
-enum-known-found : tie.Need-enum-known-found
-enum-known-found c = search needs
-
 enum-told : tie.Need-enum-told
 enum-told c = search needs
-
-beyond-rows-requires : tie.Need-beyond-rows-requires
-beyond-rows-requires c κs = search needs
 
 returns-2 : tie.Need-returns-2
 returns-2 c =
@@ -49,13 +31,6 @@ pub fault-spec : {M : Type 1} → statement M
 fault-spec =
     tie.close
     (tie.spec
-    returns
-    width-of-requires
-    bands-of-requires
-    slice-aggregate-row-fault
-    row-fault-requires
-    enum-known-found
-    enum-told
-    beyond-rows-requires
-    returns-2
+    returns (λ c κs. search needs) (λ c κs. search needs) (λ c. search needs)
+    (λ c κs. search needs) (λ c. search needs) enum-told (λ c κs. search needs) returns-2
     returns-3)

@@ -4,14 +4,8 @@ use Rattle.faults.proofs.Ways.{short-was, short-not, short-now}
 use Rattle.faults.proofs.or_short.Statement.{statement}
 use Rattle.faults.proofs.or_short.Tie as tie
 
-enum-known-earlier : tie.Need-enum-known-earlier
-enum-known-earlier c = search needs
-
 enum-told : tie.Need-enum-told
 enum-told c = search needs
-
-meets-requires : tie.Need-meets-requires
-meets-requires c κs = search needs
 
 returns : tie.Need-returns
 returns c = short-was _ _ _ (c .before .earlier .given .1)
@@ -28,4 +22,6 @@ returns-3 c =
 
 pub or-short-spec : {M : Type 1} → statement M
 or-short-spec =
-    tie.close (tie.spec enum-known-earlier enum-told meets-requires returns returns-2 returns-3)
+    tie.close
+    (tie.spec
+    (λ c. search needs) enum-told (λ c κs. search needs) returns returns-2 returns-3)

@@ -24,15 +24,6 @@ loop-holds : tie.Need-loop-holds Inv-loop μ-loop
 unfolding firstFound
 loop-holds c = (omega arith, refl)
 
-row-count-requires : tie.Need-row-count-requires Inv-loop μ-loop
-row-count-requires c κs = search needs
-
-mul-band-fault : tie.Need-mul-band-fault Inv-loop μ-loop
-mul-band-fault c = omega arith
-
-cast-band-fault : tie.Need-cast-band-fault Inv-loop μ-loop
-cast-band-fault c = omega arith
-
 band-fault-requires : tie.Need-band-fault-requires Inv-loop μ-loop
 band-fault-requires c κs =
     let start = c .before .before .before .before in (
@@ -40,9 +31,6 @@ band-fault-requires c κs =
           (c .row-count .ensures .1) (start .pre .1) (start .pre .0),
       c .row-count .ensures .1,
     )
-
-enum-known-found : tie.Need-enum-known-found Inv-loop μ-loop
-enum-known-found c = search needs
 
 returns : tie.Need-returns Inv-loop μ-loop
 returns c =
@@ -55,12 +43,6 @@ returns c =
 
 enum-told : tie.Need-enum-told Inv-loop μ-loop
 enum-told c = search needs
-
-add-p : tie.Need-add-p Inv-loop μ-loop
-add-p c = omega arith
-
-loop-less : tie.Need-loop-less Inv-loop μ-loop
-loop-less c = omega arith
 
 loop-again : tie.Need-loop-again Inv-loop μ-loop
 loop-again c =
@@ -82,17 +64,6 @@ pub row-fault-spec : {M : Type 1} → statement M
 row-fault-spec =
     tie.close
     (tie.spec
-    Inv-loop
-    μ-loop
-    loop-holds
-    row-count-requires
-    mul-band-fault
-    cast-band-fault
-    band-fault-requires
-    enum-known-found
-    returns
-    enum-told
-    add-p
-    loop-less
-    loop-again
-    returns-2)
+    Inv-loop μ-loop loop-holds (λ c κs. search needs) (λ c. omega arith) (λ c. omega arith)
+    band-fault-requires (λ c. search needs) returns enum-told (λ c. omega arith)
+    (λ c. omega arith) loop-again returns-2)

@@ -40,12 +40,6 @@ add-successor c = omega (arith, fits c)
 shared-slice-read-successor : tie.Need-shared-slice-read-successor Inv-loop μ-loop
 shared-slice-read-successor c = omega (arith, fits (c .before))
 
-successor-requires : tie.Need-successor-requires Inv-loop μ-loop
-successor-requires c κs = search needs
-
-meets-requires : tie.Need-meets-requires Inv-loop μ-loop
-meets-requires c κs = search needs
-
 cast-t18 : tie.Need-cast-t18 Inv-loop μ-loop
 cast-t18 c = omega (arith, c .before .before .before .before .before .before .before .pre)
 
@@ -62,12 +56,6 @@ returns c =
 
 add-at : tie.Need-add-at Inv-loop μ-loop
 add-at c = omega (arith, fits (c .before .before .before .before))
-
-add-i : tie.Need-add-i Inv-loop μ-loop
-add-i c = omega arith
-
-loop-less : tie.Need-loop-less Inv-loop μ-loop
-loop-less c = omega arith
 
 loop-again : tie.Need-loop-again Inv-loop μ-loop
 loop-again c =
@@ -95,18 +83,6 @@ pub walk-band-spec : {M : Type 1} → statement M
 walk-band-spec =
     tie.close
     (tie.spec
-    Inv-loop
-    μ-loop
-    loop-holds
-    add-successor
-    shared-slice-read-successor
-    successor-requires
-    meets-requires
-    cast-t18
-    cast-t19
-    returns
-    add-at
-    add-i
-    loop-less
-    loop-again
-    returns-2)
+    Inv-loop μ-loop loop-holds add-successor shared-slice-read-successor (λ c κs. search needs)
+    (λ c κs. search needs) cast-t18 cast-t19 returns add-at (λ c. omega arith)
+    (λ c. omega arith) loop-again returns-2)

@@ -25,9 +25,6 @@ Inv-loop targets live initials cells rows width bands column reached₀ p₀ rea
 abbrev μ-loop : tie.MeasureT-loop
 μ-loop targets live initials cells rows width bands column reached₀ p₀ reached p = bands - p
 
-meets-requires : tie.Need-meets-requires Inv-loop μ-loop
-meets-requires c κs = search needs
-
 cast-t17 : tie.Need-cast-t17 Inv-loop μ-loop
 cast-t17 c = omega (arith, c .before .before .before .pre)
 
@@ -40,15 +37,6 @@ loop-holds : tie.Need-loop-holds Inv-loop μ-loop
 unfolding firstFound rowsUpTo columnOf
 loop-holds c = (omega arith, refl, refl)
 
-row-count-requires : tie.Need-row-count-requires Inv-loop μ-loop
-row-count-requires c κs = search needs
-
-mul-walk-band : tie.Need-mul-walk-band Inv-loop μ-loop
-mul-walk-band c = omega arith
-
-cast-walk-band : tie.Need-cast-walk-band Inv-loop μ-loop
-cast-walk-band c = omega arith
-
 walk-band-requires : tie.Need-walk-band-requires Inv-loop μ-loop
 walk-band-requires c κs =
     let start = c .before .before .before .before .before .before in (
@@ -58,9 +46,6 @@ walk-band-requires c κs =
       start .pre .1,
       start .pre .3,
     )
-
-enum-known-walk : tie.Need-enum-known-walk Inv-loop μ-loop
-enum-known-walk c = search needs
 
 returns-2 : tie.Need-returns-2 Inv-loop μ-loop
 returns-2 c =
@@ -74,15 +59,6 @@ returns-2 c =
     column-lost (a .targets .now) (a .live) (a .column) (a .initials) at (a .bands) _ (if1 .before .meets .ensures) (if1 .if1 .left) _
     (first-here _ (a .bands) (x .p) _ (walk .before .before .loop-test .taken) (x .inv .2) (way-stuck _ _ _ is _ (c .before .walk .given .1)))
     _
-
-enum-known-walk-2 : tie.Need-enum-known-walk-2 Inv-loop μ-loop
-enum-known-walk-2 c = search needs
-
-add-p : tie.Need-add-p Inv-loop μ-loop
-add-p c = omega arith
-
-loop-less : tie.Need-loop-less Inv-loop μ-loop
-loop-less c = omega arith
 
 loop-again : tie.Need-loop-again Inv-loop μ-loop
 loop-again c =
@@ -110,20 +86,6 @@ pub walk-column-spec : {M : Type 1} → statement M
 walk-column-spec =
     tie.close
     (tie.spec
-    Inv-loop
-    μ-loop
-    meets-requires
-    cast-t17
-    returns
-    loop-holds
-    row-count-requires
-    mul-walk-band
-    cast-walk-band
-    walk-band-requires
-    enum-known-walk
-    returns-2
-    enum-known-walk-2
-    add-p
-    loop-less
-    loop-again
-    returns-3)
+    Inv-loop μ-loop (λ c κs. search needs) cast-t17 returns loop-holds (λ c κs. search needs)
+    (λ c. omega arith) (λ c. omega arith) walk-band-requires (λ c. search needs) returns-2
+    (λ c. search needs) (λ c. omega arith) (λ c. omega arith) loop-again returns-3)

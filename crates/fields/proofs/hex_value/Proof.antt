@@ -24,9 +24,6 @@ returns-3 c =
     let b = c .before .before .before .args .c in
     rw (within-high 48 57 b (omega arith), within-low 65 70 b (omega arith), within-low 97 102 b (omega arith))
 
-sub-result : tie.Need-sub-result
-sub-result c = search needs
-
 returns-4 : tie.Need-returns-4
 unfolding hexValue
 returns-4 c =
@@ -38,9 +35,6 @@ unfolding hexValue
 returns-5 c =
     let b = c .before .before .before .before .before .args .c in
     rw (within-high 48 57 b (omega arith), within-high 65 70 b (omega arith), within-low 97 102 b (omega arith))
-
-sub-result-2 : tie.Need-sub-result-2
-sub-result-2 c = search needs
 
 returns-6 : tie.Need-returns-6
 unfolding hexValue
@@ -57,4 +51,6 @@ returns-7 c =
 pub hex-value-spec : {M : Type 1} → statement M
 hex-value-spec =
     tie.close
-    (tie.spec returns returns-2 returns-3 sub-result returns-4 returns-5 sub-result-2 returns-6 returns-7)
+    (tie.spec
+    returns returns-2 returns-3 (λ c. search needs) returns-4 returns-5 (λ c. search needs)
+    returns-6 returns-7)

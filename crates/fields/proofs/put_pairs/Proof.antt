@@ -26,38 +26,14 @@ abbrev μ-loop : tie.MeasureT-loop
 loop-holds : tie.Need-loop-holds Inv-loop μ-loop
 loop-holds c = let a = c .before .before .args in (omega arith, c .before .before .pre, omega arith, refl, wrote-none (a .out .now) 0)
 
-mul-if1 : tie.Need-mul-if1 Inv-loop μ-loop
-mul-if1 c = search needs
-
-sub-if1 : tie.Need-sub-if1 Inv-loop μ-loop
-sub-if1 c = search needs
-
-same-length : tie.Need-same-length Inv-loop μ-loop
-same-length c = search needs
-
 returns : tie.Need-returns Inv-loop μ-loop
 returns c =
     let l = c .before .before .loop in
     let a = c .before .before .before .before .before .args in
     rw (pairs-all (a .field .now) (l .i) (length (a .out .now)) (c .if1 .taken) (l .inv .2)) (l .inv .4)
 
-mul-hex-value : tie.Need-mul-hex-value Inv-loop μ-loop
-mul-hex-value c = search needs
-
-shared-slice-read-hex-value : tie.Need-shared-slice-read-hex-value Inv-loop μ-loop
-shared-slice-read-hex-value c = search needs
-
 hex-value-requires : tie.Need-hex-value-requires Inv-loop μ-loop
 hex-value-requires c κs = tt
-
-mul-hex-value-2 : tie.Need-mul-hex-value-2 Inv-loop μ-loop
-mul-hex-value-2 c = search needs
-
-add-hex-value : tie.Need-add-hex-value Inv-loop μ-loop
-add-hex-value c = search needs
-
-shared-slice-read-hex-value-2 : tie.Need-shared-slice-read-hex-value-2 Inv-loop μ-loop
-shared-slice-read-hex-value-2 c = search needs
 
 hex-value-requires-2 : tie.Need-hex-value-requires-2 Inv-loop μ-loop
 hex-value-requires-2 c κs = tt
@@ -76,15 +52,6 @@ add-out c =
     let high = hex-at (a .field .now) (l .inv .1) (2 * l .i) (omega arith) in
     let low = hex-at (a .field .now) (l .inv .1) (2 * l .i + 1) (omega arith) in
     omega (arith, high, low, c .before .before .hex-value .ensures, c .hex-value2 .ensures)
-
-slice-write-out : tie.Need-slice-write-out Inv-loop μ-loop
-slice-write-out c = search needs
-
-add-i : tie.Need-add-i Inv-loop μ-loop
-add-i c = search needs
-
-loop-less : tie.Need-loop-less Inv-loop μ-loop
-loop-less c = search needs
 
 loop-again : tie.Need-loop-again Inv-loop μ-loop
 loop-again c =
@@ -106,9 +73,6 @@ loop-again c =
           (wrote-more (a .out .now) 0 (take (l .i) (pairs w)) (b ∷ []) (omega (arith, l .inv)) (l .out) (set (l .out) (l .i) b) (l .i) (l .i + 1) (l .inv .4) (wrote-byte (l .out) (l .i) b (omega (arith, l .inv)))),
     )
 
-same-length-2 : tie.Need-same-length-2 Inv-loop μ-loop
-same-length-2 c = search needs
-
 returns-2 : tie.Need-returns-2 Inv-loop μ-loop
 returns-2 c =
     let l = c .before .loop in
@@ -120,25 +84,8 @@ pub put-pairs-spec : {M : Type 1} → statement M
 put-pairs-spec =
     tie.close
     (tie.spec
-    Inv-loop
-    μ-loop
-    loop-holds
-    mul-if1
-    sub-if1
-    same-length
-    returns
-    mul-hex-value
-    shared-slice-read-hex-value
-    hex-value-requires
-    mul-hex-value-2
-    add-hex-value
-    shared-slice-read-hex-value-2
-    hex-value-requires-2
-    mul-out
-    add-out
-    slice-write-out
-    add-i
-    loop-less
-    loop-again
-    same-length-2
+    Inv-loop μ-loop loop-holds (λ c. search needs) (λ c. search needs) (λ c. search needs)
+    returns (λ c. search needs) (λ c. search needs) hex-value-requires (λ c. search needs)
+    (λ c. search needs) (λ c. search needs) hex-value-requires-2 mul-out add-out
+    (λ c. search needs) (λ c. search needs) (λ c. search needs) loop-again (λ c. search needs)
     returns-2)

@@ -5,9 +5,6 @@ use Rattle.fields.proofs.Pairs.{took-dash, took-stray, took-empty, took
 use Rattle.fields.proofs.read_bytes.Statement.{statement}
 use Rattle.fields.proofs.read_bytes.Tie as tie
 
-shared-slice-read-if2 : tie.Need-shared-slice-read-if2
-shared-slice-read-if2 c = search needs
-
 returns : tie.Need-returns
 returns c = let a = c .before .before .before .before .before .args in took-dash (a .field .now) (a .out .now) (c .before .before .if1 .taken) (c .if2 .taken)
 
@@ -20,14 +17,8 @@ returns-3 c = let a = c .before .before .before .before .args in took-empty (a .
 returns-4 : tie.Need-returns-4
 returns-4 c = let a = c .before .before .before .before .before .args in took-odd (a .field .now) (a .out .now) (c .before .before .if1 .left) (c .if4 .taken)
 
-all-hex-requires : tie.Need-all-hex-requires
-all-hex-requires c κs = search needs
-
 put-pairs-requires : tie.Need-put-pairs-requires
 put-pairs-requires c κs = sym (c .before .before .all-hex .ensures) ∙ c .before .if5 .taken
-
-same-length : tie.Need-same-length
-same-length c = search needs
 
 returns-5 : tie.Need-returns-5
 returns-5 c =
@@ -45,13 +36,5 @@ pub read-bytes-spec : {M : Type 1} → statement M
 read-bytes-spec =
     tie.close
     (tie.spec
-    shared-slice-read-if2
-    returns
-    returns-2
-    returns-3
-    returns-4
-    all-hex-requires
-    put-pairs-requires
-    same-length
-    returns-5
-    returns-6)
+    (λ c. search needs) returns returns-2 returns-3 returns-4 (λ c κs. search needs)
+    put-pairs-requires (λ c. search needs) returns-5 returns-6)

@@ -25,9 +25,6 @@ returns-2 c = sym (said-long (c .before .before .args .field .now) (c .if2 .take
 loop-holds : tie.Need-loop-holds Inv-loop μ-loop
 loop-holds c = (search needs, omega arith, said-whole (c .before .before .args .field .now) (omega arith) (c .if2 .left))
 
-shared-slice-read-c : tie.Need-shared-slice-read-c Inv-loop μ-loop
-shared-slice-read-c c = search needs
-
 returns-3 : tie.Need-returns-3 Inv-loop μ-loop
 returns-3 c =
     let l = c .before .before .before .loop in
@@ -42,9 +39,6 @@ returns-4 c =
     let here = c .before .before .before .loop-test .taken in
     sym (l .inv .2 ∙ said-high w (l .value) (l .i) here (c .if4 .taken))
 
-cast-digit : tie.Need-cast-digit Inv-loop μ-loop
-cast-digit c = search needs
-
 returns-5 : tie.Need-returns-5 Inv-loop μ-loop
 returns-5 c =
     let l = c .before .before .before .before .before .loop in
@@ -54,12 +48,6 @@ returns-5 c =
     let high = c .before .if4 .left in
     sym (l .inv .2 ∙ said-digit w (l .value) (l .i) here low high ∙ said-over (10 * l .value + (getD w (l .i) 0 - 48)) (drop (l .i + 1) w) (omega arith))
 
-mul-if6 : tie.Need-mul-if6 Inv-loop μ-loop
-mul-if6 c = search needs
-
-sub-if6 : tie.Need-sub-if6 Inv-loop μ-loop
-sub-if6 c = search needs
-
 returns-6 : tie.Need-returns-6 Inv-loop μ-loop
 returns-6 c =
     let l = c .before .before .before .before .before .before .loop in
@@ -68,18 +56,6 @@ returns-6 c =
     let low = c .before .before .before .if3 .left in
     let high = c .before .before .if4 .left in
     sym (l .inv .2 ∙ said-digit w (l .value) (l .i) here low high ∙ said-over (10 * l .value + (getD w (l .i) 0 - 48)) (drop (l .i + 1) w) (omega arith))
-
-mul-value : tie.Need-mul-value Inv-loop μ-loop
-mul-value c = search needs
-
-add-value : tie.Need-add-value Inv-loop μ-loop
-add-value c = search needs
-
-add-i : tie.Need-add-i Inv-loop μ-loop
-add-i c = search needs
-
-loop-less : tie.Need-loop-less Inv-loop μ-loop
-loop-less c = search needs
 
 loop-again : tie.Need-loop-again Inv-loop μ-loop
 loop-again c =
@@ -99,22 +75,7 @@ pub read-number-spec : {M : Type 1} → statement M
 read-number-spec =
     tie.close
     (tie.spec
-    Inv-loop
-    μ-loop
-    returns
-    returns-2
-    loop-holds
-    shared-slice-read-c
-    returns-3
-    returns-4
-    cast-digit
-    returns-5
-    mul-if6
-    sub-if6
-    returns-6
-    mul-value
-    add-value
-    add-i
-    loop-less
-    loop-again
+    Inv-loop μ-loop returns returns-2 loop-holds (λ c. search needs) returns-3 returns-4
+    (λ c. search needs) returns-5 (λ c. search needs) (λ c. search needs) returns-6
+    (λ c. search needs) (λ c. search needs) (λ c. search needs) (λ c. search needs) loop-again
     returns-7)

@@ -6,23 +6,8 @@ use Rattle.follow.proofs.Ways.{unchecked, checked}
 use Rattle.follow.proofs.follow.Statement.{statement}
 use Rattle.follow.proofs.follow.Tie as tie
 
-check-rule-requires : tie.Need-check-rule-requires
-check-rule-requires c κs = search needs
-
-enum-known-checked : tie.Need-enum-known-checked
-enum-known-checked c = search needs
-
-refuse-requires : tie.Need-refuse-requires
-refuse-requires c κs = search needs
-
 enum-told : tie.Need-enum-told
 enum-told c = search needs
-
-live-states-requires : tie.Need-live-states-requires
-live-states-requires c κs = search needs
-
-follow-lent-requires : tie.Need-follow-lent-requires
-follow-lent-requires c κs = search needs
 
 returns : tie.Need-returns
 returns c =
@@ -43,11 +28,5 @@ pub follow-spec : {M : Type 1} → statement M
 follow-spec =
     tie.close
     (tie.spec
-    check-rule-requires
-    enum-known-checked
-    refuse-requires
-    enum-told
-    live-states-requires
-    follow-lent-requires
-    returns
-    returns-2)
+    (λ c κs. search needs) (λ c. search needs) (λ c κs. search needs) enum-told
+    (λ c κs. search needs) (λ c κs. search needs) returns returns-2)

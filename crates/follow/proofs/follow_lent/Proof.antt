@@ -6,19 +6,10 @@ use Rattle.follow.proofs.Ways.{long, strange, whole}
 use Rattle.follow.proofs.follow_lent.Statement.{statement}
 use Rattle.follow.proofs.follow_lent.Tie as tie
 
-refuse-requires : tie.Need-refuse-requires
-refuse-requires c κs = search needs
-
 returns : tie.Need-returns
 returns c =
     let a = c .before .before .before .args in
     long (a .targets .now) (a .finals) (a .live) (a .k) (a .set) (a .chunk .now) _ (c .before .if1 .taken) (c .refuse .ensures)
-
-has-stray-requires : tie.Need-has-stray-requires
-has-stray-requires c κs = search needs
-
-refuse-requires-2 : tie.Need-refuse-requires-2
-refuse-requires-2 c κs = search needs
 
 returns-2 : tie.Need-returns-2
 returns-2 c =
@@ -26,18 +17,6 @@ returns-2 c =
     strange (a .targets .now) (a .finals) (a .live) (a .k) (a .set) (a .chunk .now) _ (c .before .before .before .if1 .left)
     (sym (c .before .before .has-stray .ensures) ∙ c .before .if2 .taken)
     (c .refuse2 .ensures)
-
-walk-requires : tie.Need-walk-requires
-walk-requires c κs = search needs
-
-next-symbols-requires : tie.Need-next-symbols-requires
-next-symbols-requires c κs = search needs
-
-meets-requires : tie.Need-meets-requires
-meets-requires c κs = search needs
-
-meets-requires-2 : tie.Need-meets-requires-2
-meets-requires-2 c κs = search needs
 
 returns-3 : tie.Need-returns-3
 returns-3 c =
@@ -51,13 +30,6 @@ pub follow-lent-spec : {M : Type 1} → statement M
 follow-lent-spec =
     tie.close
     (tie.spec
-    refuse-requires
-    returns
-    has-stray-requires
-    refuse-requires-2
-    returns-2
-    walk-requires
-    next-symbols-requires
-    meets-requires
-    meets-requires-2
+    (λ c κs. search needs) returns (λ c κs. search needs) (λ c κs. search needs) returns-2
+    (λ c κs. search needs) (λ c κs. search needs) (λ c κs. search needs) (λ c κs. search needs)
     returns-3)

@@ -24,18 +24,6 @@ abbrev μ-loop : tie.MeasureT-loop
 loop-holds : tie.Need-loop-holds Inv-loop μ-loop
 loop-holds c = (search needs, sym (stray-none (c .before .args .k)))
 
-shared-slice-read-is-stray : tie.Need-shared-slice-read-is-stray Inv-loop μ-loop
-shared-slice-read-is-stray c = search needs
-
-is-stray-requires : tie.Need-is-stray-requires Inv-loop μ-loop
-is-stray-requires c κs = search needs
-
-add-i : tie.Need-add-i Inv-loop μ-loop
-add-i c = search needs
-
-loop-less : tie.Need-loop-less Inv-loop μ-loop
-loop-less c = search needs
-
 loop-again : tie.Need-loop-again Inv-loop μ-loop
 loop-again c =
     let l = c .before .before .before .before .loop in
@@ -59,12 +47,5 @@ pub has-stray-spec : {M : Type 1} → statement M
 has-stray-spec =
     tie.close
     (tie.spec
-    Inv-loop
-    μ-loop
-    loop-holds
-    shared-slice-read-is-stray
-    is-stray-requires
-    add-i
-    loop-less
-    loop-again
-    returns)
+    Inv-loop μ-loop loop-holds (λ c. search needs) (λ c κs. search needs) (λ c. search needs)
+    (λ c. search needs) loop-again returns)

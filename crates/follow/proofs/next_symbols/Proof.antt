@@ -20,30 +20,9 @@ Inv-loop targets live k set most mask₀ s₀ mask s = (most ≡ min k 16) × (s
 abbrev μ-loop : tie.MeasureT-loop
 μ-loop targets live k set most mask₀ s₀ mask s = most - s
 
-at-most-u8-requires : tie.Need-at-most-u8-requires Inv-loop μ-loop
-at-most-u8-requires c κs = search needs
-
 loop-holds : tie.Need-loop-holds Inv-loop μ-loop
 unfolding maskOf
 loop-holds c = (c .at-most-u8 .ensures, omega arith, refl)
-
-successor-requires : tie.Need-successor-requires Inv-loop μ-loop
-successor-requires c κs = search needs
-
-meets-requires : tie.Need-meets-requires Inv-loop μ-loop
-meets-requires c κs = search needs
-
-cast-only-symbol : tie.Need-cast-only-symbol Inv-loop μ-loop
-cast-only-symbol c = search needs
-
-only-symbol-requires : tie.Need-only-symbol-requires Inv-loop μ-loop
-only-symbol-requires c κs = search needs
-
-add-s : tie.Need-add-s Inv-loop μ-loop
-add-s c = search needs
-
-loop-less : tie.Need-loop-less Inv-loop μ-loop
-loop-less c = search needs
 
 loop-again : tie.Need-loop-again Inv-loop μ-loop
 loop-again c =
@@ -71,15 +50,6 @@ pub next-symbols-spec : {M : Type 1} → statement M
 next-symbols-spec =
     tie.close
     (tie.spec
-    Inv-loop
-    μ-loop
-    at-most-u8-requires
-    loop-holds
-    successor-requires
-    meets-requires
-    cast-only-symbol
-    only-symbol-requires
-    add-s
-    loop-less
-    loop-again
-    returns)
+    Inv-loop μ-loop (λ c κs. search needs) loop-holds (λ c κs. search needs)
+    (λ c κs. search needs) (λ c. search needs) (λ c κs. search needs) (λ c. search needs)
+    (λ c. search needs) loop-again returns)

@@ -8,20 +8,8 @@ use Rattle.follow.proofs.Ways.{told, told-refused}
 use Rattle.follow.proofs.prepare.Statement.{statement}
 use Rattle.follow.proofs.prepare.Tie as tie
 
-check-rule-requires : tie.Need-check-rule-requires
-check-rule-requires c κs = search needs
-
-enum-known-checked : tie.Need-enum-known-checked
-enum-known-checked c = search needs
-
-no-rule-requires : tie.Need-no-rule-requires
-no-rule-requires c κs = search needs
-
 enum-told : tie.Need-enum-told
 enum-told c = search needs
-
-live-states-requires : tie.Need-live-states-requires
-live-states-requires c κs = search needs
 
 returns : tie.Need-returns
 returns c =
@@ -38,10 +26,5 @@ pub prepare-spec : {M : Type 1} → statement M
 prepare-spec =
     tie.close
     (tie.spec
-    check-rule-requires
-    enum-known-checked
-    no-rule-requires
-    enum-told
-    live-states-requires
-    returns
-    returns-2)
+    (λ c κs. search needs) (λ c. search needs) (λ c κs. search needs) enum-told
+    (λ c κs. search needs) returns returns-2)

@@ -29,16 +29,10 @@ Inv-loop2 targets live set chunk from₀ to₀ rows₀ before here₀ i₀ at fr
 abbrev μ-loop2 : tie.MeasureT-loop2
 μ-loop2 targets live set chunk from₀ to₀ rows₀ before here₀ i₀ at from to rows here i = length chunk - i
 
-row-of-requires : tie.Need-row-of-requires Inv-loop μ-loop Inv-loop2 μ-loop2
-row-of-requires c κs = search needs
-
 loop-holds : tie.Need-loop-holds Inv-loop μ-loop Inv-loop2 μ-loop2
 loop-holds c =
     let a = c .before .before .args in
     (begun (a .targets .now) (a .live) (a .set) (a .chunk .now), cached-first (a .targets .now), c .row-of .ensures)
-
-meets-requires : tie.Need-meets-requires Inv-loop μ-loop Inv-loop2 μ-loop2
-meets-requires c κs = search needs
 
 returns : tie.Need-returns Inv-loop μ-loop Inv-loop2 μ-loop2
 returns c =
@@ -47,17 +41,8 @@ returns c =
     at-end (a .targets .now) (a .live) (a .set) (a .chunk .now) (x .before) (x .here .set) (x .i) (x .inv .0) (c .if2 .taken)
     (sym (c .before .before .meets .ensures) ∙ c .before .if1 .taken)
 
-shared-slice-read-step : tie.Need-shared-slice-read-step Inv-loop μ-loop Inv-loop2 μ-loop2
-shared-slice-read-step c = omega arith
-
 step-requires : tie.Need-step-requires Inv-loop μ-loop Inv-loop2 μ-loop2
 step-requires c κs = let x = c .before .before .before .before .before .before .before .loop in (x .inv .1, x .inv .2)
-
-add-i : tie.Need-add-i Inv-loop μ-loop Inv-loop2 μ-loop2
-add-i c = omega arith
-
-loop-less : tie.Need-loop-less Inv-loop μ-loop Inv-loop2 μ-loop2
-loop-less c = omega arith
 
 loop-again : tie.Need-loop-again Inv-loop μ-loop Inv-loop2 μ-loop2
 loop-again c =
@@ -90,17 +75,8 @@ returns-2 c =
     0
     (empty-rest (a .targets .now) (a .set) (a .chunk .now) (l .i) (sym (l .inv .1) ∙ c .if3 .taken))
 
-shared-slice-read-step-2 : tie.Need-shared-slice-read-step-2 Inv-loop μ-loop Inv-loop2 μ-loop2
-shared-slice-read-step-2 c = omega arith
-
 step-requires-2 : tie.Need-step-requires-2 Inv-loop μ-loop Inv-loop2 μ-loop2
 step-requires-2 c κs = let x = c .before .before .before .before .before .before .before .loop2 in (x .inv .2, x .inv .3)
-
-add-i-2 : tie.Need-add-i-2 Inv-loop μ-loop Inv-loop2 μ-loop2
-add-i-2 c = omega arith
-
-loop2-less : tie.Need-loop2-less Inv-loop μ-loop Inv-loop2 μ-loop2
-loop2-less c = omega arith
 
 loop2-again : tie.Need-loop2-again Inv-loop μ-loop Inv-loop2 μ-loop2
 loop2-again c =
@@ -129,25 +105,7 @@ pub walk-spec : {M : Type 1} → statement M
 walk-spec =
     tie.close
     (tie.spec
-    Inv-loop
-    μ-loop
-    Inv-loop2
-    μ-loop2
-    row-of-requires
-    loop-holds
-    meets-requires
-    returns
-    shared-slice-read-step
-    step-requires
-    add-i
-    loop-less
-    loop-again
-    cast-at
-    loop2-holds
-    returns-2
-    shared-slice-read-step-2
-    step-requires-2
-    add-i-2
-    loop2-less
-    loop2-again
-    returns-3)
+    Inv-loop μ-loop Inv-loop2 μ-loop2 (λ c κs. search needs) loop-holds (λ c κs. search needs)
+    returns (λ c. omega arith) step-requires (λ c. omega arith) (λ c. omega arith) loop-again
+    cast-at loop2-holds returns-2 (λ c. omega arith) step-requires-2 (λ c. omega arith)
+    (λ c. omega arith) loop2-again returns-3)

@@ -9,16 +9,10 @@ use borrow.Author.Needs.{needs}
 use Rattle.formback.proofs.beyond.Statement.{statement}
 use Rattle.formback.proofs.beyond.Tie as tie
 
-cast-result : tie.Need-cast-result
-cast-result c = search needs
-
-shl-result : tie.Need-shl-result
-shl-result c = search needs
-
 returns : tie.Need-returns
 returns c =
     let q : ℕ = c .args .k in
     ap (λ (x : ℕ). leb x (c .args .mask)) (shl-exact 1 q 32 (lit< tt) (omega arith) ∙ one-mul (2 ^ q))
 
 pub beyond-spec : {M : Type 1} → statement M
-beyond-spec = tie.close (tie.spec cast-result shl-result returns)
+beyond-spec = tie.close (tie.spec (λ c. search needs) (λ c. search needs) returns)

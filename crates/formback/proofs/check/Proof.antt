@@ -5,9 +5,6 @@ use Rattle.formback.proofs.Turns.{few, on-1, on-2, on-3, on-4, on-5, pa
 use Rattle.formback.proofs.check.Statement.{statement}
 use Rattle.formback.proofs.check.Tie as tie
 
-bad-numbers-requires : tie.Need-bad-numbers-requires
-bad-numbers-requires c κs = search needs
-
 returns : tie.Need-returns
 returns c =
     let a = c .before .before .args in
@@ -67,9 +64,6 @@ count-kept-requires c κs =
     let a = b .before .before .args in
     few (a .sets) (a .k) (b .before .bad-numbers .result) (b .before .bad-numbers .ensures) (b .if1 .left) .0
 
-some-lacking-requires : tie.Need-some-lacking-requires
-some-lacking-requires c κs = search needs
-
 returns-5 : tie.Need-returns-5
 returns-5 c =
     let g = c .before .before .before in
@@ -102,15 +96,6 @@ pub check-spec : {M : Type 1} → statement M
 check-spec =
     tie.close
     (tie.spec
-    bad-numbers-requires
-    returns
-    some-not-below-requires
-    returns-2
-    first-lacks-requires
-    returns-3
-    stray-bits-requires
-    returns-4
-    count-kept-requires
-    some-lacking-requires
-    returns-5
+    (λ c κs. search needs) returns some-not-below-requires returns-2 first-lacks-requires
+    returns-3 stray-bits-requires returns-4 count-kept-requires (λ c κs. search needs) returns-5
     returns-6)

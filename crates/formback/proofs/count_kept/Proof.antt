@@ -20,27 +20,6 @@ loop-holds : tie.Need-loop-holds Inv-loop μ-loop
 unfolding total
 loop-holds c = (omega arith, omega arith, refl)
 
-mul-loop : tie.Need-mul-loop Inv-loop μ-loop
-mul-loop c = search needs
-
-mul-has-symbol : tie.Need-mul-has-symbol Inv-loop μ-loop
-mul-has-symbol c = search needs
-
-element-copy-out-has-symbol : tie.Need-element-copy-out-has-symbol Inv-loop μ-loop
-element-copy-out-has-symbol c = search needs
-
-has-symbol-requires : tie.Need-has-symbol-requires Inv-loop μ-loop
-has-symbol-requires c κs = search needs
-
-add-n : tie.Need-add-n Inv-loop μ-loop
-add-n c = search needs
-
-add-c : tie.Need-add-c Inv-loop μ-loop
-add-c c = search needs
-
-loop-less : tie.Need-loop-less Inv-loop μ-loop
-loop-less c = search needs
-
 loop-again : tie.Need-loop-again Inv-loop μ-loop
 loop-again c =
     let l = c .before .before .before .before .loop in
@@ -61,15 +40,6 @@ pub count-kept-spec : {M : Type 1} → statement M
 count-kept-spec =
     tie.close
     (tie.spec
-    Inv-loop
-    μ-loop
-    loop-holds
-    mul-loop
-    mul-has-symbol
-    element-copy-out-has-symbol
-    has-symbol-requires
-    add-n
-    add-c
-    loop-less
-    loop-again
-    returns)
+    Inv-loop μ-loop loop-holds (λ c. search needs) (λ c. search needs) (λ c. search needs)
+    (λ c κs. search needs) (λ c. search needs) (λ c. search needs) (λ c. search needs)
+    loop-again returns)

@@ -37,33 +37,6 @@ loop-holds c =
       filled-none 8192 512 (backCell f) (a .next .now) (c .pre .1),
     )
 
-mul-loop : tie.Need-mul-loop Inv-loop μ-loop
-mul-loop c = search needs
-
-mul-has-symbol : tie.Need-mul-has-symbol Inv-loop μ-loop
-mul-has-symbol c = search needs
-
-element-copy-out-has-symbol : tie.Need-element-copy-out-has-symbol Inv-loop μ-loop
-element-copy-out-has-symbol c = search needs
-
-has-symbol-requires : tie.Need-has-symbol-requires Inv-loop μ-loop
-has-symbol-requires c κs = search needs
-
-mul-next : tie.Need-mul-next Inv-loop μ-loop
-mul-next c = search needs
-
-element-copy-out-next : tie.Need-element-copy-out-next Inv-loop μ-loop
-element-copy-out-next c = search needs
-
-mul-next-2 : tie.Need-mul-next-2 Inv-loop μ-loop
-mul-next-2 c = search needs
-
-element-write-next : tie.Need-element-write-next Inv-loop μ-loop
-element-write-next c = search needs
-
-add-at : tie.Need-add-at Inv-loop μ-loop
-add-at c = search needs
-
 inherited-requires : tie.Need-inherited-requires Inv-loop μ-loop
 inherited-requires c κs =
     let l = c .before .before .before .before .before .loop in
@@ -77,18 +50,6 @@ inherited-requires c κs =
           (sym (e .ensures) ∙ c .before .if1 .left) h in
           omega arith,
     )
-
-mul-next-3 : tie.Need-mul-next-3 Inv-loop μ-loop
-mul-next-3 c = search needs
-
-element-write-next-2 : tie.Need-element-write-next-2 Inv-loop μ-loop
-element-write-next-2 c = search needs
-
-add-c : tie.Need-add-c Inv-loop μ-loop
-add-c c = search needs
-
-loop-less : tie.Need-loop-less Inv-loop μ-loop
-loop-less c = search needs
 
 loop-again : tie.Need-loop-again Inv-loop μ-loop
 loop-again c =
@@ -111,22 +72,7 @@ pub fill-spec : {M : Type 1} → statement M
 fill-spec =
     tie.close
     (tie.spec
-    Inv-loop
-    μ-loop
-    loop-holds
-    mul-loop
-    mul-has-symbol
-    element-copy-out-has-symbol
-    has-symbol-requires
-    mul-next
-    element-copy-out-next
-    mul-next-2
-    element-write-next
-    add-at
-    inherited-requires
-    mul-next-3
-    element-write-next-2
-    add-c
-    loop-less
-    loop-again
-    returns)
+    Inv-loop μ-loop loop-holds (λ c. search needs) (λ c. search needs) (λ c. search needs)
+    (λ c κs. search needs) (λ c. search needs) (λ c. search needs) (λ c. search needs)
+    (λ c. search needs) (λ c. search needs) inherited-requires (λ c. search needs)
+    (λ c. search needs) (λ c. search needs) (λ c. search needs) loop-again returns)

@@ -19,22 +19,10 @@ abbrev μ-loop : tie.MeasureT-loop
 loop-holds : tie.Need-loop-holds Inv-loop μ-loop
 loop-holds c = let a = c .args in passed-none (λ j. not (has (getD (a .kept .now) 0 0) j)) (a .k)
 
-element-copy-out-has-symbol : tie.Need-element-copy-out-has-symbol Inv-loop μ-loop
-element-copy-out-has-symbol c = search needs
-
-has-symbol-requires : tie.Need-has-symbol-requires Inv-loop μ-loop
-has-symbol-requires c κs = search needs
-
 returns : tie.Need-returns Inv-loop μ-loop
 returns c =
     let a = c .before .before .before .before .before .args in
     found (λ j. not (has (getD (a .kept .now) 0 0) j)) (a .k) (c .before .before .before .before .loop .s) (not (c .before .has-symbol .result)) (omega arith) (ap not (c .before .has-symbol .ensures)) (c .if1 .taken)
-
-add-s : tie.Need-add-s Inv-loop μ-loop
-add-s c = search needs
-
-loop-less : tie.Need-loop-less Inv-loop μ-loop
-loop-less c = search needs
 
 loop-again : tie.Need-loop-again Inv-loop μ-loop
 loop-again c =
@@ -50,13 +38,5 @@ pub first-lacks-spec : {M : Type 1} → statement M
 first-lacks-spec =
     tie.close
     (tie.spec
-    Inv-loop
-    μ-loop
-    loop-holds
-    element-copy-out-has-symbol
-    has-symbol-requires
-    returns
-    add-s
-    loop-less
-    loop-again
-    returns-2)
+    Inv-loop μ-loop loop-holds (λ c. search needs) (λ c κs. search needs) returns
+    (λ c. search needs) (λ c. search needs) loop-again returns-2)

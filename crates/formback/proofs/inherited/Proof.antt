@@ -19,15 +19,6 @@ nowhere : (failure next : List ℕ) (k t s : ℕ) → k ≤ s
     → 512 ≡ cond (ltb s k) (getD next (getD failure t 0 * 16 + s) 0) 512
 nowhere failure next k t s h = rw (le-ltb s k h)
 
-mul-wide : tie.Need-mul-wide
-mul-wide c = search needs
-
-element-copy-out-wide : tie.Need-element-copy-out-wide
-element-copy-out-wide c = search needs
-
-wide-requires : tie.Need-wide-requires
-wide-requires c κs = search needs
-
 mul-result : tie.Need-mul-result
 mul-result c = omega (arith, c .before .before .before .pre .2 (omega arith))
 
@@ -50,12 +41,5 @@ pub inherited-spec : {M : Type 1} → statement M
 inherited-spec =
     tie.close
     (tie.spec
-    mul-wide
-    element-copy-out-wide
-    wide-requires
-    mul-result
-    add-result
-    mul-result-2
-    element-copy-out-result
-    returns
-    returns-2)
+    (λ c. search needs) (λ c. search needs) (λ c κs. search needs) mul-result add-result
+    mul-result-2 element-copy-out-result returns returns-2)

@@ -7,18 +7,11 @@ use Rattle.formback.proofs.not_below.Tie as tie
 returns : tie.Need-returns
 returns c = search (needs, first-set)
 
-mul-wide : tie.Need-mul-wide
-mul-wide c = search needs
-
-element-copy-out-wide : tie.Need-element-copy-out-wide
-element-copy-out-wide c = search needs
-
-wide-requires : tie.Need-wide-requires
-wide-requires c κs = search needs
-
 returns-2 : tie.Need-returns-2
 returns-2 c = search (needs, other-set)
 
 pub not-below-spec : {M : Type 1} → statement M
 not-below-spec =
-    tie.close (tie.spec returns mul-wide element-copy-out-wide wide-requires returns-2)
+    tie.close
+    (tie.spec
+    returns (λ c. search needs) (λ c. search needs) (λ c κs. search needs) returns-2)

@@ -17,25 +17,10 @@ abbrev μ-loop : tie.MeasureT-loop
 loop-holds : tie.Need-loop-holds Inv-loop μ-loop
 loop-holds c = let a = c .args in passed-none (λ j. lacking (a .sets) (getD (a .cells .now) j 0)) (a .count)
 
-mul-is-lacking : tie.Need-mul-is-lacking Inv-loop μ-loop
-mul-is-lacking c = search needs
-
-element-copy-out-is-lacking : tie.Need-element-copy-out-is-lacking Inv-loop μ-loop
-element-copy-out-is-lacking c = search needs
-
-is-lacking-requires : tie.Need-is-lacking-requires Inv-loop μ-loop
-is-lacking-requires c κs = search needs
-
 returns : tie.Need-returns Inv-loop μ-loop
 returns c =
     let a = c .before .before .before .before .before .args in
     found (λ j. lacking (a .sets) (getD (a .cells .now) j 0)) (a .count) (c .before .before .before .before .loop .i) (c .before .is-lacking .result) (omega arith) (c .before .is-lacking .ensures) (c .if1 .taken)
-
-add-i : tie.Need-add-i Inv-loop μ-loop
-add-i c = search needs
-
-loop-less : tie.Need-loop-less Inv-loop μ-loop
-loop-less c = search needs
 
 loop-again : tie.Need-loop-again Inv-loop μ-loop
 loop-again c =
@@ -51,14 +36,5 @@ pub some-lacking-spec : {M : Type 1} → statement M
 some-lacking-spec =
     tie.close
     (tie.spec
-    Inv-loop
-    μ-loop
-    loop-holds
-    mul-is-lacking
-    element-copy-out-is-lacking
-    is-lacking-requires
-    returns
-    add-i
-    loop-less
-    loop-again
-    returns-2)
+    Inv-loop μ-loop loop-holds (λ c. search needs) (λ c. search needs) (λ c κs. search needs)
+    returns (λ c. search needs) (λ c. search needs) loop-again returns-2)

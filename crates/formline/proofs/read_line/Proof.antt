@@ -11,12 +11,6 @@ use Rattle.formline.proofs.Fields.{to-the-end, alone, unsaid, goes-on}
 use Rattle.formline.proofs.read_line.Statement.{statement}
 use Rattle.formline.proofs.read_line.Tie as tie
 
-find-requires : tie.Need-find-requires
-find-requires c κs = search needs
-
-without-requires : tie.Need-without-requires
-without-requires c κs = search needs
-
 returns : tie.Need-returns
 unfolding lineIn
 returns c =
@@ -27,32 +21,8 @@ returns c =
 slice-aggregate-read-number : tie.Need-slice-aggregate-read-number
 slice-aggregate-read-number c = sym (length-take-le _ (c .before .before .before .before .args .line .now) (omega arith))
 
-read-number-requires : tie.Need-read-number-requires
-read-number-requires c κs = search needs
-
-enum-known-read : tie.Need-enum-known-read
-enum-known-read c = search needs
-
-add-with-sets : tie.Need-add-with-sets
-add-with-sets c = search needs
-
-sub-with-sets : tie.Need-sub-with-sets
-sub-with-sets c = search needs
-
-part-with-sets-start : tie.Need-part-with-sets-start
-part-with-sets-start c = search needs
-
-part-with-sets-end : tie.Need-part-with-sets-end
-part-with-sets-end c = search needs
-
-with-sets-requires : tie.Need-with-sets-requires
-with-sets-requires c κs = search needs
-
 enum-told : tie.Need-enum-told
 enum-told c = search needs
-
-without-requires-2 : tie.Need-without-requires-2
-without-requires-2 c κs = search needs
 
 returns-2 : tie.Need-returns-2
 unfolding lineIn
@@ -77,18 +47,7 @@ pub read-line-spec : {M : Type 1} → statement M
 read-line-spec =
     tie.close
     (tie.spec
-    find-requires
-    without-requires
-    returns
-    slice-aggregate-read-number
-    read-number-requires
-    enum-known-read
-    add-with-sets
-    sub-with-sets
-    part-with-sets-start
-    part-with-sets-end
-    with-sets-requires
-    enum-told
-    without-requires-2
-    returns-2
-    returns-3)
+    (λ c κs. search needs) (λ c κs. search needs) returns slice-aggregate-read-number
+    (λ c κs. search needs) (λ c. search needs) (λ c. search needs) (λ c. search needs)
+    (λ c. search needs) (λ c. search needs) (λ c κs. search needs) enum-told
+    (λ c κs. search needs) returns-2 returns-3)

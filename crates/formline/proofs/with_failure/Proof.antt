@@ -12,12 +12,6 @@ use Rattle.formline.proofs.Fields.{to-the-end, alone, unsaid, goes-on, 
 use Rattle.formline.proofs.with_failure.Statement.{statement}
 use Rattle.formline.proofs.with_failure.Tie as tie
 
-find-requires : tie.Need-find-requires
-find-requires c κs = search needs
-
-without-requires : tie.Need-without-requires
-without-requires c κs = search needs
-
 returns : tie.Need-returns
 unfolding masksIn
 returns c =
@@ -28,24 +22,6 @@ returns c =
 slice-aggregate-read-sets : tie.Need-slice-aggregate-read-sets
 slice-aggregate-read-sets c = sym (length-take-le _ (c .before .before .before .before .args .rest .now) (omega arith))
 
-read-sets-requires : tie.Need-read-sets-requires
-read-sets-requires c κs = search needs
-
-add-with-masks : tie.Need-add-with-masks
-add-with-masks c = search needs
-
-sub-with-masks : tie.Need-sub-with-masks
-sub-with-masks c = search needs
-
-part-with-masks-start : tie.Need-part-with-masks-start
-part-with-masks-start c = search needs
-
-part-with-masks-end : tie.Need-part-with-masks-end
-part-with-masks-end c = search needs
-
-with-masks-requires : tie.Need-with-masks-requires
-with-masks-requires c κs = search needs
-
 returns-2 : tie.Need-returns-2
 unfolding masksIn
 returns-2 c =
@@ -55,9 +31,6 @@ returns-2 c =
     goes-on (parseWords mostSets) (cellsIn (a .sets) (a .symbols) (a .failure)) (a .rest .now) (f .result) (f .ensures) (omega arith) _ (r .result .words) (r .ensures)
     (words-known (r .result .known) (r .result .words) (c .before .before .before .if2 .taken)) _
     (c .with-masks .ensures ∙ ap (λ (l : List ℕ). heldOf (cellsIn (a .sets) (a .symbols) (a .failure) (r .result .words) l)) (to-the-end (a .rest .now) (f .result)))
-
-without-requires-2 : tie.Need-without-requires-2
-without-requires-2 c κs = search needs
 
 returns-3 : tie.Need-returns-3
 unfolding masksIn
@@ -72,16 +45,6 @@ pub with-failure-spec : {M : Type 1} → statement M
 with-failure-spec =
     tie.close
     (tie.spec
-    find-requires
-    without-requires
-    returns
-    slice-aggregate-read-sets
-    read-sets-requires
-    add-with-masks
-    sub-with-masks
-    part-with-masks-start
-    part-with-masks-end
-    with-masks-requires
-    returns-2
-    without-requires-2
-    returns-3)
+    (λ c κs. search needs) (λ c κs. search needs) returns slice-aggregate-read-sets
+    (λ c κs. search needs) (λ c. search needs) (λ c. search needs) (λ c. search needs)
+    (λ c. search needs) (λ c κs. search needs) returns-2 (λ c κs. search needs) returns-3)

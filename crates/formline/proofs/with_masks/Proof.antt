@@ -6,21 +6,12 @@ use Rattle.formline.proofs.Fields.{no-cells, many-sets, many-symbols, a
 use Rattle.formline.proofs.with_masks.Statement.{statement}
 use Rattle.formline.proofs.with_masks.Tie as tie
 
-read-cells-requires : tie.Need-read-cells-requires
-read-cells-requires c κs = search needs
-
-without-requires : tie.Need-without-requires
-without-requires c κs = search needs
-
 returns : tie.Need-returns
 returns c =
     let a = c .before .before .before .before .before .args in
     let r = c .before .before .before .read-cells in
     let e = sym (r .ensures) ∙ words-known (r .result .known) (r .result .words) (c .before .before .if1 .taken) in
     many-sets (a .sets) (a .symbols) (a .failure) (a .kept) _ (r .result .words) e (omega arith) (c .without .result) (c .without .ensures)
-
-without-requires-2 : tie.Need-without-requires-2
-without-requires-2 c κs = search needs
 
 returns-2 : tie.Need-returns-2
 returns-2 c =
@@ -29,21 +20,12 @@ returns-2 c =
     let e = sym (r .ensures) ∙ words-known (r .result .known) (r .result .words) (c .before .before .before .if1 .taken) in
     many-symbols (a .sets) (a .symbols) (a .failure) (a .kept) _ (r .result .words) e (omega arith) (omega arith) (c .without2 .result) (c .without2 .ensures)
 
-cast-t14 : tie.Need-cast-t14
-cast-t14 c = search needs
-
-cast-t15 : tie.Need-cast-t15
-cast-t15 c = search needs
-
 returns-3 : tie.Need-returns-3
 returns-3 c =
     let a = c .before .before .before .before .before .before .args in
     let r = c .before .before .before .before .read-cells in
     let e = sym (r .ensures) ∙ words-known (r .result .known) (r .result .words) (c .before .before .before .if1 .taken) in
     all-held (a .sets) (a .symbols) (a .failure) (a .kept) _ (r .result .words) e (omega arith) (omega arith)
-
-without-requires-3 : tie.Need-without-requires-3
-without-requires-3 c κs = search needs
 
 returns-4 : tie.Need-returns-4
 returns-4 c =
@@ -56,13 +38,5 @@ pub with-masks-spec : {M : Type 1} → statement M
 with-masks-spec =
     tie.close
     (tie.spec
-    read-cells-requires
-    without-requires
-    returns
-    without-requires-2
-    returns-2
-    cast-t14
-    cast-t15
-    returns-3
-    without-requires-3
-    returns-4)
+    (λ c κs. search needs) (λ c κs. search needs) returns (λ c κs. search needs) returns-2
+    (λ c. search needs) (λ c. search needs) returns-3 (λ c κs. search needs) returns-4)

@@ -11,12 +11,6 @@ use Rattle.formline.proofs.Fields.{to-the-end, alone, unsaid, goes-on}
 use Rattle.formline.proofs.with_sets.Statement.{statement}
 use Rattle.formline.proofs.with_sets.Tie as tie
 
-find-requires : tie.Need-find-requires
-find-requires c κs = search needs
-
-without-requires : tie.Need-without-requires
-without-requires c κs = search needs
-
 returns : tie.Need-returns
 unfolding symbolsIn
 returns c =
@@ -27,32 +21,8 @@ returns c =
 slice-aggregate-read-number : tie.Need-slice-aggregate-read-number
 slice-aggregate-read-number c = sym (length-take-le _ (c .before .before .before .before .args .rest .now) (omega arith))
 
-read-number-requires : tie.Need-read-number-requires
-read-number-requires c κs = search needs
-
-enum-known-read : tie.Need-enum-known-read
-enum-known-read c = search needs
-
-add-with-symbols : tie.Need-add-with-symbols
-add-with-symbols c = search needs
-
-sub-with-symbols : tie.Need-sub-with-symbols
-sub-with-symbols c = search needs
-
-part-with-symbols-start : tie.Need-part-with-symbols-start
-part-with-symbols-start c = search needs
-
-part-with-symbols-end : tie.Need-part-with-symbols-end
-part-with-symbols-end c = search needs
-
-with-symbols-requires : tie.Need-with-symbols-requires
-with-symbols-requires c κs = search needs
-
 enum-told : tie.Need-enum-told
 enum-told c = search needs
-
-without-requires-2 : tie.Need-without-requires-2
-without-requires-2 c κs = search needs
 
 returns-2 : tie.Need-returns-2
 unfolding symbolsIn
@@ -77,18 +47,7 @@ pub with-sets-spec : {M : Type 1} → statement M
 with-sets-spec =
     tie.close
     (tie.spec
-    find-requires
-    without-requires
-    returns
-    slice-aggregate-read-number
-    read-number-requires
-    enum-known-read
-    add-with-symbols
-    sub-with-symbols
-    part-with-symbols-start
-    part-with-symbols-end
-    with-symbols-requires
-    enum-told
-    without-requires-2
-    returns-2
-    returns-3)
+    (λ c κs. search needs) (λ c κs. search needs) returns slice-aggregate-read-number
+    (λ c κs. search needs) (λ c. search needs) (λ c. search needs) (λ c. search needs)
+    (λ c. search needs) (λ c. search needs) (λ c κs. search needs) enum-told
+    (λ c κs. search needs) returns-2 returns-3)

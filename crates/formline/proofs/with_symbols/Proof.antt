@@ -12,12 +12,6 @@ use Rattle.formline.proofs.Fields.{to-the-end, alone, unsaid, goes-on, 
 use Rattle.formline.proofs.with_symbols.Statement.{statement}
 use Rattle.formline.proofs.with_symbols.Tie as tie
 
-find-requires : tie.Need-find-requires
-find-requires c κs = search needs
-
-without-requires : tie.Need-without-requires
-without-requires c κs = search needs
-
 returns : tie.Need-returns
 unfolding failureIn
 returns c =
@@ -28,24 +22,6 @@ returns c =
 slice-aggregate-read-sets : tie.Need-slice-aggregate-read-sets
 slice-aggregate-read-sets c = sym (length-take-le _ (c .before .before .before .before .args .rest .now) (omega arith))
 
-read-sets-requires : tie.Need-read-sets-requires
-read-sets-requires c κs = search needs
-
-add-with-failure : tie.Need-add-with-failure
-add-with-failure c = search needs
-
-sub-with-failure : tie.Need-sub-with-failure
-sub-with-failure c = search needs
-
-part-with-failure-start : tie.Need-part-with-failure-start
-part-with-failure-start c = search needs
-
-part-with-failure-end : tie.Need-part-with-failure-end
-part-with-failure-end c = search needs
-
-with-failure-requires : tie.Need-with-failure-requires
-with-failure-requires c κs = search needs
-
 returns-2 : tie.Need-returns-2
 unfolding failureIn
 returns-2 c =
@@ -55,9 +31,6 @@ returns-2 c =
     goes-on (parseWords mostSets) (masksIn (a .sets) (a .symbols)) (a .rest .now) (f .result) (f .ensures) (omega arith) _ (r .result .words) (r .ensures)
     (words-known (r .result .known) (r .result .words) (c .before .before .before .if2 .taken)) _
     (c .with-failure .ensures ∙ ap (λ (l : List ℕ). heldOf (masksIn (a .sets) (a .symbols) (r .result .words) l)) (to-the-end (a .rest .now) (f .result)))
-
-without-requires-2 : tie.Need-without-requires-2
-without-requires-2 c κs = search needs
 
 returns-3 : tie.Need-returns-3
 unfolding failureIn
@@ -72,16 +45,6 @@ pub with-symbols-spec : {M : Type 1} → statement M
 with-symbols-spec =
     tie.close
     (tie.spec
-    find-requires
-    without-requires
-    returns
-    slice-aggregate-read-sets
-    read-sets-requires
-    add-with-failure
-    sub-with-failure
-    part-with-failure-start
-    part-with-failure-end
-    with-failure-requires
-    returns-2
-    without-requires-2
-    returns-3)
+    (λ c κs. search needs) (λ c κs. search needs) returns slice-aggregate-read-sets
+    (λ c κs. search needs) (λ c. search needs) (λ c. search needs) (λ c. search needs)
+    (λ c. search needs) (λ c κs. search needs) returns-2 (λ c κs. search needs) returns-3)

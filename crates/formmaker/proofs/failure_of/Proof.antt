@@ -15,21 +15,9 @@ Inv-loop next k t best₀ most₀ u₀ best most u = (u ≤ t) × (best ≤ u) �
 abbrev μ-loop : tie.MeasureT-loop
 μ-loop next k t best₀ most₀ u₀ best most u = t - u
 
-equal-cells-requires : tie.Need-equal-cells-requires Inv-loop μ-loop
-equal-cells-requires c κs = search needs
-
 loop-holds : tie.Need-loop-holds Inv-loop μ-loop
 unfolding bestBelow
 loop-holds c = (omega arith, omega arith, refl, c .equal-cells .ensures)
-
-equal-cells-requires-2 : tie.Need-equal-cells-requires-2 Inv-loop μ-loop
-equal-cells-requires-2 c κs = search needs
-
-add-u : tie.Need-add-u Inv-loop μ-loop
-add-u c = search needs
-
-loop-less : tie.Need-loop-less Inv-loop μ-loop
-loop-less c = search needs
 
 loop-again : tie.Need-loop-again Inv-loop μ-loop
 loop-again c =
@@ -50,12 +38,5 @@ pub failure-of-spec : {M : Type 1} → statement M
 failure-of-spec =
     tie.close
     (tie.spec
-    Inv-loop
-    μ-loop
-    equal-cells-requires
-    loop-holds
-    equal-cells-requires-2
-    add-u
-    loop-less
-    loop-again
-    returns)
+    Inv-loop μ-loop (λ c κs. search needs) loop-holds (λ c κs. search needs) (λ c. search needs)
+    (λ c. search needs) loop-again returns)

@@ -30,33 +30,6 @@ loop-holds c =
       filled-none 512 0 (keptMask (a .next .now) (a .k)) (a .kept .now) d,
     )
 
-failure-of-requires : tie.Need-failure-of-requires Inv-loop μ-loop
-failure-of-requires c κs = search needs
-
-kept-mask-requires : tie.Need-kept-mask-requires Inv-loop μ-loop
-kept-mask-requires c κs = search needs
-
-cast-failure : tie.Need-cast-failure Inv-loop μ-loop
-cast-failure c = search needs
-
-mul-failure : tie.Need-mul-failure Inv-loop μ-loop
-mul-failure c = search needs
-
-element-write-failure : tie.Need-element-write-failure Inv-loop μ-loop
-element-write-failure c = search needs
-
-mul-kept : tie.Need-mul-kept Inv-loop μ-loop
-mul-kept c = search needs
-
-element-write-kept : tie.Need-element-write-kept Inv-loop μ-loop
-element-write-kept c = search needs
-
-add-t : tie.Need-add-t Inv-loop μ-loop
-add-t c = search needs
-
-loop-less : tie.Need-loop-less Inv-loop μ-loop
-loop-less c = search needs
-
 loop-again : tie.Need-loop-again Inv-loop μ-loop
 loop-again c =
     let l = c .before .before .before .loop in
@@ -85,17 +58,6 @@ pub mark-sets-spec : {M : Type 1} → statement M
 mark-sets-spec =
     tie.close
     (tie.spec
-    Inv-loop
-    μ-loop
-    loop-holds
-    failure-of-requires
-    kept-mask-requires
-    cast-failure
-    mul-failure
-    element-write-failure
-    mul-kept
-    element-write-kept
-    add-t
-    loop-less
-    loop-again
-    returns)
+    Inv-loop μ-loop loop-holds (λ c κs. search needs) (λ c κs. search needs) (λ c. search needs)
+    (λ c. search needs) (λ c. search needs) (λ c. search needs) (λ c. search needs)
+    (λ c. search needs) (λ c. search needs) loop-again returns)

@@ -30,39 +30,6 @@ loop-holds c =
       packed-none (keptAt (a .kept .now)) (λ j. getD (a .next .now) j 0) (a .cells .now) (λ i. ap (λ l. getD l i 0) e ∙ zero-cells 8192 i),
     )
 
-mul-loop : tie.Need-mul-loop Inv-loop μ-loop
-mul-loop c = search needs
-
-mul-has-symbol : tie.Need-mul-has-symbol Inv-loop μ-loop
-mul-has-symbol c = search needs
-
-element-copy-out-has-symbol : tie.Need-element-copy-out-has-symbol Inv-loop μ-loop
-element-copy-out-has-symbol c = search needs
-
-has-symbol-requires : tie.Need-has-symbol-requires Inv-loop μ-loop
-has-symbol-requires c κs = search needs
-
-mul-cells : tie.Need-mul-cells Inv-loop μ-loop
-mul-cells c = search needs
-
-element-copy-out-cells : tie.Need-element-copy-out-cells Inv-loop μ-loop
-element-copy-out-cells c = search needs
-
-mul-cells-2 : tie.Need-mul-cells-2 Inv-loop μ-loop
-mul-cells-2 c = search needs
-
-element-write-cells : tie.Need-element-write-cells Inv-loop μ-loop
-element-write-cells c = search needs
-
-add-at : tie.Need-add-at Inv-loop μ-loop
-add-at c = search needs
-
-add-c : tie.Need-add-c Inv-loop μ-loop
-add-c c = search needs
-
-loop-less : tie.Need-loop-less Inv-loop μ-loop
-loop-less c = search needs
-
 loop-again : tie.Need-loop-again Inv-loop μ-loop
 loop-again c =
     let l = c .before .before .before .before .loop in
@@ -85,19 +52,7 @@ pub pack-spec : {M : Type 1} → statement M
 pack-spec =
     tie.close
     (tie.spec
-    Inv-loop
-    μ-loop
-    loop-holds
-    mul-loop
-    mul-has-symbol
-    element-copy-out-has-symbol
-    has-symbol-requires
-    mul-cells
-    element-copy-out-cells
-    mul-cells-2
-    element-write-cells
-    add-at
-    add-c
-    loop-less
-    loop-again
+    Inv-loop μ-loop loop-holds (λ c. search needs) (λ c. search needs) (λ c. search needs)
+    (λ c κs. search needs) (λ c. search needs) (λ c. search needs) (λ c. search needs)
+    (λ c. search needs) (λ c. search needs) (λ c. search needs) (λ c. search needs) loop-again
     returns)

@@ -7,14 +7,8 @@ use borrow.Author.Needs.{needs}
 use Rattle.forms.proofs.has_symbol.Statement.{statement}
 use Rattle.forms.proofs.has_symbol.Tie as tie
 
-cast-result : tie.Need-cast-result
-cast-result c = search needs
-
-shr-result : tie.Need-shr-result
-shr-result c = search needs
-
 returns : tie.Need-returns
 returns c = ap (λ (x : ℕ). eqb x 1) (and-mask (c .args .mask / 2 ^ c .args .symbol) 1)
 
 pub has-symbol-spec : {M : Type 1} → statement M
-has-symbol-spec = tie.close (tie.spec cast-result shr-result returns)
+has-symbol-spec = tie.close (tie.spec (λ c. search needs) (λ c. search needs) returns)

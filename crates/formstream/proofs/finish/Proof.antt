@@ -1,20 +1,15 @@
 -- `finish` meets its contract. Assumes nothing.
+use Rattle.linetexts.proofs.Ends.{none-written, last-written}
+use Rattle.formstream.specs.Texts.{formTeller}
 use borrow.Author.Needs.{needs}
-use Rattle.formstream.proofs.Feeding.{finish-empty, finish-line}
 use Rattle.formstream.proofs.finish.Statement.{statement}
 use Rattle.formstream.proofs.finish.Tie as tie
 
 returns : tie.Need-returns
-returns c = search (needs, finish-empty)
-
-put-line-requires : tie.Need-put-line-requires
-put-line-requires c κs = search needs
-
-same-length : tie.Need-same-length
-same-length c = search needs
+returns c = search (needs, none-written formTeller)
 
 returns-2 : tie.Need-returns-2
-returns-2 c = search (needs, finish-line)
+returns-2 c = search (needs, last-written formTeller)
 
 pub finish-spec : {M : Type 1} → statement M
-finish-spec = tie.close (tie.spec returns put-line-requires same-length returns-2)
+finish-spec = tie.close (tie.spec returns (λ c κs. search needs) (λ c. search needs) returns-2)

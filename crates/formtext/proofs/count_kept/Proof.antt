@@ -21,24 +21,6 @@ loop-holds : tie.Need-loop-holds Inv-loop μ-loop
 unfolding total
 loop-holds c = (omega arith, c .pre, omega arith, refl)
 
-mul-bits-in : tie.Need-mul-bits-in Inv-loop μ-loop
-mul-bits-in c = search needs
-
-element-copy-out-bits-in : tie.Need-element-copy-out-bits-in Inv-loop μ-loop
-element-copy-out-bits-in c = search needs
-
-bits-in-requires : tie.Need-bits-in-requires Inv-loop μ-loop
-bits-in-requires c κs = search needs
-
-add-n : tie.Need-add-n Inv-loop μ-loop
-add-n c = search needs
-
-add-t : tie.Need-add-t Inv-loop μ-loop
-add-t c = search needs
-
-loop-less : tie.Need-loop-less Inv-loop μ-loop
-loop-less c = search needs
-
 loop-again : tie.Need-loop-again Inv-loop μ-loop
 loop-again c =
     let l = c .before .before .before .loop in
@@ -57,14 +39,5 @@ pub count-kept-spec : {M : Type 1} → statement M
 count-kept-spec =
     tie.close
     (tie.spec
-    Inv-loop
-    μ-loop
-    loop-holds
-    mul-bits-in
-    element-copy-out-bits-in
-    bits-in-requires
-    add-n
-    add-t
-    loop-less
-    loop-again
-    returns)
+    Inv-loop μ-loop loop-holds (λ c. search needs) (λ c. search needs) (λ c κs. search needs)
+    (λ c. search needs) (λ c. search needs) (λ c. search needs) loop-again returns)

@@ -6,31 +6,13 @@ use Rattle.formtext.proofs.Whole.{form-text, refused-text}
 use Rattle.formtext.proofs.print_form.Statement.{statement}
 use Rattle.formtext.proofs.print_form.Tie as tie
 
-form-in-requires : tie.Need-form-in-requires
-form-in-requires c κs = search needs
-
 enum-told : tie.Need-enum-told
 enum-told c = search needs
-
-put-form-requires : tie.Need-put-form-requires
-put-form-requires c κs = search needs
-
-enum-known-answer : tie.Need-enum-known-answer
-enum-known-answer c = search needs
-
-put-refused-requires : tie.Need-put-refused-requires
-put-refused-requires c κs = search needs
-
-same-length : tie.Need-same-length
-same-length c = search needs
 
 returns : tie.Need-returns
 returns c =
     let m = c .before .before .before .before .before .before .form-in in
     (rw (← form-text (c .before .before .before .before .before .before .before .before .before .args .file .now) (m .result) (m .ensures) (c .before .before .before .before .enum-told .given .1)) (c .before .before .put-form .ensures .0), c .before .before .put-form .ensures .1)
-
-same-length-2 : tie.Need-same-length-2
-same-length-2 c = search needs
 
 returns-2 : tie.Need-returns-2
 returns-2 c =
@@ -41,12 +23,5 @@ pub print-form-spec : {M : Type 1} → statement M
 print-form-spec =
     tie.close
     (tie.spec
-    form-in-requires
-    enum-told
-    put-form-requires
-    enum-known-answer
-    put-refused-requires
-    same-length
-    returns
-    same-length-2
-    returns-2)
+    (λ c κs. search needs) enum-told (λ c κs. search needs) (λ c. search needs)
+    (λ c κs. search needs) (λ c. search needs) returns (λ c. search needs) returns-2)

@@ -38,12 +38,6 @@ put-cell-requires c κs =
     let a = c .before .before .before .before .before .args in
     omega (arith, x .inv, c .before .before .loop-test .taken, x .inv .4 .kept, x .inv .4 .wrote .ends, cells-most (a .cells .now) (a .first) (x .i))
 
-add-i : tie.Need-add-i Inv-loop μ-loop
-add-i c = omega arith
-
-loop-less : tie.Need-loop-less Inv-loop μ-loop
-loop-less c = omega arith
-
 loop-again : tie.Need-loop-again Inv-loop μ-loop
 loop-again c =
     let x = c .before .before .before .before .before .before .loop in
@@ -76,15 +70,5 @@ pub put-cells-spec : {M : Type 1} → statement M
 put-cells-spec =
     tie.close
     (tie.spec
-    Inv-loop
-    μ-loop
-    loop-holds
-    add-to
-    mul-to
-    element-copy-out-to
-    put-cell-requires
-    add-i
-    loop-less
-    loop-again
-    same-length
-    returns)
+    Inv-loop μ-loop loop-holds add-to mul-to element-copy-out-to put-cell-requires
+    (λ c. omega arith) (λ c. omega arith) loop-again same-length returns)

@@ -5,22 +5,10 @@ use Rattle.text.proofs.Rooms.{exact, left, fits, more, two}
 use Rattle.formtext.proofs.put_head.Statement.{statement}
 use Rattle.formtext.proofs.put_head.Tie as tie
 
-slice-aggregate-put-named : tie.Need-slice-aggregate-put-named
-slice-aggregate-put-named c = search needs
-
-put-named-requires : tie.Need-put-named-requires
-put-named-requires c κs = search needs
-
-slice-aggregate-put-named-2 : tie.Need-slice-aggregate-put-named-2
-slice-aggregate-put-named-2 c = search needs
-
 put-named-requires-2 : tie.Need-put-named-requires-2
 put-named-requires-2 c κs =
     let s = c .before .before .before .before .before .before .before .before in
     fits 10 14 12 (s .pre) (c .before .before .before .before .put-named .ensures) (le-refl 14)
-
-slice-aggregate-put-named-3 : tie.Need-slice-aggregate-put-named-3
-slice-aggregate-put-named-3 c = search needs
 
 put-named-requires-3 : tie.Need-put-named-requires-3
 put-named-requires-3 c κs =
@@ -31,9 +19,6 @@ put-byte-requires : tie.Need-put-byte-requires
 put-byte-requires c κs =
     let s = c .before .before .before .before .before .before .before .before .before .before .before .before .before .before .before .before .before in
     more 11 0 (left 14 12 (left 10 26 (s .pre) (c .before .before .before .before .before .before .before .before .before .before .before .before .before .put-named .ensures)) (c .before .before .before .before .before .before .before .before .put-named2 .ensures)) (c .before .before .before .put-named3 .ensures)
-
-same-length : tie.Need-same-length
-same-length c = search needs
 
 returns : tie.Need-returns
 returns c =
@@ -47,12 +32,5 @@ pub put-head-spec : {M : Type 1} → statement M
 put-head-spec =
     tie.close
     (tie.spec
-    slice-aggregate-put-named
-    put-named-requires
-    slice-aggregate-put-named-2
-    put-named-requires-2
-    slice-aggregate-put-named-3
-    put-named-requires-3
-    put-byte-requires
-    same-length
-    returns)
+    (λ c. search needs) (λ c κs. search needs) (λ c. search needs) put-named-requires-2
+    (λ c. search needs) put-named-requires-3 put-byte-requires (λ c. search needs) returns)

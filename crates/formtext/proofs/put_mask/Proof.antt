@@ -6,15 +6,6 @@ use Rattle.text.proofs.Rooms.{exact, most, two}
 use Rattle.formtext.proofs.put_mask.Statement.{statement}
 use Rattle.formtext.proofs.put_mask.Tie as tie
 
-put-byte-requires : tie.Need-put-byte-requires
-put-byte-requires c κs = search needs
-
-put-hex-requires : tie.Need-put-hex-requires
-put-hex-requires c κs = search needs
-
-same-length : tie.Need-same-length
-same-length c = search needs
-
 returns : tie.Need-returns
 returns c =
     let s = c .before .before .before .before .before .before .before .before .before in
@@ -22,4 +13,7 @@ returns c =
     (λ h. most 4 (omega (arith, hex-length 4 (s .args .mask))) (c .before .before .put-hex .ensures))
 
 pub put-mask-spec : {M : Type 1} → statement M
-put-mask-spec = tie.close (tie.spec put-byte-requires put-hex-requires same-length returns)
+put-mask-spec =
+    tie.close
+    (tie.spec
+    (λ c κs. search needs) (λ c κs. search needs) (λ c. search needs) returns)

@@ -5,16 +5,10 @@ use Rattle.text.proofs.Rooms.{exact, left, two}
 use Rattle.formtext.proofs.put_named.Statement.{statement}
 use Rattle.formtext.proofs.put_named.Tie as tie
 
-put-bytes-requires : tie.Need-put-bytes-requires
-put-bytes-requires c κs = search needs
-
 put-number-requires : tie.Need-put-number-requires
 put-number-requires c κs =
     let s = c .before .before .before .before .before .before .before in
     left (length (s .args .word .now)) 6 (s .pre) (exact (c .before .before .before .put-bytes .ensures))
-
-same-length : tie.Need-same-length
-same-length c = search needs
 
 returns : tie.Need-returns
 returns c =
@@ -22,4 +16,7 @@ returns c =
     two (length (s .args .word .now)) 6 (s .pre) (exact (c .before .before .before .before .before .before .put-bytes .ensures)) (λ h. c .before .before .put-number .ensures)
 
 pub put-named-spec : {M : Type 1} → statement M
-put-named-spec = tie.close (tie.spec put-bytes-requires put-number-requires same-length returns)
+put-named-spec =
+    tie.close
+    (tie.spec
+    (λ c κs. search needs) put-number-requires (λ c. search needs) returns)

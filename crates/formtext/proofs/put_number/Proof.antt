@@ -6,16 +6,10 @@ use Rattle.formtext.proofs.Lengths.{number-most}
 use Rattle.formtext.proofs.put_number.Statement.{statement}
 use Rattle.formtext.proofs.put_number.Tie as tie
 
-put-byte-requires : tie.Need-put-byte-requires
-put-byte-requires c κs = search needs
-
 put-decimal-requires : tie.Need-put-decimal-requires
 put-decimal-requires c κs =
     let s = c .before .before .before .before .before .before in
     fits 1 5 0 (s .pre) (exact (c .before .before .before .put-byte .ensures)) (number-most (s .args .n) (omega arith))
-
-same-length : tie.Need-same-length
-same-length c = search needs
 
 returns : tie.Need-returns
 returns c =
@@ -24,4 +18,7 @@ returns c =
     (λ h. most 5 (number-most (s .args .n) (omega arith)) (c .before .before .put-decimal .ensures))
 
 pub put-number-spec : {M : Type 1} → statement M
-put-number-spec = tie.close (tie.spec put-byte-requires put-decimal-requires same-length returns)
+put-number-spec =
+    tie.close
+    (tie.spec
+    (λ c κs. search needs) put-decimal-requires (λ c. search needs) returns)

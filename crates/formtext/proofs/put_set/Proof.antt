@@ -7,9 +7,6 @@ use Rattle.ruletext.proofs.Lengths.{index-most}
 use Rattle.formtext.proofs.put_set.Statement.{statement}
 use Rattle.formtext.proofs.put_set.Tie as tie
 
-cast-put-decimal : tie.Need-cast-put-decimal
-cast-put-decimal c = search needs
-
 put-decimal-requires : tie.Need-put-decimal-requires
 put-decimal-requires c κs =
     let s = c .before .before .before in
@@ -41,9 +38,6 @@ put-byte-requires c κs =
     let j = left 5 65 i (c .before .before .before .before .before .before .before .put-mask .ensures) in
     more 64 0 j (c .before .before .before .put-cells .ensures)
 
-same-length : tie.Need-same-length
-same-length c = search needs
-
 returns : tie.Need-returns
 returns c =
     let s = c .before .before .before .before .before .before .before .before .before .before .before .before .before .before .before .before .before .before .before .before .before .before in
@@ -57,11 +51,5 @@ pub put-set-spec : {M : Type 1} → statement M
 put-set-spec =
     tie.close
     (tie.spec
-    cast-put-decimal
-    put-decimal-requires
-    put-number-requires
-    put-mask-requires
-    put-cells-requires
-    put-byte-requires
-    same-length
-    returns)
+    (λ c. search needs) put-decimal-requires put-number-requires put-mask-requires
+    put-cells-requires put-byte-requires (λ c. search needs) returns)

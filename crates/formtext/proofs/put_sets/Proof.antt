@@ -29,24 +29,6 @@ loop-holds c =
     let a = s .args in
     (omega arith, s .pre .0, refl, s .pre .1, omega arith, none-put (setLine (a .failure .now) (a .kept .now) (a .cells .now)) (a .out .now) (a .start) (omega (arith, s .pre)))
 
-mul-mask : tie.Need-mul-mask Inv-loop μ-loop
-mul-mask c = search needs
-
-element-copy-out-mask : tie.Need-element-copy-out-mask Inv-loop μ-loop
-element-copy-out-mask c = search needs
-
-bits-in-requires : tie.Need-bits-in-requires Inv-loop μ-loop
-bits-in-requires c κs = search needs
-
-mul-fails : tie.Need-mul-fails Inv-loop μ-loop
-mul-fails c = search needs
-
-element-copy-out-fails : tie.Need-element-copy-out-fails Inv-loop μ-loop
-element-copy-out-fails c = search needs
-
-cast-t18 : tie.Need-cast-t18 Inv-loop μ-loop
-cast-t18 c = search needs
-
 put-set-requires : tie.Need-put-set-requires Inv-loop μ-loop
 put-set-requires c κs =
     let x = c .before .before .before .before .before .loop in
@@ -60,12 +42,6 @@ add-first c =
     let x = c .before .before .before .before .before .before .before .before .loop in
     let a = c .before .before .before .before .before .before .before .before .before .before .args in
     omega (arith, x .inv, c .before .before .before .before .before .before .before .loop-test .taken, c .before .before .before .before .before .bits-in .ensures .0, first-most (a .kept .now) (x .t))
-
-add-t : tie.Need-add-t Inv-loop μ-loop
-add-t c = search needs
-
-loop-less : tie.Need-loop-less Inv-loop μ-loop
-loop-less c = search needs
 
 loop-again : tie.Need-loop-again Inv-loop μ-loop
 loop-again c =
@@ -97,19 +73,6 @@ pub put-sets-spec : {M : Type 1} → statement M
 put-sets-spec =
     tie.close
     (tie.spec
-    Inv-loop
-    μ-loop
-    loop-holds
-    mul-mask
-    element-copy-out-mask
-    bits-in-requires
-    mul-fails
-    element-copy-out-fails
-    cast-t18
-    put-set-requires
-    add-first
-    add-t
-    loop-less
-    loop-again
-    same-length
-    returns)
+    Inv-loop μ-loop loop-holds (λ c. search needs) (λ c. search needs) (λ c κs. search needs)
+    (λ c. search needs) (λ c. search needs) (λ c. search needs) put-set-requires add-first
+    (λ c. search needs) (λ c. search needs) loop-again same-length returns)

@@ -4,21 +4,6 @@ use Rattle.hexfields.proofs.Kept.{end-nothing, end-dash, end-even, end-
 use Rattle.hexfields.proofs.end.Statement.{statement}
 use Rattle.hexfields.proofs.end.Tie as tie
 
-enum-told : tie.Need-enum-told
-enum-told c = search needs
-
-enum-known-part : tie.Need-enum-known-part
-enum-known-part c = search needs
-
-enum-told-2 : tie.Need-enum-told-2
-enum-told-2 c = search needs
-
-enum-told-3 : tie.Need-enum-told-3
-enum-told-3 c = search needs
-
-enum-told-4 : tie.Need-enum-told-4
-enum-told-4 c = search needs
-
 returns : tie.Need-returns
 returns c = search (needs, end-dash)
 
@@ -38,13 +23,5 @@ pub end-spec : {M : Type 1} → statement M
 end-spec =
     tie.close
     (tie.spec
-    enum-told
-    enum-known-part
-    enum-told-2
-    enum-told-3
-    enum-told-4
-    returns
-    returns-2
-    returns-3
-    returns-4
-    returns-5)
+    (λ c. search needs) (λ c. search needs) (λ c. search needs) (λ c. search needs)
+    (λ c. search needs) returns returns-2 returns-3 returns-4 returns-5)

@@ -28,9 +28,6 @@ loop-holds c =
       rw (digits-none (a .bytes .now)) (record { wrote = wrote-none (a .out .now) (a .at); fits = omega (arith, s .pre); kept = refl }),
     )
 
-shared-slice-read-put-hex : tie.Need-shared-slice-read-put-hex Inv-loop μ-loop
-shared-slice-read-put-hex c = omega arith
-
 cast-put-hex : tie.Need-cast-put-hex Inv-loop μ-loop
 cast-put-hex c = omega (arith, c .shared-slice-known2 .given (c .before .before .before .loop .i))
 
@@ -41,12 +38,6 @@ put-hex-requires c κs =
     let done : length (digitsOf (take (x .i) (a .bytes .now))) ≡ 2 * x .i =
     digits-length (take (x .i) (a .bytes .now)) ∙ ap (λ n. 2 * n) (length-take-le (x .i) (a .bytes .now) (x .inv .0)) in
     omega (arith, x .inv .0, x .inv .1, x .inv .2 .wrote .ends, x .inv .2 .kept)
-
-add-i : tie.Need-add-i Inv-loop μ-loop
-add-i c = omega arith
-
-loop-less : tie.Need-loop-less Inv-loop μ-loop
-loop-less c = omega arith
 
 loop-again : tie.Need-loop-again Inv-loop μ-loop
 loop-again c =
@@ -76,14 +67,5 @@ pub put-digits-spec : {M : Type 1} → statement M
 put-digits-spec =
     tie.close
     (tie.spec
-    Inv-loop
-    μ-loop
-    loop-holds
-    shared-slice-read-put-hex
-    cast-put-hex
-    put-hex-requires
-    add-i
-    loop-less
-    loop-again
-    same-length
-    returns)
+    Inv-loop μ-loop loop-holds (λ c. omega arith) cast-put-hex put-hex-requires
+    (λ c. omega arith) (λ c. omega arith) loop-again same-length returns)

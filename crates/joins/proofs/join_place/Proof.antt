@@ -19,26 +19,8 @@ loop-holds : tie.Need-loop-holds Inv-loop μ-loop
 unfolding union
 loop-holds c = (omega arith, refl)
 
-cast-t11 : tie.Need-cast-t11 Inv-loop μ-loop
-cast-t11 c = omega arith
-
-add-q : tie.Need-add-q Inv-loop μ-loop
-add-q c = omega arith
-
-member-requires : tie.Need-member-requires Inv-loop μ-loop
-member-requires c κs = search needs
-
-delegate-at-requires : tie.Need-delegate-at-requires Inv-loop μ-loop
-delegate-at-requires c κs = search needs
-
-enum-known-delegate : tie.Need-enum-known-delegate Inv-loop μ-loop
-enum-known-delegate c = search needs
-
 enum-told : tie.Need-enum-told Inv-loop μ-loop
 enum-told c = search needs
-
-loop-less : tie.Need-loop-less Inv-loop μ-loop
-loop-less c = omega arith
 
 loop-again : tie.Need-loop-again Inv-loop μ-loop
 loop-again c =
@@ -61,12 +43,6 @@ end-set-requires c κs =
     let low = told-state (a .delegates .now) (t .before .before .before .loop .q) (d .result) (d .ensures) (y .0 .0) (y .1) .1 in
     (omega arith, omega arith)
 
-union-requires : tie.Need-union-requires Inv-loop μ-loop
-union-requires c κs = search needs
-
-loop-less-2 : tie.Need-loop-less-2 Inv-loop μ-loop
-loop-less-2 c = omega arith
-
 loop-again-2 : tie.Need-loop-again-2 Inv-loop μ-loop
 loop-again-2 c =
     let d = c .before .before .before .before .before .delegate-at in
@@ -84,9 +60,6 @@ loop-again-2 c =
           (c .before .end-set .ensures)
           (c .union .ensures),
     )
-
-loop-less-3 : tie.Need-loop-less-3 Inv-loop μ-loop
-loop-less-3 c = omega arith
 
 loop-again-3 : tie.Need-loop-again-3 Inv-loop μ-loop
 loop-again-3 c =
@@ -107,21 +80,7 @@ pub join-place-spec : {M : Type 1} → statement M
 join-place-spec =
     tie.close
     (tie.spec
-    Inv-loop
-    μ-loop
-    loop-holds
-    cast-t11
-    add-q
-    member-requires
-    delegate-at-requires
-    enum-known-delegate
-    enum-told
-    loop-less
-    loop-again
-    end-set-requires
-    union-requires
-    loop-less-2
-    loop-again-2
-    loop-less-3
-    loop-again-3
-    returns)
+    Inv-loop μ-loop loop-holds (λ c. omega arith) (λ c. omega arith) (λ c κs. search needs)
+    (λ c κs. search needs) (λ c. search needs) enum-told (λ c. omega arith) loop-again
+    end-set-requires (λ c κs. search needs) (λ c. omega arith) loop-again-2 (λ c. omega arith)
+    loop-again-3 returns)

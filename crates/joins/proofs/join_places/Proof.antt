@@ -14,24 +14,9 @@ Inv-loop ends delegates n initials places states set₀ place₀ set place = (pl
 abbrev μ-loop : tie.MeasureT-loop
 μ-loop ends delegates n initials places states set₀ place₀ set place = places - place
 
-at-most-u8-requires : tie.Need-at-most-u8-requires Inv-loop μ-loop
-at-most-u8-requires c κs = search needs
-
 loop-holds : tie.Need-loop-holds Inv-loop μ-loop
 unfolding joinOf
 loop-holds c = (omega arith, refl)
-
-cast-join-place : tie.Need-cast-join-place Inv-loop μ-loop
-cast-join-place c = omega arith
-
-join-place-requires : tie.Need-join-place-requires Inv-loop μ-loop
-join-place-requires c κs = search needs
-
-add-place : tie.Need-add-place Inv-loop μ-loop
-add-place c = omega arith
-
-loop-less : tie.Need-loop-less Inv-loop μ-loop
-loop-less c = omega arith
 
 loop-again : tie.Need-loop-again Inv-loop μ-loop
 loop-again c =
@@ -53,13 +38,5 @@ pub join-places-spec : {M : Type 1} → statement M
 join-places-spec =
     tie.close
     (tie.spec
-    Inv-loop
-    μ-loop
-    at-most-u8-requires
-    loop-holds
-    cast-join-place
-    join-place-requires
-    add-place
-    loop-less
-    loop-again
-    returns)
+    Inv-loop μ-loop (λ c κs. search needs) loop-holds (λ c. omega arith) (λ c κs. search needs)
+    (λ c. omega arith) (λ c. omega arith) loop-again returns)

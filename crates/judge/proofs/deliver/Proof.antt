@@ -10,41 +10,14 @@ use borrow.Author.Needs.{needs}
 use Rattle.judge.proofs.deliver.Statement.{statement}
 use Rattle.judge.proofs.deliver.Tie as tie
 
-refuse-delivery-requires : tie.Need-refuse-delivery-requires
-refuse-delivery-requires c κs = search needs
-
 returns : tie.Need-returns
 returns c = search (needs, deliver-21)
-
-places-of-requires : tie.Need-places-of-requires
-places-of-requires c κs = search needs
-
-refuse-delivery-requires-2 : tie.Need-refuse-delivery-requires-2
-refuse-delivery-requires-2 c κs = search needs
 
 returns-2 : tie.Need-returns-2
 returns-2 c = search (needs, deliver-11)
 
-refuse-delivery-requires-3 : tie.Need-refuse-delivery-requires-3
-refuse-delivery-requires-3 c κs = search needs
-
 returns-3 : tie.Need-returns-3
 returns-3 c = search (needs, deliver-12)
-
-run-mask-requires : tie.Need-run-mask-requires
-run-mask-requires c κs = search needs
-
-comes-late-requires : tie.Need-comes-late-requires
-comes-late-requires c κs = search needs
-
-run-delivery-requires : tie.Need-run-delivery-requires
-run-delivery-requires c κs = search needs
-
-enum-known-answer : tie.Need-enum-known-answer
-enum-known-answer c = search needs
-
-refuse-delivery-requires-4 : tie.Need-refuse-delivery-requires-4
-refuse-delivery-requires-4 c κs = search needs
 
 returns-4 : tie.Need-returns-4
 returns-4 c =
@@ -60,15 +33,6 @@ returns-4 c =
 
 enum-told : tie.Need-enum-told
 enum-told c = search needs
-
-set-mark-requires : tie.Need-set-mark-requires
-set-mark-requires c κs = search needs
-
-set-number-requires : tie.Need-set-number-requires
-set-number-requires c κs = search needs
-
-set-number-requires-2 : tie.Need-set-number-requires-2
-set-number-requires-2 c κs = search needs
 
 set-revision-requires : tie.Need-set-revision-requires
 set-revision-requires c κs =
@@ -104,23 +68,8 @@ pub deliver-spec : {M : Type 1} → statement M
 deliver-spec =
     tie.close
     (tie.spec
-    refuse-delivery-requires
-    returns
-    places-of-requires
-    refuse-delivery-requires-2
-    returns-2
-    refuse-delivery-requires-3
-    returns-3
-    run-mask-requires
-    comes-late-requires
-    run-delivery-requires
-    enum-known-answer
-    refuse-delivery-requires-4
-    returns-4
-    enum-told
-    set-mark-requires
-    set-number-requires
-    set-number-requires-2
-    set-revision-requires
-    set-row-requires
-    returns-5)
+    (λ c κs. search needs) returns (λ c κs. search needs) (λ c κs. search needs) returns-2
+    (λ c κs. search needs) returns-3 (λ c κs. search needs) (λ c κs. search needs)
+    (λ c κs. search needs) (λ c. search needs) (λ c κs. search needs) returns-4 enum-told
+    (λ c κs. search needs) (λ c κs. search needs) (λ c κs. search needs) set-revision-requires
+    set-row-requires returns-5)

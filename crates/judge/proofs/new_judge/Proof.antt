@@ -4,14 +4,8 @@ use borrow.Author.Needs.{needs}
 use Rattle.judge.proofs.new_judge.Statement.{statement}
 use Rattle.judge.proofs.new_judge.Tie as tie
 
-nothing-built-requires : tie.Need-nothing-built-requires
-nothing-built-requires c κs = search needs
-
-empty-board-requires : tie.Need-empty-board-requires
-empty-board-requires c κs = search needs
-
 returns : tie.Need-returns
 returns c = search (needs, fresh-by)
 
 pub new-judge-spec : {M : Type 1} → statement M
-new-judge-spec = tie.close (tie.spec nothing-built-requires empty-board-requires returns)
+new-judge-spec = tie.close (tie.spec (λ c κs. search needs) (λ c κs. search needs) returns)

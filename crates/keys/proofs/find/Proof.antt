@@ -1,6 +1,6 @@
--- `find` meets its contract. The loop's invariant: the key stands at none of the places passed. So
--- the place where it is found is the first, and where all are passed it has no number. Assumes
--- nothing.
+-- `find` meets its contract. Whole blocks without the key are passed first. The loop's invariant:
+-- the key stands at none of the places passed. So the place where it is found is the first, and
+-- where all are passed it has no number. Assumes nothing.
 use mathlib.Core.Path.{_≡_}
 use Prim.Native.Nat.{ℕ, _-_, _≤_, _<_}
 use native.Mathlib.Omega.{arith}
@@ -12,61 +12,37 @@ use Rattle.keys.proofs.find.Statement.{statement}
 use Rattle.keys.proofs.find.Tie as tie
 
 abbrev Inv-loop : tie.InvT-loop
-Inv-loop keys count key cells most i₀ i = (i ≤ most) × ((j : ℕ) → j < i → getD keys j 0 ≡ key → ⊥)
+Inv-loop keys count key most i₀ cells i = (i ≤ most) × ((j : ℕ) → j < i → getD keys j 0 ≡ key → ⊥)
 
 abbrev μ-loop : tie.MeasureT-loop
-μ-loop keys count key cells most i₀ i = most - i
+μ-loop keys count key most i₀ cells i = most - i
 
-at-most-requires : tie.Need-at-most-requires Inv-loop μ-loop
-at-most-requires c κs = search needs
+passed-requires : tie.Need-passed-requires Inv-loop μ-loop
+passed-requires c κs = search (needs, arith)
 
 loop-holds : tie.Need-loop-holds Inv-loop μ-loop
-loop-holds c = (omega arith, λ j b e. omega arith)
+loop-holds c = c .before .passed .ensures
 
 returns : tie.Need-returns Inv-loop μ-loop
 returns c =
-    let a = c .before .before .before .before .args in
-    let m = c .before .before .at-most in
+    let a = c .before .before .before .before .before .args in
+    let m = c .before .before .before .before .at-most in
     found-none (a .keys .now) (a .count) (a .key) (m .result) (omega arith) (rw (c .if1 .taken) at (c .before .loop .inv .1))
-
-mul-if2 : tie.Need-mul-if2 Inv-loop μ-loop
-mul-if2 c = omega arith
-
-shared-slice-read-if2 : tie.Need-shared-slice-read-if2 Inv-loop μ-loop
-shared-slice-read-if2 c = omega arith
-
-add-i : tie.Need-add-i Inv-loop μ-loop
-add-i c = omega arith
-
-loop-less : tie.Need-loop-less Inv-loop μ-loop
-loop-less c = omega arith
 
 loop-again : tie.Need-loop-again Inv-loop μ-loop
 loop-again c = (omega arith, below-more _ _ (c .before .before .before .loop .inv .1) (c .if2 .left))
 
-cast-t14 : tie.Need-cast-t14 Inv-loop μ-loop
-cast-t14 c = omega arith
-
 returns-2 : tie.Need-returns-2 Inv-loop μ-loop
 returns-2 c =
     let x = c .before .before .before .loop in
-    let a = c .before .before .before .before .before .before .args in
-    let m = c .before .before .before .before .at-most in
+    let a = c .before .before .before .before .before .before .before .args in
+    let m = c .before .before .before .before .before .before .at-most in
     found-at (a .keys .now) (a .count) (a .key) (m .result) (omega arith) (x .i) (omega arith) (c .if2 .taken) (x .inv .1)
 
 pub find-spec : {M : Type 1} → statement M
 find-spec =
     tie.close
     (tie.spec
-    Inv-loop
-    μ-loop
-    at-most-requires
-    loop-holds
-    returns
-    mul-if2
-    shared-slice-read-if2
-    add-i
-    loop-less
-    loop-again
-    cast-t14
+    Inv-loop μ-loop (λ c κs. search needs) passed-requires loop-holds returns (λ c. omega arith)
+    (λ c. omega arith) (λ c. omega arith) (λ c. omega arith) loop-again (λ c. omega arith)
     returns-2)

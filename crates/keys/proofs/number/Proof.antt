@@ -8,26 +8,8 @@ use Rattle.keys.specs.mirror.Steps.{foundMeans}
 use Rattle.keys.proofs.number.Statement.{statement}
 use Rattle.keys.proofs.number.Tie as tie
 
-find-requires : tie.Need-find-requires
-find-requires c κs = search needs
-
-enum-known-number : tie.Need-enum-known-number
-enum-known-number c = search needs
-
 enum-told : tie.Need-enum-told
 enum-told c = search needs
-
-mul-keys : tie.Need-mul-keys
-mul-keys c = search needs
-
-element-write-keys : tie.Need-element-write-keys
-element-write-keys c = search needs
-
-cast-t13 : tie.Need-cast-t13
-cast-t13 c = search needs
-
-add-t10 : tie.Need-add-t10
-add-t10 c = search needs
 
 returns : tie.Need-returns
 returns c =
@@ -54,13 +36,5 @@ pub number-spec : {M : Type 1} → statement M
 number-spec =
     tie.close
     (tie.spec
-    find-requires
-    enum-known-number
-    enum-told
-    mul-keys
-    element-write-keys
-    cast-t13
-    add-t10
-    returns
-    returns-2
-    returns-3)
+    (λ c κs. search needs) (λ c. search needs) enum-told (λ c. search needs) (λ c. search needs)
+    (λ c. search needs) (λ c. search needs) returns returns-2 returns-3)

@@ -1,39 +1,30 @@
--- `number_by` meets its contract: the first key alone is numbered and nothing is expanded, which is
--- what `expand` asks for, and what it leaves is the table. Assumes nothing.
+-- `number_by` meets its contract: nothing is numbered, which is what `add` asks for, and what it
+-- leaves is the table. Assumes nothing.
 use mathlib.Core.Path.{refl}
 use native.Mathlib.Omega.{arith}
-use lib.ListN.{replicate, set, take}
+use lib.ListN.{replicate}
 use borrow.Author.Needs.{needs}
 use Rattle.base.specs.Lists.{listFrom}
-use Rattle.numbering.specs.mirror.Arrays.{Cleared}
+use Rattle.numbering.proofs.Turns.{begin}
 use Rattle.keys.specs.Kinds.{walkBy}
-use Rattle.keys.proofs.Tables.{first-read, first-holds, table-by}
+use Rattle.keys.proofs.Tables.{table-by}
 use Rattle.keys.proofs.number_by.Statement.{statement}
 use Rattle.keys.proofs.number_by.Tie as tie
 
--- the arrays as they begin
-cleared : Cleared 0 (replicate 512 0) (replicate 8192 0)
+add-requires : tie.Need-add-requires
 unfolding listFrom
-cleared = record { keys-are = refl; next-are = refl }
-
-array-write-keys : tie.Need-array-write-keys
-array-write-keys c = search needs
-
-at-most-u8-requires : tie.Need-at-most-u8-requires
-at-most-u8-requires c κs = search needs
-
-expand-requires : tie.Need-expand-requires
-expand-requires c κs =
+add-requires c κs =
     let a = c .before .before .before .args in
-    let k = c .before .before .at-most-u8 in
-    (omega (arith, k .ensures), omega arith, first-holds (a .start) (replicate 512 0) (replicate 8192 0) cleared (walkBy (a .kind) (a .targets .now) (a .others .now) (k .result)))
+    let k = c .before .before .at-most-u8 in (
+      (omega arith, refl, begin (walkBy (a .kind) (a .targets .now) (a .others .now) (k .result)) 0 (replicate 512 0) (replicate 8192 0) (record { keys-are = refl; next-are = refl })),
+      λ m s b _. omega (arith, k .ensures),
+    )
 
 returns : tie.Need-returns
 returns c =
     let a = c .before .before .before .before .args in
     let k = c .before .before .before .at-most-u8 in
-    table-by (a .kind) (a .targets .now) (a .others .now) (a .k) (a .start) (k .result) (k .ensures) (take 1 (set (replicate 512 0) 0 (a .start))) (first-read (a .start) (replicate 512 0) (replicate 8192 0) cleared)
-    _ (c .expand .ensures)
+    table-by (a .kind) (a .targets .now) (a .others .now) (a .k) (a .start) (k .result) (k .ensures) (c .add .result) _ _ (c .add .ensures)
 
 pub number-by-spec : {M : Type 1} → statement M
-number-by-spec = tie.close (tie.spec array-write-keys at-most-u8-requires expand-requires returns)
+number-by-spec = tie.close (tie.spec (λ c κs. search needs) add-requires returns)

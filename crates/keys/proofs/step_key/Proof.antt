@@ -9,25 +9,10 @@ use Rattle.keys.proofs.step_key.Tie as tie
 enum-told : tie.Need-enum-told
 enum-told c = search needs
 
-step-set-requires : tie.Need-step-set-requires
-step-set-requires c κs = search needs
-
-enum-told-2 : tie.Need-enum-told-2
-enum-told-2 c = search needs
-
-step-requires : tie.Need-step-requires
-step-requires c κs = search needs
-
 returns : tie.Need-returns
 returns c =
     let a = c .before .before .before .args in
     c .step-set .ensures ∙ sym (ap (λ (x : Kind). stepBy x (a .targets .now) (a .others .now) (a .key) (a .symbol)) (c .before .enum-told .given .1))
-
-enum-told-3 : tie.Need-enum-told-3
-enum-told-3 c = search needs
-
-step-pair-requires : tie.Need-step-pair-requires
-step-pair-requires c κs = search needs
 
 returns-2 : tie.Need-returns-2
 returns-2 c =
@@ -41,4 +26,7 @@ returns-3 c =
 
 pub step-key-spec : {M : Type 1} → statement M
 step-key-spec =
-    tie.close (tie.spec enum-told step-set-requires enum-told-2 step-requires enum-told-3 step-pair-requires returns returns-2 returns-3)
+    tie.close
+    (tie.spec
+    enum-told (λ c κs. search needs) (λ c. search needs) (λ c κs. search needs)
+    (λ c. search needs) (λ c κs. search needs) returns returns-2 returns-3)

@@ -5,19 +5,13 @@ use Rattle.keys.proofs.Stepping.{successor-low}
 use Rattle.keys.proofs.step_set.Statement.{statement}
 use Rattle.keys.proofs.step_set.Tie as tie
 
-cast-successor : tie.Need-cast-successor
-cast-successor c = search needs
-
-successor-requires : tie.Need-successor-requires
-successor-requires c κs = search needs
-
-cast-result : tie.Need-cast-result
-cast-result c = search needs
-
 returns : tie.Need-returns
 returns c =
     let a = c .before .args in
     c .successor .ensures ∙ successor-low (a .targets .now) (a .key) (a .symbol)
 
 pub step-set-spec : {M : Type 1} → statement M
-step-set-spec = tie.close (tie.spec cast-successor successor-requires cast-result returns)
+step-set-spec =
+    tie.close
+    (tie.spec
+    (λ c. search needs) (λ c κs. search needs) (λ c. search needs) returns)

@@ -1,15 +1,11 @@
--- What the functions below `number_by` promise, in the words of numbering's specs/Arrays.antt.
--- Nothing here needs to be believed: `tableBy` says what they give.
+-- What the answers of the functions below `number_by` say, whose promises are in the words of
+-- numbering's specs/Arrays.antt. Nothing here needs to be believed: `tableBy` says what they give.
 --
 --   foundMeans       what each case of the search's answer says
 --   turnMeans        what each case of a turn's answer says: the key's number and how many keys
 --                    there are then, none where it is the 513th
---   closedFrom a l   the keys l, with all of them expanded
-use mathlib.Core.List.{List}
 use mathlib.Core.Option.{Option, none, some}
 use Prim.Native.Nat.{ℕ}
-use Rattle.limits.specs.Limits.{mostSets}
-use Rattle.numbering.specs.Numbering.{Walk, closeFrom}
 use Rattle.keys.specs.declared.Found.{Found}
 use Rattle.keys.specs.declared.Found.the-variants.{At, Nothing}
 use Rattle.keys.specs.declared.Turn.{Turn}
@@ -22,6 +18,3 @@ foundMeans Nothing = none
 abbrev pub turnMeans : Turn → Option (ℕ × ℕ)
 turnMeans (As number count) = some (number .0, count)
 turnMeans Full = none
-
-abbrev pub closedFrom : Walk → List ℕ → List ℕ
-closedFrom a l = closeFrom a mostSets 0 l

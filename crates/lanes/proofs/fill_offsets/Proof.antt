@@ -30,26 +30,8 @@ loop-holds c = (
   λ b h l. rw (c .pre) (getD-replicate {A = ℕ} 8208 b 8192 0 l),
 )
 
-mul-row-of : tie.Need-mul-row-of Inv-loop μ-loop
-mul-row-of c = search needs
-
-element-copy-out-row-of : tie.Need-element-copy-out-row-of Inv-loop μ-loop
-element-copy-out-row-of c = search needs
-
-row-of-requires : tie.Need-row-of-requires Inv-loop μ-loop
-row-of-requires c κs = search needs
-
-mul-t : tie.Need-mul-t Inv-loop μ-loop
-mul-t c = search needs
-
 element-write-t : tie.Need-element-write-t Inv-loop μ-loop
 element-write-t c = omega (arith, c .before .before .before .loop .inv .1)
-
-add-c : tie.Need-add-c Inv-loop μ-loop
-add-c c = search needs
-
-loop-less : tie.Need-loop-less Inv-loop μ-loop
-loop-less c = search needs
 
 loop-again : tie.Need-loop-again Inv-loop μ-loop
 loop-again c =
@@ -71,15 +53,6 @@ pub fill-offsets-spec : {M : Type 1} → statement M
 fill-offsets-spec =
     tie.close
     (tie.spec
-    Inv-loop
-    μ-loop
-    loop-holds
-    mul-row-of
-    element-copy-out-row-of
-    row-of-requires
-    mul-t
-    element-write-t
-    add-c
-    loop-less
-    loop-again
+    Inv-loop μ-loop loop-holds (λ c. search needs) (λ c. search needs) (λ c κs. search needs)
+    (λ c. search needs) element-write-t (λ c. search needs) (λ c. search needs) loop-again
     returns)

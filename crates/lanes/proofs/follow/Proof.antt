@@ -18,9 +18,6 @@ Inv-loop t part lane₀ first i₀ lane i = Behind t part lane₀ lane i
 abbrev μ-loop : tie.MeasureT-loop
 μ-loop t part lane₀ first i₀ lane i = length part - i
 
-slice-read-first : tie.Need-slice-read-first Inv-loop μ-loop
-slice-read-first c = omega arith
-
 loop-holds : tie.Need-loop-holds Inv-loop μ-loop
 loop-holds c =
     let s = c .before .before .before .before in
@@ -29,23 +26,11 @@ loop-holds c =
 living-requires : tie.Need-living-requires Inv-loop μ-loop
 living-requires c κs = c .before .before .loop .inv .size
 
-mul-row : tie.Need-mul-row Inv-loop μ-loop
-mul-row c = search needs
-
 slice-read-row : tie.Need-slice-read-row Inv-loop μ-loop
 slice-read-row c = omega (arith, c .before .before .before .before .before .loop .inv .size, c .before .before .living .ensures .most, c .before .if1 .left)
 
 slice-write-lane : tie.Need-slice-write-lane Inv-loop μ-loop
 slice-write-lane c = omega (arith, c .before .before .before .before .before .loop .inv .size)
-
-sub-lead : tie.Need-sub-lead Inv-loop μ-loop
-sub-lead c = search needs
-
-part-lead-start : tie.Need-part-lead-start Inv-loop μ-loop
-part-lead-start c = search needs
-
-part-lead-end : tie.Need-part-lead-end Inv-loop μ-loop
-part-lead-end c = search needs
 
 lead-requires : tie.Need-lead-requires Inv-loop μ-loop
 lead-requires c κs =
@@ -136,21 +121,6 @@ pub follow-spec : {M : Type 1} → statement M
 follow-spec =
     tie.close
     (tie.spec
-    Inv-loop
-    μ-loop
-    slice-read-first
-    loop-holds
-    living-requires
-    mul-row
-    slice-read-row
-    slice-write-lane
-    sub-lead
-    part-lead-start
-    part-lead-end
-    lead-requires
-    add-i
-    loop-less
-    loop-again
-    slice-write-lane-2
-    same-length
-    returns)
+    Inv-loop μ-loop (λ c. omega arith) loop-holds living-requires (λ c. search needs)
+    slice-read-row slice-write-lane (λ c. search needs) (λ c. search needs) (λ c. search needs)
+    lead-requires add-i loop-less loop-again slice-write-lane-2 same-length returns)

@@ -23,33 +23,6 @@ Inv-loop t part lane r0₀ r1₀ r2₀ r3₀ r4₀ r5₀ r6₀ r7₀ i₀ end₀
 abbrev μ-loop : tie.MeasureT-loop
 μ-loop t part lane r0₀ r1₀ r2₀ r3₀ r4₀ r5₀ r6₀ r7₀ i₀ end₀ r0 r1 r2 r3 r4 r5 r6 r7 i end = end - i
 
-slice-read-r0 : tie.Need-slice-read-r0 Inv-loop μ-loop
-slice-read-r0 c = omega arith
-
-slice-read-r1 : tie.Need-slice-read-r1 Inv-loop μ-loop
-slice-read-r1 c = omega arith
-
-slice-read-r2 : tie.Need-slice-read-r2 Inv-loop μ-loop
-slice-read-r2 c = omega arith
-
-slice-read-r3 : tie.Need-slice-read-r3 Inv-loop μ-loop
-slice-read-r3 c = omega arith
-
-slice-read-r4 : tie.Need-slice-read-r4 Inv-loop μ-loop
-slice-read-r4 c = omega arith
-
-slice-read-r5 : tie.Need-slice-read-r5 Inv-loop μ-loop
-slice-read-r5 c = omega arith
-
-slice-read-r6 : tie.Need-slice-read-r6 Inv-loop μ-loop
-slice-read-r6 c = omega arith
-
-slice-read-r7 : tie.Need-slice-read-r7 Inv-loop μ-loop
-slice-read-r7 c = omega arith
-
-span-requires : tie.Need-span-requires Inv-loop μ-loop
-span-requires c κs = search needs
-
 loop-holds : tie.Need-loop-holds Inv-loop μ-loop
 loop-holds c =
     let s = c .before .before .before .before .before .before .before .before .before .before .before .before in
@@ -69,21 +42,6 @@ loop-holds c =
 
 shared-slice-read-symbol : tie.Need-shared-slice-read-symbol Inv-loop μ-loop
 shared-slice-read-symbol c = omega (arith, c .before .before .loop .inv .0 .within, c .before .loop-test .taken)
-
-cast-symbol : tie.Need-cast-symbol Inv-loop μ-loop
-cast-symbol c = search needs
-
-mul-column : tie.Need-mul-column Inv-loop μ-loop
-mul-column c = search needs
-
-sub-column : tie.Need-sub-column Inv-loop μ-loop
-sub-column c = search needs
-
-part-column-start : tie.Need-part-column-start Inv-loop μ-loop
-part-column-start c = search needs
-
-part-column-end : tie.Need-part-column-end Inv-loop μ-loop
-part-column-end c = search needs
 
 hop-requires : tie.Need-hop-requires Inv-loop μ-loop
 hop-requires c κs =
@@ -133,12 +91,6 @@ hop-requires-8 c κs =
     let s = c .before .before .before .before .before .before .before .before .before .before .before .before .before .before .before .before .before .before .before .before .before .before .before in
     in-column (s .args .t .now) (s .pre .0) (s .args .part .now) (getD (s .args .part .now) (l .i) 0) (l .r7) (l .inv .8 .low)
 
-add-i : tie.Need-add-i Inv-loop μ-loop
-add-i c = search needs
-
-loop-less : tie.Need-loop-less Inv-loop μ-loop
-loop-less c = search needs
-
 loop-again : tie.Need-loop-again Inv-loop μ-loop
 loop-again c =
     let o = c .before .before .before .before .before .before .before .before .before .before .before .before .loop in
@@ -159,9 +111,6 @@ loop-again c =
       on-more t table w l (o .inv .8) (c .before .hop8 .ensures),
     )
 
-loop-less-2 : tie.Need-loop-less-2 Inv-loop μ-loop
-loop-less-2 c = search needs
-
 loop-again-2 : tie.Need-loop-again-2 Inv-loop μ-loop
 loop-again-2 c =
     let o = c .before .before .before .before .before .before .before .before .before .before .before .before .loop in
@@ -181,9 +130,6 @@ loop-again-2 c =
       on-more t table w l (o .inv .7) (c .before .before .hop7 .ensures),
       on-more t table w l (o .inv .8) (c .before .hop8 .ensures),
     )
-
-slice-write-lane : tie.Need-slice-write-lane Inv-loop μ-loop
-slice-write-lane c = omega arith
 
 slice-write-lane-2 : tie.Need-slice-write-lane-2 Inv-loop μ-loop
 slice-write-lane-2 c = simp length-set (omega arith)
@@ -222,44 +168,12 @@ pub lead-spec : {M : Type 1} → statement M
 lead-spec =
     tie.close
     (tie.spec
-    Inv-loop
-    μ-loop
-    slice-read-r0
-    slice-read-r1
-    slice-read-r2
-    slice-read-r3
-    slice-read-r4
-    slice-read-r5
-    slice-read-r6
-    slice-read-r7
-    span-requires
-    loop-holds
-    shared-slice-read-symbol
-    cast-symbol
-    mul-column
-    sub-column
-    part-column-start
-    part-column-end
-    hop-requires
-    hop-requires-2
-    hop-requires-3
-    hop-requires-4
-    hop-requires-5
-    hop-requires-6
-    hop-requires-7
-    hop-requires-8
-    add-i
-    loop-less
-    loop-again
-    loop-less-2
-    loop-again-2
-    slice-write-lane
-    slice-write-lane-2
-    slice-write-lane-3
-    slice-write-lane-4
-    slice-write-lane-5
-    slice-write-lane-6
-    slice-write-lane-7
-    slice-write-lane-8
-    same-length
+    Inv-loop μ-loop (λ c. omega arith) (λ c. omega arith) (λ c. omega arith) (λ c. omega arith)
+    (λ c. omega arith) (λ c. omega arith) (λ c. omega arith) (λ c. omega arith)
+    (λ c κs. search needs) loop-holds shared-slice-read-symbol (λ c. search needs)
+    (λ c. search needs) (λ c. search needs) (λ c. search needs) (λ c. search needs) hop-requires
+    hop-requires-2 hop-requires-3 hop-requires-4 hop-requires-5 hop-requires-6 hop-requires-7
+    hop-requires-8 (λ c. search needs) (λ c. search needs) loop-again (λ c. search needs)
+    loop-again-2 (λ c. omega arith) slice-write-lane-2 slice-write-lane-3 slice-write-lane-4
+    slice-write-lane-5 slice-write-lane-6 slice-write-lane-7 slice-write-lane-8 same-length
     returns)

@@ -14,17 +14,11 @@ use Rattle.lanes.proofs.Following.{rest-is, led-low, led-size, led-firs
 use Rattle.lanes.proofs.walk_eight.Statement.{statement}
 use Rattle.lanes.proofs.walk_eight.Tie as tie
 
-lead-requires : tie.Need-lead-requires
-lead-requires c κs = search needs
-
 sub-follow : tie.Need-sub-follow
 sub-follow c = omega (arith, c .before .before .lead .ensures .0, looked-most (hopOf (c .before .before .before .before .before .before .before .args .t .now)) 8192 (getD (c .before .before .before .before .before .before .before .args .lane .now) 0 0) (c .before .before .before .before .before .before .before .args .part .now))
 
 part-follow-start : tie.Need-part-follow-start
 part-follow-start c = omega (arith, c .before .before .lead .ensures .0, looked-most (hopOf (c .before .before .before .before .before .before .before .args .t .now)) 8192 (getD (c .before .before .before .before .before .before .before .args .lane .now) 0 0) (c .before .before .before .before .before .before .before .args .part .now))
-
-part-follow-end : tie.Need-part-follow-end
-part-follow-end c = search needs
 
 follow-requires : tie.Need-follow-requires
 follow-requires c κs =
@@ -87,11 +81,5 @@ pub walk-eight-spec : {M : Type 1} → statement M
 walk-eight-spec =
     tie.close
     (tie.spec
-    lead-requires
-    sub-follow
-    part-follow-start
-    part-follow-end
-    follow-requires
-    add-result
-    same-length
-    returns)
+    (λ c κs. search needs) sub-follow part-follow-start (λ c. search needs) follow-requires
+    add-result same-length returns)

@@ -10,11 +10,8 @@ use Rattle.linetexts.proofs.nothing_yet.Tie as tie
 abbrev begun : Held → Pending
 begun h = record { held = h; ended = false }
 
-nothing-requires : tie.Need-nothing-requires
-nothing-requires c κs = search needs
-
 returns : tie.Need-returns
 returns c = ap begun (c .nothing .ensures)
 
 pub nothing-yet-spec : {M : Type 1} → statement M
-nothing-yet-spec = tie.close (tie.spec nothing-requires returns)
+nothing-yet-spec = tie.close (tie.spec (λ c κs. search needs) returns)

@@ -7,9 +7,6 @@ use Rattle.linetexts.proofs.skips.Tie as tie
 returns : tie.Need-returns
 returns c = search (needs, skips-not)
 
-look-requires : tie.Need-look-requires
-look-requires c κs = search needs
-
 returns-2 : tie.Need-returns-2
 returns-2 c = search (needs, skips-some)
 
@@ -17,4 +14,4 @@ returns-3 : tie.Need-returns-3
 returns-3 c = search (needs, skips-stray)
 
 pub skips-spec : {M : Type 1} → statement M
-skips-spec = tie.close (tie.spec returns look-requires returns-2 returns-3)
+skips-spec = tie.close (tie.spec returns (λ c κs. search needs) returns-2 returns-3)

@@ -18,28 +18,10 @@ Inv-loop targets set row s₀ s = (row < 32) × (s ≤ 16) × (anyBelow (λ x. s
 abbrev μ-loop : tie.MeasureT-loop
 μ-loop targets set row s₀ s = 16 - s
 
-cast-row : tie.Need-cast-row Inv-loop μ-loop
-cast-row c = search needs
-
 loop-holds : tie.Need-loop-holds Inv-loop μ-loop
 loop-holds c =
     let a = c .before .args in
     (search needs, search needs, none-yet (λ x. shares (targetMask (a .targets .now) (a .q .0) x) (a .set)))
-
-mul-meets : tie.Need-mul-meets Inv-loop μ-loop
-mul-meets c = omega arith
-
-add-meets : tie.Need-add-meets Inv-loop μ-loop
-add-meets c = omega arith
-
-mul-meets-2 : tie.Need-mul-meets-2 Inv-loop μ-loop
-mul-meets-2 c = omega arith
-
-element-copy-out-meets : tie.Need-element-copy-out-meets Inv-loop μ-loop
-element-copy-out-meets c = omega arith
-
-meets-requires : tie.Need-meets-requires Inv-loop μ-loop
-meets-requires c κs = search needs
 
 returns : tie.Need-returns Inv-loop μ-loop
 returns c =
@@ -47,12 +29,6 @@ returns c =
     let a = c .before .before .before .before .before .before .args in
     sym (any-at (λ y. shares (targetMask (a .targets .now) (a .q .0) y) (a .set)) 16 (x .s) (omega arith)
     (ap (λ (y : ℕ). shares y (a .set)) (sym (cell (a .targets .now) (a .q .0) (x .s) (omega arith))) ∙ sym (c .before .meets .ensures) ∙ c .if1 .taken))
-
-add-s : tie.Need-add-s Inv-loop μ-loop
-add-s c = omega arith
-
-loop-less : tie.Need-loop-less Inv-loop μ-loop
-loop-less c = omega arith
 
 loop-again : tie.Need-loop-again Inv-loop μ-loop
 loop-again c =
@@ -74,17 +50,6 @@ pub leads-spec : {M : Type 1} → statement M
 leads-spec =
     tie.close
     (tie.spec
-    Inv-loop
-    μ-loop
-    cast-row
-    loop-holds
-    mul-meets
-    add-meets
-    mul-meets-2
-    element-copy-out-meets
-    meets-requires
-    returns
-    add-s
-    loop-less
-    loop-again
-    returns-2)
+    Inv-loop μ-loop (λ c. search needs) loop-holds (λ c. omega arith) (λ c. omega arith)
+    (λ c. omega arith) (λ c. omega arith) (λ c κs. search needs) returns (λ c. omega arith)
+    (λ c. omega arith) loop-again returns-2)

@@ -22,21 +22,6 @@ loop-holds : tie.Need-loop-holds Inv-loop μ-loop
 unfolding greatest
 loop-holds c = (omega arith, record { none = none-yet _; most = refl })
 
-cast-t13 : tie.Need-cast-t13 Inv-loop μ-loop
-cast-t13 c = search needs
-
-member-requires : tie.Need-member-requires Inv-loop μ-loop
-member-requires c κs = search needs
-
-mul-t15 : tie.Need-mul-t15 Inv-loop μ-loop
-mul-t15 c = search needs
-
-element-copy-out-t18 : tie.Need-element-copy-out-t18 Inv-loop μ-loop
-element-copy-out-t18 c = search needs
-
-run-kept-requires : tie.Need-run-kept-requires Inv-loop μ-loop
-run-kept-requires c κs = search needs
-
 returns : tie.Need-returns Inv-loop μ-loop
 returns c =
     let ran = c .before .before in
@@ -45,15 +30,6 @@ returns c =
     let a = tested .before .before .before .before .before .args in
     one-left (a .sets .now) _ (a .singles .now) _ (a .text .now) (loop .q) (tested .before .before .loop-test .taken)
     (sym (tested .before .member .ensures) ∙ tested .if1 .taken) _ (ran .run-kept .ensures .0) (c .if2 .taken)
-
-greater-requires : tie.Need-greater-requires Inv-loop μ-loop
-greater-requires c κs = search needs
-
-add-q : tie.Need-add-q Inv-loop μ-loop
-add-q c = search needs
-
-loop-less : tie.Need-loop-less Inv-loop μ-loop
-loop-less c = search needs
 
 loop-again : tie.Need-loop-again Inv-loop μ-loop
 loop-again c =
@@ -89,17 +65,6 @@ pub find-by-run-spec : {M : Type 1} → statement M
 find-by-run-spec =
     tie.close
     (tie.spec
-    Inv-loop
-    μ-loop
-    loop-holds
-    cast-t13
-    member-requires
-    mul-t15
-    element-copy-out-t18
-    run-kept-requires
-    returns
-    greater-requires
-    add-q
-    loop-less
-    loop-again
-    returns-2)
+    Inv-loop μ-loop loop-holds (λ c. search needs) (λ c κs. search needs) (λ c. search needs)
+    (λ c. search needs) (λ c κs. search needs) returns (λ c κs. search needs)
+    (λ c. search needs) (λ c. search needs) loop-again returns-2)

@@ -4,15 +4,6 @@ use Rattle.locating.proofs.Spotting.{table-nowhere, table-after}
 use Rattle.locating.proofs.find_by_table.Statement.{statement}
 use Rattle.locating.proofs.find_by_table.Tie as tie
 
-prune-requires : tie.Need-prune-requires
-prune-requires c κs = search needs
-
-run-chunk-requires : tie.Need-run-chunk-requires
-run-chunk-requires c κs = search needs
-
-some-left-requires : tie.Need-some-left-requires
-some-left-requires c κs = search needs
-
 returns : tie.Need-returns
 returns c =
     let ran = c .before .before .before in
@@ -29,4 +20,6 @@ returns-2 c =
 
 pub find-by-table-spec : {M : Type 1} → statement M
 find-by-table-spec =
-    tie.close (tie.spec prune-requires run-chunk-requires some-left-requires returns returns-2)
+    tie.close
+    (tie.spec
+    (λ c κs. search needs) (λ c κs. search needs) (λ c κs. search needs) returns returns-2)

@@ -6,35 +6,15 @@ use Rattle.locating.specs.declared.Located.{Located}
 use Rattle.locating.proofs.in_chunk.Statement.{statement}
 use Rattle.locating.proofs.in_chunk.Tie as tie
 
-enum-known-found : tie.Need-enum-known-found
-enum-known-found c = search needs
-
-enum-known-found-2 : tie.Need-enum-known-found-2
-enum-known-found-2 c = search needs
-
-position-requires : tie.Need-position-requires
-position-requires c κs = search needs
-
-enum-told : tie.Need-enum-told
-enum-told c = search needs
-
 returns : tie.Need-returns
 returns c = ap (λ (l : Located). inChunk (c .before .before .before .before .args .chunk .now) (locatedMeans l)) (sym (c .before .found .given .1))
 
 returns-2 : tie.Need-returns-2
 returns-2 c = ap stuckAfter (c .position .ensures) ∙ ap (λ (l : Located). inChunk (c .before .before .before .before .before .args .chunk .now) (locatedMeans l)) (sym (c .before .before .found2 .given .1))
 
-returns-3 : tie.Need-returns-3
-returns-3 c = search needs
-
 pub in-chunk-spec : {M : Type 1} → statement M
 in-chunk-spec =
     tie.close
     (tie.spec
-    enum-known-found
-    enum-known-found-2
-    position-requires
-    enum-told
-    returns
-    returns-2
-    returns-3)
+    (λ c. search needs) (λ c. search needs) (λ c κs. search needs) (λ c. search needs) returns
+    returns-2 (λ c. search needs))

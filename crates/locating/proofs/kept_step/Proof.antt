@@ -13,27 +13,6 @@ returns c =
     let a = c .before .before .args in
     step-past (a .sets .now) (a .next .now) (a .live) (a .count) (a .set .0) (a .byte % 16) (c .before .before .pre) (c .if1 .taken) (mod-lt _ (omega arith))
 
-cast-symbol : tie.Need-cast-symbol
-cast-symbol c = search needs
-
-cast-cell : tie.Need-cast-cell
-cast-cell c = search needs
-
-mul-cell : tie.Need-mul-cell
-mul-cell c = search needs
-
-add-cell : tie.Need-add-cell
-add-cell c = search needs
-
-mul-kept-cell : tie.Need-mul-kept-cell
-mul-kept-cell c = search needs
-
-element-copy-out-kept-cell : tie.Need-element-copy-out-kept-cell
-element-copy-out-kept-cell c = search needs
-
-kept-cell-requires : tie.Need-kept-cell-requires
-kept-cell-requires c κs = search needs
-
 returns-2 : tie.Need-returns-2
 returns-2 c =
     let s = c .before .before .before .before .before in
@@ -44,12 +23,5 @@ pub kept-step-spec : {M : Type 1} → statement M
 kept-step-spec =
     tie.close
     (tie.spec
-    returns
-    cast-symbol
-    cast-cell
-    mul-cell
-    add-cell
-    mul-kept-cell
-    element-copy-out-kept-cell
-    kept-cell-requires
-    returns-2)
+    returns (λ c. search needs) (λ c. search needs) (λ c. search needs) (λ c. search needs)
+    (λ c. search needs) (λ c. search needs) (λ c κs. search needs) returns-2)

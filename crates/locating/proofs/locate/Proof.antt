@@ -7,9 +7,6 @@ use Rattle.locating.proofs.locate.Tie as tie
 returns : tie.Need-returns
 returns c = locate-21 _ _ _ (c .if1 .taken)
 
-places-of-requires : tie.Need-places-of-requires
-places-of-requires c κs = search needs
-
 returns-2 : tie.Need-returns-2
 returns-2 c =
     let places = c .before in
@@ -20,21 +17,6 @@ returns-3 c =
     let within = c .before in
     let places = within .before in
     locate-12 _ _ _ (places .before .before .if1 .left) _ (places .places-of .ensures) (within .if2 .left) (c .if3 .taken)
-
-has-gap-requires : tie.Need-has-gap-requires
-has-gap-requires c κs = search needs
-
-join-places-requires : tie.Need-join-places-requires
-join-places-requires c κs = search needs
-
-delegate-mask-requires : tie.Need-delegate-mask-requires
-delegate-mask-requires c κs = search needs
-
-live-mask-requires : tie.Need-live-mask-requires
-live-mask-requires c κs = search needs
-
-locate-chunk-requires : tie.Need-locate-chunk-requires
-locate-chunk-requires c κs = search needs
 
 returns-4 : tie.Need-returns-4
 returns-4 c =
@@ -53,13 +35,6 @@ pub locate-spec : {M : Type 1} → statement M
 locate-spec =
     tie.close
     (tie.spec
-    returns
-    places-of-requires
-    returns-2
-    returns-3
-    has-gap-requires
-    join-places-requires
-    delegate-mask-requires
-    live-mask-requires
-    locate-chunk-requires
+    returns (λ c κs. search needs) returns-2 returns-3 (λ c κs. search needs)
+    (λ c κs. search needs) (λ c κs. search needs) (λ c κs. search needs) (λ c κs. search needs)
     returns-4)

@@ -5,18 +5,6 @@ use Rattle.locating.proofs.Spotting.{unmarked-text}
 use Rattle.locating.proofs.locate_chunk.Statement.{statement}
 use Rattle.locating.proofs.locate_chunk.Tie as tie
 
-has-marks-requires : tie.Need-has-marks-requires
-has-marks-requires c κs = search needs
-
-locate-marked-requires : tie.Need-locate-marked-requires
-locate-marked-requires c κs = search needs
-
-returns : tie.Need-returns
-returns c = search needs
-
-locate-text-requires : tie.Need-locate-text-requires
-locate-text-requires c κs = search needs
-
 returns-2 : tie.Need-returns-2
 returns-2 c =
     c .locate-text .ensures
@@ -24,4 +12,7 @@ returns-2 c =
 
 pub locate-chunk-spec : {M : Type 1} → statement M
 locate-chunk-spec =
-    tie.close (tie.spec has-marks-requires locate-marked-requires returns locate-text-requires returns-2)
+    tie.close
+    (tie.spec
+    (λ c κs. search needs) (λ c κs. search needs) (λ c. search needs) (λ c κs. search needs)
+    returns-2)

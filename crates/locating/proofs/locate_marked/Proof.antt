@@ -20,12 +20,6 @@ use Rattle.locating.proofs.locate_marked.Tie as tie
 short : (w : List ℕ) → length w ≤ 65536 → length (textOf w) ≤ 65536
 short w h = omega (arith, marks.claims .no-longer w)
 
-slice-aggregate-pack : tie.Need-slice-aggregate-pack
-slice-aggregate-pack c = search needs
-
-pack-requires : tie.Need-pack-requires
-pack-requires c κs = search needs
-
 array-share-prefix-buffer : tie.Need-array-share-prefix-buffer
 array-share-prefix-buffer c =
     let packed = c .before .pack in
@@ -41,9 +35,6 @@ locate-text-requires : tie.Need-locate-text-requires
 locate-text-requires c κs =
     rw (taken (c .before .before .pack .ensures)) (short _ (c .before .before .before .before .before .pre))
 
-in-chunk-requires : tie.Need-in-chunk-requires
-in-chunk-requires c κs = search needs
-
 returns : tie.Need-returns
 returns c =
     let a = c .before .before .before .before .before .before .before .args in
@@ -56,10 +47,5 @@ pub locate-marked-spec : {M : Type 1} → statement M
 locate-marked-spec =
     tie.close
     (tie.spec
-    slice-aggregate-pack
-    pack-requires
-    array-share-prefix-buffer
-    slice-aggregate-locate-text
-    locate-text-requires
-    in-chunk-requires
-    returns)
+    (λ c. search needs) (λ c κs. search needs) array-share-prefix-buffer
+    slice-aggregate-locate-text locate-text-requires (λ c κs. search needs) returns)

@@ -5,28 +5,16 @@ use Rattle.locating.proofs.Spotting.{text-13, text-23, text-found}
 use Rattle.locating.proofs.locate_text.Statement.{statement}
 use Rattle.locating.proofs.locate_text.Tie as tie
 
-has-foreign-requires : tie.Need-has-foreign-requires
-has-foreign-requires c κs = search needs
-
 returns : tie.Need-returns
 returns c = text-13 _ _ _ _ _ _ _ (sym (c .before .has-foreign .ensures) ∙ c .if1 .taken)
 
 returns-2 : tie.Need-returns-2
 returns-2 c = text-23 _ _ _ _ _ _ _ (sym (c .before .before .has-foreign .ensures) ∙ c .before .if1 .left) (c .if2 .taken)
 
-few-bytes-requires : tie.Need-few-bytes-requires
-few-bytes-requires c κs = search needs
-
-find-by-run-requires : tie.Need-find-by-run-requires
-find-by-run-requires c κs = search needs
-
 returns-3 : tie.Need-returns-3
 returns-3 c =
     let known = c .before .before .before in
     text-found _ _ _ _ _ _ _ (sym (known .before .before .has-foreign .ensures) ∙ known .before .if1 .left) (known .if2 .left) _ (c .find-by-run .ensures)
-
-find-by-table-requires : tie.Need-find-by-table-requires
-find-by-table-requires c κs = search needs
 
 returns-4 : tie.Need-returns-4
 returns-4 c =
@@ -37,11 +25,5 @@ pub locate-text-spec : {M : Type 1} → statement M
 locate-text-spec =
     tie.close
     (tie.spec
-    has-foreign-requires
-    returns
-    returns-2
-    few-bytes-requires
-    find-by-run-requires
-    returns-3
-    find-by-table-requires
-    returns-4)
+    (λ c κs. search needs) returns returns-2 (λ c κs. search needs) (λ c κs. search needs)
+    returns-3 (λ c κs. search needs) returns-4)

@@ -14,35 +14,11 @@ Inv-loop sets next live count end out₀ c₀ out c = (c ≤ end) × Kept sets n
 abbrev μ-loop : tie.MeasureT-loop
 μ-loop sets next live count end out₀ c₀ out c = end - c
 
-cells-of-requires : tie.Need-cells-of-requires Inv-loop μ-loop
-cells-of-requires c κs = search needs
-
 loop-holds : tie.Need-loop-holds Inv-loop μ-loop
 loop-holds c = (
   omega arith,
   record { size = length-replicate {A = ℕ} 8192 512; below = λ p h. absurd (omega arith); rest = λ p a b. getD-replicate {A = ℕ} 8192 p 512 0 b },
 )
-
-mul-kept-cell : tie.Need-mul-kept-cell Inv-loop μ-loop
-mul-kept-cell c = search needs
-
-element-copy-out-kept-cell : tie.Need-element-copy-out-kept-cell Inv-loop μ-loop
-element-copy-out-kept-cell c = search needs
-
-kept-cell-requires : tie.Need-kept-cell-requires Inv-loop μ-loop
-kept-cell-requires c κs = search needs
-
-mul-out : tie.Need-mul-out Inv-loop μ-loop
-mul-out c = search needs
-
-array-write-out : tie.Need-array-write-out Inv-loop μ-loop
-array-write-out c = search needs
-
-add-c : tie.Need-add-c Inv-loop μ-loop
-add-c c = search needs
-
-loop-less : tie.Need-loop-less Inv-loop μ-loop
-loop-less c = search needs
 
 loop-again : tie.Need-loop-again Inv-loop μ-loop
 loop-again c =
@@ -62,16 +38,6 @@ pub prune-spec : {M : Type 1} → statement M
 prune-spec =
     tie.close
     (tie.spec
-    Inv-loop
-    μ-loop
-    cells-of-requires
-    loop-holds
-    mul-kept-cell
-    element-copy-out-kept-cell
-    kept-cell-requires
-    mul-out
-    array-write-out
-    add-c
-    loop-less
-    loop-again
-    returns)
+    Inv-loop μ-loop (λ c κs. search needs) loop-holds (λ c. search needs) (λ c. search needs)
+    (λ c κs. search needs) (λ c. search needs) (λ c. search needs) (λ c. search needs)
+    (λ c. search needs) loop-again returns)

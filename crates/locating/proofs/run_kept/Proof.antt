@@ -25,18 +25,6 @@ returns c =
 loop-holds : tie.Need-loop-holds Inv-loop μ-loop
 loop-holds c = (omega arith, search needs, not-yet _ _ _)
 
-shared-slice-read-kept-step : tie.Need-shared-slice-read-kept-step Inv-loop μ-loop
-shared-slice-read-kept-step c = omega arith
-
-kept-step-requires : tie.Need-kept-step-requires Inv-loop μ-loop
-kept-step-requires c κs = search needs
-
-add-i : tie.Need-add-i Inv-loop μ-loop
-add-i c = omega arith
-
-cast-t16 : tie.Need-cast-t16 Inv-loop μ-loop
-cast-t16 c = omega arith
-
 returns-2 : tie.Need-returns-2 Inv-loop μ-loop
 returns-2 c =
     let l = c .before .before .before .before .loop in
@@ -47,9 +35,6 @@ returns-2 c =
     run-next cut (a .from .0) (a .text .now) (l .i) (l .set) (l .inv .2) (omega arith) (l .inv .1) set (c .before .kept-step .ensures) in
     run-dead cut (a .from .0) (a .text .now) (l .i + 1) set ran (a .sets .now) (c .if2 .taken)
 
-loop-less : tie.Need-loop-less Inv-loop μ-loop
-loop-less c = omega arith
-
 loop-again : tie.Need-loop-again Inv-loop μ-loop
 loop-again c =
     let l = c .before .before .before .before .loop in
@@ -59,12 +44,6 @@ loop-again c =
     let ran : Ran cut (a .from .0) (a .text .now) (l .i + 1) set =
     run-next cut (a .from .0) (a .text .now) (l .i) (l .set) (l .inv .2) (omega arith) (l .inv .1) set (c .before .kept-step .ensures) in
     (omega arith, c .if2 .left, ran)
-
-mask-of-requires : tie.Need-mask-of-requires Inv-loop μ-loop
-mask-of-requires c κs = search needs
-
-cast-t19 : tie.Need-cast-t19 Inv-loop μ-loop
-cast-t19 c = omega arith
 
 returns-3 : tie.Need-returns-3 Inv-loop μ-loop
 returns-3 c =
@@ -78,17 +57,6 @@ pub run-kept-spec : {M : Type 1} → statement M
 run-kept-spec =
     tie.close
     (tie.spec
-    Inv-loop
-    μ-loop
-    returns
-    loop-holds
-    shared-slice-read-kept-step
-    kept-step-requires
-    add-i
-    cast-t16
-    returns-2
-    loop-less
-    loop-again
-    mask-of-requires
-    cast-t19
-    returns-3)
+    Inv-loop μ-loop returns loop-holds (λ c. omega arith) (λ c κs. search needs)
+    (λ c. omega arith) (λ c. omega arith) returns-2 (λ c. omega arith) loop-again
+    (λ c κs. search needs) (λ c. omega arith) returns-3)

@@ -21,20 +21,8 @@ abbrev μ-loop : tie.MeasureT-loop
 loop-holds : tie.Need-loop-holds Inv-loop μ-loop
 loop-holds c = (omega arith, refl, filled-none (c .before .args .k) (c .before .args .seed) (c .before .args .text .now))
 
-next-value-requires : tie.Need-next-value-requires Inv-loop μ-loop
-next-value-requires c κs = search needs
-
-rem-text : tie.Need-rem-text Inv-loop μ-loop
-rem-text c = search needs
-
 cast-text : tie.Need-cast-text Inv-loop μ-loop
 cast-text c = search (needs, below-byte)
-
-slice-write-text : tie.Need-slice-write-text Inv-loop μ-loop
-slice-write-text c = search needs
-
-add-i : tie.Need-add-i Inv-loop μ-loop
-add-i c = search needs
 
 loop-less : tie.Need-loop-less Inv-loop μ-loop
 loop-less c = search (needs, filled-less)
@@ -45,9 +33,6 @@ loop-again c =
     let a = c .before .before .before .before .args in
     filled-more (madeText (a .k) (a .seed) (length (a .text .now))) (a .k) (l .x) (length (a .text .now)) (l .i) (l .text)
     (c .next-value .result) (c .next-value .ensures) (omega arith) (l .inv .1) (l .inv .2)
-
-same-length : tie.Need-same-length Inv-loop μ-loop
-same-length c = search needs
 
 returns : tie.Need-returns Inv-loop μ-loop
 returns c =
@@ -60,15 +45,5 @@ pub fill-spec : {M : Type 1} → statement M
 fill-spec =
     tie.close
     (tie.spec
-    Inv-loop
-    μ-loop
-    loop-holds
-    next-value-requires
-    rem-text
-    cast-text
-    slice-write-text
-    add-i
-    loop-less
-    loop-again
-    same-length
-    returns)
+    Inv-loop μ-loop loop-holds (λ c κs. search needs) (λ c. search needs) cast-text
+    (λ c. search needs) (λ c. search needs) loop-less loop-again (λ c. search needs) returns)

@@ -14,12 +14,6 @@ returns-2 c = search (needs, too-many)
 returns-3 : tie.Need-returns-3
 returns-3 c = search (needs, no-seed)
 
-fill-requires : tie.Need-fill-requires
-fill-requires c κs = search needs
-
-same-length : tie.Need-same-length
-same-length c = search needs
-
 returns-4 : tie.Need-returns-4
 returns-4 c =
     let s = c .before .before .before .before .before .before .before .before .args in
@@ -27,4 +21,6 @@ returns-4 c =
 
 pub make-text-spec : {M : Type 1} → statement M
 make-text-spec =
-    tie.close (tie.spec returns returns-2 returns-3 fill-requires same-length returns-4)
+    tie.close
+    (tie.spec
+    returns returns-2 returns-3 (λ c κs. search needs) (λ c. search needs) returns-4)

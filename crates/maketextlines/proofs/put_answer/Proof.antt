@@ -2,17 +2,10 @@
 use mathlib.Core.Path.{sym}
 use native.Mathlib.Omega.{arith}
 use lib.ListN.{take}
-use Rattle.shortlines.proofs.Rounds.{prefix}
-use Rattle.maketextlines.proofs.Writing.{length-most, made-to, malformed-to}
+use Rattle.maketextlines.proofs.Writing.{length-most, made-to, malformed-to, prefix}
 use borrow.Author.Needs.{needs}
 use Rattle.maketextlines.proofs.put_answer.Statement.{statement}
 use Rattle.maketextlines.proofs.put_answer.Tie as tie
-
-parse-requires : tie.Need-parse-requires
-parse-requires c κs = search needs
-
-enum-known-parsed : tie.Need-enum-known-parsed
-enum-known-parsed c = search needs
 
 slice-relend-prefix-put-made : tie.Need-slice-relend-prefix-put-made
 slice-relend-prefix-put-made c =
@@ -36,18 +29,6 @@ put-made-requires c κs =
     let most = length-most (s .args .line .now) (p .result) (p .ensures) (x .0 .0) (x .0 .1 .0) (x .0 .1 .1 .0) (x .1) in
     (omega (arith, prefix (x .0 .1 .1 .0) (s .args .buffer .now) (omega (arith, s .pre .0))), s .pre .1)
 
-enum-told : tie.Need-enum-told
-enum-told c = search needs
-
-put-malformed-requires : tie.Need-put-malformed-requires
-put-malformed-requires c κs = search needs
-
-same-length : tie.Need-same-length
-same-length c = search needs
-
-same-length-2 : tie.Need-same-length-2
-same-length-2 c = search needs
-
 returns : tie.Need-returns
 returns c =
     let s = c .before .before .before .before .before .before .before .before .before .before .before .before .before .before in
@@ -57,9 +38,6 @@ returns c =
     let size = prefix (x .0 .1 .1 .0) (s .args .buffer .now) (omega (arith, s .pre .0)) in
     made-to (s .args .line .now) (p .result) (p .ensures) (x .0 .0) (x .0 .1 .0) (x .0 .1 .1 .0) (x .1) (take (x .0 .1 .1 .0) (s .args .buffer .now)) (sym size) (c .before .before .before .before .put-made .ensures)
 
-same-length-3 : tie.Need-same-length-3
-same-length-3 c = search needs
-
 returns-2 : tie.Need-returns-2
 returns-2 c = search (needs, malformed-to)
 
@@ -67,15 +45,6 @@ pub put-answer-spec : {M : Type 1} → statement M
 put-answer-spec =
     tie.close
     (tie.spec
-    parse-requires
-    enum-known-parsed
-    slice-relend-prefix-put-made
-    slice-aggregate-put-made
-    put-made-requires
-    enum-told
-    put-malformed-requires
-    same-length
-    same-length-2
-    returns
-    same-length-3
-    returns-2)
+    (λ c κs. search needs) (λ c. search needs) slice-relend-prefix-put-made
+    slice-aggregate-put-made put-made-requires (λ c. search needs) (λ c κs. search needs)
+    (λ c. search needs) (λ c. search needs) returns (λ c. search needs) returns-2)

@@ -5,14 +5,8 @@ use borrow.Author.Needs.{needs}
 use Rattle.maketextlines.proofs.put_made.Statement.{statement}
 use Rattle.maketextlines.proofs.put_made.Tie as tie
 
-make-text-requires : tie.Need-make-text-requires
-make-text-requires c κs = search needs
-
 enum-told : tie.Need-enum-told
 enum-told c = search needs
-
-put-field-requires : tie.Need-put-field-requires
-put-field-requires c κs = search needs
 
 put-byte-requires : tie.Need-put-byte-requires
 put-byte-requires c κs =
@@ -20,30 +14,12 @@ put-byte-requires c κs =
     let m = c .before .before .before .before .before .before .before .before .before .before .make-text in
     byte-left (m .last .1 .1 .0) (s .pre .1) (omega (arith, s .pre .0, m .kept .1 .1 .0)) (c .before .before .before .put-field .ensures)
 
-enum-known-answer : tie.Need-enum-known-answer
-enum-known-answer c = search needs
-
-put-refused-requires : tie.Need-put-refused-requires
-put-refused-requires c κs = search needs
-
-same-length : tie.Need-same-length
-same-length c = search needs
-
-same-length-2 : tie.Need-same-length-2
-same-length-2 c = search needs
-
 returns : tie.Need-returns
 returns c =
     let s = c .before .before .before .before .before .before .before .before .before .before .before .before .before .before .before .before .before in
     let m = c .before .before .before .before .before .before .before .before .before .before .before .before .before .make-text in
     let told = c .before .before .before .before .before .before .before .before .before .enum-told .given .1 in
     made-line (m .last .1 .1 .0) (s .pre .1) (omega (arith, s .pre .0, m .kept .1 .1 .0)) (c .before .before .before .before .before .before .put-field .ensures) (s .args .k) (s .args .seed) (s .args .text .now) (m .result) (m .ensures) told (c .before .before .put-byte .ensures)
-
-same-length-3 : tie.Need-same-length-3
-same-length-3 c = search needs
-
-same-length-4 : tie.Need-same-length-4
-same-length-4 c = search needs
 
 returns-2 : tie.Need-returns-2
 returns-2 c =
@@ -56,15 +32,6 @@ pub put-made-spec : {M : Type 1} → statement M
 put-made-spec =
     tie.close
     (tie.spec
-    make-text-requires
-    enum-told
-    put-field-requires
-    put-byte-requires
-    enum-known-answer
-    put-refused-requires
-    same-length
-    same-length-2
-    returns
-    same-length-3
-    same-length-4
-    returns-2)
+    (λ c κs. search needs) enum-told (λ c κs. search needs) put-byte-requires
+    (λ c. search needs) (λ c κs. search needs) (λ c. search needs) (λ c. search needs) returns
+    (λ c. search needs) (λ c. search needs) returns-2)

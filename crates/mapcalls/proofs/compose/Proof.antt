@@ -4,11 +4,8 @@ use borrow.Author.Needs.{needs}
 use Rattle.mapcalls.proofs.compose.Statement.{statement}
 use Rattle.mapcalls.proofs.compose.Tie as tie
 
-compose-requires : tie.Need-compose-requires
-compose-requires c κs = search needs
-
 returns : tie.Need-returns
 returns c = search (needs, composed)
 
 pub compose-spec : {M : Type 1} → statement M
-compose-spec = tie.close (tie.spec compose-requires returns)
+compose-spec = tie.close (tie.spec (λ c κs. search needs) returns)

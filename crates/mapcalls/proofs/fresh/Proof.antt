@@ -4,11 +4,8 @@ use borrow.Author.Needs.{needs}
 use Rattle.mapcalls.proofs.fresh.Statement.{statement}
 use Rattle.mapcalls.proofs.fresh.Tie as tie
 
-nothing-built-requires : tie.Need-nothing-built-requires
-nothing-built-requires c κs = search needs
-
 returns : tie.Need-returns
 returns c = search (needs, fresh-is)
 
 pub fresh-spec : {M : Type 1} → statement M
-fresh-spec = tie.close (tie.spec nothing-built-requires returns)
+fresh-spec = tie.close (tie.spec (λ c κs. search needs) returns)

@@ -7,15 +7,8 @@ use Rattle.maplines.proofs.changes.Tie as tie
 returns : tie.Need-returns
 returns c = search (needs, changed)
 
-slice-aggregate-begins-with : tie.Need-slice-aggregate-begins-with
-slice-aggregate-begins-with c = search needs
-
-begins-with-requires : tie.Need-begins-with-requires
-begins-with-requires c κs = search needs
-
 returns-2 : tie.Need-returns-2
 returns-2 c = search (needs, by-word)
 
 pub changes-spec : {M : Type 1} → statement M
-changes-spec =
-    tie.close (tie.spec returns slice-aggregate-begins-with begins-with-requires returns-2)
+changes-spec = tie.close (tie.spec returns (λ c. search needs) (λ c κs. search needs) returns-2)

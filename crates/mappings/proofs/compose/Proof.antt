@@ -19,21 +19,6 @@ abbrev μ-loop : tie.MeasureT-loop
 loop-holds : tie.Need-loop-holds Inv-loop μ-loop
 loop-holds c = (omega arith, refl, λ i b. absurd (omega arith))
 
-array-read-image : tie.Need-array-read-image Inv-loop μ-loop
-array-read-image c = omega arith
-
-image-requires : tie.Need-image-requires Inv-loop μ-loop
-image-requires c κs = search needs
-
-array-write-masks : tie.Need-array-write-masks Inv-loop μ-loop
-array-write-masks c = omega arith
-
-add-q : tie.Need-add-q Inv-loop μ-loop
-add-q c = omega arith
-
-loop-less : tie.Need-loop-less Inv-loop μ-loop
-loop-less c = omega arith
-
 loop-again : tie.Need-loop-again Inv-loop μ-loop
 loop-again c =
     let x = c .before .before .before .loop in
@@ -53,13 +38,5 @@ pub compose-spec : {M : Type 1} → statement M
 compose-spec =
     tie.close
     (tie.spec
-    Inv-loop
-    μ-loop
-    loop-holds
-    array-read-image
-    image-requires
-    array-write-masks
-    add-q
-    loop-less
-    loop-again
-    returns)
+    Inv-loop μ-loop loop-holds (λ c. omega arith) (λ c κs. search needs) (λ c. omega arith)
+    (λ c. omega arith) (λ c. omega arith) loop-again returns)

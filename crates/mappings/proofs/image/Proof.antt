@@ -36,9 +36,6 @@ loop-holds c = (search needs, sym (div-one _), refl)
 shared-slice-read-out : tie.Need-shared-slice-read-out Inv-loop μ-loop
 shared-slice-read-out c = omega (arith, state-left (c .before .before))
 
-add-q : tie.Need-add-q Inv-loop μ-loop
-add-q c = omega arith
-
 loop-less : tie.Need-loop-less Inv-loop μ-loop
 loop-less c = omega (arith, state-left (c .before))
 
@@ -64,4 +61,6 @@ returns c =
 pub image-spec : {M : Type 1} → statement M
 image-spec =
     tie.close
-    (tie.spec Inv-loop μ-loop loop-holds shared-slice-read-out add-q loop-less loop-again returns)
+    (tie.spec
+    Inv-loop μ-loop loop-holds shared-slice-read-out (λ c. omega arith) loop-less loop-again
+    returns)

@@ -9,12 +9,6 @@ use borrow.Author.Needs.{needs}
 use Rattle.mappings.proofs.own_set.Statement.{statement}
 use Rattle.mappings.proofs.own_set.Tie as tie
 
-cast-result : tie.Need-cast-result
-cast-result c = search needs
-
-shl-result : tie.Need-shl-result
-shl-result c = search needs
-
 returns : tie.Need-returns
 returns c = rw (lt-ltb (c .before .args .q) (c .before .args .n) (c .if1 .taken)) (shl-exact 1 (c .before .args .q) 8 (lit< tt) (omega arith) ∙ one-mul _)
 
@@ -22,4 +16,4 @@ returns-2 : tie.Need-returns-2
 returns-2 c = rw (le-ltb (c .before .args .q) (c .before .args .n) (c .if1 .left))
 
 pub own-set-spec : {M : Type 1} → statement M
-own-set-spec = tie.close (tie.spec cast-result shl-result returns returns-2)
+own-set-spec = tie.close (tie.spec (λ c. search needs) (λ c. search needs) returns returns-2)

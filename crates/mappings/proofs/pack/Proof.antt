@@ -45,23 +45,11 @@ module _ (c : tie.In-loop Inv-loop μ-loop) where
 loop-holds : tie.Need-loop-holds Inv-loop μ-loop
 loop-holds c = (omega arith, sym (pack-none (c .before .args .mapping .masks) (search needs)))
 
-sub-q : tie.Need-sub-q Inv-loop μ-loop
-sub-q c = omega arith
-
 mul-packed : tie.Need-mul-packed Inv-loop μ-loop
 mul-packed c = record { fits = omega (arith, room c) }
 
-array-read-packed : tie.Need-array-read-packed Inv-loop μ-loop
-array-read-packed c = omega arith
-
-cast-packed : tie.Need-cast-packed Inv-loop μ-loop
-cast-packed c = search needs
-
 add-packed : tie.Need-add-packed Inv-loop μ-loop
 add-packed c = record { fits = room c }
-
-loop-less : tie.Need-loop-less Inv-loop μ-loop
-loop-less c = omega arith
 
 loop-again : tie.Need-loop-again Inv-loop μ-loop
 loop-again c = (omega arith, more c)
@@ -76,14 +64,5 @@ pub pack-spec : {M : Type 1} → statement M
 pack-spec =
     tie.close
     (tie.spec
-    Inv-loop
-    μ-loop
-    loop-holds
-    sub-q
-    mul-packed
-    array-read-packed
-    cast-packed
-    add-packed
-    loop-less
-    loop-again
-    returns)
+    Inv-loop μ-loop loop-holds (λ c. omega arith) mul-packed (λ c. omega arith)
+    (λ c. search needs) add-packed (λ c. omega arith) loop-again returns)

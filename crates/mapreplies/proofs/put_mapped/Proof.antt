@@ -4,17 +4,14 @@ use borrow.Author.Needs.{needs}
 use Rattle.mapreplies.proofs.put_mapped.Statement.{statement}
 use Rattle.mapreplies.proofs.put_mapped.Tie as tie
 
-put-mapping-requires : tie.Need-put-mapping-requires
-put-mapping-requires c κs = search needs
-
 put-byte-requires : tie.Need-put-byte-requires
 put-byte-requires c κs = search (needs, mapped-room)
-
-same-length : tie.Need-same-length
-same-length c = search needs
 
 returns : tie.Need-returns
 returns c = search (needs, mapped-whole)
 
 pub put-mapped-spec : {M : Type 1} → statement M
-put-mapped-spec = tie.close (tie.spec put-mapping-requires put-byte-requires same-length returns)
+put-mapped-spec =
+    tie.close
+    (tie.spec
+    (λ c κs. search needs) put-byte-requires (λ c. search needs) returns)

@@ -4,15 +4,6 @@ use borrow.Author.Needs.{needs}
 use Rattle.mapstream.proofs.changes_held.Statement.{statement}
 use Rattle.mapstream.proofs.changes_held.Tie as tie
 
-look-requires : tie.Need-look-requires
-look-requires c κs = search needs
-
-slice-aggregate-changes : tie.Need-slice-aggregate-changes
-slice-aggregate-changes c = search needs
-
-changes-requires : tie.Need-changes-requires
-changes-requires c κs = search needs
-
 returns : tie.Need-returns
 returns c = search (needs, changes-call)
 
@@ -21,4 +12,6 @@ returns-2 c = search (needs, changes-stray)
 
 pub changes-held-spec : {M : Type 1} → statement M
 changes-held-spec =
-    tie.close (tie.spec look-requires slice-aggregate-changes changes-requires returns returns-2)
+    tie.close
+    (tie.spec
+    (λ c κs. search needs) (λ c. search needs) (λ c κs. search needs) returns returns-2)

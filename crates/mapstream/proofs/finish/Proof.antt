@@ -1,24 +1,19 @@
 -- `finish` meets its contract. Assumes nothing.
 use Rattle.linetexts.proofs.Ends.{none-written, last-written}
-use Rattle.mapstream.specs.Texts.{mapLines}
+use Rattle.linetexts.specs.Lists.{listTeller}
+use Rattle.mapstream.specs.Texts.{mapList}
 use borrow.Author.Needs.{needs}
 use Rattle.mapstream.proofs.finish.Statement.{statement}
 use Rattle.mapstream.proofs.finish.Tie as tie
 
 returns : tie.Need-returns
-returns c = search (needs, none-written mapLines)
-
-run-held-requires : tie.Need-run-held-requires
-run-held-requires c κs = search needs
-
-same-length : tie.Need-same-length
-same-length c = search needs
-
-same-length-2 : tie.Need-same-length-2
-same-length-2 c = search needs
+returns c = search (needs, none-written (listTeller mapList))
 
 returns-2 : tie.Need-returns-2
-returns-2 c = search (needs, last-written mapLines)
+returns-2 c = search (needs, last-written (listTeller mapList))
 
 pub finish-spec : {M : Type 1} → statement M
-finish-spec = tie.close (tie.spec returns run-held-requires same-length same-length-2 returns-2)
+finish-spec =
+    tie.close
+    (tie.spec
+    returns (λ c κs. search needs) (λ c. search needs) (λ c. search needs) returns-2)

@@ -6,41 +6,11 @@ use borrow.Author.Needs.{needs}
 use Rattle.mapstream.proofs.run_held.Statement.{statement}
 use Rattle.mapstream.proofs.run_held.Tie as tie
 
-skips-requires : tie.Need-skips-requires
-skips-requires c κs = search needs
-
-say-skipped-requires : tie.Need-say-skipped-requires
-say-skipped-requires c κs = search needs
-
-same-length : tie.Need-same-length
-same-length c = search needs
-
 returns : tie.Need-returns
 returns c = (search (needs, skipped-ended), (search (needs, skipped-text mapList), search needs))
 
-look-requires : tie.Need-look-requires
-look-requires c κs = search needs
-
-slice-aggregate-run-line : tie.Need-slice-aggregate-run-line
-slice-aggregate-run-line c = search needs
-
-run-line-requires : tie.Need-run-line-requires
-run-line-requires c κs = search needs
-
-same-length-2 : tie.Need-same-length-2
-same-length-2 c = search needs
-
-same-length-3 : tie.Need-same-length-3
-same-length-3 c = search needs
-
 returns-2 : tie.Need-returns-2
 returns-2 c = (search (needs, ran-state), (search (needs, ran-text), search needs))
-
-say-malformed-requires : tie.Need-say-malformed-requires
-say-malformed-requires c κs = search needs
-
-same-length-4 : tie.Need-same-length-4
-same-length-4 c = search needs
 
 returns-3 : tie.Need-returns-3
 returns-3 c =
@@ -56,16 +26,6 @@ pub run-held-spec : {M : Type 1} → statement M
 run-held-spec =
     tie.close
     (tie.spec
-    skips-requires
-    say-skipped-requires
-    same-length
-    returns
-    look-requires
-    slice-aggregate-run-line
-    run-line-requires
-    same-length-2
-    same-length-3
-    returns-2
-    say-malformed-requires
-    same-length-4
-    returns-3)
+    (λ c κs. search needs) (λ c κs. search needs) (λ c. search needs) returns
+    (λ c κs. search needs) (λ c. search needs) (λ c κs. search needs) (λ c. search needs)
+    (λ c. search needs) returns-2 (λ c κs. search needs) (λ c. search needs) returns-3)

@@ -25,23 +25,11 @@ loop-holds c =
     let a = s .args in
     (omega arith, s .pre, none-put (λ i. hex 2 (getD (a .mapping .masks) i 0)) (a .out .now) (a .start) (omega (arith, s .pre)))
 
-array-read-put-hex : tie.Need-array-read-put-hex Inv-loop μ-loop
-array-read-put-hex c = omega arith
-
-cast-put-hex : tie.Need-cast-put-hex Inv-loop μ-loop
-cast-put-hex c = search needs
-
 put-hex-requires : tie.Need-put-hex-requires Inv-loop μ-loop
 put-hex-requires c κs =
     let x = c .before .before .loop in
     let masks = c .before .before .before .before .before .args .mapping .masks in
     omega (arith, x .inv, x .inv .2 .kept, x .inv .2 .wrote .ends, length-exact (λ i. hex 2 (getD masks i 0)) (x .q) 2 (λ i _. hex-length 2 (getD masks i 0)))
-
-add-q : tie.Need-add-q Inv-loop μ-loop
-add-q c = omega arith
-
-loop-less : tie.Need-loop-less Inv-loop μ-loop
-loop-less c = omega arith
 
 loop-again : tie.Need-loop-again Inv-loop μ-loop
 loop-again c =
@@ -65,14 +53,5 @@ pub put-mapping-spec : {M : Type 1} → statement M
 put-mapping-spec =
     tie.close
     (tie.spec
-    Inv-loop
-    μ-loop
-    loop-holds
-    array-read-put-hex
-    cast-put-hex
-    put-hex-requires
-    add-q
-    loop-less
-    loop-again
-    same-length
-    returns)
+    Inv-loop μ-loop loop-holds (λ c. omega arith) (λ c. search needs) put-hex-requires
+    (λ c. omega arith) (λ c. omega arith) loop-again same-length returns)

@@ -9,17 +9,8 @@ use Rattle.maptext.proofs.read_mapping.Tie as tie
 returns : tie.Need-returns
 returns c = not-sixteen (c .before .before .args .field .now) (c .if1 .taken)
 
-slice-aggregate-read-bytes : tie.Need-slice-aggregate-read-bytes
-slice-aggregate-read-bytes c = search needs
-
-read-bytes-requires : tie.Need-read-bytes-requires
-read-bytes-requires c κs = search needs
-
 enum-told : tie.Need-enum-told
 enum-told c = search needs
-
-enum-told-2 : tie.Need-enum-told-2
-enum-told-2 c = search needs
 
 returns-2 : tie.Need-returns-2
 returns-2 c =
@@ -35,10 +26,5 @@ pub read-mapping-spec : {M : Type 1} → statement M
 read-mapping-spec =
     tie.close
     (tie.spec
-    returns
-    slice-aggregate-read-bytes
-    read-bytes-requires
-    enum-told
-    enum-told-2
-    returns-2
+    returns (λ c. search needs) (λ c κs. search needs) enum-told (λ c. search needs) returns-2
     returns-3)

@@ -9,16 +9,10 @@ use borrow.Author.Needs.{needs}
 use Rattle.masks.proofs.only_symbol.Statement.{statement}
 use Rattle.masks.proofs.only_symbol.Tie as tie
 
-cast-result : tie.Need-cast-result
-cast-result c = search needs
-
-shl-result : tie.Need-shl-result
-shl-result c = search needs
-
 returns : tie.Need-returns
 returns c =
     let q : ℕ = c .args .symbol in
     shl-exact 1 q 16 (lit< tt) (omega arith) ∙ one-mul (2 ^ q)
 
 pub only-symbol-spec : {M : Type 1} → statement M
-only-symbol-spec = tie.close (tie.spec cast-result shl-result returns)
+only-symbol-spec = tie.close (tie.spec (λ c. search needs) (λ c. search needs) returns)

@@ -4,12 +4,6 @@ use Rattle.merge.proofs.Ways.{cell-state, cell-none}
 use Rattle.merge.proofs.cell_of.Statement.{statement}
 use Rattle.merge.proofs.cell_of.Tie as tie
 
-states-requires : tie.Need-states-requires
-states-requires c κs = search needs
-
-targets-of-requires : tie.Need-targets-of-requires
-targets-of-requires c κs = search needs
-
 returns : tie.Need-returns
 returns c = search (needs, cell-state)
 
@@ -17,4 +11,4 @@ returns-2 : tie.Need-returns-2
 returns-2 c = search (needs, cell-none)
 
 pub cell-of-spec : {M : Type 1} → statement M
-cell-of-spec = tie.close (tie.spec states-requires targets-of-requires returns returns-2)
+cell-of-spec = tie.close (tie.spec (λ c κs. search needs) (λ c κs. search needs) returns returns-2)

@@ -4,21 +4,11 @@ use Rattle.merge.proofs.Ways.{mask-read}
 use Rattle.merge.proofs.mask_at.Statement.{statement}
 use Rattle.merge.proofs.mask_at.Tie as tie
 
-mul-result : tie.Need-mul-result
-mul-result c = search needs
-
-add-result : tie.Need-add-result
-add-result c = search needs
-
-mul-result-2 : tie.Need-mul-result-2
-mul-result-2 c = search needs
-
-element-copy-out-result : tie.Need-element-copy-out-result
-element-copy-out-result c = search needs
-
 returns : tie.Need-returns
 returns c = search (needs, mask-read)
 
 pub mask-at-spec : {M : Type 1} → statement M
 mask-at-spec =
-    tie.close (tie.spec mul-result add-result mul-result-2 element-copy-out-result returns)
+    tie.close
+    (tie.spec
+    (λ c. search needs) (λ c. search needs) (λ c. search needs) (λ c. search needs) returns)

@@ -37,9 +37,6 @@ pairs-requires-2 c κs =
       p .3,
     )
 
-union-requires : tie.Need-union-requires
-union-requires c κs = search needs
-
 returns : tie.Need-returns
 returns c =
     let a = c .before .before .before .before .before .args in
@@ -54,9 +51,5 @@ pub one-moves-spec : {M : Type 1} → statement M
 one-moves-spec =
     tie.close
     (tie.spec
-    singleton-requires
-    pairs-requires
-    singleton-requires-2
-    pairs-requires-2
-    union-requires
-    returns)
+    singleton-requires pairs-requires singleton-requires-2 pairs-requires-2
+    (λ c κs. search needs) returns)

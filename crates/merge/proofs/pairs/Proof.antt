@@ -50,9 +50,6 @@ add-at c = omega (arith, room (c .before) .1)
 add-q : tie.Need-add-q Inv-loop μ-loop
 add-q c = omega (arith, room (c .before) .0)
 
-loop-less : tie.Need-loop-less Inv-loop μ-loop
-loop-less c = omega arith
-
 loop-again : tie.Need-loop-again Inv-loop μ-loop
 loop-again c =
     let x = c .before .before .loop in
@@ -87,15 +84,5 @@ pub pairs-spec : {M : Type 1} → statement M
 pairs-spec =
     tie.close
     (tie.spec
-    Inv-loop
-    μ-loop
-    loop-holds
-    cast-if1
-    shr-if1
-    cast-out
-    shl-out
-    add-at
-    add-q
-    loop-less
-    loop-again
-    returns)
+    Inv-loop μ-loop loop-holds cast-if1 shr-if1 cast-out shl-out add-at add-q (λ c. omega arith)
+    loop-again returns)

@@ -4,20 +4,11 @@ use Rattle.merge.proofs.Ways.{fits-both, fits-either, fits-interleaving
 use Rattle.merge.proofs.set_of.Statement.{statement}
 use Rattle.merge.proofs.set_of.Tie as tie
 
-enum-told : tie.Need-enum-told
-enum-told c = search needs
-
 pairs-requires : tie.Need-pairs-requires
 pairs-requires c κs = search (needs, fits-both)
 
-enum-told-2 : tie.Need-enum-told-2
-enum-told-2 c = search needs
-
 beside-requires : tie.Need-beside-requires
 beside-requires c κs = search (needs, fits-either)
-
-enum-told-3 : tie.Need-enum-told-3
-enum-told-3 c = search needs
 
 pairs-requires-2 : tie.Need-pairs-requires-2
 pairs-requires-2 c κs = search (needs, fits-interleaving)
@@ -35,12 +26,5 @@ pub set-of-spec : {M : Type 1} → statement M
 set-of-spec =
     tie.close
     (tie.spec
-    enum-told
-    pairs-requires
-    enum-told-2
-    beside-requires
-    enum-told-3
-    pairs-requires-2
-    returns
-    returns-2
-    returns-3)
+    (λ c. search needs) pairs-requires (λ c. search needs) beside-requires (λ c. search needs)
+    pairs-requires-2 returns returns-2 returns-3)

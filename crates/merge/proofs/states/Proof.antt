@@ -6,22 +6,10 @@ use Rattle.merge.proofs.Ways.{states-both, states-either, states-interl
 use Rattle.merge.proofs.states.Statement.{statement}
 use Rattle.merge.proofs.states.Tie as tie
 
-enum-told : tie.Need-enum-told
-enum-told c = search needs
-
 mul-result : tie.Need-mul-result
 mul-result c =
     let p = c .before .before .pre in
     omega (arith, product-most (c .before .before .args .n1) (c .before .before .args .n2) (p .0) (p .1))
-
-enum-told-2 : tie.Need-enum-told-2
-enum-told-2 c = search needs
-
-add-result : tie.Need-add-result
-add-result c = search needs
-
-enum-told-3 : tie.Need-enum-told-3
-enum-told-3 c = search needs
 
 mul-result-2 : tie.Need-mul-result-2
 mul-result-2 c =
@@ -41,12 +29,5 @@ pub states-spec : {M : Type 1} → statement M
 states-spec =
     tie.close
     (tie.spec
-    enum-told
-    mul-result
-    enum-told-2
-    add-result
-    enum-told-3
-    mul-result-2
-    returns
-    returns-2
-    returns-3)
+    (λ c. search needs) mul-result (λ c. search needs) (λ c. search needs) (λ c. search needs)
+    mul-result-2 returns returns-2 returns-3)

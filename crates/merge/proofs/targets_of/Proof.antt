@@ -6,32 +6,17 @@ use Rattle.products.proofs.Numbers.{left-below, right-below}
 use Rattle.merge.proofs.targets_of.Statement.{statement}
 use Rattle.merge.proofs.targets_of.Tie as tie
 
-div-x : tie.Need-div-x
-div-x c = search needs
-
-rem-y : tie.Need-rem-y
-rem-y c = search needs
-
 mask-at-requires : tie.Need-mask-at-requires
 mask-at-requires c κs = search (needs, row-first)
 
 mask-at-requires-2 : tie.Need-mask-at-requires-2
 mask-at-requires-2 c κs = search (needs, row-second)
 
-enum-told : tie.Need-enum-told
-enum-told c = search needs
-
 pairs-requires : tie.Need-pairs-requires
 pairs-requires c κs = search (needs, masks-read, row-first, row-second, fits-both)
 
-enum-told-2 : tie.Need-enum-told-2
-enum-told-2 c = search needs
-
 own-targets-requires : tie.Need-own-targets-requires
 own-targets-requires c κs = search (needs, fits-either, in-either)
-
-enum-told-3 : tie.Need-enum-told-3
-enum-told-3 c = search needs
 
 cast-t13 : tie.Need-cast-t13
 cast-t13 c =
@@ -74,18 +59,6 @@ pub targets-of-spec : {M : Type 1} → statement M
 targets-of-spec =
     tie.close
     (tie.spec
-    div-x
-    rem-y
-    mask-at-requires
-    mask-at-requires-2
-    enum-told
-    pairs-requires
-    enum-told-2
-    own-targets-requires
-    enum-told-3
-    cast-t13
-    cast-t15
-    one-moves-requires
-    returns
-    returns-2
-    returns-3)
+    (λ c. search needs) (λ c. search needs) mask-at-requires mask-at-requires-2
+    (λ c. search needs) pairs-requires (λ c. search needs) own-targets-requires
+    (λ c. search needs) cast-t13 cast-t15 one-moves-requires returns returns-2 returns-3)

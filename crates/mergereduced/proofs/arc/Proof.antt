@@ -4,20 +4,11 @@ use borrow.Author.Needs.{needs}
 use Rattle.mergereduced.proofs.arc.Statement.{statement}
 use Rattle.mergereduced.proofs.arc.Tie as tie
 
-enum-told : tie.Need-enum-told
-enum-told c = search needs
-
 both-move-requires : tie.Need-both-move-requires
 both-move-requires c κs = search (needs, asked-both)
 
-enum-told-2 : tie.Need-enum-told-2
-enum-told-2 c = search needs
-
 own-moves-requires : tie.Need-own-moves-requires
 own-moves-requires c κs = search (needs, asked-either)
-
-enum-told-3 : tie.Need-enum-told-3
-enum-told-3 c = search needs
 
 one-moves-requires : tie.Need-one-moves-requires
 one-moves-requires c κs = search (needs, asked-interleaving)
@@ -35,12 +26,5 @@ pub arc-spec : {M : Type 1} → statement M
 arc-spec =
     tie.close
     (tie.spec
-    enum-told
-    both-move-requires
-    enum-told-2
-    own-moves-requires
-    enum-told-3
-    one-moves-requires
-    returns
-    returns-2
-    returns-3)
+    (λ c. search needs) both-move-requires (λ c. search needs) own-moves-requires
+    (λ c. search needs) one-moves-requires returns returns-2 returns-3)

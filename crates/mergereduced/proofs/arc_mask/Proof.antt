@@ -42,15 +42,6 @@ cast-t19 c = omega (arith, c .before .before .before .loop-test .taken, c .befor
 singleton-requires : tie.Need-singleton-requires Inv-loop μ-loop
 singleton-requires c κs = omega (arith, c .before .before .before .loop-test .taken, c .before .before .before .before .before .pre .1 .fits)
 
-union-requires : tie.Need-union-requires Inv-loop μ-loop
-union-requires c κs = search needs
-
-add-p : tie.Need-add-p Inv-loop μ-loop
-add-p c = search needs
-
-loop-less : tie.Need-loop-less Inv-loop μ-loop
-loop-less c = search needs
-
 loop-again : tie.Need-loop-again Inv-loop μ-loop
 loop-again c =
     let l = c .before .before .before .before .loop in
@@ -75,16 +66,6 @@ pub arc-mask-spec : {M : Type 1} → statement M
 arc-mask-spec =
     tie.close
     (tie.spec
-    Inv-loop
-    μ-loop
-    loop-holds
-    mul-arc
-    element-copy-out-arc
-    arc-requires
-    cast-t19
-    singleton-requires
-    union-requires
-    add-p
-    loop-less
-    loop-again
+    Inv-loop μ-loop loop-holds mul-arc element-copy-out-arc arc-requires cast-t19
+    singleton-requires (λ c κs. search needs) (λ c. search needs) (λ c. search needs) loop-again
     returns)

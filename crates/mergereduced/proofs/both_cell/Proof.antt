@@ -5,12 +5,6 @@ use borrow.Author.Needs.{needs}
 use Rattle.mergereduced.proofs.both_cell.Statement.{statement}
 use Rattle.mergereduced.proofs.both_cell.Tie as tie
 
-element-copy-out-if1 : tie.Need-element-copy-out-if1
-element-copy-out-if1 c = search needs
-
-element-copy-out-if2 : tie.Need-element-copy-out-if2
-element-copy-out-if2 c = search needs
-
 returns : tie.Need-returns
 returns c = search (needs, cell-both, cell-in)
 
@@ -22,4 +16,6 @@ returns-3 c = search (needs, cell-first, cell-out)
 
 pub both-cell-spec : {M : Type 1} → statement M
 both-cell-spec =
-    tie.close (tie.spec element-copy-out-if1 element-copy-out-if2 returns returns-2 returns-3)
+    tie.close
+    (tie.spec
+    (λ c. search needs) (λ c. search needs) returns returns-2 returns-3)

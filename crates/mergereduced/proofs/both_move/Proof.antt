@@ -8,14 +8,8 @@ use borrow.Author.Needs.{needs}
 use Rattle.mergereduced.proofs.both_move.Statement.{statement}
 use Rattle.mergereduced.proofs.both_move.Tie as tie
 
-div-mask-at : tie.Need-div-mask-at
-div-mask-at c = search needs
-
 mask-at-requires : tie.Need-mask-at-requires
 mask-at-requires c κs = let a = c .args in let g = c .pre in (left-low (a .n1) (a .n2) (a .q) (g .tabled .sizes) (g .from), g .symbol)
-
-rem-mask-at : tie.Need-rem-mask-at
-rem-mask-at c = search needs
 
 mask-at-requires-2 : tie.Need-mask-at-requires-2
 mask-at-requires-2 c κs = let a = c .before .args in let g = c .before .pre in (right-low (a .n1) (a .n2) (a .q) (g .tabled .sizes) (g .from), g .symbol)
@@ -30,9 +24,5 @@ pub both-move-spec : {M : Type 1} → statement M
 both-move-spec =
     tie.close
     (tie.spec
-    div-mask-at
-    mask-at-requires
-    rem-mask-at
-    mask-at-requires-2
-    in-pairs-requires
-    returns)
+    (λ c. search needs) mask-at-requires (λ c. search needs) mask-at-requires-2
+    in-pairs-requires returns)

@@ -7,12 +7,6 @@ use borrow.Author.Needs.{needs}
 use Rattle.mergereduced.proofs.cell_of.Statement.{statement}
 use Rattle.mergereduced.proofs.cell_of.Tie as tie
 
-mul-arc-mask : tie.Need-mul-arc-mask
-mul-arc-mask c = search needs
-
-element-copy-out-arc-mask : tie.Need-element-copy-out-arc-mask
-element-copy-out-arc-mask c = search needs
-
 arc-mask-requires : tie.Need-arc-mask-requires
 arc-mask-requires c κs =
     let a = c .before .before .args in
@@ -31,4 +25,6 @@ returns-2 c =
 
 pub cell-of-spec : {M : Type 1} → statement M
 cell-of-spec =
-    tie.close (tie.spec mul-arc-mask element-copy-out-arc-mask arc-mask-requires returns returns-2)
+    tie.close
+    (tie.spec
+    (λ c. search needs) (λ c. search needs) arc-mask-requires returns returns-2)

@@ -24,20 +24,11 @@ loop-holds : tie.Need-loop-holds Inv-loop μ-loop
 unfolding total
 loop-holds c = (omega arith, refl)
 
-element-copy-out-if1 : tie.Need-element-copy-out-if1 Inv-loop μ-loop
-element-copy-out-if1 c = search needs
-
 add-out : tie.Need-add-out Inv-loop μ-loop
 add-out c =
     let l = c .before .before .before .loop in
     let a = c .before .before .before .before .args in
     omega (arith, rank-most (setIn (a .set .now)) (l .q), l .inv .1, l .inv .0, c .before .before .before .before .pre)
-
-add-q : tie.Need-add-q Inv-loop μ-loop
-add-q c = search needs
-
-loop-less : tie.Need-loop-less Inv-loop μ-loop
-loop-less c = search needs
 
 loop-again : tie.Need-loop-again Inv-loop μ-loop
 loop-again c =
@@ -64,12 +55,5 @@ pub count-spec : {M : Type 1} → statement M
 count-spec =
     tie.close
     (tie.spec
-    Inv-loop
-    μ-loop
-    loop-holds
-    element-copy-out-if1
-    add-out
-    add-q
-    loop-less
-    loop-again
-    returns)
+    Inv-loop μ-loop loop-holds (λ c. search needs) add-out (λ c. search needs)
+    (λ c. search needs) loop-again returns)

@@ -25,12 +25,6 @@ loop-holds c =
     let all : a .n ≡ a .n - 0 = omega arith in
     (omega arith, ap (firstFrom (freshIn (setIn (a .set .now)) (setIn (a .done .now))) 0) all)
 
-element-copy-out-if1 : tie.Need-element-copy-out-if1 Inv-loop μ-loop
-element-copy-out-if1 c = search needs
-
-element-copy-out-if2 : tie.Need-element-copy-out-if2 Inv-loop μ-loop
-element-copy-out-if2 c = search needs
-
 returns : tie.Need-returns Inv-loop μ-loop
 returns c =
     let l = c .before .before .before .before .before .loop in
@@ -39,12 +33,6 @@ returns c =
     first-here (freshIn (setIn (a .set .now)) (setIn (a .done .now))) (l .q) (a .n) (c .before .before .before .before .loop-test .taken)
     (fresh-here (setIn (a .set .now)) (setIn (a .done .now)) (l .q) (cell-in (a .set .now) (l .q) h (c .before .before .if1 .taken)) (cell-out (a .done .now) (l .q) h (c .if2 .taken)))
     ∙ sym (l .inv .1)
-
-add-q : tie.Need-add-q Inv-loop μ-loop
-add-q c = search needs
-
-loop-less : tie.Need-loop-less Inv-loop μ-loop
-loop-less c = search needs
 
 loop-again : tie.Need-loop-again Inv-loop μ-loop
 loop-again c =
@@ -70,13 +58,5 @@ pub fresh-spec : {M : Type 1} → statement M
 fresh-spec =
     tie.close
     (tie.spec
-    Inv-loop
-    μ-loop
-    loop-holds
-    element-copy-out-if1
-    element-copy-out-if2
-    returns
-    add-q
-    loop-less
-    loop-again
-    returns-2)
+    Inv-loop μ-loop loop-holds (λ c. search needs) (λ c. search needs) returns
+    (λ c. search needs) (λ c. search needs) loop-again returns-2)

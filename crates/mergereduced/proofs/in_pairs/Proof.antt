@@ -6,12 +6,6 @@ use borrow.Author.Needs.{needs}
 use Rattle.mergereduced.proofs.in_pairs.Statement.{statement}
 use Rattle.mergereduced.proofs.in_pairs.Tie as tie
 
-div-x : tie.Need-div-x
-div-x c = search needs
-
-rem-y : tie.Need-rem-y
-rem-y c = search needs
-
 cast-t9 : tie.Need-cast-t9
 cast-t9 c = let a = c .args in let g = c .pre in omega (arith, left-low (a .n1) (a .n2) (a .p) (g .1) (g .2))
 
@@ -33,4 +27,6 @@ returns-2 c = let a = c .before .before .args in let g = c .before .before .pre 
 pub in-pairs-spec : {M : Type 1} → statement M
 in-pairs-spec =
     tie.close
-    (tie.spec div-x rem-y cast-t9 member-requires cast-t11 member-requires-2 returns returns-2)
+    (tie.spec
+    (λ c. search needs) (λ c. search needs) cast-t9 member-requires cast-t11 member-requires-2
+    returns returns-2)

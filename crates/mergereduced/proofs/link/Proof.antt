@@ -4,20 +4,11 @@ use borrow.Author.Needs.{needs}
 use Rattle.mergereduced.proofs.link.Statement.{statement}
 use Rattle.mergereduced.proofs.link.Tie as tie
 
-enum-told : tie.Need-enum-told
-enum-told c = search needs
-
 both-link-requires : tie.Need-both-link-requires
 both-link-requires c κs = search (needs, in-both)
 
-enum-told-2 : tie.Need-enum-told-2
-enum-told-2 c = search needs
-
 own-link-requires : tie.Need-own-link-requires
 own-link-requires c κs = search (needs, in-either)
-
-enum-told-3 : tie.Need-enum-told-3
-enum-told-3 c = search needs
 
 one-link-requires : tie.Need-one-link-requires
 one-link-requires c κs = search (needs, in-interleaving)
@@ -35,12 +26,5 @@ pub link-spec : {M : Type 1} → statement M
 link-spec =
     tie.close
     (tie.spec
-    enum-told
-    both-link-requires
-    enum-told-2
-    own-link-requires
-    enum-told-3
-    one-link-requires
-    returns
-    returns-2
-    returns-3)
+    (λ c. search needs) both-link-requires (λ c. search needs) own-link-requires
+    (λ c. search needs) one-link-requires returns returns-2 returns-3)

@@ -30,21 +30,12 @@ loop-holds : tie.Need-loop-holds Inv-loop μ-loop
 unfolding total
 loop-holds c = let a = c .args in let all : a .n ≡ a .n - 0 = omega arith in (omega arith, refl, ap (firstFrom (λ x. has (setIn (a .set .now)) x && eqb (rank (setIn (a .set .now)) x) (a .p)) 0) all)
 
-element-copy-out-if1 : tie.Need-element-copy-out-if1 Inv-loop μ-loop
-element-copy-out-if1 c = search needs
-
 returns : tie.Need-returns Inv-loop μ-loop
 unfolding nth
 returns c = let l = c .before .before .before .before .loop in let a = c .before .before .before .before .before .args in let h : l .q < 1024 = omega (arith, c .before .before .before .loop-test .taken, c .before .before .before .before .before .pre) in first-here (λ x. has (setIn (a .set .now)) x && eqb (rank (setIn (a .set .now)) x) (a .p)) (l .q) (a .n) (c .before .before .before .loop-test .taken) (nth-there (setIn (a .set .now)) (l .q) (a .p) (l .below) (l .inv .1) (cell-in (a .set .now) (l .q) h (c .before .if1 .taken)) (c .if2 .taken)) ∙ sym (l .inv .2)
 
 add-below : tie.Need-add-below Inv-loop μ-loop
 add-below c = let l = c .before .before .before .before .loop in let a = c .before .before .before .before .before .args in omega (arith, rank-most (setIn (a .set .now)) (l .q), l .inv .1, l .inv .0, c .before .before .before .before .before .pre)
-
-add-q : tie.Need-add-q Inv-loop μ-loop
-add-q c = search needs
-
-loop-less : tie.Need-loop-less Inv-loop μ-loop
-loop-less c = search needs
 
 loop-again : tie.Need-loop-again Inv-loop μ-loop
 loop-again c =
@@ -74,13 +65,5 @@ pub nth-spec : {M : Type 1} → statement M
 nth-spec =
     tie.close
     (tie.spec
-    Inv-loop
-    μ-loop
-    loop-holds
-    element-copy-out-if1
-    returns
-    add-below
-    add-q
-    loop-less
-    loop-again
-    returns-2)
+    Inv-loop μ-loop loop-holds (λ c. search needs) returns add-below (λ c. search needs)
+    (λ c. search needs) loop-again returns-2)

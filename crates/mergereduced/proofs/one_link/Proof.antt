@@ -5,18 +5,6 @@ use borrow.Author.Needs.{needs}
 use Rattle.mergereduced.proofs.one_link.Statement.{statement}
 use Rattle.mergereduced.proofs.one_link.Tie as tie
 
-div-x : tie.Need-div-x
-div-x c = search needs
-
-rem-y : tie.Need-rem-y
-rem-y c = search needs
-
-div-z : tie.Need-div-z
-div-z c = search needs
-
-rem-w : tie.Need-rem-w
-rem-w c = search needs
-
 symbols-at-requires : tie.Need-symbols-at-requires
 symbols-at-requires c κs = search (needs, left-low)
 
@@ -48,12 +36,5 @@ pub one-link-spec : {M : Type 1} → statement M
 one-link-spec =
     tie.close
     (tie.spec
-    div-x
-    rem-y
-    div-z
-    rem-w
-    symbols-at-requires
-    returns
-    symbols-at-requires-2
-    returns-2
-    returns-3)
+    (λ c. search needs) (λ c. search needs) (λ c. search needs) (λ c. search needs)
+    symbols-at-requires returns symbols-at-requires-2 returns-2 returns-3)

@@ -5,12 +5,6 @@ use borrow.Author.Needs.{needs}
 use Rattle.mergereduced.proofs.one_moves.Statement.{statement}
 use Rattle.mergereduced.proofs.one_moves.Tie as tie
 
-div-x : tie.Need-div-x
-div-x c = search needs
-
-rem-y : tie.Need-rem-y
-rem-y c = search needs
-
 mask-at-requires : tie.Need-mask-at-requires
 mask-at-requires c κs = let a = c .args in let g = c .pre in (left-low (a .n1) (a .n2) (a .q) (g .tabled .sizes) (g .from), g .symbol)
 
@@ -45,15 +39,6 @@ pub one-moves-spec : {M : Type 1} → statement M
 one-moves-spec =
     tie.close
     (tie.spec
-    div-x
-    rem-y
-    mask-at-requires
-    mask-at-requires-2
-    cast-t14
-    singleton-requires
-    cast-t14-2
-    singleton-requires-2
-    in-pairs-requires
-    returns
-    in-pairs-requires-2
-    returns-2)
+    (λ c. search needs) (λ c. search needs) mask-at-requires mask-at-requires-2 cast-t14
+    singleton-requires cast-t14-2 singleton-requires-2 in-pairs-requires returns
+    in-pairs-requires-2 returns-2)

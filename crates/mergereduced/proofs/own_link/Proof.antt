@@ -4,9 +4,6 @@ use borrow.Author.Needs.{needs}
 use Rattle.mergereduced.proofs.own_link.Statement.{statement}
 use Rattle.mergereduced.proofs.own_link.Tie as tie
 
-symbols-at-requires : tie.Need-symbols-at-requires
-symbols-at-requires c κs = search needs
-
 returns : tie.Need-returns
 returns c = search (needs, own-1)
 
@@ -16,13 +13,11 @@ returns-2 c = search (needs, own-out)
 returns-3 : tie.Need-returns-3
 returns-3 c = search (needs, own-in)
 
-symbols-at-requires-2 : tie.Need-symbols-at-requires-2
-symbols-at-requires-2 c κs = search needs
-
 returns-4 : tie.Need-returns-4
 returns-4 c = search (needs, own-2)
 
 pub own-link-spec : {M : Type 1} → statement M
 own-link-spec =
     tie.close
-    (tie.spec symbols-at-requires returns returns-2 returns-3 symbols-at-requires-2 returns-4)
+    (tie.spec
+    (λ c κs. search needs) returns returns-2 returns-3 (λ c κs. search needs) returns-4)

@@ -4,15 +4,6 @@ use borrow.Author.Needs.{needs}
 use Rattle.mergereduced.proofs.reduced_or_own.Statement.{statement}
 use Rattle.mergereduced.proofs.reduced_or_own.Tie as tie
 
-reduce-requires : tie.Need-reduce-requires
-reduce-requires c κs = search needs
-
-enum-told : tie.Need-enum-told
-enum-told c = search needs
-
-enum-told-2 : tie.Need-enum-told-2
-enum-told-2 c = search needs
-
 returns : tie.Need-returns
 returns c = search (needs, own-taken)
 
@@ -20,4 +11,7 @@ returns-2 : tie.Need-returns-2
 returns-2 c = search (needs, own-left)
 
 pub reduced-or-own-spec : {M : Type 1} → statement M
-reduced-or-own-spec = tie.close (tie.spec reduce-requires enum-told enum-told-2 returns returns-2)
+reduced-or-own-spec =
+    tie.close
+    (tie.spec
+    (λ c κs. search needs) (λ c. search needs) (λ c. search needs) returns returns-2)

@@ -6,11 +6,8 @@ use borrow.Author.Needs.{needs}
 use Rattle.mergereduced.proofs.refuse.Statement.{statement}
 use Rattle.mergereduced.proofs.refuse.Tie as tie
 
-no-rule-requires : tie.Need-no-rule-requires
-no-rule-requires c κs = search needs
-
 returns : tie.Need-returns
 returns c = ap (λ (r : Rule). record { number = some (c .before .args .number); rule = r }) (c .no-rule .ensures)
 
 pub refuse-spec : {M : Type 1} → statement M
-refuse-spec = tie.close (tie.spec no-rule-requires returns)
+refuse-spec = tie.close (tie.spec (λ c κs. search needs) returns)

@@ -42,15 +42,6 @@ cast-t17 c = omega (arith, c .before .before .before .loop-test .taken, c .befor
 singleton-requires : tie.Need-singleton-requires Inv-loop μ-loop
 singleton-requires c κs = omega (arith, c .before .before .before .loop-test .taken, c .before .before .before .before .before .pre .2 .fits)
 
-union-requires : tie.Need-union-requires Inv-loop μ-loop
-union-requires c κs = search needs
-
-add-p : tie.Need-add-p Inv-loop μ-loop
-add-p c = search needs
-
-loop-less : tie.Need-loop-less Inv-loop μ-loop
-loop-less c = search needs
-
 loop-again : tie.Need-loop-again Inv-loop μ-loop
 loop-again c =
     let l = c .before .before .before .before .loop in
@@ -75,16 +66,6 @@ pub set-mask-spec : {M : Type 1} → statement M
 set-mask-spec =
     tie.close
     (tie.spec
-    Inv-loop
-    μ-loop
-    loop-holds
-    mul-in-set
-    element-copy-out-in-set
-    in-set-requires
-    cast-t17
-    singleton-requires
-    union-requires
-    add-p
-    loop-less
-    loop-again
+    Inv-loop μ-loop loop-holds mul-in-set element-copy-out-in-set in-set-requires cast-t17
+    singleton-requires (λ c κs. search needs) (λ c. search needs) (λ c. search needs) loop-again
     returns)

@@ -19,9 +19,6 @@ abbrev μ-loop : tie.MeasureT-loop
 loop-holds : tie.Need-loop-holds Inv-loop μ-loop
 loop-holds c = (length-replicate {A = ℕ} 1024 0, omega arith, λ i l. absurd (omega arith))
 
-symbols-to-requires : tie.Need-symbols-to-requires Inv-loop μ-loop
-symbols-to-requires c κs = search needs
-
 mul-out : tie.Need-mul-out Inv-loop μ-loop
 mul-out c = omega (arith, c .before .loop-test .taken)
 
@@ -56,13 +53,5 @@ pub symbols-of-spec : {M : Type 1} → statement M
 symbols-of-spec =
     tie.close
     (tie.spec
-    Inv-loop
-    μ-loop
-    loop-holds
-    symbols-to-requires
-    mul-out
-    array-write-out
-    add-cell
-    loop-less
-    loop-again
-    returns)
+    Inv-loop μ-loop loop-holds (λ c κs. search needs) mul-out array-write-out add-cell loop-less
+    loop-again returns)

@@ -6,16 +6,10 @@ use lib.ListN.{List·getD-eq-default}
 use Rattle.mergescan.proofs.byte_at.Statement.{statement}
 use Rattle.mergescan.proofs.byte_at.Tie as tie
 
-shared-slice-read-result : tie.Need-shared-slice-read-result
-shared-slice-read-result c = search needs
-
-returns : tie.Need-returns
-returns c = search needs
-
 returns-2 : tie.Need-returns-2
 returns-2 c =
     let s = c .before in
     sym (List·getD-eq-default (s .args .word .now) 0 {n = s .args .at} (omega (arith, c .if1 .left)))
 
 pub byte-at-spec : {M : Type 1} → statement M
-byte-at-spec = tie.close (tie.spec shared-slice-read-result returns returns-2)
+byte-at-spec = tie.close (tie.spec (λ c. search needs) (λ c. search needs) returns-2)

@@ -4,15 +4,6 @@ use Rattle.mergescan.proofs.Kept.{first-ends, first-stray}
 use Rattle.mergescan.proofs.end_first.Statement.{statement}
 use Rattle.mergescan.proofs.end_first.Tie as tie
 
-end-requires : tie.Need-end-requires
-end-requires c κs = search needs
-
-enum-known-said : tie.Need-enum-known-said
-enum-known-said c = search needs
-
-enum-told : tie.Need-enum-told
-enum-told c = search needs
-
 returns : tie.Need-returns
 returns c = search (needs, first-ends)
 
@@ -20,4 +11,7 @@ returns-2 : tie.Need-returns-2
 returns-2 c = search (needs, first-stray)
 
 pub end-first-spec : {M : Type 1} → statement M
-end-first-spec = tie.close (tie.spec end-requires enum-known-said enum-told returns returns-2)
+end-first-spec =
+    tie.close
+    (tie.spec
+    (λ c κs. search needs) (λ c. search needs) (λ c. search needs) returns returns-2)

@@ -13,16 +13,21 @@
 --   Stepped           key i was expanded by the symbol s
 --   ArraysHold        the arrays hold the keys l and the table's cells before `upto`
 --   Grown             the numbered keys became f, and all of them are expanded
+--   Stopped           the 513th key turned up, after the keys l, by the symbol s of key i
+--   Expanded          all keys were expanded, or it stopped there
+--   grownBy a l m     the keys l, with the key m numbered and the keys from there on expanded
+--   Added             these are numbered, or the 513th key turned up
+--   InRow             what a key leads to is left out or goes to a cell of the key's own row
 use mathlib.Core.Path.{_≡_}
-use mathlib.Core.Bool.{Bool, cond, _&&_, _||_}
+use mathlib.Core.Bool.{Bool, false, cond, _&&_, _||_}
 use mathlib.Core.List.{List, []}
 use mathlib.Core.Option.{Option, none, some}
-use Prim.Native.Nat.{ℕ, _+_, _*_, _/_, _%_, _≤_, _<_}
+use Prim.Native.Nat.{ℕ, _+_, _*_, _/_, _%_, _≤_, _<_, min}
 use lib.Dec.{ltb}
 use lib.ListN.{length, getD, set}
 use Rattle.limits.specs.Limits.{mostSymbols, mostSets, tableCells}
 use Rattle.base.specs.Lists.{listFrom}
-use Rattle.numbering.specs.Numbering.{Walk, indexOf, numbered}
+use Rattle.numbering.specs.Numbering.{Walk, indexOf, numbered, closeFrom}
 use Rattle.numbering.specs.mirror.Begins.{Begins}
 
 abbrev pub limited : List ℕ → Option ℕ
@@ -77,3 +82,30 @@ module _ (a : Walk) (free : ℕ) where
   pub record Grown (f : List ℕ) (r : Option ℕ) (keys next : List ℕ) : Type 0 where
     pub count : r ≡ limited f
     pub held : length f ≤ mostSets → ArraysHold f (length f * mostSymbols) keys next
+
+  pub record Stopped (f keys next : List ℕ) : Type 0 where
+    pub l : List ℕ
+    pub i : ℕ
+    pub s : ℕ
+    pub few : length l ≤ mostSets
+    pub row : i < length l
+    pub symbol : s < a .k
+    pub keys₀ : List ℕ
+    pub next₀ : List ℕ
+    pub held : ArraysHold l (i * mostSymbols + min s mostSymbols) keys₀ next₀
+    pub last : Stepped (a .step) (a .skips) l i s none keys next₀ next
+    pub goes-on : Begins (afterStep (a .step) (a .skips) l i s) f
+
+  pub record Expanded (f : List ℕ) (r : Option ℕ) (keys next : List ℕ) : Type 0 where
+    pub grown : Grown f r keys next
+    pub stopped : mostSets < length f → Stopped f keys next
+
+  abbrev pub grownBy : List ℕ → ℕ → List ℕ
+  grownBy l m = closeFrom a mostSets (length l) (numbered (a .skips) l m)
+
+  pub record Added (l : List ℕ) (m : ℕ) (r : Option ℕ) (keys next : List ℕ) : Type 0 where
+    pub grown : Grown (grownBy l m) r keys next
+    pub stopped : length (numbered (a .skips) l m) ≤ mostSets → mostSets < length (grownBy l m) → Stopped (grownBy l m) keys next
+
+abbrev pub InRow : Walk → Type 0
+InRow a = (m s : ℕ) → s < a .k → a .skips (a .step m s) ≡ false → s < mostSymbols

@@ -8,28 +8,13 @@ use borrow.Author.Needs.{needs}
 use Rattle.patternfile.proofs.write_pattern.Statement.{statement}
 use Rattle.patternfile.proofs.write_pattern.Tie as tie
 
-refuse-requires : tie.Need-refuse-requires
-refuse-requires c κs = search needs
-
 returns : tie.Need-returns
 returns c = c .refuse .ensures ∙ on-30 (c .before .before .before .args .pattern .now) (c .before .if1 .taken)
-
-grammatical-requires : tie.Need-grammatical-requires
-grammatical-requires c κs = search needs
-
-refuse-requires-2 : tie.Need-refuse-requires-2
-refuse-requires-2 c κs = search needs
 
 returns-2 : tie.Need-returns-2
 returns-2 c =
     c .refuse2 .ensures
     ∙ on-31 (c .before .before .before .before .before .args .pattern .now) (c .before .before .before .if1 .left) (sym (c .before .before .grammatical .ensures) ∙ not-true _ (c .before .if2 .taken))
-
-count-letters-requires : tie.Need-count-letters-requires
-count-letters-requires c κs = search needs
-
-refuse-requires-3 : tie.Need-refuse-requires-3
-refuse-requires-3 c κs = search needs
 
 returns-3 : tie.Need-returns-3
 returns-3 c =
@@ -37,9 +22,6 @@ returns-3 c =
     let count = c .before .before .count-letters .ensures in
     c .refuse3 .ensures
     ∙ on-32 text (c .before .before .before .before .before .if1 .left) (sym (c .before .before .before .before .grammatical .ensures) ∙ not-false _ (c .before .before .before .if2 .left)) (rw (← count) (c .before .if3 .taken))
-
-read-rule-requires : tie.Need-read-rule-requires
-read-rule-requires c κs = search needs
 
 slice-aggregate-put-file : tie.Need-slice-aggregate-put-file
 slice-aggregate-put-file c = sym (made _)
@@ -63,15 +45,6 @@ pub write-pattern-spec : {M : Type 1} → statement M
 write-pattern-spec =
     tie.close
     (tie.spec
-    refuse-requires
-    returns
-    grammatical-requires
-    refuse-requires-2
-    returns-2
-    count-letters-requires
-    refuse-requires-3
-    returns-3
-    read-rule-requires
-    slice-aggregate-put-file
-    put-file-requires
-    returns-4)
+    (λ c κs. search needs) returns (λ c κs. search needs) (λ c κs. search needs) returns-2
+    (λ c κs. search needs) (λ c κs. search needs) returns-3 (λ c κs. search needs)
+    slice-aggregate-put-file put-file-requires returns-4)

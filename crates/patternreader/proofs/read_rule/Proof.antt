@@ -7,18 +7,6 @@ use borrow.Author.Needs.{needs}
 use Rattle.patternreader.proofs.read_rule.Statement.{statement}
 use Rattle.patternreader.proofs.read_rule.Tie as tie
 
-read-all-requires : tie.Need-read-all-requires
-read-all-requires c κs = search needs
-
-commit-requires : tie.Need-commit-requires
-commit-requires c κs = search needs
-
-read-bar-requires : tie.Need-read-bar-requires
-read-bar-requires c κs = search needs
-
-rule-from-requires : tie.Need-rule-from-requires
-rule-from-requires c κs = search needs
-
 returns : tie.Need-returns
 returns c =
     let read = c .before .before .before .read-all .ensures in
@@ -31,4 +19,6 @@ returns c =
 pub read-rule-spec : {M : Type 1} → statement M
 read-rule-spec =
     tie.close
-    (tie.spec read-all-requires commit-requires read-bar-requires rule-from-requires returns)
+    (tie.spec
+    (λ c κs. search needs) (λ c κs. search needs) (λ c κs. search needs) (λ c κs. search needs)
+    returns)

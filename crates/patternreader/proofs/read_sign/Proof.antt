@@ -25,51 +25,6 @@ module _ (r m x : Reading) (s : Sign) where
   w-star : s ≡ Star → x ≡ starredOf r → x ≡ afterSign r s
   w-star e g = g ∙ sym (ap (afterSign r) e)
 
-enum-known-sign : tie.Need-enum-known-sign
-enum-known-sign c = search needs
-
-commit-requires : tie.Need-commit-requires
-commit-requires c κs = search needs
-
-read-letter-requires : tie.Need-read-letter-requires
-read-letter-requires c κs = search needs
-
-enum-told : tie.Need-enum-told
-enum-told c = search needs
-
-commit-requires-2 : tie.Need-commit-requires-2
-commit-requires-2 c κs = search needs
-
-read-bar-requires : tie.Need-read-bar-requires
-read-bar-requires c κs = search needs
-
-enum-told-2 : tie.Need-enum-told-2
-enum-told-2 c = search needs
-
-commit-requires-3 : tie.Need-commit-requires-3
-commit-requires-3 c κs = search needs
-
-open-bracket-requires : tie.Need-open-bracket-requires
-open-bracket-requires c κs = search needs
-
-enum-told-3 : tie.Need-enum-told-3
-enum-told-3 c = search needs
-
-commit-requires-4 : tie.Need-commit-requires-4
-commit-requires-4 c κs = search needs
-
-close-bracket-requires : tie.Need-close-bracket-requires
-close-bracket-requires c κs = search needs
-
-enum-told-4 : tie.Need-enum-told-4
-enum-told-4 c = search needs
-
-read-star-requires : tie.Need-read-star-requires
-read-star-requires c κs = search needs
-
-enum-told-5 : tie.Need-enum-told-5
-enum-told-5 c = search needs
-
 returns : tie.Need-returns
 returns c = search (needs, w-letter)
 
@@ -85,31 +40,12 @@ returns-4 c = search (needs, w-closes)
 returns-5 : tie.Need-returns-5
 returns-5 c = search (needs, w-star)
 
-returns-6 : tie.Need-returns-6
-returns-6 c = search needs
-
 pub read-sign-spec : {M : Type 1} → statement M
 read-sign-spec =
     tie.close
     (tie.spec
-    enum-known-sign
-    commit-requires
-    read-letter-requires
-    enum-told
-    commit-requires-2
-    read-bar-requires
-    enum-told-2
-    commit-requires-3
-    open-bracket-requires
-    enum-told-3
-    commit-requires-4
-    close-bracket-requires
-    enum-told-4
-    read-star-requires
-    enum-told-5
-    returns
-    returns-2
-    returns-3
-    returns-4
-    returns-5
-    returns-6)
+    (λ c. search needs) (λ c κs. search needs) (λ c κs. search needs) (λ c. search needs)
+    (λ c κs. search needs) (λ c κs. search needs) (λ c. search needs) (λ c κs. search needs)
+    (λ c κs. search needs) (λ c. search needs) (λ c κs. search needs) (λ c κs. search needs)
+    (λ c. search needs) (λ c κs. search needs) (λ c. search needs) returns returns-2 returns-3
+    returns-4 returns-5 (λ c. search needs))

@@ -20,29 +20,8 @@ abbrev μ-loop : tie.MeasureT-loop
 loop-holds : tie.Need-loop-holds Inv-loop μ-loop
 loop-holds c = (omega arith, omega arith, refl)
 
-shared-slice-read-sign-of : tie.Need-shared-slice-read-sign-of Inv-loop μ-loop
-shared-slice-read-sign-of c = omega arith
-
-sign-of-requires : tie.Need-sign-of-requires Inv-loop μ-loop
-sign-of-requires c κs = search needs
-
-stepped-requires : tie.Need-stepped-requires Inv-loop μ-loop
-stepped-requires c κs = omega arith
-
-enum-known-d : tie.Need-enum-known-d Inv-loop μ-loop
-enum-known-d c = search needs
-
-enum-told : tie.Need-enum-told Inv-loop μ-loop
-enum-told c = search needs
-
 returns : tie.Need-returns Inv-loop μ-loop
 returns c = search (needs, scan-never)
-
-add-i : tie.Need-add-i Inv-loop μ-loop
-add-i c = omega arith
-
-loop-less : tie.Need-loop-less Inv-loop μ-loop
-loop-less c = omega arith
 
 loop-again : tie.Need-loop-again Inv-loop μ-loop
 loop-again c = (omega arith, search (needs, deeper), search (needs, scan-more))
@@ -54,16 +33,6 @@ pub grammatical-spec : {M : Type 1} → statement M
 grammatical-spec =
     tie.close
     (tie.spec
-    Inv-loop
-    μ-loop
-    loop-holds
-    shared-slice-read-sign-of
-    sign-of-requires
-    stepped-requires
-    enum-known-d
-    enum-told
-    returns
-    add-i
-    loop-less
-    loop-again
-    returns-2)
+    Inv-loop μ-loop loop-holds (λ c. omega arith) (λ c κs. search needs) (λ c κs. omega arith)
+    (λ c. search needs) (λ c. search needs) returns (λ c. omega arith) (λ c. omega arith)
+    loop-again returns-2)

@@ -32,35 +32,8 @@ closed (suc d) f n = let e : suc d - 1 ≡ d = omega arith in ap (λ (x : ℕ). 
 w-closes : (s : Sign) (d : ℕ) (f : Bool) → s ≡ Closes → (d ≡ 0 → ⊥) → Within (d - 1) true ≡ step s (Within d f)
 w-closes s d f e n = closed d f n ∙ sym (ap (λ (x : Sign). step x (Within d f)) e)
 
-enum-told : tie.Need-enum-told
-enum-told c = search needs
-
-enum-told-2 : tie.Need-enum-told-2
-enum-told-2 c = search needs
-
-enum-told-3 : tie.Need-enum-told-3
-enum-told-3 c = search needs
-
-add-t5 : tie.Need-add-t5
-add-t5 c = search needs
-
-enum-told-4 : tie.Need-enum-told-4
-enum-told-4 c = search needs
-
-returns : tie.Need-returns
-returns c = search needs
-
-sub-t7 : tie.Need-sub-t7
-sub-t7 c = search needs
-
-enum-told-5 : tie.Need-enum-told-5
-enum-told-5 c = search needs
-
 returns-2 : tie.Need-returns-2
 returns-2 c = search (needs, w-star)
-
-enum-told-6 : tie.Need-enum-told-6
-enum-told-6 c = search needs
 
 returns-3 : tie.Need-returns-3
 returns-3 c = search (needs, w-letter)
@@ -74,29 +47,11 @@ returns-5 c = search (needs, w-opens)
 returns-6 : tie.Need-returns-6
 returns-6 c = search (needs, w-closes)
 
-returns-7 : tie.Need-returns-7
-returns-7 c = search needs
-
-returns-8 : tie.Need-returns-8
-returns-8 c = search needs
-
 pub stepped-spec : {M : Type 1} → statement M
 stepped-spec =
     tie.close
     (tie.spec
-    enum-told
-    enum-told-2
-    enum-told-3
-    add-t5
-    enum-told-4
-    returns
-    sub-t7
-    enum-told-5
-    returns-2
-    enum-told-6
-    returns-3
-    returns-4
-    returns-5
-    returns-6
-    returns-7
-    returns-8)
+    (λ c. search needs) (λ c. search needs) (λ c. search needs) (λ c. search needs)
+    (λ c. search needs) (λ c. search needs) (λ c. search needs) (λ c. search needs) returns-2
+    (λ c. search needs) returns-3 returns-4 returns-5 returns-6 (λ c. search needs)
+    (λ c. search needs))

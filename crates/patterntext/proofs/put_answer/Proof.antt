@@ -11,9 +11,6 @@ use borrow.Author.Needs.{needs}
 use Rattle.patterntext.proofs.put_answer.Statement.{statement}
 use Rattle.patterntext.proofs.put_answer.Tie as tie
 
-write-pattern-requires : tie.Need-write-pattern-requires
-write-pattern-requires c κs = search needs
-
 enum-told : tie.Need-enum-told
 enum-told c = search needs
 
@@ -48,15 +45,6 @@ put-byte-requires c κs =
     let w = c .before .before .before .put-digits in
     omega (arith, s .pre, w .ensures .ends, w .kept .0, digits-length (take (r .result .length) (r .result .bytes)))
 
-enum-known-answer : tie.Need-enum-known-answer
-enum-known-answer c = search needs
-
-put-refused-requires : tie.Need-put-refused-requires
-put-refused-requires c κs = search needs
-
-same-length : tie.Need-same-length
-same-length c = search needs
-
 returns : tie.Need-returns
 returns c =
     let r = c .before .before .before .before .before .before .before .before .before .before .before .before .write-pattern in
@@ -67,9 +55,6 @@ returns c =
     let l = length-take-le (r .result .length) (r .result .bytes) (omega (arith, h, told-room t (r .result) (r .ensures))) in
     rw (← accepted t (r .result) (r .ensures) e)
     (both (omega (arith, s .pre, digits-length (take (r .result .length) (r .result .bytes)))) (c .before .before .before .before .before .before .put-digits .ensures) (λ _. c .before .before .put-byte .ensures))
-
-same-length-2 : tie.Need-same-length-2
-same-length-2 c = search needs
 
 returns-2 : tie.Need-returns-2
 returns-2 c =
@@ -83,15 +68,6 @@ pub put-answer-spec : {M : Type 1} → statement M
 put-answer-spec =
     tie.close
     (tie.spec
-    write-pattern-requires
-    enum-told
-    array-share-prefix-file
-    slice-aggregate-put-digits
-    put-digits-requires
-    put-byte-requires
-    enum-known-answer
-    put-refused-requires
-    same-length
-    returns
-    same-length-2
-    returns-2)
+    (λ c κs. search needs) enum-told array-share-prefix-file slice-aggregate-put-digits
+    put-digits-requires put-byte-requires (λ c. search needs) (λ c κs. search needs)
+    (λ c. search needs) returns (λ c. search needs) returns-2)

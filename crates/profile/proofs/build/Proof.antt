@@ -7,23 +7,8 @@ use Rattle.profile.proofs.Ways.{build-unchecked, build-33}
 use Rattle.profile.proofs.build.Statement.{statement}
 use Rattle.profile.proofs.build.Tie as tie
 
-check-rule-requires : tie.Need-check-rule-requires
-check-rule-requires c κs = search needs
-
-enum-known-checked : tie.Need-enum-known-checked
-enum-known-checked c = search needs
-
-refuse-rule-requires : tie.Need-refuse-rule-requires
-refuse-rule-requires c κs = search needs
-
 enum-told : tie.Need-enum-told
 enum-told c = search needs
-
-cast-if1 : tie.Need-cast-if1
-cast-if1 c = search needs
-
-refuse-rule-requires-2 : tie.Need-refuse-rule-requires-2
-refuse-rule-requires-2 c κs = search needs
 
 returns : tie.Need-returns
 returns c =
@@ -43,20 +28,10 @@ returns-2 c =
     let y = c .before .before .before .before in
     build-unchecked (y .before .args .rule) _ _ (sym (y .check-rule .ensures) ∙ ap checkMeans (c .before .before .checked .given .1)) (c .refuse-rule .ensures)
 
-returns-3 : tie.Need-returns-3
-returns-3 c = search needs
-
 pub build-spec : {M : Type 1} → statement M
 build-spec =
     tie.close
     (tie.spec
-    check-rule-requires
-    enum-known-checked
-    refuse-rule-requires
-    enum-told
-    cast-if1
-    refuse-rule-requires-2
-    returns
-    build-small-requires
-    returns-2
-    returns-3)
+    (λ c κs. search needs) (λ c. search needs) (λ c κs. search needs) enum-told
+    (λ c. search needs) (λ c κs. search needs) returns build-small-requires returns-2
+    (λ c. search needs))

@@ -21,23 +21,8 @@ module _ (c : tie.After-next) where
       let y = c .before .before .before .before .before .number-keys in
       omega (arith, most-keys Mappings (s .args .t1 .targets) (s .args .t1 .targets) (s .args .t1 .k) _ (y .result) (y .ensures) (c .before .before .before .numbered .given .0 .0) (c .before .before .before .numbered .given .1))
 
-identity-requires : tie.Need-identity-requires
-identity-requires c κs = search needs
-
-pack-requires : tie.Need-pack-requires
-pack-requires c κs = search needs
-
-number-keys-requires : tie.Need-number-keys-requires
-number-keys-requires c κs = search needs
-
 enum-told : tie.Need-enum-told
 enum-told c = search needs
-
-refuse-rule-requires : tie.Need-refuse-rule-requires
-refuse-rule-requires c κs = search needs
-
-enum-known-numbered : tie.Need-enum-known-numbered
-enum-known-numbered c = search needs
 
 cast-t17 : tie.Need-cast-t17
 cast-t17 c = record { fits = small-count c }
@@ -65,15 +50,6 @@ pub build-small-spec : {M : Type 1} → statement M
 build-small-spec =
     tie.close
     (tie.spec
-    identity-requires
-    pack-requires
-    number-keys-requires
-    enum-told
-    refuse-rule-requires
-    enum-known-numbered
-    cast-t17
-    cast-t20
-    cast-t22
-    cast-t17-2
-    returns
+    (λ c κs. search needs) (λ c κs. search needs) (λ c κs. search needs) enum-told
+    (λ c κs. search needs) (λ c. search needs) cast-t17 cast-t20 cast-t22 cast-t17-2 returns
     returns-2)

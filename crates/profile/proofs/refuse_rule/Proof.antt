@@ -6,11 +6,8 @@ use Rattle.profile.specs.Profiles.{refused}
 use Rattle.profile.proofs.refuse_rule.Statement.{statement}
 use Rattle.profile.proofs.refuse_rule.Tie as tie
 
-nothing-built-requires : tie.Need-nothing-built-requires
-nothing-built-requires c κs = search needs
-
 returns : tie.Need-returns
 returns c = ap (λ (p : Profile). record { reply = refused (c .before .args .number); profile = p }) (c .nothing-built .ensures)
 
 pub refuse-rule-spec : {M : Type 1} → statement M
-refuse-rule-spec = tie.close (tie.spec nothing-built-requires returns)
+refuse-rule-spec = tie.close (tie.spec (λ c κs. search needs) returns)

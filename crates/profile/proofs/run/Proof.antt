@@ -4,11 +4,8 @@ use borrow.Author.Needs.{needs}
 use Rattle.profile.proofs.run.Statement.{statement}
 use Rattle.profile.proofs.run.Tie as tie
 
-run-lent-requires : tie.Need-run-lent-requires
-run-lent-requires c κs = search needs
-
 returns : tie.Need-returns
 returns c = c .run-lent .ensures _ (lent-all _)
 
 pub run-spec : {M : Type 1} → statement M
-run-spec = tie.close (tie.spec run-lent-requires returns)
+run-spec = tie.close (tie.spec (λ c κs. search needs) returns)

@@ -6,23 +6,8 @@ use borrow.Author.Needs.{needs}
 use Rattle.profile.proofs.run_lent.Statement.{statement}
 use Rattle.profile.proofs.run_lent.Tie as tie
 
-refuse-chunk-requires : tie.Need-refuse-chunk-requires
-refuse-chunk-requires c κs = search needs
-
 returns : tie.Need-returns
 returns c = λ p lends. run-12 p _ _ (c .before .if1 .taken) (c .refuse-chunk .ensures)
-
-has-marks-requires : tie.Need-has-marks-requires
-has-marks-requires c κs = search needs
-
-run-marked-requires : tie.Need-run-marked-requires
-run-marked-requires c κs = search needs
-
-returns-2 : tie.Need-returns-2
-returns-2 c = search needs
-
-run-text-requires : tie.Need-run-text-requires
-run-text-requires c κs = search needs
 
 returns-3 : tie.Need-returns-3
 returns-3 c =
@@ -34,10 +19,5 @@ pub run-lent-spec : {M : Type 1} → statement M
 run-lent-spec =
     tie.close
     (tie.spec
-    refuse-chunk-requires
-    returns
-    has-marks-requires
-    run-marked-requires
-    returns-2
-    run-text-requires
-    returns-3)
+    (λ c κs. search needs) returns (λ c κs. search needs) (λ c κs. search needs)
+    (λ c. search needs) (λ c κs. search needs) returns-3)

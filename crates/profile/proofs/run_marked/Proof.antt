@@ -17,12 +17,6 @@ use Rattle.profile.proofs.run_marked.Tie as tie
 short : (w : List ℕ) → length w ≤ 65536 → length (textOf w) ≤ 65536
 short w h = omega (arith, marks.claims .no-longer w)
 
-slice-aggregate-pack : tie.Need-slice-aggregate-pack
-slice-aggregate-pack c = search needs
-
-pack-requires : tie.Need-pack-requires
-pack-requires c κs = search needs
-
 array-share-prefix-buffer : tie.Need-array-share-prefix-buffer
 array-share-prefix-buffer c =
     let packed = c .before .pack in
@@ -34,9 +28,6 @@ slice-aggregate-run-text c =
     sym (length-take-le (packed .result) (packed .last .1 .0)
     (whole-within (packed .ensures) (packed .kept .1 .0) 65536 (short _ (c .before .before .before .before .before .pre)) (simp length-replicate (omega arith))))
 
-run-text-requires : tie.Need-run-text-requires
-run-text-requires c κs = search needs
-
 returns : tie.Need-returns
 returns c = λ p lends. c .run-text .ensures p _ lends (c .before .before .before .before .before .before .pre) (sym (taken (c .before .before .before .pack .ensures)))
 
@@ -44,9 +35,5 @@ pub run-marked-spec : {M : Type 1} → statement M
 run-marked-spec =
     tie.close
     (tie.spec
-    slice-aggregate-pack
-    pack-requires
-    array-share-prefix-buffer
-    slice-aggregate-run-text
-    run-text-requires
-    returns)
+    (λ c. search needs) (λ c κs. search needs) array-share-prefix-buffer
+    slice-aggregate-run-text (λ c κs. search needs) returns)

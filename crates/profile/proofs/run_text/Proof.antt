@@ -8,32 +8,11 @@ use borrow.Author.Needs.{needs}
 use Rattle.profile.proofs.run_text.Statement.{statement}
 use Rattle.profile.proofs.run_text.Tie as tie
 
-has-foreign-requires : tie.Need-has-foreign-requires
-has-foreign-requires c κs = search needs
-
-refuse-chunk-requires : tie.Need-refuse-chunk-requires
-refuse-chunk-requires c κs = search needs
-
 returns : tie.Need-returns
 returns c =
     let s = c .before .before .before .before in
     λ p w lends short is.
     lent-13 (s .args .k) (s .args .next .now) (s .args .packed .now) (s .args .text .now) _ p w lends short is (sym (c .before .before .has-foreign .ensures) ∙ c .before .if1 .taken) (c .refuse-chunk .ensures)
-
-walk-requires : tie.Need-walk-requires
-walk-requires c κs = search needs
-
-cast-number : tie.Need-cast-number
-cast-number c = search needs
-
-mul-unpack : tie.Need-mul-unpack
-mul-unpack c = search needs
-
-shared-slice-read-unpack : tie.Need-shared-slice-read-unpack
-shared-slice-read-unpack c = search needs
-
-unpack-requires : tie.Need-unpack-requires
-unpack-requires c κs = search needs
 
 returns-2 : tie.Need-returns-2
 returns-2 c =
@@ -47,12 +26,5 @@ pub run-text-spec : {M : Type 1} → statement M
 run-text-spec =
     tie.close
     (tie.spec
-    has-foreign-requires
-    refuse-chunk-requires
-    returns
-    walk-requires
-    cast-number
-    mul-unpack
-    shared-slice-read-unpack
-    unpack-requires
-    returns-2)
+    (λ c κs. search needs) (λ c κs. search needs) returns (λ c κs. search needs)
+    (λ c. search needs) (λ c. search needs) (λ c. search needs) (λ c κs. search needs) returns-2)

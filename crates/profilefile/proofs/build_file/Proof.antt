@@ -4,20 +4,8 @@ use Rattle.profilefile.proofs.Ways.{unread, built}
 use Rattle.profilefile.proofs.build_file.Statement.{statement}
 use Rattle.profilefile.proofs.build_file.Tie as tie
 
-read-requires : tie.Need-read-requires
-read-requires c κs = search needs
-
-enum-known-read : tie.Need-enum-known-read
-enum-known-read c = search needs
-
-refuse-rule-requires : tie.Need-refuse-rule-requires
-refuse-rule-requires c κs = search needs
-
 enum-told : tie.Need-enum-told
 enum-told c = search needs
-
-build-requires : tie.Need-build-requires
-build-requires c κs = search needs
 
 returns : tie.Need-returns
 returns c =
@@ -33,10 +21,5 @@ pub build-file-spec : {M : Type 1} → statement M
 build-file-spec =
     tie.close
     (tie.spec
-    read-requires
-    enum-known-read
-    refuse-rule-requires
-    enum-told
-    build-requires
-    returns
-    returns-2)
+    (λ c κs. search needs) (λ c. search needs) (λ c κs. search needs) enum-told
+    (λ c κs. search needs) returns returns-2)

@@ -5,12 +5,6 @@ use Rattle.ruletext.proofs.Lengths.{number-most}
 use Rattle.profiletext.proofs.put_head.Statement.{statement}
 use Rattle.profiletext.proofs.put_head.Tie as tie
 
-slice-aggregate-put-bytes : tie.Need-slice-aggregate-put-bytes
-slice-aggregate-put-bytes c = search needs
-
-put-bytes-requires : tie.Need-put-bytes-requires
-put-bytes-requires c κs = search needs
-
 put-decimal-requires : tie.Need-put-decimal-requires
 put-decimal-requires c κs =
     let s = c .before .before .before .before .before .before .before in
@@ -21,9 +15,6 @@ put-byte-requires c κs =
     let s = c .before .before .before .before .before .before .before .before .before .before .before in
     let h = left 9 4 (s .pre .1) (exact (c .before .before .before .before .before .before .before .put-bytes .ensures)) in
     more 3 0 h (most 3 (number-most (s .args .count) (s .pre .0)) (c .before .before .before .put-decimal .ensures))
-
-same-length : tie.Need-same-length
-same-length c = search needs
 
 returns : tie.Need-returns
 returns c =
@@ -36,9 +27,5 @@ pub put-head-spec : {M : Type 1} → statement M
 put-head-spec =
     tie.close
     (tie.spec
-    slice-aggregate-put-bytes
-    put-bytes-requires
-    put-decimal-requires
-    put-byte-requires
-    same-length
-    returns)
+    (λ c. search needs) (λ c κs. search needs) put-decimal-requires put-byte-requires
+    (λ c. search needs) returns)

@@ -7,31 +7,15 @@ use native.Mathlib.Omega.{arith}
 use lib.ListN.{length, getD}
 use borrow.Author.Needs.{needs}
 use Rattle.text.proofs.Rooms.{exact, most, left, fits, more, two}
-use Rattle.ruletext.proofs.Lengths.{index-most, cells-room}
+use Rattle.ruletext.proofs.Lengths.{index-most, cells-most, cells-room}
 use Rattle.mappings.specs.Packing.{unpack}
 use Rattle.maptext.specs.MappingText.{mappingText}
 use Rattle.maptext.proofs.RoundTrip as maptext
-use Rattle.profiletext.proofs.Lengths.{cells-most}
 use Rattle.profiletext.proofs.put_line.Statement.{statement}
 use Rattle.profiletext.proofs.put_line.Tie as tie
 
 digits : (f : List ℕ) → length (mappingText f) ≤ 16
 digits f = omega (arith, maptext.claims .sixteen f)
-
-cast-row : tie.Need-cast-row
-cast-row c = search needs
-
-mul-unpack : tie.Need-mul-unpack
-mul-unpack c = search needs
-
-element-copy-out-unpack : tie.Need-element-copy-out-unpack
-element-copy-out-unpack c = search needs
-
-unpack-requires : tie.Need-unpack-requires
-unpack-requires c κs = search needs
-
-cast-put-decimal : tie.Need-cast-put-decimal
-cast-put-decimal c = search needs
 
 put-decimal-requires : tie.Need-put-decimal-requires
 put-decimal-requires c κs = let s = c .before .before .before .before .before .before in omega (arith, s .pre, index-most (s .args .i .0) (s .pre .1))
@@ -62,9 +46,6 @@ put-byte-requires-2 c κs =
     let j = left 16 65 i (most 16 (digits (c .before .before .before .before .before .before .before .before .before .before .before .before .before .before .before .before .before .before .unpack .result .masks)) (c .before .before .before .before .before .before .before .put-mapping .ensures)) in
     more 64 0 j (most 64 (cells-most (s .args .next .now) (s .args .k) (s .args .i .0) (s .pre .0)) (c .before .before .before .put-row .ensures))
 
-same-length : tie.Need-same-length
-same-length c = search needs
-
 returns : tie.Need-returns
 returns c =
     let s = c .before .before .before .before .before .before .before .before .before .before .before .before .before .before .before .before .before .before .before .before .before .before .before .before .before in
@@ -81,15 +62,6 @@ pub put-line-spec : {M : Type 1} → statement M
 put-line-spec =
     tie.close
     (tie.spec
-    cast-row
-    mul-unpack
-    element-copy-out-unpack
-    unpack-requires
-    cast-put-decimal
-    put-decimal-requires
-    put-byte-requires
-    put-mapping-requires
-    put-row-requires
-    put-byte-requires-2
-    same-length
-    returns)
+    (λ c. search needs) (λ c. search needs) (λ c. search needs) (λ c κs. search needs)
+    (λ c. search needs) put-decimal-requires put-byte-requires put-mapping-requires
+    put-row-requires put-byte-requires-2 (λ c. search needs) returns)

@@ -6,18 +6,6 @@ use Rattle.reduce.proofs.Ways.{cell-live, cell-dead, cell-off}
 use Rattle.reduce.proofs.chosen_cell.Statement.{statement}
 use Rattle.reduce.proofs.chosen_cell.Tie as tie
 
-member-requires : tie.Need-member-requires
-member-requires c κs = search needs
-
-cast-i : tie.Need-cast-i
-cast-i c = search needs
-
-element-copy-out-d : tie.Need-element-copy-out-d
-element-copy-out-d c = search needs
-
-lowest-requires : tie.Need-lowest-requires
-lowest-requires c κs = search needs
-
 returns : tie.Need-returns
 returns c =
     let y = c .before .before .before .before .before in
@@ -45,10 +33,5 @@ pub chosen-cell-spec : {M : Type 1} → statement M
 chosen-cell-spec =
     tie.close
     (tie.spec
-    member-requires
-    cast-i
-    element-copy-out-d
-    lowest-requires
-    returns
-    returns-2
-    returns-3)
+    (λ c κs. search needs) (λ c. search needs) (λ c. search needs) (λ c κs. search needs)
+    returns returns-2 returns-3)

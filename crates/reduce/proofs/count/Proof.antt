@@ -22,20 +22,11 @@ loop-holds : tie.Need-loop-holds Inv-loop μ-loop
 unfolding total
 loop-holds c = (omega arith, refl)
 
-member-requires : tie.Need-member-requires Inv-loop μ-loop
-member-requires c κs = search needs
-
 add-out : tie.Need-add-out Inv-loop μ-loop
 add-out c =
     let l = c .before .before .before .loop in
     let a = c .before .before .before .before .args in
     omega (arith, rank-most (a .set) (l .p), l .inv .1, l .inv .0, c .before .before .before .before .pre)
-
-add-p : tie.Need-add-p Inv-loop μ-loop
-add-p c = search needs
-
-loop-less : tie.Need-loop-less Inv-loop μ-loop
-loop-less c = search needs
 
 loop-again : tie.Need-loop-again Inv-loop μ-loop
 loop-again c =
@@ -58,4 +49,6 @@ returns c =
 pub count-spec : {M : Type 1} → statement M
 count-spec =
     tie.close
-    (tie.spec Inv-loop μ-loop loop-holds member-requires add-out add-p loop-less loop-again returns)
+    (tie.spec
+    Inv-loop μ-loop loop-holds (λ c κs. search needs) add-out (λ c. search needs)
+    (λ c. search needs) loop-again returns)

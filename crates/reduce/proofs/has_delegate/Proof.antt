@@ -8,15 +8,6 @@ use Rattle.reduce.proofs.Ways.{has-yes, has-no}
 use Rattle.reduce.proofs.has_delegate.Statement.{statement}
 use Rattle.reduce.proofs.has_delegate.Tie as tie
 
-member-requires : tie.Need-member-requires
-member-requires c κs = search needs
-
-cast-i : tie.Need-cast-i
-cast-i c = search needs
-
-element-copy-out-result : tie.Need-element-copy-out-result
-element-copy-out-result c = search needs
-
 returns : tie.Need-returns
 returns c =
     let a = c .before .before .before .before .args in
@@ -32,4 +23,6 @@ returns-2 c =
 
 pub has-delegate-spec : {M : Type 1} → statement M
 has-delegate-spec =
-    tie.close (tie.spec member-requires cast-i element-copy-out-result returns returns-2)
+    tie.close
+    (tie.spec
+    (λ c κs. search needs) (λ c. search needs) (λ c. search needs) returns returns-2)

@@ -15,15 +15,9 @@ Inv-loop targets delegates initials set₀ i₀ set i = (i ≤ 32) × (set ≡ r
 abbrev μ-loop : tie.MeasureT-loop
 μ-loop targets delegates initials set₀ i₀ set i = 32 - i
 
-delegated-requires : tie.Need-delegated-requires Inv-loop μ-loop
-delegated-requires c κs = search needs
-
 loop-holds : tie.Need-loop-holds Inv-loop μ-loop
 unfolding turns
 loop-holds c = (omega arith, c .delegated .ensures)
-
-onward-requires : tie.Need-onward-requires Inv-loop μ-loop
-onward-requires c κs = search needs
 
 returns : tie.Need-returns Inv-loop μ-loop
 returns c =
@@ -31,12 +25,6 @@ returns c =
     let a = c .before .before .before .before .before .args in
     turns-whole (onward (a .targets .now) (a .delegates .now)) (delegated (a .delegates .now) (a .initials)) 32 (l .i) (l .set) (l .inv .1) (l .inv .0)
     (sym (c .before .onward .ensures) ∙ c .if1 .taken)
-
-add-i : tie.Need-add-i Inv-loop μ-loop
-add-i c = search needs
-
-loop-less : tie.Need-loop-less Inv-loop μ-loop
-loop-less c = search needs
 
 loop-again : tie.Need-loop-again Inv-loop μ-loop
 loop-again c =
@@ -58,13 +46,5 @@ pub kept-spec : {M : Type 1} → statement M
 kept-spec =
     tie.close
     (tie.spec
-    Inv-loop
-    μ-loop
-    delegated-requires
-    loop-holds
-    onward-requires
-    returns
-    add-i
-    loop-less
-    loop-again
-    returns-2)
+    Inv-loop μ-loop (λ c κs. search needs) loop-holds (λ c κs. search needs) returns
+    (λ c. search needs) (λ c. search needs) loop-again returns-2)

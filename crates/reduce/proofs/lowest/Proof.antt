@@ -28,21 +28,12 @@ loop-holds c =
     let all : a .q .0 ≡ a .q .0 - 0 = omega arith in
     (omega arith, ap (firstFrom (λ u. has (a .reached) u && eqb (getD (a .delegates .now) u 0) (a .d)) 0) all)
 
-has-delegate-requires : tie.Need-has-delegate-requires Inv-loop μ-loop
-has-delegate-requires c κs = search needs
-
 returns : tie.Need-returns Inv-loop μ-loop
 returns c =
     let l = c .before .before .before .before .loop in
     let a = c .before .before .before .before .before .args in
     let test : ℕ → Bool = λ u. has (a .reached) u && eqb (getD (a .delegates .now) u 0) (a .d) in
     first-here test (l .p) (a .q .0) (omega arith) (sym (c .before .has-delegate .ensures) ∙ c .if2 .taken) ∙ sym (l .inv .1)
-
-add-p : tie.Need-add-p Inv-loop μ-loop
-add-p c = search needs
-
-loop-less : tie.Need-loop-less Inv-loop μ-loop
-loop-less c = search needs
 
 loop-again : tie.Need-loop-again Inv-loop μ-loop
 loop-again c =
@@ -62,12 +53,5 @@ pub lowest-spec : {M : Type 1} → statement M
 lowest-spec =
     tie.close
     (tie.spec
-    Inv-loop
-    μ-loop
-    loop-holds
-    has-delegate-requires
-    returns
-    add-p
-    loop-less
-    loop-again
-    returns-2)
+    Inv-loop μ-loop loop-holds (λ c κs. search needs) returns (λ c. search needs)
+    (λ c. search needs) loop-again returns-2)

@@ -22,21 +22,6 @@ loop-holds : tie.Need-loop-holds Inv-loop μ-loop
 unfolding gather
 loop-holds c = (omega arith, refl)
 
-successor-requires : tie.Need-successor-requires Inv-loop μ-loop
-successor-requires c κs = search needs
-
-delegated-requires : tie.Need-delegated-requires Inv-loop μ-loop
-delegated-requires c κs = search needs
-
-union-requires : tie.Need-union-requires Inv-loop μ-loop
-union-requires c κs = search needs
-
-add-s : tie.Need-add-s Inv-loop μ-loop
-add-s c = search needs
-
-loop-less : tie.Need-loop-less Inv-loop μ-loop
-loop-less c = search needs
-
 loop-again : tie.Need-loop-again Inv-loop μ-loop
 loop-again c =
     let l = c .before .before .before .before .loop in
@@ -47,9 +32,6 @@ loop-again c =
           (c .before .delegated .ensures ∙ ap (delegated (a .delegates .now)) (c .before .before .successor .ensures))
           (c .union .ensures),
     )
-
-union-requires-2 : tie.Need-union-requires-2 Inv-loop μ-loop
-union-requires-2 c κs = search needs
 
 returns : tie.Need-returns Inv-loop μ-loop
 returns c =
@@ -63,14 +45,6 @@ pub onward-spec : {M : Type 1} → statement M
 onward-spec =
     tie.close
     (tie.spec
-    Inv-loop
-    μ-loop
-    loop-holds
-    successor-requires
-    delegated-requires
-    union-requires
-    add-s
-    loop-less
-    loop-again
-    union-requires-2
-    returns)
+    Inv-loop μ-loop loop-holds (λ c κs. search needs) (λ c κs. search needs)
+    (λ c κs. search needs) (λ c. search needs) (λ c. search needs) loop-again
+    (λ c κs. search needs) returns)

@@ -16,18 +16,6 @@ abbrev μ-loop : tie.MeasureT-loop
 loop-holds : tie.Need-loop-holds Inv-loop μ-loop
 loop-holds c = (length-replicate {A = ℕ} 32 0, omega arith, λ i l. absurd (omega arith))
 
-cast-list : tie.Need-cast-list Inv-loop μ-loop
-cast-list c = omega arith
-
-array-write-list : tie.Need-array-write-list Inv-loop μ-loop
-array-write-list c = omega arith
-
-add-q : tie.Need-add-q Inv-loop μ-loop
-add-q c = omega arith
-
-loop-less : tie.Need-loop-less Inv-loop μ-loop
-loop-less c = omega arith
-
 loop-again : tie.Need-loop-again Inv-loop μ-loop
 loop-again c =
     let x = c .before .loop in
@@ -46,4 +34,6 @@ returns c =
 pub own-list-spec : {M : Type 1} → statement M
 own-list-spec =
     tie.close
-    (tie.spec Inv-loop μ-loop loop-holds cast-list array-write-list add-q loop-less loop-again returns)
+    (tie.spec
+    Inv-loop μ-loop loop-holds (λ c. omega arith) (λ c. omega arith) (λ c. omega arith)
+    (λ c. omega arith) loop-again returns)

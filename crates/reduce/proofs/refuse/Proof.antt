@@ -7,12 +7,9 @@ use Rattle.automaton.specs.declared.Rule.{Rule}
 use Rattle.reduce.proofs.refuse.Statement.{statement}
 use Rattle.reduce.proofs.refuse.Tie as tie
 
-no-rule-requires : tie.Need-no-rule-requires
-no-rule-requires c κs = search needs
-
 returns : tie.Need-returns
 returns c =
     ap (λ (r : Rule). record { number = some (c .before .args .number); installs = false; rule = r }) (c .no-rule .ensures)
 
 pub refuse-spec : {M : Type 1} → statement M
-refuse-spec = tie.close (tie.spec no-rule-requires returns)
+refuse-spec = tie.close (tie.spec (λ c κs. search needs) returns)

@@ -22,23 +22,8 @@ loop-holds : tie.Need-loop-holds Inv-loop μ-loop
 unfolding union
 loop-holds c = (omega arith, refl)
 
-member-requires : tie.Need-member-requires Inv-loop μ-loop
-member-requires c κs = search needs
-
-count-requires : tie.Need-count-requires Inv-loop μ-loop
-count-requires c κs = search needs
-
 singleton-requires : tie.Need-singleton-requires Inv-loop μ-loop
 singleton-requires c κs = search (needs, count-low)
-
-union-requires : tie.Need-union-requires Inv-loop μ-loop
-union-requires c κs = search needs
-
-add-q : tie.Need-add-q Inv-loop μ-loop
-add-q c = search needs
-
-loop-less : tie.Need-loop-less Inv-loop μ-loop
-loop-less c = search needs
 
 loop-again : tie.Need-loop-again Inv-loop μ-loop
 loop-again c =
@@ -69,14 +54,5 @@ pub renamed-spec : {M : Type 1} → statement M
 renamed-spec =
     tie.close
     (tie.spec
-    Inv-loop
-    μ-loop
-    loop-holds
-    member-requires
-    count-requires
-    singleton-requires
-    union-requires
-    add-q
-    loop-less
-    loop-again
-    returns)
+    Inv-loop μ-loop loop-holds (λ c κs. search needs) (λ c κs. search needs) singleton-requires
+    (λ c κs. search needs) (λ c. search needs) (λ c. search needs) loop-again returns)

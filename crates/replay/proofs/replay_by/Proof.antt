@@ -17,14 +17,8 @@ Inv-loop text buffer₀ judge₀ line₀ at₀ buffer judge line at =
 abbrev μ-loop : tie.MeasureT-loop
 μ-loop text buffer₀ judge₀ line₀ at₀ buffer judge line at = length text - at
 
-new-judge-requires : tie.Need-new-judge-requires Inv-loop μ-loop
-new-judge-requires c κs = search needs
-
 loop-holds : tie.Need-loop-holds Inv-loop μ-loop
 loop-holds c = (search needs, search needs, search needs, refl, search (needs, going-first))
-
-find-requires : tie.Need-find-requires Inv-loop μ-loop
-find-requires c κs = search needs
 
 sub-run-line : tie.Need-sub-run-line Inv-loop μ-loop
 sub-run-line c = search (needs, part-from, part-to)
@@ -35,26 +29,11 @@ part-run-line-start c = search (needs, part-from, part-to)
 part-run-line-end : tie.Need-part-run-line-end Inv-loop μ-loop
 part-run-line-end c = search (needs, part-from, part-to)
 
-run-line-requires : tie.Need-run-line-requires Inv-loop μ-loop
-run-line-requires c κs = search needs
-
-add-line : tie.Need-add-line Inv-loop μ-loop
-add-line c = search needs
-
-is-malformed-requires : tie.Need-is-malformed-requires Inv-loop μ-loop
-is-malformed-requires c κs = search needs
-
-same-length : tie.Need-same-length Inv-loop μ-loop
-same-length c = search needs
-
 returns : tie.Need-returns Inv-loop μ-loop
 returns c =
     let l = c .before .before .before .before .before .before .before .before .before .loop in
     let r = c .before .before .before .before .run-line in
     (going-wrong _ (l .judge) (l .line) (l .at) (l .inv .4) _ (c .before .before .before .before .before .before .before .before .loop-test .taken) (c .before .before .before .before .before .before .before .find .ensures) (r .result) (r .ensures .0) (sym (c .before .is-malformed .ensures) ∙ c .if1 .taken) _ refl, search needs)
-
-past-requires : tie.Need-past-requires Inv-loop μ-loop
-past-requires c κs = search needs
 
 loop-less : tie.Need-loop-less Inv-loop μ-loop
 loop-less c =
@@ -79,12 +58,6 @@ loop-again c =
       going-on _ (l .judge) (l .line) (l .at) (l .inv .4) _ here find (r .result) (r .ensures .0) (sym (c .before .before .before .is-malformed .ensures) ∙ c .before .before .if1 .left) _ (c .past .ensures),
     )
 
-ask-verdict-requires : tie.Need-ask-verdict-requires Inv-loop μ-loop
-ask-verdict-requires c κs = search needs
-
-same-length-2 : tie.Need-same-length-2 Inv-loop μ-loop
-same-length-2 c = search needs
-
 returns-2 : tie.Need-returns-2 Inv-loop μ-loop
 returns-2 c =
     let l = c .before .before .loop in
@@ -94,22 +67,7 @@ pub replay-by-spec : {M : Type 1} → statement M
 replay-by-spec =
     tie.close
     (tie.spec
-    Inv-loop
-    μ-loop
-    new-judge-requires
-    loop-holds
-    find-requires
-    sub-run-line
-    part-run-line-start
-    part-run-line-end
-    run-line-requires
-    add-line
-    is-malformed-requires
-    same-length
-    returns
-    past-requires
-    loop-less
-    loop-again
-    ask-verdict-requires
-    same-length-2
-    returns-2)
+    Inv-loop μ-loop (λ c κs. search needs) loop-holds (λ c κs. search needs) sub-run-line
+    part-run-line-start part-run-line-end (λ c κs. search needs) (λ c. search needs)
+    (λ c κs. search needs) (λ c. search needs) returns (λ c κs. search needs) loop-less
+    loop-again (λ c κs. search needs) (λ c. search needs) returns-2)

@@ -24,19 +24,9 @@ slice-aggregate-write-all c =
     let w = c .before .before .print-whole in
     sym (length-take-le _ (w .last .1 .0) (whole-within (w .ensures) (w .kept .1 .0) mostBytes (claims .fits _) (rw length-replicate (omega arith))))
 
-write-all-requires : tie.Need-write-all-requires
-write-all-requires c κs = search needs
-
-returns : tie.Need-returns
-returns c = search needs
-
 pub print-text-spec : {M : Type 1} → statement M
 print-text-spec =
     tie.close
     (tie.spec
-    slice-aggregate-print-whole
-    print-whole-requires
-    array-share-prefix-text
-    slice-aggregate-write-all
-    write-all-requires
-    returns)
+    slice-aggregate-print-whole print-whole-requires array-share-prefix-text
+    slice-aggregate-write-all (λ c κs. search needs) (λ c. search needs))

@@ -7,21 +7,18 @@ use Rattle.rulecheck.specs.Checking.{beyond}
 use Rattle.rulecheck.proofs.bad_masks.Statement.{statement}
 use Rattle.rulecheck.proofs.bad_masks.Tie as tie
 
-beyond-requires : tie.Need-beyond-requires
-beyond-requires c κs = search needs
-
 returns : tie.Need-returns
 returns c =
     let a = c .before .before .args in
     sym (or-either (beyond (a .n) (a .initials)) (beyond (a .n) (a .finals))
     (inl (sym (c .before .beyond .ensures) ∙ c .if1 .taken)))
 
-beyond-requires-2 : tie.Need-beyond-requires-2
-beyond-requires-2 c κs = search needs
-
 returns-2 : tie.Need-returns-2
 returns-2 c =
     rw (sym (c .before .before .beyond .ensures) ∙ c .before .if1 .left) (c .beyond2 .ensures)
 
 pub bad-masks-spec : {M : Type 1} → statement M
-bad-masks-spec = tie.close (tie.spec beyond-requires returns beyond-requires-2 returns-2)
+bad-masks-spec =
+    tie.close
+    (tie.spec
+    (λ c κs. search needs) returns (λ c κs. search needs) returns-2)

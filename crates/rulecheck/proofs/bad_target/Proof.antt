@@ -17,9 +17,6 @@ returns-2 c =
     let a = c .before .before .args in
     sym (kept-cell (a .n) (a .k) (a .q) (a .s) (a .mask) (inr (c .if2 .taken)))
 
-beyond-requires : tie.Need-beyond-requires
-beyond-requires c κs = search needs
-
 returns-3 : tie.Need-returns-3
 returns-3 c =
     let a = c .before .before .before .args in
@@ -28,4 +25,4 @@ returns-3 c =
     c .beyond .ensures ∙ sym (own-cell (a .n) (a .k) (a .q) (a .s) (a .mask) q s)
 
 pub bad-target-spec : {M : Type 1} → statement M
-bad-target-spec = tie.close (tie.spec returns returns-2 beyond-requires returns-3)
+bad-target-spec = tie.close (tie.spec returns returns-2 (λ c κs. search needs) returns-3)

@@ -34,12 +34,6 @@ none-bad n k ts e = e
 loop-holds : tie.Need-loop-holds Inv-loop μ-loop
 loop-holds c = (omega arith, none-yet (badCell (c .args .n) (c .args .k) (c .args .targets .now)))
 
-mul-bad-target : tie.Need-mul-bad-target Inv-loop μ-loop
-mul-bad-target c = omega arith
-
-element-copy-out-bad-target : tie.Need-element-copy-out-bad-target Inv-loop μ-loop
-element-copy-out-bad-target c = omega arith
-
 bad-target-requires : tie.Need-bad-target-requires Inv-loop μ-loop
 bad-target-requires c κs = tt
 
@@ -49,12 +43,6 @@ returns c =
     let x = c .before .before .before .before .loop in
     sym (bad-at (a .n) (a .k) (x .cell) (a .targets .now) (omega arith)
     (c .before .bad-target .ensures) (c .if1 .taken))
-
-add-cell : tie.Need-add-cell Inv-loop μ-loop
-add-cell c = omega arith
-
-loop-less : tie.Need-loop-less Inv-loop μ-loop
-loop-less c = omega arith
 
 loop-again : tie.Need-loop-again Inv-loop μ-loop
 loop-again c =
@@ -76,14 +64,5 @@ pub bad-targets-spec : {M : Type 1} → statement M
 bad-targets-spec =
     tie.close
     (tie.spec
-    Inv-loop
-    μ-loop
-    loop-holds
-    mul-bad-target
-    element-copy-out-bad-target
-    bad-target-requires
-    returns
-    add-cell
-    loop-less
-    loop-again
-    returns-2)
+    Inv-loop μ-loop loop-holds (λ c. omega arith) (λ c. omega arith) bad-target-requires returns
+    (λ c. omega arith) (λ c. omega arith) loop-again returns-2)

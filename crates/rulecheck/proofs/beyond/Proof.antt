@@ -27,14 +27,8 @@ returns c =
     let wide : 2 ^ 32 ≤ 2 ^ a .n = pow-mono (c .if1 .taken) in
     sym (lt-leb (2 ^ a .n) (a .set) (omega arith))
 
-cast-result : tie.Need-cast-result
-cast-result c = search needs
-
-shr-result : tie.Need-shr-result
-shr-result c = search needs
-
 returns-2 : tie.Need-returns-2
 returns-2 c = shifted (c .before .args .set) (c .before .args .n)
 
 pub beyond-spec : {M : Type 1} → statement M
-beyond-spec = tie.close (tie.spec returns cast-result shr-result returns-2)
+beyond-spec = tie.close (tie.spec returns (λ c. search needs) (λ c. search needs) returns-2)

@@ -47,29 +47,14 @@ module _ (r : Rule) {t3 : Bool} (e3 : t3 ≡ badStateCount (r .n)) where
         past-8 h =
             sym (skips 8 (badTargets (r .n) (r .k) (r .targets)) none (sym e8 ∙ h)) ∙ past-6 h6
 
-cast-n : tie.Need-cast-n
-cast-n c = search needs
-
-outside-requires : tie.Need-outside-requires
-outside-requires c κs = search needs
-
 returns : tie.Need-returns
 returns c = on-3 (c .before .before .args .t1) (c .before .outside .ensures) (c .if1 .taken)
-
-cast-k : tie.Need-cast-k
-cast-k c = search needs
-
-outside-requires-2 : tie.Need-outside-requires-2
-outside-requires-2 c κs = search needs
 
 returns-2 : tie.Need-returns-2
 returns-2 c =
     let b = c .before .before in
     on-4 (b .before .before .args .t1) (b .before .outside .ensures) (b .if1 .left)
     (c .before .outside2 .ensures) (c .if2 .taken)
-
-bad-masks-requires : tie.Need-bad-masks-requires
-bad-masks-requires c κs = search needs
 
 returns-3 : tie.Need-returns-3
 returns-3 c =
@@ -78,9 +63,6 @@ returns-3 c =
     on-6 (b .before .before .args .t1) (b .before .outside .ensures) (b .if1 .left)
     (d .before .outside2 .ensures) (d .if2 .left)
     (c .before .bad-masks .ensures) (c .if3 .taken)
-
-bad-targets-requires : tie.Need-bad-targets-requires
-bad-targets-requires c κs = search needs
 
 returns-4 : tie.Need-returns-4
 returns-4 c =
@@ -104,14 +86,6 @@ pub check-rule-spec : {M : Type 1} → statement M
 check-rule-spec =
     tie.close
     (tie.spec
-    cast-n
-    outside-requires
-    returns
-    cast-k
-    outside-requires-2
-    returns-2
-    bad-masks-requires
-    returns-3
-    bad-targets-requires
-    returns-4
-    returns-5)
+    (λ c. search needs) (λ c κs. search needs) returns (λ c. search needs)
+    (λ c κs. search needs) returns-2 (λ c κs. search needs) returns-3 (λ c κs. search needs)
+    returns-4 returns-5)

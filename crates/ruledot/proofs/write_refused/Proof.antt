@@ -8,12 +8,6 @@ use borrow.Author.Needs.{needs}
 use Rattle.ruledot.proofs.write_refused.Statement.{statement}
 use Rattle.ruledot.proofs.write_refused.Tie as tie
 
-slice-aggregate-put-refused : tie.Need-slice-aggregate-put-refused
-slice-aggregate-put-refused c = search needs
-
-put-refused-requires : tie.Need-put-refused-requires
-put-refused-requires c κs = search needs
-
 array-share-prefix-line : tie.Need-array-share-prefix-line
 array-share-prefix-line c = let w = c .before .put-refused in whole-within (w .ensures) (w .kept .0) 12 (refused-most _ (omega (arith, c .before .before .before .fits .number .fits))) (omega arith)
 
@@ -22,19 +16,9 @@ slice-aggregate-write-all c =
     let w = c .before .before .put-refused in
     sym (length-take-le _ (w .last .0) (whole-within (w .ensures) (w .kept .0) 12 (refused-most _ (omega (arith, c .before .before .before .before .fits .number .fits))) (omega arith)))
 
-write-all-requires : tie.Need-write-all-requires
-write-all-requires c κs = search needs
-
-returns : tie.Need-returns
-returns c = search needs
-
 pub write-refused-spec : {M : Type 1} → statement M
 write-refused-spec =
     tie.close
     (tie.spec
-    slice-aggregate-put-refused
-    put-refused-requires
-    array-share-prefix-line
-    slice-aggregate-write-all
-    write-all-requires
-    returns)
+    (λ c. search needs) (λ c κs. search needs) array-share-prefix-line slice-aggregate-write-all
+    (λ c κs. search needs) (λ c. search needs))

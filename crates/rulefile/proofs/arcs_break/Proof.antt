@@ -36,12 +36,6 @@ arcs-end : (f : List ℕ) → anyBelow (λ p. badSection (stateCount f) (symbolC
 unfolding badArcs
 arcs-end f e = e
 
-byte-requires : tie.Need-byte-requires Inv-loop μ-loop
-byte-requires c κs = omega arith
-
-byte-requires-2 : tie.Need-byte-requires-2 Inv-loop μ-loop
-byte-requires-2 c κs = omega arith
-
 loop-holds : tie.Need-loop-holds Inv-loop μ-loop
 loop-holds c =
     let f = c .before .before .before .args .file .now in
@@ -49,40 +43,10 @@ loop-holds c =
     let n = c .before .byte .ensures in
     (n .0, c .byte2 .ensures .0, omega arith, n .1, omega (arith, n .0, h .1), h .2, none-yet (λ p. badSection (stateCount f) (symbolCount f) (section f p)))
 
-mul-half : tie.Need-mul-half Inv-loop μ-loop
-mul-half c = omega arith
-
-add-half : tie.Need-add-half Inv-loop μ-loop
-add-half c = omega arith
-
-half-requires : tie.Need-half-requires Inv-loop μ-loop
-half-requires c κs = omega arith
-
-mul-half-2 : tie.Need-mul-half-2 Inv-loop μ-loop
-mul-half-2 c = omega arith
-
-add-half-2 : tie.Need-add-half-2 Inv-loop μ-loop
-add-half-2 c = omega arith
-
-half-requires-2 : tie.Need-half-requires-2 Inv-loop μ-loop
-half-requires-2 c κs = omega arith
-
-add-to : tie.Need-add-to Inv-loop μ-loop
-add-to c = omega arith
-
-sub-section-breaks : tie.Need-sub-section-breaks Inv-loop μ-loop
-sub-section-breaks c = omega arith
-
-part-section-breaks-start : tie.Need-part-section-breaks-start Inv-loop μ-loop
-part-section-breaks-start c = omega arith
-
 part-section-breaks-end : tie.Need-part-section-breaks-end Inv-loop μ-loop
 part-section-breaks-end c =
     let x = c .before .before .before .loop in
     omega (arith, within (c .before .before .before .before .before .before .before .args .file .now) (x .inv .5) (x .q) (omega (arith, x .inv .0)), c .before .half .ensures .0, c .half2 .ensures .0)
-
-section-breaks-requires : tie.Need-section-breaks-requires Inv-loop μ-loop
-section-breaks-requires c κs = omega arith
 
 returns : tie.Need-returns Inv-loop μ-loop
 returns c =
@@ -92,12 +56,6 @@ returns c =
     (arcs-at f (x .q) (omega (arith, x .inv .0))
     (tested f (x .q) (c .before .before .before .before .before .before .before .before .byte .result) (c .before .before .before .before .before .before .before .byte2 .result) (c .before .before .before .before .half .result) (c .before .before .before .half2 .result) (c .before .section-breaks .result) (x .inv .0) (x .inv .1) (c .before .before .before .before .half .ensures .0) (c .before .before .before .half2 .ensures .0) (c .before .section-breaks .ensures)
     ∙ c .if1 .taken))
-
-add-q : tie.Need-add-q Inv-loop μ-loop
-add-q c = omega arith
-
-loop-less : tie.Need-loop-less Inv-loop μ-loop
-loop-less c = omega arith
 
 loop-again : tie.Need-loop-again Inv-loop μ-loop
 loop-again c =
@@ -125,24 +83,8 @@ pub arcs-break-spec : {M : Type 1} → statement M
 arcs-break-spec =
     tie.close
     (tie.spec
-    Inv-loop
-    μ-loop
-    byte-requires
-    byte-requires-2
-    loop-holds
-    mul-half
-    add-half
-    half-requires
-    mul-half-2
-    add-half-2
-    half-requires-2
-    add-to
-    sub-section-breaks
-    part-section-breaks-start
-    part-section-breaks-end
-    section-breaks-requires
-    returns
-    add-q
-    loop-less
-    loop-again
-    returns-2)
+    Inv-loop μ-loop (λ c κs. omega arith) (λ c κs. omega arith) loop-holds (λ c. omega arith)
+    (λ c. omega arith) (λ c κs. omega arith) (λ c. omega arith) (λ c. omega arith)
+    (λ c κs. omega arith) (λ c. omega arith) (λ c. omega arith) (λ c. omega arith)
+    part-section-breaks-end (λ c κs. omega arith) returns (λ c. omega arith) (λ c. omega arith)
+    loop-again returns-2)

@@ -45,33 +45,6 @@ loop-holds c =
     let a = accepted f (c .before .before .before .before .before .pre) in
     (refl, omega arith, a .states .1, a .room, c .before .before .before .before .before .pre, refl, no-section f 512)
 
-cast-at : tie.Need-cast-at Inv-loop μ-loop
-cast-at c = omega arith
-
-mul-at : tie.Need-mul-at Inv-loop μ-loop
-mul-at c = omega arith
-
-add-half : tie.Need-add-half Inv-loop μ-loop
-add-half c = omega arith
-
-half-requires : tie.Need-half-requires Inv-loop μ-loop
-half-requires c κs = omega arith
-
-add-half-2 : tie.Need-add-half-2 Inv-loop μ-loop
-add-half-2 c = omega arith
-
-half-requires-2 : tie.Need-half-requires-2 Inv-loop μ-loop
-half-requires-2 c κs = omega arith
-
-add-to : tie.Need-add-to Inv-loop μ-loop
-add-to c = omega arith
-
-sub-store-arcs : tie.Need-sub-store-arcs Inv-loop μ-loop
-sub-store-arcs c = omega arith
-
-part-store-arcs-start : tie.Need-part-store-arcs-start Inv-loop μ-loop
-part-store-arcs-start c = omega arith
-
 part-store-arcs-end : tie.Need-part-store-arcs-end Inv-loop μ-loop
 part-store-arcs-end c =
     let x = c .before .before .before .before .loop in
@@ -84,12 +57,6 @@ store-arcs-requires c κs =
     let f = c .before .before .before .before .before .before .before .before .before .before .before .args .file .now in
     let part = section-part f (x .q) (c .before .before .before .half .result) (c .before .before .half2 .result) (c .before .before .before .half .ensures .0) (c .before .before .half2 .ensures .0) in
     (omega arith, x .inv .5, ap (badSection 32 16) part ∙ tabled f (accepted f (x .inv .4)) (x .q) (omega arith))
-
-add-q : tie.Need-add-q Inv-loop μ-loop
-add-q c = omega arith
-
-loop-less : tie.Need-loop-less Inv-loop μ-loop
-loop-less c = omega arith
 
 loop-again : tie.Need-loop-again Inv-loop μ-loop
 loop-again c =
@@ -125,25 +92,8 @@ pub build-spec : {M : Type 1} → statement M
 build-spec =
     tie.close
     (tie.spec
-    Inv-loop
-    μ-loop
-    shared-slice-read-n
-    shared-slice-read-k
-    word-requires
-    word-requires-2
-    loop-holds
-    cast-at
-    mul-at
-    add-half
-    half-requires
-    add-half-2
-    half-requires-2
-    add-to
-    sub-store-arcs
-    part-store-arcs-start
-    part-store-arcs-end
-    store-arcs-requires
-    add-q
-    loop-less
-    loop-again
-    returns)
+    Inv-loop μ-loop shared-slice-read-n shared-slice-read-k word-requires word-requires-2
+    loop-holds (λ c. omega arith) (λ c. omega arith) (λ c. omega arith) (λ c κs. omega arith)
+    (λ c. omega arith) (λ c κs. omega arith) (λ c. omega arith) (λ c. omega arith)
+    (λ c. omega arith) part-store-arcs-end store-arcs-requires (λ c. omega arith)
+    (λ c. omega arith) loop-again returns)

@@ -113,24 +113,12 @@ returns-2 c =
     let f = file-1 (c .before) in
     sym (past-1 (c .before) ∙ holds 2 (tooLong f) (from-3 f) (long f (c .if2 .taken)))
 
-byte-requires : tie.Need-byte-requires
-byte-requires c κs = search needs
-
-outside-requires : tie.Need-outside-requires
-outside-requires c κs = search needs
-
 returns-3 : tie.Need-returns-3
 returns-3 c =
     let b = c .before in
     let f = file-2 (b .before .before) in
     sym (past-2 (b .before .before) ∙ holds 3 (badStates f) (from-4 f)
     (states f (b .before .byte .ensures .0) (b .outside .ensures) ∙ c .if3 .taken))
-
-byte-requires-2 : tie.Need-byte-requires-2
-byte-requires-2 c κs = search needs
-
-outside-requires-2 : tie.Need-outside-requires-2
-outside-requires-2 c κs = search needs
 
 returns-4 : tie.Need-returns-4
 returns-4 c =
@@ -139,26 +127,11 @@ returns-4 c =
     sym (past-3 (b .before .before) ∙ holds 4 (badSymbols f) (from-5 f)
     (symbols f (b .before .byte2 .ensures .0) (b .outside2 .ensures) ∙ c .if4 .taken))
 
-mul-if5 : tie.Need-mul-if5
-mul-if5 c = search needs
-
-add-if5 : tie.Need-add-if5
-add-if5 c = search needs
-
 returns-5 : tie.Need-returns-5
 returns-5 c =
     let f = file-4 (c .before) in
     sym (past-4 (c .before) ∙ holds 5 (noRoom f) (from-6 f)
     (no-room f (omega (arith, c .if5 .taken, count (c .before)))))
-
-word-requires : tie.Need-word-requires
-word-requires c κs = search needs
-
-word-requires-2 : tie.Need-word-requires-2
-word-requires-2 c κs = search needs
-
-bad-masks-requires : tie.Need-bad-masks-requires
-bad-masks-requires c κs = search needs
 
 returns-6 : tie.Need-returns-6
 returns-6 c =
@@ -166,9 +139,6 @@ returns-6 c =
     let f = file-5 (b .before .before .before) in
     sym (past-5 (b .before .before .before) ∙ holds 6 (badMask f) (from-7 f)
     (bad-masks b ∙ c .if6 .taken))
-
-pairs-break-requires : tie.Need-pairs-break-requires
-pairs-break-requires c κs = search needs
 
 returns-7 : tie.Need-returns-7
 returns-7 c =
@@ -200,23 +170,8 @@ pub check-spec : {M : Type 1} → statement M
 check-spec =
     tie.close
     (tie.spec
-    returns
-    returns-2
-    byte-requires
-    outside-requires
-    returns-3
-    byte-requires-2
-    outside-requires-2
-    returns-4
-    mul-if5
-    add-if5
-    returns-5
-    word-requires
-    word-requires-2
-    bad-masks-requires
-    returns-6
-    pairs-break-requires
-    returns-7
-    arcs-break-requires
-    returns-8
-    returns-9)
+    returns returns-2 (λ c κs. search needs) (λ c κs. search needs) returns-3
+    (λ c κs. search needs) (λ c κs. search needs) returns-4 (λ c. search needs)
+    (λ c. search needs) returns-5 (λ c κs. search needs) (λ c κs. search needs)
+    (λ c κs. search needs) returns-6 (λ c κs. search needs) returns-7 arcs-break-requires
+    returns-8 returns-9)

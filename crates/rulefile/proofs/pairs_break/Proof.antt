@@ -22,39 +22,12 @@ Inv-loop file n due₀ q₀ due q =
 abbrev μ-loop : tie.MeasureT-loop
 μ-loop file n due₀ q₀ due q = n - q
 
-byte-requires : tie.Need-byte-requires Inv-loop μ-loop
-byte-requires c κs = omega arith
-
-mul-due : tie.Need-mul-due Inv-loop μ-loop
-mul-due c = omega arith
-
-add-due : tie.Need-add-due Inv-loop μ-loop
-add-due c = omega arith
-
 loop-holds : tie.Need-loop-holds Inv-loop μ-loop
 loop-holds c =
     let e = c .byte .ensures in
     let f = c .before .before .args .file .now in
     let h = c .before .before .pre in
     (e .0, omega arith, e .1, omega (arith, e .0, h .1), ap (λ (x : ℕ). 10 + 4 * x) (e .0), none-yet (badPair f))
-
-mul-half : tie.Need-mul-half Inv-loop μ-loop
-mul-half c = omega arith
-
-add-half : tie.Need-add-half Inv-loop μ-loop
-add-half c = omega arith
-
-half-requires : tie.Need-half-requires Inv-loop μ-loop
-half-requires c κs = omega arith
-
-mul-half-2 : tie.Need-mul-half-2 Inv-loop μ-loop
-mul-half-2 c = omega arith
-
-add-half-2 : tie.Need-add-half-2 Inv-loop μ-loop
-add-half-2 c = omega arith
-
-half-requires-2 : tie.Need-half-requires-2 Inv-loop μ-loop
-half-requires-2 c κs = omega arith
 
 returns : tie.Need-returns Inv-loop μ-loop
 returns c =
@@ -72,15 +45,6 @@ returns-2 c =
     let l = c .before .before .half2 in
     sym
     (pairs-at f (x .q) (omega (arith, x .inv .0)) (bad-length f (x .q) (λ e. c .if2 .taken (ap (λ (y : ℕ). y % 2) (l .ensures .0) ∙ e))))
-
-add-due-2 : tie.Need-add-due-2 Inv-loop μ-loop
-add-due-2 c = omega arith
-
-add-q : tie.Need-add-q Inv-loop μ-loop
-add-q c = omega arith
-
-loop-less : tie.Need-loop-less Inv-loop μ-loop
-loop-less c = omega arith
 
 loop-again : tie.Need-loop-again Inv-loop μ-loop
 loop-again c =
@@ -109,22 +73,7 @@ pub pairs-break-spec : {M : Type 1} → statement M
 pairs-break-spec =
     tie.close
     (tie.spec
-    Inv-loop
-    μ-loop
-    byte-requires
-    mul-due
-    add-due
-    loop-holds
-    mul-half
-    add-half
-    half-requires
-    mul-half-2
-    add-half-2
-    half-requires-2
-    returns
-    returns-2
-    add-due-2
-    add-q
-    loop-less
-    loop-again
-    returns-3)
+    Inv-loop μ-loop (λ c κs. omega arith) (λ c. omega arith) (λ c. omega arith) loop-holds
+    (λ c. omega arith) (λ c. omega arith) (λ c κs. omega arith) (λ c. omega arith)
+    (λ c. omega arith) (λ c κs. omega arith) returns returns-2 (λ c. omega arith)
+    (λ c. omega arith) (λ c. omega arith) loop-again returns-3)

@@ -17,20 +17,8 @@ answered : (f : List ℕ) (number : Option ℕ) (rule : Rule) → number ≡ ref
 answered f number rule told is =
     ap₂ (λ (x : Option ℕ) (y : Rule). record { number = x; rule = y }) told (is ∙ ap (λ (o : Option ℕ). ruleBy o f) told)
 
-check-requires : tie.Need-check-requires
-check-requires c κs = search needs
-
-enum-told : tie.Need-enum-told
-enum-told c = search needs
-
 build-requires : tie.Need-build-requires
 build-requires c κs = let e : c .before .before .check .result ≡ Accepted = cc in sym (c .before .before .check .ensures) ∙ ap readMeans e
-
-enum-told-2 : tie.Need-enum-told-2
-enum-told-2 c = search needs
-
-no-rule-requires : tie.Need-no-rule-requires
-no-rule-requires c κs = search needs
 
 returns : tie.Need-returns
 returns c =
@@ -51,10 +39,5 @@ pub read-spec : {M : Type 1} → statement M
 read-spec =
     tie.close
     (tie.spec
-    check-requires
-    enum-told
-    build-requires
-    enum-told-2
-    no-rule-requires
-    returns
-    returns-2)
+    (λ c κs. search needs) (λ c. search needs) build-requires (λ c. search needs)
+    (λ c κs. search needs) returns returns-2)

@@ -23,21 +23,6 @@ abbrev μ-loop : tie.MeasureT-loop
 loop-holds : tie.Need-loop-holds Inv-loop μ-loop
 loop-holds c = let a = c .before .args in (omega arith, refl, none-yet (badArc (a .n) (a .k) (a .section .now)))
 
-mul-byte : tie.Need-mul-byte Inv-loop μ-loop
-mul-byte c = omega arith
-
-byte-requires : tie.Need-byte-requires Inv-loop μ-loop
-byte-requires c κs = omega arith
-
-mul-byte-2 : tie.Need-mul-byte-2 Inv-loop μ-loop
-mul-byte-2 c = omega arith
-
-add-byte : tie.Need-add-byte Inv-loop μ-loop
-add-byte c = omega arith
-
-byte-requires-2 : tie.Need-byte-requires-2 Inv-loop μ-loop
-byte-requires-2 c κs = omega arith
-
 returns : tie.Need-returns Inv-loop μ-loop
 returns c =
     let x = c .before .before .before .before .loop in
@@ -54,12 +39,6 @@ returns-2 c =
     (section-at (a .n) (a .k) (a .section .now) (x .i) (omega arith)
     (bad-target (a .n) (a .k) (a .section .now) (x .i) (rw (c .before .before .byte2 .ensures .0) at (c .if2 .taken))))
 
-mul-arc : tie.Need-mul-arc Inv-loop μ-loop
-mul-arc c = omega arith
-
-add-arc : tie.Need-add-arc Inv-loop μ-loop
-add-arc c = omega arith
-
 returns-3 : tie.Need-returns-3 Inv-loop μ-loop
 returns-3 c =
     let x = c .before .before .before .before .before .before .loop in
@@ -71,15 +50,6 @@ returns-3 c =
     (bad-order (a .n) (a .k) (a .section .now) (x .i)
     (λ j. c .before .before .before .before .before .before .before .shared-slice-known .given (2 * j + 1) .fits)
     (omega (arith, x .inv .1, s, t))))
-
-add-past : tie.Need-add-past Inv-loop μ-loop
-add-past c = omega arith
-
-add-i : tie.Need-add-i Inv-loop μ-loop
-add-i c = omega arith
-
-loop-less : tie.Need-loop-less Inv-loop μ-loop
-loop-less c = omega arith
 
 loop-again : tie.Need-loop-again Inv-loop μ-loop
 loop-again c =
@@ -108,21 +78,7 @@ pub section-breaks-spec : {M : Type 1} → statement M
 section-breaks-spec =
     tie.close
     (tie.spec
-    Inv-loop
-    μ-loop
-    loop-holds
-    mul-byte
-    byte-requires
-    mul-byte-2
-    add-byte
-    byte-requires-2
-    returns
-    returns-2
-    mul-arc
-    add-arc
-    returns-3
-    add-past
-    add-i
-    loop-less
-    loop-again
-    returns-4)
+    Inv-loop μ-loop loop-holds (λ c. omega arith) (λ c κs. omega arith) (λ c. omega arith)
+    (λ c. omega arith) (λ c κs. omega arith) returns returns-2 (λ c. omega arith)
+    (λ c. omega arith) returns-3 (λ c. omega arith) (λ c. omega arith) (λ c. omega arith)
+    loop-again returns-4)

@@ -22,38 +22,11 @@ Inv-loop targets₀ section row count i₀ targets i =
 abbrev μ-loop : tie.MeasureT-loop
 μ-loop targets₀ section row count i₀ targets i = count - i
 
-cast-row : tie.Need-cast-row Inv-loop μ-loop
-cast-row c = omega arith
-
-mul-row : tie.Need-mul-row Inv-loop μ-loop
-mul-row c = omega arith
-
 loop-holds : tie.Need-loop-holds Inv-loop μ-loop
 loop-holds c =
     let a = c .before .before .args in
     let h = c .before .before .pre in
     (omega arith, omega arith, omega (arith, h .0), h .1, h .2, none-stored (a .targets .now) (a .section .now) (16 * a .q .0 / 16))
-
-mul-byte : tie.Need-mul-byte Inv-loop μ-loop
-mul-byte c = omega arith
-
-byte-requires : tie.Need-byte-requires Inv-loop μ-loop
-byte-requires c κs = omega arith
-
-add-at : tie.Need-add-at Inv-loop μ-loop
-add-at c = omega arith
-
-mul-target : tie.Need-mul-target Inv-loop μ-loop
-mul-target c = omega arith
-
-add-target : tie.Need-add-target Inv-loop μ-loop
-add-target c = omega arith
-
-shared-slice-read-target : tie.Need-shared-slice-read-target Inv-loop μ-loop
-shared-slice-read-target c = omega arith
-
-mul-old : tie.Need-mul-old Inv-loop μ-loop
-mul-old c = omega arith
 
 element-copy-out-old : tie.Need-element-copy-out-old Inv-loop μ-loop
 element-copy-out-old c =
@@ -67,23 +40,11 @@ singleton-requires c κs =
     let s = bounds 32 16 (c .before .before .before .before .before .before .before .args .section .now) (x .inv .4) (x .i) (omega arith) in
     s .1
 
-union-requires : tie.Need-union-requires Inv-loop μ-loop
-union-requires c κs = omega arith
-
-mul-targets : tie.Need-mul-targets Inv-loop μ-loop
-mul-targets c = omega arith
-
 element-write-targets : tie.Need-element-write-targets Inv-loop μ-loop
 element-write-targets c =
     let x = c .before .before .before .before .before .before .loop in
     let s = bounds 32 16 (c .before .before .before .before .before .before .before .before .before .args .section .now) (x .inv .4) (x .i) (omega arith) in
     omega (arith, s .0, c .before .before .before .before .byte .ensures .0, x .inv .2)
-
-add-i : tie.Need-add-i Inv-loop μ-loop
-add-i c = omega arith
-
-loop-less : tie.Need-loop-less Inv-loop μ-loop
-loop-less c = omega arith
 
 loop-again : tie.Need-loop-again Inv-loop μ-loop
 loop-again c =
@@ -115,24 +76,8 @@ pub store-arcs-spec : {M : Type 1} → statement M
 store-arcs-spec =
     tie.close
     (tie.spec
-    Inv-loop
-    μ-loop
-    cast-row
-    mul-row
-    loop-holds
-    mul-byte
-    byte-requires
-    add-at
-    mul-target
-    add-target
-    shared-slice-read-target
-    mul-old
-    element-copy-out-old
-    singleton-requires
-    union-requires
-    mul-targets
-    element-write-targets
-    add-i
-    loop-less
-    loop-again
-    returns)
+    Inv-loop μ-loop (λ c. omega arith) (λ c. omega arith) loop-holds (λ c. omega arith)
+    (λ c κs. omega arith) (λ c. omega arith) (λ c. omega arith) (λ c. omega arith)
+    (λ c. omega arith) (λ c. omega arith) element-copy-out-old singleton-requires
+    (λ c κs. omega arith) (λ c. omega arith) element-write-targets (λ c. omega arith)
+    (λ c. omega arith) loop-again returns)

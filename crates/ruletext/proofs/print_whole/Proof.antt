@@ -1,47 +1,41 @@
--- `print_whole` meets its contract: the text for any file fits, so `print_rule` never finds the
--- buffer too short. Assumes nothing.
-use native.Mathlib.Omega.{arith}
-use Rattle.ruletext.proofs.Copying.{all-written, not-short}
-use Rattle.ruletext.proofs.Claims.{claims}
+-- `print_whole` meets its contract. Assumes nothing.
+use mathlib.Core.Path.{_≡_, sym, ap, _∙_}
+use mathlib.Core.Option.{Option, none}
+use Prim.Native.Nat.{ℕ}
+use Rattle.ruleformat.specs.declared.ReadAnswer.the-variants.{Accepted, Refused}
+use Rattle.ruleformat.specs.Refusals.{refusal}
+use Rattle.ruleformat.specs.Reader.{Reading, readMeans, ruleBy, ruleOf}
+use Rattle.build.specs.mirror.Building.{buildOf}
+use Rattle.ruletext.proofs.ForFile.{text-for, text-unread}
 use borrow.Author.Needs.{needs}
 use Rattle.ruletext.proofs.print_whole.Statement.{statement}
 use Rattle.ruletext.proofs.print_whole.Tie as tie
 
-print-rule-requires : tie.Need-print-rule-requires
-print-rule-requires c κs = search needs
-
-enum-known-printed : tie.Need-enum-known-printed
-enum-known-printed c = search needs
-
 enum-told : tie.Need-enum-told
 enum-told c = search needs
 
-same-length : tie.Need-same-length
-same-length c = search needs
-
 returns : tie.Need-returns
 returns c =
-    let s = c .before .before .before .before .before .before .before .before .before in
-    let l = claims .fits (s .args .file .now) in
-    all-written (c .before .before .before .before .before .print-rule .ensures) (omega (arith, s .pre)) (c .before .printed .given .1)
-
-same-length-2 : tie.Need-same-length-2
-same-length-2 c = search needs
+    let f = c .before .before .before .before .before .before .before .before .before .before .before .args .file .now in
+    let g = c .before .before .before .before .before .before .before .before .read in
+    let a = c .before .before .before .build-rule in
+    let e : g .result .answer ≡ Accepted = c .before .before .before .before .before .enum-told .given .1 in
+    let n : refusal f ≡ none = ap (λ (x : Reading). x .number) (sym (g .ensures)) ∙ ap readMeans e in
+    let r : g .result .rule ≡ ruleOf f = ap (λ (x : Reading). x .rule) (g .ensures) ∙ ap (λ (o : Option ℕ). ruleBy o f) n in
+    rw (← text-for f n (a .result) (a .ensures ∙ ap buildOf r)) (c .before .before .put-building .ensures)
 
 returns-2 : tie.Need-returns-2
 returns-2 c =
-    let s = c .before .before .before .before .before .before .before .before in
-    let l = claims .fits (s .args .file .now) in
-    absurd (not-short (c .before .before .before .before .print-rule .ensures) (omega (arith, s .pre)) (c .enum-told .given .1))
+    let f = c .before .before .before .before .before .before .before .before .before .before .before .args .file .now in
+    let g = c .before .before .before .before .before .before .before .before .read in
+    let x = c .before .before .before .before .before .answer .given in
+    let e : g .result .answer ≡ Refused (x .0 .0) = x .1 in
+    rw (← text-unread f (x .0 .0) (ap (λ (x : Reading). x .number) (sym (g .ensures)) ∙ ap readMeans e)) (c .before .before .put-refused .ensures)
 
 pub print-whole-spec : {M : Type 1} → statement M
 print-whole-spec =
     tie.close
     (tie.spec
-    print-rule-requires
-    enum-known-printed
-    enum-told
-    same-length
-    returns
-    same-length-2
+    (λ c κs. search needs) enum-told (λ c κs. search needs) (λ c κs. search needs)
+    (λ c. search needs) (λ c κs. search needs) (λ c. search needs) returns (λ c. search needs)
     returns-2)

@@ -7,24 +7,12 @@ use borrow.Author.Needs.{needs}
 use Rattle.ruletext.proofs.put_cell.Statement.{statement}
 use Rattle.ruletext.proofs.put_cell.Tie as tie
 
-put-byte-requires : tie.Need-put-byte-requires
-put-byte-requires c κs = search needs
-
-cast-put-decimal : tie.Need-cast-put-decimal
-cast-put-decimal c = search needs
-
 put-decimal-requires : tie.Need-put-decimal-requires
 put-decimal-requires c κs =
     let s = c .before .before .before .before .before .before .before .before .before in
     let w = c .before .before .before .before .before .before .put-byte in
     let d = number-most (s .args .to .0) (omega (arith, c .before .before .if1 .taken)) in
     omega (arith, s .pre, w .ensures .ends, w .kept .0)
-
-put-byte-requires-2 : tie.Need-put-byte-requires-2
-put-byte-requires-2 c κs = search needs
-
-same-length : tie.Need-same-length
-same-length c = search needs
 
 returns : tie.Need-returns
 returns c =
@@ -34,9 +22,6 @@ returns c =
     let u = put (omega (arith, s .pre)) (c .before .before .before .before .before .before .before .before .before .put-byte .ensures) in
     let v = put (omega (arith, s .pre, u .kept, u .wrote .ends)) (c .before .before .put-decimal .ensures) in
     rw (lt-ltb (s .args .to .0) 512 t) ((u then v) .wrote)
-
-same-length-2 : tie.Need-same-length-2
-same-length-2 c = search needs
 
 returns-2 : tie.Need-returns-2
 returns-2 c =
@@ -49,11 +34,5 @@ pub put-cell-spec : {M : Type 1} → statement M
 put-cell-spec =
     tie.close
     (tie.spec
-    put-byte-requires
-    cast-put-decimal
-    put-decimal-requires
-    put-byte-requires-2
-    same-length
-    returns
-    same-length-2
-    returns-2)
+    (λ c κs. search needs) (λ c. search needs) put-decimal-requires (λ c κs. search needs)
+    (λ c. search needs) returns (λ c. search needs) returns-2)

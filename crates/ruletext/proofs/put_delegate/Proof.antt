@@ -8,23 +8,8 @@ use borrow.Author.Needs.{needs}
 use Rattle.ruletext.proofs.put_delegate.Statement.{statement}
 use Rattle.ruletext.proofs.put_delegate.Tie as tie
 
-enum-known-delegate : tie.Need-enum-known-delegate
-enum-known-delegate c = search needs
-
-put-field-requires : tie.Need-put-field-requires
-put-field-requires c κs = search needs
-
 enum-told : tie.Need-enum-told
 enum-told c = search needs
-
-slice-aggregate-put-bytes : tie.Need-slice-aggregate-put-bytes
-slice-aggregate-put-bytes c = search needs
-
-put-bytes-requires : tie.Need-put-bytes-requires
-put-bytes-requires c κs = search needs
-
-same-length : tie.Need-same-length
-same-length c = search needs
 
 returns : tie.Need-returns
 returns c =
@@ -32,9 +17,6 @@ returns c =
     let d = c .before .before .before .before .before .before .before .before .args .delegate in
     let e : delegateText (delegateMeans d) ≡ field (x .0 .0 .0) = ap (λ (a : DelegateAnswer). delegateText (delegateMeans a)) (x .1) in
     rw e (c .before .before .put-field .ensures)
-
-same-length-2 : tie.Need-same-length-2
-same-length-2 c = search needs
 
 returns-2 : tie.Need-returns-2
 returns-2 c =
@@ -46,12 +28,5 @@ pub put-delegate-spec : {M : Type 1} → statement M
 put-delegate-spec =
     tie.close
     (tie.spec
-    enum-known-delegate
-    put-field-requires
-    enum-told
-    slice-aggregate-put-bytes
-    put-bytes-requires
-    same-length
-    returns
-    same-length-2
-    returns-2)
+    (λ c. search needs) (λ c κs. search needs) enum-told (λ c. search needs)
+    (λ c κs. search needs) (λ c. search needs) returns (λ c. search needs) returns-2)

@@ -6,20 +6,11 @@ use borrow.Author.Needs.{needs}
 use Rattle.ruletext.proofs.put_field.Statement.{statement}
 use Rattle.ruletext.proofs.put_field.Tie as tie
 
-put-byte-requires : tie.Need-put-byte-requires
-put-byte-requires c κs = search needs
-
-cast-put-decimal : tie.Need-cast-put-decimal
-cast-put-decimal c = search needs
-
 put-decimal-requires : tie.Need-put-decimal-requires
 put-decimal-requires c κs =
     let s = c .before .before .before .before .before .before .before in
     let w = c .before .before .before .before .put-byte in
     omega (arith, s .pre, w .ensures .ends, w .kept .0, byte-most (s .args .q .0) (search needs))
-
-same-length : tie.Need-same-length
-same-length c = search needs
 
 returns : tie.Need-returns
 returns c =
@@ -32,4 +23,5 @@ returns c =
 pub put-field-spec : {M : Type 1} → statement M
 put-field-spec =
     tie.close
-    (tie.spec put-byte-requires cast-put-decimal put-decimal-requires same-length returns)
+    (tie.spec
+    (λ c κs. search needs) (λ c. search needs) put-decimal-requires (λ c. search needs) returns)

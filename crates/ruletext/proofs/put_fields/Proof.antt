@@ -26,22 +26,10 @@ loop-holds c =
     let a = s .args in
     (omega arith, s .pre .1, none-put (λ i. delegateText (delegateIn (a .delegates .now) i)) (a .out .now) (a .start) (omega (arith, s .pre)))
 
-cast-t10 : tie.Need-cast-t10 Inv-loop μ-loop
-cast-t10 c = search needs
-
-delegate-at-requires : tie.Need-delegate-at-requires Inv-loop μ-loop
-delegate-at-requires c κs = search needs
-
 put-delegate-requires : tie.Need-put-delegate-requires Inv-loop μ-loop
 put-delegate-requires c κs =
     let x = c .before .before .before .loop in
     omega (arith, x .inv, c .before .before .loop-test .taken, fields-most (c .before .before .before .before .before .args .delegates .now) (x .q))
-
-add-q : tie.Need-add-q Inv-loop μ-loop
-add-q c = omega arith
-
-loop-less : tie.Need-loop-less Inv-loop μ-loop
-loop-less c = omega arith
 
 loop-again : tie.Need-loop-again Inv-loop μ-loop
 loop-again c =
@@ -71,14 +59,5 @@ pub put-fields-spec : {M : Type 1} → statement M
 put-fields-spec =
     tie.close
     (tie.spec
-    Inv-loop
-    μ-loop
-    loop-holds
-    cast-t10
-    delegate-at-requires
-    put-delegate-requires
-    add-q
-    loop-less
-    loop-again
-    same-length
-    returns)
+    Inv-loop μ-loop loop-holds (λ c. search needs) (λ c κs. search needs) put-delegate-requires
+    (λ c. omega arith) (λ c. omega arith) loop-again same-length returns)

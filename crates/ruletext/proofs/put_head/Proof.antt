@@ -6,19 +6,10 @@ use borrow.Author.Needs.{needs}
 use Rattle.ruletext.proofs.put_head.Statement.{statement}
 use Rattle.ruletext.proofs.put_head.Tie as tie
 
-slice-aggregate-put-bytes : tie.Need-slice-aggregate-put-bytes
-slice-aggregate-put-bytes c = search needs
-
-put-bytes-requires : tie.Need-put-bytes-requires
-put-bytes-requires c κs = search needs
-
 put-decimal-requires : tie.Need-put-decimal-requires
 put-decimal-requires c κs =
     let s = c .before .before .before .before .before .before .before in
     fits 5 3 12 (s .pre .1) (exact (c .before .before .before .put-bytes .ensures)) (number-most (s .args .count) (s .pre .0))
-
-slice-aggregate-put-bytes-2 : tie.Need-slice-aggregate-put-bytes-2
-slice-aggregate-put-bytes-2 c = search needs
 
 put-bytes-requires-2 : tie.Need-put-bytes-requires-2
 put-bytes-requires-2 c κs =
@@ -41,9 +32,6 @@ put-byte-requires c κs =
     let j = left 8 4 i (exact (c .before .before .before .before .before .before .before .put-bytes2 .ensures)) in
     more 3 0 j (most 3 (byte-most (s .args .starts) (s .fits .starts .fits)) (c .before .before .before .put-decimal2 .ensures))
 
-same-length : tie.Need-same-length
-same-length c = search needs
-
 returns : tie.Need-returns
 returns c =
     let s = c .before .before .before .before .before .before .before .before .before .before .before .before .before .before .before .before .before .before .before .before .before .before .before in
@@ -57,12 +45,5 @@ pub put-head-spec : {M : Type 1} → statement M
 put-head-spec =
     tie.close
     (tie.spec
-    slice-aggregate-put-bytes
-    put-bytes-requires
-    put-decimal-requires
-    slice-aggregate-put-bytes-2
-    put-bytes-requires-2
-    put-decimal-requires-2
-    put-byte-requires
-    same-length
-    returns)
+    (λ c. search needs) (λ c κs. search needs) put-decimal-requires (λ c. search needs)
+    put-bytes-requires-2 put-decimal-requires-2 put-byte-requires (λ c. search needs) returns)

@@ -17,9 +17,6 @@ Inv-loop out₀ start next k row at₀ s₀ out at s = (s ≤ k) × (k ≤ 16) �
 abbrev μ-loop : tie.MeasureT-loop
 μ-loop out₀ start next k row at₀ s₀ out at s = k - s
 
-cast-row : tie.Need-cast-row Inv-loop μ-loop
-cast-row c = search needs
-
 loop-holds : tie.Need-loop-holds Inv-loop μ-loop
 loop-holds c =
     let s = c .before .before in
@@ -43,12 +40,6 @@ put-cell-requires c κs =
     let x = c .before .before .before .loop in
     let a = c .before .before .before .before .before .before .args in
     omega (arith, x .inv, c .before .before .loop-test .taken, row-most (a .next .now) (x .s) (a .i .0))
-
-add-s : tie.Need-add-s Inv-loop μ-loop
-add-s c = omega arith
-
-loop-less : tie.Need-loop-less Inv-loop μ-loop
-loop-less c = omega arith
 
 loop-again : tie.Need-loop-again Inv-loop μ-loop
 loop-again c =
@@ -78,17 +69,5 @@ pub put-row-spec : {M : Type 1} → statement M
 put-row-spec =
     tie.close
     (tie.spec
-    Inv-loop
-    μ-loop
-    cast-row
-    loop-holds
-    mul-to
-    add-to
-    mul-to-2
-    element-copy-out-to
-    put-cell-requires
-    add-s
-    loop-less
-    loop-again
-    same-length
-    returns)
+    Inv-loop μ-loop (λ c. search needs) loop-holds mul-to add-to mul-to-2 element-copy-out-to
+    put-cell-requires (λ c. omega arith) (λ c. omega arith) loop-again same-length returns)

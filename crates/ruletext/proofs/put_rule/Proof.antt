@@ -1,31 +1,10 @@
 -- `put_rule` meets its contract. Assumes nothing.
 use native.Mathlib.Omega.{arith}
-use Rattle.ruletext.proofs.Copying.{whole}
+use Rattle.ruletext.proofs.Joining.{whole}
 use Rattle.ruletext.proofs.Lengths.{lines-most}
 use borrow.Author.Needs.{needs}
 use Rattle.ruletext.proofs.put_rule.Statement.{statement}
 use Rattle.ruletext.proofs.put_rule.Tie as tie
-
-cast-at-most : tie.Need-cast-at-most
-cast-at-most c = search needs
-
-at-most-requires : tie.Need-at-most-requires
-at-most-requires c κs = search needs
-
-cast-at-most-2 : tie.Need-cast-at-most-2
-cast-at-most-2 c = search needs
-
-at-most-requires-2 : tie.Need-at-most-requires-2
-at-most-requires-2 c κs = search needs
-
-cast-at-most-3 : tie.Need-cast-at-most-3
-cast-at-most-3 c = search needs
-
-at-most-requires-3 : tie.Need-at-most-requires-3
-at-most-requires-3 c κs = search needs
-
-put-head-requires : tie.Need-put-head-requires
-put-head-requires c κs = search needs
 
 put-sets-requires : tie.Need-put-sets-requires
 put-sets-requires c κs =
@@ -43,9 +22,6 @@ put-delegates-requires c κs =
     let l = lines-most (b .sets) (b .next) (k .result) (omega (arith, k .ensures)) (e .result) (omega (arith, e .ensures)) in
     (omega (arith, c .before .before .before .before .before .before .before .before .before .before .before .before .before .before .before .at-most3 .ensures), omega (arith, c .before .before .before .before .before .before .before .before .before .before .before .before .before .before .before .before .before .before .before .before .before .before .pre, h .ensures .1, h .kept .0, v .ensures .ends, v .kept .0, l, e .ensures))
 
-same-length : tie.Need-same-length
-same-length c = search needs
-
 returns : tie.Need-returns
 returns c =
     let s = c .before .before .before .before .before .before .before .before .before .before .before .before .before .before .before .before .before .before .before .before .before .before .before .before .before in
@@ -61,14 +37,6 @@ pub put-rule-spec : {M : Type 1} → statement M
 put-rule-spec =
     tie.close
     (tie.spec
-    cast-at-most
-    at-most-requires
-    cast-at-most-2
-    at-most-requires-2
-    cast-at-most-3
-    at-most-requires-3
-    put-head-requires
-    put-sets-requires
-    put-delegates-requires
-    same-length
-    returns)
+    (λ c. search needs) (λ c κs. search needs) (λ c. search needs) (λ c κs. search needs)
+    (λ c. search needs) (λ c κs. search needs) (λ c κs. search needs) put-sets-requires
+    put-delegates-requires (λ c. search needs) returns)

@@ -9,12 +9,6 @@ use borrow.Author.Needs.{needs}
 use Rattle.ruletext.proofs.put_set.Statement.{statement}
 use Rattle.ruletext.proofs.put_set.Tie as tie
 
-cast-row : tie.Need-cast-row
-cast-row c = search needs
-
-cast-put-decimal : tie.Need-cast-put-decimal
-cast-put-decimal c = search needs
-
 put-decimal-requires : tie.Need-put-decimal-requires
 put-decimal-requires c κs = let s = c .before .before .before .before in omega (arith, s .pre, index-most (s .args .i .0) (s .pre .1))
 
@@ -22,15 +16,6 @@ put-byte-requires : tie.Need-put-byte-requires
 put-byte-requires c κs =
     let s = c .before .before .before .before .before .before .before .before in
     more 3 73 (s .pre .2) (most 3 (index-most (s .args .i .0) (s .pre .1)) (c .before .before .before .put-decimal .ensures))
-
-mul-wide : tie.Need-mul-wide
-mul-wide c = search needs
-
-element-copy-out-wide : tie.Need-element-copy-out-wide
-element-copy-out-wide c = search needs
-
-wide-requires : tie.Need-wide-requires
-wide-requires c κs = search needs
 
 put-hex-requires : tie.Need-put-hex-requires
 put-hex-requires c κs =
@@ -53,9 +38,6 @@ put-byte-requires-2 c κs =
     let j = left 8 65 i (most 8 (mask-most (c .before .before .before .before .before .before .before .before .wide .result)) (c .before .before .before .before .before .before .before .put-hex .ensures)) in
     more 64 0 j (most 64 (cells-most (s .args .next .now) (s .args .k) (s .args .i .0) (s .pre .0)) (c .before .before .before .put-row .ensures))
 
-same-length : tie.Need-same-length
-same-length c = search needs
-
 returns : tie.Need-returns
 returns c =
     let s = c .before .before .before .before .before .before .before .before .before .before .before .before .before .before .before .before .before .before .before .before .before .before .before .before .before in
@@ -72,15 +54,6 @@ pub put-set-spec : {M : Type 1} → statement M
 put-set-spec =
     tie.close
     (tie.spec
-    cast-row
-    cast-put-decimal
-    put-decimal-requires
-    put-byte-requires
-    mul-wide
-    element-copy-out-wide
-    wide-requires
-    put-hex-requires
-    put-row-requires
-    put-byte-requires-2
-    same-length
-    returns)
+    (λ c. search needs) (λ c. search needs) put-decimal-requires put-byte-requires
+    (λ c. search needs) (λ c. search needs) (λ c κs. search needs) put-hex-requires
+    put-row-requires put-byte-requires-2 (λ c. search needs) returns)

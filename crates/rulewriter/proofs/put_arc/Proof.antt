@@ -9,9 +9,6 @@ use borrow.Author.Needs.{needs}
 use Rattle.rulewriter.proofs.put_arc.Statement.{statement}
 use Rattle.rulewriter.proofs.put_arc.Tie as tie
 
-member-requires : tie.Need-member-requires
-member-requires c κs = search needs
-
 put-byte-requires : tie.Need-put-byte-requires
 put-byte-requires c κs =
     let s = c .before .before .before .before in
@@ -24,9 +21,6 @@ put-byte-requires-2 c κs =
     let e : has (s .args .mask) (s .args .t .0) ≡ true = sym (c .before .before .before .before .before .before .member .ensures) ∙ c .before .before .before .before .before .if1 .taken in
     let w = c .before .before .before .put-byte in
     omega (arith, rw e at (s .pre .1), w .ensures .ends, w .kept .0)
-
-same-length : tie.Need-same-length
-same-length c = search needs
 
 returns : tie.Need-returns
 returns c =
@@ -43,4 +37,6 @@ returns-2 c =
 pub put-arc-spec : {M : Type 1} → statement M
 put-arc-spec =
     tie.close
-    (tie.spec member-requires put-byte-requires put-byte-requires-2 same-length returns returns-2)
+    (tie.spec
+    (λ c κs. search needs) put-byte-requires put-byte-requires-2 (λ c. search needs) returns
+    returns-2)

@@ -22,12 +22,6 @@ put-arc-requires c κs =
     let room = fits (c .before .before .loop .inv) t in
     (omega (arith, c .before .before .before .before .pre .0, t), room)
 
-add-t : tie.Need-add-t Inv-loop μ-loop
-add-t c = omega arith
-
-loop-less : tie.Need-loop-less Inv-loop μ-loop
-loop-less c = omega arith
-
 loop-again : tie.Need-loop-again Inv-loop μ-loop
 loop-again c = more (c .before .before .before .before .before .loop .inv) (c .before .before .before .before .loop-test .taken) (c .before .before .put-arc .ensures)
 
@@ -41,12 +35,5 @@ pub put-arcs-spec : {M : Type 1} → statement M
 put-arcs-spec =
     tie.close
     (tie.spec
-    Inv-loop
-    μ-loop
-    loop-holds
-    put-arc-requires
-    add-t
-    loop-less
-    loop-again
-    same-length
-    returns)
+    Inv-loop μ-loop loop-holds put-arc-requires (λ c. omega arith) (λ c. omega arith) loop-again
+    same-length returns)

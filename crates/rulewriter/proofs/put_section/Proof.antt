@@ -24,36 +24,12 @@ abbrev μ-loop : tie.MeasureT-loop
 loop-holds : tie.Need-loop-holds Inv-loop μ-loop
 loop-holds c = let a = c .before .args in begin (part (a .targets .now) (a .n) (a .q .0)) (a .k) (c .before .pre .3)
 
-cast-cell : tie.Need-cast-cell Inv-loop μ-loop
-cast-cell c = search needs
-
-mul-cell : tie.Need-mul-cell Inv-loop μ-loop
-mul-cell c = omega arith
-
-cast-cell-2 : tie.Need-cast-cell-2 Inv-loop μ-loop
-cast-cell-2 c = search needs
-
-add-cell : tie.Need-add-cell Inv-loop μ-loop
-add-cell c = omega arith
-
-mul-put-arcs : tie.Need-mul-put-arcs Inv-loop μ-loop
-mul-put-arcs c = search needs
-
-element-copy-out-put-arcs : tie.Need-element-copy-out-put-arcs Inv-loop μ-loop
-element-copy-out-put-arcs c = omega arith
-
 put-arcs-requires : tie.Need-put-arcs-requires Inv-loop μ-loop
 put-arcs-requires c κs =
     let p = c .before .before .before .before .before .before .pre in
     let t = c .before .before .before .loop-test .taken in
     let s : c .before .before .before .before .loop .s < 16 = omega (arith, p .1, t) in
     (p .0, rw (lt-ltb (c .before .before .before .before .loop .s) 16 s) at (fits (c .before .before .before .before .loop .inv) t))
-
-add-s : tie.Need-add-s Inv-loop μ-loop
-add-s c = omega arith
-
-loop-less : tie.Need-loop-less Inv-loop μ-loop
-loop-less c = omega arith
 
 loop-again : tie.Need-loop-again Inv-loop μ-loop
 loop-again c =
@@ -71,18 +47,6 @@ pub put-section-spec : {M : Type 1} → statement M
 put-section-spec =
     tie.close
     (tie.spec
-    Inv-loop
-    μ-loop
-    loop-holds
-    cast-cell
-    mul-cell
-    cast-cell-2
-    add-cell
-    mul-put-arcs
-    element-copy-out-put-arcs
-    put-arcs-requires
-    add-s
-    loop-less
-    loop-again
-    same-length
-    returns)
+    Inv-loop μ-loop loop-holds (λ c. search needs) (λ c. omega arith) (λ c. search needs)
+    (λ c. omega arith) (λ c. search needs) (λ c. omega arith) put-arcs-requires
+    (λ c. omega arith) (λ c. omega arith) loop-again same-length returns)

@@ -13,12 +13,6 @@ Inv-loop out₀ targets n k at₀ q₀ out at q = States n k targets out₀ out 
 abbrev μ-loop : tie.MeasureT-loop
 μ-loop out₀ targets n k at₀ q₀ out at q = n - q
 
-mul-at : tie.Need-mul-at Inv-loop μ-loop
-mul-at c = omega arith
-
-add-at : tie.Need-add-at Inv-loop μ-loop
-add-at c = omega arith
-
 loop-holds : tie.Need-loop-holds Inv-loop μ-loop
 loop-holds c = let a = c .before .args in begin (a .n) (a .k) (a .targets .now) (c .before .pre .2)
 
@@ -28,15 +22,6 @@ put-section-requires c κs =
     let p = c .before .before .before .before .pre in
     let t = c .before .loop-test .taken in
     (p .0, p .1, omega (arith, p .0, t), room (a .n) (a .k) (a .targets .now) (c .before .before .loop .inv) t)
-
-cast-put-pair : tie.Need-cast-put-pair Inv-loop μ-loop
-cast-put-pair c = search needs
-
-mul-put-pair : tie.Need-mul-put-pair Inv-loop μ-loop
-mul-put-pair c = omega arith
-
-add-put-pair : tie.Need-add-put-pair Inv-loop μ-loop
-add-put-pair c = omega arith
 
 sub-put-pair : tie.Need-sub-put-pair Inv-loop μ-loop
 sub-put-pair c = omega (arith, c .before .before .before .put-section .ensures .ends)
@@ -50,12 +35,6 @@ put-pair-requires c κs =
     let v = c .before .before .before .put-section .ensures in
     let h = place (a .n) (a .k) (a .targets .now) i t (p .0) (p .1) v in
     (h .0, omega (arith, h .1), pair-room (a .n) (a .k) (a .targets .now) i t (p .0) (p .1) v)
-
-add-q : tie.Need-add-q Inv-loop μ-loop
-add-q c = omega arith
-
-loop-less : tie.Need-loop-less Inv-loop μ-loop
-loop-less c = omega arith
 
 loop-again : tie.Need-loop-again Inv-loop μ-loop
 loop-again c =
@@ -74,19 +53,6 @@ pub put-states-spec : {M : Type 1} → statement M
 put-states-spec =
     tie.close
     (tie.spec
-    Inv-loop
-    μ-loop
-    mul-at
-    add-at
-    loop-holds
-    put-section-requires
-    cast-put-pair
-    mul-put-pair
-    add-put-pair
-    sub-put-pair
-    put-pair-requires
-    add-q
-    loop-less
-    loop-again
-    same-length
-    returns)
+    Inv-loop μ-loop (λ c. omega arith) (λ c. omega arith) loop-holds put-section-requires
+    (λ c. search needs) (λ c. omega arith) (λ c. omega arith) sub-put-pair put-pair-requires
+    (λ c. omega arith) (λ c. omega arith) loop-again same-length returns)

@@ -4,31 +4,13 @@ use Rattle.sampletext.proofs.Lines.{file-read, file-refused}
 use Rattle.sampletext.proofs.print_samples.Statement.{statement}
 use Rattle.sampletext.proofs.print_samples.Tie as tie
 
-read-requires : tie.Need-read-requires
-read-requires c κs = search needs
-
 enum-told : tie.Need-enum-told
 enum-told c = search needs
-
-put-samples-requires : tie.Need-put-samples-requires
-put-samples-requires c κs = search needs
-
-enum-known-read : tie.Need-enum-known-read
-enum-known-read c = search needs
-
-put-refused-requires : tie.Need-put-refused-requires
-put-refused-requires c κs = search needs
-
-same-length : tie.Need-same-length
-same-length c = search needs
 
 returns : tie.Need-returns
 returns c =
     let y = c .before .before .before .before .before .before .read in
     rw (← file-read (c .before .before .before .before .before .before .before .before .before .args .file .now) (y .result) (y .ensures) (c .before .before .before .before .enum-told .given .1)) (c .before .before .put-samples .ensures)
-
-same-length-2 : tie.Need-same-length-2
-same-length-2 c = search needs
 
 returns-2 : tie.Need-returns-2
 returns-2 c =
@@ -40,12 +22,5 @@ pub print-samples-spec : {M : Type 1} → statement M
 print-samples-spec =
     tie.close
     (tie.spec
-    read-requires
-    enum-told
-    put-samples-requires
-    enum-known-read
-    put-refused-requires
-    same-length
-    returns
-    same-length-2
-    returns-2)
+    (λ c κs. search needs) enum-told (λ c κs. search needs) (λ c. search needs)
+    (λ c κs. search needs) (λ c. search needs) returns (λ c. search needs) returns-2)

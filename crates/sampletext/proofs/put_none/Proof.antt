@@ -5,18 +5,6 @@ use Rattle.text.proofs.Rooms.{most, two}
 use Rattle.sampletext.proofs.put_none.Statement.{statement}
 use Rattle.sampletext.proofs.put_none.Tie as tie
 
-put-bytes-requires : tie.Need-put-bytes-requires
-put-bytes-requires c κs = search needs
-
-slice-aggregate-put-bytes : tie.Need-slice-aggregate-put-bytes
-slice-aggregate-put-bytes c = search needs
-
-put-bytes-requires-2 : tie.Need-put-bytes-requires-2
-put-bytes-requires-2 c κs = search needs
-
-same-length : tie.Need-same-length
-same-length c = search needs
-
 returns : tie.Need-returns
 returns c =
     let s = c .before .before .before .before .before .before .before .before .before .before .before in
@@ -27,8 +15,5 @@ pub put-none-spec : {M : Type 1} → statement M
 put-none-spec =
     tie.close
     (tie.spec
-    put-bytes-requires
-    slice-aggregate-put-bytes
-    put-bytes-requires-2
-    same-length
+    (λ c κs. search needs) (λ c. search needs) (λ c κs. search needs) (λ c. search needs)
     returns)

@@ -5,18 +5,6 @@ use Rattle.sampletext.proofs.Lines.{sample-is}
 use Rattle.sampletext.proofs.put_rejected.Statement.{statement}
 use Rattle.sampletext.proofs.put_rejected.Tie as tie
 
-find-sample-requires : tie.Need-find-sample-requires
-find-sample-requires c κs = search needs
-
-slice-aggregate-put-sample : tie.Need-slice-aggregate-put-sample
-slice-aggregate-put-sample c = search needs
-
-put-sample-requires : tie.Need-put-sample-requires
-put-sample-requires c κs = search needs
-
-same-length : tie.Need-same-length
-same-length c = search needs
-
 returns : tie.Need-returns
 returns c =
     let y = c .before .before .before .before .before in
@@ -26,8 +14,5 @@ pub put-rejected-spec : {M : Type 1} → statement M
 put-rejected-spec =
     tie.close
     (tie.spec
-    find-sample-requires
-    slice-aggregate-put-sample
-    put-sample-requires
-    same-length
+    (λ c κs. search needs) (λ c. search needs) (λ c κs. search needs) (λ c. search needs)
     returns)

@@ -5,32 +5,8 @@ use Rattle.sampletext.proofs.Lines.{lines-text, lines-none, lines-refus
 use Rattle.sampletext.proofs.put_samples.Statement.{statement}
 use Rattle.sampletext.proofs.put_samples.Tie as tie
 
-find-sample-requires : tie.Need-find-sample-requires
-find-sample-requires c κs = search needs
-
-slice-aggregate-put-sample : tie.Need-slice-aggregate-put-sample
-slice-aggregate-put-sample c = search needs
-
-put-sample-requires : tie.Need-put-sample-requires
-put-sample-requires c κs = search needs
-
 enum-told : tie.Need-enum-told
 enum-told c = search needs
-
-put-rejected-requires : tie.Need-put-rejected-requires
-put-rejected-requires c κs = search needs
-
-enum-told-2 : tie.Need-enum-told-2
-enum-told-2 c = search needs
-
-put-rejected-requires-2 : tie.Need-put-rejected-requires-2
-put-rejected-requires-2 c κs = search needs
-
-enum-told-3 : tie.Need-enum-told-3
-enum-told-3 c = search needs
-
-same-length : tie.Need-same-length
-same-length c = search needs
 
 returns : tie.Need-returns
 returns c =
@@ -39,18 +15,12 @@ returns c =
     rw (← lines-text (s .args .rule) (y .result) (y .ensures) (c .before .before .before .before .enum-told .given .1))
     (two 1031 1031 (s .pre) (c .before .before .before .before .before .before .before .before .put-sample .ensures) (λ h. c .before .before .put-rejected .ensures) .0)
 
-same-length-2 : tie.Need-same-length-2
-same-length-2 c = search needs
-
 returns-2 : tie.Need-returns-2
 returns-2 c =
     let s = c .before .before .before .before .before .before .before .before .before .before .before .before .before in
     let y = c .before .before .before .before .before .before .before .before .before .before .before .find-sample in
     rw (← lines-none (s .args .rule) (y .result) (y .ensures) (c .before .before .before .before .enum-told2 .given .1))
     (two 1031 1031 (s .pre) (c .before .before .before .before .before .before .before .before .put-sample .ensures) (λ h. c .before .before .put-rejected2 .ensures) .0)
-
-same-length-3 : tie.Need-same-length-3
-same-length-3 c = search needs
 
 returns-3 : tie.Need-returns-3
 returns-3 c =
@@ -62,17 +32,6 @@ pub put-samples-spec : {M : Type 1} → statement M
 put-samples-spec =
     tie.close
     (tie.spec
-    find-sample-requires
-    slice-aggregate-put-sample
-    put-sample-requires
-    enum-told
-    put-rejected-requires
-    enum-told-2
-    put-rejected-requires-2
-    enum-told-3
-    same-length
-    returns
-    same-length-2
-    returns-2
-    same-length-3
-    returns-3)
+    (λ c κs. search needs) (λ c. search needs) (λ c κs. search needs) enum-told
+    (λ c κs. search needs) (λ c. search needs) (λ c κs. search needs) (λ c. search needs)
+    (λ c. search needs) returns (λ c. search needs) returns-2 (λ c. search needs) returns-3)

@@ -6,20 +6,11 @@ use Rattle.sampletext.proofs.Lines.{field-most}
 use Rattle.sampletext.proofs.put_text.Statement.{statement}
 use Rattle.sampletext.proofs.put_text.Tie as tie
 
-put-bytes-requires : tie.Need-put-bytes-requires
-put-bytes-requires c κs = search needs
-
-put-field-requires : tie.Need-put-field-requires
-put-field-requires c κs = search needs
-
 put-byte-requires : tie.Need-put-byte-requires
 put-byte-requires c κs =
     let s = c .before .before .before .before .before .before .before .before .before .before .before .before in
     let h = left 8 1023 (s .pre .2) (most 8 (omega (arith, s .pre .0)) (c .before .before .before .before .before .before .before .put-bytes .ensures)) in
     more 1022 0 h (most 1022 (field-most (s .args .bytes .now) (s .pre .1)) (c .before .before .before .put-field .ensures))
-
-same-length : tie.Need-same-length
-same-length c = search needs
 
 returns : tie.Need-returns
 returns c =
@@ -31,4 +22,5 @@ returns c =
 pub put-text-spec : {M : Type 1} → statement M
 put-text-spec =
     tie.close
-    (tie.spec put-bytes-requires put-field-requires put-byte-requires same-length returns)
+    (tie.spec
+    (λ c κs. search needs) (λ c κs. search needs) put-byte-requires (λ c. search needs) returns)

@@ -7,15 +7,6 @@ use Rattle.sampling.proofs.Ways.{find-refused}
 use Rattle.sampling.proofs.find_sample.Statement.{statement}
 use Rattle.sampling.proofs.find_sample.Tie as tie
 
-check-rule-requires : tie.Need-check-rule-requires
-check-rule-requires c κs = search needs
-
-enum-known-checked : tie.Need-enum-known-checked
-enum-known-checked c = search needs
-
-give-none-requires : tie.Need-give-none-requires
-give-none-requires c κs = search needs
-
 enum-told : tie.Need-enum-told
 enum-told c = search needs
 
@@ -29,17 +20,9 @@ returns c =
     let y = c .before .before .before .before in
     find-refused (y .before .args .rule) (y .before .args .wish) _ _ (sym (y .check-rule .ensures) ∙ ap checkMeans (c .before .before .checked .given .1)) (c .give-none .ensures)
 
-returns-2 : tie.Need-returns-2
-returns-2 c = search needs
-
 pub find-sample-spec : {M : Type 1} → statement M
 find-sample-spec =
     tie.close
     (tie.spec
-    check-rule-requires
-    enum-known-checked
-    give-none-requires
-    enum-told
-    search-sets-requires
-    returns
-    returns-2)
+    (λ c κs. search needs) (λ c. search needs) (λ c κs. search needs) enum-told
+    search-sets-requires returns (λ c. search needs))

@@ -21,26 +21,11 @@ abbrev μ-loop : tie.MeasureT-loop
 loop-holds : tie.Need-loop-holds Inv-loop μ-loop
 loop-holds c = (omega arith, λ j b. absurd (omega arith))
 
-mul-meets : tie.Need-mul-meets Inv-loop μ-loop
-mul-meets c = omega arith
-
-shared-slice-read-meets : tie.Need-shared-slice-read-meets Inv-loop μ-loop
-shared-slice-read-meets c = omega arith
-
-meets-requires : tie.Need-meets-requires Inv-loop μ-loop
-meets-requires c κs = search needs
-
 returns : tie.Need-returns Inv-loop μ-loop
 returns c =
     let x = c .before .before .before .before .loop in
     let a = c .before .before .before .before .before .before .args in
     where-found (meets (a .finals) (a .wish)) (a .sets .now) (a .count) (x .i) (omega arith) (x .inv .1) (omega arith) (sym (c .before .meets .ensures) ∙ c .if1 .taken)
-
-add-i : tie.Need-add-i Inv-loop μ-loop
-add-i c = omega arith
-
-loop-less : tie.Need-loop-less Inv-loop μ-loop
-loop-less c = omega arith
 
 loop-again : tie.Need-loop-again Inv-loop μ-loop
 loop-again c = (omega arith, below-more _ _ (c .before .before .before .before .loop .inv .1) (sym (c .before .meets .ensures) ∙ c .if1 .left))
@@ -55,14 +40,5 @@ pub first-meeting-spec : {M : Type 1} → statement M
 first-meeting-spec =
     tie.close
     (tie.spec
-    Inv-loop
-    μ-loop
-    loop-holds
-    mul-meets
-    shared-slice-read-meets
-    meets-requires
-    returns
-    add-i
-    loop-less
-    loop-again
-    returns-2)
+    Inv-loop μ-loop loop-holds (λ c. omega arith) (λ c. omega arith) (λ c κs. search needs)
+    returns (λ c. omega arith) (λ c. omega arith) loop-again returns-2)

@@ -12,9 +12,6 @@ use Rattle.sampling.proofs.meets.Tie as tie
 enum-told : tie.Need-enum-told
 enum-told c = search needs
 
-enum-told-2 : tie.Need-enum-told-2
-enum-told-2 c = search needs
-
 returns : tie.Need-returns
 returns c = let a = c .before .before .args in sym (ap (λ (x : Wish). meets (a .finals) x (a .set)) (c .enum-told .given .1))
 
@@ -24,4 +21,4 @@ returns-2 c =
     sym (ap (λ (x : Wish). meets (a .finals) x (a .set)) (c .enum-told2 .given .1) ∙ not-not (eqb (bitAnd (a .set) (a .finals)) 0))
 
 pub meets-spec : {M : Type 1} → statement M
-meets-spec = tie.close (tie.spec enum-told enum-told-2 returns returns-2)
+meets-spec = tie.close (tie.spec enum-told (λ c. search needs) returns returns-2)

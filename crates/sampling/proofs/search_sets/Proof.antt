@@ -5,20 +5,8 @@ use Rattle.sampling.proofs.Ways.{most, tabled, search-over, search-text
 use Rattle.sampling.proofs.search_sets.Statement.{statement}
 use Rattle.sampling.proofs.search_sets.Tie as tie
 
-cast-number-keys : tie.Need-cast-number-keys
-cast-number-keys c = search needs
-
-number-keys-requires : tie.Need-number-keys-requires
-number-keys-requires c κs = search needs
-
 enum-told : tie.Need-enum-told
 enum-told c = search needs
-
-give-none-requires : tie.Need-give-none-requires
-give-none-requires c κs = search needs
-
-enum-known-numbered : tie.Need-enum-known-numbered
-enum-known-numbered c = search needs
 
 first-meeting-requires : tie.Need-first-meeting-requires
 first-meeting-requires c κs =
@@ -33,9 +21,6 @@ cast-number c =
     let t = c .before .before .before .before .before .before .before .before .number-keys in
     let v = c .before .before .before .before .before .before .numbered .given in
     omega (arith, c .before .if1 .taken, most (s .args .t1) (s .args .wish) (s .pre) (t .result) (t .ensures) (v .0 .0) (v .1))
-
-cast-spell : tie.Need-cast-spell
-cast-spell c = search needs
 
 spell-requires : tie.Need-spell-requires
 spell-requires c κs =
@@ -52,9 +37,6 @@ returns c =
     let v = c .before .before .before .before .before .before .before .before .before .numbered .given in
     let f = c .before .before .before .before .before .first-meeting in
     search-text (s .args .t1) (s .args .wish) (s .pre) (t .result) (t .ensures) (v .0 .0) (v .1) (f .result) (f .ensures) (c .before .spell .result) (c .before .before .before .before .if1 .taken) (c .before .spell .ensures)
-
-give-none-requires-2 : tie.Need-give-none-requires-2
-give-none-requires-2 c κs = search needs
 
 returns-2 : tie.Need-returns-2
 returns-2 c =
@@ -74,16 +56,6 @@ pub search-sets-spec : {M : Type 1} → statement M
 search-sets-spec =
     tie.close
     (tie.spec
-    cast-number-keys
-    number-keys-requires
-    enum-told
-    give-none-requires
-    enum-known-numbered
-    first-meeting-requires
-    cast-number
-    cast-spell
-    spell-requires
-    returns
-    give-none-requires-2
-    returns-2
-    returns-3)
+    (λ c. search needs) (λ c κs. search needs) enum-told (λ c κs. search needs)
+    (λ c. search needs) first-meeting-requires cast-number (λ c. search needs) spell-requires
+    returns (λ c κs. search needs) returns-2 returns-3)

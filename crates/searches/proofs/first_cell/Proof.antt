@@ -24,12 +24,6 @@ first-symbol-requires c κs =
     let t = c .before .before .pre .1 in
     (omega (arith, t .small), few-symbols (a .next .now) (a .k) (a .number .0) t)
 
-cast-result : tie.Need-cast-result Inv-loop μ-loop
-cast-result c = search needs
-
-mul-result : tie.Need-mul-result Inv-loop μ-loop
-mul-result c = omega arith
-
 add-result : tie.Need-add-result Inv-loop μ-loop
 add-result c =
     let s = c .before .before .before .before in
@@ -41,12 +35,6 @@ returns c =
     let x = c .before .before .before .loop in
     let f = c .before .first-symbol in
     cell-found (s .args .next .now) (s .args .k) (s .args .number .0) (s .pre .1) (s .pre .0) (x .row) (omega arith) (f .result) (f .ensures) (x .inv .1) (c .if1 .taken)
-
-add-row : tie.Need-add-row Inv-loop μ-loop
-add-row c = omega arith
-
-loop-less : tie.Need-loop-less Inv-loop μ-loop
-loop-less c = omega arith
 
 loop-again : tie.Need-loop-again Inv-loop μ-loop
 loop-again c =
@@ -67,15 +55,5 @@ pub first-cell-spec : {M : Type 1} → statement M
 first-cell-spec =
     tie.close
     (tie.spec
-    Inv-loop
-    μ-loop
-    loop-holds
-    first-symbol-requires
-    cast-result
-    mul-result
-    add-result
-    returns
-    add-row
-    loop-less
-    loop-again
-    returns-2)
+    Inv-loop μ-loop loop-holds first-symbol-requires (λ c. search needs) (λ c. omega arith)
+    add-result returns (λ c. omega arith) (λ c. omega arith) loop-again returns-2)

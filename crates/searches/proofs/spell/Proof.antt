@@ -10,20 +10,8 @@ use Rattle.searches.specs.mirror.Tables.{Spells}
 use Rattle.searches.proofs.spell.Statement.{statement}
 use Rattle.searches.proofs.spell.Tie as tie
 
-walk-back-requires : tie.Need-walk-back-requires
-walk-back-requires c κs = search needs
-
-sub-front-text : tie.Need-sub-front-text
-sub-front-text c = search needs
-
-part-front-text-start : tie.Need-part-front-text-start
-part-front-text-start c = search needs
-
 part-front-text-end : tie.Need-part-front-text-end
 part-front-text-end c = let w = c .before .before .walk-back in omega (arith, w .ensures .0, w .ensures .1)
-
-front-text-requires : tie.Need-front-text-requires
-front-text-requires c κs = search needs
 
 returns : tie.Need-returns
 returns c =
@@ -37,9 +25,5 @@ pub spell-spec : {M : Type 1} → statement M
 spell-spec =
     tie.close
     (tie.spec
-    walk-back-requires
-    sub-front-text
-    part-front-text-start
-    part-front-text-end
-    front-text-requires
-    returns)
+    (λ c κs. search needs) (λ c. search needs) (λ c. search needs) part-front-text-end
+    (λ c κs. search needs) returns)

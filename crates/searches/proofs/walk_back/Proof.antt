@@ -28,9 +28,6 @@ sub-from c =
     let some : 0 < x .at = omega arith in
     room (a .next .now) (a .k) (a .number .0) (x .text) (x .from) (x .at) (x .inv) some
 
-cast-text : tie.Need-cast-text Inv-loop μ-loop
-cast-text c = omega arith
-
 array-write-text : tie.Need-array-write-text Inv-loop μ-loop
 array-write-text c =
     let x = c .before .before .loop in
@@ -70,14 +67,5 @@ pub walk-back-spec : {M : Type 1} → statement M
 walk-back-spec =
     tie.close
     (tie.spec
-    Inv-loop
-    μ-loop
-    loop-holds
-    first-cell-requires
-    sub-from
-    cast-text
-    array-write-text
-    cast-at
-    loop-less
-    loop-again
-    returns)
+    Inv-loop μ-loop loop-holds first-cell-requires sub-from (λ c. omega arith) array-write-text
+    cast-at loop-less loop-again returns)

@@ -1,6 +1,6 @@
 -- `read_all` meets its contract. Assumes nothing.
 use native.Mathlib.Omega.{arith}
-use Rattle.stdio.proofs.Filling.{front-is, back-size, more-some, more-fits}
+use Rattle.stdio.proofs.Filling.{front-is, back-size, more-fits}
 use lib.ListN.{length}
 use Prim.Native.Nat.{_≤_, _-_}
 use mathlib.Core.Path.{_≡_, _∙_}
@@ -9,71 +9,37 @@ use Rattle.stdio.proofs.read_all.Statement.{statement}
 use Rattle.stdio.proofs.read_all.Tie as tie
 
 abbrev Inv-loop : tie.InvT-loop
-Inv-loop program buffer₀ n₀ buffer n = (n ≤ length buffer) × (length buffer ≡ length buffer₀)
+Inv-loop program buffer₀ n₀ buffer n =
+    (n ≤ length buffer) × (length buffer ≡ length buffer₀)
 
 abbrev μ-loop : tie.MeasureT-loop
-μ-loop program buffer₀ n₀ buffer n = length buffer₀ - n
+μ-loop program buffer₀ n₀ buffer n =
+    length buffer₀ - n
 
-loop-holds : tie.Need-loop-holds Inv-loop μ-loop
-loop-holds c = search needs
-
-sub-read-block : tie.Need-sub-read-block Inv-loop μ-loop
-sub-read-block c = search needs
-
-part-read-block-start : tie.Need-part-read-block-start Inv-loop μ-loop
-part-read-block-start c = search needs
-
-part-read-block-end : tie.Need-part-read-block-end Inv-loop μ-loop
-part-read-block-end c = search needs
-
-read-block-requires : tie.Need-read-block-requires Inv-loop μ-loop
-read-block-requires c κs = search needs
-
-enum-known-block : tie.Need-enum-known-block Inv-loop μ-loop
-enum-known-block c = search needs
+returns-2 : tie.Need-returns-2 Inv-loop μ-loop
+returns-2 c =
+    let here = c .before .before .before .before .before .before .before .before .loop in
+    let read = c .before .before .before .before .before .read-block in
+    front-is (here .n) _ (omega (arith, here .inv .0, back-size (here .buffer) (here .n) (read .last .1 .0) (read .kept .1 .0)))
 
 add-n : tie.Need-add-n Inv-loop μ-loop
 add-n c =
-    let here = c .before .before .before .before .before .before .before .before .loop in
-    let read = c .before .before .before .before .before .read-block in
-    omega (arith, more-fits (here .buffer) (here .n) (read .last .1 .0) (read .kept .1 .0) (read .result) (read .ensures) (c .before .block .given .0 .0) (search needs) (here .inv .0))
+    let here = c .before .before .before .before .before .before .before .before .before .loop in
+    let read = c .before .before .before .before .before .before .read-block in
+    omega (arith, more-fits (here .buffer) (here .n) (read .last .1 .0) (read .kept .1 .0) (read .result .length) (read .ensures) (here .inv .0))
 
 loop-less : tie.Need-loop-less Inv-loop μ-loop
 loop-less c =
-    let here = c .before .before .before .before .before .before .before .before .loop in
-    let read = c .before .before .before .before .before .read-block in
-    omega (arith, more-fits (here .buffer) (here .n) (read .last .1 .0) (read .kept .1 .0) (read .result) (read .ensures) (c .before .block .given .0 .0) (search needs) (here .inv .0), more-some (here .buffer) (here .n) (read .last .1 .0) (read .kept .1 .0) (read .result) (read .ensures) (c .before .block .given .0 .0) (search needs))
+    let here = c .before .before .before .before .before .before .before .before .before .loop in
+    let read = c .before .before .before .before .before .before .read-block in
+    omega (arith, more-fits (here .buffer) (here .n) (read .last .1 .0) (read .kept .1 .0) (read .result .length) (read .ensures) (here .inv .0), c .before .if2 .left)
 
 loop-again : tie.Need-loop-again Inv-loop μ-loop
 loop-again c =
-    let here = c .before .before .before .before .before .before .before .before .loop in
-    let read = c .before .before .before .before .before .read-block in
+    let here = c .before .before .before .before .before .before .before .before .before .loop in
+    let read = c .before .before .before .before .before .before .read-block in
     let size = back-size (here .buffer) (here .n) (read .last .1 .0) (read .kept .1 .0) in
-    (omega (arith, more-fits (here .buffer) (here .n) (read .last .1 .0) (read .kept .1 .0) (read .result) (read .ensures) (c .before .block .given .0 .0) (search needs) (here .inv .0), size), size ∙ here .inv .1)
-
-enum-told : tie.Need-enum-told Inv-loop μ-loop
-enum-told c = search needs
-
-same-length : tie.Need-same-length Inv-loop μ-loop
-same-length c = search needs
-
-returns : tie.Need-returns Inv-loop μ-loop
-returns c =
-    let here = c .before .before .before .before .before .before .before .loop in
-    let read = c .before .before .before .before .read-block in
-    front-is (here .n) _ (omega (arith, here .inv .0, back-size (here .buffer) (here .n) (read .last .1 .0) (read .kept .1 .0)))
-
-enum-told-2 : tie.Need-enum-told-2 Inv-loop μ-loop
-enum-told-2 c = search needs
-
-same-length-2 : tie.Need-same-length-2 Inv-loop μ-loop
-same-length-2 c = search needs
-
-returns-2 : tie.Need-returns-2 Inv-loop μ-loop
-returns-2 c = search needs
-
-same-length-3 : tie.Need-same-length-3 Inv-loop μ-loop
-same-length-3 c = search needs
+    (omega (arith, more-fits (here .buffer) (here .n) (read .last .1 .0) (read .kept .1 .0) (read .result .length) (read .ensures) (here .inv .0), size), size ∙ here .inv .1)
 
 returns-3 : tie.Need-returns-3 Inv-loop μ-loop
 returns-3 c = front-is _ _ (c .before .loop .inv .0)
@@ -82,22 +48,6 @@ pub read-all-spec : {M : Type 1} → statement M
 read-all-spec =
     tie.close
     (tie.spec
-    Inv-loop
-    μ-loop
-    loop-holds
-    sub-read-block
-    part-read-block-start
-    part-read-block-end
-    read-block-requires
-    enum-known-block
-    add-n
-    loop-less
-    loop-again
-    enum-told
-    same-length
-    returns
-    enum-told-2
-    same-length-2
-    returns-2
-    same-length-3
-    returns-3)
+    Inv-loop μ-loop (λ c. search needs) (λ c. search needs) (λ c. search needs)
+    (λ c. search needs) (λ c κs. search needs) (λ c. search needs) (λ c. search needs)
+    (λ c. search needs) returns-2 add-n loop-less loop-again (λ c. search needs) returns-3)

@@ -1,5 +1,5 @@
 -- `number_sets` meets its contract: the arrays begin with every cell not in use, and what `fill`
--- leaves in them is the table. Assumes nothing.
+-- leaves in them is the table, the sets as masks. Assumes nothing.
 use mathlib.Core.Path.{refl}
 use borrow.Author.Needs.{needs}
 use Rattle.base.specs.Lists.{listFrom}
@@ -11,40 +11,25 @@ fill-requires : tie.Need-fill-requires
 unfolding listFrom
 fill-requires c κs = record { keys-are = refl; next-are = refl }
 
-enum-known-count : tie.Need-enum-known-count
-enum-known-count c = search needs
-
-number-singles-requires : tie.Need-number-singles-requires
-number-singles-requires c κs = search needs
-
-enum-told : tie.Need-enum-told
-enum-told c = search needs
-
-no-table-requires : tie.Need-no-table-requires
-no-table-requires c κs = search needs
-
 returns : tie.Need-returns
 returns c =
-    let a = c .before .before .before .before .before .before .before .before .args in
-    let w = c .before .before .before .before .before .fill in
-    let v = c .before .before .before .count .given in
-    let s = c .number-singles in
-    table-whole (a .targets .now) (a .n) (a .k) (w .result) (w .last .1 .1 .1 .0) (w .last .1 .1 .1 .1 .0) (w .ensures) (v .0 .0) (v .1) (s .result) (s .ensures)
+    let o = c .before .before .before .before .before .before .before .before .before .before in
+    let a = o .before .args in
+    let w = c .before .before .before .before .before .before .before .fill in
+    let v = c .before .before .before .before .before .count .given in
+    let s = c .before .before .number-singles in
+    table-whole (a .targets .now) (a .n) (a .k) (o .words .ensures) (w .result) (w .last .1 .1 .1 .0) (w .last .1 .1 .1 .1 .0) (w .ensures) (v .0 .0) (v .1) (s .result) (c .masks-of .result) (s .ensures) (c .masks-of .ensures)
 
 returns-2 : tie.Need-returns-2
 returns-2 c =
-    let a = c .before .before .before .before .before .before .args in
+    let o = c .before .before .before .before .before .before in
+    let a = o .before .args in
     let w = c .before .before .before .fill in
-    table-over (a .targets .now) (a .n) (a .k) (w .result) (w .last .1 .1 .1 .0) (w .last .1 .1 .1 .1 .0) (w .ensures) (cc) (c .no-table .result) (c .no-table .ensures)
+    table-over (a .targets .now) (a .n) (a .k) (o .words .ensures) (w .result) (w .last .1 .1 .1 .0) (w .last .1 .1 .1 .1 .0) (w .ensures) (cc) (c .no-table .result) (c .no-table .ensures)
 
 pub number-sets-spec : {M : Type 1} → statement M
 number-sets-spec =
     tie.close
     (tie.spec
-    fill-requires
-    enum-known-count
-    number-singles-requires
-    enum-told
-    no-table-requires
-    returns
-    returns-2)
+    (λ c κs. search needs) fill-requires (λ c. search needs) (λ c κs. search needs)
+    (λ c κs. search needs) (λ c. search needs) (λ c κs. search needs) returns returns-2)

@@ -6,22 +6,10 @@ use lib.ListN.{take}
 use borrow.Author.Needs.{needs}
 use Rattle.masks.specs.Masks.{single}
 use Rattle.numbering.specs.mirror.Arrays.{foundIn}
-use Rattle.subsets.specs.mirror.Singles.{foundMeans}
+use Rattle.keys.specs.mirror.Steps.{foundMeans}
 use Rattle.subsets.proofs.Singles.{single-found, single-missing}
 use Rattle.subsets.proofs.number_single.Statement.{statement}
 use Rattle.subsets.proofs.number_single.Tie as tie
-
-rows-requires : tie.Need-rows-requires
-rows-requires c κs = search needs
-
-singleton-requires : tie.Need-singleton-requires
-singleton-requires c κs = search needs
-
-find-requires : tie.Need-find-requires
-find-requires c κs = search needs
-
-enum-known-number : tie.Need-enum-known-number
-enum-known-number c = search needs
 
 enum-told : tie.Need-enum-told
 enum-told c = search needs
@@ -50,10 +38,5 @@ pub number-single-spec : {M : Type 1} → statement M
 number-single-spec =
     tie.close
     (tie.spec
-    rows-requires
-    singleton-requires
-    find-requires
-    enum-known-number
-    enum-told
-    returns
-    returns-2)
+    (λ c κs. search needs) (λ c κs. search needs) (λ c. search needs) (λ c κs. search needs)
+    (λ c. search needs) enum-told returns returns-2)

@@ -18,24 +18,6 @@ abbrev μ-loop : tie.MeasureT-loop
 loop-holds : tie.Need-loop-holds Inv-loop μ-loop
 loop-holds c = (omega arith, refl, λ p h. absurd (omega arith))
 
-cast-t7 : tie.Need-cast-t7 Inv-loop μ-loop
-cast-t7 c = omega arith
-
-number-single-requires : tie.Need-number-single-requires Inv-loop μ-loop
-number-single-requires c κs = omega arith
-
-mul-singles : tie.Need-mul-singles Inv-loop μ-loop
-mul-singles c = omega arith
-
-array-write-singles : tie.Need-array-write-singles Inv-loop μ-loop
-array-write-singles c = omega arith
-
-add-q : tie.Need-add-q Inv-loop μ-loop
-add-q c = omega arith
-
-loop-less : tie.Need-loop-less Inv-loop μ-loop
-loop-less c = omega arith
-
 loop-again : tie.Need-loop-again Inv-loop μ-loop
 loop-again c =
     let x = c .before .before .loop in
@@ -55,14 +37,5 @@ pub number-singles-spec : {M : Type 1} → statement M
 number-singles-spec =
     tie.close
     (tie.spec
-    Inv-loop
-    μ-loop
-    loop-holds
-    cast-t7
-    number-single-requires
-    mul-singles
-    array-write-singles
-    add-q
-    loop-less
-    loop-again
-    returns)
+    Inv-loop μ-loop loop-holds (λ c. omega arith) (λ c κs. omega arith) (λ c. omega arith)
+    (λ c. omega arith) (λ c. omega arith) (λ c. omega arith) loop-again returns)

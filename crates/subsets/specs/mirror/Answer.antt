@@ -4,9 +4,6 @@
 --
 --   NumberingReply, numberingMeans       document 01's answer: the number of sets, or refused with
 --                                        a number; and what each case of the code's answer says
---   Turn, turnMeans       the outcome of numbering one set: its number and how many sets have one
---                         then, or refused with a number; and what each case of the code's answer
---                         says
 --   Table, tableOutcome   the answer, with the arrays beside it; and the outcome that the code's
 --                         result stands for
 --   noTable            refused with 9: zeros
@@ -16,8 +13,6 @@ use mathlib.Core.List.{List}
 use Prim.Native.Nat.{ℕ}
 use lib.ListN.{length, replicate}
 use Rattle.limits.specs.Limits.{mostStates, mostSets, tableCells}
-use Rattle.subsets.specs.declared.Numbered.{Numbered}
-use Rattle.subsets.specs.declared.Numbered.the-variants.{As, Full}
 use Rattle.subsets.specs.declared.Numbering.{Numbering}
 use Rattle.subsets.specs.declared.Numbering.the-variants.{Whole, Over}
 use Rattle.subsets.specs.declared.SetTable.{SetTable}
@@ -31,14 +26,6 @@ pub data NumberingReply : Type 0 where
 abbrev pub numberingMeans : Numbering → NumberingReply
 numberingMeans (Whole c) = counted c
 numberingMeans Over = refused 9
-
-pub data Turn : Type 0 where
-  named : ℕ → ℕ → Turn
-  turned-down : ℕ → Turn
-
-abbrev pub turnMeans : Numbered → Turn
-turnMeans (As number count) = named (number .0) count
-turnMeans Full = turned-down 9
 
 pub record Table : Type 0 where
   pub reply : NumberingReply

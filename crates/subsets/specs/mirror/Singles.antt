@@ -1,26 +1,17 @@
--- The number of a set among those that have one, and the number of {q} for each state q (document
--- 01, "Sets and their order"). `sets` is the array of numbered sets, of which the first `count`
--- cells are in use.
+-- The number of {q} for each state q (document 01, "Sets and their order"). `sets` is the array of
+-- numbered sets, of which the first `count` cells are in use.
 --
---   foundMeans                     what each case of the search's answer says: a number, or none
 --   singletonNumber sets count q   the number of {q}, or 512, which stands for the empty set
 --   singlesOf sets count           that number for each of the 32 states
 use mathlib.Core.Bool.{cond}
 use mathlib.Core.List.{List}
-use mathlib.Core.Option.{Option, none, some}
 use Prim.Native.Nat.{ℕ}
 use lib.Dec.{ltb}
 use lib.ListN.{take}
 use Rattle.limits.specs.Limits.{mostStates, emptySet}
 use Rattle.base.specs.Lists.{listFrom}
 use Rattle.masks.specs.Masks.{single}
-use Rattle.subsets.specs.declared.Found.{Found}
-use Rattle.subsets.specs.declared.Found.the-variants.{At, Nothing}
 use Rattle.subsets.specs.Sets.{indexOf}
-
-abbrev pub foundMeans : Found → Option ℕ
-foundMeans (At number) = some (number .0)
-foundMeans Nothing = none
 
 unfoldable pub singletonNumber : List ℕ → ℕ → ℕ → ℕ
 singletonNumber sets count q = let i = indexOf (take count sets) (single q) in cond (ltb i count) i emptySet

@@ -20,27 +20,6 @@ abbrev μ-loop : tie.MeasureT-loop
 loop-holds : tie.Need-loop-holds Inv-loop μ-loop
 loop-holds c = (omega arith, refl, λ i b. absurd (omega arith))
 
-mul-image : tie.Need-mul-image Inv-loop μ-loop
-mul-image c = omega arith
-
-array-read-image : tie.Need-array-read-image Inv-loop μ-loop
-array-read-image c = omega arith
-
-image-requires : tie.Need-image-requires Inv-loop μ-loop
-image-requires c κs = search needs
-
-mul-leads : tie.Need-mul-leads Inv-loop μ-loop
-mul-leads c = omega arith
-
-array-write-leads : tie.Need-array-write-leads Inv-loop μ-loop
-array-write-leads c = omega arith
-
-add-q : tie.Need-add-q Inv-loop μ-loop
-add-q c = omega arith
-
-loop-less : tie.Need-loop-less Inv-loop μ-loop
-loop-less c = omega arith
-
 loop-again : tie.Need-loop-again Inv-loop μ-loop
 loop-again c =
     let x = c .before .before .before .loop in
@@ -49,15 +28,6 @@ loop-again c =
       length-set (x .leads) (x .q) (c .image .result) ∙ x .inv .1,
       cell-stored (x .leads) (λ i. imageOf 32 (a .later .leads) (getD (a .earlier .leads) i 0)) (x .q) (c .image .result) (omega (arith, x .inv .1)) (c .image .ensures) (x .inv .2),
     )
-
-sum-capped-requires : tie.Need-sum-capped-requires Inv-loop μ-loop
-sum-capped-requires c κs = search needs
-
-sum-capped-requires-2 : tie.Need-sum-capped-requires-2 Inv-loop μ-loop
-sum-capped-requires-2 c κs = search needs
-
-gap-requires : tie.Need-gap-requires Inv-loop μ-loop
-gap-requires c κs = search needs
 
 returns : tie.Need-returns Inv-loop μ-loop
 returns c =
@@ -76,18 +46,6 @@ pub combine-spec : {M : Type 1} → statement M
 combine-spec =
     tie.close
     (tie.spec
-    Inv-loop
-    μ-loop
-    loop-holds
-    mul-image
-    array-read-image
-    image-requires
-    mul-leads
-    array-write-leads
-    add-q
-    loop-less
-    loop-again
-    sum-capped-requires
-    sum-capped-requires-2
-    gap-requires
-    returns)
+    Inv-loop μ-loop loop-holds (λ c. omega arith) (λ c. omega arith) (λ c κs. search needs)
+    (λ c. omega arith) (λ c. omega arith) (λ c. omega arith) (λ c. omega arith) loop-again
+    (λ c κs. search needs) (λ c κs. search needs) (λ c κs. search needs) returns)

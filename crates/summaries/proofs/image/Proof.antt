@@ -40,9 +40,6 @@ mul-out c = omega (arith, state-left (c .before))
 shared-slice-read-out : tie.Need-shared-slice-read-out Inv-loop μ-loop
 shared-slice-read-out c = omega (arith, state-left (c .before .before))
 
-add-q : tie.Need-add-q Inv-loop μ-loop
-add-q c = omega arith
-
 loop-less : tie.Need-loop-less Inv-loop μ-loop
 loop-less c = omega (arith, state-left (c .before))
 
@@ -68,4 +65,6 @@ returns c =
 pub image-spec : {M : Type 1} → statement M
 image-spec =
     tie.close
-    (tie.spec Inv-loop μ-loop loop-holds mul-out shared-slice-read-out add-q loop-less loop-again returns)
+    (tie.spec
+    Inv-loop μ-loop loop-holds mul-out shared-slice-read-out (λ c. omega arith) loop-less
+    loop-again returns)

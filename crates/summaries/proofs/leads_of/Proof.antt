@@ -19,27 +19,6 @@ abbrev μ-loop : tie.MeasureT-loop
 loop-holds : tie.Need-loop-holds Inv-loop μ-loop
 loop-holds c = (omega arith, refl, λ i b. absurd (omega arith))
 
-mul-delegate-mask : tie.Need-mul-delegate-mask Inv-loop μ-loop
-mul-delegate-mask c = omega arith
-
-array-read-delegate-mask : tie.Need-array-read-delegate-mask Inv-loop μ-loop
-array-read-delegate-mask c = omega arith
-
-delegate-mask-requires : tie.Need-delegate-mask-requires Inv-loop μ-loop
-delegate-mask-requires c κs = search needs
-
-mul-leads : tie.Need-mul-leads Inv-loop μ-loop
-mul-leads c = omega arith
-
-array-write-leads : tie.Need-array-write-leads Inv-loop μ-loop
-array-write-leads c = omega arith
-
-add-q : tie.Need-add-q Inv-loop μ-loop
-add-q c = omega arith
-
-loop-less : tie.Need-loop-less Inv-loop μ-loop
-loop-less c = omega arith
-
 loop-again : tie.Need-loop-again Inv-loop μ-loop
 loop-again c =
     let x = c .before .before .loop in
@@ -59,15 +38,6 @@ pub leads-of-spec : {M : Type 1} → statement M
 leads-of-spec =
     tie.close
     (tie.spec
-    Inv-loop
-    μ-loop
-    loop-holds
-    mul-delegate-mask
-    array-read-delegate-mask
-    delegate-mask-requires
-    mul-leads
-    array-write-leads
-    add-q
-    loop-less
-    loop-again
+    Inv-loop μ-loop loop-holds (λ c. omega arith) (λ c. omega arith) (λ c κs. search needs)
+    (λ c. omega arith) (λ c. omega arith) (λ c. omega arith) (λ c. omega arith) loop-again
     returns)

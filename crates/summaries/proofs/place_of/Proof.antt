@@ -4,11 +4,8 @@ use Rattle.summaries.proofs.Ways.{other-place}
 use Rattle.summaries.proofs.place_of.Statement.{statement}
 use Rattle.summaries.proofs.place_of.Tie as tie
 
-returns : tie.Need-returns
-returns c = search needs
-
 returns-2 : tie.Need-returns-2
 returns-2 c = other-place _ (c .if1 .left)
 
 pub place-of-spec : {M : Type 1} → statement M
-place-of-spec = tie.close (tie.spec returns returns-2)
+place-of-spec = tie.close (tie.spec (λ c. search needs) returns-2)

@@ -4,9 +4,6 @@ use Rattle.tabletext.proofs.Whole.{table-text, refused-text, bounds}
 use Rattle.tabletext.proofs.put_back.Statement.{statement}
 use Rattle.tabletext.proofs.put_back.Tie as tie
 
-table-of-requires : tie.Need-table-of-requires
-table-of-requires c κs = search needs
-
 enum-told : tie.Need-enum-told
 enum-told c = search needs
 
@@ -17,23 +14,11 @@ put-table-requires c κs =
     let b = bounds (s .args .form) (t .result) (t .ensures) (c .before .enum-told .given .1) in
     (b .0, b .1, b .2, s .pre)
 
-enum-known-answer : tie.Need-enum-known-answer
-enum-known-answer c = search needs
-
-put-refused-requires : tie.Need-put-refused-requires
-put-refused-requires c κs = search needs
-
-same-length : tie.Need-same-length
-same-length c = search needs
-
 returns : tie.Need-returns
 returns c =
     let s = c .before .before .before .before .before .before .before .before in
     let t = c .before .before .before .before .before .before .table-of in
     rw (← table-text (s .args .form) (t .result) (t .ensures) (c .before .before .before .before .enum-told .given .1)) (c .before .before .put-table .ensures)
-
-same-length-2 : tie.Need-same-length-2
-same-length-2 c = search needs
 
 returns-2 : tie.Need-returns-2
 returns-2 c =
@@ -45,12 +30,5 @@ pub put-back-spec : {M : Type 1} → statement M
 put-back-spec =
     tie.close
     (tie.spec
-    table-of-requires
-    enum-told
-    put-table-requires
-    enum-known-answer
-    put-refused-requires
-    same-length
-    returns
-    same-length-2
-    returns-2)
+    (λ c κs. search needs) enum-told put-table-requires (λ c. search needs)
+    (λ c κs. search needs) (λ c. search needs) returns (λ c. search needs) returns-2)

@@ -4,22 +4,10 @@ use borrow.Author.Tests.{eq-eqb, ne-eqb}
 use Rattle.tabletext.proofs.put_cell.Statement.{statement}
 use Rattle.tabletext.proofs.put_cell.Tie as tie
 
-put-first-requires : tie.Need-put-first-requires
-put-first-requires c κs = search needs
-
-put-cell-requires : tie.Need-put-cell-requires
-put-cell-requires c κs = search needs
-
-same-length : tie.Need-same-length
-same-length c = search needs
-
 returns : tie.Need-returns
 returns c =
     let s = c .before .before .before .before .before .before in
     rw (eq-eqb (s .args .c) 0 (c .before .before .before .before .if1 .taken)) (c .before .before .put-first .ensures)
-
-same-length-2 : tie.Need-same-length-2
-same-length-2 c = search needs
 
 returns-2 : tie.Need-returns-2
 returns-2 c =
@@ -29,4 +17,6 @@ returns-2 c =
 pub put-cell-spec : {M : Type 1} → statement M
 put-cell-spec =
     tie.close
-    (tie.spec put-first-requires put-cell-requires same-length returns same-length-2 returns-2)
+    (tie.spec
+    (λ c κs. search needs) (λ c κs. search needs) (λ c. search needs) returns
+    (λ c. search needs) returns-2)

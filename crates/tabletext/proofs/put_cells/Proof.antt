@@ -48,12 +48,6 @@ put-cell-requires c κs =
     let a = c .before .before .before .before .before .args in
     omega (arith, x .inv, c .before .before .loop-test .taken, x .inv .5 .kept, x .inv .5 .wrote .ends, cells-most (a .next .now) (a .k) (x .c))
 
-add-c : tie.Need-add-c Inv-loop μ-loop
-add-c c = omega arith
-
-loop-less : tie.Need-loop-less Inv-loop μ-loop
-loop-less c = omega arith
-
 loop-again : tie.Need-loop-again Inv-loop μ-loop
 loop-again c =
     let x = c .before .before .before .before .before .before .loop in
@@ -87,18 +81,5 @@ pub put-cells-spec : {M : Type 1} → statement M
 put-cells-spec =
     tie.close
     (tie.spec
-    Inv-loop
-    μ-loop
-    loop-holds
-    div-to
-    mul-to
-    rem-to
-    add-to
-    mul-to-2
-    element-copy-out-to
-    put-cell-requires
-    add-c
-    loop-less
-    loop-again
-    same-length
-    returns)
+    Inv-loop μ-loop loop-holds div-to mul-to rem-to add-to mul-to-2 element-copy-out-to
+    put-cell-requires (λ c. omega arith) (λ c. omega arith) loop-again same-length returns)

@@ -6,27 +6,15 @@ use Rattle.ruletext.proofs.Lengths.{number-most}
 use Rattle.tabletext.proofs.put_first.Statement.{statement}
 use Rattle.tabletext.proofs.put_first.Tie as tie
 
-cast-put-decimal : tie.Need-cast-put-decimal
-cast-put-decimal c = search needs
-
 put-decimal-requires : tie.Need-put-decimal-requires
 put-decimal-requires c κs =
     let s = c .before .before .before .before .before in
     omega (arith, s .pre, number-most (s .args .to .0) (omega (arith, c .before .before .if1 .taken)))
 
-put-byte-requires : tie.Need-put-byte-requires
-put-byte-requires c κs = search needs
-
-same-length : tie.Need-same-length
-same-length c = search needs
-
 returns : tie.Need-returns
 returns c =
     let s = c .before .before .before .before .before .before .before .before in
     rw (lt-ltb (s .args .to .0) 512 (c .before .before .before .before .before .if1 .taken)) (c .before .before .put-decimal .ensures)
-
-same-length-2 : tie.Need-same-length-2
-same-length-2 c = search needs
 
 returns-2 : tie.Need-returns-2
 returns-2 c =
@@ -37,10 +25,5 @@ pub put-first-spec : {M : Type 1} → statement M
 put-first-spec =
     tie.close
     (tie.spec
-    cast-put-decimal
-    put-decimal-requires
-    put-byte-requires
-    same-length
-    returns
-    same-length-2
-    returns-2)
+    (λ c. search needs) put-decimal-requires (λ c κs. search needs) (λ c. search needs) returns
+    (λ c. search needs) returns-2)

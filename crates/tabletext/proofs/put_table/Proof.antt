@@ -6,12 +6,6 @@ use Rattle.tabletext.proofs.Lengths.{few-cells}
 use Rattle.tabletext.proofs.put_table.Statement.{statement}
 use Rattle.tabletext.proofs.put_table.Tie as tie
 
-cast-k : tie.Need-cast-k
-cast-k c = search needs
-
-cast-count : tie.Need-cast-count
-cast-count c = search needs
-
 mul-count : tie.Need-mul-count
 mul-count c =
     let s = c .before .before .before .before in
@@ -30,9 +24,6 @@ put-byte-requires c κs =
     let w = c .before .before .before .put-cells in
     omega (arith, s .pre, few, w .ensures .1, w .kept .0)
 
-same-length : tie.Need-same-length
-same-length c = search needs
-
 returns : tie.Need-returns
 returns c =
     let s = c .before .before .before .before .before .before .before .before .before .before .before .before .before in
@@ -45,4 +36,6 @@ returns c =
 pub put-table-spec : {M : Type 1} → statement M
 put-table-spec =
     tie.close
-    (tie.spec cast-k cast-count mul-count put-cells-requires put-byte-requires same-length returns)
+    (tie.spec
+    (λ c. search needs) (λ c. search needs) mul-count put-cells-requires put-byte-requires
+    (λ c. search needs) returns)

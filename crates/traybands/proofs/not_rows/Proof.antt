@@ -4,20 +4,14 @@ use borrow.Author.Tests.{eq-eqb, ne-eqb}
 use Rattle.traybands.proofs.not_rows.Statement.{statement}
 use Rattle.traybands.proofs.not_rows.Tie as tie
 
-width-of-requires : tie.Need-width-of-requires
-width-of-requires c κs = search needs
-
-rem-if1 : tie.Need-rem-if1
-rem-if1 c = search needs
-
 returns : tie.Need-returns
 returns c = rw (← c .before .width-of .ensures .0, ne-eqb _ _ (c .if1 .taken))
-
-div-result : tie.Need-div-result
-div-result c = search needs
 
 returns-2 : tie.Need-returns-2
 returns-2 c = rw (← c .before .width-of .ensures .0, eq-eqb _ _ (c .if1 .left))
 
 pub not-rows-spec : {M : Type 1} → statement M
-not-rows-spec = tie.close (tie.spec width-of-requires rem-if1 returns div-result returns-2)
+not-rows-spec =
+    tie.close
+    (tie.spec
+    (λ c κs. search needs) (λ c. search needs) returns (λ c. search needs) returns-2)

@@ -12,29 +12,8 @@ Inv-loop cells₀ band bytes i₀ cells i = (i ≤ 1024) × (band < 8) × Stored
 abbrev μ-loop : tie.MeasureT-loop
 μ-loop cells₀ band bytes i₀ cells i = 1024 - i
 
-cells-of-requires : tie.Need-cells-of-requires Inv-loop μ-loop
-cells-of-requires c κs = search needs
-
 loop-holds : tie.Need-loop-holds Inv-loop μ-loop
 loop-holds c = (omega arith, omega arith, none-stored _ _ _ (c .cells-of .ensures))
-
-byte-at-requires : tie.Need-byte-at-requires Inv-loop μ-loop
-byte-at-requires c κs = search needs
-
-mul-cells : tie.Need-mul-cells Inv-loop μ-loop
-mul-cells c = omega arith
-
-add-cells : tie.Need-add-cells Inv-loop μ-loop
-add-cells c = omega arith
-
-element-write-cells : tie.Need-element-write-cells Inv-loop μ-loop
-element-write-cells c = omega arith
-
-add-i : tie.Need-add-i Inv-loop μ-loop
-add-i c = omega arith
-
-loop-less : tie.Need-loop-less Inv-loop μ-loop
-loop-less c = omega arith
 
 loop-again : tie.Need-loop-again Inv-loop μ-loop
 loop-again c =
@@ -55,15 +34,6 @@ pub set-band-spec : {M : Type 1} → statement M
 set-band-spec =
     tie.close
     (tie.spec
-    Inv-loop
-    μ-loop
-    cells-of-requires
-    loop-holds
-    byte-at-requires
-    mul-cells
-    add-cells
-    element-write-cells
-    add-i
-    loop-less
-    loop-again
+    Inv-loop μ-loop (λ c κs. search needs) loop-holds (λ c κs. search needs) (λ c. omega arith)
+    (λ c. omega arith) (λ c. omega arith) (λ c. omega arith) (λ c. omega arith) loop-again
     returns)

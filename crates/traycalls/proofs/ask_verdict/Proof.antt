@@ -7,14 +7,8 @@ use Rattle.traycalls.proofs.ask_verdict.Tie as tie
 returns : tie.Need-returns
 returns c = search (needs, verdict-21)
 
-empty-bands-requires : tie.Need-empty-bands-requires
-empty-bands-requires c κs = search needs
-
 returns-2 : tie.Need-returns-2
 returns-2 c = search (needs, verdict-waiting)
-
-says-yes-requires : tie.Need-says-yes-requires
-says-yes-requires c κs = search needs
 
 returns-3 : tie.Need-returns-3
 returns-3 c = search (needs, verdict-yes)
@@ -25,4 +19,5 @@ returns-4 c = search (needs, verdict-no)
 pub ask-verdict-spec : {M : Type 1} → statement M
 ask-verdict-spec =
     tie.close
-    (tie.spec returns empty-bands-requires returns-2 says-yes-requires returns-3 returns-4)
+    (tie.spec
+    returns (λ c κs. search needs) returns-2 (λ c κs. search needs) returns-3 returns-4)

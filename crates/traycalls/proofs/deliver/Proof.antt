@@ -6,26 +6,11 @@ use borrow.Author.Needs.{needs}
 use Rattle.traycalls.proofs.deliver.Statement.{statement}
 use Rattle.traycalls.proofs.deliver.Tie as tie
 
-refuse-requires : tie.Need-refuse-requires
-refuse-requires c κs = search needs
-
 returns : tie.Need-returns
 returns c = search (needs, deliver-21)
 
-bands-of-requires : tie.Need-bands-of-requires
-bands-of-requires c κs = search needs
-
-refuse-requires-2 : tie.Need-refuse-requires-2
-refuse-requires-2 c κs = search needs
-
 returns-2 : tie.Need-returns-2
 returns-2 c = search (needs, deliver-11)
-
-not-rows-requires : tie.Need-not-rows-requires
-not-rows-requires c κs = search needs
-
-refuse-requires-3 : tie.Need-refuse-requires-3
-refuse-requires-3 c κs = search needs
 
 returns-3 : tie.Need-returns-3
 returns-3 c = search (needs, deliver-39)
@@ -38,20 +23,10 @@ deliver-rows-requires c κs =
       sym (c .before .not-rows .ensures) ∙ c .if3 .left,
     )
 
-returns-4 : tie.Need-returns-4
-returns-4 c = search needs
-
 pub deliver-spec : {M : Type 1} → statement M
 deliver-spec =
     tie.close
     (tie.spec
-    refuse-requires
-    returns
-    bands-of-requires
-    refuse-requires-2
-    returns-2
-    not-rows-requires
-    refuse-requires-3
-    returns-3
-    deliver-rows-requires
-    returns-4)
+    (λ c κs. search needs) returns (λ c κs. search needs) (λ c κs. search needs) returns-2
+    (λ c κs. search needs) (λ c κs. search needs) returns-3 deliver-rows-requires
+    (λ c. search needs))

@@ -6,29 +6,11 @@ use borrow.Author.Needs.{needs}
 use Rattle.traycalls.proofs.open.Statement.{statement}
 use Rattle.traycalls.proofs.open.Tie as tie
 
-lacks-rule-requires : tie.Need-lacks-rule-requires
-lacks-rule-requires c κs = search needs
-
-refuse-requires : tie.Need-refuse-requires
-refuse-requires c κs = search needs
-
 returns : tie.Need-returns
 returns c = search (needs, open-20)
 
-outside-requires : tie.Need-outside-requires
-outside-requires c κs = search needs
-
-refuse-requires-2 : tie.Need-refuse-requires-2
-refuse-requires-2 c κs = search needs
-
 returns-2 : tie.Need-returns-2
 returns-2 c = search (needs, open-38)
-
-outside-requires-2 : tie.Need-outside-requires-2
-outside-requires-2 c κs = search needs
-
-refuse-requires-3 : tie.Need-refuse-requires-3
-refuse-requires-3 c κs = search needs
 
 returns-3 : tie.Need-returns-3
 returns-3 c = search (needs, open-10)
@@ -45,15 +27,6 @@ cast-empty-board-2 c =
     (sym (c .before .outside2 .ensures) ∙ c .if3 .left) in
     search needs
 
-empty-board-requires : tie.Need-empty-board-requires
-empty-board-requires c κs = search needs
-
-with-board-requires : tie.Need-with-board-requires
-with-board-requires c κs = search needs
-
-accept-requires : tie.Need-accept-requires
-accept-requires c κs = search needs
-
 returns-4 : tie.Need-returns-4
 returns-4 c = search (needs, opened)
 
@@ -61,18 +34,7 @@ pub open-spec : {M : Type 1} → statement M
 open-spec =
     tie.close
     (tie.spec
-    lacks-rule-requires
-    refuse-requires
-    returns
-    outside-requires
-    refuse-requires-2
-    returns-2
-    outside-requires-2
-    refuse-requires-3
-    returns-3
-    cast-empty-board
-    cast-empty-board-2
-    empty-board-requires
-    with-board-requires
-    accept-requires
-    returns-4)
+    (λ c κs. search needs) (λ c κs. search needs) returns (λ c κs. search needs)
+    (λ c κs. search needs) returns-2 (λ c κs. search needs) (λ c κs. search needs) returns-3
+    cast-empty-board cast-empty-board-2 (λ c κs. search needs) (λ c κs. search needs)
+    (λ c κs. search needs) returns-4)

@@ -6,11 +6,8 @@ use borrow.Author.Needs.{needs}
 use Rattle.traylines.proofs.run_empty.Statement.{statement}
 use Rattle.traylines.proofs.run_empty.Tie as tie
 
-new-tray-requires : tie.Need-new-tray-requires
-new-tray-requires c κs = search needs
-
 returns : tie.Need-returns
 returns c = ap (λ (t : Tray). record { response = began; state = t }) (c .new-tray .ensures)
 
 pub run-empty-spec : {M : Type 1} → statement M
-run-empty-spec = tie.close (tie.spec new-tray-requires returns)
+run-empty-spec = tie.close (tie.spec (λ c κs. search needs) returns)

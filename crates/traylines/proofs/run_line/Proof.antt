@@ -4,53 +4,17 @@ use borrow.Author.Needs.{needs}
 use Rattle.traylines.proofs.run_line.Statement.{statement}
 use Rattle.traylines.proofs.run_line.Tie as tie
 
-parse-requires : tie.Need-parse-requires
-parse-requires c κs = search needs
+sub-run-file : tie.Need-sub-run-file
+sub-run-file c = search (needs, row-inside)
 
-enum-told : tie.Need-enum-told
-enum-told c = search needs
+part-run-file-start : tie.Need-part-run-file-start
+part-run-file-start c = search (needs, row-inside)
 
-run-empty-requires : tie.Need-run-empty-requires
-run-empty-requires c κs = search needs
+sub-run-file-2 : tie.Need-sub-run-file-2
+sub-run-file-2 c = search (needs, column-inside)
 
-enum-told-2 : tie.Need-enum-told-2
-enum-told-2 c = search needs
-
-sub-run-row : tie.Need-sub-run-row
-sub-run-row c = search (needs, row-inside)
-
-part-run-row-start : tie.Need-part-run-row-start
-part-run-row-start c = search (needs, row-inside)
-
-part-run-row-end : tie.Need-part-run-row-end
-part-run-row-end c = search needs
-
-run-row-requires : tie.Need-run-row-requires
-run-row-requires c κs = search needs
-
-enum-told-3 : tie.Need-enum-told-3
-enum-told-3 c = search needs
-
-sub-run-column : tie.Need-sub-run-column
-sub-run-column c = search (needs, column-inside)
-
-part-run-column-start : tie.Need-part-run-column-start
-part-run-column-start c = search (needs, column-inside)
-
-part-run-column-end : tie.Need-part-run-column-end
-part-run-column-end c = search needs
-
-run-column-requires : tie.Need-run-column-requires
-run-column-requires c κs = search needs
-
-enum-known-parsed : tie.Need-enum-known-parsed
-enum-known-parsed c = search needs
-
-run-open-requires : tie.Need-run-open-requires
-run-open-requires c κs = search needs
-
-enum-known-parsed-2 : tie.Need-enum-known-parsed-2
-enum-known-parsed-2 c = search needs
+part-run-file-start-2 : tie.Need-part-run-file-start-2
+part-run-file-start-2 c = search (needs, column-inside)
 
 sub-run-deliver : tie.Need-sub-run-deliver
 sub-run-deliver c = search (needs, deliver-inside)
@@ -58,50 +22,17 @@ sub-run-deliver c = search (needs, deliver-inside)
 part-run-deliver-start : tie.Need-part-run-deliver-start
 part-run-deliver-start c = search (needs, deliver-inside)
 
-part-run-deliver-end : tie.Need-part-run-deliver-end
-part-run-deliver-end c = search needs
-
-run-deliver-requires : tie.Need-run-deliver-requires
-run-deliver-requires c κs = search needs
-
-enum-known-parsed-3 : tie.Need-enum-known-parsed-3
-enum-known-parsed-3 c = search needs
-
-run-withdraw-requires : tie.Need-run-withdraw-requires
-run-withdraw-requires c κs = search needs
-
-enum-told-4 : tie.Need-enum-told-4
-enum-told-4 c = search needs
-
-run-verdict-requires : tie.Need-run-verdict-requires
-run-verdict-requires c κs = search needs
-
-enum-told-5 : tie.Need-enum-told-5
-enum-told-5 c = search needs
-
-run-malformed-requires : tie.Need-run-malformed-requires
-run-malformed-requires c κs = search needs
-
 returns : tie.Need-returns
 returns c = search (needs, line-empty)
 
-same-length : tie.Need-same-length
-same-length c = search needs
-
 returns-2 : tie.Need-returns-2
 returns-2 c = search (needs, line-row)
-
-same-length-2 : tie.Need-same-length-2
-same-length-2 c = search needs
 
 returns-3 : tie.Need-returns-3
 returns-3 c = search (needs, line-column)
 
 returns-4 : tie.Need-returns-4
 returns-4 c = search (needs, line-open)
-
-same-length-3 : tie.Need-same-length-3
-same-length-3 c = search needs
 
 returns-5 : tie.Need-returns-5
 returns-5 c = search (needs, line-deliver)
@@ -119,40 +50,12 @@ pub run-line-spec : {M : Type 1} → statement M
 run-line-spec =
     tie.close
     (tie.spec
-    parse-requires
-    enum-told
-    run-empty-requires
-    enum-told-2
-    sub-run-row
-    part-run-row-start
-    part-run-row-end
-    run-row-requires
-    enum-told-3
-    sub-run-column
-    part-run-column-start
-    part-run-column-end
-    run-column-requires
-    enum-known-parsed
-    run-open-requires
-    enum-known-parsed-2
-    sub-run-deliver
-    part-run-deliver-start
-    part-run-deliver-end
-    run-deliver-requires
-    enum-known-parsed-3
-    run-withdraw-requires
-    enum-told-4
-    run-verdict-requires
-    enum-told-5
-    run-malformed-requires
-    returns
-    same-length
-    returns-2
-    same-length-2
-    returns-3
-    returns-4
-    same-length-3
-    returns-5
-    returns-6
-    returns-7
+    (λ c κs. search needs) (λ c. search needs) (λ c κs. search needs) (λ c. search needs)
+    sub-run-file part-run-file-start (λ c. search needs) (λ c κs. search needs)
+    (λ c. search needs) sub-run-file-2 part-run-file-start-2 (λ c. search needs)
+    (λ c κs. search needs) (λ c. search needs) (λ c κs. search needs) (λ c. search needs)
+    sub-run-deliver part-run-deliver-start (λ c. search needs) (λ c κs. search needs)
+    (λ c. search needs) (λ c κs. search needs) (λ c. search needs) (λ c κs. search needs)
+    (λ c. search needs) (λ c κs. search needs) returns (λ c. search needs) returns-2
+    (λ c. search needs) returns-3 returns-4 (λ c. search needs) returns-5 returns-6 returns-7
     returns-8)

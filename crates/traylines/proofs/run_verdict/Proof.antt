@@ -6,11 +6,8 @@ use borrow.Author.Needs.{needs}
 use Rattle.traylines.proofs.run_verdict.Statement.{statement}
 use Rattle.traylines.proofs.run_verdict.Tie as tie
 
-ask-verdict-requires : tie.Need-ask-verdict-requires
-ask-verdict-requires c κs = search needs
-
 returns : tie.Need-returns
 returns c = ap (λ (v : Judgement). record { response = replied (judged v); state = c .before .args .tray }) (c .ask-verdict .ensures)
 
 pub run-verdict-spec : {M : Type 1} → statement M
-run-verdict-spec = tie.close (tie.spec ask-verdict-requires returns)
+run-verdict-spec = tie.close (tie.spec (λ c κs. search needs) returns)

@@ -7,6 +7,7 @@
 --   installReply r     what is answered where the rule r is installed: the number of sets and M
 --   installAnswer r    what is answered to an installation of the rule r, in any state
 --   withRow t r, withColumn t r   the tray with r as that rule, the other rule as it was and no board
+--   installOf t r next   the outcome of an installation of r, by the tray that it leaves if accepted
 --   installRowOf, installColumnOf, openOf, deliverOf, withdrawOf   the outcomes of the calls that may
 --                                                                  change the state
 --   isYes t            every row and every column of the rows held is accepted
@@ -73,11 +74,15 @@ installReply r = installed (builtOf r .setcount) (builtOf r .startcount)
 unfoldable pub installAnswer : Rule → Reply
 installAnswer r = replyBy (installNumber r) (installReply r)
 
+-- where `next` is the tray with the rule in it
+abbrev pub installOf : Tray → Rule → Tray → Outcome
+installOf t r next = outcomeBy (installNumber r) (installReply r) t next
+
 unfoldable pub installRowOf : Tray → Rule → Outcome
-installRowOf t r = outcomeBy (installNumber r) (installReply r) t (withRow t r)
+installRowOf t r = installOf t r (withRow t r)
 
 unfoldable pub installColumnOf : Tray → Rule → Outcome
-installColumnOf t r = outcomeBy (installNumber r) (installReply r) t (withColumn t r)
+installColumnOf t r = installOf t r (withColumn t r)
 
 -- ---- open: an earlier board is dropped
 unfoldable pub openOf : Tray → ℕ → ℕ → Outcome

@@ -7,9 +7,9 @@
 use Rattle.linetexts.proofs.Turns.{turn-forward, turn-on, turn-answered}
 use Rattle.linetexts.proofs.Gathering.{SoFar, begun, ended, at-over, gather-short, placed-within}
 use Rattle.linetexts.proofs.Ends.{came}
-use Rattle.linetexts.specs.Feeding.{stateOf}
-use Rattle.linetexts.specs.Lists.{listOf}
-use Rattle.traystream.specs.Texts.{trayLines}
+use Rattle.linetexts.specs.Beginnings.{stateOf}
+use Rattle.linetexts.specs.Lists.{listOf, listTeller}
+use Rattle.traystream.specs.Texts.{trayLines, trayList}
 use lib.ListN.{length}
 use Prim.Native.Nat.{_-_, _<_}
 use native.Mathlib.Omega.{arith}
@@ -37,12 +37,6 @@ module _ (p : tie.After-take-part Inv-loop μ-loop) where
 loop-holds : tie.Need-loop-holds Inv-loop μ-loop
 loop-holds c = (refl, refl, begun _ _ _ _ _)
 
-sub-if1 : tie.Need-sub-if1 Inv-loop μ-loop
-sub-if1 c = search needs
-
-take-part-requires : tie.Need-take-part-requires Inv-loop μ-loop
-take-part-requires c κs = search needs
-
 loop-less : tie.Need-loop-less Inv-loop μ-loop
 loop-less c = omega (arith, forward (c .before .before .before .before .before), c .before .before .before .before .before .before .before .before .loop-test .taken)
 
@@ -53,28 +47,13 @@ loop-again c =
     let loop = p .before .before .before .before .loop in
     let enough = p .before .before .if1 .left in
     let took = p .take-part in
-    (took .kept .1 .0 ∙ loop .inv .0, loop .inv .1, turn-on trayLines _ _ _ _ _ _ _ _ _ _ here (took .result) _ (took .ensures) (loop .inv .2) enough (c .if2 .taken))
-
-sub-answer-held : tie.Need-sub-answer-held Inv-loop μ-loop
-sub-answer-held c = search needs
-
-part-answer-held-start : tie.Need-part-answer-held-start Inv-loop μ-loop
-part-answer-held-start c = search needs
-
-part-answer-held-end : tie.Need-part-answer-held-end Inv-loop μ-loop
-part-answer-held-end c = search needs
-
-answer-held-requires : tie.Need-answer-held-requires Inv-loop μ-loop
-answer-held-requires c κs = search needs
+    (took .kept .1 .0 ∙ loop .inv .0, loop .inv .1, turn-on (listTeller trayList) _ _ _ _ _ _ _ _ _ _ here (took .result) _ (took .ensures) (loop .inv .2) enough (c .if2 .taken))
 
 add-written : tie.Need-add-written Inv-loop μ-loop
 add-written c =
     let loop = c .before .before .before .before .before .before .before .before .before .before .before .before .before .before .before .before .before .before .before .loop in
     let said = c .before .before .before .before .before .before .answer-held in
     omega (arith, loop .inv .2 .size, c .before .before .before .before .before .before .before .before .before .before .before .before .before .before .before .before .before .before .before .before .before .before .before .before .before .good .1 .1 .1 .1 .0 .0, placed-within (loop .out) (said .last .1 .1 .1 .1 .1 .0) _ (loop .written) (said .result .written) (loop .inv .2 .within) (said .kept .1 .1 .1 .1 .1 .0) (said .ensures .1 .0))
-
-nothing-requires : tie.Need-nothing-requires Inv-loop μ-loop
-nothing-requires c κs = search needs
 
 loop-less-2 : tie.Need-loop-less-2 Inv-loop μ-loop
 loop-less-2 c = omega (arith, forward (c .before .before .before .before .before .before .before .before .before .before .before .before .before .before .before .before), c .before .before .before .before .before .before .before .before .before .before .before .before .before .before .before .before .before .before .before .loop-test .taken)
@@ -87,30 +66,12 @@ loop-again-2 c =
     let enough = p .before .before .if1 .left in
     let took = p .take-part in
     let said = c .before .before .before .before .before .before .before .answer-held in
-    (took .kept .1 .0 ∙ loop .inv .0, said .kept .1 .1 .1 .1 .0 ∙ loop .inv .1, turn-answered trayLines _ _ _ _ _ (listOf (loop .tray) (loop .ended)) _ _ _ _ here (took .result) _ (took .ensures) (loop .inv .2) enough (c .before .before .before .before .before .before .before .before .before .before .before .if2 .left) _ _ (said .kept .1 .1 .1 .1 .1 .0) _ (c .nothing .ensures) (listOf (said .result .tray) (said .result .ended)) _ (came trayLines (listOf (loop .tray) (loop .ended)) _ _ _ (said .ensures .0)) (said .ensures .1 .0))
-
-same-length : tie.Need-same-length Inv-loop μ-loop
-same-length c = search needs
-
-same-length-2 : tie.Need-same-length-2 Inv-loop μ-loop
-same-length-2 c = search needs
-
-same-length-3 : tie.Need-same-length-3 Inv-loop μ-loop
-same-length-3 c = search needs
+    (took .kept .1 .0 ∙ loop .inv .0, said .kept .1 .1 .1 .1 .0 ∙ loop .inv .1, turn-answered (listTeller trayList) _ _ _ _ _ (listOf (loop .tray) (loop .ended)) _ _ _ _ here (took .result) _ (took .ensures) (loop .inv .2) enough (c .before .before .before .before .before .before .before .before .before .before .before .if2 .left) _ _ (said .kept .1 .1 .1 .1 .1 .0) _ (c .nothing .ensures) (listOf (said .result .tray) (said .result .ended)) _ (came trayLines (listOf (loop .tray) (loop .ended)) _ _ _ (said .ensures .0)) (said .ensures .1 .0))
 
 returns : tie.Need-returns Inv-loop μ-loop
 returns c =
     let loop = c .before .loop in
     (ended trayLines _ _ _ _ _ _ _ _ (loop .inv .2) (at-over trayLines _ _ _ _ (c .loop-test .left)), loop .inv .1)
-
-same-length-4 : tie.Need-same-length-4 Inv-loop μ-loop
-same-length-4 c = search needs
-
-same-length-5 : tie.Need-same-length-5 Inv-loop μ-loop
-same-length-5 c = search needs
-
-same-length-6 : tie.Need-same-length-6 Inv-loop μ-loop
-same-length-6 c = search needs
 
 returns-2 : tie.Need-returns-2 Inv-loop μ-loop
 returns-2 c =
@@ -121,26 +82,8 @@ pub gather-spec : {M : Type 1} → statement M
 gather-spec =
     tie.close
     (tie.spec
-    Inv-loop
-    μ-loop
-    loop-holds
-    sub-if1
-    take-part-requires
-    loop-less
-    loop-again
-    sub-answer-held
-    part-answer-held-start
-    part-answer-held-end
-    answer-held-requires
-    add-written
-    nothing-requires
-    loop-less-2
-    loop-again-2
-    same-length
-    same-length-2
-    same-length-3
-    returns
-    same-length-4
-    same-length-5
-    same-length-6
-    returns-2)
+    Inv-loop μ-loop loop-holds (λ c. search needs) (λ c κs. search needs) loop-less loop-again
+    (λ c. search needs) (λ c. search needs) (λ c. search needs) (λ c κs. search needs)
+    add-written (λ c κs. search needs) loop-less-2 loop-again-2 (λ c. search needs)
+    (λ c. search needs) (λ c. search needs) returns (λ c. search needs) (λ c. search needs)
+    (λ c. search needs) returns-2)

@@ -33,20 +33,8 @@ loop-holds c = (omega arith, refl)
 add-end : tie.Need-add-end Inv-loop μ-loop
 add-end c = omega (arith, row-fits c .0)
 
-sub-set-after : tie.Need-sub-set-after Inv-loop μ-loop
-sub-set-after c = omega arith
-
-part-set-after-start : tie.Need-part-set-after-start Inv-loop μ-loop
-part-set-after-start c = omega arith
-
 part-set-after-end : tie.Need-part-set-after-end Inv-loop μ-loop
 part-set-after-end c = omega (arith, row-fits (c .before .before) .0)
-
-set-after-requires : tie.Need-set-after-requires Inv-loop μ-loop
-set-after-requires c κs = search needs
-
-meets-requires : tie.Need-meets-requires Inv-loop μ-loop
-meets-requires c κs = search needs
 
 returns : tie.Need-returns Inv-loop μ-loop
 returns c =
@@ -56,12 +44,6 @@ returns c =
     sym (x .inv .1
     ∙ row-fails (a .t1) (a .width) (x .left) (x .at) (a .cells .now) (start .loop-test .taken) _ (c .before .before .set-after .ensures)
     _ (c .before .meets .ensures) (not-true _ (c .if1 .taken)))
-
-sub-left : tie.Need-sub-left Inv-loop μ-loop
-sub-left c = omega arith
-
-loop-less : tie.Need-loop-less Inv-loop μ-loop
-loop-less c = omega arith
 
 loop-again : tie.Need-loop-again Inv-loop μ-loop
 loop-again c =
@@ -84,17 +66,6 @@ pub band-passes-spec : {M : Type 1} → statement M
 band-passes-spec =
     tie.close
     (tie.spec
-    Inv-loop
-    μ-loop
-    loop-holds
-    add-end
-    sub-set-after
-    part-set-after-start
-    part-set-after-end
-    set-after-requires
-    meets-requires
-    returns
-    sub-left
-    loop-less
-    loop-again
-    returns-2)
+    Inv-loop μ-loop loop-holds add-end (λ c. omega arith) (λ c. omega arith) part-set-after-end
+    (λ c κs. search needs) (λ c κs. search needs) returns (λ c. omega arith) (λ c. omega arith)
+    loop-again returns-2)

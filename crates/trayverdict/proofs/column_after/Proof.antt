@@ -38,17 +38,8 @@ add-successor c = omega (arith, row-fits c .0)
 shared-slice-read-successor : tie.Need-shared-slice-read-successor Inv-loop μ-loop
 shared-slice-read-successor c = omega (arith, row-fits (c .before) .0)
 
-successor-requires : tie.Need-successor-requires Inv-loop μ-loop
-successor-requires c κs = search needs
-
 add-at : tie.Need-add-at Inv-loop μ-loop
 add-at c = omega (arith, row-fits (c .before .before) .0)
-
-sub-left : tie.Need-sub-left Inv-loop μ-loop
-sub-left c = omega arith
-
-loop-less : tie.Need-loop-less Inv-loop μ-loop
-loop-less c = omega arith
 
 loop-again : tie.Need-loop-again Inv-loop μ-loop
 loop-again c =
@@ -72,14 +63,5 @@ pub column-after-spec : {M : Type 1} → statement M
 column-after-spec =
     tie.close
     (tie.spec
-    Inv-loop
-    μ-loop
-    loop-holds
-    add-successor
-    shared-slice-read-successor
-    successor-requires
-    add-at
-    sub-left
-    loop-less
-    loop-again
-    returns)
+    Inv-loop μ-loop loop-holds add-successor shared-slice-read-successor (λ c κs. search needs)
+    add-at (λ c. omega arith) (λ c. omega arith) loop-again returns)

@@ -22,24 +22,12 @@ loop-holds : tie.Need-loop-holds Inv-loop μ-loop
 unfolding rowsUpTo columnOf
 loop-holds c = (omega arith, refl)
 
-row-count-requires : tie.Need-row-count-requires Inv-loop μ-loop
-row-count-requires c κs = search needs
-
-mul-column-after : tie.Need-mul-column-after Inv-loop μ-loop
-mul-column-after c = omega arith
-
 column-after-requires : tie.Need-column-after-requires Inv-loop μ-loop
 column-after-requires c κs =
     let a = c .before .before .before .before in (
       band-fits (c .before .before .loop .p) (c .row-count .result) (a .args .width) (length (a .args .cells .now)) (omega arith) (c .row-count .ensures .1) (a .pre .1) (a .pre .0),
       a .pre .3,
     )
-
-add-p : tie.Need-add-p Inv-loop μ-loop
-add-p c = omega arith
-
-loop-less : tie.Need-loop-less Inv-loop μ-loop
-loop-less c = omega arith
 
 loop-again : tie.Need-loop-again Inv-loop μ-loop
 loop-again c =
@@ -60,13 +48,5 @@ pub column-set-spec : {M : Type 1} → statement M
 column-set-spec =
     tie.close
     (tie.spec
-    Inv-loop
-    μ-loop
-    loop-holds
-    row-count-requires
-    mul-column-after
-    column-after-requires
-    add-p
-    loop-less
-    loop-again
-    returns)
+    Inv-loop μ-loop loop-holds (λ c κs. search needs) (λ c. omega arith) column-after-requires
+    (λ c. omega arith) (λ c. omega arith) loop-again returns)

@@ -26,21 +26,12 @@ column-set-requires c κs =
     let start = c .before .before .before .before .before in
     (start .pre .0, start .pre .1, start .pre .2, c .before .before .loop-test .taken)
 
-meets-requires : tie.Need-meets-requires Inv-loop μ-loop
-meets-requires c κs = search needs
-
 returns : tie.Need-returns Inv-loop μ-loop
 returns c =
     let x = c .before .before .before .before .before .before .loop in
     let a = c .before .before .before .before .before .before .before .before .args in
     sym (columns-fail (a .t1) (rowsUpTo (bandIn (a .width) (a .rows .now) (a .cells .now)) (a .bands)) (a .width) (x .c) (omega arith)
     (rw (← c .before .before .column-set .ensures, ← c .before .meets .ensures) (not-true _ (c .if1 .taken))))
-
-add-c : tie.Need-add-c Inv-loop μ-loop
-add-c c = omega arith
-
-loop-less : tie.Need-loop-less Inv-loop μ-loop
-loop-less c = omega arith
 
 loop-again : tie.Need-loop-again Inv-loop μ-loop
 loop-again c =
@@ -62,13 +53,5 @@ pub columns-pass-spec : {M : Type 1} → statement M
 columns-pass-spec =
     tie.close
     (tie.spec
-    Inv-loop
-    μ-loop
-    loop-holds
-    column-set-requires
-    meets-requires
-    returns
-    add-c
-    loop-less
-    loop-again
-    returns-2)
+    Inv-loop μ-loop loop-holds column-set-requires (λ c κs. search needs) returns
+    (λ c. omega arith) (λ c. omega arith) loop-again returns-2)

@@ -22,12 +22,6 @@ loop-holds : tie.Need-loop-holds Inv-loop μ-loop
 unfolding rowsUpTo rowsPass
 loop-holds c = (omega arith, refl)
 
-row-count-requires : tie.Need-row-count-requires Inv-loop μ-loop
-row-count-requires c κs = search needs
-
-mul-band-passes : tie.Need-mul-band-passes Inv-loop μ-loop
-mul-band-passes c = omega arith
-
 band-passes-requires : tie.Need-band-passes-requires Inv-loop μ-loop
 band-passes-requires c κs =
     let start = c .before .before .before .before in
@@ -40,12 +34,6 @@ returns c =
     let a = c .before .before .before .before .before .before .args in
     sym (pass-fails (a .rule) (bandIn (a .width) (a .rows .now) (a .cells .now)) (a .bands) (x .p) (omega arith)
     (rw (← c .before .before .row-count .ensures .0, ← c .before .band-passes .ensures) (not-true _ (c .if1 .taken))))
-
-add-p : tie.Need-add-p Inv-loop μ-loop
-add-p c = omega arith
-
-loop-less : tie.Need-loop-less Inv-loop μ-loop
-loop-less c = omega arith
 
 loop-again : tie.Need-loop-again Inv-loop μ-loop
 loop-again c =
@@ -66,14 +54,5 @@ pub rows-pass-spec : {M : Type 1} → statement M
 rows-pass-spec =
     tie.close
     (tie.spec
-    Inv-loop
-    μ-loop
-    loop-holds
-    row-count-requires
-    mul-band-passes
-    band-passes-requires
-    returns
-    add-p
-    loop-less
-    loop-again
-    returns-2)
+    Inv-loop μ-loop loop-holds (λ c κs. search needs) (λ c. omega arith) band-passes-requires
+    returns (λ c. omega arith) (λ c. omega arith) loop-again returns-2)

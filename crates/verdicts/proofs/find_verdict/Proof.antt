@@ -7,17 +7,8 @@ use Rattle.verdicts.proofs.find_verdict.Tie as tie
 returns : tie.Need-returns
 returns c = search (needs, verdict-21)
 
-empty-places-requires : tie.Need-empty-places-requires
-empty-places-requires c κs = search needs
-
 returns-2 : tie.Need-returns-2
 returns-2 c = search (needs, verdict-waiting)
-
-summed-count-requires : tie.Need-summed-count-requires
-summed-count-requires c κs = search needs
-
-says-yes-requires : tie.Need-says-yes-requires
-says-yes-requires c κs = search needs
 
 returns-3 : tie.Need-returns-3
 returns-3 c = search (needs, verdict-yes)
@@ -29,10 +20,5 @@ pub find-verdict-spec : {M : Type 1} → statement M
 find-verdict-spec =
     tie.close
     (tie.spec
-    returns
-    empty-places-requires
-    returns-2
-    summed-count-requires
-    says-yes-requires
-    returns-3
-    returns-4)
+    returns (λ c κs. search needs) returns-2 (λ c κs. search needs) (λ c κs. search needs)
+    returns-3 returns-4)

@@ -7,14 +7,11 @@ use Rattle.verdicts.proofs.report_by_bytes.Tie as tie
 returns : tie.Need-returns
 returns c = search (needs, bytes-none)
 
-div-t5 : tie.Need-div-t5
-div-t5 c = search needs
-
-rem-t6 : tie.Need-rem-t6
-rem-t6 c = search needs
-
 returns-2 : tie.Need-returns-2
 returns-2 c = search (needs, bytes-some)
 
 pub report-by-bytes-spec : {M : Type 1} → statement M
-report-by-bytes-spec = tie.close (tie.spec returns div-t5 rem-t6 returns-2)
+report-by-bytes-spec =
+    tie.close
+    (tie.spec
+    returns (λ c. search needs) (λ c. search needs) returns-2)

@@ -7,26 +7,14 @@ use Rattle.wordfields.proofs.Words.{within, even-length, short-length, 
 use Rattle.wordfields.proofs.read_words.Statement.{statement}
 use Rattle.wordfields.proofs.read_words.Tie as tie
 
-read-bytes-requires : tie.Need-read-bytes-requires
-read-bytes-requires c κs = search needs
-
-enum-known-read : tie.Need-enum-known-read
-enum-known-read c = search needs
-
 enum-told : tie.Need-enum-told
 enum-told c = search needs
-
-same-length : tie.Need-same-length
-same-length c = search needs
 
 returns : tie.Need-returns
 returns c =
     let s = c .before .before .before .before .before .before .before .before .before in
     let b = c .before .before .before .before .read-bytes in
     not-bytes (length (s .args .words .now)) (s .args .field .now) _ _ (b .result) (b .ensures) (s .pre .0) (c .enum-told .given .1)
-
-same-length-2 : tie.Need-same-length-2
-same-length-2 c = search needs
 
 returns-2 : tie.Need-returns-2
 returns-2 c =
@@ -61,12 +49,6 @@ fill-words-requires c κs =
     let size = length-take-le (r .0 .0) (b .last .1 .0) (within (length (s .args .words .now)) (s .pre .0) (b .kept .1 .0) few) in
     (even-length size (c .before .before .if1 .left), short-length size few, s .pre .1)
 
-same-length-3 : tie.Need-same-length-3
-same-length-3 c = search needs
-
-same-length-4 : tie.Need-same-length-4
-same-length-4 c = search needs
-
 returns-3 : tie.Need-returns-3
 returns-3 c =
     let s = c .before .before .before .before .before .before .before .before .before .before .before .before .before .before .before .before in
@@ -78,16 +60,6 @@ pub read-words-spec : {M : Type 1} → statement M
 read-words-spec =
     tie.close
     (tie.spec
-    read-bytes-requires
-    enum-known-read
-    enum-told
-    same-length
-    returns
-    same-length-2
-    returns-2
-    slice-reshare-prefix-fill-words
-    slice-aggregate-fill-words
-    fill-words-requires
-    same-length-3
-    same-length-4
-    returns-3)
+    (λ c κs. search needs) (λ c. search needs) enum-told (λ c. search needs) returns
+    (λ c. search needs) returns-2 slice-reshare-prefix-fill-words slice-aggregate-fill-words
+    fill-words-requires (λ c. search needs) (λ c. search needs) returns-3)
