@@ -1,0 +1,137 @@
+"""A list of calls on one board, a line each, with names:
+
+    open 2
+    deliver 1 0 purge red     # place, revision, events; - for no events, @FILE for those of a file
+    withdraw 1
+    verdict
+
+It stops at the first line that is no call or is refused. Its status is that of the verdict with which it ends."""
+
+import re
+import sys
+
+from ..judge import Judge, Waiting
+from ..refusals import Refused
+from .errors import Failed, reason, shown
+from .rules import IDLE
+from .traces import File, pieces
+from .words import no_event
+
+_LONGEST_LINE = 1 << 22
+_NUMBER = re.compile("[0-9]{1,20}")
+
+
+class Board:
+    """A judge with the rule of a list, and the chunks that stand."""
+
+    def __init__(self, named):
+        self.named, self.judge, self.chunks = named, Judge(), {}
+        self.table = dict(named.symbols(), idle=IDLE)
+        try:
+            self.judge.install(named.rule)
+        except Refused as refused:
+            raise Failed(f"no board takes the rule ({refused})", named.name) from None
+
+    def answer(self, line):
+        """The answer to a line without its comment, and the verdict where it is one. Failed where it is no call, Refused
+        where the call is refused."""
+        word, *fields = line.split(None, 3)
+        calls = {"open": (self.open, 1), "deliver": (self.deliver, 3), "withdraw": (self.withdraw, 1), "verdict": (self.verdict, 0)}
+        if word not in calls:
+            raise Failed(f'no call "{shown(word)}" (open, deliver, withdraw, verdict)')
+        call, due = calls[word]
+        if len(fields) != due or (due == 1 and " " in fields[0]):
+            raise Failed(f"{word} takes {_DUE[word]}")
+        return call(*fields)
+
+    def open(self, places):
+        self.judge.open(_number(places, "places"))
+        self.chunks = {}
+        return "accepted", None
+
+    def deliver(self, place, revision, events):
+        place, revision, chunk = _number(place, "place"), _number(revision, "revision", 2**32), self.chunk(events)
+        self.judge.deliver(place, revision, chunk)
+        self.chunks[place] = chunk
+        return f"accepted: {len(chunk.replace(bytes([IDLE]), b''))} events", None
+
+    def chunk(self, events):
+        """The bytes of a chunk: those of events, or of the file that is named."""
+        if events == "-":
+            return b""
+        if events.startswith("@"):
+            read = pieces(File(events[1:].strip()), self.named.symbols(), self.named.events, False, lambda *_: None)
+            return b"".join(piece.codes for piece in read)
+        words = events.replace(",", " ").split()
+        unknown = next((word for word in words if word not in self.table), None)
+        if unknown is not None:
+            raise Failed(no_event(unknown, self.named.events))
+        return bytes(self.table[word] for word in words)
+
+    def withdraw(self, place):
+        self.judge.withdraw(_number(place, "place"))
+        self.chunks.pop(_number(place, "place"), None)
+        return "accepted", None
+
+    def verdict(self):
+        verdict, lost = self.judge.verdict(), self.lost()
+        if isinstance(verdict, Waiting):
+            return f"waiting for {verdict.places} place{'s' * (verdict.places != 1)}{lost}", verdict
+        word = "yes" if verdict.is_yes else "no"
+        return f"{word}: {verdict.count} transitions, {verdict.bytes} events{lost}", verdict
+
+    def lost(self):
+        """Where the trace is lost, in words."""
+        found = self.judge.diagnose()
+        if not found.is_lost:
+            return ""
+        at = self.judge.locate(found.place, self.chunks[found.place]) if found.place in self.chunks else 0
+        if not at:
+            return "; the rule accepts no trace at all"
+        event = self.named.events[self.chunks[found.place][at - 1]]
+        return f"; lost at place {found.place}, byte {at} of its chunk: {event}"
+
+
+_DUE = {
+    "open": "a number of places",
+    "deliver": "a place, a revision and events, - for none or @FILE for those of a file",
+    "withdraw": "a place",
+    "verdict": "nothing",
+}
+
+
+def _number(word, what, below=2**64):
+    if not _NUMBER.fullmatch(word) or int(word) >= below:
+        raise Failed(f'"{shown(word)}" is no number for {what}')
+    return int(word)
+
+
+def lines(path):
+    """The lines of a list with their numbers, - for standard input, as they come."""
+    try:
+        with open(sys.stdin.fileno() if path == "-" else path, "rb", closefd=path != "-") as source:
+            for number, line in enumerate(iter(lambda: source.readline(_LONGEST_LINE + 1), b""), 1):
+                if len(line) > _LONGEST_LINE:
+                    raise Failed(f"a line has over {_LONGEST_LINE} bytes", shown(path), number)
+                yield number, line.decode("utf-8", "backslashreplace").partition("#")[0].strip()
+    except OSError as error:
+        raise Failed(reason(error), shown(path, 4096)) from None
+
+
+def run(named, path, output):
+    """Runs a list; the verdict with which it ends. Each answer is written before the next line is read."""
+    board, last, name = Board(named), None, shown(path, 4096)
+    for number, line in lines(path):
+        if not line:
+            continue
+        try:
+            said, last = board.answer(line)
+        except Refused as refused:
+            raise Failed(str(refused), name, number) from None
+        except Failed as failed:
+            raise Failed(str(failed), name, number) from None
+        output.line(said)
+        output.flush()
+    if last is None:
+        raise Failed("the list does not end with a verdict", name)
+    return last

@@ -1,0 +1,151 @@
+"""The tin's record: what was judged of a trace, by which rule, and so that it can be judged again."""
+
+import datetime
+import json
+import os
+
+from .. import _library
+from . import judging, words
+from .errors import Failed, reason, shown
+from .rules import NamedRule
+from .said import NO, YES, counts, reason_of, where
+
+FORMAT = "bellbadger record 1"
+# what two records of one trace need not have in common
+_FREE = ("time", "library")
+_LONGEST = 1 << 22
+
+
+def made(named, judged, binary, folder):
+    """The record, as JSON has it; files are named as seen from the folder in which it will stand."""
+    place = where(named, judged)
+    if place and "file" in place:
+        place["file"] = _seen(place["file"], folder)
+    return {
+        "format": FORMAT,
+        "rule": {"name": os.path.basename(named.name), "words": named.words(), "file": named.file.hex(), "sha256": named.sha256},
+        "events": list(named.events),
+        "trace": {
+            "form": "binary" if binary else "text",
+            "files": [{"name": _seen(file.path, folder), "sha256": file.sha256, "length": file.length} for file in judged.files],
+        },
+        "verdict": YES if judged.is_yes else NO,
+        **counts(judged),
+        "reason": reason_of(named, judged),
+        "where": place,
+        "library": ".".join(map(str, _library.version())),
+        "time": datetime.datetime.now(datetime.timezone.utc).isoformat(timespec="seconds"),
+    }
+
+
+def _seen(path, folder):
+    return path if path == "-" else os.path.relpath(path, folder)
+
+
+def text_of(record):
+    return json.dumps(record, indent=2, ensure_ascii=False) + "\n"
+
+
+def write(path, text, replace):
+    """Writes a file whole or not at all. One that is there stays, unless it is to be replaced."""
+    part = f"{path}.part"
+    try:
+        if os.path.lexists(path) and not replace:
+            raise Failed("it is there already; --replace writes it anew", shown(path, 4096))
+        with open(part, "w", encoding="utf-8", errors="surrogateescape") as file:
+            file.write(text)
+            file.flush()
+            os.fsync(file.fileno())
+        os.replace(part, path)
+    except OSError as error:
+        _remove(part)
+        raise Failed(reason(error), shown(path, 4096)) from None
+
+
+def _remove(path):
+    try:
+        os.unlink(path)
+    except OSError:
+        pass
+
+
+def load(path):
+    """A record from its file, seen to have the fields of one."""
+    name = shown(path, 4096)
+    try:
+        with open(path, "rb") as file:
+            data = file.read(_LONGEST + 1)
+        record = json.loads(data.decode("utf-8", "surrogateescape")) if len(data) <= _LONGEST else None
+    except OSError as error:
+        raise Failed(reason(error), name) from None
+    except (ValueError, RecursionError):
+        raise Failed("it is no JSON", name) from None
+    if not _is_record(record):
+        raise Failed("it is no record, or one of another version", name)
+    return record
+
+
+def _is_record(record):
+    kinds = {"rule": dict, "events": list, "trace": dict, "verdict": str, "library": str, "time": str}
+    if not isinstance(record, dict) or record.get("format") != FORMAT:
+        return False
+    if not all(isinstance(record.get(key), kind) for key, kind in kinds.items()):
+        return False
+    files = record["trace"].get("files")
+    strings = [record["rule"].get("name"), record["rule"].get("words")]
+    if not isinstance(files, list) or not files or not all(isinstance(each, dict) for each in files):
+        return False
+    return all(isinstance(each, str) for each in strings + [file.get("name") for file in files])
+
+
+def rule_in(record, name):
+    """The rule in a record, read from its words."""
+    try:
+        made_of = words.parse(record["rule"]["words"])
+    except Failed as failed:
+        raise Failed(f"rule.words:{failed.lines()}", name) from None
+    named = record["events"] != [str(number) for number in range(made_of.rule.k)]
+    return NamedRule(record["rule"]["name"], made_of.rule, made_of.events, made_of.states, named)
+
+
+def again(path, traces, progress):
+    """A record, what is judged anew of its trace, and the first field that differs, or None. traces: other files to
+    judge instead of those that it names."""
+    record, folder = load(path), os.path.dirname(path) or "."
+    named = rule_in(record, shown(path, 4096))
+    paths = traces or [os.path.join(folder, file["name"]) for file in record["trace"]["files"]]
+    binary = record["trace"].get("form") == "binary"
+    judged = judging.judge(named, paths, binary, progress)
+    anew = made(named, judged, binary, folder)
+    return judged, first_difference(_renamed(record, bool(traces)), _renamed(anew, bool(traces)))
+
+
+def _renamed(record, other_files):
+    """The record, without the names of files where others are judged instead of them."""
+    if not other_files:
+        return record
+    copy = json.loads(json.dumps(record))
+    for file in copy["trace"]["files"]:
+        file.pop("name", None)
+    if isinstance(copy.get("where"), dict):
+        copy["where"].pop("file", None)
+    return copy
+
+
+def first_difference(one, two, field=""):
+    """The first field in which two records differ, with both values; None where there is none."""
+    if isinstance(one, dict) and isinstance(two, dict):
+        keys = [key for key in two if field or key not in _FREE] + [key for key in one if key not in two]
+        pairs = ((f"{field}.{key}" if field else key, one.get(key, _MISSING), two.get(key, _MISSING)) for key in keys)
+    elif isinstance(one, list) and isinstance(two, list) and len(one) == len(two):
+        pairs = ((f"{field}[{at}]", *both) for at, both in enumerate(zip(one, two)))
+    else:
+        return None if type(one) is type(two) and one == two else (field, _short(one), _short(two))
+    return next(filter(None, (first_difference(*both, name) for name, *both in pairs)), None)
+
+
+_MISSING = object()
+
+
+def _short(value):
+    return "nothing" if value is _MISSING else shown(json.dumps(value, ensure_ascii=False), 100)

@@ -1,0 +1,80 @@
+"""The answers to a trace, in words and as JSON."""
+
+import json
+
+from .errors import Failed, listed, shown
+
+YES, NO, ERROR = "yes", "no", "error"
+
+
+def title(paths):
+    """What a trace is called on its line: its file, or how many chunks it has."""
+    return shown(paths[0], 4096) if len(paths) == 1 else f"trace of {len(paths)} chunks"
+
+
+def awaited(named, judged):
+    """red, blue or the end: what could have come."""
+    names = [named.events[symbol] for symbol in judged.expected] + (["the end"] if judged.could_end else [])
+    return listed(names)
+
+
+def reason_of(named, judged):
+    """Why a trace is not accepted, or None."""
+    if judged.is_yes:
+        return None
+    if judged.lost is None:
+        return f"the trace ends too early; expected {awaited(named, judged)}"
+    if judged.lost.place is None:
+        return "the rule accepts no trace at all"
+    return f"{named.events[judged.lost.symbol]} cannot come here; expected {awaited(named, judged)}"
+
+
+def line(named, paths, judged):
+    """The line for a trace: FILE: yes, FILE:LINE: no: .."""
+    if judged.is_yes:
+        return f"{title(paths)}: yes" + (" (the trace has no events)" if judged.events == 0 else "")
+    lost = judged.lost
+    place = lost.place.shown() if lost and lost.place else title(paths)
+    return f"{place}: no: {reason_of(named, judged)}"
+
+
+def error_line(paths, failed):
+    """The line for a trace that was not judged."""
+    place = failed.place() if failed.name is not None else title(paths)
+    return f"{place}: error: {failed.message}"
+
+
+def where(named, judged):
+    """The place of a no as JSON has it: where the trace is lost, or its end; None of a yes."""
+    if judged.is_yes:
+        return None
+    lost, found = judged.lost, {}
+    if lost and lost.place:
+        place = lost.place
+        found = {"file": place.name, "line": place.line, "column": place.column, "byte": place.byte}
+        found = {key: value for key, value in found.items() if value is not None}
+        found.update(number=lost.number, event=named.events[lost.symbol])
+    expected = [named.events[symbol] for symbol in judged.expected]
+    return {"lost": lost is not None, **found, "expected": expected, "could_end": judged.could_end}
+
+
+def counts(judged):
+    """The board's count of transitions and its number of events; the first is None where no board takes the rule."""
+    return {"count": None if judged.counted is None else judged.counted.count, "bytes": judged.events}
+
+
+def as_json(named, paths, judged):
+    """One object for a trace that was judged."""
+    verdict = YES if judged.is_yes else NO
+    answer = {"trace": list(paths) if len(paths) > 1 else paths[0], "verdict": verdict, **counts(judged)}
+    if not judged.is_yes:
+        answer.update(reason=reason_of(named, judged), where=where(named, judged))
+    return json.dumps(answer)
+
+
+def error_as_json(paths, failed):
+    """One object for a trace that was not judged."""
+    answer = {"trace": list(paths) if len(paths) > 1 else paths[0], "verdict": ERROR, "reason": failed.message}
+    places = {"file": failed.name, "line": failed.line, "column": failed.column, "byte": failed.byte}
+    answer.update((key, value) for key, value in places.items() if value is not None)
+    return json.dumps(answer)

@@ -1,0 +1,210 @@
+"""Traces from files of any length, in blocks: every byte is read, and every word is an event, an idle mark or an error.
+
+A text has one event a line, or events with white space or commas between them, by name or by number; `idle` is an
+idle mark, and # begins a comment. A binary trace has a byte for each event, and 255 for an idle mark.
+"""
+
+import hashlib
+import itertools
+import os
+import re
+import stat
+import sys
+from contextlib import contextmanager
+from dataclasses import dataclass
+
+from .errors import Failed, reason, shown
+from .rules import IDLE
+from .words import LONGEST_NAME, no_event
+
+BLOCK = 65536
+_LONGEST_WORD = 4 * LONGEST_NAME
+_COMMENT = re.compile(rb"#[^\n]*")
+_WORD = re.compile(rb"[^\s,]+")
+_TAIL = re.compile(rb"[^\s,]*\Z")
+_GAP = re.compile(rb",\s*,")
+_BYTE_ORDER_MARK = b"\xef\xbb\xbf"
+
+
+@dataclass(frozen=True)
+class Place:
+    """Where something stands in a trace: line and column of a text, counted from 1, or the byte of a binary trace.
+    first: whether it is the first word of its line, so that the line says where."""
+
+    name: str
+    line: object = None
+    column: object = None
+    first: bool = True
+    byte: object = None
+
+    def shown(self):
+        if self.byte is not None:
+            return f"{self.name}: byte {self.byte}"
+        return f"{self.name}:{self.line}" + ("" if self.first else f":{self.column}")
+
+    def failed(self, message):
+        return Failed(message, self.name, self.line, None if self.first else self.column, self.byte)
+
+
+@dataclass(frozen=True)
+class Piece:
+    """Some bytes of a trace, at most 65,536, as the proved functions take them, and where each of them stands."""
+
+    codes: bytes
+    place: object
+
+
+@dataclass
+class File:
+    """What was read of a file; it is known whole once its last piece was taken."""
+
+    path: str
+    length: int = 0
+    sha256: str = ""
+
+
+@contextmanager
+def opened(path):
+    """The file of a trace, - for standard input; an error of the system is Failed, with the name."""
+    try:
+        if path == "-":
+            yield sys.stdin.buffer
+        else:
+            with open(path, "rb") as file:
+                yield file
+    except OSError as error:
+        raise Failed(reason(error), shown(path, 4096)) from None
+
+
+def pieces(file, table, events, binary, progress):
+    """The pieces of one file. Failed where a byte or a word is no event, and where the file was changed meanwhile."""
+    name = shown(file.path, 4096)
+    with opened(file.path) as source:
+        before = _stamp(source)
+        blocks = _blocks(source, file, before, progress)
+        yield from _binary(blocks, name, table, events) if binary else _text(blocks, name, table, events)
+        if before != _stamp(source) or (before and before[0] != file.length):
+            raise Failed("the file was changed while it was read", name)
+
+
+def _stamp(source):
+    """Size and time of change of a file on a disk; None of a pipe or an empty file."""
+    status = os.fstat(source.fileno())
+    return (status.st_size, status.st_mtime_ns) if stat.S_ISREG(status.st_mode) and status.st_size else None
+
+
+def _blocks(source, file, stamp, progress):
+    digest = hashlib.sha256()
+    for block in iter(lambda: source.read(BLOCK), b""):
+        digest.update(block)
+        file.length += len(block)
+        progress(file.path, file.length, stamp[0] if stamp else None)
+        yield block
+    file.sha256 = digest.hexdigest()
+
+
+def _binary(blocks, name, table, events):
+    known, start = bytes(set(table.values()) | {IDLE}), 0
+    for block in blocks:
+        foreign = block.translate(None, known)
+        if foreign:
+            at = start + block.index(foreign[:1]) + 1
+            raise Place(name, byte=at).failed(f"no event {foreign[0]} ({', '.join(events)})")
+        yield Piece(block, _byte_places(name, start))
+        start += len(block)
+
+
+def _byte_places(name, start):
+    return lambda at: Place(name, byte=start + at + 1)
+
+
+def _text(blocks, name, table, events):
+    codes = {word.encode("utf-8"): code for word, code in table.items()}
+    codes[b"idle"] = IDLE
+    for text, cursor in _whole_words(blocks, name):
+        words, places = text.replace(b",", b" ").split(), _word_places(text, cursor)
+        try:
+            found = bytes(map(codes.__getitem__, words))
+        except KeyError:
+            at = next(at for at, word in enumerate(words) if word not in codes)
+            unknown = words[at].decode("utf-8", "backslashreplace")
+            raise places(at).failed(no_event(unknown, events)) from None
+        yield Piece(found, places)
+
+
+@dataclass(frozen=True)
+class Cursor:
+    """Where a part of a text begins: its line, how many characters of the line were before it, and whether a word was."""
+
+    name: str
+    line: int = 1
+    before: int = 0
+    word: bool = False
+
+    def behind(self, text):
+        """Where the part begins that follows this one."""
+        lines, last = text.count(b"\n"), text[text.rfind(b"\n") + 1 :]
+        begun, word = (0, False) if lines else (self.before, self.word)
+        return Cursor(self.name, self.line + lines, begun + _characters(last), word or bool(_WORD.search(last)))
+
+    def place(self):
+        """That of the word which begins here."""
+        return Place(self.name, self.line, self.before + 1, not self.word)
+
+
+def _characters(text):
+    return len(text.decode("utf-8", "replace"))
+
+
+def _word_places(text, cursor):
+    def place(at):
+        found = next(itertools.islice(_WORD.finditer(text), at, None))
+        return cursor.behind(text[: found.start()]).place()
+
+    return place
+
+
+def _whole_words(blocks, name):
+    """The text without its comments, cut between words; each part with the place where it begins."""
+    cursor, carried, comment, last = Cursor(name), b"", False, b""
+    for block in itertools.chain(_unmarked(blocks), [None]):
+        text, comment = _uncommented(block or b"", comment)
+        text = carried + text
+        cut = len(text) if block is None else _TAIL.search(text, max(0, len(text) - _LONGEST_WORD)).start()
+        text, carried = text[:cut], text[cut:]
+        if len(carried) >= _LONGEST_WORD:
+            raise cursor.behind(text).place().failed("a word is longer than any name")
+        last = _last_sign(text, last, cursor)
+        yield text, cursor
+        cursor = cursor.behind(text)
+    if last == b",":
+        raise cursor.place().failed("an event is missing behind the last comma")
+
+
+def _unmarked(blocks):
+    """The blocks without the mark with which some editors begin a text."""
+    for number, block in enumerate(blocks):
+        yield block[3:] if number == 0 and block.startswith(_BYTE_ORDER_MARK) else block
+
+
+def _uncommented(block, comment):
+    """The block without comments, and whether it ends within one; comment says whether it begins within one."""
+    if comment:
+        end = block.find(b"\n")
+        if end < 0:
+            return b"", True
+        block = block[end:]
+    if b"#" not in block:
+        return block, False
+    return _COMMENT.sub(b"", block), block.rfind(b"#") > block.rfind(b"\n")
+
+
+def _last_sign(text, last, cursor):
+    """The last byte so far that is no space. Before a comma there is an event: one that is missing may have been lost."""
+    signs = text.strip()
+    if b"," in signs:
+        gap = _GAP.search(text)
+        early = text.index(b",") if signs.startswith(b",") and last in (b"", b",") else gap and gap.end() - 1
+        if early is not None:
+            raise cursor.behind(text[:early]).place().failed("an event is missing before the comma")
+    return signs[-1:] or last
