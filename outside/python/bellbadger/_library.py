@@ -2,6 +2,7 @@
 
 import ctypes
 import os
+import sys
 from pathlib import Path
 
 # what this package was written for, as outside/c/bellbadger.h has it; a higher minor number fits too
@@ -33,7 +34,18 @@ def _library(path):
     return library
 
 
-lib = _library(_path())
+def _found():
+    try:
+        return _library(_path())
+    except ImportError as error:
+        # python3 -m bellbadger, before the command has begun: its status is 2, since 1 says that a trace was judged no
+        if sys.argv[:1] == ["-m"]:
+            sys.stderr.write(f"bellbadger: {error}\n")
+            sys.exit(2)
+        raise
+
+
+lib = _found()
 
 
 def declare(name, result, *arguments):

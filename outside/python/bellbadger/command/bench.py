@@ -3,8 +3,7 @@
 import time
 
 from ..follow import Follower
-from .judging import Board, judge
-from .rules import IDLE
+from .judging import judge
 from .traces import BLOCK, File, pieces
 
 _SAMPLE, _SECONDS = 64 * BLOCK, 0.5
@@ -15,12 +14,13 @@ def measure(named, path, binary, progress):
     start = time.perf_counter()
     judged = judge(named, [path], binary, progress)
     took = time.perf_counter() - start
-    lines = [_built(named), _work(judged), f"judged, read from its file: {judged.files[0].length / took / 1e6:.1f} MB/s"]
+    read = f"judged, read from its file: {judged.files[0].length / took / 1e6:.3g} MB/s"
+    lines = [_built(named), _work(judged), read]
     chunks = _chunks(named, path, binary)
     if chunks:
-        lines.append(f"followed: {_speed(chunks, lambda: _follow(named, chunks)):.1f} MB/s")
+        lines.append(f"followed: {_speed(chunks, lambda: _follow(named, chunks)):.3g} MB/s")
         if judged.counted is not None:
-            lines.append(f"on a board: {_speed(chunks, lambda: _deliver(named, chunks)):.1f} MB/s")
+            lines.append(f"on a board: {_speed(chunks, lambda: _deliver(named, chunks)):.3g} MB/s")
     return judged, lines
 
 
@@ -56,11 +56,12 @@ def _follow(named, chunks):
 
 
 def _deliver(named, chunks):
+    board = named.judge()
+
     def deliver():
-        board = Board(named)
-        for chunk in chunks:
-            board.take(chunk)
-        board.verdict()
+        board.open(len(chunks))
+        for place, chunk in enumerate(chunks):
+            board.deliver(place, 0, chunk)
 
     return deliver
 

@@ -12,7 +12,7 @@ import sys
 
 from ..judge import Judge, Waiting
 from ..refusals import Refused
-from .errors import Failed, reason, shown
+from .errors import Failed, called, reason, shown
 from .rules import IDLE
 from .traces import File, pieces
 from .words import no_event
@@ -33,16 +33,15 @@ class Board:
             raise Failed(f"no board takes the rule ({refused})", named.name) from None
 
     def answer(self, line):
-        """The answer to a line without its comment, and the verdict where it is one. Failed where it is no call, Refused
-        where the call is refused."""
+        """The answer to a line without its comment, and the verdict where it is one. Failed where it is no call,
+        Refused where the call is refused."""
         word, *fields = line.split(None, 3)
-        calls = {"open": (self.open, 1), "deliver": (self.deliver, 3), "withdraw": (self.withdraw, 1), "verdict": (self.verdict, 0)}
-        if word not in calls:
-            raise Failed(f'no call "{shown(word)}" (open, deliver, withdraw, verdict)')
-        call, due = calls[word]
-        if len(fields) != due or (due == 1 and " " in fields[0]):
-            raise Failed(f"{word} takes {_DUE[word]}")
-        return call(*fields)
+        if word not in _DUE:
+            raise Failed(f'no call "{shown(word)}" ({", ".join(_DUE)})')
+        number, due = _DUE[word]
+        if len(fields) != number:
+            raise Failed(f"{word} takes {due}")
+        return getattr(self, word)(*fields)
 
     def open(self, places):
         self.judge.open(_number(places, "places"))
@@ -53,7 +52,8 @@ class Board:
         place, revision, chunk = _number(place, "place"), _number(revision, "revision", 2**32), self.chunk(events)
         self.judge.deliver(place, revision, chunk)
         self.chunks[place] = chunk
-        return f"accepted: {len(chunk.replace(bytes([IDLE]), b''))} events", None
+        events = len(chunk.replace(bytes([IDLE]), b""))
+        return f"accepted: {events} event{'s' * (events != 1)}", None
 
     def chunk(self, events):
         """The bytes of a chunk: those of events, or of the file that is named."""
@@ -92,11 +92,12 @@ class Board:
         return f"; lost at place {found.place}, byte {at} of its chunk: {event}"
 
 
+# how many fields each call has, and what they are
 _DUE = {
-    "open": "a number of places",
-    "deliver": "a place, a revision and events, - for none or @FILE for those of a file",
-    "withdraw": "a place",
-    "verdict": "nothing",
+    "open": (1, "a number of places"),
+    "deliver": (3, "a place, a revision and events, - for none or @FILE for those of a file"),
+    "withdraw": (1, "a place"),
+    "verdict": (0, "nothing"),
 }
 
 
@@ -112,15 +113,15 @@ def lines(path):
         with open(sys.stdin.fileno() if path == "-" else path, "rb", closefd=path != "-") as source:
             for number, line in enumerate(iter(lambda: source.readline(_LONGEST_LINE + 1), b""), 1):
                 if len(line) > _LONGEST_LINE:
-                    raise Failed(f"a line has over {_LONGEST_LINE} bytes", shown(path), number)
+                    raise Failed(f"a line has over {_LONGEST_LINE} bytes", called(path), number)
                 yield number, line.decode("utf-8", "backslashreplace").partition("#")[0].strip()
     except OSError as error:
-        raise Failed(reason(error), shown(path, 4096)) from None
+        raise Failed(reason(error), called(path)) from None
 
 
 def run(named, path, output):
     """Runs a list; the verdict with which it ends. Each answer is written before the next line is read."""
-    board, last, name = Board(named), None, shown(path, 4096)
+    board, last, name = Board(named), None, called(path)
     for number, line in lines(path):
         if not line:
             continue
@@ -131,7 +132,6 @@ def run(named, path, output):
         except Failed as failed:
             raise Failed(str(failed), name, number) from None
         output.line(said)
-        output.flush()
     if last is None:
         raise Failed("the list does not end with a verdict", name)
     return last

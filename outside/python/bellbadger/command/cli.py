@@ -5,7 +5,7 @@ import sys
 
 from .. import _library
 from . import commands
-from .errors import Failed
+from .errors import Failed, reason
 from .output import Output
 
 _ABOUT = """Judges valve traces by a rule. Rules are in words, rule files, or their hex digits; traces are files of
@@ -18,13 +18,21 @@ class _Parser(argparse.ArgumentParser):
     def __init__(self, **words):
         super().__init__(allow_abbrev=False, formatter_class=argparse.RawDescriptionHelpFormatter, **words)
 
+    def _print_message(self, message, file=None):
+        # argparse would drop an error here, and help that was not written would have the status 0
+        if file is None:
+            raise Failed("there is nowhere to write to")
+        file.write(message)
+
 
 def _parser():
-    parser = _Parser(prog="bellbadger", description=_ABOUT, epilog="bellbadger COMMAND --help tells more, with an example.")
+    more = "bellbadger COMMAND --help tells more, with an example."
+    parser = _Parser(prog="bellbadger", description=_ABOUT, epilog=more)
     parser.add_argument("--version", action="store_true", help="the library's version")
     subcommands = parser.add_subparsers(dest="command", metavar="COMMAND")
     for name, add, about, example in _COMMANDS:
-        command = subcommands.add_parser(name, help=about.split("\n")[0], description=about, epilog=f"example:\n\n{example}")
+        first = about.split("\n")[0]
+        command = subcommands.add_parser(name, help=first, description=about, epilog=f"example:\n\n  {example}")
         command.set_defaults(run=getattr(commands, name))
         add(command)
     return parser
@@ -53,7 +61,8 @@ def _add_quiet(parser):
 
 def _add_board(parser):
     _add_rule(parser)
-    parser.add_argument("list", metavar="LIST", nargs="?", default="-", help="the calls; without it standard input, line by line")
+    about = "the calls; without it standard input, line by line"
+    parser.add_argument("list", metavar="LIST", nargs="?", default="-", help=about)
     _add_quiet(parser)
 
 
@@ -61,7 +70,8 @@ def _add_tray(parser):
     parser.add_argument("row", metavar="ROWRULE", help="the rule of the rows")
     parser.add_argument("column", metavar="COLUMNRULE", help="the rule of the columns")
     parser.add_argument("bands", metavar="BAND", nargs="+", help="the bands in order, a line for each row")
-    parser.add_argument("--width", type=int, metavar="W", help="the number of events in a row, where there may be no row")
+    about = "the number of events in a row, where there may be no row"
+    parser.add_argument("--width", type=int, metavar="W", help=about)
     _add_quiet(parser)
 
 
@@ -90,7 +100,8 @@ def _add_form(parser):
 def _add_merge(parser):
     _add_rules(parser)
     ways = ("both", "either", "interleaving")
-    parser.add_argument("--way", choices=ways, default="both", help="which traces the result accepts; both, if it is not said")
+    about = "which traces the result accepts; both, if it is not said"
+    parser.add_argument("--way", choices=ways, default="both", help=about)
     parser.add_argument("--pairs", action="store_true", help="every pair of states, and none reduced")
     _add_form(parser)
 
@@ -130,42 +141,90 @@ _COMMANDS = (
     (
         "judge",
         _add_traces,
-        "says of each trace whether it keeps to the rule\n\nA line for each trace: FILE: yes; FILE:LINE: no, with the event and what could have come;\n"
-        "FILE:LINE: error, where it is no trace.",
-        "  bellbadger judge purge.txt good.txt bad.txt",
+        """says of each trace whether it keeps to the rule
+
+A line for each trace: FILE: yes; FILE:LINE: no, with the event and what could have come;
+FILE:LINE: error, where it is no trace.""",
+        "bellbadger judge purge.txt good.txt bad.txt",
     ),
     (
         "board",
         _add_board,
-        "runs a list of calls: chunks that come out of turn\n\nLines are: open N; deliver PLACE REVISION EVENT.. (- for none, @FILE for those of a file);\n"
-        "withdraw PLACE; verdict. It stops at the first bad line. The status is that of the verdict at\nthe end.",
-        "  printf 'open 1\\ndeliver 0 0 red purge\\nverdict\\n' | bellbadger board purge.txt",
+        """runs a list of calls: chunks that come out of turn
+
+Lines are: open N; deliver PLACE REVISION EVENT.. (- for none, @FILE for those of a file);
+withdraw PLACE; verdict. It stops at the first bad line. The status is that of the verdict at
+the end.""",
+        "printf 'open 1\\ndeliver 0 0 red purge\\nverdict\\n' | bellbadger board purge.txt",
     ),
-    ("show", _add_rules, "shows what was understood: states, arcs, sets, starts, samples", "  bellbadger show purge.txt"),
-    ("draw", _add_draw, "draws the rule for Graphviz", "  bellbadger draw --svg purge.txt > purge.svg"),
-    ("sample", _add_sample, "the first trace that the rule accepts, and the first that it rejects", "  bellbadger sample purge.txt"),
+    (
+        "show",
+        _add_rules,
+        "shows what was understood: states, arcs, sets, starts, samples",
+        "bellbadger show purge.txt",
+    ),
+    (
+        "draw",
+        _add_draw,
+        "draws the rule for Graphviz",
+        "bellbadger draw --svg purge.txt > purge.svg",
+    ),
+    (
+        "sample",
+        _add_sample,
+        "the first trace that the rule accepts, and the first that it rejects",
+        "bellbadger sample purge.txt",
+    ),
     (
         "merge",
         _add_merge,
-        "makes one rule of several\n\nThe result accepts what both accept, what either accepts, or the interleavings.",
-        "  bellbadger merge --way both purge.txt short.txt > merged.txt",
+        """makes one rule of several
+
+The result accepts what both accept, what either accepts, or the interleavings.""",
+        "bellbadger merge --way both purge.txt short.txt > merged.txt",
     ),
-    ("compare", _add_compare, "whether two rules accept the same: status 0; 1 with a trace if not", "  bellbadger compare old.txt new.txt"),
-    ("reduce", _add_reduce, "the same rule without unreachable, dead and alike states", "  bellbadger reduce purge.txt > small.txt"),
+    (
+        "compare",
+        _add_compare,
+        """whether two rules accept the same traces
+
+The status is 0 where they do, and 1 where they do not; the first trace that tells is shown.""",
+        "bellbadger compare old.txt new.txt",
+    ),
+    (
+        "reduce",
+        _add_reduce,
+        "the same rule without unreachable, dead and alike states",
+        "bellbadger reduce purge.txt > small.txt",
+    ),
     (
         "tray",
         _add_tray,
-        "judges rows by one rule and columns by another\n\nEach file is a band of at most 64 rows, a line for each; there are at most 8.",
-        "  bellbadger tray row.txt column.txt band0.txt band1.txt",
+        """judges rows by one rule and columns by another
+
+Each file is a band of at most 64 rows, a line for each; there are at most 8.""",
+        "bellbadger tray row.txt column.txt band0.txt band1.txt",
     ),
     (
         "record",
         _add_record,
-        "judges traces, and writes a record of each\n\nIt is TRACE.record.json, and with --html TRACE.record.html, beside the trace.",
-        "  bellbadger record --html purge.txt good.txt",
+        """judges traces, and writes a record of each
+
+It is TRACE.record.json, and with --html TRACE.record.html, beside the trace.""",
+        "bellbadger record --html purge.txt good.txt",
     ),
-    ("verify", _add_verify, "judges the trace of a record again; names the first field that differs", "  bellbadger verify good.txt.record.json"),
-    ("bench", _add_bench, "how fast a trace is judged", "  bellbadger bench purge.txt good.txt"),
+    (
+        "verify",
+        _add_verify,
+        "judges the trace of a record again, and names the first field that differs",
+        "bellbadger verify good.txt.record.json",
+    ),
+    (
+        "bench",
+        _add_bench,
+        "how fast a trace is judged",
+        "bellbadger bench purge.txt good.txt",
+    ),
 )
 
 
@@ -197,6 +256,8 @@ def _guarded(output, work):
         return 0 if ended.code in (0, None) else commands.OTHER
     except Failed as failed:
         output.complain(f"{'' if failed.name is not None else 'bellbadger: '}{failed}")
+    except OSError as error:
+        output.complain(f"bellbadger: {reason(error)}")
     except KeyboardInterrupt:
         output.complain("bellbadger: interrupted")
     except BaseException as error:  # pylint: disable=broad-except

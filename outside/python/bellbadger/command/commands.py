@@ -13,7 +13,7 @@ from ..rules import CheckedRule
 from . import bench as benching
 from . import boards, drawing, judging, page, rules, said, trays
 from . import record as records
-from .errors import Failed, listed, shown
+from .errors import Failed, called, listed, shown
 
 # every trace was judged yes; some were no; anything else
 YES, NO, OTHER = 0, 1, 2
@@ -160,9 +160,9 @@ def _sample_trace(named, accepted):
     try:
         text = samples.sample(samples.ACCEPTED if accepted else samples.REJECTED, named.rule)
     except Refused as refused:
-        raise Failed(str(refused), shown(named.name, 4096)) from None
+        raise Failed(str(refused), called(named.name)) from None
     if text is None:
-        raise Failed(f"the rule {'accepts' if accepted else 'rejects'} no trace at all", shown(named.name, 4096))
+        raise Failed(f"the rule {'accepts' if accepted else 'rejects'} no trace at all", called(named.name))
     return "".join(named.events[symbol] + "\n" for symbol in text)
 
 
@@ -186,7 +186,7 @@ def merge(arguments, output):
         try:
             result = function(way, result, other.rule)
         except Refused as refused:
-            raise Failed(str(refused), shown(other.name, 4096)) from None
+            raise Failed(str(refused), called(other.name)) from None
     named = any(each.named for each in both)
     _put(rules.from_rule("merged", result, events, named), arguments, output)
     return YES
@@ -204,7 +204,7 @@ def compare(arguments, output):
         return YES
     alone = one if isinstance(found, comparing.FirstAlone) else two
     text = " ".join(events[symbol] for symbol in found.text) or "the empty trace"
-    output.line(f"different: only {shown(alone.name, 4096)} accepts: {text}")
+    output.line(f"different: only {called(alone.name)} accepts: {text}")
     return NO
 
 
@@ -213,9 +213,9 @@ def reduce(arguments, output):
     try:
         reduced = reducing.reduce(named.rule)
     except Refused as refused:
-        raise Failed(str(refused), shown(named.name, 4096)) from None
+        raise Failed(str(refused), called(named.name)) from None
     if not reduced.installs:
-        raise Failed("reduced it has over 512 sets, and no board takes it: keep it as it is", shown(named.name, 4096))
+        raise Failed("reduced it has over 512 sets, and no board takes it: keep it as it is", called(named.name))
     _put(rules.from_rule(named.name, reduced.rule, named.events, named.named), arguments, output)
     return YES
 
@@ -253,7 +253,7 @@ def _write_record(named, paths, judged, arguments):
 
 
 def verify(arguments, output):
-    name = shown(arguments.record, 4096)
+    name = called(arguments.record)
     judged, difference = records.again(arguments.record, arguments.traces, output.progress)
     if difference:
         field, recorded, found = difference

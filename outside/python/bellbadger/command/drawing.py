@@ -7,9 +7,17 @@ from .errors import Failed, reason
 from .words import arcs_of
 
 
+_HEAD = (
+    "digraph rule {",
+    "rankdir=LR;",
+    'node [shape=circle, fontname="sans-serif"];',
+    'edge [fontname="sans-serif"];',
+)
+
+
 def dot(named):
     """The automaton in Graphviz's words. Names have letters, digits, _ and - alone, and need no escape."""
-    rule, lines = named.rule, ["digraph rule {", "rankdir=LR;", 'node [shape=circle, fontname="sans-serif"];', 'edge [fontname="sans-serif"];']
+    rule, lines = named.rule, list(_HEAD)
     for state, name in enumerate(named.states):
         lines.append(f'"{name}"' + (" [shape=doublecircle];" if rule.finals >> state & 1 else ";"))
     for state, name in enumerate(named.states):
@@ -36,7 +44,8 @@ def svg(named):
     if program is None:
         return None
     try:
-        done = subprocess.run([program, "-Tsvg"], input=dot(named).encode("utf-8"), capture_output=True, timeout=60, check=False)
+        words = dot(named).encode("utf-8")
+        done = subprocess.run([program, "-Tsvg"], input=words, capture_output=True, timeout=60, check=False)
     except (OSError, subprocess.TimeoutExpired) as error:
         raise Failed(f"dot: {reason(error) if isinstance(error, OSError) else 'it takes over a minute'}") from None
     text = done.stdout.decode("utf-8", "replace")

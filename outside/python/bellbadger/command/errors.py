@@ -44,6 +44,11 @@ def shown(text, most=60):
     return plain if len(plain) <= most else plain[:most] + ".."
 
 
+def called(path):
+    """A file's name as it may stand on a line."""
+    return "(standard input)" if path == "-" else shown(path, 4096)
+
+
 def _escaped(char):
     return char.encode("unicode_escape").decode("ascii")
 

@@ -29,6 +29,7 @@ class Output:
         """A line on standard output. The word yes, no or error in it has a colour on a terminal."""
         if not self.quiet:
             self.text(self._coloured(text, kind) + "\n")
+            self.flush()
 
     def _coloured(self, text, kind):
         if kind is None or not _has_colour(sys.stdout):
@@ -55,6 +56,8 @@ class Output:
             return
         try:
             sys.stdout.flush()
+            # some disks tell that they are full where a file is closed
+            os.close(os.dup(sys.stdout.fileno()))
         except OSError as error:
             _silence(sys.stdout)
             raise Failed(f"standard output: {reason(error)}") from None
@@ -73,7 +76,7 @@ class Output:
 
 
 def _silence(stream):
-    """What could not be written is dropped, so that Python does not try again when it ends, with a status of its own."""
+    """What could not be written is dropped: else Python tries again when it ends, with a status of its own."""
     nowhere = os.open(os.devnull, os.O_WRONLY)
     os.dup2(nowhere, stream.fileno())
     os.close(nowhere)

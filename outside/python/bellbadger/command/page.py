@@ -32,12 +32,33 @@ dt { color: var(--soft); } dd { margin: 0; overflow-wrap: anywhere; }
 .strip .lost small { color: var(--bad); font-weight: 400; }
 .strip .end { border: 2px dashed var(--bad); background: #fff; color: var(--bad); }
 .picture { overflow-x: auto; } .picture svg { max-width: 100%; height: auto; display: block; margin: 0 auto; }
-table { border-collapse: collapse; width: 100%; } th, td { text-align: left; padding: .3rem .6rem .3rem 0;
-  border-bottom: 1px solid var(--line); vertical-align: top; overflow-wrap: anywhere; } th { color: var(--soft); font-weight: 400; }
-pre { white-space: pre-wrap; overflow-wrap: anywhere; font-size: .85rem; background: #f6f8f9; padding: .7rem; border-radius: .4rem; }
+table { border-collapse: collapse; width: 100%; }
+th, td { text-align: left; padding: .3rem .6rem .3rem 0; border-bottom: 1px solid var(--line); vertical-align: top;
+  overflow-wrap: anywhere; }
+th { color: var(--soft); font-weight: 400; }
+pre { white-space: pre-wrap; overflow-wrap: anywhere; font-size: .85rem; background: #f6f8f9; padding: .7rem;
+  border-radius: .4rem; }
 .hash { font-family: ui-monospace, "DejaVu Sans Mono", monospace; font-size: .8rem; }
-@media print { body { max-width: none; padding: 0; font-size: 11pt; } h2 { break-after: avoid; }
-  .verdict, .strip li, tr, .picture { break-inside: avoid; } * { print-color-adjust: exact; -webkit-print-color-adjust: exact; } }
+@media print {
+  body { max-width: none; padding: 0; font-size: 11pt; }
+  h2 { break-after: avoid; }
+  .verdict, .strip li, tr, .picture { break-inside: avoid; }
+  * { print-color-adjust: exact; -webkit-print-color-adjust: exact; }
+}
+"""
+
+_PAGE = """<!DOCTYPE html>
+<html lang="en">
+<head>
+<meta charset="utf-8">
+<meta name="viewport" content="width=device-width, initial-scale=1">
+<title>{title}</title>
+<style>{style}</style>
+</head>
+<body>
+{body}
+</body>
+</html>
 """
 
 
@@ -48,12 +69,11 @@ def made(named, judged, record):
         f"<h1>{_safe(names)}</h1>",
         _verdict(record),
         _section("Trace", _strip(named, judged)),
-        _section("Counts", _facts(_counts(named, judged, record))),
+        _section("Counts", _facts(_counts(judged))),
         _section("Rule", _rule(named)),
         _section("Record", _facts(_record(record))),
     ]
-    head = f'<meta charset="utf-8">\n<meta name="viewport" content="width=device-width, initial-scale=1">\n<title>{_safe(names)}: {record["verdict"]}</title>'
-    return f'<!DOCTYPE html>\n<html lang="en">\n<head>\n{head}\n<style>{_STYLE}</style>\n</head>\n<body>\n' + "\n".join(body) + "\n</body>\n</html>\n"
+    return _PAGE.format(title=f"{_safe(names)}: {record['verdict']}", style=_STYLE, body="\n".join(body))
 
 
 def _safe(text):
@@ -65,7 +85,8 @@ def _section(title, inside):
 
 
 def _facts(pairs):
-    return "<dl>\n" + "".join(f"<dt>{_safe(name)}</dt><dd{kind}>{_safe(value)}</dd>\n" for name, value, kind in pairs) + "</dl>"
+    rows = (f"<dt>{_safe(name)}</dt><dd{kind}>{_safe(value)}</dd>\n" for name, value, kind in pairs)
+    return "<dl>\n" + "".join(rows) + "</dl>"
 
 
 def _verdict(record):
@@ -108,7 +129,7 @@ def _expected(named, judged):
     return listed(names) or "nothing: the rule accepts no trace at all"
 
 
-def _counts(named, judged, record):
+def _counts(judged):
     yield "events", judged.events, ""
     if judged.counted is not None:
         rate = f" ({judged.counted.quotient} a byte and {judged.counted.remainder} over)" if judged.events else ""
@@ -130,15 +151,19 @@ def _inline(picture):
 
 
 def _arc_table(named):
-    rows = []
-    for state, name in enumerate(named.states):
-        marks = [mark for mark, mask in (("initial", named.rule.initials), ("final", named.rule.finals)) if mask >> state & 1]
-        arcs = [
-            f"{', '.join(named.events[s] for s in symbols)} → {', '.join(named.states[q] for q in targets)}"
-            for symbols, targets in arcs_of(named.rule, state)
-        ]
-        rows.append(f"<tr><td>{_safe(name)}</td><td>{', '.join(marks)}</td><td>{'<br>'.join(map(_safe, arcs))}</td></tr>")
+    rows = (_arc_row(named, state, name) for state, name in enumerate(named.states))
     return "<table>\n<tr><th>state</th><th></th><th>arcs</th></tr>\n" + "\n".join(rows) + "\n</table>"
+
+
+def _arc_row(named, state, name):
+    masks = ("initial", named.rule.initials), ("final", named.rule.finals)
+    marks = ", ".join(mark for mark, mask in masks if mask >> state & 1)
+    arcs = (_arc(named, symbols, targets) for symbols, targets in arcs_of(named.rule, state))
+    return f"<tr><td>{_safe(name)}</td><td>{marks}</td><td>{'<br>'.join(map(_safe, arcs))}</td></tr>"
+
+
+def _arc(named, symbols, targets):
+    return f"{', '.join(named.events[s] for s in symbols)} → {', '.join(named.states[q] for q in targets)}"
 
 
 def _record(record):

@@ -6,7 +6,7 @@ import os
 
 from .. import _library
 from . import judging, words
-from .errors import Failed, reason, shown
+from .errors import Failed, called, reason, shown
 from .rules import NamedRule
 from .said import NO, YES, counts, reason_of, where
 
@@ -23,12 +23,9 @@ def made(named, judged, binary, folder):
         place["file"] = _seen(place["file"], folder)
     return {
         "format": FORMAT,
-        "rule": {"name": os.path.basename(named.name), "words": named.words(), "file": named.file.hex(), "sha256": named.sha256},
+        "rule": _rule(named),
         "events": list(named.events),
-        "trace": {
-            "form": "binary" if binary else "text",
-            "files": [{"name": _seen(file.path, folder), "sha256": file.sha256, "length": file.length} for file in judged.files],
-        },
+        "trace": {"form": "binary" if binary else "text", "files": [_file(file, folder) for file in judged.files]},
         "verdict": YES if judged.is_yes else NO,
         **counts(judged),
         "reason": reason_of(named, judged),
@@ -36,6 +33,15 @@ def made(named, judged, binary, folder):
         "library": ".".join(map(str, _library.version())),
         "time": datetime.datetime.now(datetime.timezone.utc).isoformat(timespec="seconds"),
     }
+
+
+def _rule(named):
+    name = os.path.basename(named.name)
+    return {"name": name, "words": named.words(), "file": named.file.hex(), "sha256": named.sha256}
+
+
+def _file(file, folder):
+    return {"name": _seen(file.path, folder), "sha256": file.sha256, "length": file.length}
 
 
 def _seen(path, folder):
@@ -51,7 +57,7 @@ def write(path, text, replace):
     part = f"{path}.part"
     try:
         if os.path.lexists(path) and not replace:
-            raise Failed("it is there already; --replace writes it anew", shown(path, 4096))
+            raise Failed("it is there already; --replace writes it anew", called(path))
         with open(part, "w", encoding="utf-8", errors="surrogateescape") as file:
             file.write(text)
             file.flush()
@@ -59,7 +65,7 @@ def write(path, text, replace):
         os.replace(part, path)
     except OSError as error:
         _remove(part)
-        raise Failed(reason(error), shown(path, 4096)) from None
+        raise Failed(reason(error), called(path)) from None
 
 
 def _remove(path):
@@ -71,7 +77,7 @@ def _remove(path):
 
 def load(path):
     """A record from its file, seen to have the fields of one."""
-    name = shown(path, 4096)
+    name = called(path)
     try:
         with open(path, "rb") as file:
             data = file.read(_LONGEST + 1)
@@ -112,7 +118,7 @@ def again(path, traces, progress):
     """A record, what is judged anew of its trace, and the first field that differs, or None. traces: other files to
     judge instead of those that it names."""
     record, folder = load(path), os.path.dirname(path) or "."
-    named = rule_in(record, shown(path, 4096))
+    named = rule_in(record, called(path))
     paths = traces or [os.path.join(folder, file["name"]) for file in record["trace"]["files"]]
     binary = record["trace"].get("form") == "binary"
     judged = judging.judge(named, paths, binary, progress)

@@ -9,7 +9,7 @@ from ..judge import Judge
 from ..refusals import Refused
 from ..rules import CheckedRule, read
 from . import words
-from .errors import Failed, reason, shown
+from .errors import Failed, called, reason
 
 # more than the longest rule has, in any form
 _LONGEST = 1 << 20
@@ -85,9 +85,9 @@ def load(path):
     try:
         return from_bytes(path, _content(path))
     except Failed as failed:
-        raise failed.at(shown(path, 4096)) from None
+        raise failed.at(called(path)) from None
     except OSError as error:
-        raise Failed(reason(error), shown(path, 4096)) from None
+        raise Failed(reason(error), called(path)) from None
 
 
 def _content(path):
@@ -145,7 +145,11 @@ def common_events(rules):
     for each in named[1:]:
         if each.events != named[0].events:
             raise Failed(
-                f"{shown(named[0].name)} and {shown(each.name)} have different events "
+                f"{called(named[0].name)} and {called(each.name)} have different events "
                 f"({', '.join(named[0].events)}; {', '.join(each.events)}): write the same line into both"
             )
+    for each in rules[1:]:
+        if each.rule.k != rules[0].rule.k:
+            counts = f"{rules[0].rule.k} and {each.rule.k}"
+            raise Failed(f"{called(rules[0].name)} and {called(each.name)} have different numbers of events, {counts}")
     return named[0].events if named else rules[0].events

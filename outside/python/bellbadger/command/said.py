@@ -2,14 +2,14 @@
 
 import json
 
-from .errors import Failed, listed, shown
+from .errors import called, listed
 
 YES, NO, ERROR = "yes", "no", "error"
 
 
 def title(paths):
     """What a trace is called on its line: its file, or how many chunks it has."""
-    return shown(paths[0], 4096) if len(paths) == 1 else f"trace of {len(paths)} chunks"
+    return called(paths[0]) if len(paths) == 1 else f"trace of {len(paths)} chunks"
 
 
 def awaited(named, judged):

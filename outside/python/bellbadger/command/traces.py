@@ -13,7 +13,7 @@ import sys
 from contextlib import contextmanager
 from dataclasses import dataclass
 
-from .errors import Failed, reason, shown
+from .errors import Failed, called, reason
 from .rules import IDLE
 from .words import LONGEST_NAME, no_event
 
@@ -73,12 +73,12 @@ def opened(path):
             with open(path, "rb") as file:
                 yield file
     except OSError as error:
-        raise Failed(reason(error), shown(path, 4096)) from None
+        raise Failed(reason(error), called(path)) from None
 
 
 def pieces(file, table, events, binary, progress):
     """The pieces of one file. Failed where a byte or a word is no event, and where the file was changed meanwhile."""
-    name = shown(file.path, 4096)
+    name = called(file.path)
     with opened(file.path) as source:
         before = _stamp(source)
         blocks = _blocks(source, file, before, progress)
@@ -134,7 +134,7 @@ def _text(blocks, name, table, events):
 
 @dataclass(frozen=True)
 class Cursor:
-    """Where a part of a text begins: its line, how many characters of the line were before it, and whether a word was."""
+    """Where a part of a text begins: its line, how many characters of it were before, and whether a word was."""
 
     name: str
     line: int = 1
@@ -200,7 +200,7 @@ def _uncommented(block, comment):
 
 
 def _last_sign(text, last, cursor):
-    """The last byte so far that is no space. Before a comma there is an event: one that is missing may have been lost."""
+    """The last byte so far that is no space. Before a comma there is an event: one that is missing may be lost."""
     signs = text.strip()
     if b"," in signs:
         gap = _GAP.search(text)

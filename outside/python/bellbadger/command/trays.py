@@ -5,7 +5,7 @@ from dataclasses import dataclass
 from ..follow import Follower
 from ..refusals import Refused
 from ..trays import Column, Open, Row, Short, Tray
-from .errors import Differs, Failed, listed, shown
+from .errors import Differs, Failed, called, listed
 from .rules import common_events
 from .traces import Place, opened
 from .words import no_event
@@ -23,7 +23,7 @@ class Line:
 
 def read_band(path, table, events):
     """The rows of a band."""
-    name = shown(path, 4096)
+    name = called(path)
     with opened(path) as source:
         data = source.read(_LONGEST + 1)
     if len(data) > _LONGEST:
@@ -79,13 +79,13 @@ class Judged:
             try:
                 install(named.rule)
             except Refused as refused:
-                raise Failed(str(refused), shown(named.name, 4096)) from None
+                raise Failed(str(refused), called(named.name)) from None
         self.tray.open(self.width, len(self.bands))
         for number, band in enumerate(self.bands):
             try:
                 self.tray.deliver(number, b"".join(row.codes for row in band))
             except Refused as refused:
-                raise Failed(str(refused), shown(self.paths[number], 4096)) from None
+                raise Failed(str(refused), called(self.paths[number])) from None
 
     def answer(self):
         """Whether it is yes, and the line that says so. The verdict and the fault have to agree."""
@@ -99,7 +99,7 @@ class Judged:
 
     def _row_fault(self, fault):
         row = self.bands[fault.band][fault.row]
-        return self._said(self.row, row.codes, row.places, "row")
+        return self._said(self.row, row.codes, row.places, "the row")
 
     def _column(self, column):
         rows = [row for band in self.bands for row in band]
@@ -114,13 +114,13 @@ class Judged:
         followed = Follower(named.rule).follow(codes)
         expected = listed([self.events[s] for s in followed.expected] + (["the end"] if followed.complete else []))
         if followed.is_accepted_so_far:
-            raise Differs(f"the tray and the follower have two answers on a {what}")
+            raise Differs(f"the tray and the follower have two answers on {what}")
         if not followed.is_lost:
-            place = places[0].name + f":{places[0].line}" if what == "row" else f"tray of {len(self.bands)} bands"
-            return f"{place}: no: the {what} ends too early; expected {expected}"
+            place = places[0].name + f":{places[0].line}" if what == "the row" else f"tray of {len(self.bands)} bands"
+            return f"{place}: no: {what} ends too early; expected {expected}"
         if followed.lost_at == 0:
-            return f"tray of {len(self.bands)} bands: no: the rule of the {what} accepts nothing at all"
+            return f"tray of {len(self.bands)} bands: no: the rule of {what} accepts no text at all"
         at = followed.lost_at - 1
         event = self.events[codes[at]]
         place = places[at]
-        return f"{place.name}:{place.line}:{place.column}: no: in the {what} {event} cannot come here; expected {expected}"
+        return f"{place.name}:{place.line}:{place.column}: no: {event} cannot come here in {what}; expected {expected}"

@@ -80,7 +80,7 @@ def _statements(lines):
         elif statements and line[0].isspace():
             statements[-1].extend(tokens)
         else:
-            raise tokens[0].failed(f'a line begins with events, pattern or state, and not with "{shown(tokens[0].text)}"')
+            raise tokens[0].failed(f'a line begins with events, pattern or state, and not with "{tokens[0].text}"')
     return statements
 
 
