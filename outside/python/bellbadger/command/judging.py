@@ -17,7 +17,7 @@ from .traces import BLOCK, File, pieces
 
 PLACES = 64
 # how many events are kept for a page: of the beginning, of the end, and on either side of the place
-KEPT = 60
+KEPT = 24
 
 
 @dataclass(frozen=True)

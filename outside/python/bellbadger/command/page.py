@@ -36,8 +36,15 @@ table { border-collapse: collapse; width: 100%; }
 th, td { text-align: left; padding: .3rem .6rem .3rem 0; border-bottom: 1px solid var(--line); vertical-align: top;
   overflow-wrap: anywhere; }
 th { color: var(--soft); font-weight: 400; }
+th:first-child { min-width: 5rem; width: 10rem; }
+th:nth-child(2) { min-width: 3.5rem; width: 8rem; }
+.arrow { white-space: nowrap; }
 pre { white-space: pre-wrap; overflow-wrap: anywhere; font-size: .85rem; background: #f6f8f9; padding: .7rem;
   border-radius: .4rem; }
+@media screen and (max-width: 40rem) {
+  .picture svg { max-width: 36rem; }
+  th:first-child, th:nth-child(2) { width: auto; }
+}
 .hash { font-family: ui-monospace, "DejaVu Sans Mono", monospace; font-size: .8rem; }
 @media print {
   body { max-width: none; padding: 0; font-size: 11pt; }
@@ -132,7 +139,7 @@ def _expected(named, judged):
 def _counts(judged):
     yield "events", judged.events, ""
     if judged.counted is not None:
-        rate = f" ({judged.counted.quotient} a byte and {judged.counted.remainder} over)" if judged.events else ""
+        rate = f", {judged.counted.count / judged.events:.2f} a byte" if judged.events else ""
         yield "transitions", f"{judged.counted.count}{rate}", ""
     else:
         yield "transitions", "not counted: the rule has over 512 sets", ""
@@ -141,7 +148,8 @@ def _counts(judged):
 def _rule(named):
     picture = drawing.svg(named)
     inside = f'<div class="picture">{_inline(picture)}</div>' if picture else ""
-    return f"{inside}\n{_arc_table(named)}\n<pre>{_safe(named.words())}</pre>"
+    words = _safe(named.words()).replace("-&gt;", '<span class="arrow">-&gt;</span>')
+    return f"{inside}\n{_arc_table(named)}\n<pre>{words}</pre>"
 
 
 def _inline(picture):

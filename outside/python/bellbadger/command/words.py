@@ -87,7 +87,8 @@ def _statements(lines):
 def _tokens(number, line):
     tokens = []
     for found in _TOKEN.finditer(line):
-        token = Token(shown(found[0], LONGEST_NAME + 1), number, found.start() + 1, found["name"] is not None)
+        name = found["name"]
+        token = Token(name or shown(found[0]), number, found.start() + 1, name is not None)
         if len(found[0]) > LONGEST_NAME:
             raise token.failed(f"a name has at most {LONGEST_NAME} characters")
         tokens.append(token)
