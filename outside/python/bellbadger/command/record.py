@@ -110,8 +110,7 @@ def rule_in(record, name):
         made_of = words.parse(record["rule"]["words"])
     except Failed as failed:
         raise Failed(f"rule.words:{failed.lines()}", name) from None
-    named = record["events"] != [str(number) for number in range(made_of.rule.k)]
-    return NamedRule(record["rule"]["name"], made_of.rule, made_of.events, made_of.states, named)
+    return NamedRule(record["rule"]["name"], made_of.rule, made_of.events, made_of.states, True)
 
 
 def again(path, traces, progress):
