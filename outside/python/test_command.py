@@ -4,6 +4,7 @@ is what most of it is about. tests/command compares lines with the other impleme
 
 import hashlib
 import html.parser
+import itertools
 import json
 import os
 import pty
@@ -271,12 +272,14 @@ class NoWrongYes(Case):
 
     def test_outputs(self):
         """A full disk, a pipe that nobody reads, no output at all: 2, and not what Python itself would say."""
-        for words in (["judge", "purge.txt", "good.txt"], ["show", "purge.txt"], ["--help"], ["judge", "--help"], ["--version"], ["sample", "purge.txt"]):
+        commands_ = ["judge", "purge.txt", "good.txt"], ["show", "purge.txt"], ["judge", "--help"], ["--version"]
+        for words, unbuffered in itertools.product(commands_, ("", "1")):
+            buffered = {"env": {"PYTHONUNBUFFERED": unbuffered}}
             with open("/dev/full", "wb") as full:
-                self.assertEqual(self.run_it(*words, stdout=full)[2], 2, words)
+                self.assertEqual(self.run_it(*words, stdout=full, **buffered)[2], 2, words)
             reader, writer = os.pipe()
             os.close(reader)
-            self.assertEqual(self.run_it(*words, stdout=writer)[2], 2, words)
+            self.assertEqual(self.run_it(*words, stdout=writer, **buffered)[2], 2, words)
             os.close(writer)
         closed = ["sh", "-c", 'exec "$@" >&-', "sh", sys.executable, "-m", "bellbadger"]
         said, beside, status = self.run_it("judge", "purge.txt", "good.txt", program=closed)
@@ -342,6 +345,25 @@ class NoWrongYes(Case):
         limited = ["bash", "-c", 'ulimit -v 400000; exec "$@"', "bash", sys.executable, "-m", "bellbadger"]
         said, beside, status = self.run_it("judge", "purge.txt", "large.txt", program=limited)
         self.assertEqual((said, beside, status), ("large.txt: no: the trace ends too early; expected purge\n", "", 1))
+
+
+    def test_short_writes(self):
+        """A stream that takes a few bytes at a time gets all of them; one that takes none is an error."""
+
+        class Slow:
+            def __init__(self, *takes):
+                self.takes, self.got = list(takes), b""
+
+            def write(self, data):
+                taken = self.takes.pop(0) if self.takes else 7
+                self.got += bytes(data[:taken])
+                return min(taken, len(data))
+
+        slow = Slow(1, 2, 3)
+        output._write_all(slow, b"x" * 50)
+        self.assertEqual(slow.got, b"x" * 50)
+        with self.assertRaises(OSError):
+            output._write_all(Slow(1, 0), b"xyz")
 
 
 class Terminal(Case):

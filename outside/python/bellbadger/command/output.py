@@ -46,7 +46,7 @@ class Output:
         if sys.stdout is None:
             raise Failed("standard output is closed")
         try:
-            sys.stdout.buffer.write(data)
+            _write_all(sys.stdout.buffer, data)
         except OSError as error:
             raise Failed(f"standard output: {reason(error)}") from None
 
@@ -73,6 +73,16 @@ class Output:
             sys.stderr.flush()
         except OSError:
             _silence(sys.stderr)
+
+
+def _write_all(stream, data):
+    """Writes all bytes: a stream without a buffer, as PYTHONUNBUFFERED makes it, may take fewer at a time."""
+    rest = memoryview(data)
+    while rest:
+        taken = stream.write(rest)
+        if not taken:
+            raise OSError(0, "it takes no more")
+        rest = rest[taken:]
 
 
 def _silence(stream):
