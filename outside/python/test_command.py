@@ -496,6 +496,8 @@ class Boards(Case):
         for line, why in (
             ("deliver 0 0", "deliver takes a place, a revision and events, - for none or @FILE for those of a file"),
             ("deliver 0 0 blu", 'no event "blu" (red, blue, purge)'),
+            ("deliver 0 0 red, , purge", "an event is missing beside a comma"),
+            ("deliver 0 0 red,", "an event is missing beside a comma"),
             ("deliver 0 0 @typo.txt", 'typo.txt:3: no event "blu" (red, blue, purge)'),
             ("deliver 0 0 @gone.txt", "gone.txt: No such file or directory"),
             ("deliver 9 0 red", "refused 11: the board has no such place"),
@@ -533,7 +535,7 @@ class Trays(Case):
         self.put("row.txt", "events off on\npattern off* (on off*)?\n")
         self.put("column.txt", "events off on\npattern off* on* off+\n")
         for name, text in (("b0", "on off off\noff on off\n"), ("b1", "off, off, off # the end\n"), ("b2", "\n\noff on on\n"), ("b3", "off off on\n"),
-                           ("b4", "off off\n"), ("b5", "off of off\n"), ("b6", "# none\n"), ("b7", "off idle off\n")):
+                           ("b4", "off off\n"), ("b5", "off of off\n"), ("b6", "# none\n"), ("b7", "off idle off\n"), ("b8", "\noff,,off\n")):
             self.put(name, text)
 
     def test_answers(self):
@@ -548,13 +550,14 @@ class Trays(Case):
         self.put("some.txt", "events off on\npattern on off\n")
         self.put("r0", "on\n")
         self.says(["tray", "some.txt", "column.txt", "r0"], "r0:1: no: the row ends too early; expected off\n", 1)
-        self.says(["tray", "--width", "2", "row.txt", "row.txt", "b6"], "tray of 1 bands: yes\n", 0)
+        self.says(["tray", "--width", "2", "row.txt", "row.txt", "b6"], "tray of 1 band: yes\n", 0)
 
     def test_errors(self):
         for bands, due in (
             (["b0", "b4"], "b4:1: the row has 2 events, and not 3"),
             (["b0", "b5"], 'b5:1:5: no event "of" (off, on)'),
             (["b0", "b7"], 'b7:1:5: no event "idle" (off, on)'),
+            (["b0", "b8"], "b8:2: an event is missing beside a comma"),
             (["b6"], "bellbadger: no band has a row: say how wide rows are with --width"),
             (["b0", "gone"], "gone: No such file or directory"),
             (["b1"] * 9, "bellbadger: refused 10: no number of bands from 1 to 8"),
@@ -632,6 +635,9 @@ class Records(Case):
         self.assertEqual(said, "good.txt.record.json: error: it is there already; --replace writes it anew\n")
         self.assertEqual((self.folder / "good.txt.record.json").read_bytes(), before)
         self.record("--replace", "purge.txt", "good.txt")
+        self.put("bad.txt.record.html", "")
+        self.record("--html", "purge.txt", "bad.txt", status=2)
+        self.assertFalse((self.folder / "bad.txt.record.json").exists())
         self.record("--into", "nowhere", "purge.txt", "good.txt", status=2)
         self.record("--into", "/dev", "--replace", "purge.txt", "gone.txt", status=2)
         self.assertEqual(self.quickly("record", "purge.txt", "-")[2], 2)

@@ -14,7 +14,7 @@ from ..judge import Judge, Waiting
 from ..refusals import Refused
 from .errors import Failed, called, reason, shown
 from .rules import IDLE
-from .traces import File, pieces
+from .traces import File, pieces, words_of
 from .words import no_event
 
 _LONGEST_LINE = 1 << 22
@@ -62,7 +62,7 @@ class Board:
         if events.startswith("@"):
             read = pieces(File(events[1:].strip()), self.named.symbols(), self.named.events, False, lambda *_: None)
             return b"".join(piece.codes for piece in read)
-        words = events.replace(",", " ").split()
+        words = words_of(events)
         unknown = next((word for word in words if word not in self.table), None)
         if unknown is not None:
             raise Failed(no_event(unknown, self.named.events))

@@ -247,8 +247,10 @@ def _write_record(named, paths, judged, arguments):
     texts = {start + ".json": records.text_of(made)}
     if arguments.html:
         texts[start + ".html"] = page.made(named, judged, made)
+    if not arguments.replace:
+        records.expect_none(texts)
     for path, text in texts.items():
-        records.write(path, text, arguments.replace)
+        records.write(path, text)
     return list(texts)
 
 

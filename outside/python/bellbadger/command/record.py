@@ -52,12 +52,17 @@ def text_of(record):
     return json.dumps(record, indent=2, ensure_ascii=False) + "\n"
 
 
-def write(path, text, replace):
-    """Writes a file whole or not at all. One that is there stays, unless it is to be replaced."""
+def expect_none(paths):
+    """Sees to it that nothing is there yet."""
+    for path in paths:
+        if os.path.lexists(path):
+            raise Failed("it is there already; --replace writes it anew", called(path))
+
+
+def write(path, text):
+    """Writes a file whole or not at all."""
     part = f"{path}.part"
     try:
-        if os.path.lexists(path) and not replace:
-            raise Failed("it is there already; --replace writes it anew", called(path))
         with open(part, "w", encoding="utf-8", errors="surrogateescape") as file:
             file.write(text)
             file.flush()

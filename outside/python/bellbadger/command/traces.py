@@ -23,6 +23,7 @@ _COMMENT = re.compile(rb"#[^\n]*")
 _WORD = re.compile(rb"[^\s,]+")
 _TAIL = re.compile(rb"[^\s,]*\Z")
 _GAP = re.compile(rb",\s*,")
+_BARE_COMMA = re.compile(r"^\s*,|,\s*,|,\s*$")
 _BYTE_ORDER_MARK = b"\xef\xbb\xbf"
 
 
@@ -98,9 +99,16 @@ def _blocks(source, file, stamp, progress):
     for block in iter(lambda: source.read(BLOCK), b""):
         digest.update(block)
         file.length += len(block)
-        progress(file.path, file.length, stamp[0] if stamp else None)
+        progress(called(file.path), file.length, stamp[0] if stamp else None)
         yield block
     file.sha256 = digest.hexdigest()
+
+
+def words_of(line):
+    """The words of one line. Failed where an event is missing beside a comma."""
+    if _BARE_COMMA.search(line):
+        raise Failed("an event is missing beside a comma")
+    return line.replace(",", " ").split()
 
 
 def _binary(blocks, name, table, events):

@@ -7,7 +7,7 @@ from ..refusals import Refused
 from ..trays import Column, Open, Row, Short, Tray
 from .errors import Differs, Failed, called, listed
 from .rules import common_events
-from .traces import Place, opened
+from .traces import Place, opened, words_of
 from .words import no_event
 
 _LONGEST = 1 << 20
@@ -30,7 +30,7 @@ def read_band(path, table, events):
         raise Failed(f"a file of over {_LONGEST} bytes is no band", name)
     rows = []
     for number, line in enumerate(data.decode("utf-8-sig", "backslashreplace").split("\n"), 1):
-        row = _row(line.partition("#")[0].replace(",", " "), name, number, table, events)
+        row = _row(line.partition("#")[0], name, number, table, events)
         if row.codes:
             rows.append(row)
     return rows
@@ -38,7 +38,11 @@ def read_band(path, table, events):
 
 def _row(line, name, number, table, events):
     codes, places, at = [], [], 0
-    for word in line.split():
+    try:
+        words = words_of(line)
+    except Failed as failed:
+        raise Place(name, number).failed(failed.message) from None
+    for word in words:
         at = line.index(word, at)
         place = Place(name, number, at + 1, not codes)
         if word not in table:
@@ -87,13 +91,16 @@ class Judged:
             except Refused as refused:
                 raise Failed(str(refused), called(self.paths[number])) from None
 
+    def _title(self):
+        return f"tray of {len(self.bands)} band{'s' * (len(self.bands) != 1)}"
+
     def answer(self):
         """Whether it is yes, and the line that says so. The verdict and the fault have to agree."""
         verdict, fault = self.tray.verdict(), self.tray.fault()
         if verdict.is_yes == fault.is_fault or (isinstance(fault, Open) and fault.bands != len(self.bands)):
             raise Differs("the tray's verdict and its fault have two answers")
         if verdict.is_yes:
-            return True, f"tray of {len(self.bands)} bands: yes"
+            return True, f"{self._title()}: yes"
         say = {Row: self._row_fault, Column: self._column_fault, Short: self._short_fault}[type(fault)]
         return False, say(fault)
 
@@ -116,10 +123,10 @@ class Judged:
         if followed.is_accepted_so_far:
             raise Differs(f"the tray and the follower have two answers on {what}")
         if not followed.is_lost:
-            place = places[0].name + f":{places[0].line}" if what == "the row" else f"tray of {len(self.bands)} bands"
+            place = places[0].name + f":{places[0].line}" if what == "the row" else self._title()
             return f"{place}: no: {what} ends too early; expected {expected}"
         if followed.lost_at == 0:
-            return f"tray of {len(self.bands)} bands: no: the rule of {what} accepts no text at all"
+            return f"{self._title()}: no: the rule of {what} accepts no text at all"
         at = followed.lost_at - 1
         event = self.events[codes[at]]
         place = places[at]
