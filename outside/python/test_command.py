@@ -642,11 +642,21 @@ class Records(Case):
         self.record("--into", "/dev", "--replace", "purge.txt", "gone.txt", status=2)
         self.assertEqual(self.quickly("record", "purge.txt", "-")[2], 2)
 
+    def test_two_traces_of_one_name(self):
+        """In one folder the second record would stand in the place of the first."""
+        (self.folder / "other").mkdir()
+        self.put("other/good.txt", "red\n")
+        beside = "out/good.txt.record.json: two traces would have this record\n"
+        self.says(["record", "--replace", "--into", "out", "purge.txt", "good.txt", "other/good.txt"], "", 2, beside)
+        self.record("purge.txt", "good.txt", "other/good.txt", status=1)
+
     def test_full_disk(self):
         """A record that cannot be written whole is none, and leaves nothing."""
         with mock.patch("os.fsync", side_effect=OSError(28, "No space left on device")):
             said = self.record("purge.txt", "good.txt", status=2)[0]
         self.assertEqual(said, "good.txt.record.json: error: No space left on device\n")
+        with mock.patch("os.fsync", side_effect=KeyboardInterrupt):
+            self.record("purge.txt", "good.txt", status=2)
         self.assertEqual([name for name in os.listdir(self.folder) if "record" in name], [])
 
     def test_verify(self):

@@ -13,7 +13,7 @@ from ..rules import CheckedRule
 from . import bench as benching
 from . import boards, drawing, judging, page, rules, said, trays
 from . import record as records
-from .errors import Failed, called, listed, shown
+from .errors import Failed, called, listed
 
 # every trace was judged yes; some were no; anything else
 YES, NO, OTHER = 0, 1, 2
@@ -224,26 +224,35 @@ def record(arguments, output):
     traces, named = _traces(arguments), rules.load(arguments.rule)
     if "-" in arguments.traces:
         raise Failed("a record names the file of its trace: standard input has none")
-    return max(_record_one(named, paths, arguments, output) for paths in traces)
+    starts = [_record_start(paths, arguments) for paths in traces]
+    twice = next((start for start in starts if starts.count(start) > 1), None)
+    if twice is not None:
+        raise Failed("two traces would have this record", called(twice + ".json"))
+    return max(_record_one(named, paths, start, arguments, output) for paths, start in zip(traces, starts))
 
 
-def _record_one(named, paths, arguments, output):
+def _record_start(paths, arguments):
+    """The record's name without its end: beside the trace, or in the folder that is named."""
+    folder = os.path.dirname(paths[0]) if arguments.into is None else arguments.into
+    return os.path.normpath(os.path.join(folder, os.path.basename(paths[0]) + ".record"))
+
+
+def _record_one(named, paths, start, arguments, output):
     try:
         judged = judging.judge(named, paths, arguments.binary, output.progress)
-        written = _write_record(named, paths, judged, arguments)
+        written = _write_record(named, judged, start, arguments)
     except Failed as failed:
         return _not_judged(paths, failed, arguments, output)
-    line = said.as_json(named, paths, judged) if arguments.json else said.line(named, paths, judged)
-    output.line(line, None if arguments.json else said.YES if judged.is_yes else said.NO)
-    if not arguments.json:
-        output.line(f"  recorded in {listed(map(shown, written), 'and')}")
+    if arguments.json:
+        output.line(said.as_json(named, paths, judged))
+    else:
+        output.line(said.line(named, paths, judged), said.YES if judged.is_yes else said.NO)
+        output.line(f"  recorded in {listed(map(called, written), 'and')}")
     return status_of(judged.is_yes)
 
 
-def _write_record(named, paths, judged, arguments):
-    folder = arguments.into if arguments.into is not None else os.path.dirname(paths[0]) or "."
-    start = os.path.normpath(os.path.join(folder, os.path.basename(paths[0]) + ".record"))
-    made = records.made(named, judged, arguments.binary, folder)
+def _write_record(named, judged, start, arguments):
+    made = records.made(named, judged, arguments.binary, os.path.dirname(start) or ".")
     texts = {start + ".json": records.text_of(made)}
     if arguments.html:
         texts[start + ".html"] = page.made(named, judged, made)

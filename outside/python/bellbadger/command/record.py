@@ -61,7 +61,7 @@ def expect_none(paths):
 
 def write(path, text):
     """Writes a file whole or not at all."""
-    part = f"{path}.part"
+    part = f"{path}.{os.getpid()}.part"
     try:
         with open(part, "w", encoding="utf-8", errors="surrogateescape") as file:
             file.write(text)
@@ -69,11 +69,13 @@ def write(path, text):
             os.fsync(file.fileno())
         os.replace(part, path)
     except OSError as error:
-        _remove(part)
         raise Failed(reason(error), called(path)) from None
+    finally:
+        _remove(part)
 
 
 def _remove(path):
+    """What is left of a file that was not written whole; nothing, where it was."""
     try:
         os.unlink(path)
     except OSError:
