@@ -321,6 +321,8 @@ class NoWrongYes(Case):
             self.assertEqual((status, said.startswith("good.txt: error: internal error: ")), (2, True), said)
         with mock.patch.object(Judge, "verdict", return_value=Yes(3, 5, 0, 3)):
             self.assertEqual(self.quickly("judge", "purge.txt", "bad.txt")[2], 2)
+        with mock.patch.object(judging, "pieces", return_value=[]):
+            self.assertIn("a file was not read to its end", self.quickly("judge", "purge.txt", "good.txt")[0])
         with mock.patch.object(Judge, "deliver", side_effect=Refused(13)):
             said, beside, status = self.quickly("judge", "purge.txt", "good.txt")
             self.assertEqual((said, status, "internal error" in beside), ("", 2, True))

@@ -111,8 +111,9 @@ class Trace:
 
     def judged(self, files):
         """What came of it, once every file was read to its end."""
-        counted = self.board.verdict()
-        is_yes = self.answer.is_accepted_so_far
+        if not all(file.sha256 for file in files):
+            raise Differs("a file was not read to its end")
+        counted, is_yes = self.board.verdict(), self.answer.is_accepted_so_far
         if counted is not None:
             if not isinstance(counted, (Yes, No)) or counted.is_yes != is_yes:
                 raise Differs("the board and the follower have two answers")
