@@ -442,6 +442,11 @@ class Rules(Case):
         self.assertEqual(status, 0)
         for line in ('"clean" [shape=doublecircle];', '"initial clean" -> "clean";', '"clean" -> "dirty" [label="red, blue"];'):
             self.assertIn(line + "\n", said)
+        names = [f"valve-{number}" for number in range(16)]
+        self.put("wide.txt", f"events {' '.join(names)}\nstate q initial: {', '.join(names)} -> q\n")
+        label = self.quickly("draw", "wide.txt")[0].partition('label="')[2].partition('"')[0]
+        self.assertEqual(label.replace("\\n", " "), ", ".join(names))
+        self.assertLess(max(map(len, label.split("\\n"))), 31)
         with mock.patch("shutil.which", return_value=None):
             self.assertEqual(self.quickly("draw", "--svg", "states.txt")[2], 2)
         with mock.patch("shutil.which", return_value="/bin/false"), self.assertRaisesRegex(Failed, "dot: it drew nothing"):

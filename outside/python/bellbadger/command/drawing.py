@@ -2,6 +2,7 @@
 
 import shutil
 import subprocess
+import textwrap
 
 from .errors import Failed, reason
 from .words import arcs_of
@@ -34,8 +35,13 @@ def _arrows(named):
             for target in targets:
                 together.setdefault(target, []).extend(symbols)
         for target in sorted(together):
-            label = ", ".join(named.events[symbol] for symbol in sorted(together[target]))
+            label = _label([named.events[symbol] for symbol in sorted(together[target])])
             yield f'"{name}" -> "{named.states[target]}" [label="{label}"];'
+
+
+def _label(names):
+    """Names with commas, in lines of some 30 characters, since a label is as wide as its longest line."""
+    return "\\n".join(textwrap.wrap(", ".join(names), 30, break_long_words=False, break_on_hyphens=False))
 
 
 def svg(named):
