@@ -18,7 +18,7 @@ import unittest
 from pathlib import Path
 from unittest import mock
 
-from bellbadger import Refused, read
+from bellbadger import Refused, read, trays
 from bellbadger.command import cli, commands, drawing, judging, output, traces
 from bellbadger.command.errors import Differs, Failed
 from bellbadger.command.rules import from_bytes
@@ -554,10 +554,27 @@ class Trays(Case):
             (["b0", "b1", "b6", "b0"], "b0:1:1: no: on cannot come here in column 1; expected off or the end", 1),
         ):
             self.says(["tray", "row.txt", "column.txt", *bands], due + "\n", status)
+        said = json.loads(self.quickly("tray", "--json", "row.txt", "column.txt", "b0", "b2")[0])
+        due = {"bands": ["b0", "b2"], "verdict": "no", "reason": "on cannot come here in the row; expected off or the end", "file": "b2", "line": 3, "column": 8}
+        self.assertEqual(said, due)
+        self.says(["tray", "--json", "row.txt", "column.txt", "b0", "b1"], '{"bands": ["b0", "b1"], "verdict": "yes"}\n', 0)
         self.put("some.txt", "events off on\npattern on off\n")
         self.put("r0", "on\n")
         self.says(["tray", "some.txt", "column.txt", "r0"], "r0:1: no: the row ends too early; expected off\n", 1)
         self.says(["tray", "--width", "2", "row.txt", "row.txt", "b6"], "tray of 1 band: yes\n", 0)
+
+    def test_two_answers(self):
+        """A verdict and a fault that do not go together, or a row that the follower has otherwise, are no answer."""
+        for name, value, bands in (
+            ("verdict", trays.TrayYes(), ["b0", "b2"]),
+            ("verdict", trays.TrayNo(), ["b0", "b1"]),
+            ("fault", trays.Row(0, 0), ["b0", "b2"]),
+            ("fault", trays.Column(0, 1, 0), ["b0", "b2"]),
+            ("fault", trays.Column(0, 0, 1), ["b0", "b1", "b0"]),
+        ):
+            with mock.patch.object(trays.Tray, name, return_value=value):
+                said, beside, status = self.quickly("tray", "row.txt", "column.txt", *bands)
+            self.assertEqual((said, status, "internal error" in beside), ("", 2, True), (name, value))
 
     def test_errors(self):
         for bands, due in (
@@ -670,6 +687,8 @@ class Records(Case):
         self.record("purge.txt", "good.txt", "bad.txt", status=1)
         self.says(["verify", "good.txt.record.json"], "good.txt.record.json: yes, as recorded\n", 0)
         self.says(["verify", "bad.txt.record.json"], "bad.txt.record.json: no, as recorded\n", 1)
+        due = '{"record": "bad.txt.record.json", "verdict": "no", "as_recorded": true}\n'
+        self.says(["verify", "--json", "bad.txt.record.json"], due, 1)
         self.put("copy.txt", FILES["good.txt"])
         self.says(["verify", "good.txt.record.json", "copy.txt"], "good.txt.record.json: yes, as recorded\n", 0)
         (self.folder / "moved").mkdir()

@@ -256,6 +256,7 @@ class Messages(unittest.TestCase):
             (A[:-1], "neither a rule in words nor a rule file (refused 7: a pair has a wrong offset"),
             (A[:5], "neither a rule in words nor a rule file (refused 1: "),
             (b"\xff\xfe" + "events a".encode("utf-16-le"), "neither a rule in words nor a rule file"),
+            ("events a\npattern \xe4".encode("latin-1"), "the text is not in UTF-8"),
             (b"\x20" + bytes(40000), "neither a rule in words nor a rule file (refused 2: "),
         ):
             with self.assertRaises(Failed) as caught:
@@ -271,6 +272,9 @@ class Messages(unittest.TestCase):
                 with self.assertRaises(Failed) as caught:
                     rules.load(str(path))
                 self.assertEqual(str(caught.exception), f"{path}:{due}")
+            file.write_bytes("events a\npattern \xe4".encode("latin-1"))
+            with self.assertRaisesRegex(Failed, "purge.txt:2: the text is not in UTF-8"):
+                rules.load(str(file))
             file.write_bytes(b"events a\n" + b"# long\n" * 200000)
             with self.assertRaisesRegex(Failed, "over 1048576 bytes is no rule"):
                 rules.load(str(file))

@@ -47,12 +47,16 @@ def _add_traces(parser):
     parser.add_argument("traces", metavar="TRACE", nargs="+", help="traces; - for standard input")
     parser.add_argument("--chunks", action="store_true", help="the files are one trace, one behind the other")
     _add_trace_form(parser)
-    parser.add_argument("--json", action="store_true", help="one JSON object a trace")
+    _add_json(parser)
     _add_quiet(parser)
 
 
 def _add_trace_form(parser):
     parser.add_argument("--binary", action="store_true", help="a byte for each event, 255 for an idle mark")
+
+
+def _add_json(parser):
+    parser.add_argument("--json", action="store_true", help="one JSON object for each answer")
 
 
 def _add_quiet(parser):
@@ -72,6 +76,7 @@ def _add_tray(parser):
     parser.add_argument("bands", metavar="BAND", nargs="+", help="the bands in order, a line for each row")
     about = "the number of events in a row, where there may be no row"
     parser.add_argument("--width", type=int, metavar="W", help=about)
+    _add_json(parser)
     _add_quiet(parser)
 
 
@@ -127,6 +132,7 @@ def _add_record(parser):
 def _add_verify(parser):
     parser.add_argument("record", metavar="RECORD", help="a record (JSON)")
     parser.add_argument("traces", metavar="TRACE", nargs="*", help="the trace's files, if not those that it names")
+    _add_json(parser)
     _add_quiet(parser)
 
 

@@ -79,9 +79,13 @@ def board(arguments, output):
 def tray(arguments, output):
     _once([arguments.row, arguments.column, *arguments.bands])
     row, column = load_all([arguments.row, arguments.column])
-    is_yes, line = trays.Judged(row, column, arguments.bands, arguments.width).answer()
-    output.line(line, said.YES if is_yes else said.NO)
-    return status_of(is_yes)
+    answer = trays.Judged(row, column, arguments.bands, arguments.width).answer()
+    word = said.YES if answer.is_yes else said.NO
+    if arguments.json:
+        output.line(said.tray_as_json(arguments.bands, answer))
+    else:
+        output.line(answer.line(), word)
+    return status_of(answer.is_yes)
 
 
 def show(arguments, output):
@@ -270,7 +274,10 @@ def verify(arguments, output):
         field, recorded, found = difference
         raise Failed(f"{field} differs: {recorded} is recorded, and it is {found}", name)
     word = said.YES if judged.is_yes else said.NO
-    output.line(f"{name}: {word}, as recorded", word)
+    if arguments.json:
+        output.line(said.record_as_json(arguments.record, judged))
+    else:
+        output.line(f"{name}: {word}, as recorded", word)
     return status_of(judged.is_yes)
 
 

@@ -103,25 +103,21 @@ def _content(path):
 
 def from_bytes(name, data):
     """The rule in bytes. A rule file has a zero byte, the high one of its first offset; words and digits have none."""
-    text = _text(data)
     if not data.strip():
         raise Failed("the file is empty, and no rule")
-    if text is None:
+    if _CONTROL.search(data):
         return _unnamed(name, data)
     if _HEX.fullmatch(data):
         return _unnamed(name, _digits(data))
-    made = words.parse(text)
+    made = words.parse(_text(data))
     return NamedRule(name, made.rule, made.events, made.states, True)
 
 
 def _text(data):
-    """The bytes as text, or None where they are none."""
-    if _CONTROL.search(data):
-        return None
     try:
         return data.decode("utf-8-sig").replace("\r\n", "\n")
-    except UnicodeDecodeError:
-        return None
+    except UnicodeDecodeError as error:
+        raise Failed("the text is not in UTF-8", None, data[: error.start].count(b"\n") + 1) from None
 
 
 def _digits(data):

@@ -44,6 +44,12 @@ def error_line(paths, failed):
     return f"{place}: error: {failed.message}"
 
 
+def place_fields(place):
+    """A place as JSON has it: what is known of it."""
+    fields = {"file": place.name, "line": place.line, "column": place.column, "byte": place.byte}
+    return {key: value for key, value in fields.items() if value is not None}
+
+
 def where(named, judged):
     """The place of a no as JSON has it: where the trace is lost, or its end; None of a yes."""
     if judged.is_yes:
@@ -51,8 +57,7 @@ def where(named, judged):
     lost, found = judged.lost, {}
     if lost and lost.place:
         place = lost.place
-        found = {"file": place.name, "line": place.line, "column": place.column, "byte": place.byte}
-        found = {key: value for key, value in found.items() if value is not None}
+        found = place_fields(place)
         found.update(number=lost.number, event=named.events[lost.symbol])
     expected = [named.events[symbol] for symbol in judged.expected]
     return {"lost": lost is not None, **found, "expected": expected, "could_end": judged.could_end}
@@ -75,6 +80,18 @@ def as_json(named, paths, judged):
 def error_as_json(paths, failed):
     """One object for a trace that was not judged."""
     answer = {"trace": list(paths) if len(paths) > 1 else paths[0], "verdict": ERROR, "reason": failed.message}
-    places = {"file": failed.name, "line": failed.line, "column": failed.column, "byte": failed.byte}
-    answer.update((key, value) for key, value in places.items() if value is not None)
+    answer.update(place_fields(failed))
     return json.dumps(answer)
+
+
+def tray_as_json(bands, answer):
+    """The object for a tray that was judged."""
+    if answer.is_yes:
+        return json.dumps({"bands": bands, "verdict": YES})
+    where_ = place_fields(answer.place) if answer.place else {}
+    return json.dumps({"bands": bands, "verdict": NO, "reason": answer.reason, **where_})
+
+
+def record_as_json(path, judged):
+    """The object for a record that is right."""
+    return json.dumps({"record": path, "verdict": YES if judged.is_yes else NO, "as_recorded": True})

@@ -1,10 +1,11 @@
 """Rows and columns of events: a file for each band, a line for each row."""
 
+import dataclasses
 from dataclasses import dataclass
 
 from ..follow import Follower
 from ..refusals import Refused
-from ..trays import Column, Open, Row, Short, Tray
+from ..trays import Column, Open, Row, Tray
 from .errors import Differs, Failed, called, listed
 from .rules import common_events
 from .traces import Place, opened, words_of
@@ -19,6 +20,20 @@ class Line:
 
     codes: bytes
     places: tuple
+
+
+@dataclass(frozen=True)
+class Answer:
+    """Whether a tray is right; else where it is not, if that is a place, and why."""
+
+    title: str
+    is_yes: bool
+    place: object = None
+    reason: object = None
+
+    def line(self):
+        place = self.place.shown() if self.place else self.title
+        return f"{place}: yes" if self.is_yes else f"{place}: no: {self.reason}"
 
 
 def read_band(path, table, events):
@@ -95,39 +110,36 @@ class Judged:
         return f"tray of {len(self.bands)} band{'s' * (len(self.bands) != 1)}"
 
     def answer(self):
-        """Whether it is yes, and the line that says so. The verdict and the fault have to agree."""
+        """An Answer. The verdict and the fault have to agree."""
         verdict, fault = self.tray.verdict(), self.tray.fault()
         if verdict.is_yes == fault.is_fault or (isinstance(fault, Open) and fault.bands != len(self.bands)):
             raise Differs("the tray's verdict and its fault have two answers")
         if verdict.is_yes:
-            return True, f"{self._title()}: yes"
-        say = {Row: self._row_fault, Column: self._column_fault, Short: self._short_fault}[type(fault)]
-        return False, say(fault)
-
-    def _row_fault(self, fault):
-        row = self.bands[fault.band][fault.row]
-        return self._said(self.row, row.codes, row.places, "the row")
-
-    def _column(self, column):
+            return Answer(self._title(), True)
+        if isinstance(fault, Row):
+            row = self.bands[fault.band][fault.row]
+            return self._no(self.row, row.codes, row.places, "the row")
         rows = [row for band in self.bands for row in band]
-        return bytes(row.codes[column] for row in rows), [row.places[column] for row in rows]
+        codes, places = bytes(row.codes[fault.column] for row in rows), [row.places[fault.column] for row in rows]
+        answer = self._no(self.column, codes, places, f"column {fault.column + 1}")
+        if isinstance(fault, Column) and answer.place and answer.place.line != self._line(fault):
+            raise Differs("the tray and the follower lose a column at two places")
+        return answer
 
-    def _column_fault(self, fault):
-        return self._said(self.column, *self._column(fault.column), f"column {fault.column + 1}")
+    def _line(self, fault):
+        return self.bands[fault.band][fault.row].places[0].line
 
-    _short_fault = _column_fault
-
-    def _said(self, named, codes, places, what):
+    def _no(self, named, codes, places, what):
+        """Where a row or a column is lost, as its follower has it."""
         followed = Follower(named.rule).follow(codes)
         expected = listed([self.events[s] for s in followed.expected] + (["the end"] if followed.complete else []))
         if followed.is_accepted_so_far:
             raise Differs(f"the tray and the follower have two answers on {what}")
         if not followed.is_lost:
-            place = places[0].name + f":{places[0].line}" if what == "the row" else self._title()
-            return f"{place}: no: {what} ends too early; expected {expected}"
+            place = Place(places[0].name, places[0].line) if what == "the row" else None
+            return Answer(self._title(), False, place, f"{what} ends too early; expected {expected}")
         if followed.lost_at == 0:
-            return f"{self._title()}: no: the rule of {what} accepts no text at all"
+            return Answer(self._title(), False, None, f"the rule of {what} accepts no text at all")
         at = followed.lost_at - 1
-        event = self.events[codes[at]]
-        place = places[at]
-        return f"{place.name}:{place.line}:{place.column}: no: {event} cannot come here in {what}; expected {expected}"
+        reason = f"{self.events[codes[at]]} cannot come here in {what}; expected {expected}"
+        return Answer(self._title(), False, dataclasses.replace(places[at], first=False), reason)
