@@ -290,7 +290,11 @@ class NoWrongYes(Case):
             self.assertEqual(self.run_it("judge", "--quiet", "purge.txt", "good.txt", stdout=full)[2], 0)
 
     def test_no_library(self):
-        for program in ([sys.executable, "-m", "bellbadger"], [sys.executable, HERE.parent / "bellbadger"]):
+        # what an installer makes of pyproject.toml's line
+        installed = [sys.executable, "-c", "import sys; from bellbadger_command import console; sys.exit(console())"]
+        self.assertIn('bellbadger = "bellbadger_command:console"\n', (HERE / "pyproject.toml").read_text())
+        self.assertEqual(self.run_it("judge", "purge.txt", "good.txt", program=installed), ("good.txt: yes\n", "", 0))
+        for program in ([sys.executable, "-m", "bellbadger"], [sys.executable, HERE.parent / "bellbadger"], installed):
             said, beside, status = self.run_it("judge", "purge.txt", "good.txt", program=program, env={"BELLBADGER_LIB": "/nowhere"})
             self.assertEqual((said, status), ("", 2))
             self.assertIn("/nowhere/libbellbadger.so is not there", beside)

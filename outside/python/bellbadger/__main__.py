@@ -1,6 +1,8 @@
 """python3 -m bellbadger: the command for people."""
 
-from .command.cli import console
+import sys
+
+from .command.cli import main
 
 if __name__ == "__main__":
-    console()
+    sys.exit(main())

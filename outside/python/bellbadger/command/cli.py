@@ -269,8 +269,3 @@ def _guarded(output, work):
     except BaseException as error:  # pylint: disable=broad-except
         output.complain(f"bellbadger: internal error: {type(error).__name__}: {error}")
     return commands.OTHER
-
-
-def console():
-    """The console command."""
-    sys.exit(main())
