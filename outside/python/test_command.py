@@ -749,7 +749,8 @@ class Records(Case):
         for path, value in ((["time"], "then"), (["library"], "5.8")):
             self.assertEqual(changed(path, value)[2], 1)
         self.assertEqual(changed(["rule", "words"], "events")[1], "changed.json: rule.words:1:7: an event's name is missing\n")
-        for text in ("", "{", "[]", "{}", json.dumps(dict(kept, trace={"files": []})), "[" * 100000):
+        twice = json.dumps(kept).replace('"verdict": "no"', '"verdict": "yes", "verdict": "no"')
+        for text in (twice, "", "{", "[]", "{}", json.dumps(dict(kept, trace={"files": []})), "[" * 100000):
             self.put("changed.json", text)
             said, beside, status = self.quickly("verify", "changed.json")
             self.assertEqual((said, status), ("", 2), text[:9])

@@ -88,7 +88,8 @@ def load(path):
     try:
         with open(path, "rb") as file:
             data = file.read(_LONGEST + 1)
-        record = json.loads(data.decode("utf-8", "surrogateescape")) if len(data) <= _LONGEST else None
+        text = data.decode("utf-8", "surrogateescape") if len(data) <= _LONGEST else "null"
+        record = json.loads(text, object_pairs_hook=_each_once)
     except OSError as error:
         raise Failed(reason(error), name) from None
     except (ValueError, RecursionError):
@@ -96,6 +97,14 @@ def load(path):
     if not _is_record(record):
         raise Failed("it is no record, or one of another version", name)
     return record
+
+
+def _each_once(pairs):
+    """A JSON object. A field that is there twice would be read in two ways, by us and by who looks at it."""
+    fields = dict(pairs)
+    if len(fields) != len(pairs):
+        raise ValueError("a field is there twice")
+    return fields
 
 
 def _is_record(record):
