@@ -404,6 +404,27 @@ class Terminal(Case):
         said, _ = self.on_terminal("judge", "purge.txt", "good.txt", env={"TERM": "dumb"})
         self.assertEqual(said, "good.txt: yes\n")
 
+    def test_progress_on_a_terminal(self):
+        """A trace that takes over a second, with standard error on a terminal, and on none."""
+        master, slave = pty.openpty()
+        environment = dict(os.environ, PYTHONDONTWRITEBYTECODE="1", PYTHONPATH=str(HERE), TERM="xterm")
+        program = [sys.executable, "-m", "bellbadger", "judge", "purge.txt", "-"]
+        pipes = {"stdin": subprocess.PIPE, "stdout": subprocess.PIPE}
+        with open(self.folder / "beside", "w+b") as file:
+            processes = [subprocess.Popen(program, cwd=self.folder, env=environment, stderr=to, **pipes) for to in (slave, file)]
+            for pause in (1.5, 0):
+                for process in processes:
+                    process.stdin.write(b"red purge\n" * 14000)
+                    process.stdin.flush()
+                time.sleep(pause)
+            for process in processes:
+                self.assertEqual(process.communicate(timeout=30)[0], b"(standard input): yes\n")
+            os.close(slave)
+            self.assertTrue(os.read(master, 65536).startswith(b"\r\x1b[K(standard input): 0 MB"))
+            os.close(master)
+            file.seek(0)
+            self.assertEqual(file.read(), b"")
+
     def test_progress(self):
         """Over a second, on a terminal alone; it is gone before the answer comes."""
         with mock.patch.object(output, "_on_terminal", return_value=True), tempfile.TemporaryFile("w+", newline="") as beside:
