@@ -259,6 +259,21 @@ class NoWrongYes(Case):
             with self.assertRaisesRegex(Failed, "the file was changed while it was read"):
                 judging.judge(from_bytes("purge", PURGE.encode()), [str(name)], False, progress)
 
+    def test_carriage_returns(self):
+        """One that stands alone ends a line for who wrote it, and no comment here: what follows would not be read."""
+        why = "a carriage return stands without a line feed, and ends no line"
+        for text, line in (("# tin 12\rred\rred\r", 1), ("red\r\npurge # ok\rred\r\n", 2), ("red\npurge\r", 2)):
+            self.put("trace.txt", text)
+            for block in (1, 2, 5, 65536):
+                with mock.patch.object(traces, "BLOCK", block):
+                    self.says(["judge", "purge.txt", "trace.txt"], f"trace.txt:{line}: error: {why}\n", 2)
+        self.put("rule.txt", "events red\r\npattern red # once\r | red red\r\n")
+        self.says(["show", "rule.txt"], "", 2, f"rule.txt:2: {why}\n")
+        self.put("calls.txt", "open 1\r\nverdict # no\rdeliver 0 0 red\r\n")
+        self.says(["board", "purge.txt", "calls.txt"], "accepted\n", 2, f"calls.txt:2: {why}\n")
+        self.put("band.txt", "purge\n# none\rred\n")
+        self.says(["tray", "purge.txt", "purge.txt", "band.txt"], "", 2, f"band.txt:2: {why}\n")
+
     @staticmethod
     def more(name):
         with open(name, "ab") as file:

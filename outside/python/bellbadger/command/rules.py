@@ -115,7 +115,7 @@ def from_bytes(name, data):
 
 def _text(data):
     try:
-        return data.decode("utf-8-sig").replace("\r\n", "\n")
+        return data.decode("utf-8-sig")
     except UnicodeDecodeError as error:
         raise Failed("the text is not in UTF-8", None, data[: error.start].count(b"\n") + 1) from None
 

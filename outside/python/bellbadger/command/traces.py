@@ -15,7 +15,7 @@ from dataclasses import dataclass
 
 from .errors import Failed, called, reason
 from .rules import IDLE
-from .words import LONGEST_NAME, no_event
+from .words import LONE_RETURN, LONGEST_NAME, no_event
 
 BLOCK = 65536
 _LONGEST_WORD = 4 * LONGEST_NAME
@@ -24,6 +24,7 @@ _WORD = re.compile(rb"[^\s,]+")
 _TAIL = re.compile(rb"[^\s,]*\Z")
 _GAP = re.compile(rb",\s*,")
 _BARE_COMMA = re.compile(r"^\s*,|,\s*,|,\s*$")
+_RETURN = re.compile(rb"\r(?!\n)")
 _BYTE_ORDER_MARK = b"\xef\xbb\xbf"
 
 
@@ -175,7 +176,7 @@ def _word_places(text, cursor):
 def _whole_words(blocks, name):
     """The text without its comments, cut between words; each part with the place where it begins."""
     cursor, carried, comment, last = Cursor(name), b"", False, b""
-    for block in itertools.chain(_unmarked(blocks), [None]):
+    for block in itertools.chain(_with_line_ends(_unmarked(blocks), name), [None]):
         text, comment = _uncommented(block or b"", comment)
         text = carried + text
         cut = len(text) if block is None else _TAIL.search(text, max(0, len(text) - _LONGEST_WORD)).start()
@@ -193,6 +194,20 @@ def _unmarked(blocks):
     """The blocks without the mark with which some editors begin a text."""
     for number, block in enumerate(blocks):
         yield block[3:] if number == 0 and block.startswith(_BYTE_ORDER_MARK) else block
+
+
+def _with_line_ends(blocks, name):
+    """The blocks, none of which ends between a return and its line feed. Failed where a return is alone."""
+    line, held = 1, b""
+    for block in itertools.chain(blocks, [None]):
+        text = held + (block or b"")
+        held = b"\r" if block is not None and text.endswith(b"\r") else b""
+        text = text[: len(text) - len(held)]
+        found = b"\r" in text and _RETURN.search(text)
+        if found:
+            raise Failed(LONE_RETURN, name, line + text.count(b"\n", 0, found.start()))
+        line += text.count(b"\n")
+        yield text
 
 
 def _uncommented(block, comment):

@@ -9,7 +9,7 @@ from ..trays import Column, Open, Row, Tray
 from .errors import Differs, Failed, called, listed
 from .rules import common_events
 from .traces import Place, opened, words_of
-from .words import no_event
+from .words import lines_of, no_event
 
 _LONGEST = 1 << 20
 
@@ -44,7 +44,11 @@ def read_band(path, table, events):
     if len(data) > _LONGEST:
         raise Failed(f"a file of over {_LONGEST} bytes is no band", name)
     rows = []
-    for number, line in enumerate(data.decode("utf-8-sig", "backslashreplace").split("\n"), 1):
+    try:
+        lines = lines_of(data.decode("utf-8-sig", "backslashreplace"))
+    except Failed as failed:
+        raise failed.at(name) from None
+    for number, line in enumerate(lines, 1):
         row = _row(line.partition("#")[0], name, number, table, events)
         if row.codes:
             rows.append(row)

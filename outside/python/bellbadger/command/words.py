@@ -26,6 +26,8 @@ STATEMENTS = ("events", "pattern", "state")
 # what is no name, since it means something
 KEPT = STATEMENTS + ("initial", "final", "idle")
 
+LONE_RETURN = "a carriage return stands without a line feed, and ends no line"
+
 NAME = r"\w+(?:-+\w+)*"
 _TOKEN = re.compile(rf"(?P<name>{NAME})|->|[^\s\w]")
 
@@ -55,7 +57,7 @@ class Words:
 
 def parse(text):
     """The Words of a text; Failed, with a place, where it is none."""
-    statements = _statements(text.split("\n"))
+    statements = _statements(lines_of(text))
     if not statements:
         raise Failed("there is no rule: the first line is `events` and names", None, 1, 1)
     first_line = statements[0]
@@ -66,6 +68,14 @@ def parse(text):
         raise _end(first_line).failed("a pattern or states are missing behind the events")
     by = _by_states if statements[1][0].text == "state" else _by_pattern
     return by(events, statements[1:])
+
+
+def lines_of(text):
+    """The lines of a text, which end in a line feed, or a carriage return and one. Failed where a return is alone."""
+    text = text.replace("\r\n", "\n")
+    if "\r" in text:
+        raise Failed(LONE_RETURN, None, text.count("\n", 0, text.index("\r")) + 1)
+    return text.split("\n")
 
 
 def _statements(lines):
