@@ -181,13 +181,26 @@ class Judging(Case):
             self.says(["judge", "--binary", "purge.txt", *words], due + "\n", status)
 
     def test_chunks(self):
-        for name, text in (("a", "red"), ("b", "# nothing"), ("c", "purge blue")):
+        for name, text in (("a", "red\n"), ("b", "# nothing\n"), ("c", "purge blue ")):
             self.put(name, text)
         self.says(["judge", "--chunks", "purge.txt", "a", "b", "c"], "trace of 3 chunks: no: the trace ends too early; expected purge\n", 1)
         self.says(["judge", "--chunks", "purge.txt", "a", "c", "a"], "a:1: no: red cannot come here; expected purge\n", 1)
         self.put("d", "purge")
         self.says(["judge", "--chunks", "purge.txt", "a", "c", "d"], "trace of 3 chunks: yes\n", 0)
         self.says(["judge", "--chunks", "purge.txt", "a", "gone", "d"], "gone: error: No such file or directory\n", 2)
+
+    def test_chunks_cut_within_a_word(self):
+        """By bytes, as split -b does: what is left of a word may be another one, and of a comment too."""
+        self.put("rule.txt", "events v1 v10 v2\npattern (v1 | v10 v2)*\n")
+        why = "a chunk that others follow ends in a line's end, and not within a word or a comment"
+        for first, place, second in (("v1", "a:1", "0\n"), ("v1\nv1 # once v", "a:2:4", "1\n"), ("v1 v1", "a:1:4", "\n"), ("# v1 ", "a:1", "v1")):
+            self.put("a", first)
+            self.put("b", second)
+            for block in (1, 2, 5, 65536):
+                with mock.patch.object(traces, "BLOCK", block):
+                    self.says(["judge", "--chunks", "rule.txt", "a", "b"], f"{place}: error: {why}\n", 2)
+        self.put("a", "v1")
+        self.says(["judge", "--chunks", "rule.txt", "empty.txt", "a"], "trace of 2 chunks: yes\n", 0)
 
     def test_names_and_numbers(self):
         """16 events; names that are numbers; a rule without names."""

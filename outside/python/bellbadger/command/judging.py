@@ -174,7 +174,7 @@ def judge(named, paths, binary, progress):
     """What is judged of the files of one trace, one behind the other."""
     trace, files = Trace(named), [File(path) for path in paths]
     table = named.symbols()
-    for file in files:
-        for piece in pieces(file, table, named.events, binary, progress):
+    for number, file in enumerate(files, 1):
+        for piece in pieces(file, table, named.events, binary, progress, number < len(files)):
             trace.take(piece)
     return trace.judged(files)

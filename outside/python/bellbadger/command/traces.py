@@ -78,13 +78,14 @@ def opened(path):
         raise Failed(reason(error), called(path)) from None
 
 
-def pieces(file, table, events, binary, progress):
-    """The pieces of one file. Failed where a byte or a word is no event, and where the file was changed meanwhile."""
+def pieces(file, table, events, binary, progress, goes_on=False):
+    """The pieces of one file. Failed where a byte or a word is no event, and where the file was changed meanwhile.
+    goes_on: another file follows, so that a text may not end within a word or a comment."""
     name = called(file.path)
     with opened(file.path) as source:
         before = _stamp(source)
         blocks = _blocks(source, file, before, progress)
-        yield from _binary(blocks, name, table, events) if binary else _text(blocks, name, table, events)
+        yield from _binary(blocks, name, table, events) if binary else _text(blocks, name, table, events, goes_on)
         if before != _stamp(source) or (before and before[0] != file.length):
             raise Failed("the file was changed while it was read", name)
 
@@ -127,10 +128,10 @@ def _byte_places(name, start):
     return lambda at: Place(name, byte=start + at + 1)
 
 
-def _text(blocks, name, table, events):
+def _text(blocks, name, table, events, goes_on):
     codes = {word.encode("utf-8"): code for word, code in table.items()}
     codes[b"idle"] = IDLE
-    for text, cursor in _whole_words(blocks, name):
+    for text, cursor in _whole_words(blocks, name, goes_on):
         words, places = text.replace(b",", b" ").split(), _word_places(text, cursor)
         try:
             found = bytes(map(codes.__getitem__, words))
@@ -173,10 +174,12 @@ def _word_places(text, cursor):
     return place
 
 
-def _whole_words(blocks, name):
+def _whole_words(blocks, name, goes_on):
     """The text without its comments, cut between words; each part with the place where it begins."""
     cursor, carried, comment, last = Cursor(name), b"", False, b""
     for block in itertools.chain(_with_line_ends(_unmarked(blocks), name), [None]):
+        if block is None and goes_on and (carried or comment):
+            raise cursor.place().failed("a chunk that others follow ends in a line's end, and not within a word or a comment")
         text, comment = _uncommented(block or b"", comment)
         text = carried + text
         cut = len(text) if block is None else _TAIL.search(text, max(0, len(text) - _LONGEST_WORD)).start()
