@@ -223,6 +223,23 @@ class Judging(Case):
         for rule in ("a.rule", "a.hex"):
             self.says(["judge", rule, "trace.txt"], "trace.txt: yes\n", 0)
 
+    def test_names_or_numbers(self):
+        """A number among names is none of the events: it may be an amount, a time, or the number of a line."""
+        for text, place, stray in (
+            ("red 2\nblue 2\n", ":1:5", 'number "2" among names'),
+            ("idle purge\n2 purge\n", ":2", 'number "2" among names'),
+            ("2\nidle 2 purge\n", ":2:8", 'name "purge" among numbers'),
+        ):
+            self.put("trace.txt", text)
+            for block in (1, 2, 5, 65536):
+                with mock.patch.object(traces, "BLOCK", block):
+                    due = f"trace.txt{place}: error: the {stray}: events are by name, or all by number\n"
+                    self.says(["judge", "purge.txt", "trace.txt"], due, 2)
+        # two of another script, which looks the same: the events have numbers for names
+        self.put("wide.txt", "events \uff11 \uff10\npattern \uff10*\n")
+        self.put("trace.txt", "1")
+        self.says(["judge", "wide.txt", "trace.txt"], 'trace.txt:1: error: no event "1" (\uff11, \uff10)\n', 2)
+
     def test_json(self):
         said, _, status = self.quickly("judge", "--json", "purge.txt", "good.txt", "bad.txt", "typo.txt", "gone.txt")
         good, bad, typo, gone = map(json.loads, said.splitlines())
@@ -548,7 +565,7 @@ class Boards(Case):
         self.listed("open 1\ndeliver 0 0 red\nverdict\n", 1, "accepted\naccepted: 1 event\nno: 1 transitions, 1 events\n")
         self.listed("open 1\ndeliver 0 0 -\nverdict\n", 0, "accepted\naccepted: 0 events\nyes: 0 transitions, 0 events\n")
         self.listed("open 1\ndeliver 0 0 @good.txt\nverdict\n", 0, "accepted\naccepted: 4 events\nyes: 4 transitions, 4 events\n")
-        self.listed("open 2\ndeliver 0 0 idle, red 0\nverdict\n", 2,
+        self.listed("open 2\ndeliver 0 0 idle, red red\nverdict\n", 2,
                     "accepted\naccepted: 2 events\nwaiting for 1 place; lost at place 0, byte 3 of its chunk: red\n")
 
     def test_bad_lines(self):
@@ -557,6 +574,7 @@ class Boards(Case):
             ("deliver 0 0", "deliver takes a place, a revision and events, - for none or @FILE for those of a file"),
             ("deliver 0 0 blu", 'no event "blu" (red, blue, purge)'),
             ("deliver 0 0 red, , purge", "an event is missing beside a comma"),
+            ("deliver 0 0 red 2", 'the number "2" among names: events are by name, or all by number'),
             ("deliver 0 0 red,", "an event is missing beside a comma"),
             ("deliver 0 0 @typo.txt", 'typo.txt:3: no event "blu" (red, blue, purge)'),
             ("deliver 0 0 @gone.txt", "gone.txt: No such file or directory"),
@@ -595,7 +613,7 @@ class Trays(Case):
         self.put("row.txt", "events off on\npattern off* (on off*)?\n")
         self.put("column.txt", "events off on\npattern off* on* off+\n")
         for name, text in (("b0", "on off off\noff on off\n"), ("b1", "off, off, off # the end\n"), ("b2", "\n\noff on on\n"), ("b3", "off off on\n"),
-                           ("b4", "off off\n"), ("b5", "off of off\n"), ("b6", "# none\n"), ("b7", "off idle off\n"), ("b8", "\noff,,off\n")):
+                           ("b4", "off off\n"), ("b5", "off of off\n"), ("b6", "# none\n"), ("b7", "off idle off\n"), ("b8", "\noff,,off\n"), ("b9", "off on on\n0 1 0\n")):
             self.put(name, text)
 
     def test_answers(self):
@@ -634,6 +652,7 @@ class Trays(Case):
             (["b0", "b4"], "b4:1: the row has 2 events, and not 3"),
             (["b0", "b5"], 'b5:1:5: no event "of" (off, on)'),
             (["b0", "b7"], 'b7:1:5: no event "idle" (off, on)'),
+            (["b0", "b9"], 'b9:2: the number "0" among names: events are by name, or all by number'),
             (["b0", "b8"], "b8:2: an event is missing beside a comma"),
             (["b6"], "bellbadger: no band has a row: say how wide rows are with --width"),
             (["b0", "gone"], "gone: No such file or directory"),

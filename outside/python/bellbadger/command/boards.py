@@ -14,7 +14,7 @@ from ..judge import Judge, Waiting
 from ..refusals import Refused
 from .errors import Failed, called, reason, shown
 from .rules import IDLE
-from .traces import File, pieces, words_of
+from .traces import File, Kinds, pieces, words_of
 from .words import LONE_RETURN, no_event
 
 _LONGEST_LINE = 1 << 22
@@ -66,6 +66,10 @@ class Board:
         unknown = next((word for word in words if word not in self.table), None)
         if unknown is not None:
             raise Failed(no_event(unknown, self.named.events))
+        kinds = Kinds.of(self.named.symbols(), self.named.events)
+        at = kinds.stray(words)
+        if at is not None:
+            raise Failed(kinds.why(words[at]))
         return bytes(self.table[word] for word in words)
 
     def withdraw(self, place):

@@ -61,7 +61,8 @@ class NamedRule:
     def symbols(self):
         """The word for each event in a trace: its name; and its number, where no name is one."""
         table = {name: number for number, name in enumerate(self.events)}
-        if not any(re.fullmatch("[0-9]+", name) for name in self.events):
+        # in any script: a 1 of another one looks the same
+        if not any(name.isnumeric() for name in self.events):
             table.update((str(number), number) for number in range(self.rule.k))
         return table
 

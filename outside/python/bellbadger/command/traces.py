@@ -56,6 +56,37 @@ class Piece:
     place: object
 
 
+class Kinds:
+    """Whether a text has its events by name or by number, as the first of them has. A number among names is more
+    likely an amount, a time or the number of a line than an event."""
+
+    def __init__(self, numbers, idle):
+        self.numbers, self.idle, self.by_number = numbers, idle, None
+
+    @classmethod
+    def of(cls, table, events):
+        """For words of a table that has names and, where they are not names themselves, numbers."""
+        return cls(frozenset(table).difference(events), "idle")
+
+    def encoded(self):
+        """The same for words in bytes."""
+        return Kinds(frozenset(word.encode("ascii") for word in self.numbers), b"idle")
+
+    def stray(self, words):
+        """Which of the next words is the first that is of the other kind, or None."""
+        kinds = {word in self.numbers for word in set(words) if word != self.idle} if self.numbers else ()
+        if self.by_number is None and kinds:
+            self.by_number = next(word in self.numbers for word in words if word != self.idle)
+        if (not self.by_number) not in kinds:
+            return None
+        return next(at for at, word in enumerate(words) if word != self.idle and (word in self.numbers) != self.by_number)
+
+    def why(self, word):
+        """What is wrong with such a word."""
+        this, others = ("the name", "numbers") if self.by_number else ("the number", "names")
+        return f'{this} "{word}" among {others}: events are by name, or all by number'
+
+
 @dataclass
 class File:
     """What was read of a file; it is known whole once its last piece was taken."""
@@ -131,6 +162,7 @@ def _byte_places(name, start):
 def _text(blocks, name, table, events, goes_on):
     codes = {word.encode("utf-8"): code for word, code in table.items()}
     codes[b"idle"] = IDLE
+    kinds = Kinds.of(table, events).encoded()
     for text, cursor in _whole_words(blocks, name, goes_on):
         words, places = text.replace(b",", b" ").split(), _word_places(text, cursor)
         try:
@@ -139,6 +171,9 @@ def _text(blocks, name, table, events, goes_on):
             at = next(at for at, word in enumerate(words) if word not in codes)
             unknown = words[at].decode("utf-8", "backslashreplace")
             raise places(at).failed(no_event(unknown, events)) from None
+        at = kinds.stray(words)
+        if at is not None:
+            raise places(at).failed(kinds.why(words[at].decode("utf-8")))
         yield Piece(found, places)
 
 

@@ -8,7 +8,7 @@ from ..refusals import Refused
 from ..trays import Column, Open, Row, Tray
 from .errors import Differs, Failed, called, listed
 from .rules import common_events
-from .traces import Place, opened, words_of
+from .traces import Kinds, Place, opened, words_of
 from .words import lines_of, no_event
 
 _LONGEST = 1 << 20
@@ -43,19 +43,19 @@ def read_band(path, table, events):
         data = source.read(_LONGEST + 1)
     if len(data) > _LONGEST:
         raise Failed(f"a file of over {_LONGEST} bytes is no band", name)
-    rows = []
+    rows, kinds = [], Kinds.of(table, events)
     try:
         lines = lines_of(data.decode("utf-8-sig", "backslashreplace"))
     except Failed as failed:
         raise failed.at(name) from None
     for number, line in enumerate(lines, 1):
-        row = _row(line.partition("#")[0], name, number, table, events)
+        row = _row(line.partition("#")[0], name, number, table, events, kinds)
         if row.codes:
             rows.append(row)
     return rows
 
 
-def _row(line, name, number, table, events):
+def _row(line, name, number, table, events, kinds):
     codes, places, at = [], [], 0
     try:
         words = words_of(line)
@@ -69,6 +69,9 @@ def _row(line, name, number, table, events):
         codes.append(table[word])
         places.append(place)
         at += len(word)
+    at = kinds.stray(words)
+    if at is not None:
+        raise places[at].failed(kinds.why(words[at]))
     return Line(bytes(codes), tuple(places))
 
 
