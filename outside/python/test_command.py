@@ -310,10 +310,28 @@ class NoWrongYes(Case):
             file.write(b"red")
 
     def test_arguments(self):
-        for words in ([], ["judge"], ["judge", "purge.txt"], ["judgement", "purge.txt", "good.txt"], ["judge", "--jsn", "purge.txt", "good.txt"], ["judge", "-", "-"]):
+        for words in ([], ["judge"], ["judge", "purge.txt"], ["judgement", "purge.txt", "good.txt"], ["judge", "--jsn", "purge.txt", "good.txt"], ["judge", "-", "-"], ["--version", "judge", "purge.txt", "good.txt"]):
             said, beside, status = self.quickly(*words)
             self.assertEqual((said, status), ("", 2), words)
             self.assertTrue(beside)
+
+    def test_pipes_are_read_once(self):
+        """By whatever name: the second time nothing comes, which is no trace without events."""
+        os.mkfifo(self.folder / "pipe")
+        os.symlink("pipe", self.folder / "other")
+        for words, name in (
+            (["judge", "purge.txt", "/dev/stdin", "/dev/stdin"], "/dev/stdin"),
+            (["judge", "purge.txt", "-", "/dev/stdin"], "standard input"),
+            (["judge", "-", "/dev/fd/0"], "standard input"),
+            (["judge", "--chunks", "purge.txt", "pipe", "other"], "pipe"),
+            (["tray", "purge.txt", "purge.txt", "-", "/dev/stdin"], "standard input"),
+            (["board", "/dev/stdin"], "/dev/stdin"),
+            (["verify", "good.txt", "-", "-"], "standard input"),
+        ):
+            self.assertEqual(self.run_it(*words, input=PURGE.encode()), ("", f"bellbadger: {name} can be read once\n", 2), words)
+        for name in ("/dev/stdin", "pipe"):
+            said = self.run_it("bench", "purge.txt", name, input=b"red purge")
+            self.assertEqual(said, ("", f"bellbadger: a trace is read more than once here: {name} cannot be\n", 2))
 
     def test_outputs(self):
         """A full disk, a pipe that nobody reads, no output at all: 2, and not what Python itself would say."""
@@ -577,7 +595,9 @@ class Boards(Case):
             ("deliver 0 0 red 2", 'the number "2" among names: events are by name, or all by number'),
             ("deliver 0 0 red,", "an event is missing beside a comma"),
             ("deliver 0 0 @typo.txt", 'typo.txt:3: no event "blu" (red, blue, purge)'),
-            ("deliver 0 0 @gone.txt", "gone.txt: No such file or directory"),
+            ("deliver 0 0 @-", "a delivery is read from a file, and not from standard input"),
+            ("deliver 0 0 @good.txt#2", "a comment begins within the name of a file: a space stands before it"),
+            ("deliver 0 0 @gone.txt # x", "gone.txt: No such file or directory"),
             ("deliver 9 0 red", "refused 11: the board has no such place"),
             ("deliver 0 4294967296 red", '"4294967296" is no number for revision'),
             ("withdraw", "withdraw takes a place"),

@@ -59,6 +59,8 @@ class Board:
         """The bytes of a chunk: those of events, or of the file that is named."""
         if events == "-":
             return b""
+        if events == "@-":
+            raise Failed("a delivery is read from a file, and not from standard input")
         if events.startswith("@"):
             read = pieces(File(events[1:].strip()), self.named.symbols(), self.named.events, False, lambda *_: None)
             return b"".join(piece.codes for piece in read)
@@ -111,6 +113,14 @@ def _number(word, what, below=2**64):
     return int(word)
 
 
+def _call(line, name, number):
+    """A line without its comment. A file's name is not cut by one in silence: the rest may be another file's."""
+    call, sign, _ = line.partition("#")
+    if sign and "@" in call and not call[-1].isspace():
+        raise Failed("a comment begins within the name of a file: a space stands before it", name, number)
+    return call.strip()
+
+
 def lines(path):
     """The lines of a list with their numbers, - for standard input, as they come."""
     try:
@@ -120,7 +130,7 @@ def lines(path):
                     raise Failed(f"a line has over {_LONGEST_LINE} bytes", called(path), number)
                 if b"\r" in line.replace(b"\r\n", b""):
                     raise Failed(LONE_RETURN, called(path), number)
-                yield number, line.decode("utf-8", "backslashreplace").partition("#")[0].strip()
+                yield number, _call(line.decode("utf-8", "backslashreplace"), called(path), number)
     except OSError as error:
         raise Failed(reason(error), called(path)) from None
 

@@ -237,6 +237,8 @@ It is TRACE.record.json, and with --html TRACE.record.html, beside the trace."""
 def _run(words, output):
     parser = _parser()
     arguments = parser.parse_args(words)
+    if arguments.version and arguments.command is not None:
+        raise Failed("--version stands alone: the command was not run")
     if arguments.version:
         output.text("bellbadger {}.{}\n".format(*_library.version()))
         return commands.YES

@@ -1,6 +1,7 @@
 """The commands, one function each: what it is asked, what it writes, and its status."""
 
 import os
+import stat
 import sys
 
 from .. import compare as comparing
@@ -24,11 +25,25 @@ def status_of(is_yes):
 
 
 def _once(paths):
-    """Sees to it that standard input is there, and read once, where a file is called -."""
-    if paths.count("-") > 1:
-        raise Failed("standard input can be read once")
+    """Sees to it that standard input is there where a file is called -, and that it and every other pipe are read
+    once: the second time nothing would come, and that is a trace without events."""
     if "-" in paths and sys.stdin is None:
         raise Failed("standard input is closed")
+    pipes = [_pipe(path) for path in paths]
+    for path, pipe in zip(paths, pipes):
+        if pipe is not None and pipes.count(pipe) > 1:
+            raise Failed(f"{'standard input' if path == '-' else called(path)} can be read once")
+
+
+def _pipe(path):
+    """What a pipe or a terminal is told by, whatever it is called; None of a file that can be read again."""
+    again = "-" if path == "-" else None
+    try:
+        status = os.fstat(sys.stdin.fileno()) if path == "-" else os.stat(path)
+    except (OSError, ValueError):
+        return again
+    kinds = stat.S_ISFIFO, stat.S_ISSOCK, stat.S_ISCHR
+    return (status.st_dev, status.st_ino) if any(kind(status.st_mode) for kind in kinds) else again
 
 
 def load_all(paths):
@@ -269,6 +284,7 @@ def _write_record(named, judged, start, arguments):
 
 def verify(arguments, output):
     name = called(arguments.record)
+    _once([arguments.record, *arguments.traces])
     judged, difference = records.again(arguments.record, arguments.traces, output.progress)
     if difference:
         field, recorded, found = difference
@@ -283,8 +299,8 @@ def verify(arguments, output):
 
 def bench(arguments, output):
     named = load_all([arguments.rule])[0]
-    if arguments.trace == "-":
-        raise Failed("a trace is read more than once here: standard input cannot be")
+    if arguments.trace == "-" or _pipe(arguments.trace) is not None:
+        raise Failed(f"a trace is read more than once here: {called(arguments.trace)} cannot be")
     judged, lines = benching.measure(named, arguments.trace, arguments.binary, output.progress)
     for line in lines:
         output.line(line)
