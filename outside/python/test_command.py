@@ -796,6 +796,25 @@ class Records(Case):
         (self.folder / "moved/good.txt").unlink()
         self.assertEqual(self.quickly("verify", "moved/good.txt.record.json")[1:], ("moved/good.txt: No such file or directory\n", 2))
 
+    def test_long_names(self):
+        """The states of a pattern have names that can be read again, however long those of its events are."""
+        name = "x" * 64
+        self.put("rule.txt", f"events {name}\npattern {name}* {name}\n")
+        self.put("trace.txt", name)
+        self.record("rule.txt", "trace.txt", status=0)
+        self.says(["verify", "trace.txt.record.json"], "trace.txt.record.json: yes, as recorded\n", 0)
+        self.put("shown.txt", self.quickly("show", "rule.txt")[0])
+        self.says(["compare", "rule.txt", "shown.txt"], "the same: both accept the same traces\n", 0)
+
+    def test_names_of_no_file(self):
+        self.record("purge.txt", "good.txt", status=0)
+        path = self.folder / "good.txt.record.json"
+        record = json.loads(path.read_text())
+        for name, shown in (("a\0b", "./a\\x00b"), ("\ud800", "./\\ud800")):
+            record["trace"]["files"][0]["name"] = name
+            path.write_text(json.dumps(record))
+            self.says(["verify", "good.txt.record.json"], "", 2, f"{shown}: no file can have that name\n")
+
     def test_every_changed_field(self):
         """Each field that is changed is the one that is named; time and version are free."""
         self.record("purge.txt", "bad.txt", status=1)
@@ -867,6 +886,14 @@ class Records(Case):
             self.assertIn("Expected: purge", bad.text)
             self.assertEqual(short.marked["end"], "ends heretoo early")
             self.assertIn("The trace has no events.", empty.text)
+
+    def test_names_that_turn_letters(self):
+        """What turns the order of letters around is shown as its number, on the page too."""
+        name = "on\u202e.txt"
+        self.put(name, FILES["bad.txt"])
+        self.record("--html", "purge.txt", name, status=1)
+        text = (self.folder / f"{name}.record.html").read_text()
+        self.assertEqual(("\u202e" in text, text.count("on\\u202e.txt")), (False, 3))
 
     def test_long_strips(self):
         """Of a long trace the beginning, the place and the end are shown, with how many are left out."""

@@ -84,7 +84,9 @@ def made(named, judged, record):
 
 
 def _safe(text):
-    return html.escape(str(text).encode("utf-8", "backslashreplace").decode("utf-8"))
+    """A text for the page. What is not seen, and what turns the order of letters around, is shown as its number."""
+    seen = (char if char.isprintable() or char == "\n" else char.encode("unicode_escape").decode("ascii") for char in str(text))
+    return html.escape("".join(seen))
 
 
 def _section(title, inside):

@@ -103,10 +103,18 @@ def opened(path):
         if path == "-":
             yield sys.stdin.buffer
         else:
-            with open(path, "rb") as file:
+            with _open(path) as file:
                 yield file
     except OSError as error:
         raise Failed(reason(error), called(path)) from None
+
+
+def _open(path):
+    try:
+        return open(path, "rb")
+    except ValueError:
+        # a zero byte, or what no system can name; a record may have it
+        raise Failed("no file can have that name", called(path)) from None
 
 
 def pieces(file, table, events, binary, progress, goes_on=False):

@@ -160,8 +160,14 @@ def _pattern_rule(events, statement):
     pattern = wordpatterns.Reader(statement[1:], _end(statement), _symbol_of(events), len(events)).whole()
     text = wordpatterns.written_out(pattern, first)
     letters = [char for char in text if char.isalpha()]
-    states = ("start",) + tuple(f"{events[ord(char) - ord('a')]}-{at}" for at, char in enumerate(letters, 1))
+    states = ("start",) + tuple(_letter_name(events[ord(char) - ord("a")], at) for at, char in enumerate(letters, 1))
     return narrowed(read(rule_file(text)), len(events)), events, states
+
+
+def _letter_name(event, at):
+    """The state of a pattern's letter: red-2. A long name is cut, so that what is written can be read again."""
+    end = f"-{at}"
+    return event[: LONGEST_NAME - len(end)] + end
 
 
 def narrowed(rule, symbols):
