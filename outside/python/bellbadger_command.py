@@ -8,7 +8,18 @@ def console():
     """Runs the command: its status."""
     try:
         from bellbadger.command.cli import main
+
+        return main()
+    except KeyboardInterrupt:
+        return _failed("interrupted")
     except Exception as error:  # pylint: disable=broad-except
-        sys.stderr.write(f"bellbadger: {error}\n")
-        return 2
-    return main()
+        return _failed(error)
+
+
+def _failed(why):
+    try:
+        sys.stderr.write(f"bellbadger: {why}\n")
+    except (AttributeError, OSError):
+        # there is no standard error, or no room for more: the status is 2 all the same
+        pass
+    return 2

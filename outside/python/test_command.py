@@ -139,7 +139,9 @@ class Judging(Case):
             ("red\x0bpurge\x0c\t", "yes", 0),
             ("red 3", 'error: no event "3" (red, blue, purge)', 2),
             ("red 00", 'error: no event "00" (red, blue, purge)', 2),
-            ("red purge\0", 'error: no event "purge\\x00" (red, blue, purge)', 2),
+            ("red purge\0", "error: a zero byte: this is no text", 2),
+            ("red purge # \0\0\0", "error: a zero byte: this is no text", 2),
+            ("red purge\x01", 'error: no event "purge\\x01" (red, blue, purge)', 2),
             ("Red purge", 'error: no event "Red" (red, blue, purge)', 2),
             ("red;purge", 'error: no event "red;purge" (red, blue, purge)', 2),
             ("\u00a0red purge", 'error: no event "\\xa0red" (red, blue, purge)', 2),
@@ -162,6 +164,7 @@ class Judging(Case):
             ("# ä\nred, red", "trace.txt:2:6: no: red cannot come here; expected purge"),
             ("red\n\n\n  blu", 'trace.txt:4: error: no event "blu" (red, blue, purge)'),
             ("red ä blu", 'trace.txt:1:5: error: no event "ä" (red, blue, purge)'),
+            ("red\npurge " + "x" * 999, "trace.txt:2:7: error: a word is longer than any name"),
             ("red,\n,", "trace.txt:2: error: an event is missing before the comma"),
         ):
             self.put("trace.txt", text)
@@ -304,6 +307,13 @@ class NoWrongYes(Case):
         self.put("band.txt", "purge\n# none\rred\n")
         self.says(["tray", "purge.txt", "purge.txt", "band.txt"], "", 2, f"band.txt:2: {why}\n")
 
+    def test_zero_bytes(self):
+        """In a comment too: they are left of a disk that failed, and something else may have stood there."""
+        self.put("calls.txt", "open 1\nverdict # \0\n")
+        self.says(["board", "purge.txt", "calls.txt"], "accepted\n", 2, "calls.txt:2: a zero byte: this is no text\n")
+        self.put("band.txt", "purge\n# \0\n")
+        self.says(["tray", "purge.txt", "purge.txt", "band.txt"], "", 2, "band.txt:2: a zero byte: this is no text\n")
+
     @staticmethod
     def more(name):
         with open(name, "ab") as file:
@@ -361,6 +371,11 @@ class NoWrongYes(Case):
             said, beside, status = self.run_it("judge", "purge.txt", "good.txt", program=program, env={"BELLBADGER_LIB": "/nowhere"})
             self.assertEqual((said, status), ("", 2))
             self.assertIn("/nowhere/libbellbadger.so is not there", beside)
+            # nor is it 1 where that cannot be said
+            for end in ("2>&-", "2>/dev/full"):
+                shell = ["sh", "-c", f'"$@" {end}', "sh", *map(str, program)]
+                said = self.run_it("judge", "purge.txt", "good.txt", program=shell, env={"BELLBADGER_LIB": "/nowhere"})
+                self.assertEqual(said, ("", "", 2), (program, end))
 
     def started(self, *words):
         environment = dict(os.environ, PYTHONDONTWRITEBYTECODE="1", PYTHONPATH=str(HERE))

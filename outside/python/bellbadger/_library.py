@@ -40,7 +40,11 @@ def _found():
     except ImportError as error:
         # python3 -m bellbadger, before the command has begun: its status is 2, since 1 says that a trace was judged no
         if sys.argv[:1] == ["-m"]:
-            sys.stderr.write(f"bellbadger: {error}\n")
+            try:
+                sys.stderr.write(f"bellbadger: {error}\n")
+            except (AttributeError, OSError):
+                # there is no standard error, or no room for more
+                pass
             sys.exit(2)
         raise
 

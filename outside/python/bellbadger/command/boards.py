@@ -15,7 +15,7 @@ from ..refusals import Refused
 from .errors import Failed, called, reason, shown
 from .rules import IDLE
 from .traces import File, Kinds, pieces, words_of
-from .words import LONE_RETURN, no_event
+from .words import LONE_RETURN, ZERO_BYTE, no_event
 
 _LONGEST_LINE = 1 << 22
 _NUMBER = re.compile("[0-9]{1,20}")
@@ -128,8 +128,9 @@ def lines(path):
             for number, line in enumerate(iter(lambda: source.readline(_LONGEST_LINE + 1), b""), 1):
                 if len(line) > _LONGEST_LINE:
                     raise Failed(f"a line has over {_LONGEST_LINE} bytes", called(path), number)
-                if b"\r" in line.replace(b"\r\n", b""):
-                    raise Failed(LONE_RETURN, called(path), number)
+                for sign, why in ((b"\r", LONE_RETURN), (b"\0", ZERO_BYTE)):
+                    if sign in line.replace(b"\r\n", b""):
+                        raise Failed(why, called(path), number)
                 yield number, _call(line.decode("utf-8", "backslashreplace"), called(path), number)
     except OSError as error:
         raise Failed(reason(error), called(path)) from None

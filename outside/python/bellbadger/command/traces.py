@@ -15,7 +15,7 @@ from dataclasses import dataclass
 
 from .errors import Failed, called, reason
 from .rules import IDLE
-from .words import LONE_RETURN, LONGEST_NAME, no_event
+from .words import LONE_RETURN, LONGEST_NAME, ZERO_BYTE, no_event
 
 BLOCK = 65536
 _LONGEST_WORD = 4 * LONGEST_NAME
@@ -24,7 +24,7 @@ _WORD = re.compile(rb"[^\s,]+")
 _TAIL = re.compile(rb"[^\s,]*\Z")
 _GAP = re.compile(rb",\s*,")
 _BARE_COMMA = re.compile(r"^\s*,|,\s*,|,\s*$")
-_RETURN = re.compile(rb"\r(?!\n)")
+_NO_TEXT = re.compile(rb"\r(?!\n)|\0")
 _BYTE_ORDER_MARK = b"\xef\xbb\xbf"
 
 
@@ -228,7 +228,8 @@ def _whole_words(blocks, name, goes_on):
         cut = len(text) if block is None else _TAIL.search(text, max(0, len(text) - _LONGEST_WORD)).start()
         text, carried = text[:cut], text[cut:]
         if len(carried) >= _LONGEST_WORD:
-            raise cursor.behind(text).place().failed("a word is longer than any name")
+            begin = _TAIL.search(text + carried).start()
+            raise cursor.behind(text[:begin]).place().failed("a word is longer than any name")
         last = _last_sign(text, last, cursor)
         yield text, cursor
         cursor = cursor.behind(text)
@@ -243,15 +244,17 @@ def _unmarked(blocks):
 
 
 def _with_line_ends(blocks, name):
-    """The blocks, none of which ends between a return and its line feed. Failed where a return is alone."""
+    """The blocks, none of which ends between a return and its line feed. Failed where a return is alone; and at a zero
+    byte, in a comment too: it is left of a disk that failed, or the text is no UTF-8."""
     line, held = 1, b""
     for block in itertools.chain(blocks, [None]):
         text = held + (block or b"")
         held = b"\r" if block is not None and text.endswith(b"\r") else b""
         text = text[: len(text) - len(held)]
-        found = b"\r" in text and _RETURN.search(text)
+        found = (b"\r" in text or b"\0" in text) and _NO_TEXT.search(text)
         if found:
-            raise Failed(LONE_RETURN, name, line + text.count(b"\n", 0, found.start()))
+            why = LONE_RETURN if found[0] == b"\r" else ZERO_BYTE
+            raise Failed(why, name, line + text.count(b"\n", 0, found.start()))
         line += text.count(b"\n")
         yield text
 

@@ -27,6 +27,7 @@ STATEMENTS = ("events", "pattern", "state")
 KEPT = STATEMENTS + ("initial", "final", "idle")
 
 LONE_RETURN = "a carriage return stands without a line feed, and ends no line"
+ZERO_BYTE = "a zero byte: this is no text"
 
 NAME = r"\w+(?:-+\w+)*"
 _TOKEN = re.compile(rf"(?P<name>{NAME})|->|[^\s\w]")
@@ -71,10 +72,12 @@ def parse(text):
 
 
 def lines_of(text):
-    """The lines of a text, which end in a line feed, or a carriage return and one. Failed where a return is alone."""
+    """The lines of a text, which end in a line feed, or a carriage return and one. Failed where a return is alone, and
+    where there is a zero byte."""
     text = text.replace("\r\n", "\n")
-    if "\r" in text:
-        raise Failed(LONE_RETURN, None, text.count("\n", 0, text.index("\r")) + 1)
+    for sign, why in (("\r", LONE_RETURN), ("\0", ZERO_BYTE)):
+        if sign in text:
+            raise Failed(why, None, text.count("\n", 0, text.index(sign)) + 1)
     return text.split("\n")
 
 
