@@ -343,6 +343,17 @@ class NoWrongYes(Case):
             said = self.run_it("bench", "purge.txt", name, input=b"red purge")
             self.assertEqual(said, ("", f"bellbadger: a trace is read more than once here: {name} cannot be\n", 2))
 
+    def test_a_trace_that_is_the_output(self):
+        """A shell empties it before the command begins, and what is left is a trace without events."""
+        why = "it is the output too, and was emptied for it or will be written to"
+        for end in ("> bad.txt", ">> good.txt", "2> bad.txt"):
+            name = end.split()[1]
+            shell = ["sh", "-c", f'"$@" {end}', "sh", sys.executable, "-m", "bellbadger"]
+            for words in (["judge", "purge.txt"], ["tray", "purge.txt", "purge.txt"]):
+                said, beside, status = self.run_it(*words, name, program=shell)
+                text = (self.folder / name).read_text() + said + beside
+                self.assertEqual((why in text, status), (True, 2), (end, words))
+
     def test_outputs(self):
         """A full disk, a pipe that nobody reads, no output at all: 2, and not what Python itself would say."""
         commands_ = ["judge", "purge.txt", "good.txt"], ["show", "purge.txt"], ["judge", "--help"], ["--version"]
@@ -603,6 +614,7 @@ class Boards(Case):
 
     def test_bad_lines(self):
         """It stops at the first line that is no call or refused, with its number."""
+        self.put("long.txt", "red purge\n" * 200000)
         for line, why in (
             ("deliver 0 0", "deliver takes a place, a revision and events, - for none or @FILE for those of a file"),
             ("deliver 0 0 blu", 'no event "blu" (red, blue, purge)'),
@@ -610,6 +622,7 @@ class Boards(Case):
             ("deliver 0 0 red 2", 'the number "2" among names: events are by name, or all by number'),
             ("deliver 0 0 red,", "an event is missing beside a comma"),
             ("deliver 0 0 @typo.txt", 'typo.txt:3: no event "blu" (red, blue, purge)'),
+            ("deliver 0 0 @long.txt", "refused 12: the chunk has over 65,536 bytes"),
             ("deliver 0 0 @-", "a delivery is read from a file, and not from standard input"),
             ("deliver 0 0 @good.txt#2", "a comment begins within the name of a file: a space stands before it"),
             ("deliver 0 0 @gone.txt # x", "gone.txt: No such file or directory"),

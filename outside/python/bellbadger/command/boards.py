@@ -14,7 +14,7 @@ from ..judge import Judge, Waiting
 from ..refusals import Refused
 from .errors import Failed, called, reason, shown
 from .rules import IDLE
-from .traces import File, Kinds, pieces, words_of
+from .traces import BLOCK, File, Kinds, pieces, words_of
 from .words import LONE_RETURN, ZERO_BYTE, no_event
 
 _LONGEST_LINE = 1 << 22
@@ -63,7 +63,7 @@ class Board:
             raise Failed("a delivery is read from a file, and not from standard input")
         if events.startswith("@"):
             read = pieces(File(events[1:].strip()), self.named.symbols(), self.named.events, False, lambda *_: None)
-            return b"".join(piece.codes for piece in read)
+            return self.joined(read)
         words = words_of(events)
         unknown = next((word for word in words if word not in self.table), None)
         if unknown is not None:
@@ -73,6 +73,14 @@ class Board:
         if at is not None:
             raise Failed(kinds.why(words[at]))
         return bytes(self.table[word] for word in words)
+
+    @staticmethod
+    def joined(read):
+        """The bytes of all pieces; of more than a chunk may have as many as are refused. All are read."""
+        codes = bytearray()
+        for piece in read:
+            codes += piece.codes[: BLOCK + 1 - len(codes)]
+        return bytes(codes)
 
     def withdraw(self, place):
         self.judge.withdraw(_number(place, "place"))

@@ -104,6 +104,8 @@ def opened(path):
             yield sys.stdin.buffer
         else:
             with _open(path) as file:
+                if _is_output(file):
+                    raise Failed("it is the output too, and was emptied for it or will be written to", called(path))
                 yield file
     except OSError as error:
         raise Failed(reason(error), called(path)) from None
@@ -115,6 +117,19 @@ def _open(path):
     except ValueError:
         # a zero byte, or what no system can name; a record may have it
         raise Failed("no file can have that name", called(path)) from None
+
+
+def _is_output(file):
+    """Whether answers go to a file on a disk that is read here: a shell has emptied it before we begin."""
+    status = os.fstat(file.fileno())
+    return stat.S_ISREG(status.st_mode) and any(_is_same(status, stream) for stream in (sys.stdout, sys.stderr))
+
+
+def _is_same(status, stream):
+    try:
+        return os.path.samestat(status, os.fstat(stream.fileno()))
+    except (AttributeError, OSError, ValueError):
+        return False
 
 
 def pieces(file, table, events, binary, progress, goes_on=False):
