@@ -346,11 +346,11 @@ class NoWrongYes(Case):
     def test_a_trace_that_is_the_output(self):
         """A shell empties it before the command begins, and what is left is a trace without events."""
         why = "it is the output too, and was emptied for it or will be written to"
-        for end in ("> bad.txt", ">> good.txt", "2> bad.txt"):
+        for end in ("> bad.txt", ">> good.txt", "2> bad.txt", "> bad.txt < bad.txt"):
             name = end.split()[1]
             shell = ["sh", "-c", f'"$@" {end}', "sh", sys.executable, "-m", "bellbadger"]
             for words in (["judge", "purge.txt"], ["tray", "purge.txt", "purge.txt"]):
-                said, beside, status = self.run_it(*words, name, program=shell)
+                said, beside, status = self.run_it(*words, "-" if "<" in end else name, program=shell)
                 text = (self.folder / name).read_text() + said + beside
                 self.assertEqual((why in text, status), (True, 2), (end, words))
 
@@ -823,6 +823,19 @@ class Records(Case):
         self.assertEqual(self.quickly("verify", "moved/good.txt.record.json")[2], 2)
         (self.folder / "moved/good.txt").unlink()
         self.assertEqual(self.quickly("verify", "moved/good.txt.record.json")[1:], ("moved/good.txt: No such file or directory\n", 2))
+
+    def test_the_rule_that_is_meant(self):
+        """A record is judged again by its own rule, which may be another than it is called."""
+        self.put("lax.txt", "events red blue purge\npattern .*\n")
+        self.record("lax.txt", "bad.txt", status=0)
+        record = self.kept("bad.txt.record.json")
+        record["rule"]["name"] = "purge.txt"
+        self.put("bad.txt.record.json", json.dumps(record))
+        self.says(["verify", "--rule", "lax.txt", "bad.txt.record.json"], "bad.txt.record.json: yes, as recorded\n", 0)
+        beside = "bad.txt.record.json: rule differs: it is not that of purge.txt\n"
+        self.says(["verify", "--rule", "purge.txt", "bad.txt.record.json"], "", 2, beside)
+        self.put("names.txt", "events red blue Purge\npattern .*\n")
+        self.assertEqual(self.quickly("verify", "bad.txt.record.json", "--rule", "names.txt")[2], 2)
 
     def test_long_names(self):
         """The states of a pattern have names that can be read again, however long those of its events are."""

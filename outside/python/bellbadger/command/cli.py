@@ -132,6 +132,7 @@ def _add_record(parser):
 def _add_verify(parser):
     parser.add_argument("record", metavar="RECORD", help="a record (JSON)")
     parser.add_argument("traces", metavar="TRACE", nargs="*", help="the trace's files, if not those that it names")
+    parser.add_argument("--rule", metavar="RULE", help="the rule that is meant: the record has to have the same")
     _add_json(parser)
     _add_quiet(parser)
 

@@ -284,8 +284,10 @@ def _write_record(named, judged, start, arguments):
 
 def verify(arguments, output):
     name = called(arguments.record)
-    _once([arguments.record, *arguments.traces])
-    judged, difference = records.again(arguments.record, arguments.traces, output.progress)
+    rule = [] if arguments.rule is None else [arguments.rule]
+    _once([arguments.record, *arguments.traces, *rule])
+    meant = load_all(rule)
+    judged, difference = records.again(arguments.record, arguments.traces, meant, output.progress)
     if difference:
         field, recorded, found = difference
         raise Failed(f"{field} differs: {recorded} is recorded, and it is {found}", name)

@@ -129,16 +129,23 @@ def rule_in(record, name):
     return NamedRule(record["rule"]["name"], made_of.rule, made_of.events, made_of.states, True)
 
 
-def again(path, traces, progress):
-    """A record, what is judged anew of its trace, and the first field that differs, or None. traces: other files to
-    judge instead of those that it names."""
+def again(path, traces, meant, progress):
+    """What is judged anew of a record's trace, and the first field that differs, or None. traces: other files to
+    judge instead of those that it names. meant: rules that its own has to be the same as."""
     record, folder = load(path), os.path.dirname(path) or "."
     named = rule_in(record, called(path))
+    for rule in meant:
+        _expect_same(named, rule, called(path))
     paths = traces or [os.path.join(folder, file["name"]) for file in record["trace"]["files"]]
     binary = record["trace"].get("form") == "binary"
     judged = judging.judge(named, paths, binary, progress)
     anew = made(named, judged, binary, folder)
     return judged, first_difference(_renamed(record, bool(traces)), _renamed(anew, bool(traces)))
+
+
+def _expect_same(named, meant, name):
+    if named.rule != meant.rule or (meant.named and named.events != meant.events):
+        raise Failed(f"rule differs: it is not that of {called(meant.name)}", name)
 
 
 def _renamed(record, other_files):

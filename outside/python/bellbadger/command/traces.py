@@ -101,12 +101,10 @@ def opened(path):
     """The file of a trace, - for standard input; an error of the system is Failed, with the name."""
     try:
         if path == "-":
-            yield sys.stdin.buffer
+            yield _no_output(sys.stdin.buffer, path)
         else:
             with _open(path) as file:
-                if _is_output(file):
-                    raise Failed("it is the output too, and was emptied for it or will be written to", called(path))
-                yield file
+                yield _no_output(file, path)
     except OSError as error:
         raise Failed(reason(error), called(path)) from None
 
@@ -119,10 +117,12 @@ def _open(path):
         raise Failed("no file can have that name", called(path)) from None
 
 
-def _is_output(file):
-    """Whether answers go to a file on a disk that is read here: a shell has emptied it before we begin."""
+def _no_output(file, path):
+    """The file. Failed where answers go to it, and it is on a disk: a shell has emptied it before we begin."""
     status = os.fstat(file.fileno())
-    return stat.S_ISREG(status.st_mode) and any(_is_same(status, stream) for stream in (sys.stdout, sys.stderr))
+    if stat.S_ISREG(status.st_mode) and any(_is_same(status, stream) for stream in (sys.stdout, sys.stderr)):
+        raise Failed("it is the output too, and was emptied for it or will be written to", called(path))
+    return file
 
 
 def _is_same(status, stream):
