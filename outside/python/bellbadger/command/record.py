@@ -45,7 +45,9 @@ def _file(file, folder):
 
 
 def _seen(path, folder):
-    return path if path == "-" else os.path.relpath(path, folder)
+    """A file as seen from a folder; links to folders are followed, as the system does where it goes up from one."""
+    parent, name = os.path.split(path)
+    return os.path.normpath(os.path.join(os.path.relpath(os.path.realpath(parent), os.path.realpath(folder)), name))
 
 
 def text_of(record):
