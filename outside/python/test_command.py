@@ -642,6 +642,17 @@ class Boards(Case):
         self.listed("", 2, "", "calls.txt: the list does not end with a verdict\n")
         self.listed("open 1\n", 2, "", "many.txt: no board takes the rule (refused 9: the rule has over 512 sets)\n", "many.txt")
 
+    def test_an_input_that_does_not_wait(self):
+        """Where more is to come, what came is no list, and no trace."""
+        for words in (["board", "purge.txt"], ["judge", "purge.txt", "-"]):
+            there, put = os.pipe()
+            with open(there, "rb") as input_, open(put, "wb", 0) as other_end:
+                other_end.write(b"open 1\ndeliver 0 0 purge\nverdict\n")
+                os.set_blocking(there, False)
+                said = self.run_it(*words, stdin=input_)
+            why = "standard input is set not to wait for what comes (O_NONBLOCK): put cat | before it"
+            self.assertEqual(said, ("", f"bellbadger: {why}\n", 2))
+
     def test_line_by_line(self):
         """On standard input each answer comes before the next line is there."""
         environment = dict(os.environ, PYTHONDONTWRITEBYTECODE="1", PYTHONPATH=str(HERE))
@@ -846,6 +857,15 @@ class Records(Case):
         self.says(["verify", "trace.txt.record.json"], "trace.txt.record.json: yes, as recorded\n", 0)
         self.put("shown.txt", self.quickly("show", "rule.txt")[0])
         self.says(["compare", "rule.txt", "shown.txt"], "the same: both accept the same traces\n", 0)
+
+    def test_links_to_folders(self):
+        """A record that is written through a link finds its trace again."""
+        (self.folder / "some" / "where").mkdir(parents=True)
+        os.symlink("some/where", self.folder / "link")
+        self.record("--into", "link", "purge.txt", "good.txt", status=0)
+        for name in ("link", "some/where"):
+            path = f"{name}/good.txt.record.json"
+            self.says(["verify", path], f"{path}: yes, as recorded\n", 0)
 
     def test_names_of_no_file(self):
         self.record("purge.txt", "good.txt", status=0)

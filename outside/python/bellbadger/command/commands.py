@@ -29,6 +29,9 @@ def _once(paths):
     once: the second time nothing would come, and that is a trace without events."""
     if "-" in paths and sys.stdin is None:
         raise Failed("standard input is closed")
+    if "-" in paths and not os.get_blocking(sys.stdin.fileno()):
+        # where nothing has come yet it would look as if nothing came any more
+        raise Failed("standard input is set not to wait for what comes (O_NONBLOCK): put cat | before it")
     pipes = [_pipe(path) for path in paths]
     for path, pipe in zip(paths, pipes):
         if pipe is not None and pipes.count(pipe) > 1:
