@@ -203,7 +203,19 @@ class Judging(Case):
                 with mock.patch.object(traces, "BLOCK", block):
                     self.says(["judge", "--chunks", "rule.txt", "a", "b"], f"{place}: error: {why}\n", 2)
         self.put("a", "v1")
-        self.says(["judge", "--chunks", "rule.txt", "empty.txt", "a"], "trace of 2 chunks: yes\n", 0)
+        self.put("a.txt", "v1 ")
+        self.says(["judge", "--chunks", "rule.txt", "a.txt", "a"], "trace of 2 chunks: yes\n", 0)
+
+    def test_chunks_without_events(self):
+        """A recording that failed looks like that: the line says so."""
+        self.put("idle.txt", "idle\n")
+        for words, more in (
+            (["good.txt", "empty.txt"], " (empty.txt has no events)"),
+            (["idle.txt", "good.txt", "comment.txt", "empty.txt"], " (idle.txt and 2 more have no events)"),
+            (["idle.txt", "empty.txt"], " (the trace has no events)"),
+            (["good.txt", "good.txt"], ""),
+        ):
+            self.says(["judge", "--chunks", "purge.txt", *words], f"trace of {len(words)} chunks: yes{more}\n", 0)
 
     def test_names_and_numbers(self):
         """16 events; names that are numbers; a rule without names."""
@@ -691,7 +703,7 @@ class Trays(Case):
         self.put("some.txt", "events off on\npattern on off\n")
         self.put("r0", "on\n")
         self.says(["tray", "some.txt", "column.txt", "r0"], "r0:1: no: the row ends too early; expected off\n", 1)
-        self.says(["tray", "--width", "2", "row.txt", "row.txt", "b6"], "tray of 1 band: yes\n", 0)
+        self.says(["tray", "--width", "2", "row.txt", "row.txt", "b6"], "tray of 1 band: yes (b6 has no rows)\n", 0)
 
     def test_two_answers(self):
         """A verdict and a fault that do not go together, or a row that the follower has otherwise, are no answer."""

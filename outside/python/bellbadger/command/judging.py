@@ -175,6 +175,8 @@ def judge(named, paths, binary, progress):
     trace, files = Trace(named), [File(path) for path in paths]
     table = named.symbols()
     for number, file in enumerate(files, 1):
+        before = trace.events
         for piece in pieces(file, table, named.events, binary, progress, number < len(files)):
             trace.take(piece)
+        file.events = trace.events - before
     return trace.judged(files)

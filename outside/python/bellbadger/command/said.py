@@ -29,10 +29,25 @@ def reason_of(named, judged):
     return f"{named.events[judged.lost.symbol]} cannot come here; expected {awaited(named, judged)}"
 
 
+def _nothing(judged):
+    """Where a trace, or a chunk of it, has no events: a recording that failed looks like that."""
+    if judged.events == 0:
+        return " (the trace has no events)"
+    return without([file.path for file in judged.files if file.events == 0], "events")
+
+
+def without(paths, what):
+    """(a has no rows), (a and 2 more have no rows); nothing where there is none."""
+    if not paths:
+        return ""
+    more = f" and {len(paths) - 1} more have" if len(paths) > 1 else " has"
+    return f" ({called(paths[0])}{more} no {what})"
+
+
 def line(named, paths, judged):
     """The line for a trace: FILE: yes, FILE:LINE: no: .."""
     if judged.is_yes:
-        return f"{title(paths)}: yes" + (" (the trace has no events)" if judged.events == 0 else "")
+        return f"{title(paths)}: yes{_nothing(judged)}"
     lost = judged.lost
     place = lost.place.shown() if lost and lost.place else title(paths)
     return f"{place}: no: {reason_of(named, judged)}"

@@ -89,11 +89,12 @@ class Kinds:
 
 @dataclass
 class File:
-    """What was read of a file; it is known whole once its last piece was taken."""
+    """What was read of a file; it is known whole once its last piece was taken. events: how many were judged."""
 
     path: str
     length: int = 0
     sha256: str = ""
+    events: int = 0
 
 
 @contextmanager

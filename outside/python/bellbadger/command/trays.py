@@ -8,6 +8,7 @@ from ..refusals import Refused
 from ..trays import Column, Open, Row, Tray
 from .errors import Differs, Failed, called, listed
 from .rules import common_events
+from .said import without
 from .traces import Kinds, Place, opened, words_of
 from .words import lines_of, no_event
 
@@ -24,7 +25,7 @@ class Line:
 
 @dataclass(frozen=True)
 class Answer:
-    """Whether a tray is right; else where it is not, if that is a place, and why."""
+    """Whether a tray is right, and which bands have no rows; else where it is not, if that is a place, and why."""
 
     title: str
     is_yes: bool
@@ -33,7 +34,7 @@ class Answer:
 
     def line(self):
         place = self.place.shown() if self.place else self.title
-        return f"{place}: yes" if self.is_yes else f"{place}: no: {self.reason}"
+        return f"{place}: yes{self.reason or ''}" if self.is_yes else f"{place}: no: {self.reason}"
 
 
 def read_band(path, table, events):
@@ -122,7 +123,8 @@ class Judged:
         if verdict.is_yes == fault.is_fault or (isinstance(fault, Open) and fault.bands != len(self.bands)):
             raise Differs("the tray's verdict and its fault have two answers")
         if verdict.is_yes:
-            return Answer(self._title(), True)
+            empty = [path for path, band in zip(self.paths, self.bands) if not band]
+            return Answer(self._title(), True, None, without(empty, "rows"))
         if isinstance(fault, Row):
             row = self.bands[fault.band][fault.row]
             return self._no(self.row, row.codes, row.places, "the row")
