@@ -400,6 +400,17 @@ class NoWrongYes(Case):
                 said = self.run_it("judge", "purge.txt", "good.txt", program=shell, env={"BELLBADGER_LIB": "/nowhere"})
                 self.assertEqual(said, ("", "", 2), (program, end))
 
+    def test_half_a_library(self):
+        """One that has the version and not the functions: the status is 2 too."""
+        made = self.folder / "libbellbadger.so"
+        for code, why in (("unsigned bellbadger_version(void) { return 5 << 16 | 9; }\n", "the library has no "), ("int x;\n", "bellbadger_version")):
+            self.put("half.c", code)
+            subprocess.run(["gcc", "-shared", "-fPIC", "-o", made, self.folder / "half.c"], check=True)
+            for program in ([sys.executable, "-m", "bellbadger"], [sys.executable, HERE.parent / "bellbadger"]):
+                said, beside, status = self.run_it("judge", "purge.txt", "good.txt", program=program, env={"BELLBADGER_LIB": str(self.folder)})
+                self.assertEqual((said, status, beside.count("\n")), ("", 2, 1))
+                self.assertIn(why, beside)
+
     def started(self, *words):
         environment = dict(os.environ, PYTHONDONTWRITEBYTECODE="1", PYTHONPATH=str(HERE))
         program = [sys.executable, "-m", "bellbadger", *words]
