@@ -100,7 +100,7 @@ def any_pattern(chance, depth):
         word, plain = any_pattern(chance, depth - 1)
         sign = chance.choice("*+?")
         more = chance.choice(("", "", chance.choice("*+?")))
-        return f"({word}){sign}{more}", f"(?:(?:{plain}){sign}){more}"
+        return f"(({word}){sign}){more}", f"(?:(?:{plain}){sign}){more}"
     if kind >= 3:
         pairs = [any_pattern(chance, depth - 1) for _ in range(chance.randint(2, 3))]
         return "(" + " | ".join(word for word, _ in pairs) + ")", "(?:" + "|".join(plain for _, plain in pairs) + ")"
@@ -160,10 +160,9 @@ class Patterns(unittest.TestCase):
             ("[c a]*", "(a|c)*"),
             ("[a]", "a"),
             ("()", ""),
-            ("a**", "a*"),
-            ("a++", "aa*"),
+            ("(a*)*", "a**"),
+            ("(a+)?", "aa*|"),
             ("(a*)+", "a**"),
-            ("a+?", "a*"),
             ("(() | a) b", "(|a)b"),
             ("(a|b)+", "(a|b)(a|b)*"),
         ):
@@ -207,6 +206,8 @@ class Messages(unittest.TestCase):
             (three + "pattern (red | ) purge\n", "2:16: an event is missing here; () is no event at all"),
             (three + "pattern *red\n", "2:9: nothing stands before * that it could repeat"),
             (three + "pattern red | + blue\n", "2:15: nothing stands before + that it could repeat"),
+            (three + "pattern red+? blue\n", "2:13: ? stands behind another sign: brackets say what it repeats"),
+            (three + "pattern (red blue)* *\n", "2:21: * stands behind another sign: brackets say what it repeats"),
             (three + "pattern red & blue\n", '2:13: "&" means nothing in a pattern'),
             (three + "pattern red ] blue\n", '2:13: "]" means nothing in a pattern'),
             (three + "pattern []\n", "2:9: an event is missing between [ and ]"),

@@ -11,6 +11,7 @@ from .errors import listed
 
 MOST_LETTERS, MOST_BYTES = 31, 128
 _DEEPEST = 100
+_SIGNS = ("*", "+", "?")
 
 
 @dataclass(frozen=True)
@@ -149,13 +150,12 @@ def bracketed(part, *looser):
 
 
 def repeated(part, token):
-    """What is repeated by *, + or ?. One behind another comes to one, and what can be empty already needs no + and
-    no ?: so no letters are taken for what they would not change."""
-    within = part.part if isinstance(part, (Star, Plus, Maybe)) else part
-    if token.text == "*" or (token.text == "+" and part.nullable) or (token.text == "?" and isinstance(part, Plus)):
-        return Star(within)
+    """What is repeated by *, + or ?. What can be empty already needs no + and no ?: so no letters are taken for what
+    they would not change."""
+    if token.text == "*" or (token.text == "+" and part.nullable):
+        return Star(part)
     if token.text == "+":
-        return Plus(within, token)
+        return Plus(part, token)
     return part if part.nullable else Maybe(part)
 
 
@@ -200,8 +200,11 @@ class Reader:
 
     def item(self):
         part = self.atom()
-        while self.peek() in ("*", "+", "?"):
+        if self.peek() in _SIGNS:
             part = repeated(part, self.take())
+        if self.peek() in _SIGNS:
+            # red+? is red once or more to who knows other patterns, and may be none to who does not
+            raise self.token().failed(f"{self.peek()} stands behind another sign: brackets say what it repeats")
         return part
 
     def atom(self):
@@ -214,7 +217,7 @@ class Reader:
             return self.one_of(token)
         if token.text == "(":
             return self.bracket(token)
-        if token.text in ("*", "+", "?"):
+        if token.text in _SIGNS:
             raise token.failed(f"nothing stands before {token.text} that it could repeat")
         raise token.failed(f'"{token.text}" means nothing in a pattern')
 
