@@ -42,8 +42,8 @@ def _found():
 
 
 def _ended(error):
-    """The error. Of python3 -m bellbadger, which is before the command has begun here, the end: its status is 2, since 1
-    says that a trace was judged no."""
+    """The error; of python3 -m bellbadger, where the command has not begun yet, the end: its status is 2, since 1 says
+    that a trace was judged no."""
     if sys.argv[:1] != ["-m"]:
         return error
     try:

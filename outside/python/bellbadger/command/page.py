@@ -85,8 +85,8 @@ def made(named, judged, record):
 
 def _safe(text):
     """A text for the page. What is not seen, and what turns the order of letters around, is shown as its number."""
-    seen = (char if char.isprintable() or char == "\n" else char.encode("unicode_escape").decode("ascii") for char in str(text))
-    return html.escape("".join(seen))
+    hidden = lambda char: char.encode("unicode_escape").decode("ascii")
+    return html.escape("".join(char if char.isprintable() or char == "\n" else hidden(char) for char in str(text)))
 
 
 def _section(title, inside):

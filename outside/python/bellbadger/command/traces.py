@@ -79,7 +79,8 @@ class Kinds:
             self.by_number = next(word in self.numbers for word in words if word != self.idle)
         if (not self.by_number) not in kinds:
             return None
-        return next(at for at, word in enumerate(words) if word != self.idle and (word in self.numbers) != self.by_number)
+        others = (at for at, word in enumerate(words) if (word in self.numbers) != self.by_number and word != self.idle)
+        return next(others)
 
     def why(self, word):
         """What is wrong with such a word."""
@@ -238,7 +239,8 @@ def _whole_words(blocks, name, goes_on):
     cursor, carried, comment, last = Cursor(name), b"", False, b""
     for block in itertools.chain(_with_line_ends(_unmarked(blocks), name), [None]):
         if block is None and goes_on and (carried or comment):
-            raise cursor.place().failed("a chunk that others follow ends in a line's end, and not within a word or a comment")
+            why = "a chunk that others follow ends in a line's end, and not within a word or a comment"
+            raise cursor.place().failed(why)
         text, comment = _uncommented(block or b"", comment)
         text = carried + text
         cut = len(text) if block is None else _TAIL.search(text, max(0, len(text) - _LONGEST_WORD)).start()
