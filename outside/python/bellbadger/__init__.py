@@ -49,7 +49,8 @@ threads may call at once, each with a judge of its own. A thread that calls shou
 1 MB (threading.stack_size).
 
 Each further subject is a module: losses, follow, summaries, mappings, samples, patterns, merge, compare, reduce,
-trays, form, texts; and cluster, for a client of Dask's distributed.
+trays, form, texts; and cluster, for a client of Dask's distributed. The command for people, python3 -m bellbadger,
+is the package command.
 
 The package needs target/lib/libbellbadger.so, which outside/build makes, on x86-64; the variable
 BELLBADGER_LIB of the environment names another folder for it.

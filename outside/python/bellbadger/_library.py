@@ -2,6 +2,7 @@
 
 import ctypes
 import os
+import sys
 from pathlib import Path
 
 # what this package was written for, as outside/c/bellbadger.h has it; a higher minor number fits too
@@ -33,11 +34,34 @@ def _library(path):
     return library
 
 
-lib = _library(_path())
+def _found():
+    try:
+        return _library(_path())
+    except (ImportError, AttributeError) as error:
+        raise _ended(error) from None
+
+
+def _ended(error):
+    """The error; of python3 -m bellbadger, where the command has not begun yet, the end: its status is 2, since 1 says
+    that a trace was judged no."""
+    if sys.argv[:1] != ["-m"]:
+        return error
+    try:
+        sys.stderr.write(f"bellbadger: {error}\n")
+    except (AttributeError, OSError):
+        # there is no standard error, or no room for more
+        pass
+    return SystemExit(2)
+
+
+lib = _found()
 
 
 def declare(name, result, *arguments):
-    function = getattr(lib, "bellbadger_" + name)
+    try:
+        function = getattr(lib, "bellbadger_" + name)
+    except AttributeError:
+        raise _ended(ImportError(f"the library has no {name}. {_HELP}")) from None
     function.restype, function.argtypes = result, arguments
 
 
@@ -45,7 +69,7 @@ def expect_size(name, value, size):
     """Sees to it that a value has the size that the library has, and the headers say."""
     declare(name, ctypes.c_size_t)
     if not getattr(lib, "bellbadger_" + name)() == ctypes.sizeof(value) == size:
-        raise ImportError(f"the library has another {name} than this package")
+        raise _ended(ImportError(f"the library has another {name} than this package"))
 
 
 def version():
