@@ -4,6 +4,7 @@ import ctypes
 import os
 import sys
 from pathlib import Path
+from typing import Tuple
 
 # what this package was written for, as outside/c/bellbadger.h has it; a higher minor number fits too
 _MAJOR, _MINOR = 5, 7
@@ -66,6 +67,6 @@ def expect_size(name, value, size):
         raise ImportError(f"the library has another {name} than this package")
 
 
-def version():
+def version() -> Tuple[int, int]:
     """The version of the library: major and minor number."""
     return divmod(lib.bellbadger_version(), 65536)
