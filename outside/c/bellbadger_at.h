@@ -1,11 +1,12 @@
-/* The calls of bellbadger.h by pointer, for who does not want an argument and a result of 28 KB in the
- * frame of every caller. bellbadger.h includes this.
+/* The calls of bellbadger.h by pointer, for who does not want an argument and a result of 28 KB in
+ * the frame of every caller. bellbadger.h includes this.
  *
  * Each does what the function without _at does, on the judge that the pointer leads to. A call that
  * may be refused answers 0 where it was accepted, and the judge is then the next one; else it
  * answers the number, and neither the judge nor anything else that was handed in is changed. A
- * pointer for an answer (sets, starts, looked) may be NULL. They are no part of the library: each is
- * compiled with the file that calls it, apart from its caller, where the compiler can be told so.
+ * pointer for an answer (sets, starts, looked) may be NULL. They are no part of the library: each
+ * is compiled with the file that calls it, apart from its caller, where the compiler can be told so.
+ * While it runs it takes 56 KB of stack beside what the function takes.
  */
 #ifndef BELLBADGER_AT_H
 #define BELLBADGER_AT_H

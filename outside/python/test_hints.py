@@ -1,6 +1,7 @@
-"""Every public function, method and property of the package says the types of what it takes and answers, as py.typed
-promises to those who check theirs; the names in the hints are there; and what the worked calls answer is of the type
-that is said. This would catch a function without hints, and a hint that names another answer."""
+"""Every public function, method and property of the package says the types of what it takes and
+answers, as py.typed promises to those who check theirs; the names in the hints are there; and what
+the worked calls answer is of the type that is said. This would catch a function without hints, and a
+hint that names another answer."""
 import dataclasses
 import inspect
 import typing
@@ -14,7 +15,7 @@ MODULES = (bellbadger, bellbadger.cluster, compare, follow, form, bellbadger.los
 
 
 def own(kind):
-    """The functions of a class that a caller meets: its public names, and those of the package's classes behind it."""
+    """The public functions of a class, and those of the package's classes behind it."""
     for base in kind.__mro__:
         if base.__module__.startswith("bellbadger"):
             for name, member in vars(base).items():
