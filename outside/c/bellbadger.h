@@ -1,4 +1,5 @@
-/* The valve trace judge, for x86-64, from C99 or C++11 on. Link target/lib/libbellbadger.a, which outside/build makes.
+/* The valve trace judge, for x86-64, from C99 or C++11 on. Link with what
+ * `pkg-config --cflags --libs bellbadger` prints, or with libbellbadger.a.
  *
  * The caller keeps the judge and hands it in by value; each call that may change it hands the next
  * one back. A refused call hands back the judge that came: look at `accepted` after every call. Any
@@ -9,7 +10,8 @@
  *
  * A rule comes as a file, which bellbadger_load reads and installs. Who has no judge reads the file
  * alone (bellbadger_read): what comes of it is a checked rule, a value to look at, to keep, and to
- * install into any number of judges (bellbadger_install).
+ * install into any number of judges (bellbadger_install). Who would rather hand in pointers finds
+ * the calls so in bellbadger_at.h; for C++ there is a class, bellbadger.hpp.
  *
  * Threads: no function keeps anything, they work on values only; any number of threads may call at
  * once.
@@ -231,5 +233,6 @@ BELLBADGER_RESULT bellbadger_replay_result bellbadger_replay(const uint8_t *text
 #include "bellbadger_texts.h"
 #include "bellbadger_form.h"
 #include "bellbadger_trays.h"
+#include "bellbadger_at.h"
 
 #endif

@@ -52,11 +52,12 @@ Each further subject is a module: losses, follow, summaries, mappings, samples, 
 trays, form, texts; and cluster, for a client of Dask's distributed. The command for people, python3 -m bellbadger,
 is the package command.
 
-The package needs target/lib/libbellbadger.so, which outside/build makes, on x86-64; the variable
-BELLBADGER_LIB of the environment names another folder for it.
+An installed package has the library in it. In the repository it needs target/lib/libbellbadger.so, which
+outside/build makes, on x86-64. The variable BELLBADGER_LIB of the environment names another folder for either.
 """
 
 from . import cluster, compare, follow, form, losses, mappings, merge, patterns, reduce, samples, summaries, texts, trays
+from ._library import VERSION as __version__
 from ._library import version
 from .judge import Judge, Loaded, Looked, No, Waiting, Yes, replay
 from .refusals import Malformed, Refused

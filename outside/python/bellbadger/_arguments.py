@@ -2,6 +2,10 @@
 argument."""
 
 import operator
+from typing import Union
+
+# what a file, a chunk or a text may be
+Bytes = Union[bytes, bytearray, memoryview]
 
 _LARGEST_SIZE = 2**64 - 1
 

@@ -4,9 +4,11 @@ import ctypes
 import os
 import sys
 from pathlib import Path
+from typing import Tuple
 
 # what this package was written for, as outside/c/bellbadger.h has it; a higher minor number fits too
 _MAJOR, _MINOR = 5, 7
+VERSION = f"{_MAJOR}.{_MINOR}"
 
 _HELP = "Make it, at the top of the repository, with: outside/build, or name the folder that has it in BELLBADGER_LIB."
 
@@ -15,9 +17,14 @@ DATA = (ctypes.c_char_p, ctypes.c_size_t)
 
 
 def _path():
+    """The folder that BELLBADGER_LIB names, else the package itself, as a wheel has it, else the repository's."""
     folder = os.environ.get("BELLBADGER_LIB")
-    top = Path(__file__).resolve().parents[3]
-    return (Path(folder) if folder else top / "target" / "lib") / "libbellbadger.so"
+    if folder:
+        return Path(folder) / "libbellbadger.so"
+    package = Path(__file__).resolve().parent
+    if (package / "libbellbadger.so").is_file():
+        return package / "libbellbadger.so"
+    return package.parents[2] / "target" / "lib" / "libbellbadger.so"
 
 
 def _library(path):
@@ -72,6 +79,6 @@ def expect_size(name, value, size):
         raise _ended(ImportError(f"the library has another {name} than this package"))
 
 
-def version():
+def version() -> Tuple[int, int]:
     """The version of the library: major and minor number."""
     return divmod(lib.bellbadger_version(), 65536)

@@ -22,9 +22,10 @@ import os
 import sys
 from collections.abc import Iterable, Mapping, MappingView, Set
 from pathlib import Path
+from typing import Any, Union
 
 from ._arguments import as_bytes, expect, whole
-from .judge import Judge
+from .judge import Judge, No, Waiting, Yes
 from .refusals import Refused
 from .rules import CheckedRule
 from .summaries import combine
@@ -39,11 +40,11 @@ _TASKS, _NEIGHBOURS, _SUMMARIES = 256, 32, 8
 class RefusedChunk(Refused):
     """A chunk was refused: number says why, chunk which it is, counted from 0. There is no verdict."""
 
-    def __init__(self, number, chunk):
+    def __init__(self, number: int, chunk: int) -> None:
         super().__init__(number)
         self.chunk = chunk
 
-    def __str__(self):
+    def __str__(self) -> str:
         return f"chunk {self.chunk}: {super().__str__()}"
 
     def __reduce__(self):
@@ -128,7 +129,7 @@ def _numbered(chunks):
     return list(enumerate(chunks))
 
 
-def judge(client, rule, chunks, count):
+def judge(client: Any, rule: CheckedRule, chunks: Union[Mapping, Iterable], count: int) -> Union[Waiting, Yes, No]:
     """The verdict on a trace of so many chunks, Yes or No as a filled board with them has it: client is a
     distributed.Client, rule a CheckedRule.
 

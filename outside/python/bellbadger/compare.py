@@ -23,10 +23,11 @@ Two of the three say that the rules differ, so that none has a truth value:
 
 import ctypes
 from dataclasses import dataclass
+from typing import NoReturn, Union
 
 from ._library import declare, lib
 from .refusals import Refused
-from .rules import RawRule, raw
+from .rules import CheckedRule, RawRule, raw
 
 __all__ = ["FirstAlone", "SecondAlone", "Same", "compare"]
 
@@ -35,11 +36,11 @@ _REFUSED, _FIRST_ALONE, _SECOND_ALONE, _SAME = 0, 10, 11, 12
 
 class _Comparison:
     @property
-    def is_same(self):
+    def is_same(self) -> bool:
         """Whether the two rules accept the same texts."""
         return False
 
-    def __bool__(self):
+    def __bool__(self) -> NoReturn:
         raise TypeError(f"a comparison, here {type(self).__name__}, is no truth value: write .is_same behind it")
 
 
@@ -62,7 +63,7 @@ class Same(_Comparison):
     """The two accept the same texts."""
 
     @property
-    def is_same(self):
+    def is_same(self) -> bool:
         return True
 
 
@@ -78,7 +79,7 @@ class _Result(ctypes.Structure):
 declare("compare", _Result, RawRule, RawRule)
 
 
-def compare(one, two):
+def compare(one: CheckedRule, two: CheckedRule) -> Union[FirstAlone, SecondAlone, Same]:
     """The shortest text that exactly one of two rules accepts, and among the shortest the first by symbols: a
     FirstAlone or a SecondAlone that has it; Same where there is none. The text has at most 511 bytes.
 

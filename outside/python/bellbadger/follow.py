@@ -67,11 +67,12 @@ chunk was taken says nothing of that, so an answer is no truth value:
 
 import ctypes
 from dataclasses import dataclass
+from typing import NoReturn, Optional, Tuple, Union
 
-from ._arguments import as_bytes
+from ._arguments import Bytes, as_bytes
 from ._library import DATA, declare, expect_size, lib
 from .refusals import Refused
-from .rules import RawRule, members, raw
+from .rules import CheckedRule, RawRule, members, raw
 
 __all__ = ["Followed", "Follower"]
 
@@ -121,16 +122,16 @@ class Followed:
     """
 
     is_accepted_so_far: bool
-    lost_at: object
-    expected: tuple
+    lost_at: Optional[int]
+    expected: Tuple[int, ...]
     complete: bool
 
     @property
-    def is_lost(self):
+    def is_lost(self) -> bool:
         """Whether the rule will not accept the trace, whatever comes."""
         return self.lost_at is not None
 
-    def __bool__(self):
+    def __bool__(self) -> NoReturn:
         raise TypeError("a followed chunk is no truth value: write .is_accepted_so_far behind it")
 
 
@@ -138,35 +139,35 @@ class Follower:
     """A rule that is checked once, and the states that the trace has led to, first the initial ones. Refused with
     3, 4, 6, 8. A rule of over 512 sets is taken. Each trace has a follower of its own, or begins it anew."""
 
-    def __init__(self, rule):
+    def __init__(self, rule: CheckedRule) -> None:
         prepared = lib.bellbadger_follower_prepare(raw("Follower", "rule", rule))
         if not prepared.accepted:
             raise Refused(prepared.refused)
         self._follower = prepared.follower
         self.begin()
 
-    def __repr__(self):
+    def __repr__(self) -> str:
         rule = self._follower.rule
         refused = "" if self._refused is None else f", refused {self._refused}"
         return f"<Follower: states {rule.n}, symbols {rule.k}, reached {members(self._set)}{refused}>"
 
-    def begin(self):
+    def begin(self) -> None:
         """Begins another trace, with the initial states; no refusal and no other exception stands any more."""
         self._set, self._refused = self._follower.rule.initials, None
 
     @property
-    def refused(self):
+    def refused(self) -> Union[int, str, None]:
         """The number with which a chunk was refused, and with it each later one; or the name of another exception in
         which follow ended; None where neither was."""
         return self._refused
 
-    def drop_refused(self):
+    def drop_refused(self) -> None:
         """Leaves out the chunk that was refused, or by which follow ended in another exception, so that the trace goes
         on behind the last one that was taken. Where the chunk was a part of the trace, hand it in as it was meant, or
         the trace has a hole that nobody sees."""
         self._refused = None
 
-    def follow(self, chunk):
+    def follow(self, chunk: Bytes) -> Followed:
         """Follows the next chunk: a Followed. Byte 255 is an idle mark, as in a delivery. An empty chunk changes
         nothing, and is answered too. Refused with 12, 13: the chunk is then no part of the trace, and every later
         one is refused with the same number, until drop_refused or begin.

@@ -17,6 +17,7 @@
 
 import ctypes
 from dataclasses import dataclass
+from typing import Optional, Tuple
 
 from ._arguments import all_fitting, expect, fitting
 from ._library import declare, lib
@@ -65,11 +66,11 @@ class Form:
     """
 
     symbols: int
-    failure: tuple
-    kept: tuple
-    cells: tuple
+    failure: Tuple[int, ...]
+    kept: Tuple[int, ...]
+    cells: Tuple[Optional[int], ...]
 
-    def __post_init__(self):
+    def __post_init__(self) -> None:
         object.__setattr__(self, "symbols", fitting("Form", "symbols", self.symbols, 8))
         for name in ("failure", "kept", "cells"):
             object.__setattr__(self, name, all_fitting("Form", name, getattr(self, name), 16, or_none=name == "cells"))
@@ -82,7 +83,7 @@ class Form:
             raise ValueError(f"Form: cells must be the kept ones, {sum(map(members, self.kept))}, and at most {_CELLS}, not {cells}")
 
 
-def form(judge):
+def form(judge: Judge) -> Form:
     """The failure form of a judge's table. Refused with 20 where it has no rule.
 
     The failure set of a set above 0 is, of the lower-numbered sets, the one with most equal cells, empty
@@ -97,7 +98,7 @@ def form(judge):
     return Form(made.symbols, made.failure[: made.sets], kept, (None if cell == _EMPTY else cell for cell in cells))
 
 
-def table(form):
+def table(form: Form) -> Tuple[Tuple[Optional[int], ...], ...]:
     """The table of a form: for each set a tuple of its cells, a set or None for the empty one.
 
     Refused with 40: there are not 1 to 512 sets and 1 to 16 symbols, a set above 0 has a failure set that

@@ -2,14 +2,15 @@
 
 import ctypes
 from dataclasses import dataclass
+from typing import Optional, Union
 
-from ._arguments import as_bytes, fitting, size, whole
+from ._arguments import Bytes, as_bytes, fitting, size, whole
 from ._library import DATA, declare, expect_size, lib
 from ._verdicts import Verdict
-from .losses import RawDiagnosis, RawSpot, diagnosis, spot
+from .losses import Lost, Open, RawDiagnosis, RawSpot, diagnosis, spot
 from .refusals import Malformed, Refused
-from .rules import RawRule, raw
-from .summaries import RawSummarized, RawSummary, raw_summary, summarized
+from .rules import CheckedRule, RawRule, raw
+from .summaries import RawSummarized, RawSummary, Summary, raw_summary, summarized
 
 __all__ = ["Judge", "Loaded", "Looked", "Waiting", "Yes", "No", "replay"]
 
@@ -62,7 +63,7 @@ class Yes(_Counted):
     """
 
     @property
-    def is_yes(self):
+    def is_yes(self) -> bool:
         return True
 
 
@@ -160,10 +161,10 @@ def _verdict(result):
 class Judge:
     """One rule and one board; at first none."""
 
-    def __init__(self):
+    def __init__(self) -> None:
         self._state = lib.bellbadger_new()
 
-    def __repr__(self):
+    def __repr__(self) -> str:
         rule, board = self._state.rule, self._state.board
         filled = sum(1 for mark in board.filled if mark)
         return (
@@ -171,23 +172,23 @@ class Judge:
             f"places {board.places}, filled {filled}>"
         )
 
-    def install(self, rule):
+    def install(self, rule: CheckedRule) -> Loaded:
         """Checks and builds a rule; accepted, it replaces the former one and removes the board.
 
         Refused with 3, 4, 6, 8, 9.
         """
         return self._loaded(lib.bellbadger_install(self._state, raw("install", "rule", rule)))
 
-    def load(self, file):
+    def load(self, file: Bytes) -> Loaded:
         """Reads a rule file and installs the rule in it. Refused with 1 to 8, then with 9."""
         data = as_bytes("load", "file", file)
         return self._loaded(lib.bellbadger_load(self._state, data, len(data)))
 
-    def open(self, places):
+    def open(self, places: int) -> None:
         """A board of that many empty places; an earlier one is dropped. Refused with 20, 10."""
         self._change(lib.bellbadger_open(self._state, size("open", "places", places)))
 
-    def deliver(self, place, revision, chunk):
+    def deliver(self, place: int, revision: int, chunk: Bytes) -> Looked:
         """Runs a chunk and keeps its end sets, count, length and revision at the place, counted from 0.
 
         The revision is a number below 2**32, else ValueError is raised. A greater one than the last
@@ -203,20 +204,20 @@ class Judge:
         self._change(result)
         return Looked(result.looked)
 
-    def withdraw(self, place):
+    def withdraw(self, place: int) -> None:
         """Empties a place. Refused with 21, 11, 23."""
         self._change(lib.bellbadger_withdraw(self._state, size("withdraw", "place", place)))
 
-    def verdict(self):
+    def verdict(self) -> Union[Waiting, Yes, No]:
         """Waiting, Yes or No; changes nothing. Refused with 21. In an `if` write verdict().is_yes."""
         return _verdict(lib.bellbadger_verdict(self._state))
 
-    def diagnose(self):
+    def diagnose(self) -> Union[Lost, Open]:
         """losses.Lost with the place at which the trace is lost, or losses.Open with how many places have
         chunks before the first that has none; changes nothing. Refused with 21."""
         return diagnosis(lib.bellbadger_diagnose(self._state))
 
-    def locate(self, place, chunk):
+    def locate(self, place: int, chunk: Bytes) -> Optional[int]:
         """The least number of the chunk's bytes after which the trace is lost, were this the chunk at the
         place; None, which is no yes, where it is lost after none of them. Changes nothing.
 
@@ -230,7 +231,7 @@ class Judge:
         data = as_bytes("locate", "chunk", chunk)
         return spot(lib.bellbadger_locate(self._state, size("locate", "place", place), data, len(data)))
 
-    def summarize(self, number, chunk):
+    def summarize(self, number: int, chunk: Bytes) -> Summary:
         """The summaries.Summary of the chunk with that number, below 2**64: chunks of a trace are numbered from 0 on.
         No board is needed, and nothing changes.
 
@@ -241,7 +242,7 @@ class Judge:
         number = fitting("summarize", "number", number, 64)
         return summarized(lib.bellbadger_summarize(self._state, number, data, len(data)))
 
-    def conclude(self, summary, chunks):
+    def conclude(self, summary: Summary, chunks: int) -> Union[Waiting, Yes, No]:
         """The verdict on a trace of so many chunks, of which this is the summary: Yes or No, as a filled board with
         these chunks has it. No board is needed, and nothing changes. In an `if` write conclude(..).is_yes.
 
@@ -262,7 +263,7 @@ class Judge:
         self._state = result.state
 
 
-def replay(text):
+def replay(text: Bytes) -> Union[Waiting, Yes, No]:
     """Runs the calls that a text of bytes records on a fresh judge: the verdict after them.
 
     A line is `load HEX`, `install HEX`, `open N`, `deliver P REVISION HEX`, `withdraw P` or

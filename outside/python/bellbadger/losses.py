@@ -42,6 +42,7 @@ Neither is a yes, so that neither has a truth value:
 
 import ctypes
 from dataclasses import dataclass
+from typing import NoReturn, Optional, Union
 
 from .refusals import Refused
 
@@ -52,12 +53,12 @@ _REFUSED, _LOST = 0, 5
 
 class _Diagnosis:
     @property
-    def is_lost(self):
+    def is_lost(self) -> bool:
         """Whether no chunk at a later place can make the verdict a yes. That it is not says nothing of a
         yes: whether to ship is for Judge.verdict to say."""
         return False
 
-    def __bool__(self):
+    def __bool__(self) -> NoReturn:
         raise TypeError(f"a diagnosis, here {type(self).__name__}, is no truth value: write .is_lost behind it")
 
 
@@ -68,7 +69,7 @@ class Lost(_Diagnosis):
     place: int
 
     @property
-    def is_lost(self):
+    def is_lost(self) -> bool:
         return True
 
 
@@ -96,9 +97,9 @@ def _answered(result):
     return result.kind == _LOST
 
 
-def diagnosis(result):
+def diagnosis(result: RawDiagnosis) -> Union[Lost, Open]:
     return Lost(result.number) if _answered(result) else Open(result.number)
 
 
-def spot(result):
+def spot(result: RawSpot) -> Optional[int]:
     return result.number if _answered(result) else None

@@ -29,10 +29,10 @@ mapped to. That of a chunk is 0 from the rule's n on.
 
 import ctypes
 
-from ._arguments import as_bytes
+from ._arguments import Bytes, as_bytes
 from ._library import DATA, declare, expect_size, lib
 from .refusals import Refused
-from .rules import RawRule, raw
+from .rules import CheckedRule, RawRule, raw
 
 __all__ = ["Profile", "compose"]
 
@@ -78,7 +78,7 @@ def _mapping(call, name, value):
     return _Mapping((ctypes.c_uint8 * 8)(*masks))
 
 
-def compose(earlier, later):
+def compose(earlier: Bytes, later: Bytes) -> bytes:
     """The mapping of two chunks, one behind the other, from those of each. Any two values compose."""
     earlier, later = _mapping("compose", "earlier", earlier), _mapping("compose", "later", later)
     return bytes(lib.bellbadger_compose(earlier, later).masks)
@@ -87,21 +87,21 @@ def compose(earlier, later):
 class Profile:
     """The mapping machine of a rule, which is checked and built. Refused with 3, 4, 6, 8, 33, 34."""
 
-    def __init__(self, rule):
+    def __init__(self, rule: CheckedRule) -> None:
         built = lib.bellbadger_profile_build(raw("Profile", "rule", rule))
         if not built.accepted:
             raise Refused(built.refused)
         self._profile = built.profile
 
-    def __repr__(self):
+    def __repr__(self) -> str:
         profile = self._profile
         return f"<Profile: states {profile.n}, symbols {profile.k}, mappings {profile.count}>"
 
-    def __len__(self):
+    def __len__(self) -> int:
         """How many mappings the texts of the rule have, 1 to 512."""
         return self._profile.count
 
-    def run(self, chunk):
+    def run(self, chunk: Bytes) -> bytes:
         """The mapping of a chunk. Byte 255 is an idle mark, as in a delivery. Refused with 12, 13."""
         data = as_bytes("run", "chunk", chunk)
         ran = lib.bellbadger_profile_run(self._profile, data, len(data))
@@ -109,7 +109,7 @@ class Profile:
             raise Refused(ran.refused)
         return bytes(ran.mapping.masks)
 
-    def accepts(self, mapping):
+    def accepts(self, mapping: Bytes) -> bool:
         """The verdict: whether the mapping leads from an initial state to a final one. Bits for states
         that there are not mean nothing."""
         return lib.bellbadger_profile_verdict(self._profile, _mapping("accepts", "mapping", mapping)) == 1

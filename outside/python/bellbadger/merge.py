@@ -29,7 +29,7 @@ import ctypes
 
 from ._arguments import one_of
 from ._library import declare, lib
-from .rules import RawRule, RawRuleResult, raw
+from .rules import CheckedRule, RawRule, RawRuleResult, raw
 
 __all__ = ["BOTH", "EITHER", "INTERLEAVING", "merge", "merge_reduced"]
 
@@ -48,7 +48,7 @@ def _merged(function, way, one, two):
     return getattr(lib, "bellbadger_" + function)(way, *rules).checked_rule()
 
 
-def merge(way, one, two):
+def merge(way: int, one: CheckedRule, two: CheckedRule) -> CheckedRule:
     """The rule that two rules, with n1 and n2 states, come to: way is BOTH, EITHER or INTERLEAVING.
 
     For BOTH and INTERLEAVING the pair (q1, q2) is state q1 * n2 + q2, initial or final where both its
@@ -62,7 +62,7 @@ def merge(way, one, two):
     return _merged("merge", way, one, two)
 
 
-def merge_reduced(way, one, two):
+def merge_reduced(way: int, one: CheckedRule, two: CheckedRule) -> CheckedRule:
     """The rule that two rules come to, as merge has it, with few states: it accepts the same texts.
 
     Both rules are reduced (bellbadger.reduce), of their pairs, or for EITHER of the states of both,

@@ -20,8 +20,9 @@ pattern or bracket is the empty text.
 """
 
 import ctypes
+from typing import Union
 
-from ._arguments import as_bytes
+from ._arguments import Bytes, as_bytes
 from ._library import DATA, declare, lib
 from .refusals import Refused
 
@@ -43,7 +44,7 @@ class _Pattern(ctypes.Structure):
 declare("pattern", _Pattern, *DATA)
 
 
-def rule_file(pattern):
+def rule_file(pattern: Union[str, Bytes]) -> bytes:
     """The rule file of a pattern, a str or bytes, for bellbadger.read and Judge.load.
 
     The rule accepts exactly the pattern's texts: state 0 is its start, state i the i-th letter from

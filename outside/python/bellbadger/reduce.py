@@ -23,6 +23,7 @@ Six states by six are too many to be merged, and three by three are not:
 
 import ctypes
 from dataclasses import dataclass
+from typing import NoReturn
 
 from ._library import declare, lib
 from .refusals import Refused
@@ -43,7 +44,7 @@ class Reduced:
     rule: CheckedRule
     installs: bool
 
-    def __bool__(self):
+    def __bool__(self) -> NoReturn:
         raise TypeError("a reduced rule is no truth value: write .installs behind it")
 
 
@@ -59,7 +60,7 @@ class _Reduced(ctypes.Structure):
 declare("reduce", _Reduced, RawRule)
 
 
-def reduce(rule):
+def reduce(rule: CheckedRule) -> Reduced:
     """A Reduced: a rule that accepts the same texts, and whether it can be installed.
 
     States go that are unreachable, from the initial ones, or dead: no final state can be reached from them. Each

@@ -42,20 +42,20 @@ _REASONS = {
 class Refused(Exception):
     """A call was refused; the judge is as it was. Of reading: the file is no rule, the pattern none."""
 
-    def __init__(self, number):
+    def __init__(self, number: int) -> None:
         super().__init__(number)
         self.number = number
 
-    def __str__(self):
+    def __str__(self) -> str:
         return f"refused {self.number}: {_REASONS.get(self.number, 'for another reason')}"
 
 
 class Malformed(ValueError):
     """A recorded list has a line that is no call; line is its number, counted from 1."""
 
-    def __init__(self, line):
+    def __init__(self, line: int) -> None:
         super().__init__(line)
         self.line = line
 
-    def __str__(self):
+    def __str__(self) -> str:
         return f"line {self.line} is malformed"

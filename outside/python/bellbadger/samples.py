@@ -9,11 +9,12 @@
 """
 
 import ctypes
+from typing import Optional
 
 from ._arguments import one_of
 from ._library import declare, lib
 from .refusals import Refused
-from .rules import RawRule, raw
+from .rules import CheckedRule, RawRule, raw
 
 __all__ = ["ACCEPTED", "REJECTED", "sample"]
 
@@ -35,7 +36,7 @@ class _Sample(ctypes.Structure):
 declare("sample", _Sample, ctypes.c_uint8, RawRule)
 
 
-def sample(wish, rule):
+def sample(wish: int, rule: CheckedRule) -> Optional[bytes]:
     """The shortest text that is as it is wished, and among the shortest the first by symbols; None where
     there is none. The empty text is one, and false in an `if`: ask `is None`. wish is ACCEPTED or REJECTED. The text has at most 511 bytes.
 

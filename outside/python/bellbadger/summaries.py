@@ -48,11 +48,13 @@ All this is a guard against mistakes and not against attackers: whoever makes up
 verdict.
 """
 
+import builtins
 import ctypes
 import struct
 from dataclasses import dataclass
+from typing import NoReturn, Tuple
 
-from ._arguments import all_fitting, as_bytes, expect, fitting
+from ._arguments import Bytes, all_fitting, as_bytes, expect, fitting
 from ._library import declare, expect_size, lib
 from .refusals import Refused
 
@@ -75,7 +77,7 @@ class Summary:
     refused.
     """
 
-    leads: tuple
+    leads: Tuple[int, ...]
     count: int
     bytes: int
     rule: int
@@ -83,7 +85,7 @@ class Summary:
     end: int
     broken: int = 0
 
-    def __post_init__(self):
+    def __post_init__(self) -> None:
         object.__setattr__(self, "leads", all_fitting("Summary", "leads", self.leads, 32))
         if len(self.leads) != 32:
             raise ValueError(f"Summary: leads must be 32 masks, not {len(self.leads)}")
@@ -91,25 +93,25 @@ class Summary:
             object.__setattr__(self, name, fitting("Summary", name, getattr(self, name), 64))
         object.__setattr__(self, "broken", fitting("Summary", "broken", self.broken, 8))
 
-    def __repr__(self):
+    def __repr__(self) -> str:
         chunks = f"chunks {self.first} to {self.end - 1}" if self.end > self.first else f"first {self.first}, end {self.end}"
         return f"<Summary: {chunks}, count {self.count}, bytes {self.bytes}{', broken' if self.is_broken else ''}>"
 
-    def __bool__(self):
+    def __bool__(self) -> NoReturn:
         raise TypeError("a summary is no truth value: what Judge.conclude says of it has .is_yes")
 
     @property
-    def is_broken(self):
+    def is_broken(self) -> bool:
         """Whether it will not be concluded, whatever it is combined with."""
         return self.broken != 0
 
-    def to_bytes(self):
+    def to_bytes(self) -> builtins.bytes:
         """The summary as 169 bytes, little-endian and without gaps: the 32 masks of leads, of 4 bytes each; count,
         bytes, rule, first and end, of 8 each; broken, 1 byte."""
         return _LAYOUT.pack(*self.leads, *(getattr(self, name) for name in _NUMBERS), self.broken)
 
     @classmethod
-    def from_bytes(cls, data):
+    def from_bytes(cls, data: Bytes) -> "Summary":
         """The summary that to_bytes made the bytes of; any 169 bytes are one."""
         data = as_bytes("from_bytes", "data", data)
         if len(data) != _LAYOUT.size:
@@ -148,7 +150,7 @@ def summarized(result):
     return _summary(result.summary)
 
 
-def combine(earlier, later):
+def combine(earlier: Summary, later: Summary) -> Summary:
     """The summary of chunks, and of those that follow them. Any two combine, in any bracketing; the order matters. It
     is broken where one of the two is, where the later does not begin where the earlier ends, and where they are by
     two rules."""

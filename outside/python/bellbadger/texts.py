@@ -24,7 +24,7 @@ class _Made(ctypes.Structure):
 declare("make_text", _Made, ctypes.c_size_t, ctypes.c_uint64, *DATA)
 
 
-def make_text(k, seed, length):
+def make_text(k: int, seed: int, length: int) -> bytes:
     """A text of so many symbols below k, by Marsaglia's 64-bit xorshift with shifts 13 left, 7 right, 17
     left from the seed; each new value modulo k is a symbol.
 

@@ -61,13 +61,14 @@ None is a yes, so that none has a truth value:
 
 import ctypes
 from dataclasses import dataclass
+from typing import NoReturn, Union
 
-from ._arguments import as_bytes, size
+from ._arguments import Bytes, as_bytes, size
 from ._library import DATA, declare, expect_size, lib
 from ._verdicts import Verdict
 from .judge import Loaded
 from .refusals import Refused
-from .rules import RawRule, raw
+from .rules import CheckedRule, RawRule, raw
 
 __all__ = ["Tray", "TrayWaiting", "TrayYes", "TrayNo", "TrayRefused", "Row", "Column", "Short", "Open"]
 
@@ -90,7 +91,7 @@ _REASONS = {
 class TrayRefused(Refused):
     """A call of a tray was refused; the tray is as it was."""
 
-    def __str__(self):
+    def __str__(self) -> str:
         reason = _REASONS.get(self.number)
         return f"refused {self.number}: {reason}" if reason else super().__str__()
 
@@ -107,7 +108,7 @@ class TrayYes(Verdict):
     """A verdict: every row and every column is accepted."""
 
     @property
-    def is_yes(self):
+    def is_yes(self) -> bool:
         return True
 
 
@@ -118,12 +119,12 @@ class TrayNo(Verdict):
 
 class _Fault:
     @property
-    def is_fault(self):
+    def is_fault(self) -> bool:
         """Whether something is wrong already. That it is not says nothing of a yes while bands are missing:
         whether to ship is for Tray.verdict to say."""
         return True
 
-    def __bool__(self):
+    def __bool__(self) -> NoReturn:
         raise TypeError(f"a fault, here {type(self).__name__}, is no truth value: write .is_fault behind it")
 
 
@@ -164,7 +165,7 @@ class Open(_Fault):
     bands: int
 
     @property
-    def is_fault(self):
+    def is_fault(self) -> bool:
         return False
 
 
@@ -218,10 +219,10 @@ declare("tray_fault", _RawFault, _Tray)
 class Tray:
     """A row rule, a column rule and a board of bands; at first none of them."""
 
-    def __init__(self):
+    def __init__(self) -> None:
         self._tray = lib.bellbadger_tray_new()
 
-    def __repr__(self):
+    def __repr__(self) -> str:
         tray, board = self._tray, self._tray.board
         filled = sum(1 for mark in board.filled if mark)
         return (
@@ -229,32 +230,32 @@ class Tray:
             f"bands {board.bands}, filled {filled}>"
         )
 
-    def install_row(self, rule):
+    def install_row(self, rule: CheckedRule) -> Loaded:
         """Checks and builds a rule for the rows; accepted, it replaces the former one and removes the
         board. Refused with 3, 4, 6, 8, 9."""
         return self._loaded(lib.bellbadger_tray_install_row(self._tray, raw("install_row", "rule", rule)))
 
-    def install_column(self, rule):
+    def install_column(self, rule: CheckedRule) -> Loaded:
         """The same for the columns."""
         return self._loaded(lib.bellbadger_tray_install_column(self._tray, raw("install_column", "rule", rule)))
 
-    def open(self, width, bands):
+    def open(self, width: int, bands: int) -> None:
         """A board of that many empty bands, for rows of that width; an earlier one is dropped. Refused
         with 20 (either rule is absent), 38, 10."""
         width, bands = size("open", "width", width), size("open", "bands", bands)
         self._change(lib.bellbadger_tray_open(self._tray, width, bands))
 
-    def deliver(self, band, rows):
+    def deliver(self, band: int, rows: Bytes) -> None:
         """Keeps rows, one behind the other, as a band, counted from 0; there may be none, and at most 64.
         There are no idle marks. Refused with 21, 11, 39, 13, 22."""
         data = as_bytes("deliver", "rows", rows)
         self._change(lib.bellbadger_tray_deliver(self._tray, size("deliver", "band", band), data, len(data)))
 
-    def withdraw(self, band):
+    def withdraw(self, band: int) -> None:
         """Empties a band. Refused with 21, 11, 23."""
         self._change(lib.bellbadger_tray_withdraw(self._tray, size("withdraw", "band", band)))
 
-    def verdict(self):
+    def verdict(self) -> Union[TrayWaiting, TrayYes, TrayNo]:
         """TrayWaiting, TrayYes or TrayNo; changes nothing. Refused with 21. In an `if` write
         verdict().is_yes."""
         result = lib.bellbadger_tray_verdict(self._tray)
@@ -265,7 +266,7 @@ class Tray:
             raise TrayRefused(result.number)
         return said[result.kind]()
 
-    def fault(self):
+    def fault(self) -> Union[Row, Column, Short, Open]:
         """Row, Column, Short or Open: where the tray goes wrong, while bands are still missing too; changes
         nothing. Refused with 21. In an `if` write fault().is_fault."""
         result = lib.bellbadger_tray_fault(self._tray)

@@ -1,7 +1,22 @@
 //! Two rules compared: whether they accept the same texts, or the first on which they differ.
+//!
+//! ```
+//! use bellbadger::{compare::compare, patterns::rule_file, read};
+//!
+//! let (one, two) = (read(&rule_file(b"aa*")?)?, read(&rule_file(b"a*a")?)?);
+//! assert!(compare(&one, &two)?.is_same());
+//! # Ok::<(), bellbadger::Refused>(())
+//! ```
 use crate::{accepted, fits, CheckedRule, Refused};
 
 /// What comparing two rules tells.
+///
+/// ```
+/// use bellbadger::{compare::{compare, Comparison}, patterns::rule_file, read};
+/// let (one, two) = (read(&rule_file(b"a")?)?, read(&rule_file(b"a|b")?)?);
+/// assert_eq!(compare(&one, &two)?, Comparison::SecondAlone(vec![1]));
+/// # Ok::<(), bellbadger::Refused>(())
+/// ```
 #[derive(Clone, Debug, PartialEq, Eq, Hash)]
 #[must_use]
 pub enum Comparison {
@@ -24,6 +39,12 @@ impl Comparison {
     /// fn replace(compared: bellbadger::compare::Comparison) {
     ///     compared.is_same();
     /// }
+    /// ```
+    ///
+    /// ```
+    /// use bellbadger::compare::Comparison;
+    /// assert!(Comparison::Same.is_same());
+    /// assert!(!Comparison::FirstAlone(vec![0]).is_same());
     /// ```
     #[must_use]
     pub fn is_same(&self) -> bool {

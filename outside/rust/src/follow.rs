@@ -83,29 +83,67 @@ extern "C" {
 }
 
 /// Some of the symbols 0 to 15.
+///
+/// ```
+/// use bellbadger::{follow::Follower, patterns::rule_file, read};
+/// let mut follower = Follower::new(&read(&rule_file(b"a(b|d)")?)?)?;
+/// let symbols = follower.follow(&[0])?.expected;
+/// assert_eq!(format!("{symbols:?}"), "{1, 3}");
+/// # Ok::<(), bellbadger::Refused>(())
+/// ```
 #[derive(Clone, Copy, PartialEq, Eq, Hash, Default)]
 #[must_use]
 pub struct Symbols(u16);
 
 impl Symbols {
     /// Whether the symbol is one of them.
+    ///
+    /// ```
+    /// use bellbadger::{follow::Follower, patterns::rule_file, read};
+    /// let mut follower = Follower::new(&read(&rule_file(b"a(b|d)")?)?)?;
+    /// let symbols = follower.follow(&[0])?.expected;
+    /// assert!(symbols.contains(1) && !symbols.contains(2) && !symbols.contains(16));
+    /// # Ok::<(), bellbadger::Refused>(())
+    /// ```
     #[must_use]
     pub fn contains(self, symbol: u8) -> bool {
         symbol < 16 && self.0 >> symbol & 1 == 1
     }
 
     /// Whether there is none.
+    ///
+    /// ```
+    /// use bellbadger::{follow::Follower, patterns::rule_file, read};
+    /// let mut follower = Follower::new(&read(&rule_file(b"a(b|d)")?)?)?;
+    /// assert!(!follower.follow(&[0])?.expected.is_empty());
+    /// assert!(follower.follow(&[1])?.expected.is_empty()); // nothing can follow
+    /// # Ok::<(), bellbadger::Refused>(())
+    /// ```
     #[must_use]
     pub fn is_empty(self) -> bool {
         self.0 == 0
     }
 
     /// The symbols, the lowest first.
+    ///
+    /// ```
+    /// use bellbadger::{follow::Follower, patterns::rule_file, read};
+    /// let mut follower = Follower::new(&read(&rule_file(b"a(b|d)")?)?)?;
+    /// assert_eq!(follower.follow(&[0])?.expected.iter().sum::<u8>(), 1 + 3);
+    /// # Ok::<(), bellbadger::Refused>(())
+    /// ```
     pub fn iter(self) -> impl Iterator<Item = u8> {
         (0..16).filter(move |&symbol| self.contains(symbol))
     }
 
     /// The same as a list.
+    ///
+    /// ```
+    /// use bellbadger::{follow::Follower, patterns::rule_file, read};
+    /// let mut follower = Follower::new(&read(&rule_file(b"a(b|d)")?)?)?;
+    /// assert_eq!(follower.follow(&[0])?.expected.to_vec(), [1, 3]);
+    /// # Ok::<(), bellbadger::Refused>(())
+    /// ```
     #[must_use]
     pub fn to_vec(self) -> Vec<u8> {
         self.iter().collect()
@@ -119,6 +157,15 @@ impl fmt::Debug for Symbols {
 }
 
 /// What a chunk that was taken tells of the trace.
+///
+/// ```
+/// use bellbadger::{follow::Follower, patterns::rule_file, read};
+/// let mut follower = Follower::new(&read(&rule_file(b"a(b|d)")?)?)?;
+/// let followed = follower.follow(&[0, 2])?; // 2 is lost on it
+/// assert_eq!((followed.lost, followed.expected.to_vec()), (Some(2), vec![1, 3]));
+/// assert!(!followed.is_accepted_so_far() && !followed.complete);
+/// # Ok::<(), bellbadger::Refused>(())
+/// ```
 #[derive(Clone, Copy, Debug, PartialEq, Eq)]
 #[must_use]
 pub struct Followed {
@@ -147,6 +194,14 @@ impl Followed {
     ///     followed.is_accepted_so_far();
     /// }
     /// ```
+    ///
+    /// ```
+    /// use bellbadger::{follow::Follower, patterns::rule_file, read};
+    /// let mut follower = Follower::new(&read(&rule_file(b"a(b|d)")?)?)?;
+    /// assert!(!follower.follow(&[0])?.is_accepted_so_far());
+    /// assert!(follower.follow(&[1])?.is_accepted_so_far());
+    /// # Ok::<(), bellbadger::Refused>(())
+    /// ```
     #[must_use]
     pub fn is_accepted_so_far(&self) -> bool {
         self.accepted_so_far
@@ -155,6 +210,13 @@ impl Followed {
 
 /// A rule that was checked, and the set of states that the trace has led to; or the refusal of a chunk,
 /// which stands. Each trace has a follower of its own, or begins it anew.
+///
+/// ```
+/// use bellbadger::{follow::Follower, patterns::rule_file, read};
+/// let mut follower = Follower::new(&read(&rule_file(b"a(b|d)")?)?)?;
+/// assert!(follower.follow(&[0, 3])?.is_accepted_so_far());
+/// # Ok::<(), bellbadger::Refused>(())
+/// ```
 #[derive(Clone, PartialEq, Eq)]
 pub struct Follower {
     by: Box<RawFollower>,
@@ -195,11 +257,29 @@ impl Follower {
     }
 
     /// Begins another trace, with the initial states; a refusal stands no more.
+    ///
+    /// ```
+    /// use bellbadger::{follow::Follower, patterns::rule_file, read};
+    /// let mut follower = Follower::new(&read(&rule_file(b"a(b|d)")?)?)?;
+    /// let _lost = follower.follow(&[1])?;
+    /// follower.begin();
+    /// assert!(follower.follow(&[0, 1])?.is_accepted_so_far());
+    /// # Ok::<(), bellbadger::Refused>(())
+    /// ```
     pub fn begin(&mut self) {
         (self.set, self.refused) = (self.by.rule.initials, None);
     }
 
     /// The refusal of a chunk, with which each later one is refused too, where there was one.
+    ///
+    /// ```
+    /// use bellbadger::{follow::Follower, patterns::rule_file, read};
+    /// let mut follower = Follower::new(&read(&rule_file(b"a(b|d)")?)?)?;
+    /// assert!(follower.refused().is_none());
+    /// assert!(follower.follow(&[16]).is_err()); // no symbol
+    /// assert_eq!(follower.refused().unwrap().number(), 13);
+    /// # Ok::<(), bellbadger::Refused>(())
+    /// ```
     #[must_use]
     pub fn refused(&self) -> Option<Refused> {
         self.refused
@@ -207,6 +287,15 @@ impl Follower {
 
     /// Leaves the refused chunk out, so that the trace goes on behind the last one that was taken. Where the
     /// chunk was a part of the trace, hand it in as it was meant, or the trace has a hole that nobody sees.
+    ///
+    /// ```
+    /// use bellbadger::{follow::Follower, patterns::rule_file, read};
+    /// let mut follower = Follower::new(&read(&rule_file(b"a(b|d)")?)?)?;
+    /// assert!(follower.follow(&[16]).is_err());
+    /// follower.drop_refused();
+    /// assert!(follower.follow(&[0, 1])?.is_accepted_so_far());
+    /// # Ok::<(), bellbadger::Refused>(())
+    /// ```
     pub fn drop_refused(&mut self) {
         self.refused = None;
     }
@@ -225,6 +314,14 @@ impl Follower {
     ///     follower.follow(&[1])?;
     ///     Ok(())
     /// }
+    /// ```
+    ///
+    /// ```
+    /// use bellbadger::{follow::Follower, patterns::rule_file, read};
+    /// let mut follower = Follower::new(&read(&rule_file(b"a(b|d)")?)?)?;
+    /// assert_eq!(follower.follow(&[0])?.lost, None);
+    /// assert_eq!(follower.follow(&[255, 0])?.lost, Some(2)); // idle marks are counted
+    /// # Ok::<(), bellbadger::Refused>(())
     /// ```
     pub fn follow(&mut self, chunk: &[u8]) -> Result<Followed, Refused> {
         if let Some(refused) = self.refused {

@@ -1,15 +1,42 @@
 //! The failure form of a rule's next-set table: a smaller table for a nozzle board.
+//!
+//! ```
+//! use bellbadger::{form, patterns::rule_file, Judge};
+//!
+//! let mut judge = Judge::new();
+//! let _loaded = judge.load(&rule_file(b"(ab)*")?)?;
+//! let small = form::form(&judge)?;
+//! assert!(small.kept_cells() < 16 * usize::from(small.sets));
+//! # Ok::<(), bellbadger::Refused>(())
+//! ```
 use crate::raw::RawJudge;
 use crate::{accepted, fits, Judge, Refused};
 use std::fmt;
 
 /// What stands in a cell for the empty set. It is no set.
+///
+/// ```
+/// use bellbadger::{form::{form, table, EMPTY_SET}, patterns::rule_file, Judge};
+/// let mut judge = Judge::new();
+/// let _loaded = judge.load(&rule_file(b"ab")?)?;
+/// assert_eq!(table(&*form(&judge)?)?.next[1], EMPTY_SET); // b cannot begin
+/// # Ok::<(), bellbadger::Refused>(())
+/// ```
 pub const EMPTY_SET: u16 = 512;
 
 /// A next-set table in which a cell that is equal to that of a lower-numbered set, the failure set, is left
 /// out and looked up there.
 ///
 /// Any numbers may stand in one that is made by hand: it is checked by [`table`].
+///
+/// ```
+/// use bellbadger::{form::form, patterns::rule_file, Judge};
+/// let mut judge = Judge::new();
+/// let _loaded = judge.load(&rule_file(b"ab")?)?;
+/// let small = form(&judge)?;
+/// assert_eq!((small.sets, small.symbols, small.kept[0]), (3, 16, 0xFFFF));
+/// # Ok::<(), bellbadger::Refused>(())
+/// ```
 #[repr(C)]
 #[derive(Clone, Copy, PartialEq, Eq)]
 pub struct Form {
@@ -26,6 +53,15 @@ pub struct Form {
 }
 
 /// A next-set table as a built rule has it.
+///
+/// ```
+/// use bellbadger::{form::{form, table}, patterns::rule_file, Judge};
+/// let mut judge = Judge::new();
+/// let _loaded = judge.load(&rule_file(b"ab")?)?;
+/// let whole = table(&*form(&judge)?)?;
+/// assert_eq!((whole.sets, whole.symbols), (3, 16));
+/// # Ok::<(), bellbadger::Refused>(())
+/// ```
 #[repr(C)]
 #[derive(Clone, Copy, PartialEq, Eq)]
 pub struct Table {
@@ -40,6 +76,14 @@ pub struct Table {
 
 impl Form {
     /// How many cells are kept.
+    ///
+    /// ```
+    /// use bellbadger::{form::form, patterns::rule_file, Judge};
+    /// let mut judge = Judge::new();
+    /// let _loaded = judge.load(&rule_file(b"ab")?)?;
+    /// assert_eq!(form(&judge)?.kept_cells(), 19); // of 48: 16 of set 0, and what differs from it
+    /// # Ok::<(), bellbadger::Refused>(())
+    /// ```
     #[must_use]
     pub fn kept_cells(&self) -> usize {
         let sets = usize::from(self.sets).min(512);
@@ -132,6 +176,17 @@ pub fn form(judge: &Judge) -> Result<Box<Form>, Refused> {
 ///
 /// # Panics
 /// Where the library that is linked has another version or state than this wrapper was written for.
+///
+/// ```
+/// use bellbadger::{form::{form, table}, patterns::rule_file, Judge};
+/// let mut judge = Judge::new();
+/// let _loaded = judge.load(&rule_file(b"ab")?)?;
+/// let mut small = form(&judge)?;
+/// assert_eq!(table(&small)?.next[0], 1);
+/// small.sets = 0;
+/// assert_eq!(table(&small).unwrap_err().number(), 40);
+/// # Ok::<(), bellbadger::Refused>(())
+/// ```
 pub fn table(form: &Form) -> Result<Box<Table>, Refused> {
     fits();
     // SAFETY: plain numbers.

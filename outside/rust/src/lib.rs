@@ -85,6 +85,11 @@ use raw::{RawChange, RawInstall, RawJudge, RawVerdict};
 use std::fmt;
 
 /// The version of the library that is linked: major and minor number.
+///
+/// ```
+/// let (major, minor) = bellbadger::version();
+/// assert!(major == 5 && minor >= 7);
+/// ```
 #[must_use]
 pub fn version() -> (u32, u32) {
     // SAFETY: the function takes nothing and returns a number.
@@ -93,6 +98,14 @@ pub fn version() -> (u32, u32) {
 }
 
 /// What an accepted load or installation tells of the rule.
+///
+/// ```
+/// use bellbadger::{patterns::rule_file, Judge};
+/// let mut judge = Judge::new();
+/// let loaded = judge.load(&rule_file(b"(a|b)*ab")?)?;
+/// assert_eq!((loaded.sets, loaded.starts), (7, 3));
+/// # Ok::<(), bellbadger::Refused>(())
+/// ```
 #[derive(Clone, Copy, Debug, PartialEq, Eq)]
 #[must_use]
 pub struct Loaded {
@@ -104,6 +117,15 @@ pub struct Loaded {
 }
 
 /// What an accepted delivery tells of the run.
+///
+/// ```
+/// use bellbadger::{patterns::rule_file, Judge};
+/// let mut judge = Judge::new();
+/// let _loaded = judge.load(&rule_file(b"(a|b)*ab")?)?;
+/// judge.open(1)?;
+/// assert_eq!(judge.deliver(0, 0, &[0, 255, 1])?.bytes, 2); // without the idle mark
+/// # Ok::<(), bellbadger::Refused>(())
+/// ```
 #[derive(Clone, Copy, Debug, PartialEq, Eq)]
 #[must_use]
 pub struct Looked {
@@ -113,6 +135,15 @@ pub struct Looked {
 }
 
 /// What is to be said of the trace.
+///
+/// ```
+/// use bellbadger::{patterns::rule_file, Judge, Verdict};
+/// let mut judge = Judge::new();
+/// let _loaded = judge.load(&rule_file(b"(a|b)*ab")?)?;
+/// judge.open(1)?;
+/// assert_eq!(judge.verdict()?.verdict, Verdict::Waiting(1));
+/// # Ok::<(), bellbadger::Refused>(())
+/// ```
 #[derive(Clone, Copy, Debug, PartialEq, Eq)]
 #[must_use]
 pub enum Verdict {
@@ -150,6 +181,17 @@ impl Verdict {
 ///
 /// Beside yes or no `bytes` is the number of text bytes, and count = quotient × bytes + remainder with
 /// a remainder below bytes; for a text of 0 bytes both are 0. Beside waiting all three are 0.
+///
+/// ```
+/// use bellbadger::{patterns::rule_file, Judge};
+/// let mut judge = Judge::new();
+/// let _loaded = judge.load(&rule_file(b"(a|b)*ab")?)?;
+/// judge.open(1)?;
+/// let _looked = judge.deliver(0, 0, &[0, 1])?;
+/// let report = judge.verdict()?;
+/// assert_eq!((report.bytes, report.quotient, report.remainder), (2, 1, 0));
+/// # Ok::<(), bellbadger::Refused>(())
+/// ```
 #[derive(Clone, Copy, Debug, PartialEq, Eq)]
 #[must_use]
 pub struct Report {
@@ -165,6 +207,17 @@ pub struct Report {
 
 impl Report {
     /// Whether the verdict is yes, as [`Verdict::is_yes`] has it.
+    ///
+    /// ```
+    /// use bellbadger::{patterns::rule_file, Judge};
+    /// let mut judge = Judge::new();
+    /// let _loaded = judge.load(&rule_file(b"(a|b)*ab")?)?;
+    /// judge.open(1)?;
+    /// assert!(!judge.verdict()?.is_yes()); // it waits
+    /// let _looked = judge.deliver(0, 0, &[0, 1])?;
+    /// assert!(judge.verdict()?.is_yes());
+    /// # Ok::<(), bellbadger::Refused>(())
+    /// ```
     #[must_use]
     pub fn is_yes(&self) -> bool {
         self.verdict.is_yes()
@@ -172,6 +225,16 @@ impl Report {
 }
 
 /// One rule and one board.
+///
+/// ```
+/// use bellbadger::{patterns::rule_file, Judge};
+/// let mut judge = Judge::new();
+/// let _loaded = judge.load(&rule_file(b"(a|b)*ab")?)?;
+/// judge.open(1)?;
+/// let _looked = judge.deliver(0, 0, &[1, 0, 1])?;
+/// assert!(judge.verdict()?.is_yes());
+/// # Ok::<(), bellbadger::Refused>(())
+/// ```
 #[derive(Clone)]
 pub struct Judge(Box<RawJudge>);
 

@@ -34,6 +34,16 @@ use crate::{accepted, Judge, Refused};
 ///
 /// Neither is a yes: a trace that is open may be lost by the next chunk, and one that is open with all its
 /// places may have stopped too early. Whether to ship is for [`Judge::verdict`] to say.
+///
+/// ```
+/// use bellbadger::{losses::Diagnosis, patterns::rule_file, Judge};
+/// let mut judge = Judge::new();
+/// let _loaded = judge.load(&rule_file(b"ab")?)?;
+/// judge.open(2)?;
+/// let _looked = judge.deliver(0, 0, &[1])?;
+/// assert_eq!(judge.diagnose()?, Diagnosis::Lost { place: 0 });
+/// # Ok::<(), bellbadger::Refused>(())
+/// ```
 #[derive(Clone, Copy, Debug, PartialEq, Eq, Hash)]
 #[must_use]
 pub enum Diagnosis {

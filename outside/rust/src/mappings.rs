@@ -24,6 +24,15 @@ use std::fmt;
 
 /// The set of states that each of eight states is mapped to: bit p of the mask at q for state p from
 /// state q. Any value is one, and any two compose.
+///
+/// ```
+/// use bellbadger::{mappings::Profile, patterns::rule_file, read};
+/// let profile = Profile::build(&read(&rule_file(b"ab")?)?)?;
+/// let mapping = profile.run(&[0])?; // from state 0 to state 1
+/// assert_eq!(mapping.masks, [0b10, 0, 0, 0, 0, 0, 0, 0]);
+/// assert_eq!(mapping.to_string(), "0200000000000000");
+/// # Ok::<(), bellbadger::Refused>(())
+/// ```
 #[repr(C)]
 #[derive(Clone, Copy, PartialEq, Eq, Hash)]
 pub struct Mapping {
@@ -32,6 +41,13 @@ pub struct Mapping {
 }
 
 /// The mapping machine of a rule.
+///
+/// ```
+/// use bellbadger::{mappings::Profile, patterns::rule_file, read};
+/// let profile = Profile::build(&read(&rule_file(b"ab")?)?)?;
+/// assert!(profile.accepts(profile.run(&[0, 1])?));
+/// # Ok::<(), bellbadger::Refused>(())
+/// ```
 #[derive(Clone, PartialEq, Eq)]
 pub struct Profile(Box<RawProfile>);
 
@@ -134,6 +150,13 @@ impl Profile {
     }
 
     /// How many mappings the texts of the rule have, 1 to 512.
+    ///
+    /// ```
+    /// use bellbadger::{mappings::Profile, patterns::rule_file, read};
+    /// let profile = Profile::build(&read(&rule_file(b"ab")?)?)?;
+    /// assert_eq!(profile.count(), 5); // of no event, of a, of b, of a b, and of all else
+    /// # Ok::<(), bellbadger::Refused>(())
+    /// ```
     #[must_use]
     pub fn count(&self) -> u16 {
         self.0.count
@@ -144,6 +167,14 @@ impl Profile {
     ///
     /// # Errors
     /// 12 (over 65,536 bytes), 13 (a byte is no symbol and no idle mark).
+    ///
+    /// ```
+    /// use bellbadger::{mappings::Profile, patterns::rule_file, read};
+    /// let profile = Profile::build(&read(&rule_file(b"ab")?)?)?;
+    /// assert_eq!(profile.run(&[255])?.masks[0], 1); // an idle mark leads nowhere else
+    /// assert_eq!(profile.run(&[16]).unwrap_err().number(), 13);
+    /// # Ok::<(), bellbadger::Refused>(())
+    /// ```
     pub fn run(&self, chunk: &[u8]) -> Result<Mapping, Refused> {
         // SAFETY: the pointer leads to as many bytes as the length says, and they are only read.
         let r = unsafe { bellbadger_profile_run(*self.0, chunk.as_ptr(), chunk.len()) };
@@ -152,6 +183,14 @@ impl Profile {
 
     /// The verdict: whether the mapping leads from an initial state to a final one. Any value has one;
     /// bits for states that there are not mean nothing.
+    ///
+    /// ```
+    /// use bellbadger::{mappings::Profile, patterns::rule_file, read};
+    /// let profile = Profile::build(&read(&rule_file(b"ab")?)?)?;
+    /// assert!(profile.accepts(profile.run(&[0])?.then(profile.run(&[1])?)));
+    /// assert!(!profile.accepts(profile.run(&[0])?));
+    /// # Ok::<(), bellbadger::Refused>(())
+    /// ```
     #[must_use]
     pub fn accepts(&self, mapping: Mapping) -> bool {
         // SAFETY: plain numbers.

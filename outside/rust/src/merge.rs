@@ -1,7 +1,25 @@
 //! Two rules made one, for a machine with two heads.
+//!
+//! ```
+//! use bellbadger::merge::{merge_reduced, Way};
+//! use bellbadger::{patterns::rule_file, read, samples};
+//!
+//! let (one, two) = (read(&rule_file(b"a*b")?)?, read(&rule_file(b"aa(a|b)")?)?);
+//! let both = merge_reduced(Way::Both, &one, &two)?;
+//! assert_eq!(samples::sample(samples::Wish::Accepted, &both)?, Some(vec![0, 0, 1]));
+//! # Ok::<(), bellbadger::Refused>(())
+//! ```
 use crate::{accepted, fits, CheckedRule, Refused};
 
 /// Which texts the result accepts.
+///
+/// ```
+/// use bellbadger::{merge::{merge, Way}, patterns::rule_file, read, samples};
+/// let (one, two) = (read(&rule_file(b"a*")?)?, read(&rule_file(b"b")?)?);
+/// let mixed = merge(Way::Interleaving, &one, &two)?;
+/// assert_eq!(samples::sample(samples::Wish::Accepted, &mixed)?, Some(vec![1]));
+/// # Ok::<(), bellbadger::Refused>(())
+/// ```
 #[derive(Clone, Copy, Debug, PartialEq, Eq, Hash)]
 pub enum Way {
     /// Those that both rules accept.

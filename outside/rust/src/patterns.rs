@@ -3,9 +3,22 @@
 //! A letter a to p is the symbol 0 to 15; what stands side by side follows each other; `x|y` is x or y;
 //! `x*` is x any number of times; brackets join. `|` binds loosest and `*` tightest. An empty
 //! alternative, pattern or bracket is the empty text.
+//!
+//! ```
+//! use bellbadger::{patterns::rule_file, read};
+//!
+//! assert_eq!(read(&rule_file(b"(ab)*c")?)?.n, 4); // a start, and three letters
+//! # Ok::<(), bellbadger::Refused>(())
+//! ```
 use crate::{accepted, fits, Refused};
 
 /// The most bytes of a pattern's rule file.
+///
+/// ```
+/// use bellbadger::patterns::{rule_file, LONGEST_FILE};
+/// assert!(rule_file(b"((a|b|c|d|e)*(f|g|h)*)*")?.len() <= LONGEST_FILE);
+/// # Ok::<(), bellbadger::Refused>(())
+/// ```
 pub const LONGEST_FILE: usize = 2122;
 
 #[repr(C)]

@@ -1,7 +1,24 @@
 //! A rule reduced: the same texts, and no state that is unreachable, dead or alike to another.
+//!
+//! ```
+//! use bellbadger::{patterns::rule_file, read, reduce::reduce};
+//!
+//! let rule = read(&rule_file(b"ab|ab")?)?;
+//! assert_eq!((rule.n, reduce(&rule)?.rule.n), (5, 3));
+//! # Ok::<(), bellbadger::Refused>(())
+//! ```
 use crate::{accepted, fits, CheckedRule, Refused};
 
 /// What comes of reducing a rule.
+///
+/// ```
+/// use bellbadger::{patterns::rule_file, read, reduce::reduce};
+/// let rule = read(&rule_file(b"ab|ab")?)?;
+/// let reduced = reduce(&rule)?;
+/// let kept = if reduced.installs { reduced.rule } else { rule };
+/// assert_eq!(kept.n, 3);
+/// # Ok::<(), bellbadger::Refused>(())
+/// ```
 #[derive(Clone, Copy, Debug, PartialEq, Eq)]
 #[must_use]
 pub struct Reduced {

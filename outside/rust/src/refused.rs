@@ -20,6 +20,10 @@ impl Refused {
     }
 
     /// Why: 1 to 13 and 30 to 45 for what is wrong with the input, 20 to 23 for what stands in the way.
+    ///
+    /// ```
+    /// assert_eq!(bellbadger::read(&[]).unwrap_err().number(), 1);
+    /// ```
     #[must_use]
     pub fn number(self) -> u8 {
         self.0
@@ -74,6 +78,12 @@ impl fmt::Display for Refused {
 impl Error for Refused {}
 
 /// A recorded list of calls has no verdict.
+///
+/// ```
+/// use bellbadger::{replay, ReplayError};
+/// assert_eq!(replay(b"load\n").unwrap_err(), ReplayError::Malformed { line: 1 });
+/// assert_eq!(replay(b"verdict\n").unwrap_err().to_string(), "refused 21: no board is open");
+/// ```
 #[derive(Clone, Copy, Debug, PartialEq, Eq, Hash)]
 #[must_use]
 pub enum ReplayError {

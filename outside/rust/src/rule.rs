@@ -6,6 +6,14 @@ use std::fmt;
 ///
 /// A mask has bit q for state q. Any numbers may stand in a rule that is made by hand: it is checked
 /// again where it is installed.
+///
+/// ```
+/// use bellbadger::{patterns::rule_file, read};
+/// let rule = read(&rule_file(b"ab")?)?;
+/// assert_eq!((rule.n, rule.k, rule.initials, rule.finals), (3, 16, 0b001, 0b100));
+/// assert_eq!(rule.targets[0], 0b010); // a leads from state 0 to state 1
+/// # Ok::<(), bellbadger::Refused>(())
+/// ```
 #[repr(C)]
 #[derive(Clone, Copy, PartialEq, Eq, Hash)]
 pub struct CheckedRule {

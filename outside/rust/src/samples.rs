@@ -1,7 +1,23 @@
 //! A sample trace of a rule, for its owner to look at.
+//!
+//! ```
+//! use bellbadger::samples::{sample, Wish};
+//! use bellbadger::{patterns::rule_file, read};
+//!
+//! let all = read(&rule_file(b"(a|b|c|d|e|f|g|h|i|j|k|l|m|n|o|p)*")?)?;
+//! assert_eq!(sample(Wish::Rejected, &all)?, None);
+//! # Ok::<(), bellbadger::Refused>(())
+//! ```
 use crate::{accepted, fits, CheckedRule, Refused};
 
 /// What the text is to be.
+///
+/// ```
+/// use bellbadger::{patterns::rule_file, read, samples::{sample, Wish}};
+/// let rule = read(&rule_file(b"bc")?)?;
+/// assert_eq!(sample(Wish::Accepted, &rule)?, Some(vec![1, 2]));
+/// # Ok::<(), bellbadger::Refused>(())
+/// ```
 #[derive(Clone, Copy, Debug, PartialEq, Eq, Hash)]
 pub enum Wish {
     /// One that the rule accepts.

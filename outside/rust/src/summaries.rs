@@ -40,6 +40,15 @@ use std::fmt;
 /// What chunks that follow one another come to.
 ///
 /// It says neither yes nor no: that is for [`Judge::conclude`].
+///
+/// ```
+/// use bellbadger::{patterns::rule_file, Judge};
+/// let mut judge = Judge::new();
+/// let _loaded = judge.load(&rule_file(b"(a|b)*ab")?)?;
+/// let summary = judge.summarize(0, &[0, 1])?;
+/// assert_eq!((summary.first, summary.end, summary.bytes), (0, 1, 2));
+/// # Ok::<(), bellbadger::Refused>(())
+/// ```
 #[repr(C)]
 #[derive(Clone, Copy, PartialEq, Eq, Hash)]
 #[must_use]
@@ -97,6 +106,14 @@ fn fits() {
 
 impl Summary {
     /// How many bytes a summary has where it travels: [`Summary::to_bytes`].
+    ///
+    /// ```
+    /// use bellbadger::{patterns::rule_file, summaries::Summary, Judge};
+    /// let mut judge = Judge::new();
+    /// let _loaded = judge.load(&rule_file(b"a")?)?;
+    /// assert_eq!(judge.summarize(0, &[0])?.to_bytes().len(), Summary::BYTES);
+    /// # Ok::<(), bellbadger::Refused>(())
+    /// ```
     pub const BYTES: usize = 169;
 
     /// The summary of these chunks, and of those that follow them. Any two combine, in any bracketing; the
@@ -105,6 +122,15 @@ impl Summary {
     ///
     /// # Panics
     /// Where the library that is linked has another summary than this wrapper was written for.
+    ///
+    /// ```
+    /// use bellbadger::{patterns::rule_file, Judge};
+    /// let mut judge = Judge::new();
+    /// let _loaded = judge.load(&rule_file(b"(a|b)*ab")?)?;
+    /// let (one, two) = (judge.summarize(0, &[0])?, judge.summarize(1, &[1])?);
+    /// assert!(judge.conclude(one.then(two), 2)?.is_yes());
+    /// # Ok::<(), bellbadger::Refused>(())
+    /// ```
     pub fn then(self, later: Summary) -> Summary {
         fits();
         // SAFETY: plain numbers.
@@ -112,6 +138,15 @@ impl Summary {
     }
 
     /// Whether it will not be concluded, whatever it is combined with.
+    ///
+    /// ```
+    /// use bellbadger::{patterns::rule_file, Judge};
+    /// let mut judge = Judge::new();
+    /// let _loaded = judge.load(&rule_file(b"(a|b)*ab")?)?;
+    /// let (one, two) = (judge.summarize(0, &[0])?, judge.summarize(1, &[1])?);
+    /// assert!(!one.then(two).is_broken() && two.then(one).is_broken());
+    /// # Ok::<(), bellbadger::Refused>(())
+    /// ```
     #[must_use]
     pub fn is_broken(&self) -> bool {
         self.broken != 0
@@ -119,6 +154,15 @@ impl Summary {
 
     /// The summary as bytes, little-endian and without gaps: the 32 masks of `leads`, of 4 bytes each;
     /// `count`, `bytes`, `rule`, `first` and `end`, of 8 each; `broken`, 1 byte.
+    ///
+    /// ```
+    /// use bellbadger::{patterns::rule_file, Judge};
+    /// let mut judge = Judge::new();
+    /// let _loaded = judge.load(&rule_file(b"(a|b)*ab")?)?;
+    /// let summary = judge.summarize(3, &[0])?;
+    /// assert_eq!(summary.to_bytes()[152..160], 3_u64.to_le_bytes()); // the first chunk's number
+    /// # Ok::<(), bellbadger::Refused>(())
+    /// ```
     #[must_use]
     pub fn to_bytes(&self) -> [u8; Summary::BYTES] {
         let mut bytes = [0; Summary::BYTES];
@@ -135,6 +179,13 @@ impl Summary {
     }
 
     /// The summary that [`Summary::to_bytes`] made the bytes of; any bytes are one.
+    ///
+    /// ```
+    /// use bellbadger::summaries::Summary;
+    /// let mut bytes = [0; Summary::BYTES];
+    /// bytes[168] = 1;
+    /// assert!(Summary::from_bytes(&bytes).is_broken());
+    /// ```
     pub fn from_bytes(bytes: &[u8; Summary::BYTES]) -> Summary {
         let mask = |q: usize| {
             let at = 4 * q;

@@ -1,4 +1,11 @@
 //! Made test texts: the same k, seed and length make the same text everywhere.
+//!
+//! ```
+//! let mut text = [9; 4];
+//! bellbadger::texts::make_text(1, 7, &mut text)?;
+//! assert_eq!(text, [0; 4]); // 0 is the one symbol below 1
+//! # Ok::<(), bellbadger::Refused>(())
+//! ```
 use crate::{accepted, fits, Refused};
 
 #[repr(C)]

@@ -35,6 +35,16 @@ use std::error::Error;
 use std::fmt;
 
 /// What is to be said of a tray.
+///
+/// ```
+/// use bellbadger::{patterns::rule_file, read, trays::{Tray, TrayVerdict}};
+/// let rule = read(&rule_file(b"(a|b)*")?)?;
+/// let mut tray = Tray::new();
+/// let (_row, _column) = (tray.install_row(&rule)?, tray.install_column(&rule)?);
+/// tray.open(2, 1)?;
+/// assert_eq!(tray.verdict()?, TrayVerdict::Waiting(1));
+/// # Ok::<(), bellbadger::trays::TrayRefused>(())
+/// ```
 #[derive(Clone, Copy, Debug, PartialEq, Eq)]
 #[must_use]
 pub enum TrayVerdict {
@@ -73,6 +83,17 @@ impl TrayVerdict {
 /// Rows and columns are counted from 0, a row from the first of its band on. No band that is delivered later
 /// mends a row or a lost column. None is a yes: a tray that is open may go wrong by the next band. Whether to
 /// ship is for [`Tray::verdict`] to say, which over a full board is yes exactly where this is `Open`.
+///
+/// ```
+/// use bellbadger::{patterns::rule_file, read, trays::{Fault, Tray}};
+/// let rule = read(&rule_file(b"(a|b)*")?)?;
+/// let mut tray = Tray::new();
+/// let (_row, _column) = (tray.install_row(&rule)?, tray.install_column(&rule)?);
+/// tray.open(2, 1)?;
+/// tray.deliver(0, &[0, 2])?; // c is an event, and no part of the rule
+/// assert_eq!(tray.fault()?, Fault::Row { band: 0, row: 0 });
+/// # Ok::<(), bellbadger::trays::TrayRefused>(())
+/// ```
 #[derive(Clone, Copy, Debug, PartialEq, Eq, Hash)]
 #[must_use]
 pub enum Fault {
@@ -120,6 +141,10 @@ pub struct TrayRefused(Refused);
 
 impl TrayRefused {
     /// Why, by the same numbers as [`Refused::number`].
+    ///
+    /// ```
+    /// assert_eq!(bellbadger::trays::Tray::new().withdraw(0).unwrap_err().number(), 21);
+    /// ```
     #[must_use]
     pub fn number(self) -> u8 {
         self.0.number()
@@ -154,6 +179,17 @@ impl From<Refused> for TrayRefused {
 }
 
 /// A row rule, a column rule and a board of bands.
+///
+/// ```
+/// use bellbadger::{patterns::rule_file, read, trays::Tray};
+/// let rule = read(&rule_file(b"(a|b)*")?)?;
+/// let mut tray = Tray::new();
+/// let (_row, _column) = (tray.install_row(&rule)?, tray.install_column(&rule)?);
+/// tray.open(2, 1)?;
+/// tray.deliver(0, &[0, 1])?;
+/// assert!(tray.verdict()?.is_yes());
+/// # Ok::<(), bellbadger::trays::TrayRefused>(())
+/// ```
 #[derive(Clone, PartialEq, Eq)]
 pub struct Tray(Box<RawTray>);
 
@@ -271,6 +307,14 @@ impl Tray {
     ///
     /// # Errors
     /// 3, 4, 6, 8, 9 as [`Judge::install`](crate::Judge::install) has them.
+    ///
+    /// ```
+    /// use bellbadger::{patterns::rule_file, read, trays::Tray};
+    /// let rule = read(&rule_file(b"(a|b)*")?)?;
+    /// let mut tray = Tray::new();
+    /// assert_eq!(tray.install_row(&rule)?.starts, 1);
+    /// # Ok::<(), bellbadger::trays::TrayRefused>(())
+    /// ```
     pub fn install_row(&mut self, rule: &CheckedRule) -> Result<Loaded, TrayRefused> {
         // SAFETY: plain numbers.
         let r = unsafe { bellbadger_tray_install_row(*self.0, *rule) };
@@ -281,6 +325,14 @@ impl Tray {
     ///
     /// # Errors
     /// 3, 4, 6, 8, 9 as [`Judge::install`](crate::Judge::install) has them.
+    ///
+    /// ```
+    /// use bellbadger::{patterns::rule_file, read, trays::Tray};
+    /// let rule = read(&rule_file(b"(a|b)*")?)?;
+    /// let mut tray = Tray::new();
+    /// assert_eq!(tray.install_column(&rule)?.starts, 1);
+    /// # Ok::<(), bellbadger::trays::TrayRefused>(())
+    /// ```
     pub fn install_column(&mut self, rule: &CheckedRule) -> Result<Loaded, TrayRefused> {
         // SAFETY: plain numbers.
         let r = unsafe { bellbadger_tray_install_column(*self.0, *rule) };
@@ -291,6 +343,16 @@ impl Tray {
     ///
     /// # Errors
     /// 20 (either rule is absent), 38 (no width from 1 to 16), 10 (no number of bands from 1 to 8).
+    ///
+    /// ```
+    /// use bellbadger::{patterns::rule_file, read, trays::Tray};
+    /// let rule = read(&rule_file(b"(a|b)*")?)?;
+    /// let mut tray = Tray::new();
+    /// let (_row, _column) = (tray.install_row(&rule)?, tray.install_column(&rule)?);
+    /// tray.open(16, 8)?;
+    /// assert_eq!(tray.open(17, 8).unwrap_err().number(), 38);
+    /// # Ok::<(), bellbadger::trays::TrayRefused>(())
+    /// ```
     pub fn open(&mut self, width: usize, bands: usize) -> Result<(), TrayRefused> {
         // SAFETY: plain numbers.
         let r = unsafe { bellbadger_tray_open(*self.0, width, bands) };
@@ -303,6 +365,17 @@ impl Tray {
     /// # Errors
     /// 21 (no board is open), 11 (no such band), 39 (no whole rows, or over 64), 13 (a byte is no symbol
     /// of the row rule, or none of the column rule), 22 (the band is filled).
+    ///
+    /// ```
+    /// use bellbadger::{patterns::rule_file, read, trays::Tray};
+    /// let rule = read(&rule_file(b"(a|b)*")?)?;
+    /// let mut tray = Tray::new();
+    /// let (_row, _column) = (tray.install_row(&rule)?, tray.install_column(&rule)?);
+    /// tray.open(2, 1)?;
+    /// assert_eq!(tray.deliver(0, &[0]).unwrap_err().number(), 39); // half a row
+    /// tray.deliver(0, &[0, 1, 1, 0])?;
+    /// # Ok::<(), bellbadger::trays::TrayRefused>(())
+    /// ```
     pub fn deliver(&mut self, band: usize, rows: &[u8]) -> Result<(), TrayRefused> {
         // SAFETY: the pointer leads to as many bytes as the length says, and they are only read.
         let r = unsafe { bellbadger_tray_deliver(*self.0, band, rows.as_ptr(), rows.len()) };
@@ -313,6 +386,18 @@ impl Tray {
     ///
     /// # Errors
     /// 21 (no board is open), 11 (no such band), 23 (the band is empty).
+    ///
+    /// ```
+    /// use bellbadger::{patterns::rule_file, read, trays::Tray};
+    /// let rule = read(&rule_file(b"(a|b)*")?)?;
+    /// let mut tray = Tray::new();
+    /// let (_row, _column) = (tray.install_row(&rule)?, tray.install_column(&rule)?);
+    /// tray.open(2, 1)?;
+    /// tray.deliver(0, &[0, 1])?;
+    /// tray.withdraw(0)?;
+    /// assert_eq!(tray.withdraw(0).unwrap_err().number(), 23);
+    /// # Ok::<(), bellbadger::trays::TrayRefused>(())
+    /// ```
     pub fn withdraw(&mut self, band: usize) -> Result<(), TrayRefused> {
         // SAFETY: plain numbers.
         let r = unsafe { bellbadger_tray_withdraw(*self.0, band) };
@@ -323,6 +408,18 @@ impl Tray {
     ///
     /// # Errors
     /// 21 (no board is open).
+    ///
+    /// ```
+    /// use bellbadger::{patterns::rule_file, read, trays::Tray};
+    /// let rule = read(&rule_file(b"(a|b)*")?)?;
+    /// let mut tray = Tray::new();
+    /// let (_row, _column) = (tray.install_row(&rule)?, tray.install_column(&rule)?);
+    /// assert_eq!(tray.verdict().unwrap_err().number(), 21);
+    /// tray.open(2, 1)?;
+    /// tray.deliver(0, &[])?; // no rows: each column is the empty text
+    /// assert!(tray.verdict()?.is_yes());
+    /// # Ok::<(), bellbadger::trays::TrayRefused>(())
+    /// ```
     pub fn verdict(&self) -> Result<TrayVerdict, TrayRefused> {
         // SAFETY: plain numbers.
         let r = unsafe { bellbadger_tray_verdict(*self.0) };
