@@ -23,9 +23,9 @@
  *   230 KB  bellbadger_load, bellbadger_install
  *   210 KB  bellbadger_deliver
  *   170 KB  bellbadger_locate
- *   140 KB  bellbadger_tray_install_row, bellbadger_tray_install_column, bellbadger_summarize
+ *   145 KB  bellbadger_tray_install_row, bellbadger_tray_install_column, bellbadger_summarize
  *   120 KB  bellbadger_profile_run, bellbadger_merge_reduced
- *   90 KB  any other function
+ *   94 KB  any other function
  */
 #ifndef BELLBADGER_H
 #define BELLBADGER_H
