@@ -12,8 +12,8 @@ use Rattle.ruleformat.specs.Reader.{ruleOf}
 use Rattle.board.specs.Boards.{placesOf, isEmpty, comesLate, emptyBoard, filledAt, clearedAt, summedBytes}
 use Rattle.calls.specs.declared.Judge.{Judge}
 use Rattle.calls.specs.Replies.{Judgement, Reply, accepted, delivered, refused, refusalOf}
-use Rattle.calls.specs.Calls.{installNumber, loadNumber, openConditions, deliverConditions, withdrawConditions, reportBy}
-use Rattle.calls.specs.mirror.Steps.{fresh, lacksRule, lacksBoard, withBoard, outcomeBy, withRule, installReply, runsAt, installOf, loadOf, openOf, deliverOf, withdrawOf, reportOf}
+use Rattle.calls.specs.Calls.{installNumber, loadNumber, openConditions, deliverConditions, withdrawConditions, reportBy, withSets}
+use Rattle.calls.specs.mirror.Steps.{fresh, lacksRule, lacksBoard, withBoard, outcomeBy, withRule, runsAt, installOf, loadOf, openOf, deliverOf, withdrawOf, reportOf}
 use Rattle.histories.proofs.Refinement.{lent}
 use Rattle.capi.specs.declared.InstallNumbers.{InstallNumbers}
 use Rattle.capi.specs.declared.OpenNumbers.{OpenNumbers}
@@ -57,11 +57,11 @@ refused-by (some y) a j next x n e = ap (λ (z : ℕ). record { reply = refused 
 module _ (j : Judge) (x : ℕ) where
   installing : (rule : Rule) → refusalOf (installOf j rule .reply) ≡ some x → installOf j rule ≡ record { reply = refused x; state = j }
   unfolding installOf
-  installing rule = refused-by (installNumber rule) (installReply rule) j (withRule rule) x refl
+  installing rule = refused-by (installNumber rule) (withSets rule) j (withRule rule) x refl
 
   loading : (f : List ℕ) → refusalOf (loadOf j f .reply) ≡ some x → loadOf j f ≡ record { reply = refused x; state = j }
   unfolding loadOf
-  loading f = refused-by (loadNumber f) (installReply (ruleOf f)) j (withRule (ruleOf f)) x refl
+  loading f = refused-by (loadNumber f) (withSets (ruleOf f)) j (withRule (ruleOf f)) x refl
 
   opening : (n : ℕ) → refusalOf (openOf j n .reply) ≡ some x → openOf j n ≡ record { reply = refused x; state = j }
   unfolding openOf

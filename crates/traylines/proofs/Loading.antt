@@ -16,8 +16,8 @@ use Rattle.ruleformat.specs.Reader.{ruleOf, ruleBy, readMeans, Reading, readOut
 use Rattle.calls.specs.Calls.{installNumber, loadNumber}
 use Rattle.calls.proofs.Conditions.{load-number, load-installs}
 use Rattle.trays.specs.declared.Tray.{Tray}
-use Rattle.trays.specs.Replies.{refused}
-use Rattle.trays.specs.mirror.Steps.{Outcome, outcomeBy, withRow, withColumn, installReply, installRowOf, installColumnOf}
+use Rattle.trays.specs.Replies.{refused, withSets}
+use Rattle.trays.specs.mirror.Steps.{Outcome, outcomeBy, withRow, withColumn, installRowOf, installColumnOf}
 use Rattle.traylines.specs.Running.{loadRowOf, loadColumnOf, loadOf}
 
 module _ (t : Tray) (f : List ℕ) (read : ReadResult) (reads : readOutcome read ≡ readOf f) where
@@ -27,19 +27,19 @@ module _ (t : Tray) (f : List ℕ) (read : ReadResult) (reads : readOutcome read
   -- with `next r` the tray that the rule r leaves
   module _ (next : Rule → Tray) where
     unread : (number : ℕ) → read .answer ≡ reading.Refused number
-        → record { reply = refused number; state = t } ≡ outcomeBy (loadNumber f) (installReply (ruleOf f)) t (next (ruleOf f))
+        → record { reply = refused number; state = t } ≡ outcomeBy (loadNumber f) (withSets (ruleOf f)) t (next (ruleOf f))
     unread number told =
         let refused-by : refusal f ≡ some number = sym number-is ∙ ap readMeans told in
         rw (load-number f, refused-by)
 
     installs : read .answer ≡ reading.Accepted
-        → outcomeBy (installNumber (read .rule)) (installReply (read .rule)) t (next (read .rule))
-        ≡ outcomeBy (loadNumber f) (installReply (ruleOf f)) t (next (ruleOf f))
+        → outcomeBy (installNumber (read .rule)) (withSets (read .rule)) t (next (read .rule))
+        ≡ outcomeBy (loadNumber f) (withSets (ruleOf f)) t (next (ruleOf f))
     installs told =
         let passes : refusal f ≡ none = sym number-is ∙ ap readMeans told in
         let rule : read .rule ≡ ruleOf f = ap (λ (x : Reading). x .rule) reads ∙ ap (λ (o : Option ℕ). ruleBy o f) passes in
-        ap (λ (r : Rule). outcomeBy (installNumber r) (installReply r) t (next r)) rule
-        ∙ ap (λ (o : Option ℕ). outcomeBy o (installReply (ruleOf f)) t (next (ruleOf f))) (sym (load-installs f passes))
+        ap (λ (r : Rule). outcomeBy (installNumber r) (withSets r) t (next r)) rule
+        ∙ ap (λ (o : Option ℕ). outcomeBy o (withSets (ruleOf f)) t (next (ruleOf f))) (sym (load-installs f passes))
 
   module _ (o : Outcome) where
     pub file-unread : (rows : Bool) (number : ℕ) → read .answer ≡ reading.Refused number → o ≡ record { reply = refused number; state = t } → o ≡ loadOf rows t f

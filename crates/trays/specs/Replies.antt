@@ -11,9 +11,14 @@
 --     refused x          a call other than the verdict was refused with the number x
 --   refusalIn v, refusalOf a   the number of the refusal, or none where v or a is none
 --   replyBy number a     refused with the number, or a where there is none
+--   withSets r           what the installation of the rule r is answered where it is accepted
 --   installMeans, callMeans, verdictMeans   what each case of the code's answers says
 use mathlib.Core.Option.{Option, none, some}
 use Prim.Native.Nat.{ℕ}
+use lib.ListN.{length}
+use Rattle.automaton.specs.declared.Rule.{Rule}
+use Rattle.subsets.specs.Sets.{setsOf}
+use Rattle.delegates.specs.Claims.{startsIn}
 use Rattle.trays.specs.declared.InstallAnswer.{InstallAnswer}
 use Rattle.trays.specs.declared.InstallAnswer.the-variants as install
 use Rattle.trays.specs.declared.CallAnswer.{CallAnswer}
@@ -48,6 +53,10 @@ refusalOf (refused number) = some number
 abbrev pub replyBy : Option ℕ → Reply → Reply
 replyBy none a = a
 replyBy (some number) a = refused number
+
+-- a rule that is installed: the number of its sets, and M
+abbrev pub withSets : Rule → Reply
+withSets r = installed (length (setsOf (r .targets) (r .n) (r .k))) (startsIn r .startcount)
 
 abbrev pub installMeans : InstallAnswer → Reply
 installMeans (install.Accepted sets starts) = installed sets starts
