@@ -1,11 +1,12 @@
 // Following a trace that comes in order, for C, Rust and Python. Answers are numbers; a follower is a
 // value that the caller keeps and hands in.
 ghost use mathlib.Core.Path.{_≡_};
-ghost use Rattle.follow.specs.Following.{lostMeans, answerMeans, followOutcome, followOf, followByOf, prepareOf};
+ghost use Rattle.base.specs.Answers.{answerNumber};
+ghost use Rattle.follow.specs.Following.{lostMeans, followOutcome, followOf, followByOf, prepareOf};
 ghost use Rattle.flags.specs.Flags.{flagBy, refusedBy};
 ghost use Rattle.c_follow.specs.Numbers.{lostFlag, atBy, followShown, prepareShown};
 use automaton::Rule;
-use follow::FollowAnswer;
+use base::Answer;
 use follow::Followed;
 use follow::Follower;
 use follow::Lost;
@@ -38,21 +39,21 @@ pub struct FollowerNumbers {
 // How many bytes a follower has as C lays it out.
 const FOLLOWER_SIZE: usize = 2064;
 
-fn accepted_of(answer: FollowAnswer) -> u8
-    ensures { λ r. ⌜ r ≡ flagBy (answerMeans answer) ⌝ }
+fn accepted_of(answer: Answer) -> u8
+    ensures { λ r. ⌜ r ≡ flagBy (answerNumber answer) ⌝ }
 {
     match answer {
-        FollowAnswer::Accepted => 1,
-        FollowAnswer::Refused(_) => 0,
+        Answer::Accepted => 1,
+        Answer::Refused(_) => 0,
     }
 }
 
-fn refused_of(answer: FollowAnswer) -> u8
-    ensures { λ r. ⌜ r ≡ refusedBy (answerMeans answer) ⌝ }
+fn refused_of(answer: Answer) -> u8
+    ensures { λ r. ⌜ r ≡ refusedBy (answerNumber answer) ⌝ }
 {
     match answer {
-        FollowAnswer::Accepted => 0,
-        FollowAnswer::Refused(number) => number,
+        Answer::Accepted => 0,
+        Answer::Refused(number) => number,
     }
 }
 

@@ -3,10 +3,9 @@ ghost use mathlib.Core.Path.{_≡_};
 ghost use Rattle.forms.specs.Back.{backOf};
 ghost use Rattle.formmaker.specs.Making.{madeOf};
 ghost use Rattle.c_form.specs.Numbers.{formShown, tableShown};
+use base::Answer;
 use calls::Judge;
-use forms::BackAnswer;
 use forms::Form;
-use forms::FormAnswer;
 use forms::Table;
 
 // Accepted is 1 or 0; where it is 0, refused has the number, and every number of the form is 0.
@@ -34,12 +33,12 @@ pub extern "C" fn bellbadger_form(judge: Judge) -> FormNumbers
     let answer = made.answer;
     let form = made.form;
     match answer {
-        FormAnswer::Made => FormNumbers {
+        Answer::Accepted => FormNumbers {
             accepted: 1,
             refused: 0,
             form,
         },
-        FormAnswer::Refused(refused) => FormNumbers {
+        Answer::Refused(refused) => FormNumbers {
             accepted: 0,
             refused,
             form,
@@ -56,12 +55,12 @@ pub extern "C" fn bellbadger_form_back(form: Form) -> TableNumbers
     let answer = back.answer;
     let table = back.table;
     match answer {
-        BackAnswer::Accepted => TableNumbers {
+        Answer::Accepted => TableNumbers {
             accepted: 1,
             refused: 0,
             table,
         },
-        BackAnswer::Refused(refused) => TableNumbers {
+        Answer::Refused(refused) => TableNumbers {
             accepted: 0,
             refused,
             table,

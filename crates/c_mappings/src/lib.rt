@@ -6,10 +6,10 @@ ghost use Rattle.profile.specs.Runs.{runOf, verdictOf};
 ghost use Rattle.mappings.specs.Mappings.{compose as composeOf};
 ghost use Rattle.c_mappings.specs.Numbers.{buildShown, runShown, mappingShown, verdictShown};
 use automaton::Rule;
+use base::Answer;
 use mappings::Mapping;
 use profile::BuildAnswer;
 use profile::Profile;
-use profile::RunAnswer;
 
 // Accepted is 1 or 0; where it is 0, refused has the number, and every number of the profile is 0.
 // How many mappings there are stands in the profile.
@@ -70,12 +70,12 @@ pub extern "C" fn bellbadger_profile_run(profile: Profile, chunk: &[u8]) -> RunN
     let answer = ran.answer;
     let mapping = ran.mapping;
     match answer {
-        RunAnswer::Accepted => RunNumbers {
+        Answer::Accepted => RunNumbers {
             accepted: 1,
             refused: 0,
             mapping,
         },
-        RunAnswer::Refused(refused) => RunNumbers {
+        Answer::Refused(refused) => RunNumbers {
             accepted: 0,
             refused,
             mapping,

@@ -3,7 +3,7 @@ ghost use mathlib.Core.Path.{_≡_};
 ghost use Rattle.merging.specs.Merging.{wayOf, mergeOf};
 ghost use Rattle.c_merge.specs.Numbers.{mergeShown};
 use automaton::Rule;
-use merging::MergeAnswer;
+use base::Answer;
 
 // Accepted is 1 or 0; where it is 0, refused has the number, and every number of the rule is 0.
 #[repr(C)]
@@ -23,12 +23,12 @@ pub extern "C" fn bellbadger_merge(way: u8, one: Rule, two: Rule) -> MergeNumber
     let answer = merging.answer;
     let rule = merging.rule;
     match answer {
-        MergeAnswer::Accepted => MergeNumbers {
+        Answer::Accepted => MergeNumbers {
             accepted: 1,
             refused: 0,
             rule,
         },
-        MergeAnswer::Refused(refused) => MergeNumbers {
+        Answer::Refused(refused) => MergeNumbers {
             accepted: 0,
             refused,
             rule,

@@ -4,8 +4,8 @@ ghost use Rattle.merging.specs.Merging.{wayOf};
 ghost use Rattle.mergereduce.specs.MergeReduced.{mergeReducedOf};
 ghost use Rattle.c_merge.specs.Numbers.{mergeShown};
 use automaton::Rule;
+use base::Answer;
 use c_merge::MergeNumbers;
-use merging::MergeAnswer;
 
 // Way 0 is a text that both rules accept, 1 a text that either accepts, any other an interleaving
 // of one from each.
@@ -17,12 +17,12 @@ pub extern "C" fn bellbadger_merge_reduced(way: u8, one: Rule, two: Rule) -> Mer
     let answer = merging.answer;
     let rule = merging.rule;
     match answer {
-        MergeAnswer::Accepted => MergeNumbers {
+        Answer::Accepted => MergeNumbers {
             accepted: 1,
             refused: 0,
             rule,
         },
-        MergeAnswer::Refused(refused) => MergeNumbers {
+        Answer::Refused(refused) => MergeNumbers {
             accepted: 0,
             refused,
             rule,

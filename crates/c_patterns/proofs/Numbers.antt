@@ -4,8 +4,8 @@ use mathlib.Core.List.{List}
 use mathlib.Core.Option.{Option, none, some}
 use Prim.Native.Nat.{ℕ, _≤_}
 use Rattle.rulewriter.specs.Written.{Writing}
-use Rattle.patternfile.specs.declared.PatternAnswer.{PatternAnswer}
-use Rattle.patternfile.specs.declared.PatternAnswer.the-variants.{Accepted, Refused}
+use Rattle.base.specs.declared.Answer.{Answer}
+use Rattle.base.specs.declared.Answer.the-variants.{Accepted, Refused}
 use Rattle.patternfile.specs.declared.PatternResult.{PatternResult}
 use Rattle.patternfile.specs.Answers.{patternOf, patternOutcome}
 use Rattle.patternfile.proofs.Claims.{claims}
@@ -18,13 +18,13 @@ module _ (b : List ℕ) (r : PatternResult) (told : patternOutcome r ≡ pattern
   pub on-accepted : r .answer ≡ Accepted
       → record { accepted = 1; refused = 0; length = r .length; bytes = r .bytes } ≡ patternShown (patternOf b)
   on-accepted e =
-      sym (ap (λ (a : PatternAnswer). patternShown (patternOutcome (record { answer = a; length = r .length; bytes = r .bytes }))) e)
+      sym (ap (λ (a : Answer). patternShown (patternOutcome (record { answer = a; length = r .length; bytes = r .bytes }))) e)
       ∙ ap patternShown told
 
   pub on-refused : {x : ℕ} → r .answer ≡ Refused x
       → record { accepted = 0; refused = x; length = r .length; bytes = r .bytes } ≡ patternShown (patternOf b)
   on-refused e =
-      sym (ap (λ (a : PatternAnswer). patternShown (patternOutcome (record { answer = a; length = r .length; bytes = r .bytes }))) e)
+      sym (ap (λ (a : Answer). patternShown (patternOutcome (record { answer = a; length = r .length; bytes = r .bytes }))) e)
       ∙ ap patternShown told
 
 back : (o : Option ℕ) (length : ℕ) (bytes : List ℕ)

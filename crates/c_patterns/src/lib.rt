@@ -2,7 +2,7 @@
 ghost use mathlib.Core.Path.{_≡_};
 ghost use Rattle.patternfile.specs.Answers.{patternOf};
 ghost use Rattle.c_patterns.specs.Numbers.{patternShown};
-use patternfile::PatternAnswer;
+use base::Answer;
 
 // Accepted is 1 or 0; where it is 0, refused has the number. The rule file has so many bytes, and
 // zeros after them; where the pattern is refused, none.
@@ -24,13 +24,13 @@ pub extern "C" fn bellbadger_pattern(pattern: &[u8]) -> PatternNumbers
     let length = result.length as u16;
     let bytes = result.bytes;
     match answer {
-        PatternAnswer::Accepted => PatternNumbers {
+        Answer::Accepted => PatternNumbers {
             accepted: 1,
             refused: 0,
             length,
             bytes,
         },
-        PatternAnswer::Refused(refused) => PatternNumbers {
+        Answer::Refused(refused) => PatternNumbers {
             accepted: 0,
             refused,
             length,

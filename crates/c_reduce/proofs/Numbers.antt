@@ -1,11 +1,12 @@
 -- The numbers of each case of the answer are those of what it says. Assumes nothing.
 use mathlib.Core.Path.{_≡_, sym, ap, _∙_}
 use Prim.Native.Nat.{ℕ}
+use Rattle.base.specs.Answers.{answerNumber}
 use Rattle.automaton.specs.declared.Rule.{Rule}
-use Rattle.reducing.specs.declared.ReduceAnswer.{ReduceAnswer}
-use Rattle.reducing.specs.declared.ReduceAnswer.the-variants.{Accepted, Refused}
+use Rattle.base.specs.declared.Answer.{Answer}
+use Rattle.base.specs.declared.Answer.the-variants.{Accepted, Refused}
 use Rattle.reducing.specs.declared.ReduceResult.{ReduceResult}
-use Rattle.reducing.specs.Reducing.{reduceMeans, reduceOutcome, reduceOf}
+use Rattle.reducing.specs.Reducing.{reduceOutcome, reduceOf}
 use Rattle.flags.specs.Flags.{bitBy}
 use Rattle.c_reduce.specs.Numbers.{reduceShown}
 
@@ -14,10 +15,10 @@ module _ (r : Rule) (m : ReduceResult) (is : reduceOutcome m ≡ reduceOf r) (i 
       → record { accepted = 1; refused = 0; installs = i; rule = m .rule } ≡ reduceShown (reduceOf r)
   reduce-accepted e =
       rw bit
-      (ap reduceShown (sym (ap (λ (a : ReduceAnswer). record { number = reduceMeans a; installs = m .installs; rule = m .rule }) e) ∙ is))
+      (ap reduceShown (sym (ap (λ (a : Answer). record { number = answerNumber a; installs = m .installs; rule = m .rule }) e) ∙ is))
 
   pub reduce-refused : (x : ℕ) → m .answer ≡ Refused x
       → record { accepted = 0; refused = x; installs = i; rule = m .rule } ≡ reduceShown (reduceOf r)
   reduce-refused x e =
       rw bit
-      (ap reduceShown (sym (ap (λ (a : ReduceAnswer). record { number = reduceMeans a; installs = m .installs; rule = m .rule }) e) ∙ is))
+      (ap reduceShown (sym (ap (λ (a : Answer). record { number = answerNumber a; installs = m .installs; rule = m .rule }) e) ∙ is))

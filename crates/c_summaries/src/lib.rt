@@ -5,11 +5,11 @@ ghost use mathlib.Core.Path.{_≡_};
 ghost use Rattle.calls.specs.Replies.{verdictMeans, reportMeans};
 ghost use Rattle.summaries.specs.Summaries.{combine as combineOf, summarizeOf, concludeOf};
 ghost use Rattle.c_summaries.specs.Numbers.{summaryShown, kindOf, numberOf, concludeShown};
+use base::Answer;
 use calls::Judge;
 use calls::Report;
 use calls::Verdict;
 use summaries::Summary;
-use summaries::SummaryAnswer;
 
 // Accepted is 1 or 0; where it is 0, refused has the number, and the summary is broken, with zeros
 // in every other field.
@@ -51,12 +51,12 @@ pub extern "C" fn bellbadger_summarize(judge: Judge, number: u64, chunk: &[u8]) 
     let answer = made.answer;
     let summary = made.summary;
     match answer {
-        SummaryAnswer::Accepted => SummaryNumbers {
+        Answer::Accepted => SummaryNumbers {
             accepted: 1,
             refused: 0,
             summary,
         },
-        SummaryAnswer::Refused(refused) => SummaryNumbers {
+        Answer::Refused(refused) => SummaryNumbers {
             accepted: 0,
             refused,
             summary,

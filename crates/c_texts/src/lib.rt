@@ -1,6 +1,6 @@
 // Making test texts for C, Rust and Python. The answer is numbers.
 ghost use Rattle.c_texts.specs.Numbers.{MakesShown};
-use madetexts::MadeAnswer;
+use base::Answer;
 
 // Accepted is 1 or 0; where it is 0, refused has the number.
 #[repr(C)]
@@ -16,11 +16,11 @@ pub extern "C" fn bellbadger_make_text(k: usize, seed: u64, text: &mut [u8]) -> 
 {
     let answer = madetexts::make_text(k, seed, text);
     match answer {
-        MadeAnswer::Made => MadeNumbers {
+        Answer::Accepted => MadeNumbers {
             accepted: 1,
             refused: 0,
         },
-        MadeAnswer::Refused(refused) => MadeNumbers {
+        Answer::Refused(refused) => MadeNumbers {
             accepted: 0,
             refused,
         },

@@ -4,8 +4,8 @@ use Prim.Native.Nat.{ℕ}
 use Rattle.trays.specs.declared.InstallAnswer.{InstallAnswer}
 use Rattle.trays.specs.declared.InstallAnswer.the-variants as install
 use Rattle.trays.specs.declared.InstallResult.{InstallResult}
-use Rattle.trays.specs.declared.CallAnswer.{CallAnswer}
-use Rattle.trays.specs.declared.CallAnswer.the-variants as call
+use Rattle.base.specs.declared.Answer.{Answer}
+use Rattle.base.specs.declared.Answer.the-variants as call
 use Rattle.trays.specs.declared.CallResult.{CallResult}
 use Rattle.trays.specs.Replies.{installMeans, callMeans}
 use Rattle.trays.specs.mirror.Steps.{installOutcome, callOutcome}
@@ -22,7 +22,7 @@ module _ (r : InstallResult) where
 
 module _ (r : CallResult) where
   pub call-accepted : r .answer ≡ call.Accepted → record { accepted = 1; refused = 0; tray = r .tray } ≡ callShown (callOutcome r)
-  call-accepted e = ap (λ (a : CallAnswer). callShown (record { reply = callMeans a; state = r .tray })) (sym e)
+  call-accepted e = ap (λ (a : Answer). callShown (record { reply = callMeans a; state = r .tray })) (sym e)
 
   pub call-refused : (x : ℕ) → r .answer ≡ call.Refused x → record { accepted = 0; refused = x; tray = r .tray } ≡ callShown (callOutcome r)
-  call-refused x e = ap (λ (a : CallAnswer). callShown (record { reply = callMeans a; state = r .tray })) (sym e)
+  call-refused x e = ap (λ (a : Answer). callShown (record { reply = callMeans a; state = r .tray })) (sym e)

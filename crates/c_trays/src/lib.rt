@@ -5,7 +5,7 @@ ghost use Rattle.trays.specs.Replies.{verdictMeans};
 ghost use Rattle.trays.specs.mirror.Steps.{fresh, installOutcome, callOutcome, installRowOf, installColumnOf, openOf, deliverOf, withdrawOf, verdictOf};
 ghost use Rattle.c_trays.specs.Numbers.{installShown, callShown, kindOf, numberOf, verdictShown};
 use automaton::Rule;
-use trays::CallAnswer;
+use base::Answer;
 use trays::CallResult;
 use trays::InstallAnswer;
 use trays::InstallResult;
@@ -101,12 +101,12 @@ fn call_numbers(result: CallResult) -> CallNumbers
     let answer = result.answer;
     let tray = result.tray;
     match answer {
-        CallAnswer::Accepted => CallNumbers {
+        Answer::Accepted => CallNumbers {
             accepted: 1,
             refused: 0,
             tray,
         },
-        CallAnswer::Refused(refused) => CallNumbers {
+        Answer::Refused(refused) => CallNumbers {
             accepted: 0,
             refused,
             tray,

@@ -21,12 +21,11 @@ use mathlib.Core.Option.{Option, none, some}
 use Prim.Native.Nat.{ℕ}
 use Rattle.calls.specs.declared.InstallAnswer.{InstallAnswer}
 use Rattle.calls.specs.declared.InstallAnswer.the-variants as install
-use Rattle.calls.specs.declared.OpenAnswer.{OpenAnswer}
-use Rattle.calls.specs.declared.OpenAnswer.the-variants as opening
+use Rattle.base.specs.declared.Answer.{Answer}
+use Rattle.base.specs.declared.Answer.the-variants as opening
 use Rattle.calls.specs.declared.DeliverAnswer.{DeliverAnswer}
 use Rattle.calls.specs.declared.DeliverAnswer.the-variants as delivery
-use Rattle.calls.specs.declared.WithdrawAnswer.{WithdrawAnswer}
-use Rattle.calls.specs.declared.WithdrawAnswer.the-variants as withdrawal
+use Rattle.base.specs.declared.Answer.the-variants as withdrawal
 use Rattle.calls.specs.declared.Judge.{Judge}
 use Rattle.calls.specs.declared.InstallResult.{InstallResult}
 use Rattle.calls.specs.declared.OpenResult.{OpenResult}
@@ -72,7 +71,7 @@ abbrev pub installMeans : InstallAnswer → Reply
 installMeans (install.Accepted sets starts) = installed sets starts
 installMeans (install.Refused number) = refused number
 
-abbrev pub openMeans : OpenAnswer → Reply
+abbrev pub openMeans : Answer → Reply
 openMeans opening.Accepted = accepted
 openMeans (opening.Refused number) = refused number
 
@@ -80,7 +79,7 @@ abbrev pub deliverMeans : DeliverAnswer → Reply
 deliverMeans (delivery.Accepted looked) = delivered looked
 deliverMeans (delivery.Refused number) = refused number
 
-abbrev pub withdrawMeans : WithdrawAnswer → Reply
+abbrev pub withdrawMeans : Answer → Reply
 withdrawMeans withdrawal.Accepted = accepted
 withdrawMeans (withdrawal.Refused number) = refused number
 

@@ -1,5 +1,6 @@
 // The state of the judge and the answers of its calls. The outcome of each call is in specs/;
 // crates/judge has the calls.
+use base::Answer;
 use board::Board;
 use build::Built;
 
@@ -17,19 +18,9 @@ pub enum InstallAnswer {
     Refused(u8),
 }
 
-pub enum OpenAnswer {
-    Accepted,
-    Refused(u8),
-}
-
 // The number of text bytes for which any successor was looked up, or a refusal.
 pub enum DeliverAnswer {
     Accepted(u32),
-    Refused(u8),
-}
-
-pub enum WithdrawAnswer {
-    Accepted,
     Refused(u8),
 }
 
@@ -56,7 +47,7 @@ pub struct InstallResult {
 }
 
 pub struct OpenResult {
-    pub answer: OpenAnswer,
+    pub answer: Answer,
     pub judge: Judge,
 }
 
@@ -66,6 +57,6 @@ pub struct DeliverResult {
 }
 
 pub struct WithdrawResult {
-    pub answer: WithdrawAnswer,
+    pub answer: Answer,
     pub judge: Judge,
 }

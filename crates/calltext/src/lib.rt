@@ -12,12 +12,11 @@ ghost use Rattle.lines.specs.Splitting.{upTo, past};
 ghost use Rattle.calltext.specs.Meaning.{openBy, withdrawBy, revisionFields, deliverFields, lineMeans, bytesFrom, Parsed};
 ghost use Rattle.calltext.specs.Answers.{replied, isMalformed, responseText, answerMeans};
 ghost use Rattle.calls.specs.Replies.{accepted, judged, installMeans, openMeans, deliverMeans, withdrawMeans, reportMeans};
+use base::Answer;
 use calls::DeliverAnswer;
 use calls::InstallAnswer;
-use calls::OpenAnswer;
 use calls::Report;
 use calls::Verdict;
-use calls::WithdrawAnswer;
 use fields::Number;
 
 // A line. The bytes of a load begin at index 5, those of an installation at 8, those of a delivery
@@ -124,9 +123,9 @@ pub fn parse(line: &[u8]) -> Line
 pub enum LineAnswer {
     Began,
     Install(InstallAnswer),
-    Open(OpenAnswer),
+    Open(Answer),
     Deliver(DeliverAnswer),
-    Withdraw(WithdrawAnswer),
+    Withdraw(Answer),
     Verdict(Report),
     Malformed,
 }
@@ -153,13 +152,13 @@ fn put_install(out: &mut [u8], answer: InstallAnswer) -> usize
     }
 }
 
-fn put_open(out: &mut [u8], answer: OpenAnswer) -> usize
+fn put_open(out: &mut [u8], answer: Answer) -> usize
     requires { ⌜ answerRoom ≤ length (now out) ⌝ }
     ensures { λ r. ⌜ Wrote (now (out .entry)) 0 (responseText (replied (openMeans answer))) (now (out .exit)) r ⌝ }
 {
     match answer {
-        OpenAnswer::Accepted => put_accepted(out),
-        OpenAnswer::Refused(number) => answers::put_refused(out, 0, number),
+        Answer::Accepted => put_accepted(out),
+        Answer::Refused(number) => answers::put_refused(out, 0, number),
     }
 }
 
@@ -176,13 +175,13 @@ fn put_deliver(out: &mut [u8], answer: DeliverAnswer) -> usize
     }
 }
 
-fn put_withdraw(out: &mut [u8], answer: WithdrawAnswer) -> usize
+fn put_withdraw(out: &mut [u8], answer: Answer) -> usize
     requires { ⌜ answerRoom ≤ length (now out) ⌝ }
     ensures { λ r. ⌜ Wrote (now (out .entry)) 0 (responseText (replied (withdrawMeans answer))) (now (out .exit)) r ⌝ }
 {
     match answer {
-        WithdrawAnswer::Accepted => put_accepted(out),
-        WithdrawAnswer::Refused(number) => answers::put_refused(out, 0, number),
+        Answer::Accepted => put_accepted(out),
+        Answer::Refused(number) => answers::put_refused(out, 0, number),
     }
 }
 

@@ -1,18 +1,17 @@
 -- The numbers of each case of an answer are those of what it says. Assumes nothing.
 use mathlib.Core.Path.{_≡_, sym, ap, _∙_}
 use Prim.Native.Nat.{ℕ}
-use Rattle.ruleformat.specs.declared.ReadAnswer.{ReadAnswer}
-use Rattle.ruleformat.specs.declared.ReadAnswer.the-variants as reading
+use Rattle.base.specs.Answers.{answerNumber}
+use Rattle.base.specs.declared.Answer.{Answer}
+use Rattle.base.specs.declared.Answer.the-variants as reading
 use Rattle.ruleformat.specs.declared.ReadResult.{ReadResult}
-use Rattle.ruleformat.specs.Reader.{Reading, readMeans, readOutcome}
+use Rattle.ruleformat.specs.Reader.{Reading, readOutcome}
 use Rattle.calls.specs.declared.InstallAnswer.{InstallAnswer}
 use Rattle.calls.specs.declared.InstallAnswer.the-variants as install
-use Rattle.calls.specs.declared.OpenAnswer.{OpenAnswer}
-use Rattle.calls.specs.declared.OpenAnswer.the-variants as opening
+use Rattle.base.specs.declared.Answer.the-variants as opening
 use Rattle.calls.specs.declared.DeliverAnswer.{DeliverAnswer}
 use Rattle.calls.specs.declared.DeliverAnswer.the-variants as delivery
-use Rattle.calls.specs.declared.WithdrawAnswer.{WithdrawAnswer}
-use Rattle.calls.specs.declared.WithdrawAnswer.the-variants as withdrawal
+use Rattle.base.specs.declared.Answer.the-variants as withdrawal
 use Rattle.calls.specs.declared.Report.{Report}
 use Rattle.calls.specs.declared.InstallResult.{InstallResult}
 use Rattle.calls.specs.declared.OpenResult.{OpenResult}
@@ -27,10 +26,10 @@ use Rattle.capi.specs.Numbers.{readShown, installShown, openShown, deliv
 
 module _ (r : ReadResult) (o : Reading) (is : readOutcome r ≡ o) where
   pub read-accepted : r .answer ≡ reading.Accepted → record { accepted = 1; refused = 0; rule = r .rule } ≡ readShown o
-  read-accepted e = ap readShown (sym (ap (λ (a : ReadAnswer). record { number = readMeans a; rule = r .rule }) e) ∙ is)
+  read-accepted e = ap readShown (sym (ap (λ (a : Answer). record { number = answerNumber a; rule = r .rule }) e) ∙ is)
 
   pub read-refused : (x : ℕ) → r .answer ≡ reading.Refused x → record { accepted = 0; refused = x; rule = r .rule } ≡ readShown o
-  read-refused x e = ap readShown (sym (ap (λ (a : ReadAnswer). record { number = readMeans a; rule = r .rule }) e) ∙ is)
+  read-refused x e = ap readShown (sym (ap (λ (a : Answer). record { number = answerNumber a; rule = r .rule }) e) ∙ is)
 
 module _ (r : InstallResult) where
   pub install-accepted : (sets starts : ℕ) → r .answer ≡ install.Accepted sets starts
@@ -44,10 +43,10 @@ module _ (r : InstallResult) where
 module _ (o : Outcome) where
   module _ (r : OpenResult) (is : openOutcome r ≡ o) where
     pub open-accepted : r .answer ≡ opening.Accepted → record { accepted = 1; refused = 0; judge = r .judge } ≡ openShown o
-    open-accepted e = ap openShown (sym (ap (λ (a : OpenAnswer). record { reply = openMeans a; state = r .judge }) e) ∙ is)
+    open-accepted e = ap openShown (sym (ap (λ (a : Answer). record { reply = openMeans a; state = r .judge }) e) ∙ is)
 
     pub open-refused : (x : ℕ) → r .answer ≡ opening.Refused x → record { accepted = 0; refused = x; judge = r .judge } ≡ openShown o
-    open-refused x e = ap openShown (sym (ap (λ (a : OpenAnswer). record { reply = openMeans a; state = r .judge }) e) ∙ is)
+    open-refused x e = ap openShown (sym (ap (λ (a : Answer). record { reply = openMeans a; state = r .judge }) e) ∙ is)
 
   module _ (r : DeliverResult) (is : deliverOutcome r ≡ o) where
     pub deliver-accepted : (looked : ℕ) → r .answer ≡ delivery.Accepted looked → record { accepted = 1; refused = 0; looked = looked; judge = r .judge } ≡ deliverShown o
@@ -58,10 +57,10 @@ module _ (o : Outcome) where
 
   module _ (r : WithdrawResult) (is : withdrawOutcome r ≡ o) where
     pub withdraw-accepted : r .answer ≡ withdrawal.Accepted → record { accepted = 1; refused = 0; judge = r .judge } ≡ withdrawShown o
-    withdraw-accepted e = ap withdrawShown (sym (ap (λ (a : WithdrawAnswer). record { reply = withdrawMeans a; state = r .judge }) e) ∙ is)
+    withdraw-accepted e = ap withdrawShown (sym (ap (λ (a : Answer). record { reply = withdrawMeans a; state = r .judge }) e) ∙ is)
 
     pub withdraw-refused : (x : ℕ) → r .answer ≡ withdrawal.Refused x → record { accepted = 0; refused = x; judge = r .judge } ≡ withdrawShown o
-    withdraw-refused x e = ap withdrawShown (sym (ap (λ (a : WithdrawAnswer). record { reply = withdrawMeans a; state = r .judge }) e) ∙ is)
+    withdraw-refused x e = ap withdrawShown (sym (ap (λ (a : Answer). record { reply = withdrawMeans a; state = r .judge }) e) ∙ is)
 
 module _ (v : ReplayAnswer) (t : ReplayReply) (is : replayMeans v ≡ t) where
   pub replay-verdict : (x : Report) → v ≡ replay.Verdict x → (r : VerdictNumbers) → r ≡ verdictShown (reportMeans x)

@@ -8,16 +8,14 @@ ghost use Rattle.calls.specs.mirror.Steps.{fresh, installOf, loadOf, openOf, de
 ghost use Rattle.replay.specs.Records.{recordIn, replayOf};
 ghost use Rattle.capi.specs.Numbers.{readShown, installShown, openShown, deliverShown, withdrawShown, kindOf, numberOf, verdictShown, replayShown};
 use automaton::Rule;
+use base::Answer;
 use calls::DeliverAnswer;
 use calls::InstallAnswer;
 use calls::InstallResult;
 use calls::Judge;
-use calls::OpenAnswer;
 use calls::Report;
 use calls::Verdict;
-use calls::WithdrawAnswer;
 use replay::ReplayAnswer;
-use ruleformat::ReadAnswer;
 
 // Accepted is 1 or 0; where it is 0, refused has the number, and every number of the rule is 0.
 #[repr(C)]
@@ -121,12 +119,12 @@ pub extern "C" fn bellbadger_read(file: &[u8]) -> ReadNumbers
     let answer = reading.answer;
     let rule = reading.rule;
     match answer {
-        ReadAnswer::Accepted => ReadNumbers {
+        Answer::Accepted => ReadNumbers {
             accepted: 1,
             refused: 0,
             rule,
         },
-        ReadAnswer::Refused(refused) => ReadNumbers {
+        Answer::Refused(refused) => ReadNumbers {
             accepted: 0,
             refused,
             rule,
@@ -180,12 +178,12 @@ pub extern "C" fn bellbadger_open(judge: Judge, places: usize) -> OpenNumbers
     let answer = opening.answer;
     let judge = opening.judge;
     match answer {
-        OpenAnswer::Accepted => OpenNumbers {
+        Answer::Accepted => OpenNumbers {
             accepted: 1,
             refused: 0,
             judge,
         },
-        OpenAnswer::Refused(refused) => OpenNumbers {
+        Answer::Refused(refused) => OpenNumbers {
             accepted: 0,
             refused,
             judge,
@@ -229,12 +227,12 @@ pub extern "C" fn bellbadger_withdraw(judge: Judge, place: usize) -> WithdrawNum
     let answer = withdrawal.answer;
     let judge = withdrawal.judge;
     match answer {
-        WithdrawAnswer::Accepted => WithdrawNumbers {
+        Answer::Accepted => WithdrawNumbers {
             accepted: 1,
             refused: 0,
             judge,
         },
-        WithdrawAnswer::Refused(refused) => WithdrawNumbers {
+        Answer::Refused(refused) => WithdrawNumbers {
             accepted: 0,
             refused,
             judge,

@@ -12,7 +12,7 @@ use Rattle.calls.specs.Replies.{Reply, refused, installMeans, Outcome, installO
 use Rattle.calls.specs.Calls.{loadNumber, withSets}
 use Rattle.calls.specs.mirror.Steps.{outcomeBy, withRule, loadOf}
 use Rattle.forms.specs.declared.Form.{Form}
-use Rattle.forms.specs.declared.FormAnswer.the-variants as form
+use Rattle.base.specs.declared.Answer.the-variants as form
 use Rattle.formmaker.specs.Making.{Made, noForm, madeOf, madeOutcome}
 use Rattle.formfile.specs.Files.{formBy, formFor}
 

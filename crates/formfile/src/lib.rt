@@ -2,8 +2,8 @@
 ghost use mathlib.Core.Path.{_≡_};
 ghost use Rattle.formmaker.specs.Making.{madeOutcome};
 ghost use Rattle.formfile.specs.Files.{formFor};
+use base::Answer;
 use calls::InstallAnswer;
-use forms::FormAnswer;
 use forms::FormResult;
 
 // Loads a rule file into a fresh judge and makes the form of its table.
@@ -15,7 +15,7 @@ pub fn form_in(file: &[u8]) -> FormResult
     match load {
         InstallAnswer::Refused(number) => {
             let form = formmaker::no_form();
-            let answer = FormAnswer::Refused(number);
+            let answer = Answer::Refused(number);
             FormResult { answer, form }
         }
         InstallAnswer::Accepted(_, _) => formmaker::make_form(loaded.judge),

@@ -21,11 +21,11 @@ use Rattle.calls.specs.declared.Judge.{Judge}
 use Rattle.calls.specs.declared.InstallResult.{InstallResult}
 use Rattle.calls.specs.declared.InstallAnswer.the-variants as installation
 use Rattle.calls.specs.declared.OpenResult.{OpenResult}
-use Rattle.calls.specs.declared.OpenAnswer.the-variants as opening
+use Rattle.base.specs.declared.Answer.the-variants as opening
 use Rattle.calls.specs.declared.DeliverResult.{DeliverResult}
 use Rattle.calls.specs.declared.DeliverAnswer.the-variants as delivery
 use Rattle.calls.specs.declared.WithdrawResult.{WithdrawResult}
-use Rattle.calls.specs.declared.WithdrawAnswer.the-variants as withdrawal
+use Rattle.base.specs.declared.Answer.the-variants as withdrawal
 use Rattle.calls.specs.declared.Report.{Report}
 use Rattle.calls.specs.declared.Verdict.{Verdict}
 use Rattle.calls.specs.declared.Verdict.the-variants as verdict

@@ -4,6 +4,7 @@ ghost use Prim.Native.Nat.{_<_};
 ghost use Rattle.calls.specs.Replies.{refused, reportMeans, installOutcome, openOutcome, deliverOutcome, withdrawOutcome};
 ghost use Rattle.calls.specs.mirror.Steps.{fresh, withBoard, installOf, loadOf, openOf, deliverOf, withdrawOf, reportOf};
 use automaton::Rule;
+use base::Answer;
 use board::Board;
 use build::BuildAnswer;
 use calls::DeliverAnswer;
@@ -11,14 +12,10 @@ use calls::DeliverResult;
 use calls::InstallAnswer;
 use calls::InstallResult;
 use calls::Judge;
-use calls::OpenAnswer;
 use calls::OpenResult;
 use calls::Report;
-use calls::WithdrawAnswer;
 use calls::WithdrawResult;
 use chunks::Runs;
-use rulecheck::CheckAnswer;
-use ruleformat::ReadAnswer;
 
 // A judge with no rule and no board.
 pub fn new_judge() -> Judge
@@ -47,7 +44,7 @@ fn refuse_rule(judge: Judge, number: u8) -> InstallResult
 fn refuse_opening(judge: Judge, number: u8) -> OpenResult
     ensures { λ r. ⌜ openOutcome r ≡ record { reply = refused number; state = judge } ⌝ }
 {
-    let answer = OpenAnswer::Refused(number);
+    let answer = Answer::Refused(number);
     OpenResult { answer, judge }
 }
 
@@ -61,7 +58,7 @@ fn refuse_delivery(judge: Judge, number: u8) -> DeliverResult
 fn refuse_withdrawal(judge: Judge, number: u8) -> WithdrawResult
     ensures { λ r. ⌜ withdrawOutcome r ≡ record { reply = refused number; state = judge } ⌝ }
 {
-    let answer = WithdrawAnswer::Refused(number);
+    let answer = Answer::Refused(number);
     WithdrawResult { answer, judge }
 }
 
@@ -72,8 +69,8 @@ pub fn install(judge: Judge, rule: Rule) -> InstallResult
 {
     let checked = rulecheck::check_rule(rule);
     match checked {
-        CheckAnswer::Refused(number) => refuse_rule(judge, number),
-        CheckAnswer::Passed => {
+        Answer::Refused(number) => refuse_rule(judge, number),
+        Answer::Accepted => {
             let building = build::build_rule(rule);
             let answer = building.answer;
             match answer {
@@ -97,8 +94,8 @@ pub fn load(judge: Judge, file: &[u8]) -> InstallResult
     let reading = rulefile::read(file);
     let read = reading.answer;
     match read {
-        ReadAnswer::Refused(number) => refuse_rule(judge, number),
-        ReadAnswer::Accepted => install(judge, reading.rule),
+        Answer::Refused(number) => refuse_rule(judge, number),
+        Answer::Accepted => install(judge, reading.rule),
     }
 }
 
@@ -116,7 +113,7 @@ pub fn open(judge: Judge, places: usize) -> OpenResult
     if limits::PLACES < places {
         return refuse_opening(judge, 10);
     }
-    let answer = OpenAnswer::Accepted;
+    let answer = Answer::Accepted;
     let judge = with_board(judge, board::empty_board(places as u8));
     OpenResult { answer, judge }
 }
@@ -176,7 +173,7 @@ pub fn withdraw(judge: Judge, place: usize) -> WithdrawResult
     if board::is_empty(board, place) {
         return refuse_withdrawal(judge, 23);
     }
-    let answer = WithdrawAnswer::Accepted;
+    let answer = Answer::Accepted;
     let judge = with_board(judge, board::clear(board, place));
     WithdrawResult { answer, judge }
 }

@@ -8,9 +8,8 @@ ghost use Rattle.trays.specs.Calls.{notRows, foreignTo};
 ghost use Rattle.trays.specs.Boards.{widthOf, bandsOf};
 ghost use Rattle.trays.specs.mirror.Steps.{fresh, withBoard, withRow, withColumn, installAnswer, installOutcome, callOutcome, installOf, installRowOf, installColumnOf, openOf, deliverOf, withdrawOf, verdictOf};
 use automaton::Rule;
+use base::Answer;
 use build::BuildAnswer;
-use rulecheck::CheckAnswer;
-use trays::CallAnswer;
 use trays::CallResult;
 use trays::InstallAnswer;
 use trays::InstallResult;
@@ -40,14 +39,14 @@ fn with_board(tray: Tray, board: TrayBoard) -> Tray
 fn accept(tray: Tray) -> CallResult
     ensures { λ r. ⌜ callOutcome r ≡ record { reply = accepted; state = tray } ⌝ }
 {
-    let answer = CallAnswer::Accepted;
+    let answer = Answer::Accepted;
     CallResult { answer, tray }
 }
 
 fn refuse(tray: Tray, number: u8) -> CallResult
     ensures { λ r. ⌜ callOutcome r ≡ record { reply = refused number; state = tray } ⌝ }
 {
-    let answer = CallAnswer::Refused(number);
+    let answer = Answer::Refused(number);
     CallResult { answer, tray }
 }
 
@@ -57,8 +56,8 @@ fn answer_to(rule: Rule) -> InstallAnswer
 {
     let checked = rulecheck::check_rule(rule);
     match checked {
-        CheckAnswer::Refused(number) => InstallAnswer::Refused(number),
-        CheckAnswer::Passed => {
+        Answer::Refused(number) => InstallAnswer::Refused(number),
+        Answer::Accepted => {
             let building = build::build_rule(rule);
             let answer = building.answer;
             match answer {

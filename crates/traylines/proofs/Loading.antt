@@ -8,11 +8,12 @@ use mathlib.Core.Bool.{Bool, true, false}
 use mathlib.Core.List.{List}
 use mathlib.Core.Option.{Option, none, some}
 use Prim.Native.Nat.{ℕ}
+use Rattle.base.specs.Answers.{answerNumber}
 use Rattle.automaton.specs.declared.Rule.{Rule}
-use Rattle.ruleformat.specs.declared.ReadAnswer.the-variants as reading
+use Rattle.base.specs.declared.Answer.the-variants as reading
 use Rattle.ruleformat.specs.declared.ReadResult.{ReadResult}
 use Rattle.ruleformat.specs.Refusals.{refusal}
-use Rattle.ruleformat.specs.Reader.{ruleOf, ruleBy, readMeans, Reading, readOutcome, readOf}
+use Rattle.ruleformat.specs.Reader.{ruleOf, ruleBy, Reading, readOutcome, readOf}
 use Rattle.calls.specs.Calls.{installNumber, loadNumber}
 use Rattle.calls.proofs.Conditions.{load-number, load-installs}
 use Rattle.trays.specs.declared.Tray.{Tray}
@@ -21,7 +22,7 @@ use Rattle.trays.specs.mirror.Steps.{Outcome, outcomeBy, withRow, withColumn, i
 use Rattle.traylines.specs.Running.{loadRowOf, loadColumnOf, loadOf}
 
 module _ (t : Tray) (f : List ℕ) (read : ReadResult) (reads : readOutcome read ≡ readOf f) where
-  number-is : readMeans (read .answer) ≡ refusal f
+  number-is : answerNumber (read .answer) ≡ refusal f
   number-is = ap (λ (x : Reading). x .number) reads
 
   -- with `next r` the tray that the rule r leaves
@@ -29,14 +30,14 @@ module _ (t : Tray) (f : List ℕ) (read : ReadResult) (reads : readOutcome read
     unread : (number : ℕ) → read .answer ≡ reading.Refused number
         → record { reply = refused number; state = t } ≡ outcomeBy (loadNumber f) (withSets (ruleOf f)) t (next (ruleOf f))
     unread number told =
-        let refused-by : refusal f ≡ some number = sym number-is ∙ ap readMeans told in
+        let refused-by : refusal f ≡ some number = sym number-is ∙ ap answerNumber told in
         rw (load-number f, refused-by)
 
     installs : read .answer ≡ reading.Accepted
         → outcomeBy (installNumber (read .rule)) (withSets (read .rule)) t (next (read .rule))
         ≡ outcomeBy (loadNumber f) (withSets (ruleOf f)) t (next (ruleOf f))
     installs told =
-        let passes : refusal f ≡ none = sym number-is ∙ ap readMeans told in
+        let passes : refusal f ≡ none = sym number-is ∙ ap answerNumber told in
         let rule : read .rule ≡ ruleOf f = ap (λ (x : Reading). x .rule) reads ∙ ap (λ (o : Option ℕ). ruleBy o f) passes in
         ap (λ (r : Rule). outcomeBy (installNumber r) (withSets r) t (next r)) rule
         ∙ ap (λ (o : Option ℕ). outcomeBy o (withSets (ruleOf f)) t (next (ruleOf f))) (sym (load-installs f passes))

@@ -10,8 +10,8 @@ ghost use Rattle.trays.specs.Calls.{opens, withdraws, asksVerdict};
 ghost use Rattle.trays.specs.mirror.Steps.{installOutcome};
 ghost use Rattle.traytext.specs.Lines.{again, call, malformed, deliverBy, lineIn};
 ghost use Rattle.traylines.specs.Running.{bytesRoom, fileBy, loadOf, lineStep, runOutcome, Scratch};
+use base::Answer;
 use fields::Bytes;
-use ruleformat::ReadAnswer;
 use trays::InstallAnswer;
 use trays::InstallResult;
 use trays::Tray;
@@ -36,8 +36,8 @@ fn load(tray: Tray, rows: bool, file: &[u8]) -> InstallResult
     let reading = rulefile::read(file);
     let read = reading.answer;
     match read {
-        ReadAnswer::Refused(number) => refuse_file(tray, number),
-        ReadAnswer::Accepted => {
+        Answer::Refused(number) => refuse_file(tray, number),
+        Answer::Accepted => {
             if rows {
                 traycalls::install_row(tray, reading.rule)
             } else {

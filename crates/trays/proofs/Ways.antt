@@ -14,12 +14,13 @@ use mathlib.Core.List.{List}
 use mathlib.Core.Option.{Option, none, some}
 use Prim.Native.Nat.{ℕ, _≤_, _<_}
 use borrow.Author.Tests.{le-leb, lt-leb, eq-eqb, ne-eqb, not-true, not-false}
+use Rattle.base.specs.Answers.{answerNumber}
 use Rattle.base.specs.Conditions.{outside}
 use Rattle.base.proofs.Tests.{by-test, zero-one}
 use Rattle.automaton.specs.declared.Rule.{Rule}
-use Rattle.rulecheck.specs.declared.CheckAnswer.{CheckAnswer}
-use Rattle.rulecheck.specs.declared.CheckAnswer.the-variants as check
-use Rattle.rulecheck.specs.Checking.{ruleNumber, checkMeans}
+use Rattle.base.specs.declared.Answer.{Answer}
+use Rattle.base.specs.declared.Answer.the-variants as check
+use Rattle.rulecheck.specs.Checking.{ruleNumber}
 use Rattle.ruleformat.specs.Reader.{noRule}
 use Rattle.build.specs.declared.BuildAnswer.the-variants as build
 use Rattle.build.specs.declared.BuildResult.{BuildResult}
@@ -41,19 +42,19 @@ unfolding fresh
 fresh-by r row c column b empty = rw (row, column, empty)
 
 -- ---- what an installation answers
-module _ (r : Rule) (a : CheckAnswer) (checked : checkMeans a ≡ ruleNumber r) where
+module _ (r : Rule) (a : Answer) (checked : answerNumber a ≡ ruleNumber r) where
   -- the rule does not pass
   pub unchecked : (number : ℕ) → a ≡ check.Refused number → reply.refused number ≡ installAnswer r
   unfolding installAnswer
   unchecked number told =
-      let is : ruleNumber r ≡ some number = sym checked ∙ ap checkMeans told in
+      let is : ruleNumber r ≡ some number = sym checked ∙ ap answerNumber told in
       let number-is : installNumber r ≡ some number = install-number r ∙ rw is in
       rw number-is
 
-  module _ (told : a ≡ check.Passed) (b : BuildResult) (came : buildOutcome b ≡ buildOf r) where
+  module _ (told : a ≡ check.Accepted) (b : BuildResult) (came : buildOutcome b ≡ buildOf r) where
     number-is : installNumber r ≡ cond (over r) (some 9) none
     number-is =
-        let passes : ruleNumber r ≡ none = sym checked ∙ ap checkMeans told in
+        let passes : ruleNumber r ≡ none = sym checked ∙ ap answerNumber told in
         install-number r ∙ rw passes
 
     -- what was built, by whether it has too many sets

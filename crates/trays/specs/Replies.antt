@@ -21,8 +21,8 @@ use Rattle.subsets.specs.Sets.{setsOf}
 use Rattle.delegates.specs.Claims.{startsIn}
 use Rattle.trays.specs.declared.InstallAnswer.{InstallAnswer}
 use Rattle.trays.specs.declared.InstallAnswer.the-variants as install
-use Rattle.trays.specs.declared.CallAnswer.{CallAnswer}
-use Rattle.trays.specs.declared.CallAnswer.the-variants as call
+use Rattle.base.specs.declared.Answer.{Answer}
+use Rattle.base.specs.declared.Answer.the-variants as call
 use Rattle.trays.specs.declared.TrayVerdict.{TrayVerdict}
 use Rattle.trays.specs.declared.TrayVerdict.the-variants as verdict
 
@@ -62,7 +62,7 @@ abbrev pub installMeans : InstallAnswer → Reply
 installMeans (install.Accepted sets starts) = installed sets starts
 installMeans (install.Refused number) = refused number
 
-abbrev pub callMeans : CallAnswer → Reply
+abbrev pub callMeans : Answer → Reply
 callMeans call.Accepted = accepted
 callMeans (call.Refused number) = refused number
 

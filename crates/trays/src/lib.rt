@@ -1,6 +1,7 @@
 // The state of a tray (document 02, R-13) and the answers of its calls. The outcome of each call is
 // in specs/; crates/traycalls has the calls.
 use automaton::Rule;
+use base::Answer;
 
 // The most events of a row.
 pub const WIDTH: usize = 16;
@@ -47,12 +48,6 @@ pub enum InstallAnswer {
     Refused(u8),
 }
 
-// What opening, delivering and withdrawing answer.
-pub enum CallAnswer {
-    Accepted,
-    Refused(u8),
-}
-
 // What the verdict says; it has no count.
 pub enum TrayVerdict {
     Waiting(u8),
@@ -68,6 +63,6 @@ pub struct InstallResult {
 }
 
 pub struct CallResult {
-    pub answer: CallAnswer,
+    pub answer: Answer,
     pub tray: Tray,
 }

@@ -10,8 +10,8 @@ ghost use Rattle.fields.specs.Numbers.{parseNumber};
 ghost use Rattle.trays.specs.Replies.{installed, waiting, judged, installMeans, callMeans, verdictMeans};
 ghost use Rattle.traytext.specs.Lines.{withdrawBy, openFields, deliverFields, lineMeans, bytesFrom, Parsed};
 ghost use Rattle.traytext.specs.Answers.{mostAnswer, isMalformed, replyText, responseText, answerMeans};
+use base::Answer;
 use fields::Number;
-use trays::CallAnswer;
 use trays::InstallAnswer;
 use trays::TrayVerdict;
 
@@ -111,7 +111,7 @@ pub fn parse(line: &[u8]) -> Line
 pub enum LineAnswer {
     Began,
     Install(InstallAnswer),
-    Call(CallAnswer),
+    Call(Answer),
     Verdict(TrayVerdict),
     Malformed,
 }
@@ -148,13 +148,13 @@ fn put_install(out: &mut [u8], answer: InstallAnswer) -> usize
     }
 }
 
-fn put_call(out: &mut [u8], answer: CallAnswer) -> usize
+fn put_call(out: &mut [u8], answer: Answer) -> usize
     requires { ⌜ mostAnswer ≤ length (now out) ⌝ }
     ensures { λ r. ⌜ Wrote (now (out .entry)) 0 (replyText (callMeans answer)) (now (out .exit)) r ⌝ }
 {
     match answer {
-        CallAnswer::Accepted => text::put_bytes(out, 0, b"accepted\n"),
-        CallAnswer::Refused(number) => answers::put_refused(out, 0, number),
+        Answer::Accepted => text::put_bytes(out, 0, b"accepted\n"),
+        Answer::Refused(number) => answers::put_refused(out, 0, number),
     }
 }
 

@@ -1,6 +1,6 @@
 -- `bellbadger_pattern` meets its contract. Assumes nothing.
 use Rattle.c_patterns.proofs.Numbers.{small, on-accepted, on-refused}
-use Rattle.patternfile.specs.declared.PatternAnswer.the-variants.{Accepted, Refused}
+use Rattle.base.specs.declared.Answer.the-variants.{Accepted, Refused}
 use native.Mathlib.Omega.{arith}
 use mathlib.Core.Path.{_≡_}
 use borrow.Author.Needs.{needs}
