@@ -3,7 +3,6 @@ ghost use mathlib.Core.Path.{_≡_};
 ghost use Rattle.forms.specs.Back.{backOf};
 ghost use Rattle.formmaker.specs.Making.{madeOf};
 ghost use Rattle.c_form.specs.Numbers.{formShown, tableShown};
-use base::Answer;
 use calls::Judge;
 use forms::Form;
 use forms::Table;
@@ -31,18 +30,12 @@ pub extern "C" fn bellbadger_form(judge: Judge) -> FormNumbers
 {
     let made = formmaker::make_form(judge);
     let answer = made.answer;
+    let shown = flags::shown(answer);
     let form = made.form;
-    match answer {
-        Answer::Accepted => FormNumbers {
-            accepted: 1,
-            refused: 0,
-            form,
-        },
-        Answer::Refused(refused) => FormNumbers {
-            accepted: 0,
-            refused,
-            form,
-        },
+    FormNumbers {
+        accepted: shown.accepted,
+        refused: shown.refused,
+        form,
     }
 }
 
@@ -53,17 +46,11 @@ pub extern "C" fn bellbadger_form_back(form: Form) -> TableNumbers
 {
     let back = formback::table_of(form);
     let answer = back.answer;
+    let shown = flags::shown(answer);
     let table = back.table;
-    match answer {
-        Answer::Accepted => TableNumbers {
-            accepted: 1,
-            refused: 0,
-            table,
-        },
-        Answer::Refused(refused) => TableNumbers {
-            accepted: 0,
-            refused,
-            table,
-        },
+    TableNumbers {
+        accepted: shown.accepted,
+        refused: shown.refused,
+        table,
     }
 }

@@ -6,7 +6,6 @@ ghost use Rattle.profile.specs.Runs.{runOf, verdictOf};
 ghost use Rattle.mappings.specs.Mappings.{compose as composeOf};
 ghost use Rattle.c_mappings.specs.Numbers.{buildShown, runShown, mappingShown, verdictShown};
 use automaton::Rule;
-use base::Answer;
 use mappings::Mapping;
 use profile::BuildAnswer;
 use profile::Profile;
@@ -68,18 +67,12 @@ pub extern "C" fn bellbadger_profile_run(profile: Profile, chunk: &[u8]) -> RunN
 {
     let ran = profile::run(profile, chunk);
     let answer = ran.answer;
+    let shown = flags::shown(answer);
     let mapping = ran.mapping;
-    match answer {
-        Answer::Accepted => RunNumbers {
-            accepted: 1,
-            refused: 0,
-            mapping,
-        },
-        Answer::Refused(refused) => RunNumbers {
-            accepted: 0,
-            refused,
-            mapping,
-        },
+    RunNumbers {
+        accepted: shown.accepted,
+        refused: shown.refused,
+        mapping,
     }
 }
 

@@ -5,7 +5,6 @@ ghost use mathlib.Core.Path.{_≡_};
 ghost use Rattle.calls.specs.Replies.{verdictMeans, reportMeans};
 ghost use Rattle.summaries.specs.Summaries.{combine as combineOf, summarizeOf, concludeOf};
 ghost use Rattle.c_summaries.specs.Numbers.{summaryShown, kindOf, numberOf, concludeShown};
-use base::Answer;
 use calls::Judge;
 use calls::Report;
 use calls::Verdict;
@@ -49,18 +48,12 @@ pub extern "C" fn bellbadger_summarize(judge: Judge, number: u64, chunk: &[u8]) 
 {
     let made = summaries::summarize(judge, number, chunk);
     let answer = made.answer;
+    let shown = flags::shown(answer);
     let summary = made.summary;
-    match answer {
-        Answer::Accepted => SummaryNumbers {
-            accepted: 1,
-            refused: 0,
-            summary,
-        },
-        Answer::Refused(refused) => SummaryNumbers {
-            accepted: 0,
-            refused,
-            summary,
-        },
+    SummaryNumbers {
+        accepted: shown.accepted,
+        refused: shown.refused,
+        summary,
     }
 }
 

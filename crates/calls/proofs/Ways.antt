@@ -23,7 +23,6 @@ use Rattle.automaton.specs.declared.Rule.{Rule}
 use Rattle.base.specs.declared.Answer.{Answer}
 use Rattle.base.specs.declared.Answer.the-variants as check
 use Rattle.rulecheck.specs.Checking.{ruleNumber}
-use Rattle.base.specs.declared.Answer.the-variants as reading
 use Rattle.ruleformat.specs.declared.ReadResult.{ReadResult}
 use Rattle.ruleformat.specs.Reader.{Reading, readOutcome, readOf}
 use Rattle.ruleformat.proofs.Claims as rulefile
@@ -222,13 +221,13 @@ module _ (j : Judge) (r : Rule) where
 -- ---- load
 module _ (j : Judge) (f : List ℕ) (read : ReadResult) (reads : readOutcome read ≡ readOf f) where
   -- the file is refused
-  pub load-unread : (number : ℕ) → read .answer ≡ reading.Refused number
+  pub load-unread : (number : ℕ) → read .answer ≡ check.Refused number
       → (o : Outcome) → o ≡ record { reply = reply.refused number; state = j } → o ≡ loadOf j f
   load-unread number told o e =
       e ∙ sym (load-is j f .unread number (ap (λ (x : Reading). x .number) (sym reads) ∙ ap answerNumber told))
 
   -- its rule is installed
-  pub load-read : read .answer ≡ reading.Accepted → (o : Outcome) → o ≡ installOf j (read .rule) → o ≡ loadOf j f
+  pub load-read : read .answer ≡ check.Accepted → (o : Outcome) → o ≡ installOf j (read .rule) → o ≡ loadOf j f
   load-read told o e =
       let taken = ap (λ (x : Reading). x .number) (sym reads) ∙ ap answerNumber told in
       e ∙ ap (installOf j) (ap (λ (x : Reading). x .rule) reads ∙ rulefile.claims .reading f .rule taken) ∙ sym (load-is j f .installed taken)

@@ -11,10 +11,10 @@ ghost use Rattle.fields.specs.Numbers.{parseNumber};
 ghost use Rattle.lines.specs.Splitting.{upTo, past};
 ghost use Rattle.calltext.specs.Meaning.{openBy, withdrawBy, revisionFields, deliverFields, lineMeans, bytesFrom, Parsed};
 ghost use Rattle.calltext.specs.Answers.{replied, isMalformed, responseText, answerMeans};
-ghost use Rattle.calls.specs.Replies.{accepted, judged, installMeans, openMeans, deliverMeans, withdrawMeans, reportMeans};
+ghost use Rattle.calls.specs.Replies.{accepted, judged, installMeans, callMeans, deliverMeans, reportMeans};
 use base::Answer;
+use build::BuildAnswer;
 use calls::DeliverAnswer;
-use calls::InstallAnswer;
 use calls::Report;
 use calls::Verdict;
 use fields::Number;
@@ -122,7 +122,7 @@ pub fn parse(line: &[u8]) -> Line
 // type of answer as an installation, with the numbers 1 to 9.
 pub enum LineAnswer {
     Began,
-    Install(InstallAnswer),
+    Install(BuildAnswer),
     Open(Answer),
     Deliver(DeliverAnswer),
     Withdraw(Answer),
@@ -139,22 +139,22 @@ fn put_accepted(out: &mut [u8]) -> usize
 }
 
 // What a call is answered, a function for each type of answer.
-fn put_install(out: &mut [u8], answer: InstallAnswer) -> usize
+fn put_install(out: &mut [u8], answer: BuildAnswer) -> usize
     requires { ⌜ answerRoom ≤ length (now out) ⌝ }
     ensures { λ r. ⌜ Wrote (now (out .entry)) 0 (responseText (replied (installMeans answer))) (now (out .exit)) r ⌝ }
 {
     match answer {
-        InstallAnswer::Accepted(sets, starts) => {
+        BuildAnswer::Accepted(sets, starts) => {
             let numbers = [sets as u64, starts as u64];
             answers::put_line(out, 0, b"accepted", &numbers)
         }
-        InstallAnswer::Refused(number) => answers::put_refused(out, 0, number),
+        BuildAnswer::Refused(number) => answers::put_refused(out, 0, number),
     }
 }
 
 fn put_open(out: &mut [u8], answer: Answer) -> usize
     requires { ⌜ answerRoom ≤ length (now out) ⌝ }
-    ensures { λ r. ⌜ Wrote (now (out .entry)) 0 (responseText (replied (openMeans answer))) (now (out .exit)) r ⌝ }
+    ensures { λ r. ⌜ Wrote (now (out .entry)) 0 (responseText (replied (callMeans answer))) (now (out .exit)) r ⌝ }
 {
     match answer {
         Answer::Accepted => put_accepted(out),
@@ -177,7 +177,7 @@ fn put_deliver(out: &mut [u8], answer: DeliverAnswer) -> usize
 
 fn put_withdraw(out: &mut [u8], answer: Answer) -> usize
     requires { ⌜ answerRoom ≤ length (now out) ⌝ }
-    ensures { λ r. ⌜ Wrote (now (out .entry)) 0 (responseText (replied (withdrawMeans answer))) (now (out .exit)) r ⌝ }
+    ensures { λ r. ⌜ Wrote (now (out .entry)) 0 (responseText (replied (callMeans answer))) (now (out .exit)) r ⌝ }
 {
     match answer {
         Answer::Accepted => put_accepted(out),

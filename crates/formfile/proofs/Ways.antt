@@ -7,7 +7,7 @@ use Rattle.base.proofs.Tests.{zero-one}
 use Rattle.ruleformat.specs.Reader.{ruleOf}
 use Rattle.calls.specs.declared.Judge.{Judge}
 use Rattle.calls.specs.declared.InstallResult.{InstallResult}
-use Rattle.calls.specs.declared.InstallAnswer.the-variants.{Accepted, Refused}
+use Rattle.build.specs.declared.BuildAnswer.the-variants.{Accepted, Refused}
 use Rattle.calls.specs.Replies.{Reply, refused, installMeans, Outcome, installOutcome}
 use Rattle.calls.specs.Calls.{loadNumber, withSets}
 use Rattle.calls.specs.mirror.Steps.{outcomeBy, withRule, loadOf}

@@ -73,7 +73,7 @@ pub fn join_places(
 pub fn join(board: Board, delegates: [u8; limits::STATES], n: u8, initials: u32) -> u32
     ensures { λ r. ⌜ r ≡ joinUpTo (board .ends) delegates n initials (placesOf board) ⌝ }
 {
-    let places = board::places_of(board);
+    let places = board::places_of(board.places);
     join_places(&board.ends, &delegates, n, initials, places)
 }
 

@@ -1,20 +1,18 @@
 // The judge: the calls over one state. A load reads a file and installs its rule.
 ghost use mathlib.Core.Path.{_≡_};
 ghost use Prim.Native.Nat.{_<_};
-ghost use Rattle.calls.specs.Replies.{refused, reportMeans, installOutcome, openOutcome, deliverOutcome, withdrawOutcome};
+ghost use Rattle.calls.specs.Replies.{refused, reportMeans, installOutcome, callOutcome, deliverOutcome};
 ghost use Rattle.calls.specs.mirror.Steps.{fresh, withBoard, installOf, loadOf, openOf, deliverOf, withdrawOf, reportOf};
 use automaton::Rule;
 use base::Answer;
 use board::Board;
 use build::BuildAnswer;
+use calls::CallResult;
 use calls::DeliverAnswer;
 use calls::DeliverResult;
-use calls::InstallAnswer;
 use calls::InstallResult;
 use calls::Judge;
-use calls::OpenResult;
 use calls::Report;
-use calls::WithdrawResult;
 use chunks::Runs;
 
 // A judge with no rule and no board.
@@ -37,15 +35,15 @@ fn with_board(judge: Judge, board: Board) -> Judge
 fn refuse_rule(judge: Judge, number: u8) -> InstallResult
     ensures { λ r. ⌜ installOutcome r ≡ record { reply = refused number; state = judge } ⌝ }
 {
-    let answer = InstallAnswer::Refused(number);
+    let answer = BuildAnswer::Refused(number);
     InstallResult { answer, judge }
 }
 
-fn refuse_opening(judge: Judge, number: u8) -> OpenResult
-    ensures { λ r. ⌜ openOutcome r ≡ record { reply = refused number; state = judge } ⌝ }
+fn refuse_call(judge: Judge, number: u8) -> CallResult
+    ensures { λ r. ⌜ callOutcome r ≡ record { reply = refused number; state = judge } ⌝ }
 {
     let answer = Answer::Refused(number);
-    OpenResult { answer, judge }
+    CallResult { answer, judge }
 }
 
 fn refuse_delivery(judge: Judge, number: u8) -> DeliverResult
@@ -53,13 +51,6 @@ fn refuse_delivery(judge: Judge, number: u8) -> DeliverResult
 {
     let answer = DeliverAnswer::Refused(number);
     DeliverResult { answer, judge }
-}
-
-fn refuse_withdrawal(judge: Judge, number: u8) -> WithdrawResult
-    ensures { λ r. ⌜ withdrawOutcome r ≡ record { reply = refused number; state = judge } ⌝ }
-{
-    let answer = Answer::Refused(number);
-    WithdrawResult { answer, judge }
 }
 
 // Checks and builds a rule, which may be any value. Accepted, it replaces the former rule and
@@ -78,7 +69,7 @@ pub fn install(judge: Judge, rule: Rule) -> InstallResult
                 BuildAnswer::Accepted(sets, starts) => {
                     let built = building.built;
                     let board = board::empty_board(0);
-                    let answer = InstallAnswer::Accepted(sets, starts);
+                    let answer = BuildAnswer::Accepted(sets, starts);
                     let judge = Judge { built, board };
                     InstallResult { answer, judge }
                 }
@@ -100,22 +91,22 @@ pub fn load(judge: Judge, file: &[u8]) -> InstallResult
 }
 
 // A board of that many places, all empty; an earlier board is dropped.
-pub fn open(judge: Judge, places: usize) -> OpenResult
-    ensures { λ r. ⌜ openOutcome r ≡ openOf judge places ⌝ }
+pub fn open(judge: Judge, places: usize) -> CallResult
+    ensures { λ r. ⌜ callOutcome r ≡ openOf judge places ⌝ }
 {
     let built = judge.built;
     if built.n == 0 {
-        return refuse_opening(judge, 20);
+        return refuse_call(judge, 20);
     }
     if places < 1 {
-        return refuse_opening(judge, 10);
+        return refuse_call(judge, 10);
     }
     if limits::PLACES < places {
-        return refuse_opening(judge, 10);
+        return refuse_call(judge, 10);
     }
     let answer = Answer::Accepted;
     let judge = with_board(judge, board::empty_board(places as u8));
-    OpenResult { answer, judge }
+    CallResult { answer, judge }
 }
 
 // Runs the text of a chunk, which is the chunk without its idle marks, and keeps its end sets,
@@ -128,7 +119,7 @@ pub fn deliver(mut judge: Judge, place: usize, revision: u32, chunk: &[u8]) -> D
     if judge.board.places == 0 {
         return refuse_delivery(judge, 21);
     }
-    if board::places_of(judge.board) <= place {
+    if board::places_of(judge.board.places) <= place {
         return refuse_delivery(judge, 11);
     }
     if limits::CHUNK < chunk.len() {
@@ -160,22 +151,22 @@ pub fn deliver(mut judge: Judge, place: usize, revision: u32, chunk: &[u8]) -> D
 }
 
 // Empties the place.
-pub fn withdraw(judge: Judge, place: usize) -> WithdrawResult
-    ensures { λ r. ⌜ withdrawOutcome r ≡ withdrawOf judge place ⌝ }
+pub fn withdraw(judge: Judge, place: usize) -> CallResult
+    ensures { λ r. ⌜ callOutcome r ≡ withdrawOf judge place ⌝ }
 {
     let board = judge.board;
     if board.places == 0 {
-        return refuse_withdrawal(judge, 21);
+        return refuse_call(judge, 21);
     }
-    if board::places_of(board) <= place {
-        return refuse_withdrawal(judge, 11);
+    if board::places_of(board.places) <= place {
+        return refuse_call(judge, 11);
     }
-    if board::is_empty(board, place) {
-        return refuse_withdrawal(judge, 23);
+    if board::is_empty(&board.filled, place) {
+        return refuse_call(judge, 23);
     }
     let answer = Answer::Accepted;
     let judge = with_board(judge, board::clear(board, place));
-    WithdrawResult { answer, judge }
+    CallResult { answer, judge }
 }
 
 // The verdict, and how many transitions it cost for each byte.
@@ -184,5 +175,5 @@ pub fn ask_verdict(judge: Judge) -> Report
 {
     let verdict = verdicts::find_verdict(judge);
     let board = judge.board;
-    verdicts::report_on(verdict, board::summed_bytes(board))
+    verdicts::report_on(verdict, board::summed(&board.lengths, board.places))
 }

@@ -30,7 +30,6 @@ use Rattle.masks.specs.Masks.{single}
 use Rattle.automaton.specs.declared.Rule.{Rule}
 use Rattle.automaton.specs.Rules.{targetMask}
 use Rattle.base.specs.declared.Answer.{Answer}
-use Rattle.base.specs.declared.Answer.the-variants as check
 use Rattle.rulecheck.specs.Checking.{ruleNumber}
 use Rattle.rulecheck.proofs.Laws.{passes}
 use Rattle.ruleformat.specs.Reader.{noRule}
@@ -171,21 +170,21 @@ module _ (way : Way) (one two : Rule) where
 -- ---- `check`
 module _ (way : Way) (one two : Rule) where
   module _ (x : Answer) (said : answerNumber x ≡ ruleNumber one) where
-    pub check-first : (number : ℕ) → x ≡ check.Refused number → answerNumber (Refused number) ≡ mergeNumber way one two
+    pub check-first : (number : ℕ) → x ≡ Refused number → answerNumber (Refused number) ≡ mergeNumber way one two
     check-first number e =
         let is : ruleNumber one ≡ some number = sym said ∙ ap answerNumber e in
         sym (number-law way one two ∙ rw is)
 
-    first-none : x ≡ check.Accepted → ruleNumber one ≡ none
+    first-none : x ≡ Accepted → ruleNumber one ≡ none
     first-none e = sym said ∙ ap answerNumber e
 
-    module _ (passed : x ≡ check.Accepted) (y : Answer) (told : answerNumber y ≡ ruleNumber two) where
-      pub check-second : (number : ℕ) → y ≡ check.Refused number → answerNumber (Refused number) ≡ mergeNumber way one two
+    module _ (passed : x ≡ Accepted) (y : Answer) (told : answerNumber y ≡ ruleNumber two) where
+      pub check-second : (number : ℕ) → y ≡ Refused number → answerNumber (Refused number) ≡ mergeNumber way one two
       check-second number e =
           let is : ruleNumber two ≡ some number = sym told ∙ ap answerNumber e in
           sym (number-law way one two ∙ rw (first-none passed, is))
 
-      module _ (passed2 : y ≡ check.Accepted) where
+      module _ (passed2 : y ≡ Accepted) where
         second-none : ruleNumber two ≡ none
         second-none = sym told ∙ ap answerNumber passed2
 

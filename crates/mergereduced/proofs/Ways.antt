@@ -25,7 +25,6 @@ use Rattle.automaton.specs.declared.Rule.{Rule}
 use Rattle.automaton.specs.Rules.{targetMask, WellFormed}
 use Rattle.delegates.specs.mirror.Classes.{firstFrom}
 use Rattle.base.specs.declared.Answer.{Answer}
-use Rattle.base.specs.declared.Answer.the-variants as check
 use Rattle.rulecheck.specs.Checking.{ruleNumber}
 use Rattle.rulecheck.proofs.Laws.{passes}
 use Rattle.ruleformat.specs.Reader.{noRule}
@@ -467,7 +466,7 @@ module _ (way : Way) (one two : Rule) (m n c : ℕ) (em : m ≡ keptPairs way on
       ∙ sym (ap (λ (t : Bool). mergingBy (cond t (some 37) none) (reducedOrOwn (trimmedPairs way one two))) (le-ltb 32 (pairCount way one two) (rw count-is at l)))
 
 -- ---- `merge_reduced`
-pub reduced-good : (r a : Rule) (x : Answer) → a ≡ reducedOrOwn r → answerNumber x ≡ ruleNumber r → x ≡ check.Accepted → WellFormed a
+pub reduced-good : (r a : Rule) (x : Answer) → a ≡ reducedOrOwn r → answerNumber x ≡ ruleNumber r → x ≡ Accepted → WellFormed a
 reduced-good r a x is said passed = rw is (instead r (passes r .0 (sym said ∙ ap answerNumber passed)) .good)
 
 module _ (way : Way) (one two : Rule) (x : Answer) (said : answerNumber x ≡ ruleNumber one) where
@@ -475,21 +474,21 @@ module _ (way : Way) (one two : Rule) (x : Answer) (said : answerNumber x ≡ ru
       → out ≡ mergeReducedOf way one two
   by-number o out e is = is ∙ sym (ap (λ (y : Option ℕ). mergingBy y (mergeReducedRule way one two)) e)
 
-  pub reduced-first : (number : ℕ) (out : Merging) → x ≡ check.Refused number → out ≡ mergingBy (some number) noRule → out ≡ mergeReducedOf way one two
+  pub reduced-first : (number : ℕ) (out : Merging) → x ≡ Refused number → out ≡ mergingBy (some number) noRule → out ≡ mergeReducedOf way one two
   reduced-first number out e is =
       let there : ruleNumber one ≡ some number = sym said ∙ ap answerNumber e in
       by-number (some number) out (number-law way one two ∙ rw there) is
 
-  module _ (passed : x ≡ check.Accepted) (y : Answer) (told : answerNumber y ≡ ruleNumber two) where
+  module _ (passed : x ≡ Accepted) (y : Answer) (told : answerNumber y ≡ ruleNumber two) where
     first-none : ruleNumber one ≡ none
     first-none = sym said ∙ ap answerNumber passed
 
-    pub reduced-second : (number : ℕ) (out : Merging) → y ≡ check.Refused number → out ≡ mergingBy (some number) noRule → out ≡ mergeReducedOf way one two
+    pub reduced-second : (number : ℕ) (out : Merging) → y ≡ Refused number → out ≡ mergingBy (some number) noRule → out ≡ mergeReducedOf way one two
     reduced-second number out e is =
         let there : ruleNumber two ≡ some number = sym told ∙ ap answerNumber e in
         by-number (some number) out (number-law way one two ∙ rw (first-none, there)) is
 
-    module _ (passed2 : y ≡ check.Accepted) where
+    module _ (passed2 : y ≡ Accepted) where
       second-none : ruleNumber two ≡ none
       second-none = sym told ∙ ap answerNumber passed2
 

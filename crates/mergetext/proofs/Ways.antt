@@ -27,7 +27,6 @@ use Rattle.ruleformat.specs.Refusals.{refusal}
 use Rattle.ruleformat.specs.Reader.{Reading, ruleOf, readOutcome, readOf}
 use Rattle.ruleformat.specs.Writing.{fileOf}
 use Rattle.merging.specs.declared.Way.{Way}
-use Rattle.base.specs.declared.Answer.the-variants as merge
 use Rattle.merging.specs.declared.MergeResult.{MergeResult}
 use Rattle.merging.specs.Merged.{mergedOf}
 use Rattle.merging.specs.Merging.{mergeNumber, Merging, mergeOutcome, mergingBy, mergeOf}
@@ -91,10 +90,10 @@ module _ (way : Way) (f g : List ℕ) (x : ReadResult) (reads : readOutcome x �
           ∙ sym (number-by (mergeNumber way (ruleOf f) (ruleOf g)) (mergedOf way (ruleOf f) (ruleOf g)))
           ∙ sym (ap (λ (m : Merging). m .number) made)
 
-      answer-third : (n : ℕ) → z .answer ≡ merge.Refused n → mergedFiles way f g ≡ refused n
+      answer-third : (n : ℕ) → z .answer ≡ reading.Refused n → mergedFiles way f g ≡ refused n
       answer-third n e = rw (number-made ∙ ap answerNumber e)
 
-      module _ (accepted3 : z .answer ≡ merge.Accepted) where
+      module _ (accepted3 : z .answer ≡ reading.Accepted) where
         third-none : filesNumber way f g ≡ none
         third-none = number-made ∙ ap answerNumber accepted3
 
@@ -125,10 +124,10 @@ module _ (way : Way) (f g before after : List ℕ) (at end : ℕ) where
       told-second n e w = told (refused n) (answer-second way f g x reads accepted y reads2 n e) w
 
       module _ (accepted2 : y .answer ≡ reading.Accepted) (z : MergeResult) (merges : mergeOutcome z ≡ mergeOf way (x .rule) (y .rule)) where
-        pub told-third : (n : ℕ) → z .answer ≡ merge.Refused n → Wrote before at (refusedText n) after end
+        pub told-third : (n : ℕ) → z .answer ≡ reading.Refused n → Wrote before at (refusedText n) after end
             → Wrote before at (responseText (mergedFiles way f g)) after end
         told-third n e w = told (refused n) (answer-third way f g x reads accepted y reads2 accepted2 z merges n e) w
 
-        pub told-file : z .answer ≡ merge.Accepted → Wrote before at (digitsOf (fileOf (z .rule)) ++ (10 ∷ [])) after end
+        pub told-file : z .answer ≡ reading.Accepted → Wrote before at (digitsOf (fileOf (z .rule)) ++ (10 ∷ [])) after end
             → Wrote before at (responseText (mergedFiles way f g)) after end
         told-file e w = told (file (fileOf (z .rule))) (answer-file way f g x reads accepted y reads2 accepted2 z merges e) w

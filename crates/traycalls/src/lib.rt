@@ -11,7 +11,6 @@ use automaton::Rule;
 use base::Answer;
 use build::BuildAnswer;
 use trays::CallResult;
-use trays::InstallAnswer;
 use trays::InstallResult;
 use trays::Tray;
 use trays::TrayBoard;
@@ -51,18 +50,18 @@ fn refuse(tray: Tray, number: u8) -> CallResult
 }
 
 // What an installation of the rule, which may be any value, answers.
-fn answer_to(rule: Rule) -> InstallAnswer
+fn answer_to(rule: Rule) -> BuildAnswer
     ensures { λ r. ⌜ installMeans r ≡ installAnswer rule ⌝ }
 {
     let checked = rulecheck::check_rule(rule);
     match checked {
-        Answer::Refused(number) => InstallAnswer::Refused(number),
+        Answer::Refused(number) => BuildAnswer::Refused(number),
         Answer::Accepted => {
             let building = build::build_rule(rule);
             let answer = building.answer;
             match answer {
-                BuildAnswer::Refused(number) => InstallAnswer::Refused(number),
-                BuildAnswer::Accepted(sets, starts) => InstallAnswer::Accepted(sets, starts),
+                BuildAnswer::Refused(number) => BuildAnswer::Refused(number),
+                BuildAnswer::Accepted(sets, starts) => BuildAnswer::Accepted(sets, starts),
             }
         }
     }
@@ -100,8 +99,8 @@ fn install(tray: Tray, rule: Rule, next: Tray) -> InstallResult
 {
     let answer = answer_to(rule);
     match answer {
-        InstallAnswer::Refused(_) => InstallResult { answer, tray },
-        InstallAnswer::Accepted(_, _) => InstallResult { answer, tray: next },
+        BuildAnswer::Refused(_) => InstallResult { answer, tray },
+        BuildAnswer::Accepted(_, _) => InstallResult { answer, tray: next },
     }
 }
 

@@ -11,8 +11,8 @@ ghost use Rattle.trays.specs.mirror.Steps.{installOutcome};
 ghost use Rattle.traytext.specs.Lines.{again, call, malformed, deliverBy, lineIn};
 ghost use Rattle.traylines.specs.Running.{bytesRoom, fileBy, loadOf, lineStep, runOutcome, Scratch};
 use base::Answer;
+use build::BuildAnswer;
 use fields::Bytes;
-use trays::InstallAnswer;
 use trays::InstallResult;
 use trays::Tray;
 use traytext::Line;
@@ -25,7 +25,7 @@ pub const BYTES: usize = limits::FILE + 1;
 fn refuse_file(tray: Tray, number: u8) -> InstallResult
     ensures { λ r. ⌜ installOutcome r ≡ record { reply = refused number; state = tray } ⌝ }
 {
-    let answer = InstallAnswer::Refused(number);
+    let answer = BuildAnswer::Refused(number);
     InstallResult { answer, tray }
 }
 

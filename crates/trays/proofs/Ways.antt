@@ -27,8 +27,7 @@ use Rattle.build.specs.declared.BuildResult.{BuildResult}
 use Rattle.build.specs.mirror.Building.{accepted, refused, buildMeans, builtOf, Outcome as Built-outcome, buildOutcome, buildOf}
 use Rattle.calls.specs.Calls.{installNumber}
 use Rattle.calls.proofs.Conditions.{over, install-number}
-use Rattle.trays.specs.declared.InstallAnswer.{InstallAnswer}
-use Rattle.trays.specs.declared.InstallAnswer.the-variants as install
+use Rattle.build.specs.declared.BuildAnswer.{BuildAnswer}
 use Rattle.trays.specs.declared.TrayBoard.{TrayBoard}
 use Rattle.trays.specs.declared.Tray.{Tray}
 use Rattle.trays.specs.Replies as reply
@@ -101,8 +100,8 @@ by-acceptance : (n : Option ℕ) (m starts s d : ℕ) → reply.installed s d �
 by-acceptance none m starts s d e = (refl, cc, cc)
 by-acceptance (some y) m starts s d e = zero-one cc
 
-module _ (t s : Tray) (r : Rule) (a : InstallAnswer) (answers : reply.installMeans a ≡ installAnswer r) where
-  module _ (x : ℕ) (told : a ≡ install.Refused x) where
+module _ (t s : Tray) (r : Rule) (a : BuildAnswer) (answers : reply.installMeans a ≡ installAnswer r) where
+  module _ (x : ℕ) (told : a ≡ build.Refused x) where
     number-refused : installNumber r ≡ some x
     unfolding installAnswer
     number-refused = by-refusal (installNumber r) (builtOf r .setcount) (builtOf r .startcount) x (sym (ap reply.installMeans told) ∙ answers)
@@ -110,7 +109,7 @@ module _ (t s : Tray) (r : Rule) (a : InstallAnswer) (answers : reply.installMea
     pub install-refused : record { reply = reply.installMeans a; state = t } ≡ installOf t r s
     install-refused = rw (told, number-refused)
 
-  module _ (m starts : ℕ) (told : a ≡ install.Accepted m starts) where
+  module _ (m starts : ℕ) (told : a ≡ build.Accepted m starts) where
     number-accepted : (installNumber r ≡ none) × (m ≡ builtOf r .setcount) × (starts ≡ builtOf r .startcount)
     unfolding installAnswer
     number-accepted = by-acceptance (installNumber r) (builtOf r .setcount) (builtOf r .startcount) m starts (sym (ap reply.installMeans told) ∙ answers)

@@ -19,8 +19,8 @@ use lib.ListN.{length}
 use Rattle.automaton.specs.declared.Rule.{Rule}
 use Rattle.subsets.specs.Sets.{setsOf}
 use Rattle.delegates.specs.Claims.{startsIn}
-use Rattle.trays.specs.declared.InstallAnswer.{InstallAnswer}
-use Rattle.trays.specs.declared.InstallAnswer.the-variants as install
+use Rattle.build.specs.declared.BuildAnswer.{BuildAnswer}
+use Rattle.build.specs.declared.BuildAnswer.the-variants as install
 use Rattle.base.specs.declared.Answer.{Answer}
 use Rattle.base.specs.declared.Answer.the-variants as call
 use Rattle.trays.specs.declared.TrayVerdict.{TrayVerdict}
@@ -58,7 +58,7 @@ replyBy (some number) a = refused number
 abbrev pub withSets : Rule → Reply
 withSets r = installed (length (setsOf (r .targets) (r .n) (r .k))) (startsIn r .startcount)
 
-abbrev pub installMeans : InstallAnswer → Reply
+abbrev pub installMeans : BuildAnswer → Reply
 installMeans (install.Accepted sets starts) = installed sets starts
 installMeans (install.Refused number) = refused number
 

@@ -2,6 +2,7 @@
 // in specs/; crates/traycalls has the calls.
 use automaton::Rule;
 use base::Answer;
+use build::BuildAnswer;
 
 // The most events of a row.
 pub const WIDTH: usize = 16;
@@ -42,12 +43,6 @@ pub struct Tray {
     pub board: TrayBoard,
 }
 
-// What installing either rule answers: the number of sets and M, or a refusal.
-pub enum InstallAnswer {
-    Accepted(u16, u8),
-    Refused(u8),
-}
-
 // What the verdict says; it has no count.
 pub enum TrayVerdict {
     Waiting(u8),
@@ -58,7 +53,7 @@ pub enum TrayVerdict {
 
 // Each call that may change the state answers with the next state beside the answer.
 pub struct InstallResult {
-    pub answer: InstallAnswer,
+    pub answer: BuildAnswer,
     pub tray: Tray,
 }
 

@@ -11,8 +11,8 @@ ghost use Rattle.trays.specs.Replies.{installed, waiting, judged, installMeans,
 ghost use Rattle.traytext.specs.Lines.{withdrawBy, openFields, deliverFields, lineMeans, bytesFrom, Parsed};
 ghost use Rattle.traytext.specs.Answers.{mostAnswer, isMalformed, replyText, responseText, answerMeans};
 use base::Answer;
+use build::BuildAnswer;
 use fields::Number;
-use trays::InstallAnswer;
 use trays::TrayVerdict;
 
 // A line. The bytes of a row rule begin at index 4, those of a column rule at 7, those of a delivery
@@ -110,7 +110,7 @@ pub fn parse(line: &[u8]) -> Line
 // the same type of answer as an installation, with the numbers 1 to 9.
 pub enum LineAnswer {
     Began,
-    Install(InstallAnswer),
+    Install(BuildAnswer),
     Call(Answer),
     Verdict(TrayVerdict),
     Malformed,
@@ -138,13 +138,13 @@ fn put_waiting(out: &mut [u8], empty: u8) -> usize
 }
 
 // What a call is answered, a function for each type of answer.
-fn put_install(out: &mut [u8], answer: InstallAnswer) -> usize
+fn put_install(out: &mut [u8], answer: BuildAnswer) -> usize
     requires { ⌜ mostAnswer ≤ length (now out) ⌝ }
     ensures { λ r. ⌜ Wrote (now (out .entry)) 0 (replyText (installMeans answer)) (now (out .exit)) r ⌝ }
 {
     match answer {
-        InstallAnswer::Accepted(sets, starts) => put_installed(out, sets, starts),
-        InstallAnswer::Refused(number) => answers::put_refused(out, 0, number),
+        BuildAnswer::Accepted(sets, starts) => put_installed(out, sets, starts),
+        BuildAnswer::Refused(number) => answers::put_refused(out, 0, number),
     }
 }
 
