@@ -6,8 +6,6 @@ use Rattle.base.specs.declared.Answer.{Answer}
 use Rattle.base.specs.declared.Answer.the-variants.{Accepted, Refused}
 use Rattle.flags.specs.declared.AnswerFlags.{AnswerFlags}
 use Rattle.flags.specs.Flags.{flagBy, refusedBy}
-use Rattle.ruleformat.specs.declared.ReadResult.{ReadResult}
-use Rattle.ruleformat.specs.Reader.{Reading, readOutcome}
 use Rattle.build.specs.declared.BuildAnswer.{BuildAnswer}
 use Rattle.build.specs.declared.BuildAnswer.the-variants as install
 use Rattle.calls.specs.declared.DeliverAnswer.{DeliverAnswer}
@@ -21,21 +19,16 @@ use Rattle.replay.specs.declared.ReplayAnswer.{ReplayAnswer}
 use Rattle.replay.specs.declared.ReplayAnswer.the-variants as replay
 use Rattle.replay.specs.Records.{ReplayReply, replayMeans}
 use Rattle.capi.specs.declared.VerdictNumbers.{VerdictNumbers}
-use Rattle.capi.specs.Numbers.{readShown, installShown, callShown, deliverShown, verdictShown, replayShown}
+use Rattle.capi.specs.Numbers.{installShown, callShown, deliverShown, verdictShown, replayShown}
 
-module _ (f : AnswerFlags) where
-  pub read-shown : (r : ReadResult) (o : Reading) → f .accepted ≡ flagBy (answerNumber (r .answer)) → f .refused ≡ refusedBy (answerNumber (r .answer))
-      → readOutcome r ≡ o → record { accepted = f .accepted; refused = f .refused; rule = r .rule } ≡ readShown o
-  read-shown r o a n is = rw (a, n) (ap readShown is)
-
-  pub call-shown : (r : CallResult) → f .accepted ≡ flagBy (answerNumber (r .answer)) → f .refused ≡ refusedBy (answerNumber (r .answer))
-      → record { accepted = f .accepted; refused = f .refused; judge = r .judge } ≡ callShown (callOutcome r)
-  call-shown r a n = rw (a, n) (by-answer (r .answer))
-    where
-      by-answer : (x : Answer)
-          → record { accepted = flagBy (answerNumber x); refused = refusedBy (answerNumber x); judge = r .judge } ≡ callShown (record { reply = callMeans x; state = r .judge })
-      by-answer Accepted = refl
-      by-answer (Refused number) = refl
+pub call-shown : (f : AnswerFlags) (r : CallResult) → f .accepted ≡ flagBy (answerNumber (r .answer)) → f .refused ≡ refusedBy (answerNumber (r .answer))
+    → record { accepted = f .accepted; refused = f .refused; judge = r .judge } ≡ callShown (callOutcome r)
+call-shown f r a n = rw (a, n) (by-answer (r .answer))
+  where
+    by-answer : (x : Answer)
+        → record { accepted = flagBy (answerNumber x); refused = refusedBy (answerNumber x); judge = r .judge } ≡ callShown (record { reply = callMeans x; state = r .judge })
+    by-answer Accepted = refl
+    by-answer (Refused number) = refl
 
 module _ (r : InstallResult) where
   pub install-accepted : (sets starts : ℕ) → r .answer ≡ install.Accepted sets starts
