@@ -24,7 +24,7 @@
  *   210 KB  bellbadger_deliver
  *   170 KB  bellbadger_locate
  *   145 KB  bellbadger_tray_install_row, bellbadger_tray_install_column, bellbadger_summarize
- *   120 KB  bellbadger_profile_run, bellbadger_merge_reduced
+ *   120 KB  bellbadger_withdraw, bellbadger_profile_run, bellbadger_merge_reduced
  *   94 KB  any other function
  */
 #ifndef BELLBADGER_H

@@ -1,7 +1,13 @@
-// What belongs to no subject: a number with a bound. The rest is definitions, in specs/, and their
-// laws, in proofs/.
+// What belongs to no subject: an answer that says accepted or refused, a number with a bound. The rest
+// is definitions, in specs/, and their laws, in proofs/.
 ghost use mathlib.Core.Path.{_≡_};
 ghost use Prim.Native.Nat.{min};
+
+// What a call answers that says no more than whether it was accepted. A refusal has its number.
+pub enum Answer {
+    Accepted,
+    Refused(u8),
+}
 
 // x, but no more than most.
 pub fn at_most(x: usize, most: usize) -> usize

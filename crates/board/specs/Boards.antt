@@ -5,7 +5,8 @@
 -- is, so that 0 is none.
 --
 --   placesOf b         the number of places
---   held b p q         the end set of state q at place p
+--   heldIn ends p q    the end set of state q at place p, in an array with 32 cells a place
+--   held b p q         the same on the board b
 --   isEmpty b p        place p has no chunk
 --   lastAt b p         one more than the last revision accepted at place p, 0 where there was none
 --   comesLate b p v    the revision v is not greater than the last one accepted at place p
@@ -32,8 +33,11 @@ use Rattle.board.specs.declared.Board.{Board}
 abbrev pub placesOf : Board → ℕ
 placesOf b = min (b .places) mostPlaces
 
+abbrev pub heldIn : List ℕ → ℕ → ℕ → ℕ
+heldIn ends p q = getD ends (p * mostStates + q) 0
+
 abbrev pub held : Board → ℕ → ℕ → ℕ
-held b p q = getD (b .ends) (p * mostStates + q) 0
+held b = heldIn (b .ends)
 
 abbrev pub isEmpty : Board → ℕ → Bool
 isEmpty b p = eqb (getD (b .filled) p 0) 0

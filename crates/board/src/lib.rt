@@ -1,13 +1,13 @@
 // The board: what stands at each place. Any value of any field is taken: a number of places above
 // 64 counts as 64.
 ghost use mathlib.Core.Path.{_≡_};
-ghost use Prim.Native.Nat.{_+_, _≤_, _<_};
+ghost use Prim.Native.Nat.{_+_, _≤_, _<_, min};
 ghost use mathlib.Core.Bool.{cond};
 ghost use lib.Dec.{eqb, ltb};
 ghost use lib.ListN.{length, getD, set};
 ghost use Rattle.limits.specs.Limits.{mostPlaces, endCells};
 ghost use Rattle.base.specs.Totals.{total};
-ghost use Rattle.board.specs.Boards.{placesOf, isEmpty, emptyBoard, rowSet, clearedAt, emptyPlaces, summedCount, summedBytes};
+ghost use Rattle.board.specs.Boards.{emptyBoard, rowSet, clearedAt};
 
 // For each of up to 64 places whether it is filled (0 for empty), the count and the length of its
 // chunk, one more than the last revision accepted there, and 32 end sets, one for each state. In a
@@ -31,10 +31,10 @@ fn cells(ends: &[u32; limits::ENDS]) -> usize
 }
 
 // The number of places.
-pub fn places_of(board: Board) -> usize
-    ensures { λ r. ⌜ r ≡ placesOf board ⌝ }
+pub fn places_of(places: u8) -> usize
+    ensures { λ r. ⌜ r ≡ min places mostPlaces ⌝ }
 {
-    base::at_most_u8(board.places, limits::MOST_PLACES) as usize
+    base::at_most_u8(places, limits::MOST_PLACES) as usize
 }
 
 // A board with all places empty.
@@ -108,11 +108,11 @@ pub fn clear(board: Board, place: usize) -> Board
 }
 
 // Whether the place has no chunk.
-pub fn is_empty(board: Board, place: usize) -> bool
+pub fn is_empty(filled: &[u8; limits::PLACES], place: usize) -> bool
     requires { ⌜ place < mostPlaces ⌝ }
-    ensures { λ r. ⌜ r ≡ isEmpty board place ⌝ }
+    ensures { λ r. ⌜ r ≡ eqb (getD (now (filled .entry)) place 0) 0 ⌝ }
 {
-    board.filled[place] == 0
+    filled[place] == 0
 }
 
 // Whether the revision is not greater than the last one accepted at the place, where the board keeps
@@ -141,11 +141,10 @@ fn count_empty(filled: &[u8; limits::PLACES], n: usize) -> u8
 }
 
 // How many places are empty.
-pub fn empty_places(board: Board) -> u8
-    ensures { λ r. ⌜ r ≡ emptyPlaces board ⌝ }
+pub fn empty_places(filled: &[u8; limits::PLACES], places: u8) -> u8
+    ensures { λ r. ⌜ r ≡ total (λ p. cond (eqb (getD (now (filled .entry)) p 0) 0) 1 0) (min places mostPlaces) ⌝ }
 {
-    let places = places_of(board);
-    count_empty(&board.filled, places)
+    count_empty(filled, places_of(places))
 }
 
 // A number of a place, in 64 bits.
@@ -169,18 +168,9 @@ fn sum_up(numbers: &[u32; limits::PLACES], n: usize) -> u64
     sum
 }
 
-// The sum of the counts over all places.
-pub fn summed_count(board: Board) -> u64
-    ensures { λ r. ⌜ r ≡ summedCount board ⌝ }
+// The sum of a number of each place, its count or its length, over all places.
+pub fn summed(numbers: &[u32; limits::PLACES], places: u8) -> u64
+    ensures { λ r. ⌜ r ≡ total (λ p. getD (now (numbers .entry)) p 0) (min places mostPlaces) ⌝ }
 {
-    let places = places_of(board);
-    sum_up(&board.counts, places)
-}
-
-// The sum of the lengths over all places.
-pub fn summed_bytes(board: Board) -> u64
-    ensures { λ r. ⌜ r ≡ summedBytes board ⌝ }
-{
-    let places = places_of(board);
-    sum_up(&board.lengths, places)
+    sum_up(numbers, places_of(places))
 }

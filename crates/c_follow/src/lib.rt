@@ -1,11 +1,9 @@
 // Following a trace that comes in order, for C, Rust and Python. Answers are numbers; a follower is a
 // value that the caller keeps and hands in.
 ghost use mathlib.Core.Path.{_≡_};
-ghost use Rattle.follow.specs.Following.{lostMeans, answerMeans, followOutcome, followOf, followByOf, prepareOf};
-ghost use Rattle.flags.specs.Flags.{flagBy, refusedBy};
+ghost use Rattle.follow.specs.Following.{lostMeans, followOutcome, followOf, followByOf, prepareOf};
 ghost use Rattle.c_follow.specs.Numbers.{lostFlag, atBy, followShown, prepareShown};
 use automaton::Rule;
-use follow::FollowAnswer;
 use follow::Followed;
 use follow::Follower;
 use follow::Lost;
@@ -38,24 +36,6 @@ pub struct FollowerNumbers {
 // How many bytes a follower has as C lays it out.
 const FOLLOWER_SIZE: usize = 2064;
 
-fn accepted_of(answer: FollowAnswer) -> u8
-    ensures { λ r. ⌜ r ≡ flagBy (answerMeans answer) ⌝ }
-{
-    match answer {
-        FollowAnswer::Accepted => 1,
-        FollowAnswer::Refused(_) => 0,
-    }
-}
-
-fn refused_of(answer: FollowAnswer) -> u8
-    ensures { λ r. ⌜ r ≡ refusedBy (answerMeans answer) ⌝ }
-{
-    match answer {
-        FollowAnswer::Accepted => 0,
-        FollowAnswer::Refused(number) => number,
-    }
-}
-
 fn lost_flag(lost: Lost) -> u8
     ensures { λ r. ⌜ r ≡ lostFlag (lostMeans lost) ⌝ }
 {
@@ -79,16 +59,15 @@ fn in_numbers(followed: Followed) -> FollowNumbers
     ensures { λ r. ⌜ r ≡ followShown (followOutcome followed) ⌝ }
 {
     let answer = followed.answer;
+    let shown = flags::shown(answer);
     let way = followed.lost;
-    let accepted = accepted_of(answer);
-    let refused = refused_of(answer);
     let ends = flags::bit(followed.ends);
     let complete = flags::bit(followed.complete);
     let lost = lost_flag(way);
     let at = lost_at(way);
     FollowNumbers {
-        accepted,
-        refused,
+        accepted: shown.accepted,
+        refused: shown.refused,
         ends,
         lost,
         at,
@@ -121,12 +100,11 @@ pub extern "C" fn bellbadger_follower_prepare(rule: Rule) -> FollowerNumbers
 {
     let prepared = follow::prepare(rule);
     let answer = prepared.answer;
+    let shown = flags::shown(answer);
     let follower = prepared.follower;
-    let accepted = accepted_of(answer);
-    let refused = refused_of(answer);
     FollowerNumbers {
-        accepted,
-        refused,
+        accepted: shown.accepted,
+        refused: shown.refused,
         follower,
     }
 }

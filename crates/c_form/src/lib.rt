@@ -4,9 +4,7 @@ ghost use Rattle.forms.specs.Back.{backOf};
 ghost use Rattle.formmaker.specs.Making.{madeOf};
 ghost use Rattle.c_form.specs.Numbers.{formShown, tableShown};
 use calls::Judge;
-use forms::BackAnswer;
 use forms::Form;
-use forms::FormAnswer;
 use forms::Table;
 
 // Accepted is 1 or 0; where it is 0, refused has the number, and every number of the form is 0.
@@ -32,18 +30,12 @@ pub extern "C" fn bellbadger_form(judge: Judge) -> FormNumbers
 {
     let made = formmaker::make_form(judge);
     let answer = made.answer;
+    let shown = flags::shown(answer);
     let form = made.form;
-    match answer {
-        FormAnswer::Made => FormNumbers {
-            accepted: 1,
-            refused: 0,
-            form,
-        },
-        FormAnswer::Refused(refused) => FormNumbers {
-            accepted: 0,
-            refused,
-            form,
-        },
+    FormNumbers {
+        accepted: shown.accepted,
+        refused: shown.refused,
+        form,
     }
 }
 
@@ -54,17 +46,11 @@ pub extern "C" fn bellbadger_form_back(form: Form) -> TableNumbers
 {
     let back = formback::table_of(form);
     let answer = back.answer;
+    let shown = flags::shown(answer);
     let table = back.table;
-    match answer {
-        BackAnswer::Accepted => TableNumbers {
-            accepted: 1,
-            refused: 0,
-            table,
-        },
-        BackAnswer::Refused(refused) => TableNumbers {
-            accepted: 0,
-            refused,
-            table,
-        },
+    TableNumbers {
+        accepted: shown.accepted,
+        refused: shown.refused,
+        table,
     }
 }

@@ -5,12 +5,8 @@ use Prim.Native.Nat.{ℕ}
 use Rattle.profile.specs.declared.BuildAnswer.{BuildAnswer}
 use Rattle.profile.specs.declared.BuildAnswer.the-variants as build
 use Rattle.profile.specs.declared.BuildResult.{BuildResult}
-use Rattle.profile.specs.declared.RunAnswer.{RunAnswer}
-use Rattle.profile.specs.declared.RunAnswer.the-variants as run
-use Rattle.profile.specs.declared.RunResult.{RunResult}
 use Rattle.profile.specs.Profiles.{buildMeans, Building, buildOutcome}
-use Rattle.profile.specs.Runs.{runMeans, Ran, runOutcome}
-use Rattle.c_mappings.specs.Numbers.{buildShown, runShown, verdictShown}
+use Rattle.c_mappings.specs.Numbers.{buildShown, verdictShown}
 
 module _ (b : BuildResult) (o : Building) (is : buildOutcome b ≡ o) where
   pub build-accepted : (count : ℕ) → b .answer ≡ build.Accepted count → record { accepted = 1; refused = 0; profile = b .profile } ≡ buildShown o
@@ -18,13 +14,6 @@ module _ (b : BuildResult) (o : Building) (is : buildOutcome b ≡ o) where
 
   pub build-refused : (x : ℕ) → b .answer ≡ build.Refused x → record { accepted = 0; refused = x; profile = b .profile } ≡ buildShown o
   build-refused x e = ap buildShown (sym (ap (λ (a : BuildAnswer). record { reply = buildMeans a; profile = b .profile }) e) ∙ is)
-
-module _ (r : RunResult) (o : Ran) (is : runOutcome r ≡ o) where
-  pub run-accepted : r .answer ≡ run.Accepted → record { accepted = 1; refused = 0; mapping = r .mapping } ≡ runShown o
-  run-accepted e = ap runShown (sym (ap (λ (a : RunAnswer). record { refusal = runMeans a; masks = r .mapping .masks }) e) ∙ is)
-
-  pub run-refused : (x : ℕ) → r .answer ≡ run.Refused x → record { accepted = 0; refused = x; mapping = r .mapping } ≡ runShown o
-  run-refused x e = ap runShown (sym (ap (λ (a : RunAnswer). record { refusal = runMeans a; masks = r .mapping .masks }) e) ∙ is)
 
 module _ (told answer : Bool) (is : told ≡ answer) where
   pub verdict-yes : told ≡ true → 1 ≡ verdictShown answer

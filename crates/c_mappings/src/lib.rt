@@ -9,7 +9,6 @@ use automaton::Rule;
 use mappings::Mapping;
 use profile::BuildAnswer;
 use profile::Profile;
-use profile::RunAnswer;
 
 // Accepted is 1 or 0; where it is 0, refused has the number, and every number of the profile is 0.
 // How many mappings there are stands in the profile.
@@ -68,18 +67,12 @@ pub extern "C" fn bellbadger_profile_run(profile: Profile, chunk: &[u8]) -> RunN
 {
     let ran = profile::run(profile, chunk);
     let answer = ran.answer;
+    let shown = flags::shown(answer);
     let mapping = ran.mapping;
-    match answer {
-        RunAnswer::Accepted => RunNumbers {
-            accepted: 1,
-            refused: 0,
-            mapping,
-        },
-        RunAnswer::Refused(refused) => RunNumbers {
-            accepted: 0,
-            refused,
-            mapping,
-        },
+    RunNumbers {
+        accepted: shown.accepted,
+        refused: shown.refused,
+        mapping,
     }
 }
 

@@ -5,7 +5,6 @@ ghost use Rattle.mergereduce.specs.MergeReduced.{mergeReducedOf};
 ghost use Rattle.c_merge.specs.Numbers.{mergeShown};
 use automaton::Rule;
 use c_merge::MergeNumbers;
-use merging::MergeAnswer;
 
 // Way 0 is a text that both rules accept, 1 a text that either accepts, any other an interleaving
 // of one from each.
@@ -13,19 +12,5 @@ use merging::MergeAnswer;
 pub extern "C" fn bellbadger_merge_reduced(way: u8, one: Rule, two: Rule) -> MergeNumbers
     ensures { λ r. ⌜ r ≡ mergeShown (mergeReducedOf (wayOf way) one two) ⌝ }
 {
-    let merging = mergereduced::merge_reduced(merge::way_of(way), one, two);
-    let answer = merging.answer;
-    let rule = merging.rule;
-    match answer {
-        MergeAnswer::Accepted => MergeNumbers {
-            accepted: 1,
-            refused: 0,
-            rule,
-        },
-        MergeAnswer::Refused(refused) => MergeNumbers {
-            accepted: 0,
-            refused,
-            rule,
-        },
-    }
+    c_merge::in_numbers(mergereduced::merge_reduced(merge::way_of(way), one, two))
 }

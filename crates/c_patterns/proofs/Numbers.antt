@@ -1,11 +1,9 @@
 -- A result in numbers, from what reading a pattern answers. Assumes nothing.
-use mathlib.Core.Path.{_≡_, refl, sym, ap, _∙_}
+use mathlib.Core.Path.{_≡_, refl, ap}
 use mathlib.Core.List.{List}
 use mathlib.Core.Option.{Option, none, some}
 use Prim.Native.Nat.{ℕ, _≤_}
 use Rattle.rulewriter.specs.Written.{Writing}
-use Rattle.patternfile.specs.declared.PatternAnswer.{PatternAnswer}
-use Rattle.patternfile.specs.declared.PatternAnswer.the-variants.{Accepted, Refused}
 use Rattle.patternfile.specs.declared.PatternResult.{PatternResult}
 use Rattle.patternfile.specs.Answers.{patternOf, patternOutcome}
 use Rattle.patternfile.proofs.Claims.{claims}
@@ -14,18 +12,6 @@ use Rattle.c_patterns.specs.Numbers.{patternShown, patternReadBack}
 module _ (b : List ℕ) (r : PatternResult) (told : patternOutcome r ≡ patternOf b) where
   pub small : r .length ≤ 2122
   small = rw (ap (λ (o : Writing). o .length) told) (claims .fits b)
-
-  pub on-accepted : r .answer ≡ Accepted
-      → record { accepted = 1; refused = 0; length = r .length; bytes = r .bytes } ≡ patternShown (patternOf b)
-  on-accepted e =
-      sym (ap (λ (a : PatternAnswer). patternShown (patternOutcome (record { answer = a; length = r .length; bytes = r .bytes }))) e)
-      ∙ ap patternShown told
-
-  pub on-refused : {x : ℕ} → r .answer ≡ Refused x
-      → record { accepted = 0; refused = x; length = r .length; bytes = r .bytes } ≡ patternShown (patternOf b)
-  on-refused e =
-      sym (ap (λ (a : PatternAnswer). patternShown (patternOutcome (record { answer = a; length = r .length; bytes = r .bytes }))) e)
-      ∙ ap patternShown told
 
 back : (o : Option ℕ) (length : ℕ) (bytes : List ℕ)
     → patternReadBack (patternShown (record { number = o; length = length; bytes = bytes })) ≡ record { number = o; length = length; bytes = bytes }

@@ -2,7 +2,6 @@
 ghost use mathlib.Core.Path.{_≡_};
 ghost use Rattle.patternfile.specs.Answers.{patternOf};
 ghost use Rattle.c_patterns.specs.Numbers.{patternShown};
-use patternfile::PatternAnswer;
 
 // Accepted is 1 or 0; where it is 0, refused has the number. The rule file has so many bytes, and
 // zeros after them; where the pattern is refused, none.
@@ -21,20 +20,13 @@ pub extern "C" fn bellbadger_pattern(pattern: &[u8]) -> PatternNumbers
 {
     let result = patternfile::write_pattern(pattern);
     let answer = result.answer;
+    let shown = flags::shown(answer);
     let length = result.length as u16;
     let bytes = result.bytes;
-    match answer {
-        PatternAnswer::Accepted => PatternNumbers {
-            accepted: 1,
-            refused: 0,
-            length,
-            bytes,
-        },
-        PatternAnswer::Refused(refused) => PatternNumbers {
-            accepted: 0,
-            refused,
-            length,
-            bytes,
-        },
+    PatternNumbers {
+        accepted: shown.accepted,
+        refused: shown.refused,
+        length,
+        bytes,
     }
 }

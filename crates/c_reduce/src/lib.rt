@@ -3,7 +3,6 @@ ghost use mathlib.Core.Path.{_≡_};
 ghost use Rattle.reducing.specs.Reducing.{reduceOf};
 ghost use Rattle.c_reduce.specs.Numbers.{reduceShown};
 use automaton::Rule;
-use reducing::ReduceAnswer;
 
 // Accepted is 1 or 0; where it is 0, refused has the number, and installs and every number of the
 // rule are 0. Installs is 1 where installing the reduced rule is accepted.
@@ -22,20 +21,13 @@ pub extern "C" fn bellbadger_reduce(rule: Rule) -> ReduceNumbers
 {
     let reducing = reduce::reduce(rule);
     let answer = reducing.answer;
+    let shown = flags::shown(answer);
     let installs = flags::bit(reducing.installs);
     let made = reducing.rule;
-    match answer {
-        ReduceAnswer::Accepted => ReduceNumbers {
-            accepted: 1,
-            refused: 0,
-            installs,
-            rule: made,
-        },
-        ReduceAnswer::Refused(refused) => ReduceNumbers {
-            accepted: 0,
-            refused,
-            installs,
-            rule: made,
-        },
+    ReduceNumbers {
+        accepted: shown.accepted,
+        refused: shown.refused,
+        installs,
+        rule: made,
     }
 }

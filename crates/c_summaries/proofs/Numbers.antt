@@ -1,23 +1,12 @@
--- The numbers of each case of an answer are those of what it says; and they are read back. Assumes
--- nothing.
-use mathlib.Core.Path.{_≡_, refl, sym, ap, _∙_}
+-- The law of the numbers: by that of the flags, and by cases. Assumes nothing.
+use mathlib.Core.Path.{_≡_, refl}
 use mathlib.Core.Option.{Option, none, some}
 use Prim.Native.Nat.{ℕ}
 use Rattle.flags.proofs.Flags as flags
 use Rattle.calls.specs.Replies.{Judgement, waiting, yesWith, noWith, refusedWith, Reported}
 use Rattle.summaries.specs.declared.Summary.{Summary}
-use Rattle.summaries.specs.declared.SummaryAnswer.{SummaryAnswer}
-use Rattle.summaries.specs.declared.SummaryAnswer.the-variants.{Accepted, Refused}
-use Rattle.summaries.specs.declared.SummaryResult.{SummaryResult}
-use Rattle.summaries.specs.Summaries.{summaryMeans, Summarized, summaryOutcome}
+use Rattle.summaries.specs.Summaries.{Summarized}
 use Rattle.c_summaries.specs.Numbers.{summaryShown, concludeShown, summaryReadBack, concludeReadBack, Claims}
-
-module _ (r : SummaryResult) (o : Summarized) (is : summaryOutcome r ≡ o) where
-  pub summary-accepted : r .answer ≡ Accepted → record { accepted = 1; refused = 0; summary = r .summary } ≡ summaryShown o
-  summary-accepted e = ap summaryShown (sym (ap (λ (a : SummaryAnswer). record { refusal = summaryMeans a; summary = r .summary }) e) ∙ is)
-
-  pub summary-refused : (x : ℕ) → r .answer ≡ Refused x → record { accepted = 0; refused = x; summary = r .summary } ≡ summaryShown o
-  summary-refused x e = ap summaryShown (sym (ap (λ (a : SummaryAnswer). record { refusal = summaryMeans a; summary = r .summary }) e) ∙ is)
 
 summary-back : (s : Summarized) → summaryReadBack (summaryShown s) ≡ s
 summary-back s = of (s .refusal) (s .summary)

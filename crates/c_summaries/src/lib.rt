@@ -9,7 +9,6 @@ use calls::Judge;
 use calls::Report;
 use calls::Verdict;
 use summaries::Summary;
-use summaries::SummaryAnswer;
 
 // Accepted is 1 or 0; where it is 0, refused has the number, and the summary is broken, with zeros
 // in every other field.
@@ -49,18 +48,12 @@ pub extern "C" fn bellbadger_summarize(judge: Judge, number: u64, chunk: &[u8]) 
 {
     let made = summaries::summarize(judge, number, chunk);
     let answer = made.answer;
+    let shown = flags::shown(answer);
     let summary = made.summary;
-    match answer {
-        SummaryAnswer::Accepted => SummaryNumbers {
-            accepted: 1,
-            refused: 0,
-            summary,
-        },
-        SummaryAnswer::Refused(refused) => SummaryNumbers {
-            accepted: 0,
-            refused,
-            summary,
-        },
+    SummaryNumbers {
+        accepted: shown.accepted,
+        refused: shown.refused,
+        summary,
     }
 }
 

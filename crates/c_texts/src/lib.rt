@@ -1,6 +1,5 @@
 // Making test texts for C, Rust and Python. The answer is numbers.
 ghost use Rattle.c_texts.specs.Numbers.{MakesShown};
-use madetexts::MadeAnswer;
 
 // Accepted is 1 or 0; where it is 0, refused has the number.
 #[repr(C)]
@@ -14,15 +13,9 @@ pub struct MadeNumbers {
 pub extern "C" fn bellbadger_make_text(k: usize, seed: u64, text: &mut [u8]) -> MadeNumbers
     ensures { λ r. ⌜ MakesShown k seed (now (text .entry)) r (now (text .exit)) ⌝ }
 {
-    let answer = madetexts::make_text(k, seed, text);
-    match answer {
-        MadeAnswer::Made => MadeNumbers {
-            accepted: 1,
-            refused: 0,
-        },
-        MadeAnswer::Refused(refused) => MadeNumbers {
-            accepted: 0,
-            refused,
-        },
+    let shown = flags::shown(madetexts::make_text(k, seed, text));
+    MadeNumbers {
+        accepted: shown.accepted,
+        refused: shown.refused,
     }
 }

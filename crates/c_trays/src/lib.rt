@@ -5,9 +5,8 @@ ghost use Rattle.trays.specs.Replies.{verdictMeans};
 ghost use Rattle.trays.specs.mirror.Steps.{fresh, installOutcome, callOutcome, installRowOf, installColumnOf, openOf, deliverOf, withdrawOf, verdictOf};
 ghost use Rattle.c_trays.specs.Numbers.{installShown, callShown, kindOf, numberOf, verdictShown};
 use automaton::Rule;
-use trays::CallAnswer;
+use build::BuildAnswer;
 use trays::CallResult;
-use trays::InstallAnswer;
 use trays::InstallResult;
 use trays::Tray;
 use trays::TrayVerdict;
@@ -63,14 +62,14 @@ fn install_numbers(result: InstallResult) -> InstallNumbers
     let answer = result.answer;
     let tray = result.tray;
     match answer {
-        InstallAnswer::Accepted(sets, starts) => InstallNumbers {
+        BuildAnswer::Accepted(sets, starts) => InstallNumbers {
             accepted: 1,
             refused: 0,
             sets,
             starts,
             tray,
         },
-        InstallAnswer::Refused(refused) => InstallNumbers {
+        BuildAnswer::Refused(refused) => InstallNumbers {
             accepted: 0,
             refused,
             sets: 0,
@@ -99,18 +98,12 @@ fn call_numbers(result: CallResult) -> CallNumbers
     ensures { λ r. ⌜ r ≡ callShown (callOutcome result) ⌝ }
 {
     let answer = result.answer;
+    let shown = flags::shown(answer);
     let tray = result.tray;
-    match answer {
-        CallAnswer::Accepted => CallNumbers {
-            accepted: 1,
-            refused: 0,
-            tray,
-        },
-        CallAnswer::Refused(refused) => CallNumbers {
-            accepted: 0,
-            refused,
-            tray,
-        },
+    CallNumbers {
+        accepted: shown.accepted,
+        refused: shown.refused,
+        tray,
     }
 }
 

@@ -8,8 +8,8 @@ use Prim.Native.Nat.{ℕ}
 use Rattle.ruleformat.specs.Refusals.{refusal}
 use Rattle.ruleformat.specs.Reader.{ruleOf}
 use Rattle.calls.specs.declared.Judge.{Judge}
-use Rattle.calls.specs.Calls.{loadNumber}
-use Rattle.calls.specs.mirror.Steps.{outcomeBy, withRule, installReply, installOf, loadOf}
+use Rattle.calls.specs.Calls.{loadNumber, withSets}
+use Rattle.calls.specs.mirror.Steps.{outcomeBy, withRule, installOf, loadOf}
 use Rattle.calls.specs.Claims.{As-installing, LoadIs}
 use Rattle.calls.proofs.Conditions.{install-number, load-number, load-installs}
 
@@ -21,7 +21,7 @@ module _ (j : Judge) (f : List ℕ) where
   unfolding installOf loadOf
   load-is = record {
     unread = λ x e. rw (read-first x e);
-    installed = λ e. ap (λ (o : Option ℕ). outcomeBy o (installReply (ruleOf f)) j (withRule (ruleOf f))) (load-installs f e);
+    installed = λ e. ap (λ (o : Option ℕ). outcomeBy o (withSets (ruleOf f)) j (withRule (ruleOf f))) (load-installs f e);
   }
 
 -- the check of a rule as a value gives the number that installing gives

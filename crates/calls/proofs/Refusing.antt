@@ -13,8 +13,8 @@ use Rattle.ruleformat.specs.Reader.{ruleOf}
 use Rattle.board.specs.Boards.{placesOf, isEmpty, comesLate, emptyBoard, filledAt, clearedAt}
 use Rattle.calls.specs.declared.Judge.{Judge}
 use Rattle.calls.specs.Replies.{Judgement, waiting, yesWith, noWith, refusedWith, refusalIn, Reported, Reply, accepted, installed, judged, refused, refusalOf, delivered}
-use Rattle.calls.specs.Calls.{installs, loads, opens, delivers, withdraws, asksVerdict, installNumber, loadNumber, openConditions, deliverConditions, withdrawConditions}
-use Rattle.calls.specs.mirror.Steps.{lacksRule, lacksBoard, withBoard, runsAt, outcomeBy, withRule, installReply, installOf, loadOf, openOf, deliverOf, withdrawOf}
+use Rattle.calls.specs.Calls.{installs, loads, opens, delivers, withdraws, asksVerdict, installNumber, loadNumber, openConditions, deliverConditions, withdrawConditions, withSets}
+use Rattle.calls.specs.mirror.Steps.{lacksRule, lacksBoard, withBoard, runsAt, outcomeBy, withRule, installOf, loadOf, openOf, deliverOf, withdrawOf}
 use Rattle.calls.specs.Claims.{Unchanged}
 
 refused-in : (v : Judgement) (x : ℕ) → refusalIn v ≡ some x → v ≡ refusedWith x
@@ -41,8 +41,8 @@ by-number (some m) a j next taken x e = refl
 
 pub unchanged : Unchanged
 unfolding installOf loadOf openOf deliverOf withdrawOf
-unchanged j (installs r) = by-number (installNumber r) (installReply r) j (withRule r) refl
-unchanged j (loads f) = by-number (loadNumber f) (installReply (ruleOf f)) j (withRule (ruleOf f)) refl
+unchanged j (installs r) = by-number (installNumber r) (withSets r) j (withRule r) refl
+unchanged j (loads f) = by-number (loadNumber f) (withSets (ruleOf f)) j (withRule (ruleOf f)) refl
 unchanged j (opens n) = by-number (firstOf (openConditions (lacksRule j) n)) accepted j (withBoard j (emptyBoard n)) refl
 unchanged j (delivers p v w) =
     by-number

@@ -17,14 +17,14 @@ use mathlib.Core.Option.{none, some}
 use Prim.Native.Nat.{ℕ, _/_, _%_, _≤_, _<_}
 use lib.ListN.{length}
 use borrow.Author.Tests.{lt-ltb, le-ltb, le-leb, lt-leb, eq-eqb, ne-eqb}
+use Rattle.base.specs.Answers.{answerNumber}
 use Rattle.base.proofs.Tests.{by-test, zero-one}
 use Rattle.automaton.specs.declared.Rule.{Rule}
-use Rattle.rulecheck.specs.declared.CheckAnswer.{CheckAnswer}
-use Rattle.rulecheck.specs.declared.CheckAnswer.the-variants as check
-use Rattle.rulecheck.specs.Checking.{ruleNumber, checkMeans}
-use Rattle.ruleformat.specs.declared.ReadAnswer.the-variants as reading
+use Rattle.base.specs.declared.Answer.{Answer}
+use Rattle.base.specs.declared.Answer.the-variants as check
+use Rattle.rulecheck.specs.Checking.{ruleNumber}
 use Rattle.ruleformat.specs.declared.ReadResult.{ReadResult}
-use Rattle.ruleformat.specs.Reader.{readMeans, Reading, readOutcome, readOf}
+use Rattle.ruleformat.specs.Reader.{Reading, readOutcome, readOf}
 use Rattle.ruleformat.proofs.Claims as rulefile
 use Rattle.build.specs.declared.BuildAnswer.the-variants as build
 use Rattle.build.specs.declared.Built.{Built}
@@ -172,18 +172,18 @@ module _ (j : Judge) (r : Rule) where
   unfolding installOf
   refused-with number told o e = e ∙ rw told
 
-  module _ (a : CheckAnswer) (checked : checkMeans a ≡ ruleNumber r) where
+  module _ (a : Answer) (checked : answerNumber a ≡ ruleNumber r) where
     -- the rule does not pass
     pub install-unchecked : (number : ℕ) → a ≡ check.Refused number
         → (o : Outcome) → o ≡ record { reply = reply.refused number; state = j } → o ≡ installOf j r
     install-unchecked number told =
-        let is : ruleNumber r ≡ some number = sym checked ∙ ap checkMeans told in
+        let is : ruleNumber r ≡ some number = sym checked ∙ ap answerNumber told in
         refused-with number (install-number r ∙ rw is)
 
-    module _ (told : a ≡ check.Passed) (b : BuildResult) (came : buildOutcome b ≡ buildOf r) where
+    module _ (told : a ≡ check.Accepted) (b : BuildResult) (came : buildOutcome b ≡ buildOf r) where
       number-is : installNumber r ≡ cond (over r) (some 9) none
       number-is =
-          let passes : ruleNumber r ≡ none = sym checked ∙ ap checkMeans told in
+          let passes : ruleNumber r ≡ none = sym checked ∙ ap answerNumber told in
           install-number r ∙ rw passes
 
       -- it has too many sets
@@ -221,13 +221,13 @@ module _ (j : Judge) (r : Rule) where
 -- ---- load
 module _ (j : Judge) (f : List ℕ) (read : ReadResult) (reads : readOutcome read ≡ readOf f) where
   -- the file is refused
-  pub load-unread : (number : ℕ) → read .answer ≡ reading.Refused number
+  pub load-unread : (number : ℕ) → read .answer ≡ check.Refused number
       → (o : Outcome) → o ≡ record { reply = reply.refused number; state = j } → o ≡ loadOf j f
   load-unread number told o e =
-      e ∙ sym (load-is j f .unread number (ap (λ (x : Reading). x .number) (sym reads) ∙ ap readMeans told))
+      e ∙ sym (load-is j f .unread number (ap (λ (x : Reading). x .number) (sym reads) ∙ ap answerNumber told))
 
   -- its rule is installed
-  pub load-read : read .answer ≡ reading.Accepted → (o : Outcome) → o ≡ installOf j (read .rule) → o ≡ loadOf j f
+  pub load-read : read .answer ≡ check.Accepted → (o : Outcome) → o ≡ installOf j (read .rule) → o ≡ loadOf j f
   load-read told o e =
-      let taken = ap (λ (x : Reading). x .number) (sym reads) ∙ ap readMeans told in
+      let taken = ap (λ (x : Reading). x .number) (sym reads) ∙ ap answerNumber told in
       e ∙ ap (installOf j) (ap (λ (x : Reading). x .rule) reads ∙ rulefile.claims .reading f .rule taken) ∙ sym (load-is j f .installed taken)

@@ -12,6 +12,7 @@
 --                      or 9, or none where it is accepted
 --   loadNumber f       the number with which a load of the file f is refused, document 01's 1 to 9
 --                      in one order, or none where it is accepted
+--   withSets r         what the installation of the rule r is answered where it is accepted
 --   openConditions, deliverConditions, withdrawConditions   20, 10; 21, 11, 12, 13, 22; 21, 11, 23
 --   verdictBy          what a verdict says: by whether no board is there, the number of empty
 --                      places, whether the join says yes, and the sum of the counts
@@ -33,9 +34,10 @@ use Rattle.automaton.specs.declared.Rule.{Rule}
 use Rattle.rulecheck.specs.Checking.{ruleConditions}
 use Rattle.ruleformat.specs.Refusals.{fileConditions}
 use Rattle.ruleformat.specs.Reader.{ruleOf}
-use Rattle.subsets.specs.Sets.{tooMany}
+use Rattle.subsets.specs.Sets.{setsOf, tooMany}
+use Rattle.delegates.specs.Claims.{startsIn}
 use Rattle.chunks.specs.Chunks.{foreign}
-use Rattle.calls.specs.Replies.{Judgement, waiting, yesWith, noWith, refusedWith, Reported}
+use Rattle.calls.specs.Replies.{Judgement, waiting, yesWith, noWith, refusedWith, Reported, Reply, installed}
 
 pub data Call : Type 0 where
   installs : Rule → Call
@@ -59,6 +61,10 @@ installNumber r = firstOf (ruleConditions r ++ manySets r)
 -- those of the file, then 9
 unfoldable pub loadNumber : List ℕ → Option ℕ
 loadNumber f = firstOf (fileConditions f ++ manySets (ruleOf f))
+
+-- a rule that is installed: the number of its sets, and M
+abbrev pub withSets : Rule → Reply
+withSets r = installed (length (setsOf (r .targets) (r .n) (r .k))) (startsIn r .startcount)
 
 -- no rule is there; n places are asked for
 abbrev pub openConditions : Bool → ℕ → List Condition

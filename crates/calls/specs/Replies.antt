@@ -16,22 +16,19 @@
 --   refusalIn v, refusalOf a   the number of the refusal, or none where v or a is none
 --   installMeans .. verdictMeans, reportMeans   what each case of the code's answers says
 --   Outcome              the outcome of a call: its reply, and the state that it leaves
---   installOutcome .. withdrawOutcome   the outcome that the code's result stands for
+--   installOutcome .. deliverOutcome   the outcome that the code's result stands for
 use mathlib.Core.Option.{Option, none, some}
 use Prim.Native.Nat.{ℕ}
-use Rattle.calls.specs.declared.InstallAnswer.{InstallAnswer}
-use Rattle.calls.specs.declared.InstallAnswer.the-variants as install
-use Rattle.calls.specs.declared.OpenAnswer.{OpenAnswer}
-use Rattle.calls.specs.declared.OpenAnswer.the-variants as opening
+use Rattle.build.specs.declared.BuildAnswer.{BuildAnswer}
+use Rattle.build.specs.declared.BuildAnswer.the-variants as install
+use Rattle.base.specs.declared.Answer.{Answer}
+use Rattle.base.specs.declared.Answer.the-variants as call
 use Rattle.calls.specs.declared.DeliverAnswer.{DeliverAnswer}
 use Rattle.calls.specs.declared.DeliverAnswer.the-variants as delivery
-use Rattle.calls.specs.declared.WithdrawAnswer.{WithdrawAnswer}
-use Rattle.calls.specs.declared.WithdrawAnswer.the-variants as withdrawal
 use Rattle.calls.specs.declared.Judge.{Judge}
 use Rattle.calls.specs.declared.InstallResult.{InstallResult}
-use Rattle.calls.specs.declared.OpenResult.{OpenResult}
+use Rattle.calls.specs.declared.CallResult.{CallResult}
 use Rattle.calls.specs.declared.DeliverResult.{DeliverResult}
-use Rattle.calls.specs.declared.WithdrawResult.{WithdrawResult}
 use Rattle.calls.specs.declared.Report.{Report}
 use Rattle.calls.specs.declared.Verdict.{Verdict}
 use Rattle.calls.specs.declared.Verdict.the-variants.{Waiting, Yes, No, Refused}
@@ -68,21 +65,17 @@ refusalOf (delivered looked) = none
 refusalOf (judged r) = refusalIn (r .verdict)
 refusalOf (refused number) = some number
 
-abbrev pub installMeans : InstallAnswer → Reply
+abbrev pub installMeans : BuildAnswer → Reply
 installMeans (install.Accepted sets starts) = installed sets starts
 installMeans (install.Refused number) = refused number
 
-abbrev pub openMeans : OpenAnswer → Reply
-openMeans opening.Accepted = accepted
-openMeans (opening.Refused number) = refused number
+abbrev pub callMeans : Answer → Reply
+callMeans call.Accepted = accepted
+callMeans (call.Refused number) = refused number
 
 abbrev pub deliverMeans : DeliverAnswer → Reply
 deliverMeans (delivery.Accepted looked) = delivered looked
 deliverMeans (delivery.Refused number) = refused number
-
-abbrev pub withdrawMeans : WithdrawAnswer → Reply
-withdrawMeans withdrawal.Accepted = accepted
-withdrawMeans (withdrawal.Refused number) = refused number
 
 abbrev pub verdictMeans : Verdict → Judgement
 verdictMeans (Waiting empty) = waiting empty
@@ -101,11 +94,8 @@ pub record Outcome : Type 0 where
 abbrev pub installOutcome : InstallResult → Outcome
 installOutcome r = record { reply = installMeans (r .answer); state = r .judge }
 
-abbrev pub openOutcome : OpenResult → Outcome
-openOutcome r = record { reply = openMeans (r .answer); state = r .judge }
+abbrev pub callOutcome : CallResult → Outcome
+callOutcome r = record { reply = callMeans (r .answer); state = r .judge }
 
 abbrev pub deliverOutcome : DeliverResult → Outcome
 deliverOutcome r = record { reply = deliverMeans (r .answer); state = r .judge }
-
-abbrev pub withdrawOutcome : WithdrawResult → Outcome
-withdrawOutcome r = record { reply = withdrawMeans (r .answer); state = r .judge }

@@ -1,6 +1,8 @@
 // The state of the judge and the answers of its calls. The outcome of each call is in specs/;
 // crates/judge has the calls.
+use base::Answer;
 use board::Board;
+use build::BuildAnswer;
 use build::Built;
 
 // The state. A rule is there when built.n is not 0, a board when board.places is not 0; in a fresh
@@ -11,25 +13,9 @@ pub struct Judge {
     pub board: Board,
 }
 
-// What installing a rule answers, and loading a file: the number of sets and M, or a refusal.
-pub enum InstallAnswer {
-    Accepted(u16, u8),
-    Refused(u8),
-}
-
-pub enum OpenAnswer {
-    Accepted,
-    Refused(u8),
-}
-
 // The number of text bytes for which any successor was looked up, or a refusal.
 pub enum DeliverAnswer {
     Accepted(u32),
-    Refused(u8),
-}
-
-pub enum WithdrawAnswer {
-    Accepted,
     Refused(u8),
 }
 
@@ -50,22 +36,19 @@ pub struct Report {
 }
 
 // Each call that may change the state answers with the next state beside the answer.
+// Of installing a rule and of loading a file: the number of sets and M, or a refusal.
 pub struct InstallResult {
-    pub answer: InstallAnswer,
+    pub answer: BuildAnswer,
     pub judge: Judge,
 }
 
-pub struct OpenResult {
-    pub answer: OpenAnswer,
+// Of opening and of withdrawing.
+pub struct CallResult {
+    pub answer: Answer,
     pub judge: Judge,
 }
 
 pub struct DeliverResult {
     pub answer: DeliverAnswer,
-    pub judge: Judge,
-}
-
-pub struct WithdrawResult {
-    pub answer: WithdrawAnswer,
     pub judge: Judge,
 }

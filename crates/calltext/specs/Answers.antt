@@ -12,7 +12,7 @@ use mathlib.Core.Bool.{Bool, true, false}
 use mathlib.Core.List.{List, [], _∷_}
 use Prim.Native.Nat.{ℕ}
 use Rattle.answers.specs.Answers.{lineOf, acceptedWord, waitingWord, refusedText, malformedText}
-use Rattle.calls.specs.Replies.{Judgement, waiting, yesWith, noWith, refusedWith, Reply, accepted, installed, judged, refused, installMeans, openMeans, deliverMeans, withdrawMeans, reportMeans, delivered}
+use Rattle.calls.specs.Replies.{Judgement, waiting, yesWith, noWith, refusedWith, Reply, accepted, installed, judged, refused, installMeans, callMeans, deliverMeans, reportMeans, delivered}
 use Rattle.calltext.specs.declared.LineAnswer.{LineAnswer}
 use Rattle.calltext.specs.declared.LineAnswer.the-variants.{Began, Install, Open, Deliver, Withdraw, Verdict, Malformed}
 
@@ -53,8 +53,8 @@ responseText unread = malformedText
 abbrev pub answerMeans : LineAnswer → Response
 answerMeans Began = began
 answerMeans (Install a) = replied (installMeans a)
-answerMeans (Open a) = replied (openMeans a)
+answerMeans (Open a) = replied (callMeans a)
 answerMeans (Deliver a) = replied (deliverMeans a)
-answerMeans (Withdraw a) = replied (withdrawMeans a)
+answerMeans (Withdraw a) = replied (callMeans a)
 answerMeans (Verdict r) = replied (judged (reportMeans r))
 answerMeans Malformed = unread

@@ -11,13 +11,12 @@ ghost use Rattle.fields.specs.Numbers.{parseNumber};
 ghost use Rattle.lines.specs.Splitting.{upTo, past};
 ghost use Rattle.calltext.specs.Meaning.{openBy, withdrawBy, revisionFields, deliverFields, lineMeans, bytesFrom, Parsed};
 ghost use Rattle.calltext.specs.Answers.{replied, isMalformed, responseText, answerMeans};
-ghost use Rattle.calls.specs.Replies.{accepted, judged, installMeans, openMeans, deliverMeans, withdrawMeans, reportMeans};
+ghost use Rattle.calls.specs.Replies.{accepted, judged, installMeans, callMeans, deliverMeans, reportMeans};
+use base::Answer;
+use build::BuildAnswer;
 use calls::DeliverAnswer;
-use calls::InstallAnswer;
-use calls::OpenAnswer;
 use calls::Report;
 use calls::Verdict;
-use calls::WithdrawAnswer;
 use fields::Number;
 
 // A line. The bytes of a load begin at index 5, those of an installation at 8, those of a delivery
@@ -123,10 +122,10 @@ pub fn parse(line: &[u8]) -> Line
 // type of answer as an installation, with the numbers 1 to 9.
 pub enum LineAnswer {
     Began,
-    Install(InstallAnswer),
-    Open(OpenAnswer),
+    Install(BuildAnswer),
+    Open(Answer),
     Deliver(DeliverAnswer),
-    Withdraw(WithdrawAnswer),
+    Withdraw(Answer),
     Verdict(Report),
     Malformed,
 }
@@ -140,26 +139,26 @@ fn put_accepted(out: &mut [u8]) -> usize
 }
 
 // What a call is answered, a function for each type of answer.
-fn put_install(out: &mut [u8], answer: InstallAnswer) -> usize
+fn put_install(out: &mut [u8], answer: BuildAnswer) -> usize
     requires { ⌜ answerRoom ≤ length (now out) ⌝ }
     ensures { λ r. ⌜ Wrote (now (out .entry)) 0 (responseText (replied (installMeans answer))) (now (out .exit)) r ⌝ }
 {
     match answer {
-        InstallAnswer::Accepted(sets, starts) => {
+        BuildAnswer::Accepted(sets, starts) => {
             let numbers = [sets as u64, starts as u64];
             answers::put_line(out, 0, b"accepted", &numbers)
         }
-        InstallAnswer::Refused(number) => answers::put_refused(out, 0, number),
+        BuildAnswer::Refused(number) => answers::put_refused(out, 0, number),
     }
 }
 
-fn put_open(out: &mut [u8], answer: OpenAnswer) -> usize
+fn put_open(out: &mut [u8], answer: Answer) -> usize
     requires { ⌜ answerRoom ≤ length (now out) ⌝ }
-    ensures { λ r. ⌜ Wrote (now (out .entry)) 0 (responseText (replied (openMeans answer))) (now (out .exit)) r ⌝ }
+    ensures { λ r. ⌜ Wrote (now (out .entry)) 0 (responseText (replied (callMeans answer))) (now (out .exit)) r ⌝ }
 {
     match answer {
-        OpenAnswer::Accepted => put_accepted(out),
-        OpenAnswer::Refused(number) => answers::put_refused(out, 0, number),
+        Answer::Accepted => put_accepted(out),
+        Answer::Refused(number) => answers::put_refused(out, 0, number),
     }
 }
 
@@ -176,13 +175,13 @@ fn put_deliver(out: &mut [u8], answer: DeliverAnswer) -> usize
     }
 }
 
-fn put_withdraw(out: &mut [u8], answer: WithdrawAnswer) -> usize
+fn put_withdraw(out: &mut [u8], answer: Answer) -> usize
     requires { ⌜ answerRoom ≤ length (now out) ⌝ }
-    ensures { λ r. ⌜ Wrote (now (out .entry)) 0 (responseText (replied (withdrawMeans answer))) (now (out .exit)) r ⌝ }
+    ensures { λ r. ⌜ Wrote (now (out .entry)) 0 (responseText (replied (callMeans answer))) (now (out .exit)) r ⌝ }
 {
     match answer {
-        WithdrawAnswer::Accepted => put_accepted(out),
-        WithdrawAnswer::Refused(number) => answers::put_refused(out, 0, number),
+        Answer::Accepted => put_accepted(out),
+        Answer::Refused(number) => answers::put_refused(out, 0, number),
     }
 }
 

@@ -9,20 +9,17 @@ laws = record {
   flags = record {
     of-reading = λ r. flags.claims .flags (r .number);
     of-installing = λ o. flags.claims .flags (refusalOf (o .reply));
-    of-opening = λ o. flags.claims .flags (refusalOf (o .reply));
+    of-calls = λ o. flags.claims .flags (refusalOf (o .reply));
     of-delivering = λ o. flags.claims .flags (refusalOf (o .reply));
-    of-withdrawing = λ o. flags.claims .flags (refusalOf (o .reply));
   };
   values = record {
     rule = λ r. refl;
     install-accepted = λ s m j. refl;
     install-refused = λ x j. refl;
-    open-accepted = λ j. refl;
-    open-refused = λ x j. refl;
+    call-accepted = λ j. refl;
+    call-refused = λ x j. refl;
     deliver-accepted = λ n j. refl;
     deliver-refused = λ x j. refl;
-    withdraw-accepted = λ j. refl;
-    withdraw-refused = λ x j. refl;
   };
   kinds = record {
     refused-is-0 = λ x b q m. (refl, refl);

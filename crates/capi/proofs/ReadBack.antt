@@ -17,7 +17,7 @@ use Rattle.calls.specs.Calls.{installNumber, loadNumber, openConditions, delive
 use Rattle.calls.specs.mirror.Steps.{lacksRule, lacksBoard, withBoard, outcomeBy, withRule, runsAt, installOf, loadOf, openOf, deliverOf, withdrawOf, reportOf}
 use Rattle.histories.specs.History.{reportIn}
 use Rattle.replay.specs.Records.{Recorded, calls, malformedAt, verdict, replayOf}
-use Rattle.capi.specs.Numbers.{readShown, installShown, openShown, deliverShown, withdrawShown, kindOf, numberOf, verdictShown, replayShown, readReadBack, installReadBack, openReadBack, deliverReadBack, withdrawReadBack, judgementBack, verdictReadBack, replayReadBack}
+use Rattle.capi.specs.Numbers.{readShown, installShown, callShown, deliverShown, kindOf, numberOf, verdictShown, replayShown, readReadBack, installReadBack, callReadBack, deliverReadBack, judgementBack, verdictReadBack, replayReadBack}
 use Rattle.capi.specs.Claims.{Claims}
 
 -- of whatever number and rule a reading answers
@@ -37,7 +37,7 @@ module _ (j next : Judge) where
   deliver-by (some x) looked = refl
 
   -- of an opening and a withdrawal
-  taken-by : (number : Option ℕ) → openReadBack (openShown (outcomeBy number accepted j next)) ≡ outcomeBy number accepted j next
+  taken-by : (number : Option ℕ) → callReadBack (callShown (outcomeBy number accepted j next)) ≡ outcomeBy number accepted j next
   taken-by none = refl
   taken-by (some x) = refl
 
@@ -74,7 +74,7 @@ unfolding loadOf
 load-read-back j f =
     let r = ruleOf f in install-by j (withRule r) (loadNumber f) (builtOf r .setcount) (builtOf r .startcount)
 
-open-read-back : (j : Judge) (n : ℕ) → openReadBack (openShown (openOf j n)) ≡ openOf j n
+open-read-back : (j : Judge) (n : ℕ) → callReadBack (callShown (openOf j n)) ≡ openOf j n
 unfolding openOf
 open-read-back j n = taken-by j (withBoard j (emptyBoard n)) (firstOf (openConditions (lacksRule j) n))
 
@@ -86,7 +86,7 @@ deliver-read-back j p v w =
     (deliverConditions (lacksBoard j) (placesOf (j .board)) p w (j .built .k) (comesLate (j .board) p v)))
     (runsAt j p w .looked)
 
-withdraw-read-back : (j : Judge) (p : ℕ) → withdrawReadBack (withdrawShown (withdrawOf j p)) ≡ withdrawOf j p
+withdraw-read-back : (j : Judge) (p : ℕ) → callReadBack (callShown (withdrawOf j p)) ≡ withdrawOf j p
 unfolding withdrawOf
 withdraw-read-back j p =
     taken-by j (withBoard j (clearedAt (j .board) p))

@@ -14,14 +14,13 @@ use Rattle.ruleformat.specs.Reader.{Reading}
 use Rattle.calls.specs.declared.Judge.{Judge}
 use Rattle.calls.specs.Replies.{Judgement, waiting, yesWith, noWith, refusedWith, accepted, installed, delivered, refused, refusalOf, Outcome}
 use Rattle.replay.specs.Records.{verdict, malformedLine}
-use Rattle.capi.specs.Numbers.{readShown, installShown, openShown, deliverShown, withdrawShown, verdictShown, replayShown}
+use Rattle.capi.specs.Numbers.{readShown, installShown, callShown, deliverShown, verdictShown, replayShown}
 
 pub record Flags : Type 0 where
   pub of-reading : (r : Reading) → FlagLaw (r .number) (readShown r .accepted) (readShown r .refused)
   pub of-installing : (o : Outcome) → FlagLaw (refusalOf (o .reply)) (installShown o .accepted) (installShown o .refused)
-  pub of-opening : (o : Outcome) → FlagLaw (refusalOf (o .reply)) (openShown o .accepted) (openShown o .refused)
+  pub of-calls : (o : Outcome) → FlagLaw (refusalOf (o .reply)) (callShown o .accepted) (callShown o .refused)
   pub of-delivering : (o : Outcome) → FlagLaw (refusalOf (o .reply)) (deliverShown o .accepted) (deliverShown o .refused)
-  pub of-withdrawing : (o : Outcome) → FlagLaw (refusalOf (o .reply)) (withdrawShown o .accepted) (withdrawShown o .refused)
 
 pub record Values : Type 0 where
   pub rule : (r : Reading) → readShown r .rule ≡ r .rule
@@ -30,14 +29,13 @@ pub record Values : Type 0 where
       → installShown (record { reply = installed s m; state = j }) ≡ record { accepted = 1; refused = 0; sets = s; starts = m; judge = j }
   pub install-refused : (x : ℕ) (j : Judge)
       → installShown (record { reply = refused x; state = j }) ≡ record { accepted = 0; refused = x; sets = 0; starts = 0; judge = j }
-  pub open-accepted : (j : Judge) → openShown (record { reply = accepted; state = j }) ≡ record { accepted = 1; refused = 0; judge = j }
-  pub open-refused : (x : ℕ) (j : Judge) → openShown (record { reply = refused x; state = j }) ≡ record { accepted = 0; refused = x; judge = j }
+  -- of opening and of withdrawing
+  pub call-accepted : (j : Judge) → callShown (record { reply = accepted; state = j }) ≡ record { accepted = 1; refused = 0; judge = j }
+  pub call-refused : (x : ℕ) (j : Judge) → callShown (record { reply = refused x; state = j }) ≡ record { accepted = 0; refused = x; judge = j }
   pub deliver-accepted : (n : ℕ) (j : Judge)
       → deliverShown (record { reply = delivered n; state = j }) ≡ record { accepted = 1; refused = 0; looked = n; judge = j }
   pub deliver-refused : (x : ℕ) (j : Judge)
       → deliverShown (record { reply = refused x; state = j }) ≡ record { accepted = 0; refused = x; looked = 0; judge = j }
-  pub withdraw-accepted : (j : Judge) → withdrawShown (record { reply = accepted; state = j }) ≡ record { accepted = 1; refused = 0; judge = j }
-  pub withdraw-refused : (x : ℕ) (j : Judge) → withdrawShown (record { reply = refused x; state = j }) ≡ record { accepted = 0; refused = x; judge = j }
 
 abbrev pub Reported-as : Judgement → ℕ → ℕ → Type 0
 Reported-as v kind number =

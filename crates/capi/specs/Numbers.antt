@@ -4,7 +4,8 @@
 --   flagOf a, refusedOf a        the fields `accepted` and `refused` for the reply a
 --   setsField a, startsField a, lookedField a   the fields `sets`, `starts` and `looked`
 --   readShown r                  what reading answers: the rule is all zeros where it is refused
---   installShown .. withdrawShown   an outcome as a result; that of a load is an installation's
+--   installShown .. deliverShown   an outcome as a result: of an installation and of a load, of
+--                                opening and of withdrawing, of a delivery
 --   kindOf v, numberOf v         a verdict: kind 0 refused, 1 waiting, 2 yes, 3 no, each with its
 --                                number
 --   verdictShown r               what the call verdict reports: its kind and number, and the bytes,
@@ -23,9 +24,8 @@ use Rattle.calls.specs.Replies.{Judgement, waiting, yesWith, noWith, refusedWit
 use Rattle.replay.specs.Records.{ReplayReply, verdict, malformedLine}
 use Rattle.capi.specs.declared.ReadNumbers.{ReadNumbers}
 use Rattle.capi.specs.declared.InstallNumbers.{InstallNumbers}
-use Rattle.capi.specs.declared.OpenNumbers.{OpenNumbers}
+use Rattle.capi.specs.declared.CallNumbers.{CallNumbers}
 use Rattle.capi.specs.declared.DeliverNumbers.{DeliverNumbers}
-use Rattle.capi.specs.declared.WithdrawNumbers.{WithdrawNumbers}
 use Rattle.capi.specs.declared.VerdictNumbers.{VerdictNumbers}
 use Rattle.capi.specs.declared.ReplayNumbers.{ReplayNumbers}
 
@@ -70,8 +70,8 @@ installShown o = record {
   judge = o .state;
 }
 
-abbrev pub openShown : Outcome → OpenNumbers
-openShown o = record { accepted = flagOf (o .reply); refused = refusedOf (o .reply); judge = o .state }
+abbrev pub callShown : Outcome → CallNumbers
+callShown o = record { accepted = flagOf (o .reply); refused = refusedOf (o .reply); judge = o .state }
 
 abbrev pub deliverShown : Outcome → DeliverNumbers
 deliverShown o = record {
@@ -80,9 +80,6 @@ deliverShown o = record {
   looked = lookedField (o .reply);
   judge = o .state;
 }
-
-abbrev pub withdrawShown : Outcome → WithdrawNumbers
-withdrawShown o = record { accepted = flagOf (o .reply); refused = refusedOf (o .reply); judge = o .state }
 
 -- ---- the verdict
 abbrev pub kindOf : Judgement → ℕ
@@ -127,14 +124,11 @@ readBackBy flag number a = cond (eqb flag 1) a (refused number)
 abbrev pub installReadBack : InstallNumbers → Outcome
 installReadBack r = record { reply = readBackBy (r .accepted) (r .refused) (installed (r .sets) (r .starts)); state = r .judge }
 
-abbrev pub openReadBack : OpenNumbers → Outcome
-openReadBack r = record { reply = readBackBy (r .accepted) (r .refused) accepted; state = r .judge }
+abbrev pub callReadBack : CallNumbers → Outcome
+callReadBack r = record { reply = readBackBy (r .accepted) (r .refused) accepted; state = r .judge }
 
 abbrev pub deliverReadBack : DeliverNumbers → Outcome
 deliverReadBack r = record { reply = readBackBy (r .accepted) (r .refused) (delivered (r .looked)); state = r .judge }
-
-abbrev pub withdrawReadBack : WithdrawNumbers → Outcome
-withdrawReadBack r = record { reply = readBackBy (r .accepted) (r .refused) accepted; state = r .judge }
 
 abbrev pub judgementBack : ℕ → ℕ → Judgement
 judgementBack kind number =

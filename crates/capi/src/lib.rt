@@ -3,21 +3,19 @@
 ghost use mathlib.Core.Path.{_≡_};
 ghost use Prim.Native.Nat.{_+_, _*_};
 ghost use Rattle.ruleformat.specs.Reader.{readOf};
-ghost use Rattle.calls.specs.Replies.{verdictMeans, reportMeans, installOutcome};
+ghost use Rattle.calls.specs.Replies.{verdictMeans, reportMeans, installOutcome, callOutcome};
 ghost use Rattle.calls.specs.mirror.Steps.{fresh, installOf, loadOf, openOf, deliverOf, withdrawOf, reportOf};
 ghost use Rattle.replay.specs.Records.{recordIn, replayOf};
-ghost use Rattle.capi.specs.Numbers.{readShown, installShown, openShown, deliverShown, withdrawShown, kindOf, numberOf, verdictShown, replayShown};
+ghost use Rattle.capi.specs.Numbers.{readShown, installShown, callShown, deliverShown, kindOf, numberOf, verdictShown, replayShown};
 use automaton::Rule;
+use build::BuildAnswer;
+use calls::CallResult;
 use calls::DeliverAnswer;
-use calls::InstallAnswer;
 use calls::InstallResult;
 use calls::Judge;
-use calls::OpenAnswer;
 use calls::Report;
 use calls::Verdict;
-use calls::WithdrawAnswer;
 use replay::ReplayAnswer;
-use ruleformat::ReadAnswer;
 
 // Accepted is 1 or 0; where it is 0, refused has the number, and every number of the rule is 0.
 #[repr(C)]
@@ -37,8 +35,9 @@ pub struct InstallNumbers {
     pub judge: Judge,
 }
 
+// Of opening and of withdrawing.
 #[repr(C)]
-pub struct OpenNumbers {
+pub struct CallNumbers {
     pub accepted: u8,
     pub refused: u8,
     pub judge: Judge,
@@ -50,13 +49,6 @@ pub struct DeliverNumbers {
     pub accepted: u8,
     pub refused: u8,
     pub looked: u32,
-    pub judge: Judge,
-}
-
-#[repr(C)]
-pub struct WithdrawNumbers {
-    pub accepted: u8,
-    pub refused: u8,
     pub judge: Judge,
 }
 
@@ -119,18 +111,12 @@ pub extern "C" fn bellbadger_read(file: &[u8]) -> ReadNumbers
 {
     let reading = rulefile::read(file);
     let answer = reading.answer;
+    let shown = flags::shown(answer);
     let rule = reading.rule;
-    match answer {
-        ReadAnswer::Accepted => ReadNumbers {
-            accepted: 1,
-            refused: 0,
-            rule,
-        },
-        ReadAnswer::Refused(refused) => ReadNumbers {
-            accepted: 0,
-            refused,
-            rule,
-        },
+    ReadNumbers {
+        accepted: shown.accepted,
+        refused: shown.refused,
+        rule,
     }
 }
 
@@ -141,14 +127,14 @@ fn install_numbers(result: InstallResult) -> InstallNumbers
     let answer = result.answer;
     let judge = result.judge;
     match answer {
-        InstallAnswer::Accepted(sets, starts) => InstallNumbers {
+        BuildAnswer::Accepted(sets, starts) => InstallNumbers {
             accepted: 1,
             refused: 0,
             sets,
             starts,
             judge,
         },
-        InstallAnswer::Refused(refused) => InstallNumbers {
+        BuildAnswer::Refused(refused) => InstallNumbers {
             accepted: 0,
             refused,
             sets: 0,
@@ -172,25 +158,25 @@ pub extern "C" fn bellbadger_load(judge: Judge, file: &[u8]) -> InstallNumbers
     install_numbers(judge::load(judge, file))
 }
 
-#[no_mangle]
-pub extern "C" fn bellbadger_open(judge: Judge, places: usize) -> OpenNumbers
-    ensures { λ r. ⌜ r ≡ openShown (openOf judge places) ⌝ }
+// What opening and withdrawing come to, in the numbers that C is given.
+fn call_numbers(result: CallResult) -> CallNumbers
+    ensures { λ r. ⌜ r ≡ callShown (callOutcome result) ⌝ }
 {
-    let opening = judge::open(judge, places);
-    let answer = opening.answer;
-    let judge = opening.judge;
-    match answer {
-        OpenAnswer::Accepted => OpenNumbers {
-            accepted: 1,
-            refused: 0,
-            judge,
-        },
-        OpenAnswer::Refused(refused) => OpenNumbers {
-            accepted: 0,
-            refused,
-            judge,
-        },
+    let answer = result.answer;
+    let shown = flags::shown(answer);
+    let judge = result.judge;
+    CallNumbers {
+        accepted: shown.accepted,
+        refused: shown.refused,
+        judge,
     }
+}
+
+#[no_mangle]
+pub extern "C" fn bellbadger_open(judge: Judge, places: usize) -> CallNumbers
+    ensures { λ r. ⌜ r ≡ callShown (openOf judge places) ⌝ }
+{
+    call_numbers(judge::open(judge, places))
 }
 
 #[no_mangle]
@@ -222,24 +208,10 @@ pub extern "C" fn bellbadger_deliver(
 }
 
 #[no_mangle]
-pub extern "C" fn bellbadger_withdraw(judge: Judge, place: usize) -> WithdrawNumbers
-    ensures { λ r. ⌜ r ≡ withdrawShown (withdrawOf judge place) ⌝ }
+pub extern "C" fn bellbadger_withdraw(judge: Judge, place: usize) -> CallNumbers
+    ensures { λ r. ⌜ r ≡ callShown (withdrawOf judge place) ⌝ }
 {
-    let withdrawal = judge::withdraw(judge, place);
-    let answer = withdrawal.answer;
-    let judge = withdrawal.judge;
-    match answer {
-        WithdrawAnswer::Accepted => WithdrawNumbers {
-            accepted: 1,
-            refused: 0,
-            judge,
-        },
-        WithdrawAnswer::Refused(refused) => WithdrawNumbers {
-            accepted: 0,
-            refused,
-            judge,
-        },
-    }
+    call_numbers(judge::withdraw(judge, place))
 }
 
 // Which of the four a verdict is, and the number that it has.

@@ -10,11 +10,12 @@ use native.Mathlib.Omega.{arith}
 use lib.ListN.{length, getD, take}
 use lib.Seq.{getD-take}
 use borrow.Author.Tests.{lt-ltb, le-ltb}
+use Rattle.base.specs.Answers.{answerNumber}
 use Rattle.automaton.specs.declared.Rule.{Rule}
 use Rattle.automaton.specs.Rules.{WellFormed}
-use Rattle.rulecheck.specs.declared.CheckAnswer.{CheckAnswer}
-use Rattle.rulecheck.specs.declared.CheckAnswer.the-variants as check
-use Rattle.rulecheck.specs.Checking.{ruleNumber, checkMeans}
+use Rattle.base.specs.declared.Answer.{Answer}
+use Rattle.base.specs.declared.Answer.the-variants as check
+use Rattle.rulecheck.specs.Checking.{ruleNumber}
 use Rattle.rulecheck.proofs.Claims.{claims}
 use Rattle.keys.specs.declared.KeyTable.{KeyTable}
 use Rattle.keys.specs.declared.Kind.the-variants.{Pairs}
@@ -49,20 +50,20 @@ module _ (one two : Rule) where
   by-first : (o : Outcome) (x : ℕ) → Came one two x → o ≡ noText (refused x) → o ≡ outcomeOf (compareOf one two)
   by-first o x e is = is ∙ sym (ap outcomeOf (refused-first one two x (from-where one two x .1 e)))
 
-  module _ (a : CheckAnswer) (said : checkMeans a ≡ ruleNumber one) where
+  module _ (a : Answer) (said : answerNumber a ≡ ruleNumber one) where
     pub compare-first : (o : Outcome) (x : ℕ) → a ≡ check.Refused x → o ≡ noText (refused x) → o ≡ outcomeOf (compareOf one two)
-    compare-first o x e is = by-first o x (inl (sym said ∙ ap checkMeans e)) is
+    compare-first o x e is = by-first o x (inl (sym said ∙ ap answerNumber e)) is
 
-    module _ (passed-one : a ≡ check.Passed) (b : CheckAnswer) (told : checkMeans b ≡ ruleNumber two) where
+    module _ (passed-one : a ≡ check.Accepted) (b : Answer) (told : answerNumber b ≡ ruleNumber two) where
       first-none : ruleNumber one ≡ none
-      first-none = sym said ∙ ap checkMeans passed-one
+      first-none = sym said ∙ ap answerNumber passed-one
 
       pub compare-second : (o : Outcome) (x : ℕ) → b ≡ check.Refused x → o ≡ noText (refused x) → o ≡ outcomeOf (compareOf one two)
-      compare-second o x e is = by-first o x (inr (first-none, inl (sym told ∙ ap checkMeans e))) is
+      compare-second o x e is = by-first o x (inr (first-none, inl (sym told ∙ ap answerNumber e))) is
 
-      module _ (passed-two : b ≡ check.Passed) where
+      module _ (passed-two : b ≡ check.Accepted) where
         second-none : ruleNumber two ≡ none
-        second-none = sym told ∙ ap checkMeans passed-two
+        second-none = sym told ∙ ap answerNumber passed-two
 
         pub compare-36 : (o : Outcome) → (one .k ≡ two .k → ⊥) → o ≡ noText (refused 36) → o ≡ outcomeOf (compareOf one two)
         compare-36 o d is = by-first o 36 (inr (first-none, inr (second-none, refl, d))) is

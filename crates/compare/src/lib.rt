@@ -8,10 +8,10 @@ ghost use Rattle.searches.specs.Search.{firstWhere};
 ghost use Rattle.compare.specs.Search.{differs as differsOf, whichOf, compareOf};
 ghost use Rattle.compare.specs.Values.{answerMeans, noText, compareOutcome, outcomeOf};
 use automaton::Rule;
+use base::Answer;
 use keys::KeyNumber;
 use keys::Kind;
 use keys::Numbering;
-use rulecheck::CheckAnswer;
 
 // One of two rules.
 pub enum Which {
@@ -119,11 +119,11 @@ pub fn compare(one: Rule, two: Rule) -> CompareResult
     ensures { λ r. ⌜ compareOutcome r ≡ outcomeOf (compareOf one two) ⌝ }
 {
     let first = rulecheck::check_rule(one);
-    if let CheckAnswer::Refused(number) = first {
+    if let Answer::Refused(number) = first {
         return give_none(CompareAnswer::Refused(number));
     }
     let second = rulecheck::check_rule(two);
-    if let CheckAnswer::Refused(number) = second {
+    if let Answer::Refused(number) = second {
         return give_none(CompareAnswer::Refused(number));
     }
     if one.k != two.k {

@@ -27,10 +27,10 @@
 -- Assumes nothing.
 -- All that they rest on stands in these files of specs/ (tests/believed):
 --   base Conditions, Lists, Options, Totals; limits Limits; masks Masks; automaton Automaton,
---   Rules; rulecheck Checking; ruleformat Format, Language, Refusals; numbering Claims, Texts;
---   delegates Alike; marks Marks; chunks Chunks, Counting; board Boards; calls Calls, Claims,
---   Replies; executions Executions; histories Claims, Functions, History, Method; transcripts
---   Answers, Claims, Runs, Standing; capi Numbers; demands Functions.
+--   Rules; rulecheck Checking; ruleformat Format, Language, Refusals; numbering Claims, Order,
+--   Texts; delegates Alike; marks Marks; chunks Chunks, Counting; board Boards; calls Calls,
+--   Claims, Replies; executions Executions; histories Claims, Functions, History, Method;
+--   transcripts Answers, Claims, Runs, Standing; capi Numbers; demands Functions.
 use mathlib.Core.Path.{_≡_, refl, sym, _∙_}
 use mathlib.Core.Logic.{_↔_, _⊎_, ⊎-elim}
 use mathlib.Core.List.{List, [], _∷_, _++_}

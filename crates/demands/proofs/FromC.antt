@@ -28,11 +28,10 @@ use Rattle.calls.specs.declared.Judge.{Judge}
 use Rattle.calls.specs.mirror.Steps.{fresh, installOf, openOf, deliverOf, withdrawOf, reportOf, loadOf}
 use Rattle.capi.specs.declared.ReadNumbers.{ReadNumbers}
 use Rattle.capi.specs.declared.InstallNumbers.{InstallNumbers}
-use Rattle.capi.specs.declared.OpenNumbers.{OpenNumbers}
+use Rattle.capi.specs.declared.CallNumbers.{CallNumbers}
 use Rattle.capi.specs.declared.DeliverNumbers.{DeliverNumbers}
-use Rattle.capi.specs.declared.WithdrawNumbers.{WithdrawNumbers}
 use Rattle.capi.specs.declared.VerdictNumbers.{VerdictNumbers}
-use Rattle.capi.specs.Numbers.{readShown, installShown, openShown, deliverShown, withdrawShown, verdictShown}
+use Rattle.capi.specs.Numbers.{readShown, installShown, callShown, deliverShown, verdictShown}
 use Rattle.capi.specs.Laws.{Laws}
 use Rattle.capi.proofs.Laws as capi-laws
 use Rattle.capi.proofs.Asks as capi-asks
@@ -50,13 +49,13 @@ new-from-C = new-fixed
 pub install-from-C : (j : Judge) (rule : Rule) (r : InstallNumbers) → MayInstall j rule r ↔ r ≡ installShown (installOf j rule)
 install-from-C = install-fixed
 
-pub open-from-C : (j : Judge) (n : ℕ) (r : OpenNumbers) → MayOpen j n r ↔ r ≡ openShown (openOf j n)
+pub open-from-C : (j : Judge) (n : ℕ) (r : CallNumbers) → MayOpen j n r ↔ r ≡ callShown (openOf j n)
 open-from-C = open-fixed
 
 pub deliver-from-C : (j : Judge) (p v : ℕ) (w : List ℕ) (r : DeliverNumbers) → MayDeliver j p v w r ↔ r ≡ deliverShown (deliverOf j p v w)
 deliver-from-C = deliver-fixed
 
-pub withdraw-from-C : (j : Judge) (p : ℕ) (r : WithdrawNumbers) → MayWithdraw j p r ↔ r ≡ withdrawShown (withdrawOf j p)
+pub withdraw-from-C : (j : Judge) (p : ℕ) (r : CallNumbers) → MayWithdraw j p r ↔ r ≡ callShown (withdrawOf j p)
 withdraw-from-C = withdraw-fixed
 
 pub verdict-from-C : (j : Judge) (v : VerdictNumbers) → MayJudge j v ↔ v ≡ verdictShown (reportOf j)

@@ -16,7 +16,7 @@ use Rattle.ruleformat.specs.Reader.{readOf}
 use Rattle.capi.specs.declared.ReadNumbers.{ReadNumbers}
 use Rattle.capi.specs.declared.InstallNumbers.{InstallNumbers}
 use Rattle.capi.specs.declared.ReplayNumbers.{ReplayNumbers}
-use Rattle.capi.specs.Numbers.{replayShown, readShown, installShown, openShown, deliverShown, withdrawShown, verdictShown, installReadBack, openReadBack, deliverReadBack, withdrawReadBack, verdictReadBack}
+use Rattle.capi.specs.Numbers.{replayShown, readShown, installShown, callShown, deliverShown, verdictShown, installReadBack, callReadBack, deliverReadBack, verdictReadBack}
 use Rattle.capi.proofs.ReadBack as capi
 use Rattle.capi.proofs.Asks.{new-asks-nothing, install-asks-nothing, load-asks-nothing, open-asks-nothing, deliver-asks-nothing, withdraw-asks-nothing, verdict-asks-nothing}
 use Rattle.demands.specs.Functions.{AsksStep, MayStep, MayRead, MayLoad, MayReplay, cLibrary}
@@ -32,11 +32,11 @@ step-to : (j : Judge) (c : Call) (a : Reply) (next : Judge) → MayStep j c a ne
 step-to j (installs rule) a next m = parts a next (installOf j rule) (m .2 ∙ ap installReadBack (m .1 .1) ∙ capi.claims .install-read-back j rule)
 step-to j (loads f) a next m =
     parts a next (loadOf j f) (m .2 ∙ ap installReadBack (load-fixed j f (m .0) .0 (m .1)) ∙ capi.claims .load-read-back j f)
-step-to j (opens n) a next m = parts a next (openOf j n) (m .2 ∙ ap openReadBack (m .1 .1) ∙ capi.claims .open-read-back j n)
+step-to j (opens n) a next m = parts a next (openOf j n) (m .2 ∙ ap callReadBack (m .1 .1) ∙ capi.claims .open-read-back j n)
 step-to j (delivers p v w) a next m =
     parts a next (deliverOf j p v w)
     (m .2 ∙ ap deliverReadBack (m .1 .4 ∙ ap (λ (x : List ℕ). deliverShown (deliverOf j p v x)) (m .1 .3)) ∙ capi.claims .deliver-read-back j p v w)
-step-to j (withdraws p) a next m = parts a next (withdrawOf j p) (m .2 ∙ ap withdrawReadBack (m .1 .1) ∙ capi.claims .withdraw-read-back j p)
+step-to j (withdraws p) a next m = parts a next (withdrawOf j p) (m .2 ∙ ap callReadBack (m .1 .1) ∙ capi.claims .withdraw-read-back j p)
 step-to j asksVerdict a next m = (m .2 ∙ ap judged (ap verdictReadBack (m .1 .1) ∙ capi.claims .verdict-read-back j), m .3)
 
 step-back : (j : Judge) (c : Call) (a : Reply) (next : Judge) → (a ≡ stepOf j c .reply) × (next ≡ stepOf j c .state) → MayStep j c a next
@@ -47,14 +47,14 @@ step-back j (loads f) a next e = (
   load-fixed j f (installShown (loadOf j f)) .1 refl,
   whole a next (loadOf j f) e ∙ sym (capi.claims .load-read-back j f),
 )
-step-back j (opens n) a next e = (openShown (openOf j n), ((j, (n, tt)), refl), whole a next (openOf j n) e ∙ sym (capi.claims .open-read-back j n))
+step-back j (opens n) a next e = (callShown (openOf j n), ((j, (n, tt)), refl), whole a next (openOf j n) e ∙ sym (capi.claims .open-read-back j n))
 step-back j (delivers p v w) a next e = (
   deliverShown (deliverOf j p v w),
   (([], tt), lent w, (j, (p, (v, (lent w, tt)))), refl, refl),
   whole a next (deliverOf j p v w) e ∙ sym (capi.claims .deliver-read-back j p v w),
 )
 step-back j (withdraws p) a next e =
-    (withdrawShown (withdrawOf j p), ((j, (p, tt)), refl), whole a next (withdrawOf j p) e ∙ sym (capi.claims .withdraw-read-back j p))
+    (callShown (withdrawOf j p), ((j, (p, tt)), refl), whole a next (withdrawOf j p) e ∙ sym (capi.claims .withdraw-read-back j p))
 step-back j asksVerdict a next e = (verdictShown (reportOf j), ((j, tt), refl), e .0 ∙ ap judged (sym (capi.claims .verdict-read-back j)), e .1)
 
 asks-nothing : (j : Judge) (c : Call) → AsksStep j c

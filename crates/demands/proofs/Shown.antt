@@ -12,15 +12,14 @@ use Rattle.ruleformat.specs.Reader.{ruleOf}
 use Rattle.board.specs.Boards.{placesOf, isEmpty, comesLate, emptyBoard, filledAt, clearedAt, summedBytes}
 use Rattle.calls.specs.declared.Judge.{Judge}
 use Rattle.calls.specs.Replies.{Judgement, Reply, accepted, delivered, refused, refusalOf}
-use Rattle.calls.specs.Calls.{installNumber, loadNumber, openConditions, deliverConditions, withdrawConditions, reportBy}
-use Rattle.calls.specs.mirror.Steps.{fresh, lacksRule, lacksBoard, withBoard, outcomeBy, withRule, installReply, runsAt, installOf, loadOf, openOf, deliverOf, withdrawOf, reportOf}
+use Rattle.calls.specs.Calls.{installNumber, loadNumber, openConditions, deliverConditions, withdrawConditions, reportBy, withSets}
+use Rattle.calls.specs.mirror.Steps.{fresh, lacksRule, lacksBoard, withBoard, outcomeBy, withRule, runsAt, installOf, loadOf, openOf, deliverOf, withdrawOf, reportOf}
 use Rattle.histories.proofs.Refinement.{lent}
 use Rattle.capi.specs.declared.InstallNumbers.{InstallNumbers}
-use Rattle.capi.specs.declared.OpenNumbers.{OpenNumbers}
+use Rattle.capi.specs.declared.CallNumbers.{CallNumbers}
 use Rattle.capi.specs.declared.DeliverNumbers.{DeliverNumbers}
-use Rattle.capi.specs.declared.WithdrawNumbers.{WithdrawNumbers}
 use Rattle.capi.specs.declared.VerdictNumbers.{VerdictNumbers}
-use Rattle.capi.specs.Numbers.{installShown, openShown, deliverShown, withdrawShown, verdictShown}
+use Rattle.capi.specs.Numbers.{installShown, callShown, deliverShown, verdictShown}
 use Rattle.demands.specs.Functions.{MayBegin, MayInstall, MayOpen, MayDeliver, MayWithdraw, MayJudge}
 use Rattle.demands.specs.Shown.{RefusedFromC, NoVerdictFromC}
 use Rattle.demands.proofs.Functions.{load-fixed}
@@ -32,7 +31,7 @@ new-fixed j = ((λ m. m .1), λ e. (tt, e))
 pub install-fixed : (j : Judge) (rule : Rule) (r : InstallNumbers) → MayInstall j rule r ↔ r ≡ installShown (installOf j rule)
 install-fixed j rule r = ((λ m. m .1), λ e. ((j, (rule, tt)), e))
 
-pub open-fixed : (j : Judge) (n : ℕ) (r : OpenNumbers) → MayOpen j n r ↔ r ≡ openShown (openOf j n)
+pub open-fixed : (j : Judge) (n : ℕ) (r : CallNumbers) → MayOpen j n r ↔ r ≡ callShown (openOf j n)
 open-fixed j n r = ((λ m. m .1), λ e. ((j, (n, tt)), e))
 
 pub deliver-fixed : (j : Judge) (p v : ℕ) (w : List ℕ) (r : DeliverNumbers) → MayDeliver j p v w r ↔ r ≡ deliverShown (deliverOf j p v w)
@@ -41,7 +40,7 @@ deliver-fixed j p v w r = (
   λ e. (([], tt), lent w, (j, (p, (v, (lent w, tt)))), refl, e),
 )
 
-pub withdraw-fixed : (j : Judge) (p : ℕ) (r : WithdrawNumbers) → MayWithdraw j p r ↔ r ≡ withdrawShown (withdrawOf j p)
+pub withdraw-fixed : (j : Judge) (p : ℕ) (r : CallNumbers) → MayWithdraw j p r ↔ r ≡ callShown (withdrawOf j p)
 withdraw-fixed j p r = ((λ m. m .1), λ e. ((j, (p, tt)), e))
 
 pub verdict-fixed : (j : Judge) (v : VerdictNumbers) → MayJudge j v ↔ v ≡ verdictShown (reportOf j)
@@ -57,11 +56,11 @@ refused-by (some y) a j next x n e = ap (λ (z : ℕ). record { reply = refused 
 module _ (j : Judge) (x : ℕ) where
   installing : (rule : Rule) → refusalOf (installOf j rule .reply) ≡ some x → installOf j rule ≡ record { reply = refused x; state = j }
   unfolding installOf
-  installing rule = refused-by (installNumber rule) (installReply rule) j (withRule rule) x refl
+  installing rule = refused-by (installNumber rule) (withSets rule) j (withRule rule) x refl
 
   loading : (f : List ℕ) → refusalOf (loadOf j f .reply) ≡ some x → loadOf j f ≡ record { reply = refused x; state = j }
   unfolding loadOf
-  loading f = refused-by (loadNumber f) (installReply (ruleOf f)) j (withRule (ruleOf f)) x refl
+  loading f = refused-by (loadNumber f) (withSets (ruleOf f)) j (withRule (ruleOf f)) x refl
 
   opening : (n : ℕ) → refusalOf (openOf j n .reply) ≡ some x → openOf j n ≡ record { reply = refused x; state = j }
   unfolding openOf
@@ -89,9 +88,9 @@ module _ (j : Judge) (x : ℕ) where
   refused-so = record {
     install = λ rule e r m. install-fixed j rule r .0 m ∙ ap installShown (installing rule e);
     load = λ f e r m. load-fixed j f r .0 m ∙ ap installShown (loading f e);
-    opening = λ n e r m. open-fixed j n r .0 m ∙ ap openShown (opening n e);
+    opening = λ n e r m. open-fixed j n r .0 m ∙ ap callShown (opening n e);
     deliver = λ p v w e r m. deliver-fixed j p v w r .0 m ∙ ap deliverShown (delivering p v w e);
-    withdraw = λ p e r m. withdraw-fixed j p r .0 m ∙ ap withdrawShown (withdrawing p e);
+    withdraw = λ p e r m. withdraw-fixed j p r .0 m ∙ ap callShown (withdrawing p e);
   }
 
   pub no-verdict : NoVerdictFromC j x

@@ -23,12 +23,11 @@ use Rattle.calls.specs.Replies.{Reply, judged}
 use Rattle.calls.specs.Calls.{Call, installs, loads, opens, delivers, withdraws, asksVerdict}
 use Rattle.capi.specs.declared.ReadNumbers.{ReadNumbers}
 use Rattle.capi.specs.declared.InstallNumbers.{InstallNumbers}
-use Rattle.capi.specs.declared.OpenNumbers.{OpenNumbers}
+use Rattle.capi.specs.declared.CallNumbers.{CallNumbers}
 use Rattle.capi.specs.declared.DeliverNumbers.{DeliverNumbers}
-use Rattle.capi.specs.declared.WithdrawNumbers.{WithdrawNumbers}
 use Rattle.capi.specs.declared.VerdictNumbers.{VerdictNumbers}
 use Rattle.capi.specs.declared.ReplayNumbers.{ReplayNumbers}
-use Rattle.capi.specs.Numbers.{installReadBack, openReadBack, deliverReadBack, withdrawReadBack, verdictReadBack}
+use Rattle.capi.specs.Numbers.{installReadBack, callReadBack, deliverReadBack, verdictReadBack}
 use Rattle.capi.proofs.bellbadger_new.Reads as new-reads
 use Rattle.capi.proofs.bellbadger_new.Kinds as new-kinds
 use Rattle.capi.proofs.bellbadger_read.Reads as read-reads
@@ -63,7 +62,7 @@ abbrev pub MayLoad : Judge → List ℕ → InstallNumbers → Type 0
 MayLoad j f r =
     (κs : Lfts 1) × (c : RefT (List ℕ)) × (s : AtExit (endedOf 1 load-kinds.ps load-kinds.r) κs) × (now c ≡ f) × load-reads.Learnt κs (j, (c, tt)) r s
 
-abbrev pub MayOpen : Judge → ℕ → OpenNumbers → Type 0
+abbrev pub MayOpen : Judge → ℕ → CallNumbers → Type 0
 MayOpen j n r = (s : AtExit (endedOf 0 open-kinds.ps open-kinds.r) tt) × open-reads.Learnt tt (j, (n, tt)) r s
 
 abbrev pub MayDeliver : Judge → ℕ → ℕ → List ℕ → DeliverNumbers → Type 0
@@ -71,7 +70,7 @@ MayDeliver j p v w r =
     (κs : Lfts 1) × (c : RefT (List ℕ)) × (s : AtExit (endedOf 1 deliver-kinds.ps deliver-kinds.r) κs) × (now c ≡ w)
     × deliver-reads.Learnt κs (j, (p, (v, (c, tt)))) r s
 
-abbrev pub MayWithdraw : Judge → ℕ → WithdrawNumbers → Type 0
+abbrev pub MayWithdraw : Judge → ℕ → CallNumbers → Type 0
 MayWithdraw j p r = (s : AtExit (endedOf 0 withdraw-kinds.ps withdraw-kinds.r) tt) × withdraw-reads.Learnt tt (j, (p, tt)) r s
 
 abbrev pub MayJudge : Judge → VerdictNumbers → Type 0
@@ -93,9 +92,9 @@ AsksStep j asksVerdict = verdict-reads.Asked tt (j, tt)
 abbrev pub MayStep : Judge → Call → Reply → Judge → Type 0
 MayStep j (installs rule) a next = (r : InstallNumbers) × MayInstall j rule r × (record { reply = a; state = next } ≡ installReadBack r)
 MayStep j (loads f) a next = (r : InstallNumbers) × MayLoad j f r × (record { reply = a; state = next } ≡ installReadBack r)
-MayStep j (opens n) a next = (r : OpenNumbers) × MayOpen j n r × (record { reply = a; state = next } ≡ openReadBack r)
+MayStep j (opens n) a next = (r : CallNumbers) × MayOpen j n r × (record { reply = a; state = next } ≡ callReadBack r)
 MayStep j (delivers p v w) a next = (r : DeliverNumbers) × MayDeliver j p v w r × (record { reply = a; state = next } ≡ deliverReadBack r)
-MayStep j (withdraws p) a next = (r : WithdrawNumbers) × MayWithdraw j p r × (record { reply = a; state = next } ≡ withdrawReadBack r)
+MayStep j (withdraws p) a next = (r : CallNumbers) × MayWithdraw j p r × (record { reply = a; state = next } ≡ callReadBack r)
 MayStep j asksVerdict a next = (v : VerdictNumbers) × MayJudge j v × (a ≡ judged (verdictReadBack v)) × (next ≡ j)
 
 abbrev pub cLibrary : Library Judge Call Reply

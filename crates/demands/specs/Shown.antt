@@ -15,9 +15,8 @@ use Rattle.calls.specs.declared.Judge.{Judge}
 use Rattle.calls.specs.Replies.{waiting, refusedWith, refusalOf}
 use Rattle.calls.specs.mirror.Steps.{installOf, loadOf, openOf, deliverOf, withdrawOf, verdictOf}
 use Rattle.capi.specs.declared.InstallNumbers.{InstallNumbers}
-use Rattle.capi.specs.declared.OpenNumbers.{OpenNumbers}
+use Rattle.capi.specs.declared.CallNumbers.{CallNumbers}
 use Rattle.capi.specs.declared.DeliverNumbers.{DeliverNumbers}
-use Rattle.capi.specs.declared.WithdrawNumbers.{WithdrawNumbers}
 use Rattle.capi.specs.declared.VerdictNumbers.{VerdictNumbers}
 use Rattle.demands.specs.Functions.{MayInstall, MayLoad, MayOpen, MayDeliver, MayWithdraw, MayJudge}
 
@@ -27,11 +26,11 @@ pub record RefusedFromC (j : Judge) (x : ℕ) : Type 0 where
   pub load : (f : List ℕ) → refusalOf (loadOf j f .reply) ≡ some x
       → (r : InstallNumbers) → MayLoad j f r → r ≡ record { accepted = 0; refused = x; sets = 0; starts = 0; judge = j }
   pub opening : (n : ℕ) → refusalOf (openOf j n .reply) ≡ some x
-      → (r : OpenNumbers) → MayOpen j n r → r ≡ record { accepted = 0; refused = x; judge = j }
+      → (r : CallNumbers) → MayOpen j n r → r ≡ record { accepted = 0; refused = x; judge = j }
   pub deliver : (p v : ℕ) (w : List ℕ) → refusalOf (deliverOf j p v w .reply) ≡ some x
       → (r : DeliverNumbers) → MayDeliver j p v w r → r ≡ record { accepted = 0; refused = x; looked = 0; judge = j }
   pub withdraw : (p : ℕ) → refusalOf (withdrawOf j p .reply) ≡ some x
-      → (r : WithdrawNumbers) → MayWithdraw j p r → r ≡ record { accepted = 0; refused = x; judge = j }
+      → (r : CallNumbers) → MayWithdraw j p r → r ≡ record { accepted = 0; refused = x; judge = j }
 
 pub record NoVerdictFromC (j : Judge) (x : ℕ) : Type 0 where
   pub is-refused : verdictOf j ≡ refusedWith x

@@ -55,7 +55,7 @@ pub fn diagnose(judge: Judge) -> Diagnosis
     }
     let built = judge.built;
     let delegates = built.delegates;
-    let places = board::places_of(board);
+    let places = board::places_of(board.places);
     find_loss(
         &board.filled,
         &board.ends,

@@ -3,7 +3,7 @@ ghost use Prim.Native.Nat.{_≤_};
 ghost use lib.ListN.{length};
 ghost use Rattle.dotgraph.specs.DotText.{mostBytes};
 ghost use Rattle.dottext.specs.Answers.{Draws};
-use ruleformat::ReadAnswer;
+use base::Answer;
 
 // A drawing of so many bytes; or no drawing, since the reader refuses the file with this number.
 pub enum Drawing {
@@ -21,7 +21,7 @@ pub fn print_whole(file: &[u8], out: &mut [u8]) -> Drawing
     let answer = reading.answer;
     let rule = reading.rule;
     match answer {
-        ReadAnswer::Accepted => Drawing::Bytes(dotgraph::put_dot(out, rule)),
-        ReadAnswer::Refused(number) => Drawing::Refused(number),
+        Answer::Accepted => Drawing::Bytes(dotgraph::put_dot(out, rule)),
+        Answer::Refused(number) => Drawing::Refused(number),
     }
 }

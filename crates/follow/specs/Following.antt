@@ -31,6 +31,7 @@ use mathlib.Core.List.{List, _++_}
 use mathlib.Core.Option.{Option, none, some}
 use Prim.Native.Nat.{ℕ, zero, suc, _-_}
 use lib.ListN.{length, take}
+use Rattle.base.specs.Answers.{answerNumber}
 use Rattle.base.specs.Conditions.{firstOf}
 use Rattle.masks.specs.Masks.{shares, maskOf}
 use Rattle.marks.specs.Marks.{textOf}
@@ -39,8 +40,6 @@ use Rattle.automaton.specs.Successor.{successor, after}
 use Rattle.rulecheck.specs.Checking.{ruleConditions, ruleNumber}
 use Rattle.ruleformat.specs.Reader.{noRule}
 use Rattle.chunks.specs.Taking.{chunkConditions, chunkNumber}
-use Rattle.follow.specs.declared.FollowAnswer.{FollowAnswer}
-use Rattle.follow.specs.declared.FollowAnswer.the-variants.{Accepted, Refused}
 use Rattle.follow.specs.declared.Lost.{Lost}
 use Rattle.follow.specs.declared.Lost.the-variants.{Never, At}
 use Rattle.follow.specs.declared.Followed.{Followed}
@@ -101,13 +100,9 @@ pub record Outcome : Type 0 where
   pub expected : ℕ
   pub complete : Bool
 
-abbrev pub answerMeans : FollowAnswer → Option ℕ
-answerMeans Accepted = none
-answerMeans (Refused number) = some number
-
 abbrev pub followOutcome : Followed → Outcome
 followOutcome f = record {
-  refusal = answerMeans (f .answer);
+  refusal = answerNumber (f .answer);
   set = f .set;
   ends = f .ends;
   lost = lostMeans (f .lost);
@@ -152,7 +147,7 @@ pub record Prepared : Type 0 where
   pub follower : Follower
 
 abbrev pub prepareOutcome : PrepareResult → Prepared
-prepareOutcome p = record { refusal = answerMeans (p .answer); follower = p .follower }
+prepareOutcome p = record { refusal = answerNumber (p .answer); follower = p .follower }
 
 abbrev pub prepareBy : Option ℕ → Rule → Prepared
 prepareBy none r = record { refusal = none; follower = followerOf r }

@@ -11,13 +11,7 @@ ghost use Rattle.chunks.specs.Chunks.{foreign};
 ghost use Rattle.follow.specs.mirror.Cache.{cacheRows, Cached, Stepped};
 ghost use Rattle.follow.specs.Following.{nextBy, wayOf, wayOutcome, refusedFollow, followOutcome, followOf, lentOf, followByOf, prepareOutcome, prepareOf};
 use automaton::Rule;
-use rulecheck::CheckAnswer;
-
-// The chunk is followed, or a refusal.
-pub enum FollowAnswer {
-    Accepted,
-    Refused(u8),
-}
+use base::Answer;
 
 // A final state can still be reached; or the least number of bytes of the chunk, idle marks counted,
 // after which none can.
@@ -31,7 +25,7 @@ pub enum Lost {
 // symbols after which a final state can still be reached, and whether one is in it, so that the trace
 // could have ended there. Zeros beside a refusal.
 pub struct Followed {
-    pub answer: FollowAnswer,
+    pub answer: Answer,
     pub set: u32,
     pub ends: bool,
     pub lost: Lost,
@@ -48,7 +42,7 @@ pub struct Follower {
 
 // The answer, with the follower beside it: zeros where the rule is refused.
 pub struct PrepareResult {
-    pub answer: FollowAnswer,
+    pub answer: Answer,
     pub follower: Follower,
 }
 
@@ -206,7 +200,7 @@ fn refuse(number: u8) -> Followed
     ensures { λ r. ⌜ followOutcome r ≡ refusedFollow number ⌝ }
 {
     Followed {
-        answer: FollowAnswer::Refused(number),
+        answer: Answer::Refused(number),
         set: 0,
         ends: false,
         lost: Lost::Never,
@@ -239,7 +233,7 @@ fn follow_lent(
     let complete = masks::meets(way.before, finals);
     let lost = way.lost;
     Followed {
-        answer: FollowAnswer::Accepted,
+        answer: Answer::Accepted,
         set: way.set,
         ends,
         lost,
@@ -254,8 +248,8 @@ pub fn follow(rule: Rule, set: u32, chunk: &[u8]) -> Followed
 {
     let checked = rulecheck::check_rule(rule);
     match checked {
-        CheckAnswer::Refused(number) => refuse(number),
-        CheckAnswer::Passed => {
+        Answer::Refused(number) => refuse(number),
+        Answer::Accepted => {
             let live = live::live_states(&rule.targets, rule.finals);
             follow_lent(&rule.targets, rule.finals, live, rule.k, set, chunk)
         }
@@ -268,8 +262,8 @@ pub fn prepare(rule: Rule) -> PrepareResult
 {
     let checked = rulecheck::check_rule(rule);
     match checked {
-        CheckAnswer::Refused(number) => {
-            let answer = FollowAnswer::Refused(number);
+        Answer::Refused(number) => {
+            let answer = Answer::Refused(number);
             let nothing = rulefile::no_rule();
             let follower = Follower {
                 rule: nothing,
@@ -277,8 +271,8 @@ pub fn prepare(rule: Rule) -> PrepareResult
             };
             PrepareResult { answer, follower }
         }
-        CheckAnswer::Passed => {
-            let answer = FollowAnswer::Accepted;
+        Answer::Accepted => {
+            let answer = Answer::Accepted;
             let live = live::live_states(&rule.targets, rule.finals);
             let follower = Follower { rule, live };
             PrepareResult { answer, follower }

@@ -3,17 +3,18 @@ use mathlib.Core.Path.{_≡_, sym, ap, _∙_}
 use mathlib.Core.List.{List}
 use mathlib.Core.Option.{Option, none, some}
 use Prim.Native.Nat.{ℕ}
+use Rattle.base.specs.Answers.{answerNumber}
 use Rattle.base.specs.Lists.{listFrom}
 use Rattle.limits.specs.Limits.{tableCells}
 use Rattle.forms.specs.declared.Form.{Form}
 use Rattle.forms.specs.declared.Table.{Table}
-use Rattle.forms.specs.declared.BackAnswer.{BackAnswer}
-use Rattle.forms.specs.declared.BackAnswer.the-variants.{Accepted, Refused}
-use Rattle.forms.specs.Back.{backNumber, backCell, backMeans, backBy, tableOf, noTable, backOutcome, backOf}
+use Rattle.base.specs.declared.Answer.{Answer}
+use Rattle.base.specs.declared.Answer.the-variants.{Accepted, Refused}
+use Rattle.forms.specs.Back.{backNumber, backCell, backBy, tableOf, noTable, backOutcome, backOf}
 
-module _ (f : Form) (r : BackAnswer) (e : backMeans r ≡ backNumber f) where
+module _ (f : Form) (r : Answer) (e : answerNumber r ≡ backNumber f) where
   pub none-there : r ≡ Accepted → backNumber f ≡ none
-  none-there q = sym e ∙ ap backMeans q
+  none-there q = sym e ∙ ap answerNumber q
 
   pub accepted : r ≡ Accepted → (next : List ℕ) → next ≡ listFrom 0 tableCells (backCell f)
       → backOutcome (record { answer = Accepted; table = record { sets = f .sets; symbols = f .symbols; next = next } }) ≡ backOf f
@@ -24,5 +25,5 @@ module _ (f : Form) (r : BackAnswer) (e : backMeans r ≡ backNumber f) where
   pub refused : (x : ℕ) → r ≡ Refused x → (t : Table) → t ≡ noTable
       → backOutcome (record { answer = Refused x; table = t }) ≡ backOf f
   refused x q t n =
-      let there : backNumber f ≡ some x = sym e ∙ ap backMeans q in
+      let there : backNumber f ≡ some x = sym e ∙ ap answerNumber q in
       ap (λ (y : Table). record { number = some x; table = y }) n ∙ sym (ap (λ (o : Option ℕ). backBy o (tableOf f)) there)

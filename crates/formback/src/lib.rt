@@ -5,12 +5,13 @@ ghost use mathlib.Core.Option.{none};
 ghost use Prim.Native.Nat.{_+_, _*_, _^_, _≤_, _<_};
 ghost use lib.Dec.{leb, ltb};
 ghost use lib.ListN.{getD, replicate};
+ghost use Rattle.base.specs.Answers.{answerNumber};
 ghost use Rattle.base.specs.Lists.{listFrom};
 ghost use Rattle.limits.specs.Limits.{mostSymbols, mostSets, emptySet, tableCells};
 ghost use Rattle.forms.specs.Form.{howMany, keptAt};
-ghost use Rattle.forms.specs.Back.{notBelow, someNotBelow, firstLacks, strayBits, lacking, someLacking, badNumbers, backMeans, backNumber, backCell, noTable, backOutcome, backOf};
+ghost use Rattle.forms.specs.Back.{notBelow, someNotBelow, firstLacks, strayBits, lacking, someLacking, badNumbers, backNumber, backCell, noTable, backOutcome, backOf};
 ghost use Rattle.formback.specs.mirror.Parts.{formBy};
-use forms::BackAnswer;
+use base::Answer;
 use forms::BackResult;
 use forms::Form;
 use forms::Table;
@@ -143,25 +144,25 @@ fn check(
     failure: &[u16; limits::SETS],
     kept: &[u16; limits::SETS],
     cells: &[u16; limits::CELLS],
-) -> BackAnswer
-    ensures { λ r. ⌜ backMeans r ≡ backNumber (formBy sets k (now (failure .entry)) (now (kept .entry)) (now (cells .entry))) ⌝ }
+) -> Answer
+    ensures { λ r. ⌜ answerNumber r ≡ backNumber (formBy sets k (now (failure .entry)) (now (kept .entry)) (now (cells .entry))) ⌝ }
 {
     if bad_numbers(sets, k) {
-        return BackAnswer::Refused(40);
+        return Answer::Refused(40);
     }
     if some_not_below(failure, sets) {
-        return BackAnswer::Refused(40);
+        return Answer::Refused(40);
     }
     if first_lacks(kept, k) {
-        return BackAnswer::Refused(40);
+        return Answer::Refused(40);
     }
     if stray_bits(kept, sets, k) {
-        return BackAnswer::Refused(40);
+        return Answer::Refused(40);
     }
     if some_lacking(cells, sets, count_kept(kept, sets)) {
-        return BackAnswer::Refused(40);
+        return Answer::Refused(40);
     }
-    BackAnswer::Accepted
+    Answer::Accepted
 }
 
 // A cell that set t does not keep: its failure set's, or 512 for no symbol.
@@ -232,7 +233,7 @@ pub fn table_of(form: Form) -> BackResult
     let cells = form.cells;
     let checked = check(sets as usize, symbols as usize, &failure, &kept, &cells);
     match checked {
-        BackAnswer::Accepted => {
+        Answer::Accepted => {
             let mut next = [limits::EMPTY; limits::CELLS];
             fill(
                 sets as usize,
@@ -247,12 +248,12 @@ pub fn table_of(form: Form) -> BackResult
                 symbols,
                 next,
             };
-            let answer = BackAnswer::Accepted;
+            let answer = Answer::Accepted;
             BackResult { answer, table }
         }
-        BackAnswer::Refused(number) => {
+        Answer::Refused(number) => {
             let table = no_table();
-            let answer = BackAnswer::Refused(number);
+            let answer = Answer::Refused(number);
             BackResult { answer, table }
         }
     }

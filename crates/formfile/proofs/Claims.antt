@@ -7,8 +7,8 @@ use Prim.Native.Nat.{ℕ}
 use Rattle.ruleformat.specs.Reader.{ruleOf}
 use Rattle.build.specs.mirror.Building.{builtOf}
 use Rattle.calls.specs.declared.Judge.{Judge}
-use Rattle.calls.specs.Calls.{Call, loads, loadNumber}
-use Rattle.calls.specs.mirror.Steps.{outcomeBy, installReply, withRule, loadOf}
+use Rattle.calls.specs.Calls.{Call, loads, loadNumber, withSets}
+use Rattle.calls.specs.mirror.Steps.{outcomeBy, withRule, loadOf}
 use Rattle.forms.specs.Form.{formOf}
 use Rattle.forms.specs.Back.{backOf}
 use Rattle.formmaker.specs.Making.{Made, madeOf}
@@ -26,7 +26,7 @@ module _ (f : List ℕ) (ok : loadNumber f ≡ none) where
 
   judge-is : judgeAfter calls ≡ withRule (ruleOf f)
   unfolding stateAfter loadOf
-  judge-is = ap (λ (o : Option ℕ). outcomeBy o (installReply (ruleOf f)) (judgeAfter []) (withRule (ruleOf f)) .state) ok
+  judge-is = ap (λ (o : Option ℕ). outcomeBy o (withSets (ruleOf f)) (judgeAfter []) (withRule (ruleOf f)) .state) ok
 
   rule-there : ruleThere calls ≡ some (ruleOf f)
   unfolding ruleThere

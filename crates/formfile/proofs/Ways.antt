@@ -7,12 +7,12 @@ use Rattle.base.proofs.Tests.{zero-one}
 use Rattle.ruleformat.specs.Reader.{ruleOf}
 use Rattle.calls.specs.declared.Judge.{Judge}
 use Rattle.calls.specs.declared.InstallResult.{InstallResult}
-use Rattle.calls.specs.declared.InstallAnswer.the-variants.{Accepted, Refused}
+use Rattle.build.specs.declared.BuildAnswer.the-variants.{Accepted, Refused}
 use Rattle.calls.specs.Replies.{Reply, refused, installMeans, Outcome, installOutcome}
-use Rattle.calls.specs.Calls.{loadNumber}
-use Rattle.calls.specs.mirror.Steps.{outcomeBy, installReply, withRule, loadOf}
+use Rattle.calls.specs.Calls.{loadNumber, withSets}
+use Rattle.calls.specs.mirror.Steps.{outcomeBy, withRule, loadOf}
 use Rattle.forms.specs.declared.Form.{Form}
-use Rattle.forms.specs.declared.FormAnswer.the-variants as form
+use Rattle.base.specs.declared.Answer.the-variants as form
 use Rattle.formmaker.specs.Making.{Made, noForm, madeOf, madeOutcome}
 use Rattle.formfile.specs.Files.{formBy, formFor}
 
@@ -43,5 +43,5 @@ module _ (j : Judge) (f : List ℕ) (r : InstallResult) (is : installOutcome r �
       let n : loadNumber f ≡ none
       = none-of (loadNumber f) _ _ a b j (withRule (ruleOf f)) (sym replies ∙ ap installMeans e) in
       let state : r .judge ≡ withRule (ruleOf f)
-      = ap (λ (o : Outcome). o .state) is ∙ ap (λ (o : Option ℕ). outcomeBy o (installReply (ruleOf f)) j (withRule (ruleOf f)) .state) n in
+      = ap (λ (o : Outcome). o .state) is ∙ ap (λ (o : Option ℕ). outcomeBy o (withSets (ruleOf f)) j (withRule (ruleOf f)) .state) n in
       q ∙ ap madeOf state ∙ sym (ap (λ (o : Option ℕ). formBy o f) n)

@@ -2,8 +2,8 @@
 ghost use mathlib.Core.Path.{_≡_};
 ghost use Rattle.formmaker.specs.Making.{madeOutcome};
 ghost use Rattle.formfile.specs.Files.{formFor};
-use calls::InstallAnswer;
-use forms::FormAnswer;
+use base::Answer;
+use build::BuildAnswer;
 use forms::FormResult;
 
 // Loads a rule file into a fresh judge and makes the form of its table.
@@ -13,11 +13,11 @@ pub fn form_in(file: &[u8]) -> FormResult
     let loaded = judge::load(judge::new_judge(), file);
     let load = loaded.answer;
     match load {
-        InstallAnswer::Refused(number) => {
+        BuildAnswer::Refused(number) => {
             let form = formmaker::no_form();
-            let answer = FormAnswer::Refused(number);
+            let answer = Answer::Refused(number);
             FormResult { answer, form }
         }
-        InstallAnswer::Accepted(_, _) => formmaker::make_form(loaded.judge),
+        BuildAnswer::Accepted(_, _) => formmaker::make_form(loaded.judge),
     }
 }

@@ -6,7 +6,7 @@ use borrow.Author.Tests.{eq-eqb, ne-eqb}
 use Rattle.limits.specs.Limits.{mostSymbols, mostSets}
 use Rattle.calls.specs.declared.Judge.{Judge}
 use Rattle.forms.specs.declared.Form.{Form}
-use Rattle.forms.specs.declared.FormAnswer.the-variants.{Made, Refused}
+use Rattle.base.specs.declared.Answer.the-variants.{Accepted, Refused}
 use Rattle.forms.specs.Form.{failures, masks, packedCells, formOf}
 use Rattle.formmaker.specs.Making.{noForm, madeOutcome, madeOf}
 
@@ -15,7 +15,7 @@ pub form-is : (n k : ℕ) (l f m c : List ℕ) → f ≡ failures n k l → m �
 form-is n k l f m c p q r = let z : c ≡ packedCells (masks n k l) l n = r ∙ ap (λ (x : List ℕ). packedCells x l n) q in cc
 
 pub made : (j : Judge) (f : Form) (n k : ℕ) → (j .built .n ≡ 0 → ⊥) → n ≡ min (j .built .setcount) mostSets → k ≡ min (j .built .k) mostSymbols
-    → f ≡ formOf n k (j .built .next) → madeOutcome (record { answer = Made; form = f }) ≡ madeOf j
+    → f ≡ formOf n k (j .built .next) → madeOutcome (record { answer = Accepted; form = f }) ≡ madeOf j
 made j f n k there p q e = rw (ne-eqb (j .built .n) 0 there, e, p, q)
 
 pub no-rule : (j : Judge) (f : Form) → j .built .n ≡ 0 → f ≡ noForm → madeOutcome (record { answer = Refused 20; form = f }) ≡ madeOf j

@@ -5,18 +5,17 @@
 --   formIn j       the form of the judge's table
 --   Made           the outcome: the number of a refusal, if it is one, and the form
 --   madeOf j       the outcome on the judge j: 20 where it has no rule, and then zeros
---   madeMeans, madeOutcome   what the code's answer and its result say
+--   madeOutcome       what the code's result says
 use mathlib.Core.List.{[], _∷_}
 use mathlib.Core.Option.{Option, none, some}
 use Prim.Native.Nat.{ℕ, min}
 use lib.ListN.{replicate}
+use Rattle.base.specs.Answers.{answerNumber}
 use Rattle.base.specs.Conditions.{on, firstOf}
 use Rattle.limits.specs.Limits.{mostSymbols, mostSets, tableCells}
 use Rattle.calls.specs.declared.Judge.{Judge}
 use Rattle.calls.specs.mirror.Steps.{lacksRule}
 use Rattle.forms.specs.declared.Form.{Form}
-use Rattle.forms.specs.declared.FormAnswer.{FormAnswer}
-use Rattle.forms.specs.declared.FormAnswer.the-variants.{Made as MadeAnswer, Refused}
 use Rattle.forms.specs.declared.FormResult.{FormResult}
 use Rattle.forms.specs.Form.{formOf}
 
@@ -43,9 +42,5 @@ madeBy (some number) f = record { number = some number; form = noForm }
 abbrev pub madeOf : Judge → Made
 madeOf j = madeBy (firstOf (on 20 (lacksRule j) ∷ [])) (formIn j)
 
-abbrev pub madeMeans : FormAnswer → Option ℕ
-madeMeans MadeAnswer = none
-madeMeans (Refused number) = some number
-
 abbrev pub madeOutcome : FormResult → Made
-madeOutcome r = record { number = madeMeans (r .answer); form = r .form }
+madeOutcome r = record { number = answerNumber (r .answer); form = r .form }

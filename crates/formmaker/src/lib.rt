@@ -5,9 +5,9 @@ ghost use lib.ListN.{replicate};
 ghost use Rattle.limits.specs.Limits.{mostSymbols, mostSets, tableCells};
 ghost use Rattle.forms.specs.Form.{equalCells, failureOf, keepsFrom, keptMask, packedCells, failures, masks, formOf};
 ghost use Rattle.formmaker.specs.Making.{noForm, madeOutcome, madeOf};
+use base::Answer;
 use calls::Judge;
 use forms::Form;
-use forms::FormAnswer;
 use forms::FormResult;
 
 // In how many symbols two sets have equal cells.
@@ -163,13 +163,13 @@ pub fn make_form(judge: Judge) -> FormResult
     let built = judge.built;
     if built.n == 0 {
         let form = no_form();
-        let answer = FormAnswer::Refused(20);
+        let answer = Answer::Refused(20);
         return FormResult { answer, form };
     }
     let next = built.next;
     let sets = base::at_most(built.setcount as usize, limits::SETS) as u16;
     let symbols = base::at_most_u8(built.k, limits::MOST_SYMBOLS);
     let form = to_form(&next, sets, symbols);
-    let answer = FormAnswer::Made;
+    let answer = Answer::Accepted;
     FormResult { answer, form }
 }

@@ -8,21 +8,20 @@
 --   tableOf f       the table; a cell that is not in use is 512, as in a built rule
 --   Back            the outcome: the number of a refusal, if it is one, and the table
 --   backOf f        the outcome of the form f; a refusal carries zeros
---   backMeans, backOutcome   what the code's answer and its result say
+--   backOutcome       what the code's result says
 use mathlib.Core.Bool.{Bool, cond, not, _&&_, _||_}
 use mathlib.Core.List.{List, [], _∷_}
 use mathlib.Core.Option.{Option, none, some}
 use Prim.Native.Nat.{ℕ, zero, suc, _+_, _*_, _/_, _%_, _^_}
 use lib.Dec.{eqb, ltb, leb}
 use lib.ListN.{getD, replicate}
+use Rattle.base.specs.Answers.{answerNumber}
 use Rattle.base.specs.Conditions.{Condition, on, firstOf, outside, anyBelow}
 use Rattle.base.specs.Lists.{listFrom}
 use Rattle.limits.specs.Limits.{mostSymbols, mostSets, emptySet, tableCells}
 use Rattle.masks.specs.Masks.{has}
 use Rattle.forms.specs.declared.Form.{Form}
 use Rattle.forms.specs.declared.Table.{Table}
-use Rattle.forms.specs.declared.BackAnswer.{BackAnswer}
-use Rattle.forms.specs.declared.BackAnswer.the-variants.{Accepted, Refused}
 use Rattle.forms.specs.declared.BackResult.{BackResult}
 use Rattle.forms.specs.Form.{howMany, keptAt}
 
@@ -107,9 +106,5 @@ abbrev pub backOf : Form → Back
 backOf f = backBy (backNumber f) (tableOf f)
 
 -- ---- the code's answer
-abbrev pub backMeans : BackAnswer → Option ℕ
-backMeans Accepted = none
-backMeans (Refused number) = some number
-
 abbrev pub backOutcome : BackResult → Back
-backOutcome r = record { number = backMeans (r .answer); table = r .table }
+backOutcome r = record { number = answerNumber (r .answer); table = r .table }

@@ -4,6 +4,7 @@ ghost use mathlib.Core.Path.{_≡_};
 ghost use Prim.Native.Nat.{_<_};
 ghost use Rattle.limits.specs.Limits.{mostSymbols};
 ghost use Rattle.masks.specs.Masks.{has};
+use base::Answer;
 
 // For each set its failure set and the mask of its kept cells, bit s for symbol s; then the kept
 // cells, packed by set and symbol, 512 for an empty one. The rest is 0.
@@ -24,27 +25,15 @@ pub struct Table {
     pub next: [u16; limits::CELLS],
 }
 
-// What making the form of a judge's table answers.
-pub enum FormAnswer {
-    Made,
-    Refused(u8),
-}
-
 // The answer with the form beside it, which is all zeros where it is refused.
 pub struct FormResult {
-    pub answer: FormAnswer,
+    pub answer: Answer,
     pub form: Form,
-}
-
-// What the way back answers.
-pub enum BackAnswer {
-    Accepted,
-    Refused(u8),
 }
 
 // The answer with the table beside it, which is all zeros where it is refused.
 pub struct BackResult {
-    pub answer: BackAnswer,
+    pub answer: Answer,
     pub table: Table,
 }
 

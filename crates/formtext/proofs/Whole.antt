@@ -4,16 +4,17 @@ use mathlib.Core.List.{List}
 use Prim.Native.Nat.{ℕ, _+_, _*_, _≤_, min}
 use native.Mathlib.Omega.{arith}
 use lib.ListN.{length}
+use Rattle.base.specs.Answers.{answerNumber}
 use Rattle.base.specs.Lists.{joined}
 use Rattle.text.specs.Writing.{Wrote}
 use Rattle.text.proofs.Fitting.{put, _then_}
 use Rattle.ruletext.specs.RuleText.{refusedText}
 use Rattle.forms.specs.declared.Form.{Form}
-use Rattle.forms.specs.declared.FormAnswer.{FormAnswer}
-use Rattle.forms.specs.declared.FormAnswer.the-variants.{Made, Refused}
+use Rattle.base.specs.declared.Answer.{Answer}
+use Rattle.base.specs.declared.Answer.the-variants.{Accepted, Refused}
 use Rattle.forms.specs.declared.FormResult.{FormResult}
 use Rattle.formmaker.specs.Making as making
-use Rattle.formmaker.specs.Making.{madeMeans, madeOutcome}
+use Rattle.formmaker.specs.Making.{madeOutcome}
 use Rattle.formfile.specs.Files.{formFor}
 use Rattle.formtext.specs.FormText.{firstCell, setLine, headLine, formText, textBy, textFor}
 
@@ -29,11 +30,11 @@ whole f count kept c-is k-is room head lines =
     (rw (k-is, c-is) at ((u then v) .wrote), omega (arith, lines .1, head .1, c-is))
 
 module _ (f : List ℕ) (r : FormResult) (is : madeOutcome r ≡ formFor f) where
-  text-is : textBy (madeMeans (r .answer)) (r .form) ≡ textFor f
+  text-is : textBy (answerNumber (r .answer)) (r .form) ≡ textFor f
   text-is = ap (λ (m : making.Made). textBy (m .number) (m .form)) is
 
-  pub form-text : r .answer ≡ Made → formText (r .form) ≡ textFor f
-  form-text e = sym (ap (λ (a : FormAnswer). textBy (madeMeans a) (r .form)) e) ∙ text-is
+  pub form-text : r .answer ≡ Accepted → formText (r .form) ≡ textFor f
+  form-text e = sym (ap (λ (a : Answer). textBy (answerNumber a) (r .form)) e) ∙ text-is
 
   pub refused-text : (x : ℕ) → r .answer ≡ Refused x → refusedText x ≡ textFor f
-  refused-text x e = sym (ap (λ (a : FormAnswer). textBy (madeMeans a) (r .form)) e) ∙ text-is
+  refused-text x e = sym (ap (λ (a : Answer). textBy (answerNumber a) (r .form)) e) ∙ text-is

@@ -9,8 +9,8 @@ ghost use Rattle.text.specs.Numerals.{hex};
 ghost use Rattle.text.specs.Writing.{Wrote};
 ghost use Rattle.ruletext.specs.RuleText.{space, field};
 ghost use Rattle.formtext.specs.FormText.{bitsIn, firstCell, cellsText, lineText, setLine, headLine, formText, textFor, mostBytes};
+use base::Answer;
 use forms::Form;
-use forms::FormAnswer;
 use subsets::SetNumber;
 
 // Room for the printed text of any form.
@@ -174,7 +174,7 @@ pub fn print_form(file: &[u8], out: &mut [u8]) -> usize
     let made = formfile::form_in(file);
     let answer = made.answer;
     match answer {
-        FormAnswer::Made => put_form(out, made.form),
-        FormAnswer::Refused(number) => answers::put_refused(out, 0, number),
+        Answer::Accepted => put_form(out, made.form),
+        Answer::Refused(number) => answers::put_refused(out, 0, number),
     }
 }

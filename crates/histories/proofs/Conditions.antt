@@ -30,9 +30,9 @@ use Rattle.subsets.specs.Sets.{setsOf}
 use Rattle.delegates.specs.Claims.{startsIn}
 use Rattle.chunks.specs.Chunks.{foreign}
 use Rattle.calls.specs.Replies.{Reply, accepted, installed, delivered, refused}
-use Rattle.calls.specs.Calls.{Call, delivers, withdraws, installNumber, loadNumber, openConditions}
+use Rattle.calls.specs.Calls.{Call, delivers, withdraws, installNumber, loadNumber, openConditions, withSets}
 use Rattle.calls.proofs.Conditions.{orElse, over, install-number, load-number}
-use Rattle.histories.specs.History.{ruleThere, ruleIn, placesIn, lookedOf, notGreater, lastRevision, standing, replyBy, withSets, answerOf}
+use Rattle.histories.specs.History.{ruleThere, ruleIn, placesIn, lookedOf, notGreater, lastRevision, standing, replyBy, answerOf}
 use Rattle.histories.specs.Method.{TooMany}
 use Rattle.histories.specs.Conditions.{Accepted-exactly, Refused-exactly}
 use Rattle.histories.proofs.Method.{nine-law, nine-bytes}

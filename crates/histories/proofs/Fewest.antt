@@ -21,8 +21,8 @@ use Rattle.delegates.proofs.Fewest.{fewest-claims}
 use Rattle.build.specs.mirror.Building.{accepted, refused, sets, Outcome, buildOf}
 use Rattle.build.proofs.Claims as build
 use Rattle.calls.specs.Replies.{installed}
-use Rattle.calls.specs.Calls.{Call, installNumber, loadNumber}
-use Rattle.histories.specs.History.{replyBy, withSets}
+use Rattle.calls.specs.Calls.{Call, installNumber, loadNumber, withSets}
+use Rattle.histories.specs.History.{replyBy}
 use Rattle.histories.specs.Fewest.{Fewest, BuildFewest, InstallFewest, LoadFewest}
 use Rattle.histories.proofs.Steps.{accepted-rule}
 use Rattle.histories.proofs.Method.{method-bytes}

@@ -17,8 +17,8 @@ use Rattle.executions.proofs.Last as executions
 use Rattle.automaton.specs.declared.Rule.{Rule}
 use Rattle.ruleformat.specs.Reader.{ruleOf}
 use Rattle.calls.specs.Replies.{Reply, accepted, delivered, refusalOf}
-use Rattle.calls.specs.Calls.{Call, installs, loads, opens, delivers, withdraws, asksVerdict, installNumber, loadNumber}
-use Rattle.histories.specs.History.{ruleThere, ruleIn, openNumber, boardIn, placesIn, lookedOf, lastRevision, standing, deliverNumber, withdrawNumber, replyBy, withSets, answerOf}
+use Rattle.calls.specs.Calls.{Call, installs, loads, opens, delivers, withdraws, asksVerdict, installNumber, loadNumber, withSets}
+use Rattle.histories.specs.History.{ruleThere, ruleIn, openNumber, boardIn, placesIn, lookedOf, lastRevision, standing, deliverNumber, withdrawNumber, replyBy, answerOf}
 use Rattle.histories.specs.Last.{Accepted, Last, Rules, Begins, AtPlace, Touches, LastRule, LastBoard, LastRevision, LastStanding}
 use Rattle.histories.proofs.EveryList.{every-list}
 

@@ -5,7 +5,7 @@
 -- where the successor of {q} by a text is the set of the states that a run leads to; and from there
 -- to the bytes, which state the same arcs (SameArcs.antt).
 use mathlib.Core.Path.{_≡_, refl, sym, ap, _∙_, subst}
-use mathlib.Core.Logic.{_↔_, _⊎_, inl, inr, Iff·trans}
+use mathlib.Core.Logic.{_↔_, _⊎_, inl, inr, Iff·symm, Iff·trans}
 use mathlib.Core.Bool.{true}
 use mathlib.Core.List.{List}
 use mathlib.Core.Option.{none}
@@ -27,6 +27,8 @@ use Rattle.ruleformat.specs.Refusals.{refusal}
 use Rattle.ruleformat.specs.Reader.{ruleOf}
 use Rattle.ruleformat.specs.Language.{automatonIn}
 use Rattle.ruleformat.proofs.Claims as rulefile
+use Rattle.numbering.specs.Order.{InOrder}
+use Rattle.numbering.proofs.InOrder.{in-order-by}
 use Rattle.subsets.specs.Sets.{tooMany}
 use Rattle.subsets.specs.Claims.{Reach, sets, next, fits}
 use Rattle.subsets.proofs.Claims as subsets
@@ -36,7 +38,7 @@ use Rattle.build.specs.mirror.Building.{builtOf}
 use Rattle.build.proofs.Claims as build
 use Rattle.calls.specs.Calls.{installNumber, loadNumber}
 use Rattle.calls.proofs.Conditions.{load-accepted}
-use Rattle.histories.specs.Method.{Leads, Moves, setAt, nextAt, numberedIn, Origin, InOrder, TooMany, Method}
+use Rattle.histories.specs.Method.{Leads, Moves, setAt, nextAt, numberedIn, TooMany, Method}
 use Rattle.histories.proofs.SameArcs.{many-read, method-read}
 use Rattle.histories.proofs.Steps.{accepted-rule}
 
@@ -127,24 +129,11 @@ module _ (r : Rule) (e : installNumber r ≡ none) where
       inl (b, subst (Moves (automatonOf r) (setAt built i) s) same is))
 
   -- ---- the order
-  in-order : InOrder (automatonOf r) built
+  in-order : InOrder (r .n) (Leads (automatonOf r)) (setAt built) (built .setcount)
   in-order =
-      let o = subsets.claims .ordered r well fit in
-      record {
-        state = o .state;
-        text = o .text;
-        origin = λ i b.
-            let h = o .origin i b in
-            let q = o .state i in
-            subst (λ (m : ℕ). Origin (automatonOf r) m q (o .text i)) (sym (set-at i b))
-            (record {
-              below = h .below;
-              leads = leads-law r well q (h .below) (o .text i) (getD (sets r) i 0) .1 (h .leads);
-              first-state = λ p v l x. h .first-state p v l (leads-law r well p l v (getD (sets r) i 0) .0 x);
-              first-text = λ v x. h .first-text v (leads-law r well q (h .below) v (getD (sets r) i 0) .0 x);
-            });
-        rises = o .rises;
-      }
+      in-order-by (r .n) (λ i. getD (sets r) i 0) (setAt built) (built .setcount)
+      (λ i q w b l. rw (set-at i b) (Iff·symm (leads-law r well q l w (getD (sets r) i 0))))
+      (subsets.claims .ordered r well fit)
 
   pub method : Method (automatonOf r) (builtOf r)
   method = record {

@@ -19,17 +19,15 @@ use Rattle.build.specs.mirror.Building.{builtOf}
 use Rattle.board.specs.Boards.{placesOf, isEmpty, comesLate, emptyBoard, filledAt, clearedAt}
 use Rattle.calls.specs.declared.Judge.{Judge}
 use Rattle.calls.specs.declared.InstallResult.{InstallResult}
-use Rattle.calls.specs.declared.InstallAnswer.the-variants as installation
-use Rattle.calls.specs.declared.OpenResult.{OpenResult}
-use Rattle.calls.specs.declared.OpenAnswer.the-variants as opening
+use Rattle.build.specs.declared.BuildAnswer.the-variants as installation
+use Rattle.calls.specs.declared.CallResult.{CallResult}
+use Rattle.base.specs.declared.Answer.the-variants as opening
 use Rattle.calls.specs.declared.DeliverResult.{DeliverResult}
 use Rattle.calls.specs.declared.DeliverAnswer.the-variants as delivery
-use Rattle.calls.specs.declared.WithdrawResult.{WithdrawResult}
-use Rattle.calls.specs.declared.WithdrawAnswer.the-variants as withdrawal
 use Rattle.calls.specs.declared.Report.{Report}
 use Rattle.calls.specs.declared.Verdict.{Verdict}
 use Rattle.calls.specs.declared.Verdict.the-variants as verdict
-use Rattle.calls.specs.Replies.{Judgement, waiting, yesWith, noWith, refusedWith, Reported, Reply, accepted, installed, judged, verdictMeans, reportMeans, delivered, Outcome, installOutcome, openOutcome, deliverOutcome, withdrawOutcome}
+use Rattle.calls.specs.Replies.{Judgement, waiting, yesWith, noWith, refusedWith, Reported, Reply, accepted, installed, judged, verdictMeans, reportMeans, delivered, Outcome, installOutcome, callOutcome, deliverOutcome}
 use Rattle.calls.specs.Calls.{Call, installs, loads, opens, delivers, withdraws, asksVerdict, installNumber, loadNumber, openConditions, deliverConditions, withdrawConditions}
 use Rattle.calls.specs.mirror.Steps.{lacksRule, lacksBoard, withBoard, outcomeBy, withRule, runsAt, installOf, loadOf, openOf, deliverOf, withdrawOf, reportOf, stepOf}
 use Rattle.judge.proofs.Asks.{new-judge-asks-nothing, install-asks-nothing, load-asks-nothing, open-asks-nothing, deliver-asks-nothing, withdraw-asks-nothing, verdict-asks-nothing}
@@ -42,7 +40,7 @@ module _ (j next : Judge) where
   an-installation none sets m = (record { answer = installation.Accepted sets m; judge = next }, refl)
   an-installation (some x) sets m = (record { answer = installation.Refused x; judge = j }, refl)
 
-  an-opening : (number : Option ℕ) → (r : OpenResult) × (openOutcome r ≡ outcomeBy number accepted j next)
+  an-opening : (number : Option ℕ) → (r : CallResult) × (callOutcome r ≡ outcomeBy number accepted j next)
   an-opening none = (record { answer = opening.Accepted; judge = next }, refl)
   an-opening (some x) = (record { answer = opening.Refused x; judge = j }, refl)
 
@@ -50,9 +48,9 @@ module _ (j next : Judge) where
   a-delivery none looked = (record { answer = delivery.Accepted looked; judge = next }, refl)
   a-delivery (some x) looked = (record { answer = delivery.Refused x; judge = j }, refl)
 
-  a-withdrawal : (number : Option ℕ) → (r : WithdrawResult) × (withdrawOutcome r ≡ outcomeBy number accepted j next)
-  a-withdrawal none = (record { answer = withdrawal.Accepted; judge = next }, refl)
-  a-withdrawal (some x) = (record { answer = withdrawal.Refused x; judge = j }, refl)
+  a-withdrawal : (number : Option ℕ) → (r : CallResult) × (callOutcome r ≡ outcomeBy number accepted j next)
+  a-withdrawal none = (record { answer = opening.Accepted; judge = next }, refl)
+  a-withdrawal (some x) = (record { answer = opening.Refused x; judge = j }, refl)
 
 a-judgement : (v : Judgement) → (x : Verdict) × (verdictMeans x ≡ v)
 a-judgement (waiting empty) = (verdict.Waiting empty, refl)
@@ -77,7 +75,7 @@ module _ (j : Judge) where
   loading-of f =
       let rule = ruleOf f in an-installation j (withRule rule) (loadNumber f) (builtOf rule .setcount) (builtOf rule .startcount)
 
-  opening-of : (n : ℕ) → (r : OpenResult) × (openOutcome r ≡ openOf j n)
+  opening-of : (n : ℕ) → (r : CallResult) × (callOutcome r ≡ openOf j n)
   unfolding openOf
   opening-of n = an-opening j (withBoard j (emptyBoard n)) (firstOf (openConditions (lacksRule j) n))
 
@@ -89,7 +87,7 @@ module _ (j : Judge) where
       (deliverConditions (lacksBoard j) (placesOf (j .board)) p w (j .built .k) (comesLate (j .board) p v)))
       (runsAt j p w .looked)
 
-  withdrawal-of : (p : ℕ) → (r : WithdrawResult) × (withdrawOutcome r ≡ withdrawOf j p)
+  withdrawal-of : (p : ℕ) → (r : CallResult) × (callOutcome r ≡ withdrawOf j p)
   unfolding withdrawOf
   withdrawal-of p =
       a-withdrawal j (withBoard j (clearedAt (j .board) p))

@@ -20,6 +20,7 @@ use Rattle.ruleformat.specs.Refusals.{refusal}
 use Rattle.ruleformat.specs.Reader.{ruleOf}
 use Rattle.ruleformat.specs.Language.{ArcIn, automatonIn}
 use Rattle.ruleformat.proofs.Claims as rulefile
+use Rattle.numbering.proofs.InOrder.{in-order-by}
 use Rattle.delegates.specs.Alike.{AcceptsFrom, Alike, Live, Delegate, Merged}
 use Rattle.build.specs.declared.Built.{Built}
 use Rattle.histories.specs.Method.{Leads, Moves, setAt, nextAt, TooMany, Method}
@@ -104,19 +105,10 @@ module _ (n k : ℕ) (Initial Final : ℕ → Type 0) where
           λ y. (y .0, y .1, y .2, y .3, leads-map E D back on (y .1) (y .3) x (y .4)),
         );
     once = m .once;
-    order = record {
-      state = m .order .state;
-      text = m .order .text;
-      origin = λ i h.
-          let o = m .order .origin i h in
-          record {
-            below = o .below;
-            leads = leads-map D E on back (m .order .state i) (m .order .text i) (setAt b i) (o .leads);
-            first-state = λ p v l x. o .first-state p v l (leads-map E D back on p v (setAt b i) x);
-            first-text = λ v x. o .first-text v (leads-map E D back on (m .order .state i) v (setAt b i) x);
-          };
-      rises = m .order .rises;
-    };
+    order =
+        in-order-by n (setAt b) (setAt b) (b .setcount)
+        (λ i q w h l. (leads-map D E on back q w (setAt b i), leads-map E D back on q w (setAt b i)))
+        (m .order);
     table = λ i s h l.
         ⊎-elim
         (λ x. inl (x .0, moves-map D E on back (setAt b i) s (setAt b (nextAt b i s)) (x .1)))

@@ -24,9 +24,9 @@ use Rattle.board.specs.Boards.{emptyBoard, clearedAt, filledAt}
 use Rattle.calls.specs.declared.Judge.{Judge}
 use Rattle.calls.specs.Replies.{Reply, accepted, delivered}
 use Rattle.calls.proofs.Conditions.{not-refused, load-accepted}
-use Rattle.histories.specs.History.{ruleThere, ruleFrom, ruleIn, openNumber, placesIn, lookedOf, notGreater, deliverCheck, lastRevision, standing, deliverNumber, withdrawNumber, replyBy, withSets}
-use Rattle.calls.specs.Calls.{Call, installs, loads, opens, delivers, withdraws, asksVerdict, installNumber, loadNumber, deliverConditions}
-use Rattle.calls.specs.mirror.Steps.{fresh, withBoard, outcomeBy, withRule, installReply, runsAt, installOf, loadOf, openOf, deliverOf, withdrawOf}
+use Rattle.histories.specs.History.{ruleThere, ruleFrom, ruleIn, openNumber, placesIn, lookedOf, notGreater, deliverCheck, lastRevision, standing, deliverNumber, withdrawNumber, replyBy}
+use Rattle.calls.specs.Calls.{Call, installs, loads, opens, delivers, withdraws, asksVerdict, installNumber, loadNumber, deliverConditions, withSets}
+use Rattle.calls.specs.mirror.Steps.{fresh, withBoard, outcomeBy, withRule, runsAt, installOf, loadOf, openOf, deliverOf, withdrawOf}
 use Rattle.histories.specs.Claims.{BuiltBy}
 use Rattle.histories.proofs.Agreement.{Agrees, all-empty, fresh-holds, placed, cleared-holds, run-looked, filled-holds}
 use Rattle.histories.proofs.Numbers.{open-number, withdraw-number, deliver-number}
@@ -59,7 +59,7 @@ module _ (h : List Call) (j : Judge) (good : AgreesWith h j) where
   module _ (r : Rule) (number : Option ℕ) (fine : number ≡ none → installNumber r ≡ none) where
     ruled-good : (o : Option ℕ) → number ≡ o
         → Agrees (cond (isNone number) (some r) (ruleThere h)) (cond (isNone number) 0 (placesIn h)) (λ p. cond (isNone number) none (standing h p))
-        (λ p. cond (isNone number) none (lastRevision h p)) (outcomeBy o (installReply r) j (withRule r) .state)
+        (λ p. cond (isNone number) none (lastRevision h p)) (outcomeBy o (withSets r) j (withRule r) .state)
     ruled-good none e =
         let x = accepted-rule r (fine e) in
         transfer (withRule r) (sym (rw e)) (sym (rw e)) (λ p. sym (rw e)) (λ p. sym (rw e))
@@ -72,7 +72,7 @@ module _ (h : List Call) (j : Judge) (good : AgreesWith h j) where
 
   pub install-says : (r : Rule) → installOf j r .reply ≡ replyBy (installNumber r) (withSets r)
   unfolding installOf
-  install-says r = by-says (installNumber r) (installReply r) j (withRule r)
+  install-says r = by-says (installNumber r) (withSets r) j (withRule r)
 
   pub load-good : (f : List ℕ) → AgreesWith (loads f ∷ h) (loadOf j f .state)
   unfolding loadOf ruleThere placesIn standing lastRevision
@@ -80,7 +80,7 @@ module _ (h : List Call) (j : Judge) (good : AgreesWith h j) where
 
   pub load-says : (f : List ℕ) → loadOf j f .reply ≡ replyBy (loadNumber f) (withSets (ruleOf f))
   unfolding loadOf
-  load-says f = by-says (loadNumber f) (installReply (ruleOf f)) j (withRule (ruleOf f))
+  load-says f = by-says (loadNumber f) (withSets (ruleOf f)) j (withRule (ruleOf f))
 
   -- ---- open
   open-is : (n : ℕ) → openOf j n ≡ outcomeBy (openNumber h n) accepted j (withBoard j (emptyBoard n))

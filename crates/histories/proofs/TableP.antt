@@ -27,9 +27,9 @@ use Rattle.build.specs.mirror.Building.{builtOf}
 use Rattle.delegates.specs.Alike.{delegateIn, startSet}
 use Rattle.chunks.specs.Chunks.{foreign, counted, runSet, looked}
 use Rattle.joins.specs.Joining.{joinOf, yesOf}
-use Rattle.histories.specs.History.{ruleThere, ruleFrom, withSets, openNumber, placesIn, standingCount, standingEnd, deliverCheck, lastRevision, standing, deliverNumber, standingText, reportIn, answersTo, ruleIn, lookedOf, replyBy, answerOf}
+use Rattle.histories.specs.History.{ruleThere, ruleFrom, openNumber, placesIn, standingCount, standingEnd, deliverCheck, lastRevision, standing, deliverNumber, standingText, reportIn, answersTo, ruleIn, lookedOf, replyBy, answerOf}
 use Rattle.calls.specs.Replies.{Reported, Reply, accepted, installed, judged, refused, delivered}
-use Rattle.calls.specs.Calls.{Call, loads, opens, delivers, loadNumber, verdictBy, reportBy}
+use Rattle.calls.specs.Calls.{Call, loads, opens, delivers, loadNumber, verdictBy, reportBy, withSets}
 use Rattle.calls.proofs.Conditions.{load-number}
 use Rattle.histories.specs.Claims.{judgeAfter, repliesTo, BuiltBy}
 use Rattle.histories.specs.TableP.{sets, delegates, verdict, turned-down, Case, case, delivering, answering, callsFor, callsOf, repliesOf, rowsFrom, Shows, AsTabled, Each, cases}

@@ -21,9 +21,9 @@ use Rattle.base.proofs.Tests.{by-test, not-both}
 use Rattle.masks.specs.Masks.{shares}
 use Rattle.delegates.specs.Alike.{delegateIn}
 use Rattle.delegates.specs.Claims.{startsIn}
-use Rattle.board.specs.Boards.{emptyPlaces, summedCount}
+use Rattle.board.specs.Boards.{emptyPlaces, summedCount, heldIn}
 use Rattle.board.proofs.Laws.{empty-law}
-use Rattle.joins.specs.Joining.{yesOf, heldIn}
+use Rattle.joins.specs.Joining.{yesOf}
 use Rattle.joins.proofs.Claims as joins
 use Rattle.automaton.specs.declared.Rule.{Rule}
 use Rattle.calls.specs.declared.Judge.{Judge}

@@ -18,11 +18,10 @@ use Rattle.executions.specs.Executions.{Library}
 use Rattle.automaton.specs.declared.Rule.{Rule}
 use Rattle.calls.specs.declared.Judge.{Judge}
 use Rattle.calls.specs.declared.InstallResult.{InstallResult}
-use Rattle.calls.specs.declared.OpenResult.{OpenResult}
+use Rattle.calls.specs.declared.CallResult.{CallResult}
 use Rattle.calls.specs.declared.DeliverResult.{DeliverResult}
-use Rattle.calls.specs.declared.WithdrawResult.{WithdrawResult}
 use Rattle.calls.specs.declared.Report.{Report}
-use Rattle.calls.specs.Replies.{Reply, judged, reportMeans, installOutcome, openOutcome, deliverOutcome, withdrawOutcome}
+use Rattle.calls.specs.Replies.{Reply, judged, reportMeans, installOutcome, callOutcome, deliverOutcome}
 use Rattle.calls.specs.Calls.{Call, installs, loads, opens, delivers, withdraws, asksVerdict}
 use Rattle.judge.proofs.new_judge.Reads as new-reads
 use Rattle.judge.proofs.new_judge.Kinds as new-kinds
@@ -50,7 +49,7 @@ abbrev pub MayLoad : Judge → List ℕ → InstallResult → Type 0
 MayLoad j f r =
     (κs : Lfts 1) × (c : RefT (List ℕ)) × (s : AtExit (endedOf 1 load-kinds.ps load-kinds.r) κs) × (now c ≡ f) × load-reads.Learnt κs (j, (c, tt)) r s
 
-abbrev pub MayOpen : Judge → ℕ → OpenResult → Type 0
+abbrev pub MayOpen : Judge → ℕ → CallResult → Type 0
 MayOpen j n r = (s : AtExit (endedOf 0 open-kinds.ps open-kinds.r) tt) × open-reads.Learnt tt (j, (n, tt)) r s
 
 abbrev pub MayDeliver : Judge → ℕ → ℕ → List ℕ → DeliverResult → Type 0
@@ -58,7 +57,7 @@ MayDeliver j p v w r =
     (κs : Lfts 1) × (c : RefT (List ℕ)) × (s : AtExit (endedOf 1 deliver-kinds.ps deliver-kinds.r) κs) × (now c ≡ w)
     × deliver-reads.Learnt κs (j, (p, (v, (c, tt)))) r s
 
-abbrev pub MayWithdraw : Judge → ℕ → WithdrawResult → Type 0
+abbrev pub MayWithdraw : Judge → ℕ → CallResult → Type 0
 MayWithdraw j p r = (s : AtExit (endedOf 0 withdraw-kinds.ps withdraw-kinds.r) tt) × withdraw-reads.Learnt tt (j, (p, tt)) r s
 
 abbrev pub MayJudge : Judge → Report → Type 0
@@ -76,9 +75,9 @@ AsksStep j asksVerdict = verdict-reads.Asked tt (j, tt)
 abbrev pub MayStep : Judge → Call → Reply → Judge → Type 0
 MayStep j (installs rule) a next = (r : InstallResult) × MayInstall j rule r × (record { reply = a; state = next } ≡ installOutcome r)
 MayStep j (loads f) a next = (r : InstallResult) × MayLoad j f r × (record { reply = a; state = next } ≡ installOutcome r)
-MayStep j (opens n) a next = (r : OpenResult) × MayOpen j n r × (record { reply = a; state = next } ≡ openOutcome r)
+MayStep j (opens n) a next = (r : CallResult) × MayOpen j n r × (record { reply = a; state = next } ≡ callOutcome r)
 MayStep j (delivers p v w) a next = (r : DeliverResult) × MayDeliver j p v w r × (record { reply = a; state = next } ≡ deliverOutcome r)
-MayStep j (withdraws p) a next = (r : WithdrawResult) × MayWithdraw j p r × (record { reply = a; state = next } ≡ withdrawOutcome r)
+MayStep j (withdraws p) a next = (r : CallResult) × MayWithdraw j p r × (record { reply = a; state = next } ≡ callOutcome r)
 MayStep j asksVerdict a next = (r : Report) × MayJudge j r × (a ≡ judged (reportMeans r)) × (next ≡ j)
 
 abbrev pub judgeLibrary : Library Judge Call Reply

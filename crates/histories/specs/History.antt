@@ -27,7 +27,6 @@
 --   yesIn h, verdictIn h, reportIn h     the join of the end sets says yes; the verdict; what is
 --                                        reported with it
 --   textIn h                 the standing chunks without their idle marks, joined by place
---   withSets r               what is answered where the rule r is installed, also by a load
 --   replyBy number a         refused with the number, or a where there is none
 --   answerOf h c             what document 01 answers to the call c after the calls h
 --   answersTo h              its answers to all calls of the list
@@ -44,13 +43,12 @@ use Rattle.base.specs.Totals.{total}
 use Rattle.marks.specs.Marks.{textOf}
 use Rattle.automaton.specs.declared.Rule.{Rule}
 use Rattle.ruleformat.specs.Reader.{ruleOf, noRule}
-use Rattle.subsets.specs.Sets.{setsOf}
 use Rattle.delegates.specs.Alike.{delegateIn}
 use Rattle.delegates.specs.Claims.{startsIn}
 use Rattle.chunks.specs.Chunks.{runSet, endSet, chunkCount, looked}
 use Rattle.joins.specs.Joining.{yesOf}
-use Rattle.calls.specs.Replies.{Judgement, Reported, Reply, accepted, installed, judged, refused, delivered}
-use Rattle.calls.specs.Calls.{Call, installs, loads, opens, delivers, withdraws, asksVerdict, installNumber, loadNumber, openConditions, deliverConditions, withdrawConditions, verdictBy, reportBy}
+use Rattle.calls.specs.Replies.{Judgement, Reported, Reply, accepted, judged, refused, delivered}
+use Rattle.calls.specs.Calls.{Call, installs, loads, opens, delivers, withdraws, asksVerdict, installNumber, loadNumber, openConditions, deliverConditions, withdrawConditions, verdictBy, reportBy, withSets}
 
 -- ---- which rule is there
 unfoldable pub ruleThere : List Call → Option Rule
@@ -202,10 +200,6 @@ textIn h = joinedUpTo (standing h) (placesIn h)
 abbrev pub replyBy : Option ℕ → Reply → Reply
 replyBy none a = a
 replyBy (some number) a = refused number
-
--- a rule that is installed: the number of its sets, and M
-abbrev pub withSets : Rule → Reply
-withSets r = installed (length (setsOf (r .targets) (r .n) (r .k))) (startsIn r .startcount)
 
 abbrev pub answerOf : List Call → Call → Reply
 answerOf h (installs r) = replyBy (installNumber r) (withSets r)

@@ -7,20 +7,18 @@
 --   Moves a l s m   m is the set of the states to which an arc by the symbol s leads from a member
 --                   of l
 --   numberedIn b m  the set m has a number in the built rule b
---   Origin, InOrder the first state and, from it, the first text that lead to a set; sets are
---                   numbered in the order of these
 --   TooMany a       more than 512 sets are reached: 513 distinct ones, none of them empty
 --   Method a b      the sets, the next-set table, the delegates and M of b are those of the
 --                   automaton a
 use mathlib.Core.Path.{_≡_}
 use mathlib.Core.Logic.{_↔_, _⊎_}
 use mathlib.Core.List.{List}
-use Prim.Native.Nat.{ℕ, _+_, _*_, _<_, _≤_}
+use Prim.Native.Nat.{ℕ, _+_, _*_, _<_}
 use lib.ListN.{length, getD}
 use Rattle.limits.specs.Limits.{mostSymbols, mostSets, emptySet}
 use Rattle.masks.specs.Masks.{_∈_}
 use Rattle.automaton.specs.Automaton.{Automaton, Arc, Run}
-use Rattle.numbering.specs.Texts.{Sooner, NoLater}
+use Rattle.numbering.specs.Order.{InOrder}
 use Rattle.numbering.specs.Claims.{Distinct}
 use Rattle.delegates.specs.Alike.{Merged}
 use Rattle.build.specs.declared.Built.{Built}
@@ -41,20 +39,6 @@ module _ (b : Built) where
   abbrev pub numberedIn : ℕ → Type 0
   numberedIn m = (i : ℕ) × (i < b .setcount) × (setAt i ≡ m)
 
--- the sets of the built rule in the order of their numbers. Of two texts the shorter is first; of
--- two as long, the one with the lower symbol where they first differ
-pub record Origin (a : Automaton) (m q : ℕ) (w : List ℕ) : Type 0 where
-  pub below : q < a .n
-  pub leads : Leads a q w m
-  pub first-state : (p : ℕ) (v : List ℕ) → p < a .n → Leads a p v m → q ≤ p
-  pub first-text : (v : List ℕ) → Leads a q v m → NoLater w v
-
-pub record InOrder (a : Automaton) (b : Built) : Type 0 where
-  pub state : ℕ → ℕ
-  pub text : ℕ → List ℕ
-  pub origin : (i : ℕ) → i < b .setcount → Origin a (setAt b i) (state i) (text i)
-  pub rises : (i j : ℕ) → i < j → j < b .setcount → (state i < state j) ⊎ ((state i ≡ state j) × Sooner (text i) (text j))
-
 -- more than 512 sets are reached
 abbrev pub TooMany : Automaton → Type 0
 TooMany a =
@@ -67,7 +51,7 @@ pub record Method (a : Automaton) (b : Built) : Type 0 where
   pub sets : (m : ℕ) → numberedIn b m ↔ (m ≡ 0 → ⊥) × (q : ℕ) × (q < a .n) × (w : List ℕ) × Leads a q w m
   pub once : (i j : ℕ) → i < b .setcount → j < b .setcount → setAt b i ≡ setAt b j → i ≡ j
   -- sets are numbered in the order of their first states, and then of their first texts from these
-  pub order : InOrder a b
+  pub order : InOrder (a .n) (Leads a) (setAt b) (b .setcount)
   -- a cell of the table is the number of the set to which the arcs by its symbol lead, or 512 where
   -- they lead nowhere
   pub table : (i s : ℕ) → i < b .setcount → s < a .k

@@ -9,7 +9,8 @@ use native.Mathlib.Omega.{arith}
 use Rattle.masks.proofs.Laws.{union-same}
 use Rattle.masks.specs.Masks.{union}
 use Rattle.delegates.specs.Alike.{delegateIn, ofDelegate}
-use Rattle.joins.specs.Joining.{joinOf, heldIn, joinUpTo}
+use Rattle.board.specs.Boards.{heldIn}
+use Rattle.joins.specs.Joining.{joinOf, joinUpTo}
 
 same-end : (e f : ℕ → ℕ) (o : Option ℕ) → ((x : ℕ) → o ≡ some x → e x ≡ f x) → ofDelegate e o ≡ ofDelegate f o
 same-end e f none h = refl

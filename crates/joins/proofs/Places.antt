@@ -11,7 +11,8 @@ use lib.Bits.{bitOr, or-zero-r}
 use Rattle.masks.specs.Masks.{has, union}
 use Rattle.masks.proofs.Laws.{union-member, union-other}
 use Rattle.delegates.specs.Alike.{delegateIn, ofDelegate}
-use Rattle.joins.specs.Joining.{joinOf, heldIn, joinUpTo}
+use Rattle.board.specs.Boards.{heldIn}
+use Rattle.joins.specs.Joining.{joinOf, joinUpTo}
 
 -- what state q adds at a place, where it is a member
 abbrev pub added : List ℕ → List ℕ → ℕ → ℕ → ℕ

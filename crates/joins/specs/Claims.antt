@@ -20,7 +20,8 @@ use Rattle.automaton.specs.Automaton.{Accepts, Text}
 use Rattle.automaton.specs.Rules.{automatonOf, WellFormed}
 use Rattle.delegates.specs.Alike.{delegateIn, Merged}
 use Rattle.chunks.specs.Chunks.{runSet, endSet, chunkCount}
-use Rattle.joins.specs.Joining.{joinOf, yesOf, heldIn, joinUpTo}
+use Rattle.board.specs.Boards.{heldIn}
+use Rattle.joins.specs.Joining.{joinOf, yesOf, joinUpTo}
 
 abbrev pub Texts : ℕ → List (List ℕ) → Type 0
 Texts k [] = Unit {0}

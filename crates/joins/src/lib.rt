@@ -6,7 +6,8 @@ ghost use Rattle.limits.specs.Limits.{mostStates, mostPlaces};
 ghost use Rattle.masks.specs.Masks.{union};
 ghost use Rattle.delegates.specs.Alike.{delegateIn, ofDelegate};
 ghost use Rattle.board.specs.Boards.{placesOf};
-ghost use Rattle.joins.specs.Joining.{heldIn, joinUpTo, saysYes};
+ghost use Rattle.board.specs.Boards.{heldIn};
+ghost use Rattle.joins.specs.Joining.{joinUpTo, saysYes};
 use board::Board;
 use delegates::DelegateAnswer;
 use masks::StateNumber;
@@ -72,7 +73,7 @@ pub fn join_places(
 pub fn join(board: Board, delegates: [u8; limits::STATES], n: u8, initials: u32) -> u32
     ensures { λ r. ⌜ r ≡ joinUpTo (board .ends) delegates n initials (placesOf board) ⌝ }
 {
-    let places = board::places_of(board);
+    let places = board::places_of(board.places);
     join_places(&board.ends, &delegates, n, initials, places)
 }
 

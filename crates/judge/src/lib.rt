@@ -1,24 +1,19 @@
 // The judge: the calls over one state. A load reads a file and installs its rule.
 ghost use mathlib.Core.Path.{_≡_};
 ghost use Prim.Native.Nat.{_<_};
-ghost use Rattle.calls.specs.Replies.{refused, reportMeans, installOutcome, openOutcome, deliverOutcome, withdrawOutcome};
+ghost use Rattle.calls.specs.Replies.{refused, reportMeans, installOutcome, callOutcome, deliverOutcome};
 ghost use Rattle.calls.specs.mirror.Steps.{fresh, withBoard, installOf, loadOf, openOf, deliverOf, withdrawOf, reportOf};
 use automaton::Rule;
+use base::Answer;
 use board::Board;
 use build::BuildAnswer;
+use calls::CallResult;
 use calls::DeliverAnswer;
 use calls::DeliverResult;
-use calls::InstallAnswer;
 use calls::InstallResult;
 use calls::Judge;
-use calls::OpenAnswer;
-use calls::OpenResult;
 use calls::Report;
-use calls::WithdrawAnswer;
-use calls::WithdrawResult;
 use chunks::Runs;
-use rulecheck::CheckAnswer;
-use ruleformat::ReadAnswer;
 
 // A judge with no rule and no board.
 pub fn new_judge() -> Judge
@@ -40,15 +35,15 @@ fn with_board(judge: Judge, board: Board) -> Judge
 fn refuse_rule(judge: Judge, number: u8) -> InstallResult
     ensures { λ r. ⌜ installOutcome r ≡ record { reply = refused number; state = judge } ⌝ }
 {
-    let answer = InstallAnswer::Refused(number);
+    let answer = BuildAnswer::Refused(number);
     InstallResult { answer, judge }
 }
 
-fn refuse_opening(judge: Judge, number: u8) -> OpenResult
-    ensures { λ r. ⌜ openOutcome r ≡ record { reply = refused number; state = judge } ⌝ }
+fn refuse_call(judge: Judge, number: u8) -> CallResult
+    ensures { λ r. ⌜ callOutcome r ≡ record { reply = refused number; state = judge } ⌝ }
 {
-    let answer = OpenAnswer::Refused(number);
-    OpenResult { answer, judge }
+    let answer = Answer::Refused(number);
+    CallResult { answer, judge }
 }
 
 fn refuse_delivery(judge: Judge, number: u8) -> DeliverResult
@@ -58,13 +53,6 @@ fn refuse_delivery(judge: Judge, number: u8) -> DeliverResult
     DeliverResult { answer, judge }
 }
 
-fn refuse_withdrawal(judge: Judge, number: u8) -> WithdrawResult
-    ensures { λ r. ⌜ withdrawOutcome r ≡ record { reply = refused number; state = judge } ⌝ }
-{
-    let answer = WithdrawAnswer::Refused(number);
-    WithdrawResult { answer, judge }
-}
-
 // Checks and builds a rule, which may be any value. Accepted, it replaces the former rule and
 // removes the board.
 pub fn install(judge: Judge, rule: Rule) -> InstallResult
@@ -72,8 +60,8 @@ pub fn install(judge: Judge, rule: Rule) -> InstallResult
 {
     let checked = rulecheck::check_rule(rule);
     match checked {
-        CheckAnswer::Refused(number) => refuse_rule(judge, number),
-        CheckAnswer::Passed => {
+        Answer::Refused(number) => refuse_rule(judge, number),
+        Answer::Accepted => {
             let building = build::build_rule(rule);
             let answer = building.answer;
             match answer {
@@ -81,7 +69,7 @@ pub fn install(judge: Judge, rule: Rule) -> InstallResult
                 BuildAnswer::Accepted(sets, starts) => {
                     let built = building.built;
                     let board = board::empty_board(0);
-                    let answer = InstallAnswer::Accepted(sets, starts);
+                    let answer = BuildAnswer::Accepted(sets, starts);
                     let judge = Judge { built, board };
                     InstallResult { answer, judge }
                 }
@@ -97,28 +85,28 @@ pub fn load(judge: Judge, file: &[u8]) -> InstallResult
     let reading = rulefile::read(file);
     let read = reading.answer;
     match read {
-        ReadAnswer::Refused(number) => refuse_rule(judge, number),
-        ReadAnswer::Accepted => install(judge, reading.rule),
+        Answer::Refused(number) => refuse_rule(judge, number),
+        Answer::Accepted => install(judge, reading.rule),
     }
 }
 
 // A board of that many places, all empty; an earlier board is dropped.
-pub fn open(judge: Judge, places: usize) -> OpenResult
-    ensures { λ r. ⌜ openOutcome r ≡ openOf judge places ⌝ }
+pub fn open(judge: Judge, places: usize) -> CallResult
+    ensures { λ r. ⌜ callOutcome r ≡ openOf judge places ⌝ }
 {
     let built = judge.built;
     if built.n == 0 {
-        return refuse_opening(judge, 20);
+        return refuse_call(judge, 20);
     }
     if places < 1 {
-        return refuse_opening(judge, 10);
+        return refuse_call(judge, 10);
     }
     if limits::PLACES < places {
-        return refuse_opening(judge, 10);
+        return refuse_call(judge, 10);
     }
-    let answer = OpenAnswer::Accepted;
+    let answer = Answer::Accepted;
     let judge = with_board(judge, board::empty_board(places as u8));
-    OpenResult { answer, judge }
+    CallResult { answer, judge }
 }
 
 // Runs the text of a chunk, which is the chunk without its idle marks, and keeps its end sets,
@@ -131,7 +119,7 @@ pub fn deliver(mut judge: Judge, place: usize, revision: u32, chunk: &[u8]) -> D
     if judge.board.places == 0 {
         return refuse_delivery(judge, 21);
     }
-    if board::places_of(judge.board) <= place {
+    if board::places_of(judge.board.places) <= place {
         return refuse_delivery(judge, 11);
     }
     if limits::CHUNK < chunk.len() {
@@ -163,22 +151,22 @@ pub fn deliver(mut judge: Judge, place: usize, revision: u32, chunk: &[u8]) -> D
 }
 
 // Empties the place.
-pub fn withdraw(judge: Judge, place: usize) -> WithdrawResult
-    ensures { λ r. ⌜ withdrawOutcome r ≡ withdrawOf judge place ⌝ }
+pub fn withdraw(judge: Judge, place: usize) -> CallResult
+    ensures { λ r. ⌜ callOutcome r ≡ withdrawOf judge place ⌝ }
 {
     let board = judge.board;
     if board.places == 0 {
-        return refuse_withdrawal(judge, 21);
+        return refuse_call(judge, 21);
     }
-    if board::places_of(board) <= place {
-        return refuse_withdrawal(judge, 11);
+    if board::places_of(board.places) <= place {
+        return refuse_call(judge, 11);
     }
-    if board::is_empty(board, place) {
-        return refuse_withdrawal(judge, 23);
+    if board::is_empty(&board.filled, place) {
+        return refuse_call(judge, 23);
     }
-    let answer = WithdrawAnswer::Accepted;
+    let answer = Answer::Accepted;
     let judge = with_board(judge, board::clear(board, place));
-    WithdrawResult { answer, judge }
+    CallResult { answer, judge }
 }
 
 // The verdict, and how many transitions it cost for each byte.
@@ -187,5 +175,5 @@ pub fn ask_verdict(judge: Judge) -> Report
 {
     let verdict = verdicts::find_verdict(judge);
     let board = judge.board;
-    verdicts::report_on(verdict, board::summed_bytes(board))
+    verdicts::report_on(verdict, board::summed(&board.lengths, board.places))
 }

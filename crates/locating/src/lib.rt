@@ -361,7 +361,7 @@ pub fn locate(judge: Judge, place: usize, chunk: &[u8]) -> Located
     if judge.board.places == 0 {
         return Located::Refused(21);
     }
-    if board::places_of(judge.board) <= place {
+    if board::places_of(judge.board.places) <= place {
         return Located::Refused(11);
     }
     if limits::CHUNK < chunk.len() {

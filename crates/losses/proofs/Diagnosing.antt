@@ -24,7 +24,8 @@ use Rattle.delegates.specs.Alike.{delegateIn}
 use Rattle.delegates.specs.Claims.{startsIn}
 use Rattle.chunks.specs.Chunks.{delegateSet}
 use Rattle.chunks.proofs.Claims as chunks
-use Rattle.joins.specs.Joining.{heldIn, joinUpTo}
+use Rattle.board.specs.Boards.{heldIn}
+use Rattle.joins.specs.Joining.{joinUpTo}
 use Rattle.joins.proofs.Claims as joins
 use Rattle.calls.specs.declared.Judge.{Judge}
 use Rattle.calls.specs.Calls.{Call}

@@ -36,8 +36,8 @@ use Rattle.chunks.specs.declared.Runs.{Runs}
 use Rattle.chunks.specs.Chunks.{foreign, delegateSet}
 use Rattle.chunks.specs.mirror.Walks.{runsOf}
 use Rattle.chunks.proofs.Claims as chunks
-use Rattle.board.specs.Boards.{placesOf, isEmpty}
-use Rattle.joins.specs.Joining.{heldIn, joinUpTo}
+use Rattle.board.specs.Boards.{placesOf, isEmpty, heldIn}
+use Rattle.joins.specs.Joining.{joinUpTo}
 use Rattle.joins.proofs.Claims as joins
 use Rattle.calls.specs.declared.Judge.{Judge}
 use Rattle.calls.specs.Calls.{Call}

@@ -9,7 +9,7 @@ use Prim.Native.Nat.{ℕ, _≤_, _<_}
 use native.Mathlib.Omega.{arith}
 use lib.ListN.{length}
 use borrow.Author.Tests.{lt-ltb, le-ltb, eq-eqb, ne-eqb}
-use Rattle.madetexts.specs.declared.MadeAnswer.the-variants.{Made, Refused}
+use Rattle.base.specs.declared.Answer.the-variants.{Accepted, Refused}
 use Rattle.madetexts.specs.Values.{madeText}
 use Rattle.madetexts.specs.Making.{Makes}
 
@@ -30,7 +30,7 @@ module _ (k seed : ℕ) (t : List ℕ) where
       let f = eq-eqb seed 0 z in
       record { answer = rw (d, e, f); buffer = rw (d, e, f) }
 
-  pub made : (r : List ℕ) → 1 ≤ k → k ≤ 16 → 0 < seed → r ≡ madeText k seed (length t) → Makes k seed t Made r
+  pub made : (r : List ℕ) → 1 ≤ k → k ≤ 16 → 0 < seed → r ≡ madeText k seed (length t) → Makes k seed t Accepted r
   made r a b z g =
       let d = le-ltb k 1 a in
       let e = le-ltb 16 k b in

@@ -5,7 +5,6 @@
 --   madeConditions k seed     the conditions, in order
 --   madeNumber k seed         the number of the first that holds
 --   bufferAfter k seed b      the buffer b after the call
---   madeMeans                 the number for each case of the answer
 --   Makes                     what `make_text` promises
 use mathlib.Core.Path.{_≡_}
 use mathlib.Core.List.{List, [], _∷_}
@@ -13,10 +12,10 @@ use mathlib.Core.Option.{Option, none, some}
 use Prim.Native.Nat.{ℕ}
 use lib.Dec.{eqb}
 use lib.ListN.{length}
+use Rattle.base.specs.Answers.{answerNumber}
 use Rattle.base.specs.Conditions.{Condition, on, firstOf, outside}
 use Rattle.limits.specs.Limits.{mostSymbols}
-use Rattle.madetexts.specs.declared.MadeAnswer.{MadeAnswer}
-use Rattle.madetexts.specs.declared.MadeAnswer.the-variants.{Made, Refused}
+use Rattle.base.specs.declared.Answer.{Answer}
 use Rattle.madetexts.specs.Values.{madeText}
 
 abbrev pub madeConditions : ℕ → ℕ → List Condition
@@ -32,10 +31,6 @@ bufferBy (some number) k seed buffer = buffer
 abbrev pub bufferAfter : ℕ → ℕ → List ℕ → List ℕ
 bufferAfter k seed buffer = bufferBy (madeNumber k seed) k seed buffer
 
-abbrev pub madeMeans : MadeAnswer → Option ℕ
-madeMeans Made = none
-madeMeans (Refused number) = some number
-
-pub record Makes (k seed : ℕ) (before : List ℕ) (r : MadeAnswer) (after : List ℕ) : Type 0 where
-  pub answer : madeMeans r ≡ madeNumber k seed
+pub record Makes (k seed : ℕ) (before : List ℕ) (r : Answer) (after : List ℕ) : Type 0 where
+  pub answer : answerNumber r ≡ madeNumber k seed
   pub buffer : after ≡ bufferAfter k seed before

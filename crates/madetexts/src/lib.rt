@@ -4,12 +4,7 @@ ghost use Prim.Native.Nat.{_≤_};
 ghost use lib.ListN.{length};
 ghost use Rattle.madetexts.specs.Values.{nextValue, madeText};
 ghost use Rattle.madetexts.specs.Making.{Makes};
-
-// What making a text says: the buffer is the text, or it is as it was.
-pub enum MadeAnswer {
-    Made,
-    Refused(u8),
-}
+use base::Answer;
 
 // The value after x of Marsaglia's 64-bit xorshift.
 fn next_value(x: u64) -> u64
@@ -37,18 +32,18 @@ fn fill(k: usize, seed: u64, text: &mut [u8])
 
 // The made text of k symbols fills the buffer; where the call is refused, the buffer stays as it
 // is.
-pub fn make_text(k: usize, seed: u64, text: &mut [u8]) -> MadeAnswer
+pub fn make_text(k: usize, seed: u64, text: &mut [u8]) -> Answer
     ensures { λ r. ⌜ Makes k seed (now (text .entry)) r (now (text .exit)) ⌝ }
 {
     if k < 1 {
-        return MadeAnswer::Refused(4);
+        return Answer::Refused(4);
     }
     if limits::SYMBOLS < k {
-        return MadeAnswer::Refused(4);
+        return Answer::Refused(4);
     }
     if seed == 0 {
-        return MadeAnswer::Refused(41);
+        return Answer::Refused(41);
     }
     fill(k, seed, text);
-    MadeAnswer::Made
+    Answer::Accepted
 }

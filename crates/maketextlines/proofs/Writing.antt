@@ -17,6 +17,7 @@ use lib.Dec.{leb}
 use lib.ListN.{length, take}
 use lib.Seq.{length-take-le}
 use borrow.Author.Tests.{leb-true}
+use Rattle.base.specs.Answers.{answerNumber}
 use Rattle.base.proofs.Tests.{by-test, zero-one}
 use Rattle.text.specs.Writing.{Wrote}
 use Rattle.text.proofs.Fitting.{Put, put, _then_}
@@ -25,10 +26,10 @@ use Rattle.answers.specs.Answers.{refusedText, malformedText}
 use Rattle.fields.specs.Numbers.{parseNumber}
 use Rattle.fields.specs.Claims.{digitsOf, fieldOf}
 use Rattle.hexfields.proofs.Digits.{digits-length}
-use Rattle.madetexts.specs.declared.MadeAnswer.{MadeAnswer}
-use Rattle.madetexts.specs.declared.MadeAnswer.the-variants.{Made, Refused}
+use Rattle.base.specs.declared.Answer.{Answer}
+use Rattle.base.specs.declared.Answer.the-variants.{Accepted, Refused}
 use Rattle.madetexts.specs.Values.{madeText}
-use Rattle.madetexts.specs.Making.{madeNumber, madeMeans, Makes}
+use Rattle.madetexts.specs.Making.{madeNumber, Makes}
 use Rattle.maketextlines.specs.declared.TextLine.{TextLine}
 use Rattle.maketextlines.specs.declared.TextLine.the-variants as line
 use Rattle.maketextlines.specs.Lines.{Meaning, makes, upToMost, makesBy, lengthFields, seedFields, lineIn, lineMeans}
@@ -59,18 +60,18 @@ module _ (b : List ℕ) {before : List ℕ} {at : ℕ} {mid : List ℕ} {e : ℕ
   both : {after : List ℕ} {f : ℕ} → Wrote mid e (10 ∷ []) after f → Wrote before at (fieldOf b ++ (10 ∷ [])) after f
   both v = (first then put (omega (arith, byte-left)) v) .wrote
 
-  pub made-line : (k seed : ℕ) (t : List ℕ) (r : MadeAnswer) → Makes k seed t r b → r ≡ Made → {after : List ℕ} {f : ℕ}
+  pub made-line : (k seed : ℕ) (t : List ℕ) (r : Answer) → Makes k seed t r b → r ≡ Accepted → {after : List ℕ} {f : ℕ}
       → Wrote mid e (10 ∷ []) after f → Wrote before at (madeAnswer k seed (length t)) after f
   made-line k seed t r m is {after} {f} v =
-      let number : none ≡ madeNumber k seed = sym (ap madeMeans is) ∙ m .answer in
+      let number : none ≡ madeNumber k seed = sym (ap answerNumber is) ∙ m .answer in
       let text : b ≡ madeText k seed (length t) = m .buffer ∙ rw (← number) in
       rw (← number) (subst (λ (u : List ℕ). Wrote before at (fieldOf u ++ (10 ∷ [])) after f) text (both v))
 
-pub refused-line : (k seed : ℕ) (t : List ℕ) (r : MadeAnswer) (b : List ℕ) → Makes k seed t r b → (x : ℕ) → r ≡ Refused x
+pub refused-line : (k seed : ℕ) (t : List ℕ) (r : Answer) (b : List ℕ) → Makes k seed t r b → (x : ℕ) → r ≡ Refused x
     → {before : List ℕ} {at : ℕ} {after : List ℕ} {f : ℕ} → Wrote before at (refusedText x) after f
     → Wrote before at (madeAnswer k seed (length t)) after f
 refused-line k seed t r b m x is v =
-    let number : some x ≡ madeNumber k seed = sym (ap madeMeans is) ∙ m .answer in
+    let number : some x ≡ madeNumber k seed = sym (ap answerNumber is) ∙ m .answer in
     rw (← number) v
 
 -- ---- `put_answer`

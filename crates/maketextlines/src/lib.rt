@@ -8,8 +8,8 @@ ghost use Rattle.fields.specs.Numbers.{parseNumber};
 ghost use Rattle.fields.specs.Claims.{fieldOf};
 ghost use Rattle.maketextlines.specs.Lines.{upToMost, makesBy, lineIn, lineMeans};
 ghost use Rattle.maketextlines.specs.Answers.{mostAnswer, madeAnswer, answerTo};
+use base::Answer;
 use fields::Number;
-use madetexts::MadeAnswer;
 
 // The longest line of the grammar: three numbers, and a space between each two.
 pub const LINE: usize = 3 * limits::DIGITS + 2;
@@ -86,11 +86,11 @@ fn put_made(k: usize, seed: u64, text: &mut [u8], out: &mut [u8], at: usize) -> 
 {
     let answer = madetexts::make_text(k, seed, text);
     match answer {
-        MadeAnswer::Made => {
+        Answer::Accepted => {
             let end = put_field(out, at, text);
             text::put_byte(out, end, b'\n')
         }
-        MadeAnswer::Refused(number) => answers::put_refused(out, at, number),
+        Answer::Refused(number) => answers::put_refused(out, at, number),
     }
 }
 

@@ -11,15 +11,16 @@ use mathlib.Core.Bool.{Bool, true, false, not, cond}
 use mathlib.Core.List.{List}
 use Prim.Native.Nat.{ℕ}
 use lib.ListN.{replicate}
+use Rattle.base.specs.Answers.{answerNumber}
 use Rattle.mappings.specs.declared.Mapping.{Mapping}
 use Rattle.mappings.specs.Mappings.{mappedStates, compose}
 use Rattle.profile.specs.declared.Profile.{Profile}
 use Rattle.profile.specs.declared.BuildResult.{BuildResult}
 use Rattle.profile.specs.declared.BuildAnswer.the-variants as build
 use Rattle.profile.specs.declared.RunResult.{RunResult}
-use Rattle.profile.specs.declared.RunAnswer.the-variants as run
+use Rattle.base.specs.declared.Answer.the-variants as run
 use Rattle.profile.specs.Profiles.{Building, noProfile, Reply as Answer, accepted, refused as turnedDown, buildMeans, buildOutcome}
-use Rattle.profile.specs.Runs.{runMeans, runOutcome, runOf, Lends, verdictOf}
+use Rattle.profile.specs.Runs.{runOutcome, runOf, Lends, verdictOf}
 use Rattle.profile.proofs.Ways.{lent-all}
 use Rattle.profilefile.specs.Files.{profileIn}
 use Rattle.mapcalls.specs.declared.MapState.{MapState}
@@ -96,12 +97,12 @@ module _ (s : MapState) (w : List ℕ) where
     by-run = ap ranReply (is (s .profile) (lent-all (s .profile))) ∙ ap (λ (b : Bool). cond b (ranReply (runOf (s .profile) w)) lacking) (sym (there (s .there) e))
 
     pub run-mapped : ran .answer ≡ run.Accepted → mapped (ran .mapping .masks) ≡ replyOf s (runs w)
-    run-mapped a = ap (λ x. ranReply (record { refusal = runMeans x; masks = ran .mapping .masks })) (sym a) ∙ by-run
+    run-mapped a = ap (λ x. ranReply (record { refusal = answerNumber x; masks = ran .mapping .masks })) (sym a) ∙ by-run
 
     pub run-refused : (x : ℕ) → ran .answer ≡ run.Refused x → (r : MapReply) → r .answer ≡ Refused x → replyMeans r ≡ replyOf s (runs w)
     run-refused x a r e′ =
         by-answer r (Refused x) e′
-        ∙ ap (λ y. ranReply (record { refusal = runMeans y; masks = ran .mapping .masks })) (sym a)
+        ∙ ap (λ y. ranReply (record { refusal = answerNumber y; masks = ran .mapping .masks })) (sym a)
         ∙ by-run
 
 -- ---- composing

@@ -4,10 +4,10 @@ ghost use mathlib.Core.Path.{_≡_};
 ghost use lib.ListN.{replicate};
 ghost use Rattle.mappings.specs.Mappings.{mappedStates};
 ghost use Rattle.mapcalls.specs.Calls.{builds, runs, composes, asks, noneYet, replyOf, nextOf, replyMeans, masksBy};
+use base::Answer;
 use mappings::Mapping;
 use profile::BuildAnswer;
 use profile::Profile;
-use profile::RunAnswer;
 
 // Whether there is a profile, and which.
 pub struct MapState {
@@ -95,12 +95,12 @@ pub fn run(state: MapState, chunk: &[u8]) -> MapReply
     );
     let answer = ran.answer;
     match answer {
-        RunAnswer::Accepted => {
+        Answer::Accepted => {
             let answer = MapAnswer::Mapped;
             let mapping = ran.mapping;
             MapReply { answer, mapping }
         }
-        RunAnswer::Refused(number) => plain(MapAnswer::Refused(number)),
+        Answer::Refused(number) => plain(MapAnswer::Refused(number)),
     }
 }
 

@@ -96,7 +96,7 @@ module _ (r : Rule) (small : Small r) where
       ap (λ (f : List ℕ). compose f (letter (r .targets) s)) (t .2) ∙ sym (of-one-more r small (t .0) s) in
       (h .0, ap unpack (h .1 ∙ ap pack e) ∙ unpacked (mappingAfter r (t .0 ++ (s ∷ []))) (is-value r small (t .0 ++ (s ∷ []))) ∙ sym e)
 
-  pub in-order : few r → InOrder r
+  pub in-order : few r → InOrder r (mappingAt r) (length (keysOf r))
   in-order fits =
       let o = numbering.claims .in-order walk first 1 (λ m s _ e. e) fits in
       record {
@@ -104,9 +104,9 @@ module _ (r : Rule) (small : Small r) where
         first = λ i b.
             let h = o .origin i b in
             record {
-              symbols = text-of (h .symbols);
-              is = sym (leads-to (o .text i) (h .leads));
-              no-sooner = λ v t e. h .first-text v (symbols-of (r .k) v t) (leads-from (o .text i) (h .leads) v e);
+              symbols = text-of (h .leads .0);
+              is = sym (leads-to (o .text i) (h .leads .1));
+              no-sooner = λ v t e. h .first-text v (symbols-of (r .k) v t, leads-from (o .text i) (h .leads .1) v e);
             };
         rises = λ i j b c. ⊎-elim (λ z. absurd (omega (arith, o .origin j c .below, z))) (λ z. z .1) (o .rises i j b c);
       }

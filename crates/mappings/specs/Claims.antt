@@ -7,7 +7,7 @@
 --   many r             there are more than 512
 --   First r f w        w is the first text whose mapping is f: the shortest, and the first by
 --                      symbols among the shortest
---   InOrder r          mappings are numbered in the order of their first texts
+--   InOrder r at c     the mappings at 0, .. at (c − 1) stand in the order of their first texts
 use mathlib.Core.Path.{_≡_}
 use mathlib.Core.Logic.{_↔_}
 use mathlib.Core.Bool.{true}
@@ -50,10 +50,10 @@ module _ (r : Rule) where
     pub is : mappingAfter w ≡ f
     pub no-sooner : (v : List ℕ) → Text (r .k) v → mappingAfter v ≡ f → NoLater w v
 
-  pub record InOrder : Type 0 where
+  pub record InOrder (at : ℕ → List ℕ) (c : ℕ) : Type 0 where
     pub text : ℕ → List ℕ
-    pub first : (i : ℕ) → i < length keysOf → First (mappingAt i) (text i)
-    pub rises : (i j : ℕ) → i < j → j < length keysOf → Sooner (text i) (text j)
+    pub first : (i : ℕ) → i < c → First (at i) (text i)
+    pub rises : (i j : ℕ) → i < j → j < c → Sooner (text i) (text j)
 
 pub record Claims : Type 0 where
   -- ---- of all values
@@ -99,7 +99,7 @@ pub record Claims : Type 0 where
       → (nextOf (mappingWalk (r .targets) (r .k)) (keysOf r) i s < length (keysOf r))
       × (mappingAt r (nextOf (mappingWalk (r .targets) (r .k)) (keysOf r) i s) ≡ compose (mappingAt r i) (letter (r .targets) s))
   -- with at most 512, they stand in the order of their first texts
-  pub in-order : (r : Rule) → Small r → few r → InOrder r
+  pub in-order : (r : Rule) → Small r → few r → InOrder r (mappingAt r) (length (keysOf r))
   -- there are more than 512 exactly where 513 texts have mappings of which no two are the same
   pub over : (r : Rule) → Small r
       → many r ↔ (text : ℕ → List ℕ) × ((i : ℕ) → i < mostSets + 1 → Text (r .k) (text i))

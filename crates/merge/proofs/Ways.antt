@@ -24,21 +24,20 @@ use lib.Bits.{bitOr}
 use lib.ListN.{getD}
 use lib.Pow.{shl-exact, pow-lt}
 use borrow.Author.Tests.{eq-eqb, ne-eqb, lt-ltb, le-ltb}
+use Rattle.base.specs.Answers.{answerNumber}
 use Rattle.base.specs.Lists.{listFrom}
 use Rattle.masks.specs.Masks.{single}
 use Rattle.automaton.specs.declared.Rule.{Rule}
 use Rattle.automaton.specs.Rules.{targetMask}
-use Rattle.rulecheck.specs.declared.CheckAnswer.{CheckAnswer}
-use Rattle.rulecheck.specs.declared.CheckAnswer.the-variants as check
-use Rattle.rulecheck.specs.Checking.{ruleNumber, checkMeans}
+use Rattle.base.specs.declared.Answer.{Answer}
+use Rattle.rulecheck.specs.Checking.{ruleNumber}
 use Rattle.rulecheck.proofs.Laws.{passes}
 use Rattle.ruleformat.specs.Reader.{noRule}
 use Rattle.merging.specs.declared.Way.{Way}
 use Rattle.merging.specs.declared.Way.the-variants.{Both, Either, Interleaving}
-use Rattle.merging.specs.declared.MergeAnswer.{MergeAnswer}
-use Rattle.merging.specs.declared.MergeAnswer.the-variants.{Accepted, Refused}
+use Rattle.base.specs.declared.Answer.the-variants.{Accepted, Refused}
 use Rattle.merging.specs.Merged.{statesOf, pairs, beside, setOf, oneMoves, ownTargets, targetsOf, cellIn, mergedOf}
-use Rattle.merging.specs.Merging.{wayOf, mergeNumber, mergeMeans, mergeOf}
+use Rattle.merging.specs.Merging.{wayOf, mergeNumber, mergeOf}
 use Rattle.merging.specs.Claims.{Mergeable}
 use Rattle.merging.proofs.Conditions.{number-law, refused-exactly}
 use Rattle.merge.specs.mirror.Asked.{Sizes, Masks, Tables}
@@ -170,57 +169,57 @@ module _ (way : Way) (one two : Rule) where
 
 -- ---- `check`
 module _ (way : Way) (one two : Rule) where
-  module _ (x : CheckAnswer) (said : checkMeans x ≡ ruleNumber one) where
-    pub check-first : (number : ℕ) → x ≡ check.Refused number → mergeMeans (Refused number) ≡ mergeNumber way one two
+  module _ (x : Answer) (said : answerNumber x ≡ ruleNumber one) where
+    pub check-first : (number : ℕ) → x ≡ Refused number → answerNumber (Refused number) ≡ mergeNumber way one two
     check-first number e =
-        let is : ruleNumber one ≡ some number = sym said ∙ ap checkMeans e in
+        let is : ruleNumber one ≡ some number = sym said ∙ ap answerNumber e in
         sym (number-law way one two ∙ rw is)
 
-    first-none : x ≡ check.Passed → ruleNumber one ≡ none
-    first-none e = sym said ∙ ap checkMeans e
+    first-none : x ≡ Accepted → ruleNumber one ≡ none
+    first-none e = sym said ∙ ap answerNumber e
 
-    module _ (passed : x ≡ check.Passed) (y : CheckAnswer) (told : checkMeans y ≡ ruleNumber two) where
-      pub check-second : (number : ℕ) → y ≡ check.Refused number → mergeMeans (Refused number) ≡ mergeNumber way one two
+    module _ (passed : x ≡ Accepted) (y : Answer) (told : answerNumber y ≡ ruleNumber two) where
+      pub check-second : (number : ℕ) → y ≡ Refused number → answerNumber (Refused number) ≡ mergeNumber way one two
       check-second number e =
-          let is : ruleNumber two ≡ some number = sym told ∙ ap checkMeans e in
+          let is : ruleNumber two ≡ some number = sym told ∙ ap answerNumber e in
           sym (number-law way one two ∙ rw (first-none passed, is))
 
-      module _ (passed2 : y ≡ check.Passed) where
+      module _ (passed2 : y ≡ Accepted) where
         second-none : ruleNumber two ≡ none
-        second-none = sym told ∙ ap checkMeans passed2
+        second-none = sym told ∙ ap answerNumber passed2
 
         pub small-both : (one .n ≤ 32) × (two .n ≤ 32)
         small-both = (passes one .0 (first-none passed) .states .1, passes two .0 second-none .states .1)
 
-        pub check-36 : (one .k ≡ two .k → ⊥) → mergeMeans (Refused 36) ≡ mergeNumber way one two
+        pub check-36 : (one .k ≡ two .k → ⊥) → answerNumber (Refused 36) ≡ mergeNumber way one two
         check-36 d = sym (number-law way one two ∙ rw (first-none passed, second-none, ne-eqb (one .k) (two .k) d))
 
         module _ (same : one .k ≡ two .k) (n : ℕ) (size : n ≡ statesOf way (one .n) (two .n)) where
-          pub check-37 : 32 < n → mergeMeans (Refused 37) ≡ mergeNumber way one two
+          pub check-37 : 32 < n → answerNumber (Refused 37) ≡ mergeNumber way one two
           check-37 l =
               sym
               (number-law way one two
               ∙ rw (first-none passed, second-none, eq-eqb (one .k) (two .k) same, lt-ltb 32 (statesOf way (one .n) (two .n)) (rw size at l)))
 
-          pub check-none : n ≤ 32 → mergeMeans Accepted ≡ mergeNumber way one two
+          pub check-none : n ≤ 32 → answerNumber Accepted ≡ mergeNumber way one two
           check-none l =
               sym
               (number-law way one two
               ∙ rw (first-none passed, second-none, eq-eqb (one .k) (two .k) same, le-ltb 32 (statesOf way (one .n) (two .n)) (rw size at l)))
 
 -- ---- `merge`
-module _ (way : Way) (one two : Rule) (x : MergeAnswer) (said : mergeMeans x ≡ mergeNumber way one two) where
+module _ (way : Way) (one two : Rule) (x : Answer) (said : answerNumber x ≡ mergeNumber way one two) where
   pub merge-allowed : x ≡ Accepted → Mergeable way one two
-  merge-allowed e = refused-exactly way one two .taken .0 (sym said ∙ ap mergeMeans e)
+  merge-allowed e = refused-exactly way one two .taken .0 (sym said ∙ ap answerNumber e)
 
   pub merge-accepted : x ≡ Accepted → (r : Rule) → r ≡ mergedOf way one two
-      → record { number = mergeMeans x; rule = r } ≡ mergeOf way one two
+      → record { number = answerNumber x; rule = r } ≡ mergeOf way one two
   merge-accepted e r is =
-      let none-there : mergeNumber way one two ≡ none = sym said ∙ ap mergeMeans e in
+      let none-there : mergeNumber way one two ≡ none = sym said ∙ ap answerNumber e in
       rw (none-there, said, none-there, is)
 
   pub merge-refused : (number : ℕ) → x ≡ Refused number → (r : Rule) → r ≡ noRule
-      → record { number = mergeMeans x; rule = r } ≡ mergeOf way one two
+      → record { number = answerNumber x; rule = r } ≡ mergeOf way one two
   merge-refused number e r is =
-      let there : mergeNumber way one two ≡ some number = sym said ∙ ap mergeMeans e in
+      let there : mergeNumber way one two ≡ some number = sym said ∙ ap answerNumber e in
       rw (there, said, there, is)

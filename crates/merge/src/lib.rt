@@ -2,19 +2,19 @@
 // one from each. Any numbers may stand in the rules.
 ghost use mathlib.Core.Path.{_≡_};
 ghost use Prim.Native.Nat.{_+_, _*_, _≤_, _<_};
+ghost use Rattle.base.specs.Answers.{answerNumber};
 ghost use Rattle.base.specs.Lists.{listFrom};
 ghost use Rattle.limits.specs.Limits.{mostStates, mostSymbols, targetCells};
 ghost use Rattle.automaton.specs.Rules.{targetMask};
 ghost use Rattle.merging.specs.Merged.{statesOf, pairs as pairsOf, beside as besideOf, setOf, oneMoves, ownTargets, targetsOf, cellIn, mergedOf};
-ghost use Rattle.merging.specs.Merging.{wayOf, mergeNumber, mergeMeans, mergeOutcome, mergeOf};
+ghost use Rattle.merging.specs.Merging.{wayOf, mergeNumber, mergeOutcome, mergeOf};
 ghost use Rattle.merging.specs.Claims.{Mergeable};
 ghost use Rattle.merge.specs.mirror.Asked.{Sizes, Masks, Tables};
 use automaton::Rule;
+use base::Answer;
 use masks::StateNumber;
-use merging::MergeAnswer;
 use merging::MergeResult;
 use merging::Way;
-use rulecheck::CheckAnswer;
 
 // The way that a number names; every number names one.
 pub fn way_of(number: u8) -> Way
@@ -202,24 +202,24 @@ fn merged(way: Way, one: Rule, two: Rule) -> Rule
 }
 
 // The first condition that holds: the first rule's, the second's, then 36 and 37.
-fn check(way: Way, one: Rule, two: Rule) -> MergeAnswer
-    ensures { λ r. ⌜ mergeMeans r ≡ mergeNumber way one two ⌝ }
+fn check(way: Way, one: Rule, two: Rule) -> Answer
+    ensures { λ r. ⌜ answerNumber r ≡ mergeNumber way one two ⌝ }
 {
     let first = rulecheck::check_rule(one);
-    if let CheckAnswer::Refused(number) = first {
-        return MergeAnswer::Refused(number);
+    if let Answer::Refused(number) = first {
+        return Answer::Refused(number);
     }
     let second = rulecheck::check_rule(two);
-    if let CheckAnswer::Refused(number) = second {
-        return MergeAnswer::Refused(number);
+    if let Answer::Refused(number) = second {
+        return Answer::Refused(number);
     }
     if one.k != two.k {
-        return MergeAnswer::Refused(36);
+        return Answer::Refused(36);
     }
     if limits::STATES < states(way, one.n as usize, two.n as usize) {
-        return MergeAnswer::Refused(37);
+        return Answer::Refused(37);
     }
-    MergeAnswer::Accepted
+    Answer::Accepted
 }
 
 // The two rules made one; or zeros, and the number of the first condition that holds.
@@ -228,11 +228,11 @@ pub fn merge(way: Way, one: Rule, two: Rule) -> MergeResult
 {
     let answer = check(way, one, two);
     match answer {
-        MergeAnswer::Accepted => {
+        Answer::Accepted => {
             let rule = merged(way, one, two);
             MergeResult { answer, rule }
         }
-        MergeAnswer::Refused(_) => {
+        Answer::Refused(_) => {
             let rule = rulefile::no_rule();
             MergeResult { answer, rule }
         }

@@ -13,6 +13,7 @@ use lib.Dec.{eqb, ltb}
 use lib.ListN.{getD}
 use lib.Pow.{pow-lt, pow-pos}
 use borrow.Author.Tests.{lt-ltb, le-ltb, ltb-true, ltb-false, eq-eqb, ne-eqb, eqb-true, eqb-false}
+use Rattle.base.specs.Answers.{answerNumber}
 use Rattle.base.specs.Lists.{listFrom}
 use Rattle.base.proofs.Lists.{cell-of, same-list}
 use Rattle.base.proofs.Tests.{by-test, same-truth, not-both, zero-one}
@@ -23,9 +24,8 @@ use Rattle.masks.proofs.Turns.{bit-lt}
 use Rattle.automaton.specs.declared.Rule.{Rule}
 use Rattle.automaton.specs.Rules.{targetMask, WellFormed}
 use Rattle.delegates.specs.mirror.Classes.{firstFrom}
-use Rattle.rulecheck.specs.declared.CheckAnswer.{CheckAnswer}
-use Rattle.rulecheck.specs.declared.CheckAnswer.the-variants as check
-use Rattle.rulecheck.specs.Checking.{ruleNumber, checkMeans}
+use Rattle.base.specs.declared.Answer.{Answer}
+use Rattle.rulecheck.specs.Checking.{ruleNumber}
 use Rattle.rulecheck.proofs.Laws.{passes}
 use Rattle.ruleformat.specs.Reader.{noRule}
 use Rattle.calls.specs.Calls.{installNumber}
@@ -37,10 +37,10 @@ use Rattle.merging.proofs.Sets.{pairs-law, set-law, set-below, wide}
 use Rattle.merging.specs.Merging.{Merging, mergingBy}
 use Rattle.merge.specs.mirror.Asked.{Masks}
 use Rattle.merge.proofs.Numbers.{product-most}
-use Rattle.reducing.specs.declared.ReduceAnswer.the-variants.{Accepted, Refused}
+use Rattle.base.specs.declared.Answer.the-variants.{Accepted, Refused}
 use Rattle.reducing.specs.declared.ReduceResult.{ReduceResult}
 use Rattle.reducing.specs.Reduced.{reducedOf}
-use Rattle.reducing.specs.Reducing.{Reducing, reduceMeans, reduceOutcome, reducingBy, reduceOf}
+use Rattle.reducing.specs.Reducing.{Reducing, reduceOutcome, reducingBy, reduceOf}
 use Rattle.reducing.proofs.Ranks.{rank-mono, rank-onto}
 use Rattle.mergereduce.specs.MergeReduced.{reducedBy, reducedOrOwn, pairTargets, initialPairs, finalPairs, keptPairs, trimmedPairs, pairCount, mergeReducedNumber, mergeReducedRule, mergeReducedOf}
 use Rattle.mergereduce.proofs.Law.{instead, number-law}
@@ -238,17 +238,17 @@ module _ (r : Rule) (x : ReduceResult) (said : reduceOutcome x ≡ reduceOf r) w
   unfolding reducedOrOwn
   own-taken e = of (installNumber r) (ap (λ (y : Reducing). y .number) said) (ap (λ (y : Reducing). y .rule) said)
     where
-      of : (o : Option ℕ) → reduceMeans (x .answer) ≡ reducingBy o (reducedOf r) .number → x .rule ≡ reducingBy o (reducedOf r) .rule
+      of : (o : Option ℕ) → answerNumber (x .answer) ≡ reducingBy o (reducedOf r) .number → x .rule ≡ reducingBy o (reducedOf r) .rule
           → x .rule ≡ reducedBy o (reducedOf r) r
       of none n is = is
-      of (some y) n is = let z : none ≡ some y = sym (ap reduceMeans e) ∙ n in zero-one cc
+      of (some y) n is = let z : none ≡ some y = sym (ap answerNumber e) ∙ n in zero-one cc
 
   pub own-left : (number : ℕ) → x .answer ≡ Refused number → r ≡ reducedOrOwn r
   unfolding reducedOrOwn
   own-left number e = of (installNumber r) (ap (λ (y : Reducing). y .number) said)
     where
-      of : (o : Option ℕ) → reduceMeans (x .answer) ≡ reducingBy o (reducedOf r) .number → r ≡ reducedBy o (reducedOf r) r
-      of none n = let z : some number ≡ none = sym (ap reduceMeans e) ∙ n in zero-one cc
+      of : (o : Option ℕ) → answerNumber (x .answer) ≡ reducingBy o (reducedOf r) .number → r ≡ reducedBy o (reducedOf r) r
+      of none n = let z : some number ≡ none = sym (ap answerNumber e) ∙ n in zero-one cc
       of (some y) n = refl
 
 -- ---- `own_link`, `one_link`, `link`, `linked`
@@ -466,31 +466,31 @@ module _ (way : Way) (one two : Rule) (m n c : ℕ) (em : m ≡ keptPairs way on
       ∙ sym (ap (λ (t : Bool). mergingBy (cond t (some 37) none) (reducedOrOwn (trimmedPairs way one two))) (le-ltb 32 (pairCount way one two) (rw count-is at l)))
 
 -- ---- `merge_reduced`
-pub reduced-good : (r a : Rule) (x : CheckAnswer) → a ≡ reducedOrOwn r → checkMeans x ≡ ruleNumber r → x ≡ check.Passed → WellFormed a
-reduced-good r a x is said passed = rw is (instead r (passes r .0 (sym said ∙ ap checkMeans passed)) .good)
+pub reduced-good : (r a : Rule) (x : Answer) → a ≡ reducedOrOwn r → answerNumber x ≡ ruleNumber r → x ≡ Accepted → WellFormed a
+reduced-good r a x is said passed = rw is (instead r (passes r .0 (sym said ∙ ap answerNumber passed)) .good)
 
-module _ (way : Way) (one two : Rule) (x : CheckAnswer) (said : checkMeans x ≡ ruleNumber one) where
+module _ (way : Way) (one two : Rule) (x : Answer) (said : answerNumber x ≡ ruleNumber one) where
   by-number : (o : Option ℕ) (out : Merging) → mergeReducedNumber way one two ≡ o → out ≡ mergingBy o (mergeReducedRule way one two)
       → out ≡ mergeReducedOf way one two
   by-number o out e is = is ∙ sym (ap (λ (y : Option ℕ). mergingBy y (mergeReducedRule way one two)) e)
 
-  pub reduced-first : (number : ℕ) (out : Merging) → x ≡ check.Refused number → out ≡ mergingBy (some number) noRule → out ≡ mergeReducedOf way one two
+  pub reduced-first : (number : ℕ) (out : Merging) → x ≡ Refused number → out ≡ mergingBy (some number) noRule → out ≡ mergeReducedOf way one two
   reduced-first number out e is =
-      let there : ruleNumber one ≡ some number = sym said ∙ ap checkMeans e in
+      let there : ruleNumber one ≡ some number = sym said ∙ ap answerNumber e in
       by-number (some number) out (number-law way one two ∙ rw there) is
 
-  module _ (passed : x ≡ check.Passed) (y : CheckAnswer) (told : checkMeans y ≡ ruleNumber two) where
+  module _ (passed : x ≡ Accepted) (y : Answer) (told : answerNumber y ≡ ruleNumber two) where
     first-none : ruleNumber one ≡ none
-    first-none = sym said ∙ ap checkMeans passed
+    first-none = sym said ∙ ap answerNumber passed
 
-    pub reduced-second : (number : ℕ) (out : Merging) → y ≡ check.Refused number → out ≡ mergingBy (some number) noRule → out ≡ mergeReducedOf way one two
+    pub reduced-second : (number : ℕ) (out : Merging) → y ≡ Refused number → out ≡ mergingBy (some number) noRule → out ≡ mergeReducedOf way one two
     reduced-second number out e is =
-        let there : ruleNumber two ≡ some number = sym told ∙ ap checkMeans e in
+        let there : ruleNumber two ≡ some number = sym told ∙ ap answerNumber e in
         by-number (some number) out (number-law way one two ∙ rw (first-none, there)) is
 
-    module _ (passed2 : y ≡ check.Passed) where
+    module _ (passed2 : y ≡ Accepted) where
       second-none : ruleNumber two ≡ none
-      second-none = sym told ∙ ap checkMeans passed2
+      second-none = sym told ∙ ap answerNumber passed2
 
       pub reduced-36 : (out : Merging) → (one .k ≡ two .k → ⊥) → out ≡ mergingBy (some 36) noRule → out ≡ mergeReducedOf way one two
       reduced-36 out d is =

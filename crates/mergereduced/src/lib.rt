@@ -19,12 +19,10 @@ ghost use Rattle.mergereduce.specs.Trimmed.{spread, nth as nthOf, trimmedBy};
 ghost use Rattle.mergereduce.specs.MergeReduced.{reducedOrOwn, initialPairs, finalPairs, pairTargets, keptPairs, mergeReducedOf};
 ghost use Rattle.mergereduced.specs.mirror.Asked.{mostPairs, setIn, symbolsTo, symbolsOf, symbolsAt, linkIn, linkBy, freshIn, Sized, Tabled, ArcAsked, Few, Listed, placesIn, cellIn, pairedOf};
 use automaton::Rule;
+use base::Answer;
 use masks::StateNumber;
-use merging::MergeAnswer;
 use merging::MergeResult;
 use merging::Way;
-use reducing::ReduceAnswer;
-use rulecheck::CheckAnswer;
 
 // The most pairs of a state of each rule.
 pub const PAIRS: usize = limits::STATES * limits::STATES;
@@ -440,8 +438,8 @@ fn reduced_or_own(rule: Rule) -> Rule
     let result = reduce::reduce(rule);
     let answer = result.answer;
     match answer {
-        ReduceAnswer::Accepted => result.rule,
-        ReduceAnswer::Refused(_) => rule,
+        Answer::Accepted => result.rule,
+        Answer::Refused(_) => rule,
     }
 }
 
@@ -617,7 +615,7 @@ fn refuse(number: u8) -> MergeResult
 {
     let rule = rulefile::no_rule();
     MergeResult {
-        answer: MergeAnswer::Refused(number),
+        answer: Answer::Refused(number),
         rule,
     }
 }
@@ -637,7 +635,7 @@ fn paired(way: Way, one: Rule, two: Rule) -> MergeResult
     let made = trimmed(way, one, two, &set, n, c);
     let rule = reduced_or_own(made);
     MergeResult {
-        answer: MergeAnswer::Accepted,
+        answer: Answer::Accepted,
         rule,
     }
 }
@@ -648,11 +646,11 @@ pub fn merge_reduced(way: Way, one: Rule, two: Rule) -> MergeResult
     ensures { λ r. ⌜ mergeOutcome r ≡ mergeReducedOf way one two ⌝ }
 {
     let first = rulecheck::check_rule(one);
-    if let CheckAnswer::Refused(number) = first {
+    if let Answer::Refused(number) = first {
         return refuse(number);
     }
     let second = rulecheck::check_rule(two);
-    if let CheckAnswer::Refused(number) = second {
+    if let Answer::Refused(number) = second {
         return refuse(number);
     }
     if one.k != two.k {

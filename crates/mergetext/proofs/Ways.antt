@@ -10,6 +10,7 @@ use mathlib.Core.Option.{Option, none, some}
 use Prim.Native.Nat.{ℕ, _+_, _≤_, _<_}
 use native.Mathlib.Omega.{arith}
 use lib.ListN.{length, take}
+use Rattle.base.specs.Answers.{answerNumber}
 use Rattle.limits.specs.Limits.{longestFile}
 use Rattle.text.specs.Writing.{Wrote}
 use Rattle.text.proofs.Fitting.{Put, put, _then_, taken}
@@ -20,16 +21,15 @@ use Rattle.automaton.specs.declared.Rule.{Rule}
 use Rattle.automaton.specs.Rules.{WellFormed}
 use Rattle.rulecheck.specs.Checking.{ruleNumber}
 use Rattle.rulecheck.proofs.Laws.{passes}
-use Rattle.ruleformat.specs.declared.ReadAnswer.the-variants as reading
+use Rattle.base.specs.declared.Answer.the-variants as reading
 use Rattle.ruleformat.specs.declared.ReadResult.{ReadResult}
 use Rattle.ruleformat.specs.Refusals.{refusal}
-use Rattle.ruleformat.specs.Reader.{readMeans, Reading, ruleOf, readOutcome, readOf}
+use Rattle.ruleformat.specs.Reader.{Reading, ruleOf, readOutcome, readOf}
 use Rattle.ruleformat.specs.Writing.{fileOf}
 use Rattle.merging.specs.declared.Way.{Way}
-use Rattle.merging.specs.declared.MergeAnswer.the-variants as merge
 use Rattle.merging.specs.declared.MergeResult.{MergeResult}
 use Rattle.merging.specs.Merged.{mergedOf}
-use Rattle.merging.specs.Merging.{mergeNumber, mergeMeans, Merging, mergeOutcome, mergingBy, mergeOf}
+use Rattle.merging.specs.Merging.{mergeNumber, Merging, mergeOutcome, mergingBy, mergeOf}
 use Rattle.mergetext.specs.Answers.{mostAnswer, filesNumber, Response, mergedFiles, refused, file, responseText}
 use Rattle.mergetext.proofs.Files.{refused-first, refused-second, as-rules, result}
 
@@ -53,7 +53,7 @@ module _ {f room bytes : List ℕ} {n : ℕ} (most : length f ≤ longestFile) (
     file-line feed = (digits-put then put (omega (arith, room-left)) feed) .wrote
 
 -- ---- two files
-number-in : (f : List ℕ) (x : ReadResult) → readOutcome x ≡ readOf f → refusal f ≡ readMeans (x .answer)
+number-in : (f : List ℕ) (x : ReadResult) → readOutcome x ≡ readOf f → refusal f ≡ answerNumber (x .answer)
 number-in f x reads = sym (ap (λ (r : Reading). r .number) reads)
 
 number-by : (o : Option ℕ) (r : Rule) → mergingBy o r .number ≡ o
@@ -62,18 +62,18 @@ number-by (some x) r = refl
 
 module _ (way : Way) (f g : List ℕ) (x : ReadResult) (reads : readOutcome x ≡ readOf f) where
   answer-first : (n : ℕ) → x .answer ≡ reading.Refused n → mergedFiles way f g ≡ refused n
-  answer-first n e = rw (refused-first way f g n (number-in f x reads ∙ ap readMeans e))
+  answer-first n e = rw (refused-first way f g n (number-in f x reads ∙ ap answerNumber e))
 
   module _ (accepted : x .answer ≡ reading.Accepted) (y : ReadResult) (reads2 : readOutcome y ≡ readOf g) where
     first-none : refusal f ≡ none
-    first-none = number-in f x reads ∙ ap readMeans accepted
+    first-none = number-in f x reads ∙ ap answerNumber accepted
 
     answer-second : (n : ℕ) → y .answer ≡ reading.Refused n → mergedFiles way f g ≡ refused n
-    answer-second n e = rw (refused-second way f g first-none n (number-in g y reads2 ∙ ap readMeans e))
+    answer-second n e = rw (refused-second way f g first-none n (number-in g y reads2 ∙ ap answerNumber e))
 
     module _ (accepted2 : y .answer ≡ reading.Accepted) (z : MergeResult) (merges : mergeOutcome z ≡ mergeOf way (x .rule) (y .rule)) where
       second-none : refusal g ≡ none
-      second-none = number-in g y reads2 ∙ ap readMeans accepted2
+      second-none = number-in g y reads2 ∙ ap answerNumber accepted2
 
       one : x .rule ≡ ruleOf f
       one = ap (λ (r : Reading). r .rule) reads ∙ rw first-none
@@ -84,18 +84,18 @@ module _ (way : Way) (f g : List ℕ) (x : ReadResult) (reads : readOutcome x �
       made : mergeOutcome z ≡ mergeOf way (ruleOf f) (ruleOf g)
       made = merges ∙ ap₂ (λ (a b : Rule). mergeOf way a b) one two
 
-      number-made : filesNumber way f g ≡ mergeMeans (z .answer)
+      number-made : filesNumber way f g ≡ answerNumber (z .answer)
       number-made =
           as-rules way f g first-none second-none
           ∙ sym (number-by (mergeNumber way (ruleOf f) (ruleOf g)) (mergedOf way (ruleOf f) (ruleOf g)))
           ∙ sym (ap (λ (m : Merging). m .number) made)
 
-      answer-third : (n : ℕ) → z .answer ≡ merge.Refused n → mergedFiles way f g ≡ refused n
-      answer-third n e = rw (number-made ∙ ap mergeMeans e)
+      answer-third : (n : ℕ) → z .answer ≡ reading.Refused n → mergedFiles way f g ≡ refused n
+      answer-third n e = rw (number-made ∙ ap answerNumber e)
 
-      module _ (accepted3 : z .answer ≡ merge.Accepted) where
+      module _ (accepted3 : z .answer ≡ reading.Accepted) where
         third-none : filesNumber way f g ≡ none
-        third-none = number-made ∙ ap mergeMeans accepted3
+        third-none = number-made ∙ ap answerNumber accepted3
 
         rule-made : z .rule ≡ mergedOf way (ruleOf f) (ruleOf g)
         rule-made =
@@ -124,10 +124,10 @@ module _ (way : Way) (f g before after : List ℕ) (at end : ℕ) where
       told-second n e w = told (refused n) (answer-second way f g x reads accepted y reads2 n e) w
 
       module _ (accepted2 : y .answer ≡ reading.Accepted) (z : MergeResult) (merges : mergeOutcome z ≡ mergeOf way (x .rule) (y .rule)) where
-        pub told-third : (n : ℕ) → z .answer ≡ merge.Refused n → Wrote before at (refusedText n) after end
+        pub told-third : (n : ℕ) → z .answer ≡ reading.Refused n → Wrote before at (refusedText n) after end
             → Wrote before at (responseText (mergedFiles way f g)) after end
         told-third n e w = told (refused n) (answer-third way f g x reads accepted y reads2 accepted2 z merges n e) w
 
-        pub told-file : z .answer ≡ merge.Accepted → Wrote before at (digitsOf (fileOf (z .rule)) ++ (10 ∷ [])) after end
+        pub told-file : z .answer ≡ reading.Accepted → Wrote before at (digitsOf (fileOf (z .rule)) ++ (10 ∷ [])) after end
             → Wrote before at (responseText (mergedFiles way f g)) after end
         told-file e w = told (file (fileOf (z .rule))) (answer-file way f g x reads accepted y reads2 accepted2 z merges e) w

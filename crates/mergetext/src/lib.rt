@@ -10,9 +10,8 @@ ghost use Rattle.rulecheck.specs.Checking.{ruleNumber};
 ghost use Rattle.ruleformat.specs.Writing.{fileOf};
 ghost use Rattle.mergetext.specs.Answers.{mostAnswer, mergedFiles, responseText};
 use automaton::Rule;
-use merging::MergeAnswer;
+use base::Answer;
 use merging::Way;
-use ruleformat::ReadAnswer;
 
 // The file of a rule that passes, in hex digits.
 fn put_rule(out: &mut [u8], at: usize, rule: Rule) -> usize
@@ -32,17 +31,17 @@ pub fn put_merged(way: Way, one: &[u8], two: &[u8], out: &mut [u8], at: usize) -
 {
     let first = rulefile::read(one);
     let answer = first.answer;
-    if let ReadAnswer::Refused(number) = answer {
+    if let Answer::Refused(number) = answer {
         return answers::put_refused(out, at, number);
     }
     let second = rulefile::read(two);
     let answer = second.answer;
-    if let ReadAnswer::Refused(number) = answer {
+    if let Answer::Refused(number) = answer {
         return answers::put_refused(out, at, number);
     }
     let merging = merge::merge(way, first.rule, second.rule);
     let answer = merging.answer;
-    if let MergeAnswer::Refused(number) = answer {
+    if let Answer::Refused(number) = answer {
         return answers::put_refused(out, at, number);
     }
     put_rule(out, at, merging.rule)

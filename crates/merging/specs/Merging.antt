@@ -5,7 +5,6 @@
 --   mergeConditions way ..      the first rule's conditions of R-3, then the second's, then 36 and
 --                               37
 --   mergeNumber way one two     the number of the first that holds, none where the two are merged
---   mergeMeans                  the number for each case of the answer
 --   Merging                     what merging answers: the number with which the two are refused, or
 --                               none; and a rule
 --   mergeOutcome                what the code's result stands for
@@ -15,6 +14,7 @@ use mathlib.Core.List.{List, [], _∷_, _++_}
 use mathlib.Core.Option.{Option, none, some}
 use Prim.Native.Nat.{ℕ}
 use lib.Dec.{eqb, ltb}
+use Rattle.base.specs.Answers.{answerNumber}
 use Rattle.base.specs.Conditions.{Condition, on, firstOf}
 use Rattle.limits.specs.Limits.{mostStates}
 use Rattle.automaton.specs.declared.Rule.{Rule}
@@ -22,8 +22,6 @@ use Rattle.rulecheck.specs.Checking.{ruleConditions}
 use Rattle.ruleformat.specs.Reader.{noRule}
 use Rattle.merging.specs.declared.Way.{Way}
 use Rattle.merging.specs.declared.Way.the-variants.{Both, Either, Interleaving}
-use Rattle.merging.specs.declared.MergeAnswer.{MergeAnswer}
-use Rattle.merging.specs.declared.MergeAnswer.the-variants.{Accepted, Refused}
 use Rattle.merging.specs.declared.MergeResult.{MergeResult}
 use Rattle.merging.specs.Merged.{statesOf, mergedOf}
 
@@ -45,16 +43,12 @@ unfoldable pub mergeNumber : Way → Rule → Rule → Option ℕ
 mergeNumber way one two = firstOf (mergeConditions way one two)
 
 -- ---- the answer
-abbrev pub mergeMeans : MergeAnswer → Option ℕ
-mergeMeans Accepted = none
-mergeMeans (Refused number) = some number
-
 pub record Merging : Type 0 where
   pub number : Option ℕ
   pub rule : Rule
 
 abbrev pub mergeOutcome : MergeResult → Merging
-mergeOutcome r = record { number = mergeMeans (r .answer); rule = r .rule }
+mergeOutcome r = record { number = answerNumber (r .answer); rule = r .rule }
 
 -- a refusal carries zeros
 abbrev pub mergingBy : Option ℕ → Rule → Merging

@@ -7,6 +7,7 @@ pub mod Pigeonhole
 pub mod Reached
 pub mod Found
 pub mod Order
+pub mod InOrder
 pub mod Arrays
 pub mod Table
 pub mod Turns

@@ -24,7 +24,8 @@ use borrow.Author.Tests.{ltb-true, ltb-false}
 use Rattle.base.proofs.Tests.{by-test, not-both}
 use Rattle.numbering.specs.Numbering.{Walk, indexOf, keysUpTo}
 use Rattle.numbering.specs.Texts.{follow, Symbols, none, more, Sooner, NoLater}
-use Rattle.numbering.specs.Claims.{Sinks, Ordered}
+use Rattle.numbering.specs.Claims.{Sinks, Leads}
+use Rattle.numbering.specs.Order.{InOrder}
 use Rattle.numbering.proofs.Texts.{follow-append, symbols-append, skipped-after, sooner-snoc, sooner-last, no-later-snoc, no-later-trans, no-later-append, empty-no-later}
 use Rattle.numbering.proofs.Numbers.{Has, number-at}
 use Rattle.numbering.proofs.Reached.{own, once, sound}
@@ -297,7 +298,7 @@ module _ (a : Walk) (seed : ℕ → ℕ) (n : ℕ) where
         (λ t. let o = upTo-found a seed n before j (ltb-true j (length keys) t) in record { from = o .0; text = o .1; known = λ _. (o .2, o .3) })
         (λ t. record { from = 0; text = []; known = λ b. absurd (omega (arith, ltb-false j (length keys) t)) })
 
-    pub in-order : Ordered a seed n keys
+    pub in-order : InOrder n (Leads a seed) (λ i. getD keys i 0) (length keys)
     in-order = record {
       from = λ j. told j .from;
       text = λ j. told j .text;
@@ -305,12 +306,12 @@ module _ (a : Walk) (seed : ℕ → ℕ) (n : ℕ) where
           let o = told j .known b in
           record {
             below = o .0;
-            symbols = came-symbols (o .1);
-            leads = came-leads (o .1);
-            first-seed = λ p v c d e. ⊎-elim (λ z. omega arith) (λ z. omega (arith, z .0)) (first sinks before b (omega arith) (o .1) p v c d e);
-            first-text = λ v d e.
+            leads = (came-symbols (o .1), came-leads (o .1));
+            first-seed = λ p v c x.
+                ⊎-elim (λ z. omega arith) (λ z. omega (arith, z .0)) (first sinks before b (omega arith) (o .1) p v c (x .0) (x .1));
+            first-text = λ v x.
                 ⊎-elim (λ z. absurd (omega arith)) (λ z. z .1)
-                (first sinks before b (omega arith) (o .1) (told j .from) v (o .0) d e);
+                (first sinks before b (omega arith) (o .1) (told j .from) v (o .0) (x .0) (x .1));
           };
       rises = λ i j h b. rises h b (told i .known (omega arith) .1) (told j .known b .1);
     }

@@ -3,19 +3,17 @@
 --   Reach a seed n m        the key m is not left out, and a text leads to it from one of n seeds
 --   Distinct l              no member of the list l stands in it twice
 --   Sinks a                 what is left out leads only to what is left out
---   Origin a seed n m q w   q is the first of n seeds that lead to the key m, and w the first text
---                           that leads there from seed q
---   Ordered a seed n keys   the keys stand in the order of their first seeds, and then of their
---                           first texts from these
+--   Leads a seed q w m      the text w, of symbols below k, leads from seed q to the key m
 use mathlib.Core.Path.{_≡_}
-use mathlib.Core.Logic.{_↔_, _⊎_}
+use mathlib.Core.Logic.{_↔_}
 use mathlib.Core.Bool.{true, false}
 use mathlib.Core.List.{List}
 use Prim.Native.Nat.{ℕ, _+_, _≤_, _<_}
 use lib.ListN.{length, getD}
 use Rattle.limits.specs.Limits.{mostSets, emptySet}
 use Rattle.numbering.specs.Numbering.{Walk, keysUpTo, nextOf}
-use Rattle.numbering.specs.Texts.{follow, Symbols, Sooner, NoLater}
+use Rattle.numbering.specs.Texts.{follow, Symbols}
+use Rattle.numbering.specs.Order.{InOrder}
 
 pub record Reach (a : Walk) (seed : ℕ → ℕ) (n m : ℕ) : Type 0 where
   pub counts : a .skips m ≡ false
@@ -31,18 +29,8 @@ Distinct l = (i j : ℕ) → i < length l → j < length l → getD l i 0 ≡ ge
 abbrev pub Sinks : Walk → Type 0
 Sinks a = (m s : ℕ) → s < a .k → a .skips m ≡ true → a .skips (a .step m s) ≡ true
 
-pub record Origin (a : Walk) (seed : ℕ → ℕ) (n m q : ℕ) (w : List ℕ) : Type 0 where
-  pub below : q < n
-  pub symbols : Symbols (a .k) w
-  pub leads : follow a (seed q) w ≡ m
-  pub first-seed : (p : ℕ) (v : List ℕ) → p < n → Symbols (a .k) v → follow a (seed p) v ≡ m → q ≤ p
-  pub first-text : (v : List ℕ) → Symbols (a .k) v → follow a (seed q) v ≡ m → NoLater w v
-
-pub record Ordered (a : Walk) (seed : ℕ → ℕ) (n : ℕ) (keys : List ℕ) : Type 0 where
-  pub from : ℕ → ℕ
-  pub text : ℕ → List ℕ
-  pub origin : (i : ℕ) → i < length keys → Origin a seed n (getD keys i 0) (from i) (text i)
-  pub rises : (i j : ℕ) → i < j → j < length keys → (from i < from j) ⊎ (from i ≡ from j) × Sooner (text i) (text j)
+abbrev pub Leads : Walk → (ℕ → ℕ) → ℕ → List ℕ → ℕ → Type 0
+Leads a seed q w m = Symbols (a .k) w × (follow a (seed q) w ≡ m)
 
 -- of the keys from the first n seeds
 module _ (a : Walk) (seed : ℕ → ℕ) (n : ℕ) where
@@ -76,4 +64,5 @@ pub record Claims : Type 0 where
       → (mostSets < length (keys a seed n)) ↔ (l : List ℕ) × (length l ≡ mostSets + 1) × Distinct l × ((i : ℕ) → i < mostSets + 1 → Reach a seed n (getD l i 0))
   -- with at most 512 keys, these stand in the order of their first seeds, and then of their first
   -- texts from these
-  pub in-order : (a : Walk) (seed : ℕ → ℕ) (n : ℕ) → Sinks a → fits a seed n → Ordered a seed n (keys a seed n)
+  pub in-order : (a : Walk) (seed : ℕ → ℕ) (n : ℕ) → Sinks a → fits a seed n
+      → InOrder n (Leads a seed) (λ i. getD (keys a seed n) i 0) (length (keys a seed n))

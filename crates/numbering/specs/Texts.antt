@@ -7,14 +7,13 @@
 --   NoLater v w      v is w, or sooner
 use mathlib.Core.Path.{_≡_}
 use mathlib.Core.Logic.{_⊎_}
-use mathlib.Core.List.{List, [], _∷_}
+use mathlib.Core.List.{List, [], _∷_, foldl}
 use Prim.Native.Nat.{ℕ, _<_}
 use lib.ListN.{length}
 use Rattle.numbering.specs.Numbering.{Walk}
 
 abbrev pub follow : Walk → ℕ → List ℕ → ℕ
-follow a m [] = m
-follow a m (s ∷ w) = follow a (a .step m s) w
+follow a m w = foldl (a .step) m w
 
 pub data Symbols (k : ℕ) : List ℕ → Type 0 where
   none : Symbols k []

@@ -9,7 +9,6 @@
 --   patternOf b        what reading the bytes b answers: that number, the length of that file, and
 --                      its bytes with zeros after them
 --   refusedWith x      a refusal: the number x, and zeros
---   patternMeans       the number for each case of the code's answer
 --   patternOutcome     what the code's result stands for
 --   fileIn o           the file in such an outcome: as many of its bytes as it says
 use mathlib.Core.Bool.{Bool, not}
@@ -18,6 +17,7 @@ use mathlib.Core.Option.{Option, none, some}
 use Prim.Native.Nat.{ℕ}
 use lib.Dec.{ltb}
 use lib.ListN.{length, take, replicate}
+use Rattle.base.specs.Answers.{answerNumber}
 use Rattle.base.specs.Conditions.{Condition, on, firstOf}
 use Rattle.ruleformat.specs.Writing.{fileOf}
 use Rattle.rulewriter.specs.Written.{padded, Writing}
@@ -25,8 +25,6 @@ use Rattle.patterns.specs.Limits.{longestPattern, mostLetters, longestPatternFi
 use Rattle.patternscan.specs.Signs.{lettersIn}
 use Rattle.patternscan.specs.Scanning.{grammatical}
 use Rattle.patternreader.specs.Rules.{ruleRead}
-use Rattle.patternfile.specs.declared.PatternAnswer.{PatternAnswer}
-use Rattle.patternfile.specs.declared.PatternAnswer.the-variants.{Accepted, Refused}
 use Rattle.patternfile.specs.declared.PatternResult.{PatternResult}
 
 abbrev pub tooLong : List ℕ → Bool
@@ -61,12 +59,8 @@ patternOf b = record {
 abbrev pub refusedWith : ℕ → Writing
 refusedWith x = record { number = some x; length = 0; bytes = replicate longestPatternFile 0 }
 
-abbrev pub patternMeans : PatternAnswer → Option ℕ
-patternMeans Accepted = none
-patternMeans (Refused number) = some number
-
 abbrev pub patternOutcome : PatternResult → Writing
-patternOutcome r = record { number = patternMeans (r .answer); length = r .length; bytes = r .bytes }
+patternOutcome r = record { number = answerNumber (r .answer); length = r .length; bytes = r .bytes }
 
 abbrev pub fileIn : Writing → List ℕ
 fileIn o = take (o .length) (o .bytes)

@@ -1,16 +1,12 @@
 // From the bytes of a pattern to its rule file, by value (document 02, R-6).
 ghost use mathlib.Core.Path.{_≡_};
 ghost use Rattle.patternfile.specs.Answers.{patternOutcome, patternOf, refusedWith};
-
-pub enum PatternAnswer {
-    Accepted,
-    Refused(u8),
-}
+use base::Answer;
 
 // What reading a pattern answers: that it was accepted or the number of its refusal, and the rule
 // file by value: so many bytes, and zeros after them.
 pub struct PatternResult {
-    pub answer: PatternAnswer,
+    pub answer: Answer,
     pub length: usize,
     pub bytes: [u8; patterns::FILE],
 }
@@ -21,7 +17,7 @@ fn refuse(number: u8) -> PatternResult
 {
     let bytes = [0u8; patterns::FILE];
     PatternResult {
-        answer: PatternAnswer::Refused(number),
+        answer: Answer::Refused(number),
         length: 0,
         bytes,
     }
@@ -45,7 +41,7 @@ pub fn write_pattern(pattern: &[u8]) -> PatternResult
     let mut bytes = [0u8; patterns::FILE];
     let length = rulewriter::put_file(&mut bytes, rule);
     PatternResult {
-        answer: PatternAnswer::Accepted,
+        answer: Answer::Accepted,
         length,
         bytes,
     }

@@ -11,6 +11,7 @@ use mathlib.Core.Option.{Option, none, some}
 use Prim.Native.Nat.{ℕ, _≤_}
 use native.Mathlib.Omega.{arith}
 use lib.ListN.{length, take, length-append}
+use Rattle.base.specs.Answers.{answerNumber}
 use Rattle.text.specs.Numerals.{decimalBelow}
 use Rattle.fields.specs.Claims.{digitsOf}
 use Rattle.hexfields.proofs.Digits.{digits-length}
@@ -18,9 +19,9 @@ use Rattle.ruletext.specs.RuleText.{refusedText}
 use Rattle.rulewriter.specs.Written.{Writing}
 use Rattle.rulewriter.proofs.Claims.{front}
 use Rattle.patterns.specs.Limits.{longestPatternFile}
-use Rattle.patternfile.specs.declared.PatternAnswer.the-variants.{Accepted, Refused}
+use Rattle.base.specs.declared.Answer.the-variants.{Accepted, Refused}
 use Rattle.patternfile.specs.declared.PatternResult.{PatternResult}
-use Rattle.patternfile.specs.Answers.{patternNumber, patternFile, patternOf, patternMeans, patternOutcome, fileIn}
+use Rattle.patternfile.specs.Answers.{patternNumber, patternFile, patternOf, patternOutcome, fileIn}
 use Rattle.patternfile.proofs.Claims.{claims}
 use Rattle.patterntext.specs.Answers.{answerRoom, answerBy, answerText}
 
@@ -34,15 +35,15 @@ module _ (b : List ℕ) (r : PatternResult) (told : patternOutcome r ≡ pattern
   pub told-file : take (r .length) (r .bytes) ≡ patternFile b
   told-file = ap fileIn told ∙ front longestPatternFile (patternFile b)
 
-  number : patternNumber b ≡ patternMeans (r .answer)
+  number : patternNumber b ≡ answerNumber (r .answer)
   number = sym (ap (λ (o : Writing). o .number) told)
 
   pub accepted : r .answer ≡ Accepted → digitsOf (take (r .length) (r .bytes)) ++ (10 ∷ []) ≡ answerText b
   accepted e =
-      ap₂ (λ (o : Option ℕ) (f : List ℕ). answerBy o f) (sym (number ∙ ap patternMeans e)) told-file
+      ap₂ (λ (o : Option ℕ) (f : List ℕ). answerBy o f) (sym (number ∙ ap answerNumber e)) told-file
 
   pub refused : {x : ℕ} → r .answer ≡ Refused x → refusedText x ≡ answerText b
-  refused e = ap (λ (o : Option ℕ). answerBy o (patternFile b)) (sym (number ∙ ap patternMeans e))
+  refused e = ap (λ (o : Option ℕ). answerBy o (patternFile b)) (sym (number ∙ ap answerNumber e))
 
 text-fits-by : (b : List ℕ) (o : Option ℕ) → patternNumber b ≡ o → length (answerBy o (patternFile b)) ≤ 4245
 unfolding decimalBelow

@@ -9,9 +9,9 @@ ghost use Rattle.linetexts.specs.Alone.{lineState, FedLines};
 ghost use Rattle.patterns.specs.Limits.{longestPattern};
 ghost use Rattle.patterntext.specs.Answers.{answerRoom, answerText};
 ghost use Rattle.patterntext.specs.Texts.{patternLines};
+use base::Answer;
 use linetexts::Round;
 use longlines::Held;
-use patternfile::PatternAnswer;
 
 // Room for what is kept of a line: one byte more than a pattern may have, since a longer one is
 // refused, and one that makes an odd rest even.
@@ -31,11 +31,11 @@ fn put_answer(out: &mut [u8], at: usize, pattern: &[u8]) -> usize
     let n = result.length;
     let file = result.bytes;
     match answer {
-        PatternAnswer::Accepted => {
+        Answer::Accepted => {
             let end = hexfields::put_digits(out, at, &file[..n]);
             text::put_byte(out, end, b'\n')
         }
-        PatternAnswer::Refused(number) => answers::put_refused(out, at, number),
+        Answer::Refused(number) => answers::put_refused(out, at, number),
     }
 }
 

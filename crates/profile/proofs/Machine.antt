@@ -19,13 +19,13 @@ use Rattle.numbering.proofs.Arrays.{cells-long, cells-at}
 use Rattle.numbering.proofs.OneSeed.{some-key}
 use Rattle.mappings.specs.Mappings.{compose, identity, letter}
 use Rattle.mappings.specs.Packing.{pack, unpack, mappingWalk}
-use Rattle.mappings.specs.Claims.{Small, mappingAfter, keysOf, mappingAt, First}
+use Rattle.mappings.specs.Claims.{Small, mappingAfter, keysOf, mappingAt, First, InOrder}
 use Rattle.mappings.proofs.Claims as mappings
 use Rattle.keys.specs.Tables.{cellOf}
 use Rattle.profile.specs.declared.Profile.{Profile}
 use Rattle.profile.specs.Profiles.{profileOf}
 use Rattle.profile.specs.Runs.{walkTo, mappingIn}
-use Rattle.profile.specs.Claims.{nextIn, Machine, InOrder}
+use Rattle.profile.specs.Claims.{nextIn, Machine}
 
 module _ (r : Rule) (small : Small r) (few : length (keysOf r) ≤ 512) where
   abbrev p : Profile
@@ -52,7 +52,7 @@ module _ (r : Rule) (small : Small r) (few : length (keysOf r) ≤ 512) where
       let below : nextIn p i s < count = rw (next-is i s b c) (x .0) in
       (below, in-profile (nextIn p i s) below ∙ ap (mappingAt r) (next-is i s b c) ∙ x .1 ∙ ap (λ (f : List ℕ). compose f (letter (r .targets) s)) (sym (in-profile i b)))
 
-  in-order : InOrder r p
+  in-order : InOrder r (mappingIn p) (p .count)
   in-order =
       let o = mappings.claims .in-order r small few in
       record {

@@ -24,10 +24,9 @@ use Rattle.automaton.specs.Automaton.{Text, Accepts}
 use Rattle.automaton.specs.Rules.{automatonOf, WellFormed}
 use Rattle.rulecheck.specs.Checking.{ruleNumber}
 use Rattle.chunks.specs.Chunks.{foreign}
-use Rattle.numbering.specs.Texts.{Sooner}
 use Rattle.compositions.specs.Bracketing.{Bracketed, leaves, valueOf}
 use Rattle.mappings.specs.Mappings.{mappedStates, compose, identity, letter}
-use Rattle.mappings.specs.Claims.{Small, mappingAfter, First}
+use Rattle.mappings.specs.Claims.{Small, mappingAfter, InOrder}
 use Rattle.profile.specs.declared.Profile.{Profile}
 use Rattle.profile.specs.Profiles.{buildNumber, profileOf, buildOf}
 use Rattle.profile.specs.Runs.{mappingIn, runOf, verdictOf}
@@ -61,12 +60,6 @@ abbrev pub nextIn : Profile → ℕ → ℕ → ℕ
 nextIn p i s = getD (p .next) (i * mostSymbols + s) 0
 
 module _ (r : Rule) (p : Profile) where
-  -- the first texts of the mappings, in number order
-  pub record InOrder : Type 0 where
-    pub text : ℕ → List ℕ
-    pub first : (i : ℕ) → i < p .count → First r (mappingIn p i) (text i)
-    pub rises : (i j : ℕ) → i < j → j < p .count → Sooner (text i) (text j)
-
   pub record Machine : Type 0 where
     -- the rule's own numbers; at most 512 mappings
     pub head : (p .n ≡ r .n) × (p .k ≡ r .k) × (p .initials ≡ r .initials) × (p .finals ≡ r .finals)
@@ -77,7 +70,7 @@ module _ (r : Rule) (p : Profile) where
     pub sound : (i : ℕ) → i < p .count → (w : List ℕ) × Text (r .k) w × (mappingIn p i ≡ mappingAfter r w)
     pub complete : (w : List ℕ) → Text (r .k) w → (i : ℕ) × (i < p .count) × (mappingIn p i ≡ mappingAfter r w)
     pub once : (i j : ℕ) → i < p .count → j < p .count → mappingIn p i ≡ mappingIn p j → i ≡ j
-    pub order : InOrder
+    pub order : InOrder r (mappingIn p) (p .count)
     -- a cell is the number of the mapping that its symbol leads to
     pub table : (i s : ℕ) → i < p .count → s < r .k
         → (nextIn p i s < p .count) × (mappingIn p (nextIn p i s) ≡ compose (mappingIn p i) (letter (r .targets) s))

@@ -19,6 +19,7 @@ use mathlib.Core.List.{List, [], _∷_}
 use mathlib.Core.Option.{Option, none, some}
 use Prim.Native.Nat.{ℕ, _+_, _*_, _%_}
 use lib.ListN.{getD, replicate}
+use Rattle.base.specs.Answers.{answerNumber}
 use Rattle.limits.specs.Limits.{mostSymbols, mostSets}
 use Rattle.masks.specs.Masks.{shares}
 use Rattle.marks.specs.Marks.{textOf}
@@ -26,8 +27,6 @@ use Rattle.chunks.specs.Taking.{chunkNumber}
 use Rattle.mappings.specs.Mappings.{mappedStates, image}
 use Rattle.mappings.specs.Packing.{unpack}
 use Rattle.profile.specs.declared.Profile.{Profile}
-use Rattle.profile.specs.declared.RunAnswer.{RunAnswer}
-use Rattle.profile.specs.declared.RunAnswer.the-variants.{Accepted, Refused}
 use Rattle.profile.specs.declared.RunResult.{RunResult}
 
 unfoldable pub walkTo : List ℕ → ℕ → List ℕ → ℕ
@@ -41,12 +40,8 @@ pub record Ran : Type 0 where
   pub refusal : Option ℕ
   pub masks : List ℕ
 
-abbrev pub runMeans : RunAnswer → Option ℕ
-runMeans Accepted = none
-runMeans (Refused number) = some number
-
 abbrev pub runOutcome : RunResult → Ran
-runOutcome r = record { refusal = runMeans (r .answer); masks = r .mapping .masks }
+runOutcome r = record { refusal = answerNumber (r .answer); masks = r .mapping .masks }
 
 abbrev pub refusedRun : ℕ → Ran
 refusedRun number = record { refusal = some number; masks = replicate mappedStates 0 }

@@ -10,10 +10,10 @@ ghost use Rattle.mappings.specs.Claims.{Small};
 ghost use Rattle.profile.specs.Profiles.{noProfile, refusedBuild, buildOutcome, buildOf};
 ghost use Rattle.profile.specs.Runs.{walkTo, refusedRun, runOutcome, runOf, Lends, verdictOf};
 use automaton::Rule;
+use base::Answer;
 use keys::Kind;
 use keys::Numbering;
 use mappings::Mapping;
-use rulecheck::CheckAnswer;
 
 // The mappings of a rule, each as one number, and the table: the number of the mapping that mapping
 // i leads to by symbol s stands at i * 16 + s.
@@ -40,15 +40,9 @@ pub struct BuildResult {
     pub profile: Profile,
 }
 
-// The chunk's mapping is beside the answer, or a refusal.
-pub enum RunAnswer {
-    Accepted,
-    Refused(u8),
-}
-
 // The answer, with the mapping beside it: zeros where the chunk is refused.
 pub struct RunResult {
-    pub answer: RunAnswer,
+    pub answer: Answer,
     pub mapping: Mapping,
 }
 
@@ -113,8 +107,8 @@ pub fn build(rule: Rule) -> BuildResult
 {
     let checked = rulecheck::check_rule(rule);
     match checked {
-        CheckAnswer::Refused(number) => refuse_rule(number),
-        CheckAnswer::Passed => {
+        Answer::Refused(number) => refuse_rule(number),
+        Answer::Accepted => {
             if mappings::STATES < rule.n as usize {
                 return refuse_rule(33);
             }
@@ -126,7 +120,7 @@ pub fn build(rule: Rule) -> BuildResult
 fn refuse_chunk(number: u8) -> RunResult
     ensures { λ r. ⌜ runOutcome r ≡ refusedRun number ⌝ }
 {
-    let answer = RunAnswer::Refused(number);
+    let answer = Answer::Refused(number);
     let masks = [0u8; mappings::STATES];
     let mapping = Mapping { masks };
     RunResult { answer, mapping }
@@ -164,7 +158,7 @@ fn run_text<'a>(
     }
     let cells: &[u64] = packed;
     let number = walk(next, text) as usize;
-    let answer = RunAnswer::Accepted;
+    let answer = Answer::Accepted;
     let mapping = mappings::unpack(cells[number % limits::SETS]);
     RunResult { answer, mapping }
 }

@@ -2,8 +2,8 @@
 ghost use mathlib.Core.Path.{_≡_};
 ghost use Rattle.profile.specs.Profiles.{buildOutcome};
 ghost use Rattle.profilefile.specs.Files.{profileIn};
+use base::Answer;
 use profile::BuildResult;
-use ruleformat::ReadAnswer;
 
 // Reads a rule file and builds its profile.
 pub fn build_file(file: &[u8]) -> BuildResult
@@ -12,7 +12,7 @@ pub fn build_file(file: &[u8]) -> BuildResult
     let reading = rulefile::read(file);
     let read = reading.answer;
     match read {
-        ReadAnswer::Refused(number) => profile::refuse_rule(number),
-        ReadAnswer::Accepted => profile::build(reading.rule),
+        Answer::Refused(number) => profile::refuse_rule(number),
+        Answer::Accepted => profile::build(reading.rule),
     }
 }

@@ -11,6 +11,7 @@ use lib.Bits.{bitOr}
 use lib.Dec.{ltb, eqb}
 use lib.ListN.{length, getD}
 use borrow.Author.Tests.{eqb-true, eqb-false, eq-eqb, ne-eqb, lt-ltb, le-ltb}
+use Rattle.base.specs.Answers.{answerNumber}
 use Rattle.base.proofs.Totals.{total-more}
 use Rattle.base.specs.Lists.{listFrom}
 use Rattle.base.specs.Options.{isNone}
@@ -28,9 +29,9 @@ use Rattle.masks.specs.declared.StateNumber.{StateNumber}
 use Rattle.masks.specs.Turns.{rank}
 use Rattle.masks.proofs.Turns.{bit-lt, rank-most}
 use Rattle.base.proofs.Tests.{zero-one}
-use Rattle.rulecheck.specs.declared.CheckAnswer.{CheckAnswer}
-use Rattle.rulecheck.specs.declared.CheckAnswer.the-variants as check
-use Rattle.rulecheck.specs.Checking.{ruleNumber, checkMeans}
+use Rattle.base.specs.declared.Answer.{Answer}
+use Rattle.base.specs.declared.Answer.the-variants as check
+use Rattle.rulecheck.specs.Checking.{ruleNumber}
 use Rattle.subsets.specs.Sets.{tooMany}
 use Rattle.subsets.specs.declared.Numbering.the-variants.{Whole, Over}
 use Rattle.subsets.specs.declared.SetTable.{SetTable}
@@ -161,15 +162,15 @@ module _ (ts : List ℕ) (n k : ℕ) (t : SetTable) (is : tableOutcome t ≡ tab
 reducing-some : (r : Rule) (number : ℕ) → installNumber r ≡ some number → refusedBy number ≡ reduceOf r
 reducing-some r number e = sym (ap (λ (o : Option ℕ). reducingBy o (reducedOf r)) e)
 
-module _ (r : Rule) (x : CheckAnswer) (said : checkMeans x ≡ ruleNumber r) where
+module _ (r : Rule) (x : Answer) (said : answerNumber x ≡ ruleNumber r) where
   pub refused-check : (number : ℕ) (out : Reducing) → x ≡ check.Refused number → out ≡ refusedBy number → out ≡ reduceOf r
   refused-check number out e is =
-      let there : ruleNumber r ≡ some number = sym said ∙ ap checkMeans e in
+      let there : ruleNumber r ≡ some number = sym said ∙ ap answerNumber e in
       is ∙ reducing-some r number (install-number r ∙ rw there)
 
-  module _ (passed : x ≡ check.Passed) (b : BuildResult) (told : buildOutcome b ≡ buildOf r) where
+  module _ (passed : x ≡ check.Accepted) (b : BuildResult) (told : buildOutcome b ≡ buildOf r) where
     no-number : ruleNumber r ≡ none
-    no-number = sym said ∙ ap checkMeans passed
+    no-number = sym said ∙ ap answerNumber passed
 
     pub refused-build : (number : ℕ) (out : Reducing) → b .answer ≡ build.Refused number → out ≡ refusedBy number → out ≡ reduceOf r
     unfolding buildOf

@@ -16,12 +16,11 @@ ghost use Rattle.delegates.specs.Alike.{delegateIn, ofDelegate};
 ghost use Rattle.reducing.specs.Reduced.{delegated as delegatedOf, onward as onwardOf, keptOf, ownList, reachedOf, chosenCell, chosenOf, renamed as renamedOf, rowOf, targetsOf, cellIn, reducedBy};
 ghost use Rattle.reducing.specs.Reducing.{reduceOutcome, reduceOf, refusedBy};
 use automaton::Rule;
+use base::Answer;
 use build::BuildAnswer;
 use delegates::DelegateAnswer;
 use masks::StateNumber;
-use reducing::ReduceAnswer;
 use reducing::ReduceResult;
-use rulecheck::CheckAnswer;
 use subsets::Numbering;
 
 // The set of the delegate of state q, which is empty where it has none.
@@ -320,7 +319,7 @@ fn refuse(number: u8) -> ReduceResult
 {
     let rule = rulefile::no_rule();
     ReduceResult {
-        answer: ReduceAnswer::Refused(number),
+        answer: Answer::Refused(number),
         installs: false,
         rule,
     }
@@ -333,8 +332,8 @@ pub fn reduce(rule: Rule) -> ReduceResult
 {
     let checked = rulecheck::check_rule(rule);
     match checked {
-        CheckAnswer::Refused(number) => refuse(number),
-        CheckAnswer::Passed => {
+        Answer::Refused(number) => refuse(number),
+        Answer::Accepted => {
             let result = build::build_rule(rule);
             let answer = result.answer;
             match answer {
@@ -347,7 +346,7 @@ pub fn reduce(rule: Rule) -> ReduceResult
                     let made = reduced(rule, &list);
                     let installs = few_sets(made);
                     ReduceResult {
-                        answer: ReduceAnswer::Accepted,
+                        answer: Answer::Accepted,
                         installs,
                         rule: made,
                     }

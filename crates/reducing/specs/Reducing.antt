@@ -2,7 +2,6 @@
 -- its installation is refused (3, 4, 6, 8 or 9), and zeros then. A reduced rule can have more than
 -- 512 sets though the rule that it came from has not, so the answer says whether it installs.
 --
---   reduceMeans     the number for each case of the answer
 --   Reducing        what reducing answers: the number, or none; a rule; and whether that rule
 --                   installs: its installation is accepted
 --   reduceOutcome   what the code's result stands for
@@ -11,18 +10,13 @@
 use mathlib.Core.Bool.{Bool, false}
 use mathlib.Core.Option.{Option, none, some}
 use Prim.Native.Nat.{ℕ}
+use Rattle.base.specs.Answers.{answerNumber}
 use Rattle.base.specs.Options.{isNone}
 use Rattle.automaton.specs.declared.Rule.{Rule}
 use Rattle.ruleformat.specs.Reader.{noRule}
 use Rattle.calls.specs.Calls.{installNumber}
-use Rattle.reducing.specs.declared.ReduceAnswer.{ReduceAnswer}
-use Rattle.reducing.specs.declared.ReduceAnswer.the-variants.{Accepted, Refused}
 use Rattle.reducing.specs.declared.ReduceResult.{ReduceResult}
 use Rattle.reducing.specs.Reduced.{reducedOf}
-
-abbrev pub reduceMeans : ReduceAnswer → Option ℕ
-reduceMeans Accepted = none
-reduceMeans (Refused number) = some number
 
 pub record Reducing : Type 0 where
   pub number : Option ℕ
@@ -30,7 +24,7 @@ pub record Reducing : Type 0 where
   pub rule : Rule
 
 abbrev pub reduceOutcome : ReduceResult → Reducing
-reduceOutcome r = record { number = reduceMeans (r .answer); installs = r .installs; rule = r .rule }
+reduceOutcome r = record { number = answerNumber (r .answer); installs = r .installs; rule = r .rule }
 
 abbrev pub refusedBy : ℕ → Reducing
 refusedBy number = record { number = some number; installs = false; rule = noRule }

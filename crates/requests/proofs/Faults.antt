@@ -28,10 +28,10 @@
 --   base Conditions, Lists, Options, Totals; limits Limits; masks Masks, Turns; automaton
 --   Automaton, Rules, Successor; rulecheck Checking, Worked; ruleformat Reader; numbering
 --   Numbering; subsets Sets, mirror/Singles; delegates Alike, Claims, mirror/Classes; live
---   Continued, Live; build mirror/Building; chunks Chunks; calls Calls; executions Executions;
---   histories History; trays Boards, Calls, Claims, Replies, Rows, Sizes, Worked, mirror/Steps;
---   faults Faulting, First; trayhistories Claims, Functions, History, Worked; trayfaults Faults,
---   Functions, Worked; c_trays Numbers; c_faults Numbers; requests FaultFunctions, TrayFunctions.
+--   Continued, Live; chunks Chunks; calls Calls; executions Executions; histories History; trays
+--   Boards, Calls, Claims, Replies, Rows, Sizes, Worked, mirror/Steps; faults Faulting, First;
+--   trayhistories Claims, Functions, History, Worked; trayfaults Faults, Functions, Worked;
+--   c_trays Numbers; c_faults Numbers; requests FaultFunctions, TrayFunctions.
 use mathlib.Core.Path.{_≡_, refl, sym, ap, _∙_}
 use mathlib.Core.Logic.{_↔_}
 use mathlib.Core.List.{List}

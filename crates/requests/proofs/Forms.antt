@@ -29,17 +29,17 @@
 -- l is any list of cells, f and g any value of the form, in which any numbers may stand. A list of calls
 -- has the last call first. A proved function ends and stays within its bounds. Assumes nothing.
 -- All that they rest on stands in these files of specs/ (tests/believed):
---   base Conditions, Lists, Options, Totals; limits Limits; flags Flags; text Numerals, Writing;
---   answers Answers; masks Masks; automaton Rules, Successor; rulecheck Checking; ruleformat
---   Format, Reader, Refusals, Worked; numbering Numbering; subsets Sets, mirror/Singles;
---   delegates Alike, Claims, mirror/Classes; build mirror/Building; marks Marks; walks
---   mirror/Steps; chunks Chunks, mirror/Walks; board Boards; joins Joining; calls Calls, Replies,
---   mirror/Steps; executions Executions; histories Claims, History; fields Bytes, Claims,
---   Numbers; lines Splitting; ruletext RuleText; longlines Holding; linetexts Alone, Beginnings,
---   Claims, Feeding, Functions, Parts; forms Back, Claims, Form; formmaker Making; formtrip
---   Claims; formfile Files; formtext FormText, Worked; wordfields Claims, Words; formline Claims,
---   Lines, Worked; tabletext Answers, Worked; formstream Texts; c_form Claims, Numbers; requests
---   FormFunctions.
+--   base Answers, Conditions, Lists, Options, Totals; limits Limits; flags Flags; text Numerals,
+--   Writing; answers Answers; masks Masks; automaton Rules, Successor; rulecheck Checking;
+--   ruleformat Format, Reader, Refusals, Worked; numbering Numbering; subsets Sets,
+--   mirror/Singles; delegates Alike, Claims, mirror/Classes; build mirror/Building; marks Marks;
+--   walks mirror/Steps; chunks Chunks, mirror/Walks; board Boards; joins Joining; calls Calls,
+--   Replies, mirror/Steps; executions Executions; histories Claims, History; fields Bytes,
+--   Claims, Numbers; lines Splitting; ruletext RuleText; longlines Holding; linetexts Alone,
+--   Beginnings, Claims, Feeding, Functions, Parts; forms Back, Claims, Form; formmaker Making;
+--   formtrip Claims; formfile Files; formtext FormText, Worked; wordfields Claims, Words;
+--   formline Claims, Lines, Worked; tabletext Answers, Worked; formstream Texts; c_form Claims,
+--   Numbers; requests FormFunctions.
 use mathlib.Core.Path.{_≡_, ap, _∙_, refl}
 use mathlib.Core.Logic.{_↔_, _⊎_, ⊎-elim}
 use mathlib.Core.Bool.{cond}

@@ -25,15 +25,15 @@
 -- one and two are any values, in which any numbers may stand. A proved function ends and stays within
 -- its bounds. Assumes nothing.
 -- All that they rest on stands in these files of specs/ (tests/believed):
---   base Conditions, Lists, Options, Totals; limits Limits; flags Flags; text Numerals, Writing;
---   answers Answers; masks Masks; automaton Automaton, Rules, Successor; rulecheck Checking,
---   Worked; ruleformat Claims, Format, Language, Reader, Refusals, Writing; numbering Numbering;
---   subsets Sets, mirror/Singles; delegates Alike, Claims, mirror/Classes; marks Marks; chunks
---   Chunks; joins Joining; calls Calls, Replies; histories History; fields Bytes, Claims; lines
---   Splitting; hexfields Fields, Reading; linetexts Alone, Feeding, Functions, Parts; products
---   Claims, Interleavings, Products, Words; merging Claims, Languages, Merged, Merging, Worked;
---   mergetext Answers, Claims, Lines, Worked; mergescan Scanning; mergestream Texts; c_merge
---   Claims, Numbers; requests MergeFunction.
+--   base Answers, Conditions, Lists, Options, Totals; limits Limits; flags Flags; text Numerals,
+--   Writing; answers Answers; masks Masks; automaton Automaton, Rules, Successor; rulecheck
+--   Checking, Worked; ruleformat Claims, Format, Language, Reader, Refusals, Writing; numbering
+--   Numbering; subsets Sets, mirror/Singles; delegates Alike, Claims, mirror/Classes; marks
+--   Marks; chunks Chunks; joins Joining; calls Calls, Replies; histories History; fields Bytes,
+--   Claims; lines Splitting; hexfields Fields, Reading; linetexts Alone, Feeding, Functions,
+--   Parts; products Claims, Interleavings, Products, Words; merging Claims, Languages, Merged,
+--   Merging, Worked; mergetext Answers, Claims, Lines, Worked; mergescan Scanning; mergestream
+--   Texts; c_merge Claims, Numbers; requests MergeFunction.
 use mathlib.Core.Path.{_≡_, ap, _∙_, refl}
 use mathlib.Core.Logic.{_↔_, _⊎_}
 use mathlib.Core.Bool.{Bool, true, false}

@@ -31,13 +31,13 @@
 --   verdictIn h, textIn h       what 01 says of a list of calls     histories/specs/History
 --
 -- All that they rest on stands in these files of specs/ (tests/believed):
---   base Conditions, Lists, Options, Totals; limits Limits; flags Flags; masks Masks, Turns;
---   automaton Automaton, Rules, Successor; rulecheck Checking, Worked; ruleformat Claims, Format,
---   Reader, Refusals; numbering Numbering; subsets Sets, mirror/Singles; delegates Alike, Claims,
---   mirror/Classes; marks Marks; chunks Chunks; joins Joining; calls Calls, Replies; histories
---   History; products Claims, Interleavings, Products; merging Languages, Merged, Merging,
---   Worked; c_merge Numbers; reducing Claims, Reduced, Reducing, Worked; mergereduce Claims,
---   MergeReduced, Trimmed, Worked; requests MergeReducedFunction.
+--   base Answers, Conditions, Lists, Options, Totals; limits Limits; flags Flags; masks Masks,
+--   Turns; automaton Automaton, Rules, Successor; rulecheck Checking, Worked; ruleformat Claims,
+--   Format, Reader, Refusals; numbering Numbering; subsets Sets, mirror/Singles; delegates Alike,
+--   Claims, mirror/Classes; marks Marks; chunks Chunks; joins Joining; calls Calls, Replies;
+--   histories History; products Claims, Interleavings, Products; merging Languages, Merged,
+--   Merging, Worked; c_merge Numbers; reducing Claims, Reduced, Reducing, Worked; mergereduce
+--   Claims, MergeReduced, Trimmed, Worked; requests MergeReducedFunction.
 use mathlib.Core.Path.{_≡_, ap, _∙_}
 use mathlib.Core.Logic.{_↔_, _⊎_}
 use mathlib.Core.Bool.{true}

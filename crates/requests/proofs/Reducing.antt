@@ -24,12 +24,12 @@
 -- no other is. It is not the smallest automaton that accepts these texts. A proved function ends
 -- and stays within its bounds. Assumes nothing.
 -- All that they rest on stands in these files of specs/ (tests/believed):
---   base Conditions, Lists, Options, Totals; limits Limits; flags Flags; masks Masks, Turns;
---   automaton Automaton, Rules, Successor; rulecheck Checking, Worked; ruleformat Claims, Format,
---   Reader, Refusals; numbering Numbering; subsets Sets, mirror/Singles; delegates Alike, Claims,
---   mirror/Classes; marks Marks; chunks Chunks; joins Joining; calls Calls, Replies; histories
---   History; reducing Claims, Reduced, Reducing, Worked; c_reduce Claims, Numbers; requests
---   ReduceFunction.
+--   base Answers, Conditions, Lists, Options, Totals; limits Limits; flags Flags; masks Masks,
+--   Turns; automaton Automaton, Rules, Successor; rulecheck Checking, Worked; ruleformat Claims,
+--   Format, Reader, Refusals; numbering Numbering; subsets Sets, mirror/Singles; delegates Alike,
+--   Claims, mirror/Classes; marks Marks; chunks Chunks; joins Joining; calls Calls, Replies;
+--   histories History; reducing Claims, Reduced, Reducing, Worked; c_reduce Claims, Numbers;
+--   requests ReduceFunction.
 use mathlib.Core.Path.{_≡_, sym, ap, _∙_, refl}
 use mathlib.Core.Logic.{_↔_}
 use mathlib.Core.Bool.{true, false, cond}

@@ -30,15 +30,15 @@
 -- guard against mistakes, not against attackers: summaries of another rule are told where its
 -- digest is another. A proved function ends and stays within its bounds. Assumes nothing.
 -- All that they rest on stands in these files of specs/ (tests/believed):
---   base Conditions, Lists, Options, Totals; limits Limits; flags Flags; masks Masks; automaton
---   Automaton, Rules, Successor; rulecheck Checking; ruleformat Format, Reader, Refusals, Worked;
---   numbering Numbering; compositions Bracketing, Relations; subsets Sets, mirror/Singles;
---   delegates Alike, Claims, mirror/Classes; build mirror/Building; digests Digests, Worked;
---   marks Marks; walks mirror/Steps; chunks Chunks, Taking, mirror/Walks; board Boards; joins
---   Claims, Joining; calls Calls, Claims, Replies, mirror/Steps; executions Executions; histories
---   Claims, Functions, History; fillings Filled; summaries Claims, Summaries; summaryverdict
---   Functions, Lists, Traces, Worked; c_summaries Numbers; capi Numbers; demands Functions;
---   requests SummaryFunctions.
+--   base Answers, Conditions, Lists, Options, Totals; limits Limits; flags Flags; masks Masks;
+--   automaton Automaton, Rules, Successor; rulecheck Checking; ruleformat Format, Reader,
+--   Refusals, Worked; numbering Numbering; compositions Bracketing, Relations; subsets Sets,
+--   mirror/Singles; delegates Alike, Claims, mirror/Classes; build mirror/Building; digests
+--   Digests, Worked; marks Marks; walks mirror/Steps; chunks Chunks, Taking, mirror/Walks; board
+--   Boards; joins Claims, Joining; calls Calls, Claims, Replies, mirror/Steps; executions
+--   Executions; histories Claims, Functions, History; fillings Filled; summaries Claims,
+--   Summaries; summaryverdict Functions, Lists, Traces, Worked; c_summaries Numbers; capi
+--   Numbers; demands Functions; requests SummaryFunctions.
 use mathlib.Core.Path.{_≡_, refl}
 use mathlib.Core.Logic.{_↔_, _⊎_}
 use mathlib.Core.List.{List, _∷_, flatten}

@@ -35,15 +35,15 @@
 -- All that they rest on stands in these files of specs/ (tests/believed):
 --   base Conditions, Lists, Options, Totals; limits Limits; flags Flags; text Numerals, Writing;
 --   answers Answers; masks Masks; automaton Automaton, Rules, Successor; rulecheck Checking,
---   Claims, Worked; ruleformat Format, Reader, Refusals; numbering Claims, Numbering, Texts;
---   subsets Sets, mirror/Singles; delegates Alike, Claims, mirror/Classes; build mirror/Building;
---   marks Marks; chunks Chunks; joins Joining; calls Calls, Replies; executions Executions, Last;
---   histories History, Method; fields Bytes, Claims, Numbers; lines Splitting; longlines Holding;
---   linetexts Beginnings, Claims, Feeding, Functions, Lists, Parts; trays Boards, Calls, Claims,
---   Replies, Rows, Sizes, Worked, mirror/Steps; trayhistories Claims, Conditions, Empties,
---   Functions, History, Last, Worked; traytext Answers, Claims, Lines, Worked; traylines Running;
---   traystream Texts, Worked; c_trays Claims, Numbers; demands TextFunctions; requests
---   TrayFunctions, TrayTexts.
+--   Claims, Worked; ruleformat Format, Reader, Refusals; numbering Claims, Numbering, Order,
+--   Texts; subsets Sets, mirror/Singles; delegates Alike, Claims, mirror/Classes; build
+--   mirror/Building; marks Marks; chunks Chunks; joins Joining; calls Calls, Replies; executions
+--   Executions, Last; histories History, Method; fields Bytes, Claims, Numbers; lines Splitting;
+--   longlines Holding; linetexts Beginnings, Claims, Feeding, Functions, Lists, Parts; trays
+--   Boards, Calls, Claims, Replies, Rows, Sizes, Worked, mirror/Steps; trayhistories Claims,
+--   Conditions, Empties, Functions, History, Last, Worked; traytext Answers, Claims, Lines,
+--   Worked; traylines Running; traystream Texts, Worked; c_trays Claims, Numbers; demands
+--   TextFunctions; requests TrayFunctions, TrayTexts.
 use mathlib.Core.Path.{_≡_, refl}
 use mathlib.Core.Logic.{_↔_, _⊎_}
 use mathlib.Core.Bool.{false}

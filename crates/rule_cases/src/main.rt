@@ -1,10 +1,10 @@
 // Reads rule files from standard input, a line `NAME HEX` each with `-` for no bytes, and prints
 // the name with what the reader answers, and then what ruleprint prints for the file.
 use automaton::Rule;
+use base::Answer;
 use fields::Bytes;
 use libc::STDIN_FILENO;
 use libc::STDOUT_FILENO;
-use ruleformat::ReadAnswer;
 
 // ` STATE.SYMBOL=MASK` for a cell that is not empty.
 fn print_cell(cell: usize, mask: u32) {
@@ -43,11 +43,11 @@ fn print_answer(file: &[u8]) {
     let rule = reading.rule;
     let answer = reading.answer;
     match answer {
-        ReadAnswer::Accepted => {
+        Answer::Accepted => {
             print_head(rule);
             print_cells(&rule.targets);
         }
-        ReadAnswer::Refused(number) => {
+        Answer::Refused(number) => {
             io::write_all(STDOUT_FILENO, b"refused ");
             io::print_decimal(STDOUT_FILENO, number as u64);
         }

@@ -12,18 +12,15 @@
 --   badTargets n k ts   8: some target mask is bad
 --   ruleConditions r    the conditions of the rule, in order
 --   ruleNumber r        the number of the first that holds, none where the rule is well formed
---   checkMeans          the number for each case of the answer
 use mathlib.Core.Bool.{Bool, _&&_, _||_, not}
 use mathlib.Core.List.{List, [], _∷_}
-use mathlib.Core.Option.{Option, none, some}
+use mathlib.Core.Option.{Option}
 use Prim.Native.Nat.{ℕ, _/_, _%_, _^_}
 use lib.Dec.{leb, eqb}
 use lib.ListN.{getD}
 use Rattle.base.specs.Conditions.{Condition, on, firstOf, outside, anyBelow}
 use Rattle.limits.specs.Limits.{mostStates, mostSymbols, targetCells}
 use Rattle.automaton.specs.declared.Rule.{Rule}
-use Rattle.rulecheck.specs.declared.CheckAnswer.{CheckAnswer}
-use Rattle.rulecheck.specs.declared.CheckAnswer.the-variants.{Passed, Refused}
 
 abbrev pub badStateCount : ℕ → Bool
 badStateCount n = outside 1 mostStates n
@@ -56,7 +53,3 @@ ruleConditions r =
 
 abbrev pub ruleNumber : Rule → Option ℕ
 ruleNumber r = firstOf (ruleConditions r)
-
-abbrev pub checkMeans : CheckAnswer → Option ℕ
-checkMeans Passed = none
-checkMeans (Refused number) = some number

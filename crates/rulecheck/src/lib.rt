@@ -1,14 +1,10 @@
 // Checking a rule that is handed in as a value: any numbers may stand in its fields.
 ghost use mathlib.Core.Path.{_≡_};
+ghost use Rattle.base.specs.Answers.{answerNumber};
 ghost use Rattle.base.specs.Conditions.{outside as outsideOf};
-ghost use Rattle.rulecheck.specs.Checking.{beyond as beyondOf, badMasks, badTarget, badTargets, ruleNumber, checkMeans};
+ghost use Rattle.rulecheck.specs.Checking.{beyond as beyondOf, badMasks, badTarget, badTargets, ruleNumber};
 use automaton::Rule;
-
-// What checking a rule answers: it is well formed, or the number of the first condition that holds.
-pub enum CheckAnswer {
-    Passed,
-    Refused(u8),
-}
+use base::Answer;
 
 // x is not in 1 .. most.
 pub fn outside(x: usize, most: usize) -> bool
@@ -71,22 +67,22 @@ fn bad_targets(n: usize, k: usize, targets: &[u32; limits::TARGETS]) -> bool
 }
 
 // The first of the conditions 3, 4, 6 and 8 that holds of the rule.
-pub fn check_rule(rule: Rule) -> CheckAnswer
-    ensures { λ r. ⌜ checkMeans r ≡ ruleNumber rule ⌝ }
+pub fn check_rule(rule: Rule) -> Answer
+    ensures { λ r. ⌜ answerNumber r ≡ ruleNumber rule ⌝ }
 {
     let n = rule.n as usize;
     if outside(n, limits::STATES) {
-        return CheckAnswer::Refused(3);
+        return Answer::Refused(3);
     }
     let k = rule.k as usize;
     if outside(k, limits::SYMBOLS) {
-        return CheckAnswer::Refused(4);
+        return Answer::Refused(4);
     }
     if bad_masks(n, rule.initials, rule.finals) {
-        return CheckAnswer::Refused(6);
+        return Answer::Refused(6);
     }
     if bad_targets(n, k, &rule.targets) {
-        return CheckAnswer::Refused(8);
+        return Answer::Refused(8);
     }
-    CheckAnswer::Passed
+    Answer::Accepted
 }

@@ -6,13 +6,14 @@ ghost use Prim.Native.Nat.{ℕ, _+_, _*_, _/_, _%_, _≤_, _<_};
 ghost use lib.Bits.{bitOr};
 ghost use lib.Dec.{eqb};
 ghost use lib.ListN.{length, getD};
+ghost use Rattle.base.specs.Answers.{answerNumber};
 ghost use Rattle.limits.specs.Limits.{mostStates, mostSymbols, targetCells};
 ghost use Rattle.ruleformat.specs.Format.{byteAt, halfAt, wordAt, stateCount};
 ghost use Rattle.ruleformat.specs.Refusals.{badPairs, badSection, badArcs, refusal};
-ghost use Rattle.ruleformat.specs.Reader.{readMeans, targetsBy, ruleOf, noRule, readOutcome, readOf};
+ghost use Rattle.ruleformat.specs.Reader.{targetsBy, ruleOf, noRule, readOutcome, readOf};
 use automaton::Rule;
+use base::Answer;
 use masks::StateNumber;
-use ruleformat::ReadAnswer;
 use ruleformat::ReadResult;
 
 // The byte at an index.
@@ -112,39 +113,39 @@ fn arcs_break(file: &[u8]) -> bool
 }
 
 // The first of the conditions 1 to 8 that holds.
-fn check(file: &[u8]) -> ReadAnswer
-    ensures { λ r. ⌜ readMeans r ≡ refusal (now (file .entry)) ⌝ }
+fn check(file: &[u8]) -> Answer
+    ensures { λ r. ⌜ answerNumber r ≡ refusal (now (file .entry)) ⌝ }
 {
     let len = file.len();
     if len < 10 {
-        return ReadAnswer::Refused(1);
+        return Answer::Refused(1);
     }
     if limits::FILE < len {
-        return ReadAnswer::Refused(2);
+        return Answer::Refused(2);
     }
     let n = byte(file, 0);
     if rulecheck::outside(n, limits::STATES) {
-        return ReadAnswer::Refused(3);
+        return Answer::Refused(3);
     }
     let k = byte(file, 1);
     if rulecheck::outside(k, limits::SYMBOLS) {
-        return ReadAnswer::Refused(4);
+        return Answer::Refused(4);
     }
     if len < 10 + 4 * n {
-        return ReadAnswer::Refused(5);
+        return Answer::Refused(5);
     }
     let initials = word(file, 2);
     let finals = word(file, 6);
     if rulecheck::bad_masks(n, initials, finals) {
-        return ReadAnswer::Refused(6);
+        return Answer::Refused(6);
     }
     if pairs_break(file) {
-        return ReadAnswer::Refused(7);
+        return Answer::Refused(7);
     }
     if arcs_break(file) {
-        return ReadAnswer::Refused(8);
+        return Answer::Refused(8);
     }
-    ReadAnswer::Accepted
+    Answer::Accepted
 }
 
 // Adds the arcs of the section of state q to its row of the table.
@@ -212,11 +213,11 @@ pub fn read(file: &[u8]) -> ReadResult
 {
     let answer = check(file);
     match answer {
-        ReadAnswer::Accepted => {
+        Answer::Accepted => {
             let rule = build(file);
             ReadResult { answer, rule }
         }
-        ReadAnswer::Refused(_) => {
+        Answer::Refused(_) => {
             let rule = no_rule();
             ReadResult { answer, rule }
         }

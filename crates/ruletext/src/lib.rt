@@ -9,12 +9,12 @@ ghost use Rattle.delegates.specs.Alike.{delegateIn};
 ghost use Rattle.delegates.specs.mirror.Answer.{delegateMeans};
 ghost use Rattle.ruletext.specs.RuleText.{field, cellText, rowText, setLine, headLine, delegateText, delegatesLine, ruleText, textOf};
 ghost use Rattle.ruletext.specs.Printing.{textFor, mostBytes};
+use base::Answer;
 use build::BuildAnswer;
 use build::BuildResult;
 use build::Built;
 use delegates::DelegateAnswer;
 use masks::StateNumber;
-use ruleformat::ReadAnswer;
 use subsets::SetNumber;
 
 // A state's number with a space before it.
@@ -195,7 +195,7 @@ pub fn print_whole(file: &[u8], out: &mut [u8]) -> usize
     let answer = reading.answer;
     let rule = reading.rule;
     match answer {
-        ReadAnswer::Accepted => put_building(out, build::build_rule(rule)),
-        ReadAnswer::Refused(number) => answers::put_refused(out, 0, number),
+        Answer::Accepted => put_building(out, build::build_rule(rule)),
+        Answer::Refused(number) => answers::put_refused(out, 0, number),
     }
 }

@@ -15,15 +15,16 @@ use lib.Dec.{ltb}
 use lib.ListN.{length, take}
 use lib.Seq.{take-all}
 use borrow.Author.Tests.{ltb-true, ltb-false}
+use Rattle.base.specs.Answers.{answerNumber}
 use Rattle.base.proofs.Tests.{by-test}
 use Rattle.fields.specs.Claims.{digitsOf, fieldOf}
 use Rattle.hexfields.proofs.Digits.{digits-length}
 use Rattle.answers.specs.Answers.{refusedText}
 use Rattle.automaton.specs.declared.Rule.{Rule}
-use Rattle.ruleformat.specs.declared.ReadAnswer.the-variants.{Accepted, Refused}
+use Rattle.base.specs.declared.Answer.the-variants.{Accepted, Refused}
 use Rattle.ruleformat.specs.declared.ReadResult.{ReadResult}
 use Rattle.ruleformat.specs.Refusals.{refusal}
-use Rattle.ruleformat.specs.Reader.{readMeans, ruleOf, ruleBy, Reading, readOutcome, readOf}
+use Rattle.ruleformat.specs.Reader.{ruleOf, ruleBy, Reading, readOutcome, readOf}
 use Rattle.samples.specs.declared.SampleAnswer.the-variants as answer
 use Rattle.samples.specs.declared.SampleResult.{SampleResult}
 use Rattle.samples.specs.declared.Wish.{Wish}
@@ -108,7 +109,7 @@ module _ (r : Rule) (s : SampleResult) (is : sampleOutcome s ≡ outcomeOf (samp
 
 -- ---- the text for a file
 module _ (f : List ℕ) (r : ReadResult) (is : readOutcome r ≡ readOf f) where
-  number : {x : Option ℕ} → readMeans (r .answer) ≡ x → refusal f ≡ x
+  number : {x : Option ℕ} → answerNumber (r .answer) ≡ x → refusal f ≡ x
   number e = ap (λ (x : Reading). x .number) (sym is) ∙ e
 
   text-by : {x : Option ℕ} → refusal f ≡ x → textBy x f ≡ textFor f
@@ -116,9 +117,9 @@ module _ (f : List ℕ) (r : ReadResult) (is : readOutcome r ≡ readOf f) where
 
   pub file-read : r .answer ≡ Accepted → samplesText (r .rule) ≡ textFor f
   file-read e =
-      let n = number (ap readMeans e) in
+      let n = number (ap answerNumber e) in
       let rule : r .rule ≡ ruleOf f = ap (λ (x : Reading). x .rule) is ∙ ap (λ (x : Option ℕ). ruleBy x f) n in
       ap samplesText rule ∙ text-by n
 
   pub file-refused : (x : ℕ) → r .answer ≡ Refused x → refusedText x ≡ textFor f
-  file-refused x e = text-by (number (ap readMeans e))
+  file-refused x e = text-by (number (ap answerNumber e))

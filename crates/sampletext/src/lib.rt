@@ -10,7 +10,7 @@ ghost use Rattle.samples.specs.Values.{longestSample, sampleOutcome, sampleIn};
 ghost use Rattle.samples.specs.Search.{sampleOf};
 ghost use Rattle.sampletext.specs.SampleText.{rejectsWord, lineFor, samplesText, textFor, lineRoom, mostBytes};
 use automaton::Rule;
-use ruleformat::ReadAnswer;
+use base::Answer;
 use samples::SampleAnswer;
 use samples::SampleResult;
 use samples::Wish;
@@ -98,7 +98,7 @@ pub fn print_samples(file: &[u8], out: &mut [u8]) -> usize
     let reading = rulefile::read(file);
     let read = reading.answer;
     match read {
-        ReadAnswer::Accepted => put_samples(out, reading.rule),
-        ReadAnswer::Refused(number) => answers::put_refused(out, 0, number),
+        Answer::Accepted => put_samples(out, reading.rule),
+        Answer::Refused(number) => answers::put_refused(out, 0, number),
     }
 }

@@ -8,10 +8,10 @@ ghost use Rattle.searches.specs.Search.{firstWhere};
 ghost use Rattle.samples.specs.Values.{answerMeans, noText, sampleOutcome, outcomeOf};
 ghost use Rattle.samples.specs.Search.{meets as meetsOf, sampleOf};
 use automaton::Rule;
+use base::Answer;
 use keys::KeyNumber;
 use keys::Kind;
 use keys::Numbering;
-use rulecheck::CheckAnswer;
 use samples::SampleAnswer;
 use samples::SampleResult;
 use samples::Wish;
@@ -90,7 +90,7 @@ pub fn find_sample(rule: Rule, wish: Wish) -> SampleResult
 {
     let checked = rulecheck::check_rule(rule);
     match checked {
-        CheckAnswer::Refused(number) => give_none(SampleAnswer::Refused(number)),
-        CheckAnswer::Passed => search_sets(rule, wish),
+        Answer::Refused(number) => give_none(SampleAnswer::Refused(number)),
+        Answer::Accepted => search_sets(rule, wish),
     }
 }

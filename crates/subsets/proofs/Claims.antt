@@ -1,7 +1,7 @@
 -- The one proof of all that specs/Claims.antt claims, from the claims of numbering. What is left to
 -- show: the empty set leads to itself, and in a well-formed rule a text that leads to a non-empty
 -- set has symbols below k. Assumes nothing.
-use mathlib.Core.Path.{_≡_, refl, sym, ap, _∙_}
+use mathlib.Core.Path.{_≡_, sym, ap, subst, _∙_}
 use mathlib.Core.Logic.{_↔_, inr}
 use mathlib.Core.List.{List, [], _∷_}
 use Prim.Native.Nat.{ℕ, _≤_, _<_, min}
@@ -18,16 +18,14 @@ use Rattle.automaton.specs.Rules.{targetMask, WellFormed}
 use Rattle.automaton.specs.Successor.{successor, after}
 use Rattle.automaton.proofs.Laws.{after-empty}
 use Rattle.numbering.specs.Numbering.{Walk}
-use Rattle.numbering.specs.Texts.{follow, Symbols, none, more}
+use Rattle.numbering.specs.Texts.{Symbols, none, more}
+use Rattle.numbering.specs.Order.{InOrder}
 use Rattle.numbering.specs.Claims as keys
 use Rattle.numbering.specs.Claims.{Distinct}
+use Rattle.numbering.proofs.InOrder.{in-order-by}
 use Rattle.numbering.proofs.Claims as numbering
 use Rattle.subsets.specs.Sets.{setWalk, setsOf, tooMany, nextSet}
-use Rattle.subsets.specs.Claims.{Reach, Ordered, sets, next, over, fits, Claims}
-
-follow-after : (ts : List ℕ) (k m : ℕ) (w : List ℕ) → follow (setWalk ts k) m w ≡ after ts m w
-follow-after ts k m [] = refl
-follow-after ts k m (s ∷ w) = follow-after ts k (successor ts m s) w
+use Rattle.subsets.specs.Claims.{Leads, Reach, sets, next, over, fits, Claims}
 
 sinks : (ts : List ℕ) (k : ℕ) → keys.Sinks (setWalk ts k)
 sinks ts k m s _ e =
@@ -65,7 +63,7 @@ module _ (r : Rule) (good : WellFormed r) where
     below = omega (arith, h .below, states);
     text = h .text;
     symbols = symbols-of (single (h .state)) (h .text) (λ z. h .some-state (sym (h .leads) ∙ z));
-    leads = follow-after (r .targets) (r .k) (single (h .state)) (h .text) ∙ h .leads;
+    leads = h .leads;
   }
 
   back : {m : ℕ} → keys.Reach walk single n m → Reach r m
@@ -74,7 +72,7 @@ module _ (r : Rule) (good : WellFormed r) where
     state = h .from;
     below = omega (arith, h .below, states);
     text = h .text;
-    leads = sym (follow-after (r .targets) (r .k) (single (h .from)) (h .text)) ∙ h .leads;
+    leads = h .leads;
   }
 
   -- ---- the claims
@@ -111,26 +109,13 @@ module _ (r : Rule) (good : WellFormed r) where
         λ l. lt-ltb 512 (length (sets r)) (o .1 (l .0, l .1, l .2, λ i b. there (l .3 i b))),
       )
 
-  ordered : fits r → Ordered r (sets r)
+  ordered : fits r → InOrder (r .n) (Leads r) (λ i. getD (sets r) i 0) (length (sets r))
   unfolding setsOf
   ordered e =
-      let o = numbering.claims .in-order walk single n (sinks (r .targets) (r .k)) (most e) in
-      record {
-        state = o .from;
-        text = o .text;
-        origin = λ i b.
-            let h = o .origin i b in
-            let some : getD (sets r) i 0 ≡ 0 → ⊥ = sound i b .some-state in
-            record {
-              below = omega (arith, h .below, states);
-              leads = sym (follow-after (r .targets) (r .k) (single (o .from i)) (o .text i)) ∙ h .leads;
-              first-state = λ p v c d.
-                  h .first-seed p v (omega (arith, states)) (symbols-of (single p) v (λ z. some (sym d ∙ z))) (follow-after (r .targets) (r .k) (single p) v ∙ d);
-              first-text = λ v d.
-                  h .first-text v (symbols-of (single (o .from i)) v (λ z. some (sym d ∙ z))) (follow-after (r .targets) (r .k) (single (o .from i)) v ∙ d);
-            };
-        rises = o .rises;
-      }
+      subst (λ (x : ℕ). InOrder x (Leads r) (λ i. getD (sets r) i 0) (length (sets r))) states
+      (in-order-by n (λ i. getD (sets r) i 0) (λ i. getD (sets r) i 0) (length (sets r))
+      (λ i q w b l. ((λ x. x .1), λ e. (symbols-of (single q) w (λ z. sound i b .some-state (sym e ∙ z)), e)))
+      (numbering.claims .in-order walk single n (sinks (r .targets) (r .k)) (most e)))
 
 pub claims : Claims
 claims = record { sound = sound; once = once; complete = complete; cell = cell; nine = nine; ordered = ordered }

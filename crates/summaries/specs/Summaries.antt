@@ -45,6 +45,7 @@ use mathlib.Core.Option.{Option, none, some}
 use Prim.Native.Nat.{ℕ, zero, suc, _+_, min}
 use lib.Dec.{eqb, ltb}
 use lib.ListN.{getD, replicate}
+use Rattle.base.specs.Answers.{answerNumber}
 use Rattle.limits.specs.Limits.{mostStates, largestNumber}
 use Rattle.base.specs.Conditions.{Condition, on, firstOf}
 use Rattle.base.specs.Lists.{listFrom}
@@ -61,8 +62,6 @@ use Rattle.calls.specs.Replies.{Judgement, Reported, yesWith, noWith, refusedWi
 use Rattle.calls.specs.Calls.{alone, reportBy}
 use Rattle.calls.specs.mirror.Steps.{lacksRule}
 use Rattle.summaries.specs.declared.Summary.{Summary}
-use Rattle.summaries.specs.declared.SummaryAnswer.{SummaryAnswer}
-use Rattle.summaries.specs.declared.SummaryAnswer.the-variants.{Accepted, Refused}
 use Rattle.summaries.specs.declared.SummaryResult.{SummaryResult}
 
 -- ---- two summaries
@@ -113,12 +112,8 @@ pub record Summarized : Type 0 where
   pub refusal : Option ℕ
   pub summary : Summary
 
-abbrev pub summaryMeans : SummaryAnswer → Option ℕ
-summaryMeans Accepted = none
-summaryMeans (Refused number) = some number
-
 abbrev pub summaryOutcome : SummaryResult → Summarized
-summaryOutcome r = record { refusal = summaryMeans (r .answer); summary = r .summary }
+summaryOutcome r = record { refusal = answerNumber (r .answer); summary = r .summary }
 
 abbrev pub noSummary : Summary
 noSummary = record { leads = replicate mostStates 0; count = 0; bytes = 0; rule = 0; first = 0; end = 0; broken = 1 }

@@ -10,6 +10,7 @@ ghost use Rattle.compositions.specs.Relations.{imageOf};
 ghost use Rattle.calls.specs.Calls.{alone};
 ghost use Rattle.calls.specs.Replies.{refusedWith, verdictMeans, reportMeans};
 ghost use Rattle.summaries.specs.Summaries.{capped, follows as followsIt, combine as combineOf, placeOf, leadsOf, madeFrom, summaryOutcome, summaryRefused, summarizeOf, saidBy, concludeOf};
+use base::Answer;
 use build::Built;
 use calls::DeliverAnswer;
 use calls::Judge;
@@ -32,15 +33,9 @@ pub struct Summary {
     pub broken: u8,
 }
 
-// The chunk's summary is beside the answer, or a refusal.
-pub enum SummaryAnswer {
-    Accepted,
-    Refused(u8),
-}
-
 // The answer, with the summary beside it: zeros, and broken, where the chunk is refused.
 pub struct SummaryResult {
-    pub answer: SummaryAnswer,
+    pub answer: Answer,
     pub summary: Summary,
 }
 
@@ -119,7 +114,7 @@ pub fn combine(earlier: Summary, later: Summary) -> Summary
 fn refuse_chunk(number: u8) -> SummaryResult
     ensures { λ r. ⌜ summaryOutcome r ≡ summaryRefused number ⌝ }
 {
-    let answer = SummaryAnswer::Refused(number);
+    let answer = Answer::Refused(number);
     let leads = [0u32; limits::STATES];
     let summary = Summary {
         leads,
@@ -209,7 +204,7 @@ pub fn summarize(judge: Judge, number: u64, chunk: &[u8]) -> SummaryResult
     if let DeliverAnswer::Refused(x) = came {
         return refuse_chunk(x);
     }
-    let answer = SummaryAnswer::Accepted;
+    let answer = Answer::Accepted;
     let runs = attempt.runs;
     let summary = summary_of(built, number, runs);
     SummaryResult { answer, summary }

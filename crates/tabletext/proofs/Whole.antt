@@ -8,15 +8,16 @@ use Prim.Native.Nat.{ℕ, _≤_}
 use native.Mathlib.Omega.{arith}
 use lib.Dec.{ltb}
 use borrow.Author.Tests.{ltb-false}
+use Rattle.base.specs.Answers.{answerNumber}
 use Rattle.answers.specs.Answers.{refusedText, malformedText}
 use Rattle.base.proofs.Tests.{by-test, zero-one}
 use Rattle.forms.specs.declared.Form.{Form}
 use Rattle.formmaker.specs.Making.{noForm}
 use Rattle.forms.specs.declared.Table.{Table}
-use Rattle.forms.specs.declared.BackAnswer.{BackAnswer}
-use Rattle.forms.specs.declared.BackAnswer.the-variants.{Accepted, Refused}
+use Rattle.base.specs.declared.Answer.{Answer}
+use Rattle.base.specs.declared.Answer.the-variants.{Accepted, Refused}
 use Rattle.forms.specs.declared.BackResult.{BackResult}
-use Rattle.forms.specs.Back.{Back, backNumber, backBy, backOf, tableOf, backMeans, backOutcome}
+use Rattle.forms.specs.Back.{Back, backNumber, backBy, backOf, tableOf, backOutcome}
 use Rattle.forms.specs.Claims.{Wrong, many-sets, many-symbols}
 use Rattle.forms.proofs.Accepting.{parts}
 use Rattle.forms.proofs.Claims as forms
@@ -31,20 +32,20 @@ number-of none t = refl
 number-of (some x) t = refl
 
 module _ (f : Form) (r : BackResult) (is : backOutcome r ≡ backOf f) where
-  text-is : tableBy (backMeans (r .answer)) (r .table) ≡ backText (backOf f)
+  text-is : tableBy (answerNumber (r .answer)) (r .table) ≡ backText (backOf f)
   text-is = ap backText is
 
   pub table-text : r .answer ≡ Accepted → tableLine (r .table) ≡ backText (backOf f)
-  table-text e = sym (ap (λ (a : BackAnswer). tableBy (backMeans a) (r .table)) e) ∙ text-is
+  table-text e = sym (ap (λ (a : Answer). tableBy (answerNumber a) (r .table)) e) ∙ text-is
 
   pub refused-text : (x : ℕ) → r .answer ≡ Refused x → refusedText x ≡ backText (backOf f)
-  refused-text x e = sym (ap (λ (a : BackAnswer). tableBy (backMeans a) (r .table)) e) ∙ text-is
+  refused-text x e = sym (ap (λ (a : Answer). tableBy (answerNumber a) (r .table)) e) ∙ text-is
 
   -- an accepted form's table has 1 to 16 symbols and at most 512 sets
   pub bounds : r .answer ≡ Accepted → (1 ≤ r .table .symbols) × (r .table .symbols ≤ 16) × (r .table .sets ≤ 512)
   bounds e =
       let n : backNumber f ≡ none
-      = sym (number-of (backNumber f) (tableOf f)) ∙ sym (ap (λ (b : Back). b .number) is) ∙ ap backMeans e in
+      = sym (number-of (backNumber f) (tableOf f)) ∙ sym (ap (λ (b : Back). b .number) is) ∙ ap answerNumber e in
       let a = parts f n in
       let t : r .table ≡ tableOf f = ap (λ (b : Back). b .table) is ∙ ap (λ (o : Option ℕ). backBy o (tableOf f) .table) n in
       subst (λ (x : Table). (1 ≤ x .symbols) × (x .symbols ≤ 16) × (x .sets ≤ 512)) (sym t) (a .some-symbol, a .symbols, a .sets)

@@ -7,8 +7,8 @@ ghost use Rattle.text.specs.Writing.{Wrote};
 ghost use Rattle.forms.specs.Back.{backOf};
 ghost use Rattle.formline.specs.Lines.{lineIn};
 ghost use Rattle.tabletext.specs.Answers.{bareCell, cellText, cellsText, tableLine, backText, answerText, mostAnswer};
+use base::Answer;
 use formline::LineKind;
-use forms::BackAnswer;
 use forms::Form;
 use forms::Table;
 use subsets::SetNumber;
@@ -78,8 +78,8 @@ fn put_back(out: &mut [u8], at: usize, form: Form) -> usize
     let back = formback::table_of(form);
     let answer = back.answer;
     match answer {
-        BackAnswer::Accepted => put_table(out, at, back.table),
-        BackAnswer::Refused(number) => answers::put_refused(out, at, number),
+        Answer::Accepted => put_table(out, at, back.table),
+        Answer::Refused(number) => answers::put_refused(out, at, number),
     }
 }
 

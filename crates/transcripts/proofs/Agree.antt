@@ -13,8 +13,8 @@ use Rattle.base.specs.Options.{isNone}
 use Rattle.automaton.specs.declared.Rule.{Rule}
 use Rattle.ruleformat.specs.Reader.{ruleOf}
 use Rattle.calls.specs.Replies.{Reply, accepted, delivered, refusalOf}
-use Rattle.calls.specs.Calls.{Call, installs, loads, opens, delivers, withdraws, asksVerdict, installNumber, loadNumber}
-use Rattle.histories.specs.History.{ruleThere, placesIn, lastRevision, standing, openNumber, deliverNumber, withdrawNumber, lookedOf, ruleIn, replyBy, withSets, answerOf, answersTo}
+use Rattle.calls.specs.Calls.{Call, installs, loads, opens, delivers, withdraws, asksVerdict, installNumber, loadNumber, withSets}
+use Rattle.histories.specs.History.{ruleThere, placesIn, lastRevision, standing, openNumber, deliverNumber, withdrawNumber, lookedOf, ruleIn, replyBy, answerOf, answersTo}
 use Rattle.transcripts.specs.Standing.{Standing, afterCall, standingAfter}
 use Rattle.transcripts.specs.Agreement.{Agree}
 

@@ -23,9 +23,9 @@ use Rattle.ruleformat.specs.Refusals.{fileConditions, refusal}
 use Rattle.ruleformat.specs.Reader.{ruleOf}
 use Rattle.ruleformat.specs.Language.{automatonIn}
 use Rattle.calls.specs.Replies.{refusedWith, waiting, yesWith, noWith, Reported, Reply, accepted, delivered, judged, refused}
-use Rattle.calls.specs.Calls.{Call, installs, loads, opens, delivers, withdraws, asksVerdict, installNumber, loadNumber, alone, reportBy}
+use Rattle.calls.specs.Calls.{Call, installs, loads, opens, delivers, withdraws, asksVerdict, installNumber, loadNumber, alone, reportBy, withSets}
 use Rattle.calls.proofs.Conditions.{orElse, over, install-number, load-number}
-use Rattle.histories.specs.History.{ruleThere, ruleFrom, ruleIn, placesIn, openNumber, deliverNumber, withdrawNumber, lookedOf, replyBy, withSets, answerOf, emptiesIn, summedIn, yesIn, bytesIn}
+use Rattle.histories.specs.History.{ruleThere, ruleFrom, ruleIn, placesIn, openNumber, deliverNumber, withdrawNumber, lookedOf, replyBy, answerOf, emptiesIn, summedIn, yesIn, bytesIn}
 use Rattle.histories.specs.Method.{TooMany}
 use Rattle.histories.proofs.Method.{nine-law, nine-bytes}
 use Rattle.histories.proofs.Conditions.{not-true, both, number-is, by-none}

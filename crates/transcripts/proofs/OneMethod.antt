@@ -16,13 +16,14 @@ use Rattle.base.proofs.Lists.{length-listFrom, cell-of}
 use Rattle.base.proofs.Tests.{by-test}
 use Rattle.masks.proofs.Claims as masks
 use Rattle.numbering.specs.Texts.{Sooner}
+use Rattle.numbering.specs.Order.{Origin}
 use Rattle.numbering.proofs.Numbers.{stands}
 use Rattle.numbering.proofs.Pigeonhole.{at-most}
 use Rattle.searches.proofs.Order.{not-after-all, one-text}
 use Rattle.automaton.specs.Automaton.{Automaton}
 use Rattle.delegates.proofs.Claims as delegates
 use Rattle.build.specs.declared.Built.{Built}
-use Rattle.histories.specs.Method.{Leads, Moves, setAt, nextAt, Origin, Method}
+use Rattle.histories.specs.Method.{Leads, Moves, setAt, nextAt, Method}
 use Rattle.transcripts.specs.Claims.{SameBuilt}
 
 -- the sets of a built rule, in number order
@@ -50,9 +51,9 @@ module _ (a : Automaton) where
       omega (arith, many b, many c)
 
   -- ---- the numbers. A set has one origin
-  one-origin : (m q p : ℕ) (w v : List ℕ) → Origin a m q w → Origin a m p v → (q ≡ p) × (w ≡ v)
+  one-origin : (m q p : ℕ) (w v : List ℕ) → Origin (a .n) (Leads a) m q w → Origin (a .n) (Leads a) m p v → (q ≡ p) × (w ≡ v)
   one-origin m q p w v x y =
-      let same : q ≡ p = omega (arith, x .first-state p v (y .below) (y .leads), y .first-state q w (x .below) (x .leads)) in (
+      let same : q ≡ p = omega (arith, x .first-seed p v (y .below) (y .leads), y .first-seed q w (x .below) (x .leads)) in (
         same,
         one-text w v (x .first-text v (subst (λ (z : ℕ). Leads a z v m) (sym same) (y .leads)))
             (y .first-text w (subst (λ (z : ℕ). Leads a z w m) same (x .leads))),
@@ -88,11 +89,11 @@ module _ (a : Automaton) where
         let apart = eqb-false k l u in
         let o = m .order in
         let w = n .order in
-        let first = one-origin (setAt b i) (o .state i) (w .state k) (o .text i) (w .text k) (o .origin i (omega arith))
-        (subst (λ (z : ℕ). Origin a z (w .state k) (w .text k)) e (w .origin k ck)) in
-        let second = one-origin (setAt b j) (o .state j) (w .state l) (o .text j) (w .text l) (o .origin j bj)
-        (subst (λ (z : ℕ). Origin a z (w .state l) (w .text l)) f (w .origin l cl)) in
-        absurd (not-both-ways (o .state i) (o .state j) (o .text i) (o .text j) (o .rises i j h bj)
+        let first = one-origin (setAt b i) (o .from i) (w .from k) (o .text i) (w .text k) (o .origin i (omega arith))
+        (subst (λ (z : ℕ). Origin (a .n) (Leads a) z (w .from k) (w .text k)) e (w .origin k ck)) in
+        let second = one-origin (setAt b j) (o .from j) (w .from l) (o .text j) (w .text l) (o .origin j bj)
+        (subst (λ (z : ℕ). Origin (a .n) (Leads a) z (w .from l) (w .text l)) f (w .origin l cl)) in
+        absurd (not-both-ways (o .from i) (o .from j) (o .text i) (o .text j) (o .rises i j h bj)
         (rw (first .0, second .0, first .1, second .1) (w .rises l k (omega arith) ck)))))
 
     no-lower : (i k : ℕ) → i < b .setcount → k < c .setcount → setAt c k ≡ setAt b i → i ≤ k

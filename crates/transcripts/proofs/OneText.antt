@@ -16,8 +16,8 @@ use Rattle.executions.specs.Executions.{Library, Execution, Meets}
 use Rattle.executions.proofs.Executions.{execution-law}
 use Rattle.calls.specs.declared.Judge.{Judge}
 use Rattle.calls.specs.Replies.{Reply, yesWith, accepted, refusalOf}
-use Rattle.calls.specs.Calls.{Call, loads, opens, delivers, asksVerdict, loadNumber}
-use Rattle.histories.specs.History.{ruleThere, openNumber, summedIn, answerOf, answersTo, withSets}
+use Rattle.calls.specs.Calls.{Call, loads, opens, delivers, asksVerdict, loadNumber, withSets}
+use Rattle.histories.specs.History.{ruleThere, openNumber, summedIn, answerOf, answersTo}
 use Rattle.histories.specs.Claims.{judgeMachine, Says}
 use Rattle.histories.proofs.EveryList.{every-list}
 use Rattle.transcripts.specs.Standing.{file, Standing, placed, standingAfter}

@@ -8,11 +8,9 @@ ghost use Rattle.trays.specs.Calls.{notRows, foreignTo};
 ghost use Rattle.trays.specs.Boards.{widthOf, bandsOf};
 ghost use Rattle.trays.specs.mirror.Steps.{fresh, withBoard, withRow, withColumn, installAnswer, installOutcome, callOutcome, installOf, installRowOf, installColumnOf, openOf, deliverOf, withdrawOf, verdictOf};
 use automaton::Rule;
+use base::Answer;
 use build::BuildAnswer;
-use rulecheck::CheckAnswer;
-use trays::CallAnswer;
 use trays::CallResult;
-use trays::InstallAnswer;
 use trays::InstallResult;
 use trays::Tray;
 use trays::TrayBoard;
@@ -40,30 +38,30 @@ fn with_board(tray: Tray, board: TrayBoard) -> Tray
 fn accept(tray: Tray) -> CallResult
     ensures { λ r. ⌜ callOutcome r ≡ record { reply = accepted; state = tray } ⌝ }
 {
-    let answer = CallAnswer::Accepted;
+    let answer = Answer::Accepted;
     CallResult { answer, tray }
 }
 
 fn refuse(tray: Tray, number: u8) -> CallResult
     ensures { λ r. ⌜ callOutcome r ≡ record { reply = refused number; state = tray } ⌝ }
 {
-    let answer = CallAnswer::Refused(number);
+    let answer = Answer::Refused(number);
     CallResult { answer, tray }
 }
 
 // What an installation of the rule, which may be any value, answers.
-fn answer_to(rule: Rule) -> InstallAnswer
+fn answer_to(rule: Rule) -> BuildAnswer
     ensures { λ r. ⌜ installMeans r ≡ installAnswer rule ⌝ }
 {
     let checked = rulecheck::check_rule(rule);
     match checked {
-        CheckAnswer::Refused(number) => InstallAnswer::Refused(number),
-        CheckAnswer::Passed => {
+        Answer::Refused(number) => BuildAnswer::Refused(number),
+        Answer::Accepted => {
             let building = build::build_rule(rule);
             let answer = building.answer;
             match answer {
-                BuildAnswer::Refused(number) => InstallAnswer::Refused(number),
-                BuildAnswer::Accepted(sets, starts) => InstallAnswer::Accepted(sets, starts),
+                BuildAnswer::Refused(number) => BuildAnswer::Refused(number),
+                BuildAnswer::Accepted(sets, starts) => BuildAnswer::Accepted(sets, starts),
             }
         }
     }
@@ -101,8 +99,8 @@ fn install(tray: Tray, rule: Rule, next: Tray) -> InstallResult
 {
     let answer = answer_to(rule);
     match answer {
-        InstallAnswer::Refused(_) => InstallResult { answer, tray },
-        InstallAnswer::Accepted(_, _) => InstallResult { answer, tray: next },
+        BuildAnswer::Refused(_) => InstallResult { answer, tray },
+        BuildAnswer::Accepted(_, _) => InstallResult { answer, tray: next },
     }
 }
 

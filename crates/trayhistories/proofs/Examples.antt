@@ -14,9 +14,9 @@ use Rattle.subsets.specs.Sets.{setsOf, tooMany}
 use Rattle.chunks.specs.Chunks.{foreign}
 use Rattle.calls.specs.Calls.{installNumber}
 use Rattle.trays.specs.Rows.{rowsOf, rowsUpTo, columnOf, rowsPass, columnsPass}
-use Rattle.trays.specs.Replies.{Reply}
+use Rattle.trays.specs.Replies.{Reply, withSets}
 use Rattle.trays.specs.Worked.{evenRule}
-use Rattle.trayhistories.specs.History.{rowThere, columnThere, boardThere, standing, withSets, answersTo}
+use Rattle.trayhistories.specs.History.{rowThere, columnThere, boardThere, standing, answersTo}
 use Rattle.trayhistories.specs.Worked.{anyRule, noStates, ruled, Case, case, lists, Answered}
 use Rattle.trayhistories.proofs.EveryList.{every-list}
 

@@ -12,10 +12,10 @@ use Rattle.subsets.specs.Sets.{setsOf}
 use Rattle.delegates.specs.Claims.{startsIn}
 use Rattle.calls.specs.Replies as judge
 use Rattle.calls.specs.Calls.{installNumber}
+use Rattle.calls.specs.Calls as judge-calls
 use Rattle.histories.specs.History as judge-history
 use Rattle.histories.proofs.Conditions as judge-conditions
-use Rattle.trays.specs.Replies.{installed, refused, replyBy}
-use Rattle.trayhistories.specs.History.{withSets}
+use Rattle.trays.specs.Replies.{installed, refused, replyBy, withSets}
 use Rattle.trayhistories.specs.Conditions.{Installation}
 
 -- the same number, and the same sets and M where there is none
@@ -53,9 +53,9 @@ installation =
     startcount r = startsIn r .startcount
 
     as-taken : (r : Rule) (s n : ℕ)
-        → (replyBy (installNumber r) (withSets r) ≡ installed s n) ↔ (judge-history.replyBy (installNumber r) (judge-history.withSets r) ≡ judge.installed s n)
+        → (replyBy (installNumber r) (withSets r) ≡ installed s n) ↔ (judge-history.replyBy (installNumber r) (judge-calls.withSets r) ≡ judge.installed s n)
     as-taken r s n = same-installed (installNumber r) (setcount r) (startcount r) s n
 
     as-turned : (r : Rule) (x : ℕ)
-        → (replyBy (installNumber r) (withSets r) ≡ refused x) ↔ (judge-history.replyBy (installNumber r) (judge-history.withSets r) ≡ judge.refused x)
+        → (replyBy (installNumber r) (withSets r) ≡ refused x) ↔ (judge-history.replyBy (installNumber r) (judge-calls.withSets r) ≡ judge.refused x)
     as-turned r x = same-refused (installNumber r) (setcount r) (startcount r) x

@@ -11,9 +11,9 @@ use Rattle.executions.proofs.Last as executions
 use Rattle.automaton.specs.declared.Rule.{Rule}
 use Rattle.calls.specs.Calls.{installNumber}
 use Rattle.histories.proofs.Last.{sets-it, keeps-it, sets-at, keeps-at, none-or, same-or}
-use Rattle.trays.specs.Replies.{Reply, accepted, refusalOf, replyBy}
+use Rattle.trays.specs.Replies.{Reply, accepted, refusalOf, replyBy, withSets}
 use Rattle.trays.specs.Calls.{Call, installsRow, installsColumn, opens, delivers, withdraws, asksVerdict}
-use Rattle.trayhistories.specs.History.{rowThere, columnThere, openNumber, Size, boardThere, standing, deliverNumber, withdrawNumber, withSets, answerOf}
+use Rattle.trayhistories.specs.History.{rowThere, columnThere, openNumber, Size, boardThere, standing, deliverNumber, withdrawNumber, answerOf}
 use Rattle.trayhistories.specs.Last.{Accepted, Last, RowRules, ColumnRules, Begins, Touches, LastRow, LastColumn, LastBoard, LastStanding}
 
 -- ---- the number of each call

@@ -19,9 +19,9 @@ use Rattle.calls.specs.Calls.{installNumber}
 use Rattle.histories.proofs.Refinement.{lent}
 use Rattle.trays.specs.declared.Tray.{Tray}
 use Rattle.trays.specs.declared.InstallResult.{InstallResult}
-use Rattle.trays.specs.declared.InstallAnswer.the-variants as installation
+use Rattle.build.specs.declared.BuildAnswer.the-variants as installation
 use Rattle.trays.specs.declared.CallResult.{CallResult}
-use Rattle.trays.specs.declared.CallAnswer.the-variants as answer
+use Rattle.base.specs.declared.Answer.the-variants as answer
 use Rattle.trays.specs.declared.TrayVerdict.{TrayVerdict}
 use Rattle.trays.specs.declared.TrayVerdict.the-variants as verdict
 use Rattle.trays.specs.Replies.{Judgement, waiting, saysYes, saysNo, refusedWith, Reply, accepted, installed, judged, verdictMeans}

@@ -9,9 +9,9 @@ use lib.Dec.{eqb}
 use Rattle.base.specs.Options.{isNone}
 use Rattle.base.proofs.Options.{none-some}
 use Rattle.calls.specs.Calls.{installNumber}
-use Rattle.trays.specs.Replies.{Reply, accepted, refusalOf, replyBy}
+use Rattle.trays.specs.Replies.{Reply, accepted, refusalOf, replyBy, withSets}
 use Rattle.trays.specs.Calls.{Call, installsRow, installsColumn, opens, delivers, withdraws, asksVerdict}
-use Rattle.trayhistories.specs.History.{rowThere, columnThere, openNumber, boardThere, standing, deliverNumber, withdrawNumber, withSets, answerOf}
+use Rattle.trayhistories.specs.History.{rowThere, columnThere, openNumber, boardThere, standing, deliverNumber, withdrawNumber, answerOf}
 use Rattle.trayhistories.proofs.Steps.{refused-band}
 
 -- what a list says is there, before and after the call c

@@ -13,11 +13,11 @@ use Rattle.automaton.specs.declared.Rule.{Rule}
 use Rattle.calls.specs.Calls.{installNumber}
 use Rattle.histories.proofs.Agreement.{placed}
 use Rattle.trays.specs.declared.Tray.{Tray}
-use Rattle.trays.specs.Replies.{Reply, accepted, replyBy}
+use Rattle.trays.specs.Replies.{Reply, accepted, replyBy, withSets}
 use Rattle.trays.specs.Calls.{Call, installsRow, installsColumn, opens, delivers, withdraws, asksVerdict, deliverConditions, withdrawConditions}
 use Rattle.trays.specs.Boards.{emptyBoard, filledAt, clearedAt}
-use Rattle.trays.specs.mirror.Steps.{fresh, withBoard, outcomeBy, withRow, withColumn, installReply, installRowOf, installColumnOf, openOf, deliverOf, withdrawOf, verdictOf}
-use Rattle.trayhistories.specs.History.{rowThere, columnThere, rowIn, columnIn, openNumber, Size, boardThere, bandsIn, widthIn, standing, deliverNumber, withdrawNumber, verdictIn, withSets}
+use Rattle.trays.specs.mirror.Steps.{fresh, withBoard, outcomeBy, withRow, withColumn, installRowOf, installColumnOf, openOf, deliverOf, withdrawOf, verdictOf}
+use Rattle.trayhistories.specs.History.{rowThere, columnThere, rowIn, columnIn, openNumber, Size, boardThere, bandsIn, widthIn, standing, deliverNumber, withdrawNumber, verdictIn}
 use Rattle.trayhistories.proofs.Agreement.{Agrees, kept-rules, all-empty, all-removed, fresh-holds, cleared-holds, filled-holds}
 use Rattle.trayhistories.proofs.Numbers.{open-number, withdraw-number, deliver-number, verdict-same}
 
@@ -55,7 +55,7 @@ module _ (h : List Call) (t : Tray) (good : AgreesWith h t) where
   -- ---- the installations
   module _ (r : Rule) where
     row-installed : (number : Option ℕ) → installNumber r ≡ number
-        → AgreesWith (installsRow r ∷ h) (outcomeBy number (installReply r) t (withRow t r) .state)
+        → AgreesWith (installsRow r ∷ h) (outcomeBy number (withSets r) t (withRow t r) .state)
     unfolding rowThere columnThere boardThere standing
     row-installed none e =
         transfer (withRow t r) (sym (rw e)) refl (sym (rw e)) (λ p. sym (rw e))
@@ -68,7 +68,7 @@ module _ (h : List Call) (t : Tray) (good : AgreesWith h t) where
     row-installed (some x) e = transfer t (sym (rw e)) refl (sym (rw e)) (λ p. sym (rw e)) good
 
     column-installed : (number : Option ℕ) → installNumber r ≡ number
-        → AgreesWith (installsColumn r ∷ h) (outcomeBy number (installReply r) t (withColumn t r) .state)
+        → AgreesWith (installsColumn r ∷ h) (outcomeBy number (withSets r) t (withColumn t r) .state)
     unfolding rowThere columnThere boardThere standing
     column-installed none e =
         transfer (withColumn t r) refl (sym (rw e)) (sym (rw e)) (λ p. sym (rw e))
@@ -90,11 +90,11 @@ module _ (h : List Call) (t : Tray) (good : AgreesWith h t) where
 
     pub install-row-says : installRowOf t r .reply ≡ replyBy (installNumber r) (withSets r)
     unfolding installRowOf
-    install-row-says = by-says (installNumber r) (installReply r) t (withRow t r)
+    install-row-says = by-says (installNumber r) (withSets r) t (withRow t r)
 
     pub install-column-says : installColumnOf t r .reply ≡ replyBy (installNumber r) (withSets r)
     unfolding installColumnOf
-    install-column-says = by-says (installNumber r) (installReply r) t (withColumn t r)
+    install-column-says = by-says (installNumber r) (withSets r) t (withColumn t r)
 
   -- ---- open
   module _ (w n : ℕ) where

@@ -19,7 +19,6 @@
 --   emptiesIn h                 how many bands are empty
 --   rowsAt h p, rowsThere h     the rows of the standing band p, and of all in their order
 --   yesIn h, verdictIn h        every row and every column is accepted; the verdict
---   withSets r                  what is answered where the rule r is installed
 --   answerOf h c                what document 02 answers to the call c after the calls h
 --   answersTo h                 its answers to all calls of the list
 use mathlib.Core.Bool.{Bool, cond, _&&_, _||_}
@@ -27,17 +26,14 @@ use mathlib.Core.List.{List, [], _∷_}
 use mathlib.Core.Option.{Option, none, some}
 use Prim.Native.Nat.{ℕ}
 use lib.Dec.{eqb}
-use lib.ListN.{length}
 use Rattle.base.specs.Conditions.{firstOf}
 use Rattle.base.specs.Options.{isNone, isSome}
 use Rattle.base.specs.Totals.{total}
 use Rattle.automaton.specs.declared.Rule.{Rule}
-use Rattle.subsets.specs.Sets.{setsOf}
-use Rattle.delegates.specs.Claims.{startsIn}
 use Rattle.calls.specs.Calls.{installNumber}
 use Rattle.histories.specs.History.{ruleFrom}
 use Rattle.trays.specs.Rows.{rowsIn, rowsUpTo, passes}
-use Rattle.trays.specs.Replies.{Judgement, Reply, accepted, installed, judged, replyBy}
+use Rattle.trays.specs.Replies.{Judgement, Reply, accepted, judged, replyBy, withSets}
 use Rattle.trays.specs.Calls.{Call, installsRow, installsColumn, opens, delivers, withdraws, asksVerdict, openConditions, deliverConditions, withdrawConditions, verdictBy}
 
 -- ---- which rules are there
@@ -150,10 +146,6 @@ module _ (h : List Call) where
   verdictIn = verdictBy (isNone (boardThere h)) emptiesIn yesIn
 
 -- ---- the answers
--- a rule that is installed: the number of its sets, and M
-abbrev pub withSets : Rule → Reply
-withSets r = installed (length (setsOf (r .targets) (r .n) (r .k))) (startsIn r .startcount)
-
 abbrev pub answerOf : List Call → Call → Reply
 answerOf h (installsRow r) = replyBy (installNumber r) (withSets r)
 answerOf h (installsColumn r) = replyBy (installNumber r) (withSets r)

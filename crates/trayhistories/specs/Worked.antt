@@ -14,10 +14,9 @@ use lib.ListN.{set, replicate}
 use Rattle.automaton.specs.declared.Rule.{Rule}
 use Rattle.automaton.specs.Rules.{cellOf}
 use Rattle.rulecheck.specs.Worked.{rule, noTargets, ruleA}
-use Rattle.trays.specs.Replies.{Reply, accepted, judged, refused, waiting, saysYes, saysNo, refusedWith}
+use Rattle.trays.specs.Replies.{Reply, accepted, judged, refused, waiting, saysYes, saysNo, refusedWith, withSets}
 use Rattle.trays.specs.Calls.{Call, installsRow, installsColumn, opens, delivers, withdraws, asksVerdict}
 use Rattle.trays.specs.Worked.{evenRule}
-use Rattle.trayhistories.specs.History.{withSets}
 use Rattle.trayhistories.specs.Claims.{repliesTo}
 
 -- each symbol leads from the one state to itself

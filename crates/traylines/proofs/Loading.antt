@@ -8,38 +8,39 @@ use mathlib.Core.Bool.{Bool, true, false}
 use mathlib.Core.List.{List}
 use mathlib.Core.Option.{Option, none, some}
 use Prim.Native.Nat.{ℕ}
+use Rattle.base.specs.Answers.{answerNumber}
 use Rattle.automaton.specs.declared.Rule.{Rule}
-use Rattle.ruleformat.specs.declared.ReadAnswer.the-variants as reading
+use Rattle.base.specs.declared.Answer.the-variants as reading
 use Rattle.ruleformat.specs.declared.ReadResult.{ReadResult}
 use Rattle.ruleformat.specs.Refusals.{refusal}
-use Rattle.ruleformat.specs.Reader.{ruleOf, ruleBy, readMeans, Reading, readOutcome, readOf}
+use Rattle.ruleformat.specs.Reader.{ruleOf, ruleBy, Reading, readOutcome, readOf}
 use Rattle.calls.specs.Calls.{installNumber, loadNumber}
 use Rattle.calls.proofs.Conditions.{load-number, load-installs}
 use Rattle.trays.specs.declared.Tray.{Tray}
-use Rattle.trays.specs.Replies.{refused}
-use Rattle.trays.specs.mirror.Steps.{Outcome, outcomeBy, withRow, withColumn, installReply, installRowOf, installColumnOf}
+use Rattle.trays.specs.Replies.{refused, withSets}
+use Rattle.trays.specs.mirror.Steps.{Outcome, outcomeBy, withRow, withColumn, installRowOf, installColumnOf}
 use Rattle.traylines.specs.Running.{loadRowOf, loadColumnOf, loadOf}
 
 module _ (t : Tray) (f : List ℕ) (read : ReadResult) (reads : readOutcome read ≡ readOf f) where
-  number-is : readMeans (read .answer) ≡ refusal f
+  number-is : answerNumber (read .answer) ≡ refusal f
   number-is = ap (λ (x : Reading). x .number) reads
 
   -- with `next r` the tray that the rule r leaves
   module _ (next : Rule → Tray) where
     unread : (number : ℕ) → read .answer ≡ reading.Refused number
-        → record { reply = refused number; state = t } ≡ outcomeBy (loadNumber f) (installReply (ruleOf f)) t (next (ruleOf f))
+        → record { reply = refused number; state = t } ≡ outcomeBy (loadNumber f) (withSets (ruleOf f)) t (next (ruleOf f))
     unread number told =
-        let refused-by : refusal f ≡ some number = sym number-is ∙ ap readMeans told in
+        let refused-by : refusal f ≡ some number = sym number-is ∙ ap answerNumber told in
         rw (load-number f, refused-by)
 
     installs : read .answer ≡ reading.Accepted
-        → outcomeBy (installNumber (read .rule)) (installReply (read .rule)) t (next (read .rule))
-        ≡ outcomeBy (loadNumber f) (installReply (ruleOf f)) t (next (ruleOf f))
+        → outcomeBy (installNumber (read .rule)) (withSets (read .rule)) t (next (read .rule))
+        ≡ outcomeBy (loadNumber f) (withSets (ruleOf f)) t (next (ruleOf f))
     installs told =
-        let passes : refusal f ≡ none = sym number-is ∙ ap readMeans told in
+        let passes : refusal f ≡ none = sym number-is ∙ ap answerNumber told in
         let rule : read .rule ≡ ruleOf f = ap (λ (x : Reading). x .rule) reads ∙ ap (λ (o : Option ℕ). ruleBy o f) passes in
-        ap (λ (r : Rule). outcomeBy (installNumber r) (installReply r) t (next r)) rule
-        ∙ ap (λ (o : Option ℕ). outcomeBy o (installReply (ruleOf f)) t (next (ruleOf f))) (sym (load-installs f passes))
+        ap (λ (r : Rule). outcomeBy (installNumber r) (withSets r) t (next r)) rule
+        ∙ ap (λ (o : Option ℕ). outcomeBy o (withSets (ruleOf f)) t (next (ruleOf f))) (sym (load-installs f passes))
 
   module _ (o : Outcome) where
     pub file-unread : (rows : Bool) (number : ℕ) → read .answer ≡ reading.Refused number → o ≡ record { reply = refused number; state = t } → o ≡ loadOf rows t f

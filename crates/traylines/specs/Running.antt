@@ -21,9 +21,10 @@ use Prim.Native.Nat.{ℕ, _+_}
 use lib.ListN.{length}
 use Rattle.limits.specs.Limits.{longestFile}
 use Rattle.ruleformat.specs.Reader.{ruleOf}
+use Rattle.trays.specs.Replies.{withSets}
 use Rattle.calls.specs.Calls.{loadNumber}
 use Rattle.trays.specs.declared.Tray.{Tray}
-use Rattle.trays.specs.mirror.Steps.{fresh, Outcome, outcomeBy, withRow, withColumn, installReply, stepOf}
+use Rattle.trays.specs.mirror.Steps.{fresh, Outcome, outcomeBy, withRow, withColumn, stepOf}
 use Rattle.traytext.specs.Lines.{Meaning, again, call, rowFile, columnFile, malformed, rowBy, columnBy}
 use Rattle.traytext.specs.Answers.{Response, began, replied, unread, answerMeans}
 use Rattle.traylines.specs.declared.LineRun.{LineRun}
@@ -33,10 +34,10 @@ bytesRoom = longestFile + 1
 
 -- ---- a rule file
 unfoldable pub loadRowOf : Tray → List ℕ → Outcome
-loadRowOf t f = outcomeBy (loadNumber f) (installReply (ruleOf f)) t (withRow t (ruleOf f))
+loadRowOf t f = outcomeBy (loadNumber f) (withSets (ruleOf f)) t (withRow t (ruleOf f))
 
 unfoldable pub loadColumnOf : Tray → List ℕ → Outcome
-loadColumnOf t f = outcomeBy (loadNumber f) (installReply (ruleOf f)) t (withColumn t (ruleOf f))
+loadColumnOf t f = outcomeBy (loadNumber f) (withSets (ruleOf f)) t (withColumn t (ruleOf f))
 
 -- for the rows, or else for the columns: what the line of a file means, and the file's outcome
 abbrev pub fileBy : Bool → Option (List ℕ) → Meaning

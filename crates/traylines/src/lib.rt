@@ -10,9 +10,9 @@ ghost use Rattle.trays.specs.Calls.{opens, withdraws, asksVerdict};
 ghost use Rattle.trays.specs.mirror.Steps.{installOutcome};
 ghost use Rattle.traytext.specs.Lines.{again, call, malformed, deliverBy, lineIn};
 ghost use Rattle.traylines.specs.Running.{bytesRoom, fileBy, loadOf, lineStep, runOutcome, Scratch};
+use base::Answer;
+use build::BuildAnswer;
 use fields::Bytes;
-use ruleformat::ReadAnswer;
-use trays::InstallAnswer;
 use trays::InstallResult;
 use trays::Tray;
 use traytext::Line;
@@ -25,7 +25,7 @@ pub const BYTES: usize = limits::FILE + 1;
 fn refuse_file(tray: Tray, number: u8) -> InstallResult
     ensures { λ r. ⌜ installOutcome r ≡ record { reply = refused number; state = tray } ⌝ }
 {
-    let answer = InstallAnswer::Refused(number);
+    let answer = BuildAnswer::Refused(number);
     InstallResult { answer, tray }
 }
 
@@ -36,8 +36,8 @@ fn load(tray: Tray, rows: bool, file: &[u8]) -> InstallResult
     let reading = rulefile::read(file);
     let read = reading.answer;
     match read {
-        ReadAnswer::Refused(number) => refuse_file(tray, number),
-        ReadAnswer::Accepted => {
+        Answer::Refused(number) => refuse_file(tray, number),
+        Answer::Accepted => {
             if rows {
                 traycalls::install_row(tray, reading.rule)
             } else {

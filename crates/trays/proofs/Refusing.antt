@@ -7,10 +7,10 @@ use Rattle.base.proofs.Options.{none-some}
 use Rattle.base.specs.Conditions.{firstOf}
 use Rattle.calls.specs.Calls.{installNumber}
 use Rattle.trays.specs.declared.Tray.{Tray}
-use Rattle.trays.specs.Replies.{Reply, accepted, refusalOf}
+use Rattle.trays.specs.Replies.{Reply, accepted, refusalOf, withSets}
 use Rattle.trays.specs.Calls.{installsRow, installsColumn, opens, delivers, withdraws, asksVerdict, openConditions, deliverConditions, withdrawConditions}
 use Rattle.trays.specs.Boards.{widthOf, bandsOf, isEmpty, emptyBoard, filledAt, clearedAt}
-use Rattle.trays.specs.mirror.Steps.{lacksRule, lacksBoard, withBoard, outcomeBy, withRow, withColumn, installReply, installRowOf, installColumnOf, openOf, deliverOf, withdrawOf}
+use Rattle.trays.specs.mirror.Steps.{lacksRule, lacksBoard, withBoard, outcomeBy, withRow, withColumn, installRowOf, installColumnOf, openOf, deliverOf, withdrawOf}
 use Rattle.trays.specs.Claims.{Unchanged}
 
 by-number : (number : Option ℕ) (a : Reply) (t next : Tray) → refusalOf a ≡ none
@@ -20,8 +20,8 @@ by-number (some m) a t next taken x e = refl
 
 pub unchanged : Unchanged
 unfolding installRowOf installColumnOf openOf deliverOf withdrawOf
-unchanged t (installsRow r) = by-number (installNumber r) (installReply r) t (withRow t r) refl
-unchanged t (installsColumn r) = by-number (installNumber r) (installReply r) t (withColumn t r) refl
+unchanged t (installsRow r) = by-number (installNumber r) (withSets r) t (withRow t r) refl
+unchanged t (installsColumn r) = by-number (installNumber r) (withSets r) t (withColumn t r) refl
 unchanged t (opens w n) = by-number (firstOf (openConditions (lacksRule t) w n)) accepted t (withBoard t (emptyBoard w n)) refl
 unchanged t (delivers p b) =
     by-number

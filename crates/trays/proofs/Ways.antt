@@ -14,20 +14,20 @@ use mathlib.Core.List.{List}
 use mathlib.Core.Option.{Option, none, some}
 use Prim.Native.Nat.{ℕ, _≤_, _<_}
 use borrow.Author.Tests.{le-leb, lt-leb, eq-eqb, ne-eqb, not-true, not-false}
+use Rattle.base.specs.Answers.{answerNumber}
 use Rattle.base.specs.Conditions.{outside}
 use Rattle.base.proofs.Tests.{by-test, zero-one}
 use Rattle.automaton.specs.declared.Rule.{Rule}
-use Rattle.rulecheck.specs.declared.CheckAnswer.{CheckAnswer}
-use Rattle.rulecheck.specs.declared.CheckAnswer.the-variants as check
-use Rattle.rulecheck.specs.Checking.{ruleNumber, checkMeans}
+use Rattle.base.specs.declared.Answer.{Answer}
+use Rattle.base.specs.declared.Answer.the-variants as check
+use Rattle.rulecheck.specs.Checking.{ruleNumber}
 use Rattle.ruleformat.specs.Reader.{noRule}
 use Rattle.build.specs.declared.BuildAnswer.the-variants as build
 use Rattle.build.specs.declared.BuildResult.{BuildResult}
 use Rattle.build.specs.mirror.Building.{accepted, refused, buildMeans, builtOf, Outcome as Built-outcome, buildOutcome, buildOf}
 use Rattle.calls.specs.Calls.{installNumber}
 use Rattle.calls.proofs.Conditions.{over, install-number}
-use Rattle.trays.specs.declared.InstallAnswer.{InstallAnswer}
-use Rattle.trays.specs.declared.InstallAnswer.the-variants as install
+use Rattle.build.specs.declared.BuildAnswer.{BuildAnswer}
 use Rattle.trays.specs.declared.TrayBoard.{TrayBoard}
 use Rattle.trays.specs.declared.Tray.{Tray}
 use Rattle.trays.specs.Replies as reply
@@ -41,19 +41,19 @@ unfolding fresh
 fresh-by r row c column b empty = rw (row, column, empty)
 
 -- ---- what an installation answers
-module _ (r : Rule) (a : CheckAnswer) (checked : checkMeans a ≡ ruleNumber r) where
+module _ (r : Rule) (a : Answer) (checked : answerNumber a ≡ ruleNumber r) where
   -- the rule does not pass
   pub unchecked : (number : ℕ) → a ≡ check.Refused number → reply.refused number ≡ installAnswer r
   unfolding installAnswer
   unchecked number told =
-      let is : ruleNumber r ≡ some number = sym checked ∙ ap checkMeans told in
+      let is : ruleNumber r ≡ some number = sym checked ∙ ap answerNumber told in
       let number-is : installNumber r ≡ some number = install-number r ∙ rw is in
       rw number-is
 
-  module _ (told : a ≡ check.Passed) (b : BuildResult) (came : buildOutcome b ≡ buildOf r) where
+  module _ (told : a ≡ check.Accepted) (b : BuildResult) (came : buildOutcome b ≡ buildOf r) where
     number-is : installNumber r ≡ cond (over r) (some 9) none
     number-is =
-        let passes : ruleNumber r ≡ none = sym checked ∙ ap checkMeans told in
+        let passes : ruleNumber r ≡ none = sym checked ∙ ap answerNumber told in
         install-number r ∙ rw passes
 
     -- what was built, by whether it has too many sets
@@ -100,8 +100,8 @@ by-acceptance : (n : Option ℕ) (m starts s d : ℕ) → reply.installed s d �
 by-acceptance none m starts s d e = (refl, cc, cc)
 by-acceptance (some y) m starts s d e = zero-one cc
 
-module _ (t s : Tray) (r : Rule) (a : InstallAnswer) (answers : reply.installMeans a ≡ installAnswer r) where
-  module _ (x : ℕ) (told : a ≡ install.Refused x) where
+module _ (t s : Tray) (r : Rule) (a : BuildAnswer) (answers : reply.installMeans a ≡ installAnswer r) where
+  module _ (x : ℕ) (told : a ≡ build.Refused x) where
     number-refused : installNumber r ≡ some x
     unfolding installAnswer
     number-refused = by-refusal (installNumber r) (builtOf r .setcount) (builtOf r .startcount) x (sym (ap reply.installMeans told) ∙ answers)
@@ -109,7 +109,7 @@ module _ (t s : Tray) (r : Rule) (a : InstallAnswer) (answers : reply.installMea
     pub install-refused : record { reply = reply.installMeans a; state = t } ≡ installOf t r s
     install-refused = rw (told, number-refused)
 
-  module _ (m starts : ℕ) (told : a ≡ install.Accepted m starts) where
+  module _ (m starts : ℕ) (told : a ≡ build.Accepted m starts) where
     number-accepted : (installNumber r ≡ none) × (m ≡ builtOf r .setcount) × (starts ≡ builtOf r .startcount)
     unfolding installAnswer
     number-accepted = by-acceptance (installNumber r) (builtOf r .setcount) (builtOf r .startcount) m starts (sym (ap reply.installMeans told) ∙ answers)

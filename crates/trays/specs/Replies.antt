@@ -11,13 +11,18 @@
 --     refused x          a call other than the verdict was refused with the number x
 --   refusalIn v, refusalOf a   the number of the refusal, or none where v or a is none
 --   replyBy number a     refused with the number, or a where there is none
+--   withSets r           what the installation of the rule r is answered where it is accepted
 --   installMeans, callMeans, verdictMeans   what each case of the code's answers says
 use mathlib.Core.Option.{Option, none, some}
 use Prim.Native.Nat.{ℕ}
-use Rattle.trays.specs.declared.InstallAnswer.{InstallAnswer}
-use Rattle.trays.specs.declared.InstallAnswer.the-variants as install
-use Rattle.trays.specs.declared.CallAnswer.{CallAnswer}
-use Rattle.trays.specs.declared.CallAnswer.the-variants as call
+use lib.ListN.{length}
+use Rattle.automaton.specs.declared.Rule.{Rule}
+use Rattle.subsets.specs.Sets.{setsOf}
+use Rattle.delegates.specs.Claims.{startsIn}
+use Rattle.build.specs.declared.BuildAnswer.{BuildAnswer}
+use Rattle.build.specs.declared.BuildAnswer.the-variants as install
+use Rattle.base.specs.declared.Answer.{Answer}
+use Rattle.base.specs.declared.Answer.the-variants as call
 use Rattle.trays.specs.declared.TrayVerdict.{TrayVerdict}
 use Rattle.trays.specs.declared.TrayVerdict.the-variants as verdict
 
@@ -49,11 +54,15 @@ abbrev pub replyBy : Option ℕ → Reply → Reply
 replyBy none a = a
 replyBy (some number) a = refused number
 
-abbrev pub installMeans : InstallAnswer → Reply
+-- a rule that is installed: the number of its sets, and M
+abbrev pub withSets : Rule → Reply
+withSets r = installed (length (setsOf (r .targets) (r .n) (r .k))) (startsIn r .startcount)
+
+abbrev pub installMeans : BuildAnswer → Reply
 installMeans (install.Accepted sets starts) = installed sets starts
 installMeans (install.Refused number) = refused number
 
-abbrev pub callMeans : CallAnswer → Reply
+abbrev pub callMeans : Answer → Reply
 callMeans call.Accepted = accepted
 callMeans (call.Refused number) = refused number
 

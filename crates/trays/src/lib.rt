@@ -1,6 +1,8 @@
 // The state of a tray (document 02, R-13) and the answers of its calls. The outcome of each call is
 // in specs/; crates/traycalls has the calls.
 use automaton::Rule;
+use base::Answer;
+use build::BuildAnswer;
 
 // The most events of a row.
 pub const WIDTH: usize = 16;
@@ -41,18 +43,6 @@ pub struct Tray {
     pub board: TrayBoard,
 }
 
-// What installing either rule answers: the number of sets and M, or a refusal.
-pub enum InstallAnswer {
-    Accepted(u16, u8),
-    Refused(u8),
-}
-
-// What opening, delivering and withdrawing answer.
-pub enum CallAnswer {
-    Accepted,
-    Refused(u8),
-}
-
 // What the verdict says; it has no count.
 pub enum TrayVerdict {
     Waiting(u8),
@@ -63,11 +53,11 @@ pub enum TrayVerdict {
 
 // Each call that may change the state answers with the next state beside the answer.
 pub struct InstallResult {
-    pub answer: InstallAnswer,
+    pub answer: BuildAnswer,
     pub tray: Tray,
 }
 
 pub struct CallResult {
-    pub answer: CallAnswer,
+    pub answer: Answer,
     pub tray: Tray,
 }

@@ -19,9 +19,9 @@ use Rattle.linetexts.specs.Lists.{Listed, listOf}
 use Rattle.linetexts.specs.Claims.{linesStep}
 use Rattle.linetexts.proofs.Lists.{Agrees, Follows, lists-right}
 use Rattle.trays.specs.declared.Tray.{Tray}
-use Rattle.trays.specs.Replies.{refused}
+use Rattle.trays.specs.Replies.{refused, withSets}
 use Rattle.trays.specs.Calls.{Call, installsRow, installsColumn}
-use Rattle.trays.specs.mirror.Steps.{fresh, Outcome, outcomeBy, withRow, withColumn, installReply, installRowOf, installColumnOf, stepOf}
+use Rattle.trays.specs.mirror.Steps.{fresh, Outcome, outcomeBy, withRow, withColumn, installRowOf, installColumnOf, stepOf}
 use Rattle.trayhistories.specs.History.{answerOf}
 use Rattle.trayhistories.specs.Claims.{trayAfter}
 use Rattle.trayhistories.proofs.EveryList.{answer-after}
@@ -36,9 +36,9 @@ fileOutcome none o t = o
 fileOutcome (some number) o t = record { reply = refused number; state = t }
 
 file-by : (f : List ℕ) (t : Tray) (next : Rule → Tray) (o : Option ℕ) → refusal f ≡ o
-    → outcomeBy (loadNumber f) (installReply (ruleOf f)) t (next (ruleOf f))
-    ≡ fileOutcome o (outcomeBy (installNumber (ruleOf f)) (installReply (ruleOf f)) t (next (ruleOf f))) t
-file-by f t next none e = ap (λ (x : Option ℕ). outcomeBy x (installReply (ruleOf f)) t (next (ruleOf f))) (load-installs f e)
+    → outcomeBy (loadNumber f) (withSets (ruleOf f)) t (next (ruleOf f))
+    ≡ fileOutcome o (outcomeBy (installNumber (ruleOf f)) (withSets (ruleOf f)) t (next (ruleOf f))) t
+file-by f t next none e = ap (λ (x : Option ℕ). outcomeBy x (withSets (ruleOf f)) t (next (ruleOf f))) (load-installs f e)
 file-by f t next (some number) e = rw (load-number f, e)
 
 row-file : (f : List ℕ) (t : Tray) → loadRowOf t f ≡ fileOutcome (refusal f) (installRowOf t (ruleOf f)) t

@@ -10,9 +10,9 @@ ghost use Rattle.fields.specs.Numbers.{parseNumber};
 ghost use Rattle.trays.specs.Replies.{installed, waiting, judged, installMeans, callMeans, verdictMeans};
 ghost use Rattle.traytext.specs.Lines.{withdrawBy, openFields, deliverFields, lineMeans, bytesFrom, Parsed};
 ghost use Rattle.traytext.specs.Answers.{mostAnswer, isMalformed, replyText, responseText, answerMeans};
+use base::Answer;
+use build::BuildAnswer;
 use fields::Number;
-use trays::CallAnswer;
-use trays::InstallAnswer;
 use trays::TrayVerdict;
 
 // A line. The bytes of a row rule begin at index 4, those of a column rule at 7, those of a delivery
@@ -110,8 +110,8 @@ pub fn parse(line: &[u8]) -> Line
 // the same type of answer as an installation, with the numbers 1 to 9.
 pub enum LineAnswer {
     Began,
-    Install(InstallAnswer),
-    Call(CallAnswer),
+    Install(BuildAnswer),
+    Call(Answer),
     Verdict(TrayVerdict),
     Malformed,
 }
@@ -138,23 +138,23 @@ fn put_waiting(out: &mut [u8], empty: u8) -> usize
 }
 
 // What a call is answered, a function for each type of answer.
-fn put_install(out: &mut [u8], answer: InstallAnswer) -> usize
+fn put_install(out: &mut [u8], answer: BuildAnswer) -> usize
     requires { ⌜ mostAnswer ≤ length (now out) ⌝ }
     ensures { λ r. ⌜ Wrote (now (out .entry)) 0 (replyText (installMeans answer)) (now (out .exit)) r ⌝ }
 {
     match answer {
-        InstallAnswer::Accepted(sets, starts) => put_installed(out, sets, starts),
-        InstallAnswer::Refused(number) => answers::put_refused(out, 0, number),
+        BuildAnswer::Accepted(sets, starts) => put_installed(out, sets, starts),
+        BuildAnswer::Refused(number) => answers::put_refused(out, 0, number),
     }
 }
 
-fn put_call(out: &mut [u8], answer: CallAnswer) -> usize
+fn put_call(out: &mut [u8], answer: Answer) -> usize
     requires { ⌜ mostAnswer ≤ length (now out) ⌝ }
     ensures { λ r. ⌜ Wrote (now (out .entry)) 0 (replyText (callMeans answer)) (now (out .exit)) r ⌝ }
 {
     match answer {
-        CallAnswer::Accepted => text::put_bytes(out, 0, b"accepted\n"),
-        CallAnswer::Refused(number) => answers::put_refused(out, 0, number),
+        Answer::Accepted => text::put_bytes(out, 0, b"accepted\n"),
+        Answer::Refused(number) => answers::put_refused(out, 0, number),
     }
 }
 

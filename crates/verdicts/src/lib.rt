@@ -15,11 +15,11 @@ pub fn find_verdict(judge: Judge) -> Verdict
     if board.places == 0 {
         return Verdict::Refused(21);
     }
-    let empty = board::empty_places(board);
+    let empty = board::empty_places(&board.filled, board.places);
     if empty != 0 {
         return Verdict::Waiting(empty);
     }
-    let count = board::summed_count(board);
+    let count = board::summed(&board.counts, board.places);
     let built = judge.built;
     let delegates = built.delegates;
     if joins::says_yes(board, delegates, built.n, built.initials, built.finals) {

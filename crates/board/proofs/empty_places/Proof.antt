@@ -1,12 +1,10 @@
 -- `empty_places` meets its contract. Assumes nothing.
 use borrow.Author.Needs.{needs}
-use Rattle.board.specs.Boards.{emptyPlaces}
 use Rattle.board.proofs.empty_places.Statement.{statement}
 use Rattle.board.proofs.empty_places.Tie as tie
 
 returns : tie.Need-returns
-unfolding emptyPlaces
-returns c = rw (← c .before .before .before .places-of .ensures) (c .count-empty .ensures)
+returns c = rw (← c .before .places-of .ensures) (c .count-empty .ensures)
 
 pub empty-places-spec : {M : Type 1} → statement M
 empty-places-spec = tie.close (tie.spec (λ c κs. search needs) (λ c κs. search needs) returns)

@@ -4,7 +4,7 @@
 -- says what that is after a list of calls.
 --
 --   fresh              no rule and no board: zeros
---   withRule r, installReply r   the judge with the rule r and no board, and what is answered
+--   withRule r         the judge with the rule r and no board
 --   installOf, loadOf, openOf, deliverOf, withdrawOf   the outcomes of the calls that may change
 --                      the state; that of a load by document 01's numbers
 --   verdictOf          what the verdict says
@@ -26,8 +26,8 @@ use Rattle.board.specs.declared.Board.{Board}
 use Rattle.board.specs.Boards.{placesOf, isEmpty, comesLate, emptyBoard, filledAt, clearedAt, emptyPlaces, summedCount, summedBytes}
 use Rattle.joins.specs.Joining.{saysYes}
 use Rattle.calls.specs.declared.Judge.{Judge}
-use Rattle.calls.specs.Replies.{Judgement, Reported, Reply, accepted, installed, judged, refused, delivered, Outcome}
-use Rattle.calls.specs.Calls.{Call, installs, loads, opens, delivers, withdraws, asksVerdict, installNumber, loadNumber, openConditions, deliverConditions, withdrawConditions, verdictBy, reportBy}
+use Rattle.calls.specs.Replies.{Judgement, Reported, Reply, accepted, judged, refused, delivered, Outcome}
+use Rattle.calls.specs.Calls.{Call, installs, loads, opens, delivers, withdraws, asksVerdict, installNumber, loadNumber, withSets, openConditions, deliverConditions, withdrawConditions, verdictBy, reportBy}
 
 unfoldable pub fresh : Judge
 fresh = record { built = noBuilt; board = emptyBoard 0 }
@@ -52,16 +52,12 @@ outcomeBy (some number) a j next = record { reply = refused number; state = j }
 abbrev pub withRule : Rule → Judge
 withRule r = record { built = builtOf r; board = emptyBoard 0 }
 
--- it is answered with the number of sets and M
-abbrev pub installReply : Rule → Reply
-installReply r = installed (builtOf r .setcount) (builtOf r .startcount)
-
 unfoldable pub installOf : Judge → Rule → Outcome
-installOf j r = outcomeBy (installNumber r) (installReply r) j (withRule r)
+installOf j r = outcomeBy (installNumber r) (withSets r) j (withRule r)
 
 -- ---- load
 unfoldable pub loadOf : Judge → List ℕ → Outcome
-loadOf j f = outcomeBy (loadNumber f) (installReply (ruleOf f)) j (withRule (ruleOf f))
+loadOf j f = outcomeBy (loadNumber f) (withSets (ruleOf f)) j (withRule (ruleOf f))
 
 -- ---- open
 unfoldable pub openOf : Judge → ℕ → Outcome

@@ -1,17 +1,15 @@
 -- `bellbadger_open` meets its contract. Assumes nothing.
+use mathlib.Core.Path.{ap, _∙_}
 use borrow.Author.Needs.{needs}
-use Rattle.capi.proofs.Numbers.{open-accepted, open-refused}
+use Rattle.capi.specs.Numbers.{callShown}
 use Rattle.capi.proofs.bellbadger_open.Statement.{statement}
 use Rattle.capi.proofs.bellbadger_open.Tie as tie
 
 returns : tie.Need-returns
-returns c = search (needs, open-accepted)
-
-returns-2 : tie.Need-returns-2
-returns-2 c = search (needs, open-refused)
+returns c = c .call-numbers .ensures ∙ ap callShown (c .before .open .ensures)
 
 pub bellbadger-open-spec : {M : Type 1} → statement M
 bellbadger-open-spec =
     tie.close
     (tie.spec
-    (λ c κs. search needs) (λ c. search needs) (λ c. search needs) returns returns-2)
+    (λ c κs. search needs) (λ c κs. search needs) returns)

@@ -2,9 +2,10 @@
 use mathlib.Core.Path.{_≡_, sym, ap, _∙_}
 use mathlib.Core.Option.{Option, none, some}
 use Prim.Native.Nat.{ℕ}
-use Rattle.ruleformat.specs.declared.ReadAnswer.the-variants.{Accepted, Refused}
+use Rattle.base.specs.Answers.{answerNumber}
+use Rattle.base.specs.declared.Answer.the-variants.{Accepted, Refused}
 use Rattle.ruleformat.specs.Refusals.{refusal}
-use Rattle.ruleformat.specs.Reader.{Reading, readMeans, ruleBy, ruleOf}
+use Rattle.ruleformat.specs.Reader.{Reading, ruleBy, ruleOf}
 use Rattle.dottext.proofs.Drawn.{drew, refused}
 use borrow.Author.Needs.{needs}
 use Rattle.dottext.proofs.print_whole.Statement.{statement}
@@ -18,7 +19,7 @@ returns c =
     let f = c .before .before .before .before .before .before .before .before .before .before .args .file .now in
     let g = c .before .before .before .before .before .before .before .read in
     let e : g .result .answer ≡ Accepted = c .before .before .before .before .enum-told .given .1 in
-    let n : refusal f ≡ none = ap (λ (x : Reading). x .number) (sym (g .ensures)) ∙ ap readMeans e in
+    let n : refusal f ≡ none = ap (λ (x : Reading). x .number) (sym (g .ensures)) ∙ ap answerNumber e in
     let r : g .result .rule ≡ ruleOf f = ap (λ (x : Reading). x .rule) (g .ensures) ∙ ap (λ (o : Option ℕ). ruleBy o f) n in
     drew f n (rw r at (c .before .before .put-dot .ensures .0))
 
@@ -28,7 +29,7 @@ returns-2 c =
     let g = c .before .before .before .before .read in
     let x = c .before .answer .given in
     let e : g .result .answer ≡ Refused (x .0 .0) = x .1 in
-    let n : refusal f ≡ some (x .0 .0) = ap (λ (x : Reading). x .number) (sym (g .ensures)) ∙ ap readMeans e in
+    let n : refusal f ≡ some (x .0 .0) = ap (λ (x : Reading). x .number) (sym (g .ensures)) ∙ ap answerNumber e in
     refused f n
 
 pub print-whole-spec : {M : Type 1} → statement M

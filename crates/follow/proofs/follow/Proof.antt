@@ -1,7 +1,7 @@
 -- `follow` meets its contract: the rule is refused by its check, or the chunk is followed. Assumes nothing.
 use mathlib.Core.Path.{sym, ap, _∙_}
 use borrow.Author.Needs.{needs}
-use Rattle.rulecheck.specs.Checking.{checkMeans}
+use Rattle.base.specs.Answers.{answerNumber}
 use Rattle.follow.proofs.Ways.{unchecked, checked}
 use Rattle.follow.proofs.follow.Statement.{statement}
 use Rattle.follow.proofs.follow.Tie as tie
@@ -13,7 +13,7 @@ returns : tie.Need-returns
 returns c =
     let y = c .before .before .before .before in
     let a = y .before .before .args in
-    unchecked (a .t1) (a .set) (a .chunk .now) _ _ (sym (y .check-rule .ensures) ∙ ap checkMeans (c .before .before .checked .given .1)) (c .refuse .ensures)
+    unchecked (a .t1) (a .set) (a .chunk .now) _ _ (sym (y .check-rule .ensures) ∙ ap answerNumber (c .before .before .checked .given .1)) (c .refuse .ensures)
 
 returns-2 : tie.Need-returns-2
 returns-2 c =
@@ -21,7 +21,7 @@ returns-2 c =
     let a = y .before .before .args in
     let live = c .before .before .before .live-states in
     c .follow-lent .ensures
-    ∙ checked (a .t1) (a .set) (a .chunk .now) (sym (y .check-rule .ensures) ∙ ap checkMeans (c .before .before .before .before .before .before .enum-told .given .1))
+    ∙ checked (a .t1) (a .set) (a .chunk .now) (sym (y .check-rule .ensures) ∙ ap answerNumber (c .before .before .before .before .before .before .enum-told .given .1))
     (live .result) (live .ensures)
 
 pub follow-spec : {M : Type 1} → statement M

@@ -3,7 +3,7 @@ use mathlib.Core.Path.{sym, ap, _∙_}
 use mathlib.Core.Option.{none}
 use Prim.Native.Nat.{ℕ}
 use borrow.Author.Needs.{needs}
-use Rattle.rulecheck.specs.Checking.{checkMeans}
+use Rattle.base.specs.Answers.{answerNumber}
 use Rattle.follow.proofs.Ways.{told, told-refused}
 use Rattle.follow.proofs.prepare.Statement.{statement}
 use Rattle.follow.proofs.prepare.Tie as tie
@@ -14,12 +14,12 @@ enum-told c = search needs
 returns : tie.Need-returns
 returns c =
     let y = c .before .before .before .before in
-    told-refused (y .before .args .t1) _ _ (sym (y .check-rule .ensures) ∙ ap checkMeans (c .before .before .checked .given .1)) (c .no-rule .ensures)
+    told-refused (y .before .args .t1) _ _ (sym (y .check-rule .ensures) ∙ ap answerNumber (c .before .before .checked .given .1)) (c .no-rule .ensures)
 
 returns-2 : tie.Need-returns-2
 returns-2 c =
     let y = c .before .before .before .before .before in
-    told (y .before .args .t1) _ none (sym (y .check-rule .ensures) ∙ ap checkMeans (c .before .before .before .enum-told .given .1))
+    told (y .before .args .t1) _ none (sym (y .check-rule .ensures) ∙ ap answerNumber (c .before .before .before .enum-told .given .1))
     (ap (λ (l : ℕ). record { refusal = none; follower = record { rule = y .before .args .t1; live = l } }) (c .live-states .ensures))
 
 pub prepare-spec : {M : Type 1} → statement M

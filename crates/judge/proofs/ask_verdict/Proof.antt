@@ -2,11 +2,13 @@
 use mathlib.Core.Path.{ap₂, _∙_}
 use Rattle.calls.specs.Calls.{reportBy}
 use borrow.Author.Needs.{needs}
+use Rattle.board.specs.Boards.{summedBytes}
 use Rattle.judge.proofs.ask_verdict.Statement.{statement}
 use Rattle.judge.proofs.ask_verdict.Tie as tie
 
 returns : tie.Need-returns
-returns c = c .report-on .ensures ∙ ap₂ reportBy (c .before .before .before .find-verdict .ensures) (c .before .summed-bytes .ensures)
+unfolding summedBytes
+returns c = c .report-on .ensures ∙ ap₂ reportBy (c .before .before .before .before .before .find-verdict .ensures) (c .before .summed .ensures)
 
 pub ask-verdict-spec : {M : Type 1} → statement M
 ask-verdict-spec =

@@ -27,7 +27,7 @@ returns-4 c =
     let short = mask .before .before in
     let within = short .before in
     let places = within .before in
-    refused-attempt _ _ _ _ (places .before .before .if1 .left) _ (places .places-of .ensures) (within .if2 .left) (short .if3 .left)
+    refused-attempt _ _ _ _ (places .before .if1 .left) _ (places .places-of .ensures) (within .if2 .left) (short .if3 .left)
     _ (mask .run-mask .ensures) _ (late .comes-late .ensures) _ (ran .run-delivery .ensures)
     _ (c .before .before .answer .given .1) _ (c .refuse-delivery4 .ensures)
 
@@ -59,7 +59,7 @@ returns-5 c =
     let short = mask .before .before in
     let within = short .before in
     let places = within .before in
-    kept-attempt _ _ _ _ (places .before .before .if1 .left) _ (places .places-of .ensures) (within .if2 .left) (short .if3 .left)
+    kept-attempt _ _ _ _ (places .before .if1 .left) _ (places .places-of .ensures) (within .if2 .left) (short .if3 .left)
     _ (mask .run-mask .ensures) _ (late .comes-late .ensures) _ (ran .run-delivery .ensures)
     _ (told .enum-told .given .1) _ (marked .set-mark .ensures) _ (counted .set-number .ensures) _ (measured .set-number2 .ensures)
     _ (revised .set-revision .ensures) _ (c .set-row .ensures)

@@ -14,7 +14,7 @@ returns-2 c = search (needs, open-few)
 returns-3 : tie.Need-returns-3
 returns-3 c =
     let n = c .before .before .before .before .before .before .args .places in
-    open-many _ n _ (c .before .before .before .if1 .left) (omega arith) (omega arith) (c .refuse-opening3 .ensures)
+    open-many _ n _ (c .before .before .before .if1 .left) (omega arith) (omega arith) (c .refuse-call3 .ensures)
 
 returns-4 : tie.Need-returns-4
 returns-4 c = search (needs, opened)

@@ -10,13 +10,13 @@ returns c = locate-21 _ _ _ (c .if1 .taken)
 returns-2 : tie.Need-returns-2
 returns-2 c =
     let places = c .before in
-    locate-11 _ _ _ (places .before .before .if1 .left) _ (places .places-of .ensures) (c .if2 .taken)
+    locate-11 _ _ _ (places .before .if1 .left) _ (places .places-of .ensures) (c .if2 .taken)
 
 returns-3 : tie.Need-returns-3
 returns-3 c =
     let within = c .before in
     let places = within .before in
-    locate-12 _ _ _ (places .before .before .if1 .left) _ (places .places-of .ensures) (within .if2 .left) (c .if3 .taken)
+    locate-12 _ _ _ (places .before .if1 .left) _ (places .places-of .ensures) (within .if2 .left) (c .if3 .taken)
 
 returns-4 : tie.Need-returns-4
 returns-4 c =
@@ -27,7 +27,7 @@ returns-4 c =
     let short = looked .before .before .before in
     let within = short .before in
     let places = within .before in
-    located _ _ _ (places .before .before .if1 .left) _ (places .places-of .ensures) (within .if2 .left) (short .if3 .left)
+    located _ _ _ (places .before .if1 .left) _ (places .places-of .ensures) (within .if2 .left) (short .if3 .left)
     _ (looked .has-gap .ensures) _ (joined .join-places .ensures) _ (starts .delegate-mask .ensures)
     _ (live .live-mask .ensures) _ (c .locate-chunk .ensures)
 

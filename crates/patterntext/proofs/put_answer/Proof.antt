@@ -1,6 +1,6 @@
 -- `put_answer` meets its contract. Assumes nothing.
 use Rattle.patterntext.proofs.Answers.{told-length, told-room, accepted, refused}
-use Rattle.patternfile.specs.declared.PatternAnswer.the-variants.{Accepted, Refused}
+use Rattle.base.specs.declared.Answer.the-variants.{Accepted, Refused}
 use Rattle.rulewriter.proofs.Parts.{both}
 use Rattle.hexfields.proofs.Digits.{digits-length}
 use lib.Seq.{length-take-le}

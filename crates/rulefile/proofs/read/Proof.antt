@@ -2,10 +2,11 @@
 use mathlib.Core.List.{List}
 use mathlib.Core.Option.{Option}
 use Prim.Native.Nat.{ℕ}
-use Rattle.ruleformat.specs.declared.ReadAnswer.the-variants.{Accepted, Refused}
+use Rattle.base.specs.Answers.{answerNumber}
+use Rattle.base.specs.declared.Answer.the-variants.{Accepted, Refused}
 use Rattle.automaton.specs.declared.Rule.{Rule}
 use Rattle.ruleformat.specs.Refusals.{refusal}
-use Rattle.ruleformat.specs.Reader.{readMeans, ruleBy, readOf}
+use Rattle.ruleformat.specs.Reader.{ruleBy, readOf}
 use mathlib.Core.Path.{_≡_, sym, ap, ap₂, _∙_}
 use borrow.Author.Needs.{needs}
 use Rattle.rulefile.proofs.read.Statement.{statement}
@@ -18,14 +19,14 @@ answered f number rule told is =
     ap₂ (λ (x : Option ℕ) (y : Rule). record { number = x; rule = y }) told (is ∙ ap (λ (o : Option ℕ). ruleBy o f) told)
 
 build-requires : tie.Need-build-requires
-build-requires c κs = let e : c .before .before .check .result ≡ Accepted = cc in sym (c .before .before .check .ensures) ∙ ap readMeans e
+build-requires c κs = let e : c .before .before .check .result ≡ Accepted = cc in sym (c .before .before .check .ensures) ∙ ap answerNumber e
 
 returns : tie.Need-returns
 returns c =
     let f = c .before .before .before .before .before .args .file .now in
     let k = c .before .before .before .check in
     let e : k .result ≡ Accepted = cc in
-    answered f _ _ (k .ensures) (c .build .ensures ∙ ap (λ (o : Option ℕ). ruleBy o f) (sym (ap readMeans e)))
+    answered f _ _ (k .ensures) (c .build .ensures ∙ ap (λ (o : Option ℕ). ruleBy o f) (sym (ap answerNumber e)))
 
 returns-2 : tie.Need-returns-2
 returns-2 c =
@@ -33,7 +34,7 @@ returns-2 c =
     let k = c .before .before .before .check in
     let g = c .before .enum-told2 .given in
     let e : k .result ≡ Refused (g .0 .0) = g .1 in
-    answered f _ _ (k .ensures) (c .no-rule .ensures ∙ ap (λ (o : Option ℕ). ruleBy o f) (sym (ap readMeans e)))
+    answered f _ _ (k .ensures) (c .no-rule .ensures ∙ ap (λ (o : Option ℕ). ruleBy o f) (sym (ap answerNumber e)))
 
 pub read-spec : {M : Type 1} → statement M
 read-spec =

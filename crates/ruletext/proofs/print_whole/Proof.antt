@@ -2,9 +2,10 @@
 use mathlib.Core.Path.{_≡_, sym, ap, _∙_}
 use mathlib.Core.Option.{Option, none}
 use Prim.Native.Nat.{ℕ}
-use Rattle.ruleformat.specs.declared.ReadAnswer.the-variants.{Accepted, Refused}
+use Rattle.base.specs.Answers.{answerNumber}
+use Rattle.base.specs.declared.Answer.the-variants.{Accepted, Refused}
 use Rattle.ruleformat.specs.Refusals.{refusal}
-use Rattle.ruleformat.specs.Reader.{Reading, readMeans, ruleBy, ruleOf}
+use Rattle.ruleformat.specs.Reader.{Reading, ruleBy, ruleOf}
 use Rattle.build.specs.mirror.Building.{buildOf}
 use Rattle.ruletext.proofs.ForFile.{text-for, text-unread}
 use borrow.Author.Needs.{needs}
@@ -20,7 +21,7 @@ returns c =
     let g = c .before .before .before .before .before .before .before .before .read in
     let a = c .before .before .before .build-rule in
     let e : g .result .answer ≡ Accepted = c .before .before .before .before .before .enum-told .given .1 in
-    let n : refusal f ≡ none = ap (λ (x : Reading). x .number) (sym (g .ensures)) ∙ ap readMeans e in
+    let n : refusal f ≡ none = ap (λ (x : Reading). x .number) (sym (g .ensures)) ∙ ap answerNumber e in
     let r : g .result .rule ≡ ruleOf f = ap (λ (x : Reading). x .rule) (g .ensures) ∙ ap (λ (o : Option ℕ). ruleBy o f) n in
     rw (← text-for f n (a .result) (a .ensures ∙ ap buildOf r)) (c .before .before .put-building .ensures)
 
@@ -30,7 +31,7 @@ returns-2 c =
     let g = c .before .before .before .before .before .before .before .before .read in
     let x = c .before .before .before .before .before .answer .given in
     let e : g .result .answer ≡ Refused (x .0 .0) = x .1 in
-    rw (← text-unread f (x .0 .0) (ap (λ (x : Reading). x .number) (sym (g .ensures)) ∙ ap readMeans e)) (c .before .before .put-refused .ensures)
+    rw (← text-unread f (x .0 .0) (ap (λ (x : Reading). x .number) (sym (g .ensures)) ∙ ap answerNumber e)) (c .before .before .put-refused .ensures)
 
 pub print-whole-spec : {M : Type 1} → statement M
 print-whole-spec =

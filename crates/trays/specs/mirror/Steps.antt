@@ -4,7 +4,6 @@
 --   fresh              no rules and no board: zeros
 --   Outcome            the outcome of a call: its reply, and the state that it leaves
 --   installOutcome, callOutcome   the outcome that the code's result stands for
---   installReply r     what is answered where the rule r is installed: the number of sets and M
 --   installAnswer r    what is answered to an installation of the rule r, in any state
 --   withRow t r, withColumn t r   the tray with r as that rule, the other rule as it was and no board
 --   installOf t r next   the outcome of an installation of r, by the tray that it leaves if accepted
@@ -21,14 +20,13 @@ use lib.Dec.{eqb}
 use Rattle.base.specs.Conditions.{firstOf}
 use Rattle.automaton.specs.declared.Rule.{Rule}
 use Rattle.ruleformat.specs.Reader.{noRule}
-use Rattle.build.specs.mirror.Building.{builtOf}
 use Rattle.calls.specs.Calls.{installNumber}
 use Rattle.trays.specs.declared.TrayBoard.{TrayBoard}
 use Rattle.trays.specs.declared.Tray.{Tray}
 use Rattle.trays.specs.declared.InstallResult.{InstallResult}
 use Rattle.trays.specs.declared.CallResult.{CallResult}
 use Rattle.trays.specs.Rows.{passes}
-use Rattle.trays.specs.Replies.{Judgement, Reply, accepted, installed, judged, refused, replyBy, installMeans, callMeans}
+use Rattle.trays.specs.Replies.{Judgement, Reply, accepted, judged, refused, replyBy, withSets, installMeans, callMeans}
 use Rattle.trays.specs.Calls.{Call, installsRow, installsColumn, opens, delivers, withdraws, asksVerdict, openConditions, deliverConditions, withdrawConditions, verdictBy}
 use Rattle.trays.specs.Boards.{widthOf, bandsOf, isEmpty, emptyBoard, filledAt, clearedAt, emptyBands, rowsHeld}
 
@@ -68,15 +66,12 @@ withRow t r = record { row = r; column = t .column; board = emptyBoard 0 0 }
 abbrev pub withColumn : Tray → Rule → Tray
 withColumn t r = record { row = t .row; column = r; board = emptyBoard 0 0 }
 
-abbrev pub installReply : Rule → Reply
-installReply r = installed (builtOf r .setcount) (builtOf r .startcount)
-
 unfoldable pub installAnswer : Rule → Reply
-installAnswer r = replyBy (installNumber r) (installReply r)
+installAnswer r = replyBy (installNumber r) (withSets r)
 
 -- where `next` is the tray with the rule in it
 abbrev pub installOf : Tray → Rule → Tray → Outcome
-installOf t r next = outcomeBy (installNumber r) (installReply r) t next
+installOf t r next = outcomeBy (installNumber r) (withSets r) t next
 
 unfoldable pub installRowOf : Tray → Rule → Outcome
 installRowOf t r = installOf t r (withRow t r)

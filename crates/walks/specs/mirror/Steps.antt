@@ -6,13 +6,12 @@
 --   lookedBy f empty i w   for how many of the bytes w a step is looked up: as long as the set is
 --                          not empty
 use mathlib.Core.Bool.{cond}
-use mathlib.Core.List.{List, [], _∷_}
+use mathlib.Core.List.{List, [], _∷_, foldl}
 use Prim.Native.Nat.{ℕ, suc, _+_}
 use lib.Dec.{ltb}
 
 unfoldable pub endBy : (ℕ → ℕ → ℕ) → ℕ → List ℕ → ℕ
-endBy f i [] = i
-endBy f i (b ∷ w) = endBy f (f i b) w
+endBy f i w = foldl f i w
 
 unfoldable pub countBy : (ℕ → ℕ → ℕ) → ℕ → ℕ → List ℕ → ℕ
 countBy f empty i [] = 0
