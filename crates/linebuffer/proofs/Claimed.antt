@@ -1,6 +1,5 @@
 -- The claims of specs/Claims.antt. Assumes nothing.
 use mathlib.Core.Path.{ap}
-use Rattle.calls.specs.declared.Judge.{Judge}
 use Rattle.questions.specs.Meaning.{LineMeaning}
 use Rattle.linebuffer.specs.Meanings.{lineTold}
 use Rattle.linebuffer.specs.Claims.{Claims}

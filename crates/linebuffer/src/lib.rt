@@ -82,13 +82,7 @@ fn ask_diagnosis(judge: Judge, out: &mut [u8]) -> usize
 // The answer to a line that asks after how many bytes of a chunk it is. The bytes go through the
 // lent buffer. A chunk longer than the buffer is refused by its length alone, so what does not fit
 // is not missed.
-fn ask_location(
-    judge: Judge,
-    place: u64,
-    field: &[u8],
-    bytes: &mut [u8],
-    out: &mut [u8],
-) -> Said
+fn ask_location(judge: Judge, place: u64, field: &[u8], bytes: &mut [u8], out: &mut [u8]) -> Said
     requires { ⌜ (bytesRoom ≤ length (now bytes)) × (answerRoom ≤ length (now out)) ⌝ }
     ensures { λ r. ⌜ listOf judge (r .ended) ≡ lineTold judge (meaningBy (locateBy (some place) (parseBytes (now (field .entry)))) malformed) .state ⌝ }
     ensures text { λ r. ⌜ Wrote (now (out .entry)) 0 (lineTold judge (meaningBy (locateBy (some place) (parseBytes (now (field .entry)))) malformed) .text) (now (out .exit)) (r .written) ⌝ }
@@ -112,13 +106,7 @@ fn ask_location(
 
 // A line that asks only, with its answer at the start of `out`: the judge stays where it is, and
 // nothing of it is copied. `bytes` is for the bytes that the line carries.
-pub fn ask(
-    judge: Judge,
-    query: Query,
-    line: &[u8],
-    bytes: &mut [u8],
-    out: &mut [u8],
-) -> Said
+pub fn ask(judge: Judge, query: Query, line: &[u8], bytes: &mut [u8], out: &mut [u8]) -> Said
     requires { ⌜ (queryFrom query ≤ length (now line)) × (bytesRoom ≤ length (now bytes)) × (answerRoom ≤ length (now out)) ⌝ }
     ensures { λ r. ⌜ listOf judge (r .ended) ≡ lineTold judge (queryMeans (now (line .entry)) query) .state ⌝ }
     ensures text { λ r. ⌜ Wrote (now (out .entry)) 0 (lineTold judge (queryMeans (now (line .entry)) query) .text) (now (out .exit)) (r .written) ⌝ }
@@ -140,13 +128,7 @@ pub fn ask(
 }
 
 // Any other line.
-pub fn run(
-    judge: Judge,
-    parsed: Line,
-    line: &[u8],
-    bytes: &mut [u8],
-    out: &mut [u8],
-) -> Answered
+pub fn run(judge: Judge, parsed: Line, line: &[u8], bytes: &mut [u8], out: &mut [u8]) -> Answered
     requires { ⌜ (bytesFrom parsed ≤ length (now line)) × (bytesRoom ≤ length (now bytes)) × (answerRoom ≤ length (now out)) ⌝ }
     ensures { λ r. ⌜ listOf (r .judge) (r .ended) ≡ lineTold judge (recorded (lineMeans (now (line .entry)) parsed)) .state ⌝ }
     ensures text { λ r. ⌜ Wrote (now (out .entry)) 0 (lineTold judge (recorded (lineMeans (now (line .entry)) parsed)) .text) (now (out .exit)) (r .written) ⌝ }

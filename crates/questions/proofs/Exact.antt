@@ -25,7 +25,7 @@ use Rattle.calltext.specs.Claims.{SaysCall}
 use Rattle.calltext.proofs.RoundTrip.{not-empty}
 use Rattle.calltext.proofs.Exact.{says-over}
 use Rattle.calltext.proofs.Exact as calltext
-use Rattle.questions.specs.Meaning.{Question, diagnoses, locates, LineMeaning, question, recorded, diagnose-word, locate-word, isWord, locateBy, locateFields, questionIn, meaningBy, meaningIn}
+use Rattle.questions.specs.Meaning.{Question, diagnoses, locates, question, recorded, diagnose-word, locate-word, isWord, locateBy, locateFields, questionIn, meaningBy, meaningIn}
 use Rattle.questions.specs.Worked.{Asked, Written}
 use Rattle.questions.specs.Claims.{FitsQuestion, questionLine, SaysQuestion, Claims}
 use Rattle.questions.proofs.Readings.{word-is}

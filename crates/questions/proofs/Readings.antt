@@ -1,6 +1,6 @@
 -- What the ways through `parse` come to. Assumes nothing.
 use mathlib.Core.Path.{_≡_, sym, ap, _∙_}
-use mathlib.Core.Bool.{Bool, true, false, _&&_, and-eq-true-iff, and-false, and-true}
+use mathlib.Core.Bool.{Bool, true, false, and-eq-true-iff, and-false, and-true}
 use mathlib.Core.List.{List, _++_, append-nil}
 use mathlib.Core.Option.{none, some}
 use Prim.Native.Nat.{ℕ, _+_, _-_, _≤_, _<_}

@@ -4,7 +4,7 @@
 --   Asked       `diagnose`, `locate 7 00ff` and `locate 7 -` ask; `diagnose ` and `locate 7` ask nothing
 --   Written     each kind of answer once
 use mathlib.Core.Path.{_≡_}
-use mathlib.Core.List.{List, [], _∷_}
+use mathlib.Core.List.{[], _∷_}
 use mathlib.Core.Option.{none, some}
 use Rattle.diagnoses.specs.Diagnosing.{refusedAs, lostAt, openWith}
 use Rattle.locating.specs.Locating.{refusedFor, stuckAfter, nowhere}

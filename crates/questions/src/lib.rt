@@ -1,13 +1,11 @@
 // The questions among the lines of a text of calls, which change nothing: what such a line means,
 // and how its answer is written.
 ghost use mathlib.Core.Path.{_≡_};
-ghost use mathlib.Core.Bool.{_&&_};
 ghost use Prim.Native.Nat.{_≤_};
-ghost use lib.Dec.{eqb};
 ghost use lib.ListN.{length, drop};
 ghost use Rattle.limits.specs.Limits.{answerRoom};
 ghost use Rattle.text.specs.Writing.{Wrote};
-ghost use Rattle.lines.specs.Splitting.{begins, upTo, past};
+ghost use Rattle.lines.specs.Splitting.{upTo, past};
 ghost use Rattle.calltext.specs.Meaning.{malformed};
 ghost use Rattle.diagnoses.specs.Diagnosing.{diagnosisMeans};
 ghost use Rattle.locating.specs.Locating.{locatedMeans};
