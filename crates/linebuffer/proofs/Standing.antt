@@ -2,9 +2,9 @@
 -- stands for it. Assumes nothing.
 --
 --   held-line, held-stray              what `read_line` reads
---   asked-text                         the verdict's answer
---   located-malformed, located-put     the ways through `ask_location`
---   asked-state, asked-wrote           an answer to a line of one meaning is one to a line of the other
+--   asked-text, found-text             the answers to `verdict` and `diagnose`
+--   malformed-.., put-..               the ways through `ask_location`
+--   diagnose-.., locate-..             the ways through `ask`
 --   run-state, run-text                a line that was run
 --   held-step                          what is kept has the outcome of the line
 use mathlib.Core.Path.{_≡_, refl, sym, ap, _∙_, subst}
@@ -34,7 +34,7 @@ use Rattle.callrun.specs.Running.{lineStep, runOutcome}
 use Rattle.diagnoses.specs.Diagnosing.{Finding, diagnosisOf}
 use Rattle.locating.specs.Locating.{Spot, spotOf}
 use Rattle.questions.specs.declared.Query.{Query}
-use Rattle.questions.specs.declared.Query.the-variants.{Verdict, Diagnose, Locate}
+use Rattle.questions.specs.declared.Query.the-variants.{Diagnose, Locate}
 use Rattle.questions.specs.declared.TextLine.{TextLine}
 use Rattle.questions.specs.declared.TextLine.the-variants.{Runs}
 use Rattle.questions.specs.Meaning.{LineMeaning, recorded, locateBy, meaningBy, meaningIn, queryMeans, queryFrom, Parsed}
@@ -106,9 +106,6 @@ module _ (w : List ℕ) (q : Query) where
     abbrev here : Outcome (Listed Judge)
     here = lineTold j (queryMeans w q)
 
-    verdict-here : q ≡ Verdict → here ≡ record { text = responseText (replied (judged (reportOf j))); state = listOf j false }
-    verdict-here e = ap (λ (x : Query). lineTold j (queryMeans w x)) e
-
     diagnose-here : q ≡ Diagnose → here ≡ record { text = findingText (diagnosisOf j); state = listOf j false }
     diagnose-here e = ap (λ (x : Query). lineTold j (queryMeans w x)) e
 
@@ -123,13 +120,6 @@ module _ (w : List ℕ) (q : Query) where
 
     text-of : (o : Outcome (Listed Judge)) → here ≡ o → (out last : List ℕ) (end : ℕ) → Wrote out 0 (o .text) last end → Wrote out 0 (here .text) last end
     text-of o e out last end wrote = subst (λ (x : Outcome (Listed Judge)). Wrote out 0 (x .text) last end) (sym e) wrote
-
-    pub verdict-state : q ≡ Verdict → listOf j false ≡ here .state
-    verdict-state e = state-of _ (verdict-here e) (listOf j false) refl
-
-    pub verdict-text : q ≡ Verdict → (out last : List ℕ) (end : ℕ) → Wrote out 0 (responseText (replied (judged (reportOf j)))) last end
-        → Wrote out 0 (here .text) last end
-    verdict-text e = text-of _ (verdict-here e)
 
     pub diagnose-state : q ≡ Diagnose → listOf j false ≡ here .state
     diagnose-state e = state-of _ (diagnose-here e) (listOf j false) refl

@@ -60,8 +60,8 @@ pub fn read_line(buffer: &[u8], held: Held) -> ReadLine
     ReadLine { line, length }
 }
 
-// The answer to a line that asks for the verdict.
-fn ask_verdict(judge: Judge, out: &mut [u8]) -> usize
+// The answer to a line that asks for the verdict: the judge stays where it is.
+pub fn ask_verdict(judge: Judge, out: &mut [u8]) -> usize
     requires { ⌜ answerRoom ≤ length (now out) ⌝ }
     ensures { λ r. ⌜ Wrote (now (out .entry)) 0 (responseText (replied (judged (reportOf judge)))) (now (out .exit)) r ⌝ }
 {
@@ -104,8 +104,8 @@ fn ask_location(judge: Judge, place: u64, field: &[u8], bytes: &mut [u8], out: &
     }
 }
 
-// A line that asks only, with its answer at the start of `out`: the judge stays where it is, and
-// nothing of it is copied. `bytes` is for the bytes that the line carries.
+// A line that asks a question, with its answer at the start of `out`: the judge stays where it is.
+// `bytes` is for the bytes that the line carries.
 pub fn ask(judge: Judge, query: Query, line: &[u8], bytes: &mut [u8], out: &mut [u8]) -> Said
     requires { ⌜ (queryFrom query ≤ length (now line)) × (bytesRoom ≤ length (now bytes)) × (answerRoom ≤ length (now out)) ⌝ }
     ensures { λ r. ⌜ listOf judge (r .ended) ≡ lineTold judge (queryMeans (now (line .entry)) query) .state ⌝ }
@@ -113,11 +113,6 @@ pub fn ask(judge: Judge, query: Query, line: &[u8], bytes: &mut [u8], out: &mut 
     ensures scratch { λ r. ⌜ Scratch (now (bytes .entry)) (now (bytes .exit)) ⌝ }
 {
     match query {
-        Query::Verdict => {
-            let ended = false;
-            let written = ask_verdict(judge, out);
-            Said { ended, written }
-        }
         Query::Diagnose => {
             let ended = false;
             let written = ask_diagnosis(judge, out);

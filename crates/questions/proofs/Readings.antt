@@ -20,9 +20,9 @@ use Rattle.calltext.specs.Meaning.{malformed, verdict-word, callIn, lineIn}
 use Rattle.calltext.specs.Meaning as calls
 use Rattle.calltext.proofs.Readings.{none-behind, behind-is, says, begins-long}
 use Rattle.calltext.proofs.RoundTrip.{not-empty}
-use Rattle.questions.specs.declared.Query.the-variants.{Verdict, Diagnose}
+use Rattle.questions.specs.declared.Query.the-variants.{Diagnose}
 use Rattle.questions.specs.declared.TextLine.{TextLine}
-use Rattle.questions.specs.declared.TextLine.the-variants.{Asks, Runs}
+use Rattle.questions.specs.declared.TextLine.the-variants.{Verdict, Asks, Runs}
 use Rattle.questions.specs.Meaning.{recorded, diagnose-word, locate-word, isWord, locateBy, locateFields, questionIn, meaningBy, meaningIn, textMeans, textFrom, Parsed}
 
 -- ---- whether the line is a word
@@ -62,7 +62,7 @@ module _ (w : List ℕ) where
   pub long-locate : begins locate-word w ≡ true → 7 ≤ length w
   long-locate t = begins-long locate-word w t
 
-  pub parsed-verdict : isWord verdict-word w ≡ true → Parsed w (Asks Verdict)
+  pub parsed-verdict : isWord verdict-word w ≡ true → Parsed w Verdict
   unfolding begins callIn questionIn
   parsed-verdict t = record { means = ap meaningIn (word-is verdict-word w t); inside = omega arith }
 

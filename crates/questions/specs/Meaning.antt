@@ -29,9 +29,9 @@ use Rattle.fields.specs.Bytes.{parseBytes}
 use Rattle.calls.specs.Calls.{asksVerdict}
 use Rattle.calltext.specs.Meaning.{Meaning, call, malformed, lineIn, lineMeans, bytesFrom}
 use Rattle.questions.specs.declared.Query.{Query}
-use Rattle.questions.specs.declared.Query.the-variants.{Verdict, Diagnose, Locate}
+use Rattle.questions.specs.declared.Query.the-variants.{Diagnose, Locate}
 use Rattle.questions.specs.declared.TextLine.{TextLine}
-use Rattle.questions.specs.declared.TextLine.the-variants.{Asks, Runs}
+use Rattle.questions.specs.declared.TextLine.the-variants.{Verdict, Asks, Runs}
 
 pub data Question : Type 0 where
   diagnoses : Question
@@ -76,20 +76,20 @@ meaningIn w = meaningBy (questionIn w) (lineIn w)
 
 -- ---- what the code answers. The bytes of a chunk are still to be read, from an index on
 abbrev pub queryMeans : List ℕ → Query → LineMeaning
-queryMeans w Verdict = recorded (call asksVerdict)
 queryMeans w Diagnose = question diagnoses
 queryMeans w (Locate p from) = meaningBy (locateBy (some p) (parseBytes (drop from w))) malformed
 
 abbrev pub textMeans : List ℕ → TextLine → LineMeaning
+textMeans w Verdict = recorded (call asksVerdict)
 textMeans w (Asks q) = queryMeans w q
 textMeans w (Runs x) = recorded (lineMeans w x)
 
 abbrev pub queryFrom : Query → ℕ
-queryFrom Verdict = 0
 queryFrom Diagnose = 0
 queryFrom (Locate p from) = from
 
 abbrev pub textFrom : TextLine → ℕ
+textFrom Verdict = 0
 textFrom (Asks q) = queryFrom q
 textFrom (Runs x) = bytesFrom x
 

@@ -16,16 +16,15 @@ use diagnoses::Diagnosis;
 use fields::Number;
 use locating::Located;
 
-// What a line asks that leaves the judge as it is. The bytes of a chunk begin at the index beside
-// its place.
+// A question. The bytes of a chunk begin at the index beside its place.
 pub enum Query {
-    Verdict,
     Diagnose,
     Locate(u64, usize),
 }
 
-// A line of a text: it asks only, or it is run.
+// A line of a text: it asks for the verdict or a question, which change nothing, or it is run.
 pub enum TextLine {
+    Verdict,
     Asks(Query),
     Runs(Line),
 }
@@ -64,8 +63,7 @@ pub fn parse(line: &[u8]) -> TextLine
     ensures { λ r. ⌜ Parsed (now (line .entry)) r ⌝ }
 {
     if is_word(line, b"verdict") {
-        let query = Query::Verdict;
-        return TextLine::Asks(query);
+        return TextLine::Verdict;
     }
     if is_word(line, b"diagnose") {
         let query = Query::Diagnose;

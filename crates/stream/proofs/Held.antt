@@ -2,8 +2,8 @@
 --
 --   read-within, read-whole     how many bytes stand for it
 --   ask-inside, run-inside      the bytes that it carries are inside them
---   ask-came, run-came          what comes of one that asks, and of one that is run
---   ask-text, run-text          the same of the answer alone
+--   verdict-came, ask-came, run-came   what comes of one that asks, and of one that is run
+--   verdict-text, ask-text, run-text   the same of the answer alone
 use mathlib.Core.Path.{_≡_, sym, ap, _∙_, subst}
 use mathlib.Core.Bool.{Bool, false}
 use mathlib.Core.List.{List}
@@ -12,11 +12,14 @@ use lib.ListN.{length, take}
 use lib.Seq.{length-take-le}
 use Rattle.text.specs.Writing.{Wrote}
 use Rattle.calls.specs.declared.Judge.{Judge}
+use Rattle.calls.specs.Replies.{judged}
+use Rattle.calls.specs.mirror.Steps.{reportOf}
 use Rattle.calltext.specs.declared.Line.{Line}
 use Rattle.calltext.specs.Meaning.{malformed, lineMeans, bytesFrom}
+use Rattle.calltext.specs.Answers.{replied, responseText}
 use Rattle.questions.specs.declared.Query.{Query}
 use Rattle.questions.specs.declared.TextLine.{TextLine}
-use Rattle.questions.specs.declared.TextLine.the-variants.{Asks, Runs}
+use Rattle.questions.specs.declared.TextLine.the-variants.{Verdict, Asks, Runs}
 use Rattle.questions.specs.Meaning.{recorded, meaningIn, queryMeans, queryFrom, textMeans, textFrom}
 use Rattle.longlines.specs.declared.Held.{Held}
 use Rattle.longlines.specs.Holding.{heldMeaning as heldBy}
@@ -63,6 +66,14 @@ module _ (j : Judge) (ended : Bool) (line : List ℕ) (held : Held) (b : Bool) (
 
     text-as : (o : Outcome (Listed Judge)) → came-of ≡ o → (out last : List ℕ) (end : ℕ) → Wrote out 0 (o .text) last end → Wrote out 0 (came-of .text) last end
     text-as o e out last end wrote = subst (λ (x : Outcome (Listed Judge)). Wrote out 0 (x .text) last end) (sym e) wrote
+
+    module _ (e : r .line ≡ Verdict) where
+      pub verdict-came : came-of ≡ record { text = responseText (replied (judged (reportOf j))); state = listOf j false }
+      verdict-came = read-as Verdict e
+
+      pub verdict-text : (out last : List ℕ) (end : ℕ) → Wrote out 0 (responseText (replied (judged (reportOf j)))) last end
+          → Wrote out 0 (came-of .text) last end
+      verdict-text = text-as _ (read-as Verdict e)
 
     module _ (q : Query) (e : r .line ≡ Asks q) where
       pub ask-came : (after : Bool) → listOf j after ≡ lineTold j (queryMeans (take (r .length) line) q) .state

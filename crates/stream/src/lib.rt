@@ -22,7 +22,8 @@ pub struct Gathered {
 
 // The parts of a block from an index on, while there is room for their answers, which stand one
 // behind the other at the start of `out`. `line` keeps the line, `bytes` is for the bytes that it
-// carries. Each line is read once. One that only asks leaves the judge where it is: nothing is copied.
+// carries. Each line is read once. One that asks leaves the judge where it is; for the verdict nothing
+// is copied.
 pub fn gather(
     judge: Judge,
     pending: Pending,
@@ -61,6 +62,10 @@ pub fn gather(
         let told = read.line;
         held = longlines::nothing();
         match told {
+            TextLine::Verdict => {
+                ended = false;
+                written += linebuffer::ask_verdict(judge, &mut out[written..]);
+            }
             TextLine::Asks(query) => {
                 let said = linebuffer::ask(judge, query, &line[..n], bytes, &mut out[written..]);
                 ended = said.ended;
@@ -106,6 +111,7 @@ pub fn finish(
     let n = read.length;
     let told = read.line;
     match told {
+        TextLine::Verdict => linebuffer::ask_verdict(judge, out),
         TextLine::Asks(query) => {
             let said = linebuffer::ask(judge, query, &line[..n], bytes, out);
             said.written

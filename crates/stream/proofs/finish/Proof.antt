@@ -3,7 +3,7 @@ use Rattle.linetexts.specs.Lists.{listTeller}
 use Rattle.linetexts.proofs.Lists.{skipped-text}
 use Rattle.linetexts.proofs.Ends.{none-written, last-written}
 use Rattle.stream.specs.Texts.{callList}
-use Rattle.stream.proofs.Held.{read-whole, ask-inside, ask-text, run-inside, run-text}
+use Rattle.stream.proofs.Held.{read-whole, verdict-text, ask-inside, ask-text, run-inside, run-text}
 use borrow.Author.Needs.{needs}
 use Rattle.stream.proofs.finish.Statement.{statement}
 use Rattle.stream.proofs.finish.Tie as tie
@@ -27,16 +27,20 @@ run-requires : tie.Need-run-requires
 run-requires c κs = search (needs, run-inside)
 
 returns-3 : tie.Need-returns-3
-returns-3 c = search (needs, last-written (listTeller callList), ask-text)
+returns-3 c = search (needs, last-written (listTeller callList), verdict-text)
 
 returns-4 : tie.Need-returns-4
-returns-4 c = search (needs, last-written (listTeller callList), run-text)
+returns-4 c = search (needs, last-written (listTeller callList), ask-text)
+
+returns-5 : tie.Need-returns-5
+returns-5 c = search (needs, last-written (listTeller callList), run-text)
 
 pub finish-spec : {M : Type 1} → statement M
 finish-spec =
     tie.close
     (tie.spec
     returns (λ c κs. search needs) (λ c κs. search needs) (λ c. search needs) returns-2
-    (λ c κs. search needs) (λ c. search needs) slice-aggregate-ask ask-requires
-    (λ c. search needs) slice-aggregate-run run-requires (λ c. search needs) (λ c. search needs)
-    returns-3 (λ c. search needs) (λ c. search needs) returns-4)
+    (λ c κs. search needs) (λ c. search needs) (λ c κs. search needs) (λ c. search needs)
+    slice-aggregate-ask ask-requires (λ c. search needs) slice-aggregate-run run-requires
+    (λ c. search needs) returns-3 (λ c. search needs) (λ c. search needs) returns-4
+    (λ c. search needs) (λ c. search needs) returns-5)
