@@ -122,6 +122,48 @@ class Judge:
         self.board[p] = None
         return "accepted"
 
+    def leads_on(self, members):
+        """Whether a final state can be reached from one of the states."""
+        _, k, _, finals, targets, _ = self.rule
+        reached = frozenset(members)
+        while True:
+            further = reached.union(*(successor(targets, reached, s) for s in range(k)))
+            if further == reached:
+                return bool(reached & finals)
+            reached = further
+
+    def diagnose(self):
+        """The first place after whose text nothing can follow; or how many are filled before the first empty one."""
+        if self.board is None:
+            raise Refused(21)
+        members = self.rule[2]
+        for p, chunk in enumerate(self.board):
+            if chunk is None:
+                return f"open {p}"
+            members = after(self.rule[4], members, without_marks(chunk))
+            if not self.leads_on(members):
+                return f"lost {p}"
+        return f"open {len(self.board)}"
+
+    def locate(self, p, chunk):
+        """After how many bytes of the chunk, marks counted, nothing can follow."""
+        self.at(p)
+        if len(chunk) > 65536:
+            raise Refused(12)
+        if any(b >= self.rule[1] and b != IDLE for b in chunk):
+            raise Refused(13)
+        if None in self.board[:p]:
+            raise Refused(23)
+        before = b"".join(without_marks(each) for each in self.board[:p])
+        members, hopes = after(self.rule[4], self.rule[2], before), {}
+        for i in range(len(chunk) + 1):
+            if members not in hopes:
+                hopes[members] = self.leads_on(members)
+            if not hopes[members]:
+                return f"after {i}"
+            members = after(self.rule[4], members, without_marks(chunk[i:i + 1]))
+        return "nowhere"
+
     def verdict(self):
         if self.board is None:
             raise Refused(21)

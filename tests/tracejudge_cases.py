@@ -23,17 +23,17 @@ CRATE = os.path.join(HERE, "..", "crates", "tracejudge")
 HEX, NUMBER = rb"((?:[0-9a-fA-F]{2})+|-)", rb"([0-9]{1,20})"
 FORMS = [
     ("load", rb"load " + HEX), ("install", rb"install " + HEX), ("open", rb"open " + NUMBER), ("deliver", rb"deliver " + NUMBER + b" " + NUMBER + b" " + HEX),
-    ("withdraw", rb"withdraw " + NUMBER), ("verdict", rb"verdict"),
+    ("withdraw", rb"withdraw " + NUMBER), ("verdict", rb"verdict"), ("diagnose", rb"diagnose"), ("locate", rb"locate " + NUMBER + b" " + HEX),
 ]
 
 
 def meaning(line):
-    """The call that a line says, or None."""
+    """The call or question that a line says, or None."""
     for word, form in FORMS:
         found = re.fullmatch(form, line, re.DOTALL)
         if found:
             fields = list(found.groups())
-            if word in ("open", "deliver", "withdraw"):
+            if word in ("open", "deliver", "withdraw", "locate"):
                 fields[0] = int(fields[0])
                 if fields[0] > LARGEST:
                     return None
@@ -41,7 +41,7 @@ def meaning(line):
                 fields[1] = int(fields[1])
                 if fields[1] > LARGEST_REVISION:
                     return None
-            if word in ("load", "install", "deliver"):
+            if word in ("load", "install", "deliver", "locate"):
                 fields[-1] = b"" if fields[-1] == b"-" else bytes.fromhex(fields[-1].decode())
             if word == "install" and len(fields[-1]) != VALUE:
                 return None
@@ -154,6 +154,17 @@ def random_calls(seed):
     return calls + [("verdict",)]
 
 
+def random_questions(seed):
+    """Random calls, each with a question or two behind it."""
+    rng = random.Random(seed)
+    calls = []
+    for call in random_calls(seed):
+        chunk = call[3] if call[0] == "deliver" else bytes(rng.randrange(3) for _ in range(rng.randint(0, 4)))
+        p = call[1] if call[0] == "deliver" and rng.random() < 0.5 else rng.randint(0, 4)
+        calls += [call, *rng.sample([("diagnose",), ("locate", p, chunk)], rng.randint(1, 2))]
+    return calls
+
+
 # place, revision and chunk
 DELIVERIES = [(0, 0, b"\1"), (1, 5, b"\1"), (0, 2, b"\0\0"), (1, 4, b"\0"), (0, 1, b""), (1, 0, b"\1\1")]
 LONG = bytes([0, 1]) * 32768
@@ -170,6 +181,9 @@ MALFORMED = [
     # no revision; none that is a number; one above 32 bits, above 64, and of 21 digits
     b"deliver 0 00", b"deliver 0 -", b"deliver 0 0001", b"deliver 0  00", b"deliver 0 - 00", b"deliver 0 -1 00", b"deliver 0 +1 00", b"deliver 0 0x1 00",
     b"deliver 0 4294967296 00", b"deliver 0 18446744073709551615 00", b"deliver 0 18446744073709551616 00", b"deliver 0 000000000000000000000 00",
+    b"diagnose ", b"diagnose\r", b"diagnosed", b"diagnos", b"Diagnose", b"diagnose 0", b" diagnose", b"locate", b"locate ", b"locate 0", b"locate 0 ",
+    b"locate 00", b"locate 0 0", b"locate 0 0g", b"locate 0 --", b"locate  0 00", b"locate 0  00", b"locate 0 00 ", b"locate - 00", b"locate 0 0 00",
+    b"locate 18446744073709551616 00", b"locate 000000000000000000000 00", b"Locate 0 00", b"locate\t0 00",
     b"withdraw", b"withdraw ", b"withdraw 0 0", b"withdraw x", b"close", b" ", b"\r", b"\0", b"\xff\xfe", b"verdict verdict",
 ]
 # the digits of a trace as `xxd -p` breaks them, after 30 bytes; its fault, a last event 0, is in the second line
@@ -181,6 +195,8 @@ LONGER = [
     b"deliver 0 0 " + DIGITS, b"deliver 0 0 " + DIGITS + b"0", b"deliver 0 0 " + DIGITS + b"0g", b"deliver 0 0 " + DIGITS + b"\r", b"deliver 9 0 " + DIGITS,
     b"deliver 0 " + DIGITS, b"deliver 0 4294967296 " + DIGITS,
     b"deliver " + b"0" * 20 + b" " + b"0" * 20 + b" " + b"00" * 65537, b"deliver " + b"0" * 20 + b" " + b"0" * 20 + b" " + b"00" * 65537 + b"0",
+    b"locate 0 " + DIGITS, b"locate 0 " + DIGITS + b"0", b"locate 0 " + DIGITS + b"\r", b"locate 9 " + DIGITS, b"locate " + DIGITS, b"diagnose" + DIGITS,
+    b"locate " + b"0" * 20 + b" " + b"00" * 65537, b"locate " + b"0" * 20 + b" " + b"00" * 65537 + b"0",
     b"load " + DIGITS, b"load " + DIGITS + b" ", b"verdict" + DIGITS, b"install " + DIGITS, b"install " + DIGITS + b"g",
 ]
 CASES = [
@@ -301,6 +317,20 @@ CASES = [
      ("load", A), ("open", 1), ("deliver", 0, 0, b"\0\0\1"), ("verdict",), ("open", 2), ("deliver", 0, 0, b""), ("deliver", 1, 0, b"\0\1"), ("verdict",)],
     # two orders of the same deliveries come to the same
     *([("load", A), ("open", 2)] + [("deliver", p, v, chunk) for p, v, chunk in order] + [("verdict",)] for order in (DELIVERIES, DELIVERIES[::-1])),
+    # where a trace is lost: without a board; open; lost at place 1, though place 2 is empty; open again after a withdrawal, and with all places.
+    # At which byte: marks count; places N and the largest; 12 before 13 before 23, an empty place before
+    [("diagnose",), ("locate", 0, b""), ("load", CHAIN), ("diagnose",), ("locate", 0, b"\1"), ("open", 3), ("diagnose",), ("locate", 0, b"\0\0\0"),
+     ("locate", 1, b"\0"), ("deliver", 0, 0, b"\0\xff\0"), ("diagnose",), ("locate", 1, b""), ("locate", 1, b"\xff\0"), ("deliver", 1, 0, b"\xff\0\xff"),
+     ("diagnose",), ("verdict",), ("locate", 1, b"\xff\0\xff"), ("locate", 2, b"\0"), ("locate", 3, b""), ("locate", LARGEST, b""),
+     ("locate", 2, LONG + b"\0"), ("locate", 2, b"\1"), ("withdraw", 1), ("diagnose",), ("locate", 2, b""), ("locate", 2, b"\1"), ("deliver", 1, 1, b""),
+     ("diagnose",), ("deliver", 2, 0, b""), ("diagnose",), ("verdict",), ("withdraw", 0), ("diagnose",)],
+    # states that lead nowhere: lost where only they are left, though the set is not empty; before the first byte where no state is initial
+    [("load", ASTRAY), ("open", 2), ("locate", 0, b"\xff\1\1"), ("deliver", 0, 0, b"\1\1"), ("diagnose",), ("locate", 1, b"\0"), ("deliver", 1, 0, b""), ("verdict",)],
+    [("load", NO_INITIAL), ("open", 1), ("diagnose",), ("locate", 0, b"\0"), ("deliver", 0, 0, b""), ("diagnose",), ("locate", 0, b"")],
+    # a chunk of 65,536 bytes, lost by its last, or by none; a question between deliveries changes nothing; digits of either case, and leading zeros
+    [("load", DIES), ("open", 1), ("locate", 0, b"\0" * 65535 + b"\1"), ("locate", 0, b"\0" * 65536), ("locate", 0, b"\xff" * 65535 + b"\1"), ("verdict",),
+     ("deliver", 0, 3, b"\0\0"), ("locate", 0, b"\1"), ("diagnose",), ("deliver", 0, 3, b""), ("verdict",),
+     b"locate 00000000000000000000 fF01", b"locate 000 Ff00"],
     # n 33; hex digits of either case; the largest number of digits, in a place and in a revision
     [("load", b"\x21" + A[1:]), b"load " + A.hex().upper().encode(), b"open 00000000000000000001",
      b"deliver 00000000000000000000 00000000004294967295 0001", ("verdict",)],
@@ -319,7 +349,7 @@ CASES = [
     [("open", 1), ("load", A), ("open", 1), ("verdict",), b"x", b"skipped", b"malformed"],
     [("load", A), ("open", 1), b"x", LONGER[0], ("verdict",), LONGER[1], LONGER[-1], ("verdict",)],
     judged(B, b"\0"),
-] + [random_calls(seed) for seed in range(32)]
+] + [random_calls(seed) for seed in range(32)] + [random_questions(seed) for seed in range(24, 36)]
 # the last line is ended by the end of the input
 LAST = [("load", A), ("open", 1), ("verdict",)]
 

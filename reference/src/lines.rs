@@ -2,6 +2,7 @@
 
 use crate::checked::CheckedRule;
 use crate::judge::{Answer, Call, Judge, Work};
+use crate::losses::asked;
 
 /// One or more pairs of hex digits, or `-` for no bytes.
 pub fn bytes(field: &[u8]) -> Option<Vec<u8>> {
@@ -121,9 +122,9 @@ pub fn answers_by<State: Default>(text: &[u8], said: fn(&mut State, &[u8]) -> Op
     lines(text).into_iter().map(|line| list.answer(line, said) + "\n").collect()
 }
 
-/// What the judge says to a line, or none if the line is malformed.
+/// What the judge says to a line, a call or a question, or none if the line is malformed.
 pub fn said(judge: &mut Judge, line: &[u8]) -> Option<String> {
-    Some(answer(judge.call(&call(line)?)))
+    asked(judge, line).or_else(|| Some(answer(judge.call(&call(line)?))))
 }
 
 /// The answers to the lines of a text.

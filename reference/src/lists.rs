@@ -255,6 +255,24 @@ impl Maker {
         self.line("verdict".to_string());
     }
 
+    /// Asks where the trace is lost, or where in a chunk, mostly the one that was sent to the place.
+    fn ask(&mut self, place: u64, chunk: &[u8]) {
+        if self.r.one_in(2) {
+            return self.line("diagnose".to_string());
+        }
+        let place = match self.r.below(8) {
+            0 => self.no_place(),
+            1 => self.place(),
+            _ => place,
+        };
+        let mut chunk = if self.r.one_in(3) { self.chunk() } else { chunk.to_vec() };
+        if self.r.one_in(12) {
+            chunk.push(self.rule.k as u8);
+        }
+        let (place, chunk) = (self.number(place), self.hex(&chunk));
+        self.line(format!("locate {place} {chunk}"));
+    }
+
     fn place(&mut self) -> u64 {
         self.r.below(self.places) as u64
     }
@@ -302,6 +320,9 @@ impl Maker {
                 self.some_calls(2);
             }
             self.deliver(place as u64, &chunks[place]);
+            if self.r.one_in(4) {
+                self.ask(place as u64, &chunks[place]);
+            }
             if self.r.one_in(10) {
                 self.resend(place as u64, &chunks[place]);
             }

@@ -3,7 +3,7 @@
 use crate::checked::CheckedRule;
 use crate::follow::any_rule;
 use crate::judge::{text, Call, Judge, IDLE};
-use crate::lines::{answer, hex, line};
+use crate::lines::{answer, bytes, hex, line, number};
 use crate::random::Random;
 use crate::rule::Automaton;
 use std::collections::BTreeMap;
@@ -88,6 +88,16 @@ fn located(answer: Result<Option<usize>, u32>) -> String {
         Ok(Some(bytes)) => format!("after {bytes}"),
         Ok(None) => "nowhere".to_string(),
         Err(number) => format!("refused {number}"),
+    }
+}
+
+/// What is said to a line that asks where the trace is lost, or none if the line asks nothing.
+pub fn asked(judge: &Judge, line: &[u8]) -> Option<String> {
+    let fields: Vec<&[u8]> = line.split(|&c| c == b' ').collect();
+    match fields.as_slice() {
+        [b"diagnose"] => Some(diagnosed(diagnose(judge))),
+        [b"locate", place, chunk] => Some(located(locate(judge, number(place)?, &bytes(chunk)?))),
+        _ => None,
     }
 }
 

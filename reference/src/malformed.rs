@@ -22,6 +22,9 @@ const FIXED: &[&[u8]] = &[
     b"load 0", b"load 00 00", b"load zz", b"load\xA000", b"\xFF\xFE", b"load \xC3\xA9",
     b"withdraw \xD9\xA0", b"loa", b"loadd -", b"open1", b"deliver0 -", b"verdict\0", b"#", b"\x1A",
     b"install", b"install ", b"install -", b"install 0", b"install 00", b"install 0302", b"install 00 00",
+    b"diagnose ", b"diagnosed", b"diagnose 0", b"Diagnose", b"locate", b"locate ", b"locate 0", b"locate 0 ", b"locate 0 0",
+    b"locate 0 0g", b"locate  0 00", b"locate 0  00", b"locate 0 00 ", b"locate 0 0 00", b"locate - 00", b"locate 0 --",
+    b"locate 18446744073709551616 00", b"locate 000000000000000000001 00", b"locates 0 00",
     b"Install 00", b"instal -", b"install- ", b"install\t-", b"installs -", b"read -", b"read 00",
 ];
 

@@ -30,15 +30,16 @@ impl Tally {
         if answer == "skipped" {
             return self.add(if call.is_some() { "skipped: a call" } else { "skipped: no call" });
         }
-        let Some(call) = call else {
+        if answer == "malformed" {
             self.value_of_another_size(line);
             return self.add(answer);
-        };
+        }
         let words: Vec<&str> = answer.split(' ').collect();
         let kind = if words[0] == "refused" { answer } else { words[0] };
         let accepted = words[0] == "accepted";
         let verb = line.split(|&c| c == b' ').next().unwrap();
         self.add(&format!("{} {kind}", String::from_utf8_lossy(verb)));
+        let Some(call) = call else { return };
         match call {
             Call::Load(file) => {
                 if accepted {

@@ -3,19 +3,15 @@
 --   LineOutcome            the outcome of a line: what it is answered, and the judge that it leaves
 --   replyOf o              the outcome of a line that records a call, from the call's
 --   lineStep j m           the outcome of a line of the meaning m on the judge j
---   isAsks c               the call c asks for the verdict
---   verdictAsked m         a line of the meaning m does, which changes nothing
 --   runOutcome r            the outcome that the code's result stands for
 --   Scratch before after   all that holds of a buffer that is lent for the bytes of a line: its
 --                          length stays. What it has in it before is of no matter, and what is
 --                          left in it is free, also where the call is refused
 use mathlib.Core.Path.{_≡_}
-use mathlib.Core.Bool.{Bool, true, false}
 use mathlib.Core.List.{List}
 use Prim.Native.Nat.{ℕ}
 use lib.ListN.{length}
 use Rattle.calls.specs.declared.Judge.{Judge}
-use Rattle.calls.specs.Calls.{Call, installs, loads, opens, delivers, withdraws, asksVerdict}
 use Rattle.calls.specs.Replies.{Outcome}
 use Rattle.calls.specs.mirror.Steps.{fresh, stepOf}
 use Rattle.calltext.specs.Meaning.{Meaning, again, call, malformed}
@@ -34,19 +30,6 @@ abbrev pub lineStep : Judge → Meaning → LineOutcome
 lineStep j again = record { response = began; state = fresh }
 lineStep j (call c) = replyOf (stepOf j c)
 lineStep j malformed = record { response = unread; state = j }
-
-abbrev pub isAsks : Call → Bool
-isAsks (installs r) = false
-isAsks (loads f) = false
-isAsks (opens n) = false
-isAsks (delivers p v w) = false
-isAsks (withdraws p) = false
-isAsks asksVerdict = true
-
-abbrev pub verdictAsked : Meaning → Bool
-verdictAsked again = false
-verdictAsked (call c) = isAsks c
-verdictAsked malformed = false
 
 abbrev pub runOutcome : LineRun → LineOutcome
 runOutcome r = record { response = answerMeans (r .answer); state = r .judge }

@@ -6,8 +6,8 @@ ghost use lib.ListN.{length};
 ghost use Rattle.limits.specs.Limits.{bytesRoom};
 ghost use Rattle.fields.specs.Bytes.{parseBytes};
 ghost use Rattle.calls.specs.Calls.{opens, withdraws, asksVerdict};
-ghost use Rattle.calltext.specs.Meaning.{again, call, malformed, loadBy, installBy, deliverBy, lineIn};
-ghost use Rattle.callrun.specs.Running.{lineStep, verdictAsked, runOutcome, Scratch};
+ghost use Rattle.calltext.specs.Meaning.{again, call, malformed, loadBy, installBy, deliverBy, lineIn, lineMeans, bytesFrom};
+ghost use Rattle.callrun.specs.Running.{lineStep, runOutcome, Scratch};
 use calls::Judge;
 use calltext::Line;
 use calltext::LineAnswer;
@@ -20,7 +20,7 @@ pub struct LineRun {
 }
 
 // A malformed line changes nothing.
-pub fn run_malformed(judge: Judge) -> LineRun
+fn run_malformed(judge: Judge) -> LineRun
     ensures { λ r. ⌜ runOutcome r ≡ lineStep judge malformed ⌝ }
 {
     let answer = LineAnswer::Malformed;
@@ -128,13 +128,12 @@ fn run_verdict(judge: Judge) -> LineRun
     LineRun { answer, judge }
 }
 
-// One line. The buffer is for the bytes that the line carries.
-pub fn run_line(judge: Judge, line: &[u8], buffer: &mut [u8]) -> LineRun
-    requires { ⌜ bytesRoom ≤ length (now buffer) ⌝ }
-    ensures { λ r. ⌜ runOutcome r ≡ lineStep judge (lineIn (now (line .entry))) ⌝ }
+// The call of a line that was parsed. The buffer is for the bytes that the line carries.
+pub fn run_parsed(judge: Judge, parsed: Line, line: &[u8], buffer: &mut [u8]) -> LineRun
+    requires { ⌜ (bytesFrom parsed ≤ length (now line)) × (bytesRoom ≤ length (now buffer)) ⌝ }
+    ensures { λ r. ⌜ runOutcome r ≡ lineStep judge (lineMeans (now (line .entry)) parsed) ⌝ }
     ensures scratch { λ r. ⌜ Scratch (now (buffer .entry)) (now (buffer .exit)) ⌝ }
 {
-    let parsed = calltext::parse(line);
     match parsed {
         Line::Empty => run_empty(judge),
         Line::Load => run_load(judge, &line[5..], buffer),
@@ -153,20 +152,12 @@ pub fn run_line(judge: Judge, line: &[u8], buffer: &mut [u8]) -> LineRun
     }
 }
 
-// Whether a line asks for the verdict. Such a line changes nothing, so whoever keeps the judge need
-// not send it through `run_line`.
-pub fn asks_verdict(line: &[u8]) -> bool
-    ensures { λ r. ⌜ r ≡ verdictAsked (lineIn (now (line .entry))) ⌝ }
+// One line.
+pub fn run_line(judge: Judge, line: &[u8], buffer: &mut [u8]) -> LineRun
+    requires { ⌜ bytesRoom ≤ length (now buffer) ⌝ }
+    ensures { λ r. ⌜ runOutcome r ≡ lineStep judge (lineIn (now (line .entry))) ⌝ }
+    ensures scratch { λ r. ⌜ Scratch (now (buffer .entry)) (now (buffer .exit)) ⌝ }
 {
     let parsed = calltext::parse(line);
-    match parsed {
-        Line::Empty => false,
-        Line::Load => false,
-        Line::Install => false,
-        Line::Open(_) => false,
-        Line::Deliver(_, _, _) => false,
-        Line::Withdraw(_) => false,
-        Line::Verdict => true,
-        Line::Malformed => false,
-    }
+    run_parsed(judge, parsed, line, buffer)
 }

@@ -50,7 +50,7 @@ module _ (w : List ℕ) (from : ℕ) (long : from ≤ length w) (space : ℕ) (f
   rest-length : length (drop from w) + from ≡ length w
   rest-length = omega (arith, length-drop from w)
 
-  none-behind : length w ≤ space → past 32 (drop from w) ≡ none
+  pub none-behind : length w ≤ space → past 32 (drop from w) ≡ none
   none-behind l = past-none 32 (drop from w) (omega (arith, rest-length))
 
   pub deliver-alone : length w ≤ space → malformed ≡ deliverFields (upTo 32 (drop from w)) (past 32 (drop from w))
@@ -65,7 +65,7 @@ module _ (w : List ℕ) (from : ℕ) (long : from ≤ length w) (space : ℕ) (f
         let size : space - from ≡ length (upTo 32 (drop from w)) = omega (arith, found) in
         ap (λ (x : ℕ). take x (drop from w)) size ∙ sym (up-take 32 (drop from w))
 
-    behind-is : past 32 (drop from w) ≡ some (drop (space + 1) w)
+    pub behind-is : past 32 (drop from w) ≡ some (drop (space + 1) w)
     behind-is =
         let m = length (upTo 32 (drop from w)) in
         let next : from + suc m ≡ space + 1 = omega (arith, found) in
@@ -73,7 +73,7 @@ module _ (w : List ℕ) (from : ℕ) (long : from ≤ length w) (space : ℕ) (f
         ∙ ap (λ (l : List ℕ). some l) (drop-drop (suc m) from w ∙ ap (λ (x : ℕ). drop x w) next)
 
     module _ (x : Number) (said : numberMeans x ≡ parseNumber (take (space - from) (drop from w))) where
-      says : (o : Option ℕ) → numberMeans x ≡ o → parseNumber (upTo 32 (drop from w)) ≡ o
+      pub says : (o : Option ℕ) → numberMeans x ≡ o → parseNumber (upTo 32 (drop from w)) ≡ o
       says o e = sym (said ∙ ap parseNumber part-is) ∙ e
 
       pub deliver-on : (p : ℕ) → x ≡ Value p → (m : Meaning) → m ≡ revisionFields (some p) (upTo 32 (drop (space + 1) w)) (past 32 (drop (space + 1) w))

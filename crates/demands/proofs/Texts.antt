@@ -4,8 +4,11 @@
 -- says of a list of calls:
 --
 --   rightText; callLines           a text of calls; the lines' machine   stream/specs/Texts
+--   rightTo                        the right answer to a question        stream/specs/Texts
 --   listText; listOf, skippedLines lists that a malformed line ends      linetexts/specs/Lists
 --   linesOf; lineIn, responseText  lines, calls and answers as text      lines/, calltext/specs
+--   meaningIn, SaysQuestion, ..    a line of a text; which lines ask     questions/specs
+--   Diagnosed, Spotted             what a list says of a lost trace      losses/specs/Losses, Spots
 --   streamOf, Blocks; finishOf     what is written for blocks            linetexts/specs/Claims, Feeding
 --   Gathers; FedBlocks             a round; blocks through functions     linetexts/specs/Feeding, Functions
 --   MayGather, MayFinish           what their contracts allow            demands/specs/TextFunctions
@@ -20,14 +23,17 @@
 -- Assumes nothing.
 -- All that they rest on stands in these files of specs/ (tests/believed):
 --   base Conditions, Lists, Options, Totals; limits Limits; text Numerals, Writing; answers
---   Answers; masks Masks; automaton Rules, Successor; rulecheck Checking; ruleformat Format,
---   Reader, Refusals, Writing; numbering Numbering; subsets Sets, mirror/Singles; delegates
---   Alike, Claims, mirror/Classes; build mirror/Building; marks Marks; walks mirror/Steps; chunks
---   Chunks, mirror/Walks; board Boards; joins Joining; calls Calls, Replies, mirror/Steps;
---   histories History; fields Bytes, Claims, Numbers, Worked; lines Claims, Splitting; packed
---   Claims, Packed; calltext Answers, Claims, Meaning, Worked; callrun Running; longlines
---   Holding; linetexts Beginnings, Claims, Feeding, Functions, Lists, Parts; stream Texts,
---   Worked; replay Claims, Records; capi Numbers; demands Functions, TextFunctions.
+--   Answers; masks Masks, Turns; automaton Automaton, Rules, Successor; rulecheck Checking;
+--   ruleformat Format, Reader, Refusals, Writing; numbering Numbering; subsets Sets,
+--   mirror/Singles; delegates Alike, Claims, mirror/Classes; live Continued, Live; build
+--   mirror/Building; marks Marks; walks mirror/Steps; chunks Chunks, mirror/Walks; board Boards;
+--   joins Joining; calls Calls, Replies, mirror/Steps; diagnoses Diagnosing; locating Locating,
+--   Positions, mirror/Pruning; histories History; losses Answers, Losses, Spots; fields Bytes,
+--   Claims, Numbers, Worked; lines Claims, Splitting; packed Claims, Packed; calltext Answers,
+--   Claims, Meaning, Worked; questions Answers, Claims, Meaning, Worked; callrun Running;
+--   longlines Holding; linetexts Beginnings, Claims, Feeding, Functions, Lists, Parts; linebuffer
+--   Meanings; stream Texts, Worked; replay Claims, Records; capi Numbers; demands Functions,
+--   TextFunctions.
 use mathlib.Core.Path.{_≡_}
 use mathlib.Core.Logic.{_↔_}
 use mathlib.Core.Bool.{false}
@@ -51,14 +57,25 @@ use Rattle.linetexts.specs.Beginnings.{Beginning, stateOf}
 use Rattle.linetexts.specs.Lists.{Listed, listOf, NoneEmpty, skippedLines}
 use Rattle.linetexts.specs.Claims.{streamOf, Blocks}
 use Rattle.linetexts.specs.Functions.{FedBlocks}
-use Rattle.stream.specs.Texts.{callLines, rightText}
-use Rattle.stream.specs.Worked.{cutText, cutAnswers, sampleText, sampleAnswers}
+use Rattle.stream.specs.Texts.{callLines, rightTo, rightAnswer, callsAfter, rightText}
+use Rattle.stream.specs.Worked.{cutText, cutAnswers, sampleText, sampleAnswers, lostText, lostAnswers}
 use Rattle.stream.proofs.Claimed as stream
 use Rattle.calltext.specs.Meaning.{again, call, malformed, lineIn}
 use Rattle.calltext.specs.Claims.{Fits, lineOf, SaysCall}
 use Rattle.calltext.specs.Worked.{answers, Written}
 use Rattle.calltext.proofs.Exact as calltext
 use Rattle.calltext.proofs.Examples as calltext-examples
+use Rattle.questions.specs.Meaning.{Question, diagnoses, locates, question, recorded, questionIn, meaningIn}
+use Rattle.questions.specs.Answers.{findingText, spotText}
+use Rattle.questions.specs.Worked.{Asked, Written as Answered}
+use Rattle.questions.specs.Claims.{FitsQuestion, questionLine, SaysQuestion}
+use Rattle.questions.proofs.Exact as questions
+use Rattle.diagnoses.specs.Diagnosing.{Finding}
+use Rattle.locating.specs.Locating.{Spot}
+use Rattle.losses.specs.Losses.{Diagnosed}
+use Rattle.losses.specs.Spots.{Spotted}
+use Rattle.linebuffer.specs.Meanings.{lineTold}
+use Rattle.linebuffer.proofs.Claimed as linebuffer
 use Rattle.fields.specs.Worked.{digits, Read}
 use Rattle.fields.proofs.Examples as fields-examples
 use Rattle.automaton.specs.declared.Rule.{Rule}
@@ -107,24 +124,61 @@ pub texts-fed : {written : ℕ} {s′ : State Beginning (Listed Judge)} {blocks 
     → text ++ take written after ≡ rightText (some []) (linesOf (flatten blocks))
 texts-fed = text-functions.fed
 
--- A line means a call exactly when it is that call's line, but for leading zeros and the case of hex
--- digits; the empty one begins afresh, and any other is malformed.
-pub line-means : (l : List ℕ) (c : Call) → (lineIn l ≡ call c) ↔ SaysCall l c
-line-means = calltext.claims .line-exactly
+-- A line means a call exactly when it is that call's line, and asks a question exactly when it is that
+-- question's, but for leading zeros and the case of hex digits; the empty one begins afresh, and any
+-- other is malformed.
+pub line-means : (l : List ℕ) (c : Call) → (meaningIn l ≡ recorded (call c)) ↔ SaysCall l c
+line-means = questions.claims .call-exactly
 
-pub line-again : (l : List ℕ) → (lineIn l ≡ again) ↔ (l ≡ [])
-line-again = calltext.claims .again-exactly
+pub question-means : (l : List ℕ) (q : Question) → (meaningIn l ≡ question q) ↔ SaysQuestion l q
+question-means = questions.claims .question-exactly
 
-pub line-malformed : (l : List ℕ) → (lineIn l ≡ malformed) ↔ ((l ≡ [] → ⊥) × ((c : Call) → SaysCall l c → ⊥))
-line-malformed = calltext.claims .malformed-exactly
+pub line-again : (l : List ℕ) → (meaningIn l ≡ recorded again) ↔ (l ≡ [])
+line-again = questions.claims .again-exactly
+
+pub line-malformed : (l : List ℕ) → (meaningIn l ≡ recorded malformed)
+    ↔ ((l ≡ [] → ⊥) × ((c : Call) → SaysCall l c → ⊥) × ((q : Question) → SaysQuestion l q → ⊥))
+line-malformed = questions.claims .malformed-exactly
+
+-- A question changes nothing, neither the calls that are known nor the judge, whatever that is; and it
+-- is answered with what the list of calls says of the trace (requests/proofs/Losses).
+pub question-changes-nothing : (h : List Call) (l : List ℕ) (q : Question) → meaningIn l ≡ question q
+    → (rightAnswer h l ≡ rightTo h q) × (callsAfter h l ≡ some h)
+question-changes-nothing = stream.claims .question-right
+
+pub question-keeps-judge : (j : Judge) (l : List ℕ) (q : Question) → meaningIn l ≡ question q → lineTold j (meaningIn l) .state ≡ listOf j false
+question-keeps-judge = linebuffer.claims .question-keeps
+
+pub diagnose-answered : (h : List Call) (f : Finding) → Diagnosed h f → rightTo h diagnoses ≡ findingText f
+diagnose-answered = stream.claims .diagnose-right
+
+pub locate-answered : (h : List Call) (p : ℕ) (w : List ℕ) (s : Spot) → Spotted h p w s → rightTo h (locates p w) ≡ spotText s
+locate-answered = stream.claims .locate-right
+
+pub question-round-trip : (q : Question) → FitsQuestion q → meaningIn (questionLine q) ≡ question q
+question-round-trip = questions.claims .question-round-trip
+
+-- In a recorded list, which is one of calls, a line means a call, and the empty one a fresh judge; any
+-- other is malformed there, a question too.
+pub recorded-means : (l : List ℕ) (c : Call) → (lineIn l ≡ call c) ↔ SaysCall l c
+recorded-means = calltext.claims .line-exactly
+
+pub recorded-again : (l : List ℕ) → (lineIn l ≡ again) ↔ (l ≡ [])
+recorded-again = calltext.claims .again-exactly
+
+pub recorded-malformed : (l : List ℕ) → (lineIn l ≡ malformed) ↔ ((l ≡ [] → ⊥) × ((c : Call) → SaysCall l c → ⊥))
+recorded-malformed = calltext.claims .malformed-exactly
+
+pub recorded-question : (l : List ℕ) (q : Question) → questionIn l ≡ some q → lineIn l ≡ malformed
+recorded-question = questions.claims .not-recorded
 
 -- After a malformed line no call is made and no verdict given until an empty line: each line is
 -- answered `skipped`, whatever it says. The empty line begins afresh.
-pub malformed-ends : (h : List Call) (l : List ℕ) (ls : List (List ℕ)) → lineIn l ≡ malformed → NoneEmpty ls
+pub malformed-ends : (h : List Call) (l : List ℕ) (ls : List (List ℕ)) → meaningIn l ≡ recorded malformed → NoneEmpty ls
     → rightText (some h) (l ∷ ls) ≡ malformedText ++ skippedLines ls
 malformed-ends = stream.claims .ends-list
 
-pub begins-afresh : (h : List Call) (l : List ℕ) (ls more : List (List ℕ)) → lineIn l ≡ malformed → NoneEmpty ls
+pub begins-afresh : (h : List Call) (l : List ℕ) (ls more : List (List ℕ)) → meaningIn l ≡ recorded malformed → NoneEmpty ls
     → rightText (some h) ((l ∷ ls) ++ ([] ∷ more)) ≡ malformedText ++ (skippedLines ls ++ ((10 ∷ []) ++ rightText (some []) more))
 begins-afresh = stream.claims .afresh
 
@@ -132,6 +186,10 @@ begins-afresh = stream.claims .afresh
 -- a text in which a line was cut with `malformed` and `skipped`.
 pub sample-text : rightText (some []) (linesOf sampleText) ≡ sampleAnswers
 sample-text = demands-sample.sample
+
+-- So is samples/lost.calls, with questions on an open and on a lost trace.
+pub lost-text : rightText (some []) (linesOf lostText) ≡ lostAnswers
+lost-text = demands-sample.lost-sample
 
 pub cut-text : rightText (some []) (linesOf cutText) ≡ cutAnswers
 cut-text = stream.claims .worked
@@ -189,6 +247,13 @@ bytes-rule = packed.claims .stated-head
 -- each hex digit of either case.
 pub answers-written : Written answers
 answers-written = calltext-examples.written
+
+-- and each kind of question and of its answer.
+pub questions-asked : Asked
+questions-asked = questions.asked-worked
+
+pub questions-answered : Answered
+questions-answered = questions.written-worked
 
 pub digits-read : Read digits
 digits-read = fields-examples.digits-read

@@ -6,7 +6,7 @@
 --   stray-call     the rest is not hex digits: the line is malformed
 --   hex-line       the rest is hex digits, even in number: the line comes to what its first bytes
 --                  come to
---   told           so 131,124 bytes tell lines apart
+--   told           so 131,124 bytes tell the lines of a recorded list apart; Asking.antt those of a text
 use mathlib.Core.Path.{_≡_, refl, ap, _∙_}
 use mathlib.Core.Bool.{Bool, true, false, cond}
 use mathlib.Core.List.{List, _++_}
@@ -83,7 +83,7 @@ tells-delivers p v f g hf hg = record { steps = λ j. ap replyOf (delivers-long 
 
 -- ---- the fields of a delivery
 -- what stands behind the first space
-abbrev behind : List ℕ → List ℕ
+abbrev pub behind : List ℕ → List ℕ
 behind u = drop (suc (length (upTo 32 u))) u
 
 -- the meaning from the place on, and from the revision on where the place says p
@@ -94,7 +94,7 @@ abbrev fromRevision : Option ℕ → List ℕ → Meaning
 fromRevision p u = revisionFields p (upTo 32 u) (past 32 u)
 
 -- the first field of u is too long for a number, or near enough to its beginning
-far-or-near : (u : List ℕ) (P : Type 0) → (20 < length (upTo 32 u) → P) → (length (upTo 32 u) ≤ 20 → P) → P
+pub far-or-near : (u : List ℕ) (P : Type 0) → (20 < length (upTo 32 u) → P) → (length (upTo 32 u) ≤ 20 → P) → P
 far-or-near u P far near =
     by-test (ltb 20 (length (upTo 32 u)))
     (λ b. far (ltb-true 20 (length (upTo 32 u)) b))
@@ -103,7 +103,7 @@ far-or-near u P far near =
 -- u goes on with t
 module _ (u t : List ℕ) where
   module _ (far : 20 < length (upTo 32 u)) where
-    far-number : parseNumber (upTo 32 (u ++ t)) ≡ none
+    pub far-number : parseNumber (upTo 32 (u ++ t)) ≡ none
     far-number = said-long (upTo 32 (u ++ t)) (omega (arith, far, up-more 32 u t))
 
     place-far : fromPlace u ≡ malformed
@@ -120,10 +120,10 @@ module _ (u t : List ℕ) where
 
   -- m bytes at least are behind a field that is near
   module _ (m : ℕ) (long : 21 + m ≤ length u) (near : length (upTo 32 u) ≤ 20) where
-    inside : length (upTo 32 u) < length u
+    pub inside : length (upTo 32 u) < length u
     inside = omega (arith, near, long)
 
-    behind-long : m ≤ length (behind u)
+    pub behind-long : m ≤ length (behind u)
     behind-long = rw (length-drop (suc (length (upTo 32 u))) u) (omega (arith, near, long))
 
     place-near : fromPlace u ≡ fromRevision (parseNumber (upTo 32 u)) (behind u)
@@ -184,16 +184,16 @@ module _ (t : List ℕ) (hex : allHex t ≡ true) (even : length t % 2 ≡ 0) wh
 
 -- ---- the line v ++ t
 module _ (v t : List ℕ) (long : 131124 ≤ length v) where
-  rest : (k : ℕ) → k ≤ 9 → drop k (v ++ t) ≡ drop k v ++ t
+  pub rest : (k : ℕ) → k ≤ 9 → drop k (v ++ t) ≡ drop k v ++ t
   rest k h = drop-append-le k v t (omega arith)
 
-  rest-long : (k : ℕ) → k ≤ 9 → 131124 - k ≤ length (drop k v)
+  pub rest-long : (k : ℕ) → k ≤ 9 → 131124 - k ≤ length (drop k v)
   rest-long k h = rw (length-drop k v) (omega arith)
 
   more-long : (k : ℕ) → k ≤ 9 → 131124 - k ≤ length (drop k (v ++ t))
   more-long k h = rw (rest k h, length-append (drop k v) t) (omega (arith, rest-long k h))
 
-  word : (h : List ℕ) → length h ≤ 9 → begins h (v ++ t) ≡ begins h v
+  pub word : (h : List ℕ) → length h ≤ 9 → begins h (v ++ t) ≡ begins h v
   word h l = begins-append h v t (omega arith)
 
   some-bytes : lineIn v ≡ callIn v

@@ -43,7 +43,7 @@ use Rattle.losses.proofs.Continuing.{liveAt, continues-all, live-all}
 
 -- ---- the words over an automaton, a number of places and what stands at each
 module _ (a : Automaton) (places : ℕ) (at : ℕ → Option (List ℕ)) where
-  abbrev Says : Finding → Type 0
+  abbrev pub Says : Finding → Type 0
   Says (refusedAs x) = ⊥
   Says (lostAt p) =
       (p < places)
@@ -111,7 +111,7 @@ says-by (some r) places at last j holds l = says r places at last j holds l
 
 -- ---- for every list of calls
 module _ (h : List Call) where
-  given : (f : Finding) → boardIn h ≡ true → Says (automatonOf (ruleIn h)) (placesIn h) (standing h) f → Diagnosed h f
+  pub given : (f : Finding) → boardIn h ≡ true → Says (automatonOf (ruleIn h)) (placesIn h) (standing h) f → Diagnosed h f
   given (refusedAs x) b w = absurd w
   given (lostAt p) b w = record { board = b; within = w .0; filled = w .1; stuck = w .2; least = w .3 }
   given (openWith m) b w = record { board = b; within = w .0; filled = w .1; not-lost = w .2; then-empty = λ l. is-none (standing h m) .0 (w .3 l) }

@@ -6,4 +6,5 @@ pub mod Staying
 pub mod Spotting
 pub mod Spots
 pub mod Claims
+pub mod Answers
 pub mod Functions

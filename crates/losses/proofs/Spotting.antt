@@ -68,7 +68,7 @@ module _ (a : Automaton) (before : List ℕ) where
       (b ≤ length t) × (Continued a (before ++ take b t) → ⊥) × ((i : ℕ) → i < b → Continued a (before ++ take i t))
   TextSays t nowhere = (i : ℕ) → i ≤ length t → Continued a (before ++ take i t)
 
-  abbrev SpotSays : List ℕ → Spot → Type 0
+  abbrev pub SpotSays : List ℕ → Spot → Type 0
   SpotSays w (refusedFor x) = ⊥
   SpotSays w (stuckAfter b) =
       (b ≤ length w) × (Continued a (before ++ textOf (take b w)) → ⊥) × ((i : ℕ) → i < b → Continued a (before ++ textOf (take i w)))
@@ -191,7 +191,7 @@ module _ (present : Option Rule) (places : ℕ) (at : ℕ → Option (List ℕ))
       (any-same (isEmpty (j .board)) (λ i. isNone (at i)) p (λ i b. holds .empty i (omega (arith, b, leb-false places p l, holds .few))))))
 
   -- what holds where there is none
-  number-none : firstOf (locateConditions (eqb places 0) places p w (ruleFrom present .k) (anyBelow (λ i. isNone (at i)) p)) ≡ none
+  pub number-none : firstOf (locateConditions (eqb places 0) places p w (ruleFrom present .k) (anyBelow (λ i. isNone (at i)) p)) ≡ none
       → (p < places) × Text (ruleFrom present .k) (textOf w) × ((i : ℕ) → i < p → isNone (at i) ≡ false)
   unfolding from-12
   number-none e =
@@ -220,16 +220,16 @@ module _ (h : List Call) (p : ℕ) (w : List ℕ) where
       (joinUpTo (judgeAfter h .board .ends) (judgeAfter h .built .delegates) (judgeAfter h .built .n) (judgeAfter h .built .initials) p)
       (textOf w)
 
-  given : (s : Spot) → spotNumber h p w ≡ none → SpotSays (automatonOf (ruleIn h)) (textUpTo h p) w s → Spotted h p w s
-  given (refusedFor x) e s = absurd s
-  given (stuckAfter b) e s = (e, record { most = s .0; stuck = s .1; least = s .2 })
-  given nowhere e s = (e, s)
+  pub given-spot : (s : Spot) → spotNumber h p w ≡ none → SpotSays (automatonOf (ruleIn h)) (textUpTo h p) w s → Spotted h p w s
+  given-spot (refusedFor x) e s = absurd s
+  given-spot (stuckAfter b) e s = (e, record { most = s .0; stuck = s .1; least = s .2 })
+  given-spot nowhere e s = (e, s)
 
   by-spot : (number : Option ℕ) → spotNumber h p w ≡ number → Spotted h p w (spotBy number (inChunk w answer))
   by-spot (some x) e = e
   by-spot none e =
       let x = number-none (ruleThere h) (placesIn h) (standing h) (lastRevision h) (judgeAfter h) (good h) p w e in
-      given (inChunk w answer) e
+      given-spot (inChunk w answer) e
       (of-chunk (automatonOf (ruleIn h)) (textUpTo h p) w answer
       (says-by (ruleThere h) (placesIn h) (standing h) (lastRevision h) (judgeAfter h) (good h) p (x .0) (x .2) (textOf w) (x .1)))
 

@@ -2,4 +2,5 @@
 pub mod Losses
 pub mod Claims
 pub mod Spots
+pub mod Answers
 pub mod Functions

@@ -1,4 +1,5 @@
--- A recorded list of calls: a text of lines, each as crates/calltext gives its meaning.
+-- A recorded list of calls: a text of lines, each as crates/calltext gives its meaning. It has calls
+-- alone: a line that asks a question (crates/questions) is malformed in it.
 --
 --   Recorded       the calls of a record, the last first, as a history has them; or the number of
 --                  its first malformed line, counted from 1

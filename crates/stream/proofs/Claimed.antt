@@ -9,11 +9,12 @@ use Rattle.text.specs.Numerals.{decimalBelow}
 use Rattle.lines.specs.Splitting.{begins, linesFrom, linesOf}
 use Rattle.calls.specs.declared.Judge.{Judge}
 use Rattle.calls.specs.mirror.Steps.{fresh}
-use Rattle.linebuffer.proofs.Long as linebuffer
+use Rattle.linebuffer.proofs.Asking as linebuffer
 use Rattle.linetexts.specs.Feeding.{Outcome}
 use Rattle.linetexts.specs.Beginnings.{Told, beginning}
 use Rattle.linetexts.specs.Lists.{Listed, listOf, listText, skippedLines, listTeller}
-use Rattle.calltext.specs.Meaning.{Meaning, malformed, callIn, lineIn}
+use Rattle.calltext.specs.Meaning.{malformed, callIn}
+use Rattle.questions.specs.Meaning.{recorded, questionIn, meaningIn}
 use Rattle.calltext.specs.Answers.{unread, responseText}
 use Rattle.calls.specs.Calls.{Call}
 use Rattle.linetexts.proofs.Lists.{told-lists, ends-list as ends}
@@ -22,38 +23,36 @@ use Rattle.linetexts.proofs.Beginnings.{begun, keeps-lines}
 use Rattle.histories.specs.History.{boardIn, placesIn}
 use Rattle.longlines.specs.Holding.{lineBegin}
 use Rattle.stream.specs.Worked.{cutText, cutAnswers}
-use Rattle.stream.specs.Texts.{toldAs, callList, callLines, historyAfter, rightResponse, rightAnswer, callsAfter, rightText}
+use Rattle.stream.specs.Texts.{callList, callLines, rightLine, knownAfter, rightAnswer, callsAfter, rightText}
 use Rattle.stream.specs.Claims.{Claims}
-use Rattle.stream.proofs.Right.{right}
+use Rattle.stream.proofs.Right.{right, diagnose-right, locate-right}
 
 told : Told (listTeller callList)
 told =
-    told-lists callList (omega arith)
-    (λ j.
-    let t = linebuffer.told j in record {
-      stray = λ v w long stray. ap toldAs (t .stray v w long stray);
-      hex = λ v w long hex even. ap toldAs (t .hex v w long hex even);
-    })
+    told-lists callList (omega arith) linebuffer.told
 
 worked : rightText (some []) (linesOf cutText) ≡ cutAnswers
-unfolding listText linesFrom callIn begins boardIn placesIn decimalBelow
+unfolding listText linesFrom questionIn callIn begins boardIn placesIn decimalBelow
 worked = refl
 
 fresh-line : (h : List Call) (ls : List (List ℕ)) → rightText (some h) ([] ∷ ls) ≡ (10 ∷ []) ++ rightText (some []) ls
-unfolding listText
+unfolding listText begins questionIn
 fresh-line h ls = refl
 
 -- what a malformed line is answered
-said : (h : List Call) (l : List ℕ) → lineIn l ≡ malformed → rightAnswer h l ≡ responseText unread
-said h l e = ap (λ (m : Meaning). responseText (rightResponse h m)) e
+said : (h : List Call) (l : List ℕ) → meaningIn l ≡ recorded malformed → rightAnswer h l ≡ responseText unread
+said h l e = ap (rightLine h) e
 
 pub claims : Claims
 claims = record {
   told = told;
   right = right;
-  ends-list = λ h l ls e n. ends [] rightAnswer callsAfter .rest h l ls (ap (historyAfter h) e) n ∙ ap (λ (t : List ℕ). t ++ skippedLines ls) (said h l e);
+  question-right = λ h l q e. (ap (rightLine h) e, ap (knownAfter h) e);
+  diagnose-right = diagnose-right;
+  locate-right = locate-right;
+  ends-list = λ h l ls e n. ends [] rightAnswer callsAfter .rest h l ls (ap (knownAfter h) e) n ∙ ap (λ (t : List ℕ). t ++ skippedLines ls) (said h l e);
   afresh = λ h l ls more e n.
-      ends [] rightAnswer callsAfter .afresh h l ls more (ap (historyAfter h) e) n
+      ends [] rightAnswer callsAfter .afresh h l ls more (ap (knownAfter h) e) n
       ∙ ap (λ (t : List ℕ). t ++ (skippedLines ls ++ ((10 ∷ []) ++ rightText (some []) more))) (said h l e);
   fresh-line = fresh-line;
   worked = worked;

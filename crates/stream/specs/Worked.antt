@@ -1,5 +1,6 @@
--- Texts worked by hand: a line that was cut in two, and samples/two_chunks.calls. They are the bytes
--- of the files and of what the README prints, not the words of the definitions.
+-- Texts worked by hand: a line that was cut in two, samples/two_chunks.calls and samples/lost.calls.
+-- They are the bytes of the files and of what the README and docs/PROGRAMS.md print, not the words of
+-- the definitions.
 --
 --   cutText      `verdict`, `verd`, `ict`, `verdict`, an empty line, `verdict`
 --   cutAnswers   `refused 21`, `malformed`, `skipped`, `skipped`, an empty line, `refused 21`
@@ -7,6 +8,11 @@
 --                   `verdict`, `deliver 0 0 01`, `withdraw 0`, `deliver 0 1 01`, `verdict`
 --   sampleAnswers   `accepted 5 3`, `accepted`, `waiting 2`, `accepted 1`, `accepted 1`,
 --                   `yes 3 2 1 1`, `refused 22`, `accepted`, `accepted 1`, `no 3 2 1 1`
+--   lostText        `load HEX` with rule A, of which state 1 is initial, so that it accepts the text 1
+--                   alone; `diagnose`, `open 2`, `deliver 0 0 01`, `diagnose`, `locate 1 00`,
+--                   `locate 1 -`, `deliver 1 0 FF00`, `diagnose`, `locate 1 FF00`, `locate 0 01`
+--   lostAnswers     `accepted 5 3`, `refused 21`, `accepted`, `accepted 1`, `open 1`, `after 1`,
+--                   `nowhere`, `accepted 1`, `lost 1`, `after 2`, `nowhere`
 use mathlib.Core.List.{List, [], _∷_, _++_}
 use Prim.Native.Nat.{ℕ}
 
@@ -52,3 +58,31 @@ sampleAnswers =
     ++ (97 ∷ 99 ∷ 99 ∷ 101 ∷ 112 ∷ 116 ∷ 101 ∷ 100 ∷ 10 ∷ [])
     ++ (97 ∷ 99 ∷ 99 ∷ 101 ∷ 112 ∷ 116 ∷ 101 ∷ 100 ∷ 32 ∷ 49 ∷ 10 ∷ [])
     ++ (110 ∷ 111 ∷ 32 ∷ 51 ∷ 32 ∷ 50 ∷ 32 ∷ 49 ∷ 32 ∷ 49 ∷ 10 ∷ [])
+
+abbrev pub lostText : List ℕ
+lostText =
+    (108 ∷ 111 ∷ 97 ∷ 100 ∷ 32 ∷ 48 ∷ 51 ∷ 48 ∷ 50 ∷ 48 ∷ 50 ∷ 48 ∷ 48 ∷ 48 ∷ 48 ∷ 48 ∷ 48 ∷ 48 ∷ 52 ∷ 48 ∷ 48 ∷ 48 ∷ 48 ∷ 48 ∷ 48 ∷ 49 ∷ 54 ∷ 48 ∷ 48 ∷ 48 ∷ 54 ∷ 48 ∷ 48 ∷ 49 ∷ 67 ∷ 48 ∷ 48 ∷ 48 ∷ 50 ∷ 48 ∷ 48 ∷ 49 ∷ 69 ∷ 48 ∷ 48 ∷ 48 ∷ 48 ∷ 48 ∷ 48 ∷ 48 ∷ 48 ∷ 48 ∷ 48 ∷ 48 ∷ 48 ∷ 48 ∷ 49 ∷ 48 ∷ 49 ∷ 48 ∷ 48 ∷ 48 ∷ 49 ∷ 48 ∷ 50 ∷ 10 ∷ [])
+    ++ (100 ∷ 105 ∷ 97 ∷ 103 ∷ 110 ∷ 111 ∷ 115 ∷ 101 ∷ 10 ∷ [])
+    ++ (111 ∷ 112 ∷ 101 ∷ 110 ∷ 32 ∷ 50 ∷ 10 ∷ [])
+    ++ (100 ∷ 101 ∷ 108 ∷ 105 ∷ 118 ∷ 101 ∷ 114 ∷ 32 ∷ 48 ∷ 32 ∷ 48 ∷ 32 ∷ 48 ∷ 49 ∷ 10 ∷ [])
+    ++ (100 ∷ 105 ∷ 97 ∷ 103 ∷ 110 ∷ 111 ∷ 115 ∷ 101 ∷ 10 ∷ [])
+    ++ (108 ∷ 111 ∷ 99 ∷ 97 ∷ 116 ∷ 101 ∷ 32 ∷ 49 ∷ 32 ∷ 48 ∷ 48 ∷ 10 ∷ [])
+    ++ (108 ∷ 111 ∷ 99 ∷ 97 ∷ 116 ∷ 101 ∷ 32 ∷ 49 ∷ 32 ∷ 45 ∷ 10 ∷ [])
+    ++ (100 ∷ 101 ∷ 108 ∷ 105 ∷ 118 ∷ 101 ∷ 114 ∷ 32 ∷ 49 ∷ 32 ∷ 48 ∷ 32 ∷ 70 ∷ 70 ∷ 48 ∷ 48 ∷ 10 ∷ [])
+    ++ (100 ∷ 105 ∷ 97 ∷ 103 ∷ 110 ∷ 111 ∷ 115 ∷ 101 ∷ 10 ∷ [])
+    ++ (108 ∷ 111 ∷ 99 ∷ 97 ∷ 116 ∷ 101 ∷ 32 ∷ 49 ∷ 32 ∷ 70 ∷ 70 ∷ 48 ∷ 48 ∷ 10 ∷ [])
+    ++ (108 ∷ 111 ∷ 99 ∷ 97 ∷ 116 ∷ 101 ∷ 32 ∷ 48 ∷ 32 ∷ 48 ∷ 49 ∷ 10 ∷ [])
+
+abbrev pub lostAnswers : List ℕ
+lostAnswers =
+    (97 ∷ 99 ∷ 99 ∷ 101 ∷ 112 ∷ 116 ∷ 101 ∷ 100 ∷ 32 ∷ 53 ∷ 32 ∷ 51 ∷ 10 ∷ [])
+    ++ (114 ∷ 101 ∷ 102 ∷ 117 ∷ 115 ∷ 101 ∷ 100 ∷ 32 ∷ 50 ∷ 49 ∷ 10 ∷ [])
+    ++ (97 ∷ 99 ∷ 99 ∷ 101 ∷ 112 ∷ 116 ∷ 101 ∷ 100 ∷ 10 ∷ [])
+    ++ (97 ∷ 99 ∷ 99 ∷ 101 ∷ 112 ∷ 116 ∷ 101 ∷ 100 ∷ 32 ∷ 49 ∷ 10 ∷ [])
+    ++ (111 ∷ 112 ∷ 101 ∷ 110 ∷ 32 ∷ 49 ∷ 10 ∷ [])
+    ++ (97 ∷ 102 ∷ 116 ∷ 101 ∷ 114 ∷ 32 ∷ 49 ∷ 10 ∷ [])
+    ++ (110 ∷ 111 ∷ 119 ∷ 104 ∷ 101 ∷ 114 ∷ 101 ∷ 10 ∷ [])
+    ++ (97 ∷ 99 ∷ 99 ∷ 101 ∷ 112 ∷ 116 ∷ 101 ∷ 100 ∷ 32 ∷ 49 ∷ 10 ∷ [])
+    ++ (108 ∷ 111 ∷ 115 ∷ 116 ∷ 32 ∷ 49 ∷ 10 ∷ [])
+    ++ (97 ∷ 102 ∷ 116 ∷ 101 ∷ 114 ∷ 32 ∷ 50 ∷ 10 ∷ [])
+    ++ (110 ∷ 111 ∷ 119 ∷ 104 ∷ 101 ∷ 114 ∷ 101 ∷ 10 ∷ [])

@@ -1,30 +1,15 @@
-// Runs the calls of a text that comes in blocks, cut anywhere, and writes their answers.
-ghost use mathlib.Core.Path.{_≡_};
-ghost use mathlib.Core.Bool.{not, _&&_};
+// Answers the lines of a text that comes in blocks, cut anywhere: calls are run, questions answered.
 ghost use Prim.Native.Nat.{_≤_};
 ghost use lib.ListN.{length};
 ghost use Rattle.limits.specs.Limits.{bytesRoom, lineRoom, answerRoom};
 ghost use Rattle.text.specs.Writing.{Wrote};
-ghost use Rattle.calls.specs.Replies.{judged};
-ghost use Rattle.calls.specs.mirror.Steps.{reportOf};
-ghost use Rattle.calltext.specs.Answers.{replied, responseText};
-ghost use Rattle.callrun.specs.Running.{verdictAsked, Scratch};
-ghost use Rattle.linebuffer.specs.Meanings.{heldMeaning};
+ghost use Rattle.callrun.specs.Running.{Scratch};
 ghost use Rattle.linetexts.specs.Feeding.{finishOf, gatherAt, Gathers};
-ghost use Rattle.linetexts.specs.Beginnings.{heldStep};
-ghost use Rattle.linetexts.specs.Lists.{listOf, textState};
+ghost use Rattle.linetexts.specs.Lists.{textState};
 ghost use Rattle.stream.specs.Texts.{callLines};
 use calls::Judge;
-use calltext::LineAnswer;
 use linetexts::Pending;
-use longlines::Held;
-
-// The judge that a line leaves, whether the list has ended, and how many bytes the answer has.
-pub struct Answered {
-    pub judge: Judge,
-    pub ended: bool,
-    pub written: usize,
-}
+use questions::TextLine;
 
 // The judge that some parts of a block leave, what is left for the next, where that begins, and how
 // many bytes the answers have.
@@ -35,64 +20,10 @@ pub struct Gathered {
     pub written: usize,
 }
 
-// A line that has ended, with its answer at the start of `out`. `bytes` is for the bytes that it
-// carries.
-fn answer(
-    judge: Judge,
-    ended: bool,
-    line: &[u8],
-    held: Held,
-    bytes: &mut [u8],
-    out: &mut [u8],
-) -> Answered
-    requires { ⌜ (lineRoom ≤ length (now line)) × (bytesRoom ≤ length (now bytes)) × (answerRoom ≤ length (now out)) ⌝ }
-    ensures { λ r. ⌜ listOf (r .judge) (r .ended) ≡ heldStep callLines (listOf judge ended) (now (line .entry)) held .state ⌝ }
-    ensures text { λ r. ⌜ Wrote (now (out .entry)) 0 (heldStep callLines (listOf judge ended) (now (line .entry)) held .text) (now (out .exit)) (r .written) ⌝ }
-    ensures scratch { λ r. ⌜ Scratch (now (bytes .entry)) (now (bytes .exit)) ⌝ }
-{
-    if linetexts::skips(ended, line, held) {
-        let written = answers::put_skipped(out, 0);
-        return Answered {
-            judge,
-            ended,
-            written,
-        };
-    }
-    let run = linebuffer::run_held(judge, line, held, bytes);
-    let said = run.answer;
-    let ended = calltext::is_malformed(said);
-    let written = calltext::put_answer(out, said);
-    let judge = run.judge;
-    Answered {
-        judge,
-        ended,
-        written,
-    }
-}
-
-// Whether a line asks for the verdict in a list that goes on.
-fn asks_verdict(ended: bool, line: &[u8], held: Held) -> bool
-    ensures { λ r. ⌜ r ≡ (not ended && verdictAsked (heldMeaning (now (line .entry)) held)) ⌝ }
-{
-    if ended {
-        return false;
-    }
-    linebuffer::asks_verdict(line, held)
-}
-
-// The answer to a line that asks for the verdict.
-fn answer_verdict(judge: Judge, out: &mut [u8]) -> usize
-    requires { ⌜ answerRoom ≤ length (now out) ⌝ }
-    ensures { λ r. ⌜ Wrote (now (out .entry)) 0 (responseText (replied (judged (reportOf judge)))) (now (out .exit)) r ⌝ }
-{
-    let said = judge::ask_verdict(judge);
-    let answer = LineAnswer::Verdict(said);
-    calltext::put_answer(out, answer)
-}
-
 // The parts of a block from an index on, while there is room for their answers, which stand one
 // behind the other at the start of `out`. `line` keeps the line, `bytes` is for the bytes that it
-// carries. A line that asks for the verdict leaves the judge where it is: nothing is copied.
+// carries. Each line is read once. One that asks leaves the judge where it is; for the verdict nothing
+// is copied.
 pub fn gather(
     judge: Judge,
     pending: Pending,
@@ -121,16 +52,32 @@ pub fn gather(
         if !part.ends {
             continue;
         }
-        if asks_verdict(ended, line, held) {
-            written += answer_verdict(judge, &mut out[written..]);
+        if linetexts::skips(ended, line, held) {
+            written += answers::put_skipped(&mut out[written..], 0);
             held = longlines::nothing();
             continue;
         }
-        let answered = answer(judge, ended, line, held, bytes, &mut out[written..]);
-        judge = answered.judge;
-        ended = answered.ended;
-        written += answered.written;
+        let read = linebuffer::read_line(line, held);
+        let n = read.length;
+        let told = read.line;
         held = longlines::nothing();
+        match told {
+            TextLine::Verdict => {
+                ended = false;
+                written += linebuffer::ask_verdict(judge, &mut out[written..]);
+            }
+            TextLine::Asks(query) => {
+                let said = linebuffer::ask(judge, query, &line[..n], bytes, &mut out[written..]);
+                ended = said.ended;
+                written += said.written;
+            }
+            TextLine::Runs(parsed) => {
+                let run = linebuffer::run(judge, parsed, &line[..n], bytes, &mut out[written..]);
+                judge = run.judge;
+                ended = run.ended;
+                written += run.written;
+            }
+        }
     }
     let pending = Pending { held, ended };
     Gathered {
@@ -157,6 +104,21 @@ pub fn finish(
     if held.length == 0 {
         return 0;
     }
-    let last = answer(judge, pending.ended, line, held, bytes, out);
-    last.written
+    if linetexts::skips(pending.ended, line, held) {
+        return answers::put_skipped(out, 0);
+    }
+    let read = linebuffer::read_line(line, held);
+    let n = read.length;
+    let told = read.line;
+    match told {
+        TextLine::Verdict => linebuffer::ask_verdict(judge, out),
+        TextLine::Asks(query) => {
+            let said = linebuffer::ask(judge, query, &line[..n], bytes, out);
+            said.written
+        }
+        TextLine::Runs(parsed) => {
+            let run = linebuffer::run(judge, parsed, &line[..n], bytes, out);
+            run.written
+        }
+    }
 }
