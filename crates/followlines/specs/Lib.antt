@@ -1,0 +1,4 @@
+-- In the order in which to read them.
+pub mod Lines
+pub mod Answers
+pub mod Claims
