@@ -1,10 +1,10 @@
-//! A trace that comes in order, followed chunk by chunk. The follower keeps the whole text that came, and
+//! A trace that comes in order, followed chunk by chunk, and the lines of `tracefollow`. The follower keeps the whole text that came, and
 //! each answer is worked out anew from it.
 
-use crate::automata::automaton;
-use crate::checked::CheckedRule;
+use crate::automata::{automaton, file};
+use crate::checked::{read, CheckedRule};
 use crate::judge::{text, IDLE};
-use crate::lines::hex;
+use crate::lines::{answers_by, bytes, hex};
 use crate::random::Random;
 use crate::rule::{members, Automaton};
 
@@ -133,6 +133,68 @@ pub fn traces(seed: u64, count: u64) -> String {
         for _ in 0..r.range(1, 8) {
             let chunk = any_chunk(&mut r, &follower);
             lines += &format!("chunk {} {}\n", hex(&chunk), said(&follower.follow(&chunk)));
+        }
+    }
+    lines
+}
+
+/// What is said to a line of `tracefollow`, which keeps the trace of the last accepted rule; or none if the
+/// line is malformed.
+fn line_said(trace: &mut Option<Follower>, line: &[u8]) -> Option<String> {
+    let fields: Vec<&[u8]> = line.split(|&c| c == b' ').collect();
+    let answer = match fields.as_slice() {
+        [b"rule", file] => read(&bytes(file)?).and_then(|rule| Follower::new(&rule)).map(|begun| {
+            *trace = Some(begun);
+            "accepted".to_string()
+        }),
+        [b"next", chunk] => {
+            let chunk = bytes(chunk)?;
+            trace.as_mut().ok_or(20).and_then(|trace| trace.follow(&chunk)).map(|followed| line_of(&followed))
+        }
+        _ => return None,
+    };
+    Some(answer.unwrap_or_else(|number| format!("refused {number}")))
+}
+
+/// The line of a chunk that was followed: `lost B MASK`, `yes MASK` or `no MASK`.
+fn line_of(followed: &Followed) -> String {
+    let mask: u32 = followed.expected.iter().map(|s| 1 << s).sum();
+    match (followed.lost, followed.accepted) {
+        (Some(bytes), _) => format!("lost {bytes} {mask:04X}"),
+        (None, true) => format!("yes {mask:04X}"),
+        (None, false) => format!("no {mask:04X}"),
+    }
+}
+
+/// The answers to the lines of a text.
+pub fn answers(text: &[u8]) -> String {
+    answers_by(text, line_said)
+}
+
+/// Lists of lines for `tracefollow` under a seed: rules, some of them refused, and chunks; now and then a
+/// malformed line, and an empty one.
+pub fn lists(seed: u64, count: u64) -> String {
+    let mut lines = String::new();
+    for stream in 0..count {
+        let mut r = Random::new(seed, stream);
+        let a = automaton(&mut r);
+        let mut rule = file(&a);
+        if r.one_in(8) {
+            let at = r.below(rule.len());
+            rule[at] ^= 1 << r.below(8);
+        }
+        let mut trace = Follower { automaton: a, came: Vec::new() };
+        lines += &format!("rule {}\n", hex(&rule));
+        for _ in 0..r.range(1, 8) {
+            let chunk = any_chunk(&mut r, &trace);
+            let _ = trace.follow(&chunk);
+            lines += &format!("next {}\n", hex(&chunk));
+            if r.one_in(100) {
+                lines += "next 0\n";
+            }
+        }
+        if r.one_in(2) {
+            lines += "\n";
         }
     }
     lines

@@ -1,8 +1,8 @@
 //! A trace that comes in order, followed chunk by chunk.
 
-use reference::automata::{automaton, blank};
+use reference::automata::{automaton, blank, file};
 use reference::checked::CheckedRule;
-use reference::follow::{continues, Followed, Follower};
+use reference::follow::{answers, continues, Followed, Follower};
 use reference::judge::{Answer, Call, Judge};
 use reference::random::Random;
 use reference::rule::Automaton;
@@ -165,4 +165,33 @@ fn as_a_filled_board() {
         }
     }
     assert!(yes > 100 && no > 100, "{yes} {no}");
+}
+
+#[test]
+fn lines_of_tracefollow() {
+    let rule: String = file(&once()).iter().map(|byte| format!("{byte:02x}")).collect();
+    let begin = format!("rule {rule}");
+    let cases = [
+        ("next 00", "refused 20"),
+        (&begin, "accepted"),
+        ("next -", "no 0001"),
+        ("next FF00", "no 0002"),
+        ("next 02", "refused 13"),
+        ("rule 00", "refused 1"),
+        ("next 01", "yes 0000"),
+        ("next FF00", "lost 2 0000"),
+        ("next -", "lost 0 0000"),
+        (&begin, "accepted"),
+        ("next 0000", "lost 2 0002"),
+        ("next 0", "malformed"),
+        (&begin, "skipped"),
+        ("", ""),
+        ("next 00", "refused 20"),
+    ];
+    let text: String = cases.iter().map(|(line, _)| format!("{line}\n")).collect();
+    let due: String = cases.iter().map(|(_, answer)| format!("{answer}\n")).collect();
+    assert_eq!(answers(text.as_bytes()), due);
+    for line in ["next", "next ", "rule 0", "rule 00 ", " next 00", "Next 00", "next 00 00", "rule"] {
+        assert_eq!(answers(format!("{begin}\n{line}\nnext 00").as_bytes()), "accepted\nmalformed\nskipped\n", "{line}");
+    }
 }

@@ -20,6 +20,7 @@ pub mod Faults
 pub mod Losses
 pub mod FollowFunctions
 pub mod Following
+pub mod FollowingLines
 pub mod SummaryFunctions
 pub mod Summaries
 pub mod Comparing
