@@ -1,4 +1,4 @@
--- The lines worked by hand mean their ways: each is computed. Assumes nothing.
+-- The lines worked by hand mean their words: each is computed. Assumes nothing.
 use mathlib.Core.Path.{refl}
 use Rattle.lines.specs.Splitting.{begins, upTo, past}
 use Rattle.fields.specs.Bytes.{hexValue, allHex, pairs, parseBytes}
@@ -7,4 +7,4 @@ use Rattle.mergetext.specs.Worked.{WorkedLines}
 
 pub worked-lines : WorkedLines
 unfolding lineIn begins upTo past hexValue allHex pairs parseBytes
-worked-lines = (refl, refl, refl)
+worked-lines = (refl, refl, refl, refl, refl)
