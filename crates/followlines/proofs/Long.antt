@@ -9,12 +9,13 @@ use mathlib.Core.List.{List}
 use mathlib.Core.Option.{Option, some}
 use Prim.Native.Nat.{ℕ, _≤_, _<_}
 use native.Mathlib.Omega.{arith}
-use borrow.Author.Tests.{lt-ltb, le-ltb, ltb-true, ltb-false}
+use borrow.Author.Tests.{ltb-true, ltb-false}
 use lib.Dec.{ltb}
 use lib.ListN.{length, take}
 use lib.Seq.{take-all, length-take-le}
 use Rattle.base.proofs.Tests.{by-test}
-use Rattle.ruleformat.specs.Refusals.{tooShort, tooLong, refusal}
+use Rattle.ruleformat.specs.Refusals.{refusal}
+use Rattle.ruleformat.proofs.Refused.{from-1, not-short, long as file-long}
 use Rattle.follow.specs.declared.Follower.{Follower}
 use Rattle.follow.specs.Following.{Outcome as Following, refusedFollow, followByOf}
 use Rattle.follow.proofs.Ways.{long}
@@ -23,8 +24,7 @@ use Rattle.followcalls.specs.Calls.{refused, followerBy, begunReply, begunState
 use Rattle.followlines.specs.Lines.{callOf}
 
 long-refused : (f : List ℕ) → 65536 < length f → refusal f ≡ some 2
-unfolding refusal tooShort tooLong
-long-refused f h = rw (le-ltb (length f) 10 (omega arith), lt-ltb 32906 (length f) (omega arith))
+long-refused f h = from-1 f ∙ rw (not-short f (omega arith), file-long f (omega arith))
 
 chunk-refused : (p : Follower) (m : ℕ) (w : List ℕ) → 65536 < length w → followByOf p m w ≡ refusedFollow 12
 unfolding followByOf
