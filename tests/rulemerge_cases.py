@@ -2,10 +2,11 @@
 """Writes the cases of the program rulemerge: crates/rulemerge/stdin and stdout. With --check it
 writes nothing and says whether they are what it would write.
 
-A case is a line, `both HEX HEX`, `either HEX HEX` or `interleaving HEX HEX`. Its answer is computed
-here from the words of document 02, R-10, and of document 01, "The rule file" (reading:
-tests/rulefile_cases.py), and shares nothing with the Rattle code: a rule is its sets of states and
-arcs, no masks. What each result accepts is compared with what its way says, for every short text.
+A case is a line, `both HEX HEX`, `either HEX HEX`, `interleaving HEX HEX`, `compare HEX HEX` or `reduce
+HEX`. Its answer is computed here from the words of document 02, R-10, of docs/PROGRAMS.md, and of
+document 01, "The rule file" (reading: tests/rulefile_cases.py), and shares nothing with the Rattle
+code: a rule is its sets of states and arcs, no masks. What each result accepts is compared with what
+its word says, for every short text.
 """
 import itertools
 import os
@@ -13,6 +14,7 @@ import re
 import sys
 
 from rulefile_cases import A, B, FULL, ONE, answer as reading, patched, rule
+from ruleprint_cases import Refused as TooManySets, alike, many_sets, number_sets
 
 HERE = os.path.dirname(os.path.abspath(__file__))
 CRATE = os.path.join(HERE, "..", "crates", "rulemerge")
@@ -36,6 +38,13 @@ class Rule:
 
         sections = [sorted((s, t) for p, s, t in self.arcs if p == q) for q in range(self.n)]
         return rule(self.n, self.k, mask(self.initial), mask(self.final), sections)
+
+    def targets(self):
+        """The targets of each state and symbol, as tests/ruleprint_cases.py has them."""
+        found = {}
+        for q, s, t in self.arcs:
+            found.setdefault((q, s), set()).add(t)
+        return found
 
     def accepts(self, text):
         reached = self.initial
@@ -107,23 +116,105 @@ def check_language(way, a, b, result):
             assert result.accepts(text) == due, (way, text)
 
 
-def answer(line):
-    fields = line.split(b" ")
-    if len(fields) != 3 or fields[0].decode("latin-1") not in WAYS or not all(FIELD.fullmatch(f) for f in fields[1:]):
-        return "malformed"
-    way, files = fields[0].decode(), [b"" if f == b"-" else bytes.fromhex(f.decode()) for f in fields[1:]]
+def compare(a, b):
+    """Texts by length and then by symbols, one for each pair of sets that texts lead to; the first on which the rules
+    differ, or 45 where 513 pairs are reached before."""
+    if a.k != b.k:
+        raise Refused(36)
+    start = frozenset(a.initial), frozenset(b.initial)
+    waiting, seen = [(start, b"")], {start}
+    for at, (pair, text) in enumerate(waiting):
+        if at == 512:
+            raise Refused(45)
+        first, second = bool(pair[0] & a.final), bool(pair[1] & b.final)
+        if first != second:
+            assert a.accepts(text) == first and b.accepts(text) == second
+            return f"apart {'first' if first else 'second'} {text.hex().upper() or '-'}"
+        for s in range(a.k):
+            onward = tuple(frozenset(t for q, x, t in r.arcs if x == s and q in m) for r, m in zip((a, b), pair))
+            if onward not in seen:
+                seen.add(onward)
+                waiting.append((onward, text + bytes([s])))
+    return "same"
+
+
+def sets_over(a):
+    """Whether there are over 512 sets, by the procedure of document 01."""
     try:
-        a, b = read(files[0]), read(files[1])
-        result = merge(way, a, b)
-    except Refused as refused:
-        return f"refused {refused}"
+        number_sets(a.n, a.k, a.targets())
+    except TooManySets:
+        return True
+    return False
+
+
+def reduce(a):
+    """Only states that are reached from an initial one and lead to a final one stay, of those alike the lowest reached
+    one, in their order; one state without arcs where none stays."""
+    if sets_over(a):
+        raise Refused(9)
+    finals, targets = a.final, a.targets()
+    reached = closed(a.initial, lambda q: {t for p, _, t in a.arcs if p == q})
+    hopeful = {q for q in range(a.n) if closed({q}, lambda p: {t for x, _, t in a.arcs if x == p}) & finals}
+    stands = {q: next(iter(sorted(p for p in reached if alike(a.k, finals, targets, p, q))), None) for q in hopeful}
+
+    def image(states):
+        return {stands[q] for q in states if stands.get(q) is not None}
+
+    arcs = {(p, s, t) for p in range(a.n) for s in range(a.k) for t in image({t for q, x, t in a.arcs if (q, x) == (p, s)})}
+    initial = image(a.initial)
+    kept = sorted(closed(initial, lambda q: {t for p, _, t in arcs if p == q}))
+    if not kept:
+        return Rule(1, a.k, (), (), ())
+    new = {q: i for i, q in enumerate(kept)}
+    kept_arcs = {(new[p], s, new[t]) for p, s, t in arcs if p in new}
+    return Rule(len(kept), a.k, (new[q] for q in initial), (new[q] for q in kept if q in finals), kept_arcs)
+
+
+def closed(first, onward):
+    """The states that are reached from the first ones, those too."""
+    found, waiting = set(first), list(first)
+    while waiting:
+        more = onward(waiting.pop()) - found
+        found |= more
+        waiting += more
+    return found
+
+
+def check_reduced(a, result):
+    for length in range(4 if a.k < 3 else 2):
+        for text in itertools.product(range(a.k), repeat=length):
+            assert a.accepts(text) == result.accepts(text), text
+
+
+def made_one(way, a, b):
+    result = merge(way, a, b)
     if len(result.arcs) < 2000:
         check_language(way, a, b, result)
     return result.file().hex().upper()
 
 
-def line(way, f, g):
-    return f"{way} {f.hex() or '-'} {g.hex() or '-'}".encode()
+def made_smaller(a):
+    result = reduce(a)
+    check_reduced(a, result)
+    return result.file().hex().upper()
+
+
+def answer(line):
+    word, *fields = line.decode("latin-1").split(" ")
+    count = {"compare": 2, "reduce": 1, **dict.fromkeys(WAYS, 2)}.get(word)
+    if len(fields) != count or not all(FIELD.fullmatch(f.encode("latin-1")) for f in fields):
+        return "malformed"
+    try:
+        rules = [read(b"" if f == "-" else bytes.fromhex(f)) for f in fields]
+        if word == "compare":
+            return compare(*rules)
+        return made_smaller(*rules) if word == "reduce" else made_one(word, *rules)
+    except Refused as refused:
+        return f"refused {refused}"
+
+
+def line(word, *files):
+    return " ".join([word, *(f.hex() or "-" for f in files)]).encode()
 
 
 def made(seed, count):
@@ -182,6 +273,26 @@ def refused():
     yield line("interleaving", plain(32, 2), patched(A, 6, 8))
 
 
+def others():
+    """Comparing and reducing: worked, refused, malformed, and rules made at random."""
+    worse = rule(3, 2, 1, 4, [[(0, 0), (0, 1), (1, 0)], [(1, 2)], [(0, 0)]])    # rule A with an arc more
+    dead = rule(4, 2, 1, 4, [[(0, 1), (1, 3)], [(1, 2)], [], [(0, 3)]])        # 0 1, and a state that leads nowhere
+    never = rule(2, 2, 1, 2, [[(0, 0)], [(1, 1)]])                              # no text at all
+    far = [rule(32, 1, 1, 1 << n, [[(0, q + 1)] for q in range(31)] + [[]]) for n in (30, 31)]
+    for f, g in ((A, A), (A, EVEN), (EVEN, A), (A, worse), (worse, A), (dead, A), (never, never), (never, A), (B, B), (LOOPS, LOOPS), far):
+        yield line("compare", f, g)
+        yield line("reduce", f)
+    yield from (line("compare", *files) for files in ((ONE, B), (A, b""), (b"", A), (A, ONE), (FULL, LOOPS), (FULL, FULL + b"\0")))
+    yield from (line("reduce", f) for f in (b"", A[:9], patched(A, 0, 33), patched(A, 1, 17), A[:21], patched(A, 6, 8), A[:29], patched(A, 29, 3), FULL + b"\0", FULL))
+    yield from (line("reduce", many_sets(4)), line("reduce", many_sets(5)), line("compare", many_sets(5), many_sets(5)))
+    for f, g in made(11, 40):
+        yield from (line("compare", f, g), line("reduce", f), line("reduce", g))
+    yield from (b"compare", b"compare ", b"compare -", b"compare - ", b"compare -  -", b"compare - - -", b"compare - 0", b"compare 0 -", b"compar - -")
+    yield from (b"compares - -", b"Compare - -", b"compare- -", b"reduce", b"reduce ", b"reduce - -", b"reduce -  ", b"reduce  -", b"reduce 0", b"reduce - ")
+    yield from (b"reduc -", b"reduces -", b"Reduce -", b"r -", b"c - -", b"reduce " + HEX_A[:-1], b"reduce " + HEX_A + b" ", b"compare " + HEX_A + b" x")
+    yield b"reduce " + FULL.hex().encode() + b"000"
+
+
 def outside():
     yield from (b"", b"both", b"both ", b"both -", b"both - ", b"both  -", b"either -  -", b"both - - ", b" both - -")
     yield from (b"Both - -", b"bot - -", b"bothh - -", b"eithe - -", b"either- -", b"interleave - -", b"interleaving", b"join - -")
@@ -196,6 +307,7 @@ def main():
     lines = [*worked(), *sizes(), *refused(), *outside(), *(line(WAYS[i % 3], *files) for i, files in enumerate(made(10, 42)))]
     # the largest file that there is, and a byte more
     lines += [line("both", FULL, LOOPS), line("either", FULL + b"\0", A), line("interleaving", A, FULL + b"\0")]
+    lines += others()
     # the last line may end with the input
     lines.append(b"both " + HEX_A.upper() + b" " + HEX_EVEN)
     expected = "".join(answer(x) + "\n" for x in lines)

@@ -1,8 +1,10 @@
-//! Two rules made one, and the lines of `rulemerge`.
+//! Two rules made one, and the lines of `rulemerge`, which compares and reduces too.
 
 use crate::automata::file;
 use crate::checked::{read, CheckedRule};
-use crate::lines::bytes;
+use crate::differences::{compare, Comparison};
+use crate::lines::{bytes, hex};
+use crate::reductions::reduce;
 use crate::rule::{members, Automaton};
 
 /// The texts of the result: those that both accept, those that either accepts, the interleavings of
@@ -67,24 +69,40 @@ fn merged_file(way: Way, one: &[u8], two: &[u8]) -> Result<Vec<u8>, u32> {
     Ok(file(&merge(way, &one, &two)?.automaton()?))
 }
 
-/// The way and the two files that a line has, or none if the line is malformed.
-fn parse(line: &[u8]) -> Option<(Way, Vec<u8>, Vec<u8>)> {
+/// The first file is read, then the second, then they are compared.
+fn compared_files(one: &[u8], two: &[u8]) -> Result<String, u32> {
+    let (one, two) = (read(one)?, read(two)?);
+    Ok(match compare(&one, &two)? {
+        Comparison::FirstAlone(text) => format!("apart first {}", hex(&text)),
+        Comparison::SecondAlone(text) => format!("apart second {}", hex(&text)),
+        Comparison::Same => "same".to_string(),
+    })
+}
+
+/// A file is read, and then reduced.
+fn reduced_file(one: &[u8]) -> Result<Vec<u8>, u32> {
+    Ok(file(&reduce(&read(one)?)?.rule.automaton()?))
+}
+
+/// What a line is answered, or refused with; or none if it is malformed.
+fn said(line: &[u8]) -> Option<Result<String, u32>> {
     let fields: Vec<&[u8]> = line.split(|&c| c == b' ').collect();
-    let [word, one, two] = fields.as_slice() else { return None };
-    let way = match *word {
-        b"both" => Way::Both,
-        b"either" => Way::Either,
-        b"interleaving" => Way::Interleaving,
-        _ => return None,
-    };
-    Some((way, bytes(one)?, bytes(two)?))
+    let merged = |way: Way, one: &[u8], two: &[u8]| Some(merged_file(way, &bytes(one)?, &bytes(two)?).map(|made| hex(&made)));
+    match fields.as_slice() {
+        [b"both", one, two] => merged(Way::Both, one, two),
+        [b"either", one, two] => merged(Way::Either, one, two),
+        [b"interleaving", one, two] => merged(Way::Interleaving, one, two),
+        [b"compare", one, two] => Some(compared_files(&bytes(one)?, &bytes(two)?)),
+        [b"reduce", one] => Some(reduced_file(&bytes(one)?).map(|made| hex(&made))),
+        _ => None,
+    }
 }
 
 /// The answer to a line.
 pub fn answer(line: &[u8]) -> String {
-    let Some((way, one, two)) = parse(line) else { return "malformed".to_string() };
-    match merged_file(way, &one, &two) {
-        Ok(file) => file.iter().map(|byte| format!("{byte:02X}")).collect(),
-        Err(number) => format!("refused {number}"),
+    match said(line) {
+        None => "malformed".to_string(),
+        Some(Ok(answer)) => answer,
+        Some(Err(number)) => format!("refused {number}"),
     }
 }

@@ -148,3 +148,25 @@ fn lines_and_files() {
         assert_eq!(answer(line.as_bytes()), "malformed", "{line:?}");
     }
 }
+
+#[test]
+fn comparing_and_reducing_lines() {
+    let hex = |file: Vec<u8>| file.iter().map(|byte| format!("{byte:02x}")).collect::<String>();
+    let (even, ends) = (hex(file(&e())), hex(file(&a())));
+    // the empty text has an even number of 0s, and does not end in 0 and then 1
+    let cases = [
+        (format!("compare {even} {ends}"), "apart first -".to_string()),
+        (format!("compare {ends} {even}"), "apart second -".to_string()),
+        (format!("compare {ends} {}", ends.to_uppercase()), "same".to_string()),
+        (format!("compare {ends} -"), "refused 1".to_string()),
+        (format!("compare - {ends}"), "refused 1".to_string()),
+        (format!("reduce {ends}"), ends.to_uppercase()),
+        ("reduce -".to_string(), "refused 1".to_string()),
+        (format!("reduce {ends} {ends}"), "malformed".to_string()),
+        (format!("compare {ends}"), "malformed".to_string()),
+        ("reduce".to_string(), "malformed".to_string()),
+    ];
+    for (line, due) in cases {
+        assert_eq!(answer(line.as_bytes()), due, "{line}");
+    }
+}

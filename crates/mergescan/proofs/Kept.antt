@@ -1,8 +1,8 @@
 -- What the code keeps of a line. Assumes nothing.
 --
---   begin-both, ..              the ways out of `begin`, `letter`, `word_on` and `end_first`
+--   begin-both, by-way, ..      the ways out of `begin`, `letter`, `word_on` and `end_first`
 --   from-start, from-word, ..   a byte more, by what was kept
---   second-merges, ..           the line has ended
+--   second-put, first-put, ..   the line has ended
 --   all-on, all-over            bytes, one after the other
 use mathlib.Core.Path.{_≡_, refl, sym, ap, _∙_, subst}
 use mathlib.Core.Bool.{true, cond}
@@ -14,7 +14,7 @@ use native.Mathlib.Omega.{arith}
 use borrow.Author.Tests.{eq-eqb, ne-eqb, eqb-true, eqb-false, lt-ltb, le-ltb, ltb-true, ltb-false}
 use lib.Dec.{eqb, ltb}
 use lib.ListN.{length, getD, take, drop, length-drop, drop-of-length-le}
-use lib.Seq.{take-all, drop-cons}
+use lib.Seq.{take-all, drop-cons, length-take-le}
 use Rattle.base.proofs.Tests.{by-test}
 use Rattle.text.specs.Writing.{Wrote}
 use Rattle.answers.specs.Answers.{malformedText}
@@ -28,12 +28,14 @@ use Rattle.hexfields.specs.Reading.{PartRead, readOf, keeps-nothing, ReadsOn, e
 use Rattle.hexfields.proofs.Kept as field
 use Rattle.merging.specs.declared.Way.{Way}
 use Rattle.merging.specs.declared.Way.the-variants.{Both, Either, Interleaving}
-use Rattle.mergetext.specs.Lines.{wordOf, Meaning}
-use Rattle.mergetext.specs.Answers.{mergedFiles, responseIn, responseText}
+use Rattle.mergetext.specs.declared.Verb.{Verb}
+use Rattle.mergetext.specs.declared.Verb.the-variants.{Merge, Compare, Reduce}
+use Rattle.mergetext.specs.Lines.{wordOf, verbWord, Meaning, pairBy, aloneBy}
+use Rattle.mergetext.specs.Answers.{responseIn, responseText}
 use Rattle.mergescan.specs.declared.Scan.{Scan}
 use Rattle.mergescan.specs.declared.Scan.the-variants as scan
 use Rattle.mergescan.specs.Lines.{Seen, stray, firstByte, wordGoesOn, afterFirst, seenWith}
-use Rattle.mergescan.specs.Scanning.{beginOf, wordAfter, secondAfter, Scanned, scanned, scanBy, scanOf, KeepsLine, keeps-start, keeps-word, keeps-first, keeps-second, keeps-stray, ScansOn, secondHeld, heldMeaning, scanAll}
+use Rattle.mergescan.specs.Scanning.{beginOf, wordAfter, secondAfter, Scanned, scanned, scanBy, scanOf, KeepsLine, keeps-start, keeps-word, keeps-first, keeps-second, keeps-stray, ScansOn, secondHeld, firstHeld, heldMeaning, scanAll}
 
 -- as many as there are
 take-most : (n : ℕ) (l : List ℕ) → take (min n (length l)) l ≡ take n l
@@ -45,92 +47,101 @@ take-most n l =
     let m : min n (length l) ≡ length l = omega arith in
     ap (λ (i : ℕ). take i l) m ∙ take-all (length l) l (omega arith) ∙ sym (take-all n l h))
 
+-- the first bytes of a buffer
+pub prefix : (k n : ℕ) (l : List ℕ) → k ≡ min n (length l) → k ≡ length (take k l)
+prefix k n l e = sym (length-take-le k l (omega arith))
+
 -- ---- `begin`
 module _ (c : ℕ) where
-  pub begin-both : c ≡ 98 → scan.Word Both 1 ≡ beginOf c
+  pub begin-both : c ≡ 98 → scan.Word (Merge Both) 1 ≡ beginOf c
   begin-both e = rw e
 
-  pub begin-either : c ≡ 101 → scan.Word Either 1 ≡ beginOf c
+  pub begin-either : c ≡ 101 → scan.Word (Merge Either) 1 ≡ beginOf c
   begin-either e = rw e
 
-  pub begin-interleaving : c ≡ 105 → scan.Word Interleaving 1 ≡ beginOf c
+  pub begin-interleaving : c ≡ 105 → scan.Word (Merge Interleaving) 1 ≡ beginOf c
   begin-interleaving e = rw e
 
-  pub begin-stray : (c ≡ 98 → ⊥) → (c ≡ 101 → ⊥) → (c ≡ 105 → ⊥) → scan.Stray ≡ beginOf c
-  begin-stray b e i = rw (ne-eqb c 98 b, ne-eqb c 101 e, ne-eqb c 105 i)
+  pub begin-compare : c ≡ 99 → scan.Word Compare 1 ≡ beginOf c
+  begin-compare e = rw e
 
--- ---- `letter`
-module _ (way : Way) (at r : ℕ) where
-  pub letter-both : way ≡ Both → r ≡ getD (wordOf Both) at 0 → r ≡ getD (wordOf way) at 0
-  letter-both e is = rw e is
+  pub begin-reduce : c ≡ 114 → scan.Word Reduce 1 ≡ beginOf c
+  begin-reduce e = rw e
 
-  pub letter-either : way ≡ Either → r ≡ getD (wordOf Either) at 0 → r ≡ getD (wordOf way) at 0
-  letter-either e is = rw e is
+  pub begin-stray : (c ≡ 98 → ⊥) → (c ≡ 101 → ⊥) → (c ≡ 105 → ⊥) → (c ≡ 99 → ⊥) → (c ≡ 114 → ⊥) → scan.Stray ≡ beginOf c
+  begin-stray b e i m r = rw (ne-eqb c 98 b, ne-eqb c 101 e, ne-eqb c 105 i, ne-eqb c 99 m, ne-eqb c 114 r)
 
-  pub letter-interleaving : way ≡ Interleaving → r ≡ getD (wordOf Interleaving) at 0 → r ≡ getD (wordOf way) at 0
-  letter-interleaving e is = rw e is
+-- ---- `way_letter` and `letter`
+pub by-way : (way one : Way) (at r : ℕ) → way ≡ one → r ≡ getD (wordOf one) at 0 → r ≡ getD (wordOf way) at 0
+by-way way one at r e is = rw e is
+
+pub by-verb : (verb one : Verb) (at r : ℕ) → verb ≡ one → r ≡ getD (verbWord one) at 0 → r ≡ getD (verbWord verb) at 0
+by-verb verb one at r e is = rw e is
+
+-- ---- `last_letter`
+pub last-by : (verb one : Verb) (r : ℕ) → verb ≡ one → length (verbWord one) ≡ r + 1 → length (verbWord verb) ≡ r + 1
+last-by verb one r e is = rw e is
 
 -- ---- `word_on`
-module _ (way : Way) (at c l : ℕ) (letter : l ≡ getD (wordOf way) at 0) where
-  pub word-stray : (c ≡ l → ⊥) → scan.Stray ≡ wordAfter way at c
-  word-stray d = rw (ne-eqb c (getD (wordOf way) at 0) (λ e. d (e ∙ sym letter)))
+module _ (verb : Verb) (at c l : ℕ) (letter : l ≡ getD (verbWord verb) at 0) where
+  pub word-stray : (c ≡ l → ⊥) → scan.Stray ≡ wordAfter verb at c
+  word-stray d = rw (ne-eqb c (getD (verbWord verb) at 0) (λ e. d (e ∙ sym letter)))
 
-  module _ (same : c ≡ l) (last : ℕ) (long : length (wordOf way) ≡ last + 1) where
-    is-letter : eqb c (getD (wordOf way) at 0) ≡ true
-    is-letter = eq-eqb c (getD (wordOf way) at 0) (same ∙ letter)
+  module _ (same : c ≡ l) (last : ℕ) (long : length (verbWord verb) ≡ last + 1) where
+    is-letter : eqb c (getD (verbWord verb) at 0) ≡ true
+    is-letter = eq-eqb c (getD (verbWord verb) at 0) (same ∙ letter)
 
-    pub word-more : at < last → scan.Word way (at + 1) ≡ wordAfter way at c
-    word-more h = rw (is-letter, lt-ltb (at + 1) (length (wordOf way)) (omega arith))
+    pub word-more : at < last → scan.Word verb (at + 1) ≡ wordAfter verb at c
+    word-more h = rw (is-letter, lt-ltb (at + 1) (length (verbWord verb)) (omega arith))
 
-    pub word-ends : last ≤ at → scan.First way part.Nothing ≡ wordAfter way at c
-    word-ends h = rw (is-letter, le-ltb (at + 1) (length (wordOf way)) (omega arith))
+    pub word-ends : last ≤ at → scan.First verb part.Nothing ≡ wordAfter verb at c
+    word-ends h = rw (is-letter, le-ltb (at + 1) (length (verbWord verb)) (omega arith))
 
 -- ---- `end_first`
-module _ (way : Way) (p : Part) (x : Bytes) (says : bytesMeans x ≡ endOf p) where
-  pub first-ends : (n : ℕ) → x ≡ Put n → scan.Second way n part.Nothing ≡ secondAfter way (endOf p)
-  first-ends n e = ap (secondAfter way) (sym (ap bytesMeans e) ∙ says)
+module _ (verb : Verb) (p : Part) (x : Bytes) (says : bytesMeans x ≡ endOf p) where
+  pub first-ends : (n : ℕ) → x ≡ Put n → scan.Second verb n part.Nothing ≡ secondAfter verb (endOf p)
+  first-ends n e = ap (secondAfter verb) (sym (ap bytesMeans e) ∙ says)
 
-  pub first-stray : x ≡ Malformed → scan.Stray ≡ secondAfter way (endOf p)
-  first-stray e = ap (secondAfter way) (sym (ap bytesMeans e) ∙ says)
+  pub first-stray : x ≡ Malformed → scan.Stray ≡ secondAfter verb (endOf p)
+  first-stray e = ap (secondAfter verb) (sym (ap bytesMeans e) ∙ says)
 
 -- ---- a byte more
 module _ (one two : List ℕ) where
   -- the first byte
   begun : (c : ℕ) → KeepsLine (firstByte c) (beginOf c) one two
   begun c =
-      by-test (eqb c 98)
-      (λ e. rw e (keeps-word refl))
-      (λ e.
-      by-test (eqb c 101)
-      (λ f. rw (e, f) (keeps-word refl))
-      (λ f. by-test (eqb c 105) (λ g. rw (e, f, g) (keeps-word refl)) (λ g. rw (e, f, g) keeps-stray)))
+      by-test (eqb c 98) (λ t. rw t (keeps-word refl)) (λ e.
+      by-test (eqb c 101) (λ t. rw (e, t) (keeps-word refl)) (λ f.
+      by-test (eqb c 105) (λ t. rw (e, f, t) (keeps-word refl)) (λ g.
+      by-test (eqb c 99) (λ t. rw (e, f, g, t) (keeps-word refl)) (λ h.
+      by-test (eqb c 114) (λ t. rw (e, f, g, h, t) (keeps-word refl)) (λ i. rw (e, f, g, h, i) keeps-stray)))))
 
   -- a byte of the word: w is the word, of which x and the rest are still to come
-  module _ (way : Way) (at x c : ℕ) where
-    word-kept : (rest : List ℕ) → getD (wordOf way) at 0 ≡ x → drop (suc at) (wordOf way) ≡ rest → length (wordOf way) ≡ suc (at + length rest)
-        → KeepsLine (cond (eqb c x) (wordGoesOn way rest) stray) (wordAfter way at c) one two
+  module _ (verb : Verb) (at x c : ℕ) where
+    word-kept : (rest : List ℕ) → getD (verbWord verb) at 0 ≡ x → drop (suc at) (verbWord verb) ≡ rest → length (verbWord verb) ≡ suc (at + length rest)
+        → KeepsLine (cond (eqb c x) (wordGoesOn verb rest) stray) (wordAfter verb at c) one two
     word-kept [] is behind long =
         by-test (eqb c x)
-        (λ t. rw (is, t, le-ltb (at + 1) (length (wordOf way)) (omega arith)) (keeps-first keeps-nothing))
+        (λ t. rw (is, t, le-ltb (at + 1) (length (verbWord verb)) (omega arith)) (keeps-first keeps-nothing))
         (λ t. rw (is, t) keeps-stray)
     word-kept (y ∷ rest) is behind long =
         by-test (eqb c x)
-        (λ t. rw (is, t, lt-ltb (at + 1) (length (wordOf way)) (omega arith)) (let next : drop (at + 1) (wordOf way) ≡ y ∷ rest = rw add-one behind in keeps-word next))
+        (λ t. rw (is, t, lt-ltb (at + 1) (length (verbWord verb)) (omega arith)) (let next : drop (at + 1) (verbWord verb) ≡ y ∷ rest = rw add-one behind in keeps-word next))
         (λ t. rw (is, t) keeps-stray)
 
-    word-goes-on : (rest : List ℕ) → drop at (wordOf way) ≡ x ∷ rest
-        → KeepsLine (cond (eqb c x) (wordGoesOn way rest) stray) (wordAfter way at c) one two
+    word-goes-on : (rest : List ℕ) → drop at (verbWord verb) ≡ x ∷ rest
+        → KeepsLine (cond (eqb c x) (wordGoesOn verb rest) stray) (wordAfter verb at c) one two
     word-goes-on rest e =
-        let long : length (wordOf way) ≡ suc (at + length rest) = omega (arith, length-drop at (wordOf way), ap length e) in
-        let cut = drop-cons (wordOf way) at 0 (omega arith) in
-        let is : getD (wordOf way) at 0 ≡ x = cc in
-        let behind : drop (suc at) (wordOf way) ≡ rest = cc in
+        let long : length (verbWord verb) ≡ suc (at + length rest) = omega (arith, length-drop at (verbWord verb), ap length e) in
+        let cut = drop-cons (verbWord verb) at 0 (omega arith) in
+        let is : getD (verbWord verb) at 0 ≡ x = cc in
+        let behind : drop (suc at) (verbWord verb) ≡ rest = cc in
         word-kept rest is behind long
 
   -- the space behind the first field
-  space-kept : (way : Way) (o : Option (List ℕ)) (said : Option ℕ) → Tells o said one → KeepsLine (afterFirst way o) (secondAfter way said) one two
-  space-kept way none said t = rw t keeps-stray
-  space-kept way (some f) said t = rw (t .1) (keeps-second (t .2) keeps-nothing)
+  space-kept : (verb : Verb) (o : Option (List ℕ)) (said : Option ℕ) → Tells o said one → KeepsLine (afterFirst verb o) (secondAfter verb said) one two
+  space-kept verb none said t = rw t keeps-stray
+  space-kept verb (some f) said t = rw (t .1) (keeps-second (t .2) keeps-nothing)
 
   module _ (s r : Scan) (c : ℕ) where
     -- the buffers stay as they are
@@ -147,17 +158,17 @@ module _ (one two : List ℕ) where
         by-case : (seen : Seen) → KeepsLine seen scan.Start one two → KeepsLine (seenWith seen c) r one two
         by-case seen keeps-start = rw is (begun c)
 
-    from-word : (way : Way) (at : ℕ) → s ≡ scan.Word way at → r ≡ wordAfter way at c → ScansOn one two s c one two r
-    from-word way at e is = stays (scan.Word way at) e by-case
+    from-word : (verb : Verb) (at : ℕ) → s ≡ scan.Word verb at → r ≡ wordAfter verb at c → ScansOn one two s c one two r
+    from-word verb at e is = stays (scan.Word verb at) e by-case
       where
-        by-case : (seen : Seen) → KeepsLine seen (scan.Word way at) one two → KeepsLine (seenWith seen c) r one two
-        by-case seen (keeps-word {x} {rest} there) = rw is (word-goes-on way at x c rest there)
+        by-case : (seen : Seen) → KeepsLine seen (scan.Word verb at) one two → KeepsLine (seenWith seen c) r one two
+        by-case seen (keeps-word {x} {rest} there) = rw is (word-goes-on verb at x c rest there)
 
-    from-space : (way : Way) (p : Part) → s ≡ scan.First way p → c ≡ 32 → r ≡ secondAfter way (endOf p) → ScansOn one two s c one two r
-    from-space way p e sp is = stays (scan.First way p) e by-case
+    from-space : (verb : Verb) (p : Part) → s ≡ scan.First verb p → c ≡ 32 → r ≡ secondAfter verb (endOf p) → ScansOn one two s c one two r
+    from-space verb p e sp is = stays (scan.First verb p) e by-case
       where
-        by-case : (seen : Seen) → KeepsLine seen (scan.First way p) one two → KeepsLine (seenWith seen c) r one two
-        by-case seen (keeps-first {b} k) = rw (eq-eqb c 32 sp, is) (space-kept way (saysNow b) (endOf p) (field.told b p one k))
+        by-case : (seen : Seen) → KeepsLine seen (scan.First verb p) one two → KeepsLine (seenWith seen c) r one two
+        by-case seen (keeps-first {b} k) = rw (eq-eqb c 32 sp, is) (space-kept verb (saysNow b) (endOf p) (field.told b p one k))
 
     from-stray : s ≡ scan.Stray → r ≡ scan.Stray → ScansOn one two s c one two r
     from-stray e is = stays scan.Stray e by-case
@@ -165,25 +176,25 @@ module _ (one two : List ℕ) where
         by-case : (seen : Seen) → KeepsLine seen scan.Stray one two → KeepsLine (seenWith seen c) r one two
         by-case seen keeps-stray = rw is keeps-stray
 
-  module _ (s : Scan) (c : ℕ) (way : Way) (p q : Part) where
-    from-first : s ≡ scan.First way p → (c ≡ 32 → ⊥) → (after : List ℕ) → ReadsOn one p c after q → ScansOn one two s c after two (scan.First way q)
+  module _ (s : Scan) (c : ℕ) (verb : Verb) (p q : Part) where
+    from-first : s ≡ scan.First verb p → (c ≡ 32 → ⊥) → (after : List ℕ) → ReadsOn one p c after q → ScansOn one two s c after two (scan.First verb q)
     from-first e sp after reads = record {
       size-one = reads .same-size;
       size-two = refl;
       goes-on = λ seen k. by-case seen (subst (λ (x : Scan). KeepsLine seen x one two) e k);
     }
       where
-        by-case : (seen : Seen) → KeepsLine seen (scan.First way p) one two → KeepsLine (seenWith seen c) (scan.First way q) after two
+        by-case : (seen : Seen) → KeepsLine seen (scan.First verb p) one two → KeepsLine (seenWith seen c) (scan.First verb q) after two
         by-case seen (keeps-first {b} k) = rw (ne-eqb c 32 sp) (keeps-first (reads .goes-on b k))
 
-    from-second : (n : ℕ) → s ≡ scan.Second way n p → (after : List ℕ) → ReadsOn two p c after q → ScansOn one two s c one after (scan.Second way n q)
+    from-second : (n : ℕ) → s ≡ scan.Second verb n p → (after : List ℕ) → ReadsOn two p c after q → ScansOn one two s c one after (scan.Second verb n q)
     from-second n e after reads = record {
       size-one = refl;
       size-two = reads .same-size;
       goes-on = λ seen k. by-case seen (subst (λ (x : Scan). KeepsLine seen x one two) e k);
     }
       where
-        by-case : (seen : Seen) → KeepsLine seen (scan.Second way n p) one two → KeepsLine (seenWith seen c) (scan.Second way n q) one after
+        by-case : (seen : Seen) → KeepsLine seen (scan.Second verb n p) one two → KeepsLine (seenWith seen c) (scan.Second verb n q) one after
         by-case seen (keeps-second {b} kf k) = keeps-second kf (reads .goes-on b k)
 
 -- ---- what the code does with it, on any value
@@ -191,19 +202,19 @@ module _ (one two : List ℕ) (s : Scan) (c : ℕ) where
   pub scan-start : (r : Scan) → s ≡ scan.Start → r ≡ beginOf c → scanned r one two ≡ scanBy s one two c
   scan-start r e is = rw (e, is)
 
-  pub scan-word : (r : Scan) (way : Way) (at : ℕ) → s ≡ scan.Word way at → r ≡ wordAfter way at c → scanned r one two ≡ scanBy s one two c
-  scan-word r way at e is = rw (e, is)
+  pub scan-word : (r : Scan) (verb : Verb) (at : ℕ) → s ≡ scan.Word verb at → r ≡ wordAfter verb at c → scanned r one two ≡ scanBy s one two c
+  scan-word r verb at e is = rw (e, is)
 
-  pub scan-space : (r : Scan) (way : Way) (p : Part) → s ≡ scan.First way p → c ≡ 32 → r ≡ secondAfter way (endOf p) → scanned r one two ≡ scanBy s one two c
-  scan-space r way p e sp is = rw (e, is, eq-eqb c 32 sp)
+  pub scan-space : (r : Scan) (verb : Verb) (p : Part) → s ≡ scan.First verb p → c ≡ 32 → r ≡ secondAfter verb (endOf p) → scanned r one two ≡ scanBy s one two c
+  scan-space r verb p e sp is = rw (e, is, eq-eqb c 32 sp)
 
-  pub scan-first : (way : Way) (p q : Part) → s ≡ scan.First way p → (c ≡ 32 → ⊥) → (after : List ℕ) → record { part = q; buffer = after } ≡ readOf one p c
-      → scanned (scan.First way q) after two ≡ scanBy s one two c
-  scan-first way p q e sp after reads = rw (e, ne-eqb c 32 sp) (ap (λ (x : PartRead). scanned (scan.First way (x .part)) (x .buffer) two) reads)
+  pub scan-first : (verb : Verb) (p q : Part) → s ≡ scan.First verb p → (c ≡ 32 → ⊥) → (after : List ℕ) → record { part = q; buffer = after } ≡ readOf one p c
+      → scanned (scan.First verb q) after two ≡ scanBy s one two c
+  scan-first verb p q e sp after reads = rw (e, ne-eqb c 32 sp) (ap (λ (x : PartRead). scanned (scan.First verb (x .part)) (x .buffer) two) reads)
 
-  pub scan-second : (way : Way) (n : ℕ) (p q : Part) → s ≡ scan.Second way n p → (after : List ℕ) → record { part = q; buffer = after } ≡ readOf two p c
-      → scanned (scan.Second way n q) one after ≡ scanBy s one two c
-  scan-second way n p q e after reads = rw e (ap (λ (x : PartRead). scanned (scan.Second way n (x .part)) one (x .buffer)) reads)
+  pub scan-second : (verb : Verb) (n : ℕ) (p q : Part) → s ≡ scan.Second verb n p → (after : List ℕ) → record { part = q; buffer = after } ≡ readOf two p c
+      → scanned (scan.Second verb n q) one after ≡ scanBy s one two c
+  scan-second verb n p q e after reads = rw e (ap (λ (x : PartRead). scanned (scan.Second verb n (x .part)) one (x .buffer)) reads)
 
   pub scan-stray : (r : Scan) → s ≡ scan.Stray → r ≡ scan.Stray → scanned r one two ≡ scanBy s one two c
   scan-stray r e is = rw (e, is)
@@ -211,37 +222,51 @@ module _ (one two : List ℕ) (s : Scan) (c : ℕ) where
 -- and it keeps what was read
 scans-by : (s : Scan) (one two : List ℕ) (c : ℕ) → ScansOn one two s c (scanBy s one two c .one) (scanBy s one two c .two) (scanBy s one two c .scan)
 scans-by scan.Start one two c = from-start one two scan.Start (beginOf c) c refl refl
-scans-by (scan.Word way at) one two c = from-word one two (scan.Word way at) (wordAfter way at c) c way at refl refl
-scans-by (scan.First way p) one two c =
+scans-by (scan.Word verb at) one two c = from-word one two (scan.Word verb at) (wordAfter verb at c) c verb at refl refl
+scans-by (scan.First verb p) one two c =
     by-test (eqb c 32)
-    (λ t. rw t (from-space one two (scan.First way p) (secondAfter way (endOf p)) c way p refl (eqb-true c 32 t) refl))
-    (λ t. rw t (from-first one two (scan.First way p) c way p (readOf one p c .part) refl (eqb-false c 32 t) (readOf one p c .buffer) (field.reads-on one p c)))
-scans-by (scan.Second way n p) one two c =
-    from-second one two (scan.Second way n p) c way p (readOf two p c .part) n refl (readOf two p c .buffer) (field.reads-on two p c)
+    (λ t. rw t (from-space one two (scan.First verb p) (secondAfter verb (endOf p)) c verb p refl (eqb-true c 32 t) refl))
+    (λ t. rw t (from-first one two (scan.First verb p) c verb p (readOf one p c .part) refl (eqb-false c 32 t) (readOf one p c .buffer) (field.reads-on one p c)))
+scans-by (scan.Second verb n p) one two c =
+    from-second one two (scan.Second verb n p) c verb p (readOf two p c .part) n refl (readOf two p c .buffer) (field.reads-on two p c)
 scans-by scan.Stray one two c = from-stray one two scan.Stray scan.Stray c refl refl
 
 pub scans-on : (s : Scanned) (c : ℕ) → ScansOn (s .one) (s .two) (s .scan) c (scanOf s c .one) (scanOf s c .two) (scanOf s c .scan)
 scans-on s c = scans-by (s .scan) (s .one) (s .two) c
 
 -- ---- the line has ended
-module _ (way : Way) (n : ℕ) (p : Part) (one two before after : List ℕ) (at end : ℕ) (x : Bytes) (says : bytesMeans x ≡ endOf p) where
+module _ (verb : Verb) (n : ℕ) (p : Part) (one two before after : List ℕ) (at end : ℕ) (x : Bytes) (says : bytesMeans x ≡ endOf p) where
   abbrev held : Meaning
-  held = secondHeld way (take n one) (endOf p) two
+  held = secondHeld verb (take n one) (endOf p) two
 
   pub second-malformed : x ≡ Malformed → Wrote before at malformedText after end → Wrote before at (responseText (responseIn held)) after end
   second-malformed e w =
       let none-there : endOf p ≡ none = sym says ∙ ap bytesMeans e in
-      subst (λ (o : Option ℕ). Wrote before at (responseText (responseIn (secondHeld way (take n one) o two))) after end) (sym none-there) w
+      subst (λ (o : Option ℕ). Wrote before at (responseText (responseIn (secondHeld verb (take n one) o two))) after end) (sym none-there) w
 
-  pub second-merges : (m : ℕ) → x ≡ Put m → (k l : ℕ) → k ≡ min n (length one) → l ≡ min m (length two)
-      → Wrote before at (responseText (mergedFiles way (take k one) (take l two))) after end → Wrote before at (responseText (responseIn held)) after end
-  second-merges m e k l ek el w =
+  pub second-put : (m : ℕ) → x ≡ Put m → (k l : ℕ) → k ≡ min n (length one) → l ≡ min m (length two)
+      → Wrote before at (responseText (responseIn (pairBy verb (take k one) (take l two)))) after end → Wrote before at (responseText (responseIn held)) after end
+  second-put m e k l ek el w =
       let there : endOf p ≡ some m = sym says ∙ ap bytesMeans e in
       let first : take k one ≡ take n one = ap (λ (i : ℕ). take i one) ek ∙ take-most n one in
       let second : take l two ≡ take m two = ap (λ (i : ℕ). take i two) el ∙ take-most m two in
-      subst (λ (o : Option ℕ). Wrote before at (responseText (responseIn (secondHeld way (take n one) o two))) after end) (sym there)
-      (subst (λ (f : List ℕ). Wrote before at (responseText (mergedFiles way f (take m two))) after end) first
-      (subst (λ (g : List ℕ). Wrote before at (responseText (mergedFiles way (take k one) g)) after end) second w))
+      subst (λ (o : Option ℕ). Wrote before at (responseText (responseIn (secondHeld verb (take n one) o two))) after end) (sym there)
+      (subst (λ (f : List ℕ). Wrote before at (responseText (responseIn (pairBy verb f (take m two)))) after end) first
+      (subst (λ (g : List ℕ). Wrote before at (responseText (responseIn (pairBy verb (take k one) g))) after end) second w))
+
+module _ (verb : Verb) (p : Part) (one before after : List ℕ) (at end : ℕ) (x : Bytes) (says : bytesMeans x ≡ endOf p) where
+  pub first-malformed : x ≡ Malformed → Wrote before at malformedText after end → Wrote before at (responseText (responseIn (firstHeld verb (endOf p) one))) after end
+  first-malformed e w =
+      let none-there : endOf p ≡ none = sym says ∙ ap bytesMeans e in
+      subst (λ (o : Option ℕ). Wrote before at (responseText (responseIn (firstHeld verb o one))) after end) (sym none-there) w
+
+  pub first-put : (n : ℕ) → x ≡ Put n → (k : ℕ) → k ≡ min n (length one)
+      → Wrote before at (responseText (responseIn (aloneBy verb (take k one)))) after end → Wrote before at (responseText (responseIn (firstHeld verb (endOf p) one))) after end
+  first-put n e k ek w =
+      let there : endOf p ≡ some n = sym says ∙ ap bytesMeans e in
+      let first : take k one ≡ take n one = ap (λ (i : ℕ). take i one) ek ∙ take-most n one in
+      subst (λ (o : Option ℕ). Wrote before at (responseText (responseIn (firstHeld verb o one))) after end) (sym there)
+      (subst (λ (f : List ℕ). Wrote before at (responseText (responseIn (aloneBy verb f))) after end) first w)
 
 module _ (s : Scan) (one two before after : List ℕ) (at end : ℕ) where
   at-line : (o : Scan) → s ≡ o → Wrote before at (responseText (responseIn (heldMeaning o one two))) after end
@@ -251,21 +276,21 @@ module _ (s : Scan) (one two before after : List ℕ) (at end : ℕ) where
   pub ends-start : s ≡ scan.Start → Wrote before at malformedText after end → Wrote before at (responseText (responseIn (heldMeaning s one two))) after end
   ends-start e w = at-line scan.Start e w
 
-  pub ends-word : (way : Way) (read : ℕ) → s ≡ scan.Word way read → Wrote before at malformedText after end
+  pub ends-word : (verb : Verb) (read : ℕ) → s ≡ scan.Word verb read → Wrote before at malformedText after end
       → Wrote before at (responseText (responseIn (heldMeaning s one two))) after end
-  ends-word way read e w = at-line (scan.Word way read) e w
+  ends-word verb read e w = at-line (scan.Word verb read) e w
 
-  pub ends-first : (way : Way) (p : Part) → s ≡ scan.First way p → Wrote before at malformedText after end
+  pub ends-first : (verb : Verb) (p : Part) → s ≡ scan.First verb p → Wrote before at (responseText (responseIn (firstHeld verb (endOf p) one))) after end
       → Wrote before at (responseText (responseIn (heldMeaning s one two))) after end
-  ends-first way p e w = at-line (scan.First way p) e w
+  ends-first verb p e w = at-line (scan.First verb p) e w
 
   pub ends-stray : s ≡ scan.Stray → Wrote before at malformedText after end → Wrote before at (responseText (responseIn (heldMeaning s one two))) after end
   ends-stray e w = at-line scan.Stray e w
 
-  pub ends-second : (way : Way) (n : ℕ) (p : Part) → s ≡ scan.Second way n p
-      → Wrote before at (responseText (responseIn (secondHeld way (take n one) (endOf p) two))) after end
+  pub ends-second : (verb : Verb) (n : ℕ) (p : Part) → s ≡ scan.Second verb n p
+      → Wrote before at (responseText (responseIn (secondHeld verb (take n one) (endOf p) two))) after end
       → Wrote before at (responseText (responseIn (heldMeaning s one two))) after end
-  ends-second way n p e w = at-line (scan.Second way n p) e w
+  ends-second verb n p e w = at-line (scan.Second verb n p) e w
 
 -- ---- bytes, one after the other
 pub all-on : (s t : Scanned) (bytes : List ℕ) (i : ℕ) → i < length bytes → t ≡ scanOf s (getD bytes i 0)

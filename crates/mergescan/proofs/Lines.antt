@@ -3,7 +3,7 @@
 -- The route: `meansFrom s w` is what the line means of which s was read and w is still to come; a
 -- byte that goes over from w to s changes nothing (`step`).
 use mathlib.Core.Path.{_≡_, refl, sym, ap, _∙_}
-use mathlib.Core.Bool.{cond}
+use mathlib.Core.Bool.{true, cond}
 use mathlib.Core.List.{List, [], _∷_, _++_}
 use mathlib.Core.Option.{Option, none, some}
 use Prim.Native.Nat.{ℕ, suc}
@@ -14,28 +14,24 @@ use Rattle.base.proofs.Tests.{by-test}
 use Rattle.lines.specs.Splitting.{begins, upTo, past}
 use Rattle.hexfields.specs.Fields.{Begun, nothing, begunBy, saysNow}
 use Rattle.hexfields.proofs.Fields as field
-use Rattle.merging.specs.declared.Way.{Way}
+use Rattle.mergetext.specs.declared.Verb.{Verb}
 use Rattle.mergetext.specs.Lines.{Meaning, malformed, secondBy, firstBy, fieldsIn, lineIn}
 use Rattle.mergescan.specs.Lines.{Seen, start, inWord, inFirst, inSecond, stray, firstByte, afterFirst, seenWith, seenBy, meansNow}
 
 abbrev meansFrom : Seen → List ℕ → Meaning
 meansFrom start w = lineIn w
-meansFrom (inWord way x rest) w = cond (begins (x ∷ rest) w) (fieldsIn way (drop (suc (length rest)) w)) malformed
-meansFrom (inFirst way b) w = firstBy way (saysNow (begunBy b (upTo 32 w))) (past 32 w)
-meansFrom (inSecond way f b) w = secondBy way f (saysNow (begunBy b w))
+meansFrom (inWord verb x rest) w = cond (begins (x ∷ rest) w) (fieldsIn verb (drop (suc (length rest)) w)) malformed
+meansFrom (inFirst verb b) w = firstBy verb (saysNow (begunBy b (upTo 32 w))) (past 32 w)
+meansFrom (inSecond verb f b) w = secondBy verb f (saysNow (begunBy b w))
 meansFrom stray w = malformed
 
 -- ---- the line ends
-no-second : (way : Way) (o : Option (List ℕ)) → malformed ≡ firstBy way o none
-no-second way none = refl
-no-second way (some f) = refl
-
 ended : (s : Seen) → meansNow s ≡ meansFrom s []
 unfolding lineIn begins upTo past
 ended start = refl
-ended (inWord way x rest) = refl
-ended (inFirst way b) = no-second way (saysNow b)
-ended (inSecond way f b) = refl
+ended (inWord verb x rest) = refl
+ended (inFirst verb b) = refl
+ended (inSecond verb f b) = refl
 ended stray = refl
 
 -- ---- it goes on
@@ -43,44 +39,41 @@ ended stray = refl
 first-step : (c : ℕ) (w : List ℕ) → lineIn (c ∷ w) ≡ meansFrom (firstByte c) w
 unfolding lineIn begins
 first-step c w =
-    by-test (eqb c 98)
-    (λ e. ap (λ (x : ℕ). lineIn (x ∷ w)) (eqb-true c 98 e) ∙ rw e)
-    (λ e.
-    by-test (eqb c 101)
-    (λ f. ap (λ (x : ℕ). lineIn (x ∷ w)) (eqb-true c 101 f) ∙ rw (e, f))
-    (λ f.
-    by-test (eqb c 105)
-    (λ g. ap (λ (x : ℕ). lineIn (x ∷ w)) (eqb-true c 105 g) ∙ rw (e, f, g))
-    (λ g. rw (e, f, g))))
+    let is : (n : ℕ) → eqb c n ≡ true → lineIn (c ∷ w) ≡ lineIn (n ∷ w) = λ n e. ap (λ (x : ℕ). lineIn (x ∷ w)) (eqb-true c n e) in
+    by-test (eqb c 98) (λ t. is 98 t ∙ rw t) (λ e.
+    by-test (eqb c 101) (λ t. is 101 t ∙ rw (e, t)) (λ f.
+    by-test (eqb c 105) (λ t. is 105 t ∙ rw (e, f, t)) (λ g.
+    by-test (eqb c 99) (λ t. is 99 t ∙ rw (e, f, g, t)) (λ h.
+    by-test (eqb c 114) (λ t. is 114 t ∙ rw (e, f, g, h, t)) (λ i. rw (e, f, g, h, i))))))
 
 -- a byte of the word
-fields-begin : (way : Way) (w : List ℕ) → fieldsIn way w ≡ meansFrom (inFirst way nothing) w
-fields-begin way w = ap (λ (o : Option (List ℕ)). firstBy way o (past 32 w)) (sym (field.whole (upTo 32 w)))
+fields-begin : (verb : Verb) (w : List ℕ) → fieldsIn verb w ≡ meansFrom (inFirst verb nothing) w
+fields-begin verb w = ap (λ (o : Option (List ℕ)). firstBy verb o (past 32 w)) (sym (field.whole (upTo 32 w)))
 
-word-step : (way : Way) (x : ℕ) (rest : List ℕ) (c : ℕ) (w : List ℕ)
-    → meansFrom (inWord way x rest) (c ∷ w) ≡ meansFrom (seenWith (inWord way x rest) c) w
+word-step : (verb : Verb) (x : ℕ) (rest : List ℕ) (c : ℕ) (w : List ℕ)
+    → meansFrom (inWord verb x rest) (c ∷ w) ≡ meansFrom (seenWith (inWord verb x rest) c) w
 unfolding begins
-word-step way x [] c w = by-test (eqb c x) (λ e. rw e (fields-begin way w)) (λ e. rw e)
-word-step way x (y ∷ rest) c w = by-test (eqb c x) (λ e. rw e) (λ e. rw e)
+word-step verb x [] c w = by-test (eqb c x) (λ e. rw e (fields-begin verb w)) (λ e. rw e)
+word-step verb x (y ∷ rest) c w = by-test (eqb c x) (λ e. rw e) (λ e. rw e)
 
 -- the space behind the first field, and any other byte
-space-step : (way : Way) (o : Option (List ℕ)) (w : List ℕ) → firstBy way o (some w) ≡ meansFrom (afterFirst way o) w
-space-step way none w = refl
-space-step way (some f) w = ap (secondBy way f) (sym (field.whole w))
+space-step : (verb : Verb) (o : Option (List ℕ)) (w : List ℕ) → firstBy verb o (some w) ≡ meansFrom (afterFirst verb o) w
+space-step verb none w = refl
+space-step verb (some f) w = ap (secondBy verb f) (sym (field.whole w))
 
-first-field-step : (way : Way) (b : Begun) (c : ℕ) (w : List ℕ)
-    → meansFrom (inFirst way b) (c ∷ w) ≡ meansFrom (seenWith (inFirst way b) c) w
+first-field-step : (verb : Verb) (b : Begun) (c : ℕ) (w : List ℕ)
+    → meansFrom (inFirst verb b) (c ∷ w) ≡ meansFrom (seenWith (inFirst verb b) c) w
 unfolding upTo past
-first-field-step way b c w =
+first-field-step verb b c w =
     by-test (eqb c 32)
-    (λ e. rw e (space-step way (saysNow b) w))
+    (λ e. rw e (space-step verb (saysNow b) w))
     (λ e. rw e)
 
 step : (s : Seen) (c : ℕ) (w : List ℕ) → meansFrom s (c ∷ w) ≡ meansFrom (seenWith s c) w
 step start c w = first-step c w
-step (inWord way x rest) c w = word-step way x rest c w
-step (inFirst way b) c w = first-field-step way b c w
-step (inSecond way f b) c w = refl
+step (inWord verb x rest) c w = word-step verb x rest c w
+step (inFirst verb b) c w = first-field-step verb b c w
+step (inSecond verb f b) c w = refl
 step stray c w = refl
 
 means-by : (s : Seen) (w : List ℕ) → meansNow (seenBy s w) ≡ meansFrom s w

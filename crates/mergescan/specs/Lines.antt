@@ -1,6 +1,6 @@
 -- A line of `rulemerge`, read byte by byte.
 --
---   Seen             what of a line has been read: nothing; a part of the word of a way, with the
+--   Seen             what of a line has been read: nothing; a part of a word, with the
 --                    byte that is to come and those behind it; the word and a part of the first field; the bytes
 --                    that this field says and a part of the second; or no line begins so
 --   seenWith s c     what has been read with the byte c more
@@ -13,39 +13,42 @@ use Prim.Native.Nat.{ℕ}
 use lib.Dec.{eqb}
 use lib.ListN.{drop}
 use Rattle.hexfields.specs.Fields.{Begun, nothing, goesOn, saysNow}
-use Rattle.merging.specs.declared.Way.{Way}
 use Rattle.merging.specs.declared.Way.the-variants.{Both, Either, Interleaving}
-use Rattle.mergetext.specs.Lines.{wordOf, Meaning, malformed, secondBy}
+use Rattle.mergetext.specs.declared.Verb.{Verb}
+use Rattle.mergetext.specs.declared.Verb.the-variants.{Merge, Compare, Reduce}
+use Rattle.mergetext.specs.Lines.{verbWord, Meaning, malformed, secondBy, firstBy}
 
 pub data Seen : Type 0 where
   start : Seen
-  inWord : Way → ℕ → List ℕ → Seen
-  inFirst : Way → Begun → Seen
-  inSecond : Way → List ℕ → Begun → Seen
+  inWord : Verb → ℕ → List ℕ → Seen
+  inFirst : Verb → Begun → Seen
+  inSecond : Verb → List ℕ → Begun → Seen
   stray : Seen
 
--- the first byte tells the word: b, e or i
+-- the first byte tells the word: b, e, i, c or r
 abbrev pub firstByte : ℕ → Seen
 firstByte c =
-    cond (eqb c 98) (inWord Both 111 (drop 2 (wordOf Both)))
-    (cond (eqb c 101) (inWord Either 105 (drop 2 (wordOf Either)))
-    (cond (eqb c 105) (inWord Interleaving 110 (drop 2 (wordOf Interleaving))) stray))
+    cond (eqb c 98) (inWord (Merge Both) 111 (drop 2 (verbWord (Merge Both))))
+    (cond (eqb c 101) (inWord (Merge Either) 105 (drop 2 (verbWord (Merge Either))))
+    (cond (eqb c 105) (inWord (Merge Interleaving) 110 (drop 2 (verbWord (Merge Interleaving))))
+    (cond (eqb c 99) (inWord Compare 111 (drop 2 (verbWord Compare)))
+    (cond (eqb c 114) (inWord Reduce 101 (drop 2 (verbWord Reduce))) stray))))
 
 -- behind the word's last byte, its space, the first field begins
-abbrev pub wordGoesOn : Way → List ℕ → Seen
-wordGoesOn way [] = inFirst way nothing
-wordGoesOn way (x ∷ rest) = inWord way x rest
+abbrev pub wordGoesOn : Verb → List ℕ → Seen
+wordGoesOn verb [] = inFirst verb nothing
+wordGoesOn verb (x ∷ rest) = inWord verb x rest
 
 -- a space ends the first field
-abbrev pub afterFirst : Way → Option (List ℕ) → Seen
-afterFirst way none = stray
-afterFirst way (some f) = inSecond way f nothing
+abbrev pub afterFirst : Verb → Option (List ℕ) → Seen
+afterFirst verb none = stray
+afterFirst verb (some f) = inSecond verb f nothing
 
 abbrev pub seenWith : Seen → ℕ → Seen
 seenWith start c = firstByte c
-seenWith (inWord way x rest) c = cond (eqb c x) (wordGoesOn way rest) stray
-seenWith (inFirst way b) c = cond (eqb c 32) (afterFirst way (saysNow b)) (inFirst way (goesOn b c))
-seenWith (inSecond way f b) c = inSecond way f (goesOn b c)
+seenWith (inWord verb x rest) c = cond (eqb c x) (wordGoesOn verb rest) stray
+seenWith (inFirst verb b) c = cond (eqb c 32) (afterFirst verb (saysNow b)) (inFirst verb (goesOn b c))
+seenWith (inSecond verb f b) c = inSecond verb f (goesOn b c)
 seenWith stray c = stray
 
 abbrev pub seenBy : Seen → List ℕ → Seen
@@ -54,7 +57,7 @@ seenBy s (c ∷ w) = seenBy (seenWith s c) w
 
 abbrev pub meansNow : Seen → Meaning
 meansNow start = malformed
-meansNow (inWord way x rest) = malformed
-meansNow (inFirst way b) = malformed
-meansNow (inSecond way f b) = secondBy way f (saysNow b)
+meansNow (inWord verb x rest) = malformed
+meansNow (inFirst verb b) = firstBy verb (saysNow b) none
+meansNow (inSecond verb f b) = secondBy verb f (saysNow b)
 meansNow stray = malformed

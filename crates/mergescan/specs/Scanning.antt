@@ -23,9 +23,10 @@ use Rattle.hexfields.specs.declared.Part.{Part}
 use Rattle.hexfields.specs.declared.Part.the-variants as part
 use Rattle.hexfields.specs.Fields.{Begun}
 use Rattle.hexfields.specs.Reading.{readOf, Kept, Keeps, endOf}
-use Rattle.merging.specs.declared.Way.{Way}
 use Rattle.merging.specs.declared.Way.the-variants.{Both, Either, Interleaving}
-use Rattle.mergetext.specs.Lines.{wordOf, Meaning, merges, malformed}
+use Rattle.mergetext.specs.declared.Verb.{Verb}
+use Rattle.mergetext.specs.declared.Verb.the-variants.{Merge, Compare, Reduce}
+use Rattle.mergetext.specs.Lines.{verbWord, Meaning, malformed, pairBy, aloneBy}
 use Rattle.mergescan.specs.declared.Scan.{Scan}
 use Rattle.mergescan.specs.declared.Scan.the-variants as scan
 use Rattle.mergescan.specs.Lines.{Seen, start, inWord, inFirst, inSecond, stray, seenWith}
@@ -33,18 +34,20 @@ use Rattle.mergescan.specs.Lines.{Seen, start, inWord, inFirst, inSecond
 -- ---- the code's steps
 abbrev pub beginOf : ℕ → Scan
 beginOf c =
-    cond (eqb c 98) (scan.Word Both 1)
-    (cond (eqb c 101) (scan.Word Either 1) (cond (eqb c 105) (scan.Word Interleaving 1) scan.Stray))
+    cond (eqb c 98) (scan.Word (Merge Both) 1)
+    (cond (eqb c 101) (scan.Word (Merge Either) 1)
+    (cond (eqb c 105) (scan.Word (Merge Interleaving) 1)
+    (cond (eqb c 99) (scan.Word Compare 1) (cond (eqb c 114) (scan.Word Reduce 1) scan.Stray))))
 
-abbrev pub wordAfter : Way → ℕ → ℕ → Scan
-wordAfter way at c =
-    cond (eqb c (getD (wordOf way) at 0))
-    (cond (ltb (at + 1) (length (wordOf way))) (scan.Word way (at + 1)) (scan.First way part.Nothing))
+abbrev pub wordAfter : Verb → ℕ → ℕ → Scan
+wordAfter verb at c =
+    cond (eqb c (getD (verbWord verb) at 0))
+    (cond (ltb (at + 1) (length (verbWord verb))) (scan.Word verb (at + 1)) (scan.First verb part.Nothing))
     scan.Stray
 
-abbrev pub secondAfter : Way → Option ℕ → Scan
-secondAfter way none = scan.Stray
-secondAfter way (some n) = scan.Second way n part.Nothing
+abbrev pub secondAfter : Verb → Option ℕ → Scan
+secondAfter verb none = scan.Stray
+secondAfter verb (some n) = scan.Second verb n part.Nothing
 
 pub record Scanned : Type 0 where
   pub scan : Scan
@@ -57,11 +60,11 @@ scanned s one two = record { scan = s; one = one; two = two }
 -- of the value alone, with the buffers
 abbrev pub scanBy : Scan → List ℕ → List ℕ → ℕ → Scanned
 scanBy scan.Start one two c = scanned (beginOf c) one two
-scanBy (scan.Word way at) one two c = scanned (wordAfter way at c) one two
-scanBy (scan.First way p) one two c =
+scanBy (scan.Word verb at) one two c = scanned (wordAfter verb at c) one two
+scanBy (scan.First verb p) one two c =
     let field = readOf one p c in
-    cond (eqb c 32) (scanned (secondAfter way (endOf p)) one two) (scanned (scan.First way (field .part)) (field .buffer) two)
-scanBy (scan.Second way n p) one two c = let field = readOf two p c in scanned (scan.Second way n (field .part)) one (field .buffer)
+    cond (eqb c 32) (scanned (secondAfter verb (endOf p)) one two) (scanned (scan.First verb (field .part)) (field .buffer) two)
+scanBy (scan.Second verb n p) one two c = let field = readOf two p c in scanned (scan.Second verb n (field .part)) one (field .buffer)
 scanBy scan.Stray one two c = scanned scan.Stray one two
 
 abbrev pub scanOf : Scanned → ℕ → Scanned
@@ -73,20 +76,20 @@ scanAll s (c ∷ w) = scanAll (scanOf s c) w
 
 abbrev pub isStart : Scan → Bool
 isStart scan.Start = true
-isStart (scan.Word way at) = false
-isStart (scan.First way p) = false
-isStart (scan.Second way n p) = false
+isStart (scan.Word verb at) = false
+isStart (scan.First verb p) = false
+isStart (scan.Second verb n p) = false
 isStart scan.Stray = false
 
 -- ---- what they keep
 pub data KeepsLine : Seen → Scan → List ℕ → List ℕ → Type 0 where
   keeps-start : {one two : List ℕ} → KeepsLine start scan.Start one two
-  keeps-word : {way : Way} {at x : ℕ} {rest one two : List ℕ} → drop at (wordOf way) ≡ x ∷ rest
-      → KeepsLine (inWord way x rest) (scan.Word way at) one two
-  keeps-first : {way : Way} {b : Begun} {p : Part} {one two : List ℕ} → Keeps b p one
-      → KeepsLine (inFirst way b) (scan.First way p) one two
-  keeps-second : {way : Way} {f : List ℕ} {n : ℕ} {b : Begun} {p : Part} {one two : List ℕ} → Kept f n one → Keeps b p two
-      → KeepsLine (inSecond way f b) (scan.Second way n p) one two
+  keeps-word : {verb : Verb} {at x : ℕ} {rest one two : List ℕ} → drop at (verbWord verb) ≡ x ∷ rest
+      → KeepsLine (inWord verb x rest) (scan.Word verb at) one two
+  keeps-first : {verb : Verb} {b : Begun} {p : Part} {one two : List ℕ} → Keeps b p one
+      → KeepsLine (inFirst verb b) (scan.First verb p) one two
+  keeps-second : {verb : Verb} {f : List ℕ} {n : ℕ} {b : Begun} {p : Part} {one two : List ℕ} → Kept f n one → Keeps b p two
+      → KeepsLine (inSecond verb f b) (scan.Second verb n p) one two
   keeps-stray : {one two : List ℕ} → KeepsLine stray scan.Stray one two
 
 pub record ScansOn (one two : List ℕ) (s : Scan) (c : ℕ) (one-after two-after : List ℕ) (r : Scan) : Type 0 where
@@ -95,13 +98,17 @@ pub record ScansOn (one two : List ℕ) (s : Scan) (c : ℕ) (one-after two-afte
   pub goes-on : (seen : Seen) → KeepsLine seen s one two → KeepsLine (seenWith seen c) r one-after two-after
 
 -- ---- the line has ended
-abbrev pub secondHeld : Way → List ℕ → Option ℕ → List ℕ → Meaning
-secondHeld way f none two = malformed
-secondHeld way f (some m) two = merges way f (take m two)
+abbrev pub secondHeld : Verb → List ℕ → Option ℕ → List ℕ → Meaning
+secondHeld verb f none two = malformed
+secondHeld verb f (some m) two = pairBy verb f (take m two)
+
+abbrev pub firstHeld : Verb → Option ℕ → List ℕ → Meaning
+firstHeld verb none one = malformed
+firstHeld verb (some n) one = aloneBy verb (take n one)
 
 abbrev pub heldMeaning : Scan → List ℕ → List ℕ → Meaning
 heldMeaning scan.Start one two = malformed
-heldMeaning (scan.Word way at) one two = malformed
-heldMeaning (scan.First way p) one two = malformed
-heldMeaning (scan.Second way n p) one two = secondHeld way (take n one) (endOf p) two
+heldMeaning (scan.Word verb at) one two = malformed
+heldMeaning (scan.First verb p) one two = firstHeld verb (endOf p) one
+heldMeaning (scan.Second verb n p) one two = secondHeld verb (take n one) (endOf p) two
 heldMeaning scan.Stray one two = malformed

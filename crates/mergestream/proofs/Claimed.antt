@@ -16,7 +16,7 @@ use Rattle.linetexts.specs.Claims.{KeepsLines}
 use Rattle.linetexts.specs.Alone.{Answers}
 use Rattle.linetexts.proofs.Alone.{answered}
 use Rattle.hexfields.specs.Fields.{saysNow}
-use Rattle.merging.specs.declared.Way.{Way}
+use Rattle.mergetext.specs.declared.Verb.{Verb}
 use Rattle.mergetext.specs.Answers.{Response, responseText}
 use Rattle.mergescan.specs.declared.Scan.{Scan}
 use Rattle.mergescan.specs.declared.Scan.the-variants as scan
@@ -30,29 +30,31 @@ use Rattle.mergestream.specs.Texts.{answerTo, mergeLines, KeepsFiles}
 -- some byte was read
 abbrev Running : Seen → Type 0
 Running start = ⊥
-Running (inWord way x rest) = Unit {0}
-Running (inFirst way b) = Unit {0}
-Running (inSecond way f b) = Unit {0}
+Running (inWord verb x rest) = Unit {0}
+Running (inFirst verb b) = Unit {0}
+Running (inSecond verb f b) = Unit {0}
 Running stray = Unit {0}
 
 either-way : (t : Bool) (a b : Seen) → Running a → Running b → Running (cond t a b)
 either-way true a b h k = h
 either-way false a b h k = k
 
-in-word : (way : Way) (rest : List ℕ) → Running (wordGoesOn way rest)
-in-word way [] = tt
-in-word way (x ∷ rest) = tt
+in-word : (verb : Verb) (rest : List ℕ) → Running (wordGoesOn verb rest)
+in-word verb [] = tt
+in-word verb (x ∷ rest) = tt
 
-behind-first : (way : Way) (o : Option (List ℕ)) → Running (afterFirst way o)
-behind-first way none = tt
-behind-first way (some f) = tt
+behind-first : (verb : Verb) (o : Option (List ℕ)) → Running (afterFirst verb o)
+behind-first verb none = tt
+behind-first verb (some f) = tt
 
 runs : (s : Seen) (c : ℕ) → Running (seenWith s c)
 runs start c =
-    either-way (eqb c 98) _ _ tt (either-way (eqb c 101) _ _ tt (either-way (eqb c 105) _ _ tt tt))
-runs (inWord way x rest) c = either-way (eqb c x) (wordGoesOn way rest) stray (in-word way rest) tt
-runs (inFirst way b) c = either-way (eqb c 32) (afterFirst way (saysNow b)) _ (behind-first way (saysNow b)) tt
-runs (inSecond way f b) c = tt
+    either-way (eqb c 98) _ _ tt
+    (either-way (eqb c 101) _ _ tt
+    (either-way (eqb c 105) _ _ tt (either-way (eqb c 99) _ _ tt (either-way (eqb c 114) _ _ tt tt))))
+runs (inWord verb x rest) c = either-way (eqb c x) (wordGoesOn verb rest) stray (in-word verb rest) tt
+runs (inFirst verb b) c = either-way (eqb c 32) (afterFirst verb (saysNow b)) _ (behind-first verb (saysNow b)) tt
+runs (inSecond verb f b) c = tt
 runs stray c = tt
 
 runs-on : (s : Seen) (w : List ℕ) → Running s → Running (seenBy s w)

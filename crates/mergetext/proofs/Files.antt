@@ -4,7 +4,7 @@
 --   both-read            where there is none both files are accepted, and their rules can be merged
 --   result-read          the result is a file that reading accepts
 --   language             the texts that it accepts
---   fits                 the most bytes of an answer
+--   merged-fits          the most bytes of an answer
 use mathlib.Core.Path.{_≡_, refl, sym, ap, _∙_, subst}
 use mathlib.Core.Logic.{_↔_, inl, inr, ⊎-elim}
 use mathlib.Core.List.{List, [], _∷_, _++_}
@@ -119,12 +119,12 @@ language way f g taken w =
 file-most : (f : List ℕ) → length f ≤ 32906 → length (responseText (file f)) ≤ 65813
 file-most f h = let d = digits-length f in let l = length-append (digitsOf f) (10 ∷ []) in omega arith
 
-response-most : (o : Option ℕ) (f : List ℕ) → (o ≡ none → length f ≤ 32906) → length (responseText (responseBy o f)) ≤ 65813
+pub response-most : (o : Option ℕ) (f : List ℕ) → (o ≡ none → length f ≤ 32906) → length (responseText (responseBy o f)) ≤ 65813
 response-most none f h = file-most f (h refl)
 response-most (some x) f h = omega (arith, refused-short x)
 
-pub fits : (way : Way) (f g : List ℕ) → length (responseText (mergedFiles way f g)) ≤ 65813
-fits way f g =
+pub merged-fits : (way : Way) (f g : List ℕ) → length (responseText (mergedFiles way f g)) ≤ 65813
+merged-fits way f g =
     response-most (filesNumber way f g) (resultFile way f g)
     (λ e.
     let r = mergedOf way (ruleOf f) (ruleOf g) in

@@ -3,6 +3,7 @@
 --
 --   length-most, room-left, file-line    a file that was written, and its line
 --   merged-passes                        the rule that merging left passes its check
+--   number-in                            the number with which reading refuses a file
 --   told-first, told-second, ..          what is written for two files
 use mathlib.Core.Path.{_≡_, refl, sym, ap, ap₂, _∙_, subst}
 use mathlib.Core.List.{List, [], _∷_, _++_}
@@ -53,7 +54,7 @@ module _ {f room bytes : List ℕ} {n : ℕ} (most : length f ≤ longestFile) (
     file-line feed = (digits-put then put (omega (arith, room-left)) feed) .wrote
 
 -- ---- two files
-number-in : (f : List ℕ) (x : ReadResult) → readOutcome x ≡ readOf f → refusal f ≡ answerNumber (x .answer)
+pub number-in : (f : List ℕ) (x : ReadResult) → readOutcome x ≡ readOf f → refusal f ≡ answerNumber (x .answer)
 number-in f x reads = sym (ap (λ (r : Reading). r .number) reads)
 
 number-by : (o : Option ℕ) (r : Rule) → mergingBy o r .number ≡ o

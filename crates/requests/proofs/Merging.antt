@@ -18,26 +18,30 @@
 --   wayOf x, mergeShown         C's numbers                             merging/specs/Merging, c_merge/specs/Numbers
 --   answerTo, mergeLines        a line of `rulemerge`, and the machine  mergestream/specs/Texts
 --   FedBlocks; answersTo        blocks through functions; the answers   linetexts/specs/Functions, Alone
---   WorkedLines                 a line for each way, by hand            mergetext/specs/Worked
---   lineIn l; SaysMerge         what a line means; two files' line      mergetext/specs/Lines, Claims
+--   WorkedLines, Written        a line for each word, and answers, by hand   mergetext/specs/Worked
+--   lineIn l; SaysMerge, SaysLine   what a line means; a line of files  mergetext/specs/Lines, Claims
+--   comparedFiles, reducedFile  what comparing and reducing files is answered   mergetext/specs/Answers
+--   compareOf; reduceOf         two rules compared; a rule reduced      compare/specs/Search, reducing/specs/Reducing
 --   verdictIn h, textIn h       what 01 says of a list of calls         histories/specs/History
 --
 -- one and two are any values, in which any numbers may stand. A proved function ends and stays within
 -- its bounds. Assumes nothing.
 -- All that they rest on stands in these files of specs/ (tests/believed):
 --   base Answers, Conditions, Lists, Options, Totals; limits Limits; flags Flags; text Numerals,
---   Writing; answers Answers; masks Masks; automaton Automaton, Rules, Successor; rulecheck
---   Checking, Worked; ruleformat Claims, Format, Language, Reader, Refusals, Writing; numbering
---   Numbering; subsets Sets, mirror/Singles; delegates Alike, Claims, mirror/Classes; marks
---   Marks; chunks Chunks; joins Joining; calls Calls, Replies; histories History; fields Bytes,
---   Claims; lines Splitting; hexfields Fields, Reading; linetexts Alone, Feeding, Functions,
---   Parts; products Claims, Interleavings, Products, Words; merging Claims, Languages, Merged,
---   Merging, Worked; mergetext Answers, Claims, Lines, Worked; mergescan Scanning; mergestream
---   Texts; c_merge Claims, Numbers; requests MergeFunction.
+--   Writing; answers Answers; masks Masks, Turns; automaton Automaton, Rules, Successor;
+--   rulecheck Checking, Worked; ruleformat Claims, Format, Language, Reader, Refusals, Writing;
+--   numbering Numbering; compositions Relations; mappings Mappings, Packing; keys Kinds, Tables;
+--   subsets Sets, mirror/Singles; searches Search; compare Compared, Search; delegates Alike,
+--   Claims, mirror/Classes; marks Marks; chunks Chunks; joins Joining; calls Calls, Replies;
+--   histories History; fields Bytes, Claims; lines Splitting; hexfields Fields, Reading;
+--   linetexts Alone, Feeding, Functions, Parts; products Claims, Interleavings, Products, Words;
+--   merging Claims, Languages, Merged, Merging, Worked; mergetext Answers, Claims, Lines, Worked;
+--   mergescan Scanning; mergestream Texts; c_merge Claims, Numbers; reducing Reduced, Reducing;
+--   requests MergeFunction.
 use mathlib.Core.Path.{_≡_, ap, _∙_, refl}
 use mathlib.Core.Logic.{_↔_, _⊎_}
 use mathlib.Core.Bool.{Bool, true, false}
-use mathlib.Core.List.{List, _++_, flatten}
+use mathlib.Core.List.{List, _∷_, _++_, flatten}
 use mathlib.Core.Option.{none, some}
 use Prim.Native.Nat.{ℕ, _≤_, _<_, _+_, _*_}
 use lib.ListN.{length, take}
@@ -51,11 +55,12 @@ use Rattle.ruleformat.specs.Refusals.{refusal}
 use Rattle.ruleformat.specs.Reader.{ruleOf}
 use Rattle.ruleformat.specs.Claims.{AllZero}
 use Rattle.ruleformat.specs.Language.{automatonIn}
+use Rattle.ruleformat.specs.Writing.{fileOf}
 use Rattle.calls.specs.Replies.{yesWith, noWith}
 use Rattle.calls.specs.Calls.{Call, installNumber}
 use Rattle.histories.specs.History.{ruleIn, boardIn, emptiesIn, summedIn, textIn, verdictIn}
 use Rattle.lines.specs.Splitting.{linesOf}
-use Rattle.fields.specs.Claims.{AllBytes}
+use Rattle.fields.specs.Claims.{AllBytes, fieldOf}
 use Rattle.linetexts.specs.Feeding.{State}
 use Rattle.linetexts.specs.Functions.{Promised, Ended, FedBlocks}
 use Rattle.linetexts.specs.Alone.{answersTo}
@@ -73,10 +78,15 @@ use Rattle.merging.specs.Merging.{mergeConditions, mergeNumber, mergeOutcome, m
 use Rattle.merging.specs.Worked.{merges, Answered}
 use Rattle.merging.specs.Claims.{Refused-exactly, MergeLaw}
 use Rattle.merging.proofs.Claims as merging
-use Rattle.mergetext.specs.Answers.{filesNumber, resultFile}
-use Rattle.mergetext.specs.Lines.{merges as mergesFiles, malformed, lineIn}
-use Rattle.mergetext.specs.Worked.{WorkedLines}
-use Rattle.mergetext.specs.Claims.{lineOf, SaysMerge}
+use Rattle.compare.specs.declared.Which.{Which}
+use Rattle.compare.specs.Compared as compared
+use Rattle.compare.specs.Search.{compareOf}
+use Rattle.reducing.specs.Reducing.{reduceOf}
+use Rattle.mergetext.specs.declared.Verb.the-variants.{Compare, Reduce}
+use Rattle.mergetext.specs.Answers.{filesNumber, resultFile, refused as refusedLine, file, apart, same, comparedBy, comparedFiles, reducedBy, reducedFile}
+use Rattle.mergetext.specs.Lines.{verbWord, Meaning, merges as mergesFiles, compares, reduces, malformed, lineIn}
+use Rattle.mergetext.specs.Worked.{WorkedLines, Written}
+use Rattle.mergetext.specs.Claims.{lineOf, SaysMerge, SaysLine}
 use Rattle.mergetext.proofs.Claims as mergetext
 use Rattle.mergescan.specs.declared.Scan.the-variants as scan
 use Rattle.mergescan.specs.Scanning.{Scanned}
@@ -254,21 +264,84 @@ pub file-language : (way : Way) (f g : List ℕ) → filesNumber way f g ≡ non
     → Accepts (automatonIn (resultFile way f g)) w ↔ Merges way (automatonIn f) (automatonIn g) w
 file-language = mergetext.claims .language
 
--- The words of the three ways, in bytes:
+-- The words of the three ways, in bytes, and those of comparing and reducing:
 pub lines-by-hand : WorkedLines
 lines-by-hand = mergetext.claims .worked-lines
 
 -- A line merges two files exactly when it is its way's word and two fields that say their bytes,
 -- one space between them: hex digits of either case, or `-` for none. Any other is malformed, an
--- empty one too. Every way and every two files have a line.
+-- empty one too, but for a line that compares two files or reduces one, below. Every way and every
+-- two files have a line.
 pub line-exactly : (l : List ℕ) (w : Way) (f g : List ℕ) → (lineIn l ≡ mergesFiles w f g) ↔ SaysMerge l w f g
 line-exactly = mergetext.claims .line-exactly
 
-pub line-malformed : (l : List ℕ) → (lineIn l ≡ malformed) ↔ ((w : Way) (f g : List ℕ) → SaysMerge l w f g → ⊥)
+pub line-malformed : (l : List ℕ) → (lineIn l ≡ malformed) ↔ ((m : Meaning) → SaysLine l m → ⊥)
 line-malformed = mergetext.claims .malformed-exactly
 
 pub every-pair : (w : Way) (f g : List ℕ) → AllBytes f → AllBytes g → lineIn (lineOf w f g) ≡ mergesFiles w f g
 every-pair = mergetext.claims .line-round-trip
+
+-- `compare HEX HEX` compares two files and `reduce HEX` reduces one: exactly the lines of these words with
+-- their fields, and every two files, and every one, have such a line.
+pub compare-exactly : (l f g : List ℕ) → (lineIn l ≡ compares f g) ↔ SaysLine l (compares f g)
+compare-exactly = mergetext.claims .compare-exactly
+
+pub reduce-exactly : (l f : List ℕ) → (lineIn l ≡ reduces f) ↔ SaysLine l (reduces f)
+reduce-exactly = mergetext.claims .reduce-exactly
+
+pub every-comparison : (f g : List ℕ) → AllBytes f → AllBytes g → lineIn (verbWord Compare ++ (fieldOf f ++ (32 ∷ fieldOf g))) ≡ compares f g
+every-comparison = mergetext.claims .compare-round-trip
+
+pub every-reduction : (f : List ℕ) → AllBytes f → lineIn (verbWord Reduce ++ fieldOf f) ≡ reduces f
+every-reduction = mergetext.claims .reduce-round-trip
+
+-- The first file is read, then the second; two files that reading accepts are compared as their rules are
+-- (the page Comparing), and a file that it accepts is reduced as its rule is (Reducing).
+pub compared-first : (f g : List ℕ) (x : ℕ) → refusal f ≡ some x → comparedFiles f g ≡ refusedLine x
+compared-first = mergetext.claims .compared-first
+
+pub compared-second : (f g : List ℕ) → refusal f ≡ none → (x : ℕ) → refusal g ≡ some x → comparedFiles f g ≡ refusedLine x
+compared-second = mergetext.claims .compared-second
+
+pub compared-rules : (f g : List ℕ) → refusal f ≡ none → refusal g ≡ none → comparedFiles f g ≡ comparedBy (compareOf (ruleOf f) (ruleOf g))
+compared-rules = mergetext.claims .compared-rules
+
+-- The text that tells them apart is answered with the rule that alone accepts it:
+pub compared-apart : (f g : List ℕ) → refusal f ≡ none → refusal g ≡ none → (which : Which) (w : List ℕ)
+    → (comparedFiles f g ≡ apart which w) ↔ (compareOf (ruleOf f) (ruleOf g) ≡ compared.apart which w)
+compared-apart = mergetext.claims .compared-apart
+
+pub compared-same : (f g : List ℕ) → refusal f ≡ none → refusal g ≡ none
+    → (comparedFiles f g ≡ same) ↔ (compareOf (ruleOf f) (ruleOf g) ≡ compared.same)
+compared-same = mergetext.claims .compared-same
+
+pub compared-refused : (f g : List ℕ) → refusal f ≡ none → refusal g ≡ none → (x : ℕ)
+    → (comparedFiles f g ≡ refusedLine x) ↔ (compareOf (ruleOf f) (ruleOf g) ≡ compared.refused x)
+compared-refused = mergetext.claims .compared-refused
+
+pub reduced-first : (f : List ℕ) (x : ℕ) → refusal f ≡ some x → reducedFile f ≡ refusedLine x
+reduced-first = mergetext.claims .reduced-first
+
+pub reduced-rule : (f : List ℕ) → refusal f ≡ none → reducedFile f ≡ reducedBy (reduceOf (ruleOf f))
+reduced-rule = mergetext.claims .reduced-rule
+
+-- A reduced rule is answered as its file, and a refused one with its number.
+pub reduced-accepted : (f : List ℕ) → refusal f ≡ none → reduceOf (ruleOf f) .number ≡ none
+    → reducedFile f ≡ file (fileOf (reduceOf (ruleOf f) .rule))
+reduced-accepted = mergetext.claims .reduced-accepted
+
+pub reduced-refused : (f : List ℕ) → refusal f ≡ none → (x : ℕ)
+    → (reducedFile f ≡ refusedLine x) ↔ (reduceOf (ruleOf f) .number ≡ some x)
+reduced-refused = mergetext.claims .reduced-refused
+
+-- The file that reducing answers is one that reading accepts, and has the reduced rule.
+pub reduced-read : (f g : List ℕ) → reducedFile f ≡ file g → (refusal g ≡ none) × (ruleOf g ≡ reduceOf (ruleOf f) .rule)
+reduced-read = mergetext.claims .reduced-read
+
+-- The answers themselves, in bytes: `apart first 02`, `apart second -`, `same`, a file's digits, `refused 45`,
+-- `malformed`.
+pub answers-written : Written
+answers-written = mergetext.claims .answers-written
 
 -- A text of lines, cut into blocks anywhere: `rulemerge` is to write, round by round, block by block and
 -- at the end, the answers to its lines. Its buffers can tell a file that is too long. (A round is what the

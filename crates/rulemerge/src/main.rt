@@ -1,9 +1,10 @@
-// Merges rule files: each line of standard input is `both HEX HEX`, `either HEX HEX` or
-// `interleaving HEX HEX`, and is answered by one line, the file of the two rules made one, `refused`
-// with a number, or `malformed`. What a line means and how it is answered is proved in the crates
-// below; this program only reads and writes. The answers to a block that was read are written before
-// the next is read. Where it cannot read or write it says so on standard error and stops. What it
-// prints is no promise, since the C library's `write` makes none: a test holds it.
+// Rule files made one, compared and reduced: each line of standard input is `both HEX HEX`, `either HEX
+// HEX`, `interleaving HEX HEX`, `compare HEX HEX` or `reduce HEX`, and is answered by one line, the
+// file of the rule that is made, `apart` with a rule and a text, `same`, `refused` with a number, or
+// `malformed`. What a line means and how it is answered is proved in the crates below; this program
+// only reads and writes. The answers to a block that was read are written before the next is read.
+// Where it cannot read or write it says so on standard error and stops. What it prints is no promise,
+// since the C library's `write` makes none: a test holds it.
 ghost use mathlib.Core.Path.{_≡_};
 ghost use mathlib.Core.Bool.{false};
 ghost use Prim.Native.Nat.{_≤_};

@@ -20,7 +20,7 @@ use samples::Wish;
 pub const ROOM: usize = 2 * (8 + 2 * samples::LONGEST + 1);
 
 // Bytes as a field: two hex digits for each, or `-` for none.
-fn put_field(out: &mut [u8], at: usize, bytes: &[u8]) -> usize
+pub fn put_field(out: &mut [u8], at: usize, bytes: &[u8]) -> usize
     requires { ⌜ (length (now bytes) ≤ longestSample) × (at + 2 * longestSample ≤ length (now out)) ⌝ }
     ensures { λ r. ⌜ Wrote (now (out .entry)) at (fieldOf (now (bytes .entry))) (now (out .exit)) r ⌝ }
 {

@@ -1,22 +1,22 @@
 -- `letter` meets its contract. Assumes nothing.
+use Rattle.mergescan.proofs.Kept.{by-verb}
 use borrow.Author.Needs.{needs}
-use Rattle.mergescan.proofs.Kept.{letter-both, letter-either, letter-interleaving}
 use Rattle.mergescan.proofs.letter.Statement.{statement}
 use Rattle.mergescan.proofs.letter.Tie as tie
 
 returns : tie.Need-returns
-returns c = search (needs, letter-both)
+returns c = search (needs, by-verb)
 
 returns-2 : tie.Need-returns-2
-returns-2 c = search (needs, letter-either)
+returns-2 c = search (needs, by-verb)
 
 returns-3 : tie.Need-returns-3
-returns-3 c = search (needs, letter-interleaving)
+returns-3 c = search (needs, by-verb)
 
 pub letter-spec : {M : Type 1} → statement M
 letter-spec =
     tie.close
     (tie.spec
-    (λ c. search needs) (λ c. search needs) (λ c κs. search needs) (λ c. search needs)
     (λ c. search needs) (λ c κs. search needs) (λ c. search needs) (λ c. search needs)
-    (λ c κs. search needs) returns returns-2 returns-3)
+    (λ c κs. search needs) (λ c. search needs) (λ c. search needs) (λ c κs. search needs) returns
+    returns-2 returns-3)

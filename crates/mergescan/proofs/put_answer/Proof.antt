@@ -1,6 +1,6 @@
 -- `put_answer` meets its contract. Assumes nothing.
-use borrow.Author.Needs.{needs}
 use Rattle.mergescan.proofs.Kept.{ends-start, ends-word, ends-first, ends-second, ends-stray}
+use borrow.Author.Needs.{needs}
 use Rattle.mergescan.proofs.put_answer.Statement.{statement}
 use Rattle.mergescan.proofs.put_answer.Tie as tie
 
