@@ -1,0 +1,6 @@
+-- In the order in which they build on each other.
+pub mod Little
+pub mod Goes
+pub mod Steps
+pub mod Sums
+pub mod Ways
