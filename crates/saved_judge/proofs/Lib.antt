@@ -4,3 +4,6 @@ pub mod Goes
 pub mod Steps
 pub mod Sums
 pub mod Ways
+pub mod Fields
+pub mod Judges
+pub mod Claims

@@ -7,12 +7,14 @@
 --   numbers-count                      as many numbers are read as asked for
 --   little-cut, numbers-cut            bytes are those of what is read from them, and the rest
 --   cell-in, numbers-are               number i of those that are read; numbers that are those
+--   little-split                       the lower bytes and the upper ones
 --   single-of, single-in               one number alone
 use mathlib.Core.Path.{_≡_, refl, sym, ap, ap₂, _∙_}
 use mathlib.Core.List.{List, [], _∷_, _++_, append-assoc, append-nil}
 use Prim.Native.Nat.{ℕ, zero, suc, _+_, _*_, _/_, _%_, _^_, _≤_, _<_}
-use native.Mathlib.Nat.{pow-succ', one-le-pow, mod-lt}
+use native.Mathlib.Nat.{pow-suc, pow-succ', one-le-pow, mod-lt, div-div-eq-div-mul}
 use native.Mathlib.Omega.{arith}
+use lib.Arith.{mod-mul}
 use lib.Dec.{lit<}
 use lib.ListN.{length, getD, drop, length-append, length-drop}
 use lib.Seq.{ext-getD, drop-at, drop-drop, getD-drop}
@@ -61,6 +63,23 @@ little-cut (suc w) (x ∷ s) l h =
     let low : x ≡ (x + 256 * y) % 256 = omega (arith, h 0) in
     let high : y ≡ (x + 256 * y) / 256 = omega (arith, h 0) in
     ap₂ _∷_ low (little-cut w s (omega arith) (λ i. h (suc i)) ∙ ap (λ (z : ℕ). littleOf w z ++ drop w s) high)
+
+-- the lower bytes and the upper ones
+pub little-split : (v w x : ℕ) → littleOf (v + w) x ≡ littleOf v (x % 256 ^ v) ++ littleOf w (x / 256 ^ v)
+unfolding littleOf
+little-split zero w x =
+    let e : 0 + w ≡ w = omega arith in
+    let f : x / 1 ≡ x = omega arith in
+    rw (e, f)
+little-split (suc v) w x =
+    let sum : suc v + w ≡ suc (v + w) = omega arith in
+    let p : 256 ^ suc v ≡ 256 ^ v * 256 = pow-suc 256 v in
+    let q : 256 ^ suc v ≡ 256 * 256 ^ v = pow-succ' 256 v in
+    let m : x % 256 ^ suc v ≡ x / 256 % 256 ^ v * 256 + x % 256 = ap (λ (n : ℕ). x % n) p ∙ mod-mul x (one-le-pow v 256 (lit< tt)) (lit< tt) in
+    let low : x % 256 ^ suc v % 256 ≡ x % 256 = omega (arith, m) in
+    let high : x % 256 ^ suc v / 256 ≡ x / 256 % 256 ^ v = omega (arith, m) in
+    let up : x / 256 ^ suc v ≡ x / 256 / 256 ^ v = ap (λ (n : ℕ). x / n) q ∙ sym (div-div-eq-div-mul x 256 (256 ^ v)) in
+    rw (sum, low, high, up) (ap (λ (l : List ℕ). x % 256 ∷ l) (little-split v w (x / 256)))
 
 -- ---- numbers one after the other
 pub numbers-length : (w : ℕ) (xs : List ℕ) → length (numbersOf w xs) ≡ w * length xs

@@ -17,12 +17,13 @@
 --   headRight b              mark, version and length of the bytes b are right
 --   isSaved b                so are the number of bytes and the digest
 --   builtAt b, boardAt b, judgeAt b   what stands in the bytes b, number by number
---   RestoreReply, restoreMeans   none where it is accepted, or the number of the refusal; and what
---                            each case of the code's answer says
---   Restored, restoreOutcome   the outcome of restoring: the refusal, if any, and the judge; and the
---                            outcome that the code's result stands for
---   restoreOf b              the outcome of restoring the bytes b: the judge that stands in them, or
---                            46 and the fresh judge
+--   restoreMeans             what each case of the code's answer says: none where it is accepted, or
+--                            the number of the refusal
+--   Restored, restoreOutcome   the outcome of restoring: that number, and the judge; and the outcome
+--                            that the code's result stands for
+--   restoreAccepted j, restoreRefused   accepted with the judge j; refused with 46, and then the
+--                            judge is the fresh one
+--   restoreOf b              the outcome of restoring the bytes b
 use mathlib.Core.Bool.{Bool, cond, _&&_}
 use mathlib.Core.List.{List, [], _∷_, _++_}
 use mathlib.Core.Option.{Option, none, some}
@@ -148,8 +149,11 @@ pub record Restored : Type 0 where
 abbrev pub restoreOutcome : RestoreResult → Restored
 restoreOutcome r = record { number = restoreMeans (r .answer); judge = r .judge }
 
+abbrev pub restoreAccepted : Judge → Restored
+restoreAccepted j = record { number = none; judge = j }
+
 abbrev pub restoreRefused : Restored
 restoreRefused = record { number = some 46; judge = fresh }
 
 unfoldable pub restoreOf : List ℕ → Restored
-restoreOf b = cond (isSaved b) (record { number = none; judge = judgeAt b }) restoreRefused
+restoreOf b = cond (isSaved b) (restoreAccepted (judgeAt b)) restoreRefused
