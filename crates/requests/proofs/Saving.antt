@@ -10,6 +10,7 @@
 --                               holds, as every value of the type has it
 --   littleOf w x; half, word    a number in bytes; in those of a rule file  saved_judge/specs/Little,
 --                                                                           ruleformat/specs/Writing
+--   cases, Saves                judges saved by another program             saved_judge/specs/Worked
 --   Bytes b, byteAt b i         each is below 256; one of them              ruleformat/specs/Writing
 --   MaySave, MayRestore, ..     what the functions' contracts allow         requests/specs/SaveFunctions
 --   restoreShown                C's numbers                                 c_saved/specs/Numbers
@@ -18,6 +19,11 @@
 -- j is any judge whose numbers are those of the type, also one that no list of calls leaves; b is any
 -- list of bytes. A saved judge is no seal: the digest guards against mistakes, not against attackers.
 -- A proved function ends and stays within its bounds. Assumes nothing.
+-- All that they rest on stands in these files of specs/ (tests/believed):
+--   limits Limits; flags Flags; ruleformat Format, Writing; build mirror/Building; board Boards;
+--   calls Calls, Replies, mirror/Steps; saved_judge Claims, Digest, Little, Saved, Worked;
+--   executions Executions; c_saved Claims, Numbers; capi Numbers; demands Functions; requests
+--   SaveFunctions.
 use mathlib.Core.Path.{_≡_, refl, sym, ap, _∙_, subst}
 use mathlib.Core.Logic.{_↔_}
 use mathlib.Core.List.{List, [], _++_}
@@ -40,7 +46,9 @@ use Rattle.saved_judge.specs.Little.{littleOf}
 use Rattle.saved_judge.specs.Digest.{digestStep}
 use Rattle.saved_judge.specs.Saved.{savedSize, savedOf, restoreOutcome, restoreAccepted, restoreRefused, restoreOf}
 use Rattle.saved_judge.specs.Claims.{Fits}
+use Rattle.saved_judge.specs.Worked.{cases, Saves}
 use Rattle.saved_judge.proofs.Claims as saving
+use Rattle.saved_judge.proofs.Examples as examples
 use Rattle.c_saved.specs.declared.RestoreNumbers.{RestoreNumbers}
 use Rattle.c_saved.specs.Numbers.{restoreShown, restoreReadBack}
 use Rattle.c_saved.specs.Claims as c-claims
@@ -107,6 +115,11 @@ four-bytes = saving.claims .four-bytes
 
 pub eight-bytes : (x : ℕ) → x < 2 ^ 64 → littleOf 8 x ≡ word (x % 2 ^ 32) ++ word (x / 2 ^ 32)
 eight-bytes = saving.claims .eight-bytes
+
+-- a fresh judge, and one whose fields begin with other numbers, come to what another program wrote from
+-- the words alone, byte by byte,
+pub by-program : Saves cases
+by-program = examples.saves
 
 -- and a step of the digest is one to one in the digest for each byte, and in the byte for each digest.
 pub step-in-digest : (h k x : ℕ) → h < 2 ^ 64 → k < 2 ^ 64 → x < 256 → digestStep h x ≡ digestStep k x → h ≡ k

@@ -3,28 +3,28 @@ use mathlib.Core.Path.{_≡_, refl, sym, ap, ap₂, _∙_, subst}
 use mathlib.Core.Logic.{_↔_}
 use mathlib.Core.Bool.{true, false}
 use mathlib.Core.List.{List, [], _∷_, _++_, append-nil}
-use mathlib.Core.Option.{none, some}
+use mathlib.Core.Option.{some}
 use Prim.Native.Nat.{ℕ, zero, suc, _+_, _-_, _/_, _%_, _^_, _≤_, _<_}
 use native.Mathlib.Omega.{arith}
 use lib.Dec.{eqb, ltb, lit<}
 use lib.ListN.{length, getD, take, drop, set, length-append, length-drop, length-take, drop-of-length-le, take-append-drop, List·getD-eq-default}
 use lib.Seq.{take-at, drop-at, drop-drop, getD-drop, getD-take, getD-set-same, length-take-le, take-set-le, take-set-lt, drop-set-lt}
-use borrow.Author.Tests.{eq-eqb, eqb-true, ltb-true, ltb-false, ne-eqb}
+use borrow.Author.Tests.{eq-eqb, eqb-true, ltb-true, ltb-false}
 use Rattle.base.proofs.Options.{none-some}
-use Rattle.base.proofs.Tests.{by-test, not-both}
+use Rattle.base.proofs.Tests.{by-test}
 use Rattle.ruleformat.specs.Format.{byteAt}
 use Rattle.ruleformat.specs.Writing.{Bytes, half, word}
 use Rattle.ruleformat.proofs.Writing.{bytes-append}
 use Rattle.calls.specs.declared.Judge.{Judge}
 use Rattle.saved_judge.specs.Little.{littleOf, littleIn, littleAt}
-use Rattle.saved_judge.specs.Digest.{digestFrom, digestOf}
+use Rattle.saved_judge.specs.Digest.{digestOf}
 use Rattle.saved_judge.specs.Saved.{Restored, Field, fieldsOf, contentOf, savedOf, headRight, isSaved, judgeAt, bytesIn, restoreAccepted, restoreRefused, restoreOf}
 use Rattle.saved_judge.specs.Claims.{Fits, Claims}
 use Rattle.saved_judge.proofs.Little.{bytes-drop, little-length, little-bytes, little-back, little-cut, little-split}
 use Rattle.saved_judge.proofs.Sums.{from-below, step-in-digest, step-in-byte, one-byte}
-use Rattle.saved_judge.proofs.Ways.{fields-length, size-right}
+use Rattle.saved_judge.proofs.Ways.{fields-length}
 use Rattle.saved_judge.proofs.Fields.{fieldsAt, fields-back, fields-cut, fields-bytes}
-use Rattle.saved_judge.proofs.Judges.{and-both, layout, Head, head-numbers, read-all, fits-in, shapes-are, all-fit, judge-of, own-judge, judge-in, head-in, head-is-right}
+use Rattle.saved_judge.proofs.Judges.{and-both, layout, head-numbers, read-all, fits-in, shapes-are, all-fit, judge-of, own-judge, judge-in, head-in, head-is-right}
 
 -- ---- numbers
 two-bytes : (x : ℕ) → x < 65536 → littleOf 2 x ≡ half x

@@ -7,20 +7,19 @@
 --   head-in           the head of bytes in which the fields of a judge stand
 --   judge-of, judge-in    the judge that fields are of, and the one that stands in bytes
 --   fits-in           the numbers of the judge that stands in bytes fit
-use mathlib.Core.Path.{_≡_, refl, sym, ap, _∙_}
+use mathlib.Core.Path.{_≡_, refl, ap}
 use mathlib.Core.Bool.{Bool, true, false, _&&_}
-use mathlib.Core.List.{List, [], _∷_, _++_}
+use mathlib.Core.List.{List, [], _∷_}
 use Prim.Native.Nat.{ℕ, zero, suc, _^_, _<_}
 use native.Mathlib.Nat.{one-le-pow}
-use native.Mathlib.Omega.{arith}
 use lib.Dec.{eqb, lit<}
-use lib.ListN.{length, getD}
+use lib.ListN.{getD}
 use borrow.Author.Tests.{eqb-true}
 use Rattle.base.proofs.Tests.{not-both}
 use Rattle.ruleformat.specs.Writing.{Bytes}
 use Rattle.calls.specs.declared.Judge.{Judge}
-use Rattle.saved_judge.specs.Little.{littleIn, littleAt, numbersIn, numbersAt}
-use Rattle.saved_judge.specs.Saved.{Field, field, one, fieldsOf, headRight, judgeAt}
+use Rattle.saved_judge.specs.Little.{littleAt, numbersIn, numbersAt}
+use Rattle.saved_judge.specs.Saved.{Field, field, fieldsOf, headRight, judgeAt}
 use Rattle.saved_judge.specs.Claims.{Cells, Fits}
 use Rattle.saved_judge.proofs.Little.{bytes-drop, little-below, numbers-below, numbers-count, single-in}
 use Rattle.saved_judge.proofs.Fields.{Shape, shape, shapes, fieldsAt, AllFit}
@@ -118,29 +117,70 @@ module _ (j : Judge) (fits : Fits j) where
   alone w x h (suc i) = one-le-pow w 256 (lit< tt)
 
   pub all-fit : AllFit (fieldsOf j)
-  all-fit =
-      (alone 1 66 (lit< tt),
-      (alone 1 66 (lit< tt),
-      (alone 1 74 (lit< tt),
-      (alone 1 1 (lit< tt),
-      (alone 4 27838 (lit< tt),
-      (alone 1 _ (fits .built .states),
-      (alone 1 _ (fits .built .symbols),
-      (alone 1 _ (fits .built .startcount),
-      (alone 2 _ (fits .built .setcount),
-      (alone 4 _ (fits .built .initials),
-      (alone 4 _ (fits .built .finals),
-      (fits .built .delegates .below,
-      (fits .built .singles .below,
-      (fits .built .sets .below,
-      (fits .built .next .below,
-      (alone 1 _ (fits .board .places),
-      (fits .board .filled .below,
-      (fits .board .counts .below,
-      (fits .board .lengths .below,
-      (fits .board .revisions .below,
-      (fits .board .ends .below,
-      tt)))))))))))))))))))))
+  all-fit = (
+    alone 1 66 (lit< tt),
+    (
+      alone 1 66 (lit< tt),
+      (
+        alone 1 74 (lit< tt),
+        (
+          alone 1 1 (lit< tt),
+          (
+            alone 4 27838 (lit< tt),
+            (
+              alone 1 _ (fits .built .states),
+              (
+                alone 1 _ (fits .built .symbols),
+                (
+                  alone 1 _ (fits .built .startcount),
+                  (
+                    alone 2 _ (fits .built .setcount),
+                    (
+                      alone 4 _ (fits .built .initials),
+                      (
+                        alone 4 _ (fits .built .finals),
+                        (
+                          fits .built .delegates .below,
+                          (
+                            fits .built .singles .below,
+                            (
+                              fits .built .sets .below,
+                              (
+                                fits .built .next .below,
+                                (
+                                  alone 1 _ (fits .board .places),
+                                  (
+                                    fits .board .filled .below,
+                                    (
+                                      fits .board .counts .below,
+                                      (
+                                        fits .board .lengths .below,
+                                        (
+                                          fits .board .revisions .below,
+                                          (
+                                            fits .board .ends .below,
+                                            tt,
+                                          ),
+                                        ),
+                                      ),
+                                    ),
+                                  ),
+                                ),
+                              ),
+                            ),
+                          ),
+                        ),
+                      ),
+                    ),
+                  ),
+                ),
+              ),
+            ),
+          ),
+        ),
+      ),
+    ),
+  )
 
 -- ---- the judge of fields
 part : List Field → ℕ → List ℕ

@@ -7,3 +7,4 @@ pub mod Ways
 pub mod Fields
 pub mod Judges
 pub mod Claims
+pub mod Examples

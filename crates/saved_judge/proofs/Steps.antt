@@ -6,14 +6,14 @@
 --   Cells, cells-begin, cells-room, cells-more, cells-done   writing numbers, one by one
 --   Read, read-begin, read-fits, read-more, read-done        reading a number, the highest byte first
 --   Got, got-begin, got-room, got-more, got-done             reading numbers, one by one
-use mathlib.Core.Path.{_≡_, refl, sym, ap, _∙_}
+use mathlib.Core.Path.{_≡_, _∙_}
 use mathlib.Core.List.{List, [], _∷_, _++_}
-use Prim.Native.Nat.{ℕ, zero, suc, _+_, _-_, _*_, _/_, _%_, _^_, _≤_, _<_}
+use Prim.Native.Nat.{ℕ, suc, _+_, _-_, _*_, _/_, _%_, _^_, _≤_, _<_}
 use native.Mathlib.Nat.{pow-succ', pow-le-pow-right}
 use native.Mathlib.Numerals.{add-one}
 use native.Mathlib.Omega.{arith}
 use lib.Dec.{lit<}
-use lib.ListN.{length, getD, drop, set, length-append, length-drop, length-set, drop-of-length-le}
+use lib.ListN.{length, getD, drop, set, length-append, length-set, drop-of-length-le}
 use lib.Seq.{drop-cons}
 use Rattle.base.proofs.Lists.{cell-stored}
 use Rattle.text.specs.Writing.{Wrote}

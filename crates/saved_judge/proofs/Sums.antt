@@ -55,7 +55,7 @@ from-append h [] ys = refl
 from-append h (x ∷ xs) ys = from-append (digestStep h x) xs ys
 
 -- ---- one to one
-part-mod : (n c m : ℕ) → n * c % m ≡ n % m * c % m
+pub part-mod : (n c m : ℕ) → n * c % m ≡ n % m * c % m
 part-mod n c m =
     ap (λ (k : ℕ). k * c % m) (sym (mod-add-div n m))
     ∙ ap (λ (k : ℕ). k % m) (add-mul (n % m) (m * (n / m)) c ∙ ap (λ (k : ℕ). n % m * c + k) (mul-assoc m (n / m) c))

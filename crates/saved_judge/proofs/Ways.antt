@@ -28,7 +28,7 @@ use Rattle.text.proofs.Fitting.{Put, put, _then_, taken}
 use Rattle.saved_judge.specs.declared.RestoreAnswer.the-variants.{Accepted, Refused}
 use Rattle.saved_judge.specs.Little.{littleOf, littleAt, numbersOf}
 use Rattle.saved_judge.specs.Digest.{digestOf}
-use Rattle.saved_judge.specs.Saved.{Field, field, bytesIn, headFields, numberFields, tableFields, boardFields, fieldsOf, contentOf, savedOf, headRight, isSaved, builtAt, boardAt, judgeAt, restoreOutcome, restoreOf}
+use Rattle.saved_judge.specs.Saved.{Field, field, bytesIn, headFields, numberFields, tableFields, boardFields, contentOf, savedOf, headRight, isSaved, builtAt, boardAt, restoreOutcome, restoreOf}
 use Rattle.saved_judge.proofs.Little.{numbers-length}
 
 abbrev pub sizeOf : List Field → ℕ

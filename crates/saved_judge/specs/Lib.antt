@@ -3,3 +3,4 @@ pub mod Little
 pub mod Digest
 pub mod Saved
 pub mod Claims
+pub mod Worked

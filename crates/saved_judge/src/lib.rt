@@ -13,6 +13,7 @@ use calls::Judge;
 
 // The bytes of a saved judge, and those that come before the digest.
 pub const SAVED: usize = 27838;
+
 const CONTENT: usize = SAVED - 8;
 
 // The version of the format.

@@ -2,7 +2,6 @@
 -- there. Assumes nothing.
 use Prim.Native.Nat.{_-_}
 use native.Mathlib.Omega.{arith}
-use borrow.Author.Needs.{needs}
 use lib.ListN.{length}
 use Rattle.saved_judge.proofs.Steps.{Cells, cells-begin, cells-room, cells-more, cells-done}
 use Rattle.saved_judge.proofs.put_u16s.Statement.{statement}
@@ -23,7 +22,7 @@ cast-put-little c = omega (arith, c .shared-slice-known2 .given (c .before .befo
 put-little-requires : tie.Need-put-little-requires Inv-loop μ-loop
 put-little-requires c κs =
     let x = c .before .before .before .loop in
-    cells-room _ _ 2 _ (x .out) (x .at) (x .i) (x .inv) (c .before .before .loop-test .taken)
+    omega (arith, cells-room _ _ 2 _ (x .out) (x .at) (x .i) (x .inv) (c .before .before .loop-test .taken))
 
 loop-again : tie.Need-loop-again Inv-loop μ-loop
 loop-again c =
