@@ -43,8 +43,8 @@ extern "C" {
 }
 
 impl Judge {
-    /// The judge as bytes, [`SAVED_SIZE`](crate::saved::SAVED_SIZE) of them: the rule, the board, and what
-    /// stands at each place. It refuses nothing.
+    /// The judge as bytes, [`SAVED_SIZE`] of them: the rule, the board, and what stands at each place. It
+    /// refuses nothing.
     ///
     /// ```
     /// use bellbadger::Judge;

@@ -49,7 +49,10 @@ fn the_format() {
     assert_eq!(&bytes[19126 + 8..19126 + 16], [5, 0, 0, 0, 0, 0, 0, 0]);
     let fresh = Judge::new().save();
     assert!(fresh[8..SAVED_SIZE - 8].iter().all(|&x| x == 0));
-    assert_eq!(&fresh[SAVED_SIZE - 8..], [175, 110, 238, 122, 2, 205, 191, 146]);
+    assert_eq!(
+        &fresh[SAVED_SIZE - 8..],
+        [175, 110, 238, 122, 2, 205, 191, 146]
+    );
 }
 
 #[test]
@@ -61,10 +64,8 @@ fn had_back() {
     for place in [0, 2] {
         let _looked = back.deliver(place, 0, &[]).unwrap();
     }
-    let Verdict::Yes { bytes, .. } = back.verdict().unwrap() else {
-        panic!("no yes");
-    };
-    assert_eq!(bytes, 2);
+    let report = back.verdict().unwrap();
+    assert_eq!((report.verdict, report.bytes), (Verdict::Yes(2), 2));
 }
 
 #[test]
