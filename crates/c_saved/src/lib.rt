@@ -1,6 +1,7 @@
 // A judge as bytes, and back, for C, Rust and Python. The answer to restoring is numbers.
 ghost use mathlib.Core.Path.{_≡_};
 ghost use Rattle.saved_judge.specs.Saved.{savedOf, restoreOf};
+ghost use Rattle.saved_judge.specs.Claims.{Fits};
 ghost use Rattle.c_saved.specs.Numbers.{restoreShown};
 use calls::Judge;
 use saved_judge::RestoreAnswer;
@@ -14,10 +15,10 @@ pub struct RestoreNumbers {
     pub judge: Judge,
 }
 
-// The judge, which may be any value, as bytes.
+// The judge, which may be any value, as bytes: its numbers are those of the type.
 #[no_mangle]
 pub extern "C" fn bellbadger_save(judge: Judge) -> Saved
-    ensures { λ r. ⌜ r .bytes ≡ savedOf judge ⌝ }
+    ensures { λ r. ⌜ Fits judge × (r .bytes ≡ savedOf judge) ⌝ }
 {
     saved_judge::save(judge)
 }

@@ -133,7 +133,7 @@ step-in-byte = saving.claims .step-in-byte
 pub save-asks-nothing : (j : Judge) → AsksSave j
 save-asks-nothing j = tt
 
-pub saves : (j : Judge) (r : Saved) → MaySave j r ↔ (r .bytes ≡ savedOf j)
+pub saves : (j : Judge) (r : Saved) → MaySave j r ↔ (Fits j × (r .bytes ≡ savedOf j))
 saves j r = ((λ x. x .1), λ e. ((j, tt), e))
 
 pub restore-asks-nothing : (κs : Lfts 1) (b : RefT (List ℕ)) → AsksRestore κs b
@@ -146,7 +146,7 @@ restores b r = ((λ x. x .4 ∙ ap restoreOf (x .3)), λ e. (([], tt), lent b, (
 pub save-asks-nothing-from-C : (j : Judge) → AsksSaveC j
 save-asks-nothing-from-C = c-asks.save-asks-nothing
 
-pub saves-from-C : (j : Judge) (r : Saved) → MaySaveC j r ↔ (r .bytes ≡ savedOf j)
+pub saves-from-C : (j : Judge) (r : Saved) → MaySaveC j r ↔ (Fits j × (r .bytes ≡ savedOf j))
 saves-from-C j r = ((λ x. x .1), λ e. ((j, tt), e))
 
 pub restore-asks-nothing-from-C : (κs : Lfts 1) (b : RefT (List ℕ)) → AsksRestoreC κs b
@@ -164,13 +164,20 @@ pub each-number : c-claims.Claims
 each-number = c-saved.claims
 
 -- ---- GOING ON
--- Whatever calls left a judge: where it is saved, and the bytes are restored, the judge that is had back
--- is one that these calls leave. So all that is proved of lists of calls holds of the calls that follow.
-pub goes-on : (h : List Call) (rs : List Reply) (j : Judge) → Execution cLibrary h rs j → Fits j
+-- Whatever judge was saved: where the bytes are restored, it is had back. That its numbers are those of
+-- the type, the function that saves it promises.
+pub had-back : (j : Judge) (s : Saved) → MaySaveC j s → (r : RestoreNumbers) → MayRestoreC (s .bytes) r
+    → r ≡ restoreShown (restoreAccepted j)
+had-back j s saved r back =
+    let law = saves-from-C j s .0 saved in
+    restores-from-C (s .bytes) r .0 back ∙ ap (λ (b : List ℕ). restoreShown (restoreOf b)) (law .1) ∙ ap restoreShown (restored j (law .0))
+
+-- Whatever calls left it: the judge that is had back is one that these calls leave. So all that is proved
+-- of lists of calls holds of the calls that follow.
+pub goes-on : (h : List Call) (rs : List Reply) (j : Judge) → Execution cLibrary h rs j
     → (s : Saved) → MaySaveC j s → (r : RestoreNumbers) → MayRestoreC (s .bytes) r
     → (r .accepted ≡ 1) × (r .judge ≡ j) × Execution cLibrary h rs (r .judge)
-goes-on h rs j ran fits s saved r back =
-    let is : r ≡ restoreShown (restoreAccepted j) =
-    restores-from-C (s .bytes) r .0 back ∙ ap (λ (b : List ℕ). restoreShown (restoreOf b)) (saves-from-C j s .0 saved) ∙ ap restoreShown (restored j fits) in
+goes-on h rs j ran s saved r back =
+    let is = had-back j s saved r back in
     let same : r .judge ≡ j = ap (λ (n : RestoreNumbers). n .judge) is in
     (ap (λ (n : RestoreNumbers). n .accepted) is, same, subst (λ (k : Judge). Execution cLibrary h rs k) (sym same) ran)

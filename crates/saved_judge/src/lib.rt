@@ -7,6 +7,7 @@ ghost use Rattle.text.specs.Writing.{Wrote};
 ghost use Rattle.saved_judge.specs.Little.{littleOf, littleAt, numbersOf, numbersAt};
 ghost use Rattle.saved_judge.specs.Digest.{digestStep, digestOf};
 ghost use Rattle.saved_judge.specs.Saved.{savedSize, bytesIn, headFields, numberFields, tableFields, boardFields, savedOf, headRight, isSaved, builtAt, boardAt, restoreOutcome, restoreOf};
+ghost use Rattle.saved_judge.specs.Claims.{FitsBuilt, FitsBoard, Fits};
 use board::Board;
 use build::Built;
 use calls::Judge;
@@ -240,12 +241,29 @@ fn digest(bytes: &[u8], count: usize) -> u64
     next
 }
 
-// The judge as bytes. Any value is taken.
+// Every number of a built rule is one that its type holds: this only says so, and is compiled to
+// nothing.
+fn of_type(built: Built) -> u8
+    ensures { λ r. ⌜ FitsBuilt built ⌝ }
+{
+    built.n
+}
+
+// The same of a board.
+fn of_type_board(board: Board) -> u8
+    ensures { λ r. ⌜ FitsBoard board ⌝ }
+{
+    board.places
+}
+
+// The judge as bytes. Any value is taken: its numbers are those of the type.
 pub fn save(judge: Judge) -> Saved
-    ensures { λ r. ⌜ r .bytes ≡ savedOf judge ⌝ }
+    ensures { λ r. ⌜ Fits judge × (r .bytes ≡ savedOf judge) ⌝ }
 {
     let built = judge.built;
     let board = judge.board;
+    of_type(built);
+    of_type_board(board);
     let mut bytes = [0u8; SAVED];
     let a = put_head(&mut bytes);
     let b = put_numbers(&mut bytes, a, built);
