@@ -1,5 +1,5 @@
-"""What tests/follow and tests/losses share: they hold the library (outside/build), called from Python, to what the other
-implementation (reference/) prints from a seed and a number."""
+"""What tests/follow, tests/losses and tests/saved share: they hold the library (outside/build), called from Python, to
+what the other implementation (reference/) prints from a seed and a number."""
 import os
 import re
 import subprocess

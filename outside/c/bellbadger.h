@@ -39,7 +39,7 @@
  * Another major number or size: the two do not fit. A higher minor number of the library: it can
  * more than this header says. */
 #define BELLBADGER_VERSION_MAJOR 5
-#define BELLBADGER_VERSION_MINOR 7
+#define BELLBADGER_VERSION_MINOR 8
 #define BELLBADGER_VERSION (BELLBADGER_VERSION_MAJOR * 65536 + BELLBADGER_VERSION_MINOR)
 #define BELLBADGER_STATE_SIZE 27832 /* the bytes of a bellbadger_judge */
 
@@ -222,6 +222,7 @@ BELLBADGER_RESULT bellbadger_replay_result bellbadger_replay(const uint8_t *text
 #endif
 
 #include "bellbadger_losses.h"
+#include "bellbadger_saved.h"
 #include "bellbadger_mappings.h"
 #include "bellbadger_samples.h"
 #include "bellbadger_follow.h"

@@ -118,6 +118,14 @@ public:
         }
     }
 
+    // The judge as bytes, BELLBADGER_SAVED_SIZE of them, into out.
+    void save(std::uint8_t *out) const { bellbadger_save_at(&judge_, out); }
+
+    // Makes it the judge that was saved as the bytes; refused with 46 it stays as it is.
+    BELLBADGER_RESULT Result<Done> restore(const std::uint8_t *bytes, std::size_t length) {
+        return answer(bellbadger_restore_at(&judge_, bytes, length), Done());
+    }
+
     // The same with anything that has data() and size(): a vector, an array, a span of bytes.
     template <typename Bytes>
     BELLBADGER_RESULT Result<Loaded> load(const Bytes &file) {
@@ -127,6 +135,11 @@ public:
     template <typename Bytes>
     BELLBADGER_RESULT Result<Looked> deliver(std::size_t place, std::uint32_t revision, const Bytes &chunk) {
         return deliver(place, revision, chunk.data(), chunk.size());
+    }
+
+    template <typename Bytes>
+    BELLBADGER_RESULT Result<Done> restore(const Bytes &bytes) {
+        return restore(bytes.data(), bytes.size());
     }
 
     // For the functions of the other headers.

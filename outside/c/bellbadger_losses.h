@@ -9,10 +9,11 @@
  * bellbadger_diagnose tells the place, without the chunks; bellbadger_locate tells the byte, where the
  * chunk is handed in once more. Both change nothing.
  */
-#ifndef BELLBADGER_LOSSES_H
-#define BELLBADGER_LOSSES_H
-
+/* bellbadger.h includes this in its place, before what goes by pointer. */
+#ifndef BELLBADGER_H
 #include "bellbadger.h"
+#elif !defined(BELLBADGER_LOSSES_H)
+#define BELLBADGER_LOSSES_H
 
 #ifdef __cplusplus
 extern "C" {

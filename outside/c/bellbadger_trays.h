@@ -10,10 +10,11 @@
  * ends and stays within its bounds, but only a tray that began with bellbadger_tray_new and went through
  * the calls below has a meaning.
  */
-#ifndef BELLBADGER_TRAYS_H
-#define BELLBADGER_TRAYS_H
-
+/* bellbadger.h includes this in its place, before what goes by pointer. */
+#ifndef BELLBADGER_H
 #include "bellbadger.h"
+#elif !defined(BELLBADGER_TRAYS_H)
+#define BELLBADGER_TRAYS_H
 
 #define BELLBADGER_TRAY_SIZE 12332 /* the bytes of a bellbadger_tray */
 

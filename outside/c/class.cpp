@@ -53,10 +53,25 @@ static void answers() {
     CHECK(judge.verdict().error().number() == 21 && copy.verdict()->verdict == Verdict::no);
 }
 
+static void saved() {
+    Judge judge, other;
+    CHECK(judge.load(rule_a).has_value() && judge.open(2).has_value());
+    const std::vector<std::uint8_t> zero = {0}, one = {1};
+    CHECK(judge.deliver(0, 0, zero).has_value());
+    std::vector<std::uint8_t> bytes(BELLBADGER_SAVED_SIZE);
+    judge.save(bytes.data());
+    CHECK(other.restore(bytes.data(), bytes.size() - 1).error().number() == 46 && other.verdict().error().number() == 21);
+    CHECK(other.restore(bytes).has_value() && other.verdict()->verdict == Verdict::waiting);
+    CHECK(other.deliver(1, 0, one).has_value() && other.verdict()->is_yes() && !judge.verdict()->is_yes());
+    bytes[9]++;
+    CHECK(other.restore(bytes).error().number() == 46 && other.verdict()->is_yes());
+}
+
 int main() {
     CHECK(bellbadger::fits());
     refusals();
     answers();
+    saved();
 #ifdef A_VERDICT_AS_TRUTH
     if (Judge().verdict()) std::puts("ship");
 #endif

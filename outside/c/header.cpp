@@ -20,6 +20,8 @@ static bool right() {
     bellbadger_verdict_result verdict = bellbadger_verdict(delivered.judge);
     bellbadger_diagnose_result diagnosed = bellbadger_diagnose(delivered.judge);
     bellbadger_locate_result located = bellbadger_locate(delivered.judge, 0, text, sizeof text);
+    bellbadger_saved saved = bellbadger_save(delivered.judge);
+    bellbadger_restore_result restored = bellbadger_restore(saved.bytes, sizeof saved.bytes);
     bellbadger_withdraw_result withdrawn = bellbadger_withdraw(opened.judge, 0);
     bellbadger_sample_result sample = bellbadger_sample(BELLBADGER_ACCEPTED_TEXT, read.rule);
     bellbadger_follower_result follower = bellbadger_follower_prepare(read.rule);
@@ -56,6 +58,7 @@ static bool right() {
         && verdict.kind == BELLBADGER_YES && verdict.number == 2 && verdict.bytes == 2 && verdict.quotient == 1
         && verdict.remainder == 0 && bellbadger_is_yes(verdict) && !bellbadger_is_yes(replayed) && !withdrawn.accepted && withdrawn.refused == 23
         && diagnosed.kind == BELLBADGER_OPEN && diagnosed.number == 1 && located.kind == BELLBADGER_NOWHERE && located.number == 0
+        && saved.bytes[0] == 'B' && saved.bytes[8] == 3 && restored.accepted && restored.refused == 0 && restored.judge.rule.count == 5
         && bellbadger_profile_size() == sizeof(bellbadger_profile) && built.accepted && built.profile.count == 5 && ran.accepted
         && ran.mapping.masks[0] == 5 && twice.masks[0] == 5 && bellbadger_profile_verdict(built.profile, twice) == 1
         && sample.kind == BELLBADGER_SAMPLE && sample.length == 2 && sample.text[0] == 0 && sample.text[1] == 1

@@ -31,6 +31,7 @@ static bellbadger_failure_form form;
 static bellbadger_follower follower, no_follower;
 static bellbadger_tray tray, tray_opened, tray_filled;
 static bellbadger_summary summary;
+static bellbadger_saved saved;
 
 /* A call, by which its result is kept: how many bytes that has. */
 #define CALL(at, type, call)                              \
@@ -65,6 +66,9 @@ CALL(replay_record, bellbadger_replay_result, bellbadger_replay(TEXT(record)))
 CALL(replay_installation, bellbadger_replay_result, bellbadger_replay(TEXT(installation)))
 CALL(diagnose_filled, bellbadger_diagnose_result, bellbadger_diagnose(filled))
 CALL(diagnose_no_board, bellbadger_diagnose_result, bellbadger_diagnose(ruled))
+CALL(save_filled, bellbadger_saved, bellbadger_save(filled))
+CALL(restore_saved, bellbadger_restore_result, bellbadger_restore(saved.bytes, sizeof saved.bytes))
+CALL(restore_cut, bellbadger_restore_result, bellbadger_restore(saved.bytes, sizeof saved.bytes - 1))
 CALL(locate_plain, bellbadger_locate_result, bellbadger_locate(filled, 1, plain, sizeof plain))
 CALL(locate_idle, bellbadger_locate_result, bellbadger_locate(filled, 1, idle, sizeof idle))
 CALL(locate_gap, bellbadger_locate_result, bellbadger_locate(opened, 1, idle, sizeof idle))
@@ -144,6 +148,7 @@ static const struct {
     {"verdict", verdict_filled}, {"verdict", verdict_opened},
     {"replay", replay_record}, {"replay", replay_installation},
     {"diagnose", diagnose_filled}, {"diagnose", diagnose_no_board},
+    {"save", save_filled}, {"restore", restore_saved}, {"restore", restore_cut},
     {"locate", locate_plain}, {"locate", locate_idle}, {"locate", locate_gap}, {"locate", locate_no_board},
     {"profile_size", profile_size},
     {"profile_build", profile_build_a}, {"profile_build", profile_build_ring},
@@ -218,6 +223,7 @@ static void prepare(void) {
     ruled = bellbadger_install(fresh, a).judge;
     opened = bellbadger_open(ruled, 2).judge;
     filled = bellbadger_deliver(bellbadger_deliver(opened, 0, 0, idle, 99).judge, 1, 0, plain, 99).judge;
+    saved = bellbadger_save(filled);
     profile = bellbadger_profile_build(a).profile;
     mapping = bellbadger_profile_run(profile, plain, 2).mapping;
     form = bellbadger_form(ruled).form;

@@ -64,6 +64,90 @@ static void boards(int opened) {
     }
 }
 
+/* neither changes the judge, whatever is asked */
+static void losses(void) {
+    uint8_t chunk[4];
+    size_t place = any(4), length = any(5);
+    for (size_t i = 0; i < sizeof chunk; i++) chunk[i] = (uint8_t)(any(12) ? any(2) : any(256));
+    bellbadger_diagnose_result d = bellbadger_diagnose(by_value), d_at = bellbadger_diagnose_at(&by_pointer);
+    CHECK(d.kind == d_at.kind && d.number == d_at.number);
+    bellbadger_locate_result l = bellbadger_locate(by_value, place, chunk, length);
+    bellbadger_locate_result l_at = bellbadger_locate_at(&by_pointer, place, chunk, length);
+    CHECK(l.kind == l_at.kind && l.number == l_at.number && same(&by_pointer, &by_value));
+}
+
+/* saved from one judge and restored in another; refused, that one stays as it is */
+static void saved(void) {
+    static uint8_t bytes[BELLBADGER_SAVED_SIZE];
+    static bellbadger_judge had, other;
+    bellbadger_saved due = bellbadger_save(by_value);
+    memset(bytes, 0xA5, sizeof bytes);
+    bellbadger_save_at(&by_pointer, bytes);
+    CHECK(!memcmp(bytes, due.bytes, sizeof bytes) && same(&by_pointer, &by_value));
+    bellbadger_new_at(&had);
+    other = had;
+    CHECK(bellbadger_restore_at(&had, bytes, sizeof bytes - any(2) - 1) == 46 && same(&had, &other));
+    bytes[any(sizeof bytes)] ^= 1;
+    CHECK(bellbadger_restore_at(&had, bytes, sizeof bytes) == 46 && same(&had, &other));
+    CHECK(bellbadger_restore_at(&had, due.bytes, sizeof due.bytes) == 0 && same(&had, &by_value));
+}
+
+static bellbadger_tray tray, tray_at;
+
+static int same_trays(const bellbadger_tray *a, const bellbadger_tray *b) {
+    return a->row.n == b->row.n && a->row.k == b->row.k && a->row.initials == b->row.initials && a->row.finals == b->row.finals
+        && !memcmp(a->row.targets, b->row.targets, sizeof a->row.targets) && a->column.n == b->column.n && a->column.k == b->column.k
+        && a->column.initials == b->column.initials && a->column.finals == b->column.finals
+        && !memcmp(a->column.targets, b->column.targets, sizeof a->column.targets) && !memcmp(&a->board, &b->board, sizeof a->board);
+}
+
+static void left_tray(int number, int accepted, int refused, const bellbadger_tray *next) {
+    CHECK(number == (accepted ? 0 : refused));
+    CHECK(same_trays(&tray_at, next));
+    tray = *next;
+}
+
+static void tray_rules(int row) {
+    uint8_t starts = UNTOUCHED;
+    uint16_t sets = UNTOUCHED;
+    bellbadger_checked_rule rule = read_file(rule_a, sizeof rule_a, 0);
+    if (any(3) == 0) rule.k = (uint8_t)any(20);
+    bellbadger_tray_install_result r = row ? bellbadger_tray_install_row(tray, rule) : bellbadger_tray_install_column(tray, rule);
+    int number = row ? bellbadger_tray_install_row_at(&tray_at, &rule, &sets, &starts) : bellbadger_tray_install_column_at(&tray_at, &rule, &sets, &starts);
+    left_tray(number, r.accepted, r.refused, &r.tray);
+    CHECK(r.accepted ? sets == r.sets && starts == r.starts : sets == UNTOUCHED && starts == UNTOUCHED);
+}
+
+static void tray_calls(unsigned which) {
+    uint8_t rows[8];
+    size_t band = any(4), length = any(9), width = any(6);
+    for (size_t i = 0; i < sizeof rows; i++) rows[i] = (uint8_t)(any(12) ? any(2) : any(256));
+    if (which < 4) {
+        tray_rules(which < 2);
+    } else if (which < 7) {
+        bellbadger_tray_open_result r = bellbadger_tray_open(tray, width, band);
+        left_tray(bellbadger_tray_open_at(&tray_at, width, band), r.accepted, r.refused, &r.tray);
+    } else if (which < 8) {
+        bellbadger_tray_withdraw_result r = bellbadger_tray_withdraw(tray, band);
+        left_tray(bellbadger_tray_withdraw_at(&tray_at, band), r.accepted, r.refused, &r.tray);
+    } else {
+        bellbadger_tray_deliver_result r = bellbadger_tray_deliver(tray, band, rows, length);
+        left_tray(bellbadger_tray_deliver_at(&tray_at, band, rows, length), r.accepted, r.refused, &r.tray);
+    }
+    bellbadger_tray_verdict_result v = bellbadger_tray_verdict(tray), v_at = bellbadger_tray_verdict_at(&tray_at);
+    CHECK(v.kind == v_at.kind && v.number == v_at.number);
+    bellbadger_tray_fault_result f = bellbadger_tray_fault(tray), f_at = bellbadger_tray_fault_at(&tray_at);
+    CHECK(f.kind == f_at.kind && f.number == f_at.number && f.column == f_at.column && f.band == f_at.band && f.row == f_at.row);
+}
+
+static void trays(void) {
+    tray = bellbadger_tray_new();
+    memset(&tray_at, 7, sizeof tray_at);
+    bellbadger_tray_new_at(&tray_at);
+    CHECK(same_trays(&tray, &tray_at));
+    for (int call = 0; call < 40; call++) tray_calls(any(24));
+}
+
 static int answers(void) {
     bellbadger_verdict_result v = bellbadger_verdict(by_value), v_at = bellbadger_verdict_at(&by_pointer);
     CHECK(v.kind == v_at.kind && v.number == v_at.number && v.bytes == v_at.bytes);
@@ -84,7 +168,10 @@ int main(void) {
             else if (which < 5) boards(which < 3);
             else deliveries();
             kinds[answers()]++;
+            losses();
         }
+        saved();
+        trays();
     }
     CHECK(kinds[BELLBADGER_REFUSED] && kinds[BELLBADGER_WAITING] && kinds[BELLBADGER_YES] && kinds[BELLBADGER_NO]);
     /* an answer that nobody wants */

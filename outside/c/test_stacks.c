@@ -29,6 +29,8 @@ static void *caller(void *unused) {
     bellbadger_verdict_result verdict = bellbadger_verdict(delivered.judge);
     bellbadger_diagnose_result diagnosed = bellbadger_diagnose(delivered.judge);
     bellbadger_locate_result located = bellbadger_locate(delivered.judge, 0, chunk, sizeof chunk);
+    bellbadger_saved saved = bellbadger_save(delivered.judge);
+    bellbadger_restore_result restored = bellbadger_restore(saved.bytes, sizeof saved.bytes);
     bellbadger_withdraw_result withdrawn = bellbadger_withdraw(delivered.judge, 0);
     bellbadger_replay_result replayed = bellbadger_replay((const uint8_t *)record, sizeof record - 1);
     bellbadger_profile_build_result built = bellbadger_profile_build(read.rule);
@@ -62,6 +64,7 @@ static void *caller(void *unused) {
     CHECK(same(&loaded.judge, &installed.judge) && withdrawn.judge.board.lengths[0] == 0 && judge.rule.n == 0);
     CHECK(bellbadger_is_yes(verdict) && bellbadger_is_yes(replayed) && replayed.bytes == 2);
     CHECK(diagnosed.kind == BELLBADGER_OPEN && diagnosed.number == 1 && located.kind == BELLBADGER_NOWHERE);
+    CHECK(TAKEN(restored) && same(&restored.judge, &delivered.judge));
     CHECK(TAKEN(built) && TAKEN(ran) && bellbadger_profile_verdict(built.profile, composed) == 1);
     CHECK(bellbadger_follower_size() == sizeof follower.follower && TAKEN(follower) && TAKEN(followed) && followed_by.ends);
     CHECK(bellbadger_summary_size() == sizeof combined && TAKEN(summarized) && bellbadger_is_yes(concluded) && concluded.bytes == 2 * verdict.bytes);

@@ -22,7 +22,7 @@ from bellbadger.texts import make_text
 from bellbadger.trays import Tray
 
 A = read(bytes.fromhex("03020100000004000000160006001C0002001E0000000000000101000102"))
-SUBJECTS = ("judge", "rules", "losses", "follow", "summaries", "cluster", "mappings", "samples", "patterns", "merge", "compare", "reduce", "trays", "form", "texts")
+SUBJECTS = ("judge", "rules", "losses", "saved", "follow", "summaries", "cluster", "mappings", "samples", "patterns", "merge", "compare", "reduce", "trays", "form", "texts")
 WIDE = array.array("H", [0, 1])
 
 
@@ -66,6 +66,7 @@ WRONG_TYPES = [
         (JUDGE.withdraw, [0], 0, "place", "a whole number", NO_NUMBER),
         (JUDGE.locate, [0, b""], 0, "place", "a whole number", NO_NUMBER),
         (JUDGE.locate, [0, b""], 1, "chunk", "bytes", NO_BYTES),
+        (Judge.restore, [b""], 0, "data", "bytes", NO_BYTES),
         (JUDGE.summarize, [0, b""], 0, "number", "a whole number", NO_NUMBER),
         (JUDGE.summarize, [0, b""], 1, "chunk", "bytes", NO_BYTES),
         (JUDGE.conclude, [SUMMARY, 1], 0, "summary", "a Summary", NO_SUMMARY),
@@ -178,7 +179,7 @@ NO_SIZES = (
 )
 
 # what takes no arguments, and what the package alone makes
-WITHOUT = {"version", "Judge", "Tray", "Judge.verdict", "Judge.diagnose", "Tray.verdict", "Tray.fault", "Follower.begin", "Follower.drop_refused", "Summary.to_bytes"}
+WITHOUT = {"version", "Judge", "Tray", "Judge.verdict", "Judge.diagnose", "Judge.save", "Tray.verdict", "Tray.fault", "Follower.begin", "Follower.drop_refused", "Summary.to_bytes"}
 ANSWERS = {"Loaded", "Looked", "Waiting", "Yes", "No", "TrayWaiting", "TrayYes", "TrayNo", "TrayRefused", "Row", "Column", "Short", "Lost", "Open", "Followed", "Refused", "RefusedChunk", "Malformed"} | {"FirstAlone", "SecondAlone", "Same", "Reduced"}
 
 

@@ -336,7 +336,7 @@ class Module(unittest.TestCase):
             self.assertTrue(module.__doc__ and module.__all__)
 
     def test_version(self):
-        self.assertEqual(bellbadger.version(), (5, 7))
+        self.assertEqual(bellbadger.version(), (5, 8))
 
     def imported_from(self, folder):
         run = subprocess.run(

@@ -799,7 +799,7 @@ class Records(Case):
         data = FILES["good.txt"].encode()
         files = [{"name": "good.txt", "sha256": hashlib.sha256(data).hexdigest(), "length": len(data)}]
         self.assertEqual((good["trace"], good["verdict"], good["count"], good["bytes"]), ({"form": "text", "files": files}, "yes", 4, 4))
-        self.assertEqual((good["where"], good["events"], good["library"]), (None, ["red", "blue", "purge"], "5.7"))
+        self.assertEqual((good["where"], good["events"], good["library"]), (None, ["red", "blue", "purge"], "5.8"))
         self.assertRegex(good["time"], r"^20\d\d-\d\d-\d\dT\d\d:\d\d:\d\d\+00:00$")
         self.assertEqual((bad["verdict"], bad["where"]["line"], bad["where"]["expected"]), ("no", 4, ["purge"]))
         self.assertEqual((short["verdict"], short["where"]), ("no", {"lost": False, "expected": ["purge"], "could_end": False}))

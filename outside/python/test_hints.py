@@ -11,7 +11,7 @@ import bellbadger
 from bellbadger import compare, follow, form, mappings, merge, patterns, reduce, samples, summaries, texts, trays
 
 MODULES = (bellbadger, bellbadger.cluster, compare, follow, form, bellbadger.losses, mappings, merge, patterns, reduce,
-           bellbadger.judge, bellbadger.refusals, bellbadger.rules, samples, summaries, texts, trays)
+           bellbadger.judge, bellbadger.refusals, bellbadger.rules, samples, bellbadger.saved, summaries, texts, trays)
 
 
 def own(kind):
@@ -73,6 +73,7 @@ class Hints(unittest.TestCase):
         self.fits(judge.diagnose)
         self.fits(judge.locate, 1, b"\1")
         self.fits(judge.deliver, 1, 0, bytearray(b"\1"))
+        self.fits(bellbadger.Judge.restore, self.fits(judge.save))
         self.fits(judge.verdict)
         whole = self.fits(summaries.combine, self.fits(judge.summarize, 0, b"\0"), self.fits(judge.summarize, 1, b"\1"))
         self.fits(judge.conclude, self.fits(summaries.Summary.from_bytes, self.fits(whole.to_bytes)), 2)

@@ -23,6 +23,7 @@ pub mod reducedmerges;
 pub mod reductions;
 pub mod rule;
 pub mod samples;
+pub mod saved;
 pub mod shrink;
 pub mod summaries;
 pub mod table;

@@ -163,7 +163,7 @@ fn some_chunk(r: &mut Random, judge: &Judge, place: usize, longest: usize) -> Ve
 }
 
 /// The next call; until there are a rule and a board, mostly one that makes them.
-fn some_call(r: &mut Random, judge: &Judge, longest: usize) -> Call {
+pub(crate) fn some_call(r: &mut Random, judge: &Judge, longest: usize) -> Call {
     if judge.rule().is_none() && !r.one_in(10) { return some_rule(r); }
     let places = r.pick(&[1, 2, 3, 3, 4, 6, 64]);
     if judge.board().is_none() && !r.one_in(10) { return Call::Open(places); }

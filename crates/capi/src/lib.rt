@@ -77,14 +77,14 @@ pub struct ReplayNumbers {
 // The version of these functions, and how many bytes a judge has as C lays it out.
 const MAJOR: u32 = 5;
 
-const MINOR: u32 = 7;
+const MINOR: u32 = 8;
 
 const STATE_SIZE: usize = 27832;
 
 // The version that the library was built with: the major number times 65,536, and the minor one.
 #[no_mangle]
 pub extern "C" fn bellbadger_version() -> u32
-    ensures { λ r. ⌜ r ≡ 5 * 65536 + 7 ⌝ }
+    ensures { λ r. ⌜ r ≡ 5 * 65536 + 8 ⌝ }
 {
     MAJOR * 65536 + MINOR
 }

@@ -18,6 +18,7 @@ pub mod TrayTexts
 pub mod Trays
 pub mod Faults
 pub mod Losses
+pub mod Saving
 pub mod FollowFunctions
 pub mod Following
 pub mod FollowingLines

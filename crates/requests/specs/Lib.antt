@@ -11,6 +11,7 @@ pub mod TrayFunctions
 pub mod TrayTexts
 pub mod FaultFunctions
 pub mod LossFunctions
+pub mod SaveFunctions
 pub mod FollowFunctions
 pub mod SummaryFunctions
 pub mod CompareFunction

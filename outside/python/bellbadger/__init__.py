@@ -48,7 +48,7 @@ A refused call raises Refused, which has the number, and leaves the judge as it 
 threads may call at once, each with a judge of its own. A thread that calls should have a stack of
 1 MB (threading.stack_size).
 
-Each further subject is a module: losses, follow, summaries, mappings, samples, patterns, merge, compare, reduce,
+Each further subject is a module: losses, saved, follow, summaries, mappings, samples, patterns, merge, compare, reduce,
 trays, form, texts; and cluster, for a client of Dask's distributed. The command for people, python3 -m bellbadger,
 is the package command.
 
@@ -56,7 +56,7 @@ An installed package has the library in it. In the repository it needs target/li
 outside/build makes, on x86-64. The variable BELLBADGER_LIB of the environment names another folder for either.
 """
 
-from . import cluster, compare, follow, form, losses, mappings, merge, patterns, reduce, samples, summaries, texts, trays
+from . import cluster, compare, follow, form, losses, mappings, merge, patterns, reduce, samples, saved, summaries, texts, trays
 from ._library import VERSION as __version__
 from ._library import version
 from .judge import Judge, Loaded, Looked, No, Waiting, Yes, replay

@@ -7,7 +7,7 @@ from pathlib import Path
 from typing import Tuple
 
 # what this package was written for, as outside/c/bellbadger.h has it; a higher minor number fits too
-_MAJOR, _MINOR = 5, 7
+_MAJOR, _MINOR = 5, 8
 VERSION = f"{_MAJOR}.{_MINOR}"
 
 _HELP = "Make it, at the top of the repository, with: outside/build, or name the folder that has it in BELLBADGER_LIB."

@@ -10,6 +10,7 @@ from ._verdicts import Verdict
 from .losses import Lost, Open, RawDiagnosis, RawSpot, diagnosis, spot
 from .refusals import Malformed, Refused
 from .rules import CheckedRule, RawRule, raw
+from .saved import RawSaved
 from .summaries import RawSummarized, RawSummary, Summary, raw_summary, summarized
 
 __all__ = ["Judge", "Loaded", "Looked", "Waiting", "Yes", "No", "replay"]
@@ -142,6 +143,8 @@ declare("open", _Change, RawState, ctypes.c_size_t)
 declare("deliver", _Delivery, RawState, ctypes.c_size_t, ctypes.c_uint32, *DATA)
 declare("withdraw", _Change, RawState, ctypes.c_size_t)
 declare("verdict", _Verdict, RawState)
+declare("save", RawSaved, RawState)
+declare("restore", _Change, *DATA)
 declare("diagnose", RawDiagnosis, RawState)
 declare("locate", RawSpot, RawState, ctypes.c_size_t, *DATA)
 declare("summarize", RawSummarized, RawState, ctypes.c_uint64, *DATA)
@@ -230,6 +233,22 @@ class Judge:
         """
         data = as_bytes("locate", "chunk", chunk)
         return spot(lib.bellbadger_locate(self._state, size("locate", "place", place), data, len(data)))
+
+    def save(self) -> bytes:
+        """The judge as bytes, saved.SAVED_SIZE of them, whatever stands in it; changes nothing."""
+        return bytes(lib.bellbadger_save(self._state).bytes)
+
+    @classmethod
+    def restore(cls, data: Bytes) -> "Judge":
+        """The judge that was saved as the bytes, which may be any: calls on it are answered as on the one that was
+        saved. Refused with 46 where they are cut, altered or of another version."""
+        given = as_bytes("restore", "data", data)
+        result = lib.bellbadger_restore(given, len(given))
+        if not result.accepted:
+            raise Refused(result.refused)
+        judge = cls()
+        judge._state = result.state
+        return judge
 
     def summarize(self, number: int, chunk: Bytes) -> Summary:
         """The summaries.Summary of the chunk with that number, below 2**64: chunks of a trace are numbered from 0 on.

@@ -36,6 +36,7 @@ _REASONS = {
     43: "the summary is by another rule",
     44: "the summary does not end with the last chunk, or there is none",
     45: "within 512 pairs of sets the rules do not differ, and there are more",
+    46: "the saved judge is cut, altered or of another version",
 }
 
 

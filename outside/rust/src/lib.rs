@@ -41,6 +41,8 @@
 //! Where a trace went wrong is told before all chunks are there: the place ([`Judge::diagnose`]) and the
 //! byte ([`Judge::locate`]).
 //!
+//! A judge can be kept as bytes and had back ([`saved`]).
+//!
 //! Chunks on many machines, of any number and for every rule, are summarized one by one ([`summaries`]).
 //! For small rules there is a mapping machine ([`mappings`]): chunks are run on whatever machines, and what
 //! comes of them, eight bytes each, is put together afterwards.
@@ -74,6 +76,7 @@ pub mod reduce;
 mod refused;
 mod rule;
 pub mod samples;
+pub mod saved;
 pub mod summaries;
 pub mod texts;
 pub mod trays;

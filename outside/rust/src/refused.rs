@@ -64,6 +64,7 @@ impl Refused {
             43 => "the summary is by another rule",
             44 => "the summary does not end with the last chunk, or there is none",
             45 => "within 512 pairs of sets the rules do not differ, and there are more",
+            46 => "the saved judge is cut, altered or of another version",
             _ => "for a reason that this wrapper does not know",
         }
     }
@@ -121,11 +122,11 @@ mod tests {
     /// Each of the paper's numbers has words of its own.
     #[test]
     fn every_number_has_its_words() {
-        let numbers = (1..=13).chain(20..=23).chain(30..=45);
+        let numbers = (1..=13).chain(20..=23).chain(30..=46);
         let words: BTreeSet<&str> = numbers
             .chain([99])
             .map(|number| Refused::new(number).reason())
             .collect();
-        assert_eq!(words.len(), 33 + 1);
+        assert_eq!(words.len(), 34 + 1);
     }
 }
