@@ -77,7 +77,7 @@ class TraceFollower:
             return f"refused {refused.args[0]}"
 
 
-# 0 and then 1 and nothing else; what comes out of turn leads to a state from which no final one is reached
+# 0 and then 1 and nothing else; what comes out of order leads to a state from which no final one is reached
 ONCE = file_of(3, 2, 1, 4, {(0, 0, 1), (1, 1, 2)})
 TRAP = file_of(3, 2, 1, 2, {(0, 0, 1), (0, 1, 2), (1, 0, 2), (1, 1, 0), (2, 0, 2), (2, 1, 2)})
 # symbol 15 in turn with symbol 0: the highest bit of a mask

@@ -163,17 +163,17 @@ BELLBADGER_RESULT bellbadger_judge bellbadger_new(void);
 
 /* Reads a rule file and answers the rule in it. Refused with
  *   1 too short for a head (10 bytes)      2 longer than any rule (32,906 bytes)
- *   3 no number of states from 1 to 32     4 no number of symbols from 1 to 16
- *   5 too short for the list of pairs      6 a mask names a state that there is not
+ *   3 the number of states is not in 1..32      4 that of symbols is not in 1..16
+ *   5 too short for the list of pairs      6 a mask names a state that does not exist
  *   7 a pair has a wrong offset or an odd length, or the sections do not end where the file does
- *   8 an arc has a symbol or a target that there is not, or the arcs of a section do not rise */
+ *   8 an arc has a symbol or a target that does not exist, or arcs are not ascending */
 BELLBADGER_RESULT bellbadger_read_result bellbadger_read(const uint8_t *file, size_t length);
 
 /* Checks and builds a rule, whatever stands in it; replaces the former one and removes the board.
  * Refused with
  *   3, 4, 6 as above
- *   8 a target mask names a state that there is not, or one kept for a state or a symbol that there is
- *     not (a state from n on, a symbol from k on) is not 0
+ *   8 a target mask names a state that does not exist, or one kept for a state or a symbol that
+ *     does not exist (a state from n on, a symbol from k on) is not 0
  *   9 the rule has over 512 sets */
 BELLBADGER_RESULT bellbadger_install_result bellbadger_install(bellbadger_judge judge, bellbadger_checked_rule rule);
 
@@ -181,7 +181,7 @@ BELLBADGER_RESULT bellbadger_install_result bellbadger_install(bellbadger_judge 
 BELLBADGER_RESULT bellbadger_load_result bellbadger_load(bellbadger_judge judge, const uint8_t *file, size_t length);
 
 /* A board of that many empty places; drops an earlier one. Refused with
- *   20 no rule is there      10 no number of places from 1 to 64 */
+ *   20 no rule is there      10 the number of places is not in 1..64 */
 BELLBADGER_RESULT bellbadger_open_result bellbadger_open(bellbadger_judge judge, size_t places);
 
 /* Runs a chunk and keeps its end sets, count, length and revision at the place. A controller that sends

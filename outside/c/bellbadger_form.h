@@ -3,7 +3,7 @@
  *
  * Where a set's cells are those of a lower-numbered set they are left out and looked up there. To look the
  * cell of set t and symbol s up in the form: while bit s of kept[t] is 0 go to failure[t], which is lower;
- * set 0 keeps all its cells. Then the cell is the kept one: it stands behind all kept cells of lower sets
+ * set 0 keeps all its cells. Then the cell is the kept one: it follows all kept cells of lower sets
  * and of lower symbols of that set.
  */
 #ifndef BELLBADGER_FORM_H
@@ -61,7 +61,7 @@ BELLBADGER_RESULT bellbadger_form_result bellbadger_form(bellbadger_judge judge)
  * kept one are not read. Refused with
  *   40 there are not 1 to 512 sets and 1 to 16 symbols, a set above 0 has a failure set that is not below
  *      it, a cell of set 0 is left out, a mask has a bit for no symbol, or a kept cell names a set that
- *      there is not */
+ *      does not exist */
 BELLBADGER_RESULT bellbadger_table_result bellbadger_form_back(bellbadger_failure_form form);
 
 #ifdef __cplusplus

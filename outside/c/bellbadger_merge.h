@@ -1,7 +1,7 @@
 /* Two rules made one, for a machine with two heads. bellbadger.h includes this.
  *
  * The result is a checked rule as bellbadger_read answers it: it can be installed, merged again, or kept.
- * It may have more than 512 sets: that is told where it is installed, with 9.
+ * It may have more than 512 sets: that is reported where it is installed, with 9.
  */
 #ifndef BELLBADGER_MERGE_H
 #define BELLBADGER_MERGE_H

@@ -9,7 +9,7 @@
  * accepts their texts joined.
  *
  * A chunk that is lost, doubled or out of its order leaves a summary that is broken, begins elsewhere or ends
- * elsewhere: it is refused, and never a wrong yes. A summary by another rule is told by the rule's digest, and
+ * elsewhere: it is refused, and never a wrong yes. A summary by another rule is recognised by the rule's digest, and
  * refused; two rules that differ have the same digest only by chance. This is a guard against mistakes and not
  * against attackers: whoever makes up the numbers of a summary can have any verdict.
  */

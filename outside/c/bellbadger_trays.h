@@ -75,7 +75,7 @@ BELLBADGER_RESULT bellbadger_tray_install_result bellbadger_tray_install_row(bel
 BELLBADGER_RESULT bellbadger_tray_install_result bellbadger_tray_install_column(bellbadger_tray tray, bellbadger_checked_rule rule);
 
 /* A board of that many bands, all empty, for rows of that width; an earlier one is dropped. Refused with
- *   20 either rule is absent      38 no width from 1 to 16      10 no number of bands from 1 to 8 */
+ *   20 either rule is absent      38 the width is not in 1..16      10 the number of bands is not in 1..8 */
 BELLBADGER_RESULT bellbadger_tray_open_result bellbadger_tray_open(bellbadger_tray tray, size_t width, size_t bands);
 
 /* Keeps rows, which may be none, as a band; bands are counted from 0. There are no idle marks. Refused with

@@ -1,4 +1,4 @@
-/* A rule file is read and the rule installed; then two controllers deliver out of turn. Rule A accepts
+/* A rule file is read and the rule installed; then two controllers deliver out of order. Rule A accepts
  * the texts that end in 0 1. Every answer is looked at: a refused call hands back the judge that came,
  * and only `accepted` tells. */
 #include <inttypes.h>

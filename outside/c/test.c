@@ -110,10 +110,10 @@ static void installing(void) {
     for (size_t i = 0; i < sizeof bad_k; i++) r = a, r.k = bad_k[i], r.finals = 8, install(&j, r, 4);
     r = a, r.initials = 8, install(&j, r, 6);
     r = a, r.finals = 0x80000000, install(&j, r, 6);
-    r = a, r.targets[0] = 8, install(&j, r, 8);          /* a target that there is not */
+    r = a, r.targets[0] = 8, install(&j, r, 8);          /* a target that does not exist */
     r = a, r.targets[2 * 16 + 1] = 8, install(&j, r, 8);
-    r = a, r.targets[2] = 1, install(&j, r, 8);          /* a symbol that there is not */
-    r = a, r.targets[3 * 16] = 1, install(&j, r, 8);     /* a state that there is not */
+    r = a, r.targets[2] = 1, install(&j, r, 8);          /* a symbol that does not exist */
+    r = a, r.targets[3 * 16] = 1, install(&j, r, 8);     /* a state that does not exist */
     r = a, r.targets[511] = 1, install(&j, r, 8);
     /* the tenth symbol from the end is 1: more than 512 sets */
     memset(&r, 0, sizeof r);

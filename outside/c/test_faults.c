@@ -12,7 +12,7 @@ enum { WIDTH = 16, BANDS = 8, ROWS = 64, MOST = BANDS * ROWS };
 typedef bellbadger_checked_rule rule;
 typedef bellbadger_tray_fault_result fault;
 
-/* over 0 and 1: what ends in 0 1; 0, 0 1 0, 0 1 0 1 0 and so on, with a trap for what comes out of turn; all texts */
+/* over 0 and 1: what ends in 0 1; 0, 0 1 0, 0 1 0 1 0 and so on, with a trap for what comes out of order; all texts */
 static const rule ends = {.n = 3, .k = 2, .initials = 1, .finals = 4, .targets = {3, 1, [17] = 4}};
 static const rule in_turn = {.n = 3, .k = 2, .initials = 1, .finals = 2, .targets = {2, 4, [16] = 4, 1, [32] = 4, 4}};
 static const rule all = {.n = 1, .k = 2, .initials = 1, .finals = 1, .targets = {1, 1}};

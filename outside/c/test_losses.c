@@ -12,7 +12,7 @@ static const uint8_t rule_a[] = {
     0x03, 0x02, 0x01, 0x00, 0x00, 0x00, 0x04, 0x00, 0x00, 0x00, 0x16, 0x00, 0x06, 0x00, 0x1C,
     0x00, 0x02, 0x00, 0x1E, 0x00, 0x00, 0x00, 0x00, 0x00, 0x00, 0x01, 0x01, 0x00, 0x01, 0x02,
 };
-/* samples/trap.rule: 0, 0 1 0, 0 1 0 1 0 and so on; what comes out of turn leads to state 2 and stays there */
+/* samples/trap.rule: 0, 0 1 0, 0 1 0 1 0 and so on; what comes out of order leads to state 2 and stays there */
 static const uint8_t trap_rule[] = {
     0x03, 0x02, 0x01, 0x00, 0x00, 0x00, 0x02, 0x00, 0x00, 0x00, 0x16, 0x00, 0x04, 0x00, 0x1A, 0x00, 0x04,
     0x00, 0x1E, 0x00, 0x04, 0x00, 0x00, 0x01, 0x01, 0x02, 0x00, 0x02, 0x01, 0x00, 0x00, 0x02, 0x01, 0x02,
@@ -273,7 +273,7 @@ static void board(void) {
         length[p] = any_chunk(chunks[p], set), there[p] = below(8) != 0;
         set = run(set, chunks[p], length[p]);
     }
-    for (size_t i = 0, at = below((uint32_t)places); i < places; i++, at = (at + 1) % places) /* out of turn */
+    for (size_t i = 0, at = below((uint32_t)places); i < places; i++, at = (at + 1) % places) /* out of order */
         if (there[at]) deliver(&j, at, below(9), chunks[at], length[at], 0);
     for (p = 0, set = rule.initials; p < places && there[p]; p++) {
         set = run(set, chunks[p], length[p]);

@@ -211,7 +211,7 @@ static void five_by_nine(void) {
     for (int way = 0; way < WAYS; way++) beside_the_words(way, one, two), beside_the_words(way, two, one);
 }
 
-/* 37 is told of pairs that are reachable and live, be they alike or not, and of no others */
+/* 37 is due to pairs that are reachable and live, be they alike or not, and of no others */
 static void limits(void) {
     bellbadger_checked_rule due = cycle(32);
     for (int way = 0; way < WAYS; way++) {

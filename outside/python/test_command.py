@@ -627,7 +627,7 @@ class Boards(Case):
         self.says(["board", rule, "calls.txt"], said, status, beside)
 
     def test_lists(self):
-        self.listed("open 2\n# out of turn\ndeliver 1 0 purge # second\nverdict\ndeliver 0 0 red\nverdict\n", 0,
+        self.listed("open 2\n# out of order\ndeliver 1 0 purge # second\nverdict\ndeliver 0 0 red\nverdict\n", 0,
                     "accepted\naccepted: 1 event\nwaiting for 1 place\naccepted: 1 event\nyes: 3 transitions, 2 events\n")
         self.listed("open 1\ndeliver 0 0 red\nverdict\n", 1, "accepted\naccepted: 1 event\nno: 1 transitions, 1 events\n")
         self.listed("open 1\ndeliver 0 0 -\nverdict\n", 0, "accepted\naccepted: 0 events\nyes: 0 transitions, 0 events\n")
@@ -738,13 +738,13 @@ class Trays(Case):
             (["b0", "b8"], "b8:2: an event is missing beside a comma"),
             (["b6"], "bellbadger: no band has a row: say how wide rows are with --width"),
             (["b0", "gone"], "gone: No such file or directory"),
-            (["b1"] * 9, "bellbadger: refused 10: no number of bands from 1 to 8"),
+            (["b1"] * 9, "bellbadger: refused 10: the number of bands is not in 1..8"),
         ):
             self.says(["tray", "row.txt", "column.txt", *bands], "", 2, due + "\n")
         self.put("many", "off\n" * 65)
         self.says(["tray", "row.txt", "row.txt", "many"], "", 2, "many: refused 39: the band is not whole rows, or has over 64\n")
         self.put("wide", "off " * 17 + "\n")
-        self.says(["tray", "row.txt", "row.txt", "wide"], "", 2, "bellbadger: refused 38: no width from 1 to 16\n")
+        self.says(["tray", "row.txt", "row.txt", "wide"], "", 2, "bellbadger: refused 38: the width is not in 1..16\n")
         self.put("bw.txt", "events black white\npattern black*\n")
         self.assertEqual(self.quickly("tray", "row.txt", "bw.txt", "b0")[2], 2)
 

@@ -16,7 +16,7 @@ def rule(initials, finals, *rows):
 
 
 ENDS_IN_0_1 = rule(1, 4, (3, 1), (0, 4), (0, 0))
-# 0, 0 1 0, 0 1 0 1 0 and so on; what comes out of turn leads to state 2 and stays there
+# 0, 0 1 0, 0 1 0 1 0 and so on; what comes out of order leads to state 2 and stays there
 IN_TURN = rule(1, 2, (2, 4), (4, 1), (4, 4))
 ALL = rule(1, 1, (1, 1))
 NOTHING = rule(1, 0, (1, 1))

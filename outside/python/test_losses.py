@@ -20,7 +20,7 @@ def rule(initials, finals, *rows):
     return CheckedRule(len(rows), 2, initials, finals, targets + [0] * (512 - len(targets)))
 
 
-# 0, 0 1 0, 0 1 0 1 0 and so on; what comes out of turn leads to state 2 and stays there
+# 0, 0 1 0, 0 1 0 1 0 and so on; what comes out of order leads to state 2 and stays there
 IN_TURN = rule(1, 2, (2, 4), (4, 1), (4, 4))
 ENDS_IN_0_1 = rule(1, 4, (3, 1), (0, 4), (0, 0))
 

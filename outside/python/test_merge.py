@@ -100,7 +100,7 @@ class Merging(unittest.TestCase):
         self.assertEqual(arcs, {(0, 0): 2, (0, 2): 4, (1, 1): 1, (2, 3): 8})
 
     def test_thirty_seven(self):
-        """It is told of pairs that are reachable and live, be they alike or not, and of no others."""
+        """It is due to pairs that are reachable and live, be they alike or not, and of no others."""
         self.assertEqual(merge_reduced(BOTH, cycle(32), cycle(32)), cycle(32))
         self.assertEqual(merge_reduced(EITHER, cycle(15), cycle(17)).n, 32)
         self.assertLess(merge_reduced(INTERLEAVING, cycle(4), cycle(8)).n, 32)

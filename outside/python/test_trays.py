@@ -157,9 +157,9 @@ class Trays(unittest.TestCase):
             23: (tray.withdraw, 0),
         }
         due = {
-            38: "no width from 1 to 16",
+            38: "the width is not in 1..16",
             39: "the band is not whole rows, or has over 64",
-            10: "no number of bands from 1 to 8",
+            10: "the number of bands is not in 1..8",
             23: "the band is empty",
         }
         for number, (call, *arguments) in words.items():

@@ -128,7 +128,7 @@ fn some_bytes(r: &mut Random, a: &Automaton, mut set: u32, length: usize) -> Vec
     bytes
 }
 
-/// Some of the places up to the first that is empty, and seldom another, or one that there is not.
+/// Some of the places up to the first that is empty, and seldom another, or one that does not exist.
 fn some_place(r: &mut Random, judge: &Judge) -> usize {
     let places = judge.board().map_or(1, |board| board.len());
     match (diagnose(judge), r.below(12)) {

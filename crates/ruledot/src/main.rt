@@ -23,7 +23,9 @@ fn draw(file: &[u8]) {
 }
 
 fn main() {
-    if stdio::has_arguments(b"usage: ruledot < RULE   (takes no arguments; see README.md)\n") {
+    if stdio::has_arguments(
+        b"usage: ruledot < RULE   (takes no arguments; see docs/PROGRAMS.md)\n",
+    ) {
         return;
     }
     let mut file = [0u8; limits::FILE_ROOM];

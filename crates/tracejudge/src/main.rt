@@ -122,7 +122,9 @@ fn run(
 }
 
 fn main() {
-    if stdio::has_arguments(b"usage: tracejudge < CALLS   (takes no arguments; see README.md)\n") {
+    if stdio::has_arguments(
+        b"usage: tracejudge < CALLS   (takes no arguments; see docs/FORMATS.md)\n",
+    ) {
         return;
     }
     let mut line = [0u8; limits::LINE];

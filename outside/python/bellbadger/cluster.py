@@ -136,7 +136,7 @@ def judge(client: Any, rule: CheckedRule, chunks: Union[Mapping, Iterable], coun
     chunks is a mapping from the numbers of the chunks, which are 0 up to count - 1, to the chunks, in any order; or a
     sequence or an iterator that gives them in order: then the place of a chunk is its number, and that two are
     exchanged nobody can tell. Say count from what is known of the trace, and not from the chunks that are there: one
-    that never came is told by it.
+    that never came is noticed by it.
 
     A chunk is a path, which a worker opens; or something to be called without arguments, on a worker, which answers
     bytes; or bytes, which travel through the scheduler and stay there until the end: for short traces. A path is made

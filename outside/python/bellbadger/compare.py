@@ -85,7 +85,7 @@ def compare(one: CheckedRule, two: CheckedRule) -> Union[FirstAlone, SecondAlone
 
     Refused with 3, 4, 6, 8 for the first rule, then for the second, then 36 (different numbers of symbols), 45
     (too many pairs: there are 513 texts of which no two lead to the same pair of sets, one set of each rule, and
-    none is later than a text that exactly one rule accepts; so a difference that shows soon is told however many
+    none is later than a text that exactly one rule accepts; so a difference that shows soon is reported however many
     pairs there are).
     """
     result = lib.bellbadger_compare(raw("compare", "one", one), raw("compare", "two", two))

@@ -12,7 +12,7 @@
     >>> table(Form(2, (0, 1), (3, 0), (0, 0)))
     Traceback (most recent call last):
     ...
-    bellbadger.refusals.Refused: refused 40: the form is of no table
+    bellbadger.refusals.Refused: refused 40: not a valid form
 """
 
 import ctypes
@@ -103,7 +103,7 @@ def table(form: Form) -> Tuple[Tuple[Optional[int], ...], ...]:
 
     Refused with 40: there are not 1 to 512 sets and 1 to 16 symbols, a set above 0 has a failure set that
     is not below it, a cell of set 0 is left out, a mask has a bit for no symbol, or a kept cell names a set
-    that there is not.
+    that does not exist.
     """
     expect("table", "form", form, Form)
     value = _Form(len(form.kept), form.symbols)

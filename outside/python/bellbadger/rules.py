@@ -44,7 +44,7 @@ class CheckedRule:
         return f"<CheckedRule: states {self.n}, symbols {self.k}, initial {initial}, final {final}, arcs {arcs}>"
 
     def target_mask(self, state: int, symbol: int) -> int:
-        """The mask of the states that a symbol leads to from a state; 0 for one that there is not."""
+        """The mask of the states that a symbol leads to from a state; 0 for one that does not exist."""
         state, symbol = whole("target_mask", "state", state), whole("target_mask", "symbol", symbol)
         return self.targets[state * 16 + symbol] if 0 <= state < 32 and 0 <= symbol < 16 else 0
 

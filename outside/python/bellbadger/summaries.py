@@ -11,7 +11,7 @@ with these chunks would say, every field, also of more chunks than a board takes
     >>> judge = Judge()
     >>> judge.load(bytes.fromhex("03020100000004000000160006001C0002001E0000000000000101000102"))
     Loaded(sets=5, starts=3)
-    >>> later = judge.summarize(1, bytes([1]))  # chunks come out of turn
+    >>> later = judge.summarize(1, bytes([1]))  # chunks come out of order
     >>> earlier = judge.summarize(0, bytes([0, 255]))  # 255 is an idle mark
     >>> whole = combine(earlier, later)
     >>> whole
@@ -22,7 +22,7 @@ with these chunks would say, every field, also of more chunks than a board takes
     True
 
 A chunk that is lost, doubled or out of its order ends in a refusal and never in a wrong yes, where the number of
-chunks is said from what is known of the trace, and not from the summary. A summary by another rule is told by the
+chunks is said from what is known of the trace, and not from the summary. A summary by another rule is recognised by the
 rule's digest, and refused; two rules that differ have the same digest only by chance.
 
     >>> judge.conclude(combine(later, earlier), 2)

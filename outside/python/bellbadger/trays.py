@@ -30,7 +30,7 @@ Rows of two events, in two bands, which come in any order:
 The columns are 0 0 and 1 1. With no rows at all each column is the empty text. A refused call raises
 TrayRefused, which is a Refused with the words for a tray, and leaves the tray as it was.
 
-Where a tray goes wrong is told while bands are still missing too:
+Where a tray goes wrong is reported while bands are still missing too:
 
     >>> tray.fault()
     Open(bands=2)
@@ -79,7 +79,7 @@ _OPEN, _FAULT_ROW, _FAULT_COLUMN, _FAULT_SHORT = 6, 7, 8, 9
 
 # where a tray has other words than a judge
 _REASONS = {
-    10: "no number of bands from 1 to 8",
+    10: "the number of bands is not in 1..8",
     11: "the board has no such band",
     13: "a byte is no symbol of the row rule, or none of the column rule",
     20: "the row rule or the column rule is not there",

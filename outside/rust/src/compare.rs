@@ -32,7 +32,7 @@ impl Comparison {
     /// Whether the two rules accept the same texts. That there is an answer, `Ok(..)`, says nothing of
     /// that.
     ///
-    /// Asking is not enough; an answer that is dropped is told by the compiler:
+    /// Asking is not enough; an answer that is dropped is reported by the compiler:
     ///
     /// ```compile_fail
     /// #![deny(unused_must_use)]
@@ -79,7 +79,7 @@ extern "C" {
 /// 3, 4, 6, 8 as for [`Judge::install`](crate::Judge::install), of the first rule, then of the second;
 /// then 36 (different numbers of symbols), 45 (too many pairs: there are 513 texts of which no two lead
 /// to the same pair of sets, one set of each rule, and none is later than a text that exactly one rule
-/// accepts; so a difference that shows soon is told however many pairs there are).
+/// accepts; so a difference that shows soon is reported however many pairs there are).
 ///
 /// ```
 /// use bellbadger::compare::{compare, Comparison};

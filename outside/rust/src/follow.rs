@@ -186,7 +186,7 @@ impl Followed {
     /// Whether the rule accepts all that came, up to the end of this chunk: the yes or no of a filled
     /// board with the same chunks. Chunks that were refused and dropped are no part of it.
     ///
-    /// Asking is not enough; an answer that is dropped is told by the compiler:
+    /// Asking is not enough; an answer that is dropped is reported by the compiler:
     ///
     /// ```compile_fail
     /// #![deny(unused_must_use)]

@@ -158,7 +158,7 @@ extern "C" {
 /// assert_eq!(small.cells[..6], [1, 0, 2, EMPTY_SET, 4, EMPTY_SET]);
 /// assert_eq!(table(&small)?.next[16..18], [1, 2]);
 /// small.failure[4] = 4;
-/// assert_eq!(table(&small).unwrap_err().to_string(), "refused 40: the form is of no table");
+/// assert_eq!(table(&small).unwrap_err().to_string(), "refused 40: not a valid form");
 /// # Ok::<(), Refused>(())
 /// ```
 pub fn form(judge: &Judge) -> Result<Box<Form>, Refused> {

@@ -13,7 +13,7 @@
 //! let loaded = judge.load(&rule_a)?;
 //! assert_eq!((loaded.sets, loaded.starts), (5, 3));
 //! judge.open(2)?;
-//! let looked = judge.deliver(1, 0, &[1])?; // chunks come out of turn
+//! let looked = judge.deliver(1, 0, &[1])?; // chunks come out of order
 //! assert_eq!(looked.bytes, 1);
 //! assert_eq!(judge.verdict()?.verdict, Verdict::Waiting(1));
 //! let _looked = judge.deliver(0, 0, &[0])?;
@@ -35,10 +35,10 @@
 //! fewer states [`merge::merge_reduced`]). [`texts::make_text`] makes test texts. For a smaller
 //! table on a nozzle board there is the failure form ([`form::form`]).
 //!
-//! Whether a changed rule still means the same, and if not the first text on which the two differ, is told
+//! Whether a changed rule still means the same, and if not the first text on which the two differ, is reported
 //! by [`compare::compare`]. A rule can be made smaller without changing what it accepts ([`reduce::reduce`]).
 //!
-//! Where a trace went wrong is told before all chunks are there: the place ([`Judge::diagnose`]) and the
+//! Where a trace went wrong is reported before all chunks are there: the place ([`Judge::diagnose`]) and the
 //! byte ([`Judge::locate`]).
 //!
 //! A judge can be kept as bytes and had back ([`saved`]).
@@ -53,7 +53,7 @@
 //! Rows of events whose columns keep to a rule too are judged by a tray ([`trays`]), which tells where it goes
 //! wrong before all bands are there.
 //!
-//! A refusal that nobody looks at is told by the compiler:
+//! A refusal that nobody looks at is reported by the compiler:
 //!
 //! ```compile_fail
 //! #![deny(unused_must_use)]
@@ -168,7 +168,7 @@ impl Verdict {
     /// assert!(!Verdict::No(3).is_yes() && !Verdict::Waiting(1).is_yes());
     /// ```
     ///
-    /// Asking is not enough; an answer that is dropped is told by the compiler:
+    /// Asking is not enough; an answer that is dropped is reported by the compiler:
     ///
     /// ```compile_fail
     /// #![deny(unused_must_use)]
@@ -283,16 +283,16 @@ impl Judge {
     /// removes the board.
     ///
     /// # Errors
-    /// 3 (no number of states from 1 to 32), 4 (no number of symbols from 1 to 16), 6 (a mask names a
-    /// state that there is not), 8 (so does a target mask, or one kept for a state or a symbol that
-    /// there is not is not 0), 9 (over 512 sets).
+    /// 3 (the number of states is not in 1..32), 4 (the number of symbols is not in 1..16), 6 (a mask names a
+    /// state that does not exist), 8 (so does a target mask, or one kept for a state or a symbol that
+    /// does not exist is not 0), 9 (over 512 sets).
     ///
     /// ```
     /// # use bellbadger::{CheckedRule, Judge};
     /// let mut rule = CheckedRule { n: 2, k: 1, initials: 1, finals: 2, targets: [0; 512] };
     /// rule.targets[0] = 0b10; // from state 0 by symbol 0 to state 1
     /// assert_eq!(Judge::new().install(&rule).map(|loaded| loaded.sets), Ok(2));
-    /// rule.targets[1] = 0b10; // a symbol 1 that there is not
+    /// rule.targets[1] = 0b10; // a symbol 1 that does not exist
     /// assert_eq!(Judge::new().install(&rule).unwrap_err().number(), 8);
     /// ```
     pub fn install(&mut self, rule: &CheckedRule) -> Result<Loaded, Refused> {
@@ -321,7 +321,7 @@ impl Judge {
     /// A board of that many empty places; an earlier one is dropped.
     ///
     /// # Errors
-    /// 20 (no rule is there), 10 (no number of places from 1 to 64).
+    /// 20 (no rule is there), 10 (the number of places is not in 1..64).
     ///
     /// ```
     /// # use bellbadger::Judge;

@@ -13,7 +13,7 @@
 //!     3, 2, 1, 0, 0, 0, 4, 0, 0, 0, 22, 0, 6, 0, 28, 0, 2, 0, 30, 0, 0, 0, 0, 0, 0, 1, 1, 0, 1, 2,
 //! ];
 //! let profile = Profile::build(&read(&rule_a)?)?;
-//! let later = profile.run(&[1])?; // chunks come out of turn
+//! let later = profile.run(&[1])?; // chunks come out of order
 //! let earlier = profile.run(&[0, 255])?; // 255 is an idle mark
 //! assert!(profile.accepts(earlier.then(later)));
 //! assert!(!profile.accepts(later.then(earlier)));

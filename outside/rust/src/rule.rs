@@ -26,7 +26,7 @@ pub struct CheckedRule {
     /// The mask of final states.
     pub finals: u32,
     /// The mask of the targets of state q and symbol s stands at q × 16 + s; it is 0 for a state or a
-    /// symbol that there is not.
+    /// symbol that does not exist.
     pub targets: [u32; 512],
 }
 
@@ -68,7 +68,7 @@ impl fmt::Debug for CheckedRule {
 /// Reads a rule file: the rule in it. No judge is needed.
 ///
 /// # Errors
-/// 1 to 8: the file is no rule. (9, over 512 sets, is told where the rule is installed.)
+/// 1 to 8: the file is no rule. (9, over 512 sets, is reported where the rule is installed.)
 ///
 /// ```
 /// use bellbadger::{read, Judge};

@@ -17,7 +17,7 @@
 //! ];
 //! let mut judge = Judge::new();
 //! let _loaded = judge.load(&rule_a)?;
-//! let later = judge.summarize(1, &[1])?; // chunks come out of turn
+//! let later = judge.summarize(1, &[1])?; // chunks come out of order
 //! let earlier = judge.summarize(0, &[0, 255])?; // 255 is an idle mark
 //! let whole = earlier.then(later);
 //! assert!(judge.conclude(whole, 2)?.is_yes());
@@ -30,7 +30,7 @@
 //! ```
 //!
 //! A chunk that is lost, doubled or out of its order ends in a refusal and never in a wrong yes. A summary by
-//! another rule is told by the rule's digest, and refused; two rules that differ have the same digest only by
+//! another rule is recognised by the rule's digest, and refused; two rules that differ have the same digest only by
 //! chance. This is a guard against mistakes and not against attackers: whoever makes up the numbers of a
 //! summary can have any verdict.
 use crate::raw::{RawJudge, RawVerdict};

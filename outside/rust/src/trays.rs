@@ -29,7 +29,7 @@
 //! # Ok::<(), TrayRefused>(())
 //! ```
 //!
-//! Where a tray goes wrong is told while bands are still missing too ([`Tray::fault`]).
+//! Where a tray goes wrong is reported while bands are still missing too ([`Tray::fault`]).
 use crate::{fits, CheckedRule, Loaded, Refused};
 use std::error::Error;
 use std::fmt;
@@ -66,7 +66,7 @@ impl TrayVerdict {
     /// assert!(!TrayVerdict::No.is_yes() && !TrayVerdict::Waiting(1).is_yes());
     /// ```
     ///
-    /// Asking is not enough; an answer that is dropped is told by the compiler:
+    /// Asking is not enough; an answer that is dropped is reported by the compiler:
     ///
     /// ```compile_fail
     /// #![deny(unused_must_use)]
@@ -152,7 +152,7 @@ impl TrayRefused {
 
     fn reason(self) -> &'static str {
         match self.number() {
-            10 => "no number of bands from 1 to 8",
+            10 => "the number of bands is not in 1..8",
             11 => "the board has no such band",
             13 => "a byte is no symbol of the row rule, or none of the column rule",
             20 => "the row rule or the column rule is not there",
@@ -342,7 +342,7 @@ impl Tray {
     /// A board of that many empty bands, for rows of that width; an earlier one is dropped.
     ///
     /// # Errors
-    /// 20 (either rule is absent), 38 (no width from 1 to 16), 10 (no number of bands from 1 to 8).
+    /// 20 (either rule is absent), 38 (the width is not in 1..16), 10 (the number of bands is not in 1..8).
     ///
     /// ```
     /// use bellbadger::{patterns::rule_file, read, trays::Tray};

@@ -24,7 +24,7 @@ fn ends() -> CheckedRule {
     rule(1, 4, &[[3, 1], [0, 4], [0, 0]])
 }
 
-/// 0, 0 1 0, 0 1 0 1 0 and so on; what comes out of turn leads to state 2 and stays there.
+/// 0, 0 1 0, 0 1 0 1 0 and so on; what comes out of order leads to state 2 and stays there.
 fn in_turn() -> CheckedRule {
     rule(1, 2, &[[2, 4], [4, 1], [4, 4]])
 }

@@ -18,7 +18,7 @@ fn rule(initials: u32, finals: u32, rows: &[[u32; 2]]) -> CheckedRule {
     }
 }
 
-/// 0, 0 1 0, 0 1 0 1 0 and so on; what comes out of turn leads to state 2 and stays there.
+/// 0, 0 1 0, 0 1 0 1 0 and so on; what comes out of order leads to state 2 and stays there.
 fn in_turn() -> CheckedRule {
     rule(1, 2, &[[2, 4], [4, 1], [4, 4]])
 }

@@ -160,7 +160,7 @@ fn cycle(n: u8) -> CheckedRule {
     }
 }
 
-/// 37 is told of pairs that are reachable and live, be they alike or not, and of no others.
+/// 37 is due to pairs that are reachable and live, be they alike or not, and of no others.
 #[test]
 fn thirty_seven() {
     let refused = |way, one, two| merge_reduced(way, &one, &two).unwrap_err().number();

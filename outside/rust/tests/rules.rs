@@ -89,7 +89,7 @@ fn values_that_are_refused() {
     }
     assert_eq!(number(installed(&changed(|rule| rule.initials = 8))), 6);
     assert_eq!(number(installed(&changed(|rule| rule.finals = 1 << 31))), 6);
-    // a target, a symbol and a state that there is not, and the last mask of all
+    // a target, a symbol and a state that does not exist, and the last mask of all
     for (cell, mask) in [(17, 8), (2, 1), (48, 1), (511, 1)] {
         let refused = installed(&changed(|rule| rule.targets[cell] = mask)).unwrap_err();
         assert_eq!(refused.number(), 8);

@@ -193,10 +193,10 @@ fn words() {
     let mut tray = with(&a(), &e(), 2, 1);
     tray.deliver(0, &[]).unwrap();
     for (call, due) in [
-        (tray.open(0, 1), "refused 38: no width from 1 to 16"),
+        (tray.open(0, 1), "refused 38: the width is not in 1..16"),
         (
             tray.open(1, 9),
-            "refused 10: no number of bands from 1 to 8",
+            "refused 10: the number of bands is not in 1..8",
         ),
         (
             tray.deliver(0, &[1]),

@@ -157,7 +157,7 @@ FILE:LINE: error, where it is no trace.""",
     (
         "board",
         _add_board,
-        """runs a list of calls: chunks that come out of turn
+        """runs a list of calls: chunks that come out of order
 
 Lines are: open N; deliver PLACE REVISION EVENT.. (- for none, @FILE for those of a file);
 withdraw PLACE; verdict. It stops at the first bad line. The status is that of the verdict at

@@ -204,7 +204,7 @@ class Reader:
             part = repeated(part, self.take())
         if self.peek() in _SIGNS:
             # red+? is red once or more to who knows other patterns, and may be none to who does not
-            raise self.token().failed(f"{self.peek()} stands behind another sign: brackets say what it repeats")
+            raise self.token().failed(f"{self.peek()} follows another sign: brackets say what it repeats")
         return part
 
     def atom(self):

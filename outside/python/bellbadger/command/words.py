@@ -152,7 +152,7 @@ def no_event(word, events):
 
 def _by_pattern(events, statements):
     if len(statements) > 1:
-        raise statements[1][0].failed("nothing may stand behind the pattern")
+        raise statements[1][0].failed("nothing may follow the pattern")
     return Words(*_pattern_rule(events, statements[0]))
 
 
@@ -208,7 +208,7 @@ def _state_names(statements):
 
 
 def _marked(statement, marks, state):
-    """Notes whether the state is initial and final; what stands behind the colon."""
+    """Notes whether the state is initial and final; what follows the colon."""
     at = 2
     while at < len(statement) and statement[at].text in marks:
         if marks[statement[at].text] >> state & 1:
