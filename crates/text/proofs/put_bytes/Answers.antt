@@ -10,22 +10,15 @@ use native.Mathlib.Numerals.{add-one}
 use Prim.Native.Nat.{◌+◌, ◌-◌, ◌≤◌}
 use mathlib.Core.List.{[], ◌∷◌, ◌++◌}
 use mathlib.Core.Path.{◌≡◌, refl, ◌∙◌}
-use Rattle.text.proofs.put_bytes.Statement.{statement}
-use Rattle.text.proofs.put_bytes.Tie as tie
+use Rattle.text.proofs.put_bytes.Goals as goal
 
-abbrev invariant-loop : tie.invariant-loop
-invariant-loop out₀ at bytes i₀ out i = (i ≤ length bytes) × (at + length bytes ≤ length out₀) × (length out ≡ length out₀) × Wrote out₀ at (take i bytes) out (at + i)
+pub loop-i-init : goal.loop-i-init
+loop-i-init c = let a = c.args in (omega arith, c.requires, refl, rw add-zero (wrote_none a.out.now a.at))
 
-abbrev decreases-loop : tie.decreases-loop
-decreases-loop out₀ at bytes i₀ out i = length bytes - i
-
-loop-holds : tie.Need-loop-init invariant-loop decreases-loop
-loop-holds c = let a = c.args in (omega arith, c.requires, refl, rw add-zero (wrote_none a.out.now a.at))
-
-loop-again : tie.Need-loop-preserved invariant-loop decreases-loop
-loop-again c =
-    let x = c.before.before.loop in
-    let a = c.before.before.before.args in
+pub loop-i-preserved : goal.loop-i-preserved
+loop-i-preserved c =
+    let x = c.loop-i in
+    let a = c.args in
     let b = get_or a.bytes.now x.i 0 in
     let done : length (take x.i a.bytes.now) ≡ x.i = length-take-le x.i a.bytes.now x.invariant.0 in
     let new = wrote_byte x.out (a.at + x.i) b (omega (arith, x.invariant)) in
@@ -37,17 +30,9 @@ loop-again c =
           (wrote_more a.out.now a.at (take x.i a.bytes.now) (b ∷ []) (omega (arith, x.invariant)) x.out (set x.out (a.at + x.i) b) (a.at + x.i) (a.at + x.i + 1) x.invariant.3 new),
     )
 
-returns : tie.Need-returns invariant-loop decreases-loop
+pub returns : goal.returns
 returns c =
-    let x = c.before.loop in
-    let a = c.before.before.args in
+    let x = c.loop-i in
+    let a = c.args in
     let all : take x.i a.bytes.now ≡ a.bytes.now = take_all x.i a.bytes.now (omega arith) in
     rw all at x.invariant.3
-
-pub put_bytes_spec : {M : Type 1} → statement M
-put_bytes_spec =
-    tie.close
-    (tie.spec
-    invariant-loop decreases-loop loop-holds (λ c. omega arith) (λ c. omega arith) (λ c. omega arith)
-    (λ c. omega arith) (λ c. omega arith) loop-again (λ c. omega arith) (λ c. omega arith)
-    returns)

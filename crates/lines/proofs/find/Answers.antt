@@ -1,0 +1,31 @@
+-- `find` meets its contract. The loop's invariant: the first such byte from `from` on is the first
+-- from i on. Assumes nothing.
+use mathlib.Core.Path.{◌≡◌, refl, ◌∙◌}
+use Prim.Native.Nat.{◌+◌, ◌-◌}
+use native.Mathlib.Omega.{arith}
+use borrow.Author.Rules.{rules}
+use lib.ListN.{length, drop}
+use Rattle.lines.specs.Splitting.{up_to}
+use Rattle.lines.proofs.Splits.{up_here, up_on, up_end}
+use Rattle.lines.proofs.find.Goals as goal
+
+pub loop-i-init : goal.loop-i-init
+loop-i-init c = refl
+
+pub returns-then-text-i : goal.returns-then-text-i
+returns-then-text-i c =
+    let a = c.args in
+    let l = c.loop-i in
+    omega (arith, l.invariant, up_here a.c a.text.now l.i c.loop-i-test.true c.if-text-i.true)
+
+pub loop-i-preserved : goal.loop-i-preserved
+loop-i-preserved c =
+    let a = c.args in
+    let l = c.loop-i in
+    l.invariant ∙ up_on a.c a.text.now l.i c.loop-i-test.true c.if-text-i.false
+
+pub returns : goal.returns
+returns c =
+    let a = c.args in
+    let l = c.loop-i in
+    omega (arith, l.invariant, up_end a.c a.text.now l.i c.loop-i-test.false)

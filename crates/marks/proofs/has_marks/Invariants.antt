@@ -1,0 +1,17 @@
+-- `has_marks` meets its contract. The loop's invariant: the chunk has a mark exactly where one was
+-- found or one is left. Assumes nothing.
+use mathlib.Core.Path.{◌≡◌, refl, sym, ◌∙◌}
+use mathlib.Core.Logic.{⊎_elim}
+use mathlib.Core.Bool.{◌||◌}
+use Prim.Native.Nat.{◌-◌, ◌≤◌}
+use borrow.Author.Rules.{rules}
+use lib.ListN.{length, drop}
+use Rattle.marks.specs.Marks.{marked}
+use Rattle.marks.proofs.Laws.{marked_here, marked_on, marked_none}
+use Rattle.marks.proofs.has_marks.Given as goal
+
+abbrev pub invariant-loop-i : goal.invariant-loop-i
+invariant-loop-i l = (l.i ≤ length l.chunk) × (marked l.chunk ≡ l.found || marked (drop l.i l.chunk))
+
+abbrev pub decreases-loop-i : goal.decreases-loop-i
+decreases-loop-i l = length l.chunk - l.i
