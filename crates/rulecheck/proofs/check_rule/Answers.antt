@@ -9,8 +9,7 @@ use Rattle.base.proofs.Conditions.{holds, skips}
 use Rattle.automaton.specs.declared.Rule.{Rule}
 use Rattle.rulecheck.specs.Checking.{bad_state_count, bad_symbol_count, bad_masks, bad_targets, rule_number}
 use Rattle.rulecheck.proofs.Laws.{from_4, from_6, from_8}
-use Rattle.rulecheck.proofs.check_rule.Statement.{statement}
-use Rattle.rulecheck.proofs.check_rule.Tie as tie
+use Rattle.rulecheck.proofs.check_rule.Goals as goal
 
 -- each way out, from what the tests on the way answered
 module _ (r : Rule) {t3 : Bool} (e3 : t3 ≡ bad_state_count r.n) where
@@ -47,45 +46,28 @@ module _ (r : Rule) {t3 : Bool} (e3 : t3 ≡ bad_state_count r.n) where
         past-8 h =
             sym (skips 8 (bad_targets r.n r.k r.targets) none (sym e8 ∙ h)) ∙ past_6 h6
 
-returns : tie.Need-returns
-returns c = on_3 c.before.before.args.t1 c.before.outside.ensures c.if1.true
+pub returns-then-outside : goal.returns-then-outside
+returns-then-outside c = on_3 c.args.t1 c.outside.ensures c.if-outside.true
 
-returns-2 : tie.Need-returns-2
-returns-2 c =
-    let b = c.before.before in
-    on_4 b.before.before.args.t1 b.before.outside.ensures b.if1.false
-    c.before.outside2.ensures c.if2.true
+pub returns-then-outside-2 : goal.returns-then-outside-2
+returns-then-outside-2 c =
+    on_4 c.args.t1 c.outside.ensures c.if-outside.false
+    c.outside-2.ensures c.if-outside-2.true
 
-returns-3 : tie.Need-returns-3
-returns-3 c =
-    let d = c.before.before in
-    let b = d.before.before in
-    on-6 b.before.before.args.t1 b.before.outside.ensures b.if1.false
-    d.before.outside2.ensures d.if2.false
-    c.before.bad-masks.ensures c.if3.true
+pub returns-then-bad_masks : goal.returns-then-bad_masks
+returns-then-bad_masks c =
+    on-6 c.args.t1 c.outside.ensures c.if-outside.false
+    c.outside-2.ensures c.if-outside-2.false
+    c.bad_masks.ensures c.if-bad_masks.true
 
-returns-4 : tie.Need-returns-4
-returns-4 c =
-    let e = c.before.before.before.before in
-    let d = e.before.before in
-    let b = d.before.before in
-    on-8 b.before.before.args.t1 b.before.outside.ensures b.if1.false
-    d.before.outside2.ensures d.if2.false
-    e.before.bad-masks.ensures e.if3.false c.before.bad-targets.ensures c.if4.true
+pub returns-then-bad_targets : goal.returns-then-bad_targets
+returns-then-bad_targets c =
+    on-8 c.args.t1 c.outside.ensures c.if-outside.false
+    c.outside-2.ensures c.if-outside-2.false
+    c.bad_masks.ensures c.if-bad_masks.false c.bad_targets.ensures c.if-bad_targets.true
 
-returns-5 : tie.Need-returns-5
-returns-5 c =
-    let e = c.before.before.before.before in
-    let d = e.before.before in
-    let b = d.before.before in
-    past-8 b.before.before.args.t1 b.before.outside.ensures b.if1.false
-    d.before.outside2.ensures d.if2.false
-    e.before.bad-masks.ensures e.if3.false c.before.bad-targets.ensures c.if4.false
-
-pub check_rule_spec : {M : Type 1} → statement M
-check_rule_spec =
-    tie.close
-    (tie.spec
-    (λ c. search rules) (λ c κs. search rules) returns (λ c. search rules)
-    (λ c κs. search rules) returns-2 (λ c κs. search rules) returns-3 (λ c κs. search rules)
-    returns-4 returns-5)
+pub returns : goal.returns
+returns c =
+    past-8 c.args.t1 c.outside.ensures c.if-outside.false
+    c.outside-2.ensures c.if-outside-2.false
+    c.bad_masks.ensures c.if-bad_masks.false c.bad_targets.ensures c.if-bad_targets.false

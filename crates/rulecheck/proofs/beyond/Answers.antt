@@ -10,8 +10,7 @@ use lib.Pow.{pow_pos, pow_mono}
 use borrow.Author.Rules.{rules}
 use borrow.Author.Tests.{eq-eqb, ne_eqb, leb-true, leb-false, lt-leb}
 use Rattle.base.proofs.Tests.{by_test}
-use Rattle.rulecheck.proofs.beyond.Statement.{statement}
-use Rattle.rulecheck.proofs.beyond.Tie as tie
+use Rattle.rulecheck.proofs.beyond.Goals as goal
 
 shifted : (m n : ℕ) → not (eqb (m / 2 ^ n) 0) ≡ leb (2 ^ n) m
 shifted m n =
@@ -21,14 +20,11 @@ shifted m n =
     ap not (ne_eqb (m / 2 ^ n) 0 (λ z. absurd (omega arith))) ∙ sym e)
     (λ e. ap not (eq-eqb (m / 2 ^ n) 0 (div-eq_of_lt (leb-false (2 ^ n) m e))) ∙ sym e)
 
-returns : tie.Need-returns
-returns c =
-    let a = c.before.args in
-    let wide : 2 ^ 32 ≤ 2 ^ a.n = pow_mono c.if1.true in
+pub returns-then-n-ge-STATES : goal.returns-then-n-ge-STATES
+returns-then-n-ge-STATES c =
+    let a = c.args in
+    let wide : 2 ^ 32 ≤ 2 ^ a.n = pow_mono c.if-n-ge-STATES.true in
     sym (lt-leb (2 ^ a.n) a.set (omega arith))
 
-returns-2 : tie.Need-returns-2
-returns-2 c = shifted c.before.args.set c.before.args.n
-
-pub beyond_spec : {M : Type 1} → statement M
-beyond_spec = tie.close (tie.spec returns (λ c. search rules) (λ c. search rules) returns-2)
+pub returns : goal.returns
+returns c = shifted c.args.set c.args.n

@@ -1,0 +1,19 @@
+-- `put_digits` meets its contract: the digits of the first i bytes are written. Assumes nothing.
+use mathlib.Core.Path.{◌≡◌, refl, ap, ◌∙◌}
+use Prim.Native.Nat.{◌+◌, ◌*◌, ◌-◌, ◌≤◌}
+use native.Mathlib.Omega.{arith}
+use lib.ListN.{length, get_or, take}
+use lib.Seq.{take_all, length-take-le}
+use Rattle.text.proofs.Digits.{hex_length}
+use Rattle.text.proofs.Fitting.{Put, put, ◌then◌}
+use Rattle.text.proofs.Pieces.{wrote_none}
+use Rattle.fields.specs.Claims.{digits_of}
+use Rattle.hexfields.proofs.Digits.{digits_length, digits_none, digits_more}
+use Rattle.hexfields.proofs.put_digits.Given as goal
+
+abbrev pub invariant-loop-i : goal.invariant-loop-i
+invariant-loop-i l =
+    (l.i ≤ length l.bytes) × (l.at + 2 * length l.bytes ≤ length l.initial.out) × Put l.initial.out l.at (digits_of (take l.i l.bytes)) l.out l.end
+
+abbrev pub decreases-loop-i : goal.decreases-loop-i
+decreases-loop-i l = length l.bytes - l.i

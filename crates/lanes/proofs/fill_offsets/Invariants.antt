@@ -1,0 +1,22 @@
+-- `fill_offsets` meets its contract. The cells before c have the row offsets, those from c on are
+-- still the empty set's. Assumes nothing.
+use mathlib.Core.Path.{◌≡◌, ap, ◌∙◌}
+use Prim.Native.Nat.{ℕ, ◌-◌, ◌≤◌, ◌<◌}
+use native.Mathlib.Omega.{arith}
+use borrow.Author.Rules.{rules}
+use lib.ListN.{length, get_or, length-set, length-replicate, get_or-replicate}
+use lib.Seq.{get_or-set_other}
+use Rattle.base.proofs.Lists.{cell_stored}
+use Rattle.lanes.specs.mirror.Offsets.{row_of}
+use Rattle.lanes.proofs.Offsets.{filled_table}
+use Rattle.lanes.proofs.fill_offsets.Given as goal
+
+abbrev pub invariant-loop-c : goal.invariant-loop-c
+invariant-loop-c l =
+    (l.c ≤ 8192)
+    × (length l.t ≡ 8208)
+    × ((b : ℕ) → b < l.c → get_or l.t b 0 ≡ row_of (get_or l.next b 0))
+    × ((b : ℕ) → l.c ≤ b → b < 8208 → get_or l.t b 0 ≡ 8192)
+
+abbrev pub decreases-loop-c : goal.decreases-loop-c
+decreases-loop-c l = 8192 - l.c
