@@ -6,7 +6,7 @@ ghost use Rattle.blocks.specs.mirror.Blocks.{walked_of, then_of, lane_room, pick
 
 // Where 32 runs stand, as row offsets, what each of them has counted, and for how many bytes any of
 // them looked a successor up.
-#[derive(Drop)]
+#[derive(Clone, Copy)]
 pub struct Walked {
     pub rows: [usize; limits::STATES],
     pub counts: [usize; limits::STATES],
@@ -25,7 +25,7 @@ const FIRST: usize = 64;
 const LONGEST: usize = 512;
 
 // The row offset of each lane, the lane of each run, and how many lanes are in use.
-#[derive(Drop)]
+#[derive(Clone, Copy)]
 struct Sharing {
     lane: [usize; ROOM],
     of: [usize; limits::STATES],

@@ -9,7 +9,7 @@ ghost use Rattle.board.specs.Boards.{empty_board, row_set, cleared_at};
 // chunk, one more than the last revision accepted there, and 32 end sets, one for each state. In a
 // new board every cell is 0.
 #[repr(C)]
-#[derive(Drop)]
+#[derive(Clone, Copy)]
 pub struct Board {
     pub places: u8,
     pub filled: [u8; limits::PLACES],

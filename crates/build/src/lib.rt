@@ -9,7 +9,7 @@ use subsets::Numbering;
 // of next or singles at or above 512 reads as the empty set, any cell of delegates at or above 32
 // as none.
 #[repr(C)]
-#[derive(Drop)]
+#[derive(Clone, Copy)]
 pub struct Built {
     pub n: u8,
     pub k: u8,
@@ -24,14 +24,14 @@ pub struct Built {
 }
 
 // The number of sets and M, or a refusal.
-#[derive(Drop)]
+#[derive(Clone, Copy)]
 pub enum BuildAnswer {
     Accepted(u16, u8),
     Refused(u8),
 }
 
 // An answer with the built rule beside it, which is all zeros where the rule is refused.
-#[derive(Drop)]
+#[derive(Clone, Copy)]
 pub struct BuildResult {
     pub answer: BuildAnswer,
     pub built: Built,

@@ -12,7 +12,7 @@ use compare::{CompareAnswer, Which};
 // the two accept the same texts. What a kind has no use for is 0. No kind but 0 is one of a verdict
 // or of a diagnosis.
 #[repr(C)]
-#[derive(Drop)]
+#[derive(Clone, Copy)]
 pub struct CompareNumbers {
     pub kind: u8,
     pub refused: u8,

@@ -11,7 +11,7 @@ use trays::Tray;
 // 7: the row of the band is not accepted; 8: the column is lost, with the row of the band; 9: the
 // column is not accepted, though it could go on. What a kind has no use for is 0.
 #[repr(C)]
-#[derive(Drop)]
+#[derive(Clone, Copy)]
 pub struct FaultNumbers {
     pub kind: u8,
     pub number: u8,

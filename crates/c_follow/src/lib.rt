@@ -13,7 +13,7 @@ use follow::{Followed, Follower, Lost};
 // for symbol s: what could have stood at byte at - 1, or what could come next. Complete is 1 where the
 // end could have stood there, or can stand here.
 #[repr(C)]
-#[derive(Drop)]
+#[derive(Clone, Copy)]
 pub struct FollowNumbers {
     pub accepted: u8,
     pub refused: u8,
@@ -27,7 +27,7 @@ pub struct FollowNumbers {
 
 // Accepted is 1 or 0; where it is 0, refused has the number, and every number of the follower is 0.
 #[repr(C)]
-#[derive(Drop)]
+#[derive(Clone, Copy)]
 pub struct FollowerNumbers {
     pub accepted: u8,
     pub refused: u8,

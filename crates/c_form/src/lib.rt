@@ -9,7 +9,7 @@ use forms::{Form, Table};
 
 // Accepted is 1 or 0; where it is 0, refused has the number, and every number of the form is 0.
 #[repr(C)]
-#[derive(Drop)]
+#[derive(Clone, Copy)]
 pub struct FormNumbers {
     pub accepted: u8,
     pub refused: u8,
@@ -18,7 +18,7 @@ pub struct FormNumbers {
 
 // The same with a table.
 #[repr(C)]
-#[derive(Drop)]
+#[derive(Clone, Copy)]
 pub struct TableNumbers {
     pub accepted: u8,
     pub refused: u8,

@@ -11,7 +11,7 @@ use locating::Located;
 // Kind 0: refused with the number; 5: lost at the place of that number; 6: open, with that many
 // places.
 #[repr(C)]
-#[derive(Drop)]
+#[derive(Clone, Copy)]
 pub struct DiagnosisNumbers {
     pub kind: u8,
     pub number: u8,
@@ -20,7 +20,7 @@ pub struct DiagnosisNumbers {
 // Kind 0: refused with the number; 5: lost after that many bytes of the chunk, idle marks counted; 6:
 // nowhere in it.
 #[repr(C)]
-#[derive(Drop)]
+#[derive(Clone, Copy)]
 pub struct SpotNumbers {
     pub kind: u8,
     pub number: u32,

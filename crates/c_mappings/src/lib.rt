@@ -13,7 +13,7 @@ use profile::{BuildAnswer, Profile};
 // Accepted is 1 or 0; where it is 0, refused has the number, and every number of the profile is 0.
 // How many mappings there are stands in the profile.
 #[repr(C)]
-#[derive(Drop)]
+#[derive(Clone, Copy)]
 pub struct BuildNumbers {
     pub accepted: u8,
     pub refused: u8,
@@ -22,7 +22,7 @@ pub struct BuildNumbers {
 
 // Accepted is 1 or 0; where it is 0, refused has the number, and every mask of the mapping is 0.
 #[repr(C)]
-#[derive(Drop)]
+#[derive(Clone, Copy)]
 pub struct RunNumbers {
     pub accepted: u8,
     pub refused: u8,

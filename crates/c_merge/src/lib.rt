@@ -8,7 +8,7 @@ use merging::MergeResult;
 
 // Accepted is 1 or 0; where it is 0, refused has the number, and every number of the rule is 0.
 #[repr(C)]
-#[derive(Drop)]
+#[derive(Clone, Copy)]
 pub struct MergeNumbers {
     pub accepted: u8,
     pub refused: u8,

@@ -6,7 +6,7 @@ ghost use Rattle.c_patterns.specs.Numbers.{pattern_shown};
 // Accepted is 1 or 0; where it is 0, refused has the number. The rule file has so many bytes, and
 // zeros after them; where the pattern is refused, none.
 #[repr(C)]
-#[derive(Drop)]
+#[derive(Clone, Copy)]
 pub struct PatternNumbers {
     pub accepted: u8,
     pub refused: u8,

@@ -8,7 +8,7 @@ use automaton::Rule;
 // Accepted is 1 or 0; where it is 0, refused has the number, and installs and every number of the
 // rule are 0. Installs is 1 where installing the reduced rule is accepted.
 #[repr(C)]
-#[derive(Drop)]
+#[derive(Clone, Copy)]
 pub struct ReduceNumbers {
     pub accepted: u8,
     pub refused: u8,

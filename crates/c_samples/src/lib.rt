@@ -10,7 +10,7 @@ use samples::{SampleAnswer, Wish};
 // Kind is 0 where the rule is refused, and refused has the number; 1 where there is a text, of so
 // many bytes, with zeros after it; 2 where there is none. What a kind has no use for is 0.
 #[repr(C)]
-#[derive(Drop)]
+#[derive(Clone, Copy)]
 pub struct SampleNumbers {
     pub kind: u8,
     pub refused: u8,

@@ -9,7 +9,7 @@ use saved_judge::Saved;
 
 // Accepted is 1 or 0; where it is 0, refused has the number, and every number of the judge is 0.
 #[repr(C)]
-#[derive(Drop)]
+#[derive(Clone, Copy)]
 pub struct RestoreNumbers {
     pub accepted: u8,
     pub refused: u8,

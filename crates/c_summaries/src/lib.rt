@@ -12,7 +12,7 @@ use summaries::Summary;
 // Accepted is 1 or 0; where it is 0, refused has the number, and the summary is broken, with zeros
 // in every other field.
 #[repr(C)]
-#[derive(Drop)]
+#[derive(Clone, Copy)]
 pub struct SummaryNumbers {
     pub accepted: u8,
     pub refused: u8,
@@ -22,7 +22,7 @@ pub struct SummaryNumbers {
 // Kind 0 refused with the number; 2 yes and 3 no with the count, as a verdict's, with the bytes of
 // the text, and the quotient and remainder of the count by them.
 #[repr(C)]
-#[derive(Drop)]
+#[derive(Clone, Copy)]
 pub struct ConcludeNumbers {
     pub kind: u8,
     pub number: u64,

@@ -3,7 +3,7 @@ ghost use Rattle.c_texts.specs.Numbers.{MakesShown};
 
 // Accepted is 1 or 0; where it is 0, refused has the number.
 #[repr(C)]
-#[derive(Drop)]
+#[derive(Clone, Copy)]
 pub struct MadeNumbers {
     pub accepted: u8,
     pub refused: u8,

@@ -12,7 +12,7 @@ use trays::{CallResult, InstallResult, Tray, TrayVerdict};
 // Of either installation. Accepted is 1 or 0; where it is 0, refused has the number, sets and
 // starts are 0, and the tray is the one that came.
 #[repr(C)]
-#[derive(Drop)]
+#[derive(Clone, Copy)]
 pub struct InstallNumbers {
     pub accepted: u8,
     pub refused: u8,
@@ -23,7 +23,7 @@ pub struct InstallNumbers {
 
 // Of an opening, a delivery and a withdrawal.
 #[repr(C)]
-#[derive(Drop)]
+#[derive(Clone, Copy)]
 pub struct CallNumbers {
     pub accepted: u8,
     pub refused: u8,
@@ -32,7 +32,7 @@ pub struct CallNumbers {
 
 // Kind 0 refused with the number, 1 waiting with so many empty bands, 2 yes and 3 no with 0.
 #[repr(C)]
-#[derive(Drop)]
+#[derive(Clone, Copy)]
 pub struct VerdictNumbers {
     pub kind: u8,
     pub number: u8,

@@ -12,7 +12,7 @@ use calltext::{Line, LineAnswer};
 use fields::Bytes;
 
 // What a line is answered, and the judge that it leaves.
-#[derive(Drop)]
+#[derive(Clone, Copy)]
 pub struct LineRun {
     pub answer: LineAnswer,
     pub judge: Judge,

@@ -17,7 +17,7 @@ use fields::Number;
 
 // A line. The bytes of a load begin at index 5, those of an installation at 8, those of a delivery
 // at the index beside its place and its revision.
-#[derive(Drop)]
+#[derive(Clone, Copy)]
 pub enum Line {
     Empty,
     Load,
@@ -117,7 +117,7 @@ pub fn parse(line: &[u8]) -> Line
 
 // What a line is answered: where it records a call, what the call is answered. A load has the same
 // type of answer as an installation, with the numbers 1 to 9.
-#[derive(Drop)]
+#[derive(Clone, Copy)]
 pub enum LineAnswer {
     Began,
     Install(BuildAnswer),

@@ -14,7 +14,7 @@ use replay::ReplayAnswer;
 
 // Accepted is 1 or 0; where it is 0, refused has the number, and every number of the rule is 0.
 #[repr(C)]
-#[derive(Drop)]
+#[derive(Clone, Copy)]
 pub struct ReadNumbers {
     pub accepted: u8,
     pub refused: u8,
@@ -23,7 +23,7 @@ pub struct ReadNumbers {
 
 // Of an installation and of a load.
 #[repr(C)]
-#[derive(Drop)]
+#[derive(Clone, Copy)]
 pub struct InstallNumbers {
     pub accepted: u8,
     pub refused: u8,
@@ -34,7 +34,7 @@ pub struct InstallNumbers {
 
 // Of opening and of withdrawing.
 #[repr(C)]
-#[derive(Drop)]
+#[derive(Clone, Copy)]
 pub struct CallNumbers {
     pub accepted: u8,
     pub refused: u8,
@@ -43,7 +43,7 @@ pub struct CallNumbers {
 
 // Looked is the number of text bytes for which any successor was looked up, 0 where refused.
 #[repr(C)]
-#[derive(Drop)]
+#[derive(Clone, Copy)]
 pub struct DeliverNumbers {
     pub accepted: u8,
     pub refused: u8,
@@ -55,7 +55,7 @@ pub struct DeliverNumbers {
 // count. Beside yes and no the bytes of the text, and the quotient and remainder of the count by
 // them; beside the others these are 0.
 #[repr(C)]
-#[derive(Drop)]
+#[derive(Clone, Copy)]
 pub struct VerdictNumbers {
     pub kind: u8,
     pub number: u64,
@@ -66,7 +66,7 @@ pub struct VerdictNumbers {
 
 // As a verdict; kind 4: the line of that number is malformed.
 #[repr(C)]
-#[derive(Drop)]
+#[derive(Clone, Copy)]
 pub struct ReplayNumbers {
     pub kind: u8,
     pub number: u64,

@@ -14,7 +14,7 @@ use subsets::SetNumber;
 
 // The end set of each state, empty where it was not run, the sum of what the runs count, how many
 // bytes of text the chunk has, and for how many of them any run looked a successor up.
-#[derive(Drop)]
+#[derive(Clone, Copy)]
 pub struct Runs {
     pub ends: [u32; limits::STATES],
     pub count: u32,

@@ -11,14 +11,14 @@ use base::Answer;
 use keys::{KeyNumber, Kind, Numbering};
 
 // One of two rules.
-#[derive(Drop)]
+#[derive(Clone, Copy)]
 pub enum Which {
     First,
     Second,
 }
 
 // There is such a text, which this one accepts; the two accept the same texts; or they are refused.
-#[derive(Drop)]
+#[derive(Clone, Copy)]
 pub enum CompareAnswer {
     Apart(Which),
     Same,
@@ -27,7 +27,7 @@ pub enum CompareAnswer {
 
 // The answer, with the text and its length beside it and zeros after the text; zeros alone where
 // there is no text.
-#[derive(Drop)]
+#[derive(Clone, Copy)]
 pub struct CompareResult {
     pub answer: CompareAnswer,
     pub length: usize,

@@ -13,14 +13,14 @@ use subsets::SetNumber;
 
 // The delegate of each state, 32 where it has none, zeros after them, and how many states are their
 // own delegate.
-#[derive(Drop)]
+#[derive(Clone, Copy)]
 pub struct Starts {
     pub delegates: [u8; limits::STATES],
     pub startcount: u8,
 }
 
 // The delegate of a state, or that it has none.
-#[derive(Drop)]
+#[derive(Clone, Copy)]
 pub enum DelegateAnswer {
     State(StateNumber),
     None,

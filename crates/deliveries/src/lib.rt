@@ -9,7 +9,7 @@ use calls::DeliverAnswer;
 use chunks::Runs;
 
 // The answer, and the runs: zeros where it is a refusal.
-#[derive(Drop)]
+#[derive(Clone, Copy)]
 pub struct Attempt {
     pub answer: DeliverAnswer,
     pub runs: Runs,

@@ -9,7 +9,7 @@ use calls::Judge;
 
 // Lost at the place; or not lost, with the number of places that are filled before the first empty
 // one.
-#[derive(Drop)]
+#[derive(Clone, Copy)]
 pub enum Diagnosis {
     Refused(u8),
     Lost(u8),

@@ -6,7 +6,7 @@ ghost use Rattle.dottext.specs.Answers.{Draws};
 use base::Answer;
 
 // A drawing of so many bytes; or no drawing, since the reader refuses the file with this number.
-#[derive(Drop)]
+#[derive(Clone, Copy)]
 pub enum Drawing {
     Bytes(usize),
     Refused(u8),

@@ -17,7 +17,7 @@ use trays::{Tray, TrayBoard};
 // The band and the row that is not accepted; the column that is lost, with the band and the row by
 // which it is; the column that stopped too early; or none of these, with the number of bands that
 // stand before the first empty one.
-#[derive(Drop)]
+#[derive(Clone, Copy)]
 pub enum TrayFault {
     Refused(u8),
     Row(u8, u8),
@@ -27,14 +27,14 @@ pub enum TrayFault {
 }
 
 // What a search found.
-#[derive(Drop)]
+#[derive(Clone, Copy)]
 enum Found {
     At(TrayFault),
     Nothing,
 }
 
 // A column is lost, or the set after its rows.
-#[derive(Drop)]
+#[derive(Clone, Copy)]
 enum Walk {
     Lost(TrayFault),
     Ends(u32),

@@ -5,7 +5,7 @@ ghost use Rattle.fields.specs.Numbers.{number_means, parse_number};
 ghost use Rattle.fields.specs.Bytes.{hex_value, all_hex, pairs, Took};
 
 // The number that a field says, or that it says none.
-#[derive(Drop)]
+#[derive(Clone, Copy)]
 pub enum Number {
     Value(u64),
     Malformed,
@@ -48,7 +48,7 @@ pub fn read_number(field: &[u8]) -> Number
 }
 
 // How many bytes a field says that were put into the buffer, or that it says none.
-#[derive(Drop)]
+#[derive(Clone, Copy)]
 pub enum Bytes {
     Put(usize),
     Malformed,

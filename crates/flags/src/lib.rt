@@ -7,7 +7,7 @@ ghost use Rattle.flags.specs.Flags.{flag_by, refused_by, bit_by};
 use base::Answer;
 
 // Accepted is 1 or 0; where it is 0, refused has the number, else it is 0.
-#[derive(Drop)]
+#[derive(Clone, Copy)]
 pub struct AnswerFlags {
     pub accepted: u8,
     pub refused: u8,

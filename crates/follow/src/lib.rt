@@ -13,7 +13,7 @@ use base::Answer;
 
 // A final state can still be reached; or the least number of bytes of the chunk, idle marks counted,
 // after which none can.
-#[derive(Drop)]
+#[derive(Clone, Copy)]
 pub enum Lost {
     Never,
     At(u32),
@@ -23,7 +23,7 @@ pub enum Lost {
 // the set before the byte at which it is lost, or after the chunk where it is not: a mask of the
 // symbols after which a final state can still be reached, and whether one is in it, so that the trace
 // could have ended there. Zeros beside a refusal.
-#[derive(Drop)]
+#[derive(Clone, Copy)]
 pub struct Followed {
     pub answer: Answer,
     pub set: u32,
@@ -35,14 +35,14 @@ pub struct Followed {
 
 // A checked rule with the mask of its live states, to follow many chunks by.
 #[repr(C)]
-#[derive(Drop)]
+#[derive(Clone, Copy)]
 pub struct Follower {
     pub rule: Rule,
     pub live: u32,
 }
 
 // The answer, with the follower beside it: zeros where the rule is refused.
-#[derive(Drop)]
+#[derive(Clone, Copy)]
 pub struct PrepareResult {
     pub answer: Answer,
     pub follower: Follower,
@@ -50,7 +50,7 @@ pub struct PrepareResult {
 
 // Where a chunk is lost, the set before that byte, or after the chunk where it is not, and the set
 // after the chunk.
-#[derive(Drop)]
+#[derive(Clone, Copy)]
 struct Way {
     lost: Lost,
     before: u32,
@@ -64,7 +64,7 @@ const ROWS: u32 = 61;
 const CACHE: usize = 976;
 
 // A set on the way, and the row of the cache in which its successors are looked for.
-#[derive(Drop)]
+#[derive(Clone, Copy)]
 struct Here {
     set: u32,
     row: u8,

@@ -10,14 +10,14 @@ use follow::{Follower, Lost, PrepareResult};
 
 // The rule that the trace is followed by, and the set of states that it has reached. No rule has no
 // states, so a follower whose rule has none is none.
-#[derive(Drop)]
+#[derive(Clone, Copy)]
 pub struct FollowState {
     pub follower: Follower,
     pub set: u32,
 }
 
 // What a call is answered; or that a line is no call.
-#[derive(Drop)]
+#[derive(Clone, Copy)]
 pub enum TraceAnswer {
     Forgotten,
     Begun,
@@ -29,7 +29,7 @@ pub enum TraceAnswer {
 }
 
 // The answer, and the state that the call leaves.
-#[derive(Drop)]
+#[derive(Clone, Copy)]
 pub struct Traced {
     pub answer: TraceAnswer,
     pub state: FollowState,

@@ -19,7 +19,7 @@ use longlines::Held;
 pub const LINE: usize = 5 + 2 * limits::BYTES + 1;
 
 // The state that a line leaves, whether the list has ended, and how many bytes the answer has.
-#[derive(Drop)]
+#[derive(Clone, Copy)]
 pub struct Answered {
     pub state: FollowState,
     pub ended: bool,
@@ -28,7 +28,7 @@ pub struct Answered {
 
 // The state that some parts of a block leave, what is left for the next, where that begins, and how
 // many bytes the answers have.
-#[derive(Drop)]
+#[derive(Clone, Copy)]
 pub struct Gathered {
     pub state: FollowState,
     pub pending: Pending,

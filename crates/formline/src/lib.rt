@@ -13,7 +13,7 @@ const SYMBOLS_FIELD: u64 = 255;
 
 // A line says a form; or one whose number of sets or of symbols is too great for the value; or it
 // is malformed.
-#[derive(Drop)]
+#[derive(Clone, Copy)]
 pub enum LineKind {
     Says,
     TooGreat,
@@ -21,7 +21,7 @@ pub enum LineKind {
 }
 
 // A line, and the form that it says; zeros where the value has none.
-#[derive(Drop)]
+#[derive(Clone, Copy)]
 pub struct FormLine {
     pub kind: LineKind,
     pub form: Form,

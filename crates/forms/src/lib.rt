@@ -9,7 +9,7 @@ use base::Answer;
 // For each set its failure set and the mask of its kept cells, bit s for symbol s; then the kept
 // cells, packed by set and symbol, 512 for an empty one. The rest is 0.
 #[repr(C)]
-#[derive(Drop)]
+#[derive(Clone, Copy)]
 pub struct Form {
     pub sets: u16,
     pub symbols: u8,
@@ -20,7 +20,7 @@ pub struct Form {
 
 // A next-set table: its numbers of sets and symbols, and its cells as a built rule has them.
 #[repr(C)]
-#[derive(Drop)]
+#[derive(Clone, Copy)]
 pub struct Table {
     pub sets: u16,
     pub symbols: u8,
@@ -28,14 +28,14 @@ pub struct Table {
 }
 
 // The answer with the form beside it, which is all zeros where it is refused.
-#[derive(Drop)]
+#[derive(Clone, Copy)]
 pub struct FormResult {
     pub answer: Answer,
     pub form: Form,
 }
 
 // The answer with the table beside it, which is all zeros where it is refused.
-#[derive(Drop)]
+#[derive(Clone, Copy)]
 pub struct BackResult {
     pub answer: Answer,
     pub table: Table,

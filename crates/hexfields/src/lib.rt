@@ -10,7 +10,7 @@ use fields::Bytes;
 // What of a field has been read: nothing, the `-` for no bytes, pairs of digits, pairs and a digit
 // more with its value; or no field begins so. Of the pairs, as many bytes as it has room for stand
 // at the start of a buffer; the number beside them says how many those are.
-#[derive(Drop)]
+#[derive(Clone, Copy)]
 pub enum Part {
     Nothing,
     Dash,

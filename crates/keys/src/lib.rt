@@ -12,7 +12,7 @@ ghost use Rattle.keys.specs.mirror.Steps.{found_means, turn_means};
 
 // What a key stands for: a set of states, as a mask; a mapping, as a number of 64 bits; a pair of
 // sets of states, the second in the upper 32 bits.
-#[derive(Drop)]
+#[derive(Clone, Copy)]
 pub enum Kind {
     Sets,
     Mappings,
@@ -20,25 +20,25 @@ pub enum Kind {
 }
 
 // The number of a key.
-#[derive(Drop)]
+#[derive(Clone, Copy)]
 pub struct KeyNumber(pub u16);
 
 // Where a search ends.
-#[derive(Drop)]
+#[derive(Clone, Copy)]
 pub enum Found {
     At(KeyNumber),
     Nothing,
 }
 
 // A key's number with the number of keys there are then, or the key would be the 513th.
-#[derive(Drop)]
+#[derive(Clone, Copy)]
 pub enum Turn {
     As(KeyNumber, usize),
     Full,
 }
 
 // The number of keys, or the 513th turned up.
-#[derive(Drop)]
+#[derive(Clone, Copy)]
 pub enum Numbering {
     Whole(usize),
     Over,
@@ -46,7 +46,7 @@ pub enum Numbering {
 
 // The first 512 keys in number order and the table, zeros in every cell that is not in use, beside
 // the answer. Where the 513th key turned up, the table has the cells before that.
-#[derive(Drop)]
+#[derive(Clone, Copy)]
 pub struct KeyTable {
     pub answer: Numbering,
     pub keys: [u64; limits::SETS],

@@ -22,21 +22,21 @@ use longlines::Held;
 use questions::{Query, TextLine};
 
 // What a line was read as, and how many bytes of the buffer stand for it.
-#[derive(Drop)]
+#[derive(Clone, Copy)]
 pub struct ReadLine {
     pub line: TextLine,
     pub length: usize,
 }
 
 // Whether the list has ended, and how many bytes the answer has.
-#[derive(Drop)]
+#[derive(Clone, Copy)]
 pub struct Said {
     pub ended: bool,
     pub written: usize,
 }
 
 // The judge that a line leaves, whether the list has ended, and how many bytes the answer has.
-#[derive(Drop)]
+#[derive(Clone, Copy)]
 pub struct Answered {
     pub judge: Judge,
     pub ended: bool,

@@ -8,7 +8,7 @@ ghost use Rattle.linetexts.specs.Lists.{skips_held};
 use longlines::Held;
 
 // A part of a block: where its bytes end, where the next part begins, and whether a line feed ends it.
-#[derive(Drop)]
+#[derive(Clone, Copy)]
 pub struct Place {
     pub end: usize,
     pub next: usize,
@@ -16,7 +16,7 @@ pub struct Place {
 }
 
 // A line with a part of a block behind it, where the next part begins, and whether the line ends.
-#[derive(Drop)]
+#[derive(Clone, Copy)]
 pub struct Taken {
     pub held: Held,
     pub at: usize,
@@ -25,7 +25,7 @@ pub struct Taken {
 
 // What is left between the blocks of a text: a line that goes on, and whether a malformed line ended
 // its list.
-#[derive(Drop)]
+#[derive(Clone, Copy)]
 pub struct Pending {
     pub held: Held,
     pub ended: bool,
@@ -33,7 +33,7 @@ pub struct Pending {
 
 // What lines that stand alone leave: the line that goes on, where the next part begins, and how many
 // bytes the answers have.
-#[derive(Drop)]
+#[derive(Clone, Copy)]
 pub struct Round {
     pub held: Held,
     pub at: usize,

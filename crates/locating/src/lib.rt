@@ -15,7 +15,7 @@ use subsets::SetNumber;
 
 // The least number of bytes of the chunk, idle marks counted, after which nothing can follow, or that
 // there is none.
-#[derive(Drop)]
+#[derive(Clone, Copy)]
 pub enum Located {
     Refused(u8),
     After(u32),
@@ -120,7 +120,7 @@ fn kept_step<'a>(
 }
 
 // The mask of the set where a run ends, and for how many bytes it looks a successor up.
-#[derive(Drop)]
+#[derive(Clone, Copy)]
 struct Run {
     mask: u32,
     looked: u32,

@@ -6,7 +6,7 @@ ghost use Rattle.longlines.specs.Holding.{line_begin, odd_with, held_after, buff
 
 // How many bytes of a line the buffer has; whether the bytes that it does not have are hex
 // digits; whether their number is odd.
-#[derive(Drop)]
+#[derive(Clone, Copy)]
 pub struct Held {
     pub length: usize,
     pub hex: bool,
@@ -15,7 +15,7 @@ pub struct Held {
 
 // What stands for a line: so many bytes at the start of the buffer, and whether the others are hex
 // digits.
-#[derive(Drop)]
+#[derive(Clone, Copy)]
 pub struct Seen {
     pub length: usize,
     pub hex: bool,

@@ -19,7 +19,7 @@ const BLOCK: usize = 65536;
 const ANSWERS: usize = 4 * maketextlines::ANSWER;
 
 // What is held of a line, and whether the input is over, or it or the output failed, which was told.
-#[derive(Drop)]
+#[derive(Clone, Copy)]
 struct Reading {
     held: Held,
     over: bool,

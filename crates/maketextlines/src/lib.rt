@@ -20,7 +20,7 @@ pub const ANSWER: usize = 2 * limits::CHUNK + 1;
 const TEXT: u64 = limits::CHUNK as u64;
 
 // A line: k, the seed and the length of a text to make.
-#[derive(Drop)]
+#[derive(Clone, Copy)]
 pub enum TextLine {
     Makes(usize, u64, usize),
     Malformed,

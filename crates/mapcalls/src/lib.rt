@@ -9,14 +9,14 @@ use mappings::Mapping;
 use profile::{BuildAnswer, Profile};
 
 // Whether there is a profile, and which.
-#[derive(Drop)]
+#[derive(Clone, Copy)]
 pub struct MapState {
     pub there: bool,
     pub profile: Profile,
 }
 
 // What a call is answered; a mapping stands beside it.
-#[derive(Drop)]
+#[derive(Clone, Copy)]
 pub enum MapAnswer {
     Forgotten,
     Built(u16),
@@ -28,14 +28,14 @@ pub enum MapAnswer {
 }
 
 // The answer, with the mapping beside it: zeros where it is none.
-#[derive(Drop)]
+#[derive(Clone, Copy)]
 pub struct MapReply {
     pub answer: MapAnswer,
     pub mapping: Mapping,
 }
 
 // What a build is answered, and the state that it leaves.
-#[derive(Drop)]
+#[derive(Clone, Copy)]
 pub struct MapBuilding {
     pub reply: MapReply,
     pub state: MapState,

@@ -14,14 +14,14 @@ use fields::Bytes;
 use mapcalls::{MapReply, MapState};
 
 // How many bytes the answer to a line has, and whether it ended its list: it was malformed.
-#[derive(Drop)]
+#[derive(Clone, Copy)]
 pub struct Said {
     pub written: usize,
     pub ended: bool,
 }
 
 // The state that a line leaves, and its answer.
-#[derive(Drop)]
+#[derive(Clone, Copy)]
 pub struct Answered {
     pub state: MapState,
     pub said: Said,

@@ -13,7 +13,7 @@ const MASKS: u64 = 256;
 
 // The set that each of eight states is mapped to: masks[q] is that of state q.
 #[repr(C)]
-#[derive(Drop)]
+#[derive(Clone, Copy)]
 pub struct Mapping {
     pub masks: [u8; STATES],
 }

@@ -21,7 +21,7 @@ pub const LINE: usize = 4 + 2 * limits::BYTES + 1;
 
 // The state that some parts of a block leave, what is left for the next, where that begins, and how
 // many bytes the answers have.
-#[derive(Drop)]
+#[derive(Clone, Copy)]
 pub struct Gathered {
     pub state: MapState,
     pub pending: Pending,

@@ -7,7 +7,7 @@ use fields::Bytes;
 use mappings::Mapping;
 
 // A mapping that was read, or that the field says none; then the masks are 0.
-#[derive(Drop)]
+#[derive(Clone, Copy)]
 pub struct MappingField {
     pub found: bool,
     pub mapping: Mapping,

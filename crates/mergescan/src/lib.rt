@@ -14,7 +14,7 @@ use merging::Way;
 // What of a line has been read: nothing; so many bytes of its word; the word and a part of the first
 // field; all of that field, of which so many bytes stand in the first buffer, and a part of the second
 // field; or no line begins so.
-#[derive(Drop)]
+#[derive(Clone, Copy)]
 pub enum Scan {
     Start,
     Word(Verb, usize),

@@ -13,7 +13,7 @@ pub const ANSWER: usize = 2 * limits::FILE + 1;
 
 // What is kept of a line that goes on, where the next part begins, and how many bytes the answers
 // have.
-#[derive(Drop)]
+#[derive(Clone, Copy)]
 pub struct Fed {
     pub scan: Scan,
     pub at: usize,

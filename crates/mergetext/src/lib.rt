@@ -16,7 +16,7 @@ use compare::{CompareAnswer, CompareResult, Which};
 use merging::Way;
 
 // The word of a line: two files are merged in a way, or compared, or one is reduced.
-#[derive(Drop)]
+#[derive(Clone, Copy)]
 pub enum Verb {
     Merge(Way),
     Compare,

@@ -5,7 +5,7 @@ use base::Answer;
 
 // The texts that the result accepts: those that both rules accept, those that either accepts, the
 // interleavings of one from each.
-#[derive(Drop)]
+#[derive(Clone, Copy)]
 pub enum Way {
     Both,
     Either,
@@ -13,7 +13,7 @@ pub enum Way {
 }
 
 // An answer with the rule beside it, which is all zeros where the two are refused.
-#[derive(Drop)]
+#[derive(Clone, Copy)]
 pub struct MergeResult {
     pub answer: Answer,
     pub rule: Rule,

@@ -6,7 +6,7 @@ use base::Answer;
 
 // What reading a pattern answers: that it was accepted or the number of its refusal, and the rule
 // file by value: so many bytes, and zeros after them.
-#[derive(Drop)]
+#[derive(Clone, Copy)]
 pub struct PatternResult {
     pub answer: Answer,
     pub length: usize,

@@ -12,7 +12,7 @@ use patternscan::Sign;
 
 // Of a part of a pattern: whether the empty text is one of its texts, and the positions where a
 // text can begin and end.
-#[derive(Drop)]
+#[derive(Clone, Copy)]
 pub struct Part {
     pub empty: bool,
     pub first: u32,
@@ -20,7 +20,7 @@ pub struct Part {
 }
 
 // What stands before an open bracket: the alternatives so far, and the sequence so far of the next.
-#[derive(Drop)]
+#[derive(Clone, Copy)]
 pub struct Frame {
     pub alternatives: Part,
     pub sequence: Part,
@@ -30,7 +30,7 @@ pub struct Frame {
 // open bracket the alternatives, the sequence and the item, which a star may still follow; the
 // frames of the open brackets; for each position those that follow it; for each letter its
 // positions.
-#[derive(Drop)]
+#[derive(Clone, Copy)]
 pub struct Reading {
     pub depth: u8,
     pub letters: u8,

@@ -6,7 +6,7 @@ ghost use Rattle.patternscan.specs.Signs.{sign_of, symbols_of, letters_in};
 ghost use Rattle.patternscan.specs.Scanning.{step as step_of, grammatical as grammaticalOf};
 
 // What a byte is in a pattern; a letter with its symbol.
-#[derive(Drop)]
+#[derive(Clone, Copy)]
 pub enum Sign {
     Letter(u8),
     Bar,
@@ -17,7 +17,7 @@ pub enum Sign {
 }
 
 // The test of a pattern: lost, or so many brackets are open, and whether a star may follow.
-#[derive(Drop)]
+#[derive(Clone, Copy)]
 pub enum Scan {
     Lost,
     Within(usize, bool),

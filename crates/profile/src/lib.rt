@@ -15,7 +15,7 @@ use mappings::Mapping;
 // The mappings of a rule, each as one number, and the table: the number of the mapping that mapping
 // i leads to by symbol s stands at i * 16 + s.
 #[repr(C)]
-#[derive(Drop)]
+#[derive(Clone, Copy)]
 pub struct Profile {
     pub n: u8,
     pub k: u8,
@@ -27,21 +27,21 @@ pub struct Profile {
 }
 
 // How many mappings the rule has, or a refusal.
-#[derive(Drop)]
+#[derive(Clone, Copy)]
 pub enum BuildAnswer {
     Accepted(u16),
     Refused(u8),
 }
 
 // The answer, with the profile beside it: zeros where the rule is refused.
-#[derive(Drop)]
+#[derive(Clone, Copy)]
 pub struct BuildResult {
     pub answer: BuildAnswer,
     pub profile: Profile,
 }
 
 // The answer, with the mapping beside it: zeros where the chunk is refused.
-#[derive(Drop)]
+#[derive(Clone, Copy)]
 pub struct RunResult {
     pub answer: Answer,
     pub mapping: Mapping,

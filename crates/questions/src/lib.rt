@@ -16,14 +16,14 @@ use fields::Number;
 use locating::Located;
 
 // A question. The bytes of a chunk begin at the index beside its place.
-#[derive(Drop)]
+#[derive(Clone, Copy)]
 pub enum Query {
     Diagnose,
     Locate(u64, usize),
 }
 
 // A line of a text: it asks for the verdict or a question, which change nothing, or it is run.
-#[derive(Drop)]
+#[derive(Clone, Copy)]
 pub enum TextLine {
     Verdict,
     Asks(Query),

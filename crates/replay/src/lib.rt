@@ -7,7 +7,7 @@ ghost use Rattle.replay.specs.Records.{record_in, replay_means, replay_of};
 use calls::Report;
 
 // The verdict, or the number of the first malformed line.
-#[derive(Drop)]
+#[derive(Clone, Copy)]
 pub enum ReplayAnswer {
     Verdict(Report),
     Malformed(usize),

@@ -22,7 +22,7 @@ const ANSWERS: usize = 4 * mergestream::ANSWER;
 const FILE: usize = limits::FILE_ROOM;
 
 // What is kept of a line, and whether the input is over, or it or the output failed, which was told.
-#[derive(Drop)]
+#[derive(Clone, Copy)]
 struct Reading {
     scan: Scan,
     over: bool,

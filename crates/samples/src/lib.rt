@@ -5,14 +5,14 @@
 pub const LONGEST: usize = searches::LONGEST;
 
 // What the text is to be.
-#[derive(Drop)]
+#[derive(Clone, Copy)]
 pub enum Wish {
     Accepted,
     Rejected,
 }
 
 // There is such a text, there is none, or the rule is refused.
-#[derive(Drop)]
+#[derive(Clone, Copy)]
 pub enum SampleAnswer {
     Text,
     Nothing,
@@ -21,7 +21,7 @@ pub enum SampleAnswer {
 
 // The answer, with the text and its length beside it and zeros after the text; zeros alone where
 // there is no text.
-#[derive(Drop)]
+#[derive(Clone, Copy)]
 pub struct SampleResult {
     pub answer: SampleAnswer,
     pub length: usize,

@@ -21,13 +21,13 @@ const CONTENT: usize = SAVED - 8;
 const VERSION: u64 = 1;
 
 #[repr(C)]
-#[derive(Drop)]
+#[derive(Clone, Copy)]
 pub struct Saved {
     pub bytes: [u8; SAVED],
 }
 
 // The answer, with the judge beside it: the fresh one where the bytes are refused.
-#[derive(Drop)]
+#[derive(Clone, Copy)]
 pub struct RestoreResult {
     pub answer: Answer,
     pub judge: Judge,

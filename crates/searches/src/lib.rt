@@ -12,14 +12,14 @@ use keys::KeyNumber;
 pub const LONGEST: usize = limits::SETS - 1;
 
 // A text at the end of an array, where the way back leaves it.
-#[derive(Drop)]
+#[derive(Clone, Copy)]
 struct Ending {
     from: usize,
     text: [u8; LONGEST],
 }
 
 // A text with its length, and zeros after it.
-#[derive(Drop)]
+#[derive(Clone, Copy)]
 pub struct Spelled {
     pub length: usize,
     pub text: [u8; LONGEST],

@@ -10,14 +10,14 @@ use libc::{STDERR_FILENO, STDIN_FILENO, STDOUT_FILENO};
 
 // What a read brought: so many bytes at the start of the buffer; none at the end of the input, and
 // where it failed.
-#[derive(Drop)]
+#[derive(Clone, Copy)]
 pub struct Read {
     pub length: usize,
     pub failed: bool,
 }
 
 // The same of the whole input, as far as the buffer goes.
-#[derive(Drop)]
+#[derive(Clone, Copy)]
 pub enum Input {
     Bytes(usize),
     Failed,

@@ -13,7 +13,7 @@ use questions::TextLine;
 
 // The judge that some parts of a block leave, what is left for the next, where that begins, and how
 // many bytes the answers have.
-#[derive(Drop)]
+#[derive(Clone, Copy)]
 pub struct Gathered {
     pub judge: Judge,
     pub pending: Pending,

@@ -13,11 +13,11 @@ use keys::{Found, Kind};
 use masks::StateNumber;
 
 // The number of a set, which is never the number of a state.
-#[derive(Drop)]
+#[derive(Clone, Copy)]
 pub struct SetNumber(pub u16);
 
 // The number of sets, or the 513th turned up (9).
-#[derive(Drop)]
+#[derive(Clone, Copy)]
 pub enum Numbering {
     Whole(usize),
     Over,
@@ -25,7 +25,7 @@ pub enum Numbering {
 
 // The numbered sets, the next-set table and the number of {q} for each state q, beside the answer;
 // zeros where the answer is 9.
-#[derive(Drop)]
+#[derive(Clone, Copy)]
 pub struct SetTable {
     pub answer: Numbering,
     pub sets: [u32; limits::SETS],

@@ -18,7 +18,7 @@ use chunks::Runs;
 // digest of the rule; the number of the first chunk, and the number after the last one. Broken is 0
 // where it is whole; any other number says that it is not of one trace.
 #[repr(C)]
-#[derive(Drop)]
+#[derive(Clone, Copy)]
 pub struct Summary {
     pub leads: [u32; limits::STATES],
     pub count: u64,
@@ -30,7 +30,7 @@ pub struct Summary {
 }
 
 // The answer, with the summary beside it: zeros, and broken, where the chunk is refused.
-#[derive(Drop)]
+#[derive(Clone, Copy)]
 pub struct SummaryResult {
     pub answer: Answer,
     pub summary: Summary,

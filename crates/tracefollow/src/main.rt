@@ -23,7 +23,7 @@ const ANSWERS: usize = 6 * BLOCK;
 
 // The state, what is left between blocks, and whether the input is over, or it or the output failed,
 // which was told.
-#[derive(Drop)]
+#[derive(Clone, Copy)]
 struct Reading {
     state: FollowState,
     pending: Pending,

@@ -24,7 +24,7 @@ const ANSWERS: usize = 6 * BLOCK;
 
 // The judge, what is left between blocks, and whether the input is over, or it or the output failed,
 // which was told.
-#[derive(Drop)]
+#[derive(Clone, Copy)]
 struct Reading {
     judge: Judge,
     pending: Pending,

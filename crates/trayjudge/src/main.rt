@@ -24,7 +24,7 @@ const ANSWERS: usize = 6 * BLOCK;
 
 // The tray, what is left between blocks, and whether the input is over, or it or the output failed,
 // which was told.
-#[derive(Drop)]
+#[derive(Clone, Copy)]
 struct Reading {
     tray: Tray,
     pending: Pending,

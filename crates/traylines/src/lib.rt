@@ -45,7 +45,7 @@ fn load(tray: Tray, rows: bool, file: &[u8]) -> InstallResult
 }
 
 // What a line is answered, and the tray that it leaves.
-#[derive(Drop)]
+#[derive(Clone, Copy)]
 pub struct LineRun {
     pub answer: LineAnswer,
     pub tray: Tray,

@@ -26,7 +26,7 @@ pub const CELLS: usize = BANDS * BAND;
 // (0 for empty), how many rows it has, and its bytes as they came, with zeros behind them. A board
 // is there when bands is not 0. In a new one every cell is 0.
 #[repr(C)]
-#[derive(Drop)]
+#[derive(Clone, Copy)]
 pub struct TrayBoard {
     pub width: u8,
     pub bands: u8,
@@ -38,7 +38,7 @@ pub struct TrayBoard {
 // The state: the rule of the rows, the rule of the columns, and the board. A rule is there when its
 // n is not 0; in a fresh tray every number is 0.
 #[repr(C)]
-#[derive(Drop)]
+#[derive(Clone, Copy)]
 pub struct Tray {
     pub row: Rule,
     pub column: Rule,
@@ -46,7 +46,7 @@ pub struct Tray {
 }
 
 // What the verdict says; it has no count.
-#[derive(Drop)]
+#[derive(Clone, Copy)]
 pub enum TrayVerdict {
     Waiting(u8),
     Yes,
@@ -55,13 +55,13 @@ pub enum TrayVerdict {
 }
 
 // Each call that may change the state answers with the next state beside the answer.
-#[derive(Drop)]
+#[derive(Clone, Copy)]
 pub struct InstallResult {
     pub answer: BuildAnswer,
     pub tray: Tray,
 }
 
-#[derive(Drop)]
+#[derive(Clone, Copy)]
 pub struct CallResult {
     pub answer: Answer,
     pub tray: Tray,

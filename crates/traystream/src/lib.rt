@@ -19,7 +19,7 @@ use trays::Tray;
 pub const LINE: usize = 7 + 2 * traylines::BYTES + 1;
 
 // The tray that a line leaves, whether the list has ended, and how many bytes the answer has.
-#[derive(Drop)]
+#[derive(Clone, Copy)]
 pub struct Answered {
     pub tray: Tray,
     pub ended: bool,
@@ -28,7 +28,7 @@ pub struct Answered {
 
 // The tray that some parts of a block leave, what is left for the next, where that begins, and how
 // many bytes the answers have.
-#[derive(Drop)]
+#[derive(Clone, Copy)]
 pub struct Gathered {
     pub tray: Tray,
     pub pending: Pending,

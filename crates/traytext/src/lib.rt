@@ -15,7 +15,7 @@ use trays::TrayVerdict;
 
 // A line. The bytes of a row rule begin at index 4, those of a column rule at 7, those of a delivery
 // at the index beside its band.
-#[derive(Drop)]
+#[derive(Clone, Copy)]
 pub enum Line {
     Empty,
     Row,
@@ -107,7 +107,7 @@ pub fn parse(line: &[u8]) -> Line
 
 // What a line is answered: where it makes a call, what the call is answered. The rule of a file has
 // the same type of answer as an installation, with the numbers 1 to 9.
-#[derive(Drop)]
+#[derive(Clone, Copy)]
 pub enum LineAnswer {
     Began,
     Install(BuildAnswer),

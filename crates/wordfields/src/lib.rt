@@ -7,14 +7,14 @@ ghost use Rattle.wordfields.specs.Words.{words_of, parse_words, words_mean};
 use fields::Bytes;
 
 // A number for each set, or that the field says none.
-#[derive(Drop)]
+#[derive(Clone, Copy)]
 pub struct SetWords {
     pub known: bool,
     pub words: [u16; limits::SETS],
 }
 
 // A number for each cell.
-#[derive(Drop)]
+#[derive(Clone, Copy)]
 pub struct CellWords {
     pub known: bool,
     pub words: [u16; limits::CELLS],

@@ -1,0 +1,16 @@
+-- `compose` meets its contract, cell by cell. Assumes nothing.
+use mathlib.Core.Path.{◌≡◌, refl, ◌∙◌}
+use Prim.Native.Nat.{ℕ, ◌-◌, ◌≤◌, ◌<◌}
+use native.Mathlib.Omega.{arith}
+use lib.ListN.{length, get_or, length-set}
+use borrow.Author.Rules.{rules}
+use Rattle.base.proofs.Lists.{cell_stored, is_list_from}
+use Rattle.mappings.specs.Mappings.{image}
+use Rattle.mappings.proofs.compose.Given as goal
+
+abbrev pub invariant-loop-q : goal.invariant-loop-q
+invariant-loop-q l =
+    (l.q ≤ 8) × (length l.masks ≡ 8) × ((i : ℕ) → i < l.q → get_or l.masks i 0 ≡ image l.second (get_or l.first i 0))
+
+abbrev pub decreases-loop-q : goal.decreases-loop-q
+decreases-loop-q l = 8 - l.q

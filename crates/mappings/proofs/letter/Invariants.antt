@@ -1,0 +1,15 @@
+-- `letter` meets its contract, mask by mask. Assumes nothing.
+use mathlib.Core.Path.{◌≡◌, refl, ◌∙◌}
+use Prim.Native.Nat.{ℕ, ◌-◌, ◌≤◌, ◌<◌}
+use Prim.Native.Nat.{◌%◌, ◌^◌}
+use native.Mathlib.Omega.{arith}
+use lib.ListN.{length, get_or, length-set}
+use Rattle.base.proofs.Lists.{cell_stored, is_list_from}
+use Rattle.automaton.specs.Rules.{target_mask}
+use Rattle.mappings.proofs.letter.Given as goal
+
+abbrev pub invariant-loop-q : goal.invariant-loop-q
+invariant-loop-q l = (l.q ≤ 8) × (length l.masks ≡ 8) × ((i : ℕ) → i < l.q → get_or l.masks i 0 ≡ target_mask l.targets i l.symbol % 2 ^ 8)
+
+abbrev pub decreases-loop-q : goal.decreases-loop-q
+decreases-loop-q l = 8 - l.q

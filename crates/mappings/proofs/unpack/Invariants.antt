@@ -1,0 +1,16 @@
+-- `unpack` meets its contract: what is left of the number is what stands above the masks passed. Assumes
+-- nothing.
+use mathlib.Core.Path.{◌≡◌, refl, sym, ap, ◌∙◌}
+use Prim.Native.Nat.{ℕ, ◌*◌, ◌+◌, ◌-◌, ◌/◌, ◌%◌, ◌^◌, ◌≤◌, ◌<◌}
+use native.Mathlib.Nat.{div-one}
+use native.Mathlib.Omega.{arith}
+use lib.ListN.{length, get_or, length-set}
+use lib.Pow.{shr-shr}
+use Rattle.base.proofs.Lists.{cell_stored, is_list_from}
+use Rattle.mappings.proofs.unpack.Given as goal
+
+abbrev pub invariant-loop-q : goal.invariant-loop-q
+invariant-loop-q l = (l.q ≤ 8) × (length l.masks ≡ 8) × (l.rest ≡ l.packed / 2 ^ (8 * l.q)) × ((i : ℕ) → i < l.q → get_or l.masks i 0 ≡ l.packed / 2 ^ (8 * i) % 2 ^ 8)
+
+abbrev pub decreases-loop-q : goal.decreases-loop-q
+decreases-loop-q l = 8 - l.q

@@ -1,0 +1,19 @@
+-- `fill_words` meets its contract. The loop's invariant: the numbers passed are stored, and zeros
+-- stand behind them. Assumes nothing.
+use mathlib.Core.Path.{◌≡◌, refl, ◌∙◌}
+use Prim.Native.Nat.{◌*◌, ◌-◌, ◌%◌, ◌≤◌}
+use native.Mathlib.Omega.{arith}
+use lib.ListN.{length, length-set}
+use Rattle.forms.proofs.Filling.{Filled, filled_none, fill_more}
+use Rattle.wordfields.specs.Words.{word_at}
+use Rattle.wordfields.proofs.Words.{all_words}
+use borrow.Author.Rules.{rules}
+use Rattle.wordfields.proofs.fill_words.Given as goal
+
+abbrev pub invariant-loop-i : goal.invariant-loop-i
+invariant-loop-i l =
+    (2 * l.i ≤ length l.bytes) × (length l.bytes % 2 ≡ 0) × (length l.bytes ≤ 2 * length l.initial.words) × (length l.words ≡ length l.initial.words)
+    × Filled (length l.initial.words) 0 (word_at l.bytes) l.i l.words
+
+abbrev pub decreases-loop-i : goal.decreases-loop-i
+decreases-loop-i l = length l.bytes - 2 * l.i
