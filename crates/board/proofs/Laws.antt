@@ -6,7 +6,7 @@
 --   empty-length, empty-last                          counts and lengths 0, no revision
 --   Changed                                           one place has been changed, and the others
 --                                                     are as before
---   filled_at, cleared_at                             filling and clearing change their place
+--   filled_at_lem, cleared_at                             filling and clearing change their place
 --                                                     alone, and to what
 --   empty-law, summed-law, bytes-law                  the empty places, the summed count and the
 --                                                     summed bytes, from what is known of each
@@ -115,9 +115,9 @@ module _ (b : Board) (p : ℕ) (sized : Sized b) (h : p < 64) where
     held_other = row_other b.ends p g;
   }
 
-  pub filled_at : (v : ℕ) (s : Runs) → Changed b (filled_at b p v s) p false s.count s.bytes (v + 1) (λ q. get_or s.ends q 0)
+  pub filled_at_lem : (v : ℕ) (s : Runs) → Changed b (filled_at b p v s) p false s.count s.bytes (v + 1) (λ q. get_or s.ends q 0)
   unfolding filled_at
-  filled_at v s = changed_at 1 s.count s.bytes (v + 1) (λ q. get_or s.ends q 0)
+  filled_at_lem v s = changed_at 1 s.count s.bytes (v + 1) (λ q. get_or s.ends q 0)
 
   -- the revision stays
   pub cleared_at_lem : Changed b (cleared_at b p) p true 0 0 (last_at b p) (λ q. 0)

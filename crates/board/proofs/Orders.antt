@@ -21,7 +21,7 @@ use Rattle.chunks.specs.declared.Runs.{Runs}
 use Rattle.board.specs.declared.Board.{Board}
 use Rattle.board.specs.Boards.{last_at, comes_late, row_set, filled_at}
 use Rattle.board.proofs.Rows.{row_cell}
-use Rattle.board.proofs.Laws.{Sized, filled_at}
+use Rattle.board.proofs.Laws.{Sized, filled_at_lem}
 
 abbrev pub offered : Bool → Board → ℕ → ℕ → Runs → Board
 offered fits b p v s = cond (fits && not (comes_late b p v)) (filled_at b p v s) b
@@ -120,10 +120,10 @@ module _ (b : Board) (p v : ℕ) (s : Runs) where
 module _ (b : Board) (sized : Sized b) where
   -- what comes late after place p was filled: by its revision there, as before elsewhere
   late_own : (p v : ℕ) (s : Runs) → p < 64 → (u : ℕ) → comes_late (filled_at b p v s) p u ≡ ltb u (v + 1)
-  late_own p v s h u = ap (ltb u) (filled_at b p sized h v s).last_own
+  late_own p v s h u = ap (ltb u) (filled_at_lem b p sized h v s).last_own
 
   late_other : (p v : ℕ) (s : Runs) → p < 64 → (q u : ℕ) → (q ≡ p → ⊥) → comes_late (filled_at b p v s) q u ≡ comes_late b q u
-  late_other p v s h q u ne = ap (ltb u) ((filled_at b p sized h v s).last_other q ne)
+  late_other p v s h q u ne = ap (ltb u) ((filled_at_lem b p sized h v s).last_other q ne)
 
   -- two revisions at one place: the greater one is left, if any
   rising : (p v u : ℕ) (s t : Runs) → p < 64 → v < u → offered true (offered true b p v s) p u t ≡ offered true (offered true b p u t) p v s

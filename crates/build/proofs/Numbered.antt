@@ -93,7 +93,7 @@ whole r t is c e s merged n k n-is k-is =
     let w = counted_of r.targets r.n r.k t is c e in
     rw (merged, n-is, k-is, w.fits, w.sets_are, w.next_are, w.singles_are, w.count)
 
-pub too_many : (r : Rule) (t : SetTable) → table_outcome t ≡ table_of r.targets r.n r.k → t.answer ≡ Over
+pub too_many_lem : (r : Rule) (t : SetTable) → table_outcome t ≡ table_of r.targets r.n r.k → t.answer ≡ Over
     → (b : Built) → b ≡ no_built → build_outcome (record { answer = Refused 9; built = b }) ≡ build_of r
 unfolding build_of
-too_many r t is e b none = rw (none, is_over r.targets r.n r.k t is e)
+too_many_lem r t is e b none = rw (none, is_over r.targets r.n r.k t is e)

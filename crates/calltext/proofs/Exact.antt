@@ -165,7 +165,7 @@ all_bytes (x ∷ b) h = (h 0, all_bytes b (λ i. h (suc i)))
 
 own_line : (c : Call) → Fits c → SaysCall (line_of c) c
 own_line (installs r) a =
-    (field_of (packed_of r), packed_of r, refl, own_bytes (packed_of r) (all_bytes (packed_of r) ((packed.claims).packed_bytes r a)), (packed.claims).packed_size r, (packed.claims).packed_round_trip r a)
+    (field_of (packed_of r), packed_of r, refl, own_bytes (packed_of r) (all_bytes (packed_of r) ((packed.claims).packed_bytes r a)), (packed.claims).packed_size_lem r, (packed.claims).packed_round_trip r a)
 own_line (loads f) a = (field_of f, refl, own_bytes f a)
 own_line (opens n) a = (decimal n, refl, own_number n a)
 own_line (delivers p v w) a = (decimal p, decimal v, field_of w, refl, own_number p a.0, own_number v (omega (arith, a.1)), a.1, own_bytes w a.2)

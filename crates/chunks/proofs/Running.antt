@@ -24,7 +24,7 @@ use Rattle.lanes.proofs.Offsets.{row_table, hop_low, hop_stays}
 use Rattle.lanes.proofs.Rows.{rows_at}
 use Rattle.chunks.specs.declared.Runs.{Runs}
 use Rattle.chunks.specs.mirror.Walks.{walk_end, walk_count, walk_looked, mask_of, runs_of, start_rows, end_masks}
-use Rattle.chunks.proofs.Walks.{row_end_lem, row_count, row_looked_lem}
+use Rattle.chunks.proofs.Walks.{row_end_lem, row_count_lem, row_looked_lem}
 
 -- ---- where the runs begin
 abbrev pub start_row : List ℕ → ℕ → ℕ → ℕ
@@ -73,7 +73,7 @@ module _ (sets next singles : List ℕ) (run : ℕ) (w : List ℕ) where
   count_of_lem q =
       let i = get_or singles q 0 in
       either (has run q) (λ b. row_count t w (cond b (row_of i) 8192) ≡ cond b (walk_count next i w) 0)
-      (row_count next i w)
+      (row_count_lem next i w)
       (walks.count_empty (hop_of t) 8192 (hop_low t (row_table next)) (hop_stays t (row_table next)) w)
 
   looked_of_lem : (q : ℕ) → row_looked t w (start_row singles run q) ≡ cond (has run q) (walk_looked next (get_or singles q 0) w) 0

@@ -3,7 +3,7 @@
 --
 --   end_empty, count-empty, looked-empty   the empty set stays empty, and counts and reads nothing
 --   count_most                             at most one step is counted for a byte
---   row-end, row_count, row-looked         a walk over row offsets is a walk over sets' numbers
+--   row-end, row_count_lem, row-looked         a walk over row offsets is a walk over sets' numbers
 use mathlib.Core.Path.{◌≡◌, sym, ◌∙◌}
 use mathlib.Core.List.{List}
 use Prim.Native.Nat.{ℕ, ◌%◌, ◌≤◌}
@@ -53,8 +53,8 @@ module _ (next : List ℕ) where
   pub row_end_lem : (i : ℕ) (w : List ℕ) → row_end (offsets_of next) w (row_of i) ≡ row_of (walk_end next i w)
   row_end_lem = walks.end_through (step_of next) (hop_of (offsets_of next)) 512 8192 row_of same_step same_test
 
-  pub row_count : (i : ℕ) (w : List ℕ) → row_count (offsets_of next) w (row_of i) ≡ walk_count next i w
-  row_count = walks.count_through (step_of next) (hop_of (offsets_of next)) 512 8192 row_of same_step same_test
+  pub row_count_lem : (i : ℕ) (w : List ℕ) → row_count (offsets_of next) w (row_of i) ≡ walk_count next i w
+  row_count_lem = walks.count_through (step_of next) (hop_of (offsets_of next)) 512 8192 row_of same_step same_test
 
   pub row_looked_lem : (i : ℕ) (w : List ℕ) → row_looked (offsets_of next) w (row_of i) ≡ walk_looked next i w
   row_looked_lem = walks.looked_through (step_of next) (hop_of (offsets_of next)) 512 8192 row_of same_step same_test

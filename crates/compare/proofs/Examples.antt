@@ -23,7 +23,7 @@ use Rattle.searches.specs.Search.{first_where, word_back, word_to}
 use Rattle.compare.specs.Compared.{pair_number, Comparison, apart, same, refused}
 use Rattle.compare.specs.Search.{which_of, pair_walk, first_pair, reached_pairs, first_pairs, found_first, told_apart, many_pairs, compare_of}
 use Rattle.compare.specs.Worked.{Case, case, pairs, Answered}
-use Rattle.compare.proofs.Answers.{by_number, number-none, refused_first}
+use Rattle.compare.proofs.Answers.{by_number_lem, number-none, refused_first}
 
 module _ (one two : Rule) where
   -- with at most 512 pairs
@@ -40,7 +40,7 @@ module _ (one two : Rule) where
   pub compared_is : ltb 512 (length (reached_pairs one two)) ≡ false → pair_number one two ≡ none → compare_of one two ≡ compared
   compared_is few pass =
       let not-many : many_pairs one two ≡ false = by_test (told_apart one two) (λ t. rw t) (λ t. rw t few) in
-      by_number one two none (number-none one two pass not-many)
+      by_number_lem one two none (number-none one two pass not-many)
       ∙ rw (one_whole Pairs one.targets two.targets one.k (first_pair one two) (ltb-false 512 (length (reached_pairs one two)) few))
 
   computed : (o : Option ℕ) → pair_number one two ≡ o → (a : Comparison) → by_number o ≡ some a → compare_of one two ≡ a

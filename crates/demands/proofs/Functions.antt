@@ -29,19 +29,19 @@ load_fixed j f r = (
 )
 
 step_to : (j : Judge) (c : Call) (a : Reply) (next : Judge) → MayStep j c a next → (a ≡ (step_of j c).reply) × (next ≡ (step_of j c).state)
-step_to j (installs rule) a next m = parts a next (install_of j rule) (m.2 ∙ ap install_read_back m.1.1 ∙ (capi.claims).install_read_back j rule)
+step_to j (installs rule) a next m = parts a next (install_of j rule) (m.2 ∙ ap install_read_back m.1.1 ∙ (capi.claims).install_read_back_lem j rule)
 step_to j (loads f) a next m =
     parts a next (load_of j f) (m.2 ∙ ap install_read_back ((load_fixed j f m.0).0 m.1) ∙ (capi.claims).load_read_back j f)
 step_to j (opens n) a next m = parts a next (open_of j n) (m.2 ∙ ap call_read_back m.1.1 ∙ (capi.claims).open_read_back j n)
 step_to j (delivers p v w) a next m =
     parts a next (deliver_of j p v w)
-    (m.2 ∙ ap deliver_read_back (m.1.4 ∙ ap (λ (x : List ℕ). deliver_shown (deliver_of j p v x)) m.1.3) ∙ (capi.claims).deliver_read_back j p v w)
+    (m.2 ∙ ap deliver_read_back (m.1.4 ∙ ap (λ (x : List ℕ). deliver_shown (deliver_of j p v x)) m.1.3) ∙ (capi.claims).deliver_read_back_lem j p v w)
 step_to j (withdraws p) a next m = parts a next (withdraw_of j p) (m.2 ∙ ap call_read_back m.1.1 ∙ (capi.claims).withdraw_read_back j p)
-step_to j asks_verdict a next m = (m.2 ∙ ap judged (ap verdict_read_back m.1.1 ∙ (capi.claims).verdict_read_back j), m.3)
+step_to j asks_verdict a next m = (m.2 ∙ ap judged (ap verdict_read_back m.1.1 ∙ (capi.claims).verdict_read_back_lem j), m.3)
 
 step_back : (j : Judge) (c : Call) (a : Reply) (next : Judge) → (a ≡ (step_of j c).reply) × (next ≡ (step_of j c).state) → MayStep j c a next
 step_back j (installs rule) a next e =
-    (install_shown (install_of j rule), ((j, (rule, tt)), refl), whole a next (install_of j rule) e ∙ sym ((capi.claims).install_read_back j rule))
+    (install_shown (install_of j rule), ((j, (rule, tt)), refl), whole a next (install_of j rule) e ∙ sym ((capi.claims).install_read_back_lem j rule))
 step_back j (loads f) a next e = (
   install_shown (load_of j f),
   (load_fixed j f (install_shown (load_of j f))).1 refl,
@@ -51,11 +51,11 @@ step_back j (opens n) a next e = (call_shown (open_of j n), ((j, (n, tt)), refl)
 step_back j (delivers p v w) a next e = (
   deliver_shown (deliver_of j p v w),
   (([], tt), lent w, (j, (p, (v, (lent w, tt)))), refl, refl),
-  whole a next (deliver_of j p v w) e ∙ sym ((capi.claims).deliver_read_back j p v w),
+  whole a next (deliver_of j p v w) e ∙ sym ((capi.claims).deliver_read_back_lem j p v w),
 )
 step_back j (withdraws p) a next e =
     (call_shown (withdraw_of j p), ((j, (p, tt)), refl), whole a next (withdraw_of j p) e ∙ sym ((capi.claims).withdraw_read_back j p))
-step_back j asks_verdict a next e = (verdict_shown (report_of j), ((j, tt), refl), e.0 ∙ ap judged (sym ((capi.claims).verdict_read_back j)), e.1)
+step_back j asks_verdict a next e = (verdict_shown (report_of j), ((j, tt), refl), e.0 ∙ ap judged (sym ((capi.claims).verdict_read_back_lem j)), e.1)
 
 asks_nothing : (j : Judge) (c : Call) → AsksStep j c
 asks_nothing j (installs rule) = install_asks_nothing j rule

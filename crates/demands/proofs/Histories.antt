@@ -225,7 +225,7 @@ empty_places_lem = histories_empties.empty_places_lem
 -- standing chunk is run from, at place 0 the delegates of initial states, and a byte up to which a
 -- run from that state goes over the text; and at each place how many pairs;
 pub transitions : (h : List Call) (p : ℕ) → CountAt (standing_after h (answers_to h)) p (count_at h p)
-transitions h = transcripts_places.count_at h (standing_after h (answers_to h)) (transcripts_agree.agree h)
+transitions h = transcripts_places.count_at_lem h (standing_after h (answers_to h)) (transcripts_agree.agree h)
 
 pub summed_transitions : (h : List Call) (c : ℕ) → SumIs (standing_after h (answers_to h)) c ↔ (c ≡ summed_in h)
 summed_transitions h = transcripts_places.sum_law h (standing_after h (answers_to h)) (transcripts_agree.agree h)

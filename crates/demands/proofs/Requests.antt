@@ -81,7 +81,7 @@ lengths h = (every_list h).after.lengths
 
 -- they sum up to the length of these texts joined by place;
 pub text_bytes : (h : List Call) → (summed_bytes (judge_after h).board ≡ bytes_in h) × (bytes_in h ≡ length (text_in h))
-text_bytes h = ((every_list h).after.summed_bytes, (every_list h).report.text_bytes)
+text_bytes h = ((every_list h).after.summed_bytes_lem, (every_list h).report.text_bytes)
 
 -- what is reported is the verdict of the sentences above with these numbers.
 pub reported : (h : List Call) → (report_of (judge_after h) ≡ report_in h) × ((report_in h).verdict ≡ verdict_in h)

@@ -19,7 +19,7 @@ use Rattle.automaton.specs.Automaton.{Text}
 use Rattle.build.specs.mirror.Building.{no_built}
 use Rattle.board.specs.declared.Board.{Board}
 use Rattle.board.specs.Boards.{held, is_empty, last_at, empty_board, filled_at, cleared_at}
-use Rattle.board.proofs.Laws.{Sized, sized_empty, empty_all, empty_held, empty_count, empty_length, empty_last, Changed, filled_at, cleared_at_lem}
+use Rattle.board.proofs.Laws.{Sized, sized_empty, empty_all, empty_held, empty_count, empty_length, empty_last, Changed, filled_at_lem, cleared_at_lem}
 use Rattle.calls.specs.declared.Judge.{Judge}
 use Rattle.histories.specs.History.{rule_from, count_of, end_of, standing_text, looked_of}
 use Rattle.calls.specs.mirror.Steps.{fresh, with_board, runs_at}
@@ -157,7 +157,7 @@ module _ (r : Rule) (places : ℕ) (at : ℕ → Option (List ℕ)) (last : ℕ 
 
   pub filled_holds : Agrees (some r) places (placed at p (some w)) (placed last p (some v)) (with_board j (filled_at j.board p v (runs_at j p w)))
   filled_holds =
-      let c = filled_at j.board p holds.sized (place_below (some r) places at last j holds p h) v (runs_at j p w) in
+      let c = filled_at_lem j.board p holds.sized (place_below (some r) places at last j holds p h) v (runs_at j p w) in
       changed_holds (some r) places at last j holds p h (some w) (some v) (filled_at j.board p v (runs_at j p w))
       (λ v e. let z : w ≡ v = cc in subst (λ (x : List ℕ). Text r.k (text_of x)) z text)
       (record {

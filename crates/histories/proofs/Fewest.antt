@@ -31,7 +31,7 @@ use Rattle.histories.proofs.Method.{method_bytes}
 by_starts : (a : Automaton) (d : List ℕ) (m : ℕ) → Merged a d m → Fewest a m
 by_starts a d m merged = record {
   no_fewer = fewest_claims.fewest a d m merged;
-  attained = (start_list d a.n, fewest_claims.starts_cover a d m merged, fewest_claims.start_count a d m merged);
+  attained = (start_list d a.n, fewest_claims.starts_cover a d m merged, fewest_claims.start_count_lem a d m merged);
 }
 
 -- of a rule that is built

@@ -35,7 +35,7 @@ module _ (r : Rule) (good : WellFormed r) (fit : fits r) where
   pub delegate_below : (q x : ℕ) → q < r.n → delegate_in (starts_in r).delegates q ≡ some x → x < r.n
   delegate_below q x h e =
       (subst (Delegate (automaton_of r) q) e
-      ((delegates.claims).delegates_in (automaton_of r) good.states.1 (starts_in r).delegates (starts_in r).startcount merged q h)
+      ((delegates.claims).delegates_in_lem (automaton_of r) good.states.1 (starts_in r).delegates (starts_in r).startcount merged q h)
       ).1.state
 
   pub run-below : (p : ℕ) → run_at r p < 2 ^ r.n
@@ -52,7 +52,7 @@ module _ (r : Rule) (good : WellFormed r) (fit : fits r) where
   run_same : (p : ℕ) → run_mask (starts_in r).delegates (built_of r).n r.initials p ≡ run_at r p
   run_same p =
       rw n_same
-      ((chunks.claims).run_mask (starts_in r).delegates r.n r.initials good.states.1 p)
+      ((chunks.claims).run_mask_lem (starts_in r).delegates r.n r.initials good.states.1 p)
 
   module _ (p : ℕ) (w : List ℕ) (text : Text r.k w) where
     pub count_same : (runs_of (built_of r).sets (built_of r).next (built_of r).singles (run_mask (starts_in r).delegates (built_of r).n r.initials p) w).count

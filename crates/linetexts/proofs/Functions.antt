@@ -14,11 +14,11 @@ use Rattle.linetexts.proofs.Fed.{gathered}
 use Rattle.linetexts.proofs.Whole.{written_is}
 
 module _ {K J : Type 0} (m : LineMachine K J) (Gather : GatheringFunction (State K J)) (kept : Kept m Gather) where
-  block_rounds : {at : ℕ} {block : List ℕ} {s s' : State K J} {text : List ℕ} → FedBlock Gather block at s s' text
+  block_rounds : {block : List ℕ} {at : ℕ} {s s' : State K J} {text : List ℕ} → FedBlock Gather block at s s' text
       → (texts : List (List ℕ)) × (flatten texts ≡ text) × Rounds m s (drop at block) s' texts
   unfolding flatten
-  block_rounds {at} {block} {s} (over l) = ([], refl, subst (λ (b : List ℕ). Rounds m s b s []) (sym (drop_of_length-le block l)) claims.over)
-  block_rounds {at} {block} {s} {s'} (round {next = next} {written = written} {t = t} {before = before} {after = after} may rest) =
+  block_rounds {block} {at} {s} (over l) = ([], refl, subst (λ (b : List ℕ). Rounds m s b s []) (sym (drop_of_length-le block l)) claims.over)
+  block_rounds {block} {at} {s} {s'} (round {next = next} {written = written} {t = t} {before = before} {after = after} may rest) =
       let others = block_rounds rest in (
         take written after ∷ others.0,
         ap (λ (v : List ℕ). take written after ++ v) others.1,

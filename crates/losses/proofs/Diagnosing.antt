@@ -67,7 +67,7 @@ module _ (r : Rule) (places : ℕ) (at : ℕ → Option (List ℕ)) (last : ℕ 
       let d = (starts_in r).delegates in
       rw (holds.rule.0, n_same r holds.rule.1 holds.rule.2)
       (ap (λ (c : ℕ). eqb c 0)
-      ((chunks.claims).delegate_mask d r.n (join_up_to j.board.ends d r.n r.initials (suc p)) holds.rule.1.states.1
+      ((chunks.claims).delegate_mask_lem d r.n (join_up_to j.board.ends d r.n r.initials (suc p)) holds.rule.1.states.1
       ∙ ap (delegate_set d r.n)
       ((joins.claims).join_law j.board.ends d r.n r.initials (suc p) holds.rule.1.states.1
       ∙ (joins.claims).join_same (held_in j.board.ends) (λ p q. end_of r p q (at p)) (delegate_in d) r.n r.initials (suc p)

@@ -135,7 +135,7 @@ module _ (r : Rule) (places : ℕ) (at : ℕ → Option (List ℕ)) (last : ℕ 
         (ap found_by
         (ap₂ (λ (x : ℕ) (s : ℕ). runs_of (built_of r).sets (pruned (built_of r).sets (built_of r).next (live_set d x) (built_of r).setcount) (built_of r).singles s t)
         e
-        ((chunks.claims).delegate_mask d r.n (join_up_to j.board.ends d r.n r.initials p) wf.states.1
+        ((chunks.claims).delegate_mask_lem d r.n (join_up_to j.board.ends d r.n r.initials p) wf.states.1
         ∙ ap (delegate_set d r.n) (from_is p within))))
 
     alive : (i : ℕ) → shares (after r.targets run (take i t)) (lives r wf fit) ≡ true → Continued (automaton_of r) (joined_up_to at p ++ take i t)

@@ -67,7 +67,7 @@ module _ (way : Way) (one two a b : Rule) (kept : ℕ) (pairs m : Rule) where
 
 -- and are refused with 37 where more than 32 are kept
 module _ (way : Way) (one two a b : Rule) (kept : ℕ) where
-  too_many : reduced_or_own one ≡ a
+  too_many_lem : reduced_or_own one ≡ a
       → reduced_or_own two ≡ b
       → rule_number one ≡ none
       → rule_number two ≡ none
@@ -75,7 +75,7 @@ module _ (way : Way) (one two a b : Rule) (kept : ℕ) where
       → kept_pairs way a b ≡ kept
       → ltb 32 (rank kept (size way a b)) ≡ true
       → merge_reduced_of way one two ≡ refused 37
-  too_many first second checked1 checked2 same kept-is many =
+  too_many_lem first second checked1 checked2 same kept-is many =
       let count : pair_count way (reduced_or_own one) (reduced_or_own two) ≡ rank kept (size way a b) =
       ap₂ (pair_count way) first second ∙ ap (λ (x : ℕ). rank x (size way a b)) kept-is in
       let number : merge_reduced_number way one two ≡ some 37 =
@@ -180,7 +180,7 @@ answered = (
               (
                 step_by_step Interleaving once crossed once crossed 63 six thrice_crossed once_stays crossed_stays refl refl refl refl refl refl by_length,
                 (
-                  too_many Both (round 5 1) (round 7 1) (round 5 1) (round 7 1) 34359738367 five_stays seven_stays refl refl refl all_pairs refl,
+                  too_many_lem Both (round 5 1) (round 7 1) (round 5 1) (round 7 1) 34359738367 five_stays seven_stays refl refl refl all_pairs refl,
                   (refl, (refl, (refl, (refl, tt)))),
                 ),
               ),

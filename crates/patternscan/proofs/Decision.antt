@@ -115,7 +115,7 @@ record Ending (b : List ℕ) : Type 0 where
   tree : Pattern
   parts : b ≡ front ++ back
   first_part : Parses alternatives front before
-  last_part_lem : Parses item back tree
+  last_part : Parses item back tree
 
 -- the alternatives since the last open bracket; a star may follow where they end in an item
 record Read (b : List ℕ) (f : Bool) : Type 0 where
@@ -144,7 +144,7 @@ read_item {b} {c} {p} {q} a i =
     record {
       tree = t.0;
       parses = t.1;
-      ending = λ e. record { front = b; back = c; before = p; tree = q; parts = refl; first_part = a; last_part_lem = i };
+      ending = λ e. record { front = b; back = c; before = p; tree = q; parts = refl; first_part = a; last_part = i };
     }
 
 -- the alternatives so far end in nothing

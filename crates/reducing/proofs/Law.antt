@@ -220,7 +220,7 @@ module _ (r : Rule) (good : WellFormed r) (delegated-to : List ℕ) (starts : �
             let u = Q.arc_from (old p) s q (stays p l) (subst (λ (x : ℕ). Arc b x s q) (sym (is p l)) j) in
             (u.through, u.from, subst (λ (x : ℕ). Stands r u.through x) (old_of q u.to m u.kept u.is) u.chosen)),
         λ u.
-            let j = (Q.arc_to (old p) s u.0 (old q) (stays p l) u.1 u.2).1 in
+            let j = (Q.arc_to_lem (old p) s u.0 (old q) (stays p l) u.1 u.2).1 in
             subst (λ (x : ℕ). Arc b x s q) (is p l) (subst (λ (x : ℕ). Arc b (rank kept (old p)) s x) (is q m) j),
       );
       first_there = λ q x e f.
@@ -228,7 +228,7 @@ module _ (r : Rule) (good : WellFormed r) (delegated-to : List ℕ) (starts : �
           let l : rank kept x < new.n = Q.states x k in
           (rank kept x, l, sym (old_of (rank kept x) x l k refl));
       next_there = λ p s t x l j f.
-          let k = (Q.arc_to (old p) s t x (stays p l) j f).0 in
+          let k = (Q.arc_to_lem (old p) s t x (stays p l) j f).0 in
           let h : rank kept x < new.n = Q.states x k in
           (rank kept x, h, sym (old_of (rank kept x) x h k refl));
       accepts = λ p w l. (

@@ -72,7 +72,7 @@ module _ (a b : Automaton) (D : ℕ → Option ℕ → Type 0) (Kept : ℕ → T
       let u = run_first a t.run in
       let rest : AcceptsFrom a u.next w = record { to = t.to; ends = t.ends; run = u.run } in
       let e = Q.arc_live x s u.next k u.arc (lives u.next w rest) in
-      let j = Q.arc_to x s u.next e.0 k u.arc e.1 in
+      let j = Q.arc_to_lem x s u.next e.0 k u.arc e.1 in
       let on = to_new w e.0 j.0 (moved u.next e.0 w e.1 rest) in
       record { to = on.to; ends = on.ends; run = move j.1 on.run }
 

@@ -95,7 +95,7 @@ module _ (r : Rule) (good : WellFormed r) (d : List ℕ) (In : ℕ → Type 0) (
   back : Within a b
   back = record {
     arcs = λ q s p j.
-        let i = (Q.arc_to q s p p (all_kept q j.source) j (self p j.target)).1 in
+        let i = (Q.arc_to_lem q s p p (all_kept q j.source) j (self p j.target)).1 in
         subst (λ (x : ℕ). Arc b x s p) (rank_of q j.source) (subst (λ (x : ℕ). Arc b (rank kept q) s x) (rank_of p j.target) i);
     initials = λ q e.
         let l = members_below r.n r.initials q good.initials_below e in

@@ -70,9 +70,9 @@ module _ (w : List ℕ) (at end : ℕ) (here : at < length w) (found : end ≡ a
       lines_there (drop at w) [] (omega (arith, rest, found))
       ∙ ap (λ (v : List ℕ). up_to 10 (drop at w) ∷ lines_of v) (drop-drop (suc m) at w ∙ ap (λ (n : ℕ). drop n w) e)
 
-  last_line : length w ≤ end → lines_of (drop at w) ≡ up_to 10 (drop at w) ∷ lines_of (drop (length w) w)
+  last_line_lem : length w ≤ end → lines_of (drop at w) ≡ up_to 10 (drop at w) ∷ lines_of (drop (length w) w)
   unfolding lines_from
-  last_line l =
+  last_line_lem l =
       let more : length (drop at w) ≤ length (up_to 10 (drop at w)) = omega (arith, rest, found) in
       lines_last (drop at w) [] more
       ∙ last-is (drop at w) (omega (arith, rest))
@@ -89,7 +89,7 @@ module _ (w : List ℕ) (at end : ℕ) (here : at < length w) (found : end ≡ a
       (λ t.
       let l = ltb-false end (length w) t in
       let is : to ≡ length w = omega arith in
-      rw (part_is w at end here found, is) (last_line l))
+      rw (part_is w at end here found, is) (last_line_lem l))
 
 -- ---- the loop: the lines before `at` were read and run, and what follows is still to be read
 pub record Going (w : List ℕ) (j : Judge) (line at : ℕ) : Type 0 where

@@ -118,8 +118,8 @@ by_value one two =
 
 -- ---- THE SAME
 -- Or the same exactly when there is no such text:
-pub no_text : (one two : Rule) → (compare_of one two ≡ same) ↔ (Searched one two × Same one two)
-no_text one two = due one two same
+pub no_text_lem : (one two : Rule) → (compare_of one two ≡ same) ↔ (Searched one two × Same one two)
+no_text_lem one two = due one two same
 
 -- the two are not refused, and their automata accept the same texts.
 pub alike : (one two : Rule)

@@ -109,7 +109,7 @@ limits = (refl, refl, refl, refl)
 -- 20 exactly where no rule is there, and then zeros; else the form of the judge's own table, which has 1
 -- to 512 sets and 1 to 16 symbols, and of which nothing is cut:
 pub without_a_rule : (h : List Call) → ((made_of (judge_after h)).number ≡ some 20) ↔ (rule_there h ≡ none)
-without_a_rule = (formtrip.claims).no_rule
+without_a_rule = (formtrip.claims).no_rule_lem
 
 pub zeros_without : (h : List Call) → rule_there h ≡ none → (made_of (judge_after h)).form ≡ no_form
 zeros_without = (formtrip.claims).zeros
@@ -149,7 +149,7 @@ not_different = (forms.claims).not_different
 
 -- The form has this failure set for each set:
 pub failure_in_form : (n k t : ℕ) (l : List ℕ) → n ≤ most_sets → t < n → get_or (form_of n k l).failure t 0 ≡ failure_of l k t
-failure_in_form = (forms.claims).failure_of
+failure_in_form = (forms.claims).failure_of_lem
 
 -- "equal cells, empty ones too, are left out and looked up there. Set 0 keeps all" .. "a 16-bit mask of
 -- kept cells (bit s for symbol s)". Exactly the cells that are not equal are kept, an empty one being a
@@ -164,7 +164,7 @@ pub bits_for_symbols : (k t s : ℕ) (l : List ℕ) → s ∈ kept_mask l k t �
 bits_for_symbols = (forms.claims).only_symbols
 
 pub mask_in_form : (n k t : ℕ) (l : List ℕ) → n ≤ most_sets → t < n → get_or (form_of n k l).kept t 0 ≡ kept_mask l k t
-mask_in_form = (forms.claims).mask_of
+mask_in_form = (forms.claims).mask_of_lem
 
 -- "Set 0 keeps all; its failure set is 0":
 pub failure_of_set_0 : (k : ℕ) (l : List ℕ) → failure_of l k 0 ≡ 0
@@ -224,7 +224,7 @@ gives_a_table = (forms.claims).a_table
 pub looked_up_lem : (f : Form) → back_number f ≡ none → (t s : ℕ) → t < f.sets → s < f.symbols
     → cell (table_of f).next t s
     ≡ cond (has (get_or f.kept t 0) s) (get_or f.cells (rank f t s) 0) (cell (table_of f).next (get_or f.failure t 0) s)
-looked_up_lem = (forms.claims).looked_up
+looked_up_lem = (forms.claims).looked_up_lem
 
 -- "its failure set is 0 and isn't read", "the rest is 0 and isn't read". Forms that have the same in all
 -- that is read have the same answer: the number, and the table too.
@@ -253,10 +253,10 @@ pub back_from_C : (f : Form) (r : TableNumbers) → MayTableC f r ↔ (r ≡ tab
 back_from_C f r = ((λ m. m.1), λ e. ((f, tt), e))
 
 pub read_back : (j : Judge) (r : FormNumbers) → MayFormC j r → form_read_back r ≡ made_of j
-read_back j r m = ap form_read_back ((from_C j r).0 m) ∙ (c_form.claims).form_read_back j
+read_back j r m = ap form_read_back ((from_C j r).0 m) ∙ (c_form.claims).form_read_back_lem j
 
 pub table_read_back_lem : (f : Form) (r : TableNumbers) → MayTableC f r → table_read_back r ≡ back_of f
-table_read_back_lem f r m = ap table_read_back ((back_from_C f r).0 m) ∙ (c_form.claims).table_read_back f
+table_read_back_lem f r m = ap table_read_back ((back_from_C f r).0 m) ∙ (c_form.claims).table_read_back_lem f
 
 -- Each of C's numbers in other words than the definition's: accepted and refused, the
 -- form, the table.
@@ -323,13 +323,13 @@ line_of_lem = (formline.claims).line_round_trip
 -- What `read_line` has of a line that says no form, or one with too great a number, is zeros beside
 -- it:
 pub beside_no_form : (held_of none ≡ malformed no_form) × ((f : Form) → (65535 < f.sets) ⊎ (255 < f.symbols) → held_of (some f) ≡ too_great no_form)
-beside_no_form = (refl, (formline.claims).too_great)
+beside_no_form = (refl, (formline.claims).too_great_lem)
 
 -- SETS and SYMBOLS may be any numbers below 2 ^ 64: those of no table are refused as in every form, and
 -- they do not decide whether what follows them is malformed.
-pub no_table : (w : List ℕ) (f : Form) → line_in w ≡ some f → (most_sets < f.sets) ⊎ (most_symbols < f.symbols)
+pub no_table_lem : (w : List ℕ) (f : Form) → line_in w ≡ some f → (most_sets < f.sets) ⊎ (most_symbols < f.symbols)
     → answer_to w ≡ refused_text 40
-no_table w f e h =
+no_table_lem w f e h =
     let n : back_number f ≡ some 40 = ((forms.claims).refused_exactly f).1 (⊎_elim many_sets_lem many_symbols h) in
     line_answer w f e ∙ ap (λ (o : Option ℕ). back_text (back_by o (table_of f))) n
 

@@ -129,7 +129,7 @@ from_C k seed before r after = (
 
 pub read_back : (k seed : ℕ) (before : List ℕ) (r : MadeNumbers) (after : List ℕ) → MayMake k seed before r after
     → made_read_back r ≡ made_number k seed
-read_back k seed before r after m = ap made_read_back ((from_C k seed before r after).0 m).0 ∙ (c_texts.claims).made_read_back (made_number k seed)
+read_back k seed before r after m = ap made_read_back ((from_C k seed before r after).0 m).0 ∙ (c_texts.claims).made_read_back_lem (made_number k seed)
 
 -- Each of C's numbers in other words than the definition's: accepted and refused.
 pub each_number : c_claims.Claims

@@ -283,10 +283,10 @@ any_verdict = functions.say_fixed
 
 -- What the numbers say can be read back.
 pub build_said : (r : Rule) → build_read_back (build_shown (build_of r)) ≡ build_of r
-build_said = (c_mappings.claims).build_read_back
+build_said = (c_mappings.claims).build_read_back_lem
 
 pub run_said : (p : Profile) (w : List ℕ) → run_read_back (run_shown (run_of p w)) ≡ run_of p w
-run_said = (c_mappings.claims).run_read_back
+run_said = (c_mappings.claims).run_read_back_lem
 
 -- Each of C's numbers in other words than the definition's: accepted and refused, the
 -- profile, the mapping, the verdict.

@@ -221,7 +221,7 @@ pub from_C : (x : ℕ) (one two : Rule) (r : MergeNumbers) → MayMergeC x one t
 from_C x one two r = ((λ m. m.1), λ e. ((x, (one, (two, tt))), e))
 
 pub read_back : (x : ℕ) (one two : Rule) (r : MergeNumbers) → MayMergeC x one two r → merge_read_back r ≡ merge_of (way_of x) one two
-read_back x one two r m = ap merge_read_back ((from_C x one two r).0 m) ∙ (c_merge.claims).merge_read_back (way_of x) one two
+read_back x one two r m = ap merge_read_back ((from_C x one two r).0 m) ∙ (c_merge.claims).merge_read_back_lem (way_of x) one two
 
 -- Each of C's numbers in other words than the definition's: accepted and refused, the
 -- rule.

@@ -184,7 +184,7 @@ pub from_C : (r : Rule) (m : ReduceNumbers) → MayReduceC r m ↔ (m ≡ reduce
 from_C r m = ((λ x. x.1), λ e. ((r, tt), e))
 
 pub read_back : (r : Rule) (m : ReduceNumbers) → MayReduceC r m → reduce_read_back m ≡ reduce_of r
-read_back r m x = ap reduce_read_back ((from_C r m).0 x) ∙ (c_reduce.claims).reduce_read_back (reduce_of r)
+read_back r m x = ap reduce_read_back ((from_C r m).0 x) ∙ (c_reduce.claims).reduce_read_back_lem (reduce_of r)
 
 -- Each of C's numbers in other words than the definition's: accepted and refused,
 -- installs, the rule.

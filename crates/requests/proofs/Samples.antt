@@ -115,8 +115,8 @@ by_value r wished =
 
 -- "say none, with length 0 and zeros, exactly when there is none." (Where the rule is not refused: a
 -- refusal comes first.)
-pub no_text : (r : Rule) (wished : Wish) → (sample_of r wished ≡ nothing) ↔ (Searched r × ((w : List ℕ) → Wished r wished w → ⊥))
-no_text r wished = due r wished nothing
+pub no_text_lem : (r : Rule) (wished : Wish) → (sample_of r wished ≡ nothing) ↔ (Searched r × ((w : List ℕ) → Wished r wished w → ⊥))
+no_text_lem r wished = due r wished nothing
 
 pub none_by_value : (r : Rule) (wished : Wish) → sample_of r wished ≡ nothing → outcome_of (sample_of r wished) ≡ no_text none_there
 none_by_value r wished = ap outcome_of

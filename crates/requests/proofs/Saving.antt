@@ -158,7 +158,7 @@ restores_from_C b r =
     ((λ x. x.4 ∙ ap (λ (w : List ℕ). restore_shown (restore_of w)) x.3), λ e. (([], tt), lent b, (lent b, tt), refl, e))
 
 pub read_back : (b : List ℕ) (r : RestoreNumbers) → MayRestoreC b r → restore_read_back r ≡ restore_of b
-read_back b r m = ap restore_read_back ((restores_from_C b r).0 m) ∙ (c_saved.claims).restore_read_back (restore_of b)
+read_back b r m = ap restore_read_back ((restores_from_C b r).0 m) ∙ (c_saved.claims).restore_read_back_lem (restore_of b)
 
 -- Each of C's numbers in other words than the definition's: accepted and refused, the judge.
 pub each_number : c_claims.Claims

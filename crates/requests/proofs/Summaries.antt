@@ -219,7 +219,7 @@ used = (summaryverdict.claims).used
 -- whatever values, all have the digest of the judge's rule.
 pub other_rule_lem : (r s : Rule) → install_number r ≡ none → (digest_of (built_of s) ≡ digest_of (built_of r) → ⊥)
     → (ws : List (List ℕ)) (t : Bracketed Summary) → Trace s ws t → (chunks : ℕ) → (concluded_by r t chunks).verdict ≡ refused_with 43
-other_rule_lem = (summaryverdict.claims).other_rule
+other_rule_lem = (summaryverdict.claims).other_rule_lem
 
 pub one_rule : (j : Judge) (t : Bracketed Summary) (chunks : ℕ) → refusal_in (conclude_of j (value_of combine t) chunks).verdict ≡ none
     → (i : ℕ) → i < length (leaves t) → (get_or (leaves t) i no_summary).rule ≡ digest_of j.built

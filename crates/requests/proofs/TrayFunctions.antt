@@ -57,11 +57,11 @@ step_to t (installs_column rule) a next m =
 step_to t (opens w n) a next m =
     parts a next (open_of t w n) (m.2 ∙ ap call_read_back ((open_fixed t w n m.0).0 m.1) ∙ (c_trays.claims).open_read_back t w n)
 step_to t (delivers p b) a next m =
-    parts a next (deliver_of t p b) (m.2 ∙ ap call_read_back ((deliver_fixed t p b m.0).0 m.1) ∙ (c_trays.claims).deliver_read_back t p b)
+    parts a next (deliver_of t p b) (m.2 ∙ ap call_read_back ((deliver_fixed t p b m.0).0 m.1) ∙ (c_trays.claims).deliver_read_back_lem t p b)
 step_to t (withdraws p) a next m =
     parts a next (withdraw_of t p) (m.2 ∙ ap call_read_back ((withdraw_fixed t p m.0).0 m.1) ∙ (c_trays.claims).withdraw_read_back t p)
 step_to t asks_verdict a next m =
-    (m.2 ∙ ap judged (ap verdict_read_back ((verdict_fixed t m.0).0 m.1) ∙ (c_trays.claims).verdict_read_back (verdict_of t)), m.3)
+    (m.2 ∙ ap judged (ap verdict_read_back ((verdict_fixed t m.0).0 m.1) ∙ (c_trays.claims).verdict_read_back_lem (verdict_of t)), m.3)
 
 step_back : (t : Tray) (c : Call) (a : Reply) (next : Tray) → (a ≡ (step_of t c).reply) × (next ≡ (step_of t c).state) → MayStep t c a next
 step_back t (installs_row rule) a next e =
@@ -75,13 +75,13 @@ step_back t (opens w n) a next e =
     (call_shown o, (open_fixed t w n (call_shown o)).1 refl, whole a next o e ∙ sym ((c_trays.claims).open_read_back t w n))
 step_back t (delivers p b) a next e =
     let o = deliver_of t p b in
-    (call_shown o, (deliver_fixed t p b (call_shown o)).1 refl, whole a next o e ∙ sym ((c_trays.claims).deliver_read_back t p b))
+    (call_shown o, (deliver_fixed t p b (call_shown o)).1 refl, whole a next o e ∙ sym ((c_trays.claims).deliver_read_back_lem t p b))
 step_back t (withdraws p) a next e =
     let o = withdraw_of t p in
     (call_shown o, (withdraw_fixed t p (call_shown o)).1 refl, whole a next o e ∙ sym ((c_trays.claims).withdraw_read_back t p))
 step_back t asks_verdict a next e =
     let v = verdict_of t in
-    (verdict_shown v, (verdict_fixed t (verdict_shown v)).1 refl, e.0 ∙ ap judged (sym ((c_trays.claims).verdict_read_back v)), e.1)
+    (verdict_shown v, (verdict_fixed t (verdict_shown v)).1 refl, e.0 ∙ ap judged (sym ((c_trays.claims).verdict_read_back_lem v)), e.1)
 
 asks_nothing : (t : Tray) (c : Call) → AsksStep t c
 asks_nothing t (installs_row rule) = install_row_asks_nothing t rule
@@ -103,7 +103,7 @@ c_meets = record {
 -- what a verdict of the kind k says
 kind_says : (j : Judgement) (k : ℕ) → kind_of j ≡ k → j ≡ verdict_read_back (record { kind = k; number = number_of j })
 kind_says j k e =
-    sym ((c_trays.claims).verdict_read_back j) ∙ ap (λ (x : ℕ). verdict_read_back (record { kind = x; number = number_of j })) e
+    sym ((c_trays.claims).verdict_read_back_lem j) ∙ ap (λ (x : ℕ). verdict_read_back (record { kind = x; number = number_of j })) e
 
 pub after_any_list : (h : List Call) (rs : List Reply) (t : Tray)
     → Execution tray_library_of_C h rs t ↔ (rs ≡ replies_to h) × (t ≡ tray_after h)

@@ -58,6 +58,7 @@ module _ {n : ℕ} where
 
   -- the arcs of two sections, one after the other
   in_left : {lo hi s t : ℕ} {b : List ℕ} (c : List ℕ) → Rising n lo hi b → In s t b → In s t (b ++ c)
+  in_left c (done l) x = elim x [ ]
   in_left c (next l t r) first = first
   in_left c (next l t r) (later x) = later (in_left c r x)
 
@@ -72,10 +73,12 @@ module _ {n : ℕ} where
 
   -- each arc is within the bounds
   above : {lo hi s t : ℕ} {b : List ℕ} → Rising n lo hi b → In s t b → lo ≤ 256 * s + t
+  above (done l) x = elim x [ ]
   above (next l t r) first = l
   above (next l t r) (later x) = let h = above r x in omega arith
 
   below : {lo hi s t : ℕ} {b : List ℕ} → Rising n lo hi b → In s t b → (256 * s + t < hi) × (t < n)
+  below (done l) x = elim x [ ]
   below (next l t r) first = (let h = span r in omega arith, t)
   below (next l t r) (later x) = below r x
 
@@ -136,9 +139,9 @@ module _ {n : ℕ} (bound : ℕ → ℕ) (p : ℕ → List ℕ) (m : ℕ) (each 
   pub joined_in : {s t : ℕ} (q : ℕ) → q ≤ m → In s t (joined p q) → (i : ℕ) × (i < q) × In s t (p i)
   unfolding joined
   joined_in zero l x = absurd (none_in x)
-  joined_in (suc q) l x =
+  joined_in {s} {t} (suc q) l x =
       ⊎_elim
-      (λ y. let r = joined_in q (omega arith) y in (r.0, omega (arith, r.1), r.2))
+      (λ y. let r : (i : ℕ) × (i < q) × In s t (p i) = joined_in q (omega arith) y in (r.0, omega (arith, r.1), r.2))
       (λ y. (q, omega arith, y))
       (in_either (rising_joined q (omega arith)) x)
 

@@ -57,7 +57,8 @@ module _ (n k : ℕ) (few : n ≤ 256) (masks : ℕ → ℕ) where
   -- it has at most two bytes for each symbol and state
   pub section_size : n ≤ 32 → k ≤ 16 → length (section_of n k masks) ≤ 1024
   section_size hn hk =
-      let size : (s t : ℕ) (b : Bool) → length (cond b (s ∷ t ∷ []) []) ≤ 2 = λ s t b. elim b [ true ↦ le_refl 2 | false ↦ omega arith ] in
+      let size : (s t : ℕ) (b : Bool) → length (cond b (s ∷ t ∷ []) []) ≤ 2 =
+      λ s t b. elim b as (λ (k : Bool). length (cond k (s ∷ t ∷ []) []) ≤ 2) [ true ↦ le_refl 2 | false ↦ omega arith ] in
       let row : (s : ℕ) → length (joined (arc s) n) ≤ 64 =
       λ s. let h = joined_length (arc s) n 2 (λ t l. size s t (has (masks s) t)) in omega arith in
       let h = joined_length (λ s. joined (arc s) n) k 64 (λ s l. row s) in

@@ -109,7 +109,7 @@ module _ (r : Rule) (good : WellFormed r) (d : List ℕ) (m : ℕ) (is : Merged 
   final_reached c =
       let reached = shares_law (delegate_mask d r.n c) r.finals in
       let own = shares_law c r.finals in
-      let same = (chunks.claims).delegate_mask d r.n c good.states.1 in (
+      let same = (chunks.claims).delegate_mask_lem d r.n c good.states.1 in (
         (λ e.
             let u = reached.0 e in
             let v = ((chunks.claims).delegate_law d r.n c u.0).0 (subst (λ (x : ℕ). u.0 ∈ x) same u.1) in

@@ -34,7 +34,7 @@ use Rattle.transcripts.specs.Claims.{Holds}
 use Rattle.transcripts.specs.Agreement.{value_of, rule_for, Sound, SoundSource, Agree}
 use Rattle.transcripts.proofs.Agree.{agree}
 use Rattle.transcripts.proofs.Sources.{method_by, accepts_by}
-use Rattle.transcripts.proofs.Places.{ruled, end_at_lem, count_at, sum_law, empties_same, text_same}
+use Rattle.transcripts.proofs.Places.{ruled, end_at_lem, count_at_lem, sum_law, empties_same, text_same}
 use Rattle.transcripts.proofs.Joining.{join_law}
 use Rattle.transcripts.proofs.Fixed.{right}
 
@@ -98,7 +98,7 @@ module _ (h : List Call) (s : Standing) (g : Agree h s) where
         let n = is-none (standing h p) in
         ((λ z. g.chunk p ∙ n.0 (sym e ∙ z)), λ z. e ∙ n.1 (sym (g.chunk p) ∙ z));
     ends = λ p q l b y. rw ((every_list h).after.ends p q l b) (end_at_lem h s g p q y);
-    counts = λ p l. rw ((every_list h).after.counts p l) (count_at h s g p);
+    counts = λ p l. rw ((every_list h).after.counts p l) (count_at_lem h s g p);
     lengths = λ p l. (every_list h).after.lengths p l ∙ ap (λ (o : Option (List ℕ)). length (standing_text o)) (sym (g.chunk p));
     revisions = λ p l. (every_list h).after.revisions p l ∙ ap least_after (sym (g.revision p));
     joined = λ l full. joined_by (some_places l) (sym (empties_same h s g) ∙ full);
@@ -106,7 +106,7 @@ module _ (h : List Call) (s : Standing) (g : Agree h s) where
         with_rule_lem (some_places l) (λ y e. rw ((sum_law h s g c).0 x, ← starts_are y e, text_same h s g) (every_list h).verdict.most);
     place_most = λ p c l x.
         with_rule_lem (omega (arith, g.places, l))
-        (λ y e. rw (how_many_once x (count_at h s g p), ← starts_are y e, g.chunk p) ((every_list h).verdict.place_most p));
+        (λ y e. rw (how_many_once x (count_at_lem h s g p), ← starts_are y e, g.chunk p) ((every_list h).verdict.place_most p));
   }
     where
       joined_by : 0 < places_in h → empties_in h ≡ 0

@@ -88,10 +88,10 @@ module _ (s : Standing) (r q : Reported) (x : Reports s r) (y : Reports s q) whe
           let b = y.zeros e z in
           same_report r q (w ∙ sym z) (a.0 ∙ sym b.0, a.1 ∙ sym b.1, a.2 ∙ sym b.2)
       of (yes_with c) z =
-          let w = (x.says_yes c).1 ((y.says_yes c).0 z) in
+          let w = (x.says_yes_lem c).1 ((y.says_yes_lem c).0 z) in
           same_report r q (w ∙ sym z) (one_division c (length (text_in s)) r q (x.divided c (inl w)) (y.divided c (inl z)))
       of (no_with c) z =
-          let w = (x.says_no c).1 ((y.says_no c).0 z) in
+          let w = (x.says_no_lem c).1 ((y.says_no_lem c).0 z) in
           same_report r q (w ∙ sym z) (one_division c (length (text_in s)) r q (x.divided c (inr w)) (y.divided c (inr z)))
       of (refused_with n) z = absurd (never n z)
 

@@ -53,7 +53,7 @@ module _ (f : List ℕ) (v : ℕ) (w : List ℕ) where
         let is : VerdictIs one_chunk (answer_of before asks_verdict) =
         subst (λ (s : Standing). VerdictIs s (answer_of before asks_verdict)) stands (verdict_is before (standing_after before (answers_to before)) (agree before)) in
         let sum = subst (λ (s : Standing). SumIs s (summed_in before)) stands ((sum_law before (standing_after before (answers_to before)) (agree before) (summed_in before)).1 refl) in
-        ((λ x. ((is.says_yes x.0).0 x.1).3), λ x. (summed_in before, (is.says_yes (summed_in before)).1 (omega arith, refl, sum, x)))
+        ((λ x. ((is.says_yes_lem x.0).0 x.1).3), λ x. (summed_in before, (is.says_yes_lem (summed_in before)).1 (omega arith, refl, sum, x)))
 
   pub one_text : (l : Library Judge Call Reply) → Meets l judge_machine → (a d o r : Reply) (j : Judge)
       → Execution l (asks_verdict ∷ before) (a ∷ d ∷ o ∷ r ∷ []) j → refusal_of r ≡ none → refusal_of d ≡ none

@@ -2,7 +2,7 @@
 -- where s is what the calls h say. Assumes nothing.
 --
 --   rule-there         a chunk stands only where a rule is there
---   end-at, count_at   the end sets and the count of a place
+--   end-at, count_at_lem   the end sets and the count of a place
 --   sum-law            the sum of the counts
 --   empties-same, text_same, accepts-same   the empty places, the text, and which texts are
 --                                           accepted
@@ -85,8 +85,8 @@ module _ (h : List Call) (s : Standing) (g : Agree h s) where
   pub end_at_lem : (p q y : ℕ) → y ∈ end_at h p q ↔ InEndSet s p q y
   end_at_lem p q y = rw (g.rule, ← g.chunk p) (end_of_lem p s.rule g.sound (s.chunk p) (rule_there_lem p) q y)
 
-  pub count_at : (p : ℕ) → CountAt s p (count_at h p)
-  count_at p =
+  pub count_at_lem : (p : ℕ) → CountAt s p (count_at h p)
+  count_at_lem p =
       rw (g.rule, ← g.chunk p)
       (count_of_lem p s.rule g.sound (s.chunk p) (rule_there_lem p) (λ w e. standing_short h p w (sym (g.chunk p) ∙ e)))
 
@@ -94,9 +94,9 @@ module _ (h : List Call) (s : Standing) (g : Agree h s) where
   sum_law c = (
     (λ x.
         x.2
-        ∙ total_same x.0 (count_at h) s.places (λ p l. how_many_once (x.1 p l) (count_at p))
+        ∙ total_same x.0 (count_at h) s.places (λ p l. how_many_once (x.1 p l) (count_at_lem p))
         ∙ ap (total (count_at h)) g.places),
-    λ e. (count_at h, (λ p l. count_at p), e ∙ ap (total (count_at h)) (sym g.places)),
+    λ e. (count_at h, (λ p l. count_at_lem p), e ∙ ap (total (count_at h)) (sym g.places)),
   )
 
   chunks_same : s.chunk ≡ standing h

@@ -54,11 +54,11 @@ module _ (h : List Call) (s : Standing) (g : Agree h s) where
             (λ x. (x.1, x.2 ∙ sym none_empty)),
             λ x. (there, x.0, x.1 ∙ none_empty),
           ));
-          says_yes_lem = λ c. Iff.trans (says (yes_with c)) (Iff.trans (words.says_yes c) (
+          says_yes_lem = λ c. Iff.trans (says (yes_with c)) (Iff.trans (words.says_yes_lem c) (
             (λ x. (none_empty ∙ x.1, (sum c).1 x.2, accepts.1 x.3)),
             λ x. (there, sym none_empty ∙ x.0, (sum c).0 x.1, accepts.0 x.2),
           ));
-          says_no_lem = λ c. Iff.trans (says (no_with c)) (Iff.trans (words.says_no c) (
+          says_no_lem = λ c. Iff.trans (says (no_with c)) (Iff.trans (words.says_no_lem c) (
             (λ x. (none_empty ∙ x.1, (sum c).1 x.2, λ y. x.3 (accepts.0 y))),
             λ x. (there, sym none_empty ∙ x.0, (sum c).0 x.1, λ y. x.2 (accepts.1 y)),
           ));

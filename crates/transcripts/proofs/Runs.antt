@@ -55,7 +55,7 @@ module _ (r : Rule) (good : WellFormed r) (fit : fits r) where
   -- the delegate of a state is the one that the list says
   pub listed_law : (q d : ℕ) → q < r.n → (delegate_in listed q ≡ some d) ↔ Delegate (automaton_of r) q (some d)
   listed_law q d l =
-      let is = (delegates.claims).delegates_in (automaton_of r) good.states.1 listed (starts_in r).startcount (merged r good fit) q l in (
+      let is = (delegates.claims).delegates_in_lem (automaton_of r) good.states.1 listed (starts_in r).startcount (merged r good fit) q l in (
         (λ e. subst (Delegate (automaton_of r) q) e is),
         λ x. (delegates.claims).one_delegate (automaton_of r) q (delegate_in listed q) (some d) is x,
       )

@@ -48,11 +48,11 @@ module _ (h : List Call) (s : Standing) (g : Agree h s) where
       let sum = sum_law h s g in
       let none_empty = empties_same h s g in
       record {
-        says_yes_lem = λ c. Iff.trans (words.says_yes c) (
+        says_yes_lem = λ c. Iff.trans (words.says_yes_lem c) (
           (λ x. let l = board_law.0 x.0 in (l, none_empty ∙ x.1, (sum c).1 x.2, (accepts l).1 x.3)),
           λ x. (board_law.1 x.0, sym none_empty ∙ x.1, (sum c).0 x.2, (accepts x.0).0 x.3),
         );
-        says_no_lem = λ c. Iff.trans (words.says_no c) (
+        says_no_lem = λ c. Iff.trans (words.says_no_lem c) (
           (λ x. let l = board_law.0 x.0 in (l, none_empty ∙ x.1, (sum c).1 x.2, λ y. x.3 ((accepts l).0 y))),
           λ x. (board_law.1 x.0, sym none_empty ∙ x.1, (sum c).0 x.2, λ y. x.3 ((accepts x.0).1 y)),
         );

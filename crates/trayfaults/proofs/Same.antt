@@ -88,7 +88,7 @@ module _ (h : List Call) where
   with_board_lem there =
       let state = (every_list h).after in
       let s = sizes (board_there h) refl there in
-      let lacks : lacks_board tray ≡ false = state.lacks_board ∙ there in
+      let lacks : lacks_board tray ≡ false = state.lacks_board_lem ∙ there in
       let width : width_of tray.board ≡ width_in h = ap (λ (x : ℕ). max 1 (min x 16)) state.width ∙ omega (arith, s.0, s.1) in
       let bands : bands_of tray.board ≡ bands_in h = ap (λ (x : ℕ). min x 8) state.bands ∙ omega (arith, s.2) in
       let rows : (p : ℕ) → p < bands_in h → band_rows tray.board p ≡ rows_at h p = λ p l. state.rows p (omega (arith, l, s.2)) in
@@ -103,5 +103,5 @@ module _ (h : List Call) where
   unfolding fault_of
   fault_after =
       by_test (is_none (board_there h))
-      (λ e. let lacks : lacks_board tray ≡ true = (every_list h).after.lacks_board ∙ e in rw (lacks, e))
+      (λ e. let lacks : lacks_board tray ≡ true = (every_list h).after.lacks_board_lem ∙ e in rw (lacks, e))
       with_board_lem

@@ -32,7 +32,7 @@ use Rattle.trays.specs.Rows.{rows_in}
 use Rattle.trays.specs.Calls.{not_rows, foreign_to, open_conditions}
 use Rattle.trays.specs.Boards.{width_of, bands_of, band_rows, is_empty, empty_board, filled_at, cleared_at}
 use Rattle.trays.specs.mirror.Steps.{fresh, lacks_rule, lacks_board, with_board}
-use Rattle.trays.proofs.Bands.{Sized, sized_empty, empty_all, empty_rows, Changed, filled_at, cleared_at_lem}
+use Rattle.trays.proofs.Bands.{Sized, sized_empty, empty_all, empty_rows, Changed, filled_at_lem, cleared_at_lem}
 use Rattle.trayhistories.specs.History.{Size, width_from, bands_from, rows_from}
 
 -- the bytes b pass 39 and 13
@@ -206,4 +206,4 @@ module _ (row column : Option Rule) (board : Option Size) (at : ℕ → Option (
       changed_holds (some b) (filled_at t.board p b)
       (λ c e. let z : b ≡ c = cc in subst (Passes (width_from board) (rule_from row).k (rule_from column).k) z passed)
       (subst (λ (x : ℕ). Changed t.board (filled_at t.board p b) p false (rows_in x b)) w
-      (filled_at t.board p holds.sized band_below b (rw w passed.0)))
+      (filled_at_lem t.board p holds.sized band_below b (rw w passed.0)))

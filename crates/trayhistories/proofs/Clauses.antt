@@ -85,7 +85,7 @@ module _ (h : List Call) (t : Tray) (good : AgreesWith h t) where
   board_words = record {
     row = good.rules.row_good;
     column = good.rules.column_good;
-    rules = λ s e. ((is_some_lem (row_there h)).0 (opened s e).row_there, (is_some_lem (column_there h)).0 (opened s e).column_there);
+    rules = λ s e. ((is_some_lem (row_there h)).0 (opened s e).row_there_lem, (is_some_lem (column_there h)).0 (opened s e).column_there_lem);
     width = wide;
     bands = λ s e. rw e (opened s e).many;
     stands = λ p b e.
@@ -107,7 +107,7 @@ module _ (h : List Call) (t : Tray) (good : AgreesWith h t) where
         where
           by_board : (o : Option Size) → board_there h ≡ o → (row_in h).k ≤ 16
           by_board none e = let none_there : bands_in h ≡ 0 = ap bands_from e in absurd (omega (arith, l, none_there))
-          by_board (some s) e = (well_formed (row_there h) (opened s e).row_there good.rules.row_good).symbols.1
+          by_board (some s) e = (well_formed (row_there h) (opened s e).row_there_lem good.rules.row_good).symbols.1
 
       width_1 : (p : ℕ) → p < bands_in h → 1 ≤ width_in h
       width_1 p l = by_board (board_there h) refl
@@ -120,8 +120,8 @@ module _ (h : List Call) (t : Tray) (good : AgreesWith h t) where
   decides =
       with_board_lem
       (λ s e.
-      passes_law (row_in h) (column_in h) (well_formed (row_there h) (opened s e).row_there good.rules.row_good)
-      (well_formed (column_there h) (opened s e).column_there good.rules.column_good)
+      passes_law (row_in h) (column_in h) (well_formed (row_there h) (opened s e).row_there_lem good.rules.row_good)
+      (well_formed (column_there h) (opened s e).column_there_lem good.rules.column_good)
       (width_in h)
       (rows_there h))
 

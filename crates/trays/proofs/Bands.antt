@@ -6,7 +6,7 @@
 --   Sized                    the lengths of the arrays
 --   sized-empty, empty-all, empty-rows   a new board: all bands empty, no rows
 --   Changed                  one band has been changed, and the others are as before
---   filled_at, cleared_at    filling and clearing change their band alone, and to what
+--   filled_at_lem, cleared_at    filling and clearing change their band alone, and to what
 --   few-rows, rows_fit       a band that 39 lets pass has at most 64 rows, and these fit its cells
 --   empty-law, held-law      the empty bands and the rows held, from what is known of each band
 use mathlib.Core.Path.{◌≡◌, refl, sym, ap, ◌∙◌}
@@ -137,9 +137,9 @@ module _ (b : TrayBoard) (p : ℕ) (sized : Sized b) (h : p < 8) where
       }
 
   -- a band that 39 lets pass
-  pub filled_at : (bytes : List ℕ) → not_rows (width_of b) bytes ≡ false → Changed b (filled_at b p bytes) p false (rows_in (width_of b) bytes)
+  pub filled_at_lem : (bytes : List ℕ) → not_rows (width_of b) bytes ≡ false → Changed b (filled_at b p bytes) p false (rows_in (width_of b) bytes)
   unfolding filled_at
-  filled_at bytes whole =
+  filled_at_lem bytes whole =
       changed_at 1 (length bytes / width_of b) bytes
       (few_rows (width_of b) bytes whole)
       (div-mul-le_self (length bytes) (width_of b))

@@ -6,7 +6,7 @@
 --   bands-law               and where each row of a band stands among those of all bands
 --   rows_same               rows depend on their bytes alone
 --   up-to-same              the rows of bands, from those of each
---   rows_pass, columns-pass, passes-law   the tests decide it
+--   rows_pass_lem, columns-pass, passes-law   the tests decide it
 use mathlib.Core.Path.{◌≡◌, refl, sym, ap, ap₂, ◌∙◌, subst}
 use mathlib.Core.Logic.{◌↔◌, ⊎_elim}
 use mathlib.Core.Bool.{true, and-eq-true_iff}
@@ -143,9 +143,9 @@ module _ (r : Rule) (good : WellFormed r) where
   pub accepted_law : (w : List ℕ) → (accepted r w ≡ true) ↔ Accepts (automaton_of r) w
   accepted_law w = let law = (automaton.claims).accepts_law r good w in (law.1, law.0)
 
-  pub rows_pass : (rows : List (List ℕ)) → (rows_pass r rows ≡ true) ↔ ((i : ℕ) → i < length rows → Accepts (automaton_of r) (get_or rows i []))
+  pub rows_pass_lem : (rows : List (List ℕ)) → (rows_pass r rows ≡ true) ↔ ((i : ℕ) → i < length rows → Accepts (automaton_of r) (get_or rows i []))
   unfolding rows_pass
-  rows_pass rows = (to rows, from rows)
+  rows_pass_lem rows = (to rows, from rows)
     where
       to : (xs : List (List ℕ)) → rows_pass r xs ≡ true → (i : ℕ) → i < length xs → Accepts (automaton_of r) (get_or xs i [])
       to [] e i l = absurd (omega arith)
@@ -182,8 +182,8 @@ pub passes_law : (row column : Rule) → WellFormed row → WellFormed column
 passes_law row column good-row good-column w rows =
     let both = and-eq-true_iff (rows_pass row rows) (columns_pass column rows w) in (
       (λ e. record {
-        every_row = (rows_pass row good-row rows).0 (both.0 e).0;
+        every_row = (rows_pass_lem row good-row rows).0 (both.0 e).0;
         every_column = (columns_pass_lem column good-column rows w).0 (both.0 e).1;
       }),
-      λ all. both.1 ((rows_pass row good-row rows).1 all.every_row, (columns_pass_lem column good-column rows w).1 all.every_column),
+      λ all. both.1 ((rows_pass_lem row good-row rows).1 all.every_row, (columns_pass_lem column good-column rows w).1 all.every_column),
     )

@@ -57,15 +57,15 @@ withdraw_meant : (l x : List ℕ) → l ≡ withdraw_word ++ x → (o : Option �
 withdraw_meant l x is none e = tt
 withdraw_meant l x is (some p) e = (x, is, ((fields.claims).number_exactly x p).0 e)
 
-open_by : (l x y : List ℕ) → l ≡ open_word ++ (x ++ (32 ∷ y)) → (o : Option ℕ) → parse_number x ≡ o → (u : Option ℕ) → parse_number y ≡ u → Meant l (open_by o u)
-open_by l x y is none e u f = tt
-open_by l x y is (some w) e none f = tt
-open_by l x y is (some w) e (some n) f = (x, y, is, ((fields.claims).number_exactly x w).0 e, ((fields.claims).number_exactly y n).0 f)
+open_by_lem : (l x y : List ℕ) → l ≡ open_word ++ (x ++ (32 ∷ y)) → (o : Option ℕ) → parse_number x ≡ o → (u : Option ℕ) → parse_number y ≡ u → Meant l (open_by o u)
+open_by_lem l x y is none e u f = tt
+open_by_lem l x y is (some w) e none f = tt
+open_by_lem l x y is (some w) e (some n) f = (x, y, is, ((fields.claims).number_exactly x w).0 e, ((fields.claims).number_exactly y n).0 f)
 
 open_meant : (l w : List ℕ) → l ≡ open_word ++ w → (o : Option (List ℕ)) → past 32 w ≡ o → Meant l (open_fields (up_to 32 w) o)
 open_meant l w is none e = tt
 open_meant l w is (some y) e =
-    open_by l (up_to 32 w) y (is ∙ ap (λ (v : List ℕ). open_word ++ v) (past_whole 32 w y e)) (parse_number (up_to 32 w)) refl (parse_number y) refl
+    open_by_lem l (up_to 32 w) y (is ∙ ap (λ (v : List ℕ). open_word ++ v) (past_whole 32 w y e)) (parse_number (up_to 32 w)) refl (parse_number y) refl
 
 deliver_by_lem : (l x y : List ℕ) → l ≡ deliver_word ++ (x ++ (32 ∷ y)) → (o : Option ℕ) → parse_number x ≡ o → (u : Option (List ℕ)) → parse_bytes y ≡ u → Meant l (deliver_by o u)
 deliver_by_lem l x y is none e u f = tt

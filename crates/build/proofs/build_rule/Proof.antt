@@ -1,7 +1,7 @@
 -- `build_rule` meets its contract. Assumes nothing.
 use native.Mathlib.Omega.{arith}
 use borrow.Author.Rules.{rules}
-use Rattle.build.proofs.Numbered.{at_most_512, whole, too_many}
+use Rattle.build.proofs.Numbered.{at_most_512, whole, too_many_lem}
 use Rattle.build.proofs.build_rule.Statement.{statement}
 use Rattle.build.proofs.build_rule.Tie as tie
 
@@ -38,7 +38,7 @@ returns-2 : tie.Need-returns-2
 returns-2 c =
     let t = c.before.before.before.number-sets in
     let r = c.before.before.before.before.before.before.args.t1 in
-    too_many r t.result t.ensures (cc) c.nothing-built.result c.nothing-built.ensures
+    too_many_lem r t.result t.ensures (cc) c.nothing-built.result c.nothing-built.ensures
 
 pub build_rule_spec : {M : Type 1} → statement M
 build_rule_spec =

@@ -27,17 +27,17 @@ unfolding union
 loop-rest-init c = (search rules, sym (div-one _), refl)
 
 pub bounds-cells-q : goal.bounds-cells-q
-bounds-cells-q c = omega (arith, state-left c.before.before)
+bounds-cells-q c = omega (arith, state-left (goal.at.bounds-cells-q c).In-loop-rest)
 
 pub loop-rest-smaller : goal.loop-rest-smaller
-loop-rest-smaller c = omega (arith, state-left c.before)
+loop-rest-smaller c = omega (arith, state-left (goal.at.loop-rest-smaller c).In-loop-rest)
 
 pub loop-rest-preserved : goal.loop-rest-preserved
 loop-rest-preserved c =
     let x = c.loop-rest in
     let a = c.args in
     let f : ℕ → ℕ = λ p. get_or a.masks.now p 0 in (
-      omega (arith, state-left c.before),
+      omega (arith, state-left (goal.at.loop-rest-preserved c).In-loop-rest),
       ap (λ (y : ℕ). y / 2) x.invariant.1 ∙ shr-shr a.set x.q 1,
       (elim c.if-rest-eq1.branch [
       then-rest-eq1 w ↦ w.out-is ∙ ap (λ (y : ℕ). bit_or y (get_or a.masks.now x.q 0)) x.invariant.2 ∙ union_step f a.set x.q (rw x.invariant.1 at w.if-rest-eq1.true)

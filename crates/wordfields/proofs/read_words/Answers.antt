@@ -9,39 +9,39 @@ use Rattle.wordfields.proofs.read_words.Goals as goal
 pub returns-in_default : goal.returns-in_default
 returns-in_default c =
     let b = c.read_bytes-read in
-    not_bytes (length c.args.words.now) c.args.field.now _ _ b.result b.ensures c.requires.0 c.enum_told-1.given.1
+    not_bytes (length c.args.words.now) c.args.field.now _ _ b.result b.ensures c.requires.0 c.in_default.is
 
 pub returns-then-n-eq1 : goal.returns-then-n-eq1
 returns-then-n-eq1 c =
     let b = c.read_bytes-read in
-    let r = c.read-1.given in
-    odd_bytes (length c.args.words.now) c.args.field.now _ _ b.result b.ensures c.requires.0 r.0.0 r.1 c.if-n-eq1.true
+    let r = c.in-Put in
+    odd_bytes (length c.args.words.now) c.args.field.now _ _ b.result b.ensures c.requires.0 r.n r.is c.if-n-eq1.true
 
 pub slice_bounds-fill_words-end : goal.slice_bounds-fill_words-end
 slice_bounds-fill_words-end c =
     let b = c.read_bytes-read in
-    let r = c.read-1.given in
-    within (length c.args.words.now) c.requires.0 b.auto.1.0
-    (few_bytes (length c.args.words.now) c.args.field.now _ _ b.result b.ensures c.requires.0 r.0.0 r.1 c.if-n-eq1.false)
+    let r = c.in-Put in
+    within (length c.args.words.now) c.requires.0 b.auto.out
+    (few_bytes (length c.args.words.now) c.args.field.now _ _ b.result b.ensures c.requires.0 r.n r.is c.if-n-eq1.false)
 
 pub slice_bounds-fill_words-end-2 : goal.slice_bounds-fill_words-end-2
 slice_bounds-fill_words-end-2 c =
     let b = c.read_bytes-read in
-    let r = c.read-1.given in
+    let r = c.in-Put in
     sym (length-take-le _ b.new.out
-    (within (length c.args.words.now) c.requires.0 b.auto.1.0
-    (few_bytes (length c.args.words.now) c.args.field.now _ _ b.result b.ensures c.requires.0 r.0.0 r.1 c.if-n-eq1.false)))
+    (within (length c.args.words.now) c.requires.0 b.auto.out
+    (few_bytes (length c.args.words.now) c.args.field.now _ _ b.result b.ensures c.requires.0 r.n r.is c.if-n-eq1.false)))
 
 pub fill_words-requires : goal.fill_words-requires
 fill_words-requires c =
     let b = c.read_bytes-read in
-    let r = c.read-1.given in
-    let few = few_bytes (length c.args.words.now) c.args.field.now _ _ b.result b.ensures c.requires.0 r.0.0 r.1 c.if-n-eq1.false in
-    let size = length-take-le r.0.0 b.new.out (within (length c.args.words.now) c.requires.0 b.auto.1.0 few) in
+    let r = c.in-Put in
+    let few = few_bytes (length c.args.words.now) c.args.field.now _ _ b.result b.ensures c.requires.0 r.n r.is c.if-n-eq1.false in
+    let size = length-take-le r.n b.new.out (within (length c.args.words.now) c.requires.0 b.auto.out few) in
     (even_length size c.if-n-eq1.false, short_length size few, c.requires.1)
 
 pub returns : goal.returns
 returns c =
     let b = c.read_bytes-read in
-    let r = c.read-1.given in
-    good_bytes (length c.args.words.now) c.args.field.now _ _ b.result b.ensures c.requires.0 r.0.0 r.1 c.if-n-eq1.false _ c.fill_words.ensures
+    let r = c.in-Put in
+    good_bytes (length c.args.words.now) c.args.field.now _ _ b.result b.ensures c.requires.0 r.n r.is c.if-n-eq1.false _ c.fill_words.ensures

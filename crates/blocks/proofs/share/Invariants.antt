@@ -1,0 +1,15 @@
+-- `share` meets its contract. The loop's invariant is `Held`. Assumes nothing.
+use mathlib.Core.Path.{◌≡◌, ◌∙◌}
+use mathlib.Core.Logic.{⊎_elim}
+use Prim.Native.Nat.{ℕ, ◌-◌, ◌/◌, ◌≤◌, ◌<◌}
+use native.Mathlib.Omega.{arith}
+use borrow.Author.Rules.{rules}
+use lib.ListN.{length, get_or, length-set, length-replicate}
+use Rattle.blocks.proofs.Lanes.{Held, held_none, held_old, held_new, shared}
+use Rattle.blocks.proofs.share.Given as goal
+
+abbrev pub invariant-loop-j : goal.invariant-loop-j
+invariant-loop-j l = (l.j ≤ 32) × Held l.rows l.lane l.of l.used l.j × (length l.hints ≡ 513)
+
+abbrev pub decreases-loop-j : goal.decreases-loop-j
+decreases-loop-j l = 32 - l.j

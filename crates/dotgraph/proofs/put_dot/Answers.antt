@@ -1,0 +1,15 @@
+-- `put_dot` meets its contract. Assumes nothing.
+use Rattle.dotgraph.proofs.Whole.{whole}
+use borrow.Author.Rules.{rules}
+use Rattle.dotgraph.proofs.put_dot.Goals as goal
+
+pub returns : goal.returns
+returns c =
+    let n = c.at_most_u8-n in
+    let k = c.at_most_u8-k in
+    whole c.args.rule n.result k.result n.ensures k.ensures c.requires
+    c.put_head-a.ensures
+    c.put_states-b.ensures
+    c.put_initials-c.ensures
+    c.put_arrows-d.ensures
+    c.put_bytes.ensures

@@ -1,0 +1,24 @@
+-- `fill` meets its contract. The loop's invariant: the cells passed are those of the table, and as
+-- many packed cells were taken as are kept among them. Assumes nothing.
+use mathlib.Core.Path.{◌≡◌, refl, sym, ap, ◌∙◌}
+use mathlib.Core.Logic.{inl, inr, ⊎_elim}
+use Prim.Native.Nat.{ℕ, ◌*◌, ◌-◌, ◌≤◌}
+use native.Mathlib.Omega.{arith}
+use lib.ListN.{length, length-replicate}
+use borrow.Author.Rules.{rules}
+use Rattle.base.specs.Totals.{total}
+use Rattle.forms.specs.Form.{how_many, kept_at}
+use Rattle.forms.specs.Back.{back_cell}
+use Rattle.forms.proofs.Accepting.{parts}
+use Rattle.forms.proofs.Filling.{Filled, filled_none}
+use Rattle.formback.specs.mirror.Parts.{form_by}
+use Rattle.formback.proofs.Rows.{row_below, all_filled, row_more}
+use Rattle.formback.proofs.fill.Given as goal
+
+abbrev pub invariant-loop-c : goal.invariant-loop-c
+invariant-loop-c l =
+    (l.sets ≤ 512) × (l.c ≤ l.sets * 16) × (l.at ≡ how_many (kept_at l.kept) l.c) × (l.at ≤ l.c) × (length l.next ≡ 8192)
+    × Filled 8192 512 (back_cell (form_by l.sets l.k l.failure l.kept l.cells)) l.c l.next
+
+abbrev pub decreases-loop-c : goal.decreases-loop-c
+decreases-loop-c l = l.sets * 16 - l.c

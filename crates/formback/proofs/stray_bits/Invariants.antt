@@ -1,0 +1,14 @@
+-- `stray_bits` meets its contract. The loop's invariant: no mask passed has such a bit. Assumes nothing.
+use Prim.Native.Nat.{◌-◌, ◌^◌}
+use native.Mathlib.Omega.{arith}
+use lib.Dec.{leb}
+use lib.ListN.{get_or}
+use borrow.Author.Rules.{rules}
+use Rattle.formback.proofs.Turns.{Passed, passed_none, passed_more, passed_all, found}
+use Rattle.formback.proofs.stray_bits.Given as goal
+
+abbrev pub invariant-loop-t : goal.invariant-loop-t
+invariant-loop-t l = Passed (λ j. leb (2 ^ l.k) (get_or l.kept j 0)) l.sets l.t
+
+abbrev pub decreases-loop-t : goal.decreases-loop-t
+decreases-loop-t l = l.sets - l.t

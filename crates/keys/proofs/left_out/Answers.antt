@@ -1,0 +1,6 @@
+-- `left_out` meets its contract. Assumes nothing.
+use borrow.Author.Rules.{rules}
+use Rattle.keys.proofs.left_out.Goals as goal
+
+pub returns-then-omit : goal.returns-then-omit
+returns-then-omit c = rw c.if-omit.true

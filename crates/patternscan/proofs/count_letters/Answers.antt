@@ -1,0 +1,19 @@
+-- `count_letters` meets its contract: the letters counted, with those from i on, are all. Assumes
+-- nothing.
+use mathlib.Core.Path.{◌≡◌}
+use Prim.Native.Nat.{◌+◌, ◌-◌, ◌≤◌}
+use native.Mathlib.Omega.{arith}
+use lib.ListN.{length, drop}
+use borrow.Author.Rules.{rules}
+use Rattle.patternscan.specs.Signs.{letters_in}
+use Rattle.patternscan.proofs.Loops.{count_more, count_end}
+use Rattle.patternscan.proofs.count_letters.Goals as goal
+
+pub loop-i-init : goal.loop-i-init
+loop-i-init c = (omega arith, omega arith, omega arith)
+
+pub loop-i-preserved : goal.loop-i-preserved
+loop-i-preserved c = (omega arith, omega arith, search (rules, count_more))
+
+pub returns : goal.returns
+returns c = search (rules, count_end)

@@ -1,0 +1,23 @@
+-- `grammatical` meets its contract: the test of the bytes from i on is the test of all. Assumes
+-- nothing.
+use mathlib.Core.Path.{◌≡◌, refl}
+use Prim.Native.Nat.{◌-◌, ◌≤◌}
+use native.Mathlib.Omega.{arith}
+use lib.ListN.{length, drop}
+use borrow.Author.Rules.{rules}
+use Rattle.patternscan.specs.declared.Scan.TheVariants.{Within}
+use Rattle.patternscan.specs.Scanning.{scan, whole, grammatical as grammaticalOf}
+use Rattle.patternscan.proofs.Loops.{scan_more, scan_never, scan-end, deeper}
+use Rattle.patternscan.proofs.grammatical.Goals as goal
+
+pub loop-i-init : goal.loop-i-init
+loop-i-init c = (omega arith, omega arith, refl)
+
+pub returns-in_default : goal.returns-in_default
+returns-in_default c = search (rules, scan_never)
+
+pub loop-i-preserved : goal.loop-i-preserved
+loop-i-preserved c = (omega arith, search (rules, deeper), search (rules, scan_more))
+
+pub returns : goal.returns
+returns c = search (rules, scan-end)

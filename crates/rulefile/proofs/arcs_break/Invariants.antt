@@ -1,0 +1,22 @@
+-- `arcs_break` meets its contract. The loop's invariant: no section before q has a bad arc. Each
+-- section lies in the file, since condition 7 does not hold. Assumes nothing.
+use Rattle.base.specs.Conditions.{any_below}
+use Rattle.base.proofs.Conditions.{none_yet, none_more, any_at}
+use Rattle.ruleformat.proofs.Pairs.{within, section_part}
+use Rattle.ruleformat.specs.Refusals.{bad_pairs, bad_section, bad_arcs}
+use Rattle.ruleformat.specs.Format.{state_count, symbol_count, offset_of, length_of, section}
+use lib.ListN.{length, take, drop}
+use native.Mathlib.Omega.{arith}
+use Prim.Native.Nat.{ℕ, ◌+◌, ◌-◌, ◌*◌, ◌≤◌, ◌<◌}
+use mathlib.Core.List.{List}
+use mathlib.Core.Bool.{Bool, true, false}
+use mathlib.Core.Path.{◌≡◌, sym, ap, ap₂, ◌∙◌}
+use Rattle.rulefile.proofs.arcs_break.Given as goal
+
+abbrev pub invariant-loop-q : goal.invariant-loop-q
+invariant-loop-q l =
+    (l.n ≡ state_count l.file) × (l.k ≡ symbol_count l.file) × (l.q ≤ l.n) × (l.n < 256) × (10 + 4 * l.n ≤ length l.file) × (bad_pairs l.file ≡ false)
+    × (any_below (λ p. bad_section (state_count l.file) (symbol_count l.file) (section l.file p)) l.q ≡ false)
+
+abbrev pub decreases-loop-q : goal.decreases-loop-q
+decreases-loop-q l = l.n - l.q

@@ -1,0 +1,11 @@
+-- `byte` meets its contract. Assumes nothing.
+use native.Mathlib.Omega.{arith}
+use mathlib.Core.Path.{refl}
+use borrow.Author.Rules.{rules}
+use Rattle.rulefile.proofs.byte.Goals as goal
+
+pub overflow_cast-result : goal.overflow_cast-result
+overflow_cast-result c = omega (arith, c.type_inv.file c.args.at)
+
+pub returns : goal.returns
+returns c = (refl, omega (arith, c.type_inv.file c.args.at))

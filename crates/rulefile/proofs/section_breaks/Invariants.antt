@@ -1,0 +1,20 @@
+-- `section_breaks` meets its contract. The loop's invariant: no arc before i breaks the rule, and
+-- `past` is one more than the arc before i, as a number. Assumes nothing.
+use Rattle.base.specs.Conditions.{any_below}
+use Rattle.base.proofs.Conditions.{none_yet, none_more}
+use Rattle.ruleformat.proofs.Arcs.{past_of, bad_symbol, bad_target_lem, bad_order, good_arc, section_at, section_end}
+use Rattle.ruleformat.specs.Refusals.{bad_arc}
+use Rattle.ruleformat.specs.Format.{arc_count}
+use native.Mathlib.Omega.{arith}
+use native.Mathlib.Numerals.{add-one}
+use Prim.Native.Nat.{ℕ, ◌+◌, ◌-◌, ◌*◌, ◌≤◌}
+use mathlib.Core.Bool.{false}
+use mathlib.Core.Path.{◌≡◌, refl, sym, ap, ap₂, ◌∙◌}
+use Rattle.rulefile.proofs.section_breaks.Given as goal
+
+abbrev pub invariant-loop-i : goal.invariant-loop-i
+invariant-loop-i l =
+    (l.i ≤ arc_count l.section) × (l.past ≡ past_of l.section l.i) × (any_below (bad_arc l.n l.k l.section) l.i ≡ false)
+
+abbrev pub decreases-loop-i : goal.decreases-loop-i
+decreases-loop-i l = l.count - l.i

@@ -1,0 +1,13 @@
+-- `put_arcs` meets its contract. The loop's invariant: the arcs to the first t states are written.
+-- Assumes nothing.
+use Rattle.rulewriter.proofs.Parts.{Parts, begin, fits, more, all}
+use Rattle.rulewriter.specs.Written.{arc_to}
+use native.Mathlib.Omega.{arith}
+use Prim.Native.Nat.{◌-◌}
+use Rattle.rulewriter.proofs.put_arcs.Given as goal
+
+abbrev pub invariant-loop-t : goal.invariant-loop-t
+invariant-loop-t l = Parts (arc_to l.mask l.symbol) l.n l.initial.out l.start l.out l.at l.t
+
+abbrev pub decreases-loop-t : goal.decreases-loop-t
+decreases-loop-t l = l.n - l.t

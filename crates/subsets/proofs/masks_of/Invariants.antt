@@ -1,0 +1,14 @@
+-- `masks_of` meets its contract: the lower halves of the sets before i are stored. Assumes nothing.
+use mathlib.Core.Path.{◌≡◌, refl, ◌∙◌}
+use Prim.Native.Nat.{ℕ, ◌-◌, ◌%◌, ◌^◌, ◌≤◌, ◌<◌}
+use native.Mathlib.Omega.{arith}
+use lib.ListN.{length, get_or, length-set}
+use borrow.Author.Rules.{rules}
+use Rattle.base.proofs.Lists.{cell_stored, is_list_from}
+use Rattle.subsets.proofs.masks_of.Given as goal
+
+abbrev pub invariant-loop-i : goal.invariant-loop-i
+invariant-loop-i l = (l.i ≤ 512) × (length l.masks ≡ 512) × ((j : ℕ) → j < l.i → get_or l.masks j 0 ≡ get_or l.sets j 0 % 2 ^ 32)
+
+abbrev pub decreases-loop-i : goal.decreases-loop-i
+decreases-loop-i l = 512 - l.i

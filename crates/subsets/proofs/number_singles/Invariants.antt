@@ -1,0 +1,15 @@
+-- `number_singles` meets its contract: the numbers of the states before q are stored. Assumes
+-- nothing.
+use Rattle.base.proofs.Lists.{cell_stored, is_list_from}
+use Rattle.subsets.specs.mirror.Singles.{singleton_number}
+use lib.ListN.{length, get_or, length-set}
+use native.Mathlib.Omega.{arith}
+use Prim.Native.Nat.{ℕ, ◌-◌, ◌≤◌, ◌<◌}
+use mathlib.Core.Path.{◌≡◌, refl, ◌∙◌}
+use Rattle.subsets.proofs.number_singles.Given as goal
+
+abbrev pub invariant-loop-q : goal.invariant-loop-q
+invariant-loop-q l = (l.q ≤ 32) × (length l.singles ≡ 32) × ((p : ℕ) → p < l.q → get_or l.singles p 0 ≡ singleton_number l.sets l.count p)
+
+abbrev pub decreases-loop-q : goal.decreases-loop-q
+decreases-loop-q l = 32 - l.q
