@@ -26,7 +26,7 @@ use Rattle.samples.specs.Search.{set_walk, reached_sets, reached_table, meets}
 
 pub follow_after : (r : Rule) (m : ℕ) (w : List ℕ) → follow (set_walk r) m w ≡ after r.targets m w
 follow_after r m [] = refl
-follow_after r m (s ∷ w) = follow_after r _ w
+follow_after r m (s ∷ w) = follow_after r ((set_walk r).step m s) w
 
 module _ (r : Rule) where
   leads : (w : List ℕ) → follow (set_walk r) r.initials w ≡ set_after r w

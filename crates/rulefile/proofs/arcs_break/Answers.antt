@@ -3,11 +3,11 @@
 use Rattle.base.specs.Conditions.{any_below}
 use Rattle.base.proofs.Conditions.{none_yet, none_more, any_at}
 use Rattle.ruleformat.proofs.Pairs.{within, section_part}
-use Rattle.ruleformat.specs.Refusals.{bad_pairs, bad_section, bad_arcs}
+use Rattle.ruleformat.specs.Refusals.{bad_section, bad_arcs}
 use Rattle.ruleformat.specs.Format.{state_count, symbol_count, offset_of, length_of, section}
-use lib.ListN.{length, take, drop}
+use lib.ListN.{take, drop}
 use native.Mathlib.Omega.{arith}
-use Prim.Native.Nat.{ℕ, ◌+◌, ◌-◌, ◌*◌, ◌≤◌, ◌<◌}
+use Prim.Native.Nat.{ℕ, ◌+◌, ◌-◌, ◌<◌}
 use mathlib.Core.List.{List}
 use mathlib.Core.Bool.{Bool, true, false}
 use mathlib.Core.Path.{◌≡◌, sym, ap, ap₂, ◌∙◌}

@@ -1,16 +1,12 @@
 -- `arcs_break` meets its contract. The loop's invariant: no section before q has a bad arc. Each
 -- section lies in the file, since condition 7 does not hold. Assumes nothing.
 use Rattle.base.specs.Conditions.{any_below}
-use Rattle.base.proofs.Conditions.{none_yet, none_more, any_at}
-use Rattle.ruleformat.proofs.Pairs.{within, section_part}
-use Rattle.ruleformat.specs.Refusals.{bad_pairs, bad_section, bad_arcs}
-use Rattle.ruleformat.specs.Format.{state_count, symbol_count, offset_of, length_of, section}
-use lib.ListN.{length, take, drop}
-use native.Mathlib.Omega.{arith}
-use Prim.Native.Nat.{ℕ, ◌+◌, ◌-◌, ◌*◌, ◌≤◌, ◌<◌}
-use mathlib.Core.List.{List}
-use mathlib.Core.Bool.{Bool, true, false}
-use mathlib.Core.Path.{◌≡◌, sym, ap, ap₂, ◌∙◌}
+use Rattle.ruleformat.specs.Refusals.{bad_pairs, bad_section}
+use Rattle.ruleformat.specs.Format.{state_count, symbol_count, section}
+use lib.ListN.{length}
+use Prim.Native.Nat.{◌+◌, ◌-◌, ◌*◌, ◌≤◌, ◌<◌}
+use mathlib.Core.Bool.{false}
+use mathlib.Core.Path.{◌≡◌}
 use Rattle.rulefile.proofs.arcs_break.Given as goal
 
 abbrev pub invariant-loop-q : goal.invariant-loop-q

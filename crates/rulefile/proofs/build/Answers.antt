@@ -5,14 +5,13 @@ use Rattle.ruleformat.proofs.Accepted.{accepted, tabled}
 use Rattle.ruleformat.proofs.Tables.{cell_up_to, no_section, section_stored}
 use Rattle.ruleformat.proofs.Pairs.{within, section_part}
 use Rattle.ruleformat.specs.Reader.{targets_by, targets_from}
-use Rattle.ruleformat.specs.Refusals.{bad_section, refusal}
+use Rattle.ruleformat.specs.Refusals.{bad_section}
 use Rattle.ruleformat.specs.Format.{state_count, symbol_count}
 use lib.Bits.{bit_or}
 use lib.Dec.{eqb}
-use lib.ListN.{length, get_or}
+use lib.ListN.{get_or}
 use native.Mathlib.Omega.{arith}
-use Prim.Native.Nat.{ℕ, ◌+◌, ◌-◌, ◌*◌, ◌/◌, ◌%◌, ◌≤◌}
-use mathlib.Core.Option.{none}
+use Prim.Native.Nat.{ℕ, ◌/◌, ◌%◌}
 use mathlib.Core.List.{List}
 use mathlib.Core.Bool.{cond}
 use mathlib.Core.Path.{◌≡◌, refl, ap, ◌∙◌}

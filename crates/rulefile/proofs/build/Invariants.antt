@@ -1,21 +1,12 @@
 -- `build` meets its contract. The loop's invariant: the table has the arcs of the sections before
 -- q, and no others. Assumes nothing.
-use Rattle.base.proofs.Lists.{is_list_from}
-use Rattle.ruleformat.proofs.Accepted.{accepted, tabled}
-use Rattle.ruleformat.proofs.Tables.{cell_up_to, no_section, section_stored}
-use Rattle.ruleformat.proofs.Pairs.{within, section_part}
-use Rattle.ruleformat.specs.Reader.{targets_by, targets_from}
-use Rattle.ruleformat.specs.Refusals.{bad_section, refusal}
-use Rattle.ruleformat.specs.Format.{state_count, symbol_count}
-use lib.Bits.{bit_or}
-use lib.Dec.{eqb}
+use Rattle.ruleformat.proofs.Tables.{cell_up_to}
+use Rattle.ruleformat.specs.Refusals.{refusal}
+use Rattle.ruleformat.specs.Format.{state_count}
 use lib.ListN.{length, get_or}
-use native.Mathlib.Omega.{arith}
-use Prim.Native.Nat.{ℕ, ◌+◌, ◌-◌, ◌*◌, ◌/◌, ◌%◌, ◌≤◌}
+use Prim.Native.Nat.{ℕ, ◌+◌, ◌-◌, ◌*◌, ◌≤◌}
 use mathlib.Core.Option.{none}
-use mathlib.Core.List.{List}
-use mathlib.Core.Bool.{cond}
-use mathlib.Core.Path.{◌≡◌, refl, ap, ◌∙◌}
+use mathlib.Core.Path.{◌≡◌}
 use Rattle.rulefile.proofs.build.Given as goal
 
 abbrev pub invariant-loop-q : goal.invariant-loop-q

@@ -1,7 +1,6 @@
 -- `byte` meets its contract. Assumes nothing.
 use native.Mathlib.Omega.{arith}
 use mathlib.Core.Path.{refl}
-use borrow.Author.Rules.{rules}
 use Rattle.rulefile.proofs.byte.Goals as goal
 
 pub overflow_cast-result : goal.overflow_cast-result

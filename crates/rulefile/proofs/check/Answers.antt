@@ -7,7 +7,7 @@ use Prim.Native.Nat.{ℕ}
 use native.Mathlib.Omega.{arith}
 use Rattle.rulecheck.specs.Checking.{bad_state_count, bad_symbol_count, bad_masks}
 use Rattle.ruleformat.specs.Format.{state_count, symbol_count, initial_mask, final_mask}
-use Rattle.ruleformat.specs.Refusals.{too_short, too_long, bad_states, bad_symbols, no_room, bad_mask, bad_pairs, bad_arcs, refusal}
+use Rattle.ruleformat.specs.Refusals.{bad_states, bad_symbols, bad_mask, bad_pairs, bad_arcs}
 use Rattle.ruleformat.proofs.Refused.{short, not_short, long, not_long, states_test, symbols_test, lacks_room, room, masks_test, from_1}
 use Rattle.rulefile.proofs.check.Goals as goal
 

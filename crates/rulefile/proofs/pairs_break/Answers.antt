@@ -1,6 +1,5 @@
 -- `pairs_break` meets its contract. The loop's invariant: no pair before q breaks the rule, and
 -- `due` is where section q has to begin. Assumes nothing.
-use Rattle.base.specs.Conditions.{any_below}
 use Rattle.base.proofs.Conditions.{none_yet, none_more}
 use Rattle.ruleformat.proofs.Pairs.{bad_offset, bad_length, good_pair, pairs_at, pairs_end}
 use Rattle.ruleformat.specs.Refusals.{due_at, bad_pair}
@@ -9,8 +8,8 @@ use lib.ListN.{length}
 use lib.Dec.{eqb}
 use native.Mathlib.Omega.{arith}
 use native.Mathlib.Numerals.{add-one}
-use Prim.Native.Nat.{ℕ, ◌+◌, ◌-◌, ◌*◌, ◌%◌, ◌≤◌, ◌<◌}
-use mathlib.Core.Bool.{false, not}
+use Prim.Native.Nat.{ℕ, ◌+◌, ◌*◌, ◌%◌}
+use mathlib.Core.Bool.{not}
 use mathlib.Core.Path.{◌≡◌, sym, ap, ap₂, ◌∙◌}
 use Rattle.rulefile.proofs.pairs_break.Goals as goal
 

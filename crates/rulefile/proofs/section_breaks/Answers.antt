@@ -1,14 +1,12 @@
 -- `section_breaks` meets its contract. The loop's invariant: no arc before i breaks the rule, and
 -- `past` is one more than the arc before i, as a number. Assumes nothing.
-use Rattle.base.specs.Conditions.{any_below}
 use Rattle.base.proofs.Conditions.{none_yet, none_more}
 use Rattle.ruleformat.proofs.Arcs.{past_of, bad_symbol, bad_target_lem, bad_order, good_arc, section_at, section_end}
 use Rattle.ruleformat.specs.Refusals.{bad_arc}
 use Rattle.ruleformat.specs.Format.{arc_count}
 use native.Mathlib.Omega.{arith}
 use native.Mathlib.Numerals.{add-one}
-use Prim.Native.Nat.{ℕ, ◌+◌, ◌-◌, ◌*◌, ◌≤◌}
-use mathlib.Core.Bool.{false}
+use Prim.Native.Nat.{ℕ, ◌+◌, ◌*◌}
 use mathlib.Core.Path.{◌≡◌, refl, sym, ap, ap₂, ◌∙◌}
 use Rattle.rulefile.proofs.section_breaks.Goals as goal
 
@@ -40,7 +38,7 @@ returns-then-arc-past c =
     sym
     (section_at a.n a.k a.section.now x.i (omega arith)
     (bad_order a.n a.k a.section.now x.i
-    (λ j. c.type_inv.section (2 * j + 1))
+    (λ j. (c.type_inv.section (2 * j + 1)).fits)
     (omega (arith, x.invariant.1, s, t))))
 
 pub loop-i-preserved : goal.loop-i-preserved
@@ -53,7 +51,7 @@ loop-i-preserved c =
       ap₂ (λ (y z : ℕ). 256 * y + z + 1) s t ∙ ap (past_of a.section.now) (sym (add-one x.i)),
       none_more (bad_arc a.n a.k a.section.now) x.i x.invariant.2
           (good_arc a.n a.k a.section.now x.i
-          (λ j. c.type_inv.section (2 * j + 1))
+          (λ j. (c.type_inv.section (2 * j + 1)).fits)
           (omega (arith, s))
           (omega (arith, t))
           (omega (arith, x.invariant.1, s, t))),

@@ -1,15 +1,12 @@
 -- `section_breaks` meets its contract. The loop's invariant: no arc before i breaks the rule, and
 -- `past` is one more than the arc before i, as a number. Assumes nothing.
 use Rattle.base.specs.Conditions.{any_below}
-use Rattle.base.proofs.Conditions.{none_yet, none_more}
-use Rattle.ruleformat.proofs.Arcs.{past_of, bad_symbol, bad_target_lem, bad_order, good_arc, section_at, section_end}
+use Rattle.ruleformat.proofs.Arcs.{past_of}
 use Rattle.ruleformat.specs.Refusals.{bad_arc}
 use Rattle.ruleformat.specs.Format.{arc_count}
-use native.Mathlib.Omega.{arith}
-use native.Mathlib.Numerals.{add-one}
-use Prim.Native.Nat.{ℕ, ◌+◌, ◌-◌, ◌*◌, ◌≤◌}
+use Prim.Native.Nat.{◌-◌, ◌≤◌}
 use mathlib.Core.Bool.{false}
-use mathlib.Core.Path.{◌≡◌, refl, sym, ap, ap₂, ◌∙◌}
+use mathlib.Core.Path.{◌≡◌}
 use Rattle.rulefile.proofs.section_breaks.Given as goal
 
 abbrev pub invariant-loop-i : goal.invariant-loop-i

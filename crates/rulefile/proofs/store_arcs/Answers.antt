@@ -2,14 +2,12 @@
 -- of state q, the targets of the first i arcs. Assumes nothing.
 use Rattle.ruleformat.proofs.Tables.{cell_after, none_stored, arc_stored}
 use Rattle.ruleformat.proofs.Arcs.{bounds}
-use Rattle.ruleformat.specs.Refusals.{bad_section}
 use Rattle.ruleformat.specs.Format.{arc_count, symbol_at, target_at}
 use Rattle.masks.specs.Masks.{single}
-use lib.ListN.{length, get_or, set, length-set}
+use lib.ListN.{get_or, set, length-set}
 use lib.Bits.{bit_or}
 use native.Mathlib.Omega.{arith}
-use Prim.Native.Nat.{ℕ, ◌+◌, ◌-◌, ◌*◌, ◌/◌, ◌≤◌, ◌<◌}
-use mathlib.Core.Bool.{false}
+use Prim.Native.Nat.{ℕ, ◌+◌, ◌*◌, ◌/◌}
 use mathlib.Core.Path.{◌≡◌, ap, ap₂, ◌∙◌}
 use Rattle.rulefile.proofs.store_arcs.Goals as goal
 

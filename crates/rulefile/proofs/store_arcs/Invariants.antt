@@ -1,16 +1,12 @@
 -- `store_arcs` meets its contract. The loop's invariant: each cell is what it was, with, in the row
 -- of state q, the targets of the first i arcs. Assumes nothing.
-use Rattle.ruleformat.proofs.Tables.{cell_after, none_stored, arc_stored}
-use Rattle.ruleformat.proofs.Arcs.{bounds}
+use Rattle.ruleformat.proofs.Tables.{cell_after}
 use Rattle.ruleformat.specs.Refusals.{bad_section}
-use Rattle.ruleformat.specs.Format.{arc_count, symbol_at, target_at}
-use Rattle.masks.specs.Masks.{single}
-use lib.ListN.{length, get_or, set, length-set}
-use lib.Bits.{bit_or}
-use native.Mathlib.Omega.{arith}
-use Prim.Native.Nat.{ℕ, ◌+◌, ◌-◌, ◌*◌, ◌/◌, ◌≤◌, ◌<◌}
+use Rattle.ruleformat.specs.Format.{arc_count}
+use lib.ListN.{length, get_or}
+use Prim.Native.Nat.{ℕ, ◌-◌, ◌*◌, ◌/◌, ◌≤◌, ◌<◌}
 use mathlib.Core.Bool.{false}
-use mathlib.Core.Path.{◌≡◌, ap, ap₂, ◌∙◌}
+use mathlib.Core.Path.{◌≡◌}
 use Rattle.rulefile.proofs.store_arcs.Given as goal
 
 abbrev pub invariant-loop-i : goal.invariant-loop-i

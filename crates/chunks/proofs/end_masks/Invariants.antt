@@ -1,0 +1,15 @@
+-- `end_masks` meets its contract. Assumes nothing.
+use mathlib.Core.Path.{◌≡◌, ap, ◌∙◌}
+use Prim.Native.Nat.{ℕ, ◌-◌, ◌/◌, ◌≤◌, ◌<◌}
+use native.Mathlib.Omega.{arith}
+use borrow.Author.Rules.{rules}
+use lib.ListN.{length, get_or, length-set, length-replicate}
+use Rattle.base.proofs.Lists.{is_list_from, cell_stored}
+use Rattle.chunks.specs.mirror.Walks.{mask_of}
+use Rattle.chunks.proofs.end_masks.Given as goal
+
+abbrev pub invariant-loop-q : goal.invariant-loop-q
+invariant-loop-q l = (l.q ≤ 32) × (length l.ends ≡ 32) × ((p : ℕ) → p < l.q → get_or l.ends p 0 ≡ mask_of l.sets (get_or l.rows p 0 / 16))
+
+abbrev pub decreases-loop-q : goal.decreases-loop-q
+decreases-loop-q l = 32 - l.q

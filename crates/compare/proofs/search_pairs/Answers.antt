@@ -1,0 +1,59 @@
+-- `search_pairs` meets its contract, one way out at a time. Assumes nothing.
+use Prim.Native.Nat.{◌≤◌}
+use native.Mathlib.Omega.{arith}
+use borrow.Author.Rules.{rules}
+use Rattle.compare.proofs.Ways.{most, tabled, search_text, search_over, search_same}
+use Rattle.compare.proofs.search_pairs.Goals.{After-pairs-2-1}
+use Rattle.compare.proofs.search_pairs.Goals as goal
+
+-- the pairs are numbered, and the first is looked for
+module _ (c : After-pairs-2-1) where
+  pub small : c.held-count.result ≤ 512
+  small =
+      let h = c.held-count in
+      let n = c.number_by-table in
+      most c.args.one c.args.two c.requires.0 c.requires.1 c.requires.2 n.result n.ensures h.result h.ensures
+
+pub first_apart-first-requires : goal.first_apart-first-requires
+first_apart-first-requires c = small c
+
+pub offset_bounds-pairs-first : goal.offset_bounds-pairs-first
+offset_bounds-pairs-first c = record { fits = omega (arith, c.if-first-count.true, small c) }
+
+pub bounds-pairs-first : goal.bounds-pairs-first
+bounds-pairs-first c = omega (arith, c.if-first-count.true, small c)
+
+pub overflow_cast-number : goal.overflow_cast-number
+overflow_cast-number c = omega (arith, c.if-first-count.true, small c)
+
+pub spell-spelled-requires : goal.spell-spelled-requires
+spell-spelled-requires c =
+    let h = c.held-count in
+    let n = c.number_by-table in
+    tabled c.args.one c.args.two c.requires.0 c.requires.1 c.requires.2 n.result n.ensures h.result h.ensures
+    c.first_apart-first.result c.if-first-count.true
+
+pub returns-then-first-count : goal.returns-then-first-count
+returns-then-first-count c =
+    let h = c.held-count in
+    let n = c.number_by-table in
+    let f = c.first_apart-first in
+    let w = c.which_of-which in
+    search_text c.args.one c.args.two c.requires.0 c.requires.1 c.requires.2 n.result n.ensures h.result h.ensures
+    f.result f.ensures c.spell-spelled.result w.result c.if-first-count.true w.ensures c.spell-spelled.ensures
+
+pub returns-in-Over : goal.returns-in-Over
+returns-in-Over c =
+    let h = c.held-count in
+    let n = c.number_by-table in
+    let f = c.first_apart-first in
+    search_over c.args.one c.args.two c.requires.0 c.requires.1 c.requires.2 n.result n.ensures h.result h.ensures
+    f.result f.ensures c.if-first-count.false _ c.in-Over.is c.give_none.ensures
+
+pub returns-in-Whole : goal.returns-in-Whole
+returns-in-Whole c =
+    let h = c.held-count in
+    let n = c.number_by-table in
+    let f = c.first_apart-first in
+    search_same c.args.one c.args.two c.requires.0 c.requires.1 c.requires.2 n.result n.ensures h.result h.ensures
+    f.result f.ensures c.if-first-count.false _ c.in-Whole.field-0 c.in-Whole.is c.give_none-in-Whole.ensures

@@ -1,0 +1,25 @@
+-- `round` meets its contract. The loop's invariant: each set passed has its new class, and
+-- `changed` tells whether that of one of them is another than its old one. Assumes nothing.
+use mathlib.Core.Path.{◌≡◌, refl, sym, ap, ◌∙◌}
+use mathlib.Core.Logic.{⊎_elim}
+use mathlib.Core.Bool.{Bool, not}
+use Prim.Native.Nat.{ℕ, ◌-◌, ◌≤◌, ◌<◌}
+use native.Mathlib.Omega.{arith}
+use borrow.Author.Count.{below_none}
+use borrow.Author.Rules.{rules}
+use borrow.Author.Tests.{eq-eqb, ne_eqb}
+use lib.Dec.{eqb}
+use lib.ListN.{length, length-set}
+use Rattle.base.proofs.Lists.{cell_stored, is_list_from}
+use Rattle.delegates.specs.mirror.Classes.{every}
+use Rattle.delegates.specs.mirror.Refinement.{class_of, least_of}
+use Rattle.delegates.proofs.Tests.{every_more, every_fails}
+use Rattle.delegates.proofs.round.Given as goal
+
+abbrev pub invariant-loop-s : goal.invariant-loop-s
+invariant-loop-s l =
+    (l.s ≤ 513) × (length l.new ≡ 513) × ((b : ℕ) → b < l.s → class_of l.new b ≡ least_of l.sets l.next l.finals l.k l.class b)
+    × (l.changed ≡ not (every l.s (λ b. eqb (class_of l.class b) (least_of l.sets l.next l.finals l.k l.class b))))
+
+abbrev pub decreases-loop-s : goal.decreases-loop-s
+decreases-loop-s l = 513 - l.s

@@ -1,0 +1,6 @@
+-- `begin` meets its contract. Assumes nothing.
+use borrow.Author.Rules.{rules}
+use Rattle.patternreader.proofs.begin.Goals as goal
+
+pub returns : goal.returns
+returns c = cc

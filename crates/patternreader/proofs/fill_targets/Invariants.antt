@@ -1,0 +1,15 @@
+-- `fill_targets` meets its contract: the cells before c are stored. Assumes nothing.
+use mathlib.Core.Path.{◌≡◌, refl, ◌∙◌}
+use Prim.Native.Nat.{ℕ, ◌/◌, ◌%◌, ◌-◌, ◌≤◌, ◌<◌}
+use native.Mathlib.Omega.{arith}
+use lib.ListN.{length, get_or, length-set}
+use lib.Bits.{bit_and}
+use borrow.Author.Rules.{rules}
+use Rattle.base.proofs.Lists.{cell_stored, is_list_from}
+use Rattle.patternreader.proofs.fill_targets.Given as goal
+
+abbrev pub invariant-loop-c : goal.invariant-loop-c
+invariant-loop-c l = (l.c ≤ 512) × (length l.t ≡ 512) × ((k : ℕ) → k < l.c → get_or l.t k 0 ≡ bit_and (get_or l.rows (k / 16) 0) (get_or l.positions (k % 16) 0))
+
+abbrev pub decreases-loop-c : goal.decreases-loop-c
+decreases-loop-c l = 512 - l.c

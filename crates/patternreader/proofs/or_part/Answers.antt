@@ -1,0 +1,6 @@
+-- `or_part` meets its contract. Assumes nothing.
+use borrow.Author.Rules.{rules}
+use Rattle.patternreader.proofs.or_part.Goals as goal
+
+pub returns : goal.returns
+returns c = cc

@@ -1,0 +1,20 @@
+-- `read_all` meets its contract: what is read, with the bytes from i on, gives the whole. Assumes
+-- nothing.
+use mathlib.Core.Path.{◌≡◌, ap}
+use Prim.Native.Nat.{◌-◌, ◌≤◌}
+use native.Mathlib.Omega.{arith}
+use lib.ListN.{length, drop}
+use borrow.Author.Rules.{rules}
+use Rattle.patternreader.specs.declared.Reading.{Reading}
+use Rattle.patternreader.specs.Reader.{after_bytes, beginning}
+use Rattle.patternreader.proofs.Loops.{read_more, read_end}
+use Rattle.patternreader.proofs.read_all.Goals as goal
+
+pub loop-i-init : goal.loop-i-init
+loop-i-init c = (omega arith, ap (λ (x : Reading). after_bytes x c.args.bytes.now) c.begin-r.ensures)
+
+pub loop-i-preserved : goal.loop-i-preserved
+loop-i-preserved c = (omega arith, search (rules, read_more))
+
+pub returns : goal.returns
+returns c = search (rules, read_end)

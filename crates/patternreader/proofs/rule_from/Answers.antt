@@ -1,0 +1,6 @@
+-- `rule_from` meets its contract. Assumes nothing.
+use borrow.Author.Rules.{rules}
+use Rattle.patternreader.proofs.rule_from.Goals as goal
+
+pub returns : goal.returns
+returns c = cc

@@ -1,0 +1,9 @@
+-- `put_rejected` meets its contract. Assumes nothing.
+use borrow.Author.Rules.{rules}
+use Rattle.samples.specs.declared.Wish.TheVariants.{Rejected}
+use Rattle.sampletext.proofs.Lines.{sample_is}
+use Rattle.sampletext.proofs.put_rejected.Goals as goal
+
+pub returns : goal.returns
+returns c =
+    rw (← sample_is c.args.rule Rejected c.find_sample-result.result c.find_sample-result.ensures) c.put_sample.ensures

@@ -1,0 +1,18 @@
+-- `first_meeting` meets its contract. The invariant: no set passed meets the wish. Assumes
+-- nothing.
+use mathlib.Core.Path.{◌≡◌, sym, ◌∙◌}
+use mathlib.Core.Bool.{false}
+use Prim.Native.Nat.{ℕ, ◌-◌, ◌≤◌, ◌<◌}
+use native.Mathlib.Omega.{arith}
+use lib.ListN.{get_or}
+use borrow.Author.Count.{below_more}
+use borrow.Author.Rules.{rules}
+use Rattle.samples.specs.Search.{meets}
+use Rattle.searches.proofs.Cells.{where_found, where_none}
+use Rattle.sampling.proofs.first_meeting.Given as goal
+
+abbrev pub invariant-loop-i : goal.invariant-loop-i
+invariant-loop-i l = (l.i ≤ l.count) × ((j : ℕ) → j < l.i → meets l.finals l.wish (get_or l.sets j 0) ≡ false)
+
+abbrev pub decreases-loop-i : goal.decreases-loop-i
+decreases-loop-i l = l.count - l.i
