@@ -23,7 +23,7 @@ use Rattle.searches.specs.Search.{first_where, word_back, word_to}
 use Rattle.compare.specs.Compared.{pair_number, Comparison, apart, same, refused}
 use Rattle.compare.specs.Search.{which_of, pair_walk, first_pair, reached_pairs, first_pairs, found_first, told_apart, many_pairs, compare_of}
 use Rattle.compare.specs.Worked.{Case, case, pairs, Answered}
-use Rattle.compare.proofs.Answers.{by_number_lem, number-none, refused_first}
+use Rattle.compare.proofs.Answers.{by_number as by_number_lem, number-none, refused_first}
 
 module _ (one two : Rule) where
   -- with at most 512 pairs

@@ -23,11 +23,11 @@ loop-q-preserved c =
     let d = a.delegates in (
       search rules,
       (elim c.if-member.branch [
-      then-member w ↦ w.4
-          ∙ w.3.ensures
-          ∙ ap₂ bit_or l.invariant.1 w.2.ensures
+      then-member w ↦ w.out-is
+          ∙ w.union-out.ensures
+          ∙ ap₂ bit_or l.invariant.1 w.delegate_single.ensures
           ∙ union_member (λ p. of_delegate single (delegate_in d p)) a.set l.q (sym c.member.ensures ∙ w.if-member.true)
-      | else-member w ↦ w.1 ∙ l.invariant.1 ∙ union_other (λ p. of_delegate single (delegate_in d p)) a.set l.q (sym c.member.ensures ∙ w.if-member.false)
+      | else-member w ↦ w.out-is ∙ l.invariant.1 ∙ union_other (λ p. of_delegate single (delegate_in d p)) a.set l.q (sym c.member.ensures ∙ w.if-member.false)
     ]),
     )
 

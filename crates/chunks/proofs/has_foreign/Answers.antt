@@ -21,8 +21,8 @@ loop-i-preserved c =
     let h = c.loop-i-test.true in (
       search rules,
       (elim c.if-k-chunk.branch [
-      then-k-chunk w ↦ rw w.1 (l.invariant.1 ∙ foreign_here a.chunk.now a.k l.i l.found h w.if-k-chunk.true)
-      | else-k-chunk w ↦ rw w.1 (l.invariant.1 ∙ foreign_on a.chunk.now a.k l.i l.found h w.if-k-chunk.false)
+      then-k-chunk w ↦ rw w.found-is (l.invariant.1 ∙ foreign_here a.chunk.now a.k l.i l.found h w.if-k-chunk.true)
+      | else-k-chunk w ↦ rw w.found-is (l.invariant.1 ∙ foreign_on a.chunk.now a.k l.i l.found h w.if-k-chunk.false)
     ]),
     )
 

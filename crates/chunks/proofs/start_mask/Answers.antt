@@ -21,8 +21,8 @@ loop-q-preserved c =
     let d = c.args.delegates in (
       search rules,
       (elim c.if-delegates-i.branch [
-      then-delegates-i w ↦ w.3 ∙ w.2.ensures ∙ ap₂ bit_or l.invariant.1 w.1.ensures ∙ start_more d l.q w.if-delegates-i.true
-      | else-delegates-i w ↦ w.1 ∙ l.invariant.1 ∙ start_other d l.q w.if-delegates-i.false
+      then-delegates-i w ↦ w.starts-is ∙ w.union-starts.ensures ∙ ap₂ bit_or l.invariant.1 w.singleton.ensures ∙ start_more d l.q w.if-delegates-i.true
+      | else-delegates-i w ↦ w.starts-is ∙ l.invariant.1 ∙ start_other d l.q w.if-delegates-i.false
     ]),
     )
 

@@ -22,17 +22,17 @@ loop-q-preserved c =
     let mask = c.args.mask in
     let m = c.member.ensures in
     (elim c.if-member.branch [
-      then-member w ↦ let v = w.2 in (
+      then-member w ↦ let v = w.row_of in (
       omega arith,
-      rw w.3 (length-set l.rows l.q v.result ∙ l.invariant.1),
-      rw w.3 (cell_stored l.rows (start_row singles mask) l.q v.result (omega (arith, l.invariant.1)) (v.ensures ∙ rw (sym m ∙ w.if-member.true)) l.invariant.2),
-      λ p h b. rw w.3 (get_or-set_other l.rows l.q p v.result 0 (λ e. omega arith) ∙ l.invariant.3 p (omega arith) b),
+      rw w.rows-is (length-set l.rows l.q v.result ∙ l.invariant.1),
+      rw w.rows-is (cell_stored l.rows (start_row singles mask) l.q v.result (omega (arith, l.invariant.1)) (v.ensures ∙ rw (sym m ∙ w.if-member.true)) l.invariant.2),
+      λ p h b. rw w.rows-is (get_or-set_other l.rows l.q p v.result 0 (λ e. omega arith) ∙ l.invariant.3 p (omega arith) b),
     )
       | else-member w ↦ (
       omega arith,
-      rw w.1 l.invariant.1,
-      rw w.1 (below_more (λ p. get_or l.rows p 0 ≡ start_row singles mask p) l.q l.invariant.2 (l.invariant.3 l.q (omega arith) (omega arith) ∙ rw (sym m ∙ w.if-member.false))),
-      λ p h b. rw w.1 (l.invariant.3 p (omega arith) b),
+      rw w.rows-is l.invariant.1,
+      rw w.rows-is (below_more (λ p. get_or l.rows p 0 ≡ start_row singles mask p) l.q l.invariant.2 (l.invariant.3 l.q (omega arith) (omega arith) ∙ rw (sym m ∙ w.if-member.false))),
+      λ p h b. rw w.rows-is (l.invariant.3 p (omega arith) b),
     )
     ])
 

@@ -3,28 +3,31 @@ use Prim.Native.Nat.{◌≤◌}
 use native.Mathlib.Omega.{arith}
 use borrow.Author.Rules.{rules}
 use Rattle.compare.proofs.Ways.{most, tabled, search_text, search_over, search_same}
-use Rattle.compare.proofs.search_pairs.Goals.{After-pairs-2-1}
 use Rattle.compare.proofs.search_pairs.Goals as goal
 
--- the pairs are numbered, and the first is looked for
-module _ (c : After-pairs-2-1) where
-  pub small : c.held-count.result ≤ 512
-  small =
-      let h = c.held-count in
-      let n = c.number_by-table in
-      most c.args.one c.args.two c.requires.0 c.requires.1 c.requires.2 n.result n.ensures h.result h.ensures
-
 pub first_apart-first-requires : goal.first_apart-first-requires
-first_apart-first-requires c = small c
+first_apart-first-requires c =
+    let h = c.held-count in
+    let n = c.number_by-table in
+    most c.args.one c.args.two c.requires.0 c.requires.1 c.requires.2 n.result n.ensures h.result h.ensures
 
 pub offset_bounds-pairs-first : goal.offset_bounds-pairs-first
-offset_bounds-pairs-first c = record { fits = omega (arith, c.if-first-count.true, small c) }
+offset_bounds-pairs-first c =
+    let h = c.held-count in
+    let n = c.number_by-table in
+    record { fits = omega (arith, c.if-first-count.true, most c.args.one c.args.two c.requires.0 c.requires.1 c.requires.2 n.result n.ensures h.result h.ensures) }
 
 pub bounds-pairs-first : goal.bounds-pairs-first
-bounds-pairs-first c = omega (arith, c.if-first-count.true, small c)
+bounds-pairs-first c =
+    let h = c.held-count in
+    let n = c.number_by-table in
+    omega (arith, c.if-first-count.true, most c.args.one c.args.two c.requires.0 c.requires.1 c.requires.2 n.result n.ensures h.result h.ensures)
 
 pub overflow_cast-number : goal.overflow_cast-number
-overflow_cast-number c = omega (arith, c.if-first-count.true, small c)
+overflow_cast-number c =
+    let h = c.held-count in
+    let n = c.number_by-table in
+    omega (arith, c.if-first-count.true, most c.args.one c.args.two c.requires.0 c.requires.1 c.requires.2 n.result n.ensures h.result h.ensures)
 
 pub spell-spelled-requires : goal.spell-spelled-requires
 spell-spelled-requires c =

@@ -24,10 +24,10 @@ loop-q-preserved c =
       search rules,
       (elim c.if-leads.branch [
       then-leads w ↦ w.found-is
-          ∙ w.2.ensures
-          ∙ ap (bit_or l.found) w.1.ensures
+          ∙ w.union-found.ensures
+          ∙ ap (bit_or l.found) w.singleton.ensures
           ∙ mask_add test l.q l.found l.invariant.1 (sym c.leads.ensures ∙ w.if-leads.true)
-      | else-leads w ↦ w.1 ∙ mask_skip test l.q l.found l.invariant.1 (sym c.leads.ensures ∙ w.if-leads.false)
+      | else-leads w ↦ w.found-is ∙ mask_skip test l.q l.found l.invariant.1 (sym c.leads.ensures ∙ w.if-leads.false)
     ]),
     )
 

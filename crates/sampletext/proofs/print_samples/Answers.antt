@@ -11,4 +11,4 @@ returns-in-Accepted c =
 pub returns-in-Refused : goal.returns-in-Refused
 returns-in-Refused c =
     let y = c.read-reading in
-    rw (← file_refused c.args.file.now y.result y.ensures c.in-Refused.number c.in-Refused.is) c.Put-refused.ensures
+    rw (← file_refused c.args.file.now y.result y.ensures c.in-Refused.number c.in-Refused.is) c.put_refused.ensures

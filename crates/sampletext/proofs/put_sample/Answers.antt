@@ -36,4 +36,4 @@ returns-in-Nothing c =
 
 pub returns-in-Refused : goal.returns-in-Refused
 returns-in-Refused c =
-    rw (← line_refused c.args.word.now c.args.res c.in-Refused.number c.in-Refused.is) (most 1031 (omega (arith, refused_short c.in-Refused.number)) c.Put-refused.ensures)
+    rw (← line_refused c.args.word.now c.args.res c.in-Refused.number c.in-Refused.is) (most 1031 (omega (arith, refused_short c.in-Refused.number)) c.put_refused.ensures)

@@ -1,0 +1,6 @@
+-- `in_numbers` meets its contract. Assumes nothing.
+use borrow.Author.Rules.{rules}
+use Rattle.c_merge.proofs.in_numbers.Goals as goal
+
+pub returns : goal.returns
+returns c = rw (c.shown-shown.ensures.0, c.shown-shown.ensures.1)

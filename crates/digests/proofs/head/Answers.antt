@@ -1,0 +1,6 @@
+-- `head` meets its contract. Assumes nothing.
+use Rattle.std.proofs.Common.{rules}
+use Rattle.digests.proofs.head.Goals as goal
+
+pub returns : goal.returns
+returns c = cc
