@@ -100,11 +100,7 @@ fn shown(report: Report) -> ConcludeNumbers
 }
 
 // The report that the summary of a whole trace of so many chunks comes to.
-pub fn bellbadger_summary_conclude(
-    judge: Judge,
-    summary: Summary,
-    chunks: u64,
-) -> ConcludeNumbers
+pub fn bellbadger_summary_conclude(judge: Judge, summary: Summary, chunks: u64) -> ConcludeNumbers
     ensures { result ≡ conclude_shown (conclude_of judge summary chunks) }
 {
     shown(summaries::conclude(judge, summary, chunks))

@@ -173,12 +173,7 @@ pub fn bellbadger_open(judge: Judge, places: usize) -> CallNumbers
     call_numbers(judge::open(judge, places))
 }
 
-pub fn bellbadger_deliver(
-    judge: Judge,
-    place: usize,
-    revision: u32,
-    chunk: &[u8],
-) -> DeliverNumbers
+pub fn bellbadger_deliver(judge: Judge, place: usize, revision: u32, chunk: &[u8]) -> DeliverNumbers
     ensures { result ≡ deliver_shown (deliver_of judge place revision chunk.now) }
 {
     let delivery = judge::deliver(judge, place, revision, chunk);
