@@ -33,7 +33,7 @@ fn folder() -> PathBuf {
         return PathBuf::from(folder);
     }
     let outside = PathBuf::from(env!("CARGO_MANIFEST_DIR")).join("..");
-    if outside.join("library.txt").is_file() {
+    if outside.join("link").is_file() {
         return outside.join("../target/lib");
     }
     installed().unwrap_or_else(|said| {

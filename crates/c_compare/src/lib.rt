@@ -21,8 +21,7 @@ pub struct CompareNumbers {
 }
 
 // The first text that exactly one of the two rules accepts. The rules may be any values.
-#[unsafe(no_mangle)]
-pub extern "C" fn bellbadger_compare(one: Rule, two: Rule) -> CompareNumbers
+pub fn bellbadger_compare(one: Rule, two: Rule) -> CompareNumbers
     ensures { result ≡ comparison_shown (outcome_of (compare_of one two)) }
 {
     let result = compare::compare(one, two);

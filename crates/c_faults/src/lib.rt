@@ -20,8 +20,7 @@ pub struct FaultNumbers {
     pub row: u8,
 }
 
-#[unsafe(no_mangle)]
-pub extern "C" fn bellbadger_tray_fault(tray: Tray) -> FaultNumbers
+pub fn bellbadger_tray_fault(tray: Tray) -> FaultNumbers
     ensures { result ≡ fault_shown (fault_of tray) }
 {
     let answer = faults::fault(tray);

@@ -79,24 +79,21 @@ fn in_numbers(followed: Followed) -> FollowNumbers
 }
 
 // Follows a chunk, which may be any bytes, from a set of states of a rule, which may be any value.
-#[unsafe(no_mangle)]
-pub extern "C" fn bellbadger_follow(rule: Rule, set: u32, chunk: &[u8]) -> FollowNumbers
+pub fn bellbadger_follow(rule: Rule, set: u32, chunk: &[u8]) -> FollowNumbers
     ensures { result ≡ follow_shown (follow_of rule set chunk.now) }
 {
     in_numbers(follow::follow(rule, set, chunk))
 }
 
 // The size of the follower that the library was built with.
-#[unsafe(no_mangle)]
-pub extern "C" fn bellbadger_follower_size() -> usize
+pub fn bellbadger_follower_size() -> usize
     ensures { result ≡ 2064 }
 {
     FOLLOWER_SIZE
 }
 
 // Checks a rule, which may be any value, to follow many chunks by it.
-#[unsafe(no_mangle)]
-pub extern "C" fn bellbadger_follower_prepare(rule: Rule) -> FollowerNumbers
+pub fn bellbadger_follower_prepare(rule: Rule) -> FollowerNumbers
     ensures { result ≡ prepare_shown (prepare_of rule) }
 {
     let prepared = follow::prepare(rule);
@@ -111,8 +108,7 @@ pub extern "C" fn bellbadger_follower_prepare(rule: Rule) -> FollowerNumbers
 }
 
 // Follows a chunk by a follower, in which any numbers may stand.
-#[unsafe(no_mangle)]
-pub extern "C" fn bellbadger_follow_by(follower: Follower, set: u32, chunk: &[u8]) -> FollowNumbers
+pub fn bellbadger_follow_by(follower: Follower, set: u32, chunk: &[u8]) -> FollowNumbers
     ensures { result ≡ follow_shown (follow_by_of follower set chunk.now) }
 {
     in_numbers(follow::follow_by(follower, set, chunk))

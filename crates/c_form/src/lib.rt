@@ -26,8 +26,7 @@ pub struct TableNumbers {
 }
 
 // The failure form of the judge's next-set table; 20 without a rule.
-#[unsafe(no_mangle)]
-pub extern "C" fn bellbadger_form(judge: Judge) -> FormNumbers
+pub fn bellbadger_form(judge: Judge) -> FormNumbers
     ensures { result ≡ form_shown (made_of judge) }
 {
     let made = formmaker::make_form(judge);
@@ -42,8 +41,7 @@ pub extern "C" fn bellbadger_form(judge: Judge) -> FormNumbers
 }
 
 // The table of a form, whatever numbers stand in it; 40 where it is none.
-#[unsafe(no_mangle)]
-pub extern "C" fn bellbadger_form_back(form: Form) -> TableNumbers
+pub fn bellbadger_form_back(form: Form) -> TableNumbers
     ensures { result ≡ table_shown (back_of form) }
 {
     let back = formback::table_of(form);

@@ -33,8 +33,7 @@ fn wide(number: u8) -> u32
     number as u32
 }
 
-#[unsafe(no_mangle)]
-pub extern "C" fn bellbadger_diagnose(judge: Judge) -> DiagnosisNumbers
+pub fn bellbadger_diagnose(judge: Judge) -> DiagnosisNumbers
     ensures { result ≡ diagnosis_shown (diagnosis_of judge) }
 {
     let answer = diagnoses::diagnose(judge);
@@ -45,8 +44,7 @@ pub extern "C" fn bellbadger_diagnose(judge: Judge) -> DiagnosisNumbers
     }
 }
 
-#[unsafe(no_mangle)]
-pub extern "C" fn bellbadger_locate(judge: Judge, place: usize, chunk: &[u8]) -> SpotNumbers
+pub fn bellbadger_locate(judge: Judge, place: usize, chunk: &[u8]) -> SpotNumbers
     ensures { result ≡ spot_shown (spot_of judge place chunk.now) }
 {
     let answer = locating::locate(judge, place, chunk);

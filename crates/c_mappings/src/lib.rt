@@ -33,16 +33,14 @@ pub struct RunNumbers {
 const PROFILE_SIZE: usize = 20488;
 
 // The size of the profile that the library was built with.
-#[unsafe(no_mangle)]
-pub extern "C" fn bellbadger_profile_size() -> usize
+pub fn bellbadger_profile_size() -> usize
     ensures { result ≡ 20488 }
 {
     PROFILE_SIZE
 }
 
 // Checks a rule, which may be any value, and builds its profile.
-#[unsafe(no_mangle)]
-pub extern "C" fn bellbadger_profile_build(rule: Rule) -> BuildNumbers
+pub fn bellbadger_profile_build(rule: Rule) -> BuildNumbers
     ensures { result ≡ build_shown (build_of rule) }
 {
     let built = profile::build(rule);
@@ -63,8 +61,7 @@ pub extern "C" fn bellbadger_profile_build(rule: Rule) -> BuildNumbers
 }
 
 // The mapping of a chunk.
-#[unsafe(no_mangle)]
-pub extern "C" fn bellbadger_profile_run(profile: Profile, chunk: &[u8]) -> RunNumbers
+pub fn bellbadger_profile_run(profile: Profile, chunk: &[u8]) -> RunNumbers
     ensures { result ≡ run_shown (run_of profile chunk.now) }
 {
     let ran = profile::run(profile, chunk);
@@ -79,16 +76,14 @@ pub extern "C" fn bellbadger_profile_run(profile: Profile, chunk: &[u8]) -> RunN
 }
 
 // The mapping of two chunks, one behind the other, from those of each: any two values compose.
-#[unsafe(no_mangle)]
-pub extern "C" fn bellbadger_compose(earlier: Mapping, later: Mapping) -> Mapping
+pub fn bellbadger_compose(earlier: Mapping, later: Mapping) -> Mapping
     ensures { result ≡ mapping_shown (compose_of earlier.masks later.masks) }
 {
     mappings::compose(earlier, later)
 }
 
 // 1 for yes, 0 for no.
-#[unsafe(no_mangle)]
-pub extern "C" fn bellbadger_profile_verdict(profile: Profile, mapping: Mapping) -> u8
+pub fn bellbadger_profile_verdict(profile: Profile, mapping: Mapping) -> u8
     ensures { result ≡ verdict_shown (verdict_of profile mapping.masks) }
 {
     if profile::says_yes(profile, mapping) {

@@ -31,8 +31,7 @@ pub fn in_numbers(merging: MergeResult) -> MergeNumbers
 
 // Way 0 is a text that both rules accept, 1 a text that either accepts, any other an interleaving
 // of one from each.
-#[unsafe(no_mangle)]
-pub extern "C" fn bellbadger_merge(way: u8, one: Rule, two: Rule) -> MergeNumbers
+pub fn bellbadger_merge(way: u8, one: Rule, two: Rule) -> MergeNumbers
     ensures { result ≡ merge_shown (merge_of (way_of way) one two) }
 {
     in_numbers(merge::merge(merge::way_of(way), one, two))

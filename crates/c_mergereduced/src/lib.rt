@@ -9,8 +9,7 @@ use c_merge::MergeNumbers;
 
 // Way 0 is a text that both rules accept, 1 a text that either accepts, any other an interleaving
 // of one from each.
-#[unsafe(no_mangle)]
-pub extern "C" fn bellbadger_merge_reduced(way: u8, one: Rule, two: Rule) -> MergeNumbers
+pub fn bellbadger_merge_reduced(way: u8, one: Rule, two: Rule) -> MergeNumbers
     ensures { result ≡ merge_shown (merge_reduced_of (way_of way) one two) }
 {
     c_merge::in_numbers(mergereduced::merge_reduced(merge::way_of(way), one, two))

@@ -15,8 +15,7 @@ pub struct PatternNumbers {
 }
 
 // The rule file of a pattern.
-#[unsafe(no_mangle)]
-pub extern "C" fn bellbadger_pattern(pattern: &[u8]) -> PatternNumbers
+pub fn bellbadger_pattern(pattern: &[u8]) -> PatternNumbers
     ensures { result ≡ pattern_shown (pattern_of pattern.now) }
 {
     let result = patternfile::write_pattern(pattern);

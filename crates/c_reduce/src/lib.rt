@@ -17,8 +17,7 @@ pub struct ReduceNumbers {
 }
 
 // Reduces a rule, which may be any value.
-#[unsafe(no_mangle)]
-pub extern "C" fn bellbadger_reduce(rule: Rule) -> ReduceNumbers
+pub fn bellbadger_reduce(rule: Rule) -> ReduceNumbers
     ensures { result ≡ reduce_shown (reduce_of rule) }
 {
     let reducing = reduce::reduce(rule);

@@ -30,8 +30,7 @@ fn wish_of(number: u8) -> Wish
 }
 
 // Wish 0 asks for a text that the rule accepts, any other for one that it does not accept.
-#[unsafe(no_mangle)]
-pub extern "C" fn bellbadger_sample(wish: u8, rule: Rule) -> SampleNumbers
+pub fn bellbadger_sample(wish: u8, rule: Rule) -> SampleNumbers
     ensures { result ≡ sample_shown (outcome_of (sample_of rule (wish_of wish))) }
 {
     let result = sampling::find_sample(rule, wish_of(wish));

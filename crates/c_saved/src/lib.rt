@@ -17,16 +17,14 @@ pub struct RestoreNumbers {
 }
 
 // The judge, which may be any value, as bytes: its numbers are those of the type.
-#[unsafe(no_mangle)]
-pub extern "C" fn bellbadger_save(judge: Judge) -> Saved
+pub fn bellbadger_save(judge: Judge) -> Saved
     ensures { Fits judge × (result.bytes ≡ saved_of judge) }
 {
     saved_judge::save(judge)
 }
 
 // The judge that was saved as the bytes, which may be any.
-#[unsafe(no_mangle)]
-pub extern "C" fn bellbadger_restore(bytes: &[u8]) -> RestoreNumbers
+pub fn bellbadger_restore(bytes: &[u8]) -> RestoreNumbers
     ensures { result ≡ restore_shown (restore_of bytes.now) }
 {
     let restored = saved_judge::restore(bytes);

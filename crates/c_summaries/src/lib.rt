@@ -35,16 +35,14 @@ pub struct ConcludeNumbers {
 const SUMMARY_SIZE: usize = 176;
 
 // The size of the summary that the library was built with.
-#[unsafe(no_mangle)]
-pub extern "C" fn bellbadger_summary_size() -> usize
+pub fn bellbadger_summary_size() -> usize
     ensures { result ≡ 176 }
 {
     SUMMARY_SIZE
 }
 
 // The summary of the chunk of that number.
-#[unsafe(no_mangle)]
-pub extern "C" fn bellbadger_summarize(judge: Judge, number: u64, chunk: &[u8]) -> SummaryNumbers
+pub fn bellbadger_summarize(judge: Judge, number: u64, chunk: &[u8]) -> SummaryNumbers
     ensures { result ≡ summary_shown (summarize_of judge number chunk.now) }
 {
     let made = summaries::summarize(judge, number, chunk);
@@ -60,8 +58,7 @@ pub extern "C" fn bellbadger_summarize(judge: Judge, number: u64, chunk: &[u8]) 
 
 // The summary of two chunks, or of two rows of chunks, one behind the other. Any two values
 // combine.
-#[unsafe(no_mangle)]
-pub extern "C" fn bellbadger_summary_combine(earlier: Summary, later: Summary) -> Summary
+pub fn bellbadger_summary_combine(earlier: Summary, later: Summary) -> Summary
     ensures { result ≡ combineOf earlier later }
 {
     summaries::combine(earlier, later)
@@ -103,12 +100,7 @@ fn shown(report: Report) -> ConcludeNumbers
 }
 
 // The report that the summary of a whole trace of so many chunks comes to.
-#[unsafe(no_mangle)]
-pub extern "C" fn bellbadger_summary_conclude(
-    judge: Judge,
-    summary: Summary,
-    chunks: u64,
-) -> ConcludeNumbers
+pub fn bellbadger_summary_conclude(judge: Judge, summary: Summary, chunks: u64) -> ConcludeNumbers
     ensures { result ≡ conclude_shown (conclude_of judge summary chunks) }
 {
     shown(summaries::conclude(judge, summary, chunks))

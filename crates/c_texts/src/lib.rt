@@ -10,8 +10,7 @@ pub struct MadeNumbers {
 }
 
 // The made text of k symbols fills the buffer; where it is refused, the buffer stays as it is.
-#[unsafe(no_mangle)]
-pub extern "C" fn bellbadger_make_text(k: usize, seed: u64, text: &mut [u8]) -> MadeNumbers
+pub fn bellbadger_make_text(k: usize, seed: u64, text: &mut [u8]) -> MadeNumbers
     ensures { MakesShown k seed text.old result text.new }
 {
     let shown = flags::shown(madetexts::make_text(k, seed, text));

@@ -42,15 +42,13 @@ pub struct VerdictNumbers {
 const TRAY_SIZE: usize = 12332;
 
 // The size of the tray that the library was built with.
-#[unsafe(no_mangle)]
-pub extern "C" fn bellbadger_tray_size() -> usize
+pub fn bellbadger_tray_size() -> usize
     ensures { result ≡ 12332 }
 {
     TRAY_SIZE
 }
 
-#[unsafe(no_mangle)]
-pub extern "C" fn bellbadger_tray_new() -> Tray
+pub fn bellbadger_tray_new() -> Tray
     ensures { result ≡ fresh }
 {
     traycalls::new_tray()
@@ -80,15 +78,13 @@ fn install_numbers(res: InstallResult) -> InstallNumbers
     }
 }
 
-#[unsafe(no_mangle)]
-pub extern "C" fn bellbadger_tray_install_row(tray: Tray, rule: Rule) -> InstallNumbers
+pub fn bellbadger_tray_install_row(tray: Tray, rule: Rule) -> InstallNumbers
     ensures { result ≡ install_shown (install_row_of tray rule) }
 {
     install_numbers(traycalls::install_row(tray, rule))
 }
 
-#[unsafe(no_mangle)]
-pub extern "C" fn bellbadger_tray_install_column(tray: Tray, rule: Rule) -> InstallNumbers
+pub fn bellbadger_tray_install_column(tray: Tray, rule: Rule) -> InstallNumbers
     ensures { result ≡ install_shown (install_column_of tray rule) }
 {
     install_numbers(traycalls::install_column(tray, rule))
@@ -108,22 +104,19 @@ fn call_numbers(res: CallResult) -> CallNumbers
     }
 }
 
-#[unsafe(no_mangle)]
-pub extern "C" fn bellbadger_tray_open(tray: Tray, width: usize, bands: usize) -> CallNumbers
+pub fn bellbadger_tray_open(tray: Tray, width: usize, bands: usize) -> CallNumbers
     ensures { result ≡ call_shown (open_of tray width bands) }
 {
     call_numbers(traycalls::open(tray, width, bands))
 }
 
-#[unsafe(no_mangle)]
-pub extern "C" fn bellbadger_tray_deliver(tray: Tray, band: usize, rows: &[u8]) -> CallNumbers
+pub fn bellbadger_tray_deliver(tray: Tray, band: usize, rows: &[u8]) -> CallNumbers
     ensures { result ≡ call_shown (deliver_of tray band rows.now) }
 {
     call_numbers(traycalls::deliver(tray, band, rows))
 }
 
-#[unsafe(no_mangle)]
-pub extern "C" fn bellbadger_tray_withdraw(tray: Tray, band: usize) -> CallNumbers
+pub fn bellbadger_tray_withdraw(tray: Tray, band: usize) -> CallNumbers
     ensures { result ≡ call_shown (withdraw_of tray band) }
 {
     call_numbers(traycalls::withdraw(tray, band))
@@ -152,8 +145,7 @@ fn number_of(verdict: TrayVerdict) -> u8
     }
 }
 
-#[unsafe(no_mangle)]
-pub extern "C" fn bellbadger_tray_verdict(tray: Tray) -> VerdictNumbers
+pub fn bellbadger_tray_verdict(tray: Tray) -> VerdictNumbers
     ensures { result ≡ verdict_shown (verdict_of tray) }
 {
     let verdict = traycalls::ask_verdict(tray);

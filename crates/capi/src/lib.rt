@@ -83,31 +83,27 @@ const MINOR: u32 = 8;
 const STATE_SIZE: usize = 27832;
 
 // The version that the library was built with: the major number times 65,536, and the minor one.
-#[unsafe(no_mangle)]
-pub extern "C" fn bellbadger_version() -> u32
+pub fn bellbadger_version() -> u32
     ensures { result ≡ 5 * 65536 + 8 }
 {
     MAJOR * 65536 + MINOR
 }
 
 // The size of the judge that the library was built with.
-#[unsafe(no_mangle)]
-pub extern "C" fn bellbadger_state_size() -> usize
+pub fn bellbadger_state_size() -> usize
     ensures { result ≡ 27832 }
 {
     STATE_SIZE
 }
 
-#[unsafe(no_mangle)]
-pub extern "C" fn bellbadger_new() -> Judge
+pub fn bellbadger_new() -> Judge
     ensures { result ≡ fresh }
 {
     judge::new_judge()
 }
 
 // The rule in a file, by value; no judge is asked for.
-#[unsafe(no_mangle)]
-pub extern "C" fn bellbadger_read(file: &[u8]) -> ReadNumbers
+pub fn bellbadger_read(file: &[u8]) -> ReadNumbers
     ensures { result ≡ read_shown (read_of file.now) }
 {
     let reading = rulefile::read(file);
@@ -145,15 +141,13 @@ fn install_numbers(res: InstallResult) -> InstallNumbers
     }
 }
 
-#[unsafe(no_mangle)]
-pub extern "C" fn bellbadger_install(judge: Judge, rule: Rule) -> InstallNumbers
+pub fn bellbadger_install(judge: Judge, rule: Rule) -> InstallNumbers
     ensures { result ≡ install_shown (install_of judge rule) }
 {
     install_numbers(judge::install(judge, rule))
 }
 
-#[unsafe(no_mangle)]
-pub extern "C" fn bellbadger_load(judge: Judge, file: &[u8]) -> InstallNumbers
+pub fn bellbadger_load(judge: Judge, file: &[u8]) -> InstallNumbers
     ensures { result ≡ install_shown (load_of judge file.now) }
 {
     install_numbers(judge::load(judge, file))
@@ -173,20 +167,13 @@ fn call_numbers(res: CallResult) -> CallNumbers
     }
 }
 
-#[unsafe(no_mangle)]
-pub extern "C" fn bellbadger_open(judge: Judge, places: usize) -> CallNumbers
+pub fn bellbadger_open(judge: Judge, places: usize) -> CallNumbers
     ensures { result ≡ call_shown (open_of judge places) }
 {
     call_numbers(judge::open(judge, places))
 }
 
-#[unsafe(no_mangle)]
-pub extern "C" fn bellbadger_deliver(
-    judge: Judge,
-    place: usize,
-    revision: u32,
-    chunk: &[u8],
-) -> DeliverNumbers
+pub fn bellbadger_deliver(judge: Judge, place: usize, revision: u32, chunk: &[u8]) -> DeliverNumbers
     ensures { result ≡ deliver_shown (deliver_of judge place revision chunk.now) }
 {
     let delivery = judge::deliver(judge, place, revision, chunk);
@@ -208,8 +195,7 @@ pub extern "C" fn bellbadger_deliver(
     }
 }
 
-#[unsafe(no_mangle)]
-pub extern "C" fn bellbadger_withdraw(judge: Judge, place: usize) -> CallNumbers
+pub fn bellbadger_withdraw(judge: Judge, place: usize) -> CallNumbers
     ensures { result ≡ call_shown (withdraw_of judge place) }
 {
     call_numbers(judge::withdraw(judge, place))
@@ -252,16 +238,14 @@ fn shown(report: Report) -> VerdictNumbers
     }
 }
 
-#[unsafe(no_mangle)]
-pub extern "C" fn bellbadger_verdict(judge: Judge) -> VerdictNumbers
+pub fn bellbadger_verdict(judge: Judge) -> VerdictNumbers
     ensures { result ≡ verdict_shown (report_of judge) }
 {
     shown(judge::ask_verdict(judge))
 }
 
 // The calls that the text records, and the verdict after them.
-#[unsafe(no_mangle)]
-pub extern "C" fn bellbadger_replay(text: &[u8]) -> ReplayNumbers
+pub fn bellbadger_replay(text: &[u8]) -> ReplayNumbers
     ensures { result ≡ replay_shown (replay_of (record_in text.now)) }
 {
     let replayed = replay::replay(text);
