@@ -23,12 +23,12 @@ loop-q-preserved c =
     let test = leads a.targets.now a.set in (
       search rules,
       (elim c.if-leads.branch [
-      then-leads w ↦ w.found-is
-          ∙ w.union-found.ensures
-          ∙ ap (bit_or l.found) w.singleton.ensures
-          ∙ mask_add test l.q l.found l.invariant.1 (sym c.leads.ensures ∙ w.if-leads.true)
-      | else-leads w ↦ w.found-is ∙ mask_skip test l.q l.found l.invariant.1 (sym c.leads.ensures ∙ w.if-leads.false)
-    ]),
+        | then-leads w ↦ w.found-is
+            ∙ w.union-found.ensures
+            ∙ ap (bit_or l.found) w.singleton.ensures
+            ∙ mask_add test l.q l.found l.invariant.1 (sym c.leads.ensures ∙ w.if-leads.true)
+        | else-leads w ↦ w.found-is ∙ mask_skip test l.q l.found l.invariant.1 (sym c.leads.ensures ∙ w.if-leads.false)
+      ]),
     )
 
 pub returns : goal.returns

@@ -26,4 +26,4 @@ returns-in-Refused c =
     let f = c.args.file.now in
     let g = c.read-reading in
     let e : g.result.answer ≡ Refused c.in-Refused.number = c.in-Refused.is in
-    rw (← text_unread f c.in-Refused.number (ap (λ (c.answer-1.given : Reading). c.answer-1.given.number) (sym g.ensures) ∙ ap answer_number e)) c.put_refused.ensures
+    rw (← text_unread f c.in-Refused.number (ap (λ (x : Reading). x.number) (sym g.ensures) ∙ ap answer_number e)) c.put_refused.ensures

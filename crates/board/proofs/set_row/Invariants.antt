@@ -1,0 +1,13 @@
+-- `set_row` meets its contract: the first q cells of the place's row are stored. Assumes nothing.
+use Prim.Native.Nat.{◌-◌, ◌≤◌, ◌<◌}
+use native.Mathlib.Omega.{arith}
+use lib.ListN.{get_or}
+use borrow.Author.Rules.{rules}
+use Rattle.board.proofs.Rows.{Stored, none_stored, one_stored, row_stored}
+use Rattle.board.proofs.set_row.Given as goal
+
+abbrev pub invariant-loop-q : goal.invariant-loop-q
+invariant-loop-q l = (l.q ≤ 32) × (l.place < 64) × Stored l.initial.ends l.place (λ i. get_or l.row i 0) l.q l.ends
+
+abbrev pub decreases-loop-q : goal.decreases-loop-q
+decreases-loop-q l = 32 - l.q

@@ -1,0 +1,6 @@
+-- `summed` meets its contract. Assumes nothing.
+use borrow.Author.Rules.{rules}
+use Rattle.board.proofs.summed.Goals as goal
+
+pub returns : goal.returns
+returns c = rw (← c.places_of.ensures) c.sum_up.ensures

@@ -1,0 +1,28 @@
+-- `join_places` meets its contract: the set is C after the places passed. Assumes nothing.
+use mathlib.Core.Path.{◌≡◌, refl}
+use Prim.Native.Nat.{◌-◌, ◌≤◌}
+use native.Mathlib.Omega.{arith}
+use borrow.Author.Rules.{rules}
+use Rattle.joins.specs.Joining.{join_of, join_up_to}
+use Rattle.joins.proofs.Places.{place_more}
+use Rattle.joins.proofs.join_places.Goals as goal
+
+pub loop-place-init : goal.loop-place-init
+unfolding join_of
+loop-place-init c = (omega arith, refl)
+
+pub loop-place-preserved : goal.loop-place-preserved
+loop-place-preserved c =
+    let x = c.loop-place in
+    let s = c.at_most_u8-states in
+    let a = c.args in (
+      omega arith,
+      place_more a.ends.now a.delegates.now a.n a.initials x.place s.result x.set c.join_place-set.result s.ensures x.invariant.1
+          c.join_place-set.ensures,
+    )
+
+pub returns : goal.returns
+returns c =
+    let x = c.loop-place in
+    let e : x.place ≡ c.args.places = omega arith in
+    rw (← e) x.invariant.1

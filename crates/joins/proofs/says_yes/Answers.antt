@@ -1,0 +1,6 @@
+-- `says_yes` meets its contract. Assumes nothing.
+use borrow.Author.Rules.{rules}
+use Rattle.joins.proofs.says_yes.Goals as goal
+
+pub returns : goal.returns
+returns c = rw (← c.join.ensures) c.meets.ensures

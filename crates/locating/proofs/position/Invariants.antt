@@ -1,0 +1,16 @@
+-- `position` meets its contract: what is passed and what is left to pass make the whole. Assumes
+-- nothing.
+use mathlib.Core.Path.{◌≡◌, sym, ap, ◌∙◌}
+use mathlib.Core.Logic.{⊎_elim}
+use Prim.Native.Nat.{ℕ, ◌+◌, ◌-◌, ◌≤◌}
+use native.Mathlib.Omega.{arith}
+use lib.ListN.{length, drop}
+use Rattle.locating.specs.Positions.{position_of}
+use Rattle.locating.proofs.Positions.{found_here, at-end, past_mark, past_byte}
+use Rattle.locating.proofs.position.Given as goal
+
+abbrev pub invariant-loop-i : goal.invariant-loop-i
+invariant-loop-i l = (l.i ≤ length l.chunk) × (l.i + position_of (drop l.i l.chunk) l.left ≡ position_of l.chunk l.bytes)
+
+abbrev pub decreases-loop-i : goal.decreases-loop-i
+decreases-loop-i l = length l.chunk - l.i

@@ -1,0 +1,16 @@
+-- `run_kept` meets its contract. Assumes nothing.
+use mathlib.Core.Path.{ap, ◌∙◌}
+use Prim.Native.Nat.{◌+◌, ◌-◌, ◌≤◌, ◌<◌}
+use native.Mathlib.Omega.{arith}
+use borrow.Author.Rules.{rules}
+use lib.ListN.{length}
+use Rattle.chunks.specs.mirror.Walks.{mask_of}
+use Rattle.locating.specs.mirror.Pruning.{pruned}
+use Rattle.locating.proofs.ByRun.{Ran, not_yet, run_dead, run_next, run_whole}
+use Rattle.locating.proofs.run_kept.Given as goal
+
+abbrev pub invariant-loop-i : goal.invariant-loop-i
+invariant-loop-i l = (l.i ≤ length l.text) × (l.set < 512) × Ran (pruned l.sets l.next l.live l.count) l.initial.set l.text l.i l.set
+
+abbrev pub decreases-loop-i : goal.decreases-loop-i
+decreases-loop-i l = length l.text - l.i

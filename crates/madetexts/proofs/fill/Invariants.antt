@@ -1,0 +1,18 @@
+-- `fill` meets its contract. The loop's invariant: what is filled in, and then the text made from the
+-- value reached, is the whole text. Assumes nothing.
+use mathlib.Core.Path.{◌≡◌, refl}
+use mathlib.Core.List.{◌++◌}
+use Prim.Native.Nat.{◌≤◌, ◌-◌}
+use native.Mathlib.Omega.{arith}
+use lib.ListN.{length, take}
+use borrow.Author.Rules.{rules}
+use Rattle.madetexts.specs.Values.{made_text}
+use Rattle.madetexts.proofs.Filling.{filled_none, filled_more, filled_all, filled_less, below_byte}
+use Rattle.madetexts.proofs.fill.Given as goal
+
+abbrev pub invariant-loop-i : goal.invariant-loop-i
+invariant-loop-i l =
+    (l.i ≤ length l.text) × (length l.text ≡ length l.initial.text) × (made_text l.k l.seed (length l.initial.text) ≡ take l.i l.text ++ made_text l.k l.x (length l.initial.text - l.i))
+
+abbrev pub decreases-loop-i : goal.decreases-loop-i
+decreases-loop-i l = length l.text - l.i

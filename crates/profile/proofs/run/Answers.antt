@@ -1,0 +1,7 @@
+-- `run` meets its contract. Assumes nothing.
+use Rattle.profile.proofs.Ways.{lent_all}
+use borrow.Author.Rules.{rules}
+use Rattle.profile.proofs.run.Goals as goal
+
+pub returns : goal.returns
+returns c = c.run_lent.ensures _ (lent_all _)
