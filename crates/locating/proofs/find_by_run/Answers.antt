@@ -8,7 +8,7 @@ use Rattle.base.specs.Totals.{greatest}
 use Rattle.base.proofs.Conditions.{none_yet}
 use Rattle.locating.specs.mirror.Pruning.{pruned}
 use Rattle.locating.proofs.ByRun.{Over, one_left, over_run, over_other, all_over}
-use Rattle.locating.proofs.find_by_run.Goals.{else-member, then-member}
+use Rattle.locating.proofs.find_by_run.Goals.{else-member, then-member+else-run-gt0}
 use Rattle.locating.proofs.find_by_run.Goals as goal
 
 pub loop-q-init : goal.loop-q-init
@@ -32,10 +32,10 @@ loop-q-preserved c =
     let tested = c.member.ensures in (
       omega arith,
       (elim c.if-member.branch [
-        | then-member w ↦ subst over (sym (w.6 ∙ w.5.ensures))
+        | then-member+else-run-gt0 w ↦ subst over (sym (w.looked-is ∙ w.greater-looked.ensures))
             (over_run a.sets.now cut a.singles.now a.starts a.text.now loop.q here loop.looked loop.invariant.1
-            (sym tested ∙ w.if-run-gt0.true) _ _ w.2.ensures.0 w.4.left w.2.ensures.1)
-        | else-member w ↦ subst over (sym w.1)
+            (sym tested ∙ w.if-member.true) _ _ w.run_kept-run.ensures.mask_value w.if-run-gt0.false w.run_kept-run.ensures.looked_value)
+        | else-member w ↦ subst over (sym w.looked-is)
             (over_other a.sets.now cut a.singles.now a.starts a.text.now loop.q here loop.looked loop.invariant.1
             (sym tested ∙ w.if-member.false))
       ]),

@@ -13,7 +13,8 @@ pub returns-then-set-ge-EMPTY : goal.returns-then-set-ge-EMPTY
 returns-then-set-ge-EMPTY c =
     let a = c.args in
     let cut = pruned a.sets.now a.next.now a.live a.count in
-    run_dead cut a.from.0 a.text.now 0 a.from.0 (not_yet cut a.from.0 a.text.now) a.sets.now c.if-set-ge-EMPTY.true
+    let d = run_dead cut a.from.0 a.text.now 0 a.from.0 (not_yet cut a.from.0 a.text.now) a.sets.now c.if-set-ge-EMPTY.true in
+    record { mask_value = d.0; looked_value = d.1 }
 
 pub loop-i-init : goal.loop-i-init
 loop-i-init c = (omega arith, search rules, not_yet _ _ _)
@@ -26,7 +27,8 @@ returns-then-set-ge-EMPTY-2 c =
     let set = c.kept_step-after.result.0 in
     let ran : Ran cut a.from.0 a.text.now (l.i + 1) set =
     run_next cut a.from.0 a.text.now l.i l.set l.invariant.2 (omega arith) l.invariant.1 set c.kept_step-after.ensures in
-    run_dead cut a.from.0 a.text.now (l.i + 1) set ran a.sets.now c.if-set-ge-EMPTY-2.true
+    let d = run_dead cut a.from.0 a.text.now (l.i + 1) set ran a.sets.now c.if-set-ge-EMPTY-2.true in
+    record { mask_value = d.0; looked_value = d.1 }
 
 pub loop-i-preserved : goal.loop-i-preserved
 loop-i-preserved c =

@@ -1,0 +1,16 @@
+-- `equal_cells` meets its contract. The loop's invariant: the count is that of the symbols passed. Assumes nothing.
+use mathlib.Core.Path.{◌≡◌, refl}
+use Prim.Native.Nat.{◌≤◌, ◌-◌}
+use native.Mathlib.Omega.{arith}
+use borrow.Author.Rules.{rules}
+use Rattle.base.specs.Totals.{total}
+use Rattle.forms.specs.Form.{equal_cells}
+use mathlib.Core.Logic.{inl, inr, ⊎_elim}
+use Rattle.formmaker.proofs.Turns.{equal_more}
+use Rattle.formmaker.proofs.equal_cells.Given as goal
+
+abbrev pub invariant-loop-s : goal.invariant-loop-s
+invariant-loop-s l = (l.s ≤ l.k) × (l.count ≤ l.s) × (l.count ≡ equal_cells l.next l.s l.t l.u)
+
+abbrev pub decreases-loop-s : goal.decreases-loop-s
+decreases-loop-s l = l.k - l.s

@@ -1,0 +1,15 @@
+-- `failure_of` meets its contract. Assumes nothing.
+use mathlib.Core.Path.{◌≡◌, refl}
+use mathlib.Core.Logic.{inl, inr, ⊎_elim}
+use Prim.Native.Nat.{◌≤◌, ◌-◌}
+use native.Mathlib.Omega.{arith}
+use borrow.Author.Rules.{rules}
+use Rattle.forms.specs.Form.{equal_cells, best_below}
+use Rattle.formmaker.proofs.Turns.{best_more}
+use Rattle.formmaker.proofs.failure_of.Given as goal
+
+abbrev pub invariant-loop-u : goal.invariant-loop-u
+invariant-loop-u l = (l.u ≤ l.t) × (l.best ≤ l.u) × (l.best ≡ best_below l.next l.k l.t l.u) × (l.most ≡ equal_cells l.next l.k l.t l.best)
+
+abbrev pub decreases-loop-u : goal.decreases-loop-u
+decreases-loop-u l = l.t - l.u

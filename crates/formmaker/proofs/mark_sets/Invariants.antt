@@ -1,0 +1,18 @@
+-- `mark_sets` meets its contract. The loop's invariant: the sets passed are marked, and the other cells are 0. Assumes nothing.
+use mathlib.Core.Path.{◌≡◌, ap, ◌∙◌}
+use mathlib.Core.Bool.{cond}
+use Prim.Native.Nat.{ℕ, ◌≤◌, ◌-◌}
+use native.Mathlib.Omega.{arith}
+use borrow.Author.Rules.{rules}
+use lib.Dec.{ltb}
+use lib.ListN.{length, length-set, length-replicate}
+use Rattle.base.proofs.Lists.{is_list_from}
+use Rattle.forms.specs.Form.{failure_of, kept_mask}
+use Rattle.forms.proofs.Filling.{Filled, filled_none, fill_more}
+use Rattle.formmaker.proofs.mark_sets.Given as goal
+
+abbrev pub invariant-loop-t : goal.invariant-loop-t
+invariant-loop-t l = (l.t ≤ l.sets) × (length l.failure ≡ 512) × (length l.kept ≡ 512) × Filled 512 0 (failure_of l.next l.k) l.t l.failure × Filled 512 0 (kept_mask l.next l.k) l.t l.kept
+
+abbrev pub decreases-loop-t : goal.decreases-loop-t
+decreases-loop-t l = l.sets - l.t

@@ -1,0 +1,46 @@
+-- `pack` meets its contract. The loop's invariant: the cells are those packed so far, and 0. Assumes nothing.
+use mathlib.Core.Path.{◌≡◌, refl, ap, ◌∙◌}
+use mathlib.Core.Logic.{inl, inr, ⊎_elim}
+use Prim.Native.Nat.{ℕ, ◌≤◌, ◌-◌, ◌*◌}
+use native.Mathlib.Omega.{arith}
+use borrow.Author.Rules.{rules}
+use lib.ListN.{length, get_or, length-replicate}
+use Rattle.base.proofs.Lists.{is_list_from, zero_cells}
+use Rattle.base.specs.Totals.{total}
+use Rattle.forms.specs.Form.{how_many, kept_at, picked}
+use Rattle.formmaker.proofs.Turns.{Packed, packed_none, pack_more}
+use Rattle.formmaker.proofs.pack.Goals.{else-has_symbol, then-has_symbol}
+use Rattle.formmaker.proofs.pack.Goals as goal
+
+pub loop-c-init : goal.loop-c-init
+unfolding total
+loop-c-init c =
+    let a = c.args in
+    let e = c.requires.1 in (
+      omega arith,
+      refl,
+      omega arith,
+      ap length e ∙ length-replicate {A = ℕ} 8192 0,
+      packed_none (kept_at a.kept.now) (λ j. get_or a.next.now j 0) a.cells.now (λ i. ap (λ l. get_or l i 0) e ∙ zero_cells 8192 i),
+    )
+
+pub loop-c-preserved : goal.loop-c-preserved
+loop-c-preserved c =
+    let l = c.loop-c in
+    let a = c.args in
+    let e = c.has_symbol in
+    let r = pack_more (kept_at a.kept.now) (λ j. get_or a.next.now j 0) l.c l.at c.if-has_symbol.at l.cells c.if-has_symbol.cells e.result e.ensures
+    l.invariant.1 l.invariant.2 (omega arith) l.invariant.3 l.invariant.4
+    ((elim c.if-has_symbol.branch [
+      | then-has_symbol x ↦ inl (x.if-has_symbol.true, x.cells-is, x.at-is)
+      | else-has_symbol x ↦ inr (x.if-has_symbol.false, x.cells-is, x.at-is)
+    ])) in
+    (omega arith, r.0, r.1, r.2, r.3)
+
+pub returns : goal.returns
+returns c =
+    let l = c.loop-c in
+    let a = c.args in
+    let q : l.c ≡ a.sets * 16 = omega arith in
+    is_list_from l.cells 8192 (λ i. get_or (picked (kept_at a.kept.now) (λ j. get_or a.next.now j 0) (a.sets * 16)) i 0) l.invariant.3
+    (λ i b. l.invariant.4 i b ∙ ap (λ (n : ℕ). get_or (picked (kept_at a.kept.now) (λ j. get_or a.next.now j 0) n) i 0) q)

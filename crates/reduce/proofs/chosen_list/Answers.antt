@@ -1,0 +1,29 @@
+-- `chosen_list` meets its contract: the cells below q are done. Assumes nothing.
+use mathlib.Core.Path.{◌≡◌, ◌∙◌}
+use Prim.Native.Nat.{ℕ, ◌-◌, ◌<◌, ◌≤◌}
+use native.Mathlib.Omega.{arith}
+use borrow.Author.Rules.{rules}
+use lib.ListN.{length, get_or, length-set, length-replicate}
+use Rattle.base.proofs.Lists.{is_list_from, cell_stored}
+use Rattle.reducing.specs.Reduced.{chosen_cell}
+use Rattle.reduce.proofs.chosen_list.Goals as goal
+
+pub loop-q-init : goal.loop-q-init
+loop-q-init c = (length-replicate {A = ℕ} 32 0, omega arith, λ i l. absurd (omega arith))
+
+pub loop-q-preserved : goal.loop-q-preserved
+loop-q-preserved c =
+    let x = c.loop-q in
+    let a = c.args in
+    let l : x.q < length x.list = omega (arith, x.invariant.0, c.loop-q-test.true) in (
+      length-set x.list x.q c.chosen_cell.result ∙ x.invariant.0,
+      omega arith,
+      cell_stored x.list (chosen_cell a.delegates.now a.reached) x.q c.chosen_cell.result l c.chosen_cell.ensures x.invariant.2,
+    )
+
+pub returns : goal.returns
+returns c =
+    let x = c.loop-q in
+    let a = c.args in
+    let e : x.q ≡ 32 = omega arith in
+    is_list_from x.list 32 (chosen_cell a.delegates.now a.reached) x.invariant.0 (λ i l. x.invariant.2 i (omega arith))

@@ -1,0 +1,18 @@
+-- `onward` meets its contract. The loop's invariant: `found` is gathered from the symbols below s.
+-- Assumes nothing.
+use mathlib.Core.Path.{◌≡◌, refl, ap, ◌∙◌}
+use Prim.Native.Nat.{ℕ, ◌-◌, ◌≤◌}
+use native.Mathlib.Omega.{arith}
+use lib.Bits.{bit_or}
+use borrow.Author.Rules.{rules}
+use Rattle.automaton.specs.Successor.{successor}
+use Rattle.reducing.specs.Reduced.{gather, delegated}
+use Rattle.reduce.proofs.Ways.{gather_more}
+use Rattle.reduce.proofs.onward.Given as goal
+
+abbrev pub invariant-loop-s : goal.invariant-loop-s
+invariant-loop-s l =
+    (l.s ≤ 16) × (l.found ≡ gather (λ x. delegated l.delegates (successor l.targets l.set x)) l.s)
+
+abbrev pub decreases-loop-s : goal.decreases-loop-s
+decreases-loop-s l = 16 - l.s

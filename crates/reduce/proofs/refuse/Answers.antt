@@ -1,0 +1,11 @@
+-- `refuse` meets its contract. Assumes nothing.
+use mathlib.Core.Path.{ap}
+use borrow.Author.Rules.{rules}
+use mathlib.Core.Bool.{false}
+use mathlib.Core.Option.{some}
+use Rattle.automaton.specs.declared.Rule.{Rule}
+use Rattle.reduce.proofs.refuse.Goals as goal
+
+pub returns : goal.returns
+returns c =
+    ap (λ (r : Rule). record { number = some c.args.number; installs = false; rule = r }) c.no_rule-rule.ensures

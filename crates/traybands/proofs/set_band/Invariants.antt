@@ -1,0 +1,12 @@
+-- `set_band` meets its contract: the first i cells of the band are stored. Assumes nothing.
+use Prim.Native.Nat.{◌-◌, ◌≤◌, ◌<◌}
+use native.Mathlib.Omega.{arith}
+use borrow.Author.Rules.{rules}
+use Rattle.traybands.proofs.Cells.{Stored, none_stored, one_stored, band_stored}
+use Rattle.traybands.proofs.set_band.Given as goal
+
+abbrev pub invariant-loop-i : goal.invariant-loop-i
+invariant-loop-i l = (l.i ≤ 1024) × (l.band < 8) × Stored l.initial.cells l.band l.bytes l.i l.cells
+
+abbrev pub decreases-loop-i : goal.decreases-loop-i
+decreases-loop-i l = 1024 - l.i

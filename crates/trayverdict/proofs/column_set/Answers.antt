@@ -1,0 +1,36 @@
+-- `column_set` meets its contract: the set after the bands before p. Assumes nothing.
+use mathlib.Core.Path.{◌≡◌, refl}
+use Prim.Native.Nat.{◌-◌, ◌≤◌}
+use native.Mathlib.Omega.{arith}
+use lib.ListN.{length}
+use borrow.Author.Rules.{rules}
+use Rattle.automaton.specs.Successor.{after}
+use Rattle.trays.specs.Rows.{rows_up_to, column_of}
+use Rattle.trays.specs.Boards.{band_in}
+use Rattle.trayverdict.proofs.Walks.{column_on, band_fits}
+use Rattle.trayverdict.proofs.column_set.Goals as goal
+
+pub loop-p-init : goal.loop-p-init
+unfolding rows_up_to column_of
+loop-p-init c = (omega arith, refl)
+
+pub column_after-reached-requires : goal.column_after-reached-requires
+column_after-reached-requires c = (
+  band_fits c.loop-p.p c.row_count-count.result c.args.width (length c.args.cells.now) (omega arith) c.row_count-count.ensures.1 c.requires.1 c.requires.0,
+  c.requires.3,
+)
+
+pub loop-p-preserved : goal.loop-p-preserved
+loop-p-preserved c =
+    let x = c.loop-p in
+    let a = c.args in (
+      omega arith,
+      column_on a.targets.now a.initials a.column a.width a.rows.now a.cells.now x.p x.reached x.invariant.1
+          c.row_count-count.result c.row_count-count.ensures.0 c.column_after-reached.result c.column_after-reached.ensures,
+    )
+
+pub returns : goal.returns
+returns c =
+    let x = c.loop-p in
+    let e : x.p ≡ c.args.bands = omega arith in
+    rw (← e) x.invariant.1
