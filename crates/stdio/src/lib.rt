@@ -1,12 +1,12 @@
 // Standard input and output for the programs: nothing is lost in silence. A call that a signal
 // interrupts, or that would have to wait on a descriptor that does not wait, is tried again, for as
 // long as it takes; any other failure is told on standard error. What is known of the bytes that a
-// stream holds is proved of what is read and written; of the system's own streams nothing is known,
-// so that a test holds it.
+// stream holds is proved of what is read and written. Of the system's own streams nothing is known: a
+// test holds those.
 #![tactic(auto)]
 
 ghost use Rattle.std.specs.Prelude.{◌≡◌, ◌≤◌, ◌<◌, length, take, false, true};
-ghost use Rattle.std.specs.Io.KnownBytes.{Appends, Consumes, IsAtEnd, Keeps};
+ghost use Rattle.std.specs.Io.KnownBytes.{Appends, Consumes, IsAtEnd};
 ghost use Rattle.stdio.specs.Blocks.{Whole, Brings};
 
 use std::env::FillError;
