@@ -14,7 +14,7 @@ ghost use Rattle.patterntext.specs.Texts.{pattern_lines};
 
 use longlines::Held;
 use std::io;
-use std::rt::Runtime;
+use stdio::Streams;
 
 // How many bytes are read at once.
 const BLOCK: usize = 65536;
@@ -29,12 +29,12 @@ struct Reading {
     over: bool,
 }
 
-fn write_answers<R: Runtime>(rt: &R, out: &[u8], written: usize) -> bool {
+fn write_answers<R: Streams>(rt: &R, out: &[u8], written: usize) -> bool {
     stdio::write_first(rt, &mut io::writer(rt), b"patternrule", written, out)
 }
 
 // The lines of the first n bytes of a block. `line` keeps a line that goes on.
-fn run_block<R: Runtime>(
+fn run_block<R: Streams>(
     rt: &R,
     held: Held,
     line: &mut [u8; patterntext::LINE],
@@ -62,7 +62,7 @@ fn run_block<R: Runtime>(
 }
 
 // A block is read and its lines are answered; at the end of the input, a last line.
-fn turn<R: Runtime>(
+fn turn<R: Streams>(
     rt: &R,
     held: Held,
     line: &mut [u8; patterntext::LINE],
@@ -82,7 +82,7 @@ fn turn<R: Runtime>(
     Reading { held, over }
 }
 
-fn run<R: Runtime>(
+fn run<R: Streams>(
     rt: &R,
     line: &mut [u8; patterntext::LINE],
     out: &mut [u8; ANSWERS],

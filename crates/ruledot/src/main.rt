@@ -5,15 +5,14 @@
 
 use dottext::Drawing;
 use std::io;
-use std::rt::Runtime;
-use stdio::Input;
+use stdio::{Input, Streams};
 
 // A failure of this line is told nowhere.
 fn write_refused<R: Eprint>(rt: &R, number: u8) {
     let _ = eprintln!(rt; "refused {number}");
 }
 
-fn draw<R: Runtime>(rt: &R, file: &[u8]) {
+fn draw<R: Streams>(rt: &R, file: &[u8]) {
     let mut text = [0u8; limits::GRAPH_TEXT];
     let drawing = dottext::print_whole(file, &mut text);
     match drawing {

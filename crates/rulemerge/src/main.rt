@@ -14,7 +14,7 @@ ghost use Rattle.mergestream.specs.Texts.{merge_lines, merge_state};
 
 use mergescan::Scan;
 use std::io;
-use std::rt::Runtime;
+use stdio::Streams;
 
 // How many bytes are read at once.
 const BLOCK: usize = 65536;
@@ -32,12 +32,12 @@ struct Reading {
     over: bool,
 }
 
-fn write_answers<R: Runtime>(rt: &R, out: &[u8], written: usize) -> bool {
+fn write_answers<R: Streams>(rt: &R, out: &[u8], written: usize) -> bool {
     stdio::write_first(rt, &mut io::writer(rt), b"rulemerge", written, out)
 }
 
 // The lines of the first n bytes of a block. `one` and `two` keep the files of a line that goes on.
-fn run_block<R: Runtime>(
+fn run_block<R: Streams>(
     rt: &R,
     scan: Scan,
     one: &mut [u8; FILE],
@@ -66,7 +66,7 @@ fn run_block<R: Runtime>(
 }
 
 // A block is read and its lines are answered; at the end of the input, a last line.
-fn turn<R: Runtime>(
+fn turn<R: Streams>(
     rt: &R,
     scan: Scan,
     one: &mut [u8; FILE],
@@ -87,7 +87,7 @@ fn turn<R: Runtime>(
     Reading { scan, over }
 }
 
-fn run<R: Runtime>(
+fn run<R: Streams>(
     rt: &R,
     one: &mut [u8; FILE],
     two: &mut [u8; FILE],

@@ -14,6 +14,12 @@ use std::rt::{Clock, Env};
 use std::time::Duration;
 use std::{fmt, io, thread};
 
+// What a program takes of the runtime: its standard streams, memory for a line on standard error, and
+// the clock by which it waits.
+pub trait Streams: io::Input + Print + Eprint + Alloc + Clock {}
+
+impl Streams for HostRuntime {}
+
 // What a read brought: so many bytes at the start of the buffer; none at the end of the input, and
 // where it failed.
 #[derive(Clone, Copy)]
@@ -32,10 +38,10 @@ pub enum Input {
 // How many times a call is tried again: as a proved loop ends, a number, which no run uses up.
 const TRIES: u64 = u64::MAX;
 
-// The first so many tries come as soon as others have run, and each further one after a nap.
+// The first so many tries come as soon as others have run, and each further one after a longer nap.
 const SOON: u64 = 10;
 
-// How long a nap is, in milliseconds.
+// How long such a nap is, in milliseconds.
 const NAP: u64 = 2;
 
 // Bytes shown as text, with a mark in the place of those that are none.
@@ -68,11 +74,12 @@ fn wait<R: Clock>(rt: &R, tries: u64, error: &io::Error) -> u64
     if !is_early(error) {
         return 0;
     }
-    if TRIES - tries < SOON {
-        thread::yield_now();
+    let nap = if TRIES - tries < SOON {
+        Duration::ZERO
     } else {
-        thread::sleep(rt, Duration::from_millis(NAP));
-    }
+        Duration::from_millis(NAP)
+    };
+    thread::sleep(rt, nap);
     tries - 1
 }
 

@@ -17,7 +17,7 @@ ghost use Rattle.stream.specs.Texts.{call_lines};
 use calls::Judge;
 use linetexts::Pending;
 use std::io;
-use std::rt::Runtime;
+use stdio::Streams;
 
 // How many bytes are read at once.
 const BLOCK: usize = 65536;
@@ -35,12 +35,12 @@ struct Reading {
     over: bool,
 }
 
-fn write_answers<R: Runtime>(rt: &R, out: &[u8], written: usize) -> bool {
+fn write_answers<R: Streams>(rt: &R, out: &[u8], written: usize) -> bool {
     stdio::write_first(rt, &mut io::writer(rt), b"tracejudge", written, out)
 }
 
 // The lines of the first n bytes of a block. `line` keeps a line that goes on.
-fn run_block<R: Runtime>(
+fn run_block<R: Streams>(
     rt: &R,
     judge: Judge,
     pending: Pending,
@@ -80,7 +80,7 @@ fn run_block<R: Runtime>(
 }
 
 // A block is read and its lines are answered; at the end of the input, a last line.
-fn turn<R: Runtime>(
+fn turn<R: Streams>(
     rt: &R,
     judge: Judge,
     pending: Pending,
@@ -106,7 +106,7 @@ fn turn<R: Runtime>(
     }
 }
 
-fn run<R: Runtime>(
+fn run<R: Streams>(
     rt: &R,
     line: &mut [u8; limits::LINE],
     bytes: &mut [u8; limits::BYTES],
