@@ -89,14 +89,12 @@ fn run<R: Streams>(
     block: &mut [u8; BLOCK],
 ) {
     let mut held = longlines::nothing();
-    let mut turns = stdio::most_turns();
-    while turns > 0 {
+    for _ in 0..stdio::most_turns() {
         let reading = turn(rt, held, line, out, block);
         if reading.over {
             return;
         }
         held = reading.held;
-        turns -= 1;
     }
 }
 

@@ -95,14 +95,12 @@ fn run<R: Streams>(
     block: &mut [u8; BLOCK],
 ) {
     let mut scan = Scan::Start;
-    let mut turns = stdio::most_turns();
-    while turns > 0 {
+    for _ in 0..stdio::most_turns() {
         let reading = turn(rt, scan, one, two, out, block);
         if reading.over {
             return;
         }
         scan = reading.scan;
-        turns -= 1;
     }
 }
 

@@ -115,15 +115,13 @@ fn run<R: Streams>(
 ) {
     let mut state = followcalls::fresh();
     let mut pending = linetexts::nothing_yet();
-    let mut turns = stdio::most_turns();
-    while turns > 0 {
+    for _ in 0..stdio::most_turns() {
         let reading = turn(rt, state, pending, line, bytes, out, block);
         if reading.over {
             return;
         }
         state = reading.state;
         pending = reading.pending;
-        turns -= 1;
     }
 }
 

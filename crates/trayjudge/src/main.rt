@@ -115,15 +115,13 @@ fn run<R: Streams>(
 ) {
     let mut tray = traycalls::new_tray();
     let mut pending = linetexts::nothing_yet();
-    let mut turns = stdio::most_turns();
-    while turns > 0 {
+    for _ in 0..stdio::most_turns() {
         let reading = turn(rt, tray, pending, line, bytes, out, block);
         if reading.over {
             return;
         }
         tray = reading.tray;
         pending = reading.pending;
-        turns -= 1;
     }
 }
 
