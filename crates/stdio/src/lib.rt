@@ -186,6 +186,7 @@ pub fn read_block<R: Eprint + Alloc + Clock, I: io::Read>(
     block: &mut [u8],
 ) -> Read
     ensures bound { result.length ≤ length block.new }
+    ensures none_where_failed { result.failed ≡ true → result.length ≡ 0 }
     ensures bytes { Consumes (I.remaining input.old) (I.remaining input.new) (take result.length block.new) }
     ensures end { result.failed ≡ false → result.length ≡ 0 → 0 < length block.new → IsAtEnd (I.remaining input.new) }
 {
@@ -250,4 +251,104 @@ pub fn has_arguments<R: Env + Eprint>(rt: &R, usage: &[u8]) -> bool {
     }
     let _ = eprint!(rt; "{}", Shown(usage));
     true
+}
+
+#[cfg(test)]
+mod tests {
+    use super::*;
+    use std::io::{Error, ErrorKind};
+    use std::test::Fail;
+
+    // A stream that is interrupted at every other call, and else moves a byte; past so many bytes
+    // each call fails.
+    #[derive(Drop)]
+    struct Halting {
+        bytes: [u8; 6],
+        at: usize,
+        whole: usize,
+        is_late: bool,
+    }
+
+    fn make_halting(bytes: [u8; 6], whole: usize) -> Halting {
+        Halting {
+            bytes,
+            at: 0,
+            whole,
+            is_late: false,
+        }
+    }
+
+    impl Halting {
+        fn turn(&mut self) -> io::Result<()> {
+            self.is_late = !self.is_late;
+            if self.is_late {
+                return Err(Error::from(ErrorKind::Interrupted));
+            }
+            if self.whole <= self.at {
+                return Err(Error::from(ErrorKind::BrokenPipe));
+            }
+            Ok(())
+        }
+    }
+
+    impl io::Read for Halting {
+        fn read(&mut self, buf: &mut [u8]) -> io::Result<usize> {
+            self.turn()?;
+            if buf.is_empty() || self.bytes.len() <= self.at {
+                return Ok(0);
+            }
+            buf[0] = self.bytes[self.at];
+            self.at += 1;
+            Ok(1)
+        }
+    }
+
+    impl io::Write for Halting {
+        fn write(&mut self, buf: &[u8]) -> io::Result<usize> {
+            self.turn()?;
+            if buf.is_empty() || self.bytes.len() <= self.at {
+                return Ok(0);
+            }
+            self.bytes[self.at] = buf[0];
+            self.at += 1;
+            Ok(1)
+        }
+
+        fn flush(&mut self) -> io::Result<()> {
+            Ok(())
+        }
+    }
+
+    #[test]
+    fn reads_all(rt: HostRuntime) -> Result<(), Fail> {
+        let mut buffer = [0u8; 5];
+        let read = read_all(&rt, &mut make_halting(*b"abcdef", 6), b"test", &mut buffer);
+        assert!(rt; matches!(read, Input::Bytes(5)));
+        assert_eq!(rt; buffer.as_slice(), b"abcde".as_slice());
+        Ok(())
+    }
+
+    #[test]
+    fn reads_to_a_failure(rt: HostRuntime) -> Result<(), Fail> {
+        let mut buffer = [0u8; 5];
+        let read = read_all(&rt, &mut make_halting(*b"abcdef", 3), b"test", &mut buffer);
+        assert!(rt; matches!(read, Input::Failed));
+        Ok(())
+    }
+
+    #[test]
+    fn writes_all(rt: HostRuntime) -> Result<(), Fail> {
+        let mut output = make_halting([0; 6], 6);
+        assert!(rt; write_first(&rt, &mut output, b"test", 5, b"abcdef"));
+        assert_eq!(rt; output.bytes.as_slice(), b"abcde\0".as_slice());
+        Ok(())
+    }
+
+    #[test]
+    fn writes_to_a_failure(rt: HostRuntime) -> Result<(), Fail> {
+        let mut output = make_halting([0; 6], 3);
+        assert!(rt; !write_all(&rt, &mut output, b"test", b"abcdef"));
+        assert_eq!(rt; output.bytes.as_slice(), b"abc\0\0\0".as_slice());
+        Ok(())
+    }
 }
