@@ -1,103 +1,97 @@
 // Reads rule files from standard input, a line `NAME HEX` each with `-` for no bytes, and prints
 // the name with what the reader answers, and then what ruleprint prints for the file.
+#![tactic(auto)]
+
 use automaton::Rule;
 use base::Answer;
 use fields::Bytes;
-use libc::{STDIN_FILENO, STDOUT_FILENO};
+use std::io;
+use stdio::Input;
 
 // ` STATE.SYMBOL=MASK` for a cell that is not empty.
-fn print_cell(cell: usize, mask: u32) {
-    if mask != 0 {
-        io::write_all(STDOUT_FILENO, b" ");
-        io::print_decimal(STDOUT_FILENO, (cell / limits::SYMBOLS) as u64);
-        io::write_all(STDOUT_FILENO, b".");
-        io::print_decimal(STDOUT_FILENO, (cell % limits::SYMBOLS) as u64);
-        io::write_all(STDOUT_FILENO, b"=");
-        io::print_hex(STDOUT_FILENO, mask as u64, 1);
+fn print_cell<R: Print>(rt: &R, cell: usize, mask: u32) -> io::Result<()> {
+    if mask == 0 {
+        return Ok(());
     }
+    let state = cell / limits::SYMBOLS;
+    let symbol = cell % limits::SYMBOLS;
+    print!(rt; " {state}.{symbol}={mask:x}")
 }
 
-fn print_cells(targets: &[u32; limits::TARGETS]) {
-    let mut cell: usize = 0;
-    while cell < limits::TARGETS {
-        print_cell(cell, targets[cell]);
-        cell += 1;
+fn print_cells<R: Print>(rt: &R, targets: &[u32; limits::TARGETS]) -> io::Result<()> {
+    for (cell, mask) in targets.iter().enumerate() {
+        print_cell(rt, cell, *mask)?;
     }
+    Ok(())
 }
 
-fn print_head(rule: Rule) {
-    io::write_all(STDOUT_FILENO, b"accepted ");
-    io::print_decimal(STDOUT_FILENO, rule.n as u64);
-    io::write_all(STDOUT_FILENO, b" ");
-    io::print_decimal(STDOUT_FILENO, rule.k as u64);
-    io::write_all(STDOUT_FILENO, b" ");
-    io::print_hex(STDOUT_FILENO, rule.initials as u64, 1);
-    io::write_all(STDOUT_FILENO, b" ");
-    io::print_hex(STDOUT_FILENO, rule.finals as u64, 1);
+fn print_head<R: Print>(rt: &R, rule: &Rule) -> io::Result<()> {
+    let n = rule.n;
+    let k = rule.k;
+    let initials = rule.initials;
+    let finals = rule.finals;
+    print!(rt; "accepted {n} {k} {initials:x} {finals:x}")
 }
 
 // What the reader answers to a file.
-fn print_answer(file: &[u8]) {
+fn print_answer<R: Print>(rt: &R, file: &[u8]) -> io::Result<()> {
     let reading = rulefile::read(file);
-    let rule = reading.rule;
-    let answer = reading.answer;
-    match answer {
+    match reading.answer {
         Answer::Accepted => {
-            print_head(rule);
-            print_cells(&rule.targets);
+            print_head(rt, &reading.rule)?;
+            print_cells(rt, &reading.rule.targets)
         }
-        Answer::Refused(number) => {
-            io::write_all(STDOUT_FILENO, b"refused ");
-            io::print_decimal(STDOUT_FILENO, number as u64);
-        }
+        Answer::Refused(number) => print!(rt; "refused {number}"),
     }
 }
 
 // What ruleprint prints for a file.
-fn print_text(file: &[u8]) {
+fn print_text<R: Print>(rt: &R, file: &[u8]) -> io::Result<()> {
     let mut text = [0u8; limits::RULE_TEXT];
     let length = ruletext::print_whole(file, &mut text);
-    io::write_all(STDOUT_FILENO, &text[..length]);
+    rt.write_all(&text[..length])
 }
 
-fn print_case(file: &[u8]) {
-    print_answer(file);
-    io::write_all(STDOUT_FILENO, b"\n");
-    print_text(file);
+fn print_case<R: Print>(rt: &R, file: &[u8]) -> io::Result<()> {
+    print_answer(rt, file)?;
+    println!(rt)?;
+    print_text(rt, file)
 }
 
 // One case.
-fn run_case(line: &[u8]) {
+fn run_case<R: Print>(rt: &R, line: &[u8]) -> io::Result<()> {
     let space = lines::find(line, 0, b' ');
     if line.len() <= space {
-        return;
+        return Ok(());
     }
     let hex = space + 1;
-    io::write_all(STDOUT_FILENO, &line[..space]);
+    rt.write_all(&line[..space])?;
     let mut file = [0u8; limits::FILE_ROOM];
     let bytes = fields::read_bytes(&line[hex..], &mut file);
     match bytes {
-        Bytes::Malformed => {
-            io::write_all(STDOUT_FILENO, b" malformed\n");
-        }
+        Bytes::Malformed => println!(rt; " malformed"),
         Bytes::Put(n) => {
-            io::write_all(STDOUT_FILENO, b" ");
-            print_case(&file[..n]);
+            print!(rt; " ")?;
+            print_case(rt, &file[..n])
         }
     }
 }
 
-fn run_cases(text: &[u8]) {
+fn run_cases<R: Print>(rt: &R, text: &[u8]) -> io::Result<()> {
     let mut at: usize = 0;
     while at < text.len() {
         let end = lines::find(text, at, b'\n');
-        run_case(&text[at..end]);
+        run_case(rt, &text[at..end])?;
         at = end + 1;
     }
+    Ok(())
 }
 
-fn main() {
+fn main(rt: HostRuntime) -> io::Result<()> {
     let mut text = [0u8; limits::CASES_TEXT];
-    let n = io::read_full(STDIN_FILENO, &mut text);
-    run_cases(&text[..n]);
+    let read = stdio::read_all(&rt, &mut rt.stdin(), b"rule_cases", &mut text);
+    let Input::Bytes(n) = read else {
+        return Ok(());
+    };
+    run_cases(&rt, &text[..n])
 }

@@ -1,37 +1,39 @@
 // Reads a rule file from standard input and draws its automaton on standard output as Graphviz
 // text. Where the reader refuses the file, its number goes to standard error and nothing is drawn.
 // Where it cannot read or write it says so on standard error.
-use dottext::Drawing;
-use libc::STDERR_FILENO;
-use stdio::Input;
+#![tactic(auto)]
 
-fn write_refused(number: u8) {
-    let mut line = [0u8; 12];
-    let length = answers::put_refused(&mut line, 0, number);
-    io::write_all(STDERR_FILENO, &line[..length]);
+use dottext::Drawing;
+use std::io;
+use stdio::{Input, Streams};
+
+// A failure of this line is told nowhere.
+fn write_refused<R: Eprint>(rt: &R, number: u8) {
+    let _ = eprintln!(rt; "refused {number}");
 }
 
-fn draw(file: &[u8]) {
+fn draw<R: Streams>(rt: &R, file: &[u8]) {
     let mut text = [0u8; limits::GRAPH_TEXT];
     let drawing = dottext::print_whole(file, &mut text);
     match drawing {
         Drawing::Bytes(length) => {
-            stdio::write_all(b"ruledot", &text[..length]);
+            stdio::write_all(rt, &mut io::writer(rt), b"ruledot", &text[..length]);
         }
-        Drawing::Refused(number) => write_refused(number),
+        Drawing::Refused(number) => write_refused(rt, number),
     }
 }
 
-fn main() {
+fn main(rt: HostRuntime) {
     if stdio::has_arguments(
+        &rt,
         b"usage: ruledot < RULE   (takes no arguments; see docs/PROGRAMS.md)\n",
     ) {
         return;
     }
     let mut file = [0u8; limits::FILE_ROOM];
-    let read = ruleinput::read_rule(b"ruledot", &mut file);
+    let read = ruleinput::read_rule(&rt, &mut rt.stdin(), b"ruledot", &mut file);
     let Input::Bytes(n) = read else {
         return;
     };
-    draw(&file[..n]);
+    draw(&rt, &file[..n]);
 }

@@ -1,19 +1,22 @@
 // Reads a rule file from standard input and prints the failure form of its rule, or the number with
 // which it is refused. Where it cannot read or write it says so on standard error.
+#![tactic(auto)]
+
 use stdio::Input;
 
-fn main() {
+fn main(rt: HostRuntime) {
     if stdio::has_arguments(
+        &rt,
         b"usage: ruleform < RULE   (takes no arguments; see docs/PROGRAMS.md)\n",
     ) {
         return;
     }
     let mut file = [0u8; limits::FILE_ROOM];
-    let read = ruleinput::read_rule(b"ruleform", &mut file);
+    let read = ruleinput::read_rule(&rt, &mut rt.stdin(), b"ruleform", &mut file);
     let Input::Bytes(n) = read else {
         return;
     };
     let mut text = [0u8; formtext::ROOM];
     let length = formtext::print_form(&file[..n], &mut text);
-    stdio::write_all(b"ruleform", &text[..length]);
+    stdio::write_all(&rt, &mut rt.stdout(), b"ruleform", &text[..length]);
 }

@@ -1,16 +1,20 @@
-// Rule files made one, compared and reduced: each line of standard input is `both HEX HEX`, `either HEX
-// HEX`, `interleaving HEX HEX`, `compare HEX HEX` or `reduce HEX`, and is answered by one line, the
-// file of the rule that is made, `apart` with a rule and a text, `same`, `refused` with a number, or
-// `malformed`. What a line means and how it is answered is proved in the crates below; this program
-// only reads and writes. The answers to a block that was read are written before the next is read.
-// Where it cannot read or write it says so on standard error and stops. What it prints is no promise,
-// since the C library's `write` makes none: a test holds it.
+// Rule files made one, compared and reduced: each line of standard input is `both HEX HEX`, `either
+// HEX HEX`, `interleaving HEX HEX`, `compare HEX HEX` or `reduce HEX`, and is answered by one line,
+// the file of the rule that is made, `apart` with a rule and a text, `same`, `refused` with a
+// number, or `malformed`. What a line means and how it is answered is proved in the crates below;
+// this program only reads and writes. The answers to a block that was read are written before the
+// next is read. Where it cannot read or write it says so on standard error and stops. What it
+// prints is no promise, since nothing is known of what the system writes: a test holds it.
+#![tactic(auto)]
+
 ghost use Rattle.std.specs.Prelude.{◌≡◌, false, ◌≤◌, length, take};
 ghost use Rattle.linetexts.specs.Parts.{parts_of};
 ghost use Rattle.linetexts.specs.Feeding.{feed_parts};
 ghost use Rattle.mergestream.specs.Texts.{merge_lines, merge_state};
 
 use mergescan::Scan;
+use std::io;
+use stdio::Streams;
 
 // How many bytes are read at once.
 const BLOCK: usize = 65536;
@@ -28,12 +32,13 @@ struct Reading {
     over: bool,
 }
 
-fn write_answers(out: &[u8], written: usize) -> bool {
-    stdio::write_first(b"rulemerge", written, out)
+fn write_answers<R: Streams>(rt: &R, out: &[u8], written: usize) -> bool {
+    stdio::write_first(rt, &mut io::writer(rt), b"rulemerge", written, out)
 }
 
 // The lines of the first n bytes of a block. `one` and `two` keep the files of a line that goes on.
-fn run_block(
+fn run_block<R: Streams>(
+    rt: &R,
     scan: Scan,
     one: &mut [u8; FILE],
     two: &mut [u8; FILE],
@@ -51,7 +56,7 @@ fn run_block(
         scan = round.scan;
         at = round.at;
         let written = round.written;
-        if !write_answers(out, written) {
+        if !write_answers(rt, out, written) {
             let over = true;
             return Reading { scan, over };
         }
@@ -61,46 +66,47 @@ fn run_block(
 }
 
 // A block is read and its lines are answered; at the end of the input, a last line.
-fn turn(
+fn turn<R: Streams>(
+    rt: &R,
     scan: Scan,
     one: &mut [u8; FILE],
     two: &mut [u8; FILE],
     out: &mut [u8; ANSWERS],
     block: &mut [u8; BLOCK],
 ) -> Reading {
-    let read = stdio::read_block(b"rulemerge", block);
+    let read = stdio::read_block(rt, &mut rt.reader(), b"rulemerge", block);
     let n = read.length;
     if 0 < n {
-        return run_block(scan, one, two, out, block, n);
+        return run_block(rt, scan, one, two, out, block, n);
     }
     if !read.failed {
         let written = mergestream::finish(scan, one, two, out);
-        write_answers(out, written);
+        write_answers(rt, out, written);
     }
     let over = true;
     Reading { scan, over }
 }
 
-fn run(
+fn run<R: Streams>(
+    rt: &R,
     one: &mut [u8; FILE],
     two: &mut [u8; FILE],
     out: &mut [u8; ANSWERS],
     block: &mut [u8; BLOCK],
 ) {
     let mut scan = Scan::Start;
-    let mut turns = stdio::most_turns();
-    while turns > 0 {
-        let reading = turn(scan, one, two, out, block);
+    for _ in 0..stdio::most_turns() {
+        let reading = turn(rt, scan, one, two, out, block);
         if reading.over {
             return;
         }
         scan = reading.scan;
-        turns -= 1;
     }
 }
 
-fn main() {
+fn main(rt: HostRuntime) {
     if stdio::has_arguments(
+        &rt,
         b"usage: rulemerge < LINES   (takes no arguments; see docs/PROGRAMS.md)\n",
     ) {
         return;
@@ -109,5 +115,5 @@ fn main() {
     let mut two = [0u8; FILE];
     let mut out = [0u8; ANSWERS];
     let mut block = [0u8; BLOCK];
-    run(&mut one, &mut two, &mut out, &mut block);
+    run(&rt, &mut one, &mut two, &mut out, &mut block);
 }

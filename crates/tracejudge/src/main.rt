@@ -3,9 +3,11 @@
 // bytes. An empty line starts again with a fresh judge; a malformed line ends its list, and up to
 // an empty line nothing is run. What a line means and how it is answered is proved in the crates
 // below; this program only reads and writes. The answers to a block that was read are written
-// before the next is read, all at once where their buffer holds them. Where it cannot read or
-// write it says so on standard error and stops. What it prints is no promise, since the C
-// library's `write` makes none: a test holds it.
+// before the next is read, all at once where their buffer holds them. Where it cannot read or write
+// it says so on standard error and stops. What it prints is no promise, since nothing is known of
+// what the system writes: a test holds it.
+#![tactic(auto)]
+
 ghost use Rattle.std.specs.Prelude.{◌≡◌, false, ◌≤◌, length, take};
 ghost use Rattle.linetexts.specs.Parts.{parts_of};
 ghost use Rattle.linetexts.specs.Feeding.{feed_parts};
@@ -14,6 +16,8 @@ ghost use Rattle.stream.specs.Texts.{call_lines};
 
 use calls::Judge;
 use linetexts::Pending;
+use std::io;
+use stdio::Streams;
 
 // How many bytes are read at once.
 const BLOCK: usize = 65536;
@@ -31,12 +35,13 @@ struct Reading {
     over: bool,
 }
 
-fn write_answers(out: &[u8], written: usize) -> bool {
-    stdio::write_first(b"tracejudge", written, out)
+fn write_answers<R: Streams>(rt: &R, out: &[u8], written: usize) -> bool {
+    stdio::write_first(rt, &mut io::writer(rt), b"tracejudge", written, out)
 }
 
 // The lines of the first n bytes of a block. `line` keeps a line that goes on.
-fn run_block(
+fn run_block<R: Streams>(
+    rt: &R,
     judge: Judge,
     pending: Pending,
     line: &mut [u8; limits::LINE],
@@ -57,7 +62,7 @@ fn run_block(
         pending = round.pending;
         at = round.at;
         let written = round.written;
-        if !write_answers(out, written) {
+        if !write_answers(rt, out, written) {
             let over = true;
             return Reading {
                 judge,
@@ -75,7 +80,8 @@ fn run_block(
 }
 
 // A block is read and its lines are answered; at the end of the input, a last line.
-fn turn(
+fn turn<R: Streams>(
+    rt: &R,
     judge: Judge,
     pending: Pending,
     line: &mut [u8; limits::LINE],
@@ -83,14 +89,14 @@ fn turn(
     out: &mut [u8; ANSWERS],
     block: &mut [u8; BLOCK],
 ) -> Reading {
-    let read = stdio::read_block(b"tracejudge", block);
+    let read = stdio::read_block(rt, &mut rt.reader(), b"tracejudge", block);
     let n = read.length;
     if 0 < n {
-        return run_block(judge, pending, line, bytes, out, block, n);
+        return run_block(rt, judge, pending, line, bytes, out, block, n);
     }
     if !read.failed {
         let written = stream::finish(judge, pending, line, bytes, out);
-        write_answers(out, written);
+        write_answers(rt, out, written);
     }
     let over = true;
     Reading {
@@ -100,7 +106,8 @@ fn turn(
     }
 }
 
-fn run(
+fn run<R: Streams>(
+    rt: &R,
     line: &mut [u8; limits::LINE],
     bytes: &mut [u8; limits::BYTES],
     out: &mut [u8; ANSWERS],
@@ -108,20 +115,19 @@ fn run(
 ) {
     let mut judge = judge::new_judge();
     let mut pending = linetexts::nothing_yet();
-    let mut turns = stdio::most_turns();
-    while turns > 0 {
-        let reading = turn(judge, pending, line, bytes, out, block);
+    for _ in 0..stdio::most_turns() {
+        let reading = turn(rt, judge, pending, line, bytes, out, block);
         if reading.over {
             return;
         }
         judge = reading.judge;
         pending = reading.pending;
-        turns -= 1;
     }
 }
 
-fn main() {
+fn main(rt: HostRuntime) {
     if stdio::has_arguments(
+        &rt,
         b"usage: tracejudge < CALLS   (takes no arguments; see docs/FORMATS.md)\n",
     ) {
         return;
@@ -130,5 +136,5 @@ fn main() {
     let mut bytes = [0u8; limits::BYTES];
     let mut out = [0u8; ANSWERS];
     let mut block = [0u8; BLOCK];
-    run(&mut line, &mut bytes, &mut out, &mut block);
+    run(&rt, &mut line, &mut bytes, &mut out, &mut block);
 }

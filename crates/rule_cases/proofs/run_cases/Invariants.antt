@@ -1,0 +1,6 @@
+-- `run_cases` comes to the end of the text.
+use Rattle.std.proofs.Common.{length, ◌-◌}
+use Rattle.rule_cases.proofs.run_cases.Given as goal
+
+abbrev pub decreases-loop-at : goal.decreases-loop-at
+decreases-loop-at g l = length l.text - l.at

@@ -1,0 +1,12 @@
+-- What is left of the block leads from here to where all of it leads from the start.
+use Rattle.std.proofs.Common.{◌-◌, ◌≡◌, take, drop}
+use Rattle.linetexts.specs.Parts.{parts_of}
+use Rattle.linetexts.specs.Feeding.{feed_parts}
+use Rattle.mergestream.specs.Texts.{merge_lines, merge_state}
+use Rattle.rulemerge.proofs.run_block.Given as goal
+
+abbrev pub invariant-loop-at : goal.invariant-loop-at
+invariant-loop-at g l = feed_parts merge_lines (merge_state l.fn.scan l.fn.one l.fn.two) (parts_of (take l.n l.block)) ≡ feed_parts merge_lines (merge_state l.scan l.one l.two) (parts_of (drop l.at (take l.n l.block)))
+
+abbrev pub decreases-loop-at : goal.decreases-loop-at
+decreases-loop-at g l = l.n - l.at
