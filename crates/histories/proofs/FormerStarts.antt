@@ -38,8 +38,8 @@ module _ (r : Rule) (d : List ℕ) (places : ℕ) (at : ℕ → Option (List ℕ
   abbrev former : ℕ → ℕ
   former = former_run_set d r.n r.initials
 
-  abbrev both_say : ℕ → Type 0
-  both_say n =
+  abbrev BothSay : ℕ → Type 0
+  BothSay n =
       former_yes (ends_by former) d r.n r.initials r.finals n
       ≡ yes_of (ends_by (run_at r)) (delegate_in (starts_in r).delegates) r.n r.initials r.finals n
 
@@ -52,16 +52,16 @@ module _ (r : Rule) (d : List ℕ) (places : ℕ) (at : ℕ → Option (List ℕ
         filled r.targets (run p) q (at p) (none_empty r well fit places at full p lp)
         ∙ ap (λ (w : List ℕ). end_set r.targets (run p) w q) (sym (chunk_at at places p lp))
 
-    both_say : both_say places
+    both_say : BothSay places
     both_say =
-        subst both_say (chunks_length at places)
+        subst BothSay (chunks_length at places)
         (former_claims.same_answer r well (chunks_up_to at places) (chunk_texts r.k at texts places)
         d m was (ends_by former) (holds former)
         (starts_in r).delegates (starts_in r).startcount (merged r well fit) (ends_by (run_at r)) (holds (run_at r)))
 
 -- a board is there only with a rule
 by_rule : (present : Option Rule) (d : List ℕ) (m : ℕ) → FormerMerged (automaton_of (rule_from present)) d m → (places : ℕ) (at : ℕ → Option (List ℕ)) (last : ℕ → Option ℕ) (j : Judge) → Agrees present places at last j → 0 < places
-    → total (λ p. cond (is_none (at p)) 1 0) places ≡ 0 → both_say (rule_from present) d places at places
+    → total (λ p. cond (is_none (at p)) 1 0) places ≡ 0 → BothSay (rule_from present) d places at places
 by_rule none d m was places at last j agrees l full = not_both refl (agrees.ruled l)
 by_rule (some r) d m was places at last j agrees l full = both_say r d places at m was agrees.rule.1 agrees.rule.2 agrees.texts full
 

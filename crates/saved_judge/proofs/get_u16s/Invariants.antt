@@ -1,0 +1,11 @@
+-- `get_u16s` meets its contract. The loop's invariant: the cells passed are the numbers at their
+-- places. Assumes nothing.
+use Rattle.std.proofs.Common.{◌-◌, length, refl, arith}
+use Rattle.saved_judge.proofs.Steps.{Got, got_begin, got_more, got_done}
+use Rattle.saved_judge.proofs.get_u16s.Given as goal
+
+abbrev pub invariant-loop-i : goal.invariant-loop-i
+invariant-loop-i l = Got l.bytes l.at 2 (length l.initial.cells) l.cells l.i
+
+abbrev pub decreases-loop-i : goal.decreases-loop-i
+decreases-loop-i l = length l.initial.cells - l.i

@@ -1,0 +1,20 @@
+-- `put_tables` meets its contract. Assumes nothing.
+use Rattle.std.proofs.Common.{◌≡◌, length, arith, rules}
+use Rattle.saved_judge.specs.Saved.{table_fields}
+use Rattle.saved_judge.proofs.Goes.{all_left, next_field, none_left}
+use Rattle.saved_judge.proofs.Ways.{fields_length}
+use Rattle.saved_judge.proofs.put_tables.Goals as goal
+
+pub returns : goal.returns
+returns c =
+    let built = c.args.built in
+    let delegates : length built.delegates ≡ 32 = search rules in
+    let singles : length built.singles ≡ 32 = search rules in
+    let sets : length built.sets ≡ 512 = search rules in
+    let next : length built.next ≡ 8192 = search rules in
+    let fs = table_fields built in
+    let all = all_left c.args.out.now c.args.start fs (omega (arith, fields_length fs, c.requires)) in
+    let a = next_field all c.put_u8s-a.ensures.0 in
+    let b = next_field a c.put_u16s-b.ensures.0 in
+    let d = next_field b c.put_u32s-c.ensures.0 in
+    (none_left (next_field d c.put_u16s.ensures.0), omega (arith, c.put_u8s-a.ensures.1, c.put_u16s-b.ensures.1, c.put_u32s-c.ensures.1, c.put_u16s.ensures.1))

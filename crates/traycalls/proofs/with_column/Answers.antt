@@ -1,0 +1,6 @@
+-- `with_column` meets its contract. Assumes nothing.
+use borrow.Author.Rules.{rules}
+use Rattle.traycalls.proofs.with_column.Goals as goal
+
+pub returns : goal.returns
+returns c = rw c.empty_board-board.ensures

@@ -1,0 +1,9 @@
+-- `put_install` meets its contract. Assumes nothing.
+use borrow.Author.Rules.{rules}
+use Rattle.traytext.proofs.put_install.Goals as goal
+
+pub returns-in-Accepted : goal.returns-in-Accepted
+returns-in-Accepted c = rw c.in-Accepted.is c.put_installed.ensures
+
+pub returns-in-Refused : goal.returns-in-Refused
+returns-in-Refused c = rw c.in-Refused.is c.put_refused.ensures
