@@ -1,5 +1,6 @@
 // Draws the rule in a file as Graphviz text into a lent buffer.
 #![tactic(auto)]
+
 ghost use Rattle.std.specs.Prelude.{◌≤◌, length};
 ghost use Rattle.dotgraph.specs.DotText.{most_bytes};
 ghost use Rattle.dottext.specs.Answers.{Draws};

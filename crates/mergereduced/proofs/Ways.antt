@@ -270,7 +270,7 @@ module _ (n1 n2 : ℕ) (m1 m2 : List ℕ) (q p : ℕ) where
   one_first a e ea there = rw (eq-eqb (q % n2) (p % n2) e, ← ea, ne_eqb a 0 there)
 
   -- the first member does not move alone
-  abbrev Rests : Type 0
+  abbrev pub Rests : Type 0
   Rests = (eqb (q % n2) (p % n2) && not (eqb (symbols_at m1 (q / n2) (p / n2)) 0)) ≡ false
 
   pub rests_apart : (q % n2 ≡ p % n2 → ⊥) → Rests

@@ -78,7 +78,7 @@ module _ (r : Rule) (good : WellFormed r) (fit : fits r) (number : ℕ) (w : Lis
         (λ q. delegate_set (starts_in r).delegates r.n (end_set r.targets (run_at r number) (text_of w) q))
         (λ q h.
         ap₂ (delegate_mask (starts_in r).delegates) (n_same r good fit) (end q h)
-        ∙ (chunks.claims).delegate_mask (starts_in r).delegates r.n (end_set r.targets (run_at r number) (text_of w) q) good.states.1)
+        ∙ (chunks.claims).delegate_mask_lem (starts_in r).delegates r.n (end_set r.targets (run_at r number) (text_of w) q) good.states.1)
 
     pub count : (summary_at r number w).count ≡ chunk_count r.targets (run_at r number) (text_of w)
     count =

@@ -1,0 +1,34 @@
+-- `before_empty` meets its contract: the bands passed stand. Assumes nothing.
+use mathlib.Core.Path.{◌≡◌, refl}
+use mathlib.Core.Option.{none}
+use Prim.Native.Nat.{◌-◌, ◌≤◌}
+use native.Mathlib.Omega.{arith}
+use lib.Dec.{eqb}
+use lib.ListN.{get_or}
+use borrow.Author.Rules.{rules}
+use Rattle.faults.specs.First.{first_found}
+use Rattle.faults.specs.Faulting.{empty_at}
+use Rattle.faults.proofs.Ways.{found_empty, past_full, none_empty}
+use Rattle.faults.proofs.before_empty.Goals as goal
+
+pub loop-p-init : goal.loop-p-init
+unfolding first_found
+loop-p-init c = (omega arith, omega arith, refl)
+
+pub returns-then-filled-p-eq0 : goal.returns-then-filled-p-eq0
+returns-then-filled-p-eq0 c =
+    let x = c.loop-p in
+    let a = c.args in
+    (found_empty a.filled.now a.bands x.p c.loop-p-test.true x.invariant.2 c.if-filled-p-eq0.true, omega arith)
+
+pub loop-p-preserved : goal.loop-p-preserved
+loop-p-preserved c =
+    let x = c.loop-p in
+    let a = c.args in
+    (omega arith, x.invariant.1, past_full a.filled.now a.bands x.p x.invariant.2 c.if-filled-p-eq0.false)
+
+pub returns : goal.returns
+returns c =
+    let x = c.loop-p in
+    let a = c.args in
+    (none_empty a.filled.now a.bands x.p x.invariant.0 c.loop-p-test.false x.invariant.2, omega arith)

@@ -1,0 +1,56 @@
+-- `column_fault` meets its contract: none of the columns passed is lost, and the first of them that
+-- is not accepted is known. Assumes nothing.
+use mathlib.Core.Path.{◌≡◌, refl}
+use mathlib.Core.Option.{none}
+use Prim.Native.Nat.{◌-◌, ◌≤◌}
+use native.Mathlib.Omega.{arith}
+use borrow.Author.Rules.{rules}
+use Rattle.live.specs.Live.{live_of}
+use Rattle.trays.specs.Boards.{band_in}
+use Rattle.faults.specs.First.{first_found}
+use Rattle.faults.specs.Faulting.{found_means, column_short}
+use Rattle.faults.proofs.Ways.{stuck_at, lost_or_short, none_lost, short_next, only_short, not_full}
+use Rattle.faults.proofs.column_fault.Goals as goal
+
+pub loop-c-init : goal.loop-c-init
+unfolding first_found
+loop-c-init c = (omega arith, c.live_states-live.ensures, refl, refl)
+
+pub walk_column-walk-requires : goal.walk_column-walk-requires
+walk_column-walk-requires c =
+    (c.requires.0, c.requires.1, c.requires.2, c.loop-c-test.true)
+
+pub returns-in-Lost : goal.returns-in-Lost
+returns-in-Lost c =
+    let x = c.loop-c in
+    let a = c.args in
+    lost_or_short a.rule (band_in a.width a.rows.now a.cells.now) a.width a.bands x.c x.invariant.2 _ x.invariant.1 _ c.walk_column-walk.ensures
+    c.loop-c-test.true _ c.in-Lost.is a.full
+
+pub overflow_cast-c : goal.overflow_cast-c
+overflow_cast-c c = omega (arith, c.requires)
+
+pub loop-c-preserved : goal.loop-c-preserved
+loop-c-preserved c =
+    let x = c.loop-c in
+    let a = c.args in
+    let at = band_in a.width a.rows.now a.cells.now in (
+      omega arith,
+      x.invariant.1,
+      none_lost a.rule at a.width a.bands x.c x.invariant.2 _ x.invariant.1 _ c.walk_column-walk.ensures _ c.in-Ends.is,
+      short_next a.rule at a.width a.bands x.c x.invariant.2 _ x.invariant.1 _ c.walk_column-walk.ensures _ c.in-Ends.is
+          x.short c.or_short-short.result x.invariant.3 c.or_short-short.ensures,
+    )
+
+pub returns-then-full : goal.returns-then-full
+returns-then-full c =
+    let x = c.loop-c in
+    let a = c.args in
+    only_short a.rule (band_in a.width a.rows.now a.cells.now) a.width a.bands x.c x.invariant.0 c.loop-c-test.false x.invariant.2 a.full
+    x.short x.invariant.3 c.if-full.true
+
+pub returns-else-full : goal.returns-else-full
+returns-else-full c =
+    let x = c.loop-c in
+    let a = c.args in
+    not_full a.rule (band_in a.width a.rows.now a.cells.now) a.width a.bands x.c x.invariant.0 c.loop-c-test.false x.invariant.2 a.full c.if-full.false

@@ -1,0 +1,48 @@
+-- `row_fault` meets its contract: the rows of the bands passed are accepted. Assumes nothing.
+use mathlib.Core.Path.{◌≡◌, refl, ap, ◌∙◌}
+use mathlib.Core.Option.{none}
+use Prim.Native.Nat.{ℕ, ◌-◌, ◌*◌, ◌≤◌}
+use native.Mathlib.Omega.{arith}
+use lib.ListN.{length, drop}
+use borrow.Author.Rules.{rules}
+use Rattle.trays.specs.Rows.{rows_of}
+use Rattle.trays.specs.Boards.{band_in}
+use Rattle.trayverdict.proofs.Walks.{band_fits}
+use Rattle.faults.specs.First.{first_found}
+use Rattle.faults.specs.Faulting.{band_wrong}
+use Rattle.faults.proofs.Ways.{answer_found, answer_none, all_done}
+use Rattle.faults.proofs.row_fault.Goals as goal
+
+pub loop-p-init : goal.loop-p-init
+unfolding first_found
+loop-p-init c = (omega arith, refl)
+
+pub band_fault-found-requires : goal.band_fault-found-requires
+band_fault-found-requires c = (
+  band_fits c.loop-p.p c.row_count-count.result c.args.width (length c.args.cells.now) (omega arith)
+      c.row_count-count.ensures.1 c.requires.1 c.requires.0,
+  c.row_count-count.ensures.1,
+)
+
+pub returns-in-At : goal.returns-in-At
+returns-in-At c =
+    let x = c.loop-p in
+    let a = c.args in
+    answer_found _ a.bands x.p x.invariant.1 c.loop-p-test.true _
+    (c.band_fault-found.ensures ∙ ap (λ (n : ℕ). band_wrong a.rule x.p (rows_of a.width n (drop (x.p * 1024) a.cells.now))) c.row_count-count.ensures.0)
+    _ c.in-At.is
+
+pub loop-p-preserved : goal.loop-p-preserved
+loop-p-preserved c =
+    let x = c.loop-p in
+    let a = c.args in (
+      omega arith,
+      answer_none _ a.bands x.p x.invariant.1 _
+          (c.band_fault-found.ensures ∙ ap (λ (n : ℕ). band_wrong a.rule x.p (rows_of a.width n (drop (x.p * 1024) a.cells.now))) c.row_count-count.ensures.0)
+          c.in-Nothing.is,
+    )
+
+pub returns : goal.returns
+returns c =
+    let x = c.loop-p in
+    all_done _ c.args.bands x.p x.invariant.1 x.invariant.0 c.loop-p-test.false

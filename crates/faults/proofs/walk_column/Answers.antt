@@ -1,0 +1,70 @@
+-- `walk_column` meets its contract: the set after the bands passed, in each of which a live state
+-- was left with every row. Assumes nothing.
+use mathlib.Core.Path.{◌≡◌, refl, sym, ap, ◌∙◌}
+use mathlib.Core.Option.{none}
+use Prim.Native.Nat.{ℕ, ◌-◌, ◌≤◌}
+use native.Mathlib.Omega.{arith}
+use lib.ListN.{length}
+use borrow.Author.Rules.{rules}
+use Rattle.automaton.specs.Successor.{after}
+use Rattle.trays.specs.Rows.{rows_up_to, column_of}
+use Rattle.trays.specs.Boards.{band_in}
+use Rattle.trayverdict.proofs.Walks.{band_fits}
+use Rattle.faults.specs.First.{first_found}
+use Rattle.faults.specs.Faulting.{reaches, band_on}
+use Rattle.faults.proofs.First.{first_here, first_more}
+use Rattle.faults.proofs.Ways.{lost_first, column_lost, column_ends, way_stuck, way_ends, band_walked}
+use Rattle.std.proofs.lemmas.Bool.{not_from_false, not_from_true}
+use Rattle.faults.proofs.walk_column.Goals as goal
+
+pub overflow_cast-result : goal.overflow_cast-result
+overflow_cast-result c = omega (arith, c.requires)
+
+pub returns-then-not-meets : goal.returns-then-not-meets
+returns-then-not-meets c =
+    let a = c.args in
+    lost_first a.targets.now a.live a.column a.initials (band_in a.width a.rows.now a.cells.now) a.bands _ c.meets.ensures (not_from_false _ c.if-not-meets.true) _
+
+pub loop-p-init : goal.loop-p-init
+unfolding first_found rows_up_to column_of
+loop-p-init c = (omega arith, refl, refl)
+
+pub walk_band-walk-requires : goal.walk_band-walk-requires
+walk_band-walk-requires c = (
+  band_fits c.loop-p.p c.row_count-count.result c.args.width (length c.args.cells.now) (omega arith)
+      c.row_count-count.ensures.1 c.requires.1 c.requires.0,
+  c.row_count-count.ensures.1,
+  c.requires.1,
+  c.requires.3,
+)
+
+pub returns-in-Lost : goal.returns-in-Lost
+returns-in-Lost c =
+    let x = c.loop-p in
+    let a = c.args in
+    let at = band_in a.width a.rows.now a.cells.now in
+    let is = band_walked a.targets.now a.live a.column a.initials a.width a.rows.now a.cells.now x.p x.reached x.invariant.1
+    c.row_count-count.result c.row_count-count.ensures.0 c.walk_band-walk.result c.walk_band-walk.ensures in
+    column_lost a.targets.now a.live a.column a.initials at a.bands _ c.meets.ensures (not_from_true _ c.if-not-meets.false) _
+    (first_here _ a.bands x.p _ c.loop-p-test.true x.invariant.2 (way_stuck _ _ _ is _ c.in-Lost.is))
+    _
+
+pub loop-p-preserved : goal.loop-p-preserved
+loop-p-preserved c =
+    let x = c.loop-p in
+    let a = c.args in
+    let is = band_walked a.targets.now a.live a.column a.initials a.width a.rows.now a.cells.now x.p x.reached x.invariant.1
+    c.row_count-count.result c.row_count-count.ensures.0 c.walk_band-walk.result c.walk_band-walk.ensures in
+    let ends = way_ends _ _ _ is _ c.in-Ends.is in
+    (omega arith, ends.1, first_more _ x.p x.invariant.2 ends.0)
+
+pub returns : goal.returns
+returns c =
+    let x = c.loop-p in
+    let a = c.args in
+    let at = band_in a.width a.rows.now a.cells.now in
+    let e : x.p ≡ a.bands = omega arith in
+    ap reaches (x.invariant.1 ∙ ap (λ (p : ℕ). after a.targets.now a.initials (column_of a.column (rows_up_to at p))) e)
+    ∙ column_ends a.targets.now a.live a.column a.initials at a.bands _ c.meets.ensures (not_from_true _ c.if-not-meets.false)
+    (ap (first_found (band_on a.targets.now a.live a.column a.initials at)) (sym e) ∙ x.invariant.2)
+    _

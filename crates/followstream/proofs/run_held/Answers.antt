@@ -1,0 +1,10 @@
+-- `run_held` meets its contract. Assumes nothing.
+use Rattle.followstream.proofs.Held.{ran, stray}
+use borrow.Author.Rules.{rules}
+use Rattle.followstream.proofs.run_held.Goals as goal
+
+pub returns-then-seen : goal.returns-then-seen
+returns-then-seen c = search (rules, ran)
+
+pub returns : goal.returns
+returns c = search (rules, stray)

@@ -1,0 +1,17 @@
+-- `put_cells` meets its contract. The loop's invariant: the first i cells are written. Assumes nothing.
+use mathlib.Core.Path.{◌≡◌}
+use Prim.Native.Nat.{◌+◌, ◌-◌, ◌≤◌}
+use native.Mathlib.Omega.{arith}
+use lib.ListN.{length, get_or}
+use Rattle.ruletext.specs.RuleText.{cell_text}
+use Rattle.ruletext.proofs.Lengths.{cell_most}
+use Rattle.text.proofs.Fitting.{Put, put, none_put, one_more}
+use Rattle.formtext.specs.FormText.{cells_text}
+use Rattle.formtext.proofs.Lengths.{cells_most}
+use Rattle.formtext.proofs.put_cells.Given as goal
+
+abbrev pub invariant-loop-i : goal.invariant-loop-i
+invariant-loop-i l = (l.i ≤ l.n) × (l.n ≤ 16) × (l.first + l.n ≤ 8192) × (l.start + 64 ≤ length l.initial.out) × Put l.initial.out l.start (cells_text l.cells l.first l.i) l.out l.at
+
+abbrev pub decreases-loop-i : goal.decreases-loop-i
+decreases-loop-i l = l.n - l.i

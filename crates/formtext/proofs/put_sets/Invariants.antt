@@ -1,0 +1,22 @@
+-- `put_sets` meets its contract. The loop's invariant: the lines of the sets passed are written, and
+-- so many cells stand in them. Assumes nothing.
+use mathlib.Core.Path.{◌≡◌, refl}
+use Prim.Native.Nat.{◌+◌, ◌*◌, ◌-◌, ◌≤◌}
+use native.Mathlib.Omega.{arith}
+use lib.ListN.{length, get_or}
+use Rattle.base.specs.Lists.{joined}
+use Rattle.base.specs.Totals.{total}
+use Rattle.base.proofs.Totals.{total_more}
+use Rattle.text.proofs.Fitting.{Put, put, none_put, one_more}
+use Rattle.formtext.specs.FormText.{bits_in, first_cell, set_line}
+use Rattle.formtext.proofs.Lengths.{first_most}
+use borrow.Author.Rules.{rules}
+use Rattle.formtext.proofs.put_sets.Given as goal
+
+abbrev pub invariant-loop-t : goal.invariant-loop-t
+invariant-loop-t l =
+    (l.t ≤ l.count) × (l.count ≤ 512) × (l.first ≡ first_cell l.kept l.t) × (l.start + 79 * l.count ≤ length l.initial.out) × (l.at ≤ l.start + 79 * l.t)
+    × Put l.initial.out l.start (joined (set_line l.failure l.kept l.cells) l.t) l.out l.at
+
+abbrev pub decreases-loop-t : goal.decreases-loop-t
+decreases-loop-t l = l.count - l.t

@@ -1,0 +1,25 @@
+-- `gather` meets its contract. Assumes nothing.
+--
+-- The route: the loop's invariant, `SoFar`, says that what was gathered with what is gathered from
+-- here on is what the whole block gives. A turn feeds one part: a line that goes on is kept
+-- (`turn_on`), one that ends is answered (`turn_put`). The loop ends where the block is used up or the
+-- room is short.
+use Rattle.linetexts.proofs.Turns.{turn_forward, turn_on, turn_put}
+use Rattle.linetexts.proofs.Gathering.{SoFar, begun, ended, at_over, gather_short}
+use Rattle.linetexts.specs.Alone.{line_state}
+use Rattle.maketextstream.specs.Texts.{text_teller, text_lines}
+use lib.ListN.{length}
+use Prim.Native.Nat.{◌-◌}
+use native.Mathlib.Omega.{arith}
+use mathlib.Core.Path.{◌≡◌, refl, ◌∙◌}
+use borrow.Author.Rules.{rules}
+use Rattle.maketextstream.proofs.gather.Given as goal
+
+abbrev pub invariant-loop-at : goal.invariant-loop-at
+invariant-loop-at l =
+    (length l.line ≡ length l.initial.line) × (length l.text ≡ length l.initial.text)
+    × SoFar text_lines l.block l.from (line_state l.initial.held l.initial.line) l.initial.out l.at (line_state l.held l.line) l.out l.written
+
+abbrev pub decreases-loop-at : goal.decreases-loop-at
+decreases-loop-at l =
+    length l.block - l.at

@@ -1,0 +1,84 @@
+-- `gather` meets its contract. Assumes nothing.
+--
+-- The route: the loop's invariant, `SoFar`, says that what was gathered with what is gathered from
+-- here on is what the whole block gives. A turn feeds one part: a line that goes on is kept
+-- (`turn_on`); one that leaves the profile as it is is answered from the state at hand, and any other
+-- is run (`turn_answered`). The loop ends where the block is used up or the room is short.
+use Rattle.linetexts.proofs.Turns.{turn_forward, turn_on, turn_answered}
+use Rattle.linetexts.proofs.Gathering.{SoFar, begun, ended, at_over, gather_short, placed_within}
+use Rattle.linetexts.proofs.Ends.{came}
+use Rattle.linetexts.specs.Beginnings.{state_of}
+use Rattle.linetexts.specs.Lists.{list_of, list_teller}
+use Rattle.mapstream.specs.Texts.{map_lines, map_list}
+use Rattle.mapstream.proofs.Held.{not_changed}
+use lib.ListN.{length}
+use Prim.Native.Nat.{◌-◌, ◌<◌}
+use native.Mathlib.Omega.{arith}
+use mathlib.Core.Path.{◌≡◌, refl, ◌∙◌}
+use borrow.Author.Rules.{rules}
+use Rattle.std.proofs.lemmas.Bool.{not_from_false}
+use Rattle.mapstream.proofs.gather.Goals as goal
+
+pub loop-at-init : goal.loop-at-init
+loop-at-init c = (refl, refl, begun _ _ _ _ _)
+
+pub loop-at-smaller-then-not-part : goal.loop-at-smaller-then-not-part
+loop-at-smaller-then-not-part c = omega (arith, turn_forward _ _ c.loop-at-test.true _ _ _ _ c.take_part-part.ensures, c.loop-at-test.true)
+
+pub loop-at-preserved-then-not-part : goal.loop-at-preserved-then-not-part
+loop-at-preserved-then-not-part c =
+    let here = c.loop-at-test.true in
+    let loop = c.loop-at in
+    let enough = c.if-out-written-lt-ANSWER.false in
+    let took = c.take_part-part in
+    (took.auto.line ∙ loop.invariant.0, loop.invariant.1, turn_on (list_teller map_list) _ _ _ _ _ _ _ _ _ _ here took.result _ took.ensures loop.invariant.2 enough c.if-not-part.true)
+
+pub answer_held-said-requires : goal.answer_held-said-requires
+answer_held-said-requires c =
+    (not_changed c.changes_held.ensures (not_from_false _ c.if-not-changes_held.true), search rules, search rules)
+
+pub overflow_add-written : goal.overflow_add-written
+overflow_add-written c =
+    let loop = c.loop-at in
+    let said = c.answer_held-said in
+    omega (arith, loop.invariant.2.size, c.well_formed.1.1.1.1.0.0, placed_within loop.out said.new.out _ loop.written said.result.written loop.invariant.2.within said.auto.out said.ensures.text)
+
+pub loop-at-smaller-then-not-changes_held : goal.loop-at-smaller-then-not-changes_held
+loop-at-smaller-then-not-changes_held c = omega (arith, turn_forward _ _ c.loop-at-test.true _ _ _ _ c.take_part-part.ensures, c.loop-at-test.true)
+
+pub loop-at-preserved-then-not-changes_held : goal.loop-at-preserved-then-not-changes_held
+loop-at-preserved-then-not-changes_held c =
+    let here = c.loop-at-test.true in
+    let loop = c.loop-at in
+    let enough = c.if-out-written-lt-ANSWER.false in
+    let took = c.take_part-part in
+    let said = c.answer_held-said in
+    (took.auto.line ∙ loop.invariant.0, said.auto.bytes ∙ loop.invariant.1, turn_answered (list_teller map_list) _ _ _ _ _ (list_of loop.state loop.ended) _ _ _ _ here took.result _ took.ensures loop.invariant.2 enough c.if-not-part.false _ _ said.auto.out _ c.nothing-held.ensures (list_of loop.state said.result.ended) _ (came map_lines (list_of loop.state loop.ended) _ _ _ said.ensures.ended_value) said.ensures.text)
+
+pub overflow_add-written-in-loop-at : goal.overflow_add-written-in-loop-at
+overflow_add-written-in-loop-at c =
+    let loop = c.loop-at in
+    let said = c.run_held-answered in
+    omega (arith, loop.invariant.2.size, c.well_formed.1.1.1.1.0.0, placed_within loop.out said.new.out _ loop.written said.result.said.written loop.invariant.2.within said.auto.out said.ensures.text)
+
+pub loop-at-smaller : goal.loop-at-smaller
+loop-at-smaller c = omega (arith, turn_forward _ _ c.loop-at-test.true _ _ _ _ c.take_part-part.ensures, c.loop-at-test.true)
+
+pub loop-at-preserved : goal.loop-at-preserved
+loop-at-preserved c =
+    let here = c.loop-at-test.true in
+    let loop = c.loop-at in
+    let enough = c.if-out-written-lt-ANSWER.false in
+    let took = c.take_part-part in
+    let said = c.run_held-answered in
+    (took.auto.line ∙ loop.invariant.0, said.auto.bytes ∙ loop.invariant.1, turn_answered (list_teller map_list) _ _ _ _ _ (list_of loop.state loop.ended) _ _ _ _ here took.result _ took.ensures loop.invariant.2 enough c.if-not-part.false _ _ said.auto.out _ c.nothing-held-in-loop-at.ensures (list_of said.result.state said.result.said.ended) _ (came map_lines (list_of loop.state loop.ended) _ _ _ said.ensures.ended_value) said.ensures.text)
+
+pub returns-after-loop-at : goal.returns-after-loop-at
+returns-after-loop-at c =
+    let loop = c.loop-at in
+    record { gathers = ended map_lines _ _ _ _ _ _ _ _ loop.invariant.2 (at_over map_lines _ _ _ _ c.loop-at-test.false); scratch = loop.invariant.1 }
+
+pub returns-then-out-written-lt-ANSWER : goal.returns-then-out-written-lt-ANSWER
+returns-then-out-written-lt-ANSWER c =
+    let loop = c.loop-at in
+    record { gathers = ended map_lines _ _ _ _ _ _ _ _ loop.invariant.2 (gather_short map_lines _ _ _ c.if-out-written-lt-ANSWER.true); scratch = loop.invariant.1 }

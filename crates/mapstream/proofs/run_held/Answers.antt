@@ -1,0 +1,22 @@
+-- `run_held` meets its contract. Assumes nothing.
+use Rattle.linetexts.proofs.Lists.{skipped_text_lem}
+use Rattle.mapstream.specs.Texts.{map_list}
+use Rattle.mapstream.proofs.Held.{skipped_ended, stray_state, stray_text, ran_state, ran_text}
+use borrow.Author.Rules.{rules}
+use Rattle.mapstream.proofs.run_held.Goals as goal
+
+pub returns-then-skips : goal.returns-then-skips
+returns-then-skips c = record { ended_value = search (rules, skipped_ended); text = search (rules, skipped_text_lem map_list); scratch = search rules }
+
+pub returns-then-seen : goal.returns-then-seen
+returns-then-seen c = record { ended_value = search (rules, ran_state); text = search (rules, ran_text); scratch = search rules }
+
+pub returns : goal.returns
+returns c =
+    let a = c.args in
+    let said = c.say_malformed-said in
+    let look = c.look-seen in
+    let tested = c.skips.ensures in
+    let left = c.if-skips.false in
+    let stray = c.if-seen.false in
+    record { ended_value = stray_state a.state a.ended _ _ _ tested left _ look.ensures.value stray said.result.ended (said.ensures a.state).ended; text = stray_text a.state a.ended _ _ _ tested left _ look.ensures.value _ _ said.result stray said.ensures; scratch = search rules }

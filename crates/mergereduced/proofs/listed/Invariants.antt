@@ -1,0 +1,16 @@
+-- `listed` meets its contract: the places below p are filled. Assumes nothing.
+use mathlib.Core.Path.{◌≡◌, ◌∙◌}
+use Prim.Native.Nat.{ℕ, ◌-◌, ◌<◌, ◌≤◌}
+use native.Mathlib.Omega.{arith}
+use lib.ListN.{length, get_or, length-set, length-replicate}
+use borrow.Author.Rules.{rules}
+use Rattle.base.proofs.Lists.{is_list_from, cell_stored}
+use Rattle.mergereduce.specs.Trimmed.{nth}
+use Rattle.mergereduced.specs.mirror.Asked.{set_in}
+use Rattle.mergereduced.proofs.listed.Given as goal
+
+abbrev pub invariant-loop-p : goal.invariant-loop-p
+invariant-loop-p l = (length l.out ≡ 32) × (l.p ≤ 32) × ((i : ℕ) → i < l.p → get_or l.out i 0 ≡ nth l.n (set_in l.set) i)
+
+abbrev pub decreases-loop-p : goal.decreases-loop-p
+decreases-loop-p l = 32 - l.p

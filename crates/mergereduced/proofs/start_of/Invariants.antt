@@ -1,0 +1,18 @@
+-- `start_of` meets its contract: the cells below q are done. Assumes nothing.
+use mathlib.Core.Path.{◌≡◌, ◌∙◌}
+use Prim.Native.Nat.{ℕ, ◌-◌, ◌<◌, ◌≤◌}
+use native.Mathlib.Omega.{arith}
+use lib.ListN.{length, get_or, length-set, length-replicate}
+use Rattle.base.proofs.Lists.{cell_stored}
+use Rattle.masks.specs.Masks.{bit}
+use Rattle.mergereduced.proofs.Cells.{set_made}
+use Rattle.merging.specs.Merged.{set_of}
+use Rattle.mergereduced.proofs.Ways.{states_most, set_small}
+use Rattle.mergereduced.proofs.start_of.Given as goal
+
+abbrev pub invariant-loop-q : goal.invariant-loop-q
+invariant-loop-q l =
+    (length l.out ≡ 1024) × (l.q ≤ 1024) × ((i : ℕ) → i < l.q → get_or l.out i 0 ≡ bit (set_of l.way l.n1 l.n2 l.a l.b) i)
+
+abbrev pub decreases-loop-q : goal.decreases-loop-q
+decreases-loop-q l = 1024 - l.q

@@ -1,0 +1,25 @@
+-- `with_links` meets its contract. The loop's invariant: the numbers below p that q is linked to
+-- are in `out`, with the set. Assumes nothing.
+use mathlib.Core.Path.{◌≡◌, sym, ap, ◌∙◌}
+use mathlib.Core.Logic.{⊎_elim}
+use mathlib.Core.Bool.{Bool}
+use Prim.Native.Nat.{ℕ, ◌-◌, ◌<◌, ◌≤◌}
+use native.Mathlib.Omega.{arith}
+use borrow.Author.Rules.{rules}
+use lib.Bits.{bit_or, or_zero_r}
+use lib.ListN.{length, length-set}
+use Rattle.masks.specs.Masks.{mask_of}
+use Rattle.merging.specs.Merged.{states_of}
+use Rattle.mergereduced.specs.mirror.Asked.{set_in, link_in, link_by}
+use Rattle.mergereduced.proofs.Cells.{cell_in, set_added}
+use Rattle.mergereduced.proofs.Ways.{both_small, states_most}
+use Rattle.mergereduced.proofs.Closure.{links_add, links_skip, links_known}
+use Rattle.mergereduced.proofs.with_links.Given as goal
+
+abbrev pub invariant-loop-p : goal.invariant-loop-p
+invariant-loop-p l =
+    (length l.out ≡ 1024) × (l.p ≤ l.n) × (l.n ≡ states_of l.way l.n1 l.n2)
+    × (set_in l.out ≡ bit_or (set_in l.initial.out) (mask_of (link_by l.forth (link_in l.way l.n1 l.n2 l.m1 l.m2) l.q) l.p))
+
+abbrev pub decreases-loop-p : goal.decreases-loop-p
+decreases-loop-p l = l.n - l.p

@@ -1,0 +1,13 @@
+-- `put_first` meets its contract. Assumes nothing.
+use Rattle.mergescan.proofs.Kept.{prefix, first_put, first_malformed}
+use borrow.Author.Rules.{rules}
+use Rattle.mergescan.proofs.put_first.Goals as goal
+
+pub slice_bounds-put_alone-end : goal.slice_bounds-put_alone-end
+slice_bounds-put_alone-end c = search (rules, prefix)
+
+pub returns-in-Put : goal.returns-in-Put
+returns-in-Put c = search (rules, first_put)
+
+pub returns-in-Malformed : goal.returns-in-Malformed
+returns-in-Malformed c = search (rules, first_malformed)

@@ -1,0 +1,20 @@
+-- `scan_bytes` meets its contract. Assumes nothing.
+use Rattle.mergescan.specs.Scanning.{scanned, scan_all}
+use Rattle.mergescan.proofs.Kept.{all_on, all_over}
+use lib.ListN.{length, drop}
+use Prim.Native.Nat.{◌-◌}
+use mathlib.Core.Path.{◌≡◌, refl, ◌∙◌}
+use borrow.Author.Rules.{rules}
+use Rattle.mergescan.proofs.scan_bytes.Goals as goal
+
+pub loop-i-init : goal.loop-i-init
+loop-i-init c = (refl, refl, refl)
+
+pub loop-i-preserved : goal.loop-i-preserved
+loop-i-preserved c =
+    let loop = c.loop-i in
+    let on = c.scan_on-scan in
+    (on.auto.one ∙ loop.invariant.0, on.auto.two ∙ loop.invariant.1, loop.invariant.2 ∙ all_on _ _ _ _ c.loop-i-test.true on.ensures)
+
+pub returns : goal.returns
+returns c = all_over _ _ _ _ c.loop-i-test.false c.loop-i.invariant.2

@@ -1,0 +1,50 @@
+-- `put_lines` meets its contract. The loop's invariant: the lines of the first i mappings are written.
+-- Assumes nothing.
+use mathlib.Core.Path.{◌≡◌}
+use Prim.Native.Nat.{◌+◌, ◌*◌, ◌-◌, ◌≤◌}
+use native.Mathlib.Omega.{arith}
+use lib.ListN.{length}
+use Rattle.base.specs.Lists.{joined}
+use Rattle.profiletext.specs.ProfileText.{mapping_line}
+use Rattle.text.proofs.Fitting.{Put, put, none_put, one_more}
+use Rattle.profiletext.proofs.Lengths.{line_most, lines_most}
+use Rattle.profiletext.proofs.put_lines.Goals as goal
+
+pub loop-i-init : goal.loop-i-init
+loop-i-init c =
+    let a = c.args in
+    (omega arith, c.requires.0, c.requires.1, c.requires.2, none_put (mapping_line a.mappings.now a.next.now a.k) a.out.now a.start (omega (arith, c.requires)))
+
+pub overflow_cast-number : goal.overflow_cast-number
+overflow_cast-number c = omega (arith, c.loop-i.invariant)
+
+pub put_line-at-requires : goal.put_line-at-requires
+put_line-at-requires c =
+    let x = c.loop-i in
+    let a = c.args in
+    let t = c.loop-i-test.true in
+    let l = lines_most a.mappings.now a.next.now a.k x.invariant.1 x.i (omega (arith, x.invariant)) in
+    (x.invariant.1, omega (arith, x.invariant, t), omega (arith, x.invariant, t, l))
+
+pub loop-i-preserved : goal.loop-i-preserved
+loop-i-preserved c =
+    let x = c.loop-i in
+    let a = c.args in
+    let t = c.loop-i-test.true in
+    let l = lines_most a.mappings.now a.next.now a.k x.invariant.1 x.i (omega (arith, x.invariant)) in
+    let m = line_most a.mappings.now a.next.now a.k x.i x.invariant.1 (omega (arith, x.invariant, t)) in (
+      omega (arith, t),
+      x.invariant.1,
+      x.invariant.2,
+      x.invariant.3,
+      one_more (mapping_line a.mappings.now a.next.now a.k) x.i x.invariant.4 (put (omega (arith, x.invariant, t, l, m)) c.put_line-at.ensures),
+    )
+
+pub shape_of-out : goal.shape_of-out
+shape_of-out c = c.loop-i.invariant.4.kept
+
+pub returns : goal.returns
+returns c =
+    let x = c.loop-i in
+    let e : x.i ≡ c.args.count = omega (arith, x.invariant, c.loop-i-test.false) in
+    rw e at x.invariant.4.wrote

@@ -1,0 +1,20 @@
+-- `image` meets its contract. The loop goes through the bits from state 0 up, as in the successor
+-- of a set. Assumes nothing.
+use mathlib.Core.Path.{◌≡◌, refl, sym, ap, ◌∙◌}
+use mathlib.Core.Logic.{⊎_elim}
+use Prim.Native.Nat.{ℕ, ◌-◌, ◌/◌, ◌^◌, ◌≤◌, ◌<◌}
+use native.Mathlib.Nat.{div-one, div-eq_of_lt, eq-or-lt_of_le}
+use native.Mathlib.Omega.{arith}
+use lib.Bits.{bit_or}
+use lib.ListN.{get_or}
+use lib.Pow.{shr-shr}
+use borrow.Author.Rules.{rules}
+use Rattle.masks.specs.Masks.{union}
+use Rattle.masks.proofs.Laws.{low_bits, union_step, union_skip, union_all}
+use Rattle.summaries.proofs.image.Given as goal
+
+abbrev pub invariant-loop-rest : goal.invariant-loop-rest
+invariant-loop-rest l = (l.q ≤ 32) × (l.rest ≡ l.set / 2 ^ l.q) × (l.out ≡ union (λ p. get_or l.leads p 0) l.set l.q)
+
+abbrev pub decreases-loop-rest : goal.decreases-loop-rest
+decreases-loop-rest l = 32 - l.q

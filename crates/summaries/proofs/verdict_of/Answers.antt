@@ -1,0 +1,9 @@
+-- `verdict_of` meets its contract. Assumes nothing.
+
+use Rattle.summaries.proofs.verdict_of.Goals as goal
+
+pub returns-then-yes : goal.returns-then-yes
+returns-then-yes c = rw c.if-yes.true
+
+pub returns : goal.returns
+returns c = rw c.if-yes.false

@@ -1,0 +1,18 @@
+-- `put_cells` meets its contract. The loop's invariant: the first c cells are written. Assumes
+-- nothing.
+use mathlib.Core.Path.{◌≡◌}
+use Prim.Native.Nat.{◌+◌, ◌*◌, ◌/◌, ◌%◌, ◌-◌, ◌≤◌}
+use native.Mathlib.Omega.{arith}
+use lib.ListN.{length, get_or}
+use Rattle.text.proofs.Fitting.{Put, put, none_put, one_more}
+use Rattle.tabletext.specs.Answers.{cell_text, cells_text}
+use Rattle.tabletext.proofs.Lengths.{text_most, cells_most, row_lt, column_lt}
+use Rattle.tabletext.proofs.put_cells.Given as goal
+
+abbrev pub invariant-loop-c : goal.invariant-loop-c
+invariant-loop-c l =
+    (l.c ≤ l.count) × (1 ≤ l.k) × (l.k ≤ 16) × (l.count ≤ 512 * l.k) × (l.start + 4 * l.count ≤ length l.initial.out)
+    × Put l.initial.out l.start (cells_text l.next l.k l.c) l.out l.at
+
+abbrev pub decreases-loop-c : goal.decreases-loop-c
+decreases-loop-c l = l.count - l.c
