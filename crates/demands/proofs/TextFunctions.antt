@@ -18,6 +18,7 @@ use Rattle.linetexts.specs.Functions.{FedBlocks, Kept, Ends}
 use Rattle.linetexts.proofs.Functions.{all_written}
 use Rattle.linetexts.proofs.Beginnings.{begun, keeps_lines}
 use Rattle.calls.specs.declared.Judge.{Judge}
+use Rattle.std.specs.Borrow.{MutBor}
 use Rattle.histories.proofs.Refinement.{lent}
 use Rattle.calls.specs.mirror.Steps.{fresh}
 use Rattle.stream.specs.Texts.{call_lines, right_text, call_list}
@@ -46,6 +47,9 @@ ends : Ends call_lines MayFinish
 ends s before after written may = end_so call_lines s may.5 may.6 may.8 may.7.0
 
 -- ---- and that they allow
+abbrev pub lent_mut : List ℕ → MutBor (List ℕ)
+lent_mut f = record { ref_ptr = (0, 0); ghost_name = 0; now = f }
+
 pub gather_fixed : (s t : State Beginning (Listed Judge)) (before block after : List ℕ) (at next written : ℕ)
     → MayGather s before block at t next written after ↔ Gathers (gather_at call_lines block at (length before) s) at t next written before after
 gather_fixed s t before block after at next written = (
@@ -53,12 +57,12 @@ gather_fixed s t before block after at next written = (
   λ g.
       let j = s.machine.machine in (
         ([], ([], ([], ([], tt)))),
-        lent s.kept.line,
-        lent [],
-        lent before,
+        lent_mut s.kept.line,
+        lent_mut [],
+        lent_mut before,
         lent block,
         record { judge = t.machine.machine; pending = pending_of t; at = next; written = written },
-        (j, (pending_of s, (lent t.kept.line, (lent [], (lent after, (lent block, (at, tt))))))),
+        (j, (pending_of s, (lent_mut t.kept.line, (lent_mut [], (lent_mut after, (lent block, (at, tt))))))),
         refl,
         refl,
         refl,
@@ -78,9 +82,9 @@ finish_fixed s before after written = (
       let j = s.machine.machine in (
         ([], ([], ([], tt))),
         lent s.kept.line,
-        lent [],
-        lent before,
-        (j, (pending_of s, (lent s.kept.line, (lent [], (lent after, tt))))),
+        lent_mut [],
+        lent_mut before,
+        (j, (pending_of s, (lent s.kept.line, (lent_mut [], (lent_mut after, tt))))),
         refl,
         refl,
         (g, refl),

@@ -7,7 +7,7 @@
 --   MayFinish       what `finish` may do
 use Rattle.std.specs.Prelude.{◌≡◌, List, ℕ}
 use contract.Lifetimes.{Lfts}
-use Rattle.std.specs.Borrow.{Bor}
+use Rattle.std.specs.Borrow.{Bor, MutBor}
 use denote.Triple.Clauses.{AtExit}
 use borrow.Fn.Kinds.{ended_of}
 use Rattle.linetexts.specs.declared.Pending.{Pending}
@@ -27,13 +27,13 @@ pending_of s = record { held = s.kept.held; ended = s.machine.ended }
 
 abbrev pub MayGather : GatheringFunction (State Beginning (Listed Judge))
 MayGather s before block at t next written after =
-    (κs : Lfts 4) × (line bytes out text : Bor (List ℕ)) × (r : Gathered) × (e : AtExit (ended_of 4 gather_kinds.ps gather_kinds.r) κs)
+    (κs : Lfts 4) × (line bytes out : MutBor (List ℕ)) × (text : Bor (List ℕ)) × (r : Gathered) × (e : AtExit (ended_of 4 gather_kinds.ps gather_kinds.r) κs)
     × (line.now ≡ s.kept.line) × (out.now ≡ before) × (text.now ≡ block)
     × gather_reads.Learnt κs (s.machine.machine, (pending_of s, (line, (bytes, (out, (text, (at, tt))))))) r e
     × (t ≡ text_state r.judge r.pending e.1.1.0.now) × (next ≡ r.at) × (written ≡ r.written) × (after ≡ e.1.1.1.1.0.now)
 
 abbrev pub MayFinish : FinishingFunction (State Beginning (Listed Judge))
 MayFinish s before written after =
-    (κs : Lfts 3) × (line bytes out : Bor (List ℕ)) × (e : AtExit (ended_of 3 finish_kinds.ps finish_kinds.r) κs)
+    (κs : Lfts 3) × (line : Bor (List ℕ)) × (bytes out : MutBor (List ℕ)) × (e : AtExit (ended_of 3 finish_kinds.ps finish_kinds.r) κs)
     × (line.now ≡ s.kept.line) × (out.now ≡ before)
     × finish_reads.Learnt κs (s.machine.machine, (pending_of s, (line, (bytes, (out, tt))))) written e × (after ≡ e.1.1.1.1.0.now)

@@ -34,7 +34,7 @@ use Rattle.limits.specs.Limits.{most_symbols, largest_number, longest_chunk}
 use Rattle.automaton.specs.Automaton.{Text}
 use Rattle.marks.specs.Marks.{text_of}
 use Rattle.chunks.specs.Chunks.{foreign}
-use Rattle.histories.proofs.Refinement.{lent}
+use Rattle.demands.proofs.TextFunctions.{lent_mut}
 use Rattle.lines.specs.Splitting.{lines_of}
 use Rattle.madetexts.specs.Values.{next_value, made_text}
 use Rattle.madetexts.specs.Making.{made_number, buffer_after}
@@ -124,7 +124,7 @@ pub from_C : (k seed : ℕ) (before : List ℕ) (r : MadeNumbers) (after : List 
     → MayMake k seed before r after ↔ ((r ≡ made_shown (made_number k seed)) × (after ≡ buffer_after k seed before))
 from_C k seed before r after = (
   (λ m. (m.5.answer, sym m.4 ∙ m.5.buffer ∙ ap (buffer_after k seed) m.3)),
-  λ e. (([], tt), lent before, (k, (seed, (lent after, tt))), refl, refl, record { answer = e.0; buffer = e.1 }),
+  λ e. (([], tt), lent_mut before, (k, (seed, (lent_mut after, tt))), refl, refl, record { answer = e.0; buffer = e.1 }),
 )
 
 pub read_back : (k seed : ℕ) (before : List ℕ) (r : MadeNumbers) (after : List ℕ) → MayMake k seed before r after

@@ -18,6 +18,7 @@ use Rattle.linetexts.proofs.Functions.{all_written}
 use Rattle.linetexts.proofs.Beginnings.{begun, keeps_lines}
 use Rattle.trays.specs.declared.Tray.{Tray}
 use Rattle.histories.proofs.Refinement.{lent}
+use Rattle.demands.proofs.TextFunctions.{lent_mut}
 use Rattle.trays.specs.mirror.Steps.{fresh}
 use Rattle.traystream.specs.Texts.{tray_room, tray_lines, right_text, tray_list}
 use Rattle.traystream.proofs.Claimed as traystream
@@ -40,12 +41,12 @@ gather_fixed s t before block after at next written = (
   λ g.
       let tray = s.machine.machine in (
         ([], ([], ([], ([], tt)))),
-        lent s.kept.line,
-        lent [],
-        lent before,
+        lent_mut s.kept.line,
+        lent_mut [],
+        lent_mut before,
         lent block,
         record { tray = t.machine.machine; pending = pending_of t; at = next; written = written },
-        (tray, (pending_of s, (lent t.kept.line, (lent [], (lent after, (lent block, (at, tt))))))),
+        (tray, (pending_of s, (lent_mut t.kept.line, (lent_mut [], (lent_mut after, (lent block, (at, tt))))))),
         refl,
         refl,
         refl,
@@ -65,9 +66,9 @@ finish_fixed s before after written = (
       let tray = s.machine.machine in (
         ([], ([], ([], tt))),
         lent s.kept.line,
-        lent [],
-        lent before,
-        (tray, (pending_of s, (lent s.kept.line, (lent [], (lent after, tt))))),
+        lent_mut [],
+        lent_mut before,
+        (tray, (pending_of s, (lent s.kept.line, (lent_mut [], (lent_mut after, tt))))),
         refl,
         refl,
         (g, refl),

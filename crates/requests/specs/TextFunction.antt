@@ -5,7 +5,7 @@
 --   MayMake k seed before r after  it may return the numbers r, and leave the lent buffer so
 use Rattle.std.specs.Prelude.{◌≡◌, List, ℕ}
 use contract.Lifetimes.{Lfts}
-use Rattle.std.specs.Borrow.{Bor}
+use Rattle.std.specs.Borrow.{MutBor}
 use denote.Triple.Clauses.{AtExit}
 use borrow.Fn.Kinds.{ended_of}
 use Rattle.c_texts.specs.declared.MadeNumbers.{MadeNumbers}
@@ -13,9 +13,9 @@ use Rattle.c_texts.proofs.bellbadger_make_text.Reads as text_reads
 use Rattle.c_texts.proofs.bellbadger_make_text.Kinds as text_kinds
 
 abbrev pub AsksText : ℕ → ℕ → List ℕ → Type 0
-AsksText k seed before = (κs : Lfts 1) (c : Bor (List ℕ)) → c.now ≡ before → text_reads.Asked κs (k, (seed, (c, tt)))
+AsksText k seed before = (κs : Lfts 1) (c : MutBor (List ℕ)) → c.now ≡ before → text_reads.Asked κs (k, (seed, (c, tt)))
 
 abbrev pub MayMake : ℕ → ℕ → List ℕ → MadeNumbers → List ℕ → Type 0
 MayMake k seed before r after =
-    (κs : Lfts 1) × (c : Bor (List ℕ)) × (s : AtExit (ended_of 1 text_kinds.ps text_kinds.r) κs) × (c.now ≡ before)
+    (κs : Lfts 1) × (c : MutBor (List ℕ)) × (s : AtExit (ended_of 1 text_kinds.ps text_kinds.r) κs) × (c.now ≡ before)
     × (s.1.1.0.now ≡ after) × text_reads.Learnt κs (k, (seed, (c, tt))) r s

@@ -1,5 +1,4 @@
 -- `one_link` meets its contract. Assumes nothing.
-use mathlib.Core.Logic.{⊎_elim}
 use Rattle.mergereduced.proofs.Ways.{left_low, right_low, one_first, Rests, rests_apart, rests_none, one_second, one_none}
 use borrow.Author.Rules.{rules}
 use Rattle.mergereduced.proofs.one_link.Goals.{else-y-w, then-y-w+else-symbols_at-ne0}
